@@ -1,0 +1,31 @@
+-- Places in the text of the lines `ab`, an empty one and `cd`.
+use Rattle.std.proofs.Common.{◌≡◌, List, ℕ, [], ◌∷◌, refl}
+use Rattle.std.specs.Prelude.{codes, Some, None}
+use Rattle.std.specs.Fmt.{digits}
+use Rattle.cat_pos.specs.Position.{line_of, column_of, position_of, shown}
+
+abbrev text : List ℕ
+text = 97 ∷ 98 ∷ 10 ∷ 10 ∷ 99 ∷ 100 ∷ []
+
+the_first_byte_is_at_line_one_column_one : position_of text 0 0 ≡ record { file = 0; line = 1; column = 1 }
+unfolding line_of column_of
+the_first_byte_is_at_line_one_column_one = refl
+
+a_line_feed_stands_at_the_end_of_its_line : position_of text 0 2 ≡ record { file = 0; line = 1; column = 3 }
+unfolding line_of column_of
+a_line_feed_stands_at_the_end_of_its_line = refl
+
+an_empty_line_has_one_place : position_of text 0 3 ≡ record { file = 0; line = 2; column = 1 }
+unfolding line_of column_of
+an_empty_line_has_one_place = refl
+
+the_end_is_a_place : position_of text 4 6 ≡ record { file = 4; line = 3; column = 3 }
+unfolding line_of column_of
+the_end_is_a_place = refl
+
+a_place_shows_its_file_by_name : shown (codes "a.md" ∷ codes "b.md" ∷ []) (record { file = 1; line = 12; column = 345 }) ≡ Some (codes "b.md:12:345")
+unfolding digits
+a_place_shows_its_file_by_name = refl
+
+a_file_without_a_name_is_not_shown : shown [] (record { file = 0; line = 1; column = 1 }) ≡ None
+a_file_without_a_name_is_not_shown = refl

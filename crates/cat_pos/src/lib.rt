@@ -1,0 +1,23 @@
+//! Positions in source files, and the lists, boxes and texts that every crate's data is made of.
+#![tactic(auto)]
+
+mod boxed;
+mod files;
+mod list;
+mod pos;
+mod text;
+
+pub use boxed::Boxed;
+pub use files::{Files, show_pos};
+pub use list::List;
+pub use pos::{Piece, Pieces, Pos, Positions, pos_at};
+pub use text::Text;
+
+/// Numbers of scopes, items, definitions and the like.
+pub type Numbers = List<u32>;
+
+/// Lists of numbers, one for each entry of another list.
+pub type NumberLists = List<Numbers>;
+
+#[cfg(test)]
+mod tests;
