@@ -1,8 +1,8 @@
 -- Line and column after one byte more.
-use Rattle.std.proofs.Common.{◌≡◌, ◌≤◌, ◌<◌, ℕ, ◌+◌, ◌-◌, Bool, true, false, List, [], length, take, get_or, refl, ap, arith, length-drop, length-take}
-use Rattle.std.specs.Prelude.{count_by, not}
-use Rattle.std.specs.List.{after_last, suffix_len}
-use Rattle.std.proofs.lemmas.List.Sums.{count_by_more_yes, count_by_more_no, count_by-le-length, suffix_len-le-length, suffix_len-take_no, suffix_len-take_yes}
+use Rattle.std.proofs.Common.{◌≡◌, ◌<◌, ℕ, ◌+◌, ◌-◌, Bool, true, false, List, [], length, take, get_or, refl, ap, arith, length-drop}
+use Rattle.std.specs.Prelude.{not}
+use Rattle.std.specs.List.{suffix_len}
+use Rattle.std.proofs.lemmas.List.Sums.{count_by_more_yes, count_by_more_no, suffix_len-le-length, suffix_len-take_no, suffix_len-take_yes}
 use Rattle.cat_pos.specs.Position.{is_line_feed, line_of, column_of}
 
 abbrev is_other : ℕ → Bool
