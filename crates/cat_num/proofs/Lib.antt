@@ -1,0 +1,10 @@
+pub mod Gcd
+pub mod Signs
+pub mod Fracs
+pub mod Order
+pub mod Rounds
+pub mod Texts
+pub mod Digits
+pub mod Places
+pub mod TextLaws
+pub mod Examples
