@@ -1,0 +1,4 @@
+pub mod Add
+pub mod Calendar
+pub mod Span
+pub mod Text
