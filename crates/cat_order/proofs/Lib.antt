@@ -1,0 +1,7 @@
+pub mod Counts
+pub mod Fronts
+pub mod Theorems
+pub mod Trails
+pub mod Stages
+pub mod Endings
+mod Examples
