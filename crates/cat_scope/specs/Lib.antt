@@ -1,0 +1,4 @@
+pub mod Outcome
+pub mod Sound
+-- what a run counts of each output
+pub mod Tally
