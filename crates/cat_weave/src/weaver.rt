@@ -1,0 +1,165 @@
+// Parts out of lines.
+ghost use Rattle.std.specs.Prelude.{◌≡◌, ◌≢◌, ◌+◌, ◌<◌, ◌≤◌, ◌*◌, false, length, Err, IfOk, IfErr, MatchOption, MatchResult, IfSome, ◌∷◌};
+ghost use Rattle.cat_weave.specs.Woven.{woven, woven_lines, line_place, closes, AreWithin};
+ghost use Rattle.cat_weave.specs.Kinds.{ClosingLine};
+ghost use Rattle.cat_weave.specs.Reading.{law_kinds, block_kinds, code_part, IsCodeBefore, IsStep, IsOpen};
+ghost use Rattle.std.specs.Option.{option_to_list};
+
+use crate::line::{Line, bare, first_line, law_line};
+use crate::{Part, WeaveRefusal, Woven};
+use cat_pos::{List, Piece, Pos, Text, pos_at};
+use std::alloc::{AllocError, Global};
+
+/// The parts of a file of at most 4 MiB.
+pub fn weave(alloc: Global, bytes: &[u8], file: u32) -> Result<Woven, WeaveRefusal>
+    requires { length bytes.now ≤ 4 * 1024 * 1024 }
+    ensures gives { result ≢ Err WeaveRefusal.Memory → result ≡ woven bytes.now file }
+    ensures within { IfOk result (λ woven. AreWithin (length bytes.now) file woven.parts) }
+{
+    match str::from_utf8(bytes) {
+        Ok(text) => woven_text(alloc, text, file),
+        Err(error) => Err(WeaveRefusal::NotUtf8(pos_at(bytes, file, error.valid_up_to()))),
+    }
+}
+
+fn woven_text(alloc: Global, text: &str, file: u32) -> Result<Woven, WeaveRefusal>
+    requires { length text.now ≤ 4 * 1024 * 1024 }
+    ensures gives { result ≢ Err WeaveRefusal.Memory → result ≡ woven_lines file (law_kinds text.now) }
+    ensures within { IfOk result (λ woven. AreWithin (length text.now) file woven.parts) }
+{
+    let mut parts = List::new(alloc);
+    let mut rest = text;
+    let mut line = 1;
+    while !rest.is_empty() {
+        let Step { part, lines, after } = next_step(alloc, rest, file, line)?;
+        if let Some(part) = part {
+            parts.push(part)?;
+        }
+        line += lines;
+        rest = after;
+    }
+    Ok(Woven { parts })
+}
+
+/// A line outside every block, or a whole block.
+#[derive(Drop)]
+struct Step<'a> {
+    part: Option<Part>,
+    lines: u32,
+    after: &'a str,
+}
+
+fn next_step(alloc: Global, rest: &str, file: u32, line: u32) -> Result<Step<'_>, WeaveRefusal>
+    requires some { 0 < length rest.now }
+    requires short { line + length rest.now ≤ 4 * 1024 * 1024 + 1 }
+    ensures gives { MatchResult result
+        (λ s. IsStep file line (law_kinds rest.now) s.part s.lines (law_kinds s.after.now))
+        (λ e. IsOpen file line (law_kinds rest.now) e) }
+    ensures fewer { IfOk result (λ s. s.lines + length s.after.now ≤ length rest.now) }
+    ensures goes_on { IfOk result (λ s. 0 < s.lines) }
+{
+    let (text, after) = first_line(rest);
+    let pos = Pos {
+        file,
+        line,
+        column: 1,
+    };
+    match law_line(bare(text)) {
+        Line::Law => Ok(line_step(None, after)),
+        Line::Opening => block_step(alloc, after, pos),
+        Line::Heading(level, text) => {
+            let text = Text::from_str(alloc, text)?;
+            Ok(line_step(Some(Part::Heading(level, text, pos)), after))
+        }
+        Line::Include(path) => {
+            let path = Text::from_str(alloc, path)?;
+            Ok(line_step(Some(Part::Include(path, pos)), after))
+        }
+    }
+}
+
+fn line_step(part: Option<Part>, after: &str) -> Step<'_>
+    ensures { result ≡ record { part = part; lines = 1; after = after.entry } }
+{
+    Step {
+        part,
+        lines: 1,
+        after,
+    }
+}
+
+/// The lines after an opening line, up to the closing line.
+fn block_step(alloc: Global, text: &str, opening: Pos) -> Result<Step<'_>, WeaveRefusal>
+    requires { opening.line + length text.now ≤ 4 * 1024 * 1024 }
+    ensures gives { MatchResult result
+        (λ s. (code : _) × (count : _) × IsCodeBefore (block_kinds text.now) code count (ClosingLine ∷ law_kinds s.after.now)
+        × (option_to_list s.part ≡ code_part (line_place opening.file (opening.line + 1)) code count)
+        × (s.lines ≡ count + 2))
+        (λ e. e ≢ WeaveRefusal.Memory → (e ≡ WeaveRefusal.FenceOpen opening) × (closes (block_kinds text.now) ≡ false)) }
+    ensures fewer { IfOk result (λ s. s.lines + length s.after.now ≤ length text.now + 1) }
+{
+    let Some(block) = block_of(text) else {
+        return Err(WeaveRefusal::FenceOpen(opening));
+    };
+    let part = piece_of(alloc, block.code, block.code_lines, opening)?;
+    Ok(Step {
+        part,
+        lines: block.code_lines + 2,
+        after: block.after,
+    })
+}
+
+/// The piece of code below an opening line, if it has lines.
+fn piece_of(
+    alloc: Global,
+    code: &str,
+    code_lines: u32,
+    opening: Pos,
+) -> Result<Option<Part>, AllocError>
+    requires { opening.line < 4 * 1024 * 1024 }
+    ensures { IfOk result (λ part. option_to_list part
+        ≡ code_part (line_place opening.file (opening.line + 1)) code.now code_lines) }
+{
+    if code_lines == 0 {
+        return Ok(None);
+    }
+    let text = Text::from_str(alloc, code)?;
+    let pos = Pos {
+        file: opening.file,
+        line: opening.line + 1,
+        column: 1,
+    };
+    Ok(Some(Part::Code(Piece { text, pos })))
+}
+
+/// The code of a block and what follows its closing line.
+#[derive(Drop)]
+struct Block<'a> {
+    code: &'a str,
+    code_lines: u32,
+    after: &'a str,
+}
+
+fn block_of(text: &str) -> Option<Block<'_>>
+    requires { length text.now ≤ 4 * 1024 * 1024 }
+    ensures gives { MatchOption result (closes (block_kinds text.now) ≡ false)
+        (λ b. IsCodeBefore (block_kinds text.now) b.code.now b.code_lines (ClosingLine ∷ law_kinds b.after.now)) }
+    ensures fewer { IfSome result (λ b. b.code_lines + length b.after.now < length text.now) }
+{
+    let mut rest = text;
+    let mut code_lines = 0;
+    while !rest.is_empty() {
+        let (line, after) = first_line(rest);
+        if bare(line) == "```" {
+            let code = &text[..text.len() - rest.len()];
+            return Some(Block {
+                code,
+                code_lines,
+                after,
+            });
+        }
+        code_lines += 1;
+        rest = after;
+    }
+    None
+}
