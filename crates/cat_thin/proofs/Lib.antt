@@ -1,0 +1,7 @@
+pub mod Digits
+pub mod Items
+pub mod Made
+pub mod Objects
+pub mod Parts
+pub mod Texts
+pub mod Written
