@@ -1,0 +1,8 @@
+-- the table of answers
+pub mod Table
+pub mod Answers
+pub mod Words
+pub mod Status
+-- what follows from it
+pub mod Complete
+pub mod Reading

@@ -1,0 +1,13 @@
+//! All that the program does, over a shelf and a sink that are handed in: words and files go in, one reply and a status come out.
+#![tactic(auto)]
+
+mod reply;
+mod request;
+mod status;
+mod top;
+
+pub use status::Status;
+pub use top::catala;
+
+#[cfg(test)]
+mod tests;
