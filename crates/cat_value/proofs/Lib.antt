@@ -1,0 +1,9 @@
+pub mod Equations
+pub mod Induction
+pub mod Inversions
+pub mod DefaultEquations
+pub mod Descending
+pub mod DefaultsTyped
+pub mod HeightLaws
+pub mod SoundLaws
+pub mod Examples

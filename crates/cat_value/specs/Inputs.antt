@@ -1,0 +1,46 @@
+-- Which inputs a scope takes.
+use Rattle.std.specs.Prelude.{ℕ, Bool, true, false, ◌&&◌, not, IsTrue, List, [], ◌∷◌, Option, None, Some, slice_get}
+use Rattle.cat_value.specs.declared.value.Value.{Value}
+use Rattle.cat_value.specs.declared.declaration.Kind.{Kind}
+use Rattle.cat_value.specs.declared.declaration.Kind.TheVariants.{Input, InputOutput, Context, ContextOutput}
+use Rattle.cat_value.specs.declared.declaration.ItemDecl.{ItemDecl}
+use Rattle.cat_value.specs.declared.declaration.Scope.{Scope}
+use Rattle.cat_value.specs.declared.decls.Decls.{Decls}
+use Rattle.cat_value.specs.Typing.{has_type}
+
+-- whether an item must be given
+abbrev pub must_be_given : Kind → Bool
+must_be_given Input = true
+must_be_given InputOutput = true
+must_be_given _ = false
+
+-- whether an item may be given
+abbrev pub may_be_given : Kind → Bool
+may_be_given Context = true
+may_be_given ContextOutput = true
+may_be_given kind = must_be_given kind
+
+-- whether an item may have this value, or none, in an input
+abbrev pub is_given_for : Decls → ItemDecl → Option Value → Bool
+is_given_for ds item None = not (must_be_given item.kind)
+is_given_for ds item (Some v) = may_be_given item.kind && has_type ds v item.ty
+
+-- one entry for each item
+abbrev pub are_given_for : Decls → List ItemDecl → List (Option Value) → Bool
+are_given_for ds [] [] = true
+are_given_for ds [] (given ∷ input) = false
+are_given_for ds (item ∷ items) [] = false
+are_given_for ds (item ∷ items) (given ∷ input) = is_given_for ds item given && are_given_for ds items input
+
+abbrev pub is_input_for : Decls → List (Option Value) → Option Scope → Bool
+is_input_for ds input None = false
+is_input_for ds input (Some scope) = are_given_for ds scope.items input
+
+-- whether an input is one of a scope: a value of its type for each input and input output variable, a value or none
+-- for each context and context output variable, and none for every other item
+unfoldable pub is_input_of : Decls → ℕ → List (Option Value) → Bool
+is_input_of ds scope input = is_input_for ds input (slice_get ds.scopes scope)
+
+-- the input is a well-typed one of the scope
+abbrev pub IsWellTyped : Decls → ℕ → List (Option Value) → Type 0
+IsWellTyped ds scope input = IsTrue (is_input_of ds scope input)

@@ -1,0 +1,79 @@
+// What a program declares: structures, enumerations, and scopes with their items.
+use crate::{Ty, Tys};
+use cat_pos::{List, Pos, Text};
+
+#[derive(Debug, Drop)]
+pub struct Field {
+    pub name: Text,
+    pub ty: Ty,
+}
+
+pub type Fields = List<Field>;
+
+#[derive(Debug, Drop)]
+pub struct Structure {
+    pub name: Text,
+    pub fields: Fields,
+}
+
+pub type Structures = List<Structure>;
+
+/// A case of an enumeration, which has a content or none.
+#[derive(Debug, Drop)]
+pub struct Case {
+    pub name: Text,
+    pub content: Option<Ty>,
+}
+
+pub type Cases = List<Case>;
+
+#[derive(Debug, Drop)]
+pub struct Enumeration {
+    pub name: Text,
+    pub cases: Cases,
+}
+
+pub type Enumerations = List<Enumeration>;
+
+/// Where an item's value comes from, and whether it is an output of its scope.
+#[derive(Clone, Copy, PartialEq, Eq, Debug)]
+pub enum Kind {
+    /// Given by the caller.
+    Input,
+    /// Defined, and an output.
+    Output,
+    /// Defined.
+    Internal,
+    /// Given or else defined.
+    Context,
+    /// Given by the caller, and an output.
+    InputOutput,
+    /// Given or else defined, and an output.
+    ContextOutput,
+    /// No variable, but the called scope of that number.
+    Called(u32),
+}
+
+/// A variable or a called scope of a scope. Only a function has parameters. The type of a called scope is `Boolean`,
+/// and nothing reads it.
+#[derive(Debug, Drop)]
+pub struct ItemDecl {
+    pub name: Text,
+    /// The place of the name.
+    pub pos: Pos,
+    pub kind: Kind,
+    pub ty: Ty,
+    /// Whether it is a condition: a boolean that is false where no rule holds.
+    pub condition: bool,
+    pub params: Tys,
+}
+
+pub type ItemDecls = List<ItemDecl>;
+
+#[derive(Debug, Drop)]
+pub struct Scope {
+    pub name: Text,
+    pub items: ItemDecls,
+}
+
+pub type Scopes = List<Scope>;
