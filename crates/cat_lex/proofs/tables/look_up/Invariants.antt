@@ -1,0 +1,7 @@
+use Rattle.std.proofs.Common.{◌≡◌, drop}
+use Rattle.cat_lex.specs.Words.{look_up}
+use Rattle.cat_lex.specs.Tables.{spelled}
+use Rattle.cat_lex.proofs.tables.look_up.Given as goal
+
+abbrev pub invariant-loop-text : goal.invariant-loop-text
+invariant-loop-text g l = look_up (spelled (drop l.text-index l.table)) l.spelling ≡ look_up (spelled l.table) l.spelling

@@ -1,0 +1,11 @@
+-- what public clauses cite
+pub mod Lexes
+pub mod Blanks
+pub mod Places
+pub mod Forms
+pub mod Values
+pub mod Words
+-- what the scanner reads
+pub mod Reading
+pub mod Steps
+pub mod Tables

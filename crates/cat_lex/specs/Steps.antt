@@ -1,0 +1,35 @@
+-- One token in front of a text, and one piece: what the steps of the code say.
+use Rattle.std.specs.Prelude.{◌≡◌, ◌≢◌, ℕ, false, List, [], ◌++◌}
+use Rattle.cat_pos.specs.declared.pos.Pos.{Pos}
+use Rattle.cat_pos.specs.declared.pos.Piece.{Piece}
+use Rattle.cat_lex.specs.declared.token.Token.{Token}
+use Rattle.cat_lex.specs.declared.refusal.LexRefusal.{LexRefusal}
+use Rattle.cat_lex.specs.declared.refusal.LexRefusal.TheVariants.{NoToken, LiteralRange, Memory}
+use Rattle.cat_lex.specs.Places.{place_after}
+use Rattle.cat_lex.specs.Blanks.{AreBlanks, AreLastBlanks, begins_blank}
+use Rattle.cat_lex.specs.Lexes.{IsToken, BeginsNoToken, PassesBound, FailsIn}
+
+-- the text after its blanks and comments, and its place
+pub record IsAfterBlanks (pos : Pos) (text : List ℕ) (place : Pos) (rest : List ℕ) : Type 0 where
+  pub blanks : List ℕ
+  pub split : text ≡ blanks ++ rest
+  pub whole : rest ≢ [] → AreBlanks blanks
+  pub last : rest ≡ [] → AreLastBlanks text
+  pub no_blank : begins_blank rest ≡ false
+  pub place_is : place ≡ place_after pos blanks
+
+-- the token stands first in the text, and leaves this rest
+pub record IsFirst (token : Token) (place : Pos) (text rest : List ℕ) : Type 0 where
+  pub word : List ℕ
+  pub split : text ≡ word ++ rest
+  pub is_token : IsToken token place word rest
+
+abbrev pub HasCauseAt : Pos → List ℕ → LexRefusal → Type 0
+HasCauseAt place text (NoToken at) = (at ≡ place) × BeginsNoToken text
+HasCauseAt place text (LiteralRange at) = (at ≡ place) × PassesBound text
+HasCauseAt place text Memory = Unit {0}
+
+abbrev pub HasCauseIn : Piece → LexRefusal → Type 0
+HasCauseIn piece (NoToken place) = FailsIn piece place BeginsNoToken
+HasCauseIn piece (LiteralRange place) = FailsIn piece place PassesBound
+HasCauseIn piece Memory = Unit {0}

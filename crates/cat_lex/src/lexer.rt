@@ -1,0 +1,112 @@
+//! Pieces into tokens.
+ghost use Rattle.std.specs.Prelude.{◌≡◌, ◌++◌, ◌+◌, ◌<◌, ◌≤◌, ◌^◌, ℕ, List, length, IfOk, IfErr};
+ghost use Rattle.std.specs.Str.{IsUtf8};
+ghost use Rattle.cat_lex.specs.Places.{place_after};
+ghost use Rattle.cat_lex.specs.Lexes.{AreReadable, IsReadable, Lexes, HasCause, IsPieceOf};
+ghost use Rattle.cat_lex.specs.Steps.{IsAfterBlanks, IsFirst, HasCauseAt, HasCauseIn};
+
+use crate::reader::read;
+use crate::skip::skip_blanks;
+use crate::values::token_kind;
+use crate::{LexRefusal, Token, Tokens};
+use cat_pos::{List, Piece, Pos};
+use std::alloc::Global;
+
+/// The place after these bytes.
+fn place_after(pos: Pos, bytes: &[u8]) -> Pos
+    requires line { pos.line + length bytes.now < 2 ^ 32 }
+    requires column { pos.column + length bytes.now < 2 ^ 32 }
+    ensures place { result ≡ place_after pos bytes.now }
+    ensures line { result.line ≤ pos.line + length bytes.now }
+    ensures column { result.column ≤ pos.column + length bytes.now }
+{
+    let mut place = pos;
+    for &byte in bytes {
+        if byte == b'\n' {
+            place.line += 1;
+            place.column = 1;
+        } else {
+            place.column += 1;
+        }
+    }
+    place
+}
+
+/// What stands in front of the rest.
+fn front<'a>(text: &'a str, rest: &[u8]) -> &'a str
+    requires suffix { (front : List ℕ) × (text.now ≡ front ++ rest.now) }
+    requires utf8 { IsUtf8 rest.now }
+    ensures { text.now ≡ result.now ++ rest.now }
+{
+    &text[..text.len() - rest.len()]
+}
+
+/// The rest, as a text.
+fn tail<'a>(text: &'a str, rest: &[u8]) -> &'a str
+    requires suffix { (front : List ℕ) × (text.now ≡ front ++ rest.now) }
+    requires utf8 { IsUtf8 rest.now }
+    ensures { result.now ≡ rest.now }
+{
+    &text[text.len() - rest.len()..]
+}
+
+/// The token in front of the text, which stands at this place, and what follows it.
+fn first_token<'a>(alloc: Global, text: &'a str, place: Pos) -> Result<(Token, &'a str), LexRefusal>
+    ensures first { IfOk result (λ x. IsFirst x.0 place text.now x.1.now) }
+    ensures cause { IfErr result (λ refusal. HasCauseAt place text.now refusal) }
+{
+    let Some((form, rest)) = read(text) else {
+        return Err(LexRefusal::NoToken(place));
+    };
+    match token_kind(alloc, form, front(text, rest))? {
+        Some(kind) => Ok((Token { kind, pos: place }, tail(text, rest))),
+        None => Err(LexRefusal::LiteralRange(place)),
+    }
+}
+
+/// The text after its blanks and comments, and its place.
+fn after_blanks(text: &str, pos: Pos) -> (&str, Pos)
+    requires line { pos.line + length text.now < 2 ^ 32 }
+    requires column { pos.column + length text.now < 2 ^ 32 }
+    ensures gap { IsAfterBlanks pos text.now result.1 result.0.now }
+    ensures line { result.1.line + length result.0.now ≤ pos.line + length text.now }
+    ensures column { result.1.column + length result.0.now ≤ pos.column + length text.now }
+{
+    let rest = skip_blanks(text.as_bytes());
+    let place = place_after(pos, front(text, rest).as_bytes());
+    (tail(text, rest), place)
+}
+
+fn piece_tokens(alloc: Global, piece: &Piece) -> Result<Tokens, LexRefusal>
+    requires { IsReadable piece.now }
+    ensures tokens { IfOk result (λ tokens. IsPieceOf piece.now tokens) }
+    ensures cause { IfErr result (λ refusal. HasCauseIn piece.now refusal) }
+{
+    let mut tokens = List::new(alloc);
+    let mut text = piece.text.as_str();
+    let mut pos = piece.pos;
+    loop {
+        let (first, place) = after_blanks(text, pos);
+        if first.is_empty() {
+            return Ok(tokens);
+        }
+        let (token, after) = first_token(alloc, first, place)?;
+        pos = place_after(place, front(first, after.as_bytes()).as_bytes());
+        text = after;
+        tokens.push(token)?;
+    }
+}
+
+/// The tokens of the pieces, one piece after the other. A refusal names the first place that is at fault.
+pub fn lex(alloc: Global, pieces: &[Piece]) -> Result<Tokens, LexRefusal>
+    requires { AreReadable pieces.now }
+    ensures lexed { IfOk result (λ tokens. Lexes pieces.now tokens) }
+    ensures cause { IfErr result (λ refusal. HasCause pieces.now refusal) }
+{
+    let mut tokens = List::new(alloc);
+    for piece in pieces {
+        let here = piece_tokens(alloc, piece)?;
+        tokens.append(here)?;
+    }
+    Ok(tokens)
+}

@@ -1,0 +1,100 @@
+//! Runs of bytes and of characters of one class.
+ghost use Rattle.std.specs.Prelude.{◌≡◌, ◌++◌, ◌∷◌, [], false, MatchOption, IfSome};
+ghost use Rattle.std.specs.Char.{encode_utf8, is_ascii_digit};
+ghost use Rattle.std.specs.Str.{chars};
+ghost use Rattle.unicode_ident.specs.Ident.{is_xid_continue};
+ghost use Rattle.cat_lex.specs.Blanks.{is_blank};
+ghost use Rattle.cat_lex.specs.Forms.{is_space};
+ghost use Rattle.cat_lex.specs.Reading.{skip, after, skip_blanks};
+
+use unicode_ident::is_xid_continue;
+
+/// Space, tab, carriage return or line feed.
+pub(crate) fn is_blank(byte: u8) -> bool
+    ensures { result ≡ is_blank byte }
+{
+    matches!(byte, b' ' | b'\t' | b'\r' | b'\n')
+}
+
+/// The text after its digits.
+pub(crate) fn skip_digits(text: &[u8]) -> &[u8]
+    ensures { result.now ≡ skip is_ascii_digit text.now }
+{
+    for (at, byte) in text.iter().enumerate() {
+        if !byte.is_ascii_digit() {
+            return &text[at..];
+        }
+    }
+    &[]
+}
+
+/// The text after its spaces and tabs.
+pub(crate) fn skip_spaces(text: &[u8]) -> &[u8]
+    ensures { result.now ≡ skip is_space text.now }
+{
+    for (at, &byte) in text.iter().enumerate() {
+        if byte != b' ' && byte != b'\t' {
+            return &text[at..];
+        }
+    }
+    &[]
+}
+
+/// The text after its blanks and comments.
+pub(crate) fn skip_blanks(text: &[u8]) -> &[u8]
+    ensures { result.now ≡ skip_blanks false text.now }
+{
+    let mut inside = false;
+    for (at, &byte) in text.iter().enumerate() {
+        if inside {
+            inside = byte != b'\n';
+        } else if !is_blank(byte) {
+            if byte != b'#' || text[at..].starts_with(b"#[") {
+                return &text[at..];
+            }
+            inside = true;
+        }
+    }
+    &[]
+}
+
+/// The first character, and what follows it.
+#[tactic(auto, using(std::proofs::lemmas::Str::chars_past_char))]
+pub(crate) fn first_char(text: &str) -> Option<(char, &str)>
+    ensures split { MatchOption result (text.now ≡ []) (λ x. text.now ≡ encode_utf8 x.0 ++ x.1.now) }
+    ensures chars { IfSome result (λ x. chars text.now ≡ x.0 ∷ chars x.1.now) }
+{
+    let mut chars = text.chars();
+    let first = chars.next()?;
+    Some((first, chars.as_str()))
+}
+
+/// The text after its characters that continue an identifier.
+#[tactic(auto, using(crate::proofs::Chars::stepping))]
+pub(crate) fn after_word(text: &str) -> &str
+    ensures { result.now ≡ after is_xid_continue text.now }
+{
+    let mut rest = text;
+    while let Some((c, after)) = first_char(rest) {
+        if !is_xid_continue(c) {
+            break;
+        }
+        rest = after;
+    }
+    rest
+}
+
+/// The text after its blanks.
+#[tactic(auto, using(crate::proofs::Chars::stepping))]
+pub(crate) fn after_blanks(text: &str) -> &str
+    ensures { result.now ≡ after is_blank text.now }
+{
+    let mut rest = text;
+    while let Some((c, after)) = first_char(rest) {
+        if !matches!(c, ' ' | '\t' | '\r' | '\n') {
+            break;
+        }
+        rest = after;
+    }
+    rest
+}
