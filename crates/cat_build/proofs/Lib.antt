@@ -1,0 +1,4 @@
+pub mod GatherLemmas
+pub mod BoundLemmas
+pub mod ToldLemmas
+mod Examples
