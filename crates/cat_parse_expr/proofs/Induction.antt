@@ -1,0 +1,87 @@
+-- Induction over expressions, one case a form.
+use Rattle.std.proofs.Common.{List, [], ◌∷◌, map, subst}
+use denote.Hole.Carrier.{roll}
+use Rattle.cat_pos.specs.declared.pos.Pos.{Pos}
+use Rattle.cat_tree.specs.declared.name.Name.{Name}
+use Rattle.cat_tree.specs.declared.name.CaseName.{CaseName}
+use Rattle.cat_tree.specs.declared.name.Type as types
+use Rattle.cat_tree.specs.declared.expression.Literal.{Literal}
+use Rattle.cat_tree.specs.declared.expression.Prefix.{Prefix}
+use Rattle.cat_tree.specs.declared.expression.Operator.{Operator}
+use Rattle.cat_tree.specs.declared.expression.Each.{Each}
+use Rattle.cat_tree.specs.declared.expression.Node.{Node}
+use Rattle.cat_tree.specs.declared.expression.Node.TheOpen.{Node-F, Arm-F, FieldValue-F}
+use Rattle.cat_tree.specs.declared.expression.Node.TheVariants as leaf
+use Rattle.cat_tree.specs.declared.expression.Node.TheViews as node
+use Rattle.cat_tree.specs.declared.expression.Node.TheViews.{roll-Node, roll-Arm, roll-FieldValue}
+use Rattle.cat_tree.specs.declared.expression.Node.TheFolds.{ind-Node, map-Node, map-Arm, map-FieldValue}
+use Rattle.cat_tree.specs.declared.expression.FieldValue.{FieldValue}
+use Rattle.cat_tree.specs.declared.expression.Arm.{Arm}
+
+-- what holds of each element
+abbrev pub AllHold : {A : Type 0} → (A → Type 0) → List A → Type 0
+AllHold P [] = Unit {0}
+AllHold P (x ∷ xs) = P x × AllHold P xs
+
+held : {A : Type 0} (P : A → Type 0) (ys : List ((x : A) × P x)) → AllHold P (map (λ y. y.0) ys)
+held P [] = tt
+held P (y ∷ ys) = (y.1, held P ys)
+
+module _
+    (P : Node → Type 0)
+    (literal : (l : Literal) (p : Pos) → P (leaf.Literal l p))
+    (name : (w : Name) → P (leaf.Name w))
+    (case : (c : CaseName) → P (leaf.Case c))
+    (parens : (p : Pos) (e : Node) → P e → P (node.Parens p e))
+    (field : (e : Node) (w : Name) → P e → P (node.Field e w))
+    (prefixed : (o : Prefix) (p : Pos) (e : Node) → P e → P (node.Prefixed o p e))
+    (sum : (p : Pos) (t : types.Type) (e : Node) → P e → P (node.Sum p t e))
+    (content : (c : CaseName) (e : Node) → P e → P (node.Content c e))
+    (call : (f : Name) (args : List Node) → AllHold P args → P (node.Call f args))
+    (binary : (o : Operator) (p : Pos) (a b : Node) → P a → P b → P (node.Binary o p a b))
+    (test : (e : Node) (p : Pos) (c : CaseName) → P e → P (node.Test e p c))
+    (list : (p : Pos) (es : List Node) → AllHold P es → P (node.List p es))
+    (structure : (u : Name) (fs : List FieldValue) → AllHold (λ f. P f.value) fs → P (node.Structure u fs))
+    (scope_call : (p : Pos) (u : Name) (fs : List FieldValue) (w : Name) → AllHold (λ f. P f.value) fs → P (node.ScopeCall p u fs w))
+    (choice : (p : Pos) (c t e : Node) → P c → P t → P e → P (node.If p c t e))
+    (matching : (p : Pos) (e : Node) (more : List Arm) → P e → AllHold (λ a. P a.body) more → P (node.Match p e more))
+    (each : (k : Each) (p : Pos) (w : Name) (l e : Node) → P l → P e → P (node.Each k p w l e))
+    (combine : (p : Pos) (w : Name) (l : Node) (acc : Name) (s e : Node) → P l → P s → P e → P (node.Combine p w l acc s e)) where
+  abbrev H : Type 0
+  H = (e : Node) × P e
+
+  abbrev HA : Type 0
+  HA = (a : Arm) × P a.body
+
+  abbrev HF : Type 0
+  HF = (f : FieldValue) × P f.value
+
+  at : (y : Node-F H HA HF) → P (roll-Node (map-Node H HA HF Node Arm FieldValue (λ e. e.0) (λ a. a.0) (λ f. f.0) y))
+  unfolding roll-Node roll
+  at (Node-F.Literal l p) = literal l p
+  at (Node-F.Name w) = name w
+  at (Node-F.Case c) = case c
+  at (Node-F.Parens p e) = parens p e.0 e.1
+  at (Node-F.Field e w) = field e.0 w e.1
+  at (Node-F.Prefixed o p e) = prefixed o p e.0 e.1
+  at (Node-F.Sum p t e) = sum p t e.0 e.1
+  at (Node-F.Content c e) = content c e.0 e.1
+  at (Node-F.Call f args) = call f (map (λ e. e.0) args) (held P args)
+  at (Node-F.Binary o p a b) = binary o p a.0 b.0 a.1 b.1
+  at (Node-F.Test e p c) = test e.0 p c e.1
+  at (Node-F.List p es) = list p (map (λ e. e.0) es) (held P es)
+  at (Node-F.Structure u fs) = structure u (map (λ f. f.0) fs) (held (λ f. P f.value) fs)
+  at (Node-F.ScopeCall p u fs w) = scope_call p u (map (λ f. f.0) fs) w (held (λ f. P f.value) fs)
+  at (Node-F.If p c t e) = choice p c.0 t.0 e.0 c.1 t.1 e.1
+  at (Node-F.Match p e more) = matching p e.0 (map (λ a. a.0) more) e.1 (held (λ a. P a.body) more)
+  at (Node-F.Each k p w l e) = each k p w l.0 e.0 l.1 e.1
+  at (Node-F.Combine p w l acc s e) = combine p w l.0 acc s.0 e.0 l.1 s.1 e.1
+
+  at_arm : (y : Arm-F H HA HF) → P (roll-Arm (map-Arm H HA HF Node Arm FieldValue (λ e. e.0) (λ a. a.0) (λ f. f.0) y)).body
+  at_arm y = y.body.1
+
+  at_field : (y : FieldValue-F H HA HF) → P (roll-FieldValue (map-FieldValue H HA HF Node Arm FieldValue (λ e. e.0) (λ a. a.0) (λ f. f.0) y)).value
+  at_field y = y.value.1
+
+  pub induction : (e : Node) → P e
+  induction = ind-Node P (λ a. P a.body) (λ f. P f.value) (λ x y is. subst (λ z. P (roll-Node z)) is (at y)) (λ x y is. subst (λ z. P (roll-Arm z).body) is (at_arm y)) (λ x y is. subst (λ z. P (roll-FieldValue z).value) is (at_field y))

@@ -1,0 +1,159 @@
+-- The states of reading: which word, and which operand, leads from one to the next.
+use Rattle.std.specs.Prelude.{ℕ, suc, max, int_lt, Bool, true, false, ◌||◌, if◌then◌else◌, [], ◌∷◌, ◌++◌, Option, Some, None}
+use Rattle.cat_lex.specs.declared.token.Token.{Token}
+use Rattle.cat_tree.specs.declared.name.CaseName.TheVariants.{Bare, Qualified}
+use Rattle.cat_tree.specs.declared.expression.Literal.TheVariants as literal
+use Rattle.cat_tree.specs.declared.expression.Pattern.TheVariants as pattern
+use Rattle.cat_tree.specs.declared.expression.Node.{Node}
+use Rattle.cat_tree.specs.declared.expression.Node.TheVariants as leaf
+use Rattle.cat_tree.specs.declared.expression.Node.TheViews as node
+use Rattle.cat_tree.specs.Grammar.{prefix_level, operator_level, span_bound}
+use Rattle.cat_parse_expr.specs.declared.state.State.{State}
+use Rattle.cat_parse_expr.specs.declared.state.State.TheVariants as state
+use Rattle.cat_parse_expr.specs.declared.state.Owner.TheVariants as owner
+use Rattle.cat_parse_expr.specs.declared.state.Reading.{Reading}
+use Rattle.cat_parse_expr.specs.declared.state.Part.{Part}
+use Rattle.cat_parse_expr.specs.Words.{Move, Onward, Grown, on_of, on_then, on_else, on_among, on_in, on_initially, on_with, on_anything, on_content, on_with_pattern, on_close, on_bracket, on_semicolon, on_comma, on_colon, on_dot, on_dashes, on_brace, on_end_brace, lower_of, upper_of, unit_of}
+use Rattle.cat_parse_expr.specs.Steps.{if_at, start_step, whole_step, type_step, fields_end, each_step, case_dot}
+
+-- the expression that is whole here
+abbrev pub done : State → Option Node
+done (state.Complete n s) = Some n
+done (state.Int n p) = Some (leaf.Literal (literal.Int n) p)
+done (state.Name w) = Some (leaf.Name w)
+done (state.Upper u) = Some (leaf.Case (Bare u))
+done (state.Qualified e c) = Some (leaf.Case (Qualified e c))
+done (state.Called f args) = Some (node.Call f args)
+done (state.Tested e p u) = Some (node.Test e p (Bare u))
+done (state.Matched m b) = Some (node.Match m.pos m.tested m.arms)
+done _ = None
+
+abbrev pub strength_of : State → ℕ
+strength_of (state.Complete n s) = s
+strength_of (state.Called f args) = 8
+strength_of (state.Tested e p u) = 4
+strength_of (state.Matched m b) = 8
+strength_of _ = 9
+
+abbrev pub some : State → Option Move
+some q = Some (Onward q)
+
+abbrev pub step : (k strength : ℕ) → State → Token → Option Move
+step k s state.Start t = start_step k t.pos t.kind
+step k s (state.Complete n own) t = whole_step k s n t
+step k s (state.Int n p) t = unit_of (λ u. if int_lt span_bound n then None else some (state.Complete (leaf.Literal (literal.Span n u) p) 9)) (whole_step k s (leaf.Literal (literal.Int n) p) t) t.kind
+step k s (state.Name w) t = on_of (if_at k 8 (state.Argument w [])) (whole_step k s (leaf.Name w) t) t.kind
+step k s (state.Upper u) t = on_dot (some (state.UpperDot u)) (on_brace (some (state.Fields (owner.Literal u) [])) (on_content (if_at k 8 (state.Content (Bare u))) (whole_step k s (leaf.Case (Bare u)) t) t.kind) t.kind) t.kind
+step k s (state.Qualified e c) t = on_content (if_at k 8 (state.Content (Qualified e c))) (whole_step k s (leaf.Case (Qualified e c)) t) t.kind
+step k s (state.Called f args) t = on_comma (some (state.Argument f args)) (whole_step k s (node.Call f args) t) t.kind
+step k s (state.Tested e p u) t = on_dot (some (state.TestedDot e p u)) (whole_step k s (node.Test e p (Bare u)) t) t.kind
+step k s (state.Matched m b) t = on_dashes (if b then None else some (state.ArmPattern m)) None t.kind
+step k s (state.Dot n) t = lower_of (λ w. Onward (state.Complete (node.Field n w) 9)) t.pos t.kind
+step k s (state.UpperDot u) t = upper_of (λ c. Onward (state.Qualified u c)) (lower_of (λ w. Grown (state.Complete (node.Field (leaf.Case (Bare u)) w) 9)) t.pos t.kind) t.pos t.kind
+step k s (state.TestedDot e p u) t = upper_of (λ c. Onward (state.Complete (node.Test e p (Qualified u c)) 4)) None t.pos t.kind
+step k s (state.WithPattern n p) t = upper_of (λ u. Onward (state.Tested n p u)) None t.pos t.kind
+step k s (state.PrefixOf o p) t = on_of (some (state.Prefixed o p)) None t.kind
+step k s (state.SumType p n) t = type_step p n t.pos t.kind
+step k s (state.SumOf p ty) t = on_of (some (state.Sum p ty)) None t.kind
+step k s (state.Close p e) t = on_close (some (state.Complete (node.Parens p e) 9)) None t.kind
+step k s (state.Element p []) t = on_bracket (some (state.Complete (node.List p []) 9)) None t.kind
+step k s (state.Elements p es) t = on_semicolon (some (state.Element p es)) (on_bracket (some (state.Complete (node.List p es) 9)) None t.kind) t.kind
+step k s (state.Fields o fs) t = on_dashes (some (state.FieldName o fs)) (on_end_brace (fields_end o fs) None t.kind) t.kind
+step k s (state.FieldName o fs) t = lower_of (λ w. Onward (state.FieldColon o fs w)) t.pos t.kind
+step k s (state.FieldColon o fs w) t = on_colon (some (state.FieldValue o fs w)) None t.kind
+step k s (state.CallScope p) t = upper_of (λ u. Onward (state.CallWith p u)) None t.pos t.kind
+step k s (state.CallWith p u) t = on_with (some (state.CallBrace p u)) None t.kind
+step k s (state.CallBrace p u) t = on_brace (some (state.Fields (owner.Call p u) [])) None t.kind
+step k s (state.CallDot p u fs) t = on_dot (some (state.CallOutput p u fs)) None t.kind
+step k s (state.CallOutput p u fs) t = lower_of (λ w. Onward (state.Complete (node.ScopeCall p u fs w) 9)) t.pos t.kind
+step k s (state.IfThen p c) t = on_then (some (state.Then p c)) None t.kind
+step k s (state.ThenElse p c e) t = on_else (some (state.Else p c e)) None t.kind
+step k s (state.MatchWith p e) t = on_with_pattern (some (state.FirstArm p e)) None t.kind
+step k s (state.FirstArm p e) t = on_dashes (some (state.ArmPattern (record { pos = p; tested = e; arms = [] }))) None t.kind
+step k s (state.ArmPattern m) t = upper_of (λ u. Onward (state.ArmCase m (Bare u))) (on_anything (some (state.ArmColon m pattern.Anything)) None t.kind) t.pos t.kind
+step k s (state.ArmCase m c) t = on_dot (case_dot c (λ u. Onward (state.ArmDot m u))) (on_of (some (state.ArmOf m c)) (on_colon (some (state.ArmBody m (pattern.Case c None))) None t.kind) t.kind) t.kind
+step k s (state.ArmDot m u) t = upper_of (λ c. Onward (state.ArmCase m (Qualified u c))) None t.pos t.kind
+step k s (state.ArmOf m c) t = lower_of (λ w. Onward (state.ArmColon m (pattern.Case c (Some w)))) t.pos t.kind
+step k s (state.ArmColon m pat) t = on_colon (some (state.ArmBody m pat)) None t.kind
+step k s (state.Each e p) t = lower_of (λ w. Onward (state.EachAmong e p w)) t.pos t.kind
+step k s (state.EachAmong e p w) t = on_among (some (state.EachList e p w)) None t.kind
+step k s (state.EachThen e p w l) t = each_step e (state.EachBody e p w l) t.kind
+step k s (state.Combine p) t = lower_of (λ w. Onward (state.CombineAmong p w)) t.pos t.kind
+step k s (state.CombineAmong p w) t = on_among (some (state.CombineList p w)) None t.kind
+step k s (state.CombineIn c) t = on_in (some (state.CombineResult c)) None t.kind
+step k s (state.CombineResult c) t = lower_of (λ w. Onward (state.CombineInitially c w)) t.pos t.kind
+step k s (state.CombineInitially c w) t = on_initially (some (state.CombineStart c w)) None t.kind
+step k s (state.CombineWith c w e) t = on_with (some (state.CombineBody c w e)) None t.kind
+step k s _ t = None
+
+-- the level of the operand that a state waits for
+abbrev pub takes : State → Option ℕ
+takes (state.Right a o p) = Some (suc (operator_level o))
+takes (state.Content c) = Some 8
+takes (state.Argument f args) = Some 9
+takes (state.Prefixed o p) = Some (prefix_level o)
+takes (state.Sum p ty) = Some 8
+takes (state.Open p) = Some 0
+takes (state.Element p es) = Some 0
+takes (state.FieldValue o fs w) = Some 0
+takes (state.If p) = Some 0
+takes (state.Then p c) = Some 0
+takes (state.Else p c t) = Some 0
+takes (state.Match p) = Some 0
+takes (state.ArmBody m pat) = Some 0
+takes (state.EachList e p w) = Some 0
+takes (state.EachBody e p w l) = Some 0
+takes (state.CombineList p w) = Some 0
+takes (state.CombineStart c w) = Some 0
+takes (state.CombineBody c w e) = Some 0
+takes _ = None
+
+-- with its operand, and whether that ends in a match
+abbrev pub fed_state : State → Node → Bool → State
+fed_state (state.Right a o p) e b = state.Complete (node.Binary o p a e) (operator_level o)
+fed_state (state.Content c) e b = state.Complete (node.Content c e) 8
+fed_state (state.Argument f args) e b = state.Called f (args ++ e ∷ [])
+fed_state (state.Prefixed o p) e b = state.Complete (node.Prefixed o p e) (prefix_level o)
+fed_state (state.Sum p ty) e b = state.Complete (node.Sum p ty e) 8
+fed_state (state.Open p) e b = state.Close p e
+fed_state (state.Element p es) e b = state.Elements p (es ++ e ∷ [])
+fed_state (state.FieldValue o fs w) e b = state.Fields o (fs ++ record { name = w; value = e } ∷ [])
+fed_state (state.If p) e b = state.IfThen p e
+fed_state (state.Then p c) e b = state.ThenElse p c e
+fed_state (state.Else p c t) e b = state.Complete (node.If p c t e) 8
+fed_state (state.Match p) e b = state.MatchWith p e
+fed_state (state.ArmBody m pat) e b = state.Matched (record { pos = m.pos; tested = m.tested; arms = m.arms ++ record { pattern = pat; body = e } ∷ [] }) b
+fed_state (state.EachList k p w) e b = state.EachThen k p w e
+fed_state (state.EachBody k p w l) e b = state.Complete (node.Each k p w l e) 8
+fed_state (state.CombineList p w) e b = state.CombineIn (record { pos = p; element = w; list = e })
+fed_state (state.CombineStart c w) e b = state.CombineWith c w e
+fed_state (state.CombineBody c w s) e b = state.Complete (node.Combine c.pos c.element c.list w s e) 8
+fed_state q e b = q
+
+-- whether the operand ends a form, or a match
+abbrev pub ends_form : State → Bool
+ends_form (state.Else p c t) = true
+ends_form (state.ArmBody m pat) = true
+ends_form (state.EachBody k p w l) = true
+ends_form (state.CombineBody c w s) = true
+ends_form _ = false
+
+abbrev pub ends_match : State → Bool
+ends_match (state.ArmBody m pat) = true
+ends_match _ = false
+
+abbrev pub start : Reading
+start = record { state = state.Start; tallest = 0; in_form = false; in_match = false }
+
+abbrev pub moved : Reading → Option Move → Option Reading
+moved r None = None
+moved r (Some (Onward q)) = Some (record { state = q; tallest = r.tallest; in_form = false; in_match = false })
+moved r (Some (Grown q)) = Some (record { state = q; tallest = suc r.tallest; in_form = false; in_match = false })
+
+-- one word further, where it may stand
+unfoldable pub shift : ℕ → Reading → Token → Option Reading
+shift k r t = moved r (step k (if r.in_form then 0 else strength_of r.state) r.state t)
+
+-- one operand further
+unfoldable pub feed : Reading → Part → Reading
+feed r e = record { state = fed_state r.state e.node e.in_match; tallest = max r.tallest e.height; in_form = ends_form r.state || e.in_form; in_match = ends_match r.state || e.in_match }

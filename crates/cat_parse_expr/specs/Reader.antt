@@ -1,0 +1,117 @@
+-- Reading, with how far the tokens went on as an expression.
+use Rattle.std.specs.Prelude.{ℕ, zero, suc, Bool, true, false, not, ◌&&◌, if◌then◌else◌, nat_eq, nat_le, List, [], ◌∷◌, length, Option, Some, None}
+use Rattle.cat_lex.specs.declared.token.Token.{Token}
+use Rattle.cat_tree.specs.declared.expression.Node.{Node}
+use Rattle.cat_parse_expr.specs.declared.state.Part.{Part}
+use Rattle.cat_parse_expr.specs.declared.state.Reading.{Reading}
+use Rattle.cat_parse_expr.specs.Machine.{start, shift, takes, feed, done}
+
+-- what is left where reading stopped, and whether it stopped there for the height alone
+pub record Stop : Type 0 where
+  pub left : List Token
+  pub deep : Bool
+
+-- A tree that was read comes with what follows it, and where a longer one broke off, if further on.
+pub data Outcome : Type 0 where
+  Fails : Stop → Outcome
+  Reads : Part → List Token → Option Stop → Outcome
+
+abbrev pub Reader : Type 0
+Reader = List Token → Outcome
+
+abbrev pub here : List Token → Stop
+here ts = record { left = ts; deep = false }
+
+abbrev pub too_deep : List Token → Stop
+too_deep ts = record { left = ts; deep = true }
+
+abbrev pub stop_of : Outcome → Stop
+stop_of (Fails s) = s
+stop_of (Reads e ts None) = here ts
+stop_of (Reads e ts (Some s)) = s
+
+-- the last whole expression on the way, and what follows it
+pub record Best : Type 0 where
+  pub part : Part
+  pub rest : List Token
+
+abbrev pub whole : Reading → Node → Part
+whole r n = record { node = n; height = suc r.tallest; in_form = r.in_form; in_match = r.in_match }
+
+abbrev pub best_of : Option Node → Option Best → Reading → List Token → Option Best
+best_of None best r ts = best
+best_of (Some n) best r ts = Some (record { part = whole r n; rest = ts })
+
+abbrev pub stopped : Option Best → Stop → Outcome
+stopped None s = Fails s
+stopped (Some b) s = Reads b.part b.rest (Some s)
+
+abbrev pub ended : Option Node → Option Best → Reading → List Token → Outcome
+ended None best r ts = stopped best (here ts)
+ended (Some n) best r ts = Reads (whole r n) ts None
+
+-- what comes next: a word is taken, an operand is asked for, or neither
+pub data Next : Type 0 where
+  Shifted : Reading → List Token → Next
+  Asks : ℕ → Next
+  Ends : Next
+
+abbrev pub asked : Option ℕ → Next
+asked (Some j) = Asks j
+asked None = Ends
+
+abbrev pub shifted : Reading → List Token → Option Reading → Next
+shifted r ts (Some more) = Shifted more ts
+shifted r ts None = asked (takes r.state)
+
+abbrev pub next : ℕ → Reading → List Token → Next
+next k r [] = asked (takes r.state)
+next k r (p ∷ ts) = shifted r ts (shift k r p)
+
+abbrev pub is_some : {A : Type 0} → Option A → Bool
+is_some None = false
+is_some (Some x) = true
+
+-- whether the tree that is whole here is higher than it may be
+abbrev pub is_high : ℕ → Reading → Bool
+is_high limit r = is_some (done r.state) && nat_le limit r.tallest
+
+abbrev pub Going : Type 0
+Going = Option Best → Reading → List Token → Outcome
+
+-- where the operand broke off further on, the words that are wanted here may still reach that place
+abbrev pub reaches : (limit : ℕ) → Next → Stop → Bool
+reaches limit (Shifted more ts) s = not s.deep && not (is_high limit more) && nat_eq (length ts) (length s.left)
+reaches limit (Asks j) s = false
+reaches limit Ends s = false
+
+abbrev pub fed : (k limit : ℕ) → Going → Option Best → Reading → Outcome → Outcome
+fed k limit go best r (Fails s) = stopped best s
+fed k limit go best r (Reads e ts None) = go best (feed r e) ts
+fed k limit go best r (Reads e ts (Some s)) = if reaches limit (next k (feed r e) ts) s then go best (feed r e) ts else stopped (best_of (done (feed r e).state) best (feed r e) ts) s
+
+abbrev pub turn : (operand : Bool → ℕ → Reader) (k limit : ℕ) → Going → Option Best → Reading → List Token → Next → Outcome
+turn operand k limit go best r ts (Shifted more rest) = if is_high limit more then stopped (best_of (done r.state) best r ts) (too_deep ts) else go (best_of (done r.state) best r ts) more rest
+turn operand k limit go best r ts (Asks j) = fed k limit go best r (operand (nat_le limit r.tallest) j ts)
+turn operand k limit go best r ts Ends = ended (done r.state) best r ts
+
+unfoldable pub run : (operand : Bool → ℕ → Reader) (k limit fuel : ℕ) → Going
+run operand k limit zero best r ts = stopped best (here ts)
+run operand k limit (suc fuel) best r ts = turn operand k limit (run operand k limit fuel) best r ts (next k r ts)
+
+-- whether the first token begins a part at level k
+abbrev pub starts : ℕ → List Token → Bool
+starts k [] = false
+starts k (p ∷ ts) = is_some (shift k start p)
+
+abbrev pub nothing_at : ℕ → Reader
+nothing_at k ts = Fails (record { left = ts; deep = starts k ts })
+
+-- an operand, or none where the whole is too high already
+abbrev pub operand_of : (ℕ → Reader) → Bool → ℕ → Reader
+operand_of reader high k ts = if high then nothing_at k ts else reader k ts
+
+-- read limit k: the longest expression of that height that stands at level k
+unfoldable pub read : (limit k : ℕ) → Reader
+read zero k ts = nothing_at k ts
+read (suc limit) k ts = run (operand_of (read limit)) k (suc limit) (suc (length ts)) None start ts

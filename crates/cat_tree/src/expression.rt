@@ -1,0 +1,138 @@
+// Expressions as they are written.
+
+use crate::{CaseName, Name, Type};
+use cat_date::Day;
+use cat_num::{Money, Whole};
+use cat_pos::{Boxed, List, Pos};
+
+/// The unit of a duration.
+#[derive(Clone, Copy, Debug, PartialEq, Eq)]
+pub enum Unit {
+    Year,
+    Month,
+    Day,
+}
+
+#[derive(Clone, Copy, Debug, PartialEq, Eq)]
+pub enum Literal {
+    Int(Whole),
+    /// A decimal: the number that its digits spell without the point, and how many stand after the point.
+    Dec(u64, u32),
+    /// A percentage, as `Dec`, without its division by 100.
+    Pct(u64, u32),
+    Money(Money),
+    Date(Day),
+    Boolean(bool),
+    /// A number, at most 999,999,999, of years, months or days.
+    Span(Whole, Unit),
+}
+
+/// What stands before one operand.
+#[derive(Clone, Copy, Debug, PartialEq, Eq)]
+pub enum Prefix {
+    Not,
+    Negate,
+    IntegerOf,
+    DecimalOf,
+    MoneyOf,
+    RoundOf,
+    GetYear,
+    GetMonth,
+    GetDay,
+    NumberOf,
+}
+
+/// What stands between two operands.
+#[derive(Clone, Copy, Debug, PartialEq, Eq)]
+pub enum Operator {
+    Or,
+    Xor,
+    And,
+    Less,
+    LessEqual,
+    Greater,
+    GreaterEqual,
+    Equal,
+    NotEqual,
+    Contains,
+    Plus,
+    Minus,
+    Times,
+    Divide,
+}
+
+/// A form that goes through a list with one name.
+#[derive(Clone, Copy, Debug, PartialEq, Eq)]
+pub enum Each {
+    /// `for all w among E we have E`
+    ForAll,
+    /// `exists w among E such that E`
+    Exists,
+    /// `map each w among E to E`
+    MapEach,
+    /// `list of w among E such that E`
+    ListOf,
+}
+
+/// What an arm takes.
+#[derive(Debug, Drop)]
+pub enum Pattern {
+    /// A case, and the name that its content gets.
+    Case(CaseName, Option<Name>),
+    Anything,
+}
+
+/// An expression. A position is that of the node's first token, or of its operator where it stands inside.
+#[cycle(node)]
+#[derive(Debug, Drop)]
+pub enum Node {
+    Literal(Literal, Pos),
+    Name(Name),
+    Case(CaseName),
+    Parens(Pos, Boxed<Node>),
+    /// `e . w`
+    Field(Boxed<Node>, Name),
+    Prefixed(Prefix, Pos, Boxed<Node>),
+    /// `sum T of e`
+    Sum(Pos, Type, Boxed<Node>),
+    /// `C content e`
+    Content(CaseName, Boxed<Node>),
+    /// `w of a, b`
+    Call(Name, Nodes),
+    Binary(Operator, Pos, Boxed<Node>, Boxed<Node>),
+    /// `e with pattern C`
+    Test(Boxed<Node>, Pos, CaseName),
+    /// `[ a ; b ]`
+    List(Pos, Nodes),
+    /// `U { -- w : e }`
+    Structure(Name, FieldValues),
+    /// `output of U with { -- w : e } . w`
+    ScopeCall(Pos, Name, FieldValues, Name),
+    If(Pos, Boxed<Node>, Boxed<Node>, Boxed<Node>),
+    Match(Pos, Boxed<Node>, Arms),
+    Each(Each, Pos, Name, Boxed<Node>, Boxed<Node>),
+    /// `combine all w among E in w initially E with E`
+    Combine(Pos, Name, Boxed<Node>, Name, Boxed<Node>, Boxed<Node>),
+}
+
+/// A field of a literal or of a scope call.
+#[cycle(node)]
+#[derive(Debug, Drop)]
+pub struct FieldValue {
+    pub name: Name,
+    pub value: Node,
+}
+
+/// An arm of a match.
+#[cycle(node)]
+#[derive(Debug, Drop)]
+pub struct Arm {
+    pub pattern: Pattern,
+    pub body: Node,
+}
+
+pub type Nodes = List<Node>;
+
+pub type Arms = List<Arm>;
+
+pub type FieldValues = List<FieldValue>;

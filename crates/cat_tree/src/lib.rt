@@ -1,0 +1,15 @@
+//! The surface trees of a program: what the parser reads, each node with its position.
+#![tactic(auto)]
+
+mod expression;
+mod name;
+mod program;
+
+pub use expression::{
+    Arm, Arms, Each, FieldValue, FieldValues, Literal, Node, Nodes, Operator, Pattern, Prefix, Unit,
+};
+pub use name::{Base, CaseName, Name, Type};
+pub use program::{
+    CaseItem, Exception, FieldItem, FieldItems, Fulfilled, Item, Kind, Lead, Scope, Target, Tree,
+    Use, Variable,
+};

@@ -1,0 +1,106 @@
+// Declarations and scope blocks as they are written.
+
+use crate::{Name, Node, Type};
+use cat_pos::{List, Pos};
+
+/// A name with its declared type.
+#[derive(Debug, Drop)]
+pub struct FieldItem {
+    pub name: Name,
+    pub ty: Type,
+}
+
+pub type FieldItems = List<FieldItem>;
+
+/// A case of an enumeration, and its content's type.
+#[derive(Debug, Drop)]
+pub struct CaseItem {
+    pub name: Name,
+    pub content: Option<Type>,
+}
+
+#[derive(Clone, Copy, Debug, PartialEq, Eq)]
+pub enum Kind {
+    Input,
+    InputOutput,
+    Output,
+    Internal,
+    Context,
+    ContextOutput,
+}
+
+/// A variable of a scope.
+#[derive(Debug, Drop)]
+pub enum Variable {
+    /// A kind at its position, a name, the type where it is no condition, and the parameters.
+    Own(Kind, Pos, Name, Option<Type>, FieldItems),
+    /// A name for a called scope, and that scope's.
+    Called(Name, Name),
+}
+
+/// What a definition or a rule gives way to.
+#[derive(Debug, Drop)]
+pub enum Exception {
+    No,
+    /// The groups without a label; the position of the word `exception`.
+    Base(Pos),
+    /// The groups of a label; the position of the word `exception`.
+    Labelled(Pos, Name),
+}
+
+/// What stands before `definition` or `rule`.
+#[derive(Debug, Drop)]
+pub struct Lead {
+    pub label: Option<Name>,
+    pub exception: Exception,
+}
+
+/// A variable of the scope, or one of a scope that it calls, with the parameters' names.
+#[derive(Debug, Drop)]
+pub struct Target {
+    pub name: Name,
+    pub inner: Option<Name>,
+    pub params: List<Name>,
+}
+
+/// What a rule says of its condition.
+#[derive(Clone, Copy, Debug, PartialEq, Eq)]
+pub enum Fulfilled {
+    Yes,
+    No,
+}
+
+/// A line of a scope block. Its position is that of its first token, then that of its own keyword.
+#[derive(Debug, Drop)]
+pub enum Use {
+    /// The condition, where there is one, then the consequence.
+    Definition(Pos, Pos, Lead, Target, Option<Node>, Node),
+    Rule(Pos, Pos, Lead, Target, Option<Node>, Fulfilled),
+    Assertion(Pos, Node),
+    /// `date round increasing`, or `decreasing` where it is false.
+    DateRound(Pos, bool),
+}
+
+/// A scope block: its scope's name, and the condition that stands before each of its definitions.
+#[derive(Debug, Drop)]
+pub struct Scope {
+    pub pos: Pos,
+    pub name: Name,
+    pub condition: Option<Node>,
+    pub uses: List<Use>,
+}
+
+/// A declaration, or a scope block. A declaration's position is that of its first token.
+#[derive(Debug, Drop)]
+pub enum Item {
+    Structure(Pos, Name, FieldItems),
+    Enumeration(Pos, Name, List<CaseItem>),
+    Scope(Pos, Name, List<Variable>),
+    Block(Scope),
+}
+
+/// A whole program, as it is written.
+#[derive(Debug, Drop)]
+pub struct Tree {
+    pub items: List<Item>,
+}
