@@ -1,0 +1,19 @@
+-- the meaning of programs
+pub mod Replies
+pub mod Readings
+pub mod Operators
+pub mod Lists
+pub mod Eval
+pub mod Groups
+pub mod Judging
+pub mod Targets
+pub mod Calls
+pub mod Running
+pub mod Outcomes
+pub mod Names
+pub mod Fitting
+pub mod Signatures
+pub mod HasType
+pub mod Orders
+pub mod WellFormed
+pub mod Named

@@ -1,0 +1,15 @@
+// What comes in place of a value.
+use cat_pos::{Pos, Positions};
+use cat_value::{FaultKind, Place};
+
+/// Why an expression, a target or a scope gives no value.
+#[derive(Debug, Drop)]
+pub enum Stop {
+    /// Several definitions of a target hold: their places in source order.
+    Conflict(Place, Positions),
+    /// No definition of a target holds; the place of the name that has no value.
+    NoValue(Place, Pos),
+    Fault(FaultKind, Pos),
+    /// An operation that has no result for values of these types. No well-typed program comes there.
+    Stuck,
+}
