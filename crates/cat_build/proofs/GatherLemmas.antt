@@ -198,9 +198,9 @@ pub take_cause : (old new : Shelved) (main name : List ℕ) (g : Gathered) (part
 take_cause old new main name g parts (NotUtf8 n pos) fresh on why = refused_cause old.content main name why.0 g parts (NotUtf8 n pos) fresh why.1 on
 take_cause old new main name g parts (FenceOpen n pos) fresh on why = refused_cause old.content main name why.0 g parts (FenceOpen n pos) fresh why.1 on
 take_cause old new main name g parts (IncludeTwice n pos) fresh on why = absurd why
-take_cause old new main name g parts (Missing n) fresh on why = rw why.0 (why.1, why.2, (g.bytes, comes_to old.content main name g parts fresh on))
-take_cause old new main name g parts (ReadFault n) fresh on why = rw why.0 (why.1, (g.bytes, comes_to old.content main name g parts fresh on))
-take_cause old new main name g parts (TooLarge n) fresh on why = rw why.0 (why.1, (g.bytes, comes_to old.content main name g parts fresh on, why.2))
+take_cause old new main name g parts (Missing n) fresh on why = rw why.0 (why.1, why.2, (g.bytes, comes_to old.content main name g parts fresh on), why.3)
+take_cause old new main name g parts (ReadFault n) fresh on why = rw why.0 (why.1, (g.bytes, comes_to old.content main name g parts fresh on), why.2)
+take_cause old new main name g parts (TooLarge n) fresh on why = rw why.0 (why.1, (g.bytes, comes_to old.content main name g parts fresh on, why.2), why.3)
 take_cause old new main name g parts Memory fresh on why = tt
 
 -- a refused read or weaving

@@ -1,6 +1,6 @@
 -- What each answer of gathering means, over a shelf that may tell what its files hold.
 use Rattle.std.specs.Prelude.{◌≡◌, ◌≢◌, ℕ, ◌+◌, ◌*◌, ◌<◌, ◌≤◌, Bool, true, false, List, [], ◌∷◌, length, All, Option, Some, IfSome, IsNone, Result, Ok, Err, ⊤}
-use Rattle.cat_io.specs.Shelf.{Shelved, Rose}
+use Rattle.cat_io.specs.Shelf.{Shelved, Rose, ListsGrowBy}
 use Rattle.cat_pos.specs.declared.pos.Piece.{Piece}
 use Rattle.cat_build.specs.Gathered.{Contents, Outcome, Whole, Refused, StopsAt, gathered, limit_after}
 use Rattle.cat_build.specs.declared.source.Source.{Source}
@@ -23,15 +23,15 @@ EndsIn told main outcome = (contents : Contents) × AreTold told contents × (ga
 abbrev pub ComesTo : Contents → List ℕ → List ℕ → ℕ → Type 0
 ComesTo told main name bytes = (contents : Contents) × AreToldBut name told contents × (gathered contents main ≡ StopsAt name bytes)
 
--- each answer has its cause
+-- each answer has its cause; a refused read leaves the shelf with that name listed, and no other
 abbrev pub HasCause : Shelved → Shelved → List ℕ → Result Source GatherRefusal → Type 0
 HasCause old new main (Ok source) = EndsIn old.content main (Whole source)
 HasCause old new main (Err (NotUtf8 name pos)) = EndsIn old.content main (Refused (NotUtf8 name pos))
 HasCause old new main (Err (FenceOpen name pos)) = EndsIn old.content main (Refused (FenceOpen name pos))
 HasCause old new main (Err (IncludeTwice name pos)) = EndsIn old.content main (Refused (IncludeTwice name pos))
-HasCause old new main (Err (Missing name)) = Rose name old.misses new.misses × IsNone (old.content name) × ((bytes : ℕ) × ComesTo old.content main name bytes)
-HasCause old new main (Err (ReadFault name)) = Rose name old.faults new.faults × ((bytes : ℕ) × ComesTo old.content main name bytes)
-HasCause old new main (Err (TooLarge name)) = Rose name old.longs new.longs × ((bytes : ℕ) × ComesTo old.content main name bytes × IfSome (old.content name) (λ content. limit_after bytes < length content))
+HasCause old new main (Err (Missing name)) = Rose name old.misses new.misses × IsNone (old.content name) × ((bytes : ℕ) × ComesTo old.content main name bytes) × ListsGrowBy name old new
+HasCause old new main (Err (ReadFault name)) = Rose name old.faults new.faults × ((bytes : ℕ) × ComesTo old.content main name bytes) × ListsGrowBy name old new
+HasCause old new main (Err (TooLarge name)) = Rose name old.longs new.longs × ((bytes : ℕ) × ComesTo old.content main name bytes × IfSome (old.content name) (λ content. limit_after bytes < length content)) × ListsGrowBy name old new
 HasCause old new main (Err Memory) = ⊤
 
 -- whether a read was refused, or memory ran out
