@@ -103,7 +103,6 @@ after_units units [] [] rest d g e short =
 after_units units [] (c ∷ cents) rest d g e short =
     rw (skip-append is_ascii_digit units (after_point (c ∷ cents) ++ rest) d) (cents_read (c ∷ cents) rest e short)
 after_units units (group ∷ groups) cents rest d g e short =
-    let tail : List ℕ = concat (map after_comma (group ∷ groups)) ++ (after_point cents ++ rest) in
     let run : skip is_ascii_digit (units ++ (concat (map after_comma (group ∷ groups)) ++ (after_point cents ++ rest))) ≡ concat (map after_comma (group ∷ groups)) ++ (after_point cents ++ rest) =
     skip-append is_ascii_digit units (concat (map after_comma (group ∷ groups)) ++ (after_point cents ++ rest)) d in
     let passed : skip_groups (skip is_ascii_digit (units ++ (concat (map after_comma (group ∷ groups)) ++ (after_point cents ++ rest)))) ≡ skip_groups (after_point cents ++ rest) =
@@ -185,7 +184,6 @@ amount_sound text first =
     let run = skip_run is_ascii_digit text in
     let g = has_groups (skip is_ascii_digit text) in
     let e = has_cents (skip_groups (skip is_ascii_digit text)) in
-    let rest : List ℕ = skip_cents (skip_groups (skip is_ascii_digit text)) in
     let some : run.run ≢ [] = run_some is_ascii_digit text (skip is_ascii_digit text) run.run run.split first (skip_stops is_ascii_digit text) in
     let whole : text ≡ run.run ++ (concat (map after_comma g.groups) ++ (after_point e.cents ++ skip_cents (skip_groups (skip is_ascii_digit text)))) =
     run.split ∙ ap (λ (w : List ℕ). run.run ++ w) (g.split ∙ ap (λ (w : List ℕ). concat (map after_comma g.groups) ++ w) e.split) in

@@ -87,10 +87,3 @@ pub read_none : (text : List ℕ) → IsUtf8 text → read text ≡ None → Beg
 read_none text utf8 none form word rest e formed =
     let reached : Reaches form rest (read (word ++ rest)) = goes form word rest formed (subst IsUtf8 e utf8) in
     subst (Reaches form rest) (ap read (sym e) ∙ none) reached
-
-none_by : (text : List ℕ) (o : Option (Form × List ℕ)) → BeginsNoToken text → IsSound text o → o ≡ None
-none_by text None none s = refl
-none_by text (Some found) none s = absurd (none found.0 s.word found.1 s.split s.formed)
-
-pub none_read : (text : List ℕ) → IsUtf8 text → BeginsNoToken text → read text ≡ None
-none_read text utf8 none = none_by text (read text) none (sound text utf8)

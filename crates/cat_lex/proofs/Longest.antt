@@ -73,7 +73,6 @@ first_byte starts letter c more (b ∷ bytes) e h =
 -- a word's characters in front of the text
 type_word_goes : (word rest : List ℕ) → IsWord is_ascii_uppercase word → IsUtf8 (word ++ rest) → Reaches TypeWord rest (read (word ++ rest))
 type_word_goes word rest w utf8 =
-    let spelled : utf8.0 ≡ utf8.0 = refl in
     let rested = peel (w.first ∷ w.others) utf8.0 rest (utf8.1.1 ∙ ap (λ (x : List ℕ). x ++ rest) w.spelled) in
     let text : word ++ rest ≡ bytes_of (w.first ∷ (w.others ++ rested.0)) = sym utf8.1.1 ∙ ap (λ (x : List ℕ). bytes_of x) rested.1 in
     let all : all_scalars (w.first ∷ (w.others ++ rested.0)) ≡ true = ap all_scalars (sym rested.1) ∙ utf8.1.0 in

@@ -34,8 +34,6 @@ at word i below = rw (add-one, drop-cons word i 0) refl
 pub digit_more : (word : List ℕ) (cap n i : ℕ) → i < length word → is_ascii_digit (get_or word i 0) ≡ true
     → min (digits_value_after 10 (min (10 * n + (get_or word i 0 - 48)) cap) (filter is_ascii_digit (drop (i + 1) word))) cap ≡ min (digits_value_after 10 n (filter is_ascii_digit (drop i word))) cap
 digit_more word cap n i below h =
-    let c : ℕ = get_or word i 0 in
-    let rest : List ℕ = filter is_ascii_digit (drop (i + 1) word) in
     let next : 10 * n + (get_or word i 0 - 48) ≡ n * 10 + digit_value (get_or word i 0) = omega (arith, digit_is (get_or word i 0) h) in
     let step : filter is_ascii_digit (drop i word) ≡ get_or word i 0 ∷ filter is_ascii_digit (drop (i + 1) word) = ap (filter is_ascii_digit) (at word i below) ∙ keeps (get_or word i 0) (drop (i + 1) word) h in
     ap (λ (m : ℕ). min (digits_value_after 10 (min m cap) (filter is_ascii_digit (drop (i + 1) word))) cap) next
@@ -62,7 +60,6 @@ split_at c cs true h e =
     let point : c ≡ 46 = grind (arith, nat_tests) in
     rw point (omega (arith, count_cons 46 cs))
 split_at c cs false h e =
-    let at : ℕ = position_or_len is_point cs in
     let front : count_by is_ascii_digit (take (1 + position_or_len is_point cs) (c ∷ cs)) ≡ count_by is_ascii_digit (c ∷ take (position_or_len is_point cs) cs) =
     ap (λ (n : ℕ). count_by is_ascii_digit (take n (c ∷ cs))) (let k : 1 + position_or_len is_point cs ≡ suc (position_or_len is_point cs) = omega arith in k) in
     let back : count_by is_ascii_digit (drop (1 + position_or_len is_point cs + 1) (c ∷ cs)) ≡ count_by is_ascii_digit (drop (position_or_len is_point cs + 1) cs) =
@@ -76,6 +73,5 @@ count_split (c ∷ cs) = split_at c cs (is_point c) refl (count_split cs)
 -- at most 18 digits write a number below 10 to the 18th
 pub short : (word : List ℕ) → units_of word + places_of word ≤ 18 → number_of word < 1_000_000_000_000_000_000
 short word few =
-    let digits : List ℕ = filter is_ascii_digit word in
     let long : length (filter is_ascii_digit word) ≤ 18 = omega (arith, length-filter is_ascii_digit word, count_split word) in
     digits_value_short (numerals_by_value (λ ds. all_ascii_digits ds ≡ true) tells_all_ascii_digits) (filter is_ascii_digit word) 18 (all_digits word) long

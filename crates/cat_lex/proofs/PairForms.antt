@@ -91,9 +91,6 @@ pair_chars : (keyword : DoubleKeyword) (first blanks second es : List ℕ) → H
     → word_read (bytes_of (first ++ (blanks ++ (second ++ es)))) ≡ Some (Pair keyword, bytes_of es)
 pair_chars keyword [] blanks second es h all = absurd (h.small.some refl)
 pair_chars keyword (c ∷ others) blanks second es h all =
-    let first : List ℕ = c ∷ others in
-    let tail : List ℕ = blanks ++ (second ++ es) in
-    let text : List ℕ = bytes_of ((c ∷ others) ++ (blanks ++ (second ++ es))) in
     let named = name_read c others (blanks ++ (second ++ es)) all (small_name c (and_left _ _ h.small.one)) (weaken is_ascii_lowercase is_xid_continue small_continues others (and_right _ _ h.small.one)) in
     let stays : bytes_of (skip is_xid_continue (blanks ++ (second ++ es))) ≡ bytes_of (blanks ++ (second ++ es)) = ap (λ (w : List ℕ). bytes_of w) (first_rest (c ∷ others) blanks second es h) in
     let begun : begins is_blank (bytes_of (blanks ++ (second ++ es))) ≡ true = bytes_blank (blanks ++ (second ++ es)) (all_some is_blank blanks (second ++ es) h.some h.blank) in
@@ -122,7 +119,6 @@ pair_goes keyword word rest pair utf8 =
     let small = listed_small pair.first pair.second keyword pair.listed in
     let spelled : word ≡ bytes_of (pair.first ++ (pair.blanks ++ pair.second)) = pair.spelled ∙ sym (ascii_chars (pair.first ++ (pair.blanks ++ pair.second)) (pair_low keyword word rest pair)) in
     let rested = peel (pair.first ++ (pair.blanks ++ pair.second)) utf8.0 rest (utf8.1.1 ∙ ap (λ (w : List ℕ). w ++ rest) spelled) in
-    let es : List ℕ = rested.0 in
     let split : utf8.0 ≡ pair.first ++ (pair.blanks ++ (pair.second ++ rested.0)) = rested.1 ∙ simp append_assoc in
     let all : all_scalars (pair.first ++ (pair.blanks ++ (pair.second ++ rested.0))) ≡ true = ap all_scalars (sym split) ∙ utf8.1.0 in
     let whole : IsWhole (bytes_of rested.0) = subst (λ (w : List ℕ). IsWhole w) (sym rested.2) pair.whole in

@@ -10,7 +10,7 @@ use Rattle.cat_lex.specs.declared.refusal.LexRefusal.TheVariants.{NoToken, Liter
 use Rattle.cat_lex.specs.Places.{place_after}
 use Rattle.cat_lex.specs.Blanks.{AreLastBlanks, begins_blank}
 use Rattle.cat_lex.specs.Lexes.{IsToken, AreTokens, IsPieceOf, Lexes, HasCause}
-use Rattle.cat_lex.specs.Steps.{IsAfterBlanks, IsFirst, HasCauseAt, HasCauseIn}
+use Rattle.cat_lex.specs.Steps.{AddsPiece, IsAfterBlanks, IsFirst, HasCauseIn}
 use Rattle.cat_lex.specs.Reading.{skip_blanks}
 use Rattle.cat_lex.proofs.Blanks.{gap_of, gap_stops, gap_skipped, gap_utf8}
 use Rattle.cat_lex.proofs.Skips.{not_true}
@@ -48,39 +48,6 @@ next_token piece tokens text pos place next token first rest front are gap some 
     let place_is : place_after pos (gap.blanks ++ is.word) ≡ next =
     sym (place_after-append pos gap.blanks is.word) ∙ (ap (λ (p : Pos). place_after p is.word) (sym gap.place_is) ∙ (ap (λ (w : List ℕ). place_after place w) word ∙ sym next_is)) in
     subst (λ (p : Pos). AreTokens piece (tokens ++ (token ∷ [])) (left rest p)) place_is more
-
-pub ended : (piece : Piece) (tokens : List Token) (text : List ℕ) (pos place : Pos) (first : List ℕ) → IsUtf8 piece.text → AreTokens piece tokens (left text pos) → IsAfterBlanks pos text place first → first ≡ [] → IsPieceOf piece tokens
-ended piece tokens text pos place first utf8 are gap none = record { utf8 = utf8; left = left text pos; spelled = are; ended = gap.last none }
-
-pub fails : (piece : Piece) (tokens : List Token) (text : List ℕ) (pos place : Pos) (first : List ℕ) (refusal : LexRefusal) → AreTokens piece tokens (left text pos) → IsAfterBlanks pos text place first → first ≢ []
-    → HasCauseAt place first refusal → HasCauseIn piece refusal
-fails piece tokens text pos place first (NoToken at) are gap some cause = record {
-  tokens = tokens;
-  left = left text pos;
-  spelled = are;
-  blanks = gap.blanks;
-  rest = first;
-  split = gap.split;
-  blank = gap.whole some;
-  some = some;
-  no_blank = gap.no_blank;
-  place_is = cause.0 ∙ gap.place_is;
-  fault = cause.1;
-}
-fails piece tokens text pos place first (LiteralRange at) are gap some cause = record {
-  tokens = tokens;
-  left = left text pos;
-  spelled = are;
-  blanks = gap.blanks;
-  rest = first;
-  split = gap.split;
-  blank = gap.whole some;
-  some = some;
-  no_blank = gap.no_blank;
-  place_is = cause.0 ∙ gap.place_is;
-  fault = cause.1;
-}
-fails piece tokens text pos place first Memory are gap some cause = cause
 
 some_length : (word : List ℕ) → word ≢ [] → 0 < length word
 some_length [] some = absurd (some refl)
@@ -121,8 +88,23 @@ split_pieces pieces i piece below is =
     at_drop : drop i pieces ≡ get_or pieces i piece ∷ drop (i + 1) pieces
     at_drop = rw (add-one, drop-cons pieces i piece) refl
 
-pub one_piece_more : (pieces : List Piece) (tokens : List Token) (here : List Token) (i : ℕ) (piece : Piece) → i < length pieces → piece ≡ get_or pieces i piece → Lexes (take i pieces) tokens → IsPieceOf piece here
-    → Lexes (take (i + 1) pieces) (tokens ++ here)
-one_piece_more pieces tokens here i piece below is lexed piece_is =
+pub one_piece_more : (pieces : List Piece) (old new : List Token) (i : ℕ) (piece : Piece) → i < length pieces → piece ≡ get_or pieces i piece → Lexes (take i pieces) old → AddsPiece piece old new → Lexes (take (i + 1) pieces) new
+one_piece_more pieces old new i piece below is lexed adds =
     let more : take (i + 1) pieces ≡ take i pieces ++ (piece ∷ []) = take_more pieces i piece below ∙ ap (λ (p : Piece). take i pieces ++ (p ∷ [])) (sym is) in
-    subst (λ (w : List Piece). Lexes w (tokens ++ here)) (sym more) (lexes_more (take i pieces) tokens piece here lexed piece_is)
+    subst (λ (w : List Token). Lexes (take (i + 1) pieces) w) (sym adds.added)
+    (subst (λ (w : List Piece). Lexes w (old ++ adds.here)) (sym more) (lexes_more (take i pieces) old piece adds.here lexed adds.is_piece))
+
+-- the tokens since the first, and what is left of the piece
+pub record HasAdded (piece : Piece) (old tokens : List Token) (text : List ℕ) (pos : Pos) : Type 0 where
+  pub here : List Token
+  pub added : tokens ≡ old ++ here
+  pub spelled : AreTokens piece here (left text pos)
+
+pub one_added : (piece : Piece) (old tokens new : List Token) (text : List ℕ) (pos place next : Pos) (token : Token) (first rest front : List ℕ) → HasAdded piece old tokens text pos → IsAfterBlanks pos text place first → first ≢ []
+    → IsFirst token place first rest → first ≡ front ++ rest → next ≡ place_after place front → new ≡ tokens ++ (token ∷ []) → HasAdded piece old new rest next
+one_added piece old tokens new text pos place next token first rest front has gap some is split next_is new_is =
+    record {
+      here = has.here ++ (token ∷ []);
+      added = new_is ∙ (ap (λ (w : List Token). w ++ (token ∷ [])) has.added ∙ append_assoc old has.here (token ∷ []));
+      spelled = next_token piece has.here text pos place next token first rest front has.spelled gap some is split next_is;
+    }

@@ -126,7 +126,6 @@ sound_chars (c ∷ cs) h = begin_by c cs (is_ascii_uppercase c) (is_xid_start c)
 
 pub word_sound : (text : List ℕ) → IsUtf8 text → IsSound text (word_read text)
 word_sound text utf8 =
-    let cs : List ℕ = utf8.0 in
     let is : chars (bytes_of utf8.0) ≡ utf8.0 = chars-encodes utf8.0 utf8.1.0 in
     let sound : IsSound (bytes_of utf8.0) (word_read (bytes_of utf8.0)) = subst (λ (w : List ℕ). IsSound (bytes_of utf8.0) (begin_word w (bytes_of utf8.0))) (sym is) (sound_chars utf8.0 utf8.1.0) in
     subst (λ (w : List ℕ). IsSound w (word_read w)) utf8.1.1 sound

@@ -7,7 +7,7 @@ use Rattle.cat_lex.specs.declared.refusal.LexRefusal.{LexRefusal}
 use Rattle.cat_lex.specs.declared.refusal.LexRefusal.TheVariants.{NoToken, LiteralRange, Memory}
 use Rattle.cat_lex.specs.Places.{place_after}
 use Rattle.cat_lex.specs.Blanks.{AreBlanks, AreLastBlanks, begins_blank}
-use Rattle.cat_lex.specs.Lexes.{IsToken, BeginsNoToken, PassesBound, FailsIn}
+use Rattle.cat_lex.specs.Lexes.{IsToken, IsPieceOf, BeginsNoToken, PassesBound, FailsIn}
 
 -- the text after its blanks and comments, and its place
 pub record IsAfterBlanks (pos : Pos) (text : List ℕ) (place : Pos) (rest : List ℕ) : Type 0 where
@@ -23,6 +23,12 @@ pub record IsFirst (token : Token) (place : Pos) (text rest : List ℕ) : Type 0
   pub word : List ℕ
   pub split : text ≡ word ++ rest
   pub is_token : IsToken token place word rest
+
+-- the tokens of the piece are added
+pub record AddsPiece (piece : Piece) (old new : List Token) : Type 0 where
+  pub here : List Token
+  pub added : new ≡ old ++ here
+  pub is_piece : IsPieceOf piece here
 
 abbrev pub HasCauseAt : Pos → List ℕ → LexRefusal → Type 0
 HasCauseAt place text (NoToken at) = (at ≡ place) × BeginsNoToken text

@@ -1,9 +1,9 @@
 //! Pieces into tokens.
-ghost use Rattle.std.specs.Prelude.{◌≡◌, ◌++◌, ◌+◌, ◌<◌, ◌≤◌, ◌^◌, ℕ, List, length, IfOk, IfErr};
+ghost use Rattle.std.specs.Prelude.{◌≡◌, ◌++◌, ◌+◌, ◌<◌, ◌≤◌, ◌^◌, ℕ, List, length, IfOk, IfErr, OnOk};
 ghost use Rattle.std.specs.Str.{IsUtf8};
 ghost use Rattle.cat_lex.specs.Places.{place_after};
-ghost use Rattle.cat_lex.specs.Lexes.{AreReadable, IsReadable, Lexes, HasCause, IsPieceOf};
-ghost use Rattle.cat_lex.specs.Steps.{IsAfterBlanks, IsFirst, HasCauseAt, HasCauseIn};
+ghost use Rattle.cat_lex.specs.Lexes.{AreReadable, IsReadable, Lexes, HasCause};
+ghost use Rattle.cat_lex.specs.Steps.{AddsPiece, IsAfterBlanks, IsFirst, HasCauseAt, HasCauseIn};
 
 use crate::reader::read;
 use crate::skip::skip_blanks;
@@ -77,18 +77,18 @@ fn after_blanks(text: &str, pos: Pos) -> (&str, Pos)
     (tail(text, rest), place)
 }
 
-fn piece_tokens(alloc: Global, piece: &Piece) -> Result<Tokens, LexRefusal>
+/// Adds the tokens of the piece. After a refusal, those that stand in front of the fault are added.
+fn add_piece(alloc: Global, piece: &Piece, tokens: &mut Tokens) -> Result<(), LexRefusal>
     requires { IsReadable piece.now }
-    ensures tokens { IfOk result (λ tokens. IsPieceOf piece.now tokens) }
+    ensures tokens { OnOk result (AddsPiece piece.now tokens.old tokens.new) }
     ensures cause { IfErr result (λ refusal. HasCauseIn piece.now refusal) }
 {
-    let mut tokens = List::new(alloc);
     let mut text = piece.text.as_str();
     let mut pos = piece.pos;
     loop {
         let (first, place) = after_blanks(text, pos);
         if first.is_empty() {
-            return Ok(tokens);
+            return Ok(());
         }
         let (token, after) = first_token(alloc, first, place)?;
         pos = place_after(place, front(first, after.as_bytes()).as_bytes());
@@ -105,8 +105,7 @@ pub fn lex(alloc: Global, pieces: &[Piece]) -> Result<Tokens, LexRefusal>
 {
     let mut tokens = List::new(alloc);
     for piece in pieces {
-        let here = piece_tokens(alloc, piece)?;
-        tokens.append(here)?;
+        add_piece(alloc, piece, &mut tokens)?;
     }
     Ok(tokens)
 }

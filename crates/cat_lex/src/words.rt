@@ -1,6 +1,6 @@
 //! Keywords and double keywords.
 
-/// A reserved word: each is spelled as its name, in small letters.
+/// A reserved word, spelled in small letters, as `get_year` is.
 #[derive(Clone, Copy, Debug, PartialEq, Eq)]
 pub enum Keyword {
     Declaration,

@@ -1,13 +1,12 @@
 use Rattle.std.proofs.Common.{◌≤◌, ◌+◌, ◌*◌, length}
 use Rattle.std.specs.Str.{IsUtf8}
-use Rattle.cat_lex.specs.Lexes.{AreTokens}
-use Rattle.cat_lex.proofs.PieceSteps.{left}
-use Rattle.cat_lex.proofs.lexer.piece_tokens.Given as goal
+use Rattle.cat_lex.proofs.PieceSteps.{HasAdded}
+use Rattle.cat_lex.proofs.lexer.add_piece.Given as goal
 
 abbrev pub invariant-loop-first : goal.invariant-loop-first
 invariant-loop-first l = record {
   utf8 : IsUtf8 l.text;
-  spelled : AreTokens l.piece l.tokens (left l.text l.pos);
+  added : HasAdded l.piece l.fn.tokens l.tokens l.text l.pos;
   line : l.pos.line + length l.text ≤ 12 * 1024 * 1024;
   column : l.pos.column + length l.text ≤ 12 * 1024 * 1024;
 }
