@@ -9,6 +9,7 @@ pub record Numbered : Type 0 where
   pub made : ℕ
   pub failing : List ℕ
 
+-- the calls of a device, with the numbers of those that fail as a list
 abbrev pub numbered : Calls → Numbered
 numbered calls = record { made = calls.made; failing = calls.failing.items }
 

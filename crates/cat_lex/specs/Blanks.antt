@@ -6,11 +6,12 @@ use Rattle.cat_pos.specs.Position.{is_line_feed}
 abbrev pub is_blank : ℕ → Bool
 is_blank byte = byte == 32 || byte == 9 || byte == 13 || byte == 10
 
--- a comment begins with `#`, but not with `#[`
+-- a bracket comes first
 abbrev pub is_bracket_first : List ℕ → Bool
 is_bracket_first [] = false
 is_bracket_first (byte ∷ bytes) = byte == 91
 
+-- a `#` begins a comment unless a bracket follows it
 abbrev pub begins_comment : ℕ → List ℕ → Bool
 begins_comment byte bytes = byte == 35 && not (is_bracket_first bytes)
 
@@ -24,6 +25,7 @@ are_blank false ending (byte ∷ bytes) = if is_blank byte then are_blank false 
 abbrev pub AreBlanks : List ℕ → Type 0
 AreBlanks text = are_blank false false text ≡ true
 
+-- blanks and comments up to the end of the text, the last comment without a line feed perhaps
 abbrev pub AreLastBlanks : List ℕ → Type 0
 AreLastBlanks text = are_blank false true text ≡ true
 

@@ -74,6 +74,7 @@ pub record IsPercent (word : List ℕ) : Type 0 where
 abbrev pub is_group : List ℕ → Bool
 is_group text = length text == 3 && list_all is_ascii_digit text
 
+-- a group of digits with its comma in front
 abbrev pub after_comma : List ℕ → List ℕ
 after_comma group = 44 ∷ group
 

@@ -1,5 +1,5 @@
 -- What it means that pieces of source are tokens, and that they are none.
-use Rattle.std.specs.Prelude.{◌≡◌, ◌≢◌, ◌≤◌, ◌*◌, ℕ, false, List, [], ◌∷◌, ◌++◌, length, Some, None, All}
+use Rattle.std.specs.Prelude.{◌≡◌, ◌≢◌, ℕ, false, List, [], ◌∷◌, ◌++◌, Some, None}
 use Rattle.std.specs.Str.{IsUtf8}
 use Rattle.cat_pos.specs.declared.pos.Pos.{Pos}
 use Rattle.cat_pos.specs.declared.pos.Piece.{Piece}
@@ -84,12 +84,3 @@ abbrev pub HasCause : List Piece → LexRefusal → Type 0
 HasCause pieces (NoToken place) = FailsAt pieces place BeginsNoToken
 HasCause pieces (LiteralRange place) = FailsAt pieces place PassesBound
 HasCause pieces Memory = Unit {0}
-
--- a piece of at most 4 MiB, whose position has a line and a column of at most 8,388,608
-pub record IsReadable (piece : Piece) : Type 0 where
-  pub short : length piece.text ≤ 4 * 1024 * 1024
-  pub line : piece.pos.line ≤ 8 * 1024 * 1024
-  pub column : piece.pos.column ≤ 8 * 1024 * 1024
-
-abbrev pub AreReadable : List Piece → Type 0
-AreReadable pieces = All (λ piece. IsReadable piece) pieces

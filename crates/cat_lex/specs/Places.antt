@@ -10,6 +10,7 @@ next_place pos byte =
     then record { file = pos.file; line = pos.line + 1; column = 1 }
     else record { file = pos.file; line = pos.line; column = pos.column + 1 }
 
+-- the place behind some bytes that begin in this place
 abbrev pub place_after : Pos → List ℕ → Pos
 place_after pos [] = pos
 place_after pos (byte ∷ bytes) = place_after (next_place pos byte) bytes

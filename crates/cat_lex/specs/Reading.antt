@@ -18,6 +18,7 @@ abbrev pub skip : (ℕ → Bool) → List ℕ → List ℕ
 skip passes [] = []
 skip passes (c ∷ cs) = if passes c then skip passes cs else c ∷ cs
 
+-- a text whose first byte passes a test
 abbrev pub begins : (ℕ → Bool) → List ℕ → Bool
 begins passes [] = false
 begins passes (c ∷ cs) = passes c
@@ -27,9 +28,11 @@ abbrev pub is_pointed : List ℕ → Bool
 is_pointed [] = false
 is_pointed (c ∷ cs) = c == 46 && begins is_ascii_digit cs
 
+-- the text behind a point and its digits, where these come first
 abbrev pub skip_places : List ℕ → List ℕ
 skip_places text = if is_pointed text then skip is_ascii_digit (drop 1 text) else text
 
+-- the sign of a percentage
 abbrev pub is_percent_sign : ℕ → Bool
 is_percent_sign c = c == 37
 
@@ -40,6 +43,7 @@ number_after units =
     let spaces = skip is_space places in
     if begins is_percent_sign spaces then (Percent, drop 1 spaces) else if is_pointed units then (Decimal, places) else (Whole, units)
 
+-- a number, where a digit comes first
 abbrev pub number_read : List ℕ → Form × List ℕ
 number_read text = number_after (skip is_ascii_digit text)
 
@@ -57,13 +61,16 @@ skip_cents text = if is_pointed text then (if begins is_ascii_digit (drop 2 text
 abbrev pub amount_read : List ℕ → Option (Form × List ℕ)
 amount_read text = if begins is_ascii_digit text then Some (Amount, skip_cents (skip_groups (skip is_ascii_digit text))) else None
 
+-- a date between bars, where one comes first
 abbrev pub date_read : List ℕ → Option (Form × List ℕ)
 date_read text = if bytes_eq (form_of (take 12 text)) (codes "|0000-00-00|") then Some (Date, drop 12 text) else None
 
+-- the mark that was found, with what follows it; else the other reading
 abbrev pub mark_or : Option Symbol → List ℕ → Option (Form × List ℕ) → Option (Form × List ℕ)
 mark_or None rest other = other
 mark_or (Some symbol) rest other = Some (Mark symbol, rest)
 
+-- the mark of two bytes, else that of one, where one comes first
 abbrev pub mark_read : List ℕ → Option (Form × List ℕ)
 mark_read [] = None
 mark_read (c ∷ []) = mark_or (symbol_of (c ∷ [])) [] None
@@ -77,6 +84,7 @@ after passes text = encode_utf8_all (skip passes (chars text))
 abbrev pub front_of : List ℕ → List ℕ → List ℕ
 front_of text rest = take (length text - length rest) text
 
+-- the double keyword that was found, with what follows it; else the word alone
 abbrev pub pair_or : Option DoubleKeyword → List ℕ → List ℕ → Form × List ℕ
 pair_or None end rest = (Word, rest)
 pair_or (Some keyword) end rest = (Pair keyword, end)
@@ -88,12 +96,14 @@ pair_read text rest =
     let end = after is_xid_continue second in
     if begins is_blank rest then pair_or (double_keyword_of (front_of text rest) (front_of second end)) end rest else (Word, rest)
 
+-- a type's word, or else a word or a double keyword, by the first character
 abbrev pub begin_word : List ℕ → List ℕ → Option (Form × List ℕ)
 begin_word [] text = None
 begin_word (c ∷ cs) text =
     let rest = after is_xid_continue text in
     if is_ascii_uppercase c then Some (TypeWord, rest) else if is_xid_start c then Some (pair_read text rest) else None
 
+-- a word or a double keyword, where one comes first
 abbrev pub word_read : List ℕ → Option (Form × List ℕ)
 word_read text = begin_word (chars text) text
 

@@ -30,11 +30,13 @@ pub record AddsPiece (piece : Piece) (old new : List Token) : Type 0 where
   pub added : new ≡ old ++ here
   pub is_piece : IsPieceOf piece here
 
+-- why a text is refused in this place
 abbrev pub HasCauseAt : Pos → List ℕ → LexRefusal → Type 0
 HasCauseAt place text (NoToken at) = (at ≡ place) × BeginsNoToken text
 HasCauseAt place text (LiteralRange at) = (at ≡ place) × PassesBound text
 HasCauseAt place text Memory = Unit {0}
 
+-- why a piece is refused
 abbrev pub HasCauseIn : Piece → LexRefusal → Type 0
 HasCauseIn piece (NoToken place) = FailsIn piece place BeginsNoToken
 HasCauseIn piece (LiteralRange place) = FailsIn piece place PassesBound

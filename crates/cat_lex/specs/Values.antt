@@ -14,6 +14,7 @@ use Rattle.cat_lex.specs.declared.token.TokenKind.TheVariants as kind
 use Rattle.cat_lex.specs.declared.words.Keyword.{Keyword}
 use Rattle.cat_lex.specs.Words.{keyword_of}
 
+-- the point of a decimal
 abbrev pub is_point : ℕ → Bool
 is_point byte = byte == 46
 
@@ -25,6 +26,7 @@ number_of word = digits_value 10 (filter is_ascii_digit word)
 abbrev pub units_of : List ℕ → ℕ
 units_of word = count_by is_ascii_digit (before_first is_point word)
 
+-- how many digits stand behind the point
 abbrev pub places_of : List ℕ → ℕ
 places_of word = count_by is_ascii_digit (after_first is_point word)
 
@@ -32,6 +34,7 @@ places_of word = count_by is_ascii_digit (after_first is_point word)
 abbrev pub cents_of : List ℕ → ℕ
 cents_of word = number_of word * 10 ^ (2 - places_of word)
 
+-- the token, where it is within its bound
 abbrev pub within : Bool → TokenKind → Option TokenKind
 within fits token = if fits then Some token else None
 

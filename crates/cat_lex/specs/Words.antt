@@ -12,6 +12,7 @@ abbrev pub look_up : {K : Type 0} → List (List ℕ × K) → List ℕ → Opti
 look_up [] text = None
 look_up (entry ∷ entries) text = if bytes_eq text entry.0 then Some entry.1 else look_up entries text
 
+-- the entry of two words in a table
 abbrev pub look_up_pair : {K : Type 0} → List (List ℕ × List ℕ × K) → List ℕ → List ℕ → Option K
 look_up_pair [] first second = None
 look_up_pair (entry ∷ entries) first second =
@@ -64,8 +65,10 @@ symbols =
 abbrev pub keyword_of : List ℕ → Option Keyword
 keyword_of text = look_up keywords text
 
+-- the double keyword of two words
 abbrev pub double_keyword_of : List ℕ → List ℕ → Option DoubleKeyword
 double_keyword_of first second = look_up_pair double_keywords first second
 
+-- the symbol that a text spells
 abbrev pub symbol_of : List ℕ → Option Symbol
 symbol_of text = look_up symbols text

@@ -2,7 +2,8 @@
 ghost use Rattle.std.specs.Prelude.{◌≡◌, ◌++◌, ◌+◌, ◌<◌, ◌≤◌, ◌^◌, ℕ, List, length, IfOk, IfErr, OnOk};
 ghost use Rattle.std.specs.Str.{IsUtf8};
 ghost use Rattle.cat_lex.specs.Places.{place_after};
-ghost use Rattle.cat_lex.specs.Lexes.{AreReadable, IsReadable, Lexes, HasCause};
+ghost use Rattle.cat_pos.specs.Readable.{AreReadable, IsReadable};
+ghost use Rattle.cat_lex.specs.Lexes.{Lexes, HasCause};
 ghost use Rattle.cat_lex.specs.Steps.{AddsPiece, IsAfterBlanks, IsFirst, HasCauseAt, HasCauseIn};
 
 use crate::reader::read;

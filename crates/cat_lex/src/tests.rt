@@ -71,9 +71,9 @@ fn lexed(rt: &impl Abort, alloc: Global, text: &str) -> Result<Tokens, LexRefusa
     lex(alloc, &[piece])
 }
 
-// What the table of tokens says of each text; days are counted by Python's `datetime`.
+// What the table of tokens says of each text.
 #[test]
-fn texts_are_their_tokens(rt: HostRuntime) -> Result<(), Fail> {
+fn words_are_their_tokens(rt: HostRuntime) -> Result<(), Fail> {
     let alloc = rt.alloc();
     let rows = [
         ("", ""),
@@ -103,6 +103,19 @@ fn texts_are_their_tokens(rt: HostRuntime) -> Result<(), Fail> {
             "Date | w rounds | DateRound | Of",
         ),
         ("iffy Iffy", "w iffy | U Iffy"),
+    ];
+    for (text, want) in rows {
+        let tokens = lexed(&rt, alloc, text)?;
+        assert_eq!(rt; shown(alloc, &tokens)?.as_str(), want);
+    }
+    Ok(())
+}
+
+// Days are counted by Python's `datetime`.
+#[test]
+fn numbers_and_dates_are_their_tokens(rt: HostRuntime) -> Result<(), Fail> {
+    let alloc = rt.alloc();
+    let rows = [
         (
             "0 007 9223372036854775807 09223372036854775807",
             "INT 0 | INT 7 | INT 9223372036854775807 | INT 9223372036854775807",
@@ -132,6 +145,18 @@ fn texts_are_their_tokens(rt: HostRuntime) -> Result<(), Fail> {
             "|1970-01-02||0001-01-01| |9999-12-31| |2024-02-29|",
             "DATE 1 | DATE -719162 | DATE 2932896 | DATE 19782",
         ),
+    ];
+    for (text, want) in rows {
+        let tokens = lexed(&rt, alloc, text)?;
+        assert_eq!(rt; shown(alloc, &tokens)?.as_str(), want);
+    }
+    Ok(())
+}
+
+#[test]
+fn symbols_are_their_tokens(rt: HostRuntime) -> Result<(), Fail> {
+    let alloc = rt.alloc();
+    let rows = [
         (
             ": . , ; ( ) [ ] { } + - -- * / = != < <= > >=",
             "Colon | Dot | Comma | Semicolon | LeftParen | RightParen | LeftBracket | RightBracket | LeftBrace | RightBrace | Plus | Minus | MinusMinus | Star | Slash | Equal | NotEqual | Less | LessEqual | Greater | GreaterEqual",

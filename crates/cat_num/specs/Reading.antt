@@ -33,6 +33,7 @@ abbrev pub read_quotient : Bool → List ℕ → Parts → Result Fraction NumFa
 read_quotient negative digits None = read_decimal negative digits (split_at 46 digits)
 read_quotient negative digits (Some s) = ratio (signed negative (number_after 0 s.0)) (number_after 0 s.1)
 
+-- what stands behind the sign of a text, and whether that was `-`
 abbrev pub read_unsigned : Bool → List ℕ → Result Fraction NumFault
 read_unsigned negative digits = read_quotient negative digits (split_at 47 digits)
 

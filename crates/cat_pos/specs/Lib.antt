@@ -1,3 +1,4 @@
 pub mod Position
+pub mod Readable
 -- how a type may hold lists and boxes of itself
 pub mod formers

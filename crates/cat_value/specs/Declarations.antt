@@ -43,22 +43,28 @@ is_declared ss es = fold-Ty Bool (names_entry ss es)
 abbrev pub is_sound : List Structure → List Enumeration → Ty → Bool
 is_sound ss es t = is_declared ss es t && nat_le (height_to ss es highest t) highest
 
+-- a field's type is declared
 abbrev pub field_is_sound : List Structure → List Enumeration → Field → Bool
 field_is_sound ss es f = is_declared ss es f.ty
 
+-- a case's content, where it has one, has a declared type
 abbrev pub content_is_sound : List Structure → List Enumeration → Option Ty → Bool
 content_is_sound ss es None = true
 content_is_sound ss es (Some t) = is_declared ss es t
 
+-- a case whose content is declared
 abbrev pub case_is_sound : List Structure → List Enumeration → Case → Bool
 case_is_sound ss es c = content_is_sound ss es c.content
 
+-- a structure has fields, and each is declared
 abbrev pub structure_is_sound : List Structure → List Enumeration → Structure → Bool
 structure_is_sound ss es s = has_parts s.fields && list_all (field_is_sound ss es) s.fields
 
+-- an enumeration has cases, and each is declared
 abbrev pub enumeration_is_sound : List Structure → List Enumeration → Enumeration → Bool
 enumeration_is_sound ss es e = has_parts e.cases && list_all (case_is_sound ss es) e.cases
 
+-- the type Boolean
 abbrev pub is_boolean : Ty-F Ty → Bool
 is_boolean Ty-F.Boolean = true
 is_boolean _ = false
@@ -68,9 +74,11 @@ abbrev pub kind_is_sound : ℕ → Ty → Kind → Bool
 kind_is_sound count t (Called n) = nat_lt n count && is_boolean (out-Ty t)
 kind_is_sound count t _ = true
 
+-- an item whose kind, type and parameters are declared and not too high
 abbrev pub item_is_sound : List Structure → List Enumeration → ℕ → ItemDecl → Bool
 item_is_sound ss es count item = kind_is_sound count item.ty item.kind && is_sound ss es item.ty && is_counted item.params && list_all (is_sound ss es) item.params
 
+-- a scope each of whose items is so
 abbrev pub scope_is_sound : List Structure → List Enumeration → ℕ → Scope → Bool
 scope_is_sound ss es count s = is_counted s.items && list_all (item_is_sound ss es count) s.items
 
@@ -79,9 +87,11 @@ abbrev pub all_below : (ℕ → Bool) → ℕ → Bool
 all_below test zero = true
 all_below test (suc n) = test n && all_below test n
 
+-- the structure of that number is at most 64 high
 abbrev pub structure_is_low : List Structure → List Enumeration → ℕ → Bool
 structure_is_low ss es n = nat_le (height_to ss es highest (ty.Structure n)) highest
 
+-- the enumeration of that number is at most 64 high
 abbrev pub enumeration_is_low : List Structure → List Enumeration → ℕ → Bool
 enumeration_is_low ss es n = nat_le (height_to ss es highest (ty.Enumeration n)) highest
 

@@ -12,14 +12,17 @@ use Rattle.cat_value.specs.declared.decls.Decls.{Decls}
 use Rattle.cat_value.specs.Declarations.{highest}
 use Rattle.cat_value.specs.Entries.{fields_of, content_of}
 
+-- each field's default, in their order
 abbrev pub default_fields : (Ty → Value) → List Field → List Value
 default_fields default [] = []
 default_fields default (f ∷ fs) = default f.ty ∷ default_fields default fs
 
+-- the default of a structure with these fields
 abbrev pub default_structure : (Ty → Value) → Option (List Field) → Value
 default_structure default None = value.Structure []
 default_structure default (Some fs) = value.Structure (default_fields default fs)
 
+-- the first case, with the default of its content where it has one
 abbrev pub default_case : (Ty → Value) → Option (Option Ty) → Value
 default_case default None = value.Case 0 None
 default_case default (Some None) = value.Case 0 None

@@ -11,22 +11,27 @@ use Rattle.cat_value.specs.declared.ty.Ty.TheOpen.{Ty-F}
 abbrev pub is_decimal : Fraction → Bool
 is_decimal f = nat_le 1 f.den && frac_fits f && nat_eq (gcd (unsigned_abs f.num) f.den) 1
 
+-- an integer has the type Integer, where it fits
 abbrev pub integer_typed : ℤ → Ty-F Ty → Bool
 integer_typed n Ty-F.Integer = fits n
 integer_typed n _ = false
 
+-- a decimal has the type Decimal, where it fits
 abbrev pub decimal_typed : Fraction → Ty-F Ty → Bool
 decimal_typed f Ty-F.Decimal = is_decimal f
 decimal_typed f _ = false
 
+-- an amount of cents has the type Money, where it fits
 abbrev pub money_typed : ℤ → Ty-F Ty → Bool
 money_typed n Ty-F.Money = fits n
 money_typed n _ = false
 
+-- a day has the type Date, where the calendar has it
 abbrev pub date_typed : ℤ → Ty-F Ty → Bool
 date_typed day Ty-F.Date = is_day day
 date_typed day _ = false
 
+-- a duration has the type Duration, where its months and days are in range
 abbrev pub duration_typed : SpanOf → Ty-F Ty → Bool
 duration_typed span Ty-F.Duration = is_span span
 duration_typed span _ = false

@@ -13,6 +13,7 @@ abbrev pub highest_field : (Ty → ℕ) → List Field → ℕ
 highest_field height [] = 0
 highest_field height (f ∷ fs) = max (height f.ty) (highest_field height fs)
 
+-- the height of a case's content, 0 where it has none
 abbrev pub content_height : (Ty → ℕ) → Option Ty → ℕ
 content_height height None = 0
 content_height height (Some t) = height t
@@ -22,10 +23,12 @@ abbrev pub highest_content : (Ty → ℕ) → List Case → ℕ
 highest_content height [] = 0
 highest_content height (c ∷ cs) = max (content_height height c.content) (highest_content height cs)
 
+-- the height of the highest field, where there is such a structure
 abbrev pub structure_parts : (Ty → ℕ) → Option Structure → ℕ
 structure_parts height None = 0
 structure_parts height (Some s) = highest_field height s.fields
 
+-- the height of the highest content, where there is such an enumeration
 abbrev pub enumeration_parts : (Ty → ℕ) → Option Enumeration → ℕ
 enumeration_parts height None = 0
 enumeration_parts height (Some e) = highest_content height e.cases

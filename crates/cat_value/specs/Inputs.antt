@@ -32,6 +32,7 @@ are_given_for ds [] (given ∷ input) = false
 are_given_for ds (item ∷ items) [] = false
 are_given_for ds (item ∷ items) (given ∷ input) = is_given_for ds item given && are_given_for ds items input
 
+-- whether an input has a value, or none, as the items of the scope want it
 abbrev pub is_input_for : Decls → List (Option Value) → Option Scope → Bool
 is_input_for ds input None = false
 is_input_for ds input (Some scope) = are_given_for ds scope.items input

@@ -31,6 +31,7 @@ abbrev pub greatest : List ℕ → ℕ
 greatest [] = 0
 greatest (h ∷ hs) = max h (greatest hs)
 
+-- one more than the height of the content, where there is one
 abbrev pub case_height : Option ℕ → ℕ
 case_height None = 1
 case_height (Some part) = 1 + part
@@ -46,19 +47,21 @@ height_at _ = 1
 unfoldable pub value_height : Value → ℕ
 value_height = fold-Value ℕ height_at
 
--- what the invariant of the declarations says of a structure, an enumeration, an item, and of all
+-- what each declared structure keeps to
 pub record IsStructure (ds : Decls) (n : ℕ) (s : Structure) : Type 0 where
   pub has_field : 0 < length s.fields
   pub counted : length s.fields < 2 ^ 32
   pub declared : (k : ℕ) (f : Field) → slice_get s.fields k ≡ Some f → IsTrue (is_type ds f.ty)
   pub low : height_of ds (structure n) ≤ highest
 
+-- what each declared enumeration keeps to
 pub record IsEnumeration (ds : Decls) (n : ℕ) (e : Enumeration) : Type 0 where
   pub has_case : 0 < length e.cases
   pub counted : length e.cases < 2 ^ 32
   pub declared : (k : ℕ) (c : Case) (t : Ty) → slice_get e.cases k ≡ Some c → c.content ≡ Some t → IsTrue (is_type ds t)
   pub low : height_of ds (enumeration n) ≤ highest
 
+-- what each declared item keeps to
 pub record IsItem (ds : Decls) (item : ItemDecl) : Type 0 where
   pub declared : IsTrue (is_type ds item.ty)
   pub low : height_of ds item.ty ≤ highest
@@ -67,6 +70,7 @@ pub record IsItem (ds : Decls) (item : ItemDecl) : Type 0 where
   pub called : (scope : ℕ) → item.kind ≡ Called scope → scope < length ds.scopes
   pub called_boolean : (scope : ℕ) → item.kind ≡ Called scope → item.ty ≡ boolean
 
+-- what all declarations keep to
 pub record AreSound (ds : Decls) : Type 0 where
   pub structures : (n : ℕ) (s : Structure) → slice_get ds.structures n ≡ Some s → IsStructure ds n s
   pub enumerations : (n : ℕ) (e : Enumeration) → slice_get ds.enumerations n ≡ Some e → IsEnumeration ds n e

@@ -56,6 +56,7 @@ level_typed ds (Value-F.List parts) t = list_typed ds parts t
 level_typed ds (Value-F.Structure parts) t = structure_typed ds parts t
 level_typed ds (Value-F.Case k part) t = case_typed ds k part t
 
+-- whether a value has a type, where its parts tell of which types they are
 abbrev pub value_typed : Decls → Value-F (Ty → Bool) → Ty → Bool
 value_typed ds v t = level_typed ds v (out-Ty t)
 

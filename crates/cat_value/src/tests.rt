@@ -145,7 +145,7 @@ fn expect_typed(rt: &impl Abort, decls: &Decls, value: Value, ty: Ty, wanted: bo
 }
 
 #[test]
-fn parts_have_to_fit(rt: HostRuntime) -> Result<(), Fail> {
+fn elements_have_to_fit(rt: HostRuntime) -> Result<(), Fail> {
     let alloc = rt.alloc();
     let decls = sample(alloc)?;
     let nested = and(one(alloc, Value::List(numbers(alloc)?))?, empty(alloc))?;
@@ -165,6 +165,13 @@ fn parts_have_to_fit(rt: HostRuntime) -> Result<(), Fail> {
     for ty in [Ty::Structure(1), Ty::Enumeration(1)] {
         expect_typed(&rt, &decls, empty(alloc), list_of(alloc, ty)?, false);
     }
+    Ok(())
+}
+
+#[test]
+fn fields_have_to_fit(rt: HostRuntime) -> Result<(), Fail> {
+    let alloc = rt.alloc();
+    let decls = sample(alloc)?;
     let too_few = Value::Structure(one(alloc, whole(7)?)?);
     expect_typed(&rt, &decls, too_few, Ty::Structure(0), false);
     let too_many = Value::Structure(and(pair(alloc)?, flags(alloc)?)?);
@@ -173,6 +180,13 @@ fn parts_have_to_fit(rt: HostRuntime) -> Result<(), Fail> {
     expect_typed(&rt, &decls, swapped, Ty::Structure(0), false);
     let unknown = Value::Structure(pair(alloc)?);
     expect_typed(&rt, &decls, unknown, Ty::Structure(1), false);
+    Ok(())
+}
+
+#[test]
+fn a_case_has_its_content(rt: HostRuntime) -> Result<(), Fail> {
+    let alloc = rt.alloc();
+    let decls = sample(alloc)?;
     for (number, wanted) in [(0, false), (1, true), (2, false)] {
         expect_typed(
             &rt,

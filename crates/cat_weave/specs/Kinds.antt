@@ -3,6 +3,7 @@ use Rattle.std.specs.Prelude.{ℕ, ◌+◌, ◌==◌, nat_le, nat_eq, ◌&&◌, 
 use Rattle.std.specs.List.{starts_with, prefix_len}
 use Rattle.cat_weave.specs.Lines.{bare, is_blank, without_first_blanks}
 
+-- what a line of a source is, with the text that is read in it
 pub data Kind : Type 0 where
   LawLine : Kind
   OpeningLine : Kind
@@ -15,13 +16,15 @@ pub data Kind : Type 0 where
 abbrev pub is_opening : List ℕ → Bool
 is_opening line = bytes_eq line (codes "```catala") || bytes_eq line (codes "```catala-metadata")
 
+-- three backquotes alone close a block
 abbrev pub is_closing : List ℕ → Bool
 is_closing line = bytes_eq line (codes "```")
 
--- how many `#` a line begins with
+-- the sign of a heading
 abbrev pub is_hash : ℕ → Bool
 is_hash byte = byte == 35
 
+-- how many `#` a line begins with
 unfoldable pub level_of : List ℕ → ℕ
 level_of line = prefix_len is_hash line
 
@@ -29,6 +32,7 @@ level_of line = prefix_len is_hash line
 abbrev pub is_heading : List ℕ → Bool
 is_heading line = nat_le 1 (level_of line) && (nat_le (level_of line) 6 && is_blank (slice_index line (level_of line)))
 
+-- a heading with its level, and the text behind its `#`s and a blank
 abbrev pub heading_of : List ℕ → Kind
 heading_of line = HeadingLine (level_of line) (drop (level_of line + 1) line)
 
@@ -36,6 +40,7 @@ heading_of line = HeadingLine (level_of line) (drop (level_of line + 1) line)
 abbrev pub is_include : List ℕ → Bool
 is_include line = starts_with nat_eq line (codes "> Include: ")
 
+-- an include of the file that is named behind `> Include:` and blanks
 abbrev pub include_of : List ℕ → Kind
 include_of line = IncludeLine (without_first_blanks (drop 11 line))
 

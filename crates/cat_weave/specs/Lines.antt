@@ -21,6 +21,7 @@ is_blank byte = byte == 32 || byte == 9
 abbrev pub last_is : ℕ → List ℕ → Bool
 last_is byte text = slice_index text (length text - 1) == byte
 
+-- a text without this byte at its end, where it ends so
 unfoldable pub without_last : ℕ → List ℕ → List ℕ
 without_last byte text = if last_is byte text then take (length text - 1) text else text
 
@@ -32,6 +33,7 @@ without_end line = if last_is 10 line then without_last 13 (without_last 10 line
 unfoldable pub without_last_blanks : List ℕ → List ℕ
 without_last_blanks text = take (length text - suffix_len is_blank text) text
 
+-- a text without the blanks that it begins with
 unfoldable pub without_first_blanks : List ℕ → List ℕ
 without_first_blanks text = drop (prefix_len is_blank text) text
 

@@ -30,9 +30,11 @@ kind_read (Include path) = IncludeLine path.now
 abbrev pub law_kinds : List ℕ → List Kind
 law_kinds text = kinds_of false (lines_of text)
 
+-- what the lines of a text are that begins inside a block
 abbrev pub block_kinds : List ℕ → List Kind
 block_kinds text = kinds_of true (lines_of text)
 
+-- lines of code, whatever they say
 abbrev pub code_lines : List (List ℕ) → List Kind
 code_lines [] = []
 code_lines (text ∷ texts) = CodeLine text ∷ code_lines texts

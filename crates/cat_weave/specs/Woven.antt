@@ -22,6 +22,7 @@ code_text [] = []
 code_text (CodeLine text ∷ lines) = text ++ code_text lines
 code_text (_ ∷ lines) = []
 
+-- a line of code in a block
 abbrev pub is_code : Kind → Bool
 is_code (CodeLine text) = true
 is_code _ = false
@@ -50,6 +51,7 @@ unclosed n [] = None
 unclosed n (OpeningLine ∷ lines) = if closes lines then unclosed (n + 1) lines else Some n
 unclosed n (_ ∷ lines) = unclosed (n + 1) lines
 
+-- a refusal where a block is left open, which began in that line; else the parts
 abbrev pub woven_unless : ℕ → Option ℕ → List Part → Result Woven WeaveRefusal
 woven_unless file None parts = Ok (record { parts = parts })
 woven_unless file (Some n) parts = Err (FenceOpen (line_place file n))
@@ -69,10 +71,12 @@ abbrev pub code_size : Part → ℕ
 code_size (Code piece) = length piece.text
 code_size _ = 0
 
+-- the bytes of code in some parts together
 abbrev pub code_total : List Part → ℕ
 code_total [] = 0
 code_total (part ∷ parts) = code_size part + code_total parts
 
+-- where a part begins
 abbrev pub part_place : Part → Pos
 part_place (Code piece) = piece.pos
 part_place (Heading level text pos) = pos

@@ -22,9 +22,11 @@ use Rattle.cat_pos.specs.declared.boxed.Boxed.TheView.{view, invariant}
 use Rattle.cat_pos.specs.contracts.boxed.Boxed as wrapped
 use Rattle.cat_pos.specs.contracts.boxed.Boxed.TheInside as insides
 
+-- a box holds its content
 abbrev pub the_former : Former {0} → Former {0}
 the_former content = content
 
+-- a box is as heavy as its content
 abbrev pub the_weighed : {content : Former {0}} → Weighed content → Weighed (the_former content)
 the_weighed weight = weight
 
@@ -37,6 +39,7 @@ fields = via (pair (const (Ptr × Global)) this) Inside (λ T s. ((s.inner.ptr, 
 abbrev holding : {X Y : Type 0} → Box X Global → Y → Box Y Global
 holding box content = record { ptr = box.ptr; alloc = box.alloc; value = content }
 
+-- the boxes of a type
 abbrev box_of : RattleType → RattleType
 box_of T = boxes.the_row T memory.the_row ghosts
 

@@ -19,18 +19,23 @@ use Rattle.cat_pos.specs.declared.list.List.TheView.{view, invariant}
 use Rattle.cat_pos.specs.contracts.list.List as lists
 use Rattle.cat_pos.specs.contracts.list.List.TheInside as insides
 
+-- a list holds elements
 abbrev pub the_former : Former {0} → Former {0}
 the_former element = list element
 
+-- a list is as heavy as its elements
 abbrev pub the_weighed : {element : Former {0}} → Weighed element → Weighed (the_former element)
 the_weighed weight = w_list weight
 
+-- the list of nothing
 abbrev pub the_empty : List ⊥
 the_empty = []
 
+-- the elements of a list
 abbrev pub the_items : (T : Type 0) → List T → List T
 the_items T elements = elements
 
+-- the elements are those that the list holds
 pub the_items_listed : (T : Type 0) (elements : List T) → listed _ (children (the_former this) T elements) ≡ the_items T elements
 the_items_listed T elements = list-listed T elements
 
