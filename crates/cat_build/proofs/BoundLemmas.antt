@@ -1,15 +1,15 @@
 -- The bounds of what is gathered, from one part to the next.
-use Rattle.std.proofs.Common.{◌≡◌, ◌∙◌, ap, sym, subst, ℕ, zero, suc, ◌+◌, ◌-◌, ◌*◌, ◌<◌, ◌≤◌, min, List, [], ◌∷◌, ◌++◌, length, refl, arith, length-append}
+use Rattle.std.proofs.Common.{◌≡◌, ap, sym, subst, ℕ, ◌+◌, ◌*◌, ◌<◌, ◌≤◌, List, [], ◌∷◌, ◌++◌, length, arith, length-append}
 use Rattle.std.proofs.lemmas.List.Elements.{All-nil, All-cons, All-head, All-tail, All-append, All-push, All-weaker}
 use Rattle.std.specs.Prelude.{All}
-use Rattle.cat_io.specs.Shelf.{Gives}
 use Rattle.cat_pos.specs.declared.pos.Piece.{Piece}
-use Rattle.cat_weave.specs.Woven.{code_size, code_total, part_place, IsPlaced, AreWithin}
+use Rattle.cat_weave.specs.Woven.{code_size, code_total, AreWithin}
 use Rattle.cat_weave.specs.declared.part.Heading.{Heading as Headed}
 use Rattle.cat_weave.specs.declared.part.Part.{Part}
 use Rattle.cat_weave.specs.declared.part.Part.TheVariants.{Code}
 use Rattle.cat_build.specs.Gathered.{Gathered, gathered_none, with_file, limit_after}
-use Rattle.cat_build.specs.Causes.{IsShort, pieces_total, AreReadable}
+use Rattle.cat_pos.specs.Readable.{IsReadable}
+use Rattle.cat_build.specs.Causes.{pieces_total, AreReadableTogether}
 use Rattle.cat_build.specs.UnderWay.{IsInFiles, AreBounded}
 
 pieces_total-push : (pieces : List Piece) (piece : Piece) → pieces_total (pieces ++ piece ∷ []) ≡ pieces_total pieces + length piece.text
@@ -28,18 +28,18 @@ size_in_total (part ∷ parts) =
     (All-weaker (λ p. code_size p ≤ code_total parts) (λ p. code_size p ≤ code_size part + code_total parts) (λ p small. omega (arith, small)) parts (size_in_total parts))
 
 pub bounded_none : AreBounded gathered_none []
-bounded_none = record { few = omega arith; all = omega arith; short = All-nil IsShort; code = omega arith; placed = All-nil (IsInFiles 0) }
+bounded_none = record { few = omega arith; all = omega arith; short = All-nil IsReadable; code = omega arith; placed = All-nil (IsInFiles 0) }
 
 pub bounded_code : (g : Gathered) (pieces : List Piece) (piece : Piece) (part : Part) (parts : List Part) → part ≡ Code piece → pieces ≡ g.pieces ++ piece ∷ [] → AreBounded g (part ∷ parts) → AreBounded (record g { pieces = pieces }) parts
 bounded_code g pieces piece part parts is_part is bounded =
     let here = All-head (IsInFiles (length g.files)) part parts bounded.placed in
     let here_code = rw is_part at here in
-    let short : IsShort piece = record { size = here_code.size; line = omega (arith, here_code.line); column = omega (arith, here_code.column) } in
+    let short : IsReadable piece = record { size = here_code.size; line = omega (arith, here_code.line); column = omega (arith, here_code.column) } in
     let size : code_size part ≡ length piece.text = ap code_size is_part in
     rw is (record {
       few = bounded.few;
       all = bounded.all;
-      short = All-push IsShort g.pieces piece bounded.short short;
+      short = All-push IsReadable g.pieces piece bounded.short short;
       code = omega (arith, pieces_total-push g.pieces piece, bounded.code, size);
       placed = All-tail (IsInFiles (length g.files)) part parts bounded.placed;
     })
@@ -85,5 +85,5 @@ pub bounded_taken : (g : Gathered) (name bytes : List ℕ) (files : List (List �
     → AreWithin (length bytes) (length g.files) own → length g.files < 64 → AreBounded g parts → AreBounded (record g { files = files; bytes = g.bytes + size }) after
 bounded_taken g name bytes files size own parts after files_are size_is are short within room bounded = rw (files_are, size_is, are) (bounded_file g name bytes own parts short within room bounded)
 
-pub readable : (g : Gathered) → AreBounded g [] → AreReadable g.pieces
+pub readable : (g : Gathered) → AreBounded g [] → AreReadableTogether g.pieces
 readable g bounded = record { each = bounded.short; together = omega (arith, bounded.code, bounded.all) }

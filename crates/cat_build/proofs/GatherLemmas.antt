@@ -1,7 +1,7 @@
 -- How gathering goes on from one part to the next, whatever the files hold that aren't taken yet.
-use Rattle.std.proofs.Common.{◌≡◌, ◌≢◌, ◌∙◌, ap, sym, subst, ℕ, zero, suc, ◌+◌, ◌-◌, ◌<◌, ◌≤◌, Bool, true, false, cond, ◌||◌, List, [], ◌∷◌, ◌++◌, length, drop, get_or, reverse, refl, arith, append_assoc, length-append, le-leb, Some, None, Option, Ok, Err, Result, ⊎_elim, inl, inr, ◌⊎◌}
+use Rattle.std.proofs.Common.{◌≡◌, ◌∙◌, ap, sym, subst, ℕ, zero, suc, ◌+◌, ◌-◌, ◌<◌, ◌≤◌, Bool, true, false, cond, ◌||◌, List, [], ◌∷◌, ◌++◌, length, drop, reverse, refl, arith, append_assoc, length-append, le-leb, Some, None, Option, Ok, Err, Result, ⊎_elim, ◌⊎◌}
 use Rattle.std.proofs.lemmas.List.{reverse-append}
-use Rattle.std.proofs.lemmas.Bool.{cases_Bool, false≢true, or_cases}
+use Rattle.std.proofs.lemmas.Bool.{cases_Bool, false≢true}
 use Rattle.std.proofs.lemmas.Slice.Eq.{bytes_eq-Decides}
 use Rattle.std.specs.Prelude.{bytes_eq, IfSome, OnOk, IfErr, slice_get, slice_index_or}
 use Rattle.cat_io.specs.Shelf.{Shelved, Gives}
@@ -11,13 +11,9 @@ use Rattle.cat_weave.specs.Woven.{woven}
 use Rattle.cat_weave.specs.declared.part.Heading.{Heading as Headed}
 use Rattle.cat_weave.specs.declared.part.Part.{Part}
 use Rattle.cat_weave.specs.declared.part.Part.TheVariants.{Code, Heading, Include}
-use Rattle.cat_weave.specs.declared.part.Woven.{Woven}
-use Rattle.cat_weave.specs.declared.part.WeaveRefusal.{WeaveRefusal}
-use Rattle.cat_weave.specs.declared.part.WeaveRefusal.TheVariants as weaving
-use Rattle.cat_build.specs.Gathered.{Contents, Gathered, gathered_none, with_piece, with_heading, with_file, limit_after, Outcome, Whole, Refused, StopsAt, Including, gather_parts, woven_as, put_in_place, take_file, is_among, twice, included, gathered}
-use Rattle.cat_build.specs.Causes.{AreTold, AreToldBut, EndsIn, ComesTo, HasCause, is_fault}
-use Rattle.cat_build.specs.UnderWay.{gathered_of, IsReadFault, Weaves, Takes, IsRefusedTake, SameOn, GoesOn, AreToCome}
-use Rattle.cat_build.specs.declared.source.Source.{Source}
+use Rattle.cat_build.specs.Gathered.{Contents, Gathered, gathered_none, limit_after, Outcome, Whole, Refused, Including, gather_parts, woven_as, put_in_place, take_file, is_among, twice, included, gathered}
+use Rattle.cat_build.specs.Causes.{AreTold, AreToldBut, EndsIn, ComesTo, HasCause}
+use Rattle.cat_build.specs.UnderWay.{Weaves, Takes, IsRefusedTake, SameOn, GoesOn, AreToCome}
 use Rattle.cat_build.specs.declared.source.GatherRefusal.{GatherRefusal}
 use Rattle.cat_build.specs.declared.source.GatherRefusal.TheVariants.{NotUtf8, FenceOpen, IncludeTwice, Missing, ReadFault, TooLarge, Memory}
 
@@ -198,59 +194,10 @@ pub take_cause : (old new : Shelved) (main name : List ℕ) (g : Gathered) (part
 take_cause old new main name g parts (NotUtf8 n pos) fresh on why = refused_cause old.content main name why.0 g parts (NotUtf8 n pos) fresh why.1 on
 take_cause old new main name g parts (FenceOpen n pos) fresh on why = refused_cause old.content main name why.0 g parts (FenceOpen n pos) fresh why.1 on
 take_cause old new main name g parts (IncludeTwice n pos) fresh on why = absurd why
-take_cause old new main name g parts (Missing n) fresh on why = rw why.0 (why.1, why.2, (g.bytes, comes_to old.content main name g parts fresh on), why.3)
-take_cause old new main name g parts (ReadFault n) fresh on why = rw why.0 (why.1, (g.bytes, comes_to old.content main name g parts fresh on), why.2)
-take_cause old new main name g parts (TooLarge n) fresh on why = rw why.0 (why.1, (g.bytes, comes_to old.content main name g parts fresh on, why.2), why.3)
+take_cause old new main name g parts (Missing n) fresh on why = rw why.0 (why.1, why.2, (g.bytes, comes_to old.content main name g parts fresh on))
+take_cause old new main name g parts (ReadFault n) fresh on why = rw why.0 (why.1, (g.bytes, comes_to old.content main name g parts fresh on))
+take_cause old new main name g parts (TooLarge n) fresh on why = rw why.0 (why.1, (g.bytes, comes_to old.content main name g parts fresh on, why.2))
 take_cause old new main name g parts Memory fresh on why = tt
-
--- a refused read or weaving
-pub read_refused : (name : List ℕ) (g : Gathered) (old new : Shelved) (refusal : GatherRefusal) → IsReadFault name (limit_after g.bytes) old new refusal → IsRefusedTake name g old new refusal
-read_refused name g old new (NotUtf8 n pos) fault = absurd fault
-read_refused name g old new (FenceOpen n pos) fault = absurd fault
-read_refused name g old new (IncludeTwice n pos) fault = absurd fault
-read_refused name g old new (Missing n) fault = fault
-read_refused name g old new (ReadFault n) fault = fault
-read_refused name g old new (TooLarge n) fault = fault
-read_refused name g old new Memory fault = tt
-
-pub read_fault : (name : List ℕ) (limit : ℕ) (old new : Shelved) (refusal : GatherRefusal) → IsReadFault name limit old new refusal → is_fault {T = Unit {0}} (Err refusal) ≡ true
-read_fault name limit old new (NotUtf8 n pos) fault = absurd fault
-read_fault name limit old new (FenceOpen n pos) fault = absurd fault
-read_fault name limit old new (IncludeTwice n pos) fault = absurd fault
-read_fault name limit old new (Missing n) fault = refl
-read_fault name limit old new (ReadFault n) fault = refl
-read_fault name limit old new (TooLarge n) fault = refl
-read_fault name limit old new Memory fault = refl
-
--- weaving refuses in two ways alone
-abbrev IsWeavingRefusal : Result (List Part) GatherRefusal → Type 0
-IsWeavingRefusal (Ok parts) = Unit {0}
-IsWeavingRefusal (Err (NotUtf8 name pos)) = Unit {0}
-IsWeavingRefusal (Err (FenceOpen name pos)) = Unit {0}
-IsWeavingRefusal (Err Memory) = Unit {0}
-IsWeavingRefusal (Err (IncludeTwice name pos)) = ⊥
-IsWeavingRefusal (Err (Missing name)) = ⊥
-IsWeavingRefusal (Err (ReadFault name)) = ⊥
-IsWeavingRefusal (Err (TooLarge name)) = ⊥
-
-weaving_refuses : (name : List ℕ) (given : Result Woven WeaveRefusal) → IsWeavingRefusal (woven_as name given)
-weaving_refuses name (Ok woven) = tt
-weaving_refuses name (Err (weaving.NotUtf8 pos)) = tt
-weaving_refuses name (Err (weaving.FenceOpen pos)) = tt
-weaving_refuses name (Err weaving.Memory) = tt
-
-refused_as : (name : List ℕ) (given : Result Woven WeaveRefusal) (refusal : GatherRefusal) → ◌≡◌ {A = Result (List Part) GatherRefusal} (Err refusal) (woven_as name given) → IsWeavingRefusal (Err refusal)
-refused_as name given refusal is = subst IsWeavingRefusal (sym is) (weaving_refuses name given)
-
-pub weaving_refused : (name bytes : List ℕ) (g : Gathered) (old new : Shelved) (refusal : GatherRefusal) → Gives (old.content name) (limit_after g.bytes) bytes
-    → (◌≢◌ {A = Result (List Part) GatherRefusal} (Err refusal) (Err Memory) → ◌≡◌ {A = Result (List Part) GatherRefusal} (Err refusal) (woven_as name (woven bytes (length g.files)))) → IsRefusedTake name g old new refusal
-weaving_refused name bytes g old new (NotUtf8 n pos) gives is = (bytes, record { read = gives; parts = sym (is (λ same. cc)) })
-weaving_refused name bytes g old new (FenceOpen n pos) gives is = (bytes, record { read = gives; parts = sym (is (λ same. cc)) })
-weaving_refused name bytes g old new (IncludeTwice n pos) gives is = absurd (refused_as name (woven bytes (length g.files)) (IncludeTwice n pos) (is (λ same. cc)))
-weaving_refused name bytes g old new (Missing n) gives is = absurd (refused_as name (woven bytes (length g.files)) (Missing n) (is (λ same. cc)))
-weaving_refused name bytes g old new (ReadFault n) gives is = absurd (refused_as name (woven bytes (length g.files)) (ReadFault n) (is (λ same. cc)))
-weaving_refused name bytes g old new (TooLarge n) gives is = absurd (refused_as name (woven bytes (length g.files)) (TooLarge n) (is (λ same. cc)))
-weaving_refused name bytes g old new Memory gives is = tt
 
 -- an include whose file was taken or refused
 pub include_ok : (told : Contents) (path : List ℕ) (pos : Pos) (old new : Gathered) (parts after : List Part) (r : Result (Unit {0}) GatherRefusal) → length old.files < 64 → is_among path old.files ≡ false → OnOk r (Takes told path old parts new after)

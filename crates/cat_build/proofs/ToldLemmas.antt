@@ -1,12 +1,12 @@
 -- Contents that agree with what is told give the same, unless gathering comes to a file that isn't told.
-use Rattle.std.proofs.Common.{◌≡◌, ◌∙◌, ap, sym, subst, ℕ, zero, suc, ◌-◌, Bool, true, false, List, [], ◌∷◌, ◌++◌, length, leb, refl, Some, None, Option, Ok, Err, Result, ⊎_elim, inl, inr, ◌⊎◌}
+use Rattle.std.proofs.Common.{◌≡◌, ◌∙◌, sym, subst, ℕ, zero, suc, Bool, true, false, List, [], ◌∷◌, ◌++◌, length, leb, refl, Some, None, Option, Ok, Err, Result, ⊎_elim, inl, inr, ◌⊎◌}
 use Rattle.std.specs.Prelude.{IfSome}
 use Rattle.cat_io.specs.Shelf.{Shelved}
 use Rattle.cat_pos.specs.declared.pos.Pos.{Pos}
 use Rattle.cat_weave.specs.Woven.{woven}
 use Rattle.cat_weave.specs.declared.part.Part.{Part}
 use Rattle.cat_weave.specs.declared.part.Part.TheVariants.{Code, Heading, Include}
-use Rattle.cat_build.specs.Gathered.{Contents, Gathered, gathered_none, with_piece, with_heading, with_file, limit_after, Outcome, Whole, Refused, StopsAt, Including, gather_parts, woven_as, put_in_place, weave_within, take_file, is_among, twice, include_unless, included, gathered}
+use Rattle.cat_build.specs.Gathered.{Contents, Gathered, gathered_none, with_piece, with_heading, with_file, limit_after, Outcome, Whole, Refused, StopsAt, Including, gather_parts, woven_as, put_in_place, weave_within, take_file, is_among, include_unless, included, gathered}
 use Rattle.cat_build.specs.Causes.{AreTold, HasCause, IsAnswerTo, is_fault}
 use Rattle.cat_build.specs.declared.source.Source.{Source}
 use Rattle.cat_build.specs.declared.source.GatherRefusal.{GatherRefusal}

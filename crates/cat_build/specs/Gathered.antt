@@ -24,9 +24,11 @@ pub record Gathered : Type 0 where
   pub pieces : List Piece
   pub headings : List Headed
 
+-- before the first file
 abbrev pub gathered_none : Gathered
 gathered_none = record { files = []; bytes = 0; pieces = []; headings = [] }
 
+-- one piece more
 abbrev pub with_piece : Piece → Gathered → Gathered
 with_piece piece g = record g { pieces = g.pieces ++ piece ∷ [] }
 
@@ -34,6 +36,7 @@ with_piece piece g = record g { pieces = g.pieces ++ piece ∷ [] }
 abbrev pub with_heading : ℕ → List ℕ → Pos → Gathered → Gathered
 with_heading level text pos g = record g { headings = g.headings ++ record { pieces = length g.pieces; level = level; text = text; pos = pos } ∷ [] }
 
+-- one file more, of so many bytes
 abbrev pub with_file : List ℕ → ℕ → Gathered → Gathered
 with_file name size g = record g { files = g.files ++ name ∷ []; bytes = g.bytes + size }
 
@@ -80,6 +83,7 @@ abbrev pub take_file : Including → List ℕ → List Part → Gathered → Opt
 take_file include name parts g None = StopsAt name g.bytes
 take_file include name parts g (Some bytes) = weave_within include name parts g bytes (nat_le (length bytes) (limit_after g.bytes))
 
+-- the name is one of these
 abbrev pub is_among : List ℕ → List (List ℕ) → Bool
 is_among name [] = false
 is_among name (n ∷ names) = bytes_eq n name || is_among name names
@@ -88,6 +92,7 @@ is_among name (n ∷ names) = bytes_eq n name || is_among name names
 abbrev pub twice : Pos → Gathered → Outcome
 twice pos g = Refused (IncludeTwice (slice_index_or g.files pos.file []) pos)
 
+-- an include, unless its file was taken already
 abbrev pub include_unless : Bool → Contents → Including → Including
 include_unless true contents include path pos parts g = twice pos g
 include_unless false contents include path pos parts g = take_file include path parts g (contents path)

@@ -1,10 +1,11 @@
 -- What the code keeps while it gathers.
-use Rattle.std.specs.Prelude.{◌≡◌, ℕ, ◌+◌, ◌-◌, ◌*◌, ◌<◌, ◌≤◌, true, List, [], ◌∷◌, ◌++◌, length, All, Option, Some, IfSome, IsNone, Result, Ok, Err, ⊤}
-use Rattle.cat_io.specs.Shelf.{Shelved, Rose, Gives, ListsGrowBy}
+use Rattle.std.specs.Prelude.{◌≡◌, ℕ, ◌+◌, ◌-◌, ◌*◌, ◌<◌, ◌≤◌, true, List, ◌++◌, length, All, IfSome, IsNone, Result, Ok, Err, ⊤}
+use Rattle.cat_pos.specs.Readable.{AreReadable}
+use Rattle.cat_io.specs.Shelf.{Shelved, Rose, Gives}
 use Rattle.cat_weave.specs.Woven.{woven, code_size, code_total, part_place}
 use Rattle.cat_weave.specs.declared.part.Part.{Part}
 use Rattle.cat_build.specs.Gathered.{Contents, Outcome, Gathered, gather_parts, included, gathered, woven_as, limit_after, with_file, is_among}
-use Rattle.cat_build.specs.Causes.{AreTold, IsShort, pieces_total}
+use Rattle.cat_build.specs.Causes.{AreTold, pieces_total}
 use Rattle.cat_build.specs.declared.gatherer.Gathering.{Gathering}
 use Rattle.cat_build.specs.declared.source.GatherRefusal.{GatherRefusal}
 use Rattle.cat_build.specs.declared.source.GatherRefusal.TheVariants.{NotUtf8, FenceOpen, IncludeTwice, Missing, ReadFault, TooLarge, Memory}
@@ -24,15 +25,15 @@ pub record IsInFiles (files : ℕ) (part : Part) : Type 0 where
 pub record AreBounded (g : Gathered) (parts : List Part) : Type 0 where
   pub few : length g.files ≤ 64
   pub all : g.bytes ≤ 16 * 1024 * 1024
-  pub short : All IsShort g.pieces
+  pub short : AreReadable g.pieces
   pub code : pieces_total g.pieces + code_total parts ≤ g.bytes
   pub placed : All (IsInFiles (length g.files)) parts
 
 -- a read of that file was refused so
 abbrev pub IsReadFault : List ℕ → ℕ → Shelved → Shelved → GatherRefusal → Type 0
-IsReadFault name limit old new (Missing n) = (n ≡ name) × Rose name old.misses new.misses × IsNone (old.content name) × ListsGrowBy name old new
-IsReadFault name limit old new (ReadFault n) = (n ≡ name) × Rose name old.faults new.faults × ListsGrowBy name old new
-IsReadFault name limit old new (TooLarge n) = (n ≡ name) × Rose name old.longs new.longs × IfSome (old.content name) (λ content. limit < length content) × ListsGrowBy name old new
+IsReadFault name limit old new (Missing n) = (n ≡ name) × Rose name old.misses new.misses × IsNone (old.content name)
+IsReadFault name limit old new (ReadFault n) = (n ≡ name) × Rose name old.faults new.faults
+IsReadFault name limit old new (TooLarge n) = (n ≡ name) × Rose name old.longs new.longs × IfSome (old.content name) (λ content. limit < length content)
 IsReadFault name limit old new Memory = ⊤
 IsReadFault name limit old new (NotUtf8 n pos) = ⊥
 IsReadFault name limit old new (FenceOpen n pos) = ⊥

@@ -3,7 +3,7 @@ ghost use Rattle.std.specs.Prelude.{◌≡◌, ◌≢◌, ◌+◌, ◌-◌, ◌*
 ghost use Rattle.cat_io.specs.Shelf.{Gives};
 ghost use Rattle.cat_weave.specs.Woven.{woven, AreWithin};
 ghost use Rattle.cat_build.specs.Gathered.{gathered, gathered_none, woven_as, limit_after, is_among, included, twice};
-ghost use Rattle.cat_build.specs.Causes.{HasCause, IsAnswerTo, is_fault, AreReadable};
+ghost use Rattle.cat_build.specs.Causes.{HasCause, IsAnswerTo, IsLeftAs, AreReadableTogether};
 ghost use Rattle.cat_build.specs.UnderWay.{gathered_of, AreBounded, IsReadFault, IsRefusedTake, Takes, GoesOn, AreToCome};
 
 use crate::pending::Pending;
@@ -26,9 +26,8 @@ pub fn gather<S: Shelf>(alloc: Global, shelf: &mut S, main: &str) -> Result<Sour
     ensures told { (S.state shelf.new).content ≡ (S.state shelf.old).content }
     ensures cause { HasCause (S.state shelf.old) (S.state shelf.new) main.now result }
     ensures answer { IsAnswerTo (gathered (S.state shelf.old).content main.now) result }
-    // Only a refused read or want of memory leaves the shelf otherwise.
-    ensures quiet { is_fault result ≡ false → S.state shelf.new ≡ S.state shelf.old }
-    ensures readable { IfOk result (λ source. AreReadable source.pieces) }
+    ensures left { IsLeftAs result (S.state shelf.old) (S.state shelf.new) }
+    ensures readable { IfOk result (λ source. AreReadableTogether source.pieces) }
 {
     let mut gathering = Gathering::new(alloc);
     gathering.take(alloc, shelf, main)?;
@@ -76,7 +75,7 @@ impl Gathering {
     fn take_parts<S: Shelf>(&mut self, alloc: Global, shelf: &mut S) -> Result<(), GatherRefusal>
         requires { AreBounded (gathered_of self.old) self.old.to_come }
         ensures told { (S.state shelf.new).content ≡ (S.state shelf.old).content }
-        ensures quiet { is_fault result ≡ false → S.state shelf.new ≡ S.state shelf.old }
+        ensures left { IsLeftAs result (S.state shelf.old) (S.state shelf.new) }
         ensures ok { OnOk result ((main : List ℕ)
             → AreToCome (S.state shelf.old).content main (gathered_of self.old) self.old.to_come
             → AreToCome (S.state shelf.old).content main (gathered_of self.new) []) }
@@ -99,7 +98,7 @@ impl Gathering {
     ) -> Result<(), GatherRefusal>
         requires { AreBounded (gathered_of self.old) (part ∷ self.old.to_come) }
         ensures told { (S.state shelf.new).content ≡ (S.state shelf.old).content }
-        ensures quiet { is_fault result ≡ false → S.state shelf.new ≡ S.state shelf.old }
+        ensures left { IsLeftAs result (S.state shelf.old) (S.state shelf.new) }
         ensures ok { OnOk result ((main : List ℕ)
             → AreToCome (S.state shelf.old).content main (gathered_of self.old) (part ∷ self.old.to_come)
             → AreToCome (S.state shelf.old).content main (gathered_of self.new) self.new.to_come) }
@@ -137,7 +136,7 @@ impl Gathering {
         requires bounded { AreBounded (gathered_of self.old) self.old.to_come }
         requires named { pos.file < length self.old.files }
         ensures told { (S.state shelf.new).content ≡ (S.state shelf.old).content }
-        ensures quiet { is_fault result ≡ false → S.state shelf.new ≡ S.state shelf.old }
+        ensures left { IsLeftAs result (S.state shelf.old) (S.state shelf.new) }
         ensures ok { OnOk result ((main : List ℕ)
             → GoesOn (S.state shelf.old).content main self.old.files (λ contents.
             included contents (64 - length self.old.files) path.now pos self.old.to_come (gathered_of self.old))
@@ -167,7 +166,7 @@ impl Gathering {
         requires bounded { AreBounded (gathered_of self.old) self.old.to_come }
         requires room { length self.old.files < 64 }
         ensures told { (S.state shelf.new).content ≡ (S.state shelf.old).content }
-        ensures quiet { is_fault result ≡ false → S.state shelf.new ≡ S.state shelf.old }
+        ensures left { IsLeftAs result (S.state shelf.old) (S.state shelf.new) }
         ensures takes { OnOk result (Takes (S.state shelf.old).content name.now
             (gathered_of self.old) self.old.to_come (gathered_of self.new) self.new.to_come) }
         ensures bounded { OnOk result (AreBounded (gathered_of self.new) self.new.to_come) }
@@ -207,7 +206,7 @@ fn read_file<S: Shelf>(
     limit: usize,
 ) -> Result<Vec<u8>, GatherRefusal>
     ensures told { (S.state shelf.new).content ≡ (S.state shelf.old).content }
-    ensures same { OnOk result (S.state shelf.new ≡ S.state shelf.old) }
+    ensures left { IsLeftAs result (S.state shelf.old) (S.state shelf.new) }
     ensures ok { IfOk result (λ bytes. Gives ((S.state shelf.old).content name.now) limit bytes.items) }
     ensures err { IfErr result (IsReadFault name.now limit (S.state shelf.old) (S.state shelf.new)) }
 {

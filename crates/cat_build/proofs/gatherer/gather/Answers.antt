@@ -1,4 +1,4 @@
-use Rattle.std.proofs.Common.{◌≡◌, ℕ, List, Err, refl, subst}
+use Rattle.std.proofs.Common.{◌≡◌, ℕ, List, Err, subst}
 use Rattle.std.proofs.lemmas.Result.{err_from_is_err_and}
 use Rattle.cat_io.specs.Shelf.{Shelved}
 use Rattle.cat_build.specs.Causes.{HasCause}
@@ -14,7 +14,7 @@ returns-in_err-take-clause-cause g c =
 
 pub returns-in_err-take_parts-clause-cause : goal.returns-in_err-take_parts-clause-cause
 returns-in_err-take_parts-clause-cause g c =
-    let same : g.S.Shelf.state c.take.new.shelf ≡ g.S.Shelf.state c.args.shelf.now = c.in_ok-take.ensures.quiet refl in
+    let same : g.S.Shelf.state c.take.new.shelf ≡ g.S.Shelf.state c.args.shelf.now = c.in_ok-take.ensures.left in
     let come = main_taken (g.S.Shelf.state c.args.shelf.now).content c.args.main.now (gathered_of c.new-gathering.result) (gathered_of c.take.new.self) c.new-gathering.result.to_come c.take.new.self.to_come c.new-gathering.ensures.gathered c.new-gathering.ensures.none c.in_ok-take.ensures.takes in
     let new = g.S.Shelf.state c.take_parts.new.shelf in
     let err = subst (λ (s : Shelved). (main : List ℕ) → AreToCome s.content main (gathered_of c.take.new.self) c.take.new.self.to_come → HasCause s new main (Err c.in_err-take_parts.field-0.0)) same c.in_err-take_parts.ensures.err in
@@ -23,7 +23,7 @@ returns-in_err-take_parts-clause-cause g c =
 
 pub returns-clause-cause : goal.returns-clause-cause
 returns-clause-cause g c =
-    let same : g.S.Shelf.state c.take.new.shelf ≡ g.S.Shelf.state c.args.shelf.now = c.in_ok-take.ensures.quiet refl in
+    let same : g.S.Shelf.state c.take.new.shelf ≡ g.S.Shelf.state c.args.shelf.now = c.in_ok-take.ensures.left in
     let come = main_taken (g.S.Shelf.state c.args.shelf.now).content c.args.main.now (gathered_of c.new-gathering.result) (gathered_of c.take.new.self) c.new-gathering.result.to_come c.take.new.self.to_come c.new-gathering.ensures.gathered c.new-gathering.ensures.none c.in_ok-take.ensures.takes in
     let ok = rw same at c.in_ok-take_parts.ensures.ok in
     let shelf = g.S.Shelf.state c.args.shelf.now in
