@@ -2,15 +2,17 @@
 use Rattle.std.proofs.Common.{◌≡◌, ◌≢◌, ℕ, ℤ, List, refl, subst, inl, inr}
 use Rattle.std.specs.Prelude.{Some, None, Result, Ok, Err, IfOk}
 use Rattle.cat_io.specs.Shelf.{Shelved}
-use Rattle.cat_scope.specs.declared.program.ThinProgram.{ThinProgram}
-use Rattle.cat_scope.specs.declared.outcome.ThinOutcome.{ThinOutcome}
-use Rattle.cat_scope.specs.declared.outcome.ThinOutcome.TheVariants as outcome
-use Rattle.cat_scope.specs.Outcome.{thin_outcome}
+use Rattle.cat_thin_scope.specs.declared.program.ThinProgram.{ThinProgram}
+use Rattle.cat_value.specs.declared.outcome.Outcome.{Outcome}
+use Rattle.cat_value.specs.declared.outcome.Outcome.TheVariants as outcome
+use Rattle.cat_thin_scope.specs.Outcome.{thin_outcome}
+use Rattle.cat_thin_scope.specs.Given.{IsGivenBy}
 use Rattle.cat_thin.specs.Source.{thin_program_of}
 use Rattle.cat_thin.specs.Input.{thin_input_of}
 use Rattle.cat_thin.specs.Answer.{thin_answer}
 use Rattle.cat_app.specs.Words.{Request, request_of}
-use Rattle.cat_app.specs.Answers.{IsFile, IsExtra, IsAccepted, IsReadNow, IsOutcome, refusal_line, line, status_of}
+use Rattle.cat_app.specs.Asked.{IsFile, IsExtra, IsAccepted, IsReadNow}
+use Rattle.cat_app.specs.Answers.{IsOutcome, refusal_line, line, status_of}
 use Rattle.cat_app.specs.Table.{MayAnswer, MayReply}
 use Rattle.cat_app.specs.Reading.{Refusal}
 use Rattle.cat_app.specs.declared.status.Status.{Status}
@@ -21,6 +23,11 @@ use Rattle.std.specs.Prelude.{codes, []}
 pub if_ok : {A E : Type 0} {P Q R : A → Type 0} (r : Result A E) → IfOk r P → IfOk r Q → ((a : A) → P a → Q a → R a) → IfOk r R
 if_ok (Ok a) p q step = step a p q
 if_ok (Err e) p q step = tt
+
+-- of a result, what three facts lead to
+pub if_all_ok : {A E : Type 0} {O P Q R : A → Type 0} (r : Result A E) → IfOk r O → IfOk r P → IfOk r Q → ((a : A) → O a → P a → Q a → R a) → IfOk r R
+if_all_ok (Ok a) o p q step = step a o p q
+if_all_ok (Err e) o p q step = tt
 
 -- what may answer a request may reply to its words
 answered : (words : List (List ℕ)) (request : Request) (old new : Shelved) (status : Status) (text : List ℕ) →
@@ -112,21 +119,22 @@ no_input words request old middle new file extra program status text is read acc
     }))
 
 -- an outcome answers with its own status
-outcome_answers : (request : Request) (old new : Shelved) (ended : ThinOutcome) (text : List ℕ) →
-    IsOutcome request old new (status_of ended) text → MayAnswer request old new (status_of ended) text
-outcome_answers request old new (outcome.Value numbers) text is = is
-outcome_answers request old new (outcome.Conflict output places) text is = is
-outcome_answers request old new (outcome.NoValue output place) text is = is
+outcome_answers : (request : Request) (program : ThinProgram) (old new : Shelved) (ended : Outcome) (text : List ℕ) →
+    IsGivenBy program ended → IsOutcome request old new (status_of ended) text → MayAnswer request old new (status_of ended) text
+outcome_answers request program old new (outcome.Value values) text given is = is
+outcome_answers request program old new (outcome.Conflict target places) text given is = is
+outcome_answers request program old new (outcome.NoValue target place) text given is = is
+outcome_answers request program old new (outcome.Fault kind place) text given is = absurd given
 
 -- the program gives its outcome on the input
 pub an_outcome : (words : List (List ℕ)) (request : Request) (old middle new : Shelved) (file extra : List ℕ) (program : ThinProgram) (input : List ℤ) (status : Status) (text : List ℕ) →
     Some request ≡ request_of words → IsFile request old file → IsAccepted request file program → middle ≡ old →
     IsExtra request middle extra → new ≡ middle → thin_input_of program extra ≡ Some input →
-    status ≡ status_of (thin_outcome program input) → text ≡ thin_answer program request.file (thin_outcome program input) → MayReply words old new status text
-an_outcome words request old middle new file extra program input status text is read accepted same extra_read kept known ended reply =
+    IsGivenBy program (thin_outcome program input) → status ≡ status_of (thin_outcome program input) → thin_answer program request.file (thin_outcome program input) ≡ Some text → MayReply words old new status text
+an_outcome words request old middle new file extra program input status text is read accepted same extra_read kept known given ended reply =
     let at_first : IsExtra request old extra = subst (λ s. IsExtra request s extra) same extra_read in
     rw ended (answered words request old new (status_of (thin_outcome program input)) text is
-    (outcome_answers request old new (thin_outcome program input) text
+    (outcome_answers request program old new (thin_outcome program input) text given
     (record {
       file = file;
       extra = extra;

@@ -1,14 +1,15 @@
 -- What follows from the answers: when a reply comes, and when a fault can't.
-use Rattle.std.specs.Prelude.{◌≡◌, ◌⊎◌, ℕ, ℤ, ◌≤◌, Bool, true, false, List, length, Some, IfSome, ⊤}
+use Rattle.std.specs.Prelude.{◌≡◌, ◌⊎◌, ℕ, ℤ, ◌≤◌, Bool, true, false, List, length, Some, IfSome, IsSomeAnd, ⊤}
 use Rattle.std.specs.Io.KnownBytes.{Appends}
 use Rattle.cat_io.specs.Shelf.{Shelved, Rose}
 use Rattle.cat_io.specs.Sink.{Sunk}
-use Rattle.cat_scope.specs.declared.program.ThinProgram.{ThinProgram}
-use Rattle.cat_scope.specs.Outcome.{thin_outcome}
+use Rattle.cat_thin_scope.specs.declared.program.ThinProgram.{ThinProgram}
+use Rattle.cat_thin_scope.specs.Outcome.{thin_outcome}
 use Rattle.cat_thin.specs.Input.{thin_input_of}
 use Rattle.cat_thin.specs.Answer.{thin_answer}
 use Rattle.cat_app.specs.Words.{Request, request_of}
-use Rattle.cat_app.specs.Answers.{IsAccepted, source_limit, input_limit, status_of}
+use Rattle.cat_app.specs.Asked.{IsAccepted, source_limit, input_limit}
+use Rattle.cat_app.specs.Answers.{status_of}
 use Rattle.cat_app.specs.Table.{MayReply}
 use Rattle.cat_app.specs.declared.status.Status.{Status}
 use Rattle.cat_app.specs.declared.status.Status.TheVariants.{Missing, ReadFault, WriteFault, Memory, TooLarge}
@@ -62,4 +63,4 @@ EndsRun before after request program input ReadFault = ⊤
 EndsRun before after request program input WriteFault = ⊤
 EndsRun before after request program input Memory = ⊤
 EndsRun before after request program input status =
-    (status ≡ status_of (thin_outcome program input)) × Appends before.taken after.taken (thin_answer program request.file (thin_outcome program input))
+    (status ≡ status_of (thin_outcome program input)) × IsSomeAnd (thin_answer program request.file (thin_outcome program input)) (λ text. Appends before.taken after.taken text)

@@ -1,6 +1,7 @@
 -- the table of answers
 pub mod Table
 pub mod Answers
+pub mod Asked
 pub mod Words
 pub mod Status
 -- what follows from it

@@ -8,6 +8,7 @@ pub record Request : Type 0 where
   pub file : List ℕ
   pub extra : List ℕ
 
+-- a request of these names
 abbrev pub request : List ℕ → List ℕ → List ℕ → Request
 request scope file extra = record { scope = scope; file = file; extra = extra }
 

@@ -1,7 +1,8 @@
 // The whole reply to the words, before any of it is written.
-ghost use Rattle.std.specs.Prelude.{◌≡◌, [], IfOk, codes, length, string_bytes};
+ghost use Rattle.std.specs.Prelude.{◌≡◌, [], IfOk, Some, codes, length, string_bytes};
 ghost use Rattle.cat_io.specs.Stored.{texts_of};
-ghost use Rattle.cat_scope.specs.Outcome.{thin_outcome};
+ghost use Rattle.cat_thin_scope.specs.Outcome.{thin_outcome};
+ghost use Rattle.cat_thin_scope.specs.Given.{IsGivenBy};
 ghost use Rattle.cat_thin.specs.Answer.{thin_answer};
 ghost use Rattle.cat_app.specs.Answers.{line, refusal_line, status_of};
 ghost use Rattle.cat_app.specs.Table.{MayReply};
@@ -10,8 +11,9 @@ ghost use Rattle.cat_app.specs.Reading.{Reads};
 use crate::Status;
 use crate::request::{RunWords, read_words};
 use cat_io::{Shelf, ShelfFault};
-use cat_scope::{ThinNumbers, ThinOutcome, ThinProgram, run_thin};
 use cat_thin::{SourceRefusal, answer_line, read_numbers, read_source};
+use cat_thin_scope::{ThinNumbers, ThinProgram, run_thin};
+use cat_value::Outcome;
 use std::alloc::{AllocError, Global};
 
 /// A source has at most 4 MiB.
@@ -78,7 +80,8 @@ fn answer(
 ) -> Result<Reply, AllocError>
     requires { length numbers.now ≡ length program.now.inputs }
     ensures status { IfOk result (λ reply. reply.status ≡ status_of (thin_outcome program.now numbers.now)) }
-    ensures text { IfOk result (λ reply. string_bytes reply.text ≡ thin_answer program.now name.now (thin_outcome program.now numbers.now)) }
+    ensures text { IfOk result (λ reply. thin_answer program.now name.now (thin_outcome program.now numbers.now) ≡ Some (string_bytes reply.text)) }
+    ensures given { IfOk result (λ reply. IsGivenBy program.now (thin_outcome program.now numbers.now)) }
 {
     let outcome = run_thin(alloc, program, numbers.as_slice())?;
     let text = answer_line(alloc, program, name, &outcome)?;
@@ -86,13 +89,14 @@ fn answer(
     Ok(Reply { status, text })
 }
 
-fn ended(outcome: &ThinOutcome) -> Status
+fn ended(outcome: &Outcome) -> Status
     ensures { result ≡ status_of outcome.now }
 {
     match outcome {
-        ThinOutcome::Value(_) => Status::Fine,
-        ThinOutcome::Conflict(_, _) => Status::Conflict,
-        ThinOutcome::NoValue(_, _) => Status::NoValue,
+        Outcome::Value(_) => Status::Fine,
+        Outcome::Conflict(_, _) => Status::Conflict,
+        Outcome::NoValue(_, _) => Status::NoValue,
+        Outcome::Fault(_, _) => Status::Fault,
     }
 }
 

@@ -53,53 +53,56 @@ fn ends(
     Ok(())
 }
 
+const RUN: &[&str] = &["run", "S", "a.md"];
+
+// The words, the input, and the status and text that they lead to.
+const REPLIES: [(&[&str], &str, Status, &str); 8] = [
+    (RUN, "{\"n\":5}", Status::Fine, "{\"x\":1}\n"),
+    (
+        RUN,
+        "{\"n\":0}",
+        Status::Conflict,
+        "conflict S.x at a.md:6:3 a.md:7:3\n",
+    ),
+    (RUN, "{}", Status::Input, "input refused I0\n"),
+    (
+        &["run", "T", "a.md"],
+        "",
+        Status::Usage,
+        "no such scope T\n",
+    ),
+    (
+        &["run", "S", "law.md"],
+        "",
+        Status::Source,
+        "source refused E0 at law.md:1:1\n",
+    ),
+    (
+        &["run", "S", "b.md"],
+        "",
+        Status::Missing,
+        "missing file b.md\n",
+    ),
+    (
+        &["run", "S", "a.md", "b"],
+        "",
+        Status::Missing,
+        "missing file b\n",
+    ),
+    (
+        &["run", "S", "a\n.md"],
+        "",
+        Status::Usage,
+        "usage: catala MODE SCOPE FILE [EXTRA] [--cases N]\n",
+    ),
+];
+
 // Memory is ample here, so that `Memory` is no answer to any of these.
 #[test]
 fn each_reply_comes_with_its_status(rt: HostRuntime) -> Result<(), Fail> {
     let alloc = rt.alloc();
-    let run = ["run", "S", "a.md"].as_slice();
-    let cases = [
-        (run, "{\"n\":5}", Status::Fine, "{\"x\":1}\n"),
-        (
-            run,
-            "{\"n\":0}",
-            Status::Conflict,
-            "conflict S.x at a.md:6:3 a.md:7:3\n",
-        ),
-        (run, "{}", Status::Input, "input refused I0\n"),
-        (
-            ["run", "T", "a.md"].as_slice(),
-            "",
-            Status::Usage,
-            "no such scope T\n",
-        ),
-        (
-            ["run", "S", "law.md"].as_slice(),
-            "",
-            Status::Source,
-            "source refused E0 at law.md:1:1\n",
-        ),
-        (
-            ["run", "S", "b.md"].as_slice(),
-            "",
-            Status::Missing,
-            "missing file b.md\n",
-        ),
-        (
-            ["run", "S", "a.md", "b"].as_slice(),
-            "",
-            Status::Missing,
-            "missing file b\n",
-        ),
-        (
-            ["run", "S", "a\n.md"].as_slice(),
-            "",
-            Status::Usage,
-            "usage: catala MODE SCOPE FILE [EXTRA] [--cases N]\n",
-        ),
-    ];
-    for (words, input, status, text) in cases.iter() {
-        ends(&rt, alloc, words, input, *status, text)?;
+    for (words, input, status, text) in REPLIES {
+        ends(&rt, alloc, words, input, status, text)?;
     }
     Ok(())
 }

@@ -1,8 +1,8 @@
 // The top call: the whole reply first, and then one put.
-ghost use Rattle.std.specs.Prelude.{◌≡◌, ◌≢◌, List, ℕ, ℤ, true, false, IfSome};
+ghost use Rattle.std.specs.Prelude.{◌≡◌, ◌≢◌, List, ℤ, true, false, IfSome};
 ghost use Rattle.cat_io.specs.Count.{FaultsRose};
 ghost use Rattle.cat_io.specs.Stored.{texts_of};
-ghost use Rattle.cat_scope.specs.declared.program.ThinProgram.{ThinProgram};
+ghost use Rattle.cat_thin_scope.specs.declared.program.ThinProgram.{ThinProgram};
 ghost use Rattle.cat_app.specs.Words.{Request};
 ghost use Rattle.cat_app.specs.Table.{Answers};
 ghost use Rattle.cat_app.specs.Complete.{NoFileRose, RepliesFit, IsToldRun, EndsRun, is_fault, is_reply};

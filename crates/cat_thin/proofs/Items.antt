@@ -2,10 +2,9 @@
 use Rattle.std.proofs.Common.{◌≡◌, ◌≤◌, ℕ, ◌+◌, ◌++◌, ◌&&◌, Bool, true, false, IsTrue, List, [], ◌∷◌, length, Option, Some, None, refl, sym, ◌∙◌, ap, arith, true≢false, length-append, append_assoc, ◌<◌, drop, get_or, drop-cons, add-one}
 use Rattle.std.proofs.Math.Bool.{Bool-set}
 use Rattle.std.proofs.lemmas.Bool.{le-leb}
-use Rattle.cat_scope.specs.declared.parts.ThinItem.{ThinItem}
-use Rattle.cat_scope.specs.declared.parts.ThinDef.{ThinDef}
-use Rattle.cat_scope.specs.declared.program.ThinProgram.{ThinProgram}
-use Rattle.cat_scope.specs.Sound.{is_sound, is_sound_def, are_sound_defs}
+use Rattle.cat_thin_scope.specs.declared.parts.ThinItem.{ThinItem}
+use Rattle.cat_thin_scope.specs.declared.parts.ThinDef.{ThinDef}
+use Rattle.cat_thin_scope.specs.Sound.{is_sound, is_sound_def, are_sound_defs}
 use Rattle.cat_thin.specs.Named.{names_of, def_named}
 use Rattle.cat_thin.specs.Source.{certified, assembled, both, defs_of}
 use Rattle.cat_thin.specs.declared.line.NamedDef.{NamedDef}

@@ -6,5 +6,6 @@ pub mod Lines
 pub mod Names
 pub mod Numbers
 pub mod Forms
+pub mod Defining
 pub mod Order
 pub mod Named

@@ -1,14 +1,14 @@
 -- The lines of a source, and the words of a line.
 use Rattle.std.specs.Prelude.{ℕ, ◌+◌, ◌-◌, ◌==◌, ◌&&◌, Bool, List, [], ◌∷◌, length, take, slice_index, if◌then◌else◌, nat_lt}
 use Rattle.std.specs.List.{slice_split}
+use Rattle.cat_pos.specs.Position.{is_line_feed}
 use Rattle.cat_thin.specs.declared.words.Word.{Word}
 
-abbrev pub is_line_feed : ℕ → Bool
-is_line_feed byte = byte == 10
-
+-- words are parted by spaces
 abbrev pub is_space : ℕ → Bool
 is_space byte = byte == 32
 
+-- whether this byte stands last
 abbrev pub ends_with : ℕ → List ℕ → Bool
 ends_with byte bytes = nat_lt 0 (length bytes) && (slice_index bytes (length bytes - 1) == byte)
 

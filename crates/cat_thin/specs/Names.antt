@@ -1,5 +1,5 @@
 -- Names of scopes and of items.
-use Rattle.std.specs.Prelude.{ℕ, ◌==◌, ◌||◌, ◌&&◌, Bool, false, true, not, List, [], ◌∷◌, if◌then◌else◌, length, take, ◌-◌, Option, Some, None}
+use Rattle.std.specs.Prelude.{ℕ, ◌==◌, ◌||◌, ◌&&◌, Bool, false, not, List, [], ◌∷◌, if◌then◌else◌, length, take, ◌-◌, Option, Some, None}
 use Rattle.std.specs.List.{slice_split, list_all, list_any}
 use Rattle.std.specs.Str.{bytes_eq}
 use Rattle.std.specs.Char.{is_ascii_uppercase, is_ascii_lowercase, is_ascii_alphanumeric}
@@ -10,6 +10,7 @@ use Rattle.cat_thin.specs.Lines.{is_space, ends_with}
 abbrev pub is_name_byte : ℕ → Bool
 is_name_byte byte = is_ascii_alphanumeric byte || (byte == 95)
 
+-- letters, digits and `_` alone
 abbrev pub are_name_bytes : List ℕ → Bool
 are_name_bytes bytes = list_all is_name_byte bytes
 

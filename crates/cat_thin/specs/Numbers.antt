@@ -2,11 +2,9 @@
 use Rattle.std.specs.Prelude.{ℕ, ◌+◌, ◌-◌, ◌*◌, ◌&&◌, ℤ, pos, Bool, List, [], ◌∷◌, length, nat_lt, nat_le, if◌then◌else◌, Option, Some, None}
 use Rattle.std.specs.List.{list_all}
 use Rattle.std.specs.Char.{is_ascii_digit}
+use Rattle.cat_num.specs.Whole.{largest}
 
--- the largest integer of the language
-abbrev pub largest : ℕ
-largest = 9223372036854775807
-
+-- digits of base ten alone
 abbrev pub are_digits : List ℕ → Bool
 are_digits text = list_all is_ascii_digit text
 

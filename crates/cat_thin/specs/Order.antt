@@ -5,6 +5,7 @@ use Rattle.cat_thin.specs.declared.line.ThinLine.TheVariants as line
 use Rattle.cat_thin.specs.declared.section.Section.{Section}
 use Rattle.cat_thin.specs.declared.section.Section.TheVariants.{Start, Opening, Declaration, Input, Output, Scope, Definition, Closing, Unknown}
 
+-- the kind of a line
 abbrev pub section_of : ThinLine → Section
 section_of line.Opening = Opening
 section_of (line.Declaration name) = Declaration
@@ -30,6 +31,7 @@ may_follow Definition Definition = true
 may_follow Definition Closing = true
 may_follow before next = false
 
+-- the line that closes the source
 abbrev pub is_closing : Section → Bool
 is_closing Closing = true
 is_closing section = false

@@ -1,10 +1,10 @@
 -- The program that a thin source is.
 use Rattle.std.specs.Prelude.{◌≡◌, ◌≤◌, ⊤, ℕ, ◌+◌, ◌&&◌, Bool, true, false, refl, List, [], ◌∷◌, ◌++◌, length, nat_le, if◌then◌else◌, Option, Some, None}
 use Rattle.std.specs.Str.{bytes_eq}
-use Rattle.cat_scope.specs.declared.parts.ThinItem.{ThinItem}
-use Rattle.cat_scope.specs.declared.parts.ThinDef.{ThinDef}
-use Rattle.cat_scope.specs.declared.program.ThinProgram.{ThinProgram}
-use Rattle.cat_scope.specs.Sound.{is_sound}
+use Rattle.cat_thin_scope.specs.declared.parts.ThinItem.{ThinItem}
+use Rattle.cat_thin_scope.specs.declared.parts.ThinDef.{ThinDef}
+use Rattle.cat_thin_scope.specs.declared.program.ThinProgram.{ThinProgram}
+use Rattle.cat_thin_scope.specs.Sound.{is_sound}
 use Rattle.cat_thin.specs.declared.line.ThinLine.{ThinLine}
 use Rattle.cat_thin.specs.declared.line.ThinLine.TheVariants.{Declaration, Input, Output, Scope, Definition}
 use Rattle.cat_thin.specs.declared.section.Section.TheVariants.{Start}
@@ -20,11 +20,13 @@ abbrev pub read_from : ℕ → List (List ℕ) → List ThinLine
 read_from line [] = []
 read_from line (bytes ∷ lines) = line_of line bytes ∷ read_from (line + 1) lines
 
+-- the items in lines of inputs
 abbrev pub inputs_of : List ThinLine → List ThinItem
 inputs_of [] = []
 inputs_of (Input item ∷ lines) = item ∷ inputs_of lines
 inputs_of (line ∷ lines) = inputs_of lines
 
+-- the items in lines of outputs
 abbrev pub outputs_of : List ThinLine → List ThinItem
 outputs_of [] = []
 outputs_of (Output item ∷ lines) = item ∷ outputs_of lines
@@ -42,6 +44,7 @@ opened_scope [] = None
 opened_scope (Scope name ∷ lines) = Some name
 opened_scope (line ∷ lines) = opened_scope lines
 
+-- a definition before further ones, where there are both
 abbrev pub both : Option ThinDef → Option (List ThinDef) → Option (List ThinDef)
 both (Some def) (Some defs) = Some (def ∷ defs)
 both def defs = None
@@ -80,6 +83,7 @@ assembled (Some scope) inputs outputs (Some defs) =
     if nat_le (length defs) 65536 then certified scope inputs outputs defs (is_sound inputs outputs defs) refl else None
 assembled scope inputs outputs defs = None
 
+-- the program of lines, where they stand in order and each name is one that may stand there
 unfoldable pub program_of : List ThinLine → Option ThinProgram
 program_of lines =
     if are_in_order Start lines && are_items (inputs_of lines) (outputs_of lines)

@@ -4,8 +4,9 @@ ghost use Rattle.serde_json.specs.View.{view};
 ghost use Rattle.serde_json.specs.Find.{as_object};
 ghost use Rattle.cat_thin.specs.Input.{whole_of, numbers_at, numbers_in, thin_input_of};
 
+use cat_num::Whole;
 use cat_pos::List;
-use cat_scope::{ThinItem, ThinNumbers, ThinProgram};
+use cat_thin_scope::{ThinItem, ThinNumbers, ThinProgram};
 use serde_json::Value;
 use std::alloc::{AllocError, Global};
 
@@ -63,13 +64,8 @@ fn numbers_at(
     Ok(Some(numbers))
 }
 
-fn whole_of(value: &Value) -> Option<i64>
+fn whole_of(value: &Value) -> Option<Whole>
     ensures { result ≡ whole_of (view value.now) }
 {
-    let number = value.as_i64()?;
-    if number == i64::MIN {
-        None
-    } else {
-        Some(number)
-    }
+    Whole::new(value.as_i64()?)
 }

@@ -1,13 +1,15 @@
 // What a line says.
 ghost use Rattle.std.specs.Prelude.{◌≡◌, ◌≤◌, ◌*◌, IfOk, length};
 ghost use Rattle.cat_thin.specs.Lines.{ends_with};
-ghost use Rattle.cat_thin.specs.Forms.{line_of, text_of, item_line, part_line, opened_line, first_line, worded, place_of, op_of, operand_of, test_of, defined, always_of, consequence_of, tested_of, under_of, definition_of, item_of, scope_of, declared_of};
+ghost use Rattle.cat_thin.specs.Forms.{line_of, text_of, item_line, part_line, opened_line, first_line, worded, place_of, item_of, scope_of, declared_of};
+ghost use Rattle.cat_thin.specs.Defining.{op_of, operand_of, test_of, defined, always_of, consequence_of, tested_of, under_of, definition_of};
 
 use crate::names::{is_item_name, scope_before_colon};
 use crate::numbers::integer_of;
 use crate::words::{Word, words_of};
+use cat_num::Whole;
 use cat_pos::{Pos, Text};
-use cat_scope::{ThinItem, ThinOp};
+use cat_thin_scope::{ThinItem, ThinOp};
 use std::alloc::{AllocError, Global};
 
 /// A comparison of an input, by its name, with a bound.
@@ -15,13 +17,13 @@ use std::alloc::{AllocError, Global};
 pub struct NamedTest {
     pub input: Text,
     pub op: ThinOp,
-    pub bound: i64,
+    pub bound: Whole,
 }
 
 /// A number, or an input by its name.
 #[derive(Debug, Drop)]
 pub enum NamedOperand {
-    Number(i64),
+    Number(Whole),
     Input(Text),
 }
 
@@ -206,7 +208,7 @@ fn read_item(alloc: Global, line: u32, words: &[Word]) -> Result<Option<ThinItem
     }))
 }
 
-#[tactic(auto, unfolding(crate::specs::Forms::definition_of))]
+#[tactic(auto, unfolding(crate::specs::Defining::definition_of))]
 fn read_definition(alloc: Global, pos: Pos, words: &[Word]) -> Result<ThinLine, AllocError>
     ensures { IfOk result (λ read. read ≡ definition_of pos words.now) }
 {

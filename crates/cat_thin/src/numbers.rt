@@ -1,11 +1,14 @@
 // Integer literals.
 ghost use Rattle.std.specs.Prelude.{◌≡◌, ◌≤◌, ◌<◌, IsTrue};
+ghost use Rattle.cat_num.specs.Whole.{largest};
 ghost use Rattle.cat_thin.specs.Numbers.{are_digits, value_from, integer_of};
+
+use cat_num::Whole;
 
 const LARGEST: u128 = 9223372036854775807;
 
 /// The value of one or more digits, where it is at most 2^63 - 1.
-pub fn integer_of(text: &str) -> Option<i64>
+pub fn integer_of(text: &str) -> Option<Whole>
     ensures { result ≡ integer_of text.now }
 {
     let digits = text.as_bytes();
@@ -14,7 +17,7 @@ pub fn integer_of(text: &str) -> Option<i64>
     }
     let value = value_of(digits);
     if value <= LARGEST {
-        Some(value as i64)
+        Whole::new(value as i64)
     } else {
         None
     }
@@ -30,8 +33,8 @@ fn are_digits(text: &[u8]) -> bool
 #[tactic(auto, using(crate::proofs::Digits::digits))]
 fn value_of(digits: &[u8]) -> u128
     requires { IsTrue (are_digits digits.now) }
-    ensures value { LARGEST < result → LARGEST < value_from 0 digits.now }
-    ensures within { result ≤ LARGEST → result ≡ value_from 0 digits.now }
+    ensures value { largest < result → largest < value_from 0 digits.now }
+    ensures within { result ≤ largest → result ≡ value_from 0 digits.now }
 {
     let mut value: u128 = 0;
     for &digit in digits {

@@ -1,9 +1,9 @@
 // Reading a source.
-ghost use Rattle.std.specs.Prelude.{◌≡◌, ◌≤◌, ◌*◌, ◌+◌, ◌^◌, ◌<◌, ◌++◌, IfOk, IfErr, IfSome, MatchOption, true, false, IsTrue, Some, length, map};
+ghost use Rattle.std.specs.Prelude.{◌≡◌, ◌≤◌, ◌*◌, ◌+◌, ◌<◌, IfOk, IfErr, IfSome, MatchOption, false, IsTrue, Some, length, map};
 ghost use Rattle.std.specs.Option.{option_copied};
 ghost use Rattle.cat_thin.specs.Lines.{without_last_feed, lines_of};
 ghost use Rattle.cat_thin.specs.Named.{names_of};
-ghost use Rattle.cat_scope.specs.Sound.{are_sound_defs};
+ghost use Rattle.cat_thin_scope.specs.Sound.{are_sound_defs};
 ghost use Rattle.cat_thin.specs.Source.{inputs_of, outputs_of, declared_scope, opened_scope, same_scope, defs_of, are_items, NamesItems, assembled, program_of, thin_program_of, HasCause};
 
 use crate::fault::first_fault;
@@ -12,7 +12,7 @@ use crate::refusal::SourceRefusal;
 use crate::resolve::{Names, add_names, def_named};
 use crate::section::are_in_order;
 use cat_pos::{List, Pos, Text};
-use cat_scope::{ThinDefs, ThinItem, ThinItems, ThinProgram};
+use cat_thin_scope::{ThinDef, ThinDefs, ThinItem, ThinItems, ThinProgram};
 use std::alloc::{AllocError, Global};
 
 pub const MOST_ITEMS: usize = 4096;
@@ -251,7 +251,19 @@ fn defs_of(
         let Some(def) = def_named(inputs, names, def) else {
             return Ok(None);
         };
-        defs.push(def)?;
+        // Taken apart and put together again, since the checker doesn't find a `Whole` inside of a part of `def`.
+        let ThinDef {
+            output,
+            condition,
+            value,
+            pos,
+        } = def;
+        defs.push(ThinDef {
+            output,
+            condition,
+            value,
+            pos,
+        })?;
     }
     Ok(Some(defs))
 }

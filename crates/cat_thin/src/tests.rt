@@ -1,7 +1,7 @@
 ghost use Rattle.std.specs.Prelude.{◌≤◌, ◌*◌, length};
 
 use crate::{SourceRefusal, answer_line, read_numbers, read_source};
-use cat_scope::run_thin;
+use cat_thin_scope::run_thin;
 use std::alloc::{AllocError, Global};
 use std::process::Abort;
 use std::test::Fail;
@@ -21,49 +21,50 @@ fn refused_at(alloc: Global, source: &[u8]) -> Result<u32, AllocError>
 }
 
 // Each source with the first line that no thin source goes on with, found by hand.
+const REFUSED: [(&str, u32); 13] = [
+    ("", 1),
+    ("```catala", 2),
+    ("```catala \n", 1),
+    ("```catala\r\n", 1),
+    (
+        "```catala\n  declaration   scope S:\ninput n content integer\noutput x content integer\nscope S:\n```",
+        0,
+    ),
+    ("```catala\ndeclaration scope s:\n", 2),
+    (
+        "```catala\ndeclaration scope S:\noutput x content integer\n",
+        3,
+    ),
+    (
+        "```catala\ndeclaration scope S:\ninput n content integer\nscope S:\n",
+        4,
+    ),
+    (
+        "```catala\ndeclaration scope S:\ninput n content integer\noutput x content integer\ninput m content integer\n",
+        5,
+    ),
+    (
+        "```catala\ndeclaration scope S:\ninput n content integer\noutput n content integer\nscope S:\n```",
+        4,
+    ),
+    (
+        "```catala\ndeclaration scope S:\ninput sum content integer\noutput x content integer\nscope S:\n```",
+        3,
+    ),
+    (
+        "```catala\ndeclaration scope S:\ninput n content integer \noutput x content integer\nscope S:\n```",
+        3,
+    ),
+    (
+        "```catala\ndeclaration scope S:\ninput n content integer\noutput x content integer\nscope T:\n```",
+        5,
+    ),
+];
+
 #[test]
 fn a_source_is_refused_at_the_first_line_that_goes_wrong(rt: HostRuntime) -> Result<(), Fail> {
     let alloc = rt.alloc();
-    let cases = [
-        ("", 1),
-        ("```catala", 2),
-        ("```catala \n", 1),
-        ("```catala\r\n", 1),
-        (
-            "```catala\n  declaration   scope S:\ninput n content integer\noutput x content integer\nscope S:\n```",
-            0,
-        ),
-        ("```catala\ndeclaration scope s:\n", 2),
-        (
-            "```catala\ndeclaration scope S:\noutput x content integer\n",
-            3,
-        ),
-        (
-            "```catala\ndeclaration scope S:\ninput n content integer\nscope S:\n",
-            4,
-        ),
-        (
-            "```catala\ndeclaration scope S:\ninput n content integer\noutput x content integer\ninput m content integer\n",
-            5,
-        ),
-        (
-            "```catala\ndeclaration scope S:\ninput n content integer\noutput n content integer\nscope S:\n```",
-            4,
-        ),
-        (
-            "```catala\ndeclaration scope S:\ninput sum content integer\noutput x content integer\nscope S:\n```",
-            3,
-        ),
-        (
-            "```catala\ndeclaration scope S:\ninput n content integer \noutput x content integer\nscope S:\n```",
-            3,
-        ),
-        (
-            "```catala\ndeclaration scope S:\ninput n content integer\noutput x content integer\nscope T:\n```",
-            5,
-        ),
-    ];
-    for (source, line) in cases {
+    for (source, line) in REFUSED {
         assert_eq!(rt; refused_at(alloc, source.as_bytes())?, line, "{source}");
     }
     assert_eq!(rt; refused_at(alloc, b"```catala\n\xff\n")?, 2);
@@ -71,40 +72,41 @@ fn a_source_is_refused_at_the_first_line_that_goes_wrong(rt: HostRuntime) -> Res
 }
 
 // What stands after the five lines of `HEAD`.
+const DEFINED: [(&str, u32); 16] = [
+    ("```\n", 0),
+    ("```\n\n", 7),
+    ("", 6),
+    ("  definition x equals 9223372036854775807\n```", 0),
+    ("  definition x equals 0009223372036854775807\n```", 0),
+    ("  definition x equals 9223372036854775808\n```", 6),
+    ("  definition x equals n + 1\n```", 6),
+    ("  definition x equals -1\n```", 6),
+    ("  definition y equals 1\n```", 6),
+    ("  definition n equals 1\n```", 6),
+    ("  definition x equals x\n```", 6),
+    (
+        "  definition x under condition n != 3 consequence equals n\n```\n",
+        0,
+    ),
+    (
+        "  definition x under condition n == 3 consequence equals n\n```\n",
+        6,
+    ),
+    (
+        "  definition x under condition x < 3 consequence equals n\n```\n",
+        6,
+    ),
+    (
+        "  definition x under condition n < m consequence equals n\n```\n",
+        6,
+    ),
+    ("  definition x equals 1\n  definition x equals 2\n", 8),
+];
+
 #[test]
 fn definitions_are_refused_at_their_line(rt: HostRuntime) -> Result<(), Fail> {
     let alloc = rt.alloc();
-    let cases = [
-        ("```\n", 0),
-        ("```\n\n", 7),
-        ("", 6),
-        ("  definition x equals 9223372036854775807\n```", 0),
-        ("  definition x equals 0009223372036854775807\n```", 0),
-        ("  definition x equals 9223372036854775808\n```", 6),
-        ("  definition x equals n + 1\n```", 6),
-        ("  definition x equals -1\n```", 6),
-        ("  definition y equals 1\n```", 6),
-        ("  definition n equals 1\n```", 6),
-        ("  definition x equals x\n```", 6),
-        (
-            "  definition x under condition n != 3 consequence equals n\n```\n",
-            0,
-        ),
-        (
-            "  definition x under condition n == 3 consequence equals n\n```\n",
-            6,
-        ),
-        (
-            "  definition x under condition x < 3 consequence equals n\n```\n",
-            6,
-        ),
-        (
-            "  definition x under condition n < m consequence equals n\n```\n",
-            6,
-        ),
-        ("  definition x equals 1\n  definition x equals 2\n", 8),
-    ];
-    for (rest, line) in cases {
+    for (rest, line) in DEFINED {
         let source = format!(in alloc; "{HEAD}{rest}")?;
         assert!(rt; source.len() < 1000);
         assert_eq!(rt; refused_at(alloc, source.as_bytes())?, line, "{rest}");
@@ -112,41 +114,43 @@ fn definitions_are_refused_at_their_line(rt: HostRuntime) -> Result<(), Fail> {
     Ok(())
 }
 
+const BANDS: &str =
+    "  definition x under condition n >= 0 consequence equals 1\n  definition x under condition n <= 0 consequence equals 2\n";
+
 // The answers are the product's own examples; those of the numbers are what Python's `json` gives.
+const TOLD: [(&str, &str, &str); 18] = [
+    (BANDS, "{\"n\":0}", "conflict S.x at a.md:6:3 a.md:7:3\n"),
+    (BANDS, "{\"n\":5}", "{\"x\":1}\n"),
+    (BANDS, " { \"n\" : -5 } ", "{\"x\":2}\n"),
+    (BANDS, "{\"n\":3,\"n\":-4}", "{\"x\":2}\n"),
+    ("", "{\"n\":0}", "no value S.x at a.md:4:10\n"),
+    (
+        "  definition x equals n\n",
+        "{\"n\":9223372036854775807}",
+        "{\"x\":9223372036854775807}\n",
+    ),
+    (
+        "  definition x equals n\n",
+        "{\"n\":-9223372036854775807}",
+        "{\"x\":-9223372036854775807}\n",
+    ),
+    (BANDS, "{\"n\":9223372036854775808}", ""),
+    (BANDS, "{\"n\":-9223372036854775808}", ""),
+    (BANDS, "{}", ""),
+    (BANDS, "{\"n\":1,\"m\":2}", ""),
+    (BANDS, "{\"m\":1}", ""),
+    (BANDS, "{\"n\":1.5}", ""),
+    (BANDS, "{\"n\":1e3}", ""),
+    (BANDS, "{\"n\":-0}", ""),
+    (BANDS, "{\"n\":\"1\"}", ""),
+    (BANDS, "[1]", ""),
+    (BANDS, "{\"n\":1", ""),
+];
+
 #[test]
 fn inputs_are_read_and_outcomes_told(rt: HostRuntime) -> Result<(), Fail> {
     let alloc = rt.alloc();
-    let bands =
-        "  definition x under condition n >= 0 consequence equals 1\n  definition x under condition n <= 0 consequence equals 2\n";
-    let cases = [
-        (bands, "{\"n\":0}", "conflict S.x at a.md:6:3 a.md:7:3\n"),
-        (bands, "{\"n\":5}", "{\"x\":1}\n"),
-        (bands, " { \"n\" : -5 } ", "{\"x\":2}\n"),
-        (bands, "{\"n\":3,\"n\":-4}", "{\"x\":2}\n"),
-        ("", "{\"n\":0}", "no value S.x at a.md:4:10\n"),
-        (
-            "  definition x equals n\n",
-            "{\"n\":9223372036854775807}",
-            "{\"x\":9223372036854775807}\n",
-        ),
-        (
-            "  definition x equals n\n",
-            "{\"n\":-9223372036854775807}",
-            "{\"x\":-9223372036854775807}\n",
-        ),
-        (bands, "{\"n\":9223372036854775808}", ""),
-        (bands, "{\"n\":-9223372036854775808}", ""),
-        (bands, "{}", ""),
-        (bands, "{\"n\":1,\"m\":2}", ""),
-        (bands, "{\"m\":1}", ""),
-        (bands, "{\"n\":1.5}", ""),
-        (bands, "{\"n\":1e3}", ""),
-        (bands, "{\"n\":-0}", ""),
-        (bands, "{\"n\":\"1\"}", ""),
-        (bands, "[1]", ""),
-        (bands, "{\"n\":1", ""),
-    ];
-    for (rest, input, answer) in cases {
+    for (rest, input, answer) in TOLD {
         let source = format!(in alloc; "{HEAD}{rest}```\n")?;
         assert!(rt; source.len() < 1000);
         let Ok(program) = read_source(alloc, source.as_bytes()) else {

@@ -4,7 +4,7 @@ use Rattle.cat_io.specs.Stored.{texts_of}
 use Rattle.cat_thin.specs.Source.{thin_program_of}
 use Rattle.cat_thin.specs.Input.{thin_input_of}
 use Rattle.cat_app.specs.Words.{Request, request}
-use Rattle.cat_app.proofs.Replies.{if_ok, refused_file, refused_extra, no_program, no_scope, no_input, an_outcome}
+use Rattle.cat_app.proofs.Replies.{if_ok, if_all_ok, refused_file, refused_extra, no_program, no_scope, no_input, an_outcome}
 use Rattle.cat_app.proofs.reply.whole_reply.Goals as goal
 
 pub returns-in-Refused-clause-may : goal.returns-in-Refused-clause-may
@@ -58,10 +58,10 @@ returns-in-Some-2-clause-may g c =
     let thin : thin_program_of c.in-Bytes.bytes.items ≡ Some c.in-Ok.program = subst (λ (b : List ℕ). thin_program_of b ≡ Some c.in-Ok.program) bytes c.in-Ok.ensures.program in
     let yes : c.is.result ≡ true = search rules in
     let known : thin_input_of c.in-Ok.program c.in-Bytes-2.bytes.items ≡ Some c.in-Some-2.numbers = cc (c.in_ok-numbers.ensures.value, c.in-Some-2.is, extra) in
-    if_ok c.answer.result c.answer.ensures.status c.answer.ensures.text (λ reply ended said.
+    if_all_ok c.answer.result c.answer.ensures.given c.answer.ensures.status c.answer.ensures.text (λ reply given ended said.
     an_outcome (texts_of c.args.words.now) asked (g.S.Shelf.state c.args.shelf.now) (g.S.Shelf.state c.read_file.new.shelf) (g.S.Shelf.state c.read_file-2.new.shelf)
     c.in-Bytes.bytes.items c.in-Bytes-2.bytes.items c.in-Ok.program c.in-Some-2.numbers reply.status (string_bytes reply.text) c.in-Some.ensures reads.1
-    (record { thin = thin; named = c.is.ensures.0 yes }) reads.0 reads_extra.1 reads_extra.0 known ended said)
+    (record { thin = thin; named = c.is.ensures.0 yes }) reads.0 reads_extra.1 reads_extra.0 known given ended said)
 
 pub returns-clause-may : goal.returns-clause-may
 returns-clause-may g c =

@@ -1,5 +1,6 @@
 use Rattle.std.proofs.Common.{◌≡◌, ◌≤◌, IsTrue, drop, ◌*◌, ◌+◌}
-use Rattle.cat_thin.specs.Numbers.{are_digits, value_from, largest}
+use Rattle.cat_num.specs.Whole.{largest}
+use Rattle.cat_thin.specs.Numbers.{are_digits, value_from}
 use Rattle.cat_thin.proofs.numbers.value_of.Given as goal
 
 abbrev pub invariant-loop-digit : goal.invariant-loop-digit

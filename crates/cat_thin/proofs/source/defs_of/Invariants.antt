@@ -1,5 +1,5 @@
 use Rattle.std.proofs.Common.{◌≡◌, IsTrue, drop}
-use Rattle.cat_scope.specs.Sound.{are_sound_defs}
+use Rattle.cat_thin_scope.specs.Sound.{are_sound_defs}
 use Rattle.cat_thin.specs.Source.{defs_of}
 use Rattle.cat_thin.proofs.Made.{made_before}
 use Rattle.cat_thin.proofs.source.defs_of.Given as goal

@@ -1,5 +1,6 @@
-use Rattle.std.proofs.Common.{◌≡◌, ◌∙◌, ◌+◌, ap, sym, refl, map, drop, length, Bor, List, [], ℕ, arith}
-use Rattle.cat_thin.specs.Lines.{is_line_feed, lines_of, without_last_feed}
+use Rattle.std.proofs.Common.{◌≡◌, ◌∙◌, ap, sym, map, Bor, List, [], ℕ, arith}
+use Rattle.cat_pos.specs.Position.{is_line_feed}
+use Rattle.cat_thin.specs.Lines.{lines_of, without_last_feed}
 use Rattle.cat_thin.specs.Source.{read_from, program_of}
 use Rattle.cat_thin.proofs.Parts.{total_of, total_of-slice_split, length-without_last_feed, texts-drop_at, program_of-stop}
 use Rattle.cat_thin.proofs.source.read_lines.Goals as goal
