@@ -1,0 +1,63 @@
+-- A program of one scope without items is well formed.
+use Rattle.std.proofs.Common.{◌≡◌, ℕ, true, IsTrue, List, [], ◌∷◌, length, refl, sym, subst}
+use Rattle.cat_value.specs.declared.decls.Decls.{Decls}
+use Rattle.cat_value.specs.declared.declaration.Scope.{Scope}
+use Rattle.cat_value.specs.declared.declaration.Structure.{Structure}
+use Rattle.cat_value.specs.declared.declaration.Enumeration.{Enumeration}
+use Rattle.cat_value.specs.declared.outcome.Place.{Place}
+use Rattle.cat_value.specs.Declarations.{are_sound}
+use Rattle.cat_date.specs.declared.rounding.Rounding.TheVariants.{Up}
+use Rattle.cat_scope.specs.Forests.{are_low}
+use Rattle.cat_date.specs.declared.rounding.Rounding.{Rounding}
+use Rattle.cat_order.specs.Order.{is_ready}
+use Rattle.cat_order.specs.Computed.{order_of}
+use Rattle.cat_scope.specs.declared.defs.SourcePart.TheVariants.{Declaration}
+use Rattle.cat_scope.specs.declared.defs.Body.{Body}
+use Rattle.cat_scope.specs.Orders.{scope_dependencies, item_dependencies, function_calls}
+use Rattle.cat_scope.specs.Chains.{is_within}
+use Rattle.cat_scope.specs.WellFormed.{IsBodyOf, AreBodiesOf, IsWellFormed}
+use Rattle.cat_scope.proofs.WellFormedParts.{ordered, short}
+
+abbrev pub bare_scope : List ℕ → Scope
+bare_scope name = record { name = name; items = [] }
+
+abbrev pub bare_body : Rounding → Body
+bare_body rounding = record { defs = []; assertions = []; source = Declaration ∷ []; rounding = rounding; order = []; calls = [] }
+
+body_is : (decls : Decls) (name : List ℕ) (rounding : Rounding) → IsBodyOf decls 0 (bare_scope name) (bare_body rounding)
+unfolding order_of is_ready is_within
+body_is decls name rounding = record {
+  placed = tt;
+  defs = tt;
+  assertions = tt;
+  source = (refl, refl, refl);
+  lists = refl;
+  conditions = (tt, tt);
+  order = ordered (item_dependencies [] []) [] [] refl refl;
+  calls = refl;
+  functions = short (function_calls [] []) [] refl refl;
+}
+
+pub bare_program : (decls : Decls) (name : List ℕ) (rounding : Rounding) → decls.scopes ≡ bare_scope name ∷ [] → IsWellFormed decls (bare_body rounding ∷ []) (0 ∷ [])
+unfolding order_of is_ready is_within
+bare_program decls name rounding is = record {
+  counted = subst (λ (scopes : List Scope). 1 ≡ length scopes) (sym is) refl;
+  bodies_are = subst (λ (scopes : List Scope). AreBodiesOf decls 0 scopes (bare_body rounding ∷ [])) (sym is) (body_is decls name rounding, tt);
+  order = ordered (scope_dependencies decls.scopes (bare_body rounding ∷ [])) ([] ∷ []) (0 ∷ []) (subst (λ (scopes : List Scope). scope_dependencies scopes (bare_body rounding ∷ []) ≡ [] ∷ []) (sym is) refl) refl;
+  chains = short (scope_dependencies decls.scopes (bare_body rounding ∷ [])) ([] ∷ []) (subst (λ (scopes : List Scope). scope_dependencies scopes (bare_body rounding ∷ []) ≡ [] ∷ []) (sym is) refl) refl;
+}
+
+bare_is_sound : (name : List ℕ) → IsTrue (are_sound [] [] (bare_scope name ∷ []))
+unfolding are_sound
+bare_is_sound name = refl
+
+pub bare_sound : (ss : List Structure) (es : List Enumeration) (scopes : List Scope) (name : List ℕ) → ss ≡ [] → es ≡ [] → scopes ≡ bare_scope name ∷ [] → IsTrue (are_sound ss es scopes)
+bare_sound ss es scopes name s e is = rw (s, e, is) (bare_is_sound name)
+
+pub bare_requires : (decls : Decls) (bodies : List Body) (order : List ℕ) (name : List ℕ) → decls.scopes ≡ bare_scope name ∷ [] → bodies ≡ bare_body Up ∷ [] → order ≡ 0 ∷ [] → ∥ IsWellFormed decls bodies order ∥₁
+bare_requires decls bodies order name is are stands = rw (are, stands) (∣ bare_program decls name Up is ∣₁)
+
+-- a forest of one target with two groups, of which the second excepts the first
+pub two_groups_are_low : (place : Place) → are_low (record { place = place; groups = record { defs = 0 ∷ []; excepted_by = 1 ∷ [] } ∷ record { defs = 1 ∷ []; excepted_by = [] } ∷ [] } ∷ []) ≡ true
+unfolding are_low is_within
+two_groups_are_low place = refl

@@ -1,0 +1,65 @@
+-- What groups of definitions come to, of which some except others.
+use Rattle.std.specs.Prelude.{ℕ, zero, suc, nat_lt, List, [], ◌∷◌, map, Option, Some, None, Result, Ok, Err, if◌then◌else◌}
+use Rattle.cat_pos.specs.declared.pos.Pos.{Pos}
+use Rattle.cat_value.specs.declared.outcome.Place.{Place}
+use Rattle.cat_scope.specs.declared.stop.Stop.{Stop}
+use Rattle.cat_scope.specs.declared.stop.Stop.TheVariants.{Conflict, Stuck}
+use Rattle.cat_scope.specs.Replies.{and_then}
+use Rattle.cat_scope.specs.Groups.{excepting}
+
+-- a definition that holds: its number and its place, and what it gives
+pub record Held (A : Type 0) : Type 0 where
+  pub number : ℕ
+  pub pos : Pos
+  pub value : A
+
+-- Held, Empty (nothing is there), or a stop
+abbrev pub Judged : Type 0 → Type 0
+Judged A = Result (Option (Held A)) Stop
+
+-- one more that holds in front, where it does
+abbrev pub with_held : {A : Type 0} → Option (Held A) → List (Held A) → List (Held A)
+with_held None more = more
+with_held (Some h) more = h ∷ more
+
+-- those that hold, or the first stop
+abbrev pub holding : {A : Type 0} → List (Judged A) → Result (List (Held A)) Stop
+holding [] = Ok []
+holding (r ∷ rs) = and_then r (λ one. and_then (holding rs) (λ more. Ok (with_held one more)))
+
+-- put behind those of lower numbers
+abbrev pub put : {A : Type 0} → Held A → List (Held A) → List (Held A)
+put h [] = h ∷ []
+put h (i ∷ is) = if nat_lt h.number i.number then h ∷ i ∷ is else i ∷ put h is
+
+-- by their numbers, the lowest first
+abbrev pub in_source_order : {A : Type 0} → List (Held A) → List (Held A)
+in_source_order [] = []
+in_source_order (h ∷ hs) = put h (in_source_order hs)
+
+-- the places of definitions, in the order of the list
+abbrev pub positions_in : {A : Type 0} → List (Held A) → List Pos
+positions_in [] = []
+positions_in (h ∷ hs) = h.pos ∷ positions_in hs
+
+-- none is Empty, one is that one, two or more are a Conflict
+abbrev pub alone : {A : Type 0} → Place → List (Held A) → Judged A
+alone place [] = Ok None
+alone place (h ∷ []) = Ok (Some h)
+alone place (h ∷ i ∷ hs) = Err (Conflict place (positions_in (in_source_order (h ∷ i ∷ hs))))
+
+-- a list is judged in order: the first stop ends it
+abbrev pub settle : {A : Type 0} → Place → List (Judged A) → Judged A
+settle place judged = and_then (holding judged) (alone place)
+
+-- the first, or the second where the first is Empty
+abbrev pub or_else : {A : Type 0} → Judged A → Judged A → Judged A
+or_else (Ok (Some h)) other = Ok (Some h)
+or_else (Ok None) other = other
+or_else (Err stop) other = Err stop
+
+-- a group is judged as the list of the groups that except it and, where that is Empty, by its own definitions, which
+-- come to `own`; a chain of exceptions that is longer than n is stuck
+abbrev pub judge : {A : Type 0} → Place → List (ℕ × ℕ) → (ℕ → Judged A) → ℕ → ℕ → Judged A
+judge place pairs own zero group = Err Stuck
+judge place pairs own (suc n) group = or_else (settle place (map (judge place pairs own n) (excepting pairs group))) (own group)

@@ -1,0 +1,34 @@
+-- the meaning of programs
+pub mod Replies
+pub mod Readings
+pub mod Comparing
+pub mod Operators
+pub mod Lists
+pub mod Composed
+pub mod Eval
+pub mod Groups
+pub mod Judging
+pub mod Targets
+pub mod Calls
+pub mod ItemValues
+pub mod Running
+pub mod Outcomes
+pub mod Names
+pub mod Fitting
+pub mod Signatures
+pub mod HasType
+pub mod Chains
+pub mod Expected
+pub mod Mentions
+pub mod Orders
+pub mod WellFormed
+pub mod Named
+pub mod Forests
+pub mod Logged
+pub mod LoggedEval
+pub mod LoggedTargets
+pub mod LoggedItems
+pub mod Deciders
+-- how typed programs end
+pub mod Endings
+pub mod Given

@@ -1,0 +1,87 @@
+-- What names stand for, and which types what they name has.
+use Rattle.std.specs.Prelude.{◌≡◌, ◌⊎◌, ℕ, zero, suc, ◌+◌, ◌&&◌, nat_eq, Bool, true, false, not, List, [], ◌∷◌, Option, Some, None, slice_get, if◌then◌else◌}
+use Rattle.cat_value.specs.declared.decls.Decls.{Decls}
+use Rattle.cat_value.specs.declared.declaration.Kind.{Kind}
+use Rattle.cat_value.specs.declared.declaration.Kind.TheVariants as kind
+use Rattle.cat_value.specs.declared.declaration.ItemDecl.{ItemDecl}
+use Rattle.cat_value.specs.declared.declaration.Scope.{Scope}
+use Rattle.cat_value.specs.Inputs.{must_be_given}
+
+-- the items of a scope
+abbrev pub items_in : Option Scope → List ItemDecl
+items_in None = []
+items_in (Some scope) = scope.items
+
+-- a variable that is an output of its scope
+abbrev pub is_output : Kind → Bool
+is_output kind.Output = true
+is_output kind.InputOutput = true
+is_output kind.ContextOutput = true
+is_output _ = false
+
+-- each element has a property
+abbrev pub AllHave : {A : Type 0} → (A → Type 0) → List A → Type 0
+AllHave Has [] = Unit {0}
+AllHave Has (x ∷ xs) = Has x × AllHave Has xs
+
+-- x is one of a list
+abbrev pub IsOneOf : {A : Type 0} → A → List A → Type 0
+IsOneOf x [] = ⊥
+IsOneOf x (y ∷ ys) = (x ≡ y) ⊎ IsOneOf x ys
+
+-- what names stand for: the declarations of the program, and the items of the scope
+pub record Names : Type 0 where
+  pub decls : Decls
+  pub items : List ItemDecl
+
+-- a called scope
+abbrev pub is_called : Kind → Bool
+is_called (kind.Called scope) = true
+is_called _ = false
+
+-- an empty list
+abbrev pub has_none : {A : Type 0} → List A → Bool
+has_none [] = true
+has_none (x ∷ xs) = false
+
+-- a variable that is no function, and so one with a value
+abbrev pub is_plain : ItemDecl → Bool
+is_plain item = not (is_called item.kind) && has_none item.params
+
+-- a function
+abbrev pub is_function : ItemDecl → Bool
+is_function item = not (is_called item.kind) && not (has_none item.params)
+
+-- the outputs of a scope
+abbrev pub outputs_in : List ItemDecl → List ItemDecl
+outputs_in [] = []
+outputs_in (item ∷ items) = if is_output item.kind then item ∷ outputs_in items else outputs_in items
+
+-- the items of the scope of that number, and its output k
+abbrev pub scope_items : Decls → ℕ → List ItemDecl
+scope_items ds scope = items_in (slice_get ds.scopes scope)
+
+-- output k of the scope of that number
+abbrev pub output_at : Decls → ℕ → ℕ → Option ItemDecl
+output_at ds scope k = slice_get (outputs_in (scope_items ds scope)) k
+
+-- n is one of some numbers
+abbrev pub is_in : ℕ → List ℕ → Bool
+is_in n [] = false
+is_in n (m ∷ ms) = if nat_eq n m then true else is_in n ms
+
+-- no number is there twice
+abbrev pub all_differ : List ℕ → Bool
+all_differ [] = true
+all_differ (n ∷ ns) = not (is_in n ns) && all_differ ns
+
+-- each number below a bound is in a list
+abbrev pub are_all_in : ℕ → List ℕ → Bool
+are_all_in zero ns = true
+are_all_in (suc n) ns = is_in n ns && are_all_in n ns
+
+-- each input of a scope that is no condition is given, from number n on
+abbrev pub inputs_given : ℕ → List ItemDecl → List ℕ → Bool
+inputs_given n [] fields = true
+inputs_given n (item ∷ items) fields =
+    (if must_be_given item.kind && not item.condition then is_in n fields else true) && inputs_given (n + 1) items fields

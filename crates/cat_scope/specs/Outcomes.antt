@@ -1,0 +1,22 @@
+-- The outcome of a scope of a program on an input.
+use Rattle.std.specs.Prelude.{ℕ, List, Option, Some, None, Result, Ok, Err}
+use Rattle.cat_value.specs.declared.value.Value.{Value}
+use Rattle.cat_value.specs.declared.outcome.Outcome.{Outcome}
+use Rattle.cat_value.specs.declared.outcome.Outcome.TheVariants as outcome
+use Rattle.cat_scope.specs.declared.stop.Stop.{Stop}
+use Rattle.cat_scope.specs.declared.stop.Stop.TheVariants as stop
+use Rattle.cat_scope.specs.declared.programs.Program.{Program}
+use Rattle.cat_scope.specs.Calls.{Items}
+use Rattle.cat_scope.specs.Running.{scope_reply}
+
+-- how a run ends; a stuck one has no outcome
+abbrev pub outcome_of : Result (List Value) Stop → Option Outcome
+outcome_of (Ok outputs) = Some (outcome.Value outputs)
+outcome_of (Err (stop.Conflict target places)) = Some (outcome.Conflict target places)
+outcome_of (Err (stop.NoValue target place)) = Some (outcome.NoValue target place)
+outcome_of (Err (stop.Fault fault place)) = Some (outcome.Fault fault place)
+outcome_of (Err stop.Stuck) = None
+
+-- the outcome of a scope on an input
+abbrev pub scope_outcome : Program → ℕ → Items → Option Outcome
+scope_outcome program scope input = outcome_of (scope_reply program scope input)

@@ -1,0 +1,56 @@
+-- What comes of evaluating: a value, or the first stop in its place.
+use Rattle.std.specs.Prelude.{List, ◌∷◌, Option, Some, None, Result, Ok, Err}
+use Rattle.cat_pos.specs.declared.pos.Pos.{Pos}
+use Rattle.cat_num.specs.declared.fault.NumFault.{NumFault}
+use Rattle.cat_num.specs.declared.fault.NumFault.TheVariants as num
+use Rattle.cat_date.specs.declared.fault.DateFault.{DateFault}
+use Rattle.cat_date.specs.declared.fault.DateFault.TheVariants as date
+use Rattle.cat_value.specs.declared.value.Value.{Value}
+use Rattle.cat_value.specs.declared.outcome.FaultKind.TheVariants as kind
+use Rattle.cat_scope.specs.declared.stop.Stop.{Stop}
+use Rattle.cat_scope.specs.declared.stop.Stop.TheVariants.{Fault, Stuck}
+
+-- a value, or a stop
+abbrev pub Reply : Type 0
+Reply = Result Value Stop
+
+-- goes on with what is there, and passes a stop on
+abbrev pub and_then : {A B : Type 0} → Result A Stop → (A → Result B Stop) → Result B Stop
+and_then (Ok a) next = next a
+and_then (Err stop) next = Err stop
+
+-- what may be missing, where nothing may be missing
+abbrev pub known : {A : Type 0} → Option A → Result A Stop
+known (Some a) = Ok a
+known None = Err Stuck
+
+-- the value of an item that is done
+abbrev pub done : Option (Option Value) → Reply
+done (Some value) = known value
+done None = Err Stuck
+
+-- one more in front of those that follow, or the first stop
+abbrev pub in_front : {A : Type 0} → Result A Stop → Result (List A) Stop → Result (List A) Stop
+in_front first rest = and_then first (λ a. and_then rest (λ more. Ok (a ∷ more)))
+
+-- the stop at a place for which an exact result does not fit, or has a divisor 0
+abbrev pub num_stop : Pos → NumFault → Stop
+num_stop place num.Overflow = Fault kind.Overflow place
+num_stop place num.DivisionByZero = Fault kind.DivisionByZero place
+
+-- the stop at a place of a date or a duration; none of the operators is refused as no day
+abbrev pub date_stop : Pos → DateFault → Stop
+date_stop place date.Overflow = Fault kind.Overflow place
+date_stop place date.AmbiguousDate = Fault kind.AmbiguousDate place
+date_stop place date.Uncomparable = Fault kind.Uncomparable place
+date_stop place date.NotADay = Stuck
+
+-- an exact result as a value, or its fault at a place
+abbrev pub exact : {A : Type 0} → Pos → (A → Value) → Result A NumFault → Reply
+exact place make (Ok a) = Ok (make a)
+exact place make (Err fault) = Err (num_stop place fault)
+
+-- a result of dates and durations, or its fault at a place
+abbrev pub dated : {A B : Type 0} → Pos → (A → B) → Result A DateFault → Result B Stop
+dated place make (Ok a) = Ok (make a)
+dated place make (Err fault) = Err (date_stop place fault)

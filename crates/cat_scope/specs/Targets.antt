@@ -1,0 +1,66 @@
+-- What a target of definitions comes to.
+use Rattle.std.specs.Prelude.{ℕ, ◌+◌, nat_eq, ◌&&◌, Bool, true, false, List, [], ◌∷◌, length, map, Option, Some, None, Ok, Err, slice_get, if◌then◌else◌}
+use Rattle.cat_pos.specs.declared.pos.Pos.{Pos}
+use Rattle.cat_value.specs.declared.value.Value.{Value}
+use Rattle.cat_value.specs.declared.value.Value.TheVariants.{Boolean}
+use Rattle.cat_value.specs.declared.outcome.Place.{Place}
+use Rattle.cat_scope.specs.declared.stop.Stop.TheVariants.{NoValue, Stuck}
+use Rattle.cat_scope.specs.declared.expr.Expr.{Expr}
+use Rattle.cat_scope.specs.declared.defs.Def.{Def}
+use Rattle.cat_scope.specs.Replies.{Reply, and_then}
+use Rattle.cat_scope.specs.Readings.{choose}
+use Rattle.cat_scope.specs.Groups.{Numbered, Group, groups_of, roots_of, excepts}
+use Rattle.cat_scope.specs.Judging.{Judged, settle, judge}
+
+-- two inner items are the same, or there is none in both
+abbrev pub same_inner : Option ℕ → Option ℕ → Bool
+same_inner None None = true
+same_inner (Some n) (Some m) = nat_eq n m
+same_inner _ _ = false
+
+-- two targets of one scope are the same
+abbrev pub same_target : Place → Place → Bool
+same_target p q = nat_eq p.item q.item && same_inner p.inner q.inner
+
+-- the definitions of a target, in source order, with their numbers from n on
+abbrev pub defs_from : Place → ℕ → List Def → List Numbered
+defs_from target n [] = []
+defs_from target n (d ∷ ds) = if same_target d.target target then (n, d) ∷ defs_from target (n + 1) ds else defs_from target (n + 1) ds
+
+-- a condition is true where there is none
+abbrev pub condition_of : (Expr → Reply) → Option Expr → Reply
+condition_of value None = Ok (Boolean true)
+condition_of value (Some e) = value e
+
+-- a definition that holds, with what it gives
+abbrev pub held_as : Numbered → Value → Judged Value
+held_as d v = Ok (Some (record { number = d.0; pos = d.1.pos; value = v }))
+
+-- a definition: its condition and, where that is true, at once its consequence
+abbrev pub judge_def : (Expr → Reply) → Numbered → Judged Value
+judge_def value d = and_then (condition_of value d.1.condition) (λ t. choose t (and_then (value d.1.consequence) (held_as d)) (Ok None))
+
+-- a group's own definitions
+abbrev pub judge_own : (Expr → Reply) → Place → Option Group → Judged Value
+judge_own value target None = Err Stuck
+judge_own value target (Some group) = settle target (map (judge_def value) group.defs)
+
+-- a target is judged as the list of its roots
+abbrev pub judge_groups : (Expr → Reply) → Place → List Group → Judged Value
+judge_groups value target groups =
+    settle target (map (judge target (excepts groups) (λ g. judge_own value target (slice_get groups g)) (length groups)) (roots_of groups))
+
+-- a target, by the definitions of its scope
+unfoldable pub judge_target : (Expr → Reply) → Place → List Def → Judged Value
+judge_target value target defs = judge_groups value target (groups_of (defs_from target 0 defs))
+
+-- in place of a value where no definition holds: false for a condition, else NoValue at a place
+abbrev pub absent : Place → Pos → Bool → Reply
+absent target place true = Ok (Boolean false)
+absent target place false = Err (NoValue target place)
+
+-- the value of a target
+abbrev pub value_or : Reply → Judged Value → Reply
+value_or other (Ok (Some h)) = Ok h.value
+value_or other (Ok None) = other
+value_or other (Err stop) = Err stop
