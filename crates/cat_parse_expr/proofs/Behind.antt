@@ -11,21 +11,23 @@ use Rattle.cat_tree.specs.declared.expression.Literal.TheVariants as literal
 use Rattle.cat_tree.specs.declared.expression.Node.{Node}
 use Rattle.cat_tree.specs.declared.expression.Node.TheVariants as leaf
 use Rattle.cat_tree.specs.declared.expression.Node.TheViews as node
-use Rattle.cat_tree.specs.Phrase.{Row, Parts, End, Word, Mark, ends_in_form, right_strength, left_strength, IsAt}
-use Rattle.cat_tree.specs.Grammar.{of_level, operator_kind, operator_level, left_level, phrase}
-use Rattle.cat_parse_expr.proofs.Equations.{arm_row}
-use Rattle.cat_parse_expr.specs.declared.state.State.{State}
-use Rattle.cat_parse_expr.specs.declared.state.State.TheVariants as state
+use Rattle.cat_tree.specs.Phrase.{Row, Parts, End, Word, Mark, ends_in_form, right_strength, left_strength, IsAt, At, Anywhere}
+use Rattle.cat_tree.specs.Wording.{of_level, match_of}
+use Rattle.cat_tree.specs.Operators.{operator_kind, operator_level, left_level}
+use Rattle.cat_tree.specs.Grammar.{phrase}
+use Rattle.cat_tree.proofs.Equations.{arm_row, phrase_Literal, phrase_Name, phrase_Case, phrase_Call, phrase_Test, phrase_Match}
+use Rattle.cat_parse_step.specs.declared.state.State.{State}
+use Rattle.cat_parse_step.specs.declared.state.State.TheVariants as state
 use Rattle.std.proofs.lemmas.Bool.{leb-true}
 use Rattle.cat_lex.specs.declared.token.TokenKind.{TokenKind}
-use Rattle.cat_tree.specs.Phrase.{At, Anywhere}
-use Rattle.cat_tree.specs.Grammar.{match_of}
 use Rattle.cat_parse_expr.proofs.Rows.{so_far, room, IsRow, Begun, ReachedAt}
-use Rattle.cat_parse_expr.proofs.Equations.{phrase_Literal, phrase_Name, phrase_Case, phrase_Call, phrase_Test, phrase_Match}
 use Rattle.cat_parse_expr.proofs.WordsAre.{some_same}
-use Rattle.cat_parse_expr.specs.Words.{Move, Onward, Grown}
-use Rattle.cat_parse_expr.specs.Machine.{some, strength_of, done}
-use Rattle.cat_parse_expr.specs.Steps.{if_at, Follow, Operated, Dotted, Tests, Other, follow_of, whole_next, whole_step}
+use Rattle.cat_parse_step.specs.Words.{Move, Onward, Grown}
+use Rattle.cat_parse_step.specs.Machine.{some, strength_of, done}
+use Rattle.cat_parse_step.specs.Starts.{if_at}
+use Rattle.cat_parse_step.specs.declared.follow.Follow.{Follow}
+use Rattle.cat_parse_step.specs.declared.follow.Follow.TheVariants.{Operated, Dotted, Tests, Other}
+use Rattle.cat_parse_step.specs.Steps.{follow_of, whole_next, whole_step}
 use Rattle.cat_parse_expr.proofs.Reaching.{push, finish, grow, token_is, MoveReached}
 
 -- from one state that has begun to the next

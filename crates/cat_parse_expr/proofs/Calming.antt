@@ -1,5 +1,5 @@
 -- A word that ends a form behind an operand is taken by no whole expression; and what is calm stops.
-use Rattle.std.proofs.Common.{inl, inr, ◌⊎◌, cond, leb, ◌&&◌, ◌≡◌, ℕ, suc, ◌<◌, ◌≤◌, Bool, true, false, List, [], ◌∷◌, ◌++◌, map, Option, Some, None, refl, sym, ap, subst, ◌∙◌, arith}
+use Rattle.std.proofs.Common.{inl, inr, ◌⊎◌, cond, leb, ◌&&◌, ◌≡◌, ℕ, suc, ◌<◌, ◌≤◌, Bool, true, false, List, [], ◌∷◌, ◌++◌, map, Option, Some, None, refl, sym, ap, subst, ◌∙◌, arith, min}
 use Rattle.cat_pos.specs.declared.pos.Pos.{Pos}
 use Rattle.cat_lex.specs.declared.token.Token.{Token}
 use Rattle.cat_lex.specs.declared.token.TokenKind.TheVariants as kind
@@ -17,29 +17,33 @@ use Rattle.cat_tree.specs.declared.expression.Node.{Node}
 use Rattle.cat_tree.specs.declared.expression.Node.TheVariants as leaf
 use Rattle.cat_tree.specs.declared.expression.Node.TheViews as node
 use Rattle.cat_tree.specs.Phrase.{Phrase, Row, Parts, End, Word, Part}
-use Rattle.cat_tree.specs.Grammar.{◌▹◌, key_at, words, part, operator_level, left_level, elements, phrase}
-use Rattle.cat_parse_expr.proofs.Equations.{arm_row}
-use Rattle.cat_parse_expr.specs.declared.state.State.{State}
-use Rattle.cat_parse_expr.specs.declared.state.State.TheVariants as state
-use Rattle.cat_parse_expr.specs.declared.state.Owner.TheVariants as owner
-use Rattle.cat_parse_expr.specs.declared.state.Matching.{Matching}
-use Rattle.cat_parse_expr.specs.declared.state.Part.{Part as Found}
-use Rattle.cat_parse_expr.specs.declared.state.Reading.{Reading}
+use Rattle.cat_tree.specs.Wording.{◌▹◌, key_at, words, part, match_of}
+use Rattle.cat_tree.specs.Operators.{operator_level, left_level}
+use Rattle.cat_tree.specs.Rows.{elements, arms}
+use Rattle.cat_tree.specs.Grammar.{phrase}
+use Rattle.cat_tree.specs.Literals.{span_bound}
+use Rattle.cat_tree.proofs.Equations.{arm_row, phrase_Call, phrase_Match}
+use Rattle.cat_parse_step.specs.declared.state.State.{State}
+use Rattle.cat_parse_step.specs.declared.state.State.TheVariants as state
+use Rattle.cat_parse_step.specs.declared.state.Owner.TheVariants as owner
+use Rattle.cat_parse_step.specs.declared.state.Matching.{Matching}
+use Rattle.cat_parse_step.specs.declared.state.Part.{Part as Found}
+use Rattle.cat_parse_step.specs.declared.state.Reading.{Reading}
 use Rattle.std.proofs.lemmas.Bool.{leb-true}
 use Rattle.cat_lex.specs.declared.token.TokenKind.{TokenKind}
-use Rattle.cat_tree.specs.Grammar.{match_of, arms}
 use Rattle.cat_parse_expr.proofs.Rows.{ReachedAt, Reached}
-use Rattle.cat_parse_expr.proofs.Equations.{phrase_Call, phrase_Match}
 use Rattle.cat_parse_expr.proofs.WordsAre.{on_of_is, on_then_is, on_else_is, on_in_is, on_with_is, on_to_is, on_content_is, on_with_pattern_is, on_we_have_is, on_such_that_is, on_close_is, on_bracket_is, on_semicolon_is, on_comma_is, on_dot_is, on_dashes_is, on_brace_is, on_end_brace_is, some_same}
-use Rattle.cat_parse_expr.specs.Words.{Move, Onward, Grown, on_anything, on_content, on_bracket, on_brace, on_end_brace, upper_of}
-use Rattle.cat_parse_expr.specs.Machine.{step, some, strength_of, moved, shift, takes, feed, fed_state, done}
+use Rattle.cat_parse_step.specs.Words.{Move, Onward, Grown, on_anything, on_content, upper_of, unit_of}
+use Rattle.cat_parse_step.specs.Marks.{on_bracket, on_brace, on_end_brace}
+use Rattle.cat_parse_step.specs.Machine.{step, some, strength_of, moved, shift, feed, done}
+use Rattle.cat_parse_step.specs.Operands.{takes, needs_part, fed_state}
 use Rattle.std.specs.Prelude.{ℤ, int_lt}
-use Rattle.cat_tree.specs.Grammar.{span_bound}
-use Rattle.cat_parse_expr.specs.Words.{unit_of}
-use Rattle.cat_parse_expr.specs.Steps.{if_at, Follow, Operated, Dotted, Tests, Other, follow_of, whole_next, whole_step, fields_end}
+use Rattle.cat_parse_step.specs.Starts.{if_at}
+use Rattle.cat_parse_step.specs.declared.follow.Follow.{Follow}
+use Rattle.cat_parse_step.specs.declared.follow.Follow.TheVariants.{Operated, Dotted, Tests, Other}
+use Rattle.cat_parse_step.specs.Steps.{follow_of, whole_next, whole_step, fields_end}
 use Rattle.cat_parse_expr.proofs.Behind.{if_is, both, node_same}
 use Rattle.cat_parse_expr.proofs.Hold.{is_dashes, is_lower, follow_pull, sign_pull, pull, op_pull, hold, row_hold, last_hold, own_hold}
-use Rattle.std.proofs.Common.{min}
 use Rattle.cat_parse_expr.specs.Reader.{next, Ends, asked, shifted, whole}
 use Rattle.cat_parse_expr.proofs.Meaning.{Taker, Stops, Calm}
 use Rattle.cat_parse_expr.proofs.Moves.{done_wants}
@@ -103,15 +107,15 @@ MoveDone (Onward q) n = done q ≡ Some n
 MoveDone (Grown q) n = done q ≡ Some n
 
 clash : (m : Move) (n : Node) → Unfinished m → MoveDone m n → ⊥
-clash (Onward q) n u d = absurd cc
-clash (Grown q) n u d = absurd cc
+clash (Onward q) n u d = let v = u.0 in absurd cc
+clash (Grown q) n u d = let v = u.0 in absurd cc
 
 either : (kd : TokenKind) (p : Token) (a b : Option Move) (m : Move) → ((p.kind ≡ kd) × (a ≡ Some m)) ⊎ (b ≡ Some m) → (p.kind ≡ kd → a ≡ Some m → is_closer p.kind ≡ true) → (b ≡ Some m → is_closer p.kind ≡ true) → is_closer p.kind ≡ true
 either kd p a b m (inl x) f g = f x.0 x.1
 either kd p a b m (inr x) f g = g x
 
 -- one word that leads to a state that isn't whole
-one_word : (kd : TokenKind) (p : Token) (q : State) (m : Move) (n : Node) → ((p.kind ≡ kd) × (some q ≡ Some m)) ⊎ (None ≡ Some m) → done q ≡ None → MoveDone m n → is_closer p.kind ≡ true
+one_word : (kd : TokenKind) (p : Token) (q : State) (m : Move) (n : Node) → ((p.kind ≡ kd) × (some q ≡ Some m)) ⊎ (None ≡ Some m) → (done q ≡ None) × (needs_part q ≡ false) → MoveDone m n → is_closer p.kind ≡ true
 one_word kd p q m n (inl x) u d = absurd (clash m n (opens_as (Onward q) m x.1 u) d)
 one_word kd p q m n (inr x) u d = absurd (no_some m x)
 
@@ -123,35 +127,35 @@ fed_closes k s (state.Right a o at) e b j p m n t h d = behind_whole k s (node.B
 fed_closes k s (state.Content c) e b j p m n t h d = behind_whole k s (node.Content c e) p m n h d
 fed_closes k s (state.Argument f args) e b j p m n t h d =
     let o3 = whole_step k s (node.Call f (args ++ e ∷ [])) p in
-    either (kind.Symbol symbol.Comma) p (some (state.Argument f (args ++ e ∷ []))) o3 m (on_comma_is (some (state.Argument f (args ++ e ∷ []))) o3 p.kind m h) (λ kd a. absurd (clash m n (opens_as (Onward (state.Argument f (args ++ e ∷ []))) m a refl) d)) (λ a. behind_whole k s (node.Call f (args ++ e ∷ [])) p m n a d)
+    either (kind.Symbol symbol.Comma) p (some (state.Argument f (args ++ e ∷ []))) o3 m (on_comma_is (some (state.Argument f (args ++ e ∷ []))) o3 p.kind m h) (λ kd a. absurd (clash m n (opens_as (Onward (state.Argument f (args ++ e ∷ []))) m a (refl, refl)) d)) (λ a. behind_whole k s (node.Call f (args ++ e ∷ [])) p m n a d)
 fed_closes k s (state.Prefixed o at) e b j p m n t h d = behind_whole k s (node.Prefixed o at e) p m n h d
 fed_closes k s (state.Sum at ty) e b j p m n t h d = behind_whole k s (node.Sum at ty e) p m n h d
 fed_closes k s (state.Open at) e b j p m n t h d = either (kind.Symbol symbol.RightParen) p (some (state.Complete (node.Parens at e) 9)) None m (on_close_is (some (state.Complete (node.Parens at e) 9)) None p.kind m h) (λ kd a. ap is_closer kd) (λ a. absurd (no_some m a))
 fed_closes k s (state.Element at es) e b j p m n t h d =
     let more = es ++ e ∷ [] in
     let o2 = on_bracket (some (state.Complete (node.List at more) 9)) None p.kind in
-    either (kind.Symbol symbol.Semicolon) p (some (state.Element at more)) o2 m (on_semicolon_is (some (state.Element at more)) o2 p.kind m h) (λ kd a. absurd (clash m n (opens_as (Onward (state.Element at more)) m a refl) d))
+    either (kind.Symbol symbol.Semicolon) p (some (state.Element at more)) o2 m (on_semicolon_is (some (state.Element at more)) o2 p.kind m h) (λ kd a. absurd (clash m n (opens_as (Onward (state.Element at more)) m a (refl, refl)) d))
     (λ y. either (kind.Symbol symbol.RightBracket) p (some (state.Complete (node.List at more) 9)) None m (on_bracket_is (some (state.Complete (node.List at more) 9)) None p.kind m y) (λ kd a. ap is_closer kd) (λ a. absurd (no_some m a)))
 fed_closes k s (state.FieldValue o fs w) e b j p m n t h d =
     let more = fs ++ record { name = w; value = e } ∷ [] in
     let o2 = on_end_brace (fields_end o more) None p.kind in
-    either (kind.Symbol symbol.MinusMinus) p (some (state.FieldName o more)) o2 m (on_dashes_is (some (state.FieldName o more)) o2 p.kind m h) (λ kd a. absurd (clash m n (opens_as (Onward (state.FieldName o more)) m a refl) d))
+    either (kind.Symbol symbol.MinusMinus) p (some (state.FieldName o more)) o2 m (on_dashes_is (some (state.FieldName o more)) o2 p.kind m h) (λ kd a. absurd (clash m n (opens_as (Onward (state.FieldName o more)) m a (refl, refl)) d))
     (λ y. either (kind.Symbol symbol.RightBrace) p (fields_end o more) None m (on_end_brace_is (fields_end o more) None p.kind m y) (λ kd a. ap is_closer kd) (λ a. absurd (no_some m a)))
-fed_closes k s (state.If at) e b j p m n t h d = one_word (kind.Word key.Then) p (state.Then at e) m n (on_then_is (some (state.Then at e)) None p.kind m h) refl d
-fed_closes k s (state.Then at c) e b j p m n t h d = one_word (kind.Word key.Else) p (state.Else at c e) m n (on_else_is (some (state.Else at c e)) None p.kind m h) refl d
+fed_closes k s (state.If at) e b j p m n t h d = one_word (kind.Word key.Then) p (state.Then at e) m n (on_then_is (some (state.Then at e)) None p.kind m h) (refl, refl) d
+fed_closes k s (state.Then at c) e b j p m n t h d = one_word (kind.Word key.Else) p (state.Else at c e) m n (on_else_is (some (state.Else at c e)) None p.kind m h) (refl, refl) d
 fed_closes k s (state.Else at c x) e b j p m n t h d = behind_whole k s (node.If at c x e) p m n h d
-fed_closes k s (state.Match at) e b j p m n t h d = one_word (kind.Pair pair.WithPattern) p (state.FirstArm at e) m n (on_with_pattern_is (some (state.FirstArm at e)) None p.kind m h) refl d
+fed_closes k s (state.Match at) e b j p m n t h d = one_word (kind.Pair pair.WithPattern) p (state.FirstArm at e) m n (on_with_pattern_is (some (state.FirstArm at e)) None p.kind m h) (refl, refl) d
 fed_closes k s (state.ArmBody x pat) e true j p m n t h d = either (kind.Symbol symbol.MinusMinus) p None None m (on_dashes_is None None p.kind m h) (λ kd a. absurd (no_some m a)) (λ a. absurd (no_some m a))
 fed_closes k s (state.ArmBody x pat) e false j p m n t h d =
     let y : Matching = record { pos = x.pos; tested = x.tested; arms = x.arms ++ record { pattern = pat; body = e } ∷ [] } in
-    one_word (kind.Symbol symbol.MinusMinus) p (state.ArmPattern y) m n (on_dashes_is (some (state.ArmPattern y)) None p.kind m h) refl d
-fed_closes k s (state.EachList each.ForAll at w) e b j p m n t h d = one_word (kind.Pair pair.WeHave) p (state.EachBody each.ForAll at w e) m n (on_we_have_is (some (state.EachBody each.ForAll at w e)) None p.kind m h) refl d
-fed_closes k s (state.EachList each.Exists at w) e b j p m n t h d = one_word (kind.Pair pair.SuchThat) p (state.EachBody each.Exists at w e) m n (on_such_that_is (some (state.EachBody each.Exists at w e)) None p.kind m h) refl d
-fed_closes k s (state.EachList each.MapEach at w) e b j p m n t h d = one_word (kind.Word key.To) p (state.EachBody each.MapEach at w e) m n (on_to_is (some (state.EachBody each.MapEach at w e)) None p.kind m h) refl d
-fed_closes k s (state.EachList each.ListOf at w) e b j p m n t h d = one_word (kind.Pair pair.SuchThat) p (state.EachBody each.ListOf at w e) m n (on_such_that_is (some (state.EachBody each.ListOf at w e)) None p.kind m h) refl d
+    one_word (kind.Symbol symbol.MinusMinus) p (state.ArmPattern y) m n (on_dashes_is (some (state.ArmPattern y)) None p.kind m h) (refl, refl) d
+fed_closes k s (state.EachList each.ForAll at w) e b j p m n t h d = one_word (kind.Pair pair.WeHave) p (state.EachBody each.ForAll at w e) m n (on_we_have_is (some (state.EachBody each.ForAll at w e)) None p.kind m h) (refl, refl) d
+fed_closes k s (state.EachList each.Exists at w) e b j p m n t h d = one_word (kind.Pair pair.SuchThat) p (state.EachBody each.Exists at w e) m n (on_such_that_is (some (state.EachBody each.Exists at w e)) None p.kind m h) (refl, refl) d
+fed_closes k s (state.EachList each.MapEach at w) e b j p m n t h d = one_word (kind.Word key.To) p (state.EachBody each.MapEach at w e) m n (on_to_is (some (state.EachBody each.MapEach at w e)) None p.kind m h) (refl, refl) d
+fed_closes k s (state.EachList each.ListOf at w) e b j p m n t h d = one_word (kind.Pair pair.SuchThat) p (state.EachBody each.ListOf at w e) m n (on_such_that_is (some (state.EachBody each.ListOf at w e)) None p.kind m h) (refl, refl) d
 fed_closes k s (state.EachBody x at w l) e b j p m n t h d = behind_whole k s (node.Each x at w l e) p m n h d
-fed_closes k s (state.CombineList at w) e b j p m n t h d = one_word (kind.Word key.In) p (state.CombineResult (record { pos = at; element = w; list = e })) m n (on_in_is (some (state.CombineResult (record { pos = at; element = w; list = e }))) None p.kind m h) refl d
-fed_closes k s (state.CombineStart c w) e b j p m n t h d = one_word (kind.Word key.With) p (state.CombineBody c w e) m n (on_with_is (some (state.CombineBody c w e)) None p.kind m h) refl d
+fed_closes k s (state.CombineList at w) e b j p m n t h d = one_word (kind.Word key.In) p (state.CombineResult (record { pos = at; element = w; list = e })) m n (on_in_is (some (state.CombineResult (record { pos = at; element = w; list = e }))) None p.kind m h) (refl, refl) d
+fed_closes k s (state.CombineStart c w) e b j p m n t h d = one_word (kind.Word key.With) p (state.CombineBody c w e) m n (on_with_is (some (state.CombineBody c w e)) None p.kind m h) (refl, refl) d
 fed_closes k s (state.CombineBody c w z) e b j p m n t h d = behind_whole k s (node.Combine c.pos c.element c.list w z e) p m n h d
 fed_closes k s _ e b j p m n t h d = absurd cc
 

@@ -4,20 +4,22 @@ use Rattle.std.proofs.lemmas.Bool.{leb-true, cases_lt}
 use Rattle.std.proofs.lemmas.List.{length-append}
 use Rattle.cat_lex.specs.declared.token.Token.{Token}
 use Rattle.cat_tree.specs.declared.expression.Node.{Node}
-use Rattle.cat_parse_expr.specs.declared.state.Part.{Part}
-use Rattle.cat_parse_expr.specs.declared.state.Reading.{Reading}
-use Rattle.cat_parse_expr.specs.Machine.{start, shift, takes, feed, done}
+use Rattle.cat_parse_step.specs.declared.state.Part.{Part}
+use Rattle.cat_parse_step.specs.declared.state.Reading.{Reading}
+use Rattle.cat_parse_step.specs.Machine.{start, shift, feed, done}
+use Rattle.cat_parse_step.specs.Operands.{takes, is_some}
 use Rattle.cat_parse_expr.proofs.Rows.{IsPart}
 use Rattle.cat_parse_expr.proofs.Hold.{hold}
 use Rattle.cat_parse_expr.proofs.Meaning.{Calm, Item, Tok, Sub, text, CalmAt, Path}
-use Rattle.cat_parse_expr.specs.Reader.{Outcome, Reader, too_deep, Best, best_of, stopped, Shifted, Asks, is_some, is_high, Going, fed, turn, run, starts, operand_of, read}
+use Rattle.cat_parse_expr.specs.Results.{Outcome, Reader, too_deep}
+use Rattle.cat_parse_expr.specs.Reader.{Best, best_of, stopped, Shifted, Asks, is_high, Going, fed, turn, run, starts, operand_of, read}
 use Rattle.cat_parse_expr.proofs.Laws.{part_high}
 use Rattle.cat_parse_expr.proofs.Ways.{part_some, path}
 use Rattle.cat_parse_expr.proofs.Closing.{pull_two}
 use Rattle.cat_parse_expr.proofs.Moves.{takes_low, feed_tallest, start_open, feed_wants}
 use Rattle.cat_parse_expr.proofs.Viable.{read_fine, IsLow, low_shift, low_feed, is_below}
-use Rattle.cat_parse_expr.proofs.Whole.{wholes, head, starts_shift, next_shift, asks_at, run_is}
-use Rattle.cat_parse_expr.proofs.High.{Deep, deep_fed, deep_stopped, high, path_grows, tail_of, head_or}
+use Rattle.cat_parse_expr.proofs.Whole.{wholes, no_test, head, starts_shift, next_shift, asks_at, run_is}
+use Rattle.cat_parse_expr.proofs.High.{Deep, deep_fed, deep_stopped, high, path_grows, path_low, tail_of, head_or}
 use Rattle.cat_parse_expr.proofs.Short.{Short, Leaves, leaves_of, run_short, short_fed}
 use Rattle.cat_parse_expr.proofs.Within.{Passes, ArePassed, Heads, whole_goes, passing}
 
@@ -85,16 +87,12 @@ module _ (low : ℕ) (withins : AreWithin (read low) low) (k bound : ℕ) (z : L
   nothing_left : (fuel : ℕ) (best : Option Best) (r : Reading) → Ends_in (go fuel best r z)
   nothing_left fuel best r fair = run_short (read low) low (read_fine low) k fuel best r z
 
-  cut_shift : (fuel : ℕ) (best : Option Best) (r more : Reading) (ts ws : List Token) (b : Bool) → end.tallest ≤ low ⊎ low < end.tallest → more.tallest ≤ end.tallest → is_high (suc low) more ≡ b
+  cut_shift : (fuel : ℕ) (best : Option Best) (r more : Reading) (ts ws : List Token) (b : Bool) → end.tallest ≤ low ⊎ low < end.tallest → (end.tallest ≤ low → is_high (suc low) more ≡ false) → is_high (suc low) more ≡ b
       → (is_high (suc low) more ≡ false → Ends_in (go fuel (best_of (done r.state) best r ts) more ws))
       → Ends_in (cond b (stopped (best_of (done r.state) best r ts) (too_deep ts)) (go fuel (best_of (done r.state) best r ts) more ws))
   cut_shift fuel best r more ts ws true c grows h goes fair =
       let le = fair (deep_stopped (best_of (done r.state) best r ts) (too_deep ts) refl) in
-      absurd (above (done more.state) h (omega arith))
-    where
-      above : (o : Option Node) → (is_some o && leb (suc low) more.tallest) ≡ true → more.tallest ≤ low → ⊥
-      above None h le = absurd cc
-      above (Some m) h le = let lt = leb-true (suc low) more.tallest h in omega arith
+      absurd (no_test (is_high (suc low) more) (grows le) h)
   cut_shift fuel best r more ts ws false c grows h goes fair = goes h fair
 
   -- inside an operand
@@ -129,7 +127,7 @@ module _ (low : ℕ) (withins : AreWithin (read low) low) (k bound : ℕ) (z : L
       let some = part_some j e f is in
       let heads = head_item i items q (b ∷ (d ++ z)) ((b ∷ d) ++ y) way h in
       ends_along (fed k (suc low) (go fuel) best r (read low j ts)) (go fuel best (feed r e) w)
-      (whole_goes (read low) low (read_fine low) (wholes low) k fuel j best r e bound i items end w a (read low j ts) heads (wholes low j e f w is low_e (calm_cut i items j e q b d y calm h)))
+      (whole_goes (read low) low (read_fine low) (wholes low) k fuel j best r e bound i items end w a (read low j ts) (omega (arith, part_high j e f is)) heads (wholes low j e f w is low_e (calm_cut i items j e q b d y calm h)))
       (cuts fuel best (feed r e) (q ∷ b ∷ d) y way is_low h (omega (arith, length-append f w)))
     where
       head_item : (i : Item) (items : List Item) (q : Token) (ws us : List Token) → Path k bound (feed r e) (i ∷ items) end → text (i ∷ items) ≡ q ∷ us → Heads (read low) low (read_fine low) (wholes low) k fuel j best r e bound i items end (q ∷ ws) a i
@@ -169,8 +167,8 @@ module _ (low : ℕ) (withins : AreWithin (read low) low) (k bound : ℕ) (z : L
       let shift_is : shift k r p ≡ Some t.0 = ap (shift k r) (sym same) ∙ t.1 in
       let ts = p ∷ (x ++ z) in
       ends_along (go (suc fuel) best r ts) (turn (operand_of (read low)) k (suc low) (go fuel) best r ts (Shifted t.0 (x ++ z))) (run_is (read low) low k fuel best r ts (Shifted t.0 (x ++ z)) (next_shift k r t.0 p (x ++ z) shift_is))
-      (cut_shift fuel best r t.0 ts (x ++ z) (is_high (suc low) t.0) (side (cases_lt low end.tallest)) (path_grows k bound items t.0 end t.2) refl
-      (λ flat. cutting items fuel (best_of (done r.state) best r ts) t.0 x y t.2 (low_shift (suc low) t.0 (done t.0.state) refl flat) (ap tail_of h) (omega arith)))
+      (cut_shift fuel best r t.0 ts (x ++ z) (is_high (suc low) t.0) (side (cases_lt low end.tallest)) (path_low k bound items t.0 end n low t.2 finished) refl
+      (λ flat. cutting items fuel (best_of (done r.state) best r ts) t.0 x y t.2 (low_shift (suc low) t.0 flat) (ap tail_of h) (omega arith)))
     where
       side : (low < end.tallest) ⊎ (end.tallest ≤ low) → end.tallest ≤ low ⊎ low < end.tallest
       side (inl a) = inr a

@@ -3,10 +3,11 @@ use Rattle.std.proofs.Common.{◌≡◌, ℕ, ◌≤◌, max, Bool, true, false,
 use Rattle.std.proofs.lemmas.Bool.{cases_lt}
 use Rattle.std.proofs.lemmas.List.{append-nil}
 use Rattle.cat_lex.specs.declared.token.Token.{Token}
-use Rattle.cat_parse_expr.specs.declared.state.Part.{Part}
+use Rattle.cat_parse_step.specs.declared.state.Part.{Part}
 use Rattle.cat_parse_expr.proofs.Rows.{IsPart}
 use Rattle.cat_parse_expr.proofs.Meaning.{Begins, Calm}
-use Rattle.cat_parse_expr.specs.Reader.{Stop, Outcome, Fails, Reads, stop_of, read}
+use Rattle.cat_parse_expr.specs.Results.{Stop, Outcome, Fails, Reads, stop_of}
+use Rattle.cat_parse_expr.specs.Reader.{read}
 use Rattle.cat_parse_expr.proofs.Laws.{pull_nil, op_pull_nil}
 use Rattle.cat_parse_expr.proofs.Viable.{Fine, read_fine, Viable, Taken}
 use Rattle.cat_parse_expr.proofs.Whole.{IsWhole, wholes}

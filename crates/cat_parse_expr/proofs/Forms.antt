@@ -1,5 +1,5 @@
 -- The way through the states of each form.
-use Rattle.std.proofs.Common.{cond, ◌≡◌, ℕ, zero, suc, ◌+◌, ◌≤◌, max, Bool, true, false, List, Some, None, refl, ap, subst, ◌∙◌, arith}
+use Rattle.std.proofs.Common.{cond, ◌≡◌, ℕ, zero, suc, ◌+◌, ◌≤◌, max, Bool, true, false, List, Some, None, refl, ap, subst, ◌∙◌, arith, min}
 use Rattle.cat_pos.specs.declared.pos.Pos.{Pos}
 use Rattle.cat_lex.specs.declared.token.Token.{Token}
 use Rattle.cat_lex.specs.declared.token.TokenKind.TheVariants as kind
@@ -18,22 +18,22 @@ use Rattle.cat_tree.specs.declared.expression.Each.TheVariants as each
 use Rattle.cat_tree.specs.declared.expression.Node.{Node}
 use Rattle.cat_tree.specs.declared.expression.Node.TheVariants as leaf
 use Rattle.cat_tree.specs.declared.expression.Node.TheViews as node
-use Rattle.cat_tree.specs.Phrase.{Phrase, Row, Parts, End, Word, Mark, Operand, height, right_strength, IsLevelled, AreLevelled, IsSpelling, AreSpelled}
-use Rattle.cat_tree.specs.Grammar.{◌▹◌, first, key_at, pair_at, symbol_at, «word», words, sign, lower, upper, part, of_level, case_parts, lists_of, type_parts, prefix_parts, prefix_level, phrase, base_kind}
-use Rattle.cat_parse_expr.specs.declared.state.State.{State}
-use Rattle.cat_parse_expr.specs.declared.state.State.TheVariants as state
-use Rattle.cat_tree.specs.Phrase.{At}
-use Rattle.cat_tree.specs.Grammar.{literal_parts, literal_rank, form, each_parts}
-use Rattle.cat_parse_expr.specs.Words.{Onward}
-use Rattle.cat_parse_expr.specs.Machine.{step, some, strength_of, done, start}
+use Rattle.cat_tree.specs.Phrase.{Phrase, Row, Parts, End, Word, Mark, Operand, height, right_strength, IsLevelled, AreLevelled, IsSpelling, AreSpelled, At}
+use Rattle.cat_tree.specs.Wording.{◌▹◌, first, key_at, pair_at, symbol_at, «word», words, sign, lower, upper, part, of_level, form}
+use Rattle.cat_tree.specs.Literals.{case_parts, lists_of, type_parts, base_kind, literal_parts, literal_rank, span_bound, unit_word}
+use Rattle.cat_tree.specs.Operators.{prefix_parts, prefix_level}
+use Rattle.cat_tree.specs.Grammar.{phrase}
+use Rattle.cat_tree.specs.Rows.{each_parts}
+use Rattle.cat_parse_step.specs.declared.state.State.{State}
+use Rattle.cat_parse_step.specs.declared.state.State.TheVariants as state
+use Rattle.cat_parse_step.specs.Words.{Onward}
+use Rattle.cat_parse_step.specs.Machine.{step, some, strength_of, done, start}
 use Rattle.std.specs.Prelude.{ℤ, int_lt, not}
 use Rattle.cat_tree.specs.declared.expression.Unit.{Unit as TimeUnit}
 use Rattle.cat_tree.specs.declared.expression.Unit.TheVariants as unit
 use Rattle.cat_tree.specs.declared.name.Base.TheVariants as base
-use Rattle.cat_tree.specs.Grammar.{span_bound, unit_word}
-use Rattle.cat_parse_expr.specs.Steps.{if_at}
+use Rattle.cat_parse_step.specs.Starts.{if_at}
 use Rattle.cat_parse_expr.proofs.Hold.{pull, row_hold}
-use Rattle.std.proofs.Common.{min}
 use Rattle.std.proofs.lemmas.Bool.{le-leb}
 use Rattle.cat_parse_expr.proofs.Meaning.{Calm}
 use Rattle.cat_tree.specs.declared.name.Type as types

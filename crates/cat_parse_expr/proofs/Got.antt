@@ -3,19 +3,21 @@ use Rattle.std.proofs.Common.{◌≡◌, ℕ, zero, suc, ◌<◌, ◌≤◌, Boo
 use Rattle.std.proofs.lemmas.List.{length-append}
 use Rattle.cat_lex.specs.declared.token.Token.{Token}
 use Rattle.cat_tree.specs.declared.expression.Node.{Node}
-use Rattle.cat_parse_expr.specs.declared.state.Part.{Part}
-use Rattle.cat_parse_expr.specs.declared.state.Reading.{Reading}
-use Rattle.cat_parse_expr.specs.Machine.{start, takes, feed, done}
+use Rattle.cat_parse_step.specs.declared.state.Part.{Part}
+use Rattle.cat_parse_step.specs.declared.state.Reading.{Reading}
+use Rattle.cat_parse_step.specs.Machine.{start, feed, done}
+use Rattle.cat_parse_step.specs.Operands.{takes}
 use Rattle.cat_parse_expr.proofs.Rows.{IsPart}
 use Rattle.cat_parse_expr.proofs.Hold.{hold}
 use Rattle.cat_parse_expr.proofs.Meaning.{Item, Tok, Sub, text, CalmAt, Path}
-use Rattle.cat_parse_expr.specs.Reader.{Stop, Outcome, Fails, Reads, Reader, too_deep, Best, whole, best_of, stopped, ended, Next, Shifted, Asks, Ends, next, is_high, Going, reaches, fed, turn, run, operand_of, read}
+use Rattle.cat_parse_expr.specs.Results.{Stop, Outcome, Fails, Reads, Reader, too_deep}
+use Rattle.cat_parse_expr.specs.Reader.{Best, whole, best_of, stopped, ended, Next, Shifted, Asks, Ends, next, is_high, Going, reaches, fed, turn, run, operand_of, read}
 use Rattle.cat_parse_expr.proofs.Laws.{part_high}
 use Rattle.cat_parse_expr.proofs.Ways.{part_some, path}
 use Rattle.cat_parse_expr.proofs.Moves.{takes_low, feed_tallest, feed_done, done_wants}
 use Rattle.cat_parse_expr.proofs.Viable.{AreFine, read_fine, Follows, next_follows}
 use Rattle.cat_parse_expr.proofs.Whole.{wholes, run_shift, run_feed}
-use Rattle.cat_parse_expr.proofs.High.{path_grows}
+use Rattle.cat_parse_expr.proofs.High.{path_grows, path_low}
 use Rattle.cat_parse_expr.proofs.Short.{Leaves, leaves_of, operand_leaves}
 use Rattle.cat_parse_expr.proofs.Within.{whole_goes, heads_of}
 
@@ -121,10 +123,9 @@ module _ (low : ℕ) (gots : AreGot (read low) low) (k bound : ℕ) (rest : List
   getting [] fuel best r t room = subst (λ (x : Reading). Got (length rest) (go fuel best x rest)) (sym t) (done_got (read low) low (read_fine low) k fuel best end n rest finished room)
   getting (Tok p ∷ items) zero best r t room = absurd (omega arith)
   getting (Tok p ∷ items) (suc fuel) best r t room =
-      let g = path_grows k bound items t.0 end t.2 in
       let ts = text items ++ rest in
       got_along (length rest) (go (suc fuel) best r (p ∷ ts)) (go fuel (best_of (done r.state) best r (p ∷ ts)) t.0 ts)
-      (run_shift (read low) low k fuel best r t.0 p ts t.1 (omega arith))
+      (run_shift (read low) low k fuel best r t.0 p ts t.1 (path_low k bound items t.0 end n low t.2 finished fits))
       (getting items fuel (best_of (done r.state) best r (p ∷ ts)) t.0 t.2 (omega arith))
   getting (Sub e f ∷ items) zero best r t room = let some = part_some t.0 e f t.2 in absurd (omega arith)
   getting (Sub e f ∷ items) (suc fuel) best r t room =
@@ -143,7 +144,7 @@ module _ (low : ℕ) (gots : AreGot (read low) low) (k bound : ℕ) (rest : List
       by (i ∷ items) calm way room2 room3 gets =
           let w = text (i ∷ items) ++ rest in
           got_along (length rest) (fed k (suc low) (go fuel) best r (read low t.0 (f ++ w))) (go fuel best (feed r e) w)
-          (whole_goes (read low) low (read_fine low) (wholes low) k fuel t.0 best r e bound i items end w t.1 (read low t.0 (f ++ w)) (heads_of (read low) low (read_fine low) (wholes low) k fuel t.0 best r e bound i items end w rest t.1 way refl) (wholes low t.0 e f w t.2 (omega (arith, feed_tallest r e, path_grows k bound (i ∷ items) (feed r e) end way)) (calm rest)))
+          (whole_goes (read low) low (read_fine low) (wholes low) k fuel t.0 best r e bound i items end w t.1 (read low t.0 (f ++ w)) (omega (arith, part_high t.0 e f t.2, feed_tallest r e, path_grows k bound (i ∷ items) (feed r e) end way)) (heads_of (read low) low (read_fine low) (wholes low) k fuel t.0 best r e bound i items end w rest t.1 way refl) (wholes low t.0 e f w t.2 (omega (arith, feed_tallest r e, path_grows k bound (i ∷ items) (feed r e) end way)) (calm rest)))
           (gets fuel best (feed r e) way room2)
 
 zero_got : AreGot (read zero) zero

@@ -1,5 +1,5 @@
 -- The way through the states of forms that begin with an expression.
-use Rattle.std.proofs.Common.{cond, leb, ◌&&◌, ◌≡◌, ℕ, suc, ◌≤◌, Bool, true, false, List, [], ◌∷◌, ◌++◌, map, Option, Some, None, refl, sym, ap, subst, ◌∙◌, append_assoc, arith}
+use Rattle.std.proofs.Common.{cond, leb, ◌&&◌, ◌≡◌, ℕ, suc, ◌≤◌, Bool, true, false, List, [], ◌∷◌, ◌++◌, map, Option, Some, None, refl, sym, ap, subst, ◌∙◌, append_assoc, arith, min}
 use Rattle.cat_pos.specs.declared.pos.Pos.{Pos}
 use Rattle.cat_lex.specs.declared.token.Token.{Token}
 use Rattle.cat_lex.specs.declared.token.TokenKind.TheVariants as kind
@@ -15,37 +15,38 @@ use Rattle.cat_tree.specs.declared.expression.Node.{Node}
 use Rattle.cat_tree.specs.declared.expression.Node.TheVariants as leaf
 use Rattle.cat_tree.specs.declared.expression.Node.TheViews as node
 use Rattle.cat_tree.specs.Phrase.{Phrase, Row, End, ends_in_form, right_strength, left_strength, IsLevelled, IsSpelling, AreSpelled}
-use Rattle.cat_tree.specs.Grammar.{◌▹◌, first, key_at, pair_at, words, sign, lower, upper, part, left, of_level, case_parts, operator_kind, operator_level, left_level, phrase}
-use Rattle.cat_parse_expr.proofs.Equations.{arm_row}
-use Rattle.cat_parse_expr.specs.declared.state.State.{State}
-use Rattle.cat_parse_expr.specs.declared.state.State.TheVariants as state
-use Rattle.cat_parse_expr.specs.declared.state.Owner.TheVariants as owner
-use Rattle.cat_parse_expr.specs.declared.state.Matching.{Matching}
-use Rattle.cat_parse_expr.specs.declared.state.Part.{Part as Found}
-use Rattle.cat_parse_expr.specs.declared.state.Reading.{Reading}
+use Rattle.cat_tree.specs.Wording.{◌▹◌, first, key_at, pair_at, words, sign, lower, upper, part, left, of_level, match_of}
+use Rattle.cat_tree.specs.Literals.{case_parts, span_bound}
+use Rattle.cat_tree.specs.Operators.{operator_kind, operator_level, left_level}
+use Rattle.cat_tree.specs.Grammar.{phrase}
+use Rattle.cat_tree.specs.Rows.{arms}
+use Rattle.cat_tree.proofs.Equations.{arm_row, phrase_Match}
+use Rattle.cat_parse_step.specs.declared.state.State.{State}
+use Rattle.cat_parse_step.specs.declared.state.State.TheVariants as state
+use Rattle.cat_parse_step.specs.declared.state.Owner.TheVariants as owner
+use Rattle.cat_parse_step.specs.declared.state.Matching.{Matching}
+use Rattle.cat_parse_step.specs.declared.state.Part.{Part as Found}
+use Rattle.cat_parse_step.specs.declared.state.Reading.{Reading}
 use Rattle.std.proofs.lemmas.List.{append-nil}
 use Rattle.cat_lex.specs.declared.token.TokenKind.{TokenKind}
-use Rattle.cat_tree.specs.Grammar.{match_of, arms}
 use Rattle.cat_parse_expr.proofs.Rows.{Reached}
-use Rattle.cat_parse_expr.proofs.Equations.{phrase_Match}
-use Rattle.cat_parse_expr.specs.Words.{Move, Onward, Grown, on_of, on_content, on_comma, on_dot, on_brace}
-use Rattle.cat_parse_expr.specs.Machine.{step, some, strength_of, moved, shift, feed, done, start}
+use Rattle.cat_parse_step.specs.Words.{Move, Onward, Grown, on_of, on_content, unit_of}
+use Rattle.cat_parse_step.specs.Marks.{on_comma, on_dot, on_brace}
+use Rattle.cat_parse_step.specs.Machine.{step, some, strength_of, moved, shift, feed, done, start}
 use Rattle.std.specs.Prelude.{int_lt}
 use Rattle.cat_tree.specs.declared.expression.Operator.{Operator}
 use Rattle.cat_tree.specs.declared.expression.Operator.TheVariants as op
 use Rattle.cat_tree.specs.declared.expression.Unit.{Unit as TimeUnit}
-use Rattle.cat_tree.specs.Grammar.{span_bound}
-use Rattle.cat_parse_expr.specs.Words.{unit_of}
-use Rattle.cat_parse_expr.specs.Steps.{if_at, Operated, Tests, follow_of, whole_next, whole_step}
+use Rattle.cat_parse_step.specs.Starts.{if_at}
+use Rattle.cat_parse_step.specs.declared.follow.Follow.TheVariants.{Operated, Tests}
+use Rattle.cat_parse_step.specs.Steps.{follow_of, whole_next, whole_step}
 use Rattle.cat_parse_expr.proofs.Moves.{operator_low}
 use Rattle.cat_parse_expr.proofs.Behind.{done_row, node_same, strong_is}
 use Rattle.cat_parse_expr.proofs.Hold.{is_dashes, follow_pull, sign_pull, pull, row_hold}
-use Rattle.std.proofs.Common.{min}
 use Rattle.std.proofs.lemmas.Bool.{le-leb}
 use Rattle.cat_parse_expr.proofs.Meaning.{Item, Tok, Sub, text, Calm, CalmAt, Path}
-use Rattle.cat_parse_expr.proofs.Walks.{reading_at, part_of, part_is, Walk, end_walk, word_at, word_any, fed_reading}
+use Rattle.cat_parse_expr.proofs.Walks.{reading_at, part_of, part_is, Walk, end_walk, word_at, word_any, fed_reading, shift_to, any_step, fed_is}
 use Rattle.cat_parse_expr.proofs.Tails.{left_holds}
-use Rattle.cat_parse_expr.proofs.Walks.{shift_to, any_step, fed_is}
 use Rattle.cat_parse_expr.proofs.Forms.{Goes, level_calm}
 use Rattle.cat_parse_expr.proofs.Laws.{reached_start, reached_shift, reached_feed}
 

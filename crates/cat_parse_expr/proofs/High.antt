@@ -1,21 +1,24 @@
 -- What is too high is not read past the height, and no outcome stops earlier than reading began.
-use Rattle.std.proofs.Common.{◌≡◌, ℕ, zero, suc, ◌<◌, ◌≤◌, Bool, true, false, cond, ◌&&◌, not, nat_eq, leb, List, [], ◌∷◌, ◌++◌, length, Option, Some, None, refl, sym, ap, subst, ◌∙◌, append_assoc, arith, inl, inr}
-use Rattle.std.proofs.lemmas.Bool.{cases_lt}
+use Rattle.std.proofs.Common.{◌≡◌, ℕ, zero, suc, ◌<◌, ◌≤◌, Bool, true, false, cond, ◌&&◌, ◌||◌, not, nat_eq, leb, List, [], ◌∷◌, ◌++◌, length, Option, Some, None, refl, sym, ap, subst, ◌∙◌, append_assoc, arith, inl, inr}
+use Rattle.std.proofs.lemmas.Bool.{cases_lt, lt-leb}
 use Rattle.std.proofs.lemmas.List.{length-append}
 use Rattle.cat_lex.specs.declared.token.Token.{Token}
 use Rattle.cat_tree.specs.declared.expression.Node.{Node}
-use Rattle.cat_parse_expr.specs.declared.state.Part.{Part}
-use Rattle.cat_parse_expr.specs.declared.state.Reading.{Reading}
-use Rattle.cat_parse_expr.specs.Machine.{start, shift, takes, feed, done}
+use Rattle.cat_parse_step.specs.declared.state.Part.{Part}
+use Rattle.cat_parse_step.specs.declared.state.Reading.{Reading}
+use Rattle.cat_parse_step.specs.Machine.{start, shift, feed, done}
+use Rattle.cat_parse_step.specs.Operands.{takes, needs_part, is_some}
 use Rattle.cat_parse_expr.proofs.Rows.{IsPart}
 use Rattle.cat_parse_expr.proofs.Hold.{hold}
 use Rattle.cat_parse_expr.proofs.Meaning.{Item, Tok, Sub, text, CalmAt, Path, Taker}
-use Rattle.cat_parse_expr.specs.Reader.{Stop, Outcome, Fails, Reads, Reader, here, too_deep, stop_of, Best, best_of, stopped, Next, Shifted, Asks, Ends, next, is_some, is_high, Going, reaches, fed, turn, run, starts, operand_of, read}
+use Rattle.cat_parse_expr.specs.Results.{Stop, Outcome, Fails, Reads, Reader, here, too_deep, stop_of}
+use Rattle.cat_parse_expr.specs.Reader.{Best, best_of, stopped, Next, Shifted, Asks, Ends, next, is_high, Going, reaches, fed, turn, run, starts, operand_of, read}
+use Rattle.cat_parse_expr.proofs.Laws.{part_high}
 use Rattle.cat_parse_expr.proofs.Ways.{part_some, path}
 use Rattle.cat_parse_expr.proofs.Calming.{closes}
-use Rattle.cat_parse_expr.proofs.Moves.{feed_tallest, start_open, shift_tallest, feed_wants}
+use Rattle.cat_parse_expr.proofs.Moves.{feed_tallest, start_open, shift_tallest, feed_wants, done_needs, needs_no_word}
 use Rattle.cat_parse_expr.proofs.Viable.{IsLow, low_shift, low_feed, is_below}
-use Rattle.cat_parse_expr.proofs.Whole.{IsWhole, AreWhole, wholes, head, starts_shift, next_shift, next_asks, run_is, nat_same}
+use Rattle.cat_parse_expr.proofs.Whole.{IsWhole, AreWhole, wholes, no_test, not_high, head, starts_shift, next_shift, next_asks, run_is, nat_same}
 
 abbrev pub Deep : Outcome → Type 0
 Deep o = (stop_of o).deep ≡ true
@@ -41,9 +44,35 @@ path_grows k bound [] r end t = omega (arith, ap (λ (x : Reading). x.tallest) t
 path_grows k bound (Tok p ∷ items) r end t = omega (arith, shift_tallest k r t.0 p t.1, path_grows k bound items t.0 end t.2)
 path_grows k bound (Sub e f ∷ items) r end t = omega (arith, feed_tallest r e, path_grows k bound items (feed r e) end t.4)
 
+-- along a path to what is whole and low enough, nothing is high
+pub path_low : (k bound : ℕ) (items : List Item) (more end : Reading) (n : Node) (low : ℕ) → Path k bound more items end → done end.state ≡ Some n → end.tallest ≤ low → is_high (suc low) more ≡ false
+path_low k bound items more end n low t d fits =
+    let g = path_grows k bound items more end t in
+    not_high (suc low) more (omega arith) (by items t)
+  where
+    by : (items : List Item) → Path k bound more items end → needs_part more.state ≡ true → 1 < suc low
+    by [] t h = absurd (no_test (needs_part end.state) (done_needs end.state n d) (ap (λ (x : Reading). needs_part x.state) (sym t) ∙ h))
+    by (Tok p ∷ items) t h = absurd (needs_no_word k more t.0 p h t.1)
+    by (Sub e f ∷ items) t h = omega (arith, part_high t.0 e f t.2, feed_tallest more e, path_grows k bound items (feed more e) end t.4)
+
 pub done_of_high : (o : Option Node) (c : Bool) → (is_some o && c) ≡ true → (m : Node) × (o ≡ Some m)
 done_of_high None c h = absurd cc
 done_of_high (Some m) c h = (m, refl)
+
+-- the first of two tests, where the other one can't hold
+pub first_holds : (a b c : Bool) → c ≡ false → (a || (b && c)) ≡ true → a ≡ true
+first_holds true b c e h = refl
+first_holds false true c e h = absurd cc
+first_holds false false c e h = absurd cc
+
+pub first_holds_before : (a b c : Bool) → b ≡ false → (a || (b && c)) ≡ true → a ≡ true
+first_holds_before true b c e h = refl
+first_holds_before false true c e h = absurd cc
+first_holds_before false false c e h = absurd cc
+
+-- with room for a part, what is high is whole
+pub high_done : (low : ℕ) (more : Reading) → 0 < low → is_high (suc low) more ≡ true → (m : Node) × (done more.state ≡ Some m)
+high_done low more room high = done_of_high (done more.state) (leb (suc low) more.tallest) (first_holds (is_some (done more.state) && leb (suc low) more.tallest) (needs_part more.state) (leb (suc low) 1) (lt-leb (suc low) 1 (omega arith)) high)
 
 abbrev pub tail_of : List Token → List Token
 tail_of [] = []
@@ -69,16 +98,16 @@ module _ (reader : ℕ → Reader) (low : ℕ) (whole_is : AreWhole reader low) 
   shift_sinks : (fuel : ℕ) (best : Option Best) (r more : Reading) (p : Token) (items : List Item) (b : Bool) → Sinks items → Path k bound more items end → length (text items ++ rest) < fuel → is_high (suc low) more ≡ b
       → Deep (cond b (stopped (best_of (done r.state) best r (p ∷ (text items ++ rest))) (too_deep (p ∷ (text items ++ rest)))) (go fuel (best_of (done r.state) best r (p ∷ (text items ++ rest))) more (text items ++ rest)))
   shift_sinks fuel best r more p items true sinks t room h = deep_stopped (best_of (done r.state) best r (p ∷ (text items ++ rest))) (too_deep (p ∷ (text items ++ rest))) refl
-  shift_sinks fuel best r more p items false sinks t room h = sinks fuel (best_of (done r.state) best r (p ∷ (text items ++ rest))) more t (low_shift (suc low) more (done more.state) refl h) room
+  shift_sinks fuel best r more p items false sinks t room h = sinks fuel (best_of (done r.state) best r (p ∷ (text items ++ rest))) more t (low_shift (suc low) more h) room
 
   -- behind an operand that was read whole, where it broke off at the next token
-  broke : (fuel j : ℕ) (best : Option Best) (r more : Reading) (e : Part) (q : Token) (items : List Item) (ts : List Token) (b : Bool) → takes r.state ≡ Some j → Taker q → Sinks (Tok q ∷ items) → shift k (feed r e) q ≡ Some more → Path k bound more items end → IsLow (suc low) (feed r e)
+  broke : (fuel j : ℕ) (best : Option Best) (r more : Reading) (e : Part) (q : Token) (items : List Item) (ts : List Token) (b : Bool) → 0 < low → takes r.state ≡ Some j → Taker q → Sinks (Tok q ∷ items) → shift k (feed r e) q ≡ Some more → Path k bound more items end → IsLow (suc low) (feed r e)
       → length (q ∷ (text items ++ rest)) < fuel → text items ++ rest ≡ ts → is_high (suc low) more ≡ b
       → Deep (fed k (suc low) (go fuel) best r (Reads e (q ∷ (text items ++ rest)) (Some (here ts))))
-  broke fuel j best r more e q items ts true a taker sinks t way is_low room same h =
-      let d = done_of_high (done more.state) (leb (suc low) more.tallest) h in
+  broke fuel j best r more e q items ts true some a taker sinks t way is_low room same h =
+      let d = high_done low more some h in
       absurd (closes k j r more e q d.0 a t d.1 taker)
-  broke fuel j best r more e q items ts false a taker sinks t way is_low room same h =
+  broke fuel j best r more e q items ts false some a taker sinks t way is_low room same h =
       let w = text items ++ rest in
       let yes : reaches (suc low) (next k (feed r e) (q ∷ w)) (here ts) ≡ true =
       ap (λ (x : Next). reaches (suc low) x (here ts)) (next_shift k (feed r e) more q w t)
@@ -87,14 +116,14 @@ module _ (reader : ℕ → Reader) (low : ℕ) (whole_is : AreWhole reader low) 
       subst (λ (x : Bool). Deep (cond x (go fuel best (feed r e) (q ∷ w)) (stopped (best_of (done (feed r e).state) best (feed r e) (q ∷ w)) (here ts)))) (sym yes)
       (sinks fuel best (feed r e) (more, t, way) is_low room)
 
-  behind : (fuel j : ℕ) (best : Option Best) (r : Reading) (e : Part) (i : Item) (items : List Item) (o : Outcome) → takes r.state ≡ Some j → Sinks (i ∷ items) → Path k bound (feed r e) (i ∷ items) end → IsLow (suc low) (feed r e) → length (text (i ∷ items) ++ rest) < fuel → IsWhole e (text (i ∷ items) ++ rest) o
+  behind : (fuel j : ℕ) (best : Option Best) (r : Reading) (e : Part) (i : Item) (items : List Item) (o : Outcome) → 0 < low → takes r.state ≡ Some j → Sinks (i ∷ items) → Path k bound (feed r e) (i ∷ items) end → IsLow (suc low) (feed r e) → length (text (i ∷ items) ++ rest) < fuel → IsWhole e (text (i ∷ items) ++ rest) o
       → Deep (fed k (suc low) (go fuel) best r o)
-  behind fuel j best r e i items o a sinks t is_low room (inl is) = deep_along (fed k (suc low) (go fuel) best r o) (go fuel best (feed r e) (text (i ∷ items) ++ rest)) (ap (fed k (suc low) (go fuel) best r) is) (sinks fuel best (feed r e) t is_low room)
-  behind fuel j best r e (Tok q) items o a sinks t is_low room (inr w) =
+  behind fuel j best r e i items o some a sinks t is_low room (inl is) = deep_along (fed k (suc low) (go fuel) best r o) (go fuel best (feed r e) (text (i ∷ items) ++ rest)) (ap (fed k (suc low) (go fuel) best r) is) (sinks fuel best (feed r e) t is_low room)
+  behind fuel j best r e (Tok q) items o some a sinks t is_low room (inr w) =
       let same : q ≡ w.0 = ap (head_or q) w.2 in
       deep_along (fed k (suc low) (go fuel) best r o) (fed k (suc low) (go fuel) best r (Reads e (q ∷ (text items ++ rest)) (Some (here w.1)))) (ap (fed k (suc low) (go fuel) best r) w.3)
-      (broke fuel j best r t.0 e q items w.1 (is_high (suc low) t.0) a (subst Taker (sym same) w.4) sinks t.1 t.2 is_low room (ap tail_of w.2) refl)
-  behind fuel j best r e (Sub f x) items o a sinks t is_low room (inr w) = let same : None ≡ Some t.0 = sym (feed_wants r e j a) ∙ t.1 in absurd cc
+      (broke fuel j best r t.0 e q items w.1 (is_high (suc low) t.0) some a (subst Taker (sym same) w.4) sinks t.1 t.2 is_low room (ap tail_of w.2) refl)
+  behind fuel j best r e (Sub f x) items o some a sinks t is_low room (inr w) = let same : None ≡ Some t.0 = sym (feed_wants r e j a) ∙ t.1 in absurd cc
 
   no_items : (r : Reading) → r ≡ end → IsLow (suc low) r → ⊥
   no_items r t is_low = let h = is_low n (ap (λ (x : Reading). done x.state) t ∙ finished) in omega (arith, ap (λ (x : Reading). x.tallest) t)
@@ -115,7 +144,7 @@ module _ (reader : ℕ → Reader) (low : ℕ) (whole_is : AreWhole reader low) 
     where
       last : (items : List Item) → CalmAt bound items j e → Path k bound (feed r e) items end → Sinks items → e.height ≤ low → r.tallest < suc low → length (text items ++ rest) < fuel → Deep (fed k (suc low) (go fuel) best r (reader j (f ++ (text items ++ rest))))
       last [] calm t sinks less small room = absurd (no_items (feed r e) t (low_feed low r e small less))
-      last (i ∷ items) calm t sinks less small room = behind fuel j best r e i items (reader j (f ++ (text (i ∷ items) ++ rest))) a sinks t (low_feed low r e small less) room (whole_is j e f (text (i ∷ items) ++ rest) is less (calm rest))
+      last (i ∷ items) calm t sinks less small room = behind fuel j best r e i items (reader j (f ++ (text (i ∷ items) ++ rest))) (omega (arith, part_high j e f is)) a sinks t (low_feed low r e small less) room (whole_is j e f (text (i ∷ items) ++ rest) is less (calm rest))
 
   pub sinking : (items : List Item) → Sinks items
   sinking [] fuel best r t is_low room = absurd (no_items r t is_low)

@@ -7,8 +7,11 @@ use Rattle.cat_lex.specs.declared.symbol.Symbol.TheVariants as symbol
 use Rattle.cat_lex.specs.declared.words.Keyword.TheVariants as key
 use Rattle.cat_tree.specs.declared.expression.Node.{Node}
 use Rattle.cat_tree.specs.Phrase.{Phrase, Row, Parts, End, Word, Part, Rank}
-use Rattle.cat_tree.specs.Grammar.{phrase, operator_level}
-use Rattle.cat_parse_expr.specs.Steps.{Follow, Operated, Dotted, Tests, Other, follow_of}
+use Rattle.cat_tree.specs.Grammar.{phrase}
+use Rattle.cat_tree.specs.Operators.{operator_level}
+use Rattle.cat_parse_step.specs.declared.follow.Follow.{Follow}
+use Rattle.cat_parse_step.specs.declared.follow.Follow.TheVariants.{Operated, Dotted, Tests, Other}
+use Rattle.cat_parse_step.specs.Steps.{follow_of}
 
 abbrev pub is_dashes : TokenKind → Bool
 is_dashes (kind.Symbol symbol.MinusMinus) = true

@@ -2,17 +2,16 @@
 use Rattle.std.proofs.Common.{◌≡◌, ℕ, zero, suc, ◌<◌, ◌≤◌, false, List, [], ◌∷◌, ◌++◌, Option, Some, None, cond, refl, sym, ap, subst, append_assoc, arith, inl, inr}
 use Rattle.cat_lex.specs.declared.token.Token.{Token}
 use Rattle.cat_tree.specs.declared.expression.Node.{Node}
-use Rattle.cat_parse_expr.specs.declared.state.State.{State}
-use Rattle.cat_parse_expr.specs.declared.state.Part.{Part}
-use Rattle.cat_parse_expr.specs.declared.state.Reading.{Reading}
-use Rattle.cat_parse_expr.specs.Machine.{start, shift, takes, feed, done}
-use Rattle.cat_parse_expr.proofs.Rows.{IsPart, Reached}
+use Rattle.cat_parse_step.specs.declared.state.State.{State}
+use Rattle.cat_parse_step.specs.declared.state.Part.{Part}
+use Rattle.cat_parse_step.specs.declared.state.Reading.{Reading}
+use Rattle.cat_parse_step.specs.Machine.{start, shift, feed, done, step, strength_of, moved}
+use Rattle.cat_parse_step.specs.Operands.{takes}
+use Rattle.cat_parse_expr.proofs.Rows.{IsPart, Reached, ReachedAt}
 use Rattle.cat_parse_expr.proofs.Hold.{pull, op_pull}
 use Rattle.cat_tree.specs.Phrase.{Phrase, Row, height}
 use Rattle.cat_tree.specs.Grammar.{phrase}
-use Rattle.cat_parse_expr.specs.Words.{Move, Onward, Grown}
-use Rattle.cat_parse_expr.specs.Machine.{step, strength_of, moved}
-use Rattle.cat_parse_expr.proofs.Rows.{ReachedAt}
+use Rattle.cat_parse_step.specs.Words.{Move, Onward, Grown}
 use Rattle.cat_parse_expr.proofs.Reaching.{MoveReached}
 use Rattle.cat_parse_expr.proofs.Behind.{done_row}
 use Rattle.cat_parse_expr.proofs.Stepping.{step_reached}

@@ -1,6 +1,5 @@
 pub mod WordsAre
 pub mod Moves
-pub mod Equations
 pub mod Induction
 pub mod Rows
 pub mod Hold
@@ -28,3 +27,7 @@ pub mod Cut
 pub mod Got
 pub mod Exact
 pub mod Places
+pub mod Sane
+pub mod TurnLemmas
+pub mod TakeLemmas
+pub mod Answered

@@ -14,27 +14,27 @@ use Rattle.cat_tree.specs.declared.expression.Node.{Node}
 use Rattle.cat_tree.specs.declared.expression.Node.TheViews as node
 use Rattle.cat_tree.specs.declared.expression.FieldValue.{FieldValue}
 use Rattle.cat_tree.specs.declared.expression.Arm.{Arm}
-use Rattle.cat_tree.specs.Phrase.{Row, Parts, End, Word, Part, Operand, Inner, height, ends_in_form, ends_in_match, IsLevelled, AreLevelled, AreSpelled}
-use Rattle.cat_tree.specs.Grammar.{◌▹◌, key_at, pair_at, symbol_at, «word», words, sign, lower, upper, part, of_level, fields, elements, pattern_parts, phrase}
-use Rattle.cat_parse_expr.proofs.Equations.{field_row, arm_row}
-use Rattle.cat_parse_expr.specs.declared.state.State.{State}
-use Rattle.cat_parse_expr.specs.declared.state.State.TheVariants as state
-use Rattle.cat_parse_expr.specs.declared.state.Owner.{Owner}
-use Rattle.cat_parse_expr.specs.declared.state.Owner.TheVariants as owner
-use Rattle.cat_parse_expr.specs.declared.state.Matching.{Matching}
-use Rattle.cat_parse_expr.specs.declared.state.Reading.{Reading}
+use Rattle.cat_tree.specs.Phrase.{Row, Parts, End, Word, Part, Operand, Inner, height, ends_in_form, ends_in_match, IsLevelled, AreLevelled, AreSpelled, At, Anywhere}
+use Rattle.cat_tree.specs.Wording.{◌▹◌, key_at, pair_at, symbol_at, «word», words, sign, lower, upper, part, of_level, if_some, match_of}
+use Rattle.cat_tree.specs.Rows.{fields, elements, pattern_parts, arms}
+use Rattle.cat_tree.specs.Grammar.{phrase}
+use Rattle.cat_tree.proofs.Equations.{field_row, arm_row}
+use Rattle.cat_parse_step.specs.declared.state.State.{State}
+use Rattle.cat_parse_step.specs.declared.state.State.TheVariants as state
+use Rattle.cat_parse_step.specs.declared.state.Owner.{Owner}
+use Rattle.cat_parse_step.specs.declared.state.Owner.TheVariants as owner
+use Rattle.cat_parse_step.specs.declared.state.Matching.{Matching}
+use Rattle.cat_parse_step.specs.declared.state.Reading.{Reading}
 use Rattle.cat_lex.specs.declared.token.TokenKind.{TokenKind}
-use Rattle.cat_tree.specs.Phrase.{At, Anywhere}
-use Rattle.cat_tree.specs.Grammar.{if_some, match_of, arms}
-use Rattle.cat_parse_expr.specs.Words.{Onward}
-use Rattle.cat_parse_expr.specs.Machine.{step, some, start}
-use Rattle.cat_parse_expr.specs.Steps.{Tests, follow_of}
+use Rattle.cat_parse_step.specs.Words.{Onward}
+use Rattle.cat_parse_step.specs.Machine.{step, some, start}
+use Rattle.cat_parse_step.specs.declared.follow.Follow.TheVariants.{Tests}
+use Rattle.cat_parse_step.specs.Steps.{follow_of}
 use Rattle.cat_parse_expr.proofs.Hold.{is_dashes, is_lower, follow_pull, sign_pull, row_hold, last_hold}
 use Rattle.cat_parse_expr.proofs.Meaning.{Tok, Sub, text, Path}
 use Rattle.cat_parse_expr.proofs.Walks.{reading_at, part_of, part_is, Walk, end_walk, word_at, word_any, fed_reading, part_word, part_end, shift_to, any_step, fed_is, calm_record}
 use Rattle.cat_parse_expr.proofs.Tails.{arm_hold, strong_holds}
 use Rattle.cat_parse_expr.proofs.Forms.{if_at_on, Goes, form_calm, level_calm}
-use Rattle.cat_parse_expr.proofs.Walks.{Walk}
 
 -- the same list, split elsewhere
 moved_one : {A : Type 0} (past : List A) (x : A) (xs whole : List A) → past ++ x ∷ xs ≡ whole → (past ++ x ∷ []) ++ xs ≡ whole

@@ -1,5 +1,5 @@
 -- The laws of the states that need no look at what was read.
-use Rattle.std.proofs.Common.{◌≡◌, ℕ, ◌≤◌, max, Bool, cond, [], ◌∷◌, Option, Some, None, refl, ap, arith}
+use Rattle.std.proofs.Common.{◌≡◌, ℕ, ◌≤◌, max, Bool, true, false, cond, [], ◌∷◌, Option, Some, None, refl, sym, ap, ◌∙◌, arith}
 use Rattle.cat_pos.specs.declared.pos.Pos.{Pos}
 use Rattle.cat_lex.specs.declared.token.Token.{Token}
 use Rattle.cat_lex.specs.declared.token.TokenKind.{TokenKind}
@@ -10,14 +10,16 @@ use Rattle.cat_tree.specs.declared.expression.Prefix.TheVariants as prefix
 use Rattle.cat_tree.specs.declared.expression.Operator.{Operator}
 use Rattle.cat_tree.specs.declared.expression.Operator.TheVariants as op
 use Rattle.cat_tree.specs.declared.expression.Node.{Node}
-use Rattle.cat_tree.specs.Grammar.{prefix_level, operator_level}
-use Rattle.cat_parse_expr.specs.declared.state.State.{State}
-use Rattle.cat_parse_expr.specs.declared.state.State.TheVariants as state
-use Rattle.cat_parse_expr.specs.declared.state.Part.{Part}
-use Rattle.cat_parse_expr.specs.declared.state.Reading.{Reading}
-use Rattle.cat_parse_expr.specs.Words.{Move, Onward, Grown, on_bracket}
-use Rattle.cat_parse_expr.specs.Steps.{start_step}
-use Rattle.cat_parse_expr.specs.Machine.{start, step, strength_of, moved, shift, takes, feed, fed_state, done}
+use Rattle.cat_tree.specs.Operators.{prefix_level, operator_level}
+use Rattle.cat_parse_step.specs.declared.state.State.{State}
+use Rattle.cat_parse_step.specs.declared.state.State.TheVariants as state
+use Rattle.cat_parse_step.specs.declared.state.Part.{Part}
+use Rattle.cat_parse_step.specs.declared.state.Reading.{Reading}
+use Rattle.cat_parse_step.specs.Words.{Move, Onward, Grown}
+use Rattle.cat_parse_step.specs.Marks.{on_bracket}
+use Rattle.cat_parse_step.specs.Starts.{start_step}
+use Rattle.cat_parse_step.specs.Machine.{start, step, strength_of, moved, shift, feed, done}
+use Rattle.cat_parse_step.specs.Operands.{takes, needs_part, fed_state}
 
 pub start_open : (n : Node) → done start.state ≡ Some n → ⊥
 start_open n e = absurd cc
@@ -131,6 +133,38 @@ done_wants (state.Called f args) n d = refl
 done_wants (state.Tested e p u) n d = refl
 done_wants (state.Matched m b) n d = refl
 done_wants _ n d = absurd cc
+
+pub done_needs : (s : State) (n : Node) → done s ≡ Some n → needs_part s ≡ false
+done_needs (state.Complete m s) n d = refl
+done_needs (state.Int m p) n d = refl
+done_needs (state.Name w) n d = refl
+done_needs (state.Upper u) n d = refl
+done_needs (state.Qualified e c) n d = refl
+done_needs (state.Called f args) n d = refl
+done_needs (state.Tested e p u) n d = refl
+done_needs (state.Matched m b) n d = refl
+done_needs _ n d = absurd cc
+
+pub ends_needs : (s : State) → takes s ≡ None → needs_part s ≡ false
+ends_needs (state.Open p) t = absurd cc
+ends_needs (state.Prefixed o p) t = absurd cc
+ends_needs (state.If p) t = absurd cc
+ends_needs (state.Match p) t = absurd cc
+ends_needs _ t = refl
+
+needs_step : (k s : ℕ) (q : State) (p : Token) → needs_part q ≡ true → step k s q p ≡ None
+needs_step k s (state.Open at) p h = refl
+needs_step k s (state.Prefixed o at) p h = refl
+needs_step k s (state.If at) p h = refl
+needs_step k s (state.Match at) p h = refl
+needs_step k s _ p h = absurd cc
+
+-- where a part has to come, no word does
+pub needs_no_word : (k : ℕ) (r more : Reading) (p : Token) → needs_part r.state ≡ true → shift k r p ≡ Some more → ⊥
+unfolding shift
+needs_no_word k r more p h e =
+    let none : None ≡ Some more = sym (ap (moved r) (needs_step k (cond r.in_form 0 (strength_of r.state)) r.state p h)) ∙ e in
+    absurd cc
 
 element_start : (k j : ℕ) (at : Pos) (kd : TokenKind) (a : Option Move) (m : Move) → start_step j at kd ≡ Some m → on_bracket a None kd ≡ None
 element_start k j at (kind.Symbol symbol.RightBracket) a m h = absurd cc

@@ -7,8 +7,9 @@ use Rattle.cat_lex.specs.declared.token.Token.{Token}
 use Rattle.cat_tree.specs.declared.expression.Node.{Node}
 use Rattle.cat_tree.specs.Spells.{Spells, IsFront, height_of}
 use Rattle.cat_tree.specs.Spells as spelled
-use Rattle.cat_parse_expr.specs.declared.state.Part.{Part}
-use Rattle.cat_parse_expr.specs.Reader.{Stop, Outcome, Fails, Reads, stop_of, read}
+use Rattle.cat_parse_step.specs.declared.state.Part.{Part}
+use Rattle.cat_parse_expr.specs.Results.{Stop, Outcome, Fails, Reads, stop_of}
+use Rattle.cat_parse_expr.specs.Reader.{read}
 use Rattle.cat_parse_expr.specs.Places.{IsSpelled, GoesUpTo, IsTooHigh}
 use Rattle.cat_parse_expr.proofs.Rows.{IsPart}
 use Rattle.cat_parse_expr.proofs.Meaning.{Begins}
@@ -22,12 +23,6 @@ whole_is e tokens s = part_is 0 e tokens (omega arith) (omega arith) s.levels s.
 -- a list of tokens spells at most one expression
 pub one_expression : (a b : Node) (tokens : List Token) → Spells a tokens → Spells b tokens → a ≡ b
 one_expression a b tokens sa sb = ap (λ (x : Part). x.node) (one_tree (part_of a) (part_of b) tokens (whole_is a tokens sa) (whole_is b tokens sb))
-
-abbrev pub from_place : List Token → ℕ → List Token
-from_place tokens at = take (length tokens - at) (drop at tokens)
-
-from_place_is : (tokens : List Token) (at : ℕ) → from_place tokens at ≡ drop at tokens
-from_place_is tokens at = ap (λ (n : ℕ). take n (drop at tokens)) (sym (length-drop at tokens)) ∙ take-length (drop at tokens)
 
 -- what stands before a rest
 front_is : (tokens front left : List Token) (at : ℕ) → at ≤ length tokens → drop at tokens ≡ front ++ left → slice_range tokens at (length tokens - length left) ≡ front
@@ -78,26 +73,26 @@ module _ (tokens : List Token) (at : ℕ) (s : Stop) (le : at ≤ length tokens)
         none_low = λ b low. e.too_high g.0 g.1 g.2 (from_public (e.front ++ g.0 ∷ []) (record { tree = b.tree; rest = b.rest; spells = subst (λ (w : List Token). Spells b.tree (w ++ b.rest)) same b.spells })) low;
       }
 
-exact_at : (tokens : List Token) (at : ℕ) (o : Outcome) → read 256 0 (from_place tokens at) ≡ o → IsExact (drop at tokens) 256 (stop_of o)
-exact_at tokens at o e = subst (λ (x : Outcome). IsExact (drop at tokens) 256 (stop_of x)) (ap (read 256 0) (sym (from_place_is tokens at)) ∙ e) (exact (drop at tokens) 256)
+exact_at : (tokens : List Token) (at : ℕ) (o : Outcome) → read 256 0 (drop at tokens) ≡ o → IsExact (drop at tokens) 256 (stop_of o)
+exact_at tokens at o e = subst (λ (x : Outcome). IsExact (drop at tokens) 256 (stop_of x)) e (exact (drop at tokens) 256)
 
-pub stop_fits : (tokens : List Token) (at : ℕ) (o : Outcome) → at ≤ length tokens → read 256 0 (from_place tokens at) ≡ o → length (stop_of o).left ≤ length tokens
+pub stop_fits : (tokens : List Token) (at : ℕ) (o : Outcome) → at ≤ length tokens → read 256 0 (drop at tokens) ≡ o → length (stop_of o).left ≤ length tokens
 stop_fits tokens at o le e = is_within tokens at (stop_of o) le (exact_at tokens at o e)
 
-pub stop_here : (tokens : List Token) (at : ℕ) (o : Outcome) → at ≤ length tokens → read 256 0 (from_place tokens at) ≡ o → (stop_of o).deep ≡ false → GoesUpTo tokens at (length tokens - length (stop_of o).left)
+pub stop_here : (tokens : List Token) (at : ℕ) (o : Outcome) → at ≤ length tokens → read 256 0 (drop at tokens) ≡ o → (stop_of o).deep ≡ false → GoesUpTo tokens at (length tokens - length (stop_of o).left)
 stop_here tokens at o le e calm = goes_up_to tokens at (stop_of o) le (exact_at tokens at o e) calm
 
-pub stop_deep : (tokens : List Token) (at : ℕ) (o : Outcome) → at ≤ length tokens → read 256 0 (from_place tokens at) ≡ o → (stop_of o).deep ≡ true → IsTooHigh tokens at (length tokens - length (stop_of o).left)
+pub stop_deep : (tokens : List Token) (at : ℕ) (o : Outcome) → at ≤ length tokens → read 256 0 (drop at tokens) ≡ o → (stop_of o).deep ≡ true → IsTooHigh tokens at (length tokens - length (stop_of o).left)
 stop_deep tokens at o le e deep = is_too_high tokens at (stop_of o) le (exact_at tokens at o e) deep
 
 rest_of : (tokens : List Token) (at next : ℕ) (e : Node) → Spells e (slice_range tokens at next) → drop at tokens ≡ slice_range tokens at next ++ drop (next - at) (drop at tokens)
 rest_of tokens at next e s = sym (take-append-drop (next - at) (drop at tokens))
 
-pub none_spelled : (tokens : List Token) (at next : ℕ) (s : Stop) → read 256 0 (from_place tokens at) ≡ Fails s → s.deep ≡ false → IsSpelled tokens at next → ⊥
-none_spelled tokens at next s e calm f = nothing (drop at tokens) 256 s (ap (read 256 0) (sym (from_place_is tokens at)) ∙ e) calm (part_of f.0) (slice_range tokens at next) (drop (next - at) (drop at tokens)) (whole_is f.0 (slice_range tokens at next) f.3) (rest_of tokens at next f.0 f.3)
+pub none_spelled : (tokens : List Token) (at next : ℕ) (s : Stop) → read 256 0 (drop at tokens) ≡ Fails s → s.deep ≡ false → IsSpelled tokens at next → ⊥
+none_spelled tokens at next s e calm f = nothing (drop at tokens) 256 s e calm (part_of f.0) (slice_range tokens at next) (drop (next - at) (drop at tokens)) (whole_is f.0 (slice_range tokens at next) f.3) (rest_of tokens at next f.0 f.3)
 
-pub none_low : (tokens : List Token) (at next : ℕ) (s : Stop) (e : Node) → read 256 0 (from_place tokens at) ≡ Fails s → IsFront tokens at next e → ⊥
-none_low tokens at next s e is f = nothing_low (drop at tokens) 256 s (ap (read 256 0) (sym (from_place_is tokens at)) ∙ is) (part_of e) (slice_range tokens at next) (drop (next - at) (drop at tokens)) (whole_is e (slice_range tokens at next) f.spells) f.low (rest_of tokens at next e f.spells)
+pub none_low : (tokens : List Token) (at next : ℕ) (s : Stop) (e : Node) → read 256 0 (drop at tokens) ≡ Fails s → IsFront tokens at next e → ⊥
+none_low tokens at next s e is f = nothing_low (drop at tokens) 256 s is (part_of e) (slice_range tokens at next) (drop (next - at) (drop at tokens)) (whole_is e (slice_range tokens at next) f.spells) f.low (rest_of tokens at next e f.spells)
 
 -- what was read, by places
 pub record Answers (tokens : List Token) (at : ℕ) (e : Part) (rest : List Token) : Type 0 where
@@ -105,10 +100,9 @@ pub record Answers (tokens : List Token) (at : ℕ) (e : Part) (rest : List Toke
   pub found : IsFront tokens at (length tokens - length rest) e.node
   pub furthest : (f : Node) (next : ℕ) → IsFront tokens at next f → next ≤ length tokens - length rest
 
-pub answers : (tokens : List Token) (at : ℕ) (e : Part) (rest : List Token) (tried : Option Stop) → at ≤ length tokens → read 256 0 (from_place tokens at) ≡ Reads e rest tried → Answers tokens at e rest
+pub answers : (tokens : List Token) (at : ℕ) (e : Part) (rest : List Token) (tried : Option Stop) → at ≤ length tokens → read 256 0 (drop at tokens) ≡ Reads e rest tried → Answers tokens at e rest
 answers tokens at e rest tried le is =
-    let is' : read 256 0 (drop at tokens) ≡ Reads e rest tried = ap (read 256 0) (sym (from_place_is tokens at)) ∙ is in
-    let t = taken (drop at tokens) 256 e rest tried is' in
+    let t = taken (drop at tokens) 256 e rest tried is in
     let len : length tokens ≡ at + (length t.front + length rest) = omega (arith, length-drop at tokens, ap length t.text, length-append t.front rest) in
     record {
       left = omega (arith, len);
@@ -118,5 +112,5 @@ answers tokens at e rest tried le is =
         spells = subst (Spells e.node) (sym (front_is tokens t.front rest at le t.text)) (record { levels = t.is.row.levels; words = t.is.row.spelled });
         low = omega (arith, t.low, t.is.row.tall_is);
       };
-      furthest = λ f next h. omega (arith, longest (drop at tokens) 256 e rest tried is' (part_of f) (slice_range tokens at next) (drop (next - at) (drop at tokens)) (whole_is f (slice_range tokens at next) h.spells) h.low (rest_of tokens at next f h.spells), length-drop at tokens, length-drop (next - at) (drop at tokens), h.within, h.order);
+      furthest = λ f next h. omega (arith, longest (drop at tokens) 256 e rest tried is (part_of f) (slice_range tokens at next) (drop (next - at) (drop at tokens)) (whole_is f (slice_range tokens at next) h.spells) h.low (rest_of tokens at next f h.spells), length-drop at tokens, length-drop (next - at) (drop at tokens), h.within, h.order);
     }

@@ -15,16 +15,20 @@ use Rattle.cat_tree.specs.declared.expression.Each.TheVariants as each
 use Rattle.cat_tree.specs.declared.expression.Pattern.{Pattern}
 use Rattle.cat_tree.specs.declared.expression.Node.TheViews as node
 use Rattle.cat_tree.specs.Phrase.{Phrase, Parts, Part, Inner, height, tallest, ends_in_form, ends_in_match, last_in_form, last_in_match, right_strength, IsLevelled, AreLevelled, IsSpelling, AreSpelled}
-use Rattle.cat_tree.specs.Grammar.{◌▹◌, first, key_at, pair_at, symbol_at, «word», words, sign, lower, upper, part, left, case_parts, lists_of, type_parts, prefix_parts, prefix_level, operator_kind, operator_level, left_level, fields, elements, pattern_parts, phrase}
-use Rattle.cat_parse_expr.proofs.Equations.{field_row, arm_row}
-use Rattle.cat_parse_expr.specs.declared.state.State.{State}
-use Rattle.cat_parse_expr.specs.declared.state.State.TheVariants as state
-use Rattle.cat_parse_expr.specs.declared.state.Owner.{Owner}
-use Rattle.cat_parse_expr.specs.declared.state.Owner.TheVariants as owner
-use Rattle.cat_parse_expr.specs.declared.state.Matching.{Matching}
-use Rattle.cat_parse_expr.specs.declared.state.Combining.{Combining}
-use Rattle.cat_parse_expr.specs.declared.state.Part.{Part as Found}
-use Rattle.cat_parse_expr.specs.declared.state.Reading.{Reading}
+use Rattle.cat_tree.specs.Wording.{◌▹◌, first, key_at, pair_at, symbol_at, «word», words, sign, lower, upper, part, left}
+use Rattle.cat_tree.specs.Literals.{case_parts, lists_of, type_parts}
+use Rattle.cat_tree.specs.Operators.{prefix_parts, prefix_level, operator_kind, operator_level, left_level}
+use Rattle.cat_tree.specs.Rows.{fields, elements, pattern_parts}
+use Rattle.cat_tree.specs.Grammar.{phrase}
+use Rattle.cat_tree.proofs.Equations.{field_row, arm_row}
+use Rattle.cat_parse_step.specs.declared.state.State.{State}
+use Rattle.cat_parse_step.specs.declared.state.State.TheVariants as state
+use Rattle.cat_parse_step.specs.declared.state.Owner.{Owner}
+use Rattle.cat_parse_step.specs.declared.state.Owner.TheVariants as owner
+use Rattle.cat_parse_step.specs.declared.state.Matching.{Matching}
+use Rattle.cat_parse_step.specs.declared.state.Combining.{Combining}
+use Rattle.cat_parse_step.specs.declared.state.Part.{Part as Found}
+use Rattle.cat_parse_step.specs.declared.state.Reading.{Reading}
 
 -- ---- rows that have begun
 

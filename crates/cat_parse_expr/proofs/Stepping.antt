@@ -16,28 +16,27 @@ use Rattle.cat_tree.specs.declared.expression.Pattern.TheVariants as pattern
 use Rattle.cat_tree.specs.declared.expression.Node.{Node}
 use Rattle.cat_tree.specs.declared.expression.Node.TheVariants as leaf
 use Rattle.cat_tree.specs.declared.expression.Node.TheViews as node
-use Rattle.cat_tree.specs.Phrase.{Phrase, Row, Parts, End, Word, right_strength, IsAt}
-use Rattle.cat_tree.specs.Grammar.{◌▹◌, first, «word», sign, lower, upper, left, of_level, lists_of, phrase}
-use Rattle.cat_parse_expr.proofs.Equations.{arm_row}
-use Rattle.cat_parse_expr.specs.declared.state.State.{State}
-use Rattle.cat_parse_expr.specs.declared.state.State.TheVariants as state
-use Rattle.cat_parse_expr.specs.declared.state.Owner.TheVariants as owner
+use Rattle.cat_tree.specs.Phrase.{Phrase, Row, Parts, End, Word, right_strength, IsAt, At, Anywhere}
+use Rattle.cat_tree.specs.Wording.{◌▹◌, first, «word», sign, lower, upper, left, of_level}
+use Rattle.cat_tree.specs.Literals.{lists_of, literal_parts, literal_rank, span_bound, unit_word}
+use Rattle.cat_tree.specs.Grammar.{phrase}
+use Rattle.cat_tree.proofs.Equations.{arm_row, phrase_Literal, phrase_Case, phrase_Parens, phrase_Field, phrase_Test, phrase_List, phrase_Structure, phrase_ScopeCall, phrase_Match}
+use Rattle.cat_parse_step.specs.declared.state.State.{State}
+use Rattle.cat_parse_step.specs.declared.state.State.TheVariants as state
+use Rattle.cat_parse_step.specs.declared.state.Owner.TheVariants as owner
 use Rattle.std.proofs.lemmas.List.{append-nil}
 use Rattle.cat_lex.specs.declared.token.TokenKind.{TokenKind}
-use Rattle.cat_tree.specs.Phrase.{At, Anywhere}
-use Rattle.cat_tree.specs.Grammar.{literal_parts, literal_rank}
 use Rattle.cat_parse_expr.proofs.Rows.{match_parts, so_far, room, IsRow, Begun, ReachedAt}
-use Rattle.cat_parse_expr.proofs.Equations.{phrase_Literal, phrase_Case, phrase_Parens, phrase_Field, phrase_Test, phrase_List, phrase_Structure, phrase_ScopeCall, phrase_Match}
 use Rattle.cat_parse_expr.proofs.WordsAre.{on_of_is, on_then_is, on_else_is, on_among_is, on_in_is, on_initially_is, on_with_is, on_to_is, on_anything_is, on_content_is, on_with_pattern_is, on_we_have_is, on_such_that_is, on_close_is, on_bracket_is, on_semicolon_is, on_comma_is, on_colon_is, on_dot_is, on_dashes_is, on_brace_is, on_end_brace_is, lower_of_is, upper_of_is, some_same}
-use Rattle.cat_parse_expr.specs.Words.{Move, Onward, Grown, on_of, on_anything, on_content, on_bracket, on_colon, on_brace, on_end_brace, lower_of, upper_of}
-use Rattle.cat_parse_expr.specs.Machine.{step, some, strength_of}
+use Rattle.cat_parse_step.specs.Words.{Move, Onward, Grown, on_of, on_anything, on_content, lower_of, upper_of, unit_of}
+use Rattle.cat_parse_step.specs.Marks.{on_bracket, on_colon, on_brace, on_end_brace}
+use Rattle.cat_parse_step.specs.Machine.{step, some, strength_of}
 use Rattle.std.specs.Prelude.{ℤ, int_lt, not}
 use Rattle.cat_tree.specs.declared.expression.Unit.{Unit as TimeUnit}
 use Rattle.cat_tree.specs.declared.expression.Unit.TheVariants as unit
 use Rattle.cat_tree.specs.declared.name.Base.TheVariants as base
-use Rattle.cat_tree.specs.Grammar.{span_bound, unit_word}
-use Rattle.cat_parse_expr.specs.Words.{unit_of}
-use Rattle.cat_parse_expr.specs.Steps.{if_at, start_step, whole_step, type_step}
+use Rattle.cat_parse_step.specs.Starts.{if_at, start_step}
+use Rattle.cat_parse_step.specs.Steps.{whole_step, type_step}
 use Rattle.cat_parse_expr.proofs.Reaching.{push, MoveReached, first_of_two, nothing_more, lands}
 use Rattle.cat_parse_expr.proofs.Behind.{begun, ended, name_at, type_at, if_at_is, goes, done_reached, match_level}
 

@@ -1,5 +1,5 @@
 -- What an expression holds against: an arm where it doesn't end in a match, an operator where it may be its left part.
-use Rattle.std.proofs.Common.{cond, ◌||◌, ◌≡◌, ℕ, zero, suc, ◌≤◌, Bool, true, false, List, [], ◌∷◌, map, refl, sym, ap, subst, ◌∙◌, arith}
+use Rattle.std.proofs.Common.{cond, ◌||◌, ◌≡◌, ℕ, zero, suc, ◌≤◌, Bool, true, false, List, [], ◌∷◌, map, refl, sym, ap, subst, ◌∙◌, arith, min}
 use Rattle.cat_pos.specs.declared.pos.Pos.{Pos}
 use Rattle.cat_lex.specs.declared.token.TokenKind.TheVariants as kind
 use Rattle.cat_lex.specs.declared.words.Keyword.TheVariants as key
@@ -16,16 +16,16 @@ use Rattle.cat_tree.specs.declared.expression.Literal.TheVariants as literal
 use Rattle.cat_tree.specs.declared.expression.Node.{Node}
 use Rattle.cat_tree.specs.declared.expression.Node.TheVariants as leaf
 use Rattle.cat_tree.specs.declared.expression.Node.TheViews as node
-use Rattle.cat_tree.specs.Phrase.{Phrase, Row, Parts, End, Word, Part, Mark, Rank, ends_in_form, ends_in_match, last_in_form, last_in_match, right_strength, left_strength, IsLevelled, AreLevelled}
-use Rattle.cat_tree.specs.Grammar.{◌▹◌, first, key_at, pair_at, symbol_at, «word», words, sign, lower, upper, part, left, of_level, case_parts, lists_of, type_parts, prefix_parts, prefix_level, operator_kind, operator_level, left_level, fields, elements, phrase, base_kind}
-use Rattle.cat_parse_expr.proofs.Equations.{field_row, arm_row}
-use Rattle.cat_tree.specs.Phrase.{At, Anywhere}
-use Rattle.cat_tree.specs.Grammar.{literal_parts, literal_rank, form, if_some, match_of, arms, each_parts}
-use Rattle.cat_parse_expr.proofs.Equations.{phrase_Literal, phrase_Name, phrase_Case, phrase_Parens, phrase_Field, phrase_Prefixed, phrase_Sum, phrase_Content, phrase_Call, phrase_Binary, phrase_Test, phrase_List, phrase_Structure, phrase_ScopeCall, phrase_If, phrase_Match, phrase_Each, phrase_Combine}
+use Rattle.cat_tree.specs.Phrase.{Phrase, Row, Parts, End, Word, Part, Mark, Rank, ends_in_form, ends_in_match, last_in_form, last_in_match, right_strength, left_strength, IsLevelled, AreLevelled, At, Anywhere}
+use Rattle.cat_tree.specs.Wording.{◌▹◌, first, key_at, pair_at, symbol_at, «word», words, sign, lower, upper, part, left, of_level, form, if_some, match_of}
+use Rattle.cat_tree.specs.Literals.{case_parts, lists_of, type_parts, base_kind, literal_parts, literal_rank}
+use Rattle.cat_tree.specs.Operators.{prefix_parts, prefix_level, operator_kind, operator_level, left_level}
+use Rattle.cat_tree.specs.Rows.{fields, elements, arms, each_parts}
+use Rattle.cat_tree.specs.Grammar.{phrase}
+use Rattle.cat_tree.proofs.Equations.{field_row, arm_row, phrase_Literal, phrase_Name, phrase_Case, phrase_Parens, phrase_Field, phrase_Prefixed, phrase_Sum, phrase_Content, phrase_Call, phrase_Binary, phrase_Test, phrase_List, phrase_Structure, phrase_ScopeCall, phrase_If, phrase_Match, phrase_Each, phrase_Combine}
 use Rattle.cat_parse_expr.proofs.Moves.{operator_low, prefix_low}
 use Rattle.cat_parse_expr.proofs.Behind.{match_level}
 use Rattle.cat_parse_expr.proofs.Hold.{row_hold, last_hold, own_hold}
-use Rattle.std.proofs.Common.{min}
 use Rattle.cat_parse_expr.proofs.Induction.{AllHold, induction}
 
 own_some : (r : Rank) → 1 ≤ own_hold r

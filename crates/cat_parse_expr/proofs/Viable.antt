@@ -1,14 +1,16 @@
 -- What is read is spelled so, and the tokens up to where reading stopped begin an expression.
-use Rattle.std.proofs.Common.{◌≡◌, ℕ, zero, suc, ◌<◌, ◌≤◌, Bool, true, false, cond, ◌&&◌, nat_le, leb, List, [], ◌∷◌, ◌++◌, length, Option, Some, None, refl, sym, ap, subst, ◌∙◌, append_assoc, arith, inl, inr}
+use Rattle.std.proofs.Common.{◌≡◌, ℕ, zero, suc, ◌<◌, ◌≤◌, Bool, true, false, cond, ◌&&◌, ◌||◌, nat_le, leb, List, [], ◌∷◌, ◌++◌, length, Option, Some, None, refl, sym, ap, subst, ◌∙◌, append_assoc, arith, inl, inr}
 use Rattle.std.proofs.lemmas.Bool.{cases_lt, le-leb}
 use Rattle.cat_lex.specs.declared.token.Token.{Token}
 use Rattle.cat_tree.specs.declared.expression.Node.{Node}
-use Rattle.cat_parse_expr.specs.declared.state.Part.{Part}
-use Rattle.cat_parse_expr.specs.declared.state.Reading.{Reading}
-use Rattle.cat_parse_expr.specs.Machine.{start, shift, takes, feed, done}
+use Rattle.cat_parse_step.specs.declared.state.Part.{Part}
+use Rattle.cat_parse_step.specs.declared.state.Reading.{Reading}
+use Rattle.cat_parse_step.specs.Machine.{start, shift, feed, done}
+use Rattle.cat_parse_step.specs.Operands.{takes, needs_part, is_some}
 use Rattle.cat_parse_expr.proofs.Rows.{IsPart, Reached}
 use Rattle.cat_parse_expr.proofs.Meaning.{Begins}
-use Rattle.cat_parse_expr.specs.Reader.{Stop, Outcome, Fails, Reads, Reader, here, too_deep, Best, whole, best_of, stopped, ended, Next, Shifted, Asks, Ends, asked, shifted, next, is_some, is_high, Going, reaches, fed, turn, run, starts, operand_of, read}
+use Rattle.cat_parse_expr.specs.Results.{Stop, Outcome, Fails, Reads, Reader, here, too_deep}
+use Rattle.cat_parse_expr.specs.Reader.{Best, whole, best_of, stopped, ended, Next, Shifted, Asks, Ends, asked, shifted, next, is_high, Going, reaches, fed, turn, run, starts, operand_of, read}
 use Rattle.cat_parse_expr.proofs.Laws.{reached_start, reached_shift, reached_feed, reached_done, reached_begins}
 use Rattle.cat_parse_expr.proofs.Moves.{takes_low, feed_tallest, start_open}
 
@@ -171,15 +173,23 @@ is_below a b h = elim (cases_lt b a) [
     no_test : (c : Bool) → c ≡ false → c ≡ true → ⊥
     no_test c p q = absurd cc
 
-pub low_shift : (limit : ℕ) (more : Reading) (o : Option Node) → done more.state ≡ o → (is_some o && nat_le limit more.tallest) ≡ false → IsLow limit more
-low_shift limit more None e h n d = absurd cc
-low_shift limit more (Some m) e h n d = is_below limit more.tallest h
+-- the first of two tests of which none holds
+pub none_holds : (a b : Bool) → (a || b) ≡ false → a ≡ false
+none_holds true b h = absurd cc
+none_holds false b h = refl
+
+pub low_shift : (limit : ℕ) (more : Reading) → is_high limit more ≡ false → IsLow limit more
+low_shift limit more high = by (done more.state) refl (none_holds (is_some (done more.state) && leb limit more.tallest) (needs_part more.state && leb limit 1) high)
+  where
+    by : (o : Option Node) → done more.state ≡ o → (is_some o && leb limit more.tallest) ≡ false → IsLow limit more
+    by None e h n d = absurd cc
+    by (Some m) e h n d = is_below limit more.tallest h
 
 module _ (reader : ℕ → Reader) (limit : ℕ) (fine : AreFine reader limit) (k : ℕ) (all : List Token) (go : Going) (keeps : Keeps k (suc limit) all go) where
   shift_fine : (best : Option Best) (r more : Reading) (p : Token) (rest : List Token) (b : Bool) → BestFine k (suc limit) all best → Stands k all r (p ∷ rest) → IsLow (suc limit) r → shift k r p ≡ Some more → is_high (suc limit) more ≡ b
       → Fine k (suc limit) all (cond b (stopped (best_of (done r.state) best r (p ∷ rest)) (too_deep (p ∷ rest))) (go (best_of (done r.state) best r (p ∷ rest)) more rest))
   shift_fine best r more p rest true bf h low e high = stopped_fine k (suc limit) all (best_of (done r.state) best r (p ∷ rest)) (too_deep (p ∷ rest)) (best_fine k (suc limit) all best r (p ∷ rest) (done r.state) bf h low refl) (deep_viable k all r more p rest h e)
-  shift_fine best r more p rest false bf h low e high = keeps (best_of (done r.state) best r (p ∷ rest)) more rest (best_fine k (suc limit) all best r (p ∷ rest) (done r.state) bf h low refl) (stands_shift k all r more p rest h e) (low_shift (suc limit) more (done more.state) refl high)
+  shift_fine best r more p rest false bf h low e high = keeps (best_of (done r.state) best r (p ∷ rest)) more rest (best_fine k (suc limit) all best r (p ∷ rest) (done r.state) bf h low refl) (stands_shift k all r more p rest h e) (low_shift (suc limit) more high)
 
   ask_fine : (best : Option Best) (r : Reading) (ts : List Token) (j : ℕ) (b : Bool) → BestFine k (suc limit) all best → Stands k all r ts → takes r.state ≡ Some j → leb (suc limit) r.tallest ≡ b → Fine k (suc limit) all (fed k (suc limit) go best r (operand_of reader b j ts))
   ask_fine best r ts j true bf h t e = stopped_fine k (suc limit) all best (record { left = ts; deep = starts j ts }) bf (lift k j all r ts (record { left = ts; deep = starts j ts }) h t (nothing_fine j ts (takes_low r.state j t)))

@@ -8,19 +8,22 @@ use Rattle.cat_lex.specs.declared.symbol.Symbol.TheVariants as symbol
 use Rattle.cat_tree.specs.declared.expression.Prefix.{Prefix}
 use Rattle.cat_tree.specs.declared.expression.Prefix.TheVariants as prefix
 use Rattle.cat_tree.specs.declared.expression.Node.{Node}
-use Rattle.cat_tree.specs.Phrase.{Parts, End, Word, Part, Stand, height, ends_in_form, ends_in_match, right_strength, IsLevelled, IsSpelling, AreSpelled}
-use Rattle.cat_tree.specs.Grammar.{prefix_level, operator_level, phrase}
-use Rattle.cat_parse_expr.specs.declared.state.State.{State}
-use Rattle.cat_parse_expr.specs.declared.state.Part.{Part as Found}
-use Rattle.cat_parse_expr.specs.declared.state.Reading.{Reading}
+use Rattle.cat_tree.specs.Phrase.{Parts, End, Word, Part, Stand, height, ends_in_form, ends_in_match, right_strength, IsLevelled, IsSpelling, AreSpelled, At, Anywhere}
+use Rattle.cat_tree.specs.Operators.{prefix_level, operator_level}
+use Rattle.cat_tree.specs.Grammar.{phrase}
+use Rattle.cat_parse_step.specs.declared.state.State.{State}
+use Rattle.cat_parse_step.specs.declared.state.Part.{Part as Found}
+use Rattle.cat_parse_step.specs.declared.state.Reading.{Reading}
 use Rattle.cat_lex.specs.declared.token.TokenKind.{TokenKind}
-use Rattle.cat_tree.specs.Phrase.{At, Anywhere}
 use Rattle.cat_parse_expr.proofs.Rows.{IsPart}
-use Rattle.cat_parse_expr.specs.Words.{Move, Onward}
-use Rattle.cat_parse_expr.specs.Machine.{step, strength_of, moved, shift, takes, feed, fed_state, ends_form, ends_match, done}
+use Rattle.cat_parse_step.specs.Words.{Move, Onward}
+use Rattle.cat_parse_step.specs.Machine.{step, strength_of, moved, shift, feed, done}
+use Rattle.cat_parse_step.specs.Operands.{takes, fed_state, ends_form, ends_match}
 use Rattle.cat_tree.specs.declared.expression.Operator.{Operator}
 use Rattle.cat_tree.specs.declared.expression.Operator.TheVariants as op
-use Rattle.cat_parse_expr.specs.Steps.{Follow, Operated, Dotted, Tests, Other, follow_of}
+use Rattle.cat_parse_step.specs.declared.follow.Follow.{Follow}
+use Rattle.cat_parse_step.specs.declared.follow.Follow.TheVariants.{Operated, Dotted, Tests, Other}
+use Rattle.cat_parse_step.specs.Steps.{follow_of}
 use Rattle.cat_parse_expr.proofs.Moves.{operator_low, prefix_low}
 use Rattle.cat_parse_expr.proofs.Hold.{is_dashes, follow_pull, sign_pull, pull, op_pull, hold, row_hold}
 use Rattle.cat_parse_expr.proofs.Meaning.{Item, Tok, Sub, text, Calm, Path}

@@ -1,5 +1,5 @@
 -- Each expression has its way through the states.
-use Rattle.std.proofs.Common.{◌≡◌, ℕ, suc, ◌<◌, ◌≤◌, Bool, false, List, [], ◌∷◌, map, length, Some, None, refl, sym, ap, subst, ◌∙◌, arith}
+use Rattle.std.proofs.Common.{◌≡◌, ℕ, suc, ◌<◌, ◌≤◌, Bool, false, List, [], ◌∷◌, map, length, Some, None, refl, sym, ap, subst, ◌∙◌, arith, min}
 use Rattle.cat_pos.specs.declared.pos.Pos.{Pos}
 use Rattle.cat_lex.specs.declared.token.Token.{Token}
 use Rattle.cat_lex.specs.declared.words.Keyword.TheVariants as key
@@ -16,22 +16,21 @@ use Rattle.cat_tree.specs.declared.expression.Pattern.{Pattern}
 use Rattle.cat_tree.specs.declared.expression.Node.{Node}
 use Rattle.cat_tree.specs.declared.expression.Node.TheVariants as leaf
 use Rattle.cat_tree.specs.declared.expression.Node.TheViews as node
-use Rattle.cat_tree.specs.Phrase.{Phrase, Row, Parts, End, Word, Mark, right_strength, IsLevelled, IsSpelling}
-use Rattle.cat_tree.specs.Grammar.{◌▹◌, first, key_at, pair_at, symbol_at, «word», words, sign, lower, upper, part, left, of_level, case_parts, lists_of, type_parts, prefix_parts, prefix_level, operator_kind, operator_level, left_level, fields, elements, phrase, base_kind}
-use Rattle.cat_parse_expr.proofs.Equations.{field_row, arm_row}
-use Rattle.cat_parse_expr.specs.declared.state.Part.{Part as Found}
-use Rattle.cat_parse_expr.specs.declared.state.Reading.{Reading}
-use Rattle.cat_tree.specs.Phrase.{At}
-use Rattle.cat_tree.specs.Grammar.{literal_parts, literal_rank, form, if_some, match_of, arms, each_parts}
+use Rattle.cat_tree.specs.Phrase.{Phrase, Row, Parts, End, Word, Mark, right_strength, IsLevelled, IsSpelling, At}
+use Rattle.cat_tree.specs.Wording.{◌▹◌, first, key_at, pair_at, symbol_at, «word», words, sign, lower, upper, part, left, of_level, form, if_some, match_of}
+use Rattle.cat_tree.specs.Literals.{case_parts, lists_of, type_parts, base_kind, literal_parts, literal_rank}
+use Rattle.cat_tree.specs.Operators.{prefix_parts, prefix_level, operator_kind, operator_level, left_level}
+use Rattle.cat_tree.specs.Rows.{fields, elements, arms, each_parts}
+use Rattle.cat_tree.specs.Grammar.{phrase}
+use Rattle.cat_tree.proofs.Equations.{field_row, arm_row, phrase_Literal, phrase_Name, phrase_Case, phrase_Parens, phrase_Field, phrase_Prefixed, phrase_Sum, phrase_Content, phrase_Call, phrase_Binary, phrase_Test, phrase_List, phrase_Structure, phrase_ScopeCall, phrase_If, phrase_Match, phrase_Each, phrase_Combine}
+use Rattle.cat_parse_step.specs.declared.state.Part.{Part as Found}
+use Rattle.cat_parse_step.specs.declared.state.Reading.{Reading}
 use Rattle.cat_parse_expr.proofs.Rows.{IsPart}
-use Rattle.cat_parse_expr.proofs.Equations.{phrase_Literal, phrase_Name, phrase_Case, phrase_Parens, phrase_Field, phrase_Prefixed, phrase_Sum, phrase_Content, phrase_Call, phrase_Binary, phrase_Test, phrase_List, phrase_Structure, phrase_ScopeCall, phrase_If, phrase_Match, phrase_Each, phrase_Combine}
-use Rattle.cat_parse_expr.specs.Machine.{done, start}
+use Rattle.cat_parse_step.specs.Machine.{done, start}
 use Rattle.cat_parse_expr.proofs.Hold.{hold, row_hold}
-use Rattle.std.proofs.Common.{min}
-use Rattle.cat_parse_expr.proofs.Meaning.{Item, Tok, Sub, text, Path}
+use Rattle.cat_parse_expr.proofs.Meaning.{Item, Tok, Sub, text, Path, HasPath}
 use Rattle.cat_parse_expr.proofs.Walks.{Walk}
 use Rattle.cat_parse_expr.proofs.Tails.{lists_form}
-use Rattle.cat_parse_expr.proofs.Meaning.{HasPath}
 use Rattle.cat_parse_expr.proofs.Induction.{induction}
 use Rattle.cat_parse_expr.proofs.Moves.{start_open, start_asks}
 use Rattle.cat_parse_expr.proofs.Laws.{reached_start, reached_done}

@@ -1,20 +1,23 @@
 -- What is spelled is read to its end, and no further.
-use Rattle.std.proofs.Common.{◌≡◌, ℕ, zero, suc, ◌<◌, ◌≤◌, Bool, true, false, cond, ◌&&◌, nat_eq, leb, List, [], ◌∷◌, ◌++◌, length, Option, Some, None, refl, sym, ap, subst, ◌∙◌, append_assoc, arith, inl, inr, ◌⊎◌}
+use Rattle.std.proofs.Common.{◌≡◌, ℕ, zero, suc, ◌<◌, ◌≤◌, Bool, true, false, cond, ◌&&◌, ◌||◌, nat_eq, leb, List, [], ◌∷◌, ◌++◌, length, Option, Some, None, refl, sym, ap, subst, ◌∙◌, append_assoc, arith, inl, inr, ◌⊎◌}
 use Rattle.std.proofs.lemmas.Bool.{lt-leb}
 use Rattle.std.proofs.lemmas.Bool.Decides.{nat_tests}
 use Rattle.std.proofs.lemmas.List.{append-nil, length-append}
 use Rattle.cat_lex.specs.declared.token.Token.{Token}
 use Rattle.cat_tree.specs.declared.expression.Node.{Node}
-use Rattle.cat_parse_expr.specs.declared.state.Part.{Part}
-use Rattle.cat_parse_expr.specs.declared.state.Reading.{Reading}
-use Rattle.cat_parse_expr.specs.Machine.{start, shift, takes, feed, done}
+use Rattle.cat_parse_step.specs.declared.state.Part.{Part}
+use Rattle.cat_parse_step.specs.declared.state.Reading.{Reading}
+use Rattle.cat_parse_step.specs.Machine.{start, shift, feed, done}
+use Rattle.cat_parse_step.specs.Operands.{takes, needs_part, is_some}
 use Rattle.cat_parse_expr.proofs.Rows.{IsPart, Reached}
 use Rattle.cat_parse_expr.proofs.Hold.{pull, hold}
 use Rattle.cat_parse_expr.proofs.Meaning.{Calm, Stops, Item, Tok, Sub, text, CalmAt, Path, Trail, Taker}
-use Rattle.cat_parse_expr.specs.Reader.{Outcome, Reads, Reader, here, too_deep, Best, whole, best_of, stopped, ended, Next, Shifted, Asks, Ends, asked, shifted, next, is_some, is_high, Going, reaches, fed, turn, run, starts, operand_of, read}
+use Rattle.cat_parse_expr.specs.Results.{Outcome, Reads, Reader, here, too_deep}
+use Rattle.cat_parse_expr.specs.Reader.{Best, whole, best_of, stopped, ended, Next, Shifted, Asks, Ends, asked, shifted, next, is_high, Going, reaches, fed, turn, run, starts, operand_of, read}
 use Rattle.cat_parse_expr.proofs.Laws.{reached_start, reached_shift, reached_feed, part_high, calm_stops, part_level}
 use Rattle.cat_parse_expr.proofs.Ways.{part_some, path}
-use Rattle.cat_parse_expr.proofs.Moves.{feed_tallest, start_open, start_asks, shift_tallest, feed_wants, no_word}
+use Rattle.cat_parse_expr.proofs.Moves.{feed_tallest, start_open, start_asks, shift_tallest, feed_wants, no_word, done_needs, ends_needs, needs_no_word}
+use Rattle.cat_parse_expr.proofs.Viable.{Follows, next_follows}
 
 -- the expression was read, and a longer one broke off behind the next token at most
 abbrev pub IsWhole : Part → List Token → Outcome → Type 0
@@ -72,15 +75,37 @@ next_asks k j r e front rest t is =
 pub nat_same : (n : ℕ) → nat_eq n n ≡ true
 nat_same n = grind (arith, nat_tests)
 
-pub not_high : (limit : ℕ) (more : Reading) → more.tallest < limit → is_high limit more ≡ false
-not_high limit more lt = by (is_some (done more.state))
-  where
-    by : (b : Bool) → (b && leb limit more.tallest) ≡ false
-    by true = lt-leb limit more.tallest lt
-    by false = refl
+pub no_test : (c : Bool) → c ≡ false → c ≡ true → ⊥
+no_test c x y = absurd cc
 
-pub reaches_on : (limit : ℕ) (more : Reading) (ts : List Token) → more.tallest < limit → reaches limit (Shifted more ts) (here ts) ≡ true
-reaches_on limit more ts lt = rw (not_high limit more lt, nat_same (length ts)) refl
+-- what is low enough isn't high, where there is room for the part that it may have to have
+pub not_high : (limit : ℕ) (more : Reading) → more.tallest < limit → (needs_part more.state ≡ true → 1 < limit) → is_high limit more ≡ false
+not_high limit more lt room = neither (is_some (done more.state) && leb limit more.tallest) (needs_part more.state && leb limit 1) (first (is_some (done more.state))) (second (needs_part more.state) refl)
+  where
+    first : (b : Bool) → (b && leb limit more.tallest) ≡ false
+    first true = lt-leb limit more.tallest lt
+    first false = refl
+
+    second : (b : Bool) → needs_part more.state ≡ b → (b && leb limit 1) ≡ false
+    second true e = lt-leb limit 1 (room e)
+    second false e = refl
+
+    neither : (a b : Bool) → a ≡ false → b ≡ false → (a || b) ≡ false
+    neither a b h g = rw (h, g) refl
+
+-- along a trail to what is whole and low enough, nothing is high
+pub trail_low : (k : ℕ) (rest : List Token) (items : List Item) (more end : Reading) (n : Node) (low : ℕ) → Trail k rest more items end → done end.state ≡ Some n → end.tallest ≤ low → is_high (suc low) more ≡ false
+trail_low k rest items more end n low t d fits =
+    let g = trail_grows k rest items more end t in
+    not_high (suc low) more (omega arith) (by items t)
+  where
+    by : (items : List Item) → Trail k rest more items end → needs_part more.state ≡ true → 1 < suc low
+    by [] t h = absurd (no_test (needs_part end.state) (done_needs end.state n d) (ap (λ (x : Reading). needs_part x.state) (sym t) ∙ h))
+    by (Tok p ∷ items) t h = absurd (needs_no_word k more t.0 p h t.1)
+    by (Sub e f ∷ items) t h = omega (arith, part_high t.0 e f t.2, (part_grows k rest items more end e t.4).0)
+
+pub reaches_on : (limit : ℕ) (more : Reading) (ts : List Token) → is_high limit more ≡ false → reaches limit (Shifted more ts) (here ts) ≡ true
+reaches_on limit more ts low = rw (low, nat_same (length ts)) refl
 
 -- ---- turns
 
@@ -92,10 +117,10 @@ module _ (reader : ℕ → Reader) (low k : ℕ) where
   unfolding run
   run_is fuel best r ts x e = ap (turn (operand_of reader) k (suc low) (going fuel) best r ts) e
 
-  pub run_shift : (fuel : ℕ) (best : Option Best) (r more : Reading) (p : Token) (ts : List Token) → shift k r p ≡ Some more → more.tallest < suc low → going (suc fuel) best r (p ∷ ts) ≡ going fuel (best_of (done r.state) best r (p ∷ ts)) more ts
-  run_shift fuel best r more p ts e lt =
+  pub run_shift : (fuel : ℕ) (best : Option Best) (r more : Reading) (p : Token) (ts : List Token) → shift k r p ≡ Some more → is_high (suc low) more ≡ false → going (suc fuel) best r (p ∷ ts) ≡ going fuel (best_of (done r.state) best r (p ∷ ts)) more ts
+  run_shift fuel best r more p ts e low_is =
       run_is fuel best r (p ∷ ts) (Shifted more ts) (next_shift k r more p ts e)
-      ∙ ap (λ (b : Bool). cond b (stopped (best_of (done r.state) best r (p ∷ ts)) (too_deep (p ∷ ts))) (going fuel (best_of (done r.state) best r (p ∷ ts)) more ts)) (not_high (suc low) more lt)
+      ∙ ap (λ (b : Bool). cond b (stopped (best_of (done r.state) best r (p ∷ ts)) (too_deep (p ∷ ts))) (going fuel (best_of (done r.state) best r (p ∷ ts)) more ts)) low_is
 
   -- an operand is read, and then what comes after it
   pub run_feed : (fuel j : ℕ) (best : Option Best) (r : Reading) (e : Part) (front ts : List Token) → takes r.state ≡ Some j → IsPart j e front → r.tallest < suc low → going (suc fuel) best r (front ++ ts) ≡ fed k (suc low) (going fuel) best r (reader j (front ++ ts))
@@ -130,19 +155,15 @@ module _ (reader : ℕ → Reader) (low : ℕ) (wholes : AreWhole reader low) (k
       inr (p, ts, e, ap (λ (o : Option Node). stopped (best_of o best r rest) (here ts)) d ∙ ap (λ (x : Reading). Reads (whole x n) rest (Some (here ts))) t, taker)
   broke fuel best r (Tok q ∷ items) p ts false taker asks goes t room e h =
       let same : text items ++ rest ≡ ts = ap tail_of e in
-      let g = trail_grows k rest items t.0 end t.2 in
       let yes : reaches (suc low) (next k r (q ∷ (text items ++ rest))) (here ts) ≡ true =
       ap (λ (x : Next). reaches (suc low) x (here ts)) (next_shift k r t.0 q (text items ++ rest) t.1)
       ∙ ap (λ (w : List Token). reaches (suc low) (Shifted t.0 w) (here ts)) same
-      ∙ reaches_on (suc low) t.0 ts (omega arith) in
+      ∙ reaches_on (suc low) t.0 ts (trail_low k rest items t.0 end n low t.2 finished fits) in
       absurd (no_test (reaches (suc low) (next k r (q ∷ (text items ++ rest))) (here ts)) h yes)
     where
       tail_of : List Token → List Token
       tail_of [] = []
       tail_of (w ∷ ws) = ws
-
-      no_test : (c : Bool) → c ≡ false → c ≡ true → ⊥
-      no_test c x y = absurd cc
   broke fuel best r (Sub f x ∷ items) p ts false taker asks goes t room e h = let same : None ≡ Some t.0 = sym asks ∙ t.1 in absurd cc
 
   after_whole : (fuel j : ℕ) (best : Option Best) (r : Reading) (e : Part) (items : List Item) (o : Outcome) → takes r.state ≡ Some j → Goes items → Trail k rest (feed r e) items end → length (text items ++ rest) < fuel → IsWhole e (text items ++ rest) o → Comes (fed k (suc low) (go fuel) best r o)
@@ -156,9 +177,8 @@ module _ (reader : ℕ → Reader) (low : ℕ) (wholes : AreWhole reader low) (k
   along [] fuel best r t room = inl (fuel, best, room, ap (λ (x : Reading). go fuel best x rest) t)
   along (Tok p ∷ items) zero best r t room = absurd (omega arith)
   along (Tok p ∷ items) (suc fuel) best r t room =
-      let g = trail_grows k rest items t.0 end t.2 in
       comes_along (go (suc fuel) best r (p ∷ (text items ++ rest))) (go fuel (best_of (done r.state) best r (p ∷ (text items ++ rest))) t.0 (text items ++ rest))
-      (run_shift reader low k fuel best r t.0 p (text items ++ rest) t.1 (omega arith))
+      (run_shift reader low k fuel best r t.0 p (text items ++ rest) t.1 (trail_low k rest items t.0 end n low t.2 finished fits))
       (along items fuel (best_of (done r.state) best r (p ∷ (text items ++ rest))) t.0 t.2 (omega arith))
   along (Sub e f ∷ items) zero best r t room = absurd (omega arith)
   along (Sub e f ∷ items) (suc fuel) best r t room =
@@ -177,7 +197,8 @@ unfolding run
 blocked_at reader low k fuel best end more n p ts d e open_ ends =
     let go = run (operand_of reader) k (suc low) fuel in
     let go1 = run (operand_of reader) k (suc low) (suc fuel) in
-    let high : is_high (suc low) more ≡ false = ap (λ (o : Option Node). is_some o && leb (suc low) more.tallest) open_ in
+    let asks_none : takes more.state ≡ None = subst (Follows k more ts) ends (next_follows k more ts) in
+    let high : is_high (suc low) more ≡ false = rw (open_, ends_needs more.state asks_none) refl in
     ap (turn (operand_of reader) k (suc low) go1 best end (p ∷ ts)) (next_shift k end more p ts e)
     ∙ ap (λ (b : Bool). cond b (stopped (best_of (done end.state) best end (p ∷ ts)) (too_deep (p ∷ ts))) (go1 (best_of (done end.state) best end (p ∷ ts)) more ts)) high
     ∙ ap (λ (o : Option Node). go1 (best_of o best end (p ∷ ts)) more ts) d

@@ -1,22 +1,25 @@
 -- Reading goes at least as far as the tokens agree with the spelling of an expression.
-use Rattle.std.proofs.Common.{◌≡◌, ℕ, zero, suc, ◌<◌, ◌≤◌, Bool, true, false, cond, ◌&&◌, not, nat_eq, leb, List, [], ◌∷◌, ◌++◌, length, Option, Some, None, refl, sym, ap, subst, ◌∙◌, append_assoc, arith, inl, inr, ◌⊎◌}
+use Rattle.std.proofs.Common.{◌≡◌, ℕ, zero, suc, ◌<◌, ◌≤◌, Bool, true, false, cond, ◌&&◌, ◌||◌, not, nat_eq, leb, List, [], ◌∷◌, ◌++◌, length, Option, Some, None, refl, sym, ap, subst, ◌∙◌, append_assoc, arith, inl, inr, ◌⊎◌}
 use Rattle.std.proofs.lemmas.Bool.{leb-true}
 use Rattle.std.proofs.lemmas.List.{length-append}
 use Rattle.cat_lex.specs.declared.token.Token.{Token}
 use Rattle.cat_tree.specs.declared.expression.Node.{Node}
-use Rattle.cat_parse_expr.specs.declared.state.Part.{Part}
-use Rattle.cat_parse_expr.specs.declared.state.Reading.{Reading}
-use Rattle.cat_parse_expr.specs.Machine.{shift, takes, feed, done}
+use Rattle.cat_parse_step.specs.declared.state.Part.{Part}
+use Rattle.cat_parse_step.specs.declared.state.Reading.{Reading}
+use Rattle.cat_parse_step.specs.Machine.{shift, feed, done}
+use Rattle.cat_parse_step.specs.Operands.{takes, needs_part, is_some}
 use Rattle.cat_parse_expr.proofs.Rows.{IsPart}
 use Rattle.cat_parse_expr.proofs.Meaning.{Item, Tok, Sub, text, CalmAt, Path, Taker}
-use Rattle.cat_parse_expr.specs.Reader.{Outcome, Reads, Reader, here, too_deep, Best, whole, best_of, stopped, ended, Next, Shifted, asked, shifted, next, is_some, is_high, Going, reaches, fed, turn, run, operand_of}
+use Rattle.cat_parse_expr.specs.Results.{Outcome, Reads, Reader, here, too_deep}
+use Rattle.cat_parse_expr.specs.Reader.{Best, whole, best_of, stopped, ended, Next, Shifted, asked, shifted, next, is_high, Going, reaches, fed, turn, run, operand_of}
+use Rattle.cat_parse_expr.proofs.Laws.{part_high}
 use Rattle.cat_parse_expr.proofs.Ways.{part_some}
-use Rattle.cat_parse_expr.proofs.Closing.{unit_low}
+use Rattle.cat_parse_expr.proofs.Closing.{unit_low, unit_needs}
 use Rattle.cat_parse_expr.proofs.Calming.{closes}
 use Rattle.cat_parse_expr.proofs.Moves.{takes_low, feed_tallest, feed_wants, done_wants}
 use Rattle.cat_parse_expr.proofs.Viable.{AreFine}
 use Rattle.cat_parse_expr.proofs.Whole.{IsWhole, AreWhole, next_shift, run_is, run_shift, run_feed, nat_same}
-use Rattle.cat_parse_expr.proofs.High.{high, path_grows, done_of_high, tail_of, head_or}
+use Rattle.cat_parse_expr.proofs.High.{high, path_grows, path_low, done_of_high, high_done, first_holds_before, tail_of, head_or}
 use Rattle.cat_parse_expr.proofs.Short.{Short, Leaves, leaves_of, run_short, short_fed}
 
 -- a whole expression was read before one more token, or reading went past that token
@@ -40,24 +43,24 @@ module _ (reader : ℕ → Reader) (low : ℕ) (fine : AreFine reader low) (whol
     Heads (Tok q) = (more : Reading) × (ts : List Token) × (w ≡ q ∷ ts) × (shift k (feed r e) q ≡ Some more)
     Heads (Sub f x) = ⊥
 
-    reach_head : (p q : Token) (ts us : List Token) (more : Reading) (b : Bool) → w ≡ q ∷ ts → shift k (feed r e) q ≡ Some more → w ≡ p ∷ us → Taker p → is_high (suc low) more ≡ b → reaches (suc low) (next k (feed r e) w) (here us) ≡ true
-    reach_head p q ts us more true e1 h e2 taker high =
-        let d = done_of_high (done more.state) (leb (suc low) more.tallest) high in
+    reach_head : (p q : Token) (ts us : List Token) (more : Reading) (b : Bool) → 0 < low → w ≡ q ∷ ts → shift k (feed r e) q ≡ Some more → w ≡ p ∷ us → Taker p → is_high (suc low) more ≡ b → reaches (suc low) (next k (feed r e) w) (here us) ≡ true
+    reach_head p q ts us more true some e1 h e2 taker high =
+        let d = high_done low more some high in
         let same : q ≡ p = ap (head_or q) (sym e1 ∙ e2) in
         absurd (closes k j r more e q d.0 asks h d.1 (subst Taker (sym same) taker))
-    reach_head p q ts us more false e1 h e2 taker high =
+    reach_head p q ts us more false some e1 h e2 taker high =
         let same : ts ≡ us = ap tail_of (sym e1 ∙ e2) in
         ap (λ (x : List Token). reaches (suc low) (next k (feed r e) x) (here us)) e1
         ∙ ap (λ (x : Next). reaches (suc low) x (here us)) (next_shift k (feed r e) more q ts h)
         ∙ ap (λ (x : List Token). reaches (suc low) (Shifted more x) (here us)) same
         ∙ ap (λ (x : Bool). not x && nat_eq (length us) (length us)) high ∙ nat_same (length us)
 
-    pub whole_goes : (o : Outcome) → Heads i → IsWhole e w o → fed k (suc low) (go fuel) best r o ≡ go fuel best (feed r e) w
-    whole_goes o h (inl is) = ap (fed k (suc low) (go fuel) best r) is
-    whole_goes o h (inr v) = ap (fed k (suc low) (go fuel) best r) v.3 ∙ by i h
+    pub whole_goes : (o : Outcome) → 0 < low → Heads i → IsWhole e w o → fed k (suc low) (go fuel) best r o ≡ go fuel best (feed r e) w
+    whole_goes o some h (inl is) = ap (fed k (suc low) (go fuel) best r) is
+    whole_goes o some h (inr v) = ap (fed k (suc low) (go fuel) best r) v.3 ∙ by i h
       where
         by : (i : Item) → Heads i → fed k (suc low) (go fuel) best r (Reads e w (Some (here v.1))) ≡ go fuel best (feed r e) w
-        by (Tok q) h = ap (λ (b : Bool). cond b (go fuel best (feed r e) w) (stopped (best_of (done (feed r e).state) best (feed r e) w) (here v.1))) (reach_head v.0 q h.1 v.1 h.0 (is_high (suc low) h.0) h.2 h.3 v.2 v.4 refl)
+        by (Tok q) h = ap (λ (b : Bool). cond b (go fuel best (feed r e) w) (stopped (best_of (done (feed r e).state) best (feed r e) w) (here v.1))) (reach_head v.0 q h.1 v.1 h.0 (is_high (suc low) h.0) some h.2 h.3 v.2 v.4 refl)
         by (Sub f x) h = absurd h
 
   pub heads_of : (fuel j : ℕ) (best : Option Best) (r : Reading) (e : Part) (bound : ℕ) (i : Item) (items : List Item) (end : Reading) (w ts : List Token) (asks : takes r.state ≡ Some j) → Path k bound (feed r e) (i ∷ items) end → w ≡ text (i ∷ items) ++ ts → Heads fuel j best r e bound i items end w asks i
@@ -70,9 +73,10 @@ module _ (reader : ℕ → Reader) (low : ℕ) (fine : AreFine reader low) (whol
     end_shift : (fuel : ℕ) (best : Option Best) (more : Reading) (zs : List Token) (b : Bool) → q ∷ z ≡ q ∷ zs → shift k end q ≡ Some more → is_high (suc low) more ≡ b
         → Passes (whole end n) q z (cond b (stopped (best_of (done end.state) best end (q ∷ z)) (too_deep (q ∷ z))) (go fuel (best_of (done end.state) best end (q ∷ z)) more z))
     end_shift fuel best more zs true same e high =
-        let d = done_of_high (done more.state) (leb (suc low) more.tallest) high in
+        let whole_high = first_holds_before (is_some (done more.state) && leb (suc low) more.tallest) (needs_part more.state) (leb (suc low) 1) (unit_needs k end more q n finished e) high in
+        let d = done_of_high (done more.state) (leb (suc low) more.tallest) whole_high in
         let is = unit_low k end more q n d.0 finished e d.1 in
-        absurd (above (done more.state) high (omega (arith, is)))
+        absurd (above (done more.state) whole_high (omega (arith, is)))
       where
         above : (o : Option Node) → (is_some o && leb (suc low) more.tallest) ≡ true → more.tallest ≤ low → ⊥
         above None h le = absurd cc
@@ -103,10 +107,9 @@ module _ (reader : ℕ → Reader) (low : ℕ) (fine : AreFine reader low) (whol
     passing [] fuel best r t room = at_end fuel best r t room
     passing (Tok p ∷ items) zero best r t room = absurd (omega arith)
     passing (Tok p ∷ items) (suc fuel) best r t room =
-        let g = path_grows k bound items t.0 end t.2 in
         let ts = text items ++ q ∷ z in
         passes_along (whole end n) q z (go (suc fuel) best r (p ∷ ts)) (go fuel (best_of (done r.state) best r (p ∷ ts)) t.0 ts)
-        (run_shift reader low k fuel best r t.0 p ts t.1 (omega arith))
+        (run_shift reader low k fuel best r t.0 p ts t.1 (path_low k bound items t.0 end n low t.2 finished fits))
         (passing items fuel (best_of (done r.state) best r (p ∷ ts)) t.0 t.2 (omega arith))
     passing (Sub e f ∷ items) zero best r t room = absurd (omega arith)
     passing (Sub e f ∷ items) (suc fuel) best r t room =
@@ -124,5 +127,5 @@ module _ (reader : ℕ → Reader) (low : ℕ) (fine : AreFine reader low) (whol
         by (i ∷ items) calm way room2 room3 l goes =
             let w = text (i ∷ items) ++ q ∷ z in
             passes_along (whole end n) q z (fed k (suc low) (go fuel) best r (reader t.0 (f ++ w))) (go fuel best (feed r e) w)
-            (whole_goes fuel t.0 best r e bound i items end w t.1 (reader t.0 (f ++ w)) (heads_of fuel t.0 best r e bound i items end w (q ∷ z) t.1 way refl) (whole_is t.0 e f w t.2 (omega (arith, feed_tallest r e, path_grows k bound (i ∷ items) (feed r e) end way)) (calm (q ∷ z))))
+            (whole_goes fuel t.0 best r e bound i items end w t.1 (reader t.0 (f ++ w)) (omega (arith, part_high t.0 e f t.2, feed_tallest r e, path_grows k bound (i ∷ items) (feed r e) end way)) (heads_of fuel t.0 best r e bound i items end w (q ∷ z) t.1 way refl) (whole_is t.0 e f w t.2 (omega (arith, feed_tallest r e, path_grows k bound (i ∷ items) (feed r e) end way)) (calm (q ∷ z))))
             (goes fuel best (feed r e) way room2)

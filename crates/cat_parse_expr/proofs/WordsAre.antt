@@ -7,7 +7,8 @@ use Rattle.cat_lex.specs.declared.words.Keyword.TheVariants as key
 use Rattle.cat_lex.specs.declared.words.DoubleKeyword.TheVariants as pair
 use Rattle.cat_lex.specs.declared.symbol.Symbol.TheVariants as symbol
 use Rattle.cat_tree.specs.declared.name.Name.{Name}
-use Rattle.cat_parse_expr.specs.Words.{Move, on_of, on_then, on_else, on_among, on_in, on_initially, on_with, on_to, on_anything, on_content, on_with_pattern, on_we_have, on_such_that, on_close, on_bracket, on_semicolon, on_comma, on_colon, on_dot, on_dashes, on_brace, on_end_brace, lower_of, upper_of}
+use Rattle.cat_parse_step.specs.Words.{Move, on_of, on_then, on_else, on_among, on_in, on_initially, on_with, on_to, on_anything, on_content, on_with_pattern, on_we_have, on_such_that, lower_of, upper_of}
+use Rattle.cat_parse_step.specs.Marks.{on_close, on_bracket, on_semicolon, on_comma, on_colon, on_dot, on_dashes, on_brace, on_end_brace}
 
 pub on_of_is : (a b : Option Move) (k : TokenKind) (m : Move) → on_of a b k ≡ Some m → ((k ≡ kind.Word key.Of) × (a ≡ Some m)) ⊎ (b ≡ Some m)
 on_of_is a b (kind.Word key.Of) m h = inl (refl, h)

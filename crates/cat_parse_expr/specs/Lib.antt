@@ -1,5 +1,6 @@
-pub mod Words
-pub mod Steps
-pub mod Machine
+pub mod Fallback
+pub mod Results
 pub mod Reader
 pub mod Places
+pub mod Causes
+pub mod Loop

@@ -1,51 +1,33 @@
 -- Reading, with how far the tokens went on as an expression.
-use Rattle.std.specs.Prelude.{ℕ, zero, suc, Bool, true, false, not, ◌&&◌, if◌then◌else◌, nat_eq, nat_le, List, [], ◌∷◌, length, Option, Some, None}
+use Rattle.std.specs.Prelude.{if◌then◌else◌, ℕ, zero, suc, Bool, false, not, ◌&&◌, ◌||◌, nat_eq, nat_le, List, [], ◌∷◌, length, Option, Some, None}
 use Rattle.cat_lex.specs.declared.token.Token.{Token}
 use Rattle.cat_tree.specs.declared.expression.Node.{Node}
-use Rattle.cat_parse_expr.specs.declared.state.Part.{Part}
-use Rattle.cat_parse_expr.specs.declared.state.Reading.{Reading}
-use Rattle.cat_parse_expr.specs.Machine.{start, shift, takes, feed, done}
-
--- what is left where reading stopped, and whether it stopped there for the height alone
-pub record Stop : Type 0 where
-  pub left : List Token
-  pub deep : Bool
-
--- A tree that was read comes with what follows it, and where a longer one broke off, if further on.
-pub data Outcome : Type 0 where
-  Fails : Stop → Outcome
-  Reads : Part → List Token → Option Stop → Outcome
-
-abbrev pub Reader : Type 0
-Reader = List Token → Outcome
-
-abbrev pub here : List Token → Stop
-here ts = record { left = ts; deep = false }
-
-abbrev pub too_deep : List Token → Stop
-too_deep ts = record { left = ts; deep = true }
-
-abbrev pub stop_of : Outcome → Stop
-stop_of (Fails s) = s
-stop_of (Reads e ts None) = here ts
-stop_of (Reads e ts (Some s)) = s
+use Rattle.cat_parse_step.specs.declared.state.Part.{Part}
+use Rattle.cat_parse_step.specs.declared.state.Reading.{Reading}
+use Rattle.cat_parse_step.specs.Machine.{start, shift, feed, done}
+use Rattle.cat_parse_step.specs.Operands.{is_some, takes, needs_part}
+use Rattle.cat_parse_expr.specs.Results.{Stop, Outcome, Fails, Reads, Reader, here, too_deep}
 
 -- the last whole expression on the way, and what follows it
 pub record Best : Type 0 where
   pub part : Part
   pub rest : List Token
 
+-- what is whole here, as a part
 abbrev pub whole : Reading → Node → Part
 whole r n = record { node = n; height = suc r.tallest; in_form = r.in_form; in_match = r.in_match }
 
+-- what is whole here, or else the last whole expression before
 abbrev pub best_of : Option Node → Option Best → Reading → List Token → Option Best
 best_of None best r ts = best
 best_of (Some n) best r ts = Some (record { part = whole r n; rest = ts })
 
+-- what is read where a stop was met
 abbrev pub stopped : Option Best → Stop → Outcome
 stopped None s = Fails s
 stopped (Some b) s = Reads b.part b.rest (Some s)
 
+-- what is read where nothing can follow
 abbrev pub ended : Option Node → Option Best → Reading → List Token → Outcome
 ended None best r ts = stopped best (here ts)
 ended (Some n) best r ts = Reads (whole r n) ts None
@@ -56,26 +38,26 @@ pub data Next : Type 0 where
   Asks : ℕ → Next
   Ends : Next
 
+-- what comes next where no word does
 abbrev pub asked : Option ℕ → Next
 asked (Some j) = Asks j
 asked None = Ends
 
+-- what comes next where a word may
 abbrev pub shifted : Reading → List Token → Option Reading → Next
 shifted r ts (Some more) = Shifted more ts
 shifted r ts None = asked (takes r.state)
 
+-- what comes next at these tokens
 abbrev pub next : ℕ → Reading → List Token → Next
 next k r [] = asked (takes r.state)
 next k r (p ∷ ts) = shifted r ts (shift k r p)
 
-abbrev pub is_some : {A : Type 0} → Option A → Bool
-is_some None = false
-is_some (Some x) = true
-
--- whether the tree that is whole here is higher than it may be
+-- whether the tree is higher than it may be: the one that is whole here, or one that has to have a part
 abbrev pub is_high : ℕ → Reading → Bool
-is_high limit r = is_some (done r.state) && nat_le limit r.tallest
+is_high limit r = (is_some (done r.state) && nat_le limit r.tallest) || (needs_part r.state && nat_le limit 1)
 
+-- how reading goes on
 abbrev pub Going : Type 0
 Going = Option Best → Reading → List Token → Outcome
 
@@ -85,16 +67,19 @@ reaches limit (Shifted more ts) s = not s.deep && not (is_high limit more) && na
 reaches limit (Asks j) s = false
 reaches limit Ends s = false
 
+-- how reading goes on with an operand that was read, or stops where it broke off
 abbrev pub fed : (k limit : ℕ) → Going → Option Best → Reading → Outcome → Outcome
 fed k limit go best r (Fails s) = stopped best s
 fed k limit go best r (Reads e ts None) = go best (feed r e) ts
 fed k limit go best r (Reads e ts (Some s)) = if reaches limit (next k (feed r e) ts) s then go best (feed r e) ts else stopped (best_of (done (feed r e).state) best (feed r e) ts) s
 
+-- one word or one operand of reading
 abbrev pub turn : (operand : Bool → ℕ → Reader) (k limit : ℕ) → Going → Option Best → Reading → List Token → Next → Outcome
 turn operand k limit go best r ts (Shifted more rest) = if is_high limit more then stopped (best_of (done r.state) best r ts) (too_deep ts) else go (best_of (done r.state) best r ts) more rest
 turn operand k limit go best r ts (Asks j) = fed k limit go best r (operand (nat_le limit r.tallest) j ts)
 turn operand k limit go best r ts Ends = ended (done r.state) best r ts
 
+-- reading from a state on
 unfoldable pub run : (operand : Bool → ℕ → Reader) (k limit fuel : ℕ) → Going
 run operand k limit zero best r ts = stopped best (here ts)
 run operand k limit (suc fuel) best r ts = turn operand k limit (run operand k limit fuel) best r ts (next k r ts)
@@ -104,6 +89,7 @@ abbrev pub starts : ℕ → List Token → Bool
 starts k [] = false
 starts k (p ∷ ts) = is_some (shift k start p)
 
+-- nothing is read for the height, where a part would begin
 abbrev pub nothing_at : ℕ → Reader
 nothing_at k ts = Fails (record { left = ts; deep = starts k ts })
 

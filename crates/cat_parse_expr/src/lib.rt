@@ -1,6 +1,15 @@
 //! Reads expressions: the longest one that begins at a place of a list of tokens.
 #![tactic(auto)]
 
-mod state;
+mod expression;
+mod fallback;
+mod outcome;
+mod reader;
+mod refusal;
+mod standing;
 
-pub use state::{Combining, Matching, Owner, Part, Reading, State};
+pub use expression::{expr, expr_reach, tokens_spell_one_expression};
+pub use refusal::ParseRefusal;
+
+#[cfg(test)]
+mod tests;

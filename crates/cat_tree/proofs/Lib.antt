@@ -1,0 +1,4 @@
+pub mod Equations
+pub mod HeightEquations
+pub mod Along
+pub mod Samples

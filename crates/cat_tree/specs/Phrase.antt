@@ -1,5 +1,5 @@
 -- A phrase: a row of words and smaller phrases; how high it is, where it may stand, and which tokens spell it.
-use Rattle.std.specs.Prelude.{ℕ, suc, ◌≤◌, ◌≡◌, max, Bool, true, false, ◌||◌, if◌then◌else◌, IsTrue, List, [], ◌∷◌, ◌++◌}
+use Rattle.std.specs.Prelude.{ℕ, suc, ◌≤◌, ◌≡◌, max, Bool, true, false, ◌||◌, if◌then◌else◌, List, [], ◌∷◌, ◌++◌}
 use Rattle.cat_pos.specs.declared.pos.Pos.{Pos}
 use Rattle.cat_lex.specs.declared.token.Token.{Token}
 use Rattle.cat_lex.specs.declared.token.TokenKind.{TokenKind}
@@ -61,6 +61,7 @@ abbrev mutual
   last_in_match b (Word m ps) = last_in_match false ps
   last_in_match b (Part s e ps) = last_in_match (ends_in_match e) ps
 
+-- as what level it stands as a right operand
 abbrev pub right_strength : Phrase → ℕ
 right_strength (Row r ps) = r.level
 
@@ -83,6 +84,7 @@ abbrev mutual
   AreLevelled (Word m ps) = AreLevelled ps
   AreLevelled (Part s e ps) = Stands s e × IsLevelled e × AreLevelled ps
 
+-- the token is the one that is marked, in its place where that is kept
 abbrev pub IsAt : Mark → Token → Type 0
 IsAt (At kind pos) t = t ≡ record { kind = kind; pos = pos }
 IsAt (Anywhere kind) t = t.kind ≡ kind

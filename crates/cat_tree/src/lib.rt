@@ -2,12 +2,14 @@
 #![tactic(auto)]
 
 mod expression;
+mod heights;
 mod name;
 mod program;
 
 pub use expression::{
     Arm, Arms, Each, FieldValue, FieldValues, Literal, Node, Nodes, Operator, Pattern, Prefix, Unit,
 };
+pub use heights::height;
 pub use name::{Base, CaseName, Name, Type};
 pub use program::{
     CaseItem, Exception, FieldItem, FieldItems, Fulfilled, Item, Kind, Lead, Scope, Target, Tree,

@@ -19,7 +19,11 @@ use Rattle.cat_tree.specs.declared.expression.Node.TheFolds.{fold-Arm, fold-Fiel
 use Rattle.cat_tree.specs.declared.expression.FieldValue.{FieldValue}
 use Rattle.cat_tree.specs.declared.expression.Arm.{Arm}
 use Rattle.cat_tree.specs.Phrase.{Phrase, Row, End}
-use Rattle.cat_tree.specs.Grammar.{◌▹◌, first, key_at, pair_at, symbol_at, «word», words, sign, lower, upper, part, left, of_level, form, if_some, match_of, literal_parts, literal_rank, case_parts, type_parts, prefix_parts, prefix_level, operator_kind, operator_level, left_level, fields, arms, elements, each_parts, phrase, phrase_step, field_step, arm_step}
+use Rattle.cat_tree.specs.Wording.{◌▹◌, first, key_at, pair_at, symbol_at, «word», words, sign, lower, upper, part, left, of_level, form, if_some, match_of}
+use Rattle.cat_tree.specs.Literals.{literal_parts, literal_rank, case_parts, type_parts}
+use Rattle.cat_tree.specs.Operators.{prefix_parts, prefix_level, operator_kind, operator_level, left_level}
+use Rattle.cat_tree.specs.Rows.{fields, arms, elements, each_parts}
+use Rattle.cat_tree.specs.Grammar.{phrase, phrase_step, field_step, arm_step}
 
 abbrev pub field_row : FieldValue → Name × Phrase
 field_row f = (f.name, phrase f.value)
@@ -129,3 +133,5 @@ phrase_Each k p w l e = search (rules, node.the_lemmas, fold_out-Node Phrase (Pa
 pub phrase_Combine : (p : Pos) (w : Name) (l : Node) (acc : Name) (s e : Node) → phrase (node.Combine p w l acc s e) ≡ Row form (pair_at pair.CombineAll p ▹ lower w ▹ «word» key.Among ▹ part 0 (phrase l) ▹ «word» key.In ▹ lower acc ▹ «word» key.Initially ▹ part 0 (phrase s) ▹ «word» key.With ▹ part 0 (phrase e) ▹ End)
 unfolding phrase
 phrase_Combine p w l acc s e = search (rules, node.the_lemmas, fold_out-Node Phrase (Pattern × Phrase) (Name × Phrase) phrase_step arm_step field_step)
+
+pub ruleset phrases = (phrase_Literal, phrase_Name, phrase_Case, phrase_Parens, phrase_Field, phrase_Prefixed, phrase_Sum, phrase_Content, phrase_Call, phrase_Binary, phrase_Test, phrase_List, phrase_Structure, phrase_ScopeCall, phrase_If, phrase_Match, phrase_Each, phrase_Combine)

@@ -1,5 +1,5 @@
 -- How one word goes on from a state.
-use Rattle.std.specs.Prelude.{ℕ, suc, nat_le, true, false, ◌&&◌, if◌then◌else◌, List, [], ◌∷◌, Option, Some, None}
+use Rattle.std.specs.Prelude.{if◌then◌else◌, ℕ, suc, nat_le, ◌&&◌, List, [], ◌∷◌, Option, Some, None}
 use Rattle.cat_pos.specs.declared.pos.Pos.{Pos}
 use Rattle.cat_lex.specs.declared.token.Token.{Token}
 use Rattle.cat_lex.specs.declared.token.TokenKind.{TokenKind}
@@ -11,70 +11,26 @@ use Rattle.cat_tree.specs.declared.name.Name.{Name}
 use Rattle.cat_tree.specs.declared.name.CaseName.{CaseName}
 use Rattle.cat_tree.specs.declared.name.CaseName.TheVariants.{Bare, Qualified}
 use Rattle.cat_tree.specs.declared.name.Base.TheVariants as base
-use Rattle.cat_tree.specs.declared.expression.Literal.TheVariants as literal
-use Rattle.cat_tree.specs.declared.expression.Prefix.TheVariants as prefix
-use Rattle.cat_tree.specs.declared.expression.Operator.{Operator}
 use Rattle.cat_tree.specs.declared.expression.Operator.TheVariants as op
 use Rattle.cat_tree.specs.declared.expression.Each.{Each}
 use Rattle.cat_tree.specs.declared.expression.Each.TheVariants as each
 use Rattle.cat_tree.specs.declared.expression.Node.{Node}
-use Rattle.cat_tree.specs.declared.expression.Node.TheVariants as leaf
 use Rattle.cat_tree.specs.declared.expression.Node.TheViews as node
 use Rattle.cat_tree.specs.declared.expression.FieldValue.{FieldValue}
-use Rattle.cat_tree.specs.Grammar.{operator_level, left_level}
-use Rattle.cat_parse_expr.specs.declared.state.State.{State}
-use Rattle.cat_parse_expr.specs.declared.state.State.TheVariants as state
-use Rattle.cat_parse_expr.specs.declared.state.Owner.{Owner}
-use Rattle.cat_parse_expr.specs.declared.state.Owner.TheVariants as owner
-use Rattle.cat_parse_expr.specs.Words.{Move, Onward, Grown, on_to, on_we_have, on_such_that}
+use Rattle.cat_tree.specs.Operators.{operator_level, left_level}
+use Rattle.cat_parse_step.specs.declared.state.State.{State}
+use Rattle.cat_parse_step.specs.declared.state.State.TheVariants as state
+use Rattle.cat_parse_step.specs.declared.state.Owner.{Owner}
+use Rattle.cat_parse_step.specs.declared.state.Owner.TheVariants as owner
+use Rattle.cat_parse_step.specs.declared.follow.Follow.{Follow}
+use Rattle.cat_parse_step.specs.declared.follow.Follow.TheVariants.{Operated, Dotted, Tests, Other}
+use Rattle.cat_parse_step.specs.Words.{Move, Onward, Grown, on_to, on_we_have, on_such_that}
 
 -- ---- at the start
 
--- where a level is asked for, only what stands there
-abbrev pub if_at : (k level : ℕ) → State → Option Move
-if_at k level q = if nat_le k level then Some (Onward q) else None
-
-abbrev pub start_step : ℕ → Pos → TokenKind → Option Move
-start_step k p (kind.Int n) = Some (Onward (state.Int n p))
-start_step k p (kind.Dec n d) = Some (Onward (state.Complete (leaf.Literal (literal.Dec n d) p) 9))
-start_step k p (kind.Pct n d) = Some (Onward (state.Complete (leaf.Literal (literal.Pct n d) p) 9))
-start_step k p (kind.Money m) = Some (Onward (state.Complete (leaf.Literal (literal.Money m) p) 9))
-start_step k p (kind.Date d) = Some (Onward (state.Complete (leaf.Literal (literal.Date d) p) 9))
-start_step k p (kind.Word key.True) = Some (Onward (state.Complete (leaf.Literal (literal.Boolean true) p) 9))
-start_step k p (kind.Word key.False) = Some (Onward (state.Complete (leaf.Literal (literal.Boolean false) p) 9))
-start_step k p (kind.Lower w) = Some (Onward (state.Name (record { text = w; pos = p })))
-start_step k p (kind.Upper u) = Some (Onward (state.Upper (record { text = u; pos = p })))
-start_step k p (kind.Symbol symbol.LeftParen) = Some (Onward (state.Open p))
-start_step k p (kind.Symbol symbol.LeftBracket) = Some (Onward (state.Element p []))
-start_step k p (kind.Pair pair.OutputOf) = Some (Onward (state.CallScope p))
-start_step k p (kind.Word key.Not) = if_at k 3 (state.Prefixed prefix.Not p)
-start_step k p (kind.Symbol symbol.Minus) = if_at k 7 (state.Prefixed prefix.Negate p)
-start_step k p (kind.Word key.Integer) = if_at k 8 (state.PrefixOf prefix.IntegerOf p)
-start_step k p (kind.Word key.Decimal) = if_at k 8 (state.PrefixOf prefix.DecimalOf p)
-start_step k p (kind.Word key.Money) = if_at k 8 (state.PrefixOf prefix.MoneyOf p)
-start_step k p (kind.Word key.GetYear) = if_at k 8 (state.PrefixOf prefix.GetYear p)
-start_step k p (kind.Word key.GetMonth) = if_at k 8 (state.PrefixOf prefix.GetMonth p)
-start_step k p (kind.Word key.GetDay) = if_at k 8 (state.PrefixOf prefix.GetDay p)
-start_step k p (kind.Pair pair.RoundOf) = if_at k 8 (state.Prefixed prefix.RoundOf p)
-start_step k p (kind.Pair pair.NumberOf) = if_at k 8 (state.Prefixed prefix.NumberOf p)
-start_step k p (kind.Word key.Sum) = if_at k 8 (state.SumType p 0)
-start_step k p (kind.Word key.If) = if_at k 8 (state.If p)
-start_step k p (kind.Word key.Match) = if_at k 8 (state.Match p)
-start_step k p (kind.Pair pair.ForAll) = if_at k 8 (state.Each each.ForAll p)
-start_step k p (kind.Word key.Exists) = if_at k 8 (state.Each each.Exists p)
-start_step k p (kind.Pair pair.MapEach) = if_at k 8 (state.Each each.MapEach p)
-start_step k p (kind.Pair pair.ListOf) = if_at k 8 (state.Each each.ListOf p)
-start_step k p (kind.Pair pair.CombineAll) = if_at k 8 (state.Combine p)
-start_step k p _ = None
-
 -- ---- behind a whole expression
 
-pub data Follow : Type 0 where
-  Operated : Operator → Follow
-  Dotted : Follow
-  Tests : Follow
-  Other : Follow
-
+-- what a token is behind a whole expression
 abbrev pub follow_of : TokenKind → Follow
 follow_of (kind.Word key.Or) = Operated op.Or
 follow_of (kind.Word key.Xor) = Operated op.Xor
@@ -101,11 +57,13 @@ whole_next k s n p Dotted = if nat_le 9 s then Some (Grown (state.Dot n)) else N
 whole_next k s n p Tests = if nat_le k 4 && nat_le 5 s then Some (Grown (state.WithPattern n p)) else None
 whole_next k s n p Other = None
 
+-- one word behind a whole expression
 abbrev pub whole_step : (k strength : ℕ) → Node → Token → Option Move
 whole_step k s n t = whole_next k s n t.pos (follow_of t.kind)
 
 -- ---- types, fields and arms
 
+-- one word of the type of a sum
 abbrev pub type_step : Pos → ℕ → Pos → TokenKind → Option Move
 type_step p n at (kind.Pair pair.ListOf) = Some (Onward (state.SumType p (suc n)))
 type_step p n at (kind.Word key.Boolean) = Some (Onward (state.SumOf p (record { lists = n; base = base.Boolean; pos = at })))
@@ -117,17 +75,20 @@ type_step p n at (kind.Word key.Duration) = Some (Onward (state.SumOf p (record 
 type_step p n at (kind.Upper u) = Some (Onward (state.SumOf p (record { lists = n; base = base.Named u; pos = at })))
 type_step p n at _ = None
 
+-- the brace behind fields
 abbrev pub fields_end : Owner → List FieldValue → Option Move
 fields_end (owner.Literal u) [] = None
 fields_end (owner.Literal u) (f ∷ fs) = Some (Onward (state.Complete (node.Structure u (f ∷ fs)) 9))
 fields_end (owner.Call p u) fs = Some (Onward (state.CallDot p u fs))
 
+-- the word before a form's body
 abbrev pub each_step : Each → State → TokenKind → Option Move
 each_step each.ForAll q t = on_we_have (Some (Onward q)) None t
 each_step each.Exists q t = on_such_that (Some (Onward q)) None t
 each_step each.MapEach q t = on_to (Some (Onward q)) None t
 each_step each.ListOf q t = on_such_that (Some (Onward q)) None t
 
+-- the dot behind an arm's case
 abbrev pub case_dot : CaseName → (Name → Move) → Option Move
 case_dot (Bare u) f = Some (f u)
 case_dot (Qualified e c) f = None

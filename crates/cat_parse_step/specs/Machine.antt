@@ -1,5 +1,5 @@
 -- The states of reading: which word, and which operand, leads from one to the next.
-use Rattle.std.specs.Prelude.{ℕ, suc, max, int_lt, Bool, true, false, ◌||◌, if◌then◌else◌, [], ◌∷◌, ◌++◌, Option, Some, None}
+use Rattle.std.specs.Prelude.{ℕ, suc, max, int_lt, false, ◌||◌, if◌then◌else◌, [], Option, Some, None}
 use Rattle.cat_lex.specs.declared.token.Token.{Token}
 use Rattle.cat_tree.specs.declared.name.CaseName.TheVariants.{Bare, Qualified}
 use Rattle.cat_tree.specs.declared.expression.Literal.TheVariants as literal
@@ -7,14 +7,17 @@ use Rattle.cat_tree.specs.declared.expression.Pattern.TheVariants as pattern
 use Rattle.cat_tree.specs.declared.expression.Node.{Node}
 use Rattle.cat_tree.specs.declared.expression.Node.TheVariants as leaf
 use Rattle.cat_tree.specs.declared.expression.Node.TheViews as node
-use Rattle.cat_tree.specs.Grammar.{prefix_level, operator_level, span_bound}
-use Rattle.cat_parse_expr.specs.declared.state.State.{State}
-use Rattle.cat_parse_expr.specs.declared.state.State.TheVariants as state
-use Rattle.cat_parse_expr.specs.declared.state.Owner.TheVariants as owner
-use Rattle.cat_parse_expr.specs.declared.state.Reading.{Reading}
-use Rattle.cat_parse_expr.specs.declared.state.Part.{Part}
-use Rattle.cat_parse_expr.specs.Words.{Move, Onward, Grown, on_of, on_then, on_else, on_among, on_in, on_initially, on_with, on_anything, on_content, on_with_pattern, on_close, on_bracket, on_semicolon, on_comma, on_colon, on_dot, on_dashes, on_brace, on_end_brace, lower_of, upper_of, unit_of}
-use Rattle.cat_parse_expr.specs.Steps.{if_at, start_step, whole_step, type_step, fields_end, each_step, case_dot}
+use Rattle.cat_tree.specs.Literals.{span_bound}
+use Rattle.cat_parse_step.specs.declared.state.State.{State}
+use Rattle.cat_parse_step.specs.declared.state.State.TheVariants as state
+use Rattle.cat_parse_step.specs.declared.state.Owner.TheVariants as owner
+use Rattle.cat_parse_step.specs.declared.state.Reading.{Reading}
+use Rattle.cat_parse_step.specs.declared.state.Part.{Part}
+use Rattle.cat_parse_step.specs.Words.{Move, Onward, Grown, on_of, on_then, on_else, on_among, on_in, on_initially, on_with, on_anything, on_content, on_with_pattern, lower_of, upper_of, unit_of}
+use Rattle.cat_parse_step.specs.Marks.{on_close, on_bracket, on_semicolon, on_comma, on_colon, on_dot, on_dashes, on_brace, on_end_brace}
+use Rattle.cat_parse_step.specs.Starts.{if_at, start_step}
+use Rattle.cat_parse_step.specs.Steps.{whole_step, type_step, fields_end, each_step, case_dot}
+use Rattle.cat_parse_step.specs.Operands.{fed_state, ends_form, ends_match}
 
 -- the expression that is whole here
 abbrev pub done : State → Option Node
@@ -28,6 +31,7 @@ done (state.Tested e p u) = Some (node.Test e p (Bare u))
 done (state.Matched m b) = Some (node.Match m.pos m.tested m.arms)
 done _ = None
 
+-- the strength of what is whole here, as a left operand
 abbrev pub strength_of : State → ℕ
 strength_of (state.Complete n s) = s
 strength_of (state.Called f args) = 8
@@ -35,9 +39,11 @@ strength_of (state.Tested e p u) = 4
 strength_of (state.Matched m b) = 8
 strength_of _ = 9
 
+-- onward to a state
 abbrev pub some : State → Option Move
 some q = Some (Onward q)
 
+-- where a state goes at one token, read at level k
 abbrev pub step : (k strength : ℕ) → State → Token → Option Move
 step k s state.Start t = start_step k t.pos t.kind
 step k s (state.Complete n own) t = whole_step k s n t
@@ -86,65 +92,11 @@ step k s (state.CombineInitially c w) t = on_initially (some (state.CombineStart
 step k s (state.CombineWith c w e) t = on_with (some (state.CombineBody c w e)) None t.kind
 step k s _ t = None
 
--- the level of the operand that a state waits for
-abbrev pub takes : State → Option ℕ
-takes (state.Right a o p) = Some (suc (operator_level o))
-takes (state.Content c) = Some 8
-takes (state.Argument f args) = Some 9
-takes (state.Prefixed o p) = Some (prefix_level o)
-takes (state.Sum p ty) = Some 8
-takes (state.Open p) = Some 0
-takes (state.Element p es) = Some 0
-takes (state.FieldValue o fs w) = Some 0
-takes (state.If p) = Some 0
-takes (state.Then p c) = Some 0
-takes (state.Else p c t) = Some 0
-takes (state.Match p) = Some 0
-takes (state.ArmBody m pat) = Some 0
-takes (state.EachList e p w) = Some 0
-takes (state.EachBody e p w l) = Some 0
-takes (state.CombineList p w) = Some 0
-takes (state.CombineStart c w) = Some 0
-takes (state.CombineBody c w e) = Some 0
-takes _ = None
-
--- with its operand, and whether that ends in a match
-abbrev pub fed_state : State → Node → Bool → State
-fed_state (state.Right a o p) e b = state.Complete (node.Binary o p a e) (operator_level o)
-fed_state (state.Content c) e b = state.Complete (node.Content c e) 8
-fed_state (state.Argument f args) e b = state.Called f (args ++ e ∷ [])
-fed_state (state.Prefixed o p) e b = state.Complete (node.Prefixed o p e) (prefix_level o)
-fed_state (state.Sum p ty) e b = state.Complete (node.Sum p ty e) 8
-fed_state (state.Open p) e b = state.Close p e
-fed_state (state.Element p es) e b = state.Elements p (es ++ e ∷ [])
-fed_state (state.FieldValue o fs w) e b = state.Fields o (fs ++ record { name = w; value = e } ∷ [])
-fed_state (state.If p) e b = state.IfThen p e
-fed_state (state.Then p c) e b = state.ThenElse p c e
-fed_state (state.Else p c t) e b = state.Complete (node.If p c t e) 8
-fed_state (state.Match p) e b = state.MatchWith p e
-fed_state (state.ArmBody m pat) e b = state.Matched (record { pos = m.pos; tested = m.tested; arms = m.arms ++ record { pattern = pat; body = e } ∷ [] }) b
-fed_state (state.EachList k p w) e b = state.EachThen k p w e
-fed_state (state.EachBody k p w l) e b = state.Complete (node.Each k p w l e) 8
-fed_state (state.CombineList p w) e b = state.CombineIn (record { pos = p; element = w; list = e })
-fed_state (state.CombineStart c w) e b = state.CombineWith c w e
-fed_state (state.CombineBody c w s) e b = state.Complete (node.Combine c.pos c.element c.list w s e) 8
-fed_state q e b = q
-
--- whether the operand ends a form, or a match
-abbrev pub ends_form : State → Bool
-ends_form (state.Else p c t) = true
-ends_form (state.ArmBody m pat) = true
-ends_form (state.EachBody k p w l) = true
-ends_form (state.CombineBody c w s) = true
-ends_form _ = false
-
-abbrev pub ends_match : State → Bool
-ends_match (state.ArmBody m pat) = true
-ends_match _ = false
-
+-- nothing is read yet
 abbrev pub start : Reading
 start = record { state = state.Start; tallest = 0; in_form = false; in_match = false }
 
+-- the reading after a move
 abbrev pub moved : Reading → Option Move → Option Reading
 moved r None = None
 moved r (Some (Onward q)) = Some (record { state = q; tallest = r.tallest; in_form = false; in_match = false })

@@ -1,0 +1,110 @@
+-- What stood whole on the way to a state.
+use Rattle.std.specs.Prelude.{ℕ, Bool, true, false, ◌≡◌, List, [], ◌∷◌, Option, Some, None}
+use Rattle.cat_lex.specs.declared.token.Token.{Token}
+use Rattle.cat_tree.specs.declared.name.CaseName.TheVariants.{Bare, Qualified}
+use Rattle.cat_tree.specs.declared.expression.Literal.{Literal}
+use Rattle.cat_tree.specs.declared.expression.Literal.TheVariants as literal
+use Rattle.cat_pos.specs.declared.pos.Pos.{Pos}
+use Rattle.cat_tree.specs.declared.name.CaseName.{CaseName}
+use Rattle.cat_tree.specs.declared.name.Name.{Name}
+use Rattle.cat_tree.specs.declared.expression.Node.{Node}
+use Rattle.cat_tree.specs.declared.expression.Arm.{Arm}
+use Rattle.cat_tree.specs.declared.expression.FieldValue.{FieldValue}
+use Rattle.cat_tree.specs.declared.expression.Node.TheOpen.{Node-F}
+use Rattle.cat_tree.specs.declared.expression.Node.TheVariants as leaf
+use Rattle.cat_tree.specs.declared.expression.Node.TheViews as node
+use Rattle.cat_tree.specs.declared.expression.Node.TheViews.{out-Node}
+use Rattle.cat_parse_step.specs.declared.state.State.{State}
+use Rattle.cat_parse_step.specs.declared.state.State.TheVariants as state
+use Rattle.cat_parse_step.specs.declared.state.Matching.{Matching}
+use Rattle.cat_parse_step.specs.declared.state.Owner.{Owner}
+use Rattle.cat_parse_step.specs.declared.state.Owner.TheVariants as owner
+use Rattle.cat_parse_step.specs.declared.state.Reading.{Reading}
+use Rattle.cat_parse_step.specs.declared.shifting.Shifted.{Shifted}
+use Rattle.cat_parse_step.specs.declared.shifting.Shifted.TheVariants.{Further, Still}
+use Rattle.cat_parse_step.specs.Machine.{done, shift}
+
+-- a call up to its argument
+abbrev pub before_call : Name → List Node → Option Node
+before_call f [] = Some (leaf.Name f)
+before_call f (a ∷ args) = Some (node.Call f (a ∷ args))
+
+-- a literal up to its fields
+abbrev pub before_fields : Owner → Option Node
+before_fields (owner.Literal u) = Some (leaf.Case (Bare u))
+before_fields (owner.Call p u) = None
+
+-- a match up to its arms
+abbrev pub match_before : Matching → List Arm → Option Node
+match_before m [] = None
+match_before m (a ∷ arms) = Some (node.Match m.pos m.tested (a ∷ arms))
+
+-- the match before an arm that is under way
+abbrev pub before_arm : Matching → Option Node
+before_arm m = match_before m m.arms
+
+-- a number before its unit
+abbrev pub before_literal : Literal → Pos → Option Node
+before_literal (literal.Span n u) p = Some (leaf.Literal (literal.Int n) p)
+before_literal _ p = None
+
+-- a test before the dot in its case
+abbrev pub before_test : Node → Pos → CaseName → Option Node
+before_test e p (Qualified u c) = Some (node.Test e p (Bare u))
+before_test e p (Bare u) = None
+
+-- what stood whole before the last word of an expression
+abbrev pub before_last : Node-F Node Arm FieldValue → Option Node
+before_last (Node-F.Literal l p) = before_literal l p
+before_last (Node-F.Field e w) = Some e
+before_last (Node-F.Structure u fs) = Some (leaf.Case (Bare u))
+before_last (Node-F.Test e p c) = before_test e p c
+before_last _ = None
+
+-- what was whole before fields or an arm that are under way
+abbrev pub fallback_of_parts : State → Option Node
+fallback_of_parts (state.Fields o fs) = before_fields o
+fallback_of_parts (state.FieldName o fs) = before_fields o
+fallback_of_parts (state.FieldColon o fs w) = before_fields o
+fallback_of_parts (state.FieldValue o fs w) = before_fields o
+fallback_of_parts (state.ArmPattern m) = before_arm m
+fallback_of_parts (state.ArmCase m c) = before_arm m
+fallback_of_parts (state.ArmDot m u) = before_arm m
+fallback_of_parts (state.ArmOf m c) = before_arm m
+fallback_of_parts (state.ArmColon m pat) = before_arm m
+fallback_of_parts (state.ArmBody m pat) = before_arm m
+fallback_of_parts _ = None
+
+-- the last whole expression on the way to a state, before that state
+unfoldable pub fallback : State → Option Node
+fallback (state.Complete n s) = before_last (out-Node n)
+fallback (state.Qualified e c) = Some (leaf.Case (Bare e))
+fallback (state.Tested e p u) = Some e
+fallback (state.Dot n) = Some n
+fallback (state.UpperDot u) = Some (leaf.Case (Bare u))
+fallback (state.TestedDot e p u) = Some (node.Test e p (Bare u))
+fallback (state.WithPattern n p) = Some n
+fallback (state.Right n o p) = Some n
+fallback (state.Content c) = Some (leaf.Case c)
+fallback (state.Argument f args) = before_call f args
+fallback q = fallback_of_parts q
+
+-- the first, or else the second
+abbrev pub or_else : Option Node → Option Node → Option Node
+or_else (Some n) other = Some n
+or_else None other = other
+
+-- the last whole expression on the way to what follows a state
+abbrev pub before : State → Option Node
+before q = or_else (done q) (fallback q)
+
+-- a list that is not empty
+abbrev pub is_filled_list : {A : Type 0} → List A → Bool
+is_filled_list [] = false
+is_filled_list (x ∷ xs) = true
+
+-- a call that was read has an argument, and a match an arm
+abbrev pub is_filled : State → Bool
+is_filled (state.Called f args) = is_filled_list args
+is_filled (state.Matched m b) = is_filled_list m.arms
+is_filled _ = true

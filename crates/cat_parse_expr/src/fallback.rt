@@ -1,0 +1,124 @@
+//! The last whole expression on the way to a state.
+ghost use Rattle.std.specs.Prelude.{◌≡◌};
+ghost use Rattle.cat_parse_expr.specs.Fallback as words;
+ghost use Rattle.cat_tree.specs.declared.expression.Node.TheViews.{out-Node};
+
+use cat_parse_step::{Matching, Owner, State};
+use cat_pos::{Boxed, Pos};
+use cat_tree::{CaseName, Literal, Name, Node, Nodes};
+
+fn before_call(name: Name, arguments: Nodes) -> Option<Node>
+    ensures { result ≡ words.before_call name arguments }
+{
+    if arguments.is_empty() {
+        Some(Node::Name(name))
+    } else {
+        Some(Node::Call(name, arguments))
+    }
+}
+
+fn before_fields(owner: Owner) -> Option<Node>
+    ensures { result ≡ words.before_fields owner }
+{
+    match owner {
+        Owner::Literal(name) => Some(Node::Case(CaseName::Bare(name))),
+        Owner::Call(..) => None,
+    }
+}
+
+fn before_arm(matching: Matching) -> Option<Node>
+    ensures { result ≡ words.before_arm matching }
+{
+    if matching.arms.is_empty() {
+        return None;
+    }
+    Some(Node::Match(matching.pos, matching.tested, matching.arms))
+}
+
+/// A literal's number without its unit.
+fn before_literal(literal: Literal, pos: Pos) -> Option<Node>
+    ensures { result ≡ words.before_literal literal pos }
+{
+    match literal {
+        Literal::Span(number, _) => Some(Node::Literal(Literal::Int(number), pos)),
+        _ => None,
+    }
+}
+
+/// A test whose case is named without its enumeration.
+fn before_test(tested: Boxed<Node>, pos: Pos, case: CaseName) -> Option<Node>
+    ensures { result ≡ words.before_test tested pos case }
+{
+    match case {
+        CaseName::Qualified(owner, _) => Some(Node::Test(tested, pos, CaseName::Bare(owner))),
+        CaseName::Bare(_) => None,
+    }
+}
+
+/// Drops a state.
+fn drop_state(state: State) -> Option<Node>
+    ensures { result ≡ None }
+{
+    drop(state);
+    None
+}
+
+/// Drops an expression.
+fn none_of(_node: Node) -> Option<Node>
+    ensures { result ≡ None }
+{
+    None
+}
+
+/// What stood whole before the last word of an expression.
+fn before_last(node: Node) -> Option<Node>
+    ensures { result ≡ words.before_last (out-Node node) }
+{
+    match node {
+        Node::Literal(literal, pos) => before_literal(literal, pos),
+        Node::Field(inner, _) => Some(inner.into_inner()),
+        Node::Structure(name, _) => Some(Node::Case(CaseName::Bare(name))),
+        Node::Test(inner, pos, case) => before_test(inner, pos, case),
+        other => none_of(other),
+    }
+}
+
+/// The last whole expression on the way to a state, before that state.
+#[tactic(auto, unfolding(crate::specs::Fallback::fallback))]
+pub(crate) fn fallback(state: State) -> Option<Node>
+    ensures { result ≡ words.fallback state }
+{
+    match state {
+        State::Complete(node, _) => before_last(node),
+        State::Dot(node) => Some(node),
+        State::WithPattern(node, _) => Some(node),
+        State::Right(node, _, _) => Some(node),
+        State::Qualified(name, _) => Some(Node::Case(CaseName::Bare(name))),
+        State::UpperDot(name) => Some(Node::Case(CaseName::Bare(name))),
+        State::Tested(node, _, _) => Some(node.into_inner()),
+        State::TestedDot(node, pos, name) => Some(Node::Test(node, pos, CaseName::Bare(name))),
+        State::Content(case) => Some(Node::Case(case)),
+        State::Argument(name, arguments) => before_call(name, arguments),
+        other => fallback_of_parts(other),
+    }
+}
+
+/// The expression before the fields of a literal, or before an arm.
+#[tactic(auto, unfolding(crate::specs::Fallback::fallback))]
+fn fallback_of_parts(state: State) -> Option<Node>
+    ensures { result ≡ words.fallback_of_parts state }
+{
+    match state {
+        State::Fields(owner, _) => before_fields(owner),
+        State::FieldName(owner, _) => before_fields(owner),
+        State::FieldColon(owner, _, _) => before_fields(owner),
+        State::FieldValue(owner, _, _) => before_fields(owner),
+        State::ArmPattern(matching) => before_arm(matching),
+        State::ArmCase(matching, _) => before_arm(matching),
+        State::ArmDot(matching, _) => before_arm(matching),
+        State::ArmOf(matching, _) => before_arm(matching),
+        State::ArmColon(matching, _) => before_arm(matching),
+        State::ArmBody(matching, _) => before_arm(matching),
+        other => drop_state(other),
+    }
+}

@@ -1,0 +1,225 @@
+// Where reading stands, and how it goes on by one word or one operand.
+ghost use Rattle.std.specs.Prelude.{◌≡◌, ◌<◌, ◌≤◌, ℕ, List, length, drop, Option, IfOk};
+ghost use Rattle.cat_lex.specs.declared.token.Token.{Token};
+ghost use Rattle.cat_parse_step.specs.Machine.{done};
+ghost use Rattle.cat_parse_step.specs.Operands.{takes};
+ghost use Rattle.cat_parse_expr.specs.Reader.{is_high, next, asked, ended, Best};
+ghost use Rattle.cat_parse_expr.specs.Fallback.{before};
+ghost use Rattle.cat_parse_expr.specs.Loop.{outcome_of, marked, mark_after, IsMarkWithin, AreWithin, IsStanding, IsTurnAt, IsAdvance, Leads, reached_on, IsKept, IsOperandAt};
+
+use crate::fallback::fallback;
+use crate::outcome::{Halt, Mark, Reached, stopped};
+use cat_lex::Token;
+use cat_parse_step::{
+    Part, Reading, Shifted, State, feed, is_whole, needs_part, shift, takes, whole_node,
+};
+use cat_tree::Node;
+use std::alloc::{AllocError, Global};
+
+/// What has been read, the place after it, and the last whole expression on the way.
+#[derive(Drop)]
+pub(crate) struct Standing {
+    pub reading: Reading,
+    pub at: usize,
+    pub mark: Option<Mark>,
+}
+
+/// Reading goes on from there, or has ended.
+#[derive(Drop)]
+pub(crate) enum Turn {
+    Goes(Standing),
+    Ends(Reached),
+}
+
+/// A turn, or an operand of some level is asked for.
+#[derive(Drop)]
+pub(crate) enum Next {
+    Turns(Turn),
+    Asks(Standing, u32),
+}
+
+/// The tree is higher than it may be: the one that is whole here, or one that has to have a part.
+fn is_high(limit: u32, reading: &Reading) -> bool
+    ensures { result ≡ is_high limit reading.now }
+{
+    (is_whole(&reading.state) && limit <= reading.tallest)
+        || (needs_part(&reading.state) && limit <= 1)
+}
+
+/// The mark of what is whole here, or else the last one.
+fn mark_after(reading: &Reading, at: usize, mark: Option<Mark>) -> Option<Mark>
+    requires { reading.now.tallest < 4294967295 }
+    ensures { result ≡ mark_after reading.now at mark }
+{
+    if is_whole(&reading.state) {
+        Some(Mark {
+            at,
+            height: reading.tallest + 1,
+            in_form: reading.in_form,
+            in_match: reading.in_match,
+        })
+    } else {
+        mark
+    }
+}
+
+/// What is whole here, or else the last whole expression on the way.
+fn before(state: State) -> Option<Node>
+    ensures { result ≡ before state }
+{
+    if is_whole(&state) {
+        whole_node(state)
+    } else {
+        fallback(state)
+    }
+}
+
+/// Neither a word nor an operand comes next.
+fn ended(standing: Standing) -> Reached
+    requires { standing.reading.tallest < 4294967295 }
+    ensures gives { (tokens : List Token) (best : Option Best) → IsKept tokens standing best → outcome_of tokens result ≡ ended (done standing.reading.state) best standing.reading (drop standing.at tokens) }
+    ensures within { (end : ℕ) → IsMarkWithin end standing.mark → standing.at ≤ end → AreWithin end result }
+{
+    let Standing { reading, at, mark } = standing;
+    let halt = Halt { at, deep: false };
+    if !is_whole(&reading.state) {
+        return stopped(mark, fallback(reading.state), halt);
+    }
+    let height = reading.tallest + 1;
+    let in_form = reading.in_form;
+    let in_match = reading.in_match;
+    match whole_node(reading.state) {
+        Some(node) => Reached::Reads(
+            Part {
+                node,
+                height,
+                in_form,
+                in_match,
+            },
+            at,
+            None,
+        ),
+        None => Reached::Fails(halt),
+    }
+}
+
+/// No word comes next: an operand is asked for, or reading ends.
+fn without_word(tokens: &[Token], standing: Standing, limit: u32, level: u32) -> Next
+    requires limit { limit < 4294967295 }
+    requires standing { IsStanding limit tokens.now standing }
+    requires no_word { next level standing.reading (drop standing.at tokens.now) ≡ asked (takes standing.reading.state) }
+    ensures { IsAdvance limit level tokens.now standing result }
+{
+    match takes(&standing.reading.state) {
+        Some(wanted) => Next::Asks(standing, wanted),
+        None => Next::Turns(Turn::Ends(ended(standing))),
+    }
+}
+
+/// The next word is taken, or an operand is asked for, or reading ends.
+pub(crate) fn advance(
+    alloc: Global,
+    tokens: &[Token],
+    standing: Standing,
+    limit: u32,
+    level: u32,
+) -> Result<Next, AllocError>
+    requires limit { limit < 4294967295 }
+    requires standing { IsStanding limit tokens.now standing }
+    ensures { IfOk result (IsAdvance limit level tokens.now standing) }
+{
+    if standing.at == tokens.len() {
+        return Ok(without_word(tokens, standing, limit, level));
+    }
+    let Standing { reading, at, mark } = standing;
+    let marked = mark_after(&reading, at, mark);
+    match shift(alloc, level, reading, &tokens[at])? {
+        Shifted::Further(more) => {
+            if is_high(limit, &more) {
+                let halt = Halt { at, deep: true };
+                return Ok(Next::Turns(Turn::Ends(stopped(marked, fallback(more.state), halt))));
+            }
+            Ok(Next::Turns(Turn::Goes(Standing {
+                reading: more,
+                at: at + 1,
+                mark: marked,
+            })))
+        }
+        Shifted::Still(reading) => {
+            let standing = Standing { reading, at, mark };
+            Ok(without_word(tokens, standing, limit, level))
+        }
+    }
+}
+
+/// An operand broke off at a stop, and the words that are wanted next may still reach that place.
+fn reach(
+    alloc: Global,
+    tokens: &[Token],
+    standing: Standing,
+    halt: Halt,
+    limit: u32,
+    level: u32,
+) -> Result<Turn, AllocError>
+    requires limit { limit < 4294967295 }
+    requires standing { IsStanding limit tokens.now standing }
+    requires halt { halt.at ≤ length tokens.now }
+    ensures { IfOk result (λ turn. (fuel : ℕ) (best : Option Best) → length (drop standing.at tokens.now) < fuel → IsKept tokens.now standing best → Leads limit level tokens.now standing.at turn (reached_on limit level fuel tokens.now standing halt best)) }
+{
+    let Standing { reading, at, mark } = standing;
+    let marked = mark_after(&reading, at, mark);
+    if halt.deep || at + 1 != halt.at {
+        let node = before(reading.state);
+        return Ok(Turn::Ends(stopped(marked, node, halt)));
+    }
+    match shift(alloc, level, reading, &tokens[at])? {
+        Shifted::Further(more) => {
+            if is_high(limit, &more) {
+                return Ok(Turn::Ends(stopped(marked, fallback(more.state), halt)));
+            }
+            Ok(Turn::Goes(Standing {
+                reading: more,
+                at: at + 1,
+                mark: marked,
+            }))
+        }
+        Shifted::Still(reading) => {
+            let node = before(reading.state);
+            Ok(Turn::Ends(stopped(marked, node, halt)))
+        }
+    }
+}
+
+/// The operand that was asked for has been read, or not.
+pub(crate) fn take(
+    alloc: Global,
+    tokens: &[Token],
+    standing: Standing,
+    operand: Reached,
+    limit: u32,
+    level: u32,
+) -> Result<Turn, AllocError>
+    requires positive { 0 < limit }
+    requires limit { limit < 4294967295 }
+    requires standing { IsStanding limit tokens.now standing }
+    requires operand { IsOperandAt limit level tokens.now standing operand }
+    requires within { AreWithin (length tokens.now) operand }
+    ensures { IfOk result (IsTurnAt limit level tokens.now standing) }
+{
+    let Standing {
+        reading,
+        at: _,
+        mark,
+    } = standing;
+    match operand {
+        Reached::Fails(halt) => Ok(Turn::Ends(stopped(mark, fallback(reading.state), halt))),
+        Reached::Reads(part, at, tried) => {
+            let reading = feed(alloc, reading, part)?;
+            let fed = Standing { reading, at, mark };
+            match tried {
+                None => Ok(Turn::Goes(fed)),
+                Some(halt) => reach(alloc, tokens, fed, halt, limit, level),
+            }
+        }
+    }
+}

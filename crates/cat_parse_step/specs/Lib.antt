@@ -1,0 +1,9 @@
+pub mod Words
+pub mod Marks
+pub mod Starts
+pub mod Steps
+pub mod Operands
+pub mod Machine
+pub mod Groups
+pub mod OneStep
+pub mod Moves

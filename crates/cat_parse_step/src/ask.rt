@@ -1,0 +1,114 @@
+//! What a state waits for, and the expression that is whole in it.
+ghost use Rattle.std.specs.Prelude.{◌≡◌, ◌≤◌};
+ghost use Rattle.cat_parse_step.specs.Operands as operands;
+ghost use Rattle.cat_parse_step.specs.Machine.{done};
+ghost use Rattle.cat_parse_step.specs.Operands.{is_some};
+ghost use Rattle.cat_tree.specs.Operators.{prefix_level, operator_level};
+
+use crate::State;
+use cat_pos::Boxed;
+use cat_tree::{CaseName, Literal, Node, Operator, Prefix};
+
+pub(crate) fn prefix_level(prefix: Prefix) -> u32
+    ensures value { result ≡ prefix_level prefix }
+    ensures low { result ≤ 8 }
+{
+    match prefix {
+        Prefix::Not => 3,
+        Prefix::Negate => 7,
+        _ => 8,
+    }
+}
+
+pub(crate) fn operator_level(operator: Operator) -> u32
+    ensures value { result ≡ operator_level operator }
+    ensures low { result ≤ 6 }
+{
+    match operator {
+        Operator::Or | Operator::Xor => 1,
+        Operator::And => 2,
+        Operator::Plus | Operator::Minus => 5,
+        Operator::Times | Operator::Divide => 6,
+        _ => 4,
+    }
+}
+
+/// The level of the operand that a state waits for.
+pub fn takes(state: &State) -> Option<u32>
+    ensures { result ≡ operands.takes state.now }
+{
+    match state {
+        State::Right(_, operator, _) => Some(operator_level(*operator) + 1),
+        State::Prefixed(prefix, _) => Some(prefix_level(*prefix)),
+        State::Argument(..) => Some(9),
+        State::Content(..) | State::Sum(..) => Some(8),
+        State::Open(..)
+        | State::Element(..)
+        | State::FieldValue(..)
+        | State::If(..)
+        | State::Then(..)
+        | State::Else(..)
+        | State::Match(..)
+        | State::ArmBody(..)
+        | State::EachList(..)
+        | State::EachBody(..)
+        | State::CombineList(..)
+        | State::CombineStart(..)
+        | State::CombineBody(..) => Some(0),
+        _ => None,
+    }
+}
+
+/// Whether an expression is whole.
+pub fn is_whole(state: &State) -> bool
+    ensures { result ≡ is_some (done state.now) }
+{
+    match state {
+        State::Complete(..)
+        | State::Int(..)
+        | State::Name(..)
+        | State::Upper(..)
+        | State::Qualified(..)
+        | State::Called(..)
+        | State::Tested(..)
+        | State::Matched(..) => true,
+        _ => false,
+    }
+}
+
+/// Whether a word has just begun what can't be whole without a part.
+pub fn needs_part(state: &State) -> bool
+    ensures { result ≡ operands.needs_part state.now }
+{
+    matches!(
+        state,
+        State::Open(..) | State::Prefixed(..) | State::If(..) | State::Match(..)
+    )
+}
+
+/// The expression that is whole.
+pub fn whole_node(state: State) -> Option<Node>
+    ensures { result ≡ done state }
+{
+    match state {
+        State::Complete(node, _) => Some(node),
+        State::Int(number, pos) => Some(Node::Literal(Literal::Int(number), pos)),
+        State::Name(name) => Some(Node::Name(name)),
+        State::Upper(name) => Some(Node::Case(CaseName::Bare(name))),
+        State::Qualified(owner, name) => Some(Node::Case(CaseName::Qualified(owner, name))),
+        State::Called(name, arguments) => Some(Node::Call(name, arguments)),
+        State::Tested(node, pos, name) => Some(Node::Test(node, pos, CaseName::Bare(name))),
+        State::Matched(matching, _) => {
+            Some(Node::Match(matching.pos, matching.tested, matching.arms))
+        }
+        other => none_of(other),
+    }
+}
+
+/// Drops a state.
+pub(crate) fn none_of(state: State) -> Option<Node>
+    ensures { result ≡ None }
+{
+    drop(state);
+    None
+}
