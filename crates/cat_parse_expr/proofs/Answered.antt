@@ -3,13 +3,13 @@ use Rattle.std.proofs.Common.{◌≡◌, ℕ, ◌-◌, ◌≤◌, Bool, true, fa
 use Rattle.cat_lex.specs.declared.token.Token.{Token}
 use Rattle.cat_tree.specs.declared.expression.Node.{Node}
 use Rattle.cat_tree.specs.Spells.{IsFront}
-use Rattle.cat_parse_step.specs.declared.state.Part.{Part}
+use Rattle.cat_parse_state.specs.declared.state.Part.{Part}
 use Rattle.cat_parse_expr.specs.declared.outcome.Halt.{Halt}
 use Rattle.cat_parse_expr.specs.declared.outcome.Reached.{Reached}
 use Rattle.cat_parse_expr.specs.declared.outcome.Reached.TheVariants as reached
 use Rattle.cat_parse_expr.specs.declared.refusal.ParseRefusal.{ParseRefusal}
 use Rattle.cat_parse_expr.specs.declared.refusal.ParseRefusal.TheVariants as refused
-use Rattle.cat_parse_expr.specs.Results.{Outcome, Stop, stop_of}
+use Rattle.cat_parse_expr.specs.Results.{Stop, stop_of}
 use Rattle.cat_parse_expr.specs.Reader.{read}
 use Rattle.cat_parse_expr.specs.Places.{GoesUpTo, IsTooHigh}
 use Rattle.cat_parse_expr.specs.Causes.{HasCause, HasReachCause}

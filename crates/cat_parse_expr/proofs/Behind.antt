@@ -16,14 +16,15 @@ use Rattle.cat_tree.specs.Wording.{of_level, match_of}
 use Rattle.cat_tree.specs.Operators.{operator_kind, operator_level, left_level}
 use Rattle.cat_tree.specs.Grammar.{phrase}
 use Rattle.cat_tree.proofs.Equations.{arm_row, phrase_Literal, phrase_Name, phrase_Case, phrase_Call, phrase_Test, phrase_Match}
-use Rattle.cat_parse_step.specs.declared.state.State.{State}
-use Rattle.cat_parse_step.specs.declared.state.State.TheVariants as state
+use Rattle.cat_parse_state.specs.declared.state.State.{State}
+use Rattle.cat_parse_state.specs.declared.state.State.TheVariants as state
 use Rattle.std.proofs.lemmas.Bool.{leb-true}
 use Rattle.cat_lex.specs.declared.token.TokenKind.{TokenKind}
 use Rattle.cat_parse_expr.proofs.Rows.{so_far, room, IsRow, Begun, ReachedAt}
 use Rattle.cat_parse_expr.proofs.WordsAre.{some_same}
 use Rattle.cat_parse_step.specs.Words.{Move, Onward, Grown}
-use Rattle.cat_parse_step.specs.Machine.{some, strength_of, done}
+use Rattle.cat_parse_state.specs.Readings.{done}
+use Rattle.cat_parse_step.specs.Machine.{some, strength_of}
 use Rattle.cat_parse_step.specs.Starts.{if_at}
 use Rattle.cat_parse_step.specs.declared.follow.Follow.{Follow}
 use Rattle.cat_parse_step.specs.declared.follow.Follow.TheVariants.{Operated, Dotted, Tests, Other}

@@ -23,20 +23,21 @@ use Rattle.cat_tree.specs.Rows.{elements, arms}
 use Rattle.cat_tree.specs.Grammar.{phrase}
 use Rattle.cat_tree.specs.Literals.{span_bound}
 use Rattle.cat_tree.proofs.Equations.{arm_row, phrase_Call, phrase_Match}
-use Rattle.cat_parse_step.specs.declared.state.State.{State}
-use Rattle.cat_parse_step.specs.declared.state.State.TheVariants as state
-use Rattle.cat_parse_step.specs.declared.state.Owner.TheVariants as owner
-use Rattle.cat_parse_step.specs.declared.state.Matching.{Matching}
-use Rattle.cat_parse_step.specs.declared.state.Part.{Part as Found}
-use Rattle.cat_parse_step.specs.declared.state.Reading.{Reading}
+use Rattle.cat_parse_state.specs.declared.state.State.{State}
+use Rattle.cat_parse_state.specs.declared.state.State.TheVariants as state
+use Rattle.cat_parse_state.specs.declared.state.Owner.TheVariants as owner
+use Rattle.cat_parse_state.specs.declared.state.Matching.{Matching}
+use Rattle.cat_parse_state.specs.declared.state.Part.{Part as Found}
+use Rattle.cat_parse_state.specs.declared.state.Reading.{Reading}
 use Rattle.std.proofs.lemmas.Bool.{leb-true}
 use Rattle.cat_lex.specs.declared.token.TokenKind.{TokenKind}
 use Rattle.cat_parse_expr.proofs.Rows.{ReachedAt, Reached}
 use Rattle.cat_parse_expr.proofs.WordsAre.{on_of_is, on_then_is, on_else_is, on_in_is, on_with_is, on_to_is, on_content_is, on_with_pattern_is, on_we_have_is, on_such_that_is, on_close_is, on_bracket_is, on_semicolon_is, on_comma_is, on_dot_is, on_dashes_is, on_brace_is, on_end_brace_is, some_same}
 use Rattle.cat_parse_step.specs.Words.{Move, Onward, Grown, on_anything, on_content, upper_of, unit_of}
 use Rattle.cat_parse_step.specs.Marks.{on_bracket, on_brace, on_end_brace}
-use Rattle.cat_parse_step.specs.Machine.{step, some, strength_of, moved, shift, feed, done}
-use Rattle.cat_parse_step.specs.Operands.{takes, needs_part, fed_state}
+use Rattle.cat_parse_state.specs.Readings.{feed, done}
+use Rattle.cat_parse_step.specs.Machine.{step, some, strength_of, moved, shift}
+use Rattle.cat_parse_state.specs.Operands.{takes, needs_part, fed_state}
 use Rattle.std.specs.Prelude.{ℤ, int_lt}
 use Rattle.cat_parse_step.specs.Starts.{if_at}
 use Rattle.cat_parse_step.specs.declared.follow.Follow.{Follow}

@@ -12,16 +12,17 @@ use Rattle.cat_tree.specs.declared.expression.Node.TheVariants as leaf
 use Rattle.cat_tree.specs.declared.expression.Node.TheViews as node
 use Rattle.cat_tree.specs.Operators.{operator_level, left_level}
 use Rattle.cat_tree.specs.Literals.{span_bound}
-use Rattle.cat_parse_step.specs.declared.state.State.{State}
-use Rattle.cat_parse_step.specs.declared.state.State.TheVariants as state
-use Rattle.cat_parse_step.specs.declared.state.Owner.TheVariants as owner
-use Rattle.cat_parse_step.specs.declared.state.Reading.{Reading}
+use Rattle.cat_parse_state.specs.declared.state.State.{State}
+use Rattle.cat_parse_state.specs.declared.state.State.TheVariants as state
+use Rattle.cat_parse_state.specs.declared.state.Owner.TheVariants as owner
+use Rattle.cat_parse_state.specs.declared.state.Reading.{Reading}
 use Rattle.cat_lex.specs.declared.token.TokenKind.{TokenKind}
 use Rattle.cat_parse_expr.proofs.WordsAre.{on_of_is, on_content_is, on_comma_is, on_dot_is, on_dashes_is, on_brace_is, some_same}
 use Rattle.cat_parse_step.specs.Words.{Move, Onward, Grown, on_content, unit_of}
 use Rattle.cat_parse_step.specs.Marks.{on_brace}
-use Rattle.cat_parse_step.specs.Machine.{step, some, strength_of, moved, shift, done}
-use Rattle.cat_parse_step.specs.Operands.{needs_part}
+use Rattle.cat_parse_state.specs.Readings.{done}
+use Rattle.cat_parse_step.specs.Machine.{step, some, strength_of, moved, shift}
+use Rattle.cat_parse_state.specs.Operands.{needs_part}
 use Rattle.std.specs.Prelude.{ℤ, int_lt}
 use Rattle.cat_tree.specs.declared.expression.Unit.TheVariants as unit
 use Rattle.cat_parse_step.specs.Starts.{if_at}

@@ -17,17 +17,18 @@ use Rattle.cat_tree.specs.declared.expression.Node.TheViews as node
 use Rattle.cat_tree.specs.declared.expression.FieldValue.{FieldValue}
 use Rattle.cat_tree.specs.Phrase.{Phrase}
 use Rattle.cat_tree.specs.Operators.{prefix_level, operator_level}
-use Rattle.cat_parse_step.specs.declared.state.State.{State}
-use Rattle.cat_parse_step.specs.declared.state.State.TheVariants as state
-use Rattle.cat_parse_step.specs.declared.state.Owner.{Owner}
-use Rattle.cat_parse_step.specs.declared.state.Owner.TheVariants as owner
-use Rattle.cat_parse_step.specs.declared.state.Part.{Part as Found}
+use Rattle.cat_parse_state.specs.declared.state.State.{State}
+use Rattle.cat_parse_state.specs.declared.state.State.TheVariants as state
+use Rattle.cat_parse_state.specs.declared.state.Owner.{Owner}
+use Rattle.cat_parse_state.specs.declared.state.Owner.TheVariants as owner
+use Rattle.cat_parse_state.specs.declared.state.Part.{Part as Found}
 use Rattle.cat_lex.specs.declared.token.TokenKind.{TokenKind}
 use Rattle.cat_parse_expr.proofs.Rows.{IsRow, IsPart, ReachedAt}
 use Rattle.cat_tree.proofs.Equations.{phrase_Literal}
 use Rattle.cat_parse_step.specs.Words.{Onward}
-use Rattle.cat_parse_step.specs.Machine.{step, done}
-use Rattle.cat_parse_step.specs.Operands.{takes, fed_state}
+use Rattle.cat_parse_state.specs.Readings.{done}
+use Rattle.cat_parse_step.specs.Machine.{step}
+use Rattle.cat_parse_state.specs.Operands.{takes, fed_state}
 use Rattle.cat_tree.specs.declared.name.Base.TheVariants as base
 use Rattle.std.specs.Prelude.{pos as positive}
 

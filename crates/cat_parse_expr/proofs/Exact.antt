@@ -3,7 +3,7 @@ use Rattle.std.proofs.Common.{◌≡◌, ℕ, ◌≤◌, max, Bool, true, false,
 use Rattle.std.proofs.lemmas.Bool.{cases_lt}
 use Rattle.std.proofs.lemmas.List.{append-nil}
 use Rattle.cat_lex.specs.declared.token.Token.{Token}
-use Rattle.cat_parse_step.specs.declared.state.Part.{Part}
+use Rattle.cat_parse_state.specs.declared.state.Part.{Part}
 use Rattle.cat_parse_expr.proofs.Rows.{IsPart}
 use Rattle.cat_parse_expr.proofs.Meaning.{Begins, Calm}
 use Rattle.cat_parse_expr.specs.Results.{Stop, Outcome, Fails, Reads, stop_of}

@@ -20,11 +20,11 @@ use Rattle.cat_tree.specs.Operators.{prefix_level, operator_level}
 use Rattle.cat_tree.specs.Rows.{fields, elements, pattern_parts, arms, each_parts}
 use Rattle.cat_tree.specs.Grammar.{phrase}
 use Rattle.cat_tree.proofs.Equations.{field_row, arm_row, phrase_Prefixed, phrase_Sum, phrase_Content, phrase_Binary, phrase_If, phrase_Match, phrase_Each, phrase_Combine}
-use Rattle.cat_parse_step.specs.declared.state.State.{State}
-use Rattle.cat_parse_step.specs.declared.state.State.TheVariants as state
-use Rattle.cat_parse_step.specs.declared.state.Part.{Part as Found}
+use Rattle.cat_parse_state.specs.declared.state.State.{State}
+use Rattle.cat_parse_state.specs.declared.state.State.TheVariants as state
+use Rattle.cat_parse_state.specs.declared.state.Part.{Part as Found}
 use Rattle.cat_parse_expr.proofs.Rows.{inner_arms, more_elements, owner_parts, each_word, each_middle, match_parts, so_far, room, IsRow, IsPart, Begun, ReachedAt}
-use Rattle.cat_parse_step.specs.Operands.{takes, fed_state, ends_form, ends_match}
+use Rattle.cat_parse_state.specs.Operands.{takes, fed_state, ends_form, ends_match}
 use Rattle.cat_parse_expr.proofs.Reaching.{put, finish}
 
 elements_more : (k : ℕ) (s : Symbol) (xs : List Node) (e : Node) (ps : Parts) → elements k s (map phrase (xs ++ e ∷ [])) ps ≡ more_elements k s (map phrase xs) (Part (Operand k) (phrase e) ps)

@@ -24,10 +24,11 @@ use Rattle.cat_tree.specs.Literals.{case_parts, lists_of, type_parts, base_kind,
 use Rattle.cat_tree.specs.Operators.{prefix_parts, prefix_level}
 use Rattle.cat_tree.specs.Grammar.{phrase}
 use Rattle.cat_tree.specs.Rows.{each_parts}
-use Rattle.cat_parse_step.specs.declared.state.State.{State}
-use Rattle.cat_parse_step.specs.declared.state.State.TheVariants as state
+use Rattle.cat_parse_state.specs.declared.state.State.{State}
+use Rattle.cat_parse_state.specs.declared.state.State.TheVariants as state
 use Rattle.cat_parse_step.specs.Words.{Onward}
-use Rattle.cat_parse_step.specs.Machine.{step, some, strength_of, done, start}
+use Rattle.cat_parse_state.specs.Readings.{done, start}
+use Rattle.cat_parse_step.specs.Machine.{step, some, strength_of}
 use Rattle.std.specs.Prelude.{ℤ, int_lt, not}
 use Rattle.cat_tree.specs.declared.expression.Unit.{Unit as TimeUnit}
 use Rattle.cat_tree.specs.declared.expression.Unit.TheVariants as unit

@@ -21,18 +21,19 @@ use Rattle.cat_tree.specs.Operators.{operator_kind, operator_level, left_level}
 use Rattle.cat_tree.specs.Grammar.{phrase}
 use Rattle.cat_tree.specs.Rows.{arms}
 use Rattle.cat_tree.proofs.Equations.{arm_row, phrase_Match}
-use Rattle.cat_parse_step.specs.declared.state.State.{State}
-use Rattle.cat_parse_step.specs.declared.state.State.TheVariants as state
-use Rattle.cat_parse_step.specs.declared.state.Owner.TheVariants as owner
-use Rattle.cat_parse_step.specs.declared.state.Matching.{Matching}
-use Rattle.cat_parse_step.specs.declared.state.Part.{Part as Found}
-use Rattle.cat_parse_step.specs.declared.state.Reading.{Reading}
+use Rattle.cat_parse_state.specs.declared.state.State.{State}
+use Rattle.cat_parse_state.specs.declared.state.State.TheVariants as state
+use Rattle.cat_parse_state.specs.declared.state.Owner.TheVariants as owner
+use Rattle.cat_parse_state.specs.declared.state.Matching.{Matching}
+use Rattle.cat_parse_state.specs.declared.state.Part.{Part as Found}
+use Rattle.cat_parse_state.specs.declared.state.Reading.{Reading}
 use Rattle.std.proofs.lemmas.List.{append-nil}
 use Rattle.cat_lex.specs.declared.token.TokenKind.{TokenKind}
 use Rattle.cat_parse_expr.proofs.Rows.{Reached}
 use Rattle.cat_parse_step.specs.Words.{Move, Onward, Grown, on_of, on_content, unit_of}
 use Rattle.cat_parse_step.specs.Marks.{on_comma, on_dot, on_brace}
-use Rattle.cat_parse_step.specs.Machine.{step, some, strength_of, moved, shift, feed, done, start}
+use Rattle.cat_parse_state.specs.Readings.{feed, done, start}
+use Rattle.cat_parse_step.specs.Machine.{step, some, strength_of, moved, shift}
 use Rattle.std.specs.Prelude.{int_lt}
 use Rattle.cat_tree.specs.declared.expression.Operator.{Operator}
 use Rattle.cat_tree.specs.declared.expression.Operator.TheVariants as op

@@ -4,10 +4,11 @@ use Rattle.std.proofs.lemmas.Bool.{cases_lt, lt-leb}
 use Rattle.std.proofs.lemmas.List.{length-append}
 use Rattle.cat_lex.specs.declared.token.Token.{Token}
 use Rattle.cat_tree.specs.declared.expression.Node.{Node}
-use Rattle.cat_parse_step.specs.declared.state.Part.{Part}
-use Rattle.cat_parse_step.specs.declared.state.Reading.{Reading}
-use Rattle.cat_parse_step.specs.Machine.{start, shift, feed, done}
-use Rattle.cat_parse_step.specs.Operands.{takes, needs_part, is_some}
+use Rattle.cat_parse_state.specs.declared.state.Part.{Part}
+use Rattle.cat_parse_state.specs.declared.state.Reading.{Reading}
+use Rattle.cat_parse_state.specs.Readings.{start, feed, done}
+use Rattle.cat_parse_step.specs.Machine.{shift}
+use Rattle.cat_parse_state.specs.Operands.{takes, needs_part, is_some}
 use Rattle.cat_parse_expr.proofs.Rows.{IsPart}
 use Rattle.cat_parse_expr.proofs.Hold.{hold}
 use Rattle.cat_parse_expr.proofs.Meaning.{Item, Tok, Sub, text, CalmAt, Path, Taker}

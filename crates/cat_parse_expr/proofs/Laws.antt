@@ -2,11 +2,12 @@
 use Rattle.std.proofs.Common.{◌≡◌, ℕ, zero, suc, ◌<◌, ◌≤◌, false, List, [], ◌∷◌, ◌++◌, Option, Some, None, cond, refl, sym, ap, subst, append_assoc, arith, inl, inr}
 use Rattle.cat_lex.specs.declared.token.Token.{Token}
 use Rattle.cat_tree.specs.declared.expression.Node.{Node}
-use Rattle.cat_parse_step.specs.declared.state.State.{State}
-use Rattle.cat_parse_step.specs.declared.state.Part.{Part}
-use Rattle.cat_parse_step.specs.declared.state.Reading.{Reading}
-use Rattle.cat_parse_step.specs.Machine.{start, shift, feed, done, step, strength_of, moved}
-use Rattle.cat_parse_step.specs.Operands.{takes}
+use Rattle.cat_parse_state.specs.declared.state.State.{State}
+use Rattle.cat_parse_state.specs.declared.state.Part.{Part}
+use Rattle.cat_parse_state.specs.declared.state.Reading.{Reading}
+use Rattle.cat_parse_state.specs.Readings.{start, feed, done}
+use Rattle.cat_parse_step.specs.Machine.{shift, step, strength_of, moved}
+use Rattle.cat_parse_state.specs.Operands.{takes}
 use Rattle.cat_parse_expr.proofs.Rows.{IsPart, Reached, ReachedAt}
 use Rattle.cat_parse_expr.proofs.Hold.{pull, op_pull}
 use Rattle.cat_tree.specs.Phrase.{Phrase, Row, height}

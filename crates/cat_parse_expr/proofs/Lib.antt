@@ -27,7 +27,7 @@ pub mod Cut
 pub mod Got
 pub mod Exact
 pub mod Places
-pub mod Sane
+pub mod Keeping
 pub mod TurnLemmas
 pub mod TakeLemmas
 pub mod Answered

@@ -19,15 +19,16 @@ use Rattle.cat_tree.specs.Wording.{◌▹◌, key_at, pair_at, symbol_at, «word
 use Rattle.cat_tree.specs.Rows.{fields, elements, pattern_parts, arms}
 use Rattle.cat_tree.specs.Grammar.{phrase}
 use Rattle.cat_tree.proofs.Equations.{field_row, arm_row}
-use Rattle.cat_parse_step.specs.declared.state.State.{State}
-use Rattle.cat_parse_step.specs.declared.state.State.TheVariants as state
-use Rattle.cat_parse_step.specs.declared.state.Owner.{Owner}
-use Rattle.cat_parse_step.specs.declared.state.Owner.TheVariants as owner
-use Rattle.cat_parse_step.specs.declared.state.Matching.{Matching}
-use Rattle.cat_parse_step.specs.declared.state.Reading.{Reading}
+use Rattle.cat_parse_state.specs.declared.state.State.{State}
+use Rattle.cat_parse_state.specs.declared.state.State.TheVariants as state
+use Rattle.cat_parse_state.specs.declared.state.Owner.{Owner}
+use Rattle.cat_parse_state.specs.declared.state.Owner.TheVariants as owner
+use Rattle.cat_parse_state.specs.declared.state.Matching.{Matching}
+use Rattle.cat_parse_state.specs.declared.state.Reading.{Reading}
 use Rattle.cat_lex.specs.declared.token.TokenKind.{TokenKind}
 use Rattle.cat_parse_step.specs.Words.{Onward}
-use Rattle.cat_parse_step.specs.Machine.{step, some, start}
+use Rattle.cat_parse_state.specs.Readings.{start}
+use Rattle.cat_parse_step.specs.Machine.{step, some}
 use Rattle.cat_parse_step.specs.declared.follow.Follow.TheVariants.{Tests}
 use Rattle.cat_parse_step.specs.Steps.{follow_of}
 use Rattle.cat_parse_expr.proofs.Hold.{is_dashes, is_lower, follow_pull, sign_pull, row_hold, last_hold}

@@ -2,10 +2,11 @@
 use Rattle.std.specs.Prelude.{ℕ, ◌≤◌, ◌≡◌, List, [], ◌∷◌, ◌++◌, Some, None, ◌⊎◌}
 use Rattle.cat_lex.specs.declared.token.Token.{Token}
 use Rattle.cat_tree.specs.declared.expression.Node.{Node}
-use Rattle.cat_parse_step.specs.declared.state.Part.{Part}
-use Rattle.cat_parse_step.specs.declared.state.Reading.{Reading}
-use Rattle.cat_parse_step.specs.Machine.{start, shift, feed, done}
-use Rattle.cat_parse_step.specs.Operands.{takes}
+use Rattle.cat_parse_state.specs.declared.state.Part.{Part}
+use Rattle.cat_parse_state.specs.declared.state.Reading.{Reading}
+use Rattle.cat_parse_state.specs.Readings.{start, feed, done}
+use Rattle.cat_parse_step.specs.Machine.{shift}
+use Rattle.cat_parse_state.specs.Operands.{takes}
 use Rattle.cat_parse_expr.proofs.Rows.{IsPart}
 use Rattle.cat_parse_expr.proofs.Hold.{pull, op_pull, hold}
 use Rattle.cat_parse_expr.specs.Reader.{next, Ends, whole}

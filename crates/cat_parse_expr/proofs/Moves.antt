@@ -11,15 +11,16 @@ use Rattle.cat_tree.specs.declared.expression.Operator.{Operator}
 use Rattle.cat_tree.specs.declared.expression.Operator.TheVariants as op
 use Rattle.cat_tree.specs.declared.expression.Node.{Node}
 use Rattle.cat_tree.specs.Operators.{prefix_level, operator_level}
-use Rattle.cat_parse_step.specs.declared.state.State.{State}
-use Rattle.cat_parse_step.specs.declared.state.State.TheVariants as state
-use Rattle.cat_parse_step.specs.declared.state.Part.{Part}
-use Rattle.cat_parse_step.specs.declared.state.Reading.{Reading}
+use Rattle.cat_parse_state.specs.declared.state.State.{State}
+use Rattle.cat_parse_state.specs.declared.state.State.TheVariants as state
+use Rattle.cat_parse_state.specs.declared.state.Part.{Part}
+use Rattle.cat_parse_state.specs.declared.state.Reading.{Reading}
 use Rattle.cat_parse_step.specs.Words.{Move, Onward, Grown}
 use Rattle.cat_parse_step.specs.Marks.{on_bracket}
 use Rattle.cat_parse_step.specs.Starts.{start_step}
-use Rattle.cat_parse_step.specs.Machine.{start, step, strength_of, moved, shift, feed, done}
-use Rattle.cat_parse_step.specs.Operands.{takes, needs_part, fed_state}
+use Rattle.cat_parse_state.specs.Readings.{start, feed, done}
+use Rattle.cat_parse_step.specs.Machine.{step, strength_of, moved, shift}
+use Rattle.cat_parse_state.specs.Operands.{takes, needs_part, fed_state}
 
 pub start_open : (n : Node) → done start.state ≡ Some n → ⊥
 start_open n e = absurd cc

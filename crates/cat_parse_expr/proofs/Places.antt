@@ -1,20 +1,18 @@
 -- Stops and fronts of a list of tokens, by their places; and one expression for each list.
-use Rattle.std.proofs.Common.{◌≡◌, ℕ, suc, ◌+◌, ◌-◌, ◌<◌, ◌≤◌, Bool, true, false, List, [], ◌∷◌, ◌++◌, length, take, drop, Option, Some, None, refl, sym, ap, subst, ◌∙◌, append_assoc, arith}
+use Rattle.std.proofs.Common.{◌≡◌, ℕ, suc, ◌+◌, ◌-◌, ◌<◌, ◌≤◌, true, false, List, [], ◌∷◌, ◌++◌, length, take, drop, Option, refl, sym, ap, subst, ◌∙◌, append_assoc, arith}
 use Rattle.std.specs.Prelude.{slice_range}
 use Rattle.std.proofs.lemmas.List.{take_at, take-append-drop, length-append, length-drop}
-use Rattle.std.proofs.Math.Seq.{take-length}
 use Rattle.cat_lex.specs.declared.token.Token.{Token}
 use Rattle.cat_tree.specs.declared.expression.Node.{Node}
 use Rattle.cat_tree.specs.Spells.{Spells, IsFront, height_of}
 use Rattle.cat_tree.specs.Spells as spelled
-use Rattle.cat_parse_step.specs.declared.state.Part.{Part}
+use Rattle.cat_parse_state.specs.declared.state.Part.{Part}
 use Rattle.cat_parse_expr.specs.Results.{Stop, Outcome, Fails, Reads, stop_of}
 use Rattle.cat_parse_expr.specs.Reader.{read}
 use Rattle.cat_parse_expr.specs.Places.{IsSpelled, GoesUpTo, IsTooHigh}
 use Rattle.cat_parse_expr.proofs.Rows.{IsPart}
 use Rattle.cat_parse_expr.proofs.Meaning.{Begins}
 use Rattle.cat_parse_expr.proofs.Walks.{part_of, part_is}
-use Rattle.cat_parse_expr.proofs.Viable.{Taken}
 use Rattle.cat_parse_expr.proofs.Exact.{IsExact, exact, nothing, nothing_low, longest, taken, one_tree}
 
 whole_is : (e : Node) (tokens : List Token) → Spells e tokens → IsPart 0 (part_of e) tokens

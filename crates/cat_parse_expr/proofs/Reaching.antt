@@ -5,7 +5,7 @@ use Rattle.cat_lex.specs.declared.token.Token.{Token}
 use Rattle.cat_tree.specs.declared.expression.Node.{Node}
 use Rattle.cat_tree.specs.Phrase.{Phrase, Row, Parts, End, Word, Part, Mark, Stand, Left, Rank, tallest, last_in_form, last_in_match, left_strength, Stands, AreLevelled, IsAt, AreSpelled}
 use Rattle.cat_tree.specs.Grammar.{phrase}
-use Rattle.cat_parse_step.specs.declared.state.Part.{Part as Found}
+use Rattle.cat_parse_state.specs.declared.state.Part.{Part as Found}
 use Rattle.std.proofs.lemmas.List.{append-nil}
 use Rattle.cat_lex.specs.declared.token.TokenKind.{TokenKind}
 use Rattle.cat_parse_expr.proofs.Rows.{IsRow, IsPart, Extends, ReachedAt}

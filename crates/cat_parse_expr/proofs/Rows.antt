@@ -21,14 +21,14 @@ use Rattle.cat_tree.specs.Operators.{prefix_parts, prefix_level, operator_kind, 
 use Rattle.cat_tree.specs.Rows.{fields, elements, pattern_parts}
 use Rattle.cat_tree.specs.Grammar.{phrase}
 use Rattle.cat_tree.proofs.Equations.{field_row, arm_row}
-use Rattle.cat_parse_step.specs.declared.state.State.{State}
-use Rattle.cat_parse_step.specs.declared.state.State.TheVariants as state
-use Rattle.cat_parse_step.specs.declared.state.Owner.{Owner}
-use Rattle.cat_parse_step.specs.declared.state.Owner.TheVariants as owner
-use Rattle.cat_parse_step.specs.declared.state.Matching.{Matching}
-use Rattle.cat_parse_step.specs.declared.state.Combining.{Combining}
-use Rattle.cat_parse_step.specs.declared.state.Part.{Part as Found}
-use Rattle.cat_parse_step.specs.declared.state.Reading.{Reading}
+use Rattle.cat_parse_state.specs.declared.state.State.{State}
+use Rattle.cat_parse_state.specs.declared.state.State.TheVariants as state
+use Rattle.cat_parse_state.specs.declared.state.Owner.{Owner}
+use Rattle.cat_parse_state.specs.declared.state.Owner.TheVariants as owner
+use Rattle.cat_parse_state.specs.declared.state.Matching.{Matching}
+use Rattle.cat_parse_state.specs.declared.state.Combining.{Combining}
+use Rattle.cat_parse_state.specs.declared.state.Part.{Part as Found}
+use Rattle.cat_parse_state.specs.declared.state.Reading.{Reading}
 
 -- ---- rows that have begun
 

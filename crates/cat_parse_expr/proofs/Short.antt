@@ -4,8 +4,8 @@ use Rattle.std.proofs.lemmas.Bool.Decides.{nat_tests}
 use Rattle.std.proofs.lemmas.List.{length-append}
 use Rattle.cat_lex.specs.declared.token.Token.{Token}
 use Rattle.cat_tree.specs.declared.expression.Node.{Node}
-use Rattle.cat_parse_step.specs.declared.state.Reading.{Reading}
-use Rattle.cat_parse_step.specs.Machine.{feed, done}
+use Rattle.cat_parse_state.specs.declared.state.Reading.{Reading}
+use Rattle.cat_parse_state.specs.Readings.{feed, done}
 use Rattle.cat_parse_expr.specs.Results.{Stop, Outcome, Fails, Reads, Reader, here, too_deep, stop_of}
 use Rattle.cat_parse_expr.specs.Reader.{Best, best_of, stopped, ended, Next, Shifted, Asks, Ends, next, is_high, Going, reaches, fed, turn, run, operand_of}
 use Rattle.cat_parse_expr.proofs.Ways.{part_some}

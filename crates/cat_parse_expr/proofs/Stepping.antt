@@ -21,9 +21,9 @@ use Rattle.cat_tree.specs.Wording.{◌▹◌, first, «word», sign, lower, uppe
 use Rattle.cat_tree.specs.Literals.{lists_of, literal_parts, literal_rank, span_bound, unit_word}
 use Rattle.cat_tree.specs.Grammar.{phrase}
 use Rattle.cat_tree.proofs.Equations.{arm_row, phrase_Literal, phrase_Case, phrase_Parens, phrase_Field, phrase_Test, phrase_List, phrase_Structure, phrase_ScopeCall, phrase_Match}
-use Rattle.cat_parse_step.specs.declared.state.State.{State}
-use Rattle.cat_parse_step.specs.declared.state.State.TheVariants as state
-use Rattle.cat_parse_step.specs.declared.state.Owner.TheVariants as owner
+use Rattle.cat_parse_state.specs.declared.state.State.{State}
+use Rattle.cat_parse_state.specs.declared.state.State.TheVariants as state
+use Rattle.cat_parse_state.specs.declared.state.Owner.TheVariants as owner
 use Rattle.std.proofs.lemmas.List.{append-nil}
 use Rattle.cat_lex.specs.declared.token.TokenKind.{TokenKind}
 use Rattle.cat_parse_expr.proofs.Rows.{match_parts, so_far, room, IsRow, Begun, ReachedAt}

@@ -3,9 +3,9 @@ use Rattle.std.proofs.Common.{◌≡◌, ℕ, zero, suc, ◌<◌, ◌≤◌, ◌
 use Rattle.std.specs.Prelude.{Result, Ok, Err, IfOk}
 use Rattle.cat_lex.specs.declared.token.Token.{Token}
 use Rattle.cat_tree.specs.declared.expression.Node.{Node}
-use Rattle.cat_parse_step.specs.declared.state.Part.{Part}
-use Rattle.cat_parse_step.specs.declared.state.State.{State}
-use Rattle.cat_parse_step.specs.declared.state.Reading.{Reading}
+use Rattle.cat_parse_state.specs.declared.state.Part.{Part}
+use Rattle.cat_parse_state.specs.declared.state.State.{State}
+use Rattle.cat_parse_state.specs.declared.state.Reading.{Reading}
 use Rattle.cat_parse_expr.specs.declared.outcome.Halt.{Halt}
 use Rattle.cat_parse_expr.specs.declared.outcome.Reached.{Reached}
 use Rattle.cat_parse_expr.specs.declared.outcome.Reached.TheVariants as reached
@@ -13,18 +13,18 @@ use Rattle.cat_parse_expr.specs.declared.standing.Standing.{Standing}
 use Rattle.cat_parse_expr.specs.declared.standing.Next.TheVariants as steps
 use Rattle.cat_parse_expr.specs.declared.standing.Turn.{Turn}
 use Rattle.cat_parse_expr.specs.declared.standing.Turn.TheVariants.{Goes, Ends}
-use Rattle.cat_parse_step.specs.Machine.{start, feed, done}
-use Rattle.cat_parse_step.specs.Operands.{takes, needs_part}
+use Rattle.cat_parse_state.specs.Readings.{start, feed, done}
+use Rattle.cat_parse_state.specs.Operands.{takes, needs_part}
 use Rattle.cat_parse_expr.specs.Results.{Outcome}
-use Rattle.cat_parse_expr.specs.Reader.{Best, stopped, Asks, next, is_high, fed, starts, nothing_at, operand_of, read}
+use Rattle.cat_parse_expr.specs.Reader.{Best, stopped, Asks, next, fed, nothing_at, operand_of, read}
 use Rattle.cat_parse_expr.specs.Fallback.{fallback}
 use Rattle.cat_parse_expr.specs.Loop.{halt_at, outcome_of, AreWithin, marked, IsKept, IsStanding, going_on, GoesOn, Leads, IsTurnAt, IsAdvance, IsOperandAt, reached_on}
 use Rattle.cat_parse_expr.proofs.Moves.{takes_low, feed_tallest, feed_wants, done_wants, ends_needs}
-use Rattle.cat_parse_expr.proofs.Viable.{Fine, Taken, read_fine, is_below}
-use Rattle.cat_parse_expr.proofs.Short.{Leaves, leaves_of}
+use Rattle.cat_parse_expr.proofs.Viable.{Fine, read_fine, is_below}
+use Rattle.cat_parse_expr.proofs.Short.{leaves_of}
 use Rattle.cat_parse_expr.proofs.Whole.{no_test, not_high}
-use Rattle.cat_parse_expr.proofs.Sane.{lists_fed, fallback_feed, filled_feed}
-use Rattle.cat_parse_expr.proofs.TurnLemmas.{Turned, turned}
+use Rattle.cat_parse_expr.proofs.Keeping.{lists_fed, fallback_feed, filled_feed}
+use Rattle.cat_parse_expr.proofs.TurnLemmas.{turned}
 
 pub unfinished : (q : State) (j : ℕ) → takes q ≡ Some j → done q ≡ None
 unfinished q j t = by (done q) refl

@@ -1,30 +1,26 @@
 -- Turns of the code, by what comes next.
-use Rattle.std.proofs.Common.{◌≡◌, ℕ, zero, suc, ◌<◌, ◌≤◌, ◌-◌, max, Bool, true, false, cond, ◌&&◌, not, nat_eq, leb, List, [], ◌∷◌, length, drop, get_or, Option, Some, None, refl, sym, ap, subst, ◌∙◌, arith, length-drop}
-use Rattle.std.specs.Prelude.{nat_le}
+use Rattle.std.proofs.Common.{◌≡◌, ℕ, zero, suc, ◌<◌, ◌≤◌, ◌-◌, Bool, true, false, cond, ◌&&◌, not, nat_eq, List, ◌∷◌, length, drop, get_or, Option, Some, None, refl, sym, ap, subst, ◌∙◌, arith, length-drop}
 use Rattle.std.proofs.lemmas.Bool.Decides.{nat_tests}
 use Rattle.std.proofs.Math.Seq.{drop-cons}
 use Rattle.cat_lex.specs.declared.token.Token.{Token}
 use Rattle.cat_tree.specs.declared.expression.Node.{Node}
-use Rattle.cat_parse_step.specs.declared.state.Part.{Part}
-use Rattle.cat_parse_step.specs.declared.state.State.{State}
-use Rattle.cat_parse_step.specs.declared.state.Reading.{Reading}
+use Rattle.cat_parse_state.specs.declared.state.Reading.{Reading}
 use Rattle.cat_parse_expr.specs.declared.outcome.Halt.{Halt}
 use Rattle.cat_parse_expr.specs.declared.outcome.Mark.{Mark}
 use Rattle.cat_parse_expr.specs.declared.outcome.Reached.{Reached}
-use Rattle.cat_parse_expr.specs.declared.outcome.Reached.TheVariants as reached
 use Rattle.cat_parse_expr.specs.declared.standing.Standing.{Standing}
 use Rattle.cat_parse_expr.specs.declared.standing.Turn.{Turn}
 use Rattle.cat_parse_expr.specs.declared.standing.Turn.TheVariants.{Goes, Ends}
-use Rattle.cat_parse_step.specs.Machine.{start, shift, feed, done}
-use Rattle.cat_parse_step.specs.Operands.{takes, is_some}
+use Rattle.cat_parse_state.specs.Readings.{done}
+use Rattle.cat_parse_step.specs.Machine.{shift}
+use Rattle.cat_parse_state.specs.Operands.{takes, is_some}
 use Rattle.cat_parse_expr.specs.Reader as spec
-use Rattle.cat_parse_expr.specs.Results.{Stop, Outcome, Fails, Reads, Reader, too_deep}
+use Rattle.cat_parse_expr.specs.Results.{Stop, Outcome, Reader, too_deep}
 use Rattle.cat_parse_expr.specs.Reader.{Best, whole, best_of, stopped, ended, Next, Shifted, Asks, asked, next, is_high, Going, reaches, fed, turn, run, nothing_at, operand_of, read}
 use Rattle.cat_parse_expr.specs.Fallback.{fallback, before, or_else}
-use Rattle.cat_parse_step.specs.Moves.{lists_before}
 use Rattle.cat_parse_expr.specs.Loop.{halt_at, outcome_of, AreWithin, marked, mark_after, IsMarkWithin, IsKept, IsStanding, going_on, GoesOn, Leads, IsTurnAt, reached_on}
 use Rattle.cat_parse_expr.proofs.Viable.{Follows, next_follows}
-use Rattle.cat_parse_expr.proofs.Sane.{shift_keeps, tall_shift}
+use Rattle.cat_parse_expr.proofs.Keeping.{shift_keeps, tall_shift}
 
 pub cut_at : (tokens : List Token) (at place : ℕ) (p : Token) → at < length tokens → p ≡ get_or tokens at p → place ≡ suc at → drop at tokens ≡ p ∷ drop place tokens
 cut_at tokens at place p lt is next = drop-cons tokens at p lt ∙ ap (λ (x : Token). x ∷ drop (suc at) tokens) (sym is) ∙ ap (λ (n : ℕ). p ∷ drop n tokens) (sym next)

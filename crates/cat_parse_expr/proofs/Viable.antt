@@ -1,12 +1,13 @@
 -- What is read is spelled so, and the tokens up to where reading stopped begin an expression.
-use Rattle.std.proofs.Common.{◌≡◌, ℕ, zero, suc, ◌<◌, ◌≤◌, Bool, true, false, cond, ◌&&◌, ◌||◌, nat_le, leb, List, [], ◌∷◌, ◌++◌, length, Option, Some, None, refl, sym, ap, subst, ◌∙◌, append_assoc, arith, inl, inr}
+use Rattle.std.proofs.Common.{◌≡◌, ℕ, zero, suc, ◌<◌, ◌≤◌, Bool, true, false, cond, ◌&&◌, ◌||◌, leb, List, [], ◌∷◌, ◌++◌, length, Option, Some, None, refl, sym, ap, subst, ◌∙◌, append_assoc, arith, inl, inr}
 use Rattle.std.proofs.lemmas.Bool.{cases_lt, le-leb}
 use Rattle.cat_lex.specs.declared.token.Token.{Token}
 use Rattle.cat_tree.specs.declared.expression.Node.{Node}
-use Rattle.cat_parse_step.specs.declared.state.Part.{Part}
-use Rattle.cat_parse_step.specs.declared.state.Reading.{Reading}
-use Rattle.cat_parse_step.specs.Machine.{start, shift, feed, done}
-use Rattle.cat_parse_step.specs.Operands.{takes, needs_part, is_some}
+use Rattle.cat_parse_state.specs.declared.state.Part.{Part}
+use Rattle.cat_parse_state.specs.declared.state.Reading.{Reading}
+use Rattle.cat_parse_state.specs.Readings.{start, feed, done}
+use Rattle.cat_parse_step.specs.Machine.{shift}
+use Rattle.cat_parse_state.specs.Operands.{takes, needs_part, is_some}
 use Rattle.cat_parse_expr.proofs.Rows.{IsPart, Reached}
 use Rattle.cat_parse_expr.proofs.Meaning.{Begins}
 use Rattle.cat_parse_expr.specs.Results.{Stop, Outcome, Fails, Reads, Reader, here, too_deep}

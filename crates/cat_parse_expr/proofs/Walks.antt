@@ -11,14 +11,15 @@ use Rattle.cat_tree.specs.declared.expression.Node.{Node}
 use Rattle.cat_tree.specs.Phrase.{Parts, End, Word, Part, Stand, height, ends_in_form, ends_in_match, right_strength, IsLevelled, IsSpelling, AreSpelled, At, Anywhere}
 use Rattle.cat_tree.specs.Operators.{prefix_level, operator_level}
 use Rattle.cat_tree.specs.Grammar.{phrase}
-use Rattle.cat_parse_step.specs.declared.state.State.{State}
-use Rattle.cat_parse_step.specs.declared.state.Part.{Part as Found}
-use Rattle.cat_parse_step.specs.declared.state.Reading.{Reading}
+use Rattle.cat_parse_state.specs.declared.state.State.{State}
+use Rattle.cat_parse_state.specs.declared.state.Part.{Part as Found}
+use Rattle.cat_parse_state.specs.declared.state.Reading.{Reading}
 use Rattle.cat_lex.specs.declared.token.TokenKind.{TokenKind}
 use Rattle.cat_parse_expr.proofs.Rows.{IsPart}
 use Rattle.cat_parse_step.specs.Words.{Move, Onward}
-use Rattle.cat_parse_step.specs.Machine.{step, strength_of, moved, shift, feed, done}
-use Rattle.cat_parse_step.specs.Operands.{takes, fed_state, ends_form, ends_match}
+use Rattle.cat_parse_state.specs.Readings.{feed, done}
+use Rattle.cat_parse_step.specs.Machine.{step, strength_of, moved, shift}
+use Rattle.cat_parse_state.specs.Operands.{takes, fed_state, ends_form, ends_match}
 use Rattle.cat_tree.specs.declared.expression.Operator.{Operator}
 use Rattle.cat_tree.specs.declared.expression.Operator.TheVariants as op
 use Rattle.cat_parse_step.specs.declared.follow.Follow.{Follow}

@@ -23,10 +23,10 @@ use Rattle.cat_tree.specs.Operators.{prefix_parts, prefix_level, operator_kind, 
 use Rattle.cat_tree.specs.Rows.{fields, elements, arms, each_parts}
 use Rattle.cat_tree.specs.Grammar.{phrase}
 use Rattle.cat_tree.proofs.Equations.{field_row, arm_row, phrase_Literal, phrase_Name, phrase_Case, phrase_Parens, phrase_Field, phrase_Prefixed, phrase_Sum, phrase_Content, phrase_Call, phrase_Binary, phrase_Test, phrase_List, phrase_Structure, phrase_ScopeCall, phrase_If, phrase_Match, phrase_Each, phrase_Combine}
-use Rattle.cat_parse_step.specs.declared.state.Part.{Part as Found}
-use Rattle.cat_parse_step.specs.declared.state.Reading.{Reading}
+use Rattle.cat_parse_state.specs.declared.state.Part.{Part as Found}
+use Rattle.cat_parse_state.specs.declared.state.Reading.{Reading}
 use Rattle.cat_parse_expr.proofs.Rows.{IsPart}
-use Rattle.cat_parse_step.specs.Machine.{done, start}
+use Rattle.cat_parse_state.specs.Readings.{done, start}
 use Rattle.cat_parse_expr.proofs.Hold.{hold, row_hold}
 use Rattle.cat_parse_expr.proofs.Meaning.{Item, Tok, Sub, text, Path, HasPath}
 use Rattle.cat_parse_expr.proofs.Walks.{Walk}

@@ -1,6 +1,5 @@
 -- What stood whole on the way to a state.
-use Rattle.std.specs.Prelude.{ℕ, Bool, true, false, ◌≡◌, List, [], ◌∷◌, Option, Some, None}
-use Rattle.cat_lex.specs.declared.token.Token.{Token}
+use Rattle.std.specs.Prelude.{Bool, true, false, List, [], ◌∷◌, Option, Some, None}
 use Rattle.cat_tree.specs.declared.name.CaseName.TheVariants.{Bare, Qualified}
 use Rattle.cat_tree.specs.declared.expression.Literal.{Literal}
 use Rattle.cat_tree.specs.declared.expression.Literal.TheVariants as literal
@@ -14,15 +13,12 @@ use Rattle.cat_tree.specs.declared.expression.Node.TheOpen.{Node-F}
 use Rattle.cat_tree.specs.declared.expression.Node.TheVariants as leaf
 use Rattle.cat_tree.specs.declared.expression.Node.TheViews as node
 use Rattle.cat_tree.specs.declared.expression.Node.TheViews.{out-Node}
-use Rattle.cat_parse_step.specs.declared.state.State.{State}
-use Rattle.cat_parse_step.specs.declared.state.State.TheVariants as state
-use Rattle.cat_parse_step.specs.declared.state.Matching.{Matching}
-use Rattle.cat_parse_step.specs.declared.state.Owner.{Owner}
-use Rattle.cat_parse_step.specs.declared.state.Owner.TheVariants as owner
-use Rattle.cat_parse_step.specs.declared.state.Reading.{Reading}
-use Rattle.cat_parse_step.specs.declared.shifting.Shifted.{Shifted}
-use Rattle.cat_parse_step.specs.declared.shifting.Shifted.TheVariants.{Further, Still}
-use Rattle.cat_parse_step.specs.Machine.{done, shift}
+use Rattle.cat_parse_state.specs.declared.state.State.{State}
+use Rattle.cat_parse_state.specs.declared.state.State.TheVariants as state
+use Rattle.cat_parse_state.specs.declared.state.Matching.{Matching}
+use Rattle.cat_parse_state.specs.declared.state.Owner.{Owner}
+use Rattle.cat_parse_state.specs.declared.state.Owner.TheVariants as owner
+use Rattle.cat_parse_state.specs.Readings.{done}
 
 -- a call up to its argument
 abbrev pub before_call : Name → List Node → Option Node

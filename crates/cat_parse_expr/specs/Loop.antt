@@ -2,8 +2,7 @@
 use Rattle.std.specs.Prelude.{ℕ, suc, ◌≡◌, ◌≤◌, ◌<◌, ◌-◌, nat_le, cond, true, false, List, length, drop, Option, Some, None}
 use Rattle.cat_lex.specs.declared.token.Token.{Token}
 use Rattle.cat_tree.specs.declared.expression.Node.{Node}
-use Rattle.cat_parse_step.specs.declared.state.State.{State}
-use Rattle.cat_parse_step.specs.declared.state.Reading.{Reading}
+use Rattle.cat_parse_state.specs.declared.state.Reading.{Reading}
 use Rattle.cat_parse_expr.specs.declared.outcome.Halt.{Halt}
 use Rattle.cat_parse_expr.specs.declared.outcome.Mark.{Mark}
 use Rattle.cat_parse_expr.specs.declared.outcome.Reached.{Reached}
@@ -13,8 +12,8 @@ use Rattle.cat_parse_expr.specs.declared.standing.Turn.{Turn}
 use Rattle.cat_parse_expr.specs.declared.standing.Turn.TheVariants.{Goes, Ends}
 use Rattle.cat_parse_expr.specs.declared.standing.Next.{Next}
 use Rattle.cat_parse_expr.specs.declared.standing.Next.TheVariants.{Turns, Asks}
-use Rattle.cat_parse_step.specs.Machine.{done}
-use Rattle.cat_parse_step.specs.Operands.{takes, is_some}
+use Rattle.cat_parse_state.specs.Readings.{done}
+use Rattle.cat_parse_state.specs.Operands.{takes, is_some}
 use Rattle.cat_parse_expr.specs.Reader as spec
 use Rattle.cat_parse_expr.specs.Results.{Stop, Outcome, Fails, Reads}
 use Rattle.cat_parse_expr.specs.Reader.{Best, is_high, next, reaches, best_of, stopped, run, operand_of, read}

@@ -2,10 +2,11 @@
 use Rattle.std.specs.Prelude.{if◌then◌else◌, ℕ, zero, suc, Bool, false, not, ◌&&◌, ◌||◌, nat_eq, nat_le, List, [], ◌∷◌, length, Option, Some, None}
 use Rattle.cat_lex.specs.declared.token.Token.{Token}
 use Rattle.cat_tree.specs.declared.expression.Node.{Node}
-use Rattle.cat_parse_step.specs.declared.state.Part.{Part}
-use Rattle.cat_parse_step.specs.declared.state.Reading.{Reading}
-use Rattle.cat_parse_step.specs.Machine.{start, shift, feed, done}
-use Rattle.cat_parse_step.specs.Operands.{is_some, takes, needs_part}
+use Rattle.cat_parse_state.specs.declared.state.Part.{Part}
+use Rattle.cat_parse_state.specs.declared.state.Reading.{Reading}
+use Rattle.cat_parse_state.specs.Readings.{start, feed, done}
+use Rattle.cat_parse_step.specs.Machine.{shift}
+use Rattle.cat_parse_state.specs.Operands.{is_some, takes, needs_part}
 use Rattle.cat_parse_expr.specs.Results.{Stop, Outcome, Fails, Reads, Reader, here, too_deep}
 
 -- the last whole expression on the way, and what follows it

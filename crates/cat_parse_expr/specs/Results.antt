@@ -1,7 +1,7 @@
 -- What reading gives.
 use Rattle.std.specs.Prelude.{Bool, true, false, List, Option, Some, None}
 use Rattle.cat_lex.specs.declared.token.Token.{Token}
-use Rattle.cat_parse_step.specs.declared.state.Part.{Part}
+use Rattle.cat_parse_state.specs.declared.state.Part.{Part}
 
 -- what is left where reading stopped, and whether it stopped there for the height alone
 pub record Stop : Type 0 where

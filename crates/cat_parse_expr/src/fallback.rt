@@ -3,7 +3,7 @@ ghost use Rattle.std.specs.Prelude.{◌≡◌};
 ghost use Rattle.cat_parse_expr.specs.Fallback as words;
 ghost use Rattle.cat_tree.specs.declared.expression.Node.TheViews.{out-Node};
 
-use cat_parse_step::{Matching, Owner, State};
+use cat_parse_state::{Matching, Owner, State, no_node};
 use cat_pos::{Boxed, Pos};
 use cat_tree::{CaseName, Literal, Name, Node, Nodes};
 
@@ -53,14 +53,6 @@ fn before_test(tested: Boxed<Node>, pos: Pos, case: CaseName) -> Option<Node>
         CaseName::Qualified(owner, _) => Some(Node::Test(tested, pos, CaseName::Bare(owner))),
         CaseName::Bare(_) => None,
     }
-}
-
-/// Drops a state.
-fn drop_state(state: State) -> Option<Node>
-    ensures { result ≡ None }
-{
-    drop(state);
-    None
 }
 
 /// Drops an expression.
@@ -119,6 +111,6 @@ fn fallback_of_parts(state: State) -> Option<Node>
         State::ArmOf(matching, _) => before_arm(matching),
         State::ArmColon(matching, _) => before_arm(matching),
         State::ArmBody(matching, _) => before_arm(matching),
-        other => drop_state(other),
+        other => no_node(other),
     }
 }

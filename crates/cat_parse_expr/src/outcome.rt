@@ -1,10 +1,10 @@
 // What reading an expression came to.
-ghost use Rattle.std.specs.Prelude.{◌≡◌, ◌≤◌, ℕ, List, Option, Some};
+ghost use Rattle.std.specs.Prelude.{◌≡◌, ◌≤◌, ℕ, List};
 ghost use Rattle.cat_lex.specs.declared.token.Token.{Token};
 ghost use Rattle.cat_parse_expr.specs.Reader.{stopped};
 ghost use Rattle.cat_parse_expr.specs.Loop.{halt_at, outcome_of, marked, IsMarkWithin, AreWithin};
 
-use cat_parse_step::Part;
+use cat_parse_state::Part;
 use cat_tree::Node;
 
 /// Where reading stopped, and whether it stopped there for the height alone.

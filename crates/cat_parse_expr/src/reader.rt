@@ -1,25 +1,14 @@
 // The longest expression at a place, read to a height.
 ghost use Rattle.std.specs.Prelude.{◌≡◌, ◌<◌, ◌≤◌, ◌-◌, cond, nat_le, length, drop, IfOk};
-ghost use Rattle.cat_parse_step.specs.Machine.{start};
 ghost use Rattle.cat_parse_expr.specs.Reader.{starts, nothing_at, read};
 ghost use Rattle.cat_parse_expr.specs.Loop.{outcome_of, AreWithin, IsStanding, IsTurnAt};
 
 use crate::outcome::{Halt, Reached};
 use crate::standing::{Next, Standing, Turn, advance, take};
 use cat_lex::Token;
-use cat_parse_step::{Reading, Shifted, State, shift};
+use cat_parse_state::start;
+use cat_parse_step::{Shifted, shift};
 use std::alloc::{AllocError, Global};
-
-fn start() -> Reading
-    ensures { result ≡ start }
-{
-    Reading {
-        state: State::Start,
-        tallest: 0,
-        in_form: false,
-        in_match: false,
-    }
-}
 
 /// Whether a part at that level begins at the place.
 fn starts(alloc: Global, tokens: &[Token], at: usize, level: u32) -> Result<bool, AllocError>

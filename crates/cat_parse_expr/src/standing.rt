@@ -1,18 +1,17 @@
 // Where reading stands, and how it goes on by one word or one operand.
 ghost use Rattle.std.specs.Prelude.{◌≡◌, ◌<◌, ◌≤◌, ℕ, List, length, drop, Option, IfOk};
 ghost use Rattle.cat_lex.specs.declared.token.Token.{Token};
-ghost use Rattle.cat_parse_step.specs.Machine.{done};
-ghost use Rattle.cat_parse_step.specs.Operands.{takes};
+ghost use Rattle.cat_parse_state.specs.Readings.{done};
+ghost use Rattle.cat_parse_state.specs.Operands.{takes};
 ghost use Rattle.cat_parse_expr.specs.Reader.{is_high, next, asked, ended, Best};
 ghost use Rattle.cat_parse_expr.specs.Fallback.{before};
-ghost use Rattle.cat_parse_expr.specs.Loop.{outcome_of, marked, mark_after, IsMarkWithin, AreWithin, IsStanding, IsTurnAt, IsAdvance, Leads, reached_on, IsKept, IsOperandAt};
+ghost use Rattle.cat_parse_expr.specs.Loop.{outcome_of, mark_after, IsMarkWithin, AreWithin, IsStanding, IsTurnAt, IsAdvance, Leads, reached_on, IsKept, IsOperandAt};
 
 use crate::fallback::fallback;
 use crate::outcome::{Halt, Mark, Reached, stopped};
 use cat_lex::Token;
-use cat_parse_step::{
-    Part, Reading, Shifted, State, feed, is_whole, needs_part, shift, takes, whole_node,
-};
+use cat_parse_state::{Part, Reading, State, feed, is_whole, needs_part, takes, whole_node};
+use cat_parse_step::{Shifted, shift};
 use cat_tree::Node;
 use std::alloc::{AllocError, Global};
 

@@ -2,18 +2,18 @@
 use Rattle.std.proofs.Common.{◌≡◌, refl, subst, sym, ap, ◌∙◌, ℕ, Bool, true, false, if◌then◌else◌, [], Option, Some, None, Result, Ok, Err, IfOk}
 use Rattle.std.specs.declared.alloc.AllocError.{AllocError}
 use Rattle.cat_lex.specs.declared.token.Token.{Token}
-use Rattle.cat_parse_step.specs.declared.state.State.{State}
-use Rattle.cat_parse_step.specs.declared.state.State.TheVariants as state
-use Rattle.cat_parse_step.specs.declared.state.Reading.{Reading}
-use Rattle.cat_parse_step.specs.declared.group.Group.{Group}
-use Rattle.cat_parse_step.specs.declared.group.Group.TheVariants as group
+use Rattle.cat_parse_state.specs.declared.state.State.{State}
+use Rattle.cat_parse_state.specs.declared.state.State.TheVariants as state
+use Rattle.cat_parse_state.specs.declared.state.Reading.{Reading}
+use Rattle.cat_parse_state.specs.declared.group.Group.{Group}
+use Rattle.cat_parse_state.specs.declared.group.Group.TheVariants as group
 use Rattle.cat_parse_step.specs.declared.step.Stepped.{Stepped}
 use Rattle.cat_parse_step.specs.declared.step.Stepped.TheVariants as stepped
 use Rattle.cat_parse_step.specs.declared.shifting.Shifted.{Shifted}
 use Rattle.cat_parse_step.specs.declared.shifting.Shifted.TheVariants.{Further, Still}
 use Rattle.cat_parse_step.specs.Words.{Move, Onward, Grown}
 use Rattle.cat_parse_step.specs.Machine.{step, shift, moved, strength_of}
-use Rattle.cat_parse_step.specs.Groups.{group_of}
+use Rattle.cat_parse_state.specs.Groups.{group_of}
 use Rattle.cat_parse_step.specs.OneStep.{IsStepOf, stepped_by, shifted_by}
 use Rattle.cat_parse_step.specs.Moves.{IsShiftOf}
 

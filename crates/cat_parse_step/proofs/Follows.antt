@@ -9,13 +9,13 @@ use Rattle.cat_lex.specs.declared.words.DoubleKeyword.TheVariants as pair
 use Rattle.cat_tree.specs.declared.expression.Each.{Each}
 use Rattle.cat_tree.specs.declared.expression.Each.TheVariants as each
 use Rattle.cat_tree.specs.declared.expression.Node.{Node}
-use Rattle.cat_parse_step.specs.declared.state.State.{State}
+use Rattle.cat_parse_state.specs.declared.state.State.{State}
 use Rattle.cat_parse_step.specs.declared.step.Stepped.TheVariants as stepped
 use Rattle.cat_parse_step.specs.declared.follow.Follow.{Follow}
 use Rattle.cat_parse_step.specs.declared.follow.Follow.TheVariants.{Operated, Dotted, Tests, Other}
 use Rattle.cat_parse_step.specs.Steps.{follow_of, whole_next, each_step}
 use Rattle.cat_parse_step.specs.Words.{Move, Onward, on_we_have, on_such_that, on_to}
-use Rattle.cat_parse_step.specs.Machine.{done}
+use Rattle.cat_parse_state.specs.Readings.{done}
 use Rattle.cat_parse_step.specs.OneStep.{stepped_by, may_follow, followed, behind, joins, is_we_have, is_such_that, is_to}
 
 follows_at : (k s : ℕ) (q : State) (n : Node) (p : Pos) (f : Follow) → may_follow k s f ≡ true → stepped_by q (whole_next k s n p f) ≡ stepped.Grown (followed n p f)

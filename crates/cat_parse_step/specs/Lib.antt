@@ -2,8 +2,6 @@ pub mod Words
 pub mod Marks
 pub mod Starts
 pub mod Steps
-pub mod Operands
 pub mod Machine
-pub mod Groups
 pub mod OneStep
 pub mod Moves

@@ -1,35 +1,20 @@
--- The states of reading: which word, and which operand, leads from one to the next.
-use Rattle.std.specs.Prelude.{ℕ, suc, max, int_lt, false, ◌||◌, if◌then◌else◌, [], Option, Some, None}
+-- The states of reading: which word leads from one to the next.
+use Rattle.std.specs.Prelude.{ℕ, suc, int_lt, false, if◌then◌else◌, [], Option, Some, None}
 use Rattle.cat_lex.specs.declared.token.Token.{Token}
 use Rattle.cat_tree.specs.declared.name.CaseName.TheVariants.{Bare, Qualified}
 use Rattle.cat_tree.specs.declared.expression.Literal.TheVariants as literal
 use Rattle.cat_tree.specs.declared.expression.Pattern.TheVariants as pattern
-use Rattle.cat_tree.specs.declared.expression.Node.{Node}
 use Rattle.cat_tree.specs.declared.expression.Node.TheVariants as leaf
 use Rattle.cat_tree.specs.declared.expression.Node.TheViews as node
 use Rattle.cat_tree.specs.Literals.{span_bound}
-use Rattle.cat_parse_step.specs.declared.state.State.{State}
-use Rattle.cat_parse_step.specs.declared.state.State.TheVariants as state
-use Rattle.cat_parse_step.specs.declared.state.Owner.TheVariants as owner
-use Rattle.cat_parse_step.specs.declared.state.Reading.{Reading}
-use Rattle.cat_parse_step.specs.declared.state.Part.{Part}
+use Rattle.cat_parse_state.specs.declared.state.State.{State}
+use Rattle.cat_parse_state.specs.declared.state.State.TheVariants as state
+use Rattle.cat_parse_state.specs.declared.state.Owner.TheVariants as owner
+use Rattle.cat_parse_state.specs.declared.state.Reading.{Reading}
 use Rattle.cat_parse_step.specs.Words.{Move, Onward, Grown, on_of, on_then, on_else, on_among, on_in, on_initially, on_with, on_anything, on_content, on_with_pattern, lower_of, upper_of, unit_of}
 use Rattle.cat_parse_step.specs.Marks.{on_close, on_bracket, on_semicolon, on_comma, on_colon, on_dot, on_dashes, on_brace, on_end_brace}
 use Rattle.cat_parse_step.specs.Starts.{if_at, start_step}
 use Rattle.cat_parse_step.specs.Steps.{whole_step, type_step, fields_end, each_step, case_dot}
-use Rattle.cat_parse_step.specs.Operands.{fed_state, ends_form, ends_match}
-
--- the expression that is whole here
-abbrev pub done : State → Option Node
-done (state.Complete n s) = Some n
-done (state.Int n p) = Some (leaf.Literal (literal.Int n) p)
-done (state.Name w) = Some (leaf.Name w)
-done (state.Upper u) = Some (leaf.Case (Bare u))
-done (state.Qualified e c) = Some (leaf.Case (Qualified e c))
-done (state.Called f args) = Some (node.Call f args)
-done (state.Tested e p u) = Some (node.Test e p (Bare u))
-done (state.Matched m b) = Some (node.Match m.pos m.tested m.arms)
-done _ = None
 
 -- the strength of what is whole here, as a left operand
 abbrev pub strength_of : State → ℕ
@@ -92,10 +77,6 @@ step k s (state.CombineInitially c w) t = on_initially (some (state.CombineStart
 step k s (state.CombineWith c w e) t = on_with (some (state.CombineBody c w e)) None t.kind
 step k s _ t = None
 
--- nothing is read yet
-abbrev pub start : Reading
-start = record { state = state.Start; tallest = 0; in_form = false; in_match = false }
-
 -- the reading after a move
 abbrev pub moved : Reading → Option Move → Option Reading
 moved r None = None
@@ -105,7 +86,3 @@ moved r (Some (Grown q)) = Some (record { state = q; tallest = suc r.tallest; in
 -- one word further, where it may stand
 unfoldable pub shift : ℕ → Reading → Token → Option Reading
 shift k r t = moved r (step k (if r.in_form then 0 else strength_of r.state) r.state t)
-
--- one operand further
-unfoldable pub feed : Reading → Part → Reading
-feed r e = record { state = fed_state r.state e.node e.in_match; tallest = max r.tallest e.height; in_form = ends_form r.state || e.in_form; in_match = ends_match r.state || e.in_match }

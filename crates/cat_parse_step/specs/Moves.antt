@@ -1,9 +1,9 @@
 -- What a shift gives.
 use Rattle.std.specs.Prelude.{ℕ, ◌≡◌, Some, None}
 use Rattle.cat_lex.specs.declared.token.Token.{Token}
-use Rattle.cat_parse_step.specs.declared.state.State.{State}
-use Rattle.cat_parse_step.specs.declared.state.State.TheVariants as state
-use Rattle.cat_parse_step.specs.declared.state.Reading.{Reading}
+use Rattle.cat_parse_state.specs.declared.state.State.{State}
+use Rattle.cat_parse_state.specs.declared.state.State.TheVariants as state
+use Rattle.cat_parse_state.specs.declared.state.Reading.{Reading}
 use Rattle.cat_parse_step.specs.declared.shifting.Shifted.{Shifted}
 use Rattle.cat_parse_step.specs.declared.shifting.Shifted.TheVariants.{Further, Still}
 use Rattle.cat_parse_step.specs.Machine.{shift}

@@ -1,4 +1,4 @@
--- What one word, or one operand, makes of a state.
+-- What one word makes of a state.
 use Rattle.std.specs.Prelude.{ℕ, suc, ℤ, int_lt, if◌then◌else◌, Bool, true, false, nat_le, ◌&&◌, ◌≡◌, List, Option, Some, None}
 use Rattle.cat_pos.specs.declared.pos.Pos.{Pos}
 use Rattle.cat_lex.specs.declared.token.Token.{Token}
@@ -15,8 +15,8 @@ use Rattle.cat_tree.specs.declared.expression.Node.{Node}
 use Rattle.cat_tree.specs.declared.expression.Node.TheVariants as leaf
 use Rattle.cat_tree.specs.Operators.{operator_level, left_level}
 use Rattle.cat_tree.specs.Literals.{span_bound}
-use Rattle.cat_parse_step.specs.declared.state.State.{State}
-use Rattle.cat_parse_step.specs.declared.state.State.TheVariants as state
+use Rattle.cat_parse_state.specs.declared.state.State.{State}
+use Rattle.cat_parse_state.specs.declared.state.State.TheVariants as state
 use Rattle.cat_parse_step.specs.declared.step.Stepped.{Stepped}
 use Rattle.cat_parse_step.specs.declared.step.Stepped.TheVariants as stepped
 use Rattle.cat_parse_step.specs.declared.shifting.Shifted.{Shifted}
@@ -26,13 +26,17 @@ use Rattle.cat_parse_step.specs.declared.follow.Follow.{Follow}
 use Rattle.cat_parse_step.specs.declared.follow.Follow.TheVariants.{Operated, Dotted, Tests, Other}
 use Rattle.cat_parse_step.specs.Steps.{whole_step}
 use Rattle.cat_parse_step.specs.Machine.{step}
-use Rattle.cat_parse_step.specs.Operands.{fed_state}
 
 -- where the word leads from a state, or that state again
 abbrev pub stepped_by : State → Option Move → Stepped
 stepped_by q None = stepped.Still q
 stepped_by q (Some (Onward more)) = stepped.Onward more
 stepped_by q (Some (Grown more)) = stepped.Grown more
+
+-- whether it follows a whole expression at all
+abbrev pub is_follow : Follow → Bool
+is_follow Other = false
+is_follow _ = true
 
 -- whether it may follow at level k an expression of that strength
 abbrev pub may_follow : (k strength : ℕ) → Follow → Bool
@@ -88,10 +92,6 @@ joins each.ListOf t = is_such_that t
 -- what the word does, whichever state it meets
 abbrev pub IsStepOf : (k strength : ℕ) → State → Token → Stepped → Type 0
 IsStepOf k s q t r = r ≡ stepped_by q (step k s q t)
-
--- the state with its operand, and whether that ends in a match
-abbrev pub IsFed : State → Node → (in_match : Bool) → State → Type 0
-IsFed q n b fed = fed ≡ fed_state q n b
 
 -- the reading at what a step gave, where that was the height so far and what it ended in
 abbrev pub shifted_by : Stepped → ℕ → (in_form in_match : Bool) → Shifted

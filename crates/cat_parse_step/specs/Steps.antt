@@ -18,10 +18,10 @@ use Rattle.cat_tree.specs.declared.expression.Node.{Node}
 use Rattle.cat_tree.specs.declared.expression.Node.TheViews as node
 use Rattle.cat_tree.specs.declared.expression.FieldValue.{FieldValue}
 use Rattle.cat_tree.specs.Operators.{operator_level, left_level}
-use Rattle.cat_parse_step.specs.declared.state.State.{State}
-use Rattle.cat_parse_step.specs.declared.state.State.TheVariants as state
-use Rattle.cat_parse_step.specs.declared.state.Owner.{Owner}
-use Rattle.cat_parse_step.specs.declared.state.Owner.TheVariants as owner
+use Rattle.cat_parse_state.specs.declared.state.State.{State}
+use Rattle.cat_parse_state.specs.declared.state.State.TheVariants as state
+use Rattle.cat_parse_state.specs.declared.state.Owner.{Owner}
+use Rattle.cat_parse_state.specs.declared.state.Owner.TheVariants as owner
 use Rattle.cat_parse_step.specs.declared.follow.Follow.{Follow}
 use Rattle.cat_parse_step.specs.declared.follow.Follow.TheVariants.{Operated, Dotted, Tests, Other}
 use Rattle.cat_parse_step.specs.Words.{Move, Onward, Grown, on_to, on_we_have, on_such_that}

@@ -8,7 +8,7 @@ use Rattle.cat_lex.specs.declared.words.DoubleKeyword.TheVariants as pair
 use Rattle.cat_tree.specs.declared.name.Name.{Name}
 use Rattle.cat_tree.specs.declared.expression.Unit.{Unit as TimeUnit}
 use Rattle.cat_tree.specs.declared.expression.Unit.TheVariants as unit
-use Rattle.cat_parse_step.specs.declared.state.State.{State}
+use Rattle.cat_parse_state.specs.declared.state.State.{State}
 
 -- Where a state goes: on, or with the expression so far as a part of a higher one.
 pub data Move : Type 0 where

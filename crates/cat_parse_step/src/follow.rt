@@ -1,18 +1,17 @@
 //! What may follow a whole expression.
-ghost use Rattle.std.specs.Prelude.{◌≡◌};
-ghost use Rattle.cat_tree.specs.Operators.{left_level};
+ghost use Rattle.std.specs.Prelude.{◌≡◌, true};
 ghost use Rattle.cat_parse_step.specs.Steps as steps;
 ghost use Rattle.cat_parse_step.specs.OneStep as one;
+ghost use Rattle.cat_parse_step.specs.OneStep.{is_follow};
 
-use crate::State;
-use crate::ask::operator_level;
 use crate::step::Stepped;
 use cat_lex::{DoubleKeyword, Keyword, Symbol, TokenKind};
+use cat_parse_state::{State, left_level, operator_level};
 use cat_pos::Pos;
 use cat_tree::{Node, Operator};
 
 /// What a token is behind a whole expression.
-#[derive(Clone, Copy, Debug)]
+#[derive(Clone, Copy)]
 pub enum Follow {
     Operated(Operator),
     Dotted,
@@ -62,21 +61,10 @@ pub(crate) fn follow_of(kind: &TokenKind) -> Follow
     }
 }
 
-/// The least strength that an operator's left operand has.
-fn left_level(operator: Operator) -> u32
-    ensures { result ≡ left_level operator }
-{
-    match operator {
-        Operator::Or | Operator::Xor => 1,
-        Operator::And => 2,
-        Operator::Times | Operator::Divide => 6,
-        _ => 5,
-    }
-}
-
 /// Whether it may follow at that level an expression of that strength.
 pub(crate) fn may_follow(level: u32, strength: u32, follow: Follow) -> bool
-    ensures { result ≡ one.may_follow level strength follow }
+    ensures value { result ≡ one.may_follow level strength follow }
+    ensures follows { result ≡ true → is_follow follow ≡ true }
 {
     match follow {
         Follow::Operated(operator) => {
@@ -90,12 +78,13 @@ pub(crate) fn may_follow(level: u32, strength: u32, follow: Follow) -> bool
 
 /// The expression with what follows it.
 pub(crate) fn followed(node: Node, pos: Pos, follow: Follow) -> State
+    requires { is_follow follow ≡ true }
     ensures { result ≡ one.followed node pos follow }
 {
     match follow {
         Follow::Operated(operator) => State::Right(node, operator, pos),
         Follow::Dotted => State::Dot(node),
         Follow::Tests => State::WithPattern(node, pos),
-        Follow::Other => State::Complete(node, 0),
+        Follow::Other => unreachable!(),
     }
 }

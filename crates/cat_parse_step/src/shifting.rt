@@ -5,12 +5,12 @@ ghost use Rattle.cat_parse_step.specs.OneStep as one;
 ghost use Rattle.cat_parse_step.specs.Moves.{lists_before, IsShiftOf};
 
 use crate::step::{Stepped, step};
-use crate::{Reading, State};
 use cat_lex::Token;
+use cat_parse_state::{Reading, State};
 use std::alloc::{AllocError, Global};
 
 /// The reading with the word, or the reading as it was where the word can't stand.
-#[derive(Debug, Drop)]
+#[derive(Drop)]
 pub enum Shifted {
     Further(Reading),
     Still(Reading),

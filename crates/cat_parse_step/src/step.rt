@@ -4,9 +4,6 @@ ghost use Rattle.cat_parse_step.specs.OneStep as one;
 ghost use Rattle.cat_parse_step.specs.OneStep.{IsStepOf};
 ghost use Rattle.cat_parse_step.specs.Moves.{lists_before};
 
-use crate::State;
-use crate::ask::none_of;
-use crate::group::{Group, group_of};
 use crate::step_behind::step_behind;
 use crate::step_brackets::step_brackets;
 use crate::step_branches::step_branches;
@@ -15,12 +12,13 @@ use crate::step_lists::step_lists;
 use crate::step_start::step_start;
 use crate::step_whole::step_whole;
 use cat_lex::Token;
+use cat_parse_state::{Group, State, group_of, no_node};
 use cat_pos::{Pos, Text};
 use cat_tree::Name;
 use std::alloc::{AllocError, Global};
 
 /// Where a word leads: on, or with the expression so far as a part of a higher one, or nowhere, with the state as it was.
-#[derive(Debug, Drop)]
+#[derive(Drop)]
 pub(crate) enum Stepped {
     Onward(State),
     Grown(State),
@@ -49,7 +47,7 @@ pub(crate) fn step(
 {
     match group_of(&state) {
         Group::Start => {
-            none_of(state);
+            no_node(state);
             step_start(alloc, level, token)
         }
         Group::Whole => Ok(step_whole(alloc, level, strength, state, token)),

@@ -1,12 +1,11 @@
 //! One word further behind a whole expression.
 ghost use Rattle.std.specs.Prelude.{◌≡◌, IfOk};
-ghost use Rattle.cat_parse_step.specs.Groups.{group_of};
+ghost use Rattle.cat_parse_state.specs.Groups.{group_of};
 ghost use Rattle.cat_parse_step.specs.OneStep.{IsStepOf};
 
-use crate::State;
-use crate::group::Group;
 use crate::step::{Stepped, named};
 use cat_lex::{Token, TokenKind};
+use cat_parse_state::{Group, State};
 use cat_pos::{Boxed, Pos};
 use cat_tree::{CaseName, Name, Node};
 use std::alloc::{AllocError, Global};

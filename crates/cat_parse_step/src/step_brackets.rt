@@ -1,14 +1,13 @@
 //! One word further in a prefix, a sum's type or brackets.
 ghost use Rattle.std.specs.Prelude.{◌≡◌, ◌<◌, IfOk};
-ghost use Rattle.cat_parse_step.specs.Groups.{group_of};
+ghost use Rattle.cat_parse_state.specs.Groups.{group_of};
 ghost use Rattle.cat_parse_step.specs.Steps.{type_step};
 ghost use Rattle.cat_parse_step.specs.OneStep.{IsStepOf, stepped_by};
 ghost use Rattle.cat_parse_step.specs.Moves.{lists_before};
 
-use crate::State;
-use crate::group::Group;
 use crate::step::Stepped;
 use cat_lex::{DoubleKeyword, Keyword, Symbol, Token, TokenKind};
+use cat_parse_state::{Group, State};
 use cat_pos::{Boxed, Pos};
 use cat_tree::{Base, Node, Nodes, Prefix, Type};
 use std::alloc::{AllocError, Global};

@@ -1,14 +1,13 @@
 //! One word further in a condition or a match.
 ghost use Rattle.std.specs.Prelude.{◌≡◌, IfOk};
-ghost use Rattle.cat_parse_step.specs.Groups.{group_of};
+ghost use Rattle.cat_parse_state.specs.Groups.{group_of};
 ghost use Rattle.cat_parse_step.specs.Words.{Onward};
 ghost use Rattle.cat_parse_step.specs.Steps as steps;
 ghost use Rattle.cat_parse_step.specs.OneStep.{IsStepOf, stepped_by};
 
-use crate::group::Group;
 use crate::step::{Stepped, named};
-use crate::{Matching, State};
 use cat_lex::{DoubleKeyword, Keyword, Symbol, Token, TokenKind};
+use cat_parse_state::{Group, Matching, State};
 use cat_pos::{Boxed, List, Pos};
 use cat_tree::{CaseName, Name, Node, Pattern};
 use std::alloc::{AllocError, Global};

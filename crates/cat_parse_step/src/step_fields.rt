@@ -1,13 +1,12 @@
 //! One word further in the fields of a literal or of a scope call.
 ghost use Rattle.std.specs.Prelude.{◌≡◌, IfOk};
-ghost use Rattle.cat_parse_step.specs.Groups.{group_of};
+ghost use Rattle.cat_parse_state.specs.Groups.{group_of};
 ghost use Rattle.cat_parse_step.specs.Steps as steps;
 ghost use Rattle.cat_parse_step.specs.OneStep.{IsStepOf, stepped_by};
 
-use crate::group::Group;
 use crate::step::{Stepped, named};
-use crate::{Owner, State};
 use cat_lex::{Keyword, Symbol, Token, TokenKind};
+use cat_parse_state::{Group, Owner, State};
 use cat_pos::{List, Pos};
 use cat_tree::{FieldValues, Name, Node};
 use std::alloc::{AllocError, Global};

@@ -1,13 +1,12 @@
 //! One word further in a form over a list.
 ghost use Rattle.std.specs.Prelude.{◌≡◌, IfOk};
-ghost use Rattle.cat_parse_step.specs.Groups.{group_of};
+ghost use Rattle.cat_parse_state.specs.Groups.{group_of};
 ghost use Rattle.cat_parse_step.specs.OneStep as one;
 ghost use Rattle.cat_parse_step.specs.OneStep.{IsStepOf};
 
-use crate::group::Group;
 use crate::step::{Stepped, named};
-use crate::{Combining, State};
 use cat_lex::{DoubleKeyword, Keyword, Token, TokenKind};
+use cat_parse_state::{Combining, Group, State};
 use cat_pos::{Boxed, Pos};
 use cat_tree::{Each, Name, Node};
 use std::alloc::{AllocError, Global};

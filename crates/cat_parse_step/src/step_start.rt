@@ -3,10 +3,9 @@ ghost use Rattle.std.specs.Prelude.{◌≡◌, IfOk};
 ghost use Rattle.cat_parse_step.specs.Starts.{if_at, start_step};
 ghost use Rattle.cat_parse_step.specs.OneStep.{IsStepOf, stepped_by};
 
-use crate::State;
-use crate::ask::none_of;
 use crate::step::{Stepped, named};
 use cat_lex::{DoubleKeyword, Keyword, Symbol, Token, TokenKind};
+use cat_parse_state::{State, no_node};
 use cat_pos::{List, Pos};
 use cat_tree::{Each, Literal, Node, Prefix};
 use std::alloc::{AllocError, Global};
@@ -18,7 +17,7 @@ fn at_level(level: u32, own: u32, state: State) -> Stepped
     if level <= own {
         return Stepped::Onward(state);
     }
-    none_of(state);
+    no_node(state);
     Stepped::Still(State::Start)
 }
 

@@ -1,18 +1,16 @@
 //! One word further from a whole expression.
-ghost use Rattle.std.specs.Prelude.{◌≡◌, IsSome, IfOk};
-ghost use Rattle.cat_parse_step.specs.Machine.{done, step};
-ghost use Rattle.cat_parse_step.specs.Groups.{group_of};
+ghost use Rattle.std.specs.Prelude.{◌≡◌, IsSome};
+ghost use Rattle.cat_parse_state.specs.Readings.{done};
+ghost use Rattle.cat_parse_state.specs.Groups.{group_of};
 ghost use Rattle.cat_parse_step.specs.Starts.{if_at};
 ghost use Rattle.cat_parse_step.specs.OneStep as one;
 ghost use Rattle.cat_parse_step.specs.OneStep.{IsStepOf, stepped_by};
 
-use crate::ask::whole_node;
 use crate::follow::{follow_of, followed, may_follow};
-use crate::group::Group;
 use crate::step::Stepped;
-use crate::{Matching, Owner, State};
 use cat_lex::{Keyword, Symbol, Token, TokenKind};
 use cat_num::Whole;
+use cat_parse_state::{Group, Matching, Owner, State, whole_node};
 use cat_pos::{Boxed, List, Pos};
 use cat_tree::{CaseName, Literal, Name, Node, Nodes, Unit};
 use std::alloc::Global;

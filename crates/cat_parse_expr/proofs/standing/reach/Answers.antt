@@ -1,8 +1,8 @@
-use Rattle.std.proofs.Common.{◌≡◌, ◌<◌, ◌+◌, suc, ℕ, Bool, false, true, Option, Some, None, drop, length, sym, ap, ◌∙◌, arith}
-use Rattle.cat_parse_step.specs.declared.state.Reading.{Reading}
+use Rattle.std.proofs.Common.{◌≡◌, ◌<◌, ◌+◌, suc, ℕ, Bool, false, true, drop, length, sym, ap, ◌∙◌, arith}
+use Rattle.cat_parse_state.specs.declared.state.Reading.{Reading}
 use Rattle.cat_parse_expr.specs.declared.standing.Turn.TheVariants.{Goes}
 use Rattle.cat_parse_expr.specs.Fallback.{before}
-use Rattle.cat_parse_expr.proofs.Sane.{shift_keeps}
+use Rattle.cat_parse_expr.proofs.Keeping.{shift_keeps}
 use Rattle.cat_parse_expr.proofs.TurnLemmas.{cut_at, word_goes, breaks_off, misses, no_word_misses, high_misses, hits, reaches_further}
 use Rattle.cat_parse_expr.proofs.standing.reach.Goals as goal
 use Rattle.cat_parse_expr.proofs.standing.reach.Goals.{then-halt-via-then-halt, then-halt-via-else-halt+then-at-halt}

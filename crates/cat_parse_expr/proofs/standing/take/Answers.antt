@@ -1,5 +1,4 @@
-use Rattle.std.proofs.Common.{◌≡◌, length, Some, None}
-use Rattle.cat_parse_expr.specs.Loop.{IsTurnAt}
+use Rattle.std.proofs.Common.{length, Some}
 use Rattle.cat_parse_expr.specs.declared.standing.Turn.{Turn}
 use Rattle.cat_parse_expr.proofs.TakeLemmas.{take_fails, operand_stands, operand_goes, operand_reaches, if_ok}
 use Rattle.cat_parse_expr.proofs.standing.take.Goals as goal

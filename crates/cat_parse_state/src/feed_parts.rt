@@ -1,10 +1,10 @@
 //! One operand further where it ends no form.
 ghost use Rattle.std.specs.Prelude.{◌≡◌, false, IfOk};
-ghost use Rattle.cat_parse_step.specs.OneStep.{IsFed};
-ghost use Rattle.cat_parse_step.specs.Groups.{group_of};
+ghost use Rattle.cat_parse_state.specs.Readings.{IsFed};
+ghost use Rattle.cat_parse_state.specs.Groups.{group_of};
 
-use crate::ask::{operator_level, prefix_level};
 use crate::group::Group;
+use crate::levels::{operator_level, prefix_level};
 use crate::{Owner, State};
 use cat_pos::{Boxed, Pos};
 use cat_tree::{CaseName, FieldValue, FieldValues, Name, Node, Nodes, Operator, Prefix, Type};

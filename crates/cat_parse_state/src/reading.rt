@@ -1,8 +1,8 @@
-//! One operand further from a reading.
+//! A reading at its start, and with one operand more.
 ghost use Rattle.std.specs.Prelude.{◌≡◌, IfOk};
-ghost use Rattle.cat_parse_step.specs.Machine as machine;
-ghost use Rattle.cat_parse_step.specs.Operands as operands;
-ghost use Rattle.cat_parse_step.specs.OneStep.{IsFed};
+ghost use Rattle.cat_parse_state.specs.Operands as operands;
+ghost use Rattle.cat_parse_state.specs.Readings as readings;
+ghost use Rattle.cat_parse_state.specs.Readings.{IsFed};
 
 use crate::feed_forms::feed_forms;
 use crate::feed_parts::{feed_brackets, feed_parts};
@@ -10,6 +10,18 @@ use crate::group::{Group, group_of};
 use crate::{Part, Reading, State};
 use cat_tree::Node;
 use std::alloc::{AllocError, Global};
+
+/// Nothing is read yet.
+pub fn start() -> Reading
+    ensures { result ≡ readings.start }
+{
+    Reading {
+        state: State::Start,
+        tallest: 0,
+        in_form: false,
+        in_match: false,
+    }
+}
 
 /// Whether the operand that a state waits for ends a form.
 fn ends_form(state: &State) -> bool
@@ -45,9 +57,9 @@ fn fed_state(alloc: Global, state: State, node: Node, in_match: bool) -> Result<
 }
 
 /// The reading with the operand that it waits for.
-#[tactic(auto, unfolding(crate::specs::Machine::feed))]
+#[tactic(auto, unfolding(crate::specs::Readings::feed))]
 pub fn feed(alloc: Global, reading: Reading, part: Part) -> Result<Reading, AllocError>
-    ensures { IfOk result (λ fed. fed ≡ machine.feed reading part) }
+    ensures { IfOk result (λ fed. fed ≡ readings.feed reading part) }
 {
     let in_form = ends_form(&reading.state) || part.in_form;
     let in_match = ends_match(&reading.state) || part.in_match;

@@ -1,12 +1,12 @@
 //! Which states are stepped, or fed, by the same function.
 ghost use Rattle.std.specs.Prelude.{◌≡◌};
-ghost use Rattle.cat_parse_step.specs.Groups as groups;
+ghost use Rattle.cat_parse_state.specs.Groups as groups;
 
 use crate::State;
 
 /// What the states of a group have in common.
-#[derive(Clone, Copy, Debug)]
-pub(crate) enum Group {
+#[derive(Clone, Copy)]
+pub enum Group {
     Start,
     /// An expression is whole.
     Whole,
@@ -24,7 +24,8 @@ pub(crate) enum Group {
     Forms,
 }
 
-pub(crate) fn group_of(state: &State) -> Group
+/// The group that a state belongs to.
+pub fn group_of(state: &State) -> Group
     ensures { result ≡ groups.group_of state.now }
 {
     match state {
@@ -53,6 +54,15 @@ pub(crate) fn group_of(state: &State) -> Group
         | State::CallBrace(..)
         | State::CallDot(..)
         | State::CallOutput(..) => Group::Fields,
+        other => group_in_form(other),
+    }
+}
+
+/// The group of a state that waits for a part, or stands within a form.
+fn group_in_form(state: &State) -> Group
+    ensures { result ≡ groups.group_in_form state.now }
+{
+    match state {
         State::IfThen(..)
         | State::ThenElse(..)
         | State::MatchWith(..)

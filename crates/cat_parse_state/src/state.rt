@@ -7,7 +7,7 @@ use cat_tree::{
 };
 
 /// Whose fields are read.
-#[derive(Debug, Drop)]
+#[derive(Drop)]
 pub enum Owner {
     /// A literal of that structure.
     Literal(Name),
@@ -16,7 +16,7 @@ pub enum Owner {
 }
 
 /// A match up to its arms: its position, what it tests, and the arms read so far.
-#[derive(Debug, Drop)]
+#[derive(Drop)]
 pub struct Matching {
     pub pos: Pos,
     pub tested: Boxed<Node>,
@@ -24,7 +24,7 @@ pub struct Matching {
 }
 
 /// `combine all` up to its list: its position, the element's name, and the list.
-#[derive(Debug, Drop)]
+#[derive(Drop)]
 pub struct Combining {
     pub pos: Pos,
     pub element: Name,
@@ -32,7 +32,7 @@ pub struct Combining {
 }
 
 /// What has been read so far. A state is named by what was read last, or by what it waits for.
-#[derive(Debug, Drop)]
+#[derive(Drop)]
 pub enum State {
     Start,
     // ---- a whole expression, by what may follow it
@@ -109,7 +109,7 @@ pub enum State {
 }
 
 /// An expression with what its place in a larger one depends on.
-#[derive(Debug, Drop)]
+#[derive(Drop)]
 pub struct Part {
     pub node: Node,
     pub height: u32,
@@ -120,7 +120,7 @@ pub struct Part {
 }
 
 /// A state, with the height of its highest part, and what it ends in.
-#[derive(Debug, Drop)]
+#[derive(Drop)]
 pub struct Reading {
     pub state: State,
     pub tallest: u32,

@@ -1,7 +1,7 @@
 //! One part further of a form.
 ghost use Rattle.std.specs.Prelude.{◌≡◌, false, IfOk};
-ghost use Rattle.cat_parse_step.specs.Groups.{group_of};
-ghost use Rattle.cat_parse_step.specs.OneStep.{IsFed};
+ghost use Rattle.cat_parse_state.specs.Groups.{group_of};
+ghost use Rattle.cat_parse_state.specs.Readings.{IsFed};
 
 use crate::group::Group;
 use crate::{Combining, Matching, State};

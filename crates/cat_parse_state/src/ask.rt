@@ -1,37 +1,12 @@
 //! What a state waits for, and the expression that is whole in it.
-ghost use Rattle.std.specs.Prelude.{◌≡◌, ◌≤◌};
-ghost use Rattle.cat_parse_step.specs.Operands as operands;
-ghost use Rattle.cat_parse_step.specs.Machine.{done};
-ghost use Rattle.cat_parse_step.specs.Operands.{is_some};
-ghost use Rattle.cat_tree.specs.Operators.{prefix_level, operator_level};
+ghost use Rattle.std.specs.Prelude.{◌≡◌};
+ghost use Rattle.cat_parse_state.specs.Operands as operands;
+ghost use Rattle.cat_parse_state.specs.Operands.{is_some};
+ghost use Rattle.cat_parse_state.specs.Readings.{done};
 
 use crate::State;
-use cat_pos::Boxed;
-use cat_tree::{CaseName, Literal, Node, Operator, Prefix};
-
-pub(crate) fn prefix_level(prefix: Prefix) -> u32
-    ensures value { result ≡ prefix_level prefix }
-    ensures low { result ≤ 8 }
-{
-    match prefix {
-        Prefix::Not => 3,
-        Prefix::Negate => 7,
-        _ => 8,
-    }
-}
-
-pub(crate) fn operator_level(operator: Operator) -> u32
-    ensures value { result ≡ operator_level operator }
-    ensures low { result ≤ 6 }
-{
-    match operator {
-        Operator::Or | Operator::Xor => 1,
-        Operator::And => 2,
-        Operator::Plus | Operator::Minus => 5,
-        Operator::Times | Operator::Divide => 6,
-        _ => 4,
-    }
-}
+use crate::levels::{operator_level, prefix_level};
+use cat_tree::{CaseName, Literal, Node};
 
 /// The level of the operand that a state waits for.
 pub fn takes(state: &State) -> Option<u32>
@@ -101,12 +76,12 @@ pub fn whole_node(state: State) -> Option<Node>
         State::Matched(matching, _) => {
             Some(Node::Match(matching.pos, matching.tested, matching.arms))
         }
-        other => none_of(other),
+        other => no_node(other),
     }
 }
 
-/// Drops a state.
-pub(crate) fn none_of(state: State) -> Option<Node>
+/// Drops a state in which no expression is whole.
+pub fn no_node(state: State) -> Option<Node>
     ensures { result ≡ None }
 {
     drop(state);

@@ -2,13 +2,13 @@
 use Rattle.std.proofs.Common.{◌≡◌, refl, subst, sym, Bool, true, false, Result, Ok, Err, IfOk}
 use Rattle.std.specs.declared.alloc.AllocError.{AllocError}
 use Rattle.cat_tree.specs.declared.expression.Node.{Node}
-use Rattle.cat_parse_step.specs.declared.state.State.{State}
-use Rattle.cat_parse_step.specs.declared.state.State.TheVariants as state
-use Rattle.cat_parse_step.specs.declared.group.Group.{Group}
-use Rattle.cat_parse_step.specs.declared.group.Group.TheVariants as group
-use Rattle.cat_parse_step.specs.Operands.{fed_state}
-use Rattle.cat_parse_step.specs.Groups.{group_of}
-use Rattle.cat_parse_step.specs.OneStep.{IsFed}
+use Rattle.cat_parse_state.specs.declared.state.State.{State}
+use Rattle.cat_parse_state.specs.declared.state.State.TheVariants as state
+use Rattle.cat_parse_state.specs.declared.group.Group.{Group}
+use Rattle.cat_parse_state.specs.declared.group.Group.TheVariants as group
+use Rattle.cat_parse_state.specs.Operands.{fed_state}
+use Rattle.cat_parse_state.specs.Groups.{group_of}
+use Rattle.cat_parse_state.specs.Readings.{IsFed}
 
 is_form : Group → Bool
 is_form group.Forms = true
