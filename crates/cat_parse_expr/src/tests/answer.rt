@@ -9,8 +9,8 @@ use std::process::Abort;
 use std::test::Fail;
 
 /// The tokens of a text that stands in the first line.
-fn lexed(rt: &impl Abort, alloc: Global, text: &str) -> Result<Tokens, LexRefusal> {
-    assert!(rt; text.len() <= 1000);
+pub fn lexed(rt: &impl Abort, alloc: Global, text: &str) -> Result<Tokens, LexRefusal> {
+    assert!(rt; text.len() <= 100_000);
     let pos = Pos {
         file: 0,
         line: 1,
@@ -70,7 +70,8 @@ fn answered(rt: &impl Abort, alloc: Global, text: &str, places: bool) -> Result<
     }
 }
 
-fn expect(
+/// Tries a text against what is answered, with columns where places are wanted.
+pub fn expect(
     rt: &impl Abort,
     alloc: Global,
     text: &str,
@@ -83,7 +84,7 @@ fn expect(
 }
 
 /// The two sides of a row.
-fn sides(row: &str) -> Result<(&str, &str), Fail> {
+pub fn sides(row: &str) -> Result<(&str, &str), Fail> {
     Ok(row.split_once("=> ").ok_or("a row without an answer")?)
 }
 

@@ -3,9 +3,8 @@
 use crate::tests::answer::expect_rows;
 use std::test::Fail;
 
-#[test]
-fn neighbouring_levels_bind_in_their_order(rt: HostRuntime) -> Result<(), Fail> {
-    let table = "a or b and c => (Or (a) (And (b) (c)))
+// Each operator, prefix and postfix beside those of the next levels.
+const LEVELS: &str = "a or b and c => (Or (a) (And (b) (c)))
 a and b or c => (Or (And (a) (b)) (c))
 a xor b or c => (Or (Xor (a) (b)) (c))
 a or b xor c => (Xor (Or (a) (b)) (c))
@@ -71,5 +70,8 @@ sum integer of a + b => (Plus Sum(0 Integer (a)) (b))
 ( a + b ) * c => (Times Parens((Plus (a) (b))) (c))
 ( a < b ) < c => (Less Parens((Less (a) (b))) (c))
 [ a or b ; not c ] . d => Field(List([(Or (a) (b)) (Not (c))]) d)";
-    expect_rows(&rt, rt.alloc(), table, false)
+
+#[test]
+fn neighbouring_levels_bind_in_their_order(rt: HostRuntime) -> Result<(), Fail> {
+    expect_rows(&rt, rt.alloc(), LEVELS, false)
 }
