@@ -4,7 +4,7 @@ use Rattle.cat_value.specs.declared.decls.Decls.{Decls}
 use Rattle.cat_value.specs.declared.declaration.Scope.{Scope}
 use Rattle.cat_value.specs.declared.declaration.Structure.{Structure}
 use Rattle.cat_value.specs.declared.declaration.Enumeration.{Enumeration}
-use Rattle.cat_value.specs.declared.outcome.Place.{Place}
+use Rattle.cat_value.specs.declared.outcome.Target.{Target}
 use Rattle.cat_value.specs.Declarations.{are_sound}
 use Rattle.cat_date.specs.declared.rounding.Rounding.TheVariants.{Up}
 use Rattle.cat_scope.specs.Forests.{are_low}
@@ -58,6 +58,6 @@ pub bare_requires : (decls : Decls) (bodies : List Body) (order : List ℕ) (nam
 bare_requires decls bodies order name is are stands = rw (are, stands) (∣ bare_program decls name Up is ∣₁)
 
 -- a forest of one target with two groups, of which the second excepts the first
-pub two_groups_are_low : (place : Place) → are_low (record { place = place; groups = record { defs = 0 ∷ []; excepted_by = 1 ∷ [] } ∷ record { defs = 1 ∷ []; excepted_by = [] } ∷ [] } ∷ []) ≡ true
+pub two_groups_are_low : (place : Target) → are_low (record { place = place; groups = record { defs = 0 ∷ []; excepted_by = 1 ∷ [] } ∷ record { defs = 1 ∷ []; excepted_by = [] } ∷ [] } ∷ []) ≡ true
 unfolding are_low is_within
 two_groups_are_low place = refl

@@ -3,7 +3,7 @@ use Rattle.std.proofs.Common.{◌≡◌, ℕ, pos, List, [], ◌∷◌, Option, 
 use Rattle.cat_pos.specs.declared.pos.Pos.{Pos}
 use Rattle.cat_value.specs.declared.value.Value.TheVariants as flat
 use Rattle.cat_value.specs.declared.value.Value.TheViews as value
-use Rattle.cat_value.specs.declared.outcome.Place.{Place}
+use Rattle.cat_value.specs.declared.outcome.Target.{Target}
 use Rattle.cat_scope.specs.declared.defs.Def.{Def}
 use Rattle.cat_scope.specs.Logged.{Decider}
 use Rattle.cat_scope.specs.LoggedTargets.{logged_target}
@@ -11,7 +11,7 @@ use Rattle.cat_scope.specs.Deciders.{logged_reply_of}
 use Rattle.cat_scope.proofs.LogEquations.{log_equations}
 use Rattle.cat_scope.proofs.Samples.{at, variable, n_in, x_out, body, x, chain, forked, calling_scopes, calling_bodies, nested_scopes, nested_bodies}
 
-abbrev decider : Place → Option Pos → Decider
+abbrev decider : Target → Option Pos → Decider
 decider target by = record { target = target; by = by }
 
 -- the deciders of a program of one scope with `n` and `x`, on n
@@ -42,7 +42,7 @@ where_no_definition_holds_none_decides = search (rules, log_equations, value.the
 abbrev calling : ℕ → List Decider
 calling k = (logged_reply_of calling_scopes calling_bodies (0 ∷ 1 ∷ []) 1 (Some (flat.Integer (pos k)) ∷ None ∷ None ∷ [])).0
 
-abbrev context : Place
+abbrev context : Target
 context = record { scope = 1; item = 1; inner = Some 0 }
 
 a_given_context_is_not_judged_again : calling 3 ≡ decider context (Some (at 12 3)) ∷ decider (variable 1 2) (Some (at 13 3)) ∷ []

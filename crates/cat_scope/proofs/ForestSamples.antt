@@ -1,6 +1,6 @@
 -- Worked examples of forests: which groups there are, which except which, and for which targets.
 use Rattle.std.proofs.Common.{◌≡◌, ℕ, List, [], ◌∷◌, Some, None, refl}
-use Rattle.cat_value.specs.declared.outcome.Place.{Place}
+use Rattle.cat_value.specs.declared.outcome.Target.{Target}
 use Rattle.cat_value.specs.declared.declaration.Kind.TheVariants as kind
 use Rattle.cat_scope.specs.declared.defs.Except.TheVariants as except
 use Rattle.cat_scope.specs.declared.defs.Def.{Def}
@@ -44,7 +44,7 @@ a_bare_exception_of_two_roots : groups two_roots ≡ group (0 ∷ []) [] ∷ gro
 a_bare_exception_of_two_roots = refl
 
 -- of a scope with an input, an output and a context that item 2 of scope 1 calls
-abbrev inner : ℕ → Place
+abbrev inner : ℕ → Target
 inner n = record { scope = 1; item = 2; inner = Some n }
 
 inputs_and_contexts_are_targets : called_places 1 2 0 (n_in ∷ x_out ∷ item kind.Context (at 5 11) ∷ []) ≡ inner 0 ∷ inner 2 ∷ []

@@ -2,7 +2,7 @@
 use Rattle.std.proofs.Common.{◌≡◌, ℕ, zero, suc, ◌+◌, Bool, true, false, ◌&&◌, ◌||◌, not, IsTrue, List, [], ◌∷◌, Option, Some, None, Result, Ok, Err, slice_get, refl, sym, ap, ◌∙◌, subst, arith, true≢false, if◌then◌else◌}
 use Rattle.std.specs.Prelude.{nat_eq}
 use Rattle.cat_pos.specs.declared.pos.Pos.{Pos}
-use Rattle.cat_value.specs.declared.outcome.Place.{Place}
+use Rattle.cat_value.specs.declared.outcome.Target.{Target}
 use Rattle.cat_value.specs.declared.ty.Ty.{Ty}
 use Rattle.cat_value.specs.declared.ty.Ty.TheOpen.{Ty-F}
 use Rattle.cat_value.specs.declared.ty.Ty.TheVariants as flat_ty
@@ -136,7 +136,7 @@ scope_call-ends ns scoped calls values s same callee fs k t typed complete outpu
 
 -- ---- called scopes
 
-passed-ends : (ds : Decls) (target : Place) (place : Pos) (decl : ItemDecl) (r : Judged Value) → Placed decl → IsTrue (may_be_given decl.kind) → EndsIn (HeldOf ds decl.ty) r
+passed-ends : (ds : Decls) (target : Target) (place : Pos) (decl : ItemDecl) (r : Judged Value) → Placed decl → IsTrue (may_be_given decl.kind) → EndsIn (HeldOf ds decl.ty) r
     → EndsIn (λ o. IsTrue (is_given_for ds decl o)) (passed target place decl r)
 passed-ends ds target place decl (Ok None) placed may h = by (must_be_given decl.kind) refl
   where
@@ -157,7 +157,7 @@ not_given kind.Internal h = refl
 not_given kind.Output h = refl
 not_given (kind.Called scope) h = refl
 
-pub passed_input-ends : (ds : Decls) (judged_at : ℕ → Judged Value) (target_at : ℕ → Place) (place : Pos) (n : ℕ) (decls : List ItemDecl) → AllHave Placed decls
+pub passed_input-ends : (ds : Decls) (judged_at : ℕ → Judged Value) (target_at : ℕ → Target) (place : Pos) (n : ℕ) (decls : List ItemDecl) → AllHave Placed decls
     → ((j : ℕ) (i : ItemDecl) → slice_get decls j ≡ Some i → IsTrue (may_be_given i.kind) → EndsIn (HeldOf ds i.ty) (judged_at (n + j)))
     → EndsIn (λ input. IsTrue (are_given_for ds decls input)) (passed_input judged_at target_at place n decls)
 passed_input-ends ds judged_at target_at place n [] placed each = refl

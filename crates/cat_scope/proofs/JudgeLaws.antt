@@ -2,7 +2,7 @@
 use Rattle.std.proofs.Common.{◌≡◌, ℕ, zero, suc, ◌+◌, ◌<◌, true, List, [], ◌∷◌, length, map, Option, Some, None, get_or, refl, ap, ◌∙◌, sym, arith, subst, nat_eq, Bool, false, if◌then◌else◌}
 use Rattle.std.proofs.Math.Logic.{⊎_elim}
 use Rattle.std.proofs.lemmas.Bool.Decides.{nat_tests}
-use Rattle.cat_value.specs.declared.outcome.Place.{Place}
+use Rattle.cat_value.specs.declared.outcome.Target.{Target}
 use Rattle.cat_value.specs.declared.value.Value.{Value}
 use Rattle.cat_order.specs.Order.{dependencies_of, times}
 use Rattle.cat_order.specs.Cycle.{DependsOn}
@@ -16,7 +16,7 @@ each_same : {A : Type 0} (f g : ℕ → Judged A) (Has : ℕ → Type 0) → ((n
 each_same f g Has same [] all = refl
 each_same f g Has same (n ∷ ns) all = ap (λ r. r ∷ map f ns) (same n all.0) ∙ ap (λ rest. g n ∷ rest) (each_same f g Has same ns all.1)
 
-steady : {A : Type 0} (place : Place) (pairs : List (ℕ × ℕ)) (own : ℕ → Judged A) (n group : ℕ) → IsWithin (excepting pairs) n group → judge place pairs own n group ≡ judge place pairs own (suc n) group
+steady : {A : Type 0} (place : Target) (pairs : List (ℕ × ℕ)) (own : ℕ → Judged A) (n group : ℕ) → IsWithin (excepting pairs) n group → judge place pairs own n group ≡ judge place pairs own (suc n) group
 steady place pairs own zero group within = elim within [ ]
 steady place pairs own (suc n) group within =
     ap (λ judged. or_else (settle place judged) (own group))
@@ -58,7 +58,7 @@ leads_on groups g h within among =
     let same : dependencies_of (exceptions_of groups) g ≡ excepting (excepts groups) g = exceptions_at (excepts groups) 0 g groups within ∙ ap (excepting (excepts groups)) (omega arith) in
     (rw same (grind (arith, nat_tests, listed)), one_has (λ m. m < length groups) (excepting (excepts groups) g) h (excepting_low (length groups) (excepts groups) (pairs_low groups (length groups) 0 groups (omega arith)) g) among)
 
-pub judging_rule : (place : Place) (groups : List Group) (own : ℕ → Judged Value) (group : ℕ) → HasNoCycle (exceptions_of groups) → group < length groups
+pub judging_rule : (place : Target) (groups : List Group) (own : ℕ → Judged Value) (group : ℕ) → HasNoCycle (exceptions_of groups) → group < length groups
     → judge place (excepts groups) own (length groups) group
     ≡ or_else (settle place (map (judge place (excepts groups) own (length groups)) (excepting (excepts groups) group))) (own group)
 judging_rule place groups own group none within =

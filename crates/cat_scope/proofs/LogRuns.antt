@@ -10,7 +10,7 @@ use Rattle.cat_value.specs.declared.declaration.ItemDecl.{ItemDecl}
 use Rattle.cat_value.specs.declared.declaration.Scope.{Scope}
 use Rattle.cat_value.specs.Inputs.{may_be_given}
 use Rattle.cat_value.specs.declared.outcome.FaultKind.TheVariants.{AssertionFailed}
-use Rattle.cat_value.specs.declared.outcome.Place.{Place}
+use Rattle.cat_value.specs.declared.outcome.Target.{Target}
 use Rattle.cat_scope.specs.declared.stop.Stop.{Stop}
 use Rattle.cat_scope.specs.declared.stop.Stop.TheVariants.{Fault}
 use Rattle.cat_scope.specs.declared.expr.Expr.{Expr}
@@ -33,7 +33,7 @@ use Rattle.cat_scope.proofs.LogSteps.{after_drops, giving_drops, one_of_drops, b
 use Rattle.cat_scope.proofs.LogExpressions.{eval_drops}
 use Rattle.cat_scope.proofs.LogTargets.{target_drops, decided_drops}
 
-passed_drops : (f : ℕ → LoggedJudged) (g : ℕ → Judged Value) → ((n : ℕ) → (f n).1 ≡ g n) → (target_at : ℕ → Place) (place : Pos) (n : ℕ) (decls : List ItemDecl)
+passed_drops : (f : ℕ → LoggedJudged) (g : ℕ → Judged Value) → ((n : ℕ) → (f n).1 ≡ g n) → (target_at : ℕ → Target) (place : Pos) (n : ℕ) (decls : List ItemDecl)
     → (logged_passed f target_at place n decls).1 ≡ passed_input g target_at place n decls
 passed_drops f g each target_at place n [] = refl
 passed_drops f g each target_at place n (decl ∷ decls) = before_drops
@@ -57,7 +57,7 @@ module _ (scoped : Scoped) (runs : LoggedRuns) (runs_drop : (s : ℕ) (input : I
     expression_drops : (arguments : List Value) (e : Expr) → (logged_eval (log_env_of scoped runs logged values) e arguments).1 ≡ eval (env_of scoped calls values) e arguments
     expression_drops arguments e = eval_drops scoped.body.rounding values logged (logged_scope_call scoped runs) calls (scope_call scoped) calls_drop scope_call_drops e arguments
 
-    judged_drops : (arguments : List Value) (target : Place) → (logged_judged scoped runs logged values arguments target).1 ≡ judged scoped calls values arguments target
+    judged_drops : (arguments : List Value) (target : Target) → (logged_judged scoped runs logged values arguments target).1 ≡ judged scoped calls values arguments target
     judged_drops arguments target = target_drops (λ e. logged_eval (log_env_of scoped runs logged values) e arguments) (λ e. eval (env_of scoped calls values) e arguments) (expression_drops arguments) target scoped.body.defs
 
     function_drops : (arguments : List Value) (item : ℕ) (decl : Option ItemDecl) → (logged_function scoped runs logged values arguments item decl).1 ≡ variable_value scoped calls values arguments item decl

@@ -7,7 +7,7 @@ use Rattle.cat_value.specs.declared.declaration.Kind.{Kind}
 use Rattle.cat_value.specs.declared.declaration.Kind.TheVariants as kind
 use Rattle.cat_value.specs.declared.declaration.ItemDecl.{ItemDecl}
 use Rattle.cat_value.specs.declared.declaration.Scope.{Scope}
-use Rattle.cat_value.specs.declared.outcome.Place.{Place}
+use Rattle.cat_value.specs.declared.outcome.Target.{Target}
 use Rattle.cat_scope.specs.declared.expr.Expr.{Expr}
 use Rattle.cat_scope.specs.declared.expr.Expr.TheVariants as leaf
 use Rattle.cat_scope.specs.declared.expr.Expr.TheViews as expr
@@ -30,7 +30,7 @@ a = 97 ∷ []
 abbrev pub b : List ℕ
 b = 98 ∷ []
 
-abbrev pub variable : ℕ → ℕ → Place
+abbrev pub variable : ℕ → ℕ → Target
 variable scope item = record { scope = scope; item = item; inner = None }
 
 -- items of integers, and of another type
@@ -70,7 +70,7 @@ abbrev pub one_month_below_31_days : Pos → Expr
 one_month_below_31_days p = expr.Binary (at 0 0) Less p (leaf.Literal (at 0 0) (literal.Duration (record { months = pos 1; days = pos 0 })))
     (leaf.Literal (at 0 0) (literal.Duration (record { months = pos 0; days = pos 31 })))
 
-abbrev pub def : Place → Option (List ℕ) → Except → Option Expr → Expr → Pos → Def
+abbrev pub def : Target → Option (List ℕ) → Except → Option Expr → Expr → Pos → Def
 def target label e condition consequence p =
     record { target = target; label = label; except = e; condition = condition; consequence = consequence; params = 0; pos = p }
 
@@ -89,7 +89,7 @@ body_calling calls defs order = record { defs = defs; assertions = []; source = 
 abbrev pub body : List Def → List ℕ → Body
 body defs order = body_calling [] defs order
 
-abbrev pub x : Place
+abbrev pub x : Target
 x = variable 0 1
 
 -- an exception, and an exception to it

@@ -3,7 +3,7 @@ use Rattle.std.proofs.Common.{◌≡◌, ℕ, zero, suc, ◌+◌, Bool, true, fa
 use Rattle.std.specs.Prelude.{nat_eq}
 use Rattle.std.proofs.lemmas.Option.{slice_get_within}
 use Rattle.cat_pos.specs.declared.pos.Pos.{Pos}
-use Rattle.cat_value.specs.declared.outcome.Place.{Place}
+use Rattle.cat_value.specs.declared.outcome.Target.{Target}
 use Rattle.cat_value.specs.declared.ty.Ty.{Ty}
 use Rattle.cat_value.specs.declared.ty.Ty.TheVariants as flat_ty
 use Rattle.cat_value.specs.declared.value.Value.{Value}
@@ -53,12 +53,12 @@ module _ (ds : Decls) (t : Ty) where
       ends_then (HeldOf ds t) AllOf r _ h.0
       (λ one ho. ends_then AllOf AllOf (holding rs) _ (holding-ends rs h.1) (λ more hm. with-held one more ho hm))
 
-  alone-ends : (place : Place) (hs : List (Held Value)) → AllOf hs → JudgedOf (alone place hs)
+  alone-ends : (place : Target) (hs : List (Held Value)) → AllOf hs → JudgedOf (alone place hs)
   alone-ends place [] h = tt
   alone-ends place (one ∷ []) h = h.0
   alone-ends place (one ∷ two ∷ hs) h = tt
 
-  settle-ends : (place : Place) (rs : List (Judged Value)) → AllHave JudgedOf rs → JudgedOf (settle place rs)
+  settle-ends : (place : Target) (rs : List (Judged Value)) → AllHave JudgedOf rs → JudgedOf (settle place rs)
   settle-ends place rs h = ends_then AllOf (HeldOf ds t) (holding rs) (alone place) (holding-ends rs h) (λ hs all. alone-ends place hs all)
 
   or_else-ends : (r other : Judged Value) → JudgedOf r → JudgedOf other → JudgedOf (or_else r other)
@@ -164,7 +164,7 @@ no_target groups (except.Named label pos) h = absurd (true≢false (sym h))
 
 -- ---- judging groups and targets
 
-module _ (ds : Decls) (t : Ty) (value : Expr → Reply) (place : Place) (groups : List Group) (each : AllHave (λ g. AllHave (λ d. DefEnds ds t value d.1) g.defs) groups) where
+module _ (ds : Decls) (t : Ty) (value : Expr → Reply) (place : Target) (groups : List Group) (each : AllHave (λ g. AllHave (λ d. DefEnds ds t value d.1) g.defs) groups) where
   abbrev own : ℕ → Judged Value
   own g = judge_own value place (slice_get groups g)
 
@@ -226,7 +226,7 @@ module _ (ds : Decls) (t : Ty) (value : Expr → Reply) (place : Place) (groups 
       (λ k e. judge-ends (length groups) k (root_reached k e)))
 
 -- what holds of the definitions of a target
-defs-all : (P : Def → Type 0) (target : Place) (n : ℕ) (defs : List Def) → AllHave (λ d. IsTrue (same_target d.target target) → P d) defs → AllHave (λ d. P d.1) (defs_from target n defs)
+defs-all : (P : Def → Type 0) (target : Target) (n : ℕ) (defs : List Def) → AllHave (λ d. IsTrue (same_target d.target target) → P d) defs → AllHave (λ d. P d.1) (defs_from target n defs)
 defs-all P target n [] h = tt
 defs-all P target n (d ∷ defs) h = by (same_target d.target target) refl (defs-all P target (n + 1) defs h.1)
   where
@@ -235,7 +235,7 @@ defs-all P target n (d ∷ defs) h = by (same_target d.target target) refl (defs
     by true e rest = (h.0 e, rest)
     by false e rest = rest
 
-pub judge_target-ends : (ds : Decls) (t : Ty) (value : Expr → Reply) (target : Place) (defs : List Def) → AllHave (λ d. IsTrue (same_target d.target target) → DefEnds ds t value d) defs
+pub judge_target-ends : (ds : Decls) (t : Ty) (value : Expr → Reply) (target : Target) (defs : List Def) → AllHave (λ d. IsTrue (same_target d.target target) → DefEnds ds t value d) defs
     → EndsIn (HeldOf ds t) (judge_target value target defs)
 unfolding judge_target
 judge_target-ends ds t value target defs h =
@@ -243,7 +243,7 @@ judge_target-ends ds t value target defs h =
     judge_groups-ends ds t value target (groups_of all) (groups-all (λ d. DefEnds ds t value d.1) all [] all (defs-all (DefEnds ds t value) target 0 defs h))
 
 -- in place of a value where no definition holds; a condition is a boolean
-pub absent-ends : (ds : Decls) (t : Ty) (target : Place) (place : Pos) (condition : Bool) → (IsTrue condition → t ≡ flat_ty.Boolean) → EndsIn (IsOf ds t) (absent target place condition)
+pub absent-ends : (ds : Decls) (t : Ty) (target : Target) (place : Pos) (condition : Bool) → (IsTrue condition → t ≡ flat_ty.Boolean) → EndsIn (IsOf ds t) (absent target place condition)
 absent-ends ds t target place true is = subst (λ u. IsOf ds u (flat.Boolean false)) (sym (is refl)) (of-Boolean ds false)
 absent-ends ds t target place false is = tt
 

@@ -1,7 +1,7 @@
 -- Readings that are wrong: each differs from the definition where it is tried.
 use Rattle.std.proofs.Common.{◌≡◌, ℕ, true, false, Bool, List, [], ◌∷◌, Option, None, Some, Result, Ok, Err, sym, ap, true≢false}
 use Rattle.cat_pos.specs.declared.pos.Pos.{Pos}
-use Rattle.cat_value.specs.declared.outcome.Place.{Place}
+use Rattle.cat_value.specs.declared.outcome.Target.{Target}
 use Rattle.cat_scope.specs.declared.stop.Stop.{Stop}
 use Rattle.cat_scope.specs.declared.stop.Stop.TheVariants.{NoValue}
 use Rattle.cat_scope.specs.Judging.{Held, Judged, alone, or_else, settle}
@@ -16,7 +16,7 @@ abbrev first_taken : {A : Type 0} → List (Held A) → Judged A
 first_taken [] = Ok None
 first_taken (h ∷ hs) = Ok (Some h)
 
-the_first_of_two_is_not_taken : {A : Type 0} (place : Place) (h i : Held A) (hs : List (Held A)) → ¬ (first_taken (h ∷ i ∷ hs) ≡ alone place (h ∷ i ∷ hs))
+the_first_of_two_is_not_taken : {A : Type 0} (place : Target) (h i : Held A) (hs : List (Held A)) → ¬ (first_taken (h ∷ i ∷ hs) ≡ alone place (h ∷ i ∷ hs))
 the_first_of_two_is_not_taken place h i hs same = true≢false (ap is_ok same)
 
 abbrev number_in : {A : Type 0} → Judged A → Option ℕ
@@ -38,10 +38,10 @@ reporting first (Ok (Some h)) = Ok (Some (record { number = first.number; pos = 
 reporting first (Ok None) = Ok None
 reporting first (Err stop) = Err stop
 
-the_first_definition_is_not_reported : {A : Type 0} (place : Place) (first h : Held A) → ¬ (first.number ≡ h.number)
+the_first_definition_is_not_reported : {A : Type 0} (place : Target) (first h : Held A) → ¬ (first.number ≡ h.number)
     → ¬ (reporting first (settle place (Ok None ∷ Ok (Some h) ∷ [])) ≡ settle place (Ok None ∷ Ok (Some h) ∷ []))
 the_first_definition_is_not_reported place first h differ same = differ (some_is (ap number_in same))
 
 -- a condition without rules has no value
-a_condition_without_rules_has_a_value : (target : Place) (place : Pos) → ¬ (absent target place true ≡ Err (NoValue target place))
+a_condition_without_rules_has_a_value : (target : Target) (place : Pos) → ¬ (absent target place true ≡ Err (NoValue target place))
 a_condition_without_rules_has_a_value target place same = true≢false (ap is_ok same)

@@ -5,7 +5,7 @@ use Rattle.cat_value.specs.declared.value.Value.TheVariants.{Boolean}
 use Rattle.cat_value.specs.declared.declaration.ItemDecl.{ItemDecl}
 use Rattle.cat_value.specs.declared.declaration.Scope.{Scope}
 use Rattle.cat_value.specs.Inputs.{must_be_given}
-use Rattle.cat_value.specs.declared.outcome.Place.{Place}
+use Rattle.cat_value.specs.declared.outcome.Target.{Target}
 use Rattle.cat_scope.specs.declared.stop.Stop.{Stop}
 use Rattle.cat_scope.specs.declared.stop.Stop.TheVariants.{Stuck}
 use Rattle.cat_scope.specs.declared.defs.Body.{Body}
@@ -34,11 +34,11 @@ pub record Scoped : Type 0 where
   pub runs : Runs
 
 -- the target of a variable of the scope
-abbrev pub variable : Scoped → ℕ → Place
+abbrev pub variable : Scoped → ℕ → Target
 variable scoped item = record { scope = scoped.scope; item = item; inner = None }
 
 -- the target of an input or a context of a called scope
-abbrev pub variable_of_called : Scoped → ℕ → ℕ → Place
+abbrev pub variable_of_called : Scoped → ℕ → ℕ → Target
 variable_of_called scoped item inner = record { scope = scoped.scope; item = item; inner = Some inner }
 
 -- the items of a scope that is called
@@ -65,7 +65,7 @@ abbrev pub env_of : Scoped → (ℕ → List Value → Reply) → Items → Env
 env_of scoped calls values = record { rounding = scoped.body.rounding; items = values; call = calls; scope_call = scope_call scoped }
 
 -- a target, where functions give what `calls` tells and the items have these values
-abbrev pub judged : Scoped → (ℕ → List Value → Reply) → Items → List Value → Place → Judged Value
+abbrev pub judged : Scoped → (ℕ → List Value → Reply) → Items → List Value → Target → Judged Value
 judged scoped calls values arguments target = judge_target (λ e. eval (env_of scoped calls values) e arguments) target scoped.body.defs
 
 -- the value of a target that is a variable or, with arguments, of a function: where it is Empty, false for a

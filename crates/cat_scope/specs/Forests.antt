@@ -4,7 +4,7 @@ use Rattle.cat_value.specs.declared.decls.Decls.{Decls}
 use Rattle.cat_value.specs.declared.declaration.Kind.{Kind}
 use Rattle.cat_value.specs.declared.declaration.Kind.TheVariants as kind
 use Rattle.cat_value.specs.declared.declaration.ItemDecl.{ItemDecl}
-use Rattle.cat_value.specs.declared.outcome.Place.{Place}
+use Rattle.cat_value.specs.declared.outcome.Target.{Target}
 use Rattle.cat_value.specs.Inputs.{must_be_given, may_be_given}
 use Rattle.cat_scope.specs.declared.defs.Def.{Def}
 use Rattle.cat_scope.specs.declared.programs.Program.{Program}
@@ -34,25 +34,25 @@ are_low [] = true
 are_low (target ∷ targets) = is_low target && are_low targets
 
 -- the inputs and contexts of a scope that an item calls, from number n on
-abbrev pub called_places : ℕ → ℕ → ℕ → List ItemDecl → List Place
+abbrev pub called_places : ℕ → ℕ → ℕ → List ItemDecl → List Target
 called_places scope item n [] = []
 called_places scope item n (inner ∷ rest) =
     if may_be_given inner.kind then record { scope = scope; item = item; inner = Some n } ∷ called_places scope item (n + 1) rest
     else called_places scope item (n + 1) rest
 
 -- the targets that an item stands for, by its kind
-abbrev pub places_at : Decls → ℕ → ℕ → Kind → List Place
+abbrev pub places_at : Decls → ℕ → ℕ → Kind → List Target
 places_at ds scope item (kind.Called called) = called_places scope item 0 (scope_items ds called)
 places_at ds scope item k = if must_be_given k then [] else record { scope = scope; item = item; inner = None } ∷ []
 
 -- the targets of an item of that number
-abbrev pub places_of : Decls → ℕ → ℕ → Option ItemDecl → List Place
+abbrev pub places_of : Decls → ℕ → ℕ → Option ItemDecl → List Target
 places_of ds scope item None = []
 places_of ds scope item (Some decl) = places_at ds scope item decl.kind
 
 -- the targets of a scope, in the evaluation order: its variables that are no inputs, and for a called scope that scope's
 -- inputs and contexts in the order of their declarations
-abbrev pub targets_of : Decls → ℕ → List ItemDecl → List ℕ → List Place
+abbrev pub targets_of : Decls → ℕ → List ItemDecl → List ℕ → List Target
 targets_of ds scope items [] = []
 targets_of ds scope items (item ∷ order) = places_of ds scope item (slice_get items item) ++ targets_of ds scope items order
 
@@ -71,7 +71,7 @@ abbrev pub forest_of_groups : List Group → List ForestGroup
 forest_of_groups groups = forest_groups (excepts groups) 0 groups
 
 -- the groups of each target
-abbrev pub forest_of : List Def → List Place → List ForestTarget
+abbrev pub forest_of : List Def → List Target → List ForestTarget
 forest_of defs [] = []
 forest_of defs (place ∷ places) = record { place = place; groups = forest_of_groups (groups_of (defs_from place 0 defs)) } ∷ forest_of defs places
 

@@ -8,7 +8,7 @@ use Rattle.cat_value.specs.declared.declaration.Kind.{Kind}
 use Rattle.cat_value.specs.declared.declaration.Kind.TheVariants as kind
 use Rattle.cat_value.specs.declared.declaration.ItemDecl.{ItemDecl}
 use Rattle.cat_value.specs.Inputs.{must_be_given, may_be_given}
-use Rattle.cat_value.specs.declared.outcome.Place.{Place}
+use Rattle.cat_value.specs.declared.outcome.Target.{Target}
 use Rattle.cat_scope.specs.declared.stop.Stop.{Stop}
 use Rattle.cat_scope.specs.declared.stop.Stop.TheVariants.{Stuck}
 use Rattle.cat_scope.specs.Replies.{Reply, and_then, in_front}
@@ -17,14 +17,14 @@ use Rattle.cat_scope.specs.Targets.{absent}
 use Rattle.cat_scope.specs.Calls.{Items, Scoped, variable_of_called, items_of, judged, variable_value, call}
 
 -- an input or a context of a called scope: nothing where a context is Empty
-abbrev pub passed : Place → Pos → ItemDecl → Judged Value → Result (Option Value) Stop
+abbrev pub passed : Target → Pos → ItemDecl → Judged Value → Result (Option Value) Stop
 passed target place decl (Ok None) =
     if must_be_given decl.kind then and_then (absent target place decl.condition) (λ v. Ok (Some v)) else Ok None
 passed target place decl (Ok (Some h)) = Ok (Some h.value)
 passed target place decl (Err stop) = Err stop
 
 -- the input of a called scope: its inputs and contexts from number n on, in the order of their declarations
-abbrev pub passed_input : (ℕ → Judged Value) → (ℕ → Place) → Pos → ℕ → List ItemDecl → Result Items Stop
+abbrev pub passed_input : (ℕ → Judged Value) → (ℕ → Target) → Pos → ℕ → List ItemDecl → Result Items Stop
 passed_input judged_at target_at place n [] = Ok []
 passed_input judged_at target_at place n (decl ∷ decls) =
     in_front (if may_be_given decl.kind then passed (target_at n) place decl (judged_at n) else Ok None) (passed_input judged_at target_at place (n + 1) decls)

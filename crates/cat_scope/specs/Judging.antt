@@ -1,7 +1,7 @@
 -- What groups of definitions come to, of which some except others.
 use Rattle.std.specs.Prelude.{ℕ, zero, suc, nat_lt, List, [], ◌∷◌, map, Option, Some, None, Result, Ok, Err, if◌then◌else◌}
 use Rattle.cat_pos.specs.declared.pos.Pos.{Pos}
-use Rattle.cat_value.specs.declared.outcome.Place.{Place}
+use Rattle.cat_value.specs.declared.outcome.Target.{Target}
 use Rattle.cat_scope.specs.declared.stop.Stop.{Stop}
 use Rattle.cat_scope.specs.declared.stop.Stop.TheVariants.{Conflict, Stuck}
 use Rattle.cat_scope.specs.Replies.{and_then}
@@ -43,13 +43,13 @@ positions_in [] = []
 positions_in (h ∷ hs) = h.pos ∷ positions_in hs
 
 -- none is Empty, one is that one, two or more are a Conflict
-abbrev pub alone : {A : Type 0} → Place → List (Held A) → Judged A
+abbrev pub alone : {A : Type 0} → Target → List (Held A) → Judged A
 alone place [] = Ok None
 alone place (h ∷ []) = Ok (Some h)
 alone place (h ∷ i ∷ hs) = Err (Conflict place (positions_in (in_source_order (h ∷ i ∷ hs))))
 
 -- a list is judged in order: the first stop ends it
-abbrev pub settle : {A : Type 0} → Place → List (Judged A) → Judged A
+abbrev pub settle : {A : Type 0} → Target → List (Judged A) → Judged A
 settle place judged = and_then (holding judged) (alone place)
 
 -- the first, or the second where the first is Empty
@@ -60,6 +60,6 @@ or_else (Err stop) other = Err stop
 
 -- a group is judged as the list of the groups that except it and, where that is Empty, by its own definitions, which
 -- come to `own`; a chain of exceptions that is longer than n is stuck
-abbrev pub judge : {A : Type 0} → Place → List (ℕ × ℕ) → (ℕ → Judged A) → ℕ → ℕ → Judged A
+abbrev pub judge : {A : Type 0} → Target → List (ℕ × ℕ) → (ℕ → Judged A) → ℕ → ℕ → Judged A
 judge place pairs own zero group = Err Stuck
 judge place pairs own (suc n) group = or_else (settle place (map (judge place pairs own n) (excepting pairs group))) (own group)

@@ -3,14 +3,14 @@ use Rattle.std.specs.Prelude.{Bool, true, false, List, [], ◌∷◌, ◌++◌, 
 use Rattle.cat_pos.specs.declared.pos.Pos.{Pos}
 use Rattle.cat_value.specs.declared.value.Value.{Value}
 use Rattle.cat_value.specs.declared.value.Value.TheVariants as flat
-use Rattle.cat_value.specs.declared.outcome.Place.{Place}
+use Rattle.cat_value.specs.declared.outcome.Target.{Target}
 use Rattle.cat_scope.specs.declared.stop.Stop.{Stop}
 use Rattle.cat_scope.specs.Replies.{and_then}
 use Rattle.cat_scope.specs.Readings.{truth}
 
 -- a target whose judging ended, and the place of the definition that held there, or none where it is Empty
 pub record Decider : Type 0 where
-  pub target : Place
+  pub target : Target
   pub by : Option Pos
 
 -- what was decided on the way, in its order, and what came of it

@@ -8,7 +8,7 @@ use Rattle.cat_value.specs.declared.declaration.Kind.{Kind}
 use Rattle.cat_value.specs.declared.declaration.Kind.TheVariants as kind
 use Rattle.cat_value.specs.declared.declaration.ItemDecl.{ItemDecl}
 use Rattle.cat_value.specs.Inputs.{may_be_given}
-use Rattle.cat_value.specs.declared.outcome.Place.{Place}
+use Rattle.cat_value.specs.declared.outcome.Target.{Target}
 use Rattle.cat_scope.specs.declared.stop.Stop.TheVariants.{Stuck}
 use Rattle.cat_scope.specs.Replies.{known}
 use Rattle.cat_scope.specs.Targets.{absent, value_or}
@@ -36,7 +36,7 @@ abbrev pub log_env_of : Scoped → LoggedRuns → LoggedCalls → Items → LogE
 log_env_of scoped runs calls values = record { rounding = scoped.body.rounding; items = values; call = calls; scope_call = logged_scope_call scoped runs }
 
 -- a target, where functions give what `calls` tells and the items have these values
-abbrev pub logged_judged : Scoped → LoggedRuns → LoggedCalls → Items → List Value → Place → LoggedJudged
+abbrev pub logged_judged : Scoped → LoggedRuns → LoggedCalls → Items → List Value → Target → LoggedJudged
 logged_judged scoped runs calls values arguments target =
     logged_target (λ e. logged_eval (log_env_of scoped runs calls values) e arguments) target scoped.body.defs
 
@@ -54,7 +54,7 @@ logged_call scoped runs values (item ∷ done) function arguments =
     else logged_call scoped runs values done function arguments
 
 -- an input or a context of a called scope
-abbrev pub logged_passed : (ℕ → LoggedJudged) → (ℕ → Place) → Pos → ℕ → List ItemDecl → Logged Items
+abbrev pub logged_passed : (ℕ → LoggedJudged) → (ℕ → Target) → Pos → ℕ → List ItemDecl → Logged Items
 logged_passed judged_at target_at place n [] = quiet (Ok [])
 logged_passed judged_at target_at place n (decl ∷ decls) = before
     (if may_be_given decl.kind then ending (decided (target_at n) (judged_at n)) (passed (target_at n) place decl) else quiet (Ok None))

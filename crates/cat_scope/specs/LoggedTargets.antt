@@ -3,7 +3,7 @@ use Rattle.std.specs.Prelude.{ℕ, zero, suc, true, List, [], ◌∷◌, length,
 use Rattle.cat_pos.specs.declared.pos.Pos.{Pos}
 use Rattle.cat_value.specs.declared.value.Value.{Value}
 use Rattle.cat_value.specs.declared.value.Value.TheVariants.{Boolean}
-use Rattle.cat_value.specs.declared.outcome.Place.{Place}
+use Rattle.cat_value.specs.declared.outcome.Target.{Target}
 use Rattle.cat_scope.specs.declared.stop.Stop.TheVariants.{Stuck}
 use Rattle.cat_scope.specs.declared.expr.Expr.{Expr}
 use Rattle.cat_scope.specs.declared.defs.Def.{Def}
@@ -23,7 +23,7 @@ logged_holding [] = quiet (Ok [])
 logged_holding (r ∷ rs) = after r (λ one. giving (logged_holding rs) (λ more. Ok (with_held one more)))
 
 -- a list is judged in order: the first stop ends it
-abbrev pub logged_settle : Place → List LoggedJudged → LoggedJudged
+abbrev pub logged_settle : Target → List LoggedJudged → LoggedJudged
 logged_settle target judged = giving (logged_holding judged) (alone target)
 
 -- where one holds, nothing else is judged
@@ -36,7 +36,7 @@ abbrev pub logged_or_else : LoggedJudged → LoggedJudged → LoggedJudged
 logged_or_else first other = after first (λ found. found_or found other)
 
 -- a group: the list of the groups that except it and, where that is Empty, its own definitions
-abbrev pub logged_judge : Place → List (ℕ × ℕ) → (ℕ → LoggedJudged) → ℕ → ℕ → LoggedJudged
+abbrev pub logged_judge : Target → List (ℕ × ℕ) → (ℕ → LoggedJudged) → ℕ → ℕ → LoggedJudged
 logged_judge target pairs own zero group = quiet (Err Stuck)
 logged_judge target pairs own (suc n) group =
     logged_or_else (logged_settle target (map (logged_judge target pairs own n) (excepting pairs group))) (own group)
@@ -51,17 +51,17 @@ abbrev pub logged_def : (Expr → Logged Value) → Numbered → LoggedJudged
 logged_def value d = after (logged_condition value d.1.condition) (λ t. one_of (truth t) (giving (value d.1.consequence) (held_as d)) (quiet (Ok None)))
 
 -- a group's own definitions
-abbrev pub logged_own : (Expr → Logged Value) → Place → Option Group → LoggedJudged
+abbrev pub logged_own : (Expr → Logged Value) → Target → Option Group → LoggedJudged
 logged_own value target None = quiet (Err Stuck)
 logged_own value target (Some group) = logged_settle target (map (logged_def value) group.defs)
 
 -- a target is judged as the list of its roots
-abbrev pub logged_groups : (Expr → Logged Value) → Place → List Group → LoggedJudged
+abbrev pub logged_groups : (Expr → Logged Value) → Target → List Group → LoggedJudged
 logged_groups value target groups =
     logged_settle target (map (logged_judge target (excepts groups) (λ g. logged_own value target (slice_get groups g)) (length groups)) (roots_of groups))
 
 -- a target, by the definitions of its scope
-unfoldable pub logged_target : (Expr → Logged Value) → Place → List Def → LoggedJudged
+unfoldable pub logged_target : (Expr → Logged Value) → Target → List Def → LoggedJudged
 logged_target value target defs = logged_groups value target (groups_of (defs_from target 0 defs))
 
 -- the place of the definition that holds
@@ -70,5 +70,5 @@ place_in None = None
 place_in (Some h) = Some h.pos
 
 -- a judging that ends Held or Empty is logged as it ends, behind all that was decided within
-abbrev pub decided : Place → LoggedJudged → LoggedJudged
+abbrev pub decided : Target → LoggedJudged → LoggedJudged
 decided target judged = after judged (λ found. (record { target = target; by = place_in found } ∷ [], Ok found))

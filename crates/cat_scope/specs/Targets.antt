@@ -3,7 +3,7 @@ use Rattle.std.specs.Prelude.{ℕ, ◌+◌, nat_eq, ◌&&◌, Bool, true, false,
 use Rattle.cat_pos.specs.declared.pos.Pos.{Pos}
 use Rattle.cat_value.specs.declared.value.Value.{Value}
 use Rattle.cat_value.specs.declared.value.Value.TheVariants.{Boolean}
-use Rattle.cat_value.specs.declared.outcome.Place.{Place}
+use Rattle.cat_value.specs.declared.outcome.Target.{Target}
 use Rattle.cat_scope.specs.declared.stop.Stop.TheVariants.{NoValue, Stuck}
 use Rattle.cat_scope.specs.declared.expr.Expr.{Expr}
 use Rattle.cat_scope.specs.declared.defs.Def.{Def}
@@ -19,11 +19,11 @@ same_inner (Some n) (Some m) = nat_eq n m
 same_inner _ _ = false
 
 -- two targets of one scope are the same
-abbrev pub same_target : Place → Place → Bool
+abbrev pub same_target : Target → Target → Bool
 same_target p q = nat_eq p.item q.item && same_inner p.inner q.inner
 
 -- the definitions of a target, in source order, with their numbers from n on
-abbrev pub defs_from : Place → ℕ → List Def → List Numbered
+abbrev pub defs_from : Target → ℕ → List Def → List Numbered
 defs_from target n [] = []
 defs_from target n (d ∷ ds) = if same_target d.target target then (n, d) ∷ defs_from target (n + 1) ds else defs_from target (n + 1) ds
 
@@ -41,21 +41,21 @@ abbrev pub judge_def : (Expr → Reply) → Numbered → Judged Value
 judge_def value d = and_then (condition_of value d.1.condition) (λ t. choose t (and_then (value d.1.consequence) (held_as d)) (Ok None))
 
 -- a group's own definitions
-abbrev pub judge_own : (Expr → Reply) → Place → Option Group → Judged Value
+abbrev pub judge_own : (Expr → Reply) → Target → Option Group → Judged Value
 judge_own value target None = Err Stuck
 judge_own value target (Some group) = settle target (map (judge_def value) group.defs)
 
 -- a target is judged as the list of its roots
-abbrev pub judge_groups : (Expr → Reply) → Place → List Group → Judged Value
+abbrev pub judge_groups : (Expr → Reply) → Target → List Group → Judged Value
 judge_groups value target groups =
     settle target (map (judge target (excepts groups) (λ g. judge_own value target (slice_get groups g)) (length groups)) (roots_of groups))
 
 -- a target, by the definitions of its scope
-unfoldable pub judge_target : (Expr → Reply) → Place → List Def → Judged Value
+unfoldable pub judge_target : (Expr → Reply) → Target → List Def → Judged Value
 judge_target value target defs = judge_groups value target (groups_of (defs_from target 0 defs))
 
 -- in place of a value where no definition holds: false for a condition, else NoValue at a place
-abbrev pub absent : Place → Pos → Bool → Reply
+abbrev pub absent : Target → Pos → Bool → Reply
 absent target place true = Ok (Boolean false)
 absent target place false = Err (NoValue target place)
 

@@ -2,7 +2,7 @@
 use crate::Expr;
 use cat_date::Rounding;
 use cat_pos::{List, Numbers, Pos, Text};
-use cat_value::Place;
+use cat_value::Target;
 
 /// What a definition is an exception to, with the place of the word `exception`.
 #[derive(Debug, Drop)]
@@ -18,7 +18,7 @@ pub enum Except {
 /// place is that of the word `definition` or `rule`.
 #[derive(Debug, Drop)]
 pub struct Def {
-    pub target: Place,
+    pub target: Target,
     pub label: Option<Text>,
     pub except: Except,
     pub condition: Option<Expr>,

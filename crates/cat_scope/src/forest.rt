@@ -5,7 +5,7 @@ ghost use Rattle.cat_scope.specs.Forests.{are_low, IsLow};
 ghost use Rattle.cat_scope.specs.declared.forest.ForestTarget.{ForestTarget};
 
 use cat_pos::{List, Numbers};
-use cat_value::Place;
+use cat_value::Target;
 
 /// A group of definitions of one target.
 #[derive(Debug, Drop)]
@@ -21,7 +21,7 @@ pub type ForestGroups = List<ForestGroup>;
 /// A target with its groups, ordered by their first definitions.
 #[derive(Debug, Drop)]
 pub struct ForestTarget {
-    pub place: Place,
+    pub place: Target,
     pub groups: ForestGroups,
 }
 

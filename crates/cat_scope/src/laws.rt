@@ -12,7 +12,7 @@ ghost use Rattle.cat_value.specs.declared.ty.Ty.{Ty};
 ghost use Rattle.cat_value.specs.declared.value.Value.{Value};
 ghost use Rattle.cat_value.specs.declared.declaration.ItemDecl.{ItemDecl};
 ghost use Rattle.cat_value.specs.declared.outcome.Outcome.TheVariants as outcome;
-ghost use Rattle.cat_value.specs.declared.outcome.Place.{Place};
+ghost use Rattle.cat_value.specs.declared.outcome.Target.{Target};
 ghost use Rattle.cat_scope.specs.declared.stop.Stop.TheVariants.{NoValue};
 ghost use Rattle.cat_scope.specs.declared.expr.Expr.{Expr};
 ghost use Rattle.cat_scope.specs.declared.defs.Def.{Def};
@@ -37,7 +37,7 @@ use crate::Program;
 /// What a target comes to doesn't change with a definition of another target.
 #[tactic(auto, using(crate::proofs::TargetLaws::own_definitions_alone))]
 pub fn targets_rest_on_their_definitions()
-    ensures { (value : Expr → Reply) (target : Place) (front : List Def) (d : Def) (e : Def) (back : List Def)
+    ensures { (value : Expr → Reply) (target : Target) (front : List Def) (d : Def) (e : Def) (back : List Def)
         → same_target d.target target ≡ false → same_target e.target target ≡ false
         → judge_target value target (front ++ d ∷ back) ≡ judge_target value target (front ++ e ∷ back) }
 {}
@@ -45,7 +45,7 @@ pub fn targets_rest_on_their_definitions()
 /// A condition has no NoValue of its own: where it ends in one, its judging met it.
 #[tactic(auto, using(crate::proofs::TargetLaws::conditions_have_values))]
 pub fn conditions_have_values()
-    ensures { (target : Place) (other : Place) (place : Pos) (there : Pos) (judged : Judged Value)
+    ensures { (target : Target) (other : Target) (place : Pos) (there : Pos) (judged : Judged Value)
         → value_or (absent target place true) judged ≡ Err (NoValue other there) → judged ≡ Err (NoValue other there) }
 {}
 
@@ -77,7 +77,7 @@ pub fn given_outputs_stand(program: &Program)
 /// the groups that except it and, where that is Empty, by its own definitions.
 #[tactic(auto, using(crate::proofs::JudgeLaws::judging_rule))]
 pub fn groups_are_judged_by_their_rule()
-    ensures { (place : Place) (groups : List Group) (own : ℕ → Judged Value) (group : ℕ)
+    ensures { (place : Target) (groups : List Group) (own : ℕ → Judged Value) (group : ℕ)
         → HasNoCycle (exceptions_of groups) → group < length groups
         → judge place (excepts groups) own (length groups) group
         ≡ or_else (settle place (map (judge place (excepts groups) own (length groups)) (excepting (excepts groups) group))) (own group) }

@@ -1,14 +1,14 @@
 // What comes in place of a value.
 use cat_pos::{Pos, Positions};
-use cat_value::{FaultKind, Place};
+use cat_value::{FaultKind, Target};
 
 /// Why an expression, a target or a scope gives no value.
 #[derive(Debug, Drop)]
 pub enum Stop {
     /// Several definitions of a target hold: their places in source order.
-    Conflict(Place, Positions),
+    Conflict(Target, Positions),
     /// No definition of a target holds; the place of the name that has no value.
-    NoValue(Place, Pos),
+    NoValue(Target, Pos),
     Fault(FaultKind, Pos),
     /// An operation that has no result for values of these types. No well-typed program comes there.
     Stuck,

@@ -6,7 +6,7 @@ ghost use Rattle.cat_scope.specs.declared.defs.SourcePart.TheVariants.{Declarati
 use crate::{Bodies, Body, Forest, ForestGroup, ForestTarget, Program, SourcePart};
 use cat_date::Rounding;
 use cat_pos::{List, Numbers, Text};
-use cat_value::{Decls, Place, Scope};
+use cat_value::{Decls, Scope, Target};
 use std::alloc::{AllocError, Global};
 use std::process::Abort;
 use std::test::Fail;
@@ -75,7 +75,7 @@ fn a_forest_keeps_its_targets(rt: HostRuntime) -> Result<(), Fail> {
     })?;
     let mut targets = List::new(alloc);
     targets.push(ForestTarget {
-        place: Place {
+        place: Target {
             scope: 0,
             item: 1,
             inner: None,

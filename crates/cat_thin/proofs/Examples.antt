@@ -6,7 +6,7 @@ use Rattle.std.specs.Str.{is_utf8, chars}
 use lib.Utf8.{encode}
 use Rattle.serde_json.proofs.OnLiterals.{serde_json_on_literals}
 use Rattle.cat_pos.specs.declared.pos.Pos.{Pos}
-use Rattle.cat_value.specs.declared.outcome.Place.{Place}
+use Rattle.cat_value.specs.declared.outcome.Target.{Target}
 use Rattle.cat_value.specs.declared.outcome.Outcome.TheVariants as outcome
 use Rattle.cat_thin_scope.specs.declared.parts.ThinOp.TheVariants.{Less, AtLeast}
 use Rattle.cat_thin_scope.specs.declared.parts.ThinOperand.TheVariants.{Number}
@@ -116,7 +116,7 @@ another_key_is_refused : thin_input_of band (codes "{\"n\": 1, \"m\": 1}") ≡ N
 unfolding serde_json_on_literals numbers_of is_utf8 chars encode
 another_key_is_refused = refl
 
-abbrev output : Place
+abbrev output : Target
 output = record { scope = 0; item = 1; inner = None }
 
 a_conflict_tells_its_places : thin_answer band (codes "a.md") (outcome.Conflict output (at 6 3 ∷ at 7 3 ∷ [])) ≡ Some (ended (codes "conflict S.x at a.md:6:3 a.md:7:3"))

@@ -6,7 +6,7 @@ use Rattle.serde_json.specs.Find.{of_integer}
 use Rattle.serde_json.specs.Written.{compact_text}
 use Rattle.cat_pos.specs.declared.pos.Pos.{Pos}
 use Rattle.cat_value.specs.declared.value.Value.{Value}
-use Rattle.cat_value.specs.declared.outcome.Place.{Place}
+use Rattle.cat_value.specs.declared.outcome.Target.{Target}
 use Rattle.cat_value.specs.declared.outcome.Outcome.{Outcome}
 use Rattle.cat_value.specs.declared.outcome.Outcome.TheVariants as outcome
 use Rattle.cat_thin_scope.specs.declared.parts.ThinItem.{ThinItem}
@@ -43,7 +43,7 @@ places_text file [] = []
 places_text file (pos ∷ places) = codes " " ++ (place_text file pos ++ places_text file places)
 
 -- `S.x`, for a target that is an output
-abbrev pub target_text : ThinProgram → Place → Option (List ℕ)
+abbrev pub target_text : ThinProgram → Target → Option (List ℕ)
 target_text program target =
     option_map (λ item. program.scope ++ (codes "." ++ item.name)) (slice_get program.outputs (target.item - length program.inputs))
 

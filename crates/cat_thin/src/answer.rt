@@ -7,7 +7,7 @@ ghost use Rattle.serde_json.specs.View.{view};
 
 use cat_pos::Pos;
 use cat_thin_scope::{ThinItem, ThinProgram};
-use cat_value::{Outcome, Place, Value};
+use cat_value::{Outcome, Target, Value};
 use serde_json::{Map, Value as Json};
 use std::alloc::{AllocError, Global};
 
@@ -50,7 +50,7 @@ fn outcome_text(
     }
 }
 
-fn target_text(alloc: Global, program: &ThinProgram, target: &Place) -> Result<String, AllocError>
+fn target_text(alloc: Global, program: &ThinProgram, target: &Target) -> Result<String, AllocError>
     requires { IsOutput program.now target.now }
     ensures { IfOk result (λ text. target_text program.now target.now ≡ Some (string_bytes text)) }
 {

@@ -4,7 +4,7 @@ use Rattle.std.specs.Prelude.{pos}
 use Rattle.cat_pos.specs.declared.pos.Pos.{Pos}
 use Rattle.cat_value.specs.declared.value.Value.{Value}
 use Rattle.cat_value.specs.declared.value.Value.TheVariants.{Integer}
-use Rattle.cat_value.specs.declared.outcome.Place.{Place}
+use Rattle.cat_value.specs.declared.outcome.Target.{Target}
 use Rattle.cat_value.specs.declared.outcome.Outcome.TheVariants as outcome
 use Rattle.cat_thin_scope.specs.declared.parts.ThinItem.{ThinItem}
 use Rattle.cat_thin_scope.specs.declared.parts.ThinOp.{ThinOp}
@@ -21,7 +21,7 @@ abbrev item : ℕ → ThinItem
 item line = record { name = 120 ∷ []; pos = at line }
 
 -- this item of the scope
-abbrev target : ℕ → Place
+abbrev target : ℕ → Target
 target number = record { scope = 0; item = number; inner = None }
 
 abbrev integer : ℕ → Value

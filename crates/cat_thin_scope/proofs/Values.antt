@@ -7,7 +7,7 @@ use Rattle.cat_pos.specs.declared.pos.Pos.{Pos}
 use Rattle.cat_value.specs.declared.value.Value.{Value}
 use Rattle.cat_value.specs.declared.value.Value.TheVariants.{Integer}
 use Rattle.cat_value.specs.declared.value.Value.TheViews as value
-use Rattle.cat_value.specs.declared.outcome.Place.{Place}
+use Rattle.cat_value.specs.declared.outcome.Target.{Target}
 use Rattle.cat_value.specs.declared.outcome.Outcome.{Outcome}
 use Rattle.cat_value.specs.declared.outcome.Outcome.TheVariants as outcome
 use Rattle.cat_thin_scope.specs.declared.parts.ThinItem.{ThinItem}
@@ -36,17 +36,17 @@ with_all-Several : (inputs : List ℤ) (defs : List ThinDef) → with_all inputs
 with_all-Several inputs [] = refl
 with_all-Several inputs (def ∷ defs) = with_all-Several inputs defs
 
-judged-Nothing : (inputs : List ℤ) (target : Place) (place : Pos) (defs : List ThinDef) → with_all inputs Nothing defs ≡ Nothing → judged inputs target place defs ≡ Err (outcome.NoValue target place)
+judged-Nothing : (inputs : List ℤ) (target : Target) (place : Pos) (defs : List ThinDef) → with_all inputs Nothing defs ≡ Nothing → judged inputs target place defs ≡ Err (outcome.NoValue target place)
 judged-Nothing inputs target place [] e = refl
 judged-Nothing inputs target place (def ∷ []) e = cc
 judged-Nothing inputs target place (def ∷ next ∷ defs) e = let s = with_all-Several inputs defs in cc
 
-judged-One : (inputs : List ℤ) (target : Place) (place : Pos) (defs : List ThinDef) (number : ℤ) → with_all inputs Nothing defs ≡ One number → judged inputs target place defs ≡ Ok (Integer number)
+judged-One : (inputs : List ℤ) (target : Target) (place : Pos) (defs : List ThinDef) (number : ℤ) → with_all inputs Nothing defs ≡ One number → judged inputs target place defs ≡ Ok (Integer number)
 judged-One inputs target place [] number e = cc
 judged-One inputs target place (def ∷ []) number e = cc
 judged-One inputs target place (def ∷ next ∷ defs) number e = let s = with_all-Several inputs defs in cc
 
-judged-Several : (inputs : List ℤ) (target : Place) (place : Pos) (defs : List ThinDef) → with_all inputs Nothing defs ≡ Several → judged inputs target place defs ≡ Err (outcome.Conflict target (positions_of defs))
+judged-Several : (inputs : List ℤ) (target : Target) (place : Pos) (defs : List ThinDef) → with_all inputs Nothing defs ≡ Several → judged inputs target place defs ≡ Err (outcome.Conflict target (positions_of defs))
 judged-Several inputs target place [] e = cc
 judged-Several inputs target place (def ∷ []) e = cc
 judged-Several inputs target place (def ∷ next ∷ defs) e = refl

@@ -4,7 +4,7 @@ use Rattle.std.specs.Option.{is_some}
 use Rattle.cat_value.specs.declared.value.Value.{Value}
 use Rattle.cat_value.specs.declared.value.Value.TheOpen.{Value-F}
 use Rattle.cat_value.specs.declared.value.Value.TheViews.{out-Value}
-use Rattle.cat_value.specs.declared.outcome.Place.{Place}
+use Rattle.cat_value.specs.declared.outcome.Target.{Target}
 use Rattle.cat_value.specs.declared.outcome.Outcome.{Outcome}
 use Rattle.cat_value.specs.declared.outcome.Outcome.TheVariants as outcome
 use Rattle.cat_thin_scope.specs.declared.program.ThinProgram.{ThinProgram}
@@ -24,7 +24,7 @@ are_integers [] = true
 are_integers (value ∷ values) = is_some (integer_in value) && are_integers values
 
 -- an output of the scope, among its items
-pub record IsOutput (program : ThinProgram) (target : Place) : Type 0 where
+pub record IsOutput (program : ThinProgram) (target : Target) : Type 0 where
   pub scope : target.scope ≡ 0
   pub after_inputs : length program.inputs ≤ target.item
   pub declared : target.item < length program.inputs + length program.outputs

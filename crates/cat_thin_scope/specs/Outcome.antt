@@ -10,7 +10,7 @@ use Rattle.cat_thin_scope.specs.declared.parts.ThinOperand.TheVariants.{Number, 
 use Rattle.cat_thin_scope.specs.declared.parts.ThinDef.{ThinDef}
 use Rattle.cat_value.specs.declared.value.Value.{Value}
 use Rattle.cat_value.specs.declared.value.Value.TheVariants.{Integer}
-use Rattle.cat_value.specs.declared.outcome.Place.{Place}
+use Rattle.cat_value.specs.declared.outcome.Target.{Target}
 use Rattle.cat_value.specs.declared.outcome.Outcome.{Outcome}
 use Rattle.cat_value.specs.declared.outcome.Outcome.TheVariants as outcome
 use Rattle.cat_thin_scope.specs.declared.program.ThinProgram.{ThinProgram}
@@ -46,11 +46,11 @@ positions_of [] = []
 positions_of (def ∷ defs) = def.pos ∷ positions_of defs
 
 -- the output of this number as a target: the items of the one scope are its inputs and then its outputs
-abbrev pub target_of : ThinProgram → ℕ → Place
+abbrev pub target_of : ThinProgram → ℕ → Target
 target_of program output = record { scope = 0; item = length program.inputs + output; inner = None }
 
 -- a target declared here, by the definitions of it that hold: none is NoValue, two or more are a Conflict
-abbrev pub judged : List ℤ → Place → Pos → List ThinDef → Result Value Outcome
+abbrev pub judged : List ℤ → Target → Pos → List ThinDef → Result Value Outcome
 judged inputs target place [] = Err (outcome.NoValue target place)
 judged inputs target place (def ∷ []) = Ok (Integer (number_of inputs def.value))
 judged inputs target place (def ∷ next ∷ defs) = Err (outcome.Conflict target (positions_of (def ∷ next ∷ defs)))

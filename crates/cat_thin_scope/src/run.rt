@@ -9,7 +9,7 @@ use crate::tally::Tally;
 use crate::{ThinDef, ThinOp, ThinOperand, ThinProgram, ThinTest};
 use cat_num::Whole;
 use cat_pos::{List, Positions};
-use cat_value::{Outcome, Place, Value};
+use cat_value::{Outcome, Target, Value};
 use std::alloc::{AllocError, Global};
 
 /// The outcome of a scope on a number for each input. Its cost is one pass over items and definitions.
@@ -38,11 +38,11 @@ pub fn run_thin(
 }
 
 /// The output of this number among the items.
-fn target_of(program: &ThinProgram, output: usize) -> Place
+fn target_of(program: &ThinProgram, output: usize) -> Target
     requires { output < length program.now.outputs }
     ensures { result ≡ target_of program.now output }
 {
-    Place {
+    Target {
         scope: 0,
         item: (program.inputs.len() + output) as u32,
         inner: None,

@@ -4,7 +4,7 @@ ghost use Rattle.cat_thin_scope.specs.Sound.{is_sound_def};
 use crate::{ThinDef, ThinItem, ThinItems, ThinOp, ThinOperand, ThinProgram, ThinTest, run_thin};
 use cat_num::Whole;
 use cat_pos::{List, Pos, Text};
-use cat_value::{Outcome, Place, Value};
+use cat_value::{Outcome, Target, Value};
 use std::alloc::{AllocError, Global};
 use std::process::Abort;
 use std::test::Fail;
@@ -70,7 +70,7 @@ fn two_bands_meet_at_zero_alone(rt: HostRuntime) -> Result<(), Fail> {
             matches!(&outcome, Outcome::Value(values) if matches!(values.as_slice(), [Value::Integer(whole)] if whole.get() == value))
         );
     }
-    let target = Place {
+    let target = Target {
         scope: 0,
         item: 1,
         inner: None,

@@ -42,9 +42,9 @@ pub enum Variable {
 #[derive(Debug, Drop)]
 pub enum Exception {
     No,
-    /// The groups without a label; the position of the word `exception`.
+    /// The only root of the target; the position of the word `exception`.
     Base(Pos),
-    /// The groups of a label; the position of the word `exception`.
+    /// The group with a label; the position of the word `exception`.
     Labelled(Pos, Name),
 }
 
@@ -57,7 +57,7 @@ pub struct Lead {
 
 /// A variable of the scope, or one of a scope that it calls, with the parameters' names.
 #[derive(Debug, Drop)]
-pub struct Target {
+pub struct TargetName {
     pub name: Name,
     pub inner: Option<Name>,
     pub params: List<Name>,
@@ -74,8 +74,8 @@ pub enum Fulfilled {
 #[derive(Debug, Drop)]
 pub enum Use {
     /// The condition, where there is one, then the consequence.
-    Definition(Pos, Pos, Lead, Target, Option<Node>, Node),
-    Rule(Pos, Pos, Lead, Target, Option<Node>, Fulfilled),
+    Definition(Pos, Pos, Lead, TargetName, Option<Node>, Node),
+    Rule(Pos, Pos, Lead, TargetName, Option<Node>, Fulfilled),
     Assertion(Pos, Node),
     /// `date round increasing`, or `decreasing` where it is false.
     DateRound(Pos, bool),
@@ -83,7 +83,7 @@ pub enum Use {
 
 /// A scope block: its scope's name, and the condition that stands before each of its definitions.
 #[derive(Debug, Drop)]
-pub struct Scope {
+pub struct Block {
     pub pos: Pos,
     pub name: Name,
     pub condition: Option<Node>,
@@ -96,7 +96,7 @@ pub enum Item {
     Structure(Pos, Name, FieldItems),
     Enumeration(Pos, Name, List<CaseItem>),
     Scope(Pos, Name, List<Variable>),
-    Block(Scope),
+    Block(Block),
 }
 
 /// A whole program, as it is written.

@@ -20,7 +20,7 @@ pub use laws::{
     values_are_no_higher_than_their_types,
 };
 pub use least::least_value;
-pub use outcome::{FaultKind, Input, Inputs, Outcome, Place};
+pub use outcome::{FaultKind, Input, Inputs, Outcome, Target};
 pub use ty::{Ty, Tys, copy_ty, same_ty};
 pub use typing::{is_declared, well_typed};
 pub use value::{Value, Values, copy, copy_all};

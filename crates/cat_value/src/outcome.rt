@@ -9,7 +9,7 @@ pub type Inputs = List<Input>;
 
 /// A target of definitions: an item of a scope or, where `inner` is there, that item of the scope that it calls.
 #[derive(Clone, Copy, PartialEq, Eq, Debug)]
-pub struct Place {
+pub struct Target {
     pub scope: u32,
     pub item: u32,
     pub inner: Option<u32>,
@@ -31,9 +31,9 @@ pub enum Outcome {
     /// The outputs, in the order of their declarations.
     Value(Values),
     /// Several definitions of a target hold: their positions in source order.
-    Conflict(Place, Positions),
+    Conflict(Target, Positions),
     /// No definition of a target holds; the place of the name that has no value.
-    NoValue(Place, Pos),
+    NoValue(Target, Pos),
     /// A fault, and where it stands.
     Fault(FaultKind, Pos),
 }

@@ -1,0 +1,240 @@
+// Files taken depth first, by a list of the parts to come.
+ghost use Rattle.std.specs.Prelude.{◌≡◌, ◌≢◌, ◌+◌, ◌-◌, ◌*◌, ◌<◌, ◌≤◌, ℕ, List, [], ◌∷◌, true, false, length, Ok, Err, IfOk, IfErr, OnOk, OnErr, min};
+ghost use Rattle.cat_io.specs.Shelf.{Gives};
+ghost use Rattle.cat_weave.specs.Woven.{woven, AreWithin};
+ghost use Rattle.cat_gather.specs.Gathered.{gathered, gathered_none, woven_as, limit_after, is_among, included, twice};
+ghost use Rattle.cat_gather.specs.Causes.{HasCause, IsAnswerTo, IsLeftAs, AreReadableTogether};
+ghost use Rattle.cat_gather.specs.UnderWay.{gathered_of, AreBounded, IsReadFault, IsRefusedTake, Takes, GoesOn, AreToCome};
+
+use crate::pending::Pending;
+use crate::{GatherRefusal, Source};
+use cat_io::{Shelf, ShelfFault};
+use cat_pos::{Files, List, Pieces, Pos, Text};
+use cat_weave::{Heading, Headings, Part, Parts, WeaveRefusal, weave};
+use std::alloc::Global;
+
+/// The main file too.
+const MOST_FILES: usize = 64;
+
+const MOST_BYTES: usize = 4 * 1024 * 1024;
+
+const MOST_BYTES_TOGETHER: usize = 16 * 1024 * 1024;
+
+/// Reads a file and all that it includes, depth first: at most 64 files, each once, of at most 4 MiB
+/// each and 16 MiB together.
+pub fn gather<S: Shelf>(alloc: Global, shelf: &mut S, main: &str) -> Result<Source, GatherRefusal>
+    ensures told { (S.state shelf.new).content ≡ (S.state shelf.old).content }
+    ensures cause { HasCause (S.state shelf.old) (S.state shelf.new) main.now result }
+    ensures answer { IsAnswerTo (gathered (S.state shelf.old).content main.now) result }
+    ensures left { IsLeftAs result (S.state shelf.old) (S.state shelf.new) }
+    ensures readable { IfOk result (λ source. AreReadableTogether source.pieces) }
+{
+    let mut gathering = Gathering::new(alloc);
+    gathering.take(alloc, shelf, main)?;
+    gathering.take_parts(alloc, shelf)?;
+    let Gathering {
+        files,
+        bytes: _,
+        pieces,
+        headings,
+        to_come: _,
+    } = gathering;
+    Ok(Source {
+        files,
+        pieces,
+        headings,
+    })
+}
+
+/// The files taken and what they gave so far.
+#[derive(Drop)]
+struct Gathering {
+    files: Files,
+    /// How many bytes the files have.
+    bytes: usize,
+    pieces: Pieces,
+    headings: Headings,
+    to_come: Pending,
+}
+
+impl Gathering {
+    fn new(alloc: Global) -> Gathering
+        ensures gathered { gathered_of result ≡ gathered_none }
+        ensures none { result.to_come ≡ [] }
+    {
+        Gathering {
+            files: Files::new(alloc),
+            bytes: 0,
+            pieces: List::new(alloc),
+            headings: List::new(alloc),
+            to_come: Pending::new(alloc),
+        }
+    }
+
+    /// Takes all parts to come, and those of the files that they include.
+    fn take_parts<S: Shelf>(&mut self, alloc: Global, shelf: &mut S) -> Result<(), GatherRefusal>
+        requires { AreBounded (gathered_of self.old) self.old.to_come }
+        ensures told { (S.state shelf.new).content ≡ (S.state shelf.old).content }
+        ensures left { IsLeftAs result (S.state shelf.old) (S.state shelf.new) }
+        ensures ok { OnOk result ((main : List ℕ)
+            → AreToCome (S.state shelf.old).content main (gathered_of self.old) self.old.to_come
+            → AreToCome (S.state shelf.old).content main (gathered_of self.new) []) }
+        ensures bounded { OnOk result (AreBounded (gathered_of self.new) []) }
+        ensures err { IfErr result (λ e. (main : List ℕ)
+            → AreToCome (S.state shelf.old).content main (gathered_of self.old) self.old.to_come
+            → HasCause (S.state shelf.old) (S.state shelf.new) main (Err e)) }
+    {
+        while let Some(part) = self.to_come.next() {
+            self.take_part(alloc, shelf, part)?;
+        }
+        Ok(())
+    }
+
+    fn take_part<S: Shelf>(
+        &mut self,
+        alloc: Global,
+        shelf: &mut S,
+        part: Part,
+    ) -> Result<(), GatherRefusal>
+        requires { AreBounded (gathered_of self.old) (part ∷ self.old.to_come) }
+        ensures told { (S.state shelf.new).content ≡ (S.state shelf.old).content }
+        ensures left { IsLeftAs result (S.state shelf.old) (S.state shelf.new) }
+        ensures ok { OnOk result ((main : List ℕ)
+            → AreToCome (S.state shelf.old).content main (gathered_of self.old) (part ∷ self.old.to_come)
+            → AreToCome (S.state shelf.old).content main (gathered_of self.new) self.new.to_come) }
+        ensures bounded { OnOk result (AreBounded (gathered_of self.new) self.new.to_come) }
+        ensures fewer { OnOk result ((16 * 1024 * 1024 - self.new.bytes) + length self.new.to_come
+            ≤ (16 * 1024 * 1024 - self.old.bytes) + length self.old.to_come) }
+        ensures err { IfErr result (λ e. (main : List ℕ)
+            → AreToCome (S.state shelf.old).content main (gathered_of self.old) (part ∷ self.old.to_come)
+            → HasCause (S.state shelf.old) (S.state shelf.new) main (Err e)) }
+    {
+        match part {
+            Part::Code(piece) => Ok(self.pieces.push(piece)?),
+            Part::Heading(level, text, pos) => {
+                let pieces = self.pieces.len();
+                Ok(
+                    self.headings.push(Heading {
+                        pieces,
+                        level,
+                        text,
+                        pos,
+                    })?,
+                )
+            }
+            Part::Include(path, pos) => self.include(alloc, shelf, path.as_str(), pos),
+        }
+    }
+
+    fn include<S: Shelf>(
+        &mut self,
+        alloc: Global,
+        shelf: &mut S,
+        path: &str,
+        pos: Pos,
+    ) -> Result<(), GatherRefusal>
+        requires bounded { AreBounded (gathered_of self.old) self.old.to_come }
+        requires named { pos.file < length self.old.files }
+        ensures told { (S.state shelf.new).content ≡ (S.state shelf.old).content }
+        ensures left { IsLeftAs result (S.state shelf.old) (S.state shelf.new) }
+        ensures ok { OnOk result ((main : List ℕ)
+            → GoesOn (S.state shelf.old).content main self.old.files (λ contents.
+            included contents (64 - length self.old.files) path.now pos self.old.to_come (gathered_of self.old))
+            → AreToCome (S.state shelf.old).content main (gathered_of self.new) self.new.to_come) }
+        ensures bounded { OnOk result (AreBounded (gathered_of self.new) self.new.to_come) }
+        ensures fewer { OnOk result ((16 * 1024 * 1024 - self.new.bytes) + length self.new.to_come
+            ≤ (16 * 1024 * 1024 - self.old.bytes) + length self.old.to_come) }
+        ensures err { IfErr result (λ e. (main : List ℕ)
+            → GoesOn (S.state shelf.old).content main self.old.files (λ contents.
+            included contents (64 - length self.old.files) path.now pos self.old.to_come (gathered_of self.old))
+            → HasCause (S.state shelf.old) (S.state shelf.new) main (Err e)) }
+    {
+        if self.files.len() == MOST_FILES || is_taken(&self.files, path) {
+            let name = Text::from_str(alloc, self.files.name(pos.file))?;
+            return Err(GatherRefusal::IncludeTwice(name, pos));
+        }
+        self.take(alloc, shelf, path)
+    }
+
+    /// Takes a file: reads it, weaves it, and puts its parts in front of those to come.
+    fn take<S: Shelf>(
+        &mut self,
+        alloc: Global,
+        shelf: &mut S,
+        name: &str,
+    ) -> Result<(), GatherRefusal>
+        requires bounded { AreBounded (gathered_of self.old) self.old.to_come }
+        requires room { length self.old.files < 64 }
+        ensures told { (S.state shelf.new).content ≡ (S.state shelf.old).content }
+        ensures left { IsLeftAs result (S.state shelf.old) (S.state shelf.new) }
+        ensures takes { OnOk result (Takes (S.state shelf.old).content name.now
+            (gathered_of self.old) self.old.to_come (gathered_of self.new) self.new.to_come) }
+        ensures bounded { OnOk result (AreBounded (gathered_of self.new) self.new.to_come) }
+        ensures fewer { OnOk result ((16 * 1024 * 1024 - self.new.bytes) + length self.new.to_come
+            ≤ (16 * 1024 * 1024 - self.old.bytes) + length self.old.to_come) }
+        ensures err { IfErr result (IsRefusedTake name.now (gathered_of self.old)
+            (S.state shelf.old) (S.state shelf.new)) }
+    {
+        let limit = MOST_BYTES.min(MOST_BYTES_TOGETHER - self.bytes);
+        let bytes = read_file(alloc, shelf, name, limit)?;
+        let number = self.files.add(name)?;
+        let parts = woven_parts(alloc, name, &bytes, number)?;
+        self.bytes += bytes.len();
+        self.to_come.put_in_front(parts)?;
+        Ok(())
+    }
+}
+
+#[tactic(auto, using(crate::proofs::GatherLemmas::among_yes, crate::proofs::GatherLemmas::among_no))]
+fn is_taken(files: &Files, name: &str) -> bool
+    requires { length files.now ≤ 64 }
+    ensures { result ≡ is_among name.now files.now }
+{
+    for file in 0..files.len() as u32 {
+        if files.name(file) == name {
+            return true;
+        }
+    }
+    false
+}
+
+/// What a file of at most `limit` bytes holds.
+fn read_file<S: Shelf>(
+    alloc: Global,
+    shelf: &mut S,
+    name: &str,
+    limit: usize,
+) -> Result<Vec<u8>, GatherRefusal>
+    ensures told { (S.state shelf.new).content ≡ (S.state shelf.old).content }
+    ensures left { IsLeftAs result (S.state shelf.old) (S.state shelf.new) }
+    ensures ok { IfOk result (λ bytes. Gives ((S.state shelf.old).content name.now) limit bytes.items) }
+    ensures err { IfErr result (IsReadFault name.now limit (S.state shelf.old) (S.state shelf.new)) }
+{
+    let mut bytes = Vec::new(alloc);
+    match shelf.read(name, limit, &mut bytes) {
+        Ok(()) => Ok(bytes),
+        Err(ShelfFault::Missing) => Err(GatherRefusal::Missing(Text::from_str(alloc, name)?)),
+        Err(ShelfFault::Failed) => Err(GatherRefusal::ReadFault(Text::from_str(alloc, name)?)),
+        Err(ShelfFault::Long) => Err(GatherRefusal::TooLarge(Text::from_str(alloc, name)?)),
+        Err(ShelfFault::Memory) => Err(GatherRefusal::Memory),
+    }
+}
+
+/// The parts of a file, or its refusal with its name.
+fn woven_parts(alloc: Global, name: &str, bytes: &[u8], number: u32) -> Result<Parts, GatherRefusal>
+    requires { length bytes.now ≤ 4 * 1024 * 1024 }
+    ensures gives { result ≢ Err GatherRefusal.Memory
+        → result ≡ woven_as name.now (woven bytes.now number) }
+    ensures within { IfOk result (λ parts. AreWithin (length bytes.now) number parts) }
+{
+    match weave(alloc, bytes, number) {
+        Ok(woven) => Ok(woven.parts),
+        Err(WeaveRefusal::NotUtf8(pos)) => {
+            Err(GatherRefusal::NotUtf8(Text::from_str(alloc, name)?, pos))
+        }
+        Err(WeaveRefusal::FenceOpen(pos)) => {
+            Err(GatherRefusal::FenceOpen(Text::from_str(alloc, name)?, pos))
+        }
+        Err(WeaveRefusal::Memory) => Err(GatherRefusal::Memory),
+    }
+}
