@@ -29,6 +29,3 @@ pub mod LoggedEval
 pub mod LoggedTargets
 pub mod LoggedItems
 pub mod Deciders
--- how typed programs end
-pub mod Endings
-pub mod Given

@@ -22,7 +22,7 @@ use Rattle.cat_scope.specs.WellFormed.{DefTyped, IsBodyOf, IsWellFormed}
 use Rattle.cat_scope.proofs.Namings.{namings}
 use Rattle.cat_scope.proofs.Placings.{placings}
 use Rattle.cat_scope.proofs.Samples.{at, a, b, n_in, x_out, n_above, n, whole, def, body, x, chain, scope_of}
-use Rattle.cat_scope.proofs.WellFormedParts.{integer_is_sound, ordered, short, whole_typed, plain_def}
+use Rattle.cat_sound.proofs.WellFormedParts.{integer_is_sound, ordered, short, whole_typed, plain_def}
 
 abbrev items : List ItemDecl
 items = n_in ∷ x_out ∷ []

@@ -18,11 +18,11 @@ use Rattle.cat_scope.specs.Groups.{Numbered, Key, Group, key_of, same_key, is_am
 use Rattle.cat_scope.specs.Judging.{Held, Judged, with_held, holding, alone, settle, or_else, judge}
 use Rattle.cat_scope.specs.Names.{AllHave}
 use Rattle.cat_scope.specs.Targets.{same_target, defs_from, condition_of, held_as, judge_def, judge_own, judge_groups, judge_target, absent, value_or}
-use Rattle.cat_scope.specs.Endings.{EndsIn, IsOf}
-use Rattle.cat_scope.proofs.Endings.{ends_as, ends_then, ends_choose}
-use Rattle.cat_scope.proofs.FlatTypes.{of-Boolean}
-use Rattle.cat_scope.proofs.FormTypes.{same_some, same_number}
-use Rattle.cat_scope.proofs.Trails.{Trail, trail_short}
+use Rattle.cat_sound.specs.Endings.{EndsIn, IsOf}
+use Rattle.cat_sound.proofs.Endings.{ends_as, ends_then, ends_choose}
+use Rattle.cat_sound.proofs.FlatTypes.{of-Boolean}
+use Rattle.cat_sound.proofs.FormTypes.{same_some, same_number}
+use Rattle.cat_sound.proofs.Trails.{Trail, trail_short}
 
 -- nothing, or a definition that holds with a value of a type
 abbrev pub HeldOf : Decls → Ty → Option (Held Value) → Type 0

@@ -5,7 +5,7 @@ use Rattle.std.specs.Prelude.{◌||◌}
 use Rattle.std.proofs.Math.Dec.{eqb}
 use Rattle.std.proofs.lemmas.Bool.{eqb-true}
 use Rattle.std.proofs.lemmas.Map.Steps.{length-le_from_distinct_below}
-use Rattle.cat_scope.proofs.FormTypes.{same_some}
+use Rattle.cat_sound.proofs.FormTypes.{same_some}
 
 abbrev among : ℕ → List ℕ → Bool
 among q xs = list_any (eqb q) xs

@@ -12,7 +12,7 @@ use Rattle.cat_scope.specs.declared.forest.ForestTarget.{ForestTarget}
 use Rattle.cat_scope.specs.Names.{AllHave}
 use Rattle.cat_scope.specs.Chains.{IsChain, HasNoCycle, is_within, are_within}
 use Rattle.cat_scope.specs.Forests.{above, IsLow, is_low, are_low}
-use Rattle.cat_scope.proofs.Cycles.{longer}
+use Rattle.cat_sound.proofs.Cycles.{longer}
 
 both : (a b : Bool) → (a && b) ≡ true → (a ≡ true) × (b ≡ true)
 both true true e = (refl, refl)

@@ -10,7 +10,7 @@ use Rattle.cat_scope.specs.Names.{AllHave, IsOneOf}
 use Rattle.cat_scope.specs.Groups.{Group, target_of, paired, pairs_from, excepts, excepting, exceptions_from, exceptions_of}
 use Rattle.cat_scope.specs.Judging.{Judged, settle, or_else, judge}
 use Rattle.cat_scope.specs.Chains.{HasNoCycle}
-use Rattle.cat_scope.proofs.Cycles.{IsWithin, within_of_no_cycle}
+use Rattle.cat_sound.proofs.Cycles.{IsWithin, within_of_no_cycle}
 
 each_same : {A : Type 0} (f g : ℕ → Judged A) (Has : ℕ → Type 0) → ((n : ℕ) → Has n → f n ≡ g n) → (ns : List ℕ) → AllHave Has ns → map f ns ≡ map g ns
 each_same f g Has same [] all = refl

@@ -15,7 +15,7 @@ use Rattle.cat_scope.specs.Readings as read
 use Rattle.cat_scope.specs.Readings.{either, choose}
 use Rattle.cat_scope.specs.Operators.{on_two}
 use Rattle.cat_scope.specs.Names.{AllHave}
-use Rattle.cat_scope.specs.Endings.{EndsIn, IsOf, AreOf}
+use Rattle.cat_sound.specs.Endings.{EndsIn, IsOf, AreOf}
 
 -- both of two tests
 pub both : (a b : Bool) → IsTrue (a && b) → IsTrue a × IsTrue b

@@ -34,8 +34,8 @@ use Rattle.cat_scope.specs.HasType.{HasType}
 use Rattle.cat_scope.specs.HasType as typed
 use denote.Hole.Carrier.{out}
 use Rattle.cat_scope.proofs.Samples.{at, variable, item, whole, def, body, scope_of, calling_scopes, calling_bodies}
-use Rattle.cat_scope.proofs.WellFormedParts.{integer_is_sound}
-use Rattle.cat_scope.proofs.WellFormedCalls.{decls, s_items}
+use Rattle.cat_sound.proofs.WellFormedParts.{integer_is_sound}
+use Rattle.cat_sound.proofs.WellFormedCalls.{decls, s_items}
 
 -- a literal has the type of its value
 abbrev LiteralFits : Decls → Ty → Expr-F Expr Arm FieldValue → Type 0

@@ -32,14 +32,14 @@ use Rattle.cat_scope.specs.HasType as typed
 use Rattle.cat_scope.specs.Names.{AllHave}
 use Rattle.cat_scope.specs.Eval.{Env, eval, eval_all, eval_fields, eval_arms}
 use Rattle.cat_scope.specs.Composed.{literal_value, part, structured, listed}
-use Rattle.cat_scope.specs.Endings.{EndsIn, IsOf, AreOf, IsFieldOf, numbers_of, IsReady, IsCallable, IsEnvOf}
+use Rattle.cat_sound.specs.Endings.{EndsIn, IsOf, AreOf, IsFieldOf, numbers_of, IsReady, IsCallable, IsEnvOf}
 use Rattle.cat_scope.proofs.Equations.{eval_Literal, eval_Item, eval_Output, eval_Local, eval_Field, eval_Unary, eval_Binary, eval_And, eval_Or, eval_If, eval_Match, eval_IsCase, eval_Case_None, eval_Case_Some, eval_Structure, eval_List, eval_ForAll, eval_Exists, eval_Map, eval_Filter, eval_Combine, eval_Contains, eval_Length, eval_Sum, eval_Call, eval_ScopeCall}
-use Rattle.cat_scope.proofs.Endings.{ends_as, ends_then, ends_in_front, ends_choose, local_of, are_more}
-use Rattle.cat_scope.proofs.FlatTypes.{of-Boolean, of-Integer}
-use Rattle.cat_scope.proofs.OperatorTypes.{conversions_go_on, operators_go_on}
-use Rattle.cat_scope.proofs.ListTypes.{AreElements, of-List, elements-end, AreFrom, AreElements-from, for_all-ends, exists-ends, mapped-ends, filtered-ends, combined-ends, contained-ends, zero-typed, summed-ends}
-use Rattle.cat_scope.proofs.FormTypes.{part-ends, structured-ends, ArmEnds, arms-end, met, case_seen}
-use Rattle.cat_scope.proofs.NamedParts.{bodies_of, values_of, env_parts, env_item, env_scope}
+use Rattle.cat_sound.proofs.Endings.{ends_as, ends_then, ends_in_front, ends_choose, local_of, are_more}
+use Rattle.cat_sound.proofs.FlatTypes.{of-Boolean, of-Integer}
+use Rattle.cat_sound.proofs.OperatorTypes.{conversions_go_on, operators_go_on}
+use Rattle.cat_sound.proofs.ListTypes.{AreElements, of-List, elements-end, AreFrom, AreElements-from, for_all-ends, exists-ends, mapped-ends, filtered-ends, combined-ends, contained-ends, zero-typed, summed-ends}
+use Rattle.cat_sound.proofs.FormTypes.{part-ends, structured-ends, ArmEnds, arms-end, met, case_seen}
+use Rattle.cat_sound.proofs.NamedParts.{bodies_of, values_of, env_parts, env_item, env_scope}
 
 -- fields with their values are those that are written, of their types
 pub record AreWritten (ds : Decls) (type_of : ℕ → Option Ty) (fields : List FieldValue) (fs : List (ℕ × Value)) : Type 0 where

@@ -24,7 +24,7 @@ use Rattle.cat_scope.specs.WellFormed.{IsBodyOf, IsWellFormed}
 use Rattle.cat_scope.proofs.Namings.{namings}
 use Rattle.cat_scope.proofs.Placings.{placings}
 use Rattle.cat_scope.proofs.Samples.{at, variable, item, n_above, n, whole, def, body, body_calling, scope_of, nested_scopes, nested_bodies}
-use Rattle.cat_scope.proofs.WellFormedParts.{integer_is_sound, ordered, short, whole_typed, plain_def}
+use Rattle.cat_sound.proofs.WellFormedParts.{integer_is_sound, ordered, short, whole_typed, plain_def}
 
 nested_is_sound : IsTrue (are_sound [] [] nested_scopes)
 unfolding are_sound

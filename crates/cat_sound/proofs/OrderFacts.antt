@@ -14,7 +14,7 @@ use Rattle.cat_scope.specs.declared.defs.Body.{Body}
 use Rattle.cat_scope.specs.Names.{AllHave, is_in}
 use Rattle.cat_scope.specs.Orders.{in_defs_of, dependencies_from, once, calls_in, scope_dependencies}
 use Rattle.cat_scope.specs.Running.{moved}
-use Rattle.cat_scope.proofs.FormTypes.{same_some, same_number, not_true}
+use Rattle.cat_sound.proofs.FormTypes.{same_some, same_number, not_true}
 
 -- each number of a list stands in another
 abbrev pub AllIn : List ℕ → List ℕ → Type 0

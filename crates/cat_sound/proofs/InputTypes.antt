@@ -27,11 +27,11 @@ use Rattle.cat_scope.specs.Composed.{given}
 use Rattle.cat_scope.specs.Calls.{Items, Runs, Scoped, items_of, call_entry, call_input, env_of}
 use Rattle.cat_scope.specs.ItemValues.{passed, passed_input}
 use Rattle.cat_scope.specs.WellFormed.{is_internal, is_placed}
-use Rattle.cat_scope.specs.Endings.{EndsIn, IsOf, types_of, AreOutputsOf, numbers_of, IsFieldOf, IsCallable}
-use Rattle.cat_scope.proofs.Endings.{both, and_both, ends_then, ends_in_front, local_of}
-use Rattle.cat_scope.proofs.FlatTypes.{of-Boolean}
-use Rattle.cat_scope.proofs.FormTypes.{same_some, same_number, not_true}
-use Rattle.cat_scope.proofs.TargetTypes.{HeldOf, absent-ends}
+use Rattle.cat_sound.specs.Endings.{EndsIn, IsOf, types_of, AreOutputsOf, numbers_of, IsFieldOf, IsCallable}
+use Rattle.cat_sound.proofs.Endings.{both, and_both, ends_then, ends_in_front, local_of}
+use Rattle.cat_sound.proofs.FlatTypes.{of-Boolean}
+use Rattle.cat_sound.proofs.FormTypes.{same_some, same_number, not_true}
+use Rattle.cat_sound.proofs.TargetTypes.{HeldOf, absent-ends}
 
 -- an item is as the rules on kinds and conditions want it
 abbrev pub Placed : ItemDecl → Type 0

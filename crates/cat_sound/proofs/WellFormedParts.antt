@@ -20,7 +20,7 @@ use Rattle.cat_scope.specs.HasType.{HasType}
 use Rattle.cat_scope.specs.HasType as typed
 use Rattle.cat_scope.specs.Chains.{HasShortChains, are_within}
 use Rattle.cat_scope.specs.WellFormed.{IsTargetAt, DefTyped}
-use Rattle.cat_scope.proofs.ForestLaws.{short_chains}
+use Rattle.cat_sound.proofs.ForestLaws.{short_chains}
 use Rattle.cat_scope.proofs.Samples.{variable, item, whole, def}
 
 pub integer_is_sound : is_sound [] [] flat.Integer ≡ true

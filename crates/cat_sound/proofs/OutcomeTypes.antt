@@ -18,8 +18,8 @@ use Rattle.cat_scope.specs.WellFormed.{IsWellFormed}
 use Rattle.cat_scope.specs.Calls.{Items}
 use Rattle.cat_scope.specs.Running.{reply_of}
 use Rattle.cat_scope.specs.Outcomes.{outcome_of}
-use Rattle.cat_scope.specs.Endings.{EndsIn, AreOf, types_of, AreOutputsOf, IsOutcomeOf}
-use Rattle.cat_scope.proofs.RunTypes.{reply-ends}
+use Rattle.cat_sound.specs.Endings.{EndsIn, AreOf, types_of, AreOutputsOf, IsOutcomeOf}
+use Rattle.cat_sound.proofs.RunTypes.{reply-ends}
 
 AreOf-prop : (ds : Decls) (ts : List Ty) (vs : List Value) → IsProp (AreOf ds ts vs)
 AreOf-prop ds [] [] = hlevel Bool-set

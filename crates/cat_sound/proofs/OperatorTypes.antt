@@ -27,10 +27,10 @@ use Rattle.cat_scope.specs.Operators.{convert, operate}
 use Rattle.cat_scope.specs.Comparing.{compared, compared_in, equal, equal_in, differ, is_less, is_greater}
 use Rattle.cat_scope.specs.Names.{IsOneOf}
 use Rattle.cat_scope.specs.Signatures.{Row, rows_of, comparison, ordered_types, compared_types, taken_by, given_by}
-use Rattle.cat_scope.specs.Endings.{EndsIn, IsOf}
-use Rattle.cat_scope.proofs.Endings.{Any, ends_as, ends_then, ends_two, ends_exact, reads-Boolean}
-use Rattle.cat_scope.proofs.Fits.{whole_fits, ratio_fits, negation_fits, ratio_decimal, frac_decimal, negation_decimal, whole_decimal, cents_decimal, rounded_fits, truncated_fits, units_fit, year_fits, month_fits, day_fits, negation_span, days_span, range_span, sum_day}
-use Rattle.cat_scope.proofs.FlatTypes.{Whole, Frac, Day, Span, of-Boolean, of-Integer, of-Decimal, of-Money, of-Date, of-Duration, reads-Integer, reads-Decimal, reads-Money, reads-Date, reads-Duration, ends_dated, range-dated, sum-dated, compared-dated}
+use Rattle.cat_sound.specs.Endings.{EndsIn, IsOf}
+use Rattle.cat_sound.proofs.Endings.{Any, ends_as, ends_then, ends_two, ends_exact, reads-Boolean}
+use Rattle.cat_sound.proofs.Fits.{whole_fits, ratio_fits, negation_fits, ratio_decimal, frac_decimal, negation_decimal, whole_decimal, cents_decimal, rounded_fits, truncated_fits, units_fit, year_fits, month_fits, day_fits, negation_span, days_span, range_span, sum_day}
+use Rattle.cat_sound.proofs.FlatTypes.{Whole, Frac, Day, Span, of-Boolean, of-Integer, of-Decimal, of-Money, of-Date, of-Duration, reads-Integer, reads-Decimal, reads-Money, reads-Date, reads-Duration, ends_dated, range-dated, sum-dated, compared-dated}
 
 -- ---- what stands before one operand
 

@@ -27,8 +27,8 @@ use Rattle.cat_scope.specs.Fitting.{with_case, cases_of, is_anything, ends_in_an
 use Rattle.cat_scope.specs.Names.{AllHave}
 use Rattle.cat_scope.specs.Eval.{Env, eval, eval_arms}
 use Rattle.cat_scope.specs.Composed.{Meaning, part, given, in_order, structured, arm_locals, arm_value}
-use Rattle.cat_scope.specs.Endings.{EndsIn, IsOf, AreOf, IsFieldOf, numbers_of}
-use Rattle.cat_scope.proofs.Endings.{both, ends_as, ends_then, ends_in_front, ends_known, are_more}
+use Rattle.cat_sound.specs.Endings.{EndsIn, IsOf, AreOf, IsFieldOf, numbers_of}
+use Rattle.cat_sound.proofs.Endings.{both, ends_as, ends_then, ends_in_front, ends_known, are_more}
 
 some_or : {A : Type 0} → A → Option A → A
 some_or d None = d

@@ -23,8 +23,8 @@ use Rattle.cat_value.proofs.Equations.{has_type_Boolean, has_type_Integer, has_t
 use Rattle.cat_value.proofs.Inversions.{integer_value, decimal_value, money_value, date_value, duration_value}
 use Rattle.cat_scope.specs.Replies.{dated}
 use Rattle.cat_scope.specs.Readings as read
-use Rattle.cat_scope.specs.Endings.{EndsIn, IsOf}
-use Rattle.cat_scope.proofs.Endings.{ends_as}
+use Rattle.cat_sound.specs.Endings.{EndsIn, IsOf}
+use Rattle.cat_sound.proofs.Endings.{ends_as}
 
 -- a number, a fraction, a day and a duration in their ranges
 abbrev pub Whole : ℤ → Type 0

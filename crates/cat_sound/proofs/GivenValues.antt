@@ -28,10 +28,10 @@ use Rattle.cat_scope.specs.Calls.{Items, Runs, Scoped, env_of, call}
 use Rattle.cat_scope.specs.Running.{entry_at, with_entry, run_items, no_values, asserted, outputs_of, moved, backwards, run_scoped, run_scope, run, reply_of}
 use Rattle.cat_scope.specs.ItemValues.{item_value}
 use Rattle.cat_scope.specs.Outcomes.{outcome_of}
-use Rattle.cat_scope.specs.Given.{values_at, HasValue, output_number}
-use Rattle.cat_scope.proofs.FormTypes.{same_some, same_number, not_true}
-use Rattle.cat_scope.proofs.OrderFacts.{all-of_IsOrder, dependencies-length}
-use Rattle.cat_scope.proofs.RunTypes.{with_entry-same, with_entry-other, with_entry-length, no_values-length, body_at}
+use Rattle.cat_sound.specs.Given.{values_at, HasValue, output_number}
+use Rattle.cat_sound.proofs.FormTypes.{same_some, same_number, not_true}
+use Rattle.cat_sound.proofs.OrderFacts.{all-of_IsOrder, dependencies-length}
+use Rattle.cat_sound.proofs.RunTypes.{with_entry-same, with_entry-other, with_entry-length, no_values-length, body_at}
 
 -- ---- what holds of a value, where there is one
 

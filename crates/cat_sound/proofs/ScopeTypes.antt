@@ -25,14 +25,14 @@ use Rattle.cat_scope.specs.Mentions.{items_named, scopes_named}
 use Rattle.cat_scope.specs.WellFormed.{is_internal, is_defined, IsTargetAt, ConditionTyped, DefTyped, AssertionTyped}
 use Rattle.cat_scope.specs.Calls.{Items, Scoped, variable, variable_of_called, items_of, env_of, judged, variable_value, call}
 use Rattle.cat_scope.specs.ItemValues.{passed_input, called_value, defined_value}
-use Rattle.cat_scope.specs.Endings.{EndsIn, IsOf, AreOf, AreOutputsOf, IsReady, IsCallable}
-use Rattle.cat_scope.proofs.Endings.{both, and_both, ends_as, ends_then, all_front, all_back}
-use Rattle.cat_scope.proofs.FlatTypes.{of-Boolean}
-use Rattle.cat_scope.proofs.FormTypes.{same_some, same_number, not_true}
-use Rattle.cat_scope.proofs.ExprTypes.{expressions_go_on}
-use Rattle.cat_scope.proofs.TargetTypes.{HeldOf, DefEnds, all_more, all_at, judge_target-ends, absent-ends, value_or-ends}
-use Rattle.cat_scope.proofs.OrderFacts.{AllIn, in_at, behind_first, Behind}
-use Rattle.cat_scope.proofs.InputTypes.{Placed, condition_type, output-ends, Callee, scope_call-ends, passed_input-ends}
+use Rattle.cat_sound.specs.Endings.{EndsIn, IsOf, AreOf, AreOutputsOf, IsReady, IsCallable}
+use Rattle.cat_sound.proofs.Endings.{both, and_both, ends_as, ends_then, all_front, all_back}
+use Rattle.cat_sound.proofs.FlatTypes.{of-Boolean}
+use Rattle.cat_sound.proofs.FormTypes.{same_some, same_number, not_true}
+use Rattle.cat_sound.proofs.ExprTypes.{expressions_go_on}
+use Rattle.cat_sound.proofs.TargetTypes.{HeldOf, DefEnds, all_more, all_at, judge_target-ends, absent-ends, value_or-ends}
+use Rattle.cat_sound.proofs.OrderFacts.{AllIn, in_at, behind_first, Behind}
+use Rattle.cat_sound.proofs.InputTypes.{Placed, condition_type, output-ends, Callee, scope_call-ends, passed_input-ends}
 
 -- ---- targets
 

@@ -10,8 +10,8 @@ use Rattle.cat_scope.specs.Names.{Names}
 use Rattle.cat_scope.specs.Names.{AllHave}
 use Rattle.cat_scope.specs.Mentions.{joined, in_parts, own_item, own_scope, named_by}
 use Rattle.cat_scope.specs.Eval.{Env}
-use Rattle.cat_scope.specs.Endings.{IsReady, IsCallable, IsEnvOf}
-use Rattle.cat_scope.proofs.Endings.{all_front, all_back}
+use Rattle.cat_sound.specs.Endings.{IsReady, IsCallable, IsEnvOf}
+use Rattle.cat_sound.proofs.Endings.{all_front, all_back}
 use Rattle.cat_scope.proofs.Namings.{Own, of_form, field, arm, field_is, arm_is, levels}
 
 abbrev Numbers : Type 0

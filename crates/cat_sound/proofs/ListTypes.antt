@@ -24,11 +24,11 @@ use Rattle.cat_scope.specs.Lists.{for_all, exists, mapped, filtered, combined, c
 use Rattle.cat_scope.specs.Names.{IsOneOf}
 use Rattle.cat_scope.specs.Signatures.{summed_type, compared_types}
 use Rattle.cat_scope.specs.Names.{AllHave}
-use Rattle.cat_scope.specs.Endings.{EndsIn, IsOf}
-use Rattle.cat_scope.proofs.Endings.{both, and_both, Any, ends_as, ends_then, ends_in_front, ends_either, ends_choose}
-use Rattle.cat_scope.proofs.Fits.{whole_decimal}
-use Rattle.cat_scope.proofs.FlatTypes.{of-Boolean, of-Integer, of-Decimal, of-Money, of-Duration}
-use Rattle.cat_scope.proofs.OperatorTypes.{of-AddIntegers, of-AddDecimals, of-AddMoney, of-AddDurations, equal-ends}
+use Rattle.cat_sound.specs.Endings.{EndsIn, IsOf}
+use Rattle.cat_sound.proofs.Endings.{both, and_both, Any, ends_as, ends_then, ends_in_front, ends_either, ends_choose}
+use Rattle.cat_sound.proofs.Fits.{whole_decimal}
+use Rattle.cat_sound.proofs.FlatTypes.{of-Boolean, of-Integer, of-Decimal, of-Money, of-Duration}
+use Rattle.cat_sound.proofs.OperatorTypes.{of-AddIntegers, of-AddDecimals, of-AddMoney, of-AddDurations, equal-ends}
 
 -- what holds of the elements of a list of a type
 pub record AreElements (ds : Decls) (t : Ty) (vs : List Value) : Type 0 where

@@ -30,14 +30,14 @@ use Rattle.cat_scope.specs.WellFormed.{is_internal, AssertionTyped, IsWhole, IsB
 use Rattle.cat_scope.specs.Calls.{Items, Runs, Scoped, env_of, call}
 use Rattle.cat_scope.specs.Running.{entry_at, with_entry, run_items, no_values, asserted, outputs_of, moved, backwards, run_scoped, run_scope, run, reply_of}
 use Rattle.cat_scope.specs.ItemValues.{ungiven_value, item_value}
-use Rattle.cat_scope.specs.Endings.{EndsIn, IsOf, AreOf, types_of, AreOutputsOf, IsReady}
-use Rattle.cat_scope.proofs.Endings.{both, ends_as, ends_then, ends_in_front, ends_choose, all_front, all_back}
-use Rattle.cat_scope.proofs.FormTypes.{same_some, same_number, not_true}
-use Rattle.cat_scope.proofs.ExprTypes.{expressions_go_on}
-use Rattle.cat_scope.proofs.TargetTypes.{all_more, all_at}
-use Rattle.cat_scope.proofs.OrderFacts.{AllIn, in_at, behind_first, Behind, Ahead, moved-behind, moved_new, ahead-of_IsOrder, all-of_IsOrder, ahead_as, dependencies-length, dependencies-at, scopes-length, scopes-at, all_once}
-use Rattle.cat_scope.proofs.InputTypes.{Placed, Callee}
-use Rattle.cat_scope.proofs.ScopeTypes.{names_of, IsSound, IsDone, DoneAt, callable, ready, done-variable, defined-ends, called-ends}
+use Rattle.cat_sound.specs.Endings.{EndsIn, IsOf, AreOf, types_of, AreOutputsOf, IsReady}
+use Rattle.cat_sound.proofs.Endings.{both, ends_as, ends_then, ends_in_front, ends_choose, all_front, all_back}
+use Rattle.cat_sound.proofs.FormTypes.{same_some, same_number, not_true}
+use Rattle.cat_sound.proofs.ExprTypes.{expressions_go_on}
+use Rattle.cat_sound.proofs.TargetTypes.{all_more, all_at}
+use Rattle.cat_sound.proofs.OrderFacts.{AllIn, in_at, behind_first, Behind, Ahead, moved-behind, moved_new, ahead-of_IsOrder, all-of_IsOrder, ahead_as, dependencies-length, dependencies-at, scopes-length, scopes-at, all_once}
+use Rattle.cat_sound.proofs.InputTypes.{Placed, Callee}
+use Rattle.cat_sound.proofs.ScopeTypes.{names_of, IsSound, IsDone, DoneAt, callable, ready, done-variable, defined-ends, called-ends}
 
 -- ---- entries
 

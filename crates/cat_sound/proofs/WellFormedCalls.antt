@@ -23,7 +23,7 @@ use Rattle.cat_scope.specs.WellFormed.{IsBodyOf, IsWellFormed}
 use Rattle.cat_scope.proofs.Namings.{namings}
 use Rattle.cat_scope.proofs.Placings.{placings}
 use Rattle.cat_scope.proofs.Samples.{at, variable, item, truth_item, n_in, n_above, n, whole, def, body, body_calling, scope_of, calling_scopes, calling_bodies}
-use Rattle.cat_scope.proofs.WellFormedParts.{integer_is_sound, boolean_is_sound, ordered, short, whole_typed, plain_def}
+use Rattle.cat_sound.proofs.WellFormedParts.{integer_is_sound, boolean_is_sound, ordered, short, whole_typed, plain_def}
 
 -- T and S, of which S calls T
 pub calling_is_sound : IsTrue (are_sound [] [] calling_scopes)

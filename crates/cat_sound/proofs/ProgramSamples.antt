@@ -13,7 +13,7 @@ use Rattle.cat_scope.specs.Forests.{StandsFor}
 use Rattle.cat_scope.proofs.Equations.{equations}
 use Rattle.cat_scope.proofs.LogEquations.{log_equations}
 use Rattle.cat_scope.proofs.Samples.{at, variable}
-use Rattle.cat_scope.proofs.WellFormedCalls.{program}
+use Rattle.cat_sound.proofs.WellFormedCalls.{program}
 
 its_outcome : scope_outcome program 1 (Some (flat.Integer (pos 3)) ∷ None ∷ None ∷ []) ≡ Some (outcome.Value (flat.Integer (pos 3) ∷ []))
 unfolding reply_of judge_target
