@@ -1,10 +1,6 @@
+pub mod RunLaws
 pub mod Equations
-pub mod LogEquations
 pub mod Induction
-pub mod LogSteps
-pub mod LogExpressions
-pub mod LogTargets
-pub mod LogRuns
 pub mod Namings
 pub mod Samples
 mod Appearances

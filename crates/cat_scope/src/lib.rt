@@ -1,7 +1,6 @@
 //! Programs of scopes, and what they mean: the outcome that each input of a scope has.
 #![tactic(auto)]
 
-mod deciders;
 mod defs;
 mod expr;
 mod forest;
@@ -9,7 +8,6 @@ mod operators;
 mod programs;
 mod stop;
 
-pub use deciders::logs_change_no_run;
 pub use defs::{Assertion, Assertions, Bodies, Body, Def, Defs, Except, SourcePart, SourceParts};
 pub use expr::{Arm, ArmPattern, Arms, Expr, Exprs, FieldValue, FieldValues, Literal};
 pub use forest::{Forest, ForestGroup, ForestGroups, ForestTarget, ForestTargets};

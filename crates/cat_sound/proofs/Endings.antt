@@ -1,105 +1,88 @@
--- How the words that put evaluations together end.
-use Rattle.std.proofs.Common.{◌≡◌, ℕ, zero, suc, Bool, true, false, ◌&&◌, IsTrue, List, [], ◌∷◌, ◌++◌, Option, Some, None, Result, Ok, Err, slice_get, refl, sym, ap, ◌∙◌, subst, true≢false}
-use Rattle.cat_pos.specs.declared.pos.Pos.{Pos}
-use Rattle.cat_num.specs.declared.fault.NumFault.{NumFault}
-use Rattle.cat_num.specs.declared.fault.NumFault.TheVariants as num
+-- How the words that put runs together end.
+use Rattle.std.proofs.Common.{Bool, true, false, IsTrue, List, [], ◌∷◌, ◌++◌, Result, Ok, Err, ◌≡◌, refl, sym, subst}
+use Rattle.cat_value.specs.declared.outcome.Target.{Target}
 use Rattle.cat_value.specs.declared.value.Value.{Value}
-use Rattle.cat_value.specs.declared.value.Value.TheViews as value
-use Rattle.cat_value.specs.declared.ty.Ty.{Ty}
 use Rattle.cat_value.specs.declared.ty.Ty.TheVariants as ty
 use Rattle.cat_value.specs.declared.decls.Decls.{Decls}
-use Rattle.cat_value.proofs.Inversions.{boolean_value}
 use Rattle.cat_scope.specs.declared.stop.Stop.{Stop}
-use Rattle.cat_scope.specs.Replies.{and_then, known, in_front, exact}
+use Rattle.cat_scope.specs.declared.stop.Stop.TheVariants as stop
 use Rattle.cat_scope.specs.Readings as read
-use Rattle.cat_scope.specs.Readings.{either, choose}
-use Rattle.cat_scope.specs.Operators.{on_two}
+use Rattle.cat_scope.specs.Runs.{Decider, Run, plain, gives, behind, and_then, giving, in_front, either, choose}
 use Rattle.cat_scope.specs.Names.{AllHave}
-use Rattle.cat_sound.specs.Endings.{EndsIn, IsOf, AreOf}
+use Rattle.cat_sound.specs.Endings.{Allowed, IsEnd, IsDecision, Ended, EndsIn, IsFault, ResultsIn, IsOf}
+use Rattle.cat_sound.proofs.Results.{Any, reads-Boolean}
 
--- both of two tests
-pub both : (a b : Bool) → IsTrue (a && b) → IsTrue a × IsTrue b
-both true b h = (refl, h)
-both false b h = absurd (true≢false (sym h))
+-- what holds of each of two lists
+pub all_both : {A : Type 0} (P : A → Type 0) (xs ys : List A) → AllHave P xs → AllHave P ys → AllHave P (xs ++ ys)
+all_both P [] ys h g = g
+all_both P (x ∷ xs) ys h g = (h.0, all_both P xs ys h.1 g)
 
-pub and_both : (a b : Bool) → IsTrue a → IsTrue b → IsTrue (a && b)
-and_both true b h g = g
-and_both false b h g = absurd (true≢false (sym h))
+pub end_of_fault : (allowed : Allowed) (s : Stop) → IsFault s → IsEnd allowed s
+end_of_fault allowed (stop.Conflict target places) h = elim h [ ]
+end_of_fault allowed (stop.NoValue target place) h = elim h [ ]
+end_of_fault allowed (stop.Fault kind place) h = tt
+end_of_fault allowed stop.Stuck h = h
 
-pub ends_as : {A : Type 0} (P : A → Type 0) (r s : Result A Stop) → r ≡ s → EndsIn P s → EndsIn P r
-ends_as P r s e h = subst (λ x. EndsIn P x) (sym e) h
+pub ended : (allowed : Allowed) {A : Type 0} (P : A → Type 0) (r : Result A Stop) → ResultsIn P r → Ended allowed P r
+ended allowed P (Ok a) h = h
+ended allowed P (Err s) h = end_of_fault allowed s h
 
-pub ends_then : {A B : Type 0} (P : A → Type 0) (Q : B → Type 0) (r : Result A Stop) (next : A → Result B Stop)
-    → EndsIn P r → ((a : A) → P a → EndsIn Q (next a)) → EndsIn Q (and_then r next)
-ends_then P Q (Ok a) next h go = go a h
-ends_then P Q (Err stop) next h go = h
+pub ends_plain : (allowed : Allowed) {A : Type 0} (P : A → Type 0) (r : Result A Stop) → ResultsIn P r → EndsIn allowed P (plain r)
+ends_plain allowed P r h = (tt, ended allowed P r h)
 
-pub ends_two : {A B C : Type 0} (P : A → Type 0) (Q : B → Type 0) (R : C → Type 0) (r : Result A Stop) (s : Result B Stop) (next : A → B → Result C Stop)
-    → EndsIn P r → EndsIn Q s → ((a : A) (b : B) → P a → Q b → EndsIn R (next a b)) → EndsIn R (on_two r s next)
-ends_two P Q R (Ok a) (Ok b) next h g go = go a b h g
-ends_two P Q R (Ok a) (Err stop) next h g go = g
-ends_two P Q R (Err stop) s next h g go = h
+pub ends_as : (allowed : Allowed) {A : Type 0} (P : A → Type 0) (r s : Run A) → r ≡ s → EndsIn allowed P s → EndsIn allowed P r
+ends_as allowed P r s e h = subst (λ x. EndsIn allowed P x) (sym e) h
 
-pub ends_in_front : {A : Type 0} (P : A → Type 0) (Q R : List A → Type 0) (r : Result A Stop) (rest : Result (List A) Stop)
-    → EndsIn P r → EndsIn Q rest → ((a : A) (more : List A) → P a → Q more → R (a ∷ more)) → EndsIn R (in_front r rest)
-ends_in_front P Q R (Ok a) (Ok more) h g go = go a more h g
-ends_in_front P Q R (Ok a) (Err stop) h g go = g
-ends_in_front P Q R (Err stop) rest h g go = h
+behind-ends : (allowed : Allowed) {A B : Type 0} (P : A → Type 0) (Q : B → Type 0) (log : List Decider) (r : Result A Stop) (next : A → Run B)
+    → AllHave (IsDecision allowed) log → Ended allowed P r → ((a : A) → P a → EndsIn allowed Q (next a)) → EndsIn allowed Q (behind log r next)
+behind-ends allowed P Q log (Ok a) next front h go = let later = go a h in (all_both (IsDecision allowed) log (next a).log front later.0, later.1)
+behind-ends allowed P Q log (Err s) next front h go = (front, h)
 
-pub ends_either : {A : Type 0} (P : A → Type 0) (Any : Bool → Type 0) (t : Result Bool Stop) (one other : Result A Stop)
-    → EndsIn Any t → EndsIn P one → EndsIn P other → EndsIn P (either t one other)
-ends_either P Any (Ok true) one other h left right = left
-ends_either P Any (Ok false) one other h left right = right
-ends_either P Any (Err stop) one other h left right = h
+pub ends_then : (allowed : Allowed) {A B : Type 0} (P : A → Type 0) (Q : B → Type 0) (r : Run A) (next : A → Run B)
+    → EndsIn allowed P r → ((a : A) → P a → EndsIn allowed Q (next a)) → EndsIn allowed Q (and_then r next)
+ends_then allowed P Q r next h go = behind-ends allowed P Q r.log r.end next h.0 h.1 go
 
--- a boolean has a truth value
-abbrev pub Any : {A : Type 0} → A → Type 0
-Any a = Unit {0}
+pub ends_giving : (allowed : Allowed) {A B : Type 0} (P : A → Type 0) (Q : B → Type 0) (r : Run A) (next : A → Result B Stop)
+    → EndsIn allowed P r → ((a : A) → P a → ResultsIn Q (next a)) → EndsIn allowed Q (giving r next)
+ends_giving allowed P Q r next h go = ends_then allowed P Q r (λ a. plain (next a)) h (λ a ha. ends_plain allowed Q (next a) (go a ha))
 
-pub reads-Boolean : (ds : Decls) (v : Value) → IsOf ds ty.Boolean v → EndsIn (Any {A = Bool}) (read.truth v)
-reads-Boolean ds v h =
-    let is = boolean_value ds v h in
-    ends_as (Any {A = Bool}) (read.truth v) (Ok is.0) (ap read.truth is.1 ∙ ap read.truth_in (value.outs-Boolean is.0)) tt
+pub ends_in_front : (allowed : Allowed) {A : Type 0} (P : A → Type 0) (Q R : List A → Type 0) (r : Run A) (rest : Run (List A))
+    → EndsIn allowed P r → EndsIn allowed Q rest → ((a : A) (more : List A) → P a → Q more → R (a ∷ more)) → EndsIn allowed R (in_front r rest)
+ends_in_front allowed P Q R r rest h g go =
+    ends_then allowed P R r (λ a. and_then rest (λ more. gives (a ∷ more))) h
+    (λ a ha. ends_then allowed Q R rest (λ more. gives (a ∷ more)) g (λ more hm. (tt, go a more ha hm)))
 
-pub ends_choose : {A : Type 0} (P : A → Type 0) (ds : Decls) (v : Value) (one other : Result A Stop)
-    → IsOf ds ty.Boolean v → EndsIn P one → EndsIn P other → EndsIn P (choose v one other)
-ends_choose P ds v one other h left right = ends_either P (Any {A = Bool}) (read.truth v) one other (reads-Boolean ds v h) left right
+ends_either : (allowed : Allowed) {A : Type 0} (P : A → Type 0) (Any : Bool → Type 0) (t : Result Bool Stop) (one other : Run A)
+    → ResultsIn Any t → EndsIn allowed P one → EndsIn allowed P other → EndsIn allowed P (either t one other)
+ends_either allowed P Any (Ok true) one other h left right = left
+ends_either allowed P Any (Ok false) one other h left right = right
+ends_either allowed P Any (Err s) one other h left right = (tt, end_of_fault allowed s h)
 
--- an exact result that fits, or its fault
-pub ends_exact : {A : Type 0} (P : Value → Type 0) (p : Pos) (make : A → Value) (r : Result A NumFault) → ((a : A) → r ≡ Ok a → P (make a)) → EndsIn P (exact p make r)
-ends_exact P p make (Ok a) go = go a refl
-ends_exact P p make (Err num.Overflow) go = tt
-ends_exact P p make (Err num.DivisionByZero) go = tt
+pub ends_choose : (allowed : Allowed) {A : Type 0} (P : A → Type 0) (ds : Decls) (v : Value) (one other : Run A)
+    → IsOf ds ty.Boolean v → EndsIn allowed P one → EndsIn allowed P other → EndsIn allowed P (choose v one other)
+ends_choose allowed P ds v one other h left right = ends_either allowed P (Any {A = Bool}) (read.truth v) one other (reads-Boolean ds v h) left right
 
-pub ends_known : {A : Type 0} (P : A → Type 0) (o : Option A) (a : A) → o ≡ Some a → P a → EndsIn P (known o)
-ends_known P o a e h = ends_as P (known o) (Ok a) (ap known e) h
+-- every target may stop
+abbrev pub all_stop : Allowed → Allowed
+all_stop allowed = record { may_stop = λ target. true; may_decide = allowed.may_decide }
 
--- the element at a place is of the type there
-pub local_of : (ds : Decls) (ts : List Ty) (vs : List Value) (k : ℕ) (t : Ty) → AreOf ds ts vs → slice_get ts k ≡ Some t → EndsIn (IsOf ds t) (known (slice_get vs k))
-local_of ds [] [] k t are is = absurd (cc)
-local_of ds [] (v ∷ vs) k t are is = elim are [ ]
-local_of ds (u ∷ ts) [] k t are is = elim are [ ]
-local_of ds (u ∷ ts) (v ∷ vs) zero t are is = subst (λ x. IsOf ds x v) (same_some u t is) are.0
+end-loosened : (allowed : Allowed) (s : Stop) → IsEnd allowed s → IsEnd (all_stop allowed) s
+end-loosened allowed (stop.Conflict target places) h = refl
+end-loosened allowed (stop.NoValue target place) h = refl
+end-loosened allowed (stop.Fault kind place) h = tt
+end-loosened allowed stop.Stuck h = h
+
+pub loosened : (allowed : Allowed) {A : Type 0} (P : A → Type 0) (run : Run A) → EndsIn allowed P run → EndsIn (all_stop allowed) P run
+loosened allowed {A = A} P run h = (h.0, by run.end h.1)
   where
-    some_or : Ty → Option Ty → Ty
-    some_or d None = d
-    some_or d (Some x) = x
+    by : (r : Result A Stop) → Ended allowed P r → Ended (all_stop allowed) P r
+    by (Ok a) g = g
+    by (Err s) g = end-loosened allowed s g
 
-    same_some : (a b : Ty) → Some a ≡ Some b → a ≡ b
-    same_some a b e = ap (some_or a) e
-local_of ds (u ∷ ts) (v ∷ vs) (suc k) t are is = local_of ds ts vs k t are.1 is
-
-pub are_more : (ds : Decls) (ts us : List Ty) (vs ws : List Value) → AreOf ds ts vs → AreOf ds us ws → AreOf ds (ts ++ us) (vs ++ ws)
-are_more ds [] us [] ws are more = more
-are_more ds [] us (v ∷ vs) ws are more = elim are [ ]
-are_more ds (t ∷ ts) us [] ws are more = elim are [ ]
-are_more ds (t ∷ ts) us (v ∷ vs) ws are more = (are.0, are_more ds ts us vs ws are.1 more)
-
--- what holds of each of two lists, and of each of both
-pub all_front : {A : Type 0} (P : A → Type 0) (xs ys : List A) → AllHave P (xs ++ ys) → AllHave P xs
-all_front P [] ys h = tt
-all_front P (x ∷ xs) ys h = (h.0, all_front P xs ys h.1)
-
-pub all_back : {A : Type 0} (P : A → Type 0) (xs ys : List A) → AllHave P (xs ++ ys) → AllHave P ys
-all_back P [] ys h = h
-all_back P (x ∷ xs) ys h = all_back P xs ys h.1
+-- what has a property has another one
+pub ends_more : (allowed : Allowed) {A : Type 0} (P Q : A → Type 0) (run : Run A) → EndsIn allowed P run → ((a : A) → P a → Q a) → EndsIn allowed Q run
+ends_more allowed {A = A} P Q run h go = (h.0, by run.end h.1)
+  where
+    by : (r : Result A Stop) → Ended allowed P r → Ended allowed Q r
+    by (Ok a) g = go a g
+    by (Err s) g = g

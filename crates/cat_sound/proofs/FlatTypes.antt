@@ -23,8 +23,8 @@ use Rattle.cat_value.proofs.Equations.{has_type_Boolean, has_type_Integer, has_t
 use Rattle.cat_value.proofs.Inversions.{integer_value, decimal_value, money_value, date_value, duration_value}
 use Rattle.cat_scope.specs.Replies.{dated}
 use Rattle.cat_scope.specs.Readings as read
-use Rattle.cat_sound.specs.Endings.{EndsIn, IsOf}
-use Rattle.cat_sound.proofs.Endings.{ends_as}
+use Rattle.cat_sound.specs.Endings.{ResultsIn, IsOf}
+use Rattle.cat_sound.proofs.Results.{result_as}
 
 -- a number, a fraction, a day and a duration in their ranges
 abbrev pub Whole : ℤ → Type 0
@@ -45,42 +45,42 @@ of-Boolean ds b = has_type_Boolean ds b ty.Boolean ∙ ap is_boolean ty_view.out
 pub of-Integer : (ds : Decls) (n : ℤ) → Whole n → IsOf ds ty.Integer (flat.Integer n)
 of-Integer ds n h = has_type_Integer ds n ty.Integer ∙ ap (integer_typed n) ty_view.outs-Integer ∙ h
 
-pub reads-Integer : (ds : Decls) (v : Value) → IsOf ds ty.Integer v → EndsIn Whole (read.integer v)
+pub reads-Integer : (ds : Decls) (v : Value) → IsOf ds ty.Integer v → ResultsIn Whole (read.integer v)
 reads-Integer ds v h =
     let is = integer_value ds v h in
-    ends_as Whole (read.integer v) (Ok is.0) (ap read.integer is.1 ∙ ap read.integer_in (value.outs-Integer is.0)) is.2
+    result_as Whole (read.integer v) (Ok is.0) (ap read.integer is.1 ∙ ap read.integer_in (value.outs-Integer is.0)) is.2
 
 pub of-Decimal : (ds : Decls) (f : Fraction) → Frac f → IsOf ds ty.Decimal (flat.Decimal f)
 of-Decimal ds f h = has_type_Decimal ds f ty.Decimal ∙ ap (decimal_typed f) ty_view.outs-Decimal ∙ h
 
-pub reads-Decimal : (ds : Decls) (v : Value) → IsOf ds ty.Decimal v → EndsIn Frac (read.decimal v)
+pub reads-Decimal : (ds : Decls) (v : Value) → IsOf ds ty.Decimal v → ResultsIn Frac (read.decimal v)
 reads-Decimal ds v h =
     let is = decimal_value ds v h in
-    ends_as Frac (read.decimal v) (Ok is.0) (ap read.decimal is.1 ∙ ap read.decimal_in (value.outs-Decimal is.0)) is.2
+    result_as Frac (read.decimal v) (Ok is.0) (ap read.decimal is.1 ∙ ap read.decimal_in (value.outs-Decimal is.0)) is.2
 
 pub of-Money : (ds : Decls) (n : ℤ) → Whole n → IsOf ds ty.Money (flat.Money n)
 of-Money ds n h = has_type_Money ds n ty.Money ∙ ap (money_typed n) ty_view.outs-Money ∙ h
 
-pub reads-Money : (ds : Decls) (v : Value) → IsOf ds ty.Money v → EndsIn Whole (read.money v)
+pub reads-Money : (ds : Decls) (v : Value) → IsOf ds ty.Money v → ResultsIn Whole (read.money v)
 reads-Money ds v h =
     let is = money_value ds v h in
-    ends_as Whole (read.money v) (Ok is.0) (ap read.money is.1 ∙ ap read.money_in (value.outs-Money is.0)) is.2
+    result_as Whole (read.money v) (Ok is.0) (ap read.money is.1 ∙ ap read.money_in (value.outs-Money is.0)) is.2
 
 pub of-Date : (ds : Decls) (n : ℤ) → Day n → IsOf ds ty.Date (flat.Date n)
 of-Date ds n h = has_type_Date ds n ty.Date ∙ ap (date_typed n) ty_view.outs-Date ∙ h
 
-pub reads-Date : (ds : Decls) (v : Value) → IsOf ds ty.Date v → EndsIn Day (read.date v)
+pub reads-Date : (ds : Decls) (v : Value) → IsOf ds ty.Date v → ResultsIn Day (read.date v)
 reads-Date ds v h =
     let is = date_value ds v h in
-    ends_as Day (read.date v) (Ok is.0) (ap read.date is.1 ∙ ap read.date_in (value.outs-Date is.0)) is.2
+    result_as Day (read.date v) (Ok is.0) (ap read.date is.1 ∙ ap read.date_in (value.outs-Date is.0)) is.2
 
 pub of-Duration : (ds : Decls) (s : SpanOf) → Span s → IsOf ds ty.Duration (flat.Duration s)
 of-Duration ds s h = has_type_Duration ds s ty.Duration ∙ ap (duration_typed s) ty_view.outs-Duration ∙ h
 
-pub reads-Duration : (ds : Decls) (v : Value) → IsOf ds ty.Duration v → EndsIn Span (read.duration v)
+pub reads-Duration : (ds : Decls) (v : Value) → IsOf ds ty.Duration v → ResultsIn Span (read.duration v)
 reads-Duration ds v h =
     let is = duration_value ds v h in
-    ends_as Span (read.duration v) (Ok is.0) (ap read.duration is.1 ∙ ap read.duration_in (value.outs-Duration is.0)) is.2
+    result_as Span (read.duration v) (Ok is.0) (ap read.duration is.1 ∙ ap read.duration_in (value.outs-Duration is.0)) is.2
 
 -- a result of dates that is not refused as no day
 abbrev pub IsDated : {A : Type 0} → Result A DateFault → Type 0
@@ -90,12 +90,12 @@ IsDated (Err date.AmbiguousDate) = Unit {0}
 IsDated (Err date.Uncomparable) = Unit {0}
 IsDated (Err date.NotADay) = ⊥
 
-pub ends_dated : {A B : Type 0} (P : B → Type 0) (p : Pos) (make : A → B) (r : Result A DateFault) → IsDated r → ((a : A) → r ≡ Ok a → P (make a)) → EndsIn P (dated p make r)
-ends_dated P p make (Ok a) h go = go a refl
-ends_dated P p make (Err date.Overflow) h go = tt
-ends_dated P p make (Err date.AmbiguousDate) h go = tt
-ends_dated P p make (Err date.Uncomparable) h go = tt
-ends_dated P p make (Err date.NotADay) h go = elim h [ ]
+pub result_dated : {A B : Type 0} (P : B → Type 0) (p : Pos) (make : A → B) (r : Result A DateFault) → IsDated r → ((a : A) → r ≡ Ok a → P (make a)) → ResultsIn P (dated p make r)
+result_dated P p make (Ok a) h go = go a refl
+result_dated P p make (Err date.Overflow) h go = tt
+result_dated P p make (Err date.AmbiguousDate) h go = tt
+result_dated P p make (Err date.Uncomparable) h go = tt
+result_dated P p make (Err date.NotADay) h go = elim h [ ]
 
 if_dated : {A : Type 0} (b : Bool) (x y : Result A DateFault) → IsDated x → IsDated y → IsDated (if b then x else y)
 if_dated true x y hx hy = hx

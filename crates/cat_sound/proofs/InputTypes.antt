@@ -17,21 +17,23 @@ use Rattle.cat_value.specs.declared.declaration.Scope.{Scope}
 use Rattle.cat_value.specs.Declarations.{is_boolean}
 use Rattle.cat_value.specs.Inputs.{must_be_given, may_be_given, is_given_for, are_given_for}
 use Rattle.cat_value.proofs.Inversions.{whole}
-use Rattle.cat_scope.specs.declared.stop.Stop.{Stop}
-use Rattle.cat_scope.specs.Replies.{and_then, known}
+use Rattle.cat_scope.specs.Replies.{Reply, on_one, known}
+use Rattle.cat_scope.specs.Runs.{Run, plain, gives, giving}
 use Rattle.cat_scope.specs.Names.{Names, AllHave, is_in, inputs_given, items_in, scope_items, outputs_in, has_none}
 use Rattle.cat_scope.specs.Fitting.{given_type, input_type}
-use Rattle.cat_scope.specs.Judging.{Judged}
+use Rattle.cat_scope.specs.Judging.{Held, Judged, decided}
 use Rattle.cat_scope.specs.Targets.{absent}
 use Rattle.cat_scope.specs.Composed.{given}
 use Rattle.cat_scope.specs.Calls.{Items, Runs, Scoped, items_of, call_entry, call_input, env_of}
 use Rattle.cat_scope.specs.ItemValues.{passed, passed_input}
 use Rattle.cat_scope.specs.WellFormed.{is_internal, is_placed}
-use Rattle.cat_sound.specs.Endings.{EndsIn, IsOf, types_of, AreOutputsOf, numbers_of, IsFieldOf, IsCallable}
-use Rattle.cat_sound.proofs.Endings.{both, and_both, ends_then, ends_in_front, local_of}
+use Rattle.cat_sound.specs.Settled.{IsHeldOf}
+use Rattle.cat_sound.specs.Endings.{Allowed, Ended, EndsIn, ResultsIn, IsOf, types_of, AreOutputsOf, numbers_of, IsFieldOf, IsCallable}
+use Rattle.cat_sound.proofs.Results.{both, and_both, local_of}
+use Rattle.cat_sound.proofs.Endings.{ends_as, ends_then, ends_giving, ends_in_front}
 use Rattle.cat_sound.proofs.FlatTypes.{of-Boolean}
 use Rattle.cat_sound.proofs.FormTypes.{same_some, same_number, not_true}
-use Rattle.cat_sound.proofs.TargetTypes.{HeldOf, absent-ends}
+use Rattle.cat_sound.proofs.TargetTypes.{absent-ends}
 
 -- an item is as the rules on kinds and conditions want it
 abbrev pub Placed : ItemDecl → Type 0
@@ -107,25 +109,25 @@ types-at (item ∷ items) (suc k) o is = types-at items k o is
 
 -- an output of what a scope gives
 pub output-ends : (ds : Decls) (items : List ItemDecl) (outputs : List Value) (k : ℕ) (o : ItemDecl) → AreOutputsOf ds items outputs → slice_get (outputs_in items) k ≡ Some o
-    → EndsIn (IsOf ds o.ty) (known (slice_get outputs k))
+    → ResultsIn (IsOf ds o.ty) (known (slice_get outputs k))
 output-ends ds items outputs k o are is = local_of ds (types_of (outputs_in items)) outputs k o.ty are (types-at (outputs_in items) k o is)
 
 -- a scope that is called: a well-typed input of it ends in values of its outputs
-pub record Callee (ds : Decls) (runs : Runs) (s : ℕ) : Type 0 where
+pub record Callee (allowed : Allowed) (ds : Decls) (runs : Runs) (s : ℕ) : Type 0 where
   pub scope : Scope
   pub there : slice_get ds.scopes s ≡ Some scope
   pub placed : AllHave Placed scope.items
-  pub ends : (input : Items) → IsTrue (are_given_for ds scope.items input) → EndsIn (AreOutputsOf ds scope.items) (runs s input)
+  pub ends : (input : Items) → IsTrue (are_given_for ds scope.items input) → EndsIn allowed (AreOutputsOf ds scope.items) (runs s input)
 
-pub scope_call-ends : (ns : Names) (scoped : Scoped) (calls : ℕ → List Value → Result Value Stop) (values : Items) (s : ℕ) → scoped.scopes ≡ ns.decls.scopes → Callee ns.decls scoped.runs s
-    → IsCallable ns (env_of scoped calls values) s
-scope_call-ends ns scoped calls values s same callee fs k t typed complete output =
+pub scope_call-ends : (allowed : Allowed) → (ns : Names) (scoped : Scoped) (calls : ℕ → List Value → Run Value) (values : Items) (s : ℕ) → scoped.scopes ≡ ns.decls.scopes → Callee allowed ns.decls scoped.runs s
+    → IsCallable allowed ns (env_of scoped calls values) s
+scope_call-ends allowed ns scoped calls values s same callee fs k t typed complete output =
     let here : items_of scoped s ≡ callee.scope.items = ap items_in (ap (λ ss. slice_get ss s) same ∙ callee.there) in
     let items : scope_items ns.decls s ≡ callee.scope.items = ap items_in callee.there in
     let input = call_input-typed ns.decls 0 fs callee.scope.items callee.placed (fits callee.scope.items items) (subst (λ xs. IsTrue (inputs_given 0 xs (numbers_of fs))) items (both _ _ complete).1) in
-    ends_then (AreOutputsOf ns.decls callee.scope.items) (IsOf ns.decls t) (scoped.runs s (call_input 0 fs (items_of scoped s))) _
-    (subst (λ xs. EndsIn (AreOutputsOf ns.decls callee.scope.items) (scoped.runs s (call_input 0 fs xs))) (sym here) (callee.ends (call_input 0 fs callee.scope.items) input))
-    (λ outputs are. subst (λ u. EndsIn (IsOf ns.decls u) (known (slice_get outputs k))) (sym output.2)
+    ends_giving allowed (AreOutputsOf ns.decls callee.scope.items) (IsOf ns.decls t) (scoped.runs s (call_input 0 fs (items_of scoped s))) (λ outputs. known (slice_get outputs k))
+    (subst (λ xs. EndsIn allowed (AreOutputsOf ns.decls callee.scope.items) (scoped.runs s (call_input 0 fs xs))) (sym here) (callee.ends (call_input 0 fs callee.scope.items) input))
+    (λ outputs are. subst (λ u. ResultsIn (IsOf ns.decls u) (known (slice_get outputs k))) (sym output.2)
     (output-ends ns.decls callee.scope.items outputs k output.0 are (sym (ap (λ xs. slice_get (outputs_in xs) k) items) ∙ output.1)))
   where
     fits : (items : List ItemDecl) → scope_items ns.decls s ≡ items → (j : ℕ) (i : ItemDecl) → slice_get items j ≡ Some i → FieldFits ns.decls i (given (0 + j) fs)
@@ -136,17 +138,23 @@ scope_call-ends ns scoped calls values s same callee fs k t typed complete outpu
 
 -- ---- called scopes
 
-passed-ends : (ds : Decls) (target : Target) (place : Pos) (decl : ItemDecl) (r : Judged Value) → Placed decl → IsTrue (may_be_given decl.kind) → EndsIn (HeldOf ds decl.ty) r
-    → EndsIn (λ o. IsTrue (is_given_for ds decl o)) (passed target place decl r)
-passed-ends ds target place decl (Ok None) placed may h = by (must_be_given decl.kind) refl
+passed-ends : (allowed : Allowed) → (ds : Decls) (target : Target) (place : Pos) (decl : ItemDecl) (found : Option (Held Value)) → Placed decl → IsTrue (may_be_given decl.kind)
+    → IsHeldOf (allowed.may_stop target || (decl.condition || not (must_be_given decl.kind))) ds decl.ty found → Ended allowed (λ o. IsTrue (is_given_for ds decl o)) (passed target place decl found)
+passed-ends allowed ds target place decl None placed may h = by (must_be_given decl.kind) refl h
   where
-    by : (b : Bool) → must_be_given decl.kind ≡ b → EndsIn (λ o. IsTrue (is_given_for ds decl o)) (if b then and_then (absent target place decl.condition) (λ v. Ok (Some v)) else Ok None)
-    by true e =
-        ends_then (IsOf ds decl.ty) (λ o. IsTrue (is_given_for ds decl o)) (absent target place decl.condition) _
-        (absent-ends ds decl.ty target place decl.condition (condition_type decl placed)) (λ v hv. and_both _ _ may hv)
-    by false e = ap not e
-passed-ends ds target place decl (Ok (Some held)) placed may h = and_both _ _ may h
-passed-ends ds target place decl (Err stop) placed may h = h
+    no_more : (a b : Bool) → IsTrue (a || (b || false)) → IsTrue (a || b)
+    no_more true b h = refl
+    no_more false true h = refl
+    no_more false false h = h
+
+    as_given : (r : Reply) → Ended allowed (IsOf ds decl.ty) r → Ended allowed (λ o. IsTrue (is_given_for ds decl o)) (on_one r (λ v. Ok (Some v)))
+    as_given (Ok v) g = and_both _ _ may g
+    as_given (Err s) g = g
+
+    by : (b : Bool) → must_be_given decl.kind ≡ b → IsTrue (allowed.may_stop target || (decl.condition || not b)) → Ended allowed (λ o. IsTrue (is_given_for ds decl o)) (if b then on_one (absent target place decl.condition) (λ v. Ok (Some v)) else Ok None)
+    by true e g = as_given (absent target place decl.condition) (absent-ends allowed ds decl.ty target place decl.condition (condition_type decl placed) (no_more (allowed.may_stop target) decl.condition g))
+    by false e g = ap not e
+passed-ends allowed ds target place decl (Some held) placed may h = and_both _ _ may h
 
 not_given : (k : Kind) → may_be_given k ≡ false → must_be_given k ≡ false
 not_given kind.Input h = absurd (true≢false h)
@@ -157,16 +165,19 @@ not_given kind.Internal h = refl
 not_given kind.Output h = refl
 not_given (kind.Called scope) h = refl
 
-pub passed_input-ends : (ds : Decls) (judged_at : ℕ → Judged Value) (target_at : ℕ → Target) (place : Pos) (n : ℕ) (decls : List ItemDecl) → AllHave Placed decls
-    → ((j : ℕ) (i : ItemDecl) → slice_get decls j ≡ Some i → IsTrue (may_be_given i.kind) → EndsIn (HeldOf ds i.ty) (judged_at (n + j)))
-    → EndsIn (λ input. IsTrue (are_given_for ds decls input)) (passed_input judged_at target_at place n decls)
-passed_input-ends ds judged_at target_at place n [] placed each = refl
-passed_input-ends ds judged_at target_at place n (decl ∷ decls) placed each =
-    ends_in_front (λ o. IsTrue (is_given_for ds decl o)) (λ input. IsTrue (are_given_for ds decls input)) (λ input. IsTrue (are_given_for ds (decl ∷ decls) input)) _ _
+pub passed_input-ends : (allowed : Allowed) → (ds : Decls) (judged_at : ℕ → Judged Value) (target_at : ℕ → Target) (place : Pos) (n : ℕ) (decls : List ItemDecl) → AllHave Placed decls
+    → ((j : ℕ) (i : ItemDecl) → slice_get decls j ≡ Some i → IsTrue (may_be_given i.kind) → EndsIn allowed (IsHeldOf (allowed.may_stop (target_at (n + j)) || (i.condition || not (must_be_given i.kind))) ds i.ty) (decided (target_at (n + j)) (judged_at (n + j))))
+    → EndsIn allowed (λ input. IsTrue (are_given_for ds decls input)) (passed_input judged_at target_at place n decls)
+passed_input-ends allowed ds judged_at target_at place n [] placed each = (tt, refl)
+passed_input-ends allowed ds judged_at target_at place n (decl ∷ decls) placed each =
+    ends_in_front allowed (λ o. IsTrue (is_given_for ds decl o)) (λ input. IsTrue (are_given_for ds decls input)) (λ input. IsTrue (are_given_for ds (decl ∷ decls) input)) _ _
     (by (may_be_given decl.kind) refl)
-    (passed_input-ends ds judged_at target_at place (n + 1) decls placed.1 (λ j i is may. subst (λ (m : ℕ). EndsIn (HeldOf ds i.ty) (judged_at m)) (omega arith) (each (suc j) i is may)))
+    (passed_input-ends allowed ds judged_at target_at place (n + 1) decls placed.1 (λ j i is may. subst (λ (m : ℕ). EndsIn allowed (IsHeldOf (allowed.may_stop (target_at m) || (i.condition || not (must_be_given i.kind))) ds i.ty) (decided (target_at m) (judged_at m))) (omega arith) (each (suc j) i is may)))
     (λ o input ho hi. and_both _ _ ho hi)
   where
-    by : (b : Bool) → may_be_given decl.kind ≡ b → EndsIn (λ o. IsTrue (is_given_for ds decl o)) (if b then passed (target_at n) place decl (judged_at n) else Ok None)
-    by true e = passed-ends ds (target_at n) place decl (judged_at n) placed.0 e (subst (λ (m : ℕ). EndsIn (HeldOf ds decl.ty) (judged_at m)) (omega arith) (each 0 decl refl e))
-    by false e = ap not (not_given decl.kind e)
+    by : (b : Bool) → may_be_given decl.kind ≡ b → EndsIn allowed (λ o. IsTrue (is_given_for ds decl o)) (if b then giving (decided (target_at n) (judged_at n)) (passed (target_at n) place decl) else gives None)
+    by true e =
+        ends_then allowed (IsHeldOf (allowed.may_stop (target_at n) || (decl.condition || not (must_be_given decl.kind))) ds decl.ty) (λ o. IsTrue (is_given_for ds decl o)) (decided (target_at n) (judged_at n)) (λ found. plain (passed (target_at n) place decl found))
+        (subst (λ (m : ℕ). EndsIn allowed (IsHeldOf (allowed.may_stop (target_at m) || (decl.condition || not (must_be_given decl.kind))) ds decl.ty) (decided (target_at m) (judged_at m))) (omega arith) (each 0 decl refl e))
+        (λ found is. (tt, passed-ends allowed ds (target_at n) place decl found placed.0 e is))
+    by false e = (tt, ap not (not_given decl.kind e))

@@ -8,6 +8,7 @@ pub mod TargetLaws
 pub mod Cycles
 pub mod ForestLaws
 pub mod JudgeLaws
+pub mod Results
 pub mod Endings
 pub mod Fits
 pub mod FlatTypes

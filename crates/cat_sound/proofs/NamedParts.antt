@@ -1,5 +1,5 @@
 -- An environment that has what an expression names has what its parts name.
-use Rattle.std.proofs.Common.{◌≡◌, ℕ, List, [], ◌∷◌, ◌++◌, map, Option, Some, None, subst}
+use Rattle.std.proofs.Common.{Bool, ◌≡◌, ℕ, List, [], ◌∷◌, ◌++◌, map, Option, Some, None, subst}
 use Rattle.cat_scope.specs.declared.expr.Expr.{Expr}
 use Rattle.cat_scope.specs.declared.expr.FieldValue.{FieldValue}
 use Rattle.cat_scope.specs.declared.expr.Arm.{Arm}
@@ -10,8 +10,8 @@ use Rattle.cat_scope.specs.Names.{Names}
 use Rattle.cat_scope.specs.Names.{AllHave}
 use Rattle.cat_scope.specs.Mentions.{joined, in_parts, own_item, own_scope, named_by}
 use Rattle.cat_scope.specs.Eval.{Env}
-use Rattle.cat_sound.specs.Endings.{IsReady, IsCallable, IsEnvOf}
-use Rattle.cat_sound.proofs.Endings.{all_front, all_back}
+use Rattle.cat_sound.specs.Endings.{Allowed, IsReady, IsCallable, IsEnvOf}
+use Rattle.cat_sound.proofs.Results.{all_front, all_back}
 use Rattle.cat_scope.proofs.Namings.{Own, of_form, field, arm, field_is, arm_is, levels}
 
 abbrev Numbers : Type 0
@@ -125,18 +125,18 @@ module _ (own : Own) where
     pub parts : (e : Expr) (y : Expr-F Expr Arm FieldValue) → out-Expr e ≡ y → AllHave P (named e) → AllHave (λ x. AllHave P (named x)) (parts_of y)
     parts e y is h = each_part y (all_back P (own (opened y)) (in_parts (opened y)) (seen e y is h))
 
-paired : (ns : Names) (env : Env) (es : List Expr) → AllHave (λ e. AllHave (IsReady ns env) (named_by own_item e)) es → AllHave (λ e. AllHave (IsCallable ns env) (named_by own_scope e)) es
-    → AllHave (IsEnvOf ns env) es
-paired ns env [] items scopes = tt
-paired ns env (e ∷ es) items scopes = (record { items = items.0; scopes = scopes.0 }, paired ns env es items.1 scopes.1)
+paired : (allowed : Allowed) → (ns : Names) (env : Env) (es : List Expr) → AllHave (λ e. AllHave (IsReady allowed ns env) (named_by own_item e)) es → AllHave (λ e. AllHave (IsCallable allowed ns env) (named_by own_scope e)) es
+    → AllHave (IsEnvOf allowed ns env) es
+paired allowed ns env [] items scopes = tt
+paired allowed ns env (e ∷ es) items scopes = (record { items = items.0; scopes = scopes.0 }, paired allowed ns env es items.1 scopes.1)
 
 -- an environment of an expression is one of its parts
-pub env_parts : (ns : Names) (env : Env) (e : Expr) (y : Expr-F Expr Arm FieldValue) → out-Expr e ≡ y → IsEnvOf ns env e → AllHave (IsEnvOf ns env) (parts_of y)
-env_parts ns env e y is h = paired ns env (parts_of y) (parts own_item (IsReady ns env) e y is h.items) (parts own_scope (IsCallable ns env) e y is h.scopes)
+pub env_parts : (allowed : Allowed) → (ns : Names) (env : Env) (e : Expr) (y : Expr-F Expr Arm FieldValue) → out-Expr e ≡ y → IsEnvOf allowed ns env e → AllHave (IsEnvOf allowed ns env) (parts_of y)
+env_parts allowed ns env e y is h = paired allowed ns env (parts_of y) (parts own_item (IsReady allowed ns env) e y is h.items) (parts own_scope (IsCallable allowed ns env) e y is h.scopes)
 
 -- and has the item, the function or the scope that the expression names itself
-pub env_item : (ns : Names) (env : Env) (e : Expr) (y : Expr-F Expr Arm FieldValue) → out-Expr e ≡ y → IsEnvOf ns env e → AllHave (IsReady ns env) (own_item (opened own_item y))
-env_item ns env e y is h = itself own_item (IsReady ns env) e y is h.items
+pub env_item : (allowed : Allowed) → (ns : Names) (env : Env) (e : Expr) (y : Expr-F Expr Arm FieldValue) → out-Expr e ≡ y → IsEnvOf allowed ns env e → AllHave (IsReady allowed ns env) (own_item (opened own_item y))
+env_item allowed ns env e y is h = itself own_item (IsReady allowed ns env) e y is h.items
 
-pub env_scope : (ns : Names) (env : Env) (e : Expr) (y : Expr-F Expr Arm FieldValue) → out-Expr e ≡ y → IsEnvOf ns env e → AllHave (IsCallable ns env) (own_scope (opened own_scope y))
-env_scope ns env e y is h = itself own_scope (IsCallable ns env) e y is h.scopes
+pub env_scope : (allowed : Allowed) → (ns : Names) (env : Env) (e : Expr) (y : Expr-F Expr Arm FieldValue) → out-Expr e ≡ y → IsEnvOf allowed ns env e → AllHave (IsCallable allowed ns env) (own_scope (opened own_scope y))
+env_scope allowed ns env e y is h = itself own_scope (IsCallable allowed ns env) e y is h.scopes

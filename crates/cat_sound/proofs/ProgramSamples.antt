@@ -5,23 +5,20 @@ use Rattle.cat_value.specs.declared.value.Value.TheViews as value
 use Rattle.cat_value.specs.declared.outcome.Outcome.TheVariants as outcome
 use Rattle.cat_scope.specs.declared.forest.ForestTarget.{ForestTarget}
 use Rattle.cat_scope.specs.Targets.{judge_target}
-use Rattle.cat_scope.specs.Running.{reply_of}
-use Rattle.cat_scope.specs.Outcomes.{scope_outcome}
-use Rattle.cat_scope.specs.LoggedTargets.{logged_target}
-use Rattle.cat_scope.specs.Deciders.{logged_reply_of, deciders}
+use Rattle.cat_scope.specs.Running.{run_of}
+use Rattle.cat_scope.specs.Outcomes.{scope_outcome, deciders}
 use Rattle.cat_scope.specs.Forests.{StandsFor}
 use Rattle.cat_scope.proofs.Equations.{equations}
-use Rattle.cat_scope.proofs.LogEquations.{log_equations}
 use Rattle.cat_scope.proofs.Samples.{at, variable}
 use Rattle.cat_sound.proofs.WellFormedCalls.{program}
 
 its_outcome : scope_outcome program 1 (Some (flat.Integer (pos 3)) ∷ None ∷ None ∷ []) ≡ Some (outcome.Value (flat.Integer (pos 3) ∷ []))
-unfolding reply_of judge_target
+unfolding run_of judge_target
 its_outcome = search (rules, equations, value.the_lemmas)
 
 its_deciders : deciders program 0 (None ∷ []) ≡ record { target = variable 0 0; by = Some (at 10 3) } ∷ []
-unfolding logged_reply_of logged_target
-its_deciders = search (rules, log_equations, value.the_lemmas)
+unfolding run_of judge_target
+its_deciders = search (rules, equations, value.the_lemmas)
 
 -- the forest of S: the context of the called scope, and then the output
 abbrev forest : List ForestTarget

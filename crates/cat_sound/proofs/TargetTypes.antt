@@ -1,5 +1,5 @@
 -- A target whose definitions are well typed is judged to a value of its type, to nothing, or to a stop that an outcome may be.
-use Rattle.std.proofs.Common.{◌≡◌, ℕ, zero, suc, ◌+◌, Bool, true, false, IsTrue, List, [], ◌∷◌, map, length, Option, Some, None, Ok, Err, slice_get, refl, sym, ap, ◌∙◌, subst, arith, true≢false, if◌then◌else◌}
+use Rattle.std.proofs.Common.{◌≡◌, ℕ, zero, suc, ◌+◌, Bool, true, false, IsTrue, ◌||◌, List, [], ◌∷◌, map, length, Option, Some, None, Result, Ok, Err, slice_get, refl, sym, ap, ◌∙◌, subst, arith, true≢false, if◌then◌else◌}
 use Rattle.std.specs.Prelude.{nat_eq}
 use Rattle.std.proofs.lemmas.Option.{slice_get_within}
 use Rattle.cat_pos.specs.declared.pos.Pos.{Pos}
@@ -13,64 +13,64 @@ use Rattle.cat_scope.specs.declared.expr.Expr.{Expr}
 use Rattle.cat_scope.specs.declared.defs.Except.{Except}
 use Rattle.cat_scope.specs.declared.defs.Except.TheVariants as except
 use Rattle.cat_scope.specs.declared.defs.Def.{Def}
-use Rattle.cat_scope.specs.Replies.{Reply, and_then}
+use Rattle.cat_scope.specs.Replies.{Reply}
+use Rattle.cat_scope.specs.Runs.{Run, plain, gives, behind, and_then}
+use Rattle.cat_scope.specs.declared.stop.Stop.{Stop}
 use Rattle.cat_scope.specs.Groups.{Numbered, Key, Group, key_of, same_key, is_among, with_key, group_at, groups_from, groups_of, numbers_of, is_none, roots_of, target_of, paired, pairs_from, excepts, excepting}
-use Rattle.cat_scope.specs.Judging.{Held, Judged, with_held, holding, alone, settle, or_else, judge}
+use Rattle.cat_scope.specs.Judging.{Held, Judged, with_held, holding, alone, settle, found_or, or_else, judge, place_in, decided}
 use Rattle.cat_scope.specs.Names.{AllHave}
 use Rattle.cat_scope.specs.Targets.{same_target, defs_from, condition_of, held_as, judge_def, judge_own, judge_groups, judge_target, absent, value_or}
-use Rattle.cat_sound.specs.Endings.{EndsIn, IsOf}
-use Rattle.cat_sound.proofs.Endings.{ends_as, ends_then, ends_choose}
+use Rattle.cat_sound.specs.Endings.{Allowed, IsDecision, Ended, EndsIn, IsOf}
+use Rattle.cat_sound.specs.Settled.{IsHeldOf, MayStand}
+use Rattle.cat_sound.proofs.Endings.{all_both, ends_as, ends_then, ends_choose}
 use Rattle.cat_sound.proofs.FlatTypes.{of-Boolean}
 use Rattle.cat_sound.proofs.FormTypes.{same_some, same_number}
 use Rattle.cat_sound.proofs.Trails.{Trail, trail_short}
 
--- nothing, or a definition that holds with a value of a type
-abbrev pub HeldOf : Decls → Ty → Option (Held Value) → Type 0
-HeldOf ds t None = Unit {0}
-HeldOf ds t (Some h) = IsOf ds t h.value
-
 -- a definition has a boolean condition and a value of a type
-pub record DefEnds (ds : Decls) (t : Ty) (value : Expr → Reply) (d : Def) : Type 0 where
-  pub condition : EndsIn (IsOf ds flat_ty.Boolean) (condition_of value d.condition)
-  pub consequence : EndsIn (IsOf ds t) (value d.consequence)
+pub record DefEnds (allowed : Allowed) (ds : Decls) (t : Ty) (value : Expr → Run Value) (d : Def) : Type 0 where
+  pub condition : EndsIn allowed (IsOf ds flat_ty.Boolean) (condition_of value d.condition)
+  pub consequence : EndsIn allowed (IsOf ds t) (value d.consequence)
 
 -- ---- lists of what is judged
 
-module _ (ds : Decls) (t : Ty) where
+module _ (allowed : Allowed) (ds : Decls) (t : Ty) where
   abbrev JudgedOf : Judged Value → Type 0
-  JudgedOf r = EndsIn (HeldOf ds t) r
+  JudgedOf r = EndsIn allowed (IsHeldOf true ds t) r
 
   abbrev AllOf : List (Held Value) → Type 0
   AllOf hs = AllHave (λ h. IsOf ds t h.value) hs
 
-  with-held : (one : Option (Held Value)) (more : List (Held Value)) → HeldOf ds t one → AllOf more → AllOf (with_held one more)
+  with-held : (one : Option (Held Value)) (more : List (Held Value)) → IsHeldOf true ds t one → AllOf more → AllOf (with_held one more)
   with-held None more h all = all
   with-held (Some one) more h all = (h, all)
 
-  holding-ends : (rs : List (Judged Value)) → AllHave JudgedOf rs → EndsIn AllOf (holding rs)
-  holding-ends [] h = tt
+  holding-ends : (rs : List (Judged Value)) → AllHave JudgedOf rs → EndsIn allowed AllOf (holding rs)
+  holding-ends [] h = (tt, tt)
   holding-ends (r ∷ rs) h =
-      ends_then (HeldOf ds t) AllOf r _ h.0
-      (λ one ho. ends_then AllOf AllOf (holding rs) _ (holding-ends rs h.1) (λ more hm. with-held one more ho hm))
+      ends_then allowed (IsHeldOf true ds t) AllOf r _ h.0
+      (λ one ho. ends_then allowed AllOf AllOf (holding rs) _ (holding-ends rs h.1) (λ more hm. (tt, with-held one more ho hm)))
 
-  alone-ends : (place : Target) (hs : List (Held Value)) → AllOf hs → JudgedOf (alone place hs)
-  alone-ends place [] h = tt
-  alone-ends place (one ∷ []) h = h.0
-  alone-ends place (one ∷ two ∷ hs) h = tt
+  alone-ends : (place : Target) → IsTrue (allowed.may_stop place) → (hs : List (Held Value)) → AllOf hs → Ended allowed (IsHeldOf true ds t) (alone place hs)
+  alone-ends place free [] h = refl
+  alone-ends place free (one ∷ []) h = h.0
+  alone-ends place free (one ∷ two ∷ hs) h = free
 
-  settle-ends : (place : Target) (rs : List (Judged Value)) → AllHave JudgedOf rs → JudgedOf (settle place rs)
-  settle-ends place rs h = ends_then AllOf (HeldOf ds t) (holding rs) (alone place) (holding-ends rs h) (λ hs all. alone-ends place hs all)
+  settle-ends : (place : Target) → IsTrue (allowed.may_stop place) → (rs : List (Judged Value)) → AllHave JudgedOf rs → JudgedOf (settle place rs)
+  settle-ends place free rs h = ends_then allowed AllOf (IsHeldOf true ds t) (holding rs) (λ hs. plain (alone place hs)) (holding-ends rs h) (λ hs all. (tt, alone-ends place free hs all))
 
   or_else-ends : (r other : Judged Value) → JudgedOf r → JudgedOf other → JudgedOf (or_else r other)
-  or_else-ends (Ok (Some h)) other is also = is
-  or_else-ends (Ok None) other is also = also
-  or_else-ends (Err stop) other is also = is
+  or_else-ends r other is also = ends_then allowed (IsHeldOf true ds t) (IsHeldOf true ds t) r (λ found. found_or found other) is by
+    where
+      by : (found : Option (Held Value)) → IsHeldOf true ds t found → JudgedOf (found_or found other)
+      by (Some h) holds = (tt, holds)
+      by None holds = also
 
-  def-ends : (value : Expr → Reply) (d : Numbered) → DefEnds ds t value d.1 → JudgedOf (judge_def value d)
+  def-ends : (value : Expr → Run Value) (d : Numbered) → DefEnds allowed ds t value d.1 → JudgedOf (judge_def value d)
   def-ends value d is =
-      ends_then (IsOf ds flat_ty.Boolean) (HeldOf ds t) (condition_of value d.1.condition) _ is.condition
-      (λ c hc. ends_choose (HeldOf ds t) ds c (and_then (value d.1.consequence) (held_as d)) (Ok None) hc
-      (ends_then (IsOf ds t) (HeldOf ds t) (value d.1.consequence) (held_as d) is.consequence (λ v hv. hv)) tt)
+      ends_then allowed (IsOf ds flat_ty.Boolean) (IsHeldOf true ds t) (condition_of value d.1.condition) _ is.condition
+      (λ c hc. ends_choose allowed (IsHeldOf true ds t) ds c (and_then (value d.1.consequence) (λ v. gives (Some (held_as d v)))) (gives None) hc
+      (ends_then allowed (IsOf ds t) (IsHeldOf true ds t) (value d.1.consequence) (λ v. gives (Some (held_as d v))) is.consequence (λ v hv. (tt, hv))) (tt, refl))
 
 -- ---- groups
 
@@ -95,7 +95,7 @@ with_key-all P key (d ∷ ds) h = by (same_key key (key_of d)) (with_key-all P k
     by true rest = (h.0, rest)
     by false rest = rest
 
-groups-all : (P : Numbered → Type 0) (all : List Numbered) (seen : List Key) (ds : List Numbered) → AllHave P all → AllHave (λ g. AllHave P g.defs) (groups_from all seen ds)
+pub groups-all : (P : Numbered → Type 0) (all : List Numbered) (seen : List Key) (ds : List Numbered) → AllHave P all → AllHave (λ g. AllHave P g.defs) (groups_from all seen ds)
 groups-all P all seen [] h = tt
 groups-all P all seen (d ∷ ds) h = by (is_among (key_of d) seen) (groups-all P all seen ds h) (groups-all P all (key_of d ∷ seen) ds h)
   where
@@ -120,13 +120,13 @@ record Excepting (all : List Group) (n : ℕ) (gs : List Group) (h k : ℕ) : Ty
   there : slice_get gs place ≡ Some group
   excepted : target_of all group.except ≡ Some h
 
-behind : (all : List Group) (n : ℕ) (g : Group) (gs : List Group) (h k : ℕ) → Excepting all (n + 1) gs h k → Excepting all n (g ∷ gs) h k
-behind all n g gs h k e = let is = e.is in record { place = suc e.place; group = e.group; is = omega arith; there = e.there; excepted = e.excepted }
+one_further : (all : List Group) (n : ℕ) (g : Group) (gs : List Group) (h k : ℕ) → Excepting all (n + 1) gs h k → Excepting all n (g ∷ gs) h k
+one_further all n g gs h k e = let is = e.is in record { place = suc e.place; group = e.group; is = omega arith; there = e.there; excepted = e.excepted }
 
 excepting-all : (all : List Group) (n : ℕ) (gs : List Group) (h : ℕ) → AllHave (Excepting all n gs h) (excepting (pairs_from all n gs) h)
 excepting-all all n [] h = tt
 excepting-all all n (g ∷ gs) h =
-    by (target_of all g.except) refl (all_more (Excepting all (n + 1) gs h) (Excepting all n (g ∷ gs) h) (excepting (pairs_from all (n + 1) gs) h) (excepting-all all (n + 1) gs h) (behind all n g gs h))
+    by (target_of all g.except) refl (all_more (Excepting all (n + 1) gs h) (Excepting all n (g ∷ gs) h) (excepting (pairs_from all (n + 1) gs) h) (excepting-all all (n + 1) gs h) (one_further all n g gs h))
   where
     if_same : (m : ℕ) (b : Bool) → nat_eq m h ≡ b → target_of all g.except ≡ Some m → AllHave (Excepting all n (g ∷ gs) h) (excepting (pairs_from all (n + 1) gs) h)
         → AllHave (Excepting all n (g ∷ gs) h) (if b then n ∷ excepting (pairs_from all (n + 1) gs) h else excepting (pairs_from all (n + 1) gs) h)
@@ -164,15 +164,15 @@ no_target groups (except.Named label pos) h = absurd (true≢false (sym h))
 
 -- ---- judging groups and targets
 
-module _ (ds : Decls) (t : Ty) (value : Expr → Reply) (place : Target) (groups : List Group) (each : AllHave (λ g. AllHave (λ d. DefEnds ds t value d.1) g.defs) groups) where
+module _ (allowed : Allowed) (ds : Decls) (t : Ty) (value : Expr → Run Value) (place : Target) (free : IsTrue (allowed.may_stop place)) (groups : List Group) (each : AllHave (λ g. AllHave (λ d. DefEnds allowed ds t value d.1) g.defs) groups) where
   abbrev own : ℕ → Judged Value
   own g = judge_own value place (slice_get groups g)
 
-  own-ends : (g : ℕ) (group : Group) → slice_get groups g ≡ Some group → EndsIn (HeldOf ds t) (own g)
+  own-ends : (g : ℕ) (group : Group) → slice_get groups g ≡ Some group → EndsIn allowed (IsHeldOf true ds t) (own g)
   own-ends g group is =
-      ends_as (HeldOf ds t) (own g) (settle place (map (judge_def value) group.defs)) (ap (judge_own value place) is)
-      (settle-ends ds t place (map (judge_def value) group.defs)
-      (all_map (λ d. DefEnds ds t value d.1) (EndsIn (HeldOf ds t)) (judge_def value) group.defs (all_at (λ g. AllHave (λ d. DefEnds ds t value d.1) g.defs) groups g group each is) (def-ends ds t value)))
+      ends_as allowed (IsHeldOf true ds t) (own g) (settle place (map (judge_def value) group.defs)) (ap (judge_own value place) is)
+      (settle-ends allowed ds t place free (map (judge_def value) group.defs)
+      (all_map (λ d. DefEnds allowed ds t value d.1) (EndsIn allowed (IsHeldOf true ds t)) (judge_def value) group.defs (all_at (λ g. AllHave (λ d. DefEnds allowed ds t value d.1) g.defs) groups g group each is) (def-ends allowed ds t value)))
 
   -- a group from which a trail of exceptions leads to a root
   record Reached (n g : ℕ) : Type 0 where
@@ -195,15 +195,15 @@ module _ (ds : Decls) (t : Ty) (value : Expr → Reply) (place : Target) (groups
         left = omega arith;
       }
 
-  judge-ends : (n g : ℕ) → Reached n g → EndsIn (HeldOf ds t) (judge place (excepts groups) own n g)
+  judge-ends : (n g : ℕ) → Reached n g → EndsIn allowed (IsHeldOf true ds t) (judge place (excepts groups) own n g)
   judge-ends zero g from =
       let left = from.left in
       let short = trail_short (next groups) (length groups) g from.rest from.trail in
       absurd (omega arith)
   judge-ends (suc n) g from =
-      or_else-ends ds t (settle place (map (judge place (excepts groups) own n) (excepting (excepts groups) g))) (own g)
-      (settle-ends ds t place (map (judge place (excepts groups) own n) (excepting (excepts groups) g))
-      (all_map (Excepting groups 0 groups g) (EndsIn (HeldOf ds t)) (judge place (excepts groups) own n) (excepting (excepts groups) g) (excepting-all groups 0 groups g)
+      or_else-ends allowed ds t (settle place (map (judge place (excepts groups) own n) (excepting (excepts groups) g))) (own g)
+      (settle-ends allowed ds t place free (map (judge place (excepts groups) own n) (excepting (excepts groups) g))
+      (all_map (Excepting groups 0 groups g) (EndsIn allowed (IsHeldOf true ds t)) (judge place (excepts groups) own n) (excepting (excepts groups) g) (excepting-all groups 0 groups g)
       (λ k e. judge-ends n k (further n g from k e))))
       (own-ends g from.group from.there)
 
@@ -219,14 +219,14 @@ module _ (ds : Decls) (t : Ty) (value : Expr → Reply) (place : Target) (groups
         left = omega arith;
       }
 
-  judge_groups-ends : EndsIn (HeldOf ds t) (judge_groups value place groups)
+  judge_groups-ends : EndsIn allowed (IsHeldOf true ds t) (judge_groups value place groups)
   judge_groups-ends =
-      settle-ends ds t place (map (judge place (excepts groups) own (length groups)) (roots_of groups))
-      (all_map (Passing (λ g. is_none g.except) 0 groups) (EndsIn (HeldOf ds t)) (judge place (excepts groups) own (length groups)) (roots_of groups) (passing-all (λ g. is_none g.except) 0 groups)
+      settle-ends allowed ds t place free (map (judge place (excepts groups) own (length groups)) (roots_of groups))
+      (all_map (Passing (λ g. is_none g.except) 0 groups) (EndsIn allowed (IsHeldOf true ds t)) (judge place (excepts groups) own (length groups)) (roots_of groups) (passing-all (λ g. is_none g.except) 0 groups)
       (λ k e. judge-ends (length groups) k (root_reached k e)))
 
 -- what holds of the definitions of a target
-defs-all : (P : Def → Type 0) (target : Target) (n : ℕ) (defs : List Def) → AllHave (λ d. IsTrue (same_target d.target target) → P d) defs → AllHave (λ d. P d.1) (defs_from target n defs)
+pub defs-all : (P : Def → Type 0) (target : Target) (n : ℕ) (defs : List Def) → AllHave (λ d. IsTrue (same_target d.target target) → P d) defs → AllHave (λ d. P d.1) (defs_from target n defs)
 defs-all P target n [] h = tt
 defs-all P target n (d ∷ defs) h = by (same_target d.target target) refl (defs-all P target (n + 1) defs h.1)
   where
@@ -235,19 +235,32 @@ defs-all P target n (d ∷ defs) h = by (same_target d.target target) refl (defs
     by true e rest = (h.0 e, rest)
     by false e rest = rest
 
-pub judge_target-ends : (ds : Decls) (t : Ty) (value : Expr → Reply) (target : Target) (defs : List Def) → AllHave (λ d. IsTrue (same_target d.target target) → DefEnds ds t value d) defs
-    → EndsIn (HeldOf ds t) (judge_target value target defs)
+pub judge_target-ends : (allowed : Allowed) → (ds : Decls) (t : Ty) (value : Expr → Run Value) (target : Target) → IsTrue (allowed.may_stop target) → (defs : List Def) → AllHave (λ d. IsTrue (same_target d.target target) → DefEnds allowed ds t value d) defs
+    → EndsIn allowed (IsHeldOf true ds t) (judge_target value target defs)
 unfolding judge_target
-judge_target-ends ds t value target defs h =
+judge_target-ends allowed ds t value target free defs h =
     let all = defs_from target 0 defs in
-    judge_groups-ends ds t value target (groups_of all) (groups-all (λ d. DefEnds ds t value d.1) all [] all (defs-all (DefEnds ds t value) target 0 defs h))
+    judge_groups-ends allowed ds t value target free (groups_of all) (groups-all (λ d. DefEnds allowed ds t value d.1) all [] all (defs-all (DefEnds allowed ds t value) target 0 defs h))
 
 -- in place of a value where no definition holds; a condition is a boolean
-pub absent-ends : (ds : Decls) (t : Ty) (target : Target) (place : Pos) (condition : Bool) → (IsTrue condition → t ≡ flat_ty.Boolean) → EndsIn (IsOf ds t) (absent target place condition)
-absent-ends ds t target place true is = subst (λ u. IsOf ds u (flat.Boolean false)) (sym (is refl)) (of-Boolean ds false)
-absent-ends ds t target place false is = tt
+pub absent-ends : (allowed : Allowed) → (ds : Decls) (t : Ty) (target : Target) (place : Pos) (condition : Bool) → (IsTrue condition → t ≡ flat_ty.Boolean) → IsTrue (allowed.may_stop target || condition)
+    → Ended allowed (IsOf ds t) (absent target place condition)
+absent-ends allowed ds t target place true is free = subst (λ u. IsOf ds u (flat.Boolean false)) (sym (is refl)) (of-Boolean ds false)
+absent-ends allowed ds t target place false is free = or_right (allowed.may_stop target) free
+  where
+    or_right : (b : Bool) → IsTrue (b || false) → IsTrue b
+    or_right true h = refl
+    or_right false h = h
 
-pub value_or-ends : (ds : Decls) (t : Ty) (other : Reply) (r : Judged Value) → EndsIn (IsOf ds t) other → EndsIn (HeldOf ds t) r → EndsIn (IsOf ds t) (value_or other r)
-value_or-ends ds t other (Ok (Some h)) also is = is
-value_or-ends ds t other (Ok None) also is = also
-value_or-ends ds t other (Err stop) also is = is
+pub value_or-ends : (allowed : Allowed) → (ds : Decls) (t : Ty) (empty : Bool) (other : Reply) (found : Option (Held Value)) → (IsTrue empty → Ended allowed (IsOf ds t) other) → IsHeldOf empty ds t found → Ended allowed (IsOf ds t) (value_or other found)
+value_or-ends allowed ds t empty other (Some h) also is = is
+value_or-ends allowed ds t empty other None also is = also is
+
+-- a judging that is logged ends as it ends, where what is decided may stand in a log
+pub decided-ends : (allowed : Allowed) → (P : Option (Held Value) → Type 0) (target : Target) (judging : Judged Value) → EndsIn allowed P judging → MayStand allowed target judging.end → EndsIn allowed P (decided target judging)
+decided-ends allowed P target judging h stands = by judging.end h.1 stands
+  where
+    by : (r : Result (Option (Held Value)) Stop) → Ended allowed P r → MayStand allowed target r
+        → EndsIn allowed P (behind judging.log r (λ found. record { log = record { target = target; by = place_in found } ∷ []; end = Ok found }))
+    by (Ok found) g may = (all_both (IsDecision allowed) judging.log (record { target = target; by = place_in found } ∷ []) h.0 (may, tt), g)
+    by (Err s) g may = (h.0, g)

@@ -1,10 +1,10 @@
 // What holds of values that are given.
 ghost use Rattle.cat_value.specs.declared.outcome.Outcome.TheVariants as outcome;
 ghost use Rattle.cat_scope.specs.Names.{is_in, is_output, scope_items};
-ghost use Rattle.std.specs.Prelude.{◌≡◌, ◌<◌, length, ℕ, IsTrue, IfOk, List, [], take, drop, slice_get, Option, Some, Ok};
+ghost use Rattle.std.specs.Prelude.{◌≡◌, ◌<◌, length, ℕ, IsTrue, IfOk, List, [], take, drop, slice_get, Option, Some};
 ghost use Rattle.cat_value.specs.declared.value.Value.{Value};
 ghost use Rattle.cat_value.specs.declared.declaration.ItemDecl.{ItemDecl};
-ghost use Rattle.cat_scope.specs.Replies.{and_then};
+ghost use Rattle.cat_scope.specs.Runs.{gives, and_then};
 ghost use Rattle.cat_scope.specs.Outcomes.{scope_outcome};
 ghost use Rattle.cat_scope.specs.Calls.{Scoped, Items};
 ghost use Rattle.cat_scope.specs.Running.{backwards, entry_at, no_values, run_items};
@@ -18,10 +18,10 @@ use cat_scope::Program;
 #[tactic(auto, using(crate::proofs::GivenValues::given_stands, crate::proofs::GivenValues::run_through))]
 pub fn given_values_stand()
     ensures alone { (scoped : Scoped) (before : List ℕ) (values : Items) (item : ℕ) (given : Value) (decl : Option ItemDecl)
-        → item_value scoped before values item (Some given) decl ≡ Ok (Some given) }
+        → item_value scoped before values item (Some given) decl ≡ gives (Some given) }
     ensures behind { (scoped : Scoped) (input : Items) (place : ℕ) (item : ℕ) (given : Value)
         → item < length scoped.items → IsTrue (is_in item (take place scoped.body.order)) → entry_at item input ≡ Some given
-        → IfOk (values_at scoped input place) (HasValue item given) }
+        → IfOk (values_at scoped input place).end (HasValue item given) }
     ensures through { (scoped : Scoped) (input : Items) (place : ℕ)
         → run_items scoped input [] (no_values scoped.items) scoped.body.order
         ≡ and_then (values_at scoped input place)

@@ -10,4 +10,6 @@ pub use judging::{
     conditions_have_values, forests_have_short_chains, groups_are_judged_by_their_rule,
     targets_rest_on_their_definitions,
 };
-pub use typing::{conversions_go_on, expressions_go_on, operators_go_on, programs_go_on};
+pub use typing::{
+    conversions_go_on, expressions_go_on, operators_go_on, programs_go_on, settled_programs_go_on,
+};
