@@ -3,7 +3,6 @@ use Rattle.std.proofs.Common.{◌≡◌, ℕ, zero, suc, ◌+◌, ◌<◌, true,
 use Rattle.std.proofs.Math.Logic.{⊎_elim}
 use Rattle.std.proofs.lemmas.Bool.Decides.{nat_tests}
 use Rattle.cat_value.specs.declared.outcome.Target.{Target}
-use Rattle.cat_value.specs.declared.value.Value.{Value}
 use Rattle.cat_order.specs.Order.{dependencies_of, times}
 use Rattle.cat_order.specs.Cycle.{DependsOn}
 use Rattle.cat_scope.specs.Names.{AllHave, IsOneOf}
@@ -58,7 +57,7 @@ leads_on groups g h within among =
     let same : dependencies_of (exceptions_of groups) g ≡ excepting (excepts groups) g = exceptions_at (excepts groups) 0 g groups within ∙ ap (excepting (excepts groups)) (omega arith) in
     (rw same (grind (arith, nat_tests, listed)), one_has (λ m. m < length groups) (excepting (excepts groups) g) h (excepting_low (length groups) (excepts groups) (pairs_low groups (length groups) 0 groups (omega arith)) g) among)
 
-pub judging_rule : (place : Target) (groups : List Group) (own : ℕ → Judged Value) (group : ℕ) → HasNoCycle (exceptions_of groups) → group < length groups
+pub judging_rule : {A : Type 0} (place : Target) (groups : List Group) (own : ℕ → Judged A) (group : ℕ) → HasNoCycle (exceptions_of groups) → group < length groups
     → judge place (excepts groups) own (length groups) group
     ≡ or_else (settle place (map (judge place (excepts groups) own (length groups)) (excepting (excepts groups) group))) (own group)
 judging_rule place groups own group none within =

@@ -25,3 +25,5 @@ pub mod ScopeTypes
 pub mod RunTypes
 pub mod OutcomeTypes
 pub mod GivenValues
+pub mod PartTypes
+pub mod RunParts

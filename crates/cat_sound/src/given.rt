@@ -1,15 +1,15 @@
 // What holds of values that are given.
 ghost use Rattle.cat_value.specs.declared.outcome.Outcome.TheVariants as outcome;
 ghost use Rattle.cat_scope.specs.Names.{is_in, is_output, scope_items};
-ghost use Rattle.std.specs.Prelude.{◌≡◌, ◌<◌, length, ℕ, IsTrue, IfOk, List, [], take, drop, slice_get, Option, Some};
+ghost use Rattle.std.specs.Prelude.{◌≡◌, ◌<◌, length, ℕ, IsTrue, IfOk, List, [], take, drop, slice_get, Option, Some, Ok};
 ghost use Rattle.cat_value.specs.declared.value.Value.{Value};
 ghost use Rattle.cat_value.specs.declared.declaration.ItemDecl.{ItemDecl};
 ghost use Rattle.cat_scope.specs.Runs.{gives, and_then};
 ghost use Rattle.cat_scope.specs.Outcomes.{scope_outcome};
 ghost use Rattle.cat_scope.specs.Calls.{Scoped, Items};
-ghost use Rattle.cat_scope.specs.Running.{backwards, entry_at, no_values, run_items};
+ghost use Rattle.cat_scope.specs.Running.{backwards, entry_at, no_values, run_items, run_scoped};
 ghost use Rattle.cat_scope.specs.ItemValues.{item_value};
-ghost use Rattle.cat_sound.specs.Given.{HasValue, output_number, values_at};
+ghost use Rattle.cat_sound.specs.Given.{HasValue, JudgedAt, output_number, values_at};
 
 use cat_scope::Program;
 
@@ -35,4 +35,11 @@ pub fn given_outputs_stand(program: &Program)
         → slice_get (scope_items program.now.decls scope) item ≡ Some decl → IsTrue (is_output decl.kind) → entry_at item input ≡ Some given
         → scope_outcome program.now scope input ≡ Some (outcome.Value outputs)
         → slice_get outputs (output_number (scope_items program.now.decls scope) item) ≡ Some given }
+{}
+
+/// A run that ends in a value has given each item of the order what it comes to, in the values of its place.
+#[tactic(auto, using(crate::proofs::RunParts::each_judged))]
+pub fn each_item_is_judged()
+    ensures { (scoped : Scoped) (input : Items) (outputs : List Value) (place : ℕ) (item : ℕ)
+        → (run_scoped scoped input).end ≡ Ok outputs → slice_get scoped.body.order place ≡ Some item → JudgedAt scoped input place item }
 {}

@@ -42,10 +42,15 @@ pub fn conditions_have_values()
 {}
 
 /// A group is judged by its rule, where no group of the target is an exception to itself through others: as the list of
-/// the groups that except it and, where that is Empty, by its own definitions.
+/// the groups that except it and, where that is Empty, by its own definitions. This is so whatever definitions come to:
+/// values, or nothing but whether they hold.
 #[tactic(auto, using(crate::proofs::JudgeLaws::judging_rule))]
 pub fn groups_are_judged_by_their_rule()
-    ensures { (place : Target) (groups : List Group) (own : ℕ → Judged Value) (group : ℕ)
+    ensures values { (place : Target) (groups : List Group) (own : ℕ → Judged Value) (group : ℕ)
+        → HasNoCycle (exceptions_of groups) → group < length groups
+        → judge place (excepts groups) own (length groups) group
+        ≡ or_else (settle place (map (judge place (excepts groups) own (length groups)) (excepting (excepts groups) group))) (own group) }
+    ensures truths { (place : Target) (groups : List Group) (own : ℕ → Judged (Unit {0})) (group : ℕ)
         → HasNoCycle (exceptions_of groups) → group < length groups
         → judge place (excepts groups) own (length groups) group
         ≡ or_else (settle place (map (judge place (excepts groups) own (length groups)) (excepting (excepts groups) group))) (own group) }

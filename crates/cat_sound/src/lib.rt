@@ -5,11 +5,12 @@ mod given;
 mod judging;
 mod typing;
 
-pub use given::{given_outputs_stand, given_values_stand};
+pub use given::{each_item_is_judged, given_outputs_stand, given_values_stand};
 pub use judging::{
     conditions_have_values, forests_have_short_chains, groups_are_judged_by_their_rule,
     targets_rest_on_their_definitions,
 };
 pub use typing::{
-    conversions_go_on, expressions_go_on, operators_go_on, programs_go_on, settled_programs_go_on,
+    conversions_go_on, expressions_go_on, operators_go_on, parts_are_typed, programs_go_on,
+    settled_programs_go_on,
 };

@@ -17,6 +17,8 @@ ghost use Rattle.cat_scope.specs.Outcomes.{scope_outcome};
 ghost use Rattle.cat_value.specs.Inputs.{IsWellTyped};
 ghost use Rattle.cat_scope.specs.Eval.{Env, eval};
 ghost use Rattle.cat_scope.specs.HasType.{HasType};
+ghost use Rattle.cat_scope.specs.declared.expr.Expr.TheViews.{out-Expr};
+ghost use Rattle.cat_sound.specs.Parts.{PartsTyped};
 ghost use Rattle.cat_scope.specs.Calls.{Items};
 ghost use Rattle.cat_scope.specs.Running.{scope_run};
 
@@ -43,6 +45,12 @@ pub fn operators_go_on()
 pub fn expressions_go_on()
     ensures { (allowed : Allowed) (ns : Names) (env : Env) (ls : List Ty) (locals : List Value) (e : Expr) (t : Ty)
         → HasType ns ls e t → IsEnvOf allowed ns env e → AreOf ns.decls ls locals → EndsIn allowed (IsOf ns.decls t) (eval env e locals) }
+{}
+
+/// A typed expression has typed parts, by its form: the rules of typing, read upwards.
+#[tactic(auto, using(crate::proofs::PartTypes::parts_typed))]
+pub fn parts_are_typed()
+    ensures { (ns : Names) (ls : List Ty) (e : Expr) (t : Ty) → HasType ns ls e t → PartsTyped ns ls (out-Expr e) t }
 {}
 
 /// On each well-typed input a scope of a program has an outcome, and where it is a value each output has its type.
