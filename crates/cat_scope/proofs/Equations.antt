@@ -25,23 +25,23 @@ use Rattle.cat_scope.specs.Lists.{for_all, exists, mapped, filtered, combined, c
 use Rattle.cat_scope.specs.Eval.{Env, eval, eval_all, eval_fields, eval_arms, meaning_of, field_meaning, arm_meaning}
 use Rattle.cat_scope.specs.Composed.{Meaning, literal_value, part, all_of, fields_of, structured, arm_value, matched, listed}
 
-abbrev Field : Type 0
+abbrev pub Field : Type 0
 Field = ℕ × Meaning
 
-abbrev Branch : Type 0
+abbrev pub Branch : Type 0
 Branch = ArmPattern × Meaning
 
-abbrev field : Env → FieldValue → Field
+abbrev pub field : Env → FieldValue → Field
 field env = fold-FieldValue Meaning Branch Field (meaning_of env) arm_meaning field_meaning
 
-abbrev branch : Env → Arm → Branch
+abbrev pub branch : Env → Arm → Branch
 branch env = fold-Arm Meaning Branch Field (meaning_of env) arm_meaning field_meaning
 
 all_is : (env : Env) (es : List Expr) (locals : List Value) → all_of (map (eval env) es) locals ≡ eval_all env es locals
 all_is env [] locals = refl
 all_is env (e ∷ es) locals = ap (in_front (eval env e locals)) (all_is env es locals)
 
-field_is : (env : Env) (f : FieldValue) → field env f ≡ (f.field, eval env f.value)
+pub field_is : (env : Env) (f : FieldValue) → field env f ≡ (f.field, eval env f.value)
 unfolding eval
 field_is env f = search (rules, expr.the_lemmas, fold_out-FieldValue Meaning Branch Field (meaning_of env) arm_meaning field_meaning)
 
@@ -49,7 +49,7 @@ fields_are : (env : Env) (fs : List FieldValue) (locals : List Value) → fields
 fields_are env [] locals = refl
 fields_are env (f ∷ fs) locals = rw (field_is env f) (ap (in_front (and_then (eval env f.value locals) (λ v. gives (f.field, v)))) (fields_are env fs locals))
 
-branch_is : (env : Env) (a : Arm) → branch env a ≡ (a.pattern, eval env a.body)
+pub branch_is : (env : Env) (a : Arm) → branch env a ≡ (a.pattern, eval env a.body)
 unfolding eval
 branch_is env a = search (rules, expr.the_lemmas, fold_out-Arm Meaning Branch Field (meaning_of env) arm_meaning field_meaning)
 
@@ -120,7 +120,7 @@ pub eval_Case_None : (env : Env) (p : Pos) (n : ℕ) (k : ℕ) (locals : List Va
 unfolding eval
 eval_Case_None env p n k locals = search (rules, expr.the_lemmas, all_is, fields_are, fold_out-Expr Meaning Branch Field (meaning_of env) arm_meaning field_meaning)
 
-levels : (env : Env) (e : Expr) → eval env e ≡ meaning_of env (map-Expr Expr Arm FieldValue Meaning Branch Field (eval env) (branch env) (field env) (out-Expr e))
+pub levels : (env : Env) (e : Expr) → eval env e ≡ meaning_of env (map-Expr Expr Arm FieldValue Meaning Branch Field (eval env) (branch env) (field env) (out-Expr e))
 unfolding eval
 levels env e = fold_out-Expr Meaning Branch Field (meaning_of env) arm_meaning field_meaning e
 

@@ -27,3 +27,5 @@ pub mod OutcomeTypes
 pub mod GivenValues
 pub mod PartTypes
 pub mod RunParts
+pub mod ByParts
+pub mod Rests

@@ -25,7 +25,7 @@ abbrev pub values_of : List FieldValue → List Expr
 values_of [] = []
 values_of (f ∷ fs) = f.value ∷ values_of fs
 
-abbrev content_part : Option Expr → List Expr
+abbrev pub content_part : Option Expr → List Expr
 content_part None = []
 content_part (Some e) = e ∷ []
 
@@ -58,10 +58,10 @@ parts_of (Expr-F.Call p f es) = es
 parts_of (Expr-F.ScopeCall p s fields k) = values_of fields
 
 module _ (own : Own) where
-  abbrev named : Expr → Numbers
+  abbrev pub named : Expr → Numbers
   named = named_by own
 
-  abbrev opened : Expr-F Expr Arm FieldValue → Expr-F Numbers Numbers Numbers
+  abbrev pub opened : Expr-F Expr Arm FieldValue → Expr-F Numbers Numbers Numbers
   opened y = map-Expr Expr Arm FieldValue Numbers Numbers Numbers named (arm own) (field own) y
 
   module _ (P : ℕ → Type 0) where
