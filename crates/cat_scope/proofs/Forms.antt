@@ -1,5 +1,5 @@
 -- Worked examples of single forms: what is evaluated, in which order, and where that stops.
-use Rattle.std.proofs.Common.{◌≡◌, ℕ, pos, negsuc, true, false, [], ◌∷◌, None, Some, Ok, Err, rules}
+use Rattle.std.proofs.Common.{◌≡◌, ℕ, pos, negsuc, true, false, List, [], ◌∷◌, None, Some, Ok, Err, ap, ◌∙◌, rules}
 use Rattle.cat_num.specs.Frac.{gcd, ratio, lowest}
 use Rattle.cat_date.specs.Span.{compared_spans}
 use Rattle.cat_date.specs.declared.rounding.Rounding.TheVariants.{Refuse}
@@ -8,7 +8,9 @@ use Rattle.cat_value.specs.declared.value.Value.TheVariants as flat
 use Rattle.cat_value.specs.declared.value.Value.TheViews as value
 use Rattle.cat_value.specs.declared.outcome.FaultKind.TheVariants.{DivisionByZero, Overflow, Uncomparable}
 use Rattle.cat_scope.specs.declared.stop.Stop.TheVariants.{Fault, Stuck}
+use Rattle.cat_value.specs.declared.value.Value.{Value}
 use Rattle.cat_scope.specs.declared.expr.Expr.{Expr}
+use Rattle.cat_scope.specs.declared.expr.Arm.{Arm}
 use Rattle.cat_scope.specs.declared.expr.Expr.TheVariants as leaf
 use Rattle.cat_scope.specs.declared.expr.Expr.TheViews as expr
 use Rattle.cat_scope.specs.declared.expr.Literal.TheVariants as literal
@@ -16,16 +18,18 @@ use Rattle.cat_scope.specs.declared.expr.ArmPattern.TheVariants as pattern
 use Rattle.cat_scope.specs.declared.operators.BinaryOp.TheVariants.{DivideIntegers, AddIntegers, Greater}
 use Rattle.cat_scope.specs.declared.operators.SumKind.TheVariants.{Integers}
 use Rattle.cat_scope.specs.Replies.{Reply}
-use Rattle.cat_scope.specs.Eval.{Env, eval}
-use Rattle.cat_scope.proofs.Equations.{equations}
+use Rattle.cat_scope.specs.Runs.{Run, plain, stops, and_then}
+use Rattle.cat_scope.specs.Readings.{case_of}
+use Rattle.cat_scope.specs.Eval.{Env, eval, eval_arms}
+use Rattle.cat_scope.proofs.Equations.{equations, eval_Literal, eval_Case_Some, eval_Match}
 use Rattle.cat_scope.proofs.Samples.{at, whole}
 
 abbrev nothing : Env
-nothing = record { rounding = Refuse; items = []; call = λ f vs. Err Stuck; scope_call = λ s fs k. Err Stuck }
+nothing = record { rounding = Refuse; items = []; call = λ f vs. stops Stuck; scope_call = λ s fs k. stops Stuck }
 
 -- what an expression without names gives
 abbrev gives : Expr → Reply
-gives e = eval nothing e []
+gives e = (eval nothing e []).end
 
 abbrev o : Pos
 o = at 0 0
@@ -95,8 +99,21 @@ the_first_written_field_faults_first : gives (expr.Structure o 0 (record { field
 unfolding gcd ratio lowest
 the_first_written_field_faults_first = search (rules, equations, value.the_lemmas)
 
-an_arm_binds_the_content : gives (expr.Match o (expr.Case o 0 1 (Some (whole 3))) (record { pattern = pattern.Case 0 false; body = whole 1 } ∷ record { pattern = pattern.Case 1 true; body = leaf.Local o 0 } ∷ [])) ≡ Ok (flat.Integer (pos 3))
-an_arm_binds_the_content = search (rules, equations, value.the_lemmas)
+-- the case 1 of an enumeration, with a content
+abbrev with_three : Expr
+with_three = expr.Case o 0 1 (Some (whole 3))
+
+abbrev its_arms : List Arm
+its_arms = record { pattern = pattern.Case 0 false; body = whole 1 } ∷ record { pattern = pattern.Case 1 true; body = leaf.Local o 0 } ∷ []
+
+its_value : eval nothing with_three [] ≡ plain (Ok (value.Case 1 (Some (flat.Integer (pos 3)))))
+its_value = eval_Case_Some nothing o 0 1 (whole 3) [] ∙ ap (λ run. and_then run (λ v. plain (Ok (value.Case 1 (Some v))))) (eval_Literal nothing o (literal.Integer (pos 3)) [])
+
+an_arm_binds_the_content : gives (expr.Match o with_three its_arms) ≡ Ok (flat.Integer (pos 3))
+an_arm_binds_the_content =
+    ap (λ (run : Run Value). run.end)
+    (eval_Match nothing o with_three its_arms [] ∙ ap (λ run. and_then run (λ v. and_then (plain (case_of v)) (λ c. eval_arms nothing its_arms c.0 c.1 []))) its_value)
+    ∙ search (rules, equations, value.the_lemmas)
 
 anything_is_for_each_case : gives (expr.Match o (expr.Case o 0 1 None) (record { pattern = pattern.Case 0 false; body = whole 1 } ∷ record { pattern = pattern.Anything; body = whole 2 } ∷ [])) ≡ Ok (flat.Integer (pos 2))
 anything_is_for_each_case = search (rules, equations, value.the_lemmas)

@@ -4,6 +4,7 @@ use Rattle.cat_pos.specs.declared.pos.Pos.{Pos}
 use Rattle.cat_value.specs.declared.outcome.Target.{Target}
 use Rattle.cat_scope.specs.declared.stop.Stop.{Stop}
 use Rattle.cat_scope.specs.declared.stop.Stop.TheVariants.{NoValue}
+use Rattle.cat_scope.specs.Runs.{gives, giving}
 use Rattle.cat_scope.specs.Judging.{Held, Judged, alone, or_else, settle}
 use Rattle.cat_scope.specs.Targets.{absent}
 
@@ -12,34 +13,39 @@ is_ok (Ok a) = true
 is_ok (Err stop) = false
 
 -- the first of two exceptions that hold is taken
-abbrev first_taken : {A : Type 0} → List (Held A) → Judged A
+abbrev first_taken : {A : Type 0} → List (Held A) → Result (Option (Held A)) Stop
 first_taken [] = Ok None
 first_taken (h ∷ hs) = Ok (Some h)
 
 the_first_of_two_is_not_taken : {A : Type 0} (place : Target) (h i : Held A) (hs : List (Held A)) → ¬ (first_taken (h ∷ i ∷ hs) ≡ alone place (h ∷ i ∷ hs))
 the_first_of_two_is_not_taken place h i hs same = true≢false (ap is_ok same)
 
+abbrev number_at : {A : Type 0} → Result (Option (Held A)) Stop → Option ℕ
+number_at (Ok (Some h)) = Some h.number
+number_at (Ok None) = None
+number_at (Err stop) = None
+
 abbrev number_in : {A : Type 0} → Judged A → Option ℕ
-number_in (Ok (Some h)) = Some h.number
-number_in (Ok None) = None
-number_in (Err stop) = None
+number_in judged = number_at judged.end
 
 some_is : {n m : ℕ} → Some n ≡ Some m → n ≡ m
 some_is e = cc
 
 -- a group's own definitions go before the groups that except it
 own_definitions_do_not_come_first : {A : Type 0} (exception own : Held A) → ¬ (exception.number ≡ own.number)
-    → ¬ (or_else (Ok (Some own)) (Ok (Some exception)) ≡ or_else (Ok (Some exception)) (Ok (Some own)))
+    → ¬ (or_else (gives (Some own)) (gives (Some exception)) ≡ or_else (gives (Some exception)) (gives (Some own)))
 own_definitions_do_not_come_first exception own differ same = differ (some_is (sym (ap number_in same)))
 
 -- a group reports its first definition, whichever of them holds
+abbrev reported : {A : Type 0} → Held A → Option (Held A) → Option (Held A)
+reported first (Some h) = Some (record { number = first.number; pos = first.pos; value = h.value })
+reported first None = None
+
 abbrev reporting : {A : Type 0} → Held A → Judged A → Judged A
-reporting first (Ok (Some h)) = Ok (Some (record { number = first.number; pos = first.pos; value = h.value }))
-reporting first (Ok None) = Ok None
-reporting first (Err stop) = Err stop
+reporting first judged = giving judged (λ found. Ok (reported first found))
 
 the_first_definition_is_not_reported : {A : Type 0} (place : Target) (first h : Held A) → ¬ (first.number ≡ h.number)
-    → ¬ (reporting first (settle place (Ok None ∷ Ok (Some h) ∷ [])) ≡ settle place (Ok None ∷ Ok (Some h) ∷ []))
+    → ¬ (reporting first (settle place (gives None ∷ gives (Some h) ∷ [])) ≡ settle place (gives None ∷ gives (Some h) ∷ []))
 the_first_definition_is_not_reported place first h differ same = differ (some_is (ap number_in same))
 
 -- a condition without rules has no value

@@ -1,15 +1,15 @@
 -- What functions and scopes give that a scope calls, where each calls only those that stand before it.
-use Rattle.std.specs.Prelude.{ℕ, ◌+◌, nat_eq, ◌&&◌, false, List, [], ◌∷◌, Option, Some, None, Result, Err, slice_get, if◌then◌else◌}
+use Rattle.std.specs.Prelude.{ℕ, ◌+◌, nat_eq, ◌&&◌, false, List, [], ◌∷◌, Option, Some, None, slice_get, if◌then◌else◌}
 use Rattle.cat_value.specs.declared.value.Value.{Value}
 use Rattle.cat_value.specs.declared.value.Value.TheVariants.{Boolean}
 use Rattle.cat_value.specs.declared.declaration.ItemDecl.{ItemDecl}
 use Rattle.cat_value.specs.declared.declaration.Scope.{Scope}
 use Rattle.cat_value.specs.Inputs.{must_be_given}
 use Rattle.cat_value.specs.declared.outcome.Target.{Target}
-use Rattle.cat_scope.specs.declared.stop.Stop.{Stop}
 use Rattle.cat_scope.specs.declared.stop.Stop.TheVariants.{Stuck}
 use Rattle.cat_scope.specs.declared.defs.Body.{Body}
-use Rattle.cat_scope.specs.Replies.{Reply, and_then, known}
+use Rattle.cat_scope.specs.Replies.{known}
+use Rattle.cat_scope.specs.Runs.{Run, stops, giving}
 use Rattle.cat_scope.specs.Names.{items_in}
 use Rattle.cat_scope.specs.Judging.{Judged}
 use Rattle.cat_scope.specs.Targets.{judge_target, absent, value_or}
@@ -23,7 +23,7 @@ Items = List (Option Value)
 
 -- what a scope gives for an input
 abbrev pub Runs : Type 0
-Runs = ℕ → Items → Result (List Value) Stop
+Runs = ℕ → Items → Run (List Value)
 
 -- a scope of a program: its number, its items, its body, and the items and runs of the scopes that it calls
 pub record Scoped : Type 0 where
@@ -56,29 +56,29 @@ call_input n fields [] = []
 call_input n fields (item ∷ items) = call_entry item (given n fields) ∷ call_input (n + 1) fields items
 
 -- an output of a scope, for the fields of a scope call
-abbrev pub scope_call : Scoped → ℕ → List (ℕ × Value) → ℕ → Reply
+abbrev pub scope_call : Scoped → ℕ → List (ℕ × Value) → ℕ → Run Value
 scope_call scoped called fields output =
-    and_then (scoped.runs called (call_input 0 fields (items_of scoped called))) (λ outputs. known (slice_get outputs output))
+    giving (scoped.runs called (call_input 0 fields (items_of scoped called))) (λ outputs. known (slice_get outputs output))
 
 -- what the expressions of a scope stand in
-abbrev pub env_of : Scoped → (ℕ → List Value → Reply) → Items → Env
+abbrev pub env_of : Scoped → (ℕ → List Value → Run Value) → Items → Env
 env_of scoped calls values = record { rounding = scoped.body.rounding; items = values; call = calls; scope_call = scope_call scoped }
 
 -- a target, where functions give what `calls` tells and the items have these values
-abbrev pub judged : Scoped → (ℕ → List Value → Reply) → Items → List Value → Target → Judged Value
+abbrev pub judged : Scoped → (ℕ → List Value → Run Value) → Items → List Value → Target → Judged Value
 judged scoped calls values arguments target = judge_target (λ e. eval (env_of scoped calls values) e arguments) target scoped.body.defs
 
--- the value of a target that is a variable or, with arguments, of a function: where it is Empty, false for a
--- condition, else NoValue at its name
-abbrev pub variable_value : Scoped → (ℕ → List Value → Reply) → Items → List Value → ℕ → Option ItemDecl → Reply
-variable_value scoped calls values arguments item None = Err Stuck
-variable_value scoped calls values arguments item (Some decl) =
-    value_or (absent (variable scoped item) decl.pos decl.condition) (judged scoped calls values arguments (variable scoped item))
+-- the value of a variable or a function, by its judging: where it is Empty, false for a condition, else NoValue at its
+-- name
+abbrev pub variable_value : Target → Option ItemDecl → Judged Value → Run Value
+variable_value target None judging = stops Stuck
+variable_value target (Some decl) judging = giving judging (value_or (absent target decl.pos decl.condition))
 
 -- what a function gives for its arguments, among the items that stand before, the last of them first: each calls only
--- those that stand before itself
-abbrev pub call : Scoped → Items → List ℕ → ℕ → List Value → Reply
-call scoped values [] function arguments = Err Stuck
+-- those that stand before itself. Its own judging isn't logged
+abbrev pub call : Scoped → Items → List ℕ → ℕ → List Value → Run Value
+call scoped values [] function arguments = stops Stuck
 call scoped values (item ∷ before) function arguments =
-    if nat_eq item function then variable_value scoped (call scoped values before) values arguments item (slice_get scoped.items item)
+    if nat_eq item function
+    then variable_value (variable scoped item) (slice_get scoped.items item) (judged scoped (call scoped values before) values arguments (variable scoped item))
     else call scoped values before function arguments

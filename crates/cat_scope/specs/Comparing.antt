@@ -11,16 +11,16 @@ use Rattle.cat_value.specs.declared.value.Value.TheOpen.{Value-F}
 use Rattle.cat_value.specs.declared.value.Value.TheViews.{out-Value}
 use Rattle.cat_scope.specs.declared.stop.Stop.{Stop}
 use Rattle.cat_scope.specs.declared.stop.Stop.TheVariants.{Stuck}
-use Rattle.cat_scope.specs.Replies.{and_then, dated}
+use Rattle.cat_scope.specs.Replies.{on_one, dated}
 use Rattle.cat_scope.specs.Readings.{truth, integer, decimal, money, date, duration}
 
 -- how two values of one type stand to each other
 abbrev pub compared_in : Pos → Value-F Value → Value → Result Ordering Stop
-compared_in p (Value-F.Integer a) w = and_then (integer w) (λ b. Ok (int_cmp a b))
-compared_in p (Value-F.Decimal f) w = and_then (decimal w) (λ g. Ok (frac_order f g))
-compared_in p (Value-F.Money a) w = and_then (money w) (λ b. Ok (int_cmp a b))
-compared_in p (Value-F.Date a) w = and_then (date w) (λ b. Ok (int_cmp a b))
-compared_in p (Value-F.Duration a) w = and_then (duration w) (λ b. dated p (λ o. o) (compared_spans a b))
+compared_in p (Value-F.Integer a) w = on_one (integer w) (λ b. Ok (int_cmp a b))
+compared_in p (Value-F.Decimal f) w = on_one (decimal w) (λ g. Ok (frac_order f g))
+compared_in p (Value-F.Money a) w = on_one (money w) (λ b. Ok (int_cmp a b))
+compared_in p (Value-F.Date a) w = on_one (date w) (λ b. Ok (int_cmp a b))
+compared_in p (Value-F.Duration a) w = on_one (duration w) (λ b. dated p (λ o. o) (compared_spans a b))
 compared_in p _ w = Err Stuck
 
 -- how a value stands to another of its type
@@ -52,8 +52,8 @@ differ false b = b
 
 -- whether two values of one type are equal
 abbrev pub equal_in : Pos → Value-F Value → Value → Value → Result Bool Stop
-equal_in p (Value-F.Boolean a) v w = and_then (truth w) (λ b. Ok (not (differ a b)))
-equal_in p _ v w = and_then (compared p v w) (λ o. Ok (is_equal o))
+equal_in p (Value-F.Boolean a) v w = on_one (truth w) (λ b. Ok (not (differ a b)))
+equal_in p _ v w = on_one (compared p v w) (λ o. Ok (is_equal o))
 
 -- the same for a value whose type is not known yet
 abbrev pub equal : Pos → Value → Value → Result Bool Stop

@@ -1,5 +1,5 @@
 -- The value of an item, where those that stand before it are done.
-use Rattle.std.specs.Prelude.{ℕ, ◌+◌, List, [], ◌∷◌, Option, Some, None, Result, Ok, Err, if◌then◌else◌}
+use Rattle.std.specs.Prelude.{ℕ, ◌+◌, List, [], ◌∷◌, Option, Some, None, Result, Ok, if◌then◌else◌}
 use Rattle.cat_pos.specs.declared.pos.Pos.{Pos}
 use Rattle.cat_value.specs.declared.value.Value.{Value}
 use Rattle.cat_value.specs.declared.value.Value.TheViews as value
@@ -11,42 +11,45 @@ use Rattle.cat_value.specs.Inputs.{must_be_given, may_be_given}
 use Rattle.cat_value.specs.declared.outcome.Target.{Target}
 use Rattle.cat_scope.specs.declared.stop.Stop.{Stop}
 use Rattle.cat_scope.specs.declared.stop.Stop.TheVariants.{Stuck}
-use Rattle.cat_scope.specs.Replies.{Reply, and_then, in_front}
-use Rattle.cat_scope.specs.Judging.{Judged}
+use Rattle.cat_scope.specs.Replies.{on_one}
+use Rattle.cat_scope.specs.Runs.{Run, gives, stops, and_then, giving, in_front}
+use Rattle.cat_scope.specs.Judging.{Held, Judged, decided}
 use Rattle.cat_scope.specs.Targets.{absent}
-use Rattle.cat_scope.specs.Calls.{Items, Scoped, variable_of_called, items_of, judged, variable_value, call}
+use Rattle.cat_scope.specs.Calls.{Items, Scoped, variable, variable_of_called, items_of, judged, variable_value, call}
 
 -- an input or a context of a called scope: nothing where a context is Empty
-abbrev pub passed : Target → Pos → ItemDecl → Judged Value → Result (Option Value) Stop
-passed target place decl (Ok None) =
-    if must_be_given decl.kind then and_then (absent target place decl.condition) (λ v. Ok (Some v)) else Ok None
-passed target place decl (Ok (Some h)) = Ok (Some h.value)
-passed target place decl (Err stop) = Err stop
+abbrev pub passed : Target → Pos → ItemDecl → Option (Held Value) → Result (Option Value) Stop
+passed target place decl None =
+    if must_be_given decl.kind then on_one (absent target place decl.condition) (λ v. Ok (Some v)) else Ok None
+passed target place decl (Some h) = Ok (Some h.value)
 
 -- the input of a called scope: its inputs and contexts from number n on, in the order of their declarations
-abbrev pub passed_input : (ℕ → Judged Value) → (ℕ → Target) → Pos → ℕ → List ItemDecl → Result Items Stop
-passed_input judged_at target_at place n [] = Ok []
-passed_input judged_at target_at place n (decl ∷ decls) =
-    in_front (if may_be_given decl.kind then passed (target_at n) place decl (judged_at n) else Ok None) (passed_input judged_at target_at place (n + 1) decls)
+abbrev pub passed_input : (ℕ → Judged Value) → (ℕ → Target) → Pos → ℕ → List ItemDecl → Run Items
+passed_input judged_at target_at place n [] = gives []
+passed_input judged_at target_at place n (decl ∷ decls) = in_front
+    (if may_be_given decl.kind then giving (decided (target_at n) (judged_at n)) (passed (target_at n) place decl) else gives None)
+    (passed_input judged_at target_at place (n + 1) decls)
 
 -- a called scope: its inputs and contexts are judged, and then it is run
-abbrev pub called_value : Scoped → List ℕ → Items → ℕ → ItemDecl → ℕ → Reply
+abbrev pub called_value : Scoped → List ℕ → Items → ℕ → ItemDecl → ℕ → Run Value
 called_value scoped before values item decl called =
     and_then (passed_input (λ n. judged scoped (call scoped values before) values [] (variable_of_called scoped item n)) (variable_of_called scoped item) decl.pos 0 (items_of scoped called))
-    (λ input. and_then (scoped.runs called input) (λ outputs. Ok (value.Structure outputs)))
+    (λ input. and_then (scoped.runs called input) (λ outputs. gives (value.Structure outputs)))
 
 -- a function is passed over, and any other variable is judged
-abbrev pub defined_value : Scoped → List ℕ → Items → ℕ → ItemDecl → List Ty → Result (Option Value) Stop
-defined_value scoped before values item decl [] = and_then (variable_value scoped (call scoped values before) values [] item (Some decl)) (λ v. Ok (Some v))
-defined_value scoped before values item decl (t ∷ ts) = Ok None
+abbrev pub defined_value : Scoped → List ℕ → Items → ℕ → ItemDecl → List Ty → Run (Option Value)
+defined_value scoped before values item decl [] = and_then
+    (variable_value (variable scoped item) (Some decl) (decided (variable scoped item) (judged scoped (call scoped values before) values [] (variable scoped item))))
+    (λ v. gives (Some v))
+defined_value scoped before values item decl (t ∷ ts) = gives None
 
 -- a value that is not given: of a called scope its outputs, and otherwise what its definitions give
-abbrev pub ungiven_value : Scoped → List ℕ → Items → ℕ → ItemDecl → Kind → Result (Option Value) Stop
-ungiven_value scoped before values item decl (kind.Called called) = and_then (called_value scoped before values item decl called) (λ v. Ok (Some v))
+abbrev pub ungiven_value : Scoped → List ℕ → Items → ℕ → ItemDecl → Kind → Run (Option Value)
+ungiven_value scoped before values item decl (kind.Called called) = and_then (called_value scoped before values item decl called) (λ v. gives (Some v))
 ungiven_value scoped before values item decl _ = defined_value scoped before values item decl decl.params
 
 -- a given value stands as it is
-abbrev pub item_value : Scoped → List ℕ → Items → ℕ → Option Value → Option ItemDecl → Result (Option Value) Stop
-item_value scoped before values item (Some v) decl = Ok (Some v)
-item_value scoped before values item None None = Err Stuck
+abbrev pub item_value : Scoped → List ℕ → Items → ℕ → Option Value → Option ItemDecl → Run (Option Value)
+item_value scoped before values item (Some v) decl = gives (Some v)
+item_value scoped before values item None None = stops Stuck
 item_value scoped before values item None (Some decl) = ungiven_value scoped before values item decl decl.kind

@@ -4,7 +4,7 @@ use Rattle.cat_pos.specs.declared.pos.Pos.{Pos}
 use Rattle.cat_value.specs.declared.outcome.Target.{Target}
 use Rattle.cat_scope.specs.declared.stop.Stop.{Stop}
 use Rattle.cat_scope.specs.declared.stop.Stop.TheVariants.{Conflict, Stuck}
-use Rattle.cat_scope.specs.Replies.{and_then}
+use Rattle.cat_scope.specs.Runs.{Run, gives, stops, and_then, giving}
 use Rattle.cat_scope.specs.Groups.{excepting}
 
 -- a definition that holds: its number and its place, and what it gives
@@ -15,7 +15,7 @@ pub record Held (A : Type 0) : Type 0 where
 
 -- Held, Empty (nothing is there), or a stop
 abbrev pub Judged : Type 0 → Type 0
-Judged A = Result (Option (Held A)) Stop
+Judged A = Run (Option (Held A))
 
 -- one more that holds in front, where it does
 abbrev pub with_held : {A : Type 0} → Option (Held A) → List (Held A) → List (Held A)
@@ -23,9 +23,9 @@ with_held None more = more
 with_held (Some h) more = h ∷ more
 
 -- those that hold, or the first stop
-abbrev pub holding : {A : Type 0} → List (Judged A) → Result (List (Held A)) Stop
-holding [] = Ok []
-holding (r ∷ rs) = and_then r (λ one. and_then (holding rs) (λ more. Ok (with_held one more)))
+abbrev pub holding : {A : Type 0} → List (Judged A) → Run (List (Held A))
+holding [] = gives []
+holding (r ∷ rs) = and_then r (λ one. and_then (holding rs) (λ more. gives (with_held one more)))
 
 -- put behind those of lower numbers
 abbrev pub put : {A : Type 0} → Held A → List (Held A) → List (Held A)
@@ -43,23 +43,35 @@ positions_in [] = []
 positions_in (h ∷ hs) = h.pos ∷ positions_in hs
 
 -- none is Empty, one is that one, two or more are a Conflict
-abbrev pub alone : {A : Type 0} → Target → List (Held A) → Judged A
+abbrev pub alone : {A : Type 0} → Target → List (Held A) → Result (Option (Held A)) Stop
 alone place [] = Ok None
 alone place (h ∷ []) = Ok (Some h)
 alone place (h ∷ i ∷ hs) = Err (Conflict place (positions_in (in_source_order (h ∷ i ∷ hs))))
 
 -- a list is judged in order: the first stop ends it
 abbrev pub settle : {A : Type 0} → Target → List (Judged A) → Judged A
-settle place judged = and_then (holding judged) (alone place)
+settle place judged = giving (holding judged) (alone place)
+
+-- where one holds, nothing else is judged
+abbrev pub found_or : {A : Type 0} → Option (Held A) → Judged A → Judged A
+found_or (Some h) other = gives (Some h)
+found_or None other = other
 
 -- the first, or the second where the first is Empty
 abbrev pub or_else : {A : Type 0} → Judged A → Judged A → Judged A
-or_else (Ok (Some h)) other = Ok (Some h)
-or_else (Ok None) other = other
-or_else (Err stop) other = Err stop
+or_else first other = and_then first (λ found. found_or found other)
 
 -- a group is judged as the list of the groups that except it and, where that is Empty, by its own definitions, which
 -- come to `own`; a chain of exceptions that is longer than n is stuck
 abbrev pub judge : {A : Type 0} → Target → List (ℕ × ℕ) → (ℕ → Judged A) → ℕ → ℕ → Judged A
-judge place pairs own zero group = Err Stuck
+judge place pairs own zero group = stops Stuck
 judge place pairs own (suc n) group = or_else (settle place (map (judge place pairs own n) (excepting pairs group))) (own group)
+
+-- the place of the definition that holds
+abbrev pub place_in : {A : Type 0} → Option (Held A) → Option Pos
+place_in None = None
+place_in (Some h) = Some h.pos
+
+-- a judging that ends Held or Empty is logged as it ends, behind all that was decided within
+abbrev pub decided : {A : Type 0} → Target → Judged A → Judged A
+decided target judged = and_then judged (λ found. record { log = record { target = target; by = place_in found } ∷ []; end = Ok found })

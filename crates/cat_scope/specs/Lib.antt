@@ -1,6 +1,7 @@
 -- the meaning of programs
 pub mod Replies
 pub mod Readings
+pub mod Runs
 pub mod Comparing
 pub mod Operators
 pub mod Lists
@@ -24,11 +25,3 @@ pub mod Orders
 pub mod WellFormed
 pub mod Named
 pub mod Forests
-pub mod Logged
-pub mod LoggedEval
-pub mod LoggedTargets
-pub mod LoggedItems
-pub mod Deciders
--- how typed programs end
-pub mod Endings
-pub mod Given

@@ -1,48 +1,47 @@
 -- The forms that go over the elements of a list, in their order; `of_each` tells what comes of an element.
-use Rattle.std.specs.Prelude.{pos, true, false, List, [], ◌∷◌, Result, Ok}
+use Rattle.std.specs.Prelude.{pos, true, false, List, [], ◌∷◌, Ok, if◌then◌else◌}
 use Rattle.cat_pos.specs.declared.pos.Pos.{Pos}
 use Rattle.cat_date.specs.declared.rounding.Rounding.TheVariants.{Refuse}
 use Rattle.cat_value.specs.declared.value.Value.{Value}
 use Rattle.cat_value.specs.declared.value.Value.TheVariants.{Boolean, Integer, Decimal, Money, Duration}
-use Rattle.cat_scope.specs.declared.stop.Stop.{Stop}
 use Rattle.cat_scope.specs.declared.operators.BinaryOp.{BinaryOp}
 use Rattle.cat_scope.specs.declared.operators.BinaryOp.TheVariants.{AddIntegers, AddDecimals, AddMoney, AddDurations}
 use Rattle.cat_scope.specs.declared.operators.SumKind.{SumKind}
 use Rattle.cat_scope.specs.declared.operators.SumKind.TheVariants as sum
-use Rattle.cat_scope.specs.Replies.{Reply, and_then, in_front}
-use Rattle.cat_scope.specs.Readings.{choose, either}
+use Rattle.cat_scope.specs.Replies.{Reply, on_one}
+use Rattle.cat_scope.specs.Runs.{Run, gives, and_then, in_front, choose}
 use Rattle.cat_scope.specs.Operators.{operate, over_one}
 use Rattle.cat_scope.specs.Comparing.{equal}
 
 -- false at the first element that gives false, else true
-abbrev pub for_all : (Value → Reply) → List Value → Reply
-for_all of_each [] = Ok (Boolean true)
-for_all of_each (v ∷ vs) = and_then (of_each v) (λ t. choose t (for_all of_each vs) (Ok (Boolean false)))
+abbrev pub for_all : (Value → Run Value) → List Value → Run Value
+for_all of_each [] = gives (Boolean true)
+for_all of_each (v ∷ vs) = and_then (of_each v) (λ t. choose t (for_all of_each vs) (gives (Boolean false)))
 
 -- true at the first element that gives true, else false
-abbrev pub exists : (Value → Reply) → List Value → Reply
-exists of_each [] = Ok (Boolean false)
-exists of_each (v ∷ vs) = and_then (of_each v) (λ t. choose t (Ok (Boolean true)) (exists of_each vs))
+abbrev pub exists : (Value → Run Value) → List Value → Run Value
+exists of_each [] = gives (Boolean false)
+exists of_each (v ∷ vs) = and_then (of_each v) (λ t. choose t (gives (Boolean true)) (exists of_each vs))
 
 -- what comes of each element
-abbrev pub mapped : (Value → Reply) → List Value → Result (List Value) Stop
-mapped of_each [] = Ok []
+abbrev pub mapped : (Value → Run Value) → List Value → Run (List Value)
+mapped of_each [] = gives []
 mapped of_each (v ∷ vs) = in_front (of_each v) (mapped of_each vs)
 
 -- the elements that give true
-abbrev pub filtered : (Value → Reply) → List Value → Result (List Value) Stop
-filtered of_each [] = Ok []
-filtered of_each (v ∷ vs) = and_then (of_each v) (λ t. choose t (in_front (Ok v) (filtered of_each vs)) (filtered of_each vs))
+abbrev pub filtered : (Value → Run Value) → List Value → Run (List Value)
+filtered of_each [] = gives []
+filtered of_each (v ∷ vs) = and_then (of_each v) (λ t. choose t (in_front (gives v) (filtered of_each vs)) (filtered of_each vs))
 
 -- what comes of an element and what was combined before, one element after another
-abbrev pub combined : (Value → Value → Reply) → List Value → Value → Reply
-combined of_each [] before = Ok before
+abbrev pub combined : (Value → Value → Run Value) → List Value → Value → Run Value
+combined of_each [] before = gives before
 combined of_each (v ∷ vs) before = and_then (of_each v before) (λ after. combined of_each vs after)
 
 -- true at the first element that is equal to the value, else false
 abbrev pub contained : Pos → Value → List Value → Reply
 contained p value [] = Ok (Boolean false)
-contained p value (v ∷ vs) = and_then (equal p v value) (λ same. either (Ok same) (Ok (Boolean true)) (contained p value vs))
+contained p value (v ∷ vs) = on_one (equal p v value) (λ same. if same then Ok (Boolean true) else contained p value vs)
 
 -- the sum from zero on
 abbrev pub zero_of : SumKind → Value
@@ -61,4 +60,4 @@ adding sum.Durations = AddDurations
 -- each element is added to the total of those before it; a fault stands at `sum`
 abbrev pub summed : SumKind → Pos → List Value → Value → Reply
 summed kind p [] total = Ok total
-summed kind p (v ∷ vs) total = and_then (operate Refuse (adding kind) p total v) (λ t. summed kind p vs t)
+summed kind p (v ∷ vs) total = on_one (operate Refuse (adding kind) p total v) (λ t. summed kind p vs t)

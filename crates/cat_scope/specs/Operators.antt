@@ -15,7 +15,7 @@ use Rattle.cat_scope.specs.declared.operators.UnaryOp.{UnaryOp}
 use Rattle.cat_scope.specs.declared.operators.UnaryOp.TheVariants as unary
 use Rattle.cat_scope.specs.declared.operators.BinaryOp.{BinaryOp}
 use Rattle.cat_scope.specs.declared.operators.BinaryOp.TheVariants as binary
-use Rattle.cat_scope.specs.Replies.{Reply, and_then, exact, dated}
+use Rattle.cat_scope.specs.Replies.{Reply, on_one, exact, dated}
 use Rattle.cat_scope.specs.Readings.{truth, integer, decimal, money, date, duration}
 use Rattle.cat_scope.specs.Comparing.{compared, is_less, is_greater, differ, equal}
 
@@ -25,25 +25,25 @@ over_one n = record { num = n; den = 1 }
 
 -- two readings, the left one first
 abbrev pub on_two : {A B C : Type 0} → Result A Stop → Result B Stop → (A → B → Result C Stop) → Result C Stop
-on_two left right next = and_then left (λ a. and_then right (λ b. next a b))
+on_two left right next = on_one left (λ a. on_one right (λ b. next a b))
 
 -- what stands before one operand
 abbrev pub convert : UnaryOp → Pos → Value → Reply
-convert unary.NegateInteger p v = and_then (integer v) (λ n. Ok (Integer (neg_ℤ n)))
-convert unary.NegateDecimal p v = and_then (decimal v) (λ f. Ok (Decimal (frac_negation f)))
-convert unary.NegateMoney p v = and_then (money v) (λ cents. Ok (Money (neg_ℤ cents)))
-convert unary.NegateDuration p v = and_then (duration v) (λ span. Ok (Duration (span_negated span)))
-convert unary.Not p v = and_then (truth v) (λ b. Ok (Boolean (not b)))
-convert unary.IntegerOfDecimal p v = and_then (decimal v) (λ f. Ok (Integer (truncated f.num f.den)))
-convert unary.DecimalOfInteger p v = and_then (integer v) (λ n. Ok (Decimal (over_one n)))
-convert unary.DecimalOfMoney p v = and_then (money v) (λ cents. Ok (Decimal (lowest cents 100)))
-convert unary.MoneyOfDecimal p v = and_then (decimal v) (λ f. exact p Money (money_product (pos 100) f))
-convert unary.MoneyOfInteger p v = and_then (integer v) (λ n. exact p Money (whole_product n (pos 100)))
-convert unary.RoundDecimal p v = and_then (decimal v) (λ f. Ok (Decimal (over_one (rounded f.num f.den))))
-convert unary.RoundMoney p v = and_then (money v) (λ cents. Ok (Money (whole_units cents)))
-convert unary.YearOfDate p v = and_then (date v) (λ day. Ok (Integer (civil_of day).year))
-convert unary.MonthOfDate p v = and_then (date v) (λ day. Ok (Integer (pos (civil_of day).month)))
-convert unary.DayOfDate p v = and_then (date v) (λ day. Ok (Integer (pos (civil_of day).day)))
+convert unary.NegateInteger p v = on_one (integer v) (λ n. Ok (Integer (neg_ℤ n)))
+convert unary.NegateDecimal p v = on_one (decimal v) (λ f. Ok (Decimal (frac_negation f)))
+convert unary.NegateMoney p v = on_one (money v) (λ cents. Ok (Money (neg_ℤ cents)))
+convert unary.NegateDuration p v = on_one (duration v) (λ span. Ok (Duration (span_negated span)))
+convert unary.Not p v = on_one (truth v) (λ b. Ok (Boolean (not b)))
+convert unary.IntegerOfDecimal p v = on_one (decimal v) (λ f. Ok (Integer (truncated f.num f.den)))
+convert unary.DecimalOfInteger p v = on_one (integer v) (λ n. Ok (Decimal (over_one n)))
+convert unary.DecimalOfMoney p v = on_one (money v) (λ cents. Ok (Decimal (lowest cents 100)))
+convert unary.MoneyOfDecimal p v = on_one (decimal v) (λ f. exact p Money (money_product (pos 100) f))
+convert unary.MoneyOfInteger p v = on_one (integer v) (λ n. exact p Money (whole_product n (pos 100)))
+convert unary.RoundDecimal p v = on_one (decimal v) (λ f. Ok (Decimal (over_one (rounded f.num f.den))))
+convert unary.RoundMoney p v = on_one (money v) (λ cents. Ok (Money (whole_units cents)))
+convert unary.YearOfDate p v = on_one (date v) (λ day. Ok (Integer (civil_of day).year))
+convert unary.MonthOfDate p v = on_one (date v) (λ day. Ok (Integer (pos (civil_of day).month)))
+convert unary.DayOfDate p v = on_one (date v) (λ day. Ok (Integer (pos (civil_of day).day)))
 
 -- what stands between two operands; `r` is what becomes of a day that its month lacks
 abbrev pub operate : Rounding → BinaryOp → Pos → Value → Value → Reply
@@ -71,9 +71,9 @@ operate r binary.AddDurations p v w = on_two (duration v) (duration w) (λ a b. 
 operate r binary.SubtractDurations p v w = on_two (duration v) (duration w) (λ a b. dated p Duration (span_difference a b))
 operate r binary.MultiplyDurationByInteger p v w = on_two (duration v) (integer w) (λ a n. dated p Duration (span_multiple a n))
 operate r binary.Xor p v w = on_two (truth v) (truth w) (λ a b. Ok (Boolean (differ a b)))
-operate r binary.Less p v w = and_then (compared p v w) (λ o. Ok (Boolean (is_less o)))
-operate r binary.AtMost p v w = and_then (compared p v w) (λ o. Ok (Boolean (not (is_greater o))))
-operate r binary.Greater p v w = and_then (compared p v w) (λ o. Ok (Boolean (is_greater o)))
-operate r binary.AtLeast p v w = and_then (compared p v w) (λ o. Ok (Boolean (not (is_less o))))
-operate r binary.Equal p v w = and_then (equal p v w) (λ b. Ok (Boolean b))
-operate r binary.Unequal p v w = and_then (equal p v w) (λ b. Ok (Boolean (not b)))
+operate r binary.Less p v w = on_one (compared p v w) (λ o. Ok (Boolean (is_less o)))
+operate r binary.AtMost p v w = on_one (compared p v w) (λ o. Ok (Boolean (not (is_greater o))))
+operate r binary.Greater p v w = on_one (compared p v w) (λ o. Ok (Boolean (is_greater o)))
+operate r binary.AtLeast p v w = on_one (compared p v w) (λ o. Ok (Boolean (not (is_less o))))
+operate r binary.Equal p v w = on_one (equal p v w) (λ b. Ok (Boolean b))
+operate r binary.Unequal p v w = on_one (equal p v w) (λ b. Ok (Boolean (not b)))

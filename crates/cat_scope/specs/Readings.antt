@@ -1,5 +1,5 @@
 -- A value as one of a kind; a value of another kind is stuck.
-use Rattle.std.specs.Prelude.{ℕ, ℤ, Bool, true, false, List, Option, Result, Ok, Err}
+use Rattle.std.specs.Prelude.{ℕ, ℤ, Bool, List, Option, Result, Ok, Err}
 use Rattle.cat_num.specs.Frac.{Fraction}
 use Rattle.cat_date.specs.Span.{SpanOf}
 use Rattle.cat_value.specs.declared.value.Value.{Value}
@@ -88,13 +88,3 @@ parts value = parts_in (out-Value value)
 -- the number of one that is a case, and its content where it has one
 abbrev pub case_of : Value → Result (ℕ × Option Value) Stop
 case_of value = case_in (out-Value value)
-
--- one of two, by a truth value
-abbrev pub either : {A : Type 0} → Result Bool Stop → Result A Stop → Result A Stop → Result A Stop
-either (Ok true) one other = one
-either (Ok false) one other = other
-either (Err stop) one other = Err stop
-
--- one of two, by a value that is a boolean
-abbrev pub choose : {A : Type 0} → Value → Result A Stop → Result A Stop → Result A Stop
-choose value one other = either (truth value) one other

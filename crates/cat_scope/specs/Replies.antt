@@ -1,4 +1,4 @@
--- What comes of evaluating: a value, or the first stop in its place.
+-- What comes of values where nothing is decided: a value, or the first stop in its place.
 use Rattle.std.specs.Prelude.{List, ◌∷◌, Option, Some, None, Result, Ok, Err}
 use Rattle.cat_pos.specs.declared.pos.Pos.{Pos}
 use Rattle.cat_num.specs.declared.fault.NumFault.{NumFault}
@@ -15,9 +15,9 @@ abbrev pub Reply : Type 0
 Reply = Result Value Stop
 
 -- goes on with what is there, and passes a stop on
-abbrev pub and_then : {A B : Type 0} → Result A Stop → (A → Result B Stop) → Result B Stop
-and_then (Ok a) next = next a
-and_then (Err stop) next = Err stop
+abbrev pub on_one : {A B : Type 0} → Result A Stop → (A → Result B Stop) → Result B Stop
+on_one (Ok a) next = next a
+on_one (Err stop) next = Err stop
 
 -- what may be missing, where nothing may be missing
 abbrev pub known : {A : Type 0} → Option A → Result A Stop
@@ -30,8 +30,8 @@ done (Some value) = known value
 done None = Err Stuck
 
 -- one more in front of those that follow, or the first stop
-abbrev pub in_front : {A : Type 0} → Result A Stop → Result (List A) Stop → Result (List A) Stop
-in_front first rest = and_then first (λ a. and_then rest (λ more. Ok (a ∷ more)))
+abbrev pub with_front : {A : Type 0} → Result A Stop → Result (List A) Stop → Result (List A) Stop
+with_front first rest = on_one first (λ a. on_one rest (λ more. Ok (a ∷ more)))
 
 -- the stop at a place for which an exact result does not fit, or has a divisor 0
 abbrev pub num_stop : Pos → NumFault → Stop

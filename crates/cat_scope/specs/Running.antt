@@ -10,8 +10,8 @@ use Rattle.cat_scope.specs.declared.expr.Expr.{Expr}
 use Rattle.cat_scope.specs.declared.defs.Assertion.{Assertion}
 use Rattle.cat_scope.specs.declared.defs.Body.{Body}
 use Rattle.cat_scope.specs.declared.programs.Program.{Program}
-use Rattle.cat_scope.specs.Replies.{Reply, and_then, known, in_front}
-use Rattle.cat_scope.specs.Readings.{choose}
+use Rattle.cat_scope.specs.Replies.{known, with_front}
+use Rattle.cat_scope.specs.Runs.{Run, plain, gives, stops, and_then, choose}
 use Rattle.cat_scope.specs.Names.{is_output}
 use Rattle.cat_scope.specs.Eval.{eval}
 use Rattle.cat_scope.specs.Calls.{Items, Runs, Scoped, env_of, call}
@@ -30,8 +30,8 @@ with_entry zero v (w ∷ ws) = v ∷ ws
 with_entry (suc item) v (w ∷ ws) = w ∷ with_entry item v ws
 
 -- the items that are left, in their order, behind those that stand before, the last of these first
-abbrev pub run_items : Scoped → Items → List ℕ → Items → List ℕ → Result Items Stop
-run_items scoped input before values [] = Ok values
+abbrev pub run_items : Scoped → Items → List ℕ → Items → List ℕ → Run Items
+run_items scoped input before values [] = gives values
 run_items scoped input before values (item ∷ left) =
     and_then (item_value scoped before values item (entry_at item input) (slice_get scoped.items item))
     (λ v. run_items scoped input (item ∷ before) (with_entry item v values) left)
@@ -42,15 +42,15 @@ no_values [] = []
 no_values (item ∷ items) = None ∷ no_values items
 
 -- the assertions in source order: a false one is a fault at its keyword
-abbrev pub asserted : {A : Type 0} → (Expr → Reply) → List Assertion → Result A Stop → Result A Stop
+abbrev pub asserted : {A : Type 0} → (Expr → Run Value) → List Assertion → Run A → Run A
 asserted value [] last = last
-asserted value (a ∷ rest) last = and_then (value a.condition) (λ t. choose t (asserted value rest last) (Err (Fault AssertionFailed a.keyword)))
+asserted value (a ∷ rest) last = and_then (value a.condition) (λ t. choose t (asserted value rest last) (stops (Fault AssertionFailed a.keyword)))
 
 -- the values of the outputs, in the order of their declarations
 abbrev pub outputs_of : List ItemDecl → Items → Result (List Value) Stop
 outputs_of [] values = Ok []
 outputs_of (item ∷ items) [] = Err Stuck
-outputs_of (item ∷ items) (v ∷ values) = if is_output item.kind then in_front (known v) (outputs_of items values) else outputs_of items values
+outputs_of (item ∷ items) (v ∷ values) = if is_output item.kind then with_front (known v) (outputs_of items values) else outputs_of items values
 
 -- numbers, the last of them first
 abbrev pub moved : List ℕ → List ℕ → List ℕ
@@ -62,29 +62,29 @@ abbrev pub backwards : List ℕ → List ℕ
 backwards ns = moved [] ns
 
 -- a scope on an input
-abbrev pub run_scoped : Scoped → Items → Result (List Value) Stop
+abbrev pub run_scoped : Scoped → Items → Run (List Value)
 run_scoped scoped input =
     and_then (run_items scoped input [] (no_values scoped.items) scoped.body.order)
-    (λ values. asserted (λ e. eval (env_of scoped (call scoped values (backwards scoped.body.order)) values) e []) scoped.body.assertions (outputs_of scoped.items values))
+    (λ values. asserted (λ e. eval (env_of scoped (call scoped values (backwards scoped.body.order)) values) e []) scoped.body.assertions (plain (outputs_of scoped.items values)))
 
 -- the scope of that number, where it is declared and has a body
-abbrev pub run_scope : List Scope → Runs → ℕ → Option Scope → Option Body → Items → Result (List Value) Stop
-run_scope scopes runs n None body input = Err Stuck
-run_scope scopes runs n (Some scope) None input = Err Stuck
+abbrev pub run_scope : List Scope → Runs → ℕ → Option Scope → Option Body → Items → Run (List Value)
+run_scope scopes runs n None body input = stops Stuck
+run_scope scopes runs n (Some scope) None input = stops Stuck
 run_scope scopes runs n (Some scope) (Some body) input =
     run_scoped (record { scope = n; items = scope.items; body = body; scopes = scopes; runs = runs }) input
 
 -- a scope among those that stand before, the last of them first: each runs only those that stand before itself
 abbrev pub run : List Scope → List Body → List ℕ → Runs
-run scopes bodies [] scope input = Err Stuck
+run scopes bodies [] scope input = stops Stuck
 run scopes bodies (n ∷ before) scope input =
     if nat_eq n scope then run_scope scopes (run scopes bodies before) n (slice_get scopes n) (slice_get bodies n) input
     else run scopes bodies before scope input
 
 -- what a scope gives for an input, by the declarations of the scopes, their bodies and their order
-unfoldable pub reply_of : List Scope → List Body → List ℕ → Runs
-reply_of scopes bodies order scope input = run scopes bodies (backwards order) scope input
+unfoldable pub run_of : List Scope → List Body → List ℕ → Runs
+run_of scopes bodies order scope input = run scopes bodies (backwards order) scope input
 
 -- what a scope of a program gives for an input
-abbrev pub scope_reply : Program → Runs
-scope_reply program = reply_of program.decls.scopes program.bodies program.scope_order
+abbrev pub scope_run : Program → Runs
+scope_run program = run_of program.decls.scopes program.bodies program.scope_order

@@ -7,10 +7,10 @@ use Rattle.cat_value.specs.declared.outcome.Target.{Target}
 use Rattle.cat_scope.specs.declared.stop.Stop.TheVariants.{NoValue, Stuck}
 use Rattle.cat_scope.specs.declared.expr.Expr.{Expr}
 use Rattle.cat_scope.specs.declared.defs.Def.{Def}
-use Rattle.cat_scope.specs.Replies.{Reply, and_then}
-use Rattle.cat_scope.specs.Readings.{choose}
+use Rattle.cat_scope.specs.Replies.{Reply}
+use Rattle.cat_scope.specs.Runs.{Run, gives, stops, and_then, giving, choose}
 use Rattle.cat_scope.specs.Groups.{Numbered, Group, groups_of, roots_of, excepts}
-use Rattle.cat_scope.specs.Judging.{Judged, settle, judge}
+use Rattle.cat_scope.specs.Judging.{Held, Judged, settle, judge}
 
 -- two inner items are the same, or there is none in both
 abbrev pub same_inner : Option ℕ → Option ℕ → Bool
@@ -28,30 +28,38 @@ defs_from target n [] = []
 defs_from target n (d ∷ ds) = if same_target d.target target then (n, d) ∷ defs_from target (n + 1) ds else defs_from target (n + 1) ds
 
 -- a condition is true where there is none
-abbrev pub condition_of : (Expr → Reply) → Option Expr → Reply
-condition_of value None = Ok (Boolean true)
+abbrev pub condition_of : (Expr → Run Value) → Option Expr → Run Value
+condition_of value None = gives (Boolean true)
 condition_of value (Some e) = value e
 
 -- a definition that holds, with what it gives
-abbrev pub held_as : Numbered → Value → Judged Value
-held_as d v = Ok (Some (record { number = d.0; pos = d.1.pos; value = v }))
+abbrev pub held_as : Numbered → Value → Held Value
+held_as d v = record { number = d.0; pos = d.1.pos; value = v }
 
 -- a definition: its condition and, where that is true, at once its consequence
-abbrev pub judge_def : (Expr → Reply) → Numbered → Judged Value
-judge_def value d = and_then (condition_of value d.1.condition) (λ t. choose t (and_then (value d.1.consequence) (held_as d)) (Ok None))
+abbrev pub judge_def : (Expr → Run Value) → Numbered → Judged Value
+judge_def value d = and_then (condition_of value d.1.condition) (λ t. choose t (and_then (value d.1.consequence) (λ v. gives (Some (held_as d v)))) (gives None))
 
--- a group's own definitions
-abbrev pub judge_own : (Expr → Reply) → Target → Option Group → Judged Value
-judge_own value target None = Err Stuck
-judge_own value target (Some group) = settle target (map (judge_def value) group.defs)
+-- a group's own definitions, where each definition comes to something
+abbrev pub own_by : {A : Type 0} → (Numbered → Judged A) → Target → Option Group → Judged A
+own_by each target None = stops Stuck
+own_by each target (Some group) = settle target (map each group.defs)
 
 -- a target is judged as the list of its roots
-abbrev pub judge_groups : (Expr → Reply) → Target → List Group → Judged Value
-judge_groups value target groups =
-    settle target (map (judge target (excepts groups) (λ g. judge_own value target (slice_get groups g)) (length groups)) (roots_of groups))
+abbrev pub groups_by : {A : Type 0} → (Numbered → Judged A) → Target → List Group → Judged A
+groups_by each target groups =
+    settle target (map (judge target (excepts groups) (λ g. own_by each target (slice_get groups g)) (length groups)) (roots_of groups))
+
+-- a group's own definitions, each by its condition and its consequence
+abbrev pub judge_own : (Expr → Run Value) → Target → Option Group → Judged Value
+judge_own value target group = own_by (judge_def value) target group
+
+-- all groups of a target
+abbrev pub judge_groups : (Expr → Run Value) → Target → List Group → Judged Value
+judge_groups value target groups = groups_by (judge_def value) target groups
 
 -- a target, by the definitions of its scope
-unfoldable pub judge_target : (Expr → Reply) → Target → List Def → Judged Value
+unfoldable pub judge_target : (Expr → Run Value) → Target → List Def → Judged Value
 judge_target value target defs = judge_groups value target (groups_of (defs_from target 0 defs))
 
 -- in place of a value where no definition holds: false for a condition, else NoValue at a place
@@ -59,8 +67,7 @@ abbrev pub absent : Target → Pos → Bool → Reply
 absent target place true = Ok (Boolean false)
 absent target place false = Err (NoValue target place)
 
--- the value of a target
-abbrev pub value_or : Reply → Judged Value → Reply
-value_or other (Ok (Some h)) = Ok h.value
-value_or other (Ok None) = other
-value_or other (Err stop) = Err stop
+-- the value of a target, by what holds there
+abbrev pub value_or : Reply → Option (Held Value) → Reply
+value_or other (Some h) = Ok h.value
+value_or other None = other

@@ -1,8 +1,6 @@
 // The groups of a scope's definitions, and which of them except which.
-ghost use Rattle.std.specs.Prelude.{◌≡◌, ◌↔◌, IsTrue, List as Listed};
-ghost use Rattle.cat_scope.specs.Names.{AllHave};
-ghost use Rattle.cat_scope.specs.Forests.{are_low, IsLow};
-ghost use Rattle.cat_scope.specs.declared.forest.ForestTarget.{ForestTarget};
+ghost use Rattle.std.specs.Prelude.{◌≡◌, IsTrue};
+ghost use Rattle.cat_scope.specs.Forests.{are_low};
 
 use cat_pos::{List, Numbers};
 use cat_value::Target;
@@ -42,9 +40,3 @@ impl Forest {
         Forest { targets }
     }
 }
-
-/// The invariant of a forest says just this: no group is above itself, and no chain is longer than 256.
-#[tactic(auto, using(crate::proofs::ForestLaws::are_low_says))]
-pub fn forests_have_short_chains()
-    ensures { (targets : Listed ForestTarget) → IsTrue (are_low targets) ↔ AllHave IsLow targets }
-{}

@@ -98,3 +98,8 @@ impl Program {
         None
     }
 }
+
+/// What the invariant of a program says.
+pub fn programs_are_well_formed(program: &Program)
+    ensures { ∥ IsWellFormed program.now.decls program.now.bodies program.now.scope_order ∥₁ }
+{}

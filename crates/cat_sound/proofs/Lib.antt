@@ -1,0 +1,31 @@
+mod WellFormedParts
+mod WellFormedCalls
+mod WellFormedNested
+mod WellFormedChain
+mod ProgramSamples
+mod IllFormed
+pub mod TargetLaws
+pub mod Cycles
+pub mod ForestLaws
+pub mod JudgeLaws
+pub mod Results
+pub mod Endings
+pub mod Fits
+pub mod FlatTypes
+pub mod OperatorTypes
+pub mod ListTypes
+pub mod NamedParts
+pub mod FormTypes
+pub mod ExprTypes
+pub mod Trails
+pub mod TargetTypes
+pub mod OrderFacts
+pub mod InputTypes
+pub mod ScopeTypes
+pub mod RunTypes
+pub mod OutcomeTypes
+pub mod GivenValues
+pub mod PartTypes
+pub mod RunParts
+pub mod ByParts
+pub mod Rests

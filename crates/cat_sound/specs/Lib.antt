@@ -1,0 +1,9 @@
+-- how typed programs end
+pub mod Endings
+pub mod Settled
+-- typed parts
+pub mod Parts
+-- what an expression rests on
+pub mod Rests
+-- what is given
+pub mod Given

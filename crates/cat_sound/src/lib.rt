@@ -1,0 +1,18 @@
+//! What holds of the meaning of programs: each law is the contract of a function.
+#![tactic(auto)]
+
+mod given;
+mod judging;
+mod resting;
+mod typing;
+
+pub use given::{each_item_is_judged, given_outputs_stand, given_values_stand};
+pub use judging::{
+    conditions_have_values, forests_have_short_chains, groups_are_judged_by_their_rule,
+    targets_rest_on_their_definitions,
+};
+pub use resting::expressions_rest_on_what_they_name;
+pub use typing::{
+    conversions_go_on, expressions_go_on, operators_go_on, parts_are_typed, programs_go_on,
+    settled_programs_go_on,
+};
