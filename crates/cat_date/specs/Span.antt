@@ -1,7 +1,8 @@
 -- Durations of months and days: which ones there are, their order and their arithmetic.
-use Rattle.std.specs.Prelude.{ℕ, nat_le, Bool, ◌&&◌, if◌then◌else◌, IsTrue, ℤ, pos, neg_ℤ, ◌+ℤ◌, ◌-ℤ◌, ◌*ℤ◌, unsigned_abs, Result, Ok, Err}
+use Rattle.std.specs.Prelude.{Bool, ◌&&◌, if◌then◌else◌, IsTrue, ℤ, pos, neg_ℤ, ◌+ℤ◌, ◌-ℤ◌, ◌*ℤ◌, Result, Ok, Err}
 use Rattle.std.specs.Ordering.{int_eq, int_cmp}
 use Rattle.std.specs.declared.cmp.Ordering.{Ordering}
+use Rattle.cat_num.specs.Whole.{fits}
 use Rattle.cat_date.specs.declared.fault.DateFault.{DateFault}
 use Rattle.cat_date.specs.declared.fault.DateFault.TheVariants.{Overflow, Uncomparable}
 
@@ -10,13 +11,9 @@ pub record SpanOf : Type 0 where
   pub months : ℤ
   pub days : ℤ
 
--- the greatest size of a part
-abbrev pub greatest_part : ℕ
-greatest_part = 9_223_372_036_854_775_807
-
 -- a number that a part may be
 abbrev pub is_part : ℤ → Bool
-is_part n = nat_le (unsigned_abs n) greatest_part
+is_part n = fits n
 
 -- both parts are such numbers
 abbrev pub is_span : SpanOf → Bool

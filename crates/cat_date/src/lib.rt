@@ -6,10 +6,7 @@ mod day;
 mod fault;
 mod laws;
 mod rounding;
-mod span;
-#[cfg(test)]
-mod tests;
-mod text;
+mod span;mod text;
 
 pub use add::add_span;
 pub use day::{Day, cmp_day, day_of, days_between, month, number, year};

@@ -22,6 +22,3 @@ pub use refusal::LexRefusal;
 pub use symbol::Symbol;
 pub use token::{Token, TokenKind, Tokens};
 pub use words::{DoubleKeyword, Keyword};
-
-#[cfg(test)]
-mod tests;

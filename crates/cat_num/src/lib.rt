@@ -19,6 +19,3 @@ pub use money::{Money, money_over, money_times, round_units};
 pub use round::{round_half_away, truncate};
 pub use text::{decimal_text, money_text};
 pub use whole::Whole;
-
-#[cfg(test)]
-mod tests;

@@ -9,14 +9,14 @@ ghost use Rattle.cat_num.specs.Rounding.{money_product, money_quotient, whole_un
 use crate::fault::NumFault;
 use crate::frac::{Frac, product, scaled};
 use crate::round::{nearest, nearest_ratio};
-use crate::whole::fitted;
+use crate::whole::Whole;
 use std::cmp::Ordering;
 use std::marker::Model;
 
 /// An amount of money: a number of cents from -M to M, where M is 2^63 - 1.
 #[derive(Clone, Copy, PartialEq, Eq, PartialOrd, Ord, Hash, Debug)]
 pub struct Money {
-    cents: i64,
+    cents: Whole,
 }
 
 impl Model for Money {
@@ -38,10 +38,9 @@ impl Money {
         ensures some { IsSome result ↔ Fits cents }
         ensures value { IfSome result (λ m. m ≡ cents) }
     {
-        if cents == i64::MIN {
-            None
-        } else {
-            Some(Money { cents })
+        match Whole::new(cents) {
+            Some(cents) => Some(Money { cents }),
+            None => None,
         }
     }
 
@@ -50,14 +49,14 @@ impl Money {
         ensures value { result ≡ self }
         ensures fits { Fits self }
     {
-        self.cents
+        self.cents.get()
     }
 
     /// The sum, or Overflow.
     pub fn add(self, other: Money) -> Result<Money, NumFault>
         ensures { result ≡ whole_sum self other }
     {
-        let cents = fitted(self.cents as i128 + other.cents as i128)?;
+        let cents = self.cents.add(other.cents)?;
         Ok(Money { cents })
     }
 
@@ -65,7 +64,7 @@ impl Money {
     pub fn sub(self, other: Money) -> Result<Money, NumFault>
         ensures { result ≡ whole_difference self other }
     {
-        let cents = fitted(self.cents as i128 - other.cents as i128)?;
+        let cents = self.cents.sub(other.cents)?;
         Ok(Money { cents })
     }
 
@@ -73,14 +72,16 @@ impl Money {
     pub fn neg(self) -> Money
         ensures { result ≡ neg_ℤ self }
     {
-        Money { cents: -self.cents }
+        Money {
+            cents: self.cents.neg(),
+        }
     }
 
     /// The order of the amounts.
     pub fn cmp(self, other: Money) -> Ordering
         ensures { result ≡ int_cmp self other }
     {
-        self.cents.cmp(&other.cents)
+        self.cents.cmp(other.cents)
     }
 
     /// The exact quotient of two amounts, or DivisionByZero.
@@ -88,7 +89,7 @@ impl Money {
         ensures value { result ≡ frac_of self other }
         ensures fits { result ≢ Err NumFault.Overflow }
     {
-        Frac::new(self.cents as i128, other.cents as i128)
+        self.cents.over(other.cents)
     }
 }
 
@@ -97,7 +98,7 @@ impl Money {
 pub fn money_times(m: Money, f: Frac) -> Result<Money, NumFault>
     ensures { result ≡ money_product m f }
 {
-    let cents = nearest_ratio(product(m.cents, f.num()), f.den())?;
+    let cents = nearest_ratio(product(m.get(), f.num()), f.den())?;
     Ok(Money { cents })
 }
 
@@ -107,7 +108,7 @@ pub fn money_over(m: Money, f: Frac) -> Result<Money, NumFault>
     ensures value { result ≡ money_quotient m f }
     ensures whole { f.den ≡ 1 → result ≢ Err NumFault.Overflow }
 {
-    let cents = nearest_ratio(scaled(m.cents, f.den() as u64), f.num())?;
+    let cents = nearest_ratio(scaled(m.get(), f.den() as u64), f.num())?;
     Ok(Money { cents })
 }
 
@@ -115,8 +116,8 @@ pub fn money_over(m: Money, f: Frac) -> Result<Money, NumFault>
 pub fn round_units(m: Money) -> Money
     ensures { result ≡ whole_units m }
 {
-    let units = nearest(m.cents as i128, 100);
+    let units = nearest(m.get() as i128, 100);
     Money {
-        cents: (units * 100) as i64,
+        cents: Whole::within(units * 100),
     }
 }

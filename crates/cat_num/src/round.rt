@@ -24,7 +24,7 @@ pub(crate) fn nearest(num: i128, den: u128) -> i128
 
 /// The whole number nearest to `num / den`, where it fits.
 #[tactic(auto, using(crate::proofs::Rounds::by_sign))]
-pub(crate) fn nearest_ratio(num: i128, den: i64) -> Result<i64, NumFault>
+pub(crate) fn nearest_ratio(num: i128, den: i64) -> Result<Whole, NumFault>
     requires num { unsigned_abs num < 2 ^ 126 }
     ensures { result ≡ rounded_ratio num den }
 {

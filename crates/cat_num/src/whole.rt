@@ -29,14 +29,14 @@ impl Model for Whole {
     ghost inverse = { λ n. record { value = n } };
 }
 
-/// The number as an `i64`, where it lies between -M and M.
-pub(crate) fn fitted(n: i128) -> Result<i64, NumFault>
+/// The number, where it lies between -M and M.
+pub(crate) fn fitted(n: i128) -> Result<Whole, NumFault>
     ensures { result ≡ whole_of n }
 {
     if n.unsigned_abs() > i64::MAX as u128 {
         Err(NumFault::Overflow)
     } else {
-        Ok(n as i64)
+        Ok(Whole { value: n as i64 })
     }
 }
 
@@ -73,24 +73,21 @@ impl Whole {
     pub fn add(self, other: Whole) -> Result<Whole, NumFault>
         ensures { result ≡ whole_sum self other }
     {
-        let value = fitted(self.value as i128 + other.value as i128)?;
-        Ok(Whole { value })
+        fitted(self.value as i128 + other.value as i128)
     }
 
     /// The difference, or Overflow.
     pub fn sub(self, other: Whole) -> Result<Whole, NumFault>
         ensures { result ≡ whole_difference self other }
     {
-        let value = fitted(self.value as i128 - other.value as i128)?;
-        Ok(Whole { value })
+        fitted(self.value as i128 - other.value as i128)
     }
 
     /// The product, or Overflow.
     pub fn mul(self, other: Whole) -> Result<Whole, NumFault>
         ensures { result ≡ whole_product self other }
     {
-        let value = fitted(self.value as i128 * other.value as i128)?;
-        Ok(Whole { value })
+        fitted(self.value as i128 * other.value as i128)
     }
 
     /// The number with the other sign, which always fits.

@@ -39,6 +39,3 @@ pub fn order(alloc: Global, count: u32, deps: &[Numbers]) -> Result<Numbers, Ord
     }
     Ok(listed)
 }
-
-#[cfg(test)]
-mod tests;

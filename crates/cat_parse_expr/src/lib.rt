@@ -10,6 +10,3 @@ mod standing;
 
 pub use expression::{expr, expr_reach, tokens_spell_one_expression};
 pub use refusal::ParseRefusal;
-
-#[cfg(test)]
-mod tests;

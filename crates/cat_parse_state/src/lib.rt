@@ -14,6 +14,3 @@ pub use group::{Group, group_of};
 pub use levels::{left_level, operator_level};
 pub use reading::{feed, start};
 pub use state::{Combining, Matching, Owner, Part, Reading, State};
-
-#[cfg(test)]
-mod tests;

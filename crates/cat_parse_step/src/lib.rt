@@ -14,6 +14,3 @@ mod step_whole;
 
 pub use follow::Follow;
 pub use shifting::{Shifted, shift};
-
-#[cfg(test)]
-mod tests;

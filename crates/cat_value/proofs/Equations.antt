@@ -82,13 +82,13 @@ passes_same : {A : Type 0} (p q : A → Bool) (x : Option A) → ((a : A) → p 
 passes_same p q None same = refl
 passes_same p q (Some a) same = same a
 
-structure_is : (ds : Decls) (vs : List Value) (n : ℕ) → structure_typed ds (map (has_type ds) vs) (Ty-F.Structure n) ≡ is_structure ds n vs
+pub structure_is : (ds : Decls) (vs : List Value) (n : ℕ) → structure_typed ds (map (has_type ds) vs) (Ty-F.Structure n) ≡ is_structure ds n vs
 structure_is ds vs n = passes_same _ _ (fields_of ds n) (fields_are ds vs)
 
-case_is : (ds : Decls) (k : ℕ) (content : Option Value) (n : ℕ) → case_typed ds k (option_map (has_type ds) content) (Ty-F.Enumeration n) ≡ is_case ds n k content
+pub case_is : (ds : Decls) (k : ℕ) (content : Option Value) (n : ℕ) → case_typed ds k (option_map (has_type ds) content) (Ty-F.Enumeration n) ≡ is_case ds n k content
 case_is ds k content n = passes_same _ _ (content_of ds n k) (contents_are ds content)
 
-list_is : (ds : Decls) (vs : List Value) (t : Ty) → list_typed ds (map (has_type ds) vs) (Ty-F.List t) ≡ elements_typed ds vs t
+pub list_is : (ds : Decls) (vs : List Value) (t : Ty) → list_typed ds (map (has_type ds) vs) (Ty-F.List t) ≡ elements_typed ds vs t
 list_is ds vs t = rw (length-map vs (has_type ds)) (ap (λ rest. is_type ds t && nat_le (length vs) most_elements && rest) (all_is ds vs t))
 
 -- a test by the levels of value and type

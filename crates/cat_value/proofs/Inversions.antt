@@ -1,5 +1,5 @@
 -- What follows of a value and a type from the value being one of the type.
-use Rattle.std.proofs.Common.{◌≡◌, ℕ, ℤ, Bool, IsTrue, List, map, Option, refl, ap, sym, ◌∙◌, true≢false}
+use Rattle.std.proofs.Common.{◌≡◌, ℕ, ℤ, Bool, IsTrue, List, map, Option, refl, ap, sym, ◌∙◌, subst, true≢false}
 use Rattle.std.specs.Option.{option_map}
 use Rattle.cat_num.specs.Whole.{fits}
 use Rattle.cat_num.specs.Frac.{Fraction}
@@ -16,7 +16,7 @@ use Rattle.cat_value.specs.declared.value.Value.TheViews as value
 use Rattle.cat_value.specs.declared.decls.Decls.{Decls}
 use Rattle.cat_value.specs.Typing.{has_type, list_typed, structure_typed, case_typed, elements_typed, is_structure, is_case}
 use Rattle.cat_value.specs.Flat.{is_decimal}
-use Rattle.cat_value.proofs.Equations.{has_type_List, has_type_Structure, has_type_Case, has_type-levels, tested, tested_Case}
+use Rattle.cat_value.proofs.Equations.{has_type_List, has_type_Structure, has_type_Case, has_type-levels, tested, tested_Case, list_is, structure_is, case_is}
 
 -- the type by its level
 pub whole : (t : Ty) (y : Ty-F Ty) (u : Ty) → ty.out-Ty t ≡ y → ty.roll-Ty y ≡ u → t ≡ u
@@ -53,69 +53,64 @@ case_of ds k content t h = by (ty.out-Ty t) refl (rw (case_seen ds k content t) 
     by (Ty-F.Enumeration n) q g = let is : t ≡ flat_ty.Enumeration n = whole t (Ty-F.Enumeration n) (flat_ty.Enumeration n) q (ty.rolls-Enumeration n) in (n, is, rw (is, has_type_Case ds k content n) at h)
     by _ q g = absurd (true≢false (sym g))
 
--- the value by its level
-whole_value : (v : Value) (y : Value-F Value) (u : Value) → value.out-Value v ≡ y → value.roll-Value y ≡ u → v ≡ u
-whole_value v y u q r = sym (value.roll-out-Value v) ∙ ap value.roll-Value q ∙ r
+-- a value of this level
+by_level : {v : Value} {y : Value-F Value} → value.out-Value v ≡ y → v ≡ value.roll-Value y
+by_level {v} {y} q = sym (value.roll-out-Value v) ∙ ap value.roll-Value q
 
-pub boolean_value : (ds : Decls) (v : Value) → IsTrue (has_type ds v flat_ty.Boolean) → (b : Bool) × (v ≡ flat.Boolean b)
-boolean_value ds v h = by (value.out-Value v) refl (rw (has_type-levels ds v flat_ty.Boolean, ty.outs-Boolean) at h)
-  where
-    by : (y : Value-F Value) → value.out-Value v ≡ y → IsTrue (tested ds y Ty-F.Boolean) → (b : Bool) × (v ≡ flat.Boolean b)
-    by (Value-F.Boolean b) q g = (b, whole_value v (Value-F.Boolean b) (flat.Boolean b) q (value.rolls-Boolean b))
-    by _ q g = absurd (true≢false (sym g))
+-- what a value of a type is, by the level of the type
+abbrev pub ValueOf : Decls → Ty-F Ty → Value → Type 0
+ValueOf ds Ty-F.Boolean v = (b : Bool) × (v ≡ flat.Boolean b)
+ValueOf ds Ty-F.Integer v = (n : ℤ) × (v ≡ flat.Integer n) × IsTrue (fits n)
+ValueOf ds Ty-F.Decimal v = (f : Fraction) × (v ≡ flat.Decimal f) × IsTrue (is_decimal f)
+ValueOf ds Ty-F.Money v = (n : ℤ) × (v ≡ flat.Money n) × IsTrue (fits n)
+ValueOf ds Ty-F.Date v = (day : ℤ) × (v ≡ flat.Date day) × IsTrue (is_day day)
+ValueOf ds Ty-F.Duration v = (span : SpanOf) × (v ≡ flat.Duration span) × IsTrue (is_span span)
+ValueOf ds (Ty-F.List e) v = (vs : List Value) × (v ≡ value.List vs) × IsTrue (elements_typed ds vs e)
+ValueOf ds (Ty-F.Structure n) v = (vs : List Value) × (v ≡ value.Structure vs) × IsTrue (is_structure ds n vs)
+ValueOf ds (Ty-F.Enumeration n) v =
+    (k : ℕ) × (content : Option Value) × (v ≡ value.Case k content) × IsTrue (is_case ds n k content)
 
-pub integer_value : (ds : Decls) (v : Value) → IsTrue (has_type ds v flat_ty.Integer) → (n : ℤ) × (v ≡ flat.Integer n) × IsTrue (fits n)
-integer_value ds v h = by (value.out-Value v) refl (rw (has_type-levels ds v flat_ty.Integer, ty.outs-Integer) at h)
+value_of : (ds : Decls) (v : Value) (t : Ty) (u : Ty-F Ty) → ty.out-Ty t ≡ u → IsTrue (has_type ds v t) → ValueOf ds u v
+value_of ds v t u is h = by (value.out-Value v) u refl (rw (has_type-levels ds v t, is) at h)
   where
-    by : (y : Value-F Value) → value.out-Value v ≡ y → IsTrue (tested ds y Ty-F.Integer) → (n : ℤ) × (v ≡ flat.Integer n) × IsTrue (fits n)
-    by (Value-F.Integer n) q g = (n, whole_value v (Value-F.Integer n) (flat.Integer n) q (value.rolls-Integer n), g)
-    by _ q g = absurd (true≢false (sym g))
+    by : (y : Value-F Value) (u : Ty-F Ty) → value.out-Value v ≡ y → IsTrue (tested ds y u) → ValueOf ds u v
+    by (Value-F.Boolean b) Ty-F.Boolean q g = (b, by_level q ∙ value.rolls-Boolean b)
+    by (Value-F.Integer n) Ty-F.Integer q g = (n, by_level q ∙ value.rolls-Integer n, g)
+    by (Value-F.Decimal f) Ty-F.Decimal q g = (f, by_level q ∙ value.rolls-Decimal f, g)
+    by (Value-F.Money n) Ty-F.Money q g = (n, by_level q ∙ value.rolls-Money n, g)
+    by (Value-F.Date day) Ty-F.Date q g = (day, by_level q ∙ value.rolls-Date day, g)
+    by (Value-F.Duration span) Ty-F.Duration q g = (span, by_level q ∙ value.rolls-Duration span, g)
+    by (Value-F.List vs) (Ty-F.List e) q g = (vs, by_level q ∙ value.rolls-List vs, subst IsTrue (list_is ds vs e) g)
+    by (Value-F.Structure vs) (Ty-F.Structure n) q g =
+        (vs, by_level q ∙ value.rolls-Structure vs, subst IsTrue (structure_is ds vs n) g)
+    by (Value-F.Case k content) (Ty-F.Enumeration n) q g =
+        (k, content, by_level q ∙ value.rolls-Case k content,
+         subst IsTrue (tested_Case ds k content (Ty-F.Enumeration n) ∙ case_is ds k content n) g)
+    by _ _ q g = absurd (true≢false (sym g))
 
-pub decimal_value : (ds : Decls) (v : Value) → IsTrue (has_type ds v flat_ty.Decimal) → (f : Fraction) × (v ≡ flat.Decimal f) × IsTrue (is_decimal f)
-decimal_value ds v h = by (value.out-Value v) refl (rw (has_type-levels ds v flat_ty.Decimal, ty.outs-Decimal) at h)
-  where
-    by : (y : Value-F Value) → value.out-Value v ≡ y → IsTrue (tested ds y Ty-F.Decimal) → (f : Fraction) × (v ≡ flat.Decimal f) × IsTrue (is_decimal f)
-    by (Value-F.Decimal f) q g = (f, whole_value v (Value-F.Decimal f) (flat.Decimal f) q (value.rolls-Decimal f), g)
-    by _ q g = absurd (true≢false (sym g))
+pub boolean_value : (ds : Decls) (v : Value) → IsTrue (has_type ds v flat_ty.Boolean) → ValueOf ds Ty-F.Boolean v
+boolean_value ds v = value_of ds v flat_ty.Boolean Ty-F.Boolean ty.outs-Boolean
 
-pub money_value : (ds : Decls) (v : Value) → IsTrue (has_type ds v flat_ty.Money) → (n : ℤ) × (v ≡ flat.Money n) × IsTrue (fits n)
-money_value ds v h = by (value.out-Value v) refl (rw (has_type-levels ds v flat_ty.Money, ty.outs-Money) at h)
-  where
-    by : (y : Value-F Value) → value.out-Value v ≡ y → IsTrue (tested ds y Ty-F.Money) → (n : ℤ) × (v ≡ flat.Money n) × IsTrue (fits n)
-    by (Value-F.Money n) q g = (n, whole_value v (Value-F.Money n) (flat.Money n) q (value.rolls-Money n), g)
-    by _ q g = absurd (true≢false (sym g))
+pub integer_value : (ds : Decls) (v : Value) → IsTrue (has_type ds v flat_ty.Integer) → ValueOf ds Ty-F.Integer v
+integer_value ds v = value_of ds v flat_ty.Integer Ty-F.Integer ty.outs-Integer
 
-pub date_value : (ds : Decls) (v : Value) → IsTrue (has_type ds v flat_ty.Date) → (day : ℤ) × (v ≡ flat.Date day) × IsTrue (is_day day)
-date_value ds v h = by (value.out-Value v) refl (rw (has_type-levels ds v flat_ty.Date, ty.outs-Date) at h)
-  where
-    by : (y : Value-F Value) → value.out-Value v ≡ y → IsTrue (tested ds y Ty-F.Date) → (day : ℤ) × (v ≡ flat.Date day) × IsTrue (is_day day)
-    by (Value-F.Date day) q g = (day, whole_value v (Value-F.Date day) (flat.Date day) q (value.rolls-Date day), g)
-    by _ q g = absurd (true≢false (sym g))
+pub decimal_value : (ds : Decls) (v : Value) → IsTrue (has_type ds v flat_ty.Decimal) → ValueOf ds Ty-F.Decimal v
+decimal_value ds v = value_of ds v flat_ty.Decimal Ty-F.Decimal ty.outs-Decimal
 
-pub duration_value : (ds : Decls) (v : Value) → IsTrue (has_type ds v flat_ty.Duration) → (span : SpanOf) × (v ≡ flat.Duration span) × IsTrue (is_span span)
-duration_value ds v h = by (value.out-Value v) refl (rw (has_type-levels ds v flat_ty.Duration, ty.outs-Duration) at h)
-  where
-    by : (y : Value-F Value) → value.out-Value v ≡ y → IsTrue (tested ds y Ty-F.Duration) → (span : SpanOf) × (v ≡ flat.Duration span) × IsTrue (is_span span)
-    by (Value-F.Duration span) q g = (span, whole_value v (Value-F.Duration span) (flat.Duration span) q (value.rolls-Duration span), g)
-    by _ q g = absurd (true≢false (sym g))
+pub money_value : (ds : Decls) (v : Value) → IsTrue (has_type ds v flat_ty.Money) → ValueOf ds Ty-F.Money v
+money_value ds v = value_of ds v flat_ty.Money Ty-F.Money ty.outs-Money
 
-pub list_value : (ds : Decls) (v : Value) (e : Ty) → IsTrue (has_type ds v (ty.List e)) → (vs : List Value) × (v ≡ value.List vs) × IsTrue (elements_typed ds vs e)
-list_value ds v e h = by (value.out-Value v) refl (rw (has_type-levels ds v (ty.List e), ty.outs-List e) at h)
-  where
-    by : (y : Value-F Value) → value.out-Value v ≡ y → IsTrue (tested ds y (Ty-F.List e)) → (vs : List Value) × (v ≡ value.List vs) × IsTrue (elements_typed ds vs e)
-    by (Value-F.List vs) q g = let is : v ≡ value.List vs = whole_value v (Value-F.List vs) (value.List vs) q (value.rolls-List vs) in (vs, is, rw (is, has_type_List ds vs e) at h)
-    by _ q g = absurd (true≢false (sym g))
+pub date_value : (ds : Decls) (v : Value) → IsTrue (has_type ds v flat_ty.Date) → ValueOf ds Ty-F.Date v
+date_value ds v = value_of ds v flat_ty.Date Ty-F.Date ty.outs-Date
 
-pub structure_value : (ds : Decls) (v : Value) (n : ℕ) → IsTrue (has_type ds v (flat_ty.Structure n)) → (vs : List Value) × (v ≡ value.Structure vs) × IsTrue (is_structure ds n vs)
-structure_value ds v n h = by (value.out-Value v) refl (rw (has_type-levels ds v (flat_ty.Structure n), ty.outs-Structure n) at h)
-  where
-    by : (y : Value-F Value) → value.out-Value v ≡ y → IsTrue (tested ds y (Ty-F.Structure n)) → (vs : List Value) × (v ≡ value.Structure vs) × IsTrue (is_structure ds n vs)
-    by (Value-F.Structure vs) q g = let is : v ≡ value.Structure vs = whole_value v (Value-F.Structure vs) (value.Structure vs) q (value.rolls-Structure vs) in (vs, is, rw (is, has_type_Structure ds vs n) at h)
-    by _ q g = absurd (true≢false (sym g))
+pub duration_value : (ds : Decls) (v : Value) → IsTrue (has_type ds v flat_ty.Duration) → ValueOf ds Ty-F.Duration v
+duration_value ds v = value_of ds v flat_ty.Duration Ty-F.Duration ty.outs-Duration
 
-pub case_value : (ds : Decls) (v : Value) (n : ℕ) → IsTrue (has_type ds v (flat_ty.Enumeration n)) → (k : ℕ) × (content : Option Value) × (v ≡ value.Case k content) × IsTrue (is_case ds n k content)
-case_value ds v n h = by (value.out-Value v) refl (rw (has_type-levels ds v (flat_ty.Enumeration n), ty.outs-Enumeration n) at h)
-  where
-    by : (y : Value-F Value) → value.out-Value v ≡ y → IsTrue (tested ds y (Ty-F.Enumeration n)) → (k : ℕ) × (content : Option Value) × (v ≡ value.Case k content) × IsTrue (is_case ds n k content)
-    by (Value-F.Case k content) q g = let is : v ≡ value.Case k content = whole_value v (Value-F.Case k content) (value.Case k content) q (value.rolls-Case k content) in (k, content, is, rw (is, has_type_Case ds k content n) at h)
-    by _ q g = absurd (true≢false (sym g))
+pub list_value : (ds : Decls) (v : Value) (e : Ty) → IsTrue (has_type ds v (ty.List e)) → ValueOf ds (Ty-F.List e) v
+list_value ds v e = value_of ds v (ty.List e) (Ty-F.List e) (ty.outs-List e)
+
+pub structure_value : (ds : Decls) (v : Value) (n : ℕ) → IsTrue (has_type ds v (flat_ty.Structure n)) → ValueOf ds (Ty-F.Structure n) v
+structure_value ds v n = value_of ds v (flat_ty.Structure n) (Ty-F.Structure n) (ty.outs-Structure n)
+
+pub case_value : (ds : Decls) (v : Value) (n : ℕ) → IsTrue (has_type ds v (flat_ty.Enumeration n)) → ValueOf ds (Ty-F.Enumeration n) v
+case_value ds v n = value_of ds v (flat_ty.Enumeration n) (Ty-F.Enumeration n) (ty.outs-Enumeration n)

@@ -1,7 +1,7 @@
 -- Which numbers, amounts, days and durations are values of which types.
-use Rattle.std.specs.Prelude.{ℤ, unsigned_abs, Bool, false, ◌&&◌, nat_le, nat_eq}
+use Rattle.std.specs.Prelude.{ℤ, Bool, false}
 use Rattle.cat_num.specs.Whole.{fits}
-use Rattle.cat_num.specs.Frac.{Fraction, frac_fits, gcd}
+use Rattle.cat_num.specs.Frac.{Fraction, is_reduced}
 use Rattle.cat_date.specs.Calendar.{is_day}
 use Rattle.cat_date.specs.Span.{SpanOf, is_span}
 use Rattle.cat_value.specs.declared.ty.Ty.{Ty}
@@ -9,7 +9,7 @@ use Rattle.cat_value.specs.declared.ty.Ty.TheOpen.{Ty-F}
 
 -- whether a fraction is in lowest terms with a positive denominator, and both parts fit
 abbrev pub is_decimal : Fraction → Bool
-is_decimal f = nat_le 1 f.den && frac_fits f && nat_eq (gcd (unsigned_abs f.num) f.den) 1
+is_decimal f = is_reduced f
 
 -- an integer has the type Integer, where it fits
 abbrev pub integer_typed : ℤ → Ty-F Ty → Bool

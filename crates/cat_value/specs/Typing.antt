@@ -2,6 +2,7 @@
 use Rattle.std.specs.Prelude.{ℕ, Bool, true, false, ◌&&◌, nat_le, List, [], ◌∷◌, length, Option, None, Some}
 use Rattle.std.specs.List.{list_all}
 use Rattle.std.specs.Cmp.Lexicographic.{pointwise}
+use Rattle.cat_num.specs.Whole.{largest}
 use Rattle.cat_value.specs.declared.ty.Ty.{Ty}
 use Rattle.cat_value.specs.declared.ty.Ty.TheOpen.{Ty-F}
 use Rattle.cat_value.specs.declared.ty.Ty.TheViews.{out-Ty}
@@ -16,7 +17,7 @@ use Rattle.cat_value.specs.Flat.{integer_typed, decimal_typed, money_typed, date
 
 -- the most elements that a list has
 abbrev pub most_elements : ℕ
-most_elements = 9223372036854775807
+most_elements = largest
 
 -- whether the number in a type, where it has one, names an entry of the declarations
 abbrev pub is_type : Decls → Ty → Bool

@@ -1,8 +1,0 @@
-// Texts against the trees that they spell, and against the places where they are refused.
-
-mod answer;
-mod forms;
-mod levels;
-mod limits;
-mod places;
-mod show;
