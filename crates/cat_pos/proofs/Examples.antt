@@ -1,8 +1,22 @@
--- Places in the text of the lines `ab`, an empty one and `cd`.
+-- The limits, and positions in the text of the lines `ab`, an empty one and `cd`.
 use Rattle.std.proofs.Common.{◌≡◌, List, ℕ, [], ◌∷◌, refl}
-use Rattle.std.specs.Prelude.{codes, Some, None}
+use Rattle.std.specs.Prelude.{◌^◌, codes, Some, None}
 use Rattle.std.specs.Fmt.{digits}
+use Rattle.cat_pos.specs.declared.limits.TheConstants.{MOST_FILE_BYTES, MOST_SOURCE_BYTES, MOST_INPUT_BYTES}
+use Rattle.cat_pos.specs.declared.limits.TheConstants.{ENTRIES_BOUND}
 use Rattle.cat_pos.specs.Position.{line_of, column_of, position_of, shown}
+
+a_file_has_at_most_4_MiB : MOST_FILE_BYTES ≡ 4194304
+a_file_has_at_most_4_MiB = refl
+
+a_source_has_at_most_16_MiB : MOST_SOURCE_BYTES ≡ 16777216
+a_source_has_at_most_16_MiB = refl
+
+an_input_has_at_most_64_MiB : MOST_INPUT_BYTES ≡ 67108864
+an_input_has_at_most_64_MiB = refl
+
+a_u32_numbers_each_entry : ENTRIES_BOUND ≡ 2 ^ 32
+a_u32_numbers_each_entry = refl
 
 abbrev text : List ℕ
 text = 97 ∷ 98 ∷ 10 ∷ 10 ∷ 99 ∷ 100 ∷ []
@@ -15,17 +29,18 @@ a_line_feed_stands_at_the_end_of_its_line : position_of text 0 2 ≡ record { fi
 unfolding line_of column_of
 a_line_feed_stands_at_the_end_of_its_line = refl
 
-an_empty_line_has_one_place : position_of text 0 3 ≡ record { file = 0; line = 2; column = 1 }
+an_empty_line_has_one_position : position_of text 0 3 ≡ record { file = 0; line = 2; column = 1 }
 unfolding line_of column_of
-an_empty_line_has_one_place = refl
+an_empty_line_has_one_position = refl
 
-the_end_is_a_place : position_of text 4 6 ≡ record { file = 4; line = 3; column = 3 }
+the_end_is_a_position : position_of text 4 6 ≡ record { file = 4; line = 3; column = 3 }
 unfolding line_of column_of
-the_end_is_a_place = refl
+the_end_is_a_position = refl
 
-a_place_shows_its_file_by_name : shown (codes "a.md" ∷ codes "b.md" ∷ []) (record { file = 1; line = 12; column = 345 }) ≡ Some (codes "b.md:12:345")
+a_position_shows_its_file_by_name :
+    shown (codes "a.md" ∷ codes "b.md" ∷ []) (record { file = 1; line = 12; column = 345 }) ≡ Some (codes "b.md:12:345")
 unfolding digits
-a_place_shows_its_file_by_name = refl
+a_position_shows_its_file_by_name = refl
 
 a_file_without_a_name_is_not_shown : shown [] (record { file = 0; line = 1; column = 1 }) ≡ None
 a_file_without_a_name_is_not_shown = refl

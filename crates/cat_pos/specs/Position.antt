@@ -1,4 +1,4 @@
--- The place of an offset in a file, by what stands in front of it.
+-- The position of an offset in a file, by what stands in front of it.
 use Rattle.std.specs.Prelude.{◌==◌, ◌+◌, ℕ, Bool, List, ◌++◌, length, take, count_by, slice_get, Option, codes}
 use Rattle.std.specs.Option.{option_map}
 use Rattle.std.specs.List.{after_last}
@@ -9,18 +9,21 @@ use Rattle.cat_pos.specs.declared.pos.Pos.{Pos}
 abbrev pub is_line_feed : ℕ → Bool
 is_line_feed byte = byte == 10
 
--- the line of a place with these bytes in front: 1 and their line feeds
+-- the line of a position with these bytes in front: 1 and their line feeds
 unfoldable pub line_of : List ℕ → ℕ
 line_of front = 1 + count_by is_line_feed front
 
--- the column of a place with these bytes in front: 1 and those after the last line feed
+-- the column of a position with these bytes in front: 1 and those after the last line feed
 unfoldable pub column_of : List ℕ → ℕ
 column_of front = 1 + length (after_last is_line_feed front)
 
--- the place of an offset in a file of this text
+-- the position of an offset in a file of this text
 abbrev pub position_of : List ℕ → ℕ → ℕ → Pos
-position_of text file offset = record { file = file; line = line_of (take offset text); column = column_of (take offset text) }
+position_of text file offset =
+    record { file = file; line = line_of (take offset text); column = column_of (take offset text) }
 
 -- the text `name:line:column`, where the file has a name
 abbrev pub shown : List (List ℕ) → Pos → Option (List ℕ)
-shown names pos = option_map (λ name. name ++ (codes ":" ++ (decimal pos.line ++ (codes ":" ++ decimal pos.column)))) (slice_get names pos.file)
+shown names pos =
+    option_map (λ name. name ++ (codes ":" ++ (decimal pos.line ++ (codes ":" ++ decimal pos.column))))
+    (slice_get names pos.file)

@@ -1,8 +1,8 @@
 // The names of the source files, by number.
-ghost use Rattle.std.specs.Prelude.{◌≡◌, [], ◌∷◌, ◌++◌, ◌<◌, ◌-◌, ◌^◌, length, slice_get, Some, IfOk, OnOk, OnErr, string_bytes};
+ghost use Rattle.std.specs.Prelude.{◌≡◌, [], ◌∷◌, ◌++◌, ◌<◌, ◌+◌, length, slice_get, Some, IfOk, OnOk, OnErr, string_bytes};
 ghost use Rattle.cat_pos.specs.Position.{shown};
 
-use crate::{List, Pos, Text};
+use crate::{ENTRIES_BOUND, List, Pos, Text};
 use std::alloc::{AllocError, Global};
 use std::marker::Model;
 
@@ -39,7 +39,7 @@ impl Files {
 
     /// Puts a name at the end, and gives its number.
     pub fn add(&mut self, name: &str) -> Result<u32, AllocError>
-        requires { length self.old < 2 ^ 32 - 1 }
+        requires { length self.old + 1 < ENTRIES_BOUND }
         ensures number { IfOk result (λ number. number ≡ length self.old) }
         ensures ok { OnOk result (self.new ≡ self.old ++ name.now ∷ []) }
         ensures err { OnErr result (self.new ≡ self.old) }
@@ -58,7 +58,7 @@ impl Files {
     }
 }
 
-/// The text `name:line:column` of a place.
+/// The text `name:line:column` of a position.
 pub fn show_pos(alloc: Global, files: &Files, pos: Pos) -> Result<String, AllocError>
     requires { pos.file < length files.now }
     ensures { IfOk result (λ text. shown files.now pos ≡ Some (string_bytes text)) }

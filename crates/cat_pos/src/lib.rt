@@ -3,12 +3,16 @@
 
 mod boxed;
 mod files;
+mod limits;
 mod list;
 mod pos;
 mod text;
 
 pub use boxed::Boxed;
 pub use files::{Files, show_pos};
+pub use limits::{
+    ENTRIES_BOUND, LAST_LINE, MOST_FILE_BYTES, MOST_FILES, MOST_INPUT_BYTES, MOST_SOURCE_BYTES,
+};
 pub use list::List;
 pub use pos::{Piece, Pieces, Pos, Positions, pos_at};
 pub use text::Text;

@@ -102,7 +102,7 @@ impl<T: Drop> List<T> {
         self.items.pop()
     }
 
-    /// Puts another element in a place.
+    /// Puts another element at an index.
     pub fn set(&mut self, at: usize, item: T)
         requires { at < length self.old }
         ensures { self.new ≡ slice_set self.old at item }

@@ -2,9 +2,9 @@
 ghost use Rattle.std.specs.Prelude.{◌≡◌, ◌≤◌, ◌*◌, length};
 ghost use Rattle.cat_pos.specs.Position.{position_of};
 
-use crate::{List, Text};
+use crate::{List, MOST_FILE_BYTES, Text};
 
-/// A place in a source file: the file's number, and line and column from 1. A column counts bytes.
+/// A position in a source file: the file's number, and line and column from 1. A column counts bytes.
 #[derive(Clone, Copy, Debug, PartialEq, Eq)]
 pub struct Pos {
     pub file: u32,
@@ -14,7 +14,7 @@ pub struct Pos {
 
 pub type Positions = List<Pos>;
 
-/// A run of source code that stands at a place of its file.
+/// A run of source code that stands at a position of its file.
 #[derive(Debug, Drop)]
 pub struct Piece {
     pub text: Text,
@@ -25,11 +25,11 @@ pub type Pieces = List<Piece>;
 
 const LINE_FEED: u8 = 10;
 
-/// The place of an offset in a file of at most 4 MiB.
+/// The position of an offset in a file.
 #[tactic(auto, using(crate::proofs::Walking::walking))]
 pub fn pos_at(text: &[u8], file: u32, offset: usize) -> Pos
     requires within { offset ≤ length text.now }
-    requires short { length text.now ≤ 4 * 1024 * 1024 }
+    requires short { length text.now ≤ MOST_FILE_BYTES }
     ensures { result ≡ position_of text.now file offset }
 {
     let mut line = 1;

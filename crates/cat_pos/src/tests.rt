@@ -4,10 +4,10 @@ use std::test::Fail;
 
 // What `printf 'ab\n\ncd' | head -c N` shows, counted with `wc -l` and by hand.
 #[test]
-fn places_count_line_feeds_and_bytes(rt: HostRuntime) -> Result<(), Fail> {
+fn positions_count_line_feeds_and_bytes(rt: HostRuntime) -> Result<(), Fail> {
     let text = b"ab\n\ncd";
-    let places = [(1, 1), (1, 2), (1, 3), (2, 1), (3, 1), (3, 2), (3, 3)];
-    for (offset, (line, column)) in places.iter().enumerate() {
+    let positions = [(1, 1), (1, 2), (1, 3), (2, 1), (3, 1), (3, 2), (3, 3)];
+    for (offset, (line, column)) in positions.iter().enumerate() {
         let pos = pos_at(text, 7, offset);
         assert_eq!(rt;
             pos,
