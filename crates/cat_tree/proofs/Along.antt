@@ -1,11 +1,13 @@
 -- A spelling as a walk along the tokens, which computes where tree and tokens are known.
-use Rattle.std.proofs.Common.{◌≡◌, List, [], ◌∷◌, ◌++◌, refl, ap, ◌∙◌, sym, subst, append_assoc}
+use Rattle.std.proofs.Common.{◌≡◌, true, List, [], ◌∷◌, ◌++◌, refl, ap, ◌∙◌, sym, subst, append_assoc}
 use Rattle.std.proofs.lemmas.List.{append-nil}
 use Rattle.cat_lex.specs.declared.token.Token.{Token}
 use Rattle.cat_tree.specs.declared.expression.Node.{Node}
-use Rattle.cat_tree.specs.Phrase.{Phrase, Row, Parts, End, Word, Part, IsAt, IsLevelled, IsSpelling, AreSpelled}
+use Rattle.cat_tree.specs.Phrase.{Phrase, Row, Parts, End, Word, Part, IsAt, IsLevelled, AreLevelled, IsSpelling, AreSpelled}
 use Rattle.cat_tree.specs.Grammar.{phrase}
 use Rattle.cat_tree.specs.Spells.{Spells}
+use Rattle.cat_tree.specs.declared.program.Tree.{Tree}
+use Rattle.cat_tree.specs.Programs.{SpellsProgram, are_filled, program_parts}
 
 -- the tokens begin with the words and parts, and what follows is as `next` says
 abbrev mutual
@@ -46,3 +48,10 @@ spells e ts levels h =
     let p = phrase_passed (phrase e) ts (λ rest. rest ≡ []) h in
     let whole : p.front ≡ ts = sym (append-nil p.front) ∙ ap (λ (w : List Token). p.front ++ w) (sym p.after) ∙ sym p.text in
     record { levels = levels; words = subst (IsSpelling (phrase e)) whole p.spelled }
+
+-- so is a program
+pub spells_program : (t : Tree) (ts : List Token) → are_filled t.items ≡ true → AreLevelled (program_parts t) → Along (program_parts t) ts (λ rest. rest ≡ []) → SpellsProgram t ts
+spells_program t ts filled levels h =
+    let p = passed (program_parts t) ts (λ rest. rest ≡ []) h in
+    let whole : p.front ≡ ts = sym (append-nil p.front) ∙ ap (λ (w : List Token). p.front ++ w) (sym p.after) ∙ sym p.text in
+    record { filled = filled; levels = levels; words = subst (AreSpelled (program_parts t)) whole p.spelled }

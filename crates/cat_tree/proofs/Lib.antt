@@ -2,3 +2,4 @@ pub mod Equations
 pub mod HeightEquations
 pub mod Along
 pub mod Samples
+pub mod ProgramSamples

@@ -26,22 +26,22 @@ use Rattle.cat_tree.specs.Spells.{Spells, height_of}
 use Rattle.cat_tree.proofs.Along.{spells}
 use Rattle.cat_tree.proofs.Equations.{phrases}
 
-abbrev name : Name → Token
+abbrev pub name : Name → Token
 name w = record { kind = kind.Lower w.text; pos = w.pos }
 
-abbrev type : Name → Token
+abbrev pub type : Name → Token
 type u = record { kind = kind.Upper u.text; pos = u.pos }
 
-abbrev «word» : Keyword → Pos → Token
+abbrev pub «word» : Keyword → Pos → Token
 «word» k p = record { kind = kind.Word k; pos = p }
 
-abbrev words : DoubleKeyword → Pos → Token
+abbrev pub words : DoubleKeyword → Pos → Token
 words d p = record { kind = kind.Pair d; pos = p }
 
-abbrev sign : Symbol → Pos → Token
+abbrev pub sign : Symbol → Pos → Token
 sign s p = record { kind = kind.Symbol s; pos = p }
 
-abbrev local : Name → Node
+abbrev pub local : Name → Node
 local w = leaf.Name w
 
 abbrev arm : Name → Node → Arm

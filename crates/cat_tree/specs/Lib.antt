@@ -6,3 +6,7 @@ pub mod Operators
 pub mod Literals
 pub mod Wording
 pub mod Phrase
+pub mod Joined
+pub mod Declarations
+pub mod Uses
+pub mod Programs

@@ -12,6 +12,6 @@ pub use expression::{
 pub use heights::height;
 pub use name::{Base, CaseName, Name, Type};
 pub use program::{
-    Block, CaseItem, Exception, FieldItem, FieldItems, Fulfilled, Item, Kind, Lead, TargetName,
-    Tree, Use, Variable,
+    Block, CaseItem, Exception, FieldItem, FieldItems, Fulfilled, Item, Kind, Label, Lead,
+    TargetName, Tree, Use, Variable,
 };

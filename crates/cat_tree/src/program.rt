@@ -48,10 +48,17 @@ pub enum Exception {
     Labelled(Pos, Name),
 }
 
+/// The label of a group, and the position of the word `label`.
+#[derive(Debug, Drop)]
+pub struct Label {
+    pub pos: Pos,
+    pub name: Name,
+}
+
 /// What stands before `definition` or `rule`.
 #[derive(Debug, Drop)]
 pub struct Lead {
-    pub label: Option<Name>,
+    pub label: Option<Label>,
     pub exception: Exception,
 }
 
@@ -70,12 +77,12 @@ pub enum Fulfilled {
     No,
 }
 
-/// A line of a scope block. Its position is that of its first token, then that of its own keyword.
+/// A line of a scope block, with the position of its own keyword.
 #[derive(Debug, Drop)]
 pub enum Use {
     /// The condition, where there is one, then the consequence.
-    Definition(Pos, Pos, Lead, TargetName, Option<Node>, Node),
-    Rule(Pos, Pos, Lead, TargetName, Option<Node>, Fulfilled),
+    Definition(Lead, Pos, TargetName, Option<Node>, Node),
+    Rule(Lead, Pos, TargetName, Option<Node>, Fulfilled),
     Assertion(Pos, Node),
     /// `date round increasing`, or `decreasing` where it is false.
     DateRound(Pos, bool),
