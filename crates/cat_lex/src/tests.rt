@@ -1,5 +1,6 @@
 use crate::{LexRefusal, Token, TokenKind, Tokens, lex};
 use cat_date::number;
+use cat_num::DecimalLiteral;
 use cat_pos::{Piece, Pos, Text};
 use std::alloc::{AllocError, Global};
 use std::process::Abort;
@@ -19,6 +20,13 @@ fn at(line: u32, column: u32) -> Pos {
     }
 }
 
+/// The digits of a decimal, and how many of them stand behind the point.
+fn written(alloc: Global, form: &str, decimal: DecimalLiteral) -> Result<String, AllocError> {
+    let digits = decimal.digits();
+    let places = decimal.places();
+    format!(in alloc; "{form} {digits} {places}")
+}
+
 /// The kind of a token and its value, as the table below writes them.
 fn show(alloc: Global, kind: &TokenKind) -> Result<String, AllocError> {
     match kind {
@@ -36,8 +44,8 @@ fn show(alloc: Global, kind: &TokenKind) -> Result<String, AllocError> {
             let whole = whole.get();
             format!(in alloc; "INT {whole}")
         }
-        TokenKind::Dec(number, places) => format!(in alloc; "DEC {number} {places}"),
-        TokenKind::Pct(number, places) => format!(in alloc; "PCT {number} {places}"),
+        TokenKind::Dec(decimal) => written(alloc, "DEC", *decimal),
+        TokenKind::Pct(decimal) => written(alloc, "PCT", *decimal),
         TokenKind::Money(money) => {
             let cents = money.get();
             format!(in alloc; "MONEY {cents}")
@@ -127,7 +135,7 @@ fn numbers_and_dates_are_their_tokens(rt: HostRuntime) -> Result<(), Fail> {
         ),
         (
             "20 % 1.5\t %7%999999999.1234567%",
-            "PCT 20 0 | PCT 15 1 | PCT 7 0 | PCT 9999999991234567 7",
+            "PCT 20 2 | PCT 15 3 | PCT 7 2 | PCT 9999999991234567 9",
         ),
         (
             "$1,000,000.5 $12 $0.05 $1000,000",

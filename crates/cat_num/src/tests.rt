@@ -61,10 +61,12 @@ fn outcome(
 }
 
 fn decimal(digits: i64, places: i64) -> Parts {
-    if 0 <= digits && digits < 1_000_000_000_000_000_000 && 0 <= places && places <= 9 {
-        parts(frac_of_decimal(digits as u64, places as u32))
-    } else {
-        (0, 0)
+    if digits < 0 || places < 0 || places > 9 {
+        return (0, 0);
+    }
+    match DecimalLiteral::new(digits as u64, places as u32) {
+        Some(literal) => parts(frac_of_decimal(literal)),
+        None => (0, 0),
     }
 }
 

@@ -206,12 +206,7 @@ pub const AMOUNTS: [(Operation, Parts, Parts, Result<Parts, NumFault>); 150] = [
     (Decimal, (0, 1), (9, 1), Ok((0, 1))),
     (Decimal, (5, 1), (1, 1), Ok((1, 2))),
     (Decimal, (25, 1), (2, 1), Ok((1, 4))),
-    (
-        Decimal,
-        (999999999999999999, 1),
-        (0, 1),
-        Ok((999999999999999999, 1)),
-    ),
+    (Decimal, (999999999, 1), (0, 1), Ok((999999999, 1))),
     (
         Decimal,
         (999999999999999999, 1),

@@ -5,7 +5,7 @@ use std::alloc::Global;
 use std::test::Fail;
 
 // What is left out of a tree as `Debug` writes it, and what is written shorter, in this order.
-const SHORTER: [(&str, &str); 24] = [
+const SHORTER: [(&str, &str); 26] = [
     ("\" }, pos: ", ""),
     ("Name { text: Text { text: \"", ""),
     ("Text { text: \"", ""),
@@ -16,6 +16,8 @@ const SHORTER: [(&str, &str); 24] = [
     ("Whole { value: ", ""),
     ("Money { cents: ", ""),
     ("Day { number: ", ""),
+    ("DecimalLiteral { digits: ", ""),
+    (", places: ", " "),
     ("Type { lists: ", ""),
     ("base: ", ""),
     ("FieldValue { name: ", ""),
