@@ -92,7 +92,7 @@ the_last_line_may_be_a_comment = refl
 thousands_and_a_digit_of_cents : token_of Amount (codes "$1,000,000.5") ≡ Some (kind.Money (pos 100000050))
 thousands_and_a_digit_of_cents = refl
 
-digits_of_a_percentage : token_of Percent (codes "1.50 %") ≡ Some (kind.Pct 150 2)
+digits_of_a_percentage : token_of Percent (codes "1.50 %") ≡ Some (kind.Pct (record { digits = 150; places = 4 }))
 digits_of_a_percentage = refl
 
 ten_places_pass_the_bound : token_of Decimal (codes "0.1234567890") ≡ None

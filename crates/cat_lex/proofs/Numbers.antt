@@ -8,6 +8,7 @@ use Rattle.std.specs.Str.Parse.{digits_value_after}
 use Rattle.std.proofs.lemmas.Bool.Decides.{nat_tests}
 use Rattle.std.proofs.lemmas.List.Sums.{length-filter, sum_by-cons}
 use Rattle.std.proofs.lemmas.Str.Parse.{digits_value_short, numerals_by_value, tells_all_ascii_digits}
+use Rattle.cat_num.specs.Numerals.{IsNumeral}
 use Rattle.cat_lex.specs.Values.{is_point, number_of, units_of, places_of}
 use Rattle.cat_lex.proofs.Skips.{and_true}
 
@@ -75,3 +76,18 @@ pub short : (word : List ℕ) → units_of word + places_of word ≤ 18 → numb
 short word few =
     let long : length (filter is_ascii_digit word) ≤ 18 = omega (arith, length-filter is_ascii_digit word, count_split word) in
     digits_value_short (numerals_by_value (λ ds. all_ascii_digits ds ≡ true) tells_all_ascii_digits) (filter is_ascii_digit word) 18 (all_digits word) long
+
+-- at most 9 digits before the point write a number that so many behind it leave within its bound
+written : (word : List ℕ) (places : ℕ) → units_of word ≤ 9 → places_of word ≤ places → places ≤ 9 → IsNumeral (number_of word) places
+written word places units few most =
+    let long : length (filter is_ascii_digit word) ≤ 9 + places = omega (arith, length-filter is_ascii_digit word, count_split word) in
+    record {
+      few_places = most;
+      few_digits = digits_value_short (numerals_by_value (λ ds. all_ascii_digits ds ≡ true) tells_all_ascii_digits) (filter is_ascii_digit word) (9 + places) (all_digits word) long
+    }
+
+pub decimal_written : (word : List ℕ) → units_of word ≤ 9 → places_of word ≤ 9 → IsNumeral (number_of word) (places_of word)
+decimal_written word units places = written word (places_of word) units (omega arith) places
+
+pub percent_written : (word : List ℕ) → units_of word ≤ 9 → places_of word ≤ 7 → IsNumeral (number_of word) (places_of word + 2)
+percent_written word units places = written word (places_of word + 2) units (omega arith) (omega (arith, places))

@@ -7,7 +7,7 @@ ghost use Rattle.cat_lex.specs.Values.{is_point, number_of, units_of, places_of,
 use crate::tables::keyword;
 use crate::{Form, TokenKind};
 use cat_date::read_day;
-use cat_num::{Money, Whole};
+use cat_num::{DecimalLiteral, Money, Whole};
 use cat_pos::Text;
 use std::alloc::{AllocError, Global};
 
@@ -80,6 +80,7 @@ fn short_number(word: &[u8]) -> u64
     capped_number(word) as u64
 }
 
+#[tactic(auto, using(crate::proofs::Numbers::decimal_written))]
 fn decimal(word: &[u8]) -> Option<TokenKind>
     ensures { result ≡ token_of Form.Decimal word.now }
 {
@@ -87,9 +88,10 @@ fn decimal(word: &[u8]) -> Option<TokenKind>
     if units > 9 || places > 9 {
         return None;
     }
-    Some(TokenKind::Dec(short_number(word), places as u32))
+    Some(TokenKind::Dec(DecimalLiteral::new(short_number(word), places as u32)?))
 }
 
+#[tactic(auto, using(crate::proofs::Numbers::percent_written))]
 fn percent(word: &[u8]) -> Option<TokenKind>
     ensures { result ≡ token_of Form.Percent word.now }
 {
@@ -97,7 +99,7 @@ fn percent(word: &[u8]) -> Option<TokenKind>
     if units > 9 || places > 7 {
         return None;
     }
-    Some(TokenKind::Pct(short_number(word), places as u32))
+    Some(TokenKind::Pct(DecimalLiteral::new(short_number(word), places as u32 + 2)?))
 }
 
 fn amount(word: &[u8]) -> Option<TokenKind>

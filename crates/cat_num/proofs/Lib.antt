@@ -7,4 +7,5 @@ pub mod Texts
 pub mod Digits
 pub mod Places
 pub mod TextLaws
+pub mod Numerals
 pub mod Examples

@@ -4,8 +4,10 @@ ghost use Rattle.std.specs.Prelude.{◌≡◌, ◌≢◌, ◌↔◌, ◌*◌, �
 ghost use Rattle.cat_num.specs.Whole.{largest, Fits};
 ghost use Rattle.cat_num.specs.Frac.{IsReduced, is_reduced, gcd, is_negative, signed, lowest, ratio, frac_of, frac_sum, frac_difference, frac_product, frac_quotient, frac_negation, frac_order};
 ghost use Rattle.cat_num.specs.Laws.{AreEqual};
+ghost use Rattle.cat_num.specs.Numerals.{numeral_value};
 
 use crate::fault::NumFault;
+use crate::literal::DecimalLiteral;
 use std::cmp::Ordering;
 use std::marker::Model;
 
@@ -197,16 +199,15 @@ pub fn are_equal(f: Frac, g: Frac) -> bool
     f.num == g.num && f.den == g.den
 }
 
-/// The decimal with the given digits, the last `places` of them behind the point.
-pub fn frac_of_decimal(digits: u64, places: u32) -> Frac
-    requires digits { digits < 10 ^ 18 }
-    requires places { places ≤ 9 }
-    ensures { result ≡ lowest (pos digits) (10 ^ places) }
+/// The value of a decimal as it is written.
+pub fn frac_of_decimal(literal: DecimalLiteral) -> Frac
+    ensures { result ≡ numeral_value literal }
 {
-    let den = 10_u64.pow(places) as u128;
-    let divisor = common_divisor(digits as u128, den);
+    let digits = literal.digits() as u128;
+    let den = 10_u64.pow(literal.places()) as u128;
+    let divisor = common_divisor(digits, den);
     Frac {
-        num: (digits as u128 / divisor) as i64,
+        num: (digits / divisor) as i64,
         den: (den / divisor) as u64,
     }
 }

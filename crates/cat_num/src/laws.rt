@@ -1,8 +1,9 @@
 //! Laws of the numbers: each is the contract of a function.
 
-ghost use Rattle.std.specs.Prelude.{◌≡◌, ℕ, ◌<◌, ℤ, pos, Ok};
+ghost use Rattle.std.specs.Prelude.{◌≡◌, ℕ, ◌<◌, ℤ, pos, Ok, IsTrue};
 ghost use Rattle.std.specs.Int.{IsGcd};
-ghost use Rattle.cat_num.specs.Frac.{gcd, frac_of, frac_order};
+ghost use Rattle.cat_num.specs.Frac.{IsReduced, gcd, frac_of, frac_order};
+ghost use Rattle.cat_num.specs.Numerals.{Numeral, is_numeral, numeral_value};
 ghost use Rattle.cat_num.specs.Rounding.{rounded};
 ghost use Rattle.cat_num.specs.Laws.{IsLowest, IsOrder, IsNearest};
 ghost use Rattle.cat_num.specs.Text.{decimal_bytes, money_bytes};
@@ -19,6 +20,12 @@ pub fn divisors_are_greatest()
 /// Lowest terms keep the value, and are unique.
 pub fn lowest_terms_are_unique()
     ensures { (n : ℤ) (d : ℕ) → 0 < d → IsLowest n d }
+{}
+
+/// A decimal that is written within its bounds has a value.
+#[tactic(auto, using(crate::proofs::Numerals::value_reduced))]
+pub fn decimals_have_values()
+    ensures { (n : Numeral) → IsTrue (is_numeral n) → IsReduced (numeral_value n).num (numeral_value n).den }
 {}
 
 /// `cmp` is the order of the rational numbers.

@@ -59,8 +59,8 @@ prefix_calm bound o e rest le h = calm_part (prefix_level o) e rest (omega arith
 
 pub literal_goes : (k bound : ℕ) (l : Literal) (p : Pos) → Goes k bound (leaf.Literal l p) (Row (literal_rank l) (literal_parts l p))
 literal_goes k bound (literal.Int n) p ts le low levels sp = word_at k bound start (leaf.Literal (literal.Int n) p) (kind.Int n) p End ts (state.Int n p) sp refl (λ us x. end_walk k bound (reading_at (state.Int n p) 0 false false) (leaf.Literal (literal.Int n) p) us refl x)
-literal_goes k bound (literal.Dec n d) p ts le low levels sp = word_at k bound start (leaf.Literal (literal.Dec n d) p) (kind.Dec n d) p End ts (state.Complete (leaf.Literal (literal.Dec n d) p) 9) sp refl (λ us x. end_walk k bound (reading_at (state.Complete (leaf.Literal (literal.Dec n d) p) 9) 0 false false) (leaf.Literal (literal.Dec n d) p) us refl x)
-literal_goes k bound (literal.Pct n d) p ts le low levels sp = word_at k bound start (leaf.Literal (literal.Pct n d) p) (kind.Pct n d) p End ts (state.Complete (leaf.Literal (literal.Pct n d) p) 9) sp refl (λ us x. end_walk k bound (reading_at (state.Complete (leaf.Literal (literal.Pct n d) p) 9) 0 false false) (leaf.Literal (literal.Pct n d) p) us refl x)
+literal_goes k bound (literal.Dec d) p ts le low levels sp = word_at k bound start (leaf.Literal (literal.Dec d) p) (kind.Dec d) p End ts (state.Complete (leaf.Literal (literal.Dec d) p) 9) sp refl (λ us x. end_walk k bound (reading_at (state.Complete (leaf.Literal (literal.Dec d) p) 9) 0 false false) (leaf.Literal (literal.Dec d) p) us refl x)
+literal_goes k bound (literal.Pct d) p ts le low levels sp = word_at k bound start (leaf.Literal (literal.Pct d) p) (kind.Pct d) p End ts (state.Complete (leaf.Literal (literal.Pct d) p) 9) sp refl (λ us x. end_walk k bound (reading_at (state.Complete (leaf.Literal (literal.Pct d) p) 9) 0 false false) (leaf.Literal (literal.Pct d) p) us refl x)
 literal_goes k bound (literal.Money n) p ts le low levels sp = word_at k bound start (leaf.Literal (literal.Money n) p) (kind.Money n) p End ts (state.Complete (leaf.Literal (literal.Money n) p) 9) sp refl (λ us x. end_walk k bound (reading_at (state.Complete (leaf.Literal (literal.Money n) p) 9) 0 false false) (leaf.Literal (literal.Money n) p) us refl x)
 literal_goes k bound (literal.Date d) p ts le low levels sp = word_at k bound start (leaf.Literal (literal.Date d) p) (kind.Date d) p End ts (state.Complete (leaf.Literal (literal.Date d) p) 9) sp refl (λ us x. end_walk k bound (reading_at (state.Complete (leaf.Literal (literal.Date d) p) 9) 0 false false) (leaf.Literal (literal.Date d) p) us refl x)
 literal_goes k bound (literal.Boolean true) p ts le low levels sp = word_at k bound start (leaf.Literal (literal.Boolean true) p) (kind.Word key.True) p End ts (state.Complete (leaf.Literal (literal.Boolean true) p) 9) sp refl (λ us x. end_walk k bound (reading_at (state.Complete (leaf.Literal (literal.Boolean true) p) 9) 0 false false) (leaf.Literal (literal.Boolean true) p) us refl x)

@@ -171,8 +171,8 @@ fresh_keeping more few filled falls = keeps state.Start more few filled (λ h. f
 start_keeping : (k : ℕ) (p : Pos) (kd : TokenKind) → AllKeeping state.Start (start_step k p kd)
 unfolding fallback
 start_keeping k p (kind.Int n) m e = one_keeping state.Start (Onward (state.Int n p)) (fresh_keeping (state.Int n p) refl refl refl) m e
-start_keeping k p (kind.Dec n d) m e = one_keeping state.Start (Onward (state.Complete (leaf.Literal (literal.Dec n d) p) 9)) (fresh_keeping (state.Complete (leaf.Literal (literal.Dec n d) p) 9) refl refl (falls_Literal (literal.Dec n d) p 9)) m e
-start_keeping k p (kind.Pct n d) m e = one_keeping state.Start (Onward (state.Complete (leaf.Literal (literal.Pct n d) p) 9)) (fresh_keeping (state.Complete (leaf.Literal (literal.Pct n d) p) 9) refl refl (falls_Literal (literal.Pct n d) p 9)) m e
+start_keeping k p (kind.Dec d) m e = one_keeping state.Start (Onward (state.Complete (leaf.Literal (literal.Dec d) p) 9)) (fresh_keeping (state.Complete (leaf.Literal (literal.Dec d) p) 9) refl refl (falls_Literal (literal.Dec d) p 9)) m e
+start_keeping k p (kind.Pct d) m e = one_keeping state.Start (Onward (state.Complete (leaf.Literal (literal.Pct d) p) 9)) (fresh_keeping (state.Complete (leaf.Literal (literal.Pct d) p) 9) refl refl (falls_Literal (literal.Pct d) p 9)) m e
 start_keeping k p (kind.Money x) m e = one_keeping state.Start (Onward (state.Complete (leaf.Literal (literal.Money x) p) 9)) (fresh_keeping (state.Complete (leaf.Literal (literal.Money x) p) 9) refl refl (falls_Literal (literal.Money x) p 9)) m e
 start_keeping k p (kind.Date d) m e = one_keeping state.Start (Onward (state.Complete (leaf.Literal (literal.Date d) p) 9)) (fresh_keeping (state.Complete (leaf.Literal (literal.Date d) p) 9) refl refl (falls_Literal (literal.Date d) p 9)) m e
 start_keeping k p (kind.Word key.True) m e = one_keeping state.Start (Onward (state.Complete (leaf.Literal (literal.Boolean true) p) 9)) (fresh_keeping (state.Complete (leaf.Literal (literal.Boolean true) p) 9) refl refl (falls_Literal (literal.Boolean true) p 9)) m e

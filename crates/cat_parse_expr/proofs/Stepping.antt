@@ -60,8 +60,8 @@ start_reached k high b c (kind.Upper u) pos front m r h = goes k high (record { 
 start_reached k high b c (kind.Symbol symbol.LeftParen) pos front m r h = goes k high (record { kind = kind.Symbol symbol.LeftParen; pos = pos }) front (Onward (state.Open pos)) m (some_same (Onward (state.Open pos)) m h) (begun k high state.Start (state.Open pos) b c (At (kind.Symbol symbol.LeftParen) pos) (record { kind = kind.Symbol symbol.LeftParen; pos = pos }) front r refl (omega arith) (λ ps. refl))
 start_reached k high b c (kind.Symbol symbol.LeftBracket) pos front m r h = goes k high (record { kind = kind.Symbol symbol.LeftBracket; pos = pos }) front (Onward (state.Element pos [])) m (some_same (Onward (state.Element pos [])) m h) (begun k high state.Start (state.Element pos []) b c (At (kind.Symbol symbol.LeftBracket) pos) (record { kind = kind.Symbol symbol.LeftBracket; pos = pos }) front r refl (omega arith) (λ ps. refl))
 start_reached k high b c (kind.Pair pair.OutputOf) pos front m r h = goes k high (record { kind = kind.Pair pair.OutputOf; pos = pos }) front (Onward (state.CallScope pos)) m (some_same (Onward (state.CallScope pos)) m h) (begun k high state.Start (state.CallScope pos) b c (At (kind.Pair pair.OutputOf) pos) (record { kind = kind.Pair pair.OutputOf; pos = pos }) front r refl (omega arith) (λ ps. refl))
-start_reached k high b c (kind.Dec n d) pos front m r h = literal_on k high (literal.Dec n d) b c (kind.Dec n d) pos front m r h refl
-start_reached k high b c (kind.Pct n d) pos front m r h = literal_on k high (literal.Pct n d) b c (kind.Pct n d) pos front m r h refl
+start_reached k high b c (kind.Dec d) pos front m r h = literal_on k high (literal.Dec d) b c (kind.Dec d) pos front m r h refl
+start_reached k high b c (kind.Pct d) pos front m r h = literal_on k high (literal.Pct d) b c (kind.Pct d) pos front m r h refl
 start_reached k high b c (kind.Money n) pos front m r h = literal_on k high (literal.Money n) b c (kind.Money n) pos front m r h refl
 start_reached k high b c (kind.Date d) pos front m r h = literal_on k high (literal.Date d) b c (kind.Date d) pos front m r h refl
 start_reached k high b c (kind.Word key.True) pos front m r h = literal_on k high (literal.Boolean true) b c (kind.Word key.True) pos front m r h refl

@@ -109,8 +109,8 @@ call_left f (a ∷ args) h levels x some_ nine le =
 
 literal_hold : (l : Literal) (p : Pos) → (literal_rank l).is_match ≡ false × (last_hold (own_hold (literal_rank l)) 10 (literal_parts l p) ≡ 10)
 literal_hold (literal.Int n) p = (refl, refl)
-literal_hold (literal.Dec n d) p = (refl, refl)
-literal_hold (literal.Pct n d) p = (refl, refl)
+literal_hold (literal.Dec d) p = (refl, refl)
+literal_hold (literal.Pct d) p = (refl, refl)
 literal_hold (literal.Money n) p = (refl, refl)
 literal_hold (literal.Date d) p = (refl, refl)
 literal_hold (literal.Boolean b) p = (refl, refl)

@@ -21,8 +21,8 @@ if_at k level q = if nat_le k level then Some (Onward q) else None
 -- the first word of an expression that stands at level k
 abbrev pub start_step : ℕ → Pos → TokenKind → Option Move
 start_step k p (kind.Int n) = Some (Onward (state.Int n p))
-start_step k p (kind.Dec n d) = Some (Onward (state.Complete (leaf.Literal (literal.Dec n d) p) 9))
-start_step k p (kind.Pct n d) = Some (Onward (state.Complete (leaf.Literal (literal.Pct n d) p) 9))
+start_step k p (kind.Dec d) = Some (Onward (state.Complete (leaf.Literal (literal.Dec d) p) 9))
+start_step k p (kind.Pct d) = Some (Onward (state.Complete (leaf.Literal (literal.Pct d) p) 9))
 start_step k p (kind.Money m) = Some (Onward (state.Complete (leaf.Literal (literal.Money m) p) 9))
 start_step k p (kind.Date d) = Some (Onward (state.Complete (leaf.Literal (literal.Date d) p) 9))
 start_step k p (kind.Word key.True) = Some (Onward (state.Complete (leaf.Literal (literal.Boolean true) p) 9))

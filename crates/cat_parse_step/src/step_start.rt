@@ -81,8 +81,8 @@ pub(crate) fn step_start(alloc: Global, level: u32, token: &Token) -> Result<Ste
     let pos = token.pos;
     match &token.kind {
         TokenKind::Int(number) => Ok(Stepped::Onward(State::Int(*number, pos))),
-        TokenKind::Dec(digits, places) => Ok(literal(Literal::Dec(*digits, *places), pos)),
-        TokenKind::Pct(digits, places) => Ok(literal(Literal::Pct(*digits, *places), pos)),
+        TokenKind::Dec(decimal) => Ok(literal(Literal::Dec(*decimal), pos)),
+        TokenKind::Pct(decimal) => Ok(literal(Literal::Pct(*decimal), pos)),
         TokenKind::Money(amount) => Ok(literal(Literal::Money(*amount), pos)),
         TokenKind::Date(day) => Ok(literal(Literal::Date(*day), pos)),
         TokenKind::Lower(text) => Ok(Stepped::Onward(State::Name(named(alloc, text, pos)?))),

@@ -3,7 +3,7 @@
 use crate::arguments::Arguments;
 use crate::problem::Problem;
 use cat_num::{
-    Frac, NumFault, are_equal, decimal_text, frac_of_decimal, round_half_away, truncate,
+    DecimalLiteral, Frac, NumFault, are_equal, decimal_text, frac_of_decimal, round_half_away, truncate,
 };
 use std::alloc::{AllocError, Global};
 
@@ -73,10 +73,13 @@ fn new(alloc: Global, num: i64, den: i64) -> Result<String, Problem> {
 
 /// The decimal of these digits, so many of them behind the point.
 fn decimal(alloc: Global, digits: i64, places: u32) -> Result<String, Problem> {
-    if digits < 0 || digits >= 1_000_000_000_000_000_000 || places > 9 {
+    if digits < 0 {
         return Err(Problem::Unreadable);
     }
-    Ok(shown(alloc, frac_of_decimal(digits as u64, places))?)
+    match DecimalLiteral::new(digits as u64, places) {
+        Some(literal) => Ok(shown(alloc, frac_of_decimal(literal))?),
+        None => Err(Problem::Unreadable),
+    }
 }
 
 /// The fraction or the fault.

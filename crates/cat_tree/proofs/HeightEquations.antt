@@ -42,8 +42,8 @@ height_of_is e = one_above (phrase e)
 
 literal_low : (l : Literal) (p : Pos) → tallest (literal_parts l p) ≡ 0
 literal_low (literal.Int n) p = refl
-literal_low (literal.Dec n k) p = refl
-literal_low (literal.Pct n k) p = refl
+literal_low (literal.Dec d) p = refl
+literal_low (literal.Pct d) p = refl
 literal_low (literal.Money m) p = refl
 literal_low (literal.Date d) p = refl
 literal_low (literal.Boolean b) p = refl

@@ -33,8 +33,8 @@ truth_word false = key.False
 -- how a literal is spelled
 abbrev pub literal_parts : Literal → Pos → Parts
 literal_parts (literal.Int n) p = first (kind.Int n) p ▹ End
-literal_parts (literal.Dec n k) p = first (kind.Dec n k) p ▹ End
-literal_parts (literal.Pct n k) p = first (kind.Pct n k) p ▹ End
+literal_parts (literal.Dec d) p = first (kind.Dec d) p ▹ End
+literal_parts (literal.Pct d) p = first (kind.Pct d) p ▹ End
 literal_parts (literal.Money m) p = first (kind.Money m) p ▹ End
 literal_parts (literal.Date d) p = first (kind.Date d) p ▹ End
 literal_parts (literal.Boolean b) p = key_at (truth_word b) p ▹ End

@@ -2,7 +2,7 @@
 
 use crate::{CaseName, Name, Type};
 use cat_date::Day;
-use cat_num::{Money, Whole};
+use cat_num::{DecimalLiteral, Money, Whole};
 use cat_pos::{Boxed, List, Pos};
 
 /// The unit of a duration.
@@ -16,10 +16,9 @@ pub enum Unit {
 #[derive(Clone, Copy, Debug, PartialEq, Eq)]
 pub enum Literal {
     Int(Whole),
-    /// A decimal: the number that its digits spell without the point, and how many stand after the point.
-    Dec(u64, u32),
-    /// A percentage, as `Dec`, without its division by 100.
-    Pct(u64, u32),
+    Dec(DecimalLiteral),
+    /// A percentage, as the decimal with two more places.
+    Pct(DecimalLiteral),
     Money(Money),
     Date(Day),
     Boolean(bool),

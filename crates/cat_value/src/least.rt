@@ -8,7 +8,7 @@ ghost use Rattle.cat_value.specs.Defaults.{default_of, default_to, default_field
 
 use crate::{Decls, Fields, Ty, Value, Values};
 use cat_date::{Day, Span};
-use cat_num::{Money, Whole, frac_of_decimal};
+use cat_num::{DecimalLiteral, Money, Whole, frac_of_decimal};
 use cat_pos::{Boxed, List};
 use std::alloc::{AllocError, Global};
 
@@ -42,7 +42,7 @@ fn least_at(alloc: Global, ty: &Ty, decls: &Decls, depth: u32) -> Result<Value, 
     match ty {
         Ty::Boolean => Ok(Value::Boolean(false)),
         Ty::Integer => Ok(Value::Integer(Whole::new(0).unwrap())),
-        Ty::Decimal => Ok(Value::Decimal(frac_of_decimal(0, 0))),
+        Ty::Decimal => Ok(Value::Decimal(frac_of_decimal(DecimalLiteral::new(0, 0).unwrap()))),
         Ty::Money => Ok(Value::Money(Money::new(0).unwrap())),
         Ty::Date => Ok(Value::Date(Day::from_number(FIRST_DAY))),
         Ty::Duration => Ok(Value::Duration(Span::from_parts(0, 0))),
