@@ -3,7 +3,8 @@
 use crate::arguments::Arguments;
 use crate::problem::Problem;
 use cat_num::{
-    DecimalLiteral, Frac, NumFault, are_equal, decimal_text, frac_of_decimal, round_half_away, truncate,
+    DecimalLiteral, Frac, NumFault, are_equal, decimal_text, frac_of_decimal, round_half_away,
+    truncate,
 };
 use std::alloc::{AllocError, Global};
 

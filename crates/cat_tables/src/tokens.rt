@@ -91,8 +91,16 @@ fn show(alloc: Global, kind: &TokenKind) -> Result<String, AllocError> {
             let whole = whole.get();
             format!(in alloc; "INT {whole}")
         }
-        TokenKind::Dec(decimal) => format!(in alloc; "DEC {} {}", decimal.digits(), decimal.places()),
-        TokenKind::Pct(decimal) => format!(in alloc; "PCT {} {}", decimal.digits(), decimal.places()),
+        TokenKind::Dec(decimal) => format!(in alloc;
+            "DEC {} {}",
+            decimal.digits(),
+            decimal.places()
+        ),
+        TokenKind::Pct(decimal) => format!(in alloc;
+            "PCT {} {}",
+            decimal.digits(),
+            decimal.places()
+        ),
         TokenKind::Money(money) => {
             let cents = money.get();
             format!(in alloc; "MONEY {cents}")

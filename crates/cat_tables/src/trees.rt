@@ -284,8 +284,16 @@ fn leaf(style: Style, literal: &Literal, pos: Pos) -> Written {
 fn literal_text(alloc: Global, literal: &Literal) -> Written {
     match literal {
         Literal::Int(whole) => format!(in alloc; "Int({})", whole.get()),
-        Literal::Dec(decimal) => format!(in alloc; "Dec({} {})", decimal.digits(), decimal.places()),
-        Literal::Pct(decimal) => format!(in alloc; "Pct({} {})", decimal.digits(), decimal.places()),
+        Literal::Dec(decimal) => format!(in alloc;
+            "Dec({} {})",
+            decimal.digits(),
+            decimal.places()
+        ),
+        Literal::Pct(decimal) => format!(in alloc;
+            "Pct({} {})",
+            decimal.digits(),
+            decimal.places()
+        ),
         Literal::Money(money) => format!(in alloc; "Money({})", money.get()),
         Literal::Date(day) => format!(in alloc; "Date({})", number(*day)),
         Literal::Boolean(truth) => format!(in alloc; "Boolean({truth})"),
