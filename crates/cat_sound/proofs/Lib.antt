@@ -29,3 +29,5 @@ pub mod PartTypes
 pub mod RunParts
 pub mod ByParts
 pub mod Rests
+pub mod JudgingSame
+pub mod FunctionLaws
