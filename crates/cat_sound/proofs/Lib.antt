@@ -31,3 +31,4 @@ pub mod ByParts
 pub mod Rests
 pub mod JudgingSame
 pub mod FunctionLaws
+pub mod ScopeLaws

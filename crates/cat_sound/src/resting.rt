@@ -1,5 +1,5 @@
 // What evaluations rest on.
-ghost use Rattle.std.specs.Prelude.{◌≡◌, ◌<◌, ℕ, length, IsTrue, List, take, slice_get};
+ghost use Rattle.std.specs.Prelude.{◌≡◌, ◌<◌, ℕ, length, IsTrue, List, take, slice_get, Some};
 ghost use Rattle.cat_order.specs.Order.{IsOrder};
 ghost use Rattle.cat_value.specs.declared.value.Value.{Value};
 ghost use Rattle.cat_scope.specs.declared.expr.Expr.{Expr};
@@ -7,8 +7,12 @@ ghost use Rattle.cat_scope.specs.Calls.{Items, Scoped, call, judged, variable, v
 ghost use Rattle.cat_scope.specs.Eval.{Env, eval};
 ghost use Rattle.cat_scope.specs.Names.{is_in};
 ghost use Rattle.cat_scope.specs.Orders.{item_dependencies};
-ghost use Rattle.cat_scope.specs.Running.{backwards};
+ghost use Rattle.cat_scope.specs.Running.{backwards, run_scoped, scope_run};
+ghost use Rattle.cat_value.specs.declared.declaration.Scope.{Scope};
+ghost use Rattle.cat_scope.specs.declared.defs.Body.{Body};
 ghost use Rattle.cat_sound.specs.Rests.{AgreeOn};
+
+use cat_scope::Program;
 
 /// What an expression gives, and what is decided on the way, rests on what it names alone: items, functions and scopes.
 #[tactic(auto, using(crate::proofs::Rests::names_alone))]
@@ -29,4 +33,14 @@ pub fn functions_are_judged_by_the_rule()
         → IsOrder (item_dependencies scoped.items scoped.body.defs) scoped.body.order → IsTrue (is_in function (take place scoped.body.order))
         → ((item : ℕ) → IsTrue (is_in item (take place scoped.body.order)) → slice_get values item ≡ slice_get more item)
         → call scoped values (backwards (take place scoped.body.order)) function arguments ≡ call scoped more (backwards scoped.body.order) function arguments }
+{}
+
+/// A scope of a program is run by the rule of scopes, where a called scope, and a scope call, give what the run of that
+/// scope gives on that input.
+#[tactic(auto, using(crate::proofs::ScopeLaws::scopes_by_rule))]
+pub fn scopes_are_run_by_the_rule(program: &Program)
+    ensures { (number : ℕ) (scope : Scope) (body : Body) (input : Items)
+        → slice_get program.now.decls.scopes number ≡ Some scope → slice_get program.now.bodies number ≡ Some body
+        → scope_run program.now number input
+        ≡ run_scoped (record { scope = number; items = scope.items; body = body; scopes = program.now.decls.scopes; runs = scope_run program.now }) input }
 {}
