@@ -29,3 +29,6 @@ pub mod PartTypes
 pub mod RunParts
 pub mod ByParts
 pub mod Rests
+pub mod JudgingSame
+pub mod FunctionLaws
+pub mod ScopeLaws

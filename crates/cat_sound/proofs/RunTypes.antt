@@ -78,7 +78,7 @@ entry_given ds (item ∷ items) [] k decl h is = not_true h
 entry_given ds (item ∷ items) (given ∷ input) zero decl h is = subst (λ (i : ItemDecl). IsTrue (is_given_for ds i given)) (same_some item decl is) (both _ _ h).0
 entry_given ds (item ∷ items) (given ∷ input) (suc k) decl h is = entry_given ds items input k decl (both _ _ h).1 is
 
-callee_at : (P : ℕ → Type 0) (items : List ItemDecl) (k : ℕ) (decl : ItemDecl) (s : ℕ) → AllHave P (called_by_items items) → slice_get items k ≡ Some decl → decl.kind ≡ kind.Called s → P s
+pub callee_at : (P : ℕ → Type 0) (items : List ItemDecl) (k : ℕ) (decl : ItemDecl) (s : ℕ) → AllHave P (called_by_items items) → slice_get items k ≡ Some decl → decl.kind ≡ kind.Called s → P s
 callee_at P [] k decl s h is e = absurd (cc)
 callee_at P (item ∷ items) zero decl s h is e =
     (subst (λ ks. AllHave P ks) (ap called_by_kind (ap (λ (i : ItemDecl). i.kind) (same_some item decl is) ∙ e)) (all_front P (called_by_kind item.kind) (called_by_items items) h)).0
@@ -253,12 +253,12 @@ module _ (allowed : Allowed) (ds : Decls) (scoped : Scoped) (sound : IsSound all
 -- ---- the scopes of a program
 
 -- what a source calls is what its declaration, its definitions and its assertions call
-record AreCalled (P : ℕ → Type 0) (items : List ItemDecl) (n : ℕ) (defs : List Def) (assertions : List Assertion) : Type 0 where
-  by_items : 0 < n → AllHave P (called_by_items items)
-  by_defs : AllHave (λ d. AllHave P (in_def scopes_named d)) defs
-  by_assertions : AllHave (λ a. AllHave P (scopes_named a.condition)) assertions
+pub record AreCalled (P : ℕ → Type 0) (items : List ItemDecl) (n : ℕ) (defs : List Def) (assertions : List Assertion) : Type 0 where
+  pub by_items : 0 < n → AllHave P (called_by_items items)
+  pub by_defs : AllHave (λ d. AllHave P (in_def scopes_named d)) defs
+  pub by_assertions : AllHave (λ a. AllHave P (scopes_named a.condition)) assertions
 
-called-all : (P : ℕ → Type 0) (items : List ItemDecl) (source : List SourcePart) (n : ℕ) (defs : List Def) (assertions : List Assertion) → IsWhole source n (length defs) (length assertions)
+pub called-all : (P : ℕ → Type 0) (items : List ItemDecl) (source : List SourcePart) (n : ℕ) (defs : List Def) (assertions : List Assertion) → IsWhole source n (length defs) (length assertions)
     → AllHave P (called_in items source defs assertions) → AreCalled P items n defs assertions
 called-all P items [] n [] [] whole h = let none = whole.0 in record { by_items = λ some. absurd (omega arith); by_defs = tt; by_assertions = tt }
 called-all P items [] n [] (a ∷ assertions) whole h = let none = whole.2 in absurd (omega arith)

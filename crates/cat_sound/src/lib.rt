@@ -11,7 +11,10 @@ pub use judging::{
     conditions_have_values, forests_have_short_chains, groups_are_judged_by_their_rule,
     targets_rest_on_their_definitions,
 };
-pub use resting::expressions_rest_on_what_they_name;
+pub use resting::{
+    expressions_rest_on_what_they_name, functions_are_judged_by_the_rule,
+    scopes_are_run_by_the_rule,
+};
 pub use typing::{
     conversions_go_on, expressions_go_on, operators_go_on, parts_are_typed, programs_go_on,
     settled_programs_go_on,

@@ -1,12 +1,46 @@
 // What evaluations rest on.
-ghost use Rattle.std.specs.Prelude.{◌≡◌, List};
+ghost use Rattle.std.specs.Prelude.{◌≡◌, ◌<◌, ℕ, length, IsTrue, List, take, slice_get, Some};
+ghost use Rattle.cat_order.specs.Order.{IsOrder};
 ghost use Rattle.cat_value.specs.declared.value.Value.{Value};
 ghost use Rattle.cat_scope.specs.declared.expr.Expr.{Expr};
+ghost use Rattle.cat_scope.specs.Calls.{Items, Scoped, call, judged, variable, variable_value};
 ghost use Rattle.cat_scope.specs.Eval.{Env, eval};
+ghost use Rattle.cat_scope.specs.Names.{is_in};
+ghost use Rattle.cat_scope.specs.Orders.{item_dependencies};
+ghost use Rattle.cat_scope.specs.Running.{backwards, run_scoped, scope_run};
+ghost use Rattle.cat_value.specs.declared.declaration.Scope.{Scope};
+ghost use Rattle.cat_scope.specs.declared.defs.Body.{Body};
 ghost use Rattle.cat_sound.specs.Rests.{AgreeOn};
+
+use cat_scope::Program;
 
 /// What an expression gives, and what is decided on the way, rests on what it names alone: items, functions and scopes.
 #[tactic(auto, using(crate::proofs::Rests::names_alone))]
 pub fn expressions_rest_on_what_they_name()
     ensures { (a : Env) (b : Env) (e : Expr) (locals : List Value) → AgreeOn a b e → eval a e locals ≡ eval b e locals }
+{}
+
+/// A function is judged by the rule of targets among all items of its scope; and neither more items behind it nor their
+/// values change what it gives.
+#[tactic(auto, using(crate::proofs::FunctionLaws::by_rule, crate::proofs::FunctionLaws::nothing_behind))]
+pub fn functions_are_judged_by_the_rule()
+    ensures rule { (scoped : Scoped) (values : Items) (function : ℕ) (arguments : List Value)
+        → IsOrder (item_dependencies scoped.items scoped.body.defs) scoped.body.order → function < length scoped.items
+        → call scoped values (backwards scoped.body.order) function arguments
+        ≡ variable_value (variable scoped function) (slice_get scoped.items function)
+        (judged scoped (call scoped values (backwards scoped.body.order)) values arguments (variable scoped function)) }
+    ensures behind { (scoped : Scoped) (values : Items) (more : Items) (place : ℕ) (function : ℕ) (arguments : List Value)
+        → IsOrder (item_dependencies scoped.items scoped.body.defs) scoped.body.order → IsTrue (is_in function (take place scoped.body.order))
+        → ((item : ℕ) → IsTrue (is_in item (take place scoped.body.order)) → slice_get values item ≡ slice_get more item)
+        → call scoped values (backwards (take place scoped.body.order)) function arguments ≡ call scoped more (backwards scoped.body.order) function arguments }
+{}
+
+/// A scope of a program is run by the rule of scopes, where a called scope, and a scope call, give what the run of that
+/// scope gives on that input.
+#[tactic(auto, using(crate::proofs::ScopeLaws::scopes_by_rule))]
+pub fn scopes_are_run_by_the_rule(program: &Program)
+    ensures { (number : ℕ) (scope : Scope) (body : Body) (input : Items)
+        → slice_get program.now.decls.scopes number ≡ Some scope → slice_get program.now.bodies number ≡ Some body
+        → scope_run program.now number input
+        ≡ run_scoped (record { scope = number; items = scope.items; body = body; scopes = program.now.decls.scopes; runs = scope_run program.now }) input }
 {}
