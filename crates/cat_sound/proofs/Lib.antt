@@ -32,3 +32,4 @@ pub mod Rests
 pub mod JudgingSame
 pub mod FunctionLaws
 pub mod ScopeLaws
+pub mod Alike
