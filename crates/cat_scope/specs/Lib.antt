@@ -26,3 +26,4 @@ pub mod WellFormed
 pub mod Named
 pub mod Forests
 pub mod Same
+pub mod SameTree

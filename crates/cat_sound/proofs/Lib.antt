@@ -33,3 +33,4 @@ pub mod JudgingSame
 pub mod FunctionLaws
 pub mod ScopeLaws
 pub mod Alike
+pub mod Trees

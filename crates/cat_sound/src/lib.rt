@@ -13,7 +13,7 @@ pub use judging::{
 };
 pub use resting::{
     expressions_rest_on_what_they_name, functions_are_judged_by_the_rule,
-    positions_change_no_value, scopes_are_run_by_the_rule,
+    positions_change_no_value, scopes_are_run_by_the_rule, the_test_of_trees_decides,
 };
 pub use typing::{
     conversions_go_on, expressions_go_on, operators_go_on, parts_are_typed, programs_go_on,
