@@ -34,3 +34,5 @@ pub mod FunctionLaws
 pub mod ScopeLaws
 pub mod Alike
 pub mod Trees
+pub mod DecidedLaws
+mod SoundSamples
