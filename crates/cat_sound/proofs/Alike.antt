@@ -14,7 +14,6 @@ use Rattle.cat_date.specs.Span.{span_sum, span_difference, span_multiple, span_n
 use Rattle.cat_value.specs.declared.value.Value.{Value}
 use Rattle.cat_value.specs.declared.value.Value.TheOpen.{Value-F}
 use Rattle.cat_value.specs.declared.value.Value.TheVariants as flat
-use Rattle.cat_value.specs.declared.value.Value.TheViews as value
 use Rattle.cat_value.specs.declared.value.Value.TheViews.{out-Value}
 use Rattle.cat_scope.specs.declared.stop.Stop.{Stop}
 use Rattle.cat_scope.specs.declared.expr.Expr.{Expr}
@@ -28,7 +27,7 @@ use Rattle.cat_scope.specs.declared.operators.BinaryOp.{BinaryOp}
 use Rattle.cat_scope.specs.declared.operators.BinaryOp.TheVariants as binary
 use Rattle.cat_scope.specs.declared.operators.SumKind.{SumKind}
 use Rattle.cat_scope.specs.Replies.{on_one, known, exact, dated}
-use Rattle.cat_scope.specs.Runs.{Decider, Run, plain, gives, behind, and_then, giving, in_front, either, choose}
+use Rattle.cat_scope.specs.Runs.{Decider, Run, plain, gives, behind, and_then, giving, in_front, either}
 use Rattle.cat_scope.specs.Readings as read
 use Rattle.cat_scope.specs.Readings.{case_of, elements}
 use Rattle.cat_scope.specs.Comparing.{compared, compared_in, equal, equal_in}

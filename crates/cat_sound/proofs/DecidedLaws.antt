@@ -1,6 +1,5 @@
 -- What stands in the log of a run: targets of scopes that are called, and each variable that was judged.
-use Rattle.std.proofs.Common.{◌≡◌, ◌⊎◌, inl, inr, ℕ, Bool, true, false, not, ◌&&◌, IsTrue, List, [], ◌∷◌, ◌++◌, take, drop, Option, Some, None, Result, Ok, Err, slice_get, refl, sym, ap, ◌∙◌, subst, true≢false}
-use Rattle.cat_pos.specs.declared.pos.Pos.{Pos}
+use Rattle.std.proofs.Common.{◌≡◌, inl, inr, ℕ, Bool, true, false, not, IsTrue, List, [], ◌∷◌, ◌++◌, take, drop, Option, Some, None, Result, Ok, Err, slice_get, refl, sym, ap, ◌∙◌, subst, true≢false}
 use Rattle.cat_value.specs.declared.value.Value.{Value}
 use Rattle.cat_value.specs.declared.outcome.Target.{Target}
 use Rattle.cat_value.specs.declared.ty.Ty.{Ty}
@@ -10,12 +9,12 @@ use Rattle.cat_value.specs.declared.declaration.ItemDecl.{ItemDecl}
 use Rattle.cat_scope.specs.declared.stop.Stop.{Stop}
 use Rattle.cat_scope.specs.Runs.{Decider, Run, plain, gives, behind, and_then}
 use Rattle.cat_scope.specs.Names.{IsOneOf, is_called, has_none, is_plain}
-use Rattle.cat_scope.specs.Judging.{Held, Judged, place_in, decided}
+use Rattle.cat_scope.specs.Judging.{Judged, place_in, decided}
 use Rattle.cat_scope.specs.Targets.{absent, value_or}
 use Rattle.cat_scope.specs.Calls.{Items, Scoped, variable, judged, variable_value, call}
 use Rattle.cat_scope.specs.ItemValues.{defined_value, ungiven_value, item_value}
 use Rattle.cat_scope.specs.Running.{backwards, entry_at, with_entry, no_values, run_items, run_scoped}
-use Rattle.cat_sound.specs.Given.{values_at, JudgedAt, IsLogged}
+use Rattle.cat_sound.specs.Given.{values_at, IsLogged}
 use Rattle.cat_sound.proofs.Results.{both}
 use Rattle.cat_sound.proofs.FormTypes.{not_true}
 use Rattle.cat_sound.proofs.GivenValues.{run_through}

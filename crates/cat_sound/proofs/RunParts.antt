@@ -1,5 +1,5 @@
 -- A run that ends in a value has given each of its items what it comes to, in the values of its place.
-use Rattle.std.proofs.Common.{◌≡◌, ℕ, zero, suc, List, [], ◌∷◌, take, drop, Option, Some, None, Result, Ok, Err, slice_get, refl, sym, ap, ◌∙◌}
+use Rattle.std.proofs.Common.{◌≡◌, ℕ, zero, suc, List, [], ◌∷◌, take, drop, Some, Result, Ok, Err, slice_get, refl, sym, ap, ◌∙◌}
 use Rattle.cat_value.specs.declared.value.Value.{Value}
 use Rattle.cat_scope.specs.declared.stop.Stop.{Stop}
 use Rattle.cat_scope.specs.Runs.{Decider, Run, behind, and_then}

@@ -1,18 +1,15 @@
 -- Samples that meet the premises of laws.
-use Rattle.std.proofs.Common.{◌≡◌, ℕ, zero, suc, pos, Bool, true, false, IsTrue, List, [], ◌∷◌, Option, Some, None, Result, Ok, Err, refl, sym, ap, ◌∙◌, subst, rules, true≢false, slice_get, arith}
+use Rattle.std.proofs.Common.{◌≡◌, ℕ, zero, suc, pos, Bool, true, false, IsTrue, List, [], ◌∷◌, Option, Some, None, Ok, refl, sym, ap, ◌∙◌, subst, rules, arith}
 use Rattle.cat_value.specs.declared.value.Value.{Value}
 use Rattle.cat_value.specs.declared.value.Value.TheVariants as flat
 use Rattle.cat_value.specs.declared.value.Value.TheViews as value
-use Rattle.cat_value.specs.declared.ty.Ty.{Ty}
 use Rattle.cat_value.specs.declared.ty.Ty.TheVariants as flat_ty
 use Rattle.cat_value.specs.declared.decls.Decls.{Decls}
 use Rattle.cat_value.specs.declared.declaration.Kind.TheVariants as kind
 use Rattle.cat_value.specs.declared.declaration.ItemDecl.{ItemDecl}
-use Rattle.cat_value.specs.declared.outcome.Target.{Target}
 use Rattle.cat_scope.specs.declared.defs.Except.TheVariants as except
 use Rattle.cat_scope.specs.declared.defs.Def.{Def}
 use Rattle.cat_scope.specs.declared.expr.Expr.TheVariants as leaf
-use Rattle.cat_scope.specs.declared.stop.Stop.{Stop}
 use Rattle.cat_scope.specs.Names.{Names, AllHave}
 use Rattle.cat_scope.specs.Judging.{Held}
 use Rattle.cat_scope.specs.Targets.{judge_target}
@@ -24,8 +21,8 @@ use Rattle.cat_scope.specs.Same as same
 use Rattle.cat_scope.proofs.Equations.{equations}
 use Rattle.cat_scope.proofs.Namings.{namings}
 use Rattle.cat_scope.proofs.Samples.{at, n_in, x_out, whole, def, x}
-use Rattle.cat_sound.specs.Endings.{Allowed, Ended, IsOf}
-use Rattle.cat_sound.specs.Settled.{IsHeldOf, MayStand, IsSettled, AreSettled}
+use Rattle.cat_sound.specs.Endings.{Allowed, Ended}
+use Rattle.cat_sound.specs.Settled.{IsHeldOf, MayStand, AreSettled}
 use Rattle.cat_sound.specs.Rests.{TellSame, CallSame, AgreeOn}
 use Rattle.cat_sound.proofs.FormTypes.{same_some, not_true}
 use Rattle.cat_sound.proofs.FlatTypes.{of-Integer}

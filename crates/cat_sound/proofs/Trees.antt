@@ -1,12 +1,9 @@
 -- The test of two expressions decides whether they agree but for positions.
-use Rattle.std.proofs.Common.{◌≡◌, ◌↔◌, ◌<◌, ◌≤◌, ℕ, zero, suc, ◌+◌, ◌-◌, ℤ, Bool, true, false, not, ◌&&◌, IsTrue, List, [], ◌∷◌, map, Some, None, Option, refl, sym, ap, ◌∙◌, subst, arith, true≢false, if◌then◌else◌}
+use Rattle.std.proofs.Common.{◌≡◌, ◌↔◌, ◌<◌, ◌≤◌, ℕ, ◌+◌, ◌-◌, ℤ, Bool, true, false, not, ◌&&◌, IsTrue, List, [], ◌∷◌, map, Some, None, refl, sym, ap, ◌∙◌, subst, arith, if◌then◌else◌}
 use Rattle.std.specs.Prelude.{nat_eq, nat_lt, nat_le}
 use Rattle.std.specs.Ordering.{int_eq}
-use Rattle.std.specs.Bool.{Decides}
 use Rattle.std.proofs.lemmas.Bool.Decides.{nat_tests, Decides-int_eq}
 use Rattle.cat_pos.specs.declared.pos.Pos.{Pos}
-use Rattle.cat_num.specs.Frac.{Fraction}
-use Rattle.cat_date.specs.Span.{SpanOf}
 use Rattle.cat_scope.specs.declared.expr.Literal.{Literal}
 use Rattle.cat_scope.specs.declared.expr.Literal.TheVariants as literal
 use Rattle.cat_scope.specs.declared.expr.ArmPattern.{ArmPattern}

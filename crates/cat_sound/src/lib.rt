@@ -18,6 +18,6 @@ pub use resting::{
     positions_change_no_value, scopes_are_run_by_the_rule, the_test_of_trees_decides,
 };
 pub use typing::{
-    conversions_go_on, expressions_go_on, logs_tell_of_called_scopes, operators_go_on, parts_are_typed, programs_go_on,
-    settled_programs_go_on,
+    conversions_go_on, expressions_go_on, logs_tell_of_called_scopes, operators_go_on,
+    parts_are_typed, programs_go_on, settled_programs_go_on,
 };
