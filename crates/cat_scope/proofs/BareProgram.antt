@@ -1,5 +1,5 @@
 -- A program of one scope without items is well formed.
-use Rattle.std.proofs.Common.{◌≡◌, ℕ, zero, suc, true, IsTrue, List, [], ◌∷◌, length, Option, Some, refl, sym, subst, arith, true≢false}
+use Rattle.std.proofs.Common.{◌≡◌, ℕ, zero, suc, true, IsTrue, List, [], ◌∷◌, length, Some, refl, sym, subst, arith, true≢false}
 use Rattle.cat_value.specs.declared.decls.Decls.{Decls}
 use Rattle.cat_value.specs.declared.declaration.Scope.{Scope}
 use Rattle.cat_value.specs.declared.declaration.Structure.{Structure}
@@ -15,7 +15,7 @@ use Rattle.cat_order.specs.Computed.{order_of}
 use Rattle.cat_order.proofs.Theorems.{order_of-iff_IsOrder}
 use Rattle.cat_scope.specs.declared.defs.SourcePart.TheVariants.{Declaration}
 use Rattle.cat_scope.specs.declared.defs.Body.{Body}
-use Rattle.cat_scope.specs.Orders.{scope_dependencies, item_dependencies, function_calls}
+use Rattle.cat_scope.specs.Orders.{scope_dependencies, item_dependencies}
 use Rattle.cat_scope.specs.Chains.{HasShortChains, is_within}
 use Rattle.cat_scope.specs.WellFormed.{IsBodyOf, AreBodiesOf, IsWellFormed}
 

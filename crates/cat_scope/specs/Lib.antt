@@ -25,3 +25,5 @@ pub mod Orders
 pub mod WellFormed
 pub mod Named
 pub mod Forests
+pub mod Same
+pub mod SameTree

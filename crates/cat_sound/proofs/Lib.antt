@@ -32,3 +32,7 @@ pub mod Rests
 pub mod JudgingSame
 pub mod FunctionLaws
 pub mod ScopeLaws
+pub mod Alike
+pub mod Trees
+pub mod DecidedLaws
+mod SoundSamples

@@ -1,5 +1,5 @@
 -- A typed expression has typed parts, by its form.
-use Rattle.std.proofs.Common.{◌≡◌, ℕ, List, [], ◌∷◌, None, Some, refl, sym, subst}
+use Rattle.std.proofs.Common.{◌≡◌, List, None, Some, refl, sym, subst}
 use Rattle.cat_value.specs.declared.ty.Ty.{Ty}
 use Rattle.cat_scope.specs.declared.expr.Expr.{Expr}
 use Rattle.cat_scope.specs.declared.expr.Arm.{Arm}

@@ -6,16 +6,18 @@ mod judging;
 mod resting;
 mod typing;
 
-pub use given::{each_item_is_judged, given_outputs_stand, given_values_stand};
+pub use given::{
+    each_item_is_judged, each_variable_is_logged, given_outputs_stand, given_values_stand,
+};
 pub use judging::{
     conditions_have_values, forests_have_short_chains, groups_are_judged_by_their_rule,
     targets_rest_on_their_definitions,
 };
 pub use resting::{
     expressions_rest_on_what_they_name, functions_are_judged_by_the_rule,
-    scopes_are_run_by_the_rule,
+    positions_change_no_value, scopes_are_run_by_the_rule, the_test_of_trees_decides,
 };
 pub use typing::{
-    conversions_go_on, expressions_go_on, operators_go_on, parts_are_typed, programs_go_on,
-    settled_programs_go_on,
+    conversions_go_on, expressions_go_on, logs_tell_of_called_scopes, operators_go_on,
+    parts_are_typed, programs_go_on, settled_programs_go_on,
 };
