@@ -1,11 +1,12 @@
 -- A program of one scope without items is well formed.
-use Rattle.std.proofs.Common.{◌≡◌, ℕ, zero, suc, true, IsTrue, List, [], ◌∷◌, length, Option, Some, refl, sym, subst, arith, true≢false}
+use Rattle.std.proofs.Common.{◌≡◌, ℕ, zero, suc, true, IsTrue, List, [], ◌∷◌, length, Some, refl, sym, subst, arith, true≢false}
 use Rattle.cat_value.specs.declared.decls.Decls.{Decls}
 use Rattle.cat_value.specs.declared.declaration.Scope.{Scope}
 use Rattle.cat_value.specs.declared.declaration.Structure.{Structure}
 use Rattle.cat_value.specs.declared.declaration.Enumeration.{Enumeration}
 use Rattle.cat_value.specs.declared.outcome.Target.{Target}
 use Rattle.cat_value.specs.Declarations.{are_sound}
+use Rattle.cat_value.specs.Dependencies.{are_ordered}
 use Rattle.cat_date.specs.declared.rounding.Rounding.TheVariants.{Up}
 use Rattle.cat_scope.specs.Forests.{are_low}
 use Rattle.cat_date.specs.declared.rounding.Rounding.{Rounding}
@@ -15,7 +16,7 @@ use Rattle.cat_order.specs.Computed.{order_of}
 use Rattle.cat_order.proofs.Theorems.{order_of-iff_IsOrder}
 use Rattle.cat_scope.specs.declared.defs.SourcePart.TheVariants.{Declaration}
 use Rattle.cat_scope.specs.declared.defs.Body.{Body}
-use Rattle.cat_scope.specs.Orders.{scope_dependencies, item_dependencies, function_calls}
+use Rattle.cat_scope.specs.Orders.{scope_dependencies, item_dependencies}
 use Rattle.cat_scope.specs.Chains.{HasShortChains, is_within}
 use Rattle.cat_scope.specs.WellFormed.{IsBodyOf, AreBodiesOf, IsWellFormed}
 
@@ -70,7 +71,7 @@ bare_program decls name rounding is = record {
 }
 
 bare_is_sound : (name : List ℕ) → IsTrue (are_sound [] [] (bare_scope name ∷ []))
-unfolding are_sound
+unfolding are_sound are_ordered order_of
 bare_is_sound name = refl
 
 pub bare_sound : (ss : List Structure) (es : List Enumeration) (scopes : List Scope) (name : List ℕ) → ss ≡ [] → es ≡ [] → scopes ≡ bare_scope name ∷ [] → IsTrue (are_sound ss es scopes)

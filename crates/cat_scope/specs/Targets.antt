@@ -8,7 +8,7 @@ use Rattle.cat_scope.specs.declared.stop.Stop.TheVariants.{NoValue, Stuck}
 use Rattle.cat_scope.specs.declared.expr.Expr.{Expr}
 use Rattle.cat_scope.specs.declared.defs.Def.{Def}
 use Rattle.cat_scope.specs.Replies.{Reply}
-use Rattle.cat_scope.specs.Runs.{Run, gives, stops, and_then, giving, choose}
+use Rattle.cat_scope.specs.Runs.{Run, gives, stops, and_then, choose}
 use Rattle.cat_scope.specs.Groups.{Numbered, Group, groups_of, roots_of, excepts}
 use Rattle.cat_scope.specs.Judging.{Held, Judged, settle, judge}
 

@@ -10,6 +10,8 @@ use Rattle.cat_num.specs.declared.fault.NumFault.TheVariants as num
 use Rattle.cat_num.specs.Whole.{largest, fits, whole_of}
 use Rattle.cat_num.specs.Frac.{Fraction, IsReduced, gcd, is_negative, signed, lowest, ratio, frac_of, frac_negation}
 use Rattle.cat_num.specs.Rounding.{rounded, truncated, rounded_ratio, whole_units}
+use Rattle.cat_num.specs.Numerals.{Numeral, is_numeral, numeral_value}
+use Rattle.cat_num.proofs.Numerals.{value_reduced}
 use Rattle.cat_num.proofs.Gcd.{gcd-mod, gcd-zero}
 use Rattle.cat_num.proofs.Signs.{unsigned_abs-signed, signed-product}
 use Rattle.cat_num.proofs.Fracs.{ratio-zero, ratio-large_num, ratio-large_den, ratio-fits, lowest_parts, IsReduced-lowest}
@@ -65,6 +67,9 @@ decimal_of n d h =
     let num = h.num_fits in
     let terms = h.lowest_terms in
     grind (arith, nat_tests)
+
+pub numeral_decimal : (n : Numeral) → IsTrue (is_numeral n) → IsTrue (is_decimal (numeral_value n))
+numeral_decimal n h = decimal_of (numeral_value n).num (numeral_value n).den (value_reduced n h)
 
 den_of : (f : Fraction) → IsTrue (is_decimal f) → 0 < f.den
 den_of f h = grind (arith, nat_tests)
