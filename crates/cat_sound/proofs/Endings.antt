@@ -1,6 +1,5 @@
 -- How the words that put runs together end.
-use Rattle.std.proofs.Common.{Bool, true, false, IsTrue, List, [], ◌∷◌, ◌++◌, Result, Ok, Err, ◌≡◌, refl, sym, subst}
-use Rattle.cat_value.specs.declared.outcome.Target.{Target}
+use Rattle.std.proofs.Common.{Bool, true, false, List, [], ◌∷◌, ◌++◌, Result, Ok, Err, ◌≡◌, refl, sym, subst}
 use Rattle.cat_value.specs.declared.value.Value.{Value}
 use Rattle.cat_value.specs.declared.ty.Ty.TheVariants as ty
 use Rattle.cat_value.specs.declared.decls.Decls.{Decls}

@@ -1,5 +1,5 @@
 -- Results of the operations on numbers, dates and durations are in their ranges.
-use Rattle.std.proofs.Common.{◌≡◌, ℕ, zero, suc, ◌+◌, ◌*◌, ◌/◌, ◌%◌, ◌<◌, ◌≤◌, nat_le, ℤ, pos, negsuc, neg_ℤ, ◌+ℤ◌, ◌-ℤ◌, ◌≤ℤ◌, unsigned_abs, Bool, true, false, ◌&&◌, IsTrue, Result, Ok, Err, if◌then◌else◌, refl, sym, ap, ◌∙◌, subst, arith, ⊎_elim}
+use Rattle.std.proofs.Common.{◌≡◌, ℕ, zero, suc, ◌+◌, ◌*◌, ◌/◌, ◌%◌, ◌<◌, ◌≤◌, nat_le, ℤ, pos, negsuc, neg_ℤ, ◌+ℤ◌, ◌-ℤ◌, ◌≤ℤ◌, unsigned_abs, Bool, true, false, ◌&&◌, IsTrue, Result, Ok, Err, if◌then◌else◌, refl, sym, ap, ◌∙◌, subst, arith, ⊎_elim, nat_lt, ◌==◌}
 use Rattle.std.specs.Prelude.{nat_eq}
 use Rattle.std.proofs.lemmas.Bool.{cases_lt}
 use Rattle.std.proofs.lemmas.Bool.Decides.{nat_tests}
@@ -100,7 +100,7 @@ frac_decimal n (pos d) f h = ratio_decimal n d f h
 frac_decimal n (negsuc d) f h = ratio_decimal (neg_ℤ n) (suc d) f h
 
 pub negation_decimal : (f : Fraction) → IsTrue (is_decimal f) → IsTrue (is_decimal (frac_negation f))
-negation_decimal f h = ap (λ u. nat_le 1 f.den && (nat_le u largest && nat_le f.den largest) && nat_eq (gcd u f.den) 1) (abs-neg f.num) ∙ h
+negation_decimal f h = ap (λ u. nat_lt 0 f.den && nat_le f.den largest && nat_le u largest && gcd u f.den == 1) (abs-neg f.num) ∙ h
 
 pub whole_decimal : (n : ℤ) → IsTrue (fits n) → IsTrue (is_decimal (over_one n))
 whole_decimal n h =

@@ -29,7 +29,6 @@ use Rattle.cat_scope.specs.Names.{AllHave}
 use Rattle.cat_scope.specs.Eval.{Env, eval, eval_arms}
 use Rattle.cat_scope.specs.Composed.{Meaning, part, given, in_order, structured, arm_locals, arm_value}
 use Rattle.cat_sound.specs.Endings.{Allowed, EndsIn, ResultsIn, IsOf, AreOf, IsFieldOf, numbers_of}
-use Rattle.cat_value.specs.declared.outcome.Target.{Target}
 use Rattle.cat_sound.proofs.Results.{both, result_as, result_then, result_with_front, result_known, are_more}
 use Rattle.cat_sound.proofs.Endings.{ends_as}
 

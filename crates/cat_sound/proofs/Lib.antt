@@ -32,3 +32,5 @@ pub mod Rests
 pub mod JudgingSame
 pub mod FunctionLaws
 pub mod ScopeLaws
+pub mod HeldLaws
+pub mod GroupLaws
