@@ -6,6 +6,7 @@ use Rattle.cat_value.specs.declared.declaration.Structure.{Structure}
 use Rattle.cat_value.specs.declared.declaration.Enumeration.{Enumeration}
 use Rattle.cat_value.specs.declared.outcome.Target.{Target}
 use Rattle.cat_value.specs.Declarations.{are_sound}
+use Rattle.cat_value.specs.Dependencies.{are_ordered}
 use Rattle.cat_date.specs.declared.rounding.Rounding.TheVariants.{Up}
 use Rattle.cat_scope.specs.Forests.{are_low}
 use Rattle.cat_date.specs.declared.rounding.Rounding.{Rounding}
@@ -70,7 +71,7 @@ bare_program decls name rounding is = record {
 }
 
 bare_is_sound : (name : List ℕ) → IsTrue (are_sound [] [] (bare_scope name ∷ []))
-unfolding are_sound
+unfolding are_sound are_ordered order_of
 bare_is_sound name = refl
 
 pub bare_sound : (ss : List Structure) (es : List Enumeration) (scopes : List Scope) (name : List ℕ) → ss ≡ [] → es ≡ [] → scopes ≡ bare_scope name ∷ [] → IsTrue (are_sound ss es scopes)

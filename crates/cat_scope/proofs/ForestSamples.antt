@@ -26,9 +26,9 @@ two_exceptions_of_one_group = refl
 abbrev scattered : List Def
 scattered =
     def (variable 0 0) None except.No None (whole 0) (at 6 3) ∷
-    def x (Some a) except.No None (whole 1) (at 7 11) ∷
+    def x (Some (a (at 7 9))) except.No None (whole 1) (at 7 11) ∷
     def x None (except.Base (at 8 3)) None (whole 2) (at 8 13) ∷
-    def x (Some a) except.No None (whole 3) (at 9 11) ∷ []
+    def x (Some (a (at 9 9))) except.No None (whole 3) (at 9 11) ∷ []
 
 a_label_makes_one_group : groups scattered ≡ group (1 ∷ 3 ∷ []) (1 ∷ []) ∷ group (2 ∷ []) [] ∷ []
 a_label_makes_one_group = refl
@@ -36,7 +36,7 @@ a_label_makes_one_group = refl
 -- where there are two roots, a bare exception excepts neither
 abbrev two_roots : List Def
 two_roots =
-    def x (Some a) except.No None (whole 1) (at 6 11) ∷
+    def x (Some (a (at 6 9))) except.No None (whole 1) (at 6 11) ∷
     def x None except.No None (whole 2) (at 7 3) ∷
     def x None (except.Base (at 8 3)) None (whole 3) (at 8 13) ∷ []
 

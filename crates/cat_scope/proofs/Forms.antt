@@ -48,7 +48,7 @@ abbrev per : ℕ → Expr
 per k = expr.Binary o DivideIntegers there (whole 1) (whole k)
 
 abbrev per_element_above : ℕ → Expr
-per_element_above k = expr.Binary o Greater o (expr.Binary o DivideIntegers there (whole 1) (leaf.Local o 0)) (leaf.Literal o (literal.Decimal (record { num = pos k; den = 1 })))
+per_element_above k = expr.Binary o Greater o (expr.Binary o DivideIntegers there (whole 1) (leaf.Local o 0)) (leaf.Literal o (literal.Decimal (record { digits = k; places = 0 })))
 
 and_stops_at_false : gives (expr.And o falsehood (per 0)) ≡ Ok (flat.Boolean false)
 and_stops_at_false = search (rules, equations, value.the_lemmas)

@@ -13,3 +13,5 @@ mod DeciderSamples
 pub mod BareProgram
 mod WrongReadings
 mod Forms
+mod FunctionSamples
+mod OperatorSamples

@@ -51,10 +51,10 @@ a_condition_without_rules_is_false = search (rules, equations, value.the_lemmas)
 -- an exception whose condition divides by n, and two that always hold
 abbrev faulty : List Def
 faulty =
-    def x (Some a) except.No None (whole 0) (at 6 11) ∷
-    def x None (except.Named a (at 7 3)) (Some (per_n_above_one (at 7 46))) (whole 1) (at 7 15) ∷
-    def x None (except.Named a (at 8 3)) None (whole 2) (at 8 15) ∷
-    def x None (except.Named a (at 9 3)) None (whole 3) (at 9 15) ∷ []
+    def x (Some (a (at 6 9))) except.No None (whole 0) (at 6 11) ∷
+    def x None (except.Named (at 7 3) (a (at 7 13))) (Some (per_n_above_one (at 7 46))) (whole 1) (at 7 15) ∷
+    def x None (except.Named (at 8 3) (a (at 8 13))) None (whole 2) (at 8 15) ∷
+    def x None (except.Named (at 9 3) (a (at 9 13))) None (whole 3) (at 9 15) ∷ []
 
 a_fault_comes_before_a_conflict : alone (n_in ∷ x_out ∷ []) faulty 0 ≡ Err (Fault DivisionByZero (at 7 46))
 unfolding run_of judge_target gcd ratio lowest
@@ -67,8 +67,8 @@ without_the_fault_there_is_a_conflict = search (rules, equations, value.the_lemm
 -- where an exception holds, the definition that it excepts isn't evaluated
 abbrev spared : List Def
 spared =
-    def x (Some a) except.No (Some (per_n_above_one (at 6 45))) (whole 0) (at 6 11) ∷
-    def x None (except.Named a (at 7 3)) None (whole 2) (at 7 15) ∷ []
+    def x (Some (a (at 6 9))) except.No (Some (per_n_above_one (at 6 45))) (whole 0) (at 6 11) ∷
+    def x None (except.Named (at 7 3) (a (at 7 13))) None (whole 2) (at 7 15) ∷ []
 
 what_is_excepted_is_not_evaluated : alone (n_in ∷ x_out ∷ []) spared 0 ≡ gives 2
 unfolding run_of judge_target gcd ratio lowest

@@ -13,6 +13,7 @@ use Rattle.cat_scope.specs.declared.expr.Expr.TheVariants as leaf
 use Rattle.cat_scope.specs.declared.expr.Expr.TheViews as expr
 use Rattle.cat_scope.specs.declared.expr.Literal.TheVariants as literal
 use Rattle.cat_scope.specs.declared.operators.BinaryOp.TheVariants.{Greater, DivideIntegers, Less, MultiplyIntegers}
+use Rattle.cat_scope.specs.declared.defs.Label.{Label}
 use Rattle.cat_scope.specs.declared.defs.Except.{Except}
 use Rattle.cat_scope.specs.declared.defs.Except.TheVariants as except
 use Rattle.cat_scope.specs.declared.defs.Def.{Def}
@@ -24,11 +25,11 @@ abbrev pub at : ℕ → ℕ → Pos
 at l c = record { file = 0; line = l; column = c }
 
 -- labels, each one letter
-abbrev pub a : List ℕ
-a = 97 ∷ []
+abbrev pub a : Pos → Label
+a p = record { text = 97 ∷ []; pos = p }
 
-abbrev pub b : List ℕ
-b = 98 ∷ []
+abbrev pub b : Pos → Label
+b p = record { text = 98 ∷ []; pos = p }
 
 abbrev pub variable : ℕ → ℕ → Target
 variable scope item = record { scope = scope; item = item; inner = None }
@@ -63,14 +64,14 @@ n_above k = expr.Binary (at 0 0) Greater (at 0 0) n (whole k)
 -- `1 / n > 1.0`, with the place of the `/`
 abbrev pub per_n_above_one : Pos → Expr
 per_n_above_one p = expr.Binary (at 0 0) Greater (at 0 0) (expr.Binary (at 0 0) DivideIntegers p (whole 1) n)
-    (leaf.Literal (at 0 0) (literal.Decimal (record { num = pos 1; den = 1 })))
+    (leaf.Literal (at 0 0) (literal.Decimal (record { digits = 10; places = 1 })))
 
 -- `1 month < 31 day`, with the place of the `<`
 abbrev pub one_month_below_31_days : Pos → Expr
 one_month_below_31_days p = expr.Binary (at 0 0) Less p (leaf.Literal (at 0 0) (literal.Duration (record { months = pos 1; days = pos 0 })))
     (leaf.Literal (at 0 0) (literal.Duration (record { months = pos 0; days = pos 31 })))
 
-abbrev pub def : Target → Option (List ℕ) → Except → Option Expr → Expr → Pos → Def
+abbrev pub def : Target → Option Label → Except → Option Expr → Expr → Pos → Def
 def target label e condition consequence p =
     record { target = target; label = label; except = e; condition = condition; consequence = consequence; params = 0; pos = p }
 
@@ -95,16 +96,16 @@ x = variable 0 1
 -- an exception, and an exception to it
 abbrev pub chain : List Def
 chain =
-    def x (Some a) except.No None (whole 1) (at 6 11) ∷
-    def x (Some b) (except.Named a (at 7 11)) (Some (n_above 0)) (whole 2) (at 7 23) ∷
-    def x None (except.Named b (at 8 3)) (Some (n_above 1)) (whole 3) (at 8 15) ∷ []
+    def x (Some (a (at 6 9))) except.No None (whole 1) (at 6 11) ∷
+    def x (Some (b (at 7 9))) (except.Named (at 7 11) (a (at 7 21))) (Some (n_above 0)) (whole 2) (at 7 23) ∷
+    def x None (except.Named (at 8 3) (b (at 8 13))) (Some (n_above 1)) (whole 3) (at 8 15) ∷ []
 
 -- two exceptions to one definition
 abbrev pub forked : List Def
 forked =
-    def x (Some a) except.No None (whole 1) (at 6 11) ∷
-    def x (Some b) (except.Named a (at 7 11)) (Some (n_above 0)) (whole 2) (at 7 23) ∷
-    def x None (except.Named a (at 8 3)) (Some (n_above 1)) (whole 3) (at 8 15) ∷ []
+    def x (Some (a (at 6 9))) except.No None (whole 1) (at 6 11) ∷
+    def x (Some (b (at 7 9))) (except.Named (at 7 11) (a (at 7 21))) (Some (n_above 0)) (whole 2) (at 7 23) ∷
+    def x None (except.Named (at 8 3) (a (at 8 13))) (Some (n_above 1)) (whole 3) (at 8 15) ∷ []
 
 abbrev pub scope_of : List ItemDecl → Scope
 scope_of items = record { name = []; items = items }

@@ -1,5 +1,6 @@
 -- How the values of its parts make the value of an expression.
 use Rattle.std.specs.Prelude.{ℕ, zero, suc, ◌+◌, Bool, true, false, List, [], ◌∷◌, ◌++◌, length, Option, Some, None, Result, Ok, Err, slice_get, nat_eq, if◌then◌else◌}
+use Rattle.cat_num.specs.Numerals.{numeral_value}
 use Rattle.cat_value.specs.declared.value.Value.{Value}
 use Rattle.cat_value.specs.declared.value.Value.TheVariants as flat
 use Rattle.cat_value.specs.declared.value.Value.TheViews as value
@@ -21,7 +22,7 @@ Meaning = List Value → Run Value
 abbrev pub literal_value : Literal → Value
 literal_value (literal.Boolean b) = flat.Boolean b
 literal_value (literal.Integer n) = flat.Integer n
-literal_value (literal.Decimal f) = flat.Decimal f
+literal_value (literal.Decimal d) = flat.Decimal (numeral_value d)
 literal_value (literal.Money cents) = flat.Money cents
 literal_value (literal.Date day) = flat.Date day
 literal_value (literal.Duration span) = flat.Duration span

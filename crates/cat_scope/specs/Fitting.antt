@@ -1,5 +1,5 @@
 -- What arms, fields, arguments and calls must be for their types.
-use Rattle.std.specs.Prelude.{◌≡◌, ℕ, ◌&&◌, nat_eq, Bool, true, false, not, IsTrue, List, [], ◌∷◌, ◌++◌, length, Option, Some, None, slice_get, if◌then◌else◌}
+use Rattle.std.specs.Prelude.{◌≡◌, ℕ, ◌&&◌, nat_eq, nat_le, Bool, true, false, not, IsTrue, List, [], ◌∷◌, ◌++◌, length, Option, Some, None, slice_get, if◌then◌else◌}
 use Rattle.cat_value.specs.declared.ty.Ty.{Ty}
 use Rattle.cat_value.specs.declared.decls.Decls.{Decls}
 use Rattle.cat_value.specs.declared.declaration.Field.{Field}
@@ -7,6 +7,8 @@ use Rattle.cat_value.specs.declared.declaration.Enumeration.{Enumeration}
 use Rattle.cat_value.specs.declared.declaration.Kind.TheVariants as kind
 use Rattle.cat_value.specs.declared.declaration.ItemDecl.{ItemDecl}
 use Rattle.cat_value.specs.Inputs.{may_be_given}
+use Rattle.cat_value.specs.Declarations.{highest}
+use Rattle.cat_value.specs.Laws.{height_of}
 use Rattle.cat_value.specs.Entries.{some_passes, fields_of, content_of}
 use Rattle.cat_scope.specs.declared.expr.ArmPattern.{ArmPattern}
 use Rattle.cat_scope.specs.declared.expr.ArmPattern.TheVariants as pattern
@@ -79,6 +81,10 @@ field_type ds n k = type_in (field_at (fields_of ds n) k)
 -- each field of a structure is there once
 abbrev pub are_fields_of : Decls → ℕ → List ℕ → Bool
 are_fields_of ds n ks = some_passes (λ fields. nat_eq (length ks) (length fields) && are_all_in (length fields) ks) (fields_of ds n)
+
+-- a type that is no higher than types may be
+abbrev pub is_low_type : Decls → Ty → Bool
+is_low_type ds t = nat_le (height_of ds t) highest
 
 -- an item of a list that passes a test has a type
 abbrev pub IsItem : (ItemDecl → Bool) → List ItemDecl → ℕ → Ty → Type 0

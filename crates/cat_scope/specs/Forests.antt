@@ -1,5 +1,5 @@
 -- What a forest is, and that it stands for the labels of a scope's definitions.
-use Rattle.std.specs.Prelude.{◌≡◌, ℕ, ◌+◌, ◌&&◌, Bool, true, List, [], ◌∷◌, ◌++◌, length, Option, Some, None, slice_get, if◌then◌else◌, IfSome}
+use Rattle.std.specs.Prelude.{◌≡◌, ℕ, ◌+◌, ◌&&◌, Bool, true, List, [], ◌∷◌, ◌++◌, length, Option, Some, None, slice_get, if◌then◌else◌}
 use Rattle.cat_value.specs.declared.decls.Decls.{Decls}
 use Rattle.cat_value.specs.declared.declaration.Kind.{Kind}
 use Rattle.cat_value.specs.declared.declaration.Kind.TheVariants as kind
@@ -7,6 +7,7 @@ use Rattle.cat_value.specs.declared.declaration.ItemDecl.{ItemDecl}
 use Rattle.cat_value.specs.declared.outcome.Target.{Target}
 use Rattle.cat_value.specs.Inputs.{must_be_given, may_be_given}
 use Rattle.cat_scope.specs.declared.defs.Def.{Def}
+use Rattle.cat_scope.specs.declared.defs.Body.{Body}
 use Rattle.cat_scope.specs.declared.programs.Program.{Program}
 use Rattle.cat_scope.specs.declared.forest.ForestGroup.{ForestGroup}
 use Rattle.cat_scope.specs.declared.forest.ForestTarget.{ForestTarget}
@@ -75,7 +76,8 @@ abbrev pub forest_of : List Def → List Target → List ForestTarget
 forest_of defs [] = []
 forest_of defs (place ∷ places) = record { place = place; groups = forest_of_groups (groups_of (defs_from place 0 defs)) } ∷ forest_of defs places
 
--- a forest has each target of a scope, with its groups and what excepts what, as the labels tell
+-- the program has a scope of that number, and a forest has each target of it, with its groups and what excepts what, as
+-- the labels tell
 abbrev pub StandsFor : Program → ℕ → List ForestTarget → Type 0
-StandsFor program scope targets = IfSome (slice_get program.bodies scope)
-    (λ body. targets ≡ forest_of body.defs (targets_of program.decls scope (scope_items program.decls scope) body.order))
+StandsFor program scope targets = (body : Body) × (slice_get program.bodies scope ≡ Some body)
+    × (targets ≡ forest_of body.defs (targets_of program.decls scope (scope_items program.decls scope) body.order))

@@ -1,5 +1,6 @@
 -- The groups of a target's definitions, and which except which, read off the labels alone.
 use Rattle.std.specs.Prelude.{ℕ, ◌+◌, nat_eq, bytes_eq, Bool, true, false, List, [], ◌∷◌, Option, Some, None, if◌then◌else◌}
+use Rattle.cat_scope.specs.declared.defs.Label.{Label}
 use Rattle.cat_scope.specs.declared.defs.Except.{Except}
 use Rattle.cat_scope.specs.declared.defs.Except.TheVariants as except
 use Rattle.cat_scope.specs.declared.defs.Def.{Def}
@@ -8,7 +9,7 @@ use Rattle.cat_scope.specs.declared.defs.Def.{Def}
 abbrev pub Numbered : Type 0
 Numbered = ℕ × Def
 
--- what the definitions of a group have in common: a label; or that they have none and are no exceptions. An exception
+-- what the definitions of a group have in common: the text of a label; or that they have none and are no exceptions. An exception
 -- without a label is a group of its own
 pub data Key : Type 0 where
   Labelled : List ℕ → Key
@@ -16,11 +17,11 @@ pub data Key : Type 0 where
   Alone : ℕ → Key
 
 -- by the label, and where there is none by the exception
-abbrev pub key_at : ℕ → Option (List ℕ) → Except → Key
-key_at n (Some label) e = Labelled label
+abbrev pub key_at : ℕ → Option Label → Except → Key
+key_at n (Some label) e = Labelled label.text
 key_at n None except.No = Base
 key_at n None (except.Base pos) = Alone n
-key_at n None (except.Named label pos) = Alone n
+key_at n None (except.Named pos label) = Alone n
 
 -- what a definition has in common with the others of its group
 abbrev pub key_of : Numbered → Key
@@ -72,7 +73,7 @@ numbers_of passes n (g ∷ gs) = if passes g then n ∷ numbers_of passes (n + 1
 abbrev pub is_none : Except → Bool
 is_none except.No = true
 is_none (except.Base pos) = false
-is_none (except.Named label pos) = false
+is_none (except.Named pos label) = false
 
 -- the groups that are no exceptions
 abbrev pub roots_of : List Group → List ℕ
@@ -88,7 +89,7 @@ only (n ∷ m ∷ ns) = None
 abbrev pub target_of : List Group → Except → Option ℕ
 target_of groups except.No = None
 target_of groups (except.Base pos) = only (roots_of groups)
-target_of groups (except.Named label pos) = only (numbers_of (λ g. same_key (Labelled label) g.key) 0 groups)
+target_of groups (except.Named pos label) = only (numbers_of (λ g. same_key (Labelled label.text) g.key) 0 groups)
 
 -- group g in front, with the group that it excepts, where there is one
 abbrev pub paired : ℕ → Option ℕ → List (ℕ × ℕ) → List (ℕ × ℕ)

@@ -17,6 +17,7 @@ pub mod Outcomes
 pub mod Names
 pub mod Fitting
 pub mod Signatures
+pub mod Literals
 pub mod HasType
 pub mod Chains
 pub mod Expected

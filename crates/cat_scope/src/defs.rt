@@ -4,14 +4,21 @@ use cat_date::Rounding;
 use cat_pos::{List, Numbers, Pos, Text};
 use cat_value::Target;
 
+/// A label, with the place of its word.
+#[derive(Debug, Drop)]
+pub struct Label {
+    pub text: Text,
+    pub pos: Pos,
+}
+
 /// What a definition is an exception to, with the place of the word `exception`.
 #[derive(Debug, Drop)]
 pub enum Except {
     No,
     /// A bare `exception`: to the only root of the target.
     Base(Pos),
-    /// To the group with this label.
-    Named(Text, Pos),
+    /// To the group with this label, the word after `exception`.
+    Named(Pos, Label),
 }
 
 /// A definition or a rule. Its condition is joined with that of its block; there is none where it always holds. Its
@@ -19,7 +26,7 @@ pub enum Except {
 #[derive(Debug, Drop)]
 pub struct Def {
     pub target: Target,
-    pub label: Option<Text>,
+    pub label: Option<Label>,
     pub except: Except,
     pub condition: Option<Expr>,
     pub consequence: Expr,

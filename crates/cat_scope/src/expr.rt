@@ -1,14 +1,14 @@
 // Expressions, with each name as the number of what it names.
 use crate::{BinaryOp, SumKind, UnaryOp};
 use cat_date::{Day, Span};
-use cat_num::{Frac, Money, Whole};
+use cat_num::{DecimalLiteral, Money, Whole};
 use cat_pos::{Boxed, List, Pos};
 
 #[derive(Clone, Copy, PartialEq, Eq, Debug)]
 pub enum Literal {
     Boolean(bool),
     Integer(Whole),
-    Decimal(Frac),
+    Decimal(DecimalLiteral),
     Money(Money),
     Date(Day),
     Duration(Span),

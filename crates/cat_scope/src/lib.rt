@@ -8,7 +8,9 @@ mod operators;
 mod programs;
 mod stop;
 
-pub use defs::{Assertion, Assertions, Bodies, Body, Def, Defs, Except, SourcePart, SourceParts};
+pub use defs::{
+    Assertion, Assertions, Bodies, Body, Def, Defs, Except, Label, SourcePart, SourceParts,
+};
 pub use expr::{Arm, ArmPattern, Arms, Expr, Exprs, FieldValue, FieldValues, Literal};
 pub use forest::{Forest, ForestGroup, ForestGroups, ForestTarget, ForestTargets};
 pub use operators::{BinaryOp, SumKind, UnaryOp};

@@ -32,12 +32,13 @@ use Rattle.cat_scope.specs.HasType.{HasType, AllHaveType, EachHasType, FieldsHav
 use Rattle.cat_scope.specs.HasType as typed
 use Rattle.cat_scope.specs.Names.{AllHave}
 use Rattle.cat_scope.specs.Eval.{Env, eval, eval_all, eval_fields, eval_arms}
+use Rattle.cat_scope.specs.Literals.{literal_type}
 use Rattle.cat_scope.specs.Composed.{literal_value, part, structured, listed}
 use Rattle.cat_sound.specs.Endings.{Allowed, EndsIn, IsOf, AreOf, IsFieldOf, numbers_of, IsReady, IsCallable, IsEnvOf}
 use Rattle.cat_scope.proofs.Equations.{eval_Literal, eval_Item, eval_Output, eval_Local, eval_Field, eval_Unary, eval_Binary, eval_And, eval_Or, eval_If, eval_Match, eval_IsCase, eval_Case_None, eval_Case_Some, eval_Structure, eval_List, eval_ForAll, eval_Exists, eval_Map, eval_Filter, eval_Combine, eval_Contains, eval_Length, eval_Sum, eval_Call, eval_ScopeCall}
 use Rattle.cat_sound.proofs.Results.{local_of, are_more, result_as}
 use Rattle.cat_sound.proofs.Endings.{ends_plain, ends_as, ends_then, ends_giving, ends_in_front, ends_choose}
-use Rattle.cat_sound.proofs.FlatTypes.{of-Boolean, of-Integer}
+use Rattle.cat_sound.proofs.FlatTypes.{of-Boolean, of-Integer, literal-typed}
 use Rattle.cat_sound.proofs.OperatorTypes.{conversions_go_on, operators_go_on}
 use Rattle.cat_sound.proofs.ListTypes.{AreElements, of-List, elements-end, AreFrom, AreElements-from, for_all-ends, exists-ends, mapped-ends, filtered-ends, combined-ends, contained-ends, zero-typed, summed-ends}
 use Rattle.cat_sound.proofs.FormTypes.{part-ends, structured-ends, ArmEnds, arms-end, met, case_seen}
@@ -249,82 +250,82 @@ module _ (allowed : Allowed) (ns : Names) (env : Env) (locals : List Value) wher
 mutual
   pub sound : (allowed : Allowed) → (env : Env) (locals : List Value) {ns : Names} {ls : List Ty} {e : Expr} {t : Ty} → HasType ns ls e t → IsEnvOf allowed ns env e → AreOf ns.decls ls locals
       → EndsIn allowed (IsOf ns.decls t) (eval env e locals)
-  sound allowed env locals (typed.literal {ns = ns} {ls = ls} {p = p} {l = l} {t = t} is) has are =
-      on_Literal allowed ns env locals p l t is
-  sound allowed env locals (typed.item {ns = ns} {ls = ls} {p = p} {i = i} {t = t} is) has are =
+  sound allowed env locals {ns} (typed.literal {ls = ls} {p = p} {l = l} is) has are =
+      on_Literal allowed ns env locals p l (literal_type l) (literal-typed ns.decls l is)
+  sound allowed env locals {ns} (typed.item {ls = ls} {p = p} {i = i} {t = t} is) has are =
       on_Item allowed ns env locals p i t (env_item allowed ns env (leaf.Item p i) (Expr-F.Item p i) (expr.outs-Item p i) has).0 is
-  sound allowed env locals (typed.output {ns = ns} {ls = ls} {p = p} {i = i} {k = k} {t = t} is) has are =
+  sound allowed env locals {ns} (typed.output {ls = ls} {p = p} {i = i} {k = k} {t = t} is) has are =
       on_Output allowed ns env locals p i k t (env_item allowed ns env (leaf.Output p i k) (Expr-F.Output p i k) (expr.outs-Output p i k) has).0 is
-  sound allowed env locals (typed.local {ns = ns} {ls = ls} {p = p} {k = k} {t = t} is) has are =
+  sound allowed env locals {ns} (typed.local {ls = ls} {p = p} {k = k} {t = t} is) has are =
       on_Local allowed ns env locals p ls k t are is
-  sound allowed env locals (typed.field {ns = ns} {ls = ls} {p = p} {e = e} {k = k} {t = t} n h is) has are =
+  sound allowed env locals {ns} (typed.field {ls = ls} {p = p} {e = e} {k = k} {t = t} n h is) has are =
       on_Field allowed ns env locals p e n k t (sound allowed env locals h (env_parts allowed ns env (expr.Field p e k) (Expr-F.Field p e k) (expr.outs-Field p e k) has).0 are) is
-  sound allowed env locals (typed.unary {ns = ns} {ls = ls} {p = p} {o = o} {e = e} h) has are =
+  sound allowed env locals {ns} (typed.unary {ls = ls} {p = p} {o = o} {e = e} h) has are =
       on_Unary allowed ns env locals p o e (sound allowed env locals h (env_parts allowed ns env (expr.Unary p o e) (Expr-F.Unary p o e) (expr.outs-Unary p o e) has).0 are)
-  sound allowed env locals (typed.binary {ns = ns} {ls = ls} {p = p} {q = q} {o = o} {a = a} {b = b} r is h g) has are =
+  sound allowed env locals {ns} (typed.binary {ls = ls} {p = p} {q = q} {o = o} {a = a} {b = b} r is h g) has are =
       on_Binary allowed ns env locals p q o a b r is (sound allowed env locals h (env_parts allowed ns env (expr.Binary p o q a b) (Expr-F.Binary p o q a b) (expr.outs-Binary p o q a b) has).0 are) (sound allowed env locals g (env_parts allowed ns env (expr.Binary p o q a b) (Expr-F.Binary p o q a b) (expr.outs-Binary p o q a b) has).1.0 are)
-  sound allowed env locals (typed.both {ns = ns} {ls = ls} {p = p} {a = a} {b = b} h g) has are =
+  sound allowed env locals {ns} (typed.both {ls = ls} {p = p} {a = a} {b = b} h g) has are =
       on_And allowed ns env locals p a b (sound allowed env locals h (env_parts allowed ns env (expr.And p a b) (Expr-F.And p a b) (expr.outs-And p a b) has).0 are) (sound allowed env locals g (env_parts allowed ns env (expr.And p a b) (Expr-F.And p a b) (expr.outs-And p a b) has).1.0 are)
-  sound allowed env locals (typed.any {ns = ns} {ls = ls} {p = p} {a = a} {b = b} h g) has are =
+  sound allowed env locals {ns} (typed.any {ls = ls} {p = p} {a = a} {b = b} h g) has are =
       on_Or allowed ns env locals p a b (sound allowed env locals h (env_parts allowed ns env (expr.Or p a b) (Expr-F.Or p a b) (expr.outs-Or p a b) has).0 are) (sound allowed env locals g (env_parts allowed ns env (expr.Or p a b) (Expr-F.Or p a b) (expr.outs-Or p a b) has).1.0 are)
-  sound allowed env locals (typed.choice {ns = ns} {ls = ls} {p = p} {c = c} {a = a} {b = b} {t = t} h g i) has are =
+  sound allowed env locals {ns} (typed.choice {ls = ls} {p = p} {c = c} {a = a} {b = b} {t = t} h g i) has are =
       on_If allowed ns env locals p c a b t (sound allowed env locals h (env_parts allowed ns env (expr.If p c a b) (Expr-F.If p c a b) (expr.outs-If p c a b) has).0 are) (sound allowed env locals g (env_parts allowed ns env (expr.If p c a b) (Expr-F.If p c a b) (expr.outs-If p c a b) has).1.0 are) (sound allowed env locals i (env_parts allowed ns env (expr.If p c a b) (Expr-F.If p c a b) (expr.outs-If p c a b) has).1.1.0 are)
-  sound allowed env locals (typed.matching {ns = ns} {ls = ls} {p = p} {e = e} {arms = arms} {t = t} n h each complete) has are =
+  sound allowed env locals {ns} (typed.matching {ls = ls} {p = p} {e = e} {arms = arms} {t = t} n h each complete) has are =
       on_Match allowed ns env locals p e arms n ls t are (sound allowed env locals h (env_parts allowed ns env (expr.Match p e arms) (Expr-F.Match p e arms) (expr.outs-Match p e arms) has).0 are) (arms_sound allowed env each (env_parts allowed ns env (expr.Match p e arms) (Expr-F.Match p e arms) (expr.outs-Match p e arms) has).1) complete
-  sound allowed env locals (typed.is_case {ns = ns} {ls = ls} {p = p} {e = e} {n = n} {k = k} h is) has are =
+  sound allowed env locals {ns} (typed.is_case {ls = ls} {p = p} {e = e} {n = n} {k = k} h is) has are =
       on_IsCase allowed ns env locals p e n k (sound allowed env locals h (env_parts allowed ns env (expr.IsCase p e n k) (Expr-F.IsCase p e n k) (expr.outs-IsCase p e n k) has).0 are)
-  sound allowed env locals (typed.case_alone {ns = ns} {ls = ls} {p = p} {n = n} {k = k} is) has are =
+  sound allowed env locals {ns} (typed.case_alone {ls = ls} {p = p} {n = n} {k = k} is) has are =
       on_Case_None allowed ns env locals p n k is
-  sound allowed env locals (typed.case_with {ns = ns} {ls = ls} {p = p} {n = n} {k = k} {e = e} t is h) has are =
+  sound allowed env locals {ns} (typed.case_with {ls = ls} {p = p} {n = n} {k = k} {e = e} t is h) has are =
       on_Case_Some allowed ns env locals p n k e t is (sound allowed env locals h (env_parts allowed ns env (expr.Case p n k (Some e)) (Expr-F.Case p n k (Some e)) (expr.outs-Case p n k (Some e)) has).0 are)
-  sound allowed env locals (typed.structure {ns = ns} {ls = ls} {p = p} {n = n} {fs = fs} h there) has are =
+  sound allowed env locals {ns} (typed.structure {ls = ls} {p = p} {n = n} {fs = fs} h there) has are =
       on_Structure allowed ns env locals p n fs (fields_sound allowed env locals h (env_parts allowed ns env (expr.Structure p n fs) (Expr-F.Structure p n fs) (expr.outs-Structure p n fs) has) are) there
-  sound allowed env locals (typed.list {ns = ns} {ls = ls} {p = p} {es = es} {t = t} declared few h) has are =
+  sound allowed env locals {ns} (typed.list {ls = ls} {p = p} {es = es} {t = t} declared low few h) has are =
       on_List allowed ns env locals p es t declared few (all_sound allowed env locals h (env_parts allowed ns env (expr.List p es) (Expr-F.List p es) (expr.outs-List p es) has) are)
-  sound allowed env locals (typed.for_all {ns = ns} {ls = ls} {p = p} {l = l} {test = test} t h g) has are =
+  sound allowed env locals {ns} (typed.for_all {ls = ls} {p = p} {l = l} {test = test} t h g) has are =
       on_ForAll allowed ns env locals p l test t (sound allowed env locals h (env_parts allowed ns env (expr.ForAll p l test) (Expr-F.ForAll p l test) (expr.outs-ForAll p l test) has).0 are) (λ v hv. sound allowed env (locals ++ v ∷ []) g (env_parts allowed ns env (expr.ForAll p l test) (Expr-F.ForAll p l test) (expr.outs-ForAll p l test) has).1.0 (are_more ns.decls ls (t ∷ []) locals (v ∷ []) are (hv, tt)))
-  sound allowed env locals (typed.exists {ns = ns} {ls = ls} {p = p} {l = l} {test = test} t h g) has are =
+  sound allowed env locals {ns} (typed.exists {ls = ls} {p = p} {l = l} {test = test} t h g) has are =
       on_Exists allowed ns env locals p l test t (sound allowed env locals h (env_parts allowed ns env (expr.Exists p l test) (Expr-F.Exists p l test) (expr.outs-Exists p l test) has).0 are) (λ v hv. sound allowed env (locals ++ v ∷ []) g (env_parts allowed ns env (expr.Exists p l test) (Expr-F.Exists p l test) (expr.outs-Exists p l test) has).1.0 (are_more ns.decls ls (t ∷ []) locals (v ∷ []) are (hv, tt)))
-  sound allowed env locals (typed.map_each {ns = ns} {ls = ls} {p = p} {l = l} {e = e} {u = u} t h g declared) has are =
+  sound allowed env locals {ns} (typed.map_each {ls = ls} {p = p} {l = l} {e = e} {u = u} t h g declared low) has are =
       on_Map allowed ns env locals p l e t u declared (sound allowed env locals h (env_parts allowed ns env (expr.Map p l e) (Expr-F.Map p l e) (expr.outs-Map p l e) has).0 are) (λ v hv. sound allowed env (locals ++ v ∷ []) g (env_parts allowed ns env (expr.Map p l e) (Expr-F.Map p l e) (expr.outs-Map p l e) has).1.0 (are_more ns.decls ls (t ∷ []) locals (v ∷ []) are (hv, tt)))
-  sound allowed env locals (typed.filter {ns = ns} {ls = ls} {p = p} {l = l} {test = test} t h g) has are =
+  sound allowed env locals {ns} (typed.filter {ls = ls} {p = p} {l = l} {test = test} t h g) has are =
       on_Filter allowed ns env locals p l test t (sound allowed env locals h (env_parts allowed ns env (expr.Filter p l test) (Expr-F.Filter p l test) (expr.outs-Filter p l test) has).0 are) (λ v hv. sound allowed env (locals ++ v ∷ []) g (env_parts allowed ns env (expr.Filter p l test) (Expr-F.Filter p l test) (expr.outs-Filter p l test) has).1.0 (are_more ns.decls ls (t ∷ []) locals (v ∷ []) are (hv, tt)))
-  sound allowed env locals (typed.combine {ns = ns} {ls = ls} {p = p} {l = l} {start = start} {e = e} {u = u} t h g i) has are =
+  sound allowed env locals {ns} (typed.combine {ls = ls} {p = p} {l = l} {start = start} {e = e} {u = u} t h g i) has are =
       on_Combine allowed ns env locals p l start e t u (sound allowed env locals h (env_parts allowed ns env (expr.Combine p l start e) (Expr-F.Combine p l start e) (expr.outs-Combine p l start e) has).0 are) (sound allowed env locals g (env_parts allowed ns env (expr.Combine p l start e) (Expr-F.Combine p l start e) (expr.outs-Combine p l start e) has).1.0 are)
       (λ v w hv hw. sound allowed env (locals ++ v ∷ w ∷ []) i (env_parts allowed ns env (expr.Combine p l start e) (Expr-F.Combine p l start e) (expr.outs-Combine p l start e) has).1.1.0 (are_more ns.decls ls (t ∷ u ∷ []) locals (v ∷ w ∷ []) are (hv, (hw, tt))))
-  sound allowed env locals (typed.contains {ns = ns} {ls = ls} {p = p} {q = q} {l = l} {e = e} t h g is) has are =
+  sound allowed env locals {ns} (typed.contains {ls = ls} {p = p} {q = q} {l = l} {e = e} t h g is) has are =
       on_Contains allowed ns env locals p q l e t is (sound allowed env locals h (env_parts allowed ns env (expr.Contains p q l e) (Expr-F.Contains p q l e) (expr.outs-Contains p q l e) has).0 are) (sound allowed env locals g (env_parts allowed ns env (expr.Contains p q l e) (Expr-F.Contains p q l e) (expr.outs-Contains p q l e) has).1.0 are)
-  sound allowed env locals (typed.number_of {ns = ns} {ls = ls} {p = p} {l = l} t h) has are =
+  sound allowed env locals {ns} (typed.number_of {ls = ls} {p = p} {l = l} t h) has are =
       on_Length allowed ns env locals p l t (sound allowed env locals h (env_parts allowed ns env (expr.Length p l) (Expr-F.Length p l) (expr.outs-Length p l) has).0 are)
-  sound allowed env locals (typed.sum {ns = ns} {ls = ls} {p = p} {k = k} {l = l} h) has are =
+  sound allowed env locals {ns} (typed.sum {ls = ls} {p = p} {k = k} {l = l} h) has are =
       on_Sum allowed ns env locals p k l (sound allowed env locals h (env_parts allowed ns env (expr.Sum p k l) (Expr-F.Sum p k l) (expr.outs-Sum p k l) has).0 are)
-  sound allowed env locals (typed.call {ns = ns} {ls = ls} {p = p} {f = f} {es = es} {t = t} params is h) has are =
+  sound allowed env locals {ns} (typed.call {ls = ls} {p = p} {f = f} {es = es} {t = t} params is h) has are =
       on_Call allowed ns env locals p f es params t (env_item allowed ns env (expr.Call p f es) (Expr-F.Call p f es) (expr.outs-Call p f es) has).0 is (each_sound allowed env locals h (env_parts allowed ns env (expr.Call p f es) (Expr-F.Call p f es) (expr.outs-Call p f es) has) are)
-  sound allowed env locals (typed.scope_call {ns = ns} {ls = ls} {p = p} {s = s} {k = k} {fs = fs} {t = t} h there is) has are =
+  sound allowed env locals {ns} (typed.scope_call {ls = ls} {p = p} {s = s} {k = k} {fs = fs} {t = t} h there is) has are =
       on_ScopeCall allowed ns env locals p s fs k t (env_scope allowed ns env (expr.ScopeCall p s fs k) (Expr-F.ScopeCall p s fs k) (expr.outs-ScopeCall p s fs k) has).0 (fields_sound allowed env locals h (env_parts allowed ns env (expr.ScopeCall p s fs k) (Expr-F.ScopeCall p s fs k) (expr.outs-ScopeCall p s fs k) has) are) there is
 
   all_sound : (allowed : Allowed) → (env : Env) (locals : List Value) {ns : Names} {ls : List Ty} {es : List Expr} {t : Ty} → AllHaveType ns ls es t → AllHave (IsEnvOf allowed ns env) es → AreOf ns.decls ls locals
       → EndsIn allowed (AreSome ns.decls t es) (eval_all env es locals)
   all_sound allowed env locals typed.all_none has are = (tt, record { counted = refl; all = tt })
-  all_sound allowed env locals (typed.all_more {ns = ns} {ls = ls} {e = e} {es = es} {t = t} h more) has are =
+  all_sound allowed env locals {ns} (typed.all_more {ls = ls} {e = e} {es = es} {t = t} h more) has are =
       on_all_more allowed ns env locals t e es (sound allowed env locals h has.0 are) (all_sound allowed env locals more has.1 are)
 
   each_sound : (allowed : Allowed) → (env : Env) (locals : List Value) {ns : Names} {ls : List Ty} {es : List Expr} {ts : List Ty} → EachHasType ns ls es ts → AllHave (IsEnvOf allowed ns env) es → AreOf ns.decls ls locals
       → EndsIn allowed (AreOf ns.decls ts) (eval_all env es locals)
   each_sound allowed env locals typed.each_none has are = (tt, tt)
-  each_sound allowed env locals (typed.each_more {ns = ns} {ls = ls} {e = e} {es = es} {t = t} {ts = ts} h more) has are =
+  each_sound allowed env locals {ns} (typed.each_more {ls = ls} {e = e} {es = es} {t = t} {ts = ts} h more) has are =
       on_each_more allowed ns env locals t ts e es (sound allowed env locals h has.0 are) (each_sound allowed env locals more has.1 are)
 
   fields_sound : (allowed : Allowed) → (env : Env) (locals : List Value) {ns : Names} {ls : List Ty} {type_of : ℕ → Option Ty} {fs : List FieldValue} → FieldsHaveType ns ls type_of fs → AllHave (IsEnvOf allowed ns env) (values_of fs)
       → AreOf ns.decls ls locals → EndsIn allowed (AreWritten ns.decls type_of fs) (eval_fields env fs locals)
   fields_sound allowed env locals typed.fields_none has are = (tt, record { numbers = refl; typed = tt })
-  fields_sound allowed env locals (typed.fields_more {ns = ns} {ls = ls} {type_of = type_of} {f = f} {fs = fs} t is h more) has are =
+  fields_sound allowed env locals {ns} (typed.fields_more {ls = ls} {type_of = type_of} {f = f} {fs = fs} t is h more) has are =
       on_fields_more allowed ns env locals type_of t f fs is (sound allowed env locals h has.0 are) (fields_sound allowed env locals more has.1 are)
 
   arms_sound : (allowed : Allowed) → (env : Env) {ns : Names} {ls : List Ty} {n : ℕ} {arms : List Arm} {t : Ty} → ArmsHaveType ns ls n arms t → AllHave (IsEnvOf allowed ns env) (bodies_of arms)
       → AllHave (ArmEnds allowed ns.decls env n ls t) arms
   arms_sound allowed env typed.arms_none has = tt
-  arms_sound allowed env (typed.arms_more {ns = ns} {ls = ls} {n = n} {a = a} {arms = arms} {t = t} inside is h more) has =
+  arms_sound allowed env {ns} (typed.arms_more {ls = ls} {n = n} {a = a} {arms = arms} {t = t} inside is h more) has =
       (record { inside = inside; locals = is; body = λ vs are. sound allowed env vs h has.0 are }, arms_sound allowed env more has.1)
 
 pub expressions_go_on : (allowed : Allowed) → (ns : Names) (env : Env) (ls : List Ty) (locals : List Value) (e : Expr) (t : Ty) → HasType ns ls e t → IsEnvOf allowed ns env e → AreOf ns.decls ls locals

@@ -1,5 +1,5 @@
 -- Results of the operations on numbers, dates and durations are in their ranges.
-use Rattle.std.proofs.Common.{◌≡◌, ℕ, zero, suc, ◌+◌, ◌*◌, ◌/◌, ◌%◌, ◌<◌, ◌≤◌, nat_le, ℤ, pos, negsuc, neg_ℤ, ◌+ℤ◌, ◌-ℤ◌, ◌≤ℤ◌, unsigned_abs, Bool, true, false, ◌&&◌, IsTrue, Result, Ok, Err, if◌then◌else◌, refl, sym, ap, ◌∙◌, subst, arith, ⊎_elim}
+use Rattle.std.proofs.Common.{◌≡◌, ℕ, zero, suc, ◌+◌, ◌*◌, ◌/◌, ◌%◌, ◌<◌, ◌≤◌, nat_le, ℤ, pos, negsuc, neg_ℤ, ◌+ℤ◌, ◌-ℤ◌, ◌≤ℤ◌, unsigned_abs, Bool, true, false, ◌&&◌, IsTrue, Result, Ok, Err, if◌then◌else◌, refl, sym, ap, ◌∙◌, subst, arith, ⊎_elim, nat_lt, ◌==◌}
 use Rattle.std.specs.Prelude.{nat_eq}
 use Rattle.std.proofs.lemmas.Bool.{cases_lt}
 use Rattle.std.proofs.lemmas.Bool.Decides.{nat_tests}
@@ -10,6 +10,8 @@ use Rattle.cat_num.specs.declared.fault.NumFault.TheVariants as num
 use Rattle.cat_num.specs.Whole.{largest, fits, whole_of}
 use Rattle.cat_num.specs.Frac.{Fraction, IsReduced, gcd, is_negative, signed, lowest, ratio, frac_of, frac_negation}
 use Rattle.cat_num.specs.Rounding.{rounded, truncated, rounded_ratio, whole_units}
+use Rattle.cat_num.specs.Numerals.{Numeral, is_numeral, numeral_value}
+use Rattle.cat_num.proofs.Numerals.{value_reduced}
 use Rattle.cat_num.proofs.Gcd.{gcd-mod, gcd-zero}
 use Rattle.cat_num.proofs.Signs.{unsigned_abs-signed, signed-product}
 use Rattle.cat_num.proofs.Fracs.{ratio-zero, ratio-large_num, ratio-large_den, ratio-fits, lowest_parts, IsReduced-lowest}
@@ -66,6 +68,9 @@ decimal_of n d h =
     let terms = h.lowest_terms in
     grind (arith, nat_tests)
 
+pub numeral_decimal : (n : Numeral) → IsTrue (is_numeral n) → IsTrue (is_decimal (numeral_value n))
+numeral_decimal n h = decimal_of (numeral_value n).num (numeral_value n).den (value_reduced n h)
+
 den_of : (f : Fraction) → IsTrue (is_decimal f) → 0 < f.den
 den_of f h = grind (arith, nat_tests)
 
@@ -95,7 +100,7 @@ frac_decimal n (pos d) f h = ratio_decimal n d f h
 frac_decimal n (negsuc d) f h = ratio_decimal (neg_ℤ n) (suc d) f h
 
 pub negation_decimal : (f : Fraction) → IsTrue (is_decimal f) → IsTrue (is_decimal (frac_negation f))
-negation_decimal f h = ap (λ u. nat_le 1 f.den && (nat_le u largest && nat_le f.den largest) && nat_eq (gcd u f.den) 1) (abs-neg f.num) ∙ h
+negation_decimal f h = ap (λ u. nat_lt 0 f.den && nat_le f.den largest && nat_le u largest && gcd u f.den == 1) (abs-neg f.num) ∙ h
 
 pub whole_decimal : (n : ℤ) → IsTrue (fits n) → IsTrue (is_decimal (over_one n))
 whole_decimal n h =

@@ -21,9 +21,15 @@ use Rattle.cat_value.specs.Flat.{is_decimal, integer_typed, decimal_typed, money
 use Rattle.cat_value.specs.Declarations.{is_boolean}
 use Rattle.cat_value.proofs.Equations.{has_type_Boolean, has_type_Integer, has_type_Decimal, has_type_Money, has_type_Date, has_type_Duration}
 use Rattle.cat_value.proofs.Inversions.{integer_value, decimal_value, money_value, date_value, duration_value}
+use Rattle.cat_num.specs.Numerals.{numeral_value}
+use Rattle.cat_scope.specs.declared.expr.Literal.{Literal}
+use Rattle.cat_scope.specs.declared.expr.Literal.TheVariants as literal
+use Rattle.cat_scope.specs.Literals.{literal_type, literal_fits}
+use Rattle.cat_scope.specs.Composed.{literal_value}
 use Rattle.cat_scope.specs.Replies.{dated}
 use Rattle.cat_scope.specs.Readings as read
 use Rattle.cat_sound.specs.Endings.{ResultsIn, IsOf}
+use Rattle.cat_sound.proofs.Fits.{numeral_decimal}
 use Rattle.cat_sound.proofs.Results.{result_as}
 
 -- a number, a fraction, a day and a duration in their ranges
@@ -137,3 +143,12 @@ compared-dated a b =
     if_dated (int_eq a.days (pos 0) && int_eq b.days (pos 0)) (Ok (int_cmp a.months b.months))
     (if int_eq a.months (pos 0) && int_eq b.months (pos 0) then Ok (int_cmp a.days b.days) else Err date.Uncomparable) tt
     (if_dated (int_eq a.months (pos 0) && int_eq b.months (pos 0)) (Ok (int_cmp a.days b.days)) (Err date.Uncomparable) tt tt)
+
+-- a literal within its bound is a value of its type
+pub literal-typed : (ds : Decls) (l : Literal) → IsTrue (literal_fits l) → IsOf ds (literal_type l) (literal_value l)
+literal-typed ds (literal.Boolean b) h = of-Boolean ds b
+literal-typed ds (literal.Integer n) h = of-Integer ds n h
+literal-typed ds (literal.Decimal d) h = of-Decimal ds (numeral_value d) (numeral_decimal d h)
+literal-typed ds (literal.Money n) h = of-Money ds n h
+literal-typed ds (literal.Date n) h = of-Date ds n h
+literal-typed ds (literal.Duration s) h = of-Duration ds s h

@@ -1,5 +1,5 @@
 -- Programs that are not well formed: one that is ill typed, one in a wrong order, and one whose calls are not listed.
-use Rattle.std.proofs.Common.{◌≡◌, arith, ℕ, Bool, true, false, IsTrue, List, [], ◌∷◌, None, Some, sym, ap, ◌∙◌, subst, rules, true≢false}
+use Rattle.std.proofs.Common.{◌≡◌, arith, ℕ, true, IsTrue, List, [], ◌∷◌, None, Some, sym, ap, ◌∙◌, subst, rules, true≢false}
 use Rattle.cat_pos.specs.declared.pos.Pos.{Pos}
 use Rattle.cat_value.specs.declared.ty.Ty.{Ty}
 use Rattle.cat_value.specs.declared.ty.Ty.TheVariants as flat
@@ -9,16 +9,12 @@ use Rattle.cat_value.specs.declared.ty.Ty.TheViews.{out-Ty}
 use Rattle.cat_value.specs.declared.declaration.ItemDecl.{ItemDecl}
 use Rattle.cat_value.specs.declared.declaration.Kind.TheVariants as kind
 use Rattle.cat_value.specs.Declarations.{is_boolean, are_sound}
-use Rattle.cat_value.specs.Typing.{has_type}
+use Rattle.cat_value.specs.Dependencies.{are_ordered}
 use Rattle.cat_value.proofs.Equations.{typing}
-use Rattle.cat_scope.specs.declared.expr.Expr.{Expr}
 use Rattle.cat_scope.specs.declared.expr.Expr.TheVariants as leaf
 use Rattle.cat_scope.specs.declared.expr.Expr.TheViews.{out-Expr}
 use Rattle.cat_scope.specs.declared.expr.Expr.TheOpen.{Expr-F}
-use Rattle.cat_scope.specs.declared.expr.FieldValue.{FieldValue}
-use Rattle.cat_scope.specs.declared.expr.Arm.{Arm}
 use Rattle.cat_scope.specs.declared.expr.Literal.TheVariants as literal
-use Rattle.cat_scope.specs.Composed.{literal_value}
 use Rattle.cat_scope.specs.Names.{Names}
 use Rattle.cat_scope.specs.Orders.{scope_dependencies, calls_in, once}
 use Rattle.cat_scope.specs.WellFormed.{DefTyped, IsBodyOf, IsWellFormed}
@@ -31,59 +27,22 @@ use Rattle.cat_scope.specs.declared.defs.Except.TheVariants as except
 use Rattle.cat_scope.specs.declared.defs.Def.{Def}
 use Rattle.cat_scope.specs.declared.defs.Body.{Body}
 use Rattle.cat_scope.specs.HasType.{HasType}
-use Rattle.cat_scope.specs.HasType as typed
-use denote.Hole.Carrier.{out}
 use Rattle.cat_scope.proofs.Samples.{at, variable, item, whole, def, body, scope_of, calling_scopes, calling_bodies}
+use Rattle.cat_scope.specs.declared.expr.Expr.TheViews as expr
+use Rattle.cat_sound.specs.Parts.{PartsTyped}
+use Rattle.cat_sound.proofs.PartTypes.{parts_typed}
 use Rattle.cat_sound.proofs.WellFormedParts.{integer_is_sound}
 use Rattle.cat_sound.proofs.WellFormedCalls.{decls, s_items}
-
--- a literal has the type of its value
-abbrev LiteralFits : Decls → Ty → Expr-F Expr Arm FieldValue → Type 0
-LiteralFits ds t (Expr-F.Literal p l) = IsTrue (has_type ds (literal_value l) t)
-LiteralFits ds t _ = Unit {0}
-
-literal_fits : (ns : Names) (ls : List Ty) (e : Expr) (t : Ty) → HasType ns ls e t → LiteralFits ns.decls t (out-Expr e)
-unfolding out-Expr out
-literal_fits ns ls e t (typed.literal x0) = x0
-literal_fits ns ls e t (typed.item x0) = tt
-literal_fits ns ls e t (typed.output x0) = tt
-literal_fits ns ls e t (typed.local x0) = tt
-literal_fits ns ls e t (typed.field x0 x1 x2) = tt
-literal_fits ns ls e t (typed.unary x0) = tt
-literal_fits ns ls e t (typed.binary x0 x1 x2 x3) = tt
-literal_fits ns ls e t (typed.both x0 x1) = tt
-literal_fits ns ls e t (typed.any x0 x1) = tt
-literal_fits ns ls e t (typed.choice x0 x1 x2) = tt
-literal_fits ns ls e t (typed.matching x0 x1 x2 x3) = tt
-literal_fits ns ls e t (typed.is_case x0 x1) = tt
-literal_fits ns ls e t (typed.case_alone x0) = tt
-literal_fits ns ls e t (typed.case_with x0 x1 x2) = tt
-literal_fits ns ls e t (typed.structure x0 x1) = tt
-literal_fits ns ls e t (typed.list x0 x1 x2) = tt
-literal_fits ns ls e t (typed.for_all x0 x1 x2) = tt
-literal_fits ns ls e t (typed.exists x0 x1 x2) = tt
-literal_fits ns ls e t (typed.map_each x0 x1 x2 x3) = tt
-literal_fits ns ls e t (typed.filter x0 x1 x2) = tt
-literal_fits ns ls e t (typed.combine x0 x1 x2 x3) = tt
-literal_fits ns ls e t (typed.contains x0 x1 x2 x3) = tt
-literal_fits ns ls e t (typed.number_of x0 x1) = tt
-literal_fits ns ls e t (typed.sum x0) = tt
-literal_fits ns ls e t (typed.call x0 x1 x2) = tt
-literal_fits ns ls e t (typed.scope_call x0 x1 x2) = tt
-
-no_boolean : is_boolean (out-Ty flat.Integer) ≡ false
-no_boolean = search (rules, ty.the_lemmas)
 
 some_is : {A : Type 0} {a b : A} → Some a ≡ Some b → a ≡ b
 some_is e = cc
 
-boolean_alone : (ds : Decls) (b : Bool) (t : Ty) → has_type ds (literal_value (literal.Boolean b)) t ≡ is_boolean (out-Ty t)
-boolean_alone ds b t = search (rules, typing)
-
 -- `true` is no integer, whatever it stands in
 true_is_no_integer : (ns : Names) (ls : List Ty) (p : Pos) → ¬ HasType ns ls (leaf.Literal p (literal.Boolean true)) flat.Integer
-unfolding out-Expr out
-true_is_no_integer ns ls p typing = true≢false (sym (literal_fits ns ls (leaf.Literal p (literal.Boolean true)) flat.Integer typing) ∙ boolean_alone ns.decls true flat.Integer ∙ no_boolean)
+true_is_no_integer ns ls p typing =
+    let parts : PartsTyped ns ls (Expr-F.Literal p (literal.Boolean true)) flat.Integer =
+    subst (λ x. PartsTyped ns ls x flat.Integer) (expr.outs-Literal p (literal.Boolean true)) (parts_typed ns ls (leaf.Literal p (literal.Boolean true)) flat.Integer typing) in
+    true≢false (sym (ap is_boolean ty.outs-Boolean) ∙ sym (ap (λ (t : Ty). is_boolean (out-Ty t)) parts.1) ∙ ap is_boolean ty.outs-Integer)
 
 -- `definition x equals true`, where x is an output that is an integer
 abbrev wrong : Def
@@ -96,7 +55,7 @@ abbrev one_scope : List Scope
 one_scope = scope_of (x_out ∷ []) ∷ []
 
 one_scope_is_sound : IsTrue (are_sound [] [] one_scope)
-unfolding are_sound
+unfolding are_sound are_ordered order_of
 one_scope_is_sound = search (rules, ty.the_lemmas, integer_is_sound)
 
 abbrev one_decls : Decls

@@ -36,3 +36,5 @@ pub mod Alike
 pub mod Trees
 pub mod DecidedLaws
 mod SoundSamples
+pub mod HeldLaws
+pub mod GroupLaws

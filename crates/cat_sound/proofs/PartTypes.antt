@@ -16,7 +16,7 @@ seen : (ns : Names) (ls : List Ty) (t : Ty) (e : Expr) (y : Expr-F Expr Arm Fiel
 seen ns ls t e y is h = subst (λ x. PartsTyped ns ls x t) (sym is) h
 
 pub parts_typed : (ns : Names) (ls : List Ty) (e : Expr) (t : Ty) → HasType ns ls e t → PartsTyped ns ls (out-Expr e) t
-parts_typed ns ls e_ t_ (typed.literal {p = p} {l = l} {t = t} is) = seen ns ls _ _ (Expr-F.Literal p l) (expr.outs-Literal p l) is
+parts_typed ns ls e_ t_ (typed.literal {p = p} {l = l} is) = seen ns ls _ _ (Expr-F.Literal p l) (expr.outs-Literal p l) (is, refl)
 parts_typed ns ls e_ t_ (typed.item {p = p} {i = i} {t = t} is) = seen ns ls _ _ (Expr-F.Item p i) (expr.outs-Item p i) is
 parts_typed ns ls e_ t_ (typed.output {p = p} {i = i} {k = k} {t = t} is) = seen ns ls _ _ (Expr-F.Output p i k) (expr.outs-Output p i k) is
 parts_typed ns ls e_ t_ (typed.local {p = p} {k = k} {t = t} is) = seen ns ls _ _ (Expr-F.Local p k) (expr.outs-Local p k) is
@@ -31,10 +31,10 @@ parts_typed ns ls e_ t_ (typed.is_case {p = p} {e = e} {n = n} {k = k} h is) = s
 parts_typed ns ls e_ t_ (typed.case_alone {p = p} {n = n} {k = k} is) = seen ns ls _ _ (Expr-F.Case p n k None) (expr.outs-Case p n k None) (is, refl)
 parts_typed ns ls e_ t_ (typed.case_with {p = p} {n = n} {k = k} {e = e} u is h) = seen ns ls _ _ (Expr-F.Case p n k (Some e)) (expr.outs-Case p n k (Some e)) (u, is, h, refl)
 parts_typed ns ls e_ t_ (typed.structure {p = p} {n = n} {fs = fs} h there) = seen ns ls _ _ (Expr-F.Structure p n fs) (expr.outs-Structure p n fs) (h, there, refl)
-parts_typed ns ls e_ t_ (typed.list {p = p} {es = es} {t = u} declared few h) = seen ns ls _ _ (Expr-F.List p es) (expr.outs-List p es) (u, declared, few, h, refl)
+parts_typed ns ls e_ t_ (typed.list {p = p} {es = es} {t = u} declared low few h) = seen ns ls _ _ (Expr-F.List p es) (expr.outs-List p es) (u, declared, low, few, h, refl)
 parts_typed ns ls e_ t_ (typed.for_all {p = p} {l = l} {test = test} u h g) = seen ns ls _ _ (Expr-F.ForAll p l test) (expr.outs-ForAll p l test) (u, h, g, refl)
 parts_typed ns ls e_ t_ (typed.exists {p = p} {l = l} {test = test} u h g) = seen ns ls _ _ (Expr-F.Exists p l test) (expr.outs-Exists p l test) (u, h, g, refl)
-parts_typed ns ls e_ t_ (typed.map_each {p = p} {l = l} {e = e} {u = w} u h g declared) = seen ns ls _ _ (Expr-F.Map p l e) (expr.outs-Map p l e) (u, w, h, g, declared, refl)
+parts_typed ns ls e_ t_ (typed.map_each {p = p} {l = l} {e = e} {u = w} u h g declared low) = seen ns ls _ _ (Expr-F.Map p l e) (expr.outs-Map p l e) (u, w, h, g, declared, low, refl)
 parts_typed ns ls e_ t_ (typed.filter {p = p} {l = l} {test = test} u h g) = seen ns ls _ _ (Expr-F.Filter p l test) (expr.outs-Filter p l test) (u, h, g, refl)
 parts_typed ns ls e_ t_ (typed.combine {p = p} {l = l} {start = start} {e = e} {u = t} u h g i) = seen ns ls _ _ (Expr-F.Combine p l start e) (expr.outs-Combine p l start e) (u, h, g, i)
 parts_typed ns ls e_ t_ (typed.contains {p = p} {q = q} {l = l} {e = e} u h g is) = seen ns ls _ _ (Expr-F.Contains p q l e) (expr.outs-Contains p q l e) (u, h, g, is, refl)

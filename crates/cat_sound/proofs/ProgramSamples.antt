@@ -27,4 +27,4 @@ forest =
     ∷ record { place = variable 1 2; groups = record { defs = 1 ∷ []; excepted_by = [] } ∷ [] } ∷ []
 
 its_forest : StandsFor program 1 forest
-its_forest = refl
+its_forest = (_, refl, refl)

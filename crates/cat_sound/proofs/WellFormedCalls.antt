@@ -6,7 +6,7 @@ use Rattle.cat_value.specs.declared.decls.Decls.{Decls}
 use Rattle.cat_value.specs.declared.declaration.ItemDecl.{ItemDecl}
 use Rattle.cat_value.specs.declared.declaration.Kind.TheVariants as kind
 use Rattle.cat_value.specs.Declarations.{are_sound}
-use Rattle.cat_value.proofs.Equations.{typing}
+use Rattle.cat_value.specs.Dependencies.{are_ordered}
 use Rattle.cat_order.specs.Order.{is_ready}
 use Rattle.cat_order.specs.Computed.{order_of}
 use Rattle.cat_scope.specs.declared.expr.Expr.TheVariants as leaf
@@ -27,7 +27,7 @@ use Rattle.cat_sound.proofs.WellFormedParts.{integer_is_sound, boolean_is_sound,
 
 -- T and S, of which S calls T
 pub calling_is_sound : IsTrue (are_sound [] [] calling_scopes)
-unfolding are_sound
+unfolding are_sound are_ordered order_of
 calling_is_sound = search (rules, ty.the_lemmas, integer_is_sound, boolean_is_sound)
 
 abbrev pub decls : Decls
@@ -65,13 +65,13 @@ n_typed : HasType s_names [] n flat.Integer
 n_typed = typed.item (n_in, refl, refl, refl)
 
 n_above_zero_typed : HasType s_names [] (n_above 0) flat.Boolean
-n_above_zero_typed = typed.binary (comparison flat.Integer) (inl refl) n_typed (whole_typed s_names [] 0 (search (rules, ty.the_lemmas, typing)))
+n_above_zero_typed = typed.binary (comparison flat.Integer) (inl refl) n_typed (whole_typed s_names [] 0 refl)
 
 t_body : IsBodyOf decls 0 (scope_of t_items) (body t_defs (0 ∷ []))
 unfolding order_of is_ready is_within
 t_body = record {
   placed = (refl, tt);
-  defs = (plain_def t_names 0 0 (whole 7) (at 10 3) x_in_t None except.No (x_in_t, refl, refl, refl, refl) (whole_typed t_names [] 7 (search (rules, ty.the_lemmas, typing))), tt);
+  defs = (plain_def t_names 0 0 (whole 7) (at 10 3) x_in_t None except.No (x_in_t, refl, refl, refl, refl) (whole_typed t_names [] 7 refl), tt);
   assertions = tt;
   source = (refl, refl, refl);
   lists = search (rules, placings);

@@ -7,9 +7,10 @@ use Rattle.cat_value.specs.declared.decls.Decls.{Decls}
 use Rattle.cat_value.specs.declared.declaration.ItemDecl.{ItemDecl}
 use Rattle.cat_value.specs.declared.declaration.Scope.{Scope}
 use Rattle.cat_value.specs.Declarations.{are_sound}
-use Rattle.cat_value.proofs.Equations.{typing}
+use Rattle.cat_value.specs.Dependencies.{are_ordered}
 use Rattle.cat_order.specs.Order.{is_ready}
 use Rattle.cat_order.specs.Computed.{order_of}
+use Rattle.cat_scope.specs.declared.defs.Label.{Label}
 use Rattle.cat_scope.specs.declared.defs.Except.{Except}
 use Rattle.cat_scope.specs.declared.defs.Except.TheVariants as except
 use Rattle.cat_scope.specs.Names.{Names}
@@ -31,7 +32,7 @@ abbrev scopes : List Scope
 scopes = scope_of items ∷ []
 
 chain_is_sound : IsTrue (are_sound [] [] scopes)
-unfolding are_sound
+unfolding are_sound are_ordered order_of
 chain_is_sound = search (rules, ty.the_lemmas, integer_is_sound)
 
 abbrev decls : Decls
@@ -47,7 +48,7 @@ above_typed : (k : ℕ) → HasType names [] (whole k) flat.Integer → HasType 
 above_typed k is = typed.binary (comparison flat.Integer) (inl refl) n_typed is
 
 -- an exception with a condition
-guarded : (k v : ℕ) (label : Option (List ℕ)) (ex : Except) (p : Pos) → HasType names [] (whole k) flat.Integer → HasType names [] (whole v) flat.Integer
+guarded : (k v : ℕ) (label : Option Label) (ex : Except) (p : Pos) → HasType names [] (whole k) flat.Integer → HasType names [] (whole v) flat.Integer
     → DefTyped names 0 (def x label ex (Some (n_above k)) (whole v) p)
 guarded k v label ex p above given = record { params = []; ty = flat.Integer; scope_is = refl; target = (x_out, refl, refl, refl, refl); counted = refl; condition = above_typed k above; consequence = given }
 
@@ -56,10 +57,10 @@ unfolding order_of is_ready is_within
 chain_body = record {
   placed = (refl, (refl, tt));
   defs = (
-    plain_def names 0 1 (whole 1) (at 6 11) x_out (Some a) except.No (x_out, refl, refl, refl, refl) (whole_typed names [] 1 (search (rules, ty.the_lemmas, typing))),
+    plain_def names 0 1 (whole 1) (at 6 11) x_out (Some (a (at 6 9))) except.No (x_out, refl, refl, refl, refl) (whole_typed names [] 1 refl),
     (
-      guarded 0 2 (Some b) (except.Named a (at 7 11)) (at 7 23) (whole_typed names [] 0 (search (rules, ty.the_lemmas, typing))) (whole_typed names [] 2 (search (rules, ty.the_lemmas, typing))),
-      (guarded 1 3 None (except.Named b (at 8 3)) (at 8 15) (whole_typed names [] 1 (search (rules, ty.the_lemmas, typing))) (whole_typed names [] 3 (search (rules, ty.the_lemmas, typing))), tt),
+      guarded 0 2 (Some (b (at 7 9))) (except.Named (at 7 11) (a (at 7 21))) (at 7 23) (whole_typed names [] 0 refl) (whole_typed names [] 2 refl),
+      (guarded 1 3 None (except.Named (at 8 3) (b (at 8 13))) (at 8 15) (whole_typed names [] 1 refl) (whole_typed names [] 3 refl), tt),
     ),
   );
   assertions = tt;

@@ -6,7 +6,7 @@ use Rattle.cat_value.specs.declared.decls.Decls.{Decls}
 use Rattle.cat_value.specs.declared.declaration.ItemDecl.{ItemDecl}
 use Rattle.cat_value.specs.declared.declaration.Kind.TheVariants as kind
 use Rattle.cat_value.specs.Declarations.{are_sound}
-use Rattle.cat_value.proofs.Equations.{typing}
+use Rattle.cat_value.specs.Dependencies.{are_ordered}
 use Rattle.cat_order.specs.Order.{is_ready}
 use Rattle.cat_order.specs.Computed.{order_of}
 use Rattle.cat_scope.specs.declared.expr.Expr.{Expr}
@@ -27,7 +27,7 @@ use Rattle.cat_scope.proofs.Samples.{at, variable, item, n_above, n, whole, def,
 use Rattle.cat_sound.proofs.WellFormedParts.{integer_is_sound, ordered, short, whole_typed, plain_def}
 
 nested_is_sound : IsTrue (are_sound [] [] nested_scopes)
-unfolding are_sound
+unfolding are_sound are_ordered order_of
 nested_is_sound = search (rules, ty.the_lemmas, integer_is_sound)
 
 abbrev decls : Decls
@@ -83,8 +83,8 @@ t_body = record {
       scope_is = refl;
       target = (b_out, refl, refl, refl, refl);
       counted = refl;
-      condition = typed.binary (comparison flat.Integer) (inl refl) a_typed (whole_typed t_names [] 0 (search (rules, ty.the_lemmas, typing)));
-      consequence = typed.binary (record { left = flat.Integer; right = flat.Integer; result = flat.Integer }) (inl refl) a_typed (whole_typed t_names [] 2 (search (rules, ty.the_lemmas, typing)));
+      condition = typed.binary (comparison flat.Integer) (inl refl) a_typed (whole_typed t_names [] 0 refl);
+      consequence = typed.binary (record { left = flat.Integer; right = flat.Integer; result = flat.Integer }) (inl refl) a_typed (whole_typed t_names [] 2 refl);
     },
     tt,
   );

@@ -4,18 +4,18 @@ use Rattle.cat_pos.specs.declared.pos.Pos.{Pos}
 use Rattle.cat_value.specs.declared.ty.Ty.{Ty}
 use Rattle.cat_value.specs.declared.ty.Ty.TheVariants as flat
 use Rattle.cat_value.specs.declared.ty.Ty.TheViews as ty
-use Rattle.cat_value.specs.declared.value.Value.TheVariants.{Integer}
 use Rattle.cat_value.specs.declared.declaration.ItemDecl.{ItemDecl}
 use Rattle.cat_value.specs.Heights.{height_to}
 use Rattle.cat_value.specs.Declarations.{is_sound}
-use Rattle.cat_value.specs.Typing.{has_type}
 use Rattle.cat_value.proofs.Equations.{declared}
 use Rattle.cat_order.specs.Order.{IsOrder}
 use Rattle.cat_order.specs.Computed.{order_of}
 use Rattle.cat_order.proofs.Theorems.{order_of-iff_IsOrder}
 use Rattle.cat_scope.specs.declared.expr.Expr.{Expr}
+use Rattle.cat_scope.specs.declared.defs.Label.{Label}
 use Rattle.cat_scope.specs.declared.defs.Except.{Except}
 use Rattle.cat_scope.specs.Names.{Names}
+use Rattle.cat_num.specs.Whole.{fits}
 use Rattle.cat_scope.specs.HasType.{HasType}
 use Rattle.cat_scope.specs.HasType as typed
 use Rattle.cat_scope.specs.Chains.{HasShortChains, are_within}
@@ -39,10 +39,10 @@ pub short : (deps closed : List (List ℕ)) → deps ≡ closed → are_within c
 short deps closed is within = subst (λ d. HasShortChains d) (sym is) (short_chains closed 255 within)
 
 -- the integers of the samples
-pub whole_typed : (names : Names) (locals : List Ty) (k : ℕ) → IsTrue (has_type names.decls (Integer (pos k)) flat.Integer) → HasType names locals (whole k) flat.Integer
+pub whole_typed : (names : Names) (locals : List Ty) (k : ℕ) → IsTrue (fits (pos k)) → HasType names locals (whole k) flat.Integer
 whole_typed names locals k fits = typed.literal fits
 
 -- a definition without a condition, of a variable of its scope
-pub plain_def : (names : Names) (scope item : ℕ) (e : Expr) (p : Pos) (i : ItemDecl) (label : Option (List ℕ)) (ex : Except) → IsTargetAt names item None [] i.ty → HasType names [] e i.ty
+pub plain_def : (names : Names) (scope item : ℕ) (e : Expr) (p : Pos) (i : ItemDecl) (label : Option Label) (ex : Except) → IsTargetAt names item None [] i.ty → HasType names [] e i.ty
     → DefTyped names scope (def (variable scope item) label ex None e p)
 plain_def names scope item e p i label ex target typed = record { params = []; ty = i.ty; scope_is = refl; target = target; counted = refl; condition = tt; consequence = typed }

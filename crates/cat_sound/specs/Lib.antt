@@ -7,3 +7,5 @@ pub mod Parts
 pub mod Rests
 -- what is given
 pub mod Given
+-- groups and conflicts
+pub mod Grouped

@@ -3,21 +3,21 @@ use Rattle.std.specs.Prelude.{◌≡◌, ℕ, nat_le, true, IsTrue, List, [], �
 use Rattle.cat_value.specs.declared.ty.Ty.{Ty}
 use Rattle.cat_value.specs.declared.ty.Ty.TheVariants as flat
 use Rattle.cat_value.specs.declared.ty.Ty.TheViews as ty
-use Rattle.cat_value.specs.Typing.{has_type, is_type, most_elements}
+use Rattle.cat_value.specs.Typing.{is_type, most_elements}
 use Rattle.cat_value.specs.Entries.{some_passes, content_of}
 use Rattle.cat_scope.specs.declared.expr.Expr.{Expr}
 use Rattle.cat_scope.specs.declared.expr.FieldValue.{FieldValue}
 use Rattle.cat_scope.specs.declared.expr.Arm.{Arm}
 use Rattle.cat_scope.specs.declared.expr.Expr.TheOpen.{Expr-F}
-use Rattle.cat_scope.specs.Composed.{literal_value}
+use Rattle.cat_scope.specs.Literals.{literal_type, literal_fits}
 use Rattle.cat_scope.specs.Signatures.{Row, rows_of, taken_by, given_by, summed_type, compared_types}
 use Rattle.cat_scope.specs.Names.{Names, IsOneOf, is_plain}
-use Rattle.cat_scope.specs.Fitting.{numbers_in, are_complete, field_type, are_fields_of, IsItem, IsCalledOutput, IsFunction, are_call_fields, input_type, IsOutput}
+use Rattle.cat_scope.specs.Fitting.{numbers_in, are_complete, field_type, are_fields_of, is_low_type, IsItem, IsCalledOutput, IsFunction, are_call_fields, input_type, IsOutput}
 use Rattle.cat_scope.specs.HasType.{HasType, AllHaveType, EachHasType, FieldsHaveType, ArmsHaveType}
 
 -- the parts of an expression, by its form, have types of which the whole has its own
 abbrev pub PartsTyped : Names → List Ty → Expr-F Expr Arm FieldValue → Ty → Type 0
-PartsTyped ns ls (Expr-F.Literal p l) t = IsTrue (has_type ns.decls (literal_value l) t)
+PartsTyped ns ls (Expr-F.Literal p l) t = IsTrue (literal_fits l) × (t ≡ literal_type l)
 PartsTyped ns ls (Expr-F.Item p i) t = IsItem is_plain ns.items i t
 PartsTyped ns ls (Expr-F.Output p i k) t = IsCalledOutput ns i k t
 PartsTyped ns ls (Expr-F.Local p k) t = slice_get ls k ≡ Some t
@@ -32,10 +32,10 @@ PartsTyped ns ls (Expr-F.IsCase p e n k) t = HasType ns ls e (flat.Enumeration n
 PartsTyped ns ls (Expr-F.Case p n k None) t = (content_of ns.decls n k ≡ Some None) × (t ≡ flat.Enumeration n)
 PartsTyped ns ls (Expr-F.Case p n k (Some e)) t = (u : Ty) × (content_of ns.decls n k ≡ Some (Some u)) × HasType ns ls e u × (t ≡ flat.Enumeration n)
 PartsTyped ns ls (Expr-F.Structure p n fs) t = FieldsHaveType ns ls (field_type ns.decls n) fs × IsTrue (are_fields_of ns.decls n (numbers_in fs)) × (t ≡ flat.Structure n)
-PartsTyped ns ls (Expr-F.List p es) t = (u : Ty) × IsTrue (is_type ns.decls u) × IsTrue (nat_le (length es) most_elements) × AllHaveType ns ls es u × (t ≡ ty.List u)
+PartsTyped ns ls (Expr-F.List p es) t = (u : Ty) × IsTrue (is_type ns.decls u) × IsTrue (is_low_type ns.decls t) × IsTrue (nat_le (length es) most_elements) × AllHaveType ns ls es u × (t ≡ ty.List u)
 PartsTyped ns ls (Expr-F.ForAll p l test) t = (u : Ty) × HasType ns ls l (ty.List u) × HasType ns (ls ++ u ∷ []) test flat.Boolean × (t ≡ flat.Boolean)
 PartsTyped ns ls (Expr-F.Exists p l test) t = (u : Ty) × HasType ns ls l (ty.List u) × HasType ns (ls ++ u ∷ []) test flat.Boolean × (t ≡ flat.Boolean)
-PartsTyped ns ls (Expr-F.Map p l e) t = (u : Ty) × (w : Ty) × HasType ns ls l (ty.List u) × HasType ns (ls ++ u ∷ []) e w × IsTrue (is_type ns.decls w) × (t ≡ ty.List w)
+PartsTyped ns ls (Expr-F.Map p l e) t = (u : Ty) × (w : Ty) × HasType ns ls l (ty.List u) × HasType ns (ls ++ u ∷ []) e w × IsTrue (is_type ns.decls w) × IsTrue (is_low_type ns.decls t) × (t ≡ ty.List w)
 PartsTyped ns ls (Expr-F.Filter p l test) t = (u : Ty) × HasType ns ls l (ty.List u) × HasType ns (ls ++ u ∷ []) test flat.Boolean × (t ≡ ty.List u)
 PartsTyped ns ls (Expr-F.Combine p l start e) t = (u : Ty) × HasType ns ls l (ty.List u) × HasType ns ls start t × HasType ns (ls ++ u ∷ t ∷ []) e t
 PartsTyped ns ls (Expr-F.Contains p q l e) t = (u : Ty) × HasType ns ls l (ty.List u) × HasType ns ls e u × IsOneOf u compared_types × (t ≡ flat.Boolean)

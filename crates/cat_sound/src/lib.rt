@@ -2,12 +2,16 @@
 #![tactic(auto)]
 
 mod given;
+mod grouping;
 mod judging;
 mod resting;
 mod typing;
 
 pub use given::{
     each_item_is_judged, each_variable_is_logged, given_outputs_stand, given_values_stand,
+};
+pub use grouping::{
+    conflicts_name_what_holds, forests_are_judged_by_their_rule, groups_part_their_definitions,
 };
 pub use judging::{
     conditions_have_values, forests_have_short_chains, groups_are_judged_by_their_rule,

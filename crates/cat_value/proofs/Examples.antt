@@ -11,9 +11,14 @@ use Rattle.cat_value.specs.declared.declaration.Enumeration.{Enumeration}
 use Rattle.cat_value.specs.declared.decls.Decls.{Decls}
 use Rattle.cat_value.specs.Heights.{height_to}
 use Rattle.cat_value.specs.Declarations.{are_sound, highest}
+use Rattle.cat_order.specs.Order.{is_ready}
+use Rattle.cat_order.specs.Computed.{order_of}
+use Rattle.cat_order.specs.Cycle.{IsOnCycle}
+use Rattle.cat_value.specs.Dependencies.{type_dependencies, are_ordered}
 use Rattle.cat_value.specs.Typing.{has_type}
 use Rattle.cat_value.specs.Defaults.{default_of}
 use Rattle.cat_value.proofs.Equations.{declared, typing}
+use Rattle.cat_value.proofs.DependencyEquations.{naming}
 use Rattle.cat_value.proofs.DefaultEquations.{default_Enumeration_Some, default_List}
 use Rattle.cat_value.proofs.Descending.{height_List, height_Structure, height_Enumeration, height_Boolean, height_Integer}
 
@@ -31,15 +36,41 @@ choice_height : (s a b e c d : List ℕ) → height_to (pair s a b) (choice e c 
 choice_height s a b e c d =
     omega (arith, height_Enumeration (pair s a b) (choice e c d) 63 0 _ refl, height_List (pair s a b) (choice e c d) 62 flat_ty.Integer, height_Integer (pair s a b) (choice e c d) 61)
 
+pair_and_choice_ordered : (s a b e c d : List ℕ) → are_ordered (pair s a b) (choice e c d) ≡ true
+unfolding are_ordered order_of is_ready
+pair_and_choice_ordered s a b e c d = search (rules, naming)
+
 pub pair_and_choice_are_sound : (s a b e c d : List ℕ) → IsTrue (are_sound (pair s a b) (choice e c d) [])
 unfolding are_sound
-pair_and_choice_are_sound s a b e c d = search (rules, declared, pair_height, choice_height)
+pair_and_choice_are_sound s a b e c d = search (rules, declared, pair_height, choice_height, pair_and_choice_ordered)
 
 abbrev sample : Decls
 sample = record { structures = pair [] [] []; enumerations = choice [] [] []; scopes = []; sound = pair_and_choice_are_sound [] [] [] [] [] [] }
 
 abbrev itself : List Structure
 itself = record { name = []; fields = record { name = []; ty = flat_ty.Structure 0 } ∷ [] } ∷ []
+
+an_item_inside_itself_is_on_a_cycle : IsOnCycle (type_dependencies itself []) 0
+unfolding IsOnCycle
+an_item_inside_itself_is_on_a_cycle = ([], search (rules, naming))
+
+-- a structure of a list of an enumeration whose case holds the structure
+abbrev each_other : List Structure
+each_other = record { name = []; fields = record { name = []; ty = ty.List (flat_ty.Enumeration 0) } ∷ [] } ∷ []
+
+abbrev holding_it : List Enumeration
+holding_it = record { name = []; cases = record { name = []; content = Some (flat_ty.Structure 0) } ∷ [] } ∷ []
+
+enumerations_are_numbered_behind_structures : type_dependencies each_other holding_it ≡ (1 ∷ []) ∷ (0 ∷ []) ∷ []
+enumerations_are_numbered_behind_structures = search (rules, naming)
+
+two_inside_each_other_have_no_order : are_ordered each_other holding_it ≡ false
+unfolding are_ordered order_of is_ready
+two_inside_each_other_have_no_order = search (rules, naming)
+
+a_structure_of_numbers_has_an_order : are_ordered (pair [] [] []) [] ≡ true
+unfolding are_ordered order_of is_ready
+a_structure_of_numbers_has_an_order = search (rules, naming)
 
 height_none : height_to itself [] 0 (flat_ty.Structure 0) ≡ 1
 unfolding height_to

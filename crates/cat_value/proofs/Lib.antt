@@ -1,4 +1,5 @@
 pub mod Equations
+pub mod DependencyEquations
 pub mod Induction
 pub mod Inversions
 pub mod DefaultEquations

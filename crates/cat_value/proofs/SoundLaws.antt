@@ -1,5 +1,5 @@
 -- What the invariant of the declarations says, each fact for itself.
-use Rattle.std.proofs.Common.{◌≡◌, ℕ, length, IsTrue, List, Some, slice_get, arith, refl, sym, true≢false, ◌<◌, ◌^◌}
+use Rattle.std.proofs.Common.{◌≡◌, ◌↔◌, ℕ, length, Bool, IsTrue, Option, None, List, Some, slice_get, arith, refl, sym, true≢false, ◌<◌, ◌^◌}
 use Rattle.std.specs.List.{list_all}
 use Rattle.cat_value.specs.declared.ty.Ty.{Ty}
 use Rattle.cat_value.specs.declared.ty.Ty.TheOpen.{Ty-F}
@@ -13,6 +13,12 @@ use Rattle.cat_value.specs.declared.declaration.ItemDecl.{ItemDecl}
 use Rattle.cat_value.specs.declared.declaration.Scope.{Scope}
 use Rattle.cat_value.specs.declared.decls.Decls.{Decls}
 use Rattle.cat_value.specs.Declarations.{are_sound, is_sound, is_boolean, kind_is_sound, item_is_sound, scope_is_sound, field_is_sound}
+use Rattle.std.specs.Option.{is_some}
+use Rattle.cat_order.specs.Order.{IsOrder}
+use Rattle.cat_order.specs.Computed.{order_of}
+use Rattle.cat_order.specs.Cycle.{IsOnCycle}
+use Rattle.cat_order.specs.Cause.{HasNoOrder}
+use Rattle.cat_value.specs.Dependencies.{type_dependencies, are_ordered}
 use Rattle.cat_value.specs.Laws.{IsStructure, IsEnumeration, IsItem, AreSound}
 use Rattle.cat_value.proofs.Descending.{list_all_at, structure_sound, enumeration_sound, fields_declared, has_cases, content_declared, structure_low, enumeration_low, within}
 use Rattle.cat_value.proofs.Inversions.{whole}
@@ -42,8 +48,8 @@ boolean_is t h = by (ty.out-Ty t) refl h
     by Ty-F.Boolean q g = whole t Ty-F.Boolean flat_ty.Boolean q ty.rolls-Boolean
     by _ q g = absurd (true≢false (sym g))
 
-called_sound : (count : ℕ) (t : Ty) (kind : Kind) (scope : ℕ) → IsTrue (kind_is_sound count t kind) → kind ≡ Called scope → IsTrue (kind_is_sound count t (Called scope))
-called_sound count t kind scope h e = rw e at h
+called_sound : (count : ℕ) (t : Ty) (condition : Bool) (kind : Kind) (scope : ℕ) → IsTrue (kind_is_sound count t condition kind) → kind ≡ Called scope → IsTrue (kind_is_sound count t condition (Called scope))
+called_sound count t condition kind scope h e = rw e at h
 
 structure_is : (ds : Decls) (n : ℕ) (s : Structure) → slice_get ds.structures n ≡ Some s → IsStructure ds n s
 structure_is ds n s e = record {
@@ -63,22 +69,46 @@ enumeration_is ds n d e = record {
 
 item_is : (ds : Decls) (item : ItemDecl) → IsTrue (item_is_sound ds.structures ds.enumerations (length ds.scopes) item) → IsItem ds item
 item_is ds item h =
-    let kind : IsTrue (kind_is_sound (length ds.scopes) item.ty item.kind) = grind arith in
+    let kind : IsTrue (kind_is_sound (length ds.scopes) item.ty item.condition item.kind) = grind arith in
     let params : IsTrue (list_all (is_sound ds.structures ds.enumerations) item.params) = grind arith in
     record {
       declared = grind arith;
       low = grind arith;
       params_declared = λ k t e. let p = list_all_at _ item.params k t params e in grind arith;
       params_low = λ k t e. let p = list_all_at _ item.params k t params e in grind arith;
-      called = λ scope e. let c = called_sound _ _ _ scope kind e in grind arith;
-      called_boolean = λ scope e. let c = called_sound _ _ _ scope kind e in boolean_is item.ty (grind arith);
+      called = λ scope e. let c = called_sound _ _ _ _ scope kind e in grind arith;
+      called_boolean = λ scope e. let c = called_sound _ _ _ _ scope kind e in boolean_is item.ty (grind arith);
+      called_plain = λ scope e. let c = called_sound _ _ _ _ scope kind e in grind arith;
     }
 
 counted : (ds : Decls) → (length ds.structures < 2 ^ 32) × (length ds.enumerations < 2 ^ 32) × (length ds.scopes < 2 ^ 32)
 counted ds = all_counted ds.structures ds.enumerations ds.scopes ds.sound
 
-pub sound_is : (ds : Decls) → AreSound ds
-sound_is ds = record {
+types_ordered : (ss : List Structure) (es : List Enumeration) (scopes : List Scope) → IsTrue (are_sound ss es scopes) → IsTrue (are_ordered ss es)
+unfolding are_sound
+types_ordered ss es scopes h = grind arith
+
+some_is : {A : Type 0} (o : Option A) → IsTrue (is_some o) → (x : A) × (o ≡ Some x)
+some_is None h = absurd (true≢false (sym h))
+some_is (Some x) h = (x, refl)
+
+-- the laws of orders on which the invariant rests
+abbrev IsComputed : Type 0
+IsComputed = (deps : List (List ℕ)) (listed : List ℕ) → (order_of deps ≡ Some listed) ↔ IsOrder deps listed
+
+abbrev CyclesLeaveNone : Type 0
+CyclesLeaveNone = (deps : List (List ℕ)) (item : ℕ) → IsOnCycle deps item → HasNoOrder deps
+
+order_there : IsComputed → (ss : List Structure) (es : List Enumeration) → IsTrue (are_ordered ss es) → (listed : List ℕ) × IsOrder (type_dependencies ss es) listed
+unfolding are_ordered
+order_there computed ss es h = let o = some_is (order_of (type_dependencies ss es)) h in (o.0, (computed (type_dependencies ss es) o.0).0 o.1)
+
+pub sound_is : IsComputed → CyclesLeaveNone → (ds : Decls) → AreSound ds
+sound_is computed none ds =
+  let order = order_there computed ds.structures ds.enumerations (types_ordered ds.structures ds.enumerations ds.scopes ds.sound) in
+  record {
+  ordered = order;
+  acyclic = λ n on. none (type_dependencies ds.structures ds.enumerations) n on order.0 order.1;
   structures = structure_is ds;
   enumerations = enumeration_is ds;
   structures_counted = (counted ds).0;

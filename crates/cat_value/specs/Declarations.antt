@@ -1,5 +1,5 @@
 -- What holds of the declarations of a program.
-use Rattle.std.specs.Prelude.{ℕ, ◌^◌, zero, suc, Bool, true, false, ◌&&◌, nat_lt, nat_le, List, length, Option, None, Some}
+use Rattle.std.specs.Prelude.{ℕ, ◌^◌, zero, suc, Bool, true, false, not, ◌&&◌, nat_lt, nat_le, List, length, Option, None, Some}
 use Rattle.std.specs.List.{list_all}
 use Rattle.cat_value.specs.declared.ty.Ty.{Ty}
 use Rattle.cat_value.specs.declared.ty.Ty.TheOpen.{Ty-F}
@@ -15,6 +15,7 @@ use Rattle.cat_value.specs.declared.declaration.Kind.TheVariants.{Called}
 use Rattle.cat_value.specs.declared.declaration.ItemDecl.{ItemDecl}
 use Rattle.cat_value.specs.declared.declaration.Scope.{Scope}
 use Rattle.cat_value.specs.Heights.{height_to}
+use Rattle.cat_value.specs.Dependencies.{are_ordered}
 
 -- the height that no declared type passes
 abbrev pub highest : ℕ
@@ -69,14 +70,14 @@ abbrev pub is_boolean : Ty-F Ty → Bool
 is_boolean Ty-F.Boolean = true
 is_boolean _ = false
 
--- a called scope is one of so many, and its item has the type Boolean
-abbrev pub kind_is_sound : ℕ → Ty → Kind → Bool
-kind_is_sound count t (Called n) = nat_lt n count && is_boolean (out-Ty t)
-kind_is_sound count t _ = true
+-- a called scope is one of so many, and its item has the type Boolean and is no condition
+abbrev pub kind_is_sound : ℕ → Ty → Bool → Kind → Bool
+kind_is_sound count t condition (Called n) = nat_lt n count && is_boolean (out-Ty t) && not condition
+kind_is_sound count t condition _ = true
 
 -- an item whose kind, type and parameters are declared and not too high
 abbrev pub item_is_sound : List Structure → List Enumeration → ℕ → ItemDecl → Bool
-item_is_sound ss es count item = kind_is_sound count item.ty item.kind && is_sound ss es item.ty && is_counted item.params && list_all (is_sound ss es) item.params
+item_is_sound ss es count item = kind_is_sound count item.ty item.condition item.kind && is_sound ss es item.ty && is_counted item.params && list_all (is_sound ss es) item.params
 
 -- a scope each of whose items is so
 abbrev pub scope_is_sound : List Structure → List Enumeration → ℕ → Scope → Bool
@@ -95,13 +96,13 @@ structure_is_low ss es n = nat_le (height_to ss es highest (ty.Structure n)) hig
 abbrev pub enumeration_is_low : List Structure → List Enumeration → ℕ → Bool
 enumeration_is_low ss es n = nat_le (height_to ss es highest (ty.Enumeration n)) highest
 
--- no structure and no enumeration is higher than 64, so that none is a part of itself
+-- no structure and no enumeration is higher than 64
 abbrev pub types_are_low : List Structure → List Enumeration → Bool
 types_are_low ss es = all_below (structure_is_low ss es) (length ss) && all_below (enumeration_is_low ss es) (length es)
 
--- each number names an entry, each structure and enumeration has a part, no type is higher than 64 or a part of
--- itself, and the entries of each list are numbered by a u32
+-- each number names an entry, each structure and enumeration has a part, none is a part of itself, no type is higher
+-- than 64, and the entries of each list are numbered by a u32
 unfoldable pub are_sound : List Structure → List Enumeration → List Scope → Bool
 are_sound ss es scopes = is_counted ss && is_counted es && is_counted scopes
     && list_all (structure_is_sound ss es) ss && list_all (enumeration_is_sound ss es) es && list_all (scope_is_sound ss es (length scopes)) scopes
-    && types_are_low ss es
+    && are_ordered ss es && types_are_low ss es

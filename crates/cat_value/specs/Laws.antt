@@ -1,5 +1,5 @@
 -- The words of the laws: how high values are, and what the invariant of the declarations says.
-use Rattle.std.specs.Prelude.{◌≡◌, ℕ, ◌+◌, ◌^◌, ◌<◌, ◌≤◌, max, IsTrue, List, [], ◌∷◌, length, Option, None, Some, slice_get}
+use Rattle.std.specs.Prelude.{◌≡◌, ℕ, ◌+◌, ◌^◌, ◌<◌, ◌≤◌, max, false, IsTrue, List, [], ◌∷◌, length, Option, None, Some, slice_get}
 use Rattle.cat_value.specs.declared.ty.Ty.{Ty}
 use Rattle.cat_value.specs.declared.ty.Ty.TheOpen.{Ty-F}
 use Rattle.cat_value.specs.declared.ty.Ty.TheVariants.{Structure as structure, Enumeration as enumeration, Boolean as boolean}
@@ -15,6 +15,9 @@ use Rattle.cat_value.specs.declared.declaration.ItemDecl.{ItemDecl}
 use Rattle.cat_value.specs.declared.declaration.Scope.{Scope}
 use Rattle.cat_value.specs.declared.decls.Decls.{Decls}
 use Rattle.cat_value.specs.Heights.{height_to, highest_part}
+use Rattle.cat_order.specs.Order.{IsOrder}
+use Rattle.cat_order.specs.Cycle.{IsOnCycle}
+use Rattle.cat_value.specs.Dependencies.{type_dependencies}
 use Rattle.cat_value.specs.Declarations.{highest}
 use Rattle.cat_value.specs.Typing.{is_type}
 
@@ -69,11 +72,14 @@ pub record IsItem (ds : Decls) (item : ItemDecl) : Type 0 where
   pub params_low : (k : ℕ) (t : Ty) → slice_get item.params k ≡ Some t → height_of ds t ≤ highest
   pub called : (scope : ℕ) → item.kind ≡ Called scope → scope < length ds.scopes
   pub called_boolean : (scope : ℕ) → item.kind ≡ Called scope → item.ty ≡ boolean
+  pub called_plain : (scope : ℕ) → item.kind ≡ Called scope → item.condition ≡ false
 
 -- what all declarations keep to
 pub record AreSound (ds : Decls) : Type 0 where
   pub structures : (n : ℕ) (s : Structure) → slice_get ds.structures n ≡ Some s → IsStructure ds n s
   pub enumerations : (n : ℕ) (e : Enumeration) → slice_get ds.enumerations n ≡ Some e → IsEnumeration ds n e
+  pub ordered : (listed : List ℕ) × IsOrder (type_dependencies ds.structures ds.enumerations) listed
+  pub acyclic : (n : ℕ) → ¬ IsOnCycle (type_dependencies ds.structures ds.enumerations) n
   pub structures_counted : length ds.structures < 2 ^ 32
   pub enumerations_counted : length ds.enumerations < 2 ^ 32
   pub scopes_counted : length ds.scopes < 2 ^ 32

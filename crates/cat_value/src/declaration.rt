@@ -54,8 +54,8 @@ pub enum Kind {
     Called(u32),
 }
 
-/// A variable or a called scope of a scope. Only a function has parameters. The type of a called scope is `Boolean`,
-/// and nothing reads it.
+/// A variable or a called scope of a scope. Only a function has parameters. A called scope is no condition, and its
+/// type is `Boolean`, which nothing reads.
 #[derive(Debug, Drop)]
 pub struct ItemDecl {
     pub name: Text,

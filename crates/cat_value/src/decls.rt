@@ -4,8 +4,8 @@ ghost use Rattle.cat_value.specs.Declarations.{are_sound};
 
 use crate::{Enumerations, Scopes, Structures};
 
-/// All that a program declares. Each number in it names an entry, each structure and enumeration has a part, no type
-/// is a part of itself or higher than 64, and each list has fewer than 2^32 entries.
+/// All that a program declares. Each number in it names an entry, each structure and enumeration has a part, none is a
+/// part of itself, no type is higher than 64, and each list has fewer than 2^32 entries.
 #[derive(Debug, Drop)]
 pub struct Decls {
     pub structures: Structures,

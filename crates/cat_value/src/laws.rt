@@ -7,6 +7,7 @@ ghost use Rattle.cat_value.specs.Defaults.{default_of};
 ghost use Rattle.cat_value.specs.Laws.{height_of, part_height, value_height, AreSound};
 
 use crate::{Decls, Ty, Value};
+use cat_order::{a_cycle_leaves_no_order, the_order_is_computed};
 
 /// The default of a type is one of its values.
 #[tactic(auto, using(crate::proofs::DefaultsTyped::default_of_typed))]
@@ -33,4 +34,7 @@ pub fn values_are_no_higher_than_their_types(value: &Value, ty: &Ty, decls: &Dec
 /// What the invariant of the declarations says.
 pub fn declarations_are_sound(decls: &Decls)
     ensures { AreSound decls.now }
-{}
+{
+    the_order_is_computed();
+    a_cycle_leaves_no_order();
+}
