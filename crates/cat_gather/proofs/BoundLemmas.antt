@@ -1,5 +1,5 @@
 -- The bounds of what is gathered, from one part to the next.
-use Rattle.std.proofs.Common.{◌≡◌, ap, sym, subst, ℕ, ◌+◌, ◌*◌, ◌<◌, ◌≤◌, List, [], ◌∷◌, ◌++◌, length, arith, length-append}
+use Rattle.std.proofs.Common.{◌≡◌, ap, sym, subst, ℕ, ◌+◌, ◌<◌, ◌≤◌, List, [], ◌∷◌, ◌++◌, length, arith, length-append}
 use Rattle.std.proofs.lemmas.List.Elements.{All-nil, All-cons, All-head, All-tail, All-append, All-push, All-weaker}
 use Rattle.std.specs.Prelude.{All}
 use Rattle.cat_pos.specs.declared.pos.Piece.{Piece}
@@ -9,8 +9,9 @@ use Rattle.cat_weave.specs.declared.part.Part.{Part}
 use Rattle.cat_weave.specs.declared.part.Part.TheVariants.{Code}
 use Rattle.cat_gather.specs.Gathered.{Gathered, gathered_none, with_file, limit_after}
 use Rattle.cat_pos.specs.Readable.{IsReadable}
+use Rattle.cat_pos.specs.declared.limits.TheConstants.{MOST_FILE_BYTES}
 use Rattle.cat_gather.specs.Causes.{pieces_total, AreReadableTogether}
-use Rattle.cat_gather.specs.UnderWay.{IsInFiles, AreBounded}
+use Rattle.cat_gather.specs.inside.UnderWay.{IsInFiles, AreBounded}
 
 pieces_total-push : (pieces : List Piece) (piece : Piece) → pieces_total (pieces ++ piece ∷ []) ≡ pieces_total pieces + length piece.text
 pieces_total-push [] piece = omega arith
@@ -59,7 +60,7 @@ bounded_heading g headings part parts bounded =
     record { few = rest.few; all = rest.all; short = rest.short; code = rest.code; placed = rest.placed }
 
 -- parts of one file more
-in_file : (size file : ℕ) (parts : List Part) → size ≤ 4 * 1024 * 1024 → AreWithin size file parts → All (IsInFiles (file + 1)) parts
+in_file : (size file : ℕ) (parts : List Part) → size ≤ MOST_FILE_BYTES → AreWithin size file parts → All (IsInFiles (file + 1)) parts
 in_file size file parts small within =
     let sizes = size_in_total parts in
     λ k d inside.

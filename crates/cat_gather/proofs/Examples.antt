@@ -6,7 +6,7 @@ use lib.Utf8.{encode}
 use Rattle.cat_weave.specs.Lines.{lines_of, without_end, without_last, without_last_blanks, without_first_blanks}
 use Rattle.cat_weave.specs.Kinds.{level_of, law_kind, kind_of, kinds_of}
 use Rattle.cat_weave.specs.Woven.{line_place, code_text, parts_from, closes, unclosed, woven}
-use Rattle.cat_gather.specs.Gathered.{Contents, Whole, Refused, StopsAt, gather_parts, included, gathered}
+use Rattle.cat_gather.specs.Gathered.{Contents, Whole, Refused, StopsAt, parts_gathered, included, gathered}
 use Rattle.cat_gather.specs.declared.source.GatherRefusal.TheVariants.{IncludeTwice, FenceOpen}
 
 abbrev line : List ℕ → List ℕ
@@ -27,7 +27,7 @@ the_included_code_stands_in_place_of_its_include : gathered (files (code (codes 
       pieces = record { text = line (codes "1"); pos = line_place 0 2 } ∷ record { text = line (codes "2"); pos = line_place 1 2 } ∷ record { text = line (codes "3"); pos = line_place 0 6 } ∷ [];
       headings = [];
     })
-unfolding gathered included gather_parts woven lines_of kinds_of kind_of law_kind level_of without_end without_last without_last_blanks without_first_blanks code_text parts_from closes unclosed is_utf8 chars encode
+unfolding gathered included parts_gathered woven lines_of kinds_of kind_of law_kind level_of without_end without_last without_last_blanks without_first_blanks code_text parts_from closes unclosed is_utf8 chars encode
 the_included_code_stands_in_place_of_its_include = refl
 
 a_heading_counts_the_pieces_before_it : gathered (files (include (codes "b") ++ line (codes "# h")) (code (codes "1"))) (codes "a")
@@ -36,17 +36,17 @@ a_heading_counts_the_pieces_before_it : gathered (files (include (codes "b") ++ 
       pieces = record { text = line (codes "1"); pos = line_place 1 2 } ∷ [];
       headings = record { pieces = 1; level = 1; text = codes "h"; pos = line_place 0 2 } ∷ [];
     })
-unfolding gathered included gather_parts woven lines_of kinds_of kind_of law_kind level_of without_end without_last without_last_blanks without_first_blanks code_text parts_from closes unclosed is_utf8 chars encode
+unfolding gathered included parts_gathered woven lines_of kinds_of kind_of law_kind level_of without_end without_last without_last_blanks without_first_blanks code_text parts_from closes unclosed is_utf8 chars encode
 a_heading_counts_the_pieces_before_it = refl
 
 a_file_that_includes_the_main_file_is_refused : gathered (files (include (codes "b")) (include (codes "a"))) (codes "a") ≡ Refused (IncludeTwice (codes "b") (line_place 1 1))
-unfolding gathered included gather_parts woven lines_of kinds_of kind_of law_kind level_of without_end without_last without_last_blanks without_first_blanks code_text parts_from closes unclosed is_utf8 chars encode
+unfolding gathered included parts_gathered woven lines_of kinds_of kind_of law_kind level_of without_end without_last without_last_blanks without_first_blanks code_text parts_from closes unclosed is_utf8 chars encode
 a_file_that_includes_the_main_file_is_refused = refl
 
 a_file_is_woven_before_its_includes_are_taken : gathered (files (include (codes "a") ++ line (codes "```catala")) []) (codes "a") ≡ Refused (FenceOpen (codes "a") (line_place 0 2))
-unfolding gathered included gather_parts woven lines_of kinds_of kind_of law_kind level_of without_end without_last without_last_blanks without_first_blanks code_text parts_from closes unclosed is_utf8 chars encode
+unfolding gathered included parts_gathered woven lines_of kinds_of kind_of law_kind level_of without_end without_last without_last_blanks without_first_blanks code_text parts_from closes unclosed is_utf8 chars encode
 a_file_is_woven_before_its_includes_are_taken = refl
 
 gathering_stops_at_a_file_without_content : gathered (files (include (codes "c")) []) (codes "a") ≡ StopsAt (codes "c") 13
-unfolding gathered included gather_parts woven lines_of kinds_of kind_of law_kind level_of without_end without_last without_last_blanks without_first_blanks code_text parts_from closes unclosed is_utf8 chars encode
+unfolding gathered included parts_gathered woven lines_of kinds_of kind_of law_kind level_of without_end without_last without_last_blanks without_first_blanks code_text parts_from closes unclosed is_utf8 chars encode
 gathering_stops_at_a_file_without_content = refl
