@@ -114,9 +114,9 @@ outcome_answers : (request : Request) (program : ThinProgram) (old new : Shelved
     IsGivenBy program ended → IsOutcome request old new (status_of ended) text →
     MayAnswer request old new (status_of ended) text
 outcome_answers request program old new (outcome.Value values) text given is = is
-outcome_answers request program old new (outcome.Conflict target places) text given is = is
-outcome_answers request program old new (outcome.NoValue target place) text given is = is
-outcome_answers request program old new (outcome.Fault kind place) text given is = absurd given
+outcome_answers request program old new (outcome.Conflict target positions) text given is = is
+outcome_answers request program old new (outcome.NoValue target pos) text given is = is
+outcome_answers request program old new (outcome.Fault kind pos) text given is = absurd given
 
 -- the program gives its outcome on the input
 pub an_outcome : (request : Request) (old new : Shelved) (file extra : List ℕ) (program : ThinProgram) (input : List ℤ)

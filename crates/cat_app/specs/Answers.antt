@@ -27,9 +27,9 @@ refusal_line name number =
 -- the status of an outcome
 abbrev pub status_of : Outcome → Status
 status_of (Value values) = status.Fine
-status_of (Conflict target places) = status.Conflict
-status_of (NoValue target place) = status.NoValue
-status_of (Fault kind place) = status.Fault
+status_of (Conflict target positions) = status.Conflict
+status_of (NoValue target pos) = status.NoValue
+status_of (Fault kind pos) = status.Fault
 
 -- The replies. The files are as they may have been read, and no name was listed.
 

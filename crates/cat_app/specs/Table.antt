@@ -45,8 +45,10 @@ pub record IsWriteFault (words : List (List ℕ)) (old new : Shelved) (before af
   pub full : IfSome before.room (λ room. room < length text)
   pub front : AppendsPrefix before.taken after.taken text
 
--- a status is answered only with its text, written whole; `WriteFault` only by the sink's own fault; `Memory` writes nothing
+-- a status is answered only with its text, written whole; `WriteFault` only by the sink's own fault; `Memory` writes
+-- nothing
 abbrev pub Answers : List (List ℕ) → Shelved → Shelved → Sunk → Sunk → Status → Type 0
 Answers words old new before after WriteFault = IsWriteFault words old new before after
 Answers words old new before after Memory = after ≡ before
-Answers words old new before after status = (text : List ℕ) × MayReply words old new status text × Took before after text
+Answers words old new before after status =
+    (text : List ℕ) × MayReply words old new status text × Took before after text

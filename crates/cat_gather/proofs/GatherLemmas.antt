@@ -40,35 +40,53 @@ same_name n name = (bytes_eq-Decides n name).0
 own_name : (name : List ℕ) → bytes_eq name name ≡ true
 own_name name = (bytes_eq-Decides name name).1 refl
 
-pub drop_get : (names : List (List ℕ)) (i : ℕ) (name : List ℕ) → Some name ≡ slice_get names i → drop i names ≡ name ∷ drop (i + 1) names
+pub drop_get : (names : List (List ℕ)) (i : ℕ) (name : List ℕ) → Some name ≡ slice_get names i →
+    drop i names ≡ name ∷ drop (i + 1) names
 drop_get [] i name at = cc
 drop_get (n ∷ names) zero name at = let same : name ≡ n = cc in rw same refl
-drop_get (n ∷ names) (suc i) name at = let next : suc i + 1 ≡ suc (i + 1) = omega arith in rw next (drop_get names i name at)
+drop_get (n ∷ names) (suc i) name at =
+    let next : suc i + 1 ≡ suc (i + 1) = omega arith in rw next (drop_get names i name at)
 
-pub among_yes : (name n : List ℕ) (names : List (List ℕ)) (i : ℕ) → Some n ≡ slice_get names i → bytes_eq n name ≡ true → is_among name (drop i names) ≡ true
+pub among_yes : (name n : List ℕ) (names : List (List ℕ)) (i : ℕ) → Some n ≡ slice_get names i →
+    bytes_eq n name ≡ true → is_among name (drop i names) ≡ true
 among_yes name n names i at same = rw (drop_get names i n at, same) refl
 
-pub among_no : (name n : List ℕ) (names : List (List ℕ)) (i : ℕ) → Some n ≡ slice_get names i → bytes_eq n name ≡ false → is_among name (drop i names) ≡ is_among name (drop (i + 1) names)
+pub among_no : (name n : List ℕ) (names : List (List ℕ)) (i : ℕ) → Some n ≡ slice_get names i →
+    bytes_eq n name ≡ false → is_among name (drop i names) ≡ is_among name (drop (i + 1) names)
 among_no name n names i at other = rw (drop_get names i n at, other) refl
 
-pub named_at : (names : List (List ℕ)) (i : ℕ) (name : List ℕ) → Some name ≡ slice_get names i → name ≡ slice_index_or names i []
+pub named_at : (names : List (List ℕ)) (i : ℕ) (name : List ℕ) → Some name ≡ slice_get names i →
+    name ≡ slice_index_or names i []
 named_at [] i name at = cc
 named_at (n ∷ names) zero name at = cc
 named_at (n ∷ names) (suc i) name at = named_at names i name at
 
-among_front : (m name : List ℕ) (names : List (List ℕ)) → is_among m names ≡ true → is_among m (names ++ name ∷ []) ≡ true
+among_front : (m name : List ℕ) (names : List (List ℕ)) → is_among m names ≡ true →
+    is_among m (names ++ name ∷ []) ≡ true
 among_front m name [] among = absurd (false≢true among)
 among_front m name (n ∷ names) among =
-    elim (bytes_eq n m) as (λ v. (v || is_among m names) ≡ true → (v || is_among m (names ++ name ∷ [])) ≡ true) [ true ↦ (λ _. refl) | false ↦ (λ rest. among_front m name names rest) ] among
+    elim (bytes_eq n m) as (λ v. (v || is_among m names) ≡ true →
+    (v || is_among m (names ++ name ∷ [])) ≡ true) [
+      | true ↦ (λ _. refl)
+      | false ↦
+          (λ rest. among_front m name names rest)
+    ] among
 
 among_last : (name : List ℕ) (names : List (List ℕ)) → is_among name (names ++ name ∷ []) ≡ true
 among_last name [] = rw (own_name name) refl
-among_last name (n ∷ names) = elim (bytes_eq n name) as (λ v. (v || is_among name (names ++ name ∷ [])) ≡ true) [ true ↦ refl | false ↦ among_last name names ]
+among_last name (n ∷ names) =
+    elim (bytes_eq n name) as (λ v. (v || is_among name (names ++ name ∷ [])) ≡ true) [
+      | true ↦ refl
+      | false ↦
+          among_last name names
+    ]
 
 -- a file is another one than those taken
-other_name : (m name : List ℕ) (files : List (List ℕ)) → is_among name files ≡ false → is_among m files ≡ true → bytes_eq m name ≡ false
+other_name : (m name : List ℕ) (files : List (List ℕ)) → is_among name files ≡ false → is_among m files ≡ true →
+    bytes_eq m name ≡ false
 other_name m name files fresh among =
-    ⊎_elim (λ same. absurd (false≢true (sym fresh ∙ subst (λ n. is_among n files ≡ true) (same_name m name same) among))) (λ other. other) (cases_Bool (bytes_eq m name))
+    ⊎_elim (λ same. absurd (false≢true (sym fresh ∙ subst (λ n. is_among n files ≡ true) (same_name m name same)
+    among))) (λ other. other) (cases_Bool (bytes_eq m name))
 
 -- contents with other content of one file
 abbrev put : List ℕ → Option (List ℕ) → Contents → Contents
@@ -77,21 +95,27 @@ put name content contents n = cond (bytes_eq n name) content (contents n)
 put_own : (name : List ℕ) (content : Option (List ℕ)) (contents : Contents) → put name content contents name ≡ content
 put_own name content contents = rw (own_name name) refl
 
-put_same : (files : List (List ℕ)) (name : List ℕ) (content : Option (List ℕ)) (contents : Contents) → is_among name files ≡ false → SameOn files contents (put name content contents)
+put_same : (files : List (List ℕ)) (name : List ℕ) (content : Option (List ℕ)) (contents : Contents) →
+    is_among name files ≡ false → SameOn files contents (put name content contents)
 put_same files name content contents fresh m among = rw (other_name m name files fresh among) refl
 
-told_put : (told content : Option (List ℕ)) (bytes : List ℕ) (b : Bool) → (b ≡ true → IfSome told (λ c. bytes ≡ c)) → IfSome told (λ c. content ≡ Some c) → IfSome told (λ c. cond b (Some bytes) content ≡ Some c)
+told_put : (told content : Option (List ℕ)) (bytes : List ℕ) (b : Bool) → (b ≡ true → IfSome told (λ c. bytes ≡ c)) →
+    IfSome told (λ c. content ≡ Some c) → IfSome told (λ c. cond b (Some bytes) content ≡ Some c)
 told_put None content bytes b read was = tt
 told_put (Some c) content bytes true read was = ap Some (read refl)
 told_put (Some c) content bytes false read was = was
 
-agrees_put : (told contents : Contents) (name bytes : List ℕ) → IfSome (told name) (λ c. bytes ≡ c) → AreTold told contents → AreTold told (put name (Some bytes) contents)
+agrees_put : (told contents : Contents) (name bytes : List ℕ) → IfSome (told name) (λ c. bytes ≡ c) →
+    AreTold told contents → AreTold told (put name (Some bytes) contents)
 agrees_put told contents name bytes read agrees n =
-    told_put (told n) (contents n) bytes (bytes_eq n name) (λ same. subst (λ (m : List ℕ). IfSome (told m) (λ c. bytes ≡ c)) (sym (same_name n name same)) read) (agrees n)
+    told_put (told n) (contents n) bytes (bytes_eq n name) (λ same. subst
+    (λ (m : List ℕ). IfSome (told m) (λ c. bytes ≡ c)) (sym (same_name n name same)) read) (agrees n)
 
-agrees_but : (told contents : Contents) (name : List ℕ) → AreTold told contents → AreToldBut name told (put name None contents)
+agrees_but : (told contents : Contents) (name : List ℕ) → AreTold told contents →
+    AreToldBut name told (put name None contents)
 agrees_but told contents name agrees n other =
-    let differs : bytes_eq n name ≡ false = ⊎_elim (λ same. absurd (other (same_name n name same))) (λ no. no) (cases_Bool (bytes_eq n name)) in
+    let differs : bytes_eq n name ≡ false =
+    ⊎_elim (λ same. absurd (other (same_name n name same))) (λ no. no) (cases_Bool (bytes_eq n name)) in
     rw differs (agrees n)
 
 pub told_itself : (content : Option (List ℕ)) → IfSome content (λ c. content ≡ Some c)
@@ -99,10 +123,14 @@ told_itself None = tt
 told_itself (Some c) = refl
 
 -- gathering goes on the same
-pub goes_on_same : (told : Contents) (main : List ℕ) (files : List (List ℕ)) (on more : Contents → Ending Source) → ((c : Contents) → on c ≡ more c) → GoesOn told main files on → GoesOn told main files more
-goes_on_same told main files on more same g = record { contents = g.contents; agrees = g.agrees; goes_on = λ other held. g.goes_on other held ∙ same other }
+pub goes_on_same : (told : Contents) (main : List ℕ) (files : List (List ℕ)) (on more : Contents → Ending Source) →
+    ((c : Contents) → on c ≡ more c) → GoesOn told main files on → GoesOn told main files more
+goes_on_same told main files on more same g =
+    record { contents = g.contents; agrees = g.agrees; goes_on = λ other held. g.goes_on other held ∙ same other }
 
-pub ends_in : (told : Contents) (main : List ℕ) (files : List (List ℕ)) (on : Contents → Ending Source) (ending : Ending Source) → ((c : Contents) → on c ≡ ending) → GoesOn told main files on → EndsIn told main ending
+pub ends_in : (told : Contents) (main : List ℕ) (files : List (List ℕ)) (on : Contents →
+    Ending Source) (ending : Ending Source) → ((c : Contents) → on c ≡ ending) → GoesOn told main files on →
+    EndsIn told main ending
 ends_in told main files on ending same g = (g.contents, g.agrees, g.goes_on g.contents (λ n _. refl) ∙ same g.contents)
 
 pub begins : (told : Contents) (main : List ℕ) →
@@ -119,17 +147,24 @@ unfolding gather_parts
 whole_cause old new main g same come =
     (same, ends_in old.content main g.files _ (Whole (source_of g)) (λ c. refl) come)
 
-pub code_goes_on : (told : Contents) (main : List ℕ) (g : Gathered) (pieces : List Piece) (piece : Piece) (part : Part) (parts : List Part) → part ≡ Code piece → pieces ≡ g.pieces ++ piece ∷ []
+pub code_goes_on : (told : Contents) (main : List ℕ) (g : Gathered) (pieces : List Piece) (piece : Piece)
+    (part : Part) (parts : List Part) → part ≡ Code piece → pieces ≡ g.pieces ++ piece ∷ []
     → AreToCome told main g (part ∷ parts) → AreToCome told main (record g { pieces = pieces }) parts
 unfolding gather_parts
 code_goes_on told main g pieces piece part parts is_part is come = rw is (rw is_part at come)
 
-pub heading_goes_on : (told : Contents) (main : List ℕ) (g : Gathered) (headings : List Headed) (count level : ℕ) (text : List ℕ) (pos : Pos) (part : Part) (parts : List Part) → part ≡ Heading level text pos → count ≡ length g.pieces
-    → headings ≡ g.headings ++ record { pieces = count; level = level; text = text; pos = pos } ∷ [] → AreToCome told main g (part ∷ parts) → AreToCome told main (record g { headings = headings }) parts
+pub heading_goes_on : (told : Contents) (main : List ℕ) (g : Gathered) (headings : List Headed) (count level : ℕ)
+    (text : List ℕ) (pos : Pos) (part : Part) (parts : List Part) → part ≡ Heading level text pos →
+    count ≡ length g.pieces
+    → headings ≡ g.headings ++ record { pieces = count; level = level; text = text; pos = pos } ∷ [] →
+    AreToCome told main g (part ∷ parts) → AreToCome told main (record g { headings = headings }) parts
 unfolding gather_parts
-heading_goes_on told main g headings count level text pos part parts is_part counted is come = rw (is, counted) (rw is_part at come)
+heading_goes_on told main g headings count level text pos part parts is_part counted is come =
+    rw (is, counted) (rw is_part at come)
 
-pub include_goes_on : (told : Contents) (main : List ℕ) (g : Gathered) (path : List ℕ) (pos : Pos) (parts : List Part) → AreToCome told main g (Include path pos ∷ parts) → GoesOn told main g.files (λ c. include_with c (64 - length g.files) path pos parts g)
+pub include_goes_on : (told : Contents) (main : List ℕ) (g : Gathered) (path : List ℕ) (pos : Pos)
+    (parts : List Part) → AreToCome told main g (Include path pos ∷ parts) →
+    GoesOn told main g.files (λ c. include_with c (64 - length g.files) path pos parts g)
 unfolding gather_parts
 include_goes_on told main g path pos parts come = come
 
@@ -145,50 +180,67 @@ twice_cause old main path name pos parts g why named on =
           (λ taken. include_taken c (64 - length g.files) path pos parts g taken) why) on,
     )
 
-pub free_goes_on : (told : Contents) (main path : List ℕ) (pos : Pos) (parts : List Part) (g : Gathered) → length g.files < 64 → is_among path g.files ≡ false
-    → GoesOn told main g.files (λ c. include_with c (64 - length g.files) path pos parts g) → GoesOn told main g.files (λ c. take_file (include_with c (63 - length g.files)) path parts g (c path))
+pub free_goes_on : (told : Contents) (main path : List ℕ) (pos : Pos) (parts : List Part) (g : Gathered) →
+    length g.files < 64 → is_among path g.files ≡ false
+    → GoesOn told main g.files (λ c. include_with c (64 - length g.files) path pos parts g) →
+    GoesOn told main g.files (λ c. take_file (include_with c (63 - length g.files)) path parts g (c path))
 free_goes_on told main path pos parts g room fresh on =
     goes_on_same told main g.files _ (λ c. take_file (include_with c (63 - length g.files)) path parts g (c path))
     (λ c. include_free c (64 - length g.files) (63 - length g.files) path pos parts g (omega arith) fresh) on
 
 -- a file that was read
-file_read : (include : Leading) (name bytes : List ℕ) (parts : List Part) (g : Gathered) (content : Option (List ℕ)) → content ≡ Some bytes → length bytes ≤ limit_after g.bytes
-    → take_file include name parts g content ≡ put_in_front include name (length bytes) parts g (woven_as name (woven bytes (length g.files)))
+file_read : (include : Leading) (name bytes : List ℕ) (parts : List Part) (g : Gathered) (content : Option (List ℕ)) →
+    content ≡ Some bytes → length bytes ≤ limit_after g.bytes
+    → take_file include name parts g content ≡ put_in_front include name (length bytes) parts g
+    (woven_as name (woven bytes (length g.files)))
 file_read include name bytes parts g content is short = rw (is, le-leb (length bytes) (limit_after g.bytes) short) refl
 
-read_goes_on : (told : Contents) (main name bytes : List ℕ) (g : Gathered) (parts : List Part) → is_among name g.files ≡ false → Gives (told name) (limit_after g.bytes) bytes
+read_goes_on : (told : Contents) (main name bytes : List ℕ) (g : Gathered) (parts : List Part) →
+    is_among name g.files ≡ false → Gives (told name) (limit_after g.bytes) bytes
     → GoesOn told main g.files (λ c. take_file (include_with c (63 - length g.files)) name parts g (c name))
-    → GoesOn told main (g.files ++ name ∷ []) (λ c. put_in_front (include_with c (63 - length g.files)) name (length bytes) parts g (woven_as name (woven bytes (length g.files))))
+    → GoesOn told main (g.files ++ name ∷ []) (λ c. put_in_front (include_with c (63 - length g.files)) name
+    (length bytes) parts g (woven_as name (woven bytes (length g.files))))
 read_goes_on told main name bytes g parts fresh gives on = record {
   contents = put name (Some bytes) on.contents;
   agrees = agrees_put told on.contents name bytes gives.content on.agrees;
   goes_on = λ other held.
-      let held_before : SameOn g.files on.contents other = λ m among. held m (among_front m name g.files among) ∙ put_same g.files name (Some bytes) on.contents fresh m among in
+      let held_before : SameOn g.files on.contents other =
+      λ m among. held m (among_front m name g.files among) ∙ put_same g.files name (Some bytes) on.contents fresh
+      m among in
       let has : other name ≡ Some bytes = held name (among_last name g.files) ∙ put_own name (Some bytes) on.contents in
-      on.goes_on other held_before ∙ file_read (include_with other (63 - length g.files)) name bytes parts g (other name) has gives.short;
+      on.goes_on other held_before ∙ file_read (include_with other (63 - length g.files)) name bytes parts g
+      (other name) has gives.short;
 }
 
-pub take_goes_on : (told : Contents) (main name : List ℕ) (old new : Gathered) (parts after : List Part) → is_among name old.files ≡ false → Takes told name old parts new after
-    → GoesOn told main old.files (λ c. take_file (include_with c (63 - length old.files)) name parts old (c name)) → AreToCome told main new after
+pub take_goes_on : (told : Contents) (main name : List ℕ) (old new : Gathered) (parts after : List Part) →
+    is_among name old.files ≡ false → Takes told name old parts new after
+    → GoesOn told main old.files (λ c. take_file (include_with c (63 - length old.files)) name parts old (c name)) →
+    AreToCome told main new after
 take_goes_on told main name old new parts after fresh takes on =
-    let left : 64 - length (old.files ++ name ∷ []) ≡ 63 - length old.files = omega (arith, length-append old.files (name ∷ [])) in
+    let left : 64 - length (old.files ++ name ∷ []) ≡ 63 - length old.files =
+    omega (arith, length-append old.files (name ∷ [])) in
     rw (takes.gathered_is, takes.parts_are)
     (goes_on_same told main (old.files ++ name ∷ []) _ _ (λ c. rw (takes.weaves.parts, left) refl)
     (read_goes_on told main name takes.bytes old parts fresh takes.weaves.read on))
 
-refused_cause : (told : Contents) (main name bytes : List ℕ) (g : Gathered) (parts : List Part) (refusal : GatherRefusal) → is_among name g.files ≡ false → Weaves told name g bytes (Err refusal)
-    → GoesOn told main g.files (λ c. take_file (include_with c (63 - length g.files)) name parts g (c name)) → EndsIn told main (Refused refusal)
+refused_cause : (told : Contents) (main name bytes : List ℕ) (g : Gathered) (parts : List Part)
+    (refusal : GatherRefusal) → is_among name g.files ≡ false → Weaves told name g bytes (Err refusal)
+    → GoesOn told main g.files (λ c. take_file (include_with c (63 - length g.files)) name parts g (c name)) →
+    EndsIn told main (Refused refusal)
 refused_cause told main name bytes g parts refusal fresh weaves on =
-    ends_in told main (g.files ++ name ∷ []) _ (Refused refusal) (λ c. rw weaves.parts refl) (read_goes_on told main name bytes g parts fresh weaves.read on)
+    ends_in told main (g.files ++ name ∷ []) _ (Refused refusal) (λ c. rw weaves.parts refl)
+    (read_goes_on told main name bytes g parts fresh weaves.read on)
 
 comes_to : (told : Contents) (main name : List ℕ) (g : Gathered) (parts : List Part) → is_among name g.files ≡ false
-    → GoesOn told main g.files (λ c. take_file (include_with c (63 - length g.files)) name parts g (c name)) → ComesTo told main name g.bytes
+    → GoesOn told main g.files (λ c. take_file (include_with c (63 - length g.files)) name parts g (c name)) →
+    ComesTo told main name g.bytes
 comes_to told main name g parts fresh on =
     let without = put name None on.contents in (
       without,
       agrees_but told on.contents name on.agrees,
       on.goes_on without (put_same g.files name None on.contents fresh)
-          ∙ ap (λ (content : Option (List ℕ)). take_file (include_with without (63 - length g.files)) name parts g content) (put_own name None on.contents),
+          ∙ ap (λ (content : Option (List ℕ)). take_file (include_with without (63 - length g.files)) name parts g
+          content) (put_own name None on.contents),
     )
 
 pub take_cause : (old new : Shelved) (main name : List ℕ) (g : Gathered) (parts : List Part) (refusal : GatherRefusal) →

@@ -30,7 +30,8 @@ AreSameOrStop told include = (path : List ℕ) (pos : Pos) (g : Gathered) →
     IsSameOrStop (told path pos g) (include path pos g)
 
 -- what stops stops
-stop_then : {T : Type 0} (told : Ending Gathered) (next : Gathered → Ending T) → IsStop told → IsStop (and_then told next)
+stop_then : {T : Type 0} (told : Ending Gathered) (next : Gathered → Ending T) → IsStop told →
+    IsStop (and_then told next)
 stop_then (Whole g) next stop = absurd stop
 stop_then (Refused refusal) next stop = absurd stop
 stop_then (StopsAt name bytes) next stop = tt

@@ -13,7 +13,8 @@ use Rattle.cat_weave.specs.declared.part.WeaveRefusal.{WeaveRefusal}
 use Rattle.cat_weave.specs.declared.part.WeaveRefusal.TheVariants as weaving
 use Rattle.cat_gather.specs.declared.source.Source.{Source}
 use Rattle.cat_gather.specs.declared.source.GatherRefusal.{GatherRefusal}
-use Rattle.cat_gather.specs.declared.source.GatherRefusal.TheVariants.{NotUtf8, FenceOpen, IncludeTwice, TooLarge, Memory}
+use Rattle.cat_gather.specs.declared.source.GatherRefusal.TheVariants.{NotUtf8, FenceOpen, IncludeTwice, TooLarge}
+use Rattle.cat_gather.specs.declared.source.GatherRefusal.TheVariants.{Memory}
 
 -- what files hold, by their names
 abbrev pub Contents : Type 0
@@ -48,7 +49,7 @@ with_file name size g = record g { files = g.files ++ name ∷ []; bytes = g.byt
 abbrev pub source_of : Gathered → Source
 source_of g = record { files = g.files; pieces = g.pieces; headings = g.headings }
 
--- gathering gives something or is refused, or it comes to a file whose content isn't known, after files of so many bytes
+-- gathering gives something or is refused, or it comes to a file whose content isn't known, behind so many bytes
 pub data Ending (T : Type 0) : Type 0 where
   Whole : T → Ending T
   Refused : GatherRefusal → Ending T

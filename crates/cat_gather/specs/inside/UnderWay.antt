@@ -5,7 +5,7 @@ use Rattle.cat_pos.specs.Readable.{AreReadable}
 use Rattle.cat_pos.specs.declared.limits.TheConstants.{MOST_FILES, MOST_FILE_BYTES, MOST_SOURCE_BYTES}
 use Rattle.cat_io.specs.Shelf.{Shelved, Gives, Keeps, Reads}
 use Rattle.cat_io.specs.declared.shelf.ShelfFault.TheVariants as fault
-use Rattle.cat_weave.specs.Woven.{woven, code_size, code_total, part_place}
+use Rattle.cat_weave.specs.Woven.{woven, code_size, code_total, part_position}
 use Rattle.cat_weave.specs.declared.part.Part.{Part}
 use Rattle.cat_gather.specs.Gathered.{Contents, Ending, Gathered, gathered, woven_as, limit_after, with_file, is_among}
 use Rattle.cat_gather.specs.inside.Worklist.{gather_parts, include_with}
@@ -22,9 +22,9 @@ gathered_of g = record { files = g.files; bytes = g.bytes; pieces = g.pieces; he
 
 -- a part that stands in a file taken, at the beginning of a line
 pub record IsInFiles (files : ℕ) (part : Part) : Type 0 where
-  pub file : (part_place part).file < files
-  pub line : (part_place part).line ≤ MOST_FILE_BYTES
-  pub column : (part_place part).column ≡ 1
+  pub file : (part_position part).file < files
+  pub line : (part_position part).line ≤ MOST_FILE_BYTES
+  pub column : (part_position part).column ≡ 1
   pub size : code_size part ≤ MOST_FILE_BYTES
 
 -- the bounds of what is gathered and of these parts to come
@@ -33,7 +33,7 @@ pub record AreBounded (g : Gathered) (parts : List Part) : Type 0 where
   pub all : g.bytes ≤ MOST_SOURCE_BYTES
   pub short : AreReadable g.pieces
   pub code : pieces_total g.pieces + code_total parts ≤ g.bytes
-  pub placed : All (IsInFiles (length g.files)) parts
+  pub starts : All (IsInFiles (length g.files)) parts
 
 -- a read of that file was refused so
 abbrev pub IsReadFault : List ℕ → ℕ → Shelved → Shelved → GatherRefusal → Type 0

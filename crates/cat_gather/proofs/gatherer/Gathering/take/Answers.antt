@@ -9,7 +9,8 @@ pub returns-clause-bounded : goal.returns-clause-bounded
 returns-clause-bounded g c =
     let bytes = c.in_ok-bytes.bytes.items in
     let size : c.len.result ≡ length bytes = first_of (search rules, omega arith, grind (arith, common_steps)) in
-    let after : c.put_in_front.new.self ≡ c.in_ok-parts.parts ++ c.args.self.now.to_come = first_of (search rules, cc) in
+    let after : c.put_in_front.new.self ≡ c.in_ok-parts.parts ++ c.args.self.now.to_come =
+    first_of (search rules, cc) in
     let short : length bytes ≤ limit_after c.args.self.now.bytes =
     omega (arith, c.in_ok-bytes.ensures.1.short, c.min-limit.ensures) in
     let within = rw (c.deref.ensures.value, c.in_ok-number.ensures.number) at c.in_ok-parts.ensures.within in
