@@ -4,3 +4,6 @@ pub mod Sequel
 pub mod Choices
 pub mod Lists
 pub mod Leaves
+pub mod Types
+pub mod Last
+pub mod Declarations

@@ -1,3 +1,5 @@
 pub mod Reader
 pub mod Right
 pub mod Cues
+pub mod Types
+pub mod Declarations
