@@ -7,3 +7,5 @@ pub mod Leaves
 pub mod Types
 pub mod Last
 pub mod Declarations
+pub mod Listed
+pub mod Leads

@@ -91,7 +91,7 @@ module _ {A : Type 0} (out next start : TokenKind → Bool) (fits : A → Type 0
       either [] f = inr refl
       either (x ∷ more) f = inl ((x, more), (f.0, f.1), refl)
 
-  all_behind : (ys : List A) (w v : List Token) → AllFit fits ys → AreSpelled (all row ys) w → Outside out v → Outside next (w ++ v)
+  pub all_behind : (ys : List A) (w v : List Token) → AllFit fits ys → AreSpelled (all row ys) w → Outside out v → Outside next (w ++ v)
   all_behind [] w v f s o = subst (λ (u : List Token). Outside next (u ++ v)) (sym s) (widen v o)
     where
       widen : (v : List Token) → Outside out v → Outside next v

@@ -80,7 +80,7 @@ from n y = n ≤ y.lists
 abbrev row : ℕ → types.Type → Parts
 row n y = lists_of (y.lists - n) (Word (At (base_kind y.base) y.pos) End)
 
-same_reader : {B : Type 0} (bound : ℕ) (out : TokenKind → Bool) (fits : B → Type 0) (row : B → Parts) (r s : Reader B) → ((ts : List Token) → r ts ≡ s ts) → IsRight bound out fits row r → IsRight bound out fits row s
+pub same_reader : {B : Type 0} (bound : ℕ) (out : TokenKind → Bool) (fits : B → Type 0) (row : B → Parts) (r s : Reader B) → ((ts : List Token) → r ts ≡ s ts) → IsRight bound out fits row r → IsRight bound out fits row s
 same_reader {B = B} bound out fits row r s e h = record {
   alive = h.alive;
   taken = λ ts le. subst (λ (o : Outcome B). Taken fits row o ts) (e ts) (h.taken ts le);

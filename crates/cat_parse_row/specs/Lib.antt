@@ -3,3 +3,4 @@ pub mod Right
 pub mod Cues
 pub mod Types
 pub mod Declarations
+pub mod Leads

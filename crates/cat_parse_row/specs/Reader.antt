@@ -62,3 +62,7 @@ at_most (suc n) start r = by_word start (both r (at_most n start r) ⨟ λ x. do
 
 abbrev pub many : {A : Type 0} → (TokenKind → Bool) → Reader A → Reader (List A)
 many start r ts = at_most (length ts) start r ts
+
+-- one at least
+abbrev pub some : {A : Type 0} → (TokenKind → Bool) → Reader A → Reader (List A)
+some start r = both r (many start r) ⨟ λ x. done (x.0 ∷ x.1)
