@@ -9,3 +9,5 @@ pub mod Last
 pub mod Declarations
 pub mod Listed
 pub mod Leads
+pub mod Targets
+pub mod Variables
