@@ -63,10 +63,10 @@ pub record IsToldRun (words : List (List ℕ)) (old : Shelved) (request : Reques
 
 -- the program's outcome is written whole; else the shelf or the sink failed, or memory ran out
 abbrev pub EndsRun : Sunk → Sunk → Request → ThinProgram → List ℤ → Status → Type 0
-EndsRun before after request program input ReadFault = ⊤
-EndsRun before after request program input WriteFault = ⊤
-EndsRun before after request program input Memory = ⊤
-EndsRun before after request program input status =
+EndsRun sink sunk request program input ReadFault = ⊤
+EndsRun sink sunk request program input WriteFault = ⊤
+EndsRun sink sunk request program input Memory = ⊤
+EndsRun sink sunk request program input status =
     (status ≡ status_of (thin_outcome program input))
     × IsSomeAnd (thin_answer program request.file (thin_outcome program input))
-    (λ text. Appends before.taken after.taken text)
+    (λ text. Appends sink.taken sunk.taken text)

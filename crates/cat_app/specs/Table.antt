@@ -1,10 +1,8 @@
 -- The table of answers: which texts may come with a status, and what the sink took of them.
-use Rattle.std.specs.Prelude.{◌≡◌, ◌⊎◌, ℕ, ◌<◌, List, length, IfSome, IsSomeAnd, codes}
-use Rattle.std.specs.Io.KnownBytes.{Appends}
+use Rattle.std.specs.Prelude.{◌≡◌, ◌⊎◌, ℕ, List, IsSomeAnd, codes}
 use Rattle.cat_io.specs.Shelf.{Shelved}
 use Rattle.cat_io.specs.declared.shelf.ShelfFault.TheVariants as shelf
-use Rattle.cat_io.specs.Count.{FaultsRose}
-use Rattle.cat_io.specs.Sink.{Sunk, AppendsPrefix}
+use Rattle.cat_io.specs.Sink.{Sunk, Took, FailedAt}
 use Rattle.cat_app.specs.Words.{Request, request_of}
 use Rattle.cat_app.specs.Answers.{IsOutcome, IsRefusedSource, IsNoScope, IsRefusedInput, IsUsage, IsRefusedRead}
 use Rattle.cat_app.specs.declared.status.Status.{Status}
@@ -31,24 +29,17 @@ MayReply words old new Usage text =
 MayReply words old new status text =
     IsSomeAnd (request_of words) (λ request. MayAnswer request old new status text)
 
--- the sink took the text and nothing else
-pub record Took (old new : Sunk) (text : List ℕ) : Type 0 where
-  pub taken : Appends old.taken new.taken text
-  pub steady : IfSome old.room (λ room. new.faults ≡ old.faults)
-
--- the sink failed at a text that may come, and took a part of its front
-pub record IsWriteFault (words : List (List ℕ)) (old new : Shelved) (before after : Sunk) : Type 0 where
+-- the sink failed at a text that may come, of which it took a front
+pub record IsWriteFault (words : List (List ℕ)) (old new : Shelved) (sink sunk : Sunk) : Type 0 where
   pub status : Status
   pub text : List ℕ
   pub may : MayReply words old new status text
-  pub rose : FaultsRose before.faults after.faults
-  pub full : IfSome before.room (λ room. room < length text)
-  pub front : AppendsPrefix before.taken after.taken text
+  pub failed : FailedAt sink sunk text
 
 -- a status is answered only with its text, written whole; `WriteFault` only by the sink's own fault; `Memory` writes
 -- nothing
 abbrev pub Answers : List (List ℕ) → Shelved → Shelved → Sunk → Sunk → Status → Type 0
-Answers words old new before after WriteFault = IsWriteFault words old new before after
-Answers words old new before after Memory = after ≡ before
-Answers words old new before after status =
-    (text : List ℕ) × MayReply words old new status text × Took before after text
+Answers words old new sink sunk WriteFault = IsWriteFault words old new sink sunk
+Answers words old new sink sunk Memory = sunk ≡ sink
+Answers words old new sink sunk status =
+    (text : List ℕ) × MayReply words old new status text × Took sink sunk text
