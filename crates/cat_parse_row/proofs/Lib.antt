@@ -11,3 +11,4 @@ pub mod Listed
 pub mod Leads
 pub mod Targets
 pub mod Variables
+pub mod Guards
