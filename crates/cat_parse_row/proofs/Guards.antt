@@ -94,6 +94,15 @@ pub use_behind : (v : List Token) → Outside behind_use v → Outside behind_ex
 use_behind [] o = tt
 use_behind (p ∷ v) o = behind_both p.kind o
 
+abbrev pub Meant : Type 0 → Type 0
+Meant X = Pos × TargetName × Option Node × X
+
+abbrev pub ruled_row : Meant Fulfilled → Parts
+ruled_row x = Word (At (kind.Word key.Rule) x.0) (target_parts x.1 ▸ guard_parts x.2 ▸ fulfilled_parts x.3)
+
+abbrev pub defined_row : Meant Node → Parts
+defined_row x = Word (At (kind.Word key.Definition) x.0) (target_parts x.1 ▸ guard_parts x.2 ▸ Word (Anywhere (kind.Word key.Equals)) (expression_row x.3))
+
 module _ (ex : Reader Node) (right : ReadsExpressions ex) where
   guard_right : (bound : ℕ) → IsRight bound behind_guard Any (λ e. guard_parts (Some e)) (guard ex)
   guard_right bound =
@@ -113,9 +122,6 @@ module _ (ex : Reader Node) (right : ReadsExpressions ex) where
       (opens_word is_under (kind.Pair pair.UnderCondition) Any (λ e. Part (Operand 0) (phrase e) (Word (Anywhere (kind.Word key.Consequence)) End)) refl)
       guard_off refl (λ e. refl) (guard_right bound)
 
-  abbrev Meant : Type 0 → Type 0
-  Meant X = Pos × TargetName × Option Node × X
-
   -- a condition, or a word that may stand behind it
   guard_behind : (c : Option Node) (k : TokenKind) (rest : Parts) (w v : List Token) → AreSpelled (guard_parts c ▸ Word (Anywhere k) rest) w → behind_target k ≡ true → Outside behind_target (w ++ v)
   guard_behind None k rest w v s e = subst (λ (u : List Token). Outside behind_target (u ++ v)) (sym s.2) (ap behind_target s.3 ∙ e)
@@ -129,10 +135,7 @@ module _ (ex : Reader Node) (right : ReadsExpressions ex) where
   fulfilled_guard fulfilled.Yes w v s = subst (λ (u : List Token). Outside behind_guard (u ++ v)) (sym s.2) (ap behind_guard s.3)
   fulfilled_guard fulfilled.No w v s = subst (λ (u : List Token). Outside behind_guard (u ++ v)) (sym s.2) (ap behind_guard s.3)
 
-  abbrev ruled_row : Meant Fulfilled → Parts
-  ruled_row x = Word (At (kind.Word key.Rule) x.0) (target_parts x.1 ▸ guard_parts x.2 ▸ fulfilled_parts x.3)
-
-  ruled_right : (bound : ℕ) → IsRight bound behind_use Any ruled_row (ruled ex)
+  pub ruled_right : (bound : ℕ) → IsRight bound behind_use Any ruled_row (ruled ex)
   ruled_right bound =
       word_at_right bound behind_use (cue.Word key.Rule) Any (λ x. x.0) (λ x. target_parts x.1 ▸ guard_parts x.2 ▸ fulfilled_parts x.3) (λ p. target ⨟ λ t. optional is_under (guard ex) ⨟ λ c. whether_fulfilled ⨟ λ f. done (p, t, c, f)) λ p.
       part_right bound bound behind_use behind_target (λ x. Any x × (x.0 ≡ p)) Any (λ x. x.1) target_parts (λ x. guard_parts x.2 ▸ fulfilled_parts x.3) target (λ t. optional is_under (guard ex) ⨟ λ c. whether_fulfilled ⨟ λ f. done (p, t, c, f))
@@ -150,10 +153,7 @@ module _ (ex : Reader Node) (right : ReadsExpressions ex) where
       })
       (narrowed bound any_word behind_use Any fulfilled_parts whether_fulfilled (λ v o. outside_any v) (fulfilled_right bound))
 
-  abbrev defined_row : Meant Node → Parts
-  defined_row x = Word (At (kind.Word key.Definition) x.0) (target_parts x.1 ▸ guard_parts x.2 ▸ Word (Anywhere (kind.Word key.Equals)) (expression_row x.3))
-
-  defined_right : (bound : ℕ) → IsRight bound behind_use Any defined_row (defined ex)
+  pub defined_right : (bound : ℕ) → IsRight bound behind_use Any defined_row (defined ex)
   defined_right bound =
       word_at_right bound behind_use (cue.Word key.Definition) Any (λ x. x.0) (λ x. target_parts x.1 ▸ guard_parts x.2 ▸ Word (Anywhere (kind.Word key.Equals)) (expression_row x.3)) (λ p. target ⨟ λ t. optional is_under (guard ex) ⨟ λ c. key_word key.Equals ⨟ λ q. ex ⨟ λ e. done (p, t, c, e)) λ p.
       part_right bound bound behind_use behind_target (λ x. Any x × (x.0 ≡ p)) Any (λ x. x.1) target_parts (λ x. guard_parts x.2 ▸ Word (Anywhere (kind.Word key.Equals)) (expression_row x.3)) target (λ t. optional is_under (guard ex) ⨟ λ c. key_word key.Equals ⨟ λ q. ex ⨟ λ e. done (p, t, c, e))

@@ -12,3 +12,4 @@ pub mod Leads
 pub mod Targets
 pub mod Variables
 pub mod Guards
+pub mod Blocks

@@ -5,3 +5,4 @@ pub mod Types
 pub mod Declarations
 pub mod Leads
 pub mod Uses
+pub mod Programs

@@ -94,11 +94,18 @@ use_of (l, Ruled x) = uses.Rule l x.0 x.1 x.2 x.3
 
 -- ---- a line of a scope block
 
-abbrev pub assertion : Reader Node → Reader Use
-assertion ex = key_word key.Assertion ⨟ λ p. ex ⨟ λ e. done (uses.Assertion p e)
+abbrev pub asserted : Reader Node → Reader (Pos × Node)
+asserted ex = key_word key.Assertion ⨟ λ p. ex ⨟ λ e. done (p, e)
 
-abbrev pub rounding : Reader Use
-rounding = «word» (cue.Pair pair.DateRound) ⨟ λ p. by_word (is_word key.Increasing) (key_word key.Increasing ⨟ λ q. done (uses.DateRound p true)) (key_word key.Decreasing ⨟ λ q. done (uses.DateRound p false))
+abbrev pub direction : Reader Bool
+direction = by_word (is_word key.Increasing) (key_word key.Increasing ⨟ λ q. done true) (key_word key.Decreasing ⨟ λ q. done false)
+
+abbrev pub is_rounding : TokenKind → Bool
+is_rounding = cue_is (cue.Pair pair.DateRound)
+
+abbrev pub rounded : Reader (Pos × Bool)
+rounded = «word» (cue.Pair pair.DateRound) ⨟ λ p. direction ⨟ λ up. done (p, up)
 
 abbrev pub a_use : Reader Node → Reader Use
-a_use ex = by_word (is_word key.Assertion) (assertion ex) (by_word (cue_is (cue.Pair pair.DateRound)) rounding (both lead (tail ex) ⨟ λ x. done (use_of x)))
+a_use ex = by_word (is_word key.Assertion) (asserted ex ⨟ λ x. done (uses.Assertion x.0 x.1))
+    (by_word is_rounding (rounded ⨟ λ x. done (uses.DateRound x.0 x.1)) (both lead (tail ex) ⨟ λ x. done (use_of x)))
