@@ -197,3 +197,11 @@ optional_right {A = A} bound out start fits row row2 r opens off none some right
     (option_decides out start fits row row2 opens off none some)
     (made_right bound out fits row row2 (λ x. Some x) r some right)
     (none_right bound out row2 None none)
+
+-- where less may follow, it is right still
+pub narrowed : {B : Type 0} (bound : ℕ) (out less : TokenKind → Bool) (fits : B → Type 0) (row : B → Parts) (r : Reader B) → ((v : List Token) → Outside less v → Outside out v) → IsRight bound out fits row r → IsRight bound less fits row r
+narrowed bound out less fits row r wide h = record {
+  alive = h.alive;
+  taken = h.taken;
+  says = λ ts front y w le text a. h.says ts front y w le text (record { others = a.others; behind = a.behind; agree = a.agree; is = a.is; outside = wide a.behind a.outside; text = a.text });
+}

@@ -11,3 +11,5 @@ pub mod Listed
 pub mod Leads
 pub mod Targets
 pub mod Variables
+pub mod Guards
+pub mod Blocks

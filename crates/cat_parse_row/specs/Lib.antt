@@ -4,3 +4,5 @@ pub mod Cues
 pub mod Types
 pub mod Declarations
 pub mod Leads
+pub mod Uses
+pub mod Programs
