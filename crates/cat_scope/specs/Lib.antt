@@ -27,4 +27,5 @@ pub mod WellFormed
 pub mod Named
 pub mod Forests
 pub mod Same
+pub mod OperatorNumbers
 pub mod SameTree

@@ -33,6 +33,7 @@ pub mod JudgingSame
 pub mod FunctionLaws
 pub mod ScopeLaws
 pub mod Alike
+pub mod LeafTests
 pub mod Trees
 pub mod DecidedLaws
 mod SoundSamples
