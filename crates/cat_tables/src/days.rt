@@ -46,7 +46,9 @@ pub fn answer(alloc: Global, given: &mut Arguments<'_>) -> Result<String, Proble
 
 /// The day of a year, a month and a day of the month.
 fn of(alloc: Global, given: &mut Arguments<'_>) -> Result<String, Problem> {
-    let year = given.count()?.min(100_000) as i32;
+    let year = i32::try_from(given.count()?)
+        .ok()
+        .ok_or(Problem::Unreadable)?;
     answered(alloc, Day::of(year, given.count()?, given.count()?))
 }
 
