@@ -19,7 +19,7 @@ use Rattle.cat_scope.specs.Same.{Standing}
 abbrev pub same_literal : Literal → Literal → Bool
 same_literal (literal.Boolean a) (literal.Boolean b) = not (differ a b)
 same_literal (literal.Integer a) (literal.Integer b) = int_eq a b
-same_literal (literal.Decimal a) (literal.Decimal b) = int_eq a.num b.num && nat_eq a.den b.den
+same_literal (literal.Decimal a) (literal.Decimal b) = nat_eq a.digits b.digits && nat_eq a.places b.places
 same_literal (literal.Money a) (literal.Money b) = int_eq a b
 same_literal (literal.Date a) (literal.Date b) = int_eq a b
 same_literal (literal.Duration a) (literal.Duration b) = int_eq a.months b.months && int_eq a.days b.days

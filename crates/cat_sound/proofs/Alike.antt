@@ -37,8 +37,8 @@ use Rattle.cat_scope.specs.Lists.{for_all, exists, mapped, filtered, combined, c
 use Rattle.cat_scope.specs.Eval.{Env, eval, eval_all, eval_fields, eval_arms}
 use Rattle.cat_scope.specs.Same.{Standing, Same, SameAll, SameFields, SameArms, kept, Alike}
 use Rattle.cat_scope.specs.Same as same
-use Rattle.cat_scope.proofs.RunLaws.{append_append}
-use Rattle.cat_scope.proofs.Equations.{eval_Literal, eval_Item, eval_Output, eval_Local, eval_Field, eval_Unary, eval_Binary, eval_And, eval_Or, eval_If, eval_Match, eval_IsCase, eval_Case_None, eval_Case_Some, eval_Structure, eval_List, eval_ForAll, eval_Exists, eval_Map, eval_Filter, eval_Combine, eval_Contains, eval_Length, eval_Sum, eval_Call, eval_ScopeCall}
+use Rattle.cat_scope.proofs.Exported.{append_append}
+use Rattle.cat_scope.proofs.Exported.{eval_Literal, eval_Item, eval_Output, eval_Local, eval_Field, eval_Unary, eval_Binary, eval_And, eval_Or, eval_If, eval_Match, eval_IsCase, eval_Case_None, eval_Case_Some, eval_Structure, eval_List, eval_ForAll, eval_Exists, eval_Map, eval_Filter, eval_Combine, eval_Contains, eval_Length, eval_Sum, eval_Call, eval_ScopeCall}
 
 -- ---- where nothing is decided
 

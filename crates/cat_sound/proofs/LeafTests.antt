@@ -171,8 +171,9 @@ pub literal_same : (l m : Literal) → IsTrue (same_literal l m) → l ≡ m
 literal_same (literal.Boolean a) (literal.Boolean b) h = ap literal.Boolean (bool_same a b h)
 literal_same (literal.Integer a) (literal.Integer b) h = ap literal.Integer (int_same a b h)
 literal_same (literal.Decimal a) (literal.Decimal b) h =
-    let two = both (int_eq a.num b.num) (nat_eq a.den b.den) h in
-    ap (λ (n : ℤ). literal.Decimal (record { num = n; den = a.den })) (int_same a.num b.num two.0) ∙ ap (λ (d : ℕ). literal.Decimal (record { num = b.num; den = d })) (same_number a.den b.den two.1)
+    let two = both (nat_eq a.digits b.digits) (nat_eq a.places b.places) h in
+    ap (λ (n : ℕ). literal.Decimal (record { digits = n; places = a.places })) (same_number a.digits b.digits two.0)
+    ∙ ap (λ (n : ℕ). literal.Decimal (record { digits = b.digits; places = n })) (same_number a.places b.places two.1)
 literal_same (literal.Money a) (literal.Money b) h = ap literal.Money (int_same a b h)
 literal_same (literal.Date a) (literal.Date b) h = ap literal.Date (int_same a b h)
 literal_same (literal.Duration a) (literal.Duration b) h =
@@ -183,7 +184,7 @@ literal_same _ _ h = not_true h
 pub literal_self : (l : Literal) → IsTrue (same_literal l l)
 literal_self (literal.Boolean a) = bool_self a
 literal_self (literal.Integer a) = int_self a
-literal_self (literal.Decimal a) = and_both _ _ (int_self a.num) (nat_self a.den)
+literal_self (literal.Decimal a) = and_both _ _ (nat_self a.digits) (nat_self a.places)
 literal_self (literal.Money a) = int_self a
 literal_self (literal.Date a) = int_self a
 literal_self (literal.Duration a) = and_both _ _ (int_self a.months) (int_self a.days)

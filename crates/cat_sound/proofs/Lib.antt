@@ -39,3 +39,4 @@ pub mod DecidedLaws
 mod SoundSamples
 pub mod HeldLaws
 pub mod GroupLaws
+pub mod Exported

@@ -38,7 +38,7 @@ use Rattle.cat_scope.specs.WellFormed.{IsWhole, IsWellFormed}
 use Rattle.cat_scope.specs.Calls.{Items, Runs, Scoped, variable, variable_of_called, items_of, call_input, env_of, judged, variable_value, call}
 use Rattle.cat_scope.specs.ItemValues.{passed_input, called_value, defined_value, ungiven_value, item_value}
 use Rattle.cat_scope.specs.Running.{entry_at, with_entry, run_items, no_values, asserted, outputs_of, backwards, run_scoped, run_scope, run, run_of}
-use Rattle.cat_scope.proofs.Equations.{and_then_same}
+use Rattle.cat_scope.proofs.Exported.{and_then_same}
 use Rattle.cat_sound.specs.Rests.{TellSame, CallSame}
 use Rattle.cat_sound.proofs.FormTypes.{same_some, same_number, not_true}
 use Rattle.cat_sound.proofs.TargetTypes.{all_more}

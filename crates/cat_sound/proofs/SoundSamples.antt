@@ -18,8 +18,8 @@ use Rattle.cat_scope.specs.Mentions.{items_named, scopes_named}
 use Rattle.cat_scope.specs.WellFormed.{is_defined}
 use Rattle.cat_scope.specs.Same.{Standing, Same}
 use Rattle.cat_scope.specs.Same as same
-use Rattle.cat_scope.proofs.Equations.{equations}
-use Rattle.cat_scope.proofs.Namings.{namings}
+use Rattle.cat_scope.proofs.Exported.{equations}
+use Rattle.cat_scope.proofs.Exported.{namings}
 use Rattle.cat_scope.proofs.Samples.{at, n_in, x_out, whole, def, x}
 use Rattle.cat_sound.specs.Endings.{Allowed, Ended}
 use Rattle.cat_sound.specs.Settled.{IsHeldOf, MayStand, AreSettled}
