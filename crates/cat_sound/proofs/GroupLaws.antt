@@ -129,8 +129,10 @@ first_if true all seen d ds is stand old new =
     part_more (map first_of (groups_from all seen ds)) (map Some ds) (Some d)
     (old (λ key none. stand key none ∙ passed_by key d ds (other_key key seen d (same_key key (key_of d)) refl is none)))
 first_if false all seen d ds is stand old new =
-    inl (first_is all seen d ds stand is,
-    new (λ key none. let parts = not_among key (key_of d) seen (same_key key (key_of d)) refl none in stand key parts.1 ∙ passed_by key d ds parts.0))
+    inl (
+      first_is all seen d ds stand is,
+      new (λ key none. let parts = not_among key (key_of d) seen (same_key key (key_of d)) refl none in stand key parts.1 ∙ passed_by key d ds parts.0),
+    )
 
 first_from : (all : List Numbered) (seen : List Key) (ds : List Numbered) → Stand all seen ds → IsPartOf (map first_of (groups_from all seen ds)) (map Some ds)
 first_from all seen [] stand = tt

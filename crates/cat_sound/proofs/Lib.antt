@@ -34,3 +34,4 @@ pub mod FunctionLaws
 pub mod ScopeLaws
 pub mod HeldLaws
 pub mod GroupLaws
+pub mod OneType

@@ -5,6 +5,7 @@ mod given;
 mod grouping;
 mod judging;
 mod resting;
+mod types;
 mod typing;
 
 pub use given::{each_item_is_judged, given_outputs_stand, given_values_stand};
@@ -19,6 +20,7 @@ pub use resting::{
     expressions_rest_on_what_they_name, functions_are_judged_by_the_rule,
     scopes_are_run_by_the_rule,
 };
+pub use types::typed_expressions_have_one_type;
 pub use typing::{
     conversions_go_on, expressions_go_on, operators_go_on, parts_are_typed, programs_go_on,
     settled_programs_go_on,
