@@ -83,7 +83,7 @@ written word places units few most =
     let long : length (filter is_ascii_digit word) ≤ 9 + places = omega (arith, length-filter is_ascii_digit word, count_split word) in
     record {
       few_places = most;
-      few_digits = digits_value_short (numerals_by_value (λ ds. all_ascii_digits ds ≡ true) tells_all_ascii_digits) (filter is_ascii_digit word) (9 + places) (all_digits word) long
+      few_digits = digits_value_short (numerals_by_value (λ ds. all_ascii_digits ds ≡ true) tells_all_ascii_digits) (filter is_ascii_digit word) (9 + places) (all_digits word) long;
     }
 
 pub decimal_written : (word : List ℕ) → units_of word ≤ 9 → places_of word ≤ 9 → IsNumeral (number_of word) (places_of word)

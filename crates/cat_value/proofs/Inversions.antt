@@ -83,9 +83,12 @@ value_of ds v t u is h = by (value.out-Value v) u refl (rw (has_type-levels ds v
     by (Value-F.List vs) (Ty-F.List e) q g = (vs, by_level q ∙ value.rolls-List vs, subst IsTrue (list_is ds vs e) g)
     by (Value-F.Structure vs) (Ty-F.Structure n) q g =
         (vs, by_level q ∙ value.rolls-Structure vs, subst IsTrue (structure_is ds vs n) g)
-    by (Value-F.Case k content) (Ty-F.Enumeration n) q g =
-        (k, content, by_level q ∙ value.rolls-Case k content,
-         subst IsTrue (tested_Case ds k content (Ty-F.Enumeration n) ∙ case_is ds k content n) g)
+    by (Value-F.Case k content) (Ty-F.Enumeration n) q g = (
+      k,
+      content,
+      by_level q ∙ value.rolls-Case k content,
+      subst IsTrue (tested_Case ds k content (Ty-F.Enumeration n) ∙ case_is ds k content n) g,
+    )
     by _ _ q g = absurd (true≢false (sym g))
 
 pub boolean_value : (ds : Decls) (v : Value) → IsTrue (has_type ds v flat_ty.Boolean) → ValueOf ds Ty-F.Boolean v

@@ -66,7 +66,10 @@ fn types_and_long_lists_are_copied(rt: HostRuntime) -> Result<(), Fail> {
     let alloc = rt.alloc();
     let ty = Ty::List(Boxed::new(alloc, Ty::Structure(7))?);
     let ty = copy_ty(alloc, &ty)?;
-    assert_eq!(rt; format!(in alloc; "{ty:?}")?.as_str(), "List(Boxed { inner: Structure(7) })");
+    assert_eq!(rt;
+        format!(in alloc; "{ty:?}")?.as_str(),
+        "List(Boxed { inner: Structure(7) })"
+    );
     let mut truths = List::new(alloc);
     for n in 0..200_000 {
         truths.push(Value::Boolean(n % 3 == 0))?;
