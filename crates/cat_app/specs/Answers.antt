@@ -1,7 +1,8 @@
 -- The answers of the top call, each with its cause.
-use Rattle.std.specs.Prelude.{◌≡◌, ◌≢◌, ℕ, ℤ, ◌<◌, List, [], ◌∷◌, ◌++◌, length, Some, None, IfSome, IsNone, codes}
+use Rattle.std.specs.Prelude.{◌≡◌, ◌≢◌, ℕ, ℤ, List, [], ◌∷◌, ◌++◌, Some, None, Err, IsNone, codes}
 use Rattle.std.specs.Fmt.{decimal}
-use Rattle.cat_io.specs.Shelf.{Shelved, Rose}
+use Rattle.cat_io.specs.Shelf.{Shelved, Reads}
+use Rattle.cat_io.specs.declared.shelf.ShelfFault.{ShelfFault}
 use Rattle.cat_thin_scope.specs.declared.program.ThinProgram.{ThinProgram}
 use Rattle.cat_value.specs.declared.outcome.Outcome.{Outcome}
 use Rattle.cat_value.specs.declared.outcome.Outcome.TheVariants.{Value, Conflict, NoValue, Fault}
@@ -20,14 +21,15 @@ line words name = words ++ (name ++ 10 ∷ [])
 
 -- the line that refuses a source at a line of it
 abbrev pub refusal_line : List ℕ → ℕ → List ℕ
-refusal_line name number = codes "source refused E0 at " ++ (name ++ (codes ":" ++ (decimal number ++ (codes ":1" ++ 10 ∷ []))))
+refusal_line name number =
+    codes "source refused E0 at " ++ (name ++ (codes ":" ++ (decimal number ++ (codes ":1" ++ 10 ∷ []))))
 
 -- the status of an outcome
 abbrev pub status_of : Outcome → Status
 status_of (Value values) = status.Fine
-status_of (Conflict target places) = status.Conflict
-status_of (NoValue target place) = status.NoValue
-status_of (Fault kind place) = status.Fault
+status_of (Conflict target positions) = status.Conflict
+status_of (NoValue target pos) = status.NoValue
+status_of (Fault kind pos) = status.Fault
 
 -- The replies. The files are as they may have been read, and no name was listed.
 
@@ -82,30 +84,13 @@ pub record IsUsage (words : List (List ℕ)) (old new : Shelved) (text : List �
   pub untouched : new ≡ old
   pub reply : text ≡ line (codes "usage: catala MODE SCOPE FILE [EXTRA] [--cases N]") []
 
--- The shelf's own causes. The name's count rose in this call.
+-- The shelf's own causes.
 
--- there is no file of the name
-pub record IsMissing (request : Request) (old new : Shelved) (text : List ℕ) : Type 0 where
-  pub name : List ℕ
-  pub limit : ℕ
-  pub now : IsReadNow request old name limit
-  pub rose : Rose name old.misses new.misses
-  pub untold : IsNone (old.content name)
-  pub reply : text ≡ line (codes "missing file ") name
-
--- the file can't be read
-pub record IsReadFault (request : Request) (old new : Shelved) (text : List ℕ) : Type 0 where
-  pub name : List ℕ
-  pub limit : ℕ
-  pub now : IsReadNow request old name limit
-  pub rose : Rose name old.faults new.faults
-  pub reply : text ≡ line (codes "read fault ") name
-
--- the file has more bytes than its limit
-pub record IsTooLarge (request : Request) (old new : Shelved) (text : List ℕ) : Type 0 where
-  pub name : List ℕ
-  pub limit : ℕ
-  pub now : IsReadNow request old name limit
-  pub rose : Rose name old.longs new.longs
-  pub longer : IfSome (old.content name) (λ content. limit < length content)
-  pub reply : text ≡ line (codes "too large ") name
+-- the file that is read now was refused by the shelf, and its name's count rose: this line tells of it
+pub record IsRefusedRead (request : Request) (old new : Shelved) (fault : ShelfFault) (words text : List ℕ) : Type 0
+  where
+    pub name : List ℕ
+    pub limit : ℕ
+    pub now : IsReadNow request old name limit
+    pub read : Reads name limit old new (Err fault)
+    pub reply : text ≡ line words name

@@ -1,6 +1,7 @@
 -- What follows from the answers: when a reply comes, and when a fault can't.
 use Rattle.std.specs.Prelude.{◌≡◌, ◌⊎◌, ℕ, ℤ, ◌≤◌, Bool, true, false, List, length, Some, IfSome, IsSomeAnd, ⊤}
 use Rattle.std.specs.Io.KnownBytes.{Appends}
+use Rattle.cat_pos.specs.declared.limits.TheConstants.{MOST_FILE_BYTES, MOST_INPUT_BYTES}
 use Rattle.cat_io.specs.Shelf.{Shelved, Rose}
 use Rattle.cat_io.specs.Sink.{Sunk}
 use Rattle.cat_thin_scope.specs.declared.program.ThinProgram.{ThinProgram}
@@ -8,7 +9,7 @@ use Rattle.cat_thin_scope.specs.Outcome.{thin_outcome}
 use Rattle.cat_thin.specs.Input.{thin_input_of}
 use Rattle.cat_thin.specs.Answer.{thin_answer}
 use Rattle.cat_app.specs.Words.{Request, request_of}
-use Rattle.cat_app.specs.Asked.{IsAccepted, source_limit, input_limit}
+use Rattle.cat_app.specs.Asked.{IsAccepted}
 use Rattle.cat_app.specs.Answers.{status_of}
 use Rattle.cat_app.specs.Table.{MayReply}
 use Rattle.cat_app.specs.declared.status.Status.{Status}
@@ -16,7 +17,8 @@ use Rattle.cat_app.specs.declared.status.Status.TheVariants.{Missing, ReadFault,
 
 -- some count of this name rose
 abbrev pub NameRose : List ℕ → Shelved → Shelved → Type 0
-NameRose name old new = Rose name old.misses new.misses ⊎ (Rose name old.faults new.faults ⊎ Rose name old.longs new.longs)
+NameRose name old new =
+    Rose name old.misses new.misses ⊎ (Rose name old.faults new.faults ⊎ Rose name old.longs new.longs)
 
 -- no count of a file that the words name rose
 abbrev pub NoFileRose : List (List ℕ) → Shelved → Shelved → Type 0
@@ -42,25 +44,29 @@ is_reply status = true
 
 -- each text that may come here fits
 abbrev pub RepliesFit : List (List ℕ) → Shelved → Shelved → ℕ → Type 0
-RepliesFit words old new room = (status : Status) (text : List ℕ) → MayReply words old new status text → length text ≤ room
+RepliesFit words old new room =
+    (status : Status) (text : List ℕ) → MayReply words old new status text → length text ≤ room
 
 -- the words ask for these contents, which the shelf tells and which are within their limits; the scope of the program
 -- is asked for, and the input is read
-pub record IsToldRun (words : List (List ℕ)) (old : Shelved) (request : Request) (program : ThinProgram) (input : List ℤ) : Type 0 where
+pub record IsToldRun (words : List (List ℕ)) (old : Shelved) (request : Request) (program : ThinProgram)
+    (input : List ℤ) : Type 0 where
   pub file : List ℕ
   pub extra : List ℕ
   pub asked : request_of words ≡ Some request
   pub file_told : old.content request.file ≡ Some file
   pub extra_told : old.content request.extra ≡ Some extra
-  pub file_short : length file ≤ source_limit
-  pub extra_short : length extra ≤ input_limit
+  pub file_short : length file ≤ MOST_FILE_BYTES
+  pub extra_short : length extra ≤ MOST_INPUT_BYTES
   pub accepted : IsAccepted request file program
   pub input_read : thin_input_of program extra ≡ Some input
 
 -- the program's outcome is written whole; else the shelf or the sink failed, or memory ran out
 abbrev pub EndsRun : Sunk → Sunk → Request → ThinProgram → List ℤ → Status → Type 0
-EndsRun before after request program input ReadFault = ⊤
-EndsRun before after request program input WriteFault = ⊤
-EndsRun before after request program input Memory = ⊤
-EndsRun before after request program input status =
-    (status ≡ status_of (thin_outcome program input)) × IsSomeAnd (thin_answer program request.file (thin_outcome program input)) (λ text. Appends before.taken after.taken text)
+EndsRun sink sunk request program input ReadFault = ⊤
+EndsRun sink sunk request program input WriteFault = ⊤
+EndsRun sink sunk request program input Memory = ⊤
+EndsRun sink sunk request program input status =
+    (status ≡ status_of (thin_outcome program input))
+    × IsSomeAnd (thin_answer program request.file (thin_outcome program input))
+    (λ text. Appends sink.taken sunk.taken text)

@@ -6,4 +6,5 @@ pub mod Words
 pub mod Status
 -- what follows from it
 pub mod Complete
-pub mod Reading
+-- what the code says on the way
+pub mod Says

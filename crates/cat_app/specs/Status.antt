@@ -1,7 +1,9 @@
 -- The exit status of each way to end.
 use Rattle.std.specs.Prelude.{ℕ}
 use Rattle.cat_app.specs.declared.status.Status.{Status}
-use Rattle.cat_app.specs.declared.status.Status.TheVariants.{Fine, Conflict, NoValue, Fault, Source, Input, Found, Unsettled, Certificate, Usage, Missing, ReadFault, WriteFault, Memory, TooLarge}
+use Rattle.cat_app.specs.declared.status.Status.TheVariants.{Fine, Conflict, NoValue, Fault, Source, Input, Found}
+use Rattle.cat_app.specs.declared.status.Status.TheVariants.{Unsettled, Certificate, Usage, Missing, ReadFault}
+use Rattle.cat_app.specs.declared.status.Status.TheVariants.{WriteFault, Memory, TooLarge}
 
 -- the number that the program ends with
 abbrev pub code_of : Status → ℕ

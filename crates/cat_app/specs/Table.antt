@@ -1,13 +1,13 @@
 -- The table of answers: which texts may come with a status, and what the sink took of them.
-use Rattle.std.specs.Prelude.{◌≡◌, ◌⊎◌, ℕ, ◌<◌, List, length, IfSome, IsSomeAnd}
-use Rattle.std.specs.Io.KnownBytes.{Appends}
+use Rattle.std.specs.Prelude.{◌≡◌, ◌⊎◌, ℕ, List, IsSomeAnd, codes}
 use Rattle.cat_io.specs.Shelf.{Shelved}
-use Rattle.cat_io.specs.Count.{FaultsRose}
-use Rattle.cat_io.specs.Sink.{Sunk, AppendsPrefix}
+use Rattle.cat_io.specs.declared.shelf.ShelfFault.TheVariants as shelf
+use Rattle.cat_io.specs.Sink.{Sunk, Took, FailedAt}
 use Rattle.cat_app.specs.Words.{Request, request_of}
-use Rattle.cat_app.specs.Answers.{IsOutcome, IsRefusedSource, IsNoScope, IsRefusedInput, IsUsage, IsMissing, IsReadFault, IsTooLarge}
+use Rattle.cat_app.specs.Answers.{IsOutcome, IsRefusedSource, IsNoScope, IsRefusedInput, IsUsage, IsRefusedRead}
 use Rattle.cat_app.specs.declared.status.Status.{Status}
-use Rattle.cat_app.specs.declared.status.Status.TheVariants.{Fine, Conflict, NoValue, Source, Input, Usage, Missing, ReadFault, WriteFault, Memory, TooLarge}
+use Rattle.cat_app.specs.declared.status.Status.TheVariants.{Fine, Conflict, NoValue, Source, Input, Usage, Missing}
+use Rattle.cat_app.specs.declared.status.Status.TheVariants.{ReadFault, WriteFault, Memory, TooLarge}
 
 -- the texts that may come with a status to a request
 abbrev pub MayAnswer : Request → Shelved → Shelved → Status → List ℕ → Type 0
@@ -17,32 +17,29 @@ MayAnswer request old new NoValue text = IsOutcome request old new NoValue text
 MayAnswer request old new Source text = IsRefusedSource request old new text
 MayAnswer request old new Input text = IsRefusedInput request old new text
 MayAnswer request old new Usage text = IsNoScope request old new text
-MayAnswer request old new Missing text = IsMissing request old new text
-MayAnswer request old new ReadFault text = IsReadFault request old new text
-MayAnswer request old new TooLarge text = IsTooLarge request old new text
+MayAnswer request old new Missing text = IsRefusedRead request old new shelf.Missing (codes "missing file ") text
+MayAnswer request old new ReadFault text = IsRefusedRead request old new shelf.Failed (codes "read fault ") text
+MayAnswer request old new TooLarge text = IsRefusedRead request old new shelf.Long (codes "too large ") text
 MayAnswer request old new status text = ⊥
 
 -- the texts that may come with a status to some words
 abbrev pub MayReply : List (List ℕ) → Shelved → Shelved → Status → List ℕ → Type 0
-MayReply words old new Usage text = IsUsage words old new text ⊎ IsSomeAnd (request_of words) (λ request. MayAnswer request old new Usage text)
-MayReply words old new status text = IsSomeAnd (request_of words) (λ request. MayAnswer request old new status text)
+MayReply words old new Usage text =
+    IsUsage words old new text ⊎ IsSomeAnd (request_of words) (λ request. MayAnswer request old new Usage text)
+MayReply words old new status text =
+    IsSomeAnd (request_of words) (λ request. MayAnswer request old new status text)
 
--- the sink took the text and nothing else
-pub record Took (old new : Sunk) (text : List ℕ) : Type 0 where
-  pub taken : Appends old.taken new.taken text
-  pub steady : IfSome old.room (λ room. new.faults ≡ old.faults)
-
--- the sink failed at a text that may come, and took a part of its front
-pub record IsWriteFault (words : List (List ℕ)) (old new : Shelved) (before after : Sunk) : Type 0 where
+-- the sink failed at a text that may come, of which it took a front
+pub record IsWriteFault (words : List (List ℕ)) (old new : Shelved) (sink sunk : Sunk) : Type 0 where
   pub status : Status
   pub text : List ℕ
   pub may : MayReply words old new status text
-  pub rose : FaultsRose before.faults after.faults
-  pub full : IfSome before.room (λ room. room < length text)
-  pub front : AppendsPrefix before.taken after.taken text
+  pub failed : FailedAt sink sunk text
 
--- a status is answered only with its text, written whole; `WriteFault` only by the sink's own fault; `Memory` writes nothing
+-- a status is answered only with its text, written whole; `WriteFault` only by the sink's own fault; `Memory` writes
+-- nothing
 abbrev pub Answers : List (List ℕ) → Shelved → Shelved → Sunk → Sunk → Status → Type 0
-Answers words old new before after WriteFault = IsWriteFault words old new before after
-Answers words old new before after Memory = after ≡ before
-Answers words old new before after status = (text : List ℕ) × MayReply words old new status text × Took before after text
+Answers words old new sink sunk WriteFault = IsWriteFault words old new sink sunk
+Answers words old new sink sunk Memory = sunk ≡ sink
+Answers words old new sink sunk status =
+    (text : List ℕ) × MayReply words old new status text × Took sink sunk text

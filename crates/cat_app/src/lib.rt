@@ -1,4 +1,5 @@
-//! All that the program does, over a shelf and a sink that are handed in: words and files go in, one reply and a status come out.
+//! All that the program does, over a shelf and a sink that are handed in: words and files go in, one reply
+//! and a status come out.
 #![tactic(auto)]
 
 mod reply;

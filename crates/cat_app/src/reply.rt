@@ -1,39 +1,27 @@
 // The whole reply to the words, before any of it is written.
-ghost use Rattle.std.specs.Prelude.{◌≡◌, [], IfOk, Some, codes, length, string_bytes};
+ghost use Rattle.std.specs.Prelude.{◌≡◌, [], ℕ, List, IfOk, Some, codes, length, string_bytes};
 ghost use Rattle.cat_io.specs.Stored.{texts_of};
 ghost use Rattle.cat_thin_scope.specs.Outcome.{thin_outcome};
 ghost use Rattle.cat_thin_scope.specs.Given.{IsGivenBy};
-ghost use Rattle.cat_thin.specs.Answer.{thin_answer};
 ghost use Rattle.cat_app.specs.Answers.{line, refusal_line, status_of};
+ghost use Rattle.cat_app.specs.Asked.{IsFile, IsAccepted};
 ghost use Rattle.cat_app.specs.Table.{MayReply};
-ghost use Rattle.cat_app.specs.Reading.{Reads};
+ghost use Rattle.cat_app.specs.Says.{asked_of, Says, SaysFault, SaysOutcome, MaySay};
 
 use crate::Status;
 use crate::request::{RunWords, read_words};
-use cat_io::{Shelf, ShelfFault};
+use cat_io::{Shelf, ShelfFault, read_all};
+use cat_pos::{MOST_FILE_BYTES, MOST_INPUT_BYTES};
 use cat_thin::{SourceRefusal, answer_line, read_numbers, read_source};
 use cat_thin_scope::{ThinNumbers, ThinProgram, run_thin};
 use cat_value::Outcome;
 use std::alloc::{AllocError, Global};
-
-/// A source has at most 4 MiB.
-const SOURCE_LIMIT: usize = 4 * 1024 * 1024;
-
-/// An input has at most 64 MiB.
-const INPUT_LIMIT: usize = 64 * 1024 * 1024;
 
 /// A status and the whole text that is to be written.
 #[derive(Drop)]
 pub struct Reply {
     pub status: Status,
     pub text: String,
-}
-
-/// What a read gave, or the reply that it leads to.
-#[derive(Drop)]
-pub enum Got {
-    Bytes(Vec<u8>),
-    Refused(Reply),
 }
 
 /// The reply to the words, over the files of the shelf.
@@ -46,12 +34,20 @@ pub fn whole_reply<S: Shelf>(
     ensures may { IfOk result (λ reply. MayReply (texts_of words.now)
         (S.state shelf.old) (S.state shelf.new) reply.status (string_bytes reply.text)) }
 {
-    let Some(asked) = read_words(words) else {
-        return usage(alloc);
-    };
-    let file = match read_file(alloc, shelf, asked.file, SOURCE_LIMIT)? {
-        Got::Bytes(bytes) => bytes,
-        Got::Refused(reply) => return Ok(reply),
+    match read_words(words) {
+        Some(asked) => run(alloc, asked, shelf),
+        None => usage(alloc),
+    }
+}
+
+// Reads the source first.
+fn run<S: Shelf>(alloc: Global, asked: RunWords<'_>, shelf: &mut S) -> Result<Reply, AllocError>
+    ensures told { (S.state shelf.new).content ≡ (S.state shelf.old).content }
+    ensures may { IfOk result (MaySay (asked_of asked.entry) (S.state shelf.old) (S.state shelf.new)) }
+{
+    let file = match read_all(alloc, shelf, asked.file, MOST_FILE_BYTES) {
+        Ok(bytes) => bytes,
+        Err(fault) => return refuse_file(alloc, asked.file, fault),
     };
     let program = match read_source(alloc, &file) {
         Ok(program) => program,
@@ -61,12 +57,27 @@ pub fn whole_reply<S: Shelf>(
     if !program.scope.is(asked.scope) {
         return no_scope(alloc, asked.scope);
     }
-    let extra = match read_file(alloc, shelf, asked.extra, INPUT_LIMIT)? {
-        Got::Bytes(bytes) => bytes,
-        Got::Refused(reply) => return Ok(reply),
+    run_on(alloc, asked, &program, shelf)
+}
+
+// Reads the input, once the source is accepted.
+fn run_on<S: Shelf>(
+    alloc: Global,
+    asked: RunWords<'_>,
+    program: &ThinProgram,
+    shelf: &mut S,
+) -> Result<Reply, AllocError>
+    ensures told { (S.state shelf.new).content ≡ (S.state shelf.old).content }
+    ensures may { IfOk result (λ reply. (file : List ℕ)
+        → IsFile (asked_of asked.entry) (S.state shelf.old) file → IsAccepted (asked_of asked.entry) file program.now
+        → MaySay (asked_of asked.entry) (S.state shelf.old) (S.state shelf.new) reply) }
+{
+    let extra = match read_all(alloc, shelf, asked.extra, MOST_INPUT_BYTES) {
+        Ok(bytes) => bytes,
+        Err(fault) => return refuse_file(alloc, asked.extra, fault),
     };
-    match read_numbers(alloc, &extra, &program)? {
-        Some(numbers) => answer(alloc, asked.file, &program, &numbers),
+    match read_numbers(alloc, &extra, program)? {
+        Some(numbers) => answer(alloc, asked.file, program, &numbers),
         None => refuse_input(alloc),
     }
 }
@@ -79,8 +90,7 @@ fn answer(
     numbers: &ThinNumbers,
 ) -> Result<Reply, AllocError>
     requires { length numbers.now ≡ length program.now.inputs }
-    ensures status { IfOk result (λ reply. reply.status ≡ status_of (thin_outcome program.now numbers.now)) }
-    ensures text { IfOk result (λ reply. thin_answer program.now name.now (thin_outcome program.now numbers.now) ≡ Some (string_bytes reply.text)) }
+    ensures says { IfOk result (SaysOutcome program.now name.now (thin_outcome program.now numbers.now)) }
     ensures given { IfOk result (λ reply. IsGivenBy program.now (thin_outcome program.now numbers.now)) }
 {
     let outcome = run_thin(alloc, program, numbers.as_slice())?;
@@ -101,8 +111,8 @@ fn ended(outcome: &Outcome) -> Status
 }
 
 fn usage(alloc: Global) -> Result<Reply, AllocError>
-    ensures status { IfOk result (λ reply. reply.status ≡ Status.Usage) }
-    ensures text { IfOk result (λ reply. string_bytes reply.text ≡ line (codes "usage: catala MODE SCOPE FILE [EXTRA] [--cases N]") []) }
+    ensures { IfOk result (Says Status.Usage
+        (line (codes "usage: catala MODE SCOPE FILE [EXTRA] [--cases N]") [])) }
 {
     let text = String::from_str(alloc, "usage: catala MODE SCOPE FILE [EXTRA] [--cases N]\n")?;
     Ok(Reply {
@@ -112,8 +122,7 @@ fn usage(alloc: Global) -> Result<Reply, AllocError>
 }
 
 fn refuse_source(alloc: Global, name: &str, number: u32) -> Result<Reply, AllocError>
-    ensures status { IfOk result (λ reply. reply.status ≡ Status.Source) }
-    ensures text { IfOk result (λ reply. string_bytes reply.text ≡ refusal_line name.now number) }
+    ensures { IfOk result (Says Status.Source (refusal_line name.now number)) }
 {
     let text = format!(in alloc; "source refused E0 at {name}:{number}:1\n")?;
     Ok(Reply {
@@ -123,8 +132,7 @@ fn refuse_source(alloc: Global, name: &str, number: u32) -> Result<Reply, AllocE
 }
 
 fn no_scope(alloc: Global, name: &str) -> Result<Reply, AllocError>
-    ensures status { IfOk result (λ reply. reply.status ≡ Status.Usage) }
-    ensures text { IfOk result (λ reply. string_bytes reply.text ≡ line (codes "no such scope ") name.now) }
+    ensures { IfOk result (Says Status.Usage (line (codes "no such scope ") name.now)) }
 {
     let text = format!(in alloc; "no such scope {name}\n")?;
     Ok(Reply {
@@ -134,8 +142,7 @@ fn no_scope(alloc: Global, name: &str) -> Result<Reply, AllocError>
 }
 
 fn refuse_input(alloc: Global) -> Result<Reply, AllocError>
-    ensures status { IfOk result (λ reply. reply.status ≡ Status.Input) }
-    ensures text { IfOk result (λ reply. string_bytes reply.text ≡ line (codes "input refused I0") []) }
+    ensures { IfOk result (Says Status.Input (line (codes "input refused I0") [])) }
 {
     let text = String::from_str(alloc, "input refused I0\n")?;
     Ok(Reply {
@@ -144,26 +151,14 @@ fn refuse_input(alloc: Global) -> Result<Reply, AllocError>
     })
 }
 
-fn read_file<S: Shelf>(
-    alloc: Global,
-    shelf: &mut S,
-    name: &str,
-    limit: usize,
-) -> Result<Got, AllocError>
-    ensures told { (S.state shelf.new).content ≡ (S.state shelf.old).content }
-    ensures reads { IfOk result (λ got. Reads name.now limit (S.state shelf.old) (S.state shelf.new) got) }
+fn refuse_file(alloc: Global, name: &str, fault: ShelfFault) -> Result<Reply, AllocError>
+    ensures { IfOk result (SaysFault name.now fault) }
 {
-    let mut bytes = Vec::new(alloc);
-    let (status, text) = match shelf.read(name, limit, &mut bytes) {
-        Ok(()) => return Ok(Got::Bytes(bytes)),
-        Err(ShelfFault::Missing) => {
-            (Status::Missing, format!(in alloc; "missing file {name}\n")?)
-        }
-        Err(ShelfFault::Failed) => {
-            (Status::ReadFault, format!(in alloc; "read fault {name}\n")?)
-        }
-        Err(ShelfFault::Long) => (Status::TooLarge, format!(in alloc; "too large {name}\n")?),
-        Err(ShelfFault::Memory) => return Err(AllocError),
+    let (status, text) = match fault {
+        ShelfFault::Missing => { (Status::Missing, format!(in alloc; "missing file {name}\n")?) }
+        ShelfFault::Failed => { (Status::ReadFault, format!(in alloc; "read fault {name}\n")?) }
+        ShelfFault::Long => (Status::TooLarge, format!(in alloc; "too large {name}\n")?),
+        ShelfFault::Memory => return Err(AllocError),
     };
-    Ok(Got::Refused(Reply { status, text }))
+    Ok(Reply { status, text })
 }

@@ -1,7 +1,8 @@
 // The words of the command line.
 ghost use Rattle.std.specs.Prelude.{◌≡◌, option_map};
 ghost use Rattle.cat_io.specs.Stored.{texts_of};
-ghost use Rattle.cat_app.specs.Words.{request, request_of};
+ghost use Rattle.cat_app.specs.Words.{request_of};
+ghost use Rattle.cat_app.specs.Says.{asked_of};
 ghost use Rattle.cat_app.specs.Words as spec;
 
 /// A run of a scope, with the names of the source and of the input.
@@ -14,7 +15,7 @@ pub struct RunWords<'a> {
 
 /// What the words `run SCOPE FILE [EXTRA]` ask for. EXTRA is standard input where it isn't given.
 pub fn read_words(words: &[String]) -> Option<RunWords<'_>>
-    ensures { option_map (λ asked. request asked.scope.now asked.file.now asked.extra.now) result ≡ request_of (texts_of words.now) }
+    ensures { option_map asked_of result ≡ request_of (texts_of words.now) }
 {
     let (mode, scope, file, extra) = match words {
         [mode, scope, file] => (mode, scope, file, "-"),

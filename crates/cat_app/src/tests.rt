@@ -32,78 +32,21 @@ fn files(alloc: Global, input: &str) -> Result<Vec<(String, Vec<u8>)>, AllocErro
         String::from_str(alloc, "-")?,
         input.as_bytes().to_vec(alloc)?,
     ))?;
-    files.push((String::from_str(alloc, "law.md")?, b"law\n".to_vec(alloc)?))?;
     Ok(files)
 }
 
-fn ends(
-    rt: &impl Abort,
-    alloc: Global,
-    words: &[&str],
-    input: &str,
-    status: Status,
-    text: &str,
-) -> Result<(), Fail> {
-    let words = words_of(alloc, words)?;
-    let mut shelf = PureShelf::new(alloc, files(alloc, input)?);
-    let mut sink = PureSink::new(alloc, 1000)?;
-    let ended = catala(alloc, &words, &mut shelf, &mut sink);
-    assert_eq!(rt; ended, status);
-    assert_eq!(rt; sink.taken(), text.as_bytes());
-    Ok(())
-}
-
-const RUN: &[&str] = &["run", "S", "a.md"];
-
-// The words, the input, and the status and text that they lead to.
-const REPLIES: [(&[&str], &str, Status, &str); 8] = [
-    (RUN, "{\"n\":5}", Status::Fine, "{\"x\":1}\n"),
-    (
-        RUN,
-        "{\"n\":0}",
-        Status::Conflict,
-        "conflict S.x at a.md:6:3 a.md:7:3\n",
-    ),
-    (RUN, "{}", Status::Input, "input refused I0\n"),
-    (
-        &["run", "T", "a.md"],
-        "",
-        Status::Usage,
-        "no such scope T\n",
-    ),
-    (
-        &["run", "S", "law.md"],
-        "",
-        Status::Source,
-        "source refused E0 at law.md:1:1\n",
-    ),
-    (
-        &["run", "S", "b.md"],
-        "",
-        Status::Missing,
-        "missing file b.md\n",
-    ),
-    (
-        &["run", "S", "a.md", "b"],
-        "",
-        Status::Missing,
-        "missing file b\n",
-    ),
-    (
-        &["run", "S", "a\n.md"],
-        "",
-        Status::Usage,
-        "usage: catala MODE SCOPE FILE [EXTRA] [--cases N]\n",
-    ),
-];
-
-// Memory is ample here, so that `Memory` is no answer to any of these.
 #[test]
-fn each_reply_comes_with_its_status(rt: HostRuntime) -> Result<(), Fail> {
+fn a_run_writes_its_outcome_and_its_status(rt: HostRuntime) -> Result<(), Fail> {
     let alloc = rt.alloc();
-    for (words, input, status, text) in REPLIES {
-        ends(&rt, alloc, words, input, status, text)?;
-    }
+    let words = words_of(alloc, &["run", "S", "a.md"])?;
+    let mut shelf = PureShelf::new(alloc, files(alloc, "{\"n\":0}")?);
+    let mut sink = PureSink::new(alloc, 100)?;
+    let ended = catala(alloc, &words, &mut shelf, &mut sink);
+    assert_eq!(rt; ended, Status::Conflict);
+    assert_eq!(rt;
+        sink.taken(),
+        b"conflict S.x at a.md:6:3 a.md:7:3\n".as_slice()
+    );
     Ok(())
 }
 

@@ -8,11 +8,11 @@ use Rattle.cat_date.specs.declared.rounding.Rounding.TheVariants.{Up, Down, Refu
 use Rattle.cat_date.specs.Calendar.{CivilDate, civil_of, day_number, in_range}
 use Rattle.cat_date.specs.Span.{SpanOf}
 
--- the place of the month so many months after a date's, where January of the year 0 has the place 0
+-- the index of the month so many months after a date's, where January of the year 0 has the index 0
 abbrev pub month_index : CivilDate → ℤ → ℤ
 month_index date months = pos 12 *ℤ date.year +ℤ pos (date.month - 1) +ℤ months
 
--- the place of a month of the years 1 to 9999
+-- the index of a month of the years 1 to 9999
 abbrev pub is_month_index : ℤ → Bool
 is_month_index (pos i) = nat_le 12 i && nat_lt i 120_000
 is_month_index (negsuc i) = false
@@ -33,7 +33,8 @@ day_of_month r y m d =
 unfoldable pub date_plus_months : CivilDate → ℤ → Rounding → Result ℤ DateFault
 date_plus_months date months r =
     let i = month_index date months in
-    if is_month_index i then day_of_month r (pos (unsigned_abs i / 12)) (unsigned_abs i % 12 + 1) date.day else Err Overflow
+    if is_month_index i then day_of_month r (pos (unsigned_abs i / 12))
+    (unsigned_abs i % 12 + 1) date.day else Err Overflow
 
 -- what the months gave, with the days added
 abbrev pub plus_days : Result ℤ DateFault → ℤ → Result ℤ DateFault

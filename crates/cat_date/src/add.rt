@@ -29,7 +29,7 @@ fn plus_months(date: Date, months: i64, rounding: Rounding) -> Result<Day, DateF
     in_month(index / 12, index % 12 + 1, date.day() as u32, rounding)
 }
 
-/// The place of the month so many months after the date's, where January of the year 0 has the place 0.
+/// The index of the month so many months after the date's, where January of the year 0 has the index 0.
 fn index_after(date: Date, months: i64) -> i128
     ensures { result ≡ month_index (record { year = date.year; month = date.month; day = date.day }) months }
 {

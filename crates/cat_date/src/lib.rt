@@ -6,7 +6,8 @@ mod day;
 mod fault;
 mod laws;
 mod rounding;
-mod span;mod text;
+mod span;
+mod text;
 
 pub use add::add_span;
 pub use day::{Day, cmp_day, day_of, days_between, month, number, year};

@@ -1,5 +1,7 @@
 -- How gathering goes on from one part to the next, whatever the files hold that aren't taken yet.
-use Rattle.std.proofs.Common.{◌≡◌, ◌∙◌, ap, sym, subst, ℕ, zero, suc, ◌+◌, ◌-◌, ◌<◌, ◌≤◌, Bool, true, false, cond, ◌||◌, List, [], ◌∷◌, ◌++◌, length, drop, reverse, refl, arith, append_assoc, length-append, le-leb, Some, None, Option, Ok, Err, Result, ⊎_elim, ◌⊎◌}
+use Rattle.std.proofs.Common.{◌≡◌, ◌∙◌, ap, sym, subst, ℕ, zero, suc, ◌+◌, ◌-◌, ◌<◌, ◌≤◌, Bool, true, false, cond, ◌||◌}
+use Rattle.std.proofs.Common.{List, [], ◌∷◌, ◌++◌, length, drop, reverse, refl, arith, append_assoc, length-append}
+use Rattle.std.proofs.Common.{le-leb, Some, None, Option, Ok, Err, Result, ⊎_elim, ◌⊎◌}
 use Rattle.std.proofs.lemmas.List.{reverse-append}
 use Rattle.std.proofs.lemmas.Bool.{cases_Bool, false≢true}
 use Rattle.std.proofs.lemmas.Slice.Eq.{bytes_eq-Decides}
@@ -11,16 +13,22 @@ use Rattle.cat_weave.specs.Woven.{woven}
 use Rattle.cat_weave.specs.declared.part.Heading.{Heading as Headed}
 use Rattle.cat_weave.specs.declared.part.Part.{Part}
 use Rattle.cat_weave.specs.declared.part.Part.TheVariants.{Code, Heading, Include}
-use Rattle.cat_gather.specs.Gathered.{Contents, Gathered, gathered_none, limit_after, Outcome, Whole, Refused, Including, gather_parts, woven_as, put_in_place, take_file, is_among, twice, included, gathered}
+use Rattle.cat_gather.specs.Gathered.{Contents, Gathered, gathered_none, source_of, limit_after, Ending, Whole, Refused}
+use Rattle.cat_gather.specs.Gathered.{woven_as, is_among, twice}
 use Rattle.cat_gather.specs.Causes.{AreTold, AreToldBut, EndsIn, ComesTo, HasCause}
-use Rattle.cat_gather.specs.UnderWay.{Weaves, Takes, IsRefusedTake, SameOn, GoesOn, AreToCome}
+use Rattle.cat_gather.specs.inside.Worklist.{Leading, gather_parts, put_in_front, take_file, include_with}
+use Rattle.cat_gather.specs.inside.UnderWay.{Weaves, Takes, IsRefusedTake, SameOn, GoesOn, AreToCome}
+use Rattle.cat_gather.specs.declared.source.Source.{Source}
 use Rattle.cat_gather.specs.declared.source.GatherRefusal.{GatherRefusal}
-use Rattle.cat_gather.specs.declared.source.GatherRefusal.TheVariants.{NotUtf8, FenceOpen, IncludeTwice, Missing, ReadFault, TooLarge, Memory}
+use Rattle.cat_gather.specs.declared.source.GatherRefusal.TheVariants.{NotUtf8, FenceOpen, IncludeTwice, Missing}
+use Rattle.cat_gather.specs.declared.source.GatherRefusal.TheVariants.{ReadFault, TooLarge, Memory}
+use Rattle.cat_gather.proofs.WorklistLemmas.{include_taken, include_full, include_free, gathered-by_list}
 
 -- parts to come, last first
-pub moved : (left done old new : List Part) (part : Part) → old ≡ left ++ part ∷ [] → new ≡ done ++ part ∷ [] → left ++ reverse new ≡ old ++ reverse done
-moved left done old new part was is =
-    rw (was, is, reverse-append done (part ∷ [])) (sym (append_assoc left (part ∷ []) (reverse done)))
+pub moved : (left front old new : List Part) (part : Part) → old ≡ left ++ part ∷ [] → new ≡ front ++ part ∷ [] →
+    left ++ reverse new ≡ old ++ reverse front
+moved left front old new part was is =
+    rw (was, is, reverse-append front (part ∷ [])) (sym (append_assoc left (part ∷ []) (reverse front)))
 
 pub reverse_push : (parts : List Part) (part : Part) → reverse (parts ++ part ∷ []) ≡ part ∷ reverse parts
 reverse_push parts part = reverse-append parts (part ∷ [])
@@ -32,35 +40,53 @@ same_name n name = (bytes_eq-Decides n name).0
 own_name : (name : List ℕ) → bytes_eq name name ≡ true
 own_name name = (bytes_eq-Decides name name).1 refl
 
-pub drop_get : (names : List (List ℕ)) (i : ℕ) (name : List ℕ) → Some name ≡ slice_get names i → drop i names ≡ name ∷ drop (i + 1) names
+pub drop_get : (names : List (List ℕ)) (i : ℕ) (name : List ℕ) → Some name ≡ slice_get names i →
+    drop i names ≡ name ∷ drop (i + 1) names
 drop_get [] i name at = cc
 drop_get (n ∷ names) zero name at = let same : name ≡ n = cc in rw same refl
-drop_get (n ∷ names) (suc i) name at = let next : suc i + 1 ≡ suc (i + 1) = omega arith in rw next (drop_get names i name at)
+drop_get (n ∷ names) (suc i) name at =
+    let next : suc i + 1 ≡ suc (i + 1) = omega arith in rw next (drop_get names i name at)
 
-pub among_yes : (name n : List ℕ) (names : List (List ℕ)) (i : ℕ) → Some n ≡ slice_get names i → bytes_eq n name ≡ true → is_among name (drop i names) ≡ true
+pub among_yes : (name n : List ℕ) (names : List (List ℕ)) (i : ℕ) → Some n ≡ slice_get names i →
+    bytes_eq n name ≡ true → is_among name (drop i names) ≡ true
 among_yes name n names i at same = rw (drop_get names i n at, same) refl
 
-pub among_no : (name n : List ℕ) (names : List (List ℕ)) (i : ℕ) → Some n ≡ slice_get names i → bytes_eq n name ≡ false → is_among name (drop i names) ≡ is_among name (drop (i + 1) names)
+pub among_no : (name n : List ℕ) (names : List (List ℕ)) (i : ℕ) → Some n ≡ slice_get names i →
+    bytes_eq n name ≡ false → is_among name (drop i names) ≡ is_among name (drop (i + 1) names)
 among_no name n names i at other = rw (drop_get names i n at, other) refl
 
-pub named_at : (names : List (List ℕ)) (i : ℕ) (name : List ℕ) → Some name ≡ slice_get names i → name ≡ slice_index_or names i []
+pub named_at : (names : List (List ℕ)) (i : ℕ) (name : List ℕ) → Some name ≡ slice_get names i →
+    name ≡ slice_index_or names i []
 named_at [] i name at = cc
 named_at (n ∷ names) zero name at = cc
 named_at (n ∷ names) (suc i) name at = named_at names i name at
 
-among_front : (m name : List ℕ) (names : List (List ℕ)) → is_among m names ≡ true → is_among m (names ++ name ∷ []) ≡ true
+among_front : (m name : List ℕ) (names : List (List ℕ)) → is_among m names ≡ true →
+    is_among m (names ++ name ∷ []) ≡ true
 among_front m name [] among = absurd (false≢true among)
 among_front m name (n ∷ names) among =
-    elim (bytes_eq n m) as (λ v. (v || is_among m names) ≡ true → (v || is_among m (names ++ name ∷ [])) ≡ true) [ true ↦ (λ _. refl) | false ↦ (λ rest. among_front m name names rest) ] among
+    elim (bytes_eq n m) as (λ v. (v || is_among m names) ≡ true →
+    (v || is_among m (names ++ name ∷ [])) ≡ true) [
+      | true ↦ (λ _. refl)
+      | false ↦
+          (λ rest. among_front m name names rest)
+    ] among
 
 among_last : (name : List ℕ) (names : List (List ℕ)) → is_among name (names ++ name ∷ []) ≡ true
 among_last name [] = rw (own_name name) refl
-among_last name (n ∷ names) = elim (bytes_eq n name) as (λ v. (v || is_among name (names ++ name ∷ [])) ≡ true) [ true ↦ refl | false ↦ among_last name names ]
+among_last name (n ∷ names) =
+    elim (bytes_eq n name) as (λ v. (v || is_among name (names ++ name ∷ [])) ≡ true) [
+      | true ↦ refl
+      | false ↦
+          among_last name names
+    ]
 
 -- a file is another one than those taken
-other_name : (m name : List ℕ) (files : List (List ℕ)) → is_among name files ≡ false → is_among m files ≡ true → bytes_eq m name ≡ false
+other_name : (m name : List ℕ) (files : List (List ℕ)) → is_among name files ≡ false → is_among m files ≡ true →
+    bytes_eq m name ≡ false
 other_name m name files fresh among =
-    ⊎_elim (λ same. absurd (false≢true (sym fresh ∙ subst (λ n. is_among n files ≡ true) (same_name m name same) among))) (λ other. other) (cases_Bool (bytes_eq m name))
+    ⊎_elim (λ same. absurd (false≢true (sym fresh ∙ subst (λ n. is_among n files ≡ true) (same_name m name same)
+    among))) (λ other. other) (cases_Bool (bytes_eq m name))
 
 -- contents with other content of one file
 abbrev put : List ℕ → Option (List ℕ) → Contents → Contents
@@ -69,21 +95,27 @@ put name content contents n = cond (bytes_eq n name) content (contents n)
 put_own : (name : List ℕ) (content : Option (List ℕ)) (contents : Contents) → put name content contents name ≡ content
 put_own name content contents = rw (own_name name) refl
 
-put_same : (files : List (List ℕ)) (name : List ℕ) (content : Option (List ℕ)) (contents : Contents) → is_among name files ≡ false → SameOn files contents (put name content contents)
+put_same : (files : List (List ℕ)) (name : List ℕ) (content : Option (List ℕ)) (contents : Contents) →
+    is_among name files ≡ false → SameOn files contents (put name content contents)
 put_same files name content contents fresh m among = rw (other_name m name files fresh among) refl
 
-told_put : (told content : Option (List ℕ)) (bytes : List ℕ) (b : Bool) → (b ≡ true → IfSome told (λ c. bytes ≡ c)) → IfSome told (λ c. content ≡ Some c) → IfSome told (λ c. cond b (Some bytes) content ≡ Some c)
+told_put : (told content : Option (List ℕ)) (bytes : List ℕ) (b : Bool) → (b ≡ true → IfSome told (λ c. bytes ≡ c)) →
+    IfSome told (λ c. content ≡ Some c) → IfSome told (λ c. cond b (Some bytes) content ≡ Some c)
 told_put None content bytes b read was = tt
 told_put (Some c) content bytes true read was = ap Some (read refl)
 told_put (Some c) content bytes false read was = was
 
-agrees_put : (told contents : Contents) (name bytes : List ℕ) → IfSome (told name) (λ c. bytes ≡ c) → AreTold told contents → AreTold told (put name (Some bytes) contents)
+agrees_put : (told contents : Contents) (name bytes : List ℕ) → IfSome (told name) (λ c. bytes ≡ c) →
+    AreTold told contents → AreTold told (put name (Some bytes) contents)
 agrees_put told contents name bytes read agrees n =
-    told_put (told n) (contents n) bytes (bytes_eq n name) (λ same. subst (λ (m : List ℕ). IfSome (told m) (λ c. bytes ≡ c)) (sym (same_name n name same)) read) (agrees n)
+    told_put (told n) (contents n) bytes (bytes_eq n name) (λ same. subst
+    (λ (m : List ℕ). IfSome (told m) (λ c. bytes ≡ c)) (sym (same_name n name same)) read) (agrees n)
 
-agrees_but : (told contents : Contents) (name : List ℕ) → AreTold told contents → AreToldBut name told (put name None contents)
+agrees_but : (told contents : Contents) (name : List ℕ) → AreTold told contents →
+    AreToldBut name told (put name None contents)
 agrees_but told contents name agrees n other =
-    let differs : bytes_eq n name ≡ false = ⊎_elim (λ same. absurd (other (same_name n name same))) (λ no. no) (cases_Bool (bytes_eq n name)) in
+    let differs : bytes_eq n name ≡ false =
+    ⊎_elim (λ same. absurd (other (same_name n name same))) (λ no. no) (cases_Bool (bytes_eq n name)) in
     rw differs (agrees n)
 
 pub told_itself : (content : Option (List ℕ)) → IfSome content (λ c. content ≡ Some c)
@@ -91,143 +123,167 @@ told_itself None = tt
 told_itself (Some c) = refl
 
 -- gathering goes on the same
-pub goes_on_same : (told : Contents) (main : List ℕ) (files : List (List ℕ)) (on more : Contents → Outcome) → ((c : Contents) → on c ≡ more c) → GoesOn told main files on → GoesOn told main files more
-goes_on_same told main files on more same g = record { contents = g.contents; agrees = g.agrees; goes_on = λ other held. g.goes_on other held ∙ same other }
+pub goes_on_same : (told : Contents) (main : List ℕ) (files : List (List ℕ)) (on more : Contents → Ending Source) →
+    ((c : Contents) → on c ≡ more c) → GoesOn told main files on → GoesOn told main files more
+goes_on_same told main files on more same g =
+    record { contents = g.contents; agrees = g.agrees; goes_on = λ other held. g.goes_on other held ∙ same other }
 
-pub ends_in : (told : Contents) (main : List ℕ) (files : List (List ℕ)) (on : Contents → Outcome) (outcome : Outcome) → ((c : Contents) → on c ≡ outcome) → GoesOn told main files on → EndsIn told main outcome
-ends_in told main files on outcome same g = (g.contents, g.agrees, g.goes_on g.contents (λ n _. refl) ∙ same g.contents)
+pub ends_in : (told : Contents) (main : List ℕ) (files : List (List ℕ)) (on : Contents →
+    Ending Source) (ending : Ending Source) → ((c : Contents) → on c ≡ ending) → GoesOn told main files on →
+    EndsIn told main ending
+ends_in told main files on ending same g = (g.contents, g.agrees, g.goes_on g.contents (λ n _. refl) ∙ same g.contents)
 
-pub begins : (told : Contents) (main : List ℕ) → GoesOn told main [] (λ c. take_file (included c 63) main [] gathered_none (c main))
-unfolding gathered
-begins told main = record { contents = told; agrees = λ n. told_itself (told n); goes_on = λ other held. refl }
+pub begins : (told : Contents) (main : List ℕ) →
+    GoesOn told main [] (λ c. take_file (include_with c 63) main [] gathered_none (c main))
+begins told main = record {
+  contents = told;
+  agrees = λ n. told_itself (told n);
+  goes_on = λ other held. gathered-by_list other main;
+}
 
-pub whole_cause : (old new : Shelved) (main : List ℕ) (g : Gathered) → AreToCome old.content main g [] → HasCause old new main (Ok (record { files = g.files; pieces = g.pieces; headings = g.headings }))
+pub whole_cause : (old new : Shelved) (main : List ℕ) (g : Gathered) → new ≡ old → AreToCome old.content main g [] →
+    HasCause old new main (Ok (source_of g))
 unfolding gather_parts
-whole_cause old new main g come = ends_in old.content main g.files _ (Whole (record { files = g.files; pieces = g.pieces; headings = g.headings })) (λ c. refl) come
+whole_cause old new main g same come =
+    (same, ends_in old.content main g.files _ (Whole (source_of g)) (λ c. refl) come)
 
-pub code_goes_on : (told : Contents) (main : List ℕ) (g : Gathered) (pieces : List Piece) (piece : Piece) (part : Part) (parts : List Part) → part ≡ Code piece → pieces ≡ g.pieces ++ piece ∷ []
+pub code_goes_on : (told : Contents) (main : List ℕ) (g : Gathered) (pieces : List Piece) (piece : Piece)
+    (part : Part) (parts : List Part) → part ≡ Code piece → pieces ≡ g.pieces ++ piece ∷ []
     → AreToCome told main g (part ∷ parts) → AreToCome told main (record g { pieces = pieces }) parts
 unfolding gather_parts
 code_goes_on told main g pieces piece part parts is_part is come = rw is (rw is_part at come)
 
-pub heading_goes_on : (told : Contents) (main : List ℕ) (g : Gathered) (headings : List Headed) (count level : ℕ) (text : List ℕ) (pos : Pos) (part : Part) (parts : List Part) → part ≡ Heading level text pos → count ≡ length g.pieces
-    → headings ≡ g.headings ++ record { pieces = count; level = level; text = text; pos = pos } ∷ [] → AreToCome told main g (part ∷ parts) → AreToCome told main (record g { headings = headings }) parts
+pub heading_goes_on : (told : Contents) (main : List ℕ) (g : Gathered) (headings : List Headed) (count level : ℕ)
+    (text : List ℕ) (pos : Pos) (part : Part) (parts : List Part) → part ≡ Heading level text pos →
+    count ≡ length g.pieces
+    → headings ≡ g.headings ++ record { pieces = count; level = level; text = text; pos = pos } ∷ [] →
+    AreToCome told main g (part ∷ parts) → AreToCome told main (record g { headings = headings }) parts
 unfolding gather_parts
-heading_goes_on told main g headings count level text pos part parts is_part counted is come = rw (is, counted) (rw is_part at come)
+heading_goes_on told main g headings count level text pos part parts is_part counted is come =
+    rw (is, counted) (rw is_part at come)
 
-pub include_goes_on : (told : Contents) (main : List ℕ) (g : Gathered) (path : List ℕ) (pos : Pos) (parts : List Part) → AreToCome told main g (Include path pos ∷ parts) → GoesOn told main g.files (λ c. included c (64 - length g.files) path pos parts g)
+pub include_goes_on : (told : Contents) (main : List ℕ) (g : Gathered) (path : List ℕ) (pos : Pos)
+    (parts : List Part) → AreToCome told main g (Include path pos ∷ parts) →
+    GoesOn told main g.files (λ c. include_with c (64 - length g.files) path pos parts g)
 unfolding gather_parts
 include_goes_on told main g path pos parts come = come
 
--- an include by what is taken
-included_taken : (c : Contents) (left : ℕ) (path : List ℕ) (pos : Pos) (parts : List Part) (g : Gathered) → is_among path g.files ≡ true → included c left path pos parts g ≡ twice pos g
-unfolding included
-included_taken c zero path pos parts g taken = refl
-included_taken c (suc left) path pos parts g taken = rw taken refl
+pub twice_cause : (old : Shelved) (main path name : List ℕ) (pos : Pos) (parts : List Part) (g : Gathered) →
+    (64 ≤ length g.files) ⊎ (is_among path g.files ≡ true) → name ≡ slice_index_or g.files pos.file [] →
+    GoesOn old.content main g.files (λ c. include_with c (64 - length g.files) path pos parts g) →
+    HasCause old old main (Err (IncludeTwice name pos))
+twice_cause old main path name pos parts g why named on =
+    rw named (
+      refl,
+      ends_in old.content main g.files _ (twice pos g)
+          (λ c. ⊎_elim (λ full. include_full c path pos parts g (64 - length g.files) (omega arith))
+          (λ taken. include_taken c (64 - length g.files) path pos parts g taken) why) on,
+    )
 
-included_full : (c : Contents) (path : List ℕ) (pos : Pos) (parts : List Part) (g : Gathered) (left : ℕ) → left ≡ 0 → included c left path pos parts g ≡ twice pos g
-unfolding included
-included_full c path pos parts g zero full = refl
-included_full c path pos parts g (suc left) full = absurd (omega arith)
-
-included_free : (c : Contents) (left more : ℕ) (path : List ℕ) (pos : Pos) (parts : List Part) (g : Gathered) → left ≡ suc more → is_among path g.files ≡ false → included c left path pos parts g ≡ take_file (included c more) path parts g (c path)
-unfolding included
-included_free c zero more path pos parts g room fresh = absurd (omega arith)
-included_free c (suc left) more path pos parts g room fresh =
-    let same : left ≡ more = omega arith in
-    rw (fresh, same) refl
-
-pub twice_cause : (old new : Shelved) (main path name : List ℕ) (pos : Pos) (parts : List Part) (g : Gathered) → (64 ≤ length g.files) ⊎ (is_among path g.files ≡ true) → name ≡ slice_index_or g.files pos.file []
-    → GoesOn old.content main g.files (λ c. included c (64 - length g.files) path pos parts g) → HasCause old new main (Err (IncludeTwice name pos))
-twice_cause old new main path name pos parts g why named on =
-    rw named (ends_in old.content main g.files _ (twice pos g)
-    (λ c. ⊎_elim (λ full. included_full c path pos parts g (64 - length g.files) (omega arith)) (λ taken. included_taken c (64 - length g.files) path pos parts g taken) why) on)
-
-pub free_goes_on : (told : Contents) (main path : List ℕ) (pos : Pos) (parts : List Part) (g : Gathered) → length g.files < 64 → is_among path g.files ≡ false
-    → GoesOn told main g.files (λ c. included c (64 - length g.files) path pos parts g) → GoesOn told main g.files (λ c. take_file (included c (63 - length g.files)) path parts g (c path))
+pub free_goes_on : (told : Contents) (main path : List ℕ) (pos : Pos) (parts : List Part) (g : Gathered) →
+    length g.files < 64 → is_among path g.files ≡ false
+    → GoesOn told main g.files (λ c. include_with c (64 - length g.files) path pos parts g) →
+    GoesOn told main g.files (λ c. take_file (include_with c (63 - length g.files)) path parts g (c path))
 free_goes_on told main path pos parts g room fresh on =
-    goes_on_same told main g.files _ (λ c. take_file (included c (63 - length g.files)) path parts g (c path))
-    (λ c. included_free c (64 - length g.files) (63 - length g.files) path pos parts g (omega arith) fresh) on
+    goes_on_same told main g.files _ (λ c. take_file (include_with c (63 - length g.files)) path parts g (c path))
+    (λ c. include_free c (64 - length g.files) (63 - length g.files) path pos parts g (omega arith) fresh) on
 
 -- a file that was read
-file_read : (include : Including) (name bytes : List ℕ) (parts : List Part) (g : Gathered) (content : Option (List ℕ)) → content ≡ Some bytes → length bytes ≤ limit_after g.bytes
-    → take_file include name parts g content ≡ put_in_place include name (length bytes) parts g (woven_as name (woven bytes (length g.files)))
+file_read : (include : Leading) (name bytes : List ℕ) (parts : List Part) (g : Gathered) (content : Option (List ℕ)) →
+    content ≡ Some bytes → length bytes ≤ limit_after g.bytes
+    → take_file include name parts g content ≡ put_in_front include name (length bytes) parts g
+    (woven_as name (woven bytes (length g.files)))
 file_read include name bytes parts g content is short = rw (is, le-leb (length bytes) (limit_after g.bytes) short) refl
 
-read_goes_on : (told : Contents) (main name bytes : List ℕ) (g : Gathered) (parts : List Part) → is_among name g.files ≡ false → Gives (told name) (limit_after g.bytes) bytes
-    → GoesOn told main g.files (λ c. take_file (included c (63 - length g.files)) name parts g (c name))
-    → GoesOn told main (g.files ++ name ∷ []) (λ c. put_in_place (included c (63 - length g.files)) name (length bytes) parts g (woven_as name (woven bytes (length g.files))))
+read_goes_on : (told : Contents) (main name bytes : List ℕ) (g : Gathered) (parts : List Part) →
+    is_among name g.files ≡ false → Gives (told name) (limit_after g.bytes) bytes
+    → GoesOn told main g.files (λ c. take_file (include_with c (63 - length g.files)) name parts g (c name))
+    → GoesOn told main (g.files ++ name ∷ []) (λ c. put_in_front (include_with c (63 - length g.files)) name
+    (length bytes) parts g (woven_as name (woven bytes (length g.files))))
 read_goes_on told main name bytes g parts fresh gives on = record {
   contents = put name (Some bytes) on.contents;
   agrees = agrees_put told on.contents name bytes gives.content on.agrees;
   goes_on = λ other held.
-      let held_before : SameOn g.files on.contents other = λ m among. held m (among_front m name g.files among) ∙ put_same g.files name (Some bytes) on.contents fresh m among in
+      let held_before : SameOn g.files on.contents other =
+      λ m among. held m (among_front m name g.files among) ∙ put_same g.files name (Some bytes) on.contents fresh
+      m among in
       let has : other name ≡ Some bytes = held name (among_last name g.files) ∙ put_own name (Some bytes) on.contents in
-      on.goes_on other held_before ∙ file_read (included other (63 - length g.files)) name bytes parts g (other name) has gives.short;
+      on.goes_on other held_before ∙ file_read (include_with other (63 - length g.files)) name bytes parts g
+      (other name) has gives.short;
 }
 
-pub take_goes_on : (told : Contents) (main name : List ℕ) (old new : Gathered) (parts after : List Part) → is_among name old.files ≡ false → Takes told name old parts new after
-    → GoesOn told main old.files (λ c. take_file (included c (63 - length old.files)) name parts old (c name)) → AreToCome told main new after
+pub take_goes_on : (told : Contents) (main name : List ℕ) (old new : Gathered) (parts after : List Part) →
+    is_among name old.files ≡ false → Takes told name old parts new after
+    → GoesOn told main old.files (λ c. take_file (include_with c (63 - length old.files)) name parts old (c name)) →
+    AreToCome told main new after
 take_goes_on told main name old new parts after fresh takes on =
-    let left : 64 - length (old.files ++ name ∷ []) ≡ 63 - length old.files = omega (arith, length-append old.files (name ∷ [])) in
+    let left : 64 - length (old.files ++ name ∷ []) ≡ 63 - length old.files =
+    omega (arith, length-append old.files (name ∷ [])) in
     rw (takes.gathered_is, takes.parts_are)
     (goes_on_same told main (old.files ++ name ∷ []) _ _ (λ c. rw (takes.weaves.parts, left) refl)
     (read_goes_on told main name takes.bytes old parts fresh takes.weaves.read on))
 
-refused_cause : (told : Contents) (main name bytes : List ℕ) (g : Gathered) (parts : List Part) (refusal : GatherRefusal) → is_among name g.files ≡ false → Weaves told name g bytes (Err refusal)
-    → GoesOn told main g.files (λ c. take_file (included c (63 - length g.files)) name parts g (c name)) → EndsIn told main (Refused refusal)
+refused_cause : (told : Contents) (main name bytes : List ℕ) (g : Gathered) (parts : List Part)
+    (refusal : GatherRefusal) → is_among name g.files ≡ false → Weaves told name g bytes (Err refusal)
+    → GoesOn told main g.files (λ c. take_file (include_with c (63 - length g.files)) name parts g (c name)) →
+    EndsIn told main (Refused refusal)
 refused_cause told main name bytes g parts refusal fresh weaves on =
-    ends_in told main (g.files ++ name ∷ []) _ (Refused refusal) (λ c. rw weaves.parts refl) (read_goes_on told main name bytes g parts fresh weaves.read on)
+    ends_in told main (g.files ++ name ∷ []) _ (Refused refusal) (λ c. rw weaves.parts refl)
+    (read_goes_on told main name bytes g parts fresh weaves.read on)
 
 comes_to : (told : Contents) (main name : List ℕ) (g : Gathered) (parts : List Part) → is_among name g.files ≡ false
-    → GoesOn told main g.files (λ c. take_file (included c (63 - length g.files)) name parts g (c name)) → ComesTo told main name g.bytes
+    → GoesOn told main g.files (λ c. take_file (include_with c (63 - length g.files)) name parts g (c name)) →
+    ComesTo told main name g.bytes
 comes_to told main name g parts fresh on =
     let without = put name None on.contents in (
       without,
       agrees_but told on.contents name on.agrees,
       on.goes_on without (put_same g.files name None on.contents fresh)
-          ∙ ap (λ (content : Option (List ℕ)). take_file (included without (63 - length g.files)) name parts g content) (put_own name None on.contents),
+          ∙ ap (λ (content : Option (List ℕ)). take_file (include_with without (63 - length g.files)) name parts g
+          content) (put_own name None on.contents),
     )
 
-pub take_cause : (old new : Shelved) (main name : List ℕ) (g : Gathered) (parts : List Part) (refusal : GatherRefusal) → is_among name g.files ≡ false
-    → GoesOn old.content main g.files (λ c. take_file (included c (63 - length g.files)) name parts g (c name)) → IsRefusedTake name g old new refusal → HasCause old new main (Err refusal)
-take_cause old new main name g parts (NotUtf8 n pos) fresh on why = refused_cause old.content main name why.0 g parts (NotUtf8 n pos) fresh why.1 on
-take_cause old new main name g parts (FenceOpen n pos) fresh on why = refused_cause old.content main name why.0 g parts (FenceOpen n pos) fresh why.1 on
+pub take_cause : (old new : Shelved) (main name : List ℕ) (g : Gathered) (parts : List Part) (refusal : GatherRefusal) →
+    is_among name g.files ≡ false →
+    GoesOn old.content main g.files (λ c. take_file (include_with c (63 - length g.files)) name parts g (c name)) →
+    IsRefusedTake name g old new refusal → HasCause old new main (Err refusal)
+take_cause old new main name g parts (NotUtf8 n pos) fresh on why =
+    (why.1, refused_cause old.content main name why.0 g parts (NotUtf8 n pos) fresh why.2 on)
+take_cause old new main name g parts (FenceOpen n pos) fresh on why =
+    (why.1, refused_cause old.content main name why.0 g parts (FenceOpen n pos) fresh why.2 on)
 take_cause old new main name g parts (IncludeTwice n pos) fresh on why = absurd why
-take_cause old new main name g parts (Missing n) fresh on why = rw why.0 (why.1, why.2, (g.bytes, comes_to old.content main name g parts fresh on))
-take_cause old new main name g parts (ReadFault n) fresh on why = rw why.0 (why.1, (g.bytes, comes_to old.content main name g parts fresh on))
-take_cause old new main name g parts (TooLarge n) fresh on why = rw why.0 (why.1, (g.bytes, comes_to old.content main name g parts fresh on, why.2))
-take_cause old new main name g parts Memory fresh on why = tt
+take_cause old new main name g parts (Missing n) fresh on why =
+    rw why.0 (g.bytes, comes_to old.content main name g parts fresh on, why.1)
+take_cause old new main name g parts (ReadFault n) fresh on why =
+    rw why.0 (g.bytes, comes_to old.content main name g parts fresh on, why.1)
+take_cause old new main name g parts (TooLarge n) fresh on why =
+    rw why.0 (g.bytes, comes_to old.content main name g parts fresh on, why.1)
+take_cause old new main name g parts Memory fresh on why = (name, why)
 
--- an include whose file was taken or refused
-pub include_ok : (told : Contents) (path : List ℕ) (pos : Pos) (old new : Gathered) (parts after : List Part) (r : Result (Unit {0}) GatherRefusal) → length old.files < 64 → is_among path old.files ≡ false → OnOk r (Takes told path old parts new after)
-    → OnOk r ((main : List ℕ) → GoesOn told main old.files (λ c. included c (64 - length old.files) path pos parts old) → AreToCome told main new after)
-include_ok told path pos old new parts after (Ok u) room fresh takes = λ main on. take_goes_on told main path old new parts after fresh takes (free_goes_on told main path pos parts old room fresh on)
-include_ok told path pos old new parts after (Err e) room fresh takes = tt
+-- of an answer, what one or two facts lead to
+pub on_ok : {P Q : Type 0} (r : Result (Unit {0}) GatherRefusal) → OnOk r P → (P → Q) → OnOk r Q
+on_ok (Ok u) fact step = step fact
+on_ok (Err e) fact step = tt
 
-pub include_err : (path : List ℕ) (pos : Pos) (g : Gathered) (parts : List Part) (old new : Shelved) (r : Result (Unit {0}) GatherRefusal) → length g.files < 64 → is_among path g.files ≡ false → IfErr r (IsRefusedTake path g old new)
-    → IfErr r (λ e. (main : List ℕ) → GoesOn old.content main g.files (λ c. included c (64 - length g.files) path pos parts g) → HasCause old new main (Err e))
-include_err path pos g parts old new (Ok u) room fresh why = tt
-include_err path pos g parts old new (Err e) room fresh why = λ main on. take_cause old new main path g parts e fresh (free_goes_on old.content main path pos parts g room fresh on) why
+pub on_both_ok : {P Q R : Type 0} (r : Result (Unit {0}) GatherRefusal) → OnOk r P → OnOk r Q → (P → Q → R) → OnOk r R
+on_both_ok (Ok u) one other step = step one other
+on_both_ok (Err e) one other step = tt
 
--- an include as a part
-pub part_ok : (told : Contents) (path read : List ℕ) (pos : Pos) (part : Part) (old new : Gathered) (parts after : List Part) (r : Result (Unit {0}) GatherRefusal) → part ≡ Include path pos → read ≡ path
-    → OnOk r ((main : List ℕ) → GoesOn told main old.files (λ c. included c (64 - length old.files) read pos parts old) → AreToCome told main new after)
-    → OnOk r ((main : List ℕ) → AreToCome told main old (part ∷ parts) → AreToCome told main new after)
-part_ok told path read pos part old new parts after (Ok u) is_part is on = λ main come. on main (rw is (include_goes_on told main old path pos parts (rw is_part at come)))
-part_ok told path read pos part old new parts after (Err e) is_part is on = tt
-
-pub part_err : (path read : List ℕ) (pos : Pos) (part : Part) (g : Gathered) (parts : List Part) (old new : Shelved) (r : Result (Unit {0}) GatherRefusal) → part ≡ Include path pos → read ≡ path
-    → IfErr r (λ e. (main : List ℕ) → GoesOn old.content main g.files (λ c. included c (64 - length g.files) read pos parts g) → HasCause old new main (Err e))
-    → IfErr r (λ e. (main : List ℕ) → AreToCome old.content main g (part ∷ parts) → HasCause old new main (Err e))
-part_err path read pos part g parts old new (Ok u) is_part is on = tt
-part_err path read pos part g parts old new (Err e) is_part is on = λ main come. on main (rw is (include_goes_on old.content main g path pos parts (rw is_part at come)))
+pub if_err : {P Q : GatherRefusal → Type 0} (r : Result (Unit {0}) GatherRefusal) → IfErr r P →
+    ((e : GatherRefusal) → P e → Q e) → IfErr r Q
+if_err (Ok u) fact step = tt
+if_err (Err e) fact step = step e fact
 
 -- the main file
-pub main_taken : (told : Contents) (main : List ℕ) (start new : Gathered) (parts after : List Part) → start ≡ gathered_none → parts ≡ [] → Takes told main start parts new after → AreToCome told main new after
+pub main_taken : (told : Contents) (main : List ℕ) (start new : Gathered) (parts after : List Part) →
+    start ≡ gathered_none → parts ≡ [] → Takes told main start parts new after → AreToCome told main new after
 main_taken told main start new parts after none empty takes =
-    take_goes_on told main main gathered_none new [] after refl (subst (λ (p : List Part). Takes told main gathered_none p new after) empty (subst (λ (s : Gathered). Takes told main s parts new after) none takes)) (begins told main)
+    let first = subst (λ (s : Gathered). Takes told main s parts new after) none takes in
+    take_goes_on told main main gathered_none new [] after refl
+    (subst (λ (p : List Part). Takes told main gathered_none p new after) empty first) (begins told main)
 
-pub main_refused : (old new : Shelved) (main : List ℕ) (start : Gathered) (refusal : GatherRefusal) → start ≡ gathered_none → IsRefusedTake main start old new refusal → HasCause old new main (Err refusal)
+pub main_refused : (old new : Shelved) (main : List ℕ) (start : Gathered) (refusal : GatherRefusal) →
+    start ≡ gathered_none → IsRefusedTake main start old new refusal → HasCause old new main (Err refusal)
 main_refused old new main start refusal none why =
-    take_cause old new main main gathered_none [] refusal refl (begins old.content main) (subst (λ (s : Gathered). IsRefusedTake main s old new refusal) none why)
+    take_cause old new main main gathered_none [] refusal refl (begins old.content main)
+    (subst (λ (s : Gathered). IsRefusedTake main s old new refusal) none why)

@@ -1,3 +1,4 @@
+pub mod WorklistLemmas
 pub mod GatherLemmas
 pub mod BoundLemmas
 pub mod ToldLemmas

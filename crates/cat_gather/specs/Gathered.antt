@@ -1,5 +1,7 @@
 -- What is gathered of a main file and the files that it includes, where each file's content is known by its name.
-use Rattle.std.specs.Prelude.{ℕ, zero, suc, ◌+◌, ◌-◌, ◌*◌, nat_le, min, Bool, true, false, ◌||◌, List, [], ◌∷◌, ◌++◌, length, slice_index_or, bytes_eq, Option, Some, None, Result, Ok, Err}
+use Rattle.std.specs.Prelude.{ℕ, zero, suc, ◌+◌, ◌-◌, nat_le, min, Bool, true, false, ◌||◌, List, [], ◌∷◌, ◌++◌, length}
+use Rattle.std.specs.Prelude.{slice_index_or, bytes_eq, Option, Some, None, Result, Ok, Err}
+use Rattle.cat_pos.specs.declared.limits.TheConstants.{MOST_FILES, MOST_FILE_BYTES, MOST_SOURCE_BYTES}
 use Rattle.cat_pos.specs.declared.pos.Pos.{Pos}
 use Rattle.cat_pos.specs.declared.pos.Piece.{Piece}
 use Rattle.cat_weave.specs.Woven.{woven}
@@ -11,7 +13,8 @@ use Rattle.cat_weave.specs.declared.part.WeaveRefusal.{WeaveRefusal}
 use Rattle.cat_weave.specs.declared.part.WeaveRefusal.TheVariants as weaving
 use Rattle.cat_gather.specs.declared.source.Source.{Source}
 use Rattle.cat_gather.specs.declared.source.GatherRefusal.{GatherRefusal}
-use Rattle.cat_gather.specs.declared.source.GatherRefusal.TheVariants.{NotUtf8, FenceOpen, IncludeTwice, TooLarge, Memory}
+use Rattle.cat_gather.specs.declared.source.GatherRefusal.TheVariants.{NotUtf8, FenceOpen, IncludeTwice, TooLarge}
+use Rattle.cat_gather.specs.declared.source.GatherRefusal.TheVariants.{Memory}
 
 -- what files hold, by their names
 abbrev pub Contents : Type 0
@@ -24,7 +27,7 @@ pub record Gathered : Type 0 where
   pub pieces : List Piece
   pub headings : List Headed
 
--- before the first file
+-- in front of the first file
 abbrev pub gathered_none : Gathered
 gathered_none = record { files = []; bytes = 0; pieces = []; headings = [] }
 
@@ -34,32 +37,40 @@ with_piece piece g = record g { pieces = g.pieces ++ piece ∷ [] }
 
 -- a heading stands behind the pieces so far
 abbrev pub with_heading : ℕ → List ℕ → Pos → Gathered → Gathered
-with_heading level text pos g = record g { headings = g.headings ++ record { pieces = length g.pieces; level = level; text = text; pos = pos } ∷ [] }
+with_heading level text pos g = record g {
+  headings = g.headings ++ record { pieces = length g.pieces; level = level; text = text; pos = pos } ∷ [];
+}
 
 -- one file more, of so many bytes
 abbrev pub with_file : List ℕ → ℕ → Gathered → Gathered
 with_file name size g = record g { files = g.files ++ name ∷ []; bytes = g.bytes + size }
 
--- a file has at most 4 MiB, and at most what the files before it leave of 16 MiB
-abbrev pub limit_after : ℕ → ℕ
-limit_after bytes = min (4 * 1024 * 1024) (16 * 1024 * 1024 - bytes)
+-- all that was gathered
+abbrev pub source_of : Gathered → Source
+source_of g = record { files = g.files; pieces = g.pieces; headings = g.headings }
 
--- gathering gives a source or refuses it, or it comes to a file whose content isn't known, after files of so many bytes
-pub data Outcome : Type 0 where
-  Whole : Source → Outcome
-  Refused : GatherRefusal → Outcome
-  StopsAt : List ℕ → ℕ → Outcome
+-- gathering gives something or is refused, or it comes to a file whose content isn't known, behind so many bytes
+pub data Ending (T : Type 0) : Type 0 where
+  Whole : T → Ending T
+  Refused : GatherRefusal → Ending T
+  StopsAt : List ℕ → ℕ → Ending T
 
--- what an include makes of its path and place, the parts after it and what is gathered before it
+-- it goes on where something was given
+abbrev pub and_then : {T : Type 0} → Ending Gathered → (Gathered → Ending T) → Ending T
+and_then (Whole g) next = next g
+and_then (Refused refusal) next = Refused refusal
+and_then (StopsAt name bytes) next = StopsAt name bytes
+
+-- what there is with the include of a file at a position, behind what was gathered in front of it
 abbrev pub Including : Type 0
-Including = List ℕ → Pos → List Part → Gathered → Outcome
+Including = List ℕ → Pos → Gathered → Ending Gathered
 
--- parts in their order
-unfoldable pub gather_parts : Including → List Part → Gathered → Outcome
-gather_parts include [] g = Whole (record { files = g.files; pieces = g.pieces; headings = g.headings })
-gather_parts include (Code piece ∷ parts) g = gather_parts include parts (with_piece piece g)
-gather_parts include (Heading level text pos ∷ parts) g = gather_parts include parts (with_heading level text pos g)
-gather_parts include (Include path pos ∷ parts) g = include path pos parts g
+-- the code and headings of a file in their order, with each include replaced by those of the file that it names
+unfoldable pub parts_gathered : Including → List Part → Gathered → Ending Gathered
+parts_gathered include [] g = Whole g
+parts_gathered include (Code piece ∷ parts) g = parts_gathered include parts (with_piece piece g)
+parts_gathered include (Heading level text pos ∷ parts) g = parts_gathered include parts (with_heading level text pos g)
+parts_gathered include (Include path pos ∷ parts) g = and_then (include path pos g) (parts_gathered include parts)
 
 -- a refused file is named
 abbrev pub woven_as : List ℕ → Result Woven WeaveRefusal → Result (List Part) GatherRefusal
@@ -68,40 +79,54 @@ woven_as name (Err (weaving.NotUtf8 pos)) = Err (NotUtf8 name pos)
 woven_as name (Err (weaving.FenceOpen pos)) = Err (FenceOpen name pos)
 woven_as name (Err weaving.Memory) = Err Memory
 
--- the parts of a file take the place of its include
-abbrev pub put_in_place : Including → List ℕ → ℕ → List Part → Gathered → Result (List Part) GatherRefusal → Outcome
-put_in_place include name size parts g (Ok own) = gather_parts include (own ++ parts) (with_file name size g)
-put_in_place include name size parts g (Err refusal) = Refused refusal
+-- a file of so many bytes, by what weaving it gives
+abbrev pub woven_gathered : Including → List ℕ → ℕ → Gathered → Result (List Part) GatherRefusal → Ending Gathered
+woven_gathered include name size g (Ok parts) = parts_gathered include parts (with_file name size g)
+woven_gathered include name size g (Err refusal) = Refused refusal
+
+-- a file has at most 4 MiB, and at most what the files in front of it leave of 16 MiB
+abbrev pub limit_after : ℕ → ℕ
+limit_after bytes = min MOST_FILE_BYTES (MOST_SOURCE_BYTES - bytes)
 
 -- a file within its limit is woven, as the next in number
-abbrev pub weave_within : Including → List ℕ → List Part → Gathered → List ℕ → Bool → Outcome
-weave_within include name parts g bytes true = put_in_place include name (length bytes) parts g (woven_as name (woven bytes (length g.files)))
-weave_within include name parts g bytes false = Refused (TooLarge name)
+abbrev pub bytes_gathered : Including → List ℕ → Gathered → List ℕ → Bool → Ending Gathered
+bytes_gathered include name g bytes true =
+    woven_gathered include name (length bytes) g (woven_as name (woven bytes (length g.files)))
+bytes_gathered include name g bytes false = Refused (TooLarge name)
 
--- a file is first read, then woven
-abbrev pub take_file : Including → List ℕ → List Part → Gathered → Option (List ℕ) → Outcome
-take_file include name parts g None = StopsAt name g.bytes
-take_file include name parts g (Some bytes) = weave_within include name parts g bytes (nat_le (length bytes) (limit_after g.bytes))
+-- a file is read, and then woven
+abbrev pub file_gathered : Including → List ℕ → Gathered → Option (List ℕ) → Ending Gathered
+file_gathered include name g None = StopsAt name g.bytes
+file_gathered include name g (Some bytes) =
+    bytes_gathered include name g bytes (nat_le (length bytes) (limit_after g.bytes))
 
 -- the name is one of these
 abbrev pub is_among : List ℕ → List (List ℕ) → Bool
 is_among name [] = false
 is_among name (n ∷ names) = bytes_eq n name || is_among name names
 
--- an include is refused in the file in which it stands
-abbrev pub twice : Pos → Gathered → Outcome
+-- no further file may be taken
+abbrev pub is_full : Gathered → Bool
+is_full g = nat_le MOST_FILES (length g.files)
+
+-- an include that can't be taken is refused in the file in which it stands
+abbrev pub twice : {T : Type 0} → Pos → Gathered → Ending T
 twice pos g = Refused (IncludeTwice (slice_index_or g.files pos.file []) pos)
 
--- an include, unless its file was taken already
-abbrev pub include_unless : Bool → Contents → Including → Including
-include_unless true contents include path pos parts g = twice pos g
-include_unless false contents include path pos parts g = take_file include path parts g (contents path)
+-- an include, unless there are enough files or its own was taken
+abbrev pub included_unless : Bool → Bool → Contents → Including → Including
+included_unless true taken contents include path pos g = twice pos g
+included_unless false true contents include path pos g = twice pos g
+included_unless false false contents include path pos g = file_gathered include path g (contents path)
 
--- an include where so many further files may be taken
+-- an include in a file inside which so many further ones may stand in one another: as no file is taken twice and there
+-- are at most 64, none stands inside the innermost of 64
 unfoldable pub included : Contents → ℕ → Including
-included contents zero path pos parts g = twice pos g
-included contents (suc left) path pos parts g = include_unless (is_among path g.files) contents (included contents left) path pos parts g
+included contents zero path pos g = twice pos g
+included contents (suc deeper) path pos g =
+    included_unless (is_full g) (is_among path g.files) contents (included contents deeper) path pos g
 
--- what is gathered of a main file and at most 63 others
-unfoldable pub gathered : Contents → List ℕ → Outcome
-gathered contents main = take_file (included contents 63) main [] gathered_none (contents main)
+-- what is gathered of a main file, inside which 63 others may stand in one another
+unfoldable pub gathered : Contents → List ℕ → Ending Source
+gathered contents main =
+    and_then (file_gathered (included contents 63) main gathered_none (contents main)) (λ g. Whole (source_of g))

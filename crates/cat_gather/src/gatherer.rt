@@ -1,32 +1,23 @@
 // Files taken depth first, by a list of the parts to come.
-ghost use Rattle.std.specs.Prelude.{◌≡◌, ◌≢◌, ◌+◌, ◌-◌, ◌*◌, ◌<◌, ◌≤◌, ℕ, List, [], ◌∷◌, true, false, length, Ok, Err, IfOk, IfErr, OnOk, OnErr, min};
-ghost use Rattle.cat_io.specs.Shelf.{Gives};
+ghost use Rattle.std.specs.Prelude.{◌≡◌, ◌≢◌, ◌-◌, ◌<◌, ◌≤◌, ℕ, List, [], ◌∷◌, length, Ok, Err, IfOk, IfErr, OnOk};
 ghost use Rattle.cat_weave.specs.Woven.{woven, AreWithin};
-ghost use Rattle.cat_gather.specs.Gathered.{gathered, gathered_none, woven_as, limit_after, is_among, included, twice};
-ghost use Rattle.cat_gather.specs.Causes.{HasCause, IsAnswerTo, IsLeftAs, AreReadableTogether};
-ghost use Rattle.cat_gather.specs.UnderWay.{gathered_of, AreBounded, IsReadFault, IsRefusedTake, Takes, GoesOn, AreToCome};
+ghost use Rattle.cat_gather.specs.Gathered.{gathered, gathered_none, woven_as, is_among};
+ghost use Rattle.cat_gather.specs.Causes.{HasCause, IsAnswerTo, AreReadableTogether};
+ghost use Rattle.cat_gather.specs.inside.Worklist.{include_with};
+ghost use Rattle.cat_gather.specs.inside.UnderWay.{gathered_of, AreBounded, ReadsFile, IsTaken, IsRefusedTake, GoesOn, AreToCome, LeadsOn, IsKept, left_to_take};
 
 use crate::pending::Pending;
 use crate::{GatherRefusal, Source};
-use cat_io::{Shelf, ShelfFault};
-use cat_pos::{Files, List, Pieces, Pos, Text};
+use cat_io::{Shelf, ShelfFault, read_all};
+use cat_pos::{Files, List, MOST_FILE_BYTES, MOST_FILES, MOST_SOURCE_BYTES, Pieces, Pos, Text};
 use cat_weave::{Heading, Headings, Part, Parts, WeaveRefusal, weave};
 use std::alloc::Global;
-
-/// The main file too.
-const MOST_FILES: usize = 64;
-
-const MOST_BYTES: usize = 4 * 1024 * 1024;
-
-const MOST_BYTES_TOGETHER: usize = 16 * 1024 * 1024;
 
 /// Reads a file and all that it includes, depth first: at most 64 files, each once, of at most 4 MiB
 /// each and 16 MiB together.
 pub fn gather<S: Shelf>(alloc: Global, shelf: &mut S, main: &str) -> Result<Source, GatherRefusal>
-    ensures told { (S.state shelf.new).content ≡ (S.state shelf.old).content }
     ensures cause { HasCause (S.state shelf.old) (S.state shelf.new) main.now result }
     ensures answer { IsAnswerTo (gathered (S.state shelf.old).content main.now) result }
-    ensures left { IsLeftAs result (S.state shelf.old) (S.state shelf.new) }
     ensures readable { IfOk result (λ source. AreReadableTogether source.pieces) }
 {
     let mut gathering = Gathering::new(alloc);
@@ -74,13 +65,11 @@ impl Gathering {
     /// Takes all parts to come, and those of the files that they include.
     fn take_parts<S: Shelf>(&mut self, alloc: Global, shelf: &mut S) -> Result<(), GatherRefusal>
         requires { AreBounded (gathered_of self.old) self.old.to_come }
-        ensures told { (S.state shelf.new).content ≡ (S.state shelf.old).content }
-        ensures left { IsLeftAs result (S.state shelf.old) (S.state shelf.new) }
-        ensures ok { OnOk result ((main : List ℕ)
-            → AreToCome (S.state shelf.old).content main (gathered_of self.old) self.old.to_come
-            → AreToCome (S.state shelf.old).content main (gathered_of self.new) []) }
-        ensures bounded { OnOk result (AreBounded (gathered_of self.new) []) }
-        ensures err { IfErr result (λ e. (main : List ℕ)
+        ensures on { OnOk result (LeadsOn (S.state shelf.old).content
+            (λ main. AreToCome (S.state shelf.old).content main (gathered_of self.old) self.old.to_come)
+            (gathered_of self.new) []) }
+        ensures same { OnOk result (S.state shelf.new ≡ S.state shelf.old) }
+        ensures cause { IfErr result (λ e. (main : List ℕ)
             → AreToCome (S.state shelf.old).content main (gathered_of self.old) self.old.to_come
             → HasCause (S.state shelf.old) (S.state shelf.new) main (Err e)) }
     {
@@ -97,15 +86,13 @@ impl Gathering {
         part: Part,
     ) -> Result<(), GatherRefusal>
         requires { AreBounded (gathered_of self.old) (part ∷ self.old.to_come) }
-        ensures told { (S.state shelf.new).content ≡ (S.state shelf.old).content }
-        ensures left { IsLeftAs result (S.state shelf.old) (S.state shelf.new) }
-        ensures ok { OnOk result ((main : List ℕ)
-            → AreToCome (S.state shelf.old).content main (gathered_of self.old) (part ∷ self.old.to_come)
-            → AreToCome (S.state shelf.old).content main (gathered_of self.new) self.new.to_come) }
-        ensures bounded { OnOk result (AreBounded (gathered_of self.new) self.new.to_come) }
-        ensures fewer { OnOk result ((16 * 1024 * 1024 - self.new.bytes) + length self.new.to_come
-            ≤ (16 * 1024 * 1024 - self.old.bytes) + length self.old.to_come) }
-        ensures err { IfErr result (λ e. (main : List ℕ)
+        ensures on { OnOk result (LeadsOn (S.state shelf.old).content
+            (λ main. AreToCome (S.state shelf.old).content main (gathered_of self.old) (part ∷ self.old.to_come))
+            (gathered_of self.new) self.new.to_come) }
+        ensures kept { OnOk result (IsKept (S.state shelf.old) (S.state shelf.new)
+            (left_to_take (gathered_of self.new) self.new.to_come)
+            (left_to_take (gathered_of self.old) self.old.to_come)) }
+        ensures cause { IfErr result (λ e. (main : List ℕ)
             → AreToCome (S.state shelf.old).content main (gathered_of self.old) (part ∷ self.old.to_come)
             → HasCause (S.state shelf.old) (S.state shelf.new) main (Err e)) }
     {
@@ -135,18 +122,16 @@ impl Gathering {
     ) -> Result<(), GatherRefusal>
         requires bounded { AreBounded (gathered_of self.old) self.old.to_come }
         requires named { pos.file < length self.old.files }
-        ensures told { (S.state shelf.new).content ≡ (S.state shelf.old).content }
-        ensures left { IsLeftAs result (S.state shelf.old) (S.state shelf.new) }
-        ensures ok { OnOk result ((main : List ℕ)
+        ensures on { OnOk result (LeadsOn (S.state shelf.old).content
+            (λ main. GoesOn (S.state shelf.old).content main self.old.files (λ contents.
+            include_with contents (64 - length self.old.files) path.now pos self.old.to_come (gathered_of self.old)))
+            (gathered_of self.new) self.new.to_come) }
+        ensures kept { OnOk result (IsKept (S.state shelf.old) (S.state shelf.new)
+            (left_to_take (gathered_of self.new) self.new.to_come)
+            (left_to_take (gathered_of self.old) self.old.to_come)) }
+        ensures cause { IfErr result (λ e. (main : List ℕ)
             → GoesOn (S.state shelf.old).content main self.old.files (λ contents.
-            included contents (64 - length self.old.files) path.now pos self.old.to_come (gathered_of self.old))
-            → AreToCome (S.state shelf.old).content main (gathered_of self.new) self.new.to_come) }
-        ensures bounded { OnOk result (AreBounded (gathered_of self.new) self.new.to_come) }
-        ensures fewer { OnOk result ((16 * 1024 * 1024 - self.new.bytes) + length self.new.to_come
-            ≤ (16 * 1024 * 1024 - self.old.bytes) + length self.old.to_come) }
-        ensures err { IfErr result (λ e. (main : List ℕ)
-            → GoesOn (S.state shelf.old).content main self.old.files (λ contents.
-            included contents (64 - length self.old.files) path.now pos self.old.to_come (gathered_of self.old))
+            include_with contents (64 - length self.old.files) path.now pos self.old.to_come (gathered_of self.old))
             → HasCause (S.state shelf.old) (S.state shelf.new) main (Err e)) }
     {
         if self.files.len() == MOST_FILES || is_taken(&self.files, path) {
@@ -164,18 +149,14 @@ impl Gathering {
         name: &str,
     ) -> Result<(), GatherRefusal>
         requires bounded { AreBounded (gathered_of self.old) self.old.to_come }
-        requires room { length self.old.files < 64 }
-        ensures told { (S.state shelf.new).content ≡ (S.state shelf.old).content }
-        ensures left { IsLeftAs result (S.state shelf.old) (S.state shelf.new) }
-        ensures takes { OnOk result (Takes (S.state shelf.old).content name.now
+        requires room { length self.old.files < MOST_FILES }
+        ensures taken { OnOk result (IsTaken (S.state shelf.old) (S.state shelf.new) name.now
             (gathered_of self.old) self.old.to_come (gathered_of self.new) self.new.to_come) }
         ensures bounded { OnOk result (AreBounded (gathered_of self.new) self.new.to_come) }
-        ensures fewer { OnOk result ((16 * 1024 * 1024 - self.new.bytes) + length self.new.to_come
-            ≤ (16 * 1024 * 1024 - self.old.bytes) + length self.old.to_come) }
-        ensures err { IfErr result (IsRefusedTake name.now (gathered_of self.old)
+        ensures refused { IfErr result (IsRefusedTake name.now (gathered_of self.old)
             (S.state shelf.old) (S.state shelf.new)) }
     {
-        let limit = MOST_BYTES.min(MOST_BYTES_TOGETHER - self.bytes);
+        let limit = MOST_FILE_BYTES.min(MOST_SOURCE_BYTES - self.bytes);
         let bytes = read_file(alloc, shelf, name, limit)?;
         let number = self.files.add(name)?;
         let parts = woven_parts(alloc, name, &bytes, number)?;
@@ -187,7 +168,7 @@ impl Gathering {
 
 #[tactic(auto, using(crate::proofs::GatherLemmas::among_yes, crate::proofs::GatherLemmas::among_no))]
 fn is_taken(files: &Files, name: &str) -> bool
-    requires { length files.now ≤ 64 }
+    requires { length files.now ≤ MOST_FILES }
     ensures { result ≡ is_among name.now files.now }
 {
     for file in 0..files.len() as u32 {
@@ -205,14 +186,10 @@ fn read_file<S: Shelf>(
     name: &str,
     limit: usize,
 ) -> Result<Vec<u8>, GatherRefusal>
-    ensures told { (S.state shelf.new).content ≡ (S.state shelf.old).content }
-    ensures left { IsLeftAs result (S.state shelf.old) (S.state shelf.new) }
-    ensures ok { IfOk result (λ bytes. Gives ((S.state shelf.old).content name.now) limit bytes.items) }
-    ensures err { IfErr result (IsReadFault name.now limit (S.state shelf.old) (S.state shelf.new)) }
+    ensures { ReadsFile name.now limit (S.state shelf.old) (S.state shelf.new) result }
 {
-    let mut bytes = Vec::new(alloc);
-    match shelf.read(name, limit, &mut bytes) {
-        Ok(()) => Ok(bytes),
+    match read_all(alloc, shelf, name, limit) {
+        Ok(bytes) => Ok(bytes),
         Err(ShelfFault::Missing) => Err(GatherRefusal::Missing(Text::from_str(alloc, name)?)),
         Err(ShelfFault::Failed) => Err(GatherRefusal::ReadFault(Text::from_str(alloc, name)?)),
         Err(ShelfFault::Long) => Err(GatherRefusal::TooLarge(Text::from_str(alloc, name)?)),
@@ -222,7 +199,7 @@ fn read_file<S: Shelf>(
 
 /// The parts of a file, or its refusal with its name.
 fn woven_parts(alloc: Global, name: &str, bytes: &[u8], number: u32) -> Result<Parts, GatherRefusal>
-    requires { length bytes.now ≤ 4 * 1024 * 1024 }
+    requires { length bytes.now ≤ MOST_FILE_BYTES }
     ensures gives { result ≢ Err GatherRefusal.Memory
         → result ≡ woven_as name.now (woven bytes.now number) }
     ensures within { IfOk result (λ parts. AreWithin (length bytes.now) number parts) }

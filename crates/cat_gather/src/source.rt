@@ -18,7 +18,7 @@ pub struct Source {
 /// Why files can't be gathered. A text is the name of the file at fault.
 #[derive(Debug, Drop, Error)]
 pub enum GatherRefusal {
-    /// The place after the longest front that is UTF-8.
+    /// The position after the longest front that is UTF-8.
     #[error("a file isn't UTF-8")]
     NotUtf8(Text, Pos),
     /// The opening line of a block that isn't closed.
@@ -31,7 +31,7 @@ pub enum GatherRefusal {
     Missing(Text),
     #[error("a file can't be read")]
     ReadFault(Text),
-    /// More than 4 MiB, or more than the files before it leave of 16 MiB.
+    /// More than 4 MiB, or more than the files in front of it leave of 16 MiB.
     #[error("a file is too large")]
     TooLarge(Text),
     #[error("out of memory")]

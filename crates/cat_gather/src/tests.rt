@@ -45,22 +45,11 @@ fn source_shown(alloc: Global, source: &Source) -> Result<String, AllocError> {
 fn shown<S: Shelf>(alloc: Global, shelf: &mut S, main: &str) -> Result<String, AllocError> {
     match gather(alloc, shelf, main) {
         Ok(source) => source_shown(alloc, &source),
-        Err(GatherRefusal::NotUtf8(name, pos)) => at(alloc, "not utf8", name.as_str(), pos),
-        Err(GatherRefusal::FenceOpen(name, pos)) => at(alloc, "open", name.as_str(), pos),
-        Err(GatherRefusal::IncludeTwice(name, pos)) => at(alloc, "twice", name.as_str(), pos),
-        Err(GatherRefusal::Missing(name)) => {
-            let name = name.as_str();
-            format!(in alloc; "missing {name}")
-        }
         Err(GatherRefusal::ReadFault(name)) => {
             let name = name.as_str();
             format!(in alloc; "fault {name}")
         }
-        Err(GatherRefusal::TooLarge(name)) => {
-            let name = name.as_str();
-            format!(in alloc; "large {name}")
-        }
-        Err(GatherRefusal::Memory) => String::from_str(alloc, "memory"),
+        Err(_) => String::from_str(alloc, "another refusal"),
     }
 }
 
@@ -110,105 +99,5 @@ fn includes_stand_in_place_and_each_read_may_fail(rt: HostRuntime) -> Result<(),
     }
     let mut shelf = MemShelf::new(alloc, stored(alloc, &TREE)?, Vec::from_slice(alloc, &[5])?);
     expect(&rt, alloc, &mut shelf, "a", GATHERED)?;
-    Ok(())
-}
-
-const CASES: [(&[(&str, &str)], &str); 12] = [
-    (&[("a", "")], ""),
-    (&[("a", "law\n```catala\n")], "open a 0:2:1"),
-    (&[("b", "")], "missing a"),
-    (&[("a", "> Include: b\n")], "missing b"),
-    (
-        &[("a", "> Include: b\n"), ("b", "> Include: a\n")],
-        "twice b 1:1:1",
-    ),
-    (&[("a", "\n> Include: a\n")], "twice a 0:2:1"),
-    (
-        &[("a", "> Include: b\n> Include: b\n"), ("b", "")],
-        "twice a 0:2:1",
-    ),
-    (
-        &[("a", "> Include: b\n> Include: a\n"), ("b", "```catala\n")],
-        "open b 1:1:1",
-    ),
-    (
-        &[("a", "> Include: a\n```catala\n"), ("b", "")],
-        "open a 0:2:1",
-    ),
-    (
-        &[("a", "> Include: b\n> Include: c\n"), ("b", "```catala\n")],
-        "open b 1:1:1",
-    ),
-    (
-        &[("a", "> Include: b\n> Include: c\n"), ("b", "")],
-        "missing c",
-    ),
-    (
-        &[("a", "> Include: é\n"), ("é", "# é")],
-        "0 1 heading é 1:1:1;",
-    ),
-];
-
-#[test]
-fn the_first_fault_in_the_order_of_includes_is_named(rt: HostRuntime) -> Result<(), Fail> {
-    let alloc = rt.alloc();
-    for (files, want) in CASES {
-        let mut shelf = MemShelf::new(alloc, stored(alloc, files)?, Vec::new(alloc));
-        expect(&rt, alloc, &mut shelf, "a", want)?;
-    }
-    let mut files = stored(alloc, &[])?;
-    files.push((
-        String::from_str(alloc, "a")?,
-        Vec::from_slice(alloc, b"a\xff")?,
-    ))?;
-    let mut shelf = MemShelf::new(alloc, files, Vec::new(alloc));
-    expect(&rt, alloc, &mut shelf, "a", "not utf8 a 0:1:2")?;
-    Ok(())
-}
-
-/// Files 1 to `last`, each of which includes the next.
-fn chain(alloc: Global, last: u32) -> Result<Stored, AllocError> {
-    let mut files = Vec::new(alloc);
-    for number in 1..last {
-        let next = number + 1;
-        let content = format!(in alloc; "> Include: {next}\n")?;
-        files.push((
-            format!(in alloc; "{number}")?,
-            Vec::from_slice(alloc, content.as_str().as_bytes())?,
-        ))?;
-    }
-    files.push((format!(in alloc; "{last}")?, Vec::new(alloc)))?;
-    Ok(files)
-}
-
-/// A file of so many bytes, all of one law line.
-fn long(alloc: Global, name: &str, size: usize) -> Result<(String, Vec<u8>), AllocError> {
-    let content = vec![in alloc; b'x'; size]?;
-    Ok((String::from_str(alloc, name)?, content))
-}
-
-#[test]
-fn files_are_few_and_short(rt: HostRuntime) -> Result<(), Fail> {
-    let alloc = rt.alloc();
-    for (last, want) in [(64, ""), (65, "twice 64 63:1:1")] {
-        let mut shelf = MemShelf::new(alloc, chain(alloc, last)?, Vec::new(alloc));
-        expect(&rt, alloc, &mut shelf, "1", want)?;
-    }
-    for (size, want) in [(4194304, ""), (4194305, "large a")] {
-        let mut files = Vec::new(alloc);
-        files.push(long(alloc, "a", size)?)?;
-        let mut shelf = MemShelf::new(alloc, files, Vec::new(alloc));
-        expect(&rt, alloc, &mut shelf, "a", want)?;
-    }
-    for (size, want) in [(4194252, ""), (4194253, "large e")] {
-        let includes = "> Include: b\n> Include: c\n> Include: d\n> Include: e\n";
-        let mut files = stored(alloc, &[("a", includes)])?;
-        for name in ["b", "c", "d"] {
-            files.push(long(alloc, name, 4194304)?)?;
-        }
-        files.push(long(alloc, "e", size)?)?;
-        let mut shelf = MemShelf::new(alloc, files, Vec::new(alloc));
-        expect(&rt, alloc, &mut shelf, "a", want)?;
-    }
     Ok(())
 }

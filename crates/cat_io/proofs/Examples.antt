@@ -58,7 +58,8 @@ a_read_refused_for_memory_lists_nothing = refl
 abbrev sink : Sunk
 sink = record { taken = Some (codes "ab"); room = Some 3; faults = 0 }
 
-a_put_takes_the_whole_piece : after_put sink (codes "cd") (Ok tt) ≡ record { taken = Some (codes "abcd"); room = Some 1; faults = 0 }
+a_put_takes_the_whole_piece :
+    after_put sink (codes "cd") (Ok tt) ≡ record { taken = Some (codes "abcd"); room = Some 1; faults = 0 }
 a_put_takes_the_whole_piece = refl
 
 a_failed_put_takes_nothing : (fault : _) → after_put sink (codes "cdef") (Err fault) ≡ record sink { faults = 1 }

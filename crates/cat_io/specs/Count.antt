@@ -5,6 +5,6 @@ use Rattle.std.specs.Prelude.{ℕ, ◌+◌, ◌-◌, ◌^◌, ◌≤◌, min}
 abbrev pub next_count : ℕ → ℕ
 next_count count = min (count + 1) (2 ^ 64 - 1)
 
--- a count of faults is greater than before, or stands at its last value
+-- a count of faults is greater than it was, or stands at its last value
 abbrev pub FaultsRose : ℕ → ℕ → Type 0
 FaultsRose old new = next_count old ≤ new

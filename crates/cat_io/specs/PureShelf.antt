@@ -6,4 +6,9 @@ use Rattle.cat_io.specs.declared.pure_shelf.PureShelf.{PureShelf}
 
 -- its files, and the names that it refused: it has no faults
 abbrev pub shelved_of : PureShelf → Shelved
-shelved_of shelf = record { content = content_of shelf.files.items; misses = texts_of shelf.misses.items; faults = []; longs = texts_of shelf.longs.items }
+shelved_of shelf = record {
+  content = content_of shelf.files.items;
+  misses = texts_of shelf.misses.items;
+  faults = [];
+  longs = texts_of shelf.longs.items;
+}

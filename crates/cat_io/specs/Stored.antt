@@ -1,5 +1,6 @@
 -- What shelves and sinks in memory answer, and what is kept of it.
-use Rattle.std.specs.Prelude.{ℕ, ◌-◌, nat_le, List, [], ◌∷◌, ◌++◌, length, map, Option, Some, None, Result, Ok, Err, String, Vec, string_bytes, bytes_eq, if◌then◌else◌}
+use Rattle.std.specs.Prelude.{ℕ, ◌-◌, nat_le, List, [], ◌∷◌, ◌++◌, length, map, Option, Some, None, Result, Ok, Err}
+use Rattle.std.specs.Prelude.{String, Vec, string_bytes, bytes_eq, if◌then◌else◌}
 use Rattle.std.specs.Option.{option_map}
 use Rattle.std.specs.declared.alloc.Global.{Global}
 use Rattle.cat_io.specs.Count.{next_count}
@@ -12,7 +13,8 @@ use Rattle.cat_io.specs.declared.sink.SinkFault.{SinkFault}
 -- the content under a name: that of its first entry
 abbrev pub content_of : List (String Global × Vec ℕ Global) → List ℕ → Option (List ℕ)
 content_of [] name = None
-content_of (file ∷ files) name = if bytes_eq (string_bytes file.0) name then Some file.1.items else content_of files name
+content_of (file ∷ files) name =
+    if bytes_eq (string_bytes file.0) name then Some file.1.items else content_of files name
 
 -- the texts of a list of names
 abbrev pub texts_of : List (String Global) → List (List ℕ)
@@ -33,5 +35,8 @@ after_read shelf name (Err Memory) = shelf
 
 -- a sink after a put that was answered so: it takes the whole piece, or counts a fault
 abbrev pub after_put : Sunk → List ℕ → Result (Unit {0}) SinkFault → Sunk
-after_put sink piece (Ok _) = record sink { taken = option_map (λ taken. taken ++ piece) sink.taken; room = option_map (λ room. room - length piece) sink.room }
+after_put sink piece (Ok _) = record sink {
+  taken = option_map (λ taken. taken ++ piece) sink.taken;
+  room = option_map (λ room. room - length piece) sink.room;
+}
 after_put sink piece (Err _) = record sink { faults = next_count sink.faults }

@@ -44,7 +44,8 @@ impl<'a, R: Files + Input> Shelf for DiskShelf<'a, R> {
 
     fn read(&mut self, name: &str, limit: usize, into: &mut Vec<u8>) -> Result<(), ShelfFault>
         requires { into.old.items ≡ [] }
-        ensures state { ⟦<DiskShelf<'a, R> as Shelf>⟧.state self.new ≡ after_read (⟦<DiskShelf<'a, R> as Shelf>⟧.state self.old) name.now result }
+        ensures state { ⟦<DiskShelf<'a, R> as Shelf>⟧.state self.new
+            ≡ after_read (⟦<DiskShelf<'a, R> as Shelf>⟧.state self.old) name.now result }
         ensures short { OnOk result (vec_len into.new ≤ limit) }
         ensures refused { OnErr result (into.new.items ≡ []) }
     {
@@ -73,10 +74,10 @@ fn read_named<R: Files + Input>(
     ensures { OnOk result (vec_len into.new ≤ limit) }
 {
     if name == "-" {
-        return read_all(rt.reader(), limit, into);
+        return read_to_limit(rt.reader(), limit, into);
     }
     match fs::open(rt, name) {
-        Ok(file) => read_all(file, limit, into),
+        Ok(file) => read_to_limit(file, limit, into),
         Err(e) => match e.kind() {
             ErrorKind::NotFound => Err(ShelfFault::Missing),
             ErrorKind::OutOfMemory => Err(ShelfFault::Memory),
@@ -87,7 +88,7 @@ fn read_named<R: Files + Input>(
 
 // All that a reader gives, straight into the buffer: std doubles its reads up to 128 KiB, and
 // retries one that was interrupted. One byte past the limit is asked for, to tell a long file.
-pub(crate) fn read_all<R: Read + Drop>(
+pub(crate) fn read_to_limit<R: Read + Drop>(
     reader: R,
     limit: usize,
     into: &mut Vec<u8>,

@@ -17,7 +17,7 @@ pub use mem_shelf::MemShelf;
 pub use mem_sink::MemSink;
 pub use pure_shelf::PureShelf;
 pub use pure_sink::PureSink;
-pub use shelf::{Shelf, ShelfFault};
+pub use shelf::{Shelf, ShelfFault, read_all};
 pub use sink::{Sink, SinkFault};
 pub use std_sink::StdSink;
 

@@ -1,5 +1,5 @@
 // A sink in memory that tells its room, of which no put fails that fits.
-ghost use Rattle.std.specs.Prelude.{◌≡◌, ◌↔◌, ◌+◌, ◌≤◌, [], Some, length, vec_capacity, IfOk, IfSome, IsOk};
+ghost use Rattle.std.specs.Prelude.{◌≡◌, ◌↔◌, ◌+◌, ◌≤◌, [], Some, Err, length, vec_capacity, IfOk, IfSome, IsOk};
 ghost use Rattle.cat_io.specs.Stored.{after_put};
 
 use crate::{Sink, SinkFault};
@@ -41,6 +41,15 @@ impl PureSink {
     {
         &self.taken
     }
+
+    /// Counts a fault.
+    pub(crate) fn fail(&mut self) -> SinkFault
+        ensures faults { sunk_of self.new ≡ after_put (sunk_of self.old) [] (Err result) }
+        ensures no_fewer { (sunk_of self.old).faults ≤ (sunk_of self.new).faults }
+    {
+        self.faults = self.faults.saturating_add(1);
+        SinkFault
+    }
 }
 
 impl Sink for PureSink {
@@ -56,8 +65,7 @@ impl Sink for PureSink {
         ensures no_fewer { (sunk_of self.old).faults ≤ (sunk_of self.new).faults }
     {
         if piece.len() > self.spare {
-            self.faults = self.faults.saturating_add(1);
-            return Err(SinkFault);
+            return Err(self.fail());
         }
         match self.taken.extend_from_slice(piece) {
             Ok(()) => {

@@ -1,9 +1,9 @@
-// The trait of shelves, and why a read is refused.
-ghost use Rattle.std.specs.Prelude.{◌≡◌, ◌<◌, [], length, IfSome, IsNone, OnOk, OnErr, IsErrOf};
-ghost use Rattle.cat_io.specs.Shelf.{Shelved, Rose, ListsGrowBy, Gives};
+// The trait of shelves, why a read is refused, and a whole file.
+ghost use Rattle.std.specs.Prelude.{◌≡◌, [], OnErr};
+ghost use Rattle.cat_io.specs.Shelf.{Shelved, Reads, with_bytes};
 ghost use Rattle.cat_io.specs.declared.shelf.ShelfFault.TheVariants.{Memory};
 
-use std::alloc::{AllocError, AllocFailed};
+use std::alloc::{AllocError, AllocFailed, Global};
 
 /// Why a read was refused.
 #[derive(Clone, Copy, Debug, PartialEq, Eq)]
@@ -43,23 +43,20 @@ pub trait Shelf {
     /// Listing a refused name takes memory, so such a read may answer `Memory` instead.
     fn read(&mut self, name: &str, limit: usize, into: &mut Vec<u8>) -> Result<(), ShelfFault>
         requires { into.old.items ≡ [] }
+        ensures reads { Reads name.now limit (state self.old) (state self.new) (with_bytes result into.new) }
+        ensures refused { OnErr result (into.new.items ≡ []) };
+}
 
-        ensures told { (state self.new).content ≡ (state self.old).content }
-        ensures lists { ListsGrowBy name.now (state self.old) (state self.new) }
-
-        // A read that succeeds changes nothing, and lists no name.
-        ensures ok { OnOk result (Gives ((state self.old).content name.now) limit into.new.items) }
-        ensures same { OnOk result (state self.new ≡ state self.old) }
-        ensures refused { OnErr result (into.new.items ≡ []) }
-
-        // Each refusal has its cause.
-        ensures missing { IsErrOf result ShelfFault.Missing →
-            Rose name.now (state self.old).misses (state self.new).misses }
-        ensures untold { IsErrOf result ShelfFault.Missing → IsNone ((state self.old).content name.now) }
-        ensures failed { IsErrOf result ShelfFault.Failed →
-            Rose name.now (state self.old).faults (state self.new).faults }
-        ensures long { IsErrOf result ShelfFault.Long →
-            Rose name.now (state self.old).longs (state self.new).longs }
-        ensures longer { IsErrOf result ShelfFault.Long →
-            IfSome ((state self.old).content name.now) (λ content. limit < length content) };
+/// The bytes of a file of at most `limit` bytes.
+pub fn read_all<S: Shelf>(
+    alloc: Global,
+    shelf: &mut S,
+    name: &str,
+    limit: usize,
+) -> Result<Vec<u8>, ShelfFault>
+    ensures { Reads name.now limit (S.state shelf.old) (S.state shelf.new) result }
+{
+    let mut bytes = Vec::new(alloc);
+    shelf.read(name, limit, &mut bytes)?;
+    Ok(bytes)
 }

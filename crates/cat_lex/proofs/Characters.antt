@@ -31,7 +31,8 @@ pub after_chars : (p : ℕ → Bool) (cs : List ℕ) → all_scalars cs ≡ true
 after_chars p cs h = ap (λ (w : List ℕ). bytes_of (skip p w)) (chars-encodes cs h)
 
 -- characters in front are characters of the text
-pub peel : (ws cs rest : List ℕ) → bytes_of cs ≡ bytes_of ws ++ rest → (es : List ℕ) × (cs ≡ ws ++ es) × (bytes_of es ≡ rest)
+pub peel : (ws cs rest : List ℕ) → bytes_of cs ≡ bytes_of ws ++ rest
+    → (es : List ℕ) × (cs ≡ ws ++ es) × (bytes_of es ≡ rest)
 peel [] cs rest e = (cs, refl, e)
 peel (w ∷ ws) cs rest e =
     let one = cons_from_encodes cs (bytes_of ws ++ rest) w (e ∙ append_assoc (encode_utf8 w) (bytes_of ws) rest) in
@@ -43,8 +44,10 @@ longer c cs =
     let bound = len_utf8_bounds c in
     omega (arith, bound.0, length-append (encode_utf8 c) (bytes_of cs), length-encode c)
 
-pub near_at : (p : ℕ → Bool) (c : ℕ) (cs : List ℕ) (b : Bool) → (skip p cs ≡ cs) ⊎ (length (bytes_of (skip p cs)) < length (bytes_of cs))
-    → (cond b (skip p cs) (c ∷ cs) ≡ c ∷ cs) ⊎ (length (bytes_of (cond b (skip p cs) (c ∷ cs))) < length (bytes_of (c ∷ cs)))
+pub near_at : (p : ℕ → Bool) (c : ℕ) (cs : List ℕ) (b : Bool)
+    → (skip p cs ≡ cs) ⊎ (length (bytes_of (skip p cs)) < length (bytes_of cs))
+    → (cond b (skip p cs) (c ∷ cs) ≡ c ∷ cs) ⊎
+    (length (bytes_of (cond b (skip p cs) (c ∷ cs))) < length (bytes_of (c ∷ cs)))
 near_at p c cs true (inl e) = inr (omega (arith, longer c cs, ap (λ (w : List ℕ). length (bytes_of w)) e))
 near_at p c cs true (inr l) = inr (omega (arith, longer c cs))
 near_at p c cs false n = inl refl
@@ -53,7 +56,9 @@ pub skip_near : (p : ℕ → Bool) (cs : List ℕ) → (skip p cs ≡ cs) ⊎ (l
 skip_near p [] = inl refl
 skip_near p (c ∷ cs) = near_at p c cs (p c) (skip_near p cs)
 
-pub near_le : (p : ℕ → Bool) (cs : List ℕ) (n : (skip p cs ≡ cs) ⊎ (length (bytes_of (skip p cs)) < length (bytes_of cs))) → length (bytes_of (skip p cs)) ≤ length (bytes_of cs)
+pub near_le : (p : ℕ → Bool) (cs : List ℕ)
+    (n : (skip p cs ≡ cs) ⊎ (length (bytes_of (skip p cs)) < length (bytes_of cs)))
+    → length (bytes_of (skip p cs)) ≤ length (bytes_of cs)
 near_le p cs (inl e) = omega (arith, ap (λ (w : List ℕ). length (bytes_of w)) e)
 near_le p cs (inr l) = omega arith
 
@@ -68,9 +73,11 @@ pub ascii_chars : (cs : List ℕ) → list_all (λ c. ltb c 128) cs ≡ true →
 ascii_chars [] h = refl
 ascii_chars (c ∷ cs) h = ascii_one c cs (and_left _ _ h) (ascii_chars cs (and_right _ _ h))
 
-pub weaken : (p q : ℕ → Bool) → ((c : ℕ) → p c ≡ true → q c ≡ true) → (cs : List ℕ) → list_all p cs ≡ true → list_all q cs ≡ true
+pub weaken : (p q : ℕ → Bool) → ((c : ℕ) → p c ≡ true → q c ≡ true) → (cs : List ℕ) → list_all p cs ≡ true
+    → list_all q cs ≡ true
 weaken p q more [] h = refl
-weaken p q more (c ∷ cs) h = and_true (q c) (list_all q cs) (more c (and_left _ _ h)) (weaken p q more cs (and_right _ _ h))
+weaken p q more (c ∷ cs) h =
+    and_true (q c) (list_all q cs) (more c (and_left _ _ h)) (weaken p q more cs (and_right _ _ h))
 
 pub small_ascii : (c : ℕ) → is_ascii_lowercase c ≡ true → ltb c 128 ≡ true
 small_ascii c h = grind (arith, nat_tests)
@@ -107,5 +114,5 @@ small_no_blank c h = grind (arith, nat_tests)
 -- what stands in front
 pub front_is : (front rest : List ℕ) → front_of (front ++ rest) rest ≡ front
 front_is front rest =
-    let place : length (front ++ rest) - length rest ≡ length front = omega (arith, length-append front rest) in
-    ap (λ (n : ℕ). take n (front ++ rest)) place ∙ take-append_seam front rest
+    let position : length (front ++ rest) - length rest ≡ length front = omega (arith, length-append front rest) in
+    ap (λ (n : ℕ). take n (front ++ rest)) position ∙ take-append_seam front rest

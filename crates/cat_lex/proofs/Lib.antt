@@ -19,5 +19,5 @@ pub mod Sequences
 pub mod FirstTokens
 pub mod PieceSteps
 pub mod Refusals
-pub mod FilePlaces
+pub mod FilePositions
 pub mod Examples

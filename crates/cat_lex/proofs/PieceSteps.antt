@@ -7,7 +7,7 @@ use Rattle.cat_pos.specs.declared.pos.Piece.{Piece}
 use Rattle.cat_lex.specs.declared.token.Token.{Token}
 use Rattle.cat_lex.specs.declared.refusal.LexRefusal.{LexRefusal}
 use Rattle.cat_lex.specs.declared.refusal.LexRefusal.TheVariants.{NoToken, LiteralRange, Memory}
-use Rattle.cat_lex.specs.Places.{place_after}
+use Rattle.cat_lex.specs.Positions.{position_after}
 use Rattle.cat_lex.specs.Blanks.{AreLastBlanks, begins_blank}
 use Rattle.cat_lex.specs.Lexes.{IsToken, AreTokens, IsPieceOf, Lexes, HasCause}
 use Rattle.cat_lex.specs.Steps.{AddsPiece, IsAfterBlanks, IsFirst, HasCauseIn}
@@ -15,7 +15,7 @@ use Rattle.cat_lex.specs.Reading.{skip_blanks}
 use Rattle.cat_lex.proofs.Blanks.{gap_of, gap_stops, gap_skipped, gap_utf8}
 use Rattle.cat_lex.proofs.Skips.{not_true}
 use Rattle.cat_lex.proofs.Spelled.{word_some, rest_utf8}
-use Rattle.cat_lex.proofs.Sequences.{append_nil, place_after-append, one_more, cancel_right}
+use Rattle.cat_lex.proofs.Sequences.{append_nil, position_after-append, one_more, cancel_right}
 
 -- what is left of a piece
 abbrev pub left : List ℕ → Pos → Piece
@@ -24,75 +24,126 @@ left text pos = record { text = text; pos = pos }
 pub gap_suffix : (text rest : List ℕ) → rest ≡ skip_blanks false text → (front : List ℕ) × (text ≡ front ++ rest)
 gap_suffix text rest is = let g = gap_of false text in (g.gap, g.split ∙ ap (λ (w : List ℕ). g.gap ++ w) (sym is))
 
-pub after_gap : (pos place : Pos) (text rest front : List ℕ) → rest ≡ skip_blanks false text → text ≡ front ++ rest → place ≡ place_after pos front → IsAfterBlanks pos text place rest
-after_gap pos place text rest front is split place_is =
+pub after_gap : (pos position : Pos) (text rest front : List ℕ) → rest ≡ skip_blanks false text → text ≡ front ++ rest
+    → position ≡ position_after pos front → IsAfterBlanks pos text position rest
+after_gap pos position text rest front is split position_is =
     let g = gap_of false text in
     let rested : skip_blanks false text ≡ rest = sym is in
-    let gap : g.gap ≡ front = cancel_right g.gap front rest (ap (λ (w : List ℕ). g.gap ++ w) is ∙ (sym g.split ∙ split)) in
+    let gap : g.gap ≡ front = cancel_right g.gap front rest
+    (ap (λ (w : List ℕ). g.gap ++ w) is ∙ (sym g.split ∙ split)) in
     record {
       blanks = g.gap;
       split = split ∙ ap (λ (w : List ℕ). w ++ rest) (sym gap);
       whole = λ some. g.whole (λ none. some (is ∙ none));
-      last = λ none. subst AreLastBlanks (sym (split ∙ (ap (λ (w : List ℕ). front ++ w) none ∙ (append_nil front ∙ sym gap)))) g.last;
+      last =
+          λ none. subst AreLastBlanks (sym
+          (split ∙ (ap (λ (w : List ℕ). front ++ w) none ∙ (append_nil front ∙ sym gap)))) g.last;
       no_blank = ap begins_blank is ∙ gap_stops false text;
-      place_is = place_is ∙ ap (λ (w : List ℕ). place_after pos w) (sym gap);
+      position_is = position_is ∙ ap (λ (w : List ℕ). position_after pos w) (sym gap);
     }
 
-pub next_token : (piece : Piece) (tokens : List Token) (text : List ℕ) (pos place next : Pos) (token : Token) (first rest front : List ℕ) → AreTokens piece tokens (left text pos) → IsAfterBlanks pos text place first → first ≢ []
-    → IsFirst token place first rest → first ≡ front ++ rest → next ≡ place_after place front → AreTokens piece (tokens ++ (token ∷ [])) (left rest next)
-next_token piece tokens text pos place next token first rest front are gap some is split next_is =
+pub next_token : (piece : Piece) (tokens : List Token) (text : List ℕ) (pos position next : Pos) (token : Token)
+    (first rest front : List ℕ) → AreTokens piece tokens (left text pos) → IsAfterBlanks pos text position first
+    → first ≢ []
+    → IsFirst token position first rest → first ≡ front ++ rest → next ≡ position_after position front
+    → AreTokens piece (tokens ++ (token ∷ [])) (left rest next)
+next_token piece tokens text pos position next token first rest front are gap some is split next_is =
     let word : is.word ≡ front = cancel_right is.word front rest (sym is.split ∙ split) in
     let whole : text ≡ gap.blanks ++ (is.word ++ rest) = gap.split ∙ ap (λ (w : List ℕ). gap.blanks ++ w) is.split in
-    let token_is : IsToken token (place_after pos gap.blanks) is.word rest = subst (λ (p : Pos). IsToken token p is.word rest) gap.place_is is.is_token in
-    let more = one_more piece tokens (left text pos) token gap.blanks is.word rest are whole (gap.whole some) token_is in
-    let place_is : place_after pos (gap.blanks ++ is.word) ≡ next =
-    sym (place_after-append pos gap.blanks is.word) ∙ (ap (λ (p : Pos). place_after p is.word) (sym gap.place_is) ∙ (ap (λ (w : List ℕ). place_after place w) word ∙ sym next_is)) in
-    subst (λ (p : Pos). AreTokens piece (tokens ++ (token ∷ [])) (left rest p)) place_is more
+    let token_is : IsToken token (position_after pos gap.blanks) is.word rest =
+    subst (λ (p : Pos). IsToken token p is.word rest) gap.position_is is.is_token in
+    let more = one_more piece tokens (left text pos) token gap.blanks is.word rest are whole
+    (gap.whole some) token_is in
+    let position_is : position_after pos (gap.blanks ++ is.word) ≡ next =
+    sym (position_after-append pos gap.blanks is.word)
+    ∙ (ap (λ (p : Pos). position_after p is.word) (sym gap.position_is)
+    ∙ (ap (λ (w : List ℕ). position_after position w) word ∙ sym next_is)) in
+    subst (λ (p : Pos). AreTokens piece (tokens ++ (token ∷ [])) (left rest p)) position_is more
 
 some_length : (word : List ℕ) → word ≢ [] → 0 < length word
 some_length [] some = absurd (some refl)
 some_length (c ∷ cs) some = omega arith
 
 -- each token takes some of the text
-pub first_shorter : (token : Token) (pos place : Pos) (text first rest : List ℕ) → IsAfterBlanks pos text place first → IsFirst token place first rest → length rest < length text
-first_shorter token pos place text first rest gap is =
-    let some : 0 < length is.word = some_length is.word (word_some is.is_token.form is.word rest is.is_token.longest.formed) in
+pub first_shorter : (token : Token) (pos position : Pos) (text first rest : List ℕ)
+    → IsAfterBlanks pos text position first → IsFirst token position first rest → length rest < length text
+first_shorter token pos position text first rest gap is =
+    let some : 0 < length is.word =
+    some_length is.word (word_some is.is_token.form is.word rest is.is_token.longest.formed) in
     let one : length text ≡ length (gap.blanks ++ first) = ap (λ (w : List ℕ). length w) gap.split in
     let two : length first ≡ length (is.word ++ rest) = ap (λ (w : List ℕ). length w) is.split in
     omega (arith, some, one, two, length-append gap.blanks first, length-append is.word rest)
 
 pub some_first : (text : List ℕ) (empty : Bool) → empty ≡ (length text == 0) → empty ≡ false → text ≢ []
-some_first text empty is h none = let none_left : length text ≡ 0 = ap (λ (w : List ℕ). length w) none in absurd (not_true empty (is ∙ rw none_left refl) h)
+some_first text empty is h none =
+    let none_left : length text ≡ 0 =
+    ap (λ (w : List ℕ). length w) none in absurd (not_true empty (is ∙ rw none_left refl) h)
 
-pub next_utf8 : (token : Token) (pos place : Pos) (text first rest : List ℕ) → IsUtf8 text → IsAfterBlanks pos text place first → first ≢ [] → IsFirst token place first rest → IsUtf8 rest
-next_utf8 token pos place text first rest utf8 gap some is =
-    let skipped : skip_blanks false text ≡ first = ap (skip_blanks false) gap.split ∙ gap_skipped false gap.blanks first (gap.whole some) gap.no_blank in
+pub next_utf8 : (token : Token) (pos position : Pos) (text first rest : List ℕ) → IsUtf8 text
+    → IsAfterBlanks pos text position first → first ≢ [] → IsFirst token position first rest → IsUtf8 rest
+next_utf8 token pos position text first rest utf8 gap some is =
+    let skipped : skip_blanks false text ≡ first =
+    ap (skip_blanks false) gap.split ∙ gap_skipped false gap.blanks first (gap.whole some) gap.no_blank in
     let here : IsUtf8 (is.word ++ rest) = subst IsUtf8 (skipped ∙ is.split) (gap_utf8 text utf8) in
     rest_utf8 is.is_token.form is.word rest is.is_token.longest.formed here
 
-pub lexes_more : (before : List Piece) (tokens : List Token) (piece : Piece) (here : List Token) → Lexes before tokens → IsPieceOf piece here → Lexes (before ++ (piece ∷ [])) (tokens ++ here)
-lexes_more [] tokens piece here lexed is = (here, [], ap (λ (w : List Token). w ++ here) lexed ∙ sym (append_nil here), is, refl)
-lexes_more (first ∷ before) tokens piece here lexed is =
-    (lexed.0, lexed.1 ++ here, ap (λ (w : List Token). w ++ here) lexed.2 ∙ append_assoc lexed.0 lexed.1 here, lexed.3, lexes_more before lexed.1 piece here lexed.4 is)
+pub lexes_more : (before : List Piece) (tokens : List Token) (piece : Piece) (here : List Token) → Lexes before tokens
+    → IsPieceOf piece here → Lexes (before ++ (piece ∷ [])) (tokens ++ here)
+lexes_more [] tokens piece here lexed is =
+    (here, [], ap (λ (w : List Token). w ++ here) lexed ∙ sym (append_nil here), is, refl)
+lexes_more (first ∷ before) tokens piece here lexed is = (
+  lexed.0,
+  lexed.1 ++ here,
+  ap (λ (w : List Token). w ++ here) lexed.2
+      ∙ append_assoc lexed.0 lexed.1 here,
+  lexed.3,
+  lexes_more before lexed.1 piece here lexed.4 is,
+)
 
-pub fails_at : (pieces before : List Piece) (piece : Piece) (after : List Piece) (tokens : List Token) (refusal : LexRefusal) → pieces ≡ before ++ (piece ∷ after) → Lexes before tokens → HasCauseIn piece refusal → HasCause pieces refusal
-fails_at pieces before piece after tokens (NoToken at) split lexed cause = record { before = before; piece = piece; after = after; split = split; tokens = tokens; lexed = lexed; fails = cause }
-fails_at pieces before piece after tokens (LiteralRange at) split lexed cause = record { before = before; piece = piece; after = after; split = split; tokens = tokens; lexed = lexed; fails = cause }
+pub fails_at : (pieces before : List Piece) (piece : Piece) (after : List Piece) (tokens : List Token)
+    (refusal : LexRefusal) → pieces ≡ before ++ (piece ∷ after) → Lexes before tokens → HasCauseIn piece refusal
+    → HasCause pieces refusal
+fails_at pieces before piece after tokens (NoToken at) split lexed cause =
+    record {
+      before = before;
+      piece = piece;
+      after = after;
+      split = split;
+      tokens = tokens;
+      lexed = lexed;
+      fails = cause;
+    }
+fails_at pieces before piece after tokens (LiteralRange at) split lexed cause =
+    record {
+      before = before;
+      piece = piece;
+      after = after;
+      split = split;
+      tokens = tokens;
+      lexed = lexed;
+      fails = cause;
+    }
 fails_at pieces before piece after tokens Memory split lexed cause = cause
 
 -- the pieces before one, that one, and the others
-pub split_pieces : (pieces : List Piece) (i : ℕ) (piece : Piece) → i < length pieces → piece ≡ get_or pieces i piece → pieces ≡ take i pieces ++ (piece ∷ drop (i + 1) pieces)
+pub split_pieces : (pieces : List Piece) (i : ℕ) (piece : Piece) → i < length pieces → piece ≡ get_or pieces i piece
+    → pieces ≡ take i pieces ++ (piece ∷ drop (i + 1) pieces)
 split_pieces pieces i piece below is =
-    sym (take-append-drop i pieces) ∙ ap (λ (w : List Piece). take i pieces ++ w) (at_drop ∙ ap (λ (p : Piece). p ∷ drop (i + 1) pieces) (sym is))
+    sym (take-append-drop i pieces)
+    ∙ ap (λ (w : List Piece). take i pieces ++ w) (at_drop ∙ ap (λ (p : Piece). p ∷ drop (i + 1) pieces) (sym is))
   where
     at_drop : drop i pieces ≡ get_or pieces i piece ∷ drop (i + 1) pieces
     at_drop = rw (add-one, drop-cons pieces i piece) refl
 
-pub one_piece_more : (pieces : List Piece) (old new : List Token) (i : ℕ) (piece : Piece) → i < length pieces → piece ≡ get_or pieces i piece → Lexes (take i pieces) old → AddsPiece piece old new → Lexes (take (i + 1) pieces) new
+pub one_piece_more : (pieces : List Piece) (old new : List Token) (i : ℕ) (piece : Piece) → i < length pieces
+    → piece ≡ get_or pieces i piece → Lexes (take i pieces) old → AddsPiece piece old new
+    → Lexes (take (i + 1) pieces) new
 one_piece_more pieces old new i piece below is lexed adds =
-    let more : take (i + 1) pieces ≡ take i pieces ++ (piece ∷ []) = take_more pieces i piece below ∙ ap (λ (p : Piece). take i pieces ++ (p ∷ [])) (sym is) in
+    let more : take (i + 1) pieces ≡ take i pieces ++ (piece ∷ []) =
+    take_more pieces i piece below ∙ ap (λ (p : Piece). take i pieces ++ (p ∷ [])) (sym is) in
     subst (λ (w : List Token). Lexes (take (i + 1) pieces) w) (sym adds.added)
-    (subst (λ (w : List Piece). Lexes w (old ++ adds.here)) (sym more) (lexes_more (take i pieces) old piece adds.here lexed adds.is_piece))
+    (subst (λ (w : List Piece). Lexes w (old ++ adds.here)) (sym more)
+    (lexes_more (take i pieces) old piece adds.here lexed adds.is_piece))
 
 -- the tokens since the first, and what is left of the piece
 pub record HasAdded (piece : Piece) (old tokens : List Token) (text : List ℕ) (pos : Pos) : Type 0 where
@@ -100,11 +151,15 @@ pub record HasAdded (piece : Piece) (old tokens : List Token) (text : List ℕ) 
   pub added : tokens ≡ old ++ here
   pub spelled : AreTokens piece here (left text pos)
 
-pub one_added : (piece : Piece) (old tokens new : List Token) (text : List ℕ) (pos place next : Pos) (token : Token) (first rest front : List ℕ) → HasAdded piece old tokens text pos → IsAfterBlanks pos text place first → first ≢ []
-    → IsFirst token place first rest → first ≡ front ++ rest → next ≡ place_after place front → new ≡ tokens ++ (token ∷ []) → HasAdded piece old new rest next
-one_added piece old tokens new text pos place next token first rest front has gap some is split next_is new_is =
+pub one_added : (piece : Piece) (old tokens new : List Token) (text : List ℕ) (pos position next : Pos) (token : Token)
+    (first rest front : List ℕ) → HasAdded piece old tokens text pos → IsAfterBlanks pos text position first
+    → first ≢ []
+    → IsFirst token position first rest → first ≡ front ++ rest → next ≡ position_after position front
+    → new ≡ tokens ++ (token ∷ []) → HasAdded piece old new rest next
+one_added piece old tokens new text pos position next token first rest front has gap some is split next_is new_is =
     record {
       here = has.here ++ (token ∷ []);
       added = new_is ∙ (ap (λ (w : List Token). w ++ (token ∷ [])) has.added ∙ append_assoc old has.here (token ∷ []));
-      spelled = next_token piece has.here text pos place next token first rest front has.spelled gap some is split next_is;
+      spelled =
+          next_token piece has.here text pos position next token first rest front has.spelled gap some is split next_is;
     }

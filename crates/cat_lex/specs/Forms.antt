@@ -1,4 +1,4 @@
--- The forms of tokens, without their bounds: which spellings each has, and which is the longest in a place.
+-- The forms of tokens, without their bounds: which spellings each has, and which is the longest in front of a text.
 use Rattle.std.specs.Prelude.{◌≡◌, ◌≢◌, ◌≤◌, ℕ, Bool, true, false, not, ◌&&◌, ◌||◌, ◌==◌, List, [], ◌∷◌, ◌++◌, map, length, Some, codes}
 use Rattle.std.specs.Char.{encode_utf8, is_ascii_digit, is_ascii_uppercase}
 use Rattle.std.specs.List.{list_all, concat}
@@ -104,4 +104,5 @@ HasForm (Mark symbol) word rest = symbol_of word ≡ Some symbol
 -- the word has the form, and no longer front of the text has any
 pub record IsLongest (form : Form) (word rest : List ℕ) : Type 0 where
   pub formed : HasForm form word rest
-  pub longest : (other : Form) (more after : List ℕ) → rest ≡ more ++ after → more ≢ [] → HasForm other (word ++ more) after → ⊥
+  pub longest : (other : Form) (more after : List ℕ) → rest ≡ more ++ after → more ≢ []
+      → HasForm other (word ++ more) after → ⊥

@@ -8,26 +8,27 @@ use Rattle.cat_lex.specs.declared.token.Token.{Token}
 use Rattle.cat_lex.specs.declared.refusal.LexRefusal.{LexRefusal}
 use Rattle.cat_lex.specs.declared.refusal.LexRefusal.TheVariants.{NoToken, LiteralRange, Memory}
 use Rattle.cat_lex.specs.Blanks.{AreBlanks, AreLastBlanks, begins_blank}
-use Rattle.cat_lex.specs.Places.{place_after}
+use Rattle.cat_lex.specs.Positions.{position_after}
 use Rattle.cat_lex.specs.Forms.{HasForm, IsLongest}
 use Rattle.cat_lex.specs.Values.{token_of}
 
--- the word, at this place and with this rest after it, is the token
-pub record IsToken (token : Token) (place : Pos) (word rest : List ℕ) : Type 0 where
+-- the word, at this position and with this rest after it, is the token
+pub record IsToken (token : Token) (position : Pos) (word rest : List ℕ) : Type 0 where
   pub form : Form
   pub longest : IsLongest form word rest
   pub kind : token_of form word ≡ Some token.kind
-  pub place_is : token.pos ≡ place
+  pub position_is : token.pos ≡ position
 
 -- what is left of a piece after its front
 abbrev pub left_after : Piece → List ℕ → List ℕ → Piece
-left_after piece front rest = record { text = rest; pos = place_after piece.pos front }
+left_after piece front rest = record { text = rest; pos = position_after piece.pos front }
 
 -- the piece is these tokens in order, with blanks and comments before each, and then what is left of it
 abbrev pub AreTokens : Piece → List Token → Piece → Type 0
 AreTokens piece [] left = piece ≡ left
 AreTokens piece (token ∷ tokens) left =
-    (blanks word rest : List ℕ) × (piece.text ≡ blanks ++ (word ++ rest)) × AreBlanks blanks × IsToken token (place_after piece.pos blanks) word rest
+    (blanks word rest : List ℕ) × (piece.text ≡ blanks ++ (word ++ rest)) × AreBlanks blanks
+    × IsToken token (position_after piece.pos blanks) word rest
     × AreTokens (left_after piece (blanks ++ word) rest) tokens left
 
 -- the piece, whose text is UTF-8, is these tokens and then blanks and comments alone
@@ -40,7 +41,8 @@ pub record IsPieceOf (piece : Piece) (tokens : List Token) : Type 0 where
 -- the pieces, one after the other, are these tokens
 abbrev pub Lexes : List Piece → List Token → Type 0
 Lexes [] tokens = tokens ≡ []
-Lexes (piece ∷ pieces) tokens = (here more : List Token) × (tokens ≡ here ++ more) × IsPieceOf piece here × Lexes pieces more
+Lexes (piece ∷ pieces) tokens =
+    (here more : List Token) × (tokens ≡ here ++ more) × IsPieceOf piece here × Lexes pieces more
 
 -- no token begins the text, whatever its form
 abbrev pub BeginsNoToken : List ℕ → Type 0
@@ -55,8 +57,9 @@ pub record PassesBound (text : List ℕ) : Type 0 where
   pub longest : IsLongest form word rest
   pub out_of_bound : token_of form word ≡ None
 
--- the piece is tokens up to a place, where neither a blank nor a comment comes, and the fault is in what is left there
-pub record FailsIn (piece : Piece) (place : Pos) (HasFault : List ℕ → Type 0) : Type 0 where
+-- the piece is tokens up to a position, where neither a blank nor a comment comes, and the fault is in what is left
+-- there
+pub record FailsIn (piece : Piece) (position : Pos) (HasFault : List ℕ → Type 0) : Type 0 where
   pub tokens : List Token
   pub left : Piece
   pub spelled : AreTokens piece tokens left
@@ -66,21 +69,21 @@ pub record FailsIn (piece : Piece) (place : Pos) (HasFault : List ℕ → Type 0
   pub blank : AreBlanks blanks
   pub some : rest ≢ []
   pub no_blank : begins_blank rest ≡ false
-  pub place_is : place ≡ place_after left.pos blanks
+  pub position_is : position ≡ position_after left.pos blanks
   pub fault : HasFault rest
 
--- the first pieces are tokens, and the next one is so up to this place
-pub record FailsAt (pieces : List Piece) (place : Pos) (HasFault : List ℕ → Type 0) : Type 0 where
+-- the first pieces are tokens, and the next one is so up to this position
+pub record FailsAt (pieces : List Piece) (position : Pos) (HasFault : List ℕ → Type 0) : Type 0 where
   pub before : List Piece
   pub piece : Piece
   pub after : List Piece
   pub split : pieces ≡ before ++ (piece ∷ after)
   pub tokens : List Token
   pub lexed : Lexes before tokens
-  pub fails : FailsIn piece place HasFault
+  pub fails : FailsIn piece position HasFault
 
 -- why the pieces are no tokens
 abbrev pub HasCause : List Piece → LexRefusal → Type 0
-HasCause pieces (NoToken place) = FailsAt pieces place BeginsNoToken
-HasCause pieces (LiteralRange place) = FailsAt pieces place PassesBound
+HasCause pieces (NoToken position) = FailsAt pieces position BeginsNoToken
+HasCause pieces (LiteralRange position) = FailsAt pieces position PassesBound
 HasCause pieces Memory = Unit {0}

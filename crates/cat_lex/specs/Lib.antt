@@ -1,7 +1,7 @@
 -- what public clauses cite
 pub mod Lexes
 pub mod Blanks
-pub mod Places
+pub mod Positions
 pub mod Forms
 pub mod Values
 pub mod Words

@@ -5,24 +5,24 @@ use Rattle.cat_pos.specs.declared.pos.Piece.{Piece}
 use Rattle.cat_lex.specs.declared.token.Token.{Token}
 use Rattle.cat_lex.specs.declared.refusal.LexRefusal.{LexRefusal}
 use Rattle.cat_lex.specs.declared.refusal.LexRefusal.TheVariants.{NoToken, LiteralRange, Memory}
-use Rattle.cat_lex.specs.Places.{place_after}
+use Rattle.cat_lex.specs.Positions.{position_after}
 use Rattle.cat_lex.specs.Blanks.{AreBlanks, AreLastBlanks, begins_blank}
 use Rattle.cat_lex.specs.Lexes.{IsToken, IsPieceOf, BeginsNoToken, PassesBound, FailsIn}
 
--- the text after its blanks and comments, and its place
-pub record IsAfterBlanks (pos : Pos) (text : List ℕ) (place : Pos) (rest : List ℕ) : Type 0 where
+-- the text after its blanks and comments, and its position
+pub record IsAfterBlanks (pos : Pos) (text : List ℕ) (position : Pos) (rest : List ℕ) : Type 0 where
   pub blanks : List ℕ
   pub split : text ≡ blanks ++ rest
   pub whole : rest ≢ [] → AreBlanks blanks
   pub last : rest ≡ [] → AreLastBlanks text
   pub no_blank : begins_blank rest ≡ false
-  pub place_is : place ≡ place_after pos blanks
+  pub position_is : position ≡ position_after pos blanks
 
 -- the token stands first in the text, and leaves this rest
-pub record IsFirst (token : Token) (place : Pos) (text rest : List ℕ) : Type 0 where
+pub record IsFirst (token : Token) (position : Pos) (text rest : List ℕ) : Type 0 where
   pub word : List ℕ
   pub split : text ≡ word ++ rest
-  pub is_token : IsToken token place word rest
+  pub is_token : IsToken token position word rest
 
 -- the tokens of the piece are added
 pub record AddsPiece (piece : Piece) (old new : List Token) : Type 0 where
@@ -30,14 +30,14 @@ pub record AddsPiece (piece : Piece) (old new : List Token) : Type 0 where
   pub added : new ≡ old ++ here
   pub is_piece : IsPieceOf piece here
 
--- why a text is refused in this place
+-- why a text is refused at this position
 abbrev pub HasCauseAt : Pos → List ℕ → LexRefusal → Type 0
-HasCauseAt place text (NoToken at) = (at ≡ place) × BeginsNoToken text
-HasCauseAt place text (LiteralRange at) = (at ≡ place) × PassesBound text
-HasCauseAt place text Memory = Unit {0}
+HasCauseAt position text (NoToken at) = (at ≡ position) × BeginsNoToken text
+HasCauseAt position text (LiteralRange at) = (at ≡ position) × PassesBound text
+HasCauseAt position text Memory = Unit {0}
 
 -- why a piece is refused
 abbrev pub HasCauseIn : Piece → LexRefusal → Type 0
-HasCauseIn piece (NoToken place) = FailsIn piece place BeginsNoToken
-HasCauseIn piece (LiteralRange place) = FailsIn piece place PassesBound
+HasCauseIn piece (NoToken position) = FailsIn piece position BeginsNoToken
+HasCauseIn piece (LiteralRange position) = FailsIn piece position PassesBound
 HasCauseIn piece Memory = Unit {0}

@@ -1,7 +1,7 @@
 //! Pieces into tokens.
 ghost use Rattle.std.specs.Prelude.{◌≡◌, ◌++◌, ◌+◌, ◌<◌, ◌≤◌, ◌^◌, ℕ, List, length, IfOk, IfErr, OnOk};
 ghost use Rattle.std.specs.Str.{IsUtf8};
-ghost use Rattle.cat_lex.specs.Places.{place_after};
+ghost use Rattle.cat_lex.specs.Positions.{position_after};
 ghost use Rattle.cat_pos.specs.Readable.{AreReadable, IsReadable};
 ghost use Rattle.cat_lex.specs.Lexes.{Lexes, HasCause};
 ghost use Rattle.cat_lex.specs.Steps.{AddsPiece, IsAfterBlanks, IsFirst, HasCauseAt, HasCauseIn};
@@ -13,24 +13,24 @@ use crate::{LexRefusal, Token, Tokens};
 use cat_pos::{List, Piece, Pos};
 use std::alloc::Global;
 
-/// The place after these bytes.
-fn place_after(pos: Pos, bytes: &[u8]) -> Pos
+/// The position after these bytes.
+fn position_after(pos: Pos, bytes: &[u8]) -> Pos
     requires line { pos.line + length bytes.now < 2 ^ 32 }
     requires column { pos.column + length bytes.now < 2 ^ 32 }
-    ensures place { result ≡ place_after pos bytes.now }
+    ensures position { result ≡ position_after pos bytes.now }
     ensures line { result.line ≤ pos.line + length bytes.now }
     ensures column { result.column ≤ pos.column + length bytes.now }
 {
-    let mut place = pos;
+    let mut position = pos;
     for &byte in bytes {
         if byte == b'\n' {
-            place.line += 1;
-            place.column = 1;
+            position.line += 1;
+            position.column = 1;
         } else {
-            place.column += 1;
+            position.column += 1;
         }
     }
-    place
+    position
 }
 
 /// What stands in front of the rest.
@@ -51,21 +51,31 @@ fn tail<'a>(text: &'a str, rest: &[u8]) -> &'a str
     &text[text.len() - rest.len()..]
 }
 
-/// The token in front of the text, which stands at this place, and what follows it.
-fn first_token<'a>(alloc: Global, text: &'a str, place: Pos) -> Result<(Token, &'a str), LexRefusal>
-    ensures first { IfOk result (λ x. IsFirst x.0 place text.now x.1.now) }
-    ensures cause { IfErr result (λ refusal. HasCauseAt place text.now refusal) }
+/// The token in front of the text, which stands at this position, and what follows it.
+fn first_token<'a>(
+    alloc: Global,
+    text: &'a str,
+    position: Pos,
+) -> Result<(Token, &'a str), LexRefusal>
+    ensures first { IfOk result (λ x. IsFirst x.0 position text.now x.1.now) }
+    ensures cause { IfErr result (λ refusal. HasCauseAt position text.now refusal) }
 {
     let Some((form, rest)) = read(text) else {
-        return Err(LexRefusal::NoToken(place));
+        return Err(LexRefusal::NoToken(position));
     };
     match token_kind(alloc, form, front(text, rest))? {
-        Some(kind) => Ok((Token { kind, pos: place }, tail(text, rest))),
-        None => Err(LexRefusal::LiteralRange(place)),
+        Some(kind) => Ok((
+            Token {
+                kind,
+                pos: position,
+            },
+            tail(text, rest),
+        )),
+        None => Err(LexRefusal::LiteralRange(position)),
     }
 }
 
-/// The text after its blanks and comments, and its place.
+/// The text after its blanks and comments, and its position.
 fn after_blanks(text: &str, pos: Pos) -> (&str, Pos)
     requires line { pos.line + length text.now < 2 ^ 32 }
     requires column { pos.column + length text.now < 2 ^ 32 }
@@ -74,8 +84,8 @@ fn after_blanks(text: &str, pos: Pos) -> (&str, Pos)
     ensures column { result.1.column + length result.0.now ≤ pos.column + length text.now }
 {
     let rest = skip_blanks(text.as_bytes());
-    let place = place_after(pos, front(text, rest).as_bytes());
-    (tail(text, rest), place)
+    let position = position_after(pos, front(text, rest).as_bytes());
+    (tail(text, rest), position)
 }
 
 /// Adds the tokens of the piece. After a refusal, those that stand in front of the fault are added.
@@ -87,18 +97,18 @@ fn add_piece(alloc: Global, piece: &Piece, tokens: &mut Tokens) -> Result<(), Le
     let mut text = piece.text.as_str();
     let mut pos = piece.pos;
     loop {
-        let (first, place) = after_blanks(text, pos);
+        let (first, position) = after_blanks(text, pos);
         if first.is_empty() {
             return Ok(());
         }
-        let (token, after) = first_token(alloc, first, place)?;
-        pos = place_after(place, front(first, after.as_bytes()).as_bytes());
+        let (token, after) = first_token(alloc, first, position)?;
+        pos = position_after(position, front(first, after.as_bytes()).as_bytes());
         text = after;
         tokens.push(token)?;
     }
 }
 
-/// The tokens of the pieces, one piece after the other. A refusal names the first place that is at fault.
+/// The tokens of the pieces, one piece after the other. A refusal names the first position that is at fault.
 pub fn lex(alloc: Global, pieces: &[Piece]) -> Result<Tokens, LexRefusal>
     requires { AreReadable pieces.now }
     ensures lexed { IfOk result (λ tokens. Lexes pieces.now tokens) }

@@ -15,7 +15,7 @@ mod words;
 
 pub use form::Form;
 pub use laws::{
-    pieces_have_one_reading, places_are_those_of_the_file, refused_pieces_have_no_reading,
+    pieces_have_one_reading, positions_are_those_of_the_file, refused_pieces_have_no_reading,
 };
 pub use lexer::lex;
 pub use refusal::LexRefusal;

@@ -4,7 +4,7 @@ ghost use Rattle.std.specs.Prelude.{◌≡◌};
 use cat_pos::Pos;
 use std::alloc::AllocError;
 
-/// The first place where pieces stop being tokens.
+/// The first position where pieces stop being tokens.
 #[derive(Clone, Copy, Debug, PartialEq, Eq)]
 pub enum LexRefusal {
     /// No token begins there.

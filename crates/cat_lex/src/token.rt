@@ -23,7 +23,7 @@ pub enum TokenKind {
     Symbol(Symbol),
 }
 
-/// A token, and the place of its first byte.
+/// A token, and the position of its first byte.
 #[derive(Debug, Drop, PartialEq, Eq)]
 pub struct Token {
     pub kind: TokenKind,
@@ -31,3 +31,6 @@ pub struct Token {
 }
 
 pub type Tokens = List<Token>;
+
+// Beside the text of its name a token takes at most 64 bytes, since there may be millions of them.
+const _: () = prove!(size_of::<Token>() <= 64);

@@ -22,7 +22,7 @@ const POWERS: [u64; 10] = [
     1_000_000_000,
 ];
 
-/// The place of the first power that the denominator divides.
+/// The index of the first power that the denominator divides.
 fn first_divided(powers: &[u64], den: u64) -> Option<usize>
     requires { 0 < den }
     ensures { result ≡ position (λ power. power % den == 0) powers.now }

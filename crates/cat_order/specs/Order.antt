@@ -1,4 +1,4 @@
--- The one order of items: in each place the first item not yet listed all of whose dependencies stand before it.
+-- The one order of items: at each index the first item not yet listed all of whose dependencies stand before it.
 use Rattle.std.specs.Prelude.{◌≡◌, ◌==◌, ◌+◌, ◌<◌, ◌&&◌, ℕ, Bool, false, not, nat_lt, if◌then◌else◌, IsTrue, List, [], ◌∷◌, length, take, slice_index, slice_index_or, All}
 use Rattle.std.specs.List.{list_all}
 
@@ -25,11 +25,11 @@ pub record IsNext (deps : List (List ℕ)) (front : List ℕ) (item : ℕ) : Typ
   pub ready : IsTrue (is_ready deps front item)
   pub first : (other : ℕ) → other < item → is_ready deps front other ≡ false
 
--- in each place stands the first item that may come next after those in front of it
+-- at each index stands the first item that may come next after those in front of it
 abbrev pub IsInOrder : List (List ℕ) → List ℕ → Type 0
 IsInOrder deps listed = (place : ℕ) → place < length listed → IsNext deps (take place listed) (slice_index listed place)
 
--- the list is the order: it holds each item exactly once, and each in its place
+-- the list is the order: it holds each item exactly once, and each at its index
 pub record IsOrder (deps : List (List ℕ)) (listed : List ℕ) : Type 0 where
   pub once : (item : ℕ) → item < length deps → times listed item ≡ 1
   pub in_order : IsInOrder deps listed

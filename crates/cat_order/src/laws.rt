@@ -17,7 +17,7 @@ pub fn the_order_is_computed()
         → (order_of deps ≡ Some listed) ↔ IsOrder deps listed }
 {}
 
-/// The order has as many places as there are items, and an item in each.
+/// The order is as long as there are items, and each of its elements is an item.
 pub fn the_order_lists_items()
     ensures length { (deps : List (List ℕ)) (listed : List ℕ)
         → IsOrder deps listed → length listed ≡ length deps }

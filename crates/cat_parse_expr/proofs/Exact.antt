@@ -1,4 +1,4 @@
--- The places of refusals are exact, a front of a low expression is read, and a list of tokens spells one expression.
+-- The indices of refusals are exact, a front of a low expression is read, and a list of tokens spells one expression.
 use Rattle.std.proofs.Common.{◌≡◌, ℕ, ◌≤◌, max, Bool, true, false, List, [], ◌∷◌, ◌++◌, length, Option, Some, None, refl, sym, ap, subst, ◌∙◌, append_assoc, arith, inl, inr}
 use Rattle.std.proofs.lemmas.Bool.{cases_lt}
 use Rattle.std.proofs.lemmas.List.{append-nil}
@@ -34,13 +34,18 @@ pub record IsExact (ts : List Token) (limit : ℕ) (s : Stop) : Type 0 where
   pub begins : Begins 0 front
   pub goes_on : s.deep ≡ true → (p : Token) × (r : List Token) × (s.left ≡ p ∷ r) × Begins 0 (front ++ p ∷ [])
   pub dead : s.deep ≡ false → (p : Token) (r : List Token) → s.left ≡ p ∷ r → Begins 0 (front ++ p ∷ []) → ⊥
-  pub too_high : (p : Token) (r : List Token) → s.left ≡ p ∷ r → (b : Begins 0 (front ++ p ∷ [])) → b.tree.height ≤ limit → ⊥
+  pub too_high : (p : Token) (r : List Token) → s.left ≡ p ∷ r → (b : Begins 0 (front ++ p ∷ []))
+      → b.tree.height ≤ limit → ⊥
 
-past : (ts : List Token) (limit : ℕ) (o : Outcome) (front : List Token) (p : Token) (r : List Token) (b : Begins 0 (front ++ p ∷ [])) → read limit 0 ts ≡ o → ts ≡ front ++ (stop_of o).left → (stop_of o).left ≡ p ∷ r → (Deep o → b.tree.height ≤ limit) → ⊥
+past : (ts : List Token) (limit : ℕ) (o : Outcome) (front : List Token) (p : Token) (r : List Token)
+    (b : Begins 0 (front ++ p ∷ [])) → read limit 0 ts ≡ o → ts ≡ front ++ (stop_of o).left → (stop_of o).left ≡ p ∷ r
+    → (Deep o → b.tree.height ≤ limit) → ⊥
 past ts limit o front p r b is text at fair =
-    let same : (front ++ p ∷ []) ++ r ≡ ts = append_assoc front (p ∷ []) r ∙ ap (λ (w : List Token). front ++ w) (sym at) ∙ sym text in
+    let same : (front ++ p ∷ []) ++ r ≡ ts =
+    append_assoc front (p ∷ []) r ∙ ap (λ (w : List Token). front ++ w) (sym at) ∙ sym text in
     let all : read limit 0 ((front ++ p ∷ []) ++ r) ≡ o = ap (read limit 0) same ∙ is in
-    let short = within limit 0 b.tree ((front ++ p ∷ []) ++ b.rest) (front ++ p ∷ []) b.rest r b.is refl (λ deep. fair (subst Deep all deep)) in
+    let short = within limit 0 b.tree ((front ++ p ∷ []) ++ b.rest) (front ++ p ∷ []) b.rest r b.is refl
+    (λ deep. fair (subst Deep all deep)) in
     let short_o : Short (length r) o = subst (Short (length r)) all short in
     omega (arith, ap length at)
 
@@ -56,7 +61,9 @@ exact ts limit =
       text = v.text;
       begins = v.begins;
       goes_on = v.deeper;
-      dead = λ calm p r at b. past ts limit o v.front p r b refl v.text at (λ deep. absurd (not_both (stop_of o).deep calm deep));
+      dead =
+          λ calm p r at b. past ts limit o v.front p r b refl v.text at
+          (λ deep. absurd (not_both (stop_of o).deep calm deep));
       too_high = λ p r at b low. past ts limit o v.front p r b refl v.text at (λ deep. low);
     }
 
@@ -64,26 +71,37 @@ failed_got : (n : ℕ) (o : Outcome) (s : Stop) → o ≡ Fails s → Got n o �
 failed_got n o s e g = subst (Got n) e g
 
 -- where nothing was read, and not for the height, no front of any height spells an expression
-pub nothing : (ts : List Token) (limit : ℕ) (s : Stop) → read limit 0 ts ≡ Fails s → s.deep ≡ false → (e : Part) (front rest : List Token) → IsPart 0 e front → ts ≡ front ++ rest → ⊥
+pub nothing : (ts : List Token) (limit : ℕ) (s : Stop) → read limit 0 ts ≡ Fails s → s.deep ≡ false
+    → (e : Part) (front rest : List Token) → IsPart 0 e front → ts ≡ front ++ rest → ⊥
 nothing ts limit s is calm e front rest part text =
     let all : read limit 0 (front ++ rest) ≡ Fails s = ap (read limit 0) (sym text) ∙ is in
     elim (cases_lt limit e.height) [
-      | inl more ↦ not_both s.deep calm (ap (λ (o : Outcome). (stop_of o).deep) (sym all) ∙ high limit 0 e front rest part more)
+      | inl more ↦ not_both s.deep calm
+          (ap (λ (o : Outcome). (stop_of o).deep) (sym all) ∙ high limit 0 e front rest part more)
       | inr low ↦ failed_got (length rest) (read limit 0 (front ++ rest)) s all (got limit 0 e front rest part low)
     ]
 
 -- where nothing was read at all, no front so low does
-pub nothing_low : (ts : List Token) (limit : ℕ) (s : Stop) → read limit 0 ts ≡ Fails s → (e : Part) (front rest : List Token) → IsPart 0 e front → e.height ≤ limit → ts ≡ front ++ rest → ⊥
-nothing_low ts limit s is e front rest part low text = failed_got (length rest) (read limit 0 (front ++ rest)) s (ap (read limit 0) (sym text) ∙ is) (got limit 0 e front rest part low)
+pub nothing_low : (ts : List Token) (limit : ℕ) (s : Stop) → read limit 0 ts ≡ Fails s
+    → (e : Part) (front rest : List Token) → IsPart 0 e front → e.height ≤ limit → ts ≡ front ++ rest → ⊥
+nothing_low ts limit s is e front rest part low text =
+    failed_got (length rest) (read limit 0 (front ++ rest)) s (ap (read limit 0) (sym text) ∙ is)
+    (got limit 0 e front rest part low)
 
-got_rest : (n : ℕ) (o : Outcome) (e : Part) (rest : List Token) (tried : Option Stop) → o ≡ Reads e rest tried → Got n o → length rest ≤ n
+got_rest : (n : ℕ) (o : Outcome) (e : Part) (rest : List Token) (tried : Option Stop) → o ≡ Reads e rest tried → Got n o
+    → length rest ≤ n
 got_rest n o e rest tried is g = subst (Got n) is g
 
 -- what was read is the longest so low
-pub longest : (ts : List Token) (limit : ℕ) (e : Part) (rest : List Token) (tried : Option Stop) → read limit 0 ts ≡ Reads e rest tried → (f : Part) (front after : List Token) → IsPart 0 f front → f.height ≤ limit → ts ≡ front ++ after → length rest ≤ length after
-longest ts limit e rest tried is f front after part low text = got_rest (length after) (read limit 0 (front ++ after)) e rest tried (ap (read limit 0) (sym text) ∙ is) (got limit 0 f front after part low)
+pub longest : (ts : List Token) (limit : ℕ) (e : Part) (rest : List Token) (tried : Option Stop)
+    → read limit 0 ts ≡ Reads e rest tried → (f : Part) (front after : List Token) → IsPart 0 f front → f.height ≤ limit
+    → ts ≡ front ++ after → length rest ≤ length after
+longest ts limit e rest tried is f front after part low text =
+    got_rest (length after) (read limit 0 (front ++ after)) e rest tried (ap (read limit 0) (sym text) ∙ is)
+    (got limit 0 f front after part low)
 
-pub taken : (ts : List Token) (limit : ℕ) (e : Part) (rest : List Token) (tried : Option Stop) → read limit 0 ts ≡ Reads e rest tried → Taken 0 limit ts e rest
+pub taken : (ts : List Token) (limit : ℕ) (e : Part) (rest : List Token) (tried : Option Stop)
+    → read limit 0 ts ≡ Reads e rest tried → Taken 0 limit ts e rest
 taken ts limit e rest tried is = by tried (subst (Fine 0 limit ts) is (read_fine limit 0 ts (omega arith)))
   where
     by : (tried : Option Stop) → Fine 0 limit ts (Reads e rest tried) → Taken 0 limit ts e rest
@@ -110,6 +128,8 @@ pub one_tree : (e f : Part) (tokens : List Token) → IsPart 0 e tokens → IsPa
 unfolding part_or
 one_tree e f tokens pe pf =
     let limit = max e.height f.height in
-    let re = read_back limit e (read limit 0 (tokens ++ [])) (wholes limit 0 e tokens [] pe (omega arith) (calm_nil e)) in
-    let rf = read_back limit f (read limit 0 (tokens ++ [])) (wholes limit 0 f tokens [] pf (omega arith) (calm_nil f)) in
+    let re = read_back limit e (read limit 0 (tokens ++ []))
+    (wholes limit 0 e tokens [] pe (omega arith) (calm_nil e)) in
+    let rf = read_back limit f (read limit 0 (tokens ++ []))
+    (wholes limit 0 f tokens [] pf (omega arith) (calm_nil f)) in
     ap (part_or e) (sym re ∙ rf)

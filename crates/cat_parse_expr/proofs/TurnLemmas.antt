@@ -22,39 +22,55 @@ use Rattle.cat_parse_expr.specs.Loop.{halt_at, outcome_of, AreWithin, marked, ma
 use Rattle.cat_parse_expr.proofs.Viable.{Follows, next_follows}
 use Rattle.cat_parse_expr.proofs.Keeping.{shift_keeps, tall_shift}
 
-pub cut_at : (tokens : List Token) (at place : ℕ) (p : Token) → at < length tokens → p ≡ get_or tokens at p → place ≡ suc at → drop at tokens ≡ p ∷ drop place tokens
-cut_at tokens at place p lt is next = drop-cons tokens at p lt ∙ ap (λ (x : Token). x ∷ drop (suc at) tokens) (sym is) ∙ ap (λ (n : ℕ). p ∷ drop n tokens) (sym next)
+pub cut_at : (tokens : List Token) (at place : ℕ) (p : Token) → at < length tokens → p ≡ get_or tokens at p
+    → place ≡ suc at → drop at tokens ≡ p ∷ drop place tokens
+cut_at tokens at place p lt is next =
+    drop-cons tokens at p lt ∙ ap (λ (x : Token). x ∷ drop (suc at) tokens) (sym is)
+    ∙ ap (λ (n : ℕ). p ∷ drop n tokens) (sym next)
 
 -- what is whole, or else what was kept, stands as the new mark and its tree
-kept_as : (tokens : List Token) (r : Reading) (at : ℕ) (mark : Option Mark) (best : Option Best) (o f : Option Node) → (o ≡ None → best ≡ marked tokens mark f)
-    → best_of o best r (drop at tokens) ≡ marked tokens (cond (is_some o) (Some (record { at = at; height = suc r.tallest; in_form = r.in_form; in_match = r.in_match })) mark) (or_else o f)
+kept_as : (tokens : List Token) (r : Reading) (at : ℕ) (mark : Option Mark) (best : Option Best) (o f : Option Node)
+    → (o ≡ None → best ≡ marked tokens mark f)
+    → best_of o best r (drop at tokens) ≡ marked tokens
+    (cond (is_some o) (Some (record
+    { at = at; height = suc r.tallest; in_form = r.in_form; in_match = r.in_match })) mark) (or_else o f)
 kept_as tokens r at mark best None f h = h refl
 kept_as tokens r at mark best (Some n) f h = refl
 
-pub kept_of : (tokens : List Token) (s : Standing) (best : Option Best) → IsKept tokens s best → best_of (done s.reading.state) best s.reading (drop s.at tokens) ≡ marked tokens (mark_after s.reading s.at s.mark) (before s.reading.state)
+pub kept_of : (tokens : List Token) (s : Standing) (best : Option Best) → IsKept tokens s best
+    → best_of (done s.reading.state) best s.reading (drop s.at tokens) ≡ marked tokens
+    (mark_after s.reading s.at s.mark) (before s.reading.state)
 kept_of tokens s best h = kept_as tokens s.reading s.at s.mark best (done s.reading.state) (fallback s.reading.state) h
 
-mark_cases : (end at : ℕ) (r : Reading) (mark : Option Mark) (b : Bool) → at ≤ end → IsMarkWithin end mark → IsMarkWithin end (cond b (Some (record { at = at; height = suc r.tallest; in_form = r.in_form; in_match = r.in_match })) mark)
+mark_cases : (end at : ℕ) (r : Reading) (mark : Option Mark) (b : Bool) → at ≤ end → IsMarkWithin end mark
+    → IsMarkWithin end (cond b (Some
+    (record { at = at; height = suc r.tallest; in_form = r.in_form; in_match = r.in_match })) mark)
 mark_cases end at r mark true le h = le
 mark_cases end at r mark false le h = h
 
-pub mark_within : (end at : ℕ) (r : Reading) (mark : Option Mark) → at ≤ end → IsMarkWithin end mark → IsMarkWithin end (mark_after r at mark)
+pub mark_within : (end at : ℕ) (r : Reading) (mark : Option Mark) → at ≤ end → IsMarkWithin end mark
+    → IsMarkWithin end (mark_after r at mark)
 mark_within end at r mark le h = mark_cases end at r mark (is_some (done r.state)) le h
 
-pub run_turn : (operand : Bool → ℕ → Reader) (k limit fuel : ℕ) (best : Option Best) (r : Reading) (ts : List Token) (x : Next) → next k r ts ≡ x → run operand k limit (suc fuel) best r ts ≡ turn operand k limit (run operand k limit fuel) best r ts x
+pub run_turn : (operand : Bool → ℕ → Reader) (k limit fuel : ℕ) (best : Option Best) (r : Reading) (ts : List Token)
+    (x : Next) → next k r ts ≡ x → run operand k limit (suc fuel) best r ts ≡ turn operand k limit
+    (run operand k limit fuel) best r ts x
 unfolding run
 run_turn operand k limit fuel best r ts x e = ap (turn operand k limit (run operand k limit fuel) best r ts) e
 
-pub next_takes : (k : ℕ) (r more : Reading) (ts rest : List Token) (p : Token) → ts ≡ p ∷ rest → shift k r p ≡ Some more → next k r ts ≡ Shifted more rest
+pub next_takes : (k : ℕ) (r more : Reading) (ts rest : List Token) (p : Token) → ts ≡ p ∷ rest → shift k r p ≡ Some more
+    → next k r ts ≡ Shifted more rest
 next_takes k r more ts rest p cut e = ap (next k r) cut ∙ ap (spec.shifted r rest) e
 
-pub next_passes : (k : ℕ) (r : Reading) (ts rest : List Token) (p : Token) → ts ≡ p ∷ rest → shift k r p ≡ None → next k r ts ≡ asked (takes r.state)
+pub next_passes : (k : ℕ) (r : Reading) (ts rest : List Token) (p : Token) → ts ≡ p ∷ rest → shift k r p ≡ None
+    → next k r ts ≡ asked (takes r.state)
 next_passes k r ts rest p cut e = ap (next k r) cut ∙ ap (spec.shifted r rest) e
 
--- ---- an outcome that goes on from a place takes its turn there
+-- ---- an outcome that goes on from an index takes its turn there
 
 abbrev pub TurnOf : (limit k fuel : ℕ) → List Token → Standing → Option Best → Next → Outcome
-TurnOf limit k fuel tokens s best x = turn (operand_of (read (limit - 1))) k limit (going_on limit k fuel) best s.reading (drop s.at tokens) x
+TurnOf limit k fuel tokens s best x =
+    turn (operand_of (read (limit - 1))) k limit (going_on limit k fuel) best s.reading (drop s.at tokens) x
 
 pub record Turned (limit k : ℕ) (tokens : List Token) (s : Standing) (x : Next) (o : Outcome) : Type 0 where
   pub fuel : ℕ
@@ -63,7 +79,9 @@ pub record Turned (limit k : ℕ) (tokens : List Token) (s : Standing) (x : Next
   pub kept : IsKept tokens s best
   pub is : o ≡ TurnOf limit k fuel tokens s best x
 
-turned_by : (limit k : ℕ) (tokens : List Token) (s : Standing) (x : Next) (o : Outcome) (fuel : ℕ) (best : Option Best) → next k s.reading (drop s.at tokens) ≡ x → length (drop s.at tokens) < fuel → IsKept tokens s best → o ≡ going_on limit k fuel best s.reading (drop s.at tokens) → Turned limit k tokens s x o
+turned_by : (limit k : ℕ) (tokens : List Token) (s : Standing) (x : Next) (o : Outcome) (fuel : ℕ) (best : Option Best)
+    → next k s.reading (drop s.at tokens) ≡ x → length (drop s.at tokens) < fuel → IsKept tokens s best
+    → o ≡ going_on limit k fuel best s.reading (drop s.at tokens) → Turned limit k tokens s x o
 turned_by limit k tokens s x o zero best e room kept is = absurd (omega arith)
 turned_by limit k tokens s x o (suc fuel) best e room kept is = record {
   fuel = fuel;
@@ -73,19 +91,26 @@ turned_by limit k tokens s x o (suc fuel) best e room kept is = record {
   is = is ∙ run_turn (operand_of (read (limit - 1))) k limit fuel best s.reading (drop s.at tokens) x e;
 }
 
-pub turned : (limit k : ℕ) (tokens : List Token) (s : Standing) (x : Next) (o : Outcome) → next k s.reading (drop s.at tokens) ≡ x → GoesOn limit k tokens s o → Turned limit k tokens s x o
+pub turned : (limit k : ℕ) (tokens : List Token) (s : Standing) (x : Next) (o : Outcome)
+    → next k s.reading (drop s.at tokens) ≡ x → GoesOn limit k tokens s o → Turned limit k tokens s x o
 turned limit k tokens s x o e g = turned_by limit k tokens s x o g.fuel g.best e g.room g.kept g.is
 
 -- ---- a word
 
-module _ (limit k : ℕ) (tokens : List Token) (s : Standing) (standing : IsStanding limit tokens s) (p : Token) (more : Reading) (place : ℕ) (next_place : place ≡ suc s.at) (lt : s.at < length tokens) (cut : drop s.at tokens ≡ p ∷ drop place tokens) (e : shift k s.reading p ≡ Some more) (mark : Option Mark) (mark_is : mark ≡ mark_after s.reading s.at s.mark) where
+module _ (limit k : ℕ) (tokens : List Token) (s : Standing) (standing : IsStanding limit tokens s) (p : Token)
+    (more : Reading) (place : ℕ) (next_place : place ≡ suc s.at) (lt : s.at < length tokens)
+    (cut : drop s.at tokens ≡ p ∷ drop place tokens) (e : shift k s.reading p ≡ Some more) (mark : Option Mark)
+    (mark_is : mark ≡ mark_after s.reading s.at s.mark) where
   further : Standing
   further = record { reading = more; at = place; mark = mark }
 
   new_mark : IsMarkWithin (length tokens) mark
-  new_mark = subst (IsMarkWithin (length tokens)) (sym mark_is) (mark_within (length tokens) s.at s.reading s.mark standing.within standing.mark_within)
+  new_mark =
+      subst (IsMarkWithin (length tokens)) (sym mark_is)
+      (mark_within (length tokens) s.at s.reading s.mark standing.within standing.mark_within)
 
-  pub further_stands : is_high limit more ≡ false → IsStanding limit tokens (record { reading = more; at = place; mark = mark })
+  pub further_stands : is_high limit more ≡ false
+      → IsStanding limit tokens (record { reading = more; at = place; mark = mark })
   further_stands high = record {
     within = omega arith;
     mark_within = new_mark;
@@ -98,10 +123,14 @@ module _ (limit k : ℕ) (tokens : List Token) (s : Standing) (standing : IsStan
   falls : fallback more.state ≡ before s.reading.state
   falls = (shift_keeps k s.reading more p e).falls standing.filled
 
-  new_kept : (best : Option Best) → IsKept tokens s best → best_of (done s.reading.state) best s.reading (drop s.at tokens) ≡ marked tokens mark (fallback more.state)
-  new_kept best kept = kept_of tokens s best kept ∙ ap (λ (m : Option Mark). marked tokens m (before s.reading.state)) (sym mark_is) ∙ ap (marked tokens mark) (sym falls)
+  new_kept : (best : Option Best) → IsKept tokens s best
+      → best_of (done s.reading.state) best s.reading (drop s.at tokens) ≡ marked tokens mark (fallback more.state)
+  new_kept best kept =
+      kept_of tokens s best kept ∙ ap (λ (m : Option Mark). marked tokens m (before s.reading.state)) (sym mark_is)
+      ∙ ap (marked tokens mark) (sym falls)
 
-  goes_from : is_high limit more ≡ false → (o : Outcome) → Turned limit k tokens s (Shifted more (drop place tokens)) o → GoesOn limit k tokens (record { reading = more; at = place; mark = mark }) o
+  goes_from : is_high limit more ≡ false → (o : Outcome) → Turned limit k tokens s (Shifted more (drop place tokens)) o
+      → GoesOn limit k tokens (record { reading = more; at = place; mark = mark }) o
   goes_from high o t =
       let best = best_of (done s.reading.state) t.best s.reading (drop s.at tokens) in
       let ts = drop s.at tokens in
@@ -110,24 +139,44 @@ module _ (limit k : ℕ) (tokens : List Token) (s : Standing) (standing : IsStan
         best = best;
         room = omega (arith, length-drop s.at tokens, length-drop place tokens, t.room);
         kept = λ unfinished. new_kept t.best t.kept;
-        is = t.is ∙ ap (λ (b : Bool). cond b (stopped best (too_deep ts)) (going_on limit k t.fuel best more (drop place tokens))) high;
+        is =
+            t.is ∙ ap (λ (b : Bool). cond b (stopped best (too_deep ts))
+            (going_on limit k t.fuel best more (drop place tokens))) high;
       }
 
-  pub word_goes : is_high limit more ≡ false → IsTurnAt limit k tokens s (Goes (record { reading = more; at = place; mark = mark }))
-  word_goes high = λ o g. (further_stands high, omega arith, goes_from high o (turned limit k tokens s (Shifted more (drop place tokens)) o (next_takes k s.reading more (drop s.at tokens) (drop place tokens) p cut e) g))
+  pub word_goes : is_high limit more ≡ false
+      → IsTurnAt limit k tokens s (Goes (record { reading = more; at = place; mark = mark }))
+  word_goes high =
+      λ o g. (
+        further_stands high,
+        omega arith,
+        goes_from high o
+            (turned limit k tokens s (Shifted more (drop place tokens)) o
+            (next_takes k s.reading more (drop s.at tokens) (drop place tokens) p cut e) g),
+      )
 
-  pub word_high : (r : Reached) (tree : Option Node) → tree ≡ fallback more.state → is_high limit more ≡ true → outcome_of tokens r ≡ stopped (marked tokens mark tree) (halt_at tokens (record { at = s.at; deep = true })) → (IsMarkWithin (length tokens) mark → AreWithin (length tokens) r) → IsTurnAt limit k tokens s (Ends r)
+  pub word_high : (r : Reached) (tree : Option Node) → tree ≡ fallback more.state → is_high limit more ≡ true
+      → outcome_of tokens r ≡ stopped (marked tokens mark tree) (halt_at tokens (record { at = s.at; deep = true }))
+      → (IsMarkWithin (length tokens) mark → AreWithin (length tokens) r) → IsTurnAt limit k tokens s (Ends r)
   word_high r tree tree_is high is within = λ o g.
       let ts = drop s.at tokens in
-      let t = turned limit k tokens s (Shifted more (drop place tokens)) o (next_takes k s.reading more ts (drop place tokens) p cut e) g in
+      let t = turned limit k tokens s (Shifted more (drop place tokens)) o
+      (next_takes k s.reading more ts (drop place tokens) p cut e) g in
       let best = best_of (done s.reading.state) t.best s.reading ts in
-      let same = ap (λ (n : Option Node). stopped (marked tokens mark n) (too_deep ts)) tree_is in
-      (within new_mark, t.is ∙ ap (λ (b : Bool). cond b (stopped best (too_deep ts)) (going_on limit k t.fuel best more (drop place tokens))) high ∙ ap (λ (b : Option Best). stopped b (too_deep ts)) (new_kept t.best t.kept) ∙ sym (is ∙ same))
+      let same = ap (λ (n : Option Node). stopped (marked tokens mark n) (too_deep ts)) tree_is in (
+        within new_mark,
+        t.is ∙ ap (λ (b : Bool). cond b (stopped best (too_deep ts))
+            (going_on limit k t.fuel best more (drop place tokens))) high
+            ∙ ap (λ (b : Option Best). stopped b (too_deep ts)) (new_kept t.best t.kept) ∙ sym (is ∙ same),
+      )
 
 -- ---- neither a word nor an operand
 
-pub no_word_ends : (limit k : ℕ) (tokens : List Token) (s : Standing) (r : Reached) → next k s.reading (drop s.at tokens) ≡ asked (takes s.reading.state) → takes s.reading.state ≡ None
-    → ((best : Option Best) → IsKept tokens s best → outcome_of tokens r ≡ ended (done s.reading.state) best s.reading (drop s.at tokens)) → AreWithin (length tokens) r → IsTurnAt limit k tokens s (Ends r)
+pub no_word_ends : (limit k : ℕ) (tokens : List Token) (s : Standing) (r : Reached)
+    → next k s.reading (drop s.at tokens) ≡ asked (takes s.reading.state) → takes s.reading.state ≡ None
+    → ((best : Option Best) → IsKept tokens s best
+    → outcome_of tokens r ≡ ended (done s.reading.state) best s.reading (drop s.at tokens))
+    → AreWithin (length tokens) r → IsTurnAt limit k tokens s (Ends r)
 no_word_ends limit k tokens s r e none gives within = λ o g.
     let t = turned limit k tokens s spec.Ends o (e ∙ ap asked none) g in
     (within, t.is ∙ sym (gives t.best t.kept))
@@ -135,20 +184,29 @@ no_word_ends limit k tokens s r e none gives within = λ o g.
 -- ---- where an operand broke off
 
 -- it stops there, and falls back on what is whole, or was
-pub breaks_off : (limit k fuel : ℕ) (tokens : List Token) (s : Standing) (h : Halt) (best : Option Best) (r : Reached) (mark : Option Mark) (tree : Option Node) → IsStanding limit tokens s → mark ≡ mark_after s.reading s.at s.mark → tree ≡ before s.reading.state
-    → reaches limit (next k s.reading (drop s.at tokens)) (halt_at tokens h) ≡ false → IsKept tokens s best → outcome_of tokens r ≡ stopped (marked tokens mark tree) (halt_at tokens h) → (IsMarkWithin (length tokens) mark → AreWithin (length tokens) r)
+pub breaks_off : (limit k fuel : ℕ) (tokens : List Token) (s : Standing) (h : Halt) (best : Option Best) (r : Reached)
+    (mark : Option Mark) (tree : Option Node) → IsStanding limit tokens s → mark ≡ mark_after s.reading s.at s.mark
+    → tree ≡ before s.reading.state
+    → reaches limit (next k s.reading (drop s.at tokens)) (halt_at tokens h) ≡ false → IsKept tokens s best
+    → outcome_of tokens r ≡ stopped (marked tokens mark tree) (halt_at tokens h)
+    → (IsMarkWithin (length tokens) mark → AreWithin (length tokens) r)
     → Leads limit k tokens s.at (Ends r) (reached_on limit k fuel tokens s h best)
 breaks_off limit k fuel tokens s h best r mark tree standing mark_is tree_is miss kept is within =
     let stop = halt_at tokens h in
-    let fits = subst (IsMarkWithin (length tokens)) (sym mark_is) (mark_within (length tokens) s.at s.reading s.mark standing.within standing.mark_within) in
-    let same = ap (λ (m : Option Mark). stopped (marked tokens m tree) stop) mark_is ∙ ap (λ (n : Option Node). stopped (marked tokens (mark_after s.reading s.at s.mark) n) stop) tree_is in (
+    let fits = subst (IsMarkWithin (length tokens)) (sym mark_is)
+    (mark_within (length tokens) s.at s.reading s.mark standing.within standing.mark_within) in
+    let same = ap (λ (m : Option Mark). stopped (marked tokens m tree) stop) mark_is
+    ∙ ap (λ (n : Option Node). stopped (marked tokens (mark_after s.reading s.at s.mark) n) stop) tree_is in (
       within fits,
-      ap (λ (b : Bool). cond b (going_on limit k fuel best s.reading (drop s.at tokens)) (stopped (best_of (done s.reading.state) best s.reading (drop s.at tokens)) stop)) miss
+      ap (λ (b : Bool). cond b (going_on limit k fuel best s.reading (drop s.at tokens))
+          (stopped (best_of (done s.reading.state) best s.reading (drop s.at tokens)) stop)) miss
           ∙ ap (λ (b : Option Best). stopped b stop) (kept_of tokens s best kept) ∙ sym (is ∙ same),
     )
 
 -- the words that are wanted next don't reach a stop that is deep, or elsewhere
-far_from : (limit : ℕ) (tokens : List Token) (r more : Reading) (at k : ℕ) (rest : List Token) (h : Halt) → at ≤ length tokens → h.at ≤ length tokens → next k r (drop at tokens) ≡ Shifted more rest → (h.deep ≡ false → suc at ≡ h.at → ⊥) → reaches limit (Shifted more rest) (halt_at tokens h) ≡ false
+far_from : (limit : ℕ) (tokens : List Token) (r more : Reading) (at k : ℕ) (rest : List Token) (h : Halt)
+    → at ≤ length tokens → h.at ≤ length tokens → next k r (drop at tokens) ≡ Shifted more rest
+    → (h.deep ≡ false → suc at ≡ h.at → ⊥) → reaches limit (Shifted more rest) (halt_at tokens h) ≡ false
 far_from limit tokens r more at k rest h le le_h e away = by h.deep (is_high limit more) refl
   where
     followed : Follows k r (drop at tokens) (Shifted more rest)
@@ -157,12 +215,17 @@ far_from limit tokens r more at k rest h le le_h e away = by h.deep (is_high lim
     unlike : (m n : ℕ) → (m ≡ n → ⊥) → nat_eq m n ≡ false
     unlike m n ne = grind (arith, nat_tests)
 
-    by : (deep high : Bool) → h.deep ≡ deep → (not deep && not high && nat_eq (length rest) (length (drop h.at tokens))) ≡ false
+    by : (deep high : Bool) → h.deep ≡ deep
+        → (not deep && not high && nat_eq (length rest) (length (drop h.at tokens))) ≡ false
     by true high d = refl
     by false true d = refl
-    by false false d = unlike (length rest) (length (drop h.at tokens)) (λ same. away d (omega (arith, same, length-drop at tokens, length-drop h.at tokens, ap length followed.1)))
+    by false false d =
+        unlike (length rest) (length (drop h.at tokens))
+        (λ same. away d (omega (arith, same, length-drop at tokens, length-drop h.at tokens, ap length followed.1)))
 
-pub misses : (limit k : ℕ) (tokens : List Token) (s : Standing) (h : Halt) → s.at ≤ length tokens → h.at ≤ length tokens → (h.deep ≡ false → suc s.at ≡ h.at → ⊥) → reaches limit (next k s.reading (drop s.at tokens)) (halt_at tokens h) ≡ false
+pub misses : (limit k : ℕ) (tokens : List Token) (s : Standing) (h : Halt) → s.at ≤ length tokens → h.at ≤ length tokens
+    → (h.deep ≡ false → suc s.at ≡ h.at → ⊥)
+    → reaches limit (next k s.reading (drop s.at tokens)) (halt_at tokens h) ≡ false
 misses limit k tokens s h le le_h away = by (next k s.reading (drop s.at tokens)) refl
   where
     by : (x : Next) → next k s.reading (drop s.at tokens) ≡ x → reaches limit x (halt_at tokens h) ≡ false
@@ -170,8 +233,10 @@ misses limit k tokens s h le le_h away = by (next k s.reading (drop s.at tokens)
     by (Asks j) e = refl
     by spec.Ends e = refl
 
-pub no_word_misses : (limit k : ℕ) (r : Reading) (ts rest : List Token) (p : Token) (t : Stop) → ts ≡ p ∷ rest → shift k r p ≡ None → reaches limit (next k r ts) t ≡ false
-no_word_misses limit k r ts rest p t cut e = ap (λ (x : Next). reaches limit x t) (next_passes k r ts rest p cut e) ∙ by (takes r.state)
+pub no_word_misses : (limit k : ℕ) (r : Reading) (ts rest : List Token) (p : Token) (t : Stop) → ts ≡ p ∷ rest
+    → shift k r p ≡ None → reaches limit (next k r ts) t ≡ false
+no_word_misses limit k r ts rest p t cut e =
+    ap (λ (x : Next). reaches limit x t) (next_passes k r ts rest p cut e) ∙ by (takes r.state)
   where
     by : (o : Option ℕ) → reaches limit (asked o) t ≡ false
     by None = refl
@@ -182,28 +247,42 @@ high_misses_as true high there e = refl
 high_misses_as false true there e = refl
 high_misses_as false false there e = absurd cc
 
-pub high_misses : (limit k : ℕ) (r more : Reading) (ts rest : List Token) (p : Token) (t : Stop) → ts ≡ p ∷ rest → shift k r p ≡ Some more → is_high limit more ≡ true → reaches limit (next k r ts) t ≡ false
-high_misses limit k r more ts rest p t cut e high = ap (λ (x : Next). reaches limit x t) (next_takes k r more ts rest p cut e) ∙ high_misses_as t.deep (is_high limit more) (nat_eq (length rest) (length t.left)) high
+pub high_misses : (limit k : ℕ) (r more : Reading) (ts rest : List Token) (p : Token) (t : Stop) → ts ≡ p ∷ rest
+    → shift k r p ≡ Some more → is_high limit more ≡ true → reaches limit (next k r ts) t ≡ false
+high_misses limit k r more ts rest p t cut e high =
+    ap (λ (x : Next). reaches limit x t) (next_takes k r more ts rest p cut e)
+    ∙ high_misses_as t.deep (is_high limit more) (nat_eq (length rest) (length t.left)) high
 
-all_hold : (deep high there : Bool) → deep ≡ false → high ≡ false → there ≡ true → (not deep && not high && there) ≡ true
+all_hold : (deep high there : Bool) → deep ≡ false → high ≡ false → there ≡ true
+    → (not deep && not high && there) ≡ true
 all_hold false false true a b c = refl
 all_hold true high there a b c = absurd cc
 all_hold false true there a b c = absurd cc
 all_hold false false false a b c = absurd cc
 
-pub hits : (limit k : ℕ) (r more : Reading) (ts rest : List Token) (p : Token) (t : Stop) → ts ≡ p ∷ rest → shift k r p ≡ Some more → is_high limit more ≡ false → t.deep ≡ false → rest ≡ t.left → reaches limit (next k r ts) t ≡ true
-hits limit k r more ts rest p t cut e high calm there = ap (λ (x : Next). reaches limit x t) (next_takes k r more ts rest p cut e) ∙ all_hold t.deep (is_high limit more) (nat_eq (length rest) (length t.left)) calm high (alike (length rest) (length t.left) (ap length there))
+pub hits : (limit k : ℕ) (r more : Reading) (ts rest : List Token) (p : Token) (t : Stop) → ts ≡ p ∷ rest
+    → shift k r p ≡ Some more → is_high limit more ≡ false → t.deep ≡ false → rest ≡ t.left
+    → reaches limit (next k r ts) t ≡ true
+hits limit k r more ts rest p t cut e high calm there =
+    ap (λ (x : Next). reaches limit x t) (next_takes k r more ts rest p cut e)
+    ∙ all_hold t.deep (is_high limit more) (nat_eq (length rest) (length t.left)) calm high
+    (alike (length rest) (length t.left) (ap length there))
   where
     alike : (m n : ℕ) → m ≡ n → nat_eq m n ≡ true
     alike m n same = grind (arith, nat_tests)
 
--- where it reaches that place, the turn is the word's
-pub reaches_further : (limit k fuel : ℕ) (tokens : List Token) (s : Standing) (h : Halt) (best : Option Best) (turn : Turn) → reaches limit (next k s.reading (drop s.at tokens)) (halt_at tokens h) ≡ true → length (drop s.at tokens) < fuel → IsKept tokens s best
+-- where it reaches that index, the turn is the word's
+pub reaches_further : (limit k fuel : ℕ) (tokens : List Token) (s : Standing) (h : Halt) (best : Option Best)
+    (turn : Turn) → reaches limit (next k s.reading (drop s.at tokens)) (halt_at tokens h) ≡ true
+    → length (drop s.at tokens) < fuel → IsKept tokens s best
     → IsTurnAt limit k tokens s turn → Leads limit k tokens s.at turn (reached_on limit k fuel tokens s h best)
-reaches_further limit k fuel tokens s h best turn hit room kept is = is (reached_on limit k fuel tokens s h best) (record {
-  fuel = fuel;
-  best = best;
-  room = room;
-  kept = kept;
-  is = ap (λ (b : Bool). cond b (going_on limit k fuel best s.reading (drop s.at tokens)) (stopped (best_of (done s.reading.state) best s.reading (drop s.at tokens)) (halt_at tokens h))) hit;
-})
+reaches_further limit k fuel tokens s h best turn hit room kept is =
+    is (reached_on limit k fuel tokens s h best) (record {
+      fuel = fuel;
+      best = best;
+      room = room;
+      kept = kept;
+      is =
+          ap (λ (b : Bool). cond b (going_on limit k fuel best s.reading (drop s.at tokens))
+          (stopped (best_of (done s.reading.state) best s.reading (drop s.at tokens)) (halt_at tokens h))) hit;
+    })

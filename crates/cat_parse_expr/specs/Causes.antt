@@ -7,7 +7,7 @@ use Rattle.cat_parse_expr.specs.Places.{IsSpelled, GoesUpTo, IsTooHigh}
 use Rattle.cat_parse_expr.specs.declared.refusal.ParseRefusal.{ParseRefusal}
 use Rattle.cat_parse_expr.specs.declared.refusal.ParseRefusal.TheVariants.{Unexpected, TooDeep, Memory}
 
--- no front of the tokens from the place on spells an expression, of any height
+-- no front of the tokens from the index on spells an expression, of any height
 abbrev pub HasNoFront : List Token → (at : ℕ) → Type 0
 HasNoFront tokens at = (next : ℕ) → ¬ IsSpelled tokens at next
 
@@ -15,7 +15,7 @@ HasNoFront tokens at = (next : ℕ) → ¬ IsSpelled tokens at next
 abbrev pub HasNoLowFront : List Token → (at : ℕ) → Type 0
 HasNoLowFront tokens at = (next : ℕ) (e : Node) → ¬ IsFront tokens at next e
 
--- what a refusal to read an expression says of the tokens from the place on
+-- what a refusal to read an expression says of the tokens from the index on
 abbrev pub HasCause : List Token → (at : ℕ) → ParseRefusal → Type 0
 HasCause tokens at (Unexpected place) = GoesUpTo tokens at place × HasNoFront tokens at
 HasCause tokens at (TooDeep place) = IsTooHigh tokens at place × HasNoLowFront tokens at

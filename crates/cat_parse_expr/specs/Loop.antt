@@ -1,4 +1,4 @@
--- The code's reading, with places for what is left of the tokens, beside reading on lists.
+-- The code's reading, with indices for what is left of the tokens, beside reading on lists.
 use Rattle.std.specs.Prelude.{ℕ, suc, ◌≡◌, ◌≤◌, ◌<◌, ◌-◌, nat_le, cond, true, false, List, length, drop, Option, Some, None}
 use Rattle.cat_lex.specs.declared.token.Token.{Token}
 use Rattle.cat_tree.specs.declared.expression.Node.{Node}
@@ -20,7 +20,7 @@ use Rattle.cat_parse_expr.specs.Reader.{Best, is_high, next, reaches, best_of, s
 use Rattle.cat_parse_expr.specs.Fallback.{fallback, is_filled}
 use Rattle.cat_parse_step.specs.Moves.{lists_before}
 
--- ---- places as what is left
+-- ---- indices as what is left
 
 -- a stop, by the tokens that are left there
 abbrev pub halt_at : List Token → Halt → Stop
@@ -32,7 +32,7 @@ outcome_of tokens (reached.Fails h) = Fails (halt_at tokens h)
 outcome_of tokens (reached.Reads e place None) = Reads e (drop place tokens) None
 outcome_of tokens (reached.Reads e place (Some h)) = Reads e (drop place tokens) (Some (halt_at tokens h))
 
--- its places are not past the end
+-- its indices are not past the end
 abbrev pub AreWithin : (end : ℕ) → Reached → Type 0
 AreWithin end (reached.Fails h) = h.at ≤ end
 AreWithin end (reached.Reads e place None) = place ≤ end
@@ -44,13 +44,19 @@ AreWithin end (reached.Reads e place (Some h)) = (place ≤ end) × (h.at ≤ en
 abbrev pub marked : List Token → Option Mark → Option Node → Option Best
 marked tokens None tree = None
 marked tokens (Some m) None = None
-marked tokens (Some m) (Some tree) = Some (record { part = record { node = tree; height = m.height; in_form = m.in_form; in_match = m.in_match }; rest = drop m.at tokens })
+marked tokens (Some m) (Some tree) =
+    Some (record {
+      part = record { node = tree; height = m.height; in_form = m.in_form; in_match = m.in_match };
+      rest = drop m.at tokens;
+    })
 
 -- the mark of what is whole here, or else the one before
 abbrev pub mark_after : Reading → (at : ℕ) → Option Mark → Option Mark
-mark_after r at mark = cond (is_some (done r.state)) (Some (record { at = at; height = suc r.tallest; in_form = r.in_form; in_match = r.in_match })) mark
+mark_after r at mark =
+    cond (is_some (done r.state)) (Some
+    (record { at = at; height = suc r.tallest; in_form = r.in_form; in_match = r.in_match })) mark
 
--- the marked place is not past the end
+-- the marked index is not past the end
 abbrev pub IsMarkWithin : (end : ℕ) → Option Mark → Type 0
 IsMarkWithin end None = Unit {0}
 IsMarkWithin end (Some m) = m.at ≤ end
@@ -94,12 +100,18 @@ IsTurnAt limit k tokens s turn = (o : Outcome) → GoesOn limit k tokens s o →
 -- a turn without an operand, or the operand that is asked for
 abbrev pub IsAdvance : (limit k : ℕ) → List Token → Standing → Next → Type 0
 IsAdvance limit k tokens s (Turns turn) = IsTurnAt limit k tokens s turn
-IsAdvance limit k tokens s (Asks same j) = (same ≡ s) × (takes s.reading.state ≡ Some j) × (next k s.reading (drop s.at tokens) ≡ spec.Asks j)
+IsAdvance limit k tokens s (Asks same j) =
+    (same ≡ s) × (takes s.reading.state ≡ Some j) × (next k s.reading (drop s.at tokens) ≡ spec.Asks j)
 
--- where an operand broke off at a stop: the turn that goes on to that place, or stops there
+-- where an operand broke off at a stop: the turn that goes on to that index, or stops there
 abbrev pub reached_on : (limit k fuel : ℕ) → List Token → Standing → Halt → Option Best → Outcome
-reached_on limit k fuel tokens s h best = cond (reaches limit (next k s.reading (drop s.at tokens)) (halt_at tokens h)) (going_on limit k fuel best s.reading (drop s.at tokens)) (stopped (best_of (done s.reading.state) best s.reading (drop s.at tokens)) (halt_at tokens h))
+reached_on limit k fuel tokens s h best =
+    cond (reaches limit (next k s.reading (drop s.at tokens)) (halt_at tokens h))
+    (going_on limit k fuel best s.reading (drop s.at tokens))
+    (stopped (best_of (done s.reading.state) best s.reading (drop s.at tokens)) (halt_at tokens h))
 
 -- what was read where an operand is asked for
 abbrev pub IsOperandAt : (limit k : ℕ) → List Token → Standing → Reached → Type 0
-IsOperandAt limit k tokens s r = (j : ℕ) × (takes s.reading.state ≡ Some j) × (next k s.reading (drop s.at tokens) ≡ spec.Asks j) × (outcome_of tokens r ≡ operand_of (read (limit - 1)) (nat_le limit s.reading.tallest) j (drop s.at tokens))
+IsOperandAt limit k tokens s r =
+    (j : ℕ) × (takes s.reading.state ≡ Some j) × (next k s.reading (drop s.at tokens) ≡ spec.Asks j)
+    × (outcome_of tokens r ≡ operand_of (read (limit - 1)) (nat_le limit s.reading.tallest) j (drop s.at tokens))

@@ -62,7 +62,7 @@ is_high limit r = (is_some (done r.state) && nat_le limit r.tallest) || (needs_p
 abbrev pub Going : Type 0
 Going = Option Best → Reading → List Token → Outcome
 
--- where the operand broke off further on, the words that are wanted here may still reach that place
+-- where the operand broke off further on, the words that are wanted here may still reach that index
 abbrev pub reaches : (limit : ℕ) → Next → Stop → Bool
 reaches limit (Shifted more ts) s = not s.deep && not (is_high limit more) && nat_eq (length ts) (length s.left)
 reaches limit (Asks j) s = false
@@ -72,11 +72,16 @@ reaches limit Ends s = false
 abbrev pub fed : (k limit : ℕ) → Going → Option Best → Reading → Outcome → Outcome
 fed k limit go best r (Fails s) = stopped best s
 fed k limit go best r (Reads e ts None) = go best (feed r e) ts
-fed k limit go best r (Reads e ts (Some s)) = if reaches limit (next k (feed r e) ts) s then go best (feed r e) ts else stopped (best_of (done (feed r e).state) best (feed r e) ts) s
+fed k limit go best r (Reads e ts (Some s)) =
+    if reaches limit (next k (feed r e) ts) s then go best (feed r e) ts else stopped
+    (best_of (done (feed r e).state) best (feed r e) ts) s
 
 -- one word or one operand of reading
-abbrev pub turn : (operand : Bool → ℕ → Reader) (k limit : ℕ) → Going → Option Best → Reading → List Token → Next → Outcome
-turn operand k limit go best r ts (Shifted more rest) = if is_high limit more then stopped (best_of (done r.state) best r ts) (too_deep ts) else go (best_of (done r.state) best r ts) more rest
+abbrev pub turn : (operand : Bool → ℕ → Reader) (k limit : ℕ) → Going → Option Best → Reading → List Token → Next
+    → Outcome
+turn operand k limit go best r ts (Shifted more rest) =
+    if is_high limit more then stopped (best_of (done r.state) best r ts) (too_deep ts) else go
+    (best_of (done r.state) best r ts) more rest
 turn operand k limit go best r ts (Asks j) = fed k limit go best r (operand (nat_le limit r.tallest) j ts)
 turn operand k limit go best r ts Ends = ended (done r.state) best r ts
 

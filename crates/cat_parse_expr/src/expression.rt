@@ -1,4 +1,4 @@
-// Expressions at a place of a list of tokens.
+// Expressions at an index of a list of tokens.
 ghost use Rattle.std.specs.Prelude.{◌≡◌, ◌≤◌, ℕ, List, length, cond, IfOk, IfErr};
 ghost use Rattle.cat_lex.specs.declared.token.Token.{Token};
 ghost use Rattle.cat_tree.specs.declared.expression.Node.{Node};
@@ -23,7 +23,7 @@ fn refusal_at(halt: Halt) -> ParseRefusal
     }
 }
 
-/// The longest expression of height at most 256 that begins at the place, and the place after it. It
+/// The longest expression of height at most 256 that begins at the index, and the index after it. It
 /// takes time in proportion to the tokens that it looks at.
 pub fn expr(alloc: Global, tokens: &[Token], at: usize) -> Result<(Node, usize), ParseRefusal>
     requires { at ≤ length tokens.now }
@@ -37,7 +37,7 @@ pub fn expr(alloc: Global, tokens: &[Token], at: usize) -> Result<(Node, usize),
     }
 }
 
-/// The same expression and place, and how far the tokens from there on begin an expression of any height.
+/// The same expression and index, and how far the tokens from there on begin an expression of any height.
 /// Where only the height stops them, that is refused even behind an expression.
 pub fn expr_reach(
     alloc: Global,

@@ -1,4 +1,4 @@
-//! Reads expressions: the longest one that begins at a place of a list of tokens.
+//! Reads expressions: the longest one that begins at an index of a list of tokens.
 #![tactic(auto)]
 
 mod expression;

@@ -14,7 +14,7 @@ pub(crate) struct Halt {
     pub deep: bool,
 }
 
-/// A tree that was read comes with the place after it, and with where a longer one broke off, if further on.
+/// A tree that was read comes with the index after it, and with where a longer one broke off, if further on.
 #[derive(Drop)]
 pub(crate) enum Reached {
     Fails(Halt),
@@ -24,7 +24,7 @@ pub(crate) enum Reached {
 /// What is kept of the last whole expression on the way: all but its tree.
 #[derive(Clone, Copy)]
 pub(crate) struct Mark {
-    /// The place after it.
+    /// The index after it.
     pub at: usize,
     pub height: u32,
     pub in_form: bool,

@@ -1,4 +1,4 @@
-// The longest expression at a place, read to a height.
+// The longest expression at an index, read to a height.
 ghost use Rattle.std.specs.Prelude.{◌≡◌, ◌<◌, ◌≤◌, ◌-◌, cond, nat_le, length, drop, IfOk};
 ghost use Rattle.cat_parse_expr.specs.Reader.{starts, nothing_at, read};
 ghost use Rattle.cat_parse_expr.specs.Loop.{outcome_of, AreWithin, IsStanding, IsTurnAt};
@@ -10,7 +10,7 @@ use cat_parse_state::start;
 use cat_parse_step::{Shifted, shift};
 use std::alloc::{AllocError, Global};
 
-/// Whether a part at that level begins at the place.
+/// Whether a part at that level begins at the index.
 fn starts(alloc: Global, tokens: &[Token], at: usize, level: u32) -> Result<bool, AllocError>
     ensures { IfOk result (λ yes. yes ≡ starts level (drop at tokens.now)) }
 {

@@ -15,7 +15,7 @@ use cat_parse_step::{Shifted, shift};
 use cat_tree::Node;
 use std::alloc::{AllocError, Global};
 
-/// What has been read, the place after it, and the last whole expression on the way.
+/// What has been read, the index after it, and the last whole expression on the way.
 #[derive(Drop)]
 pub(crate) struct Standing {
     pub reading: Reading,
@@ -151,7 +151,7 @@ pub(crate) fn advance(
     }
 }
 
-/// An operand broke off at a stop, and the words that are wanted next may still reach that place.
+/// An operand broke off at a stop, and the words that are wanted next may still reach it.
 fn reach(
     alloc: Global,
     tokens: &[Token],

@@ -59,9 +59,11 @@ behind k s (Some n) t = whole_step k s n t
 
 -- a number with its unit
 abbrev pub span_step : ℤ → Pos → TimeUnit → Stepped
-span_step n p u = if int_lt span_bound n then stepped.Still (state.Int n p) else stepped.Onward (state.Complete (leaf.Literal (literal.Span n u) p) 9)
+span_step n p u =
+    if int_lt span_bound n then stepped.Still (state.Int n p) else stepped.Onward
+    (state.Complete (leaf.Literal (literal.Span n u) p) 9)
 
--- a word and its place
+-- a word and its position
 abbrev pub named : List ℕ → Pos → Name
 named text p = record { text = text; pos = p }
 

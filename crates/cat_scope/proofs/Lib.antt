@@ -15,3 +15,4 @@ mod WrongReadings
 mod Forms
 mod FunctionSamples
 mod OperatorSamples
+pub mod Exported

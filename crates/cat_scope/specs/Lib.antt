@@ -26,3 +26,6 @@ pub mod Orders
 pub mod WellFormed
 pub mod Named
 pub mod Forests
+pub mod Same
+pub mod OperatorNumbers
+pub mod SameTree

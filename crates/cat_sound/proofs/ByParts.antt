@@ -1,5 +1,5 @@
 -- Induction over expressions: what holds of an expression where it holds of its parts, holds of each.
-use Rattle.std.proofs.Common.{◌≡◌, ℕ, List, [], ◌∷◌, Option, None, Some}
+use Rattle.std.proofs.Common.{◌≡◌, List, [], ◌∷◌, Option, None, Some}
 use Rattle.cat_scope.specs.declared.expr.Expr.{Expr}
 use Rattle.cat_scope.specs.declared.expr.FieldValue.{FieldValue}
 use Rattle.cat_scope.specs.declared.expr.Arm.{Arm}
@@ -8,7 +8,7 @@ use Rattle.cat_scope.specs.declared.expr.Expr.TheVariants as leaf
 use Rattle.cat_scope.specs.declared.expr.Expr.TheViews as expr
 use Rattle.cat_scope.specs.declared.expr.Expr.TheViews.{out-Expr}
 use Rattle.cat_scope.specs.Names.{AllHave}
-use Rattle.cat_scope.proofs.Induction.{Each, Within, induction}
+use Rattle.cat_scope.proofs.Exported.{Each, Within, induction}
 use Rattle.cat_sound.proofs.NamedParts.{content_part, parts_of, bodies_of, values_of}
 
 module _ (P : Expr → Type 0) (step : (e : Expr) (y : Expr-F Expr Arm FieldValue) → out-Expr e ≡ y → AllHave P (parts_of y) → P e) where

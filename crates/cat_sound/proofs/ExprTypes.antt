@@ -35,7 +35,7 @@ use Rattle.cat_scope.specs.Eval.{Env, eval, eval_all, eval_fields, eval_arms}
 use Rattle.cat_scope.specs.Literals.{literal_type}
 use Rattle.cat_scope.specs.Composed.{literal_value, part, structured, listed}
 use Rattle.cat_sound.specs.Endings.{Allowed, EndsIn, IsOf, AreOf, IsFieldOf, numbers_of, IsReady, IsCallable, IsEnvOf}
-use Rattle.cat_scope.proofs.Equations.{eval_Literal, eval_Item, eval_Output, eval_Local, eval_Field, eval_Unary, eval_Binary, eval_And, eval_Or, eval_If, eval_Match, eval_IsCase, eval_Case_None, eval_Case_Some, eval_Structure, eval_List, eval_ForAll, eval_Exists, eval_Map, eval_Filter, eval_Combine, eval_Contains, eval_Length, eval_Sum, eval_Call, eval_ScopeCall}
+use Rattle.cat_scope.proofs.Exported.{eval_Literal, eval_Item, eval_Output, eval_Local, eval_Field, eval_Unary, eval_Binary, eval_And, eval_Or, eval_If, eval_Match, eval_IsCase, eval_Case_None, eval_Case_Some, eval_Structure, eval_List, eval_ForAll, eval_Exists, eval_Map, eval_Filter, eval_Combine, eval_Contains, eval_Length, eval_Sum, eval_Call, eval_ScopeCall}
 use Rattle.cat_sound.proofs.Results.{local_of, are_more, result_as}
 use Rattle.cat_sound.proofs.Endings.{ends_plain, ends_as, ends_then, ends_giving, ends_in_front, ends_choose}
 use Rattle.cat_sound.proofs.FlatTypes.{of-Boolean, of-Integer, literal-typed}

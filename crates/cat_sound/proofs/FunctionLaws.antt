@@ -1,15 +1,13 @@
 -- A function is judged by the rule of targets in the whole scope.
-use Rattle.std.proofs.Common.{◌≡◌, ◌⊎◌, inl, inr, ℕ, zero, suc, ◌+◌, ◌<◌, ◌≤◌, Bool, true, false, IsTrue, List, [], ◌∷◌, ◌++◌, length, take, drop, Option, Some, None, slice_get, refl, sym, ap, ◌∙◌, subst, arith, true≢false, if◌then◌else◌}
+use Rattle.std.proofs.Common.{◌≡◌, ◌⊎◌, inl, inr, ℕ, ◌+◌, ◌<◌, ◌≤◌, Bool, true, false, IsTrue, List, [], ◌∷◌, ◌++◌, length, take, drop, None, slice_get, refl, sym, ap, ◌∙◌, subst, arith, true≢false, if◌then◌else◌}
 use Rattle.std.specs.Prelude.{nat_eq}
 use Rattle.std.proofs.lemmas.Bool.Decides.{nat_tests}
 use Rattle.std.proofs.lemmas.List.{take-append-drop}
 use Rattle.cat_order.specs.Order.{dependencies_of, times, IsOrder}
-use Rattle.cat_value.specs.declared.outcome.Target.{Target}
 use Rattle.cat_value.specs.declared.value.Value.{Value}
 use Rattle.cat_scope.specs.declared.defs.Def.{Def}
 use Rattle.cat_scope.specs.Runs.{Run}
 use Rattle.cat_scope.specs.Names.{AllHave, is_in}
-use Rattle.cat_scope.specs.Judging.{Judged}
 use Rattle.cat_scope.specs.Eval.{Env, eval}
 use Rattle.cat_scope.specs.Orders.{in_def, in_defs_of, item_dependencies}
 use Rattle.cat_scope.specs.Mentions.{items_named, scopes_named}
@@ -18,7 +16,7 @@ use Rattle.cat_scope.specs.Running.{moved, backwards}
 use Rattle.cat_sound.specs.Rests.{TellSame, CallSame}
 use Rattle.cat_sound.proofs.FormTypes.{same_number, not_true}
 use Rattle.cat_sound.proofs.TargetTypes.{all_more}
-use Rattle.cat_sound.proofs.OrderFacts.{AllIn, in_at, Behind, Ahead, moved-behind, moved_new, ahead-of_IsOrder, all-of_IsOrder, ahead_as, dependencies-length, dependencies-at}
+use Rattle.cat_sound.proofs.OrderFacts.{AllIn, Behind, Ahead, moved-behind, moved_new, ahead-of_IsOrder, all-of_IsOrder, ahead_as, dependencies-length, dependencies-at}
 use Rattle.cat_sound.proofs.JudgingSame.{target_same, defs_agree}
 
 -- ---- lists without repetition

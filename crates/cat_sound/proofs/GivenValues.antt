@@ -30,8 +30,8 @@ use Rattle.cat_scope.specs.Running.{entry_at, with_entry, run_items, no_values, 
 use Rattle.cat_scope.specs.ItemValues.{item_value}
 use Rattle.cat_scope.specs.Outcomes.{outcome_of}
 use Rattle.cat_sound.specs.Given.{values_at, HasValue, output_number}
-use Rattle.cat_scope.proofs.RunLaws.{and_then_and_then}
-use Rattle.cat_scope.proofs.Equations.{and_then_same}
+use Rattle.cat_scope.proofs.Exported.{and_then_and_then}
+use Rattle.cat_scope.proofs.Exported.{and_then_same}
 use Rattle.cat_sound.proofs.FormTypes.{same_some, same_number, not_true}
 use Rattle.cat_sound.proofs.OrderFacts.{all-of_IsOrder, dependencies-length}
 use Rattle.cat_sound.proofs.RunTypes.{with_entry-same, with_entry-other, with_entry-length, no_values-length, body_at}

@@ -18,7 +18,7 @@ use Rattle.cat_scope.specs.declared.expr.Literal.TheVariants as literal
 use Rattle.cat_scope.specs.Names.{Names}
 use Rattle.cat_scope.specs.Orders.{scope_dependencies, calls_in, once}
 use Rattle.cat_scope.specs.WellFormed.{DefTyped, IsBodyOf, IsWellFormed}
-use Rattle.cat_scope.proofs.Namings.{namings}
+use Rattle.cat_scope.proofs.Exported.{namings}
 use Rattle.cat_order.specs.Order.{IsOrder, is_ready}
 use Rattle.cat_order.specs.Computed.{order_of}
 use Rattle.cat_order.proofs.Theorems.{order_of-iff_IsOrder}

@@ -1,5 +1,5 @@
 -- The inputs that scope calls and called scopes make are well typed, and what a run gives has the types of its outputs.
-use Rattle.std.proofs.Common.{◌≡◌, ℕ, zero, suc, ◌+◌, Bool, true, false, ◌&&◌, ◌||◌, not, IsTrue, List, [], ◌∷◌, Option, Some, None, Result, Ok, Err, slice_get, refl, sym, ap, ◌∙◌, subst, arith, true≢false, if◌then◌else◌}
+use Rattle.std.proofs.Common.{◌≡◌, ℕ, zero, suc, ◌+◌, Bool, true, false, ◌&&◌, ◌||◌, not, IsTrue, List, [], ◌∷◌, Option, Some, None, Ok, Err, slice_get, refl, sym, ap, ◌∙◌, subst, arith, true≢false, if◌then◌else◌}
 use Rattle.std.specs.Prelude.{nat_eq}
 use Rattle.cat_pos.specs.declared.pos.Pos.{Pos}
 use Rattle.cat_value.specs.declared.outcome.Target.{Target}
@@ -30,7 +30,7 @@ use Rattle.cat_scope.specs.WellFormed.{is_internal, is_placed}
 use Rattle.cat_sound.specs.Settled.{IsHeldOf}
 use Rattle.cat_sound.specs.Endings.{Allowed, Ended, EndsIn, ResultsIn, IsOf, types_of, AreOutputsOf, numbers_of, IsFieldOf, IsCallable}
 use Rattle.cat_sound.proofs.Results.{both, and_both, local_of}
-use Rattle.cat_sound.proofs.Endings.{ends_as, ends_then, ends_giving, ends_in_front}
+use Rattle.cat_sound.proofs.Endings.{ends_then, ends_giving, ends_in_front}
 use Rattle.cat_sound.proofs.FlatTypes.{of-Boolean}
 use Rattle.cat_sound.proofs.FormTypes.{same_some, same_number, not_true}
 use Rattle.cat_sound.proofs.TargetTypes.{absent-ends}

@@ -1,5 +1,5 @@
 -- A target comes to the same where its definitions do.
-use Rattle.std.proofs.Common.{◌≡◌, ℕ, zero, suc, ◌+◌, Bool, true, false, IsTrue, List, [], ◌∷◌, ◌++◌, map, length, Option, Some, None, slice_get, refl, sym, ap, ◌∙◌, true≢false, if◌then◌else◌}
+use Rattle.std.proofs.Common.{◌≡◌, ℕ, zero, suc, Bool, true, false, IsTrue, List, [], ◌∷◌, ◌++◌, map, length, Option, Some, None, slice_get, refl, sym, ap, ◌∙◌, true≢false, if◌then◌else◌}
 use mathlib.Core.Path.{fun_ext}
 use Rattle.std.specs.Prelude.{nat_eq}
 use Rattle.cat_value.specs.declared.outcome.Target.{Target}
@@ -14,7 +14,7 @@ use Rattle.cat_scope.specs.Targets.{same_inner, same_target, defs_from, conditio
 use Rattle.cat_scope.specs.Eval.{Env, eval}
 use Rattle.cat_scope.specs.Orders.{in_condition, in_def, in_defs_of}
 use Rattle.cat_scope.specs.Mentions.{items_named, scopes_named}
-use Rattle.cat_sound.specs.Rests.{TellSame, CallSame, AgreeOn}
+use Rattle.cat_sound.specs.Rests.{TellSame, CallSame}
 use Rattle.cat_sound.proofs.Results.{both, all_front, all_back}
 use Rattle.cat_sound.proofs.TargetTypes.{groups-all, defs-all}
 use Rattle.cat_sound.proofs.Rests.{names_alone}

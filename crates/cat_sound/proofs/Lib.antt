@@ -32,6 +32,12 @@ pub mod Rests
 pub mod JudgingSame
 pub mod FunctionLaws
 pub mod ScopeLaws
+pub mod Alike
+pub mod LeafTests
+pub mod Trees
+pub mod DecidedLaws
+mod SoundSamples
 pub mod HeldLaws
 pub mod GroupLaws
 pub mod OneType
+pub mod Exported

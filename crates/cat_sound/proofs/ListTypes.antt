@@ -1,5 +1,5 @@
 -- The forms that go over lists end in values of their types.
-use Rattle.std.proofs.Common.{◌≤◌, nat_le, pos, Bool, true, false, if◌then◌else◌, IsTrue, List, [], ◌∷◌, length, Result, Ok, Err, refl, ap, ◌∙◌, arith}
+use Rattle.std.proofs.Common.{◌≤◌, nat_le, pos, Bool, true, false, if◌then◌else◌, IsTrue, List, [], ◌∷◌, length, Result, Ok, refl, ap, ◌∙◌, arith}
 use Rattle.std.proofs.lemmas.Bool.Decides.{nat_tests}
 use Rattle.cat_pos.specs.declared.pos.Pos.{Pos}
 use Rattle.cat_date.specs.declared.rounding.Rounding.TheVariants.{Refuse}
@@ -23,13 +23,12 @@ use Rattle.cat_scope.specs.Lists.{for_all, exists, mapped, filtered, combined, c
 use Rattle.cat_scope.specs.Names.{IsOneOf}
 use Rattle.cat_scope.specs.Signatures.{summed_type, compared_types}
 use Rattle.cat_scope.specs.Names.{AllHave}
-use Rattle.cat_sound.specs.Endings.{Allowed, Ended, EndsIn, ResultsIn, IsOf}
+use Rattle.cat_sound.specs.Endings.{Allowed, EndsIn, ResultsIn, IsOf}
 use Rattle.cat_sound.proofs.Results.{both, and_both, Any, result_as, result_then}
 use Rattle.cat_sound.proofs.Endings.{ends_then, ends_in_front, ends_choose, ends_more}
 use Rattle.cat_scope.specs.declared.stop.Stop.{Stop}
 use Rattle.cat_sound.proofs.Fits.{whole_decimal}
 use Rattle.cat_sound.proofs.FlatTypes.{of-Boolean, of-Integer, of-Decimal, of-Money, of-Duration}
-use Rattle.cat_value.specs.declared.outcome.Target.{Target}
 use Rattle.cat_sound.proofs.OperatorTypes.{of-AddIntegers, of-AddDecimals, of-AddMoney, of-AddDurations, equal-ends}
 
 -- what holds of the elements of a list of a type

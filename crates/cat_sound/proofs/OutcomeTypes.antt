@@ -95,3 +95,18 @@ pub settled_programs : (allowed : Allowed) (within : ℕ → Bool) (ds : Decls) 
 settled_programs allowed within ds bodies order scope input formed closed settled inside typed =
     ∥∥₁_elim formed (EndsIn-prop allowed ds (scope_items ds scope) (run_of ds.scopes bodies order scope input))
     (λ is. run-ends allowed within ds bodies order scope input is closed settled inside typed)
+
+-- what is decided is a target of a scope that is called
+pub logged_within : (within : ℕ → Bool) (ds : Decls) (bodies : List Body) (order : List ℕ) (scope : ℕ) (input : Items) → ∥ IsWellFormed ds bodies order ∥₁
+    → IsClosed within ds bodies → IsTrue (within scope) → IsWellTyped ds scope input → AllHave (λ d. IsTrue (within d.target.scope)) (run_of ds.scopes bodies order scope input).log
+logged_within within ds bodies order scope input formed closed inside typed =
+    (settled_programs (record { may_stop = λ target. true; may_decide = λ target by. within target.scope }) within ds bodies order scope input formed closed
+    (λ k s body here at body_at env arguments item inner ps t target are stand. record {
+      ends = λ stops. absurd (true≢false stops);
+      stands = λ none. inside_all k here item inner (judge_target (λ e. eval env e arguments) (record { scope = k; item = item; inner = inner }) body.defs).end;
+    }) inside typed).0
+  where
+    inside_all : (k : ℕ) → IsTrue (within k) → (item : ℕ) (inner : Option ℕ) (r : Result (Option (Held Value)) Stop)
+        → MayStand (record { may_stop = λ target. true; may_decide = λ target by. within target.scope }) (record { scope = k; item = item; inner = inner }) r
+    inside_all k here item inner (Ok found) = here
+    inside_all k here item inner (Err s) = tt

@@ -8,7 +8,7 @@ use Rattle.cat_scope.specs.Targets.{judge_target}
 use Rattle.cat_scope.specs.Running.{run_of}
 use Rattle.cat_scope.specs.Outcomes.{scope_outcome, deciders}
 use Rattle.cat_scope.specs.Forests.{StandsFor}
-use Rattle.cat_scope.proofs.Equations.{equations}
+use Rattle.cat_scope.proofs.Exported.{equations}
 use Rattle.cat_scope.proofs.Samples.{at, variable}
 use Rattle.cat_sound.proofs.WellFormedCalls.{program}
 

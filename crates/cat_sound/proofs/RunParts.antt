@@ -1,5 +1,5 @@
 -- A run that ends in a value has given each of its items what it comes to, in the values of its place.
-use Rattle.std.proofs.Common.{◌≡◌, ℕ, zero, suc, List, [], ◌∷◌, take, drop, Option, Some, None, Result, Ok, Err, slice_get, refl, sym, ap, ◌∙◌}
+use Rattle.std.proofs.Common.{◌≡◌, ℕ, zero, suc, List, [], ◌∷◌, take, drop, Some, Result, Ok, Err, slice_get, refl, sym, ap, ◌∙◌}
 use Rattle.cat_value.specs.declared.value.Value.{Value}
 use Rattle.cat_scope.specs.declared.stop.Stop.{Stop}
 use Rattle.cat_scope.specs.Runs.{Decider, Run, behind, and_then}
@@ -21,7 +21,7 @@ first_behind log (Err stop) next b h = absurd (cc)
 pub first_ok : {A B : Type 0} (run : Run A) (next : A → Run B) (b : B) → (and_then run next).end ≡ Ok b → FirstOk run.end next b
 first_ok run next b h = first_behind run.log run.end next b h
 
-drop_at : (ns : List ℕ) (place item : ℕ) → slice_get ns place ≡ Some item → (rest : List ℕ) × (drop place ns ≡ item ∷ rest)
+pub drop_at : (ns : List ℕ) (place item : ℕ) → slice_get ns place ≡ Some item → (rest : List ℕ) × (drop place ns ≡ item ∷ rest)
 drop_at [] place item at = absurd (cc)
 drop_at (n ∷ ns) zero item at = (ns, ap (λ (m : ℕ). m ∷ ns) (same_some n item at))
 drop_at (n ∷ ns) (suc place) item at = drop_at ns place item at

@@ -1,5 +1,5 @@
 -- The run of a scope, and of a program's scopes, ends in values of the types of its outputs, or in a stop that an outcome may be.
-use Rattle.std.proofs.Common.{◌≡◌, ℕ, zero, suc, ◌+◌, ◌<◌, Bool, true, false, ◌&&◌, ◌||◌, not, IsTrue, List, [], ◌∷◌, length, Option, Some, None, Result, Err, slice_get, refl, sym, ap, ◌∙◌, subst, arith, true≢false, if◌then◌else◌}
+use Rattle.std.proofs.Common.{◌≡◌, ℕ, zero, suc, ◌+◌, ◌<◌, Bool, true, false, ◌&&◌, ◌||◌, not, IsTrue, List, [], ◌∷◌, length, Option, Some, None, slice_get, refl, sym, ap, ◌∙◌, subst, arith, true≢false, if◌then◌else◌}
 use Rattle.std.specs.Prelude.{nat_eq}
 use Rattle.std.proofs.lemmas.Bool.Decides.{nat_tests}
 use Rattle.std.proofs.lemmas.Option.{slice_get_within}
@@ -39,7 +39,6 @@ use Rattle.cat_sound.proofs.ExprTypes.{expressions_go_on}
 use Rattle.cat_sound.proofs.TargetTypes.{all_more, all_at}
 use Rattle.cat_sound.proofs.OrderFacts.{AllIn, in_at, behind_first, Behind, Ahead, moved-behind, moved_new, ahead-of_IsOrder, all-of_IsOrder, ahead_as, dependencies-length, dependencies-at, scopes-length, scopes-at, all_once}
 use Rattle.cat_sound.proofs.InputTypes.{Placed, Callee}
-use Rattle.cat_value.specs.declared.outcome.Target.{Target}
 use Rattle.cat_sound.proofs.ScopeTypes.{names_of, IsSound, IsDone, DoneAt, callable, ready, done-variable, defined-ends, called-ends}
 
 -- ---- entries

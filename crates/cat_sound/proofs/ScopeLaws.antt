@@ -1,5 +1,5 @@
 -- A scope is run where the scopes that it calls give what their runs give.
-use Rattle.std.proofs.Common.{◌≡◌, ℕ, zero, suc, ◌+◌, ◌<◌, Bool, true, false, IsTrue, List, [], ◌∷◌, ◌++◌, length, Option, Some, None, slice_get, refl, sym, ap, ◌∙◌, subst, arith, true≢false, if◌then◌else◌}
+use Rattle.std.proofs.Common.{◌≡◌, ℕ, zero, suc, ◌<◌, Bool, true, false, IsTrue, List, [], ◌∷◌, length, Option, Some, None, slice_get, refl, sym, ap, ◌∙◌, subst, arith, true≢false, if◌then◌else◌}
 use mathlib.Core.Path.{fun_ext}
 use Rattle.std.specs.Prelude.{nat_eq}
 use Rattle.std.proofs.lemmas.Bool.Decides.{nat_tests}
@@ -8,8 +8,7 @@ use Rattle.std.proofs.Math.Bool.{Bool-set}
 use Rattle.std.proofs.Math.Logic.{∥∥₁_elim}
 use Rattle.std.proofs.Props.{props}
 use Rattle.std.specs.Coded.{le_prop}
-use Rattle.cat_order.specs.Order.{dependencies_of, IsOrder}
-use Rattle.cat_pos.specs.declared.pos.Pos.{Pos}
+use Rattle.cat_order.specs.Order.{dependencies_of}
 use Rattle.cat_value.specs.declared.value.Value.{Value}
 use Rattle.cat_value.specs.declared.value.Value.TheViews as value
 use Rattle.cat_value.specs.declared.ty.Ty.{Ty}
@@ -32,19 +31,19 @@ use Rattle.cat_scope.specs.Runs.{Run, plain, gives, stops, and_then, giving, cho
 use Rattle.cat_scope.specs.Names.{AllHave, is_in}
 use Rattle.cat_scope.specs.Judging.{Judged, decided}
 use Rattle.cat_scope.specs.Targets.{same_target}
-use Rattle.cat_scope.specs.Eval.{Env, eval}
+use Rattle.cat_scope.specs.Eval.{eval}
 use Rattle.cat_scope.specs.Orders.{in_def, called_by_items, calls_in, scope_dependencies}
 use Rattle.cat_scope.specs.Mentions.{items_named, scopes_named}
 use Rattle.cat_scope.specs.WellFormed.{IsWhole, IsWellFormed}
-use Rattle.cat_scope.specs.Calls.{Items, Runs, Scoped, variable, variable_of_called, items_of, call_input, scope_call, env_of, judged, variable_value, call}
+use Rattle.cat_scope.specs.Calls.{Items, Runs, Scoped, variable, variable_of_called, items_of, call_input, env_of, judged, variable_value, call}
 use Rattle.cat_scope.specs.ItemValues.{passed_input, called_value, defined_value, ungiven_value, item_value}
 use Rattle.cat_scope.specs.Running.{entry_at, with_entry, run_items, no_values, asserted, outputs_of, backwards, run_scoped, run_scope, run, run_of}
-use Rattle.cat_scope.proofs.Equations.{and_then_same}
-use Rattle.cat_sound.specs.Rests.{TellSame, CallSame, AgreeOn}
+use Rattle.cat_scope.proofs.Exported.{and_then_same}
+use Rattle.cat_sound.specs.Rests.{TellSame, CallSame}
 use Rattle.cat_sound.proofs.FormTypes.{same_some, same_number, not_true}
 use Rattle.cat_sound.proofs.TargetTypes.{all_more}
-use Rattle.cat_sound.proofs.OrderFacts.{AllIn, in_at, Behind, Ahead, moved-behind, moved_new, ahead-of_IsOrder, all-of_IsOrder, scopes-length, scopes-at, all_once}
-use Rattle.cat_sound.proofs.RunTypes.{callee_at, AreCalled, called-all, body_at}
+use Rattle.cat_sound.proofs.OrderFacts.{AllIn, Behind, Ahead, moved-behind, moved_new, ahead-of_IsOrder, all-of_IsOrder, scopes-length, scopes-at, all_once}
+use Rattle.cat_sound.proofs.RunTypes.{callee_at, called-all, body_at}
 use Rattle.cat_sound.proofs.Rests.{names_alone}
 use Rattle.cat_sound.proofs.JudgingSame.{DefSame, target_same, def_agrees}
 use Rattle.cat_sound.proofs.FunctionLaws.{Distinct, distinct_order, other_than, needs_behind}
@@ -80,9 +79,10 @@ module _ (scoped : Scoped) (others : Runs) where
     defs_same : (calls more : Calls) (values : Items) (arguments : List Value) (target : Target) → SameCalls calls more → (defs : List Def) → AllHave (λ d. AllHave RunSame (in_def scopes_named d)) defs
         → AllHave (λ d. IsTrue (same_target d.target target) → DefSame (λ e. eval (env_of scoped calls values) e arguments) (λ e. eval (env_of other more values) e arguments) d) defs
     defs_same calls more values arguments target same [] h = tt
-    defs_same calls more values arguments target same (d ∷ defs) h =
-        ((λ one. def_agrees (env_of scoped calls values) (env_of other more values) arguments d refl (tells calls more values same (in_def items_named d)) (calls_same calls more values (in_def scopes_named d) h.0)),
-        defs_same calls more values arguments target same defs h.1)
+    defs_same calls more values arguments target same (d ∷ defs) h = (
+      (λ one. def_agrees (env_of scoped calls values) (env_of other more values) arguments d refl (tells calls more values same (in_def items_named d)) (calls_same calls more values (in_def scopes_named d) h.0)),
+      defs_same calls more values arguments target same defs h.1,
+    )
 
     judged_same : (calls more : Calls) (values : Items) (arguments : List Value) (target : Target) → SameCalls calls more → judged scoped calls values arguments target ≡ judged other more values arguments target
     judged_same calls more values arguments target same =
@@ -147,12 +147,14 @@ module _ (scoped : Scoped) (others : Runs) where
     conditions_same : (calls more : Calls) (values : Items) → SameCalls calls more → (assertions : List Assertion) → AllHave (λ a. AllHave RunSame (scopes_named a.condition)) assertions
         → AllHave (λ a. eval (env_of scoped calls values) a.condition [] ≡ eval (env_of other more values) a.condition []) assertions
     conditions_same calls more values same [] h = tt
-    conditions_same calls more values same (a ∷ rest) h =
-        (names_alone (env_of scoped calls values) (env_of other more values) a.condition [] (record {
-          rounding = refl;
-          items = tells calls more values same (items_named a.condition);
-          scopes = calls_same calls more values (scopes_named a.condition) h.0;
-        }), conditions_same calls more values same rest h.1)
+    conditions_same calls more values same (a ∷ rest) h = (
+      names_alone (env_of scoped calls values) (env_of other more values) a.condition [] (record {
+        rounding = refl;
+        items = tells calls more values same (items_named a.condition);
+        scopes = calls_same calls more values (scopes_named a.condition) h.0;
+      }),
+      conditions_same calls more values same rest h.1,
+    )
 
     pub scoped_same : (input : Items) → run_scoped scoped input ≡ run_scoped other input
     scoped_same input =

@@ -1,5 +1,5 @@
 -- Definitions, functions and items of a scope end in values of their types, where the scopes that it calls do.
-use Rattle.std.proofs.Common.{◌≡◌, ℕ, ◌+◌, Bool, true, false, ◌||◌, not, IsTrue, List, [], ◌∷◌, ◌++◌, length, Option, Some, None, Ok, slice_get, refl, sym, ap, ◌∙◌, subst, arith, true≢false, if◌then◌else◌}
+use Rattle.std.proofs.Common.{◌≡◌, ℕ, ◌+◌, Bool, true, false, ◌||◌, not, IsTrue, List, [], ◌∷◌, ◌++◌, length, Option, Some, None, slice_get, refl, sym, ap, ◌∙◌, subst, arith, true≢false, if◌then◌else◌}
 use Rattle.std.specs.Prelude.{nat_eq}
 use Rattle.cat_value.specs.declared.ty.Ty.{Ty}
 use Rattle.cat_value.specs.declared.ty.Ty.TheVariants as flat_ty
@@ -13,7 +13,7 @@ use Rattle.cat_value.specs.Inputs.{must_be_given, may_be_given, are_given_for}
 use Rattle.cat_scope.specs.declared.expr.Expr.{Expr}
 use Rattle.cat_scope.specs.declared.defs.Def.{Def}
 use Rattle.cat_scope.specs.Replies.{on_one, known, done}
-use Rattle.cat_scope.specs.Runs.{Run, plain, gives, and_then, giving}
+use Rattle.cat_scope.specs.Runs.{Run, plain, gives, and_then}
 use Rattle.cat_scope.specs.Readings.{parts_in}
 use Rattle.cat_scope.specs.Names.{Names, AllHave, is_in, items_in, scope_items, outputs_in, output_at, is_called, has_none, is_plain, is_function}
 use Rattle.cat_scope.specs.Fitting.{IsItem, IsCalledOutput, IsFunction}

@@ -1,5 +1,5 @@
 -- What a target comes to rests on its own definitions, and a condition always has a value of its own.
-use Rattle.std.proofs.Common.{◌≡◌, ℕ, ◌+◌, Bool, true, false, List, [], ◌∷◌, ◌++◌, Option, None, Some, slice_get, nat_eq, refl, subst, arith, Result, Ok, Err, sym, ap, ◌∙◌, if◌then◌else◌, true≢false}
+use Rattle.std.proofs.Common.{◌≡◌, ℕ, ◌+◌, Bool, true, false, List, [], ◌∷◌, ◌++◌, Option, None, Some, slice_get, nat_eq, refl, arith, Result, Ok, Err, sym, ap, ◌∙◌, if◌then◌else◌, true≢false}
 use Rattle.std.proofs.lemmas.Bool.Decides.{nat_tests}
 use Rattle.cat_pos.specs.declared.pos.Pos.{Pos}
 use Rattle.cat_value.specs.declared.value.Value.{Value}
@@ -8,8 +8,8 @@ use Rattle.cat_scope.specs.declared.stop.Stop.{Stop}
 use Rattle.cat_scope.specs.declared.stop.Stop.TheVariants.{NoValue}
 use Rattle.cat_scope.specs.declared.expr.Expr.{Expr}
 use Rattle.cat_scope.specs.declared.defs.Def.{Def}
-use Rattle.cat_scope.specs.Replies.{Reply, on_one}
-use Rattle.cat_scope.specs.Runs.{Decider, Run, plain, gives, behind, and_then}
+use Rattle.cat_scope.specs.Replies.{on_one}
+use Rattle.cat_scope.specs.Runs.{Decider, Run, plain, gives, behind}
 use Rattle.cat_scope.specs.Groups.{groups_of}
 use Rattle.cat_scope.specs.Judging.{Held, Judged, place_in, decided}
 use Rattle.cat_scope.specs.Targets.{same_target, defs_from, judge_groups, judge_target, absent, value_or}

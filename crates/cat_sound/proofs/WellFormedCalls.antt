@@ -20,8 +20,8 @@ use Rattle.cat_scope.specs.HasType as typed
 use Rattle.cat_scope.specs.Orders.{item_dependencies, function_calls, scope_dependencies}
 use Rattle.cat_scope.specs.Chains.{is_within}
 use Rattle.cat_scope.specs.WellFormed.{IsBodyOf, IsWellFormed}
-use Rattle.cat_scope.proofs.Namings.{namings}
-use Rattle.cat_scope.proofs.Placings.{placings}
+use Rattle.cat_scope.proofs.Exported.{namings}
+use Rattle.cat_scope.proofs.Exported.{placings}
 use Rattle.cat_scope.proofs.Samples.{at, variable, item, truth_item, n_in, n_above, n, whole, def, body, body_calling, scope_of, calling_scopes, calling_bodies}
 use Rattle.cat_sound.proofs.WellFormedParts.{integer_is_sound, boolean_is_sound, ordered, short, whole_typed, plain_def}
 

@@ -2,8 +2,10 @@
 use Rattle.std.specs.Prelude.{◌≡◌, ℕ, List, [], length, take, Option, Some, Ok, slice_get}
 use Rattle.cat_value.specs.declared.value.Value.{Value}
 use Rattle.cat_value.specs.declared.declaration.ItemDecl.{ItemDecl}
-use Rattle.cat_scope.specs.Runs.{Run}
-use Rattle.cat_scope.specs.Names.{outputs_in}
+use Rattle.cat_pos.specs.declared.pos.Pos.{Pos}
+use Rattle.cat_value.specs.declared.outcome.Target.{Target}
+use Rattle.cat_scope.specs.Runs.{Decider, Run}
+use Rattle.cat_scope.specs.Names.{IsOneOf, outputs_in}
 use Rattle.cat_scope.specs.Calls.{Scoped, Items}
 use Rattle.cat_scope.specs.Running.{backwards, entry_at, run_items, no_values}
 use Rattle.cat_scope.specs.ItemValues.{item_value}
@@ -26,3 +28,7 @@ pub record JudgedAt (scoped : Scoped) (input : Items) (place item : ℕ) : Type 
   pub value : Option Value
   pub reached : (values_at scoped input place).end ≡ Ok values
   pub is : (item_value scoped (backwards (take place scoped.body.order)) values item (entry_at item input) (slice_get scoped.items item)).end ≡ Ok value
+
+-- a log tells what came of a target
+abbrev pub IsLogged : Target → List Decider → Type 0
+IsLogged target log = (by : Option Pos) × IsOneOf (record { target = target; by = by }) log

@@ -1,15 +1,15 @@
 // What holds of values that are given.
 ghost use Rattle.cat_value.specs.declared.outcome.Outcome.TheVariants as outcome;
-ghost use Rattle.cat_scope.specs.Names.{is_in, is_output, scope_items};
-ghost use Rattle.std.specs.Prelude.{◌≡◌, ◌<◌, length, ℕ, IsTrue, IfOk, List, [], take, drop, slice_get, Option, Some, Ok};
+ghost use Rattle.cat_scope.specs.Names.{is_in, is_output, is_plain, scope_items};
+ghost use Rattle.std.specs.Prelude.{◌≡◌, ◌<◌, length, ℕ, IsTrue, IfOk, List, [], take, drop, slice_get, Option, None, Some, Ok};
 ghost use Rattle.cat_value.specs.declared.value.Value.{Value};
 ghost use Rattle.cat_value.specs.declared.declaration.ItemDecl.{ItemDecl};
 ghost use Rattle.cat_scope.specs.Runs.{gives, and_then};
 ghost use Rattle.cat_scope.specs.Outcomes.{scope_outcome};
-ghost use Rattle.cat_scope.specs.Calls.{Scoped, Items};
+ghost use Rattle.cat_scope.specs.Calls.{Scoped, Items, variable};
 ghost use Rattle.cat_scope.specs.Running.{backwards, entry_at, no_values, run_items, run_scoped};
 ghost use Rattle.cat_scope.specs.ItemValues.{item_value};
-ghost use Rattle.cat_sound.specs.Given.{HasValue, JudgedAt, output_number, values_at};
+ghost use Rattle.cat_sound.specs.Given.{HasValue, IsLogged, JudgedAt, output_number, values_at};
 
 use cat_scope::Program;
 
@@ -42,4 +42,12 @@ pub fn given_outputs_stand(program: &Program)
 pub fn each_item_is_judged()
     ensures { (scoped : Scoped) (input : Items) (outputs : List Value) (place : ℕ) (item : ℕ)
         → (run_scoped scoped input).end ≡ Ok outputs → slice_get scoped.body.order place ≡ Some item → JudgedAt scoped input place item }
+{}
+
+/// In a run that ends in a value each variable that has no given value is judged, and the log tells what came of it.
+#[tactic(auto, using(crate::proofs::DecidedLaws::each_logged))]
+pub fn each_variable_is_logged()
+    ensures { (scoped : Scoped) (input : Items) (outputs : List Value) (place : ℕ) (item : ℕ) (decl : ItemDecl)
+        → (run_scoped scoped input).end ≡ Ok outputs → slice_get scoped.body.order place ≡ Some item → slice_get scoped.items item ≡ Some decl
+        → IsTrue (is_plain decl) → entry_at item input ≡ None → IsLogged (variable scoped item) (run_scoped scoped input).log }
 {}

@@ -1,5 +1,5 @@
 // What evaluations rest on.
-ghost use Rattle.std.specs.Prelude.{◌≡◌, ◌<◌, ℕ, length, IsTrue, List, take, slice_get, Some};
+ghost use Rattle.std.specs.Prelude.{◌≡◌, ◌↔◌, ◌<◌, ◌++◌, ℕ, length, IsTrue, List, take, slice_get, Some};
 ghost use Rattle.cat_order.specs.Order.{IsOrder};
 ghost use Rattle.cat_value.specs.declared.value.Value.{Value};
 ghost use Rattle.cat_scope.specs.declared.expr.Expr.{Expr};
@@ -10,6 +10,8 @@ ghost use Rattle.cat_scope.specs.Orders.{item_dependencies};
 ghost use Rattle.cat_scope.specs.Running.{backwards, run_scoped, scope_run};
 ghost use Rattle.cat_value.specs.declared.declaration.Scope.{Scope};
 ghost use Rattle.cat_scope.specs.declared.defs.Body.{Body};
+ghost use Rattle.cat_scope.specs.Same.{Alike, Same, Standing};
+ghost use Rattle.cat_scope.specs.SameTree.{same_tree};
 ghost use Rattle.cat_sound.specs.Rests.{AgreeOn};
 
 use cat_scope::Program;
@@ -18,6 +20,22 @@ use cat_scope::Program;
 #[tactic(auto, using(crate::proofs::Rests::names_alone))]
 pub fn expressions_rest_on_what_they_name()
     ensures { (a : Env) (b : Env) (e : Expr) (locals : List Value) → AgreeOn a b e → eval a e locals ≡ eval b e locals }
+{}
+
+/// Expressions that agree but for positions decide the same, and have the same value or none, where parameters of one
+/// function have the same arguments.
+#[tactic(auto, using(crate::proofs::Alike::same_gives))]
+pub fn positions_change_no_value()
+    ensures { (env : Env) (here : Standing) (there : Standing) (e : Expr) (f : Expr) (arguments : List Value) (others : List Value) (locals : List Value)
+        → Same here there e f → length arguments ≡ here.params → length others ≡ there.params
+        → (here.function ≡ there.function → arguments ≡ others)
+        → Alike (eval env e (arguments ++ locals)) (eval env f (others ++ locals)) }
+{}
+
+/// The test of two expressions is true exactly where they agree but for positions.
+#[tactic(auto, using(crate::proofs::Trees::test_decides))]
+pub fn the_test_of_trees_decides()
+    ensures { (here : Standing) (there : Standing) (e : Expr) (f : Expr) → IsTrue (same_tree here there e f) ↔ Same here there e f }
 {}
 
 /// A function is judged by the rule of targets among all items of its scope; and neither more items behind it nor their

@@ -3,7 +3,7 @@ ghost use Rattle.cat_date.specs.declared.rounding.Rounding.{Rounding};
 ghost use Rattle.cat_value.specs.declared.decls.Decls.{Decls};
 ghost use Rattle.cat_scope.specs.declared.operators.UnaryOp.{UnaryOp};
 ghost use Rattle.cat_scope.specs.declared.operators.BinaryOp.{BinaryOp};
-ghost use Rattle.cat_scope.specs.Names.{IsOneOf, Names, scope_items};
+ghost use Rattle.cat_scope.specs.Names.{AllHave, IsOneOf, Names, scope_items};
 ghost use Rattle.cat_scope.specs.Signatures.{Row, rows_of, taken_by, given_by};
 ghost use Rattle.cat_scope.specs.Operators.{convert, operate};
 ghost use Rattle.cat_sound.specs.Settled.{IsClosed, ScopesSettled};
@@ -13,7 +13,7 @@ ghost use Rattle.cat_value.specs.declared.ty.Ty.{Ty};
 ghost use Rattle.cat_value.specs.declared.value.Value.{Value};
 ghost use Rattle.cat_scope.specs.declared.expr.Expr.{Expr};
 ghost use Rattle.cat_sound.specs.Endings.{Allowed, AreOf, AreOutputsOf, EndsIn, IsEnvOf, IsOf, IsOutcomeOf, ResultsIn};
-ghost use Rattle.cat_scope.specs.Outcomes.{scope_outcome};
+ghost use Rattle.cat_scope.specs.Outcomes.{deciders, scope_outcome};
 ghost use Rattle.cat_value.specs.Inputs.{IsWellTyped};
 ghost use Rattle.cat_scope.specs.Eval.{Env, eval};
 ghost use Rattle.cat_scope.specs.HasType.{HasType};
@@ -69,4 +69,12 @@ pub fn settled_programs_go_on(program: &Program)
         → IsClosed within program.now.decls program.now.bodies → ScopesSettled allowed within program.now.decls program.now.bodies
         → IsTrue (within scope) → IsWellTyped program.now.decls scope input
         → EndsIn allowed (AreOutputsOf program.now.decls (scope_items program.now.decls scope)) (scope_run program.now scope input) }
+{}
+
+/// What is decided in a run is a target of a scope that is called, at once or through others, or of the scope itself.
+#[tactic(auto, using(crate::proofs::OutcomeTypes::logged_within))]
+pub fn logs_tell_of_called_scopes(program: &Program)
+    ensures { (within : ℕ → Bool) (scope : ℕ) (input : Items) → IsClosed within program.now.decls program.now.bodies
+        → IsTrue (within scope) → IsWellTyped program.now.decls scope input
+        → AllHave (λ d. IsTrue (within d.target.scope)) (deciders program.now scope input) }
 {}

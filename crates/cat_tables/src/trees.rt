@@ -1,11 +1,9 @@
-//! Trees as short texts. A node with parts stands in parentheses with them, and a name is `(a)`. Where positions are
-//! wanted, what has one is followed or preceded by `@` and its column.
+//! Trees as short texts. A node stands in parentheses with its own words, its position, and then its parts; a name is
+//! `(a)`. Positions are written `@` and the column, where they are wanted.
 
 use cat_date::number;
 use cat_pos::{Boxed, Pos};
-use cat_tree::{
-    Arms, Base, CaseName, Each, FieldValues, Literal, Name, Node, Nodes, Pattern, Type,
-};
+use cat_tree::{Arms, Base, CaseName, FieldValues, Literal, Name, Node, Nodes, Pattern, Type};
 use std::alloc::{AllocError, Global};
 
 type Written = Result<String, AllocError>;
@@ -20,212 +18,156 @@ pub struct Style {
 /// The tree as a text.
 #[cycle(show)]
 pub fn show(style: Style, node: &Node) -> Written {
-    let alloc = style.alloc;
+    let mut text = front(style, node)?;
     match node {
-        Node::Literal(literal, pos) => leaf(style, literal, *pos),
-        Node::Name(name) => format!(in alloc; "({})", word(style, name)?),
-        Node::Case(case) => format!(in alloc; "Case({})", case_name(style, case)?),
-        Node::Parens(pos, inner) => {
-            format!(in alloc; "Parens({}{})", mark(style, *pos)?, part(style, inner)?)
+        Node::Literal(..) | Node::Name(_) | Node::Case(_) => {}
+        Node::Parens(_, part)
+        | Node::Field(part, _)
+        | Node::Prefixed(_, _, part)
+        | Node::Sum(_, _, part)
+        | Node::Content(_, part)
+        | Node::Test(part, _, _) => add(&mut text, boxed(style, part)?)?,
+        Node::Binary(_, _, one, two) | Node::Each(_, _, _, one, two) => {
+            add(&mut text, boxed(style, one)?)?;
+            add(&mut text, boxed(style, two)?)?;
         }
-        Node::Field(base, name) => {
-            format!(in alloc; "Field({} {})", part(style, base)?, word(style, name)?)
+        Node::If(_, one, two, three) | Node::Combine(_, _, one, _, two, three) => {
+            add(&mut text, boxed(style, one)?)?;
+            add(&mut text, boxed(style, two)?)?;
+            add(&mut text, boxed(style, three)?)?;
         }
-        Node::Prefixed(prefix, pos, operand) => {
-            format!(in alloc;
-                "({prefix:?} {}{})",
-                mark(style, *pos)?,
-                part(style, operand)?
-            )
+        Node::Call(_, parts) | Node::List(_, parts) => add(&mut text, nodes(style, parts)?)?,
+        Node::Structure(_, fields) | Node::ScopeCall(_, _, fields, _) => {
+            add(&mut text, field_values(style, fields)?)?;
         }
-        Node::Sum(pos, ty, list) => {
-            format!(in alloc;
-                "Sum({}{} {})",
-                mark(style, *pos)?,
-                type_text(style, ty)?,
-                part(style, list)?
-            )
-        }
-        Node::Content(case, content) => {
-            format!(in alloc;
-                "Content({} {})",
-                case_name(style, case)?,
-                part(style, content)?
-            )
-        }
-        Node::Call(name, given) => {
-            format!(in alloc; "Call({} [{}])", word(style, name)?, parts(style, given)?)
-        }
-        Node::Binary(operator, pos, left, right) => {
-            let at = mark(style, *pos)?;
-            format!(in alloc;
-                "({operator:?} {at}{} {})",
-                part(style, left)?,
-                part(style, right)?
-            )
-        }
-        Node::Test(tested, pos, case) => {
-            let at = mark(style, *pos)?;
-            format!(in alloc;
-                "Test({} {at}{})",
-                part(style, tested)?,
-                case_name(style, case)?
-            )
-        }
-        Node::List(pos, elements) => {
-            format!(in alloc; "List({}[{}])", mark(style, *pos)?, parts(style, elements)?)
-        }
-        Node::Structure(name, fields) => {
-            format!(in alloc;
-                "Structure({} [{}])",
-                word(style, name)?,
-                field_values(style, fields)?
-            )
-        }
-        Node::ScopeCall(pos, scope, inputs, output) => {
-            scope_call(style, *pos, scope, inputs, output)
-        }
-        Node::If(pos, condition, yes, no) => branches(style, *pos, condition, yes, no),
-        Node::Match(pos, matched, arms) => cases(style, *pos, matched, arms),
-        Node::Each(form, pos, name, list, body) => each(style, *form, *pos, name, list, body),
-        Node::Combine(pos, name, list, held, start, body) => {
-            let front = format!(in alloc; "{}{}", mark(style, *pos)?, word(style, name)?)?;
-            combined(style, front.as_str(), list, held, start, body)
+        Node::Match(_, part, arms) => {
+            add(&mut text, boxed(style, part)?)?;
+            add(&mut text, match_arms(style, arms)?)?;
         }
     }
+    text.push(')')?;
+    Ok(text)
 }
 
 #[cycle(show)]
-fn part(style: Style, node: &Boxed<Node>) -> Written {
+fn boxed(style: Style, node: &Boxed<Node>) -> Written {
     show(style, node.get())
 }
 
 #[cycle(show)]
-fn parts(style: Style, nodes: &Nodes) -> Written {
-    let mut text = String::new(style.alloc);
+fn nodes(style: Style, nodes: &Nodes) -> Written {
+    let mut text = String::from_str(style.alloc, "[")?;
     for node in nodes.as_slice() {
-        add(&mut text, show(style, node)?.as_str())?;
+        add(&mut text, show(style, node)?)?;
     }
+    text.push(']')?;
     Ok(text)
 }
 
 #[cycle(show)]
 fn field_values(style: Style, fields: &FieldValues) -> Written {
-    let alloc = style.alloc;
-    let mut text = String::new(alloc);
+    let mut text = String::from_str(style.alloc, "[")?;
     for field in fields.as_slice() {
         let value = show(style, &field.value)?;
-        let field = format!(in alloc; "{}: {value}", word(style, &field.name)?)?;
-        add(&mut text, field.as_str())?;
+        let name = word(style, &field.name)?;
+        add(&mut text, format!(in style.alloc; "{name}: {value}")?)?;
     }
+    text.push(']')?;
     Ok(text)
 }
 
 #[cycle(show)]
-fn arms_text(style: Style, arms: &Arms) -> Written {
-    let alloc = style.alloc;
-    let mut text = String::new(alloc);
+fn match_arms(style: Style, arms: &Arms) -> Written {
+    let mut text = String::from_str(style.alloc, "[")?;
     for arm in arms.as_slice() {
         let body = show(style, &arm.body)?;
-        let arm = format!(in alloc; "{}: {body}", pattern(style, &arm.pattern)?)?;
-        add(&mut text, arm.as_str())?;
+        let pattern = pattern(style, &arm.pattern)?;
+        add(&mut text, format!(in style.alloc; "{pattern}: {body}")?)?;
     }
+    text.push(']')?;
     Ok(text)
-}
-
-#[cycle(show)]
-fn scope_call(
-    style: Style,
-    pos: Pos,
-    scope: &Name,
-    inputs: &FieldValues,
-    output: &Name,
-) -> Written {
-    let at = mark(style, pos)?;
-    let scope = word(style, scope)?;
-    let inputs = field_values(style, inputs)?;
-    let output = word(style, output)?;
-    format!(in style.alloc; "ScopeCall({at}{scope} [{inputs}] {output})")
-}
-
-#[cycle(show)]
-fn branches(
-    style: Style,
-    pos: Pos,
-    condition: &Boxed<Node>,
-    yes: &Boxed<Node>,
-    no: &Boxed<Node>,
-) -> Written {
-    let at = mark(style, pos)?;
-    let condition = part(style, condition)?;
-    let yes = part(style, yes)?;
-    let no = part(style, no)?;
-    format!(in style.alloc; "If({at}{condition} {yes} {no})")
-}
-
-#[cycle(show)]
-fn cases(style: Style, pos: Pos, matched: &Boxed<Node>, arms: &Arms) -> Written {
-    let at = mark(style, pos)?;
-    let matched = part(style, matched)?;
-    let arms = arms_text(style, arms)?;
-    format!(in style.alloc; "Match({at}{matched} [{arms}])")
-}
-
-#[cycle(show)]
-fn each(
-    style: Style,
-    form: Each,
-    pos: Pos,
-    name: &Name,
-    list: &Boxed<Node>,
-    body: &Boxed<Node>,
-) -> Written {
-    let at = mark(style, pos)?;
-    let name = word(style, name)?;
-    let list = part(style, list)?;
-    let body = part(style, body)?;
-    format!(in style.alloc; "({form:?} {at}{name} {list} {body})")
-}
-
-#[cycle(show)]
-fn combined(
-    style: Style,
-    front: &str,
-    list: &Boxed<Node>,
-    held: &Name,
-    start: &Boxed<Node>,
-    body: &Boxed<Node>,
-) -> Written {
-    let list = part(style, list)?;
-    let held = word(style, held)?;
-    let start = part(style, start)?;
-    let body = part(style, body)?;
-    format!(in style.alloc; "Combine({front} {list} {held} {start} {body})")
 }
 
 /// Adds a part, with a blank in front of all but the first.
-fn add(text: &mut String, part: &str) -> Result<(), AllocError> {
-    if !text.is_empty() {
-        text.push_str(" ")?;
+fn add(text: &mut String, part: String) -> Result<(), AllocError> {
+    if !text.as_str().ends_with('(') && !text.as_str().ends_with('[') {
+        text.push(' ')?;
     }
-    text.push_str(part)
+    text.push_str(part.as_str())
 }
 
-/// A position that stands in front of something.
-fn mark(style: Style, pos: Pos) -> Written {
+/// What stands in front of the parts of a node: its form, its own words, and its position.
+fn front(style: Style, node: &Node) -> Written {
+    let alloc = style.alloc;
+    match node {
+        Node::Literal(literal, pos) => {
+            let literal = literal_text(alloc, literal)?;
+            format!(in alloc; "({literal}{}", behind(style, *pos)?)
+        }
+        Node::Name(name) => format!(in alloc; "({}", word(style, name)?),
+        Node::Case(case) => format!(in alloc; "Case({}", case_name(style, case)?),
+        Node::Parens(pos, _) => format!(in alloc; "Parens({}", at(style, *pos)?),
+        Node::Field(_, name) => format!(in alloc; "Field({}", word(style, name)?),
+        Node::Prefixed(form, pos, _) => format!(in alloc; "({form:?}{}", behind(style, *pos)?),
+        Node::Sum(pos, ty, _) => sum_front(style, *pos, ty),
+        Node::Content(case, _) => format!(in alloc; "Content({}", case_name(style, case)?),
+        Node::Call(name, _) => format!(in alloc; "Call({}", word(style, name)?),
+        Node::Binary(operator, pos, ..) => {
+            format!(in alloc; "({operator:?}{}", behind(style, *pos)?)
+        }
+        Node::Test(_, pos, case) => test_front(style, *pos, case),
+        Node::List(pos, _) => format!(in alloc; "List({}", at(style, *pos)?),
+        Node::Structure(name, _) => format!(in alloc; "Structure({}", word(style, name)?),
+        Node::ScopeCall(pos, scope, _, output) => {
+            words_front(style, "ScopeCall", *pos, scope, output)
+        }
+        Node::If(pos, ..) => format!(in alloc; "If({}", at(style, *pos)?),
+        Node::Match(pos, ..) => format!(in alloc; "Match({}", at(style, *pos)?),
+        Node::Each(form, pos, name, ..) => {
+            let name = word(style, name)?;
+            format!(in alloc; "({form:?} {name}{}", behind(style, *pos)?)
+        }
+        Node::Combine(pos, name, _, held, ..) => words_front(style, "Combine", *pos, name, held),
+    }
+}
+
+fn sum_front(style: Style, pos: Pos, ty: &Type) -> Written {
+    let base = base_text(style.alloc, &ty.base)?;
+    let base = placed(style, base.as_str(), ty.pos)?;
+    format!(in style.alloc; "Sum({} {base}{}", ty.lists, behind(style, pos)?)
+}
+
+fn test_front(style: Style, pos: Pos, case: &CaseName) -> Written {
+    let case = case_name(style, case)?;
+    format!(in style.alloc; "Test({case}{}", behind(style, pos)?)
+}
+
+fn words_front(style: Style, form: &str, pos: Pos, one: &Name, two: &Name) -> Written {
+    let one = word(style, one)?;
+    let two = word(style, two)?;
+    format!(in style.alloc; "{form}({one} {two}{}", behind(style, pos)?)
+}
+
+/// A position, where positions are wanted.
+fn at(style: Style, pos: Pos) -> Written {
+    placed(style, "", pos)
+}
+
+/// A position behind other words, where positions are wanted.
+fn behind(style: Style, pos: Pos) -> Written {
     if style.positions {
-        format!(in style.alloc; "@{} ", pos.column)
+        placed(style, " ", pos)
     } else {
         Ok(String::new(style.alloc))
     }
 }
 
-/// A word, followed by its position.
-fn placed(style: Style, word: &str, pos: Pos) -> Written {
+/// The text, followed by its position where positions are wanted.
+fn placed(style: Style, text: &str, pos: Pos) -> Written {
     if style.positions {
-        format!(in style.alloc; "{word}@{}", pos.column)
+        format!(in style.alloc; "{text}@{}", pos.column)
     } else {
-        String::from_str(style.alloc, word)
+        String::from_str(style.alloc, text)
     }
 }
 
@@ -238,7 +180,8 @@ fn case_name(style: Style, case: &CaseName) -> Written {
     match case {
         CaseName::Bare(name) => format!(in alloc; "Bare({})", word(style, name)?),
         CaseName::Qualified(owner, name) => {
-            format!(in alloc; "Qualified({} {})", word(style, owner)?, word(style, name)?)
+            let owner = word(style, owner)?;
+            format!(in alloc; "Qualified({owner} {})", word(style, name)?)
         }
     }
 }
@@ -247,37 +190,18 @@ fn pattern(style: Style, pattern: &Pattern) -> Written {
     let alloc = style.alloc;
     match pattern {
         Pattern::Anything => String::from_str(alloc, "Anything"),
-        Pattern::Case(case, None) => { format!(in alloc; "Case({} None)", case_name(style, case)?) }
+        Pattern::Case(case, None) => format!(in alloc; "Case({} None)", case_name(style, case)?),
         Pattern::Case(case, Some(name)) => {
-            format!(in alloc;
-                "Case({} Some({}))",
-                case_name(style, case)?,
-                word(style, name)?
-            )
+            let case = case_name(style, case)?;
+            format!(in alloc; "Case({case} Some({}))", word(style, name)?)
         }
     }
-}
-
-/// How many `list of` stand before the base of a type, and the base.
-fn type_text(style: Style, ty: &Type) -> Written {
-    let base = base_text(style.alloc, &ty.base)?;
-    let base = placed(style, base.as_str(), ty.pos)?;
-    format!(in style.alloc; "{} {base}", ty.lists)
 }
 
 fn base_text(alloc: Global, base: &Base) -> Written {
     match base {
         Base::Named(name) => format!(in alloc; "Named({})", name.as_str()),
         other => format!(in alloc; "{other:?}"),
-    }
-}
-
-fn leaf(style: Style, literal: &Literal, pos: Pos) -> Written {
-    let literal = literal_text(style.alloc, literal)?;
-    if style.positions {
-        format!(in style.alloc; "({literal} @{})", pos.column)
-    } else {
-        format!(in style.alloc; "({literal})")
     }
 }
 

@@ -4,7 +4,7 @@ use Rattle.cat_pos.specs.declared.pos.Pos.{Pos}
 use Rattle.cat_lex.specs.declared.token.Token.{Token}
 use Rattle.cat_lex.specs.declared.token.TokenKind.{TokenKind}
 
--- a word of a phrase: a token at a place that the tree keeps, or anywhere
+-- a word of a phrase: a token at a position that the tree keeps, or anywhere
 pub data Mark : Type 0 where
   At : TokenKind → Pos → Mark
   Anywhere : TokenKind → Mark
@@ -84,7 +84,7 @@ abbrev mutual
   AreLevelled (Word m ps) = AreLevelled ps
   AreLevelled (Part s e ps) = Stands s e × IsLevelled e × AreLevelled ps
 
--- the token is the one that is marked, in its place where that is kept
+-- the token is the one that is marked, at its position where that is kept
 abbrev pub IsAt : Mark → Token → Type 0
 IsAt (At kind pos) t = t ≡ record { kind = kind; pos = pos }
 IsAt (Anywhere kind) t = t.kind ≡ kind
@@ -96,5 +96,7 @@ abbrev mutual
 
   pub AreSpelled : Parts → List Token → Type 0
   AreSpelled End tokens = tokens ≡ []
-  AreSpelled (Word m ps) tokens = (t : Token) × (rest : List Token) × (tokens ≡ t ∷ rest) × IsAt m t × AreSpelled ps rest
-  AreSpelled (Part s e ps) tokens = (front rest : List Token) × (tokens ≡ front ++ rest) × IsSpelling e front × AreSpelled ps rest
+  AreSpelled (Word m ps) tokens =
+      (t : Token) × (rest : List Token) × (tokens ≡ t ∷ rest) × IsAt m t × AreSpelled ps rest
+  AreSpelled (Part s e ps) tokens =
+      (front rest : List Token) × (tokens ≡ front ++ rest) × IsSpelling e front × AreSpelled ps rest

@@ -55,7 +55,8 @@ program_parts t = all item_parts t.items
 abbrev pub highest_in : Tree → ℕ
 highest_in t = tallest (program_parts t)
 
--- the tokens spell the program: each part stands where it may, and the words and parts follow each other
+-- the tokens spell the program: structures and enumerations have a part, each part stands where it may, and the words
+-- and parts follow each other
 pub record SpellsProgram (t : Tree) (tokens : List Token) : Type 0 where
   pub filled : are_filled t.items ≡ true
   pub levels : AreLevelled (program_parts t)

@@ -15,7 +15,7 @@ pub record Spells (e : Node) (tokens : List Token) : Type 0 where
   pub levels : IsLevelled (phrase e)
   pub words : IsSpelling (phrase e) tokens
 
--- the tokens from one place up to another spell the expression, and it isn't too high
+-- the tokens from one index up to another spell the expression, and it isn't too high
 pub record IsFront (tokens : List Token) (at next : ℕ) (e : Node) : Type 0 where
   pub order : at ≤ next
   pub within : next ≤ length tokens

@@ -25,7 +25,7 @@ abbrev pub label_parts : Option Label → Parts
 label_parts None = End
 label_parts (Some l) = key_at key.Label l.pos ▹ lower l.name ▹ End
 
--- what gives way to it: exception [w]
+-- what it is an exception to: exception [w]
 abbrev pub exception_parts : Exception → Parts
 exception_parts exception.No = End
 exception_parts (exception.Base p) = key_at key.Exception p ▹ End
@@ -35,7 +35,7 @@ exception_parts (exception.Labelled p w) = key_at key.Exception p ▹ lower w �
 abbrev pub lead_parts : Lead → Parts
 lead_parts l = label_parts l.label ▸ exception_parts l.exception
 
--- the name of a name
+-- a name alone
 abbrev pub name_parts : Name → Parts
 name_parts w = lower w ▹ End
 
@@ -53,12 +53,12 @@ names_parts (w ∷ more) = «word» key.Of ▹ with_commas name_parts (w ∷ mor
 abbrev pub target_parts : TargetName → Parts
 target_parts t = lower t.name ▹ inner_parts t.inner ▸ names_parts t.params
 
--- a condition of a definition or a rule, with the word behind it
+-- the condition of a definition or a rule, without its block's, and the word behind it
 abbrev pub guard_parts : Option Node → Parts
 guard_parts None = End
 guard_parts (Some e) = words pair.UnderCondition ▹ part 0 (phrase e) ▹ «word» key.Consequence ▹ End
 
--- what a rule says of its condition
+-- what a rule says of the condition variable that it is for
 abbrev pub fulfilled_parts : Fulfilled → Parts
 fulfilled_parts fulfilled.Yes = «word» key.Fulfilled ▹ End
 fulfilled_parts fulfilled.No = «word» key.Not ▹ «word» key.Fulfilled ▹ End

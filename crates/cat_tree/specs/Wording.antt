@@ -70,7 +70,7 @@ of_level k = record { level = k; form = false; is_match = false; fits = true }
 abbrev pub form : Rank
 form = record { level = 8; form = true; is_match = false; fits = true }
 
--- the same, where there is at least one
+-- an expression of that level that is no form, and that has at least one of these
 abbrev pub if_some : {A : Type 0} → ℕ → List A → Rank
 if_some k [] = record { level = k; form = false; is_match = false; fits = false }
 if_some k (x ∷ xs) = of_level k

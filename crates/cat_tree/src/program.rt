@@ -32,13 +32,13 @@ pub enum Kind {
 /// A variable of a scope.
 #[derive(Debug, Drop)]
 pub enum Variable {
-    /// A kind at its position, a name, the type where it is no condition, and the parameters.
+    /// A kind with the position of its first word, a name, the type where it is no condition, and the parameters.
     Own(Kind, Pos, Name, Option<Type>, FieldItems),
     /// A name for a called scope, and that scope's.
     Called(Name, Name),
 }
 
-/// What a definition or a rule gives way to.
+/// What a definition or a rule is an exception to.
 #[derive(Debug, Drop)]
 pub enum Exception {
     No,
@@ -70,7 +70,7 @@ pub struct TargetName {
     pub params: List<Name>,
 }
 
-/// What a rule says of its condition.
+/// What a rule says of the condition variable that it is for.
 #[derive(Clone, Copy, Debug, PartialEq, Eq)]
 pub enum Fulfilled {
     Yes,
@@ -88,7 +88,8 @@ pub enum Use {
     DateRound(Pos, bool),
 }
 
-/// A scope block: its scope's name, and the condition that stands before each of its definitions.
+/// A scope block: the position of the word `scope`, the scope's name, and the condition under which each of its
+/// definitions and rules stands.
 #[derive(Debug, Drop)]
 pub struct Block {
     pub pos: Pos,

@@ -22,35 +22,51 @@ use Rattle.cat_value.proofs.Equations.{has_type_List, has_type_Structure, has_ty
 pub whole : (t : Ty) (y : Ty-F Ty) (u : Ty) → ty.out-Ty t ≡ y → ty.roll-Ty y ≡ u → t ≡ u
 whole t y u q r = sym (ty.roll-out-Ty t) ∙ ap ty.roll-Ty q ∙ r
 
-list_seen : (ds : Decls) (vs : List Value) (t : Ty) → has_type ds (value.List vs) t ≡ list_typed ds (map (has_type ds) vs) (ty.out-Ty t)
+list_seen : (ds : Decls) (vs : List Value) (t : Ty)
+    → has_type ds (value.List vs) t ≡ list_typed ds (map (has_type ds) vs) (ty.out-Ty t)
 list_seen ds vs t = rw (has_type-levels ds (value.List vs) t, value.outs-List vs) refl
 
-structure_seen : (ds : Decls) (vs : List Value) (t : Ty) → has_type ds (value.Structure vs) t ≡ structure_typed ds (map (has_type ds) vs) (ty.out-Ty t)
+structure_seen : (ds : Decls) (vs : List Value) (t : Ty)
+    → has_type ds (value.Structure vs) t ≡ structure_typed ds (map (has_type ds) vs) (ty.out-Ty t)
 structure_seen ds vs t = rw (has_type-levels ds (value.Structure vs) t, value.outs-Structure vs) refl
 
-case_seen : (ds : Decls) (k : ℕ) (content : Option Value) (t : Ty) → has_type ds (value.Case k content) t ≡ case_typed ds k (option_map (has_type ds) content) (ty.out-Ty t)
-case_seen ds k content t = rw (has_type-levels ds (value.Case k content) t, value.outs-Case k content) (tested_Case ds k content (ty.out-Ty t))
+case_seen : (ds : Decls) (k : ℕ) (content : Option Value) (t : Ty)
+    → has_type ds (value.Case k content) t ≡ case_typed ds k (option_map (has_type ds) content) (ty.out-Ty t)
+case_seen ds k content t =
+    rw (has_type-levels ds (value.Case k content) t, value.outs-Case k content) (tested_Case ds k content (ty.out-Ty t))
 
 -- a list is one of a list type, a structure one of a structure, a case one of an enumeration
-pub list_of : (ds : Decls) (vs : List Value) (t : Ty) → IsTrue (has_type ds (value.List vs) t) → (e : Ty) × (t ≡ ty.List e) × IsTrue (elements_typed ds vs e)
+pub list_of : (ds : Decls) (vs : List Value) (t : Ty) → IsTrue (has_type ds (value.List vs) t)
+    → (e : Ty) × (t ≡ ty.List e) × IsTrue (elements_typed ds vs e)
 list_of ds vs t h = by (ty.out-Ty t) refl (rw (list_seen ds vs t) at h)
   where
-    by : (y : Ty-F Ty) → ty.out-Ty t ≡ y → IsTrue (list_typed ds (map (has_type ds) vs) y) → (e : Ty) × (t ≡ ty.List e) × IsTrue (elements_typed ds vs e)
-    by (Ty-F.List e) q g = let is : t ≡ ty.List e = whole t (Ty-F.List e) (ty.List e) q (ty.rolls-List e) in (e, is, rw (is, has_type_List ds vs e) at h)
+    by : (y : Ty-F Ty) → ty.out-Ty t ≡ y → IsTrue (list_typed ds (map (has_type ds) vs) y)
+        → (e : Ty) × (t ≡ ty.List e) × IsTrue (elements_typed ds vs e)
+    by (Ty-F.List e) q g =
+        let is : t ≡ ty.List e = whole t (Ty-F.List e) (ty.List e) q (ty.rolls-List e) in
+        (e, is, rw (is, has_type_List ds vs e) at h)
     by _ q g = absurd (true≢false (sym g))
 
-pub structure_of : (ds : Decls) (vs : List Value) (t : Ty) → IsTrue (has_type ds (value.Structure vs) t) → (n : ℕ) × (t ≡ flat_ty.Structure n) × IsTrue (is_structure ds n vs)
+pub structure_of : (ds : Decls) (vs : List Value) (t : Ty) → IsTrue (has_type ds (value.Structure vs) t)
+    → (n : ℕ) × (t ≡ flat_ty.Structure n) × IsTrue (is_structure ds n vs)
 structure_of ds vs t h = by (ty.out-Ty t) refl (rw (structure_seen ds vs t) at h)
   where
-    by : (y : Ty-F Ty) → ty.out-Ty t ≡ y → IsTrue (structure_typed ds (map (has_type ds) vs) y) → (n : ℕ) × (t ≡ flat_ty.Structure n) × IsTrue (is_structure ds n vs)
-    by (Ty-F.Structure n) q g = let is : t ≡ flat_ty.Structure n = whole t (Ty-F.Structure n) (flat_ty.Structure n) q (ty.rolls-Structure n) in (n, is, rw (is, has_type_Structure ds vs n) at h)
+    by : (y : Ty-F Ty) → ty.out-Ty t ≡ y → IsTrue (structure_typed ds (map (has_type ds) vs) y)
+        → (n : ℕ) × (t ≡ flat_ty.Structure n) × IsTrue (is_structure ds n vs)
+    by (Ty-F.Structure n) q g =
+        let is : t ≡ flat_ty.Structure n = whole t (Ty-F.Structure n) (flat_ty.Structure n) q (ty.rolls-Structure n) in
+        (n, is, rw (is, has_type_Structure ds vs n) at h)
     by _ q g = absurd (true≢false (sym g))
 
-pub case_of : (ds : Decls) (k : ℕ) (content : Option Value) (t : Ty) → IsTrue (has_type ds (value.Case k content) t) → (n : ℕ) × (t ≡ flat_ty.Enumeration n) × IsTrue (is_case ds n k content)
+pub case_of : (ds : Decls) (k : ℕ) (content : Option Value) (t : Ty) → IsTrue (has_type ds (value.Case k content) t)
+    → (n : ℕ) × (t ≡ flat_ty.Enumeration n) × IsTrue (is_case ds n k content)
 case_of ds k content t h = by (ty.out-Ty t) refl (rw (case_seen ds k content t) at h)
   where
-    by : (y : Ty-F Ty) → ty.out-Ty t ≡ y → IsTrue (case_typed ds k (option_map (has_type ds) content) y) → (n : ℕ) × (t ≡ flat_ty.Enumeration n) × IsTrue (is_case ds n k content)
-    by (Ty-F.Enumeration n) q g = let is : t ≡ flat_ty.Enumeration n = whole t (Ty-F.Enumeration n) (flat_ty.Enumeration n) q (ty.rolls-Enumeration n) in (n, is, rw (is, has_type_Case ds k content n) at h)
+    by : (y : Ty-F Ty) → ty.out-Ty t ≡ y → IsTrue (case_typed ds k (option_map (has_type ds) content) y)
+        → (n : ℕ) × (t ≡ flat_ty.Enumeration n) × IsTrue (is_case ds n k content)
+    by (Ty-F.Enumeration n) q g =
+        let is : t ≡ flat_ty.Enumeration n = whole t (Ty-F.Enumeration n) (flat_ty.Enumeration n) q
+        (ty.rolls-Enumeration n) in (n, is, rw (is, has_type_Case ds k content n) at h)
     by _ q g = absurd (true≢false (sym g))
 
 -- a value of this level
@@ -112,8 +128,10 @@ duration_value ds v = value_of ds v flat_ty.Duration Ty-F.Duration ty.outs-Durat
 pub list_value : (ds : Decls) (v : Value) (e : Ty) → IsTrue (has_type ds v (ty.List e)) → ValueOf ds (Ty-F.List e) v
 list_value ds v e = value_of ds v (ty.List e) (Ty-F.List e) (ty.outs-List e)
 
-pub structure_value : (ds : Decls) (v : Value) (n : ℕ) → IsTrue (has_type ds v (flat_ty.Structure n)) → ValueOf ds (Ty-F.Structure n) v
+pub structure_value : (ds : Decls) (v : Value) (n : ℕ) → IsTrue (has_type ds v (flat_ty.Structure n))
+    → ValueOf ds (Ty-F.Structure n) v
 structure_value ds v n = value_of ds v (flat_ty.Structure n) (Ty-F.Structure n) (ty.outs-Structure n)
 
-pub case_value : (ds : Decls) (v : Value) (n : ℕ) → IsTrue (has_type ds v (flat_ty.Enumeration n)) → ValueOf ds (Ty-F.Enumeration n) v
+pub case_value : (ds : Decls) (v : Value) (n : ℕ) → IsTrue (has_type ds v (flat_ty.Enumeration n))
+    → ValueOf ds (Ty-F.Enumeration n) v
 case_value ds v n = value_of ds v (flat_ty.Enumeration n) (Ty-F.Enumeration n) (ty.outs-Enumeration n)

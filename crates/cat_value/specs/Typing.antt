@@ -25,7 +25,8 @@ is_type ds t = is_declared ds.structures ds.enumerations t
 
 -- at most M elements of a declared type, each of that type
 abbrev pub list_typed : Decls → List (Ty → Bool) → Ty-F Ty → Bool
-list_typed ds parts (Ty-F.List t) = is_type ds t && nat_le (length parts) most_elements && list_all (λ part. part t) parts
+list_typed ds parts (Ty-F.List t) =
+    is_type ds t && nat_le (length parts) most_elements && list_all (λ part. part t) parts
 list_typed ds parts _ = false
 
 -- one value for each field, of its type

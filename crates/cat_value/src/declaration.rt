@@ -59,7 +59,7 @@ pub enum Kind {
 #[derive(Debug, Drop)]
 pub struct ItemDecl {
     pub name: Text,
-    /// The place of the name.
+    /// The position of the name.
     pub pos: Pos,
     pub kind: Kind,
     pub ty: Ty,

@@ -32,7 +32,7 @@ pub enum Outcome {
     Value(Values),
     /// Several definitions of a target hold: their positions in source order.
     Conflict(Target, Positions),
-    /// No definition of a target holds; the place of the name that has no value.
+    /// No definition of a target holds; the position of the name that has no value.
     NoValue(Target, Pos),
     /// A fault, and where it stands.
     Fault(FaultKind, Pos),

@@ -2,8 +2,9 @@
 use Rattle.std.proofs.Common.{◌≡◌, ℕ, List, [], ◌∷◌, ◌++◌, refl, false}
 use Rattle.std.specs.Prelude.{codes, None, Err}
 use Rattle.cat_weave.specs.Lines.{lines_of, bare, without_end, without_last, without_last_blanks, without_first_blanks}
-use Rattle.cat_weave.specs.Kinds.{Kind, LawLine, OpeningLine, CodeLine, ClosingLine, HeadingLine, IncludeLine, level_of, law_kind, kind_of, kinds_of}
-use Rattle.cat_weave.specs.Woven.{line_place, code_text, parts_from, closes, unclosed, woven_lines}
+use Rattle.cat_weave.specs.Kinds.{Kind, LawLine, OpeningLine, CodeLine, ClosingLine, HeadingLine, IncludeLine}
+use Rattle.cat_weave.specs.Kinds.{level_of, law_kind, kind_of, kinds_of}
+use Rattle.cat_weave.specs.Woven.{line_position, code_text, parts_from, closes, unclosed, woven_lines}
 use Rattle.cat_weave.specs.declared.part.Part.TheVariants.{Code, Heading, Include}
 use Rattle.cat_weave.specs.declared.part.WeaveRefusal.TheVariants.{FenceOpen}
 
@@ -68,14 +69,19 @@ opening = codes "```catala" ++ 10 ∷ []
 abbrev heading : List ℕ
 heading = codes "# a" ++ 10 ∷ []
 
-in_a_block_all_is_code_but_the_fence : kinds_of false (fence ∷ opening ∷ heading ∷ opening ∷ fence ∷ heading ∷ []) ≡ LawLine ∷ OpeningLine ∷ CodeLine heading ∷ CodeLine opening ∷ ClosingLine ∷ HeadingLine 1 (codes "a") ∷ []
+in_a_block_all_is_code_but_the_fence : kinds_of false (fence ∷ opening ∷ heading ∷ opening ∷ fence ∷ heading ∷ []) ≡
+    LawLine ∷ OpeningLine ∷ CodeLine heading ∷ CodeLine opening ∷ ClosingLine ∷ HeadingLine 1 (codes "a") ∷ []
 unfolding kinds_of kind_of law_kind level_of without_end without_last without_last_blanks
 in_a_block_all_is_code_but_the_fence = refl
 
 abbrev lines : List Kind
-lines = OpeningLine ∷ CodeLine heading ∷ CodeLine heading ∷ ClosingLine ∷ OpeningLine ∷ CodeLine opening ∷ ClosingLine ∷ OpeningLine ∷ ClosingLine ∷ IncludeLine (codes "b") ∷ LawLine ∷ HeadingLine 1 (codes "c") ∷ []
+lines = OpeningLine ∷ CodeLine heading ∷ CodeLine heading ∷ ClosingLine ∷ OpeningLine ∷ CodeLine opening ∷
+    ClosingLine ∷ OpeningLine ∷ ClosingLine ∷ IncludeLine (codes "b") ∷ LawLine ∷ HeadingLine 1 (codes "c") ∷ []
 
-a_block_is_one_piece_and_an_empty_one_none : parts_from 7 false 1 lines ≡ Code (record { text = heading ++ heading; pos = line_place 7 2 }) ∷ Code (record { text = opening; pos = line_place 7 6 }) ∷ Include (codes "b") (line_place 7 10) ∷ Heading 1 (codes "c") (line_place 7 12) ∷ []
+a_block_is_one_piece_and_an_empty_one_none : parts_from 7 false 1 lines ≡ Code
+    (record { text = heading ++ heading; pos = line_position 7 2 }) ∷ Code
+    (record { text = opening; pos = line_position 7 6 }) ∷ Include (codes "b") (line_position 7 10) ∷ Heading 1
+    (codes "c") (line_position 7 12) ∷ []
 unfolding parts_from code_text
 a_block_is_one_piece_and_an_empty_one_none = refl
 
@@ -83,6 +89,7 @@ each_block_is_closed : unclosed 1 lines ≡ None
 unfolding unclosed closes
 each_block_is_closed = refl
 
-the_open_block_is_named : woven_lines 7 (LawLine ∷ OpeningLine ∷ ClosingLine ∷ OpeningLine ∷ CodeLine heading ∷ []) ≡ Err (FenceOpen (line_place 7 4))
+the_open_block_is_named : woven_lines 7 (LawLine ∷ OpeningLine ∷ ClosingLine ∷ OpeningLine ∷ CodeLine heading ∷ []) ≡
+    Err (FenceOpen (line_position 7 4))
 unfolding unclosed closes
 the_open_block_is_named = refl

@@ -1,12 +1,16 @@
 -- How many parts there are, how much code they have, and where they stand.
-use Rattle.std.proofs.Common.{◌≡◌, ◌≢◌, ◌∙◌, ap, sym, subst, ℕ, suc, ◌+◌, ◌≤◌, Bool, true, false, cond, List, [], ◌∷◌, length, refl, arith, length-append, Some, None, Option, Ok, Err, Result}
+use Rattle.std.proofs.Common.{◌≡◌, ◌≢◌, ◌∙◌, ap, sym, subst, ℕ, suc, ◌+◌, ◌≤◌, Bool, true, false, cond, List, [], ◌∷◌}
+use Rattle.std.proofs.Common.{length, refl, arith, length-append, Some, None, Option, Ok, Err, Result}
 use Rattle.std.proofs.lemmas.List.Elements.{All-nil, All-cons, All-append}
 use Rattle.std.specs.List.{concat}
 use Rattle.std.specs.Prelude.{All, IfOk}
 use Rattle.cat_pos.specs.Position.{is_line_feed}
 use Rattle.cat_weave.specs.Lines.{lines_of, in_front, bare}
-use Rattle.cat_weave.specs.Kinds.{Kind, LawLine, OpeningLine, CodeLine, ClosingLine, HeadingLine, IncludeLine, kinds_of, kind_of, law_kind, is_opening, is_heading, is_include, is_closing, heading_of, include_of, stays_inside}
-use Rattle.cat_weave.specs.Woven.{line_place, code_text, is_code, part_at, parts_from, unclosed, woven_unless, woven_lines, code_total, part_place, IsPlaced, AreWithin}
+use Rattle.cat_weave.specs.Kinds.{Kind, LawLine, OpeningLine, CodeLine, ClosingLine, HeadingLine, IncludeLine}
+use Rattle.cat_weave.specs.Kinds.{kinds_of, kind_of, law_kind, is_opening, is_heading, is_include, is_closing}
+use Rattle.cat_weave.specs.Kinds.{heading_of, include_of, stays_inside}
+use Rattle.cat_weave.specs.Woven.{line_position, code_text, is_code, part_at, parts_from, unclosed, woven_unless}
+use Rattle.cat_weave.specs.Woven.{woven_lines, code_total, part_position, IsLineStart, AreWithin}
 use Rattle.cat_weave.specs.Reading.{law_kinds}
 use Rattle.cat_weave.specs.declared.part.Part.{Part}
 use Rattle.cat_weave.specs.declared.part.Woven.{Woven}
@@ -24,7 +28,8 @@ length-lines_of [] = omega arith
 length-lines_of (byte ∷ text) =
     let rest = length-lines_of text in
     let front = length-in_front byte (lines_of text) in
-    elim (is_line_feed byte) as (λ v. length (cond v ((byte ∷ []) ∷ lines_of text) (in_front byte (lines_of text))) ≤ suc (length text)) [ true ↦ omega arith | false ↦ omega arith ]
+    elim (is_line_feed byte) as (λ v. length (cond v ((byte ∷ []) ∷ lines_of text) (in_front byte (lines_of text))) ≤
+    suc (length text)) [ true ↦ omega arith | false ↦ omega arith ]
 
 concat-in_front : (byte : ℕ) (lines : List (List ℕ)) → concat (in_front byte lines) ≡ byte ∷ concat lines
 concat-in_front byte [] = refl
@@ -36,7 +41,8 @@ concat-lines_of [] = refl
 concat-lines_of (byte ∷ text) =
     let rest = ap (λ more. byte ∷ more) (concat-lines_of text) in
     let front = concat-in_front byte (lines_of text) ∙ rest in
-    elim (is_line_feed byte) as (λ v. concat (cond v ((byte ∷ []) ∷ lines_of text) (in_front byte (lines_of text))) ≡ byte ∷ text) [ true ↦ rest | false ↦ front ]
+    elim (is_line_feed byte) as (λ v. concat (cond v ((byte ∷ []) ∷ lines_of text) (in_front byte (lines_of text))) ≡
+    byte ∷ text) [ true ↦ rest | false ↦ front ]
 
 length-kinds_of : (inside : Bool) (lines : List (List ℕ)) → length (kinds_of inside lines) ≡ length lines
 unfolding kinds_of
@@ -44,27 +50,25 @@ length-kinds_of inside [] = refl
 length-kinds_of inside (line ∷ lines) = ap suc (length-kinds_of (stays_inside (kind_of inside line)) lines)
 
 -- at most one part for each line
-length-part_at : (file n : ℕ) (after : Bool) (line : Kind) (lines : List Kind) → length (part_at (line_place file n) after line lines) ≤ 1
-length-part_at file n false LawLine lines = omega arith
-length-part_at file n false OpeningLine lines = omega arith
+length-part_at : (file n : ℕ) (after : Bool) (line : Kind) (lines : List Kind) →
+    length (part_at (line_position file n) after line lines) ≤ 1
 length-part_at file n false (CodeLine text) lines = omega arith
-length-part_at file n false ClosingLine lines = omega arith
-length-part_at file n false (HeadingLine level text) lines = omega arith
-length-part_at file n false (IncludeLine path) lines = omega arith
-length-part_at file n true LawLine lines = omega arith
-length-part_at file n true OpeningLine lines = omega arith
+length-part_at file n false line lines = omega arith
 length-part_at file n true (CodeLine text) lines = omega arith
-length-part_at file n true ClosingLine lines = omega arith
-length-part_at file n true (HeadingLine level text) lines = omega arith
-length-part_at file n true (IncludeLine path) lines = omega arith
+length-part_at file n true line lines = omega arith
 
-length-parts_from : (file n : ℕ) (after : Bool) (lines : List Kind) → length (parts_from file after n lines) ≤ length lines
+length-parts_from : (file n : ℕ) (after : Bool) (lines : List Kind) →
+    length (parts_from file after n lines) ≤ length lines
 unfolding parts_from
 length-parts_from file n after [] = omega arith
 length-parts_from file n after (line ∷ lines) =
     let first = length-part_at file n after line lines in
     let rest = length-parts_from file (n + 1) (is_code line) lines in
-    omega (arith, length-append (part_at (line_place file n) after line lines) (parts_from file (is_code line) (n + 1) lines))
+    omega (
+      arith,
+      length-append (part_at (line_position file n) after line lines)
+          (parts_from file (is_code line) (n + 1) lines),
+    )
 
 -- how much code the lines have
 abbrev kind_size : Kind → ℕ
@@ -78,18 +82,28 @@ kinds_size (line ∷ lines) = kind_size line + kinds_size lines
 law_kind-size : (line : List ℕ) → kind_size (law_kind line) ≡ 0
 unfolding law_kind
 law_kind-size line =
-    elim (is_opening line) as (λ v. kind_size (cond v OpeningLine (cond (is_heading line) (heading_of line) (cond (is_include line) (include_of line) LawLine))) ≡ 0) [
+    elim (is_opening line) as (λ v. kind_size (cond v OpeningLine
+    (cond (is_heading line) (heading_of line) (cond (is_include line) (include_of line) LawLine))) ≡ 0) [
       | true ↦ refl
-      | false ↦ elim (is_heading line) as (λ v. kind_size (cond v (heading_of line) (cond (is_include line) (include_of line) LawLine)) ≡ 0) [
-        | true ↦ refl
-        | false ↦ elim (is_include line) as (λ v. kind_size (cond v (include_of line) LawLine) ≡ 0) [ true ↦ refl | false ↦ refl ]
-      ]
+      | false ↦ elim (is_heading line) as (λ v. kind_size (cond v (heading_of line)
+          (cond (is_include line) (include_of line) LawLine)) ≡ 0) [
+            | true ↦ refl
+            | false ↦ elim (is_include line) as (λ v. kind_size (cond v (include_of line) LawLine) ≡ 0) [
+              | true ↦ refl
+              | false ↦ refl
+            ]
+          ]
     ]
 
 kind_of-size : (inside : Bool) (line : List ℕ) → kind_size (kind_of inside line) ≤ length line
 unfolding kind_of
 kind_of-size false line = omega (arith, law_kind-size (bare line))
-kind_of-size true line = elim (is_closing (bare line)) as (λ v. kind_size (cond v ClosingLine (CodeLine line)) ≤ length line) [ true ↦ omega arith | false ↦ omega arith ]
+kind_of-size true line =
+    elim (is_closing (bare line)) as (λ v. kind_size (cond v ClosingLine (CodeLine line)) ≤ length line) [
+      | true ↦
+          omega arith
+      | false ↦ omega arith
+    ]
 
 kinds_of-size : (inside : Bool) (lines : List (List ℕ)) → kinds_size (kinds_of inside lines) ≤ length (concat lines)
 unfolding kinds_of
@@ -99,47 +113,46 @@ kinds_of-size inside (line ∷ lines) =
     let rest = kinds_of-size (stays_inside (kind_of inside line)) lines in
     omega (arith, length-append line (concat lines))
 
-code_in_parts : (file n : ℕ) (after : Bool) (lines : List Kind) → cond after (length (code_text lines)) 0 + code_total (parts_from file after n lines) ≤ kinds_size lines
+code_in_parts : (file n : ℕ) (after : Bool) (lines : List Kind) →
+    cond after (length (code_text lines)) 0 + code_total (parts_from file after n lines) ≤ kinds_size lines
 unfolding code_text parts_from
 code_in_parts file n false [] = omega arith
 code_in_parts file n true [] = omega arith
-code_in_parts file n false (LawLine ∷ lines) = omega (arith, code_in_parts file (n + 1) false lines)
-code_in_parts file n false (OpeningLine ∷ lines) = omega (arith, code_in_parts file (n + 1) false lines)
-code_in_parts file n false (CodeLine text ∷ lines) = omega (arith, length-append text (code_text lines), code_in_parts file (n + 1) true lines)
-code_in_parts file n false (ClosingLine ∷ lines) = omega (arith, code_in_parts file (n + 1) false lines)
-code_in_parts file n false (HeadingLine level text ∷ lines) = omega (arith, code_in_parts file (n + 1) false lines)
-code_in_parts file n false (IncludeLine path ∷ lines) = omega (arith, code_in_parts file (n + 1) false lines)
-code_in_parts file n true (LawLine ∷ lines) = omega (arith, code_in_parts file (n + 1) false lines)
-code_in_parts file n true (OpeningLine ∷ lines) = omega (arith, code_in_parts file (n + 1) false lines)
-code_in_parts file n true (CodeLine text ∷ lines) = omega (arith, length-append text (code_text lines), code_in_parts file (n + 1) true lines)
-code_in_parts file n true (ClosingLine ∷ lines) = omega (arith, code_in_parts file (n + 1) false lines)
-code_in_parts file n true (HeadingLine level text ∷ lines) = omega (arith, code_in_parts file (n + 1) false lines)
-code_in_parts file n true (IncludeLine path ∷ lines) = omega (arith, code_in_parts file (n + 1) false lines)
+code_in_parts file n false (CodeLine text ∷ lines) =
+    omega (arith, length-append text (code_text lines), code_in_parts file (n + 1) true lines)
+code_in_parts file n false (line ∷ lines) = omega (arith, code_in_parts file (n + 1) false lines)
+code_in_parts file n true (CodeLine text ∷ lines) =
+    omega (arith, length-append text (code_text lines), code_in_parts file (n + 1) true lines)
+code_in_parts file n true (line ∷ lines) = omega (arith, code_in_parts file (n + 1) false lines)
 
 -- each part stands in a line of its own
-abbrev IsPartPlaced : ℕ → ℕ → Part → Type 0
-IsPartPlaced file m part = IsPlaced file m (part_place part)
+abbrev StartsLine : ℕ → ℕ → Part → Type 0
+StartsLine file m part = IsLineStart file m (part_position part)
 
-placed_part : (file n m : ℕ) (after : Bool) (line : Kind) (lines : List Kind) → n ≤ m → All (IsPartPlaced file m) (part_at (line_place file n) after line lines)
-placed_part file n m false LawLine lines below = All-nil (IsPartPlaced file m)
-placed_part file n m false OpeningLine lines below = All-nil (IsPartPlaced file m)
-placed_part file n m false (CodeLine text) lines below = All-cons (IsPartPlaced file m) _ [] (record { same_file = refl; within = below; first_column = refl }) (All-nil (IsPartPlaced file m))
-placed_part file n m false ClosingLine lines below = All-nil (IsPartPlaced file m)
-placed_part file n m false (HeadingLine level text) lines below = All-cons (IsPartPlaced file m) _ [] (record { same_file = refl; within = below; first_column = refl }) (All-nil (IsPartPlaced file m))
-placed_part file n m false (IncludeLine path) lines below = All-cons (IsPartPlaced file m) _ [] (record { same_file = refl; within = below; first_column = refl }) (All-nil (IsPartPlaced file m))
-placed_part file n m true LawLine lines below = All-nil (IsPartPlaced file m)
-placed_part file n m true OpeningLine lines below = All-nil (IsPartPlaced file m)
-placed_part file n m true (CodeLine text) lines below = All-nil (IsPartPlaced file m)
-placed_part file n m true ClosingLine lines below = All-nil (IsPartPlaced file m)
-placed_part file n m true (HeadingLine level text) lines below = All-cons (IsPartPlaced file m) _ [] (record { same_file = refl; within = below; first_column = refl }) (All-nil (IsPartPlaced file m))
-placed_part file n m true (IncludeLine path) lines below = All-cons (IsPartPlaced file m) _ [] (record { same_file = refl; within = below; first_column = refl }) (All-nil (IsPartPlaced file m))
+one_start : (file n m : ℕ) (part : Part) → part_position part ≡ line_position file n → n ≤ m →
+    All (StartsLine file m) (part ∷ [])
+one_start file n m part is below =
+    All-cons (StartsLine file m) part [] (rw is (record { same_file = refl; within = below; first_column = refl }))
+    (All-nil (StartsLine file m))
 
-placed_parts : (file n m : ℕ) (after : Bool) (lines : List Kind) → n + length lines ≤ m + 1 → All (IsPartPlaced file m) (parts_from file after n lines)
+start_part : (file n m : ℕ) (after : Bool) (line : Kind) (lines : List Kind) → n ≤ m →
+    All (StartsLine file m) (part_at (line_position file n) after line lines)
+start_part file n m false (CodeLine text) lines below = one_start file n m _ refl below
+start_part file n m false (HeadingLine level text) lines below = one_start file n m _ refl below
+start_part file n m false (IncludeLine path) lines below = one_start file n m _ refl below
+start_part file n m false line lines below = All-nil (StartsLine file m)
+start_part file n m true (HeadingLine level text) lines below = one_start file n m _ refl below
+start_part file n m true (IncludeLine path) lines below = one_start file n m _ refl below
+start_part file n m true line lines below = All-nil (StartsLine file m)
+
+start_parts : (file n m : ℕ) (after : Bool) (lines : List Kind) → n + length lines ≤ m + 1 →
+    All (StartsLine file m) (parts_from file after n lines)
 unfolding parts_from
-placed_parts file n m after [] below = All-nil (IsPartPlaced file m)
-placed_parts file n m after (line ∷ lines) below =
-    All-append (IsPartPlaced file m) (part_at (line_place file n) after line lines) (parts_from file (is_code line) (n + 1) lines)
-    (placed_part file n m after line lines (omega arith)) (placed_parts file (n + 1) m (is_code line) lines (omega arith))
+start_parts file n m after [] below = All-nil (StartsLine file m)
+start_parts file n m after (line ∷ lines) below =
+    All-append (StartsLine file m) (part_at (line_position file n) after line lines)
+    (parts_from file (is_code line) (n + 1) lines)
+    (start_part file n m after line lines (omega arith)) (start_parts file (n + 1) m (is_code line) lines (omega arith))
 
 parts_within : (file : ℕ) (text : List ℕ) → AreWithin (length text) file (parts_from file false 1 (law_kinds text))
 parts_within file text =
@@ -150,16 +163,18 @@ parts_within file text =
     record {
       few = omega (arith, length-parts_from file 1 false (law_kinds text));
       code = omega (arith, code_in_parts file 1 false (law_kinds text));
-      placed = placed_parts file 1 (length text) false (law_kinds text) (omega arith);
+      starts = start_parts file 1 (length text) false (law_kinds text) (omega arith);
     }
 
-within_ok : (file : ℕ) (text : List ℕ) (w : Woven) (opened : Option ℕ) → Ok w ≡ woven_unless file opened (parts_from file false 1 (law_kinds text)) → AreWithin (length text) file w.parts
+within_ok : (file : ℕ) (text : List ℕ) (w : Woven) (opened : Option ℕ) →
+    Ok w ≡ woven_unless file opened (parts_from file false 1 (law_kinds text)) → AreWithin (length text) file w.parts
 within_ok file text w None is =
     let same : w ≡ record { parts = parts_from file false 1 (law_kinds text) } = cc in
     subst (λ (v : Woven). AreWithin (length text) file v.parts) (sym same) (parts_within file text)
 within_ok file text w (Some n) is = cc
 
 -- what is woven of a text is within its bounds
-pub woven_within : (file : ℕ) (text : List ℕ) (r : Result Woven WeaveRefusal) → (r ≢ Err Memory → r ≡ woven_lines file (law_kinds text)) → IfOk r (λ w. AreWithin (length text) file w.parts)
+pub woven_within : (file : ℕ) (text : List ℕ) (r : Result Woven WeaveRefusal) →
+    (r ≢ Err Memory → r ≡ woven_lines file (law_kinds text)) → IfOk r (λ w. AreWithin (length text) file w.parts)
 woven_within file text (Ok w) gives = within_ok file text w (unclosed 1 (law_kinds text)) (gives (λ same. cc))
 woven_within file text (Err refusal) gives = tt

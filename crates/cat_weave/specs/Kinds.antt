@@ -1,5 +1,6 @@
 -- What each line of a literate source is.
-use Rattle.std.specs.Prelude.{ℕ, ◌+◌, ◌==◌, nat_le, nat_eq, ◌&&◌, ◌||◌, Bool, true, false, List, [], ◌∷◌, drop, bytes_eq, codes, slice_index, if◌then◌else◌}
+use Rattle.std.specs.Prelude.{ℕ, ◌+◌, ◌==◌, nat_le, nat_eq, ◌&&◌, ◌||◌, Bool, true, false, List, [], ◌∷◌, drop}
+use Rattle.std.specs.Prelude.{bytes_eq, codes, slice_index, if◌then◌else◌}
 use Rattle.std.specs.List.{starts_with, prefix_len}
 use Rattle.cat_weave.specs.Lines.{bare, is_blank, without_first_blanks}
 

@@ -1,12 +1,13 @@
 -- What the code reads of a line, and in one step.
-use Rattle.std.specs.Prelude.{◌≡◌, ◌≢◌, ℕ, zero, suc, ◌+◌, true, false, List, [], ◌∷◌, ◌++◌, length, Option, Some, if◌then◌else◌}
+use Rattle.std.specs.Prelude.{◌≡◌, ◌≢◌, ℕ, zero, suc, ◌+◌, true, false, List, [], ◌∷◌, ◌++◌, length, Option, Some}
+use Rattle.std.specs.Prelude.{if◌then◌else◌}
 use Rattle.std.specs.List.{concat}
 use Rattle.std.specs.Option.{option_to_list}
 use Rattle.cat_pos.specs.Position.{is_line_feed}
 use Rattle.cat_pos.specs.declared.pos.Pos.{Pos}
 use Rattle.cat_weave.specs.Lines.{lines_of}
 use Rattle.cat_weave.specs.Kinds.{Kind, LawLine, OpeningLine, CodeLine, HeadingLine, IncludeLine, kinds_of}
-use Rattle.cat_weave.specs.Woven.{line_place, parts_from, unclosed}
+use Rattle.cat_weave.specs.Woven.{line_position, parts_from, unclosed}
 use Rattle.cat_weave.specs.declared.part.Part.{Part}
 use Rattle.cat_weave.specs.declared.part.Part.TheVariants.{Code}
 use Rattle.cat_weave.specs.declared.part.WeaveRefusal.{WeaveRefusal}
@@ -58,4 +59,5 @@ pub record IsStep (file n : ℕ) (lines : List Kind) (part : Option Part) (count
 
 -- the block that opens in line n isn't closed
 abbrev pub IsOpen : ℕ → ℕ → List Kind → WeaveRefusal → Type 0
-IsOpen file n lines refusal = refusal ≢ Memory → (refusal ≡ FenceOpen (line_place file n)) × (unclosed n lines ≡ Some n)
+IsOpen file n lines refusal = refusal ≢ Memory →
+    (refusal ≡ FenceOpen (line_position file n)) × (unclosed n lines ≡ Some n)

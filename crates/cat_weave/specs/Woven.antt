@@ -1,5 +1,6 @@
 -- The parts of a literate source.
-use Rattle.std.specs.Prelude.{◌≡◌, ℕ, ◌+◌, ◌≤◌, Bool, true, false, List, [], ◌∷◌, ◌++◌, length, Result, Ok, Err, Option, Some, None, All, if◌then◌else◌}
+use Rattle.std.specs.Prelude.{◌≡◌, ℕ, ◌+◌, ◌≤◌, Bool, true, false, List, [], ◌∷◌, ◌++◌, length, Result, Ok, Err}
+use Rattle.std.specs.Prelude.{Option, Some, None, All, if◌then◌else◌}
 use Rattle.std.specs.Str.{is_utf8}
 use Rattle.std.specs.Str.Lossy.{utf8_valid_len}
 use Rattle.cat_pos.specs.Position.{position_of}
@@ -13,8 +14,8 @@ use Rattle.cat_weave.specs.declared.part.WeaveRefusal.{WeaveRefusal}
 use Rattle.cat_weave.specs.declared.part.WeaveRefusal.TheVariants.{NotUtf8, FenceOpen}
 
 -- where line n begins
-abbrev pub line_place : ℕ → ℕ → Pos
-line_place file n = record { file = file; line = n; column = 1 }
+abbrev pub line_position : ℕ → ℕ → Pos
+line_position file n = record { file = file; line = n; column = 1 }
 
 -- the text of the code lines that these lines begin with
 unfoldable pub code_text : List Kind → List ℕ
@@ -27,7 +28,8 @@ abbrev pub is_code : Kind → Bool
 is_code (CodeLine text) = true
 is_code _ = false
 
--- the part that begins in a line: a code line that stands after another begins none, and a piece has all code lines up to the next other line
+-- the part that begins in a line: a code line that stands after another begins none, and a piece has all code lines up
+-- to the next other line
 abbrev pub part_at : Pos → Bool → Kind → List Kind → List Part
 part_at pos false (CodeLine text) lines = Code (record { text = text ++ code_text lines; pos = pos }) ∷ []
 part_at pos after_code (HeadingLine level text) lines = Heading level text pos ∷ []
@@ -37,7 +39,8 @@ part_at pos after_code _ lines = []
 -- the parts that begin in these lines, the first of which is line n and may stand after a code line
 unfoldable pub parts_from : ℕ → Bool → ℕ → List Kind → List Part
 parts_from file after_code n [] = []
-parts_from file after_code n (line ∷ lines) = part_at (line_place file n) after_code line lines ++ parts_from file (is_code line) (n + 1) lines
+parts_from file after_code n (line ∷ lines) =
+    part_at (line_position file n) after_code line lines ++ parts_from file (is_code line) (n + 1) lines
 
 -- whether some line closes a block
 unfoldable pub closes : List Kind → Bool
@@ -54,7 +57,7 @@ unclosed n (_ ∷ lines) = unclosed (n + 1) lines
 -- a refusal where a block is left open, which began in that line; else the parts
 abbrev pub woven_unless : ℕ → Option ℕ → List Part → Result Woven WeaveRefusal
 woven_unless file None parts = Ok (record { parts = parts })
-woven_unless file (Some n) parts = Err (FenceOpen (line_place file n))
+woven_unless file (Some n) parts = Err (FenceOpen (line_position file n))
 
 -- what weaving these lines gives
 abbrev pub woven_lines : ℕ → List Kind → Result Woven WeaveRefusal
@@ -77,13 +80,13 @@ code_total [] = 0
 code_total (part ∷ parts) = code_size part + code_total parts
 
 -- where a part begins
-abbrev pub part_place : Part → Pos
-part_place (Code piece) = piece.pos
-part_place (Heading level text pos) = pos
-part_place (Include path pos) = pos
+abbrev pub part_position : Part → Pos
+part_position (Code piece) = piece.pos
+part_position (Heading level text pos) = pos
+part_position (Include path pos) = pos
 
 -- a part stands at a line's beginning, at most so far down in its file
-pub record IsPlaced (file lines : ℕ) (pos : Pos) : Type 0 where
+pub record IsLineStart (file lines : ℕ) (pos : Pos) : Type 0 where
   pub same_file : pos.file ≡ file
   pub within : pos.line ≤ lines
   pub first_column : pos.column ≡ 1
@@ -92,4 +95,4 @@ pub record IsPlaced (file lines : ℕ) (pos : Pos) : Type 0 where
 pub record AreWithin (size file : ℕ) (parts : List Part) : Type 0 where
   pub few : length parts ≤ size
   pub code : code_total parts ≤ size
-  pub placed : All (λ part. IsPlaced file size (part_place part)) parts
+  pub starts : All (λ part. IsLineStart file size (part_position part)) parts

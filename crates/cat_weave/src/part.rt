@@ -5,7 +5,7 @@ ghost use Rattle.cat_weave.specs.declared.part.WeaveRefusal.TheVariants.{Memory}
 use cat_pos::{List, Piece, Pos, Text};
 use std::alloc::AllocError;
 
-/// A part of a literate source, with the place where its first line begins.
+/// A part of a literate source, with the position at which its first line begins.
 #[derive(Debug, Drop)]
 pub enum Part {
     /// A run of code lines, each with its line feed.
@@ -27,7 +27,7 @@ pub struct Woven {
 /// A heading among the pieces of code of all files.
 #[derive(Debug, Drop)]
 pub struct Heading {
-    /// How many pieces of code stand before it.
+    /// How many pieces of code stand in front of it.
     pub pieces: usize,
     /// From 1 to 6.
     pub level: u32,
@@ -40,7 +40,7 @@ pub type Headings = List<Heading>;
 /// Why a source can't be woven.
 #[derive(Clone, Copy, Debug, PartialEq, Eq)]
 pub enum WeaveRefusal {
-    /// The place after the longest front that is UTF-8.
+    /// The position after the longest front that is UTF-8.
     NotUtf8(Pos),
     /// The opening line of a block that isn't closed.
     FenceOpen(Pos),

@@ -1,18 +1,18 @@
 // Parts out of lines.
-ghost use Rattle.std.specs.Prelude.{◌≡◌, ◌≢◌, ◌+◌, ◌<◌, ◌≤◌, ◌*◌, false, length, Err, IfOk, IfErr, MatchOption, MatchResult, IfSome, ◌∷◌};
-ghost use Rattle.cat_weave.specs.Woven.{woven, woven_lines, line_place, closes, AreWithin};
+ghost use Rattle.std.specs.Prelude.{◌≡◌, ◌≢◌, ◌+◌, ◌<◌, ◌≤◌, false, length, Err, IfOk, IfErr, MatchOption, MatchResult, IfSome, ◌∷◌};
+ghost use Rattle.cat_weave.specs.Woven.{woven, woven_lines, line_position, closes, AreWithin};
 ghost use Rattle.cat_weave.specs.Kinds.{ClosingLine};
 ghost use Rattle.cat_weave.specs.Reading.{law_kinds, block_kinds, code_part, IsCodeBefore, IsStep, IsOpen};
 ghost use Rattle.std.specs.Option.{option_to_list};
 
 use crate::line::{Line, bare, first_line, law_line};
 use crate::{Part, WeaveRefusal, Woven};
-use cat_pos::{List, Piece, Pos, Text, pos_at};
+use cat_pos::{List, MOST_FILE_BYTES, Piece, Pos, Text, pos_at};
 use std::alloc::{AllocError, Global};
 
-/// The parts of a file of at most 4 MiB.
+/// The parts of a file.
 pub fn weave(alloc: Global, bytes: &[u8], file: u32) -> Result<Woven, WeaveRefusal>
-    requires { length bytes.now ≤ 4 * 1024 * 1024 }
+    requires { length bytes.now ≤ MOST_FILE_BYTES }
     ensures gives { result ≢ Err WeaveRefusal.Memory → result ≡ woven bytes.now file }
     ensures within { IfOk result (λ woven. AreWithin (length bytes.now) file woven.parts) }
 {
@@ -23,7 +23,7 @@ pub fn weave(alloc: Global, bytes: &[u8], file: u32) -> Result<Woven, WeaveRefus
 }
 
 fn woven_text(alloc: Global, text: &str, file: u32) -> Result<Woven, WeaveRefusal>
-    requires { length text.now ≤ 4 * 1024 * 1024 }
+    requires { length text.now ≤ MOST_FILE_BYTES }
     ensures gives { result ≢ Err WeaveRefusal.Memory → result ≡ woven_lines file (law_kinds text.now) }
     ensures within { IfOk result (λ woven. AreWithin (length text.now) file woven.parts) }
 {
@@ -51,7 +51,7 @@ struct Step<'a> {
 
 fn next_step(alloc: Global, rest: &str, file: u32, line: u32) -> Result<Step<'_>, WeaveRefusal>
     requires some { 0 < length rest.now }
-    requires short { line + length rest.now ≤ 4 * 1024 * 1024 + 1 }
+    requires short { line + length rest.now ≤ MOST_FILE_BYTES + 1 }
     ensures gives { MatchResult result
         (λ s. IsStep file line (law_kinds rest.now) s.part s.lines (law_kinds s.after.now))
         (λ e. IsOpen file line (law_kinds rest.now) e) }
@@ -90,10 +90,10 @@ fn line_step(part: Option<Part>, after: &str) -> Step<'_>
 
 /// The lines after an opening line, up to the closing line.
 fn block_step(alloc: Global, text: &str, opening: Pos) -> Result<Step<'_>, WeaveRefusal>
-    requires { opening.line + length text.now ≤ 4 * 1024 * 1024 }
+    requires { opening.line + length text.now ≤ MOST_FILE_BYTES }
     ensures gives { MatchResult result
         (λ s. (code : _) × (count : _) × IsCodeBefore (block_kinds text.now) code count (ClosingLine ∷ law_kinds s.after.now)
-        × (option_to_list s.part ≡ code_part (line_place opening.file (opening.line + 1)) code count)
+        × (option_to_list s.part ≡ code_part (line_position opening.file (opening.line + 1)) code count)
         × (s.lines ≡ count + 2))
         (λ e. e ≢ WeaveRefusal.Memory → (e ≡ WeaveRefusal.FenceOpen opening) × (closes (block_kinds text.now) ≡ false)) }
     ensures fewer { IfOk result (λ s. s.lines + length s.after.now ≤ length text.now + 1) }
@@ -116,9 +116,9 @@ fn piece_of(
     code_lines: u32,
     opening: Pos,
 ) -> Result<Option<Part>, AllocError>
-    requires { opening.line < 4 * 1024 * 1024 }
+    requires { opening.line < MOST_FILE_BYTES }
     ensures { IfOk result (λ part. option_to_list part
-        ≡ code_part (line_place opening.file (opening.line + 1)) code.now code_lines) }
+        ≡ code_part (line_position opening.file (opening.line + 1)) code.now code_lines) }
 {
     if code_lines == 0 {
         return Ok(None);
@@ -141,7 +141,7 @@ struct Block<'a> {
 }
 
 fn block_of(text: &str) -> Option<Block<'_>>
-    requires { length text.now ≤ 4 * 1024 * 1024 }
+    requires { length text.now ≤ MOST_FILE_BYTES }
     ensures gives { MatchOption result (closes (block_kinds text.now) ≡ false)
         (λ b. IsCodeBefore (block_kinds text.now) b.code.now b.code_lines (ClosingLine ∷ law_kinds b.after.now)) }
     ensures fewer { IfSome result (λ b. b.code_lines + length b.after.now < length text.now) }

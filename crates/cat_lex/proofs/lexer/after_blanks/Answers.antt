@@ -1,6 +1,6 @@
 use Rattle.std.proofs.Common.{◌≡◌, ℕ, List, false, sym, subst, ap, ◌∙◌}
 use Rattle.std.specs.Str.{IsUtf8}
-use Rattle.cat_lex.specs.Places.{place_after}
+use Rattle.cat_lex.specs.Positions.{position_after}
 use Rattle.cat_lex.specs.Reading.{skip_blanks}
 use Rattle.cat_lex.specs.Steps.{IsAfterBlanks}
 use Rattle.cat_lex.proofs.Blanks.{gap_utf8}
@@ -8,21 +8,28 @@ use Rattle.cat_lex.proofs.PieceSteps.{gap_suffix, after_gap}
 use Rattle.cat_lex.proofs.lexer.after_blanks.Goals as goal
 
 pub front-requires-clause-suffix : goal.front-requires-clause-suffix
-front-requires-clause-suffix c = gap_suffix c.args.text.now _ (c.skip_blanks-rest.ensures ∙ ap (skip_blanks false) c.as_bytes.ensures.value)
+front-requires-clause-suffix c =
+    gap_suffix c.args.text.now _ (c.skip_blanks-rest.ensures ∙ ap (skip_blanks false) c.as_bytes.ensures.value)
 
 pub front-requires-clause-utf8 : goal.front-requires-clause-utf8
 front-requires-clause-utf8 c =
-    let is : c.skip_blanks-rest.result.now ≡ skip_blanks false c.args.text.now = c.skip_blanks-rest.ensures ∙ ap (skip_blanks false) c.as_bytes.ensures.value in
+    let is : c.skip_blanks-rest.result.now ≡ skip_blanks false c.args.text.now =
+    c.skip_blanks-rest.ensures ∙ ap (skip_blanks false) c.as_bytes.ensures.value in
     subst IsUtf8 (sym is) (gap_utf8 c.args.text.now c.utf8.text)
 
 pub tail-requires-clause-utf8 : goal.tail-requires-clause-utf8
 tail-requires-clause-utf8 c =
-    let is : c.skip_blanks-rest.result.now ≡ skip_blanks false c.args.text.now = c.skip_blanks-rest.ensures ∙ ap (skip_blanks false) c.as_bytes.ensures.value in
+    let is : c.skip_blanks-rest.result.now ≡ skip_blanks false c.args.text.now =
+    c.skip_blanks-rest.ensures ∙ ap (skip_blanks false) c.as_bytes.ensures.value in
     subst IsUtf8 (sym is) (gap_utf8 c.args.text.now c.utf8.text)
 
 pub returns-clause-gap : goal.returns-clause-gap
 returns-clause-gap c =
-    let is : c.skip_blanks-rest.result.now ≡ skip_blanks false c.args.text.now = c.skip_blanks-rest.ensures ∙ ap (skip_blanks false) c.as_bytes.ensures.value in
-    let place : c.place_after-place.result ≡ place_after c.args.pos c.front.result.now = c.place_after-place.ensures.place ∙ ap (place_after c.args.pos) c.as_bytes-2.ensures.value in
-    subst (λ (rest : List ℕ). IsAfterBlanks c.args.pos c.args.text.now c.place_after-place.result rest) (sym c.tail.ensures)
-    (after_gap c.args.pos c.place_after-place.result c.args.text.now c.skip_blanks-rest.result.now c.front.result.now is c.front.ensures place)
+    let is : c.skip_blanks-rest.result.now ≡ skip_blanks false c.args.text.now =
+    c.skip_blanks-rest.ensures ∙ ap (skip_blanks false) c.as_bytes.ensures.value in
+    let position : c.position_after-position.result ≡ position_after c.args.pos c.front.result.now =
+    c.position_after-position.ensures.position ∙ ap (position_after c.args.pos) c.as_bytes-2.ensures.value in
+    subst (λ (rest : List ℕ). IsAfterBlanks c.args.pos c.args.text.now c.position_after-position.result rest)
+    (sym c.tail.ensures)
+    (after_gap c.args.pos c.position_after-position.result c.args.text.now c.skip_blanks-rest.result.now
+    c.front.result.now is c.front.ensures position)

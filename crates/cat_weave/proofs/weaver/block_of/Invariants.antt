@@ -10,7 +10,8 @@ invariant-loop-rest l = record {
   is_text : shadow (Utf8 l.rest);
   few : l.code_lines + length l.rest ≤ length l.text;
   is_rest : l.rest ≡ drop (length l.text - length l.rest) l.text;
-  before : IsCodeBefore (block_kinds l.text) (take (length l.text - length l.rest) l.text) l.code_lines (block_kinds l.rest);
+  before : IsCodeBefore (block_kinds l.text) (take (length l.text - length l.rest) l.text) l.code_lines
+      (block_kinds l.rest);
 }
 
 abbrev pub decreases-loop-rest : goal.decreases-loop-rest

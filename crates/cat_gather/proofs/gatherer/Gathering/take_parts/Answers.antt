@@ -2,12 +2,15 @@ use Rattle.std.proofs.Common.{ℕ, List, ◌∷◌, Err, subst}
 use Rattle.std.proofs.lemmas.Result.{err_from_is_err_and}
 use Rattle.cat_io.specs.Shelf.{Shelved}
 use Rattle.cat_gather.specs.Causes.{HasCause}
-use Rattle.cat_gather.specs.UnderWay.{gathered_of, AreToCome}
+use Rattle.cat_gather.specs.inside.UnderWay.{gathered_of, AreToCome}
 use Rattle.cat_gather.proofs.gatherer.Gathering.take_parts.Goals as goal
 
-pub returns-in_err-take_part-clause-err : goal.returns-in_err-take_part-clause-err
-returns-in_err-take_part-clause-err g c =
+pub returns-in_err-take_part-clause-cause : goal.returns-in_err-take_part-clause-cause
+returns-in_err-take_part-clause-cause g c =
     let p = err_from_is_err_and c.from_residual.result c.from_residual.ensures.1 in
     let new = g.S.Shelf.state c.take_part.new.shelf in
-    let err = subst (λ (s : Shelved). (main : List ℕ) → AreToCome s.content main (gathered_of c.loop-part.self) (c.in-Some.part ∷ c.next.new.self) → HasCause s new main (Err c.in_err-take_part.field-0.0)) c.loop-part.invariant.same c.in_err-take_part.ensures.err in
-    rw (p.1, p.2) (λ main come. err main (rw c.in-Some.ensures at (c.loop-part.invariant.goes_on main come)))
+    let cause = subst (λ (s : Shelved). (main : List ℕ)
+    → AreToCome s.content main (gathered_of c.loop-part.self) (c.in-Some.part ∷ c.next.new.self)
+    → HasCause s new main (Err c.in_err-take_part.field-0.0)) c.loop-part.invariant.same
+    c.in_err-take_part.ensures.cause in
+    rw (p.1, p.2) (λ main come. cause main (rw c.in-Some.ensures at (c.loop-part.invariant.goes_on main come)))

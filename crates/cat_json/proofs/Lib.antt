@@ -1,0 +1,5 @@
+pub mod DigitSteps
+pub mod Numerals
+pub mod KnownNames
+pub mod Levels
+pub mod JsonRead

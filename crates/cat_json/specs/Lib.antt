@@ -1,0 +1,4 @@
+pub mod Paths
+pub mod Scalars
+pub mod Reads
+pub mod InputsRead

@@ -1,0 +1,160 @@
+//! Values without parts, as JSON.
+ghost use Rattle.std.specs.Prelude.{◌≡◌, codes, bytes_eq, pos, ◌*ℤ◌, if◌then◌else◌};
+ghost use Rattle.std.specs.Char.{is_ascii_digit};
+ghost use Rattle.serde_json.specs.View.{view};
+ghost use Rattle.serde_json.specs.Find.{as_bool, as_str};
+ghost use Rattle.cat_date.specs.Text.{form_of};
+ghost use Rattle.cat_value.specs.declared.value.Value.TheVariants as variant;
+ghost use Rattle.cat_json.specs.Paths.{of_whole, made_of};
+ghost use Rattle.cat_json.specs.Scalars.{integer_of, in_bounds, whole_in, whole_fraction, fraction_in, cents_in, day_in};
+ghost use Rattle.cat_json.specs.Reads.{truth_in, text_in, decimal_in, money_in};
+
+use crate::Reason;
+use crate::numeral::{amount, amount_in, fraction_in};
+use cat_date::{Day, read_day};
+use cat_num::{Frac, Money, Whole};
+use cat_value::Value;
+use serde_json::Value as Json;
+
+/// The form of a date's text, with 0 for each digit.
+const DATE_FORM: [u8; 10] = *b"0000-00-00";
+
+pub(crate) fn boolean_in(value: &Json) -> Result<Value, Reason>
+    ensures { of_whole result ≡ made_of variant.Boolean (truth_in (as_bool (view value.now))) }
+{
+    match value.as_bool() {
+        Some(truth) => Ok(Value::Boolean(truth)),
+        None => Err(Reason::WrongForm),
+    }
+}
+
+pub(crate) fn integer_in(value: &Json) -> Result<Value, Reason>
+    ensures { of_whole result ≡ made_of variant.Integer (whole_in (integer_of (view value.now))) }
+{
+    Ok(Value::Integer(whole_in(value)?))
+}
+
+pub(crate) fn decimal_in(value: &Json) -> Result<Value, Reason>
+    ensures { of_whole result ≡ made_of variant.Decimal (decimal_in (integer_of (view value.now)) (as_str (view value.now))) }
+{
+    Ok(Value::Decimal(frac_in(value)?))
+}
+
+pub(crate) fn money_in(value: &Json) -> Result<Value, Reason>
+    ensures { of_whole result ≡ made_of variant.Money (money_in (integer_of (view value.now)) (as_str (view value.now))) }
+{
+    Ok(Value::Money(cents_in(value)?))
+}
+
+pub(crate) fn date_in(value: &Json) -> Result<Value, Reason>
+    ensures { of_whole result ≡ made_of variant.Date (text_in day_in (as_str (view value.now))) }
+{
+    match value.as_str() {
+        Some(text) => Ok(Value::Date(day_in(text)?)),
+        None => Err(Reason::WrongForm),
+    }
+}
+
+/// The whole number that the reader holds as one.
+fn integer_of(value: &Json) -> Option<i128>
+    ensures { result ≡ integer_of (view value.now) }
+{
+    value.as_number()?.as_i128()
+}
+
+/// A whole number from -(2^63 - 1) to 2^63 - 1.
+pub(crate) fn whole_in(value: &Json) -> Result<Whole, Reason>
+    ensures { of_whole result ≡ whole_in (integer_of (view value.now)) }
+{
+    match integer_of(value) {
+        Some(number) => in_bounds(number),
+        None => Err(Reason::WrongForm),
+    }
+}
+
+fn in_bounds(number: i128) -> Result<Whole, Reason>
+    ensures { of_whole result ≡ in_bounds number }
+{
+    match i64::try_from(number) {
+        Ok(number) => Whole::new(number).ok_or(Reason::OutOfRange),
+        Err(_) => Err(Reason::OutOfRange),
+    }
+}
+
+fn frac_in(value: &Json) -> Result<Frac, Reason>
+    ensures { of_whole result ≡ decimal_in (integer_of (view value.now)) (as_str (view value.now)) }
+{
+    match integer_of(value) {
+        Some(number) => whole_fraction(number),
+        None => match value.as_str() {
+            Some(text) => fraction_in(text),
+            None => Err(Reason::WrongForm),
+        },
+    }
+}
+
+fn whole_fraction(number: i128) -> Result<Frac, Reason>
+    ensures { of_whole result ≡ made_of whole_fraction (in_bounds number) }
+{
+    let number = in_bounds(number)?;
+    match Frac::new(number.get() as i128, 1) {
+        Ok(frac) => Ok(frac),
+        Err(_) => Err(Reason::OutOfRange),
+    }
+}
+
+fn cents_in(value: &Json) -> Result<Money, Reason>
+    ensures { of_whole result ≡ money_in (integer_of (view value.now)) (as_str (view value.now)) }
+{
+    match integer_of(value) {
+        Some(units) => units_in(units),
+        None => match value.as_str() {
+            Some(text) => amount_in(text),
+            None => Err(Reason::WrongForm),
+        },
+    }
+}
+
+/// So many units of 100 cents.
+fn units_in(units: i128) -> Result<Money, Reason>
+    ensures { of_whole result ≡ in_bounds (units *ℤ pos 100) }
+{
+    match i64::try_from(units) {
+        Ok(units) => amount(units as i128 * 100),
+        Err(_) => Err(Reason::OutOfRange),
+    }
+}
+
+#[tactic(auto, unfolding(crate::specs::Scalars::day_in))]
+fn day_in(text: &str) -> Result<Day, Reason>
+    ensures { of_whole result ≡ day_in text.now }
+{
+    let text = text.as_bytes();
+    if !has_date_form(text) {
+        return Err(Reason::WrongForm);
+    }
+    match read_day(text) {
+        Ok(day) => Ok(day),
+        Err(_) => Err(Reason::OutOfRange),
+    }
+}
+
+fn has_date_form(text: &[u8]) -> bool
+    ensures { result ≡ bytes_eq (form_of text.now) (codes "0000-00-00") }
+{
+    if text.len() != DATE_FORM.len() {
+        return false;
+    }
+    for (i, &byte) in text.iter().enumerate() {
+        if form(byte) != DATE_FORM[i] {
+            return false;
+        }
+    }
+    true
+}
+
+fn form(byte: u8) -> u8
+    ensures { result ≡ (if is_ascii_digit byte then 48 else byte) }
+{
+    if byte.is_ascii_digit() { b'0' } else { byte }
+}

@@ -1,0 +1,15 @@
+pub mod Steps
+pub mod Token
+pub mod Sequel
+pub mod Choices
+pub mod Lists
+pub mod Leaves
+pub mod Types
+pub mod Last
+pub mod Declarations
+pub mod Listed
+pub mod Leads
+pub mod Targets
+pub mod Variables
+pub mod Guards
+pub mod Blocks

@@ -1,0 +1,11 @@
+-- What crates above may cite by path: rewriting and induction, which no clause of a law can give.
+pub use Rattle.cat_scope.proofs.RunLaws.{append_append, and_then_and_then, and_then_gives}
+pub use Rattle.cat_scope.proofs.Induction.{Each, Within, induction}
+pub use Rattle.cat_scope.proofs.Namings.{namings}
+pub use Rattle.cat_scope.proofs.Placings.{placings}
+pub use Rattle.cat_scope.proofs.Equations.{and_then_same, equations}
+pub use Rattle.cat_scope.proofs.Equations.{eval_Literal, eval_Item, eval_Output, eval_Local, eval_Field, eval_Unary}
+pub use Rattle.cat_scope.proofs.Equations.{eval_Binary, eval_And, eval_Or, eval_If, eval_Match, eval_IsCase}
+pub use Rattle.cat_scope.proofs.Equations.{eval_Case_None, eval_Case_Some, eval_Structure, eval_List, eval_ForAll}
+pub use Rattle.cat_scope.proofs.Equations.{eval_Exists, eval_Map, eval_Filter, eval_Combine, eval_Contains}
+pub use Rattle.cat_scope.proofs.Equations.{eval_Length, eval_Sum, eval_Call, eval_ScopeCall}
