@@ -39,4 +39,5 @@ pub mod DecidedLaws
 mod SoundSamples
 pub mod HeldLaws
 pub mod GroupLaws
+pub mod OneType
 pub mod Exported

@@ -105,15 +105,15 @@ order_there computed ss es h = let o = some_is (order_of (type_dependencies ss e
 
 pub sound_is : IsComputed → CyclesLeaveNone → (ds : Decls) → AreSound ds
 sound_is computed none ds =
-  let order = order_there computed ds.structures ds.enumerations (types_ordered ds.structures ds.enumerations ds.scopes ds.sound) in
-  record {
-  ordered = order;
-  acyclic = λ n on. none (type_dependencies ds.structures ds.enumerations) n on order.0 order.1;
-  structures = structure_is ds;
-  enumerations = enumeration_is ds;
-  structures_counted = (counted ds).0;
-  enumerations_counted = (counted ds).1;
-  scopes_counted = (counted ds).2;
-  items_counted = λ n scope e. let h = scope_sound ds n scope e in grind arith;
-  items = λ n k scope item e f. item_is ds item (item_sound ds n k scope item e f);
-}
+    let order = order_there computed ds.structures ds.enumerations (types_ordered ds.structures ds.enumerations ds.scopes ds.sound) in
+    record {
+      ordered = order;
+      acyclic = λ n on. none (type_dependencies ds.structures ds.enumerations) n on order.0 order.1;
+      structures = structure_is ds;
+      enumerations = enumeration_is ds;
+      structures_counted = (counted ds).0;
+      enumerations_counted = (counted ds).1;
+      scopes_counted = (counted ds).2;
+      items_counted = λ n scope e. let h = scope_sound ds n scope e in grind arith;
+      items = λ n k scope item e f. item_is ds item (item_sound ds n k scope item e f);
+    }
