@@ -1,5 +1,5 @@
 -- Names that are put into a map one after another.
-use Rattle.std.proofs.Common.{◌≡◌, ℕ, ◌<◌, ◌+◌, List, [], ◌∷◌, drop, drop-cons, get_or, length, add-one, Bool, true, false, ◌||◌, cond, Option, Some, BTreeMap, Bor, bytes_eq, refl, sym, ap, ◌∙◌}
+use Rattle.std.proofs.Common.{◌≡◌, ℕ, ◌<◌, ◌+◌, List, drop, drop-cons, get_or, length, add-one, Bool, true, false, ◌||◌, cond, Option, Some, BTreeMap, Bor, bytes_eq, refl, ap, ◌∙◌}
 use Rattle.std.specs.Prelude.{is_some}
 use Rattle.std.specs.Ordering.{nat_cmp}
 use Rattle.std.specs.Cmp.Lexicographic.{slice_cmp}

@@ -1,17 +1,16 @@
 -- What JSON is read as, level by level.
-use Rattle.std.proofs.Common.{◌≡◌, ◌≢◌, ℕ, string_bytes, zero, suc, ◌+◌, ◌<◌, ◌≤◌, List, [], ◌∷◌, ◌++◌, Bool, true, false, length, drop, map, Option, Some, None, option_map, Ordering, Less, Equal, Greater, Result, Ok, Err, refl, sym, ap, ◌∙◌, arith, rules, max}
+use Rattle.std.proofs.Common.{◌≡◌, ◌≢◌, ℕ, string_bytes, suc, ◌<◌, ◌≤◌, List, [], ◌∷◌, ◌++◌, length, Option, Some, None, option_map, Ordering, Less, Equal, Greater, Ok, Err, refl, sym, ap, ◌∙◌, arith, rules, max}
 use Rattle.std.specs.Ordering.{nat_cmp, match_ordering}
 use Rattle.std.specs.Cmp.Lexicographic.{slice_cmp}
-use Rattle.serde_json.specs.Data.{Data, null, boolean, number, string, array, object, Items, no_items, item, Members, no_members, member, depth, items_depth, members_depth}
+use Rattle.serde_json.specs.Data.{Data, null, boolean, number, string, array, object, Items, Members, no_members, member, depth, items_depth, members_depth}
 use Rattle.serde_json.specs.Find.{as_array, as_object, as_bool, as_str, get, get_member}
-use Rattle.serde_json.specs.View.{view, items_view, members_view}
+use Rattle.serde_json.specs.View.{items_view, members_view}
 use Rattle.serde_json.specs.declared.value.Value.{Value as Json}
 use Rattle.serde_json.proofs.Views.{Entry}
 use Rattle.cat_value.specs.declared.ty.Ty.{Ty}
 use Rattle.cat_value.specs.declared.ty.Ty.TheOpen.{Ty-F}
 use Rattle.cat_value.specs.declared.ty.Ty.TheVariants as flat_ty
 use Rattle.cat_value.specs.declared.ty.Ty.TheViews as ty
-use Rattle.cat_value.specs.declared.value.Value.{Value}
 use Rattle.cat_value.specs.declared.value.Value.TheVariants as flat
 use Rattle.cat_value.specs.declared.decls.Decls.{Decls}
 use Rattle.cat_value.specs.Entries.{fields_of}

@@ -1,9 +1,9 @@
 -- Numerals, by their parts, and whole numbers as fractions.
-use Rattle.std.proofs.Common.{◌≡◌, ◌≤◌, ◌<◌, ℕ, suc, ◌%◌, ◌+◌, ℤ, pos, unsigned_abs, ◌++◌, List, Ok, Err, refl, sym, ap, ◌∙◌, arith}
+use Rattle.std.proofs.Common.{◌≡◌, ℕ, ℤ, pos, unsigned_abs, ◌++◌, List, Ok, refl, ap, arith}
 use Rattle.std.proofs.lemmas.Bool.Decides.{nat_tests}
 use Rattle.std.proofs.Math.Nat.{mod-one}
 use Rattle.cat_num.specs.Whole.{Fits}
-use Rattle.cat_num.specs.Frac.{Fraction, IsReduced, gcd, gcd_to, ratio, frac_of}
+use Rattle.cat_num.specs.Frac.{IsReduced, gcd, gcd_to, ratio, frac_of}
 use Rattle.cat_num.specs.Reading.{number_after}
 use Rattle.cat_num.proofs.Digits.{number_after-append}
 use Rattle.cat_num.proofs.Fracs.{lowest_is}

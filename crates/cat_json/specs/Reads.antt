@@ -1,5 +1,5 @@
 -- What JSON is read as a value of each type.
-use Rattle.std.specs.Prelude.{ℕ, suc, ◌*ℤ◌, ℤ, pos, nat_le, Bool, true, false, if◌then◌else◌, List, [], ◌∷◌, map, length, Option, Some, None, Result, Ok, Err, codes, bytes_eq, slice_get}
+use Rattle.std.specs.Prelude.{ℕ, suc, ◌*ℤ◌, ℤ, pos, nat_le, Bool, true, false, if◌then◌else◌, List, [], ◌∷◌, length, Option, Some, None, Ok, Err, codes, bytes_eq, slice_get}
 use Rattle.std.specs.Ordering.{nat_cmp, match_ordering}
 use Rattle.std.specs.Cmp.Lexicographic.{slice_cmp}
 use Rattle.serde_json.specs.Data.{Data, null, boolean, number, string, array, object, Items, no_items, item, Members, no_members, member}

@@ -1,7 +1,7 @@
 -- What JSON is read as numbers, amounts, dates and durations.
-use Rattle.std.specs.Prelude.{ℕ, ◌+◌, ◌-◌, ◌*◌, ◌^◌, ◌==◌, nat_le, nat_lt, ℤ, pos, ◌*ℤ◌, Bool, true, false, ◌&&◌, if◌then◌else◌, List, [], ◌∷◌, ◌++◌, length, Option, Some, None, option_and_then, Result, Ok, Err, codes, bytes_eq}
+use Rattle.std.specs.Prelude.{ℕ, ◌-◌, ◌*◌, ◌^◌, ◌==◌, nat_le, nat_lt, ℤ, Bool, true, false, ◌&&◌, if◌then◌else◌, List, [], ◌∷◌, ◌++◌, length, Option, Some, None, option_and_then, Result, Ok, Err, codes, bytes_eq}
 use Rattle.std.specs.Str.{all_ascii_digits}
-use Rattle.serde_json.specs.Data.{Data, Members}
+use Rattle.serde_json.specs.Data.{Data}
 use Rattle.serde_json.specs.Find.{as_number, as_integer}
 use Rattle.cat_num.specs.declared.fault.NumFault.{NumFault}
 use Rattle.cat_num.specs.Whole.{fits}
@@ -9,7 +9,6 @@ use Rattle.cat_num.specs.Frac.{Fraction, signed, ratio}
 use Rattle.cat_num.specs.Reading.{Parts, split_at, number_after}
 use Rattle.cat_date.specs.declared.fault.DateFault.{DateFault}
 use Rattle.cat_date.specs.Text.{form_of, day_of_text}
-use Rattle.cat_json.specs.declared.refusal.Reason.{Reason}
 use Rattle.cat_json.specs.declared.refusal.Reason.TheVariants.{WrongForm, OutOfRange}
 use Rattle.cat_json.specs.Paths.{Reading, refused}
 

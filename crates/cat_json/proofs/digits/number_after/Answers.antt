@@ -1,5 +1,4 @@
-use Rattle.std.proofs.Common.{◌≡◌, ◌+◌, ◌-◌, ◌*◌, ◌<◌, ◌≤◌, ◌^◌, ℕ, List, get_or, drop, refl, sym, ap, ◌∙◌, arith, rules}
-use Rattle.cat_num.specs.Reading.{number_after}
+use Rattle.std.proofs.Common.{◌+◌, ◌-◌, get_or, ◌∙◌, arith}
 use Rattle.cat_json.proofs.DigitSteps.{number_room, number_fits, digit_here, number_after-step, number_after-end}
 use Rattle.cat_json.proofs.digits.number_after.Goals as goal
 

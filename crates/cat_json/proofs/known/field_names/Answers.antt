@@ -1,4 +1,4 @@
-use Rattle.std.proofs.Common.{◌≡◌, ◌∙◌, ◌||◌, ◌+◌, sym, ap, rules, arith, drop, drop-cons, add-one}
+use Rattle.std.proofs.Common.{◌∙◌, ◌||◌, ◌+◌, ap, rules, drop}
 use Rattle.cat_json.specs.Reads.{is_among, field_names}
 use Rattle.cat_json.proofs.KnownNames.{knows, knows-next, field_names-next}
 use Rattle.cat_json.proofs.known.field_names.Goals as goal

@@ -1,8 +1,7 @@
-use Rattle.std.proofs.Common.{◌≡◌, ◌∙◌, ◌||◌, ◌+◌, false, sym, ap, rules, arith, drop}
-use Rattle.cat_value.specs.Inputs.{may_be_given}
+use Rattle.std.proofs.Common.{◌∙◌, ◌||◌, ◌+◌, ap, rules, drop}
 use Rattle.cat_json.specs.Reads.{is_among}
 use Rattle.cat_json.specs.InputsRead.{given_names}
-use Rattle.cat_json.proofs.KnownNames.{knows, knows-next, given_names-next, given_names-skip}
+use Rattle.cat_json.proofs.KnownNames.{knows, knows-next, given_names-next}
 use Rattle.cat_json.proofs.known.given_names.Goals as goal
 
 pub loop-item-preserved : goal.loop-item-preserved

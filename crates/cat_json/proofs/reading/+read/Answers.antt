@@ -1,4 +1,4 @@
-use Rattle.std.proofs.Common.{rules, sym}
+use Rattle.std.proofs.Common.{rules}
 use Rattle.cat_json.proofs.reading.+read.Goals as goal
 
 pub case_in-bare_case-requires : goal.case_in-bare_case-requires

@@ -1,4 +1,4 @@
-use Rattle.std.proofs.Common.{◌≡◌, ◌≤◌, ◌+◌, ◌*◌, ◌++◌, drop}
+use Rattle.std.proofs.Common.{◌≡◌, ◌≤◌, ◌+◌, ◌*◌, drop}
 use Rattle.serde_json.specs.Data.{items_depth}
 use Rattle.serde_json.specs.View.{view, items_view}
 use Rattle.cat_json.specs.Reads.{elements_in, elements_of, fields_in, data_members}

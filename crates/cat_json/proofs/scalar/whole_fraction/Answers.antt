@@ -1,4 +1,4 @@
-use Rattle.std.proofs.Common.{◌≡◌, sym, ◌∙◌, ap, rules, arith}
+use Rattle.std.proofs.Common.{rules}
 use Rattle.cat_json.proofs.Numerals.{whole-over_one}
 use Rattle.cat_json.proofs.scalar.whole_fraction.Goals as goal
 

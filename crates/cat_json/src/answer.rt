@@ -1,0 +1,186 @@
+//! Writes values, inputs and outcomes.
+ghost use Rattle.std.specs.Prelude.{◌≡◌, ◌<◌, IfOk, IsTrue, Some, length, slice_get, string_bytes};
+ghost use Rattle.std.specs.Option.{is_some, option_copied};
+ghost use Rattle.serde_json.specs.Data.{no_members};
+ghost use Rattle.serde_json.specs.View.{view};
+ghost use Rattle.serde_json.specs.Written.{compact_text};
+ghost use Rattle.cat_pos.specs.Position.{shown};
+ghost use Rattle.cat_json.specs.InputsRead.{items_of};
+ghost use Rattle.cat_json.specs.Writes.{value_bytes, input_bytes};
+ghost use Rattle.cat_json.specs.Answer as answers;
+ghost use Rattle.cat_json.specs.Answer.{answer_of, outputs_object, target_text, scope_text, item_text, fault_text};
+
+use crate::members::{input_json, outputs_json};
+use crate::writing::json_of;
+use cat_pos::{Files, Pos, show_pos};
+use cat_value::{
+    Decls, FaultKind, Input, ItemDecl, ItemDecls, Kind, Outcome, Scope, Target, Ty, Value, Values,
+};
+use std::alloc::{AllocError, Global};
+
+/// The compact text of a value, which is one of the type.
+#[tactic(auto, using(crate::proofs::WriteShape::shape))]
+pub fn value_text(
+    alloc: Global,
+    value: &Value,
+    ty: &Ty,
+    decls: &Decls,
+) -> Result<String, AllocError>
+    ensures { IfOk result (λ text. string_bytes text ≡ value_bytes decls.now ty.now value.now) }
+{
+    json_of(alloc, value, ty, decls)?.to_string(alloc)
+}
+
+/// The compact text of an input of the scope.
+#[tactic(auto, using(crate::proofs::WriteShape::shape))]
+pub fn input_text(
+    alloc: Global,
+    input: &Input,
+    decls: &Decls,
+    scope: u32,
+) -> Result<String, AllocError>
+    requires { scope < length decls.now.scopes }
+    ensures { IfOk result (λ text. string_bytes text ≡ input_bytes decls.now (items_of (slice_get decls.now.scopes scope)) input.now) }
+{
+    let items = &decls.scopes.at(scope as usize).items;
+    input_json(alloc, input, items, decls)?.to_string(alloc)
+}
+
+/// The line that tells an outcome of the scope, without its line feed. A number in the outcome names an entry of the
+/// declarations or the files.
+pub fn answer_text(
+    alloc: Global,
+    outcome: &Outcome,
+    decls: &Decls,
+    scope: u32,
+    files: &Files,
+) -> Result<String, AllocError>
+    requires scope { scope < length decls.now.scopes }
+    requires named { IsTrue (is_some (answer_of decls.now scope files.now outcome.now)) }
+    ensures { IfOk result (λ text. answer_of decls.now scope files.now outcome.now ≡ Some (string_bytes text)) }
+{
+    match outcome {
+        Outcome::Value(values) => {
+            let items = &decls.scopes.at(scope as usize).items;
+            outputs_text(alloc, values, items, decls)
+        }
+        Outcome::Conflict(target, places) => {
+            let target = target_text(alloc, *target, decls)?;
+            let places = places_text(alloc, places.as_slice(), files)?;
+            format!(in alloc; "conflict {target} at{places}")
+        }
+        Outcome::NoValue(target, place) => {
+            let target = target_text(alloc, *target, decls)?;
+            let place = show_pos(alloc, files, *place)?;
+            format!(in alloc; "no value {target} at {place}")
+        }
+        Outcome::Fault(kind, place) => {
+            let kind = fault_text(*kind);
+            let place = show_pos(alloc, files, *place)?;
+            format!(in alloc; "fault {kind} at {place}")
+        }
+    }
+}
+
+#[tactic(auto, using(crate::proofs::WriteShape::shape))]
+fn outputs_text(
+    alloc: Global,
+    values: &Values,
+    items: &ItemDecls,
+    decls: &Decls,
+) -> Result<String, AllocError>
+    ensures { IfOk result (λ text. string_bytes text ≡ compact_text (outputs_object decls.now items.now values.now)) }
+{
+    outputs_json(alloc, values, items, decls)?.to_string(alloc)
+}
+
+/// `S.x`, or `S.t.x` for an item of a called scope.
+fn target_text(alloc: Global, target: Target, decls: &Decls) -> Result<String, AllocError>
+    requires { IsTrue (is_some (target_text decls.now target)) }
+    ensures { IfOk result (λ text. target_text decls.now target ≡ Some (string_bytes text)) }
+{
+    match decls.scopes.get(target.scope as usize) {
+        Some(scope) => scope_text(alloc, scope, target, decls),
+        None => unreachable!(),
+    }
+}
+
+fn scope_text(
+    alloc: Global,
+    scope: &Scope,
+    target: Target,
+    decls: &Decls,
+) -> Result<String, AllocError>
+    requires { IsTrue (is_some (scope_text decls.now scope.now target)) }
+    ensures { IfOk result (λ text. scope_text decls.now scope.now target ≡ Some (string_bytes text)) }
+{
+    match scope.items.get(target.item as usize) {
+        Some(item) => {
+            let name = scope.name.as_str();
+            let item = item_text(alloc, item, target.inner, decls)?;
+            format!(in alloc; "{name}.{item}")
+        }
+        None => unreachable!(),
+    }
+}
+
+fn item_text(
+    alloc: Global,
+    item: &ItemDecl,
+    inner: Option<u32>,
+    decls: &Decls,
+) -> Result<String, AllocError>
+    requires { IsTrue (is_some (item_text decls.now item.now inner)) }
+    ensures { IfOk result (λ text. item_text decls.now item.now inner ≡ Some (string_bytes text)) }
+{
+    let name = item.name.as_str();
+    match inner {
+        None => String::from_str(alloc, name),
+        Some(inner) => match called_item(item.kind, inner, decls) {
+            Some(inner) => {
+                let inner = inner.name.as_str();
+                format!(in alloc; "{name}.{inner}")
+            }
+            None => unreachable!(),
+        },
+    }
+}
+
+/// The item of that number of the scope that an item calls.
+fn called_item(kind: Kind, inner: u32, decls: &Decls) -> Option<&ItemDecl>
+    ensures { option_copied result ≡ answers.called_item decls.now kind inner }
+{
+    match kind {
+        Kind::Called(scope) => match decls.scopes.get(scope as usize) {
+            Some(scope) => scope.items.get(inner as usize),
+            None => None,
+        },
+        _ => None,
+    }
+}
+
+/// The positions, each after a blank.
+fn places_text(alloc: Global, places: &[Pos], files: &Files) -> Result<String, AllocError>
+    requires { IsTrue (is_some (answers.places_text files.now places.now)) }
+    ensures { IfOk result (λ text. answers.places_text files.now places.now ≡ Some (string_bytes text)) }
+{
+    let mut text = String::new(alloc);
+    for &place in places {
+        let place = show_pos(alloc, files, place)?;
+        text.push_str(" ")?;
+        text.push_str(place.as_str())?;
+    }
+    Ok(text)
+}
+
+fn fault_text(kind: FaultKind) -> &'static str
+    ensures { result.now ≡ fault_text kind }
+{
+    match kind {
+        FaultKind::Overflow => "Overflow",
+        FaultKind::DivisionByZero => "DivisionByZero",
+        FaultKind::AmbiguousDate => "AmbiguousDate",
+        FaultKind::Uncomparable => "Uncomparable",
+        FaultKind::AssertionFailed => "AssertionFailed",
+    }
+}

@@ -1,0 +1,71 @@
+//! The objects of inputs and outputs.
+ghost use Rattle.std.specs.Prelude.{◌≡◌, IfOk};
+ghost use Rattle.serde_json.specs.Data.{object, no_members};
+ghost use Rattle.serde_json.specs.View.{view};
+ghost use Rattle.cat_json.specs.Writes.{input_data};
+ghost use Rattle.cat_json.specs.Answer.{is_output, outputs_of, outputs_data, outputs_object};
+
+use crate::writing::json_of;
+use cat_value::{Decls, Input, ItemDecl, ItemDecls, Kind, Value, Values};
+use serde_json::{Map, Value as Json};
+use std::alloc::{AllocError, Global};
+
+/// An object with each variable that is given.
+pub(crate) fn input_json(
+    alloc: Global,
+    input: &Input,
+    items: &ItemDecls,
+    decls: &Decls,
+) -> Result<Json, AllocError>
+    ensures { IfOk result (λ json. view json ≡ input_data decls.now items.now input.now) }
+{
+    let mut members = Map::new(alloc);
+    for (number, item) in items.as_slice().iter().enumerate() {
+        let given = match input.get(number) {
+            Some(given) => given,
+            None => return Ok(Json::Object(members)),
+        };
+        let value = match given {
+            Some(value) => value,
+            None => continue,
+        };
+        let name = String::from_str(alloc, item.name.as_str())?;
+        members.insert(name, json_of(alloc, value, &item.ty, decls)?)?;
+    }
+    Ok(Json::Object(members))
+}
+
+/// An object with each output.
+pub(crate) fn outputs_json(
+    alloc: Global,
+    values: &Values,
+    items: &ItemDecls,
+    decls: &Decls,
+) -> Result<Json, AllocError>
+    ensures { IfOk result (λ json. view json ≡ outputs_object decls.now items.now values.now) }
+{
+    let mut members = Map::new(alloc);
+    let mut number = 0;
+    for item in items.as_slice() {
+        if !is_output(item.kind) {
+            continue;
+        }
+        let value = match values.get(number) {
+            Some(value) => value,
+            None => return Ok(Json::Object(members)),
+        };
+        let name = String::from_str(alloc, item.name.as_str())?;
+        members.insert(name, json_of(alloc, value, &item.ty, decls)?)?;
+        number += 1;
+    }
+    Ok(Json::Object(members))
+}
+
+fn is_output(kind: Kind) -> bool
+    ensures { result ≡ is_output kind }
+{
+    match kind {
+        Kind::Output | Kind::InputOutput | Kind::ContextOutput => true,
+        Kind::Input | Kind::Internal | Kind::Context | Kind::Called(_) => false,
+    }
+}
