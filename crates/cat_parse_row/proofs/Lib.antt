@@ -13,3 +13,4 @@ pub mod Targets
 pub mod Variables
 pub mod Guards
 pub mod Blocks
+pub mod Items
