@@ -31,6 +31,7 @@ use Rattle.cat_parse_row.specs.Declarations.{key_word, is_word, is_lower}
 use Rattle.cat_parse_row.specs.Leads.{lead, target}
 use Rattle.cat_parse_row.specs.Uses.{is_use, is_item, behind_use, behind_expression, is_under, condition, Tail, Defined, Ruled, defined, ruled, tail, use_of, asserted, direction, is_rounding, rounded, a_use}
 use Rattle.cat_parse_row.specs.Programs.{block}
+use Rattle.cat_parse_row.specs.Exactly.{expression_row, ReadsExpressions}
 use Rattle.cat_parse_row.proofs.Steps.{done_right}
 use Rattle.cat_parse_row.proofs.Sequel.{Follows, part_right}
 use Rattle.cat_parse_row.proofs.Choices.{Opens, OptionFits, optional_right, reshaped, made_right, Decides, choice_right, narrowed}
@@ -40,7 +41,7 @@ use Rattle.cat_parse_row.proofs.Lists.{BothFit, both_rows, both_right, AllFit, m
 use Rattle.cat_parse_row.proofs.Listed.{any_word, outside_any, no_longer, opens_word}
 use Rattle.cat_parse_row.proofs.Declarations.{Any}
 use Rattle.cat_parse_row.proofs.Leads.{any_option, any_list, lead_right}
-use Rattle.cat_parse_row.proofs.Guards.{expression_row, ReadsExpressions, Meant, use_behind, ruled_row, ruled_right, defined_row, defined_right}
+use Rattle.cat_parse_row.proofs.Guards.{Meant, use_behind, ruled_row, ruled_right, defined_row, defined_right}
 
 -- what a spelling begins with, by its first word
 pub head_at : (test : TokenKind → Bool) (k : TokenKind) (p : Pos) (rest : Parts) (w v : List Token) → AreSpelled (Word (At k p) rest) w → heads test (w ++ v) ≡ test k

@@ -22,6 +22,7 @@ use Rattle.cat_parse_row.specs.Cues.{cue_is, «word»}
 use Rattle.cat_parse_row.specs.Declarations.{key_word, is_word}
 use Rattle.cat_parse_row.specs.Leads.{target}
 use Rattle.cat_parse_row.specs.Uses.{behind_use, behind_expression, is_under, condition, guard, whether_fulfilled, Tail, Defined, Ruled, defined, ruled, tail}
+use Rattle.cat_parse_row.specs.Exactly.{expression_row, ReadsExpressions}
 use Rattle.cat_parse_row.proofs.Steps.{done_right}
 use Rattle.cat_parse_row.proofs.Sequel.{Follows, part_right}
 use Rattle.cat_parse_row.proofs.Choices.{OptionFits, optional_right, reshaped, made_right, Decides, choice_right, narrowed}
@@ -31,14 +32,6 @@ use Rattle.cat_parse_row.proofs.Listed.{any_word, outside_any, no_longer, opens_
 use Rattle.cat_parse_row.proofs.Declarations.{Any}
 use Rattle.cat_parse_row.proofs.Leads.{any_option}
 use Rattle.cat_parse_row.proofs.Targets.{behind_target, target_right}
-
--- an expression as the last part of a row
-abbrev pub expression_row : Node → Parts
-expression_row e = Part (Operand 0) (phrase e) End
-
--- a reader of expressions is right before the words that may follow one in a program
-abbrev pub ReadsExpressions : Reader Node → Type 0
-ReadsExpressions ex = (bound : ℕ) → IsRight bound behind_expression Any expression_row ex
 
 -- ---- whether a rule is fulfilled
 

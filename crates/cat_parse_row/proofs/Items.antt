@@ -39,7 +39,7 @@ use Rattle.cat_parse_row.proofs.Listed.{any_word, opens_word, SomeFit, some_righ
 use Rattle.cat_parse_row.proofs.Declarations.{Any, field_right, case_right}
 use Rattle.cat_parse_row.proofs.Variables.{behind_variable, variable_right}
 use Rattle.cat_parse_row.proofs.Leads.{any_list}
-use Rattle.cat_parse_row.proofs.Guards.{ReadsExpressions}
+use Rattle.cat_parse_row.specs.Exactly.{ReadsExpressions}
 use Rattle.cat_parse_row.proofs.Blocks.{head_at, head_any, block_right}
 
 -- ---- what is declared

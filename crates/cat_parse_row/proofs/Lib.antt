@@ -14,3 +14,4 @@ pub mod Variables
 pub mod Guards
 pub mod Blocks
 pub mod Items
+pub mod Exact

@@ -2,5 +2,11 @@
 #![tactic(auto)]
 
 mod cue;
+mod laws;
+mod stray;
+mod words;
 
 pub use cue::{Cue, cue_is};
+pub use laws::programs_are_read_exactly;
+pub use stray::Stray;
+pub use words::word;

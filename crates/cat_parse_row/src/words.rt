@@ -1,0 +1,28 @@
+// One word of a list of tokens.
+ghost use Rattle.std.specs.Prelude.{◌≡◌, ◌≤◌, ℕ, length, drop, IfOk};
+ghost use Rattle.cat_parse_row.specs.Cues as cues;
+ghost use Rattle.cat_parse_row.specs.Places.{Gives};
+
+use crate::cue::{Cue, cue_is};
+use crate::stray::Stray;
+use cat_lex::{Token, TokenKind};
+use cat_pos::Pos;
+use cat_tree::Name;
+use std::alloc::Global;
+
+/// The word at the place, with its position, and the place after it.
+pub fn word(tokens: &[Token], at: usize, cue: Cue) -> Result<(Pos, usize), Stray>
+    requires { at ≤ length tokens.now }
+    ensures { Gives (cues.«word» cue) tokens.now at result }
+{
+    match tokens.get(at) {
+        Some(token) => {
+            if cue_is(cue, &token.kind) {
+                Ok((token.pos, at + 1))
+            } else {
+                Err(Stray::Unexpected(at))
+            }
+        }
+        None => Err(Stray::Unexpected(at)),
+    }
+}
