@@ -4,9 +4,10 @@
 mod cue;
 mod laws;
 mod stray;
+mod heading;
 mod words;
 
 pub use cue::{Cue, cue_is};
 pub use laws::programs_are_read_exactly;
 pub use stray::Stray;
-pub use words::word;
+pub use words::{is_next, lower, upper, word};

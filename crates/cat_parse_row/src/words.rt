@@ -1,6 +1,7 @@
 // One word of a list of tokens.
 ghost use Rattle.std.specs.Prelude.{◌≡◌, ◌≤◌, ℕ, length, drop, IfOk};
 ghost use Rattle.cat_parse_row.specs.Cues as cues;
+ghost use Rattle.cat_parse_row.specs.Reader.{heads};
 ghost use Rattle.cat_parse_row.specs.Places.{Gives};
 
 use crate::cue::{Cue, cue_is};
@@ -24,5 +25,61 @@ pub fn word(tokens: &[Token], at: usize, cue: Cue) -> Result<(Pos, usize), Stray
             }
         }
         None => Err(Stray::Unexpected(at)),
+    }
+}
+
+/// The name at the place, and the place after it.
+pub fn lower(alloc: Global, tokens: &[Token], at: usize) -> Result<(Name, usize), Stray>
+    requires { at ≤ length tokens.now }
+    ensures { Gives cues.lower tokens.now at result }
+{
+    match tokens.get(at) {
+        Some(token) => match &token.kind {
+            TokenKind::Lower(text) => {
+                let text = text.copy(alloc)?;
+                Ok((
+                    Name {
+                        text,
+                        pos: token.pos,
+                    },
+                    at + 1,
+                ))
+            }
+            _ => Err(Stray::Unexpected(at)),
+        },
+        None => Err(Stray::Unexpected(at)),
+    }
+}
+
+/// The word of a type, a case or a scope at the place, and the place after it.
+pub fn upper(alloc: Global, tokens: &[Token], at: usize) -> Result<(Name, usize), Stray>
+    requires { at ≤ length tokens.now }
+    ensures { Gives cues.upper tokens.now at result }
+{
+    match tokens.get(at) {
+        Some(token) => match &token.kind {
+            TokenKind::Upper(text) => {
+                let text = text.copy(alloc)?;
+                Ok((
+                    Name {
+                        text,
+                        pos: token.pos,
+                    },
+                    at + 1,
+                ))
+            }
+            _ => Err(Stray::Unexpected(at)),
+        },
+        None => Err(Stray::Unexpected(at)),
+    }
+}
+
+/// Whether the word stands at the place.
+pub fn is_next(tokens: &[Token], at: usize, cue: Cue) -> bool
+    ensures { result ≡ heads (cues.cue_is cue) (drop at tokens.now) }
+{
+    match tokens.get(at) {
+        Some(token) => cue_is(cue, &token.kind),
+        None => false,
     }
 }
