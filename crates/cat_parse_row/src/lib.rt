@@ -4,10 +4,12 @@
 mod cue;
 mod laws;
 mod stray;
+mod kinds;
 mod heading;
 mod words;
 
 pub use cue::{Cue, cue_is};
 pub use laws::programs_are_read_exactly;
 pub use stray::Stray;
-pub use words::{is_next, lower, upper, word};
+pub use heading::lead;
+pub use words::{is_lower, is_next, lower, upper, word};

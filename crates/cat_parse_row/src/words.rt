@@ -1,6 +1,7 @@
 // One word of a list of tokens.
 ghost use Rattle.std.specs.Prelude.{◌≡◌, ◌≤◌, ℕ, length, drop, IfOk};
 ghost use Rattle.cat_parse_row.specs.Cues as cues;
+ghost use Rattle.cat_parse_row.specs.Declarations as declarations;
 ghost use Rattle.cat_parse_row.specs.Reader.{heads};
 ghost use Rattle.cat_parse_row.specs.Places.{Gives};
 
@@ -80,6 +81,19 @@ pub fn is_next(tokens: &[Token], at: usize, cue: Cue) -> bool
 {
     match tokens.get(at) {
         Some(token) => cue_is(cue, &token.kind),
+        None => false,
+    }
+}
+
+/// Whether a name stands at the place.
+pub fn is_lower(tokens: &[Token], at: usize) -> bool
+    ensures { result ≡ heads declarations.is_lower (drop at tokens.now) }
+{
+    match tokens.get(at) {
+        Some(token) => match &token.kind {
+            TokenKind::Lower(_) => true,
+            _ => false,
+        },
         None => false,
     }
 }
