@@ -15,3 +15,4 @@ pub mod Guards
 pub mod Blocks
 pub mod Items
 pub mod Exact
+pub mod Loops

@@ -87,7 +87,7 @@ same_reader {B = B} bound out fits row r s e h = record {
   says = λ ts. subst (λ (o : Outcome B). (front : List Token) (y : B) (w : List Token) → length ts ≤ bound → ts ≡ front ++ left_of o → Alike out fits row (left_of o) front y w → Says row o y w front) (e ts) (h.says ts);
 }
 
-as_choice : (n : ℕ) (ts : List Token) → by_word is_list_of («word» (cue.Pair pair.ListOf) ⨟ λ p. type_after (suc n)) (one base_at ⨟ λ b. done (typed n b)) ts ≡ type_after n ts
+pub as_choice : (n : ℕ) (ts : List Token) → by_word is_list_of («word» (cue.Pair pair.ListOf) ⨟ λ p. type_after (suc n)) (one base_at ⨟ λ b. done (typed n b)) ts ≡ type_after n ts
 as_choice n [] = refl
 as_choice n (t ∷ ts) = by (is_list_of t.kind)
   where

@@ -41,3 +41,18 @@ fn base(alloc: Global, tokens: &[Token], at: usize) -> Result<((Base, Pos), usiz
         None => Err(Stray::Unexpected(at)),
     }
 }
+
+/// The type at the place, and the place after it.
+pub fn a_type(alloc: Global, tokens: &[Token], at: usize) -> Result<(Type, usize), Stray>
+    requires { at ≤ length tokens.now }
+    ensures { Gives spec.a_type tokens.now at result }
+{
+    let mut lists = 0;
+    let mut place = at;
+    while is_next(tokens, place, Cue::Pair(DoubleKeyword::ListOf)) {
+        lists += 1;
+        place += 1;
+    }
+    let ((base, pos), next) = base(alloc, tokens, place)?;
+    Ok((Type { lists, base, pos }, next))
+}

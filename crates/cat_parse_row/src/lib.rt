@@ -12,4 +12,5 @@ pub use cue::{Cue, cue_is};
 pub use laws::programs_are_read_exactly;
 pub use stray::Stray;
 pub use heading::lead;
+pub use kinds::a_type;
 pub use words::{is_lower, is_next, lower, upper, word};
