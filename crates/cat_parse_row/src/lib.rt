@@ -2,6 +2,7 @@
 #![tactic(auto)]
 
 mod cue;
+mod fields;
 mod laws;
 mod stray;
 mod kinds;
@@ -11,6 +12,7 @@ mod words;
 pub use cue::{Cue, cue_is};
 pub use laws::programs_are_read_exactly;
 pub use stray::Stray;
+pub use fields::{a_case, called, field, kind, sort, typed_name};
 pub use heading::lead;
 pub use kinds::a_type;
 pub use words::{is_lower, is_next, lower, upper, word};
