@@ -1,19 +1,18 @@
 -- A program is read exactly, where expressions are.
-use Rattle.std.proofs.Common.{◌≡◌, ℕ, ◌≤◌, suc, Bool, true, false, ◌&&◌, List, [], ◌∷◌, ◌++◌, length, refl, sym, ap, subst, ◌∙◌, append_assoc, arith}
+use Rattle.std.proofs.Common.{◌≡◌, ℕ, Bool, true, false, ◌&&◌, List, [], ◌∷◌, ◌++◌, length, refl, sym, ap, subst, ◌∙◌, append_assoc, arith}
 use Rattle.std.proofs.lemmas.List.{append-nil, length-append}
 use Rattle.cat_lex.specs.declared.token.Token.{Token}
 use Rattle.cat_lex.specs.declared.token.TokenKind.{TokenKind}
 use Rattle.cat_tree.specs.declared.expression.Node.{Node}
 use Rattle.cat_tree.specs.declared.program.Item.{Item}
 use Rattle.cat_tree.specs.declared.program.Tree.{Tree}
-use Rattle.cat_tree.specs.Phrase.{Parts, tallest, AreLevelled, AreSpelled}
 use Rattle.cat_tree.specs.Joined.{all}
-use Rattle.cat_tree.specs.Programs.{is_filled, are_filled, item_parts, highest_in, SpellsProgram, SpellsLowProgram, BeginsProgram}
+use Rattle.cat_tree.specs.Programs.{is_filled, are_filled, item_parts, SpellsProgram, BeginsProgram}
 use Rattle.cat_parse_row.specs.Reader.{Outcome, Reader, Fails, Reads, left_of, after}
 use Rattle.cat_parse_row.specs.Right.{Agree, Is, Begun, Taken, Says, Alike, IsRight}
 use Rattle.cat_parse_row.specs.Uses.{is_item}
 use Rattle.cat_parse_row.specs.Programs.{an_item, items, to_end, program}
-use Rattle.cat_parse_row.specs.Exactly.{ReadsExpressions, Stops, IsTooHigh, Exactly}
+use Rattle.cat_parse_row.specs.Exactly.{ReadsExpressions, Exactly}
 use Rattle.cat_parse_row.proofs.Lists.{AllFit, many_right}
 use Rattle.cat_parse_row.proofs.Items.{Filled, item_opens, item_right}
 
@@ -81,30 +80,42 @@ all_of : (tokens front left : List Token) → tokens ≡ front ++ left → (t : 
 all_of tokens front left text t s = record { others = left; behind = []; agree = agree_self left; is = is_of t tokens s; outside = tt; text = append-nil tokens ∙ text }
 
 exact_of : (tokens : List Token) (o : Outcome (List Item)) → Taken (AllFit Filled) (all item_parts) o tokens → Sayer tokens o → Exactly tokens (after o to_end)
-exact_of tokens (Fails left false) t says = (t.front, record {
-  text = t.text;
-  begins = begins_of t.front t.took;
-  dead = λ p rest e b. says t.front b.tree.items ((t.front ++ p ∷ []) ++ b.rest) t.text (goes_on t.front left p rest e b);
-  none = λ u s. says t.front u.items tokens t.text (all_of tokens t.front left t.text u s);
-})
-exact_of tokens (Fails left true) t says = (t.front, record {
-  text = t.text;
-  next = t.took.next;
-  after = t.took.after;
-  at = t.took.text;
-  begins = begins_of (t.front ++ t.took.next ∷ []) t.took.begun;
-  too_high = λ b low. says t.front b.tree.items ((t.front ++ t.took.next ∷ []) ++ b.rest) t.text (goes_on t.front left t.took.next t.took.after t.took.text b) low;
-})
-exact_of tokens (Reads is []) t says = (record {
-  spells = subst (SpellsProgram (record { items = is })) (sym (t.text ∙ append-nil t.front)) (spells_of is t.front t.took.0);
-  low = t.took.1;
-}, λ u s. ap (λ (x : List Item). tree_of x) (says t.front u.items tokens t.text (all_of tokens t.front [] t.text u s)).0)
-exact_of tokens (Reads is (q ∷ left)) t says = (t.front, record {
-  text = t.text;
-  begins = record { tree = record { items = is }; rest = []; spells = subst (SpellsProgram (record { items = is })) (sym (append-nil t.front)) (spells_of is t.front t.took.0) };
-  dead = λ p rest e b. longer t.front p b.rest (says t.front b.tree.items ((t.front ++ p ∷ []) ++ b.rest) t.text (goes_on t.front (q ∷ left) p rest e b)).1;
-  none = λ u s. past t.front q left (sym t.text ∙ (says t.front u.items tokens t.text (all_of tokens t.front (q ∷ left) t.text u s)).1);
-})
+exact_of tokens (Fails left false) t says = (
+  t.front,
+  record {
+    text = t.text;
+    begins = begins_of t.front t.took;
+    dead = λ p rest e b. says t.front b.tree.items ((t.front ++ p ∷ []) ++ b.rest) t.text (goes_on t.front left p rest e b);
+    none = λ u s. says t.front u.items tokens t.text (all_of tokens t.front left t.text u s);
+  },
+)
+exact_of tokens (Fails left true) t says = (
+  t.front,
+  record {
+    text = t.text;
+    next = t.took.next;
+    after = t.took.after;
+    at = t.took.text;
+    begins = begins_of (t.front ++ t.took.next ∷ []) t.took.begun;
+    too_high = λ b low. says t.front b.tree.items ((t.front ++ t.took.next ∷ []) ++ b.rest) t.text (goes_on t.front left t.took.next t.took.after t.took.text b) low;
+  },
+)
+exact_of tokens (Reads is []) t says = (
+  record {
+    spells = subst (SpellsProgram (record { items = is })) (sym (t.text ∙ append-nil t.front)) (spells_of is t.front t.took.0);
+    low = t.took.1;
+  },
+  λ u s. ap (λ (x : List Item). tree_of x) (says t.front u.items tokens t.text (all_of tokens t.front [] t.text u s)).0,
+)
+exact_of tokens (Reads is (q ∷ left)) t says = (
+  t.front,
+  record {
+    text = t.text;
+    begins = record { tree = record { items = is }; rest = []; spells = subst (SpellsProgram (record { items = is })) (sym (append-nil t.front)) (spells_of is t.front t.took.0) };
+    dead = λ p rest e b. longer t.front p b.rest (says t.front b.tree.items ((t.front ++ p ∷ []) ++ b.rest) t.text (goes_on t.front (q ∷ left) p rest e b)).1;
+    none = λ u s. past t.front q left (sym t.text ∙ (says t.front u.items tokens t.text (all_of tokens t.front (q ∷ left) t.text u s)).1);
+  },
+)
   where
     longer : (front : List Token) (p : Token) (rest : List Token) → (front ++ p ∷ []) ++ rest ≡ front → ⊥
     longer front p rest e = omega (arith, ap length e, length-append (front ++ p ∷ []) rest, length-append front (p ∷ []))

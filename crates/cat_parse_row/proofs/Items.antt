@@ -1,5 +1,5 @@
 -- The reader of declarations and scope blocks is right, where that of expressions is.
-use Rattle.std.proofs.Common.{◌≡◌, ℕ, Bool, true, false, List, [], ◌∷◌, ◌++◌, length, Option, Some, None, refl, sym, ap, subst, ◌∙◌, inl, inr, ◌⊎◌}
+use Rattle.std.proofs.Common.{◌≡◌, ℕ, Bool, true, false, List, [], ◌∷◌, ◌++◌, refl, sym, ap, subst, ◌∙◌, inl, inr, ◌⊎◌}
 use Rattle.cat_pos.specs.declared.pos.Pos.{Pos}
 use Rattle.cat_lex.specs.declared.token.Token.{Token}
 use Rattle.cat_lex.specs.declared.token.TokenKind.{TokenKind}
@@ -11,36 +11,34 @@ use Rattle.cat_tree.specs.declared.name.Name.{Name}
 use Rattle.cat_tree.specs.declared.expression.Node.{Node}
 use Rattle.cat_tree.specs.declared.program.FieldItem.{FieldItem}
 use Rattle.cat_tree.specs.declared.program.CaseItem.{CaseItem}
-use Rattle.cat_tree.specs.declared.program.Kind.{Kind}
 use Rattle.cat_tree.specs.declared.program.Kind.TheVariants.{Input, InputOutput, Output, Internal, Context, ContextOutput}
 use Rattle.cat_tree.specs.declared.program.Variable.{Variable}
 use Rattle.cat_tree.specs.declared.program.Variable.TheVariants as variable
 use Rattle.cat_tree.specs.declared.program.Block.{Block}
 use Rattle.cat_tree.specs.declared.program.Item.{Item}
 use Rattle.cat_tree.specs.declared.program.Item.TheVariants as item
-use Rattle.cat_tree.specs.Phrase.{Parts, End, Word, At, Anywhere, AreSpelled}
-use Rattle.cat_tree.specs.Literals.{type_parts}
+use Rattle.cat_tree.specs.Phrase.{Parts, Word, At, Anywhere, AreSpelled}
 use Rattle.cat_tree.specs.Joined.{◌▸◌, all}
 use Rattle.cat_tree.specs.Declarations.{typed_parts, field_parts, content_parts, case_parts, variable_parts}
 use Rattle.cat_tree.specs.Programs.{block_parts, item_parts, is_filled, condition_parts}
 use Rattle.cat_tree.specs.Uses.{use_parts}
 use Rattle.cat_parse_row.specs.declared.cue.Cue.TheVariants as cue
 use Rattle.cat_parse_row.specs.Reader.{Reader, ◌⨟◌, done, heads, by_word, many, some}
-use Rattle.cat_parse_row.specs.Right.{Outside, IsRight}
-use Rattle.cat_parse_row.specs.Cues.{cue_is, «word», upper}
-use Rattle.cat_parse_row.specs.Declarations.{key_word, is_word, is_content, field, a_case, a_variable}
+use Rattle.cat_parse_row.specs.Right.{IsRight}
+use Rattle.cat_parse_row.specs.Cues.{«word», upper}
+use Rattle.cat_parse_row.specs.Declarations.{is_word, is_content, field, a_case, a_variable}
 use Rattle.cat_parse_row.specs.Uses.{is_item}
 use Rattle.cat_parse_row.specs.Programs.{named, is_variable, is_dashes, Declared, Structures, Enumerations, Scopes, declared, item_of, declaration, block, an_item}
-use Rattle.cat_parse_row.proofs.Choices.{Opens, reshaped, made_right, Decides, choice_right}
+use Rattle.cat_parse_row.proofs.Choices.{Opens, made_right, choice_right}
 use Rattle.cat_parse_row.proofs.Leaves.{cue_self, word_right, word_at_right, upper_right}
-use Rattle.cat_parse_row.proofs.Last.{Ends, last_right}
+use Rattle.cat_parse_row.proofs.Last.{last_right}
 use Rattle.cat_parse_row.proofs.Lists.{AllFit, many_right}
 use Rattle.cat_parse_row.proofs.Listed.{any_word, opens_word, SomeFit, some_right}
 use Rattle.cat_parse_row.proofs.Declarations.{Any, field_right, case_right}
 use Rattle.cat_parse_row.proofs.Variables.{behind_variable, variable_right}
 use Rattle.cat_parse_row.proofs.Leads.{any_list}
 use Rattle.cat_parse_row.specs.Exactly.{ReadsExpressions}
-use Rattle.cat_parse_row.proofs.Blocks.{head_at, head_any, block_right}
+use Rattle.cat_parse_row.proofs.Blocks.{head_at, block_right}
 
 -- ---- what is declared
 
@@ -176,15 +174,15 @@ declared_right bound =
     })
     (made_right bound is_item (λ x. SomeFit Any x.1) (named_row key.Structure (all field_parts)) declared_row (λ x. Structures x) (named key.Structure (some (is_word key.Data) field)) (λ x. refl) (named_right bound is_item key.Structure (SomeFit Any) (all field_parts) (some (is_word key.Data) field) (fields_right bound)))
     (choice_right bound is_item (is_word key.Enumeration) NoStructure IsEnumeration IsScope declared_row enumerations scopes
-      (record {
-        either = λ d f. f;
-        from_yes = λ d f. inl f;
-        from_no = λ d f. inr f;
-        on = λ d w v f s o. enumeration_head (is_word key.Enumeration) d w v f s;
-        off = λ d w v f s o. scope_head (is_word key.Enumeration) d w v f s;
-      })
-      (made_right bound is_item (λ x. SomeFit Any x.1) (named_row key.Enumeration (all case_parts)) declared_row (λ x. Enumerations x) (named key.Enumeration (some is_dashes a_case)) (λ x. refl) (named_right bound is_item key.Enumeration (SomeFit Any) (all case_parts) (some is_dashes a_case) (cases_right bound)))
-      (made_right bound is_item (λ x. AllFit Any x.1) (named_row key.Scope (all variable_parts)) declared_row (λ x. Scopes x) (named key.Scope (many is_variable a_variable)) (λ x. refl) (named_right bound is_item key.Scope (AllFit Any) (all variable_parts) (many is_variable a_variable) (variables_right bound))))
+    (record {
+      either = λ d f. f;
+      from_yes = λ d f. inl f;
+      from_no = λ d f. inr f;
+      on = λ d w v f s o. enumeration_head (is_word key.Enumeration) d w v f s;
+      off = λ d w v f s o. scope_head (is_word key.Enumeration) d w v f s;
+    })
+    (made_right bound is_item (λ x. SomeFit Any x.1) (named_row key.Enumeration (all case_parts)) declared_row (λ x. Enumerations x) (named key.Enumeration (some is_dashes a_case)) (λ x. refl) (named_right bound is_item key.Enumeration (SomeFit Any) (all case_parts) (some is_dashes a_case) (cases_right bound)))
+    (made_right bound is_item (λ x. AllFit Any x.1) (named_row key.Scope (all variable_parts)) declared_row (λ x. Scopes x) (named key.Scope (many is_variable a_variable)) (λ x. refl) (named_right bound is_item key.Scope (AllFit Any) (all variable_parts) (many is_variable a_variable) (variables_right bound))))
   where
     off : (d : Declared) (w v : List Token) → NoStructure d → AreSpelled (declared_row d) w → heads (is_word key.Structure) (w ++ v) ≡ false
     off d w v (inl f) s = enumeration_head (is_word key.Structure) d w v f s

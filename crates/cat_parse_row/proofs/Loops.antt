@@ -1,8 +1,7 @@
 -- What a loop's step makes of the rest of a reading.
-use Rattle.std.proofs.Common.{◌≡◌, ℕ, zero, suc, ◌<◌, ◌≤◌, ◌+◌, Bool, true, false, if◌then◌else◌, List, [], ◌∷◌, length, drop, refl, sym, ap, subst, ◌∙◌, arith}
+use Rattle.std.proofs.Common.{◌≡◌, ℕ, zero, suc, ◌<◌, ◌+◌, Bool, true, false, if◌then◌else◌, List, [], ◌∷◌, length, drop, refl, sym, ap, ◌∙◌, arith}
 use Rattle.cat_lex.specs.declared.token.Token.{Token}
-use Rattle.cat_tree.specs.declared.name.Type as types
-use Rattle.cat_parse_row.specs.Reader.{Outcome, Reader, one, after, done, heads}
+use Rattle.cat_parse_row.specs.Reader.{one, after, done, heads}
 use Rattle.cat_lex.specs.declared.words.DoubleKeyword.TheVariants as pair
 use Rattle.cat_parse_row.specs.declared.cue.Cue.TheVariants as cue
 use Rattle.cat_parse_row.specs.Cues.{word_of}

@@ -1,5 +1,5 @@
 -- Readers over places of a list of tokens.
-use Rattle.std.specs.Prelude.{ℕ, ◌≡◌, ◌≤◌, ◌<◌, false, List, length, drop, ⊤, Result, Ok, Err}
+use Rattle.std.specs.Prelude.{ℕ, ◌≡◌, ◌≤◌, false, List, length, drop, ⊤, Result, Ok, Err}
 use Rattle.cat_lex.specs.declared.token.Token.{Token}
 use Rattle.cat_parse_row.specs.declared.stray.Stray.{Stray}
 use Rattle.cat_parse_row.specs.declared.stray.Stray.TheVariants.{Unexpected, Memory}

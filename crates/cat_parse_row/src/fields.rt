@@ -14,11 +14,7 @@ use cat_tree::{CaseItem, FieldItem, Kind, Name, Type};
 use std::alloc::Global;
 
 /// A name with its type.
-pub fn typed_name(
-    alloc: Global,
-    tokens: &[Token],
-    at: usize,
-) -> Result<(FieldItem, usize), Stray>
+pub fn typed_name(alloc: Global, tokens: &[Token], at: usize) -> Result<(FieldItem, usize), Stray>
     requires { at ≤ length tokens.now }
     ensures { Gives spec.typed_name tokens.now at result }
 {
@@ -139,5 +135,11 @@ pub fn kind(tokens: &[Token], at: usize) -> Result<((Kind, Pos), usize), Stray>
     if is_next(tokens, at, Cue::Word(Keyword::Internal)) {
         return kind_of_one(tokens, at, Keyword::Internal, Kind::Internal);
     }
-    kind_or(tokens, at, Keyword::Context, Kind::Context, Kind::ContextOutput)
+    kind_or(
+        tokens,
+        at,
+        Keyword::Context,
+        Kind::Context,
+        Kind::ContextOutput,
+    )
 }

@@ -1,7 +1,5 @@
-use Rattle.std.proofs.Common.{rules, ◌≡◌, ap, sym, refl, ◌∙◌, arith}
-use Rattle.cat_parse_row.specs.Reader.{Outcome, after, done}
-use Rattle.cat_parse_row.specs.Types.{typed}
-use Rattle.cat_parse_row.proofs.Loops.{list_step, list_end}
+use Rattle.std.proofs.Common.{sym, ◌∙◌, arith}
+use Rattle.cat_parse_row.proofs.Loops.{list_step}
 use Rattle.cat_parse_row.proofs.kinds.a_type.Goals as goal
 
 pub loop-lists-smaller : goal.loop-lists-smaller

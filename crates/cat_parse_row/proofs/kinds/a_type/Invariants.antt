@@ -7,7 +7,7 @@ invariant-loop-lists l = record {
   same : type_after 0 (drop l.at l.tokens) ≡ type_after l.lists (drop l.place l.tokens);
   low : l.at ≤ l.place;
   within : l.place ≤ length l.tokens;
-  few : l.lists ≤ l.place
+  few : l.lists ≤ l.place;
 }
 
 abbrev pub decreases-loop-lists : goal.decreases-loop-lists
