@@ -1,5 +1,5 @@
 -- The readers of scope blocks are right, where that of expressions is.
-use Rattle.std.proofs.Common.{◌≡◌, ℕ, Bool, true, false, List, [], ◌∷◌, ◌++◌, length, Option, Some, None, refl, sym, ap, subst, ◌∙◌, inl, inr, ◌⊎◌}
+use Rattle.std.proofs.Common.{◌≡◌, ℕ, Bool, true, false, List, [], ◌∷◌, ◌++◌, Option, Some, None, refl, sym, ap, subst, ◌∙◌, inl, inr, ◌⊎◌}
 use Rattle.cat_pos.specs.declared.pos.Pos.{Pos}
 use Rattle.cat_lex.specs.declared.token.Token.{Token}
 use Rattle.cat_lex.specs.declared.token.TokenKind.{TokenKind}
@@ -13,34 +13,32 @@ use Rattle.cat_tree.specs.declared.program.Label.{Label}
 use Rattle.cat_tree.specs.declared.program.Exception.{Exception}
 use Rattle.cat_tree.specs.declared.program.Exception.TheVariants as exception
 use Rattle.cat_tree.specs.declared.program.Lead.{Lead}
-use Rattle.cat_tree.specs.declared.program.TargetName.{TargetName}
 use Rattle.cat_tree.specs.declared.program.Fulfilled.{Fulfilled}
 use Rattle.cat_tree.specs.declared.program.Use.{Use}
 use Rattle.cat_tree.specs.declared.program.Use.TheVariants as uses
-use Rattle.cat_tree.specs.declared.program.Block.{Block}
-use Rattle.cat_tree.specs.Phrase.{Parts, End, Word, Part, Operand, At, Anywhere, AreSpelled}
-use Rattle.cat_tree.specs.Grammar.{phrase}
+use Rattle.cat_tree.specs.Phrase.{Parts, End, Word, At, Anywhere, AreSpelled}
 use Rattle.cat_tree.specs.Joined.{◌▸◌, all}
 use Rattle.cat_tree.specs.Uses.{target_parts, guard_parts, fulfilled_parts, label_parts, exception_parts, lead_parts, rounding_word, use_parts}
 use Rattle.cat_tree.specs.Programs.{condition_parts, block_parts}
 use Rattle.cat_parse_row.specs.declared.cue.Cue.TheVariants as cue
 use Rattle.cat_parse_row.specs.Reader.{Reader, ◌⨟◌, done, heads, by_word, both, optional, many}
 use Rattle.cat_parse_row.specs.Right.{Outside, IsRight}
-use Rattle.cat_parse_row.specs.Cues.{cue_is, «word», upper}
+use Rattle.cat_parse_row.specs.Cues.{«word», upper}
 use Rattle.cat_parse_row.specs.Declarations.{key_word, is_word, is_lower}
-use Rattle.cat_parse_row.specs.Leads.{lead, target}
+use Rattle.cat_parse_row.specs.Leads.{lead}
 use Rattle.cat_parse_row.specs.Uses.{is_use, is_item, behind_use, behind_expression, is_under, condition, Tail, Defined, Ruled, defined, ruled, tail, use_of, asserted, direction, is_rounding, rounded, a_use}
 use Rattle.cat_parse_row.specs.Programs.{block}
+use Rattle.cat_parse_row.specs.Exactly.{expression_row, ReadsExpressions}
 use Rattle.cat_parse_row.proofs.Steps.{done_right}
-use Rattle.cat_parse_row.proofs.Sequel.{Follows, part_right}
-use Rattle.cat_parse_row.proofs.Choices.{Opens, OptionFits, optional_right, reshaped, made_right, Decides, choice_right, narrowed}
+use Rattle.cat_parse_row.proofs.Sequel.{part_right}
+use Rattle.cat_parse_row.proofs.Choices.{Opens, OptionFits, optional_right, reshaped, made_right, choice_right, narrowed}
 use Rattle.cat_parse_row.proofs.Leaves.{word_right, word_at_right, upper_right}
-use Rattle.cat_parse_row.proofs.Last.{Ends, last_right}
+use Rattle.cat_parse_row.proofs.Last.{last_right}
 use Rattle.cat_parse_row.proofs.Lists.{BothFit, both_rows, both_right, AllFit, many_right}
 use Rattle.cat_parse_row.proofs.Listed.{any_word, outside_any, no_longer, opens_word}
 use Rattle.cat_parse_row.proofs.Declarations.{Any}
 use Rattle.cat_parse_row.proofs.Leads.{any_option, any_list, lead_right}
-use Rattle.cat_parse_row.proofs.Guards.{expression_row, ReadsExpressions, Meant, use_behind, ruled_row, ruled_right, defined_row, defined_right}
+use Rattle.cat_parse_row.proofs.Guards.{Meant, use_behind, ruled_row, ruled_right, defined_row, defined_right}
 
 -- what a spelling begins with, by its first word
 pub head_at : (test : TokenKind → Bool) (k : TokenKind) (p : Pos) (rest : Parts) (w v : List Token) → AreSpelled (Word (At k p) rest) w → heads test (w ++ v) ≡ test k
@@ -85,7 +83,7 @@ tail_behind (Ruled x) w v s = outside_heads behind_lead (w ++ v) (head_at behind
 
 -- the first word of a use with a lead
 lead_head : (test : TokenKind → Bool) (b : Bool) → test (kind.Word key.Label) ≡ b → test (kind.Word key.Exception) ≡ b → test (kind.Word key.Definition) ≡ b → test (kind.Word key.Rule) ≡ b
-  → (l : Lead) (x : Tail) (w v : List Token) → AreSpelled (lead_parts l ▸ tail_row x) w → heads test (w ++ v) ≡ b
+    → (l : Lead) (x : Tail) (w v : List Token) → AreSpelled (lead_parts l ▸ tail_row x) w → heads test (w ++ v) ≡ b
 lead_head test b el ee ed er l x w v s = by l.label l.exception x s
   where
     by : (o : Option Label) (e : Exception) (x : Tail) → AreSpelled ((label_parts o ▸ exception_parts e) ▸ tail_row x) w → heads test (w ++ v) ≡ b
@@ -96,9 +94,6 @@ lead_head test b el ee ed er l x w v s = by l.label l.exception x s
     by None exception.No (Ruled y) s = ap (λ (u : List Token). heads test (u ++ v)) s.2 ∙ ap (λ (t : Token). test t.kind) s.3 ∙ er
 
 -- ---- roundings
-
-direction_row : Bool → Parts
-direction_row up = Word (Anywhere (kind.Word (rounding_word up))) End
 
 direction_right : (bound : ℕ) → IsRight bound any_word Any (λ up. Word (Anywhere (kind.Word (rounding_word up))) End) direction
 direction_right bound =
@@ -111,11 +106,11 @@ direction_right bound =
       off = λ up w v f s o. head_any (is_word key.Increasing) (kind.Word (rounding_word up)) End w v s ∙ ap (λ (b : Bool). is_word key.Increasing (kind.Word (rounding_word b))) f;
     })
     (reshaped bound any_word (λ up. up ≡ true) (λ up. up ≡ true) (λ up. Word (Anywhere (kind.Word key.Increasing)) End) (λ up. Word (Anywhere (kind.Word (rounding_word up))) End) (key_word key.Increasing ⨟ λ q. done true)
-      (record { to = λ up f. f; from = λ up f. f; rows = λ up f. ap (λ (b : Bool). Word (Anywhere (kind.Word (rounding_word b))) End) (sym f) })
-      (word_right bound any_word (cue.Word key.Increasing) (λ (up : Bool). up ≡ true) (λ up. End) (λ q. done true) (λ q. done_right bound any_word (λ up. up ≡ true) true refl (λ up f. f))))
+    (record { to = λ up f. f; from = λ up f. f; rows = λ up f. ap (λ (b : Bool). Word (Anywhere (kind.Word (rounding_word b))) End) (sym f) })
+    (word_right bound any_word (cue.Word key.Increasing) (λ (up : Bool). up ≡ true) (λ up. End) (λ q. done true) (λ q. done_right bound any_word (λ up. up ≡ true) true refl (λ up f. f))))
     (reshaped bound any_word (λ up. up ≡ false) (λ up. up ≡ false) (λ up. Word (Anywhere (kind.Word key.Decreasing)) End) (λ up. Word (Anywhere (kind.Word (rounding_word up))) End) (key_word key.Decreasing ⨟ λ q. done false)
-      (record { to = λ up f. f; from = λ up f. f; rows = λ up f. ap (λ (b : Bool). Word (Anywhere (kind.Word (rounding_word b))) End) (sym f) })
-      (word_right bound any_word (cue.Word key.Decreasing) (λ (up : Bool). up ≡ false) (λ up. End) (λ q. done false) (λ q. done_right bound any_word (λ up. up ≡ false) false refl (λ up f. f))))
+    (record { to = λ up f. f; from = λ up f. f; rows = λ up f. ap (λ (b : Bool). Word (Anywhere (kind.Word (rounding_word b))) End) (sym f) })
+    (word_right bound any_word (cue.Word key.Decreasing) (λ (up : Bool). up ≡ false) (λ up. End) (λ q. done false) (λ q. done_right bound any_word (λ up. up ≡ false) false refl (λ up f. f))))
   where
     either : (up : Bool) → Any up → (up ≡ true) ⊎ (up ≡ false)
     either true f = inl refl
@@ -156,7 +151,7 @@ rounded_head : (test : TokenKind → Bool) (y : Use) (w v : List Token) → IsRo
 rounded_head test y w v f s = head_at test (kind.Pair pair.DateRound) f.0.0 (Word (Anywhere (kind.Word (rounding_word f.0.1))) End) w v (subst (λ (z : Use). AreSpelled (use_parts z) w) f.2 s)
 
 led_head : (test : TokenKind → Bool) (b : Bool) → test (kind.Word key.Label) ≡ b → test (kind.Word key.Exception) ≡ b → test (kind.Word key.Definition) ≡ b → test (kind.Word key.Rule) ≡ b
-  → (y : Use) (w v : List Token) → IsLed y → AreSpelled (use_parts y) w → heads test (w ++ v) ≡ b
+    → (y : Use) (w v : List Token) → IsLed y → AreSpelled (use_parts y) w → heads test (w ++ v) ≡ b
 led_head test b el ee ed er y w v f s = lead_head test b el ee ed er f.0.0 f.0.1 w v (subst (λ (ps : Parts). AreSpelled ps w) (ap use_parts f.2 ∙ use_rows f.0) s)
 
 either_use : (y : Use) → IsAsserted y ⊎ IsOther y
@@ -258,15 +253,15 @@ module _ (ex : Reader Node) (right : ReadsExpressions ex) where
       })
       (made_right bound behind_use Any (λ x. Word (At (kind.Word key.Assertion) x.0) (expression_row x.1)) use_parts (λ x. uses.Assertion x.0 x.1) (asserted ex) (λ x. refl) (asserted_right bound))
       (choice_right bound behind_use is_rounding IsOther IsRounded IsLed use_parts (rounded ⨟ λ x. done (uses.DateRound x.0 x.1)) (both lead (tail ex) ⨟ λ x. done (use_of x))
-        (record {
-          either = λ y f. f;
-          from_yes = λ y f. inl f;
-          from_no = λ y f. inr f;
-          on = λ y w v f s o. rounded_head is_rounding y w v f s;
-          off = λ y w v f s o. led_head is_rounding false refl refl refl refl y w v f s;
-        })
-        (made_right bound behind_use Any rounded_row use_parts (λ x. uses.DateRound x.0 x.1) rounded (λ x. refl) (rounded_right bound))
-        (led_right bound))
+      (record {
+        either = λ y f. f;
+        from_yes = λ y f. inl f;
+        from_no = λ y f. inr f;
+        on = λ y w v f s o. rounded_head is_rounding y w v f s;
+        off = λ y w v f s o. led_head is_rounding false refl refl refl refl y w v f s;
+      })
+      (made_right bound behind_use Any rounded_row use_parts (λ x. uses.DateRound x.0 x.1) rounded (λ x. refl) (rounded_right bound))
+      (led_right bound))
     where
       other_off : (y : Use) (w v : List Token) → IsOther y → AreSpelled (use_parts y) w → heads (is_word key.Assertion) (w ++ v) ≡ false
       other_off y w v (inl f) s = rounded_head (is_word key.Assertion) y w v f s

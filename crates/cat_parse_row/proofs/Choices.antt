@@ -4,7 +4,7 @@ use Rattle.cat_lex.specs.declared.token.Token.{Token}
 use Rattle.cat_lex.specs.declared.token.TokenKind.{TokenKind}
 use Rattle.cat_tree.specs.Phrase.{Parts, End, tallest, AreLevelled, AreSpelled}
 use Rattle.cat_parse_row.specs.Reader.{Outcome, Reader, Fails, Reads, left_of, after, ◌⨟◌, done, heads, by_word, optional}
-use Rattle.cat_parse_row.specs.Right.{Agree, Outside, Is, Begun, Further, Took, Taken, Says, Alike, IsRight}
+use Rattle.cat_parse_row.specs.Right.{Agree, Outside, Is, Begun, Took, Taken, Says, Alike, IsRight}
 use Rattle.cat_parse_row.proofs.Steps.{no_front}
 
 -- ---- the same values and rows, written otherwise

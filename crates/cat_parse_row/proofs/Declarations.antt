@@ -1,37 +1,29 @@
 -- The readers of fields, cases and variables are right.
-use Rattle.std.proofs.Common.{◌≡◌, ℕ, zero, suc, ◌≤◌, Bool, true, false, List, [], ◌∷◌, ◌++◌, length, Option, Some, None, refl, sym, ap, subst, ◌∙◌, arith, inl, inr, ◌⊎◌}
-use Rattle.cat_pos.specs.declared.pos.Pos.{Pos}
+use Rattle.std.proofs.Common.{◌≡◌, ℕ, Bool, true, false, List, ◌++◌, Option, Some, None, refl, ap, ◌∙◌}
 use Rattle.cat_lex.specs.declared.token.Token.{Token}
 use Rattle.cat_lex.specs.declared.token.TokenKind.{TokenKind}
 use Rattle.cat_lex.specs.declared.token.TokenKind.TheVariants as kind
 use Rattle.cat_lex.specs.declared.words.Keyword.TheVariants as key
-use Rattle.cat_lex.specs.declared.words.DoubleKeyword.TheVariants as pair
 use Rattle.cat_lex.specs.declared.symbol.Symbol.TheVariants as symbol
 use Rattle.cat_tree.specs.declared.name.Name.{Name}
 use Rattle.cat_tree.specs.declared.name.Type as types
-use Rattle.cat_tree.specs.declared.program.FieldItem.{FieldItem}
-use Rattle.cat_tree.specs.declared.program.CaseItem.{CaseItem}
-use Rattle.cat_tree.specs.Phrase.{Parts, End, Word, At, Anywhere, AreSpelled}
+use Rattle.cat_tree.specs.Phrase.{Parts, End, Word, At, Anywhere}
 use Rattle.cat_tree.specs.Literals.{type_parts}
-use Rattle.cat_tree.specs.Joined.{◌▸◌, all}
 use Rattle.cat_tree.specs.Declarations.{typed_parts, field_parts, content_parts, case_parts}
 use Rattle.cat_parse_row.specs.declared.cue.Cue.TheVariants as cue
-use Rattle.cat_parse_row.specs.Reader.{Reader, ◌⨟◌, done, heads, both, optional, many}
-use Rattle.cat_parse_row.specs.Right.{Outside, IsRight}
-use Rattle.cat_parse_row.specs.Cues.{kind_of, cue_is, «word», lower, upper}
+use Rattle.cat_parse_row.specs.Reader.{◌⨟◌, done, heads, optional}
+use Rattle.cat_parse_row.specs.Right.{IsRight}
+use Rattle.cat_parse_row.specs.Cues.{upper}
 use Rattle.cat_parse_row.specs.Types.{a_type}
 use Rattle.cat_parse_row.specs.Declarations.{key_word, typed_name, field, content, is_content, a_case}
 use Rattle.cat_parse_row.proofs.Choices.{Opens, OptionFits, optional_right}
-use Rattle.cat_parse_row.proofs.Leaves.{cue_self, word_right, lower_right, upper_right}
+use Rattle.cat_parse_row.proofs.Leaves.{word_right, lower_right, upper_right}
 use Rattle.cat_parse_row.proofs.Types.{a_type_right}
-use Rattle.cat_parse_row.proofs.Last.{Ends, last_right}
+use Rattle.cat_parse_row.proofs.Last.{last_right}
 
 -- any value
 abbrev pub Any : {A : Type 0} → A → Type 0
 Any x = Unit {0}
-
-type_row : types.Type → Parts
-type_row t = type_parts t End
 
 pub typed_right : (bound : ℕ) (out : TokenKind → Bool) → IsRight bound out Any typed_parts typed_name
 typed_right bound out =

@@ -1,5 +1,5 @@
 -- The readers of conditions, definitions and rules are right, where that of expressions is.
-use Rattle.std.proofs.Common.{◌≡◌, ℕ, Bool, true, false, List, [], ◌∷◌, ◌++◌, length, Option, Some, None, refl, sym, ap, subst, ◌∙◌, inl, inr, ◌⊎◌}
+use Rattle.std.proofs.Common.{◌≡◌, ℕ, Bool, true, false, List, [], ◌∷◌, ◌++◌, Option, Some, None, refl, sym, ap, subst, ◌∙◌, inl, inr, ◌⊎◌}
 use Rattle.cat_pos.specs.declared.pos.Pos.{Pos}
 use Rattle.cat_lex.specs.declared.token.Token.{Token}
 use Rattle.cat_lex.specs.declared.token.TokenKind.{TokenKind}
@@ -16,29 +16,21 @@ use Rattle.cat_tree.specs.Grammar.{phrase}
 use Rattle.cat_tree.specs.Joined.{◌▸◌}
 use Rattle.cat_tree.specs.Uses.{target_parts, guard_parts, fulfilled_parts}
 use Rattle.cat_parse_row.specs.declared.cue.Cue.TheVariants as cue
-use Rattle.cat_parse_row.specs.Reader.{Reader, ◌⨟◌, done, heads, by_word, optional}
+use Rattle.cat_parse_row.specs.Reader.{Reader, ◌⨟◌, done, heads, optional}
 use Rattle.cat_parse_row.specs.Right.{Outside, IsRight}
-use Rattle.cat_parse_row.specs.Cues.{cue_is, «word»}
 use Rattle.cat_parse_row.specs.Declarations.{key_word, is_word}
 use Rattle.cat_parse_row.specs.Leads.{target}
-use Rattle.cat_parse_row.specs.Uses.{behind_use, behind_expression, is_under, condition, guard, whether_fulfilled, Tail, Defined, Ruled, defined, ruled, tail}
+use Rattle.cat_parse_row.specs.Uses.{behind_use, behind_expression, is_under, guard, whether_fulfilled, defined, ruled}
+use Rattle.cat_parse_row.specs.Exactly.{expression_row, ReadsExpressions}
 use Rattle.cat_parse_row.proofs.Steps.{done_right}
-use Rattle.cat_parse_row.proofs.Sequel.{Follows, part_right}
-use Rattle.cat_parse_row.proofs.Choices.{OptionFits, optional_right, reshaped, made_right, Decides, choice_right, narrowed}
+use Rattle.cat_parse_row.proofs.Sequel.{part_right}
+use Rattle.cat_parse_row.proofs.Choices.{OptionFits, optional_right, reshaped, choice_right, narrowed}
 use Rattle.cat_parse_row.proofs.Leaves.{word_right, word_at_right}
-use Rattle.cat_parse_row.proofs.Last.{Ends, last_right}
+use Rattle.cat_parse_row.proofs.Last.{last_right}
 use Rattle.cat_parse_row.proofs.Listed.{any_word, outside_any, no_longer, opens_word}
 use Rattle.cat_parse_row.proofs.Declarations.{Any}
 use Rattle.cat_parse_row.proofs.Leads.{any_option}
 use Rattle.cat_parse_row.proofs.Targets.{behind_target, target_right}
-
--- an expression as the last part of a row
-abbrev pub expression_row : Node → Parts
-expression_row e = Part (Operand 0) (phrase e) End
-
--- a reader of expressions is right before the words that may follow one in a program
-abbrev pub ReadsExpressions : Reader Node → Type 0
-ReadsExpressions ex = (bound : ℕ) → IsRight bound behind_expression Any expression_row ex
 
 -- ---- whether a rule is fulfilled
 
@@ -53,14 +45,14 @@ fulfilled_right bound =
       off = λ f w v e s o. let t = subst (λ (z : Fulfilled). AreSpelled (fulfilled_parts z) w) e s in ap (λ (u : List Token). heads (is_word key.Not) (u ++ v)) t.2 ∙ ap (is_word key.Not) t.3;
     })
     (reshaped bound any_word (λ f. f ≡ fulfilled.No) (λ f. f ≡ fulfilled.No) (λ f. Word (Anywhere (kind.Word key.Not)) (Word (Anywhere (kind.Word key.Fulfilled)) End)) fulfilled_parts (key_word key.Not ⨟ λ p. key_word key.Fulfilled ⨟ λ q. done fulfilled.No)
-      (record { to = λ f e. e; from = λ f e. e; rows = λ f e. ap fulfilled_parts (sym e) })
-      (word_right bound any_word (cue.Word key.Not) (λ (f : Fulfilled). f ≡ fulfilled.No) (λ f. Word (Anywhere (kind.Word key.Fulfilled)) End) (λ p. key_word key.Fulfilled ⨟ λ q. done fulfilled.No) λ p.
-        word_right bound any_word (cue.Word key.Fulfilled) (λ (f : Fulfilled). f ≡ fulfilled.No) (λ f. End) (λ q. done fulfilled.No) λ q.
-        done_right bound any_word (λ f. f ≡ fulfilled.No) fulfilled.No refl (λ f e. e)))
+    (record { to = λ f e. e; from = λ f e. e; rows = λ f e. ap fulfilled_parts (sym e) })
+    (word_right bound any_word (cue.Word key.Not) (λ (f : Fulfilled). f ≡ fulfilled.No) (λ f. Word (Anywhere (kind.Word key.Fulfilled)) End) (λ p. key_word key.Fulfilled ⨟ λ q. done fulfilled.No) λ p.
+    word_right bound any_word (cue.Word key.Fulfilled) (λ (f : Fulfilled). f ≡ fulfilled.No) (λ f. End) (λ q. done fulfilled.No) λ q.
+    done_right bound any_word (λ f. f ≡ fulfilled.No) fulfilled.No refl (λ f e. e)))
     (reshaped bound any_word (λ f. f ≡ fulfilled.Yes) (λ f. f ≡ fulfilled.Yes) (λ f. Word (Anywhere (kind.Word key.Fulfilled)) End) fulfilled_parts (key_word key.Fulfilled ⨟ λ p. done fulfilled.Yes)
-      (record { to = λ f e. e; from = λ f e. e; rows = λ f e. ap fulfilled_parts (sym e) })
-      (word_right bound any_word (cue.Word key.Fulfilled) (λ (f : Fulfilled). f ≡ fulfilled.Yes) (λ f. End) (λ q. done fulfilled.Yes) λ q.
-        done_right bound any_word (λ f. f ≡ fulfilled.Yes) fulfilled.Yes refl (λ f e. e)))
+    (record { to = λ f e. e; from = λ f e. e; rows = λ f e. ap fulfilled_parts (sym e) })
+    (word_right bound any_word (cue.Word key.Fulfilled) (λ (f : Fulfilled). f ≡ fulfilled.Yes) (λ f. End) (λ q. done fulfilled.Yes) λ q.
+    done_right bound any_word (λ f. f ≡ fulfilled.Yes) fulfilled.Yes refl (λ f e. e)))
   where
     either : (f : Fulfilled) → Any f → (f ≡ fulfilled.No) ⊎ (f ≡ fulfilled.Yes)
     either fulfilled.No e = inl refl

@@ -1,34 +1,30 @@
 -- The readers of what stands before a definition's expressions are right.
-use Rattle.std.proofs.Common.{◌≡◌, ℕ, zero, suc, ◌≤◌, Bool, true, false, List, [], ◌∷◌, ◌++◌, length, Option, Some, None, refl, sym, ap, subst, ◌∙◌, arith, inl, inr, ◌⊎◌}
+use Rattle.std.proofs.Common.{◌≡◌, ℕ, Bool, true, false, List, [], ◌∷◌, ◌++◌, Option, Some, None, refl, sym, ap, subst, ◌∙◌}
 use Rattle.cat_pos.specs.declared.pos.Pos.{Pos}
 use Rattle.cat_lex.specs.declared.token.Token.{Token}
 use Rattle.cat_lex.specs.declared.token.TokenKind.{TokenKind}
 use Rattle.cat_lex.specs.declared.token.TokenKind.TheVariants as kind
 use Rattle.cat_lex.specs.declared.words.Keyword.TheVariants as key
-use Rattle.cat_lex.specs.declared.symbol.Symbol.TheVariants as symbol
 use Rattle.cat_tree.specs.declared.name.Name.{Name}
 use Rattle.cat_tree.specs.declared.program.Label.{Label}
 use Rattle.cat_tree.specs.declared.program.Exception.{Exception}
 use Rattle.cat_tree.specs.declared.program.Exception.TheVariants as exception
-use Rattle.cat_tree.specs.declared.program.Lead.{Lead}
-use Rattle.cat_tree.specs.declared.program.TargetName.{TargetName}
-use Rattle.cat_tree.specs.Phrase.{Parts, End, Word, At, Anywhere, AreSpelled}
-use Rattle.cat_tree.specs.Joined.{◌▸◌, with_commas}
-use Rattle.cat_tree.specs.Uses.{label_parts, exception_parts, lead_parts, name_parts, inner_parts, names_parts, target_parts}
+use Rattle.cat_tree.specs.Phrase.{Parts, End, Word, At, AreSpelled}
+use Rattle.cat_tree.specs.Uses.{label_parts, exception_parts, lead_parts, name_parts}
 use Rattle.cat_parse_row.specs.declared.cue.Cue.TheVariants as cue
-use Rattle.cat_parse_row.specs.Reader.{Outcome, Reader, Fails, Reads, ◌⨟◌, after, made_of, done, one, heads, optional}
-use Rattle.cat_parse_row.specs.Right.{Outside, Taken, Says, Alike, IsRight}
-use Rattle.cat_parse_row.specs.Cues.{kind_of, cue_is, lower_of, «word», lower}
-use Rattle.cat_parse_row.specs.Declarations.{key_word, is_comma, is_word, is_lower, led}
-use Rattle.cat_parse_row.specs.Leads.{label, exception_at, exception_of, an_exception, lead, is_dot, inner, names, target}
+use Rattle.cat_parse_row.specs.Reader.{◌⨟◌, after, made_of, done, heads, optional}
+use Rattle.cat_parse_row.specs.Right.{Outside, IsRight}
+use Rattle.cat_parse_row.specs.Cues.{lower_of, lower}
+use Rattle.cat_parse_row.specs.Declarations.{is_word, is_lower}
+use Rattle.cat_parse_row.specs.Leads.{label, exception_at, exception_of, an_exception, lead}
 use Rattle.cat_parse_row.proofs.Steps.{done_right}
-use Rattle.cat_parse_row.proofs.Sequel.{Follows, part_right}
-use Rattle.cat_parse_row.proofs.Choices.{Opens, OptionFits, optional_right, reshaped, made_right, outside_off}
-use Rattle.cat_parse_row.proofs.Leaves.{cue_self, word_right, word_at_right, lower_right}
+use Rattle.cat_parse_row.proofs.Sequel.{part_right}
+use Rattle.cat_parse_row.proofs.Choices.{Opens, OptionFits, optional_right, reshaped, made_right}
+use Rattle.cat_parse_row.proofs.Leaves.{word_at_right, lower_right}
 use Rattle.cat_parse_row.proofs.Types.{same_reader}
-use Rattle.cat_parse_row.proofs.Last.{Ends, last_right, join_end}
+use Rattle.cat_parse_row.proofs.Last.{last_right}
 use Rattle.cat_parse_row.proofs.Lists.{AllFit}
-use Rattle.cat_parse_row.proofs.Listed.{any_word, outside_any, no_longer, opens_word, led_right}
+use Rattle.cat_parse_row.proofs.Listed.{no_longer}
 use Rattle.cat_parse_row.proofs.Declarations.{Any}
 
 pub any_option : {A : Type 0} (o : Option A) → OptionFits Any o
@@ -59,9 +55,6 @@ opens_at start k at fits rest e = record { at = λ x w v f s. ap (λ (u : List T
 
 -- ---- labels and exceptions
 
-label_row : Label → Parts
-label_row l = label_parts (Some l)
-
 pub label_right : (bound : ℕ) (out : TokenKind → Bool) → IsRight bound out Any (λ l. label_parts (Some l)) label
 label_right bound out =
     word_at_right bound out (cue.Word key.Label) Any (λ l. l.pos) (λ l. name_parts l.name) (λ p. lower ⨟ λ w. done (record { pos = p; name = w })) λ p.
@@ -72,9 +65,6 @@ label_right bound out =
 abbrev inner_name : Option Name → Parts
 inner_name None = End
 inner_name (Some w) = name_parts w
-
-exception_row : Pos × Option Name → Parts
-exception_row x = Word (At (kind.Word key.Exception) x.0) (inner_name x.1)
 
 exception_at_right : (bound : ℕ) (out : TokenKind → Bool) → ((k : TokenKind) → out k ≡ true → is_lower k ≡ false) → IsRight bound out Any (λ x. Word (At (kind.Word key.Exception) x.0) (inner_name x.1)) exception_at
 exception_at_right bound out off =
@@ -102,7 +92,7 @@ exception_right bound out off off2 =
     reshaped bound out (λ e. (o : Option (Pos × Option Name)) × OptionFits Any o × (e ≡ exception_of o)) Any exception_parts exception_parts an_exception
     (record { to = λ e f. tt; from = λ e f. exception_from e; rows = λ e f. refl })
     (made_right bound out (OptionFits Any) exception_option exception_parts exception_of (optional (is_word key.Exception) exception_at) exception_rows
-      (optional_right bound out (is_word key.Exception) Any (λ x. Word (At (kind.Word key.Exception) x.0) (inner_name x.1)) exception_option exception_at (opens_at (is_word key.Exception) (λ x. kind.Word key.Exception) (λ x. x.0) Any (λ x. inner_name x.1) (λ x. refl)) off2 refl (λ x. refl) (exception_at_right bound out off)))
+    (optional_right bound out (is_word key.Exception) Any (λ x. Word (At (kind.Word key.Exception) x.0) (inner_name x.1)) exception_option exception_at (opens_at (is_word key.Exception) (λ x. kind.Word key.Exception) (λ x. x.0) Any (λ x. inner_name x.1) (λ x. refl)) off2 refl (λ x. refl) (exception_at_right bound out off)))
 
 -- what may stand behind a label
 abbrev behind_label : (TokenKind → Bool) → TokenKind → Bool
@@ -132,8 +122,8 @@ lead_right bound out off off2 off3 =
     (record { fit = λ l f. any_option l.label; behind = λ l w v f s o. exception_behind l.exception w v s out off3 o; shrinks = no_longer bound (behind_label out) (OptionFits Any) label_parts (optional (is_word key.Label) label) labels })
     labels
     (λ l f. last_right bound out Any (λ y. Any y × (y.label ≡ l)) (λ y. y.exception) (λ e. record { label = l; exception = e }) exception_parts an_exception
-      (record { to = λ e f. (tt, refl); from = λ y f. tt; back = λ e. refl; only = λ y f. ap (λ (o : Option Label). record { label = o; exception = y.exception }) f.1 })
-      (exception_right bound out off off2))
+    (record { to = λ e f. (tt, refl); from = λ y f. tt; back = λ e. refl; only = λ y f. ap (λ (o : Option Label). record { label = o; exception = y.exception }) f.1 })
+    (exception_right bound out off off2))
   where
     labels : IsRight bound (behind_label out) (OptionFits Any) label_parts (optional (is_word key.Label) label)
     labels = optional_right bound (behind_label out) (is_word key.Label) Any (λ l. label_parts (Some l)) label_parts label (opens_at (is_word key.Label) (λ l. kind.Word key.Label) (λ l. l.pos) Any (λ l. name_parts l.name) (λ l. refl)) (label_off out) refl (λ l. refl) (label_right bound (behind_label out))

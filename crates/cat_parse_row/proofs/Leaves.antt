@@ -1,6 +1,6 @@
 -- The readers of one word are right.
-use Rattle.std.proofs.Common.{◌≡◌, ℕ, zero, suc, ◌≤◌, Bool, true, false, if◌then◌else◌, List, [], ◌∷◌, ◌++◌, length, Option, Some, None, refl, sym, ap, subst, ◌∙◌, arith, rules, pos}
-use denote.Enum.Bare.{sameb, same_true, true_same}
+use Rattle.std.proofs.Common.{◌≡◌, ℕ, suc, Bool, true, false, if◌then◌else◌, [], Option, Some, None, refl, sym, ap, ◌∙◌, arith, rules}
+use denote.Enum.Bare.{same_true, true_same}
 use Rattle.cat_pos.specs.declared.pos.Pos.{Pos}
 use Rattle.cat_lex.specs.contracts.words.Keyword.{the_type as keywords}
 use Rattle.cat_lex.specs.contracts.words.DoubleKeyword.{the_type as pairs}
@@ -9,14 +9,14 @@ use Rattle.cat_lex.specs.declared.token.Token.{Token}
 use Rattle.cat_lex.specs.declared.token.TokenKind.{TokenKind}
 use Rattle.cat_lex.specs.declared.token.TokenKind.TheVariants as kind
 use Rattle.cat_tree.specs.declared.name.Name.{Name}
-use Rattle.cat_tree.specs.Phrase.{Parts, Word, Mark, At, Anywhere, IsAt}
+use Rattle.cat_tree.specs.Phrase.{Parts, Word, At, Anywhere}
 use Rattle.cat_parse_row.specs.declared.cue.Cue.{Cue}
 use Rattle.cat_parse_row.specs.declared.cue.Cue.TheVariants as cue
-use Rattle.cat_parse_row.specs.Reader.{Reader, ◌⨟◌, one}
+use Rattle.cat_parse_row.specs.Reader.{Reader, ◌⨟◌}
 use Rattle.cat_parse_row.specs.Right.{IsRight}
 use Rattle.cat_parse_row.specs.Cues.{kind_of, cue_is, word_of, lower_kind, upper_kind, lower_of, upper_of, «word», lower, upper}
 use Rattle.cat_parse_row.proofs.Token.{Marks, token_right}
-use Rattle.cat_parse_row.proofs.Choices.{Same, reshaped}
+use Rattle.cat_parse_row.proofs.Choices.{reshaped}
 
 pub cue_found : (c : Cue) (k : TokenKind) → cue_is c k ≡ true → k ≡ kind_of c
 cue_found (cue.Word w) (kind.Word k) e = ap kind.Word (same_true keywords (search rules) k w e)
@@ -75,7 +75,7 @@ word_marks c fits = record {
 pub word_behind : {B : Type 0} (bound : ℕ) (out : TokenKind → Bool) (c : Cue) (fits : B → Type 0) (rest : B → Parts) (r : Pos → Reader B) → ((p : Pos) → IsRight bound out fits rest (r p)) → IsRight (suc bound) out fits (λ y. Word (Anywhere (kind_of c)) (rest y)) («word» c ⨟ r)
 word_behind bound out c fits rest r right =
     token_right bound out fits (λ y. Anywhere (kind_of c)) rest (word_of c) (λ x y. Unit {0}) r (word_marks c fits)
-      (λ p. reshaped bound out fits (λ y. fits y × Unit {0}) rest rest (r p) (record { to = λ y f. (f, tt); from = λ y f. f.0; rows = λ y f. refl }) (right p))
+    (λ p. reshaped bound out fits (λ y. fits y × Unit {0}) rest rest (r p) (record { to = λ y f. (f, tt); from = λ y f. f.0; rows = λ y f. refl }) (right p))
 
 pub word_right : {B : Type 0} (bound : ℕ) (out : TokenKind → Bool) (c : Cue) (fits : B → Type 0) (rest : B → Parts) (r : Pos → Reader B) → ((p : Pos) → IsRight bound out fits rest (r p)) → IsRight bound out fits (λ y. Word (Anywhere (kind_of c)) (rest y)) («word» c ⨟ r)
 word_right bound out c fits rest r right = lowered bound out fits (λ y. Word (Anywhere (kind_of c)) (rest y)) («word» c ⨟ r) (word_behind bound out c fits rest r right)

@@ -13,3 +13,6 @@ pub mod Targets
 pub mod Variables
 pub mod Guards
 pub mod Blocks
+pub mod Items
+pub mod Exact
+pub mod Loops

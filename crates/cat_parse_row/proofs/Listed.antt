@@ -1,16 +1,15 @@
 -- Lists with commas, lists behind a word, and lists of one at least.
-use Rattle.std.proofs.Common.{◌≡◌, ℕ, zero, suc, ◌≤◌, Bool, true, false, List, [], ◌∷◌, ◌++◌, length, Option, Some, None, refl, sym, ap, subst, ◌∙◌, arith, inl, inr, ◌⊎◌}
+use Rattle.std.proofs.Common.{◌≡◌, ℕ, ◌≤◌, Bool, true, false, List, [], ◌∷◌, ◌++◌, length, refl, sym, ap, subst, ◌∙◌, arith, inl, inr, ◌⊎◌}
 use Rattle.std.proofs.lemmas.List.{length-append}
-use Rattle.cat_pos.specs.declared.pos.Pos.{Pos}
 use Rattle.cat_lex.specs.declared.token.Token.{Token}
 use Rattle.cat_lex.specs.declared.token.TokenKind.{TokenKind}
 use Rattle.cat_lex.specs.declared.token.TokenKind.TheVariants as kind
 use Rattle.cat_lex.specs.declared.symbol.Symbol.TheVariants as symbol
 use Rattle.cat_tree.specs.Phrase.{Parts, End, Word, Anywhere, AreSpelled}
-use Rattle.cat_tree.specs.Joined.{◌▸◌, all, behind_comma, with_commas}
+use Rattle.cat_tree.specs.Joined.{all, behind_comma, with_commas}
 use Rattle.cat_parse_row.specs.declared.cue.Cue.{Cue}
 use Rattle.cat_parse_row.specs.declared.cue.Cue.TheVariants as cue
-use Rattle.cat_parse_row.specs.Reader.{Outcome, Reader, Fails, Reads, ◌⨟◌, done, heads, by_word, both, many, some}
+use Rattle.cat_parse_row.specs.Reader.{Outcome, Reader, Reads, ◌⨟◌, done, heads, both, many, some}
 use Rattle.cat_parse_row.specs.Right.{Outside, Taken, IsRight}
 use Rattle.cat_parse_row.specs.Cues.{kind_of, cue_is, «word»}
 use Rattle.cat_parse_row.specs.Declarations.{is_comma, comma, listed, led}
@@ -48,7 +47,7 @@ module _ {A : Type 0} (out : TokenKind → Bool) (fits : A → Type 0) (row : A 
   listed_right bound =
       made_right bound out (BothFit fits (AllFit fits)) (both_rows row (all (behind_comma row))) (with_commas row) (λ p. p.0 ∷ p.1) (both r (many is_comma (comma r))) (λ p. refl)
       (both_right bound bound out any_word fits (AllFit fits) row (all (behind_comma row)) r (many is_comma (comma r)) (λ y w v f s o. outside_any (w ++ v)) (no_longer bound any_word fits row r (right bound)) (right bound)
-        (many_right out any_word is_comma fits (behind_comma row) (comma r) (opens_word is_comma (kind.Symbol symbol.Comma) fits row (cue_self (cue.Sign symbol.Comma))) off (λ k e. refl) (λ k e. refl) comma_right bound))
+      (many_right out any_word is_comma fits (behind_comma row) (comma r) (opens_word is_comma (kind.Symbol symbol.Comma) fits row (cue_self (cue.Sign symbol.Comma))) off (λ k e. refl) (λ k e. refl) comma_right bound))
 
   module _ (c : Cue) (row2 : List A → Parts) (none : row2 [] ≡ End) (more : (x : A) (xs : List A) → Word (Anywhere (kind_of c)) (with_commas row (x ∷ xs)) ≡ row2 (x ∷ xs)) (ends : (k : TokenKind) → out k ≡ true → cue_is c k ≡ false) where
     led_row : (y : List A) → SomeFit fits y → Word (Anywhere (kind_of c)) (with_commas row y) ≡ row2 y
@@ -71,8 +70,8 @@ module _ {A : Type 0} (out : TokenKind → Bool) (fits : A → Type 0) (row : A 
     led_right bound =
         choice_right bound out (cue_is c) (AllFit fits) (SomeFit fits) (λ y. y ≡ []) row2 («word» c ⨟ λ p. listed r) (done []) led_decides
         (reshaped bound out (SomeFit fits) (SomeFit fits) (λ y. Word (Anywhere (kind_of c)) (with_commas row y)) row2 («word» c ⨟ λ p. listed r)
-          (record { to = λ y f. f; from = λ y f. f; rows = led_row })
-          (word_right bound out c (SomeFit fits) (with_commas row) (λ p. listed r) (λ p. listed_right bound)))
+        (record { to = λ y f. f; from = λ y f. f; rows = led_row })
+        (word_right bound out c (SomeFit fits) (with_commas row) (λ p. listed r) (λ p. listed_right bound)))
         (none_right bound out row2 [] none)
 
 -- one at least
@@ -84,4 +83,4 @@ module _ {A : Type 0} (out next start : TokenKind → Bool) (fits : A → Type 0
   some_right bound =
       made_right bound out (BothFit fits (AllFit fits)) (both_rows row (all row)) (all row) (λ p. p.0 ∷ p.1) (both r (many start r)) (λ p. refl)
       (both_right bound bound out next fits (AllFit fits) row (all row) r (many start r) all_behind (no_longer bound next fits row r (right bound)) (right bound)
-        (many_right out next start fits row r opens off on wide right bound))
+      (many_right out next start fits row r opens off on wide right bound))

@@ -1,12 +1,12 @@
 -- A part, and then the rest of the row.
-use Rattle.std.proofs.Common.{◌≡◌, ℕ, ◌≤◌, max, Bool, true, false, List, [], ◌∷◌, ◌++◌, length, refl, sym, ap, subst, ◌∙◌, append_assoc, arith}
-use Rattle.std.proofs.lemmas.List.{append_cancel_left, append_cancel_right, length-append}
+use Rattle.std.proofs.Common.{◌≡◌, ℕ, ◌≤◌, Bool, true, false, List, [], ◌∷◌, ◌++◌, length, refl, sym, ap, subst, ◌∙◌, append_assoc, arith}
+use Rattle.std.proofs.lemmas.List.{append_cancel_left, append_cancel_right}
 use Rattle.cat_lex.specs.declared.token.Token.{Token}
 use Rattle.cat_lex.specs.declared.token.TokenKind.{TokenKind}
 use Rattle.cat_tree.specs.Phrase.{Parts, tallest, AreLevelled, AreSpelled}
 use Rattle.cat_tree.specs.Joined.{◌▸◌}
 use Rattle.cat_parse_row.specs.Reader.{Outcome, Reader, Fails, Reads, left_of, after, ◌⨟◌}
-use Rattle.cat_parse_row.specs.Right.{Agree, Outside, Is, Begun, Further, Took, Taken, Says, Alike, IsRight}
+use Rattle.cat_parse_row.specs.Right.{Agree, Outside, Is, Begun, Took, Taken, Says, Alike, IsRight}
 use Rattle.cat_parse_row.proofs.Steps.{levels_join, levels_split, tallest_join, spelled_join, Splits, spelled_split}
 
 agree_behind : (f left others : List Token) → Agree left others → Agree (f ++ left) (f ++ others)

@@ -1,12 +1,12 @@
 -- Readers that are put together from right ones are right.
-use Rattle.std.proofs.Common.{◌≡◌, ℕ, zero, suc, ◌<◌, ◌≤◌, max, Bool, true, false, if◌then◌else◌, List, [], ◌∷◌, ◌++◌, length, Option, Some, None, refl, sym, ap, subst, ◌∙◌, append_assoc, arith, inl, inr, ◌⊎◌}
-use Rattle.std.proofs.lemmas.List.{append-nil, append_cancel_left, append_cancel_right, length-append}
+use Rattle.std.proofs.Common.{◌≡◌, ℕ, max, Bool, List, [], ◌∷◌, ◌++◌, length, refl, sym, ap, subst, ◌∙◌, append_assoc, arith}
+use Rattle.std.proofs.lemmas.List.{append_cancel_right}
 use Rattle.cat_lex.specs.declared.token.Token.{Token}
 use Rattle.cat_lex.specs.declared.token.TokenKind.{TokenKind}
-use Rattle.cat_tree.specs.Phrase.{Phrase, Parts, End, Word, Part, Mark, IsAt, Stand, Stands, IsLevelled, IsSpelling, tallest, AreLevelled, AreSpelled}
+use Rattle.cat_tree.specs.Phrase.{Parts, End, Word, Part, tallest, AreLevelled, AreSpelled}
 use Rattle.cat_tree.specs.Joined.{◌▸◌}
-use Rattle.cat_parse_row.specs.Reader.{Outcome, Reader, Fails, Reads, left_of, after, ◌⨟◌, done, made_of, one, heads, by_word}
-use Rattle.cat_parse_row.specs.Right.{Agree, Outside, Is, Begun, Further, Took, Taken, Says, Alike, IsRight}
+use Rattle.cat_parse_row.specs.Reader.{done}
+use Rattle.cat_parse_row.specs.Right.{Agree, IsRight}
 
 -- ---- rows behind one another
 

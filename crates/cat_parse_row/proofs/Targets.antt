@@ -1,26 +1,24 @@
 -- The reader of targets is right.
-use Rattle.std.proofs.Common.{◌≡◌, ℕ, Bool, true, false, List, [], ◌∷◌, ◌++◌, length, Option, Some, None, refl, sym, ap, subst, ◌∙◌}
-use Rattle.cat_pos.specs.declared.pos.Pos.{Pos}
+use Rattle.std.proofs.Common.{◌≡◌, ℕ, Bool, true, false, List, [], ◌∷◌, ◌++◌, Option, refl, sym, ap, subst, ◌∙◌}
 use Rattle.cat_lex.specs.declared.token.Token.{Token}
 use Rattle.cat_lex.specs.declared.token.TokenKind.{TokenKind}
 use Rattle.cat_lex.specs.declared.token.TokenKind.TheVariants as kind
 use Rattle.cat_lex.specs.declared.words.Keyword.TheVariants as key
 use Rattle.cat_lex.specs.declared.symbol.Symbol.TheVariants as symbol
 use Rattle.cat_tree.specs.declared.name.Name.{Name}
-use Rattle.cat_tree.specs.declared.program.TargetName.{TargetName}
-use Rattle.cat_tree.specs.Phrase.{Parts, End, Word, At, Anywhere, AreSpelled}
-use Rattle.cat_tree.specs.Joined.{◌▸◌, with_commas}
+use Rattle.cat_tree.specs.Phrase.{Word, Anywhere, AreSpelled}
+use Rattle.cat_tree.specs.Joined.{◌▸◌}
 use Rattle.cat_tree.specs.Uses.{name_parts, inner_parts, names_parts, target_parts}
 use Rattle.cat_parse_row.specs.declared.cue.Cue.TheVariants as cue
-use Rattle.cat_parse_row.specs.Reader.{Reader, ◌⨟◌, done, optional}
+use Rattle.cat_parse_row.specs.Reader.{◌⨟◌, done, optional}
 use Rattle.cat_parse_row.specs.Right.{Outside, IsRight}
-use Rattle.cat_parse_row.specs.Cues.{cue_is, «word», lower}
-use Rattle.cat_parse_row.specs.Declarations.{is_comma, is_word, led}
+use Rattle.cat_parse_row.specs.Cues.{lower}
+use Rattle.cat_parse_row.specs.Declarations.{is_comma, is_word}
 use Rattle.cat_parse_row.specs.Leads.{is_dot, inner, names, target}
-use Rattle.cat_parse_row.proofs.Sequel.{Follows, part_right}
+use Rattle.cat_parse_row.proofs.Sequel.{part_right}
 use Rattle.cat_parse_row.proofs.Choices.{OptionFits, optional_right}
 use Rattle.cat_parse_row.proofs.Leaves.{word_right, lower_right}
-use Rattle.cat_parse_row.proofs.Last.{Ends, last_right}
+use Rattle.cat_parse_row.proofs.Last.{last_right}
 use Rattle.cat_parse_row.proofs.Lists.{AllFit}
 use Rattle.cat_parse_row.proofs.Listed.{any_word, no_longer, opens_word, led_right}
 use Rattle.cat_parse_row.proofs.Declarations.{Any}

@@ -1,11 +1,11 @@
 -- A reader that takes one token first.
-use Rattle.std.proofs.Common.{◌≡◌, ℕ, zero, suc, ◌<◌, ◌≤◌, Bool, true, false, List, [], ◌∷◌, ◌++◌, length, Option, Some, None, refl, sym, ap, subst, ◌∙◌, append_assoc, arith}
+use Rattle.std.proofs.Common.{◌≡◌, ℕ, suc, ◌≤◌, Bool, true, false, List, [], ◌∷◌, ◌++◌, length, Option, Some, None, refl, sym, ap, subst, ◌∙◌, arith}
 use Rattle.std.proofs.lemmas.List.{append-nil, length-append}
 use Rattle.cat_lex.specs.declared.token.Token.{Token}
 use Rattle.cat_lex.specs.declared.token.TokenKind.{TokenKind}
-use Rattle.cat_tree.specs.Phrase.{Parts, Word, Mark, IsAt, tallest, AreLevelled, AreSpelled}
+use Rattle.cat_tree.specs.Phrase.{Parts, Word, Mark, IsAt}
 use Rattle.cat_parse_row.specs.Reader.{Outcome, Reader, Fails, Reads, left_of, after, ◌⨟◌, made_of, one}
-use Rattle.cat_parse_row.specs.Right.{Agree, Outside, Is, Begun, Further, Took, Taken, Says, Alike, IsRight}
+use Rattle.cat_parse_row.specs.Right.{Agree, Is, Begun, Took, Taken, Says, Alike, IsRight}
 use Rattle.cat_parse_row.proofs.Steps.{no_front}
 
 -- what is made of a token tells which mark it bears

@@ -1,5 +1,5 @@
 -- The reader of types is right.
-use Rattle.std.proofs.Common.{◌≡◌, ℕ, zero, suc, ◌<◌, ◌≤◌, ◌-◌, Bool, true, false, if◌then◌else◌, List, [], ◌∷◌, ◌++◌, length, Option, Some, None, refl, sym, ap, subst, ◌∙◌, arith, inl, inr, ◌⊎◌}
+use Rattle.std.proofs.Common.{◌≡◌, ℕ, zero, suc, ◌≤◌, ◌-◌, Bool, true, false, if◌then◌else◌, List, [], ◌∷◌, ◌++◌, length, Option, Some, None, refl, sym, ap, subst, ◌∙◌, arith, inl, inr, ◌⊎◌}
 use Rattle.std.proofs.lemmas.Bool.{cases_lt}
 use Rattle.std.proofs.lemmas.List.{length-append}
 use Rattle.cat_pos.specs.declared.pos.Pos.{Pos}
@@ -14,9 +14,9 @@ use Rattle.cat_tree.specs.declared.name.Type as types
 use Rattle.cat_tree.specs.Phrase.{Parts, End, Word, At, Anywhere, IsAt, AreSpelled}
 use Rattle.cat_tree.specs.Literals.{base_kind, lists_of, type_parts}
 use Rattle.cat_parse_row.specs.declared.cue.Cue.TheVariants as cue
-use Rattle.cat_parse_row.specs.Reader.{Outcome, Reader, Fails, Reads, left_of, ◌⨟◌, done, one, made_of, after, by_word, heads}
-use Rattle.cat_parse_row.specs.Right.{Agree, Outside, Is, Begun, Taken, Says, Alike, IsRight}
-use Rattle.cat_parse_row.specs.Cues.{kind_of, cue_is, base_of, «word»}
+use Rattle.cat_parse_row.specs.Reader.{Outcome, Reader, left_of, ◌⨟◌, done, one, made_of, after, by_word, heads}
+use Rattle.cat_parse_row.specs.Right.{Begun, Taken, Says, Alike, IsRight}
+use Rattle.cat_parse_row.specs.Cues.{kind_of, base_of, «word»}
 use Rattle.cat_parse_row.specs.Types.{placed, typed, base_at, is_list_of, type_after, a_type}
 use Rattle.cat_parse_row.proofs.Steps.{done_right, no_front, agree_same}
 use Rattle.cat_parse_row.proofs.Token.{Marks, token_right}
@@ -87,7 +87,7 @@ same_reader {B = B} bound out fits row r s e h = record {
   says = λ ts. subst (λ (o : Outcome B). (front : List Token) (y : B) (w : List Token) → length ts ≤ bound → ts ≡ front ++ left_of o → Alike out fits row (left_of o) front y w → Says row o y w front) (e ts) (h.says ts);
 }
 
-as_choice : (n : ℕ) (ts : List Token) → by_word is_list_of («word» (cue.Pair pair.ListOf) ⨟ λ p. type_after (suc n)) (one base_at ⨟ λ b. done (typed n b)) ts ≡ type_after n ts
+pub as_choice : (n : ℕ) (ts : List Token) → by_word is_list_of («word» (cue.Pair pair.ListOf) ⨟ λ p. type_after (suc n)) (one base_at ⨟ λ b. done (typed n b)) ts ≡ type_after n ts
 as_choice n [] = refl
 as_choice n (t ∷ ts) = by (is_list_of t.kind)
   where
@@ -131,8 +131,8 @@ base_right bound n out =
     reshaped bound out (λ y. y.lists ≡ n) (λ y. y.lists ≡ n) (λ y. Word (At (base_kind y.base) y.pos) End) (row n) (one base_at ⨟ λ b. done (typed n b))
     (record { to = λ y f. f; from = λ y f. f; rows = λ y f. ap (λ (m : ℕ). lists_of m (Word (At (base_kind y.base) y.pos) End)) (none_left y f) })
     (lowered bound out (λ y. y.lists ≡ n) (λ y. Word (At (base_kind y.base) y.pos) End) (one base_at ⨟ λ b. done (typed n b))
-      (token_right bound out (λ y. y.lists ≡ n) (λ y. At (base_kind y.base) y.pos) (λ y. End) base_at (λ x y. (y.base, y.pos) ≡ x) (λ b. done (typed n b)) (base_marks n)
-        (λ x. done_right bound out (λ y. (y.lists ≡ n) × ((y.base, y.pos) ≡ x)) (typed n x) (refl, refl) (type_is n x))))
+    (token_right bound out (λ y. y.lists ≡ n) (λ y. At (base_kind y.base) y.pos) (λ y. End) base_at (λ x y. (y.base, y.pos) ≡ x) (λ b. done (typed n b)) (base_marks n)
+    (λ x. done_right bound out (λ y. (y.lists ≡ n) × ((y.base, y.pos) ≡ x)) (typed n x) (refl, refl) (type_is n x))))
   where
     none_left : (y : types.Type) → y.lists ≡ n → 0 ≡ y.lists - n
     none_left y f = omega (arith, f)
@@ -168,10 +168,10 @@ type_right zero n out = record {
 type_right (suc bound) n out =
     same_reader (suc bound) out (from n) (row n) (by_word is_list_of («word» (cue.Pair pair.ListOf) ⨟ λ p. type_after (suc n)) (one base_at ⨟ λ b. done (typed n b))) (type_after n) (as_choice n)
     (choice_right (suc bound) out is_list_of (from n) (from (suc n)) (λ y. y.lists ≡ n) (row n) («word» (cue.Pair pair.ListOf) ⨟ λ p. type_after (suc n)) (one base_at ⨟ λ b. done (typed n b)) (decides n out)
-      (reshaped (suc bound) out (from (suc n)) (from (suc n)) (λ y. Word (Anywhere (kind_of (cue.Pair pair.ListOf))) (row (suc n) y)) (row n) («word» (cue.Pair pair.ListOf) ⨟ λ p. type_after (suc n))
-        (record { to = λ y f. f; from = λ y f. f; rows = list_row n })
-        (word_behind bound out (cue.Pair pair.ListOf) (from (suc n)) (row (suc n)) (λ p. type_after (suc n)) (λ p. type_right bound (suc n) out)))
-      (base_right (suc bound) n out))
+    (reshaped (suc bound) out (from (suc n)) (from (suc n)) (λ y. Word (Anywhere (kind_of (cue.Pair pair.ListOf))) (row (suc n) y)) (row n) («word» (cue.Pair pair.ListOf) ⨟ λ p. type_after (suc n))
+    (record { to = λ y f. f; from = λ y f. f; rows = list_row n })
+    (word_behind bound out (cue.Pair pair.ListOf) (from (suc n)) (row (suc n)) (λ p. type_after (suc n)) (λ p. type_right bound (suc n) out)))
+    (base_right (suc bound) n out))
 
 -- a type, with all of its `list of`
 pub a_type_right : (bound : ℕ) (out : TokenKind → Bool) → IsRight bound out (λ y. Unit {0}) (λ y. type_parts y End) a_type

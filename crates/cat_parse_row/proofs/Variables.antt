@@ -1,5 +1,5 @@
 -- The reader of variables is right.
-use Rattle.std.proofs.Common.{◌≡◌, ℕ, Bool, true, false, List, [], ◌∷◌, ◌++◌, length, Option, Some, None, refl, sym, ap, subst, ◌∙◌, inl, inr, ◌⊎◌}
+use Rattle.std.proofs.Common.{◌≡◌, ℕ, Bool, true, false, List, [], ◌∷◌, ◌++◌, Option, Some, None, refl, sym, ap, subst, ◌∙◌, inl, inr, ◌⊎◌}
 use Rattle.cat_pos.specs.declared.pos.Pos.{Pos}
 use Rattle.cat_lex.specs.declared.token.Token.{Token}
 use Rattle.cat_lex.specs.declared.token.TokenKind.{TokenKind}
@@ -7,7 +7,6 @@ use Rattle.cat_lex.specs.declared.token.TokenKind.TheVariants as kind
 use Rattle.cat_lex.specs.declared.words.Keyword.{Keyword}
 use Rattle.cat_lex.specs.declared.words.Keyword.TheVariants as key
 use Rattle.cat_lex.specs.declared.words.DoubleKeyword.TheVariants as pair
-use Rattle.cat_lex.specs.declared.symbol.Symbol.TheVariants as symbol
 use Rattle.cat_tree.specs.declared.name.Name.{Name}
 use Rattle.cat_tree.specs.declared.name.Type as types
 use Rattle.cat_tree.specs.declared.program.FieldItem.{FieldItem}
@@ -16,24 +15,23 @@ use Rattle.cat_tree.specs.declared.program.Kind.TheVariants.{Input, InputOutput,
 use Rattle.cat_tree.specs.declared.program.Variable.{Variable}
 use Rattle.cat_tree.specs.declared.program.Variable.TheVariants as variable
 use Rattle.cat_tree.specs.Phrase.{Parts, End, Word, At, Anywhere, AreSpelled}
-use Rattle.cat_tree.specs.Joined.{◌▸◌, with_commas}
+use Rattle.cat_tree.specs.Joined.{◌▸◌}
 use Rattle.cat_tree.specs.Literals.{type_parts}
 use Rattle.cat_tree.specs.Declarations.{typed_parts, kind_parts, sort_parts, params_parts, variable_parts}
-use Rattle.cat_tree.specs.Uses.{name_parts}
 use Rattle.cat_parse_row.specs.declared.cue.Cue.TheVariants as cue
-use Rattle.cat_parse_row.specs.Reader.{Reader, ◌⨟◌, done, heads, by_word, optional}
+use Rattle.cat_parse_row.specs.Reader.{◌⨟◌, done, heads, by_word}
 use Rattle.cat_parse_row.specs.Right.{Outside, IsRight}
-use Rattle.cat_parse_row.specs.Cues.{kind_of, cue_is, «word», lower, upper}
-use Rattle.cat_parse_row.specs.Declarations.{key_word, typed_name, content, is_content, is_comma, is_word, kind_or, kind_of_one, a_kind, sort, params, is_lower, called, own, a_variable, led}
+use Rattle.cat_parse_row.specs.Cues.{cue_is, lower, upper}
+use Rattle.cat_parse_row.specs.Declarations.{key_word, typed_name, content, is_content, is_comma, is_word, kind_or, kind_of_one, a_kind, sort, params, is_lower, called, own, a_variable}
 use Rattle.cat_parse_row.proofs.Steps.{done_right}
-use Rattle.cat_parse_row.proofs.Sequel.{Follows, part_right}
-use Rattle.cat_parse_row.proofs.Choices.{OptionFits, optional_right, reshaped, made_right, Decides, choice_right, none_right}
+use Rattle.cat_parse_row.proofs.Sequel.{part_right}
+use Rattle.cat_parse_row.proofs.Choices.{reshaped, made_right, Decides, choice_right}
 use Rattle.cat_parse_row.proofs.Leaves.{word_right, word_at_right, lower_right, upper_right}
-use Rattle.cat_parse_row.proofs.Last.{Ends, last_right}
+use Rattle.cat_parse_row.proofs.Last.{last_right}
 use Rattle.cat_parse_row.proofs.Lists.{AllFit}
 use Rattle.cat_parse_row.proofs.Listed.{any_word, outside_any, no_longer, led_right}
 use Rattle.cat_parse_row.proofs.Declarations.{Any, typed_right, content_right}
-use Rattle.cat_parse_row.proofs.Leads.{any_option, any_list}
+use Rattle.cat_parse_row.proofs.Leads.{any_list}
 
 -- ---- what a variable is
 
@@ -61,8 +59,8 @@ sort_right bound =
     choice_right bound any_word is_content Any (λ o. (t : types.Type) × Any t × (o ≡ Some t)) (λ o. o ≡ None) sort_parts (content ⨟ λ t. done (Some t)) (key_word key.Condition ⨟ λ p. done None) sort_decides
     (made_right bound any_word Any (λ t. Word (Anywhere (kind.Word key.Content)) (type_parts t End)) sort_parts (λ t. Some t) content (λ t. refl) (content_right bound any_word))
     (reshaped bound any_word (λ o. o ≡ None) (λ o. o ≡ None) (λ o. Word (Anywhere (kind.Word key.Condition)) End) sort_parts (key_word key.Condition ⨟ λ p. done None)
-      (record { to = λ o f. f; from = λ o f. f; rows = λ o f. ap sort_parts (sym f) })
-      (word_right bound any_word (cue.Word key.Condition) (λ (o : Option types.Type). o ≡ None) (λ o. End) (λ p. done None) (λ p. done_right bound any_word (λ o. o ≡ None) None refl (λ o f. f))))
+    (record { to = λ o f. f; from = λ o f. f; rows = λ o f. ap sort_parts (sym f) })
+    (word_right bound any_word (cue.Word key.Condition) (λ (o : Option types.Type). o ≡ None) (λ o. End) (λ p. done None) (λ p. done_right bound any_word (λ o. o ≡ None) None refl (λ o f. f))))
 
 -- ---- kinds
 
@@ -77,7 +75,7 @@ one_kind bound out c k rows =
     reshaped bound out (IsKind k) (IsKind k) (λ x. Word (At (kind.Word c) x.1) End) kind_row (kind_of_one c k)
     (record { to = λ x f. f; from = λ x f. f; rows = λ x f. rows x.1 ∙ ap (λ (z : Kind). kind_parts z x.1) (sym f) })
     (word_at_right bound out (cue.Word c) (IsKind k) (λ x. x.1) (λ x. End) (λ p. done (k, p))
-      (λ p. done_right bound out (λ x. IsKind k x × (x.1 ≡ p)) (k, p) (refl, refl) (λ x f. ap (λ (z : Kind). (z, x.1)) f.0 ∙ ap (λ (q : Pos). (k, q)) f.1)))
+    (λ p. done_right bound out (λ x. IsKind k x × (x.1 ≡ p)) (k, p) (refl, refl) (λ x f. ap (λ (z : Kind). (z, x.1)) f.0 ∙ ap (λ (q : Pos). (k, q)) f.1)))
 
 abbrev second_word : Kind → Parts
 second_word InputOutput = Word (Anywhere (kind.Word key.Output)) End
@@ -96,25 +94,25 @@ heads_outside [] o = refl
 heads_outside (p ∷ v) o = output_off p.kind o
 
 two_kinds : (bound : ℕ) (c : Keyword) (a b : Kind) → ((p : Pos) → Word (At (kind.Word c) p) End ≡ kind_parts a p) → ((p : Pos) → Word (At (kind.Word c) p) (Word (Anywhere (kind.Word key.Output)) End) ≡ kind_parts b p)
-  → second_word a ≡ End → second_word b ≡ Word (Anywhere (kind.Word key.Output)) End → IsRight bound is_lower (one_of a b) kind_row (kind_or c a b)
+    → second_word a ≡ End → second_word b ≡ Word (Anywhere (kind.Word key.Output)) End → IsRight bound is_lower (one_of a b) kind_row (kind_or c a b)
 two_kinds bound c a b rows_a rows_b sa sb =
     reshaped bound is_lower (one_of a b) (one_of a b) (λ x. Word (At (kind.Word c) x.1) (second_word x.0)) kind_row (kind_or c a b)
     (record { to = λ x f. f; from = λ x f. f; rows = rows })
     (word_at_right bound is_lower (cue.Word c) (one_of a b) (λ x. x.1) (λ x. second_word x.0) (λ p. by_word (is_word key.Output) (key_word key.Output ⨟ λ q. done (b, p)) (done (a, p))) λ p.
-      choice_right bound is_lower (is_word key.Output) (λ x. one_of a b x × (x.1 ≡ p)) (λ x. (x.0 ≡ b) × (x.1 ≡ p)) (λ x. (x.0 ≡ a) × (x.1 ≡ p)) (λ x. second_word x.0) (key_word key.Output ⨟ λ q. done (b, p)) (done (a, p))
-      (record {
-        either = λ x f. either x p f.0 f.1;
-        from_yes = λ x f. (inr f.0, f.1);
-        from_no = λ x f. (inl f.0, f.1);
-        on = λ x w v f s o. let t = subst (λ (ps : Parts). AreSpelled ps w) (ap second_word f.0 ∙ sb) s in ap (λ (u : List Token). heads (is_word key.Output) (u ++ v)) t.2 ∙ ap (is_word key.Output) t.3;
-        off = λ x w v f s o. ap (λ (u : List Token). heads (is_word key.Output) (u ++ v)) (subst (λ (ps : Parts). AreSpelled ps w) (ap second_word f.0 ∙ sa) s) ∙ heads_outside v o;
-      })
-      (reshaped bound is_lower (λ x. (x.0 ≡ b) × (x.1 ≡ p)) (λ x. (x.0 ≡ b) × (x.1 ≡ p)) (λ x. Word (Anywhere (kind.Word key.Output)) End) (λ x. second_word x.0) (key_word key.Output ⨟ λ q. done (b, p))
-        (record { to = λ x f. f; from = λ x f. f; rows = λ x f. sym (ap second_word f.0 ∙ sb) })
-        (word_right bound is_lower (cue.Word key.Output) (λ (x : Kind × Pos). (x.0 ≡ b) × (x.1 ≡ p)) (λ x. End) (λ q. done (b, p)) (λ q. done_right bound is_lower (λ x. (x.0 ≡ b) × (x.1 ≡ p)) (b, p) (refl, refl) (pair_is b p))))
-      (reshaped bound is_lower (λ x. (x.0 ≡ a) × (x.1 ≡ p)) (λ x. (x.0 ≡ a) × (x.1 ≡ p)) (λ x. End) (λ x. second_word x.0) (done (a, p))
-        (record { to = λ x f. f; from = λ x f. f; rows = λ x f. sym (ap second_word f.0 ∙ sa) })
-        (done_right bound is_lower (λ x. (x.0 ≡ a) × (x.1 ≡ p)) (a, p) (refl, refl) (pair_is a p))))
+    choice_right bound is_lower (is_word key.Output) (λ x. one_of a b x × (x.1 ≡ p)) (λ x. (x.0 ≡ b) × (x.1 ≡ p)) (λ x. (x.0 ≡ a) × (x.1 ≡ p)) (λ x. second_word x.0) (key_word key.Output ⨟ λ q. done (b, p)) (done (a, p))
+    (record {
+      either = λ x f. either x p f.0 f.1;
+      from_yes = λ x f. (inr f.0, f.1);
+      from_no = λ x f. (inl f.0, f.1);
+      on = λ x w v f s o. let t = subst (λ (ps : Parts). AreSpelled ps w) (ap second_word f.0 ∙ sb) s in ap (λ (u : List Token). heads (is_word key.Output) (u ++ v)) t.2 ∙ ap (is_word key.Output) t.3;
+      off = λ x w v f s o. ap (λ (u : List Token). heads (is_word key.Output) (u ++ v)) (subst (λ (ps : Parts). AreSpelled ps w) (ap second_word f.0 ∙ sa) s) ∙ heads_outside v o;
+    })
+    (reshaped bound is_lower (λ x. (x.0 ≡ b) × (x.1 ≡ p)) (λ x. (x.0 ≡ b) × (x.1 ≡ p)) (λ x. Word (Anywhere (kind.Word key.Output)) End) (λ x. second_word x.0) (key_word key.Output ⨟ λ q. done (b, p))
+    (record { to = λ x f. f; from = λ x f. f; rows = λ x f. sym (ap second_word f.0 ∙ sb) })
+    (word_right bound is_lower (cue.Word key.Output) (λ (x : Kind × Pos). (x.0 ≡ b) × (x.1 ≡ p)) (λ x. End) (λ q. done (b, p)) (λ q. done_right bound is_lower (λ x. (x.0 ≡ b) × (x.1 ≡ p)) (b, p) (refl, refl) (pair_is b p))))
+    (reshaped bound is_lower (λ x. (x.0 ≡ a) × (x.1 ≡ p)) (λ x. (x.0 ≡ a) × (x.1 ≡ p)) (λ x. End) (λ x. second_word x.0) (done (a, p))
+    (record { to = λ x f. f; from = λ x f. f; rows = λ x f. sym (ap second_word f.0 ∙ sa) })
+    (done_right bound is_lower (λ x. (x.0 ≡ a) × (x.1 ≡ p)) (a, p) (refl, refl) (pair_is a p))))
   where
     pair_is : (k : Kind) (p : Pos) (x : Kind × Pos) → (x.0 ≡ k) × (x.1 ≡ p) → x ≡ (k, p)
     pair_is k p x f = ap (λ (z : Kind). (z, x.1)) f.0 ∙ ap (λ (q : Pos). (k, q)) f.1

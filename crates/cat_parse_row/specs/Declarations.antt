@@ -17,7 +17,7 @@ use Rattle.cat_tree.specs.declared.program.Variable.{Variable}
 use Rattle.cat_tree.specs.declared.program.Variable.TheVariants as variable
 use Rattle.cat_parse_row.specs.declared.cue.Cue.{Cue}
 use Rattle.cat_parse_row.specs.declared.cue.Cue.TheVariants as cue
-use Rattle.cat_parse_row.specs.Reader.{Reader, ◌⨟◌, done, by_word, both, optional, many, some}
+use Rattle.cat_parse_row.specs.Reader.{Reader, ◌⨟◌, done, by_word, both, optional, many}
 use Rattle.cat_parse_row.specs.Cues.{cue_is, «word», lower, upper}
 use Rattle.cat_parse_row.specs.Types.{a_type}
 

@@ -6,3 +6,5 @@ pub mod Declarations
 pub mod Leads
 pub mod Uses
 pub mod Programs
+pub mod Exactly
+pub mod Places

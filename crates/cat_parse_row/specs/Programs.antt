@@ -1,7 +1,6 @@
 -- The reader of programs, over a reader of expressions.
-use Rattle.std.specs.Prelude.{Bool, true, false, List, [], ◌∷◌, Option}
+use Rattle.std.specs.Prelude.{Bool, true, false, List, [], ◌∷◌}
 use Rattle.cat_pos.specs.declared.pos.Pos.{Pos}
-use Rattle.cat_lex.specs.declared.token.Token.{Token}
 use Rattle.cat_lex.specs.declared.token.TokenKind.{TokenKind}
 use Rattle.cat_lex.specs.declared.token.TokenKind.TheVariants as kind
 use Rattle.cat_lex.specs.declared.words.Keyword.{Keyword}
@@ -12,15 +11,14 @@ use Rattle.cat_tree.specs.declared.expression.Node.{Node}
 use Rattle.cat_tree.specs.declared.program.FieldItem.{FieldItem}
 use Rattle.cat_tree.specs.declared.program.CaseItem.{CaseItem}
 use Rattle.cat_tree.specs.declared.program.Variable.{Variable}
-use Rattle.cat_tree.specs.declared.program.Use.{Use}
 use Rattle.cat_tree.specs.declared.program.Block.{Block}
 use Rattle.cat_tree.specs.declared.program.Item.{Item}
 use Rattle.cat_tree.specs.declared.program.Item.TheVariants as item
 use Rattle.cat_tree.specs.declared.program.Tree.{Tree}
 use Rattle.cat_parse_row.specs.declared.cue.Cue.TheVariants as cue
-use Rattle.cat_parse_row.specs.Reader.{Outcome, Reader, Fails, Reads, ◌⨟◌, done, by_word, optional, many, some}
+use Rattle.cat_parse_row.specs.Reader.{Reader, Fails, Reads, ◌⨟◌, done, by_word, optional, many, some}
 use Rattle.cat_parse_row.specs.Cues.{cue_is, «word», upper}
-use Rattle.cat_parse_row.specs.Declarations.{key_word, is_word, is_lower, field, a_case, a_variable}
+use Rattle.cat_parse_row.specs.Declarations.{key_word, is_word, field, a_case, a_variable}
 use Rattle.cat_parse_row.specs.Uses.{is_use, is_item, is_under, condition, a_use}
 
 -- the words of a declaration around what it declares

@@ -1,5 +1,5 @@
 -- Readers of lists of tokens, and how they are put together.
-use Rattle.std.specs.Prelude.{Bool, true, false, if◌then◌else◌, ℕ, zero, suc, List, [], ◌∷◌, length, Option, Some, None}
+use Rattle.std.specs.Prelude.{Bool, false, if◌then◌else◌, ℕ, zero, suc, List, [], ◌∷◌, length, Option, Some, None}
 use Rattle.cat_lex.specs.declared.token.Token.{Token}
 use Rattle.cat_lex.specs.declared.token.TokenKind.{TokenKind}
 

@@ -1,5 +1,5 @@
 -- The reader of a type.
-use Rattle.std.specs.Prelude.{Bool, false, if◌then◌else◌, ℕ, suc, List, [], ◌∷◌, Option, Some, None}
+use Rattle.std.specs.Prelude.{Bool, false, if◌then◌else◌, ℕ, suc, [], ◌∷◌, Option, Some, None}
 use Rattle.cat_pos.specs.declared.pos.Pos.{Pos}
 use Rattle.cat_lex.specs.declared.token.Token.{Token}
 use Rattle.cat_lex.specs.declared.token.TokenKind.{TokenKind}

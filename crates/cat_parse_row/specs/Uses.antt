@@ -1,5 +1,5 @@
 -- The readers of what a scope block holds, over a reader of expressions.
-use Rattle.std.specs.Prelude.{Bool, true, false, List, Option, Some, None}
+use Rattle.std.specs.Prelude.{Bool, true, false, Option}
 use Rattle.cat_pos.specs.declared.pos.Pos.{Pos}
 use Rattle.cat_lex.specs.declared.token.TokenKind.{TokenKind}
 use Rattle.cat_lex.specs.declared.token.TokenKind.TheVariants as kind

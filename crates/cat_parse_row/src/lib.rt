@@ -2,5 +2,17 @@
 #![tactic(auto)]
 
 mod cue;
+mod fields;
+mod heading;
+mod kinds;
+mod laws;
+mod stray;
+mod words;
 
 pub use cue::{Cue, cue_is};
+pub use fields::{a_case, called, field, kind, sort, typed_name};
+pub use heading::lead;
+pub use kinds::a_type;
+pub use laws::programs_are_read_exactly;
+pub use stray::Stray;
+pub use words::{is_lower, is_next, lower, upper, word};
