@@ -1,10 +1,10 @@
--- What arms, fields, arguments and calls must be for their types.
-use Rattle.std.specs.Prelude.{◌≡◌, ℕ, ◌&&◌, nat_eq, nat_le, Bool, true, false, not, IsTrue, List, [], ◌∷◌, ◌++◌, length, Option, Some, None, slice_get, if◌then◌else◌}
+-- What arms, fields and scope calls must be for their types.
+use Rattle.std.specs.Prelude.{◌≡◌, ℕ, ◌&&◌, nat_eq, nat_le, Bool, true, false, not, IsTrue, List, [], ◌∷◌, ◌++◌, length}
+use Rattle.std.specs.Prelude.{Option, Some, None, slice_get, if◌then◌else◌}
 use Rattle.cat_value.specs.declared.ty.Ty.{Ty}
 use Rattle.cat_value.specs.declared.decls.Decls.{Decls}
 use Rattle.cat_value.specs.declared.declaration.Field.{Field}
 use Rattle.cat_value.specs.declared.declaration.Enumeration.{Enumeration}
-use Rattle.cat_value.specs.declared.declaration.Kind.TheVariants as kind
 use Rattle.cat_value.specs.declared.declaration.ItemDecl.{ItemDecl}
 use Rattle.cat_value.specs.Inputs.{may_be_given}
 use Rattle.cat_value.specs.Declarations.{highest}
@@ -14,7 +14,7 @@ use Rattle.cat_scope.specs.declared.expr.ArmPattern.{ArmPattern}
 use Rattle.cat_scope.specs.declared.expr.ArmPattern.TheVariants as pattern
 use Rattle.cat_scope.specs.declared.expr.FieldValue.{FieldValue}
 use Rattle.cat_scope.specs.declared.expr.Arm.{Arm}
-use Rattle.cat_scope.specs.Names.{Names, all_differ, are_all_in, inputs_given, scope_items, output_at, is_function}
+use Rattle.cat_scope.specs.Names.{all_differ, are_all_in, inputs_given, scope_items}
 
 -- the numbers of some fields, as they are written
 abbrev pub numbers_in : List FieldValue → List ℕ
@@ -61,8 +61,10 @@ are_complete ds n arms = anything_is_last arms && all_differ (cases_of arms)
 -- the local names of an arm's body: an arm that binds a content is for a case that has one
 abbrev pub ArmLocals : Decls → ℕ → ArmPattern → List Ty → List Ty → Type 0
 ArmLocals ds n pattern.Anything locals inside = inside ≡ locals
-ArmLocals ds n (pattern.Case k false) locals inside = IsTrue (some_passes (λ content. true) (content_of ds n k)) × (inside ≡ locals)
-ArmLocals ds n (pattern.Case k true) locals inside = (t : Ty) × (content_of ds n k ≡ Some (Some t)) × (inside ≡ locals ++ t ∷ [])
+ArmLocals ds n (pattern.Case k false) locals inside =
+    IsTrue (some_passes (λ content. true) (content_of ds n k)) × (inside ≡ locals)
+ArmLocals ds n (pattern.Case k true) locals inside =
+    (t : Ty) × (content_of ds n k ≡ Some (Some t)) × (inside ≡ locals ++ t ∷ [])
 
 -- field k, where there is one
 abbrev pub field_at : Option (List Field) → ℕ → Option Field
@@ -80,25 +82,12 @@ field_type ds n k = type_in (field_at (fields_of ds n) k)
 
 -- each field of a structure is there once
 abbrev pub are_fields_of : Decls → ℕ → List ℕ → Bool
-are_fields_of ds n ks = some_passes (λ fields. nat_eq (length ks) (length fields) && are_all_in (length fields) ks) (fields_of ds n)
+are_fields_of ds n ks =
+    some_passes (λ fields. nat_eq (length ks) (length fields) && are_all_in (length fields) ks) (fields_of ds n)
 
 -- a type that is no higher than types may be
 abbrev pub is_low_type : Decls → Ty → Bool
 is_low_type ds t = nat_le (height_of ds t) highest
-
--- an item of a list that passes a test has a type
-abbrev pub IsItem : (ItemDecl → Bool) → List ItemDecl → ℕ → Ty → Type 0
-IsItem passes items k t = (i : ItemDecl) × (slice_get items k ≡ Some i) × IsTrue (passes i) × (t ≡ i.ty)
-
--- an item is a called scope, whose output k has a type
-abbrev pub IsCalledOutput : Names → ℕ → ℕ → Ty → Type 0
-IsCalledOutput names item k t =
-    (scope : ℕ) × (i : ItemDecl) × (o : ItemDecl) × (slice_get names.items item ≡ Some i) × (i.kind ≡ kind.Called scope)
-    × (output_at names.decls scope k ≡ Some o) × (t ≡ o.ty)
-
--- a function has parameters and a type
-abbrev pub IsFunction : Names → ℕ → List Ty → Ty → Type 0
-IsFunction names item params t = (i : ItemDecl) × (slice_get names.items item ≡ Some i) × IsTrue (is_function i) × (params ≡ i.params) × (t ≡ i.ty)
 
 -- a scope call gives each input that is no condition, and nothing twice
 abbrev pub are_call_fields : Decls → ℕ → List ℕ → Bool
@@ -112,7 +101,3 @@ given_type (Some item) = if may_be_given item.kind then Some item.ty else None
 -- the type of item k of a scope, where it may be given
 abbrev pub input_type : Decls → ℕ → ℕ → Option Ty
 input_type ds scope k = given_type (slice_get (scope_items ds scope) k)
-
--- output k of a scope has a type
-abbrev pub IsOutput : Decls → ℕ → ℕ → Ty → Type 0
-IsOutput ds scope k t = (o : ItemDecl) × (output_at ds scope k ≡ Some o) × (t ≡ o.ty)

@@ -1,6 +1,6 @@
--- Which expressions have which types: one rule a form. In all rules `ns` is what names stand for, and `ls` has the types
--- of the local names; p and q are places; a, b, c, e, l are expressions, l one of a list; n is the number of a type, and
--- k one of a field, a case, a local name or an output; t and u are types.
+-- Which expressions have which types: one rule a form. In all rules `ns` is what names stand for, and `ls` has the
+-- types of the local names; p and q are places; a, b, c, e, l are expressions, l one of a list; n is the number of a
+-- type, and k one of a field, a case, a local name or an output; t and u are types.
 use Rattle.std.specs.Prelude.{◌≡◌, ℕ, nat_le, true, IsTrue, List, [], ◌∷◌, ◌++◌, length, Option, Some, None, slice_get}
 use Rattle.cat_pos.specs.declared.pos.Pos.{Pos}
 use Rattle.cat_value.specs.declared.ty.Ty.{Ty}
@@ -20,7 +20,10 @@ use Rattle.cat_scope.specs.declared.expr.Expr.TheViews as expr
 use Rattle.cat_scope.specs.Literals.{literal_type, literal_fits}
 use Rattle.cat_scope.specs.Signatures.{Row, rows_of, taken_by, given_by, summed_type, compared_types}
 use Rattle.cat_scope.specs.Names.{Names, IsOneOf, is_plain}
-use Rattle.cat_scope.specs.Fitting.{numbers_in, are_complete, ArmLocals, field_type, are_fields_of, is_low_type, IsItem, IsCalledOutput, IsFunction, are_call_fields, input_type, IsOutput}
+use Rattle.cat_scope.specs.Fitting.{numbers_in, are_complete, ArmLocals, field_type, are_fields_of, is_low_type}
+use Rattle.cat_scope.specs.Naming.{IsItem}
+use Rattle.cat_scope.specs.Fitting.{are_call_fields, input_type}
+use Rattle.cat_scope.specs.Naming.{IsCalledOutput, IsFunction, IsOutput}
 
 mutual
   pub data HasType (ns : Names) : List Ty → Expr → Ty → Type 0 where
@@ -77,7 +80,8 @@ mutual
     -- a list of elements of one declared type, no more of them than fit, and no higher than types may be
     list : {ls : List Ty} {p : Pos} {es : List Expr} {t : Ty}
         → IsTrue (is_type ns.decls t) → IsTrue (is_low_type ns.decls (ty.List t))
-        → IsTrue (nat_le (length es) most_elements) → AllHaveType ns ls es t → HasType ns ls (expr.List p es) (ty.List t)
+        → IsTrue (nat_le (length es) most_elements) → AllHaveType ns ls es t
+        → HasType ns ls (expr.List p es) (ty.List t)
     -- `for all` elements a boolean
     for_all : {ls : List Ty} {p : Pos} {l test : Expr} (t : Ty)
         → HasType ns ls l (ty.List t) → HasType ns (ls ++ t ∷ []) test flat.Boolean

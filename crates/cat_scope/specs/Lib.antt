@@ -16,6 +16,7 @@ pub mod Running
 pub mod Outcomes
 pub mod Names
 pub mod Fitting
+pub mod Naming
 pub mod Signatures
 pub mod Literals
 pub mod HasType

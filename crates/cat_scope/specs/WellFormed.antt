@@ -1,5 +1,7 @@
--- What holds of every program: it is well typed, its orders are those of its dependencies, and no chain of calls is long.
-use Rattle.std.specs.Prelude.{◌≡◌, ℕ, zero, suc, ◌+◌, Bool, true, false, not, ◌&&◌, ◌||◌, IsTrue, List, [], ◌∷◌, length, Option, Some, None, slice_get}
+-- What holds of every program: it is well typed, its orders are those of its dependencies, and no chain of calls is
+-- long.
+use Rattle.std.specs.Prelude.{◌≡◌, ℕ, zero, suc, ◌+◌, Bool, true, false, not, ◌&&◌, ◌||◌, IsTrue, List, [], ◌∷◌, length}
+use Rattle.std.specs.Prelude.{Option, Some, None}
 use Rattle.cat_value.specs.declared.ty.Ty.{Ty}
 use Rattle.cat_value.specs.declared.ty.Ty.TheVariants.{Boolean}
 use Rattle.cat_value.specs.declared.ty.Ty.TheViews.{out-Ty}
@@ -9,7 +11,6 @@ use Rattle.cat_value.specs.declared.declaration.Kind.TheVariants as kind
 use Rattle.cat_value.specs.declared.declaration.ItemDecl.{ItemDecl}
 use Rattle.cat_value.specs.declared.declaration.Scope.{Scope}
 use Rattle.cat_value.specs.Declarations.{is_boolean}
-use Rattle.cat_value.specs.Inputs.{must_be_given, may_be_given}
 use Rattle.cat_order.specs.Order.{IsOrder}
 use Rattle.cat_scope.specs.declared.expr.Expr.{Expr}
 use Rattle.cat_scope.specs.declared.defs.Def.{Def}
@@ -17,7 +18,8 @@ use Rattle.cat_scope.specs.declared.defs.Assertion.{Assertion}
 use Rattle.cat_scope.specs.declared.defs.SourcePart.{SourcePart}
 use Rattle.cat_scope.specs.declared.defs.SourcePart.TheVariants as part
 use Rattle.cat_scope.specs.declared.defs.Body.{Body}
-use Rattle.cat_scope.specs.Names.{AllHave, Names, has_none, is_called, scope_items}
+use Rattle.cat_scope.specs.Names.{AllHave, Names, has_none}
+use Rattle.cat_scope.specs.Naming.{IsTargetAt}
 use Rattle.cat_scope.specs.HasType.{HasType}
 use Rattle.cat_scope.specs.Chains.{HasShortChains}
 use Rattle.cat_scope.specs.Expected.{body_placed}
@@ -31,18 +33,6 @@ is_internal _ = false
 -- a function is internal, and a condition is a boolean
 abbrev pub is_placed : ItemDecl → Bool
 is_placed item = (has_none item.params || is_internal item.kind) && (not item.condition || is_boolean (out-Ty item.ty))
-
--- a variable that definitions may be of
-abbrev pub is_defined : ItemDecl → Bool
-is_defined item = not (is_called item.kind) && not (must_be_given item.kind)
-
--- a target has parameters and a type: a variable of the scope, or an input or a context of a called scope
-abbrev pub IsTargetAt : Names → ℕ → Option ℕ → List Ty → Ty → Type 0
-IsTargetAt names item None params t =
-    (i : ItemDecl) × (slice_get names.items item ≡ Some i) × IsTrue (is_defined i) × (params ≡ i.params) × (t ≡ i.ty)
-IsTargetAt names item (Some inner) params t =
-    (i : ItemDecl) × (scope : ℕ) × (j : ItemDecl) × (slice_get names.items item ≡ Some i) × (i.kind ≡ kind.Called scope)
-    × (slice_get (scope_items names.decls scope) inner ≡ Some j) × IsTrue (may_be_given j.kind) × (params ≡ []) × (t ≡ j.ty)
 
 -- a condition, where there is one, is boolean under the parameters
 abbrev pub ConditionTyped : Names → List Ty → Option Expr → Type 0
@@ -98,7 +88,8 @@ abbrev pub AreBodiesOf : Decls → ℕ → List Scope → List Body → Type 0
 AreBodiesOf decls n [] [] = Unit {0}
 AreBodiesOf decls n [] (body ∷ bodies) = ⊥
 AreBodiesOf decls n (scope ∷ scopes) [] = ⊥
-AreBodiesOf decls n (scope ∷ scopes) (body ∷ bodies) = IsBodyOf decls n scope body × AreBodiesOf decls (n + 1) scopes bodies
+AreBodiesOf decls n (scope ∷ scopes) (body ∷ bodies) =
+    IsBodyOf decls n scope body × AreBodiesOf decls (n + 1) scopes bodies
 
 -- declarations with a body for each scope and the order of the scopes
 pub record IsWellFormed (decls : Decls) (bodies : List Body) (scope_order : List ℕ) : Type 0 where

@@ -27,7 +27,8 @@ use Rattle.cat_scope.specs.Operators.{convert, operate}
 use Rattle.cat_scope.specs.Lists.{zero_of, mapped, filtered, contained, summed}
 use Rattle.cat_scope.specs.Names.{Names, IsOneOf, is_plain}
 use Rattle.cat_scope.specs.Signatures.{Row, rows_of, taken_by, given_by, summed_type, compared_types}
-use Rattle.cat_scope.specs.Fitting.{numbers_in, are_complete, field_type, are_fields_of, IsItem, IsCalledOutput, IsFunction, are_call_fields, input_type, IsOutput}
+use Rattle.cat_scope.specs.Fitting.{numbers_in, are_complete, field_type, are_fields_of, are_call_fields, input_type}
+use Rattle.cat_scope.specs.Naming.{IsItem, IsCalledOutput, IsFunction, IsOutput}
 use Rattle.cat_scope.specs.HasType.{HasType, AllHaveType, EachHasType, FieldsHaveType, ArmsHaveType}
 use Rattle.cat_scope.specs.HasType as typed
 use Rattle.cat_scope.specs.Names.{AllHave}

@@ -1,5 +1,6 @@
 -- Programs that are not well formed: one that is ill typed, one in a wrong order, and one whose calls are not listed.
-use Rattle.std.proofs.Common.{◌≡◌, arith, ℕ, true, IsTrue, List, [], ◌∷◌, None, Some, sym, ap, ◌∙◌, subst, rules, true≢false}
+use Rattle.std.proofs.Common.{◌≡◌, arith, ℕ, true, IsTrue, List, [], ◌∷◌, None, Some, sym, ap, ◌∙◌, subst, rules}
+use Rattle.std.proofs.Common.{true≢false}
 use Rattle.cat_pos.specs.declared.pos.Pos.{Pos}
 use Rattle.cat_value.specs.declared.ty.Ty.{Ty}
 use Rattle.cat_value.specs.declared.ty.Ty.TheVariants as flat
@@ -38,11 +39,15 @@ some_is : {A : Type 0} {a b : A} → Some a ≡ Some b → a ≡ b
 some_is e = cc
 
 -- `true` is no integer, whatever it stands in
-true_is_no_integer : (ns : Names) (ls : List Ty) (p : Pos) → ¬ HasType ns ls (leaf.Literal p (literal.Boolean true)) flat.Integer
+true_is_no_integer : (ns : Names) (ls : List Ty) (p : Pos)
+    → ¬ HasType ns ls (leaf.Literal p (literal.Boolean true)) flat.Integer
 true_is_no_integer ns ls p typing =
     let parts : PartsTyped ns ls (Expr-F.Literal p (literal.Boolean true)) flat.Integer =
-    subst (λ x. PartsTyped ns ls x flat.Integer) (expr.outs-Literal p (literal.Boolean true)) (parts_typed ns ls (leaf.Literal p (literal.Boolean true)) flat.Integer typing) in
-    true≢false (sym (ap is_boolean ty.outs-Boolean) ∙ sym (ap (λ (t : Ty). is_boolean (out-Ty t)) parts.1) ∙ ap is_boolean ty.outs-Integer)
+    subst (λ x. PartsTyped ns ls x flat.Integer) (expr.outs-Literal p (literal.Boolean true))
+    (parts_typed ns ls (leaf.Literal p (literal.Boolean true)) flat.Integer typing) in
+    true≢false
+    (sym (ap is_boolean ty.outs-Boolean) ∙ sym (ap (λ (t : Ty). is_boolean (out-Ty t)) parts.1)
+     ∙ ap is_boolean ty.outs-Integer)
 
 -- `definition x equals true`, where x is an output that is an integer
 abbrev wrong : Def
@@ -66,9 +71,11 @@ one_names = record { decls = one_decls; items = x_out ∷ [] }
 
 wrong_is_ill_typed : ¬ DefTyped one_names 0 wrong
 wrong_is_ill_typed is =
-    let declared : Some x_out ≡ Some is.target.0 = is.target.1 in
-    let an_integer : is.ty ≡ flat.Integer = is.target.4 ∙ ap (λ (i : ItemDecl). i.ty) (sym (some_is declared)) in
-    true_is_no_integer one_names is.params (at 5 23) (subst (λ (t : Ty). HasType one_names is.params (leaf.Literal (at 5 23) (literal.Boolean true)) t) an_integer is.consequence)
+    let declared : Some x_out ≡ Some is.target.decl = is.target.decl_is in
+    let an_integer : is.ty ≡ flat.Integer = is.target.ty_is ∙ ap (λ (i : ItemDecl). i.ty) (sym (some_is declared)) in
+    true_is_no_integer one_names is.params (at 5 23)
+    (subst (λ (t : Ty). HasType one_names is.params (leaf.Literal (at 5 23) (literal.Boolean true)) t)
+     an_integer is.consequence)
 
 an_ill_typed_program_is_not_well_formed : ¬ IsWellFormed one_decls (body (wrong ∷ []) (0 ∷ []) ∷ []) (0 ∷ [])
 an_ill_typed_program_is_not_well_formed is = wrong_is_ill_typed is.bodies_are.0.defs.0
@@ -80,29 +87,33 @@ one_list e = cc
 no_order : ¬ IsOrder ([] ∷ (0 ∷ []) ∷ []) (1 ∷ 0 ∷ [])
 unfolding order_of is_ready
 no_order is =
-    let computed : order_of ([] ∷ (0 ∷ []) ∷ []) ≡ Some (1 ∷ 0 ∷ []) = (order_of-iff_IsOrder ([] ∷ (0 ∷ []) ∷ []) (1 ∷ 0 ∷ [])).1 is in
+    let computed : order_of ([] ∷ (0 ∷ []) ∷ []) ≡ Some (1 ∷ 0 ∷ []) =
+        (order_of-iff_IsOrder ([] ∷ (0 ∷ []) ∷ []) (1 ∷ 0 ∷ [])).1 is in
     absurd (omega (arith, one_list computed))
 
 depend : scope_dependencies calling_scopes calling_bodies ≡ [] ∷ (0 ∷ []) ∷ []
 depend = search (rules, namings)
 
 a_caller_does_not_stand_before_the_called : ¬ IsWellFormed decls calling_bodies (1 ∷ 0 ∷ [])
-a_caller_does_not_stand_before_the_called is = no_order (subst (λ (deps : List (List ℕ)). IsOrder deps (1 ∷ 0 ∷ [])) depend is.order)
+a_caller_does_not_stand_before_the_called is =
+    no_order (subst (λ (deps : List (List ℕ)). IsOrder deps (1 ∷ 0 ∷ [])) depend is.order)
 
 -- S calls T, and says that it calls none
+abbrev silent : Body
+silent = body (def (variable 1 2) None except.No None (leaf.Output (at 13 23) 1 0) (at 13 3) ∷ []) (0 ∷ 1 ∷ 2 ∷ [])
+
 abbrev silent_bodies : List Body
-silent_bodies =
-    body (def (variable 0 0) None except.No None (whole 7) (at 10 3) ∷ []) (0 ∷ [])
-    ∷ body (def (variable 1 2) None except.No None (leaf.Output (at 13 23) 1 0) (at 13 3) ∷ []) (0 ∷ 1 ∷ 2 ∷ []) ∷ []
+silent_bodies = body (def (variable 0 0) None except.No None (whole 7) (at 10 3) ∷ []) (0 ∷ []) ∷ silent ∷ []
 
 no_list : {A : Type 0} {a : A} {more : List A} → [] ≡ a ∷ more → ⊥
 no_list e = absurd (cc)
 
-listed : {decls : Decls} {n : ℕ} {scope : Scope} {body : Body} → IsBodyOf decls n scope body → body.calls ≡ once [] (calls_in scope.items body)
+listed : {decls : Decls} {n : ℕ} {scope : Scope} {body : Body} → IsBodyOf decls n scope body
+    → body.calls ≡ once [] (calls_in scope.items body)
 listed is = is.calls
 
 a_call_is_listed : ¬ IsWellFormed decls silent_bodies (0 ∷ 1 ∷ [])
 a_call_is_listed is =
-    let said : [] ≡ once [] (calls_in s_items (body (def (variable 1 2) None except.No None (leaf.Output (at 13 23) 1 0) (at 13 3) ∷ []) (0 ∷ 1 ∷ 2 ∷ []))) = listed is.bodies_are.1.0 in
-    let done : once [] (calls_in s_items (body (def (variable 1 2) None except.No None (leaf.Output (at 13 23) 1 0) (at 13 3) ∷ []) (0 ∷ 1 ∷ 2 ∷ []))) ≡ 0 ∷ [] = search (rules, namings) in
+    let said : [] ≡ once [] (calls_in s_items silent) = listed is.bodies_are.1.0 in
+    let done : once [] (calls_in s_items silent) ≡ 0 ∷ [] = search (rules, namings) in
     no_list (said ∙ done)

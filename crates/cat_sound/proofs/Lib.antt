@@ -3,6 +3,7 @@ mod WellFormedCalls
 mod WellFormedNested
 mod WellFormedChain
 mod ProgramSamples
+mod TypeSamples
 mod IllFormed
 pub mod TargetLaws
 pub mod Cycles
@@ -40,4 +41,5 @@ mod SoundSamples
 pub mod HeldLaws
 pub mod GroupLaws
 pub mod OneType
+pub mod LowTypes
 pub mod Exported

@@ -214,8 +214,9 @@ module _ (allowed : Allowed) (ds : Decls) (scoped : Scoped) (sound : IsSound all
     any_ready : (values : Items) → AllHave (DoneAt ns values) (backwards scoped.body.order) → (k : ℕ) → IsReady allowed ns (at_end values) k
     any_ready values h k = record {
       variable = λ t is. (all_ready values h k (slice_get_within scoped.items k is.0 is.1)).variable t is;
-      output = λ n t is. (all_ready values h k (slice_get_within scoped.items k is.1 is.3)).output n t is;
-      function = λ ps t vs is are. (all_ready values h k (slice_get_within scoped.items k is.0 is.1)).function ps t vs is are;
+      output = λ n t is. (all_ready values h k (slice_get_within scoped.items k is.called is.called_is)).output n t is;
+      function = λ ps t vs is are.
+          (all_ready values h k (slice_get_within scoped.items k is.decl is.decl_is)).function ps t vs is are;
     }
 
     everywhere : (P : ℕ → Type 0) → ((k : ℕ) → P k) → (ks : List ℕ) → AllHave P ks

@@ -16,14 +16,15 @@ use Rattle.cat_scope.specs.Replies.{on_one, known, done}
 use Rattle.cat_scope.specs.Runs.{Run, plain, gives, and_then}
 use Rattle.cat_scope.specs.Readings.{parts_in}
 use Rattle.cat_scope.specs.Names.{Names, AllHave, is_in, items_in, scope_items, outputs_in, output_at, is_called, has_none, is_plain, is_function}
-use Rattle.cat_scope.specs.Fitting.{IsItem, IsCalledOutput, IsFunction}
+use Rattle.cat_scope.specs.Naming.{IsItem, IsCalledOutput, IsFunction}
 use Rattle.cat_scope.specs.Judging.{Judged, decided}
 use Rattle.cat_scope.specs.Targets.{same_inner, same_target, condition_of, absent, value_or}
 use Rattle.cat_scope.specs.Eval.{Env, eval}
 use Rattle.cat_scope.specs.Composed.{part}
 use Rattle.cat_scope.specs.Orders.{in_condition, in_def, in_defs_of, called_by_items}
 use Rattle.cat_scope.specs.Mentions.{items_named, scopes_named}
-use Rattle.cat_scope.specs.WellFormed.{is_internal, is_defined, IsTargetAt, ConditionTyped, DefTyped, AssertionTyped}
+use Rattle.cat_scope.specs.WellFormed.{is_internal, ConditionTyped, DefTyped, AssertionTyped}
+use Rattle.cat_scope.specs.Naming.{is_defined, IsInner, IsTargetAt}
 use Rattle.cat_scope.specs.Calls.{Items, Scoped, variable, variable_of_called, items_of, env_of, judged, variable_value, call}
 use Rattle.cat_scope.specs.ItemValues.{passed_input, called_value, defined_value}
 use Rattle.cat_sound.specs.Endings.{Allowed, Ended, EndsIn, ResultsIn, IsOf, AreOf, AreOutputsOf, IsReady, IsCallable, IsEnvOf}
@@ -50,13 +51,19 @@ same_called a b e = ap (called_or a) e
 
 unique_target : (ns : Names) (item : ℕ) (inner : Option ℕ) (ps qs : List Ty) (t u : Ty) → IsTargetAt ns item inner ps t → IsTargetAt ns item inner qs u → (ps ≡ qs) × (t ≡ u)
 unique_target ns item None ps qs t u h g =
-    let same : h.0 ≡ g.0 = same_some h.0 g.0 (sym h.1 ∙ g.1) in
-    (h.3 ∙ ap (λ (i : ItemDecl). i.params) same ∙ sym g.3, h.4 ∙ ap (λ (i : ItemDecl). i.ty) same ∙ sym g.4)
+    let same : h.decl ≡ g.decl = same_some h.decl g.decl (sym h.decl_is ∙ g.decl_is) in
+    (
+      h.params_are ∙ ap (λ (i : ItemDecl). i.params) same ∙ sym g.params_are,
+      h.ty_is ∙ ap (λ (i : ItemDecl). i.ty) same ∙ sym g.ty_is,
+    )
 unique_target ns item (Some n) ps qs t u h g =
-    let same : h.0 ≡ g.0 = same_some h.0 g.0 (sym h.3 ∙ g.3) in
-    let scope : h.1 ≡ g.1 = same_called h.1 g.1 (sym h.4 ∙ ap (λ (i : ItemDecl). i.kind) same ∙ g.4) in
-    let inner : h.2 ≡ g.2 = same_some h.2 g.2 (sym h.5 ∙ ap (λ s. slice_get (scope_items ns.decls s) n) scope ∙ g.5) in
-    (h.7 ∙ sym g.7, h.8 ∙ ap (λ (i : ItemDecl). i.ty) inner ∙ sym g.8)
+    let same : h.called ≡ g.called = same_some h.called g.called (sym h.called_is ∙ g.called_is) in
+    let scope : h.scope ≡ g.scope =
+        same_called h.scope g.scope (sym h.kind_is ∙ ap (λ (i : ItemDecl). i.kind) same ∙ g.kind_is) in
+    let inner : h.decl ≡ g.decl =
+        same_some h.decl g.decl
+        (sym h.decl_is ∙ ap (λ s. slice_get (scope_items ns.decls s) n) scope ∙ g.decl_is) in
+    (h.params_are ∙ sym g.params_are, h.ty_is ∙ ap (λ (i : ItemDecl). i.ty) inner ∙ sym g.ty_is)
 
 inner_is : (a b : Option ℕ) → IsTrue (same_inner a b) → a ≡ b
 inner_is None None h = refl
@@ -234,7 +241,7 @@ module _ (allowed : Allowed) (ds : Decls) (scoped : Scoped) (sound : IsSound all
 
     own-judged : (item : ℕ) (decl : ItemDecl) → slice_get scoped.items item ≡ Some decl → IsTrue (is_defined decl) → AreOf ds decl.params arguments → AllHave (IsReady allowed ns (env calls values)) (needs item)
         → JudgingEnds item None decl.params decl.ty
-    own-judged item decl is defined are ready = judged-ends item None decl.params decl.ty (decl, is, defined, refl, refl) are ready
+    own-judged item decl is defined are ready = judged-ends item None decl.params decl.ty (record { decl = decl; decl_is = is; defined = defined; params_are = refl; ty_is = refl }) are ready
 
   -- ---- functions
 
@@ -278,15 +285,16 @@ module _ (allowed : Allowed) (ds : Decls) (scoped : Scoped) (sound : IsSound all
     where
       by : (b : Bool) → nat_eq item f ≡ b → ((g : ℕ) → IsTrue (is_in g before) → FunctionEnds values before g) → FunctionEnds values (item ∷ before) f
       by true e rest ps t vs is are =
-          let here : slice_get scoped.items item ≡ Some is.0 = ap (slice_get scoped.items) (same_number item f e) ∙ is.1 in
+          let here : slice_get scoped.items item ≡ Some is.decl = ap (slice_get scoped.items) (same_number item f e) ∙ is.decl_is in
           let ready = all_more (λ k. IsTrue (is_in k before)) (IsReady allowed ns (env (call scoped values before) values)) (needs item) behind.1 (ready-of values before h.1 rest) in
-          ends_as allowed (IsOf ds t) (call scoped values (item ∷ before) f vs) (variable_value (variable scoped item) (Some is.0) judging)
+          ends_as allowed (IsOf ds t) (call scoped values (item ∷ before) f vs) (variable_value (variable scoped item) (Some is.decl) judging)
           (ap (λ b. if b then variable_value (variable scoped item) (slice_get scoped.items item) judging else call scoped values before f vs) e
           ∙ ap (λ o. variable_value (variable scoped item) o judging) here)
-          (subst (λ u. EndsIn allowed (IsOf ds u) (variable_value (variable scoped item) (Some is.0) judging)) (sym is.4)
-          (variable_value-ends (call scoped values before) values vs item is.0 judging here
-          (own-judged (call scoped values before) values vs item is.0 here (function_defined is.0 (all_at Placed scoped.items item is.0 sound.placed here) is.2)
-          (subst (λ us. AreOf ds us vs) is.3 are) ready).ends))
+          (subst (λ u. EndsIn allowed (IsOf ds u) (variable_value (variable scoped item) (Some is.decl) judging)) (sym is.ty_is)
+          (variable_value-ends (call scoped values before) values vs item is.decl judging here
+          (own-judged (call scoped values before) values vs item is.decl here
+          (function_defined is.decl (all_at Placed scoped.items item is.decl sound.placed here) is.function)
+          (subst (λ us. AreOf ds us vs) is.params_are are) ready).ends))
         where
           judging : Judged Value
           judging = judged scoped (call scoped values before) values vs (variable scoped item)
@@ -306,7 +314,8 @@ module _ (allowed : Allowed) (ds : Decls) (scoped : Scoped) (sound : IsSound all
     decl_is i is = same_some i decl (sym is ∙ at)
 
     no_output : {A : Type 0} → is_called decl.kind ≡ false → (k : ℕ) (t : Ty) → IsCalledOutput ns item k t → A
-    no_output free k t is = absurd (true≢false (sym (called_is is.1.kind is.0 is.4) ∙ ap (λ (i : ItemDecl). is_called i.kind) (decl_is is.1 is.3) ∙ free))
+    no_output free k t is = absurd
+        (true≢false (sym (called_is is.called.kind is.scope is.kind_is) ∙ ap (λ (i : ItemDecl). is_called i.kind) (decl_is is.called is.called_is) ∙ free))
 
     pub done-variable : (v : Value) → is_called decl.kind ≡ false → IsOf ds decl.ty v → IsDone ns item (Some v)
     done-variable v free typed = record {
@@ -324,12 +333,14 @@ module _ (allowed : Allowed) (ds : Decls) (scoped : Scoped) (sound : IsSound all
     done-called s outputs callee is_kind are = record {
       variable = λ t is. absurd (not_both (is_called is.0.kind) (both (not (is_called is.0.kind)) (has_none is.0.params) is.2).0 (ap (λ (i : ItemDecl). is_called i.kind) (decl_is is.0 is.1) ∙ called_is decl.kind s is_kind));
       output = λ k t is.
-          let scope_is : is.0 ≡ s = same_called is.0 s (sym is.4 ∙ ap (λ (i : ItemDecl). i.kind) (decl_is is.1 is.3) ∙ is_kind) in
-          let there : slice_get (outputs_in callee.scope.items) k ≡ Some is.2 =
-          sym (ap (λ o. slice_get (outputs_in (items_in o)) k) callee.there) ∙ sym (ap (λ x. output_at ds x k) scope_is) ∙ is.5 in
+          let scope_is : is.scope ≡ s =
+              same_called is.scope s (sym is.kind_is ∙ ap (λ (i : ItemDecl). i.kind) (decl_is is.called is.called_is) ∙ is_kind) in
+          let there : slice_get (outputs_in callee.scope.items) k ≡ Some is.output =
+          sym (ap (λ o. slice_get (outputs_in (items_in o)) k) callee.there) ∙ sym (ap (λ x. output_at ds x k) scope_is) ∙ is.output_is in
           result_as (IsOf ds t) (part k (value.Structure outputs)) (known (slice_get outputs k))
           (ap (λ r. on_one r (λ vs. known (slice_get vs k))) (ap parts_in (value.outs-Structure outputs)))
-          (subst (λ u. ResultsIn (IsOf ds u) (known (slice_get outputs k))) (sym is.6) (output-ends ds callee.scope.items outputs k is.2 are there));
+          (subst (λ u. ResultsIn (IsOf ds u) (known (slice_get outputs k))) (sym is.ty_is)
+          (output-ends ds callee.scope.items outputs k is.output are there));
     }
 
     module _ (values : Items) (before : List ℕ) (behind : Behind (length scoped.items) needs before) (h : AllHave (DoneAt ns values) before) (have : AllIn before (needs item)) where
@@ -365,7 +376,18 @@ module _ (allowed : Allowed) (ds : Decls) (scoped : Scoped) (sound : IsSound all
           inner-decided : (j : ℕ) (i : ItemDecl) → slice_get (scope_items ds s) (0 + j) ≡ Some i → IsTrue (may_be_given i.kind)
               → EndsIn allowed (IsHeldOf (allowed.may_stop (variable_of_called scoped item (0 + j)) || may_be_empty ns item (Some (0 + j))) ds i.ty) (decided (variable_of_called scoped item (0 + j)) (judged_at (0 + j)))
           inner-decided j i is may =
-              let judging = judged-ends (call scoped values before) values [] item (Some (0 + j)) [] i.ty (decl, s, i, at, is_kind, is, may, refl, refl) tt readies in
+              let inner : IsInner ns item (0 + j) [] i.ty = record {
+                called = decl;
+                scope = s;
+                decl = i;
+                called_is = at;
+                kind_is = is_kind;
+                decl_is = is;
+                given = may;
+                params_are = refl;
+                ty_is = refl;
+              } in
+              let judging = judged-ends (call scoped values before) values [] item (Some (0 + j)) [] i.ty inner tt readies in
               decided-ends allowed (IsHeldOf (allowed.may_stop (variable_of_called scoped item (0 + j)) || may_be_empty ns item (Some (0 + j))) ds i.ty) (variable_of_called scoped item (0 + j)) (judged_at (0 + j)) judging.ends (judging.stands refl)
 
           zero_plus : (j : ℕ) → 0 + j ≡ j

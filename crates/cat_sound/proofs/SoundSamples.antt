@@ -15,7 +15,7 @@ use Rattle.cat_scope.specs.Judging.{Held}
 use Rattle.cat_scope.specs.Targets.{judge_target}
 use Rattle.cat_scope.specs.Eval.{Env, eval}
 use Rattle.cat_scope.specs.Mentions.{items_named, scopes_named}
-use Rattle.cat_scope.specs.WellFormed.{is_defined}
+use Rattle.cat_scope.specs.Naming.{is_defined}
 use Rattle.cat_scope.specs.Same.{Standing, Same}
 use Rattle.cat_scope.specs.Same as same
 use Rattle.cat_scope.proofs.Exported.{equations}
@@ -57,21 +57,23 @@ module _ (ds : Decls) where
   -- an input has no definitions, and x is the only other target
   pub x_is_settled : AreSettled held names 0 defs
   x_is_settled env arguments zero None ps t target are stand =
-      not_true (subst (λ (i : ItemDecl). IsTrue (is_defined i)) (sym (same_some n_in target.0 target.1)) target.2)
+      not_true (subst (λ (i : ItemDecl). IsTrue (is_defined i)) (sym (same_some n_in target.decl target.decl_is)) target.defined)
   x_is_settled env arguments (suc zero) None ps t target are stand =
-      let ty_is : t ≡ flat_ty.Integer = target.4 ∙ sym (ap (λ (i : ItemDecl). i.ty) (same_some x_out target.0 target.1)) in
+      let ty_is : t ≡ flat_ty.Integer = target.ty_is ∙ sym (ap (λ (i : ItemDecl). i.ty) (same_some x_out target.decl target.decl_is)) in
       record {
         ends = λ stops. subst (Ended held (IsHeldOf false ds t)) (sym (it_holds env arguments)) (subst (λ u. Ended held (IsHeldOf false ds u) (Ok (Some five))) (sym ty_is) (held_typed ds));
         stands = λ none. subst (MayStand held x) (sym (it_holds env arguments)) refl;
       }
-  x_is_settled env arguments (suc (suc item)) None ps t target are stand = absurd (cc (target.1))
+  x_is_settled env arguments (suc (suc item)) None ps t target are stand = absurd (cc (target.decl_is))
   x_is_settled env arguments zero (Some inner) ps t target are stand =
-      let is_kind : kind.Input ≡ kind.Called target.1 = ap (λ (i : ItemDecl). i.kind) (same_some n_in target.0 target.3) ∙ target.4 in
+      let is_kind : kind.Input ≡ kind.Called target.scope =
+          ap (λ (i : ItemDecl). i.kind) (same_some n_in target.called target.called_is) ∙ target.kind_is in
       absurd (cc (is_kind))
   x_is_settled env arguments (suc zero) (Some inner) ps t target are stand =
-      let is_kind : kind.Output ≡ kind.Called target.1 = ap (λ (i : ItemDecl). i.kind) (same_some x_out target.0 target.3) ∙ target.4 in
+      let is_kind : kind.Output ≡ kind.Called target.scope =
+          ap (λ (i : ItemDecl). i.kind) (same_some x_out target.called target.called_is) ∙ target.kind_is in
       absurd (cc (is_kind))
-  x_is_settled env arguments (suc (suc item)) (Some inner) ps t target are stand = absurd (cc (target.3))
+  x_is_settled env arguments (suc (suc item)) (Some inner) ps t target are stand = absurd (cc (target.called_is))
 
 -- ---- environments that differ in what an expression doesn't name
 

@@ -20,10 +20,13 @@ use Rattle.cat_scope.specs.HasType as typed
 use Rattle.cat_scope.specs.Orders.{item_dependencies, function_calls, scope_dependencies}
 use Rattle.cat_scope.specs.Chains.{is_within}
 use Rattle.cat_scope.specs.WellFormed.{IsBodyOf, IsWellFormed}
+use Rattle.cat_scope.specs.Naming.{IsCalledOutput, IsTargetAt}
 use Rattle.cat_scope.proofs.Exported.{namings}
 use Rattle.cat_scope.proofs.Exported.{placings}
-use Rattle.cat_scope.proofs.Samples.{at, variable, item, truth_item, n_in, n_above, n, whole, def, body, body_calling, scope_of, calling_scopes, calling_bodies}
-use Rattle.cat_sound.proofs.WellFormedParts.{integer_is_sound, boolean_is_sound, ordered, short, whole_typed, plain_def}
+use Rattle.cat_scope.proofs.Samples.{at, variable, item, truth_item, n_in, n_above, n, whole, def, body, body_calling}
+use Rattle.cat_scope.proofs.Samples.{scope_of, calling_scopes, calling_bodies}
+use Rattle.cat_sound.proofs.WellFormedParts.{integer_is_sound, boolean_is_sound, ordered, short, whole_typed, own}
+use Rattle.cat_sound.proofs.WellFormedParts.{plain_def}
 
 -- T and S, of which S calls T
 pub calling_is_sound : IsTrue (are_sound [] [] calling_scopes)
@@ -51,27 +54,56 @@ s_items = n_in ∷ called ∷ y ∷ []
 abbrev t_names : Names
 t_names = record { decls = decls; items = t_items }
 
-abbrev s_names : Names
+abbrev pub s_names : Names
 s_names = record { decls = decls; items = s_items }
 
 abbrev t_defs : List Def
 t_defs = def (variable 0 0) None except.No None (whole 7) (at 10 3) ∷ []
 
-abbrev s_defs : List Def
+abbrev pub s_defs : List Def
 s_defs = def (record { scope = 1; item = 1; inner = Some 0 }) None except.No (Some (n_above 0)) n (at 12 3)
     ∷ def (variable 1 2) None except.No None (leaf.Output (at 13 23) 1 0) (at 13 3) ∷ []
 
 n_typed : HasType s_names [] n flat.Integer
 n_typed = typed.item (n_in, refl, refl, refl)
 
-n_above_zero_typed : HasType s_names [] (n_above 0) flat.Boolean
+pub n_above_zero_typed : HasType s_names [] (n_above 0) flat.Boolean
 n_above_zero_typed = typed.binary (comparison flat.Integer) (inl refl) n_typed (whole_typed s_names [] 0 refl)
+
+-- x of T is given by S, and is read there
+pub x_of_t : IsTargetAt s_names 1 (Some 0) [] flat.Integer
+x_of_t = record {
+  called = called;
+  scope = 0;
+  decl = x_in_t;
+  called_is = refl;
+  kind_is = refl;
+  decl_is = refl;
+  given = refl;
+  params_are = refl;
+  ty_is = refl;
+}
+
+x_read : IsCalledOutput s_names 1 0 flat.Integer
+x_read = record {
+  called = called;
+  scope = 0;
+  output = x_in_t;
+  called_is = refl;
+  kind_is = refl;
+  output_is = refl;
+  ty_is = refl;
+}
 
 t_body : IsBodyOf decls 0 (scope_of t_items) (body t_defs (0 ∷ []))
 unfolding order_of is_ready is_within
 t_body = record {
   placed = (refl, tt);
-  defs = (plain_def t_names 0 0 (whole 7) (at 10 3) x_in_t None except.No (x_in_t, refl, refl, refl, refl) (whole_typed t_names [] 7 refl), tt);
+  defs = (
+    plain_def t_names 0 0 (whole 7) (at 10 3) x_in_t None except.No (own t_names 0 x_in_t refl refl)
+        (whole_typed t_names [] 7 refl),
+    tt,
+  );
   assertions = tt;
   source = (refl, refl, refl);
   lists = search (rules, placings);
@@ -86,14 +118,28 @@ unfolding order_of is_ready is_within
 s_body = record {
   placed = (refl, (refl, (refl, tt)));
   defs = (
-    record { params = []; ty = flat.Integer; scope_is = refl; target = (called, 0, x_in_t, refl, refl, refl, refl, refl, refl); counted = refl; condition = n_above_zero_typed; consequence = n_typed },
-    (plain_def s_names 1 2 (leaf.Output (at 13 23) 1 0) (at 13 3) y None except.No (y, refl, refl, refl, refl) (typed.output (0, called, x_in_t, refl, refl, refl, refl)), tt),
+    record {
+      params = [];
+      ty = flat.Integer;
+      scope_is = refl;
+      target = x_of_t;
+      counted = refl;
+      condition = n_above_zero_typed;
+      consequence = n_typed;
+    },
+    (
+      plain_def s_names 1 2 (leaf.Output (at 13 23) 1 0) (at 13 3) y None except.No (own s_names 2 y refl refl)
+          (typed.output x_read),
+      tt,
+    ),
   );
   assertions = tt;
   source = (refl, refl, refl);
   lists = search (rules, placings);
   conditions = (tt, (tt, (tt, tt)));
-  order = ordered (item_dependencies s_items s_defs) ([] ∷ (0 ∷ 0 ∷ []) ∷ (1 ∷ []) ∷ []) (0 ∷ 1 ∷ 2 ∷ []) (search (rules, namings)) refl;
+  order =
+      ordered (item_dependencies s_items s_defs) ([] ∷ (0 ∷ 0 ∷ []) ∷ (1 ∷ []) ∷ []) (0 ∷ 1 ∷ 2 ∷ [])
+      (search (rules, namings)) refl;
   calls = search (rules, namings);
   functions = short (function_calls s_items s_defs) ([] ∷ [] ∷ [] ∷ []) (search (rules, namings)) refl;
 }

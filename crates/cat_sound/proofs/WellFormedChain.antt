@@ -23,7 +23,7 @@ use Rattle.cat_scope.specs.WellFormed.{DefTyped, IsBodyOf, IsWellFormed}
 use Rattle.cat_scope.proofs.Exported.{namings}
 use Rattle.cat_scope.proofs.Exported.{placings}
 use Rattle.cat_scope.proofs.Samples.{at, a, b, n_in, x_out, n_above, n, whole, def, body, x, chain, scope_of}
-use Rattle.cat_sound.proofs.WellFormedParts.{integer_is_sound, ordered, short, whole_typed, plain_def}
+use Rattle.cat_sound.proofs.WellFormedParts.{integer_is_sound, ordered, short, whole_typed, own, plain_def}
 
 abbrev items : List ItemDecl
 items = n_in ∷ x_out ∷ []
@@ -48,19 +48,31 @@ above_typed : (k : ℕ) → HasType names [] (whole k) flat.Integer → HasType 
 above_typed k is = typed.binary (comparison flat.Integer) (inl refl) n_typed is
 
 -- an exception with a condition
-guarded : (k v : ℕ) (label : Option Label) (ex : Except) (p : Pos) → HasType names [] (whole k) flat.Integer → HasType names [] (whole v) flat.Integer
+guarded : (k v : ℕ) (label : Option Label) (ex : Except) (p : Pos) → HasType names [] (whole k) flat.Integer
+    → HasType names [] (whole v) flat.Integer
     → DefTyped names 0 (def x label ex (Some (n_above k)) (whole v) p)
-guarded k v label ex p above given = record { params = []; ty = flat.Integer; scope_is = refl; target = (x_out, refl, refl, refl, refl); counted = refl; condition = above_typed k above; consequence = given }
+guarded k v label ex p above given = record {
+  params = [];
+  ty = flat.Integer;
+  scope_is = refl;
+  target = own names 1 x_out refl refl;
+  counted = refl;
+  condition = above_typed k above;
+  consequence = given;
+}
 
 chain_body : IsBodyOf decls 0 (scope_of items) (body chain (0 ∷ 1 ∷ []))
 unfolding order_of is_ready is_within
 chain_body = record {
   placed = (refl, (refl, tt));
   defs = (
-    plain_def names 0 1 (whole 1) (at 6 11) x_out (Some (a (at 6 9))) except.No (x_out, refl, refl, refl, refl) (whole_typed names [] 1 refl),
+    plain_def names 0 1 (whole 1) (at 6 11) x_out (Some (a (at 6 9))) except.No (own names 1 x_out refl refl)
+    (whole_typed names [] 1 refl),
     (
-      guarded 0 2 (Some (b (at 7 9))) (except.Named (at 7 11) (a (at 7 21))) (at 7 23) (whole_typed names [] 0 refl) (whole_typed names [] 2 refl),
-      (guarded 1 3 None (except.Named (at 8 3) (b (at 8 13))) (at 8 15) (whole_typed names [] 1 refl) (whole_typed names [] 3 refl), tt),
+      guarded 0 2 (Some (b (at 7 9))) (except.Named (at 7 11) (a (at 7 21))) (at 7 23) (whole_typed names [] 0 refl)
+      (whole_typed names [] 2 refl),
+      (guarded 1 3 None (except.Named (at 8 3) (b (at 8 13))) (at 8 15) (whole_typed names [] 1 refl)
+       (whole_typed names [] 3 refl), tt),
     ),
   );
   assertions = tt;

@@ -23,8 +23,9 @@ use Rattle.cat_scope.specs.Chains.{is_within}
 use Rattle.cat_scope.specs.WellFormed.{IsBodyOf, IsWellFormed}
 use Rattle.cat_scope.proofs.Exported.{namings}
 use Rattle.cat_scope.proofs.Exported.{placings}
-use Rattle.cat_scope.proofs.Samples.{at, variable, item, n_above, n, whole, def, body, body_calling, scope_of, nested_scopes, nested_bodies}
-use Rattle.cat_sound.proofs.WellFormedParts.{integer_is_sound, ordered, short, whole_typed, plain_def}
+use Rattle.cat_scope.proofs.Samples.{at, variable, item, n_above, n, whole, def, body, body_calling, scope_of}
+use Rattle.cat_scope.proofs.Samples.{nested_scopes, nested_bodies}
+use Rattle.cat_sound.proofs.WellFormedParts.{integer_is_sound, ordered, short, whole_typed, own, plain_def}
 
 nested_is_sound : IsTrue (are_sound [] [] nested_scopes)
 unfolding are_sound are_ordered order_of
@@ -81,10 +82,12 @@ t_body = record {
       params = [];
       ty = flat.Integer;
       scope_is = refl;
-      target = (b_out, refl, refl, refl, refl);
+      target = own t_names 1 b_out refl refl;
       counted = refl;
       condition = typed.binary (comparison flat.Integer) (inl refl) a_typed (whole_typed t_names [] 0 refl);
-      consequence = typed.binary (record { left = flat.Integer; right = flat.Integer; result = flat.Integer }) (inl refl) a_typed (whole_typed t_names [] 2 refl);
+      consequence =
+          typed.binary (record { left = flat.Integer; right = flat.Integer; result = flat.Integer }) (inl refl) a_typed
+          (whole_typed t_names [] 2 refl);
     },
     tt,
   );
@@ -92,7 +95,8 @@ t_body = record {
   source = (refl, refl, refl);
   lists = search (rules, placings);
   conditions = (tt, (tt, tt));
-  order = ordered (item_dependencies t_items t_defs) ([] ∷ (0 ∷ 0 ∷ []) ∷ []) (0 ∷ 1 ∷ []) (search (rules, namings)) refl;
+  order =
+      ordered (item_dependencies t_items t_defs) ([] ∷ (0 ∷ 0 ∷ []) ∷ []) (0 ∷ 1 ∷ []) (search (rules, namings)) refl;
   calls = search (rules, namings);
   functions = short (function_calls t_items t_defs) ([] ∷ [] ∷ []) (search (rules, namings)) refl;
 }
@@ -102,8 +106,10 @@ unfolding order_of is_ready is_within
 s_body = record {
   placed = (refl, (refl, tt));
   defs = (
-    plain_def s_names 1 1 call (at 11 3) x_out_s None except.No (x_out_s, refl, refl, refl, refl)
-        (typed.scope_call (typed.fields_more flat.Integer refl (typed.item (n_in_s, refl, refl, refl)) typed.fields_none) refl (b_out, refl, refl)),
+    plain_def s_names 1 1 call (at 11 3) x_out_s None except.No (own s_names 1 x_out_s refl refl)
+        (typed.scope_call
+         (typed.fields_more flat.Integer refl (typed.item (n_in_s, refl, refl, refl)) typed.fields_none) refl
+         (b_out, refl, refl)),
     tt,
   );
   assertions = tt;

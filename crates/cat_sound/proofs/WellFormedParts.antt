@@ -1,5 +1,6 @@
 -- Parts of the reasons why a program is well formed.
-use Rattle.std.proofs.Common.{◌≡◌, ℕ, pos, true, IsTrue, List, [], length, Option, None, Some, refl, sym, subst, rules}
+use Rattle.std.proofs.Common.{◌≡◌, ℕ, pos, true, IsTrue, List, [], length, Option, None, Some, slice_get, refl, sym}
+use Rattle.std.proofs.Common.{subst, rules}
 use Rattle.cat_pos.specs.declared.pos.Pos.{Pos}
 use Rattle.cat_value.specs.declared.ty.Ty.{Ty}
 use Rattle.cat_value.specs.declared.ty.Ty.TheVariants as flat
@@ -19,7 +20,8 @@ use Rattle.cat_num.specs.Whole.{fits}
 use Rattle.cat_scope.specs.HasType.{HasType}
 use Rattle.cat_scope.specs.HasType as typed
 use Rattle.cat_scope.specs.Chains.{HasShortChains, are_within}
-use Rattle.cat_scope.specs.WellFormed.{IsTargetAt, DefTyped}
+use Rattle.cat_scope.specs.WellFormed.{DefTyped}
+use Rattle.cat_scope.specs.Naming.{IsTargetAt, is_defined}
 use Rattle.cat_sound.proofs.ForestLaws.{short_chains}
 use Rattle.cat_scope.proofs.Samples.{variable, item, whole, def}
 
@@ -32,17 +34,35 @@ unfolding height_to
 boolean_is_sound = search (rules, ty.the_lemmas, declared)
 
 -- an order that is computed, of dependencies that come to these
-pub ordered : (deps closed : List (List ℕ)) (order : List ℕ) → deps ≡ closed → order_of closed ≡ Some order → IsOrder deps order
-ordered deps closed order is computed = subst (λ d. IsOrder d order) (sym is) ((order_of-iff_IsOrder closed order).0 computed)
+pub ordered : (deps closed : List (List ℕ)) (order : List ℕ) → deps ≡ closed → order_of closed ≡ Some order
+    → IsOrder deps order
+ordered deps closed order is computed =
+    subst (λ d. IsOrder d order) (sym is) ((order_of-iff_IsOrder closed order).0 computed)
 
-pub short : (deps closed : List (List ℕ)) → deps ≡ closed → are_within closed 256 (length closed) ≡ true → HasShortChains deps
+pub short : (deps closed : List (List ℕ)) → deps ≡ closed → are_within closed 256 (length closed) ≡ true
+    → HasShortChains deps
 short deps closed is within = subst (λ d. HasShortChains d) (sym is) (short_chains closed 255 within)
 
 -- the integers of the samples
-pub whole_typed : (names : Names) (locals : List Ty) (k : ℕ) → IsTrue (fits (pos k)) → HasType names locals (whole k) flat.Integer
+pub whole_typed : (names : Names) (locals : List Ty) (k : ℕ) → IsTrue (fits (pos k))
+    → HasType names locals (whole k) flat.Integer
 whole_typed names locals k fits = typed.literal fits
 
+-- a variable of the scope is a target
+pub own : (names : Names) (item : ℕ) (i : ItemDecl) → slice_get names.items item ≡ Some i → IsTrue (is_defined i)
+    → IsTargetAt names item None i.params i.ty
+own names item i is defined = record { decl = i; decl_is = is; defined = defined; params_are = refl; ty_is = refl }
+
 -- a definition without a condition, of a variable of its scope
-pub plain_def : (names : Names) (scope item : ℕ) (e : Expr) (p : Pos) (i : ItemDecl) (label : Option Label) (ex : Except) → IsTargetAt names item None [] i.ty → HasType names [] e i.ty
+pub plain_def : (names : Names) (scope item : ℕ) (e : Expr) (p : Pos) (i : ItemDecl) (label : Option Label)
+    (ex : Except) → IsTargetAt names item None [] i.ty → HasType names [] e i.ty
     → DefTyped names scope (def (variable scope item) label ex None e p)
-plain_def names scope item e p i label ex target typed = record { params = []; ty = i.ty; scope_is = refl; target = target; counted = refl; condition = tt; consequence = typed }
+plain_def names scope item e p i label ex target typed = record {
+  params = [];
+  ty = i.ty;
+  scope_is = refl;
+  target = target;
+  counted = refl;
+  condition = tt;
+  consequence = typed;
+}

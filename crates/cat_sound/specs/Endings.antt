@@ -15,7 +15,8 @@ use Rattle.cat_scope.specs.declared.expr.Expr.{Expr}
 use Rattle.cat_scope.specs.Replies.{on_one, done}
 use Rattle.cat_scope.specs.Runs.{Decider, Run}
 use Rattle.cat_scope.specs.Names.{Names, AllHave, is_plain, outputs_in}
-use Rattle.cat_scope.specs.Fitting.{IsItem, IsCalledOutput, IsFunction, are_call_fields, input_type, IsOutput}
+use Rattle.cat_scope.specs.Fitting.{are_call_fields, input_type}
+use Rattle.cat_scope.specs.Naming.{IsItem, IsCalledOutput, IsFunction, IsOutput}
 use Rattle.cat_scope.specs.Mentions.{items_named, scopes_named}
 use Rattle.cat_scope.specs.Eval.{Env}
 use Rattle.cat_scope.specs.Composed.{part}
@@ -86,18 +87,22 @@ numbers_of (f ∷ fs) = f.0 ∷ numbers_of fs
 abbrev pub IsFieldOf : Decls → (ℕ → Option Ty) → ℕ × Value → Type 0
 IsFieldOf ds type_of f = (t : Ty) × (type_of f.0 ≡ Some t) × IsOf ds t f.1
 
--- what an environment has of an item: the value of a variable is done and of its type, an output of a called scope is of
--- its type, and a function ends in a value of its type for arguments of the types of its parameters
+-- what an environment has of an item: the value of a variable is done and of its type, an output of a called scope is
+-- of its type, and a function ends in a value of its type for arguments of the types of its parameters
 pub record IsReady (allowed : Allowed) (ns : Names) (env : Env) (item : ℕ) : Type 0 where
-  pub variable : (t : Ty) → IsItem is_plain ns.items item t → ResultsIn (IsOf ns.decls t) (done (slice_get env.items item))
-  pub output : (k : ℕ) (t : Ty) → IsCalledOutput ns item k t → ResultsIn (IsOf ns.decls t) (on_one (done (slice_get env.items item)) (part k))
+  pub variable : (t : Ty) → IsItem is_plain ns.items item t
+      → ResultsIn (IsOf ns.decls t) (done (slice_get env.items item))
+  pub output : (k : ℕ) (t : Ty) → IsCalledOutput ns item k t
+      → ResultsIn (IsOf ns.decls t) (on_one (done (slice_get env.items item)) (part k))
   pub function : (params : List Ty) (t : Ty) (vs : List Value) → IsFunction ns item params t → AreOf ns.decls params vs
       → EndsIn allowed (IsOf ns.decls t) (env.call item vs)
 
 -- a scope call ends in a value of the type of its output, for fields as the scope takes them
 abbrev pub IsCallable : Allowed → Names → Env → ℕ → Type 0
-IsCallable allowed ns env scope = (fs : List (ℕ × Value)) (k : ℕ) (t : Ty) → AllHave (IsFieldOf ns.decls (input_type ns.decls scope)) fs
-    → IsTrue (are_call_fields ns.decls scope (numbers_of fs)) → IsOutput ns.decls scope k t → EndsIn allowed (IsOf ns.decls t) (env.scope_call scope fs k)
+IsCallable allowed ns env scope =
+    (fs : List (ℕ × Value)) (k : ℕ) (t : Ty) → AllHave (IsFieldOf ns.decls (input_type ns.decls scope)) fs
+    → IsTrue (are_call_fields ns.decls scope (numbers_of fs)) → IsOutput ns.decls scope k t
+    → EndsIn allowed (IsOf ns.decls t) (env.scope_call scope fs k)
 
 -- an environment has what an expression names
 pub record IsEnvOf (allowed : Allowed) (ns : Names) (env : Env) (e : Expr) : Type 0 where

@@ -48,4 +48,5 @@ AreRising (n ∷ ns) = AllHave (λ m. n ≤ m) ns × AreRising ns
 abbrev pub AreJudgedByRule : Target → List Group → Type 0
 AreJudgedByRule place groups = (own : ℕ → Judged Value) (group : ℕ) → group < length groups
     → judge place (excepts groups) own (length groups) group
-    ≡ or_else (settle place (map (judge place (excepts groups) own (length groups)) (excepting (excepts groups) group))) (own group)
+    ≡ or_else (settle place (map (judge place (excepts groups) own (length groups)) (excepting (excepts groups) group)))
+    (own group)

@@ -1,6 +1,8 @@
 -- how typed programs end
 pub mod Endings
 pub mod Settled
+-- the types that expressions may have
+pub mod LowTypes
 -- typed parts
 pub mod Parts
 -- what an expression rests on

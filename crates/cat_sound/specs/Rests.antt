@@ -13,7 +13,8 @@ pub record TellSame (a b : Env) (item : ℕ) : Type 0 where
 
 -- of a scope: what a scope call gives
 abbrev pub CallSame : Env → Env → ℕ → Type 0
-CallSame a b scope = (fields : List (ℕ × Value)) (output : ℕ) → a.scope_call scope fields output ≡ b.scope_call scope fields output
+CallSame a b scope =
+    (fields : List (ℕ × Value)) (output : ℕ) → a.scope_call scope fields output ≡ b.scope_call scope fields output
 
 -- of all that an expression names
 pub record AgreeOn (a b : Env) (e : Expr) : Type 0 where

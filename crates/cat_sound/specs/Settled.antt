@@ -1,7 +1,8 @@
 -- Targets that do not stop by themselves, and what is decided of a target: in an environment that has what its
 -- definitions name, each is judged to a value, or to nothing where it may be empty, or stops with what an evaluation
 -- inside stops with.
-use Rattle.std.specs.Prelude.{◌≡◌, ℕ, Bool, false, not, ◌||◌, IsTrue, List, [], Option, Some, None, Result, Ok, Err, slice_get}
+use Rattle.std.specs.Prelude.{◌≡◌, ℕ, Bool, false, not, ◌||◌, IsTrue, List, [], Option, Some, None, Result, Ok, Err}
+use Rattle.std.specs.Prelude.{slice_get}
 use Rattle.cat_value.specs.declared.ty.Ty.{Ty}
 use Rattle.cat_value.specs.declared.value.Value.{Value}
 use Rattle.cat_value.specs.declared.decls.Decls.{Decls}
@@ -16,7 +17,8 @@ use Rattle.cat_scope.specs.declared.defs.Def.{Def}
 use Rattle.cat_scope.specs.declared.defs.Body.{Body}
 use Rattle.cat_scope.specs.Names.{Names, AllHave, scope_items}
 use Rattle.cat_scope.specs.HasType.{HasType}
-use Rattle.cat_scope.specs.WellFormed.{IsTargetAt, ConditionTyped}
+use Rattle.cat_scope.specs.WellFormed.{ConditionTyped}
+use Rattle.cat_scope.specs.Naming.{IsTargetAt}
 use Rattle.cat_scope.specs.declared.stop.Stop.{Stop}
 use Rattle.cat_scope.specs.Judging.{Held, place_in}
 use Rattle.cat_scope.specs.Targets.{same_target, judge_target}
@@ -74,25 +76,33 @@ MayStand allowed target (Err stop) = Unit {0}
 
 -- where a target may not stop, its judging ends in a value of its type, or in nothing where it may be empty, and of one
 -- without parameters, what is decided may stand in a log
-pub record IsSettled (allowed : Allowed) (target : Target) (empty : Bool) (ds : Decls) (ps : List Ty) (t : Ty) (end : Result (Option (Held Value)) Stop) : Type 0 where
+pub record IsSettled (allowed : Allowed) (target : Target) (empty : Bool) (ds : Decls) (ps : List Ty) (t : Ty)
+    (end : Result (Option (Held Value)) Stop) : Type 0 where
   pub ends : allowed.may_stop target ≡ false → Ended allowed (IsHeldOf empty ds t) end
   pub stands : ps ≡ [] → MayStand allowed target end
 
 -- so are the targets of a scope, in any environment that has what their definitions name
 abbrev pub AreSettled : Allowed → Names → ℕ → List Def → Type 0
 AreSettled allowed ns scope defs =
-    (env : Env) (arguments : List Value) (item : ℕ) (inner : Option ℕ) (ps : List Ty) (t : Ty) → IsTargetAt ns item inner ps t
+    (env : Env) (arguments : List Value) (item : ℕ) (inner : Option ℕ) (ps : List Ty) (t : Ty)
+    → IsTargetAt ns item inner ps t
     → AreOf ns.decls ps arguments
-    → AllHave (λ d. IsTrue (same_target d.target (record { scope = scope; item = item; inner = inner })) → StandsIn allowed ns env ps t d) defs
-    → IsSettled allowed (record { scope = scope; item = item; inner = inner }) (may_be_empty ns item inner) ns.decls ps t
+    → AllHave
+    (λ d. IsTrue (same_target d.target (record { scope = scope; item = item; inner = inner }))
+     → StandsIn allowed ns env ps t d) defs
+    → IsSettled allowed (record { scope = scope; item = item; inner = inner })
+    (may_be_empty ns item inner) ns.decls ps t
     (judge_target (λ e. eval env e arguments) (record { scope = scope; item = item; inner = inner }) defs).end
 
 -- those of each scope that is within; what such a scope calls is within too
 abbrev pub ScopesSettled : Allowed → (ℕ → Bool) → Decls → List Body → Type 0
 ScopesSettled allowed within ds bodies =
-    (k : ℕ) (scope : Scope) (body : Body) → IsTrue (within k) → slice_get ds.scopes k ≡ Some scope → slice_get bodies k ≡ Some body
+    (k : ℕ) (scope : Scope) (body : Body) → IsTrue (within k) → slice_get ds.scopes k ≡ Some scope
+    → slice_get bodies k ≡ Some body
     → AreSettled allowed (record { decls = ds; items = scope.items }) k body.defs
 
 -- a set of scopes has each scope that one of it calls
 abbrev pub IsClosed : (ℕ → Bool) → Decls → List Body → Type 0
-IsClosed within ds bodies = (k : ℕ) → IsTrue (within k) → AllHave (λ s. IsTrue (within s)) (dependencies_of (scope_dependencies ds.scopes bodies) k)
+IsClosed within ds bodies =
+    (k : ℕ) → IsTrue (within k)
+    → AllHave (λ s. IsTrue (within s)) (dependencies_of (scope_dependencies ds.scopes bodies) k)

@@ -22,7 +22,7 @@ pub use resting::{
     expressions_rest_on_what_they_name, functions_are_judged_by_the_rule,
     positions_change_no_value, scopes_are_run_by_the_rule, the_test_of_trees_decides,
 };
-pub use types::typed_expressions_have_one_type;
+pub use types::{typed_expressions_have_low_types, typed_expressions_have_one_type};
 pub use typing::{
     conversions_go_on, expressions_go_on, logs_tell_of_called_scopes, operators_go_on,
     parts_are_typed, programs_go_on, settled_programs_go_on,
