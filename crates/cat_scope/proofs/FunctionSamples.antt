@@ -55,9 +55,9 @@ truth b = leaf.Literal (at 0 0) (literal.Boolean b)
 abbrev calling : ItemDecl → ItemDecl → Expr → ℕ → Result (List Value) Stop
 calling output f e k =
     (run_of (scope_of (n_in ∷ output ∷ f ∷ []) ∷ [])
-     (body (above_zero e ∷ def x None except.No None (expr.Call (at 8 23) 2 (n ∷ [])) (at 8 3) ∷ []) (0 ∷ 2 ∷ 1 ∷ [])
-      ∷ [])
-     (0 ∷ []) 0 (number k ∷ None ∷ None ∷ [])).end
+    (body (above_zero e ∷ def x None except.No None (expr.Call (at 8 23) 2 (n ∷ [])) (at 8 3) ∷ []) (0 ∷ 2 ∷ 1 ∷ [])
+    ∷ [])
+    (0 ∷ []) 0 (number k ∷ None ∷ None ∷ [])).end
 
 abbrev twice : Expr
 twice = expr.Binary (at 7 60) MultiplyIntegers (at 7 62) (leaf.Local (at 7 60) 0) (whole 2)
@@ -88,15 +88,15 @@ abbrev asserting : ℕ → Result (List Value) Stop
 asserting k =
     (run_of (scope_of (n_in ∷ x_out ∷ []) ∷ [])
     (record {
-       defs = def x None except.No None n (at 6 3) ∷ [];
-       assertions =
-           record { condition = n_above 0; keyword = at 7 3 }
-           ∷ record { condition = n_above 1; keyword = at 8 3 } ∷ [];
-       source = source_of (def x None except.No None n (at 6 3) ∷ []);
-       rounding = Refuse;
-       order = 0 ∷ 1 ∷ [];
-       calls = [];
-     } ∷ [])
+      defs = def x None except.No None n (at 6 3) ∷ [];
+      assertions =
+          record { condition = n_above 0; keyword = at 7 3 }
+          ∷ record { condition = n_above 1; keyword = at 8 3 } ∷ [];
+      source = source_of (def x None except.No None n (at 6 3) ∷ []);
+      rounding = Refuse;
+      order = 0 ∷ 1 ∷ [];
+      calls = [];
+    } ∷ [])
     (0 ∷ []) 0 (number k ∷ None ∷ [])).end
 
 assertions_that_hold_change_nothing : asserting 2 ≡ gives 2
@@ -158,9 +158,9 @@ without_a_field k own =
     (scope_of (condition_item k (at 3 9) ∷ truth_item kind.Output (at 4 10) ∷ [])
     ∷ scope_of (n_in ∷ truth_item kind.Output (at 7 10) ∷ []) ∷ [])
     (body (yields own) (0 ∷ 1 ∷ [])
-     ∷ body_calling (0 ∷ []) (def (variable 1 1) None except.No None (expr.ScopeCall (at 13 23) 0 [] 0) (at 13 3) ∷ [])
-     (0 ∷ 1 ∷ [])
-     ∷ [])
+    ∷ body_calling (0 ∷ []) (def (variable 1 1) None except.No None (expr.ScopeCall (at 13 23) 0 [] 0) (at 13 3) ∷ [])
+    (0 ∷ 1 ∷ [])
+    ∷ [])
     (0 ∷ 1 ∷ []) 1 (number 0 ∷ None ∷ [])).end
 
 an_input_condition_without_a_field_is_false : without_a_field kind.Input [] ≡ Ok (flat.Boolean false ∷ [])
@@ -185,7 +185,7 @@ two_roots_that_hold_are_a_conflict = search (rules, equations, value.the_lemmas)
 -- the first group has its second definition alone, which stands behind that of the second group
 positions_stand_in_source_order : alone
     (def x (Some (a (at 6 9))) except.No (Some (n_above 0)) (whole 1) (at 6 11)
-     ∷ def x None except.No None (whole 2) (at 7 3) ∷ def x (Some (a (at 8 9))) except.No None (whole 3) (at 8 11) ∷ [])
+    ∷ def x None except.No None (whole 2) (at 7 3) ∷ def x (Some (a (at 8 9))) except.No None (whole 3) (at 8 11) ∷ [])
     ≡ Err (Conflict x (at 7 3 ∷ at 8 11 ∷ []))
 unfolding run_of judge_target
 positions_stand_in_source_order = search (rules, equations, value.the_lemmas)

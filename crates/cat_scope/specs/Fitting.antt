@@ -58,11 +58,14 @@ abbrev pub are_complete : Decls → ℕ → List Arm → Bool
 are_complete ds n arms = anything_is_last arms && all_differ (cases_of arms)
     && (if ends_in_anything arms then true else are_all_in (cases_in (slice_get ds.enumerations n)) (cases_of arms))
 
+-- the enumeration of that number has a case k
+abbrev pub has_case : Decls → ℕ → ℕ → Bool
+has_case ds n k = some_passes (λ content. true) (content_of ds n k)
+
 -- the local names of an arm's body: an arm that binds a content is for a case that has one
 abbrev pub ArmLocals : Decls → ℕ → ArmPattern → List Ty → List Ty → Type 0
 ArmLocals ds n pattern.Anything locals inside = inside ≡ locals
-ArmLocals ds n (pattern.Case k false) locals inside =
-    IsTrue (some_passes (λ content. true) (content_of ds n k)) × (inside ≡ locals)
+ArmLocals ds n (pattern.Case k false) locals inside = IsTrue (has_case ds n k) × (inside ≡ locals)
 ArmLocals ds n (pattern.Case k true) locals inside =
     (t : Ty) × (content_of ds n k ≡ Some (Some t)) × (inside ≡ locals ++ t ∷ [])
 

@@ -19,6 +19,7 @@ pub mod Fitting
 pub mod Naming
 pub mod Signatures
 pub mod Literals
+pub mod Rules
 pub mod HasType
 pub mod Chains
 pub mod Expected

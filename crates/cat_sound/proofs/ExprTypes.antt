@@ -320,7 +320,7 @@ mutual
   fields_sound : (allowed : Allowed) → (env : Env) (locals : List Value) {ns : Names} {ls : List Ty} {type_of : ℕ → Option Ty} {fs : List FieldValue} → FieldsHaveType ns ls type_of fs → AllHave (IsEnvOf allowed ns env) (values_of fs)
       → AreOf ns.decls ls locals → EndsIn allowed (AreWritten ns.decls type_of fs) (eval_fields env fs locals)
   fields_sound allowed env locals typed.fields_none has are = (tt, record { numbers = refl; typed = tt })
-  fields_sound allowed env locals {ns} (typed.fields_more {ls = ls} {type_of = type_of} {f = f} {fs = fs} t is h more) has are =
+  fields_sound allowed env locals {ns} (typed.fields_more {ls = ls} {ts = type_of} {f = f} {fs = fs} t is h more) has are =
       on_fields_more allowed ns env locals type_of t f fs is (sound allowed env locals h has.0 are) (fields_sound allowed env locals more has.1 are)
 
   arms_sound : (allowed : Allowed) → (env : Env) {ns : Names} {ls : List Ty} {n : ℕ} {arms : List Arm} {t : Ty} → ArmsHaveType ns ls n arms t → AllHave (IsEnvOf allowed ns env) (bodies_of arms)

@@ -69,10 +69,10 @@ met_at all seen e es d true here old new among =
     ⊎_elim (λ same. inl (ap (λ (x : Numbered). is_among (key_of x) seen) same ∙ here)) (λ more. old more) among
 met_at all seen e es d false here old new among = ⊎_elim
     (λ same.
-     inr (group_at all e, inl refl, ap (λ (x : Numbered). same_key (key_of x) (key_of e)) same ∙ key_same (key_of e)))
+    inr (group_at all e, inl refl, ap (λ (x : Numbered). same_key (key_of x) (key_of e)) same ∙ key_same (key_of e)))
     (λ more. ⊎_elim
     (λ seen_now. ⊎_elim (λ same. inr (group_at all e, inl refl, same)) (λ before. inl before)
-     (among_or (key_of d) (key_of e) seen (same_key (key_of d) (key_of e)) refl seen_now))
+    (among_or (key_of d) (key_of e) seen (same_key (key_of d) (key_of e)) refl seen_now))
     (λ grouped. inr (grouped.0, inr grouped.1, grouped.2))
     (new more)) among
 
@@ -110,8 +110,8 @@ all_new all seen (d ∷ ds) =
     new_if (is_among (key_of d) seen) seen (group_at all d) (groups_from all seen ds)
     (groups_from all (key_of d ∷ seen) ds) refl (all_new all seen ds)
     (all_map (λ (g : Group). is_among g.key (key_of d ∷ seen) ≡ false) (λ (g : Group). is_among g.key seen ≡ false)
-     (λ g none. (new_parts (key_of d) seen g none).1) (groups_from all (key_of d ∷ seen) ds)
-     (all_new all (key_of d ∷ seen) ds))
+    (λ g none. (new_parts (key_of d) seen g none).1) (groups_from all (key_of d ∷ seen) ds)
+    (all_new all (key_of d ∷ seen) ds))
 
 apart_if : (b : Bool) (g : Group) (more rest : List Group) → AreApart more
     → AllHave (λ (h : Group). same_key h.key g.key ≡ false) rest → AreApart rest
@@ -125,8 +125,8 @@ apart_from all seen (d ∷ ds) =
     apart_if (is_among (key_of d) seen) (group_at all d) (groups_from all seen ds)
     (groups_from all (key_of d ∷ seen) ds) (apart_from all seen ds)
     (all_map (λ (g : Group). is_among g.key (key_of d ∷ seen) ≡ false)
-     (λ (g : Group). same_key g.key (key_of d) ≡ false) (λ g none. (new_parts (key_of d) seen g none).0)
-     (groups_from all (key_of d ∷ seen) ds) (all_new all (key_of d ∷ seen) ds))
+    (λ (g : Group). same_key g.key (key_of d) ≡ false) (λ g none. (new_parts (key_of d) seen g none).0)
+    (groups_from all (key_of d ∷ seen) ds) (all_new all (key_of d ∷ seen) ds))
     (apart_from all (key_of d ∷ seen) ds)
 
 -- of a key that wasn't seen all definitions still stand ahead
@@ -148,7 +148,7 @@ first_is : (all : List Numbered) (seen : List Key) (d : Numbered) (ds : List Num
 first_is all seen d ds stand none =
     ap (λ (xs : List Numbered). slice_get xs 0)
     (stand (key_of d) none
-     ∙ ap (λ b. if b then d ∷ with_key (key_of d) ds else with_key (key_of d) ds) (key_same (key_of d)))
+    ∙ ap (λ b. if b then d ∷ with_key (key_of d) ds else with_key (key_of d) ds) (key_same (key_of d)))
 
 part_more : {A : Type 0} (xs ys : List A) (y : A) → IsPartOf xs ys → IsPartOf xs (y ∷ ys)
 part_more [] ys y part = tt
@@ -164,14 +164,14 @@ first_if : (b : Bool) (all : List Numbered) (seen : List Key) (d : Numbered) (ds
 first_if true all seen d ds is stand old new =
     part_more (map first_of (groups_from all seen ds)) (map Some ds) (Some d)
     (old
-     (λ key none. stand key none ∙ passed_by key d ds (other_key key seen d (same_key key (key_of d)) refl is none)))
+    (λ key none. stand key none ∙ passed_by key d ds (other_key key seen d (same_key key (key_of d)) refl is none)))
 first_if false all seen d ds is stand old new =
     inl (
       first_is all seen d ds stand is,
       new
-      (λ key none.
-       let parts = not_among key (key_of d) seen (same_key key (key_of d)) refl none in
-       stand key parts.1 ∙ passed_by key d ds parts.0),
+          (λ key none.
+          let parts = not_among key (key_of d) seen (same_key key (key_of d)) refl none in
+          stand key parts.1 ∙ passed_by key d ds parts.0),
     )
 
 first_from : (all : List Numbered) (seen : List Key) (ds : List Numbered) → Stand all seen ds
@@ -213,7 +213,7 @@ forest_acyclic forest program scope body there stands =
     let same : stands.0 ≡ body = same_some stands.0 body (sym stands.1 ∙ there) in
     let targets : Body → List Target = λ b. targets_of program.decls scope (scope_items program.decls scope) b.order in
     let is : forest.targets ≡ forest_of body.defs (targets body) =
-        stands.2 ∙ ap (λ (b : Body). forest_of b.defs (targets b)) same in
+    stands.2 ∙ ap (λ (b : Body). forest_of b.defs (targets b)) same in
     acyclic_of body.defs (targets_of program.decls scope (scope_items program.decls scope) body.order)
     (subst (λ (ts : List ForestTarget). AllHave IsLow ts) is ((are_low_says forest.targets).0 forest.low))
 

@@ -13,7 +13,6 @@ use Rattle.cat_value.specs.Declarations.{is_boolean, are_sound}
 use Rattle.cat_value.specs.Dependencies.{are_ordered}
 use Rattle.cat_value.proofs.Equations.{typing}
 use Rattle.cat_scope.specs.declared.expr.Expr.TheVariants as leaf
-use Rattle.cat_scope.specs.declared.expr.Expr.TheViews.{out-Expr}
 use Rattle.cat_scope.specs.declared.expr.Expr.TheOpen.{Expr-F}
 use Rattle.cat_scope.specs.declared.expr.Literal.TheVariants as literal
 use Rattle.cat_scope.specs.Names.{Names}
@@ -47,7 +46,7 @@ true_is_no_integer ns ls p typing =
     (parts_typed ns ls (leaf.Literal p (literal.Boolean true)) flat.Integer typing) in
     true≢false
     (sym (ap is_boolean ty.outs-Boolean) ∙ sym (ap (λ (t : Ty). is_boolean (out-Ty t)) parts.1)
-     ∙ ap is_boolean ty.outs-Integer)
+    ∙ ap is_boolean ty.outs-Integer)
 
 -- `definition x equals true`, where x is an output that is an integer
 abbrev wrong : Def
@@ -75,7 +74,7 @@ wrong_is_ill_typed is =
     let an_integer : is.ty ≡ flat.Integer = is.target.ty_is ∙ ap (λ (i : ItemDecl). i.ty) (sym (some_is declared)) in
     true_is_no_integer one_names is.params (at 5 23)
     (subst (λ (t : Ty). HasType one_names is.params (leaf.Literal (at 5 23) (literal.Boolean true)) t)
-     an_integer is.consequence)
+    an_integer is.consequence)
 
 an_ill_typed_program_is_not_well_formed : ¬ IsWellFormed one_decls (body (wrong ∷ []) (0 ∷ []) ∷ []) (0 ∷ [])
 an_ill_typed_program_is_not_well_formed is = wrong_is_ill_typed is.bodies_are.0.defs.0
@@ -88,7 +87,7 @@ no_order : ¬ IsOrder ([] ∷ (0 ∷ []) ∷ []) (1 ∷ 0 ∷ [])
 unfolding order_of is_ready
 no_order is =
     let computed : order_of ([] ∷ (0 ∷ []) ∷ []) ≡ Some (1 ∷ 0 ∷ []) =
-        (order_of-iff_IsOrder ([] ∷ (0 ∷ []) ∷ []) (1 ∷ 0 ∷ [])).1 is in
+    (order_of-iff_IsOrder ([] ∷ (0 ∷ []) ∷ []) (1 ∷ 0 ∷ [])).1 is in
     absurd (omega (arith, one_list computed))
 
 depend : scope_dependencies calling_scopes calling_bodies ≡ [] ∷ (0 ∷ []) ∷ []

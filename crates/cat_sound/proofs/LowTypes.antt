@@ -1,6 +1,6 @@
 -- An expression has a declared type that is no higher than types may be, where its local names have such types.
-use Rattle.std.proofs.Common.{◌≡◌, ℕ, zero, suc, ◌+◌, ◌<◌, ◌≤◌, nat_le, nat_lt, Bool, true, false, IsTrue, List, []}
-use Rattle.std.proofs.Common.{◌∷◌, ◌++◌, length, Option, Some, None, slice_get, refl, sym, ap, ◌∙◌, subst, arith}
+use Rattle.std.proofs.Common.{◌≡◌, ℕ, zero, suc, ◌<◌, ◌≤◌, nat_le, nat_lt, Bool, true, false, IsTrue, List, []}
+use Rattle.std.proofs.Common.{◌∷◌, length, Option, Some, None, slice_get, refl, sym, ap, ◌∙◌, subst, arith}
 use Rattle.std.proofs.Common.{if◌then◌else◌}
 use Rattle.std.proofs.lemmas.Bool.Decides.{nat_tests}
 use Rattle.cat_value.specs.declared.ty.Ty.{Ty}
@@ -41,8 +41,7 @@ use Rattle.cat_scope.specs.declared.operators.SumKind.TheVariants as sum
 use Rattle.cat_scope.specs.Names.{AllHave, IsOneOf, is_output, outputs_in, items_in, scope_items, output_at, are_all_in}
 use Rattle.cat_scope.specs.Literals.{literal_type}
 use Rattle.cat_scope.specs.Signatures.{Row, rows_of, given_by, summed_type}
-use Rattle.cat_scope.specs.Fitting.{numbers_in, are_complete, cases_in, ArmLocals, field_at, type_in, field_type}
-use Rattle.cat_scope.specs.Fitting.{are_fields_of, is_low_type}
+use Rattle.cat_scope.specs.Fitting.{are_complete, cases_in, ArmLocals, field_at, type_in, field_type}
 use Rattle.cat_scope.specs.HasType.{HasType, ArmsHaveType}
 use Rattle.cat_scope.specs.HasType as typed
 use Rattle.cat_scope.specs.Naming.{IsTargetAt}
@@ -202,19 +201,19 @@ module _ (ds : Decls) (sound : AreSound ds) where
   structure_at : (n : ℕ) (s : Structure) → slice_get ds.structures n ≡ Some s → IsLow ds (flat.Structure n)
   structure_at n s e = structure_is_low n
       (is_declared_Structure ds.structures ds.enumerations n
-       ∙ lt_true n (length ds.structures) (within ds.structures n s e))
+      ∙ lt_true n (length ds.structures) (within ds.structures n s e))
 
   enumeration_at : (n : ℕ) (d : Enumeration) → slice_get ds.enumerations n ≡ Some d → IsLow ds (flat.Enumeration n)
   enumeration_at n d e = enumeration_is_low n
       (is_declared_Enumeration ds.structures ds.enumerations n
-       ∙ lt_true n (length ds.enumerations) (within ds.enumerations n d e))
+      ∙ lt_true n (length ds.enumerations) (within ds.enumerations n d e))
 
   field_low : (n k : ℕ) (s : Structure) (f : Field) → slice_get ds.structures n ≡ Some s → slice_get s.fields k ≡ Some f
       → IsLow ds f.ty
   field_low n k s f e at =
       let is = sound.structures n s e in
       let parts : part_height ds (ty.out-Ty (flat.Structure n)) ≡ highest_field (height_of ds) s.fields =
-          ap (part_height ds) (ty.outs-Structure n) ∙ ap (structure_parts (height_of ds)) e in
+      ap (part_height ds) (ty.outs-Structure n) ∙ ap (structure_parts (height_of ds)) e in
       low_type f.ty (is.declared k f at)
       (omega (arith, height_of_is ds (flat.Structure n) is.low, parts, field_below (height_of ds) s.fields k f at))
 
@@ -223,12 +222,12 @@ module _ (ds : Decls) (sound : AreSound ds) where
   case_low n k d c t e at content =
       let is = sound.enumerations n d e in
       let parts : part_height ds (ty.out-Ty (flat.Enumeration n)) ≡ highest_content (height_of ds) d.cases =
-          ap (part_height ds) (ty.outs-Enumeration n) ∙ ap (enumeration_parts (height_of ds)) e in
+      ap (part_height ds) (ty.outs-Enumeration n) ∙ ap (enumeration_parts (height_of ds)) e in
       let height : content_height (height_of ds) c.content ≡ height_of ds t =
-          ap (content_height (height_of ds)) content in
+      ap (content_height (height_of ds)) content in
       low_type t (is.declared k c t at content)
       (omega
-       (arith, height_of_is ds (flat.Enumeration n) is.low, parts, content_below (height_of ds) d.cases k c at, height))
+      (arith, height_of_is ds (flat.Enumeration n) is.low, parts, content_below (height_of ds) d.cases k c at, height))
 
   in_structure : (n k : ℕ) (t : Ty) → field_type ds n k ≡ Some t → IsLow ds t
   in_structure n k t = by (slice_get ds.structures n) refl

@@ -1,6 +1,6 @@
 -- A typed expression has one type, where its empty lists stand where a type is expected.
 use Rattle.std.proofs.Common.{◌≡◌, ◌⊎◌, ℕ, Bool, true, false, ◌&&◌, IsTrue, List, [], ◌∷◌, ◌++◌, map, Option, None}
-use Rattle.std.proofs.Common.{Some, slice_get, refl, sym, ap, ◌∙◌, subst, true≢false}
+use Rattle.std.proofs.Common.{Some, refl, sym, ap, ◌∙◌, subst, true≢false}
 use Rattle.std.proofs.Math.Logic.{⊎_elim}
 use Rattle.cat_value.specs.declared.ty.Ty.{Ty}
 use Rattle.cat_value.specs.declared.ty.Ty.TheOpen.{Ty-F}
@@ -10,7 +10,6 @@ use Rattle.cat_value.specs.declared.declaration.ItemDecl.{ItemDecl}
 use Rattle.cat_value.specs.declared.declaration.Kind.{Kind}
 use Rattle.cat_value.specs.declared.declaration.Kind.TheVariants as kind
 use Rattle.cat_value.specs.declared.decls.Decls.{Decls}
-use Rattle.cat_value.specs.Entries.{content_of}
 use Rattle.cat_scope.specs.declared.operators.BinaryOp.{BinaryOp}
 use Rattle.cat_scope.specs.declared.operators.BinaryOp.TheVariants as binary
 use Rattle.cat_scope.specs.declared.expr.ArmPattern.{ArmPattern}
@@ -19,7 +18,6 @@ use Rattle.cat_scope.specs.declared.expr.Arm.{Arm}
 use Rattle.cat_scope.specs.declared.expr.FieldValue.{FieldValue}
 use Rattle.cat_scope.specs.declared.expr.Expr.{Expr}
 use Rattle.cat_scope.specs.declared.expr.Expr.TheOpen.{Expr-F}
-use Rattle.cat_scope.specs.declared.expr.Expr.TheVariants as leaf
 use Rattle.cat_scope.specs.declared.expr.Expr.TheViews as expr
 use Rattle.cat_scope.specs.Names.{Names, AllHave, IsOneOf, is_plain, output_at}
 use Rattle.cat_scope.specs.Signatures.{Row, rows_of}
@@ -112,9 +110,9 @@ one_called : (ns : Names) (i k : ℕ) (t u : Ty) → IsCalledOutput ns i k t →
 one_called ns i k t u is are =
     let called : is.called ≡ are.called = same_some is.called are.called (sym is.called_is ∙ are.called_is) in
     let kind_is : kind.Called is.scope ≡ kind.Called are.scope =
-        sym is.kind_is ∙ ap (λ (d : ItemDecl). d.kind) called ∙ are.kind_is in
+    sym is.kind_is ∙ ap (λ (d : ItemDecl). d.kind) called ∙ are.kind_is in
     let scope : output_at ns.decls is.scope k ≡ output_at ns.decls are.scope k =
-        ap (λ s. output_at ns.decls s k) (ap called_in kind_is) in
+    ap (λ s. output_at ns.decls s k) (ap called_in kind_is) in
     one_output_of _ _ is.output are.output t u scope is.output_is are.output_is is.ty_is are.ty_is
 
 one_function : (ns : Names) (f : ℕ) (ps qs : List Ty) (t u : Ty) → IsFunction ns f ps t → IsFunction ns f qs u → t ≡ u
@@ -153,8 +151,8 @@ mutual
   one_type {ns} {ls} {t = t} u (typed.field {p = p} {e = e} {k = k} n g is) h placed =
       let s = parts_of ns ls _ (Expr-F.Field p e k) u (expr.outs-Field p e k) h in
       let same : n ≡ s.0 =
-          same_structure n s.0
-          (one_type (flat.Structure s.0) g s.1 (sym (ap (λ f. f false) (placed_Field p e k)) ∙ placed)) in
+      same_structure n s.0
+      (one_type (flat.Structure s.0) g s.1 (sym (ap (λ f. f false) (placed_Field p e k)) ∙ placed)) in
       same_some t u (sym is ∙ ap (λ m. field_type ns.decls m k) same ∙ s.2)
   one_type {ns} {ls} u (typed.unary {p = p} {o = o} {e = e} g) h placed =
       sym (parts_of ns ls _ (Expr-F.Unary p o e) u (expr.outs-Unary p o e) h).1
@@ -168,8 +166,8 @@ mutual
   one_type {ns} {ls} u (typed.choice {p = p} {c = c} {a = a} {b = b} g i j) h placed =
       let s = parts_of ns ls _ (Expr-F.If p c a b) u (expr.outs-If p c a b) h in
       let row =
-          both (lists_placed c false) (row_placed (lists_placed a ∷ lists_placed b ∷ []) false)
-          (sym (ap (λ f. f false) (placed_If p c a b)) ∙ placed) in
+      both (lists_placed c false) (row_placed (lists_placed a ∷ lists_placed b ∷ []) false)
+      (sym (ap (λ f. f false) (placed_If p c a b)) ∙ placed) in
       one_type u i s.1 (both (lists_placed a false) _ row.1).0
   one_type {ns} {ls} u (typed.matching {p = p} {e = e} {arms = arms} {t = t} n g each whole) h placed =
       let s = parts_of ns ls _ (Expr-F.Match p e arms) u (expr.outs-Match p e arms) h in
@@ -194,20 +192,20 @@ mutual
   one_type {ns} {ls} u (typed.map_each {p = p} {l = l} {e = e} {u = w} t g i declared low) h placed =
       let s = parts_of ns ls _ (Expr-F.Map p l e) u (expr.outs-Map p l e) h in
       let row =
-          both (lists_placed l false) (lists_placed e false) (sym (ap (λ f. f false) (placed_Map p l e)) ∙ placed) in
+      both (lists_placed l false) (lists_placed e false) (sym (ap (λ f. f false) (placed_Map p l e)) ∙ placed) in
       let same : t ≡ s.0 = same_element t s.0 (one_type (ty.List s.0) g s.2 row.0) in
       ap ty.List (one_type s.1 i (subst (λ (v : Ty). HasType ns (ls ++ v ∷ []) e s.1) (sym same) s.3) row.1) ∙ sym s.6
   one_type {ns} {ls} u (typed.filter {p = p} {l = l} {test = test} t g i) h placed =
       let s = parts_of ns ls _ (Expr-F.Filter p l test) u (expr.outs-Filter p l test) h in
       let row =
-          both (lists_placed l false) (lists_placed test false)
-          (sym (ap (λ f. f false) (placed_Filter p l test)) ∙ placed) in
+      both (lists_placed l false) (lists_placed test false)
+      (sym (ap (λ f. f false) (placed_Filter p l test)) ∙ placed) in
       one_type (ty.List s.0) g s.1 row.0 ∙ sym s.3
   one_type {ns} {ls} u (typed.combine {p = p} {l = l} {start = start} {e = e} t g i j) h placed =
       let s = parts_of ns ls _ (Expr-F.Combine p l start e) u (expr.outs-Combine p l start e) h in
       let row =
-          both (lists_placed l false && lists_placed start false) (lists_placed e true)
-          (sym (ap (λ f. f false) (placed_Combine p l start e)) ∙ placed) in
+      both (lists_placed l false && lists_placed start false) (lists_placed e true)
+      (sym (ap (λ f. f false) (placed_Combine p l start e)) ∙ placed) in
       one_type u i s.2 (both (lists_placed l false) (lists_placed start false) row.0).1
   one_type {ns} {ls} u (typed.contains {p = p} {q = q} {l = l} {e = e} t g i is) h placed =
       sym (parts_of ns ls _ (Expr-F.Contains p q l e) u (expr.outs-Contains p q l e) h).4
@@ -233,7 +231,7 @@ mutual
   one_type_of_arms {ns} {ls} {n} u (typed.arms_more {a = a} inside is g more) (typed.arms_more other are h _) placed =
       one_type u g
       (subst (λ (vs : List Ty). HasType ns vs a.body u)
-       (sym (one_inside ns.decls n a.pattern ls inside other is are)) h)
+      (sym (one_inside ns.decls n a.pattern ls inside other is are)) h)
       (both (lists_placed a.body false) _ placed).0
 
 pub one_type_alone : (ns : Names) (ls : List Ty) (e : Expr) (t u : Ty) → HasType ns ls e t → HasType ns ls e u

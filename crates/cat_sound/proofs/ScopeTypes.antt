@@ -51,18 +51,17 @@ same_called a b e = ap (called_or a) e
 
 unique_target : (ns : Names) (item : ℕ) (inner : Option ℕ) (ps qs : List Ty) (t u : Ty) → IsTargetAt ns item inner ps t → IsTargetAt ns item inner qs u → (ps ≡ qs) × (t ≡ u)
 unique_target ns item None ps qs t u h g =
-    let same : h.decl ≡ g.decl = same_some h.decl g.decl (sym h.decl_is ∙ g.decl_is) in
-    (
+    let same : h.decl ≡ g.decl = same_some h.decl g.decl (sym h.decl_is ∙ g.decl_is) in (
       h.params_are ∙ ap (λ (i : ItemDecl). i.params) same ∙ sym g.params_are,
       h.ty_is ∙ ap (λ (i : ItemDecl). i.ty) same ∙ sym g.ty_is,
     )
 unique_target ns item (Some n) ps qs t u h g =
     let same : h.called ≡ g.called = same_some h.called g.called (sym h.called_is ∙ g.called_is) in
     let scope : h.scope ≡ g.scope =
-        same_called h.scope g.scope (sym h.kind_is ∙ ap (λ (i : ItemDecl). i.kind) same ∙ g.kind_is) in
+    same_called h.scope g.scope (sym h.kind_is ∙ ap (λ (i : ItemDecl). i.kind) same ∙ g.kind_is) in
     let inner : h.decl ≡ g.decl =
-        same_some h.decl g.decl
-        (sym h.decl_is ∙ ap (λ s. slice_get (scope_items ns.decls s) n) scope ∙ g.decl_is) in
+    same_some h.decl g.decl
+    (sym h.decl_is ∙ ap (λ s. slice_get (scope_items ns.decls s) n) scope ∙ g.decl_is) in
     (h.params_are ∙ sym g.params_are, h.ty_is ∙ ap (λ (i : ItemDecl). i.ty) inner ∙ sym g.ty_is)
 
 inner_is : (a b : Option ℕ) → IsTrue (same_inner a b) → a ≡ b
@@ -334,7 +333,7 @@ module _ (allowed : Allowed) (ds : Decls) (scoped : Scoped) (sound : IsSound all
       variable = λ t is. absurd (not_both (is_called is.0.kind) (both (not (is_called is.0.kind)) (has_none is.0.params) is.2).0 (ap (λ (i : ItemDecl). is_called i.kind) (decl_is is.0 is.1) ∙ called_is decl.kind s is_kind));
       output = λ k t is.
           let scope_is : is.scope ≡ s =
-              same_called is.scope s (sym is.kind_is ∙ ap (λ (i : ItemDecl). i.kind) (decl_is is.called is.called_is) ∙ is_kind) in
+          same_called is.scope s (sym is.kind_is ∙ ap (λ (i : ItemDecl). i.kind) (decl_is is.called is.called_is) ∙ is_kind) in
           let there : slice_get (outputs_in callee.scope.items) k ≡ Some is.output =
           sym (ap (λ o. slice_get (outputs_in (items_in o)) k) callee.there) ∙ sym (ap (λ x. output_at ds x k) scope_is) ∙ is.output_is in
           result_as (IsOf ds t) (part k (value.Structure outputs)) (known (slice_get outputs k))

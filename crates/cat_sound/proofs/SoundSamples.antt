@@ -67,11 +67,11 @@ module _ (ds : Decls) where
   x_is_settled env arguments (suc (suc item)) None ps t target are stand = absurd (cc (target.decl_is))
   x_is_settled env arguments zero (Some inner) ps t target are stand =
       let is_kind : kind.Input ≡ kind.Called target.scope =
-          ap (λ (i : ItemDecl). i.kind) (same_some n_in target.called target.called_is) ∙ target.kind_is in
+      ap (λ (i : ItemDecl). i.kind) (same_some n_in target.called target.called_is) ∙ target.kind_is in
       absurd (cc (is_kind))
   x_is_settled env arguments (suc zero) (Some inner) ps t target are stand =
       let is_kind : kind.Output ≡ kind.Called target.scope =
-          ap (λ (i : ItemDecl). i.kind) (same_some x_out target.called target.called_is) ∙ target.kind_is in
+      ap (λ (i : ItemDecl). i.kind) (same_some x_out target.called target.called_is) ∙ target.kind_is in
       absurd (cc (is_kind))
   x_is_settled env arguments (suc (suc item)) (Some inner) ps t target are stand = absurd (cc (target.called_is))
 

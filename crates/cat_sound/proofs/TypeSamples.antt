@@ -57,9 +57,12 @@ declarations = record {
 
 integers_are_two_high : height_of declarations (ty.List flat.Integer) ≡ 2
 integers_are_two_high =
-    omega
-    (arith, height_List (pair [] [] []) (choice [] [] []) 63 flat.Integer, height_Integer (pair [] [] [])
-     (choice [] [] []) 62)
+    omega (
+      arith,
+      height_List (pair [] [] []) (choice [] [] []) 63 flat.Integer,
+      height_Integer (pair [] [] [])
+          (choice [] [] []) 62,
+    )
 
 integers_are_low : IsLow declarations (ty.List flat.Integer)
 integers_are_low = record {

@@ -67,12 +67,15 @@ chain_body = record {
   placed = (refl, (refl, tt));
   defs = (
     plain_def names 0 1 (whole 1) (at 6 11) x_out (Some (a (at 6 9))) except.No (own names 1 x_out refl refl)
-    (whole_typed names [] 1 refl),
+        (whole_typed names [] 1 refl),
     (
       guarded 0 2 (Some (b (at 7 9))) (except.Named (at 7 11) (a (at 7 21))) (at 7 23) (whole_typed names [] 0 refl)
-      (whole_typed names [] 2 refl),
-      (guarded 1 3 None (except.Named (at 8 3) (b (at 8 13))) (at 8 15) (whole_typed names [] 1 refl)
-       (whole_typed names [] 3 refl), tt),
+          (whole_typed names [] 2 refl),
+      (
+        guarded 1 3 None (except.Named (at 8 3) (b (at 8 13))) (at 8 15) (whole_typed names [] 1 refl)
+            (whole_typed names [] 3 refl),
+        tt,
+      ),
     ),
   );
   assertions = tt;

@@ -108,8 +108,8 @@ s_body = record {
   defs = (
     plain_def s_names 1 1 call (at 11 3) x_out_s None except.No (own s_names 1 x_out_s refl refl)
         (typed.scope_call
-         (typed.fields_more flat.Integer refl (typed.item (n_in_s, refl, refl, refl)) typed.fields_none) refl
-         (b_out, refl, refl)),
+        (typed.fields_more flat.Integer refl (typed.item (n_in_s, refl, refl, refl)) typed.fields_none) refl
+        (b_out, refl, refl)),
     tt,
   );
   assertions = tt;

@@ -1,10 +1,10 @@
 -- What a typed expression says of its parts: one line a form.
-use Rattle.std.specs.Prelude.{◌≡◌, ℕ, nat_le, true, IsTrue, List, [], ◌∷◌, ◌++◌, length, Some, None, slice_get}
+use Rattle.std.specs.Prelude.{◌≡◌, ℕ, nat_le, IsTrue, List, [], ◌∷◌, ◌++◌, length, Some, None, slice_get}
 use Rattle.cat_value.specs.declared.ty.Ty.{Ty}
 use Rattle.cat_value.specs.declared.ty.Ty.TheVariants as flat
 use Rattle.cat_value.specs.declared.ty.Ty.TheViews as ty
 use Rattle.cat_value.specs.Typing.{is_type, most_elements}
-use Rattle.cat_value.specs.Entries.{some_passes, content_of}
+use Rattle.cat_value.specs.Entries.{content_of}
 use Rattle.cat_scope.specs.declared.expr.Expr.{Expr}
 use Rattle.cat_scope.specs.declared.expr.FieldValue.{FieldValue}
 use Rattle.cat_scope.specs.declared.expr.Arm.{Arm}
@@ -13,7 +13,7 @@ use Rattle.cat_scope.specs.Literals.{literal_type, literal_fits}
 use Rattle.cat_scope.specs.Signatures.{Row, rows_of, taken_by, given_by, summed_type, compared_types}
 use Rattle.cat_scope.specs.Names.{Names, IsOneOf, is_plain}
 use Rattle.cat_scope.specs.Fitting.{numbers_in, are_complete, field_type, are_fields_of, is_low_type, are_call_fields}
-use Rattle.cat_scope.specs.Fitting.{input_type}
+use Rattle.cat_scope.specs.Fitting.{has_case, input_type}
 use Rattle.cat_scope.specs.Naming.{IsItem, IsCalledOutput, IsFunction, IsOutput}
 use Rattle.cat_scope.specs.HasType.{HasType, AllHaveType, EachHasType, FieldsHaveType, ArmsHaveType}
 
@@ -34,8 +34,7 @@ PartsTyped ns ls (Expr-F.If p c a b) t = HasType ns ls c flat.Boolean × HasType
 PartsTyped ns ls (Expr-F.Match p e arms) t =
     (n : ℕ) × HasType ns ls e (flat.Enumeration n) × ArmsHaveType ns ls n arms t × IsTrue (are_complete ns.decls n arms)
 PartsTyped ns ls (Expr-F.IsCase p e n k) t =
-    HasType ns ls e (flat.Enumeration n) × IsTrue (some_passes (λ content. true) (content_of ns.decls n k))
-    × (t ≡ flat.Boolean)
+    HasType ns ls e (flat.Enumeration n) × IsTrue (has_case ns.decls n k) × (t ≡ flat.Boolean)
 PartsTyped ns ls (Expr-F.Case p n k None) t = (content_of ns.decls n k ≡ Some None) × (t ≡ flat.Enumeration n)
 PartsTyped ns ls (Expr-F.Case p n k (Some e)) t =
     (u : Ty) × (content_of ns.decls n k ≡ Some (Some u)) × HasType ns ls e u × (t ≡ flat.Enumeration n)

@@ -89,7 +89,7 @@ AreSettled allowed ns scope defs =
     → AreOf ns.decls ps arguments
     → AllHave
     (λ d. IsTrue (same_target d.target (record { scope = scope; item = item; inner = inner }))
-     → StandsIn allowed ns env ps t d) defs
+    → StandsIn allowed ns env ps t d) defs
     → IsSettled allowed (record { scope = scope; item = item; inner = inner })
     (may_be_empty ns item inner) ns.decls ps t
     (judge_target (λ e. eval env e arguments) (record { scope = scope; item = item; inner = inner }) defs).end
