@@ -1,5 +1,5 @@
 -- The forms that go over lists end in values of their types.
-use Rattle.std.proofs.Common.{◌≤◌, nat_le, pos, Bool, true, false, if◌then◌else◌, IsTrue, List, [], ◌∷◌, length, Result, Ok, refl, ap, ◌∙◌, arith}
+use Rattle.std.proofs.Common.{◌≤◌, inl, nat_le, pos, Bool, true, false, if◌then◌else◌, IsTrue, List, [], ◌∷◌, length, Result, Ok, refl, ap, ◌∙◌, arith}
 use Rattle.std.proofs.lemmas.Bool.Decides.{nat_tests}
 use Rattle.cat_pos.specs.declared.pos.Pos.{Pos}
 use Rattle.cat_date.specs.declared.rounding.Rounding.TheVariants.{Refuse}
@@ -13,6 +13,7 @@ use Rattle.cat_value.specs.declared.decls.Decls.{Decls}
 use Rattle.cat_value.specs.Typing.{is_type, most_elements, all_have_type, elements_typed}
 use Rattle.cat_value.proofs.Equations.{has_type_List}
 use Rattle.cat_value.proofs.Inversions.{list_value}
+use Rattle.cat_scope.specs.declared.operators.BinaryOp.TheVariants as binary
 use Rattle.cat_scope.specs.declared.operators.SumKind.{SumKind}
 use Rattle.cat_scope.specs.declared.operators.SumKind.TheVariants as sum
 use Rattle.cat_scope.specs.Runs.{Run, gives, in_front}
@@ -21,7 +22,7 @@ use Rattle.cat_scope.specs.Operators.{operate, over_one}
 use Rattle.cat_scope.specs.Comparing.{equal}
 use Rattle.cat_scope.specs.Lists.{for_all, exists, mapped, filtered, combined, contained, zero_of, adding, summed}
 use Rattle.cat_scope.specs.Names.{IsOneOf}
-use Rattle.cat_scope.specs.Signatures.{summed_type, compared_types}
+use Rattle.cat_scope.specs.Signatures.{Row, summed_type, compared_types}
 use Rattle.cat_scope.specs.Names.{AllHave}
 use Rattle.cat_sound.specs.Endings.{Allowed, EndsIn, ResultsIn, IsOf}
 use Rattle.cat_sound.proofs.Results.{both, and_both, Any, result_as, result_then}
@@ -29,7 +30,7 @@ use Rattle.cat_sound.proofs.Endings.{ends_then, ends_in_front, ends_choose, ends
 use Rattle.cat_scope.specs.declared.stop.Stop.{Stop}
 use Rattle.cat_sound.proofs.Fits.{whole_decimal}
 use Rattle.cat_sound.proofs.FlatTypes.{of-Boolean, of-Integer, of-Decimal, of-Money, of-Duration}
-use Rattle.cat_sound.proofs.OperatorTypes.{of-AddIntegers, of-AddDecimals, of-AddMoney, of-AddDurations, equal-ends}
+use Rattle.cat_sound.proofs.OperatorTypes.{operators_go_on, equal-ends}
 
 -- what holds of the elements of a list of a type
 pub record AreElements (ds : Decls) (t : Ty) (vs : List Value) : Type 0 where
@@ -131,11 +132,18 @@ zero-typed ds sum.Decimals = of-Decimal ds (over_one (pos 0)) (whole_decimal (po
 zero-typed ds sum.Money = of-Money ds (pos 0) refl
 zero-typed ds sum.Durations = of-Duration ds (record { months = pos 0; days = pos 0 }) refl
 
+abbrev alike : Ty → Row
+alike t = record { left = t; right = t; result = t }
+
 adding-ends : (ds : Decls) (kind : SumKind) (p : Pos) (v w : Value) → IsOf ds (summed_type kind) v → IsOf ds (summed_type kind) w → ResultsIn (IsOf ds (summed_type kind)) (operate Refuse (adding kind) p v w)
-adding-ends ds sum.Integers p v w hv hw = of-AddIntegers ds Refuse p v w hv hw
-adding-ends ds sum.Decimals p v w hv hw = of-AddDecimals ds Refuse p v w hv hw
-adding-ends ds sum.Money p v w hv hw = of-AddMoney ds Refuse p v w hv hw
-adding-ends ds sum.Durations p v w hv hw = of-AddDurations ds Refuse p v w hv hw
+adding-ends ds sum.Integers p v w hv hw =
+    operators_go_on ds Refuse p v w (alike ty.Integer) binary.AddIntegers (inl refl) hv hw
+adding-ends ds sum.Decimals p v w hv hw =
+    operators_go_on ds Refuse p v w (alike ty.Decimal) binary.AddDecimals (inl refl) hv hw
+adding-ends ds sum.Money p v w hv hw =
+    operators_go_on ds Refuse p v w (alike ty.Money) binary.AddMoney (inl refl) hv hw
+adding-ends ds sum.Durations p v w hv hw =
+    operators_go_on ds Refuse p v w (alike ty.Duration) binary.AddDurations (inl refl) hv hw
 
 pub summed-ends : (ds : Decls) (kind : SumKind) (p : Pos) (vs : List Value) (total : Value) → AllHave (IsOf ds (summed_type kind)) vs → IsOf ds (summed_type kind) total
     → ResultsIn (IsOf ds (summed_type kind)) (summed kind p vs total)

@@ -1,5 +1,5 @@
 -- A typed expression has one type, where its empty lists stand where a type is expected.
-use Rattle.std.proofs.Common.{◌≡◌, ◌⊎◌, ℕ, Bool, true, false, ◌&&◌, IsTrue, List, [], ◌∷◌, ◌++◌, map, Option, None}
+use Rattle.std.proofs.Common.{◌≡◌, ℕ, Bool, true, false, ◌&&◌, IsTrue, List, [], ◌∷◌, ◌++◌, map, Option, None}
 use Rattle.std.proofs.Common.{Some, refl, sym, ap, ◌∙◌, subst, true≢false}
 use Rattle.std.proofs.Math.Logic.{⊎_elim}
 use Rattle.cat_value.specs.declared.ty.Ty.{Ty}

@@ -1,5 +1,5 @@
 -- Samples that meet the premises of the laws of types.
-use Rattle.std.proofs.Common.{◌≡◌, nat_le, false, IsTrue, List, [], ◌∷◌, Some, refl, ap, rules, arith}
+use Rattle.std.proofs.Common.{◌≡◌, nat_le, false, IsTrue, [], ◌∷◌, Some, refl, ap, rules, arith}
 use Rattle.cat_value.specs.declared.ty.Ty.{Ty}
 use Rattle.cat_value.specs.declared.ty.Ty.TheVariants as flat
 use Rattle.cat_value.specs.declared.ty.Ty.TheViews as ty
