@@ -3,9 +3,11 @@
 
 mod amounts;
 mod arguments;
+mod bytes;
 mod days;
 mod expressions;
 mod fractions;
+mod gathers;
 mod orders;
 mod problem;
 mod runs;
@@ -13,6 +15,7 @@ mod sources;
 mod spans;
 mod tokens;
 mod trees;
+mod weaves;
 mod wholes;
 
 use crate::arguments::Arguments;
@@ -37,9 +40,12 @@ enum Subject {
     Cuts,
     TowerHeight,
     TowerTree,
+    Weave,
+    Gather,
+    IncludeChain,
 }
 
-const SUBJECTS: [(&str, Subject); 13] = [
+const SUBJECTS: [(&str, Subject); 16] = [
     ("frac", Subject::Frac),
     ("whole", Subject::Whole),
     ("money", Subject::Money),
@@ -53,6 +59,9 @@ const SUBJECTS: [(&str, Subject); 13] = [
     ("cuts", Subject::Cuts),
     ("tower_height", Subject::TowerHeight),
     ("tower_tree", Subject::TowerTree),
+    ("weave", Subject::Weave),
+    ("gather", Subject::Gather),
+    ("include_chain", Subject::IncludeChain),
 ];
 
 /// What the call of the line gives. A comment and an empty line stay as they are.
@@ -75,6 +84,9 @@ fn answer(alloc: Global, line: &str) -> Result<String, Problem> {
         Subject::Cuts => expressions::cuts(alloc, given.rest()),
         Subject::TowerHeight => expressions::tower(alloc, &mut given, Question::Height),
         Subject::TowerTree => expressions::tower(alloc, &mut given, Question::Tree),
+        Subject::Weave => weaves::answer(alloc, given.rest()),
+        Subject::Gather => gathers::answer(alloc, &mut given),
+        Subject::IncludeChain => gathers::chain(alloc, &mut given),
     }
 }
 

@@ -1,6 +1,6 @@
 //! Why a line has no answer.
 
-use std::alloc::AllocError;
+use std::alloc::{AllocError, AllocFailed};
 
 /// Why a line has no answer.
 #[derive(Debug, Drop)]
@@ -12,6 +12,12 @@ pub enum Problem {
 
 impl From<AllocError> for Problem {
     fn from(_error: AllocError) -> Problem {
+        Problem::Memory
+    }
+}
+
+impl<T: Drop> From<AllocFailed<T>> for Problem {
+    fn from(_failed: AllocFailed<T>) -> Problem {
         Problem::Memory
     }
 }

@@ -1,4 +1,4 @@
-//! Source texts as a line spells them, and their tokens.
+//! Source texts as a line spells them, their positions, and their tokens.
 
 use crate::problem::Problem;
 use cat_lex::{LexRefusal, Tokens, lex};
@@ -10,6 +10,12 @@ pub fn spelled(alloc: Global, text: &str) -> Result<String, AllocError> {
     let text = text.replace(alloc, "\\n", "\n")?;
     let text = text.replace(alloc, "\\r", "\r")?;
     text.replace(alloc, "\\t", "\t")
+}
+
+/// File, line and column.
+pub fn show_pos(alloc: Global, pos: Pos) -> Result<String, AllocError> {
+    let Pos { file, line, column } = pos;
+    format!(in alloc; "{file}:{line}:{column}")
 }
 
 /// What stands in front of the first mark and behind it.

@@ -1,7 +1,7 @@
 //! Calls that read tokens. The text stands in line 7 of file 3, from column 5 on; what follows `\/` is another piece.
 
 use crate::problem::Problem;
-use crate::sources::{spelled, tokens_of_two};
+use crate::sources::{show_pos, spelled, tokens_of_two};
 use cat_date::number;
 use cat_lex::{LexRefusal, Token, TokenKind, Tokens};
 use cat_pos::Pos;
@@ -44,12 +44,6 @@ fn refused(alloc: Global, refusal: LexRefusal) -> Result<String, Problem> {
     };
     let pos = show_pos(alloc, pos)?;
     Ok(format!(in alloc; "{name} {pos}")?)
-}
-
-/// File, line and column.
-fn show_pos(alloc: Global, pos: Pos) -> Result<String, AllocError> {
-    let Pos { file, line, column } = pos;
-    format!(in alloc; "{file}:{line}:{column}")
 }
 
 fn shown(alloc: Global, tokens: &[Token]) -> Result<String, AllocError> {
