@@ -1,5 +1,7 @@
 -- Results of the operations on numbers, dates and durations are in their ranges.
-use Rattle.std.proofs.Common.{◌≡◌, ℕ, zero, suc, ◌+◌, ◌*◌, ◌/◌, ◌%◌, ◌<◌, ◌≤◌, nat_le, ℤ, pos, negsuc, neg_ℤ, ◌+ℤ◌, ◌-ℤ◌, ◌≤ℤ◌, unsigned_abs, Bool, true, false, ◌&&◌, IsTrue, Result, Ok, Err, if◌then◌else◌, refl, sym, ap, ◌∙◌, subst, arith, ⊎_elim, nat_lt, ◌==◌}
+use Rattle.std.proofs.Common.{◌≡◌, ℕ, zero, suc, ◌+◌, ◌*◌, ◌/◌, ◌%◌, ◌<◌, ◌≤◌, nat_le, ℤ, pos, negsuc, neg_ℤ, ◌+ℤ◌}
+use Rattle.std.proofs.Common.{◌-ℤ◌, ◌≤ℤ◌, unsigned_abs, Bool, true, false, ◌&&◌, IsTrue, Result, Ok, Err, if◌then◌else◌}
+use Rattle.std.proofs.Common.{refl, sym, ap, ◌∙◌, subst, arith, ⊎_elim, nat_lt, ◌==◌}
 use Rattle.std.proofs.lemmas.Bool.{cases_lt}
 use Rattle.std.proofs.lemmas.Bool.Decides.{nat_tests}
 use Rattle.std.proofs.Math.Nat.{div-le_self, eq-zero-or-pos}
@@ -13,7 +15,8 @@ use Rattle.cat_num.specs.Numerals.{Numeral, is_numeral, numeral_value}
 use Rattle.cat_num.proofs.Numerals.{value_reduced}
 use Rattle.cat_num.proofs.Gcd.{gcd-mod, gcd-zero}
 use Rattle.cat_num.proofs.Signs.{unsigned_abs-signed, signed-product}
-use Rattle.cat_num.proofs.Fracs.{ratio-zero, ratio-large_num, ratio-large_den, ratio-fits, lowest_parts, IsReduced-lowest}
+use Rattle.cat_num.proofs.Fracs.{ratio-zero, ratio-large_num, ratio-large_den, ratio-fits, lowest_parts}
+use Rattle.cat_num.proofs.Fracs.{IsReduced-lowest}
 use Rattle.cat_num.proofs.Rounds.{Fits-rounded}
 use Rattle.cat_date.specs.declared.fault.DateFault.{DateFault}
 use Rattle.cat_date.specs.declared.fault.DateFault.TheVariants as date
@@ -76,10 +79,12 @@ den_of f h = grind (arith, nat_tests)
 num_of : (f : Fraction) → IsTrue (is_decimal f) → unsigned_abs f.num ≤ largest
 num_of f h = grind (arith, nat_tests)
 
-lowest_decimal : (n : ℤ) (d : ℕ) → 0 < d → unsigned_abs n / gcd (unsigned_abs n) d ≤ largest → d / gcd (unsigned_abs n) d ≤ largest → IsTrue (is_decimal (lowest n d))
+lowest_decimal : (n : ℤ) (d : ℕ) → 0 < d → unsigned_abs n / gcd (unsigned_abs n) d ≤ largest
+    → d / gcd (unsigned_abs n) d ≤ largest → IsTrue (is_decimal (lowest n d))
 lowest_decimal n d h p q =
     subst (λ (f : Fraction). IsTrue (is_decimal f)) (sym (lowest_parts n d))
-    (decimal_of (signed (is_negative n) (unsigned_abs n / gcd (unsigned_abs n) d)) (d / gcd (unsigned_abs n) d) (IsReduced-lowest n d h p q))
+    (decimal_of (signed (is_negative n) (unsigned_abs n / gcd (unsigned_abs n) d)) (d / gcd (unsigned_abs n) d)
+    (IsReduced-lowest n d h p q))
 
 pub ratio_decimal : (n : ℤ) (d : ℕ) (f : Fraction) → ratio n d ≡ Ok f → IsTrue (is_decimal f)
 ratio_decimal n d f h =
@@ -89,7 +94,8 @@ ratio_decimal n d f h =
     (λ big. absurd (cc (ratio-large_num n d some big)))
     (λ num. ⊎_elim
     (λ big. absurd (cc (ratio-large_den n d some big)))
-    (λ den. subst (λ (g : Fraction). IsTrue (is_decimal g)) (same_ok (lowest n d) f (ratio n d) (ratio-fits n d some num den) h) (lowest_decimal n d some num den))
+    (λ den. subst (λ (g : Fraction). IsTrue (is_decimal g))
+    (same_ok (lowest n d) f (ratio n d) (ratio-fits n d some num den) h) (lowest_decimal n d some num den))
     (cases_lt largest (d / gcd (unsigned_abs n) d)))
     (cases_lt largest (unsigned_abs n / gcd (unsigned_abs n) d)))
     (eq-zero-or-pos d)
@@ -99,7 +105,8 @@ frac_decimal n (pos d) f h = ratio_decimal n d f h
 frac_decimal n (negsuc d) f h = ratio_decimal (neg_ℤ n) (suc d) f h
 
 pub negation_decimal : (f : Fraction) → IsTrue (is_decimal f) → IsTrue (is_decimal (frac_negation f))
-negation_decimal f h = ap (λ u. nat_lt 0 f.den && nat_le f.den largest && nat_le u largest && gcd u f.den == 1) (abs-neg f.num) ∙ h
+negation_decimal f h =
+    ap (λ u. nat_lt 0 f.den && nat_le f.den largest && nat_le u largest && gcd u f.den == 1) (abs-neg f.num) ∙ h
 
 pub whole_decimal : (n : ℤ) → IsTrue (fits n) → IsTrue (is_decimal (over_one n))
 whole_decimal n h =
@@ -114,7 +121,8 @@ whole_decimal n h =
 pub cents_decimal : (n : ℤ) → IsTrue (fits n) → IsTrue (is_decimal (lowest n 100))
 cents_decimal n h =
     let size = size_of n h in
-    lowest_decimal n 100 (omega arith) (omega (arith, div-le_self (unsigned_abs n) (gcd (unsigned_abs n) 100))) (omega (arith, div-le_self 100 (gcd (unsigned_abs n) 100)))
+    lowest_decimal n 100 (omega arith) (omega (arith, div-le_self (unsigned_abs n) (gcd (unsigned_abs n) 100)))
+    (omega (arith, div-le_self 100 (gcd (unsigned_abs n) 100)))
 
 pub rounded_fits : (f : Fraction) → IsTrue (is_decimal f) → IsTrue (fits (rounded f.num f.den))
 rounded_fits f h = fits_of (rounded f.num f.den) (Fits-rounded f.num f.den (den_of f h) (num_of f h))
@@ -122,13 +130,19 @@ rounded_fits f h = fits_of (rounded f.num f.den) (Fits-rounded f.num f.den (den_
 pub truncated_fits : (f : Fraction) → IsTrue (is_decimal f) → IsTrue (fits (truncated f.num f.den))
 truncated_fits f h =
     let size = num_of f h in
-    fits_of (truncated f.num f.den) (omega (arith, unsigned_abs-signed (is_negative f.num) (unsigned_abs f.num / f.den), div-le_self (unsigned_abs f.num) f.den))
+    fits_of (truncated f.num f.den)
+    (omega (
+      arith,
+      unsigned_abs-signed (is_negative f.num) (unsigned_abs f.num / f.den),
+      div-le_self (unsigned_abs f.num) f.den,
+    ))
 
 pub units_fit : (n : ℤ) → IsTrue (fits n) → IsTrue (fits (whole_units n))
 units_fit n h =
     let size = size_of n h in
     let q = (2 * unsigned_abs n + 100) / (2 * 100) in
-    let is : unsigned_abs (whole_units n) ≡ q * 100 = ap unsigned_abs (signed-product (is_negative n) q 100) ∙ unsigned_abs-signed (is_negative n) (q * 100) in
+    let is : unsigned_abs (whole_units n) ≡ q * 100 =
+    ap unsigned_abs (signed-product (is_negative n) q 100) ∙ unsigned_abs-signed (is_negative n) (q * 100) in
     fits_of (whole_units n) (omega arith)
 
 -- a year, a month and a day of the month
@@ -136,7 +150,8 @@ year_size : (y : ℤ) → pos 1 ≤ℤ y → y ≤ℤ pos 9999 → unsigned_abs 
 year_size y low high = omega (arith, signed_arith, one_part y)
 
 pub year_fits : (n : ℤ) → IsTrue (is_day n) → IsTrue (fits (civil_of n).year)
-year_fits n h = let is = civil_of-IsDateOf n h in fits_of (civil_of n).year (year_size (civil_of n).year is.first is.civil.0.1)
+year_fits n h =
+    let is = civil_of-IsDateOf n h in fits_of (civil_of n).year (year_size (civil_of n).year is.first is.civil.0.1)
 
 pub month_fits : (n : ℤ) → IsTrue (is_day n) → IsTrue (fits (pos (civil_of n).month))
 month_fits n h = let is = civil_of-IsDateOf n h in fits_of (pos (civil_of n).month) (omega (arith, is.civil.1.1))
@@ -144,13 +159,16 @@ month_fits n h = let is = civil_of-IsDateOf n h in fits_of (pos (civil_of n).mon
 pub day_fits : (n : ℤ) → IsTrue (is_day n) → IsTrue (fits (pos (civil_of n).day))
 day_fits n h =
     let is = civil_of-IsDateOf n h in
-    fits_of (pos (civil_of n).day) (omega (arith, is.civil.2.1, days_in_month_bounds (civil_of n).year (civil_of n).month))
+    fits_of (pos (civil_of n).day)
+    (omega (arith, is.civil.2.1, days_in_month_bounds (civil_of n).year (civil_of n).month))
 
 pub negation_span : (s : SpanOf) → IsTrue (is_span s) → IsTrue (is_span (span_negated s))
 negation_span s h =
-    ap (λ u. nat_le u largest && is_part (neg_ℤ s.days)) (abs-neg s.months) ∙ ap (λ u. is_part s.months && nat_le u largest) (abs-neg s.days) ∙ h
+    ap (λ u. nat_le u largest && is_part (neg_ℤ s.days)) (abs-neg s.months)
+    ∙ ap (λ u. is_part s.months && nat_le u largest) (abs-neg s.days) ∙ h
 
-difference_size : (a b : ℤ) → negsuc 719_161 ≤ℤ a → a ≤ℤ pos 2_932_896 → negsuc 719_161 ≤ℤ b → b ≤ℤ pos 2_932_896 → unsigned_abs (a -ℤ b) ≤ largest
+difference_size : (a b : ℤ) → negsuc 719_161 ≤ℤ a → a ≤ℤ pos 2_932_896 → negsuc 719_161 ≤ℤ b → b ≤ℤ pos 2_932_896
+    → unsigned_abs (a -ℤ b) ≤ largest
 difference_size a b h i j k = omega (arith, signed_arith, one_part (a -ℤ b))
 
 pub days_span : (a b : ℤ) → IsTrue (is_day a) → IsTrue (is_day b) → IsTrue (is_span (span_of_days (a -ℤ b)))
