@@ -1,5 +1,7 @@
 -- A function is judged by the rule of targets in the whole scope.
-use Rattle.std.proofs.Common.{◌≡◌, ◌⊎◌, inl, inr, ℕ, ◌+◌, ◌<◌, ◌≤◌, Bool, true, false, IsTrue, List, [], ◌∷◌, ◌++◌, length, take, drop, None, slice_get, refl, sym, ap, ◌∙◌, subst, arith, true≢false, if◌then◌else◌}
+use Rattle.std.proofs.Common.{◌≡◌, ◌⊎◌, inl, inr, ℕ, ◌+◌, ◌<◌, ◌≤◌, Bool, true, false, IsTrue, List, [], ◌∷◌, ◌++◌}
+use Rattle.std.proofs.Common.{length, take, drop, None, slice_get, refl, sym, ap, ◌∙◌, subst, arith, true≢false}
+use Rattle.std.proofs.Common.{if◌then◌else◌}
 use Rattle.std.specs.Prelude.{nat_eq}
 use Rattle.std.proofs.lemmas.Bool.Decides.{nat_tests}
 use Rattle.std.proofs.lemmas.List.{take-append-drop}
@@ -16,7 +18,8 @@ use Rattle.cat_scope.specs.Running.{moved, backwards}
 use Rattle.cat_sound.specs.Rests.{TellSame, CallSame}
 use Rattle.cat_sound.proofs.FormTypes.{same_number, not_true}
 use Rattle.cat_sound.proofs.TargetTypes.{all_more}
-use Rattle.cat_sound.proofs.OrderFacts.{AllIn, Behind, Ahead, moved-behind, moved_new, ahead-of_IsOrder, all-of_IsOrder, ahead_as, dependencies-length, dependencies-at}
+use Rattle.cat_sound.proofs.OrderFacts.{AllIn, Behind, Ahead, moved-behind, moved_new, ahead-of_IsOrder, all-of_IsOrder}
+use Rattle.cat_sound.proofs.OrderFacts.{ahead_as, dependencies-length, dependencies-at}
 use Rattle.cat_sound.proofs.JudgingSame.{target_same, defs_agree}
 
 -- ---- lists without repetition
@@ -29,13 +32,16 @@ in_times : (xs : List ℕ) (x : ℕ) → IsTrue (is_in x xs) → 0 < times xs x
 in_times [] x h = not_true h
 in_times (y ∷ xs) x h = by (nat_eq x y) refl h (in_times xs x)
   where
-    by : (b : Bool) → nat_eq x y ≡ b → IsTrue (if b then true else is_in x xs) → (IsTrue (is_in x xs) → 0 < times xs x) → 0 < times (y ∷ xs) x
+    by : (b : Bool) → nat_eq x y ≡ b → IsTrue (if b then true else is_in x xs)
+        → (IsTrue (is_in x xs) → 0 < times xs x) → 0 < times (y ∷ xs) x
     by true e g rest = grind (arith, nat_tests)
     by false e g rest = omega (arith, rest g)
 
-pub distinct : (bound : ℕ) (needs : ℕ → List ℕ) (ns : List ℕ) → Behind bound needs ns → ((x : ℕ) → x < bound → times ns x ≤ 1) → Distinct ns
+pub distinct : (bound : ℕ) (needs : ℕ → List ℕ) (ns : List ℕ) → Behind bound needs ns
+    → ((x : ℕ) → x < bound → times ns x ≤ 1) → Distinct ns
 distinct bound needs [] behind few = tt
-distinct bound needs (n ∷ ns) behind few = (by (is_in n ns) refl, distinct bound needs ns behind.2 (λ x below. fewer x (few x below)))
+distinct bound needs (n ∷ ns) behind few =
+    (by (is_in n ns) refl, distinct bound needs ns behind.2 (λ x below. fewer x (few x below)))
   where
     fewer : (x : ℕ) → times (n ∷ ns) x ≤ 1 → times ns x ≤ 1
     fewer x h = omega (arith, h)
@@ -52,7 +58,8 @@ times_moved before [] x = omega arith
 times_moved before (n ∷ left) x = let rest = times_moved (n ∷ before) left x in omega (arith, rest)
 
 -- the order from its end has no number twice
-pub distinct_order : (deps : List (List ℕ)) (order : List ℕ) (bound : ℕ) (needs : ℕ → List ℕ) → IsOrder deps order → length deps ≡ bound → Behind bound needs (backwards order) → Distinct (backwards order)
+pub distinct_order : (deps : List (List ℕ)) (order : List ℕ) (bound : ℕ) (needs : ℕ → List ℕ) → IsOrder deps order
+    → length deps ≡ bound → Behind bound needs (backwards order) → Distinct (backwards order)
 distinct_order deps order bound needs is same behind =
     distinct bound needs (backwards order) behind (λ x below. once x below (times_moved [] order x))
   where
@@ -79,23 +86,33 @@ in_behind x y ns h = by (nat_eq x y)
     by false = h
 
 -- what a number needs stands behind it
-pub needs_behind : (bound : ℕ) (needs : ℕ → List ℕ) (before : List ℕ) (k : ℕ) → Behind bound needs before → IsTrue (is_in k before) → AllIn before (needs k)
+pub needs_behind : (bound : ℕ) (needs : ℕ → List ℕ) (before : List ℕ) (k : ℕ) → Behind bound needs before
+    → IsTrue (is_in k before) → AllIn before (needs k)
 needs_behind bound needs [] k behind there = not_true there
-needs_behind bound needs (m ∷ before) k behind there = by (nat_eq k m) refl there (λ g. needs_behind bound needs before k behind.2 g)
+needs_behind bound needs (m ∷ before) k behind there =
+    by (nat_eq k m) refl there (λ g. needs_behind bound needs before k behind.2 g)
   where
-    by : (b : Bool) → nat_eq k m ≡ b → IsTrue (if b then true else is_in k before) → (IsTrue (is_in k before) → AllIn before (needs k)) → AllIn (m ∷ before) (needs k)
-    by true e g rest = all_more (λ n. IsTrue (is_in n before)) (λ n. IsTrue (is_in n (m ∷ before))) (needs k) (subst (λ (x : ℕ). AllIn before (needs x)) (sym (same_number k m e)) behind.1) (λ n h. in_behind n m before h)
-    by false e g rest = all_more (λ n. IsTrue (is_in n before)) (λ n. IsTrue (is_in n (m ∷ before))) (needs k) (rest g) (λ n h. in_behind n m before h)
+    by : (b : Bool) → nat_eq k m ≡ b → IsTrue (if b then true else is_in k before)
+        → (IsTrue (is_in k before) → AllIn before (needs k)) → AllIn (m ∷ before) (needs k)
+    by true e g rest =
+        all_more (λ n. IsTrue (is_in n before)) (λ n. IsTrue (is_in n (m ∷ before))) (needs k)
+        (subst (λ (x : ℕ). AllIn before (needs x)) (sym (same_number k m e)) behind.1) (λ n h. in_behind n m before h)
+    by false e g rest =
+        all_more (λ n. IsTrue (is_in n before)) (λ n. IsTrue (is_in n (m ∷ before))) (needs k) (rest g)
+        (λ n h. in_behind n m before h)
 
-in_moved : (before left : List ℕ) (x : ℕ) → IsTrue (is_in x (moved before left)) → IsTrue (is_in x before) ⊎ IsTrue (is_in x left)
+in_moved : (before left : List ℕ) (x : ℕ) → IsTrue (is_in x (moved before left))
+    → IsTrue (is_in x before) ⊎ IsTrue (is_in x left)
 in_moved before [] x h = inl h
 in_moved before (n ∷ left) x h = either_in (in_moved (n ∷ before) left x h)
   where
-    first_in : (b : Bool) → nat_eq x n ≡ b → IsTrue (if b then true else is_in x before) → IsTrue (is_in x before) ⊎ IsTrue (is_in x (n ∷ left))
+    first_in : (b : Bool) → nat_eq x n ≡ b → IsTrue (if b then true else is_in x before)
+        → IsTrue (is_in x before) ⊎ IsTrue (is_in x (n ∷ left))
     first_in true e g = inr (ap (λ (b : Bool). if b then true else is_in x left) e)
     first_in false e g = inl g
 
-    either_in : IsTrue (is_in x (n ∷ before)) ⊎ IsTrue (is_in x left) → IsTrue (is_in x before) ⊎ IsTrue (is_in x (n ∷ left))
+    either_in : IsTrue (is_in x (n ∷ before)) ⊎ IsTrue (is_in x left)
+        → IsTrue (is_in x before) ⊎ IsTrue (is_in x (n ∷ left))
     either_in (inl g) = first_in (nat_eq x n) refl g
     either_in (inr g) = inr (in_behind x n left g)
 
@@ -106,11 +123,12 @@ in_moved_front left x h = which (in_moved [] left x h)
     which (inl g) = not_true g
     which (inr g) = g
 
-moved_append : (before front back : List ℕ) → moved before (front ++ back) ≡ moved (moved before front) back
+pub moved_append : (before front back : List ℕ) → moved before (front ++ back) ≡ moved (moved before front) back
 moved_append before [] back = refl
 moved_append before (n ∷ front) back = moved_append (n ∷ before) front back
 
-ahead_front : (bound : ℕ) (needs : ℕ → List ℕ) (before front back : List ℕ) → Ahead bound needs before (front ++ back) → Ahead bound needs before front
+ahead_front : (bound : ℕ) (needs : ℕ → List ℕ) (before front back : List ℕ)
+    → Ahead bound needs before (front ++ back) → Ahead bound needs before front
 ahead_front bound needs before [] back h = tt
 ahead_front bound needs before (n ∷ front) back h = (h.0, h.1, ahead_front bound needs (n ∷ before) front back h.2)
 
@@ -123,7 +141,8 @@ module _ (scoped : Scoped) where
   abbrev Calls : Type 0
   Calls = ℕ → List Value → Run Value
 
-  no_scopes : (a b : Env) → ((k : ℕ) → CallSame a b k) → (defs : List Def) → AllHave (λ d. AllHave (CallSame a b) (in_def scopes_named d)) defs
+  no_scopes : (a b : Env) → ((k : ℕ) → CallSame a b k) → (defs : List Def)
+      → AllHave (λ d. AllHave (CallSame a b) (in_def scopes_named d)) defs
   no_scopes a b go [] = tt
   no_scopes a b go (d ∷ defs) = (each (in_def scopes_named d), no_scopes a b go defs)
     where
@@ -135,35 +154,51 @@ module _ (scoped : Scoped) where
   abbrev Tells : Calls → Calls → Items → Items → ℕ → Type 0
   Tells calls others values more k = TellSame (env_of scoped calls values) (env_of scoped others more) k
 
-  judged_as : (calls others : Calls) (values more : Items) (arguments : List Value) (item : ℕ) → AllHave (Tells calls others values more) (needs item)
-      → judged scoped calls values arguments (variable scoped item) ≡ judged scoped others more arguments (variable scoped item)
+  judged_as : (calls others : Calls) (values more : Items) (arguments : List Value) (item : ℕ)
+      → AllHave (Tells calls others values more) (needs item)
+      → judged scoped calls values arguments (variable scoped item) ≡ judged scoped others more arguments
+      (variable scoped item)
   judged_as calls others values more arguments item tell =
-      target_same (λ e. eval (env_of scoped calls values) e arguments) (λ e. eval (env_of scoped others more) e arguments) (variable scoped item) scoped.body.defs
-      (defs_agree (env_of scoped calls values) (env_of scoped others more) arguments item None scoped.scope refl scoped.body.defs tell
+      target_same (λ e. eval (env_of scoped calls values) e arguments)
+      (λ e. eval (env_of scoped others more) e arguments) (variable scoped item) scoped.body.defs
+      (defs_agree (env_of scoped calls values)
+      (env_of scoped others more) arguments item None scoped.scope refl scoped.body.defs tell
       (no_scopes (env_of scoped calls values) (env_of scoped others more) (λ k fields output. refl) scoped.body.defs))
 
   -- one more item behind changes nothing
-  one_behind : (values : Items) (m : ℕ) (before : List ℕ) (f : ℕ) (arguments : List Value) → is_in m before ≡ false → IsTrue (is_in f before) → call scoped values (m ∷ before) f arguments ≡ call scoped values before f arguments
+  one_behind : (values : Items) (m : ℕ) (before : List ℕ) (f : ℕ) (arguments : List Value) → is_in m before ≡ false
+      → IsTrue (is_in f before) → call scoped values (m ∷ before) f arguments ≡ call scoped values before f arguments
   one_behind values m before f arguments out there =
-      ap (λ (b : Bool). if b then variable_value (variable scoped m) (slice_get scoped.items m) (judged scoped (call scoped values before) values arguments (variable scoped m)) else call scoped values before f arguments) (other_than m f before out there)
+      ap (λ (b : Bool). if b then variable_value (variable scoped m) (slice_get scoped.items m)
+      (judged scoped (call scoped values before) values arguments
+      (variable scoped m)) else call scoped values before f arguments) (other_than m f before out there)
 
-  tells_behind : (values : Items) (m : ℕ) (before ns : List ℕ) → is_in m before ≡ false → AllIn before ns → AllHave (Tells (call scoped values before) (call scoped values (m ∷ before)) values values) ns
+  tells_behind : (values : Items) (m : ℕ) (before ns : List ℕ) → is_in m before ≡ false → AllIn before ns
+      → AllHave (Tells (call scoped values before) (call scoped values (m ∷ before)) values values) ns
   tells_behind values m before ns out have =
-      all_more (λ n. IsTrue (is_in n before)) (Tells (call scoped values before) (call scoped values (m ∷ before)) values values) ns have
+      all_more (λ n. IsTrue (is_in n before)) (Tells (call scoped values before)
+      (call scoped values (m ∷ before)) values values) ns have
       (λ n there. record { value = refl; call = λ arguments. sym (one_behind values m before n arguments out there) })
 
   -- what a function gives by its judging
   abbrev Judging : Items → List ℕ → ℕ → List Value → Run Value
-  Judging values before f arguments = variable_value (variable scoped f) (slice_get scoped.items f) (judged scoped (call scoped values before) values arguments (variable scoped f))
+  Judging values before f arguments =
+      variable_value (variable scoped f) (slice_get scoped.items f)
+      (judged scoped (call scoped values before) values arguments (variable scoped f))
 
-  further : (values : Items) (m : ℕ) (before : List ℕ) (f : ℕ) (arguments : List Value) → is_in m before ≡ false → AllIn before (needs f) → Judging values before f arguments ≡ Judging values (m ∷ before) f arguments
+  further : (values : Items) (m : ℕ) (before : List ℕ) (f : ℕ) (arguments : List Value) → is_in m before ≡ false
+      → AllIn before (needs f) → Judging values before f arguments ≡ Judging values (m ∷ before) f arguments
   further values m before f arguments out have =
-      ap (variable_value (variable scoped f) (slice_get scoped.items f)) (judged_as (call scoped values before) (call scoped values (m ∷ before)) values values arguments f (tells_behind values m before (needs f) out have))
+      ap (variable_value (variable scoped f) (slice_get scoped.items f))
+      (judged_as (call scoped values before) (call scoped values (m ∷ before)) values values arguments f
+      (tells_behind values m before (needs f) out have))
 
-  pub judged_by_rule : (bound : ℕ) (values : Items) (whole : List ℕ) → Behind bound needs whole → Distinct whole → (f : ℕ) → IsTrue (is_in f whole) → (arguments : List Value)
+  pub judged_by_rule : (bound : ℕ) (values : Items) (whole : List ℕ) → Behind bound needs whole → Distinct whole
+      → (f : ℕ) → IsTrue (is_in f whole) → (arguments : List Value)
       → call scoped values whole f arguments ≡ Judging values whole f arguments
   judged_by_rule bound values [] behind differ f there arguments = not_true there
-  judged_by_rule bound values (m ∷ before) behind differ f there arguments = by (nat_eq m f) refl (λ g. judged_by_rule bound values before behind.2 differ.1 f g arguments)
+  judged_by_rule bound values (m ∷ before) behind differ f there arguments =
+      by (nat_eq m f) refl (λ g. judged_by_rule bound values before behind.2 differ.1 f g arguments)
     where
       inside : nat_eq m f ≡ false → IsTrue (is_in f before)
       inside e = find (nat_eq f m) refl there
@@ -175,31 +210,43 @@ module _ (scoped : Scoped) where
           find true q g = absurd (true≢false (sym (turned f m q) ∙ e))
           find false q g = g
 
-      by : (b : Bool) → nat_eq m f ≡ b → (IsTrue (is_in f before) → call scoped values before f arguments ≡ Judging values before f arguments)
-          → (if b then Judging values before m arguments else call scoped values before f arguments) ≡ Judging values (m ∷ before) f arguments
+      by : (b : Bool) → nat_eq m f ≡ b → (IsTrue (is_in f before)
+          → call scoped values before f arguments ≡ Judging values before f arguments)
+          → (if b then Judging values before m arguments else call scoped values before f arguments) ≡ Judging values
+          (m ∷ before) f arguments
       by true e rest =
           ap (λ (x : ℕ). Judging values before x arguments) (same_number m f e)
-          ∙ further values m before f arguments differ.0 (subst (λ (x : ℕ). AllIn before (needs x)) (same_number m f e) behind.1)
-      by false e rest = rest (inside e) ∙ further values m before f arguments differ.0 (needs_behind bound needs before f behind.2 (inside e))
+          ∙ further values m before f arguments differ.0
+          (subst (λ (x : ℕ). AllIn before (needs x)) (same_number m f e) behind.1)
+      by false e rest =
+          rest (inside e)
+          ∙ further values m before f arguments differ.0 (needs_behind bound needs before f behind.2 (inside e))
 
   -- more items behind change nothing
-  pub many_behind : (values : Items) (before left : List ℕ) → Distinct (moved before left) → (f : ℕ) → IsTrue (is_in f before) → (arguments : List Value) → call scoped values (moved before left) f arguments ≡ call scoped values before f arguments
+  pub many_behind : (values : Items) (before left : List ℕ) → Distinct (moved before left) → (f : ℕ)
+      → IsTrue (is_in f before) → (arguments : List Value)
+      → call scoped values (moved before left) f arguments ≡ call scoped values before f arguments
   many_behind values before [] differ f there arguments = refl
   many_behind values before (n ∷ left) differ f there arguments =
       many_behind values (n ∷ before) left differ f (in_behind f n before there) arguments
       ∙ one_behind values n before f arguments (distinct_front (n ∷ before) left differ).0 there
 
   -- nor do their values
-  pub values_behind : (bound : ℕ) (values more : Items) (before : List ℕ) → Behind bound needs before → ((k : ℕ) → IsTrue (is_in k before) → slice_get values k ≡ slice_get more k)
+  pub values_behind : (bound : ℕ) (values more : Items) (before : List ℕ) → Behind bound needs before
+      → ((k : ℕ) → IsTrue (is_in k before) → slice_get values k ≡ slice_get more k)
       → (f : ℕ) (arguments : List Value) → call scoped values before f arguments ≡ call scoped more before f arguments
   values_behind bound values more [] behind same f arguments = refl
   values_behind bound values more (m ∷ before) behind same f arguments =
-      let rest = λ (g : ℕ) (others : List Value). values_behind bound values more before behind.2 (λ k there. same k (in_behind k m before there)) g others in
+      let rest = λ (g : ℕ) (others : List Value). values_behind bound values more before behind.2
+      (λ k there. same k (in_behind k m before there)) g others in
       ap (λ (r : Run Value). if nat_eq m f then r else call scoped values before f arguments)
-      (ap (variable_value (variable scoped m) (slice_get scoped.items m)) (judged_as (call scoped values before) (call scoped more before) values more arguments m
-      (all_more (λ n. IsTrue (is_in n before)) (Tells (call scoped values before) (call scoped more before) values more) (needs m) behind.1
+      (ap (variable_value (variable scoped m) (slice_get scoped.items m))
+      (judged_as (call scoped values before) (call scoped more before) values more arguments m
+      (all_more (λ n. IsTrue (is_in n before)) (Tells (call scoped values before)
+      (call scoped more before) values more) (needs m) behind.1
       (λ n there. record { value = same n (in_behind n m before there); call = λ others. rest n others }))))
-      ∙ ap (λ (r : Run Value). if nat_eq m f then variable_value (variable scoped m) (slice_get scoped.items m) (judged scoped (call scoped more before) more arguments (variable scoped m)) else r) (rest f arguments)
+      ∙ ap (λ (r : Run Value). if nat_eq m f then variable_value (variable scoped m) (slice_get scoped.items m)
+      (judged scoped (call scoped more before) more arguments (variable scoped m)) else r) (rest f arguments)
 
   -- ---- by the order
 
@@ -208,10 +255,16 @@ module _ (scoped : Scoped) where
     bound = length scoped.items
 
     ahead : Ahead bound needs [] scoped.body.order
-    ahead = ahead_as (length (item_dependencies scoped.items scoped.body.defs)) bound (dependencies_of (item_dependencies scoped.items scoped.body.defs)) needs
+    ahead =
+        ahead_as (length (item_dependencies scoped.items scoped.body.defs)) bound
+        (dependencies_of (item_dependencies scoped.items scoped.body.defs)) needs
         (dependencies-length items_named scoped.body.defs 0 scoped.items)
-        (λ n below before all. subst (λ ns. AllIn before ns) (dependencies-at items_named scoped.body.defs 0 scoped.items n (omega (arith, below, dependencies-length items_named scoped.body.defs 0 scoped.items)) ∙ ap (λ (m : ℕ). needs m) (zero_plus n)) all)
-        [] scoped.body.order (ahead-of_IsOrder (item_dependencies scoped.items scoped.body.defs) scoped.body.order order)
+        (λ n below before all. subst (λ ns. AllIn before ns)
+        (dependencies-at items_named scoped.body.defs 0 scoped.items n
+        (omega (arith, below, dependencies-length items_named scoped.body.defs 0 scoped.items)) ∙ ap
+        (λ (m : ℕ). needs m) (zero_plus n)) all)
+        [] scoped.body.order
+        (ahead-of_IsOrder (item_dependencies scoped.items scoped.body.defs) scoped.body.order order)
       where
         zero_plus : (n : ℕ) → 0 + n ≡ n
         zero_plus n = omega arith
@@ -220,22 +273,33 @@ module _ (scoped : Scoped) where
     whole_behind = moved-behind bound needs [] scoped.body.order tt ahead
 
     differ : Distinct (backwards scoped.body.order)
-    differ = distinct_order (item_dependencies scoped.items scoped.body.defs) scoped.body.order bound needs order (dependencies-length items_named scoped.body.defs 0 scoped.items) whole_behind
+    differ =
+        distinct_order (item_dependencies scoped.items scoped.body.defs) scoped.body.order bound needs order
+        (dependencies-length items_named scoped.body.defs 0 scoped.items) whole_behind
 
-    pub by_rule : (values : Items) (f : ℕ) (arguments : List Value) → f < bound → call scoped values (backwards scoped.body.order) f arguments ≡ Judging values (backwards scoped.body.order) f arguments
+    pub by_rule : (values : Items) (f : ℕ) (arguments : List Value) → f < bound → call scoped values
+        (backwards scoped.body.order) f arguments ≡ Judging values (backwards scoped.body.order) f arguments
     by_rule values f arguments below =
         judged_by_rule bound values (backwards scoped.body.order) whole_behind differ f
-        (moved_new f [] scoped.body.order (all-of_IsOrder (item_dependencies scoped.items scoped.body.defs) scoped.body.order order f (omega (arith, below, dependencies-length items_named scoped.body.defs 0 scoped.items)))) arguments
+        (moved_new f [] scoped.body.order (all-of_IsOrder
+        (item_dependencies scoped.items scoped.body.defs) scoped.body.order order f
+        (omega (arith, below, dependencies-length items_named scoped.body.defs 0 scoped.items)))) arguments
 
-    pub nothing_behind : (values more : Items) (place f : ℕ) (arguments : List Value) → IsTrue (is_in f (take place scoped.body.order)) → ((k : ℕ) → IsTrue (is_in k (take place scoped.body.order)) → slice_get values k ≡ slice_get more k)
-        → call scoped values (backwards (take place scoped.body.order)) f arguments ≡ call scoped more (backwards scoped.body.order) f arguments
+    pub nothing_behind : (values more : Items) (place f : ℕ) (arguments : List Value)
+        → IsTrue (is_in f (take place scoped.body.order))
+        → ((k : ℕ) → IsTrue (is_in k (take place scoped.body.order)) → slice_get values k ≡ slice_get more k)
+        → call scoped values (backwards (take place scoped.body.order)) f arguments ≡ call scoped more
+        (backwards scoped.body.order) f arguments
     nothing_behind values more place f arguments there same =
         let front = take place scoped.body.order in
         let back = drop place scoped.body.order in
         let parts : scoped.body.order ≡ front ++ back = sym (take-append-drop place scoped.body.order) in
-        let whole : backwards scoped.body.order ≡ moved (backwards front) back = ap backwards parts ∙ moved_append [] front back in
+        let whole : backwards scoped.body.order ≡ moved (backwards front) back = ap backwards parts
+        ∙ moved_append [] front back in
         values_behind bound values more (backwards front)
-        (moved-behind bound needs [] front tt (ahead_front bound needs [] front back (subst (λ (xs : List ℕ). Ahead bound needs [] xs) parts ahead)))
+        (moved-behind bound needs [] front tt (ahead_front bound needs [] front back
+        (subst (λ (xs : List ℕ). Ahead bound needs [] xs) parts ahead)))
         (λ k among. same k (in_moved_front front k among)) f arguments
-        ∙ sym (many_behind more (backwards front) back (subst Distinct whole differ) f (moved_new f [] front there) arguments)
+        ∙ sym (many_behind more (backwards front) back (subst Distinct whole differ) f
+        (moved_new f [] front there) arguments)
         ∙ ap (λ (xs : List ℕ). call scoped more xs f arguments) (sym whole)

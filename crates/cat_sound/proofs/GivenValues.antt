@@ -67,7 +67,7 @@ if_asserted P value (a ∷ rest) last h =
 
 -- ---- the run of items
 
-run-append : (scoped : Scoped) (input : Items) (before : List ℕ) (values : Items) (front back : List ℕ)
+pub run-append : (scoped : Scoped) (input : Items) (before : List ℕ) (values : Items) (front back : List ℕ)
     → run_items scoped input before values (front ++ back) ≡ and_then (run_items scoped input before values front) (λ vs. run_items scoped input (moved before front) vs back)
 run-append scoped input before values [] back = refl
 run-append scoped input before values (item ∷ front) back =

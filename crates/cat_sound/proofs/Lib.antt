@@ -43,3 +43,6 @@ pub mod GroupLaws
 pub mod OneType
 pub mod LowTypes
 pub mod Exported
+mod LogParts
+mod LogLaws
+mod LawSamples

@@ -1,5 +1,6 @@
 -- A scope is run where the scopes that it calls give what their runs give.
-use Rattle.std.proofs.Common.{◌≡◌, ℕ, zero, suc, ◌<◌, Bool, true, false, IsTrue, List, [], ◌∷◌, length, Option, Some, None, slice_get, refl, sym, ap, ◌∙◌, subst, arith, true≢false, if◌then◌else◌}
+use Rattle.std.proofs.Common.{◌≡◌, ℕ, zero, suc, ◌<◌, Bool, true, false, IsTrue, List, [], ◌∷◌, length, Option, Some}
+use Rattle.std.proofs.Common.{None, slice_get, refl, sym, ap, ◌∙◌, subst, arith, true≢false, if◌then◌else◌}
 use mathlib.Core.Path.{fun_ext}
 use Rattle.std.specs.Prelude.{nat_eq}
 use Rattle.std.proofs.lemmas.Bool.Decides.{nat_tests}
@@ -35,14 +36,17 @@ use Rattle.cat_scope.specs.Eval.{eval}
 use Rattle.cat_scope.specs.Orders.{in_def, called_by_items, calls_in, scope_dependencies}
 use Rattle.cat_scope.specs.Mentions.{items_named, scopes_named}
 use Rattle.cat_scope.specs.WellFormed.{IsWhole, IsWellFormed}
-use Rattle.cat_scope.specs.Calls.{Items, Runs, Scoped, variable, variable_of_called, items_of, call_input, env_of, judged, variable_value, call}
+use Rattle.cat_scope.specs.Calls.{Items, Runs, Scoped, variable, variable_of_called, items_of, call_input, env_of}
+use Rattle.cat_scope.specs.Calls.{judged, variable_value, call}
 use Rattle.cat_scope.specs.ItemValues.{passed_input, called_value, defined_value, ungiven_value, item_value}
-use Rattle.cat_scope.specs.Running.{entry_at, with_entry, run_items, no_values, asserted, outputs_of, backwards, run_scoped, run_scope, run, run_of}
+use Rattle.cat_scope.specs.Running.{entry_at, with_entry, run_items, no_values, asserted, outputs_of, backwards}
+use Rattle.cat_scope.specs.Running.{run_scoped, run_scope, run, run_of}
 use Rattle.cat_scope.proofs.Exported.{and_then_same}
 use Rattle.cat_sound.specs.Rests.{TellSame, CallSame}
 use Rattle.cat_sound.proofs.FormTypes.{same_some, same_number, not_true}
 use Rattle.cat_sound.proofs.TargetTypes.{all_more}
-use Rattle.cat_sound.proofs.OrderFacts.{AllIn, Behind, Ahead, moved-behind, moved_new, ahead-of_IsOrder, all-of_IsOrder, scopes-length, scopes-at, all_once}
+use Rattle.cat_sound.proofs.OrderFacts.{AllIn, Behind, Ahead, moved-behind, moved_new, ahead-of_IsOrder, all-of_IsOrder}
+use Rattle.cat_sound.proofs.OrderFacts.{scopes-length, scopes-at, all_once}
 use Rattle.cat_sound.proofs.RunTypes.{callee_at, called-all, body_at}
 use Rattle.cat_sound.proofs.Rests.{names_alone}
 use Rattle.cat_sound.proofs.JudgingSame.{DefSame, target_same, def_agrees}
@@ -52,70 +56,100 @@ use Rattle.cat_sound.proofs.FunctionLaws.{Distinct, distinct_order, other_than, 
 
 module _ (scoped : Scoped) (others : Runs) where
   abbrev other : Scoped
-  other = record { scope = scoped.scope; items = scoped.items; body = scoped.body; scopes = scoped.scopes; runs = others }
+  other =
+      record { scope = scoped.scope; items = scoped.items; body = scoped.body; scopes = scoped.scopes; runs = others }
 
   -- what a scope gives is the same
   abbrev RunSame : ℕ → Type 0
   RunSame k = (input : Items) → scoped.runs k input ≡ others k input
 
-  module _ (def_calls : AllHave (λ d. AllHave RunSame (in_def scopes_named d)) scoped.body.defs) (assertion_calls : AllHave (λ a. AllHave RunSame (scopes_named a.condition)) scoped.body.assertions) (item_calls : AllHave RunSame (called_by_items scoped.items)) where
+  module _ (def_calls : AllHave (λ d. AllHave RunSame (in_def scopes_named d)) scoped.body.defs)
+      (assertion_calls : AllHave (λ a. AllHave RunSame (scopes_named a.condition)) scoped.body.assertions)
+      (item_calls : AllHave RunSame (called_by_items scoped.items)) where
     abbrev Calls : Type 0
     Calls = ℕ → List Value → Run Value
 
     abbrev SameCalls : Calls → Calls → Type 0
     SameCalls calls more = (f : ℕ) (arguments : List Value) → calls f arguments ≡ more f arguments
 
-    call_same : (calls more : Calls) (values : Items) (k : ℕ) → RunSame k → CallSame (env_of scoped calls values) (env_of other more values) k
+    call_same : (calls more : Calls) (values : Items) (k : ℕ) → RunSame k
+        → CallSame (env_of scoped calls values) (env_of other more values) k
     call_same calls more values k h fields output =
-        ap (λ (r : Run (List Value)). giving r (λ outputs. known (slice_get outputs output))) (h (call_input 0 fields (items_of scoped k)))
+        ap (λ (r : Run (List Value)). giving r (λ outputs. known (slice_get outputs output)))
+        (h (call_input 0 fields (items_of scoped k)))
 
-    calls_same : (calls more : Calls) (values : Items) (ks : List ℕ) → AllHave RunSame ks → AllHave (CallSame (env_of scoped calls values) (env_of other more values)) ks
-    calls_same calls more values ks h = all_more RunSame (CallSame (env_of scoped calls values) (env_of other more values)) ks h (call_same calls more values)
+    calls_same : (calls more : Calls) (values : Items) (ks : List ℕ) → AllHave RunSame ks
+        → AllHave (CallSame (env_of scoped calls values) (env_of other more values)) ks
+    calls_same calls more values ks h =
+        all_more RunSame (CallSame (env_of scoped calls values) (env_of other more values)) ks h
+        (call_same calls more values)
 
-    tells : (calls more : Calls) (values : Items) → SameCalls calls more → (ks : List ℕ) → AllHave (TellSame (env_of scoped calls values) (env_of other more values)) ks
+    tells : (calls more : Calls) (values : Items) → SameCalls calls more → (ks : List ℕ)
+        → AllHave (TellSame (env_of scoped calls values) (env_of other more values)) ks
     tells calls more values same [] = tt
     tells calls more values same (k ∷ ks) = (record { value = refl; call = same k }, tells calls more values same ks)
 
-    defs_same : (calls more : Calls) (values : Items) (arguments : List Value) (target : Target) → SameCalls calls more → (defs : List Def) → AllHave (λ d. AllHave RunSame (in_def scopes_named d)) defs
-        → AllHave (λ d. IsTrue (same_target d.target target) → DefSame (λ e. eval (env_of scoped calls values) e arguments) (λ e. eval (env_of other more values) e arguments) d) defs
+    defs_same : (calls more : Calls) (values : Items) (arguments : List Value) (target : Target)
+        → SameCalls calls more → (defs : List Def) → AllHave (λ d. AllHave RunSame (in_def scopes_named d)) defs
+        → AllHave (λ d. IsTrue (same_target d.target target) → DefSame
+        (λ e. eval (env_of scoped calls values) e arguments) (λ e. eval (env_of other more values) e arguments) d) defs
     defs_same calls more values arguments target same [] h = tt
     defs_same calls more values arguments target same (d ∷ defs) h = (
-      (λ one. def_agrees (env_of scoped calls values) (env_of other more values) arguments d refl (tells calls more values same (in_def items_named d)) (calls_same calls more values (in_def scopes_named d) h.0)),
+      (λ one. def_agrees (env_of scoped calls values) (env_of other more values) arguments d refl
+          (tells calls more values same (in_def items_named d)) (calls_same calls more values (in_def scopes_named d) h.0)),
       defs_same calls more values arguments target same defs h.1,
     )
 
-    judged_same : (calls more : Calls) (values : Items) (arguments : List Value) (target : Target) → SameCalls calls more → judged scoped calls values arguments target ≡ judged other more values arguments target
+    judged_same : (calls more : Calls) (values : Items) (arguments : List Value) (target : Target)
+        → SameCalls calls more → judged scoped calls values arguments target ≡ judged other more values arguments target
     judged_same calls more values arguments target same =
-        target_same (λ e. eval (env_of scoped calls values) e arguments) (λ e. eval (env_of other more values) e arguments) target scoped.body.defs
+        target_same (λ e. eval (env_of scoped calls values) e arguments)
+        (λ e. eval (env_of other more values) e arguments) target scoped.body.defs
         (defs_same calls more values arguments target same scoped.body.defs def_calls)
 
-    functions_same : (values : Items) (before : List ℕ) → SameCalls (call scoped values before) (call other values before)
+    functions_same : (values : Items) (before : List ℕ)
+        → SameCalls (call scoped values before) (call other values before)
     functions_same values [] f arguments = refl
     functions_same values (m ∷ before) f arguments =
-        ap (λ (j : Judged Value). if nat_eq m f then variable_value (variable scoped m) (slice_get scoped.items m) j else call scoped values before f arguments)
-        (judged_same (call scoped values before) (call other values before) values arguments (variable scoped m) (functions_same values before))
-        ∙ ap (λ (r : Run Value). if nat_eq m f then variable_value (variable scoped m) (slice_get scoped.items m) (judged other (call other values before) values arguments (variable scoped m)) else r)
+        ap (λ (j : Judged Value). if nat_eq m f then variable_value (variable scoped m)
+        (slice_get scoped.items m) j else call scoped values before f arguments)
+        (judged_same (call scoped values before) (call other values before) values arguments (variable scoped m)
+        (functions_same values before))
+        ∙ ap (λ (r : Run Value). if nat_eq m f then variable_value (variable scoped m) (slice_get scoped.items m)
+        (judged other (call other values before) values arguments (variable scoped m)) else r)
         (functions_same values before f arguments)
 
     -- ---- items
 
-    called_same : (before : List ℕ) (values : Items) (item : ℕ) (decl : ItemDecl) (called : ℕ) → RunSame called → called_value scoped before values item decl called ≡ called_value other before values item decl called
+    called_same : (before : List ℕ) (values : Items) (item : ℕ) (decl : ItemDecl) (called : ℕ) → RunSame called
+        → called_value scoped before values item decl called ≡ called_value other before values item decl called
     called_same before values item decl called h =
-        ap (λ (judged_at : ℕ → Judged Value). and_then (passed_input judged_at (variable_of_called scoped item) decl.pos 0 (items_of scoped called)) (λ input. and_then (scoped.runs called input) (λ outputs. gives (value.Structure outputs))))
-        (fun_ext (λ n. judged_same (call scoped values before) (call other values before) values [] (variable_of_called scoped item n) (functions_same values before)))
-        ∙ and_then_same (passed_input (λ n. judged other (call other values before) values [] (variable_of_called scoped item n)) (variable_of_called scoped item) decl.pos 0 (items_of scoped called))
-        (λ input. and_then (scoped.runs called input) (λ outputs. gives (value.Structure outputs))) (λ input. and_then (others called input) (λ outputs. gives (value.Structure outputs)))
+        ap (λ (judged_at : ℕ → Judged Value). and_then
+        (passed_input judged_at (variable_of_called scoped item) decl.pos 0 (items_of scoped called))
+        (λ input. and_then (scoped.runs called input) (λ outputs. gives (value.Structure outputs))))
+        (fun_ext (λ n. judged_same (call scoped values before) (call other values before) values []
+        (variable_of_called scoped item n) (functions_same values before)))
+        ∙ and_then_same (passed_input (λ n. judged other (call other values before) values []
+        (variable_of_called scoped item n)) (variable_of_called scoped item) decl.pos 0 (items_of scoped called))
+        (λ input. and_then (scoped.runs called input) (λ outputs. gives (value.Structure outputs)))
+        (λ input. and_then (others called input) (λ outputs. gives (value.Structure outputs)))
         (λ input. ap (λ (r : Run (List Value)). and_then r (λ outputs. gives (value.Structure outputs))) (h input))
 
-    defined_same : (before : List ℕ) (values : Items) (item : ℕ) (decl : ItemDecl) (params : List Ty) → defined_value scoped before values item decl params ≡ defined_value other before values item decl params
+    defined_same : (before : List ℕ) (values : Items) (item : ℕ) (decl : ItemDecl) (params : List Ty)
+        → defined_value scoped before values item decl params ≡ defined_value other before values item decl params
     defined_same before values item decl [] =
-        ap (λ (j : Judged Value). and_then (variable_value (variable scoped item) (Some decl) (decided (variable scoped item) j)) (λ v. gives (Some v)))
-        (judged_same (call scoped values before) (call other values before) values [] (variable scoped item) (functions_same values before))
+        ap (λ (j : Judged Value). and_then (variable_value (variable scoped item) (Some decl)
+        (decided (variable scoped item) j)) (λ v. gives (Some v)))
+        (judged_same (call scoped values before) (call other values before) values [] (variable scoped item)
+        (functions_same values before))
     defined_same before values item decl (t ∷ ts) = refl
 
-    ungiven_same : (before : List ℕ) (values : Items) (item : ℕ) (decl : ItemDecl) → slice_get scoped.items item ≡ Some decl → (k : Kind) → decl.kind ≡ k → ungiven_value scoped before values item decl k ≡ ungiven_value other before values item decl k
+    ungiven_same : (before : List ℕ) (values : Items) (item : ℕ) (decl : ItemDecl)
+        → slice_get scoped.items item ≡ Some decl → (k : Kind) → decl.kind ≡ k
+        → ungiven_value scoped before values item decl k ≡ ungiven_value other before values item decl k
     ungiven_same before values item decl at (kind.Called called) is =
-        ap (λ (r : Run Value). and_then r (λ v. gives (Some v))) (called_same before values item decl called (callee_at RunSame scoped.items item decl called item_calls at is))
+        ap (λ (r : Run Value). and_then r (λ v. gives (Some v)))
+        (called_same before values item decl called (callee_at RunSame scoped.items item decl called item_calls at is))
     ungiven_same before values item decl at kind.Input is = defined_same before values item decl decl.params
     ungiven_same before values item decl at kind.InputOutput is = defined_same before values item decl decl.params
     ungiven_same before values item decl at kind.Context is = defined_same before values item decl decl.params
@@ -123,29 +157,41 @@ module _ (scoped : Scoped) (others : Runs) where
     ungiven_same before values item decl at kind.Internal is = defined_same before values item decl decl.params
     ungiven_same before values item decl at kind.Output is = defined_same before values item decl decl.params
 
-    item_same : (before : List ℕ) (values : Items) (item : ℕ) (given : Option Value) (o : Option ItemDecl) → slice_get scoped.items item ≡ o → item_value scoped before values item given o ≡ item_value other before values item given o
+    item_same : (before : List ℕ) (values : Items) (item : ℕ) (given : Option Value) (o : Option ItemDecl)
+        → slice_get scoped.items item ≡ o
+        → item_value scoped before values item given o ≡ item_value other before values item given o
     item_same before values item (Some v) o at = refl
     item_same before values item None None at = refl
     item_same before values item None (Some decl) at = ungiven_same before values item decl at decl.kind refl
 
-    items_same : (input : Items) (before : List ℕ) (values : Items) (left : List ℕ) → run_items scoped input before values left ≡ run_items other input before values left
+    items_same : (input : Items) (before : List ℕ) (values : Items) (left : List ℕ)
+        → run_items scoped input before values left ≡ run_items other input before values left
     items_same input before values [] = refl
     items_same input before values (item ∷ left) =
-        ap (λ (r : Run (Option Value)). and_then r (λ v. run_items scoped input (item ∷ before) (with_entry item v values) left)) (item_same before values item (entry_at item input) (slice_get scoped.items item) refl)
+        ap (λ (r : Run (Option Value)). and_then r
+        (λ v. run_items scoped input (item ∷ before) (with_entry item v values) left))
+        (item_same before values item (entry_at item input) (slice_get scoped.items item) refl)
         ∙ and_then_same (item_value other before values item (entry_at item input) (slice_get scoped.items item))
-        (λ v. run_items scoped input (item ∷ before) (with_entry item v values) left) (λ v. run_items other input (item ∷ before) (with_entry item v values) left)
+        (λ v. run_items scoped input (item ∷ before) (with_entry item v values) left)
+        (λ v. run_items other input (item ∷ before) (with_entry item v values) left)
         (λ v. items_same input (item ∷ before) (with_entry item v values) left)
 
     -- ---- assertions
 
-    assertions_same : (v w : Expr → Run Value) (assertions : List Assertion) (last : Run (List Value)) → AllHave (λ a. v a.condition ≡ w a.condition) assertions → asserted v assertions last ≡ asserted w assertions last
+    assertions_same : (v w : Expr → Run Value) (assertions : List Assertion) (last : Run (List Value))
+        → AllHave (λ a. v a.condition ≡ w a.condition) assertions
+        → asserted v assertions last ≡ asserted w assertions last
     assertions_same v w [] last h = refl
     assertions_same v w (a ∷ rest) last h =
-        ap (λ (r : Run Value). and_then r (λ t. choose t (asserted v rest last) (stops (Fault AssertionFailed a.keyword)))) h.0
-        ∙ ap (λ (r : Run (List Value)). and_then (w a.condition) (λ t. choose t r (stops (Fault AssertionFailed a.keyword)))) (assertions_same v w rest last h.1)
+        ap (λ (r : Run Value). and_then r (λ t. choose t (asserted v rest last)
+        (stops (Fault AssertionFailed a.keyword)))) h.0
+        ∙ ap (λ (r : Run (List Value)). and_then (w a.condition)
+        (λ t. choose t r (stops (Fault AssertionFailed a.keyword)))) (assertions_same v w rest last h.1)
 
-    conditions_same : (calls more : Calls) (values : Items) → SameCalls calls more → (assertions : List Assertion) → AllHave (λ a. AllHave RunSame (scopes_named a.condition)) assertions
-        → AllHave (λ a. eval (env_of scoped calls values) a.condition [] ≡ eval (env_of other more values) a.condition []) assertions
+    conditions_same : (calls more : Calls) (values : Items) → SameCalls calls more → (assertions : List Assertion)
+        → AllHave (λ a. AllHave RunSame (scopes_named a.condition)) assertions
+        → AllHave (λ a. eval (env_of scoped calls values) a.condition [] ≡ eval
+        (env_of other more values) a.condition []) assertions
     conditions_same calls more values same [] h = tt
     conditions_same calls more values same (a ∷ rest) h = (
       names_alone (env_of scoped calls values) (env_of other more values) a.condition [] (record {
@@ -158,70 +204,102 @@ module _ (scoped : Scoped) (others : Runs) where
 
     pub scoped_same : (input : Items) → run_scoped scoped input ≡ run_scoped other input
     scoped_same input =
-        ap (λ (r : Run Items). and_then r (λ values. asserted (λ e. eval (env_of scoped (call scoped values (backwards scoped.body.order)) values) e []) scoped.body.assertions (plain (outputs_of scoped.items values))))
+        ap (λ (r : Run Items). and_then r (λ values. asserted
+        (λ e. eval (env_of scoped (call scoped values
+        (backwards scoped.body.order)) values) e []) scoped.body.assertions (plain (outputs_of scoped.items values))))
         (items_same input [] (no_values scoped.items) scoped.body.order)
         ∙ and_then_same (run_items other input [] (no_values scoped.items) scoped.body.order)
-        (λ values. asserted (λ e. eval (env_of scoped (call scoped values (backwards scoped.body.order)) values) e []) scoped.body.assertions (plain (outputs_of scoped.items values)))
-        (λ values. asserted (λ e. eval (env_of other (call other values (backwards scoped.body.order)) values) e []) scoped.body.assertions (plain (outputs_of scoped.items values)))
-        (λ values. assertions_same (λ e. eval (env_of scoped (call scoped values (backwards scoped.body.order)) values) e []) (λ e. eval (env_of other (call other values (backwards scoped.body.order)) values) e [])
+        (λ values. asserted (λ e. eval (env_of scoped
+        (call scoped values (backwards scoped.body.order)) values) e []) scoped.body.assertions
+        (plain (outputs_of scoped.items values)))
+        (λ values. asserted (λ e. eval (env_of other
+        (call other values (backwards scoped.body.order)) values) e []) scoped.body.assertions
+        (plain (outputs_of scoped.items values)))
+        (λ values. assertions_same (λ e. eval (env_of scoped
+        (call scoped values (backwards scoped.body.order)) values) e [])
+        (λ e. eval (env_of other (call other values (backwards scoped.body.order)) values) e [])
         scoped.body.assertions (plain (outputs_of scoped.items values))
-        (conditions_same (call scoped values (backwards scoped.body.order)) (call other values (backwards scoped.body.order)) values (functions_same values (backwards scoped.body.order)) scoped.body.assertions assertion_calls))
+        (conditions_same (call scoped values (backwards scoped.body.order))
+        (call other values (backwards scoped.body.order)) values
+        (functions_same values (backwards scoped.body.order)) scoped.body.assertions assertion_calls))
 
 -- ---- the scopes of a program
 
 -- each body's source has one declaration, and each of its definitions and assertions
 abbrev AreWhole : List Scope → List Body → Type 0
-AreWhole scopes bodies = (k : ℕ) (body : Body) → slice_get bodies k ≡ Some body → IsWhole body.source 1 (length body.defs) (length body.assertions)
+AreWhole scopes bodies =
+    (k : ℕ) (body : Body) → slice_get bodies k ≡ Some body
+    → IsWhole body.source 1 (length body.defs) (length body.assertions)
 
 found : {A : Type 0} (xs : List A) (k : ℕ) → k < length xs → (x : A) × (slice_get xs k ≡ Some x)
 found [] k below = absurd (omega arith)
 found (x ∷ xs) zero below = (x, refl)
 found (x ∷ xs) (suc k) below = found xs k (omega arith)
 
-module _ (ds : Decls) (bodies : List Body) (counted : length bodies ≡ length ds.scopes) (are : AreWhole ds.scopes bodies) where
+module _ (ds : Decls) (bodies : List Body) (counted : length bodies ≡ length ds.scopes)
+    (are : AreWhole ds.scopes bodies) where
   abbrev calls : ℕ → List ℕ
   calls k = dependencies_of (scope_dependencies ds.scopes bodies) k
 
   -- a scope that is run in two ways, which are one for the scopes that it calls
-  one_same : (runs others : Runs) (k : ℕ) → k < length ds.scopes → AllHave (λ s. (input : Items) → runs s input ≡ others s input) (calls k) → (input : Items)
-      → run_scope ds.scopes runs k (slice_get ds.scopes k) (slice_get bodies k) input ≡ run_scope ds.scopes others k (slice_get ds.scopes k) (slice_get bodies k) input
+  one_same : (runs others : Runs) (k : ℕ) → k < length ds.scopes
+      → AllHave (λ s. (input : Items) → runs s input ≡ others s input) (calls k) → (input : Items)
+      → run_scope ds.scopes runs k (slice_get ds.scopes k) (slice_get bodies k) input ≡ run_scope ds.scopes others k
+      (slice_get ds.scopes k) (slice_get bodies k) input
   one_same runs others k below h input =
       let scope = found ds.scopes k below in
       let body = found bodies k (omega (arith, counted, below)) in
       let those = all_once (λ s. (i : Items) → runs s i ≡ others s i) [] (calls_in scope.0.items body.0) tt
-      (subst (λ (ks : List ℕ). AllHave (λ s. (i : Items) → runs s i ≡ others s i) ks) (scopes-at ds.scopes bodies k scope.0 body.0 scope.1 body.1) h) in
-      let called = called-all (λ s. (i : Items) → runs s i ≡ others s i) scope.0.items body.0.source 1 body.0.defs body.0.assertions (are k body.0 body.1) those in
+      (subst (λ (ks : List ℕ). AllHave (λ s. (i : Items) → runs s i ≡ others s i) ks)
+      (scopes-at ds.scopes bodies k scope.0 body.0 scope.1 body.1) h) in
+      let called = called-all
+      (λ s. (i : Items) → runs s i ≡ others s i) scope.0.items body.0.source 1 body.0.defs body.0.assertions
+      (are k body.0 body.1) those in
       found_as runs k scope.0 body.0 scope.1 body.1
       ∙ scoped_same (record { scope = k; items = scope.0.items; body = body.0; scopes = ds.scopes; runs = runs }) others called.by_defs called.by_assertions (called.by_items (omega arith)) input
       ∙ sym (found_as others k scope.0 body.0 scope.1 body.1)
     where
-      found_as : (rs : Runs) (n : ℕ) (scope : Scope) (body : Body) → slice_get ds.scopes n ≡ Some scope → slice_get bodies n ≡ Some body
-          → run_scope ds.scopes rs n (slice_get ds.scopes n) (slice_get bodies n) input ≡ run_scope ds.scopes rs n (Some scope) (Some body) input
-      found_as rs n scope body is also = ap (λ o. run_scope ds.scopes rs n o (slice_get bodies n) input) is ∙ ap (λ o. run_scope ds.scopes rs n (Some scope) o input) also
+      found_as : (rs : Runs) (n : ℕ) (scope : Scope) (body : Body) → slice_get ds.scopes n ≡ Some scope
+          → slice_get bodies n ≡ Some body
+          → run_scope ds.scopes rs n (slice_get ds.scopes n) (slice_get bodies n) input ≡ run_scope ds.scopes rs n
+          (Some scope) (Some body) input
+      found_as rs n scope body is also =
+          ap (λ o. run_scope ds.scopes rs n o (slice_get bodies n) input) is
+          ∙ ap (λ o. run_scope ds.scopes rs n (Some scope) o input) also
 
-  one_behind : (m : ℕ) (before : List ℕ) (k : ℕ) (input : Items) → is_in m before ≡ false → IsTrue (is_in k before) → run ds.scopes bodies (m ∷ before) k input ≡ run ds.scopes bodies before k input
+  one_behind : (m : ℕ) (before : List ℕ) (k : ℕ) (input : Items) → is_in m before ≡ false → IsTrue (is_in k before)
+      → run ds.scopes bodies (m ∷ before) k input ≡ run ds.scopes bodies before k input
   one_behind m before k input out there =
-      ap (λ (b : Bool). if b then run_scope ds.scopes (run ds.scopes bodies before) m (slice_get ds.scopes m) (slice_get bodies m) input else run ds.scopes bodies before k input) (other_than m k before out there)
+      ap (λ (b : Bool). if b then run_scope ds.scopes (run ds.scopes bodies before) m (slice_get ds.scopes m)
+      (slice_get bodies m) input else run ds.scopes bodies before k input) (other_than m k before out there)
 
-  further : (m : ℕ) (before : List ℕ) (k : ℕ) → k < length ds.scopes → is_in m before ≡ false → AllIn before (calls k) → (input : Items)
-      → run_scope ds.scopes (run ds.scopes bodies before) k (slice_get ds.scopes k) (slice_get bodies k) input ≡ run_scope ds.scopes (run ds.scopes bodies (m ∷ before)) k (slice_get ds.scopes k) (slice_get bodies k) input
+  further : (m : ℕ) (before : List ℕ) (k : ℕ) → k < length ds.scopes → is_in m before ≡ false
+      → AllIn before (calls k) → (input : Items)
+      → run_scope ds.scopes (run ds.scopes bodies before) k (slice_get ds.scopes k) (slice_get bodies k) input
+      ≡ run_scope ds.scopes (run ds.scopes bodies (m ∷ before)) k (slice_get ds.scopes k) (slice_get bodies k) input
   further m before k below out have input =
       one_same (run ds.scopes bodies before) (run ds.scopes bodies (m ∷ before)) k below
-      (all_more (λ s. IsTrue (is_in s before)) (λ s. (i : Items) → run ds.scopes bodies before s i ≡ run ds.scopes bodies (m ∷ before) s i) (calls k) have
+      (all_more (λ s. IsTrue (is_in s before)) (λ s. (i : Items)
+      → run ds.scopes bodies before s i ≡ run ds.scopes bodies (m ∷ before) s i) (calls k) have
       (λ s there i. sym (one_behind m before s i out there))) input
 
-  below_all : (before : List ℕ) → Behind (length ds.scopes) calls before → (k : ℕ) → IsTrue (is_in k before) → k < length ds.scopes
+  below_all : (before : List ℕ) → Behind (length ds.scopes) calls before → (k : ℕ) → IsTrue (is_in k before)
+      → k < length ds.scopes
   below_all [] behind k there = not_true there
   below_all (m ∷ before) behind k there = by (nat_eq k m) refl there (below_all before behind.2 k)
     where
-      by : (b : Bool) → nat_eq k m ≡ b → IsTrue (if b then true else is_in k before) → (IsTrue (is_in k before) → k < length ds.scopes) → k < length ds.scopes
+      by : (b : Bool) → nat_eq k m ≡ b → IsTrue (if b then true else is_in k before)
+          → (IsTrue (is_in k before) → k < length ds.scopes) → k < length ds.scopes
       by true e g rest = subst (λ (x : ℕ). x < length ds.scopes) (sym (same_number k m e)) behind.0
       by false e g rest = rest g
 
-  pub by_rule : (whole : List ℕ) → Behind (length ds.scopes) calls whole → Distinct whole → (k : ℕ) → IsTrue (is_in k whole) → (input : Items)
-      → run ds.scopes bodies whole k input ≡ run_scope ds.scopes (run ds.scopes bodies whole) k (slice_get ds.scopes k) (slice_get bodies k) input
+  pub by_rule : (whole : List ℕ) → Behind (length ds.scopes) calls whole → Distinct whole → (k : ℕ)
+      → IsTrue (is_in k whole) → (input : Items)
+      → run ds.scopes bodies whole k input ≡ run_scope ds.scopes (run ds.scopes bodies whole) k
+      (slice_get ds.scopes k) (slice_get bodies k) input
   by_rule [] behind differ k there input = not_true there
-  by_rule (m ∷ before) behind differ k there input = by (nat_eq m k) refl (λ g. by_rule before behind.2 differ.1 k g input)
+  by_rule (m ∷ before) behind differ k there input =
+      by (nat_eq m k) refl (λ g. by_rule before behind.2 differ.1 k g input)
     where
       inside : nat_eq m k ≡ false → IsTrue (is_in k before)
       inside e = find (nat_eq k m) refl there
@@ -234,13 +312,19 @@ module _ (ds : Decls) (bodies : List Body) (counted : length bodies ≡ length d
           find false q g = g
 
       by : (b : Bool) → nat_eq m k ≡ b
-          → (IsTrue (is_in k before) → run ds.scopes bodies before k input ≡ run_scope ds.scopes (run ds.scopes bodies before) k (slice_get ds.scopes k) (slice_get bodies k) input)
-          → (if b then run_scope ds.scopes (run ds.scopes bodies before) m (slice_get ds.scopes m) (slice_get bodies m) input else run ds.scopes bodies before k input)
+          → (IsTrue (is_in k before) → run ds.scopes bodies before k input ≡ run_scope ds.scopes
+          (run ds.scopes bodies before) k (slice_get ds.scopes k) (slice_get bodies k) input)
+          → (if b then run_scope ds.scopes (run ds.scopes bodies before) m (slice_get ds.scopes m)
+          (slice_get bodies m) input else run ds.scopes bodies before k input)
           ≡ run_scope ds.scopes (run ds.scopes bodies (m ∷ before)) k (slice_get ds.scopes k) (slice_get bodies k) input
       by true e rest =
-          ap (λ (x : ℕ). run_scope ds.scopes (run ds.scopes bodies before) x (slice_get ds.scopes x) (slice_get bodies x) input) (same_number m k e)
-          ∙ further m before k (subst (λ (x : ℕ). x < length ds.scopes) (same_number m k e) behind.0) differ.0 (subst (λ (x : ℕ). AllIn before (calls x)) (same_number m k e) behind.1) input
-      by false e rest = rest (inside e) ∙ further m before k (below_all before behind.2 k (inside e)) differ.0 (needs_behind (length ds.scopes) calls before k behind.2 (inside e)) input
+          ap (λ (x : ℕ). run_scope ds.scopes (run ds.scopes bodies before) x (slice_get ds.scopes x)
+          (slice_get bodies x) input) (same_number m k e)
+          ∙ further m before k (subst (λ (x : ℕ). x < length ds.scopes) (same_number m k e) behind.0) differ.0
+          (subst (λ (x : ℕ). AllIn before (calls x)) (same_number m k e) behind.1) input
+      by false e rest =
+          rest (inside e) ∙ further m before k (below_all before behind.2 k (inside e)) differ.0
+          (needs_behind (length ds.scopes) calls before k behind.2 (inside e)) input
 
 -- ---- what is asked of a program, each with one proof
 
@@ -272,31 +356,41 @@ module _ (ds : Decls) (bodies : List Body) (order : List ℕ) where
 
   whole_of : IsWellFormed ds bodies order → AreWhole ds.scopes bodies
   whole_of formed k body is =
-      let at = body_at ds 0 ds.scopes bodies k formed.bodies_are (omega (arith, formed.counted, slice_get_within bodies k body is)) in
-      subst (λ (b : Body). IsWhole b.source 1 (length b.defs) (length b.assertions)) (same_some at.body body (sym at.body_is ∙ is)) at.is.source
+      let at = body_at ds 0 ds.scopes bodies k formed.bodies_are
+      (omega (arith, formed.counted, slice_get_within bodies k body is)) in
+      subst (λ (b : Body). IsWhole b.source 1 (length b.defs) (length b.assertions))
+      (same_some at.body body (sym at.body_is ∙ is)) at.is.source
 
   behind_of : IsWellFormed ds bodies order → Behind (length ds.scopes) called_by (backwards order)
   behind_of formed =
       moved-behind (length ds.scopes) called_by [] order tt
-      (subst (λ (n : ℕ). Ahead n called_by [] order) (scopes-length ds.scopes bodies formed.counted) (ahead-of_IsOrder (scope_dependencies ds.scopes bodies) order formed.order))
+      (subst (λ (n : ℕ). Ahead n called_by [] order) (scopes-length ds.scopes bodies formed.counted)
+      (ahead-of_IsOrder (scope_dependencies ds.scopes bodies) order formed.order))
 
-  differ_of : IsWellFormed ds bodies order → Distinct (backwards order)
-  differ_of formed = distinct_order (scope_dependencies ds.scopes bodies) order (length ds.scopes) called_by formed.order (scopes-length ds.scopes bodies formed.counted) (behind_of formed)
+  pub differ_of : IsWellFormed ds bodies order → Distinct (backwards order)
+  differ_of formed =
+      distinct_order (scope_dependencies ds.scopes bodies) order (length ds.scopes) called_by formed.order
+      (scopes-length ds.scopes bodies formed.counted) (behind_of formed)
 
   there_of : IsWellFormed ds bodies order → (k : ℕ) → k < length ds.scopes → IsTrue (is_in k (backwards order))
-  there_of formed k below = moved_new k [] order (all-of_IsOrder (scope_dependencies ds.scopes bodies) order formed.order k (omega (arith, scopes-length ds.scopes bodies formed.counted, below)))
+  there_of formed k below =
+      moved_new k [] order (all-of_IsOrder (scope_dependencies ds.scopes bodies) order formed.order k
+      (omega (arith, scopes-length ds.scopes bodies formed.counted, below)))
 
   -- a scope of a program is run where each scope that it calls gives what it gives in the program
-  pub scopes_by_rule : ∥ IsWellFormed ds bodies order ∥₁ → (k : ℕ) (scope : Scope) (body : Body) (input : Items) → slice_get ds.scopes k ≡ Some scope → slice_get bodies k ≡ Some body
+  pub scopes_by_rule : ∥ IsWellFormed ds bodies order ∥₁ → (k : ℕ) (scope : Scope) (body : Body) (input : Items)
+      → slice_get ds.scopes k ≡ Some scope → slice_get bodies k ≡ Some body
       → run_of ds.scopes bodies order k input ≡ run_scoped (record { scope = k; items = scope.items; body = body; scopes = ds.scopes; runs = run_of ds.scopes bodies order }) input
   unfolding run_of
   scopes_by_rule formed k scope body input is also =
       by_rule ds bodies
       (∥∥₁_elim formed (hlevel props) (λ f. f.counted))
-      (λ n b at. ∥∥₁_elim formed (IsWhole-prop b.source 1 (length b.defs) (length b.assertions)) (λ f. whole_of f n b at))
+      (λ n b at. ∥∥₁_elim formed (IsWhole-prop b.source 1 (length b.defs) (length b.assertions))
+      (λ f. whole_of f n b at))
       (backwards order)
       (∥∥₁_elim formed (Behind-prop (length ds.scopes) called_by (backwards order)) behind_of)
       (∥∥₁_elim formed (Distinct-prop (backwards order)) differ_of)
-      k (∥∥₁_elim formed (Bool-set (is_in k (backwards order)) true) (λ f. there_of f k (slice_get_within ds.scopes k scope is))) input
+      k (∥∥₁_elim formed (Bool-set (is_in k (backwards order)) true)
+      (λ f. there_of f k (slice_get_within ds.scopes k scope is))) input
       ∙ ap (λ o. run_scope ds.scopes (run ds.scopes bodies (backwards order)) k o (slice_get bodies k) input) is
       ∙ ap (λ o. run_scope ds.scopes (run ds.scopes bodies (backwards order)) k (Some scope) o input) also

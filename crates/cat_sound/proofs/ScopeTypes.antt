@@ -49,7 +49,8 @@ same_called : (a b : ℕ) → kind.Called a ≡ kind.Called b → a ≡ b
 unfolding called_or
 same_called a b e = ap (called_or a) e
 
-unique_target : (ns : Names) (item : ℕ) (inner : Option ℕ) (ps qs : List Ty) (t u : Ty) → IsTargetAt ns item inner ps t → IsTargetAt ns item inner qs u → (ps ≡ qs) × (t ≡ u)
+unique_target : (ns : Names) (item : ℕ) (inner : Option ℕ) (ps qs : List Ty) (t u : Ty) → IsTargetAt ns item inner ps t
+    → IsTargetAt ns item inner qs u → (ps ≡ qs) × (t ≡ u)
 unique_target ns item None ps qs t u h g =
     let same : h.decl ≡ g.decl = same_some h.decl g.decl (sym h.decl_is ∙ g.decl_is) in (
       h.params_are ∙ ap (λ (i : ItemDecl). i.params) same ∙ sym g.params_are,
@@ -82,7 +83,8 @@ pub record IsSound (allowed : Allowed) (ds : Decls) (scoped : Scoped) : Type 0 w
   pub defs : AllHave (DefTyped (names_of ds scoped) scoped.scope) scoped.body.defs
   pub assertions : AllHave (AssertionTyped (names_of ds scoped)) scoped.body.assertions
   pub def_calls : AllHave (λ d. AllHave (Callee allowed ds scoped.runs) (in_def scopes_named d)) scoped.body.defs
-  pub assertion_calls : AllHave (λ a. AllHave (Callee allowed ds scoped.runs) (scopes_named a.condition)) scoped.body.assertions
+  pub assertion_calls : AllHave (λ a. AllHave (Callee allowed ds scoped.runs) (scopes_named a.condition))
+      scoped.body.assertions
   pub item_calls : AllHave (Callee allowed ds scoped.runs) (called_by_items scoped.items)
   pub settled : AreSettled allowed (names_of ds scoped) scoped.scope scoped.body.defs
 
@@ -104,14 +106,17 @@ called_is : (k : Kind) (s : ℕ) → k ≡ kind.Called s → is_called k ≡ tru
 called_is k s e = ap is_called e
 
 -- a definition ends as its target wants, in an environment that has what it names
-pub stands_end : (allowed : Allowed) (ns : Names) (env : Env) (ps : List Ty) (t : Ty) (arguments : List Value) → AreOf ns.decls ps arguments → (d : Def) → StandsIn allowed ns env ps t d
+pub stands_end : (allowed : Allowed) (ns : Names) (env : Env) (ps : List Ty) (t : Ty) (arguments : List Value)
+    → AreOf ns.decls ps arguments → (d : Def) → StandsIn allowed ns env ps t d
     → DefEnds allowed ns.decls t (λ e. eval env e arguments) d
 stands_end allowed ns env ps t arguments are d stands = record {
   condition = condition d.condition stands.condition stands.condition_env;
-  consequence = expressions_go_on allowed ns env ps arguments d.consequence t stands.consequence stands.consequence_env are;
+  consequence =
+      expressions_go_on allowed ns env ps arguments d.consequence t stands.consequence stands.consequence_env are;
 }
   where
-    condition : (o : Option Expr) → ConditionTyped ns ps o → InCondition (IsEnvOf allowed ns env) o → EndsIn allowed (IsOf ns.decls flat_ty.Boolean) (condition_of (λ e. eval env e arguments) o)
+    condition : (o : Option Expr) → ConditionTyped ns ps o → InCondition (IsEnvOf allowed ns env) o
+        → EndsIn allowed (IsOf ns.decls flat_ty.Boolean) (condition_of (λ e. eval env e arguments) o)
     condition None typed has = (tt, of-Boolean ns.decls true)
     condition (Some e) typed has = expressions_go_on allowed ns env ps arguments e flat_ty.Boolean typed has are
 
@@ -128,57 +133,85 @@ module _ (allowed : Allowed) (ds : Decls) (scoped : Scoped) (sound : IsSound all
   abbrev env : Calls → Items → Env
   env calls values = env_of scoped calls values
 
-  pub callable : (calls : Calls) (values : Items) (ss : List ℕ) → AllHave (Callee allowed ds scoped.runs) ss → AllHave (IsCallable allowed ns (env calls values)) ss
-  callable calls values ss h = all_more (Callee allowed ds scoped.runs) (IsCallable allowed ns (env calls values)) ss h (λ s callee. scope_call-ends allowed ns scoped calls values s sound.scopes callee)
+  pub callable : (calls : Calls) (values : Items) (ss : List ℕ) → AllHave (Callee allowed ds scoped.runs) ss
+      → AllHave (IsCallable allowed ns (env calls values)) ss
+  callable calls values ss h =
+      all_more (Callee allowed ds scoped.runs) (IsCallable allowed ns (env calls values)) ss h
+      (λ s callee. scope_call-ends allowed ns scoped calls values s sound.scopes callee)
 
   module _ (calls : Calls) (values : Items) (arguments : List Value) where
     abbrev of : Expr → Run Value
     of e = eval (env calls values) e arguments
 
-    condition-stands : (o : Option Expr) → AllHave (IsReady allowed ns (env calls values)) (in_condition items_named o) → AllHave (Callee allowed ds scoped.runs) (in_condition scopes_named o)
+    condition-stands : (o : Option Expr) → AllHave (IsReady allowed ns (env calls values)) (in_condition items_named o)
+        → AllHave (Callee allowed ds scoped.runs) (in_condition scopes_named o)
         → InCondition (IsEnvOf allowed ns (env calls values)) o
     condition-stands None ready callees = tt
-    condition-stands (Some e) ready callees = record { items = ready; scopes = callable calls values (scopes_named e) callees }
+    condition-stands (Some e) ready callees =
+        record { items = ready; scopes = callable calls values (scopes_named e) callees }
 
-    def-stands : (item : ℕ) (inner : Option ℕ) (ps : List Ty) (t : Ty) → IsTargetAt ns item inner ps t → (d : Def) → DefTyped ns scoped.scope d
-        → IsTrue (same_target d.target (record { scope = scoped.scope; item = item; inner = inner })) → AllHave (IsReady allowed ns (env calls values)) (in_def items_named d)
-        → AllHave (Callee allowed ds scoped.runs) (in_def scopes_named d) → StandsIn allowed ns (env calls values) ps t d
+    def-stands : (item : ℕ) (inner : Option ℕ) (ps : List Ty) (t : Ty) → IsTargetAt ns item inner ps t → (d : Def)
+        → DefTyped ns scoped.scope d
+        → IsTrue (same_target d.target (record { scope = scoped.scope; item = item; inner = inner })) → AllHave
+        (IsReady allowed ns (env calls values)) (in_def items_named d)
+        → AllHave (Callee allowed ds scoped.runs) (in_def scopes_named d) → StandsIn allowed ns
+        (env calls values) ps t d
     def-stands item inner ps t target d typed same ready callees =
         let two = both (nat_eq d.target.item item) (same_inner d.target.inner inner) same in
         let own : IsTargetAt ns item inner typed.params typed.ty =
         subst (λ o. IsTargetAt ns item o typed.params typed.ty) (inner_is d.target.inner inner two.1)
-        (subst (λ (i : ℕ). IsTargetAt ns i d.target.inner typed.params typed.ty) (same_number d.target.item item two.0) typed.target) in
+        (subst (λ (i : ℕ). IsTargetAt ns i d.target.inner typed.params typed.ty)
+        (same_number d.target.item item two.0) typed.target) in
         let unique = unique_target ns item inner typed.params ps typed.ty t own target in
         record {
           condition = subst (λ us. ConditionTyped ns us d.condition) unique.0 typed.condition;
-          consequence = subst (λ u. HasType ns ps d.consequence u) unique.1 (subst (λ us. HasType ns us d.consequence typed.ty) unique.0 typed.consequence);
+          consequence =
+              subst (λ u. HasType ns ps d.consequence u) unique.1
+              (subst (λ us. HasType ns us d.consequence typed.ty) unique.0 typed.consequence);
           condition_env = condition-stands d.condition
-              (all_front (IsReady allowed ns (env calls values)) (in_condition items_named d.condition) (items_named d.consequence) ready)
-              (all_front (Callee allowed ds scoped.runs) (in_condition scopes_named d.condition) (scopes_named d.consequence) callees);
+              (all_front (IsReady allowed ns (env calls values)) (in_condition items_named d.condition)
+              (items_named d.consequence) ready)
+              (all_front (Callee allowed ds scoped.runs) (in_condition scopes_named d.condition)
+              (scopes_named d.consequence) callees);
           consequence_env = record {
-            items = all_back (IsReady allowed ns (env calls values)) (in_condition items_named d.condition) (items_named d.consequence) ready;
-            scopes = callable calls values (scopes_named d.consequence) (all_back (Callee allowed ds scoped.runs) (in_condition scopes_named d.condition) (scopes_named d.consequence) callees);
+            items =
+                all_back (IsReady allowed ns (env calls values)) (in_condition items_named d.condition)
+                (items_named d.consequence) ready;
+            scopes =
+                callable calls values (scopes_named d.consequence)
+                (all_back (Callee allowed ds scoped.runs) (in_condition scopes_named d.condition)
+                (scopes_named d.consequence) callees);
           };
         }
 
-    defs-stand : (item : ℕ) (inner : Option ℕ) (ps : List Ty) (t : Ty) → IsTargetAt ns item inner ps t → (defs : List Def) → AllHave (DefTyped ns scoped.scope) defs
-        → AllHave (λ d. AllHave (Callee allowed ds scoped.runs) (in_def scopes_named d)) defs → AllHave (IsReady allowed ns (env calls values)) (in_defs_of items_named item defs)
-        → AllHave (λ d. IsTrue (same_target d.target (record { scope = scoped.scope; item = item; inner = inner })) → StandsIn allowed ns (env calls values) ps t d) defs
+    defs-stand : (item : ℕ) (inner : Option ℕ) (ps : List Ty) (t : Ty) → IsTargetAt ns item inner ps t
+        → (defs : List Def) → AllHave (DefTyped ns scoped.scope) defs
+        → AllHave (λ d. AllHave (Callee allowed ds scoped.runs) (in_def scopes_named d)) defs → AllHave
+        (IsReady allowed ns (env calls values)) (in_defs_of items_named item defs)
+        → AllHave (λ d. IsTrue (same_target d.target (record { scope = scoped.scope; item = item; inner = inner }))
+        → StandsIn allowed ns (env calls values) ps t d) defs
     defs-stand item inner ps t target [] typed callees ready = tt
     defs-stand item inner ps t target (d ∷ defs) typed callees ready =
         by (nat_eq d.target.item item) refl ready (defs-stand item inner ps t target defs typed.1 callees.1)
       where
         by : (b : Bool) → nat_eq d.target.item item ≡ b
-            → AllHave (IsReady allowed ns (env calls values)) (if b then in_def items_named d ++ in_defs_of items_named item defs else in_defs_of items_named item defs)
+            → AllHave (IsReady allowed ns (env calls values))
+            (if b then in_def items_named d ++ in_defs_of items_named item defs else in_defs_of items_named item defs)
             → (AllHave (IsReady allowed ns (env calls values)) (in_defs_of items_named item defs)
-            → AllHave (λ d. IsTrue (same_target d.target (record { scope = scoped.scope; item = item; inner = inner })) → StandsIn allowed ns (env calls values) ps t d) defs)
-            → AllHave (λ d. IsTrue (same_target d.target (record { scope = scoped.scope; item = item; inner = inner })) → StandsIn allowed ns (env calls values) ps t d) (d ∷ defs)
+            → AllHave (λ d. IsTrue (same_target d.target (record { scope = scoped.scope; item = item; inner = inner }))
+            → StandsIn allowed ns (env calls values) ps t d) defs)
+            → AllHave (λ d. IsTrue (same_target d.target (record { scope = scoped.scope; item = item; inner = inner }))
+            → StandsIn allowed ns (env calls values) ps t d) (d ∷ defs)
         by true e h rest = (
-          (λ same. def-stands item inner ps t target d typed.0 same (all_front (IsReady allowed ns (env calls values)) (in_def items_named d) (in_defs_of items_named item defs) h) callees.0),
-          rest (all_back (IsReady allowed ns (env calls values)) (in_def items_named d) (in_defs_of items_named item defs) h),
+          (λ same. def-stands item inner ps t target d typed.0 same
+              (all_front (IsReady allowed ns (env calls values)) (in_def items_named d)
+              (in_defs_of items_named item defs) h) callees.0),
+          rest (all_back (IsReady allowed ns (env calls values)) (in_def items_named d)
+              (in_defs_of items_named item defs) h),
         )
         by false e h rest = (
-          (λ same. absurd (true≢false (sym (both (nat_eq d.target.item item) (same_inner d.target.inner inner) same).0 ∙ e))),
+          (λ same. absurd (true≢false
+              (sym (both (nat_eq d.target.item item) (same_inner d.target.inner inner) same).0 ∙ e))),
           rest h,
         )
 
@@ -188,25 +221,33 @@ module _ (allowed : Allowed) (ds : Decls) (scoped : Scoped) (sound : IsSound all
 
     -- a judging ends as its target may, and what is decided may stand in a log
     record JudgingEnds (item : ℕ) (inner : Option ℕ) (ps : List Ty) (t : Ty) : Type 0 where
-      ends : EndsIn allowed (IsHeldOf (allowed.may_stop (target_of item inner) || may_be_empty ns item inner) ds t) (judged scoped calls values arguments (target_of item inner))
-      stands : ps ≡ [] → MayStand allowed (target_of item inner) (judged scoped calls values arguments (target_of item inner)).end
+      ends : EndsIn allowed (IsHeldOf (allowed.may_stop (target_of item inner) || may_be_empty ns item inner) ds t)
+          (judged scoped calls values arguments (target_of item inner))
+      stands : ps ≡ []
+          → MayStand allowed (target_of item inner) (judged scoped calls values arguments (target_of item inner)).end
 
-    judged-ends : (item : ℕ) (inner : Option ℕ) (ps : List Ty) (t : Ty) → IsTargetAt ns item inner ps t → AreOf ds ps arguments → AllHave (IsReady allowed ns (env calls values)) (needs item)
+    judged-ends : (item : ℕ) (inner : Option ℕ) (ps : List Ty) (t : Ty) → IsTargetAt ns item inner ps t
+        → AreOf ds ps arguments → AllHave (IsReady allowed ns (env calls values)) (needs item)
         → JudgingEnds item inner ps t
     judged-ends item inner ps t target are ready =
         let settled = sound.settled (env calls values) arguments item inner ps t target are stand in
         record { ends = by (allowed.may_stop (target_of item inner)) refl settled.ends; stands = settled.stands }
       where
-        stand : AllHave (λ d. IsTrue (same_target d.target (target_of item inner)) → StandsIn allowed ns (env calls values) ps t d) scoped.body.defs
+        stand : AllHave (λ d. IsTrue (same_target d.target (target_of item inner))
+            → StandsIn allowed ns (env calls values) ps t d) scoped.body.defs
         stand = defs-stand item inner ps t target scoped.body.defs sound.defs sound.def_calls ready
 
         -- where every target may stop
-        free : EndsIn (all_stop allowed) (IsHeldOf true ds t) (judged scoped calls values arguments (target_of item inner))
+        free : EndsIn (all_stop allowed) (IsHeldOf true ds t)
+            (judged scoped calls values arguments (target_of item inner))
         free =
             judge_target-ends (all_stop allowed) ds t of (target_of item inner) refl scoped.body.defs
-            (all_more (λ d. IsTrue (same_target d.target (target_of item inner)) → StandsIn allowed ns (env calls values) ps t d)
-            (λ d. IsTrue (same_target d.target (target_of item inner)) → DefEnds (all_stop allowed) ds t of d) scoped.body.defs stand
-            (λ d stands same. def-loosened d (stands_end allowed ns (env calls values) ps t arguments are d (stands same))))
+            (all_more (λ d. IsTrue (same_target d.target (target_of item inner)) → StandsIn allowed ns
+            (env calls values) ps t d)
+            (λ d. IsTrue (same_target d.target (target_of item inner)) → DefEnds (all_stop allowed) ds t of d)
+            scoped.body.defs stand
+            (λ d stands same. def-loosened d
+            (stands_end allowed ns (env calls values) ps t arguments are d (stands same))))
           where
             def-loosened : (d : Def) → DefEnds allowed ds t of d → DefEnds (all_stop allowed) ds t of d
             def-loosened d h = record {
@@ -215,32 +256,46 @@ module _ (allowed : Allowed) (ds : Decls) (scoped : Scoped) (sound : IsSound all
             }
 
         by : (b : Bool) → allowed.may_stop (target_of item inner) ≡ b
-            → (allowed.may_stop (target_of item inner) ≡ false → Ended allowed (IsHeldOf (may_be_empty ns item inner) ds t) (judged scoped calls values arguments (target_of item inner)).end)
-            → EndsIn allowed (IsHeldOf (b || may_be_empty ns item inner) ds t) (judged scoped calls values arguments (target_of item inner))
+            → (allowed.may_stop (target_of item inner) ≡ false → Ended allowed
+            (IsHeldOf (may_be_empty ns item inner) ds t)
+            (judged scoped calls values arguments (target_of item inner)).end)
+            → EndsIn allowed (IsHeldOf (b || may_be_empty ns item inner) ds t)
+            (judged scoped calls values arguments (target_of item inner))
         by true e settled =
             judge_target-ends allowed ds t of (target_of item inner) e scoped.body.defs
-            (all_more (λ d. IsTrue (same_target d.target (target_of item inner)) → StandsIn allowed ns (env calls values) ps t d)
-            (λ d. IsTrue (same_target d.target (target_of item inner)) → DefEnds allowed ds t of d) scoped.body.defs stand
+            (all_more (λ d. IsTrue (same_target d.target (target_of item inner)) → StandsIn allowed ns
+            (env calls values) ps t d)
+            (λ d. IsTrue (same_target d.target (target_of item inner)) → DefEnds allowed ds t of d) scoped.body.defs
+            stand
             (λ d stands same. stands_end allowed ns (env calls values) ps t arguments are d (stands same)))
         by false e settled = (free.0, settled e)
 
     -- the value of a variable or a function, by a judging that ends so
-    variable_value-ends : (item : ℕ) (decl : ItemDecl) (judging : Judged Value) → slice_get scoped.items item ≡ Some decl
-        → EndsIn allowed (IsHeldOf (allowed.may_stop (variable scoped item) || may_be_empty ns item None) ds decl.ty) judging
+    variable_value-ends : (item : ℕ) (decl : ItemDecl) (judging : Judged Value)
+        → slice_get scoped.items item ≡ Some decl
+        → EndsIn allowed (IsHeldOf (allowed.may_stop (variable scoped item) || may_be_empty ns item None) ds decl.ty)
+        judging
         → EndsIn allowed (IsOf ds decl.ty) (variable_value (variable scoped item) (Some decl) judging)
     variable_value-ends item decl judging is ends =
-        ends_then allowed (IsHeldOf (allowed.may_stop (variable scoped item) || decl.condition) ds decl.ty) (IsOf ds decl.ty) judging
+        ends_then allowed (IsHeldOf (allowed.may_stop (variable scoped item) || decl.condition) ds decl.ty)
+        (IsOf ds decl.ty) judging
         (λ found. plain (value_or (absent (variable scoped item) decl.pos decl.condition) found))
-        (subst (λ b. EndsIn allowed (IsHeldOf (allowed.may_stop (variable scoped item) || b) ds decl.ty) judging) (ap empty_variable is) ends)
+        (subst (λ b. EndsIn allowed (IsHeldOf (allowed.may_stop (variable scoped item) || b) ds decl.ty) judging)
+        (ap empty_variable is) ends)
         (λ found holds. (
           tt,
-          value_or-ends allowed ds decl.ty (allowed.may_stop (variable scoped item) || decl.condition) (absent (variable scoped item) decl.pos decl.condition) found
-              (absent-ends allowed ds decl.ty (variable scoped item) decl.pos decl.condition (condition_type decl (all_at Placed scoped.items item decl sound.placed is))) holds,
+          value_or-ends allowed ds decl.ty (allowed.may_stop (variable scoped item) || decl.condition)
+              (absent (variable scoped item) decl.pos decl.condition) found
+              (absent-ends allowed ds decl.ty (variable scoped item) decl.pos decl.condition
+              (condition_type decl (all_at Placed scoped.items item decl sound.placed is))) holds,
         ))
 
-    own-judged : (item : ℕ) (decl : ItemDecl) → slice_get scoped.items item ≡ Some decl → IsTrue (is_defined decl) → AreOf ds decl.params arguments → AllHave (IsReady allowed ns (env calls values)) (needs item)
+    own-judged : (item : ℕ) (decl : ItemDecl) → slice_get scoped.items item ≡ Some decl → IsTrue (is_defined decl)
+        → AreOf ds decl.params arguments → AllHave (IsReady allowed ns (env calls values)) (needs item)
         → JudgingEnds item None decl.params decl.ty
-    own-judged item decl is defined are ready = judged-ends item None decl.params decl.ty (record { decl = decl; decl_is = is; defined = defined; params_are = refl; ty_is = refl }) are ready
+    own-judged item decl is defined are ready =
+        judged-ends item None decl.params decl.ty
+        (record { decl = decl; decl_is = is; defined = defined; params_are = refl; ty_is = refl }) are ready
 
   -- ---- functions
 
@@ -260,36 +315,52 @@ module _ (allowed : Allowed) (ds : Decls) (scoped : Scoped) (sound : IsSound all
   function_defined : (i : ItemDecl) → Placed i → IsTrue (is_function i) → IsTrue (is_defined i)
   function_defined i placed is =
       let two = both (not (is_called i.kind)) (not (has_none i.params)) is in
-      let internal = function_internal (has_none i.params) (is_internal i.kind) (both (has_none i.params || is_internal i.kind) _ placed).0 two.1 in
+      let internal = function_internal (has_none i.params) (is_internal i.kind)
+      (both (has_none i.params || is_internal i.kind) _ placed).0 two.1 in
       let free = internal_defined i.kind internal in
       and_both _ _ free.0 free.1
 
   abbrev FunctionEnds : Items → List ℕ → ℕ → Type 0
-  FunctionEnds values before f = (ps : List Ty) (t : Ty) (vs : List Value) → IsFunction ns f ps t → AreOf ds ps vs → EndsIn allowed (IsOf ds t) (call scoped values before f vs)
+  FunctionEnds values before f =
+      (ps : List Ty) (t : Ty) (vs : List Value) → IsFunction ns f ps t → AreOf ds ps vs → EndsIn allowed (IsOf ds t)
+      (call scoped values before f vs)
 
-  ready-of : (values : Items) (before : List ℕ) → AllHave (DoneAt ns values) before → ((f : ℕ) → IsTrue (is_in f before) → FunctionEnds values before f) → (k : ℕ) → IsTrue (is_in k before)
+  ready-of : (values : Items) (before : List ℕ) → AllHave (DoneAt ns values) before
+      → ((f : ℕ) → IsTrue (is_in f before) → FunctionEnds values before f) → (k : ℕ) → IsTrue (is_in k before)
       → IsReady allowed ns (env (call scoped values before) values) k
   ready-of values before h go k there =
       let at = in_at (DoneAt ns values) before k h there in
       record {
-        variable = λ t is. result_as (IsOf ds t) (done (slice_get values k)) (known at.value) (ap done at.there) (at.is.variable t is);
-        output = λ n t is. result_as (IsOf ds t) (on_one (done (slice_get values k)) (part n)) (on_one (known at.value) (part n)) (ap (λ o. on_one (done o) (part n)) at.there) (at.is.output n t is);
+        variable =
+            λ t is. result_as (IsOf ds t) (done (slice_get values k)) (known at.value) (ap done at.there)
+            (at.is.variable t is);
+        output =
+            λ n t is. result_as (IsOf ds t) (on_one (done (slice_get values k)) (part n))
+            (on_one (known at.value) (part n)) (ap (λ o. on_one (done o) (part n)) at.there) (at.is.output n t is);
         function = λ ps t vs is are. go k there ps t vs is are;
       }
 
-  calls-end : (values : Items) (before : List ℕ) → Behind (length scoped.items) needs before → AllHave (DoneAt ns values) before → (f : ℕ) → IsTrue (is_in f before) → FunctionEnds values before f
+  calls-end : (values : Items) (before : List ℕ) → Behind (length scoped.items) needs before
+      → AllHave (DoneAt ns values) before → (f : ℕ) → IsTrue (is_in f before) → FunctionEnds values before f
   calls-end values [] behind h f there = not_true there
   calls-end values (item ∷ before) behind h f there =
       by (nat_eq item f) refl (calls-end values before behind.2 h.1)
     where
-      by : (b : Bool) → nat_eq item f ≡ b → ((g : ℕ) → IsTrue (is_in g before) → FunctionEnds values before g) → FunctionEnds values (item ∷ before) f
+      by : (b : Bool) → nat_eq item f ≡ b → ((g : ℕ) → IsTrue (is_in g before) → FunctionEnds values before g)
+          → FunctionEnds values (item ∷ before) f
       by true e rest ps t vs is are =
-          let here : slice_get scoped.items item ≡ Some is.decl = ap (slice_get scoped.items) (same_number item f e) ∙ is.decl_is in
-          let ready = all_more (λ k. IsTrue (is_in k before)) (IsReady allowed ns (env (call scoped values before) values)) (needs item) behind.1 (ready-of values before h.1 rest) in
-          ends_as allowed (IsOf ds t) (call scoped values (item ∷ before) f vs) (variable_value (variable scoped item) (Some is.decl) judging)
-          (ap (λ b. if b then variable_value (variable scoped item) (slice_get scoped.items item) judging else call scoped values before f vs) e
+          let here : slice_get scoped.items item ≡ Some is.decl = ap (slice_get scoped.items) (same_number item f e)
+          ∙ is.decl_is in
+          let ready = all_more (λ k. IsTrue (is_in k before))
+          (IsReady allowed ns (env (call scoped values before) values)) (needs item) behind.1
+          (ready-of values before h.1 rest) in
+          ends_as allowed (IsOf ds t) (call scoped values (item ∷ before) f vs)
+          (variable_value (variable scoped item) (Some is.decl) judging)
+          (ap (λ b. if b then variable_value (variable scoped item)
+          (slice_get scoped.items item) judging else call scoped values before f vs) e
           ∙ ap (λ o. variable_value (variable scoped item) o judging) here)
-          (subst (λ u. EndsIn allowed (IsOf ds u) (variable_value (variable scoped item) (Some is.decl) judging)) (sym is.ty_is)
+          (subst (λ u. EndsIn allowed (IsOf ds u) (variable_value (variable scoped item) (Some is.decl) judging))
+          (sym is.ty_is)
           (variable_value-ends (call scoped values before) values vs item is.decl judging here
           (own-judged (call scoped values before) values vs item is.decl here
           (function_defined is.decl (all_at Placed scoped.items item is.decl sound.placed here) is.function)
@@ -299,10 +370,13 @@ module _ (allowed : Allowed) (ds : Decls) (scoped : Scoped) (sound : IsSound all
           judging = judged scoped (call scoped values before) values vs (variable scoped item)
       by false e rest ps t vs is are =
           ends_as allowed (IsOf ds t) (call scoped values (item ∷ before) f vs) (call scoped values before f vs)
-          (ap (λ b. if b then variable_value (variable scoped item) (slice_get scoped.items item) (judged scoped (call scoped values before) values vs (variable scoped item)) else call scoped values before f vs) e)
+          (ap (λ b. if b then variable_value (variable scoped item) (slice_get scoped.items item)
+          (judged scoped (call scoped values before) values vs (variable scoped item)) else call scoped values before f
+          vs) e)
           (rest f (behind_first item f before e there) ps t vs is are)
 
-  pub ready : (values : Items) (before : List ℕ) → Behind (length scoped.items) needs before → AllHave (DoneAt ns values) before → (k : ℕ) → IsTrue (is_in k before)
+  pub ready : (values : Items) (before : List ℕ) → Behind (length scoped.items) needs before
+      → AllHave (DoneAt ns values) before → (k : ℕ) → IsTrue (is_in k before)
       → IsReady allowed ns (env (call scoped values before) values) k
   ready values before behind h k there = ready-of values before h (calls-end values before behind h) k there
 
@@ -314,7 +388,8 @@ module _ (allowed : Allowed) (ds : Decls) (scoped : Scoped) (sound : IsSound all
 
     no_output : {A : Type 0} → is_called decl.kind ≡ false → (k : ℕ) (t : Ty) → IsCalledOutput ns item k t → A
     no_output free k t is = absurd
-        (true≢false (sym (called_is is.called.kind is.scope is.kind_is) ∙ ap (λ (i : ItemDecl). is_called i.kind) (decl_is is.called is.called_is) ∙ free))
+        (true≢false (sym (called_is is.called.kind is.scope is.kind_is) ∙ ap (λ (i : ItemDecl). is_called i.kind)
+        (decl_is is.called is.called_is) ∙ free))
 
     pub done-variable : (v : Value) → is_called decl.kind ≡ false → IsOf ds decl.ty v → IsDone ns item (Some v)
     done-variable v free typed = record {
@@ -324,56 +399,96 @@ module _ (allowed : Allowed) (ds : Decls) (scoped : Scoped) (sound : IsSound all
 
     done-function : (o : Option Value) → is_called decl.kind ≡ false → has_none decl.params ≡ false → IsDone ns item o
     done-function o free some = record {
-      variable = λ t is. absurd (true≢false (sym (both (not (is_called is.0.kind)) (has_none is.0.params) is.2).1 ∙ ap (λ (i : ItemDecl). has_none i.params) (decl_is is.0 is.1) ∙ some));
+      variable =
+          λ t is. absurd (true≢false
+          (sym (both (not (is_called is.0.kind)) (has_none is.0.params) is.2).1 ∙ ap
+          (λ (i : ItemDecl). has_none i.params) (decl_is is.0 is.1) ∙ some));
       output = λ k t is. no_output free k t is;
     }
 
-    done-called : (s : ℕ) (outputs : List Value) (callee : Callee allowed ds scoped.runs s) → decl.kind ≡ kind.Called s → AreOutputsOf ds callee.scope.items outputs → IsDone ns item (Some (value.Structure outputs))
+    done-called : (s : ℕ) (outputs : List Value) (callee : Callee allowed ds scoped.runs s) → decl.kind ≡ kind.Called s
+        → AreOutputsOf ds callee.scope.items outputs → IsDone ns item (Some (value.Structure outputs))
     done-called s outputs callee is_kind are = record {
-      variable = λ t is. absurd (not_both (is_called is.0.kind) (both (not (is_called is.0.kind)) (has_none is.0.params) is.2).0 (ap (λ (i : ItemDecl). is_called i.kind) (decl_is is.0 is.1) ∙ called_is decl.kind s is_kind));
+      variable =
+          λ t is. absurd (not_both (is_called is.0.kind)
+          (both (not (is_called is.0.kind)) (has_none is.0.params) is.2).0
+          (ap (λ (i : ItemDecl). is_called i.kind) (decl_is is.0 is.1) ∙ called_is decl.kind s is_kind));
       output = λ k t is.
           let scope_is : is.scope ≡ s =
-          same_called is.scope s (sym is.kind_is ∙ ap (λ (i : ItemDecl). i.kind) (decl_is is.called is.called_is) ∙ is_kind) in
+          same_called is.scope s
+          (sym is.kind_is ∙ ap (λ (i : ItemDecl). i.kind) (decl_is is.called is.called_is) ∙ is_kind) in
           let there : slice_get (outputs_in callee.scope.items) k ≡ Some is.output =
-          sym (ap (λ o. slice_get (outputs_in (items_in o)) k) callee.there) ∙ sym (ap (λ x. output_at ds x k) scope_is) ∙ is.output_is in
+          sym (ap (λ o. slice_get (outputs_in (items_in o)) k) callee.there) ∙ sym
+          (ap (λ x. output_at ds x k) scope_is) ∙ is.output_is in
           result_as (IsOf ds t) (part k (value.Structure outputs)) (known (slice_get outputs k))
           (ap (λ r. on_one r (λ vs. known (slice_get vs k))) (ap parts_in (value.outs-Structure outputs)))
           (subst (λ u. ResultsIn (IsOf ds u) (known (slice_get outputs k))) (sym is.ty_is)
           (output-ends ds callee.scope.items outputs k is.output are there));
     }
 
-    module _ (values : Items) (before : List ℕ) (behind : Behind (length scoped.items) needs before) (h : AllHave (DoneAt ns values) before) (have : AllIn before (needs item)) where
+    module _ (values : Items) (before : List ℕ) (behind : Behind (length scoped.items) needs before)
+        (h : AllHave (DoneAt ns values) before) (have : AllIn before (needs item)) where
       readies : AllHave (IsReady allowed ns (env (call scoped values before) values)) (needs item)
-      readies = all_more (λ k. IsTrue (is_in k before)) (IsReady allowed ns (env (call scoped values before) values)) (needs item) have (ready values before behind h)
+      readies =
+          all_more (λ k. IsTrue (is_in k before)) (IsReady allowed ns (env (call scoped values before) values))
+          (needs item) have (ready values before behind h)
 
-      pub defined-ends : (ps : List Ty) → decl.params ≡ ps → is_called decl.kind ≡ false → IsTrue (not (must_be_given decl.kind)) → EndsIn allowed (IsDone ns item) (defined_value scoped before values item decl ps)
+      pub defined-ends : (ps : List Ty) → decl.params ≡ ps → is_called decl.kind ≡ false
+          → IsTrue (not (must_be_given decl.kind))
+          → EndsIn allowed (IsDone ns item) (defined_value scoped before values item decl ps)
       defined-ends [] e free open_one =
-          let judging = own-judged (call scoped values before) values [] item decl at (and_both _ _ (ap not free) open_one) (subst (λ us. AreOf ds us []) (sym e) tt) readies in
-          ends_then allowed (IsOf ds decl.ty) (IsDone ns item) (variable_value (variable scoped item) (Some decl) (decided (variable scoped item) (judged scoped (call scoped values before) values [] (variable scoped item)))) _
-          (variable_value-ends (call scoped values before) values [] item decl (decided (variable scoped item) (judged scoped (call scoped values before) values [] (variable scoped item))) at
-          (decided-ends allowed (IsHeldOf (allowed.may_stop (variable scoped item) || may_be_empty ns item None) ds decl.ty) (variable scoped item) (judged scoped (call scoped values before) values [] (variable scoped item)) judging.ends (judging.stands e)))
+          let judging = own-judged (call scoped values before) values [] item decl at
+          (and_both _ _ (ap not free) open_one) (subst (λ us. AreOf ds us []) (sym e) tt) readies in
+          ends_then allowed (IsOf ds decl.ty) (IsDone ns item)
+          (variable_value (variable scoped item) (Some decl)
+          (decided (variable scoped item)
+          (judged scoped (call scoped values before) values [] (variable scoped item)))) _
+          (variable_value-ends (call scoped values before) values [] item decl
+          (decided (variable scoped item) (judged scoped (call scoped values before) values [] (variable scoped item)))
+          at
+          (decided-ends allowed
+          (IsHeldOf (allowed.may_stop (variable scoped item) || may_be_empty ns item None) ds decl.ty)
+          (variable scoped item)
+          (judged scoped (call scoped values before) values [] (variable scoped item)) judging.ends (judging.stands e)))
           (λ v hv. (tt, done-variable v free hv))
       defined-ends (t ∷ ts) e free open_one = (tt, done-function None free (ap has_none e))
 
       abbrev judged_at : ℕ → Judged Value
       judged_at n = judged scoped (call scoped values before) values [] (variable_of_called scoped item n)
 
-      pub called-ends : (s : ℕ) → decl.kind ≡ kind.Called s → Callee allowed ds scoped.runs s → EndsIn allowed (IsDone ns item) (and_then (called_value scoped before values item decl s) (λ v. gives (Some v)))
+      pub called-ends : (s : ℕ) → decl.kind ≡ kind.Called s → Callee allowed ds scoped.runs s
+          → EndsIn allowed (IsDone ns item)
+          (and_then (called_value scoped before values item decl s) (λ v. gives (Some v)))
       called-ends s is_kind callee =
-          let here : items_of scoped s ≡ callee.scope.items = ap items_in (ap (λ ss. slice_get ss s) sound.scopes ∙ callee.there) in
-          ends_then allowed (λ v. IsDone ns item (Some v)) (IsDone ns item) (called_value scoped before values item decl s) _
-          (ends_then allowed (λ input. IsTrue (are_given_for ds callee.scope.items input)) (λ v. IsDone ns item (Some v)) (passed_input judged_at (variable_of_called scoped item) decl.pos 0 (items_of scoped s)) _
-          (subst (λ xs. EndsIn allowed (λ input. IsTrue (are_given_for ds callee.scope.items input)) (passed_input judged_at (variable_of_called scoped item) decl.pos 0 xs)) (sym here)
-          (passed_input-ends allowed ds judged_at (variable_of_called scoped item) decl.pos 0 callee.scope.items callee.placed
-          (λ j i is may. subst (λ b. EndsIn allowed (IsHeldOf (allowed.may_stop (variable_of_called scoped item (0 + j)) || b) ds i.ty) (decided (variable_of_called scoped item (0 + j)) (judged_at (0 + j))))
-          (ap empty_input (ap (λ o. slice_get (items_called ds o) (0 + j)) at ∙ ap (λ k. slice_get (items_of_kind ds k) (0 + j)) is_kind ∙ ap (λ o. slice_get (items_in o) (0 + j)) callee.there ∙ ap (slice_get callee.scope.items) (zero_plus j) ∙ is))
-          (inner-decided j i (ap (λ o. slice_get (items_in o) (0 + j)) callee.there ∙ ap (slice_get callee.scope.items) (zero_plus j) ∙ is) may))))
-          (λ input typed. ends_then allowed (AreOutputsOf ds callee.scope.items) (λ v. IsDone ns item (Some v)) (scoped.runs s input) _ (callee.ends input typed)
+          let here : items_of scoped s ≡ callee.scope.items = ap items_in
+          (ap (λ ss. slice_get ss s) sound.scopes ∙ callee.there) in
+          ends_then allowed (λ v. IsDone ns item (Some v)) (IsDone ns item)
+          (called_value scoped before values item decl s) _
+          (ends_then allowed (λ input. IsTrue (are_given_for ds callee.scope.items input))
+          (λ v. IsDone ns item (Some v))
+          (passed_input judged_at (variable_of_called scoped item) decl.pos 0 (items_of scoped s)) _
+          (subst (λ xs. EndsIn allowed (λ input. IsTrue (are_given_for ds callee.scope.items input))
+          (passed_input judged_at (variable_of_called scoped item) decl.pos 0 xs)) (sym here)
+          (passed_input-ends allowed ds judged_at
+          (variable_of_called scoped item) decl.pos 0 callee.scope.items callee.placed
+          (λ j i is may. subst
+          (λ b. EndsIn allowed (IsHeldOf (allowed.may_stop (variable_of_called scoped item (0 + j)) || b) ds i.ty)
+          (decided (variable_of_called scoped item (0 + j)) (judged_at (0 + j))))
+          (ap empty_input (ap (λ o. slice_get (items_called ds o) (0 + j)) at ∙ ap
+          (λ k. slice_get (items_of_kind ds k) (0 + j)) is_kind ∙ ap (λ o. slice_get (items_in o) (0 + j)) callee.there
+          ∙ ap (slice_get callee.scope.items) (zero_plus j) ∙ is))
+          (inner-decided j i (ap (λ o. slice_get (items_in o) (0 + j)) callee.there ∙ ap (slice_get callee.scope.items)
+          (zero_plus j) ∙ is) may))))
+          (λ input typed. ends_then allowed (AreOutputsOf ds callee.scope.items) (λ v. IsDone ns item (Some v))
+          (scoped.runs s input) _ (callee.ends input typed)
           (λ outputs are. (tt, done-called s outputs callee is_kind are))))
           (λ v hv. (tt, hv))
         where
-          inner-decided : (j : ℕ) (i : ItemDecl) → slice_get (scope_items ds s) (0 + j) ≡ Some i → IsTrue (may_be_given i.kind)
-              → EndsIn allowed (IsHeldOf (allowed.may_stop (variable_of_called scoped item (0 + j)) || may_be_empty ns item (Some (0 + j))) ds i.ty) (decided (variable_of_called scoped item (0 + j)) (judged_at (0 + j)))
+          inner-decided : (j : ℕ) (i : ItemDecl) → slice_get (scope_items ds s) (0 + j) ≡ Some i
+              → IsTrue (may_be_given i.kind)
+              → EndsIn allowed (IsHeldOf
+              (allowed.may_stop (variable_of_called scoped item (0 + j)) || may_be_empty ns item (Some (0 + j))) ds
+              i.ty) (decided (variable_of_called scoped item (0 + j)) (judged_at (0 + j)))
           inner-decided j i is may =
               let inner : IsInner ns item (0 + j) [] i.ty = record {
                 called = decl;
@@ -386,8 +501,12 @@ module _ (allowed : Allowed) (ds : Decls) (scoped : Scoped) (sound : IsSound all
                 params_are = refl;
                 ty_is = refl;
               } in
-              let judging = judged-ends (call scoped values before) values [] item (Some (0 + j)) [] i.ty inner tt readies in
-              decided-ends allowed (IsHeldOf (allowed.may_stop (variable_of_called scoped item (0 + j)) || may_be_empty ns item (Some (0 + j))) ds i.ty) (variable_of_called scoped item (0 + j)) (judged_at (0 + j)) judging.ends (judging.stands refl)
+              let judging = judged-ends (call scoped values before) values [] item
+              (Some (0 + j)) [] i.ty inner tt readies in
+              decided-ends allowed
+              (IsHeldOf (allowed.may_stop (variable_of_called scoped item (0 + j)) || may_be_empty ns item
+              (Some (0 + j))) ds i.ty) (variable_of_called scoped item (0 + j)) (judged_at (0 + j)) judging.ends
+              (judging.stands refl)
 
           zero_plus : (j : ℕ) → 0 + j ≡ j
           zero_plus j = omega arith

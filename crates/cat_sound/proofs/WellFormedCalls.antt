@@ -36,16 +36,16 @@ calling_is_sound = search (rules, ty.the_lemmas, integer_is_sound, boolean_is_so
 abbrev pub decls : Decls
 decls = record { structures = []; enumerations = []; scopes = calling_scopes; sound = calling_is_sound }
 
-abbrev x_in_t : ItemDecl
+abbrev pub x_in_t : ItemDecl
 x_in_t = item kind.ContextOutput (at 4 18)
 
-abbrev t_items : List ItemDecl
+abbrev pub t_items : List ItemDecl
 t_items = x_in_t ∷ []
 
 abbrev called : ItemDecl
 called = truth_item (kind.Called 0) (at 7 3)
 
-abbrev y : ItemDecl
+abbrev pub y : ItemDecl
 y = item kind.Output (at 8 10)
 
 abbrev pub s_items : List ItemDecl
@@ -57,7 +57,7 @@ t_names = record { decls = decls; items = t_items }
 abbrev pub s_names : Names
 s_names = record { decls = decls; items = s_items }
 
-abbrev t_defs : List Def
+abbrev pub t_defs : List Def
 t_defs = def (variable 0 0) None except.No None (whole 7) (at 10 3) ∷ []
 
 abbrev pub s_defs : List Def
@@ -144,7 +144,7 @@ s_body = record {
   functions = short (function_calls s_items s_defs) ([] ∷ [] ∷ [] ∷ []) (search (rules, namings)) refl;
 }
 
-depend : scope_dependencies calling_scopes calling_bodies ≡ [] ∷ (0 ∷ []) ∷ []
+pub depend : scope_dependencies calling_scopes calling_bodies ≡ [] ∷ (0 ∷ []) ∷ []
 depend = search (rules, namings)
 
 pub well_formed : IsWellFormed decls calling_bodies (0 ∷ 1 ∷ [])

@@ -27,7 +27,8 @@ pub record JudgedAt (scoped : Scoped) (input : Items) (place item : ℕ) : Type 
   pub values : Items
   pub value : Option Value
   pub reached : (values_at scoped input place).end ≡ Ok values
-  pub is : (item_value scoped (backwards (take place scoped.body.order)) values item (entry_at item input) (slice_get scoped.items item)).end ≡ Ok value
+  pub is : (item_value scoped (backwards (take place scoped.body.order)) values item (entry_at item input)
+      (slice_get scoped.items item)).end ≡ Ok value
 
 -- a log tells what came of a target
 abbrev pub IsLogged : Target → List Decider → Type 0

@@ -11,3 +11,5 @@ pub mod Rests
 pub mod Given
 -- groups and conflicts
 pub mod Grouped
+-- what stands in a log
+pub mod Logs

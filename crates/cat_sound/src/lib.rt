@@ -4,6 +4,7 @@
 mod given;
 mod grouping;
 mod judging;
+mod logs;
 mod resting;
 mod types;
 mod typing;
@@ -18,6 +19,7 @@ pub use judging::{
     conditions_have_values, forests_have_short_chains, groups_are_judged_by_their_rule,
     targets_rest_on_their_definitions,
 };
+pub use logs::{each_variable_is_logged_once, logs_are_made_of_judgings};
 pub use resting::{
     expressions_rest_on_what_they_name, functions_are_judged_by_the_rule,
     positions_change_no_value, scopes_are_run_by_the_rule, the_test_of_trees_decides,
