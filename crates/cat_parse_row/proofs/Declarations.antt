@@ -1,17 +1,16 @@
 -- The readers of fields, cases and variables are right.
-use Rattle.std.proofs.Common.{◌≡◌, ℕ, Bool, true, false, List, ◌++◌, Option, Some, None, refl, ap, ◌∙◌}
-use Rattle.cat_lex.specs.declared.token.Token.{Token}
+use Rattle.std.proofs.Common.{◌≡◌, ℕ, Bool, true, false, Option, Some, None, refl, ap}
 use Rattle.cat_lex.specs.declared.token.TokenKind.{TokenKind}
 use Rattle.cat_lex.specs.declared.token.TokenKind.TheVariants as kind
 use Rattle.cat_lex.specs.declared.words.Keyword.TheVariants as key
 use Rattle.cat_lex.specs.declared.symbol.Symbol.TheVariants as symbol
 use Rattle.cat_tree.specs.declared.name.Name.{Name}
 use Rattle.cat_tree.specs.declared.name.Type as types
-use Rattle.cat_tree.specs.Phrase.{Parts, End, Word, At, Anywhere}
+use Rattle.cat_tree.specs.Phrase.{End, Word, At, Anywhere}
 use Rattle.cat_tree.specs.Literals.{type_parts}
 use Rattle.cat_tree.specs.Declarations.{typed_parts, field_parts, content_parts, case_parts}
 use Rattle.cat_parse_row.specs.declared.cue.Cue.TheVariants as cue
-use Rattle.cat_parse_row.specs.Reader.{◌⨟◌, done, heads, optional}
+use Rattle.cat_parse_row.specs.Reader.{◌⨟◌, done, optional}
 use Rattle.cat_parse_row.specs.Right.{IsRight}
 use Rattle.cat_parse_row.specs.Cues.{upper}
 use Rattle.cat_parse_row.specs.Types.{a_type}

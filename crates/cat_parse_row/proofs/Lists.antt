@@ -1,13 +1,12 @@
 -- One part and another, and as many as there are.
 use Rattle.std.proofs.Common.{◌≡◌, ℕ, zero, suc, ◌≤◌, Bool, true, false, List, [], ◌∷◌, ◌++◌, length, refl, sym, ap}
 use Rattle.std.proofs.Common.{subst, ◌∙◌, arith, inl, inr, ◌⊎◌}
-use Rattle.std.proofs.lemmas.List.{length-append}
 use Rattle.cat_lex.specs.declared.token.Token.{Token}
 use Rattle.cat_lex.specs.declared.token.TokenKind.{TokenKind}
 use Rattle.cat_tree.specs.Phrase.{Parts, AreSpelled}
 use Rattle.cat_tree.specs.Joined.{◌▸◌, all}
-use Rattle.cat_parse_row.specs.Reader.{Outcome, Reader, Reads, ◌⨟◌, done, heads, both, at_most, many}
-use Rattle.cat_parse_row.specs.Right.{Agree, Outside, Taken, IsRight}
+use Rattle.cat_parse_row.specs.Reader.{Reader, Reads, ◌⨟◌, done, heads, both, at_most, many}
+use Rattle.cat_parse_row.specs.Right.{Agree, Outside, IsRight}
 use Rattle.cat_parse_row.proofs.Steps.{no_front, agree_same, spelled_split}
 use Rattle.cat_parse_row.proofs.Sequel.{part_right}
 use Rattle.cat_parse_row.proofs.Choices.{reshaped, made_right, Decides, choice_right, none_right, Opens, outside_off}

@@ -1,17 +1,13 @@
 -- What one more part makes of the rest of a repetition.
 use Rattle.std.proofs.Common.{◌≡◌, ◌≤◌, ◌<◌, ℕ, zero, suc, Bool, true, false, if◌then◌else◌, List, [], ◌∷◌, ◌++◌}
-use Rattle.std.proofs.Common.{length, drop}
-use Rattle.std.proofs.Common.{Ok, Err, refl, sym, ap, subst, ◌∙◌, append_assoc, arith}
+use Rattle.std.proofs.Common.{length}
+use Rattle.std.proofs.Common.{refl, sym, ap, subst, ◌∙◌, append_assoc, arith}
 use Rattle.std.proofs.lemmas.List.{append-nil, length-append}
 use Rattle.cat_lex.specs.declared.token.Token.{Token}
 use Rattle.cat_lex.specs.declared.token.TokenKind.{TokenKind}
 use Rattle.cat_tree.specs.Phrase.{Parts}
-use Rattle.cat_parse_row.specs.declared.stray.Stray.{Stray}
-use Rattle.cat_parse_row.specs.declared.stray.Stray.TheVariants.{Unexpected, Memory}
-use Rattle.cat_parse_row.specs.Reader.{Outcome, Reader, Fails, Reads, after, done, heads, both, at_most, many, some}
+use Rattle.cat_parse_row.specs.Reader.{Outcome, Reader, Fails, Reads, after, done, heads, both, at_most, many}
 use Rattle.cat_parse_row.specs.Right.{Taken, IsRight}
-use Rattle.cat_parse_row.specs.Places.{Gives}
-use Rattle.cat_parse_row.specs.Declarations.{is_comma, comma, listed}
 use Rattle.cat_parse_row.proofs.Choices.{Opens}
 
 -- a part takes a token at least

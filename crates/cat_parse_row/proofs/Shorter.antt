@@ -29,7 +29,8 @@ pub case_shrinks : Shrinks a_case
 case_shrinks =
     shrinks behind_case is_dashes Any case_parts a_case
     (opens_word is_dashes (kind.Symbol symbol.MinusMinus) Any
-    (λ c. Word (At (kind.Upper c.name.text) c.name.pos) (content_parts c.content)) (cue_self (cue.Sign symbol.MinusMinus)))
+    (λ c. Word (At (kind.Upper c.name.text) c.name.pos) (content_parts c.content))
+    (cue_self (cue.Sign symbol.MinusMinus)))
     (λ b. case_right b behind_case case_no_content)
 
 pub param_shrinks : Shrinks (comma typed_name)

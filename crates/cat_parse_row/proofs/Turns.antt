@@ -1,11 +1,11 @@
 -- A loop over a repetition, by places of a list of tokens.
 use Rattle.std.proofs.Common.{◌≡◌, ◌≤◌, ◌<◌, ◌-◌, ℕ, true, false, List, [], ◌∷◌, ◌++◌, length, drop, Ok, Err}
-use Rattle.std.proofs.Common.{Bool, refl, sym, ap, subst, ◌∙◌, arith, length-drop}
+use Rattle.std.proofs.Common.{Bool, ap, arith, length-drop}
 use Rattle.cat_lex.specs.declared.token.Token.{Token}
 use Rattle.cat_lex.specs.declared.token.TokenKind.{TokenKind}
 use Rattle.cat_parse_row.specs.declared.stray.Stray.{Stray}
 use Rattle.cat_parse_row.specs.declared.stray.Stray.TheVariants.{Unexpected, Memory}
-use Rattle.cat_parse_row.specs.Reader.{Outcome, Reader, Fails, Reads, after, ◌⨟◌, done, heads, both, many}
+use Rattle.cat_parse_row.specs.Reader.{Outcome, Reader, ◌⨟◌, done, heads, both, many}
 use Rattle.cat_parse_row.specs.Places.{Gives}
 use Rattle.cat_parse_row.proofs.Repeats.{Shrinks, Going, put, begun, begun_behind, goes_on, ends, breaks}
 
@@ -13,7 +13,8 @@ use Rattle.cat_parse_row.proofs.Repeats.{Shrinks, Going, put, begun, begun_behin
 abbrev pub one_and_more : {A : Type 0} → Reader A → (TokenKind → Bool) → Reader A → Reader (List A)
 one_and_more q start r = both q (many start r) ⨟ λ x. done (x.0 ∷ x.1)
 
-module _ {A : Type 0} (start : TokenKind → Bool) (r : Reader A) (whole : Reader (List A)) (tokens : List Token) (at : ℕ) where
+module _ {A : Type 0} (start : TokenKind → Bool) (r : Reader A) (whole : Reader (List A)) (tokens : List Token)
+    (at : ℕ) where
   -- the parts before the place were made
   pub record Stands (place : ℕ) (made : List A) : Type 0 where
     pub going : Going start r (whole (drop at tokens)) made (drop place tokens)

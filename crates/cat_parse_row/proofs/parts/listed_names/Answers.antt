@@ -23,19 +23,24 @@ loop-alloc-preserved c =
 
 pub returns : goal.returns
 returns c =
-    last is_comma (comma lower) (one_and_more lower is_comma (comma lower)) c.args.tokens.now c.args.at c.loop-alloc.place c.loop-alloc.names
+    last is_comma (comma lower)
+    (one_and_more lower is_comma (comma lower)) c.args.tokens.now c.args.at c.loop-alloc.place c.loop-alloc.names
     (sym c.is_next.ensures ∙ c.loop-alloc-test.false) c.loop-alloc.invariant
 
 pub loop-alloc-init : goal.loop-alloc-init
 loop-alloc-init c =
     let made : c.push.new.self ≡ c.in_ok-first.first ∷ [] = search rules in
     let whole = one_and_more lower is_comma (comma lower) in
-    subst (λ (made : List Name). Stands is_comma (comma lower) whole c.args.tokens.now c.args.at c.in_ok-first.behind made)
+    subst (λ (made : List Name). Stands is_comma
+    (comma lower) whole c.args.tokens.now c.args.at c.in_ok-first.behind made)
     (sym made)
-    (at_first is_comma (comma lower) c.args.tokens.now c.args.at lower c.in_ok-first.first c.in_ok-first.behind c.in_ok-first.ensures)
+    (at_first is_comma
+    (comma lower) c.args.tokens.now c.args.at lower c.in_ok-first.first c.in_ok-first.behind c.in_ok-first.ensures)
 
 pub returns-in_err-item : goal.returns-in_err-item
 returns-in_err-item c =
     let p = err_from_is_err_and c.from_residual-in_err-item.result c.from_residual-in_err-item.ensures.1 in
-    rw (p.1, p.2) (refused is_comma (comma lower) (one_and_more lower is_comma (comma lower)) c.args.tokens.now c.args.at c.loop-alloc.place c.loop-alloc.names
-    c.in_err-item.field-0.0 (sym c.is_next.ensures ∙ c.loop-alloc-test.true) c.in_err-item.ensures c.loop-alloc.invariant)
+    rw (p.1, p.2) (refused is_comma (comma lower)
+    (one_and_more lower is_comma (comma lower)) c.args.tokens.now c.args.at c.loop-alloc.place c.loop-alloc.names
+    c.in_err-item.field-0.0
+    (sym c.is_next.ensures ∙ c.loop-alloc-test.true) c.in_err-item.ensures c.loop-alloc.invariant)

@@ -15,12 +15,14 @@ pub loop-alloc-preserved : goal.loop-alloc-preserved
 loop-alloc-preserved c =
     let l = c.loop-alloc in
     let whole = one_and_more field (is_word key.Data) field in
-    subst (λ (made : List FieldItem). Stands (is_word key.Data) field whole c.args.tokens.now c.args.at c.in_ok-item.next made)
+    subst (λ (made : List FieldItem). Stands
+    (is_word key.Data) field whole c.args.tokens.now c.args.at c.in_ok-item.next made)
     (sym c.in_ok-push-2.ensures.ok)
     (further (is_word key.Data) field whole c.args.tokens.now c.args.at l.place l.fields c.in_ok-item.item
     c.in_ok-item.next field_shrinks (sym c.is_next.ensures ∙ c.loop-alloc-test.true) c.in_ok-item.ensures l.invariant)
 
 pub returns : goal.returns
 returns c =
-    last (is_word key.Data) field (one_and_more field (is_word key.Data) field) c.args.tokens.now c.args.at c.loop-alloc.place c.loop-alloc.fields
+    last (is_word key.Data) field
+    (one_and_more field (is_word key.Data) field) c.args.tokens.now c.args.at c.loop-alloc.place c.loop-alloc.fields
     (sym c.is_next.ensures ∙ c.loop-alloc-test.false) c.loop-alloc.invariant
