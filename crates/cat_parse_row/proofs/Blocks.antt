@@ -1,5 +1,6 @@
 -- The readers of scope blocks are right, where that of expressions is.
-use Rattle.std.proofs.Common.{◌≡◌, ℕ, Bool, true, false, List, [], ◌∷◌, ◌++◌, Option, Some, None, refl, sym, ap, subst, ◌∙◌, inl, inr, ◌⊎◌}
+use Rattle.std.proofs.Common.{◌≡◌, ℕ, Bool, true, false, List, [], ◌∷◌, ◌++◌, Option, Some, None, refl, sym, ap, subst}
+use Rattle.std.proofs.Common.{◌∙◌, inl, inr, ◌⊎◌}
 use Rattle.cat_pos.specs.declared.pos.Pos.{Pos}
 use Rattle.cat_lex.specs.declared.token.Token.{Token}
 use Rattle.cat_lex.specs.declared.token.TokenKind.{TokenKind}
@@ -18,7 +19,8 @@ use Rattle.cat_tree.specs.declared.program.Use.{Use}
 use Rattle.cat_tree.specs.declared.program.Use.TheVariants as uses
 use Rattle.cat_tree.specs.Phrase.{Parts, End, Word, At, Anywhere, AreSpelled}
 use Rattle.cat_tree.specs.Joined.{◌▸◌, all}
-use Rattle.cat_tree.specs.Uses.{target_parts, guard_parts, fulfilled_parts, label_parts, exception_parts, lead_parts, rounding_word, use_parts}
+use Rattle.cat_tree.specs.Uses.{target_parts, guard_parts, fulfilled_parts, label_parts, exception_parts, lead_parts}
+use Rattle.cat_tree.specs.Uses.{rounding_word, use_parts}
 use Rattle.cat_tree.specs.Programs.{condition_parts, block_parts}
 use Rattle.cat_parse_row.specs.declared.cue.Cue.TheVariants as cue
 use Rattle.cat_parse_row.specs.Reader.{Reader, ◌⨟◌, done, heads, by_word, both, optional, many}
@@ -26,25 +28,30 @@ use Rattle.cat_parse_row.specs.Right.{Outside, IsRight}
 use Rattle.cat_parse_row.specs.Cues.{«word», upper}
 use Rattle.cat_parse_row.specs.Declarations.{key_word, is_word, is_lower}
 use Rattle.cat_parse_row.specs.Leads.{lead}
-use Rattle.cat_parse_row.specs.Uses.{is_use, is_item, behind_use, behind_expression, is_under, condition, Tail, Defined, Ruled, defined, ruled, tail, use_of, asserted, direction, is_rounding, rounded, a_use}
+use Rattle.cat_parse_row.specs.Uses.{is_use, is_item, behind_use, behind_expression, is_under, condition, Tail, Defined}
+use Rattle.cat_parse_row.specs.Uses.{Ruled, defined, ruled, tail, use_of, asserted, direction, is_rounding, rounded}
+use Rattle.cat_parse_row.specs.Uses.{a_use}
 use Rattle.cat_parse_row.specs.Programs.{block}
 use Rattle.cat_parse_row.specs.Exactly.{expression_row, ReadsExpressions}
 use Rattle.cat_parse_row.proofs.Steps.{done_right}
 use Rattle.cat_parse_row.proofs.Sequel.{part_right}
-use Rattle.cat_parse_row.proofs.Choices.{Opens, OptionFits, optional_right, reshaped, made_right, choice_right, narrowed}
+use Rattle.cat_parse_row.proofs.Choices.{Opens, OptionFits, optional_right, reshaped, made_right, choice_right}
+use Rattle.cat_parse_row.proofs.Choices.{narrowed, opens_word}
 use Rattle.cat_parse_row.proofs.Leaves.{word_right, word_at_right, upper_right}
 use Rattle.cat_parse_row.proofs.Last.{last_right}
 use Rattle.cat_parse_row.proofs.Lists.{BothFit, both_rows, both_right, AllFit, many_right}
-use Rattle.cat_parse_row.proofs.Listed.{any_word, outside_any, no_longer, opens_word}
+use Rattle.cat_parse_row.proofs.Listed.{any_word, outside_any, no_longer}
 use Rattle.cat_parse_row.proofs.Declarations.{Any}
 use Rattle.cat_parse_row.proofs.Leads.{any_option, any_list, lead_right}
 use Rattle.cat_parse_row.proofs.Guards.{Meant, use_behind, ruled_row, ruled_right, defined_row, defined_right}
 
 -- what a spelling begins with, by its first word
-pub head_at : (test : TokenKind → Bool) (k : TokenKind) (p : Pos) (rest : Parts) (w v : List Token) → AreSpelled (Word (At k p) rest) w → heads test (w ++ v) ≡ test k
+pub head_at : (test : TokenKind → Bool) (k : TokenKind) (p : Pos) (rest : Parts) (w v : List Token)
+    → AreSpelled (Word (At k p) rest) w → heads test (w ++ v) ≡ test k
 head_at test k p rest w v s = ap (λ (u : List Token). heads test (u ++ v)) s.2 ∙ ap (λ (t : Token). test t.kind) s.3
 
-pub head_any : (test : TokenKind → Bool) (k : TokenKind) (rest : Parts) (w v : List Token) → AreSpelled (Word (Anywhere k) rest) w → heads test (w ++ v) ≡ test k
+pub head_any : (test : TokenKind → Bool) (k : TokenKind) (rest : Parts) (w v : List Token)
+    → AreSpelled (Word (Anywhere k) rest) w → heads test (w ++ v) ≡ test k
 head_any test k rest w v s = ap (λ (u : List Token). heads test (u ++ v)) s.2 ∙ ap test s.3
 
 pub outside_heads : (out : TokenKind → Bool) (u : List Token) → heads out u ≡ true → Outside out u
@@ -78,39 +85,70 @@ lead_no_label (kind.Word key.Rule) e = refl
 lead_no_label _ e = absurd cc
 
 tail_behind : (x : Tail) (w v : List Token) → AreSpelled (tail_row x) w → Outside behind_lead (w ++ v)
-tail_behind (Defined x) w v s = outside_heads behind_lead (w ++ v) (head_at behind_lead (kind.Word key.Definition) x.0 (target_parts x.1 ▸ guard_parts x.2 ▸ Word (Anywhere (kind.Word key.Equals)) (expression_row x.3)) w v s)
-tail_behind (Ruled x) w v s = outside_heads behind_lead (w ++ v) (head_at behind_lead (kind.Word key.Rule) x.0 (target_parts x.1 ▸ guard_parts x.2 ▸ fulfilled_parts x.3) w v s)
+tail_behind (Defined x) w v s =
+    outside_heads behind_lead (w ++ v)
+    (head_at behind_lead (kind.Word key.Definition) x.0
+    (target_parts x.1 ▸ guard_parts x.2 ▸ Word (Anywhere (kind.Word key.Equals)) (expression_row x.3)) w v s)
+tail_behind (Ruled x) w v s =
+    outside_heads behind_lead (w ++ v)
+    (head_at behind_lead (kind.Word key.Rule) x.0 (target_parts x.1 ▸ guard_parts x.2 ▸ fulfilled_parts x.3) w v s)
 
 -- the first word of a use with a lead
-lead_head : (test : TokenKind → Bool) (b : Bool) → test (kind.Word key.Label) ≡ b → test (kind.Word key.Exception) ≡ b → test (kind.Word key.Definition) ≡ b → test (kind.Word key.Rule) ≡ b
+lead_head : (test : TokenKind → Bool) (b : Bool) → test (kind.Word key.Label) ≡ b → test (kind.Word key.Exception) ≡ b
+    → test (kind.Word key.Definition) ≡ b → test (kind.Word key.Rule) ≡ b
     → (l : Lead) (x : Tail) (w v : List Token) → AreSpelled (lead_parts l ▸ tail_row x) w → heads test (w ++ v) ≡ b
 lead_head test b el ee ed er l x w v s = by l.label l.exception x s
   where
-    by : (o : Option Label) (e : Exception) (x : Tail) → AreSpelled ((label_parts o ▸ exception_parts e) ▸ tail_row x) w → heads test (w ++ v) ≡ b
+    by : (o : Option Label) (e : Exception) (x : Tail) → AreSpelled ((label_parts o ▸ exception_parts e) ▸ tail_row x) w
+        → heads test (w ++ v) ≡ b
     by (Some l) e x s = ap (λ (u : List Token). heads test (u ++ v)) s.2 ∙ ap (λ (t : Token). test t.kind) s.3 ∙ el
-    by None (exception.Base p) x s = ap (λ (u : List Token). heads test (u ++ v)) s.2 ∙ ap (λ (t : Token). test t.kind) s.3 ∙ ee
-    by None (exception.Labelled p n) x s = ap (λ (u : List Token). heads test (u ++ v)) s.2 ∙ ap (λ (t : Token). test t.kind) s.3 ∙ ee
-    by None exception.No (Defined y) s = ap (λ (u : List Token). heads test (u ++ v)) s.2 ∙ ap (λ (t : Token). test t.kind) s.3 ∙ ed
-    by None exception.No (Ruled y) s = ap (λ (u : List Token). heads test (u ++ v)) s.2 ∙ ap (λ (t : Token). test t.kind) s.3 ∙ er
+    by None (exception.Base p) x s =
+        ap (λ (u : List Token). heads test (u ++ v)) s.2 ∙ ap (λ (t : Token). test t.kind) s.3 ∙ ee
+    by None (exception.Labelled p n) x s =
+        ap (λ (u : List Token). heads test (u ++ v)) s.2 ∙ ap (λ (t : Token). test t.kind) s.3 ∙ ee
+    by None exception.No (Defined y) s =
+        ap (λ (u : List Token). heads test (u ++ v)) s.2 ∙ ap (λ (t : Token). test t.kind) s.3 ∙ ed
+    by None exception.No (Ruled y) s =
+        ap (λ (u : List Token). heads test (u ++ v)) s.2 ∙ ap (λ (t : Token). test t.kind) s.3 ∙ er
 
 -- ---- roundings
 
-direction_right : (bound : ℕ) → IsRight bound any_word Any (λ up. Word (Anywhere (kind.Word (rounding_word up))) End) direction
+direction_right : (bound : ℕ)
+    → IsRight bound any_word Any (λ up. Word (Anywhere (kind.Word (rounding_word up))) End) direction
 direction_right bound =
-    choice_right bound any_word (is_word key.Increasing) Any (λ up. up ≡ true) (λ up. up ≡ false) (λ up. Word (Anywhere (kind.Word (rounding_word up))) End) (key_word key.Increasing ⨟ λ q. done true) (key_word key.Decreasing ⨟ λ q. done false)
+    choice_right bound any_word (is_word key.Increasing) Any (λ up. up ≡ true) (λ up. up ≡ false)
+    (λ up. Word (Anywhere (kind.Word (rounding_word up))) End) (key_word key.Increasing ⨟ λ q. done true)
+    (key_word key.Decreasing ⨟ λ q. done false)
     (record {
       either = either;
       from_yes = λ up f. tt;
       from_no = λ up f. tt;
-      on = λ up w v f s o. head_any (is_word key.Increasing) (kind.Word (rounding_word up)) End w v s ∙ ap (λ (b : Bool). is_word key.Increasing (kind.Word (rounding_word b))) f;
-      off = λ up w v f s o. head_any (is_word key.Increasing) (kind.Word (rounding_word up)) End w v s ∙ ap (λ (b : Bool). is_word key.Increasing (kind.Word (rounding_word b))) f;
+      on =
+          λ up w v f s o. head_any (is_word key.Increasing) (kind.Word (rounding_word up)) End w v s
+          ∙ ap (λ (b : Bool). is_word key.Increasing (kind.Word (rounding_word b))) f;
+      off =
+          λ up w v f s o. head_any (is_word key.Increasing) (kind.Word (rounding_word up)) End w v s
+          ∙ ap (λ (b : Bool). is_word key.Increasing (kind.Word (rounding_word b))) f;
     })
-    (reshaped bound any_word (λ up. up ≡ true) (λ up. up ≡ true) (λ up. Word (Anywhere (kind.Word key.Increasing)) End) (λ up. Word (Anywhere (kind.Word (rounding_word up))) End) (key_word key.Increasing ⨟ λ q. done true)
-    (record { to = λ up f. f; from = λ up f. f; rows = λ up f. ap (λ (b : Bool). Word (Anywhere (kind.Word (rounding_word b))) End) (sym f) })
-    (word_right bound any_word (cue.Word key.Increasing) (λ (up : Bool). up ≡ true) (λ up. End) (λ q. done true) (λ q. done_right bound any_word (λ up. up ≡ true) true refl (λ up f. f))))
-    (reshaped bound any_word (λ up. up ≡ false) (λ up. up ≡ false) (λ up. Word (Anywhere (kind.Word key.Decreasing)) End) (λ up. Word (Anywhere (kind.Word (rounding_word up))) End) (key_word key.Decreasing ⨟ λ q. done false)
-    (record { to = λ up f. f; from = λ up f. f; rows = λ up f. ap (λ (b : Bool). Word (Anywhere (kind.Word (rounding_word b))) End) (sym f) })
-    (word_right bound any_word (cue.Word key.Decreasing) (λ (up : Bool). up ≡ false) (λ up. End) (λ q. done false) (λ q. done_right bound any_word (λ up. up ≡ false) false refl (λ up f. f))))
+    (reshaped bound any_word (λ up. up ≡ true) (λ up. up ≡ true) (λ up. Word (Anywhere (kind.Word key.Increasing)) End)
+    (λ up. Word (Anywhere (kind.Word (rounding_word up))) End) (key_word key.Increasing ⨟ λ q. done true)
+    (record {
+      to = λ up f. f;
+      from = λ up f. f;
+      rows = λ up f. ap (λ (b : Bool). Word (Anywhere (kind.Word (rounding_word b))) End) (sym f);
+    })
+    (word_right bound any_word (cue.Word key.Increasing) (λ (up : Bool). up ≡ true) (λ up. End) (λ q. done true)
+    (λ q. done_right bound any_word (λ up. up ≡ true) true refl (λ up f. f))))
+    (reshaped bound any_word (λ up. up ≡ false) (λ up. up ≡ false)
+    (λ up. Word (Anywhere (kind.Word key.Decreasing)) End)
+    (λ up. Word (Anywhere (kind.Word (rounding_word up))) End) (key_word key.Decreasing ⨟ λ q. done false)
+    (record {
+      to = λ up f. f;
+      from = λ up f. f;
+      rows = λ up f. ap (λ (b : Bool). Word (Anywhere (kind.Word (rounding_word b))) End) (sym f);
+    })
+    (word_right bound any_word (cue.Word key.Decreasing) (λ (up : Bool). up ≡ false) (λ up. End) (λ q. done false)
+    (λ q. done_right bound any_word (λ up. up ≡ false) false refl (λ up f. f))))
   where
     either : (up : Bool) → Any up → (up ≡ true) ⊎ (up ≡ false)
     either true f = inl refl
@@ -121,10 +159,18 @@ rounded_row x = Word (At (kind.Pair pair.DateRound) x.0) (Word (Anywhere (kind.W
 
 rounded_right : (bound : ℕ) → IsRight bound behind_use Any rounded_row rounded
 rounded_right bound =
-    word_at_right bound behind_use (cue.Pair pair.DateRound) Any (λ x. x.0) (λ x. Word (Anywhere (kind.Word (rounding_word x.1))) End) (λ p. direction ⨟ λ up. done (p, up)) λ p.
-    last_right bound behind_use Any (λ x. Any x × (x.0 ≡ p)) (λ x. x.1) (λ up. (p, up)) (λ up. Word (Anywhere (kind.Word (rounding_word up))) End) direction
-    (record { to = λ up f. (tt, refl); from = λ x f. tt; back = λ up. refl; only = λ x f. ap (λ (q : Pos). (q, x.1)) f.1 })
-    (narrowed bound any_word behind_use Any (λ up. Word (Anywhere (kind.Word (rounding_word up))) End) direction (λ v o. outside_any v) (direction_right bound))
+    word_at_right bound behind_use (cue.Pair pair.DateRound) Any (λ x. x.0)
+    (λ x. Word (Anywhere (kind.Word (rounding_word x.1))) End) (λ p. direction ⨟ λ up. done (p, up)) λ p.
+    last_right bound behind_use Any (λ x. Any x × (x.0 ≡ p)) (λ x. x.1) (λ up. (p, up))
+    (λ up. Word (Anywhere (kind.Word (rounding_word up))) End) direction
+    (record {
+      to = λ up f. (tt, refl);
+      from = λ x f. tt;
+      back = λ up. refl;
+      only = λ x f. ap (λ (q : Pos). (q, x.1)) f.1;
+    })
+    (narrowed bound any_word behind_use Any (λ up. Word (Anywhere (kind.Word (rounding_word up))) End) direction
+    (λ v o. outside_any v) (direction_right bound))
 
 -- ---- a line of a scope block
 
@@ -144,15 +190,24 @@ IsLed y = (x : Lead × Tail) × BothFit Any Any x × (y ≡ use_of x)
 abbrev IsOther : Use → Type 0
 IsOther y = IsRounded y ⊎ IsLed y
 
-asserted_head : (test : TokenKind → Bool) (y : Use) (w v : List Token) → IsAsserted y → AreSpelled (use_parts y) w → heads test (w ++ v) ≡ test (kind.Word key.Assertion)
-asserted_head test y w v f s = head_at test (kind.Word key.Assertion) f.0.0 (expression_row f.0.1) w v (subst (λ (z : Use). AreSpelled (use_parts z) w) f.2 s)
+asserted_head : (test : TokenKind → Bool) (y : Use) (w v : List Token) → IsAsserted y → AreSpelled (use_parts y) w
+    → heads test (w ++ v) ≡ test (kind.Word key.Assertion)
+asserted_head test y w v f s =
+    head_at test (kind.Word key.Assertion) f.0.0 (expression_row f.0.1) w v
+    (subst (λ (z : Use). AreSpelled (use_parts z) w) f.2 s)
 
-rounded_head : (test : TokenKind → Bool) (y : Use) (w v : List Token) → IsRounded y → AreSpelled (use_parts y) w → heads test (w ++ v) ≡ test (kind.Pair pair.DateRound)
-rounded_head test y w v f s = head_at test (kind.Pair pair.DateRound) f.0.0 (Word (Anywhere (kind.Word (rounding_word f.0.1))) End) w v (subst (λ (z : Use). AreSpelled (use_parts z) w) f.2 s)
+rounded_head : (test : TokenKind → Bool) (y : Use) (w v : List Token) → IsRounded y → AreSpelled (use_parts y) w
+    → heads test (w ++ v) ≡ test (kind.Pair pair.DateRound)
+rounded_head test y w v f s =
+    head_at test (kind.Pair pair.DateRound) f.0.0 (Word (Anywhere (kind.Word (rounding_word f.0.1))) End) w v
+    (subst (λ (z : Use). AreSpelled (use_parts z) w) f.2 s)
 
-led_head : (test : TokenKind → Bool) (b : Bool) → test (kind.Word key.Label) ≡ b → test (kind.Word key.Exception) ≡ b → test (kind.Word key.Definition) ≡ b → test (kind.Word key.Rule) ≡ b
+led_head : (test : TokenKind → Bool) (b : Bool) → test (kind.Word key.Label) ≡ b → test (kind.Word key.Exception) ≡ b
+    → test (kind.Word key.Definition) ≡ b → test (kind.Word key.Rule) ≡ b
     → (y : Use) (w v : List Token) → IsLed y → AreSpelled (use_parts y) w → heads test (w ++ v) ≡ b
-led_head test b el ee ed er y w v f s = lead_head test b el ee ed er f.0.0 f.0.1 w v (subst (λ (ps : Parts). AreSpelled ps w) (ap use_parts f.2 ∙ use_rows f.0) s)
+led_head test b el ee ed er y w v f s =
+    lead_head test b el ee ed er f.0.0 f.0.1 w v
+    (subst (λ (ps : Parts). AreSpelled ps w) (ap use_parts f.2 ∙ use_rows f.0) s)
 
 either_use : (y : Use) → IsAsserted y ⊎ IsOther y
 either_use (uses.Definition l p t c e) = inr (inr ((l, Defined (p, t, c, e)), (tt, tt), refl))
@@ -203,7 +258,8 @@ item_behind_use _ e = absurd cc
 use_opens : Opens is_use Any use_parts
 use_opens = record { at = λ y w v f s. by y w v (either_use y) s }
   where
-    by : (y : Use) (w v : List Token) → IsAsserted y ⊎ IsOther y → AreSpelled (use_parts y) w → heads is_use (w ++ v) ≡ true
+    by : (y : Use) (w v : List Token) → IsAsserted y ⊎ IsOther y → AreSpelled (use_parts y) w → heads is_use (w ++ v)
+        ≡ true
     by y w v (inl f) s = asserted_head is_use y w v f s
     by y w v (inr (inl f)) s = rounded_head is_use y w v f s
     by y w v (inr (inr f)) s = led_head is_use true refl refl refl refl y w v f s
@@ -211,39 +267,63 @@ use_opens = record { at = λ y w v f s. by y w v (either_use y) s }
 module _ (ex : Reader Node) (right : ReadsExpressions ex) where
   tail_right : (bound : ℕ) → IsRight bound behind_use Any tail_row (tail ex)
   tail_right bound =
-      choice_right bound behind_use (is_word key.Rule) Any (λ y. (x : Meant Fulfilled) × Any x × (y ≡ Ruled x)) (λ y. (x : Meant Node) × Any x × (y ≡ Defined x)) tail_row (ruled ex ⨟ λ x. done (Ruled x)) (defined ex ⨟ λ x. done (Defined x))
+      choice_right bound behind_use (is_word key.Rule) Any (λ y. (x : Meant Fulfilled) × Any x × (y ≡ Ruled x))
+      (λ y. (x : Meant Node) × Any x × (y ≡ Defined x)) tail_row (ruled ex ⨟ λ x. done (Ruled x))
+      (defined ex ⨟ λ x. done (Defined x))
       (record {
         either = either;
         from_yes = λ y f. tt;
         from_no = λ y f. tt;
-        on = λ y w v f s o. head_at (is_word key.Rule) (kind.Word key.Rule) f.0.0 (target_parts f.0.1 ▸ guard_parts f.0.2 ▸ fulfilled_parts f.0.3) w v (subst (λ (z : Tail). AreSpelled (tail_row z) w) f.2 s);
-        off = λ y w v f s o. head_at (is_word key.Rule) (kind.Word key.Definition) f.0.0 (target_parts f.0.1 ▸ guard_parts f.0.2 ▸ Word (Anywhere (kind.Word key.Equals)) (expression_row f.0.3)) w v (subst (λ (z : Tail). AreSpelled (tail_row z) w) f.2 s);
+        on =
+            λ y w v f s o. head_at (is_word key.Rule) (kind.Word key.Rule) f.0.0
+            (target_parts f.0.1 ▸ guard_parts f.0.2 ▸ fulfilled_parts f.0.3) w v
+            (subst (λ (z : Tail). AreSpelled (tail_row z) w) f.2 s);
+        off =
+            λ y w v f s o. head_at (is_word key.Rule) (kind.Word key.Definition) f.0.0
+            (target_parts f.0.1 ▸ guard_parts f.0.2 ▸ Word (Anywhere (kind.Word key.Equals)) (expression_row f.0.3)) w v
+            (subst (λ (z : Tail). AreSpelled (tail_row z) w) f.2 s);
       })
-      (made_right bound behind_use Any ruled_row tail_row (λ x. Ruled x) (ruled ex) (λ x. refl) (ruled_right ex right bound))
-      (made_right bound behind_use Any defined_row tail_row (λ x. Defined x) (defined ex) (λ x. refl) (defined_right ex right bound))
+      (made_right bound behind_use Any ruled_row tail_row (λ x. Ruled x) (ruled ex) (λ x. refl)
+      (ruled_right ex right bound))
+      (made_right bound behind_use Any defined_row tail_row (λ x. Defined x) (defined ex) (λ x. refl)
+      (defined_right ex right bound))
     where
-      either : (y : Tail) → Any y → ((x : Meant Fulfilled) × Any x × (y ≡ Ruled x)) ⊎ ((x : Meant Node) × Any x × (y ≡ Defined x))
+      either : (y : Tail) → Any y → ((x : Meant Fulfilled) × Any x × (y ≡ Ruled x))
+          ⊎ ((x : Meant Node) × Any x × (y ≡ Defined x))
       either (Ruled x) f = inl (x, tt, refl)
       either (Defined x) f = inr (x, tt, refl)
 
   led_right : (bound : ℕ) → IsRight bound behind_use IsLed use_parts (both lead (tail ex) ⨟ λ x. done (use_of x))
   led_right bound =
-      made_right bound behind_use (BothFit Any Any) (both_rows lead_parts tail_row) use_parts use_of (both lead (tail ex)) use_rows
-      (both_right bound bound behind_use behind_lead Any Any lead_parts tail_row lead (tail ex) (λ y w v f s o. tail_behind y w v s) (no_longer bound behind_lead Any lead_parts lead (leads bound)) (leads bound) (tail_right bound))
+      made_right bound behind_use (BothFit Any Any) (both_rows lead_parts tail_row) use_parts use_of
+      (both lead (tail ex)) use_rows
+      (both_right bound bound behind_use behind_lead Any Any lead_parts tail_row lead (tail ex)
+      (λ y w v f s o. tail_behind y w v s) (no_longer bound behind_lead Any lead_parts lead (leads bound))
+      (leads bound) (tail_right bound))
     where
       leads : (bound : ℕ) → IsRight bound behind_lead Any lead_parts lead
       leads bound = lead_right bound behind_lead lead_no_lower lead_no_exception lead_no_label
 
-  asserted_right : (bound : ℕ) → IsRight bound behind_use Any (λ x. Word (At (kind.Word key.Assertion) x.0) (expression_row x.1)) (asserted ex)
+  asserted_right : (bound : ℕ)
+      → IsRight bound behind_use Any (λ x. Word (At (kind.Word key.Assertion) x.0) (expression_row x.1)) (asserted ex)
   asserted_right bound =
-      word_at_right bound behind_use (cue.Word key.Assertion) Any (λ x. x.0) (λ x. expression_row x.1) (λ p. ex ⨟ λ e. done (p, e)) λ p.
+      word_at_right bound behind_use (cue.Word key.Assertion) Any (λ x. x.0) (λ x. expression_row x.1)
+      (λ p. ex ⨟ λ e. done (p, e)) λ p.
       last_right bound behind_use Any (λ x. Any x × (x.0 ≡ p)) (λ x. x.1) (λ e. (p, e)) expression_row ex
-      (record { to = λ e f. (tt, refl); from = λ x f. tt; back = λ e. refl; only = λ x f. ap (λ (q : Pos). (q, x.1)) f.1 })
+      (record {
+        to = λ e f. (tt, refl);
+        from = λ x f. tt;
+        back = λ e. refl;
+        only = λ x f. ap (λ (q : Pos). (q, x.1)) f.1;
+      })
       (narrowed bound behind_expression behind_use Any expression_row ex use_behind (right bound))
 
   pub use_right : (bound : ℕ) → IsRight bound behind_use Any use_parts (a_use ex)
   use_right bound =
-      choice_right bound behind_use (is_word key.Assertion) Any IsAsserted IsOther use_parts (asserted ex ⨟ λ x. done (uses.Assertion x.0 x.1)) (by_word is_rounding (rounded ⨟ λ x. done (uses.DateRound x.0 x.1)) (both lead (tail ex) ⨟ λ x. done (use_of x)))
+      choice_right bound behind_use (is_word key.Assertion) Any IsAsserted IsOther use_parts
+      (asserted ex ⨟ λ x. done (uses.Assertion x.0 x.1))
+      (by_word is_rounding (rounded ⨟ λ x. done (uses.DateRound x.0 x.1))
+      (both lead (tail ex) ⨟ λ x. done (use_of x)))
       (record {
         either = λ y f. either_use y;
         from_yes = λ y f. tt;
@@ -251,8 +331,10 @@ module _ (ex : Reader Node) (right : ReadsExpressions ex) where
         on = λ y w v f s o. asserted_head (is_word key.Assertion) y w v f s;
         off = λ y w v f s o. other_off y w v f s;
       })
-      (made_right bound behind_use Any (λ x. Word (At (kind.Word key.Assertion) x.0) (expression_row x.1)) use_parts (λ x. uses.Assertion x.0 x.1) (asserted ex) (λ x. refl) (asserted_right bound))
-      (choice_right bound behind_use is_rounding IsOther IsRounded IsLed use_parts (rounded ⨟ λ x. done (uses.DateRound x.0 x.1)) (both lead (tail ex) ⨟ λ x. done (use_of x))
+      (made_right bound behind_use Any (λ x. Word (At (kind.Word key.Assertion) x.0) (expression_row x.1)) use_parts
+      (λ x. uses.Assertion x.0 x.1) (asserted ex) (λ x. refl) (asserted_right bound))
+      (choice_right bound behind_use is_rounding IsOther IsRounded IsLed use_parts
+      (rounded ⨟ λ x. done (uses.DateRound x.0 x.1)) (both lead (tail ex) ⨟ λ x. done (use_of x))
       (record {
         either = λ y f. f;
         from_yes = λ y f. inl f;
@@ -260,37 +342,72 @@ module _ (ex : Reader Node) (right : ReadsExpressions ex) where
         on = λ y w v f s o. rounded_head is_rounding y w v f s;
         off = λ y w v f s o. led_head is_rounding false refl refl refl refl y w v f s;
       })
-      (made_right bound behind_use Any rounded_row use_parts (λ x. uses.DateRound x.0 x.1) rounded (λ x. refl) (rounded_right bound))
+      (made_right bound behind_use Any rounded_row use_parts (λ x. uses.DateRound x.0 x.1) rounded (λ x. refl)
+      (rounded_right bound))
       (led_right bound))
     where
-      other_off : (y : Use) (w v : List Token) → IsOther y → AreSpelled (use_parts y) w → heads (is_word key.Assertion) (w ++ v) ≡ false
+      other_off : (y : Use) (w v : List Token) → IsOther y → AreSpelled (use_parts y) w
+          → heads (is_word key.Assertion) (w ++ v) ≡ false
       other_off y w v (inl f) s = rounded_head (is_word key.Assertion) y w v f s
       other_off y w v (inr f) s = led_head (is_word key.Assertion) false refl refl refl refl y w v f s
 
   -- ---- a scope block
 
   condition_right : (bound : ℕ) → IsRight bound is_colon Any expression_after (condition ex)
-  condition_right bound = word_right bound is_colon (cue.Pair pair.UnderCondition) Any expression_row (λ p. ex) (λ p. narrowed bound behind_expression is_colon Any expression_row ex colon_behind (right bound))
+  condition_right bound =
+      word_right bound is_colon (cue.Pair pair.UnderCondition) Any expression_row (λ p. ex)
+      (λ p. narrowed bound behind_expression is_colon Any expression_row ex colon_behind (right bound))
 
   conditions : (bound : ℕ) → IsRight bound is_colon (OptionFits Any) condition_parts (optional is_under (condition ex))
-  conditions bound = optional_right bound is_colon is_under Any expression_after condition_parts (condition ex) (opens_word is_under (kind.Pair pair.UnderCondition) Any expression_row refl) colon_off refl (λ e. refl) (condition_right bound)
+  conditions bound =
+      optional_right bound is_colon is_under Any expression_after condition_parts (condition ex)
+      (opens_word is_under (kind.Pair pair.UnderCondition) Any expression_row refl) colon_off refl (λ e. refl)
+      (condition_right bound)
 
   uses_right : (bound : ℕ) → IsRight bound is_item (AllFit Any) (all use_parts) (many is_use (a_use ex))
-  uses_right bound = many_right is_item behind_use is_use Any use_parts (a_use ex) use_opens item_no_use use_behind_use item_behind_use use_right bound
+  uses_right bound =
+      many_right is_item behind_use is_use Any use_parts
+      (a_use ex) use_opens item_no_use use_behind_use item_behind_use use_right bound
 
   pub block_right : (bound : ℕ) → IsRight bound is_item Any block_parts (block ex)
   block_right bound =
-      word_at_right bound is_item (cue.Word key.Scope) Any (λ b. b.pos) (λ b. Word (At (kind.Upper b.name.text) b.name.pos) (condition_parts b.condition ▸ Word (Anywhere (kind.Symbol symbol.Colon)) (all use_parts b.uses))) (λ p. upper ⨟ λ u. optional is_under (condition ex) ⨟ λ c. «word» (cue.Sign symbol.Colon) ⨟ λ q. many is_use (a_use ex) ⨟ λ us. done (record { pos = p; name = u; condition = c; uses = us })) λ p.
-      upper_right bound is_item (λ b. Any b × (b.pos ≡ p)) (λ b. b.name) (λ b. condition_parts b.condition ▸ Word (Anywhere (kind.Symbol symbol.Colon)) (all use_parts b.uses)) (λ u. optional is_under (condition ex) ⨟ λ c. «word» (cue.Sign symbol.Colon) ⨟ λ q. many is_use (a_use ex) ⨟ λ us. done (record { pos = p; name = u; condition = c; uses = us })) λ u.
-      part_right bound bound is_item is_colon (λ b. (Any b × (b.pos ≡ p)) × (b.name ≡ u)) (OptionFits Any) (λ b. b.condition) condition_parts (λ b. Word (Anywhere (kind.Symbol symbol.Colon)) (all use_parts b.uses)) (optional is_under (condition ex)) (λ c. «word» (cue.Sign symbol.Colon) ⨟ λ q. many is_use (a_use ex) ⨟ λ us. done (record { pos = p; name = u; condition = c; uses = us }))
-      (record { fit = λ b f. any_option b.condition; behind = λ b w v f s o. outside_heads is_colon (w ++ v) (head_any is_colon (kind.Symbol symbol.Colon) (all use_parts b.uses) w v s); shrinks = no_longer bound is_colon (OptionFits Any) condition_parts (optional is_under (condition ex)) (conditions bound) })
+      word_at_right bound is_item (cue.Word key.Scope) Any (λ b. b.pos)
+      (λ b. Word (At (kind.Upper b.name.text) b.name.pos)
+      (condition_parts b.condition ▸ Word (Anywhere (kind.Symbol symbol.Colon)) (all use_parts b.uses)))
+      (λ p. upper ⨟ λ u. optional is_under (condition ex) ⨟ λ c. «word» (cue.Sign symbol.Colon)
+      ⨟ λ q. many is_use (a_use ex) ⨟ λ us. done (record { pos = p; name = u; condition = c; uses = us })) λ p.
+      upper_right bound is_item (λ b. Any b × (b.pos ≡ p)) (λ b. b.name)
+      (λ b. condition_parts b.condition ▸ Word (Anywhere (kind.Symbol symbol.Colon)) (all use_parts b.uses))
+      (λ u. optional is_under (condition ex) ⨟ λ c. «word» (cue.Sign symbol.Colon) ⨟ λ q. many is_use (a_use ex)
+      ⨟ λ us. done (record { pos = p; name = u; condition = c; uses = us })) λ u.
+      part_right bound bound is_item is_colon (λ b. (Any b × (b.pos ≡ p)) × (b.name ≡ u)) (OptionFits Any)
+      (λ b. b.condition) condition_parts (λ b. Word (Anywhere (kind.Symbol symbol.Colon)) (all use_parts b.uses))
+      (optional is_under (condition ex))
+      (λ c. «word» (cue.Sign symbol.Colon) ⨟ λ q. many is_use (a_use ex)
+      ⨟ λ us. done (record { pos = p; name = u; condition = c; uses = us }))
+      (record {
+        fit = λ b f. any_option b.condition;
+        behind =
+            λ b w v f s o. outside_heads is_colon (w ++ v)
+            (head_any is_colon (kind.Symbol symbol.Colon) (all use_parts b.uses) w v s);
+        shrinks =
+            no_longer bound is_colon (OptionFits Any) condition_parts (optional is_under (condition ex))
+            (conditions bound);
+      })
       (conditions bound) λ c g.
-      word_right bound is_item (cue.Sign symbol.Colon) (λ b. ((Any b × (b.pos ≡ p)) × (b.name ≡ u)) × (b.condition ≡ c)) (λ b. all use_parts b.uses) (λ q. many is_use (a_use ex) ⨟ λ us. done (record { pos = p; name = u; condition = c; uses = us })) λ q.
-      last_right bound is_item (AllFit Any) (λ b. ((Any b × (b.pos ≡ p)) × (b.name ≡ u)) × (b.condition ≡ c)) (λ b. b.uses) (λ us. record { pos = p; name = u; condition = c; uses = us }) (all use_parts) (many is_use (a_use ex))
+      word_right bound is_item (cue.Sign symbol.Colon) (λ b. ((Any b × (b.pos ≡ p)) × (b.name ≡ u)) × (b.condition ≡ c))
+      (λ b. all use_parts b.uses)
+      (λ q. many is_use (a_use ex) ⨟ λ us. done (record { pos = p; name = u; condition = c; uses = us })) λ q.
+      last_right bound is_item (AllFit Any) (λ b. ((Any b × (b.pos ≡ p)) × (b.name ≡ u)) × (b.condition ≡ c))
+      (λ b. b.uses) (λ us. record { pos = p; name = u; condition = c; uses = us }) (all use_parts)
+      (many is_use (a_use ex))
       (record {
         to = λ us f. (((tt, refl), refl), refl);
         from = λ b f. any_list b.uses;
         back = λ us. refl;
-        only = λ b f. ap (λ (z : Pos). record { pos = z; name = b.name; condition = b.condition; uses = b.uses }) f.0.0.1 ∙ ap (λ (z : Name). record { pos = p; name = z; condition = b.condition; uses = b.uses }) f.0.1 ∙ ap (λ (z : Option Node). record { pos = p; name = u; condition = z; uses = b.uses }) f.1;
+        only =
+            λ b f. ap (λ (z : Pos). record { pos = z; name = b.name; condition = b.condition; uses = b.uses }) f.0.0.1
+            ∙ ap (λ (z : Name). record { pos = p; name = z; condition = b.condition; uses = b.uses }) f.0.1
+            ∙ ap (λ (z : Option Node). record { pos = p; name = u; condition = z; uses = b.uses }) f.1;
       })
       (uses_right bound)

@@ -1,22 +1,21 @@
 -- The readers of fields, cases and variables are right.
-use Rattle.std.proofs.Common.{◌≡◌, ℕ, Bool, true, false, List, ◌++◌, Option, Some, None, refl, ap, ◌∙◌}
-use Rattle.cat_lex.specs.declared.token.Token.{Token}
+use Rattle.std.proofs.Common.{◌≡◌, ℕ, Bool, true, false, Option, Some, None, refl, ap}
 use Rattle.cat_lex.specs.declared.token.TokenKind.{TokenKind}
 use Rattle.cat_lex.specs.declared.token.TokenKind.TheVariants as kind
 use Rattle.cat_lex.specs.declared.words.Keyword.TheVariants as key
 use Rattle.cat_lex.specs.declared.symbol.Symbol.TheVariants as symbol
 use Rattle.cat_tree.specs.declared.name.Name.{Name}
 use Rattle.cat_tree.specs.declared.name.Type as types
-use Rattle.cat_tree.specs.Phrase.{Parts, End, Word, At, Anywhere}
+use Rattle.cat_tree.specs.Phrase.{End, Word, At, Anywhere}
 use Rattle.cat_tree.specs.Literals.{type_parts}
 use Rattle.cat_tree.specs.Declarations.{typed_parts, field_parts, content_parts, case_parts}
 use Rattle.cat_parse_row.specs.declared.cue.Cue.TheVariants as cue
-use Rattle.cat_parse_row.specs.Reader.{◌⨟◌, done, heads, optional}
+use Rattle.cat_parse_row.specs.Reader.{◌⨟◌, done, optional}
 use Rattle.cat_parse_row.specs.Right.{IsRight}
 use Rattle.cat_parse_row.specs.Cues.{upper}
 use Rattle.cat_parse_row.specs.Types.{a_type}
 use Rattle.cat_parse_row.specs.Declarations.{key_word, typed_name, field, content, is_content, a_case}
-use Rattle.cat_parse_row.proofs.Choices.{Opens, OptionFits, optional_right}
+use Rattle.cat_parse_row.proofs.Choices.{OptionFits, opens_word, optional_right}
 use Rattle.cat_parse_row.proofs.Leaves.{word_right, lower_right, upper_right}
 use Rattle.cat_parse_row.proofs.Types.{a_type_right}
 use Rattle.cat_parse_row.proofs.Last.{last_right}
@@ -27,29 +26,49 @@ Any x = Unit {0}
 
 pub typed_right : (bound : ℕ) (out : TokenKind → Bool) → IsRight bound out Any typed_parts typed_name
 typed_right bound out =
-    lower_right bound out Any (λ y. y.name) (λ y. Word (Anywhere (kind.Word key.Content)) (type_parts y.ty End)) (λ w. key_word key.Content ⨟ λ p. a_type ⨟ λ t. done (record { name = w; ty = t })) λ w.
-    word_right bound out (cue.Word key.Content) (λ y. Any y × (y.name ≡ w)) (λ y. type_parts y.ty End) (λ p. a_type ⨟ λ t. done (record { name = w; ty = t })) λ p.
-    last_right bound out Any (λ y. Any y × (y.name ≡ w)) (λ y. y.ty) (λ t. record { name = w; ty = t }) (λ t. type_parts t End) a_type
-    (record { to = λ t f. (tt, refl); from = λ y f. tt; back = λ t. refl; only = λ y f. ap (λ (n : Name). record { name = n; ty = y.ty }) f.1 })
+    lower_right bound out Any (λ y. y.name) (λ y. Word (Anywhere (kind.Word key.Content)) (type_parts y.ty End))
+    (λ w. key_word key.Content ⨟ λ p. a_type ⨟ λ t. done (record { name = w; ty = t })) λ w.
+    word_right bound out (cue.Word key.Content) (λ y. Any y × (y.name ≡ w)) (λ y. type_parts y.ty End)
+    (λ p. a_type ⨟ λ t. done (record { name = w; ty = t })) λ p.
+    last_right bound out Any (λ y. Any y × (y.name ≡ w)) (λ y. y.ty) (λ t. record { name = w; ty = t })
+    (λ t. type_parts t End) a_type
+    (record {
+      to = λ t f. (tt, refl);
+      from = λ y f. tt;
+      back = λ t. refl;
+      only = λ y f. ap (λ (n : Name). record { name = n; ty = y.ty }) f.1;
+    })
     (a_type_right bound out)
 
 pub field_right : (bound : ℕ) (out : TokenKind → Bool) → IsRight bound out Any field_parts field
-field_right bound out = word_right bound out (cue.Word key.Data) Any typed_parts (λ p. typed_name) (λ p. typed_right bound out)
+field_right bound out =
+    word_right bound out (cue.Word key.Data) Any typed_parts (λ p. typed_name) (λ p. typed_right bound out)
 
-pub content_right : (bound : ℕ) (out : TokenKind → Bool) → IsRight bound out Any (λ t. Word (Anywhere (kind.Word key.Content)) (type_parts t End)) content
-content_right bound out = word_right bound out (cue.Word key.Content) Any (λ t. type_parts t End) (λ p. a_type) (λ p. a_type_right bound out)
+pub content_right : (bound : ℕ) (out : TokenKind → Bool)
+    → IsRight bound out Any (λ t. Word (Anywhere (kind.Word key.Content)) (type_parts t End)) content
+content_right bound out =
+    word_right bound out (cue.Word key.Content) Any (λ t. type_parts t End) (λ p. a_type) (λ p. a_type_right bound out)
 
--- what begins with a word is opened by it
-pub opens_word : {A : Type 0} (start : TokenKind → Bool) (k : TokenKind) (rest : A → Parts) → start k ≡ true → Opens start Any (λ x. Word (Anywhere k) (rest x))
-opens_word start k rest e = record { at = λ x w v f s. ap (λ (u : List Token). heads start (u ++ v)) s.2 ∙ ap start s.3 ∙ e }
-
-pub case_right : (bound : ℕ) (out : TokenKind → Bool) → ((k : TokenKind) → out k ≡ true → is_content k ≡ false) → IsRight bound out Any case_parts a_case
+pub case_right : (bound : ℕ) (out : TokenKind → Bool) → ((k : TokenKind) → out k ≡ true → is_content k ≡ false)
+    → IsRight bound out Any case_parts a_case
 case_right bound out off =
-    word_right bound out (cue.Sign symbol.MinusMinus) Any (λ y. Word (At (kind.Upper y.name.text) y.name.pos) (content_parts y.content)) (λ p. upper ⨟ λ u. optional is_content content ⨟ λ t. done (record { name = u; content = t })) λ p.
-    upper_right bound out Any (λ y. y.name) (λ y. content_parts y.content) (λ u. optional is_content content ⨟ λ t. done (record { name = u; content = t })) λ u.
-    last_right bound out (OptionFits Any) (λ y. Any y × (y.name ≡ u)) (λ y. y.content) (λ t. record { name = u; content = t }) content_parts (optional is_content content)
-    (record { to = λ t f. (tt, refl); from = λ y f. any y.content; back = λ t. refl; only = λ y f. ap (λ (n : Name). record { name = n; content = y.content }) f.1 })
-    (optional_right bound out is_content Any (λ t. Word (Anywhere (kind.Word key.Content)) (type_parts t End)) content_parts content (opens_word is_content (kind.Word key.Content) (λ t. type_parts t End) refl) off refl (λ t. refl) (content_right bound out))
+    word_right bound out (cue.Sign symbol.MinusMinus) Any
+    (λ y. Word (At (kind.Upper y.name.text) y.name.pos) (content_parts y.content))
+    (λ p. upper ⨟ λ u. optional is_content content ⨟ λ t. done (record { name = u; content = t })) λ p.
+    upper_right bound out Any (λ y. y.name) (λ y. content_parts y.content)
+    (λ u. optional is_content content ⨟ λ t. done (record { name = u; content = t })) λ u.
+    last_right bound out (OptionFits Any) (λ y. Any y × (y.name ≡ u)) (λ y. y.content)
+    (λ t. record { name = u; content = t }) content_parts (optional is_content content)
+    (record {
+      to = λ t f. (tt, refl);
+      from = λ y f. any y.content;
+      back = λ t. refl;
+      only = λ y f. ap (λ (n : Name). record { name = n; content = y.content }) f.1;
+    })
+    (optional_right bound out is_content Any
+    (λ t. Word (Anywhere (kind.Word key.Content)) (type_parts t End)) content_parts content
+    (opens_word is_content (kind.Word key.Content) Any (λ t. type_parts t End) refl) off refl (λ t. refl)
+    (content_right bound out))
   where
     any : (o : Option types.Type) → OptionFits Any o
     any None = tt

@@ -1,5 +1,6 @@
 -- A program is read exactly, where expressions are.
-use Rattle.std.proofs.Common.{◌≡◌, ℕ, Bool, true, false, ◌&&◌, List, [], ◌∷◌, ◌++◌, length, refl, sym, ap, subst, ◌∙◌, append_assoc, arith}
+use Rattle.std.proofs.Common.{◌≡◌, ℕ, Bool, true, false, ◌&&◌, List, [], ◌∷◌, ◌++◌, length, refl, sym, ap, subst, ◌∙◌}
+use Rattle.std.proofs.Common.{append_assoc, arith}
 use Rattle.std.proofs.lemmas.List.{append-nil, length-append}
 use Rattle.cat_lex.specs.declared.token.Token.{Token}
 use Rattle.cat_lex.specs.declared.token.TokenKind.{TokenKind}
@@ -26,8 +27,11 @@ no_word e = absurd (clash e)
     clash : false ≡ true → ⊥
     clash e = absurd cc
 
-items_right : (ex : Reader Node) → ReadsExpressions ex → (bound : ℕ) → IsRight bound nothing (AllFit Filled) (all item_parts) (items ex)
-items_right ex right bound = many_right nothing is_item is_item Filled item_parts (an_item ex) item_opens (λ k e. no_word e) (λ k e. e) (λ k e. no_word e) (item_right ex right) bound
+items_right : (ex : Reader Node) → ReadsExpressions ex → (bound : ℕ)
+    → IsRight bound nothing (AllFit Filled) (all item_parts) (items ex)
+items_right ex right bound =
+    many_right nothing is_item is_item Filled item_parts (an_item ex) item_opens (λ k e. no_word e) (λ k e. e)
+    (λ k e. no_word e) (item_right ex right) bound
 
 filled_of : (is : List Item) → AllFit Filled is → are_filled is ≡ true
 filled_of [] f = refl
@@ -48,24 +52,30 @@ all_filled (i ∷ more) e = let s = split (is_filled i) (are_filled more) e in (
 abbrev tree_of : List Item → Tree
 tree_of is = record { items = is }
 
-spells_of : (is : List Item) (w : List Token) → Is (AllFit Filled) (all item_parts) is w → SpellsProgram (record { items = is }) w
+spells_of : (is : List Item) (w : List Token) → Is (AllFit Filled) (all item_parts) is w
+    → SpellsProgram (record { items = is }) w
 spells_of is w i = record { filled = filled_of is i.fit; levels = i.levels; words = i.spelled }
 
 is_of : (t : Tree) (w : List Token) → SpellsProgram t w → Is (AllFit Filled) (all item_parts) t.items w
 is_of t w s = record { fit = all_filled t.items s.filled; levels = s.levels; spelled = s.words }
 
 begins_of : (u : List Token) → Begun (AllFit Filled) (all item_parts) u → BeginsProgram u
-begins_of u b = record { tree = record { items = b.value }; rest = b.more; spells = spells_of b.value (u ++ b.more) b.is }
+begins_of u b =
+    record { tree = record { items = b.value }; rest = b.more; spells = spells_of b.value (u ++ b.more) b.is }
 
 agree_self : (ts : List Token) → Agree ts ts
 agree_self [] = tt
 agree_self (p ∷ ts) = refl
 
 abbrev Sayer : List Token → Outcome (List Item) → Type 0
-Sayer tokens o = (front : List Token) (y : List Item) (w : List Token) → tokens ≡ front ++ left_of o → Alike nothing (AllFit Filled) (all item_parts) (left_of o) front y w → Says (all item_parts) o y w front
+Sayer tokens o =
+    (front : List Token) (y : List Item) (w : List Token) → tokens ≡ front ++ left_of o
+    → Alike nothing (AllFit Filled) (all item_parts) (left_of o) front y w → Says (all item_parts) o y w front
 
 -- a program that begins with the front and the next token
-goes_on : (front left : List Token) (p : Token) (rest : List Token) → left ≡ p ∷ rest → (b : BeginsProgram (front ++ p ∷ [])) → Alike nothing (AllFit Filled) (all item_parts) left front b.tree.items ((front ++ p ∷ []) ++ b.rest)
+goes_on : (front left : List Token) (p : Token) (rest : List Token) → left ≡ p ∷ rest
+    → (b : BeginsProgram (front ++ p ∷ []))
+    → Alike nothing (AllFit Filled) (all item_parts) left front b.tree.items ((front ++ p ∷ []) ++ b.rest)
 goes_on front left p rest e b = record {
   others = p ∷ b.rest;
   behind = [];
@@ -76,16 +86,28 @@ goes_on front left p rest e b = record {
 }
 
 -- a program that all tokens spell
-all_of : (tokens front left : List Token) → tokens ≡ front ++ left → (t : Tree) → SpellsProgram t tokens → Alike nothing (AllFit Filled) (all item_parts) left front t.items tokens
-all_of tokens front left text t s = record { others = left; behind = []; agree = agree_self left; is = is_of t tokens s; outside = tt; text = append-nil tokens ∙ text }
+all_of : (tokens front left : List Token) → tokens ≡ front ++ left → (t : Tree) → SpellsProgram t tokens
+    → Alike nothing (AllFit Filled) (all item_parts) left front t.items tokens
+all_of tokens front left text t s =
+    record {
+      others = left;
+      behind = [];
+      agree = agree_self left;
+      is = is_of t tokens s;
+      outside = tt;
+      text = append-nil tokens ∙ text;
+    }
 
-exact_of : (tokens : List Token) (o : Outcome (List Item)) → Taken (AllFit Filled) (all item_parts) o tokens → Sayer tokens o → Exactly tokens (after o to_end)
+exact_of : (tokens : List Token) (o : Outcome (List Item)) → Taken (AllFit Filled) (all item_parts) o tokens
+    → Sayer tokens o → Exactly tokens (after o to_end)
 exact_of tokens (Fails left false) t says = (
   t.front,
   record {
     text = t.text;
     begins = begins_of t.front t.took;
-    dead = λ p rest e b. says t.front b.tree.items ((t.front ++ p ∷ []) ++ b.rest) t.text (goes_on t.front left p rest e b);
+    dead =
+        λ p rest e b. says t.front b.tree.items ((t.front ++ p ∷ []) ++ b.rest) t.text
+        (goes_on t.front left p rest e b);
     none = λ u s. says t.front u.items tokens t.text (all_of tokens t.front left t.text u s);
   },
 )
@@ -97,12 +119,16 @@ exact_of tokens (Fails left true) t says = (
     after = t.took.after;
     at = t.took.text;
     begins = begins_of (t.front ++ t.took.next ∷ []) t.took.begun;
-    too_high = λ b low. says t.front b.tree.items ((t.front ++ t.took.next ∷ []) ++ b.rest) t.text (goes_on t.front left t.took.next t.took.after t.took.text b) low;
+    too_high =
+        λ b low. says t.front b.tree.items ((t.front ++ t.took.next ∷ []) ++ b.rest) t.text
+        (goes_on t.front left t.took.next t.took.after t.took.text b) low;
   },
 )
 exact_of tokens (Reads is []) t says = (
   record {
-    spells = subst (SpellsProgram (record { items = is })) (sym (t.text ∙ append-nil t.front)) (spells_of is t.front t.took.0);
+    spells =
+        subst (SpellsProgram (record { items = is })) (sym (t.text ∙ append-nil t.front))
+        (spells_of is t.front t.took.0);
     low = t.took.1;
   },
   λ u s. ap (λ (x : List Item). tree_of x) (says t.front u.items tokens t.text (all_of tokens t.front [] t.text u s)).0,
@@ -111,20 +137,33 @@ exact_of tokens (Reads is (q ∷ left)) t says = (
   t.front,
   record {
     text = t.text;
-    begins = record { tree = record { items = is }; rest = []; spells = subst (SpellsProgram (record { items = is })) (sym (append-nil t.front)) (spells_of is t.front t.took.0) };
-    dead = λ p rest e b. longer t.front p b.rest (says t.front b.tree.items ((t.front ++ p ∷ []) ++ b.rest) t.text (goes_on t.front (q ∷ left) p rest e b)).1;
-    none = λ u s. past t.front q left (sym t.text ∙ (says t.front u.items tokens t.text (all_of tokens t.front (q ∷ left) t.text u s)).1);
+    begins =
+        record {
+          tree = record { items = is };
+          rest = [];
+          spells =
+              subst (SpellsProgram (record { items = is })) (sym (append-nil t.front)) (spells_of is t.front t.took.0);
+        };
+    dead =
+        λ p rest e b. longer t.front p b.rest
+        (says t.front b.tree.items ((t.front ++ p ∷ []) ++ b.rest) t.text (goes_on t.front (q ∷ left) p rest e b)).1;
+    none =
+        λ u s. past t.front q left
+        (sym t.text ∙ (says t.front u.items tokens t.text (all_of tokens t.front (q ∷ left) t.text u s)).1);
   },
 )
   where
     longer : (front : List Token) (p : Token) (rest : List Token) → (front ++ p ∷ []) ++ rest ≡ front → ⊥
-    longer front p rest e = omega (arith, ap length e, length-append (front ++ p ∷ []) rest, length-append front (p ∷ []))
+    longer front p rest e =
+        omega (arith, ap length e, length-append (front ++ p ∷ []) rest, length-append front (p ∷ []))
 
     past : (front : List Token) (q : Token) (left : List Token) → front ++ q ∷ left ≡ front → ⊥
     past front q left e = omega (arith, ap length e, length-append front (q ∷ left))
 
 -- what reading a program comes to is exactly so
-pub program_exact : (ex : Reader Node) → ReadsExpressions ex → (tokens : List Token) → Exactly tokens (program ex tokens)
+pub program_exact : (ex : Reader Node) → ReadsExpressions ex → (tokens : List Token)
+    → Exactly tokens (program ex tokens)
 program_exact ex right tokens =
     let r = items_right ex right (length tokens) in
-    exact_of tokens (items ex tokens) (r.taken tokens (omega arith)) (λ front y w text a. r.says tokens front y w (omega arith) text a)
+    exact_of tokens (items ex tokens) (r.taken tokens (omega arith))
+    (λ front y w text a. r.says tokens front y w (omega arith) text a)

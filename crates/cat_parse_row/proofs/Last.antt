@@ -19,9 +19,12 @@ pub record Ends {A B : Type 0} (fits_part : A → Type 0) (fits : B → Type 0) 
   pub back : (x : A) → sub (f x) ≡ x
   pub only : (y : B) → fits y → y ≡ f (sub y)
 
-pub last_right : {A B : Type 0} (bound : ℕ) (out : TokenKind → Bool) (fits_part : A → Type 0) (fits : B → Type 0) (sub : B → A) (f : A → B) (row : A → Parts) (r : Reader A) → Ends fits_part fits sub f → IsRight bound out fits_part row r → IsRight bound out fits (λ y. row (sub y)) (r ⨟ λ x. done (f x))
+pub last_right : {A B : Type 0} (bound : ℕ) (out : TokenKind → Bool) (fits_part : A → Type 0) (fits : B → Type 0)
+    (sub : B → A) (f : A → B) (row : A → Parts) (r : Reader A) → Ends fits_part fits sub f
+    → IsRight bound out fits_part row r → IsRight bound out fits (λ y. row (sub y)) (r ⨟ λ x. done (f x))
 last_right {A = A} bound out fits_part fits sub f row r e right =
-    reshaped bound out (λ y. (x : A) × fits_part x × (y ≡ f x)) fits (λ y. row (sub y)) (λ y. row (sub y)) (r ⨟ λ x. done (f x))
+    reshaped bound out (λ y. (x : A) × fits_part x × (y ≡ f x)) fits (λ y. row (sub y)) (λ y. row (sub y))
+    (r ⨟ λ x. done (f x))
     (record {
       to = λ y g. subst fits (sym g.2) (e.to g.0 g.1);
       from = λ y g. (sub y, e.from y g, e.only y g);

@@ -16,3 +16,6 @@ pub mod Blocks
 pub mod Items
 pub mod Exact
 pub mod Loops
+pub mod Repeats
+pub mod Turns
+pub mod Shorter

@@ -16,11 +16,11 @@ use Rattle.cat_parse_row.specs.Cues.{lower}
 use Rattle.cat_parse_row.specs.Declarations.{is_comma, is_word}
 use Rattle.cat_parse_row.specs.Leads.{is_dot, inner, names, target}
 use Rattle.cat_parse_row.proofs.Sequel.{part_right}
-use Rattle.cat_parse_row.proofs.Choices.{OptionFits, optional_right}
+use Rattle.cat_parse_row.proofs.Choices.{OptionFits, optional_right, opens_word}
 use Rattle.cat_parse_row.proofs.Leaves.{word_right, lower_right}
 use Rattle.cat_parse_row.proofs.Last.{last_right}
 use Rattle.cat_parse_row.proofs.Lists.{AllFit}
-use Rattle.cat_parse_row.proofs.Listed.{any_word, no_longer, opens_word, led_right}
+use Rattle.cat_parse_row.proofs.Listed.{any_word, no_longer, led_right}
 use Rattle.cat_parse_row.proofs.Declarations.{Any}
 use Rattle.cat_parse_row.proofs.Leads.{any_option, any_list, name_right}
 
@@ -52,9 +52,12 @@ target_no_dot (kind.Symbol symbol.Dot) e = let t : false ≡ true = e in absurd 
 target_no_dot _ e = refl
 
 names_right : (bound : ℕ) → IsRight bound behind_target (AllFit Any) names_parts names
-names_right bound = led_right behind_target Any name_parts lower comma_off (λ b. name_right b any_word) (cue.Word key.Of) names_parts refl (λ x xs. refl) of_off bound
+names_right bound =
+    led_right behind_target Any name_parts lower comma_off (λ b. name_right b any_word)
+    (cue.Word key.Of) names_parts refl (λ x xs. refl) of_off bound
 
-names_behind : (ns : List Name) (w v : List Token) → AreSpelled (names_parts ns) w → Outside behind_target v → Outside no_dot (w ++ v)
+names_behind : (ns : List Name) (w v : List Token) → AreSpelled (names_parts ns) w → Outside behind_target v
+    → Outside no_dot (w ++ v)
 names_behind [] w v s o = subst (λ (u : List Token). Outside no_dot (u ++ v)) (sym s) (by v o)
   where
     by : (v : List Token) → Outside behind_target v → Outside no_dot v
@@ -64,20 +67,32 @@ names_behind (n ∷ ns) w v s o = subst (λ (u : List Token). Outside no_dot (u 
 
 inner_right : (bound : ℕ) → IsRight bound no_dot (OptionFits Any) inner_parts (optional is_dot inner)
 inner_right bound =
-    optional_right bound no_dot is_dot Any (λ w. Word (Anywhere (kind.Symbol symbol.Dot)) (name_parts w)) inner_parts inner (opens_word is_dot (kind.Symbol symbol.Dot) Any name_parts refl) dot_off refl (λ w. refl)
+    optional_right bound no_dot is_dot Any
+    (λ w. Word (Anywhere (kind.Symbol symbol.Dot)) (name_parts w)) inner_parts inner
+    (opens_word is_dot (kind.Symbol symbol.Dot) Any name_parts refl) dot_off refl (λ w. refl)
     (word_right bound no_dot (cue.Sign symbol.Dot) Any name_parts (λ p. lower) (λ p. name_right bound no_dot))
 
 pub target_right : (bound : ℕ) → IsRight bound behind_target Any target_parts target
 target_right bound =
-    lower_right bound behind_target Any (λ t. t.name) (λ t. inner_parts t.inner ▸ names_parts t.params) (λ w. optional is_dot inner ⨟ λ i. names ⨟ λ ps. done (record { name = w; inner = i; params = ps })) λ w.
-    part_right bound bound behind_target no_dot (λ t. Any t × (t.name ≡ w)) (OptionFits Any) (λ t. t.inner) inner_parts (λ t. names_parts t.params) (optional is_dot inner) (λ i. names ⨟ λ ps. done (record { name = w; inner = i; params = ps }))
-    (record { fit = λ t f. any_option t.inner; behind = λ t w v f s o. names_behind t.params w v s o; shrinks = no_longer bound no_dot (OptionFits Any) inner_parts (optional is_dot inner) (inner_right bound) })
+    lower_right bound behind_target Any (λ t. t.name) (λ t. inner_parts t.inner ▸ names_parts t.params)
+    (λ w. optional is_dot inner ⨟ λ i. names ⨟ λ ps. done (record { name = w; inner = i; params = ps })) λ w.
+    part_right bound bound behind_target no_dot (λ t. Any t × (t.name ≡ w)) (OptionFits Any) (λ t. t.inner) inner_parts
+    (λ t. names_parts t.params) (optional is_dot inner)
+    (λ i. names ⨟ λ ps. done (record { name = w; inner = i; params = ps }))
+    (record {
+      fit = λ t f. any_option t.inner;
+      behind = λ t w v f s o. names_behind t.params w v s o;
+      shrinks = no_longer bound no_dot (OptionFits Any) inner_parts (optional is_dot inner) (inner_right bound);
+    })
     (inner_right bound) λ i g.
-    last_right bound behind_target (AllFit Any) (λ t. (Any t × (t.name ≡ w)) × (t.inner ≡ i)) (λ t. t.params) (λ ps. record { name = w; inner = i; params = ps }) names_parts names
+    last_right bound behind_target (AllFit Any) (λ t. (Any t × (t.name ≡ w)) × (t.inner ≡ i)) (λ t. t.params)
+    (λ ps. record { name = w; inner = i; params = ps }) names_parts names
     (record {
       to = λ ps f. ((tt, refl), refl);
       from = λ t f. any_list t.params;
       back = λ ps. refl;
-      only = λ t f. ap (λ (n : Name). record { name = n; inner = t.inner; params = t.params }) f.0.1 ∙ ap (λ (o : Option Name). record { name = w; inner = o; params = t.params }) f.1;
+      only =
+          λ t f. ap (λ (n : Name). record { name = n; inner = t.inner; params = t.params }) f.0.1
+          ∙ ap (λ (o : Option Name). record { name = w; inner = o; params = t.params }) f.1;
     })
     (names_right bound)

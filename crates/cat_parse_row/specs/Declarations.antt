@@ -12,7 +12,8 @@ use Rattle.cat_tree.specs.declared.name.Type as types
 use Rattle.cat_tree.specs.declared.program.FieldItem.{FieldItem}
 use Rattle.cat_tree.specs.declared.program.CaseItem.{CaseItem}
 use Rattle.cat_tree.specs.declared.program.Kind.{Kind}
-use Rattle.cat_tree.specs.declared.program.Kind.TheVariants.{Input, InputOutput, Output, Internal, Context, ContextOutput}
+use Rattle.cat_tree.specs.declared.program.Kind.TheVariants.{Input, InputOutput, Output, Internal, Context}
+use Rattle.cat_tree.specs.declared.program.Kind.TheVariants.{ContextOutput}
 use Rattle.cat_tree.specs.declared.program.Variable.{Variable}
 use Rattle.cat_tree.specs.declared.program.Variable.TheVariants as variable
 use Rattle.cat_parse_row.specs.declared.cue.Cue.{Cue}
@@ -42,7 +43,9 @@ is_content k = cue_is (cue.Word key.Content) k
 
 -- -- U [content T]
 abbrev pub a_case : Reader CaseItem
-a_case = «word» (cue.Sign symbol.MinusMinus) ⨟ λ p. upper ⨟ λ u. optional is_content content ⨟ λ t. done (record { name = u; content = t })
+a_case =
+    «word» (cue.Sign symbol.MinusMinus) ⨟ λ p. upper ⨟ λ u. optional is_content content
+    ⨟ λ t. done (record { name = u; content = t })
 
 -- ---- lists with commas
 
@@ -67,7 +70,8 @@ is_word k = cue_is (cue.Word k)
 
 -- a kind of one word, or of two
 abbrev pub kind_or : Keyword → Kind → Kind → Reader (Kind × Pos)
-kind_or k alone with_output = key_word k ⨟ λ p. by_word (is_word key.Output) (key_word key.Output ⨟ λ q. done (with_output, p)) (done (alone, p))
+kind_or k alone with_output =
+    key_word k ⨟ λ p. by_word (is_word key.Output) (key_word key.Output ⨟ λ q. done (with_output, p)) (done (alone, p))
 
 abbrev pub kind_of_one : Keyword → Kind → Reader (Kind × Pos)
 kind_of_one k alone = key_word k ⨟ λ p. done (alone, p)
@@ -98,4 +102,6 @@ abbrev pub own : Reader ((Kind × Pos) × Name × Option types.Type × List Fiel
 own = a_kind ⨟ λ k. lower ⨟ λ w. sort ⨟ λ t. params ⨟ λ ps. done (k, w, t, ps)
 
 abbrev pub a_variable : Reader Variable
-a_variable = by_word is_lower (called ⨟ λ x. done (variable.Called x.0 x.1)) (own ⨟ λ x. done (variable.Own x.0.0 x.0.1 x.1 x.2 x.3))
+a_variable =
+    by_word is_lower (called ⨟ λ x. done (variable.Called x.0 x.1))
+    (own ⨟ λ x. done (variable.Own x.0.0 x.0.1 x.1 x.2 x.3))

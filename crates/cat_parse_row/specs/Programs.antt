@@ -44,7 +44,8 @@ pub data Declared : Type 0 where
   Scopes : Name × List Variable → Declared
 
 abbrev pub declared : Reader Declared
-declared = by_word (is_word key.Structure) (named key.Structure (some (is_word key.Data) field) ⨟ λ x. done (Structures x))
+declared =
+    by_word (is_word key.Structure) (named key.Structure (some (is_word key.Data) field) ⨟ λ x. done (Structures x))
     (by_word (is_word key.Enumeration) (named key.Enumeration (some is_dashes a_case) ⨟ λ x. done (Enumerations x))
     (named key.Scope (many is_variable a_variable) ⨟ λ x. done (Scopes x)))
 
@@ -58,10 +59,13 @@ declaration = key_word key.Declaration ⨟ λ p. declared ⨟ λ x. done (p, x)
 
 -- scope U [under condition E] : use*
 abbrev pub block : Reader Node → Reader Block
-block ex = key_word key.Scope ⨟ λ p. upper ⨟ λ u. optional is_under (condition ex) ⨟ λ c. «word» (cue.Sign symbol.Colon) ⨟ λ q. many is_use (a_use ex) ⨟ λ us. done (record { pos = p; name = u; condition = c; uses = us })
+block ex =
+    key_word key.Scope ⨟ λ p. upper ⨟ λ u. optional is_under (condition ex) ⨟ λ c. «word» (cue.Sign symbol.Colon)
+    ⨟ λ q. many is_use (a_use ex) ⨟ λ us. done (record { pos = p; name = u; condition = c; uses = us })
 
 abbrev pub an_item : Reader Node → Reader Item
-an_item ex = by_word (is_word key.Declaration) (declaration ⨟ λ x. done (item_of x)) (block ex ⨟ λ b. done (item.Block b))
+an_item ex =
+    by_word (is_word key.Declaration) (declaration ⨟ λ x. done (item_of x)) (block ex ⨟ λ b. done (item.Block b))
 
 abbrev pub items : Reader Node → Reader (List Item)
 items ex = many is_item (an_item ex)

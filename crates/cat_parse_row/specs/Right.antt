@@ -54,7 +54,8 @@ Says row (Fails left true) y spelling front = tallest (row y) ≤ 256 → ⊥
 Says row (Reads x left) y spelling front = (y ≡ x) × (spelling ≡ front)
 
 -- tokens that go on as those which were read, up to and with the one where reading ended
-pub record Alike {B : Type 0} (out : TokenKind → Bool) (fits : B → Type 0) (row : B → Parts) (left front : List Token) (y : B) (spelling : List Token) : Type 0 where
+pub record Alike {B : Type 0} (out : TokenKind → Bool) (fits : B → Type 0) (row : B → Parts) (left front : List Token)
+    (y : B) (spelling : List Token) : Type 0 where
   pub others : List Token
   pub behind : List Token
   pub agree : Agree left others
@@ -62,7 +63,9 @@ pub record Alike {B : Type 0} (out : TokenKind → Bool) (fits : B → Type 0) (
   pub outside : Outside out behind
   pub text : spelling ++ behind ≡ front ++ others
 
-pub record IsRight {B : Type 0} (bound : ℕ) (out : TokenKind → Bool) (fits : B → Type 0) (row : B → Parts) (r : Reader B) : Type 0 where
+pub record IsRight {B : Type 0} (bound : ℕ) (out : TokenKind → Bool) (fits : B → Type 0) (row : B → Parts)
+    (r : Reader B) : Type 0 where
   pub alive : Begun fits row []
   pub taken : (ts : List Token) → length ts ≤ bound → Taken fits row (r ts) ts
-  pub says : (ts front : List Token) (y : B) (spelling : List Token) → length ts ≤ bound → ts ≡ front ++ left_of (r ts) → Alike out fits row (left_of (r ts)) front y spelling → Says row (r ts) y spelling front
+  pub says : (ts front : List Token) (y : B) (spelling : List Token) → length ts ≤ bound → ts ≡ front ++ left_of (r ts)
+      → Alike out fits row (left_of (r ts)) front y spelling → Says row (r ts) y spelling front

@@ -28,7 +28,8 @@ is_list_of k = cue_is (cue.Pair pair.ListOf) k
 -- a type, once so many `list of` were read
 abbrev pub type_after : ℕ → Reader types.Type
 type_after n [] = Fails [] false
-type_after n (t ∷ ts) = if is_list_of t.kind then type_after (suc n) ts else after (made_of (base_at t) (t ∷ ts) ts) (λ b. done (typed n b))
+type_after n (t ∷ ts) =
+    if is_list_of t.kind then type_after (suc n) ts else after (made_of (base_at t) (t ∷ ts) ts) (λ b. done (typed n b))
 
 abbrev pub a_type : Reader types.Type
 a_type = type_after 0

@@ -72,7 +72,9 @@ guard ex = «word» (cue.Pair pair.UnderCondition) ⨟ λ p. ex ⨟ λ e. key_wo
 
 -- [not] fulfilled
 abbrev pub whether_fulfilled : Reader Fulfilled
-whether_fulfilled = by_word (is_word key.Not) (key_word key.Not ⨟ λ p. key_word key.Fulfilled ⨟ λ q. done fulfilled.No) (key_word key.Fulfilled ⨟ λ p. done fulfilled.Yes)
+whether_fulfilled =
+    by_word (is_word key.Not) (key_word key.Not ⨟ λ p. key_word key.Fulfilled ⨟ λ q. done fulfilled.No)
+    (key_word key.Fulfilled ⨟ λ p. done fulfilled.Yes)
 
 -- a definition or a rule without its lead
 pub data Tail : Type 0 where
@@ -80,10 +82,14 @@ pub data Tail : Type 0 where
   Ruled : Pos × TargetName × Option Node × Fulfilled → Tail
 
 abbrev pub defined : Reader Node → Reader (Pos × TargetName × Option Node × Node)
-defined ex = key_word key.Definition ⨟ λ p. target ⨟ λ t. optional is_under (guard ex) ⨟ λ c. key_word key.Equals ⨟ λ q. ex ⨟ λ e. done (p, t, c, e)
+defined ex =
+    key_word key.Definition ⨟ λ p. target ⨟ λ t. optional is_under (guard ex) ⨟ λ c. key_word key.Equals ⨟ λ q. ex
+    ⨟ λ e. done (p, t, c, e)
 
 abbrev pub ruled : Reader (Node) → Reader (Pos × TargetName × Option Node × Fulfilled)
-ruled ex = key_word key.Rule ⨟ λ p. target ⨟ λ t. optional is_under (guard ex) ⨟ λ c. whether_fulfilled ⨟ λ f. done (p, t, c, f)
+ruled ex =
+    key_word key.Rule ⨟ λ p. target ⨟ λ t. optional is_under (guard ex) ⨟ λ c. whether_fulfilled
+    ⨟ λ f. done (p, t, c, f)
 
 abbrev pub tail : Reader Node → Reader Tail
 tail ex = by_word (is_word key.Rule) (ruled ex ⨟ λ x. done (Ruled x)) (defined ex ⨟ λ x. done (Defined x))
@@ -98,7 +104,9 @@ abbrev pub asserted : Reader Node → Reader (Pos × Node)
 asserted ex = key_word key.Assertion ⨟ λ p. ex ⨟ λ e. done (p, e)
 
 abbrev pub direction : Reader Bool
-direction = by_word (is_word key.Increasing) (key_word key.Increasing ⨟ λ q. done true) (key_word key.Decreasing ⨟ λ q. done false)
+direction =
+    by_word (is_word key.Increasing) (key_word key.Increasing ⨟ λ q. done true)
+    (key_word key.Decreasing ⨟ λ q. done false)
 
 abbrev pub is_rounding : TokenKind → Bool
 is_rounding = cue_is (cue.Pair pair.DateRound)

@@ -7,10 +7,11 @@ ghost use Rattle.cat_parse_row.specs.Places.{Gives};
 ghost use Rattle.cat_parse_row.specs.Reader.{optional};
 
 use crate::cue::Cue;
+use crate::parts::names;
 use crate::stray::Stray;
 use crate::words::{is_lower, is_next, lower, word};
 use cat_lex::{Keyword, Symbol, Token};
-use cat_tree::{Exception, Label, Lead, Name};
+use cat_tree::{Exception, Label, Lead, Name, TargetName};
 use std::alloc::Global;
 
 fn label(alloc: Global, tokens: &[Token], at: usize) -> Result<(Label, usize), Stray>
@@ -78,4 +79,22 @@ fn inner_if(alloc: Global, tokens: &[Token], at: usize) -> Result<(Option<Name>,
     } else {
         Ok((None, at))
     }
+}
+
+/// What is defined: a variable, or one of a scope that is called, with the names of its parameters.
+pub fn target(alloc: Global, tokens: &[Token], at: usize) -> Result<(TargetName, usize), Stray>
+    requires { at ≤ length tokens.now }
+    ensures { Gives spec.target tokens.now at result }
+{
+    let (name, at) = lower(alloc, tokens, at)?;
+    let (inner, at) = inner_if(alloc, tokens, at)?;
+    let (params, at) = names(alloc, tokens, at)?;
+    Ok((
+        TargetName {
+            name,
+            inner,
+            params,
+        },
+        at,
+    ))
 }

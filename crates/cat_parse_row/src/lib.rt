@@ -2,17 +2,23 @@
 #![tactic(auto)]
 
 mod cue;
+mod declaring;
 mod fields;
 mod heading;
 mod kinds;
 mod laws;
+mod parts;
+mod scopes;
 mod stray;
 mod words;
 
 pub use cue::{Cue, cue_is};
+pub use declaring::declaration;
 pub use fields::{a_case, called, field, kind, sort, typed_name};
-pub use heading::lead;
+pub use heading::{lead, target};
 pub use kinds::a_type;
 pub use laws::programs_are_read_exactly;
+pub use parts::{enumeration_cases, names, params, structure_fields};
+pub use scopes::{a_variable, scope_variables};
 pub use stray::Stray;
 pub use words::{is_lower, is_next, lower, upper, word};

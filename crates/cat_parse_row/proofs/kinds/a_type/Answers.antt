@@ -4,12 +4,14 @@ use Rattle.cat_parse_row.proofs.kinds.a_type.Goals as goal
 
 pub loop-lists-smaller : goal.loop-lists-smaller
 loop-lists-smaller c =
-    let s = list_step c.loop-lists.lists c.loop-lists.place c.args.tokens.now (sym c.is_next.ensures ∙ c.loop-lists-test.true) in
+    let h = sym c.is_next.ensures ∙ c.loop-lists-test.true in
+    let s = list_step c.loop-lists.lists c.loop-lists.place c.args.tokens.now h in
     omega (arith, s.within)
 
 pub loop-lists-preserved : goal.loop-lists-preserved
 loop-lists-preserved c =
-    let s = list_step c.loop-lists.lists c.loop-lists.place c.args.tokens.now (sym c.is_next.ensures ∙ c.loop-lists-test.true) in
+    let h = sym c.is_next.ensures ∙ c.loop-lists-test.true in
+    let s = list_step c.loop-lists.lists c.loop-lists.place c.args.tokens.now h in
     record {
       same = c.loop-lists.invariant.same ∙ s.same;
       low = omega (arith, c.loop-lists.invariant.low);
