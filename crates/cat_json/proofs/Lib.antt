@@ -3,7 +3,4 @@ pub mod Numerals
 pub mod KnownNames
 pub mod Levels
 pub mod JsonRead
-pub mod WriteEquations
-pub mod WriteShape
-pub mod ObjectSteps
 pub mod Examples
