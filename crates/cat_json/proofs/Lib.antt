@@ -3,7 +3,7 @@ pub mod Numerals
 pub mod KnownNames
 pub mod Levels
 pub mod JsonRead
-pub mod WriteEquations
-pub mod WriteShape
-pub mod ObjectSteps
+pub mod ScalarsTyped
+pub mod ReadTyped
+pub mod InputsTyped
 pub mod Examples

@@ -14,7 +14,7 @@ number_after-joined xs ys = number_after-append 0 xs ys
 
 pub ruleset numerals = (number_after-joined)
 
-gcd-one : (n : ℕ) → gcd n 1 ≡ 1
+pub gcd-one : (n : ℕ) → gcd n 1 ≡ 1
 unfolding gcd
 gcd-one n = ap (gcd_to 1 1) (mod-one n)
 

@@ -1,5 +1,5 @@
 -- Which bytes are read as inputs and values, and why others are refused.
-use Rattle.std.specs.Prelude.{ℕ, Bool, true, false, if◌then◌else◌, List, [], ◌∷◌, Option, Some, None, Result, Ok, Err, slice_get}
+use Rattle.std.specs.Prelude.{◌≡◌, ℕ, Bool, true, false, if◌then◌else◌, List, [], ◌∷◌, Option, Some, None, Result, Ok, Err, slice_get}
 use Rattle.std.specs.Str.{is_utf8}
 use Rattle.serde_json.specs.Data.{Data, Items, no_items, item, Members}
 use Rattle.serde_json.specs.Read.{read}
@@ -9,7 +9,7 @@ use Rattle.cat_value.specs.declared.value.Value.{Value}
 use Rattle.cat_value.specs.declared.declaration.ItemDecl.{ItemDecl}
 use Rattle.cat_value.specs.declared.declaration.Scope.{Scope}
 use Rattle.cat_value.specs.declared.decls.Decls.{Decls}
-use Rattle.cat_value.specs.Inputs.{must_be_given, may_be_given}
+use Rattle.cat_value.specs.Inputs.{must_be_given, may_be_given, IsWellTyped}
 use Rattle.cat_json.specs.declared.refusal.Reason.{Reason}
 use Rattle.cat_json.specs.declared.refusal.Reason.TheVariants as reason
 use Rattle.cat_json.specs.declared.refusal.Refusal.{Refusal}
@@ -106,3 +106,7 @@ array_inputs ds is (Some items) = Ok (each_input ds is items)
 -- the inputs of a scope that bytes are
 abbrev pub inputs_read : Decls → ℕ → List ℕ → Result (List (Result Input InputRefusal)) InputRefusal
 inputs_read ds scope bytes = read_from (λ d. array_inputs ds (items_of (slice_get ds.scopes scope)) (as_array d)) (json_of bytes)
+
+-- each input that is read is well typed for the scope
+unfoldable pub AreWellTyped : Decls → ℕ → List (Result Input InputRefusal) → Type 0
+AreWellTyped ds scope all = (k : ℕ) (input : Input) → slice_get all k ≡ Some (Ok input) → IsWellTyped ds scope input

@@ -5,7 +5,8 @@ ghost use Rattle.serde_json.specs.Data.{depth as nesting, items_depth};
 ghost use Rattle.serde_json.specs.Read.{max_depth};
 ghost use Rattle.serde_json.specs.View.{view, items_view};
 ghost use Rattle.serde_json.specs.Find.{as_object};
-ghost use Rattle.cat_value.specs.Inputs.{must_be_given, may_be_given};
+ghost use Rattle.cat_value.specs.Inputs.{must_be_given, may_be_given, IsWellTyped};
+ghost use Rattle.cat_value.specs.Typing.{has_type, is_type};
 ghost use Rattle.cat_json.specs.declared.refusal.InputRefusal.TheVariants.{NotJson, Memory};
 ghost use Rattle.cat_json.specs.Reads.{data_members};
 ghost use Rattle.cat_json.specs.InputsRead as inputs;
@@ -25,6 +26,7 @@ const MOST_NESTING: u32 = 127;
 pub type ReadInputs = List<Result<Input, InputRefusal>>;
 
 /// The value of a type that bytes are.
+#[tactic(auto, using(crate::proofs::InputsTyped::typed))]
 pub fn read_value(
     alloc: Global,
     bytes: &[u8],
@@ -33,6 +35,7 @@ pub fn read_value(
 ) -> Result<Value, InputRefusal>
     ensures read { IfOk result (λ value. inputs.value_read decls.now ty.now bytes.now ≡ Ok value) }
     ensures refused { IfErr result (λ refusal. refusal ≢ Memory → inputs.value_read decls.now ty.now bytes.now ≡ Err refusal) }
+    ensures typed { IfOk result (λ value. IsTrue (is_type decls.now ty.now) → IsTrue (has_type decls.now value ty.now)) }
 {
     let json = json_of(alloc, bytes)?;
     match read_at(alloc, &json, ty, decls, MOST_NESTING)? {
@@ -51,6 +54,7 @@ pub fn read_input(
     requires { scope < length decls.now.scopes }
     ensures read { IfOk result (λ input. inputs.input_read decls.now scope bytes.now ≡ Ok input) }
     ensures refused { IfErr result (λ refusal. refusal ≢ Memory → inputs.input_read decls.now scope bytes.now ≡ Err refusal) }
+    ensures typed { IfOk result (λ input. IsWellTyped decls.now scope input) }
 {
     let json = json_of(alloc, bytes)?;
     let items = &decls.scopes.at(scope as usize).items;
@@ -70,6 +74,7 @@ pub fn read_inputs(
     requires { scope < length decls.now.scopes }
     ensures read { IfOk result (λ all. inputs.inputs_read decls.now scope bytes.now ≡ Ok all) }
     ensures refused { IfErr result (λ refusal. refusal ≢ Memory → inputs.inputs_read decls.now scope bytes.now ≡ Err refusal) }
+    ensures typed { IfOk result (λ all. inputs.AreWellTyped decls.now scope all) }
 {
     let json = json_of(alloc, bytes)?;
     let items = &decls.scopes.at(scope as usize).items;

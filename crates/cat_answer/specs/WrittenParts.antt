@@ -9,7 +9,7 @@ use Rattle.cat_value.specs.declared.declaration.Case.{Case}
 use Rattle.cat_value.specs.declared.declaration.Enumeration.{Enumeration}
 use Rattle.cat_value.specs.declared.decls.Decls.{Decls}
 use Rattle.cat_value.specs.Entries.{fields_of}
-use Rattle.cat_json.specs.Writes.{data_of}
+use Rattle.cat_answer.specs.Writes.{data_of}
 
 -- the elements of an array, each of one type
 abbrev pub items_data : Decls → List Value → Ty → Items

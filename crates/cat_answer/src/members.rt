@@ -2,10 +2,10 @@
 ghost use Rattle.std.specs.Prelude.{◌≡◌, IfOk};
 ghost use Rattle.serde_json.specs.Data.{object, no_members};
 ghost use Rattle.serde_json.specs.View.{view};
-ghost use Rattle.cat_json.specs.Writes.{input_data};
-ghost use Rattle.cat_json.specs.Answer.{is_output, outputs_of, outputs_data, outputs_object};
+ghost use Rattle.cat_answer.specs.Writes.{input_data};
+ghost use Rattle.cat_answer.specs.Answer.{is_output, outputs_of, outputs_data, outputs_object};
 
-use crate::writing::json_of;
+use crate::writing::value_json;
 use cat_value::{Decls, Input, ItemDecl, ItemDecls, Kind, Value, Values};
 use serde_json::{Map, Value as Json};
 use std::alloc::{AllocError, Global};
@@ -30,7 +30,7 @@ pub(crate) fn input_json(
             None => continue,
         };
         let name = String::from_str(alloc, item.name.as_str())?;
-        members.insert(name, json_of(alloc, value, &item.ty, decls)?)?;
+        members.insert(name, value_json(alloc, value, &item.ty, decls)?)?;
     }
     Ok(Json::Object(members))
 }
@@ -55,7 +55,7 @@ pub(crate) fn outputs_json(
             None => return Ok(Json::Object(members)),
         };
         let name = String::from_str(alloc, item.name.as_str())?;
-        members.insert(name, json_of(alloc, value, &item.ty, decls)?)?;
+        members.insert(name, value_json(alloc, value, &item.ty, decls)?)?;
         number += 1;
     }
     Ok(Json::Object(members))

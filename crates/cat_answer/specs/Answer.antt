@@ -17,7 +17,7 @@ use Rattle.cat_value.specs.declared.outcome.FaultKind.TheVariants as fault
 use Rattle.cat_value.specs.declared.outcome.Outcome.{Outcome}
 use Rattle.cat_value.specs.declared.outcome.Outcome.TheVariants as outcome
 use Rattle.cat_json.specs.InputsRead.{items_of}
-use Rattle.cat_json.specs.Writes.{data_of}
+use Rattle.cat_answer.specs.Writes.{data_of}
 
 -- whether an item is an output of its scope
 abbrev pub is_output : Kind → Bool
@@ -49,11 +49,14 @@ called_item ds kind k = None
 -- `x`, or `t.x` for an item of a called scope
 abbrev pub item_text : Decls → ItemDecl → Option ℕ → Option (List ℕ)
 item_text ds i None = Some i.name
-item_text ds i (Some k) = option_map (λ (inner : ItemDecl). i.name ++ (codes "." ++ inner.name)) (called_item ds i.kind k)
+item_text ds i (Some k) =
+    option_map (λ (inner : ItemDecl). i.name ++ (codes "." ++ inner.name)) (called_item ds i.kind k)
 
 -- `S.x` or `S.t.x`, in the scope S
 abbrev pub scope_text : Decls → Scope → Target → Option (List ℕ)
-scope_text ds s target = option_map (λ name. s.name ++ (codes "." ++ name)) (option_and_then (λ i. item_text ds i target.inner) (slice_get s.items target.item))
+scope_text ds s target =
+    option_map (λ name. s.name ++ (codes "." ++ name))
+    (option_and_then (λ i. item_text ds i target.inner) (slice_get s.items target.item))
 
 -- `S.x` or `S.t.x`
 abbrev pub target_text : Decls → Target → Option (List ℕ)
@@ -92,7 +95,10 @@ no_value_text None place = None
 
 -- the line of an outcome of a scope, without its line feed: the object of the outputs, or why there is none
 abbrev pub answer_of : Decls → ℕ → List (List ℕ) → Outcome → Option (List ℕ)
-answer_of ds scope names (outcome.Value vs) = Some (compact_text (outputs_object ds (items_of (slice_get ds.scopes scope)) vs))
-answer_of ds scope names (outcome.Conflict target places) = conflict_text (target_text ds target) (places_text names places)
+answer_of ds scope names (outcome.Value vs) =
+    Some (compact_text (outputs_object ds (items_of (slice_get ds.scopes scope)) vs))
+answer_of ds scope names (outcome.Conflict target places) =
+    conflict_text (target_text ds target) (places_text names places)
 answer_of ds scope names (outcome.NoValue target place) = no_value_text (target_text ds target) (shown names place)
-answer_of ds scope names (outcome.Fault kind place) = option_map (λ text. codes "fault " ++ (fault_text kind ++ (codes " at " ++ text))) (shown names place)
+answer_of ds scope names (outcome.Fault kind place) =
+    option_map (λ text. codes "fault " ++ (fault_text kind ++ (codes " at " ++ text))) (shown names place)

@@ -29,7 +29,8 @@ integer_data n = number (of_integer n)
 
 -- an object with the whole numbers `days` and `months`
 abbrev pub span_data : SpanOf → Data
-span_data span = object (put (codes "months") (integer_data span.months) (put (codes "days") (integer_data span.days) no_members))
+span_data span =
+    object (put (codes "months") (integer_data span.months) (put (codes "days") (integer_data span.days) no_members))
 
 -- the elements of an array, each of one type
 abbrev pub elements_data : List Writer → Ty → Items

@@ -3,8 +3,8 @@ ghost use Rattle.std.specs.Prelude.{◌≡◌, IfOk, slice_get};
 ghost use Rattle.serde_json.specs.Data.{array, object, no_members};
 ghost use Rattle.serde_json.specs.View.{view};
 ghost use Rattle.cat_value.specs.declared.ty.Ty.TheViews.{out-Ty};
-ghost use Rattle.cat_json.specs.Writes.{data_of, span_data, input_data};
-ghost use Rattle.cat_json.specs.WrittenParts.{items_data, members_data, list_written, structure_written, case_written, numbered_written, content_written, enumeration_written};
+ghost use Rattle.cat_answer.specs.Writes.{data_of, span_data, input_data};
+ghost use Rattle.cat_answer.specs.WrittenParts.{items_data, members_data, list_written, structure_written, case_written, numbered_written, content_written, enumeration_written};
 
 use cat_date::{Span, show_day};
 use cat_num::{decimal_text, money_text};
@@ -16,7 +16,7 @@ use std::alloc::{AllocError, Global};
 /// The JSON of a value of a type; `null` where a part is not of its type.
 #[cycle(write)]
 #[tactic(auto, using(crate::proofs::WriteEquations::writing))]
-pub(crate) fn json_of(
+pub(crate) fn value_json(
     alloc: Global,
     value: &Value,
     ty: &Ty,
@@ -70,7 +70,7 @@ fn elements_json(
 {
     let mut items = Vec::new(alloc);
     for element in elements.as_slice() {
-        items.push(json_of(alloc, element, ty, decls)?)?;
+        items.push(value_json(alloc, element, ty, decls)?)?;
     }
     Ok(Json::Array(items))
 }
@@ -109,7 +109,7 @@ fn fields_json(
             None => return Ok(Json::Object(members)),
         };
         let name = String::from_str(alloc, field.name.as_str())?;
-        members.insert(name, json_of(alloc, value, &field.ty, decls)?)?;
+        members.insert(name, value_json(alloc, value, &field.ty, decls)?)?;
     }
     Ok(Json::Object(members))
 }
@@ -163,7 +163,7 @@ fn content_json(
         (Some(ty), Some(content)) => {
             let mut members = Map::new(alloc);
             let name = String::from_str(alloc, case.name.as_str())?;
-            members.insert(name, json_of(alloc, content.get(), ty, decls)?)?;
+            members.insert(name, value_json(alloc, content.get(), ty, decls)?)?;
             Ok(Json::Object(members))
         }
         _ => Ok(Json::Null),

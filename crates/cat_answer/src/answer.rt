@@ -6,12 +6,12 @@ ghost use Rattle.serde_json.specs.View.{view};
 ghost use Rattle.serde_json.specs.Written.{compact_text};
 ghost use Rattle.cat_pos.specs.Position.{shown};
 ghost use Rattle.cat_json.specs.InputsRead.{items_of};
-ghost use Rattle.cat_json.specs.Writes.{value_bytes, input_bytes};
-ghost use Rattle.cat_json.specs.Answer as answers;
-ghost use Rattle.cat_json.specs.Answer.{answer_of, outputs_object, target_text, scope_text, item_text, fault_text};
+ghost use Rattle.cat_answer.specs.Writes.{value_bytes, input_bytes};
+ghost use Rattle.cat_answer.specs.Answer as answers;
+ghost use Rattle.cat_answer.specs.Answer.{answer_of, outputs_object, target_text, scope_text, item_text, fault_text};
 
 use crate::members::{input_json, outputs_json};
-use crate::writing::json_of;
+use crate::writing::value_json;
 use cat_pos::{Files, Pos, show_pos};
 use cat_value::{
     Decls, FaultKind, Input, ItemDecl, ItemDecls, Kind, Outcome, Scope, Target, Ty, Value, Values,
@@ -28,7 +28,7 @@ pub fn value_text(
 ) -> Result<String, AllocError>
     ensures { IfOk result (λ text. string_bytes text ≡ value_bytes decls.now ty.now value.now) }
 {
-    json_of(alloc, value, ty, decls)?.to_string(alloc)
+    value_json(alloc, value, ty, decls)?.to_string(alloc)
 }
 
 /// The compact text of an input of the scope.

@@ -1,0 +1,3 @@
+pub mod WriteEquations
+pub mod WriteShape
+pub mod ObjectSteps

@@ -1,0 +1,8 @@
+//! Writes values, inputs and outcomes.
+#![tactic(auto)]
+
+mod answer;
+mod members;
+mod writing;
+
+pub use answer::{answer_text, input_text, value_text};
