@@ -1,5 +1,6 @@
 -- Objects of inputs and outputs, a member at a time, and positions.
-use Rattle.std.proofs.Common.{◌≡◌, ℕ, zero, suc, ◌+◌, ◌<◌, ◌≤◌, true, List, [], ◌∷◌, drop, drop-cons, get_or, length, add-one, Option, None, Some, refl, arith, String, Global, string_bytes, string_cmp}
+use Rattle.std.proofs.Common.{◌≡◌, ℕ, zero, suc, ◌+◌, ◌<◌, ◌≤◌, true, List, [], ◌∷◌, drop, drop-cons, get_or, length}
+use Rattle.std.proofs.Common.{add-one, Option, None, Some, refl, arith, String, Global, string_bytes, string_cmp}
 use Rattle.std.specs.Prelude.{slice_get}
 use Rattle.std.specs.Option.{option_map, is_some}
 use Rattle.std.specs.BTreeMap.{insert_entry}

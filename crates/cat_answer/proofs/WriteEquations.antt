@@ -1,5 +1,7 @@
 -- The JSON of each kind of values, and of objects that grow.
-use Rattle.std.proofs.Common.{◌≡◌, ℕ, ◌+◌, ◌<◌, ◌≤◌, ℤ, Bool, List, [], ◌∷◌, map, take, drop, drop-cons, get_or, length, add-one, zero, suc, Option, None, Some, refl, ap, ◌∙◌, String, Global, string_bytes, string_cmp}
+use Rattle.std.proofs.Common.{◌≡◌, ℕ, ◌+◌, ◌<◌, ◌≤◌, ℤ, Bool, List, [], ◌∷◌, map, take, drop, drop-cons, get_or, length}
+use Rattle.std.proofs.Common.{add-one, zero, suc, Option, None, Some, refl, ap, ◌∙◌, String, Global, string_bytes}
+use Rattle.std.proofs.Common.{string_cmp}
 use Rattle.std.proofs.lemmas.List.{drop_all, take_all}
 use Rattle.std.specs.Option.{option_map}
 use Rattle.std.specs.BTreeMap.{insert_entry}
@@ -25,8 +27,11 @@ use Rattle.cat_value.specs.declared.declaration.Enumeration.{Enumeration}
 use Rattle.cat_value.specs.declared.decls.Decls.{Decls}
 use Rattle.cat_value.specs.Entries.{fields_of}
 use Rattle.std.specs.Prelude.{slice_get}
-use Rattle.cat_answer.specs.Writes.{Writer, data_of, value_written, written_level, integer_data, span_data, list_data, elements_data, fields_data, fields_object, structure_data, content_data, named_case_data, numbered_case_data, case_data}
-use Rattle.cat_answer.specs.WrittenParts.{items_data, members_data, list_written, fields_written, structure_written, content_written, case_written, numbered_written, enumeration_written}
+use Rattle.cat_answer.specs.Writes.{Writer, data_of, value_written, written_level, integer_data, span_data, list_data}
+use Rattle.cat_answer.specs.Writes.{elements_data, fields_data, fields_object, structure_data, content_data}
+use Rattle.cat_answer.specs.Writes.{named_case_data, numbered_case_data, case_data}
+use Rattle.cat_answer.specs.WrittenParts.{items_data, members_data, list_written, fields_written, structure_written}
+use Rattle.cat_answer.specs.WrittenParts.{content_written, case_written, numbered_written, enumeration_written}
 
 -- one level of the JSON of a value
 abbrev pub level_of : Decls → Value-F Value → Ty-F Ty → Data
@@ -120,7 +125,8 @@ data_of_Case ds k content t =
     rw (data_of-levels ds (value.Case k content) t, value.outs-Case k content)
     (level_Case ds k content (out-Ty t) ∙ case_is ds k content (out-Ty t))
 
-pub ruleset writing = (data_of_Boolean, data_of_Integer, data_of_Decimal, data_of_Money, data_of_Date, data_of_Duration, data_of_List, data_of_Structure, data_of_Case)
+pub ruleset writing = (data_of_Boolean, data_of_Integer, data_of_Decimal, data_of_Money, data_of_Date, data_of_Duration,
+  data_of_List, data_of_Structure, data_of_Case)
 
 -- the elements of an array
 items_of-data : (ds : Decls) (vs : List Value) (t : Ty) → items_of (map (λ v. data_of ds v t) vs) ≡ items_data ds vs t

@@ -1,5 +1,6 @@
 -- What is written holds no float, and nests no deeper than the value is high.
-use Rattle.std.proofs.Common.{◌≡◌, ℕ, Bool, true, false, ◌||◌, true≢false, List, [], ◌∷◌, codes, Option, None, Some, Ordering, Less, Equal, Greater, refl, ℤ, pos, negsuc}
+use Rattle.std.proofs.Common.{◌≡◌, ℕ, Bool, true, false, ◌||◌, true≢false, List, [], ◌∷◌, codes, Option, None, Some}
+use Rattle.std.proofs.Common.{Ordering, Less, Equal, Greater, refl, ℤ, pos, negsuc}
 use Rattle.std.specs.Prelude.{slice_get}
 use Rattle.std.specs.Ordering.{nat_cmp, match_ordering}
 use Rattle.std.specs.Cmp.Lexicographic.{slice_cmp}
@@ -17,9 +18,12 @@ use Rattle.cat_value.specs.declared.decls.Decls.{Decls}
 use Rattle.cat_value.specs.Entries.{fields_of}
 use Rattle.cat_value.proofs.Induction.{Each, Within, value_induction}
 use Rattle.cat_answer.specs.Writes.{data_of, integer_data, input_data, inputs_data}
-use Rattle.cat_answer.specs.WrittenParts.{items_data, members_data, list_written, fields_written, structure_written, content_written, case_written, numbered_written, enumeration_written}
+use Rattle.cat_answer.specs.WrittenParts.{items_data, members_data, list_written, fields_written, structure_written}
+use Rattle.cat_answer.specs.WrittenParts.{content_written, case_written, numbered_written, enumeration_written}
 use Rattle.cat_answer.specs.Answer.{outputs_of, outputs_data, outputs_object}
-use Rattle.cat_answer.proofs.WriteEquations.{data_of_Boolean, data_of_Integer, data_of_Decimal, data_of_Money, data_of_Date, data_of_Duration, data_of_List, data_of_Structure, data_of_Case}
+use Rattle.cat_answer.proofs.WriteEquations.{data_of_Boolean, data_of_Integer, data_of_Decimal, data_of_Money}
+use Rattle.cat_answer.proofs.WriteEquations.{data_of_Date, data_of_Duration, data_of_List, data_of_Structure}
+use Rattle.cat_answer.proofs.WriteEquations.{data_of_Case}
 
 no_float-integer : (z : ℤ) → has_float (integer_data z) ≡ false
 no_float-integer (pos n) = refl

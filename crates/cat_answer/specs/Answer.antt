@@ -1,5 +1,6 @@
 -- The line that tells an outcome. Where a number names no entry, there is none.
-use Rattle.std.specs.Prelude.{ℕ, Bool, true, false, List, [], ◌∷◌, ◌++◌, slice_get, if◌then◌else◌, Option, Some, None, codes, option_and_then}
+use Rattle.std.specs.Prelude.{ℕ, Bool, true, false, List, [], ◌∷◌, ◌++◌, slice_get, if◌then◌else◌, Option, Some, None}
+use Rattle.std.specs.Prelude.{codes, option_and_then}
 use Rattle.std.specs.Option.{option_map}
 use Rattle.serde_json.specs.Data.{Data, Members, no_members, object, put}
 use Rattle.serde_json.specs.Written.{compact_text}

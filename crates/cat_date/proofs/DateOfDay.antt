@@ -1,11 +1,14 @@
 -- Each day in range has a date of the calendar, whose number it is.
-use Rattle.std.proofs.Common.{◌≡◌, ℕ, suc, ◌+◌, ◌-◌, ◌<◌, ◌≤◌, inl, inr, Ok, refl, ap, ◌∙◌, arith, ℤ, pos, ◌-ℤ◌, ◌≤ℤ◌, unsigned_abs}
+use Rattle.std.proofs.Common.{◌≡◌, ℕ, suc, ◌+◌, ◌-◌, ◌<◌, ◌≤◌, inl, inr, Ok, refl, ap, ◌∙◌, arith, ℤ, pos, ◌-ℤ◌, ◌≤ℤ◌}
+use Rattle.std.proofs.Common.{unsigned_abs}
 use Rattle.std.proofs.lemmas.Bool.{cases_order}
 use Rattle.jiff_core.specs.Calendar.{day_of_year, days_in_month, days_in_year, days_of_months, IsCivilDate}
 use Rattle.jiff_core.proofs.SignedLemmas.{signed_arith, one_part}
 use Rattle.jiff_core.proofs.CalendarLemmas.{days_of_months_more, days_of_months_all}
-use Rattle.cat_date.specs.Calendar.{IsDay, first_day, CivilDate, days_of_years, day_number, whole_years, whole_months, date_in_year, date_after, civil_of, day_of_civil}
-use Rattle.cat_date.proofs.CalendarLemmas.{bounds-IsDay, days_of_years-suc, days_of_years-mono, whole_years-bounds, whole_months-bounds, day_of_civil-civil}
+use Rattle.cat_date.specs.Calendar.{IsDay, first_day, CivilDate, days_of_years, day_number, whole_years, whole_months}
+use Rattle.cat_date.specs.Calendar.{date_in_year, date_after, civil_of, day_of_civil}
+use Rattle.cat_date.proofs.CalendarLemmas.{bounds-IsDay, days_of_years-suc, days_of_years-mono, whole_years-bounds}
+use Rattle.cat_date.proofs.CalendarLemmas.{whole_months-bounds, day_of_civil-civil}
 
 -- the date is the one of that year whose index in it is n, from 0
 record IsInYear (y : ℤ) (n : ℕ) (date : CivilDate) : Type 0 where

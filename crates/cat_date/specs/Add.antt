@@ -1,5 +1,6 @@
 -- A day and a duration added: the months first, then the days.
-use Rattle.std.specs.Prelude.{ℕ, ◌+◌, ◌-◌, ◌/◌, ◌%◌, nat_le, nat_lt, Bool, false, ◌&&◌, if◌then◌else◌, ℤ, pos, negsuc, ◌+ℤ◌, ◌*ℤ◌, unsigned_abs, Result, Ok, Err}
+use Rattle.std.specs.Prelude.{ℕ, ◌+◌, ◌-◌, ◌/◌, ◌%◌, nat_le, nat_lt, Bool, false, ◌&&◌, if◌then◌else◌, ℤ, pos, negsuc}
+use Rattle.std.specs.Prelude.{◌+ℤ◌, ◌*ℤ◌, unsigned_abs, Result, Ok, Err}
 use Rattle.jiff_core.specs.Calendar.{days_in_month}
 use Rattle.cat_date.specs.declared.fault.DateFault.{DateFault}
 use Rattle.cat_date.specs.declared.fault.DateFault.TheVariants.{Overflow, AmbiguousDate}

@@ -1,5 +1,6 @@
 -- The proleptic Gregorian calendar from 0001-01-01 to 9999-12-31, by day numbers: days since 1970-01-01.
-use Rattle.std.specs.Prelude.{ℕ, zero, suc, ◌+◌, ◌-◌, ◌*◌, ◌/◌, nat_le, Bool, ◌&&◌, if◌then◌else◌, IsTrue, ℤ, pos, negsuc, ◌-ℤ◌, int_le, unsigned_abs, Result, Ok, Err}
+use Rattle.std.specs.Prelude.{ℕ, zero, suc, ◌+◌, ◌-◌, ◌*◌, ◌/◌, nat_le, Bool, ◌&&◌, if◌then◌else◌, IsTrue, ℤ, pos}
+use Rattle.std.specs.Prelude.{negsuc, ◌-ℤ◌, int_le, unsigned_abs, Result, Ok, Err}
 use Rattle.jiff_core.specs.Calendar.{days_in_month, days_of_months, day_of_year}
 use Rattle.cat_date.specs.declared.fault.DateFault.{DateFault}
 use Rattle.cat_date.specs.declared.fault.DateFault.TheVariants.{Overflow, NotADay}
@@ -32,7 +33,8 @@ pub record CivilDate : Type 0 where
 
 -- the calendar has this date, in a year from 1 to 9999
 abbrev pub is_civil : ℤ → ℕ → ℕ → Bool
-is_civil y m d = int_le (pos 1) y && int_le y (pos 9999) && nat_le 1 m && nat_le m 12 && nat_le 1 d && nat_le d (days_in_month y m)
+is_civil y m d = int_le (pos 1) y && int_le y (pos 9999) && nat_le 1 m && nat_le m 12 && nat_le 1 d
+  && nat_le d (days_in_month y m)
 
 -- the days of the first n years from the year 1 on: of each fourth one more, but of the centuries only of each fourth
 unfoldable pub days_of_years : ℕ → ℕ
@@ -53,7 +55,8 @@ whole_months y (suc k) n = if nat_le (days_of_months y (suc k)) n then suc k els
 
 -- the date n days after the year's first
 unfoldable pub date_in_year : ℤ → ℕ → CivilDate
-date_in_year y n = record { year = y; month = whole_months y 11 n + 1; day = n - days_of_months y (whole_months y 11 n) + 1 }
+date_in_year y n =
+  record { year = y; month = whole_months y 11 n + 1; day = n - days_of_months y (whole_months y 11 n) + 1 }
 
 -- the date n days after 0001-01-01
 unfoldable pub date_after : ℕ → CivilDate

@@ -1,5 +1,6 @@
 -- Days as texts of the form `2024-02-29`.
-use Rattle.std.specs.Prelude.{ℕ, ◌+◌, ◌/◌, ◌%◌, if◌then◌else◌, List, [], ◌∷◌, ◌++◌, take, drop, codes, bytes_eq, ℤ, pos, unsigned_abs, Result, Err}
+use Rattle.std.specs.Prelude.{ℕ, ◌+◌, ◌/◌, ◌%◌, if◌then◌else◌, List, [], ◌∷◌, ◌++◌, take, drop, codes, bytes_eq, ℤ, pos}
+use Rattle.std.specs.Prelude.{unsigned_abs, Result, Err}
 use Rattle.std.specs.Char.{is_ascii_digit}
 use Rattle.std.specs.Str.Parse.{digits_value}
 use Rattle.cat_date.specs.declared.fault.DateFault.{DateFault}
@@ -31,5 +32,6 @@ form_of (c ∷ cs) = (if is_ascii_digit c then 48 else c) ∷ form_of cs
 unfoldable pub day_of_text : List ℕ → Result ℤ DateFault
 day_of_text text =
     if bytes_eq (form_of text) (codes "0000-00-00")
-    then day_of_civil (pos (digits_value 10 (take 4 text))) (digits_value 10 (take 2 (drop 5 text))) (digits_value 10 (take 2 (drop 8 text)))
+    then day_of_civil (pos (digits_value 10 (take 4 text))) (digits_value 10 (take 2 (drop 5 text)))
+      (digits_value 10 (take 2 (drop 8 text)))
     else Err NotADay

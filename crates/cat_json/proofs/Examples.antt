@@ -11,20 +11,23 @@ use Rattle.cat_json.specs.Paths.{path_text, refused, at_step}
 use Rattle.cat_json.specs.Scalars.{integer_of, whole_in, fraction_in, cents_in, day_in}
 use Rattle.cat_json.specs.Reads.{money_in, span_in, unknown_key, is_among}
 
-a_path_joins_names_and_elements : path_text (Name (codes "a") ∷ Name (codes "b") ∷ Element 10 ∷ Element 0 ∷ Name (codes "c") ∷ []) ≡ codes "a.b[10][0].c"
+a_path_joins_names_and_elements : path_text (Name (codes "a") ∷ Name (codes "b") ∷ Element 10 ∷ Element 0 ∷ Name
+  (codes "c") ∷ []) ≡ codes "a.b[10][0].c"
 unfolding digits
 a_path_joins_names_and_elements = refl
 
 the_whole_is_the_input : path_text [] ≡ codes "(input)"
 the_whole_is_the_input = refl
 
-the_greatest_integer_is_read : whole_in (integer_of (number (unsigned 9223372036854775807))) ≡ Ok (pos 9223372036854775807)
+the_greatest_integer_is_read : whole_in (integer_of (number (unsigned 9223372036854775807))) ≡ Ok
+  (pos 9223372036854775807)
 the_greatest_integer_is_read = refl
 
 one_more_is_out_of_range : whole_in (integer_of (number (unsigned 9223372036854775808))) ≡ refused OutOfRange
 one_more_is_out_of_range = refl
 
-the_least_machine_integer_is_out_of_range : whole_in (integer_of (number (negative (negsuc 9223372036854775807)))) ≡ refused OutOfRange
+the_least_machine_integer_is_out_of_range : whole_in (integer_of (number (negative (negsuc 9223372036854775807))))
+  ≡ refused OutOfRange
 the_least_machine_integer_is_out_of_range = refl
 
 a_text_is_no_integer : whole_in (integer_of (string (codes "1"))) ≡ refused WrongForm
@@ -84,14 +87,20 @@ a_short_month_has_another_form : day_in (codes "2024-2-29") ≡ refused WrongFor
 unfolding day_in
 a_short_month_has_another_form = refl
 
-a_duration_is_read : span_in (object (member (codes "days") (number (unsigned 3)) (member (codes "months") (number (negative (negsuc 0))) no_members))) ≡ Ok (record { months = negsuc 0; days = pos 3 })
+a_duration_is_read : span_in
+  (object (member (codes "days") (number (unsigned 3)) (member (codes "months") (number (negative (negsuc 0)))
+  no_members))) ≡ Ok (record { months = negsuc 0; days = pos 3 })
 a_duration_is_read = refl
 
 days_are_missed_first : span_in (object no_members) ≡ at_step (Name (codes "days")) (refused Missing)
 days_are_missed_first = refl
 
-an_extra_key_comes_after_the_parts : span_in (object (member (codes "a") null (member (codes "days") (number (unsigned 3)) (member (codes "months") null no_members)))) ≡ at_step (Name (codes "months")) (refused WrongForm)
+an_extra_key_comes_after_the_parts : span_in
+  (object (member (codes "a") null
+  (member (codes "days") (number (unsigned 3)) (member (codes "months") null no_members)))) ≡ at_step
+  (Name (codes "months")) (refused WrongForm)
 an_extra_key_comes_after_the_parts = refl
 
-the_first_unknown_key_is_told : unknown_key (is_among (codes "b" ∷ [])) (member (codes "a") null (member (codes "b") null (member (codes "c") null no_members))) ≡ Some (codes "a")
+the_first_unknown_key_is_told : unknown_key (is_among (codes "b" ∷ []))
+  (member (codes "a") null (member (codes "b") null (member (codes "c") null no_members))) ≡ Some (codes "a")
 the_first_unknown_key_is_told = refl

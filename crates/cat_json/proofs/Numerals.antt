@@ -19,7 +19,8 @@ unfolding gcd
 gcd-one n = ap (gcd_to 1 1) (mod-one n)
 
 one_is_reduced : (n : ℤ) → Fits n → IsReduced n 1
-one_is_reduced n h = record { positive = omega arith; den_fits = omega arith; num_fits = h; lowest_terms = gcd-one (unsigned_abs n) }
+one_is_reduced n h =
+  record { positive = omega arith; den_fits = omega arith; num_fits = h; lowest_terms = gcd-one (unsigned_abs n) }
 
 -- a whole number is itself, over 1
 pub whole-over_one : (n : ℤ) → Fits n → frac_of n (pos 1) ≡ Ok (whole_fraction n)

@@ -1,5 +1,7 @@
 -- Numbers, amounts, days and durations that are read are in range.
-use Rattle.std.proofs.Common.{◌≡◌, ℕ, ◌<◌, ◌==◌, ◌*ℤ◌, ℤ, pos, unsigned_abs, nat_lt, nat_le, Bool, true, false, ◌&&◌, true≢false, IsTrue, List, [], ◌∷◌, length, ◌++◌, Option, Some, None, Ok, Err, Result, codes, bytes_eq, if◌then◌else◌, refl, sym, ap, subst, arith, ◌∙◌}
+use Rattle.std.proofs.Common.{◌≡◌, ℕ, ◌<◌, ◌==◌, ◌*ℤ◌, ℤ, pos, unsigned_abs, nat_lt, nat_le, Bool, true, false, ◌&&◌}
+use Rattle.std.proofs.Common.{true≢false, IsTrue, List, [], ◌∷◌, length, ◌++◌, Option, Some, None, Ok, Err, Result}
+use Rattle.std.proofs.Common.{codes, bytes_eq, if◌then◌else◌, refl, sym, ap, subst, arith, ◌∙◌}
 use Rattle.std.proofs.lemmas.Bool.Decides.{nat_tests}
 use Rattle.std.proofs.Math.Nat.{eq-zero-or-pos}
 use Rattle.jiff_core.specs.declared.civil.date.Date.{Date}
@@ -22,8 +24,12 @@ use Rattle.cat_date.proofs.CalendarLemmas.{IsDay-epoch_day, epoch_day-day_number
 use Rattle.cat_json.specs.declared.step.Step.{Step}
 use Rattle.cat_json.specs.declared.refusal.Reason.TheVariants.{WrongForm, OutOfRange}
 use Rattle.cat_json.specs.Paths.{Reading, refused, at_step, made_of}
-use Rattle.cat_json.specs.Scalars.{Numeral, quotient, pointed, plain, in_bounds, whole_in, whole_fraction, fitting, if_numeral, has_money_form, has_few_digits, cents_of, fraction_of, numeral_fraction, numeral_cents, fraction_in, cents_in, existing, day_in, has_minus, without_minus, numeral_of, integer_of}
-use Rattle.cat_json.specs.Reads.{text_in, decimal_in, money_in, unless_unknown, unknown_key, is_among, with_no_others, whole_part, span_of, part_in, parts_in, span_in}
+use Rattle.cat_json.specs.Scalars.{Numeral, quotient, pointed, plain, in_bounds, whole_in, whole_fraction, fitting}
+use Rattle.cat_json.specs.Scalars.{if_numeral, has_money_form, has_few_digits, cents_of, fraction_of, numeral_fraction}
+use Rattle.cat_json.specs.Scalars.{numeral_cents, fraction_in, cents_in, existing, day_in, has_minus, without_minus}
+use Rattle.cat_json.specs.Scalars.{numeral_of, integer_of}
+use Rattle.cat_json.specs.Reads.{text_in, decimal_in, money_in, unless_unknown, unknown_key, is_among, with_no_others}
+use Rattle.cat_json.specs.Reads.{whole_part, span_of, part_in, parts_in, span_in}
 use Rattle.cat_json.proofs.Numerals.{gcd-one}
 
 both_true : (a b : Bool) → (a && b) ≡ true → (a ≡ true) × (b ≡ true)
@@ -31,7 +37,8 @@ both_true true b h = (refl, h)
 both_true false b h = absurd (true≢false (sym h))
 
 -- what a reading that goes well is made of
-pub made_of-is : {A B : Type 0} (make : A → B) (r : Reading A) (v : B) → made_of make r ≡ Ok v → (a : A) × (r ≡ Ok a) × (make a ≡ v)
+pub made_of-is : {A B : Type 0} (make : A → B) (r : Reading A) (v : B) → made_of make r ≡ Ok v → (a : A) × (r ≡ Ok a)
+  × (make a ≡ v)
 made_of-is make (Ok a) v e = (a, refl, cc)
 made_of-is make (Err refusal) v e = absurd (cc)
 
@@ -43,7 +50,8 @@ unless_unknown-is : {A : Type 0} (key : Option (List ℕ)) (b a : A) → unless_
 unless_unknown-is None b a e = cc
 unless_unknown-is (Some key) b a e = absurd (cc)
 
-pub with_no_others-is : {A : Type 0} (names : List (List ℕ)) (ms : Members) (r : Reading A) (a : A) → with_no_others names ms r ≡ Ok a → r ≡ Ok a
+pub with_no_others-is : {A : Type 0} (names : List (List ℕ)) (ms : Members) (r : Reading A) (a : A)
+  → with_no_others names ms r ≡ Ok a → r ≡ Ok a
 with_no_others-is names ms (Ok b) a e = ap Ok (unless_unknown-is (unknown_key (is_among names) ms) b a e)
 with_no_others-is names ms (Err refusal) a e = absurd (cc)
 
@@ -72,13 +80,15 @@ unfolding ratio
 ratio-reduced n d f e = by (d == 0) (frac_fits (lowest n d)) refl refl e
   where
     by : (zero_den fitting : Bool) → (d == 0) ≡ zero_den → frac_fits (lowest n d) ≡ fitting
-        → (if zero_den then Err num_fault.DivisionByZero else (if fitting then Ok (lowest n d) else Err num_fault.Overflow)) ≡ Ok f → is_reduced f ≡ true
+        → (if zero_den then Err num_fault.DivisionByZero else
+          (if fitting then Ok (lowest n d) else Err num_fault.Overflow)) ≡ Ok f → is_reduced f ≡ true
     by true fitting z h e = absurd (cc)
     by false false z h e = absurd (cc)
     by false true z h e =
         let same : lowest n d ≡ f = cc in
         let low = not_zero d z in
-        subst (λ (g : Fraction). is_reduced g ≡ true) same (reduced_is (lowest n d) h (lowest-positive n d low) (lowest-coprime n d low))
+        subst (λ (g : Fraction). is_reduced g ≡ true) same (reduced_is (lowest n d) h (lowest-positive n d low)
+          (lowest-coprime n d low))
 
 if_numeral-is : {A : Type 0} (form few : Bool) (r : Reading A) (a : A) → if_numeral form few r ≡ Ok a → r ≡ Ok a
 if_numeral-is false few r a e = absurd (cc)
@@ -89,7 +99,8 @@ fitting-is : (r : Result Fraction NumFault) (f : Fraction) → fitting r ≡ Ok 
 fitting-is (Ok g) f e = let same : g ≡ f = cc in ap Ok same
 fitting-is (Err fault) f e = absurd (cc)
 
-fraction_of-reduced : (negative : Bool) (n : Numeral) (f : Fraction) → fraction_of negative n ≡ Ok f → is_reduced f ≡ true
+fraction_of-reduced : (negative : Bool) (n : Numeral) (f : Fraction) → fraction_of negative n ≡ Ok f
+  → is_reduced f ≡ true
 fraction_of-reduced negative (quotient num den) f e = ratio-reduced _ _ f e
 fraction_of-reduced negative (pointed whole places) f e = ratio-reduced _ _ f e
 fraction_of-reduced negative (plain whole) f e = ratio-reduced _ _ f e
@@ -103,7 +114,8 @@ fraction_in-reduced text f e =
 whole_fraction-reduced : (n : ℤ) → fits n ≡ true → is_reduced (whole_fraction n) ≡ true
 whole_fraction-reduced n h = rw (h, gcd-one (unsigned_abs n)) refl
 
-pub decimal_in-reduced : (n : Option ℤ) (text : Option (List ℕ)) (f : Fraction) → decimal_in n text ≡ Ok f → is_reduced f ≡ true
+pub decimal_in-reduced : (n : Option ℤ) (text : Option (List ℕ)) (f : Fraction) → decimal_in n text ≡ Ok f
+  → is_reduced f ≡ true
 decimal_in-reduced (Some n) text f e =
     let p = made_of-is whole_fraction (in_bounds n) f e in
     subst (λ (g : Fraction). is_reduced g ≡ true) p.2 (whole_fraction-reduced p.0 (in_bounds-fits n p.0 p.1))
@@ -125,14 +137,16 @@ money_in-fits None None z e = absurd (cc)
 day_number-IsDay : (y : ℤ) (m d : ℕ) → is_civil y m d ≡ true → IsDay (day_number y m d)
 day_number-IsDay y m d h =
     let civil = civil-is_civil y m d h in
-    let date : Date = record { year = y; month = m; day = d; year_in = civil.0.0; month_in = civil.0.1; day_in = civil.0.2 } in
+    let date : Date =
+      record { year = y; month = m; day = d; year_in = civil.0.0; month_in = civil.0.1; day_in = civil.0.2 } in
     subst IsDay (epoch_day-day_number date civil.1) (IsDay-epoch_day date civil.1)
 
 day_of_civil-IsDay : (y : ℤ) (m d : ℕ) (z : ℤ) → day_of_civil y m d ≡ Ok z → IsDay z
 unfolding day_of_civil
 day_of_civil-IsDay y m d z e = by (is_civil y m d) refl e
   where
-    by : (test : Bool) → is_civil y m d ≡ test → (if test then Ok (day_number y m d) else Err date_fault.NotADay) ≡ Ok z → IsDay z
+    by : (test : Bool) → is_civil y m d ≡ test → (if test then Ok (day_number y m d) else Err date_fault.NotADay) ≡ Ok z
+      → IsDay z
     by true h e = let same : day_number y m d ≡ z = cc in subst IsDay same (day_number-IsDay y m d h)
     by false h e = absurd (cc)
 
@@ -140,7 +154,8 @@ day_of_text-IsDay : (text : List ℕ) (z : ℤ) → day_of_text text ≡ Ok z �
 unfolding day_of_text
 day_of_text-IsDay text z e = by (bytes_eq (form_of text) (codes "0000-00-00")) _ _ _ e
   where
-    by : (test : Bool) (y : ℤ) (m d : ℕ) → (if test then day_of_civil y m d else Err date_fault.NotADay) ≡ Ok z → IsDay z
+    by : (test : Bool) (y : ℤ) (m d : ℕ) → (if test then day_of_civil y m d else Err date_fault.NotADay) ≡ Ok z
+      → IsDay z
     by true y m d e = day_of_civil-IsDay y m d z e
     by false y m d e = absurd (cc)
 
@@ -167,7 +182,8 @@ whole_part-fits None z e = absurd (cc)
 part_in-fits : (name : List ℕ) (d : Data) (z : ℤ) → part_in name d ≡ Ok z → fits z ≡ true
 part_in-fits name d z e = whole_part-fits (get name d) z (at_step-is _ (whole_part (get name d)) z e)
 
-span_of-is : (days months : Reading ℤ) (span : SpanOf) → span_of days months ≡ Ok span → (days ≡ Ok span.days) × (months ≡ Ok span.months)
+span_of-is : (days months : Reading ℤ) (span : SpanOf) → span_of days months ≡ Ok span → (days ≡ Ok span.days)
+  × (months ≡ Ok span.months)
 span_of-is (Ok d) (Ok m) span e =
     let same : record { months = m; days = d } ≡ span = cc in
     (ap (λ (s : SpanOf). Ok s.days) same, ap (λ (s : SpanOf). Ok s.months) same)

@@ -1,5 +1,6 @@
 -- Which bytes are read as inputs and values, and why others are refused.
-use Rattle.std.specs.Prelude.{◌≡◌, ℕ, Bool, true, false, if◌then◌else◌, List, [], ◌∷◌, Option, Some, None, Result, Ok, Err, slice_get}
+use Rattle.std.specs.Prelude.{◌≡◌, ℕ, Bool, true, false, if◌then◌else◌, List, [], ◌∷◌, Option, Some, None, Result, Ok}
+use Rattle.std.specs.Prelude.{Err, slice_get}
 use Rattle.std.specs.Str.{is_utf8}
 use Rattle.serde_json.specs.Data.{Data, Items, no_items, item, Members}
 use Rattle.serde_json.specs.Read.{read}
@@ -91,7 +92,8 @@ value_read ds t bytes = read_from (λ d. answered (read_as ds d t)) (json_of byt
 
 -- the input of a scope that bytes are
 abbrev pub input_read : Decls → ℕ → List ℕ → Result Input InputRefusal
-input_read ds scope bytes = read_from (λ d. answered (input_in ds (items_of (slice_get ds.scopes scope)) d)) (json_of bytes)
+input_read ds scope bytes = read_from (λ d. answered (input_in ds (items_of (slice_get ds.scopes scope)) d))
+  (json_of bytes)
 
 -- an input, or why it is refused, for each element of an array
 abbrev pub each_input : Decls → List ItemDecl → Items → List (Result Input InputRefusal)
@@ -105,7 +107,8 @@ array_inputs ds is (Some items) = Ok (each_input ds is items)
 
 -- the inputs of a scope that bytes are
 abbrev pub inputs_read : Decls → ℕ → List ℕ → Result (List (Result Input InputRefusal)) InputRefusal
-inputs_read ds scope bytes = read_from (λ d. array_inputs ds (items_of (slice_get ds.scopes scope)) (as_array d)) (json_of bytes)
+inputs_read ds scope bytes = read_from (λ d. array_inputs ds (items_of (slice_get ds.scopes scope)) (as_array d))
+  (json_of bytes)
 
 -- each input that is read is well typed for the scope
 unfoldable pub AreWellTyped : Decls → ℕ → List (Result Input InputRefusal) → Type 0

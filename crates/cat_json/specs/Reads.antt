@@ -1,8 +1,10 @@
 -- What JSON is read as a value of each type.
-use Rattle.std.specs.Prelude.{ℕ, suc, ◌*ℤ◌, ℤ, pos, nat_le, Bool, true, false, if◌then◌else◌, List, [], ◌∷◌, length, Option, Some, None, Ok, Err, codes, bytes_eq, slice_get}
+use Rattle.std.specs.Prelude.{ℕ, suc, ◌*ℤ◌, ℤ, pos, nat_le, Bool, true, false, if◌then◌else◌, List, [], ◌∷◌, length}
+use Rattle.std.specs.Prelude.{Option, Some, None, Ok, Err, codes, bytes_eq, slice_get}
 use Rattle.std.specs.Ordering.{nat_cmp, match_ordering}
 use Rattle.std.specs.Cmp.Lexicographic.{slice_cmp}
-use Rattle.serde_json.specs.Data.{Data, null, boolean, number, string, array, object, Items, no_items, item, Members, no_members, member}
+use Rattle.serde_json.specs.Data.{Data, null, boolean, number, string, array, object, Items, no_items, item, Members}
+use Rattle.serde_json.specs.Data.{no_members, member}
 use Rattle.serde_json.specs.Find.{as_bool, as_str, as_array, as_object, get}
 use Rattle.cat_num.specs.Frac.{Fraction}
 use Rattle.cat_date.specs.Span.{SpanOf}
@@ -85,7 +87,8 @@ part_in name d = at_step (Name name) (whole_part (get name d))
 -- the members `days` and `months`, and no others
 abbrev pub parts_in : Data → Option Members → Reading SpanOf
 parts_in d None = refused WrongForm
-parts_in d (Some ms) = with_no_others (codes "days" ∷ codes "months" ∷ []) ms (span_of (part_in (codes "days") d) (part_in (codes "months") d))
+parts_in d (Some ms) = with_no_others (codes "days" ∷ codes "months" ∷ []) ms
+  (span_of (part_in (codes "days") d) (part_in (codes "months") d))
 
 -- an object with the whole numbers `days` and `months`
 abbrev pub span_in : Data → Reading SpanOf
@@ -123,7 +126,8 @@ field_names (f ∷ fs) = f.name ∷ field_names fs
 
 -- an object with each field
 abbrev pub structure_in : Option (List Field) → Option Members → (List ℕ → Option Reader) → Reading Value
-structure_in (Some fs) (Some ms) members = made_of value.Structure (with_no_others (field_names fs) ms (fields_in members fs))
+structure_in (Some fs) (Some ms) members =
+  made_of value.Structure (with_no_others (field_names fs) ms (fields_in members fs))
 structure_in fs ms members = refused WrongForm
 
 -- the number of the first case of that name, counted from k, and its content or that it has none
@@ -167,7 +171,8 @@ read_level ds d elements members Ty-F.Date = made_of Date (text_in day_in (as_st
 read_level ds d elements members Ty-F.Duration = made_of Duration (span_in d)
 read_level ds d elements members (Ty-F.List t) = list_in (as_array d) elements t
 read_level ds d elements members (Ty-F.Structure n) = structure_in (fields_of ds n) (as_object d) members
-read_level ds d elements members (Ty-F.Enumeration n) = case_in (slice_get ds.enumerations n) (as_str d) (as_object d) members
+read_level ds d elements members (Ty-F.Enumeration n) =
+  case_in (slice_get ds.enumerations n) (as_str d) (as_object d) members
 
 -- what has no members
 abbrev pub none_named : List ℕ → Option Reader
@@ -191,7 +196,8 @@ abbrev mutual
   -- what the member of a name is read as, where there is one
   pub members_of : Decls → Members → List ℕ → Option Reader
   members_of ds no_members name = None
-  members_of ds (member key d ms) name = match_ordering (slice_cmp nat_cmp name key) (members_of ds ms name) (Some (read_as ds d)) (members_of ds ms name)
+  members_of ds (member key d ms) name =
+    match_ordering (slice_cmp nat_cmp name key) (members_of ds ms name) (Some (read_as ds d)) (members_of ds ms name)
 
 -- what the elements are read as; there are none where it is no array
 abbrev pub data_elements : Decls → Data → List Reader

@@ -1,5 +1,7 @@
 -- What JSON is read as numbers, amounts, dates and durations.
-use Rattle.std.specs.Prelude.{ℕ, ◌-◌, ◌*◌, ◌^◌, ◌==◌, nat_le, nat_lt, ℤ, Bool, true, false, ◌&&◌, if◌then◌else◌, List, [], ◌∷◌, ◌++◌, length, Option, Some, None, option_and_then, Result, Ok, Err, codes, bytes_eq}
+use Rattle.std.specs.Prelude.{ℕ, ◌-◌, ◌*◌, ◌^◌, ◌==◌, nat_le, nat_lt, ℤ, Bool, true, false, ◌&&◌, if◌then◌else◌, List}
+use Rattle.std.specs.Prelude.{[], ◌∷◌, ◌++◌, length, Option, Some, None, option_and_then, Result, Ok, Err, codes}
+use Rattle.std.specs.Prelude.{bytes_eq}
 use Rattle.std.specs.Str.{all_ascii_digits}
 use Rattle.serde_json.specs.Data.{Data}
 use Rattle.serde_json.specs.Find.{as_number, as_integer}
@@ -94,7 +96,8 @@ cents_of (plain whole) = number_after 0 whole * 100
 -- the fraction of a numeral, by its parts
 abbrev pub fraction_of : Bool → Numeral → Result Fraction NumFault
 fraction_of negative (quotient num den) = ratio (signed negative (number_after 0 num)) (number_after 0 den)
-fraction_of negative (pointed whole places) = ratio (signed negative (number_after 0 (whole ++ places))) (10 ^ length places)
+fraction_of negative (pointed whole places) =
+  ratio (signed negative (number_after 0 (whole ++ places))) (10 ^ length places)
 fraction_of negative (plain whole) = ratio (signed negative (number_after 0 whole)) 1
 
 -- a fraction, where it fits

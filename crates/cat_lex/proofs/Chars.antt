@@ -1,9 +1,11 @@
 -- One character more in front of a text.
-use Rattle.std.proofs.Common.{◌≡◌, ℕ, ◌<◌, ◌-◌, Bool, true, false, cond, List, [], ◌∷◌, ◌++◌, length, refl, sym, ap, ◌∙◌, subst, arith}
+use Rattle.std.proofs.Common.{◌≡◌, ℕ, ◌<◌, ◌-◌, Bool, true, false, cond, List, [], ◌∷◌, ◌++◌, length, refl, sym, ap}
+use Rattle.std.proofs.Common.{◌∙◌, subst, arith}
 use Rattle.std.specs.Prelude.{None}
 use Rattle.std.specs.Char.{encode_utf8}
 use Rattle.std.specs.Str.{encode_utf8_all, chars, IsUtf8, IsCharBoundary}
-use Rattle.std.proofs.lemmas.Str.{chars-nil, chars_past_char, encodes-chars, encodes-append, length-encode, len_utf8_bounds, IsCharBoundary-at_seam}
+use Rattle.std.proofs.lemmas.Str.{chars-nil, chars_past_char, encodes-chars, encodes-append, length-encode}
+use Rattle.std.proofs.lemmas.Str.{len_utf8_bounds, IsCharBoundary-at_seam}
 use Rattle.std.proofs.lemmas.List.{length-append}
 use Rattle.cat_lex.specs.Reading.{skip, after, word_read}
 

@@ -1,5 +1,7 @@
 -- The form of a date, byte by byte.
-use Rattle.std.proofs.Common.{◌≡◌, ◌≢◌, ℕ, suc, ◌+◌, ◌<◌, Bool, true, false, ◌&&◌, ◌==◌, if◌then◌else◌, List, [], ◌∷◌, length, take, drop, get_or, drop-cons, add-one, codes, bytes_eq, refl, sym, ap, ◌∙◌, arith}
+use Rattle.std.proofs.Common.{◌≡◌, ◌≢◌, ℕ, suc, ◌+◌, ◌<◌, Bool, true, false, ◌&&◌, ◌==◌, if◌then◌else◌, List, [], ◌∷◌}
+use Rattle.std.proofs.Common.{length, take, drop, get_or, drop-cons, add-one, codes, bytes_eq, refl, sym, ap, ◌∙◌}
+use Rattle.std.proofs.Common.{arith}
 use Rattle.std.proofs.lemmas.Bool.Decides.{nat_tests}
 use Rattle.std.proofs.lemmas.Slice.Eq.{bytes_eq-Decides}
 use Rattle.std.specs.Char.{is_ascii_digit}
@@ -38,15 +40,20 @@ goes_on x y b same = grind (arith, nat_tests)
 stops : (x y : ℕ) (b : Bool) → x ≢ y → false ≡ ((x == y) && b)
 stops x y b apart = grind (arith, nat_tests)
 
-pub date_goes_on : (text : List ℕ) (i form : ℕ) → i < length text → i < 12 → form ≡ zeroed (get_or text i 0) → form ≡ get_or date i 0
+pub date_goes_on : (text : List ℕ) (i form : ℕ) → i < length text → i < 12 → form ≡ zeroed (get_or text i 0)
+  → form ≡ get_or date i 0
     → bytes_eq (form_of (drop (i + 1) text)) (drop (i + 1) date) ≡ bytes_eq (form_of (drop i text)) (drop i date)
-date_goes_on text i form within short is same = goes_on (zeroed (get_or text i 0)) (get_or date i 0) _ (sym is ∙ same) ∙ sym (step text i within short)
+date_goes_on text i form within short is same = goes_on (zeroed (get_or text i 0)) (get_or date i 0) _ (sym is ∙ same)
+  ∙ sym (step text i within short)
 
-pub date_stops : (text : List ℕ) (i form : ℕ) → i < length text → i < 12 → form ≡ zeroed (get_or text i 0) → form ≢ get_or date i 0
+pub date_stops : (text : List ℕ) (i form : ℕ) → i < length text → i < 12 → form ≡ zeroed (get_or text i 0)
+  → form ≢ get_or date i 0
     → false ≡ bytes_eq (form_of (drop i text)) (drop i date)
-date_stops text i form within short is apart = stops (zeroed (get_or text i 0)) (get_or date i 0) _ (λ e. apart (is ∙ e)) ∙ sym (step text i within short)
+date_stops text i form within short is apart =
+  stops (zeroed (get_or text i 0)) (get_or date i 0) _ (λ e. apart (is ∙ e)) ∙ sym (step text i within short)
 
-other_length : (text : List ℕ) (b : Bool) → bytes_eq (form_of text) (codes "0000-00-00") ≡ b → length text < 10 → b ≡ false
+other_length : (text : List ℕ) (b : Bool) → bytes_eq (form_of text) (codes "0000-00-00") ≡ b → length text < 10
+  → b ≡ false
 other_length text false is low = refl
 other_length text true is low =
     let same : form_of text ≡ codes "0000-00-00" = (bytes_eq-Decides _ _).0 is in
@@ -58,5 +65,6 @@ pub short_no_day : (word : List ℕ) → length word < 11 → result_ok (day_of_
 unfolding day_of_text
 short_no_day word low =
     let few : length (take 10 (drop 1 word)) < 10 = omega (arith, length-take 10 (drop 1 word), length-drop 1 word) in
-    let other : bytes_eq (form_of (take 10 (drop 1 word))) (codes "0000-00-00") ≡ false = other_length (take 10 (drop 1 word)) _ refl few in
+    let other : bytes_eq (form_of (take 10 (drop 1 word))) (codes "0000-00-00") ≡ false =
+      other_length (take 10 (drop 1 word)) _ refl few in
     rw other refl

@@ -25,7 +25,8 @@ unfolding is_utf8 chars encode_utf8 unicode_ident symbols double_keywords
 computing = tt
 
 -- this form comes first in the text, and leaves this rest
-first : (form : Form) (text rest : List ℕ) → is_utf8 text ≡ true → read text ≡ Some (form, rest) → IsFront form text rest
+first : (form : Form) (text rest : List ℕ) → is_utf8 text ≡ true → read text ≡ Some (form, rest)
+  → IsFront form text rest
 first form text rest utf8 is = read_longest form text rest (IsUtf8-from_is_utf8 text utf8) is
 
 nothing : (text : List ℕ) → is_utf8 text ≡ true → read text ≡ None → BeginsNoToken text

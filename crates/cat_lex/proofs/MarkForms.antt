@@ -1,5 +1,6 @@
 -- Symbols and dates: what is read has its form, and goes as far as any symbol or date that begins there.
-use Rattle.std.proofs.Common.{◌≡◌, ℕ, Bool, true, false, cond, List, [], ◌∷◌, ◌++◌, length, take, drop, refl, sym, ap, ◌∙◌, subst, inl, inr, arith}
+use Rattle.std.proofs.Common.{◌≡◌, ℕ, Bool, true, false, cond, List, [], ◌∷◌, ◌++◌, length, take, drop, refl, sym, ap}
+use Rattle.std.proofs.Common.{◌∙◌, subst, inl, inr, arith}
 use Rattle.std.specs.Prelude.{Option, Some, None, codes, bytes_eq, if◌then◌else◌}
 use Rattle.std.specs.Char.{is_ascii_digit}
 use Rattle.std.proofs.lemmas.Bool.Decides.{nat_tests}
@@ -22,11 +23,13 @@ abbrev pub IsSound : List ℕ → Option (Form × List ℕ) → Type 0
 IsSound text None = Unit {0}
 IsSound text (Some found) = IsRead found.0 text found.1
 
-longer_or : (s : Symbol) (c : ℕ) (rest : List ℕ) (o : Option Symbol) → Reaches (Mark s) (c ∷ rest) (mark_or o rest (Some (Mark s, c ∷ rest)))
+longer_or : (s : Symbol) (c : ℕ) (rest : List ℕ) (o : Option Symbol) → Reaches (Mark s) (c ∷ rest)
+  (mark_or o rest (Some (Mark s, c ∷ rest)))
 longer_or s c rest None = inl refl
 longer_or s c rest (Some t) = inr (omega arith)
 
-reaches_by : (s : Symbol) (word rest : List ℕ) → is_mark_text word ≡ true → symbol_of word ≡ Some s → Reaches (Mark s) rest (mark_read (word ++ rest))
+reaches_by : (s : Symbol) (word rest : List ℕ) → is_mark_text word ≡ true → symbol_of word ≡ Some s
+  → Reaches (Mark s) rest (mark_read (word ++ rest))
 reaches_by s [] rest shape h = cc
 reaches_by s (c ∷ []) [] shape h = rw h (inl refl)
 reaches_by s (c ∷ []) (d ∷ rest) shape h = rw h (longer_or s d rest (symbol_of (c ∷ d ∷ [])))
@@ -36,10 +39,12 @@ reaches_by s (c ∷ d ∷ e ∷ cs) rest shape h = cc
 pub mark_shape : (s : Symbol) (word : List ℕ) → symbol_of word ≡ Some s → is_mark_text word ≡ true
 mark_shape s word h = found is_mark_text symbols word s symbols_fit h
 
-pub mark_goes : (s : Symbol) (word rest : List ℕ) → symbol_of word ≡ Some s → Reaches (Mark s) rest (mark_read (word ++ rest))
+pub mark_goes : (s : Symbol) (word rest : List ℕ) → symbol_of word ≡ Some s
+  → Reaches (Mark s) rest (mark_read (word ++ rest))
 mark_goes s word rest h = reaches_by s word rest (mark_shape s word h) h
 
-sound_by : (word rest text : List ℕ) (o : Option Symbol) (other : Option (Form × List ℕ)) → symbol_of word ≡ o → text ≡ word ++ rest → IsSound text other → IsSound text (mark_or o rest other)
+sound_by : (word rest text : List ℕ) (o : Option Symbol) (other : Option (Form × List ℕ)) → symbol_of word ≡ o
+  → text ≡ word ++ rest → IsSound text other → IsSound text (mark_or o rest other)
 sound_by word rest text None other h split more = more
 sound_by word rest text (Some s) other h split more = record { word = word; split = split; formed = h }
 
@@ -50,20 +55,26 @@ mark_sound (c ∷ d ∷ rest) =
     sound_by (c ∷ d ∷ []) rest (c ∷ d ∷ rest) (symbol_of (c ∷ d ∷ [])) _ refl refl
     (sound_by (c ∷ []) (d ∷ rest) (c ∷ d ∷ rest) (symbol_of (c ∷ [])) None refl refl tt)
 
-date_split : (word rest : List ℕ) → form_of word ≡ codes "|0000-00-00|" → (take 12 (word ++ rest) ≡ word) × (drop 12 (word ++ rest) ≡ rest)
+date_split : (word rest : List ℕ) → form_of word ≡ codes "|0000-00-00|" → (take 12 (word ++ rest) ≡ word)
+  × (drop 12 (word ++ rest) ≡ rest)
 date_split word rest h =
     let long : length word ≡ 12 = sym (length-form_of word) ∙ ap (λ (w : List ℕ). length w) h in
-    (subst (λ (n : ℕ). take n (word ++ rest) ≡ word) long (take-append_seam word rest), subst (λ (n : ℕ). drop n (word ++ rest) ≡ rest) long (drop-append_seam word rest))
+    (subst (λ (n : ℕ). take n (word ++ rest) ≡ word) long (take-append_seam word rest),
+      subst (λ (n : ℕ). drop n (word ++ rest) ≡ rest) long (drop-append_seam word rest))
 
-pub date_goes : (word rest : List ℕ) → form_of word ≡ codes "|0000-00-00|" → Reaches Date rest (date_read (word ++ rest))
+pub date_goes : (word rest : List ℕ) → form_of word ≡ codes "|0000-00-00|"
+  → Reaches Date rest (date_read (word ++ rest))
 date_goes word rest h =
     let parts = date_split word rest h in
-    let same : bytes_eq (form_of (take 12 (word ++ rest))) (codes "|0000-00-00|") ≡ true = (bytes_eq-Decides _ _).1 (ap form_of parts.0 ∙ h) in
+    let same : bytes_eq (form_of (take 12 (word ++ rest))) (codes "|0000-00-00|") ≡ true =
+      (bytes_eq-Decides _ _).1 (ap form_of parts.0 ∙ h) in
     rw same (inl (ap (λ (w : List ℕ). (Date, w)) parts.1))
 
-date_by : (text : List ℕ) (b : Bool) → bytes_eq (form_of (take 12 text)) (codes "|0000-00-00|") ≡ b → IsSound text (cond b (Some (Date, drop 12 text)) None)
+date_by : (text : List ℕ) (b : Bool) → bytes_eq (form_of (take 12 text)) (codes "|0000-00-00|") ≡ b
+  → IsSound text (cond b (Some (Date, drop 12 text)) None)
 date_by text false h = tt
-date_by text true h = record { word = take 12 text; split = sym (take-append-drop 12 text); formed = (bytes_eq-Decides _ _).0 h }
+date_by text true h =
+  record { word = take 12 text; split = sym (take-append-drop 12 text); formed = (bytes_eq-Decides _ _).0 h }
 
 pub date_sound : (text : List ℕ) → IsSound text (date_read text)
 date_sound text = date_by text (bytes_eq (form_of (take 12 text)) (codes "|0000-00-00|")) refl

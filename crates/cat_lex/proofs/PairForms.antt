@@ -1,5 +1,6 @@
 -- Double keywords: they are read wherever they stand.
-use Rattle.std.proofs.Common.{◌≡◌, ◌≢◌, ℕ, Bool, true, false, not, ◌&&◌, ltb, List, [], ◌∷◌, ◌++◌, refl, sym, ap, ◌∙◌, subst, inl, arith, append_assoc}
+use Rattle.std.proofs.Common.{◌≡◌, ◌≢◌, ℕ, Bool, true, false, not, ◌&&◌, ltb, List, [], ◌∷◌, ◌++◌, refl, sym, ap, ◌∙◌}
+use Rattle.std.proofs.Common.{subst, inl, arith, append_assoc}
 use Rattle.std.specs.Prelude.{Some}
 use Rattle.std.specs.Char.{is_ascii_lowercase}
 use Rattle.std.specs.List.{list_all}
@@ -17,7 +18,9 @@ use Rattle.cat_lex.specs.Reading.{skip, begins, after, front_of, pair_read, word
 use Rattle.cat_lex.proofs.Skips.{and_left, and_right, and_true, all_append, skip-append, skip_stays}
 use Rattle.cat_lex.proofs.Listed.{found_pair, is_small_word, double_keywords_fit}
 use Rattle.cat_lex.proofs.Goes.{Reaches}
-use Rattle.cat_lex.proofs.Characters.{bytes_of, scalars_append, after_chars, peel, ascii_chars, weaken, small_ascii, blank_ascii, small_continues, small_starts, blank_ends, small_no_capital, small_no_blank, front_is}
+use Rattle.cat_lex.proofs.Characters.{bytes_of, scalars_append, after_chars, peel, ascii_chars, weaken, small_ascii}
+use Rattle.cat_lex.proofs.Characters.{blank_ascii, small_continues, small_starts, blank_ends, small_no_capital}
+use Rattle.cat_lex.proofs.Characters.{small_no_blank, front_is}
 use Rattle.cat_lex.proofs.WordForms.{name_read, bytes_blank}
 
 -- the words that are listed
@@ -35,12 +38,15 @@ small_some : (word : List ℕ) → is_small_word word ≡ true → word ≢ []
 small_some [] h = λ e. cc
 small_some (c ∷ cs) h = λ e. cc
 
-listed_small : (first second : List ℕ) (keyword : DoubleKeyword) → double_keyword_of first second ≡ Some keyword → AreSmall first second
+listed_small : (first second : List ℕ) (keyword : DoubleKeyword) → double_keyword_of first second ≡ Some keyword
+  → AreSmall first second
 listed_small first second keyword listed =
-    let both : (is_small_word first && is_small_word second) ≡ true = found_pair is_small_word double_keywords first second keyword double_keywords_fit listed in
+    let both : (is_small_word first && is_small_word second) ≡ true =
+      found_pair is_small_word double_keywords first second keyword double_keywords_fit listed in
     let one : is_small_word first ≡ true = and_left _ _ both in
     let other : is_small_word second ≡ true = and_right _ _ both in
-    record { one = small_all first one; other = small_all second other; some = small_some first one; more = small_some second other }
+    record { one = small_all first one; other = small_all second other; some = small_some first one; more =
+      small_some second other }
 
 -- the characters of what is whole stay
 whole_stays : (es : List ℕ) → IsWhole (bytes_of es) → skip is_xid_continue es ≡ es
@@ -51,7 +57,8 @@ all_some : (p : ℕ → Bool) (cs : List ℕ) (tail : List ℕ) → cs ≢ [] �
 all_some p [] tail some h = absurd (some refl)
 all_some p (c ∷ cs) tail some h = and_left _ _ h
 
-none_begins : (p q : ℕ → Bool) → ((c : ℕ) → p c ≡ true → q c ≡ false) → (cs : List ℕ) → begins p cs ≡ true → begins q cs ≡ false
+none_begins : (p q : ℕ → Bool) → ((c : ℕ) → p c ≡ true → q c ≡ false) → (cs : List ℕ) → begins p cs ≡ true
+  → begins q cs ≡ false
 none_begins p q other [] h = refl
 none_begins p q other (c ∷ cs) h = other c h
 
@@ -64,20 +71,30 @@ record HasEnds (keyword : DoubleKeyword) (first blanks second es : List ℕ) : T
   whole : skip is_xid_continue es ≡ es
   scalars : all_scalars (blanks ++ (second ++ es)) ≡ true
 
-first_rest : {keyword : DoubleKeyword} (first blanks second es : List ℕ) → HasEnds keyword first blanks second es → skip is_xid_continue (blanks ++ (second ++ es)) ≡ blanks ++ (second ++ es)
+first_rest : {keyword : DoubleKeyword} (first blanks second es : List ℕ) → HasEnds keyword first blanks second es
+  → skip is_xid_continue (blanks ++ (second ++ es)) ≡ blanks ++ (second ++ es)
 first_rest first blanks second es h =
-    skip_stays is_xid_continue (blanks ++ (second ++ es)) (none_begins is_blank is_xid_continue blank_ends (blanks ++ (second ++ es)) (all_some is_blank blanks (second ++ es) h.some h.blank))
+    skip_stays is_xid_continue (blanks ++ (second ++ es))
+      (none_begins is_blank is_xid_continue blank_ends (blanks ++ (second ++ es))
+      (all_some is_blank blanks (second ++ es) h.some h.blank))
 
-second_rest : {keyword : DoubleKeyword} (first blanks second es : List ℕ) → HasEnds keyword first blanks second es → skip is_blank (blanks ++ (second ++ es)) ≡ second ++ es
+second_rest : {keyword : DoubleKeyword} (first blanks second es : List ℕ) → HasEnds keyword first blanks second es
+  → skip is_blank (blanks ++ (second ++ es)) ≡ second ++ es
 second_rest first blanks second es h =
-    skip-append is_blank blanks (second ++ es) h.blank ∙ skip_stays is_blank (second ++ es) (none_begins is_ascii_lowercase is_blank small_no_blank (second ++ es) (all_some is_ascii_lowercase second es h.small.more h.small.other))
+    skip-append is_blank blanks (second ++ es) h.blank ∙ skip_stays is_blank (second ++ es)
+      (none_begins is_ascii_lowercase is_blank small_no_blank (second ++ es)
+      (all_some is_ascii_lowercase second es h.small.more h.small.other))
 
-end_rest : {keyword : DoubleKeyword} (first blanks second es : List ℕ) → HasEnds keyword first blanks second es → skip is_xid_continue (second ++ es) ≡ es
+end_rest : {keyword : DoubleKeyword} (first blanks second es : List ℕ) → HasEnds keyword first blanks second es
+  → skip is_xid_continue (second ++ es) ≡ es
 end_rest first blanks second es h =
-    skip-append is_xid_continue second es (weaken is_ascii_lowercase is_xid_continue small_continues second h.small.other) ∙ h.whole
+    skip-append is_xid_continue second es (weaken is_ascii_lowercase is_xid_continue small_continues second
+      h.small.other) ∙ h.whole
 
-pair_is : (keyword : DoubleKeyword) (text rest second end : List ℕ) → begins is_blank rest ≡ true → after is_blank rest ≡ second → after is_xid_continue second ≡ end
-    → double_keyword_of (front_of text rest) (front_of second end) ≡ Some keyword → pair_read text rest ≡ (Pair keyword, end)
+pair_is : (keyword : DoubleKeyword) (text rest second end : List ℕ) → begins is_blank rest ≡ true
+  → after is_blank rest ≡ second → after is_xid_continue second ≡ end
+    → double_keyword_of (front_of text rest) (front_of second end) ≡ Some keyword
+      → pair_read text rest ≡ (Pair keyword, end)
 pair_is keyword text rest second end b one two listed =
     rw b (rw one (rw two (rw listed refl)))
 
@@ -87,40 +104,60 @@ ascii_small cs h = ascii_chars cs (weaken is_ascii_lowercase (λ c. ltb c 128) s
 small_name : (c : ℕ) → is_ascii_lowercase c ≡ true → begins_name c ≡ true
 small_name c h = and_true (is_xid_start c) _ (small_starts c h) (ap not (small_no_capital c h))
 
-pair_chars : (keyword : DoubleKeyword) (first blanks second es : List ℕ) → HasEnds keyword first blanks second es → all_scalars (first ++ (blanks ++ (second ++ es))) ≡ true
+pair_chars : (keyword : DoubleKeyword) (first blanks second es : List ℕ) → HasEnds keyword first blanks second es
+  → all_scalars (first ++ (blanks ++ (second ++ es))) ≡ true
     → word_read (bytes_of (first ++ (blanks ++ (second ++ es)))) ≡ Some (Pair keyword, bytes_of es)
 pair_chars keyword [] blanks second es h all = absurd (h.small.some refl)
 pair_chars keyword (c ∷ others) blanks second es h all =
-    let named = name_read c others (blanks ++ (second ++ es)) all (small_name c (and_left _ _ h.small.one)) (weaken is_ascii_lowercase is_xid_continue small_continues others (and_right _ _ h.small.one)) in
-    let stays : bytes_of (skip is_xid_continue (blanks ++ (second ++ es))) ≡ bytes_of (blanks ++ (second ++ es)) = ap (λ (w : List ℕ). bytes_of w) (first_rest (c ∷ others) blanks second es h) in
-    let begun : begins is_blank (bytes_of (blanks ++ (second ++ es))) ≡ true = bytes_blank (blanks ++ (second ++ es)) (all_some is_blank blanks (second ++ es) h.some h.blank) in
+    let named = name_read c others (blanks ++ (second ++ es)) all (small_name c (and_left _ _ h.small.one))
+      (weaken is_ascii_lowercase is_xid_continue small_continues others (and_right _ _ h.small.one)) in
+    let stays : bytes_of (skip is_xid_continue (blanks ++ (second ++ es))) ≡ bytes_of (blanks ++ (second ++ es)) =
+      ap (λ (w : List ℕ). bytes_of w) (first_rest (c ∷ others) blanks second es h) in
+    let begun : begins is_blank (bytes_of (blanks ++ (second ++ es))) ≡ true =
+      bytes_blank (blanks ++ (second ++ es)) (all_some is_blank blanks (second ++ es) h.some h.blank) in
     let one : after is_blank (bytes_of (blanks ++ (second ++ es))) ≡ bytes_of (second ++ es) =
-    after_chars is_blank (blanks ++ (second ++ es)) h.scalars ∙ ap (λ (w : List ℕ). bytes_of w) (second_rest (c ∷ others) blanks second es h) in
+    after_chars is_blank (blanks ++ (second ++ es)) h.scalars ∙ ap (λ (w : List ℕ). bytes_of w)
+      (second_rest (c ∷ others) blanks second es h) in
     let two : after is_xid_continue (bytes_of (second ++ es)) ≡ bytes_of es =
-    after_chars is_xid_continue (second ++ es) (scalars_append blanks (second ++ es) h.scalars) ∙ ap (λ (w : List ℕ). bytes_of w) (end_rest (c ∷ others) blanks second es h) in
-    let front : front_of (bytes_of ((c ∷ others) ++ (blanks ++ (second ++ es)))) (bytes_of (blanks ++ (second ++ es))) ≡ c ∷ others =
-    ap (λ (w : List ℕ). front_of w (bytes_of (blanks ++ (second ++ es)))) (encodes-append (c ∷ others) (blanks ++ (second ++ es)))
+    after_chars is_xid_continue (second ++ es) (scalars_append blanks (second ++ es) h.scalars)
+      ∙ ap (λ (w : List ℕ). bytes_of w) (end_rest (c ∷ others) blanks second es h) in
+    let front : front_of (bytes_of ((c ∷ others) ++ (blanks ++ (second ++ es)))) (bytes_of (blanks ++ (second ++ es)))
+      ≡ c ∷ others =
+    ap (λ (w : List ℕ). front_of w (bytes_of (blanks ++ (second ++ es))))
+      (encodes-append (c ∷ others) (blanks ++ (second ++ es)))
     ∙ (front_is (bytes_of (c ∷ others)) (bytes_of (blanks ++ (second ++ es))) ∙ ascii_small (c ∷ others) h.small.one) in
     let back : front_of (bytes_of (second ++ es)) (bytes_of es) ≡ second =
-    ap (λ (w : List ℕ). front_of w (bytes_of es)) (encodes-append second es) ∙ (front_is (bytes_of second) (bytes_of es) ∙ ascii_small second h.small.other) in
-    let listed : double_keyword_of (front_of (bytes_of ((c ∷ others) ++ (blanks ++ (second ++ es)))) (bytes_of (blanks ++ (second ++ es)))) (front_of (bytes_of (second ++ es)) (bytes_of es)) ≡ Some keyword =
-    ap (λ (w : List ℕ). double_keyword_of w (front_of (bytes_of (second ++ es)) (bytes_of es))) front ∙ (ap (λ (w : List ℕ). double_keyword_of (c ∷ others) w) back ∙ h.listed) in
-    let paired = pair_is keyword (bytes_of ((c ∷ others) ++ (blanks ++ (second ++ es)))) (bytes_of (blanks ++ (second ++ es))) (bytes_of (second ++ es)) (bytes_of es) begun one two listed in
-    named ∙ (ap (λ (w : List ℕ). Some (pair_read (bytes_of ((c ∷ others) ++ (blanks ++ (second ++ es)))) w)) stays ∙ ap (λ (w : Form × List ℕ). Some w) paired)
+    ap (λ (w : List ℕ). front_of w (bytes_of es)) (encodes-append second es)
+      ∙ (front_is (bytes_of second) (bytes_of es) ∙ ascii_small second h.small.other) in
+    let listed : double_keyword_of (front_of (bytes_of ((c ∷ others) ++ (blanks ++ (second ++ es))))
+      (bytes_of (blanks ++ (second ++ es)))) (front_of (bytes_of (second ++ es)) (bytes_of es)) ≡ Some keyword =
+    ap (λ (w : List ℕ). double_keyword_of w (front_of (bytes_of (second ++ es)) (bytes_of es))) front
+      ∙ (ap (λ (w : List ℕ). double_keyword_of (c ∷ others) w) back ∙ h.listed) in
+    let paired = pair_is keyword (bytes_of ((c ∷ others) ++ (blanks ++ (second ++ es))))
+      (bytes_of (blanks ++ (second ++ es))) (bytes_of (second ++ es)) (bytes_of es) begun one two listed in
+    named ∙ (ap (λ (w : List ℕ). Some (pair_read (bytes_of ((c ∷ others) ++ (blanks ++ (second ++ es)))) w)) stays
+      ∙ ap (λ (w : Form × List ℕ). Some w) paired)
 
-pub pair_low : (keyword : DoubleKeyword) (word rest : List ℕ) (pair : IsPair keyword word rest) → list_all (λ c. ltb c 128) (pair.first ++ (pair.blanks ++ pair.second)) ≡ true
+pub pair_low : (keyword : DoubleKeyword) (word rest : List ℕ) (pair : IsPair keyword word rest)
+  → list_all (λ c. ltb c 128) (pair.first ++ (pair.blanks ++ pair.second)) ≡ true
 pair_low keyword word rest pair =
     let small = listed_small pair.first pair.second keyword pair.listed in
-    all_append (λ c. ltb c 128) pair.first (pair.blanks ++ pair.second) (weaken is_ascii_lowercase (λ c. ltb c 128) small_ascii pair.first small.one)
-    (all_append (λ c. ltb c 128) pair.blanks pair.second (weaken is_blank (λ c. ltb c 128) blank_ascii pair.blanks pair.blank) (weaken is_ascii_lowercase (λ c. ltb c 128) small_ascii pair.second small.other))
+    all_append (λ c. ltb c 128) pair.first (pair.blanks ++ pair.second)
+      (weaken is_ascii_lowercase (λ c. ltb c 128) small_ascii pair.first small.one)
+    (all_append (λ c. ltb c 128) pair.blanks pair.second (weaken is_blank (λ c. ltb c 128) blank_ascii pair.blanks
+      pair.blank) (weaken is_ascii_lowercase (λ c. ltb c 128) small_ascii pair.second small.other))
 
-pub pair_goes : (keyword : DoubleKeyword) (word rest : List ℕ) → IsPair keyword word rest → IsUtf8 (word ++ rest) → Reaches (Pair keyword) rest (word_read (word ++ rest))
+pub pair_goes : (keyword : DoubleKeyword) (word rest : List ℕ) → IsPair keyword word rest → IsUtf8 (word ++ rest)
+  → Reaches (Pair keyword) rest (word_read (word ++ rest))
 pair_goes keyword word rest pair utf8 =
     let small = listed_small pair.first pair.second keyword pair.listed in
-    let spelled : word ≡ bytes_of (pair.first ++ (pair.blanks ++ pair.second)) = pair.spelled ∙ sym (ascii_chars (pair.first ++ (pair.blanks ++ pair.second)) (pair_low keyword word rest pair)) in
-    let rested = peel (pair.first ++ (pair.blanks ++ pair.second)) utf8.0 rest (utf8.1.1 ∙ ap (λ (w : List ℕ). w ++ rest) spelled) in
+    let spelled : word ≡ bytes_of (pair.first ++ (pair.blanks ++ pair.second)) =
+      pair.spelled ∙ sym (ascii_chars (pair.first ++ (pair.blanks ++ pair.second)) (pair_low keyword word rest pair)) in
+    let rested = peel (pair.first ++ (pair.blanks ++ pair.second)) utf8.0 rest
+      (utf8.1.1 ∙ ap (λ (w : List ℕ). w ++ rest) spelled) in
     let split : utf8.0 ≡ pair.first ++ (pair.blanks ++ (pair.second ++ rested.0)) = rested.1 ∙ simp append_assoc in
-    let all : all_scalars (pair.first ++ (pair.blanks ++ (pair.second ++ rested.0))) ≡ true = ap all_scalars (sym split) ∙ utf8.1.0 in
+    let all : all_scalars (pair.first ++ (pair.blanks ++ (pair.second ++ rested.0))) ≡ true =
+      ap all_scalars (sym split) ∙ utf8.1.0 in
     let whole : IsWhole (bytes_of rested.0) = subst (λ (w : List ℕ). IsWhole w) (sym rested.2) pair.whole in
     let ends : HasEnds keyword pair.first pair.blanks pair.second rested.0 = record {
       small = small;
@@ -132,20 +169,24 @@ pair_goes keyword word rest pair utf8 =
     } in
     let is : word_read (word ++ rest) ≡ Some (Pair keyword, rest) =
     ap word_read (sym utf8.1.1 ∙ ap (λ (w : List ℕ). bytes_of w) split)
-    ∙ (pair_chars keyword pair.first pair.blanks pair.second rested.0 ends all ∙ ap (λ (w : List ℕ). Some (Pair keyword, w)) rested.2) in
+    ∙ (pair_chars keyword pair.first pair.blanks pair.second rested.0 ends all
+      ∙ ap (λ (w : List ℕ). Some (Pair keyword, w)) rested.2) in
     subst (Reaches (Pair keyword) rest) (sym is) (inl refl)
 
 small_word_byte : (c : ℕ) → is_ascii_lowercase c ≡ true → is_word_byte c ≡ true
 small_word_byte c h = grind (arith, nat_tests)
 
-begins_small : (first tail : List ℕ) → first ≢ [] → list_all is_ascii_lowercase first ≡ true → begins is_word_byte (first ++ tail) ≡ true
+begins_small : (first tail : List ℕ) → first ≢ [] → list_all is_ascii_lowercase first ≡ true
+  → begins is_word_byte (first ++ tail) ≡ true
 begins_small [] tail some h = absurd (some refl)
 begins_small (c ∷ cs) tail some h = small_word_byte c (and_left _ _ h)
 
-pub pair_begins : (keyword : DoubleKeyword) (word rest : List ℕ) → IsPair keyword word rest → begins is_word_byte (word ++ rest) ≡ true
+pub pair_begins : (keyword : DoubleKeyword) (word rest : List ℕ) → IsPair keyword word rest
+  → begins is_word_byte (word ++ rest) ≡ true
 pair_begins keyword word rest pair =
     let small = listed_small pair.first pair.second keyword pair.listed in
-    let split : word ++ rest ≡ pair.first ++ ((pair.blanks ++ pair.second) ++ rest) = ap (λ (w : List ℕ). w ++ rest) pair.spelled ∙ append_assoc pair.first (pair.blanks ++ pair.second) rest in
+    let split : word ++ rest ≡ pair.first ++ ((pair.blanks ++ pair.second) ++ rest) =
+      ap (λ (w : List ℕ). w ++ rest) pair.spelled ∙ append_assoc pair.first (pair.blanks ++ pair.second) rest in
     ap (begins is_word_byte) split ∙ begins_small pair.first ((pair.blanks ++ pair.second) ++ rest) small.some small.one
 
 pub pair_some : (keyword : DoubleKeyword) (word rest : List ℕ) (pair : IsPair keyword word rest) → pair.first ≢ []

@@ -1,5 +1,6 @@
 -- One token of a piece after the other.
-use Rattle.std.proofs.Common.{◌≡◌, ◌≢◌, ℕ, ◌==◌, Bool, false, List, [], ◌∷◌, ◌++◌, ◌<◌, ◌+◌, take, drop, get_or, drop-cons, add-one, length, refl, sym, ap, ◌∙◌, subst, arith, append_assoc}
+use Rattle.std.proofs.Common.{◌≡◌, ◌≢◌, ℕ, ◌==◌, Bool, false, List, [], ◌∷◌, ◌++◌, ◌<◌, ◌+◌, take, drop, get_or}
+use Rattle.std.proofs.Common.{drop-cons, add-one, length, refl, sym, ap, ◌∙◌, subst, arith, append_assoc}
 use Rattle.std.specs.Str.{IsUtf8}
 use Rattle.std.proofs.lemmas.List.{length-append, take-append-drop, take_more}
 use Rattle.cat_pos.specs.declared.pos.Pos.{Pos}

@@ -10,7 +10,8 @@ use Rattle.cat_lex.specs.declared.refusal.LexRefusal.{LexRefusal}
 use Rattle.cat_lex.specs.declared.refusal.LexRefusal.TheVariants.{NoToken, LiteralRange, Memory}
 use Rattle.cat_lex.specs.Blanks.{AreLastBlanks}
 use Rattle.cat_lex.specs.Values.{token_of}
-use Rattle.cat_lex.specs.Lexes.{IsToken, AreTokens, IsPieceOf, Lexes, BeginsNoToken, PassesBound, FailsIn, FailsAt, HasCause}
+use Rattle.cat_lex.specs.Lexes.{IsToken, AreTokens, IsPieceOf, Lexes, BeginsNoToken, PassesBound, FailsIn, FailsAt}
+use Rattle.cat_lex.specs.Lexes.{HasCause}
 use Rattle.cat_lex.specs.Reading.{skip_blanks}
 use Rattle.cat_lex.proofs.Blanks.{gap_skipped, last_skipped}
 use Rattle.cat_lex.proofs.Sequences.{skipped_to, token_utf8, tokens_utf8, one_token, GoesOn, goes_on, no_more}

@@ -15,11 +15,13 @@ is_bracket_first (byte ∷ bytes) = byte == 91
 abbrev pub begins_comment : ℕ → List ℕ → Bool
 begins_comment byte bytes = byte == 35 && not (is_bracket_first bytes)
 
--- Blanks and comments alone: `inside` tells that they begin inside a comment, `ending` that they may end inside one. A line feed ends a comment.
+-- Blanks and comments alone: `inside` tells that they begin inside a comment, `ending` that they may end inside one. A
+-- line feed ends a comment.
 abbrev pub are_blank : Bool → Bool → List ℕ → Bool
 are_blank inside ending [] = not inside || ending
 are_blank true ending (byte ∷ bytes) = are_blank (not (is_line_feed byte)) ending bytes
-are_blank false ending (byte ∷ bytes) = if is_blank byte then are_blank false ending bytes else (begins_comment byte bytes && are_blank true ending bytes)
+are_blank false ending (byte ∷ bytes) = if is_blank byte then are_blank false ending bytes else
+  (begins_comment byte bytes && are_blank true ending bytes)
 
 -- blanks and whole comments; at the end of a piece, its last line may be a comment
 abbrev pub AreBlanks : List ℕ → Type 0

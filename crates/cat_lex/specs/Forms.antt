@@ -1,12 +1,14 @@
 -- The forms of tokens, without their bounds: which spellings each has, and which is the longest in front of a text.
-use Rattle.std.specs.Prelude.{◌≡◌, ◌≢◌, ◌≤◌, ℕ, Bool, true, false, not, ◌&&◌, ◌||◌, ◌==◌, List, [], ◌∷◌, ◌++◌, map, length, Some, codes}
+use Rattle.std.specs.Prelude.{◌≡◌, ◌≢◌, ◌≤◌, ℕ, Bool, true, false, not, ◌&&◌, ◌||◌, ◌==◌, List, [], ◌∷◌, ◌++◌, map}
+use Rattle.std.specs.Prelude.{length, Some, codes}
 use Rattle.std.specs.Char.{encode_utf8, is_ascii_digit, is_ascii_uppercase}
 use Rattle.std.specs.List.{list_all, concat}
 use Rattle.std.specs.Str.{encode_utf8_all}
 use Rattle.unicode_ident.specs.Ident.{is_xid_start, is_xid_continue}
 use Rattle.cat_date.specs.Text.{form_of}
 use Rattle.cat_lex.specs.declared.form.Form.{Form}
-use Rattle.cat_lex.specs.declared.form.Form.TheVariants.{TypeWord, Word, Pair, Whole, Decimal, Percent, Amount, Date, Mark}
+use Rattle.cat_lex.specs.declared.form.Form.TheVariants.{TypeWord, Word, Pair, Whole, Decimal, Percent, Amount, Date}
+use Rattle.cat_lex.specs.declared.form.Form.TheVariants.{Mark}
 use Rattle.cat_lex.specs.declared.words.DoubleKeyword.{DoubleKeyword}
 use Rattle.cat_lex.specs.Blanks.{is_blank}
 use Rattle.cat_lex.specs.Words.{double_keyword_of, symbol_of}

@@ -1,5 +1,6 @@
 -- What the scanner reads in front of a text: the form, and what follows. Proved to be the longest token's.
-use Rattle.std.specs.Prelude.{ℕ, ◌-◌, nat_le, Bool, true, false, not, ◌&&◌, ◌||◌, ◌==◌, if◌then◌else◌, List, [], ◌∷◌, take, drop, length, Option, Some, None, codes, bytes_eq}
+use Rattle.std.specs.Prelude.{ℕ, ◌-◌, nat_le, Bool, true, false, not, ◌&&◌, ◌||◌, ◌==◌, if◌then◌else◌, List, [], ◌∷◌}
+use Rattle.std.specs.Prelude.{take, drop, length, Option, Some, None, codes, bytes_eq}
 use Rattle.std.specs.Char.{is_ascii_digit, is_ascii_uppercase, is_ascii_alphabetic}
 use Rattle.std.specs.Str.{encode_utf8_all, chars}
 use Rattle.unicode_ident.specs.Ident.{is_xid_start, is_xid_continue}
@@ -8,7 +9,8 @@ use Rattle.cat_date.specs.Text.{form_of}
 use Rattle.cat_lex.specs.declared.words.DoubleKeyword.{DoubleKeyword}
 use Rattle.cat_lex.specs.declared.symbol.Symbol.{Symbol}
 use Rattle.cat_lex.specs.declared.form.Form.{Form}
-use Rattle.cat_lex.specs.declared.form.Form.TheVariants.{TypeWord, Word, Pair, Whole, Decimal, Percent, Amount, Date, Mark}
+use Rattle.cat_lex.specs.declared.form.Form.TheVariants.{TypeWord, Word, Pair, Whole, Decimal, Percent, Amount, Date}
+use Rattle.cat_lex.specs.declared.form.Form.TheVariants.{Mark}
 use Rattle.cat_lex.specs.Blanks.{is_blank, begins_comment}
 use Rattle.cat_lex.specs.Words.{double_keyword_of, symbol_of}
 use Rattle.cat_lex.specs.Forms.{is_space}
@@ -41,7 +43,8 @@ abbrev pub number_after : List ℕ → Form × List ℕ
 number_after units =
     let places = skip_places units in
     let spaces = skip is_space places in
-    if begins is_percent_sign spaces then (Percent, drop 1 spaces) else if is_pointed units then (Decimal, places) else (Whole, units)
+    if begins is_percent_sign spaces then (Percent, drop 1 spaces) else if is_pointed units then (Decimal, places) else
+      (Whole, units)
 
 -- a number, where a digit comes first
 abbrev pub number_read : List ℕ → Form × List ℕ
@@ -55,11 +58,13 @@ skip_groups text = text
 
 -- the text after a point and one or two digits
 abbrev pub skip_cents : List ℕ → List ℕ
-skip_cents text = if is_pointed text then (if begins is_ascii_digit (drop 2 text) then drop 3 text else drop 2 text) else text
+skip_cents text = if is_pointed text then (if begins is_ascii_digit (drop 2 text) then drop 3 text else drop 2 text)
+  else text
 
 -- an amount, whose `$` stands in front of the text
 abbrev pub amount_read : List ℕ → Option (Form × List ℕ)
-amount_read text = if begins is_ascii_digit text then Some (Amount, skip_cents (skip_groups (skip is_ascii_digit text))) else None
+amount_read text = if begins is_ascii_digit text then Some (Amount, skip_cents (skip_groups (skip is_ascii_digit text)))
+  else None
 
 -- a date between bars, where one comes first
 abbrev pub date_read : List ℕ → Option (Form × List ℕ)
@@ -94,7 +99,8 @@ abbrev pub pair_read : List ℕ → List ℕ → Form × List ℕ
 pair_read text rest =
     let second = after is_blank rest in
     let end = after is_xid_continue second in
-    if begins is_blank rest then pair_or (double_keyword_of (front_of text rest) (front_of second end)) end rest else (Word, rest)
+    if begins is_blank rest then pair_or (double_keyword_of (front_of text rest) (front_of second end)) end rest else
+      (Word, rest)
 
 -- a type's word, or else a word or a double keyword, by the first character
 abbrev pub begin_word : List ℕ → List ℕ → Option (Form × List ℕ)
@@ -126,4 +132,5 @@ abbrev pub skip_blanks : Bool → List ℕ → List ℕ
 skip_blanks inside [] = []
 skip_blanks true (byte ∷ bytes) = skip_blanks (not (is_line_feed byte)) bytes
 skip_blanks false (byte ∷ bytes) =
-    if is_blank byte then skip_blanks false bytes else if begins_comment byte bytes then skip_blanks true bytes else byte ∷ bytes
+    if is_blank byte then skip_blanks false bytes else if begins_comment byte bytes then skip_blanks true bytes else
+      byte ∷ bytes

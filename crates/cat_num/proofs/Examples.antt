@@ -5,7 +5,8 @@ use Rattle.std.specs.Fmt.{digits}
 use Rattle.std.specs.declared.cmp.Ordering.TheVariants.{Less}
 use Rattle.cat_num.specs.declared.fault.NumFault.TheVariants.{Overflow, DivisionByZero}
 use Rattle.cat_num.specs.Whole.{largest, whole_sum, whole_difference, whole_product}
-use Rattle.cat_num.specs.Frac.{Fraction, gcd, lowest, ratio, frac_of, frac_sum, frac_difference, frac_product, frac_quotient, frac_order}
+use Rattle.cat_num.specs.Frac.{Fraction, gcd, lowest, ratio, frac_of, frac_sum, frac_difference, frac_product}
+use Rattle.cat_num.specs.Frac.{frac_quotient, frac_order}
 use Rattle.cat_num.specs.Rounding.{rounded, truncated, money_product, money_quotient, whole_units}
 use Rattle.cat_num.specs.Text.{decimal_places, decimal_bytes, money_bytes}
 use Rattle.cat_num.specs.Reading.{read_fraction}
@@ -69,7 +70,8 @@ frac_quotient-zero = refl
 frac_order-negative : frac_order (over (negsuc 0) 2) (over (negsuc 0) 3) ≡ Less
 frac_order-negative = refl
 
-frac_order-close : frac_order (over (pos largest) 9223372036854775806) (over (pos 9223372036854775806) 9223372036854775805) ≡ Less
+frac_order-close : frac_order (over (pos largest) 9223372036854775806)
+  (over (pos 9223372036854775806) 9223372036854775805) ≡ Less
 frac_order-close = refl
 
 -- halves go away from zero, and toward zero by `truncated`

@@ -1,5 +1,6 @@
 -- Rounding by cases, and that it fits.
-use Rattle.std.proofs.Common.{◌≡◌, ◌≢◌, Ok, Err, ◌*ℤ◌, ℕ, zero, suc, ◌+◌, ◌*◌, ◌/◌, ◌<◌, ◌≤◌, ℤ, pos, negsuc, neg_ℤ, ◌<ℤ◌, unsigned_abs, refl, sym, ap, ◌∙◌, subst, arith}
+use Rattle.std.proofs.Common.{◌≡◌, ◌≢◌, Ok, Err, ◌*ℤ◌, ℕ, zero, suc, ◌+◌, ◌*◌, ◌/◌, ◌<◌, ◌≤◌, ℤ, pos, negsuc, neg_ℤ}
+use Rattle.std.proofs.Common.{◌<ℤ◌, unsigned_abs, refl, sym, ap, ◌∙◌, subst, arith}
 use Rattle.std.proofs.lemmas.Int.{ints}
 use Rattle.std.proofs.Math.Nat.{div-lt_iff_lt-mul, mul-le-mul_left}
 use Rattle.std.proofs.lemmas.Bool.Decides.{nat_tests}
@@ -44,8 +45,10 @@ opposite_fits (negsuc n) h = h
 rounded_ratio-fits : (n d : ℤ) → Fits n → rounded_ratio n d ≢ Err Overflow
 rounded_ratio-fits n (pos zero) h e = cc
 rounded_ratio-fits n (pos (suc d)) h e = cc (whole_of-fits (rounded n (suc d)) (Fits-rounded n (suc d) (omega arith) h))
-rounded_ratio-fits n (negsuc d) h e = cc (whole_of-fits (rounded (neg_ℤ n) (suc d)) (Fits-rounded (neg_ℤ n) (suc d) (omega arith) (opposite_fits n h)))
+rounded_ratio-fits n (negsuc d) h e =
+  cc (whole_of-fits (rounded (neg_ℤ n) (suc d)) (Fits-rounded (neg_ℤ n) (suc d) (omega arith) (opposite_fits n h)))
 
 -- an amount over a whole number fits
 pub money_quotient-whole : (m : ℤ) (f : Fraction) → Fits m → f.den ≡ 1 → money_quotient m f ≢ Err Overflow
-money_quotient-whole m f h w = rounded_ratio-fits (m *ℤ pos f.den) f.num (subst Fits (sym (ap (λ d. m *ℤ pos d) w ∙ times_one m)) h)
+money_quotient-whole m f h w =
+  rounded_ratio-fits (m *ℤ pos f.den) f.num (subst Fits (sym (ap (λ d. m *ℤ pos d) w ∙ times_one m)) h)

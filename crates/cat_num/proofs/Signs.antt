@@ -1,5 +1,6 @@
 -- A number is its sign and its size.
-use Rattle.std.proofs.Common.{◌≡◌, ℕ, zero, suc, ◌*◌, ◌<◌, ℤ, pos, negsuc, ◌*ℤ◌, unsigned_abs, Bool, true, false, refl, arith}
+use Rattle.std.proofs.Common.{◌≡◌, ℕ, zero, suc, ◌*◌, ◌<◌, ℤ, pos, negsuc, ◌*ℤ◌, unsigned_abs, Bool, true, false, refl}
+use Rattle.std.proofs.Common.{arith}
 use Rattle.std.proofs.lemmas.Int.{ints}
 use Rattle.cat_num.specs.Frac.{is_negative, signed}
 
@@ -18,7 +19,8 @@ signed-product true (suc a) d = omega (arith, ints)
 signed-product false a d = refl
 
 -- equal products by positive numbers have equal signs
-pub sign_from_cross : (x n : ℤ) (d b : ℕ) → 0 < d → 0 < b → x *ℤ pos d ≡ n *ℤ pos b → signed (is_negative n) (unsigned_abs x) ≡ x
+pub sign_from_cross : (x n : ℤ) (d b : ℕ) → 0 < d → 0 < b → x *ℤ pos d ≡ n *ℤ pos b → signed (is_negative n)
+  (unsigned_abs x) ≡ x
 sign_from_cross (pos a) (pos k) d b p q e = refl
 sign_from_cross (negsuc a) (negsuc k) d b p q e = refl
 sign_from_cross (pos a) (negsuc k) d b p q e = absurd (omega (arith, ints))

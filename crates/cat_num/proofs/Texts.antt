@@ -1,5 +1,6 @@
 -- Decimal places and digits, step by step.
-use Rattle.std.proofs.Common.{◌≡◌, ℕ, zero, suc, ◌+◌, ◌%◌, ◌^◌, ◌<◌, ◌≤◌, Some, false, List, [], ◌++◌, replicate, length, ◌-◌, refl, arith}
+use Rattle.std.proofs.Common.{◌≡◌, ℕ, zero, suc, ◌+◌, ◌%◌, ◌^◌, ◌<◌, ◌≤◌, Some, false, List, [], ◌++◌, replicate}
+use Rattle.std.proofs.Common.{length, ◌-◌, refl, arith}
 use Rattle.std.proofs.lemmas.Bool.Decides.{nat_tests}
 use Rattle.std.proofs.lemmas.Nat.Gcd.{dvd_of_mod-eq-zero, le_of_dvd}
 use Rattle.std.proofs.Math.Nat.{one-le-pow, sub-zero}
@@ -26,7 +27,8 @@ pub le_from_divides : (p d : ℕ) → 10 ^ p % d ≡ 0 → d ≤ 10 ^ p
 le_from_divides p d e = le_of_dvd (ten_power p) (dvd_of_mod-eq-zero d e)
 
 -- what `{:0width$}` writes
-pub padded_integral-zeros : (w : ℕ) (ds : List ℕ) → padded_integral (format_spec 32 0 4 w (2 ^ 64 - 1)) false [] ds ≡ replicate (w - length ds) 48 ++ ds
+pub padded_integral-zeros : (w : ℕ) (ds : List ℕ) → padded_integral (format_spec 32 0 4 w (2 ^ 64 - 1)) false [] ds
+  ≡ replicate (w - length ds) 48 ++ ds
 unfolding padded_integral char_count
 padded_integral-zeros w ds = simp (append-nil, sub-zero)
 

@@ -1,5 +1,7 @@
 -- Fractions in lowest terms: exact results, where they fit.
-use Rattle.std.specs.Prelude.{◌≡◌, ℕ, zero, suc, ◌+◌, ◌*◌, ◌/◌, ◌%◌, ◌<◌, ◌≤◌, ◌==◌, ℤ, pos, negsuc, neg_ℤ, ◌+ℤ◌, ◌-ℤ◌, ◌*ℤ◌, unsigned_abs, Bool, true, false, ◌&&◌, nat_le, nat_lt, if◌then◌else◌, Result, Ok, Err}
+use Rattle.std.specs.Prelude.{◌≡◌, ℕ, zero, suc, ◌+◌, ◌*◌, ◌/◌, ◌%◌, ◌<◌, ◌≤◌, ◌==◌, ℤ, pos, negsuc, neg_ℤ, ◌+ℤ◌, ◌-ℤ◌}
+use Rattle.std.specs.Prelude.{◌*ℤ◌, unsigned_abs, Bool, true, false, ◌&&◌, nat_le, nat_lt, if◌then◌else◌, Result, Ok}
+use Rattle.std.specs.Prelude.{Err}
 use Rattle.std.specs.declared.cmp.Ordering.{Ordering}
 use Rattle.std.specs.Ordering.{int_cmp}
 use Rattle.cat_num.specs.declared.fault.NumFault.{NumFault}
@@ -33,7 +35,8 @@ signed false n = pos n
 
 -- n / d in lowest terms
 unfoldable pub lowest : ℤ → ℕ → Fraction
-lowest n d = record { num = signed (is_negative n) (unsigned_abs n / gcd (unsigned_abs n) d); den = d / gcd (unsigned_abs n) d }
+lowest n d =
+  record { num = signed (is_negative n) (unsigned_abs n / gcd (unsigned_abs n) d); den = d / gcd (unsigned_abs n) d }
 
 -- both parts fit
 abbrev pub frac_fits : Fraction → Bool

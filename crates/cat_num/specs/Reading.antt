@@ -1,5 +1,6 @@
 -- Reading the text of a fraction: a sign, digits, and then a point and digits, or `/` and digits, or nothing.
-use Rattle.std.specs.Prelude.{◌≡◌, ℕ, ◌+◌, ◌-◌, ◌*◌, ◌%◌, ◌^◌, ◌≤◌, ◌==◌, unsigned_abs, Bool, true, false, if◌then◌else◌, Option, Some, None, MatchOption, List, [], ◌∷◌, ◌++◌, length, Result}
+use Rattle.std.specs.Prelude.{◌≡◌, ℕ, ◌+◌, ◌-◌, ◌*◌, ◌%◌, ◌^◌, ◌≤◌, ◌==◌, unsigned_abs, Bool, true, false}
+use Rattle.std.specs.Prelude.{if◌then◌else◌, Option, Some, None, MatchOption, List, [], ◌∷◌, ◌++◌, length, Result}
 use Rattle.cat_num.specs.declared.fault.NumFault.{NumFault}
 use Rattle.cat_num.specs.Frac.{Fraction, signed, ratio}
 use Rattle.cat_num.specs.Text.{decimal_places}

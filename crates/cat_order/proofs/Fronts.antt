@@ -1,14 +1,17 @@
 -- Fronts of the order: what stands in front of an index.
-use Rattle.std.proofs.Common.{◌≡◌, ◌∙◌, sym, ap, refl, subst, ℕ, zero, suc, ◌+◌, ◌<◌, ◌≤◌, true, not, List, [], ◌∷◌, ◌++◌, length, take, get_or, arith, add-one}
+use Rattle.std.proofs.Common.{◌≡◌, ◌∙◌, sym, ap, refl, subst, ℕ, zero, suc, ◌+◌, ◌<◌, ◌≤◌, true, not, List, [], ◌∷◌}
+use Rattle.std.proofs.Common.{◌++◌, length, take, get_or, arith, add-one}
 use Rattle.std.specs.Prelude.{◌==◌, nat_lt, ◌&&◌}
 use Rattle.std.proofs.lemmas.Bool.{cases_eq, cases_lt}
 use Rattle.std.proofs.lemmas.Bool.Decides.{nat_tests}
-use Rattle.std.proofs.lemmas.List.{take_more, take_all, take-append-le, take_at, get_or_at, get_or_append_left, length_push}
+use Rattle.std.proofs.lemmas.List.{take_more, take_all, take-append-le, take_at, get_or_at, get_or_append_left}
+use Rattle.std.proofs.lemmas.List.{length_push}
 use Rattle.std.proofs.Math.Nat.{le_refl}
 use Rattle.std.proofs.Math.Logic.{⊎_elim}
 use Rattle.cat_order.specs.Order.{dependencies_of, times, is_ready, IsNext, IsInOrder, IsOrder}
 use Rattle.cat_order.specs.Steps.{missing, left_out}
-use Rattle.cat_order.proofs.Counts.{times_push, times_push_other, missing_more, list_all-missing, left_out_more, left_out_none, listed_of_none_left}
+use Rattle.cat_order.proofs.Counts.{times_push, times_push_other, missing_more, list_all-missing, left_out_more}
+use Rattle.cat_order.proofs.Counts.{left_out_none, listed_of_none_left}
 
 -- what it means to be ready, by counts
 pub is_ready-counts : (deps : List (List ℕ)) (front : List ℕ) (item : ℕ)

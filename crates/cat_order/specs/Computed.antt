@@ -1,5 +1,6 @@
 -- The order by computation.
-use Rattle.std.specs.Prelude.{ℕ, zero, suc, Bool, if◌then◌else◌, List, [], ◌∷◌, ◌++◌, length, Option, Some, None, option_and_then}
+use Rattle.std.specs.Prelude.{ℕ, zero, suc, Bool, if◌then◌else◌, List, [], ◌∷◌, ◌++◌, length, Option, Some, None}
+use Rattle.std.specs.Prelude.{option_and_then}
 use Rattle.std.specs.Option.{option_or}
 use Rattle.cat_order.specs.Order.{is_ready}
 
@@ -12,7 +13,8 @@ first_below passes (suc bound) = option_or (first_below passes bound) (if passes
 abbrev pub order_from : List (List ℕ) → List ℕ → ℕ → Option (List ℕ)
 order_from deps front zero = Some front
 order_from deps front (suc left) =
-    option_and_then (λ item. order_from deps (front ++ item ∷ []) left) (first_below (is_ready deps front) (length deps))
+    option_and_then (λ item. order_from deps (front ++ item ∷ []) left)
+      (first_below (is_ready deps front) (length deps))
 
 -- the order of the items, or `None` where they have none
 unfoldable pub order_of : List (List ℕ) → Option (List ℕ)

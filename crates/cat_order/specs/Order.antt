@@ -1,5 +1,6 @@
 -- The one order of items: at each index the first item not yet listed all of whose dependencies stand before it.
-use Rattle.std.specs.Prelude.{◌≡◌, ◌==◌, ◌+◌, ◌<◌, ◌&&◌, ℕ, Bool, false, not, nat_lt, if◌then◌else◌, IsTrue, List, [], ◌∷◌, length, take, slice_index, slice_index_or, All}
+use Rattle.std.specs.Prelude.{◌≡◌, ◌==◌, ◌+◌, ◌<◌, ◌&&◌, ℕ, Bool, false, not, nat_lt, if◌then◌else◌, IsTrue, List, []}
+use Rattle.std.specs.Prelude.{◌∷◌, length, take, slice_index, slice_index_or, All}
 use Rattle.std.specs.List.{list_all}
 
 -- what an item depends on; `deps` has a list for each item, in order of declaration, and items are numbered from 0

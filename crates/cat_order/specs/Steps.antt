@@ -1,5 +1,6 @@
 -- What is unmet while items are listed.
-use Rattle.std.specs.Prelude.{◌≡◌, ◌==◌, ◌+◌, ◌<◌, ◌&&◌, ◌||◌, ℕ, zero, suc, Bool, false, nat_lt, if◌then◌else◌, List, [], ◌∷◌, length, slice_index, slice_index_or}
+use Rattle.std.specs.Prelude.{◌≡◌, ◌==◌, ◌+◌, ◌<◌, ◌&&◌, ◌||◌, ℕ, zero, suc, Bool, false, nat_lt, if◌then◌else◌, List}
+use Rattle.std.specs.Prelude.{[], ◌∷◌, length, slice_index, slice_index_or}
 use Rattle.std.specs.Ordering.{nat_cmp}
 use Rattle.std.specs.BTreeSet.{BTreeSet, contains}
 use Rattle.cat_order.specs.Order.{dependencies_of, times, is_listed, is_ready, IsInOrder}
@@ -26,7 +27,8 @@ AreDependents deps dependents = (item : ℕ) (other : ℕ)
 -- the item was put once more into the list of each of these dependencies
 abbrev pub AddsDependent : List (List ℕ) → List (List ℕ) → ℕ → List ℕ → Type 0
 AddsDependent old new item dependencies = (on : ℕ) (other : ℕ)
-    → times (dependents_of new on) other ≡ times (dependents_of old on) other + (if item == other then times dependencies on else 0)
+    → times (dependents_of new on) other ≡ times (dependents_of old on) other +
+      (if item == other then times dependencies on else 0)
 
 -- the set has the items whose count is 0
 abbrev pub HasThoseAtZero : List ℕ → BTreeSet ℕ → Type 0
@@ -40,7 +42,8 @@ CountsDown items old new = (item : ℕ) → slice_index new item + times items i
 -- the set gained the items of the list whose count is 0
 abbrev pub AddsThoseAtZero : List ℕ → List ℕ → BTreeSet ℕ → BTreeSet ℕ → Type 0
 AddsThoseAtZero items counts old new = (item : ℕ)
-    → contains nat_cmp new item ≡ (contains nat_cmp old item || (is_listed items item && (slice_index counts item == 0)))
+    → contains nat_cmp new item ≡ (contains nat_cmp old item
+      || (is_listed items item && (slice_index counts item == 0)))
 
 -- whether one of these dependencies has a count above 0, and so waits for others itself
 abbrev pub any_waiting : List ℕ → List ℕ → Bool

@@ -1,5 +1,6 @@
 -- Stops and fronts of a list of tokens, by their indices; and one expression for each list.
-use Rattle.std.proofs.Common.{◌≡◌, ℕ, suc, ◌+◌, ◌-◌, ◌<◌, ◌≤◌, true, false, List, [], ◌∷◌, ◌++◌, length, take, drop, Option, refl, sym, ap, subst, ◌∙◌, append_assoc, arith}
+use Rattle.std.proofs.Common.{◌≡◌, ℕ, suc, ◌+◌, ◌-◌, ◌<◌, ◌≤◌, true, false, List, [], ◌∷◌, ◌++◌, length, take, drop}
+use Rattle.std.proofs.Common.{Option, refl, sym, ap, subst, ◌∙◌, append_assoc, arith}
 use Rattle.std.specs.Prelude.{slice_range}
 use Rattle.std.proofs.lemmas.List.{take_at, take-append-drop, length-append, length-drop}
 use Rattle.cat_lex.specs.declared.token.Token.{Token}

@@ -1,5 +1,6 @@
 -- Turns of the code, by what comes next.
-use Rattle.std.proofs.Common.{◌≡◌, ℕ, zero, suc, ◌<◌, ◌≤◌, ◌-◌, Bool, true, false, cond, ◌&&◌, not, nat_eq, List, ◌∷◌, length, drop, get_or, Option, Some, None, refl, sym, ap, subst, ◌∙◌, arith, length-drop}
+use Rattle.std.proofs.Common.{◌≡◌, ℕ, zero, suc, ◌<◌, ◌≤◌, ◌-◌, Bool, true, false, cond, ◌&&◌, not, nat_eq, List, ◌∷◌}
+use Rattle.std.proofs.Common.{length, drop, get_or, Option, Some, None, refl, sym, ap, subst, ◌∙◌, arith, length-drop}
 use Rattle.std.proofs.lemmas.Bool.Decides.{nat_tests}
 use Rattle.std.proofs.Math.Seq.{drop-cons}
 use Rattle.cat_lex.specs.declared.token.Token.{Token}
@@ -16,9 +17,11 @@ use Rattle.cat_parse_step.specs.Machine.{shift}
 use Rattle.cat_parse_state.specs.Operands.{takes, is_some}
 use Rattle.cat_parse_expr.specs.Reader as spec
 use Rattle.cat_parse_expr.specs.Results.{Stop, Outcome, Reader, too_deep}
-use Rattle.cat_parse_expr.specs.Reader.{Best, whole, best_of, stopped, ended, Next, Shifted, Asks, asked, next, is_high, Going, reaches, fed, turn, run, nothing_at, operand_of, read}
+use Rattle.cat_parse_expr.specs.Reader.{Best, whole, best_of, stopped, ended, Next, Shifted, Asks, asked, next, is_high}
+use Rattle.cat_parse_expr.specs.Reader.{Going, reaches, fed, turn, run, nothing_at, operand_of, read}
 use Rattle.cat_parse_expr.specs.Fallback.{fallback, before, or_else}
-use Rattle.cat_parse_expr.specs.Loop.{halt_at, outcome_of, AreWithin, marked, mark_after, IsMarkWithin, IsKept, IsStanding, going_on, GoesOn, Leads, IsTurnAt, reached_on}
+use Rattle.cat_parse_expr.specs.Loop.{halt_at, outcome_of, AreWithin, marked, mark_after, IsMarkWithin, IsKept}
+use Rattle.cat_parse_expr.specs.Loop.{IsStanding, going_on, GoesOn, Leads, IsTurnAt, reached_on}
 use Rattle.cat_parse_expr.proofs.Viable.{Follows, next_follows}
 use Rattle.cat_parse_expr.proofs.Keeping.{shift_keeps, tall_shift}
 

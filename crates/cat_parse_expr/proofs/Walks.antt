@@ -1,5 +1,6 @@
 -- Ways through the states, word by word and operand by operand.
-use Rattle.std.proofs.Common.{cond, ◌||◌, ◌≡◌, ℕ, suc, ◌≤◌, max, Bool, true, false, List, [], ◌∷◌, ◌++◌, Some, refl, sym, ap, subst, ◌∙◌, arith}
+use Rattle.std.proofs.Common.{cond, ◌||◌, ◌≡◌, ℕ, suc, ◌≤◌, max, Bool, true, false, List, [], ◌∷◌, ◌++◌, Some, refl}
+use Rattle.std.proofs.Common.{sym, ap, subst, ◌∙◌, arith}
 use Rattle.cat_pos.specs.declared.pos.Pos.{Pos}
 use Rattle.cat_lex.specs.declared.token.Token.{Token}
 use Rattle.cat_lex.specs.declared.token.TokenKind.TheVariants as kind
@@ -8,7 +9,8 @@ use Rattle.cat_lex.specs.declared.symbol.Symbol.TheVariants as symbol
 use Rattle.cat_tree.specs.declared.expression.Prefix.{Prefix}
 use Rattle.cat_tree.specs.declared.expression.Prefix.TheVariants as prefix
 use Rattle.cat_tree.specs.declared.expression.Node.{Node}
-use Rattle.cat_tree.specs.Phrase.{Parts, End, Word, Part, Stand, height, ends_in_form, ends_in_match, right_strength, IsLevelled, IsSpelling, AreSpelled, At, Anywhere}
+use Rattle.cat_tree.specs.Phrase.{Parts, End, Word, Part, Stand, height, ends_in_form, ends_in_match, right_strength}
+use Rattle.cat_tree.specs.Phrase.{IsLevelled, IsSpelling, AreSpelled, At, Anywhere}
 use Rattle.cat_tree.specs.Operators.{prefix_level, operator_level}
 use Rattle.cat_tree.specs.Grammar.{phrase}
 use Rattle.cat_parse_state.specs.declared.state.State.{State}

@@ -1,5 +1,6 @@
 -- The code's reading, with indices for what is left of the tokens, beside reading on lists.
-use Rattle.std.specs.Prelude.{ℕ, suc, ◌≡◌, ◌≤◌, ◌<◌, ◌-◌, nat_le, cond, true, false, List, length, drop, Option, Some, None}
+use Rattle.std.specs.Prelude.{ℕ, suc, ◌≡◌, ◌≤◌, ◌<◌, ◌-◌, nat_le, cond, true, false, List, length, drop, Option, Some}
+use Rattle.std.specs.Prelude.{None}
 use Rattle.cat_lex.specs.declared.token.Token.{Token}
 use Rattle.cat_tree.specs.declared.expression.Node.{Node}
 use Rattle.cat_parse_state.specs.declared.state.Reading.{Reading}

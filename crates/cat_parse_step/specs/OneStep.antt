@@ -1,5 +1,6 @@
 -- What one word makes of a state.
-use Rattle.std.specs.Prelude.{ℕ, suc, ℤ, int_lt, if◌then◌else◌, Bool, true, false, nat_le, ◌&&◌, ◌≡◌, List, Option, Some, None}
+use Rattle.std.specs.Prelude.{ℕ, suc, ℤ, int_lt, if◌then◌else◌, Bool, true, false, nat_le, ◌&&◌, ◌≡◌, List, Option}
+use Rattle.std.specs.Prelude.{Some, None}
 use Rattle.cat_pos.specs.declared.pos.Pos.{Pos}
 use Rattle.cat_lex.specs.declared.token.Token.{Token}
 use Rattle.cat_lex.specs.declared.token.TokenKind.{TokenKind}

@@ -14,7 +14,8 @@ use Rattle.cat_scope.proofs.Samples.{at, item, def, x}
 abbrev calling : ℕ → Expr
 calling scope = expr.ScopeCall (at 0 0) scope [] 0
 
--- a scope that has the called scope 1, a definition that calls 3 in its condition and then 2, and an assertion that calls
+-- a scope that has the called scope 1, a definition that calls 3 in its condition and then 2, and an assertion that
+-- calls
 -- 4, in a source
 abbrev listed : List SourcePart → List ℕ
 listed source = once [] (called_in
@@ -32,5 +33,6 @@ a_declaration_that_comes_last : listed (Definition ∷ Assertion ∷ Declaration
 a_declaration_that_comes_last = search (rules, namings)
 
 -- the condition of a block stands before an assertion of the block that precedes its definitions
-a_block_with_a_condition : listed (Declaration ∷ Condition (calling 3) ∷ Assertion ∷ Definition ∷ []) ≡ 1 ∷ 3 ∷ 4 ∷ 2 ∷ []
+a_block_with_a_condition : listed (Declaration ∷ Condition (calling 3) ∷ Assertion ∷ Definition ∷ []) ≡ 1 ∷ 3 ∷ 4 ∷ 2 ∷
+  []
 a_block_with_a_condition = search (rules, namings)

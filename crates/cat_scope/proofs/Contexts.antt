@@ -14,7 +14,8 @@ use Rattle.cat_scope.specs.Readings.{integer}
 use Rattle.cat_scope.specs.Running.{run_of}
 use Rattle.cat_scope.specs.Targets.{judge_target}
 use Rattle.cat_scope.proofs.Equations.{equations}
-use Rattle.cat_scope.proofs.Samples.{at, variable, item, n_in, x_out, whole, def, body, x, scope_of, calling_scopes, calling_bodies, nested_scopes, nested_bodies}
+use Rattle.cat_scope.proofs.Samples.{at, variable, item, n_in, x_out, whole, def, body, x, scope_of, calling_scopes}
+use Rattle.cat_scope.proofs.Samples.{calling_bodies, nested_scopes, nested_bodies}
 
 abbrev gives : ℕ → Result (List Value) Stop
 gives k = Ok (flat.Integer (pos k) ∷ [])
@@ -27,9 +28,11 @@ defined e = def x None except.No None e (at 7 3)
 
 -- `n`, `x` and `y`: x needs y, which no definition gives
 abbrev gap : List Def → List ℕ → Result (List Value) Stop
-gap defs order = (run_of (scope_of (n_in ∷ x_out ∷ item kind.Output (at 5 10) ∷ []) ∷ []) (body defs order ∷ []) (0 ∷ []) 0 (number 0 ∷ None ∷ None ∷ [])).end
+gap defs order = (run_of (scope_of (n_in ∷ x_out ∷ item kind.Output (at 5 10) ∷ []) ∷ []) (body defs order ∷ [])
+  (0 ∷ []) 0 (number 0 ∷ None ∷ None ∷ [])).end
 
-a_gap_shows_where_it_is : gap (defined (leaf.Item (at 7 23) 2) ∷ []) (0 ∷ 2 ∷ 1 ∷ []) ≡ Err (NoValue (variable 0 2) (at 5 10))
+a_gap_shows_where_it_is : gap (defined (leaf.Item (at 7 23) 2) ∷ []) (0 ∷ 2 ∷ 1 ∷ []) ≡ Err
+  (NoValue (variable 0 2) (at 5 10))
 unfolding run_of judge_target
 a_gap_shows_where_it_is = search (rules, equations, value.the_lemmas)
 
@@ -39,7 +42,8 @@ the_first_of_two_gaps_shows = search (rules, equations, value.the_lemmas)
 
 -- a context with a definition of its own
 abbrev own : Option Value → Result (List Value) Stop
-own given = (run_of (scope_of (n_in ∷ item kind.ContextOutput (at 4 18) ∷ []) ∷ []) (body (defined (whole 7) ∷ []) (0 ∷ 1 ∷ []) ∷ []) (0 ∷ []) 0 (number 0 ∷ given ∷ [])).end
+own given = (run_of (scope_of (n_in ∷ item kind.ContextOutput (at 4 18) ∷ []) ∷ [])
+  (body (defined (whole 7) ∷ []) (0 ∷ 1 ∷ []) ∷ []) (0 ∷ []) 0 (number 0 ∷ given ∷ [])).end
 
 a_context_has_its_definition : own None ≡ gives 7
 unfolding run_of judge_target
@@ -67,7 +71,8 @@ seven = Ok (pos 7)
 -- where the definition goes before what is given, these two are the same
 a_context_does_not_lose_to_its_definition : ¬ (own (number 9) ≡ own None)
 a_context_does_not_lose_to_its_definition same =
-    let nine_is_seven : nine ≡ seven = sym (first_is 9) ∙ ap first_output (sym a_given_context_has_priority ∙ same ∙ a_context_has_its_definition) ∙ first_is 7 in
+    let nine_is_seven : nine ≡ seven = sym (first_is 9) ∙ ap first_output (sym a_given_context_has_priority ∙ same
+      ∙ a_context_has_its_definition) ∙ first_is 7 in
     absurd (cc)
 
 abbrev called : ℕ → Result (List Value) Stop

@@ -9,14 +9,16 @@ use Rattle.cat_scope.specs.Runs.{Decider}
 use Rattle.cat_scope.specs.Targets.{judge_target}
 use Rattle.cat_scope.specs.Running.{run_of}
 use Rattle.cat_scope.proofs.Equations.{equations}
-use Rattle.cat_scope.proofs.Samples.{at, variable, n_in, x_out, body, x, chain, forked, calling_scopes, calling_bodies, nested_scopes, nested_bodies}
+use Rattle.cat_scope.proofs.Samples.{at, variable, n_in, x_out, body, x, chain, forked, calling_scopes, calling_bodies}
+use Rattle.cat_scope.proofs.Samples.{nested_scopes, nested_bodies}
 
 abbrev decider : Target → Option Pos → Decider
 decider target by = record { target = target; by = by }
 
 -- the deciders of a program of one scope with `n` and `x`, on n
 abbrev alone : List Def → ℕ → List Decider
-alone defs k = (run_of (record { name = []; items = n_in ∷ x_out ∷ [] } ∷ []) (body defs (0 ∷ 1 ∷ []) ∷ []) (0 ∷ []) 0 (Some (flat.Integer (pos k)) ∷ None ∷ [])).log
+alone defs k = (run_of (record { name = []; items = n_in ∷ x_out ∷ [] } ∷ []) (body defs (0 ∷ 1 ∷ []) ∷ []) (0 ∷ []) 0
+  (Some (flat.Integer (pos k)) ∷ None ∷ [])).log
 
 the_exception_of_an_exception_decides : alone chain 2 ≡ decider x (Some (at 8 15)) ∷ []
 unfolding run_of judge_target
@@ -45,11 +47,13 @@ calling k = (run_of calling_scopes calling_bodies (0 ∷ 1 ∷ []) 1 (Some (flat
 abbrev context : Target
 context = record { scope = 1; item = 1; inner = Some 0 }
 
-a_given_context_is_not_judged_again : calling 3 ≡ decider context (Some (at 12 3)) ∷ decider (variable 1 2) (Some (at 13 3)) ∷ []
+a_given_context_is_not_judged_again : calling 3 ≡ decider context (Some (at 12 3)) ∷ decider (variable 1 2)
+  (Some (at 13 3)) ∷ []
 unfolding run_of judge_target
 a_given_context_is_not_judged_again = search (rules, equations, value.the_lemmas)
 
-a_context_that_is_not_given_is_judged : calling 0 ≡ decider context None ∷ decider (variable 0 0) (Some (at 10 3)) ∷ decider (variable 1 2) (Some (at 13 3)) ∷ []
+a_context_that_is_not_given_is_judged : calling 0 ≡ decider context None ∷ decider (variable 0 0) (Some (at 10 3)) ∷
+  decider (variable 1 2) (Some (at 13 3)) ∷ []
 unfolding run_of judge_target
 a_context_that_is_not_given_is_judged = search (rules, equations, value.the_lemmas)
 
@@ -57,7 +61,8 @@ a_context_that_is_not_given_is_judged = search (rules, equations, value.the_lemm
 abbrev nested : ℕ → List Decider
 nested k = (run_of nested_scopes nested_bodies (0 ∷ 1 ∷ []) 1 (Some (flat.Integer (pos k)) ∷ None ∷ [])).log
 
-a_scope_call_decides_first : nested 3 ≡ decider (variable 0 1) (Some (at 9 3)) ∷ decider (variable 1 1) (Some (at 11 3)) ∷ []
+a_scope_call_decides_first : nested 3 ≡ decider (variable 0 1) (Some (at 9 3)) ∷ decider (variable 1 1) (Some (at 11 3))
+  ∷ []
 unfolding run_of judge_target
 a_scope_call_decides_first = search (rules, equations, value.the_lemmas)
 

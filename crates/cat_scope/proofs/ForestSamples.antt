@@ -47,5 +47,6 @@ a_bare_exception_of_two_roots = refl
 abbrev inner : ℕ → Target
 inner n = record { scope = 1; item = 2; inner = Some n }
 
-inputs_and_contexts_are_targets : called_places 1 2 0 (n_in ∷ x_out ∷ item kind.Context (at 5 11) ∷ []) ≡ inner 0 ∷ inner 2 ∷ []
+inputs_and_contexts_are_targets : called_places 1 2 0 (n_in ∷ x_out ∷ item kind.Context (at 5 11) ∷ []) ≡ inner 0 ∷
+  inner 2 ∷ []
 inputs_and_contexts_are_targets = refl

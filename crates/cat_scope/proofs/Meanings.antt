@@ -15,11 +15,13 @@ use Rattle.cat_scope.specs.declared.defs.Def.{Def}
 use Rattle.cat_scope.specs.Running.{run_of}
 use Rattle.cat_scope.specs.Targets.{judge_target}
 use Rattle.cat_scope.proofs.Equations.{equations}
-use Rattle.cat_scope.proofs.Samples.{at, a, truth_item, condition_item, n_in, x_out, whole, per_n_above_one, one_month_below_31_days, def, body, x, chain, forked}
+use Rattle.cat_scope.proofs.Samples.{at, a, truth_item, condition_item, n_in, x_out, whole, per_n_above_one}
+use Rattle.cat_scope.proofs.Samples.{one_month_below_31_days, def, body, x, chain, forked}
 
 -- a program of one scope with `n` and `x`, on n
 abbrev alone : List ItemDecl → List Def → ℕ → Result (List Value) Stop
-alone items defs k = (run_of (record { name = []; items = items } ∷ []) (body defs (0 ∷ 1 ∷ []) ∷ []) (0 ∷ []) 0 (Some (flat.Integer (pos k)) ∷ None ∷ [])).end
+alone items defs k = (run_of (record { name = []; items = items } ∷ []) (body defs (0 ∷ 1 ∷ []) ∷ []) (0 ∷ []) 0
+  (Some (flat.Integer (pos k)) ∷ None ∷ [])).end
 
 abbrev gives : ℕ → Result (List Value) Stop
 gives k = Ok (flat.Integer (pos k) ∷ [])
@@ -44,7 +46,8 @@ no_definition_is_no_value : alone (n_in ∷ x_out ∷ []) [] 0 ≡ Err (NoValue 
 unfolding run_of judge_target
 no_definition_is_no_value = search (rules, equations, value.the_lemmas)
 
-a_condition_without_rules_is_false : alone (n_in ∷ condition_item kind.Output (at 4 10) ∷ []) [] 0 ≡ Ok (flat.Boolean false ∷ [])
+a_condition_without_rules_is_false : alone (n_in ∷ condition_item kind.Output (at 4 10) ∷ []) [] 0 ≡ Ok
+  (flat.Boolean false ∷ [])
 unfolding run_of judge_target
 a_condition_without_rules_is_false = search (rules, equations, value.the_lemmas)
 
@@ -74,6 +77,7 @@ what_is_excepted_is_not_evaluated : alone (n_in ∷ x_out ∷ []) spared 0 ≡ g
 unfolding run_of judge_target gcd ratio lowest
 what_is_excepted_is_not_evaluated = search (rules, equations, value.the_lemmas)
 
-two_kinds_of_durations_are_uncomparable : alone (n_in ∷ truth_item kind.Output (at 4 10) ∷ []) (def x None except.No None (one_month_below_31_days (at 6 31)) (at 6 3) ∷ []) 0 ≡ Err (Fault Uncomparable (at 6 31))
+two_kinds_of_durations_are_uncomparable : alone (n_in ∷ truth_item kind.Output (at 4 10) ∷ [])
+  (def x None except.No None (one_month_below_31_days (at 6 31)) (at 6 3) ∷ []) 0 ≡ Err (Fault Uncomparable (at 6 31))
 unfolding run_of judge_target compared_spans
 two_kinds_of_durations_are_uncomparable = search (rules, equations, value.the_lemmas)

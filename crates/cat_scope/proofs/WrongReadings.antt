@@ -1,5 +1,6 @@
 -- Readings that are wrong: each differs from the definition where it is tried.
-use Rattle.std.proofs.Common.{◌≡◌, ℕ, true, false, Bool, List, [], ◌∷◌, Option, None, Some, Result, Ok, Err, sym, ap, true≢false}
+use Rattle.std.proofs.Common.{◌≡◌, ℕ, true, false, Bool, List, [], ◌∷◌, Option, None, Some, Result, Ok, Err, sym, ap}
+use Rattle.std.proofs.Common.{true≢false}
 use Rattle.cat_pos.specs.declared.pos.Pos.{Pos}
 use Rattle.cat_value.specs.declared.outcome.Target.{Target}
 use Rattle.cat_scope.specs.declared.stop.Stop.{Stop}
@@ -17,7 +18,8 @@ abbrev first_taken : {A : Type 0} → List (Held A) → Result (Option (Held A))
 first_taken [] = Ok None
 first_taken (h ∷ hs) = Ok (Some h)
 
-the_first_of_two_is_not_taken : {A : Type 0} (place : Target) (h i : Held A) (hs : List (Held A)) → ¬ (first_taken (h ∷ i ∷ hs) ≡ alone place (h ∷ i ∷ hs))
+the_first_of_two_is_not_taken : {A : Type 0} (place : Target) (h i : Held A) (hs : List (Held A))
+  → ¬ (first_taken (h ∷ i ∷ hs) ≡ alone place (h ∷ i ∷ hs))
 the_first_of_two_is_not_taken place h i hs same = true≢false (ap is_ok same)
 
 abbrev number_at : {A : Type 0} → Result (Option (Held A)) Stop → Option ℕ
@@ -45,9 +47,11 @@ abbrev reporting : {A : Type 0} → Held A → Judged A → Judged A
 reporting first judged = giving judged (λ found. Ok (reported first found))
 
 the_first_definition_is_not_reported : {A : Type 0} (place : Target) (first h : Held A) → ¬ (first.number ≡ h.number)
-    → ¬ (reporting first (settle place (gives None ∷ gives (Some h) ∷ [])) ≡ settle place (gives None ∷ gives (Some h) ∷ []))
+    → ¬ (reporting first (settle place (gives None ∷ gives (Some h) ∷ [])) ≡ settle place
+      (gives None ∷ gives (Some h) ∷ []))
 the_first_definition_is_not_reported place first h differ same = differ (some_is (ap number_in same))
 
 -- a condition without rules has no value
-a_condition_without_rules_has_a_value : (target : Target) (place : Pos) → ¬ (absent target place true ≡ Err (NoValue target place))
+a_condition_without_rules_has_a_value : (target : Target) (place : Pos)
+  → ¬ (absent target place true ≡ Err (NoValue target place))
 a_condition_without_rules_has_a_value target place same = true≢false (ap is_ok same)

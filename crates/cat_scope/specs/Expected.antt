@@ -23,7 +23,8 @@ abbrev pub content_placed : Option Placed → Bool
 content_placed None = true
 content_placed (Some e) = e true
 
--- elements or arms: of the first what is expected of the whole, and of each later one the type of the first. Where there
+-- elements or arms: of the first what is expected of the whole, and of each later one the type of the first. Where
+-- there
 -- is none, a type must be expected of the whole
 abbrev pub row_placed : List Placed → Placed
 row_placed [] expected = expected

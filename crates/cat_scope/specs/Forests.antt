@@ -1,5 +1,6 @@
 -- What a forest is, and that it stands for the labels of a scope's definitions.
-use Rattle.std.specs.Prelude.{◌≡◌, ℕ, ◌+◌, ◌&&◌, Bool, true, List, [], ◌∷◌, ◌++◌, length, Option, Some, None, slice_get, if◌then◌else◌}
+use Rattle.std.specs.Prelude.{◌≡◌, ℕ, ◌+◌, ◌&&◌, Bool, true, List, [], ◌∷◌, ◌++◌, length, Option, Some, None, slice_get}
+use Rattle.std.specs.Prelude.{if◌then◌else◌}
 use Rattle.cat_value.specs.declared.decls.Decls.{Decls}
 use Rattle.cat_value.specs.declared.declaration.Kind.{Kind}
 use Rattle.cat_value.specs.declared.declaration.Kind.TheVariants as kind
@@ -38,7 +39,8 @@ are_low (target ∷ targets) = is_low target && are_low targets
 abbrev pub called_places : ℕ → ℕ → ℕ → List ItemDecl → List Target
 called_places scope item n [] = []
 called_places scope item n (inner ∷ rest) =
-    if may_be_given inner.kind then record { scope = scope; item = item; inner = Some n } ∷ called_places scope item (n + 1) rest
+    if may_be_given inner.kind then record { scope = scope; item = item; inner = Some n } ∷ called_places scope item
+      (n + 1) rest
     else called_places scope item (n + 1) rest
 
 -- the targets that an item stands for, by its kind
@@ -51,11 +53,13 @@ abbrev pub places_of : Decls → ℕ → ℕ → Option ItemDecl → List Target
 places_of ds scope item None = []
 places_of ds scope item (Some decl) = places_at ds scope item decl.kind
 
--- the targets of a scope, in the evaluation order: its variables that are no inputs, and for a called scope that scope's
+-- the targets of a scope, in the evaluation order: its variables that are no inputs, and for a called scope that
+-- scope's
 -- inputs and contexts in the order of their declarations
 abbrev pub targets_of : Decls → ℕ → List ItemDecl → List ℕ → List Target
 targets_of ds scope items [] = []
-targets_of ds scope items (item ∷ order) = places_of ds scope item (slice_get items item) ++ targets_of ds scope items order
+targets_of ds scope items (item ∷ order) = places_of ds scope item (slice_get items item) ++ targets_of ds scope items
+  order
 
 -- the numbers of some definitions
 abbrev pub numbers_of : List Numbered → List ℕ
@@ -65,7 +69,8 @@ numbers_of (d ∷ ds) = d.0 ∷ numbers_of ds
 -- groups from number n on, each with the numbers of its definitions and of the groups that except it
 abbrev pub forest_groups : List (ℕ × ℕ) → ℕ → List Group → List ForestGroup
 forest_groups pairs n [] = []
-forest_groups pairs n (g ∷ gs) = record { defs = numbers_of g.defs; excepted_by = excepting pairs n } ∷ forest_groups pairs (n + 1) gs
+forest_groups pairs n (g ∷ gs) = record { defs = numbers_of g.defs; excepted_by = excepting pairs n } ∷ forest_groups
+  pairs (n + 1) gs
 
 -- all groups of a target
 abbrev pub forest_of_groups : List Group → List ForestGroup
@@ -74,7 +79,8 @@ forest_of_groups groups = forest_groups (excepts groups) 0 groups
 -- the groups of each target
 abbrev pub forest_of : List Def → List Target → List ForestTarget
 forest_of defs [] = []
-forest_of defs (place ∷ places) = record { place = place; groups = forest_of_groups (groups_of (defs_from place 0 defs)) } ∷ forest_of defs places
+forest_of defs (place ∷ places) =
+  record { place = place; groups = forest_of_groups (groups_of (defs_from place 0 defs)) } ∷ forest_of defs places
 
 -- the program has a scope of that number, and a forest has each target of it, with its groups and what excepts what, as
 -- the labels tell

@@ -1,5 +1,6 @@
 -- The groups of a target's definitions, and which except which, read off the labels alone.
-use Rattle.std.specs.Prelude.{ℕ, ◌+◌, nat_eq, bytes_eq, Bool, true, false, List, [], ◌∷◌, Option, Some, None, if◌then◌else◌}
+use Rattle.std.specs.Prelude.{ℕ, ◌+◌, nat_eq, bytes_eq, Bool, true, false, List, [], ◌∷◌, Option, Some, None}
+use Rattle.std.specs.Prelude.{if◌then◌else◌}
 use Rattle.cat_scope.specs.declared.defs.Label.{Label}
 use Rattle.cat_scope.specs.declared.defs.Except.{Except}
 use Rattle.cat_scope.specs.declared.defs.Except.TheVariants as except
@@ -9,7 +10,8 @@ use Rattle.cat_scope.specs.declared.defs.Def.{Def}
 abbrev pub Numbered : Type 0
 Numbered = ℕ × Def
 
--- what the definitions of a group have in common: the text of a label; or that they have none and are no exceptions. An exception
+-- what the definitions of a group have in common: the text of a label; or that they have none and are no exceptions. An
+-- exception
 -- without a label is a group of its own
 pub data Key : Type 0 where
   Labelled : List ℕ → Key

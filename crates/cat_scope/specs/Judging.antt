@@ -1,5 +1,6 @@
 -- What groups of definitions come to, of which some except others.
-use Rattle.std.specs.Prelude.{ℕ, zero, suc, nat_lt, List, [], ◌∷◌, map, Option, Some, None, Result, Ok, Err, if◌then◌else◌}
+use Rattle.std.specs.Prelude.{ℕ, zero, suc, nat_lt, List, [], ◌∷◌, map, Option, Some, None, Result, Ok, Err}
+use Rattle.std.specs.Prelude.{if◌then◌else◌}
 use Rattle.cat_pos.specs.declared.pos.Pos.{Pos}
 use Rattle.cat_value.specs.declared.outcome.Target.{Target}
 use Rattle.cat_scope.specs.declared.stop.Stop.{Stop}
@@ -65,7 +66,8 @@ or_else first other = and_then first (λ found. found_or found other)
 -- come to `own`; a chain of exceptions that is longer than n is stuck
 abbrev pub judge : {A : Type 0} → Target → List (ℕ × ℕ) → (ℕ → Judged A) → ℕ → ℕ → Judged A
 judge place pairs own zero group = stops Stuck
-judge place pairs own (suc n) group = or_else (settle place (map (judge place pairs own n) (excepting pairs group))) (own group)
+judge place pairs own (suc n) group = or_else (settle place (map (judge place pairs own n) (excepting pairs group)))
+  (own group)
 
 -- the place of the definition that holds
 abbrev pub place_in : {A : Type 0} → Option (Held A) → Option Pos
@@ -74,4 +76,5 @@ place_in (Some h) = Some h.pos
 
 -- a judging that ends Held or Empty is logged as it ends, behind all that was decided within
 abbrev pub decided : {A : Type 0} → Target → Judged A → Judged A
-decided target judged = and_then judged (λ found. record { log = record { target = target; by = place_in found } ∷ []; end = Ok found })
+decided target judged =
+  and_then judged (λ found. record { log = record { target = target; by = place_in found } ∷ []; end = Ok found })

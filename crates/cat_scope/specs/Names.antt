@@ -1,5 +1,6 @@
 -- What names stand for, and which types what they name has.
-use Rattle.std.specs.Prelude.{◌≡◌, ◌⊎◌, ℕ, zero, suc, ◌+◌, ◌&&◌, nat_eq, Bool, true, false, not, List, [], ◌∷◌, Option, Some, None, slice_get, if◌then◌else◌}
+use Rattle.std.specs.Prelude.{◌≡◌, ◌⊎◌, ℕ, zero, suc, ◌+◌, ◌&&◌, nat_eq, Bool, true, false, not, List, [], ◌∷◌, Option}
+use Rattle.std.specs.Prelude.{Some, None, slice_get, if◌then◌else◌}
 use Rattle.cat_value.specs.declared.decls.Decls.{Decls}
 use Rattle.cat_value.specs.declared.declaration.Kind.{Kind}
 use Rattle.cat_value.specs.declared.declaration.Kind.TheVariants as kind
@@ -84,4 +85,5 @@ are_all_in (suc n) ns = is_in n ns && are_all_in n ns
 abbrev pub inputs_given : ℕ → List ItemDecl → List ℕ → Bool
 inputs_given n [] fields = true
 inputs_given n (item ∷ items) fields =
-    (if must_be_given item.kind && not item.condition then is_in n fields else true) && inputs_given (n + 1) items fields
+    (if must_be_given item.kind && not item.condition then is_in n fields else true) && inputs_given (n + 1) items
+      fields

@@ -2,7 +2,8 @@
 use Rattle.std.specs.Prelude.{ℤ, pos, ◌-ℤ◌, neg_ℤ, not, Result, Ok}
 use Rattle.cat_pos.specs.declared.pos.Pos.{Pos}
 use Rattle.cat_num.specs.Whole.{whole_sum, whole_difference, whole_product}
-use Rattle.cat_num.specs.Frac.{Fraction, lowest, frac_of, frac_sum, frac_difference, frac_product, frac_quotient, frac_negation}
+use Rattle.cat_num.specs.Frac.{Fraction, lowest, frac_of, frac_sum, frac_difference, frac_product, frac_quotient}
+use Rattle.cat_num.specs.Frac.{frac_negation}
 use Rattle.cat_num.specs.Rounding.{rounded, truncated, rounded_ratio, money_product, money_quotient, whole_units}
 use Rattle.cat_date.specs.declared.rounding.Rounding.{Rounding}
 use Rattle.cat_date.specs.Calendar.{civil_of}
@@ -64,12 +65,16 @@ operate r binary.MultiplyIntegerByMoney p v w = on_two (integer v) (money w) (λ
 operate r binary.DivideMoneyByDecimal p v w = on_two (money v) (decimal w) (λ a f. exact p Money (money_quotient a f))
 operate r binary.DivideMoneyByInteger p v w = on_two (money v) (integer w) (λ a n. exact p Money (rounded_ratio a n))
 operate r binary.DivideMoney p v w = on_two (money v) (money w) (λ a b. exact p Decimal (frac_of a b))
-operate r binary.AddDurationToDate p v w = on_two (date v) (duration w) (λ day span. dated p Date (day_plus_span day span r))
-operate r binary.SubtractDurationFromDate p v w = on_two (date v) (duration w) (λ day span. dated p Date (day_plus_span day (span_negated span) r))
+operate r binary.AddDurationToDate p v w =
+  on_two (date v) (duration w) (λ day span. dated p Date (day_plus_span day span r))
+operate r binary.SubtractDurationFromDate p v w =
+  on_two (date v) (duration w) (λ day span. dated p Date (day_plus_span day (span_negated span) r))
 operate r binary.SubtractDates p v w = on_two (date v) (date w) (λ a b. Ok (Duration (span_of_days (a -ℤ b))))
 operate r binary.AddDurations p v w = on_two (duration v) (duration w) (λ a b. dated p Duration (span_sum a b))
-operate r binary.SubtractDurations p v w = on_two (duration v) (duration w) (λ a b. dated p Duration (span_difference a b))
-operate r binary.MultiplyDurationByInteger p v w = on_two (duration v) (integer w) (λ a n. dated p Duration (span_multiple a n))
+operate r binary.SubtractDurations p v w =
+  on_two (duration v) (duration w) (λ a b. dated p Duration (span_difference a b))
+operate r binary.MultiplyDurationByInteger p v w =
+  on_two (duration v) (integer w) (λ a n. dated p Duration (span_multiple a n))
 operate r binary.Xor p v w = on_two (truth v) (truth w) (λ a b. Ok (Boolean (differ a b)))
 operate r binary.Less p v w = on_one (compared p v w) (λ o. Ok (Boolean (is_less o)))
 operate r binary.AtMost p v w = on_one (compared p v w) (λ o. Ok (Boolean (not (is_greater o))))

@@ -1,5 +1,6 @@
 -- What a scope gives for an input: its items in their order, then its assertions, then its outputs.
-use Rattle.std.specs.Prelude.{ℕ, zero, suc, nat_eq, List, [], ◌∷◌, Option, Some, None, Result, Ok, Err, slice_get, if◌then◌else◌}
+use Rattle.std.specs.Prelude.{ℕ, zero, suc, nat_eq, List, [], ◌∷◌, Option, Some, None, Result, Ok, Err, slice_get}
+use Rattle.std.specs.Prelude.{if◌then◌else◌}
 use Rattle.cat_value.specs.declared.value.Value.{Value}
 use Rattle.cat_value.specs.declared.declaration.ItemDecl.{ItemDecl}
 use Rattle.cat_value.specs.declared.declaration.Scope.{Scope}
@@ -44,13 +45,15 @@ no_values (item ∷ items) = None ∷ no_values items
 -- the assertions in source order: a false one is a fault at its keyword
 abbrev pub asserted : {A : Type 0} → (Expr → Run Value) → List Assertion → Run A → Run A
 asserted value [] last = last
-asserted value (a ∷ rest) last = and_then (value a.condition) (λ t. choose t (asserted value rest last) (stops (Fault AssertionFailed a.keyword)))
+asserted value (a ∷ rest) last =
+  and_then (value a.condition) (λ t. choose t (asserted value rest last) (stops (Fault AssertionFailed a.keyword)))
 
 -- the values of the outputs, in the order of their declarations
 abbrev pub outputs_of : List ItemDecl → Items → Result (List Value) Stop
 outputs_of [] values = Ok []
 outputs_of (item ∷ items) [] = Err Stuck
-outputs_of (item ∷ items) (v ∷ values) = if is_output item.kind then with_front (known v) (outputs_of items values) else outputs_of items values
+outputs_of (item ∷ items) (v ∷ values) = if is_output item.kind then with_front (known v) (outputs_of items values) else
+  outputs_of items values
 
 -- numbers, the last of them first
 abbrev pub moved : List ℕ → List ℕ → List ℕ
@@ -65,7 +68,8 @@ backwards ns = moved [] ns
 abbrev pub run_scoped : Scoped → Items → Run (List Value)
 run_scoped scoped input =
     and_then (run_items scoped input [] (no_values scoped.items) scoped.body.order)
-    (λ values. asserted (λ e. eval (env_of scoped (call scoped values (backwards scoped.body.order)) values) e []) scoped.body.assertions (plain (outputs_of scoped.items values)))
+    (λ values. asserted (λ e. eval (env_of scoped (call scoped values (backwards scoped.body.order)) values) e [])
+      scoped.body.assertions (plain (outputs_of scoped.items values)))
 
 -- the scope of that number, where it is declared and has a body
 abbrev pub run_scope : List Scope → Runs → ℕ → Option Scope → Option Body → Items → Run (List Value)

@@ -127,7 +127,8 @@ binary_back binary.Equal = refl
 binary_back binary.Unequal = refl
 
 pub binary_same : (o u : BinaryOp) → IsTrue (nat_eq (binary_number o) (binary_number u)) → o ≡ u
-binary_same o u h = sym (binary_back o) ∙ ap binary_at (same_number (binary_number o) (binary_number u) h) ∙ binary_back u
+binary_same o u h = sym (binary_back o) ∙ ap binary_at (same_number (binary_number o) (binary_number u) h)
+  ∙ binary_back u
 
 abbrev sum_at : ℕ → SumKind
 sum_at n =
@@ -178,7 +179,8 @@ literal_same (literal.Money a) (literal.Money b) h = ap literal.Money (int_same 
 literal_same (literal.Date a) (literal.Date b) h = ap literal.Date (int_same a b h)
 literal_same (literal.Duration a) (literal.Duration b) h =
     let two = both (int_eq a.months b.months) (int_eq a.days b.days) h in
-    ap (λ (n : ℤ). literal.Duration (record { months = n; days = a.days })) (int_same a.months b.months two.0) ∙ ap (λ (d : ℤ). literal.Duration (record { months = b.months; days = d })) (int_same a.days b.days two.1)
+    ap (λ (n : ℤ). literal.Duration (record { months = n; days = a.days })) (int_same a.months b.months two.0)
+      ∙ ap (λ (d : ℤ). literal.Duration (record { months = b.months; days = d })) (int_same a.days b.days two.1)
 literal_same _ _ h = not_true h
 
 pub literal_self : (l : Literal) → IsTrue (same_literal l l)
@@ -192,7 +194,8 @@ literal_self (literal.Duration a) = and_both _ _ (int_self a.months) (int_self a
 pub pattern_same : (p q : ArmPattern) → IsTrue (same_pattern p q) → p ≡ q
 pattern_same (pattern.Case k bound) (pattern.Case m other) h =
     let two = both (nat_eq k m) (not (differ bound other)) h in
-    ap (λ (n : ℕ). pattern.Case n bound) (same_number k m two.0) ∙ ap (λ (b : Bool). pattern.Case m b) (bool_same bound other two.1)
+    ap (λ (n : ℕ). pattern.Case n bound) (same_number k m two.0) ∙ ap (λ (b : Bool). pattern.Case m b)
+      (bool_same bound other two.1)
 pattern_same pattern.Anything pattern.Anything h = refl
 pattern_same _ _ h = not_true h
 

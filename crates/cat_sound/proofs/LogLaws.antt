@@ -316,7 +316,9 @@ module _ (ds : Decls) (bodies : List Body) where
       one_scope rest None p = refl
       one_scope rest (Some scope) None = refl
       one_scope rest (Some scope) (Some body) =
-          scoped_logs (Never t) refl (never_both t) (record { scope = n; items = scope.items; body = body; scopes = ds.scopes; runs = run ds.scopes bodies before })
+          scoped_logs (Never t) refl (never_both t)
+            (record { scope = n; items = scope.items; body = body; scopes = ds.scopes; runs =
+            run ds.scopes bodies before })
           rest (λ item inner by. no_scope (nat_eq n t.scope) _
           (turned t.scope n false (first_out t.scope n before out).0)) i
 
@@ -339,7 +341,8 @@ module _ (ds : Decls) (bodies : List Body) where
         → times_logged of_scope (run_scope ds.scopes (run ds.scopes bodies before) number (Some scope)
         (Some body) input).log ≡ 1
     here_once before out ends =
-        scoped_times (record { scope = number; items = scope.items; body = body; scopes = ds.scopes; runs = run ds.scopes bodies before }) input item decl
+        scoped_times (record { scope = number; items = scope.items; body = body; scopes = ds.scopes; runs =
+          run ds.scopes bodies before }) input item decl
         (foreign of_scope before out) is_variable at not_given outputs ends ∙ stands_once
 
     once_among : (whole : List ℕ) → Distinct whole → (run ds.scopes bodies whole number input).end ≡ Ok outputs

@@ -385,7 +385,8 @@ module _ (P : List Decider → Type 0) (none : P []) (joined : (xs ys : List Dec
           → P (record { target = target_in scoped item inner; by = place_in found } ∷ [])) where
         decided_logs : (inner : Option ℕ) → P (decided (target_in scoped item inner) (judging_of inner)).log
         decided_logs inner = then_logs (judging_of inner)
-            (λ found. record { log = record { target = target_in scoped item inner; by = place_in found } ∷ []; end = Ok found })
+            (λ found. record { log = record { target = target_in scoped item inner; by = place_in found } ∷ []; end =
+              Ok found })
             (judging_logs inner) (one inner)
 
         passed_logs : (place : Pos) (n : ℕ) (decls : List ItemDecl)

@@ -1,5 +1,6 @@
 -- In an order each number stands behind those that it needs.
-use Rattle.std.proofs.Common.{◌≡◌, ℕ, zero, suc, ◌+◌, ◌<◌, Bool, true, false, IsTrue, List, [], ◌∷◌, ◌++◌, length, take, get_or, Some, slice_get, refl, sym, ap, ◌∙◌, subst, arith, true≢false, if◌then◌else◌}
+use Rattle.std.proofs.Common.{◌≡◌, ℕ, zero, suc, ◌+◌, ◌<◌, Bool, true, false, IsTrue, List, [], ◌∷◌, ◌++◌, length, take}
+use Rattle.std.proofs.Common.{get_or, Some, slice_get, refl, sym, ap, ◌∙◌, subst, arith, true≢false, if◌then◌else◌}
 use Rattle.std.specs.Prelude.{nat_eq}
 use Rattle.std.proofs.lemmas.Bool.Decides.{nat_tests}
 use Rattle.std.proofs.lemmas.List.{take_at, get_or_at}
@@ -39,7 +40,8 @@ in_first : (x : ℕ) (ns : List ℕ) → IsTrue (is_in x (x ∷ ns))
 in_first x ns = grind (arith, nat_tests)
 
 -- what is among some numbers, and is not the first of them
-pub behind_first : (a b : ℕ) (before : List ℕ) → nat_eq a b ≡ false → IsTrue (is_in b (a ∷ before)) → IsTrue (is_in b before)
+pub behind_first : (a b : ℕ) (before : List ℕ) → nat_eq a b ≡ false → IsTrue (is_in b (a ∷ before))
+  → IsTrue (is_in b before)
 behind_first a b before e h = by (nat_eq b a) refl h
   where
     turned : (x y : ℕ) → nat_eq x y ≡ true → nat_eq y x ≡ true
@@ -72,8 +74,11 @@ pub moved_new : (x : ℕ) (before left : List ℕ) → IsTrue (is_in x left) →
 moved_new x before [] h = not_true h
 moved_new x before (n ∷ left) h = by (nat_eq x n) refl h (moved_new x (n ∷ before) left)
   where
-    by : (b : Bool) → nat_eq x n ≡ b → IsTrue (if b then true else is_in x left) → (IsTrue (is_in x left) → IsTrue (is_in x (moved (n ∷ before) left))) → IsTrue (is_in x (moved (n ∷ before) left))
-    by true e g rest = moved_old x (n ∷ before) left (subst (λ (m : ℕ). IsTrue (is_in x (m ∷ before))) (same_number x n e) (in_first x before))
+    by : (b : Bool) → nat_eq x n ≡ b → IsTrue (if b then true else is_in x left)
+      → (IsTrue (is_in x left) → IsTrue (is_in x (moved (n ∷ before) left)))
+      → IsTrue (is_in x (moved (n ∷ before) left))
+    by true e g rest = moved_old x (n ∷ before) left
+      (subst (λ (m : ℕ). IsTrue (is_in x (m ∷ before))) (same_number x n e) (in_first x before))
     by false e g rest = rest g
 
 -- ---- from the order
@@ -82,14 +87,17 @@ listed_in : (xs : List ℕ) (x : ℕ) → 0 < times xs x → IsTrue (is_in x xs)
 listed_in [] x h = absurd (omega arith)
 listed_in (y ∷ xs) x h = grind (arith, nat_tests, listed_in xs x)
 
-none_missing_in : (front before ns : List ℕ) → ((x : ℕ) → 0 < times front x → IsTrue (is_in x before)) → missing front ns ≡ 0 → AllIn before ns
+none_missing_in : (front before ns : List ℕ) → ((x : ℕ) → 0 < times front x → IsTrue (is_in x before))
+  → missing front ns ≡ 0 → AllIn before ns
 none_missing_in front before [] go h = tt
-none_missing_in front before (n ∷ ns) go h = (go n (listed front n ns h), none_missing_in front before ns go (omega arith))
+none_missing_in front before (n ∷ ns) go h =
+  (go n (listed front n ns h), none_missing_in front before ns go (omega arith))
   where
     listed : (front : List ℕ) (n : ℕ) (ns : List ℕ) → missing front (n ∷ ns) ≡ 0 → 0 < times front n
     listed front n ns g = grind (arith, nat_tests)
 
-in_push : (front before : List ℕ) (n : ℕ) → ((x : ℕ) → 0 < times front x → IsTrue (is_in x before)) → (x : ℕ) → 0 < times (front ++ n ∷ []) x → IsTrue (is_in x (n ∷ before))
+in_push : (front before : List ℕ) (n : ℕ) → ((x : ℕ) → 0 < times front x → IsTrue (is_in x before)) → (x : ℕ)
+  → 0 < times (front ++ n ∷ []) x → IsTrue (is_in x (n ∷ before))
 in_push front before n go x h = by (nat_eq x n) refl
   where
     other : (front : List ℕ) → nat_eq x n ≡ false → 0 < times (front ++ n ∷ []) x → 0 < times front x
@@ -103,17 +111,22 @@ in_push front before n go x h = by (nat_eq x n) refl
     by true e = refl
     by false e = go x (other front e h)
 
-order-ahead : (deps : List (List ℕ)) (listed : List ℕ) → IsInOrder deps listed → (front left before : List ℕ) → front ++ left ≡ listed
+order-ahead : (deps : List (List ℕ)) (listed : List ℕ) → IsInOrder deps listed → (front left before : List ℕ) → front
+  ++ left ≡ listed
     → ((x : ℕ) → 0 < times front x → IsTrue (is_in x before)) → Ahead (length deps) (dependencies_of deps) before left
 order-ahead deps listed in_order front [] before is go = tt
 order-ahead deps listed in_order front (n ∷ left) before is go =
-    let here : get_or listed (length front) 0 ≡ n = subst (λ (xs : List ℕ). get_or xs (length front) 0 ≡ n) is (get_or_at front n left 0 (length front) refl) in
-    let those : take (length front) listed ≡ front = subst (λ (xs : List ℕ). take (length front) xs ≡ front) is (take_at front (n ∷ left) (length front) refl) in
+    let here : get_or listed (length front) 0 ≡ n =
+      subst (λ (xs : List ℕ). get_or xs (length front) 0 ≡ n) is (get_or_at front n left 0 (length front) refl) in
+    let those : take (length front) listed ≡ front =
+      subst (λ (xs : List ℕ). take (length front) xs ≡ front) is (take_at front (n ∷ left) (length front) refl) in
     let next = in_order (length front) (subst (λ (xs : List ℕ). length front < length xs) is (shorter front n left)) in
-    let ready = Ready-of_is_ready deps front n (subst (λ (xs : List ℕ). is_ready deps xs n ≡ true) those (subst (λ (m : ℕ). is_ready deps (take (length front) listed) m ≡ true) here next.ready)) in (
+    let ready = Ready-of_is_ready deps front n (subst (λ (xs : List ℕ). is_ready deps xs n ≡ true) those
+      (subst (λ (m : ℕ). is_ready deps (take (length front) listed) m ≡ true) here next.ready)) in (
       ready.within,
       none_missing_in front before (dependencies_of deps n) go ready.none_missing,
-      order-ahead deps listed in_order (front ++ n ∷ []) left (n ∷ before) (again front n left ∙ is) (in_push front before n go),
+      order-ahead deps listed in_order (front ++ n ∷ []) left (n ∷ before) (again front n left ∙ is)
+        (in_push front before n go),
     )
   where
     shorter : (front : List ℕ) (n : ℕ) (left : List ℕ) → length front < length (front ++ n ∷ left)
@@ -124,34 +137,44 @@ order-ahead deps listed in_order front (n ∷ left) before is go =
     again [] n left = refl
     again (x ∷ front) n left = ap (λ xs. x ∷ xs) (again front n left)
 
-pub ahead-of_IsOrder : (deps : List (List ℕ)) (listed : List ℕ) → IsOrder deps listed → Ahead (length deps) (dependencies_of deps) [] listed
-ahead-of_IsOrder deps listed order = order-ahead deps listed order.in_order [] listed [] refl (λ x h. absurd (omega arith))
+pub ahead-of_IsOrder : (deps : List (List ℕ)) (listed : List ℕ) → IsOrder deps listed
+  → Ahead (length deps) (dependencies_of deps) [] listed
+ahead-of_IsOrder deps listed order =
+  order-ahead deps listed order.in_order [] listed [] refl (λ x h. absurd (omega arith))
 
-pub all-of_IsOrder : (deps : List (List ℕ)) (listed : List ℕ) → IsOrder deps listed → (n : ℕ) → n < length deps → IsTrue (is_in n listed)
+pub all-of_IsOrder : (deps : List (List ℕ)) (listed : List ℕ) → IsOrder deps listed → (n : ℕ) → n < length deps
+  → IsTrue (is_in n listed)
 all-of_IsOrder deps listed order n below = listed_in listed n (omega (arith, order.once n below))
 
-pub ahead_as : (bound other : ℕ) (needs wants : ℕ → List ℕ) → bound ≡ other → ((n : ℕ) → n < bound → (before : List ℕ) → AllIn before (needs n) → AllIn before (wants n)) → (before left : List ℕ)
+pub ahead_as : (bound other : ℕ) (needs wants : ℕ → List ℕ) → bound ≡ other
+  → ((n : ℕ) → n < bound → (before : List ℕ) → AllIn before (needs n) → AllIn before (wants n)) → (before left : List ℕ)
     → Ahead bound needs before left → Ahead other wants before left
 ahead_as bound other needs wants same go before [] h = tt
-ahead_as bound other needs wants same go before (n ∷ left) h = (omega (arith, h.0), go n h.0 before h.1, ahead_as bound other needs wants same go (n ∷ before) left h.2)
+ahead_as bound other needs wants same go before (n ∷ left) h =
+  (omega (arith, h.0), go n h.0 before h.1, ahead_as bound other needs wants same go (n ∷ before) left h.2)
 
 -- ---- the dependencies of items and of scopes
 
-pub dependencies-length : (named : Expr → List ℕ) (defs : List Def) (n : ℕ) (items : List ItemDecl) → length (dependencies_from named defs n items) ≡ length items
+pub dependencies-length : (named : Expr → List ℕ) (defs : List Def) (n : ℕ) (items : List ItemDecl)
+  → length (dependencies_from named defs n items) ≡ length items
 dependencies-length named defs n [] = refl
 dependencies-length named defs n (item ∷ items) = ap suc (dependencies-length named defs (n + 1) items)
 
-pub dependencies-at : (named : Expr → List ℕ) (defs : List Def) (n : ℕ) (items : List ItemDecl) (k : ℕ) → k < length items → dependencies_of (dependencies_from named defs n items) k ≡ in_defs_of named (n + k) defs
+pub dependencies-at : (named : Expr → List ℕ) (defs : List Def) (n : ℕ) (items : List ItemDecl) (k : ℕ)
+  → k < length items → dependencies_of (dependencies_from named defs n items) k ≡ in_defs_of named (n + k) defs
 dependencies-at named defs n [] k below = absurd (omega arith)
 dependencies-at named defs n (item ∷ items) zero below = ap (λ (m : ℕ). in_defs_of named m defs) (omega arith)
-dependencies-at named defs n (item ∷ items) (suc k) below = dependencies-at named defs (n + 1) items k (omega arith) ∙ ap (λ (m : ℕ). in_defs_of named m defs) (omega arith)
+dependencies-at named defs n (item ∷ items) (suc k) below = dependencies-at named defs (n + 1) items k (omega arith)
+  ∙ ap (λ (m : ℕ). in_defs_of named m defs) (omega arith)
 
-pub scopes-length : (scopes : List Scope) (bodies : List Body) → length bodies ≡ length scopes → length (scope_dependencies scopes bodies) ≡ length scopes
+pub scopes-length : (scopes : List Scope) (bodies : List Body) → length bodies ≡ length scopes
+  → length (scope_dependencies scopes bodies) ≡ length scopes
 scopes-length [] bodies same = refl
 scopes-length (scope ∷ scopes) [] same = absurd (omega arith)
 scopes-length (scope ∷ scopes) (body ∷ bodies) same = ap suc (scopes-length scopes bodies (omega arith))
 
-pub scopes-at : (scopes : List Scope) (bodies : List Body) (k : ℕ) (scope : Scope) (body : Body) → slice_get scopes k ≡ Some scope → slice_get bodies k ≡ Some body
+pub scopes-at : (scopes : List Scope) (bodies : List Body) (k : ℕ) (scope : Scope) (body : Body)
+  → slice_get scopes k ≡ Some scope → slice_get bodies k ≡ Some body
     → dependencies_of (scope_dependencies scopes bodies) k ≡ once [] (calls_in scope.items body)
 scopes-at [] bodies k scope body is also = absurd (cc)
 scopes-at (s ∷ scopes) [] k scope body is also = absurd (cc)
@@ -166,7 +189,8 @@ pub all_once : (P : ℕ → Type 0) (seen ns : List ℕ) → AllHave P seen → 
 all_once P seen [] old h = tt
 all_once P seen (n ∷ ns) old h = by (is_in n seen) refl h (all_once P seen ns) (all_once P (n ∷ seen) ns)
   where
-    by : (b : Bool) → is_in n seen ≡ b → AllHave P (if b then once seen ns else n ∷ once (n ∷ seen) ns) → (AllHave P seen → AllHave P (once seen ns) → AllHave P ns)
+    by : (b : Bool) → is_in n seen ≡ b → AllHave P (if b then once seen ns else n ∷ once (n ∷ seen) ns)
+      → (AllHave P seen → AllHave P (once seen ns) → AllHave P ns)
         → (AllHave P (n ∷ seen) → AllHave P (once (n ∷ seen) ns) → AllHave P ns) → AllHave P (n ∷ ns)
     by true e g one other = (in_at P seen n old e, one old g)
     by false e g one other = (g.0, other (g.0, old) g.1)

@@ -1,5 +1,6 @@
 -- A program's scope has an outcome on each well-typed input, and its values have the types of the outputs.
-use Rattle.std.proofs.Common.{Bool, IsTrue, refl, true≢false, ℕ, true, List, [], ◌∷◌, Option, Some, None, Result, Ok, Err}
+use Rattle.std.proofs.Common.{Bool, IsTrue, refl, true≢false, ℕ, true, List, [], ◌∷◌, Option, Some, None, Result, Ok}
+use Rattle.std.proofs.Common.{Err}
 use Rattle.std.proofs.Math.Bool.{Bool-set}
 use Rattle.std.proofs.Math.Logic.{∥∥₁_elim}
 use Rattle.cat_value.specs.declared.ty.Ty.{Ty}
@@ -43,7 +44,8 @@ IsOutcomeOf-prop ds items (Some (outcome.NoValue target place)) = hlevel Bool-se
 IsOutcomeOf-prop ds items (Some (outcome.Fault fault place)) = hlevel Bool-set
 IsOutcomeOf-prop ds items None = hlevel Bool-set
 
-outcome-of : (allowed : Allowed) → (ds : Decls) (items : List ItemDecl) (r : Result (List Value) Stop) → Ended allowed (AreOutputsOf ds items) r → IsOutcomeOf ds items (outcome_of r)
+outcome-of : (allowed : Allowed) → (ds : Decls) (items : List ItemDecl) (r : Result (List Value) Stop)
+  → Ended allowed (AreOutputsOf ds items) r → IsOutcomeOf ds items (outcome_of r)
 outcome-of allowed ds items (Ok outputs) h = h
 outcome-of allowed ds items (Err (stop.Conflict target places)) h = tt
 outcome-of allowed ds items (Err (stop.NoValue target place)) h = tt
@@ -63,18 +65,23 @@ any_stands target (Ok found) = refl
 any_stands target (Err s) = tt
 
 -- where every target may stop, and a log may hold anything, nothing is asked of a target
-pub programs_go_on : (ds : Decls) (bodies : List Body) (order : List ℕ) (scope : ℕ) (input : Items) → ∥ IsWellFormed ds bodies order ∥₁ → IsWellTyped ds scope input
+pub programs_go_on : (ds : Decls) (bodies : List Body) (order : List ℕ) (scope : ℕ) (input : Items)
+  → ∥ IsWellFormed ds bodies order ∥₁ → IsWellTyped ds scope input
     → IsOutcomeOf ds (scope_items ds scope) (outcome_of (run_of ds.scopes bodies order scope input).end)
 programs_go_on ds bodies order scope input formed typed =
-    ∥∥₁_elim formed (IsOutcomeOf-prop ds (scope_items ds scope) (outcome_of (run_of ds.scopes bodies order scope input).end))
+    ∥∥₁_elim formed
+      (IsOutcomeOf-prop ds (scope_items ds scope) (outcome_of (run_of ds.scopes bodies order scope input).end))
     (λ is. outcome-of anything ds (scope_items ds scope) (run_of ds.scopes bodies order scope input).end
-    (run-ends anything (λ k. true) ds bodies order scope input is (λ k h. everywhere (dependencies_of (scope_dependencies ds.scopes bodies) k))
+    (run-ends anything (λ k. true) ds bodies order scope input is
+      (λ k h. everywhere (dependencies_of (scope_dependencies ds.scopes bodies) k))
     (λ k s body h at body_at env arguments item inner ps t target are stand. record {
       ends = λ stops. absurd (true≢false stops);
-      stands = λ none. any_stands (record { scope = k; item = item; inner = inner }) (judge_target (λ e. eval env e arguments) (record { scope = k; item = item; inner = inner }) body.defs).end;
+      stands = λ none. any_stands (record { scope = k; item = item; inner = inner })
+        (judge_target (λ e. eval env e arguments) (record { scope = k; item = item; inner = inner }) body.defs).end;
     }) refl typed).1)
 
-Ended-prop : (allowed : Allowed) (ds : Decls) (items : List ItemDecl) (r : Result (List Value) Stop) → IsProp (Ended allowed (AreOutputsOf ds items) r)
+Ended-prop : (allowed : Allowed) (ds : Decls) (items : List ItemDecl) (r : Result (List Value) Stop)
+  → IsProp (Ended allowed (AreOutputsOf ds items) r)
 Ended-prop allowed ds items (Ok outputs) = AreOf-prop ds (types_of (outputs_in items)) outputs
 Ended-prop allowed ds items (Err (stop.Conflict target places)) = hlevel (Bool-set (allowed.may_stop target) true)
 Ended-prop allowed ds items (Err (stop.NoValue target place)) = hlevel (Bool-set (allowed.may_stop target) true)
@@ -85,28 +92,36 @@ log-prop : (allowed : Allowed) (log : List Decider) → IsProp (AllHave (IsDecis
 log-prop allowed [] = hlevel Bool-set
 log-prop allowed (d ∷ log) = hlevel (Bool-set (allowed.may_decide d.target d.by) true, log-prop allowed log)
 
-EndsIn-prop : (allowed : Allowed) (ds : Decls) (items : List ItemDecl) (run : Run (List Value)) → IsProp (EndsIn allowed (AreOutputsOf ds items) run)
+EndsIn-prop : (allowed : Allowed) (ds : Decls) (items : List ItemDecl) (run : Run (List Value))
+  → IsProp (EndsIn allowed (AreOutputsOf ds items) run)
 EndsIn-prop allowed ds items run = hlevel (log-prop allowed run.log, Ended-prop allowed ds items run.end)
 
 -- a run stops only with a fault or at a target that may stop, and its log holds what a log may hold
-pub settled_programs : (allowed : Allowed) (within : ℕ → Bool) (ds : Decls) (bodies : List Body) (order : List ℕ) (scope : ℕ) (input : Items) → ∥ IsWellFormed ds bodies order ∥₁
-    → IsClosed within ds bodies → ScopesSettled allowed within ds bodies → IsTrue (within scope) → IsWellTyped ds scope input
+pub settled_programs : (allowed : Allowed) (within : ℕ → Bool) (ds : Decls) (bodies : List Body) (order : List ℕ)
+  (scope : ℕ) (input : Items) → ∥ IsWellFormed ds bodies order ∥₁
+    → IsClosed within ds bodies → ScopesSettled allowed within ds bodies → IsTrue (within scope)
+      → IsWellTyped ds scope input
     → EndsIn allowed (AreOutputsOf ds (scope_items ds scope)) (run_of ds.scopes bodies order scope input)
 settled_programs allowed within ds bodies order scope input formed closed settled inside typed =
     ∥∥₁_elim formed (EndsIn-prop allowed ds (scope_items ds scope) (run_of ds.scopes bodies order scope input))
     (λ is. run-ends allowed within ds bodies order scope input is closed settled inside typed)
 
 -- what is decided is a target of a scope that is called
-pub logged_within : (within : ℕ → Bool) (ds : Decls) (bodies : List Body) (order : List ℕ) (scope : ℕ) (input : Items) → ∥ IsWellFormed ds bodies order ∥₁
-    → IsClosed within ds bodies → IsTrue (within scope) → IsWellTyped ds scope input → AllHave (λ d. IsTrue (within d.target.scope)) (run_of ds.scopes bodies order scope input).log
+pub logged_within : (within : ℕ → Bool) (ds : Decls) (bodies : List Body) (order : List ℕ) (scope : ℕ) (input : Items)
+  → ∥ IsWellFormed ds bodies order ∥₁
+    → IsClosed within ds bodies → IsTrue (within scope) → IsWellTyped ds scope input
+      → AllHave (λ d. IsTrue (within d.target.scope)) (run_of ds.scopes bodies order scope input).log
 logged_within within ds bodies order scope input formed closed inside typed =
-    (settled_programs (record { may_stop = λ target. true; may_decide = λ target by. within target.scope }) within ds bodies order scope input formed closed
+    (settled_programs (record { may_stop = λ target. true; may_decide = λ target by. within target.scope }) within ds
+      bodies order scope input formed closed
     (λ k s body here at body_at env arguments item inner ps t target are stand. record {
       ends = λ stops. absurd (true≢false stops);
-      stands = λ none. inside_all k here item inner (judge_target (λ e. eval env e arguments) (record { scope = k; item = item; inner = inner }) body.defs).end;
+      stands = λ none. inside_all k here item inner
+        (judge_target (λ e. eval env e arguments) (record { scope = k; item = item; inner = inner }) body.defs).end;
     }) inside typed).0
   where
     inside_all : (k : ℕ) → IsTrue (within k) → (item : ℕ) (inner : Option ℕ) (r : Result (Option (Held Value)) Stop)
-        → MayStand (record { may_stop = λ target. true; may_decide = λ target by. within target.scope }) (record { scope = k; item = item; inner = inner }) r
+        → MayStand (record { may_stop = λ target. true; may_decide = λ target by. within target.scope })
+          (record { scope = k; item = item; inner = inner }) r
     inside_all k here item inner (Ok found) = here
     inside_all k here item inner (Err s) = tt

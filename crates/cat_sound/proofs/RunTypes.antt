@@ -1,6 +1,8 @@
 -- The run of a scope, and of a program's scopes, ends in values of the types of its outputs, or in a stop that an
 -- outcome may be.
-use Rattle.std.proofs.Common.{◌≡◌, ℕ, zero, suc, ◌+◌, ◌<◌, Bool, true, false, ◌&&◌, ◌||◌, not, IsTrue, List, [], ◌∷◌, length, Option, Some, None, slice_get, refl, sym, ap, ◌∙◌, subst, arith, true≢false, if◌then◌else◌}
+use Rattle.std.proofs.Common.{◌≡◌, ℕ, zero, suc, ◌+◌, ◌<◌, Bool, true, false, ◌&&◌, ◌||◌, not, IsTrue, List, [], ◌∷◌}
+use Rattle.std.proofs.Common.{length, Option, Some, None, slice_get, refl, sym, ap, ◌∙◌, subst, arith, true≢false}
+use Rattle.std.proofs.Common.{if◌then◌else◌}
 use Rattle.std.specs.Prelude.{nat_eq}
 use Rattle.std.proofs.lemmas.Bool.Decides.{nat_tests}
 use Rattle.std.proofs.lemmas.Option.{slice_get_within}
@@ -12,7 +14,8 @@ use Rattle.cat_value.specs.declared.declaration.Kind.{Kind}
 use Rattle.cat_value.specs.declared.declaration.Kind.TheVariants as kind
 use Rattle.cat_value.specs.declared.declaration.ItemDecl.{ItemDecl}
 use Rattle.cat_value.specs.declared.declaration.Scope.{Scope}
-use Rattle.cat_value.specs.Inputs.{must_be_given, may_be_given, is_given_for, are_given_for, is_input_for, is_input_of, IsWellTyped}
+use Rattle.cat_value.specs.Inputs.{must_be_given, may_be_given, is_given_for, are_given_for, is_input_for, is_input_of}
+use Rattle.cat_value.specs.Inputs.{IsWellTyped}
 use Rattle.cat_order.specs.Order.{dependencies_of, IsOrder}
 use Rattle.cat_scope.specs.declared.stop.Stop.TheVariants.{Fault}
 use Rattle.cat_scope.specs.declared.expr.Expr.{Expr}
@@ -23,13 +26,16 @@ use Rattle.cat_scope.specs.declared.defs.SourcePart.{SourcePart}
 use Rattle.cat_scope.specs.declared.defs.SourcePart.TheVariants as part
 use Rattle.cat_scope.specs.Replies.{known, with_front}
 use Rattle.cat_scope.specs.Runs.{Run, plain, stops}
-use Rattle.cat_scope.specs.Names.{Names, AllHave, is_in, items_in, scope_items, is_output, is_called, has_none, is_plain, outputs_in}
+use Rattle.cat_scope.specs.Names.{Names, AllHave, is_in, items_in, scope_items, is_output, is_called, has_none}
+use Rattle.cat_scope.specs.Names.{is_plain, outputs_in}
 use Rattle.cat_scope.specs.Eval.{Env, eval}
-use Rattle.cat_scope.specs.Orders.{in_def, in_defs_of, item_dependencies, called_by_kind, called_by_items, called_in, calls_in, scope_dependencies}
+use Rattle.cat_scope.specs.Orders.{in_def, in_defs_of, item_dependencies, called_by_kind, called_by_items, called_in}
+use Rattle.cat_scope.specs.Orders.{calls_in, scope_dependencies}
 use Rattle.cat_scope.specs.Mentions.{items_named, scopes_named}
 use Rattle.cat_scope.specs.WellFormed.{is_internal, AssertionTyped, IsWhole, IsBodyOf, AreBodiesOf, IsWellFormed}
 use Rattle.cat_scope.specs.Calls.{Items, Runs, Scoped, env_of, call}
-use Rattle.cat_scope.specs.Running.{entry_at, with_entry, run_items, no_values, asserted, outputs_of, moved, backwards, run_scoped, run_scope, run, run_of}
+use Rattle.cat_scope.specs.Running.{entry_at, with_entry, run_items, no_values, asserted, outputs_of, moved, backwards}
+use Rattle.cat_scope.specs.Running.{run_scoped, run_scope, run, run_of}
 use Rattle.cat_scope.specs.ItemValues.{ungiven_value, item_value}
 use Rattle.cat_sound.specs.Settled.{IsClosed, ScopesSettled}
 use Rattle.cat_sound.specs.Endings.{Allowed, EndsIn, ResultsIn, IsOf, AreOf, types_of, AreOutputsOf, IsReady}
@@ -38,9 +44,12 @@ use Rattle.cat_sound.proofs.Endings.{ends_plain, ends_as, ends_then, ends_choose
 use Rattle.cat_sound.proofs.FormTypes.{same_some, same_number, not_true}
 use Rattle.cat_sound.proofs.ExprTypes.{expressions_go_on}
 use Rattle.cat_sound.proofs.TargetTypes.{all_more, all_at}
-use Rattle.cat_sound.proofs.OrderFacts.{AllIn, in_at, behind_first, Behind, Ahead, moved-behind, moved_new, ahead-of_IsOrder, all-of_IsOrder, ahead_as, dependencies-length, dependencies-at, scopes-length, scopes-at, all_once}
+use Rattle.cat_sound.proofs.OrderFacts.{AllIn, in_at, behind_first, Behind, Ahead, moved-behind, moved_new}
+use Rattle.cat_sound.proofs.OrderFacts.{ahead-of_IsOrder, all-of_IsOrder, ahead_as, dependencies-length}
+use Rattle.cat_sound.proofs.OrderFacts.{dependencies-at, scopes-length, scopes-at, all_once}
 use Rattle.cat_sound.proofs.InputTypes.{Placed, Callee}
-use Rattle.cat_sound.proofs.ScopeTypes.{names_of, IsSound, IsDone, DoneAt, callable, ready, done-variable, defined-ends, called-ends}
+use Rattle.cat_sound.proofs.ScopeTypes.{names_of, IsSound, IsDone, DoneAt, callable, ready, done-variable, defined-ends}
+use Rattle.cat_sound.proofs.ScopeTypes.{called-ends}
 
 -- ---- entries
 pub with_entry-same : (item : ℕ) (v : Option Value) (values : Items) → item < length values

@@ -96,7 +96,8 @@ module _ (scoped : Scoped) (others : Runs) where
     defs_same calls more values arguments target same [] h = tt
     defs_same calls more values arguments target same (d ∷ defs) h = (
       (λ one. def_agrees (env_of scoped calls values) (env_of other more values) arguments d refl
-          (tells calls more values same (in_def items_named d)) (calls_same calls more values (in_def scopes_named d) h.0)),
+          (tells calls more values same (in_def items_named d)) (calls_same calls more values (in_def scopes_named d)
+            h.0)),
       defs_same calls more values arguments target same defs h.1,
     )
 
@@ -256,7 +257,8 @@ module _ (ds : Decls) (bodies : List Body) (counted : length bodies ≡ length d
       (λ s. (i : Items) → runs s i ≡ others s i) scope.0.items body.0.source 1 body.0.defs body.0.assertions
       (are k body.0 body.1) those in
       found_as runs k scope.0 body.0 scope.1 body.1
-      ∙ scoped_same (record { scope = k; items = scope.0.items; body = body.0; scopes = ds.scopes; runs = runs }) others called.by_defs called.by_assertions (called.by_items (omega arith)) input
+      ∙ scoped_same (record { scope = k; items = scope.0.items; body = body.0; scopes = ds.scopes; runs = runs }) others
+        called.by_defs called.by_assertions (called.by_items (omega arith)) input
       ∙ sym (found_as others k scope.0 body.0 scope.1 body.1)
     where
       found_as : (rs : Runs) (n : ℕ) (scope : Scope) (body : Body) → slice_get ds.scopes n ≡ Some scope
@@ -380,7 +382,9 @@ module _ (ds : Decls) (bodies : List Body) (order : List ℕ) where
   -- a scope of a program is run where each scope that it calls gives what it gives in the program
   pub scopes_by_rule : ∥ IsWellFormed ds bodies order ∥₁ → (k : ℕ) (scope : Scope) (body : Body) (input : Items)
       → slice_get ds.scopes k ≡ Some scope → slice_get bodies k ≡ Some body
-      → run_of ds.scopes bodies order k input ≡ run_scoped (record { scope = k; items = scope.items; body = body; scopes = ds.scopes; runs = run_of ds.scopes bodies order }) input
+      → run_of ds.scopes bodies order k input ≡ run_scoped
+        (record { scope = k; items = scope.items; body = body; scopes = ds.scopes; runs = run_of ds.scopes bodies order
+        }) input
   unfolding run_of
   scopes_by_rule formed k scope body input is also =
       by_rule ds bodies

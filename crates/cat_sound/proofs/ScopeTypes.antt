@@ -1,5 +1,6 @@
 -- Definitions, functions and items of a scope end in values of their types, where the scopes that it calls do.
-use Rattle.std.proofs.Common.{◌≡◌, ℕ, ◌+◌, Bool, true, false, ◌||◌, not, IsTrue, List, [], ◌∷◌, ◌++◌, length, Option, Some, None, slice_get, refl, sym, ap, ◌∙◌, subst, arith, true≢false, if◌then◌else◌}
+use Rattle.std.proofs.Common.{◌≡◌, ℕ, ◌+◌, Bool, true, false, ◌||◌, not, IsTrue, List, [], ◌∷◌, ◌++◌, length, Option}
+use Rattle.std.proofs.Common.{Some, None, slice_get, refl, sym, ap, ◌∙◌, subst, arith, true≢false, if◌then◌else◌}
 use Rattle.std.specs.Prelude.{nat_eq}
 use Rattle.cat_value.specs.declared.ty.Ty.{Ty}
 use Rattle.cat_value.specs.declared.ty.Ty.TheVariants as flat_ty
@@ -15,7 +16,8 @@ use Rattle.cat_scope.specs.declared.defs.Def.{Def}
 use Rattle.cat_scope.specs.Replies.{on_one, known, done}
 use Rattle.cat_scope.specs.Runs.{Run, plain, gives, and_then}
 use Rattle.cat_scope.specs.Readings.{parts_in}
-use Rattle.cat_scope.specs.Names.{Names, AllHave, is_in, items_in, scope_items, outputs_in, output_at, is_called, has_none, is_plain, is_function}
+use Rattle.cat_scope.specs.Names.{Names, AllHave, is_in, items_in, scope_items, outputs_in, output_at, is_called}
+use Rattle.cat_scope.specs.Names.{has_none, is_plain, is_function}
 use Rattle.cat_scope.specs.Naming.{IsItem, IsCalledOutput, IsFunction}
 use Rattle.cat_scope.specs.Judging.{Judged, decided}
 use Rattle.cat_scope.specs.Targets.{same_inner, same_target, condition_of, absent, value_or}
@@ -25,17 +27,21 @@ use Rattle.cat_scope.specs.Orders.{in_condition, in_def, in_defs_of, called_by_i
 use Rattle.cat_scope.specs.Mentions.{items_named, scopes_named}
 use Rattle.cat_scope.specs.WellFormed.{is_internal, ConditionTyped, DefTyped, AssertionTyped}
 use Rattle.cat_scope.specs.Naming.{is_defined, IsInner, IsTargetAt}
-use Rattle.cat_scope.specs.Calls.{Items, Scoped, variable, variable_of_called, items_of, env_of, judged, variable_value, call}
+use Rattle.cat_scope.specs.Calls.{Items, Scoped, variable, variable_of_called, items_of, env_of, judged, variable_value}
+use Rattle.cat_scope.specs.Calls.{call}
 use Rattle.cat_scope.specs.ItemValues.{passed_input, called_value, defined_value}
-use Rattle.cat_sound.specs.Endings.{Allowed, Ended, EndsIn, ResultsIn, IsOf, AreOf, AreOutputsOf, IsReady, IsCallable, IsEnvOf}
+use Rattle.cat_sound.specs.Endings.{Allowed, Ended, EndsIn, ResultsIn, IsOf, AreOf, AreOutputsOf, IsReady, IsCallable}
+use Rattle.cat_sound.specs.Endings.{IsEnvOf}
 use Rattle.cat_scope.specs.HasType.{HasType}
-use Rattle.cat_sound.specs.Settled.{IsHeldOf, MayStand, InCondition, StandsIn, AreSettled, empty_variable, empty_input, items_of_kind, items_called, may_be_empty}
+use Rattle.cat_sound.specs.Settled.{IsHeldOf, MayStand, InCondition, StandsIn, AreSettled, empty_variable, empty_input}
+use Rattle.cat_sound.specs.Settled.{items_of_kind, items_called, may_be_empty}
 use Rattle.cat_sound.proofs.Results.{both, and_both, result_as, all_front, all_back}
 use Rattle.cat_sound.proofs.Endings.{ends_as, ends_then, all_stop, loosened}
 use Rattle.cat_sound.proofs.FlatTypes.{of-Boolean}
 use Rattle.cat_sound.proofs.FormTypes.{same_some, same_number, not_true}
 use Rattle.cat_sound.proofs.ExprTypes.{expressions_go_on}
-use Rattle.cat_sound.proofs.TargetTypes.{DefEnds, all_more, all_at, judge_target-ends, absent-ends, value_or-ends, decided-ends}
+use Rattle.cat_sound.proofs.TargetTypes.{DefEnds, all_more, all_at, judge_target-ends, absent-ends, value_or-ends}
+use Rattle.cat_sound.proofs.TargetTypes.{decided-ends}
 use Rattle.cat_sound.proofs.OrderFacts.{AllIn, in_at, behind_first, Behind}
 use Rattle.cat_value.specs.declared.outcome.Target.{Target}
 use Rattle.cat_sound.proofs.InputTypes.{Placed, condition_type, output-ends, Callee, scope_call-ends, passed_input-ends}

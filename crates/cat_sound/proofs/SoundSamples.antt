@@ -1,5 +1,6 @@
 -- Samples that meet the premises of laws.
-use Rattle.std.proofs.Common.{◌≡◌, ℕ, zero, suc, pos, Bool, true, false, IsTrue, List, [], ◌∷◌, Option, Some, None, Ok, refl, sym, ap, ◌∙◌, subst, rules, arith}
+use Rattle.std.proofs.Common.{◌≡◌, ℕ, zero, suc, pos, Bool, true, false, IsTrue, List, [], ◌∷◌, Option, Some, None, Ok}
+use Rattle.std.proofs.Common.{refl, sym, ap, ◌∙◌, subst, rules, arith}
 use Rattle.cat_value.specs.declared.value.Value.{Value}
 use Rattle.cat_value.specs.declared.value.Value.TheVariants as flat
 use Rattle.cat_value.specs.declared.value.Value.TheViews as value
@@ -57,11 +58,14 @@ module _ (ds : Decls) where
   -- an input has no definitions, and x is the only other target
   pub x_is_settled : AreSettled held names 0 defs
   x_is_settled env arguments zero None ps t target are stand =
-      not_true (subst (λ (i : ItemDecl). IsTrue (is_defined i)) (sym (same_some n_in target.decl target.decl_is)) target.defined)
+      not_true (subst (λ (i : ItemDecl). IsTrue (is_defined i)) (sym (same_some n_in target.decl target.decl_is))
+        target.defined)
   x_is_settled env arguments (suc zero) None ps t target are stand =
-      let ty_is : t ≡ flat_ty.Integer = target.ty_is ∙ sym (ap (λ (i : ItemDecl). i.ty) (same_some x_out target.decl target.decl_is)) in
+      let ty_is : t ≡ flat_ty.Integer =
+        target.ty_is ∙ sym (ap (λ (i : ItemDecl). i.ty) (same_some x_out target.decl target.decl_is)) in
       record {
-        ends = λ stops. subst (Ended held (IsHeldOf false ds t)) (sym (it_holds env arguments)) (subst (λ u. Ended held (IsHeldOf false ds u) (Ok (Some five))) (sym ty_is) (held_typed ds));
+        ends = λ stops. subst (Ended held (IsHeldOf false ds t)) (sym (it_holds env arguments))
+          (subst (λ u. Ended held (IsHeldOf false ds u) (Ok (Some five))) (sym ty_is) (held_typed ds));
         stands = λ none. subst (MayStand held x) (sym (it_holds env arguments)) refl;
       }
   x_is_settled env arguments (suc (suc item)) None ps t target are stand = absurd (cc (target.decl_is))

@@ -1,5 +1,6 @@
 -- What a target comes to rests on its own definitions, and a condition always has a value of its own.
-use Rattle.std.proofs.Common.{◌≡◌, ℕ, ◌+◌, Bool, true, false, List, [], ◌∷◌, ◌++◌, Option, None, Some, slice_get, nat_eq, refl, arith, Result, Ok, Err, sym, ap, ◌∙◌, if◌then◌else◌, true≢false}
+use Rattle.std.proofs.Common.{◌≡◌, ℕ, ◌+◌, Bool, true, false, List, [], ◌∷◌, ◌++◌, Option, None, Some, slice_get}
+use Rattle.std.proofs.Common.{nat_eq, refl, arith, Result, Ok, Err, sym, ap, ◌∙◌, if◌then◌else◌, true≢false}
 use Rattle.std.proofs.lemmas.Bool.Decides.{nat_tests}
 use Rattle.cat_pos.specs.declared.pos.Pos.{Pos}
 use Rattle.cat_value.specs.declared.value.Value.{Value}
@@ -18,27 +19,35 @@ use Rattle.cat_value.specs.Inputs.{must_be_given}
 use Rattle.cat_scope.specs.Calls.{Items, Scoped, variable, judged, variable_value, call}
 use Rattle.cat_scope.specs.ItemValues.{passed, defined_value}
 
-passed_over : (target : Target) (n : ℕ) (d : Def) (ds : List Def) → same_target d.target target ≡ false → defs_from target n (d ∷ ds) ≡ defs_from target (n + 1) ds
-passed_over target n d ds other = ap (λ same. if same then (n, d) ∷ defs_from target (n + 1) ds else defs_from target (n + 1) ds) other
+passed_over : (target : Target) (n : ℕ) (d : Def) (ds : List Def) → same_target d.target target ≡ false
+  → defs_from target n (d ∷ ds) ≡ defs_from target (n + 1) ds
+passed_over target n d ds other =
+  ap (λ same. if same then (n, d) ∷ defs_from target (n + 1) ds else defs_from target (n + 1) ds) other
 
-same_defs : (target : Target) (n : ℕ) (front : List Def) (d e : Def) (back : List Def) → same_target d.target target ≡ false → same_target e.target target ≡ false
+same_defs : (target : Target) (n : ℕ) (front : List Def) (d e : Def) (back : List Def) → same_target d.target target
+  ≡ false → same_target e.target target ≡ false
     → defs_from target n (front ++ d ∷ back) ≡ defs_from target n (front ++ e ∷ back)
-same_defs target n [] d e back other another = passed_over target n d back other ∙ sym (passed_over target n e back another)
+same_defs target n [] d e back other another =
+  passed_over target n d back other ∙ sym (passed_over target n e back another)
 same_defs target n (f ∷ front) d e back other another =
-    ap (λ rest. if same_target f.target target then (n, f) ∷ rest else rest) (same_defs target (n + 1) front d e back other another)
+    ap (λ rest. if same_target f.target target then (n, f) ∷ rest else rest)
+      (same_defs target (n + 1) front d e back other another)
 
-pub own_definitions_alone : (value : Expr → Run Value) (target : Target) (front : List Def) (d e : Def) (back : List Def)
+pub own_definitions_alone : (value : Expr → Run Value) (target : Target) (front : List Def) (d e : Def)
+  (back : List Def)
     → same_target d.target target ≡ false → same_target e.target target ≡ false
     → judge_target value target (front ++ d ∷ back) ≡ judge_target value target (front ++ e ∷ back)
 unfolding judge_target
-own_definitions_alone value target front d e back other another = ap (λ defs. judge_groups value target (groups_of defs)) (same_defs target 0 front d e back other another)
+own_definitions_alone value target front d e back other another =
+  ap (λ defs. judge_groups value target (groups_of defs)) (same_defs target 0 front d e back other another)
 
 abbrev is_ok : {A : Type 0} → Result A Stop → Bool
 is_ok (Ok a) = true
 is_ok (Err stop) = false
 
 -- a condition has a value, whatever is found
-false_or-ok : (target : Target) (place : Pos) (condition : Bool) (found : Option (Held Value)) → condition ≡ true → is_ok (value_or (absent target place condition) found) ≡ true
+false_or-ok : (target : Target) (place : Pos) (condition : Bool) (found : Option (Held Value)) → condition ≡ true
+  → is_ok (value_or (absent target place condition) found) ≡ true
 false_or-ok target place condition (Some h) is = refl
 false_or-ok target place true None is = refl
 false_or-ok target place false None is = absurd (true≢false (sym is))
@@ -49,18 +58,25 @@ as_stop s (Ok b) = Err s
 as_stop s (Err t) = Err t
 
 -- a log in front doesn't change the end
-behind-stops : {A B : Type 0} (log : List Decider) (r : Result A Stop) (next : A → Run B) (s : Stop) → ((a : A) → is_ok (next a).end ≡ true) → (behind log r next).end ≡ Err s → r ≡ Err s
+behind-stops : {A B : Type 0} (log : List Decider) (r : Result A Stop) (next : A → Run B) (s : Stop)
+  → ((a : A) → is_ok (next a).end ≡ true) → (behind log r next).end ≡ Err s → r ≡ Err s
 behind-stops log (Ok a) next s ok is = absurd (true≢false (sym (ok a) ∙ ap is_ok is))
 behind-stops log (Err t) next s ok is = ap (as_stop s) is
 
-value-stops : (target : Target) (decl : ItemDecl) (judging : Judged Value) (s : Stop) → decl.condition ≡ true → (variable_value target (Some decl) judging).end ≡ Err s → judging.end ≡ Err s
+value-stops : (target : Target) (decl : ItemDecl) (judging : Judged Value) (s : Stop) → decl.condition ≡ true
+  → (variable_value target (Some decl) judging).end ≡ Err s → judging.end ≡ Err s
 value-stops target decl judging s condition is =
-    behind-stops judging.log judging.end (λ found. plain (value_or (absent target decl.pos decl.condition) found)) s (λ found. false_or-ok target decl.pos decl.condition found condition) is
+    behind-stops judging.log judging.end (λ found. plain (value_or (absent target decl.pos decl.condition) found)) s
+      (λ found. false_or-ok target decl.pos decl.condition found condition) is
 
-pub condition-stops : (scoped : Scoped) (before : List ℕ) (values : Items) (item : ℕ) (decl : ItemDecl) (other : Target) (there : Pos) → decl.condition ≡ true
-    → (defined_value scoped before values item decl []).end ≡ Err (NoValue other there) → (judged scoped (call scoped values before) values [] (variable scoped item)).end ≡ Err (NoValue other there)
+pub condition-stops : (scoped : Scoped) (before : List ℕ) (values : Items) (item : ℕ) (decl : ItemDecl) (other : Target)
+  (there : Pos) → decl.condition ≡ true
+    → (defined_value scoped before values item decl []).end ≡ Err (NoValue other there)
+      → (judged scoped (call scoped values before) values [] (variable scoped item)).end ≡ Err (NoValue other there)
 condition-stops scoped before values item decl other there condition is =
-    behind-stops judging.log judging.end (λ found. record { log = record { target = variable scoped item; by = place_in found } ∷ []; end = Ok found }) (NoValue other there) (λ found. refl)
+    behind-stops judging.log judging.end
+      (λ found. record { log = record { target = variable scoped item; by = place_in found } ∷ []; end = Ok found })
+      (NoValue other there) (λ found. refl)
     (value-stops (variable scoped item) decl (decided (variable scoped item) judging) (NoValue other there) condition
     (behind-stops value.log value.end (λ v. gives (Some v)) (NoValue other there) (λ v. refl) is))
   where
@@ -70,11 +86,13 @@ condition-stops scoped before values item decl other there condition is =
     value : Run Value
     value = variable_value (variable scoped item) (Some decl) (decided (variable scoped item) judging)
 
-pub input-has : (target : Target) (place : Pos) (decl : ItemDecl) (found : Option (Held Value)) (other : Target) (there : Pos) → decl.condition ≡ true → ¬ (passed target place decl found ≡ Err (NoValue other there))
+pub input-has : (target : Target) (place : Pos) (decl : ItemDecl) (found : Option (Held Value)) (other : Target)
+  (there : Pos) → decl.condition ≡ true → ¬ (passed target place decl found ≡ Err (NoValue other there))
 input-has target place decl (Some h) other there condition is = true≢false (ap is_ok is)
 input-has target place decl None other there condition is = by (must_be_given decl.kind) decl.condition condition is
   where
-    by : (b c : Bool) → c ≡ true → (if b then on_one (absent target place c) (λ v. Ok (Some v)) else Ok None) ≡ Err (NoValue other there) → ⊥
+    by : (b c : Bool) → c ≡ true → (if b then on_one (absent target place c) (λ v. Ok (Some v)) else Ok None) ≡ Err
+      (NoValue other there) → ⊥
     by true true e g = true≢false (ap is_ok g)
     by true false e g = true≢false (sym e)
     by false c e g = true≢false (ap is_ok g)
@@ -82,12 +100,16 @@ input-has target place decl None other there condition is = by (must_be_given de
 same_itself : (n : ℕ) → nat_eq n n ≡ true
 same_itself n = grind (arith, nat_tests)
 
-pub function-stops : (scoped : Scoped) (values : Items) (before : List ℕ) (function : ℕ) (arguments : List Value) (decl : ItemDecl) (other : Target) (there : Pos)
-    → slice_get scoped.items function ≡ Some decl → decl.condition ≡ true → (call scoped values (function ∷ before) function arguments).end ≡ Err (NoValue other there)
-    → (judged scoped (call scoped values before) values arguments (variable scoped function)).end ≡ Err (NoValue other there)
+pub function-stops : (scoped : Scoped) (values : Items) (before : List ℕ) (function : ℕ) (arguments : List Value)
+  (decl : ItemDecl) (other : Target) (there : Pos)
+    → slice_get scoped.items function ≡ Some decl → decl.condition ≡ true
+      → (call scoped values (function ∷ before) function arguments).end ≡ Err (NoValue other there)
+    → (judged scoped (call scoped values before) values arguments (variable scoped function)).end ≡ Err
+      (NoValue other there)
 function-stops scoped values before function arguments decl other there at condition is =
     value-stops (variable scoped function) decl judging (NoValue other there) condition
-    (sym (ap (λ b. (if b then variable_value (variable scoped function) (slice_get scoped.items function) judging else call scoped values before function arguments).end) (same_itself function)
+    (sym (ap (λ b. (if b then variable_value (variable scoped function) (slice_get scoped.items function) judging else
+      call scoped values before function arguments).end) (same_itself function)
     ∙ ap (λ o. (variable_value (variable scoped function) o judging).end) at) ∙ is)
   where
     judging : Judged Value

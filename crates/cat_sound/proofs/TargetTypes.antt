@@ -144,7 +144,8 @@ record Excepting (all : List Group) (n : ℕ) (gs : List Group) (h k : ℕ) : Ty
 one_further : (all : List Group) (n : ℕ) (g : Group) (gs : List Group) (h k : ℕ) → Excepting all (n + 1) gs h k
     → Excepting all n (g ∷ gs) h k
 one_further all n g gs h k e =
-    let is = e.is in record { place = suc e.place; group = e.group; is = omega arith; there = e.there; excepted = e.excepted }
+    let is = e.is in record { place = suc e.place; group = e.group; is = omega arith; there = e.there; excepted =
+      e.excepted }
 
 excepting-all : (all : List Group) (n : ℕ) (gs : List Group) (h : ℕ)
     → AllHave (Excepting all n gs h) (excepting (pairs_from all n gs) h)
@@ -189,7 +190,8 @@ passing-all passes n [] = tt
 passing-all passes n (g ∷ gs) =
     by (passes g) refl (all_more (Passing passes (n + 1) gs) (Passing passes n (g ∷ gs))
     (numbers_of passes (n + 1) gs) (passing-all passes (n + 1) gs)
-    (λ k e. let is = e.is in record { place = suc e.place; group = e.group; is = omega arith; there = e.there; passed = e.passed }))
+    (λ k e. let is = e.is in record { place = suc e.place; group = e.group; is = omega arith; there = e.there; passed =
+      e.passed }))
   where
     by : (b : Bool) → passes g ≡ b → AllHave (Passing passes n (g ∷ gs)) (numbers_of passes (n + 1) gs)
         → AllHave (Passing passes n (g ∷ gs)) (if b then n ∷ numbers_of passes (n + 1) gs else numbers_of passes

@@ -1,5 +1,6 @@
 -- Chains that end where a function of numbers ends have no number twice, and so they are short.
-use Rattle.std.proofs.Common.{◌≡◌, ℕ, suc, ◌<◌, ◌≤◌, Bool, true, false, List, [], ◌∷◌, length, Option, Some, None, refl, sym, ap, ◌∙◌, subst, arith, true≢false}
+use Rattle.std.proofs.Common.{◌≡◌, ℕ, suc, ◌<◌, ◌≤◌, Bool, true, false, List, [], ◌∷◌, length, Option, Some, None, refl}
+use Rattle.std.proofs.Common.{sym, ap, ◌∙◌, subst, arith, true≢false}
 use Rattle.std.specs.List.{IsDistinct, AllByRecursion, list_any}
 use Rattle.std.specs.Prelude.{◌||◌}
 use Rattle.std.proofs.Math.Dec.{eqb}
@@ -36,13 +37,17 @@ module _ (next : ℕ → Option ℕ) (bound : ℕ) where
   from q (x ∷ []) h there = by (eqb q x) refl there
     where
       by : (b : Bool) → eqb q x ≡ b → (b || false) ≡ true → From q (x ∷ [])
-      by true e g = record { rest = []; trail = subst (λ (n : ℕ). Trail (n ∷ [])) (sym (eqb-true q x e)) h; shorter = omega arith }
+      by true e g = record { rest = []; trail = subst (λ (n : ℕ). Trail (n ∷ [])) (sym (eqb-true q x e)) h; shorter =
+        omega arith }
       by false e g = absurd (true≢false (sym g))
   from q (x ∷ y ∷ ys) h there = by (eqb q x) refl there (from q (y ∷ ys) h.2)
     where
-      by : (b : Bool) → eqb q x ≡ b → (b || among q (y ∷ ys)) ≡ true → (among q (y ∷ ys) ≡ true → From q (y ∷ ys)) → From q (x ∷ y ∷ ys)
-      by true e g rest = record { rest = y ∷ ys; trail = subst (λ (n : ℕ). Trail (n ∷ y ∷ ys)) (sym (eqb-true q x e)) h; shorter = omega arith }
-      by false e g rest = let more = rest g in let shorter = more.shorter in record { rest = more.rest; trail = more.trail; shorter = omega arith }
+      by : (b : Bool) → eqb q x ≡ b → (b || among q (y ∷ ys)) ≡ true → (among q (y ∷ ys) ≡ true → From q (y ∷ ys))
+        → From q (x ∷ y ∷ ys)
+      by true e g rest = record { rest = y ∷ ys; trail = subst (λ (n : ℕ). Trail (n ∷ y ∷ ys)) (sym (eqb-true q x e)) h;
+        shorter = omega arith }
+      by false e g rest = let more = rest g in let shorter =
+        more.shorter in record { rest = more.rest; trail = more.trail; shorter = omega arith }
 
   not_again : (x : ℕ) (xs : List ℕ) → Trail (x ∷ xs) → Trail xs → among x xs ≡ true → ⊥
   not_again x xs h g there =

@@ -5,7 +5,8 @@ use Rattle.cat_pos.specs.declared.pos.Pos.{Pos}
 use Rattle.cat_thin_scope.specs.declared.parts.ThinItem.{ThinItem}
 use Rattle.cat_thin.specs.declared.words.Word.{Word}
 use Rattle.cat_thin.specs.declared.line.ThinLine.{ThinLine}
-use Rattle.cat_thin.specs.declared.line.ThinLine.TheVariants.{Opening, Declaration, Input, Output, Scope, Closing, Unknown}
+use Rattle.cat_thin.specs.declared.line.ThinLine.TheVariants.{Opening, Declaration, Input, Output, Scope, Closing}
+use Rattle.cat_thin.specs.declared.line.ThinLine.TheVariants.{Unknown}
 use Rattle.cat_thin.specs.Lines.{words_of, ends_with}
 use Rattle.cat_thin.specs.Names.{is_item_name, scope_before_colon}
 use Rattle.cat_thin.specs.Defining.{is, definition_of}
@@ -49,7 +50,8 @@ part_line line first words =
 
 -- the line that opens the scope, or a part of it
 unfoldable pub opened_line : ℕ → Word → List Word → ThinLine
-opened_line line first words = if is first (codes "scope") then or_unknown Scope (scope_of words) else part_line line first words
+opened_line line first words = if is first (codes "scope") then or_unknown Scope (scope_of words) else
+  part_line line first words
 
 -- the form that the first word tells
 unfoldable pub first_line : ℕ → Word → List Word → ThinLine

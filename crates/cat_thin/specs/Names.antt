@@ -1,5 +1,6 @@
 -- Names of scopes and of items.
-use Rattle.std.specs.Prelude.{ℕ, ◌==◌, ◌||◌, ◌&&◌, Bool, false, not, List, [], ◌∷◌, if◌then◌else◌, length, take, ◌-◌, Option, Some, None}
+use Rattle.std.specs.Prelude.{ℕ, ◌==◌, ◌||◌, ◌&&◌, Bool, false, not, List, [], ◌∷◌, if◌then◌else◌, length, take, ◌-◌}
+use Rattle.std.specs.Prelude.{Option, Some, None}
 use Rattle.std.specs.List.{slice_split, list_all, list_any}
 use Rattle.std.specs.Str.{bytes_eq}
 use Rattle.std.specs.Char.{is_ascii_uppercase, is_ascii_lowercase, is_ascii_alphanumeric}
@@ -31,4 +32,5 @@ is_item_name (byte ∷ bytes) = is_ascii_lowercase byte && (are_name_bytes bytes
 -- the scope's name in front of a colon
 abbrev pub scope_before_colon : List ℕ → Option (List ℕ)
 scope_before_colon text =
-    if ends_with 58 text && is_scope_name (take (length text - 1) text) then Some (take (length text - 1) text) else None
+    if ends_with 58 text && is_scope_name (take (length text - 1) text) then Some (take (length text - 1) text) else
+      None

@@ -1,5 +1,6 @@
 -- Integer literals.
-use Rattle.std.specs.Prelude.{ℕ, ◌+◌, ◌-◌, ◌*◌, ◌&&◌, ℤ, pos, Bool, List, [], ◌∷◌, length, nat_lt, nat_le, if◌then◌else◌, Option, Some, None}
+use Rattle.std.specs.Prelude.{ℕ, ◌+◌, ◌-◌, ◌*◌, ◌&&◌, ℤ, pos, Bool, List, [], ◌∷◌, length, nat_lt, nat_le}
+use Rattle.std.specs.Prelude.{if◌then◌else◌, Option, Some, None}
 use Rattle.std.specs.List.{list_all}
 use Rattle.std.specs.Char.{is_ascii_digit}
 use Rattle.cat_num.specs.Whole.{largest}
@@ -16,4 +17,5 @@ value_from value (digit ∷ digits) = value_from (10 * value + (digit - 48)) dig
 -- one or more digits, of a value that is not too large
 abbrev pub integer_of : List ℕ → Option ℤ
 integer_of text =
-    if nat_lt 0 (length text) && (are_digits text && nat_le (value_from 0 text) largest) then Some (pos (value_from 0 text)) else None
+    if nat_lt 0 (length text) && (are_digits text && nat_le (value_from 0 text) largest) then
+      Some (pos (value_from 0 text)) else None

@@ -3,7 +3,8 @@ use Rattle.std.specs.Prelude.{◌&&◌, Bool, true, false, List, [], ◌∷◌}
 use Rattle.cat_thin.specs.declared.line.ThinLine.{ThinLine}
 use Rattle.cat_thin.specs.declared.line.ThinLine.TheVariants as line
 use Rattle.cat_thin.specs.declared.section.Section.{Section}
-use Rattle.cat_thin.specs.declared.section.Section.TheVariants.{Start, Opening, Declaration, Input, Output, Scope, Definition, Closing, Unknown}
+use Rattle.cat_thin.specs.declared.section.Section.TheVariants.{Start, Opening, Declaration, Input, Output, Scope}
+use Rattle.cat_thin.specs.declared.section.Section.TheVariants.{Definition, Closing, Unknown}
 
 -- the kind of a line
 abbrev pub section_of : ThinLine → Section

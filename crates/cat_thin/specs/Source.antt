@@ -1,5 +1,6 @@
 -- The program that a thin source is.
-use Rattle.std.specs.Prelude.{◌≡◌, ◌≤◌, ⊤, ℕ, ◌+◌, ◌&&◌, Bool, true, false, refl, List, [], ◌∷◌, ◌++◌, length, nat_le, if◌then◌else◌, Option, Some, None}
+use Rattle.std.specs.Prelude.{◌≡◌, ◌≤◌, ⊤, ℕ, ◌+◌, ◌&&◌, Bool, true, false, refl, List, [], ◌∷◌, ◌++◌, length, nat_le}
+use Rattle.std.specs.Prelude.{if◌then◌else◌, Option, Some, None}
 use Rattle.std.specs.Str.{bytes_eq}
 use Rattle.cat_thin_scope.specs.declared.parts.ThinItem.{ThinItem}
 use Rattle.cat_thin_scope.specs.declared.parts.ThinDef.{ThinDef}
@@ -58,7 +59,8 @@ defs_of inputs names (line ∷ lines) = defs_of inputs names lines
 -- the items have names of their own, and there are at most 4,096
 abbrev pub are_items : List ThinItem → List ThinItem → Bool
 are_items inputs outputs =
-    nat_le (length inputs + length outputs) 4096 && (are_new [] (names_of inputs) && are_new (names_of inputs) (names_of outputs))
+    nat_le (length inputs + length outputs) 4096
+      && (are_new [] (names_of inputs) && are_new (names_of inputs) (names_of outputs))
 
 -- these are the names of the items, in order
 pub record NamesItems (inputs outputs : List ThinItem) (names : List (List ℕ)) : Type 0 where
@@ -73,8 +75,10 @@ same_scope (Some declared) (Some opened) = if bytes_eq declared opened then Some
 same_scope declared opened = None
 
 -- the program of these parts, where each number names an item
-abbrev pub certified : (scope : List ℕ) (inputs outputs : List ThinItem) (defs : List ThinDef) (test : Bool) → is_sound inputs outputs defs ≡ test → Option ThinProgram
-certified scope inputs outputs defs true sound = Some (record { scope = scope; inputs = inputs; outputs = outputs; defs = defs; sound = sound })
+abbrev pub certified : (scope : List ℕ) (inputs outputs : List ThinItem) (defs : List ThinDef) (test : Bool)
+  → is_sound inputs outputs defs ≡ test → Option ThinProgram
+certified scope inputs outputs defs true sound =
+  Some (record { scope = scope; inputs = inputs; outputs = outputs; defs = defs; sound = sound })
 certified scope inputs outputs defs false unsound = None
 
 -- a program has at most 65,536 definitions

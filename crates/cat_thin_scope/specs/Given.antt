@@ -1,5 +1,6 @@
 -- Which outcomes a run may give.
-use Rattle.std.specs.Prelude.{◌≡◌, ◌≤◌, ◌<◌, ◌+◌, ◌&&◌, ℤ, Bool, true, IsTrue, List, [], ◌∷◌, length, Option, Some, None, IsNone}
+use Rattle.std.specs.Prelude.{◌≡◌, ◌≤◌, ◌<◌, ◌+◌, ◌&&◌, ℤ, Bool, true, IsTrue, List, [], ◌∷◌, length, Option, Some}
+use Rattle.std.specs.Prelude.{None, IsNone}
 use Rattle.std.specs.Option.{is_some}
 use Rattle.cat_value.specs.declared.value.Value.{Value}
 use Rattle.cat_value.specs.declared.value.Value.TheOpen.{Value-F}

@@ -1,5 +1,6 @@
 -- The outcome of a scope on an input: each output is judged by the definitions of it that hold.
-use Rattle.std.specs.Prelude.{ℕ, ◌+◌, ◌==◌, ◌&&◌, ℤ, pos, int_lt, int_le, Bool, true, not, List, [], ◌∷◌, length, slice_index_or, if◌then◌else◌, Option, Some, None, Result, Ok, Err}
+use Rattle.std.specs.Prelude.{ℕ, ◌+◌, ◌==◌, ◌&&◌, ℤ, pos, int_lt, int_le, Bool, true, not, List, [], ◌∷◌, length}
+use Rattle.std.specs.Prelude.{slice_index_or, if◌then◌else◌, Option, Some, None, Result, Ok, Err}
 use Rattle.cat_pos.specs.declared.pos.Pos.{Pos}
 use Rattle.cat_thin_scope.specs.declared.parts.ThinItem.{ThinItem}
 use Rattle.cat_thin_scope.specs.declared.parts.ThinOp.{ThinOp}
@@ -38,7 +39,8 @@ number_of inputs (Input i) = slice_index_or inputs i (pos 0)
 abbrev pub held : List ℤ → ℕ → List ThinDef → List ThinDef
 held inputs output [] = []
 held inputs output (def ∷ defs) =
-    if (def.output == output) && holds inputs def.condition then def ∷ held inputs output defs else held inputs output defs
+    if (def.output == output) && holds inputs def.condition then def ∷ held inputs output defs else
+      held inputs output defs
 
 -- the places of definitions
 abbrev pub positions_of : List ThinDef → List Pos
@@ -65,7 +67,8 @@ before (Ok value) (Ok values) = Ok (value ∷ values)
 abbrev pub values_from : ThinProgram → List ℤ → ℕ → List ThinItem → Result (List Value) Outcome
 values_from program inputs output [] = Ok []
 values_from program inputs output (item ∷ items) =
-    before (judged inputs (target_of program output) item.pos (held inputs output program.defs)) (values_from program inputs (output + 1) items)
+    before (judged inputs (target_of program output) item.pos (held inputs output program.defs))
+      (values_from program inputs (output + 1) items)
 
 -- the values as an outcome, or the outcome that stands in their place
 abbrev pub outcome_of : Result (List Value) Outcome → Outcome

@@ -1,5 +1,6 @@
 -- The equations of the words on types and values, one a variant.
-use Rattle.std.proofs.Common.{◌≡◌, ℕ, ℤ, Bool, true, false, ◌&&◌, List, [], ◌∷◌, map, suc, length, ◌≢◌, Option, None, Some, nat_lt, nat_le, rules, refl, ap, ◌∙◌}
+use Rattle.std.proofs.Common.{◌≡◌, ℕ, ℤ, Bool, true, false, ◌&&◌, List, [], ◌∷◌, map, suc, length, ◌≢◌, Option, None}
+use Rattle.std.proofs.Common.{Some, nat_lt, nat_le, rules, refl, ap, ◌∙◌}
 use Rattle.std.specs.List.{list_all}
 use Rattle.std.specs.Cmp.Lexicographic.{pointwise}
 use Rattle.std.specs.Option.{option_map}
@@ -22,7 +23,9 @@ use Rattle.cat_value.specs.declared.declaration.Structure.{Structure}
 use Rattle.cat_value.specs.declared.declaration.Enumeration.{Enumeration}
 use Rattle.cat_value.specs.declared.decls.Decls.{Decls}
 use Rattle.cat_value.specs.Declarations.{is_declared, is_boolean, names_entry}
-use Rattle.cat_value.specs.Typing.{has_type, value_typed, level_typed, list_typed, is_type, most_elements, all_have_type, elements_typed, fields_have_types, content_has_type, is_structure, is_case, part_typed, structure_typed, case_typed}
+use Rattle.cat_value.specs.Typing.{has_type, value_typed, level_typed, list_typed, is_type, most_elements}
+use Rattle.cat_value.specs.Typing.{all_have_type, elements_typed, fields_have_types, content_has_type, is_structure}
+use Rattle.cat_value.specs.Typing.{is_case, part_typed, structure_typed, case_typed}
 use Rattle.cat_value.specs.Entries.{some_passes, fields_of, content_of}
 use Rattle.cat_value.specs.Flat.{integer_typed, decimal_typed, money_typed, date_typed, duration_typed}
 
@@ -169,6 +172,8 @@ fields_have_types-length ds (v ∷ vs) (f ∷ fs) h =
     and_false true = refl
     and_false false = refl
 
-pub ruleset declared = (is_declared_Boolean, is_declared_Integer, is_declared_Decimal, is_declared_Money, is_declared_Date, is_declared_Duration, is_declared_List, is_declared_Structure, is_declared_Enumeration)
+pub ruleset declared = (is_declared_Boolean, is_declared_Integer, is_declared_Decimal, is_declared_Money,
+  is_declared_Date, is_declared_Duration, is_declared_List, is_declared_Structure, is_declared_Enumeration)
 
-pub ruleset typing = (has_type_Boolean, has_type_Integer, has_type_Decimal, has_type_Money, has_type_Date, has_type_Duration, has_type_List, has_type_Structure, has_type_Case)
+pub ruleset typing = (has_type_Boolean, has_type_Integer, has_type_Decimal, has_type_Money, has_type_Date,
+  has_type_Duration, has_type_List, has_type_Structure, has_type_Case)

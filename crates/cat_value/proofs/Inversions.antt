@@ -14,9 +14,11 @@ use Rattle.cat_value.specs.declared.value.Value.TheOpen.{Value-F}
 use Rattle.cat_value.specs.declared.value.Value.TheVariants as flat
 use Rattle.cat_value.specs.declared.value.Value.TheViews as value
 use Rattle.cat_value.specs.declared.decls.Decls.{Decls}
-use Rattle.cat_value.specs.Typing.{has_type, list_typed, structure_typed, case_typed, elements_typed, is_structure, is_case}
+use Rattle.cat_value.specs.Typing.{has_type, list_typed, structure_typed, case_typed, elements_typed, is_structure}
+use Rattle.cat_value.specs.Typing.{is_case}
 use Rattle.cat_value.specs.Flat.{is_decimal}
-use Rattle.cat_value.proofs.Equations.{has_type_List, has_type_Structure, has_type_Case, has_type-levels, tested, tested_Case, list_is, structure_is, case_is}
+use Rattle.cat_value.proofs.Equations.{has_type_List, has_type_Structure, has_type_Case, has_type-levels, tested}
+use Rattle.cat_value.proofs.Equations.{tested_Case, list_is, structure_is, case_is}
 
 -- the type by its level
 pub whole : (t : Ty) (y : Ty-F Ty) (u : Ty) → ty.out-Ty t ≡ y → ty.roll-Ty y ≡ u → t ≡ u

@@ -1,5 +1,6 @@
 -- What the invariant of the declarations says, each fact for itself.
-use Rattle.std.proofs.Common.{◌≡◌, ◌↔◌, ℕ, length, Bool, IsTrue, Option, None, List, Some, slice_get, arith, refl, sym, true≢false, ◌<◌, ◌^◌}
+use Rattle.std.proofs.Common.{◌≡◌, ◌↔◌, ℕ, length, Bool, IsTrue, Option, None, List, Some, slice_get, arith, refl, sym}
+use Rattle.std.proofs.Common.{true≢false, ◌<◌, ◌^◌}
 use Rattle.std.specs.List.{list_all}
 use Rattle.cat_value.specs.declared.ty.Ty.{Ty}
 use Rattle.cat_value.specs.declared.ty.Ty.TheOpen.{Ty-F}
@@ -12,7 +13,8 @@ use Rattle.cat_value.specs.declared.declaration.Kind.TheVariants.{Called}
 use Rattle.cat_value.specs.declared.declaration.ItemDecl.{ItemDecl}
 use Rattle.cat_value.specs.declared.declaration.Scope.{Scope}
 use Rattle.cat_value.specs.declared.decls.Decls.{Decls}
-use Rattle.cat_value.specs.Declarations.{are_sound, is_sound, is_boolean, kind_is_sound, item_is_sound, scope_is_sound, field_is_sound}
+use Rattle.cat_value.specs.Declarations.{are_sound, is_sound, is_boolean, kind_is_sound, item_is_sound, scope_is_sound}
+use Rattle.cat_value.specs.Declarations.{field_is_sound}
 use Rattle.std.specs.Option.{is_some}
 use Rattle.cat_order.specs.Order.{IsOrder}
 use Rattle.cat_order.specs.Computed.{order_of}
@@ -20,25 +22,32 @@ use Rattle.cat_order.specs.Cycle.{IsOnCycle}
 use Rattle.cat_order.specs.Cause.{HasNoOrder}
 use Rattle.cat_value.specs.Dependencies.{type_dependencies, are_ordered}
 use Rattle.cat_value.specs.Laws.{IsStructure, IsEnumeration, IsItem, AreSound}
-use Rattle.cat_value.proofs.Descending.{list_all_at, structure_sound, enumeration_sound, fields_declared, has_cases, content_declared, structure_low, enumeration_low, within}
+use Rattle.cat_value.proofs.Descending.{list_all_at, structure_sound, enumeration_sound, fields_declared, has_cases}
+use Rattle.cat_value.proofs.Descending.{content_declared, structure_low, enumeration_low, within}
 use Rattle.cat_value.proofs.Inversions.{whole}
 
-scopes_sound : (ss : List Structure) (es : List Enumeration) (scopes : List Scope) → IsTrue (are_sound ss es scopes) → IsTrue (list_all (scope_is_sound ss es (length scopes)) scopes)
+scopes_sound : (ss : List Structure) (es : List Enumeration) (scopes : List Scope) → IsTrue (are_sound ss es scopes)
+  → IsTrue (list_all (scope_is_sound ss es (length scopes)) scopes)
 unfolding are_sound
 scopes_sound ss es scopes h = grind arith
 
-all_counted : (ss : List Structure) (es : List Enumeration) (scopes : List Scope) → IsTrue (are_sound ss es scopes) → (length ss < 2 ^ 32) × (length es < 2 ^ 32) × (length scopes < 2 ^ 32)
+all_counted : (ss : List Structure) (es : List Enumeration) (scopes : List Scope) → IsTrue (are_sound ss es scopes)
+  → (length ss < 2 ^ 32) × (length es < 2 ^ 32) × (length scopes < 2 ^ 32)
 unfolding are_sound
 all_counted ss es scopes h = (grind arith, grind arith, grind arith)
 
-scope_sound : (ds : Decls) (n : ℕ) (scope : Scope) → slice_get ds.scopes n ≡ Some scope → IsTrue (scope_is_sound ds.structures ds.enumerations (length ds.scopes) scope)
-scope_sound ds n scope e = list_all_at _ ds.scopes n scope (scopes_sound ds.structures ds.enumerations ds.scopes ds.sound) e
+scope_sound : (ds : Decls) (n : ℕ) (scope : Scope) → slice_get ds.scopes n ≡ Some scope
+  → IsTrue (scope_is_sound ds.structures ds.enumerations (length ds.scopes) scope)
+scope_sound ds n scope e =
+  list_all_at _ ds.scopes n scope (scopes_sound ds.structures ds.enumerations ds.scopes ds.sound) e
 
-item_sound : (ds : Decls) (n k : ℕ) (scope : Scope) (item : ItemDecl) → slice_get ds.scopes n ≡ Some scope → slice_get scope.items k ≡ Some item
+item_sound : (ds : Decls) (n k : ℕ) (scope : Scope) (item : ItemDecl) → slice_get ds.scopes n ≡ Some scope
+  → slice_get scope.items k ≡ Some item
     → IsTrue (item_is_sound ds.structures ds.enumerations (length ds.scopes) item)
 item_sound ds n k scope item e f =
     let s = scope_sound ds n scope e in
-    let items : IsTrue (list_all (item_is_sound ds.structures ds.enumerations (length ds.scopes)) scope.items) = grind arith in
+    let items : IsTrue (list_all (item_is_sound ds.structures ds.enumerations (length ds.scopes)) scope.items) =
+      grind arith in
     list_all_at _ scope.items k item items f
 
 boolean_is : (t : Ty) → IsTrue (is_boolean (ty.out-Ty t)) → t ≡ flat_ty.Boolean
@@ -48,14 +57,17 @@ boolean_is t h = by (ty.out-Ty t) refl h
     by Ty-F.Boolean q g = whole t Ty-F.Boolean flat_ty.Boolean q ty.rolls-Boolean
     by _ q g = absurd (true≢false (sym g))
 
-called_sound : (count : ℕ) (t : Ty) (condition : Bool) (kind : Kind) (scope : ℕ) → IsTrue (kind_is_sound count t condition kind) → kind ≡ Called scope → IsTrue (kind_is_sound count t condition (Called scope))
+called_sound : (count : ℕ) (t : Ty) (condition : Bool) (kind : Kind) (scope : ℕ)
+  → IsTrue (kind_is_sound count t condition kind) → kind ≡ Called scope
+  → IsTrue (kind_is_sound count t condition (Called scope))
 called_sound count t condition kind scope h e = rw e at h
 
 structure_is : (ds : Decls) (n : ℕ) (s : Structure) → slice_get ds.structures n ≡ Some s → IsStructure ds n s
 structure_is ds n s e = record {
   has_field = let h = structure_sound ds n s e in grind arith;
   counted = let h = structure_sound ds n s e in grind arith;
-  declared = λ k f g. list_all_at (field_is_sound ds.structures ds.enumerations) s.fields k f (fields_declared ds n s e) g;
+  declared = λ k f g. list_all_at (field_is_sound ds.structures ds.enumerations) s.fields k f (fields_declared ds n s e)
+    g;
   low = structure_low ds n (within ds.structures n s e);
 }
 
@@ -67,7 +79,8 @@ enumeration_is ds n d e = record {
   low = enumeration_low ds n (within ds.enumerations n d e);
 }
 
-item_is : (ds : Decls) (item : ItemDecl) → IsTrue (item_is_sound ds.structures ds.enumerations (length ds.scopes) item) → IsItem ds item
+item_is : (ds : Decls) (item : ItemDecl) → IsTrue (item_is_sound ds.structures ds.enumerations (length ds.scopes) item)
+  → IsItem ds item
 item_is ds item h =
     let kind : IsTrue (kind_is_sound (length ds.scopes) item.ty item.condition item.kind) = grind arith in
     let params : IsTrue (list_all (is_sound ds.structures ds.enumerations) item.params) = grind arith in
@@ -81,10 +94,12 @@ item_is ds item h =
       called_plain = λ scope e. let c = called_sound _ _ _ _ scope kind e in grind arith;
     }
 
-counted : (ds : Decls) → (length ds.structures < 2 ^ 32) × (length ds.enumerations < 2 ^ 32) × (length ds.scopes < 2 ^ 32)
+counted : (ds : Decls) → (length ds.structures < 2 ^ 32) × (length ds.enumerations < 2 ^ 32)
+  × (length ds.scopes < 2 ^ 32)
 counted ds = all_counted ds.structures ds.enumerations ds.scopes ds.sound
 
-types_ordered : (ss : List Structure) (es : List Enumeration) (scopes : List Scope) → IsTrue (are_sound ss es scopes) → IsTrue (are_ordered ss es)
+types_ordered : (ss : List Structure) (es : List Enumeration) (scopes : List Scope) → IsTrue (are_sound ss es scopes)
+  → IsTrue (are_ordered ss es)
 unfolding are_sound
 types_ordered ss es scopes h = grind arith
 
@@ -99,13 +114,16 @@ IsComputed = (deps : List (List ℕ)) (listed : List ℕ) → (order_of deps ≡
 abbrev CyclesLeaveNone : Type 0
 CyclesLeaveNone = (deps : List (List ℕ)) (item : ℕ) → IsOnCycle deps item → HasNoOrder deps
 
-order_there : IsComputed → (ss : List Structure) (es : List Enumeration) → IsTrue (are_ordered ss es) → (listed : List ℕ) × IsOrder (type_dependencies ss es) listed
+order_there : IsComputed → (ss : List Structure) (es : List Enumeration) → IsTrue (are_ordered ss es)
+  → (listed : List ℕ) × IsOrder (type_dependencies ss es) listed
 unfolding are_ordered
-order_there computed ss es h = let o = some_is (order_of (type_dependencies ss es)) h in (o.0, (computed (type_dependencies ss es) o.0).0 o.1)
+order_there computed ss es h = let o = some_is (order_of (type_dependencies ss es)) h in
+  (o.0, (computed (type_dependencies ss es) o.0).0 o.1)
 
 pub sound_is : IsComputed → CyclesLeaveNone → (ds : Decls) → AreSound ds
 sound_is computed none ds =
-    let order = order_there computed ds.structures ds.enumerations (types_ordered ds.structures ds.enumerations ds.scopes ds.sound) in
+    let order = order_there computed ds.structures ds.enumerations
+      (types_ordered ds.structures ds.enumerations ds.scopes ds.sound) in
     record {
       ordered = order;
       acyclic = λ n on. none (type_dependencies ds.structures ds.enumerations) n on order.0 order.1;

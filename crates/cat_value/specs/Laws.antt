@@ -1,8 +1,10 @@
 -- The words of the laws: how high values are, and what the invariant of the declarations says.
-use Rattle.std.specs.Prelude.{◌≡◌, ℕ, ◌+◌, ◌^◌, ◌<◌, ◌≤◌, max, false, IsTrue, List, [], ◌∷◌, length, Option, None, Some, slice_get}
+use Rattle.std.specs.Prelude.{◌≡◌, ℕ, ◌+◌, ◌^◌, ◌<◌, ◌≤◌, max, false, IsTrue, List, [], ◌∷◌, length, Option, None, Some}
+use Rattle.std.specs.Prelude.{slice_get}
 use Rattle.cat_value.specs.declared.ty.Ty.{Ty}
 use Rattle.cat_value.specs.declared.ty.Ty.TheOpen.{Ty-F}
-use Rattle.cat_value.specs.declared.ty.Ty.TheVariants.{Structure as structure, Enumeration as enumeration, Boolean as boolean}
+use Rattle.cat_value.specs.declared.ty.Ty.TheVariants.{Structure as structure, Enumeration as enumeration}
+use Rattle.cat_value.specs.declared.ty.Ty.TheVariants.{Boolean as boolean}
 use Rattle.cat_value.specs.declared.value.Value.{Value}
 use Rattle.cat_value.specs.declared.value.Value.TheOpen.{Value-F}
 use Rattle.cat_value.specs.declared.value.Value.TheFolds.{fold-Value}
@@ -84,4 +86,5 @@ pub record AreSound (ds : Decls) : Type 0 where
   pub enumerations_counted : length ds.enumerations < 2 ^ 32
   pub scopes_counted : length ds.scopes < 2 ^ 32
   pub items_counted : (n : ℕ) (scope : Scope) → slice_get ds.scopes n ≡ Some scope → length scope.items < 2 ^ 32
-  pub items : (n k : ℕ) (scope : Scope) (item : ItemDecl) → slice_get ds.scopes n ≡ Some scope → slice_get scope.items k ≡ Some item → IsItem ds item
+  pub items : (n k : ℕ) (scope : Scope) (item : ItemDecl) → slice_get ds.scopes n ≡ Some scope → slice_get scope.items k
+    ≡ Some item → IsItem ds item

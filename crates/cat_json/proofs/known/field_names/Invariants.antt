@@ -7,4 +7,5 @@ use Rattle.cat_json.specs.Reads.{is_among, field_names}
 use Rattle.cat_json.proofs.known.field_names.Given as goal
 
 abbrev pub invariant-loop-field : goal.invariant-loop-field
-invariant-loop-field l = (name : List ℕ) → (is_some (get_by (λ k. slice_cmp nat_cmp name k.now) l.known) || is_among (field_names (drop l.field-index l.fields)) name) ≡ is_among (field_names l.fields) name
+invariant-loop-field l = (name : List ℕ) → (is_some (get_by (λ k. slice_cmp nat_cmp name k.now) l.known)
+  || is_among (field_names (drop l.field-index l.fields)) name) ≡ is_among (field_names l.fields) name

@@ -8,4 +8,5 @@ use Rattle.cat_json.specs.InputsRead.{given_names}
 use Rattle.cat_json.proofs.known.given_names.Given as goal
 
 abbrev pub invariant-loop-item : goal.invariant-loop-item
-invariant-loop-item l = (name : List ℕ) → (is_some (get_by (λ k. slice_cmp nat_cmp name k.now) l.known) || is_among (given_names (drop l.item-index l.items)) name) ≡ is_among (given_names l.items) name
+invariant-loop-item l = (name : List ℕ) → (is_some (get_by (λ k. slice_cmp nat_cmp name k.now) l.known)
+  || is_among (given_names (drop l.item-index l.items)) name) ≡ is_among (given_names l.items) name

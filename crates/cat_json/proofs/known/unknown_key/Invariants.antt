@@ -10,4 +10,5 @@ use Rattle.cat_json.proofs.known.unknown_key.Given as goal
 abbrev pub invariant-loop-key : goal.invariant-loop-key
 invariant-loop-key l =
     unknown_key (λ name. is_some (get_by (λ k. slice_cmp nat_cmp name k.now) l.known)) (members_view l.key-iterator)
-    ≡ unknown_key (λ name. is_some (get_by (λ k. slice_cmp nat_cmp name k.now) l.known)) (members_view l.members.entries)
+    ≡ unknown_key (λ name. is_some (get_by (λ k. slice_cmp nat_cmp name k.now) l.known))
+      (members_view l.members.entries)

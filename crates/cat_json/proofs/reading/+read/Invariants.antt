@@ -35,8 +35,11 @@ decreases-elements_in l = 6 * l.depth + 6
 abbrev pub invariant-elements_in-loop-k : goal.invariant-elements_in-loop-k
 invariant-elements_in-loop-k l = record {
   nests : items_depth (items_view (drop l.k l.elements)) ≤ l.depth;
-  made : read_before l.values (elements_in l.k (elements_of l.decls (items_view (drop l.k l.elements))) l.ty) ≡ elements_in 0 (elements_of l.decls (items_view l.elements)) l.ty;
+  made : read_before l.values (elements_in l.k (elements_of l.decls (items_view (drop l.k l.elements))) l.ty)
+    ≡ elements_in 0 (elements_of l.decls (items_view l.elements)) l.ty;
 }
 
 abbrev pub invariant-fields_in-loop-field : goal.invariant-fields_in-loop-field
-invariant-fields_in-loop-field l = read_before l.values (fields_in (data_members l.decls (view l.value)) (drop l.field-index l.fields)) ≡ fields_in (data_members l.decls (view l.value)) l.fields
+invariant-fields_in-loop-field l = read_before l.values
+  (fields_in (data_members l.decls (view l.value)) (drop l.field-index l.fields)) ≡ fields_in
+  (data_members l.decls (view l.value)) l.fields

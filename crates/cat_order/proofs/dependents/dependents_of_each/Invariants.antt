@@ -7,5 +7,6 @@ use Rattle.cat_order.proofs.dependents.dependents_of_each.Given as goal
 abbrev pub invariant-loop-item : goal.invariant-loop-item
 invariant-loop-item l = record {
   one_each : length l.dependents.items ≡ length l.deps;
-  turned : (on : ℕ) (other : ℕ) → times (dependents_of l.dependents.items on) other ≡ times (dependencies_of (take l.item l.deps) other) on;
+  turned : (on : ℕ) (other : ℕ) → times (dependents_of l.dependents.items on) other ≡ times
+    (dependencies_of (take l.item l.deps) other) on;
 }

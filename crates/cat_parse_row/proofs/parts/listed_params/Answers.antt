@@ -10,7 +10,8 @@ pub loop-alloc-smaller : goal.loop-alloc-smaller
 loop-alloc-smaller c =
     smaller is_comma (comma typed_name)
     (one_and_more typed_name is_comma (comma typed_name)) c.args.tokens.now c.args.at
-    c.loop-alloc.place c.in_ok-item.item c.in_ok-item.next param_shrinks c.loop-alloc.invariant.within c.in_ok-item.ensures
+    c.loop-alloc.place c.in_ok-item.item c.in_ok-item.next param_shrinks c.loop-alloc.invariant.within
+      c.in_ok-item.ensures
 
 pub loop-alloc-preserved : goal.loop-alloc-preserved
 loop-alloc-preserved c =
@@ -37,7 +38,8 @@ loop-alloc-init c =
     (comma typed_name) whole c.args.tokens.now c.args.at c.in_ok-first.behind made)
     (sym made)
     (at_first is_comma
-    (comma typed_name) c.args.tokens.now c.args.at typed_name c.in_ok-first.first c.in_ok-first.behind c.in_ok-first.ensures)
+    (comma typed_name) c.args.tokens.now c.args.at typed_name c.in_ok-first.first c.in_ok-first.behind
+      c.in_ok-first.ensures)
 
 pub returns-in_err-item : goal.returns-in_err-item
 returns-in_err-item c =

@@ -9,7 +9,8 @@ use Rattle.cat_parse_row.proofs.parts.structure_fields.Goals as goal
 pub loop-alloc-smaller : goal.loop-alloc-smaller
 loop-alloc-smaller c =
     smaller (is_word key.Data) field (one_and_more field (is_word key.Data) field) c.args.tokens.now c.args.at
-    c.loop-alloc.place c.in_ok-item.item c.in_ok-item.next field_shrinks c.loop-alloc.invariant.within c.in_ok-item.ensures
+    c.loop-alloc.place c.in_ok-item.item c.in_ok-item.next field_shrinks c.loop-alloc.invariant.within
+      c.in_ok-item.ensures
 
 pub loop-alloc-preserved : goal.loop-alloc-preserved
 loop-alloc-preserved c =

@@ -11,14 +11,16 @@ use Rattle.cat_parse_row.proofs.scopes.scope_variables.Goals as goal
 pub loop-alloc-smaller : goal.loop-alloc-smaller
 loop-alloc-smaller c =
     smaller is_variable a_variable (many is_variable a_variable) c.args.tokens.now c.args.at
-    c.loop-alloc.place c.in_ok-variable.variable c.in_ok-variable.next variable_shrinks c.loop-alloc.invariant.within c.in_ok-variable.ensures
+    c.loop-alloc.place c.in_ok-variable.variable c.in_ok-variable.next variable_shrinks c.loop-alloc.invariant.within
+      c.in_ok-variable.ensures
 
 pub loop-alloc-preserved : goal.loop-alloc-preserved
 loop-alloc-preserved c =
     let l = c.loop-alloc in
     let whole = many is_variable a_variable in
     subst
-    (λ (made : List Variable). Stands is_variable a_variable whole c.args.tokens.now c.args.at c.in_ok-variable.next made)
+    (λ (made : List Variable). Stands is_variable a_variable whole c.args.tokens.now c.args.at c.in_ok-variable.next
+      made)
     (sym c.in_ok-push.ensures.ok)
     (further is_variable a_variable whole c.args.tokens.now c.args.at l.place l.variables c.in_ok-variable.variable
     c.in_ok-variable.next variable_shrinks

@@ -11,5 +11,7 @@ invariant-loop-def l = record {
   sound : IsTrue (are_sound_defs (length l.inputs) (length l.program.outputs) (drop l.def-index l.program.defs));
   count : length l.tallies.items ≡ length l.program.outputs;
   each : (output : ℕ) → output < length l.program.outputs
-      → with_all l.inputs (slice_index_or l.tallies.items output Nothing) (held l.inputs output (drop l.def-index l.program.defs)) ≡ with_all l.inputs Nothing (held l.inputs output l.program.defs);
+      → with_all l.inputs (slice_index_or l.tallies.items output Nothing)
+        (held l.inputs output (drop l.def-index l.program.defs)) ≡ with_all l.inputs Nothing
+        (held l.inputs output l.program.defs);
 }

@@ -25,7 +25,8 @@ abbrev pub invariant-highest_node-loop-node : goal.invariant-highest_node-loop-n
 invariant-highest_node-loop-node l = max l.highest (highest_node (drop l.node-index l.nodes)) ≡ highest_node l.nodes
 
 abbrev pub invariant-highest_value-loop-field : goal.invariant-highest_value-loop-field
-invariant-highest_value-loop-field l = max l.highest (highest_value (drop l.field-index l.fields)) ≡ highest_value l.fields
+invariant-highest_value-loop-field l = max l.highest (highest_value (drop l.field-index l.fields)) ≡ highest_value
+  l.fields
 
 abbrev pub invariant-highest_body-loop-arm : goal.invariant-highest_body-loop-arm
 invariant-highest_body-loop-arm l = max l.highest (highest_body (drop l.arm-index l.arms)) ≡ highest_body l.arms
