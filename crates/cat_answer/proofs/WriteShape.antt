@@ -16,7 +16,7 @@ use Rattle.cat_value.specs.declared.declaration.Enumeration.{Enumeration}
 use Rattle.cat_value.specs.declared.declaration.ItemDecl.{ItemDecl}
 use Rattle.cat_value.specs.declared.decls.Decls.{Decls}
 use Rattle.cat_value.specs.Entries.{fields_of}
-use Rattle.cat_value.proofs.Induction.{Each, Within, value_induction}
+use Rattle.cat_value.proofs.Exported.{Each, Within, value_induction}
 use Rattle.cat_answer.specs.Writes.{data_of, integer_data, input_data, inputs_data}
 use Rattle.cat_answer.specs.WrittenParts.{items_data, members_data, list_written, fields_written, structure_written}
 use Rattle.cat_answer.specs.WrittenParts.{content_written, case_written, numbered_written, enumeration_written}

@@ -6,3 +6,4 @@ pub mod RoundTrip
 pub mod StandardFacts
 pub mod SumOfDays
 pub mod TextLemmas
+pub mod Exported

@@ -15,7 +15,7 @@ use Rattle.cat_weave.specs.declared.part.Part.{Part}
 use Rattle.cat_weave.specs.declared.part.Part.TheVariants.{Code, Heading, Include}
 use Rattle.cat_gather.specs.Gathered.{Contents, Gathered, gathered_none, source_of, limit_after, Ending, Whole, Refused}
 use Rattle.cat_gather.specs.Gathered.{woven_as, is_among, twice}
-use Rattle.cat_gather.specs.Causes.{AreTold, AreToldBut, EndsIn, ComesTo, HasCause}
+use Rattle.cat_gather.specs.Causes.{AreTold, AreToldBut, HasEnding, ComesTo, HasCause}
 use Rattle.cat_gather.specs.inside.Worklist.{Leading, gather_parts, put_in_front, take_file, include_with}
 use Rattle.cat_gather.specs.inside.UnderWay.{Weaves, Takes, IsRefusedTake, SameOn, GoesOn, AreToCome}
 use Rattle.cat_gather.specs.declared.source.Source.{Source}
@@ -130,7 +130,7 @@ goes_on_same told main files on more same g =
 
 pub ends_in : (told : Contents) (main : List ℕ) (files : List (List ℕ)) (on : Contents →
     Ending Source) (ending : Ending Source) → ((c : Contents) → on c ≡ ending) → GoesOn told main files on →
-    EndsIn told main ending
+    HasEnding told main ending
 ends_in told main files on ending same g = (g.contents, g.agrees, g.goes_on g.contents (λ n _. refl) ∙ same g.contents)
 
 pub begins : (told : Contents) (main : List ℕ) →
@@ -226,7 +226,7 @@ take_goes_on told main name old new parts after fresh takes on =
 refused_cause : (told : Contents) (main name bytes : List ℕ) (g : Gathered) (parts : List Part)
     (refusal : GatherRefusal) → is_among name g.files ≡ false → Weaves told name g bytes (Err refusal)
     → GoesOn told main g.files (λ c. take_file (include_with c (63 - length g.files)) name parts g (c name)) →
-    EndsIn told main (Refused refusal)
+    HasEnding told main (Refused refusal)
 refused_cause told main name bytes g parts refusal fresh weaves on =
     ends_in told main (g.files ++ name ∷ []) _ (Refused refusal) (λ c. rw weaves.parts refl)
     (read_goes_on told main name bytes g parts fresh weaves.read on)

@@ -21,8 +21,8 @@ abbrev pub AreToldBut : List ℕ → Contents → Contents → Type 0
 AreToldBut but told contents = (name : List ℕ) → name ≢ but → IfSome (told name) (λ bytes. contents name ≡ Some bytes)
 
 -- gathering ends so, where files hold what is told
-abbrev pub EndsIn : Contents → List ℕ → Ending Source → Type 0
-EndsIn told main ending = (contents : Contents) × AreTold told contents × (gathered contents main ≡ ending)
+abbrev pub HasEnding : Contents → List ℕ → Ending Source → Type 0
+HasEnding told main ending = (contents : Contents) × AreTold told contents × (gathered contents main ≡ ending)
 
 -- gathering comes to that file, which the main file is or an include names, after files of so many bytes
 abbrev pub ComesTo : Contents → List ℕ → List ℕ → ℕ → Type 0
@@ -32,13 +32,13 @@ ComesTo told main name bytes =
 -- each answer has its cause, and tells what the shelf is left as: a refused read has listed its file's name and no
 -- other, want of memory may have listed one name, and every other answer leaves the shelf as it was
 abbrev pub HasCause : Shelved → Shelved → List ℕ → Result Source GatherRefusal → Type 0
-HasCause old new main (Ok source) = (new ≡ old) × EndsIn old.content main (Whole source)
+HasCause old new main (Ok source) = (new ≡ old) × HasEnding old.content main (Whole source)
 HasCause old new main (Err (NotUtf8 name pos)) =
-    (new ≡ old) × EndsIn old.content main (Refused (NotUtf8 name pos))
+    (new ≡ old) × HasEnding old.content main (Refused (NotUtf8 name pos))
 HasCause old new main (Err (FenceOpen name pos)) =
-    (new ≡ old) × EndsIn old.content main (Refused (FenceOpen name pos))
+    (new ≡ old) × HasEnding old.content main (Refused (FenceOpen name pos))
 HasCause old new main (Err (IncludeTwice name pos)) =
-    (new ≡ old) × EndsIn old.content main (Refused (IncludeTwice name pos))
+    (new ≡ old) × HasEnding old.content main (Refused (IncludeTwice name pos))
 HasCause old new main (Err (Missing name)) =
     (bytes : ℕ) × ComesTo old.content main name bytes × Reads name (limit_after bytes) old new (Err fault.Missing)
 HasCause old new main (Err (ReadFault name)) =

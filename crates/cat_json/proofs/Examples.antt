@@ -4,7 +4,7 @@ use Rattle.std.specs.Prelude.{Some, None, pos, negsuc, codes}
 use Rattle.std.specs.Fmt.{digits}
 use Rattle.serde_json.specs.Data.{null, number, string, object, unsigned, negative, member, no_members}
 use Rattle.cat_num.specs.Frac.{ratio, lowest, gcd}
-use Rattle.cat_date.proofs.OnLiterals.{cat_date_on_literals}
+use Rattle.cat_date.proofs.Exported.{cat_date_on_literals}
 use Rattle.cat_json.specs.declared.step.Step.TheVariants.{Name, Element}
 use Rattle.cat_json.specs.declared.refusal.Reason.TheVariants.{Missing, WrongForm, OutOfRange}
 use Rattle.cat_json.specs.Paths.{path_text, refused, at_step}

@@ -18,7 +18,7 @@ use Rattle.cat_value.specs.Declarations.{are_sound, scope_is_sound, item_is_soun
 use Rattle.cat_value.specs.Inputs.{must_be_given, may_be_given, is_given_for, are_given_for, is_input_for, is_input_of}
 use Rattle.cat_value.specs.Inputs.{IsWellTyped}
 use Rattle.cat_value.specs.Typing.{has_type, is_type}
-use Rattle.cat_value.proofs.Descending.{list_all_at, found}
+use Rattle.cat_value.proofs.Exported.{list_all_at, found}
 use Rattle.cat_json.specs.declared.refusal.InputRefusal.{InputRefusal}
 use Rattle.cat_json.specs.Paths.{Reading, made_of}
 use Rattle.cat_json.specs.Reads.{Reader, member_in, read_as, data_members, with_no_others}

@@ -5,8 +5,7 @@ use Rattle.std.proofs.Math.Nat.{mod-one}
 use Rattle.cat_num.specs.Whole.{Fits}
 use Rattle.cat_num.specs.Frac.{IsReduced, gcd, gcd_to, ratio, frac_of}
 use Rattle.cat_num.specs.Reading.{number_after}
-use Rattle.cat_num.proofs.Digits.{number_after-append}
-use Rattle.cat_num.proofs.Fracs.{lowest_is}
+use Rattle.cat_num.proofs.Exported.{number_after-append, lowest_is}
 use Rattle.cat_json.specs.Scalars.{whole_fraction}
 
 pub number_after-joined : (xs ys : List ℕ) → number_after 0 (xs ++ ys) ≡ number_after (number_after 0 xs) ys

@@ -29,8 +29,8 @@ use Rattle.cat_value.specs.Declarations.{is_declared, names_entry, field_is_soun
 use Rattle.cat_value.specs.Entries.{fields_in as fields_within}
 use Rattle.cat_value.specs.Typing.{has_type, is_type, most_elements, all_have_type, fields_have_types, is_structure}
 use Rattle.cat_value.specs.Typing.{is_case}
-use Rattle.cat_value.proofs.Equations.{has_type-levels, tested, tested_Case, list_is, structure_is, case_is}
-use Rattle.cat_value.proofs.Descending.{fields_declared, content_declared}
+use Rattle.cat_value.proofs.Exported.{has_type-levels, tested, tested_Case, list_is, structure_is, case_is}
+use Rattle.cat_value.proofs.Exported.{fields_declared, content_declared}
 use Rattle.cat_json.specs.declared.step.Step.TheVariants.{Name, Element}
 use Rattle.cat_json.specs.declared.refusal.Reason.TheVariants.{OutOfRange}
 use Rattle.cat_json.specs.Paths.{Reading, refused, at_step, made_of, ahead}

@@ -14,13 +14,13 @@ use Rattle.cat_num.specs.declared.fault.NumFault.TheVariants as num_fault
 use Rattle.cat_num.specs.Whole.{largest, fits}
 use Rattle.cat_num.specs.Frac.{Fraction, gcd, lowest, ratio, frac_fits, is_reduced, signed}
 use Rattle.cat_num.specs.Reading.{number_after}
-use Rattle.cat_num.proofs.Fracs.{lowest-positive, lowest-coprime}
+use Rattle.cat_num.proofs.Exported.{lowest-positive, lowest-coprime}
 use Rattle.cat_date.specs.declared.fault.DateFault.{DateFault}
 use Rattle.cat_date.specs.declared.fault.DateFault.TheVariants as date_fault
 use Rattle.cat_date.specs.Calendar.{IsDay, is_civil, day_number, day_of_civil}
 use Rattle.cat_date.specs.Text.{form_of, day_of_text}
 use Rattle.cat_date.specs.Span.{SpanOf, is_span}
-use Rattle.cat_date.proofs.CalendarLemmas.{IsDay-epoch_day, epoch_day-day_number, civil-is_civil}
+use Rattle.cat_date.proofs.Exported.{IsDay-epoch_day, epoch_day-day_number, civil-is_civil}
 use Rattle.cat_json.specs.declared.step.Step.{Step}
 use Rattle.cat_json.specs.declared.refusal.Reason.TheVariants.{WrongForm, OutOfRange}
 use Rattle.cat_json.specs.Paths.{Reading, refused, at_step, made_of}

@@ -1,5 +1,5 @@
 //! Reads values of all types.
-ghost use Rattle.std.specs.Prelude.{◌≡◌, ◌≤◌, ◌<◌, ◌^◌, IfOk, Some, length, slice_get};
+ghost use Rattle.std.specs.Prelude.{◌≡◌, ◌≤◌, ◌<◌, IfOk, Some, length, slice_get};
 ghost use Rattle.std.specs.Option.{option_map};
 ghost use Rattle.serde_json.specs.Data.{depth as nesting, items_depth};
 ghost use Rattle.serde_json.specs.Find.{as_array, as_object, as_str};
@@ -13,7 +13,7 @@ use crate::duration::duration_in;
 use crate::known::{extra, unknown_field};
 use crate::scalar::{boolean_in, date_in, decimal_in, integer_in, money_in};
 use crate::{Reason, Refusal, Step};
-use cat_pos::{Boxed, List, Text};
+use cat_pos::{Boxed, ENTRIES_BOUND, List, Text};
 use cat_value::{Case, Cases, Decls, Fields, Ty, Value, Values, declarations_are_sound};
 use serde_json::Value as Json;
 use std::alloc::{AllocError, Global};
@@ -201,7 +201,7 @@ fn case_in(
 
 /// The case of that name without content.
 fn bare_case(cases: &Cases, name: &str) -> Result<Value, Reason>
-    requires { length cases.now < 2 ^ 32 }
+    requires { length cases.now < ENTRIES_BOUND }
     ensures { of_whole result ≡ reads.bare_case (reads.case_named 0 name.now cases.now) }
 {
     match case_named(cases, name) {
@@ -223,7 +223,7 @@ fn only_case(
     depth: u32,
 ) -> Result<Result<Value, Refusal>, AllocError>
     requires nests { nesting (view value.now) ≤ depth }
-    requires counted { length cases.now < 2 ^ 32 }
+    requires counted { length cases.now < ENTRIES_BOUND }
     ensures { IfOk result (λ read. read ≡ reads.only_case (data_members decls.now (view value.now)) cases.now (only_key (as_object (view value.now)))) }
 {
     let Some(name) = only_key(value) else {
@@ -263,7 +263,7 @@ fn full_case(
 
 /// The first case of that name, with its number.
 fn case_named<'a>(cases: &'a Cases, name: &str) -> Option<(u32, &'a Case)>
-    requires { length cases.now < 2 ^ 32 }
+    requires { length cases.now < ENTRIES_BOUND }
     ensures { option_map (λ found. (found.0, found.1.now.content)) result ≡ reads.case_named 0 name.now cases.now }
 {
     for (number, case) in cases.as_slice().iter().enumerate() {

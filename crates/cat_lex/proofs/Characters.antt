@@ -10,7 +10,7 @@ use Rattle.std.proofs.lemmas.Str.{chars-encodes, encode_ascii, cons_from_encodes
 use Rattle.std.proofs.Math.Seq.{take-append_seam}
 use Rattle.unicode_ident.specs.Ident.{is_xid_start, is_xid_continue}
 use Rattle.unicode_ident.proofs.IdentLemmas.{is_xid_start-ascii, is_xid_continue-ascii}
-use Rattle.cat_lex.specs.Blanks.{is_blank}
+use Rattle.cat_lex.specs.Gaps.{is_white_space}
 use Rattle.cat_lex.specs.Reading.{skip, after, front_of}
 use Rattle.cat_lex.proofs.Skips.{and_left, and_right, and_true, skip_run}
 
@@ -83,7 +83,7 @@ weaken p q more (c ∷ cs) h =
 pub small_ascii : (c : ℕ) → is_ascii_lowercase c ≡ true → ltb c 128 ≡ true
 small_ascii c h = grind (arith, nat_tests)
 
-pub blank_ascii : (c : ℕ) → is_blank c ≡ true → ltb c 128 ≡ true
+pub blank_ascii : (c : ℕ) → is_white_space c ≡ true → ltb c 128 ≡ true
 blank_ascii c h = grind (arith, nat_tests)
 
 pub small_continues : (c : ℕ) → is_ascii_lowercase c ≡ true → is_xid_continue c ≡ true
@@ -96,7 +96,7 @@ small_starts c h =
     let low : c < 128 = grind (arith, nat_tests) in
     is_xid_start-ascii c low ∙ grind (arith, nat_tests)
 
-pub blank_ends : (c : ℕ) → is_blank c ≡ true → is_xid_continue c ≡ false
+pub blank_ends : (c : ℕ) → is_white_space c ≡ true → is_xid_continue c ≡ false
 blank_ends c h =
     let low : c < 128 = grind (arith, nat_tests) in
     is_xid_continue-ascii c low ∙ grind (arith, nat_tests)
@@ -109,7 +109,7 @@ capital_continues c h =
 pub small_no_capital : (c : ℕ) → is_ascii_lowercase c ≡ true → is_ascii_uppercase c ≡ false
 small_no_capital c h = grind (arith, nat_tests)
 
-pub small_no_blank : (c : ℕ) → is_ascii_lowercase c ≡ true → is_blank c ≡ false
+pub small_no_blank : (c : ℕ) → is_ascii_lowercase c ≡ true → is_white_space c ≡ false
 small_no_blank c h = grind (arith, nat_tests)
 
 -- what stands in front

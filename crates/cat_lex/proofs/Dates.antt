@@ -41,19 +41,19 @@ stops : (x y : ℕ) (b : Bool) → x ≢ y → false ≡ ((x == y) && b)
 stops x y b apart = grind (arith, nat_tests)
 
 pub date_goes_on : (text : List ℕ) (i form : ℕ) → i < length text → i < 12 → form ≡ zeroed (get_or text i 0)
-  → form ≡ get_or date i 0
+    → form ≡ get_or date i 0
     → bytes_eq (form_of (drop (i + 1) text)) (drop (i + 1) date) ≡ bytes_eq (form_of (drop i text)) (drop i date)
 date_goes_on text i form within short is same = goes_on (zeroed (get_or text i 0)) (get_or date i 0) _ (sym is ∙ same)
-  ∙ sym (step text i within short)
+    ∙ sym (step text i within short)
 
 pub date_stops : (text : List ℕ) (i form : ℕ) → i < length text → i < 12 → form ≡ zeroed (get_or text i 0)
-  → form ≢ get_or date i 0
+    → form ≢ get_or date i 0
     → false ≡ bytes_eq (form_of (drop i text)) (drop i date)
 date_stops text i form within short is apart =
-  stops (zeroed (get_or text i 0)) (get_or date i 0) _ (λ e. apart (is ∙ e)) ∙ sym (step text i within short)
+    stops (zeroed (get_or text i 0)) (get_or date i 0) _ (λ e. apart (is ∙ e)) ∙ sym (step text i within short)
 
 other_length : (text : List ℕ) (b : Bool) → bytes_eq (form_of text) (codes "0000-00-00") ≡ b → length text < 10
-  → b ≡ false
+    → b ≡ false
 other_length text false is low = refl
 other_length text true is low =
     let same : form_of text ≡ codes "0000-00-00" = (bytes_eq-Decides _ _).0 is in
@@ -66,5 +66,5 @@ unfolding day_of_text
 short_no_day word low =
     let few : length (take 10 (drop 1 word)) < 10 = omega (arith, length-take 10 (drop 1 word), length-drop 1 word) in
     let other : bytes_eq (form_of (take 10 (drop 1 word))) (codes "0000-00-00") ≡ false =
-      other_length (take 10 (drop 1 word)) _ refl few in
+    other_length (take 10 (drop 1 word)) _ refl few in
     rw other refl

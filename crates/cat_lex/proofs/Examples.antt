@@ -14,7 +14,7 @@ use Rattle.cat_lex.specs.declared.words.DoubleKeyword.TheVariants.{UnderConditio
 use Rattle.cat_lex.specs.declared.token.TokenKind.TheVariants as kind
 use Rattle.cat_lex.specs.Words.{double_keywords, symbols}
 use Rattle.cat_lex.specs.Values.{token_of}
-use Rattle.cat_lex.specs.Blanks.{AreBlanks, AreLastBlanks, begins_blank}
+use Rattle.cat_lex.specs.Gaps.{IsGap, IsLastGap, begins_gap}
 use Rattle.cat_lex.specs.Lexes.{BeginsNoToken}
 use Rattle.cat_lex.specs.Reading.{read}
 use Rattle.cat_lex.proofs.Fronts.{IsFront, read_longest, read_none}
@@ -26,7 +26,7 @@ computing = tt
 
 -- this form comes first in the text, and leaves this rest
 first : (form : Form) (text rest : List ℕ) → is_utf8 text ≡ true → read text ≡ Some (form, rest)
-  → IsFront form text rest
+    → IsFront form text rest
 first form text rest utf8 is = read_longest form text rest (IsUtf8-from_is_utf8 text utf8) is
 
 nothing : (text : List ℕ) → is_utf8 text ≡ true → read text ≡ None → BeginsNoToken text
@@ -81,13 +81,13 @@ an_attribute_is_no_token : BeginsNoToken (codes "#[a]")
 unfolding computing
 an_attribute_is_no_token = nothing _ refl refl
 
-an_attribute_is_no_comment : begins_blank (codes "#[a]") ≡ false
+an_attribute_is_no_comment : begins_gap (codes "#[a]") ≡ false
 an_attribute_is_no_comment = refl
 
-a_comment_ends_with_its_line : AreBlanks (codes " # a [ $\n")
+a_comment_ends_with_its_line : IsGap (codes " # a [ $\n")
 a_comment_ends_with_its_line = refl
 
-the_last_line_may_be_a_comment : AreLastBlanks (codes " # a")
+the_last_line_may_be_a_comment : IsLastGap (codes " # a")
 the_last_line_may_be_a_comment = refl
 
 thousands_and_a_digit_of_cents : token_of Amount (codes "$1,000,000.5") ≡ Some (kind.Money (pos 100000050))

@@ -20,7 +20,7 @@ record IsFurther (word rest longer end : List ℕ) : Type 0 where
   rest_is : rest ≡ more ++ end
 
 further : (word rest longer end : List ℕ) → word ++ rest ≡ longer ++ end → length end ≤ length rest
-  → IsFurther word rest longer end
+    → IsFurther word rest longer end
 further [] rest longer end e l = record { more = longer; longer_is = refl; rest_is = e }
 further (c ∷ word) rest [] end e l =
     let same : length (c ∷ (word ++ rest)) ≡ length end = ap (λ (w : List ℕ). length w) e in
@@ -43,24 +43,24 @@ shorter_some more rest end e l none =
     omega (arith, ap (λ (w : List ℕ). length w) same)
 
 found_by : (form : Form) (word rest : List ℕ) (found : Form × List ℕ) → IsLongest form word rest
-  → IsRead found.0 (word ++ rest) found.1 → Goes form rest found → found ≡ (form, rest)
+    → IsRead found.0 (word ++ rest) found.1 → Goes form rest found → found ≡ (form, rest)
 found_by form word rest found longest r (inl e) = e
 found_by form word rest found longest r (inr l) =
     let f = further word rest r.word found.1 r.split (omega arith) in
     absurd (longest.longest found.0 f.more found.1 f.rest_is (shorter_some f.more rest found.1 f.rest_is l)
-      (subst (λ (w : List ℕ). HasForm found.0 w found.1) f.longer_is r.formed))
+    (subst (λ (w : List ℕ). HasForm found.0 w found.1) f.longer_is r.formed))
 
 longest_by : (form : Form) (word rest : List ℕ) (o : Option (Form × List ℕ)) → IsLongest form word rest
-  → IsSound (word ++ rest) o → Reaches form rest o → o ≡ Some (form, rest)
+    → IsSound (word ++ rest) o → Reaches form rest o → o ≡ Some (form, rest)
 longest_by form word rest None longest s r = absurd r
 longest_by form word rest (Some found) longest s r =
-  ap (λ (w : Form × List ℕ). Some w) (found_by form word rest found longest s r)
+    ap (λ (w : Form × List ℕ). Some w) (found_by form word rest found longest s r)
 
 -- the longest token is what is read
 pub longest_read : (form : Form) (word rest : List ℕ) → IsLongest form word rest → IsUtf8 (word ++ rest)
-  → read (word ++ rest) ≡ Some (form, rest)
+    → read (word ++ rest) ≡ Some (form, rest)
 longest_read form word rest longest utf8 = longest_by form word rest (read (word ++ rest)) longest
-  (sound (word ++ rest) utf8) (goes form word rest longest.formed utf8)
+    (sound (word ++ rest) utf8) (goes form word rest longest.formed utf8)
 
 -- what is read in front of a text
 pub record IsFront (form : Form) (text rest : List ℕ) : Type 0 where
@@ -69,16 +69,16 @@ pub record IsFront (form : Form) (text rest : List ℕ) : Type 0 where
   pub longest : IsLongest form word rest
 
 no_longer : (other form : Form) (more after rest : List ℕ) → rest ≡ more ++ after → more ≢ []
-  → Goes other after (form, rest) → ⊥
+    → Goes other after (form, rest) → ⊥
 no_longer other form more after rest e some (inl same) =
     let ended : rest ≡ after = ap (λ (w : Form × List ℕ). w.1) same in
     some (same_rest more after (sym ended ∙ e))
 no_longer other form more after rest e some (inr l) =
-  omega (arith, ap (λ (w : List ℕ). length w) e, length-append more after)
+    omega (arith, ap (λ (w : List ℕ). length w) e, length-append more after)
 
 -- what is read is the longest token
 pub read_longest : (form : Form) (text rest : List ℕ) → IsUtf8 text → read text ≡ Some (form, rest)
-  → IsFront form text rest
+    → IsFront form text rest
 read_longest form text rest utf8 is =
     let r : IsRead form text rest = subst (IsSound text) is (sound text utf8) in
     record {
@@ -88,9 +88,9 @@ read_longest form text rest utf8 is =
         formed = r.formed;
         longest = λ other more after e some formed.
             let whole : text ≡ (r.word ++ more) ++ after =
-              r.split ∙ (ap (λ (w : List ℕ). r.word ++ w) e ∙ sym (append_assoc r.word more after)) in
+            r.split ∙ (ap (λ (w : List ℕ). r.word ++ w) e ∙ sym (append_assoc r.word more after)) in
             let reached : Reaches other after (read ((r.word ++ more) ++ after)) =
-              goes other (r.word ++ more) after formed (subst IsUtf8 whole utf8) in
+            goes other (r.word ++ more) after formed (subst IsUtf8 whole utf8) in
             let same : read ((r.word ++ more) ++ after) ≡ Some (form, rest) = ap read (sym whole) ∙ is in
             no_longer other form more after rest e some (subst (Reaches other after) same reached);
       };

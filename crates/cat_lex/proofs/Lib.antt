@@ -13,7 +13,7 @@ pub mod PairForms
 pub mod WordSound
 pub mod Longest
 pub mod Fronts
-pub mod Blanks
+pub mod GapLemmas
 pub mod Spelled
 pub mod Sequences
 pub mod FirstTokens

@@ -11,7 +11,7 @@ use Rattle.unicode_ident.specs.Ident.{is_xid_start, is_xid_continue}
 use Rattle.cat_lex.specs.declared.words.DoubleKeyword.{DoubleKeyword}
 use Rattle.cat_lex.specs.declared.form.Form.{Form}
 use Rattle.cat_lex.specs.declared.form.Form.TheVariants.{Pair}
-use Rattle.cat_lex.specs.Blanks.{is_blank}
+use Rattle.cat_lex.specs.Gaps.{is_white_space}
 use Rattle.cat_lex.specs.Words.{double_keyword_of, double_keywords}
 use Rattle.cat_lex.specs.Forms.{begins_name, IsWhole, IsPair}
 use Rattle.cat_lex.specs.Reading.{skip, begins, after, front_of, pair_read, word_read, is_word_byte}
@@ -39,14 +39,19 @@ small_some [] h = λ e. cc
 small_some (c ∷ cs) h = λ e. cc
 
 listed_small : (first second : List ℕ) (keyword : DoubleKeyword) → double_keyword_of first second ≡ Some keyword
-  → AreSmall first second
+    → AreSmall first second
 listed_small first second keyword listed =
     let both : (is_small_word first && is_small_word second) ≡ true =
-      found_pair is_small_word double_keywords first second keyword double_keywords_fit listed in
+    found_pair is_small_word double_keywords first second keyword double_keywords_fit listed in
     let one : is_small_word first ≡ true = and_left _ _ both in
     let other : is_small_word second ≡ true = and_right _ _ both in
-    record { one = small_all first one; other = small_all second other; some = small_some first one; more =
-      small_some second other }
+    record {
+      one = small_all first one;
+      other = small_all second other;
+      some = small_some first one;
+      more =
+          small_some second other;
+    }
 
 -- the characters of what is whole stay
 whole_stays : (es : List ℕ) → IsWhole (bytes_of es) → skip is_xid_continue es ≡ es
@@ -58,43 +63,43 @@ all_some p [] tail some h = absurd (some refl)
 all_some p (c ∷ cs) tail some h = and_left _ _ h
 
 none_begins : (p q : ℕ → Bool) → ((c : ℕ) → p c ≡ true → q c ≡ false) → (cs : List ℕ) → begins p cs ≡ true
-  → begins q cs ≡ false
+    → begins q cs ≡ false
 none_begins p q other [] h = refl
 none_begins p q other (c ∷ cs) h = other c h
 
 -- the text after the first word, in its characters
-record HasEnds (keyword : DoubleKeyword) (first blanks second es : List ℕ) : Type 0 where
+record HasEnds (keyword : DoubleKeyword) (first spaces second es : List ℕ) : Type 0 where
   small : AreSmall first second
   listed : double_keyword_of first second ≡ Some keyword
-  some : blanks ≢ []
-  blank : list_all is_blank blanks ≡ true
+  some : spaces ≢ []
+  white : list_all is_white_space spaces ≡ true
   whole : skip is_xid_continue es ≡ es
-  scalars : all_scalars (blanks ++ (second ++ es)) ≡ true
+  scalars : all_scalars (spaces ++ (second ++ es)) ≡ true
 
-first_rest : {keyword : DoubleKeyword} (first blanks second es : List ℕ) → HasEnds keyword first blanks second es
-  → skip is_xid_continue (blanks ++ (second ++ es)) ≡ blanks ++ (second ++ es)
-first_rest first blanks second es h =
-    skip_stays is_xid_continue (blanks ++ (second ++ es))
-      (none_begins is_blank is_xid_continue blank_ends (blanks ++ (second ++ es))
-      (all_some is_blank blanks (second ++ es) h.some h.blank))
+first_rest : {keyword : DoubleKeyword} (first spaces second es : List ℕ) → HasEnds keyword first spaces second es
+    → skip is_xid_continue (spaces ++ (second ++ es)) ≡ spaces ++ (second ++ es)
+first_rest first spaces second es h =
+    skip_stays is_xid_continue (spaces ++ (second ++ es))
+    (none_begins is_white_space is_xid_continue blank_ends (spaces ++ (second ++ es))
+    (all_some is_white_space spaces (second ++ es) h.some h.white))
 
-second_rest : {keyword : DoubleKeyword} (first blanks second es : List ℕ) → HasEnds keyword first blanks second es
-  → skip is_blank (blanks ++ (second ++ es)) ≡ second ++ es
-second_rest first blanks second es h =
-    skip-append is_blank blanks (second ++ es) h.blank ∙ skip_stays is_blank (second ++ es)
-      (none_begins is_ascii_lowercase is_blank small_no_blank (second ++ es)
-      (all_some is_ascii_lowercase second es h.small.more h.small.other))
+second_rest : {keyword : DoubleKeyword} (first spaces second es : List ℕ) → HasEnds keyword first spaces second es
+    → skip is_white_space (spaces ++ (second ++ es)) ≡ second ++ es
+second_rest first spaces second es h =
+    skip-append is_white_space spaces (second ++ es) h.white ∙ skip_stays is_white_space (second ++ es)
+    (none_begins is_ascii_lowercase is_white_space small_no_blank (second ++ es)
+    (all_some is_ascii_lowercase second es h.small.more h.small.other))
 
-end_rest : {keyword : DoubleKeyword} (first blanks second es : List ℕ) → HasEnds keyword first blanks second es
-  → skip is_xid_continue (second ++ es) ≡ es
-end_rest first blanks second es h =
+end_rest : {keyword : DoubleKeyword} (first spaces second es : List ℕ) → HasEnds keyword first spaces second es
+    → skip is_xid_continue (second ++ es) ≡ es
+end_rest first spaces second es h =
     skip-append is_xid_continue second es (weaken is_ascii_lowercase is_xid_continue small_continues second
-      h.small.other) ∙ h.whole
+    h.small.other) ∙ h.whole
 
-pair_is : (keyword : DoubleKeyword) (text rest second end : List ℕ) → begins is_blank rest ≡ true
-  → after is_blank rest ≡ second → after is_xid_continue second ≡ end
+pair_is : (keyword : DoubleKeyword) (text rest second end : List ℕ) → begins is_white_space rest ≡ true
+    → after is_white_space rest ≡ second → after is_xid_continue second ≡ end
     → double_keyword_of (front_of text rest) (front_of second end) ≡ Some keyword
-      → pair_read text rest ≡ (Pair keyword, end)
+    → pair_read text rest ≡ (Pair keyword, end)
 pair_is keyword text rest second end b one two listed =
     rw b (rw one (rw two (rw listed refl)))
 
@@ -104,90 +109,90 @@ ascii_small cs h = ascii_chars cs (weaken is_ascii_lowercase (λ c. ltb c 128) s
 small_name : (c : ℕ) → is_ascii_lowercase c ≡ true → begins_name c ≡ true
 small_name c h = and_true (is_xid_start c) _ (small_starts c h) (ap not (small_no_capital c h))
 
-pair_chars : (keyword : DoubleKeyword) (first blanks second es : List ℕ) → HasEnds keyword first blanks second es
-  → all_scalars (first ++ (blanks ++ (second ++ es))) ≡ true
-    → word_read (bytes_of (first ++ (blanks ++ (second ++ es)))) ≡ Some (Pair keyword, bytes_of es)
-pair_chars keyword [] blanks second es h all = absurd (h.small.some refl)
-pair_chars keyword (c ∷ others) blanks second es h all =
-    let named = name_read c others (blanks ++ (second ++ es)) all (small_name c (and_left _ _ h.small.one))
-      (weaken is_ascii_lowercase is_xid_continue small_continues others (and_right _ _ h.small.one)) in
-    let stays : bytes_of (skip is_xid_continue (blanks ++ (second ++ es))) ≡ bytes_of (blanks ++ (second ++ es)) =
-      ap (λ (w : List ℕ). bytes_of w) (first_rest (c ∷ others) blanks second es h) in
-    let begun : begins is_blank (bytes_of (blanks ++ (second ++ es))) ≡ true =
-      bytes_blank (blanks ++ (second ++ es)) (all_some is_blank blanks (second ++ es) h.some h.blank) in
-    let one : after is_blank (bytes_of (blanks ++ (second ++ es))) ≡ bytes_of (second ++ es) =
-    after_chars is_blank (blanks ++ (second ++ es)) h.scalars ∙ ap (λ (w : List ℕ). bytes_of w)
-      (second_rest (c ∷ others) blanks second es h) in
+pair_chars : (keyword : DoubleKeyword) (first spaces second es : List ℕ) → HasEnds keyword first spaces second es
+    → all_scalars (first ++ (spaces ++ (second ++ es))) ≡ true
+    → word_read (bytes_of (first ++ (spaces ++ (second ++ es)))) ≡ Some (Pair keyword, bytes_of es)
+pair_chars keyword [] spaces second es h all = absurd (h.small.some refl)
+pair_chars keyword (c ∷ others) spaces second es h all =
+    let named = name_read c others (spaces ++ (second ++ es)) all (small_name c (and_left _ _ h.small.one))
+    (weaken is_ascii_lowercase is_xid_continue small_continues others (and_right _ _ h.small.one)) in
+    let stays : bytes_of (skip is_xid_continue (spaces ++ (second ++ es))) ≡ bytes_of (spaces ++ (second ++ es)) =
+    ap (λ (w : List ℕ). bytes_of w) (first_rest (c ∷ others) spaces second es h) in
+    let begun : begins is_white_space (bytes_of (spaces ++ (second ++ es))) ≡ true =
+    bytes_blank (spaces ++ (second ++ es)) (all_some is_white_space spaces (second ++ es) h.some h.white) in
+    let one : after is_white_space (bytes_of (spaces ++ (second ++ es))) ≡ bytes_of (second ++ es) =
+    after_chars is_white_space (spaces ++ (second ++ es)) h.scalars ∙ ap (λ (w : List ℕ). bytes_of w)
+    (second_rest (c ∷ others) spaces second es h) in
     let two : after is_xid_continue (bytes_of (second ++ es)) ≡ bytes_of es =
-    after_chars is_xid_continue (second ++ es) (scalars_append blanks (second ++ es) h.scalars)
-      ∙ ap (λ (w : List ℕ). bytes_of w) (end_rest (c ∷ others) blanks second es h) in
-    let front : front_of (bytes_of ((c ∷ others) ++ (blanks ++ (second ++ es)))) (bytes_of (blanks ++ (second ++ es)))
-      ≡ c ∷ others =
-    ap (λ (w : List ℕ). front_of w (bytes_of (blanks ++ (second ++ es))))
-      (encodes-append (c ∷ others) (blanks ++ (second ++ es)))
-    ∙ (front_is (bytes_of (c ∷ others)) (bytes_of (blanks ++ (second ++ es))) ∙ ascii_small (c ∷ others) h.small.one) in
+    after_chars is_xid_continue (second ++ es) (scalars_append spaces (second ++ es) h.scalars)
+    ∙ ap (λ (w : List ℕ). bytes_of w) (end_rest (c ∷ others) spaces second es h) in
+    let front : front_of (bytes_of ((c ∷ others) ++ (spaces ++ (second ++ es)))) (bytes_of (spaces ++ (second ++ es)))
+    ≡ c ∷ others =
+    ap (λ (w : List ℕ). front_of w (bytes_of (spaces ++ (second ++ es))))
+    (encodes-append (c ∷ others) (spaces ++ (second ++ es)))
+    ∙ (front_is (bytes_of (c ∷ others)) (bytes_of (spaces ++ (second ++ es))) ∙ ascii_small (c ∷ others) h.small.one) in
     let back : front_of (bytes_of (second ++ es)) (bytes_of es) ≡ second =
     ap (λ (w : List ℕ). front_of w (bytes_of es)) (encodes-append second es)
-      ∙ (front_is (bytes_of second) (bytes_of es) ∙ ascii_small second h.small.other) in
-    let listed : double_keyword_of (front_of (bytes_of ((c ∷ others) ++ (blanks ++ (second ++ es))))
-      (bytes_of (blanks ++ (second ++ es)))) (front_of (bytes_of (second ++ es)) (bytes_of es)) ≡ Some keyword =
+    ∙ (front_is (bytes_of second) (bytes_of es) ∙ ascii_small second h.small.other) in
+    let listed : double_keyword_of (front_of (bytes_of ((c ∷ others) ++ (spaces ++ (second ++ es))))
+    (bytes_of (spaces ++ (second ++ es)))) (front_of (bytes_of (second ++ es)) (bytes_of es)) ≡ Some keyword =
     ap (λ (w : List ℕ). double_keyword_of w (front_of (bytes_of (second ++ es)) (bytes_of es))) front
-      ∙ (ap (λ (w : List ℕ). double_keyword_of (c ∷ others) w) back ∙ h.listed) in
-    let paired = pair_is keyword (bytes_of ((c ∷ others) ++ (blanks ++ (second ++ es))))
-      (bytes_of (blanks ++ (second ++ es))) (bytes_of (second ++ es)) (bytes_of es) begun one two listed in
-    named ∙ (ap (λ (w : List ℕ). Some (pair_read (bytes_of ((c ∷ others) ++ (blanks ++ (second ++ es)))) w)) stays
-      ∙ ap (λ (w : Form × List ℕ). Some w) paired)
+    ∙ (ap (λ (w : List ℕ). double_keyword_of (c ∷ others) w) back ∙ h.listed) in
+    let paired = pair_is keyword (bytes_of ((c ∷ others) ++ (spaces ++ (second ++ es))))
+    (bytes_of (spaces ++ (second ++ es))) (bytes_of (second ++ es)) (bytes_of es) begun one two listed in
+    named ∙ (ap (λ (w : List ℕ). Some (pair_read (bytes_of ((c ∷ others) ++ (spaces ++ (second ++ es)))) w)) stays
+    ∙ ap (λ (w : Form × List ℕ). Some w) paired)
 
 pub pair_low : (keyword : DoubleKeyword) (word rest : List ℕ) (pair : IsPair keyword word rest)
-  → list_all (λ c. ltb c 128) (pair.first ++ (pair.blanks ++ pair.second)) ≡ true
+    → list_all (λ c. ltb c 128) (pair.first ++ (pair.spaces ++ pair.second)) ≡ true
 pair_low keyword word rest pair =
     let small = listed_small pair.first pair.second keyword pair.listed in
-    all_append (λ c. ltb c 128) pair.first (pair.blanks ++ pair.second)
-      (weaken is_ascii_lowercase (λ c. ltb c 128) small_ascii pair.first small.one)
-    (all_append (λ c. ltb c 128) pair.blanks pair.second (weaken is_blank (λ c. ltb c 128) blank_ascii pair.blanks
-      pair.blank) (weaken is_ascii_lowercase (λ c. ltb c 128) small_ascii pair.second small.other))
+    all_append (λ c. ltb c 128) pair.first (pair.spaces ++ pair.second)
+    (weaken is_ascii_lowercase (λ c. ltb c 128) small_ascii pair.first small.one)
+    (all_append (λ c. ltb c 128) pair.spaces pair.second (weaken is_white_space (λ c. ltb c 128) blank_ascii pair.spaces
+    pair.white) (weaken is_ascii_lowercase (λ c. ltb c 128) small_ascii pair.second small.other))
 
 pub pair_goes : (keyword : DoubleKeyword) (word rest : List ℕ) → IsPair keyword word rest → IsUtf8 (word ++ rest)
-  → Reaches (Pair keyword) rest (word_read (word ++ rest))
+    → Reaches (Pair keyword) rest (word_read (word ++ rest))
 pair_goes keyword word rest pair utf8 =
     let small = listed_small pair.first pair.second keyword pair.listed in
-    let spelled : word ≡ bytes_of (pair.first ++ (pair.blanks ++ pair.second)) =
-      pair.spelled ∙ sym (ascii_chars (pair.first ++ (pair.blanks ++ pair.second)) (pair_low keyword word rest pair)) in
-    let rested = peel (pair.first ++ (pair.blanks ++ pair.second)) utf8.0 rest
-      (utf8.1.1 ∙ ap (λ (w : List ℕ). w ++ rest) spelled) in
-    let split : utf8.0 ≡ pair.first ++ (pair.blanks ++ (pair.second ++ rested.0)) = rested.1 ∙ simp append_assoc in
-    let all : all_scalars (pair.first ++ (pair.blanks ++ (pair.second ++ rested.0))) ≡ true =
-      ap all_scalars (sym split) ∙ utf8.1.0 in
+    let spelled : word ≡ bytes_of (pair.first ++ (pair.spaces ++ pair.second)) =
+    pair.spelled ∙ sym (ascii_chars (pair.first ++ (pair.spaces ++ pair.second)) (pair_low keyword word rest pair)) in
+    let rested = peel (pair.first ++ (pair.spaces ++ pair.second)) utf8.0 rest
+    (utf8.1.1 ∙ ap (λ (w : List ℕ). w ++ rest) spelled) in
+    let split : utf8.0 ≡ pair.first ++ (pair.spaces ++ (pair.second ++ rested.0)) = rested.1 ∙ simp append_assoc in
+    let all : all_scalars (pair.first ++ (pair.spaces ++ (pair.second ++ rested.0))) ≡ true =
+    ap all_scalars (sym split) ∙ utf8.1.0 in
     let whole : IsWhole (bytes_of rested.0) = subst (λ (w : List ℕ). IsWhole w) (sym rested.2) pair.whole in
-    let ends : HasEnds keyword pair.first pair.blanks pair.second rested.0 = record {
+    let ends : HasEnds keyword pair.first pair.spaces pair.second rested.0 = record {
       small = small;
       listed = pair.listed;
       some = pair.some;
-      blank = pair.blank;
+      white = pair.white;
       whole = whole_stays rested.0 whole;
-      scalars = scalars_append pair.first (pair.blanks ++ (pair.second ++ rested.0)) all;
+      scalars = scalars_append pair.first (pair.spaces ++ (pair.second ++ rested.0)) all;
     } in
     let is : word_read (word ++ rest) ≡ Some (Pair keyword, rest) =
     ap word_read (sym utf8.1.1 ∙ ap (λ (w : List ℕ). bytes_of w) split)
-    ∙ (pair_chars keyword pair.first pair.blanks pair.second rested.0 ends all
-      ∙ ap (λ (w : List ℕ). Some (Pair keyword, w)) rested.2) in
+    ∙ (pair_chars keyword pair.first pair.spaces pair.second rested.0 ends all
+    ∙ ap (λ (w : List ℕ). Some (Pair keyword, w)) rested.2) in
     subst (Reaches (Pair keyword) rest) (sym is) (inl refl)
 
 small_word_byte : (c : ℕ) → is_ascii_lowercase c ≡ true → is_word_byte c ≡ true
 small_word_byte c h = grind (arith, nat_tests)
 
 begins_small : (first tail : List ℕ) → first ≢ [] → list_all is_ascii_lowercase first ≡ true
-  → begins is_word_byte (first ++ tail) ≡ true
+    → begins is_word_byte (first ++ tail) ≡ true
 begins_small [] tail some h = absurd (some refl)
 begins_small (c ∷ cs) tail some h = small_word_byte c (and_left _ _ h)
 
 pub pair_begins : (keyword : DoubleKeyword) (word rest : List ℕ) → IsPair keyword word rest
-  → begins is_word_byte (word ++ rest) ≡ true
+    → begins is_word_byte (word ++ rest) ≡ true
 pair_begins keyword word rest pair =
     let small = listed_small pair.first pair.second keyword pair.listed in
-    let split : word ++ rest ≡ pair.first ++ ((pair.blanks ++ pair.second) ++ rest) =
-      ap (λ (w : List ℕ). w ++ rest) pair.spelled ∙ append_assoc pair.first (pair.blanks ++ pair.second) rest in
-    ap (begins is_word_byte) split ∙ begins_small pair.first ((pair.blanks ++ pair.second) ++ rest) small.some small.one
+    let split : word ++ rest ≡ pair.first ++ ((pair.spaces ++ pair.second) ++ rest) =
+    ap (λ (w : List ℕ). w ++ rest) pair.spelled ∙ append_assoc pair.first (pair.spaces ++ pair.second) rest in
+    ap (begins is_word_byte) split ∙ begins_small pair.first ((pair.spaces ++ pair.second) ++ rest) small.some small.one
 
 pub pair_some : (keyword : DoubleKeyword) (word rest : List ℕ) (pair : IsPair keyword word rest) → pair.first ≢ []
 pair_some keyword word rest pair = (listed_small pair.first pair.second keyword pair.listed).some

@@ -9,11 +9,11 @@ use Rattle.cat_lex.specs.declared.token.Token.{Token}
 use Rattle.cat_lex.specs.declared.refusal.LexRefusal.{LexRefusal}
 use Rattle.cat_lex.specs.declared.refusal.LexRefusal.TheVariants.{NoToken, LiteralRange, Memory}
 use Rattle.cat_lex.specs.Positions.{position_after}
-use Rattle.cat_lex.specs.Blanks.{AreLastBlanks, begins_blank}
+use Rattle.cat_lex.specs.Gaps.{IsLastGap, begins_gap}
 use Rattle.cat_lex.specs.Lexes.{IsToken, AreTokens, IsPieceOf, Lexes, HasCause}
-use Rattle.cat_lex.specs.Steps.{AddsPiece, IsAfterBlanks, IsFirst, HasCauseIn}
-use Rattle.cat_lex.specs.Reading.{skip_blanks}
-use Rattle.cat_lex.proofs.Blanks.{gap_of, gap_stops, gap_skipped, gap_utf8}
+use Rattle.cat_lex.specs.Steps.{AddsPiece, IsAfterGap, IsFirst, HasCauseIn}
+use Rattle.cat_lex.specs.Reading.{skip_gap}
+use Rattle.cat_lex.proofs.GapLemmas.{gap_of, gap_stops, gap_skipped, gap_utf8}
 use Rattle.cat_lex.proofs.Skips.{not_true}
 use Rattle.cat_lex.proofs.Spelled.{word_some, rest_utf8}
 use Rattle.cat_lex.proofs.Sequences.{append_nil, position_after-append, one_more, cancel_right}
@@ -22,41 +22,41 @@ use Rattle.cat_lex.proofs.Sequences.{append_nil, position_after-append, one_more
 abbrev pub left : List ℕ → Pos → Piece
 left text pos = record { text = text; pos = pos }
 
-pub gap_suffix : (text rest : List ℕ) → rest ≡ skip_blanks false text → (front : List ℕ) × (text ≡ front ++ rest)
+pub gap_suffix : (text rest : List ℕ) → rest ≡ skip_gap false text → (front : List ℕ) × (text ≡ front ++ rest)
 gap_suffix text rest is = let g = gap_of false text in (g.gap, g.split ∙ ap (λ (w : List ℕ). g.gap ++ w) (sym is))
 
-pub after_gap : (pos position : Pos) (text rest front : List ℕ) → rest ≡ skip_blanks false text → text ≡ front ++ rest
-    → position ≡ position_after pos front → IsAfterBlanks pos text position rest
-after_gap pos position text rest front is split position_is =
+pub after_gap_step : (pos position : Pos) (text rest front : List ℕ) → rest ≡ skip_gap false text → text ≡ front ++ rest
+    → position ≡ position_after pos front → IsAfterGap pos text position rest
+after_gap_step pos position text rest front is split position_is =
     let g = gap_of false text in
-    let rested : skip_blanks false text ≡ rest = sym is in
+    let rested : skip_gap false text ≡ rest = sym is in
     let gap : g.gap ≡ front = cancel_right g.gap front rest
     (ap (λ (w : List ℕ). g.gap ++ w) is ∙ (sym g.split ∙ split)) in
     record {
-      blanks = g.gap;
+      gap = g.gap;
       split = split ∙ ap (λ (w : List ℕ). w ++ rest) (sym gap);
       whole = λ some. g.whole (λ none. some (is ∙ none));
       last =
-          λ none. subst AreLastBlanks (sym
+          λ none. subst IsLastGap (sym
           (split ∙ (ap (λ (w : List ℕ). front ++ w) none ∙ (append_nil front ∙ sym gap)))) g.last;
-      no_blank = ap begins_blank is ∙ gap_stops false text;
+      no_gap = ap begins_gap is ∙ gap_stops false text;
       position_is = position_is ∙ ap (λ (w : List ℕ). position_after pos w) (sym gap);
     }
 
 pub next_token : (piece : Piece) (tokens : List Token) (text : List ℕ) (pos position next : Pos) (token : Token)
-    (first rest front : List ℕ) → AreTokens piece tokens (left text pos) → IsAfterBlanks pos text position first
+    (first rest front : List ℕ) → AreTokens piece tokens (left text pos) → IsAfterGap pos text position first
     → first ≢ []
     → IsFirst token position first rest → first ≡ front ++ rest → next ≡ position_after position front
     → AreTokens piece (tokens ++ (token ∷ [])) (left rest next)
 next_token piece tokens text pos position next token first rest front are gap some is split next_is =
     let word : is.word ≡ front = cancel_right is.word front rest (sym is.split ∙ split) in
-    let whole : text ≡ gap.blanks ++ (is.word ++ rest) = gap.split ∙ ap (λ (w : List ℕ). gap.blanks ++ w) is.split in
-    let token_is : IsToken token (position_after pos gap.blanks) is.word rest =
+    let whole : text ≡ gap.gap ++ (is.word ++ rest) = gap.split ∙ ap (λ (w : List ℕ). gap.gap ++ w) is.split in
+    let token_is : IsToken token (position_after pos gap.gap) is.word rest =
     subst (λ (p : Pos). IsToken token p is.word rest) gap.position_is is.is_token in
-    let more = one_more piece tokens (left text pos) token gap.blanks is.word rest are whole
+    let more = one_more piece tokens (left text pos) token gap.gap is.word rest are whole
     (gap.whole some) token_is in
-    let position_is : position_after pos (gap.blanks ++ is.word) ≡ next =
-    sym (position_after-append pos gap.blanks is.word)
+    let position_is : position_after pos (gap.gap ++ is.word) ≡ next =
+    sym (position_after-append pos gap.gap is.word)
     ∙ (ap (λ (p : Pos). position_after p is.word) (sym gap.position_is)
     ∙ (ap (λ (w : List ℕ). position_after position w) word ∙ sym next_is)) in
     subst (λ (p : Pos). AreTokens piece (tokens ++ (token ∷ [])) (left rest p)) position_is more
@@ -67,13 +67,13 @@ some_length (c ∷ cs) some = omega arith
 
 -- each token takes some of the text
 pub first_shorter : (token : Token) (pos position : Pos) (text first rest : List ℕ)
-    → IsAfterBlanks pos text position first → IsFirst token position first rest → length rest < length text
+    → IsAfterGap pos text position first → IsFirst token position first rest → length rest < length text
 first_shorter token pos position text first rest gap is =
     let some : 0 < length is.word =
     some_length is.word (word_some is.is_token.form is.word rest is.is_token.longest.formed) in
-    let one : length text ≡ length (gap.blanks ++ first) = ap (λ (w : List ℕ). length w) gap.split in
+    let one : length text ≡ length (gap.gap ++ first) = ap (λ (w : List ℕ). length w) gap.split in
     let two : length first ≡ length (is.word ++ rest) = ap (λ (w : List ℕ). length w) is.split in
-    omega (arith, some, one, two, length-append gap.blanks first, length-append is.word rest)
+    omega (arith, some, one, two, length-append gap.gap first, length-append is.word rest)
 
 pub some_first : (text : List ℕ) (empty : Bool) → empty ≡ (length text == 0) → empty ≡ false → text ≢ []
 some_first text empty is h none =
@@ -81,10 +81,10 @@ some_first text empty is h none =
     ap (λ (w : List ℕ). length w) none in absurd (not_true empty (is ∙ rw none_left refl) h)
 
 pub next_utf8 : (token : Token) (pos position : Pos) (text first rest : List ℕ) → IsUtf8 text
-    → IsAfterBlanks pos text position first → first ≢ [] → IsFirst token position first rest → IsUtf8 rest
+    → IsAfterGap pos text position first → first ≢ [] → IsFirst token position first rest → IsUtf8 rest
 next_utf8 token pos position text first rest utf8 gap some is =
-    let skipped : skip_blanks false text ≡ first =
-    ap (skip_blanks false) gap.split ∙ gap_skipped false gap.blanks first (gap.whole some) gap.no_blank in
+    let skipped : skip_gap false text ≡ first =
+    ap (skip_gap false) gap.split ∙ gap_skipped false gap.gap first (gap.whole some) gap.no_gap in
     let here : IsUtf8 (is.word ++ rest) = subst IsUtf8 (skipped ∙ is.split) (gap_utf8 text utf8) in
     rest_utf8 is.is_token.form is.word rest is.is_token.longest.formed here
 
@@ -153,7 +153,7 @@ pub record HasAdded (piece : Piece) (old tokens : List Token) (text : List ℕ) 
   pub spelled : AreTokens piece here (left text pos)
 
 pub one_added : (piece : Piece) (old tokens new : List Token) (text : List ℕ) (pos position next : Pos) (token : Token)
-    (first rest front : List ℕ) → HasAdded piece old tokens text pos → IsAfterBlanks pos text position first
+    (first rest front : List ℕ) → HasAdded piece old tokens text pos → IsAfterGap pos text position first
     → first ≢ []
     → IsFirst token position first rest → first ≡ front ++ rest → next ≡ position_after position front
     → new ≡ tokens ++ (token ∷ []) → HasAdded piece old new rest next

@@ -8,12 +8,12 @@ use Rattle.cat_lex.specs.declared.form.Form.{Form}
 use Rattle.cat_lex.specs.declared.token.Token.{Token}
 use Rattle.cat_lex.specs.declared.refusal.LexRefusal.{LexRefusal}
 use Rattle.cat_lex.specs.declared.refusal.LexRefusal.TheVariants.{NoToken, LiteralRange, Memory}
-use Rattle.cat_lex.specs.Blanks.{AreLastBlanks}
+use Rattle.cat_lex.specs.Gaps.{IsLastGap}
 use Rattle.cat_lex.specs.Values.{token_of}
 use Rattle.cat_lex.specs.Lexes.{IsToken, AreTokens, IsPieceOf, Lexes, BeginsNoToken, PassesBound, FailsIn, FailsAt}
 use Rattle.cat_lex.specs.Lexes.{HasCause}
-use Rattle.cat_lex.specs.Reading.{skip_blanks}
-use Rattle.cat_lex.proofs.Blanks.{gap_skipped, last_skipped}
+use Rattle.cat_lex.specs.Reading.{skip_gap}
+use Rattle.cat_lex.proofs.GapLemmas.{gap_skipped, last_skipped}
 use Rattle.cat_lex.proofs.Sequences.{skipped_to, token_utf8, tokens_utf8, one_token, GoesOn, goes_on, no_more}
 
 -- a fault that no token has
@@ -35,17 +35,17 @@ passing_denies text word rest token position passes utf8 split is =
     cc
 
 fault_skipped : {P : List ℕ → Type 0} (piece : Piece) (position : Pos) (f : FailsIn piece position P)
-    → skip_blanks false f.left.text ≡ f.rest
-fault_skipped piece position f = ap (skip_blanks false) f.split ∙ gap_skipped false f.blanks f.rest f.blank f.no_blank
+    → skip_gap false f.left.text ≡ f.rest
+fault_skipped piece position f = ap (skip_gap false) f.split ∙ gap_skipped false f.gap f.rest f.skipped f.no_gap
 
 no_end : {P : List ℕ → Type 0} (piece : Piece) (position : Pos) (f : FailsIn piece position P)
-    → AreLastBlanks f.left.text → ⊥
+    → IsLastGap f.left.text → ⊥
 no_end piece position f last = f.some (sym (fault_skipped piece position f) ∙ last_skipped false f.left.text last)
 
 no_token_there : {P : List ℕ → Type 0} (piece : Piece) (position : Pos) (f : FailsIn piece position P) → Denies P
     → IsUtf8 piece.text → (token : Token) (more : List Token) (end : Piece) → AreTokens f.left (token ∷ more) end → ⊥
 no_token_there piece position f denies utf8 token more end are =
-    let here : skip_blanks false f.left.text ≡ are.1 ++ are.2 =
+    let here : skip_gap false f.left.text ≡ are.1 ++ are.2 =
     skipped_to f.left.text are.0 are.1 are.2 are.5.form are.3 are.4 are.5.longest.formed in
     let split : f.rest ≡ are.1 ++ are.2 = sym (fault_skipped piece position f) ∙ here in
     let left : IsUtf8 f.left.text = tokens_utf8 piece f.tokens f.left f.spelled utf8 in
@@ -54,18 +54,18 @@ no_token_there piece position f denies utf8 token more end are =
     denies f.rest are.1 are.2 token _ f.fault first split are.5
 
 goes_further : {P : List ℕ → Type 0} (piece : Piece) (position : Pos) (f : FailsIn piece position P) → Denies P
-    → IsUtf8 piece.text → (more : List Token) (end : Piece) → AreTokens f.left more end → AreLastBlanks end.text → ⊥
+    → IsUtf8 piece.text → (more : List Token) (end : Piece) → AreTokens f.left more end → IsLastGap end.text → ⊥
 goes_further piece position f denies utf8 [] end are last =
-    no_end piece position f (subst (λ (p : Piece). AreLastBlanks p.text) (sym are) last)
+    no_end piece position f (subst (λ (p : Piece). IsLastGap p.text) (sym are) last)
 goes_further piece position f denies utf8 (token ∷ more) end are last =
     no_token_there piece position f denies utf8 token more end are
 
 stops_before : {P : List ℕ → Type 0} (piece : Piece) (position : Pos) (f : FailsIn piece position P)
-    → (more : List Token) (left : Piece) → AreLastBlanks left.text → AreTokens left more f.left → ⊥
+    → (more : List Token) (left : Piece) → IsLastGap left.text → AreTokens left more f.left → ⊥
 stops_before piece position f more left last are =
     let none : more ≡ [] = no_more left more f.left last are in
     let same : left ≡ f.left = subst (λ (m : List Token). AreTokens left m f.left) none are in
-    no_end piece position f (subst (λ (p : Piece). AreLastBlanks p.text) same last)
+    no_end piece position f (subst (λ (p : Piece). IsLastGap p.text) same last)
 
 by_either : {P : List ℕ → Type 0} (piece : Piece) (position : Pos) (f : FailsIn piece position P) (tokens : List Token)
     (is : IsPieceOf piece tokens) → Denies P

@@ -10,13 +10,13 @@ use Rattle.cat_lex.specs.declared.form.Form.{Form}
 use Rattle.cat_lex.specs.declared.token.Token.{Token}
 use Rattle.cat_lex.specs.declared.token.TokenKind.{TokenKind}
 use Rattle.cat_lex.specs.Positions.{position_after, next_position}
-use Rattle.cat_lex.specs.Blanks.{AreBlanks, AreLastBlanks}
+use Rattle.cat_lex.specs.Gaps.{IsGap, IsLastGap}
 use Rattle.cat_lex.specs.Forms.{HasForm, IsLongest}
 use Rattle.cat_lex.specs.Values.{token_of}
 use Rattle.cat_lex.specs.Lexes.{IsToken, left_after, AreTokens, IsPieceOf, Lexes}
-use Rattle.cat_lex.specs.Reading.{read, skip_blanks}
-use Rattle.cat_lex.proofs.Blanks.{gap_skipped, last_skipped, gap_utf8}
-use Rattle.cat_lex.proofs.Spelled.{rest_utf8, token_no_blank, token_some}
+use Rattle.cat_lex.specs.Reading.{read, skip_gap}
+use Rattle.cat_lex.proofs.GapLemmas.{gap_skipped, last_skipped, gap_utf8}
+use Rattle.cat_lex.proofs.Spelled.{rest_utf8, token_no_gap, token_some}
 use Rattle.cat_lex.proofs.Fronts.{longest_read}
 
 pub position_after-append : (pos : Pos) (xs ys : List ℕ)
@@ -29,15 +29,15 @@ append_nil [] = refl
 append_nil (x ∷ xs) = ap (λ (w : List _). x ∷ w) (append_nil xs)
 
 -- one token more
-pub one_more : (piece : Piece) (tokens : List Token) (left : Piece) (token : Token) (blanks word rest : List ℕ)
-    → AreTokens piece tokens left → left.text ≡ blanks ++ (word ++ rest) → AreBlanks blanks
-    → IsToken token (position_after left.pos blanks) word rest
-    → AreTokens piece (tokens ++ (token ∷ [])) (left_after left (blanks ++ word) rest)
-one_more piece [] left token blanks word rest are split blank is =
+pub one_more : (piece : Piece) (tokens : List Token) (left : Piece) (token : Token) (gap word rest : List ℕ)
+    → AreTokens piece tokens left → left.text ≡ gap ++ (word ++ rest) → IsGap gap
+    → IsToken token (position_after left.pos gap) word rest
+    → AreTokens piece (tokens ++ (token ∷ [])) (left_after left (gap ++ word) rest)
+one_more piece [] left token gap word rest are split skipped is =
     let same : left ≡ piece = sym are in
-    subst (λ (p : Piece). AreTokens p (token ∷ []) (left_after left (blanks ++ word) rest)) same
-    (blanks, word, rest, split, blank, is, refl)
-one_more piece (first ∷ tokens) left token blanks word rest are split blank is = (
+    subst (λ (p : Piece). AreTokens p (token ∷ []) (left_after left (gap ++ word) rest)) same
+    (gap, word, rest, split, skipped, is, refl)
+one_more piece (first ∷ tokens) left token gap word rest are split skipped is = (
   are.0,
   are.1,
   are.2,
@@ -45,19 +45,19 @@ one_more piece (first ∷ tokens) left token blanks word rest are split blank is
   are.4,
   are.5,
   one_more
-      (left_after piece (are.0 ++ are.1) are.2) tokens left token blanks word rest are.6 split blank is,
+      (left_after piece (are.0 ++ are.1) are.2) tokens left token gap word rest are.6 split skipped is,
 )
 
--- what is left after blanks is where the token stands
-pub skipped_to : (text blanks word rest : List ℕ) (form : Form) → text ≡ blanks ++ (word ++ rest) → AreBlanks blanks
-    → HasForm form word rest → skip_blanks false text ≡ word ++ rest
-skipped_to text blanks word rest form split blank formed =
-    ap (skip_blanks false) split ∙ gap_skipped false blanks (word ++ rest) blank (token_no_blank form word rest formed)
+-- what is left after a gap is where the token stands
+pub skipped_to : (text gap word rest : List ℕ) (form : Form) → text ≡ gap ++ (word ++ rest) → IsGap gap
+    → HasForm form word rest → skip_gap false text ≡ word ++ rest
+skipped_to text gap word rest form split skipped formed =
+    ap (skip_gap false) split ∙ gap_skipped false gap (word ++ rest) skipped (token_no_gap form word rest formed)
 
-pub token_utf8 : (text blanks word rest : List ℕ) (form : Form) → IsUtf8 text → text ≡ blanks ++ (word ++ rest)
-    → AreBlanks blanks → HasForm form word rest → IsUtf8 (word ++ rest)
-token_utf8 text blanks word rest form utf8 split blank formed =
-    subst IsUtf8 (skipped_to text blanks word rest form split blank formed) (gap_utf8 text utf8)
+pub token_utf8 : (text gap word rest : List ℕ) (form : Form) → IsUtf8 text → text ≡ gap ++ (word ++ rest)
+    → IsGap gap → HasForm form word rest → IsUtf8 (word ++ rest)
+token_utf8 text gap word rest form utf8 split skipped formed =
+    subst IsUtf8 (skipped_to text gap word rest form split skipped formed) (gap_utf8 text utf8)
 
 pub tokens_utf8 : (piece : Piece) (tokens : List Token) (left : Piece) → AreTokens piece tokens left → IsUtf8 piece.text
     → IsUtf8 left.text
@@ -121,25 +121,25 @@ some_kind form other word word' one two f w a b =
     sym a ∙ (ap (λ (x : Form). token_of x word) f ∙ (ap (λ (x : List ℕ). token_of other x) w ∙ b)) in cc
 
 -- the first tokens of two readings are one, and so is what they leave
-record AreSame (piece : Piece) (one two : Token) (blanks word rest blanks' word' rest' : List ℕ) : Type 0 where
+record AreSame (piece : Piece) (one two : Token) (gap word rest gap' word' rest' : List ℕ) : Type 0 where
   token_is : one ≡ two
-  left_is : left_after piece (blanks ++ word) rest ≡ left_after piece (blanks' ++ word') rest'
+  left_is : left_after piece (gap ++ word) rest ≡ left_after piece (gap' ++ word') rest'
   utf8 : IsUtf8 rest
 
-same_first : (piece : Piece) (one two : Token) (blanks word rest blanks' word' rest' : List ℕ) → IsUtf8 piece.text
-    → piece.text ≡ blanks ++ (word ++ rest) → AreBlanks blanks → IsToken one (position_after piece.pos blanks) word rest
-    → piece.text ≡ blanks' ++ (word' ++ rest') → AreBlanks blanks'
-    → IsToken two (position_after piece.pos blanks') word' rest'
-    → AreSame piece one two blanks word rest blanks' word' rest'
-same_first piece one two blanks word rest blanks' word' rest' utf8 split blank is split' blank' is' =
-    let here = skipped_to piece.text blanks word rest is.form split blank is.longest.formed in
-    let there = skipped_to piece.text blanks' word' rest' is'.form split' blank' is'.longest.formed in
+same_first : (piece : Piece) (one two : Token) (gap word rest gap' word' rest' : List ℕ) → IsUtf8 piece.text
+    → piece.text ≡ gap ++ (word ++ rest) → IsGap gap → IsToken one (position_after piece.pos gap) word rest
+    → piece.text ≡ gap' ++ (word' ++ rest') → IsGap gap'
+    → IsToken two (position_after piece.pos gap') word' rest'
+    → AreSame piece one two gap word rest gap' word' rest'
+same_first piece one two gap word rest gap' word' rest' utf8 split skipped is split' skipped' is' =
+    let here = skipped_to piece.text gap word rest is.form split skipped is.longest.formed in
+    let there = skipped_to piece.text gap' word' rest' is'.form split' skipped' is'.longest.formed in
     let first : IsUtf8 (word ++ rest) =
-    token_utf8 piece.text blanks word rest is.form utf8 split blank is.longest.formed in
+    token_utf8 piece.text gap word rest is.form utf8 split skipped is.longest.formed in
     let same : word ++ rest ≡ word' ++ rest' = sym here ∙ there in
     let o = one_token is.form is'.form word rest word' rest' same is.longest is'.longest first in
-    let gaps : blanks ≡ blanks' = cancel_right blanks blanks' (word' ++ rest')
-    (ap (λ (w : List ℕ). blanks ++ w) (sym same) ∙ (sym split ∙ split')) in
+    let gaps : gap ≡ gap' = cancel_right gap gap' (word' ++ rest')
+    (ap (λ (w : List ℕ). gap ++ w) (sym same) ∙ (sym split ∙ split')) in
     let kinds : one.kind ≡ two.kind =
     some_kind is.form is'.form word word' one.kind two.kind o.form_is o.word_is is.kind is'.kind in
     let places : one.pos ≡ two.pos =
@@ -148,8 +148,8 @@ same_first piece one two blanks word rest blanks' word' rest' utf8 split blank i
       token_is = token_ext one two kinds places;
       left_is =
           ap (λ (w : List ℕ). left_after piece (w ++ word) rest) gaps
-          ∙ (ap (λ (w : List ℕ). left_after piece (blanks' ++ w) rest) o.word_is
-          ∙ ap (λ (w : List ℕ). left_after piece (blanks' ++ word') w) o.rest_is);
+          ∙ (ap (λ (w : List ℕ). left_after piece (gap' ++ w) rest) o.word_is
+          ∙ ap (λ (w : List ℕ). left_after piece (gap' ++ word') w) o.rest_is);
       utf8 = rest_utf8 is.form word rest is.longest.formed first;
     }
 
@@ -183,22 +183,22 @@ goes_on piece (one ∷ tokens) (two ∷ others) left left' utf8 a b =
     cons_either one two tokens others left left' same.token_is
     (goes_on (left_after piece (a.0 ++ a.1) a.2) tokens others left left' same.utf8 a.6 next)
 
--- after the last blanks there is no token
-pub no_more : (left : Piece) (more : List Token) (end : Piece) → AreLastBlanks left.text → AreTokens left more end
+-- after the last gap there is no token
+pub no_more : (left : Piece) (more : List Token) (end : Piece) → IsLastGap left.text → AreTokens left more end
     → more ≡ []
 no_more left [] end last are = refl
 no_more left (token ∷ more) end last are =
-    let none : skip_blanks false left.text ≡ [] = last_skipped false left.text last in
-    let here : skip_blanks false left.text ≡ are.1 ++ are.2 =
+    let none : skip_gap false left.text ≡ [] = last_skipped false left.text last in
+    let here : skip_gap false left.text ≡ are.1 ++ are.2 =
     skipped_to left.text are.0 are.1 are.2 are.5.form are.3 are.4 are.5.longest.formed in
     absurd (token_some are.5.form are.1 are.2 are.5.longest.formed (sym here ∙ none))
 
-no_more_on : (tokens others : List Token) (left left' : Piece) → AreLastBlanks left.text
+no_more_on : (tokens others : List Token) (left left' : Piece) → IsLastGap left.text
     → GoesOn tokens others left left' → others ≡ tokens
 no_more_on tokens others left left' last g =
     g.whole ∙ (ap (λ (w : List Token). tokens ++ w) (no_more left g.more left' last g.spelled) ∙ append_nil tokens)
 
-either_same : (tokens others : List Token) (left left' : Piece) → AreLastBlanks left.text → AreLastBlanks left'.text
+either_same : (tokens others : List Token) (left left' : Piece) → IsLastGap left.text → IsLastGap left'.text
     → GoesOn tokens others left left' ⊎ GoesOn others tokens left' left → tokens ≡ others
 either_same tokens others left left' last last' (inl g) = sym (no_more_on tokens others left left' last g)
 either_same tokens others left left' last last' (inr g) = no_more_on others tokens left' left last' g

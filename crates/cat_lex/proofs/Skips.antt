@@ -19,10 +19,10 @@ pub not_true : (b : Bool) → b ≡ true → b ≡ false → ⊥
 not_true b g h = cc
 
 pub all_append : (p : ℕ → Bool) (xs ys : List ℕ) → list_all p xs ≡ true → list_all p ys ≡ true
-  → list_all p (xs ++ ys) ≡ true
+    → list_all p (xs ++ ys) ≡ true
 all_append p [] ys g h = h
 all_append p (x ∷ xs) ys g h =
-  and_true (p x) (list_all p (xs ++ ys)) (and_left _ _ g) (all_append p xs ys (and_right _ _ g) h)
+    and_true (p x) (list_all p (xs ++ ys)) (and_left _ _ g) (all_append p xs ys (and_right _ _ g) h)
 
 pub skip_pass : (p : ℕ → Bool) (c : ℕ) (cs : List ℕ) → p c ≡ true → skip p (c ∷ cs) ≡ skip p cs
 skip_pass p c cs h = rw h refl
@@ -36,7 +36,7 @@ skip_stays p [] h = refl
 skip_stays p (c ∷ cs) h = rw h refl
 
 stops_at : (p : ℕ → Bool) (c : ℕ) (cs : List ℕ) (b : Bool) → p c ≡ b → begins p (skip p cs) ≡ false
-  → begins p (cond b (skip p cs) (c ∷ cs)) ≡ false
+    → begins p (cond b (skip p cs) (c ∷ cs)) ≡ false
 stops_at p c cs true h s = s
 stops_at p c cs false h s = h
 
@@ -51,9 +51,9 @@ pub record IsRun (p : ℕ → Bool) (text rest : List ℕ) : Type 0 where
   pub passes : list_all p run ≡ true
 
 run_at : (p : ℕ → Bool) (c : ℕ) (cs : List ℕ) (b : Bool) → p c ≡ b → IsRun p cs (skip p cs)
-  → IsRun p (c ∷ cs) (cond b (skip p cs) (c ∷ cs))
+    → IsRun p (c ∷ cs) (cond b (skip p cs) (c ∷ cs))
 run_at p c cs true h s =
-  record { run = c ∷ s.run; split = ap (λ (w : List ℕ). c ∷ w) s.split; passes = and_true (p c) _ h s.passes }
+    record { run = c ∷ s.run; split = ap (λ (w : List ℕ). c ∷ w) s.split; passes = and_true (p c) _ h s.passes }
 run_at p c cs false h s = record { run = []; split = refl; passes = refl }
 
 pub skip_run : (p : ℕ → Bool) (text : List ℕ) → IsRun p text (skip p text)
@@ -61,7 +61,7 @@ skip_run p [] = record { run = []; split = refl; passes = refl }
 skip_run p (c ∷ cs) = run_at p c cs (p c) refl (skip_run p cs)
 
 le_at : (p : ℕ → Bool) (c : ℕ) (cs : List ℕ) (b : Bool) → length (skip p cs) ≤ length cs
-  → length (cond b (skip p cs) (c ∷ cs)) ≤ length (c ∷ cs)
+    → length (cond b (skip p cs) (c ∷ cs)) ≤ length (c ∷ cs)
 le_at p c cs true h = omega arith
 le_at p c cs false h = omega arith
 
@@ -80,7 +80,7 @@ skip_same_or_shorter p (c ∷ cs) = same_at p c cs (p c) (skip_le p cs)
 
 -- a run that is not empty is one that the text begins with
 pub run_some : (p : ℕ → Bool) (text rest : List ℕ) (run : List ℕ) → text ≡ run ++ rest → begins p text ≡ true
-  → begins p rest ≡ false → run ≢ []
+    → begins p rest ≡ false → run ≢ []
 run_some p text rest run split first stop none =
     let same : text ≡ rest = split ∙ ap (λ (w : List ℕ). w ++ rest) none in
     not_true (begins p text) first (ap (begins p) same ∙ stop)

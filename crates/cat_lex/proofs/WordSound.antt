@@ -11,7 +11,7 @@ use Rattle.unicode_ident.proofs.IdentLemmas.{is_xid_start-is_xid_continue}
 use Rattle.cat_lex.specs.declared.words.DoubleKeyword.{DoubleKeyword}
 use Rattle.cat_lex.specs.declared.form.Form.{Form}
 use Rattle.cat_lex.specs.declared.form.Form.TheVariants.{TypeWord, Word, Pair}
-use Rattle.cat_lex.specs.Blanks.{is_blank}
+use Rattle.cat_lex.specs.Gaps.{is_white_space}
 use Rattle.cat_lex.specs.Words.{double_keyword_of}
 use Rattle.cat_lex.specs.Forms.{begins_name, IsWhole}
 use Rattle.cat_lex.specs.Reading.{skip, begins, after, front_of, pair_or, pair_read, begin_word, word_read}
@@ -22,36 +22,36 @@ use Rattle.cat_lex.proofs.WordForms.{blank_bytes}
 use Rattle.cat_lex.proofs.NumberForms.{IsRead}
 use Rattle.cat_lex.proofs.MarkForms.{IsSound}
 
-pair_found : (keyword : DoubleKeyword) (text rest second end front blanks last : List ℕ)
-  → double_keyword_of (front_of text rest) (front_of second end) ≡ Some keyword
-    → text ≡ front ++ rest → rest ≡ blanks ++ second → second ≡ last ++ end → list_all is_blank blanks ≡ true
-      → begins is_blank rest ≡ true → begins is_blank second ≡ false → IsWhole end
+pair_found : (keyword : DoubleKeyword) (text rest second end front spaces last : List ℕ)
+    → double_keyword_of (front_of text rest) (front_of second end) ≡ Some keyword
+    → text ≡ front ++ rest → rest ≡ spaces ++ second → second ≡ last ++ end → list_all is_white_space spaces ≡ true
+    → begins is_white_space rest ≡ true → begins is_white_space second ≡ false → IsWhole end
     → IsRead (Pair keyword) text end
-pair_found keyword text rest second end front blanks last listed whole_is rest_is second_is blank begun stopped whole =
+pair_found keyword text rest second end front spaces last listed whole_is rest_is second_is white begun stopped whole =
     let one : front_of text rest ≡ front = ap (λ (w : List ℕ). front_of w rest) whole_is ∙ front_is front rest in
     let two : front_of second end ≡ last = ap (λ (w : List ℕ). front_of w end) second_is ∙ front_is last end in
-    let split : text ≡ (front ++ (blanks ++ last)) ++ end =
-    whole_is ∙ (ap (λ (w : List ℕ). front ++ w) (rest_is ∙ ap (λ (w : List ℕ). blanks ++ w) second_is)
-      ∙ sym (simp append_assoc)) in
+    let split : text ≡ (front ++ (spaces ++ last)) ++ end =
+    whole_is ∙ (ap (λ (w : List ℕ). front ++ w) (rest_is ∙ ap (λ (w : List ℕ). spaces ++ w) second_is)
+    ∙ sym (simp append_assoc)) in
     record {
-      word = front ++ (blanks ++ last);
+      word = front ++ (spaces ++ last);
       split = split;
       formed = record {
         first = front;
-        blanks = blanks;
+        spaces = spaces;
         second = last;
         listed = ap (λ (w : List ℕ). double_keyword_of w last) (sym one)
-          ∙ (ap (λ (w : List ℕ). double_keyword_of (front_of text rest) w) (sym two) ∙ listed);
-        some = run_some is_blank rest second blanks rest_is begun stopped;
-        blank = blank;
+            ∙ (ap (λ (w : List ℕ). double_keyword_of (front_of text rest) w) (sym two) ∙ listed);
+        some = run_some is_white_space rest second spaces rest_is begun stopped;
+        white = white;
         spelled = refl;
         whole = whole;
       };
     }
 
-stops_bytes : (cs : List ℕ) (b : Bool) → begins is_blank (bytes_of cs) ≡ b → begins is_blank cs ≡ false
-  → begins is_blank (bytes_of cs) ≡ false
-stops_bytes cs true h stop = absurd (not_true (begins is_blank cs) (blank_bytes cs h) stop)
+stops_bytes : (cs : List ℕ) (b : Bool) → begins is_white_space (bytes_of cs) ≡ b → begins is_white_space cs ≡ false
+    → begins is_white_space (bytes_of cs) ≡ false
+stops_bytes cs true h stop = absurd (not_true (begins is_white_space cs) (blank_bytes cs h) stop)
 stops_bytes cs false h stop = h
 
 whole_end : (es : List ℕ) → begins is_xid_continue es ≡ false → IsWhole (bytes_of es)
@@ -69,84 +69,88 @@ as_word c run rs n = record {
   formed = record { first = c; others = run; begun = n.name; continued = n.continued; spelled = refl };
 }
 
-pair_option : (c : ℕ) (run rs : List ℕ) → IsNamed c run rs → begins is_blank (bytes_of rs) ≡ true
-  → (o : Option DoubleKeyword)
+pair_option : (c : ℕ) (run rs : List ℕ) → IsNamed c run rs → begins is_white_space (bytes_of rs) ≡ true
+    → (o : Option DoubleKeyword)
     → double_keyword_of (front_of (bytes_of ((c ∷ run) ++ rs)) (bytes_of rs))
-      (front_of (bytes_of (skip is_blank rs)) (bytes_of (skip is_xid_continue (skip is_blank rs)))) ≡ o
-    → IsRead (pair_or o (bytes_of (skip is_xid_continue (skip is_blank rs))) (bytes_of rs)).0
-      (bytes_of ((c ∷ run) ++ rs)) (pair_or o (bytes_of (skip is_xid_continue (skip is_blank rs))) (bytes_of rs)).1
+    (front_of (bytes_of (skip is_white_space rs)) (bytes_of (skip is_xid_continue (skip is_white_space rs)))) ≡ o
+    → IsRead (pair_or o (bytes_of (skip is_xid_continue (skip is_white_space rs))) (bytes_of rs)).0
+    (bytes_of ((c ∷ run) ++ rs)) (pair_or o (bytes_of (skip is_xid_continue (skip is_white_space rs))) (bytes_of rs)).1
 pair_option c run rs n begun None listed = as_word c run rs n
 pair_option c run rs n begun (Some keyword) listed =
-    let blanks = skip_run is_blank rs in
-    let last = skip_run is_xid_continue (skip is_blank rs) in
-    let ascii : bytes_of blanks.run ≡ blanks.run =
-      ascii_chars blanks.run (weaken is_blank (λ c. ltb c 128) blank_ascii blanks.run blanks.passes) in
-    let rest_is : bytes_of rs ≡ blanks.run ++ bytes_of (skip is_blank rs) =
-    ap (λ (w : List ℕ). bytes_of w) blanks.split
-      ∙ (encodes-append blanks.run (skip is_blank rs) ∙ ap (λ (w : List ℕ). w ++ bytes_of (skip is_blank rs)) ascii) in
-    let second_is : bytes_of (skip is_blank rs) ≡ bytes_of last.run
-      ++ bytes_of (skip is_xid_continue (skip is_blank rs)) =
-    ap (λ (w : List ℕ). bytes_of w) last.split ∙ encodes-append last.run (skip is_xid_continue (skip is_blank rs)) in
-    pair_found keyword (bytes_of ((c ∷ run) ++ rs)) (bytes_of rs) (bytes_of (skip is_blank rs))
-      (bytes_of (skip is_xid_continue (skip is_blank rs))) (bytes_of (c ∷ run)) blanks.run (bytes_of last.run)
-    listed (encodes-append (c ∷ run) rs) rest_is second_is blanks.passes begun
-    (stops_bytes (skip is_blank rs) (begins is_blank (bytes_of (skip is_blank rs))) refl (skip_stops is_blank rs))
-    (whole_end (skip is_xid_continue (skip is_blank rs)) (skip_stops is_xid_continue (skip is_blank rs)))
+    let spaces = skip_run is_white_space rs in
+    let last = skip_run is_xid_continue (skip is_white_space rs) in
+    let ascii : bytes_of spaces.run ≡ spaces.run =
+    ascii_chars spaces.run (weaken is_white_space (λ c. ltb c 128) blank_ascii spaces.run spaces.passes) in
+    let rest_is : bytes_of rs ≡ spaces.run ++ bytes_of (skip is_white_space rs) =
+    ap (λ (w : List ℕ). bytes_of w) spaces.split
+    ∙ (encodes-append spaces.run (skip is_white_space rs) ∙ ap (λ (w : List ℕ). w ++ bytes_of (skip is_white_space rs)) ascii) in
+    let second_is : bytes_of (skip is_white_space rs) ≡ bytes_of last.run
+    ++ bytes_of (skip is_xid_continue (skip is_white_space rs)) =
+    ap (λ (w : List ℕ). bytes_of w) last.split ∙ encodes-append last.run (skip is_xid_continue (skip is_white_space rs)) in
+    pair_found keyword (bytes_of ((c ∷ run) ++ rs)) (bytes_of rs) (bytes_of (skip is_white_space rs))
+    (bytes_of (skip is_xid_continue (skip is_white_space rs))) (bytes_of (c ∷ run)) spaces.run (bytes_of last.run)
+    listed (encodes-append (c ∷ run) rs) rest_is second_is spaces.passes begun
+    (stops_bytes (skip is_white_space rs) (begins is_white_space (bytes_of (skip is_white_space rs))) refl (skip_stops is_white_space rs))
+    (whole_end (skip is_xid_continue (skip is_white_space rs)) (skip_stops is_xid_continue (skip is_white_space rs)))
 
 abbrev IsFound : List ℕ → Form × List ℕ → Type 0
 IsFound text found = IsRead found.0 text found.1
 
-pair_bool : (c : ℕ) (run rs : List ℕ) → IsNamed c run rs → (b : Bool) → begins is_blank (bytes_of rs) ≡ b
+pair_bool : (c : ℕ) (run rs : List ℕ) → IsNamed c run rs → (b : Bool) → begins is_white_space (bytes_of rs) ≡ b
     → IsFound (bytes_of ((c ∷ run) ++ rs))
-      (cond b (pair_or (double_keyword_of (front_of (bytes_of ((c ∷ run) ++ rs)) (bytes_of rs))
-      (front_of (bytes_of (skip is_blank rs)) (bytes_of (skip is_xid_continue (skip is_blank rs)))))
-      (bytes_of (skip is_xid_continue (skip is_blank rs))) (bytes_of rs)) (Word, bytes_of rs))
+    (cond b (pair_or (double_keyword_of (front_of (bytes_of ((c ∷ run) ++ rs)) (bytes_of rs))
+    (front_of (bytes_of (skip is_white_space rs)) (bytes_of (skip is_xid_continue (skip is_white_space rs)))))
+    (bytes_of (skip is_xid_continue (skip is_white_space rs))) (bytes_of rs)) (Word, bytes_of rs))
 pair_bool c run rs n false begun = as_word c run rs n
 pair_bool c run rs n true begun = pair_option c run rs n begun _ refl
 
 pair_sound : (c : ℕ) (run rs : List ℕ) → IsNamed c run rs → IsFound (bytes_of ((c ∷ run) ++ rs))
-  (pair_read (bytes_of ((c ∷ run) ++ rs)) (bytes_of rs))
+    (pair_read (bytes_of ((c ∷ run) ++ rs)) (bytes_of rs))
 pair_sound c run rs n =
-    let one : after is_blank (bytes_of rs) ≡ bytes_of (skip is_blank rs) = after_chars is_blank rs n.scalars in
-    let two : after is_xid_continue (bytes_of (skip is_blank rs)) ≡ bytes_of (skip is_xid_continue (skip is_blank rs)) =
-      after_chars is_xid_continue (skip is_blank rs) (scalars_skip is_blank rs n.scalars) in
-    rw one (rw two (pair_bool c run rs n (begins is_blank (bytes_of rs)) refl))
+    let one : after is_white_space (bytes_of rs) ≡ bytes_of (skip is_white_space rs) = after_chars is_white_space rs n.scalars in
+    let two : after is_xid_continue (bytes_of (skip is_white_space rs)) ≡ bytes_of (skip is_xid_continue (skip is_white_space rs)) =
+    after_chars is_xid_continue (skip is_white_space rs) (scalars_skip is_white_space rs n.scalars) in
+    rw one (rw two (pair_bool c run rs n (begins is_white_space (bytes_of rs)) refl))
 
 rest_is : (c : ℕ) (cs : List ℕ) → all_scalars (c ∷ cs) ≡ true → is_xid_continue c ≡ true
-  → after is_xid_continue (bytes_of (c ∷ cs)) ≡ bytes_of (skip is_xid_continue cs)
+    → after is_xid_continue (bytes_of (c ∷ cs)) ≡ bytes_of (skip is_xid_continue cs)
 rest_is c cs h continues = after_chars is_xid_continue (c ∷ cs) h ∙ ap (λ (w : List ℕ). bytes_of w)
-  (skip_pass is_xid_continue c cs continues)
+    (skip_pass is_xid_continue c cs continues)
 
 type_word_sound : (c : ℕ) (cs : List ℕ) → all_scalars (c ∷ cs) ≡ true → is_ascii_uppercase c ≡ true
-  → IsRead TypeWord (bytes_of (c ∷ cs)) (after is_xid_continue (bytes_of (c ∷ cs)))
+    → IsRead TypeWord (bytes_of (c ∷ cs)) (after is_xid_continue (bytes_of (c ∷ cs)))
 type_word_sound c cs h capital =
     let run = skip_run is_xid_continue cs in
     let split : bytes_of (c ∷ cs) ≡ bytes_of (c ∷ run.run) ++ bytes_of (skip is_xid_continue cs) =
     ap (λ (w : List ℕ). bytes_of (c ∷ w)) run.split ∙ encodes-append (c ∷ run.run) (skip is_xid_continue cs) in
     rw (rest_is c cs h (capital_continues c capital))
-    (record { word = bytes_of (c ∷ run.run); split = split; formed =
-      record { first = c; others = run.run; begun = capital; continued = run.passes; spelled = refl } })
+    (record {
+      word = bytes_of (c ∷ run.run);
+      split = split;
+      formed =
+          record { first = c; others = run.run; begun = capital; continued = run.passes; spelled = refl };
+    })
 
 name_sound : (c : ℕ) (cs : List ℕ) → all_scalars (c ∷ cs) ≡ true → begins_name c ≡ true → is_xid_start c ≡ true
-  → IsFound (bytes_of (c ∷ cs)) (pair_read (bytes_of (c ∷ cs)) (after is_xid_continue (bytes_of (c ∷ cs))))
+    → IsFound (bytes_of (c ∷ cs)) (pair_read (bytes_of (c ∷ cs)) (after is_xid_continue (bytes_of (c ∷ cs))))
 name_sound c cs h name starts =
     let run = skip_run is_xid_continue cs in
     let last : all_scalars (skip is_xid_continue cs) ≡ true =
-      scalars_skip is_xid_continue cs (scalars_append (c ∷ []) cs h) in
+    scalars_skip is_xid_continue cs (scalars_append (c ∷ []) cs h) in
     let named : IsNamed c run.run (skip is_xid_continue cs) =
-      record { name = name; continued = run.passes; scalars = last } in
+    record { name = name; continued = run.passes; scalars = last } in
     let whole : bytes_of ((c ∷ run.run) ++ skip is_xid_continue cs) ≡ bytes_of (c ∷ cs) =
-      ap (λ (w : List ℕ). bytes_of (c ∷ w)) (sym run.split) in
+    ap (λ (w : List ℕ). bytes_of (c ∷ w)) (sym run.split) in
     let sound : IsFound (bytes_of (c ∷ cs)) (pair_read (bytes_of (c ∷ cs)) (bytes_of (skip is_xid_continue cs))) =
     subst (λ (w : List ℕ). IsFound w (pair_read w (bytes_of (skip is_xid_continue cs)))) whole
-      (pair_sound c run.run (skip is_xid_continue cs) named) in
+    (pair_sound c run.run (skip is_xid_continue cs) named) in
     subst (λ (w : List ℕ). IsFound (bytes_of (c ∷ cs)) (pair_read (bytes_of (c ∷ cs)) w))
-      (sym (rest_is c cs h (is_xid_start-is_xid_continue c starts))) sound
+    (sym (rest_is c cs h (is_xid_start-is_xid_continue c starts))) sound
 
 begin_by : (c : ℕ) (cs : List ℕ) (capital starts : Bool) → all_scalars (c ∷ cs) ≡ true → is_ascii_uppercase c ≡ capital
-  → is_xid_start c ≡ starts
+    → is_xid_start c ≡ starts
     → IsSound (bytes_of (c ∷ cs)) (cond capital (Some (TypeWord, after is_xid_continue (bytes_of (c ∷ cs))))
-      (cond starts (Some (pair_read (bytes_of (c ∷ cs)) (after is_xid_continue (bytes_of (c ∷ cs))))) None))
+    (cond starts (Some (pair_read (bytes_of (c ∷ cs)) (after is_xid_continue (bytes_of (c ∷ cs))))) None))
 begin_by c cs true starts h g s = type_word_sound c cs h g
 begin_by c cs false true h g s = name_sound c cs h (and_true (is_xid_start c) _ s (ap not g)) s
 begin_by c cs false false h g s = tt
@@ -159,6 +163,6 @@ pub word_sound : (text : List ℕ) → IsUtf8 text → IsSound text (word_read t
 word_sound text utf8 =
     let is : chars (bytes_of utf8.0) ≡ utf8.0 = chars-encodes utf8.0 utf8.1.0 in
     let sound : IsSound (bytes_of utf8.0) (word_read (bytes_of utf8.0)) =
-      subst (λ (w : List ℕ). IsSound (bytes_of utf8.0) (begin_word w (bytes_of utf8.0))) (sym is)
-      (sound_chars utf8.0 utf8.1.0) in
+    subst (λ (w : List ℕ). IsSound (bytes_of utf8.0) (begin_word w (bytes_of utf8.0))) (sym is)
+    (sound_chars utf8.0 utf8.1.0) in
     subst (λ (w : List ℕ). IsSound w (word_read w)) utf8.1.1 sound

@@ -5,17 +5,14 @@ use Rattle.std.specs.Char.{encode_utf8, is_ascii_digit, is_ascii_uppercase}
 use Rattle.std.specs.List.{list_all, concat}
 use Rattle.std.specs.Str.{encode_utf8_all}
 use Rattle.unicode_ident.specs.Ident.{is_xid_start, is_xid_continue}
+use Rattle.cat_pos.specs.Bytes.{is_blank}
 use Rattle.cat_date.specs.Text.{form_of}
 use Rattle.cat_lex.specs.declared.form.Form.{Form}
 use Rattle.cat_lex.specs.declared.form.Form.TheVariants.{TypeWord, Word, Pair, Whole, Decimal, Percent, Amount, Date}
 use Rattle.cat_lex.specs.declared.form.Form.TheVariants.{Mark}
 use Rattle.cat_lex.specs.declared.words.DoubleKeyword.{DoubleKeyword}
-use Rattle.cat_lex.specs.Blanks.{is_blank}
+use Rattle.cat_lex.specs.Gaps.{is_white_space}
 use Rattle.cat_lex.specs.Words.{double_keyword_of, symbol_of}
-
--- spaces and tabs
-abbrev pub is_space : ℕ → Bool
-is_space byte = byte == 32 || byte == 9
 
 -- one digit or more
 pub record AreDigits (text : List ℕ) : Type 0 where
@@ -38,15 +35,15 @@ begins_name c = is_xid_start c && not (is_ascii_uppercase c)
 abbrev pub IsWhole : List ℕ → Type 0
 IsWhole rest = (c : ℕ) (more : List ℕ) → rest ≡ encode_utf8 c ++ more → is_xid_continue c ≡ false
 
--- two whole words of the list, with one blank or more between
+-- two whole words of the list, with white space between
 pub record IsPair (keyword : DoubleKeyword) (word rest : List ℕ) : Type 0 where
   pub first : List ℕ
-  pub blanks : List ℕ
+  pub spaces : List ℕ
   pub second : List ℕ
   pub listed : double_keyword_of first second ≡ Some keyword
-  pub some : blanks ≢ []
-  pub blank : list_all is_blank blanks ≡ true
-  pub spelled : word ≡ first ++ (blanks ++ second)
+  pub some : spaces ≢ []
+  pub white : list_all is_white_space spaces ≡ true
+  pub spelled : word ≡ first ++ (spaces ++ second)
   pub whole : IsWhole rest
 
 -- nothing, or a point and digits
@@ -62,14 +59,14 @@ pub record IsDecimal (word : List ℕ) : Type 0 where
   pub more : AreDigits places
   pub spelled : word ≡ units ++ after_point places
 
--- digits or a decimal, then spaces, then `%`
+-- digits or a decimal, then blanks, then `%`
 pub record IsPercent (word : List ℕ) : Type 0 where
   pub units : List ℕ
   pub places : List ℕ
   pub spaces : List ℕ
   pub some : AreDigits units
   pub digits : list_all is_ascii_digit places ≡ true
-  pub spaced : list_all is_space spaces ≡ true
+  pub spaced : list_all is_blank spaces ≡ true
   pub spelled : word ≡ units ++ (after_point places ++ (spaces ++ codes "%"))
 
 -- three digits

@@ -7,7 +7,7 @@ use Rattle.cat_lex.specs.declared.form.Form.{Form}
 use Rattle.cat_lex.specs.declared.token.Token.{Token}
 use Rattle.cat_lex.specs.declared.refusal.LexRefusal.{LexRefusal}
 use Rattle.cat_lex.specs.declared.refusal.LexRefusal.TheVariants.{NoToken, LiteralRange, Memory}
-use Rattle.cat_lex.specs.Blanks.{AreBlanks, AreLastBlanks, begins_blank}
+use Rattle.cat_lex.specs.Gaps.{IsGap, IsLastGap, begins_gap}
 use Rattle.cat_lex.specs.Positions.{position_after}
 use Rattle.cat_lex.specs.Forms.{HasForm, IsLongest}
 use Rattle.cat_lex.specs.Values.{token_of}
@@ -23,20 +23,20 @@ pub record IsToken (token : Token) (position : Pos) (word rest : List ℕ) : Typ
 abbrev pub left_after : Piece → List ℕ → List ℕ → Piece
 left_after piece front rest = record { text = rest; pos = position_after piece.pos front }
 
--- the piece is these tokens in order, with blanks and comments before each, and then what is left of it
+-- the piece is these tokens in order, with a gap before each, and then what is left of it
 abbrev pub AreTokens : Piece → List Token → Piece → Type 0
 AreTokens piece [] left = piece ≡ left
 AreTokens piece (token ∷ tokens) left =
-    (blanks word rest : List ℕ) × (piece.text ≡ blanks ++ (word ++ rest)) × AreBlanks blanks
-    × IsToken token (position_after piece.pos blanks) word rest
-    × AreTokens (left_after piece (blanks ++ word) rest) tokens left
+    (gap word rest : List ℕ) × (piece.text ≡ gap ++ (word ++ rest)) × IsGap gap
+    × IsToken token (position_after piece.pos gap) word rest
+    × AreTokens (left_after piece (gap ++ word) rest) tokens left
 
--- the piece, whose text is UTF-8, is these tokens and then blanks and comments alone
+-- the piece, whose text is UTF-8, is these tokens and then a last gap
 pub record IsPieceOf (piece : Piece) (tokens : List Token) : Type 0 where
   pub utf8 : IsUtf8 piece.text
   pub left : Piece
   pub spelled : AreTokens piece tokens left
-  pub ended : AreLastBlanks left.text
+  pub ended : IsLastGap left.text
 
 -- the pieces, one after the other, are these tokens
 abbrev pub Lexes : List Piece → List Token → Type 0
@@ -63,13 +63,13 @@ pub record FailsIn (piece : Piece) (position : Pos) (HasFault : List ℕ → Typ
   pub tokens : List Token
   pub left : Piece
   pub spelled : AreTokens piece tokens left
-  pub blanks : List ℕ
+  pub gap : List ℕ
   pub rest : List ℕ
-  pub split : left.text ≡ blanks ++ rest
-  pub blank : AreBlanks blanks
+  pub split : left.text ≡ gap ++ rest
+  pub skipped : IsGap gap
   pub some : rest ≢ []
-  pub no_blank : begins_blank rest ≡ false
-  pub position_is : position ≡ position_after left.pos blanks
+  pub no_gap : begins_gap rest ≡ false
+  pub position_is : position ≡ position_after left.pos gap
   pub fault : HasFault rest
 
 -- the first pieces are tokens, and the next one is so up to this position

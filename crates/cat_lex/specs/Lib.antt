@@ -1,6 +1,6 @@
 -- what public clauses cite
 pub mod Lexes
-pub mod Blanks
+pub mod Gaps
 pub mod Positions
 pub mod Forms
 pub mod Values

@@ -11,9 +11,9 @@ use Rattle.cat_lex.specs.declared.symbol.Symbol.{Symbol}
 use Rattle.cat_lex.specs.declared.form.Form.{Form}
 use Rattle.cat_lex.specs.declared.form.Form.TheVariants.{TypeWord, Word, Pair, Whole, Decimal, Percent, Amount, Date}
 use Rattle.cat_lex.specs.declared.form.Form.TheVariants.{Mark}
-use Rattle.cat_lex.specs.Blanks.{is_blank, begins_comment}
+use Rattle.cat_lex.specs.Gaps.{is_white_space, begins_comment}
 use Rattle.cat_lex.specs.Words.{double_keyword_of, symbol_of}
-use Rattle.cat_lex.specs.Forms.{is_space}
+use Rattle.cat_pos.specs.Bytes.{is_blank}
 
 -- the text without its longest front that passes
 abbrev pub skip : (ℕ → Bool) → List ℕ → List ℕ
@@ -42,9 +42,9 @@ is_percent_sign c = c == 37
 abbrev pub number_after : List ℕ → Form × List ℕ
 number_after units =
     let places = skip_places units in
-    let spaces = skip is_space places in
+    let spaces = skip is_blank places in
     if begins is_percent_sign spaces then (Percent, drop 1 spaces) else if is_pointed units then (Decimal, places) else
-      (Whole, units)
+    (Whole, units)
 
 -- a number, where a digit comes first
 abbrev pub number_read : List ℕ → Form × List ℕ
@@ -59,12 +59,12 @@ skip_groups text = text
 -- the text after a point and one or two digits
 abbrev pub skip_cents : List ℕ → List ℕ
 skip_cents text = if is_pointed text then (if begins is_ascii_digit (drop 2 text) then drop 3 text else drop 2 text)
-  else text
+    else text
 
 -- an amount, whose `$` stands in front of the text
 abbrev pub amount_read : List ℕ → Option (Form × List ℕ)
 amount_read text = if begins is_ascii_digit text then Some (Amount, skip_cents (skip_groups (skip is_ascii_digit text)))
-  else None
+    else None
 
 -- a date between bars, where one comes first
 abbrev pub date_read : List ℕ → Option (Form × List ℕ)
@@ -97,10 +97,10 @@ pair_or (Some keyword) end rest = (Pair keyword, end)
 -- a word that the rest follows, or a double keyword that it begins
 abbrev pub pair_read : List ℕ → List ℕ → Form × List ℕ
 pair_read text rest =
-    let second = after is_blank rest in
+    let second = after is_white_space rest in
     let end = after is_xid_continue second in
-    if begins is_blank rest then pair_or (double_keyword_of (front_of text rest) (front_of second end)) end rest else
-      (Word, rest)
+    if begins is_white_space rest then pair_or (double_keyword_of (front_of text rest) (front_of second end)) end rest else
+    (Word, rest)
 
 -- a type's word, or else a word or a double keyword, by the first character
 abbrev pub begin_word : List ℕ → List ℕ → Option (Form × List ℕ)
@@ -127,10 +127,10 @@ read (byte ∷ bytes) =
     else if byte == 124 then date_read (byte ∷ bytes)
     else mark_read (byte ∷ bytes)
 
--- the text after all blanks and comments, from outside a comment or from inside one
-abbrev pub skip_blanks : Bool → List ℕ → List ℕ
-skip_blanks inside [] = []
-skip_blanks true (byte ∷ bytes) = skip_blanks (not (is_line_feed byte)) bytes
-skip_blanks false (byte ∷ bytes) =
-    if is_blank byte then skip_blanks false bytes else if begins_comment byte bytes then skip_blanks true bytes else
-      byte ∷ bytes
+-- the text after all white space and comments, from outside a comment or from inside one
+abbrev pub skip_gap : Bool → List ℕ → List ℕ
+skip_gap inside [] = []
+skip_gap true (byte ∷ bytes) = skip_gap (not (is_line_feed byte)) bytes
+skip_gap false (byte ∷ bytes) =
+    if is_white_space byte then skip_gap false bytes else if begins_comment byte bytes then skip_gap true bytes else
+    byte ∷ bytes

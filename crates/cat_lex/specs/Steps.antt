@@ -6,17 +6,17 @@ use Rattle.cat_lex.specs.declared.token.Token.{Token}
 use Rattle.cat_lex.specs.declared.refusal.LexRefusal.{LexRefusal}
 use Rattle.cat_lex.specs.declared.refusal.LexRefusal.TheVariants.{NoToken, LiteralRange, Memory}
 use Rattle.cat_lex.specs.Positions.{position_after}
-use Rattle.cat_lex.specs.Blanks.{AreBlanks, AreLastBlanks, begins_blank}
+use Rattle.cat_lex.specs.Gaps.{IsGap, IsLastGap, begins_gap}
 use Rattle.cat_lex.specs.Lexes.{IsToken, IsPieceOf, BeginsNoToken, PassesBound, FailsIn}
 
--- the text after its blanks and comments, and its position
-pub record IsAfterBlanks (pos : Pos) (text : List ℕ) (position : Pos) (rest : List ℕ) : Type 0 where
-  pub blanks : List ℕ
-  pub split : text ≡ blanks ++ rest
-  pub whole : rest ≢ [] → AreBlanks blanks
-  pub last : rest ≡ [] → AreLastBlanks text
-  pub no_blank : begins_blank rest ≡ false
-  pub position_is : position ≡ position_after pos blanks
+-- the text after its gap, and its position
+pub record IsAfterGap (pos : Pos) (text : List ℕ) (position : Pos) (rest : List ℕ) : Type 0 where
+  pub gap : List ℕ
+  pub split : text ≡ gap ++ rest
+  pub whole : rest ≢ [] → IsGap gap
+  pub last : rest ≡ [] → IsLastGap text
+  pub no_gap : begins_gap rest ≡ false
+  pub position_is : position ≡ position_after pos gap
 
 -- the token stands first in the text, and leaves this rest
 pub record IsFirst (token : Token) (position : Pos) (text rest : List ℕ) : Type 0 where

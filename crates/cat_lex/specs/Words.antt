@@ -56,12 +56,12 @@ unfoldable pub symbols : List (List ℕ × Symbol)
 symbols =
     (codes ":", symbol.Colon) ∷ (codes ".", symbol.Dot) ∷ (codes ",", symbol.Comma) ∷ (codes ";", symbol.Semicolon) ∷
     (codes "(", symbol.LeftParen) ∷ (codes ")", symbol.RightParen) ∷ (codes "[", symbol.LeftBracket) ∷
-      (codes "]", symbol.RightBracket) ∷
+    (codes "]", symbol.RightBracket) ∷
     (codes "{", symbol.LeftBrace) ∷ (codes "}", symbol.RightBrace) ∷ (codes "+", symbol.Plus) ∷
-      (codes "-", symbol.Minus) ∷
+    (codes "-", symbol.Minus) ∷
     (codes "--", symbol.MinusMinus) ∷ (codes "*", symbol.Star) ∷ (codes "/", symbol.Slash) ∷ (codes "=", symbol.Equal) ∷
     (codes "!=", symbol.NotEqual) ∷ (codes "<", symbol.Less) ∷ (codes "<=", symbol.LessEqual) ∷
-      (codes ">", symbol.Greater) ∷
+    (codes ">", symbol.Greater) ∷
     (codes ">=", symbol.GreaterEqual) ∷ []
 
 -- the keyword, double keyword or symbol of this spelling

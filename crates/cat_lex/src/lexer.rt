@@ -1,22 +1,22 @@
 //! Pieces into tokens.
-ghost use Rattle.std.specs.Prelude.{◌≡◌, ◌++◌, ◌+◌, ◌<◌, ◌≤◌, ◌^◌, ℕ, List, length, IfOk, IfErr, OnOk};
+ghost use Rattle.std.specs.Prelude.{◌≡◌, ◌++◌, ◌+◌, ◌<◌, ◌≤◌, ℕ, List, length, IfOk, IfErr, OnOk};
 ghost use Rattle.std.specs.Str.{IsUtf8};
 ghost use Rattle.cat_lex.specs.Positions.{position_after};
 ghost use Rattle.cat_pos.specs.Readable.{AreReadable, IsReadable};
 ghost use Rattle.cat_lex.specs.Lexes.{Lexes, HasCause};
-ghost use Rattle.cat_lex.specs.Steps.{AddsPiece, IsAfterBlanks, IsFirst, HasCauseAt, HasCauseIn};
+ghost use Rattle.cat_lex.specs.Steps.{AddsPiece, IsAfterGap, IsFirst, HasCauseAt, HasCauseIn};
 
 use crate::reader::read;
-use crate::skip::skip_blanks;
+use crate::skip::skip_gap;
 use crate::values::token_kind;
 use crate::{LexRefusal, Token, Tokens};
-use cat_pos::{List, Piece, Pos};
+use cat_pos::{ENTRIES_BOUND, List, Piece, Pos};
 use std::alloc::Global;
 
 /// The position after these bytes.
 fn position_after(pos: Pos, bytes: &[u8]) -> Pos
-    requires line { pos.line + length bytes.now < 2 ^ 32 }
-    requires column { pos.column + length bytes.now < 2 ^ 32 }
+    requires line { pos.line + length bytes.now < ENTRIES_BOUND }
+    requires column { pos.column + length bytes.now < ENTRIES_BOUND }
     ensures position { result ≡ position_after pos bytes.now }
     ensures line { result.line ≤ pos.line + length bytes.now }
     ensures column { result.column ≤ pos.column + length bytes.now }
@@ -75,15 +75,15 @@ fn first_token<'a>(
     }
 }
 
-/// The text after its blanks and comments, and its position.
-fn after_blanks(text: &str, pos: Pos) -> (&str, Pos)
-    requires line { pos.line + length text.now < 2 ^ 32 }
-    requires column { pos.column + length text.now < 2 ^ 32 }
-    ensures gap { IsAfterBlanks pos text.now result.1 result.0.now }
+/// The text after its white space and comments, and its position.
+fn after_gap(text: &str, pos: Pos) -> (&str, Pos)
+    requires line { pos.line + length text.now < ENTRIES_BOUND }
+    requires column { pos.column + length text.now < ENTRIES_BOUND }
+    ensures gap { IsAfterGap pos text.now result.1 result.0.now }
     ensures line { result.1.line + length result.0.now ≤ pos.line + length text.now }
     ensures column { result.1.column + length result.0.now ≤ pos.column + length text.now }
 {
-    let rest = skip_blanks(text.as_bytes());
+    let rest = skip_gap(text.as_bytes());
     let position = position_after(pos, front(text, rest).as_bytes());
     (tail(text, rest), position)
 }
@@ -97,7 +97,7 @@ fn add_piece(alloc: Global, piece: &Piece, tokens: &mut Tokens) -> Result<(), Le
     let mut text = piece.text.as_str();
     let mut pos = piece.pos;
     loop {
-        let (first, position) = after_blanks(text, pos);
+        let (first, position) = after_gap(text, pos);
         if first.is_empty() {
             return Ok(());
         }

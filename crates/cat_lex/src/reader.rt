@@ -2,12 +2,14 @@
 ghost use Rattle.std.specs.Prelude.{◌≡◌, ◌++◌, ℕ, List, if◌then◌else◌, bytes_eq, codes};
 ghost use Rattle.std.specs.Char.{is_ascii_digit};
 ghost use Rattle.cat_date.specs.Text.{form_of};
-ghost use Rattle.cat_lex.specs.Blanks.{is_blank};
+ghost use Rattle.cat_lex.specs.Gaps.{is_white_space};
 ghost use Rattle.cat_lex.specs.Reading.{begins, is_pointed, number_read, skip_groups, skip_cents, amount_read, date_read, mark_read, pair_read, word_read, read, front_of};
 ghost use Rattle.cat_lex.specs.Tables.{seen};
 
 use crate::Form;
-use crate::skip::{after_blanks, after_word, first_char, is_blank, skip_digits, skip_spaces};
+use crate::skip::{
+    after_white_space, after_word, first_char, is_white_space, skip_blanks, skip_digits,
+};
 use crate::tables::{double_keyword, symbol};
 use unicode_ident::is_xid_start;
 
@@ -44,7 +46,7 @@ fn number(text: &[u8]) -> (Form, &[u8])
     } else {
         units
     };
-    match skip_spaces(places) {
+    match skip_blanks(places) {
         [b'%', rest @ ..] => (Form::Percent, rest),
         _ if pointed => (Form::Decimal, places),
         _ => (Form::Whole, units),
@@ -143,10 +145,10 @@ fn front_of<'a>(text: &'a str, rest: &str) -> &'a str
 }
 
 fn begins_with_blank(text: &str) -> bool
-    ensures { result ≡ begins is_blank text.now }
+    ensures { result ≡ begins is_white_space text.now }
 {
     match text.as_bytes() {
-        [first, ..] => is_blank(*first),
+        [first, ..] => is_white_space(*first),
         [] => false,
     }
 }
@@ -159,7 +161,7 @@ fn pair<'a>(text: &'a str, rest: &'a str) -> (Form, &'a str)
     if !begins_with_blank(rest) {
         return (Form::Word, rest);
     }
-    let second = after_blanks(rest);
+    let second = after_white_space(rest);
     let end = after_word(second);
     match double_keyword(front_of(text, rest), front_of(second, end)) {
         Some(keyword) => (Form::Pair(keyword), end),

@@ -3,15 +3,16 @@ ghost use Rattle.std.specs.Prelude.{◌≡◌, ◌++◌, ◌∷◌, [], false, M
 ghost use Rattle.std.specs.Char.{encode_utf8, is_ascii_digit};
 ghost use Rattle.std.specs.Str.{chars};
 ghost use Rattle.unicode_ident.specs.Ident.{is_xid_continue};
-ghost use Rattle.cat_lex.specs.Blanks.{is_blank};
-ghost use Rattle.cat_lex.specs.Forms.{is_space};
-ghost use Rattle.cat_lex.specs.Reading.{skip, after, skip_blanks};
+ghost use Rattle.cat_lex.specs.Gaps.{is_white_space};
+ghost use Rattle.cat_pos.specs.Bytes.{is_blank};
+ghost use Rattle.cat_lex.specs.Reading.{skip, after, skip_gap};
 
+use cat_pos::is_blank;
 use unicode_ident::is_xid_continue;
 
 /// Space, tab, carriage return or line feed.
-pub(crate) fn is_blank(byte: u8) -> bool
-    ensures { result ≡ is_blank byte }
+pub(crate) fn is_white_space(byte: u8) -> bool
+    ensures { result ≡ is_white_space byte }
 {
     matches!(byte, b' ' | b'\t' | b'\r' | b'\n')
 }
@@ -28,27 +29,27 @@ pub(crate) fn skip_digits(text: &[u8]) -> &[u8]
     &[]
 }
 
-/// The text after its spaces and tabs.
-pub(crate) fn skip_spaces(text: &[u8]) -> &[u8]
-    ensures { result.now ≡ skip is_space text.now }
+/// The text after its blanks.
+pub(crate) fn skip_blanks(text: &[u8]) -> &[u8]
+    ensures { result.now ≡ skip is_blank text.now }
 {
     for (at, &byte) in text.iter().enumerate() {
-        if byte != b' ' && byte != b'\t' {
+        if !is_blank(byte) {
             return &text[at..];
         }
     }
     &[]
 }
 
-/// The text after its blanks and comments.
-pub(crate) fn skip_blanks(text: &[u8]) -> &[u8]
-    ensures { result.now ≡ skip_blanks false text.now }
+/// The text after its white space and comments.
+pub(crate) fn skip_gap(text: &[u8]) -> &[u8]
+    ensures { result.now ≡ skip_gap false text.now }
 {
     let mut inside = false;
     for (at, &byte) in text.iter().enumerate() {
         if inside {
             inside = byte != b'\n';
-        } else if !is_blank(byte) {
+        } else if !is_white_space(byte) {
             if byte != b'#' || text[at..].starts_with(b"#[") {
                 return &text[at..];
             }
@@ -84,10 +85,10 @@ pub(crate) fn after_word(text: &str) -> &str
     rest
 }
 
-/// The text after its blanks.
+/// The text after its white space.
 #[tactic(auto, using(crate::proofs::Chars::stepping))]
-pub(crate) fn after_blanks(text: &str) -> &str
-    ensures { result.now ≡ after is_blank text.now }
+pub(crate) fn after_white_space(text: &str) -> &str
+    ensures { result.now ≡ after is_white_space text.now }
 {
     let mut rest = text;
     while let Some((c, after)) = first_char(rest) {

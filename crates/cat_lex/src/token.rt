@@ -1,4 +1,4 @@
-//! Tokens: what a source is made of once blanks and comments are passed over.
+//! Tokens: what a source is made of once white space and comments are passed over.
 
 use crate::{DoubleKeyword, Keyword, Symbol};
 use cat_date::Day;

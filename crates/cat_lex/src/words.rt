@@ -58,7 +58,7 @@ pub enum Keyword {
     GetDay,
 }
 
-/// Two words that are one token, with blanks between.
+/// Two words that are one token, with white space between.
 #[derive(Clone, Copy, Debug, PartialEq, Eq)]
 pub enum DoubleKeyword {
     UnderCondition,

@@ -9,3 +9,4 @@ pub mod Places
 pub mod TextLaws
 pub mod Numerals
 pub mod Examples
+pub mod Exported

@@ -15,8 +15,8 @@ module _ (deps : List (List ℕ)) (listed unmet : List ℕ) (stopped : HasStoppe
   listed_of_none_unmet : (item : ℕ) → item < length deps → get_or unmet item 0 ≡ 0 → 0 < times listed item
   listed_of_none_unmet item within none =
       let not_ready : (nat_lt item (length deps) && not (nat_lt 0 (times listed item))
-        && (missing listed (dependencies_of deps item) == 0)) ≡ false = sym (is_ready-counts deps listed item)
-        ∙ stopped.none_ready item in
+      && (missing listed (dependencies_of deps item) == 0)) ≡ false = sym (is_ready-counts deps listed item)
+      ∙ stopped.none_ready item in
       let nothing : missing listed (dependencies_of deps item) ≡ 0 = sym (stopped.counts item within) ∙ none in
       grind (arith, nat_tests, not_ready, nothing)
 
@@ -26,12 +26,12 @@ module _ (deps : List (List ℕ)) (listed unmet : List ℕ) (stopped : HasStoppe
 
   -- of dependencies that miss one, one waits
   any_waiting_of_missing : (dependencies : List ℕ) → All (λ item. item < length deps) dependencies
-    → 0 < missing listed dependencies → any_waiting unmet dependencies ≡ true
+      → 0 < missing listed dependencies → any_waiting unmet dependencies ≡ true
   any_waiting_of_missing [] within some = absurd (omega arith)
   any_waiting_of_missing (d ∷ dependencies) within some =
       let here : d < length deps = All-head (λ item. item < length deps) d dependencies within in
       let rest : 0 < missing listed dependencies → any_waiting unmet dependencies ≡ true =
-        any_waiting_of_missing dependencies (All-tail (λ item. item < length deps) d dependencies within) in
+      any_waiting_of_missing dependencies (All-tail (λ item. item < length deps) d dependencies within) in
       ⊎_elim
       (λ none. let among : 0 < times listed d = listed_of_none_unmet d here none in
       let more : any_waiting unmet dependencies ≡ true = rest (grind (arith, nat_tests)) in
@@ -40,10 +40,10 @@ module _ (deps : List (List ℕ)) (listed unmet : List ℕ) (stopped : HasStoppe
       (cases_eq (get_or unmet d 0) 0)
 
   pub each_waits : AreItems deps → (item : ℕ) → 0 < get_or unmet item 0 → any_waiting unmet (dependencies_of deps item)
-    ≡ true
+      ≡ true
   each_waits items item some =
       let within : item < length deps =
-        subst (λ (n : ℕ). item < n) stopped.one_each (within_of_positive unmet item some) in
+      subst (λ (n : ℕ). item < n) stopped.one_each (within_of_positive unmet item some) in
       any_waiting_of_missing (dependencies_of deps item)
-        (All-get_or (λ (dependencies : List ℕ). All (λ d. d < length deps) dependencies) deps item [] within items)
+      (All-get_or (λ (dependencies : List ℕ). All (λ d. d < length deps) dependencies) deps item [] within items)
       (omega (arith, stopped.counts item within))

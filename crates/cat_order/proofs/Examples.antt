@@ -23,7 +23,7 @@ an_item_waits_for_a_later_one = refl
 
 -- 3 needs 1 and 2, which both need 0
 a_diamond_keeps_the_order_of_its_sides : order_of (none ∷ (0 ∷ []) ∷ (0 ∷ []) ∷ (2 ∷ 1 ∷ []) ∷ []) ≡ Some
-  (0 ∷ 1 ∷ 2 ∷ 3 ∷ [])
+    (0 ∷ 1 ∷ 2 ∷ 3 ∷ [])
 unfolding order_of is_ready
 a_diamond_keeps_the_order_of_its_sides = refl
 
@@ -68,13 +68,13 @@ an_item_is_not_ready_twice = refl
 a_list_with_each_item_in_its_place_is_the_order : IsOrder ((1 ∷ []) ∷ none ∷ (0 ∷ []) ∷ []) (1 ∷ 0 ∷ 2 ∷ [])
 unfolding order_of is_ready
 a_list_with_each_item_in_its_place_is_the_order =
-  (order_of-iff_IsOrder ((1 ∷ []) ∷ none ∷ (0 ∷ []) ∷ []) (1 ∷ 0 ∷ 2 ∷ [])).0 refl
+    (order_of-iff_IsOrder ((1 ∷ []) ∷ none ∷ (0 ∷ []) ∷ []) (1 ∷ 0 ∷ 2 ∷ [])).0 refl
 
 -- both items are ready, and 0 comes first
 a_later_item_does_not_come_first : IsOrder (none ∷ none ∷ []) (1 ∷ 0 ∷ []) → ⊥
 unfolding order_of is_ready
 a_later_item_does_not_come_first other =
     let computed : order_of (none ∷ none ∷ []) ≡ Some (1 ∷ 0 ∷ []) =
-      (order_of-iff_IsOrder (none ∷ none ∷ []) (1 ∷ 0 ∷ [])).1 other in
+    (order_of-iff_IsOrder (none ∷ none ∷ []) (1 ∷ 0 ∷ [])).1 other in
     let zero_is_one : ◌≡◌ {A = ℕ} 0 1 = ap (λ (o : Option (List ℕ)). get_or (unwrap_or o []) 0 0) computed in
     absurd (omega arith)

@@ -5,3 +5,4 @@ pub mod Trails
 pub mod Stages
 pub mod Endings
 mod Examples
+pub mod Exported

@@ -21,14 +21,18 @@ use Rattle.cat_order.proofs.Fronts.{IsFront-of_IsInOrder, IsOrder-of_IsFront}
 pub length-IsOrder : (deps : List (List ℕ)) (listed : List ℕ) → IsOrder deps listed → length listed ≡ length deps
 length-IsOrder deps listed order =
     let is : IsFront deps listed = IsFront-of_IsInOrder deps listed order.in_order in
-    omega (arith, is.left, none_left_of_listed listed (length deps)
-      (λ item within. omega (arith, order.once item within)))
+    omega (
+      arith,
+      is.left,
+      none_left_of_listed listed (length deps)
+          (λ item within. omega (arith, order.once item within)),
+    )
 
 pub items-IsOrder : (deps : List (List ℕ)) (listed : List ℕ) → IsOrder deps listed → All (λ item. item < length deps)
-  listed
+    listed
 items-IsOrder deps listed order = All-from_get_or (λ item. item < length deps) listed 0
     (λ place within. (IsFront-of_IsInOrder deps listed order.in_order).items (get_or listed place 0)
-      (times_at listed place within))
+    (times_at listed place within))
 
 -- the least number below a bound that passes, or that none does
 abbrev IsLeast : (ℕ → Bool) → ℕ → Option ℕ → Type 0
@@ -36,7 +40,7 @@ IsLeast passes bound None = (k : ℕ) → k < bound → passes k ≡ false
 IsLeast passes bound (Some x) = (passes x ≡ true) × ((k : ℕ) → k < x → passes k ≡ false)
 
 IsLeast-suc : (passes : ℕ → Bool) (bound : ℕ) (o : Option ℕ) (b : Bool) → passes bound ≡ b → IsLeast passes bound o
-  → IsLeast passes (suc bound) (option_or o (cond b (Some bound) None))
+    → IsLeast passes (suc bound) (option_or o (cond b (Some bound) None))
 IsLeast-suc passes bound (Some x) b here least = least
 IsLeast-suc passes bound None true here none = (here, none)
 IsLeast-suc passes bound None false here none = λ k below. ⊎_elim
@@ -47,20 +51,20 @@ IsLeast-suc passes bound None false here none = λ k below. ⊎_elim
 first_below-IsLeast : (passes : ℕ → Bool) (bound : ℕ) → IsLeast passes bound (first_below passes bound)
 first_below-IsLeast passes zero = λ k below. absurd (omega arith)
 first_below-IsLeast passes (suc bound) = IsLeast-suc passes bound (first_below passes bound) (passes bound) refl
-  (first_below-IsLeast passes bound)
+    (first_below-IsLeast passes bound)
 
 first_below_some : (passes : ℕ → Bool) (bound x : ℕ) → first_below passes bound ≡ Some x → IsLeast passes bound (Some x)
 first_below_some passes bound x found =
-  subst (λ (o : Option ℕ). IsLeast passes bound o) found (first_below-IsLeast passes bound)
+    subst (λ (o : Option ℕ). IsLeast passes bound o) found (first_below-IsLeast passes bound)
 
 first_below_none : (passes : ℕ → Bool) (bound : ℕ) → ((k : ℕ) → k < bound → passes k ≡ false) → first_below passes bound
-  ≡ None
+    ≡ None
 first_below_none passes zero none = refl
 first_below_none passes (suc bound) none =
-  rw (first_below_none passes bound (λ k below. none k (omega arith)), none bound (omega arith)) refl
+    rw (first_below_none passes bound (λ k below. none k (omega arith)), none bound (omega arith)) refl
 
 first_below_is : (passes : ℕ → Bool) (bound x : ℕ) → passes x ≡ true → x < bound → ((k : ℕ) → k < x → passes k ≡ false)
-  → first_below passes bound ≡ Some x
+    → first_below passes bound ≡ Some x
 first_below_is passes zero x passed within before = absurd (omega arith)
 first_below_is passes (suc bound) x passed within before =
     ⊎_elim (λ below. rw (first_below_is passes bound x passed below before) refl)
@@ -71,16 +75,16 @@ first_below_is passes (suc bound) x passed within before =
 
 -- what is computed is the order
 computed_is_order : (deps : List (List ℕ)) (left : ℕ) (front listed : List ℕ) → IsFront deps front
-  → left_out front (length deps) ≡ left → order_from deps front left ≡ Some listed → IsOrder deps listed
+    → left_out front (length deps) ≡ left → order_from deps front left ≡ Some listed → IsOrder deps listed
 computed_is_order deps zero front listed is none computed =
     let same : front ≡ listed = same_Some front listed computed in
     subst (λ (xs : List ℕ). IsOrder deps xs) same (IsOrder-of_IsFront deps front is none)
 computed_is_order deps (suc left) front listed is out computed =
     option_and_then_some (λ item. order_from deps (front ++ item ∷ []) left)
-      (first_below (is_ready deps front) (length deps)) listed computed
+    (first_below (is_ready deps front) (length deps)) listed computed
     (λ x found rest.
     let least : IsLeast (is_ready deps front) (length deps) (Some x) =
-      first_below_some (is_ready deps front) (length deps) x found in
+    first_below_some (is_ready deps front) (length deps) x found in
     let next : IsNext deps front x = record { ready = least.0; first = least.1 } in
     let ready : Ready deps front x = Ready-of_is_ready deps front x least.0 in
     computed_is_order deps left (front ++ x ∷ []) listed (IsFront-push deps front x is next)
@@ -88,66 +92,70 @@ computed_is_order deps (suc left) front listed is out computed =
 
 -- the order is computed from each of its fronts
 order_is_computed : (deps : List (List ℕ)) (listed : List ℕ) → IsInOrder deps listed → (left place : ℕ)
-  → place + left ≡ length listed → order_from deps (take place listed) left ≡ Some listed
+    → place + left ≡ length listed → order_from deps (take place listed) left ≡ Some listed
 order_is_computed deps listed in_order zero place whole = ap Some (take_all place listed (omega arith))
 order_is_computed deps listed in_order (suc left) place whole =
     let here : place < length listed = omega arith in
     let next : IsNext deps (take place listed) (get_or listed place 0) = in_order place here in
     let ready : Ready deps (take place listed) (get_or listed place 0) =
-      Ready-of_is_ready deps (take place listed) (get_or listed place 0) next.ready in
+    Ready-of_is_ready deps (take place listed) (get_or listed place 0) next.ready in
     rw (first_below_is (is_ready deps (take place listed)) (length deps) (get_or listed place 0) next.ready ready.within
-      next.first)
+    next.first)
     (rw (sym (take_more listed place 0 here)) (order_is_computed deps listed in_order left (place + 1) (omega arith)))
 
 pub order_of-iff_IsOrder : (deps : List (List ℕ)) (listed : List ℕ) → (order_of deps ≡ Some listed) ↔ IsOrder deps
-  listed
+    listed
 unfolding order_of
 order_of-iff_IsOrder deps listed = (
   (λ computed. computed_is_order deps (length deps) [] listed (IsFront-none deps) (left_out_none (length deps))
-    computed),
+      computed),
   (λ order. rw (sym (length-IsOrder deps listed order)) (order_is_computed deps listed order.in_order (length listed) 0
-    (omega arith))),
+      (omega arith))),
 )
 
 pub one_order : (deps : List (List ℕ)) (one other : List ℕ) → IsOrder deps one → IsOrder deps other → one ≡ other
 one_order deps one other is_one is_other =
-  same_Some one other (sym ((order_of-iff_IsOrder deps one).1 is_one) ∙ (order_of-iff_IsOrder deps other).1 is_other)
+    same_Some one other (sym ((order_of-iff_IsOrder deps one).1 is_one) ∙ (order_of-iff_IsOrder deps other).1 is_other)
 
 -- what an item of a front depends on, at once or through others, stands in that front
 along_path : (deps : List (List ℕ)) (front : List ℕ) → IsFront deps front → (path : List ℕ) (from to : ℕ)
-  → IsPath deps from path to → 0 < times front from → 0 < times front to
+    → IsPath deps from path to → 0 < times front from → 0 < times front to
 along_path deps front is [] from to depends listed =
-  listed_of_none_missing front (dependencies_of deps from) to (is.closed from listed) (ltb-true 0 _ depends)
+    listed_of_none_missing front (dependencies_of deps from) to (is.closed from listed) (ltb-true 0 _ depends)
 along_path deps front is (via ∷ path) from to goes listed =
     along_path deps front is path via to goes.1 (listed_of_none_missing front (dependencies_of deps from) via
-      (is.closed from listed) (ltb-true 0 _ goes.0))
+    (is.closed from listed) (ltb-true 0 _ goes.0))
 
 -- an item that may come next after a front is on no cycle
 none_on_cycle_is_ready : (deps : List (List ℕ)) (front : List ℕ) (item : ℕ) (path : List ℕ) → IsFront deps front
-  → Ready deps front item → IsPath deps item path item → ⊥
+    → Ready deps front item → IsPath deps item path item → ⊥
 none_on_cycle_is_ready deps front item [] is ready depends =
-  absurd (omega (arith, listed_of_none_missing front (dependencies_of deps item) item ready.none_missing
-  (ltb-true 0 _ depends), ready.new))
+    absurd (omega (
+      arith,
+      listed_of_none_missing front (dependencies_of deps item) item ready.none_missing
+          (ltb-true 0 _ depends),
+      ready.new,
+    ))
 none_on_cycle_is_ready deps front item (via ∷ path) is ready goes =
     let begins : 0 < times front via = listed_of_none_missing front (dependencies_of deps item) via ready.none_missing
-      (ltb-true 0 _ goes.0) in
+    (ltb-true 0 _ goes.0) in
     absurd (omega (arith, along_path deps front is path via item goes.1 begins, ready.new))
 
 none_on_cycle_is_listed : (deps : List (List ℕ)) (listed : List ℕ) → IsInOrder deps listed → (item : ℕ) (path : List ℕ)
-  → IsPath deps item path item → (place : ℕ) → place ≤ length listed → times (take place listed) item ≡ 0
+    → IsPath deps item path item → (place : ℕ) → place ≤ length listed → times (take place listed) item ≡ 0
 none_on_cycle_is_listed deps listed in_order item path goes zero within = refl
 none_on_cycle_is_listed deps listed in_order item path goes (suc place) within =
     let here : place < length listed = omega arith in
     let more : take (suc place) listed ≡ take place listed ++ get_or listed place 0 ∷ [] =
-      sym (ap (λ n. take n listed) (add-one place)) ∙ take_more listed place 0 here in
+    sym (ap (λ n. take n listed) (add-one place)) ∙ take_more listed place 0 here in
     let front : IsFront deps (take place listed) = IsFront-take deps listed in_order place (omega arith) in
     let before : times (take place listed) item ≡ 0 =
-      none_on_cycle_is_listed deps listed in_order item path goes place (omega arith) in
+    none_on_cycle_is_listed deps listed in_order item path goes place (omega arith) in
     let ready : Ready deps (take place listed) (get_or listed place 0) =
-      Ready-of_is_ready deps (take place listed) (get_or listed place 0) (in_order place here).ready in
+    Ready-of_is_ready deps (take place listed) (get_or listed place 0) (in_order place here).ready in
     rw more (⊎_elim
     (λ same. absurd (none_on_cycle_is_ready deps (take place listed) item path front
-      (subst (λ (n : ℕ). Ready deps (take place listed) n) same ready) goes))
+    (subst (λ (n : ℕ). Ready deps (take place listed) n) same ready) goes))
     (λ other. times_push_other (take place listed) (get_or listed place 0) item other ∙ before)
     (cases_eq (get_or listed place 0) item))
 
@@ -163,19 +171,19 @@ path_within deps from to [] depends = depends_within deps from to depends
 path_within deps from to (via ∷ path) goes = depends_within deps from via goes.0
 
 pub no_order_of_IsOnCycle : (deps : List (List ℕ)) (item : ℕ) → IsOnCycle deps item → (listed : List ℕ)
-  → IsOrder deps listed → ⊥
+    → IsOrder deps listed → ⊥
 unfolding IsOnCycle
 no_order_of_IsOnCycle deps item (path, goes) listed order =
     let never : times (take (length listed) listed) item ≡ 0 =
-      none_on_cycle_is_listed deps listed order.in_order item path goes (length listed) (le_refl (length listed)) in
+    none_on_cycle_is_listed deps listed order.in_order item path goes (length listed) (le_refl (length listed)) in
     let whole : take (length listed) listed ≡ listed = take_all (length listed) listed (le_refl (length listed)) in
     let within : item < length deps = path_within deps item item path goes in
     omega (arith, order.once item within, rw whole at never)
 
 pub dependency_before : (deps : List (List ℕ)) (listed : List ℕ) (place other : ℕ) → IsOrder deps listed
-  → place < length listed → DependsOn deps (get_or listed place 0) other → is_listed (take place listed) other ≡ true
+    → place < length listed → DependsOn deps (get_or listed place 0) other → is_listed (take place listed) other ≡ true
 dependency_before deps listed place other order within depends =
     let ready : Ready deps (take place listed) (get_or listed place 0) =
-      Ready-of_is_ready deps (take place listed) (get_or listed place 0) (order.in_order place within).ready in
+    Ready-of_is_ready deps (take place listed) (get_or listed place 0) (order.in_order place within).ready in
     lt-ltb 0 _ (listed_of_none_missing (take place listed) (dependencies_of deps (get_or listed place 0)) other
-      ready.none_missing (ltb-true 0 _ depends))
+    ready.none_missing (ltb-true 0 _ depends))

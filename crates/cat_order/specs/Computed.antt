@@ -14,7 +14,7 @@ abbrev pub order_from : List (List ℕ) → List ℕ → ℕ → Option (List �
 order_from deps front zero = Some front
 order_from deps front (suc left) =
     option_and_then (λ item. order_from deps (front ++ item ∷ []) left)
-      (first_below (is_ready deps front) (length deps))
+    (first_below (is_ready deps front) (length deps))
 
 -- the order of the items, or `None` where they have none
 unfoldable pub order_of : List (List ℕ) → Option (List ℕ)

@@ -28,7 +28,7 @@ AreDependents deps dependents = (item : ℕ) (other : ℕ)
 abbrev pub AddsDependent : List (List ℕ) → List (List ℕ) → ℕ → List ℕ → Type 0
 AddsDependent old new item dependencies = (on : ℕ) (other : ℕ)
     → times (dependents_of new on) other ≡ times (dependents_of old on) other +
-      (if item == other then times dependencies on else 0)
+    (if item == other then times dependencies on else 0)
 
 -- the set has the items whose count is 0
 abbrev pub HasThoseAtZero : List ℕ → BTreeSet ℕ → Type 0
@@ -43,7 +43,7 @@ CountsDown items old new = (item : ℕ) → slice_index new item + times items i
 abbrev pub AddsThoseAtZero : List ℕ → List ℕ → BTreeSet ℕ → BTreeSet ℕ → Type 0
 AddsThoseAtZero items counts old new = (item : ℕ)
     → contains nat_cmp new item ≡ (contains nat_cmp old item
-      || (is_listed items item && (slice_index counts item == 0)))
+    || (is_listed items item && (slice_index counts item == 0)))
 
 -- whether one of these dependencies has a count above 0, and so waits for others itself
 abbrev pub any_waiting : List ℕ → List ℕ → Bool

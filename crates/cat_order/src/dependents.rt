@@ -1,9 +1,9 @@
 // Which items depend on each item.
-ghost use Rattle.std.specs.Prelude.{◌≡◌, ◌^◌, ◌<◌, [], length, replicate, All, IfOk, OnOk};
+ghost use Rattle.std.specs.Prelude.{◌≡◌, ◌<◌, [], length, replicate, All, IfOk, OnOk};
 ghost use Rattle.cat_order.specs.Order.{AreItems};
 ghost use Rattle.cat_order.specs.Steps.{AddsDependent, AreDependents};
 
-use cat_pos::{List, Numbers};
+use cat_pos::{ENTRIES_BOUND, List, Numbers};
 use std::alloc::{AllocError, Global};
 
 fn empty_lists(alloc: Global, count: usize) -> Result<Vec<Numbers>, AllocError>
@@ -32,7 +32,7 @@ fn add_dependent(
 
 /// The items that depend on each item, each as often as it says so.
 pub fn dependents_of_each(alloc: Global, deps: &[Numbers]) -> Result<Vec<Numbers>, AllocError>
-    requires few { length deps.now < 2 ^ 32 }
+    requires few { length deps.now < ENTRIES_BOUND }
     requires items { AreItems deps.now }
     ensures one_each { IfOk result (λ dependents. length dependents.items ≡ length deps.now) }
     ensures turned { IfOk result (λ dependents. AreDependents deps.now dependents.items) }

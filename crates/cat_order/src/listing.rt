@@ -1,10 +1,10 @@
 // Lists the items that can be listed, in order.
-ghost use Rattle.std.specs.Prelude.{◌≡◌, ◌^◌, ◌<◌, ◌≤◌, ℕ, length, map, slice_index, IfOk, OnOk};
+ghost use Rattle.std.specs.Prelude.{◌≡◌, ◌<◌, ◌≤◌, ℕ, length, map, slice_index, IfOk, OnOk};
 ghost use Rattle.cat_order.specs.Order.{AreItems, times};
 ghost use Rattle.cat_order.specs.Steps.{AddsThoseAtZero, CountsDown, HasStopped, HasThoseAtZero};
 
 use crate::dependents::dependents_of_each;
-use cat_pos::{List, Numbers};
+use cat_pos::{ENTRIES_BOUND, List, Numbers};
 use std::alloc::{AllocError, Global};
 use std::collections::BTreeSet;
 
@@ -24,7 +24,7 @@ fn dependency_counts(alloc: Global, deps: &[Numbers]) -> Result<Vec<usize>, Allo
 }
 
 fn items_at_zero(alloc: Global, unmet: &[usize]) -> Result<BTreeSet<u32>, AllocError>
-    requires { length unmet.now < 2 ^ 32 }
+    requires { length unmet.now < ENTRIES_BOUND }
     ensures { IfOk result (HasThoseAtZero unmet.now) }
 {
     let mut ready = BTreeSet::new(alloc);
@@ -59,7 +59,7 @@ fn count_down(
 
 /// Lists items for as long as one may come next.
 pub fn list_items(alloc: Global, deps: &[Numbers]) -> Result<Listing, AllocError>
-    requires few { length deps.now < 2 ^ 32 }
+    requires few { length deps.now < ENTRIES_BOUND }
     requires items { AreItems deps.now }
     ensures { IfOk result (λ listing. HasStopped deps.now listing.listed listing.unmet.items) }
 {

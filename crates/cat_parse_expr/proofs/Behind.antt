@@ -17,8 +17,8 @@ use Rattle.cat_tree.specs.Phrase.{Anywhere}
 use Rattle.cat_tree.specs.Wording.{of_level, match_of}
 use Rattle.cat_tree.specs.Operators.{operator_kind, operator_level, left_level}
 use Rattle.cat_tree.specs.Grammar.{phrase}
-use Rattle.cat_tree.proofs.Equations.{arm_row, phrase_Literal, phrase_Name, phrase_Case, phrase_Call, phrase_Test}
-use Rattle.cat_tree.proofs.Equations.{phrase_Match}
+use Rattle.cat_tree.proofs.Exported.{arm_row, phrase_Literal, phrase_Name, phrase_Case, phrase_Call, phrase_Test}
+use Rattle.cat_tree.proofs.Exported.{phrase_Match}
 use Rattle.cat_parse_state.specs.declared.state.State.{State}
 use Rattle.cat_parse_state.specs.declared.state.State.TheVariants as state
 use Rattle.std.proofs.lemmas.Bool.{leb-true}

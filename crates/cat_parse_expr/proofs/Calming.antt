@@ -23,7 +23,7 @@ use Rattle.cat_tree.specs.Operators.{operator_level, left_level}
 use Rattle.cat_tree.specs.Rows.{elements, arms}
 use Rattle.cat_tree.specs.Grammar.{phrase}
 use Rattle.cat_tree.specs.Literals.{span_bound}
-use Rattle.cat_tree.proofs.Equations.{arm_row, phrase_Call, phrase_Match}
+use Rattle.cat_tree.proofs.Exported.{arm_row, phrase_Call, phrase_Match}
 use Rattle.cat_parse_state.specs.declared.state.State.{State}
 use Rattle.cat_parse_state.specs.declared.state.State.TheVariants as state
 use Rattle.cat_parse_state.specs.declared.state.Owner.TheVariants as owner

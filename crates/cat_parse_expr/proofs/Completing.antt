@@ -25,7 +25,7 @@ use Rattle.cat_parse_state.specs.declared.state.Owner.TheVariants as owner
 use Rattle.cat_parse_state.specs.declared.state.Part.{Part as Found}
 use Rattle.cat_lex.specs.declared.token.TokenKind.{TokenKind}
 use Rattle.cat_parse_expr.proofs.Rows.{IsRow, IsPart, ReachedAt}
-use Rattle.cat_tree.proofs.Equations.{phrase_Literal}
+use Rattle.cat_tree.proofs.Exported.{phrase_Literal}
 use Rattle.cat_parse_step.specs.Words.{Onward}
 use Rattle.cat_parse_state.specs.Readings.{done}
 use Rattle.cat_parse_step.specs.Machine.{step}

@@ -20,8 +20,8 @@ use Rattle.cat_tree.specs.Wording.{◌▹◌, key_at, symbol_at, «word», words
 use Rattle.cat_tree.specs.Operators.{prefix_level, operator_level}
 use Rattle.cat_tree.specs.Rows.{fields, elements, pattern_parts, arms, each_parts}
 use Rattle.cat_tree.specs.Grammar.{phrase}
-use Rattle.cat_tree.proofs.Equations.{field_row, arm_row, phrase_Prefixed, phrase_Sum, phrase_Content, phrase_Binary}
-use Rattle.cat_tree.proofs.Equations.{phrase_If, phrase_Match, phrase_Each, phrase_Combine}
+use Rattle.cat_tree.proofs.Exported.{field_row, arm_row, phrase_Prefixed, phrase_Sum, phrase_Content, phrase_Binary}
+use Rattle.cat_tree.proofs.Exported.{phrase_If, phrase_Match, phrase_Each, phrase_Combine}
 use Rattle.cat_parse_state.specs.declared.state.State.{State}
 use Rattle.cat_parse_state.specs.declared.state.State.TheVariants as state
 use Rattle.cat_parse_state.specs.declared.state.Part.{Part as Found}

@@ -21,7 +21,7 @@ use Rattle.cat_tree.specs.Wording.{◌▹◌, key_at, pair_at, symbol_at, «word
 use Rattle.cat_tree.specs.Wording.{if_some, match_of}
 use Rattle.cat_tree.specs.Rows.{fields, elements, pattern_parts, arms}
 use Rattle.cat_tree.specs.Grammar.{phrase}
-use Rattle.cat_tree.proofs.Equations.{field_row, arm_row}
+use Rattle.cat_tree.proofs.Exported.{field_row, arm_row}
 use Rattle.cat_parse_state.specs.declared.state.State.{State}
 use Rattle.cat_parse_state.specs.declared.state.State.TheVariants as state
 use Rattle.cat_parse_state.specs.declared.state.Owner.{Owner}

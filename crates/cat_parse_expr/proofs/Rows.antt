@@ -23,7 +23,7 @@ use Rattle.cat_tree.specs.Literals.{case_parts, lists_of, type_parts}
 use Rattle.cat_tree.specs.Operators.{prefix_parts, prefix_level, operator_kind, operator_level, left_level}
 use Rattle.cat_tree.specs.Rows.{fields, elements, pattern_parts}
 use Rattle.cat_tree.specs.Grammar.{phrase}
-use Rattle.cat_tree.proofs.Equations.{field_row, arm_row}
+use Rattle.cat_tree.proofs.Exported.{field_row, arm_row}
 use Rattle.cat_parse_state.specs.declared.state.State.{State}
 use Rattle.cat_parse_state.specs.declared.state.State.TheVariants as state
 use Rattle.cat_parse_state.specs.declared.state.Owner.{Owner}

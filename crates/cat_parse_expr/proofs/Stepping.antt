@@ -21,8 +21,8 @@ use Rattle.cat_tree.specs.Phrase.{Phrase, Row, Parts, End, Word, right_strength,
 use Rattle.cat_tree.specs.Wording.{◌▹◌, first, «word», sign, lower, upper, left, of_level}
 use Rattle.cat_tree.specs.Literals.{lists_of, literal_parts, literal_rank, span_bound, unit_word}
 use Rattle.cat_tree.specs.Grammar.{phrase}
-use Rattle.cat_tree.proofs.Equations.{arm_row, phrase_Literal, phrase_Case, phrase_Parens, phrase_Field, phrase_Test}
-use Rattle.cat_tree.proofs.Equations.{phrase_List, phrase_Structure, phrase_ScopeCall, phrase_Match}
+use Rattle.cat_tree.proofs.Exported.{arm_row, phrase_Literal, phrase_Case, phrase_Parens, phrase_Field, phrase_Test}
+use Rattle.cat_tree.proofs.Exported.{phrase_List, phrase_Structure, phrase_ScopeCall, phrase_Match}
 use Rattle.cat_parse_state.specs.declared.state.State.{State}
 use Rattle.cat_parse_state.specs.declared.state.State.TheVariants as state
 use Rattle.cat_parse_state.specs.declared.state.Owner.TheVariants as owner

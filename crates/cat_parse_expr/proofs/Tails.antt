@@ -26,10 +26,10 @@ use Rattle.cat_tree.specs.Literals.{case_parts, lists_of, type_parts, base_kind,
 use Rattle.cat_tree.specs.Operators.{prefix_parts, prefix_level, operator_kind, operator_level, left_level}
 use Rattle.cat_tree.specs.Rows.{fields, elements, arms, each_parts}
 use Rattle.cat_tree.specs.Grammar.{phrase}
-use Rattle.cat_tree.proofs.Equations.{field_row, arm_row, phrase_Literal, phrase_Name, phrase_Case, phrase_Parens}
-use Rattle.cat_tree.proofs.Equations.{phrase_Field, phrase_Prefixed, phrase_Sum, phrase_Content, phrase_Call}
-use Rattle.cat_tree.proofs.Equations.{phrase_Binary, phrase_Test, phrase_List, phrase_Structure, phrase_ScopeCall}
-use Rattle.cat_tree.proofs.Equations.{phrase_If, phrase_Match, phrase_Each, phrase_Combine}
+use Rattle.cat_tree.proofs.Exported.{field_row, arm_row, phrase_Literal, phrase_Name, phrase_Case, phrase_Parens}
+use Rattle.cat_tree.proofs.Exported.{phrase_Field, phrase_Prefixed, phrase_Sum, phrase_Content, phrase_Call}
+use Rattle.cat_tree.proofs.Exported.{phrase_Binary, phrase_Test, phrase_List, phrase_Structure, phrase_ScopeCall}
+use Rattle.cat_tree.proofs.Exported.{phrase_If, phrase_Match, phrase_Each, phrase_Combine}
 use Rattle.cat_parse_expr.proofs.Moves.{operator_low, prefix_low}
 use Rattle.cat_parse_expr.proofs.Behind.{match_level}
 use Rattle.cat_parse_expr.proofs.Hold.{row_hold, last_hold, own_hold}

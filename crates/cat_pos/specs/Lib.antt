@@ -1,4 +1,5 @@
 pub mod Position
+pub mod Bytes
 pub mod Readable
 -- how a type may hold lists and boxes of itself
 pub mod formers

@@ -2,6 +2,7 @@
 #![tactic(auto)]
 
 mod boxed;
+mod bytes;
 mod files;
 mod limits;
 mod list;
@@ -9,6 +10,7 @@ mod pos;
 mod text;
 
 pub use boxed::Boxed;
+pub use bytes::is_blank;
 pub use files::{Files, show_pos};
 pub use limits::{
     ENTRIES_BOUND, LAST_LINE, MOST_FILE_BYTES, MOST_FILES, MOST_INPUT_BYTES, MOST_SOURCE_BYTES,

@@ -14,7 +14,7 @@ use Rattle.cat_date.specs.declared.rounding.Rounding.{Rounding}
 use Rattle.cat_order.specs.Order.{IsOrder, is_ready}
 use Rattle.cat_order.specs.Cycle.{DependsOn}
 use Rattle.cat_order.specs.Computed.{order_of}
-use Rattle.cat_order.proofs.Theorems.{order_of-iff_IsOrder}
+use Rattle.cat_order.proofs.Exported.{order_of-iff_IsOrder}
 use Rattle.cat_scope.specs.declared.defs.SourcePart.TheVariants.{Declaration}
 use Rattle.cat_scope.specs.declared.defs.Body.{Body}
 use Rattle.cat_scope.specs.Orders.{scope_dependencies, item_dependencies}

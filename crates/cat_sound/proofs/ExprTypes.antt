@@ -10,7 +10,7 @@ use Rattle.cat_value.specs.declared.value.Value.TheVariants as flat
 use Rattle.cat_value.specs.declared.decls.Decls.{Decls}
 use Rattle.cat_value.specs.Typing.{is_type, most_elements, content_has_type}
 use Rattle.cat_value.specs.Entries.{some_passes, content_of}
-use Rattle.cat_value.proofs.Equations.{has_type_Case}
+use Rattle.cat_value.proofs.Exported.{has_type_Case}
 use Rattle.cat_scope.specs.declared.expr.Literal.{Literal}
 use Rattle.cat_scope.specs.declared.operators.UnaryOp.{UnaryOp}
 use Rattle.cat_scope.specs.declared.operators.BinaryOp.{BinaryOp}

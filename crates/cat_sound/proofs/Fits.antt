@@ -12,19 +12,15 @@ use Rattle.cat_num.specs.Whole.{largest, fits, whole_of}
 use Rattle.cat_num.specs.Frac.{Fraction, IsReduced, gcd, is_negative, signed, lowest, ratio, frac_of, frac_negation}
 use Rattle.cat_num.specs.Rounding.{rounded, truncated, rounded_ratio, whole_units}
 use Rattle.cat_num.specs.Numerals.{Numeral, is_numeral, numeral_value}
-use Rattle.cat_num.proofs.Numerals.{value_reduced}
-use Rattle.cat_num.proofs.Gcd.{gcd-mod, gcd-zero}
-use Rattle.cat_num.proofs.Signs.{unsigned_abs-signed, signed-product}
-use Rattle.cat_num.proofs.Fracs.{ratio-zero, ratio-large_num, ratio-large_den, ratio-fits, lowest_parts}
-use Rattle.cat_num.proofs.Fracs.{IsReduced-lowest}
-use Rattle.cat_num.proofs.Rounds.{Fits-rounded}
+use Rattle.cat_num.proofs.Exported.{value_reduced, gcd-mod, gcd-zero, unsigned_abs-signed, signed-product, ratio-zero}
+use Rattle.cat_num.proofs.Exported.{ratio-large_num, ratio-large_den, ratio-fits, lowest_parts, IsReduced-lowest}
+use Rattle.cat_num.proofs.Exported.{Fits-rounded}
 use Rattle.cat_date.specs.declared.fault.DateFault.{DateFault}
 use Rattle.cat_date.specs.declared.fault.DateFault.TheVariants as date
 use Rattle.cat_date.specs.Calendar.{is_day, in_range, civil_of}
 use Rattle.cat_date.specs.Add.{plus_days}
 use Rattle.cat_date.specs.Span.{SpanOf, is_part, is_span, span_in_range, span_negated, span_of_days}
-use Rattle.cat_date.proofs.CalendarLemmas.{bounds-IsDay}
-use Rattle.cat_date.proofs.DateOfDay.{civil_of-IsDateOf}
+use Rattle.cat_date.proofs.Exported.{bounds-IsDay, civil_of-IsDateOf}
 use Rattle.cat_value.specs.Flat.{is_decimal}
 use Rattle.cat_scope.specs.Operators.{over_one}
 

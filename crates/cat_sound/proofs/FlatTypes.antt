@@ -21,9 +21,9 @@ use Rattle.cat_value.specs.declared.value.Value.TheViews as value
 use Rattle.cat_value.specs.declared.decls.Decls.{Decls}
 use Rattle.cat_value.specs.Flat.{is_decimal, integer_typed, decimal_typed, money_typed, date_typed, duration_typed}
 use Rattle.cat_value.specs.Declarations.{is_boolean}
-use Rattle.cat_value.proofs.Equations.{has_type_Boolean, has_type_Integer, has_type_Decimal, has_type_Money}
-use Rattle.cat_value.proofs.Equations.{has_type_Date, has_type_Duration}
-use Rattle.cat_value.proofs.Inversions.{integer_value, decimal_value, money_value, date_value, duration_value}
+use Rattle.cat_value.proofs.Exported.{has_type_Boolean, has_type_Integer, has_type_Decimal, has_type_Money}
+use Rattle.cat_value.proofs.Exported.{has_type_Date, has_type_Duration, integer_value, decimal_value, money_value}
+use Rattle.cat_value.proofs.Exported.{date_value, duration_value}
 use Rattle.cat_num.specs.Numerals.{numeral_value}
 use Rattle.cat_scope.specs.declared.expr.Literal.{Literal}
 use Rattle.cat_scope.specs.declared.expr.Literal.TheVariants as literal

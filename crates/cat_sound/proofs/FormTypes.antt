@@ -17,8 +17,7 @@ use Rattle.cat_value.specs.declared.declaration.Enumeration.{Enumeration}
 use Rattle.cat_value.specs.Typing.{fields_have_types, is_structure, content_has_type, is_case}
 use Rattle.cat_value.specs.Entries.{some_passes, fields_of, content_of, content_in}
 use Rattle.cat_value.specs.Entries as entry
-use Rattle.cat_value.proofs.Equations.{has_type_Structure}
-use Rattle.cat_value.proofs.Inversions.{structure_value, case_value}
+use Rattle.cat_value.proofs.Exported.{has_type_Structure, structure_value, case_value}
 use Rattle.cat_scope.specs.declared.expr.ArmPattern.{ArmPattern}
 use Rattle.cat_scope.specs.declared.expr.ArmPattern.TheVariants as pattern
 use Rattle.cat_scope.specs.declared.expr.Arm.{Arm}

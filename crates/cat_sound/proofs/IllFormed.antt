@@ -11,7 +11,7 @@ use Rattle.cat_value.specs.declared.declaration.ItemDecl.{ItemDecl}
 use Rattle.cat_value.specs.declared.declaration.Kind.TheVariants as kind
 use Rattle.cat_value.specs.Declarations.{is_boolean, are_sound}
 use Rattle.cat_value.specs.Dependencies.{are_ordered}
-use Rattle.cat_value.proofs.Equations.{typing}
+use Rattle.cat_value.proofs.Exported.{typing}
 use Rattle.cat_scope.specs.declared.expr.Expr.TheVariants as leaf
 use Rattle.cat_scope.specs.declared.expr.Expr.TheOpen.{Expr-F}
 use Rattle.cat_scope.specs.declared.expr.Literal.TheVariants as literal
@@ -21,7 +21,7 @@ use Rattle.cat_scope.specs.WellFormed.{DefTyped, IsBodyOf, IsWellFormed}
 use Rattle.cat_scope.proofs.Exported.{namings}
 use Rattle.cat_order.specs.Order.{IsOrder, is_ready}
 use Rattle.cat_order.specs.Computed.{order_of}
-use Rattle.cat_order.proofs.Theorems.{order_of-iff_IsOrder}
+use Rattle.cat_order.proofs.Exported.{order_of-iff_IsOrder}
 use Rattle.cat_value.specs.declared.declaration.Scope.{Scope}
 use Rattle.cat_scope.specs.declared.defs.Except.TheVariants as except
 use Rattle.cat_scope.specs.declared.defs.Def.{Def}

@@ -18,7 +18,7 @@ use Rattle.cat_value.specs.declared.declaration.ItemDecl.{ItemDecl}
 use Rattle.cat_value.specs.declared.declaration.Scope.{Scope}
 use Rattle.cat_value.specs.Declarations.{is_boolean}
 use Rattle.cat_value.specs.Inputs.{must_be_given, may_be_given, is_given_for, are_given_for}
-use Rattle.cat_value.proofs.Inversions.{whole}
+use Rattle.cat_value.proofs.Exported.{whole}
 use Rattle.cat_scope.specs.Replies.{Reply, on_one, known}
 use Rattle.cat_scope.specs.Runs.{Run, plain, gives, giving}
 use Rattle.cat_scope.specs.Names.{Names, AllHave, is_in, inputs_given, items_in, scope_items, outputs_in, has_none}

@@ -12,8 +12,7 @@ use Rattle.cat_value.specs.declared.value.Value.TheVariants as flat
 use Rattle.cat_value.specs.declared.value.Value.TheViews as value
 use Rattle.cat_value.specs.declared.decls.Decls.{Decls}
 use Rattle.cat_value.specs.Typing.{is_type, most_elements, all_have_type, elements_typed}
-use Rattle.cat_value.proofs.Equations.{has_type_List}
-use Rattle.cat_value.proofs.Inversions.{list_value}
+use Rattle.cat_value.proofs.Exported.{has_type_List, list_value}
 use Rattle.cat_scope.specs.declared.operators.BinaryOp.TheVariants as binary
 use Rattle.cat_scope.specs.declared.operators.SumKind.{SumKind}
 use Rattle.cat_scope.specs.declared.operators.SumKind.TheVariants as sum

@@ -19,13 +19,11 @@ use Rattle.cat_value.specs.Laws.{height_of, part_height, AreSound}
 use Rattle.cat_value.specs.Laws as law
 use Rattle.cat_value.specs.Typing.{is_type}
 use Rattle.cat_value.specs.Entries.{some_passes, fields_in, fields_of, content_in, case_in, content_of}
-use Rattle.cat_value.proofs.Equations.{is_declared_Boolean, is_declared_Integer, is_declared_Decimal, is_declared_Money}
-use Rattle.cat_value.proofs.Equations.{is_declared_Date, is_declared_Duration, is_declared_List, is_declared_Structure}
-use Rattle.cat_value.proofs.Equations.{is_declared_Enumeration}
-use Rattle.cat_value.proofs.Descending.{height_Boolean, height_Integer, height_Decimal, height_Money, height_Date}
-use Rattle.cat_value.proofs.Descending.{height_Duration, structure_there, enumeration_there, structure_low}
-use Rattle.cat_value.proofs.Descending.{enumeration_low, found, within}
-use Rattle.cat_value.proofs.HeightLaws.{height_of_is}
+use Rattle.cat_value.proofs.Exported.{is_declared_Boolean, is_declared_Integer, is_declared_Decimal, is_declared_Money}
+use Rattle.cat_value.proofs.Exported.{is_declared_Date, is_declared_Duration, is_declared_List, is_declared_Structure}
+use Rattle.cat_value.proofs.Exported.{is_declared_Enumeration, height_Boolean, height_Integer, height_Decimal}
+use Rattle.cat_value.proofs.Exported.{height_Money, height_Date, height_Duration, structure_there, enumeration_there}
+use Rattle.cat_value.proofs.Exported.{structure_low, enumeration_low, found, within, height_of_is}
 use Rattle.cat_scope.specs.declared.expr.Literal.{Literal}
 use Rattle.cat_scope.specs.declared.expr.Literal.TheVariants as literal
 use Rattle.cat_scope.specs.declared.expr.ArmPattern.{ArmPattern}

@@ -19,8 +19,8 @@ use Rattle.cat_value.specs.declared.value.Value.TheOpen.{Value-F}
 use Rattle.cat_value.specs.declared.value.Value.TheVariants as flat
 use Rattle.cat_value.specs.declared.value.Value.TheViews as value
 use Rattle.cat_value.specs.declared.decls.Decls.{Decls}
-use Rattle.cat_value.proofs.Inversions.{boolean_value, integer_value, decimal_value, money_value, date_value}
-use Rattle.cat_value.proofs.Inversions.{duration_value}
+use Rattle.cat_value.proofs.Exported.{boolean_value, integer_value, decimal_value, money_value, date_value}
+use Rattle.cat_value.proofs.Exported.{duration_value}
 use Rattle.cat_scope.specs.declared.operators.UnaryOp.{UnaryOp}
 use Rattle.cat_scope.specs.declared.operators.UnaryOp.TheVariants as unary
 use Rattle.cat_scope.specs.declared.operators.BinaryOp.{BinaryOp}

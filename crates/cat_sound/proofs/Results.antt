@@ -9,7 +9,7 @@ use Rattle.cat_value.specs.declared.value.Value.TheViews as value
 use Rattle.cat_value.specs.declared.ty.Ty.{Ty}
 use Rattle.cat_value.specs.declared.ty.Ty.TheVariants as ty
 use Rattle.cat_value.specs.declared.decls.Decls.{Decls}
-use Rattle.cat_value.proofs.Inversions.{boolean_value}
+use Rattle.cat_value.proofs.Exported.{boolean_value}
 use Rattle.cat_scope.specs.declared.stop.Stop.{Stop}
 use Rattle.cat_scope.specs.Replies.{on_one, known, with_front, exact}
 use Rattle.cat_scope.specs.Readings as read

@@ -8,9 +8,7 @@ use Rattle.cat_value.specs.Declarations.{highest}
 use Rattle.cat_value.specs.Laws.{height_of}
 use Rattle.cat_value.specs.Typing.{is_type}
 use Rattle.cat_value.specs.Entries.{content_of}
-use Rattle.cat_value.proofs.Equations.{declared}
-use Rattle.cat_value.proofs.Descending.{height_List, height_Integer}
-use Rattle.cat_value.proofs.Examples.{pair, choice, pair_and_choice_are_sound}
+use Rattle.cat_value.proofs.Exported.{declared, height_List, height_Integer, pair, choice, pair_and_choice_are_sound}
 use Rattle.cat_scope.specs.declared.expr.Expr.{Expr}
 use Rattle.cat_scope.specs.declared.expr.Expr.TheVariants as leaf
 use Rattle.cat_scope.specs.declared.expr.Expr.TheViews as expr

@@ -8,10 +8,10 @@ use Rattle.cat_value.specs.declared.ty.Ty.TheViews as ty
 use Rattle.cat_value.specs.declared.declaration.ItemDecl.{ItemDecl}
 use Rattle.cat_value.specs.Heights.{height_to}
 use Rattle.cat_value.specs.Declarations.{is_sound}
-use Rattle.cat_value.proofs.Equations.{declared}
+use Rattle.cat_value.proofs.Exported.{declared}
 use Rattle.cat_order.specs.Order.{IsOrder}
 use Rattle.cat_order.specs.Computed.{order_of}
-use Rattle.cat_order.proofs.Theorems.{order_of-iff_IsOrder}
+use Rattle.cat_order.proofs.Exported.{order_of-iff_IsOrder}
 use Rattle.cat_scope.specs.declared.expr.Expr.{Expr}
 use Rattle.cat_scope.specs.declared.defs.Label.{Label}
 use Rattle.cat_scope.specs.declared.defs.Except.{Except}

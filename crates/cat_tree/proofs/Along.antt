@@ -30,37 +30,49 @@ record Passed (P next : List Token → Type 0) (ts : List Token) : Type 0 where
 
 mutual
   phrase_passed : (e : Phrase) (ts : List Token) (next : List Token → Type 0) → AlongPhrase e ts next
-    → Passed (IsSpelling e) next ts
+      → Passed (IsSpelling e) next ts
   phrase_passed (Row r ps) ts next h = passed ps ts next h
 
   passed : (ps : Parts) (ts : List Token) (next : List Token → Type 0) → Along ps ts next → Passed (AreSpelled ps) next
-    ts
+      ts
   passed End ts next h = record { front = []; rest = ts; text = refl; spelled = refl; after = h }
   passed (Word m ps) [] next h = absurd h
   passed (Word m ps) (t ∷ ts) next h =
       let more = passed ps ts next h.1 in
-      record { front = t ∷ more.front; rest = more.rest; text = ap (λ (w : List Token). t ∷ w) more.text; spelled =
-        (t, more.front, refl, h.0, more.spelled); after = more.after }
+      record {
+        front = t ∷ more.front;
+        rest = more.rest;
+        text = ap (λ (w : List Token). t ∷ w) more.text;
+        spelled =
+            (t, more.front, refl, h.0, more.spelled);
+        after = more.after;
+      }
   passed (Part s e ps) ts next h =
       let part = phrase_passed e ts (λ rest. Along ps rest next) h in
       let more = passed ps part.rest next part.after in
-      record { front = part.front ++ more.front; rest = more.rest; text = part.text
-        ∙ ap (λ (w : List Token). part.front ++ w) more.text ∙ sym (append_assoc part.front more.front more.rest); spelled = (part.front, more.front, refl, part.spelled, more.spelled); after = more.after }
+      record {
+        front = part.front ++ more.front;
+        rest = more.rest;
+        text = part.text
+            ∙ ap (λ (w : List Token). part.front ++ w) more.text ∙ sym (append_assoc part.front more.front more.rest);
+        spelled = (part.front, more.front, refl, part.spelled, more.spelled);
+        after = more.after;
+      }
 
 -- a tree whose parts stand where they may is spelled by the tokens that it walks along to their end
 pub spells : (e : Node) (ts : List Token) → IsLevelled (phrase e) → AlongPhrase (phrase e) ts (λ rest. rest ≡ [])
-  → Spells e ts
+    → Spells e ts
 spells e ts levels h =
     let p = phrase_passed (phrase e) ts (λ rest. rest ≡ []) h in
     let whole : p.front ≡ ts = sym (append-nil p.front) ∙ ap (λ (w : List Token). p.front ++ w) (sym p.after)
-      ∙ sym p.text in
+    ∙ sym p.text in
     record { levels = levels; words = subst (IsSpelling (phrase e)) whole p.spelled }
 
 -- so is a program
 pub spells_program : (t : Tree) (ts : List Token) → are_filled t.items ≡ true → AreLevelled (program_parts t)
-  → Along (program_parts t) ts (λ rest. rest ≡ []) → SpellsProgram t ts
+    → Along (program_parts t) ts (λ rest. rest ≡ []) → SpellsProgram t ts
 spells_program t ts filled levels h =
     let p = passed (program_parts t) ts (λ rest. rest ≡ []) h in
     let whole : p.front ≡ ts = sym (append-nil p.front) ∙ ap (λ (w : List Token). p.front ++ w) (sym p.after)
-      ∙ sym p.text in
+    ∙ sym p.text in
     record { filled = filled; levels = levels; words = subst (AreSpelled (program_parts t)) whole p.spelled }

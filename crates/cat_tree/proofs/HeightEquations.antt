@@ -80,13 +80,13 @@ pattern_low (pattern.Case c (Some w)) rest = case_low c _
 -- ---- rows
 
 elements_high : (k : ℕ) (s : Symbol) (es : List Node) (rest : Parts) → tallest (elements k s (map phrase es) rest) ≡ max
-  (highest_node es) (tallest rest)
+    (highest_node es) (tallest rest)
 elements_high k s [] rest = omega arith
 elements_high k s (e ∷ []) rest = omega arith
 elements_high k s (e ∷ d ∷ es) rest = omega (arith, elements_high k s (d ∷ es) rest)
 
 fields_high : (fs : List FieldValue) (rest : Parts) → tallest (fields (map field_row fs) rest) ≡ max (highest_value fs)
-  (tallest rest)
+    (tallest rest)
 fields_high [] rest = omega arith
 fields_high (f ∷ fs) rest = omega (arith, fields_high fs rest)
 
@@ -125,7 +125,7 @@ pub part_Call : (f : Name) (args : List Node) → highest_part (node.Call f args
 part_Call f args = rw (phrase_Call f args) (omega (arith, elements_high 9 symbol.Comma args End))
 
 pub part_Binary : (o : Operator) (p : Pos) (a b : Node) → highest_part (node.Binary o p a b) ≡ max (height_of a)
-  (height_of b)
+    (height_of b)
 part_Binary o p a b = rw (phrase_Binary o p a b) (omega arith)
 
 pub part_Test : (e : Node) (p : Pos) (c : CaseName) → highest_part (node.Test e p c) ≡ height_of e
@@ -138,32 +138,49 @@ pub part_Structure : (u : Name) (fs : List FieldValue) → highest_part (node.St
 part_Structure u fs = rw (phrase_Structure u fs) (fields_high fs _ ∙ max-zero (highest_value fs))
 
 pub part_ScopeCall : (p : Pos) (u : Name) (fs : List FieldValue) (w : Name) → highest_part (node.ScopeCall p u fs w)
-  ≡ highest_value fs
+    ≡ highest_value fs
 part_ScopeCall p u fs w = rw (phrase_ScopeCall p u fs w) (fields_high fs _ ∙ max-zero (highest_value fs))
 
 pub part_If : (p : Pos) (c t e : Node) → highest_part (node.If p c t e) ≡ max (height_of c)
-  (max (height_of t) (height_of e))
+    (max (height_of t) (height_of e))
 part_If p c t e = rw (phrase_If p c t e) (omega arith)
 
 pub part_Match : (p : Pos) (e : Node) (more : List Arm) → highest_part (node.Match p e more) ≡ max (height_of e)
-  (highest_body more)
+    (highest_body more)
 part_Match p e more = rw (phrase_Match p e more) (omega (arith, arms_high more))
 
 each_high : (k : Each) (p : Pos) (w : Name) (l e : Phrase) → tallest (each_parts k p w l e) ≡ max (Phrase.height l)
-  (Phrase.height e)
+    (Phrase.height e)
 each_high each.ForAll p w l e = omega arith
 each_high each.Exists p w l e = omega arith
 each_high each.MapEach p w l e = omega arith
 each_high each.ListOf p w l e = omega arith
 
 pub part_Each : (k : Each) (p : Pos) (w : Name) (l e : Node) → highest_part (node.Each k p w l e) ≡ max (height_of l)
-  (height_of e)
+    (height_of e)
 part_Each k p w l e = rw (phrase_Each k p w l e) (each_high k p w (phrase l) (phrase e))
 
 pub part_Combine : (p : Pos) (w : Name) (l : Node) (acc : Name) (s e : Node) → highest_part (node.Combine p w l acc s e)
-  ≡ max (height_of l) (max (height_of s) (height_of e))
+    ≡ max (height_of l) (max (height_of s) (height_of e))
 part_Combine p w l acc s e = rw (phrase_Combine p w l acc s e) (omega arith)
 
-pub ruleset parts = (part_Literal, part_Name, part_Case, part_Parens, part_Field, part_Prefixed, part_Sum, part_Content,
-  part_Call, part_Binary, part_Test, part_List, part_Structure, part_ScopeCall, part_If, part_Match, part_Each,
-  part_Combine)
+pub ruleset parts = (
+  part_Literal,
+  part_Name,
+  part_Case,
+  part_Parens,
+  part_Field,
+  part_Prefixed,
+  part_Sum,
+  part_Content,
+  part_Call,
+  part_Binary,
+  part_Test,
+  part_List,
+  part_Structure,
+  part_ScopeCall,
+  part_If,
+  part_Match,
+  part_Each,
+  part_Combine,
+)

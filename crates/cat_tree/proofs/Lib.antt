@@ -3,3 +3,4 @@ pub mod HeightEquations
 pub mod Along
 pub mod Samples
 pub mod ProgramSamples
+pub mod Exported

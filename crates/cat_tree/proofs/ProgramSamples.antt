@@ -40,9 +40,9 @@ nothing_is_a_program = spells_program _ _ refl (search rules) (search rules)
 -- declaration structure U : data a content list of money
 fields_have_types : (u a : Name) (p p1 p2 p3 p4 p5 p6 : Pos)
     → SpellsProgram
-      (program (item.Structure p u (record { name = a; ty = record { lists = 1; base = base.Money; pos = p6 } } ∷ [])))
+    (program (item.Structure p u (record { name = a; ty = record { lists = 1; base = base.Money; pos = p6 } } ∷ [])))
     («word» key.Declaration p ∷ «word» key.Structure p1 ∷ type u ∷ sign symbol.Colon p2 ∷ «word» key.Data p3 ∷ name a ∷
-      «word» key.Content p4
+    «word» key.Content p4
     ∷ words pair.ListOf p5 ∷ «word» key.Money p6 ∷ [])
 fields_have_types u a p p1 p2 p3 p4 p5 p6 = spells_program _ _ refl (search rules) (search rules)
 
@@ -51,99 +51,99 @@ cases_may_have_content : (u a b : Name) (p p1 p2 p3 p4 p5 p6 : Pos)
     → SpellsProgram (program (item.Enumeration p u (record { name = a; content = None }
     ∷ record { name = b; content = Some (record { lists = 0; base = base.Boolean; pos = p6 }) } ∷ [])))
     («word» key.Declaration p ∷ «word» key.Enumeration p1 ∷ type u ∷ sign symbol.Colon p2 ∷ sign symbol.MinusMinus p3 ∷
-      type a
+    type a
     ∷ sign symbol.MinusMinus p4 ∷ type b ∷ «word» key.Content p5 ∷ «word» key.Boolean p6 ∷ [])
 cases_may_have_content u a b p p1 p2 p3 p4 p5 p6 = spells_program _ _ refl (search rules) (search rules)
 
 -- declaration scope S : input output a content date
 a_kind_may_be_two_words : (s a : Name) (p p1 p2 p3 p4 p5 p6 : Pos)
     → SpellsProgram
-      (scope_of p s (variable.Own kinds.InputOutput p3 a (Some (record { lists = 0; base = base.Date; pos = p6 })) []))
+    (scope_of p s (variable.Own kinds.InputOutput p3 a (Some (record { lists = 0; base = base.Date; pos = p6 })) []))
     («word» key.Declaration p ∷ «word» key.Scope p1 ∷ type s ∷ sign symbol.Colon p2 ∷ «word» key.Input p3 ∷ «word»
-      key.Output p4 ∷ name a
+    key.Output p4 ∷ name a
     ∷ «word» key.Content p5 ∷ «word» key.Date p6 ∷ [])
 a_kind_may_be_two_words s a p p1 p2 p3 p4 p5 p6 = spells_program _ _ refl (search rules) (search rules)
 
 -- declaration scope S : internal a condition depends on b content integer , c content T
 parameters_have_types : (s a b c t : Name) (p p1 p2 p3 p4 p5 p6 p7 p8 p9 : Pos)
     → SpellsProgram
-      (scope_of p s
-      (variable.Own kinds.Internal p3 a None
-      (record { name = b; ty = record { lists = 0; base = base.Integer; pos = p7 } }
+    (scope_of p s
+    (variable.Own kinds.Internal p3 a None
+    (record { name = b; ty = record { lists = 0; base = base.Integer; pos = p7 } }
     ∷ record { name = c; ty = record { lists = 0; base = base.Named t.text; pos = t.pos } } ∷ [])))
     («word» key.Declaration p ∷ «word» key.Scope p1 ∷ type s ∷ sign symbol.Colon p2 ∷ «word» key.Internal p3 ∷ name a ∷
-      «word» key.Condition p4
+    «word» key.Condition p4
     ∷ words pair.DependsOn p5 ∷ name b ∷ «word» key.Content p6 ∷ «word» key.Integer p7 ∷ sign symbol.Comma p8 ∷ name c ∷
-      «word» key.Content p9 ∷ type t ∷ [])
+    «word» key.Content p9 ∷ type t ∷ [])
 parameters_have_types s a b c t p p1 p2 p3 p4 p5 p6 p7 p8 p9 = spells_program _ _ refl (search rules) (search rules)
 
 -- declaration scope S : a scope T
 a_variable_may_call_a_scope : (s a t : Name) (p p1 p2 p3 : Pos)
     → SpellsProgram (scope_of p s (variable.Called a t))
     («word» key.Declaration p ∷ «word» key.Scope p1 ∷ type s ∷ sign symbol.Colon p2 ∷ name a ∷ «word» key.Scope p3 ∷
-      type t ∷ [])
+    type t ∷ [])
 a_variable_may_call_a_scope s a t p p1 p2 p3 = spells_program _ _ refl (search rules) (search rules)
 
 -- scope S under condition a : assertion b
 a_block_may_have_a_condition : (s a b : Name) (p p1 p2 p3 : Pos)
     → SpellsProgram
-      (program (item.Block
-      (record { pos = p; name = s; condition = Some (local a); uses = uses.Assertion p3 (local b) ∷ [] })))
+    (program (item.Block
+    (record { pos = p; name = s; condition = Some (local a); uses = uses.Assertion p3 (local b) ∷ [] })))
     («word» key.Scope p ∷ type s ∷ words pair.UnderCondition p1 ∷ name a ∷ sign symbol.Colon p2 ∷ «word» key.Assertion
-      p3 ∷ name b ∷ [])
+    p3 ∷ name b ∷ [])
 a_block_may_have_a_condition s a b p p1 p2 p3 =
-  spells_program _ _ refl (search (rules, phrases)) (search (rules, phrases))
+    spells_program _ _ refl (search (rules, phrases)) (search (rules, phrases))
 
 -- scope S : label l exception m definition x . y of a , b under condition c consequence equals d
 a_definition_has_all_its_parts : (s l m x y a b c d : Name) (p p1 p2 p3 p4 p5 p6 p7 p8 p9 q : Pos)
     → SpellsProgram
-      (block_of p s
-      (uses.Definition (record { label = Some (record { pos = p2; name = l }); exception = exception.Labelled p3 m }) p4
+    (block_of p s
+    (uses.Definition (record { label = Some (record { pos = p2; name = l }); exception = exception.Labelled p3 m }) p4
     (record { name = x; inner = Some y; params = a ∷ b ∷ [] }) (Some (local c)) (local d)))
     («word» key.Scope p ∷ type s ∷ sign symbol.Colon p1 ∷ «word» key.Label p2 ∷ name l ∷ «word» key.Exception p3 ∷ name
-      m ∷ «word» key.Definition p4
+    m ∷ «word» key.Definition p4
     ∷ name x ∷ sign symbol.Dot p5 ∷ name y ∷ «word» key.Of p6 ∷ name a ∷ sign symbol.Comma p7 ∷ name b ∷ words
-      pair.UnderCondition p8 ∷ name c
+    pair.UnderCondition p8 ∷ name c
     ∷ «word» key.Consequence p9 ∷ «word» key.Equals q ∷ name d ∷ [])
 a_definition_has_all_its_parts s l m x y a b c d p p1 p2 p3 p4 p5 p6 p7 p8 p9 q =
-  spells_program _ _ refl (search (rules, phrases)) (search (rules, phrases))
+    spells_program _ _ refl (search (rules, phrases)) (search (rules, phrases))
 
 -- scope S : exception definition x equals a
 an_exception_may_be_bare : (s x a : Name) (p p1 p2 p3 p4 : Pos)
     → SpellsProgram (block_of p s (uses.Definition (record { label = None; exception = exception.Base p2 }) p3
     (record { name = x; inner = None; params = [] }) None (local a)))
     («word» key.Scope p ∷ type s ∷ sign symbol.Colon p1 ∷ «word» key.Exception p2 ∷ «word» key.Definition p3 ∷ name x ∷
-      «word» key.Equals p4 ∷ name a ∷ [])
+    «word» key.Equals p4 ∷ name a ∷ [])
 an_exception_may_be_bare s x a p p1 p2 p3 p4 =
-  spells_program _ _ refl (search (rules, phrases)) (search (rules, phrases))
+    spells_program _ _ refl (search (rules, phrases)) (search (rules, phrases))
 
 -- scope S : rule x not fulfilled
 a_rule_may_be_not_fulfilled : (s x : Name) (p p1 p2 p3 p4 : Pos)
     → SpellsProgram
-      (block_of p s (uses.Rule (record { label = None; exception = exception.No }) p2
-      (record { name = x; inner = None; params = [] }) None fulfilled.No))
+    (block_of p s (uses.Rule (record { label = None; exception = exception.No }) p2
+    (record { name = x; inner = None; params = [] }) None fulfilled.No))
     («word» key.Scope p ∷ type s ∷ sign symbol.Colon p1 ∷ «word» key.Rule p2 ∷ name x ∷ «word» key.Not p3 ∷ «word»
-      key.Fulfilled p4 ∷ [])
+    key.Fulfilled p4 ∷ [])
 a_rule_may_be_not_fulfilled s x p p1 p2 p3 p4 =
-  spells_program _ _ refl (search (rules, phrases)) (search (rules, phrases))
+    spells_program _ _ refl (search (rules, phrases)) (search (rules, phrases))
 
 -- scope S : date round increasing
 dates_are_rounded : (s : Name) (p p1 p2 p3 : Pos)
     → SpellsProgram (block_of p s (uses.DateRound p2 true)) («word» key.Scope p ∷ type s ∷ sign symbol.Colon p1 ∷ words
-      pair.DateRound p2 ∷ «word» key.Increasing p3 ∷ [])
+    pair.DateRound p2 ∷ «word» key.Increasing p3 ∷ [])
 dates_are_rounded s p p1 p2 p3 = spells_program _ _ refl (search rules) (search rules)
 
 -- scope S : assertion a + b
 the_highest_expression_counts : (s a b : Name) (p p1 q : Pos)
-  → highest_in (block_of p s (uses.Assertion p1 (node.Binary op.Plus q (local a) (local b)))) ≡ 2
+    → highest_in (block_of p s (uses.Assertion p1 (node.Binary op.Plus q (local a) (local b)))) ≡ 2
 the_highest_expression_counts s a b p p1 q = search (rules, phrases)
 
 -- ---- trees that no tokens spell
 
 a_structure_has_a_field : (u : Name) (p : Pos) (ts : List Token) → SpellsProgram (program (item.Structure p u [])) ts
-  → ⊥
+    → ⊥
 a_structure_has_a_field u p ts h = let l : false ≡ true = h.filled in absurd cc
 
 an_enumeration_has_a_case : (u : Name) (p : Pos) (ts : List Token) → SpellsProgram (program (item.Enumeration p u []))
-  ts → ⊥
+    ts → ⊥
 an_enumeration_has_a_case u p ts h = let l : false ≡ true = h.filled in absurd cc

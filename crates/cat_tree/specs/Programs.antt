@@ -24,16 +24,16 @@ condition_parts (Some e) = words pair.UnderCondition ▹ part 0 (phrase e) ▹ E
 -- a scope block: scope U [under condition E] : use*
 abbrev pub block_parts : Block → Parts
 block_parts b = key_at key.Scope b.pos ▹ upper b.name ▹ condition_parts b.condition ▸ sign symbol.Colon ▹ all use_parts
-  b.uses
+    b.uses
 
 -- a declaration, or a scope block
 abbrev pub item_parts : Item → Parts
 item_parts (item.Structure p u fields) = key_at key.Declaration p ▹ «word» key.Structure ▹ upper u ▹ sign symbol.Colon ▹
-  all field_parts fields
+    all field_parts fields
 item_parts (item.Enumeration p u cases) =
-  key_at key.Declaration p ▹ «word» key.Enumeration ▹ upper u ▹ sign symbol.Colon ▹ all case_parts cases
+    key_at key.Declaration p ▹ «word» key.Enumeration ▹ upper u ▹ sign symbol.Colon ▹ all case_parts cases
 item_parts (item.Scope p u variables) = key_at key.Declaration p ▹ «word» key.Scope ▹ upper u ▹ sign symbol.Colon ▹ all
-  variable_parts variables
+    variable_parts variables
 item_parts (item.Block b) = block_parts b
 
 -- there is one at least

@@ -40,10 +40,10 @@ elements k s (e ∷ more) rest = part k e ▹ sign s ▹ elements k s more rest
 -- how a form over a list is spelled
 abbrev pub each_parts : Each → Pos → Name → Phrase → Phrase → Parts
 each_parts each.ForAll p w l e = pair_at pair.ForAll p ▹ lower w ▹ «word» key.Among ▹ part 0 l ▹ words pair.WeHave ▹
-  part 0 e ▹ End
+    part 0 e ▹ End
 each_parts each.Exists p w l e = key_at key.Exists p ▹ lower w ▹ «word» key.Among ▹ part 0 l ▹ words pair.SuchThat ▹
-  part 0 e ▹ End
+    part 0 e ▹ End
 each_parts each.MapEach p w l e = pair_at pair.MapEach p ▹ lower w ▹ «word» key.Among ▹ part 0 l ▹ «word» key.To ▹ part
-  0 e ▹ End
+    0 e ▹ End
 each_parts each.ListOf p w l e = pair_at pair.ListOf p ▹ lower w ▹ «word» key.Among ▹ part 0 l ▹ words pair.SuchThat ▹
-  part 0 e ▹ End
+    part 0 e ▹ End

@@ -71,7 +71,7 @@ rounding_word false = key.Decreasing
 -- a line of a scope block
 abbrev pub use_parts : Use → Parts
 use_parts (uses.Definition l p t c e) = lead_parts l ▸ key_at key.Definition p ▹ target_parts t ▸ guard_parts c ▸ «word»
-  key.Equals ▹ part 0 (phrase e) ▹ End
+    key.Equals ▹ part 0 (phrase e) ▹ End
 use_parts (uses.Rule l p t c f) = lead_parts l ▸ key_at key.Rule p ▹ target_parts t ▸ guard_parts c ▸ fulfilled_parts f
 use_parts (uses.Assertion p e) = key_at key.Assertion p ▹ part 0 (phrase e) ▹ End
 use_parts (uses.DateRound p up) = pair_at pair.DateRound p ▹ «word» (rounding_word up) ▹ End

@@ -4,13 +4,13 @@ ghost use Rattle.cat_tree.specs.Spells.{height_of};
 ghost use Rattle.cat_tree.specs.Highest.{highest_part, highest_node, highest_value, highest_body};
 
 use crate::{Arms, FieldValues, Node, Nodes};
-use cat_pos::Boxed;
+use cat_pos::{Boxed, ENTRIES_BOUND};
 
 /// How high an expression is: 1 where it has no parts, else one more than its highest part. Parentheses count.
 #[cycle(height)]
 #[tactic(auto, using(crate::proofs::HeightEquations::height_of_is))]
 pub fn height(e: &Node) -> u32
-    requires { height_of e.now < 4294967296 }
+    requires { height_of e.now < ENTRIES_BOUND }
     ensures { result ≡ height_of e.now }
 {
     1 + highest_part(e)
@@ -19,7 +19,7 @@ pub fn height(e: &Node) -> u32
 #[cycle(height)]
 #[tactic(auto, using(crate::proofs::HeightEquations::parts))]
 fn highest_part(e: &Node) -> u32
-    requires { height_of e.now < 4294967296 }
+    requires { height_of e.now < ENTRIES_BOUND }
     ensures { result ≡ highest_part e.now }
 {
     match e {
@@ -52,7 +52,7 @@ fn highest_part(e: &Node) -> u32
 
 #[cycle(height)]
 fn height_in(e: &Boxed<Node>) -> u32
-    requires { height_of e.now < 4294967296 }
+    requires { height_of e.now < ENTRIES_BOUND }
     ensures { result ≡ height_of e.now }
 {
     height(e.get())
@@ -60,7 +60,7 @@ fn height_in(e: &Boxed<Node>) -> u32
 
 #[cycle(height)]
 fn highest_node(nodes: &Nodes) -> u32
-    requires { highest_node nodes.now < 4294967296 }
+    requires { highest_node nodes.now < ENTRIES_BOUND }
     ensures { result ≡ highest_node nodes.now }
 {
     let mut highest = 0;
@@ -72,7 +72,7 @@ fn highest_node(nodes: &Nodes) -> u32
 
 #[cycle(height)]
 fn highest_value(fields: &FieldValues) -> u32
-    requires { highest_value fields.now < 4294967296 }
+    requires { highest_value fields.now < ENTRIES_BOUND }
     ensures { result ≡ highest_value fields.now }
 {
     let mut highest = 0;
@@ -84,7 +84,7 @@ fn highest_value(fields: &FieldValues) -> u32
 
 #[cycle(height)]
 fn highest_body(arms: &Arms) -> u32
-    requires { highest_body arms.now < 4294967296 }
+    requires { highest_body arms.now < ENTRIES_BOUND }
     ensures { result ≡ highest_body arms.now }
 {
     let mut highest = 0;

@@ -8,3 +8,4 @@ pub mod DefaultsTyped
 pub mod HeightLaws
 pub mod SoundLaws
 pub mod Examples
+pub mod Exported

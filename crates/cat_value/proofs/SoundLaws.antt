@@ -1,7 +1,8 @@
 -- What the invariant of the declarations says, each fact for itself.
 use Rattle.std.proofs.Common.{◌≡◌, ◌↔◌, ℕ, length, Bool, IsTrue, Option, None, List, Some, slice_get, arith, refl, sym}
-use Rattle.std.proofs.Common.{true≢false, ◌<◌, ◌^◌}
+use Rattle.std.proofs.Common.{true≢false, ◌<◌}
 use Rattle.std.specs.List.{list_all}
+use Rattle.cat_pos.specs.declared.limits.TheConstants.{ENTRIES_BOUND}
 use Rattle.cat_value.specs.declared.ty.Ty.{Ty}
 use Rattle.cat_value.specs.declared.ty.Ty.TheOpen.{Ty-F}
 use Rattle.cat_value.specs.declared.ty.Ty.TheVariants as flat_ty
@@ -32,7 +33,7 @@ unfolding are_sound
 scopes_sound ss es scopes h = grind arith
 
 all_counted : (ss : List Structure) (es : List Enumeration) (scopes : List Scope) → IsTrue (are_sound ss es scopes)
-  → (length ss < 2 ^ 32) × (length es < 2 ^ 32) × (length scopes < 2 ^ 32)
+  → (length ss < ENTRIES_BOUND) × (length es < ENTRIES_BOUND) × (length scopes < ENTRIES_BOUND)
 unfolding are_sound
 all_counted ss es scopes h = (grind arith, grind arith, grind arith)
 
@@ -94,8 +95,8 @@ item_is ds item h =
       called_plain = λ scope e. let c = called_sound _ _ _ _ scope kind e in grind arith;
     }
 
-counted : (ds : Decls) → (length ds.structures < 2 ^ 32) × (length ds.enumerations < 2 ^ 32)
-  × (length ds.scopes < 2 ^ 32)
+counted : (ds : Decls) → (length ds.structures < ENTRIES_BOUND) × (length ds.enumerations < ENTRIES_BOUND)
+  × (length ds.scopes < ENTRIES_BOUND)
 counted ds = all_counted ds.structures ds.enumerations ds.scopes ds.sound
 
 types_ordered : (ss : List Structure) (es : List Enumeration) (scopes : List Scope) → IsTrue (are_sound ss es scopes)

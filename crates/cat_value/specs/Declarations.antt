@@ -1,7 +1,8 @@
 -- What holds of the declarations of a program.
-use Rattle.std.specs.Prelude.{ℕ, ◌^◌, zero, suc, Bool, true, false, not, ◌&&◌, nat_lt, nat_le, List, length, Option}
+use Rattle.std.specs.Prelude.{ℕ, zero, suc, Bool, true, false, not, ◌&&◌, nat_lt, nat_le, List, length, Option}
 use Rattle.std.specs.Prelude.{None, Some}
 use Rattle.std.specs.List.{list_all}
+use Rattle.cat_pos.specs.declared.limits.TheConstants.{ENTRIES_BOUND}
 use Rattle.cat_value.specs.declared.ty.Ty.{Ty}
 use Rattle.cat_value.specs.declared.ty.Ty.TheOpen.{Ty-F}
 use Rattle.cat_value.specs.declared.ty.Ty.TheFolds.{fold-Ty}
@@ -24,7 +25,7 @@ highest = 64
 
 -- whether a u32 numbers the entries of a list
 abbrev pub is_counted : {A : Type 0} → List A → Bool
-is_counted xs = nat_lt (length xs) (2 ^ 32)
+is_counted xs = nat_lt (length xs) ENTRIES_BOUND
 
 -- whether a list has an entry, and a u32 numbers its entries
 abbrev pub has_parts : {A : Type 0} → List A → Bool

@@ -1,6 +1,7 @@
 -- The words of the laws: how high values are, and what the invariant of the declarations says.
-use Rattle.std.specs.Prelude.{◌≡◌, ℕ, ◌+◌, ◌^◌, ◌<◌, ◌≤◌, max, false, IsTrue, List, [], ◌∷◌, length, Option, None, Some}
+use Rattle.std.specs.Prelude.{◌≡◌, ℕ, ◌+◌, ◌<◌, ◌≤◌, max, false, IsTrue, List, [], ◌∷◌, length, Option, None, Some}
 use Rattle.std.specs.Prelude.{slice_get}
+use Rattle.cat_pos.specs.declared.limits.TheConstants.{ENTRIES_BOUND}
 use Rattle.cat_value.specs.declared.ty.Ty.{Ty}
 use Rattle.cat_value.specs.declared.ty.Ty.TheOpen.{Ty-F}
 use Rattle.cat_value.specs.declared.ty.Ty.TheVariants.{Structure as structure, Enumeration as enumeration}
@@ -55,14 +56,14 @@ value_height = fold-Value ℕ height_at
 -- what each declared structure keeps to
 pub record IsStructure (ds : Decls) (n : ℕ) (s : Structure) : Type 0 where
   pub has_field : 0 < length s.fields
-  pub counted : length s.fields < 2 ^ 32
+  pub counted : length s.fields < ENTRIES_BOUND
   pub declared : (k : ℕ) (f : Field) → slice_get s.fields k ≡ Some f → IsTrue (is_type ds f.ty)
   pub low : height_of ds (structure n) ≤ highest
 
 -- what each declared enumeration keeps to
 pub record IsEnumeration (ds : Decls) (n : ℕ) (e : Enumeration) : Type 0 where
   pub has_case : 0 < length e.cases
-  pub counted : length e.cases < 2 ^ 32
+  pub counted : length e.cases < ENTRIES_BOUND
   pub declared : (k : ℕ) (c : Case) (t : Ty) → slice_get e.cases k ≡ Some c → c.content ≡ Some t → IsTrue (is_type ds t)
   pub low : height_of ds (enumeration n) ≤ highest
 
@@ -82,9 +83,9 @@ pub record AreSound (ds : Decls) : Type 0 where
   pub enumerations : (n : ℕ) (e : Enumeration) → slice_get ds.enumerations n ≡ Some e → IsEnumeration ds n e
   pub ordered : (listed : List ℕ) × IsOrder (type_dependencies ds.structures ds.enumerations) listed
   pub acyclic : (n : ℕ) → ¬ IsOnCycle (type_dependencies ds.structures ds.enumerations) n
-  pub structures_counted : length ds.structures < 2 ^ 32
-  pub enumerations_counted : length ds.enumerations < 2 ^ 32
-  pub scopes_counted : length ds.scopes < 2 ^ 32
-  pub items_counted : (n : ℕ) (scope : Scope) → slice_get ds.scopes n ≡ Some scope → length scope.items < 2 ^ 32
+  pub structures_counted : length ds.structures < ENTRIES_BOUND
+  pub enumerations_counted : length ds.enumerations < ENTRIES_BOUND
+  pub scopes_counted : length ds.scopes < ENTRIES_BOUND
+  pub items_counted : (n : ℕ) (scope : Scope) → slice_get ds.scopes n ≡ Some scope → length scope.items < ENTRIES_BOUND
   pub items : (n k : ℕ) (scope : Scope) (item : ItemDecl) → slice_get ds.scopes n ≡ Some scope → slice_get scope.items k
     ≡ Some item → IsItem ds item

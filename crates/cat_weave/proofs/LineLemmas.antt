@@ -15,7 +15,8 @@ use Rattle.std.specs.Prelude.{codes}
 use Rattle.std.specs.Str.{IsUtf8, IsCharBoundary}
 use Rattle.std.specs.Str.Pattern.{FindsTextPrefix, StripsPrefix}
 use Rattle.cat_pos.specs.Position.{is_line_feed}
-use Rattle.cat_weave.specs.Lines.{lines_of, in_front, is_blank}
+use Rattle.cat_pos.specs.Bytes.{is_blank}
+use Rattle.cat_weave.specs.Lines.{lines_of, in_front}
 use Rattle.cat_weave.specs.Kinds.{is_hash, is_include}
 use Rattle.cat_weave.specs.Reading.{line_length}
 

@@ -2,7 +2,8 @@
 use Rattle.std.specs.Prelude.{ℕ, ◌+◌, ◌==◌, nat_le, nat_eq, ◌&&◌, ◌||◌, Bool, true, false, List, [], ◌∷◌, drop}
 use Rattle.std.specs.Prelude.{bytes_eq, codes, slice_index, if◌then◌else◌}
 use Rattle.std.specs.List.{starts_with, prefix_len}
-use Rattle.cat_weave.specs.Lines.{bare, is_blank, without_first_blanks}
+use Rattle.cat_pos.specs.Bytes.{is_blank}
+use Rattle.cat_weave.specs.Lines.{bare, without_first_blanks}
 
 -- what a line of a source is, with the text that is read in it
 pub data Kind : Type 0 where

@@ -1,6 +1,7 @@
 -- The lines of a text, and what is read of a line.
 use Rattle.std.specs.Prelude.{ℕ, ◌==◌, ◌-◌, ◌||◌, Bool, List, [], ◌∷◌, length, take, drop, slice_index, if◌then◌else◌}
 use Rattle.std.specs.List.{prefix_len, suffix_len}
+use Rattle.cat_pos.specs.Bytes.{is_blank}
 use Rattle.cat_pos.specs.Position.{is_line_feed}
 
 -- a byte in front of the first line
@@ -12,10 +13,6 @@ in_front byte (line ∷ lines) = (byte ∷ line) ∷ lines
 unfoldable pub lines_of : List ℕ → List (List ℕ)
 lines_of [] = []
 lines_of (byte ∷ bytes) = if is_line_feed byte then (byte ∷ []) ∷ lines_of bytes else in_front byte (lines_of bytes)
-
--- a blank is a space or a tab
-abbrev pub is_blank : ℕ → Bool
-is_blank byte = byte == 32 || byte == 9
 
 -- whether a text ends with a byte other than 0, and the text without it
 abbrev pub last_is : ℕ → List ℕ → Bool

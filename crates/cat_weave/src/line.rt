@@ -1,8 +1,11 @@
 // What is read of a line.
 ghost use Rattle.std.specs.Prelude.{◌≡◌, ◌∷◌, ◌++◌, ◌-◌, ◌<◌, ◌≤◌, length, slice_index, nat_le, ◌&&◌, true, false, MatchOption};
-ghost use Rattle.cat_weave.specs.Lines.{lines_of, bare, without_end, without_last, without_last_blanks, without_first_blanks, last_is, is_blank};
+ghost use Rattle.cat_weave.specs.Lines.{lines_of, bare, without_end, without_last, without_last_blanks, without_first_blanks, last_is};
+ghost use Rattle.cat_pos.specs.Bytes.{is_blank};
 ghost use Rattle.cat_weave.specs.Kinds.{law_kind, level_of, is_hash, is_heading, is_include, heading_of, include_of};
 ghost use Rattle.cat_weave.specs.Reading.{kind_read, line_length};
+
+use cat_pos::is_blank;
 
 const LINE_FEED: u8 = 10;
 
@@ -76,12 +79,6 @@ fn without_last(text: &str, byte: u8) -> &str
     } else {
         text
     }
-}
-
-fn is_blank(byte: u8) -> bool
-    ensures { result ≡ is_blank byte }
-{
-    byte == b' ' || byte == b'\t'
 }
 
 #[tactic(auto, using(crate::proofs::LineLemmas::last_blanks), unfolding(crate::specs::Lines::without_last_blanks))]

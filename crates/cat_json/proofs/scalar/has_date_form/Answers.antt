@@ -1,5 +1,5 @@
 use Rattle.std.proofs.Common.{◌∙◌, sym, arith}
-use Rattle.cat_date.proofs.TextLemmas.{bytes_eq-length, form_same, form_other}
+use Rattle.cat_date.proofs.Exported.{bytes_eq-length, form_same, form_other}
 use Rattle.cat_json.proofs.scalar.has_date_form.Goals as goal
 
 pub returns-then-text-ne10 : goal.returns-then-text-ne10

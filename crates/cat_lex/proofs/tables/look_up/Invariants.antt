@@ -5,4 +5,4 @@ use Rattle.cat_lex.proofs.tables.look_up.Given as goal
 
 abbrev pub invariant-loop-text : goal.invariant-loop-text
 invariant-loop-text g l = look_up (spelled (drop l.text-index l.table)) l.spelling ≡ look_up (spelled l.table)
-  l.spelling
+    l.spelling

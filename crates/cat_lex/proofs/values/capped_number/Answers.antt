@@ -17,21 +17,21 @@ loop-byte-preserved c =
     elim c.if-is_ascii_digit.branch [
       | then-is_ascii_digit w ↦
           let digit : is_ascii_digit (get_or word i 0) ≡ true =
-            sym c.is_ascii_digit.ensures.value ∙ w.if-is_ascii_digit.true in
+          sym c.is_ascii_digit.ensures.value ∙ w.if-is_ascii_digit.true in
           let step = digit_more word cap n i c.loop-byte-test.true digit in
           record {
             number = ap (λ (m : ℕ). min (digits_value_after 10 m (filter is_ascii_digit (drop (i + 1) word))) cap)
-              (w.number-is ∙ w.min-number.ensures) ∙ (step ∙ c.loop-byte.invariant.number);
+                (w.number-is ∙ w.min-number.ensures) ∙ (step ∙ c.loop-byte.invariant.number);
             low = omega arith;
           }
       | else-is_ascii_digit w ↦
           let other : is_ascii_digit (get_or word i 0) ≡ false =
-            sym c.is_ascii_digit.ensures.value ∙ w.if-is_ascii_digit.false in
+          sym c.is_ascii_digit.ensures.value ∙ w.if-is_ascii_digit.false in
           record {
             number = ap (λ (m : ℕ). min (digits_value_after 10 m (filter is_ascii_digit (drop (i + 1) word))) cap)
-              w.number-is
+                w.number-is
                 ∙ (ap (λ (ds : List ℕ). min (digits_value_after 10 n ds) cap)
-                  (other_more word i c.loop-byte-test.true other) ∙ c.loop-byte.invariant.number);
+                (other_more word i c.loop-byte-test.true other) ∙ c.loop-byte.invariant.number);
             low = omega arith;
           }
     ]

@@ -8,6 +8,6 @@ use Rattle.cat_lex.proofs.values.capped_number.Given as goal
 abbrev pub invariant-loop-byte : goal.invariant-loop-byte
 invariant-loop-byte l = record {
   number : min (digits_value_after 10 l.number (filter is_ascii_digit (drop l.byte-index l.word)))
-    0x1_0000_0000_0000_0000 ≡ min (number_of l.word) 0x1_0000_0000_0000_0000;
+      0x1_0000_0000_0000_0000 ≡ min (number_of l.word) 0x1_0000_0000_0000_0000;
   low : l.number ≤ 0x1_0000_0000_0000_0000;
 }

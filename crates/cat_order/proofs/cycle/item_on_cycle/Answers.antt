@@ -19,10 +19,10 @@ none_passed passed count item all = rw all (⊎_elim
 
 -- an item more is passed, and stands in the trail
 one_more_passed : (passed : List Bool) (trail : List ℕ) (at item : ℕ) → at < length passed → get_or passed item false
-  ≡ is_listed trail item → get_or (set passed at true) item false ≡ is_listed (at ∷ trail) item
+    ≡ is_listed trail item → get_or (set passed at true) item false ≡ is_listed (at ∷ trail) item
 one_more_passed passed trail at item within same = ⊎_elim
     (λ here. subst (λ (n : ℕ). get_or (set passed at true) n false ≡ is_listed (at ∷ trail) n) here
-      (get_or-set_same passed at true false within ∙ grind (arith, nat_tests)))
+    (get_or-set_same passed at true false within ∙ grind (arith, nat_tests)))
     (λ other. get_or-set_other passed at item true false (λ e. other (sym e)) ∙ (same ∙ grind (arith, nat_tests)))
     (cases_eq at item)
 
@@ -36,10 +36,13 @@ loop-passed-init c = record {
 pub loop-passed-preserved : goal.loop-passed-preserved
 loop-passed-preserved c =
     let within : c.loop-passed.item < length c.args.deps.now =
-      omega (arith, within_of_positive c.args.unmet.now c.loop-passed.item c.loop-passed.invariant.unmet,
-      c.requires.one_each) in
+    omega (
+      arith,
+      within_of_positive c.args.unmet.now c.loop-passed.item c.loop-passed.invariant.unmet,
+      c.requires.one_each,
+    ) in
     let dependencies : c.as_slice.result.now ≡ dependencies_of c.args.deps.now c.loop-passed.item = c.as_slice.ensures
-      ∙ (c.index-deps-item.is ∙ get_or_default c.args.deps.now c.loop-passed.item c.index-deps-item.result [] within) in
+    ∙ (c.index-deps-item.is ∙ get_or_default c.args.deps.now c.loop-passed.item c.index-deps-item.result [] within) in
     record {
       one_each = search rules;
       unmet = search rules;
@@ -48,7 +51,7 @@ loop-passed-preserved c =
         (
           ((rw dependencies at c.first_waiting-item.ensures.among), c.loop-passed.invariant.trail.1.0),
           λ item. one_more_passed c.loop-passed.passed.items c.loop-passed.invariant.trail.0 c.loop-passed.item item
-            (omega (arith, c.loop-passed.invariant.one_each)) (c.loop-passed.invariant.trail.1.1 item),
+              (omega (arith, c.loop-passed.invariant.one_each)) (c.loop-passed.invariant.trail.1.1 item),
         ),
       );
     }
@@ -56,10 +59,14 @@ loop-passed-preserved c =
 pub returns : goal.returns
 returns c =
     let within : c.loop-passed.item < length c.loop-passed.passed.items =
-      omega (arith, within_of_positive c.args.unmet.now c.loop-passed.item c.loop-passed.invariant.unmet,
-      c.requires.one_each, c.loop-passed.invariant.one_each) in
+    omega (
+      arith,
+      within_of_positive c.args.unmet.now c.loop-passed.item c.loop-passed.invariant.unmet,
+      c.requires.one_each,
+      c.loop-passed.invariant.one_each,
+    ) in
     let again : get_or c.loop-passed.passed.items c.loop-passed.item false ≡ true =
-      sym (get_or_default c.loop-passed.passed.items c.loop-passed.item c.index.result.now false within)
-      ∙ (sym c.index.ensures ∙ c.loop-passed-test.false) in
+    sym (get_or_default c.loop-passed.passed.items c.loop-passed.item c.index.result.now false within)
+    ∙ (sym c.index.ensures ∙ c.loop-passed-test.false) in
     IsOnCycle-of_trail c.args.deps.now c.loop-passed.invariant.trail.0 c.loop-passed.item
-      c.loop-passed.invariant.trail.1.0 (sym (c.loop-passed.invariant.trail.1.1 c.loop-passed.item) ∙ again)
+    c.loop-passed.invariant.trail.1.0 (sym (c.loop-passed.invariant.trail.1.1 c.loop-passed.item) ∙ again)

@@ -10,7 +10,7 @@ invariant-loop-passed l = record {
   one_each : length l.passed.items ≡ length l.deps;
   unmet : 0 < get_or l.unmet l.item 0;
   trail : (trail : List ℕ)
-    × (IsTrail l.deps trail l.item × ((item : ℕ) → get_or l.passed.items item false ≡ is_listed trail item));
+      × (IsTrail l.deps trail l.item × ((item : ℕ) → get_or l.passed.items item false ≡ is_listed trail item));
 }
 
 abbrev pub decreases-loop-passed : goal.decreases-loop-passed

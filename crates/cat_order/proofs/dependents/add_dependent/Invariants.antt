@@ -6,5 +6,5 @@ use Rattle.cat_order.proofs.dependents.add_dependent.Given as goal
 -- the item was added for each dependency walked so far
 abbrev pub invariant-loop-dependency : goal.invariant-loop-dependency
 invariant-loop-dependency l = (on : ℕ) (other : ℕ) → times (dependents_of l.dependents on) other ≡ times
-  (dependents_of l.fn.dependents on) other + (if l.item == other then times (take l.dependency-index l.dependencies) on
-  else 0)
+    (dependents_of l.fn.dependents on) other + (if l.item == other then times (take l.dependency-index l.dependencies) on
+    else 0)

@@ -8,5 +8,5 @@ abbrev pub invariant-loop-item : goal.invariant-loop-item
 invariant-loop-item l = record {
   one_each : length l.dependents.items ≡ length l.deps;
   turned : (on : ℕ) (other : ℕ) → times (dependents_of l.dependents.items on) other ≡ times
-    (dependencies_of (take l.item l.deps) other) on;
+      (dependencies_of (take l.item l.deps) other) on;
 }

@@ -9,5 +9,5 @@ abbrev pub invariant-loop-item : goal.invariant-loop-item
 invariant-loop-item l = record {
   counts : (item : ℕ) → get_or l.unmet item 0 + times (take l.item-index l.items) item ≡ get_or l.fn.unmet item 0;
   ready : (item : ℕ) → contains nat_cmp l.ready item ≡ (contains nat_cmp l.fn.ready item
-    || (is_listed (take l.item-index l.items) item && (get_or l.unmet item 0 == 0)));
+      || (is_listed (take l.item-index l.items) item && (get_or l.unmet item 0 == 0)));
 }

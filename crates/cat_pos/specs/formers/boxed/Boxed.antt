@@ -50,23 +50,25 @@ module _ (From To : RattleType) (to : From.Denot → To.Denot) where
   in_box alike = record {
     mir_same = λ i. (box_of (one_value From (alike.mir_same i) (λ _. ftrue) (λ _ _. nothing) gnil)).mir;
     own_same = λ box i.
-      (box_of (one_value From (alike.mir_same i) (alike.own_same box.value i) (alike.shr_same box.value i)
-      gnil)).own_val (holding box tt);
+        (box_of (one_value From (alike.mir_same i) (alike.own_same box.value i) (alike.shr_same box.value i)
+        gnil)).own_val (holding box tt);
     shr_same = λ box i.
-      (box_of (one_value From (alike.mir_same i) (alike.own_same box.value i) (alike.shr_same box.value i) gnil)).shr_at
-      (holding box tt);
+        (box_of (one_value From (alike.mir_same i) (alike.own_same box.value i) (alike.shr_same box.value i) gnil)).shr_at
+        (holding box tt);
   }
 
   pub the_places : Alike From To to → Alike (wrapped.the_row From) (wrapped.the_row To)
-    ((the_former this).map From.Denot To.Denot to)
+      ((the_former this).map From.Denot To.Denot to)
   the_places alike =
-      let in_struct = struct_places (insides.the_type From) (insides.the_type To) ((λ box. holding box (to box.value)),
-        tt) _ (λ d. refl) refl (laid _ _ _ (in_box alike), tt) in
+      let in_struct = struct_places (insides.the_type From) (insides.the_type To) (
+        (λ box. holding box (to box.value)),
+        tt,
+      ) _ (λ d. refl) refl (laid _ _ _ (in_box alike), tt) in
       view_places fields this view (λ X Y k u. refl) (λ X u. refl) From.Denot To.Denot to (wrapped.the_row From).coded
-        (wrapped.the_row To).coded
+      (wrapped.the_row To).coded
       (invariant From.Denot) (invariant To.Denot) (λ u p q. refl) (λ u p q. refl) (λ u e. tt) (λ u e. tt)
       (over (insides.the_row From)) (over (insides.the_row To)) in_struct
 
   pub the_codes_placed : Recodes From To to → Recodes (wrapped.the_row From) (wrapped.the_row To)
-    ((the_former this).map From.Denot To.Denot to)
+      ((the_former this).map From.Denot To.Denot to)
   the_codes_placed recodes content = recodes content

@@ -37,27 +37,27 @@ the_items T elements = elements
 
 -- the elements are those that the list holds
 pub the_items_listed : (T : Type 0) (elements : List T) → listed _ (children (the_former this) T elements) ≡ the_items T
-  elements
+    elements
 the_items_listed T elements = list-listed T elements
 
 -- the fields of the struct, which holds a `Vec`
 abbrev fields : Former {0}
 fields = via (vectors.the_former this Global) Inside (λ T s. s.items) (λ T v. record { items = v }) (λ T s. refl)
-  (λ T v. refl)
+    (λ T v. refl)
 
 -- elements that lie alike give lists that lie alike
 module _ (From To : RattleType) (to : From.Denot → To.Denot) where
   pub the_places : Alike From To to → Alike (lists.the_row From) (lists.the_row To)
-    ((the_former this).map From.Denot To.Denot to)
+      ((the_former this).map From.Denot To.Denot to)
   the_places alike =
       let in_vec = vectors.the_places memory.the_row ghosts From To to alike in
       let in_struct = struct_places (insides.the_type From) (insides.the_type To) (vectors.mapped to, tt) _ (λ d. refl)
-        refl (laid _ _ _ in_vec, tt) in
+      refl (laid _ _ _ in_vec, tt) in
       view_places fields (list this) view (λ X Y k u. refl) (λ X u. refl) From.Denot To.Denot to
-        (lists.the_row From).coded (lists.the_row To).coded
+      (lists.the_row From).coded (lists.the_row To).coded
       (invariant From.Denot) (invariant To.Denot) (λ u p q. refl) (λ u p q. refl) (λ u e. tt) (λ u e. tt)
       (over (insides.the_row From)) (over (insides.the_row To)) in_struct
 
   pub the_codes_placed : Recodes From To to → Recodes (lists.the_row From) (lists.the_row To)
-    ((the_former this).map From.Denot To.Denot to)
+      ((the_former this).map From.Denot To.Denot to)
   the_codes_placed recodes elements = sym (code_map From.coded.code To.coded.code to (λ x. sym (recodes x)) elements)

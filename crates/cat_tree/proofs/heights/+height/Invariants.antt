@@ -26,7 +26,7 @@ invariant-highest_node-loop-node l = max l.highest (highest_node (drop l.node-in
 
 abbrev pub invariant-highest_value-loop-field : goal.invariant-highest_value-loop-field
 invariant-highest_value-loop-field l = max l.highest (highest_value (drop l.field-index l.fields)) ≡ highest_value
-  l.fields
+    l.fields
 
 abbrev pub invariant-highest_body-loop-arm : goal.invariant-highest_body-loop-arm
 invariant-highest_body-loop-arm l = max l.highest (highest_body (drop l.arm-index l.arms)) ≡ highest_body l.arms

@@ -1,6 +1,6 @@
 use Rattle.std.proofs.Common.{◌≡◌, ◌+◌, ◌-◌, ◌<◌, ◌≤◌, true, drop, length, get_or}
 use Rattle.std.specs.List.{prefix_len}
-use Rattle.cat_weave.specs.Lines.{is_blank}
+use Rattle.cat_pos.specs.Bytes.{is_blank}
 use Rattle.cat_weave.proofs.line.without_first_blanks.Given as goal
 
 abbrev pub invariant-loop-start : goal.invariant-loop-start
