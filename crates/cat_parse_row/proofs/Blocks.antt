@@ -19,7 +19,8 @@ use Rattle.cat_tree.specs.declared.program.Use.{Use}
 use Rattle.cat_tree.specs.declared.program.Use.TheVariants as uses
 use Rattle.cat_tree.specs.Phrase.{Parts, End, Word, At, Anywhere, AreSpelled}
 use Rattle.cat_tree.specs.Joined.{◌▸◌, all}
-use Rattle.cat_tree.specs.Uses.{target_parts, guard_parts, fulfilled_parts, label_parts, exception_parts, lead_parts}
+use Rattle.cat_tree.specs.Uses.{target_parts, use_condition_parts, fulfilled_parts, label_parts, exception_parts}
+use Rattle.cat_tree.specs.Uses.{lead_parts}
 use Rattle.cat_tree.specs.Uses.{rounding_word, use_parts}
 use Rattle.cat_tree.specs.Programs.{condition_parts, block_parts}
 use Rattle.cat_parse_row.specs.declared.cue.Cue.TheVariants as cue
@@ -88,10 +89,11 @@ tail_behind : (x : Tail) (w v : List Token) → AreSpelled (tail_row x) w → Ou
 tail_behind (Defined x) w v s =
     outside_heads behind_lead (w ++ v)
     (head_at behind_lead (kind.Word key.Definition) x.0
-    (target_parts x.1 ▸ guard_parts x.2 ▸ Word (Anywhere (kind.Word key.Equals)) (expression_row x.3)) w v s)
+    (target_parts x.1 ▸ use_condition_parts x.2 ▸ Word (Anywhere (kind.Word key.Equals)) (expression_row x.3)) w v s)
 tail_behind (Ruled x) w v s =
     outside_heads behind_lead (w ++ v)
-    (head_at behind_lead (kind.Word key.Rule) x.0 (target_parts x.1 ▸ guard_parts x.2 ▸ fulfilled_parts x.3) w v s)
+    (head_at behind_lead (kind.Word key.Rule) x.0 (target_parts x.1 ▸ use_condition_parts x.2 ▸ fulfilled_parts x.3) w v
+    s)
 
 -- the first word of a use with a lead
 lead_head : (test : TokenKind → Bool) (b : Bool) → test (kind.Word key.Label) ≡ b → test (kind.Word key.Exception) ≡ b
@@ -102,7 +104,7 @@ lead_head test b el ee ed er l x w v s = by l.label l.exception x s
     by : (o : Option Label) (e : Exception) (x : Tail) → AreSpelled ((label_parts o ▸ exception_parts e) ▸ tail_row x) w
         → heads test (w ++ v) ≡ b
     by (Some l) e x s = ap (λ (u : List Token). heads test (u ++ v)) s.2 ∙ ap (λ (t : Token). test t.kind) s.3 ∙ el
-    by None (exception.Base p) x s =
+    by None (exception.OnlyRoot p) x s =
         ap (λ (u : List Token). heads test (u ++ v)) s.2 ∙ ap (λ (t : Token). test t.kind) s.3 ∙ ee
     by None (exception.Labelled p n) x s =
         ap (λ (u : List Token). heads test (u ++ v)) s.2 ∙ ap (λ (t : Token). test t.kind) s.3 ∙ ee
@@ -276,11 +278,12 @@ module _ (ex : Reader Node) (right : ReadsExpressions ex) where
         from_no = λ y f. tt;
         on =
             λ y w v f s o. head_at (is_word key.Rule) (kind.Word key.Rule) f.0.0
-            (target_parts f.0.1 ▸ guard_parts f.0.2 ▸ fulfilled_parts f.0.3) w v
+            (target_parts f.0.1 ▸ use_condition_parts f.0.2 ▸ fulfilled_parts f.0.3) w v
             (subst (λ (z : Tail). AreSpelled (tail_row z) w) f.2 s);
         off =
             λ y w v f s o. head_at (is_word key.Rule) (kind.Word key.Definition) f.0.0
-            (target_parts f.0.1 ▸ guard_parts f.0.2 ▸ Word (Anywhere (kind.Word key.Equals)) (expression_row f.0.3)) w v
+            (target_parts f.0.1 ▸ use_condition_parts f.0.2 ▸ Word (Anywhere (kind.Word key.Equals))
+            (expression_row f.0.3)) w v
             (subst (λ (z : Tail). AreSpelled (tail_row z) w) f.2 s);
       })
       (made_right bound behind_use Any ruled_row tail_row (λ x. Ruled x) (ruled ex) (λ x. refl)

@@ -15,7 +15,7 @@ use Rattle.cat_tree.specs.declared.program.Fulfilled.TheVariants as fulfilled
 use Rattle.cat_tree.specs.Phrase.{Parts, End, Word, Part, Operand, At, Anywhere, AreSpelled}
 use Rattle.cat_tree.specs.Grammar.{phrase}
 use Rattle.cat_tree.specs.Joined.{◌▸◌}
-use Rattle.cat_tree.specs.Uses.{target_parts, guard_parts, fulfilled_parts}
+use Rattle.cat_tree.specs.Uses.{target_parts, use_condition_parts, fulfilled_parts}
 use Rattle.cat_parse_row.specs.declared.cue.Cue.TheVariants as cue
 use Rattle.cat_parse_row.specs.Reader.{Reader, ◌⨟◌, done, heads, optional}
 use Rattle.cat_parse_row.specs.Right.{Outside, IsRight}
@@ -104,15 +104,15 @@ abbrev pub Meant : Type 0 → Type 0
 Meant X = Pos × TargetName × Option Node × X
 
 abbrev pub ruled_row : Meant Fulfilled → Parts
-ruled_row x = Word (At (kind.Word key.Rule) x.0) (target_parts x.1 ▸ guard_parts x.2 ▸ fulfilled_parts x.3)
+ruled_row x = Word (At (kind.Word key.Rule) x.0) (target_parts x.1 ▸ use_condition_parts x.2 ▸ fulfilled_parts x.3)
 
 abbrev pub defined_row : Meant Node → Parts
 defined_row x =
     Word (At (kind.Word key.Definition) x.0)
-    (target_parts x.1 ▸ guard_parts x.2 ▸ Word (Anywhere (kind.Word key.Equals)) (expression_row x.3))
+    (target_parts x.1 ▸ use_condition_parts x.2 ▸ Word (Anywhere (kind.Word key.Equals)) (expression_row x.3))
 
 module _ (ex : Reader Node) (right : ReadsExpressions ex) where
-  guard_right : (bound : ℕ) → IsRight bound behind_guard Any (λ e. guard_parts (Some e)) (guard ex)
+  guard_right : (bound : ℕ) → IsRight bound behind_guard Any (λ e. use_condition_parts (Some e)) (guard ex)
   guard_right bound =
       word_right bound behind_guard (cue.Pair pair.UnderCondition) Any
       (λ e. Part (Operand 0) (phrase e) (Word (Anywhere (kind.Word key.Consequence)) End))
@@ -131,22 +131,24 @@ module _ (ex : Reader Node) (right : ReadsExpressions ex) where
       (λ q. done e) λ q.
       done_right bound behind_guard (λ y. Any y × (y ≡ e)) e (tt, refl) (λ y f. f.1)
 
-  guards : (bound : ℕ) → IsRight bound behind_guard (OptionFits Any) guard_parts (optional is_under (guard ex))
-  guards bound = optional_right bound behind_guard is_under Any (λ e. guard_parts (Some e)) guard_parts (guard ex)
+  guards : (bound : ℕ) → IsRight bound behind_guard (OptionFits Any) use_condition_parts (optional is_under (guard ex))
+  guards bound = optional_right bound behind_guard is_under Any (λ e. use_condition_parts (Some e)) use_condition_parts
+      (guard ex)
       (opens_word is_under (kind.Pair pair.UnderCondition) Any
       (λ e. Part (Operand 0) (phrase e) (Word (Anywhere (kind.Word key.Consequence)) End)) refl)
       guard_off refl (λ e. refl) (guard_right bound)
 
   -- a condition, or a word that may stand behind it
   guard_behind : (c : Option Node) (k : TokenKind) (rest : Parts) (w v : List Token)
-      → AreSpelled (guard_parts c ▸ Word (Anywhere k) rest) w → behind_target k ≡ true → Outside behind_target (w ++ v)
+      → AreSpelled (use_condition_parts c ▸ Word (Anywhere k) rest) w → behind_target k ≡ true
+      → Outside behind_target (w ++ v)
   guard_behind None k rest w v s e =
       subst (λ (u : List Token). Outside behind_target (u ++ v)) (sym s.2) (ap behind_target s.3 ∙ e)
   guard_behind (Some c) k rest w v s e =
       subst (λ (u : List Token). Outside behind_target (u ++ v)) (sym s.2) (ap behind_target s.3)
 
   fulfilled_behind : (c : Option Node) (f : Fulfilled) (w v : List Token)
-      → AreSpelled (guard_parts c ▸ fulfilled_parts f) w → Outside behind_target (w ++ v)
+      → AreSpelled (use_condition_parts c ▸ fulfilled_parts f) w → Outside behind_target (w ++ v)
   fulfilled_behind c fulfilled.Yes w v s = guard_behind c (kind.Word key.Fulfilled) End w v s refl
   fulfilled_behind c fulfilled.No w v s =
       guard_behind c (kind.Word key.Not) (Word (Anywhere (kind.Word key.Fulfilled)) End) w v s refl
@@ -161,10 +163,10 @@ module _ (ex : Reader Node) (right : ReadsExpressions ex) where
   pub ruled_right : (bound : ℕ) → IsRight bound behind_use Any ruled_row (ruled ex)
   ruled_right bound =
       word_at_right bound behind_use (cue.Word key.Rule) Any (λ x. x.0)
-      (λ x. target_parts x.1 ▸ guard_parts x.2 ▸ fulfilled_parts x.3)
+      (λ x. target_parts x.1 ▸ use_condition_parts x.2 ▸ fulfilled_parts x.3)
       (λ p. target ⨟ λ t. optional is_under (guard ex) ⨟ λ c. whether_fulfilled ⨟ λ f. done (p, t, c, f)) λ p.
       part_right bound bound behind_use behind_target (λ x. Any x × (x.0 ≡ p)) Any (λ x. x.1) target_parts
-      (λ x. guard_parts x.2 ▸ fulfilled_parts x.3) target
+      (λ x. use_condition_parts x.2 ▸ fulfilled_parts x.3) target
       (λ t. optional is_under (guard ex) ⨟ λ c. whether_fulfilled ⨟ λ f. done (p, t, c, f))
       (record {
         fit = λ x f. tt;
@@ -173,13 +175,14 @@ module _ (ex : Reader Node) (right : ReadsExpressions ex) where
       })
       (target_right bound) λ t g.
       part_right bound bound behind_use behind_guard (λ x. (Any x × (x.0 ≡ p)) × (x.1 ≡ t)) (OptionFits Any)
-      (λ x. x.2) guard_parts (λ x. fulfilled_parts x.3) (optional is_under (guard ex))
+      (λ x. x.2) use_condition_parts (λ x. fulfilled_parts x.3) (optional is_under (guard ex))
       (λ c. whether_fulfilled ⨟ λ f. done (p, t, c, f))
       (record {
         fit = λ x f. any_option x.2;
         behind = λ x w v f s o. fulfilled_guard x.3 w v s;
         shrinks =
-            no_longer bound behind_guard (OptionFits Any) guard_parts (optional is_under (guard ex)) (guards bound);
+            no_longer bound behind_guard (OptionFits Any) use_condition_parts (optional is_under (guard ex))
+            (guards bound);
       })
       (guards bound) λ c g.
       last_right bound behind_use Any (λ x. ((Any x × (x.0 ≡ p)) × (x.1 ≡ t)) × (x.2 ≡ c)) (λ x. x.3)
@@ -198,11 +201,11 @@ module _ (ex : Reader Node) (right : ReadsExpressions ex) where
   pub defined_right : (bound : ℕ) → IsRight bound behind_use Any defined_row (defined ex)
   defined_right bound =
       word_at_right bound behind_use (cue.Word key.Definition) Any (λ x. x.0)
-      (λ x. target_parts x.1 ▸ guard_parts x.2 ▸ Word (Anywhere (kind.Word key.Equals)) (expression_row x.3))
+      (λ x. target_parts x.1 ▸ use_condition_parts x.2 ▸ Word (Anywhere (kind.Word key.Equals)) (expression_row x.3))
       (λ p. target ⨟ λ t. optional is_under (guard ex) ⨟ λ c. key_word key.Equals ⨟ λ q. ex
       ⨟ λ e. done (p, t, c, e)) λ p.
       part_right bound bound behind_use behind_target (λ x. Any x × (x.0 ≡ p)) Any (λ x. x.1) target_parts
-      (λ x. guard_parts x.2 ▸ Word (Anywhere (kind.Word key.Equals)) (expression_row x.3)) target
+      (λ x. use_condition_parts x.2 ▸ Word (Anywhere (kind.Word key.Equals)) (expression_row x.3)) target
       (λ t. optional is_under (guard ex) ⨟ λ c. key_word key.Equals ⨟ λ q. ex ⨟ λ e. done (p, t, c, e))
       (record {
         fit = λ x f. tt;
@@ -213,14 +216,15 @@ module _ (ex : Reader Node) (right : ReadsExpressions ex) where
       })
       (target_right bound) λ t g.
       part_right bound bound behind_use behind_guard (λ x. (Any x × (x.0 ≡ p)) × (x.1 ≡ t)) (OptionFits Any)
-      (λ x. x.2) guard_parts (λ x. Word (Anywhere (kind.Word key.Equals)) (expression_row x.3))
+      (λ x. x.2) use_condition_parts (λ x. Word (Anywhere (kind.Word key.Equals)) (expression_row x.3))
       (optional is_under (guard ex)) (λ c. key_word key.Equals ⨟ λ q. ex ⨟ λ e. done (p, t, c, e))
       (record {
         fit = λ x f. any_option x.2;
         behind =
             λ x w v f s o. subst (λ (u : List Token). Outside behind_guard (u ++ v)) (sym s.2) (ap behind_guard s.3);
         shrinks =
-            no_longer bound behind_guard (OptionFits Any) guard_parts (optional is_under (guard ex)) (guards bound);
+            no_longer bound behind_guard (OptionFits Any) use_condition_parts (optional is_under (guard ex))
+            (guards bound);
       })
       (guards bound) λ c g.
       word_right bound behind_use (cue.Word key.Equals) (λ x. ((Any x × (x.0 ≡ p)) × (x.1 ≡ t)) × (x.2 ≡ c))

@@ -108,7 +108,7 @@ exception_rows (Some (p, Some w)) = refl
 
 exception_from : (e : Exception) → (o : Option (Pos × Option Name)) × OptionFits Any o × (e ≡ exception_of o)
 exception_from exception.No = (None, tt, refl)
-exception_from (exception.Base p) = (Some (p, None), tt, refl)
+exception_from (exception.OnlyRoot p) = (Some (p, None), tt, refl)
 exception_from (exception.Labelled p w) = (Some (p, Some w), tt, refl)
 
 pub exception_right : (bound : ℕ) (out : TokenKind → Bool) → ((k : TokenKind) → out k ≡ true → is_lower k ≡ false)
@@ -143,7 +143,7 @@ exception_behind exception.No w v s out off o =
     by : (v : List Token) → Outside out v → Outside (behind_label out) v
     by [] o = tt
     by (p ∷ v) o = not_label p.kind (off p.kind o)
-exception_behind (exception.Base p) w v s out off o =
+exception_behind (exception.OnlyRoot p) w v s out off o =
     subst (λ (u : List Token). Outside (behind_label out) (u ++ v)) (sym s.2)
     (ap (λ (t : Token). behind_label out t.kind) s.3)
 exception_behind (exception.Labelled p x) w v s out off o =

@@ -19,13 +19,14 @@ use Rattle.cat_tree.specs.declared.program.Variable.TheVariants as variable
 use Rattle.cat_tree.specs.Phrase.{Parts, End, Word, At, Anywhere, AreSpelled}
 use Rattle.cat_tree.specs.Joined.{◌▸◌}
 use Rattle.cat_tree.specs.Literals.{type_parts}
-use Rattle.cat_tree.specs.Declarations.{typed_parts, kind_parts, sort_parts, params_parts, variable_parts}
+use Rattle.cat_tree.specs.Declarations.{typed_parts, kind_parts, variable_type_parts, params_parts, variable_parts}
 use Rattle.cat_parse_row.specs.declared.cue.Cue.TheVariants as cue
 use Rattle.cat_parse_row.specs.Reader.{◌⨟◌, done, heads, by_word}
 use Rattle.cat_parse_row.specs.Right.{Outside, IsRight}
 use Rattle.cat_parse_row.specs.Cues.{cue_is, lower, upper}
 use Rattle.cat_parse_row.specs.Declarations.{key_word, typed_name, content, is_content, is_comma, is_word, kind_or}
-use Rattle.cat_parse_row.specs.Declarations.{kind_of_one, a_kind, sort, params, is_lower, called, own, a_variable}
+use Rattle.cat_parse_row.specs.Declarations.{kind_of_one, a_kind, variable_type, params, is_lower, called, own}
+use Rattle.cat_parse_row.specs.Declarations.{a_variable}
 use Rattle.cat_parse_row.proofs.Steps.{done_right}
 use Rattle.cat_parse_row.proofs.Sequel.{part_right}
 use Rattle.cat_parse_row.proofs.Choices.{reshaped, made_right, Decides, choice_right}
@@ -38,8 +39,9 @@ use Rattle.cat_parse_row.proofs.Leads.{any_list}
 
 -- ---- what a variable is
 
-sort_decides : Decides any_word is_content Any (λ o. (t : types.Type) × Any t × (o ≡ Some t)) (λ o. o ≡ None) sort_parts
-sort_decides = record {
+variable_type_decides : Decides any_word is_content Any (λ o. (t : types.Type) × Any t × (o ≡ Some t)) (λ o. o ≡ None)
+    variable_type_parts
+variable_type_decides = record {
   either = either;
   from_yes = λ o f. tt;
   from_no = λ o f. tt;
@@ -51,29 +53,31 @@ sort_decides = record {
     either None f = inr refl
     either (Some t) f = inl (t, tt, refl)
 
-    on : (o : Option types.Type) (t : types.Type) → o ≡ Some t → (w v : List Token) → AreSpelled (sort_parts o) w
+    on : (o : Option types.Type) (t : types.Type) → o ≡ Some t → (w v : List Token) → AreSpelled (variable_type_parts o)
+        w
         → heads is_content (w ++ v) ≡ true
     on o t e w v s =
         let x =
-        subst (λ (z : Option types.Type). AreSpelled (sort_parts z) w) e s in
+        subst (λ (z : Option types.Type). AreSpelled (variable_type_parts z) w) e s in
         ap (λ (u : List Token). heads is_content (u ++ v)) x.2 ∙ ap is_content x.3
 
-    off : (o : Option types.Type) → o ≡ None → (w v : List Token) → AreSpelled (sort_parts o) w
+    off : (o : Option types.Type) → o ≡ None → (w v : List Token) → AreSpelled (variable_type_parts o) w
         → heads is_content (w ++ v) ≡ false
     off o e w v s =
         let x =
-        subst (λ (z : Option types.Type). AreSpelled (sort_parts z) w) e s in
+        subst (λ (z : Option types.Type). AreSpelled (variable_type_parts z) w) e s in
         ap (λ (u : List Token). heads is_content (u ++ v)) x.2 ∙ ap is_content x.3
 
-pub sort_right : (bound : ℕ) → IsRight bound any_word Any sort_parts sort
-sort_right bound =
-    choice_right bound any_word is_content Any (λ o. (t : types.Type) × Any t × (o ≡ Some t)) (λ o. o ≡ None) sort_parts
-    (content ⨟ λ t. done (Some t)) (key_word key.Condition ⨟ λ p. done None) sort_decides
-    (made_right bound any_word Any (λ t. Word (Anywhere (kind.Word key.Content)) (type_parts t End)) sort_parts
+pub variable_type_right : (bound : ℕ) → IsRight bound any_word Any variable_type_parts variable_type
+variable_type_right bound =
+    choice_right bound any_word is_content Any (λ o. (t : types.Type) × Any t × (o ≡ Some t)) (λ o. o ≡ None)
+    variable_type_parts
+    (content ⨟ λ t. done (Some t)) (key_word key.Condition ⨟ λ p. done None) variable_type_decides
+    (made_right bound any_word Any (λ t. Word (Anywhere (kind.Word key.Content)) (type_parts t End)) variable_type_parts
     (λ t. Some t) content (λ t. refl) (content_right bound any_word))
     (reshaped bound any_word (λ o. o ≡ None) (λ o. o ≡ None)
-    (λ o. Word (Anywhere (kind.Word key.Condition)) End) sort_parts (key_word key.Condition ⨟ λ p. done None)
-    (record { to = λ o f. f; from = λ o f. f; rows = λ o f. ap sort_parts (sym f) })
+    (λ o. Word (Anywhere (kind.Word key.Condition)) End) variable_type_parts (key_word key.Condition ⨟ λ p. done None)
+    (record { to = λ o f. f; from = λ o f. f; rows = λ o f. ap variable_type_parts (sym f) })
     (word_right bound any_word (cue.Word key.Condition) (λ (o : Option types.Type). o ≡ None) (λ o. End)
     (λ p. done None) (λ p. done_right bound any_word (λ o. o ≡ None) None refl (λ o f. f))))
 
@@ -301,13 +305,13 @@ abbrev Own : Type 0
 Own = (Kind × Pos) × Name × Option types.Type × List FieldItem
 
 abbrev own_row : Own → Parts
-own_row x = kind_row x.0 ▸ Word (At (kind.Lower x.1.text) x.1.pos) (sort_parts x.2 ▸ params_parts x.3)
+own_row x = kind_row x.0 ▸ Word (At (kind.Lower x.1.text) x.1.pos) (variable_type_parts x.2 ▸ params_parts x.3)
 
 own_right : (bound : ℕ) → IsRight bound behind_variable Any own_row own
 own_right bound =
     part_right bound bound behind_variable is_lower Any Any (λ x. x.0) kind_row
-    (λ x. Word (At (kind.Lower x.1.text) x.1.pos) (sort_parts x.2 ▸ params_parts x.3)) a_kind
-    (λ k. lower ⨟ λ w. sort ⨟ λ t. params ⨟ λ ps. done (k, w, t, ps))
+    (λ x. Word (At (kind.Lower x.1.text) x.1.pos) (variable_type_parts x.2 ▸ params_parts x.3)) a_kind
+    (λ k. lower ⨟ λ w. variable_type ⨟ λ t. params ⨟ λ ps. done (k, w, t, ps))
     (record {
       fit = λ x f. tt;
       behind =
@@ -316,16 +320,18 @@ own_right bound =
       shrinks = no_longer bound is_lower Any kind_row a_kind (kind_right bound);
     })
     (kind_right bound) λ k g.
-    lower_right bound behind_variable (λ x. Any x × (x.0 ≡ k)) (λ x. x.1) (λ x. sort_parts x.2 ▸ params_parts x.3)
-    (λ w. sort ⨟ λ t. params ⨟ λ ps. done (k, w, t, ps)) λ w.
-    part_right bound bound behind_variable any_word (λ x. (Any x × (x.0 ≡ k)) × (x.1 ≡ w)) Any (λ x. x.2) sort_parts
-    (λ x. params_parts x.3) sort (λ t. params ⨟ λ ps. done (k, w, t, ps))
+    lower_right bound behind_variable (λ x. Any x × (x.0 ≡ k)) (λ x. x.1)
+    (λ x. variable_type_parts x.2 ▸ params_parts x.3)
+    (λ w. variable_type ⨟ λ t. params ⨟ λ ps. done (k, w, t, ps)) λ w.
+    part_right bound bound behind_variable any_word (λ x. (Any x × (x.0 ≡ k)) × (x.1 ≡ w)) Any (λ x. x.2)
+    variable_type_parts
+    (λ x. params_parts x.3) variable_type (λ t. params ⨟ λ ps. done (k, w, t, ps))
     (record {
       fit = λ x f. tt;
       behind = λ x w v f s o. outside_any (w ++ v);
-      shrinks = no_longer bound any_word Any sort_parts sort (sort_right bound);
+      shrinks = no_longer bound any_word Any variable_type_parts variable_type (variable_type_right bound);
     })
-    (sort_right bound) λ t g.
+    (variable_type_right bound) λ t g.
     last_right bound behind_variable (AllFit Any) (λ x. ((Any x × (x.0 ≡ k)) × (x.1 ≡ w)) × (x.2 ≡ t)) (λ x. x.3)
     (λ ps. (k, w, t, ps)) params_parts params
     (record {
@@ -379,7 +385,7 @@ variable_decides = record {
     own_head x w v s = by x.0.0 s
       where
         by : (k : Kind) → AreSpelled (kind_parts k x.0.1 ▸ Word (At (kind.Lower x.1.text) x.1.pos)
-            (sort_parts x.2 ▸ params_parts x.3)) w → heads is_lower (w ++ v) ≡ false
+            (variable_type_parts x.2 ▸ params_parts x.3)) w → heads is_lower (w ++ v) ≡ false
         by Input s = ap (λ (u : List Token). heads is_lower (u ++ v)) s.2 ∙ ap (λ (t : Token). is_lower t.kind) s.3
         by InputOutput s =
             ap (λ (u : List Token). heads is_lower (u ++ v)) s.2 ∙ ap (λ (t : Token). is_lower t.kind) s.3

@@ -82,8 +82,8 @@ a_kind = by_word (is_word key.Input) (kind_or key.Input Input InputOutput)
     (by_word (is_word key.Internal) (kind_of_one key.Internal Internal) (kind_or key.Context Context ContextOutput)))
 
 -- content T, or condition
-abbrev pub sort : Reader (Option types.Type)
-sort = by_word is_content (content ⨟ λ t. done (Some t)) (key_word key.Condition ⨟ λ p. done None)
+abbrev pub variable_type : Reader (Option types.Type)
+variable_type = by_word is_content (content ⨟ λ t. done (Some t)) (key_word key.Condition ⨟ λ p. done None)
 
 -- [depends on w content T, w content T]
 abbrev pub params : Reader (List FieldItem)
@@ -99,7 +99,7 @@ called = lower ⨟ λ w. key_word key.Scope ⨟ λ p. upper ⨟ λ u. done (w, u
 
 -- a kind, a name, what it is, and its parameters
 abbrev pub own : Reader ((Kind × Pos) × Name × Option types.Type × List FieldItem)
-own = a_kind ⨟ λ k. lower ⨟ λ w. sort ⨟ λ t. params ⨟ λ ps. done (k, w, t, ps)
+own = a_kind ⨟ λ k. lower ⨟ λ w. variable_type ⨟ λ t. params ⨟ λ ps. done (k, w, t, ps)
 
 abbrev pub a_variable : Reader Variable
 a_variable =

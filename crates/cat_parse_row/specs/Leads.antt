@@ -25,7 +25,7 @@ exception_at = key_word key.Exception ⨟ λ p. optional is_lower lower ⨟ λ w
 
 abbrev pub exception_of : Option (Pos × Option Name) → Exception
 exception_of None = exception.No
-exception_of (Some (p, None)) = exception.Base p
+exception_of (Some (p, None)) = exception.OnlyRoot p
 exception_of (Some (p, Some w)) = exception.Labelled p w
 
 abbrev pub an_exception : Reader Exception

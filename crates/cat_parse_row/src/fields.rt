@@ -65,9 +65,13 @@ pub fn a_case(alloc: Global, tokens: &[Token], at: usize) -> Result<(CaseItem, u
 }
 
 /// What a variable is: of a type, or a condition.
-pub fn sort(alloc: Global, tokens: &[Token], at: usize) -> Result<(Option<Type>, usize), Stray>
+pub fn variable_type(
+    alloc: Global,
+    tokens: &[Token],
+    at: usize,
+) -> Result<(Option<Type>, usize), Stray>
     requires { at ≤ length tokens.now }
-    ensures { Gives spec.sort tokens.now at result }
+    ensures { Gives spec.variable_type tokens.now at result }
 {
     if is_next(tokens, at, Cue::Word(Keyword::Content)) {
         let (ty, at) = content(alloc, tokens, at)?;

@@ -47,7 +47,7 @@ fn exception(alloc: Global, tokens: &[Token], at: usize) -> Result<(Exception, u
         let (name, at) = lower(alloc, tokens, at)?;
         Ok((Exception::Labelled(pos, name), at))
     } else {
-        Ok((Exception::Base(pos), at))
+        Ok((Exception::OnlyRoot(pos), at))
     }
 }
 

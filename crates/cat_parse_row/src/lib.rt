@@ -14,7 +14,7 @@ mod words;
 
 pub use cue::{Cue, cue_is};
 pub use declaring::declaration;
-pub use fields::{a_case, called, field, kind, sort, typed_name};
+pub use fields::{a_case, called, field, kind, typed_name, variable_type};
 pub use heading::{lead, target};
 pub use kinds::a_type;
 pub use laws::programs_are_read_exactly;

@@ -5,7 +5,7 @@ ghost use Rattle.cat_parse_row.specs.Places.{Gives};
 ghost use Rattle.cat_parse_row.specs.Programs as programs;
 ghost use Rattle.cat_parse_row.specs.Reader.{heads, many};
 
-use crate::fields::{called, kind, sort};
+use crate::fields::{called, kind, variable_type};
 use crate::parts::params;
 use crate::stray::Stray;
 use crate::words::{is_lower, lower};
@@ -25,7 +25,7 @@ pub fn a_variable(alloc: Global, tokens: &[Token], at: usize) -> Result<(Variabl
     }
     let ((kind, pos), at) = kind(tokens, at)?;
     let (name, at) = lower(alloc, tokens, at)?;
-    let (ty, at) = sort(alloc, tokens, at)?;
+    let (ty, at) = variable_type(alloc, tokens, at)?;
     let (params, at) = params(alloc, tokens, at)?;
     Ok((Variable::Own(kind, pos, name, ty, params), at))
 }

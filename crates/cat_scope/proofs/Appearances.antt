@@ -34,5 +34,5 @@ a_declaration_that_comes_last = search (rules, namings)
 
 -- the condition of a block stands before an assertion of the block that precedes its definitions
 a_block_with_a_condition : listed (Declaration ∷ Condition (calling 3) ∷ Assertion ∷ Definition ∷ []) ≡ 1 ∷ 3 ∷ 4 ∷ 2 ∷
-  []
+    []
 a_block_with_a_condition = search (rules, namings)

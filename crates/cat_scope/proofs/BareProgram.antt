@@ -23,9 +23,9 @@ use Rattle.cat_scope.specs.WellFormed.{IsBodyOf, AreBodiesOf, IsWellFormed}
 
 -- an order that is computed, of dependencies that come to these
 ordered : (deps closed : List (List ℕ)) (order : List ℕ) → deps ≡ closed → order_of closed ≡ Some order
-  → IsOrder deps order
+    → IsOrder deps order
 ordered deps closed order is computed =
-  subst (λ d. IsOrder d order) (sym is) ((order_of-iff_IsOrder closed order).0 computed)
+    subst (λ d. IsOrder d order) (sym is) ((order_of-iff_IsOrder closed order).0 computed)
 
 alone_leads_nowhere : (n m : ℕ) → DependsOn ([] ∷ []) n m → ⊥
 alone_leads_nowhere zero m leads = true≢false (sym leads)
@@ -48,11 +48,17 @@ abbrev pub bare_scope : List ℕ → Scope
 bare_scope name = record { name = name; items = [] }
 
 abbrev pub bare_body : Rounding → Body
-bare_body rounding = record { defs = []; assertions = []; source = Declaration ∷ []; rounding = rounding; order = [];
-  calls = [] }
+bare_body rounding = record {
+  defs = [];
+  assertions = [];
+  source = Declaration ∷ [];
+  rounding = rounding;
+  order = [];
+  calls = [];
+}
 
 body_is : (decls : Decls) (name : List ℕ) (rounding : Rounding) → IsBodyOf decls 0 (bare_scope name)
-  (bare_body rounding)
+    (bare_body rounding)
 unfolding order_of is_ready is_within
 body_is decls name rounding = record {
   placed = tt;
@@ -67,16 +73,16 @@ body_is decls name rounding = record {
 }
 
 pub bare_program : (decls : Decls) (name : List ℕ) (rounding : Rounding) → decls.scopes ≡ bare_scope name ∷ []
-  → IsWellFormed decls (bare_body rounding ∷ []) (0 ∷ [])
+    → IsWellFormed decls (bare_body rounding ∷ []) (0 ∷ [])
 unfolding order_of is_ready is_within
 bare_program decls name rounding is = record {
   counted = subst (λ (scopes : List Scope). 1 ≡ length scopes) (sym is) refl;
   bodies_are = subst (λ (scopes : List Scope). AreBodiesOf decls 0 scopes (bare_body rounding ∷ [])) (sym is)
-    (body_is decls name rounding, tt);
+      (body_is decls name rounding, tt);
   order = ordered (scope_dependencies decls.scopes (bare_body rounding ∷ [])) ([] ∷ []) (0 ∷ [])
-    (subst (λ (scopes : List Scope). scope_dependencies scopes (bare_body rounding ∷ []) ≡ [] ∷ []) (sym is) refl) refl;
+      (subst (λ (scopes : List Scope). scope_dependencies scopes (bare_body rounding ∷ []) ≡ [] ∷ []) (sym is) refl) refl;
   chains = subst (λ (scopes : List Scope). HasShortChains (scope_dependencies scopes (bare_body rounding ∷ [])))
-    (sym is) alone_is_short;
+      (sym is) alone_is_short;
 }
 
 bare_is_sound : (name : List ℕ) → IsTrue (are_sound [] [] (bare_scope name ∷ []))
@@ -84,16 +90,19 @@ unfolding are_sound are_ordered order_of
 bare_is_sound name = refl
 
 pub bare_sound : (ss : List Structure) (es : List Enumeration) (scopes : List Scope) (name : List ℕ) → ss ≡ [] → es ≡ []
-  → scopes ≡ bare_scope name ∷ [] → IsTrue (are_sound ss es scopes)
+    → scopes ≡ bare_scope name ∷ [] → IsTrue (are_sound ss es scopes)
 bare_sound ss es scopes name s e is = rw (s, e, is) (bare_is_sound name)
 
 pub bare_requires : (decls : Decls) (bodies : List Body) (order : List ℕ) (name : List ℕ) → decls.scopes ≡ bare_scope
-  name ∷ [] → bodies ≡ bare_body Up ∷ [] → order ≡ 0 ∷ [] → ∥ IsWellFormed decls bodies order ∥₁
+    name ∷ [] → bodies ≡ bare_body Up ∷ [] → order ≡ 0 ∷ [] → ∥ IsWellFormed decls bodies order ∥₁
 bare_requires decls bodies order name is are stands = rw (are, stands) (∣ bare_program decls name Up is ∣₁)
 
 -- a forest of one target with two groups, of which the second excepts the first
 pub two_groups_are_low : (place : Target)
-  → are_low (record { place = place; groups = record { defs = 0 ∷ []; excepted_by = 1 ∷ [] } ∷
-  record { defs = 1 ∷ []; excepted_by = [] } ∷ [] } ∷ []) ≡ true
+    → are_low (record {
+      place = place;
+      groups = record { defs = 0 ∷ []; excepted_by = 1 ∷ [] } ∷
+          record { defs = 1 ∷ []; excepted_by = [] } ∷ [];
+    } ∷ []) ≡ true
 unfolding are_low is_within
 two_groups_are_low place = refl

@@ -29,10 +29,10 @@ defined e = def x None except.No None e (at 7 3)
 -- `n`, `x` and `y`: x needs y, which no definition gives
 abbrev gap : List Def → List ℕ → Result (List Value) Stop
 gap defs order = (run_of (scope_of (n_in ∷ x_out ∷ item kind.Output (at 5 10) ∷ []) ∷ []) (body defs order ∷ [])
-  (0 ∷ []) 0 (number 0 ∷ None ∷ None ∷ [])).end
+    (0 ∷ []) 0 (number 0 ∷ None ∷ None ∷ [])).end
 
 a_gap_shows_where_it_is : gap (defined (leaf.Item (at 7 23) 2) ∷ []) (0 ∷ 2 ∷ 1 ∷ []) ≡ Err
-  (NoValue (variable 0 2) (at 5 10))
+    (NoValue (variable 0 2) (at 5 10))
 unfolding run_of judge_target
 a_gap_shows_where_it_is = search (rules, equations, value.the_lemmas)
 
@@ -43,7 +43,7 @@ the_first_of_two_gaps_shows = search (rules, equations, value.the_lemmas)
 -- a context with a definition of its own
 abbrev own : Option Value → Result (List Value) Stop
 own given = (run_of (scope_of (n_in ∷ item kind.ContextOutput (at 4 18) ∷ []) ∷ [])
-  (body (defined (whole 7) ∷ []) (0 ∷ 1 ∷ []) ∷ []) (0 ∷ []) 0 (number 0 ∷ given ∷ [])).end
+    (body (defined (whole 7) ∷ []) (0 ∷ 1 ∷ []) ∷ []) (0 ∷ []) 0 (number 0 ∷ given ∷ [])).end
 
 a_context_has_its_definition : own None ≡ gives 7
 unfolding run_of judge_target
@@ -72,7 +72,7 @@ seven = Ok (pos 7)
 a_context_does_not_lose_to_its_definition : ¬ (own (number 9) ≡ own None)
 a_context_does_not_lose_to_its_definition same =
     let nine_is_seven : nine ≡ seven = sym (first_is 9) ∙ ap first_output (sym a_given_context_has_priority ∙ same
-      ∙ a_context_has_its_definition) ∙ first_is 7 in
+    ∙ a_context_has_its_definition) ∙ first_is 7 in
     absurd (cc)
 
 abbrev called : ℕ → Result (List Value) Stop

@@ -18,7 +18,7 @@ decider target by = record { target = target; by = by }
 -- the deciders of a program of one scope with `n` and `x`, on n
 abbrev alone : List Def → ℕ → List Decider
 alone defs k = (run_of (record { name = []; items = n_in ∷ x_out ∷ [] } ∷ []) (body defs (0 ∷ 1 ∷ []) ∷ []) (0 ∷ []) 0
-  (Some (flat.Integer (pos k)) ∷ None ∷ [])).log
+    (Some (flat.Integer (pos k)) ∷ None ∷ [])).log
 
 the_exception_of_an_exception_decides : alone chain 2 ≡ decider x (Some (at 8 15)) ∷ []
 unfolding run_of judge_target
@@ -48,12 +48,12 @@ abbrev context : Target
 context = record { scope = 1; item = 1; inner = Some 0 }
 
 a_given_context_is_not_judged_again : calling 3 ≡ decider context (Some (at 12 3)) ∷ decider (variable 1 2)
-  (Some (at 13 3)) ∷ []
+    (Some (at 13 3)) ∷ []
 unfolding run_of judge_target
 a_given_context_is_not_judged_again = search (rules, equations, value.the_lemmas)
 
 a_context_that_is_not_given_is_judged : calling 0 ≡ decider context None ∷ decider (variable 0 0) (Some (at 10 3)) ∷
-  decider (variable 1 2) (Some (at 13 3)) ∷ []
+    decider (variable 1 2) (Some (at 13 3)) ∷ []
 unfolding run_of judge_target
 a_context_that_is_not_given_is_judged = search (rules, equations, value.the_lemmas)
 
@@ -62,7 +62,7 @@ abbrev nested : ℕ → List Decider
 nested k = (run_of nested_scopes nested_bodies (0 ∷ 1 ∷ []) 1 (Some (flat.Integer (pos k)) ∷ None ∷ [])).log
 
 a_scope_call_decides_first : nested 3 ≡ decider (variable 0 1) (Some (at 9 3)) ∷ decider (variable 1 1) (Some (at 11 3))
-  ∷ []
+    ∷ []
 unfolding run_of judge_target
 a_scope_call_decides_first = search (rules, equations, value.the_lemmas)
 

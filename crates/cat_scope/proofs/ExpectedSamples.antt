@@ -24,11 +24,11 @@ under_number_of = search (rules, placings)
 
 -- `number of [[1]; []]`, and `number of [[]; [1]]`
 as_a_later_element : lists_placed
-  (expr.Length (at 0 0) (expr.List (at 0 0) (expr.List (at 0 0) (whole 1 ∷ []) ∷ nothing ∷ []))) true ≡ true
+    (expr.Length (at 0 0) (expr.List (at 0 0) (expr.List (at 0 0) (whole 1 ∷ []) ∷ nothing ∷ []))) true ≡ true
 as_a_later_element = search (rules, placings)
 
 as_the_first_element : lists_placed
-  (expr.Length (at 0 0) (expr.List (at 0 0) (nothing ∷ expr.List (at 0 0) (whole 1 ∷ []) ∷ []))) true ≡ false
+    (expr.Length (at 0 0) (expr.List (at 0 0) (nothing ∷ expr.List (at 0 0) (whole 1 ∷ []) ∷ []))) true ≡ false
 as_the_first_element = search (rules, placings)
 
 -- `if true then [] else []`, where a list is expected and where nothing is

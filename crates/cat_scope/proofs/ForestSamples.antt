@@ -27,7 +27,7 @@ abbrev scattered : List Def
 scattered =
     def (variable 0 0) None except.No None (whole 0) (at 6 3) ∷
     def x (Some (a (at 7 9))) except.No None (whole 1) (at 7 11) ∷
-    def x None (except.Base (at 8 3)) None (whole 2) (at 8 13) ∷
+    def x None (except.OnlyRoot (at 8 3)) None (whole 2) (at 8 13) ∷
     def x (Some (a (at 9 9))) except.No None (whole 3) (at 9 11) ∷ []
 
 a_label_makes_one_group : groups scattered ≡ group (1 ∷ 3 ∷ []) (1 ∷ []) ∷ group (2 ∷ []) [] ∷ []
@@ -38,7 +38,7 @@ abbrev two_roots : List Def
 two_roots =
     def x (Some (a (at 6 9))) except.No None (whole 1) (at 6 11) ∷
     def x None except.No None (whole 2) (at 7 3) ∷
-    def x None (except.Base (at 8 3)) None (whole 3) (at 8 13) ∷ []
+    def x None (except.OnlyRoot (at 8 3)) None (whole 3) (at 8 13) ∷ []
 
 a_bare_exception_of_two_roots : groups two_roots ≡ group (0 ∷ []) [] ∷ group (1 ∷ []) [] ∷ group (2 ∷ []) [] ∷ []
 a_bare_exception_of_two_roots = refl
@@ -48,5 +48,5 @@ abbrev inner : ℕ → Target
 inner n = record { scope = 1; item = 2; inner = Some n }
 
 inputs_and_contexts_are_targets : called_places 1 2 0 (n_in ∷ x_out ∷ item kind.Context (at 5 11) ∷ []) ≡ inner 0 ∷
-  inner 2 ∷ []
+    inner 2 ∷ []
 inputs_and_contexts_are_targets = refl

@@ -49,7 +49,7 @@ per k = expr.Binary o DivideIntegers there (whole 1) (whole k)
 
 abbrev per_element_above : ℕ → Expr
 per_element_above k = expr.Binary o Greater o (expr.Binary o DivideIntegers there (whole 1) (leaf.Local o 0))
-  (leaf.Literal o (literal.Decimal (record { digits = k; places = 0 })))
+    (leaf.Literal o (literal.Decimal (record { digits = k; places = 0 })))
 
 and_stops_at_false : gives (expr.And o falsehood (per 0)) ≡ Ok (flat.Boolean false)
 and_stops_at_false = search (rules, equations, value.the_lemmas)
@@ -65,12 +65,12 @@ one_branch_is_evaluated : gives (expr.If o truth (whole 1) (per 0)) ≡ Ok (flat
 one_branch_is_evaluated = search (rules, equations, value.the_lemmas)
 
 exists_stops_at_true : gives (expr.Exists o (expr.List o (whole 1 ∷ whole 0 ∷ [])) (per_element_above 0)) ≡ Ok
-  (flat.Boolean true)
+    (flat.Boolean true)
 unfolding gcd ratio lowest
 exists_stops_at_true = search (rules, equations, value.the_lemmas)
 
 for_all_stops_at_false : gives (expr.ForAll o (expr.List o (whole 1 ∷ whole 0 ∷ [])) (per_element_above 1)) ≡ Ok
-  (flat.Boolean false)
+    (flat.Boolean false)
 unfolding gcd ratio lowest
 for_all_stops_at_false = search (rules, equations, value.the_lemmas)
 
@@ -81,35 +81,38 @@ abbrev days : ℕ → Expr
 days k = leaf.Literal o (literal.Duration (record { months = pos 0; days = pos k }))
 
 contains_stops_at_an_equal_one : gives (expr.Contains o there (expr.List o (months 1 ∷ days 1 ∷ [])) (months 1)) ≡ Ok
-  (flat.Boolean true)
+    (flat.Boolean true)
 unfolding compared_spans
 contains_stops_at_an_equal_one = search (rules, equations, value.the_lemmas)
 
 contains_compares_what_comes_before : gives (expr.Contains o there (expr.List o (days 1 ∷ months 1 ∷ [])) (months 1))
-  ≡ Err (Fault Uncomparable there)
+    ≡ Err (Fault Uncomparable there)
 unfolding compared_spans
 contains_compares_what_comes_before = search (rules, equations, value.the_lemmas)
 
 a_sum_adds_in_order : gives
-  (expr.Sum there Integers
-  (expr.List o (whole 9223372036854775807 ∷ whole 1 ∷ leaf.Literal o (literal.Integer (negsuc 0)) ∷ []))) ≡ Err
-  (Fault Overflow there)
+    (expr.Sum there Integers
+    (expr.List o (whole 9223372036854775807 ∷ whole 1 ∷ leaf.Literal o (literal.Integer (negsuc 0)) ∷ []))) ≡ Err
+    (Fault Overflow there)
 a_sum_adds_in_order = search (rules, equations, value.the_lemmas)
 
 combining_goes_over_the_elements : gives (expr.Combine o (expr.List o (whole 1 ∷ whole 2 ∷ [])) (whole 4)
-  (expr.Binary o AddIntegers o (leaf.Local o 0) (leaf.Local o 1))) ≡ Ok (flat.Integer (pos 7))
+    (expr.Binary o AddIntegers o (leaf.Local o 0) (leaf.Local o 1))) ≡ Ok (flat.Integer (pos 7))
 combining_goes_over_the_elements = search (rules, equations, value.the_lemmas)
 
 -- fields are evaluated in written order, and stand in the order of their declarations
 fields_stand_in_their_order : gives
-  (expr.Structure o 0 (record { field = 1; value = whole 5 } ∷ record { field = 0; value = whole 4 } ∷ [])) ≡ Ok
-  (value.Structure (flat.Integer (pos 4) ∷ flat.Integer (pos 5) ∷ []))
+    (expr.Structure o 0 (record { field = 1; value = whole 5 } ∷ record { field = 0; value = whole 4 } ∷ [])) ≡ Ok
+    (value.Structure (flat.Integer (pos 4) ∷ flat.Integer (pos 5) ∷ []))
 fields_stand_in_their_order = search (rules, equations, value.the_lemmas)
 
 the_first_written_field_faults_first : gives
-  (expr.Structure o 0
-  (record { field = 1; value = per 0 } ∷ record { field = 0; value = expr.Binary o DivideIntegers (at 2 2) (whole 1)
-  (whole 0) } ∷ [])) ≡ Err (Fault DivisionByZero there)
+    (expr.Structure o 0
+    (record { field = 1; value = per 0 } ∷ record {
+      field = 0;
+      value = expr.Binary o DivideIntegers (at 2 2) (whole 1)
+          (whole 0);
+    } ∷ [])) ≡ Err (Fault DivisionByZero there)
 unfolding gcd ratio lowest
 the_first_written_field_faults_first = search (rules, equations, value.the_lemmas)
 
@@ -118,23 +121,26 @@ abbrev with_three : Expr
 with_three = expr.Case o 0 1 (Some (whole 3))
 
 abbrev its_arms : List Arm
-its_arms = record { pattern = pattern.Case 0 false; body = whole 1 } ∷ record { pattern = pattern.Case 1 true; body =
-  leaf.Local o 0 } ∷ []
+its_arms = record { pattern = pattern.Case 0 false; body = whole 1 } ∷ record {
+  pattern = pattern.Case 1 true;
+  body =
+      leaf.Local o 0;
+} ∷ []
 
 its_value : eval nothing with_three [] ≡ plain (Ok (value.Case 1 (Some (flat.Integer (pos 3)))))
 its_value = eval_Case_Some nothing o 0 1 (whole 3) []
-  ∙ ap (λ run. and_then run (λ v. plain (Ok (value.Case 1 (Some v)))))
-  (eval_Literal nothing o (literal.Integer (pos 3)) [])
+    ∙ ap (λ run. and_then run (λ v. plain (Ok (value.Case 1 (Some v)))))
+    (eval_Literal nothing o (literal.Integer (pos 3)) [])
 
 an_arm_binds_the_content : gives (expr.Match o with_three its_arms) ≡ Ok (flat.Integer (pos 3))
 an_arm_binds_the_content =
     ap (λ (run : Run Value). run.end)
     (eval_Match nothing o with_three its_arms []
-      ∙ ap (λ run. and_then run (λ v. and_then (plain (case_of v)) (λ c. eval_arms nothing its_arms c.0 c.1 [])))
-      its_value)
+    ∙ ap (λ run. and_then run (λ v. and_then (plain (case_of v)) (λ c. eval_arms nothing its_arms c.0 c.1 [])))
+    its_value)
     ∙ search (rules, equations, value.the_lemmas)
 
 anything_is_for_each_case : gives
-  (expr.Match o (expr.Case o 0 1 None) (record { pattern = pattern.Case 0 false; body = whole 1 } ∷
-  record { pattern = pattern.Anything; body = whole 2 } ∷ [])) ≡ Ok (flat.Integer (pos 2))
+    (expr.Match o (expr.Case o 0 1 None) (record { pattern = pattern.Case 0 false; body = whole 1 } ∷
+    record { pattern = pattern.Anything; body = whole 2 } ∷ [])) ≡ Ok (flat.Integer (pos 2))
 anything_is_for_each_case = search (rules, equations, value.the_lemmas)

@@ -45,7 +45,7 @@ module _
     (on_is_case : (p : Pos) (e : Expr) (n : ℕ) (k : ℕ) → P e → P (expr.IsCase p e n k))
     (on_case : (p : Pos) (n : ℕ) (k : ℕ) (content : Option Expr) → Within P content → P (expr.Case p n k content))
     (on_structure : (p : Pos) (n : ℕ) (fields : List FieldValue) → Each (λ f. P f.value) fields
-      → P (expr.Structure p n fields))
+    → P (expr.Structure p n fields))
     (on_list : (p : Pos) (es : List Expr) → Each P es → P (expr.List p es))
     (on_for_all : (p : Pos) (l : Expr) (test : Expr) → P l → P test → P (expr.ForAll p l test))
     (on_exists : (p : Pos) (l : Expr) (test : Expr) → P l → P test → P (expr.Exists p l test))
@@ -57,10 +57,10 @@ module _
     (on_sum : (p : Pos) (kind : SumKind) (l : Expr) → P l → P (expr.Sum p kind l))
     (on_call : (p : Pos) (f : ℕ) (es : List Expr) → Each P es → P (expr.Call p f es))
     (on_scope_call : (p : Pos) (s : ℕ) (fields : List FieldValue) (k : ℕ) → Each (λ f. P f.value) fields
-      → P (expr.ScopeCall p s fields k)) where
+    → P (expr.ScopeCall p s fields k)) where
   at : (y : Expr-F ((e : Expr) × P e) ((a : Arm) × P a.body) ((f : FieldValue) × P f.value))
-    → P (roll-Expr (map-Expr ((e : Expr) × P e) ((a : Arm) × P a.body) ((f : FieldValue) × P f.value) Expr Arm
-    FieldValue (λ e. e.0) (λ a. a.0) (λ f. f.0) y))
+      → P (roll-Expr (map-Expr ((e : Expr) × P e) ((a : Arm) × P a.body) ((f : FieldValue) × P f.value) Expr Arm
+      FieldValue (λ e. e.0) (λ a. a.0) (λ f. f.0) y))
   unfolding roll-Expr roll
   at (Expr-F.Literal p l) = on_literal p l
   at (Expr-F.Item p item) = on_item p item
@@ -90,16 +90,16 @@ module _
   at (Expr-F.ScopeCall p s fields k) = on_scope_call p s (map (λ f. f.0) fields) k (held (λ f. P f.value) fields)
 
   at_field : (y : FieldValue-F ((e : Expr) × P e) ((a : Arm) × P a.body) ((f : FieldValue) × P f.value))
-    → P (roll-FieldValue (map-FieldValue ((e : Expr) × P e) ((a : Arm) × P a.body) ((f : FieldValue) × P f.value) Expr
-    Arm FieldValue (λ e. e.0) (λ a. a.0) (λ f. f.0) y)).value
+      → P (roll-FieldValue (map-FieldValue ((e : Expr) × P e) ((a : Arm) × P a.body) ((f : FieldValue) × P f.value) Expr
+      Arm FieldValue (λ e. e.0) (λ a. a.0) (λ f. f.0) y)).value
   at_field y = y.value.1
 
   at_arm : (y : Arm-F ((e : Expr) × P e) ((a : Arm) × P a.body) ((f : FieldValue) × P f.value))
-    → P (roll-Arm (map-Arm ((e : Expr) × P e) ((a : Arm) × P a.body) ((f : FieldValue) × P f.value) Expr Arm FieldValue
-    (λ e. e.0) (λ a. a.0) (λ f. f.0) y)).body
+      → P (roll-Arm (map-Arm ((e : Expr) × P e) ((a : Arm) × P a.body) ((f : FieldValue) × P f.value) Expr Arm FieldValue
+      (λ e. e.0) (λ a. a.0) (λ f. f.0) y)).body
   at_arm y = y.body.1
 
   pub induction : (e : Expr) → P e
   induction = ind-Expr P (λ a. P a.body) (λ f. P f.value) (λ x y is. subst (λ z. P (roll-Expr z)) is (at y))
       (λ x y is. subst (λ z. P (roll-Arm z).body) is (at_arm y)) (λ x y is. subst (λ z. P (roll-FieldValue z).value) is
-        (at_field y))
+      (at_field y))

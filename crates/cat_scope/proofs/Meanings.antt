@@ -21,7 +21,7 @@ use Rattle.cat_scope.proofs.Samples.{one_month_below_31_days, def, body, x, chai
 -- a program of one scope with `n` and `x`, on n
 abbrev alone : List ItemDecl → List Def → ℕ → Result (List Value) Stop
 alone items defs k = (run_of (record { name = []; items = items } ∷ []) (body defs (0 ∷ 1 ∷ []) ∷ []) (0 ∷ []) 0
-  (Some (flat.Integer (pos k)) ∷ None ∷ [])).end
+    (Some (flat.Integer (pos k)) ∷ None ∷ [])).end
 
 abbrev gives : ℕ → Result (List Value) Stop
 gives k = Ok (flat.Integer (pos k) ∷ [])
@@ -47,7 +47,7 @@ unfolding run_of judge_target
 no_definition_is_no_value = search (rules, equations, value.the_lemmas)
 
 a_condition_without_rules_is_false : alone (n_in ∷ condition_item kind.Output (at 4 10) ∷ []) [] 0 ≡ Ok
-  (flat.Boolean false ∷ [])
+    (flat.Boolean false ∷ [])
 unfolding run_of judge_target
 a_condition_without_rules_is_false = search (rules, equations, value.the_lemmas)
 
@@ -78,6 +78,6 @@ unfolding run_of judge_target gcd ratio lowest
 what_is_excepted_is_not_evaluated = search (rules, equations, value.the_lemmas)
 
 two_kinds_of_durations_are_uncomparable : alone (n_in ∷ truth_item kind.Output (at 4 10) ∷ [])
-  (def x None except.No None (one_month_below_31_days (at 6 31)) (at 6 3) ∷ []) 0 ≡ Err (Fault Uncomparable (at 6 31))
+    (def x None except.No None (one_month_below_31_days (at 6 31)) (at 6 3) ∷ []) 0 ≡ Err (Fault Uncomparable (at 6 31))
 unfolding run_of judge_target compared_spans
 two_kinds_of_durations_are_uncomparable = search (rules, equations, value.the_lemmas)

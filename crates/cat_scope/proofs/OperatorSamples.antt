@@ -34,15 +34,22 @@ of_type t k = record { name = []; pos = at 3 9; kind = k; ty = t; condition = fa
 abbrev giving : Rounding → Ty → Value → Expr → Result (List Value) Stop
 giving r t v e =
     (run_of (scope_of (of_type t kind.Input ∷ of_type t kind.Output ∷ []) ∷ [])
-    (record { defs = def x None except.No None e (at 6 3) ∷ []; assertions = []; source =
-      source_of (def x None except.No None e (at 6 3) ∷ []); rounding = r; order = 0 ∷ 1 ∷ []; calls = [] } ∷ [])
+    (record {
+      defs = def x None except.No None e (at 6 3) ∷ [];
+      assertions = [];
+      source =
+          source_of (def x None except.No None e (at 6 3) ∷ []);
+      rounding = r;
+      order = 0 ∷ 1 ∷ [];
+      calls = [];
+    } ∷ [])
     (0 ∷ []) 0 (Some v ∷ None ∷ [])).end
 
 -- `d + 1 month`, where d is 2024-01-31
 abbrev month_later : Rounding → Result (List Value) Stop
 month_later r = giving r ty.Date (flat.Date (pos 19753))
-  (expr.Binary (at 6 23) AddDurationToDate (at 6 25) (leaf.Item (at 6 23) 0)
-  (leaf.Literal (at 6 27) (literal.Duration (record { months = pos 1; days = pos 0 }))))
+    (expr.Binary (at 6 23) AddDurationToDate (at 6 25) (leaf.Item (at 6 23) 0)
+    (leaf.Literal (at 6 27) (literal.Duration (record { months = pos 1; days = pos 0 }))))
 
 a_day_that_a_month_lacks_is_refused : month_later Refuse ≡ Err (Fault AmbiguousDate (at 6 25))
 unfolding run_of judge_target cat_date_on_literals
@@ -61,7 +68,7 @@ a_day_that_a_month_lacks_is_rounded_down = search (rules, equations, value.the_l
 -- half of an amount of cents, by a decimal and by an integer
 abbrev half : ℤ → Result (List Value) Stop
 half cents = giving Refuse ty.Money (flat.Money cents) (expr.Binary (at 6 23) MultiplyMoneyByDecimal (at 6 25)
-  (leaf.Item (at 6 23) 0) (leaf.Literal (at 6 27) (literal.Decimal (record { digits = 50; places = 2 }))))
+    (leaf.Item (at 6 23) 0) (leaf.Literal (at 6 27) (literal.Decimal (record { digits = 50; places = 2 }))))
 
 half_a_cent_goes_away_from_zero : half (pos 1) ≡ Ok (flat.Money (pos 1) ∷ [])
 unfolding run_of judge_target gcd ratio lowest
@@ -73,7 +80,7 @@ half_a_cent_below_zero_goes_away_from_zero = search (rules, equations, value.the
 
 abbrev parted : ℕ → Result (List Value) Stop
 parted k = giving Refuse ty.Money (flat.Money (pos 100)) (expr.Binary (at 6 23) DivideMoneyByInteger (at 6 25)
-  (leaf.Item (at 6 23) 0) (leaf.Literal (at 6 27) (literal.Integer (pos k))))
+    (leaf.Item (at 6 23) 0) (leaf.Literal (at 6 27) (literal.Integer (pos k))))
 
 two_thirds_of_a_cent_are_one : parted 6 ≡ Ok (flat.Money (pos 17) ∷ [])
 unfolding run_of judge_target

@@ -69,13 +69,20 @@ per_n_above_one p = expr.Binary (at 0 0) Greater (at 0 0) (expr.Binary (at 0 0) 
 -- `1 month < 31 day`, with the place of the `<`
 abbrev pub one_month_below_31_days : Pos → Expr
 one_month_below_31_days p =
-  expr.Binary (at 0 0) Less p (leaf.Literal (at 0 0) (literal.Duration (record { months = pos 1; days = pos 0 })))
+    expr.Binary (at 0 0) Less p (leaf.Literal (at 0 0) (literal.Duration (record { months = pos 1; days = pos 0 })))
     (leaf.Literal (at 0 0) (literal.Duration (record { months = pos 0; days = pos 31 })))
 
 abbrev pub def : Target → Option Label → Except → Option Expr → Expr → Pos → Def
 def target label e condition consequence p =
-    record { target = target; label = label; except = e; condition = condition; consequence = consequence; params = 0;
-      pos = p }
+    record {
+      target = target;
+      label = label;
+      except = e;
+      condition = condition;
+      consequence = consequence;
+      params = 0;
+      pos = p;
+    }
 
 -- a declaration, and then definitions
 abbrev pub definitions_of : List Def → List SourcePart
@@ -88,7 +95,7 @@ source_of defs = Declaration ∷ definitions_of defs
 -- the body of a scope that calls some scopes, and of one that calls none
 abbrev pub body_calling : List ℕ → List Def → List ℕ → Body
 body_calling calls defs order =
-  record { defs = defs; assertions = []; source = source_of defs; rounding = Refuse; order = order; calls = calls }
+    record { defs = defs; assertions = []; source = source_of defs; rounding = Refuse; order = order; calls = calls }
 
 abbrev pub body : List Def → List ℕ → Body
 body defs order = body_calling [] defs order
@@ -116,24 +123,24 @@ scope_of items = record { name = []; items = items }
 -- T has the context x, which is 7 by itself; S calls T as t, gives it n as x where n > 0, and gives t.x as y
 abbrev pub calling_scopes : List Scope
 calling_scopes = scope_of (item kind.ContextOutput (at 4 18) ∷ []) ∷ scope_of
-  (n_in ∷ truth_item (kind.Called 0) (at 7 3) ∷ item kind.Output (at 8 10) ∷ []) ∷ []
+    (n_in ∷ truth_item (kind.Called 0) (at 7 3) ∷ item kind.Output (at 8 10) ∷ []) ∷ []
 
 abbrev pub calling_bodies : List Body
 calling_bodies =
     body (def (variable 0 0) None except.No None (whole 7) (at 10 3) ∷ []) (0 ∷ [])
     ∷ body_calling (0 ∷ []) (def (record { scope = 1; item = 1; inner = Some 0 }) None except.No (Some (n_above 0)) n
-      (at 12 3)
+    (at 12 3)
     ∷ def (variable 1 2) None except.No None (leaf.Output (at 13 23) 1 0) (at 13 3) ∷ []) (0 ∷ 1 ∷ 2 ∷ []) ∷ []
 
 -- T has the input a and the output b, which is twice a where a > 0; S calls it inside a definition, with n as a
 abbrev pub nested_scopes : List Scope
 nested_scopes = scope_of (item kind.Input (at 3 9) ∷ item kind.Output (at 4 10) ∷ []) ∷ scope_of
-  (item kind.Input (at 6 9) ∷ item kind.Output (at 7 10) ∷ []) ∷ []
+    (item kind.Input (at 6 9) ∷ item kind.Output (at 7 10) ∷ []) ∷ []
 
 abbrev pub nested_bodies : List Body
 nested_bodies =
     body (def (variable 0 1) None except.No (Some (n_above 0))
-      (expr.Binary (at 9 57) MultiplyIntegers (at 9 59) n (whole 2)) (at 9 3) ∷ []) (0 ∷ 1 ∷ [])
+    (expr.Binary (at 9 57) MultiplyIntegers (at 9 59) n (whole 2)) (at 9 3) ∷ []) (0 ∷ 1 ∷ [])
     ∷ body_calling (0 ∷ [])
-      (def (variable 1 1) None except.No None (expr.ScopeCall (at 11 23) 0 (record { field = 0; value = n } ∷ []) 0)
-      (at 11 3) ∷ []) (0 ∷ 1 ∷ []) ∷ []
+    (def (variable 1 1) None except.No None (expr.ScopeCall (at 11 23) 0 (record { field = 0; value = n } ∷ []) 0)
+    (at 11 3) ∷ []) (0 ∷ 1 ∷ []) ∷ []

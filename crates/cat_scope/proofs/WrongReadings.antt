@@ -19,7 +19,7 @@ first_taken [] = Ok None
 first_taken (h ∷ hs) = Ok (Some h)
 
 the_first_of_two_is_not_taken : {A : Type 0} (place : Target) (h i : Held A) (hs : List (Held A))
-  → ¬ (first_taken (h ∷ i ∷ hs) ≡ alone place (h ∷ i ∷ hs))
+    → ¬ (first_taken (h ∷ i ∷ hs) ≡ alone place (h ∷ i ∷ hs))
 the_first_of_two_is_not_taken place h i hs same = true≢false (ap is_ok same)
 
 abbrev number_at : {A : Type 0} → Result (Option (Held A)) Stop → Option ℕ
@@ -48,10 +48,10 @@ reporting first judged = giving judged (λ found. Ok (reported first found))
 
 the_first_definition_is_not_reported : {A : Type 0} (place : Target) (first h : Held A) → ¬ (first.number ≡ h.number)
     → ¬ (reporting first (settle place (gives None ∷ gives (Some h) ∷ [])) ≡ settle place
-      (gives None ∷ gives (Some h) ∷ []))
+    (gives None ∷ gives (Some h) ∷ []))
 the_first_definition_is_not_reported place first h differ same = differ (some_is (ap number_in same))
 
 -- a condition without rules has no value
 a_condition_without_rules_has_a_value : (target : Target) (place : Pos)
-  → ¬ (absent target place true ≡ Err (NoValue target place))
+    → ¬ (absent target place true ≡ Err (NoValue target place))
 a_condition_without_rules_has_a_value target place same = true≢false (ap is_ok same)

@@ -60,17 +60,17 @@ call_input n fields (item ∷ items) = call_entry item (given n fields) ∷ call
 abbrev pub scope_call : Scoped → ℕ → List (ℕ × Value) → ℕ → Run Value
 scope_call scoped called fields output =
     giving (scoped.runs called (call_input 0 fields (items_of scoped called)))
-      (λ outputs. known (slice_get outputs output))
+    (λ outputs. known (slice_get outputs output))
 
 -- what the expressions of a scope stand in
 abbrev pub env_of : Scoped → (ℕ → List Value → Run Value) → Items → Env
 env_of scoped calls values =
-  record { rounding = scoped.body.rounding; items = values; call = calls; scope_call = scope_call scoped }
+    record { rounding = scoped.body.rounding; items = values; call = calls; scope_call = scope_call scoped }
 
 -- a target, where functions give what `calls` tells and the items have these values
 abbrev pub judged : Scoped → (ℕ → List Value → Run Value) → Items → List Value → Target → Judged Value
 judged scoped calls values arguments target = judge_target (λ e. eval (env_of scoped calls values) e arguments) target
-  scoped.body.defs
+    scoped.body.defs
 
 -- the value of a variable or a function, by its judging: where it is Empty, false for a condition, else NoValue at its
 -- name
@@ -85,5 +85,5 @@ call scoped values [] function arguments = stops Stuck
 call scoped values (item ∷ before) function arguments =
     if nat_eq item function
     then variable_value (variable scoped item) (slice_get scoped.items item)
-      (judged scoped (call scoped values before) values arguments (variable scoped item))
+    (judged scoped (call scoped values before) values arguments (variable scoped item))
     else call scoped values before function arguments

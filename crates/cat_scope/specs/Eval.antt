@@ -37,14 +37,14 @@ meaning_of env (Expr-F.Local p k) locals = plain (known (slice_get locals k))
 meaning_of env (Expr-F.Field p e k) locals = giving (e locals) (part k)
 meaning_of env (Expr-F.Unary p o e) locals = giving (e locals) (convert o p)
 meaning_of env (Expr-F.Binary p o at a b) locals =
-  and_then (a locals) (λ v. giving (b locals) (operate env.rounding o at v))
+    and_then (a locals) (λ v. giving (b locals) (operate env.rounding o at v))
 meaning_of env (Expr-F.And p a b) locals = and_then (a locals) (λ v. choose v (b locals) (gives (flat.Boolean false)))
 meaning_of env (Expr-F.Or p a b) locals = and_then (a locals) (λ v. choose v (gives (flat.Boolean true)) (b locals))
 meaning_of env (Expr-F.If p c a b) locals = and_then (c locals) (λ v. choose v (a locals) (b locals))
 meaning_of env (Expr-F.Match p e arms) locals =
-  and_then (e locals) (λ v. and_then (plain (case_of v)) (λ c. matched arms c.0 c.1 locals))
+    and_then (e locals) (λ v. and_then (plain (case_of v)) (λ c. matched arms c.0 c.1 locals))
 meaning_of env (Expr-F.IsCase p e n k) locals =
-  giving (e locals) (λ v. on_one (case_of v) (λ c. Ok (flat.Boolean (nat_eq c.0 k))))
+    giving (e locals) (λ v. on_one (case_of v) (λ c. Ok (flat.Boolean (nat_eq c.0 k))))
 meaning_of env (Expr-F.Case p n k None) locals = gives (value.Case k None)
 meaning_of env (Expr-F.Case p n k (Some e)) locals = and_then (e locals) (λ v. gives (value.Case k (Some v)))
 meaning_of env (Expr-F.Structure p n fields) locals = giving (fields_of fields locals) structured
@@ -52,13 +52,13 @@ meaning_of env (Expr-F.List p es) locals = and_then (all_of es locals) (λ vs. g
 meaning_of env (Expr-F.ForAll p l test) locals = and_then (listed l locals) (for_all (λ v. test (locals ++ v ∷ [])))
 meaning_of env (Expr-F.Exists p l test) locals = and_then (listed l locals) (exists (λ v. test (locals ++ v ∷ [])))
 meaning_of env (Expr-F.Map p l e) locals =
-  and_then (listed l locals) (λ vs. and_then (mapped (λ v. e (locals ++ v ∷ [])) vs) (λ ws. gives (value.List ws)))
+    and_then (listed l locals) (λ vs. and_then (mapped (λ v. e (locals ++ v ∷ [])) vs) (λ ws. gives (value.List ws)))
 meaning_of env (Expr-F.Filter p l test) locals =
-  and_then (listed l locals) (λ vs. and_then (filtered (λ v. test (locals ++ v ∷ [])) vs) (λ ws. gives (value.List ws)))
+    and_then (listed l locals) (λ vs. and_then (filtered (λ v. test (locals ++ v ∷ [])) vs) (λ ws. gives (value.List ws)))
 meaning_of env (Expr-F.Combine p l start e) locals =
-  and_then (listed l locals) (λ vs. and_then (start locals) (combined (λ v before. e (locals ++ v ∷ before ∷ [])) vs))
+    and_then (listed l locals) (λ vs. and_then (start locals) (combined (λ v before. e (locals ++ v ∷ before ∷ [])) vs))
 meaning_of env (Expr-F.Contains p at l e) locals =
-  and_then (listed l locals) (λ vs. giving (e locals) (λ v. contained at v vs))
+    and_then (listed l locals) (λ vs. giving (e locals) (λ v. contained at v vs))
 meaning_of env (Expr-F.Length p l) locals = and_then (listed l locals) (λ vs. gives (flat.Integer (pos (length vs))))
 meaning_of env (Expr-F.Sum p kind l) locals = giving (listed l locals) (λ vs. summed kind p vs (zero_of kind))
 meaning_of env (Expr-F.Call p f es) locals = and_then (all_of es locals) (env.call f)
@@ -85,10 +85,10 @@ eval_all env (e ∷ es) locals = in_front (eval env e locals) (eval_all env es l
 abbrev pub eval_fields : Env → List FieldValue → List Value → Run (List (ℕ × Value))
 eval_fields env [] locals = gives []
 eval_fields env (f ∷ fs) locals = in_front (and_then (eval env f.value locals) (λ v. gives (f.field, v)))
-  (eval_fields env fs locals)
+    (eval_fields env fs locals)
 
 -- the first arm that is for the case
 abbrev pub eval_arms : Env → List Arm → ℕ → Option Value → List Value → Run Value
 eval_arms env [] k content locals = stops Stuck
 eval_arms env (a ∷ arms) k content locals = arm_value a.pattern (eval env a.body) (eval_arms env arms k content locals)
-  k content locals
+    k content locals

@@ -40,7 +40,7 @@ abbrev pub called_places : ℕ → ℕ → ℕ → List ItemDecl → List Target
 called_places scope item n [] = []
 called_places scope item n (inner ∷ rest) =
     if may_be_given inner.kind then record { scope = scope; item = item; inner = Some n } ∷ called_places scope item
-      (n + 1) rest
+    (n + 1) rest
     else called_places scope item (n + 1) rest
 
 -- the targets that an item stands for, by its kind
@@ -59,7 +59,7 @@ places_of ds scope item (Some decl) = places_at ds scope item decl.kind
 abbrev pub targets_of : Decls → ℕ → List ItemDecl → List ℕ → List Target
 targets_of ds scope items [] = []
 targets_of ds scope items (item ∷ order) = places_of ds scope item (slice_get items item) ++ targets_of ds scope items
-  order
+    order
 
 -- the numbers of some definitions
 abbrev pub numbers_of : List Numbered → List ℕ
@@ -70,7 +70,7 @@ numbers_of (d ∷ ds) = d.0 ∷ numbers_of ds
 abbrev pub forest_groups : List (ℕ × ℕ) → ℕ → List Group → List ForestGroup
 forest_groups pairs n [] = []
 forest_groups pairs n (g ∷ gs) = record { defs = numbers_of g.defs; excepted_by = excepting pairs n } ∷ forest_groups
-  pairs (n + 1) gs
+    pairs (n + 1) gs
 
 -- all groups of a target
 abbrev pub forest_of_groups : List Group → List ForestGroup
@@ -80,7 +80,7 @@ forest_of_groups groups = forest_groups (excepts groups) 0 groups
 abbrev pub forest_of : List Def → List Target → List ForestTarget
 forest_of defs [] = []
 forest_of defs (place ∷ places) =
-  record { place = place; groups = forest_of_groups (groups_of (defs_from place 0 defs)) } ∷ forest_of defs places
+    record { place = place; groups = forest_of_groups (groups_of (defs_from place 0 defs)) } ∷ forest_of defs places
 
 -- the program has a scope of that number, and a forest has each target of it, with its groups and what excepts what, as
 -- the labels tell

@@ -22,7 +22,7 @@ pub data Key : Type 0 where
 abbrev pub key_at : ℕ → Option Label → Except → Key
 key_at n (Some label) e = Labelled label.text
 key_at n None except.No = Base
-key_at n None (except.Base pos) = Alone n
+key_at n None (except.OnlyRoot pos) = Alone n
 key_at n None (except.Named pos label) = Alone n
 
 -- what a definition has in common with the others of its group
@@ -74,7 +74,7 @@ numbers_of passes n (g ∷ gs) = if passes g then n ∷ numbers_of passes (n + 1
 -- no exception
 abbrev pub is_none : Except → Bool
 is_none except.No = true
-is_none (except.Base pos) = false
+is_none (except.OnlyRoot pos) = false
 is_none (except.Named pos label) = false
 
 -- the groups that are no exceptions
@@ -90,7 +90,7 @@ only (n ∷ m ∷ ns) = None
 -- the group that an exception is one to: the only root, or the group with the label
 abbrev pub target_of : List Group → Except → Option ℕ
 target_of groups except.No = None
-target_of groups (except.Base pos) = only (roots_of groups)
+target_of groups (except.OnlyRoot pos) = only (roots_of groups)
 target_of groups (except.Named pos label) = only (numbers_of (λ g. same_key (Labelled label.text) g.key) 0 groups)
 
 -- group g in front, with the group that it excepts, where there is one

@@ -28,28 +28,28 @@ abbrev pub passed_input : (ℕ → Judged Value) → (ℕ → Target) → Pos �
 passed_input judged_at target_at place n [] = gives []
 passed_input judged_at target_at place n (decl ∷ decls) = in_front
     (if may_be_given decl.kind then giving (decided (target_at n) (judged_at n)) (passed (target_at n) place decl) else
-      gives None)
+    gives None)
     (passed_input judged_at target_at place (n + 1) decls)
 
 -- a called scope: its inputs and contexts are judged, and then it is run
 abbrev pub called_value : Scoped → List ℕ → Items → ℕ → ItemDecl → ℕ → Run Value
 called_value scoped before values item decl called =
     and_then (passed_input (λ n. judged scoped (call scoped values before) values [] (variable_of_called scoped item n))
-      (variable_of_called scoped item) decl.pos 0 (items_of scoped called))
+    (variable_of_called scoped item) decl.pos 0 (items_of scoped called))
     (λ input. and_then (scoped.runs called input) (λ outputs. gives (value.Structure outputs)))
 
 -- a function is passed over, and any other variable is judged
 abbrev pub defined_value : Scoped → List ℕ → Items → ℕ → ItemDecl → List Ty → Run (Option Value)
 defined_value scoped before values item decl [] = and_then
     (variable_value (variable scoped item) (Some decl)
-      (decided (variable scoped item) (judged scoped (call scoped values before) values [] (variable scoped item))))
+    (decided (variable scoped item) (judged scoped (call scoped values before) values [] (variable scoped item))))
     (λ v. gives (Some v))
 defined_value scoped before values item decl (t ∷ ts) = gives None
 
 -- a value that is not given: of a called scope its outputs, and otherwise what its definitions give
 abbrev pub ungiven_value : Scoped → List ℕ → Items → ℕ → ItemDecl → Kind → Run (Option Value)
 ungiven_value scoped before values item decl (kind.Called called) =
-  and_then (called_value scoped before values item decl called) (λ v. gives (Some v))
+    and_then (called_value scoped before values item decl called) (λ v. gives (Some v))
 ungiven_value scoped before values item decl _ = defined_value scoped before values item decl decl.params
 
 -- a given value stands as it is

@@ -67,7 +67,7 @@ or_else first other = and_then first (λ found. found_or found other)
 abbrev pub judge : {A : Type 0} → Target → List (ℕ × ℕ) → (ℕ → Judged A) → ℕ → ℕ → Judged A
 judge place pairs own zero group = stops Stuck
 judge place pairs own (suc n) group = or_else (settle place (map (judge place pairs own n) (excepting pairs group)))
-  (own group)
+    (own group)
 
 -- the place of the definition that holds
 abbrev pub place_in : {A : Type 0} → Option (Held A) → Option Pos
@@ -77,4 +77,4 @@ place_in (Some h) = Some h.pos
 -- a judging that ends Held or Empty is logged as it ends, behind all that was decided within
 abbrev pub decided : {A : Type 0} → Target → Judged A → Judged A
 decided target judged =
-  and_then judged (λ found. record { log = record { target = target; by = place_in found } ∷ []; end = Ok found })
+    and_then judged (λ found. record { log = record { target = target; by = place_in found } ∷ []; end = Ok found })

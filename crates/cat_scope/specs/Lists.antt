@@ -32,7 +32,7 @@ mapped of_each (v ∷ vs) = in_front (of_each v) (mapped of_each vs)
 abbrev pub filtered : (Value → Run Value) → List Value → Run (List Value)
 filtered of_each [] = gives []
 filtered of_each (v ∷ vs) =
-  and_then (of_each v) (λ t. choose t (in_front (gives v) (filtered of_each vs)) (filtered of_each vs))
+    and_then (of_each v) (λ t. choose t (in_front (gives v) (filtered of_each vs)) (filtered of_each vs))
 
 -- what comes of an element and what was combined before, one element after another
 abbrev pub combined : (Value → Value → Run Value) → List Value → Value → Run Value

@@ -86,4 +86,4 @@ abbrev pub inputs_given : ℕ → List ItemDecl → List ℕ → Bool
 inputs_given n [] fields = true
 inputs_given n (item ∷ items) fields =
     (if must_be_given item.kind && not item.condition then is_in n fields else true) && inputs_given (n + 1) items
-      fields
+    fields

@@ -66,15 +66,15 @@ operate r binary.DivideMoneyByDecimal p v w = on_two (money v) (decimal w) (λ a
 operate r binary.DivideMoneyByInteger p v w = on_two (money v) (integer w) (λ a n. exact p Money (rounded_ratio a n))
 operate r binary.DivideMoney p v w = on_two (money v) (money w) (λ a b. exact p Decimal (frac_of a b))
 operate r binary.AddDurationToDate p v w =
-  on_two (date v) (duration w) (λ day span. dated p Date (day_plus_span day span r))
+    on_two (date v) (duration w) (λ day span. dated p Date (day_plus_span day span r))
 operate r binary.SubtractDurationFromDate p v w =
-  on_two (date v) (duration w) (λ day span. dated p Date (day_plus_span day (span_negated span) r))
+    on_two (date v) (duration w) (λ day span. dated p Date (day_plus_span day (span_negated span) r))
 operate r binary.SubtractDates p v w = on_two (date v) (date w) (λ a b. Ok (Duration (span_of_days (a -ℤ b))))
 operate r binary.AddDurations p v w = on_two (duration v) (duration w) (λ a b. dated p Duration (span_sum a b))
 operate r binary.SubtractDurations p v w =
-  on_two (duration v) (duration w) (λ a b. dated p Duration (span_difference a b))
+    on_two (duration v) (duration w) (λ a b. dated p Duration (span_difference a b))
 operate r binary.MultiplyDurationByInteger p v w =
-  on_two (duration v) (integer w) (λ a n. dated p Duration (span_multiple a n))
+    on_two (duration v) (integer w) (λ a n. dated p Duration (span_multiple a n))
 operate r binary.Xor p v w = on_two (truth v) (truth w) (λ a b. Ok (Boolean (differ a b)))
 operate r binary.Less p v w = on_one (compared p v w) (λ o. Ok (Boolean (is_less o)))
 operate r binary.AtMost p v w = on_one (compared p v w) (λ o. Ok (Boolean (not (is_greater o))))

@@ -26,7 +26,7 @@ in_def named d = in_condition named d.condition ++ named d.consequence
 abbrev pub in_defs_of : (Expr → List ℕ) → ℕ → List Def → List ℕ
 in_defs_of named item [] = []
 in_defs_of named item (d ∷ ds) = if nat_eq d.target.item item then in_def named d ++ in_defs_of named item ds else
-  in_defs_of named item ds
+    in_defs_of named item ds
 
 -- for each item from number n on, what its definitions name
 abbrev pub dependencies_from : (Expr → List ℕ) → List Def → ℕ → List ItemDecl → List (List ℕ)
@@ -61,14 +61,14 @@ called_by_items (item ∷ items) = called_by_kind item.kind ++ called_by_items i
 abbrev pub called_in : List ItemDecl → List SourcePart → List Def → List Assertion → List ℕ
 called_in items [] defs assertions = []
 called_in items (part.Declaration ∷ parts) defs assertions =
-  called_by_items items ++ called_in items parts defs assertions
+    called_by_items items ++ called_in items parts defs assertions
 called_in items (part.Condition e ∷ parts) defs assertions = scopes_named e ++ called_in items parts defs assertions
 called_in items (part.Definition ∷ parts) [] assertions = called_in items parts [] assertions
 called_in items (part.Definition ∷ parts) (d ∷ defs) assertions =
-  in_def scopes_named d ++ called_in items parts defs assertions
+    in_def scopes_named d ++ called_in items parts defs assertions
 called_in items (part.Assertion ∷ parts) defs [] = called_in items parts defs []
 called_in items (part.Assertion ∷ parts) defs (a ∷ assertions) =
-  scopes_named a.condition ++ called_in items parts defs assertions
+    scopes_named a.condition ++ called_in items parts defs assertions
 
 -- the scopes that a scope calls, as they stand in its source
 abbrev pub calls_in : List ItemDecl → Body → List ℕ
@@ -84,4 +84,4 @@ abbrev pub scope_dependencies : List Scope → List Body → List (List ℕ)
 scope_dependencies [] bodies = []
 scope_dependencies (scope ∷ scopes) [] = []
 scope_dependencies (scope ∷ scopes) (body ∷ bodies) =
-  once [] (calls_in scope.items body) ∷ scope_dependencies scopes bodies
+    once [] (calls_in scope.items body) ∷ scope_dependencies scopes bodies

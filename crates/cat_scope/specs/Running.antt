@@ -46,14 +46,14 @@ no_values (item ∷ items) = None ∷ no_values items
 abbrev pub asserted : {A : Type 0} → (Expr → Run Value) → List Assertion → Run A → Run A
 asserted value [] last = last
 asserted value (a ∷ rest) last =
-  and_then (value a.condition) (λ t. choose t (asserted value rest last) (stops (Fault AssertionFailed a.keyword)))
+    and_then (value a.condition) (λ t. choose t (asserted value rest last) (stops (Fault AssertionFailed a.keyword)))
 
 -- the values of the outputs, in the order of their declarations
 abbrev pub outputs_of : List ItemDecl → Items → Result (List Value) Stop
 outputs_of [] values = Ok []
 outputs_of (item ∷ items) [] = Err Stuck
 outputs_of (item ∷ items) (v ∷ values) = if is_output item.kind then with_front (known v) (outputs_of items values) else
-  outputs_of items values
+    outputs_of items values
 
 -- numbers, the last of them first
 abbrev pub moved : List ℕ → List ℕ → List ℕ
@@ -69,7 +69,7 @@ abbrev pub run_scoped : Scoped → Items → Run (List Value)
 run_scoped scoped input =
     and_then (run_items scoped input [] (no_values scoped.items) scoped.body.order)
     (λ values. asserted (λ e. eval (env_of scoped (call scoped values (backwards scoped.body.order)) values) e [])
-      scoped.body.assertions (plain (outputs_of scoped.items values)))
+    scoped.body.assertions (plain (outputs_of scoped.items values)))
 
 -- the scope of that number, where it is declared and has a body
 abbrev pub run_scope : List Scope → Runs → ℕ → Option Scope → Option Body → Items → Run (List Value)

@@ -46,7 +46,7 @@ each_same _ _ = false
 
 -- a form beside another, where each part has its test
 abbrev pub same_in : Standing → Standing → Expr-F (Expr → Bool) (Arm → Bool) (FieldValue → Bool)
-  → Expr-F Expr Arm FieldValue → Bool
+    → Expr-F Expr Arm FieldValue → Bool
 same_in g h (Expr-F.Literal p l) (Expr-F.Literal q m) = same_literal l m
 same_in g h (Expr-F.Item p i) (Expr-F.Item q j) = nat_eq i j
 same_in g h (Expr-F.Output p i k) (Expr-F.Output q j m) = nat_eq i j && nat_eq k m
@@ -54,7 +54,7 @@ same_in g h (Expr-F.Local p k) (Expr-F.Local q m) = same_local g h k m
 same_in g h (Expr-F.Field p e k) (Expr-F.Field q f m) = nat_eq k m && e f
 same_in g h (Expr-F.Unary p o e) (Expr-F.Unary q u f) = nat_eq (unary_number o) (unary_number u) && e f
 same_in g h (Expr-F.Binary p o r a b) (Expr-F.Binary q u s c d) =
-  nat_eq (binary_number o) (binary_number u) && (a c && b d)
+    nat_eq (binary_number o) (binary_number u) && (a c && b d)
 same_in g h (Expr-F.And p a b) (Expr-F.And q c d) = a c && b d
 same_in g h (Expr-F.Or p a b) (Expr-F.Or q c d) = a c && b d
 same_in g h (Expr-F.If p t a b) (Expr-F.If q u c d) = t u && (a c && b d)
@@ -74,7 +74,7 @@ same_in g h (Expr-F.Length p l) (Expr-F.Length q m) = l m
 same_in g h (Expr-F.Sum p kind l) (Expr-F.Sum q other m) = nat_eq (sum_number kind) (sum_number other) && l m
 same_in g h (Expr-F.Call p i es) (Expr-F.Call q j fs) = nat_eq i j && each_same es fs
 same_in g h (Expr-F.ScopeCall p s fields k) (Expr-F.ScopeCall q t others m) =
-  nat_eq s t && (nat_eq k m && each_same fields others)
+    nat_eq s t && (nat_eq k m && each_same fields others)
 same_in g h _ _ = false
 
 -- an arm beside another
@@ -88,4 +88,4 @@ same_field f other = nat_eq f.field other.field && f.value other.value
 -- whether two expressions agree but for positions
 unfoldable pub same_tree : Standing → Standing → Expr → Expr → Bool
 same_tree g h = fold-Expr (Expr → Bool) (Arm → Bool) (FieldValue → Bool) (λ y f. same_in g h y (out-Expr f)) same_arm
-  same_field
+    same_field

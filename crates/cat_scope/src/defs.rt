@@ -16,7 +16,7 @@ pub struct Label {
 pub enum Except {
     No,
     /// A bare `exception`: to the only root of the target.
-    Base(Pos),
+    OnlyRoot(Pos),
     /// To the group with this label, the word after `exception`.
     Named(Pos, Label),
 }

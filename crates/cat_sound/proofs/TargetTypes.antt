@@ -201,7 +201,7 @@ passing-all passes n (g ∷ gs) =
 
 no_target : (groups : List Group) (e : Except) → IsTrue (is_none e) → target_of groups e ≡ None
 no_target groups except.No h = refl
-no_target groups (except.Base pos) h = absurd (true≢false (sym h))
+no_target groups (except.OnlyRoot pos) h = absurd (true≢false (sym h))
 no_target groups (except.Named pos label) h = absurd (true≢false (sym h))
 
 -- ---- judging groups and targets

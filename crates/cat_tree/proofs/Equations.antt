@@ -214,7 +214,8 @@ folded_ScopeCall p u fs w = search (
 )
 
 pub phrase_ScopeCall : (p : Pos) (u : Name) (fs : List FieldValue) (w : Name) → phrase (node.ScopeCall p u fs w) ≡ Row
-    (of_level 9) (pair_at pair.OutputOf p ▹ upper u ▹ «word» key.With ▹ sign symbol.LeftBrace ▹ fields (map field_row fs)
+    (of_level 9) (pair_at pair.OutputOf p ▹ upper u ▹ «word» key.With ▹ sign symbol.LeftBrace ▹ fields
+    (map field_row fs)
     (sign symbol.RightBrace ▹ sign symbol.Dot ▹ lower w ▹ End))
 phrase_ScopeCall p u fs w = folded_ScopeCall p u fs w
     ∙ ap (λ (xs : List (Name × Phrase)). Row (of_level 9) (pair_at pair.OutputOf p ▹ upper u ▹ «word» key.With ▹ sign

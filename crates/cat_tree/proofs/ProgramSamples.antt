@@ -110,7 +110,7 @@ a_definition_has_all_its_parts s l m x y a b c d p p1 p2 p3 p4 p5 p6 p7 p8 p9 q 
 
 -- scope S : exception definition x equals a
 an_exception_may_be_bare : (s x a : Name) (p p1 p2 p3 p4 : Pos)
-    → SpellsProgram (block_of p s (uses.Definition (record { label = None; exception = exception.Base p2 }) p3
+    → SpellsProgram (block_of p s (uses.Definition (record { label = None; exception = exception.OnlyRoot p2 }) p3
     (record { name = x; inner = None; params = [] }) None (local a)))
     («word» key.Scope p ∷ type s ∷ sign symbol.Colon p1 ∷ «word» key.Exception p2 ∷ «word» key.Definition p3 ∷ name x ∷
     «word» key.Equals p4 ∷ name a ∷ [])

@@ -44,9 +44,9 @@ kind_parts Context p = key_at key.Context p ▹ End
 kind_parts ContextOutput p = key_at key.Context p ▹ «word» key.Output ▹ End
 
 -- what a variable is: of a type, or a condition
-abbrev pub sort_parts : Option types.Type → Parts
-sort_parts None = «word» key.Condition ▹ End
-sort_parts (Some t) = «word» key.Content ▹ type_parts t End
+abbrev pub variable_type_parts : Option types.Type → Parts
+variable_type_parts None = «word» key.Condition ▹ End
+variable_type_parts (Some t) = «word» key.Content ▹ type_parts t End
 
 -- the parameters of a variable, where it has some
 abbrev pub params_parts : List FieldItem → Parts
@@ -55,5 +55,5 @@ params_parts (p ∷ more) = words pair.DependsOn ▹ with_commas typed_parts (p 
 
 -- a variable: of a kind, or a scope that is called
 abbrev pub variable_parts : Variable → Parts
-variable_parts (variable.Own k p w t params) = kind_parts k p ▸ lower w ▹ sort_parts t ▸ params_parts params
+variable_parts (variable.Own k p w t params) = kind_parts k p ▸ lower w ▹ variable_type_parts t ▸ params_parts params
 variable_parts (variable.Called w u) = lower w ▹ «word» key.Scope ▹ upper u ▹ End

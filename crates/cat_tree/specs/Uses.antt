@@ -28,7 +28,7 @@ label_parts (Some l) = key_at key.Label l.pos ▹ lower l.name ▹ End
 -- what it is an exception to: exception [w]
 abbrev pub exception_parts : Exception → Parts
 exception_parts exception.No = End
-exception_parts (exception.Base p) = key_at key.Exception p ▹ End
+exception_parts (exception.OnlyRoot p) = key_at key.Exception p ▹ End
 exception_parts (exception.Labelled p w) = key_at key.Exception p ▹ lower w ▹ End
 
 -- what stands before a definition or a rule
@@ -54,9 +54,9 @@ abbrev pub target_parts : TargetName → Parts
 target_parts t = lower t.name ▹ inner_parts t.inner ▸ names_parts t.params
 
 -- the condition of a definition or a rule, without its block's, and the word behind it
-abbrev pub guard_parts : Option Node → Parts
-guard_parts None = End
-guard_parts (Some e) = words pair.UnderCondition ▹ part 0 (phrase e) ▹ «word» key.Consequence ▹ End
+abbrev pub use_condition_parts : Option Node → Parts
+use_condition_parts None = End
+use_condition_parts (Some e) = words pair.UnderCondition ▹ part 0 (phrase e) ▹ «word» key.Consequence ▹ End
 
 -- what a rule says of the condition variable that it is for
 abbrev pub fulfilled_parts : Fulfilled → Parts
@@ -70,8 +70,10 @@ rounding_word false = key.Decreasing
 
 -- a line of a scope block
 abbrev pub use_parts : Use → Parts
-use_parts (uses.Definition l p t c e) = lead_parts l ▸ key_at key.Definition p ▹ target_parts t ▸ guard_parts c ▸ «word»
+use_parts (uses.Definition l p t c e) = lead_parts l ▸ key_at key.Definition p ▹ target_parts t ▸ use_condition_parts c
+    ▸ «word»
     key.Equals ▹ part 0 (phrase e) ▹ End
-use_parts (uses.Rule l p t c f) = lead_parts l ▸ key_at key.Rule p ▹ target_parts t ▸ guard_parts c ▸ fulfilled_parts f
+use_parts (uses.Rule l p t c f) = lead_parts l ▸ key_at key.Rule p ▹ target_parts t ▸ use_condition_parts c ▸
+    fulfilled_parts f
 use_parts (uses.Assertion p e) = key_at key.Assertion p ▹ part 0 (phrase e) ▹ End
 use_parts (uses.DateRound p up) = pair_at pair.DateRound p ▹ «word» (rounding_word up) ▹ End

@@ -43,7 +43,7 @@ pub enum Variable {
 pub enum Exception {
     No,
     /// The only root of the target; the position of the word `exception`.
-    Base(Pos),
+    OnlyRoot(Pos),
     /// The group with a label; the position of the word `exception`.
     Labelled(Pos, Name),
 }

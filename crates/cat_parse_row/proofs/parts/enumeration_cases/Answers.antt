@@ -11,7 +11,7 @@ pub loop-alloc-smaller : goal.loop-alloc-smaller
 loop-alloc-smaller c =
     smaller is_dashes a_case (one_and_more a_case is_dashes a_case) c.args.tokens.now c.args.at
     c.loop-alloc.place c.in_ok-item.item c.in_ok-item.next case_shrinks c.loop-alloc.invariant.within
-      c.in_ok-item.ensures
+    c.in_ok-item.ensures
 
 pub loop-alloc-preserved : goal.loop-alloc-preserved
 loop-alloc-preserved c =
@@ -36,7 +36,7 @@ loop-alloc-init c =
     (λ (made : List CaseItem). Stands is_dashes a_case whole c.args.tokens.now c.args.at c.in_ok-first.behind made)
     (sym made)
     (at_first is_dashes a_case c.args.tokens.now c.args.at a_case c.in_ok-first.first c.in_ok-first.behind
-      c.in_ok-first.ensures)
+    c.in_ok-first.ensures)
 
 pub returns-in_err-item : goal.returns-in_err-item
 returns-in_err-item c =

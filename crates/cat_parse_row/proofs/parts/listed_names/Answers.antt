@@ -11,7 +11,7 @@ pub loop-alloc-smaller : goal.loop-alloc-smaller
 loop-alloc-smaller c =
     smaller is_comma (comma lower) (one_and_more lower is_comma (comma lower)) c.args.tokens.now c.args.at
     c.loop-alloc.place c.in_ok-item.item c.in_ok-item.next name_shrinks c.loop-alloc.invariant.within
-      c.in_ok-item.ensures
+    c.in_ok-item.ensures
 
 pub loop-alloc-preserved : goal.loop-alloc-preserved
 loop-alloc-preserved c =

@@ -11,7 +11,7 @@ loop-alloc-smaller c =
     smaller is_comma (comma typed_name)
     (one_and_more typed_name is_comma (comma typed_name)) c.args.tokens.now c.args.at
     c.loop-alloc.place c.in_ok-item.item c.in_ok-item.next param_shrinks c.loop-alloc.invariant.within
-      c.in_ok-item.ensures
+    c.in_ok-item.ensures
 
 pub loop-alloc-preserved : goal.loop-alloc-preserved
 loop-alloc-preserved c =
@@ -39,7 +39,7 @@ loop-alloc-init c =
     (sym made)
     (at_first is_comma
     (comma typed_name) c.args.tokens.now c.args.at typed_name c.in_ok-first.first c.in_ok-first.behind
-      c.in_ok-first.ensures)
+    c.in_ok-first.ensures)
 
 pub returns-in_err-item : goal.returns-in_err-item
 returns-in_err-item c =

@@ -10,7 +10,7 @@ pub loop-alloc-smaller : goal.loop-alloc-smaller
 loop-alloc-smaller c =
     smaller (is_word key.Data) field (one_and_more field (is_word key.Data) field) c.args.tokens.now c.args.at
     c.loop-alloc.place c.in_ok-item.item c.in_ok-item.next field_shrinks c.loop-alloc.invariant.within
-      c.in_ok-item.ensures
+    c.in_ok-item.ensures
 
 pub loop-alloc-preserved : goal.loop-alloc-preserved
 loop-alloc-preserved c =

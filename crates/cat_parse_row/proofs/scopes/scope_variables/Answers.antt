@@ -12,7 +12,7 @@ pub loop-alloc-smaller : goal.loop-alloc-smaller
 loop-alloc-smaller c =
     smaller is_variable a_variable (many is_variable a_variable) c.args.tokens.now c.args.at
     c.loop-alloc.place c.in_ok-variable.variable c.in_ok-variable.next variable_shrinks c.loop-alloc.invariant.within
-      c.in_ok-variable.ensures
+    c.in_ok-variable.ensures
 
 pub loop-alloc-preserved : goal.loop-alloc-preserved
 loop-alloc-preserved c =
@@ -20,7 +20,7 @@ loop-alloc-preserved c =
     let whole = many is_variable a_variable in
     subst
     (λ (made : List Variable). Stands is_variable a_variable whole c.args.tokens.now c.args.at c.in_ok-variable.next
-      made)
+    made)
     (sym c.in_ok-push.ensures.ok)
     (further is_variable a_variable whole c.args.tokens.now c.args.at l.place l.variables c.in_ok-variable.variable
     c.in_ok-variable.next variable_shrinks

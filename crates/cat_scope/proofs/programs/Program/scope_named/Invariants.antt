@@ -4,4 +4,4 @@ use Rattle.cat_scope.proofs.programs.Program.scope_named.Given as goal
 
 abbrev pub invariant-loop-number : goal.invariant-loop-number
 invariant-loop-number l = number_named l.name l.number (drop l.number l.self.decls.scopes) ≡ number_named l.name 0
-  l.self.decls.scopes
+    l.self.decls.scopes
