@@ -16,7 +16,7 @@ use Rattle.cat_app.specs.Words.{Request, request_of}
 use Rattle.cat_app.specs.Asked.{IsFile, IsExtra, IsAccepted, IsReadNow}
 use Rattle.cat_app.specs.Answers.{IsOutcome, refusal_line, line, status_of}
 use Rattle.cat_app.specs.Table.{MayAnswer, MayReply}
-use Rattle.cat_app.specs.Says.{Says, SaysFault, SaysOutcome, MaySay}
+use Rattle.cat_app.specs.inside.Says.{Says, SaysFault, SaysOutcome, MaySay}
 use Rattle.cat_app.specs.declared.reply.Reply.{Reply}
 use Rattle.cat_app.specs.declared.status.Status.{Status}
 use Rattle.cat_app.specs.declared.status.Status.TheVariants.{Source, Input, Usage}

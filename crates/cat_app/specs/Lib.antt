@@ -6,5 +6,5 @@ pub mod Words
 pub mod Status
 -- what follows from it
 pub mod Complete
--- what the code says on the way
-pub mod Says
+-- what the code keeps on its way: no public clause cites it
+pub mod inside

@@ -6,7 +6,7 @@ ghost use Rattle.cat_thin_scope.specs.Given.{IsGivenBy};
 ghost use Rattle.cat_app.specs.Answers.{line, refusal_line, status_of};
 ghost use Rattle.cat_app.specs.Asked.{IsFile, IsAccepted};
 ghost use Rattle.cat_app.specs.Table.{MayReply};
-ghost use Rattle.cat_app.specs.Says.{asked_of, Says, SaysFault, SaysOutcome, MaySay};
+ghost use Rattle.cat_app.specs.inside.Says.{asked_of, Says, SaysFault, SaysOutcome, MaySay};
 
 use crate::Status;
 use crate::request::{RunWords, read_words};

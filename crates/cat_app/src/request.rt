@@ -2,7 +2,7 @@
 ghost use Rattle.std.specs.Prelude.{◌≡◌, option_map};
 ghost use Rattle.cat_io.specs.Stored.{texts_of};
 ghost use Rattle.cat_app.specs.Words.{request_of};
-ghost use Rattle.cat_app.specs.Says.{asked_of};
+ghost use Rattle.cat_app.specs.inside.Says.{asked_of};
 ghost use Rattle.cat_app.specs.Words as spec;
 
 /// A run of a scope, with the names of the source and of the input.

@@ -1,4 +1,4 @@
 pub mod Gathered
 pub mod Causes
--- what the code keeps while it gathers: no public clause cites it
+-- what the code keeps on its way: no public clause cites it
 pub mod inside

@@ -7,7 +7,7 @@ use Rattle.std.specs.List.{list_all, concat}
 use Rattle.std.proofs.lemmas.Bool.Decides.{nat_tests}
 use Rattle.cat_lex.specs.declared.form.Form.TheVariants.{Amount}
 use Rattle.cat_lex.specs.Forms.{AreDigits, after_point, after_comma, is_group, IsAmount}
-use Rattle.cat_lex.specs.Reading.{skip, begins, is_pointed, skip_groups, skip_cents, amount_read}
+use Rattle.cat_lex.specs.inside.Reading.{skip, begins, is_pointed, skip_groups, skip_cents, amount_read}
 use Rattle.cat_lex.proofs.Skips.{and_left, and_right, not_true, skip-append, skip_stops, skip_run, skip_same_or_shorter}
 use Rattle.cat_lex.proofs.Skips.{run_some}
 use Rattle.cat_lex.proofs.Goes.{Goes, Reaches}

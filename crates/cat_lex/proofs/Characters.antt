@@ -11,7 +11,7 @@ use Rattle.std.proofs.Math.Seq.{take-append_seam}
 use Rattle.unicode_ident.specs.Ident.{is_xid_start, is_xid_continue}
 use Rattle.unicode_ident.proofs.IdentLemmas.{is_xid_start-ascii, is_xid_continue-ascii}
 use Rattle.cat_lex.specs.Gaps.{is_white_space}
-use Rattle.cat_lex.specs.Reading.{skip, after, front_of}
+use Rattle.cat_lex.specs.inside.Reading.{skip, after, front_of}
 use Rattle.cat_lex.proofs.Skips.{and_left, and_right, and_true, skip_run}
 
 abbrev pub bytes_of : List ℕ → List ℕ

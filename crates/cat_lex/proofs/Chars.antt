@@ -7,7 +7,7 @@ use Rattle.std.specs.Str.{encode_utf8_all, chars, IsUtf8, IsCharBoundary}
 use Rattle.std.proofs.lemmas.Str.{chars-nil, chars_past_char, encodes-chars, encodes-append, length-encode}
 use Rattle.std.proofs.lemmas.Str.{len_utf8_bounds, IsCharBoundary-at_seam}
 use Rattle.std.proofs.lemmas.List.{length-append}
-use Rattle.cat_lex.specs.Reading.{skip, after, word_read}
+use Rattle.cat_lex.specs.inside.Reading.{skip, after, word_read}
 
 pub after_none : (p : ℕ → Bool) (text : List ℕ) → text ≡ [] → after p text ≡ text
 after_none p text none = rw none (rw chars-nil refl)

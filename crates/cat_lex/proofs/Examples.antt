@@ -16,7 +16,7 @@ use Rattle.cat_lex.specs.Words.{double_keywords, symbols}
 use Rattle.cat_lex.specs.Values.{token_of}
 use Rattle.cat_lex.specs.Gaps.{IsGap, IsLastGap, begins_gap}
 use Rattle.cat_lex.specs.Lexes.{BeginsNoToken}
-use Rattle.cat_lex.specs.Reading.{read}
+use Rattle.cat_lex.specs.inside.Reading.{read}
 use Rattle.cat_lex.proofs.Fronts.{IsFront, read_longest, read_none}
 
 -- `unfolding computing` lets `refl` compute what is read in front of a text

@@ -8,8 +8,8 @@ use Rattle.cat_lex.specs.declared.token.TokenKind.{TokenKind}
 use Rattle.cat_lex.specs.Forms.{IsLongest}
 use Rattle.cat_lex.specs.Values.{token_of}
 use Rattle.cat_lex.specs.Lexes.{PassesBound}
-use Rattle.cat_lex.specs.Steps.{IsFirst}
-use Rattle.cat_lex.specs.Reading.{read}
+use Rattle.cat_lex.specs.inside.Steps.{IsFirst}
+use Rattle.cat_lex.specs.inside.Reading.{read}
 use Rattle.cat_lex.proofs.Fronts.{read_longest}
 use Rattle.cat_lex.proofs.Spelled.{rest_utf8}
 use Rattle.cat_lex.proofs.Sequences.{cancel_right}

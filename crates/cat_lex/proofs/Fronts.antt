@@ -7,7 +7,7 @@ use Rattle.std.proofs.lemmas.List.{length-append}
 use Rattle.cat_lex.specs.declared.form.Form.{Form}
 use Rattle.cat_lex.specs.Forms.{HasForm, IsLongest}
 use Rattle.cat_lex.specs.Lexes.{BeginsNoToken}
-use Rattle.cat_lex.specs.Reading.{read}
+use Rattle.cat_lex.specs.inside.Reading.{read}
 use Rattle.cat_lex.proofs.Goes.{Goes, Reaches}
 use Rattle.cat_lex.proofs.NumberForms.{IsRead}
 use Rattle.cat_lex.proofs.MarkForms.{IsSound}

@@ -8,7 +8,7 @@ use Rattle.std.proofs.lemmas.Str.{IsUtf8-drop, IsCharBoundary-after_ascii, IsUtf
 use Rattle.std.proofs.Math.Seq.{drop-append-add, get_or-append_seam}
 use Rattle.cat_pos.specs.Position.{is_line_feed}
 use Rattle.cat_lex.specs.Gaps.{is_white_space, begins_comment, is_gap, begins_gap}
-use Rattle.cat_lex.specs.Reading.{skip_gap}
+use Rattle.cat_lex.specs.inside.Reading.{skip_gap}
 use Rattle.cat_lex.proofs.Skips.{and_left, and_right, and_true, not_true}
 
 -- the gap, and what follows them
@@ -167,7 +167,8 @@ end_of true [] = inl refl
 end_of false [] = inl refl
 end_of true (byte ∷ bytes) = end_more byte (not (is_line_feed byte)) true bytes
     (skip_gap (not (is_line_feed byte)) bytes) (feed_low byte) (end_of (not (is_line_feed byte)) bytes)
-end_of false (byte ∷ bytes) = end_by byte bytes (is_white_space byte) (begins_comment byte bytes) refl (end_of false bytes)
+end_of false (byte ∷ bytes) = end_by byte bytes (is_white_space byte) (begins_comment byte bytes) refl
+    (end_of false bytes)
     (end_of true bytes)
 
 utf8_low : (text rest : List ℕ) → IsUtf8 text → EndsLow text rest → IsUtf8 rest

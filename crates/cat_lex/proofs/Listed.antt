@@ -6,7 +6,7 @@ use Rattle.std.specs.List.{list_all}
 use Rattle.std.proofs.lemmas.Slice.Eq.{bytes_eq-Decides}
 use Rattle.cat_lex.specs.Gaps.{is_white_space}
 use Rattle.cat_lex.specs.Words.{look_up, look_up_pair, symbols, double_keywords}
-use Rattle.cat_lex.specs.Reading.{is_word_byte}
+use Rattle.cat_lex.specs.inside.Reading.{is_word_byte}
 use Rattle.cat_lex.proofs.Skips.{and_left, and_right}
 
 abbrev pub fit : {K : Type 0} → (List ℕ → Bool) → List (List ℕ × K) → Bool
@@ -49,7 +49,8 @@ found_pair P (entry ∷ entries) first second k all h =
 
 -- a byte that begins nothing but a symbol
 abbrev pub is_mark_byte : ℕ → Bool
-is_mark_byte c = not (is_word_byte c) && not (is_ascii_digit c) && not (c == 36) && not (c == 124) && not (is_white_space c)
+is_mark_byte c = not (is_word_byte c) && not (is_ascii_digit c) && not (c == 36) && not (c == 124)
+    && not (is_white_space c)
     && not (c == 35)
 
 abbrev pub is_mark_text : List ℕ → Bool

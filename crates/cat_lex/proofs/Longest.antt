@@ -13,8 +13,9 @@ use Rattle.cat_lex.specs.declared.form.Form.{Form}
 use Rattle.cat_lex.specs.declared.form.Form.TheVariants.{TypeWord, Word, Pair, Whole, Decimal, Percent, Amount, Date}
 use Rattle.cat_lex.specs.declared.form.Form.TheVariants.{Mark}
 use Rattle.cat_lex.specs.Forms.{AreDigits, IsWord, begins_name, HasForm}
-use Rattle.cat_lex.specs.Reading.{begins, skip, skip_groups, skip_cents, number_read, amount_read, date_read, mark_read}
-use Rattle.cat_lex.specs.Reading.{word_read, is_word_byte, read}
+use Rattle.cat_lex.specs.inside.Reading.{begins, skip, skip_groups, skip_cents, number_read, amount_read, date_read}
+use Rattle.cat_lex.specs.inside.Reading.{mark_read}
+use Rattle.cat_lex.specs.inside.Reading.{word_read, is_word_byte, read}
 use Rattle.cat_lex.proofs.Skips.{and_left, and_right}
 use Rattle.cat_lex.proofs.Goes.{Goes, Reaches}
 use Rattle.cat_lex.proofs.NumberForms.{whole_read, decimal_read, percent_read, number_sound}

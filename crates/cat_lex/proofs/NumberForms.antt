@@ -9,7 +9,8 @@ use Rattle.cat_lex.specs.declared.form.Form.{Form}
 use Rattle.cat_lex.specs.declared.form.Form.TheVariants.{Whole, Decimal, Percent}
 use Rattle.cat_pos.specs.Bytes.{is_blank}
 use Rattle.cat_lex.specs.Forms.{AreDigits, after_point, IsDecimal, IsPercent, HasForm}
-use Rattle.cat_lex.specs.Reading.{skip, begins, is_pointed, skip_places, is_percent_sign, number_after, number_read}
+use Rattle.cat_lex.specs.inside.Reading.{skip, begins, is_pointed, skip_places, is_percent_sign, number_after}
+use Rattle.cat_lex.specs.inside.Reading.{number_read}
 use Rattle.cat_lex.proofs.Skips.{and_left, and_right, skip-append, skip_stays, skip_stops, skip_run, skip_le}
 use Rattle.cat_lex.proofs.Skips.{skip_same_or_shorter, run_some, IsRun}
 use Rattle.cat_lex.proofs.Goes.{Goes, goes_on}

@@ -14,7 +14,7 @@ use Rattle.cat_lex.specs.declared.form.Form.TheVariants.{Pair}
 use Rattle.cat_lex.specs.Gaps.{is_white_space}
 use Rattle.cat_lex.specs.Words.{double_keyword_of, double_keywords}
 use Rattle.cat_lex.specs.Forms.{begins_name, IsWhole, IsPair}
-use Rattle.cat_lex.specs.Reading.{skip, begins, after, front_of, pair_read, word_read, is_word_byte}
+use Rattle.cat_lex.specs.inside.Reading.{skip, begins, after, front_of, pair_read, word_read, is_word_byte}
 use Rattle.cat_lex.proofs.Skips.{and_left, and_right, and_true, all_append, skip-append, skip_stays}
 use Rattle.cat_lex.proofs.Listed.{found_pair, is_small_word, double_keywords_fit}
 use Rattle.cat_lex.proofs.Goes.{Reaches}

@@ -11,8 +11,8 @@ use Rattle.cat_lex.specs.declared.refusal.LexRefusal.TheVariants.{NoToken, Liter
 use Rattle.cat_lex.specs.Positions.{position_after}
 use Rattle.cat_lex.specs.Gaps.{IsLastGap, begins_gap}
 use Rattle.cat_lex.specs.Lexes.{IsToken, AreTokens, IsPieceOf, Lexes, HasCause}
-use Rattle.cat_lex.specs.Steps.{AddsPiece, IsAfterGap, IsFirst, HasCauseIn}
-use Rattle.cat_lex.specs.Reading.{skip_gap}
+use Rattle.cat_lex.specs.inside.Steps.{AddsPiece, IsAfterGap, IsFirst, HasCauseIn}
+use Rattle.cat_lex.specs.inside.Reading.{skip_gap}
 use Rattle.cat_lex.proofs.GapLemmas.{gap_of, gap_stops, gap_skipped, gap_utf8}
 use Rattle.cat_lex.proofs.Skips.{not_true}
 use Rattle.cat_lex.proofs.Spelled.{word_some, rest_utf8}

@@ -12,7 +12,7 @@ use Rattle.cat_lex.specs.Gaps.{IsLastGap}
 use Rattle.cat_lex.specs.Values.{token_of}
 use Rattle.cat_lex.specs.Lexes.{IsToken, AreTokens, IsPieceOf, Lexes, BeginsNoToken, PassesBound, FailsIn, FailsAt}
 use Rattle.cat_lex.specs.Lexes.{HasCause}
-use Rattle.cat_lex.specs.Reading.{skip_gap}
+use Rattle.cat_lex.specs.inside.Reading.{skip_gap}
 use Rattle.cat_lex.proofs.GapLemmas.{gap_skipped, last_skipped}
 use Rattle.cat_lex.proofs.Sequences.{skipped_to, token_utf8, tokens_utf8, one_token, GoesOn, goes_on, no_more}
 

@@ -14,7 +14,7 @@ use Rattle.cat_lex.specs.Gaps.{IsGap, IsLastGap}
 use Rattle.cat_lex.specs.Forms.{HasForm, IsLongest}
 use Rattle.cat_lex.specs.Values.{token_of}
 use Rattle.cat_lex.specs.Lexes.{IsToken, left_after, AreTokens, IsPieceOf, Lexes}
-use Rattle.cat_lex.specs.Reading.{read, skip_gap}
+use Rattle.cat_lex.specs.inside.Reading.{read, skip_gap}
 use Rattle.cat_lex.proofs.GapLemmas.{gap_skipped, last_skipped, gap_utf8}
 use Rattle.cat_lex.proofs.Spelled.{rest_utf8, token_no_gap, token_some}
 use Rattle.cat_lex.proofs.Fronts.{longest_read}

@@ -14,7 +14,7 @@ use Rattle.cat_lex.specs.Gaps.{is_white_space, begins_comment, begins_gap}
 use Rattle.cat_lex.specs.Words.{symbols}
 use Rattle.cat_pos.specs.Bytes.{is_blank}
 use Rattle.cat_lex.specs.Forms.{AreDigits, after_point, after_comma, is_group, IsWord, begins_name, HasForm}
-use Rattle.cat_lex.specs.Reading.{begins, is_word_byte}
+use Rattle.cat_lex.specs.inside.Reading.{begins, is_word_byte}
 use Rattle.cat_lex.proofs.Skips.{and_left, and_right, and_true, all_append}
 use Rattle.cat_lex.proofs.Listed.{fit, found, is_mark_byte, is_mark_text}
 use Rattle.cat_lex.proofs.MarkForms.{mark_shape, head_bar}

@@ -14,7 +14,7 @@ use Rattle.cat_lex.specs.declared.form.Form.TheVariants.{TypeWord, Word}
 use Rattle.cat_lex.specs.Gaps.{is_white_space}
 use Rattle.cat_lex.specs.Words.{double_keyword_of}
 use Rattle.cat_lex.specs.Forms.{begins_name}
-use Rattle.cat_lex.specs.Reading.{skip, begins, after, front_of, pair_or, pair_read, begin_word, word_read}
+use Rattle.cat_lex.specs.inside.Reading.{skip, begins, after, front_of, pair_or, pair_read, begin_word, word_read}
 use Rattle.cat_lex.proofs.Skips.{and_left, and_right, not_true, skip_pass, skip-append, skip_stops}
 use Rattle.cat_lex.proofs.Goes.{Goes, Reaches, goes_on}
 use Rattle.cat_lex.proofs.Characters.{bytes_of, scalars_append, scalars_skip, after_chars, skip_near, near_le}
@@ -63,7 +63,8 @@ pair_cond text rest true h l = rw h
 
 pair_goes_word : (text rs : List ℕ) → all_scalars rs ≡ true → Goes Word (bytes_of rs) (pair_read text (bytes_of rs))
 pair_goes_word text rs h =
-    let one : after is_white_space (bytes_of rs) ≡ bytes_of (skip is_white_space rs) = after_chars is_white_space rs h in
+    let one : after is_white_space (bytes_of rs) ≡ bytes_of (skip is_white_space rs) =
+    after_chars is_white_space rs h in
     let more : all_scalars (skip is_white_space rs) ≡ true = scalars_skip is_white_space rs h in
     let two : after is_xid_continue (after is_white_space (bytes_of rs)) ≡ bytes_of
     (skip is_xid_continue (skip is_white_space rs)) =

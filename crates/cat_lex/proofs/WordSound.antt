@@ -14,7 +14,7 @@ use Rattle.cat_lex.specs.declared.form.Form.TheVariants.{TypeWord, Word, Pair}
 use Rattle.cat_lex.specs.Gaps.{is_white_space}
 use Rattle.cat_lex.specs.Words.{double_keyword_of}
 use Rattle.cat_lex.specs.Forms.{begins_name, IsWhole}
-use Rattle.cat_lex.specs.Reading.{skip, begins, after, front_of, pair_or, pair_read, begin_word, word_read}
+use Rattle.cat_lex.specs.inside.Reading.{skip, begins, after, front_of, pair_or, pair_read, begin_word, word_read}
 use Rattle.cat_lex.proofs.Skips.{and_true, not_true, skip_pass, skip_stops, skip_run, run_some}
 use Rattle.cat_lex.proofs.Characters.{bytes_of, scalars_append, scalars_skip, after_chars, ascii_chars, weaken}
 use Rattle.cat_lex.proofs.Characters.{blank_ascii, capital_continues, front_is}
@@ -83,14 +83,17 @@ pair_option c run rs n begun (Some keyword) listed =
     ascii_chars spaces.run (weaken is_white_space (λ c. ltb c 128) blank_ascii spaces.run spaces.passes) in
     let rest_is : bytes_of rs ≡ spaces.run ++ bytes_of (skip is_white_space rs) =
     ap (λ (w : List ℕ). bytes_of w) spaces.split
-    ∙ (encodes-append spaces.run (skip is_white_space rs) ∙ ap (λ (w : List ℕ). w ++ bytes_of (skip is_white_space rs)) ascii) in
+    ∙ (encodes-append spaces.run (skip is_white_space rs) ∙ ap (λ (w : List ℕ). w ++ bytes_of (skip is_white_space rs))
+    ascii) in
     let second_is : bytes_of (skip is_white_space rs) ≡ bytes_of last.run
     ++ bytes_of (skip is_xid_continue (skip is_white_space rs)) =
-    ap (λ (w : List ℕ). bytes_of w) last.split ∙ encodes-append last.run (skip is_xid_continue (skip is_white_space rs)) in
+    ap (λ (w : List ℕ). bytes_of w) last.split ∙ encodes-append last.run (skip is_xid_continue (skip is_white_space rs))
+    in
     pair_found keyword (bytes_of ((c ∷ run) ++ rs)) (bytes_of rs) (bytes_of (skip is_white_space rs))
     (bytes_of (skip is_xid_continue (skip is_white_space rs))) (bytes_of (c ∷ run)) spaces.run (bytes_of last.run)
     listed (encodes-append (c ∷ run) rs) rest_is second_is spaces.passes begun
-    (stops_bytes (skip is_white_space rs) (begins is_white_space (bytes_of (skip is_white_space rs))) refl (skip_stops is_white_space rs))
+    (stops_bytes (skip is_white_space rs) (begins is_white_space (bytes_of (skip is_white_space rs))) refl
+    (skip_stops is_white_space rs))
     (whole_end (skip is_xid_continue (skip is_white_space rs)) (skip_stops is_xid_continue (skip is_white_space rs)))
 
 abbrev IsFound : List ℕ → Form × List ℕ → Type 0
@@ -107,8 +110,10 @@ pair_bool c run rs n true begun = pair_option c run rs n begun _ refl
 pair_sound : (c : ℕ) (run rs : List ℕ) → IsNamed c run rs → IsFound (bytes_of ((c ∷ run) ++ rs))
     (pair_read (bytes_of ((c ∷ run) ++ rs)) (bytes_of rs))
 pair_sound c run rs n =
-    let one : after is_white_space (bytes_of rs) ≡ bytes_of (skip is_white_space rs) = after_chars is_white_space rs n.scalars in
-    let two : after is_xid_continue (bytes_of (skip is_white_space rs)) ≡ bytes_of (skip is_xid_continue (skip is_white_space rs)) =
+    let one : after is_white_space (bytes_of rs) ≡ bytes_of (skip is_white_space rs) =
+    after_chars is_white_space rs n.scalars in
+    let two : after is_xid_continue (bytes_of (skip is_white_space rs)) ≡ bytes_of
+    (skip is_xid_continue (skip is_white_space rs)) =
     after_chars is_xid_continue (skip is_white_space rs) (scalars_skip is_white_space rs n.scalars) in
     rw one (rw two (pair_bool c run rs n (begins is_white_space (bytes_of rs)) refl))
 

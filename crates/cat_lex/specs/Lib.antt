@@ -5,7 +5,5 @@ pub mod Positions
 pub mod Forms
 pub mod Values
 pub mod Words
--- what the scanner reads
-pub mod Reading
-pub mod Steps
-pub mod Tables
+-- what the code keeps on its way: no public clause cites it
+pub mod inside

@@ -4,7 +4,7 @@ ghost use Rattle.std.specs.Str.{IsUtf8};
 ghost use Rattle.cat_lex.specs.Positions.{position_after};
 ghost use Rattle.cat_pos.specs.Readable.{AreReadable, IsReadable};
 ghost use Rattle.cat_lex.specs.Lexes.{Lexes, HasCause};
-ghost use Rattle.cat_lex.specs.Steps.{AddsPiece, IsAfterGap, IsFirst, HasCauseAt, HasCauseIn};
+ghost use Rattle.cat_lex.specs.inside.Steps.{AddsPiece, IsAfterGap, IsFirst, HasCauseAt, HasCauseIn};
 
 use crate::reader::read;
 use crate::skip::skip_gap;

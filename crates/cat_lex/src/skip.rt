@@ -5,7 +5,7 @@ ghost use Rattle.std.specs.Str.{chars};
 ghost use Rattle.unicode_ident.specs.Ident.{is_xid_continue};
 ghost use Rattle.cat_lex.specs.Gaps.{is_white_space};
 ghost use Rattle.cat_pos.specs.Bytes.{is_blank};
-ghost use Rattle.cat_lex.specs.Reading.{skip, after, skip_gap};
+ghost use Rattle.cat_lex.specs.inside.Reading.{skip, after, skip_gap};
 
 use cat_pos::is_blank;
 use unicode_ident::is_xid_continue;

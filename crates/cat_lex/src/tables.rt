@@ -1,7 +1,7 @@
 //! The spellings of keywords, double keywords and symbols, and their look-up.
 ghost use Rattle.std.specs.Prelude.{◌≡◌};
 ghost use Rattle.cat_lex.specs.Words.{look_up, look_up_pair, keyword_of, double_keyword_of, symbol_of};
-ghost use Rattle.cat_lex.specs.Tables.{spelled, spelled_pairs};
+ghost use Rattle.cat_lex.specs.inside.Tables.{spelled, spelled_pairs};
 
 use crate::{DoubleKeyword, Keyword, Symbol};
 

@@ -8,7 +8,7 @@ use Rattle.std.proofs.lemmas.List.{take_more, take-append-drop, get_or_past, get
 use Rattle.std.proofs.lemmas.Bool.{cases_eq, cases_lt}
 use Rattle.std.proofs.Math.Logic.{⊎_elim}
 use Rattle.cat_order.specs.Order.{times, is_listed}
-use Rattle.cat_order.specs.Steps.{missing, left_out}
+use Rattle.cat_order.specs.inside.Steps.{missing, left_out}
 
 pub times-append : (xs ys : List ℕ) (item : ℕ) → times (xs ++ ys) item ≡ times xs item + times ys item
 times-append [] ys item = omega arith

@@ -6,7 +6,7 @@ use Rattle.std.proofs.lemmas.Bool.{cases_eq}
 use Rattle.std.proofs.lemmas.Bool.Decides.{nat_tests}
 use Rattle.std.proofs.lemmas.List.Elements.{All-head, All-tail, All-get_or}
 use Rattle.cat_order.specs.Order.{dependencies_of, times, IsOrder, AreItems}
-use Rattle.cat_order.specs.Steps.{missing, any_waiting, HasStopped}
+use Rattle.cat_order.specs.inside.Steps.{missing, any_waiting, HasStopped}
 use Rattle.cat_order.proofs.Counts.{none_left_of_listed, within_of_positive}
 use Rattle.cat_order.proofs.Fronts.{IsFront-of_IsInOrder, IsOrder-of_IsFront, is_ready-counts}
 

@@ -9,7 +9,7 @@ use Rattle.std.proofs.lemmas.List.{length_push}
 use Rattle.std.proofs.Math.Nat.{le_refl}
 use Rattle.std.proofs.Math.Logic.{⊎_elim}
 use Rattle.cat_order.specs.Order.{dependencies_of, times, is_ready, IsNext, IsInOrder, IsOrder}
-use Rattle.cat_order.specs.Steps.{missing, left_out}
+use Rattle.cat_order.specs.inside.Steps.{missing, left_out}
 use Rattle.cat_order.proofs.Counts.{times_push, times_push_other, missing_more, list_all-missing, left_out_more}
 use Rattle.cat_order.proofs.Counts.{left_out_none, listed_of_none_left}
 

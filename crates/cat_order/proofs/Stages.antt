@@ -8,7 +8,7 @@ use Rattle.std.proofs.lemmas.Bool.{cases_eq, cases_lt, false_from_ne_true, ne_eq
 use Rattle.std.proofs.lemmas.Bool.Decides.{nat_tests}
 use Rattle.std.proofs.lemmas.List.{get_or_past, get_or-map, length-map}
 use Rattle.cat_order.specs.Order.{dependencies_of, times, is_listed, is_ready, IsNext}
-use Rattle.cat_order.specs.Steps.{missing, dependents_of, AreDependents}
+use Rattle.cat_order.specs.inside.Steps.{missing, dependents_of, AreDependents}
 use Rattle.cat_order.proofs.Counts.{times_push_same, times_push_other, missing_more, missing_all}
 use Rattle.cat_order.proofs.Fronts.{IsFront, IsFront-none, IsFront-push, Ready, Ready-of_is_ready, is_ready-counts}
 
@@ -131,7 +131,8 @@ module _ (deps dependents : List (List ℕ)) (listed unmet left : List ℕ) (rea
 
 -- where nothing is listed yet
 pub first_stage : (deps : List (List ℕ)) (unmet : List ℕ) (ready : ℕ → Bool) → unmet ≡ map length deps
-    → ((item : ℕ) → ready item ≡ (nat_lt item (length unmet) && (get_or unmet item 0 == 0))) → IsStage deps [] unmet ready
+    → ((item : ℕ) → ready item ≡ (nat_lt item (length unmet) && (get_or unmet item 0 == 0)))
+    → IsStage deps [] unmet ready
 first_stage deps unmet ready lengths exactly =
     let one_each : length unmet ≡ length deps = ap length lengths ∙ length-map deps length in
     let counts : (item : ℕ) → item < length deps → get_or unmet item 0 ≡ missing [] (dependencies_of deps item) =

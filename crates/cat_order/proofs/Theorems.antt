@@ -10,7 +10,7 @@ use Rattle.std.proofs.lemmas.List.{take_more, take_all, get_or_past}
 use Rattle.std.proofs.Math.Nat.{le_refl}
 use Rattle.std.proofs.Math.Logic.{⊎_elim}
 use Rattle.cat_order.specs.Order.{dependencies_of, times, is_listed, is_ready, IsNext, IsInOrder, IsOrder}
-use Rattle.cat_order.specs.Steps.{left_out}
+use Rattle.cat_order.specs.inside.Steps.{left_out}
 use Rattle.cat_order.specs.Computed.{first_below, order_from, order_of}
 use Rattle.cat_order.specs.Cycle.{DependsOn, IsPath, IsOnCycle}
 use Rattle.cat_order.proofs.Counts.{times_at, times_push_other, listed_of_none_missing, left_out_more, left_out_none}

@@ -2,5 +2,5 @@ pub mod Order
 pub mod Computed
 pub mod Cycle
 pub mod Cause
--- what the private steps of the call say
-pub mod Steps
+-- what the code keeps on its way: no public clause cites it
+pub mod inside

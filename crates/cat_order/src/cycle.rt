@@ -1,7 +1,7 @@
 // Finds an item on a cycle, from an item that waits for another.
 ghost use Rattle.std.specs.Prelude.{◌≡◌, ◌<◌, ℕ, IsTrue, length, slice_index, All, IfOk};
 ghost use Rattle.cat_order.specs.Order.{AreItems, dependencies_of, is_listed};
-ghost use Rattle.cat_order.specs.Steps.{any_waiting};
+ghost use Rattle.cat_order.specs.inside.Steps.{any_waiting};
 ghost use Rattle.cat_order.specs.Cycle.{IsOnCycle};
 
 use cat_pos::Numbers;

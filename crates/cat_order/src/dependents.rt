@@ -1,7 +1,7 @@
 // Which items depend on each item.
 ghost use Rattle.std.specs.Prelude.{◌≡◌, ◌<◌, [], length, replicate, All, IfOk, OnOk};
 ghost use Rattle.cat_order.specs.Order.{AreItems};
-ghost use Rattle.cat_order.specs.Steps.{AddsDependent, AreDependents};
+ghost use Rattle.cat_order.specs.inside.Steps.{AddsDependent, AreDependents};
 
 use cat_pos::{ENTRIES_BOUND, List, Numbers};
 use std::alloc::{AllocError, Global};

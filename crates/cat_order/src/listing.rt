@@ -1,7 +1,7 @@
 // Lists the items that can be listed, in order.
 ghost use Rattle.std.specs.Prelude.{◌≡◌, ◌<◌, ◌≤◌, ℕ, length, map, slice_index, IfOk, OnOk};
 ghost use Rattle.cat_order.specs.Order.{AreItems, times};
-ghost use Rattle.cat_order.specs.Steps.{AddsThoseAtZero, CountsDown, HasStopped, HasThoseAtZero};
+ghost use Rattle.cat_order.specs.inside.Steps.{AddsThoseAtZero, CountsDown, HasStopped, HasThoseAtZero};
 
 use crate::dependents::dependents_of_each;
 use cat_pos::{ENTRIES_BOUND, List, Numbers};

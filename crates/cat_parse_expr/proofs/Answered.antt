@@ -14,7 +14,7 @@ use Rattle.cat_parse_expr.specs.Results.{Stop, stop_of}
 use Rattle.cat_parse_expr.specs.Reader.{read}
 use Rattle.cat_parse_expr.specs.Places.{GoesUpTo, IsTooHigh}
 use Rattle.cat_parse_expr.specs.Causes.{HasCause, HasReachCause}
-use Rattle.cat_parse_expr.specs.Loop.{halt_at, outcome_of, AreWithin}
+use Rattle.cat_parse_expr.specs.inside.Loop.{halt_at, outcome_of, AreWithin}
 use Rattle.cat_parse_expr.proofs.Places.{stop_here, stop_deep, none_spelled, none_low, answers}
 
 place_of : (tokens : List Token) (place : ℕ) → place ≤ length tokens

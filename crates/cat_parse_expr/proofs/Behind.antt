@@ -36,28 +36,32 @@ use Rattle.cat_parse_expr.proofs.Reaching.{push, finish, grow, token_is, MoveRea
 
 -- from one state that has begun to the next
 pub begun : (k high : ℕ) (q next : State) (b c : Bool) (m : Mark) (p : Token) (front : List Token)
-  → Begun k q high b c front → IsAt m p → room q ≤ room next → ((ps : Parts) → so_far next ps ≡ so_far q (Word m ps))
-  → Begun k next high false false (front ++ p ∷ [])
+    → Begun k q high b c front → IsAt m p → room q ≤ room next → ((ps : Parts) → so_far next ps ≡ so_far q (Word m ps))
+    → Begun k next high false false (front ++ p ∷ [])
 begun k high q next b c m p front r at le is =
-  record { front_is = push (so_far q) (so_far next) high b c m p front r.front_is at is; fits = omega (arith, r.fits);
-  low = r.low }
+    record {
+      front_is = push (so_far q) (so_far next) high b c m p front r.front_is at is;
+      fits = omega (arith, r.fits);
+      low = r.low;
+    }
 
 -- to a whole expression
 pub ended : (k high level : ℕ) (q : State) (n : Node) (f : Parts → Parts) (b c : Bool) (m : Mark) (p : Token)
-  (front : List Token) → Begun k q high b c front → IsAt m p → ((ps : Parts) → f ps ≡ so_far q (Word m ps))
-  → phrase n ≡ Row (of_level level) (f End) → room q ≤ level
+    (front : List Token) → Begun k q high b c front → IsAt m p → ((ps : Parts) → f ps ≡ so_far q (Word m ps))
+    → phrase n ≡ Row (of_level level) (f End) → room q ≤ level
     → ReachedAt k (state.Complete n level) high false false (front ++ p ∷ [])
-ended k high level q n f b c m p front r at is e le =
-    (finish f high k false false (of_level level) n (front ++ p ∷ [])
+ended k high level q n f b c m p front r at is e le = (
+  finish f high k false false (of_level level) n (front ++ p ∷ [])
       (push (so_far q) f high b c m p front r.front_is at is) e refl (omega (arith, r.fits)) r.low,
-      sym (ap right_strength e))
+  sym (ap right_strength e),
+)
 
 pub name_at : (n : Name) (p : Token) → p.kind ≡ kind.Lower n.text → n.pos ≡ p.pos → IsAt (At (kind.Lower n.text) n.pos)
-  p
+    p
 name_at n p e f = token_is p (kind.Lower n.text) n.pos e f
 
 pub type_at : (n : Name) (p : Token) → p.kind ≡ kind.Upper n.text → n.pos ≡ p.pos → IsAt (At (kind.Upper n.text) n.pos)
-  p
+    p
 type_at n p e f = token_is p (kind.Upper n.text) n.pos e f
 
 pub if_at_is : (k level : ℕ) (q : State) (m : Move) → if_at k level q ≡ Some m → (k ≤ level) × (Onward q ≡ m)
@@ -76,7 +80,7 @@ both true b h = (refl, h)
 both false b h = absurd cc
 
 pub goes : (k high : ℕ) (p : Token) (front : List Token) (n m : Move) → n ≡ m → MoveReached k n high p front
-  → MoveReached k m high p front
+    → MoveReached k m high p front
 goes k high p front n m e r = subst (λ (x : Move). MoveReached k x high p front) e r
 
 -- ---- whole expressions
@@ -107,14 +111,14 @@ follow_is (kind.Pair pair.WithPattern) = refl
 follow_is _ = tt
 
 whole_next_reached : (k s high : ℕ) (b c : Bool) (n : Node) (p : Token) (front : List Token) (m : Move) (f : Follow)
-  → IsRow k (phrase n) (suc high) b c front → s ≡ left_strength (phrase n) → FollowIs f p.kind → whole_next k s n p.pos
-  f ≡ Some m → MoveReached k m high p front
+    → IsRow k (phrase n) (suc high) b c front → s ≡ left_strength (phrase n) → FollowIs f p.kind → whole_next k s n p.pos
+    f ≡ Some m → MoveReached k m high p front
 whole_next_reached k s high b c n p front m (Operated o) r strong is h =
     let x = if_is (leb k (operator_level o) && leb (left_level o) s) (Grown (state.Right n o p.pos)) m h in
     let y = both (leb k (operator_level o)) (leb (left_level o) s) x.0 in
     goes k high p front (Grown (state.Right n o p.pos)) m x.1 (record {
       front_is = grow (left_level o) high k b c n (At (operator_kind o) p.pos) p front r
-        (omega (arith, leb-true (left_level o) s y.1)) (token_is p (operator_kind o) p.pos is refl);
+          (omega (arith, leb-true (left_level o) s y.1)) (token_is p (operator_kind o) p.pos is refl);
       fits = leb-true k (operator_level o) y.0;
       low = r.low;
     })
@@ -130,17 +134,17 @@ whole_next_reached k s high b c n p front m Tests r strong is h =
     let y = both (leb k 4) (leb 5 s) x.0 in
     goes k high p front (Grown (state.WithPattern n p.pos)) m x.1 (record {
       front_is = grow 5 high k b c n (At (kind.Pair pair.WithPattern) p.pos) p front r (omega (arith, leb-true 5 s y.1))
-        (token_is p (kind.Pair pair.WithPattern) p.pos is refl);
+          (token_is p (kind.Pair pair.WithPattern) p.pos is refl);
       fits = leb-true k 4 y.0;
       low = r.low;
     })
 whole_next_reached k s high b c n p front m Other r strong is h = absurd cc
 
 pub whole_reached : (k s high : ℕ) (b c : Bool) (n : Node) (p : Token) (front : List Token) (m : Move)
-  → IsRow k (phrase n) (suc high) b c front → s ≡ left_strength (phrase n) → whole_step k s n p ≡ Some m
-  → MoveReached k m high p front
+    → IsRow k (phrase n) (suc high) b c front → s ≡ left_strength (phrase n) → whole_step k s n p ≡ Some m
+    → MoveReached k m high p front
 whole_reached k s high b c n p front m r strong h =
-  whole_next_reached k s high b c n p front m (follow_of p.kind) r strong (follow_is p.kind) h
+    whole_next_reached k s high b c n p front m (follow_of p.kind) r strong (follow_is p.kind) h
 
 abbrev node_or : Node → Option Node → Node
 node_or n None = n
@@ -155,48 +159,60 @@ match_level (x ∷ xs) = refl
 
 -- the row of a whole expression, and its strength
 pub done_row : (k : ℕ) (q : State) (high : ℕ) (b c : Bool) (front : List Token) (n : Node) → ReachedAt k q high b c
-  front → done q ≡ Some n → IsRow k (phrase n) (suc high) b c front × (strength_of q ≡ right_strength (phrase n))
+    front → done q ≡ Some n → IsRow k (phrase n) (suc high) b c front × (strength_of q ≡ right_strength (phrase n))
 done_row k (state.Complete e s) high b c front n r h = subst (λ (x : Node). IsRow k (phrase x) (suc high) b c front
-  × (strength_of (state.Complete e s) ≡ right_strength (phrase x))) (node_same (e) n h) (r)
+    × (strength_of (state.Complete e s) ≡ right_strength (phrase x))) (node_same (e) n h) (r)
 done_row k (state.Int i p) high b c front n r h = subst (λ (x : Node). IsRow k (phrase x) (suc high) b c front
-  × (strength_of (state.Int i p) ≡ right_strength (phrase x))) (node_same (leaf.Literal (literal.Int i) p) n h)
-  (finish (so_far (state.Int i p)) high k b c (of_level 9) (leaf.Literal (literal.Int i) p) front r.front_is
-  (phrase_Literal (literal.Int i) p) refl r.fits r.low, sym (ap right_strength (phrase_Literal (literal.Int i) p)))
+    × (strength_of (state.Int i p) ≡ right_strength (phrase x))) (node_same (leaf.Literal (literal.Int i) p) n h) (
+      finish (so_far (state.Int i p)) high k b c (of_level 9) (leaf.Literal (literal.Int i) p) front r.front_is
+          (phrase_Literal (literal.Int i) p) refl r.fits r.low,
+      sym (ap right_strength (phrase_Literal (literal.Int i) p)),
+    )
 done_row k (state.Name w) high b c front n r h = subst (λ (x : Node). IsRow k (phrase x) (suc high) b c front
-  × (strength_of (state.Name w) ≡ right_strength (phrase x))) (node_same (leaf.Name w) n h)
-  (finish (so_far (state.Name w)) high k b c (of_level 9) (leaf.Name w) front r.front_is (phrase_Name w) refl r.fits
-  r.low, sym (ap right_strength (phrase_Name w)))
+    × (strength_of (state.Name w) ≡ right_strength (phrase x))) (node_same (leaf.Name w) n h) (
+      finish (so_far (state.Name w)) high k b c (of_level 9) (leaf.Name w) front r.front_is (phrase_Name w) refl r.fits
+          r.low,
+      sym (ap right_strength (phrase_Name w)),
+    )
 done_row k (state.Upper u) high b c front n r h = subst (λ (x : Node). IsRow k (phrase x) (suc high) b c front
-  × (strength_of (state.Upper u) ≡ right_strength (phrase x))) (node_same (leaf.Case (Bare u)) n h)
-  (finish (so_far (state.Upper u)) high k b c (of_level 9) (leaf.Case (Bare u)) front r.front_is (phrase_Case (Bare u))
-  refl r.fits r.low, sym (ap right_strength (phrase_Case (Bare u))))
+    × (strength_of (state.Upper u) ≡ right_strength (phrase x))) (node_same (leaf.Case (Bare u)) n h) (
+      finish (so_far (state.Upper u)) high k b c (of_level 9) (leaf.Case (Bare u)) front r.front_is (phrase_Case (Bare u))
+          refl r.fits r.low,
+      sym (ap right_strength (phrase_Case (Bare u))),
+    )
 done_row k (state.Qualified u w) high b c front n r h = subst (λ (x : Node). IsRow k (phrase x) (suc high) b c front
-  × (strength_of (state.Qualified u w) ≡ right_strength (phrase x))) (node_same (leaf.Case (Qualified u w)) n h)
-  (finish (so_far (state.Qualified u w)) high k b c (of_level 9) (leaf.Case (Qualified u w)) front r.front_is
-  (phrase_Case (Qualified u w)) refl r.fits r.low, sym (ap right_strength (phrase_Case (Qualified u w))))
+    × (strength_of (state.Qualified u w) ≡ right_strength (phrase x))) (node_same (leaf.Case (Qualified u w)) n h) (
+      finish (so_far (state.Qualified u w)) high k b c (of_level 9) (leaf.Case (Qualified u w)) front r.front_is
+          (phrase_Case (Qualified u w)) refl r.fits r.low,
+      sym (ap right_strength (phrase_Case (Qualified u w))),
+    )
 done_row k (state.Called f []) high b c front n r h = absurd r
 done_row k (state.Called f (a ∷ more)) high b c front n r h =
-  subst (λ (x : Node). IsRow k (phrase x) (suc high) b c front
-  × (strength_of (state.Called f (a ∷ more)) ≡ right_strength (phrase x))) (node_same (node.Call f (a ∷ more)) n h)
-  (finish (so_far (state.Called f (a ∷ more))) high k b c (of_level 8) (node.Call f (a ∷ more)) front r.front_is
-  (phrase_Call f (a ∷ more)) refl r.fits r.low, sym (ap right_strength (phrase_Call f (a ∷ more))))
+    subst (λ (x : Node). IsRow k (phrase x) (suc high) b c front
+    × (strength_of (state.Called f (a ∷ more)) ≡ right_strength (phrase x))) (node_same (node.Call f (a ∷ more)) n h) (
+      finish (so_far (state.Called f (a ∷ more))) high k b c (of_level 8) (node.Call f (a ∷ more)) front r.front_is
+          (phrase_Call f (a ∷ more)) refl r.fits r.low,
+      sym (ap right_strength (phrase_Call f (a ∷ more))),
+    )
 done_row k (state.Tested e p u) high b c front n r h = subst (λ (x : Node). IsRow k (phrase x) (suc high) b c front
-  × (strength_of (state.Tested e p u) ≡ right_strength (phrase x))) (node_same (node.Test e p (Bare u)) n h)
-  (finish (so_far (state.Tested e p u)) high k b c (of_level 4) (node.Test e p (Bare u)) front r.front_is
-  (phrase_Test e p (Bare u)) refl r.fits r.low, sym (ap right_strength (phrase_Test e p (Bare u))))
+    × (strength_of (state.Tested e p u) ≡ right_strength (phrase x))) (node_same (node.Test e p (Bare u)) n h) (
+      finish (so_far (state.Tested e p u)) high k b c (of_level 4) (node.Test e p (Bare u)) front r.front_is
+          (phrase_Test e p (Bare u)) refl r.fits r.low,
+      sym (ap right_strength (phrase_Test e p (Bare u))),
+    )
 done_row k (state.Matched m d) high b c front n r h = subst (λ (x : Node). IsRow k (phrase x) (suc high) b c front
-  × (strength_of (state.Matched m d) ≡ right_strength (phrase x))) (node_same (node.Match m.pos m.tested m.arms) n h)
-  (r.0, sym (ap right_strength (phrase_Match m.pos m.tested m.arms) ∙ match_level (map arm_row m.arms)))
+    × (strength_of (state.Matched m d) ≡ right_strength (phrase x))) (node_same (node.Match m.pos m.tested m.arms) n h)
+    (r.0, sym (ap right_strength (phrase_Match m.pos m.tested m.arms) ∙ match_level (map arm_row m.arms)))
 done_row k _ high b c front n r h = absurd cc
 
 pub strong_is : (k : ℕ) (q : State) (high : ℕ) (b c : Bool) (front : List Token) (n : Node)
-  → IsRow k (phrase n) (suc high) b c front × (strength_of q ≡ right_strength (phrase n)) → cond b 0 (strength_of q)
-  ≡ left_strength (phrase n)
+    → IsRow k (phrase n) (suc high) b c front × (strength_of q ≡ right_strength (phrase n)) → cond b 0 (strength_of q)
+    ≡ left_strength (phrase n)
 strong_is k q high b c front n d = ap (λ (x : Bool). cond x 0 (strength_of q)) d.0.form_is
-  ∙ ap (λ (x : ℕ). cond (ends_in_form (phrase n)) 0 x) d.1
+    ∙ ap (λ (x : ℕ). cond (ends_in_form (phrase n)) 0 x) d.1
 
 pub done_reached : (k : ℕ) (q : State) (high : ℕ) (b c : Bool) (n : Node) (p : Token) (front : List Token) (m : Move)
-  → ReachedAt k q high b c front → done q ≡ Some n → whole_step k (cond b 0 (strength_of q)) n p ≡ Some m
-  → MoveReached k m high p front
+    → ReachedAt k q high b c front → done q ≡ Some n → whole_step k (cond b 0 (strength_of q)) n p ≡ Some m
+    → MoveReached k m high p front
 done_reached k q high b c n p front m r d h = let row = done_row k q high b c front n r d in
-  whole_reached k (cond b 0 (strength_of q)) high b c n p front m row.0 (strong_is k q high b c front n row) h
+    whole_reached k (cond b 0 (strength_of q)) high b c n p front m row.0 (strong_is k q high b c front n row) h

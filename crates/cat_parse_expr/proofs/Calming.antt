@@ -64,7 +64,7 @@ is_closer (kind.Symbol symbol.RightBrace) = true
 is_closer _ = false
 
 stays_paren : (k s : ℕ) (q : State) (pos : Pos) (n : Node) → done q ≡ Some n
-  → step k s q (record { kind = kind.Symbol symbol.RightParen; pos = pos }) ≡ None
+    → step k s q (record { kind = kind.Symbol symbol.RightParen; pos = pos }) ≡ None
 stays_paren k s (state.Complete e own) pos n d = refl
 stays_paren k s (state.Int i p) pos n d = refl
 stays_paren k s (state.Name w) pos n d = refl
@@ -76,7 +76,7 @@ stays_paren k s (state.Matched x b) pos n d = refl
 stays_paren k s _ pos n d = absurd cc
 
 stays_bracket : (k s : ℕ) (q : State) (pos : Pos) (n : Node) → done q ≡ Some n
-  → step k s q (record { kind = kind.Symbol symbol.RightBracket; pos = pos }) ≡ None
+    → step k s q (record { kind = kind.Symbol symbol.RightBracket; pos = pos }) ≡ None
 stays_bracket k s (state.Complete e own) pos n d = refl
 stays_bracket k s (state.Int i p) pos n d = refl
 stays_bracket k s (state.Name w) pos n d = refl
@@ -88,7 +88,7 @@ stays_bracket k s (state.Matched x b) pos n d = refl
 stays_bracket k s _ pos n d = absurd cc
 
 stays_brace : (k s : ℕ) (q : State) (pos : Pos) (n : Node) → done q ≡ Some n
-  → step k s q (record { kind = kind.Symbol symbol.RightBrace; pos = pos }) ≡ None
+    → step k s q (record { kind = kind.Symbol symbol.RightBrace; pos = pos }) ≡ None
 stays_brace k s (state.Complete e own) pos n d = refl
 stays_brace k s (state.Int i p) pos n d = refl
 stays_brace k s (state.Name w) pos n d = refl
@@ -106,14 +106,14 @@ none_some : (o : Option Move) (m : Move) → o ≡ None → o ≡ Some m → ⊥
 none_some o m a b = no_some m (sym a ∙ b)
 
 no_taker : (k s : ℕ) (q : State) (kd : TokenKind) (pos : Pos) (n : Node) (m : Move) → done q ≡ Some n
-  → is_closer kd ≡ true → step k s q (record { kind = kd; pos = pos }) ≡ Some m → ⊥
+    → is_closer kd ≡ true → step k s q (record { kind = kd; pos = pos }) ≡ Some m → ⊥
 no_taker k s q (kind.Symbol symbol.RightParen) pos n m d c h =
-  none_some (step k s q (record { kind = kind.Symbol symbol.RightParen; pos = pos })) m (stays_paren k s q pos n d) h
+    none_some (step k s q (record { kind = kind.Symbol symbol.RightParen; pos = pos })) m (stays_paren k s q pos n d) h
 no_taker k s q (kind.Symbol symbol.RightBracket) pos n m d c h =
-  none_some (step k s q (record { kind = kind.Symbol symbol.RightBracket; pos = pos })) m (stays_bracket k s q pos n d)
-  h
+    none_some (step k s q (record { kind = kind.Symbol symbol.RightBracket; pos = pos })) m (stays_bracket k s q pos n d)
+    h
 no_taker k s q (kind.Symbol symbol.RightBrace) pos n m d c h =
-  none_some (step k s q (record { kind = kind.Symbol symbol.RightBrace; pos = pos })) m (stays_brace k s q pos n d) h
+    none_some (step k s q (record { kind = kind.Symbol symbol.RightBrace; pos = pos })) m (stays_brace k s q pos n d) h
 no_taker k s q _ pos n m d c h = absurd cc
 
 abbrev MoveDone : Move → Node → Type 0
@@ -125,87 +125,87 @@ clash (Onward q) n u d = let v = u.0 in absurd cc
 clash (Grown q) n u d = let v = u.0 in absurd cc
 
 either : (kd : TokenKind) (p : Token) (a b : Option Move) (m : Move) → ((p.kind ≡ kd) × (a ≡ Some m)) ⊎ (b ≡ Some m)
-  → (p.kind ≡ kd → a ≡ Some m → is_closer p.kind ≡ true) → (b ≡ Some m → is_closer p.kind ≡ true)
-  → is_closer p.kind ≡ true
+    → (p.kind ≡ kd → a ≡ Some m → is_closer p.kind ≡ true) → (b ≡ Some m → is_closer p.kind ≡ true)
+    → is_closer p.kind ≡ true
 either kd p a b m (inl x) f g = f x.0 x.1
 either kd p a b m (inr x) f g = g x
 
 -- one word that leads to a state that isn't whole
 one_word : (kd : TokenKind) (p : Token) (q : State) (m : Move) (n : Node) → ((p.kind ≡ kd) × (some q ≡ Some m)) ⊎
-  (None ≡ Some m) → (done q ≡ None) × (needs_part q ≡ false) → MoveDone m n → is_closer p.kind ≡ true
+    (None ≡ Some m) → (done q ≡ None) × (needs_part q ≡ false) → MoveDone m n → is_closer p.kind ≡ true
 one_word kd p q m n (inl x) u d = absurd (clash m n (opens_as (Onward q) m x.1 u) d)
 one_word kd p q m n (inr x) u d = absurd (no_some m x)
 
 behind_whole : (k s : ℕ) (e : Node) (p : Token) (m : Move) (n : Node) → whole_step k s e p ≡ Some m → MoveDone m n
-  → is_closer p.kind ≡ true
+    → is_closer p.kind ≡ true
 behind_whole k s e p m n h d = absurd (clash m n (whole_unfinished k s e p.pos (follow_of p.kind) m h) d)
 
 fed_closes : (k s : ℕ) (q : State) (e : Node) (b : Bool) (j : ℕ) (p : Token) (m : Move) (n : Node) → takes q ≡ Some j
-  → step k s (fed_state q e b) p ≡ Some m → MoveDone m n → is_closer p.kind ≡ true
+    → step k s (fed_state q e b) p ≡ Some m → MoveDone m n → is_closer p.kind ≡ true
 fed_closes k s (state.Right a o at) e b j p m n t h d = behind_whole k s (node.Binary o at a e) p m n h d
 fed_closes k s (state.Content c) e b j p m n t h d = behind_whole k s (node.Content c e) p m n h d
 fed_closes k s (state.Argument f args) e b j p m n t h d =
     let o3 = whole_step k s (node.Call f (args ++ e ∷ [])) p in
     either (kind.Symbol symbol.Comma) p (some (state.Argument f (args ++ e ∷ []))) o3 m
-      (on_comma_is (some (state.Argument f (args ++ e ∷ []))) o3 p.kind m h)
-      (λ kd a. absurd (clash m n (opens_as (Onward (state.Argument f (args ++ e ∷ []))) m a (refl, refl)) d))
-      (λ a. behind_whole k s (node.Call f (args ++ e ∷ [])) p m n a d)
+    (on_comma_is (some (state.Argument f (args ++ e ∷ []))) o3 p.kind m h)
+    (λ kd a. absurd (clash m n (opens_as (Onward (state.Argument f (args ++ e ∷ []))) m a (refl, refl)) d))
+    (λ a. behind_whole k s (node.Call f (args ++ e ∷ [])) p m n a d)
 fed_closes k s (state.Prefixed o at) e b j p m n t h d = behind_whole k s (node.Prefixed o at e) p m n h d
 fed_closes k s (state.Sum at ty) e b j p m n t h d = behind_whole k s (node.Sum at ty e) p m n h d
 fed_closes k s (state.Open at) e b j p m n t h d = either (kind.Symbol symbol.RightParen) p
-  (some (state.Complete (node.Parens at e) 9)) None m (on_close_is (some (state.Complete (node.Parens at e) 9)) None
-  p.kind m h) (λ kd a. ap is_closer kd) (λ a. absurd (no_some m a))
+    (some (state.Complete (node.Parens at e) 9)) None m (on_close_is (some (state.Complete (node.Parens at e) 9)) None
+    p.kind m h) (λ kd a. ap is_closer kd) (λ a. absurd (no_some m a))
 fed_closes k s (state.Element at es) e b j p m n t h d =
     let more = es ++ e ∷ [] in
     let o2 = on_bracket (some (state.Complete (node.List at more) 9)) None p.kind in
     either (kind.Symbol symbol.Semicolon) p (some (state.Element at more)) o2 m
-      (on_semicolon_is (some (state.Element at more)) o2 p.kind m h)
-      (λ kd a. absurd (clash m n (opens_as (Onward (state.Element at more)) m a (refl, refl)) d))
+    (on_semicolon_is (some (state.Element at more)) o2 p.kind m h)
+    (λ kd a. absurd (clash m n (opens_as (Onward (state.Element at more)) m a (refl, refl)) d))
     (λ y. either (kind.Symbol symbol.RightBracket) p (some (state.Complete (node.List at more) 9)) None m
-      (on_bracket_is (some (state.Complete (node.List at more) 9)) None p.kind m y) (λ kd a. ap is_closer kd)
-      (λ a. absurd (no_some m a)))
+    (on_bracket_is (some (state.Complete (node.List at more) 9)) None p.kind m y) (λ kd a. ap is_closer kd)
+    (λ a. absurd (no_some m a)))
 fed_closes k s (state.FieldValue o fs w) e b j p m n t h d =
     let more = fs ++ record { name = w; value = e } ∷ [] in
     let o2 = on_end_brace (fields_end o more) None p.kind in
     either (kind.Symbol symbol.MinusMinus) p (some (state.FieldName o more)) o2 m
-      (on_dashes_is (some (state.FieldName o more)) o2 p.kind m h)
-      (λ kd a. absurd (clash m n (opens_as (Onward (state.FieldName o more)) m a (refl, refl)) d))
+    (on_dashes_is (some (state.FieldName o more)) o2 p.kind m h)
+    (λ kd a. absurd (clash m n (opens_as (Onward (state.FieldName o more)) m a (refl, refl)) d))
     (λ y. either (kind.Symbol symbol.RightBrace) p (fields_end o more) None m
-      (on_end_brace_is (fields_end o more) None p.kind m y) (λ kd a. ap is_closer kd) (λ a. absurd (no_some m a)))
+    (on_end_brace_is (fields_end o more) None p.kind m y) (λ kd a. ap is_closer kd) (λ a. absurd (no_some m a)))
 fed_closes k s (state.If at) e b j p m n t h d = one_word (kind.Word key.Then) p (state.Then at e) m n
-  (on_then_is (some (state.Then at e)) None p.kind m h) (refl, refl) d
+    (on_then_is (some (state.Then at e)) None p.kind m h) (refl, refl) d
 fed_closes k s (state.Then at c) e b j p m n t h d = one_word (kind.Word key.Else) p (state.Else at c e) m n
-  (on_else_is (some (state.Else at c e)) None p.kind m h) (refl, refl) d
+    (on_else_is (some (state.Else at c e)) None p.kind m h) (refl, refl) d
 fed_closes k s (state.Else at c x) e b j p m n t h d = behind_whole k s (node.If at c x e) p m n h d
 fed_closes k s (state.Match at) e b j p m n t h d = one_word (kind.Pair pair.WithPattern) p (state.FirstArm at e) m n
-  (on_with_pattern_is (some (state.FirstArm at e)) None p.kind m h) (refl, refl) d
+    (on_with_pattern_is (some (state.FirstArm at e)) None p.kind m h) (refl, refl) d
 fed_closes k s (state.ArmBody x pat) e true j p m n t h d = either (kind.Symbol symbol.MinusMinus) p None None m
-  (on_dashes_is None None p.kind m h) (λ kd a. absurd (no_some m a)) (λ a. absurd (no_some m a))
+    (on_dashes_is None None p.kind m h) (λ kd a. absurd (no_some m a)) (λ a. absurd (no_some m a))
 fed_closes k s (state.ArmBody x pat) e false j p m n t h d =
     let y : Matching =
-      record { pos = x.pos; tested = x.tested; arms = x.arms ++ record { pattern = pat; body = e } ∷ [] } in
+    record { pos = x.pos; tested = x.tested; arms = x.arms ++ record { pattern = pat; body = e } ∷ [] } in
     one_word (kind.Symbol symbol.MinusMinus) p (state.ArmPattern y) m n
-      (on_dashes_is (some (state.ArmPattern y)) None p.kind m h) (refl, refl) d
+    (on_dashes_is (some (state.ArmPattern y)) None p.kind m h) (refl, refl) d
 fed_closes k s (state.EachList each.ForAll at w) e b j p m n t h d = one_word (kind.Pair pair.WeHave) p
-  (state.EachBody each.ForAll at w e) m n (on_we_have_is (some (state.EachBody each.ForAll at w e)) None p.kind m h)
-  (refl, refl) d
+    (state.EachBody each.ForAll at w e) m n (on_we_have_is (some (state.EachBody each.ForAll at w e)) None p.kind m h)
+    (refl, refl) d
 fed_closes k s (state.EachList each.Exists at w) e b j p m n t h d = one_word (kind.Pair pair.SuchThat) p
-  (state.EachBody each.Exists at w e) m n (on_such_that_is (some (state.EachBody each.Exists at w e)) None p.kind m h)
-  (refl, refl) d
+    (state.EachBody each.Exists at w e) m n (on_such_that_is (some (state.EachBody each.Exists at w e)) None p.kind m h)
+    (refl, refl) d
 fed_closes k s (state.EachList each.MapEach at w) e b j p m n t h d = one_word (kind.Word key.To) p
-  (state.EachBody each.MapEach at w e) m n (on_to_is (some (state.EachBody each.MapEach at w e)) None p.kind m h)
-  (refl, refl) d
+    (state.EachBody each.MapEach at w e) m n (on_to_is (some (state.EachBody each.MapEach at w e)) None p.kind m h)
+    (refl, refl) d
 fed_closes k s (state.EachList each.ListOf at w) e b j p m n t h d = one_word (kind.Pair pair.SuchThat) p
-  (state.EachBody each.ListOf at w e) m n (on_such_that_is (some (state.EachBody each.ListOf at w e)) None p.kind m h)
-  (refl, refl) d
+    (state.EachBody each.ListOf at w e) m n (on_such_that_is (some (state.EachBody each.ListOf at w e)) None p.kind m h)
+    (refl, refl) d
 fed_closes k s (state.EachBody x at w l) e b j p m n t h d = behind_whole k s (node.Each x at w l e) p m n h d
 fed_closes k s (state.CombineList at w) e b j p m n t h d = one_word (kind.Word key.In) p
-  (state.CombineResult (record { pos = at; element = w; list = e })) m n
-  (on_in_is (some (state.CombineResult (record { pos = at; element = w; list = e }))) None p.kind m h) (refl, refl) d
+    (state.CombineResult (record { pos = at; element = w; list = e })) m n
+    (on_in_is (some (state.CombineResult (record { pos = at; element = w; list = e }))) None p.kind m h) (refl, refl) d
 fed_closes k s (state.CombineStart c w) e b j p m n t h d = one_word (kind.Word key.With) p (state.CombineBody c w e) m
-  n (on_with_is (some (state.CombineBody c w e)) None p.kind m h) (refl, refl) d
+    n (on_with_is (some (state.CombineBody c w e)) None p.kind m h) (refl, refl) d
 fed_closes k s (state.CombineBody c w z) e b j p m n t h d =
-  behind_whole k s (node.Combine c.pos c.element c.list w z e) p m n h d
+    behind_whole k s (node.Combine c.pos c.element c.list w z e) p m n h d
 fed_closes k s _ e b j p m n t h d = absurd cc
 
 abbrev reading_or : Reading → Option Reading → Reading
@@ -213,15 +213,15 @@ reading_or r None = r
 reading_or r (Some x) = x
 
 moved_from : (r more : Reading) (o : Option Move) → moved r o ≡ Some more → (m : Move) × (o ≡ Some m)
-  × ((n : Node) → done more.state ≡ Some n → MoveDone m n)
+    × ((n : Node) → done more.state ≡ Some n → MoveDone m n)
 moved_from r more None h = absurd cc
 moved_from r more (Some (Onward q)) h =
-  (Onward q, refl, λ n d. ap (λ (x : Option Reading). done (reading_or r x).state) h ∙ d)
+    (Onward q, refl, λ n d. ap (λ (x : Option Reading). done (reading_or r x).state) h ∙ d)
 moved_from r more (Some (Grown q)) h =
-  (Grown q, refl, λ n d. ap (λ (x : Option Reading). done (reading_or r x).state) h ∙ d)
+    (Grown q, refl, λ n d. ap (λ (x : Option Reading). done (reading_or r x).state) h ∙ d)
 
 pub closes : (k j : ℕ) (r more : Reading) (e : Found) (p : Token) (n : Node) → takes r.state ≡ Some j
-  → shift k (feed r e) p ≡ Some more → done more.state ≡ Some n → Taker p → ⊥
+    → shift k (feed r e) p ≡ Some more → done more.state ≡ Some n → Taker p → ⊥
 unfolding shift feed
 closes k j r more e p n t h d taker =
     let f = feed r e in
@@ -229,7 +229,7 @@ closes k j r more e p n t h d taker =
     let c = fed_closes k (cond f.in_form 0 (strength_of f.state)) r.state e.node e.in_match j p m.0 n t m.1 (m.2 n d) in
     let g = taker.from in
     let x = moved_from g taker.more (step taker.level (cond g.in_form 0 (strength_of g.state)) g.state p) taker.takes_it
-      in
+    in
     no_taker taker.level (cond g.in_form 0 (strength_of g.state)) g.state p.kind p.pos taker.node x.0 taker.is c x.1
 
 -- ---- what is calm stops
@@ -273,12 +273,12 @@ not_upper f p (kind.Symbol symbol.MinusMinus) h = refl
 not_upper f p _ h = absurd cc
 
 not_pattern : (f : Name → Move) (a : Option Move) (p : Pos) (kd : TokenKind) → is_lower kd ≡ true
-  → upper_of f (on_anything a None kd) p kd ≡ None
+    → upper_of f (on_anything a None kd) p kd ≡ None
 not_pattern f a p (kind.Lower w) h = refl
 not_pattern f a p _ h = absurd cc
 
 test_calm : (k s : ℕ) (n : Node) (pos : Pos) (ts : List Token) (m : Move) → whole_next k s n pos Tests ≡ Some m
-  → follow_pull Tests ts ≤ k → Stuck m ts
+    → follow_pull Tests ts ≤ k → Stuck m ts
 test_calm k s n pos [] m h le =
     let x = if_is (leb k 4 && leb 5 s) (Grown (state.WithPattern n pos)) m h in
     let k4 = leb-true k 4 (both (leb k 4) (leb 5 s) x.0).0 in
@@ -287,16 +287,20 @@ test_calm k s n pos (t ∷ ts) m h le = by (is_dashes t.kind) refl le
   where
     by : (b : Bool) → is_dashes t.kind ≡ b → cond b 0 5 ≤ k → Stuck m (t ∷ ts)
     by true e le = stuck_as (Grown (state.WithPattern n pos)) m (t ∷ ts)
-      (if_is (leb k 4 && leb 5 s) (Grown (state.WithPattern n pos)) m h).1
-      (record { unfinished = refl; waits_not = refl; no_step = λ j s2. not_upper (λ u. Onward (state.Tested n pos u))
-      t.pos t.kind e })
+        (if_is (leb k 4 && leb 5 s) (Grown (state.WithPattern n pos)) m h).1
+        (record {
+          unfinished = refl;
+          waits_not = refl;
+          no_step = λ j s2. not_upper (λ u. Onward (state.Tested n pos u))
+              t.pos t.kind e;
+        })
     by false e le =
         let x = if_is (leb k 4 && leb 5 s) (Grown (state.WithPattern n pos)) m h in
         let k4 = leb-true k 4 (both (leb k 4) (leb 5 s) x.0).0 in
         absurd (omega arith)
 
 whole_calm : (k s : ℕ) (n : Node) (pos : Pos) (ts : List Token) (f : Follow) (m : Move) → k ≤ 9 → whole_next k s n pos f
-  ≡ Some m → follow_pull f ts ≤ k → Stuck m ts
+    ≡ Some m → follow_pull f ts ≤ k → Stuck m ts
 whole_calm k s n pos ts (Operated o) m k9 h le =
     let x = if_is (leb k (operator_level o) && leb (left_level o) s) (Grown (state.Right n o pos)) m h in
     let kl = leb-true k (operator_level o) (both (leb k (operator_level o)) (leb (left_level o) s) x.0).0 in
@@ -306,65 +310,69 @@ whole_calm k s n pos ts Tests m k9 h le = test_calm k s n pos ts m h le
 whole_calm k s n pos ts Other m k9 h le = absurd (no_some m h)
 
 two_ways : (kd : TokenKind) (p : Token) (ts : List Token) (a b : Option Move) (m : Move)
-  → ((p.kind ≡ kd) × (a ≡ Some m)) ⊎ (b ≡ Some m) → (p.kind ≡ kd → a ≡ Some m → Stuck m ts) → (b ≡ Some m → Stuck m ts)
-  → Stuck m ts
+    → ((p.kind ≡ kd) × (a ≡ Some m)) ⊎ (b ≡ Some m) → (p.kind ≡ kd → a ≡ Some m → Stuck m ts) → (b ≡ Some m → Stuck m ts)
+    → Stuck m ts
 two_ways kd p ts a b m (inl x) f g = f x.0 x.1
 two_ways kd p ts a b m (inr x) f g = g x
 
 pulls : (p : Token) (kd : TokenKind) (ts : List Token) (least high : ℕ) → p.kind ≡ kd → least ≤ sign_pull kd ts
-  → high < least → sign_pull p.kind ts ≤ high → ⊥
+    → high < least → sign_pull p.kind ts ≤ high → ⊥
 pulls p kd ts least high e is lt le = omega (arith, ap (λ (x : TokenKind). sign_pull x ts) e)
 
 op_pulls : (p : Token) (kd : TokenKind) (ts : List Token) (k : ℕ) → p.kind ≡ kd → 10 ≤ follow_pull (follow_of kd) ts
-  → k ≤ 9 → follow_pull (follow_of p.kind) ts ≤ k → ⊥
+    → k ≤ 9 → follow_pull (follow_of p.kind) ts ≤ k → ⊥
 op_pulls p kd ts k e is k9 le = omega (arith, ap (λ (x : TokenKind). follow_pull (follow_of x) ts) e)
 
 int_calm : (k s : ℕ) (i : ℤ) (at pos : Pos) (kd : TokenKind) (ts : List Token) (m : Move) → k ≤ 9
-  → unit_of (λ u. cond (int_lt span_bound i) None (some (state.Complete (leaf.Literal (literal.Span i u) at) 9)))
-  (whole_next k s (leaf.Literal (literal.Int i) at) pos (follow_of kd)) kd ≡ Some m → sign_pull kd ts ≤ 10
-  → follow_pull (follow_of kd) ts ≤ k → Stuck m ts
+    → unit_of (λ u. cond (int_lt span_bound i) None (some (state.Complete (leaf.Literal (literal.Span i u) at) 9)))
+    (whole_next k s (leaf.Literal (literal.Int i) at) pos (follow_of kd)) kd ≡ Some m → sign_pull kd ts ≤ 10
+    → follow_pull (follow_of kd) ts ≤ k → Stuck m ts
 int_calm k s i at pos (kind.Word key.Year) ts m k9 h le op = absurd (omega arith)
 int_calm k s i at pos (kind.Word key.Month) ts m k9 h le op = absurd (omega arith)
 int_calm k s i at pos (kind.Word key.Day) ts m k9 h le op = absurd (omega arith)
 int_calm k s i at pos kd ts m k9 h le op = whole_calm k s (leaf.Literal (literal.Int i) at) pos ts (follow_of kd) m k9 h
-  op
+    op
 
 arm_calm : (x : Matching) (p : Token) (ts : List Token) (m : Move) → p.kind ≡ kind.Symbol symbol.MinusMinus
-  → some (state.ArmPattern x) ≡ Some m → sign_pull (kind.Symbol symbol.MinusMinus) ts ≤ 0 → Stuck m ts
+    → some (state.ArmPattern x) ≡ Some m → sign_pull (kind.Symbol symbol.MinusMinus) ts ≤ 0 → Stuck m ts
 arm_calm x p [] m e h le = absurd (omega arith)
 arm_calm x p (t ∷ ts) m e h le = by (is_lower t.kind) refl le
   where
     by : (b : Bool) → is_lower t.kind ≡ b → cond b 0 1 ≤ 0 → Stuck m (t ∷ ts)
     by true d le = stuck_as (Onward (state.ArmPattern x)) m (t ∷ ts) (some_same (Onward (state.ArmPattern x)) m h)
-      (record { unfinished = refl; waits_not = refl; no_step =
-      λ j s. not_pattern (λ u. Onward (state.ArmCase x (Bare u))) (some (state.ArmColon x pattern.Anything)) t.pos
-      t.kind d })
+        (record {
+          unfinished = refl;
+          waits_not = refl;
+          no_step =
+              λ j s. not_pattern (λ u. Onward (state.ArmCase x (Bare u))) (some (state.ArmColon x pattern.Anything)) t.pos
+              t.kind d;
+        })
     by false d le = absurd (omega arith)
 
 match_hold : (x : Matching) → row_hold (phrase (node.Match x.pos x.tested x.arms)) ≡ 0
 match_hold x = ap row_hold (phrase_Match x.pos x.tested x.arms) ∙ by (map arm_row x.arms)
   where
     by : (xs : List (Pattern × Phrase))
-      → row_hold (Row (match_of xs) (key_at key.Match x.pos ▹ part 0 (phrase x.tested) ▹ words pair.WithPattern ▹ arms
-      xs)) ≡ 0
+        → row_hold (Row (match_of xs) (key_at key.Match x.pos ▹ part 0 (phrase x.tested) ▹ words pair.WithPattern ▹ arms
+        xs)) ≡ 0
     by [] = refl
     by (a ∷ xs) = refl
 
 call_hold : (f : Name) (a : Node) (more : List Node) → row_hold (phrase (node.Call f (a ∷ more))) ≤ 9
 call_hold f a more =
-  omega (arith, ap row_hold (phrase_Call f (a ∷ more)), elements_hold 10 symbol.Comma (phrase a) (map phrase more))
+    omega (arith, ap row_hold (phrase_Call f (a ∷ more)), elements_hold 10 symbol.Comma (phrase a) (map phrase more))
 
 state_calm : (k s high : ℕ) (b c : Bool) (front : List Token) (q : State) (n : Node) (p : Token) (ts : List Token)
-  (m : Move) → ReachedAt k q high b c front → done q ≡ Some n → k ≤ 9 → step k s q p ≡ Some m
-  → sign_pull p.kind ts ≤ row_hold (phrase n) → follow_pull (follow_of p.kind) ts ≤ k → Stuck m ts
+    (m : Move) → ReachedAt k q high b c front → done q ≡ Some n → k ≤ 9 → step k s q p ≡ Some m
+    → sign_pull p.kind ts ≤ row_hold (phrase n) → follow_pull (follow_of p.kind) ts ≤ k → Stuck m ts
 state_calm k s high b c front (state.Complete e own) n p ts m r d k9 h le op =
-  whole_calm k s e p.pos ts (follow_of p.kind) m k9 h op
+    whole_calm k s e p.pos ts (follow_of p.kind) m k9 h op
 state_calm k s high b c front (state.Int i at) n p ts m r d k9 h le op = let low =
-  hold_low (phrase n) in int_calm k s i at p.pos p.kind ts m k9 h (omega arith) op
+    hold_low (phrase n) in int_calm k s i at p.pos p.kind ts m k9 h (omega arith) op
 state_calm k s high b c front (state.Name w) n p ts m r d k9 h le op =
     let low = hold_low (phrase n) in
     two_ways (kind.Word key.Of) p ts (if_at k 8 (state.Argument w [])) (whole_step k s (leaf.Name w) p) m
-      (on_of_is (if_at k 8 (state.Argument w [])) (whole_step k s (leaf.Name w) p) p.kind m h)
+    (on_of_is (if_at k 8 (state.Argument w [])) (whole_step k s (leaf.Name w) p) p.kind m h)
     (λ kd a. absurd (pulls p (kind.Word key.Of) ts 11 10 kd (omega arith) (omega arith) (omega arith)))
     (λ a. whole_calm k s (leaf.Name w) p.pos ts (follow_of p.kind) m k9 a op)
 state_calm k s high b c front (state.Upper u) n p ts m r d k9 h le op =
@@ -373,47 +381,51 @@ state_calm k s high b c front (state.Upper u) n p ts m r d k9 h le op =
     let o2 = on_content (if_at k 8 (state.Content (Bare u))) o3 p.kind in
     let o1 = on_brace (some (state.Fields (owner.Literal u) [])) o2 p.kind in
     two_ways (kind.Symbol symbol.Dot) p ts (some (state.UpperDot u)) o1 m
-      (on_dot_is (some (state.UpperDot u)) o1 p.kind m h)
-      (λ kd a. absurd (op_pulls p (kind.Symbol symbol.Dot) ts k kd (omega arith) k9 op))
+    (on_dot_is (some (state.UpperDot u)) o1 p.kind m h)
+    (λ kd a. absurd (op_pulls p (kind.Symbol symbol.Dot) ts k kd (omega arith) k9 op))
     (λ y. two_ways (kind.Symbol symbol.LeftBrace) p ts (some (state.Fields (owner.Literal u) [])) o2 m
-      (on_brace_is (some (state.Fields (owner.Literal u) [])) o2 p.kind m y)
-      (λ kd a. absurd (pulls p (kind.Symbol symbol.LeftBrace) ts 11 10 kd (omega arith) (omega arith) (omega arith)))
+    (on_brace_is (some (state.Fields (owner.Literal u) [])) o2 p.kind m y)
+    (λ kd a. absurd (pulls p (kind.Symbol symbol.LeftBrace) ts 11 10 kd (omega arith) (omega arith) (omega arith)))
     (λ z. two_ways (kind.Word key.Content) p ts (if_at k 8 (state.Content (Bare u))) o3 m
-      (on_content_is (if_at k 8 (state.Content (Bare u))) o3 p.kind m z)
-      (λ kd a. absurd (pulls p (kind.Word key.Content) ts 11 10 kd (omega arith) (omega arith) (omega arith)))
-      (λ a. whole_calm k s (leaf.Case (Bare u)) p.pos ts (follow_of p.kind) m k9 a op)))
+    (on_content_is (if_at k 8 (state.Content (Bare u))) o3 p.kind m z)
+    (λ kd a. absurd (pulls p (kind.Word key.Content) ts 11 10 kd (omega arith) (omega arith) (omega arith)))
+    (λ a. whole_calm k s (leaf.Case (Bare u)) p.pos ts (follow_of p.kind) m k9 a op)))
 state_calm k s high b c front (state.Qualified u v) n p ts m r d k9 h le op =
     let low = hold_low (phrase n) in
     let o3 = whole_step k s (leaf.Case (Qualified u v)) p in
     two_ways (kind.Word key.Content) p ts (if_at k 8 (state.Content (Qualified u v))) o3 m
-      (on_content_is (if_at k 8 (state.Content (Qualified u v))) o3 p.kind m h)
-      (λ kd a. absurd (pulls p (kind.Word key.Content) ts 11 10 kd (omega arith) (omega arith) (omega arith)))
-      (λ a. whole_calm k s (leaf.Case (Qualified u v)) p.pos ts (follow_of p.kind) m k9 a op)
+    (on_content_is (if_at k 8 (state.Content (Qualified u v))) o3 p.kind m h)
+    (λ kd a. absurd (pulls p (kind.Word key.Content) ts 11 10 kd (omega arith) (omega arith) (omega arith)))
+    (λ a. whole_calm k s (leaf.Case (Qualified u v)) p.pos ts (follow_of p.kind) m k9 a op)
 state_calm k s high b c front (state.Called f []) n p ts m r d k9 h le op = absurd r
 state_calm k s high b c front (state.Called f (x ∷ more)) n p ts m r d k9 h le op =
     let low = call_hold f x more in
     let same = node_same (node.Call f (x ∷ more)) n d in
     let o3 = whole_step k s (node.Call f (x ∷ more)) p in
     two_ways (kind.Symbol symbol.Comma) p ts (some (state.Argument f (x ∷ more))) o3 m
-      (on_comma_is (some (state.Argument f (x ∷ more))) o3 p.kind m h)
+    (on_comma_is (some (state.Argument f (x ∷ more))) o3 p.kind m h)
     (λ kd a. absurd (pulls p (kind.Symbol symbol.Comma) ts 10 9 kd (omega arith) (omega arith)
-      (omega (arith, ap (λ (y : Node). row_hold (phrase y)) same))))
+    (omega (arith, ap (λ (y : Node). row_hold (phrase y)) same))))
     (λ a. whole_calm k s (node.Call f (x ∷ more)) p.pos ts (follow_of p.kind) m k9 a op)
 state_calm k s high b c front (state.Tested e at u) n p ts m r d k9 h le op =
     let o3 = whole_step k s (node.Test e at (Bare u)) p in
     two_ways (kind.Symbol symbol.Dot) p ts (some (state.TestedDot e at u)) o3 m
-      (on_dot_is (some (state.TestedDot e at u)) o3 p.kind m h)
-      (λ kd a. absurd (op_pulls p (kind.Symbol symbol.Dot) ts k kd (omega arith) k9 op))
-      (λ a. whole_calm k s (node.Test e at (Bare u)) p.pos ts (follow_of p.kind) m k9 a op)
+    (on_dot_is (some (state.TestedDot e at u)) o3 p.kind m h)
+    (λ kd a. absurd (op_pulls p (kind.Symbol symbol.Dot) ts k kd (omega arith) k9 op))
+    (λ a. whole_calm k s (node.Test e at (Bare u)) p.pos ts (follow_of p.kind) m k9 a op)
 state_calm k s high b c front (state.Matched x true) n p ts m r d k9 h le op = two_ways (kind.Symbol symbol.MinusMinus)
-  p ts None None m (on_dashes_is None None p.kind m h) (λ kd a. absurd (no_some m a)) (λ a. absurd (no_some m a))
+    p ts None None m (on_dashes_is None None p.kind m h) (λ kd a. absurd (no_some m a)) (λ a. absurd (no_some m a))
 state_calm k s high b c front (state.Matched x false) n p ts m r d k9 h le op =
     let same = node_same (node.Match x.pos x.tested x.arms) n d in
     two_ways (kind.Symbol symbol.MinusMinus) p ts (some (state.ArmPattern x)) None m
-      (on_dashes_is (some (state.ArmPattern x)) None p.kind m h)
+    (on_dashes_is (some (state.ArmPattern x)) None p.kind m h)
     (λ kd a. arm_calm x p ts m kd a
-      (omega (arith, ap (λ (y : TokenKind). sign_pull y ts) kd, ap (λ (y : Node). row_hold (phrase y)) same,
-      match_hold x)))
+    (omega (
+      arith,
+      ap (λ (y : TokenKind). sign_pull y ts) kd,
+      ap (λ (y : Node). row_hold (phrase y)) same,
+      match_hold x,
+    )))
     (λ a. absurd (no_some m a))
 state_calm k s high b c front _ n p ts m r d k9 h le op = absurd cc
 
@@ -430,22 +442,22 @@ target_is r (Onward q) = refl
 target_is r (Grown q) = refl
 
 ends_at : (k : ℕ) (r : Reading) (ts : List Token) → takes r.state ≡ None → ((j s : ℕ) → NoStep j s r.state ts)
-  → next k r ts ≡ Ends
+    → next k r ts ≡ Ends
 unfolding shift
 ends_at k r [] w no_step = ap asked w
 ends_at k r (t ∷ ts) w no_step =
-  ap (λ (x : Option Move). shifted r ts (moved r x)) (no_step k (cond r.in_form 0 (strength_of r.state))) ∙ ap asked w
+    ap (λ (x : Option Move). shifted r ts (moved r x)) (no_step k (cond r.in_form 0 (strength_of r.state))) ∙ ap asked w
 
 stops_by : (k : ℕ) (end : Reading) (n : Node) (front : List Token) (p : Token) (ts : List Token) (o : Option Move)
-  → Reached k end front → done end.state ≡ Some n → k ≤ 9 → sign_pull p.kind ts ≤ row_hold (phrase n)
-  → follow_pull (follow_of p.kind) ts ≤ k → step k (cond end.in_form 0 (strength_of end.state)) end.state p ≡ o
-  → Stops k end (p ∷ ts)
+    → Reached k end front → done end.state ≡ Some n → k ≤ 9 → sign_pull p.kind ts ≤ row_hold (phrase n)
+    → follow_pull (follow_of p.kind) ts ≤ k → step k (cond end.in_form 0 (strength_of end.state)) end.state p ≡ o
+    → Stops k end (p ∷ ts)
 unfolding shift
 stops_by k end n front p ts None h d k9 le op e =
-  inl (ap (λ (x : Option Move). shifted end ts (moved end x)) e ∙ ap asked (done_wants end.state n d))
+    inl (ap (λ (x : Option Move). shifted end ts (moved end x)) e ∙ ap asked (done_wants end.state n d))
 stops_by k end n front p ts (Some m) h d k9 le op e =
     let stuck = state_calm k (cond end.in_form 0 (strength_of end.state)) end.tallest end.in_form end.in_match front
-      end.state n p ts m h.at d k9 e le op in
+    end.state n p ts m h.at d k9 e le op in
     let same = target_is end m in
     inr (record {
       word = p;
@@ -455,12 +467,12 @@ stops_by k end n front p ts (Some m) h d k9 le op e =
       taken = ap (moved end) e ∙ moved_is end m;
       unfinished = ap done same ∙ stuck.unfinished;
       ends = ends_at k (moved_to end m) ts (ap takes same ∙ stuck.waits_not)
-        (λ j s. subst (λ (q : State). NoStep j s q ts) (sym same) (stuck.no_step j s));
+          (λ j s. subst (λ (q : State). NoStep j s q ts) (sym same) (stuck.no_step j s));
     })
 
 pub calm_stops : (k : ℕ) (end : Reading) (n : Node) (front rest : List Token) → Reached k end front
-  → done end.state ≡ Some n → k ≤ 9 → Calm k (whole end n) rest → Stops k end rest
+    → done end.state ≡ Some n → k ≤ 9 → Calm k (whole end n) rest → Stops k end rest
 unfolding pull op_pull hold
 calm_stops k end n front [] h d k9 c = inl (ap asked (done_wants end.state n d))
 calm_stops k end n front (p ∷ ts) h d k9 c = stops_by k end n front p ts
-  (step k (cond end.in_form 0 (strength_of end.state)) end.state p) h d k9 c.inside c.outside refl
+    (step k (cond end.in_form 0 (strength_of end.state)) end.state p) h d k9 c.inside c.outside refl

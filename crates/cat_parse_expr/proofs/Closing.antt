@@ -51,7 +51,7 @@ sign_two (kind.Word key.Day) b r s = refl
 sign_two k b r s = follow_two (follow_of k) b r s
 
 pub pull_two : (a b : Token) (r s : List Token) → (pull (a ∷ b ∷ r) ≡ pull (a ∷ b ∷ s))
-  × (op_pull (a ∷ b ∷ r) ≡ op_pull (a ∷ b ∷ s))
+    × (op_pull (a ∷ b ∷ r) ≡ op_pull (a ∷ b ∷ s))
 unfolding pull op_pull
 pull_two a b r s = (sign_two a.kind b r s, follow_two (follow_of a.kind) b r s)
 
@@ -74,15 +74,15 @@ if_unfinished true m n h u = opens_as m n h u
 if_unfinished false m n h u = absurd cc
 
 pub whole_unfinished : (k s : ℕ) (n : Node) (p : Pos) (f : Follow) (m : Move) → whole_next k s n p f ≡ Some m
-  → Unfinished m
+    → Unfinished m
 whole_unfinished k s n p (Operated o) m h =
-  if_unfinished (leb k (operator_level o) && leb (left_level o) s) (Grown (state.Right n o p)) m h (refl, refl)
+    if_unfinished (leb k (operator_level o) && leb (left_level o) s) (Grown (state.Right n o p)) m h (refl, refl)
 whole_unfinished k s n p Dotted m h = if_unfinished (leb 9 s) (Grown (state.Dot n)) m h (refl, refl)
 whole_unfinished k s n p Tests m h = if_unfinished (leb k 4 && leb 5 s) (Grown (state.WithPattern n p)) m h (refl, refl)
 whole_unfinished k s n p Other m h = absurd cc
 
 alternatives : (kd : TokenKind) (p : Token) (a b : Option Move) (m : Move) → ((p.kind ≡ kd) × (a ≡ Some m)) ⊎
-  (b ≡ Some m) → (a ≡ Some m → Unfinished m) → (b ≡ Some m → Unfinished m) → Unfinished m
+    (b ≡ Some m) → (a ≡ Some m → Unfinished m) → (b ≡ Some m → Unfinished m) → Unfinished m
 alternatives kd p a b m (inl x) f g = f x.1
 alternatives kd p a b m (inr x) f g = g x
 
@@ -96,79 +96,79 @@ fine_of (Onward q) u = u.1
 fine_of (Grown q) u = u
 
 unit_fine : (n : ℤ) (at : Pos) (k s : ℕ) (kd : TokenKind) (pos : Pos) (m : Move)
-  → unit_of (λ u. cond (int_lt span_bound n) None (some (state.Complete (leaf.Literal (literal.Span n u) at) 9)))
-  (whole_next k s (leaf.Literal (literal.Int n) at) pos (follow_of kd)) kd ≡ Some m → Fine m
+    → unit_of (λ u. cond (int_lt span_bound n) None (some (state.Complete (leaf.Literal (literal.Span n u) at) 9)))
+    (whole_next k s (leaf.Literal (literal.Int n) at) pos (follow_of kd)) kd ≡ Some m → Fine m
 unit_fine n at k s (kind.Word key.Year) pos m h =
-  onward_fine (int_lt span_bound n) (state.Complete (leaf.Literal (literal.Span n unit.Year) at) 9) m refl h
+    onward_fine (int_lt span_bound n) (state.Complete (leaf.Literal (literal.Span n unit.Year) at) 9) m refl h
   where
     onward_fine : (b : Bool) (q : State) (m : Move) → needs_part q ≡ false → cond b None (some q) ≡ Some m → Fine m
     onward_fine true q m u h = absurd cc
     onward_fine false q m u h = subst Fine (some_same (Onward q) m h) u
 unit_fine n at k s (kind.Word key.Month) pos m h =
-  onward_fine (int_lt span_bound n) (state.Complete (leaf.Literal (literal.Span n unit.Month) at) 9) m refl h
+    onward_fine (int_lt span_bound n) (state.Complete (leaf.Literal (literal.Span n unit.Month) at) 9) m refl h
   where
     onward_fine : (b : Bool) (q : State) (m : Move) → needs_part q ≡ false → cond b None (some q) ≡ Some m → Fine m
     onward_fine true q m u h = absurd cc
     onward_fine false q m u h = subst Fine (some_same (Onward q) m h) u
 unit_fine n at k s (kind.Word key.Day) pos m h =
-  onward_fine (int_lt span_bound n) (state.Complete (leaf.Literal (literal.Span n unit.Day) at) 9) m refl h
+    onward_fine (int_lt span_bound n) (state.Complete (leaf.Literal (literal.Span n unit.Day) at) 9) m refl h
   where
     onward_fine : (b : Bool) (q : State) (m : Move) → needs_part q ≡ false → cond b None (some q) ≡ Some m → Fine m
     onward_fine true q m u h = absurd cc
     onward_fine false q m u h = subst Fine (some_same (Onward q) m h) u
 unit_fine n at k s kd pos m h =
-  fine_of m (whole_unfinished k s (leaf.Literal (literal.Int n) at) pos (follow_of kd) m h)
+    fine_of m (whole_unfinished k s (leaf.Literal (literal.Int n) at) pos (follow_of kd) m h)
 
 if_at_unfinished : (k l : ℕ) (q : State) (m : Move) → (done q ≡ None) × (needs_part q ≡ false) → if_at k l q ≡ Some m
-  → Unfinished m
+    → Unfinished m
 if_at_unfinished k l q m u h = if_unfinished (leb k l) (Onward q) m h u
 
 pub whole_opens : (k s : ℕ) (q : State) (n : Node) (p : Token) (m : Move) → done q ≡ Some n → step k s q p ≡ Some m
-  → Fine m
+    → Fine m
 whole_opens k s (state.Complete e own) n p m d h = fine_of m (whole_unfinished k s e p.pos (follow_of p.kind) m h)
 whole_opens k s (state.Int i at) n p m d h = unit_fine i at k s p.kind p.pos m h
 whole_opens k s (state.Name w) n p m d h =
-  fine_of m (alternatives (kind.Word key.Of) p (if_at k 8 (state.Argument w [])) (whole_step k s (leaf.Name w) p) m
-  (on_of_is (if_at k 8 (state.Argument w [])) (whole_step k s (leaf.Name w) p) p.kind m h)
-  (λ a. if_at_unfinished k 8 (state.Argument w []) m (refl, refl) a)
-  (λ a. whole_unfinished k s (leaf.Name w) p.pos (follow_of p.kind) m a))
+    fine_of m (alternatives (kind.Word key.Of) p (if_at k 8 (state.Argument w [])) (whole_step k s (leaf.Name w) p) m
+    (on_of_is (if_at k 8 (state.Argument w [])) (whole_step k s (leaf.Name w) p) p.kind m h)
+    (λ a. if_at_unfinished k 8 (state.Argument w []) m (refl, refl) a)
+    (λ a. whole_unfinished k s (leaf.Name w) p.pos (follow_of p.kind) m a))
 whole_opens k s (state.Upper u) n p m d h =
     let o3 = whole_step k s (leaf.Case (Bare u)) p in
     let o2 = on_content (if_at k 8 (state.Content (Bare u))) o3 p.kind in
     let o1 = on_brace (some (state.Fields (owner.Literal u) [])) o2 p.kind in
     fine_of m (alternatives (kind.Symbol symbol.Dot) p (some (state.UpperDot u)) o1 m
-      (on_dot_is (some (state.UpperDot u)) o1 p.kind m h) (λ a. opens_as (Onward (state.UpperDot u)) m a (refl, refl))
+    (on_dot_is (some (state.UpperDot u)) o1 p.kind m h) (λ a. opens_as (Onward (state.UpperDot u)) m a (refl, refl))
     (λ y. alternatives (kind.Symbol symbol.LeftBrace) p (some (state.Fields (owner.Literal u) [])) o2 m
-      (on_brace_is (some (state.Fields (owner.Literal u) [])) o2 p.kind m y)
-      (λ a. opens_as (Onward (state.Fields (owner.Literal u) [])) m a (refl, refl))
+    (on_brace_is (some (state.Fields (owner.Literal u) [])) o2 p.kind m y)
+    (λ a. opens_as (Onward (state.Fields (owner.Literal u) [])) m a (refl, refl))
     (λ z. alternatives (kind.Word key.Content) p (if_at k 8 (state.Content (Bare u))) o3 m
-      (on_content_is (if_at k 8 (state.Content (Bare u))) o3 p.kind m z)
-      (λ a. if_at_unfinished k 8 (state.Content (Bare u)) m (refl, refl) a)
-      (λ a. whole_unfinished k s (leaf.Case (Bare u)) p.pos (follow_of p.kind) m a))))
+    (on_content_is (if_at k 8 (state.Content (Bare u))) o3 p.kind m z)
+    (λ a. if_at_unfinished k 8 (state.Content (Bare u)) m (refl, refl) a)
+    (λ a. whole_unfinished k s (leaf.Case (Bare u)) p.pos (follow_of p.kind) m a))))
 whole_opens k s (state.Qualified u v) n p m d h =
     let o3 = whole_step k s (leaf.Case (Qualified u v)) p in
     fine_of m (alternatives (kind.Word key.Content) p (if_at k 8 (state.Content (Qualified u v))) o3 m
-      (on_content_is (if_at k 8 (state.Content (Qualified u v))) o3 p.kind m h)
-      (λ a. if_at_unfinished k 8 (state.Content (Qualified u v)) m (refl, refl) a)
-      (λ a. whole_unfinished k s (leaf.Case (Qualified u v)) p.pos (follow_of p.kind) m a))
+    (on_content_is (if_at k 8 (state.Content (Qualified u v))) o3 p.kind m h)
+    (λ a. if_at_unfinished k 8 (state.Content (Qualified u v)) m (refl, refl) a)
+    (λ a. whole_unfinished k s (leaf.Case (Qualified u v)) p.pos (follow_of p.kind) m a))
 whole_opens k s (state.Called f args) n p m d h =
     let o3 = whole_step k s (node.Call f args) p in
     fine_of m (alternatives (kind.Symbol symbol.Comma) p (some (state.Argument f args)) o3 m
-      (on_comma_is (some (state.Argument f args)) o3 p.kind m h)
-      (λ a. opens_as (Onward (state.Argument f args)) m a (refl, refl))
-      (λ a. whole_unfinished k s (node.Call f args) p.pos (follow_of p.kind) m a))
+    (on_comma_is (some (state.Argument f args)) o3 p.kind m h)
+    (λ a. opens_as (Onward (state.Argument f args)) m a (refl, refl))
+    (λ a. whole_unfinished k s (node.Call f args) p.pos (follow_of p.kind) m a))
 whole_opens k s (state.Tested e at u) n p m d h =
     let o3 = whole_step k s (node.Test e at (Bare u)) p in
     fine_of m (alternatives (kind.Symbol symbol.Dot) p (some (state.TestedDot e at u)) o3 m
-      (on_dot_is (some (state.TestedDot e at u)) o3 p.kind m h) (λ a. opens_as (Onward (state.TestedDot e at u)) m a
-      (refl, refl)) (λ a. whole_unfinished k s (node.Test e at (Bare u)) p.pos (follow_of p.kind) m a))
+    (on_dot_is (some (state.TestedDot e at u)) o3 p.kind m h) (λ a. opens_as (Onward (state.TestedDot e at u)) m a
+    (refl, refl)) (λ a. whole_unfinished k s (node.Test e at (Bare u)) p.pos (follow_of p.kind) m a))
 whole_opens k s (state.Matched x true) n p m d h =
-  fine_of m (alternatives (kind.Symbol symbol.MinusMinus) p None None m (on_dashes_is None None p.kind m h)
-  (λ a. absurd cc) (λ a. absurd cc))
+    fine_of m (alternatives (kind.Symbol symbol.MinusMinus) p None None m (on_dashes_is None None p.kind m h)
+    (λ a. absurd cc) (λ a. absurd cc))
 whole_opens k s (state.Matched x false) n p m d h =
-  fine_of m (alternatives (kind.Symbol symbol.MinusMinus) p (some (state.ArmPattern x)) None m
-  (on_dashes_is (some (state.ArmPattern x)) None p.kind m h)
-  (λ a. opens_as (Onward (state.ArmPattern x)) m a (refl, refl)) (λ a. absurd cc))
+    fine_of m (alternatives (kind.Symbol symbol.MinusMinus) p (some (state.ArmPattern x)) None m
+    (on_dashes_is (some (state.ArmPattern x)) None p.kind m h)
+    (λ a. opens_as (Onward (state.ArmPattern x)) m a (refl, refl)) (λ a. absurd cc))
 whole_opens k s _ n p m d h = absurd cc
 
 abbrev reading_or : Reading → Option Reading → Reading
@@ -176,7 +176,7 @@ reading_or r None = r
 reading_or r (Some x) = x
 
 moved_low : (r more : Reading) (o : Option Move) (m : Node) → ((x : Move) → o ≡ Some x → Fine x) → moved r o ≡ Some more
-  → done more.state ≡ Some m → more.tallest ≡ r.tallest
+    → done more.state ≡ Some m → more.tallest ≡ r.tallest
 moved_low r more None m f e h = absurd cc
 moved_low r more (Some (Onward q)) m f e h = ap (λ (x : Option Reading). (reading_or r x).tallest) (sym e)
 moved_low r more (Some (Grown q)) m f e h =
@@ -185,22 +185,22 @@ moved_low r more (Some (Grown q)) m f e h =
     absurd cc
 
 pub unit_low : (k : ℕ) (r more : Reading) (p : Token) (n m : Node) → done r.state ≡ Some n → shift k r p ≡ Some more
-  → done more.state ≡ Some m → more.tallest ≡ r.tallest
+    → done more.state ≡ Some m → more.tallest ≡ r.tallest
 unfolding shift
 unit_low k r more p n m d e h = moved_low r more (step k (cond r.in_form 0 (strength_of r.state)) r.state p) m
-  (λ x is. whole_opens k (cond r.in_form 0 (strength_of r.state)) r.state n p x d is) e h
+    (λ x is. whole_opens k (cond r.in_form 0 (strength_of r.state)) r.state n p x d is) e h
 
 moved_needs : (r more : Reading) (o : Option Move) → ((x : Move) → o ≡ Some x → Fine x) → moved r o ≡ Some more
-  → needs_part more.state ≡ false
+    → needs_part more.state ≡ false
 moved_needs r more None f e = absurd cc
 moved_needs r more (Some (Onward q)) f e = ap (λ (x : Option Reading). needs_part (reading_or r x).state) (sym e)
-  ∙ f (Onward q) refl
+    ∙ f (Onward q) refl
 moved_needs r more (Some (Grown q)) f e = ap (λ (x : Option Reading). needs_part (reading_or r x).state) (sym e)
-  ∙ (f (Grown q) refl).1
+    ∙ (f (Grown q) refl).1
 
 -- a word behind a whole expression begins none that has to have a part
 pub unit_needs : (k : ℕ) (r more : Reading) (p : Token) (n : Node) → done r.state ≡ Some n → shift k r p ≡ Some more
-  → needs_part more.state ≡ false
+    → needs_part more.state ≡ false
 unfolding shift
 unit_needs k r more p n d e = moved_needs r more (step k (cond r.in_form 0 (strength_of r.state)) r.state p)
-  (λ x is. whole_opens k (cond r.in_form 0 (strength_of r.state)) r.state n p x d is) e
+    (λ x is. whole_opens k (cond r.in_form 0 (strength_of r.state)) r.state n p x d is) e

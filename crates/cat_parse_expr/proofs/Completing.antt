@@ -50,15 +50,15 @@ zero_part = record { node = zero_node; height = 1; in_form = false; in_match = f
 pub zero_is : (j : ℕ) → j ≤ 9 → IsPart j zero_part (zero_token ∷ [])
 zero_is j le = record {
   row = subst (λ (x : Phrase). IsRow j x 1 false false (zero_token ∷ []))
-    (sym (phrase_Literal (literal.Int (positive 0)) origin)) (record {
-    levels = (refl, tt);
-    spelled = (zero_token, [], refl, refl, refl);
-    stands = le;
-    low = le;
-    tall_is = refl;
-    form_is = refl;
-    match_is = refl;
-  });
+      (sym (phrase_Literal (literal.Int (positive 0)) origin)) (record {
+        levels = (refl, tt);
+        spelled = (zero_token, [], refl, refl, refl);
+        stands = le;
+        low = le;
+        tall_is = refl;
+        form_is = refl;
+        match_is = refl;
+      });
 }
 
 -- how many words and operands are left at least
@@ -123,8 +123,8 @@ left_over _ = 0
 -- a state is whole, waits for an operand, or goes on with some word
 abbrev pub GoesOn : ℕ → ℕ → State → Type 0
 GoesOn k s q = ((n : Node) × (done q ≡ Some n)) ⊎
-  (((j : ℕ) × (takes q ≡ Some j)) ⊎ ((t : Token) × (next : State) × (step k s q t ≡ Some (Onward next))
-  × (left_over next < left_over q)))
+    (((j : ℕ) × (takes q ≡ Some j)) ⊎ ((t : Token) × (next : State) × (step k s q t ≡ Some (Onward next))
+    × (left_over next < left_over q)))
 
 whole_at : (k s : ℕ) (q : State) (n : Node) → done q ≡ Some n → GoesOn k s q
 whole_at k s q n e = inl (n, e)
@@ -133,7 +133,7 @@ waits : (k s : ℕ) (q : State) (j : ℕ) → takes q ≡ Some j → GoesOn k s 
 waits k s q j e = inr (inl (j, e))
 
 by_word : (k s : ℕ) (q next : State) (t : Token) → step k s q t ≡ Some (Onward next) → left_over next < left_over q
-  → GoesOn k s q
+    → GoesOn k s q
 by_word k s q next t e lt = inr (inr (t, next, e, lt))
 
 abbrev at_origin : TokenKind → Token
@@ -148,7 +148,7 @@ fields_left p u (f ∷ fs) = omega arith
 
 pub goes_on : (k s high : ℕ) (q : State) (b c : Bool) (front : List Token) → ReachedAt k q high b c front → GoesOn k s q
 goes_on k s high state.Start b c front r = by_word k s state.Start (state.Int (positive 0) origin) zero_token refl
-  (omega arith)
+    (omega arith)
 goes_on k s high (state.Complete n own) b c front r = whole_at k s (state.Complete n own) (n) refl
 goes_on k s high (state.Int n p) b c front r = whole_at k s (state.Int n p) (leaf.Literal (literal.Int n) p) refl
 goes_on k s high (state.Name w) b c front r = whole_at k s (state.Name w) (leaf.Name w) refl
@@ -157,7 +157,7 @@ goes_on k s high (state.Qualified u v) b c front r = whole_at k s (state.Qualifi
 goes_on k s high (state.Called f args) b c front r = whole_at k s (state.Called f args) (node.Call f args) refl
 goes_on k s high (state.Tested e p u) b c front r = whole_at k s (state.Tested e p u) (node.Test e p (Bare u)) refl
 goes_on k s high (state.Matched m d) b c front r =
-  whole_at k s (state.Matched m d) (node.Match m.pos m.tested m.arms) refl
+    whole_at k s (state.Matched m d) (node.Match m.pos m.tested m.arms) refl
 goes_on k s high (state.Right a o p) b c front r = waits k s (state.Right a o p) (suc (operator_level o)) refl
 goes_on k s high (state.Content d) b c front r = waits k s (state.Content d) (8) refl
 goes_on k s high (state.Argument f args) b c front r = waits k s (state.Argument f args) (9) refl
@@ -177,88 +177,88 @@ goes_on k s high (state.CombineList p w) b c front r = waits k s (state.CombineL
 goes_on k s high (state.CombineStart d w) b c front r = waits k s (state.CombineStart d w) (0) refl
 goes_on k s high (state.CombineBody d w z) b c front r = waits k s (state.CombineBody d w z) (0) refl
 goes_on k s high (state.Dot n) b c front r =
-  by_word k s (state.Dot n) (state.Complete (node.Field n a_name) 9) (at_origin (kind.Lower [])) refl (omega arith)
+    by_word k s (state.Dot n) (state.Complete (node.Field n a_name) 9) (at_origin (kind.Lower [])) refl (omega arith)
 goes_on k s high (state.UpperDot u) b c front r =
-  by_word k s (state.UpperDot u) (state.Qualified u a_name) (at_origin (kind.Upper [])) refl (omega arith)
+    by_word k s (state.UpperDot u) (state.Qualified u a_name) (at_origin (kind.Upper [])) refl (omega arith)
 goes_on k s high (state.TestedDot e p u) b c front r = by_word k s (state.TestedDot e p u)
-  (state.Complete (node.Test e p (Qualified u a_name)) 4) (at_origin (kind.Upper [])) refl (omega arith)
+    (state.Complete (node.Test e p (Qualified u a_name)) 4) (at_origin (kind.Upper [])) refl (omega arith)
 goes_on k s high (state.WithPattern n p) b c front r =
-  by_word k s (state.WithPattern n p) (state.Tested n p a_name) (at_origin (kind.Upper [])) refl (omega arith)
+    by_word k s (state.WithPattern n p) (state.Tested n p a_name) (at_origin (kind.Upper [])) refl (omega arith)
 goes_on k s high (state.PrefixOf o p) b c front r =
-  by_word k s (state.PrefixOf o p) (state.Prefixed o p) (at_origin (kind.Word key.Of)) refl (omega arith)
+    by_word k s (state.PrefixOf o p) (state.Prefixed o p) (at_origin (kind.Word key.Of)) refl (omega arith)
 goes_on k s high (state.SumType p n) b c front r = by_word k s (state.SumType p n)
-  (state.SumOf p (record { lists = n; base = base.Boolean; pos = origin })) (at_origin (kind.Word key.Boolean)) refl
-  (omega arith)
+    (state.SumOf p (record { lists = n; base = base.Boolean; pos = origin })) (at_origin (kind.Word key.Boolean)) refl
+    (omega arith)
 goes_on k s high (state.SumOf p ty) b c front r =
-  by_word k s (state.SumOf p ty) (state.Sum p ty) (at_origin (kind.Word key.Of)) refl (omega arith)
+    by_word k s (state.SumOf p ty) (state.Sum p ty) (at_origin (kind.Word key.Of)) refl (omega arith)
 goes_on k s high (state.Close p e) b c front r = by_word k s (state.Close p e) (state.Complete (node.Parens p e) 9)
-  (at_origin (kind.Symbol symbol.RightParen)) refl (omega arith)
+    (at_origin (kind.Symbol symbol.RightParen)) refl (omega arith)
 goes_on k s high (state.Elements p es) b c front r = by_word k s (state.Elements p es)
-  (state.Complete (node.List p es) 9) (at_origin (kind.Symbol symbol.RightBracket)) refl (omega arith)
+    (state.Complete (node.List p es) 9) (at_origin (kind.Symbol symbol.RightBracket)) refl (omega arith)
 goes_on k s high (state.Fields (owner.Literal u) []) b c front r = by_word k s (state.Fields (owner.Literal u) [])
-  (state.FieldName (owner.Literal u) []) (at_origin (kind.Symbol symbol.MinusMinus)) refl (omega arith)
+    (state.FieldName (owner.Literal u) []) (at_origin (kind.Symbol symbol.MinusMinus)) refl (omega arith)
 goes_on k s high (state.Fields (owner.Literal u) (f ∷ fs)) b c front r =
-  by_word k s (state.Fields (owner.Literal u) (f ∷ fs)) (state.Complete (node.Structure u (f ∷ fs)) 9)
-  (at_origin (kind.Symbol symbol.RightBrace)) refl (omega arith)
+    by_word k s (state.Fields (owner.Literal u) (f ∷ fs)) (state.Complete (node.Structure u (f ∷ fs)) 9)
+    (at_origin (kind.Symbol symbol.RightBrace)) refl (omega arith)
 goes_on k s high (state.Fields (owner.Call p u) fs) b c front r = by_word k s (state.Fields (owner.Call p u) fs)
-  (state.CallDot p u fs) (at_origin (kind.Symbol symbol.RightBrace)) refl (fields_left p u fs)
+    (state.CallDot p u fs) (at_origin (kind.Symbol symbol.RightBrace)) refl (fields_left p u fs)
 goes_on k s high (state.FieldName o fs) b c front r =
-  by_word k s (state.FieldName o fs) (state.FieldColon o fs a_name) (at_origin (kind.Lower [])) refl (omega arith)
+    by_word k s (state.FieldName o fs) (state.FieldColon o fs a_name) (at_origin (kind.Lower [])) refl (omega arith)
 goes_on k s high (state.FieldColon o fs w) b c front r = by_word k s (state.FieldColon o fs w) (state.FieldValue o fs w)
-  (at_origin (kind.Symbol symbol.Colon)) refl (omega arith)
+    (at_origin (kind.Symbol symbol.Colon)) refl (omega arith)
 goes_on k s high (state.CallScope p) b c front r =
-  by_word k s (state.CallScope p) (state.CallWith p a_name) (at_origin (kind.Upper [])) refl (omega arith)
+    by_word k s (state.CallScope p) (state.CallWith p a_name) (at_origin (kind.Upper [])) refl (omega arith)
 goes_on k s high (state.CallWith p u) b c front r =
-  by_word k s (state.CallWith p u) (state.CallBrace p u) (at_origin (kind.Word key.With)) refl (omega arith)
+    by_word k s (state.CallWith p u) (state.CallBrace p u) (at_origin (kind.Word key.With)) refl (omega arith)
 goes_on k s high (state.CallBrace p u) b c front r = by_word k s (state.CallBrace p u)
-  (state.Fields (owner.Call p u) []) (at_origin (kind.Symbol symbol.LeftBrace)) refl (omega arith)
+    (state.Fields (owner.Call p u) []) (at_origin (kind.Symbol symbol.LeftBrace)) refl (omega arith)
 goes_on k s high (state.CallDot p u fs) b c front r =
-  by_word k s (state.CallDot p u fs) (state.CallOutput p u fs) (at_origin (kind.Symbol symbol.Dot)) refl (omega arith)
+    by_word k s (state.CallDot p u fs) (state.CallOutput p u fs) (at_origin (kind.Symbol symbol.Dot)) refl (omega arith)
 goes_on k s high (state.CallOutput p u fs) b c front r = by_word k s (state.CallOutput p u fs)
-  (state.Complete (node.ScopeCall p u fs a_name) 9) (at_origin (kind.Lower [])) refl (omega arith)
+    (state.Complete (node.ScopeCall p u fs a_name) 9) (at_origin (kind.Lower [])) refl (omega arith)
 goes_on k s high (state.IfThen p d) b c front r =
-  by_word k s (state.IfThen p d) (state.Then p d) (at_origin (kind.Word key.Then)) refl (omega arith)
+    by_word k s (state.IfThen p d) (state.Then p d) (at_origin (kind.Word key.Then)) refl (omega arith)
 goes_on k s high (state.ThenElse p d t) b c front r =
-  by_word k s (state.ThenElse p d t) (state.Else p d t) (at_origin (kind.Word key.Else)) refl (omega arith)
+    by_word k s (state.ThenElse p d t) (state.Else p d t) (at_origin (kind.Word key.Else)) refl (omega arith)
 goes_on k s high (state.MatchWith p e) b c front r =
-  by_word k s (state.MatchWith p e) (state.FirstArm p e) (at_origin (kind.Pair pair.WithPattern)) refl (omega arith)
+    by_word k s (state.MatchWith p e) (state.FirstArm p e) (at_origin (kind.Pair pair.WithPattern)) refl (omega arith)
 goes_on k s high (state.FirstArm p e) b c front r = by_word k s (state.FirstArm p e)
-  (state.ArmPattern (record { pos = p; tested = e; arms = [] })) (at_origin (kind.Symbol symbol.MinusMinus)) refl
-  (omega arith)
+    (state.ArmPattern (record { pos = p; tested = e; arms = [] })) (at_origin (kind.Symbol symbol.MinusMinus)) refl
+    (omega arith)
 goes_on k s high (state.ArmPattern m) b c front r = by_word k s (state.ArmPattern m) (state.ArmColon m pattern.Anything)
-  (at_origin (kind.Word key.Anything)) refl (omega arith)
+    (at_origin (kind.Word key.Anything)) refl (omega arith)
 goes_on k s high (state.ArmCase m d) b c front r = by_word k s (state.ArmCase m d)
-  (state.ArmBody m (pattern.Case d None)) (at_origin (kind.Symbol symbol.Colon)) refl (omega arith)
+    (state.ArmBody m (pattern.Case d None)) (at_origin (kind.Symbol symbol.Colon)) refl (omega arith)
 goes_on k s high (state.ArmDot m u) b c front r = by_word k s (state.ArmDot m u) (state.ArmCase m (Qualified u a_name))
-  (at_origin (kind.Upper [])) refl (omega arith)
+    (at_origin (kind.Upper [])) refl (omega arith)
 goes_on k s high (state.ArmOf m d) b c front r = by_word k s (state.ArmOf m d)
-  (state.ArmColon m (pattern.Case d (Some a_name))) (at_origin (kind.Lower [])) refl (omega arith)
+    (state.ArmColon m (pattern.Case d (Some a_name))) (at_origin (kind.Lower [])) refl (omega arith)
 goes_on k s high (state.ArmColon m pat) b c front r =
-  by_word k s (state.ArmColon m pat) (state.ArmBody m pat) (at_origin (kind.Symbol symbol.Colon)) refl (omega arith)
+    by_word k s (state.ArmColon m pat) (state.ArmBody m pat) (at_origin (kind.Symbol symbol.Colon)) refl (omega arith)
 goes_on k s high (state.Each d p) b c front r =
-  by_word k s (state.Each d p) (state.EachAmong d p a_name) (at_origin (kind.Lower [])) refl (omega arith)
+    by_word k s (state.Each d p) (state.EachAmong d p a_name) (at_origin (kind.Lower [])) refl (omega arith)
 goes_on k s high (state.EachAmong d p w) b c front r =
-  by_word k s (state.EachAmong d p w) (state.EachList d p w) (at_origin (kind.Word key.Among)) refl (omega arith)
+    by_word k s (state.EachAmong d p w) (state.EachList d p w) (at_origin (kind.Word key.Among)) refl (omega arith)
 goes_on k s high (state.EachThen each.ForAll p w l) b c front r = by_word k s (state.EachThen each.ForAll p w l)
-  (state.EachBody each.ForAll p w l) (at_origin (kind.Pair pair.WeHave)) refl (omega arith)
+    (state.EachBody each.ForAll p w l) (at_origin (kind.Pair pair.WeHave)) refl (omega arith)
 goes_on k s high (state.EachThen each.Exists p w l) b c front r = by_word k s (state.EachThen each.Exists p w l)
-  (state.EachBody each.Exists p w l) (at_origin (kind.Pair pair.SuchThat)) refl (omega arith)
+    (state.EachBody each.Exists p w l) (at_origin (kind.Pair pair.SuchThat)) refl (omega arith)
 goes_on k s high (state.EachThen each.MapEach p w l) b c front r = by_word k s (state.EachThen each.MapEach p w l)
-  (state.EachBody each.MapEach p w l) (at_origin (kind.Word key.To)) refl (omega arith)
+    (state.EachBody each.MapEach p w l) (at_origin (kind.Word key.To)) refl (omega arith)
 goes_on k s high (state.EachThen each.ListOf p w l) b c front r = by_word k s (state.EachThen each.ListOf p w l)
-  (state.EachBody each.ListOf p w l) (at_origin (kind.Pair pair.SuchThat)) refl (omega arith)
+    (state.EachBody each.ListOf p w l) (at_origin (kind.Pair pair.SuchThat)) refl (omega arith)
 goes_on k s high (state.Combine p) b c front r =
-  by_word k s (state.Combine p) (state.CombineAmong p a_name) (at_origin (kind.Lower [])) refl (omega arith)
+    by_word k s (state.Combine p) (state.CombineAmong p a_name) (at_origin (kind.Lower [])) refl (omega arith)
 goes_on k s high (state.CombineAmong p w) b c front r =
-  by_word k s (state.CombineAmong p w) (state.CombineList p w) (at_origin (kind.Word key.Among)) refl (omega arith)
+    by_word k s (state.CombineAmong p w) (state.CombineList p w) (at_origin (kind.Word key.Among)) refl (omega arith)
 goes_on k s high (state.CombineIn d) b c front r =
-  by_word k s (state.CombineIn d) (state.CombineResult d) (at_origin (kind.Word key.In)) refl (omega arith)
+    by_word k s (state.CombineIn d) (state.CombineResult d) (at_origin (kind.Word key.In)) refl (omega arith)
 goes_on k s high (state.CombineResult d) b c front r =
-  by_word k s (state.CombineResult d) (state.CombineInitially d a_name) (at_origin (kind.Lower [])) refl (omega arith)
+    by_word k s (state.CombineResult d) (state.CombineInitially d a_name) (at_origin (kind.Lower [])) refl (omega arith)
 goes_on k s high (state.CombineInitially d w) b c front r = by_word k s (state.CombineInitially d w)
-  (state.CombineStart d w) (at_origin (kind.Word key.Initially)) refl (omega arith)
+    (state.CombineStart d w) (at_origin (kind.Word key.Initially)) refl (omega arith)
 goes_on k s high (state.CombineWith d w e) b c front r =
-  by_word k s (state.CombineWith d w e) (state.CombineBody d w e) (at_origin (kind.Word key.With)) refl (omega arith)
+    by_word k s (state.CombineWith d w e) (state.CombineBody d w e) (at_origin (kind.Word key.With)) refl (omega arith)
 
 fields_fed : (o : Owner) (fs : List FieldValue) (f : FieldValue) → left_over (state.Fields o (fs ++ f ∷ [])) < 4
 fields_fed (owner.Literal u) [] f = omega arith

@@ -35,7 +35,7 @@ abbrev InSecond : (a b x y : List Token) → Type 0
 InSecond a b x y = (q : Token) × (d : List Token) × (x ≡ a ++ q ∷ d) × (b ≡ (q ∷ d) ++ y)
 
 split_more : (s : Token) (a b x y : List Token) → (InFirst a x) ⊎ (InSecond a b x y) → (InFirst (s ∷ a) (s ∷ x)) ⊎
-  (InSecond (s ∷ a) b (s ∷ x) y)
+    (InSecond (s ∷ a) b (s ∷ x) y)
 split_more s a b x y (inl c) = inl (c.0, ap (λ (w : List Token). s ∷ w) c.1)
 split_more s a b x y (inr d) = inr (d.0, d.1, ap (λ (w : List Token). s ∷ w) d.2, d.3)
 
@@ -46,7 +46,7 @@ split (s ∷ a) b (q ∷ x) y e =
     let same : s ≡ q = ap (head_or s) e in
     let rest : a ++ b ≡ x ++ y = ap tail_of e in
     subst (λ (w : Token). (InFirst (s ∷ a) (w ∷ x)) ⊎ (InSecond (s ∷ a) b (w ∷ x) y)) same
-      (split_more s a b x y (split a b x y rest))
+    (split_more s a b x y (split a b x y rest))
 
 -- ---- passing, at each limit
 
@@ -60,11 +60,11 @@ passed (suc low) = λ k e front q z is fits.
     let t = path k e front is in
     let small : t.end.tallest ≤ low = omega (arith, ap (λ (x : Part). x.height) t.is) in
     let p = passing (read low) low (read_fine low) (wholes low) k (hold e.node) q z t.end e.node t.finished small
-      (passed low) t.items (suc (length (text t.items ++ q ∷ z))) None start t.way (omega arith) in
+    (passed low) t.items (suc (length (text t.items ++ q ∷ z))) None start t.way (omega arith) in
     subst (λ (w : List Token). Passes e q z (run (operand_of (read low)) k (suc low) (suc (length (w ++ q ∷ z))) None
-      start (w ++ q ∷ z))) (sym t.spelled)
+    start (w ++ q ∷ z))) (sym t.spelled)
     (subst (λ (x : Part). Passes x q z (run (operand_of (read low)) k (suc low) (suc (length (text t.items ++ q ∷ z)))
-      None start (text t.items ++ q ∷ z))) t.is p)
+    None start (text t.items ++ q ∷ z))) t.is p)
 
 -- ---- cuts
 
@@ -74,14 +74,14 @@ Fair e limit o = Deep o → e.height ≤ limit
 
 abbrev pub AreWithin : (ℕ → Reader) → (limit : ℕ) → Type 0
 AreWithin reader limit = (j : ℕ) (e : Part) (front x y z : List Token) → IsPart j e front → front ≡ x ++ y
-  → Fair e limit (reader j (x ++ z)) → Short (length z) (reader j (x ++ z))
+    → Fair e limit (reader j (x ++ z)) → Short (length z) (reader j (x ++ z))
 
 is_nil : (a b : List Token) → [] ≡ a ++ b → a ≡ []
 is_nil [] b e = refl
 is_nil (p ∷ a) b e = absurd cc
 
 module _ (low : ℕ) (withins : AreWithin (read low) low) (k bound : ℕ) (z : List Token) (end : Reading) (n : Node)
-  (finished : done end.state ≡ Some n) where
+    (finished : done end.state ≡ Some n) where
   abbrev go : ℕ → Going
   go fuel = run (operand_of (read low)) k (suc low) fuel
 
@@ -93,17 +93,17 @@ module _ (low : ℕ) (withins : AreWithin (read low) low) (k bound : ℕ) (z : L
 
   abbrev pub Cuts : List Item → Type 0
   Cuts items = (fuel : ℕ) (best : Option Best) (r : Reading) (x y : List Token) → Path k bound r items end
-    → IsLow (suc low) r → text items ≡ x ++ y → length (x ++ z) < fuel → Ends_in (go fuel best r (x ++ z))
+      → IsLow (suc low) r → text items ≡ x ++ y → length (x ++ z) < fuel → Ends_in (go fuel best r (x ++ z))
 
   nothing_left : (fuel : ℕ) (best : Option Best) (r : Reading) → Ends_in (go fuel best r z)
   nothing_left fuel best r fair = run_short (read low) low (read_fine low) k fuel best r z
 
   cut_shift : (fuel : ℕ) (best : Option Best) (r more : Reading) (ts ws : List Token) (b : Bool)
-    → end.tallest ≤ low ⊎ low < end.tallest → (end.tallest ≤ low → is_high (suc low) more ≡ false)
-    → is_high (suc low) more ≡ b
+      → end.tallest ≤ low ⊎ low < end.tallest → (end.tallest ≤ low → is_high (suc low) more ≡ false)
+      → is_high (suc low) more ≡ b
       → (is_high (suc low) more ≡ false → Ends_in (go fuel (best_of (done r.state) best r ts) more ws))
       → Ends_in (cond b (stopped (best_of (done r.state) best r ts) (too_deep ts))
-        (go fuel (best_of (done r.state) best r ts) more ws))
+      (go fuel (best_of (done r.state) best r ts) more ws))
   cut_shift fuel best r more ts ws true c grows h goes fair =
       let le = fair (deep_stopped (best_of (done r.state) best r ts) (too_deep ts) refl) in
       absurd (no_test (is_high (suc low) more) (grows le) h)
@@ -111,25 +111,25 @@ module _ (low : ℕ) (withins : AreWithin (read low) low) (k bound : ℕ) (z : L
 
   -- inside an operand
   cut_inside : (fuel j : ℕ) (best : Option Best) (r : Reading) (e : Part) (f x c : List Token) (m : ℕ) → IsPart j e f
-    → j ≤ 9 → f ≡ x ++ c → e.height ≤ end.tallest → length (x ++ z) ≤ fuel
-    → Ends_in (fed k (suc low) (go fuel) best r (read low j (x ++ z)))
+      → j ≤ 9 → f ≡ x ++ c → e.height ≤ end.tallest → length (x ++ z) ≤ fuel
+      → Ends_in (fed k (suc low) (go fuel) best r (read low j (x ++ z)))
   cut_inside fuel j best r e f x c m is j9 text_is tall room fair =
       let o = read low j (x ++ z) in
       let sub = withins j e f x c z is text_is
-        (λ deep. omega (arith, fair (deep_fed k (suc low) (go fuel) best r o deep))) in
+      (λ deep. omega (arith, fair (deep_fed k (suc low) (go fuel) best r o deep))) in
       short_fed (read low) low (read_fine low) k fuel best r (length z) (length (x ++ z)) o
-        (leaves_of j low (x ++ z) o (read_fine low j (x ++ z) j9)) room sub
+      (leaves_of j low (x ++ z) o (read_fine low j (x ++ z) j9)) room sub
 
   passed_goes : (fuel j : ℕ) (best : Option Best) (r : Reading) (e : Part) (q : Token) (o : Outcome) (m : ℕ)
-    → Leaves m o → m ≤ fuel → Passes e q z o → Ends_in (go fuel best (feed r e) (q ∷ z))
-    → Ends_in (fed k (suc low) (go fuel) best r o)
+      → Leaves m o → m ≤ fuel → Passes e q z o → Ends_in (go fuel best (feed r e) (q ∷ z))
+      → Ends_in (fed k (suc low) (go fuel) best r o)
   passed_goes fuel j best r e q o m l room (inl is) goes = ends_along (fed k (suc low) (go fuel) best r o)
-    (go fuel best (feed r e) (q ∷ z)) (ap (fed k (suc low) (go fuel) best r) is) goes
+      (go fuel best (feed r e) (q ∷ z)) (ap (fed k (suc low) (go fuel) best r) is) goes
   passed_goes fuel j best r e q o m l room (inr h) goes =
-    λ fair. short_fed (read low) low (read_fine low) k fuel best r (length z) m o l room h
+      λ fair. short_fed (read low) low (read_fine low) k fuel best r (length z) m o l room h
 
   calm_cut : (i : Item) (items : List Item) (j : ℕ) (e : Part) (a b : Token) (d y : List Token)
-    → CalmAt bound (i ∷ items) j e → text (i ∷ items) ≡ a ∷ b ∷ (d ++ y) → Calm j e (a ∷ b ∷ (d ++ z))
+      → CalmAt bound (i ∷ items) j e → text (i ∷ items) ≡ a ∷ b ∷ (d ++ y) → Calm j e (a ∷ b ∷ (d ++ z))
   calm_cut i items j e a b d y calm is =
       let c : Calm j e (a ∷ b ∷ ((d ++ y) ++ [])) = subst (λ (w : List Token). Calm j e (w ++ [])) is (calm []) in
       let p = pull_two a b ((d ++ y) ++ []) (d ++ z) in
@@ -137,9 +137,9 @@ module _ (low : ℕ) (withins : AreWithin (read low) low) (k bound : ℕ) (z : L
 
   -- behind an operand, with more of the text than one token
   cut_behind : (fuel j : ℕ) (best : Option Best) (r : Reading) (e : Part) (f : List Token) (items : List Item)
-    (q : Token) (d y : List Token) → takes r.state ≡ Some j → IsPart j e f → e.height ≤ low → CalmAt bound items j e
-    → Path k bound (feed r e) items end → IsLow (suc low) (feed r e) → text items ≡ (q ∷ d) ++ y → Cuts items
-    → length (f ++ (q ∷ (d ++ z))) ≤ fuel
+      (q : Token) (d y : List Token) → takes r.state ≡ Some j → IsPart j e f → e.height ≤ low → CalmAt bound items j e
+      → Path k bound (feed r e) items end → IsLow (suc low) (feed r e) → text items ≡ (q ∷ d) ++ y → Cuts items
+      → length (f ++ (q ∷ (d ++ z))) ≤ fuel
       → Ends_in (fed k (suc low) (go fuel) best r (read low j (f ++ (q ∷ (d ++ z)))))
   cut_behind fuel j best r e f [] q d y a is low_e calm way is_low h cuts room = absurd cc
   cut_behind fuel j best r e f (i ∷ items) q [] y a is low_e calm way is_low h cuts room =
@@ -147,7 +147,7 @@ module _ (low : ℕ) (withins : AreWithin (read low) low) (k bound : ℕ) (z : L
       let some = part_some j e f is in
       let l = leaves_of j low ts (read low j ts) (read_fine low j ts (takes_low r.state j a)) in
       passed_goes fuel j best r e q (read low j ts) (length ts) l room (passed low j e f q z is low_e)
-        (cuts fuel best (feed r e) (q ∷ []) y way is_low h (omega (arith, length-append f (q ∷ z))))
+      (cuts fuel best (feed r e) (q ∷ []) y way is_low h (omega (arith, length-append f (q ∷ z))))
   cut_behind fuel j best r e f (i ∷ items) q (b ∷ d) y a is low_e calm way is_low h cuts room =
       let w = q ∷ b ∷ (d ++ z) in
       let ts = f ++ w in
@@ -155,27 +155,27 @@ module _ (low : ℕ) (withins : AreWithin (read low) low) (k bound : ℕ) (z : L
       let heads = head_item i items q (b ∷ (d ++ z)) ((b ∷ d) ++ y) way h in
       ends_along (fed k (suc low) (go fuel) best r (read low j ts)) (go fuel best (feed r e) w)
       (whole_goes (read low) low (read_fine low) (wholes low) k fuel j best r e bound i items end w a (read low j ts)
-        (omega (arith, part_high j e f is)) heads (wholes low j e f w is low_e (calm_cut i items j e q b d y calm h)))
+      (omega (arith, part_high j e f is)) heads (wholes low j e f w is low_e (calm_cut i items j e q b d y calm h)))
       (cuts fuel best (feed r e) (q ∷ b ∷ d) y way is_low h (omega (arith, length-append f w)))
     where
       head_item : (i : Item) (items : List Item) (q : Token) (ws us : List Token) → Path k bound (feed r e) (i ∷ items)
-        end → text (i ∷ items) ≡ q ∷ us → Heads (read low) low (read_fine low) (wholes low) k fuel j best r e bound i
-        items end (q ∷ ws) a i
+          end → text (i ∷ items) ≡ q ∷ us → Heads (read low) low (read_fine low) (wholes low) k fuel j best r e bound i
+          items end (q ∷ ws) a i
       head_item (Tok p) items q ws us t h = let same : p ≡ q =
-        ap (head_or p) h in (t.0, ws, ap (λ (v : Token). v ∷ ws) (sym same), t.1)
+          ap (head_or p) h in (t.0, ws, ap (λ (v : Token). v ∷ ws) (sym same), t.1)
       head_item (Sub g v) items q ws us t h = let same : None ≡ Some t.0 = sym (feed_wants r e j a) ∙ t.1 in absurd cc
 
   ask_cut : (fuel j : ℕ) (best : Option Best) (r : Reading) (e : Part) (f : List Token) (items : List Item) (p : Token)
-    (x y : List Token) (b : Bool) → takes r.state ≡ Some j → IsPart j e f → CalmAt bound items j e
-    → Path k bound (feed r e) items end → f ++ text items ≡ (p ∷ x) ++ y → Cuts items → length (p ∷ (x ++ z)) ≤ fuel
-    → leb (suc low) r.tallest ≡ b
+      (x y : List Token) (b : Bool) → takes r.state ≡ Some j → IsPart j e f → CalmAt bound items j e
+      → Path k bound (feed r e) items end → f ++ text items ≡ (p ∷ x) ++ y → Cuts items → length (p ∷ (x ++ z)) ≤ fuel
+      → leb (suc low) r.tallest ≡ b
       → Ends_in (fed k (suc low) (go fuel) best r (operand_of (read low) b j (p ∷ (x ++ z))))
   ask_cut fuel j best r e f items p x y true a is calm way h cuts room over fair =
       let hd = head j e f is in
       let same : hd.0 ≡ p = ap (head_or hd.0) (sym (ap (λ (w : List Token). w ++ text items) hd.3) ∙ h) in
       let ts = p ∷ (x ++ z) in
       let started : starts j ts ≡ true = ap (λ (w : Token). starts j (w ∷ (x ++ z))) (sym same)
-        ∙ starts_shift j hd.0 (x ++ z) hd.1 hd.4 in
+      ∙ starts_shift j hd.0 (x ++ z) hd.1 hd.4 in
       let le = fair (deep_stopped best (record { left = ts; deep = starts j ts }) started) in
       let above = leb-true (suc low) r.tallest over in
       absurd (omega (arith, feed_tallest r e, path_grows k bound items (feed r e) end way))
@@ -183,22 +183,27 @@ module _ (low : ℕ) (withins : AreWithin (read low) low) (k bound : ℕ) (z : L
       let small = is_below (suc low) r.tallest over in
       let j9 = takes_low r.state j a in
       (elim (split f (text items) (p ∷ x) y h) as
-        (λ _. Ends_in (fed k (suc low) (go fuel) best r (read low j ((p ∷ x) ++ z)))) [
+      (λ _. Ends_in (fed k (suc low) (go fuel) best r (read low j ((p ∷ x) ++ z)))) [
         | inl c ↦ cut_inside fuel j best r e f (p ∷ x) c.0 0 is j9 c.1
-          (omega (arith, feed_tallest r e, path_grows k bound items (feed r e) end way)) room
+            (omega (arith, feed_tallest r e, path_grows k bound items (feed r e) end way)) room
         | inr q ↦
             let ts_is : (p ∷ x) ++ z ≡ f ++ (q.0 ∷ (q.1 ++ z)) =
-              ap (λ (w : List Token). w ++ z) q.2 ∙ append_assoc f (q.0 ∷ q.1) z in
+            ap (λ (w : List Token). w ++ z) q.2 ∙ append_assoc f (q.0 ∷ q.1) z in
             ends_along (fed k (suc low) (go fuel) best r (read low j ((p ∷ x) ++ z)))
-              (fed k (suc low) (go fuel) best r (read low j (f ++ (q.0 ∷ (q.1 ++ z)))))
-              (ap (λ (w : List Token). fed k (suc low) (go fuel) best r (read low j w)) ts_is)
+            (fed k (suc low) (go fuel) best r (read low j (f ++ (q.0 ∷ (q.1 ++ z)))))
+            (ap (λ (w : List Token). fed k (suc low) (go fuel) best r (read low j w)) ts_is)
             (elim (cases_lt low e.height) [
               | inl more ↦ λ fair. absurd
-                (omega (arith, fair (deep_fed k (suc low) (go fuel) best r (read low j (f ++ (q.0 ∷ (q.1 ++ z))))
-                (high low j e f (q.0 ∷ (q.1 ++ z)) is more)), feed_tallest r e, path_grows k bound items (feed r e) end
-                way))
+                  (omega (
+                    arith,
+                    fair (deep_fed k (suc low) (go fuel) best r (read low j (f ++ (q.0 ∷ (q.1 ++ z))))
+                        (high low j e f (q.0 ∷ (q.1 ++ z)) is more)),
+                    feed_tallest r e,
+                    path_grows k bound items (feed r e) end
+                        way,
+                  ))
               | inr less ↦ cut_behind fuel j best r e f items q.0 q.1 y a is less calm way (low_feed low r e small less)
-                q.3 cuts (omega (arith, ap length ts_is))
+                  q.3 cuts (omega (arith, ap length ts_is))
             ])
       ]) fair
 
@@ -211,12 +216,12 @@ module _ (low : ℕ) (withins : AreWithin (read low) low) (k bound : ℕ) (z : L
       let shift_is : shift k r p ≡ Some t.0 = ap (shift k r) (sym same) ∙ t.1 in
       let ts = p ∷ (x ++ z) in
       ends_along (go (suc fuel) best r ts) (turn (operand_of (read low)) k (suc low) (go fuel) best r ts
-        (Shifted t.0 (x ++ z))) (run_is (read low) low k fuel best r ts (Shifted t.0 (x ++ z))
-        (next_shift k r t.0 p (x ++ z) shift_is))
+      (Shifted t.0 (x ++ z))) (run_is (read low) low k fuel best r ts (Shifted t.0 (x ++ z))
+      (next_shift k r t.0 p (x ++ z) shift_is))
       (cut_shift fuel best r t.0 ts (x ++ z) (is_high (suc low) t.0) (side (cases_lt low end.tallest))
-        (path_low k bound items t.0 end n low t.2 finished) refl
+      (path_low k bound items t.0 end n low t.2 finished) refl
       (λ flat. cutting items fuel (best_of (done r.state) best r ts) t.0 x y t.2 (low_shift (suc low) t.0 flat)
-        (ap tail_of h) (omega arith)))
+      (ap tail_of h) (omega arith)))
     where
       side : (low < end.tallest) ⊎ (end.tallest ≤ low) → end.tallest ≤ low ⊎ low < end.tallest
       side (inl a) = inr a
@@ -228,9 +233,9 @@ module _ (low : ℕ) (withins : AreWithin (read low) low) (k bound : ℕ) (z : L
       let ts = p ∷ (x ++ z) in
       let starts_is : shift t.0 start p ≡ Some hd.1 = ap (shift t.0 start) (sym same) ∙ hd.4 in
       ends_along (go (suc fuel) best r ts) (turn (operand_of (read low)) k (suc low) (go fuel) best r ts (Asks t.0))
-        (run_is (read low) low k fuel best r ts (Asks t.0) (asks_at k t.0 r hd.1 p (x ++ z) t.1 starts_is))
+      (run_is (read low) low k fuel best r ts (Asks t.0) (asks_at k t.0 r hd.1 p (x ++ z) t.1 starts_is))
       (ask_cut fuel t.0 best r e f items p x y (leb (suc low) r.tallest) t.1 t.2 t.3 t.4 h (cutting items) (omega arith)
-        refl)
+      refl)
 
 zero_within : AreWithin (read zero) zero
 unfolding read
@@ -239,7 +244,7 @@ zero_within j e front (p ∷ x) y z is h fair =
     let hd = head j e front is in
     let same : hd.0 ≡ p = ap (head_or hd.0) (sym hd.3 ∙ h) in
     let started : starts j (p ∷ (x ++ z)) ≡ true = ap (λ (w : Token). starts j (w ∷ (x ++ z))) (sym same)
-      ∙ starts_shift j hd.0 (x ++ z) hd.1 hd.4 in
+    ∙ starts_shift j hd.0 (x ++ z) hd.1 hd.4 in
     let some = part_high j e front is in
     absurd (omega (arith, fair started))
 
@@ -251,4 +256,4 @@ within (suc low) = λ k e front x y z is h fair.
     let t = path k e front is in
     let tall : suc t.end.tallest ≡ e.height = ap (λ (w : Part). w.height) t.is in
     cutting low (within low) k (hold e.node) z t.end e.node t.finished t.items (suc (length (x ++ z))) None start x y
-      t.way (λ m d. absurd (start_open m d)) (sym t.spelled ∙ h) (omega arith) (λ deep. omega (arith, fair deep))
+    t.way (λ m d. absurd (start_open m d)) (sym t.spelled ∙ h) (omega arith) (λ deep. omega (arith, fair deep))

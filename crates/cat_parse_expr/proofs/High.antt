@@ -38,36 +38,36 @@ no_reach limit (Asks j) s d = refl
 no_reach limit Ends s d = refl
 
 pub deep_fed : (k limit : ℕ) (go : Going) (best : Option Best) (r : Reading) (o : Outcome) → Deep o
-  → Deep (fed k limit go best r o)
+    → Deep (fed k limit go best r o)
 deep_fed k limit go best r (Fails s) d = deep_stopped best s d
 deep_fed k limit go best r (Reads e ts None) d = absurd cc
 deep_fed k limit go best r (Reads e ts (Some s)) d =
     subst (λ (b : Bool). Deep
-      (cond b (go best (feed r e) ts) (stopped (best_of (done (feed r e).state) best (feed r e) ts) s)))
-      (sym (no_reach limit (next k (feed r e) ts) s d))
+    (cond b (go best (feed r e) ts) (stopped (best_of (done (feed r e).state) best (feed r e) ts) s)))
+    (sym (no_reach limit (next k (feed r e) ts) s d))
     (deep_stopped (best_of (done (feed r e).state) best (feed r e) ts) s d)
 
 pub path_grows : (k bound : ℕ) (items : List Item) (r end : Reading) → Path k bound r items end
-  → r.tallest ≤ end.tallest
+    → r.tallest ≤ end.tallest
 path_grows k bound [] r end t = omega (arith, ap (λ (x : Reading). x.tallest) t)
 path_grows k bound (Tok p ∷ items) r end t =
-  omega (arith, shift_tallest k r t.0 p t.1, path_grows k bound items t.0 end t.2)
+    omega (arith, shift_tallest k r t.0 p t.1, path_grows k bound items t.0 end t.2)
 path_grows k bound (Sub e f ∷ items) r end t =
-  omega (arith, feed_tallest r e, path_grows k bound items (feed r e) end t.4)
+    omega (arith, feed_tallest r e, path_grows k bound items (feed r e) end t.4)
 
 -- along a path to what is whole and low enough, nothing is high
 pub path_low : (k bound : ℕ) (items : List Item) (more end : Reading) (n : Node) (low : ℕ) → Path k bound more items end
-  → done end.state ≡ Some n → end.tallest ≤ low → is_high (suc low) more ≡ false
+    → done end.state ≡ Some n → end.tallest ≤ low → is_high (suc low) more ≡ false
 path_low k bound items more end n low t d fits =
     let g = path_grows k bound items more end t in
     not_high (suc low) more (omega arith) (by items t)
   where
     by : (items : List Item) → Path k bound more items end → needs_part more.state ≡ true → 1 < suc low
     by [] t h = absurd (no_test (needs_part end.state) (done_needs end.state n d)
-      (ap (λ (x : Reading). needs_part x.state) (sym t) ∙ h))
+        (ap (λ (x : Reading). needs_part x.state) (sym t) ∙ h))
     by (Tok p ∷ items) t h = absurd (needs_no_word k more t.0 p h t.1)
     by (Sub e f ∷ items) t h =
-      omega (arith, part_high t.0 e f t.2, feed_tallest more e, path_grows k bound items (feed more e) end t.4)
+        omega (arith, part_high t.0 e f t.2, feed_tallest more e, path_grows k bound items (feed more e) end t.4)
 
 pub done_of_high : (o : Option Node) (c : Bool) → (is_some o && c) ≡ true → (m : Node) × (o ≡ Some m)
 done_of_high None c h = absurd cc
@@ -86,10 +86,10 @@ first_holds_before false false c e h = absurd cc
 
 -- with room for a part, what is high is whole
 pub high_done : (low : ℕ) (more : Reading) → 0 < low → is_high (suc low) more ≡ true → (m : Node)
-  × (done more.state ≡ Some m)
+    × (done more.state ≡ Some m)
 high_done low more room high = done_of_high (done more.state) (leb (suc low) more.tallest)
-  (first_holds (is_some (done more.state) && leb (suc low) more.tallest) (needs_part more.state) (leb (suc low) 1)
-  (lt-leb (suc low) 1 (omega arith)) high)
+    (first_holds (is_some (done more.state) && leb (suc low) more.tallest) (needs_part more.state) (leb (suc low) 1)
+    (lt-leb (suc low) 1 (omega arith)) high)
 
 abbrev pub tail_of : List Token → List Token
 tail_of [] = []
@@ -101,34 +101,34 @@ head_or w (v ∷ vs) = v
 
 abbrev pub AreHigh : (ℕ → Reader) → (limit : ℕ) → Type 0
 AreHigh reader limit = (j : ℕ) (e : Part) (front rest : List Token) → IsPart j e front → limit < e.height
-  → Deep (reader j (front ++ rest))
+    → Deep (reader j (front ++ rest))
 
 pub deep_along : (a b : Outcome) → a ≡ b → Deep b → Deep a
 deep_along a b e d = subst Deep (sym e) d
 
 module _ (reader : ℕ → Reader) (low : ℕ) (whole_is : AreWhole reader low) (highs : AreHigh reader low) (k bound : ℕ)
-  (rest : List Token) (end : Reading) (n : Node) (finished : done end.state ≡ Some n) (tall : low < end.tallest) where
+    (rest : List Token) (end : Reading) (n : Node) (finished : done end.state ≡ Some n) (tall : low < end.tallest) where
   abbrev go : ℕ → Going
   go fuel = run (operand_of reader) k (suc low) fuel
 
   abbrev Sinks : List Item → Type 0
   Sinks items = (fuel : ℕ) (best : Option Best) (r : Reading) → Path k bound r items end → IsLow (suc low) r
-    → length (text items ++ rest) < fuel → Deep (go fuel best r (text items ++ rest))
+      → length (text items ++ rest) < fuel → Deep (go fuel best r (text items ++ rest))
 
   shift_sinks : (fuel : ℕ) (best : Option Best) (r more : Reading) (p : Token) (items : List Item) (b : Bool)
-    → Sinks items → Path k bound more items end → length (text items ++ rest) < fuel → is_high (suc low) more ≡ b
+      → Sinks items → Path k bound more items end → length (text items ++ rest) < fuel → is_high (suc low) more ≡ b
       → Deep (cond b (stopped (best_of (done r.state) best r (p ∷ (text items ++ rest)))
-        (too_deep (p ∷ (text items ++ rest)))) (go fuel (best_of (done r.state) best r (p ∷ (text items ++ rest))) more
-        (text items ++ rest)))
+      (too_deep (p ∷ (text items ++ rest)))) (go fuel (best_of (done r.state) best r (p ∷ (text items ++ rest))) more
+      (text items ++ rest)))
   shift_sinks fuel best r more p items true sinks t room h =
-    deep_stopped (best_of (done r.state) best r (p ∷ (text items ++ rest))) (too_deep (p ∷ (text items ++ rest))) refl
+      deep_stopped (best_of (done r.state) best r (p ∷ (text items ++ rest))) (too_deep (p ∷ (text items ++ rest))) refl
   shift_sinks fuel best r more p items false sinks t room h =
-    sinks fuel (best_of (done r.state) best r (p ∷ (text items ++ rest))) more t (low_shift (suc low) more h) room
+      sinks fuel (best_of (done r.state) best r (p ∷ (text items ++ rest))) more t (low_shift (suc low) more h) room
 
   -- behind an operand that was read whole, where it broke off at the next token
   broke : (fuel j : ℕ) (best : Option Best) (r more : Reading) (e : Part) (q : Token) (items : List Item)
-    (ts : List Token) (b : Bool) → 0 < low → takes r.state ≡ Some j → Taker q → Sinks (Tok q ∷ items)
-    → shift k (feed r e) q ≡ Some more → Path k bound more items end → IsLow (suc low) (feed r e)
+      (ts : List Token) (b : Bool) → 0 < low → takes r.state ≡ Some j → Taker q → Sinks (Tok q ∷ items)
+      → shift k (feed r e) q ≡ Some more → Path k bound more items end → IsLow (suc low) (feed r e)
       → length (q ∷ (text items ++ rest)) < fuel → text items ++ rest ≡ ts → is_high (suc low) more ≡ b
       → Deep (fed k (suc low) (go fuel) best r (Reads e (q ∷ (text items ++ rest)) (Some (here ts))))
   broke fuel j best r more e q items ts true some a taker sinks t way is_low room same h =
@@ -141,41 +141,41 @@ module _ (reader : ℕ → Reader) (low : ℕ) (whole_is : AreWhole reader low) 
       ∙ ap (λ (x : List Token). reaches (suc low) (Shifted more x) (here ts)) same
       ∙ ap (λ (x : Bool). not x && nat_eq (length ts) (length ts)) h ∙ nat_same (length ts) in
       subst (λ (x : Bool). Deep
-        (cond x (go fuel best (feed r e) (q ∷ w)) (stopped (best_of (done (feed r e).state) best (feed r e) (q ∷ w))
-        (here ts)))) (sym yes)
+      (cond x (go fuel best (feed r e) (q ∷ w)) (stopped (best_of (done (feed r e).state) best (feed r e) (q ∷ w))
+      (here ts)))) (sym yes)
       (sinks fuel best (feed r e) (more, t, way) is_low room)
 
   behind : (fuel j : ℕ) (best : Option Best) (r : Reading) (e : Part) (i : Item) (items : List Item) (o : Outcome)
-    → 0 < low → takes r.state ≡ Some j → Sinks (i ∷ items) → Path k bound (feed r e) (i ∷ items) end
-    → IsLow (suc low) (feed r e) → length (text (i ∷ items) ++ rest) < fuel → IsWhole e (text (i ∷ items) ++ rest) o
+      → 0 < low → takes r.state ≡ Some j → Sinks (i ∷ items) → Path k bound (feed r e) (i ∷ items) end
+      → IsLow (suc low) (feed r e) → length (text (i ∷ items) ++ rest) < fuel → IsWhole e (text (i ∷ items) ++ rest) o
       → Deep (fed k (suc low) (go fuel) best r o)
   behind fuel j best r e i items o some a sinks t is_low room (inl is) = deep_along (fed k (suc low) (go fuel) best r o)
-    (go fuel best (feed r e) (text (i ∷ items) ++ rest)) (ap (fed k (suc low) (go fuel) best r) is)
-    (sinks fuel best (feed r e) t is_low room)
+      (go fuel best (feed r e) (text (i ∷ items) ++ rest)) (ap (fed k (suc low) (go fuel) best r) is)
+      (sinks fuel best (feed r e) t is_low room)
   behind fuel j best r e (Tok q) items o some a sinks t is_low room (inr w) =
       let same : q ≡ w.0 = ap (head_or q) w.2 in
       deep_along (fed k (suc low) (go fuel) best r o)
-        (fed k (suc low) (go fuel) best r (Reads e (q ∷ (text items ++ rest)) (Some (here w.1))))
-        (ap (fed k (suc low) (go fuel) best r) w.3)
+      (fed k (suc low) (go fuel) best r (Reads e (q ∷ (text items ++ rest)) (Some (here w.1))))
+      (ap (fed k (suc low) (go fuel) best r) w.3)
       (broke fuel j best r t.0 e q items w.1 (is_high (suc low) t.0) some a (subst Taker (sym same) w.4) sinks t.1 t.2
-        is_low room (ap tail_of w.2) refl)
+      is_low room (ap tail_of w.2) refl)
   behind fuel j best r e (Sub f x) items o some a sinks t is_low room (inr w) = let same : None ≡ Some t.0 =
-    sym (feed_wants r e j a) ∙ t.1 in absurd cc
+      sym (feed_wants r e j a) ∙ t.1 in absurd cc
 
   no_items : (r : Reading) → r ≡ end → IsLow (suc low) r → ⊥
   no_items r t is_low = let h = is_low n (ap (λ (x : Reading). done x.state) t ∙ finished) in
-    omega (arith, ap (λ (x : Reading). x.tallest) t)
+      omega (arith, ap (λ (x : Reading). x.tallest) t)
 
   ask_sinks : (fuel : ℕ) (best : Option Best) (r : Reading) (e : Part) (f : List Token) (j : ℕ) (items : List Item)
-    (b : Bool) → takes r.state ≡ Some j → IsPart j e f → CalmAt bound items j e → Path k bound (feed r e) items end
-    → Sinks items → IsLow (suc low) r → length (text items ++ rest) < fuel → leb (suc low) r.tallest ≡ b
+      (b : Bool) → takes r.state ≡ Some j → IsPart j e f → CalmAt bound items j e → Path k bound (feed r e) items end
+      → Sinks items → IsLow (suc low) r → length (text items ++ rest) < fuel → leb (suc low) r.tallest ≡ b
       → Deep (fed k (suc low) (go fuel) best r (operand_of reader b j (f ++ (text items ++ rest))))
   ask_sinks fuel best r e f j items true a is calm t sinks is_low room h =
       let hd = head j e f is in
       let ts = f ++ (text items ++ rest) in
       deep_stopped best (record { left = ts; deep = starts j ts })
-        (ap (λ (w : List Token). starts j (w ++ (text items ++ rest))) hd.3
-        ∙ starts_shift j hd.0 (hd.2 ++ (text items ++ rest)) hd.1 hd.4)
+      (ap (λ (w : List Token). starts j (w ++ (text items ++ rest))) hd.3
+      ∙ starts_shift j hd.0 (hd.2 ++ (text items ++ rest)) hd.1 hd.4)
   ask_sinks fuel best r e f j items false a is calm t sinks is_low room h =
       let small = is_below (suc low) r.tallest h in
       let ts = text items ++ rest in
@@ -185,12 +185,12 @@ module _ (reader : ℕ → Reader) (low : ℕ) (whole_is : AreWhole reader low) 
       ]
     where
       last : (items : List Item) → CalmAt bound items j e → Path k bound (feed r e) items end → Sinks items
-        → e.height ≤ low → r.tallest < suc low → length (text items ++ rest) < fuel
-        → Deep (fed k (suc low) (go fuel) best r (reader j (f ++ (text items ++ rest))))
+          → e.height ≤ low → r.tallest < suc low → length (text items ++ rest) < fuel
+          → Deep (fed k (suc low) (go fuel) best r (reader j (f ++ (text items ++ rest))))
       last [] calm t sinks less small room = absurd (no_items (feed r e) t (low_feed low r e small less))
       last (i ∷ items) calm t sinks less small room = behind fuel j best r e i items
-        (reader j (f ++ (text (i ∷ items) ++ rest))) (omega (arith, part_high j e f is)) a sinks t
-        (low_feed low r e small less) room (whole_is j e f (text (i ∷ items) ++ rest) is less (calm rest))
+          (reader j (f ++ (text (i ∷ items) ++ rest))) (omega (arith, part_high j e f is)) a sinks t
+          (low_feed low r e small less) room (whole_is j e f (text (i ∷ items) ++ rest) is less (calm rest))
 
   pub sinking : (items : List Item) → Sinks items
   sinking [] fuel best r t is_low room = absurd (no_items r t is_low)
@@ -198,19 +198,24 @@ module _ (reader : ℕ → Reader) (low : ℕ) (whole_is : AreWhole reader low) 
   sinking (Tok p ∷ items) (suc fuel) best r t is_low room =
       let ts = text items ++ rest in
       deep_along (go (suc fuel) best r (p ∷ ts)) (turn (operand_of reader) k (suc low) (go fuel) best r (p ∷ ts)
-        (Shifted t.0 ts)) (run_is reader low k fuel best r (p ∷ ts) (Shifted t.0 ts) (next_shift k r t.0 p ts t.1))
+      (Shifted t.0 ts)) (run_is reader low k fuel best r (p ∷ ts) (Shifted t.0 ts) (next_shift k r t.0 p ts t.1))
       (shift_sinks fuel best r t.0 p items (is_high (suc low) t.0) (sinking items) t.2 (omega arith) refl)
   sinking (Sub e f ∷ items) zero best r t is_low room = absurd (omega arith)
   sinking (Sub e f ∷ items) (suc fuel) best r t is_low room =
       let some = part_some t.0 e f t.2 in
       let ts = text items ++ rest in
       deep_along (go (suc fuel) best r ((f ++ text items) ++ rest)) (turn (operand_of reader) k (suc low) (go fuel) best
-        r (f ++ ts) (Asks t.0))
+      r (f ++ ts) (Asks t.0))
       (ap (go (suc fuel) best r) (append_assoc f (text items) rest) ∙ run_is reader low k fuel best r (f ++ ts)
-        (Asks t.0) (next_asks k t.0 r e f ts t.1 t.2))
+      (Asks t.0) (next_asks k t.0 r e f ts t.1 t.2))
       (ask_sinks fuel best r e f t.0 items (leb (suc low) r.tallest) t.1 t.2 t.3 t.4 (sinking items) is_low
-        (omega (arith, length-append f (text items), length-append (f ++ text items) rest, length-append (text items)
-        rest)) refl)
+      (omega (
+        arith,
+        length-append f (text items),
+        length-append (f ++ text items) rest,
+        length-append (text items)
+            rest,
+      )) refl)
 
 zero_high : AreHigh (read zero) zero
 unfolding read
@@ -226,6 +231,6 @@ high (suc low) = λ k e front rest is tall.
     let t = path k e front is in
     let above : low < t.end.tallest = omega (arith, ap (λ (x : Part). x.height) t.is) in
     subst (λ (w : List Token). Deep (run (operand_of (read low)) k (suc low) (suc (length (w ++ rest))) None start
-      (w ++ rest))) (sym t.spelled)
+    (w ++ rest))) (sym t.spelled)
     (sinking (read low) low (wholes low) (high low) k (hold e.node) rest t.end e.node t.finished above t.items
-      (suc (length (text t.items ++ rest))) None start t.way (λ m d. absurd (start_open m d)) (omega arith))
+    (suc (length (text t.items ++ rest))) None start t.way (λ m d. absurd (start_open m d)) (omega arith))

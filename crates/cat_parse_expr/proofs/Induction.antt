@@ -43,12 +43,12 @@ module _
     (list : (p : Pos) (es : List Node) → AllHold P es → P (node.List p es))
     (structure : (u : Name) (fs : List FieldValue) → AllHold (λ f. P f.value) fs → P (node.Structure u fs))
     (scope_call : (p : Pos) (u : Name) (fs : List FieldValue) (w : Name) → AllHold (λ f. P f.value) fs
-      → P (node.ScopeCall p u fs w))
+    → P (node.ScopeCall p u fs w))
     (choice : (p : Pos) (c t e : Node) → P c → P t → P e → P (node.If p c t e))
     (matching : (p : Pos) (e : Node) (more : List Arm) → P e → AllHold (λ a. P a.body) more → P (node.Match p e more))
     (each : (k : Each) (p : Pos) (w : Name) (l e : Node) → P l → P e → P (node.Each k p w l e))
     (combine : (p : Pos) (w : Name) (l : Node) (acc : Name) (s e : Node) → P l → P s → P e
-      → P (node.Combine p w l acc s e)) where
+    → P (node.Combine p w l acc s e)) where
   abbrev H : Type 0
   H = (e : Node) × P e
 
@@ -80,14 +80,14 @@ module _
   at (Node-F.Combine p w l acc s e) = combine p w l.0 acc s.0 e.0 l.1 s.1 e.1
 
   at_arm : (y : Arm-F H HA HF)
-    → P (roll-Arm (map-Arm H HA HF Node Arm FieldValue (λ e. e.0) (λ a. a.0) (λ f. f.0) y)).body
+      → P (roll-Arm (map-Arm H HA HF Node Arm FieldValue (λ e. e.0) (λ a. a.0) (λ f. f.0) y)).body
   at_arm y = y.body.1
 
   at_field : (y : FieldValue-F H HA HF)
-    → P (roll-FieldValue (map-FieldValue H HA HF Node Arm FieldValue (λ e. e.0) (λ a. a.0) (λ f. f.0) y)).value
+      → P (roll-FieldValue (map-FieldValue H HA HF Node Arm FieldValue (λ e. e.0) (λ a. a.0) (λ f. f.0) y)).value
   at_field y = y.value.1
 
   pub induction : (e : Node) → P e
   induction = ind-Node P (λ a. P a.body) (λ f. P f.value) (λ x y is. subst (λ z. P (roll-Node z)) is (at y))
-    (λ x y is. subst (λ z. P (roll-Arm z).body) is (at_arm y)) (λ x y is. subst (λ z. P (roll-FieldValue z).value) is
-    (at_field y))
+      (λ x y is. subst (λ z. P (roll-Arm z).body) is (at_arm y)) (λ x y is. subst (λ z. P (roll-FieldValue z).value) is
+      (at_field y))

@@ -37,71 +37,86 @@ tall_phrase (Row r ps) = omega arith
 
 pub reached_start : (k : ℕ) → k ≤ 9 → Reached k start []
 reached_start k le =
-  record { at = record { front_is = record { spelled = λ ps ts h. h; levels = λ ps h. h; tall = λ ps. omega arith;
-  form = λ ps. refl; matching = λ ps. refl }; fits = le; low = le } }
+    record {
+      at = record {
+        front_is = record {
+          spelled = λ ps ts h. h;
+          levels = λ ps h. h;
+          tall = λ ps. omega arith;
+          form = λ ps. refl;
+          matching = λ ps. refl;
+        };
+        fits = le;
+        low = le;
+      };
+    }
 
 shifted_reached : (k high : ℕ) (p : Token) (front : List Token) (r more : Reading) (o : Option Move) → r.tallest ≡ high
-  → ((m : Move) → o ≡ Some m → MoveReached k m high p front) → moved r o ≡ Some more → Reached k more (front ++ p ∷ [])
+    → ((m : Move) → o ≡ Some m → MoveReached k m high p front) → moved r o ≡ Some more → Reached k more (front ++ p ∷ [])
 shifted_reached k high p front r more None same f h = absurd cc
 shifted_reached k high p front r more (Some (Onward q)) same f h =
-  subst (λ (x : Reading). Reached k x (front ++ p ∷ []))
-  (reading_same (record { state = q; tallest = r.tallest; in_form = false; in_match = false }) more h)
-  (record { at = subst (λ (n : ℕ). ReachedAt k q n false false (front ++ p ∷ [])) (sym same) (f (Onward q) refl) })
+    subst (λ (x : Reading). Reached k x (front ++ p ∷ []))
+    (reading_same (record { state = q; tallest = r.tallest; in_form = false; in_match = false }) more h)
+    (record { at = subst (λ (n : ℕ). ReachedAt k q n false false (front ++ p ∷ [])) (sym same) (f (Onward q) refl) })
 shifted_reached k high p front r more (Some (Grown q)) same f h = subst (λ (x : Reading). Reached k x (front ++ p ∷ []))
-  (reading_same (record { state = q; tallest = suc r.tallest; in_form = false; in_match = false }) more h)
-  (record { at = subst (λ (n : ℕ). ReachedAt k q (suc n) false false (front ++ p ∷ [])) (sym same) (f (Grown q) refl) })
+    (reading_same (record { state = q; tallest = suc r.tallest; in_form = false; in_match = false }) more h)
+    (record { at = subst (λ (n : ℕ). ReachedAt k q (suc n) false false (front ++ p ∷ [])) (sym same) (f (Grown q) refl) })
 
 pub reached_shift : (k : ℕ) (r more : Reading) (p : Token) (front : List Token) → Reached k r front
-  → shift k r p ≡ Some more → Reached k more (front ++ p ∷ [])
+    → shift k r p ≡ Some more → Reached k more (front ++ p ∷ [])
 unfolding shift
 reached_shift k r more p front h e = shifted_reached k r.tallest p front r more
-  (step k (cond r.in_form 0 (strength_of r.state)) r.state p) refl
-  (λ m x. step_reached k r.tallest r.state r.in_form r.in_match p front m h.at x) e
+    (step k (cond r.in_form 0 (strength_of r.state)) r.state p) refl
+    (λ m x. step_reached k r.tallest r.state r.in_form r.in_match p front m h.at x) e
 
 pub reached_feed : (k j : ℕ) (r : Reading) (e : Part) (front text : List Token) → Reached k r front
-  → takes r.state ≡ Some j → IsPart j e text → Reached k (feed r e) (front ++ text)
+    → takes r.state ≡ Some j → IsPart j e text → Reached k (feed r e) (front ++ text)
 unfolding feed
 reached_feed k j r e front text h t is =
-  record { at = fed_reached k j r.tallest r.state r.in_form r.in_match e front text h.at t is }
+    record { at = fed_reached k j r.tallest r.state r.in_form r.in_match e front text h.at t is }
 
 pub reached_done : (k : ℕ) (r : Reading) (n : Node) (front : List Token) → Reached k r front → done r.state ≡ Some n
-  → IsPart k (whole r n) front
+    → IsPart k (whole r n) front
 reached_done k r n front h e = record { row = (done_row k r.state r.tallest r.in_form r.in_match front n h.at e).0 }
 
 fed_lt : (fuel : ℕ) (r : Reading) (e : Part) (j : ℕ) → takes r.state ≡ Some j → left_over r.state < suc fuel
-  → left_over (feed r e).state < fuel
+    → left_over (feed r e).state < fuel
 unfolding feed
 fed_lt fuel r e j t lt = let h = fed_left r.state e.node e.in_match j t in omega arith
 
 shift_is : (k : ℕ) (r : Reading) (t : Token) (q : State) → step k (cond r.in_form 0 (strength_of r.state)) r.state t
-  ≡ Some (Onward q) → shift k r t ≡ Some (record { state = q; tallest = r.tallest; in_form = false; in_match = false })
+    ≡ Some (Onward q) → shift k r t ≡ Some (record { state = q; tallest = r.tallest; in_form = false; in_match = false })
 unfolding shift
 shift_is k r t q e = ap (moved r) e
 
 -- a token or an operand more that begins an expression
 shorter : (k : ℕ) (front more : List Token) → Begins k (front ++ more) → Begins k front
 shorter k front more b =
-  record { tree = b.tree; rest = more ++ b.rest; is = subst (IsPart k b.tree) (append_assoc front more b.rest) b.is }
+    record { tree = b.tree; rest = more ++ b.rest; is = subst (IsPart k b.tree) (append_assoc front more b.rest) b.is }
 
 begins_by : (fuel k : ℕ) (r : Reading) (front : List Token) → ((q : Reading) (more : List Token) → Reached k q more
-  → left_over q.state < fuel → Begins k more) → Reached k r front → left_over r.state < suc fuel
-  → GoesOn k (cond r.in_form 0 (strength_of r.state)) r.state → Begins k front
+    → left_over q.state < fuel → Begins k more) → Reached k r front → left_over r.state < suc fuel
+    → GoesOn k (cond r.in_form 0 (strength_of r.state)) r.state → Begins k front
 begins_by fuel k r front go h lt (inl d) =
-  record { tree = whole r d.0; rest = []; is = subst (IsPart k (whole r d.0)) (sym (append-nil front))
-  (reached_done k r d.0 front h d.1) }
+    record {
+      tree = whole r d.0;
+      rest = [];
+      is = subst (IsPart k (whole r d.0)) (sym (append-nil front))
+          (reached_done k r d.0 front h d.1);
+    }
 begins_by fuel k r front go h lt (inr (inl t)) = shorter k front (zero_token ∷ [])
-  (go (feed r zero_part) (front ++ zero_token ∷ []) (reached_feed k t.0 r zero_part front (zero_token ∷ []) h t.1
-  (zero_is t.0 (takes_low r.state t.0 t.1))) (fed_lt fuel r zero_part t.0 t.1 lt))
+    (go (feed r zero_part) (front ++ zero_token ∷ []) (reached_feed k t.0 r zero_part front (zero_token ∷ []) h t.1
+    (zero_is t.0 (takes_low r.state t.0 t.1))) (fed_lt fuel r zero_part t.0 t.1 lt))
 begins_by fuel k r front go h lt (inr (inr w)) = shorter k front (w.0 ∷ [])
-  (go (record { state = w.1; tallest = r.tallest; in_form = false; in_match = false }) (front ++ w.0 ∷ [])
-  (reached_shift k r (record { state = w.1; tallest = r.tallest; in_form = false; in_match = false }) w.0 front h
-  (shift_is k r w.0 w.1 w.2)) (omega (arith, w.3)))
+    (go (record { state = w.1; tallest = r.tallest; in_form = false; in_match = false }) (front ++ w.0 ∷ [])
+    (reached_shift k r (record { state = w.1; tallest = r.tallest; in_form = false; in_match = false }) w.0 front h
+    (shift_is k r w.0 w.1 w.2)) (omega (arith, w.3)))
 
 begins_to : (fuel k : ℕ) (r : Reading) (front : List Token) → Reached k r front → left_over r.state < fuel
-  → Begins k front
+    → Begins k front
 begins_to zero k r front h lt = absurd (omega arith)
 begins_to (suc fuel) k r front h lt = begins_by fuel k r front (begins_to fuel k) h lt
-  (goes_on k (cond r.in_form 0 (strength_of r.state)) r.tallest r.state r.in_form r.in_match front h.at)
+    (goes_on k (cond r.in_form 0 (strength_of r.state)) r.tallest r.state r.in_form r.in_match front h.at)
 
 pub reached_begins : (k : ℕ) (r : Reading) (front : List Token) → Reached k r front → Begins k front
 reached_begins k r front h = begins_to (suc (left_over r.state)) k r front h (omega arith)
@@ -110,7 +125,7 @@ pub part_high : (k : ℕ) (e : Part) (text : List Token) → IsPart k e text →
 part_high k e text is = omega (arith, is.row.tall_is, tall_phrase (phrase e.node))
 
 pub calm_stops : (k : ℕ) (end : Reading) (n : Node) (front rest : List Token) → Reached k end front
-  → done end.state ≡ Some n → Calm k (whole end n) rest → Stops k end rest
+    → done end.state ≡ Some n → Calm k (whole end n) rest → Stops k end rest
 calm_stops k end n front rest h d c = still k end n front rest h d (reached_done k end n front h d).row.low c
 
 pub pull_nil : pull [] ≡ 0

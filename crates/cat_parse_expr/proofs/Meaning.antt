@@ -54,7 +54,7 @@ abbrev pub Path : (k bound : ℕ) → Reading → List Item → Reading → Type
 Path k bound r [] end = r ≡ end
 Path k bound r (Tok p ∷ items) end = (more : Reading) × (shift k r p ≡ Some more) × Path k bound more items end
 Path k bound r (Sub e f ∷ items) end = (j : ℕ) × (takes r.state ≡ Some j) × IsPart j e f × CalmAt bound items j e
-  × Path k bound (feed r e) items end
+    × Path k bound (feed r e) items end
 
 pub record HasPath (k : ℕ) (e : Part) (front : List Token) : Type 0 where
   pub items : List Item
@@ -69,7 +69,7 @@ abbrev pub Trail : (k : ℕ) (rest : List Token) → Reading → List Item → R
 Trail k rest r [] end = r ≡ end
 Trail k rest r (Tok p ∷ items) end = (more : Reading) × (shift k r p ≡ Some more) × Trail k rest more items end
 Trail k rest r (Sub e f ∷ items) end = (j : ℕ) × (takes r.state ≡ Some j) × IsPart j e f × Calm j e (text items ++ rest)
-  × Trail k rest (feed r e) items end
+    × Trail k rest (feed r e) items end
 
 -- a whole expression that takes the word
 pub record Taker (p : Token) : Type 0 where

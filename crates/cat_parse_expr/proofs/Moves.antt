@@ -101,7 +101,7 @@ unfolding feed
 feed_wants r e j t = fed_wants r.state e.node e.in_match j t
 
 fed_done : (q : State) (n m : Node) (b c : Bool) (x : Node) (j : ℕ) → takes q ≡ Some j → done (fed_state q n b) ≡ Some x
-  → (y : Node) × (done (fed_state q m c) ≡ Some y)
+    → (y : Node) × (done (fed_state q m c) ≡ Some y)
 fed_done (state.Right a o p) n m b c x j t e = (_, refl)
 fed_done (state.Content d) n m b c x j t e = (_, refl)
 fed_done (state.Argument f args) n m b c x j t e = (_, refl)
@@ -123,7 +123,7 @@ fed_done (state.CombineBody d w s) n m b c x j t e = (_, refl)
 fed_done _ n m b c x j t e = absurd cc
 
 pub feed_done : (r : Reading) (e f : Part) (j : ℕ) (n : Node) → takes r.state ≡ Some j → done (feed r e).state ≡ Some n
-  → (m : Node) × (done (feed r f).state ≡ Some m)
+    → (m : Node) × (done (feed r f).state ≡ Some m)
 unfolding feed
 feed_done r e f j n t d = fed_done r.state e.node f.node e.in_match f.in_match n j t d
 
@@ -168,11 +168,11 @@ pub needs_no_word : (k : ℕ) (r more : Reading) (p : Token) → needs_part r.st
 unfolding shift
 needs_no_word k r more p h e =
     let none : None ≡ Some more = sym (ap (moved r) (needs_step k (cond r.in_form 0 (strength_of r.state)) r.state p h))
-      ∙ e in
+    ∙ e in
     absurd cc
 
 element_start : (k j : ℕ) (at : Pos) (kd : TokenKind) (a : Option Move) (m : Move) → start_step j at kd ≡ Some m
-  → on_bracket a None kd ≡ None
+    → on_bracket a None kd ≡ None
 element_start k j at (kind.Symbol symbol.RightBracket) a m h = absurd cc
 element_start k j at _ a m h = refl
 
@@ -181,7 +181,7 @@ started j r more None h = absurd cc
 started j r more (Some m) h = (m, refl)
 
 no_step : (k s j : ℕ) (q : State) (p : Token) (m : Move) → takes q ≡ Some j → start_step j p.pos p.kind ≡ Some m
-  → step k s q p ≡ None
+    → step k s q p ≡ None
 no_step k s j (state.Right a o at) p m t h = refl
 no_step k s j (state.Content c) p m t h = refl
 no_step k s j (state.Argument f args) p m t h = refl
@@ -204,7 +204,7 @@ no_step k s j (state.CombineBody c w z) p m t h = refl
 no_step k s j _ p m t h = absurd cc
 
 pub no_word : (k j : ℕ) (r more : Reading) (p : Token) → takes r.state ≡ Some j → shift j start p ≡ Some more
-  → shift k r p ≡ None
+    → shift k r p ≡ None
 unfolding shift
 no_word k j r more p t e =
     let m = started j start more (start_step j p.pos p.kind) e in

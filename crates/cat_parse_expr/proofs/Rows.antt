@@ -39,7 +39,7 @@ use Rattle.cat_parse_state.specs.declared.state.Reading.{Reading}
 abbrev pub inner_arms : List (Pattern × Phrase) → Parts → Parts
 inner_arms [] rest = rest
 inner_arms (a ∷ more) rest =
-  sign symbol.MinusMinus ▹ pattern_parts a.0 (sign symbol.Colon ▹ Part Inner a.1 (inner_arms more rest))
+    sign symbol.MinusMinus ▹ pattern_parts a.0 (sign symbol.Colon ▹ Part Inner a.1 (inner_arms more rest))
 
 -- elements with a sign behind the last
 abbrev pub more_elements : ℕ → Symbol → List Phrase → Parts → Parts
@@ -73,11 +73,11 @@ each_middle each.ListOf = words pair.SuchThat
 
 abbrev pub match_parts : Matching → Parts → Parts
 match_parts m rest = key_at key.Match m.pos ▹ part 0 (phrase m.tested) ▹ words pair.WithPattern ▹ inner_arms
-  (map arm_row m.arms) rest
+    (map arm_row m.arms) rest
 
 abbrev pub combine_parts : Combining → Parts → Parts
 combine_parts c rest = pair_at pair.CombineAll c.pos ▹ lower c.element ▹ «word» key.Among ▹ part 0 (phrase c.list) ▹
-  rest
+    rest
 
 -- the row so far, before what is to come
 abbrev pub so_far : State → Parts → Parts
@@ -105,27 +105,27 @@ so_far (state.Sum p t) rest = key_at key.Sum p ▹ type_parts t («word» key.Of
 so_far (state.Open p) rest = symbol_at symbol.LeftParen p ▹ rest
 so_far (state.Close p e) rest = symbol_at symbol.LeftParen p ▹ part 0 (phrase e) ▹ rest
 so_far (state.Element p es) rest = symbol_at symbol.LeftBracket p ▹ more_elements 0 symbol.Semicolon (map phrase es)
-  rest
+    rest
 so_far (state.Elements p es) rest = symbol_at symbol.LeftBracket p ▹ elements 0 symbol.Semicolon (map phrase es) rest
 so_far (state.Fields o fs) rest = owner_parts o (fields (map field_row fs) rest)
 so_far (state.FieldName o fs) rest = owner_parts o (fields (map field_row fs) (sign symbol.MinusMinus ▹ rest))
 so_far (state.FieldColon o fs w) rest =
-  owner_parts o (fields (map field_row fs) (sign symbol.MinusMinus ▹ lower w ▹ rest))
+    owner_parts o (fields (map field_row fs) (sign symbol.MinusMinus ▹ lower w ▹ rest))
 so_far (state.FieldValue o fs w) rest =
-  owner_parts o (fields (map field_row fs) (sign symbol.MinusMinus ▹ lower w ▹ sign symbol.Colon ▹ rest))
+    owner_parts o (fields (map field_row fs) (sign symbol.MinusMinus ▹ lower w ▹ sign symbol.Colon ▹ rest))
 so_far (state.CallScope p) rest = pair_at pair.OutputOf p ▹ rest
 so_far (state.CallWith p u) rest = pair_at pair.OutputOf p ▹ upper u ▹ rest
 so_far (state.CallBrace p u) rest = pair_at pair.OutputOf p ▹ upper u ▹ «word» key.With ▹ rest
 so_far (state.CallDot p u fs) rest =
-  owner_parts (owner.Call p u) (fields (map field_row fs) (sign symbol.RightBrace ▹ rest))
+    owner_parts (owner.Call p u) (fields (map field_row fs) (sign symbol.RightBrace ▹ rest))
 so_far (state.CallOutput p u fs) rest =
-  owner_parts (owner.Call p u) (fields (map field_row fs) (sign symbol.RightBrace ▹ sign symbol.Dot ▹ rest))
+    owner_parts (owner.Call p u) (fields (map field_row fs) (sign symbol.RightBrace ▹ sign symbol.Dot ▹ rest))
 so_far (state.If p) rest = key_at key.If p ▹ rest
 so_far (state.IfThen p c) rest = key_at key.If p ▹ part 0 (phrase c) ▹ rest
 so_far (state.Then p c) rest = key_at key.If p ▹ part 0 (phrase c) ▹ «word» key.Then ▹ rest
 so_far (state.ThenElse p c t) rest = key_at key.If p ▹ part 0 (phrase c) ▹ «word» key.Then ▹ part 0 (phrase t) ▹ rest
 so_far (state.Else p c t) rest = key_at key.If p ▹ part 0 (phrase c) ▹ «word» key.Then ▹ part 0 (phrase t) ▹ «word»
-  key.Else ▹ rest
+    key.Else ▹ rest
 so_far (state.Match p) rest = key_at key.Match p ▹ rest
 so_far (state.MatchWith p e) rest = key_at key.Match p ▹ part 0 (phrase e) ▹ rest
 so_far (state.FirstArm p e) rest = key_at key.Match p ▹ part 0 (phrase e) ▹ words pair.WithPattern ▹ rest
@@ -135,13 +135,13 @@ so_far (state.ArmDot m u) rest = match_parts m (sign symbol.MinusMinus ▹ upper
 so_far (state.ArmOf m c) rest = match_parts m (sign symbol.MinusMinus ▹ case_parts c («word» key.Of ▹ rest))
 so_far (state.ArmColon m pat) rest = match_parts m (sign symbol.MinusMinus ▹ pattern_parts pat rest)
 so_far (state.ArmBody m pat) rest =
-  match_parts m (sign symbol.MinusMinus ▹ pattern_parts pat (sign symbol.Colon ▹ rest))
+    match_parts m (sign symbol.MinusMinus ▹ pattern_parts pat (sign symbol.Colon ▹ rest))
 so_far (state.Each k p) rest = each_word k p rest
 so_far (state.EachAmong k p w) rest = each_word k p (lower w ▹ rest)
 so_far (state.EachList k p w) rest = each_word k p (lower w ▹ «word» key.Among ▹ rest)
 so_far (state.EachThen k p w l) rest = each_word k p (lower w ▹ «word» key.Among ▹ part 0 (phrase l) ▹ rest)
 so_far (state.EachBody k p w l) rest =
-  each_word k p (lower w ▹ «word» key.Among ▹ part 0 (phrase l) ▹ each_middle k ▹ rest)
+    each_word k p (lower w ▹ «word» key.Among ▹ part 0 (phrase l) ▹ each_middle k ▹ rest)
 so_far (state.Combine p) rest = pair_at pair.CombineAll p ▹ rest
 so_far (state.CombineAmong p w) rest = pair_at pair.CombineAll p ▹ lower w ▹ rest
 so_far (state.CombineList p w) rest = pair_at pair.CombineAll p ▹ lower w ▹ «word» key.Among ▹ rest
@@ -150,9 +150,9 @@ so_far (state.CombineResult c) rest = combine_parts c («word» key.In ▹ rest)
 so_far (state.CombineInitially c w) rest = combine_parts c («word» key.In ▹ lower w ▹ rest)
 so_far (state.CombineStart c w) rest = combine_parts c («word» key.In ▹ lower w ▹ «word» key.Initially ▹ rest)
 so_far (state.CombineWith c w s) rest =
-  combine_parts c («word» key.In ▹ lower w ▹ «word» key.Initially ▹ part 0 (phrase s) ▹ rest)
+    combine_parts c («word» key.In ▹ lower w ▹ «word» key.Initially ▹ part 0 (phrase s) ▹ rest)
 so_far (state.CombineBody c w s) rest =
-  combine_parts c («word» key.In ▹ lower w ▹ «word» key.Initially ▹ part 0 (phrase s) ▹ «word» key.With ▹ rest)
+    combine_parts c («word» key.In ▹ lower w ▹ «word» key.Initially ▹ part 0 (phrase s) ▹ «word» key.With ▹ rest)
 
 -- the greatest level at which what has begun may stand
 abbrev pub room : State → ℕ
@@ -215,10 +215,10 @@ pub record Begun (k : ℕ) (q : State) (high : ℕ) (in_form in_match : Bool) (f
 -- what a state says of what was read; a list that has begun isn't empty
 abbrev pub ReachedAt : (k : ℕ) → State → (high : ℕ) (in_form in_match : Bool) → List Token → Type 0
 ReachedAt k (state.Complete n s) high in_form in_match front = IsRow k (phrase n) (suc high) in_form in_match front
-  × (s ≡ right_strength (phrase n))
+    × (s ≡ right_strength (phrase n))
 ReachedAt k (state.Matched m b) high in_form in_match front = IsRow k (phrase (node.Match m.pos m.tested m.arms))
-  (suc high) in_form in_match front × (b ≡ false → (form matching : Bool) × Extends (match_parts m) high form matching
-  front)
+    (suc high) in_form in_match front × (b ≡ false → (form matching : Bool) × Extends (match_parts m) high form matching
+    front)
 ReachedAt k (state.PrefixOf prefix.Not p) high in_form in_match front = ⊥
 ReachedAt k (state.PrefixOf prefix.Negate p) high in_form in_match front = ⊥
 ReachedAt k (state.PrefixOf prefix.RoundOf p) high in_form in_match front = ⊥

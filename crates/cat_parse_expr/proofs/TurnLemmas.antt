@@ -19,9 +19,9 @@ use Rattle.cat_parse_expr.specs.Reader as spec
 use Rattle.cat_parse_expr.specs.Results.{Stop, Outcome, Reader, too_deep}
 use Rattle.cat_parse_expr.specs.Reader.{Best, whole, best_of, stopped, ended, Next, Shifted, Asks, asked, next, is_high}
 use Rattle.cat_parse_expr.specs.Reader.{Going, reaches, fed, turn, run, nothing_at, operand_of, read}
-use Rattle.cat_parse_expr.specs.Fallback.{fallback, before, or_else}
-use Rattle.cat_parse_expr.specs.Loop.{halt_at, outcome_of, AreWithin, marked, mark_after, IsMarkWithin, IsKept}
-use Rattle.cat_parse_expr.specs.Loop.{IsStanding, going_on, GoesOn, Leads, IsTurnAt, reached_on}
+use Rattle.cat_parse_expr.specs.inside.Fallback.{fallback, before, or_else}
+use Rattle.cat_parse_expr.specs.inside.Loop.{halt_at, outcome_of, AreWithin, marked, mark_after, IsMarkWithin, IsKept}
+use Rattle.cat_parse_expr.specs.inside.Loop.{IsStanding, going_on, GoesOn, Leads, IsTurnAt, reached_on}
 use Rattle.cat_parse_expr.proofs.Viable.{Follows, next_follows}
 use Rattle.cat_parse_expr.proofs.Keeping.{shift_keeps, tall_shift}
 

@@ -1,6 +1,6 @@
-pub mod Fallback
 pub mod Results
 pub mod Reader
 pub mod Places
 pub mod Causes
-pub mod Loop
+-- what the code keeps on its way: no public clause cites it
+pub mod inside

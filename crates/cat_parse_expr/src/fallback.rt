@@ -1,6 +1,6 @@
 //! The last whole expression on the way to a state.
 ghost use Rattle.std.specs.Prelude.{◌≡◌};
-ghost use Rattle.cat_parse_expr.specs.Fallback as words;
+ghost use Rattle.cat_parse_expr.specs.inside.Fallback as words;
 ghost use Rattle.cat_tree.specs.declared.expression.Node.TheViews.{out-Node};
 
 use cat_parse_state::{Matching, Owner, State, no_node};
@@ -76,7 +76,7 @@ fn before_last(node: Node) -> Option<Node>
 }
 
 /// The last whole expression on the way to a state, before that state.
-#[tactic(auto, unfolding(crate::specs::Fallback::fallback))]
+#[tactic(auto, unfolding(crate::specs::inside::Fallback::fallback))]
 pub(crate) fn fallback(state: State) -> Option<Node>
     ensures { result ≡ words.fallback state }
 {
@@ -96,7 +96,7 @@ pub(crate) fn fallback(state: State) -> Option<Node>
 }
 
 /// The expression before the fields of a literal, or before an arm.
-#[tactic(auto, unfolding(crate::specs::Fallback::fallback))]
+#[tactic(auto, unfolding(crate::specs::inside::Fallback::fallback))]
 fn fallback_of_parts(state: State) -> Option<Node>
     ensures { result ≡ words.fallback_of_parts state }
 {

@@ -2,7 +2,7 @@
 ghost use Rattle.std.specs.Prelude.{◌≡◌, ◌≤◌, ℕ, List};
 ghost use Rattle.cat_lex.specs.declared.token.Token.{Token};
 ghost use Rattle.cat_parse_expr.specs.Reader.{stopped};
-ghost use Rattle.cat_parse_expr.specs.Loop.{halt_at, outcome_of, marked, IsMarkWithin, AreWithin};
+ghost use Rattle.cat_parse_expr.specs.inside.Loop.{halt_at, outcome_of, marked, IsMarkWithin, AreWithin};
 
 use cat_parse_state::Part;
 use cat_tree::Node;

@@ -1,7 +1,7 @@
 // The longest expression at an index, read to a height.
 ghost use Rattle.std.specs.Prelude.{◌≡◌, ◌<◌, ◌≤◌, ◌-◌, cond, nat_le, length, drop, IfOk};
 ghost use Rattle.cat_parse_expr.specs.Reader.{starts, nothing_at, read};
-ghost use Rattle.cat_parse_expr.specs.Loop.{outcome_of, AreWithin, IsStanding, IsTurnAt};
+ghost use Rattle.cat_parse_expr.specs.inside.Loop.{outcome_of, AreWithin, IsStanding, IsTurnAt};
 
 use crate::outcome::{Halt, Reached};
 use crate::standing::{Next, Standing, Turn, advance, take};

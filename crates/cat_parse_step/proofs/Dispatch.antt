@@ -15,7 +15,7 @@ use Rattle.cat_parse_step.specs.declared.shifting.Shifted.TheVariants.{Further, 
 use Rattle.cat_parse_step.specs.Words.{Move, Onward, Grown}
 use Rattle.cat_parse_step.specs.Machine.{step, shift, moved, strength_of}
 use Rattle.cat_parse_state.specs.Groups.{group_of}
-use Rattle.cat_parse_step.specs.OneStep.{IsStepOf, stepped_by, shifted_by}
+use Rattle.cat_parse_step.specs.inside.OneStep.{IsStepOf, stepped_by, shifted_by}
 use Rattle.cat_parse_step.specs.Moves.{IsShiftOf}
 
 -- a step that asks for no level, and for no strength
@@ -78,46 +78,46 @@ is_start state.Start h = refl
 is_start _ h = cc h
 
 start_ok_at : (k s : ℕ) (q : State) (t : Token) (r : Result Stepped AllocError) → q ≡ state.Start
-  → IfOk r (IsStepOf k 0 state.Start t) → IfOk r (IsStepOf k s q t)
+    → IfOk r (IsStepOf k 0 state.Start t) → IfOk r (IsStepOf k s q t)
 start_ok_at k s q t (Ok a) is h = subst (λ (x : State). IsStepOf k s x t a) (sym is) h
 start_ok_at k s q t (Err e) is h = h
 
 pub start_ok : (k s : ℕ) (q : State) (t : Token) (r : Result Stepped AllocError) → group_of q ≡ group.Start
-  → IfOk r (IsStepOf k 0 state.Start t) → IfOk r (IsStepOf k s q t)
+    → IfOk r (IsStepOf k 0 state.Start t) → IfOk r (IsStepOf k s q t)
 start_ok k s q t r h = start_ok_at k s q t r (is_start q h)
 
 free_ok_at : (k s : ℕ) (q : State) (t : Token) (r : Result Stepped AllocError) → step k s q t ≡ step 0 0 q t
-  → IfOk r (IsStepOf 0 0 q t) → IfOk r (IsStepOf k s q t)
+    → IfOk r (IsStepOf 0 0 q t) → IfOk r (IsStepOf k s q t)
 free_ok_at k s q t (Ok a) is h = subst (λ (m : Option Move). a ≡ stepped_by q m) (sym is) h
 free_ok_at k s q t (Err e) is h = h
 
 free_ok : (g : Group) (k s : ℕ) (q : State) (t : Token) (r : Result Stepped AllocError) → is_free g ≡ true
-  → group_of q ≡ g → IfOk r (IsStepOf 0 0 q t) → IfOk r (IsStepOf k s q t)
+    → group_of q ≡ g → IfOk r (IsStepOf 0 0 q t) → IfOk r (IsStepOf k s q t)
 free_ok g k s q t r free h =
-  free_ok_at k s q t r (free_step k s q t (subst (λ (x : Group). is_free x ≡ true) (sym h) free))
+    free_ok_at k s q t r (free_step k s q t (subst (λ (x : Group). is_free x ≡ true) (sym h) free))
 
 pub behind_ok : (k s : ℕ) (q : State) (t : Token) (r : Result Stepped AllocError) → group_of q ≡ group.Behind
-  → IfOk r (IsStepOf 0 0 q t) → IfOk r (IsStepOf k s q t)
+    → IfOk r (IsStepOf 0 0 q t) → IfOk r (IsStepOf k s q t)
 unfolding is_free
 behind_ok k s q t r = free_ok group.Behind k s q t r refl
 
 pub brackets_ok : (k s : ℕ) (q : State) (t : Token) (r : Result Stepped AllocError) → group_of q ≡ group.Brackets
-  → IfOk r (IsStepOf 0 0 q t) → IfOk r (IsStepOf k s q t)
+    → IfOk r (IsStepOf 0 0 q t) → IfOk r (IsStepOf k s q t)
 unfolding is_free
 brackets_ok k s q t r = free_ok group.Brackets k s q t r refl
 
 pub fields_ok : (k s : ℕ) (q : State) (t : Token) (r : Result Stepped AllocError) → group_of q ≡ group.Fields
-  → IfOk r (IsStepOf 0 0 q t) → IfOk r (IsStepOf k s q t)
+    → IfOk r (IsStepOf 0 0 q t) → IfOk r (IsStepOf k s q t)
 unfolding is_free
 fields_ok k s q t r = free_ok group.Fields k s q t r refl
 
 pub branches_ok : (k s : ℕ) (q : State) (t : Token) (r : Result Stepped AllocError) → group_of q ≡ group.Branches
-  → IfOk r (IsStepOf 0 0 q t) → IfOk r (IsStepOf k s q t)
+    → IfOk r (IsStepOf 0 0 q t) → IfOk r (IsStepOf k s q t)
 unfolding is_free
 branches_ok k s q t r = free_ok group.Branches k s q t r refl
 
 pub lists_ok : (k s : ℕ) (q : State) (t : Token) (r : Result Stepped AllocError) → group_of q ≡ group.Lists
-  → IfOk r (IsStepOf 0 0 q t) → IfOk r (IsStepOf k s q t)
+    → IfOk r (IsStepOf 0 0 q t) → IfOk r (IsStepOf k s q t)
 unfolding is_free
 lists_ok k s q t r = free_ok group.Lists k s q t r refl
 
@@ -141,22 +141,22 @@ IsMovedBy r m (Further more) = moved r m ≡ Some more
 IsMovedBy r m (Still same) = (moved r m ≡ None) × (same ≡ r)
 
 moved_by : (r : Reading) (m : Option Move)
-  → IsMovedBy r m (shifted_by (stepped_by r.state m) r.tallest r.in_form r.in_match)
+    → IsMovedBy r m (shifted_by (stepped_by r.state m) r.tallest r.in_form r.in_match)
 unfolding IsMovedBy
 moved_by r None = (refl, refl)
 moved_by r (Some (Onward q)) = refl
 moved_by r (Some (Grown q)) = refl
 
 is_shift : (k : ℕ) (r : Reading) (t : Token) (x : Shifted)
-  → IsMovedBy r (step k (if r.in_form then 0 else strength_of r.state) r.state t) x → IsShiftOf k r t x
+    → IsMovedBy r (step k (if r.in_form then 0 else strength_of r.state) r.state t) x → IsShiftOf k r t x
 unfolding IsMovedBy shift
 is_shift k r t (Further more) h = h
 is_shift k r t (Still same) h = h
 
 pub shift_of : (k s : ℕ) (r : Reading) (t : Token) (x : Stepped) → s ≡ (if r.in_form then 0 else strength_of r.state)
-  → IsStepOf k s r.state t x → IsShiftOf k r t (shifted_by x r.tallest r.in_form r.in_match)
+    → IsStepOf k s r.state t x → IsShiftOf k r t (shifted_by x r.tallest r.in_form r.in_match)
 shift_of k s r t x strong is = is_shift k r t (shifted_by x r.tallest r.in_form r.in_match)
-  (subst (λ (y : Stepped). IsMovedBy r (step k (if r.in_form then 0 else strength_of r.state) r.state t)
-  (shifted_by y r.tallest r.in_form r.in_match))
-  (sym (is ∙ ap (λ (n : ℕ). stepped_by r.state (step k n r.state t)) strong))
-  (moved_by r (step k (if r.in_form then 0 else strength_of r.state) r.state t)))
+    (subst (λ (y : Stepped). IsMovedBy r (step k (if r.in_form then 0 else strength_of r.state) r.state t)
+    (shifted_by y r.tallest r.in_form r.in_match))
+    (sym (is ∙ ap (λ (n : ℕ). stepped_by r.state (step k n r.state t)) strong))
+    (moved_by r (step k (if r.in_form then 0 else strength_of r.state) r.state t)))

@@ -16,18 +16,19 @@ use Rattle.cat_parse_step.specs.declared.follow.Follow.TheVariants.{Operated, Do
 use Rattle.cat_parse_step.specs.Steps.{follow_of, whole_next, each_step}
 use Rattle.cat_parse_step.specs.Words.{Move, Onward, on_we_have, on_such_that, on_to}
 use Rattle.cat_parse_state.specs.Readings.{done}
-use Rattle.cat_parse_step.specs.OneStep.{stepped_by, may_follow, followed, behind, joins, is_we_have, is_such_that}
-use Rattle.cat_parse_step.specs.OneStep.{is_to}
+use Rattle.cat_parse_step.specs.inside.OneStep.{stepped_by, may_follow, followed, behind, joins, is_we_have}
+use Rattle.cat_parse_step.specs.inside.OneStep.{is_such_that}
+use Rattle.cat_parse_step.specs.inside.OneStep.{is_to}
 
 follows_at : (k s : ℕ) (q : State) (n : Node) (p : Pos) (f : Follow) → may_follow k s f ≡ true
-  → stepped_by q (whole_next k s n p f) ≡ stepped.Grown (followed n p f)
+    → stepped_by q (whole_next k s n p f) ≡ stepped.Grown (followed n p f)
 follows_at k s q n p (Operated o) may = rw may refl
 follows_at k s q n p Dotted may = rw may refl
 follows_at k s q n p Tests may = rw may refl
 follows_at k s q n p Other may = cc may
 
 pub follows : (k s : ℕ) (q : State) (t : Token) (n : Node) → done q ≡ Some n → may_follow k s (follow_of t.kind) ≡ true
-  → stepped.Grown (followed n t.pos (follow_of t.kind)) ≡ stepped_by q (behind k s (done q) t)
+    → stepped.Grown (followed n t.pos (follow_of t.kind)) ≡ stepped_by q (behind k s (done q) t)
 follows k s q t n whole may = rw (whole, follows_at k s q n t.pos (follow_of t.kind) may) refl
 
 -- ---- between the list and the body of a form
@@ -51,11 +52,11 @@ joins_at each.MapEach q t = to (Some (Onward q)) None t
 joins_at each.ListOf q t = such_that (Some (Onward q)) None t
 
 pub joined : (e : Each) (q more : State) (t : TokenKind) → joins e t ≡ true → stepped.Onward more ≡ stepped_by q
-  (each_step e more t)
+    (each_step e more t)
 joined e q more t met = rw (joins_at e more t, met) refl
 
 pub not_joined : (e : Each) (q more : State) (t : TokenKind) → joins e t ≡ false → stepped.Still q ≡ stepped_by q
-  (each_step e more t)
+    (each_step e more t)
 not_joined e q more t unmet = rw (joins_at e more t, unmet) refl
 
 pub ruleset joining = (joined, not_joined)

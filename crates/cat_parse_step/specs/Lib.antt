@@ -3,5 +3,6 @@ pub mod Marks
 pub mod Starts
 pub mod Steps
 pub mod Machine
-pub mod OneStep
 pub mod Moves
+-- what the code keeps on its way: no public clause cites it
+pub mod inside

@@ -35,22 +35,22 @@ abbrev pub step : (k strength : ℕ) → State → Token → Option Move
 step k s state.Start t = start_step k t.pos t.kind
 step k s (state.Complete n own) t = whole_step k s n t
 step k s (state.Int n p) t = unit_of (λ u. if int_lt span_bound n then None else
-  some (state.Complete (leaf.Literal (literal.Span n u) p) 9)) (whole_step k s (leaf.Literal (literal.Int n) p) t)
-  t.kind
+    some (state.Complete (leaf.Literal (literal.Span n u) p) 9)) (whole_step k s (leaf.Literal (literal.Int n) p) t)
+    t.kind
 step k s (state.Name w) t = on_of (if_at k 8 (state.Argument w [])) (whole_step k s (leaf.Name w) t) t.kind
 step k s (state.Upper u) t = on_dot (some (state.UpperDot u)) (on_brace (some (state.Fields (owner.Literal u) []))
-  (on_content (if_at k 8 (state.Content (Bare u))) (whole_step k s (leaf.Case (Bare u)) t) t.kind) t.kind) t.kind
+    (on_content (if_at k 8 (state.Content (Bare u))) (whole_step k s (leaf.Case (Bare u)) t) t.kind) t.kind) t.kind
 step k s (state.Qualified e c) t =
-  on_content (if_at k 8 (state.Content (Qualified e c))) (whole_step k s (leaf.Case (Qualified e c)) t) t.kind
+    on_content (if_at k 8 (state.Content (Qualified e c))) (whole_step k s (leaf.Case (Qualified e c)) t) t.kind
 step k s (state.Called f args) t = on_comma (some (state.Argument f args)) (whole_step k s (node.Call f args) t) t.kind
 step k s (state.Tested e p u) t = on_dot (some (state.TestedDot e p u)) (whole_step k s (node.Test e p (Bare u)) t)
-  t.kind
+    t.kind
 step k s (state.Matched m b) t = on_dashes (if b then None else some (state.ArmPattern m)) None t.kind
 step k s (state.Dot n) t = lower_of (λ w. Onward (state.Complete (node.Field n w) 9)) t.pos t.kind
 step k s (state.UpperDot u) t = upper_of (λ c. Onward (state.Qualified u c))
-  (lower_of (λ w. Grown (state.Complete (node.Field (leaf.Case (Bare u)) w) 9)) t.pos t.kind) t.pos t.kind
+    (lower_of (λ w. Grown (state.Complete (node.Field (leaf.Case (Bare u)) w) 9)) t.pos t.kind) t.pos t.kind
 step k s (state.TestedDot e p u) t = upper_of (λ c. Onward (state.Complete (node.Test e p (Qualified u c)) 4)) None
-  t.pos t.kind
+    t.pos t.kind
 step k s (state.WithPattern n p) t = upper_of (λ u. Onward (state.Tested n p u)) None t.pos t.kind
 step k s (state.PrefixOf o p) t = on_of (some (state.Prefixed o p)) None t.kind
 step k s (state.SumType p n) t = type_step p n t.pos t.kind
@@ -58,9 +58,9 @@ step k s (state.SumOf p ty) t = on_of (some (state.Sum p ty)) None t.kind
 step k s (state.Close p e) t = on_close (some (state.Complete (node.Parens p e) 9)) None t.kind
 step k s (state.Element p []) t = on_bracket (some (state.Complete (node.List p []) 9)) None t.kind
 step k s (state.Elements p es) t =
-  on_semicolon (some (state.Element p es)) (on_bracket (some (state.Complete (node.List p es) 9)) None t.kind) t.kind
+    on_semicolon (some (state.Element p es)) (on_bracket (some (state.Complete (node.List p es) 9)) None t.kind) t.kind
 step k s (state.Fields o fs) t = on_dashes (some (state.FieldName o fs)) (on_end_brace (fields_end o fs) None t.kind)
-  t.kind
+    t.kind
 step k s (state.FieldName o fs) t = lower_of (λ w. Onward (state.FieldColon o fs w)) t.pos t.kind
 step k s (state.FieldColon o fs w) t = on_colon (some (state.FieldValue o fs w)) None t.kind
 step k s (state.CallScope p) t = upper_of (λ u. Onward (state.CallWith p u)) None t.pos t.kind
@@ -72,11 +72,11 @@ step k s (state.IfThen p c) t = on_then (some (state.Then p c)) None t.kind
 step k s (state.ThenElse p c e) t = on_else (some (state.Else p c e)) None t.kind
 step k s (state.MatchWith p e) t = on_with_pattern (some (state.FirstArm p e)) None t.kind
 step k s (state.FirstArm p e) t = on_dashes (some (state.ArmPattern (record { pos = p; tested = e; arms = [] }))) None
-  t.kind
+    t.kind
 step k s (state.ArmPattern m) t = upper_of (λ u. Onward (state.ArmCase m (Bare u)))
-  (on_anything (some (state.ArmColon m pattern.Anything)) None t.kind) t.pos t.kind
+    (on_anything (some (state.ArmColon m pattern.Anything)) None t.kind) t.pos t.kind
 step k s (state.ArmCase m c) t = on_dot (case_dot c (λ u. Onward (state.ArmDot m u)))
-  (on_of (some (state.ArmOf m c)) (on_colon (some (state.ArmBody m (pattern.Case c None))) None t.kind) t.kind) t.kind
+    (on_of (some (state.ArmOf m c)) (on_colon (some (state.ArmBody m (pattern.Case c None))) None t.kind) t.kind) t.kind
 step k s (state.ArmDot m u) t = upper_of (λ c. Onward (state.ArmCase m (Qualified u c))) None t.pos t.kind
 step k s (state.ArmOf m c) t = lower_of (λ w. Onward (state.ArmColon m (pattern.Case c (Some w)))) t.pos t.kind
 step k s (state.ArmColon m pat) t = on_colon (some (state.ArmBody m pat)) None t.kind

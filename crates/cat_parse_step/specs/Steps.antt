@@ -53,7 +53,7 @@ follow_of _ = Other
 -- read at level k, an expression of that strength as a left operand
 abbrev pub whole_next : (k strength : ℕ) → Node → Pos → Follow → Option Move
 whole_next k s n p (Operated o) = if nat_le k (operator_level o) && nat_le (left_level o) s then
-  Some (Grown (state.Right n o p)) else None
+    Some (Grown (state.Right n o p)) else None
 whole_next k s n p Dotted = if nat_le 9 s then Some (Grown (state.Dot n)) else None
 whole_next k s n p Tests = if nat_le k 4 && nat_le 5 s then Some (Grown (state.WithPattern n p)) else None
 whole_next k s n p Other = None
@@ -68,16 +68,16 @@ whole_step k s n t = whole_next k s n t.pos (follow_of t.kind)
 abbrev pub type_step : Pos → ℕ → Pos → TokenKind → Option Move
 type_step p n at (kind.Pair pair.ListOf) = Some (Onward (state.SumType p (suc n)))
 type_step p n at (kind.Word key.Boolean) =
-  Some (Onward (state.SumOf p (record { lists = n; base = base.Boolean; pos = at })))
+    Some (Onward (state.SumOf p (record { lists = n; base = base.Boolean; pos = at })))
 type_step p n at (kind.Word key.Integer) =
-  Some (Onward (state.SumOf p (record { lists = n; base = base.Integer; pos = at })))
+    Some (Onward (state.SumOf p (record { lists = n; base = base.Integer; pos = at })))
 type_step p n at (kind.Word key.Decimal) =
-  Some (Onward (state.SumOf p (record { lists = n; base = base.Decimal; pos = at })))
+    Some (Onward (state.SumOf p (record { lists = n; base = base.Decimal; pos = at })))
 type_step p n at (kind.Word key.Money) =
-  Some (Onward (state.SumOf p (record { lists = n; base = base.Money; pos = at })))
+    Some (Onward (state.SumOf p (record { lists = n; base = base.Money; pos = at })))
 type_step p n at (kind.Word key.Date) = Some (Onward (state.SumOf p (record { lists = n; base = base.Date; pos = at })))
 type_step p n at (kind.Word key.Duration) =
-  Some (Onward (state.SumOf p (record { lists = n; base = base.Duration; pos = at })))
+    Some (Onward (state.SumOf p (record { lists = n; base = base.Duration; pos = at })))
 type_step p n at (kind.Upper u) = Some (Onward (state.SumOf p (record { lists = n; base = base.Named u; pos = at })))
 type_step p n at _ = None
 

@@ -1,8 +1,8 @@
 //! What may follow a whole expression.
 ghost use Rattle.std.specs.Prelude.{◌≡◌, true};
 ghost use Rattle.cat_parse_step.specs.Steps as steps;
-ghost use Rattle.cat_parse_step.specs.OneStep as one;
-ghost use Rattle.cat_parse_step.specs.OneStep.{is_follow};
+ghost use Rattle.cat_parse_step.specs.inside.OneStep as one;
+ghost use Rattle.cat_parse_step.specs.inside.OneStep.{is_follow};
 
 use crate::step::Stepped;
 use cat_lex::{DoubleKeyword, Keyword, Symbol, TokenKind};

@@ -1,7 +1,7 @@
 //! One word further from a reading.
 ghost use Rattle.std.specs.Prelude.{◌≡◌, ◌<◌, IfOk};
 ghost use Rattle.cat_parse_step.specs.Machine as machine;
-ghost use Rattle.cat_parse_step.specs.OneStep as one;
+ghost use Rattle.cat_parse_step.specs.inside.OneStep as one;
 ghost use Rattle.cat_parse_step.specs.Moves.{lists_before, IsShiftOf};
 
 use crate::step::{Stepped, step};

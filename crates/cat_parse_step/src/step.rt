@@ -1,7 +1,7 @@
 //! One word further from a state.
 ghost use Rattle.std.specs.Prelude.{◌≡◌, ◌<◌, IfOk};
-ghost use Rattle.cat_parse_step.specs.OneStep as one;
-ghost use Rattle.cat_parse_step.specs.OneStep.{IsStepOf};
+ghost use Rattle.cat_parse_step.specs.inside.OneStep as one;
+ghost use Rattle.cat_parse_step.specs.inside.OneStep.{IsStepOf};
 ghost use Rattle.cat_parse_step.specs.Moves.{lists_before};
 
 use crate::step_behind::step_behind;

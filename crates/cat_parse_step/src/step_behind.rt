@@ -1,7 +1,7 @@
 //! One word further behind a whole expression.
 ghost use Rattle.std.specs.Prelude.{◌≡◌, IfOk};
 ghost use Rattle.cat_parse_state.specs.Groups.{group_of};
-ghost use Rattle.cat_parse_step.specs.OneStep.{IsStepOf};
+ghost use Rattle.cat_parse_step.specs.inside.OneStep.{IsStepOf};
 
 use crate::step::{Stepped, named};
 use cat_lex::{Token, TokenKind};

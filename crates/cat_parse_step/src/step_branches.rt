@@ -3,7 +3,7 @@ ghost use Rattle.std.specs.Prelude.{◌≡◌, IfOk};
 ghost use Rattle.cat_parse_state.specs.Groups.{group_of};
 ghost use Rattle.cat_parse_step.specs.Words.{Onward};
 ghost use Rattle.cat_parse_step.specs.Steps as steps;
-ghost use Rattle.cat_parse_step.specs.OneStep.{IsStepOf, stepped_by};
+ghost use Rattle.cat_parse_step.specs.inside.OneStep.{IsStepOf, stepped_by};
 
 use crate::step::{Stepped, named};
 use cat_lex::{DoubleKeyword, Keyword, Symbol, Token, TokenKind};

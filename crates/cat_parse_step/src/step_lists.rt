@@ -1,8 +1,8 @@
 //! One word further in a form over a list.
 ghost use Rattle.std.specs.Prelude.{◌≡◌, IfOk};
 ghost use Rattle.cat_parse_state.specs.Groups.{group_of};
-ghost use Rattle.cat_parse_step.specs.OneStep as one;
-ghost use Rattle.cat_parse_step.specs.OneStep.{IsStepOf};
+ghost use Rattle.cat_parse_step.specs.inside.OneStep as one;
+ghost use Rattle.cat_parse_step.specs.inside.OneStep.{IsStepOf};
 
 use crate::step::{Stepped, named};
 use cat_lex::{DoubleKeyword, Keyword, Token, TokenKind};

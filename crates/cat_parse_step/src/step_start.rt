@@ -1,7 +1,7 @@
 //! The first word of an expression.
 ghost use Rattle.std.specs.Prelude.{◌≡◌, IfOk};
 ghost use Rattle.cat_parse_step.specs.Starts.{if_at, start_step};
-ghost use Rattle.cat_parse_step.specs.OneStep.{IsStepOf, stepped_by};
+ghost use Rattle.cat_parse_step.specs.inside.OneStep.{IsStepOf, stepped_by};
 
 use crate::step::{Stepped, named};
 use cat_lex::{DoubleKeyword, Keyword, Symbol, Token, TokenKind};

@@ -3,8 +3,8 @@ ghost use Rattle.std.specs.Prelude.{◌≡◌, IsSome};
 ghost use Rattle.cat_parse_state.specs.Readings.{done};
 ghost use Rattle.cat_parse_state.specs.Groups.{group_of};
 ghost use Rattle.cat_parse_step.specs.Starts.{if_at};
-ghost use Rattle.cat_parse_step.specs.OneStep as one;
-ghost use Rattle.cat_parse_step.specs.OneStep.{IsStepOf, stepped_by};
+ghost use Rattle.cat_parse_step.specs.inside.OneStep as one;
+ghost use Rattle.cat_parse_step.specs.inside.OneStep.{IsStepOf, stepped_by};
 
 use crate::follow::{follow_of, followed, may_follow};
 use crate::step::Stepped;

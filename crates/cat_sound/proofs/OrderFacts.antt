@@ -5,7 +5,7 @@ use Rattle.std.specs.Prelude.{nat_eq}
 use Rattle.std.proofs.lemmas.Bool.Decides.{nat_tests}
 use Rattle.std.proofs.lemmas.List.{take_at, get_or_at}
 use Rattle.cat_order.specs.Order.{dependencies_of, times, is_ready, IsInOrder, IsOrder}
-use Rattle.cat_order.specs.Steps.{missing}
+use Rattle.cat_order.specs.inside.Steps.{missing}
 use Rattle.cat_order.proofs.Exported.{Ready-of_is_ready}
 use Rattle.cat_value.specs.declared.declaration.ItemDecl.{ItemDecl}
 use Rattle.cat_value.specs.declared.declaration.Scope.{Scope}

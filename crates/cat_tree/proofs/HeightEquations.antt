@@ -29,7 +29,7 @@ use Rattle.cat_tree.specs.Literals.{case_parts, lists_of, literal_parts}
 use Rattle.cat_tree.specs.Operators.{prefix_parts}
 use Rattle.cat_tree.specs.Rows.{pattern_parts, elements, fields, arms, each_parts}
 use Rattle.cat_tree.specs.Spells.{height_of}
-use Rattle.cat_tree.specs.Highest.{tallest_part, highest_part, highest_node, highest_value, highest_body}
+use Rattle.cat_tree.specs.inside.Highest.{tallest_part, highest_part, highest_node, highest_value, highest_body}
 use Rattle.cat_tree.proofs.Equations.{field_row, arm_row, phrase_Literal, phrase_Name, phrase_Case, phrase_Parens}
 use Rattle.cat_tree.proofs.Equations.{phrase_Field, phrase_Prefixed, phrase_Sum, phrase_Content, phrase_Call}
 use Rattle.cat_tree.proofs.Equations.{phrase_Binary, phrase_Test, phrase_List, phrase_Structure, phrase_ScopeCall}

@@ -1,5 +1,4 @@
 pub mod Spells
-pub mod Highest
 pub mod Grammar
 pub mod Rows
 pub mod Operators
@@ -10,3 +9,5 @@ pub mod Joined
 pub mod Declarations
 pub mod Uses
 pub mod Programs
+-- what the code keeps on its way: no public clause cites it
+pub mod inside

@@ -1,7 +1,7 @@
 // How high an expression is.
 ghost use Rattle.std.specs.Prelude.{◌≡◌, ◌<◌, max};
 ghost use Rattle.cat_tree.specs.Spells.{height_of};
-ghost use Rattle.cat_tree.specs.Highest.{highest_part, highest_node, highest_value, highest_body};
+ghost use Rattle.cat_tree.specs.inside.Highest.{highest_part, highest_node, highest_value, highest_body};
 
 use crate::{Arms, FieldValues, Node, Nodes};
 use cat_pos::{Boxed, ENTRIES_BOUND};

@@ -18,7 +18,7 @@ use Rattle.cat_pos.specs.Position.{is_line_feed}
 use Rattle.cat_pos.specs.Bytes.{is_blank}
 use Rattle.cat_weave.specs.Lines.{lines_of, in_front}
 use Rattle.cat_weave.specs.Kinds.{is_hash, is_include}
-use Rattle.cat_weave.specs.Reading.{line_length}
+use Rattle.cat_weave.specs.inside.Reading.{line_length}
 
 -- how long the first line is, by its bytes
 pub line_length_feed : (text : List ℕ) (i : ℕ) → i < length text → is_line_feed (get_or text i 0) ≡ true →

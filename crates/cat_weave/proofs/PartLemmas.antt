@@ -17,7 +17,7 @@ use Rattle.cat_weave.specs.Kinds.{Kind, LawLine, OpeningLine, CodeLine, ClosingL
 use Rattle.cat_weave.specs.Kinds.{kinds_of, kind_of, law_kind, is_closing, stays_inside}
 use Rattle.cat_weave.specs.Woven.{line_position, code_text, parts_from, closes, unclosed, woven_unless, woven_lines}
 use Rattle.cat_weave.specs.Woven.{woven}
-use Rattle.cat_weave.specs.Reading.{law_kinds, block_kinds, code_lines, IsCodeBefore, code_part, IsStep, IsOpen}
+use Rattle.cat_weave.specs.inside.Reading.{law_kinds, block_kinds, code_lines, IsCodeBefore, code_part, IsStep, IsOpen}
 use Rattle.cat_weave.specs.declared.weaver.Step.{Step}
 use Rattle.cat_weave.specs.declared.part.Part.{Part}
 use Rattle.cat_weave.specs.declared.part.Part.TheVariants.{Heading, Include}

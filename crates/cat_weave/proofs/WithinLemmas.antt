@@ -11,7 +11,7 @@ use Rattle.cat_weave.specs.Kinds.{kinds_of, kind_of, law_kind, is_opening, is_he
 use Rattle.cat_weave.specs.Kinds.{heading_of, include_of, stays_inside}
 use Rattle.cat_weave.specs.Woven.{line_position, code_text, is_code, part_at, parts_from, unclosed, woven_unless}
 use Rattle.cat_weave.specs.Woven.{woven_lines, code_total, part_position, IsLineStart, AreWithin}
-use Rattle.cat_weave.specs.Reading.{law_kinds}
+use Rattle.cat_weave.specs.inside.Reading.{law_kinds}
 use Rattle.cat_weave.specs.declared.part.Part.{Part}
 use Rattle.cat_weave.specs.declared.part.Woven.{Woven}
 use Rattle.cat_weave.specs.declared.part.WeaveRefusal.{WeaveRefusal}

@@ -3,7 +3,7 @@ ghost use Rattle.std.specs.Prelude.{◌≡◌, ◌∷◌, ◌++◌, ◌-◌, ◌
 ghost use Rattle.cat_weave.specs.Lines.{lines_of, bare, without_end, without_last, without_last_blanks, without_first_blanks, last_is};
 ghost use Rattle.cat_pos.specs.Bytes.{is_blank};
 ghost use Rattle.cat_weave.specs.Kinds.{law_kind, level_of, is_hash, is_heading, is_include, heading_of, include_of};
-ghost use Rattle.cat_weave.specs.Reading.{kind_read, line_length};
+ghost use Rattle.cat_weave.specs.inside.Reading.{kind_read, line_length};
 
 use cat_pos::is_blank;
 

@@ -2,7 +2,7 @@
 ghost use Rattle.std.specs.Prelude.{◌≡◌, ◌≢◌, ◌+◌, ◌<◌, ◌≤◌, false, length, Err, IfOk, IfErr, MatchOption, MatchResult, IfSome, ◌∷◌};
 ghost use Rattle.cat_weave.specs.Woven.{woven, woven_lines, line_position, closes, AreWithin};
 ghost use Rattle.cat_weave.specs.Kinds.{ClosingLine};
-ghost use Rattle.cat_weave.specs.Reading.{law_kinds, block_kinds, code_part, IsCodeBefore, IsStep, IsOpen};
+ghost use Rattle.cat_weave.specs.inside.Reading.{law_kinds, block_kinds, code_part, IsCodeBefore, IsStep, IsOpen};
 ghost use Rattle.std.specs.Option.{option_to_list};
 
 use crate::line::{Line, bare, first_line, law_line};

@@ -1,7 +1,7 @@
 use Rattle.std.proofs.Common.{◌≡◌, ◌≢◌, List, ℕ, subst}
 use Rattle.std.specs.Prelude.{Some, None}
 use Rattle.cat_thin.specs.Source.{thin_program_of}
-use Rattle.cat_app.specs.Says.{asked_of}
+use Rattle.cat_app.specs.inside.Says.{asked_of}
 use Rattle.cat_app.proofs.Replies.{if_ok, refused_file, no_program, no_scope}
 use Rattle.cat_app.proofs.reply.run.Goals as goal
 

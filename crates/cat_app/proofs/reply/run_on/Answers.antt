@@ -1,7 +1,7 @@
 use Rattle.std.proofs.Common.{◌≡◌}
 use Rattle.std.specs.Prelude.{Some, None}
 use Rattle.cat_thin.specs.Input.{thin_input_of}
-use Rattle.cat_app.specs.Says.{asked_of}
+use Rattle.cat_app.specs.inside.Says.{asked_of}
 use Rattle.cat_app.proofs.Replies.{if_ok, if_both_ok, refused_extra, no_input, an_outcome}
 use Rattle.cat_app.proofs.reply.run_on.Goals as goal
 

@@ -1,7 +1,7 @@
 use Rattle.std.proofs.Common.{◌≡◌, ◌≢◌, ℕ, List, [], ◌++◌, length, ap, ◌∙◌, arith}
 use Rattle.std.proofs.lemmas.List.{length-append}
 use Rattle.cat_lex.specs.Positions.{position_after}
-use Rattle.cat_lex.specs.Steps.{IsAfterGap, IsFirst}
+use Rattle.cat_lex.specs.inside.Steps.{IsAfterGap, IsFirst}
 use Rattle.cat_lex.proofs.PieceSteps.{some_first, first_shorter, next_utf8, one_added}
 use Rattle.cat_lex.proofs.lexer.add_piece.Goals as goal
 

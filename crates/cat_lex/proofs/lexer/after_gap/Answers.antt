@@ -1,8 +1,8 @@
 use Rattle.std.proofs.Common.{◌≡◌, ℕ, List, false, sym, subst, ap, ◌∙◌}
 use Rattle.std.specs.Str.{IsUtf8}
 use Rattle.cat_lex.specs.Positions.{position_after}
-use Rattle.cat_lex.specs.Reading.{skip_gap}
-use Rattle.cat_lex.specs.Steps.{IsAfterGap}
+use Rattle.cat_lex.specs.inside.Reading.{skip_gap}
+use Rattle.cat_lex.specs.inside.Steps.{IsAfterGap}
 use Rattle.cat_lex.proofs.GapLemmas.{gap_utf8}
 use Rattle.cat_lex.proofs.PieceSteps.{gap_suffix, after_gap_step}
 use Rattle.cat_lex.proofs.lexer.after_gap.Goals as goal

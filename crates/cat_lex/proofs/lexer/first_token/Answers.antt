@@ -3,7 +3,7 @@ use Rattle.std.specs.Prelude.{Some, None}
 use Rattle.cat_lex.proofs.Fronts.{read_none}
 use Rattle.cat_lex.proofs.FirstTokens.{read_suffix, read_utf8, first_of, passes_of}
 use Rattle.cat_lex.specs.Values.{token_of}
-use Rattle.cat_lex.specs.Steps.{IsFirst}
+use Rattle.cat_lex.specs.inside.Steps.{IsFirst}
 use Rattle.cat_lex.proofs.lexer.first_token.Goals as goal
 
 pub returns-in_default-clause-cause : goal.returns-in_default-clause-cause

@@ -1,5 +1,5 @@
 use Rattle.std.proofs.Common.{◌≡◌, length}
-use Rattle.cat_lex.specs.Reading.{skip_groups}
+use Rattle.cat_lex.specs.inside.Reading.{skip_groups}
 use Rattle.cat_lex.proofs.reader.skip_groups.Given as goal
 
 abbrev pub invariant-loop-rest : goal.invariant-loop-rest

@@ -1,7 +1,7 @@
 use Rattle.std.proofs.Common.{◌≡◌, length}
 use Rattle.std.specs.Str.{IsUtf8}
 use Rattle.cat_lex.specs.Gaps.{is_white_space}
-use Rattle.cat_lex.specs.Reading.{after}
+use Rattle.cat_lex.specs.inside.Reading.{after}
 use Rattle.cat_lex.proofs.skip.after_white_space.Given as goal
 
 abbrev pub invariant-loop-c : goal.invariant-loop-c

@@ -1,6 +1,6 @@
 use Rattle.std.proofs.Common.{◌≡◌, length}
 use Rattle.std.specs.Str.{IsUtf8}
-use Rattle.cat_lex.specs.Reading.{after}
+use Rattle.cat_lex.specs.inside.Reading.{after}
 use Rattle.unicode_ident.specs.Ident.{is_xid_continue}
 use Rattle.cat_lex.proofs.skip.after_word.Given as goal
 

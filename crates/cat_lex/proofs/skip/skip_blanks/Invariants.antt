@@ -1,6 +1,6 @@
 use Rattle.std.proofs.Common.{◌≡◌, drop}
 use Rattle.cat_pos.specs.Bytes.{is_blank}
-use Rattle.cat_lex.specs.Reading.{skip}
+use Rattle.cat_lex.specs.inside.Reading.{skip}
 use Rattle.cat_lex.proofs.skip.skip_blanks.Given as goal
 
 abbrev pub invariant-loop-at : goal.invariant-loop-at

@@ -1,5 +1,5 @@
 use Rattle.std.proofs.Common.{◌≡◌, false, drop}
-use Rattle.cat_lex.specs.Reading.{skip_gap}
+use Rattle.cat_lex.specs.inside.Reading.{skip_gap}
 use Rattle.cat_lex.proofs.skip.skip_gap.Given as goal
 
 abbrev pub invariant-loop-at : goal.invariant-loop-at

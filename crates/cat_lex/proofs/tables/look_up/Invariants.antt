@@ -1,6 +1,6 @@
 use Rattle.std.proofs.Common.{◌≡◌, drop}
 use Rattle.cat_lex.specs.Words.{look_up}
-use Rattle.cat_lex.specs.Tables.{spelled}
+use Rattle.cat_lex.specs.inside.Tables.{spelled}
 use Rattle.cat_lex.proofs.tables.look_up.Given as goal
 
 abbrev pub invariant-loop-text : goal.invariant-loop-text

@@ -1,6 +1,6 @@
 use Rattle.std.proofs.Common.{◌≡◌, drop}
 use Rattle.cat_lex.specs.Words.{look_up_pair}
-use Rattle.cat_lex.specs.Tables.{spelled_pairs}
+use Rattle.cat_lex.specs.inside.Tables.{spelled_pairs}
 use Rattle.cat_lex.proofs.tables.look_up_pair.Given as goal
 
 abbrev pub invariant-loop-one : goal.invariant-loop-one

@@ -1,5 +1,5 @@
 use Rattle.std.proofs.Common.{◌≡◌, drop}
-use Rattle.cat_order.specs.Steps.{any_waiting}
+use Rattle.cat_order.specs.inside.Steps.{any_waiting}
 use Rattle.cat_order.proofs.cycle.first_waiting.Given as goal
 
 -- the rest has a waiting dependency, as the whole has

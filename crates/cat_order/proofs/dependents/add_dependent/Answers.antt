@@ -5,7 +5,7 @@ use Rattle.std.proofs.lemmas.Bool.{cases_eq}
 use Rattle.std.proofs.lemmas.Bool.Decides.{nat_tests}
 use Rattle.std.proofs.Math.Logic.{⊎_elim}
 use Rattle.cat_order.specs.Order.{times}
-use Rattle.cat_order.specs.Steps.{dependents_of}
+use Rattle.cat_order.specs.inside.Steps.{dependents_of}
 use Rattle.cat_order.proofs.Counts.{times_push, times_take}
 use Rattle.cat_order.proofs.dependents.add_dependent.Goals as goal
 

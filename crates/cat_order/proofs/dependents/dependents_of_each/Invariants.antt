@@ -1,6 +1,6 @@
 use Rattle.std.proofs.Common.{◌≡◌, ℕ, take, length}
 use Rattle.cat_order.specs.Order.{times, dependencies_of}
-use Rattle.cat_order.specs.Steps.{dependents_of}
+use Rattle.cat_order.specs.inside.Steps.{dependents_of}
 use Rattle.cat_order.proofs.dependents.dependents_of_each.Given as goal
 
 -- what the items walked so far depend on is turned round

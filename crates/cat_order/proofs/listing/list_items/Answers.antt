@@ -5,7 +5,7 @@ use Rattle.std.specs.Vec.{with_items}
 use Rattle.std.proofs.lemmas.List.{with_items_is, get_or_default}
 use Rattle.std.proofs.lemmas.Map.Keys.{le_from_not_gt}
 use Rattle.std.proofs.lemmas.Grind.{common_steps}
-use Rattle.cat_order.specs.Steps.{dependents_of, left_out}
+use Rattle.cat_order.specs.inside.Steps.{dependents_of, left_out}
 use Rattle.cat_order.proofs.Counts.{left_out_more}
 use Rattle.cat_order.proofs.Fronts.{Ready}
 use Rattle.cat_order.proofs.Stages.{first_stage, next_stage, taken_is_ready, counted}

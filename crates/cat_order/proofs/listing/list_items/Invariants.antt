@@ -1,7 +1,7 @@
 use Rattle.std.proofs.Common.{length}
 use Rattle.std.specs.Ordering.{nat_cmp}
 use Rattle.std.specs.BTreeSet.{contains}
-use Rattle.cat_order.specs.Steps.{left_out}
+use Rattle.cat_order.specs.inside.Steps.{left_out}
 use Rattle.cat_order.proofs.Stages.{IsStage}
 use Rattle.cat_order.proofs.listing.list_items.Given as goal
 

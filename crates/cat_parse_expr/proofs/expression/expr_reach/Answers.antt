@@ -8,44 +8,44 @@ returns-then-halt-clause-cause c =
     let within = rw (c.in-Reads.is, c.in-Some.is) at c.in_ok-part.ensures.within in
     let gives = rw (c.in-Reads.is, c.in-Some.is) at c.in_ok-part.ensures.gives in
     is_too_high c.args.tokens.now c.args.at c.requires (Reads c.in-Reads.part c.in-Reads.next (Some c.in-Some.halt))
-      c.in-Some.halt refl within.1 gives c.if-halt.true
+    c.in-Some.halt refl within.1 gives c.if-halt.true
 
 pub returns-in-None-clause-found : goal.returns-in-None-clause-found
 returns-in-None-clause-found c = (fronts c.args.tokens.now c.args.at c.requires c.in-Reads.part c.in-Reads.next
-  c.in-Reads.tried (rw c.in-Reads.is at c.in_ok-part.ensures.within)
-  (rw c.in-Reads.is at c.in_ok-part.ensures.gives)).found
+    c.in-Reads.tried (rw c.in-Reads.is at c.in_ok-part.ensures.within)
+    (rw c.in-Reads.is at c.in_ok-part.ensures.gives)).found
 
 pub returns-in-None-clause-longest : goal.returns-in-None-clause-longest
 returns-in-None-clause-longest c = (fronts c.args.tokens.now c.args.at c.requires c.in-Reads.part c.in-Reads.next
-  c.in-Reads.tried (rw c.in-Reads.is at c.in_ok-part.ensures.within)
-  (rw c.in-Reads.is at c.in_ok-part.ensures.gives)).longest
+    c.in-Reads.tried (rw c.in-Reads.is at c.in_ok-part.ensures.within)
+    (rw c.in-Reads.is at c.in_ok-part.ensures.gives)).longest
 
 pub returns-in-None-clause-reach : goal.returns-in-None-clause-reach
 returns-in-None-clause-reach c =
     let within = rw (c.in-Reads.is, c.in-None.is) at c.in_ok-part.ensures.within in
     let gives = rw (c.in-Reads.is, c.in-None.is) at c.in_ok-part.ensures.gives in
     goes_up_to c.args.tokens.now c.args.at c.requires (Reads c.in-Reads.part c.in-Reads.next None)
-      (record { at = c.in-Reads.next; deep = false }) refl within gives refl
+    (record { at = c.in-Reads.next; deep = false }) refl within gives refl
 
 pub returns-else-halt-clause-found : goal.returns-else-halt-clause-found
 returns-else-halt-clause-found c = (fronts c.args.tokens.now c.args.at c.requires c.in-Reads.part c.in-Reads.next
-  c.in-Reads.tried (rw c.in-Reads.is at c.in_ok-part.ensures.within)
-  (rw c.in-Reads.is at c.in_ok-part.ensures.gives)).found
+    c.in-Reads.tried (rw c.in-Reads.is at c.in_ok-part.ensures.within)
+    (rw c.in-Reads.is at c.in_ok-part.ensures.gives)).found
 
 pub returns-else-halt-clause-longest : goal.returns-else-halt-clause-longest
 returns-else-halt-clause-longest c = (fronts c.args.tokens.now c.args.at c.requires c.in-Reads.part c.in-Reads.next
-  c.in-Reads.tried (rw c.in-Reads.is at c.in_ok-part.ensures.within)
-  (rw c.in-Reads.is at c.in_ok-part.ensures.gives)).longest
+    c.in-Reads.tried (rw c.in-Reads.is at c.in_ok-part.ensures.within)
+    (rw c.in-Reads.is at c.in_ok-part.ensures.gives)).longest
 
 pub returns-else-halt-clause-reach : goal.returns-else-halt-clause-reach
 returns-else-halt-clause-reach c =
     let within = rw (c.in-Reads.is, c.in-Some.is) at c.in_ok-part.ensures.within in
     let gives = rw (c.in-Reads.is, c.in-Some.is) at c.in_ok-part.ensures.gives in
     goes_up_to c.args.tokens.now c.args.at c.requires (Reads c.in-Reads.part c.in-Reads.next (Some c.in-Some.halt))
-      c.in-Some.halt refl within.1 gives c.if-halt.false
+    c.in-Some.halt refl within.1 gives c.if-halt.false
 
 pub returns-in-Fails-clause-cause : goal.returns-in-Fails-clause-cause
 returns-in-Fails-clause-cause c =
     reach_cause c.args.tokens.now c.args.at c.requires c.refusal_at.result
     (cause_of c.args.tokens.now c.args.at c.requires c.in-Fails.halt c.refusal_at.result c.refusal_at.ensures
-      (rw c.in-Fails.is at c.in_ok-part.ensures.within) (rw c.in-Fails.is at c.in_ok-part.ensures.gives))
+    (rw c.in-Fails.is at c.in_ok-part.ensures.within) (rw c.in-Fails.is at c.in_ok-part.ensures.gives))

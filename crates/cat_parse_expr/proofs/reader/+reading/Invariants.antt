@@ -1,6 +1,6 @@
 use Rattle.std.proofs.Common.{◌<◌, ◌+◌, ◌-◌, ◌*◌, length, drop}
 use Rattle.cat_parse_expr.specs.Reader.{read}
-use Rattle.cat_parse_expr.specs.Loop.{IsStanding, GoesOn}
+use Rattle.cat_parse_expr.specs.inside.Loop.{IsStanding, GoesOn}
 use Rattle.cat_parse_expr.proofs.reader.+reading.Given as goal
 
 abbrev pub decreases-read : goal.decreases-read

@@ -1,6 +1,6 @@
 use Rattle.std.proofs.Common.{◌≡◌, ◌+◌, ◌*◌, max, drop}
 use Rattle.cat_tree.specs.Spells.{height_of}
-use Rattle.cat_tree.specs.Highest.{highest_part, highest_node, highest_value, highest_body}
+use Rattle.cat_tree.specs.inside.Highest.{highest_part, highest_node, highest_value, highest_body}
 use Rattle.cat_tree.proofs.heights.+height.Given as goal
 
 abbrev pub decreases-height : goal.decreases-height

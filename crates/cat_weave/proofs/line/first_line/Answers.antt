@@ -1,5 +1,5 @@
 use Rattle.std.proofs.Common.{◌∙◌, ap, arith}
-use Rattle.cat_weave.specs.Reading.{line_length}
+use Rattle.cat_weave.specs.inside.Reading.{line_length}
 use Rattle.cat_weave.proofs.LineLemmas.{line_cut, line_length_some, lines_of_first}
 use Rattle.cat_weave.proofs.line.first_line.Goals as goal
 

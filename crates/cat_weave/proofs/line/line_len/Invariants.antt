@@ -1,5 +1,5 @@
 use Rattle.std.proofs.Common.{◌≡◌, ◌+◌, drop}
-use Rattle.cat_weave.specs.Reading.{line_length}
+use Rattle.cat_weave.specs.inside.Reading.{line_length}
 use Rattle.cat_weave.proofs.line.line_len.Given as goal
 
 -- the line goes on as far as the rest says

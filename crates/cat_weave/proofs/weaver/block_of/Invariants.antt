@@ -1,7 +1,7 @@
 use Rattle.std.proofs.Common.{◌≡◌, ◌+◌, ◌-◌, ◌≤◌, take, drop, length}
 use denote.Text.{Utf8}
 use denote.Shadow.{shadow}
-use Rattle.cat_weave.specs.Reading.{block_kinds, IsCodeBefore}
+use Rattle.cat_weave.specs.inside.Reading.{block_kinds, IsCodeBefore}
 use Rattle.cat_weave.proofs.weaver.block_of.Given as goal
 
 -- all lines in front of the rest are code

@@ -1,6 +1,6 @@
 use Rattle.std.proofs.Common.{sym, subst}
 use Rattle.cat_weave.specs.Kinds.{LawLine, OpeningLine, HeadingLine, IncludeLine}
-use Rattle.cat_weave.specs.Reading.{law_kinds, block_kinds, IsStep}
+use Rattle.cat_weave.specs.inside.Reading.{law_kinds, block_kinds, IsStep}
 use Rattle.cat_weave.specs.declared.weaver.Step.{Step}
 use Rattle.cat_weave.proofs.PartLemmas.{line_read, law_step, opening_step, heading_step, include_step}
 use Rattle.cat_weave.proofs.weaver.next_step.Goals as goal

@@ -2,7 +2,7 @@ use Rattle.std.proofs.Common.{◌≡◌, ◌+◌, ◌≤◌, length}
 use denote.Text.{Utf8}
 use denote.Shadow.{shadow}
 use Rattle.cat_weave.specs.Woven.{woven_lines}
-use Rattle.cat_weave.specs.Reading.{law_kinds}
+use Rattle.cat_weave.specs.inside.Reading.{law_kinds}
 use Rattle.cat_weave.proofs.PartLemmas.{woven_after}
 use Rattle.cat_weave.proofs.weaver.woven_text.Given as goal
 

@@ -18,7 +18,7 @@ use Rattle.cat_parse_state.specs.Operands.{takes, is_some}
 use Rattle.cat_parse_expr.specs.Reader as spec
 use Rattle.cat_parse_expr.specs.Results.{Stop, Outcome, Fails, Reads}
 use Rattle.cat_parse_expr.specs.Reader.{Best, is_high, next, reaches, best_of, stopped, run, operand_of, read}
-use Rattle.cat_parse_expr.specs.Fallback.{fallback, is_filled}
+use Rattle.cat_parse_expr.specs.inside.Fallback.{fallback, is_filled}
 use Rattle.cat_parse_step.specs.Moves.{lists_before}
 
 -- ---- indices as what is left

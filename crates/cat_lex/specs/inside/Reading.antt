@@ -99,7 +99,8 @@ abbrev pub pair_read : List ℕ → List ℕ → Form × List ℕ
 pair_read text rest =
     let second = after is_white_space rest in
     let end = after is_xid_continue second in
-    if begins is_white_space rest then pair_or (double_keyword_of (front_of text rest) (front_of second end)) end rest else
+    if begins is_white_space rest then pair_or (double_keyword_of (front_of text rest) (front_of second end)) end rest
+    else
     (Word, rest)
 
 -- a type's word, or else a word or a double keyword, by the first character
