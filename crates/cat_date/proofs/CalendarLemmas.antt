@@ -29,8 +29,11 @@ day_count-first : (y : ℤ) → pos 1 ≤ℤ y → day_count y 1 1 ≡ days_of_y
 day_count-first y h =
     let k = unsigned_abs y - 1 in
     let shift : y +ℤ pos 10000 ≡ pos (suc (k + 10000)) = omega (arith, signed_arith, one_part y) in
-    omega (arith, day_count-early y (k + 10000) 1 1 shift (omega arith) (omega arith) (omega arith),
-      days_of_years-march k)
+    omega (
+      arith,
+      day_count-early y (k + 10000) 1 1 shift (omega arith) (omega arith) (omega arith),
+      days_of_years-march k,
+    )
 
 day_count-one : day_count (pos 1) 1 1 ≡ 3_652_791
 unfolding days_of_years
@@ -39,8 +42,13 @@ day_count-one = day_count-first (pos 1) (omega (arith, signed_arith))
 pub days_from_civil-day_number : (y : ℤ) (m d : ℕ) → pos 1 ≤ℤ y → 1 ≤ d → days_from_civil y m d ≡ day_number y m d
 unfolding day_number
 days_from_civil-day_number y m d low first =
-    omega (arith, signed_arith, days_from_civil-day_count y m d, day_count-day_of_year y m d first,
-      day_count-first y low)
+    omega (
+      arith,
+      signed_arith,
+      days_from_civil-day_count y m d,
+      day_count-day_of_year y m d first,
+      day_count-first y low,
+    )
 
 pub IsDay-bounds : (n : ℤ) → negsuc 719_161 ≤ℤ n → n ≤ℤ pos 2_932_896 → IsDay n
 IsDay-bounds n low high = grind (arith, ints)
@@ -64,8 +72,15 @@ year-IsDay d h =
     let range = bounds-IsDay (epoch_day d) h in
     by_lt_z d.year (pos 1)
     (λ lt. absurd
-      (omega (arith, signed_arith, days_from_civil-day_count, day_count-lt_year d.year d.month d.day (pos 1) 1 1
-      (civil d) (omega arith) lt, day_count-one, range.0)))
+    (omega (
+      arith,
+      signed_arith,
+      days_from_civil-day_count,
+      day_count-lt_year d.year d.month d.day (pos 1) 1 1
+          (civil d) (omega arith) lt,
+      day_count-one,
+      range.0,
+    )))
     (λ le. le)
 
 pub epoch_day-epoch : (d : Date) → d.year ≡ pos 1970 → pos d.month ≡ pos 1 → pos d.day ≡ pos 1 → epoch_day d ≡ pos 0
@@ -91,20 +106,20 @@ nat_le-false h = grind (arith, nat_tests)
 
 -- a month that is over by then, and the next one isn't
 whole_months-is : (y : ℤ) (k m n : ℕ) → m ≤ k → k ≤ 11 → days_of_months y m ≤ n → n < days_of_months y (suc m)
-  → whole_months y k n ≡ m
+    → whole_months y k n ≡ m
 unfolding whole_months
 whole_months-is y zero m n h top low high = omega arith
 whole_months-is y (suc k) m n h top low high =
     elim (cases_order m (suc k)) [
       | inr (inl lt) ↦ let past : n < days_of_months y (suc k) =
-        omega (arith, days_of_months_mono y (suc m) (suc k) lt) in
+          omega (arith, days_of_months_mono y (suc m) (suc k) lt) in
           rw (nat_le-false past) (whole_months-is y k m n (omega arith) (omega arith) low high)
       | inl e ↦ let over : days_of_months y (suc k) ≤ n = rw (← e) low in rw (nat_le-true over, e)
       | inr (inr gt) ↦ absurd (omega arith)
     ]
 
 date_in_year-is : (y : ℤ) (m d n : ℕ) → IsCivilDate y m d → n + 1 ≡ day_of_year y m d
-  → date_in_year y n ≡ record { year = y; month = m; day = d }
+    → date_in_year y n ≡ record { year = y; month = m; day = d }
 unfolding date_in_year
 date_in_year-is y m d n h e =
     let back : suc (m - 1) ≡ m = omega arith in
@@ -115,7 +130,7 @@ date_in_year-is y m d n h e =
     rw (whole_months-is y 11 (m - 1) n (omega (arith, h.1.1)) (omega arith) over longer, month, day)
 
 date_after-is : (y : ℤ) (k m d n : ℕ) → IsCivilDate y m d → y ≡ pos (suc k) → n + 1 ≡ days_of_years k + day_of_year y m
-  d → date_after n ≡ record { year = y; month = m; day = d }
+    d → date_after n ≡ record { year = y; month = m; day = d }
 unfolding date_after
 date_after-is y k m d n h e at =
     let year : pos (k + 1) ≡ y = omega (arith, signed_arith) in
@@ -129,7 +144,7 @@ count_of-first_day x h = omega (arith, signed_arith, one_part (pos x -ℤ pos 71
 
 -- the date of a date's day is that date
 pub civil_of-day_number : (y : ℤ) (m d : ℕ) → IsCivilDate y m d → pos 1 ≤ℤ y → civil_of (day_number y m d)
-  ≡ record { year = y; month = m; day = d }
+    ≡ record { year = y; month = m; day = d }
 unfolding civil_of day_number
 civil_of-day_number y m d h low =
     let k = unsigned_abs y - 1 in
@@ -137,7 +152,7 @@ civil_of-day_number y m d h low =
     date_after-is y k m d _ h year (count_of-first_day (days_of_years k + day_of_year y m d) (omega (arith, h.2.0)))
 
 pub civil_of-epoch_day : (d : Date) (z : ℤ) → epoch_day d ≡ z → pos 1 ≤ℤ d.year
-  → civil_of z ≡ record { year = d.year; month = d.month; day = d.day }
+    → civil_of z ≡ record { year = d.year; month = d.month; day = d.day }
 civil_of-epoch_day d z e low =
     rw (← e, epoch_day-day_number d low) (civil_of-day_number d.year d.month d.day (civil d) low)
 
@@ -180,7 +195,7 @@ unfolding day_of_civil
 day_of_civil-civil y m d h low = rw (is_civil-true y m d h low) refl
 
 pub day_of_civil-date : (d : Date) (y : ℤ) (m n : ℕ) → d.year ≡ y → d.month ≡ m → d.day ≡ n → pos 1 ≤ℤ y
-  → day_of_civil y m n ≡ Ok (day_number d.year d.month d.day)
+    → day_of_civil y m n ≡ Ok (day_number d.year d.month d.day)
 day_of_civil-date d y m n year month day low =
     rw (← year, ← month, ← day) (day_of_civil-civil d.year d.month d.day (civil d) (rw year low))
 
@@ -196,7 +211,7 @@ in_range-false z h = rw (not_true (is_day z) h) refl
 
 -- a day that falls on a date from the year 1 on is in range, and any other isn't
 pub in_range-date : (d : Date) (z : ℤ) → epoch_day d ≡ z → pos 1 ≤ℤ d.year
-  → in_range z ≡ Ok (day_number d.year d.month d.day)
+    → in_range z ≡ Ok (day_number d.year d.month d.day)
 in_range-date d z e low =
     let day : IsDay z = subst IsDay e (IsDay-epoch_day d low) in
     in_range-true z day ∙ ap Ok (sym e ∙ epoch_day-day_number d low)
@@ -210,7 +225,7 @@ in_range-far z h = in_range-false z (λ day. let range = bounds-IsDay z day in h
 
 -- each count of days falls in the year that is then not over
 days_of_years-bounds : (k : ℕ) → (400 * days_of_years k ≤ 146_097 * k + 396)
-  × (146_097 * k ≤ 400 * days_of_years k + 699)
+    × (146_097 * k ≤ 400 * days_of_years k + 699)
 unfolding days_of_years
 days_of_years-bounds k = omega arith
 
@@ -229,21 +244,21 @@ whole_years-bounds n =
     elim (cases_order (days_of_years (g + 1)) (suc n)) [
       | inr (inl le) ↦ rw (nat_le-true {a = days_of_years (g + 1)} {b = n} (omega arith)) (omega arith, omega arith)
       | inl over ↦ rw (nat_le-false {a = days_of_years (g + 1)} {b = n} (omega arith))
-        (omega arith, rw one (omega arith))
+          (omega arith, rw one (omega arith))
       | inr (inr over) ↦ rw (nat_le-false {a = days_of_years (g + 1)} {b = n} (omega arith))
-        (omega arith, rw one (omega arith))
+          (omega arith, rw one (omega arith))
     ]
 
 pub whole_months-bounds : (y : ℤ) (k n : ℕ) → n < days_of_months y (suc k) → (days_of_months y (whole_months y k n) ≤ n)
-  × (n < days_of_months y (suc (whole_months y k n))) × (whole_months y k n ≤ k)
+    × (n < days_of_months y (suc (whole_months y k n))) × (whole_months y k n ≤ k)
 unfolding whole_months
 whole_months-bounds y zero n h = (omega (arith, days_of_months-zero y), h, omega arith)
 whole_months-bounds y (suc k) n h =
     elim (cases_order (days_of_months y (suc k)) (suc n)) [
       | inr (inl le) ↦ rw (nat_le-true {a = days_of_months y (suc k)} {b = n} (omega arith))
-        (omega arith, h, omega arith)
+          (omega arith, h, omega arith)
       | inl over ↦ let rest = whole_months-bounds y k n (omega arith) in
-        rw (nat_le-false {a = days_of_months y (suc k)} {b = n} (omega arith)) (rest.0, rest.1, omega (arith, rest.2))
+          rw (nat_le-false {a = days_of_months y (suc k)} {b = n} (omega arith)) (rest.0, rest.1, omega (arith, rest.2))
       | inr (inr over) ↦ let rest = whole_months-bounds y k n (omega arith) in
-        rw (nat_le-false {a = days_of_months y (suc k)} {b = n} (omega arith)) (rest.0, rest.1, omega (arith, rest.2))
+          rw (nat_le-false {a = days_of_months y (suc k)} {b = n} (omega arith)) (rest.0, rest.1, omega (arith, rest.2))
     ]

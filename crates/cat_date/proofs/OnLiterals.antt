@@ -9,5 +9,5 @@ use Rattle.cat_date.specs.Text.{day_text, day_of_text}
 
 unfoldable pub cat_date_on_literals : ⊤
 unfolding days_of_months days_of_years day_number whole_years whole_months date_in_year date_after civil_of day_of_civil
-  day_of_month date_plus_months span_in_range compared_spans day_text day_of_text
+    day_of_month date_plus_months span_in_range compared_spans day_text day_of_text
 cat_date_on_literals = tt

@@ -34,7 +34,7 @@ pub known_sums : (day_plus_span (pos 19_753) (record { months = pos 1; days = po
     × (day_plus_span (pos 19_753) (record { months = pos 1; days = pos 0 }) Refuse ≡ Err AmbiguousDate)
     × (day_plus_span (pos 2_932_896) (record { months = pos 0; days = pos 1 }) Up ≡ Err Overflow)
     × (day_plus_span (pos 19_753) (record { months = neg_ℤ (pos 9_223_372_036_854_775_807); days = pos 0 }) Refuse ≡ Err
-      Overflow)
+    Overflow)
 unfolding cat_date_on_literals
 known_sums = (refl, refl, refl, refl, refl)
 
@@ -47,25 +47,25 @@ unfolding cat_date_on_literals
 known_texts = (refl, refl, refl, refl, refl, refl)
 
 pub known_orders : (compared_spans (record { months = pos 1; days = pos 0 }) (record { months = pos 0; days = pos 31 })
-  ≡ Err Uncomparable)
+    ≡ Err Uncomparable)
     × (compared_spans (record { months = pos 1; days = pos 0 }) (record { months = pos 12; days = pos 0 }) ≡ Ok Less)
     × (compared_spans (record { months = pos 0; days = pos 0 }) (record { months = pos 0; days = pos 0 }) ≡ Ok Equal)
     × (compared_spans (record { months = pos 0; days = pos 7 }) (record { months = pos 0; days = negsuc 6 }) ≡ Ok
-      Greater)
+    Greater)
     × (compared_spans (record { months = pos 1; days = pos 1 }) (record { months = pos 1; days = pos 1 }) ≡ Err
-      Uncomparable)
+    Uncomparable)
 unfolding cat_date_on_literals
 known_orders = (refl, refl, refl, refl, refl)
 
 -- the greatest part and one more, and both parts by a negative number
 pub known_spans : (span_sum (record { months = pos 9_223_372_036_854_775_806; days = pos 0 })
-  (record { months = pos 1; days = pos 1 }) ≡ Ok (record { months = pos 9_223_372_036_854_775_807; days = pos 1 }))
+    (record { months = pos 1; days = pos 1 }) ≡ Ok (record { months = pos 9_223_372_036_854_775_807; days = pos 1 }))
     × (span_sum (record { months = pos 0; days = pos 9_223_372_036_854_775_807 })
-      (record { months = pos 0; days = pos 1 }) ≡ Err Overflow)
+    (record { months = pos 0; days = pos 1 }) ≡ Err Overflow)
     × (span_difference (record { months = negsuc 9_223_372_036_854_775_806; days = pos 0 })
-      (record { months = pos 1; days = pos 0 }) ≡ Err Overflow)
+    (record { months = pos 1; days = pos 0 }) ≡ Err Overflow)
     × (span_multiple (record { months = pos 2; days = negsuc 2 }) (negsuc 1) ≡ Ok
-      (record { months = negsuc 3; days = pos 6 }))
+    (record { months = negsuc 3; days = pos 6 }))
     × (span_multiple (record { months = pos 1; days = pos 0 }) (negsuc 9_223_372_036_854_775_807) ≡ Err Overflow)
 unfolding cat_date_on_literals
 known_spans = (refl, refl, refl, refl, refl)

@@ -13,7 +13,7 @@ use Rattle.cat_date.proofs.AddLemmas.{day_of_month-within}
 use Rattle.cat_date.proofs.DateOfDay.{civil_of-IsDateOf}
 
 in_years : (y m : ℕ) → 1 ≤ y → y ≤ 9999 → m ≤ 12
-  → (nat_le 12 (12 * y + (m - 1) + 0) && nat_lt (12 * y + (m - 1) + 0) 120_000) ≡ true
+    → (nat_le 12 (12 * y + (m - 1) + 0) && nat_lt (12 * y + (m - 1) + 0) 120_000) ≡ true
 in_years y m low high top = grind (arith, nat_tests)
 
 date_plus_months-none : (y m d : ℕ) (r : Rounding) → 1 ≤ y → y ≤ 9999 → 1 ≤ m → m ≤ 12 → d ≤ days_in_month (pos y) m
@@ -33,18 +33,18 @@ same_months day r h =
     let low : 1 ≤ y = omega (arith, signed_arith, one_part date.year, is.first) in
     let high : y ≤ 9999 = omega (arith, signed_arith, one_part date.year, is.first, is.civil.0.1) in
     let short : date.day ≤ days_in_month (pos y) date.month =
-      omega (arith, is.civil.2.1, ap (λ (x : ℤ). days_in_month x date.month) year) in
+    omega (arith, is.civil.2.1, ap (λ (x : ℤ). days_in_month x date.month) year) in
     ap (λ (x : ℤ). date_plus_months (record { year = x; month = date.month; day = date.day }) (pos 0) r) year
     ∙ date_plus_months-none y date.month date.day r low high is.civil.1.0 is.civil.1.1 short
     ∙ ap (λ (x : ℤ). Ok (day_number x date.month date.day)) (sym year)
     ∙ ap Ok is.number
 
 pub day_plus_span-days : (day days : ℤ) (r : Rounding) → IsDay day → day_plus_span day (span_of_days days) r ≡ in_range
-  (day +ℤ days)
+    (day +ℤ days)
 day_plus_span-days day days r h = ap (λ sum. plus_days sum days) (same_months day r h)
 
 pub day_plus_span-between : (later earlier : ℤ) (r : Rounding) → IsDay later → IsDay earlier
-  → day_plus_span earlier (span_of_days (later -ℤ earlier)) r ≡ Ok later
+    → day_plus_span earlier (span_of_days (later -ℤ earlier)) r ≡ Ok later
 day_plus_span-between later earlier r h k =
     let back : earlier +ℤ (later -ℤ earlier) ≡ later = omega (arith, signed_arith) in
     day_plus_span-days earlier (later -ℤ earlier) r k ∙ rw back (in_range-true later h)

@@ -50,17 +50,17 @@ year_digits text e = all_ascii_digits-zeros 4 (take 4 text) (form_of-take 4 text
 pub month_digits : (text : List ℕ) → form_of text ≡ codes "0000-00-00" → all_ascii_digits (take 2 (drop 5 text)) ≡ true
 month_digits text e =
     all_ascii_digits-zeros 2 (take 2 (drop 5 text)) (form_of-take 2 (drop 5 text)
-      ∙ ap (take 2) (form_of-drop 5 text ∙ ap (drop 5) e))
+    ∙ ap (take 2) (form_of-drop 5 text ∙ ap (drop 5) e))
 
 pub day_digits : (text : List ℕ) → form_of text ≡ codes "0000-00-00" → all_ascii_digits (take 2 (drop 8 text)) ≡ true
 day_digits text e =
     all_ascii_digits-zeros 2 (take 2 (drop 8 text)) (form_of-take 2 (drop 8 text)
-      ∙ ap (take 2) (form_of-drop 8 text ∙ ap (drop 8) e))
+    ∙ ap (take 2) (form_of-drop 8 text ∙ ap (drop 8) e))
 
 form_step : (text : List ℕ) (i : ℕ) → i < length text → i < 10 → bytes_eq (form_of (drop i text))
-  (drop i (codes "0000-00-00"))
+    (drop i (codes "0000-00-00"))
     ≡ (((if is_ascii_digit (get_or text i 0) then 48 else get_or text i 0) == get_or (codes "0000-00-00") i 0)
-      && bytes_eq (form_of (drop (i + 1) text)) (drop (i + 1) (codes "0000-00-00")))
+    && bytes_eq (form_of (drop (i + 1) text)) (drop (i + 1) (codes "0000-00-00")))
 form_step text i h k = rw (add-one, drop-cons text i 0, drop-cons (codes "0000-00-00") i 0) refl
 
 test_same : (x y : ℕ) (b : Bool) → x ≡ y → ((x == y) && b) ≡ b
@@ -71,12 +71,12 @@ test_other x y b n = grind (arith, nat_tests)
 
 -- where the byte fits, the rest decides
 pub form_same : (text : List ℕ) (i f : ℕ) → i < length text → i < 10
-  → f ≡ (if is_ascii_digit (get_or text i 0) then 48 else get_or text i 0) → f ≡ get_or (codes "0000-00-00") i 0
+    → f ≡ (if is_ascii_digit (get_or text i 0) then 48 else get_or text i 0) → f ≡ get_or (codes "0000-00-00") i 0
     → bytes_eq (form_of (drop (i + 1) text)) (drop (i + 1) (codes "0000-00-00")) ≡ bytes_eq (form_of (drop i text))
-      (drop i (codes "0000-00-00"))
+    (drop i (codes "0000-00-00"))
 form_same text i f h k e same = sym (form_step text i h k ∙ test_same _ _ _ (sym e ∙ same))
 
 pub form_other : (text : List ℕ) (i f : ℕ) → i < length text → i < 10
-  → f ≡ (if is_ascii_digit (get_or text i 0) then 48 else get_or text i 0) → ¬ (f ≡ get_or (codes "0000-00-00") i 0)
+    → f ≡ (if is_ascii_digit (get_or text i 0) then 48 else get_or text i 0) → ¬ (f ≡ get_or (codes "0000-00-00") i 0)
     → bytes_eq (form_of (drop i text)) (drop i (codes "0000-00-00")) ≡ false
 form_other text i f h k e other = form_step text i h k ∙ test_other _ _ _ (λ same. other (e ∙ same))

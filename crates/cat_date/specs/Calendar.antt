@@ -34,7 +34,7 @@ pub record CivilDate : Type 0 where
 -- the calendar has this date, in a year from 1 to 9999
 abbrev pub is_civil : ℤ → ℕ → ℕ → Bool
 is_civil y m d = int_le (pos 1) y && int_le y (pos 9999) && nat_le 1 m && nat_le m 12 && nat_le 1 d
-  && nat_le d (days_in_month y m)
+    && nat_le d (days_in_month y m)
 
 -- the days of the first n years from the year 1 on: of each fourth one more, but of the centuries only of each fourth
 unfoldable pub days_of_years : ℕ → ℕ
@@ -56,7 +56,7 @@ whole_months y (suc k) n = if nat_le (days_of_months y (suc k)) n then suc k els
 -- the date n days after the year's first
 unfoldable pub date_in_year : ℤ → ℕ → CivilDate
 date_in_year y n =
-  record { year = y; month = whole_months y 11 n + 1; day = n - days_of_months y (whole_months y 11 n) + 1 }
+    record { year = y; month = whole_months y 11 n + 1; day = n - days_of_months y (whole_months y 11 n) + 1 }
 
 -- the date n days after 0001-01-01
 unfoldable pub date_after : ℕ → CivilDate

@@ -33,5 +33,5 @@ unfoldable pub day_of_text : List ℕ → Result ℤ DateFault
 day_of_text text =
     if bytes_eq (form_of text) (codes "0000-00-00")
     then day_of_civil (pos (digits_value 10 (take 4 text))) (digits_value 10 (take 2 (drop 5 text)))
-      (digits_value 10 (take 2 (drop 8 text)))
+    (digits_value 10 (take 2 (drop 8 text)))
     else Err NotADay

@@ -1,6 +1,7 @@
 //! Durations: months and days, kept apart since months differ in length.
 ghost use Rattle.std.specs.Prelude.{◌≡◌, IsTrue, ◌+ℤ◌, ◌-ℤ◌, ◌*ℤ◌};
-ghost use Rattle.cat_date.specs.Span.{IsSpan, is_part, span_in_range, span_sum, span_difference, span_multiple, span_negated, compared_spans};
+ghost use Rattle.cat_date.specs.Span.{IsSpan, is_part, span_in_range, span_sum, span_difference, span_multiple};
+ghost use Rattle.cat_date.specs.Span.{span_negated, compared_spans};
 
 use crate::DateFault;
 use std::cmp::Ordering;

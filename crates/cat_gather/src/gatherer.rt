@@ -4,7 +4,8 @@ ghost use Rattle.cat_weave.specs.Woven.{woven, AreWithin};
 ghost use Rattle.cat_gather.specs.Gathered.{gathered, gathered_none, woven_as, is_among};
 ghost use Rattle.cat_gather.specs.Causes.{HasCause, IsAnswerTo, AreReadableTogether};
 ghost use Rattle.cat_gather.specs.inside.Worklist.{include_with};
-ghost use Rattle.cat_gather.specs.inside.UnderWay.{gathered_of, AreBounded, ReadsFile, IsTaken, IsRefusedTake, GoesOn, AreToCome, LeadsOn, IsKept, left_to_take};
+ghost use Rattle.cat_gather.specs.inside.UnderWay.{gathered_of, AreBounded, ReadsFile, IsTaken, IsRefusedTake, GoesOn};
+ghost use Rattle.cat_gather.specs.inside.UnderWay.{AreToCome, LeadsOn, IsKept, left_to_take};
 
 use crate::pending::Pending;
 use crate::{GatherRefusal, Source};

@@ -15,7 +15,8 @@ is_bracket_first (byte ∷ bytes) = byte == 91
 abbrev pub begins_comment : ℕ → List ℕ → Bool
 begins_comment byte bytes = byte == 35 && not (is_bracket_first bytes)
 
--- White space and comments alone: `inside` tells that they begin inside a comment, `ending` that they may end inside one. A
+-- White space and comments alone: `inside` tells that they begin inside a comment, `ending` that they may end inside
+-- one. A
 -- line feed ends a comment.
 abbrev pub is_gap : Bool → Bool → List ℕ → Bool
 is_gap inside ending [] = not inside || ending

@@ -3,7 +3,8 @@ ghost use Rattle.std.specs.Prelude.{◌≡◌, ◌++◌, ℕ, List, if◌then◌
 ghost use Rattle.std.specs.Char.{is_ascii_digit};
 ghost use Rattle.cat_date.specs.Text.{form_of};
 ghost use Rattle.cat_lex.specs.Gaps.{is_white_space};
-ghost use Rattle.cat_lex.specs.inside.Reading.{begins, is_pointed, number_read, skip_groups, skip_cents, amount_read, date_read, mark_read, pair_read, word_read, read, front_of};
+ghost use Rattle.cat_lex.specs.inside.Reading.{begins, is_pointed, number_read, skip_groups, skip_cents, amount_read};
+ghost use Rattle.cat_lex.specs.inside.Reading.{date_read, mark_read, pair_read, word_read, read, front_of};
 ghost use Rattle.cat_lex.specs.inside.Tables.{seen};
 
 use crate::Form;

@@ -38,12 +38,12 @@ pub number_after-decimal : (n : ℕ) → n < 2 ^ 64 → number_after 0 (decimal 
 number_after-decimal n h = decimal_by_steps (λ n ds. number_after 0 ds ≡ n)
     (λ n p. omega arith)
     (λ n ds p e. number_after-append 0 ds ((48 + n % 10) ∷ []) ∙ ap (λ m. 10 * m + ((48 + n % 10) - 48)) e
-      ∙ omega arith)
+    ∙ omega arith)
     n h
 
 pub Without-decimal : (c n : ℕ) → c < 48 → n < 2 ^ 64 → Without c (decimal n)
 Without-decimal c n low h = decimal_by_steps (λ n ds. Without c ds) (λ n p. (λ e. omega arith, tt))
-  (λ n ds p w. Without-append c ds _ w (λ e. omega arith, tt)) n h
+    (λ n ds p w. Without-append c ds _ w (λ e. omega arith, tt)) n h
 
 Without-replicate : (c k : ℕ) → c < 48 → Without c (replicate k 48)
 Without-replicate c zero low = tt
@@ -51,16 +51,20 @@ Without-replicate c (suc k) low = (λ e. omega arith, Without-replicate c k low)
 
 pub Without-filled : (c p v : ℕ) → c < 48 → v < 2 ^ 64 → Without c (filled p v)
 Without-filled c p v low h = Without-append c (replicate (p - length (decimal v)) 48) (decimal v)
-  (Without-replicate c (p - length (decimal v)) low) (Without-decimal c v low h)
+    (Without-replicate c (p - length (decimal v)) low) (Without-decimal c v low h)
 
 pub length-filled : (p v : ℕ) → 0 < p → v < 10 ^ p → v < 2 ^ 64 → length (filled p v) ≡ p
-length-filled p v q h k = omega (arith, length-append (replicate (p - length (decimal v)) 48) (decimal v),
-  length-replicate {A = ℕ} (p - length (decimal v)) 48, length-decimal-le p v q h k)
+length-filled p v q h k = omega (
+  arith,
+  length-append (replicate (p - length (decimal v)) 48) (decimal v),
+  length-replicate {A = ℕ} (p - length (decimal v)) 48,
+  length-decimal-le p v q h k,
+)
 
 number_after-replicate : (k n : ℕ) → number_after n (replicate k 48) ≡ n * 10 ^ k
 number_after-replicate zero n = omega arith
 number_after-replicate (suc k) n = number_after-replicate k (10 * n + (48 - 48)) ∙ turn n (10 ^ k)
-  ∙ ap (λ w. n * w) (sym (pow-suc 10 k))
+    ∙ ap (λ w. n * w) (sym (pow-suc 10 k))
   where
     turn : (n w : ℕ) → (10 * n + (48 - 48)) * w ≡ n * (w * 10)
     turn n w = omega arith
@@ -69,9 +73,9 @@ number_after-digits : (m n : ℕ) → n < 2 ^ 64 → number_after m (decimal n) 
 number_after-digits m n h = decimal_by_steps (λ n ds. number_after m ds ≡ m * 10 ^ length ds + n)
     (λ n p. omega arith)
     (λ n ds p e. number_after-append m ds ((48 + n % 10) ∷ []) ∙ ap (λ x. 10 * x + ((48 + n % 10) - 48)) e
-      ∙ step m (10 ^ length ds) n
+    ∙ step m (10 ^ length ds) n
     ∙ ap (λ w. m * w + n) (sym (pow-suc 10 (length ds))) ∙ ap (λ k. m * 10 ^ k + n)
-      (sym (length-append ds ((48 + n % 10) ∷ []) ∙ omega arith)))
+    (sym (length-append ds ((48 + n % 10) ∷ []) ∙ omega arith)))
     n h
   where
     step : (m w n : ℕ) → 10 * (m * w + n / 10) + ((48 + n % 10) - 48) ≡ m * (w * 10) + n
@@ -82,6 +86,6 @@ number_after-filled p n v q h k =
     let len : ℕ = length (decimal v) in
     let room : len ≤ p = length-decimal-le p v q h k in
     number_after-append n (replicate (p - len) 48) (decimal v) ∙ ap (λ m. number_after m (decimal v))
-      (number_after-replicate (p - len) n)
+    (number_after-replicate (p - len) n)
     ∙ number_after-digits (n * 10 ^ (p - len)) v k ∙ ap (λ x. x + v) (mul_assoc n (10 ^ (p - len)) (10 ^ len))
     ∙ ap (λ x. n * x + v) (sym (pow-add 10 (p - len) len)) ∙ ap (λ e. n * 10 ^ e + v) (omega arith)

@@ -71,7 +71,7 @@ frac_order-negative : frac_order (over (negsuc 0) 2) (over (negsuc 0) 3) ≡ Les
 frac_order-negative = refl
 
 frac_order-close : frac_order (over (pos largest) 9223372036854775806)
-  (over (pos 9223372036854775806) 9223372036854775805) ≡ Less
+    (over (pos 9223372036854775806) 9223372036854775805) ≡ Less
 frac_order-close = refl
 
 -- halves go away from zero, and toward zero by `truncated`

@@ -17,7 +17,7 @@ unfolding ratio
 ratio-zero n d h = rw h
 
 pub ratio-large_num : (n : ℤ) (d : ℕ) → 0 < d → largest < unsigned_abs n / gcd (unsigned_abs n) d
-  → ratio n d ≡ Err Overflow
+    → ratio n d ≡ Err Overflow
 unfolding ratio lowest
 ratio-large_num n d h big = grind (arith, nat_tests, unsigned_abs-signed)
 
@@ -26,19 +26,22 @@ unfolding ratio lowest
 ratio-large_den n d h big = grind (arith, nat_tests, unsigned_abs-signed)
 
 pub ratio-fits : (n : ℤ) (d : ℕ) → 0 < d → unsigned_abs n / gcd (unsigned_abs n) d ≤ largest → d / gcd (unsigned_abs n)
-  d ≤ largest → ratio n d ≡ Ok (lowest n d)
+    d ≤ largest → ratio n d ≡ Ok (lowest n d)
 unfolding ratio lowest
 ratio-fits n d h p q = grind (arith, nat_tests, unsigned_abs-signed)
 
 pub lowest_parts : (n : ℤ) (d : ℕ)
-    → lowest n d ≡ record { num = signed (is_negative n) (unsigned_abs n / gcd (unsigned_abs n) d); den =
-      d / gcd (unsigned_abs n) d }
+    → lowest n d ≡ record {
+      num = signed (is_negative n) (unsigned_abs n / gcd (unsigned_abs n) d);
+      den =
+          d / gcd (unsigned_abs n) d;
+    }
 unfolding lowest
 lowest_parts n d = refl
 
 -- n / d is in lowest terms once both parts fit
 pub IsReduced-lowest : (n : ℤ) (d : ℕ) → 0 < d → unsigned_abs n / gcd (unsigned_abs n) d ≤ largest
-  → d / gcd (unsigned_abs n) d ≤ largest
+    → d / gcd (unsigned_abs n) d ≤ largest
     → IsReduced (signed (is_negative n) (unsigned_abs n / gcd (unsigned_abs n) d)) (d / gcd (unsigned_abs n) d)
 IsReduced-lowest n d h p q =
     let size = unsigned_abs-signed (is_negative n) (unsigned_abs n / gcd (unsigned_abs n) d) in
@@ -62,7 +65,7 @@ pub lowest-cross : (n : ℤ) (d : ℕ) → (lowest n d).num *ℤ pos d ≡ n *�
 unfolding lowest
 lowest-cross n d =
     signed-product (is_negative n) (unsigned_abs n / gcd (unsigned_abs n) d) d ∙ ap (signed (is_negative n))
-      (cross_sizes (unsigned_abs n) d)
+    (cross_sizes (unsigned_abs n) d)
     ∙ sym (signed-product (is_negative n) (unsigned_abs n) (d / gcd (unsigned_abs n) d))
     ∙ ap (λ m. m *ℤ pos (d / gcd (unsigned_abs n) d)) (signed_parts n)
 
@@ -72,7 +75,7 @@ parts_are a b n d h k p e =
     same_lowest a b (n / gcd n d) (d / gcd n d) h p (gcd-lowest n d k)
     (eq_of_mul-eq-mul_left (gcd n d) (gcd-positive n d k) (a * (d / gcd n d)) (n / gcd n d * b)
     (turn (gcd n d) a (d / gcd n d) ∙ ap (λ x. a * x) (gcd_divides-right n d) ∙ e
-      ∙ ap (λ x. x * b) (sym (gcd_divides-left n d)) ∙ regroup (gcd n d) (n / gcd n d) b))
+    ∙ ap (λ x. x * b) (sym (gcd_divides-left n d)) ∙ regroup (gcd n d) (n / gcd n d) b))
   where
     turn : (g a x : ℕ) → g * (a * x) ≡ a * (g * x)
     turn g a x = omega arith
@@ -81,16 +84,16 @@ parts_are a b n d h k p e =
     regroup g x b = omega arith
 
 pub lowest_is : (f : Fraction) (n : ℤ) (d : ℕ) → 0 < d → IsReduced f.num f.den → f.num *ℤ pos d ≡ n *ℤ pos f.den
-  → lowest n d ≡ f
+    → lowest n d ≡ f
 unfolding lowest
 lowest_is f n d k r e =
     let sizes : unsigned_abs f.num * d ≡ unsigned_abs n * f.den =
-      sym (unsigned_abs-mul f.num (pos d)) ∙ ap unsigned_abs e ∙ unsigned_abs-mul n (pos f.den) in
+    sym (unsigned_abs-mul f.num (pos d)) ∙ ap unsigned_abs e ∙ unsigned_abs-mul n (pos f.den) in
     let parts = parts_are (unsigned_abs f.num) f.den (unsigned_abs n) d r.positive k r.lowest_terms sizes in
     let size : signed (is_negative n) (unsigned_abs n / gcd (unsigned_abs n) d) ≡ f.num =
-      ap (signed (is_negative n)) (sym parts.0) ∙ sign_from_cross f.num n d f.den k r.positive e in
+    ap (signed (is_negative n)) (sym parts.0) ∙ sign_from_cross f.num n d f.den k r.positive e in
     whole f (signed (is_negative n) (unsigned_abs n / gcd (unsigned_abs n) d)) (d / gcd (unsigned_abs n) d) size
-      (sym parts.1)
+    (sym parts.1)
   where
     whole : (f : Fraction) (x : ℤ) (y : ℕ) → x ≡ f.num → y ≡ f.den → record { num = x; den = y } ≡ f
     whole f x y p q = ap (λ (z : ℤ). record { num = z; den = y }) p ∙ ap (λ (w : ℕ). record { num = f.num; den = w }) q
@@ -100,19 +103,22 @@ lowest_self f r = lowest_is f f.num f.den r.positive r refl
 
 -- two reduced fractions are equal where their cross products agree
 pub same_from_cross : (f g : Fraction) → IsReduced f.num f.den → IsReduced g.num g.den → f.num *ℤ pos g.den ≡ g.num *ℤ
-  pos f.den → f ≡ g
+    pos f.den → f ≡ g
 same_from_cross f g r s e = sym (lowest_is f g.num g.den s.positive r e) ∙ lowest_self g s
 
 -- the same, both ways
 pub equal_is_cross : (f g : Fraction) → IsReduced f.num f.den → IsReduced g.num g.den → (f ≡ g) ↔ AreEqual f.num f.den
-  g.num g.den
-equal_is_cross f g r s = (λ e. ap (λ (h : Fraction). h.num *ℤ pos g.den) e ∙ ap (λ (h : Fraction). g.num *ℤ pos h.den)
-  (sym e), same_from_cross f g r s)
+    g.num g.den
+equal_is_cross f g r s = (
+  λ e. ap (λ (h : Fraction). h.num *ℤ pos g.den) e ∙ ap (λ (h : Fraction). g.num *ℤ pos h.den)
+      (sym e),
+  same_from_cross f g r s,
+)
 
 -- a quotient of numbers that fit has parts that fit
 pub ratio-of_fitting : (n : ℤ) (d : ℕ) → 0 < d → Fits n → d ≤ largest → ratio n d ≡ Ok (lowest n d)
 ratio-of_fitting n d h p q =
-  ratio-fits n d h (le_trans (div-le_self (unsigned_abs n) _) p) (le_trans (div-le_self d _) q)
+    ratio-fits n d h (le_trans (div-le_self (unsigned_abs n) _) p) (le_trans (div-le_self d _) q)
 
 fits_either : (n : ℤ) (d : ℕ) → Fits n → d ≤ largest → ratio n d ≢ Err Overflow
 fits_either n d p q = by d (eq-zero-or-pos d) q
@@ -138,5 +144,5 @@ pub lowest-coprime : (n : ℤ) (d : ℕ) → 0 < d → gcd (unsigned_abs (lowest
 unfolding lowest
 lowest-coprime n d h =
     ap (λ m. gcd m (d / gcd (unsigned_abs n) d))
-      (unsigned_abs-signed (is_negative n) (unsigned_abs n / gcd (unsigned_abs n) d))
+    (unsigned_abs-signed (is_negative n) (unsigned_abs n / gcd (unsigned_abs n) d))
     ∙ gcd-lowest (unsigned_abs n) d h

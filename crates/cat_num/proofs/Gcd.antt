@@ -57,16 +57,16 @@ pub gcd-scaled : (c a b : ℕ) → 0 < c → gcd (c * a) (c * b) ≡ c * gcd a b
 gcd-scaled c a b h =
     dvd_antisymm (quotient_divides c a b h)
     ((gcd_is (c * a) (c * b)).2 (c * gcd a b) (mul-dvd-mul_left (gcd a b) c (gcd_is a b).0)
-      (mul-dvd-mul_left (gcd a b) c (gcd_is a b).1))
+    (mul-dvd-mul_left (gcd a b) c (gcd_is a b).1))
 
 -- divided by their greatest common divisor, two numbers have no common divisor but 1
 pub gcd-lowest : (a b : ℕ) → 0 < b → gcd (a / gcd a b) (b / gcd a b) ≡ 1
 gcd-lowest a b h =
     let g = gcd a b in
     let scaled : gcd (g * (a / g)) (g * (b / g)) ≡ g * gcd (a / g) (b / g) =
-      gcd-scaled g (a / g) (b / g) (gcd-positive a b h) in
+    gcd-scaled g (a / g) (b / g) (gcd-positive a b h) in
     let same : gcd (g * (a / g)) (g * (b / g)) ≡ g = ap (λ x. gcd x (g * (b / g))) (gcd_divides-left a b)
-      ∙ ap (λ y. gcd a y) (gcd_divides-right a b) in
+    ∙ ap (λ y. gcd a y) (gcd_divides-right a b) in
     eq_of_mul-eq-mul_left g (gcd-positive a b h) (gcd (a / g) (b / g)) 1 (sym scaled ∙ same ∙ omega arith)
 
 -- what divides a product and has no common divisor with one factor divides the other
@@ -88,4 +88,4 @@ same_lowest a b n d h p q e = (
   where
     same : b ≡ d
     same = dvd_antisymm (divides_other a b d p (subst (λ m. b ∣ m) (sym e) (dvd-mul_left b n)))
-      (divides_other n d b q (subst (λ m. d ∣ m) e (dvd-mul_left d a)))
+        (divides_other n d b q (subst (λ m. d ∣ m) e (dvd-mul_left d a)))

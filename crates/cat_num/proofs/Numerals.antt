@@ -16,7 +16,7 @@ few_digits digits places h =
 -- once it is reduced, the value fits
 pub numeral_reduced : (digits places : ℕ) → IsNumeral digits places
     → IsReduced (signed (is_negative (pos digits)) (digits / gcd digits (10 ^ places)))
-      (10 ^ places / gcd digits (10 ^ places))
+    (10 ^ places / gcd digits (10 ^ places))
 numeral_reduced digits places h =
     let low = one-le-pow places 10 (omega arith) in
     let high = pow-le-pow_right {n = 10} (omega arith) h.few_places in
@@ -28,6 +28,6 @@ numeral_reduced digits places h =
 pub value_reduced : (n : Numeral) → IsTrue (is_numeral n) → IsReduced (numeral_value n).num (numeral_value n).den
 value_reduced n h =
     let is : IsNumeral n.digits n.places =
-      record { few_places = grind (arith, nat_tests); few_digits = grind (arith, nat_tests) } in
+    record { few_places = grind (arith, nat_tests); few_digits = grind (arith, nat_tests) } in
     subst (λ (f : Fraction). IsReduced f.num f.den) (sym (lowest_parts (pos n.digits) (10 ^ n.places)))
-      (numeral_reduced n.digits n.places is)
+    (numeral_reduced n.digits n.places is)

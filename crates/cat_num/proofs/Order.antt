@@ -18,9 +18,9 @@ product_chain x y z a b c p q h k =
     lt_of_mul-lt-mul_right b (omega arith)
 
 cross_chain : (x y z : ℤ) (a b c : ℕ) → 0 < a → 0 < b → 0 < c → (x *ℤ pos b) <ℤ (y *ℤ pos a)
-  → (y *ℤ pos c) <ℤ (z *ℤ pos b) → (x *ℤ pos c) <ℤ (z *ℤ pos a)
+    → (y *ℤ pos c) <ℤ (z *ℤ pos b) → (x *ℤ pos c) <ℤ (z *ℤ pos a)
 cross_chain (pos x) (pos y) (pos z) a b c p q r h k =
-  omega (arith, ints, product_chain x y z a b c p r (omega (arith, ints)) (omega (arith, ints)))
+    omega (arith, ints, product_chain x y z a b c p r (omega (arith, ints)) (omega (arith, ints)))
 cross_chain (pos x) (pos y) (negsuc z) a b c p q r h k = absurd (omega (arith, ints))
 cross_chain (pos x) (negsuc y) z a b c p q r h k = absurd (omega (arith, ints))
 cross_chain (negsuc x) (pos y) (negsuc z) a b c p q r h k = absurd (omega (arith, ints))
@@ -35,12 +35,14 @@ reversed x y Greater h = sym (int_cmp_is y x Less h)
 
 pub IsOrder-frac_order : IsOrder frac_order
 IsOrder-frac_order = record {
-  equal = λ f g. (λ e. int_ranked (f.num *ℤ pos g.den) (g.num *ℤ pos f.den) Equal (sym e),
-    λ e. sym (int_cmp_is (f.num *ℤ pos g.den) (g.num *ℤ pos f.den) Equal e));
+  equal = λ f g. (
+    λ e. int_ranked (f.num *ℤ pos g.den) (g.num *ℤ pos f.den) Equal (sym e),
+    λ e. sym (int_cmp_is (f.num *ℤ pos g.den) (g.num *ℤ pos f.den) Equal e),
+  );
   reverse = λ f g. reversed (f.num *ℤ pos g.den) (g.num *ℤ pos f.den)
-    (int_cmp (f.num *ℤ pos g.den) (g.num *ℤ pos f.den)) (int_ranks (f.num *ℤ pos g.den) (g.num *ℤ pos f.den));
+      (int_cmp (f.num *ℤ pos g.den) (g.num *ℤ pos f.den)) (int_ranks (f.num *ℤ pos g.den) (g.num *ℤ pos f.den));
   transitive = λ f g h p q r a b. sym (int_cmp_is (f.num *ℤ pos h.den) (h.num *ℤ pos f.den) Less
       (cross_chain f.num g.num h.num f.den g.den h.den p q r (int_ranked (f.num *ℤ pos g.den) (g.num *ℤ pos f.den) Less
-        (sym a)) (int_ranked (g.num *ℤ pos h.den) (h.num *ℤ pos g.den) Less (sym b))));
+      (sym a)) (int_ranked (g.num *ℤ pos h.den) (h.num *ℤ pos g.den) Less (sym b))));
   whole = λ n m. ap (λ x. int_cmp x (m *ℤ pos 1)) (times_one n) ∙ ap (int_cmp n) (times_one m);
 }

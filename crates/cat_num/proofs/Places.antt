@@ -33,16 +33,23 @@ not_here : (p d m : ℕ) → 10 ^ p % d ≡ suc m → (r : ℕ) → p ≡ r → 
 not_here p d m e r s z = let w : 10 ^ p % d ≡ 0 = subst (λ x. 10 ^ x % d ≡ 0) (sym s) z in omega arith
 
 found_step : (k p d q m : ℕ) → 10 ^ p % d ≡ m → places_from (suc k) p d ≡ Some q
-  → (places_from k (p + 1) d ≡ Some q → IsLeastPlace k (p + 1) d q) → IsLeastPlace (suc k) p d q
+    → (places_from k (p + 1) d ≡ Some q → IsLeastPlace k (p + 1) d q) → IsLeastPlace (suc k) p d q
 found_step k p d q zero z e rest =
     let here = places_from-found (suc k) p d (omega arith) z in
     let same : p ≡ q = cc in
-    record { low = omega arith; serves = subst (λ x. 10 ^ x % d ≡ 0) same z; least = λ r low high. absurd (omega arith)
-      }
+    record {
+      low = omega arith;
+      serves = subst (λ x. 10 ^ x % d ≡ 0) same z;
+      least = λ r low high. absurd (omega arith);
+    }
 found_step k p d q (suc m) z e rest =
     let later = rest (places_from-more (suc k) k p (p + 1) d refl refl (omega arith) ∙ e) in
-    record { low = let l = later.low in omega arith; serves = later.serves; least =
-      λ r low high. by r high (next_or_later p r low) later }
+    record {
+      low = let l = later.low in omega arith;
+      serves = later.serves;
+      least =
+          λ r low high. by r high (next_or_later p r low) later;
+    }
   where
     by : (r : ℕ) → r < q → (p ≡ r) ⊎ (p + 1 ≤ r) → IsLeastPlace k (p + 1) d q → 10 ^ r % d ≢ 0
     by r high (inl s) later = not_here p d m z r s
@@ -53,7 +60,7 @@ place_found zero p d q e = absurd (cc)
 place_found (suc k) p d q e = found_step k p d q (10 ^ p % d) refl e (place_found k (p + 1) d q)
 
 none_step : (k p d m : ℕ) → 10 ^ p % d ≡ m → places_from (suc k) p d ≡ None
-  → (places_from k (p + 1) d ≡ None → AreNoPlaces k (p + 1) d) → AreNoPlaces (suc k) p d
+    → (places_from k (p + 1) d ≡ None → AreNoPlaces k (p + 1) d) → AreNoPlaces (suc k) p d
 none_step k p d zero z e rest = let here = places_from-found (suc k) p d (omega arith) z in absurd (cc)
 none_step k p d (suc m) z e rest =
     let later = rest (places_from-more (suc k) k p (p + 1) d refl refl (omega arith) ∙ e) in
@@ -69,10 +76,10 @@ no_place (suc k) p d e = none_step k p d (10 ^ p % d) refl e (no_place k (p + 1)
 
 -- a reduced fraction with q places has a denominator that divides 10 ^ q
 divides_power : (f : Fraction) → IsReduced f.num f.den → (q digits : ℕ) → unsigned_abs f.num * 10 ^ q ≡ digits * f.den
-  → 10 ^ q % f.den ≡ 0
+    → 10 ^ q % f.den ≡ 0
 divides_power f r q digits e =
     mod-eq-zero_of_dvd f.den (divides_other (unsigned_abs f.num) f.den (10 ^ q) r.lowest_terms
-      (subst (λ m. f.den ∣ m) (sym e) (dvd-mul_left f.den digits)))
+    (subst (λ m. f.den ∣ m) (sym e) (dvd-mul_left f.den digits)))
 
 pub HasFewestPlaces-of_IsReduced : (f : Fraction) → IsReduced f.num f.den → HasFewestPlaces f
 HasFewestPlaces-of_IsReduced f r = by (decimal_places f.den) refl
@@ -87,12 +94,16 @@ HasFewestPlaces-of_IsReduced f r = by (decimal_places f.den) refl
     by : (o : Option ℕ) → decimal_places f.den ≡ o → MatchOption o (HasNoDecimal f) (IsFewest f)
     by None e =
         let places = no_place 10 0 f.den (places_from-start f.den ∙ e) in
-        record { none = λ q digits low same. places.none q (omega arith) (omega arith) (divides_power f r q digits same)
-          }
+        record {
+          none = λ q digits low same. places.none q (omega arith) (omega arith) (divides_power f r q digits same);
+        }
     by (Some p) e =
         let place = place_found 10 0 f.den p (places_from-start f.den ∙ e) in
-        record { exact = place.serves; fewest = λ q digits same. at_most p q
-          (λ low. place.least q (omega arith) low (divides_power f r q digits same)) }
+        record {
+          exact = place.serves;
+          fewest = λ q digits same. at_most p q
+              (λ low. place.least q (omega arith) low (divides_power f r q digits same));
+        }
 
 abbrev pub powers : List ℕ
 powers = 1 ∷ 10 ∷ 100 ∷ 1000 ∷ 10000 ∷ 100000 ∷ 1000000 ∷ 10000000 ∷ 100000000 ∷ 1000000000 ∷ []

@@ -46,9 +46,9 @@ rounded_ratio-fits : (n d : ℤ) → Fits n → rounded_ratio n d ≢ Err Overfl
 rounded_ratio-fits n (pos zero) h e = cc
 rounded_ratio-fits n (pos (suc d)) h e = cc (whole_of-fits (rounded n (suc d)) (Fits-rounded n (suc d) (omega arith) h))
 rounded_ratio-fits n (negsuc d) h e =
-  cc (whole_of-fits (rounded (neg_ℤ n) (suc d)) (Fits-rounded (neg_ℤ n) (suc d) (omega arith) (opposite_fits n h)))
+    cc (whole_of-fits (rounded (neg_ℤ n) (suc d)) (Fits-rounded (neg_ℤ n) (suc d) (omega arith) (opposite_fits n h)))
 
 -- an amount over a whole number fits
 pub money_quotient-whole : (m : ℤ) (f : Fraction) → Fits m → f.den ≡ 1 → money_quotient m f ≢ Err Overflow
 money_quotient-whole m f h w =
-  rounded_ratio-fits (m *ℤ pos f.den) f.num (subst Fits (sym (ap (λ d. m *ℤ pos d) w ∙ times_one m)) h)
+    rounded_ratio-fits (m *ℤ pos f.den) f.num (subst Fits (sym (ap (λ d. m *ℤ pos d) w ∙ times_one m)) h)

@@ -20,7 +20,7 @@ signed-product false a d = refl
 
 -- equal products by positive numbers have equal signs
 pub sign_from_cross : (x n : ℤ) (d b : ℕ) → 0 < d → 0 < b → x *ℤ pos d ≡ n *ℤ pos b → signed (is_negative n)
-  (unsigned_abs x) ≡ x
+    (unsigned_abs x) ≡ x
 sign_from_cross (pos a) (pos k) d b p q e = refl
 sign_from_cross (negsuc a) (negsuc k) d b p q e = refl
 sign_from_cross (pos a) (negsuc k) d b p q e = absurd (omega (arith, ints))

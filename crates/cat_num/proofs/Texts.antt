@@ -28,7 +28,7 @@ le_from_divides p d e = le_of_dvd (ten_power p) (dvd_of_mod-eq-zero d e)
 
 -- what `{:0width$}` writes
 pub padded_integral-zeros : (w : ℕ) (ds : List ℕ) → padded_integral (format_spec 32 0 4 w (2 ^ 64 - 1)) false [] ds
-  ≡ replicate (w - length ds) 48 ++ ds
+    ≡ replicate (w - length ds) 48 ++ ds
 unfolding padded_integral char_count
 padded_integral-zeros w ds = simp (append-nil, sub-zero)
 

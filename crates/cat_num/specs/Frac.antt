@@ -36,7 +36,7 @@ signed false n = pos n
 -- n / d in lowest terms
 unfoldable pub lowest : ℤ → ℕ → Fraction
 lowest n d =
-  record { num = signed (is_negative n) (unsigned_abs n / gcd (unsigned_abs n) d); den = d / gcd (unsigned_abs n) d }
+    record { num = signed (is_negative n) (unsigned_abs n / gcd (unsigned_abs n) d); den = d / gcd (unsigned_abs n) d }
 
 -- both parts fit
 abbrev pub frac_fits : Fraction → Bool

@@ -21,7 +21,7 @@ pub record IsOrder (order : Fraction → Fraction → Ordering) : Type 0 where
   pub equal : (f g : Fraction) → (order f g ≡ Equal) ↔ AreEqual f.num f.den g.num g.den
   pub reverse : (f g : Fraction) → order g f ≡ ordering_reverse (order f g)
   pub transitive : (f g h : Fraction) → 0 < f.den → 0 < g.den → 0 < h.den → order f g ≡ Less → order g h ≡ Less
-    → order f h ≡ Less
+      → order f h ≡ Less
   pub whole : (n m : ℤ) → order (record { num = n; den = 1 }) (record { num = m; den = 1 }) ≡ int_cmp n m
 
 -- r has the sign of n, and its size is the greatest whole number that is at most |n / d| + 1/2

@@ -2,7 +2,8 @@
 
 ghost use Rattle.std.specs.Prelude.{◌≡◌, ◌≢◌, ◌↔◌, ◌*◌, ◌<◌, ◌≤◌, ◌^◌, pos, ◌*ℤ◌, unsigned_abs, IsTrue, Err};
 ghost use Rattle.cat_num.specs.Whole.{largest, Fits};
-ghost use Rattle.cat_num.specs.Frac.{IsReduced, is_reduced, gcd, is_negative, signed, lowest, ratio, frac_of, frac_sum, frac_difference, frac_product, frac_quotient, frac_negation, frac_order};
+ghost use Rattle.cat_num.specs.Frac.{IsReduced, is_reduced, gcd, is_negative, signed, lowest, ratio, frac_of, frac_sum};
+ghost use Rattle.cat_num.specs.Frac.{frac_difference, frac_product, frac_quotient, frac_negation, frac_order};
 ghost use Rattle.cat_num.specs.Laws.{AreEqual};
 ghost use Rattle.cat_num.specs.Numerals.{numeral_value};
 

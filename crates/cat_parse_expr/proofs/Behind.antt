@@ -111,7 +111,8 @@ follow_is (kind.Pair pair.WithPattern) = refl
 follow_is _ = tt
 
 whole_next_reached : (k s high : ℕ) (b c : Bool) (n : Node) (p : Token) (front : List Token) (m : Move) (f : Follow)
-    → IsRow k (phrase n) (suc high) b c front → s ≡ left_strength (phrase n) → FollowIs f p.kind → whole_next k s n p.pos
+    → IsRow k (phrase n) (suc high) b c front → s ≡ left_strength (phrase n) → FollowIs f p.kind
+    → whole_next k s n p.pos
     f ≡ Some m → MoveReached k m high p front
 whole_next_reached k s high b c n p front m (Operated o) r strong is h =
     let x = if_is (leb k (operator_level o) && leb (left_level o) s) (Grown (state.Right n o p.pos)) m h in
@@ -176,7 +177,8 @@ done_row k (state.Name w) high b c front n r h = subst (λ (x : Node). IsRow k (
     )
 done_row k (state.Upper u) high b c front n r h = subst (λ (x : Node). IsRow k (phrase x) (suc high) b c front
     × (strength_of (state.Upper u) ≡ right_strength (phrase x))) (node_same (leaf.Case (Bare u)) n h) (
-      finish (so_far (state.Upper u)) high k b c (of_level 9) (leaf.Case (Bare u)) front r.front_is (phrase_Case (Bare u))
+      finish (so_far (state.Upper u)) high k b c (of_level 9) (leaf.Case (Bare u)) front r.front_is
+          (phrase_Case (Bare u))
           refl r.fits r.low,
       sym (ap right_strength (phrase_Case (Bare u))),
     )

@@ -110,7 +110,8 @@ no_taker : (k s : ℕ) (q : State) (kd : TokenKind) (pos : Pos) (n : Node) (m : 
 no_taker k s q (kind.Symbol symbol.RightParen) pos n m d c h =
     none_some (step k s q (record { kind = kind.Symbol symbol.RightParen; pos = pos })) m (stays_paren k s q pos n d) h
 no_taker k s q (kind.Symbol symbol.RightBracket) pos n m d c h =
-    none_some (step k s q (record { kind = kind.Symbol symbol.RightBracket; pos = pos })) m (stays_bracket k s q pos n d)
+    none_some (step k s q (record { kind = kind.Symbol symbol.RightBracket; pos = pos })) m
+    (stays_bracket k s q pos n d)
     h
 no_taker k s q (kind.Symbol symbol.RightBrace) pos n m d c h =
     none_some (step k s q (record { kind = kind.Symbol symbol.RightBrace; pos = pos })) m (stays_brace k s q pos n d) h
@@ -310,7 +311,8 @@ whole_calm k s n pos ts Tests m k9 h le = test_calm k s n pos ts m h le
 whole_calm k s n pos ts Other m k9 h le = absurd (no_some m h)
 
 two_ways : (kd : TokenKind) (p : Token) (ts : List Token) (a b : Option Move) (m : Move)
-    → ((p.kind ≡ kd) × (a ≡ Some m)) ⊎ (b ≡ Some m) → (p.kind ≡ kd → a ≡ Some m → Stuck m ts) → (b ≡ Some m → Stuck m ts)
+    → ((p.kind ≡ kd) × (a ≡ Some m)) ⊎ (b ≡ Some m) → (p.kind ≡ kd → a ≡ Some m → Stuck m ts)
+    → (b ≡ Some m → Stuck m ts)
     → Stuck m ts
 two_ways kd p ts a b m (inl x) f g = f x.0 x.1
 two_ways kd p ts a b m (inr x) f g = g x
@@ -344,7 +346,8 @@ arm_calm x p (t ∷ ts) m e h le = by (is_lower t.kind) refl le
           unfinished = refl;
           waits_not = refl;
           no_step =
-              λ j s. not_pattern (λ u. Onward (state.ArmCase x (Bare u))) (some (state.ArmColon x pattern.Anything)) t.pos
+              λ j s. not_pattern (λ u. Onward (state.ArmCase x (Bare u))) (some (state.ArmColon x pattern.Anything))
+              t.pos
               t.kind d;
         })
     by false d le = absurd (omega arith)

@@ -83,7 +83,8 @@ stands_at i j e text h is = let same : i ≡ j = ap level_or h in omega (arith, 
 -- to a state that has begun
 part_on : (k i j high : ℕ) (q next : State) (b c : Bool) (e : Found) (front text : List Token)
     → Begun k q high b c front → Some i ≡ Some j → IsPart j e text → room q ≤ room next
-    → ((ps : Parts) → so_far next ps ≡ so_far q (Part (Operand i) (phrase e.node) ps)) → Begun k next (max high e.height)
+    → ((ps : Parts) → so_far next ps ≡ so_far q (Part (Operand i) (phrase e.node) ps))
+    → Begun k next (max high e.height)
     e.in_form e.in_match (front ++ text)
 part_on k i j high q next b c e front text r h is le same =
     record {
@@ -134,7 +135,8 @@ fed_reached k j high (state.Content d) b c e front text r h is = (
 fed_reached k j high (state.Argument f args) b c e front text r h is = called_onto k (max high e.height) f args e.node
     e.in_form e.in_match (front ++ text)
     (part_on k 9 j high (state.Argument f args) (state.Called f (args ++ e.node ∷ [])) b c e front text r h is
-    (omega arith) (λ ps. ap (λ (qs : Parts). lower f ▹ «word» key.Of ▹ qs) (elements_more 9 symbol.Comma args e.node ps)))
+    (omega arith) (λ ps. ap (λ (qs : Parts). lower f ▹ «word» key.Of ▹ qs)
+    (elements_more 9 symbol.Comma args e.node ps)))
 fed_reached k j high (state.Prefixed o p) b c e front text r h is = (
   end_part k (prefix_level o) j high (state.Prefixed o p) (node.Prefixed o p e.node) (of_level (prefix_level o)) b c e
       front text r h is (phrase_Prefixed o p e.node) refl (omega arith),
@@ -148,7 +150,8 @@ fed_reached k j high (state.Sum p ty) b c e front text r h is = (
 fed_reached k j high (state.Open p) b c e front text r h is =
     part_on k 0 j high (state.Open p) (state.Close p e.node) b c e front text r h is (omega arith) (λ ps. refl)
 fed_reached k j high (state.Element p es) b c e front text r h is = elements_onto k (max high e.height) p es e.node
-    e.in_form e.in_match (front ++ text) (part_on k 0 j high (state.Element p es) (state.Elements p (es ++ e.node ∷ [])) b
+    e.in_form e.in_match (front ++ text) (part_on k 0 j high (state.Element p es) (state.Elements p (es ++ e.node ∷ []))
+    b
     c e front text r h is (omega arith) (λ ps. ap (λ (qs : Parts). symbol_at symbol.LeftBracket p ▹ qs)
     (elements_more 0 symbol.Semicolon es e.node ps)))
 fed_reached k j high (state.FieldValue o fs w) b c e front text r h is = part_on k 0 j high (state.FieldValue o fs w)
@@ -180,7 +183,8 @@ fed_reached k j high (state.ArmBody m pat) b c e front text r h is =
         e.in_form,
         e.in_match,
         put (so_far (state.ArmBody m pat))
-            (match_parts (record { pos = m.pos; tested = m.tested; arms = m.arms ++ a ∷ [] })) high b c j Inner e front text
+            (match_parts (record { pos = m.pos; tested = m.tested; arms = m.arms ++ a ∷ [] })) high b c j Inner e front
+            text
             r.front_is is (sym is.row.match_is ∙ open_)
             (λ ps. ap (λ (qs : Parts). key_at key.Match m.pos ▹ part 0 (phrase m.tested) ▹ words pair.WithPattern ▹ qs)
             (inner_more m.arms a ps)),
@@ -195,7 +199,8 @@ fed_reached k j high (state.EachBody d p w l) b c e front text r h is = let same
       sym (ap right_strength same),
     )
 fed_reached k j high (state.CombineList p w) b c e front text r h is = part_on k 0 j high (state.CombineList p w)
-    (state.CombineIn (record { pos = p; element = w; list = e.node })) b c e front text r h is (omega arith) (λ ps. refl)
+    (state.CombineIn (record { pos = p; element = w; list = e.node })) b c e front text r h is (omega arith)
+    (λ ps. refl)
 fed_reached k j high (state.CombineStart d w) b c e front text r h is = part_on k 0 j high (state.CombineStart d w)
     (state.CombineWith d w e.node) b c e front text r h is (omega arith) (λ ps. refl)
 fed_reached k j high (state.CombineBody d w z) b c e front text r h is = (

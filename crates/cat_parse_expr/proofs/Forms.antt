@@ -325,8 +325,10 @@ pub prefix_goes : (k bound : ℕ) (o : Prefix) (p : Pos) (e : Node) → bound �
 prefix_goes k bound prefix.Not p e calm ts le low levels sp = word_at k bound start (node.Prefixed prefix.Not p e)
     (kind.Word key.Not) p (part 3 (phrase e) ▹ End) ts (state.Prefixed prefix.Not p) sp
     (if_at_on k 3 (state.Prefixed prefix.Not p) le)
-    (λ vs y. part_end k bound 3 (reading_at (state.Prefixed prefix.Not p) 0 false false) (node.Prefixed prefix.Not p e) e
-    (Operand 3) vs y refl levels.1.0 (omega arith) levels.1.1 (λ rest h. prefix_calm bound prefix.Not e rest calm h) refl)
+    (λ vs y. part_end k bound 3 (reading_at (state.Prefixed prefix.Not p) 0 false false) (node.Prefixed prefix.Not p e)
+    e
+    (Operand 3) vs y refl levels.1.0 (omega arith) levels.1.1 (λ rest h. prefix_calm bound prefix.Not e rest calm h)
+    refl)
 prefix_goes k bound prefix.Negate p e calm ts le low levels sp = word_at k bound start (node.Prefixed prefix.Negate p e)
     (kind.Symbol symbol.Minus) p (part 7 (phrase e) ▹ End) ts (state.Prefixed prefix.Negate p) sp
     (if_at_on k 7 (state.Prefixed prefix.Negate p) le)
@@ -370,7 +372,8 @@ prefix_goes k bound prefix.MoneyOf p e calm ts le low levels sp =
     («word» key.Of ▹ part 8 (phrase e) ▹ End) ts (state.PrefixOf prefix.MoneyOf p) sp
     (if_at_on k 8 (state.PrefixOf prefix.MoneyOf p) le)
     (λ us x. word_any k bound (reading_at (state.PrefixOf prefix.MoneyOf p) 0 false false)
-    (node.Prefixed prefix.MoneyOf p e) (kind.Word key.Of) (part 8 (phrase e) ▹ End) us (state.Prefixed prefix.MoneyOf p) x
+    (node.Prefixed prefix.MoneyOf p e) (kind.Word key.Of) (part 8 (phrase e) ▹ End) us (state.Prefixed prefix.MoneyOf p)
+    x
     (λ pos. refl) (λ vs y. part_end k bound 8 (reading_at (state.Prefixed prefix.MoneyOf p) 0 false false)
     (node.Prefixed prefix.MoneyOf p e) e (Operand 8) vs y refl levels.1.0 (omega arith) levels.1.1
     (λ rest h. prefix_calm bound prefix.MoneyOf e rest calm h) refl))
@@ -379,7 +382,8 @@ prefix_goes k bound prefix.GetYear p e calm ts le low levels sp =
     («word» key.Of ▹ part 8 (phrase e) ▹ End) ts (state.PrefixOf prefix.GetYear p) sp
     (if_at_on k 8 (state.PrefixOf prefix.GetYear p) le)
     (λ us x. word_any k bound (reading_at (state.PrefixOf prefix.GetYear p) 0 false false)
-    (node.Prefixed prefix.GetYear p e) (kind.Word key.Of) (part 8 (phrase e) ▹ End) us (state.Prefixed prefix.GetYear p) x
+    (node.Prefixed prefix.GetYear p e) (kind.Word key.Of) (part 8 (phrase e) ▹ End) us (state.Prefixed prefix.GetYear p)
+    x
     (λ pos. refl) (λ vs y. part_end k bound 8 (reading_at (state.Prefixed prefix.GetYear p) 0 false false)
     (node.Prefixed prefix.GetYear p e) e (Operand 8) vs y refl levels.1.0 (omega arith) levels.1.1
     (λ rest h. prefix_calm bound prefix.GetYear e rest calm h) refl))
@@ -388,7 +392,8 @@ prefix_goes k bound prefix.GetMonth p e calm ts le low levels sp =
     («word» key.Of ▹ part 8 (phrase e) ▹ End) ts (state.PrefixOf prefix.GetMonth p) sp
     (if_at_on k 8 (state.PrefixOf prefix.GetMonth p) le)
     (λ us x. word_any k bound (reading_at (state.PrefixOf prefix.GetMonth p) 0 false false)
-    (node.Prefixed prefix.GetMonth p e) (kind.Word key.Of) (part 8 (phrase e) ▹ End) us (state.Prefixed prefix.GetMonth p)
+    (node.Prefixed prefix.GetMonth p e) (kind.Word key.Of) (part 8 (phrase e) ▹ End) us
+    (state.Prefixed prefix.GetMonth p)
     x (λ pos. refl) (λ vs y. part_end k bound 8 (reading_at (state.Prefixed prefix.GetMonth p) 0 false false)
     (node.Prefixed prefix.GetMonth p e) e (Operand 8) vs y refl levels.1.0 (omega arith) levels.1.1
     (λ rest h. prefix_calm bound prefix.GetMonth e rest calm h) refl))
@@ -403,7 +408,8 @@ prefix_goes k bound prefix.GetDay p e calm ts le low levels sp = word_at k bound
 
 pub sum_end : (k bound : ℕ) (p : Pos) (t : types.Type) (e : Node) (ts : List Token)
     → bound ≤ min 9 (row_hold (phrase e)) → 8 ≤ right_strength (phrase e) → IsLevelled (phrase e)
-    → AreSpelled («word» key.Of ▹ part 8 (phrase e) ▹ End) ts → Walk k bound (reading_at (state.SumOf p t) 0 false false)
+    → AreSpelled («word» key.Of ▹ part 8 (phrase e) ▹ End) ts
+    → Walk k bound (reading_at (state.SumOf p t) 0 false false)
     (node.Sum p t e) ts
 sum_end k bound p t e ts calm stands levels sp =
     word_any k bound (reading_at (state.SumOf p t) 0 false false) (node.Sum p t e) (kind.Word key.Of)
@@ -412,7 +418,8 @@ sum_end k bound p t e ts calm stands levels sp =
     stands (omega arith) levels (λ rest h. prefix_calm bound prefix.RoundOf e rest calm h) refl)
 
 pub base_step : (k s : ℕ) (p : Pos) (n : ℕ) (b : Base) (pos : Pos) → step k s (state.SumType p n)
-    (record { kind = base_kind b; pos = pos }) ≡ Some (Onward (state.SumOf p (record { lists = n; base = b; pos = pos })))
+    (record { kind = base_kind b; pos = pos }) ≡ Some
+    (Onward (state.SumOf p (record { lists = n; base = b; pos = pos })))
 base_step k s p n base.Boolean pos = refl
 base_step k s p n base.Integer pos = refl
 base_step k s p n base.Decimal pos = refl

@@ -281,7 +281,8 @@ whole_operator k s n o pos = ap (whole_next k s n pos) (operator_follow o)
 
 -- a whole expression that isn't a match, at an operator
 behind_operator : (k s : ℕ) (q : State) (n : Node) (o : Operator) (pos : Pos) → done q ≡ Some n
-    → ((x : Matching) (b : Bool) → q ≡ state.Matched x b → ⊥) → step k s q (record { kind = operator_kind o; pos = pos })
+    → ((x : Matching) (b : Bool) → q ≡ state.Matched x b → ⊥)
+    → step k s q (record { kind = operator_kind o; pos = pos })
     ≡ whole_next k s n pos (Operated o)
 behind_operator k s (state.Complete e own) n o pos d f =
     ap (λ (x : Node). whole_step k s x (record { kind = operator_kind o; pos = pos })) (node_same e n d)

@@ -176,7 +176,8 @@ module _ (q : State) where
 
   each_keeping : (x : Each) (more : State) (kd : TokenKind) → IsKeeping q more → AllKeeping (each_step x more kd)
   each_keeping each.ForAll more kd h m e = word_keeping _ (Some (Onward more)) None
-      (on_we_have (Some (Onward more)) None kd) (on_we_have_is (Some (Onward more)) None kd) (one_keeping (Onward more) h)
+      (on_we_have (Some (Onward more)) None kd) (on_we_have_is (Some (Onward more)) None kd)
+      (one_keeping (Onward more) h)
       none_keeping m e
   each_keeping each.Exists more kd h m e = word_keeping _ (Some (Onward more)) None
       (on_such_that (Some (Onward more)) None kd) (on_such_that_is (Some (Onward more)) None kd)
@@ -214,17 +215,21 @@ start_keeping k p (kind.Int n) m e =
     one_keeping state.Start (Onward (state.Int n p)) (fresh_keeping (state.Int n p) refl refl refl) m e
 start_keeping k p (kind.Dec d) m e = one_keeping state.Start
     (Onward (state.Complete (leaf.Literal (literal.Dec d) p) 9))
-    (fresh_keeping (state.Complete (leaf.Literal (literal.Dec d) p) 9) refl refl (falls_Literal (literal.Dec d) p 9)) m e
+    (fresh_keeping (state.Complete (leaf.Literal (literal.Dec d) p) 9) refl refl (falls_Literal (literal.Dec d) p 9)) m
+    e
 start_keeping k p (kind.Pct d) m e = one_keeping state.Start
     (Onward (state.Complete (leaf.Literal (literal.Pct d) p) 9))
-    (fresh_keeping (state.Complete (leaf.Literal (literal.Pct d) p) 9) refl refl (falls_Literal (literal.Pct d) p 9)) m e
+    (fresh_keeping (state.Complete (leaf.Literal (literal.Pct d) p) 9) refl refl (falls_Literal (literal.Pct d) p 9)) m
+    e
 start_keeping k p (kind.Money x) m e = one_keeping state.Start
     (Onward (state.Complete (leaf.Literal (literal.Money x) p) 9))
-    (fresh_keeping (state.Complete (leaf.Literal (literal.Money x) p) 9) refl refl (falls_Literal (literal.Money x) p 9))
+    (fresh_keeping (state.Complete (leaf.Literal (literal.Money x) p) 9) refl refl
+    (falls_Literal (literal.Money x) p 9))
     m e
 start_keeping k p (kind.Date d) m e = one_keeping state.Start
     (Onward (state.Complete (leaf.Literal (literal.Date d) p) 9))
-    (fresh_keeping (state.Complete (leaf.Literal (literal.Date d) p) 9) refl refl (falls_Literal (literal.Date d) p 9)) m
+    (fresh_keeping (state.Complete (leaf.Literal (literal.Date d) p) 9) refl refl (falls_Literal (literal.Date d) p 9))
+    m
     e
 start_keeping k p (kind.Word key.True) m e =
     one_keeping state.Start (Onward (state.Complete (leaf.Literal (literal.Boolean true) p) 9))
@@ -300,11 +305,13 @@ type_keeping p n at (kind.Word key.Decimal) m e = one_keeping (state.SumType p n
     (λ h. refl)) m e
 type_keeping p n at (kind.Word key.Money) m e = one_keeping (state.SumType p n)
     (Onward (state.SumOf p (record { lists = n; base = base.Money; pos = at })))
-    (keeps (state.SumType p n) (state.SumOf p (record { lists = n; base = base.Money; pos = at })) refl refl (λ h. refl))
+    (keeps (state.SumType p n) (state.SumOf p (record { lists = n; base = base.Money; pos = at })) refl refl
+    (λ h. refl))
     m e
 type_keeping p n at (kind.Word key.Date) m e = one_keeping (state.SumType p n)
     (Onward (state.SumOf p (record { lists = n; base = base.Date; pos = at })))
-    (keeps (state.SumType p n) (state.SumOf p (record { lists = n; base = base.Date; pos = at })) refl refl (λ h. refl)) m
+    (keeps (state.SumType p n) (state.SumOf p (record { lists = n; base = base.Date; pos = at })) refl refl (λ h. refl))
+    m
     e
 type_keeping p n at (kind.Word key.Duration) m e = one_keeping (state.SumType p n)
     (Onward (state.SumOf p (record { lists = n; base = base.Duration; pos = at })))
@@ -411,7 +418,8 @@ step_keeping k s (state.WithPattern n p) t = upper_keeping (state.WithPattern n 
     (none_keeping (state.WithPattern n p))
 step_keeping k s (state.PrefixOf o p) t = word_keeping (state.PrefixOf o p) _ (some (state.Prefixed o p)) (None)
     (on_of (some (state.Prefixed o p)) (None) t.kind) (on_of_is (some (state.Prefixed o p)) (None) t.kind)
-    (one_keeping (state.PrefixOf o p) (Onward (state.Prefixed o p)) (keeps (state.PrefixOf o p) (state.Prefixed o p) refl
+    (one_keeping (state.PrefixOf o p) (Onward (state.Prefixed o p))
+    (keeps (state.PrefixOf o p) (state.Prefixed o p) refl
     refl (λ h. refl))) (none_keeping (state.PrefixOf o p))
 step_keeping k s (state.SumType p n) t = type_keeping p n t.pos t.kind
 step_keeping k s (state.SumOf p ty) t = word_keeping (state.SumOf p ty) _ (some (state.Sum p ty)) (None)
@@ -454,7 +462,8 @@ step_keeping k s (state.Fields o fs) t = word_keeping (state.Fields o fs) _ (som
 step_keeping k s (state.FieldName o fs) t = lower_keeping (state.FieldName o fs) (λ w. Onward (state.FieldColon o fs w))
     t.pos t.kind (λ w. keeps (state.FieldName o fs) (state.FieldColon o fs w) refl refl (λ h. refl))
 step_keeping k s (state.FieldColon o fs w) t = word_keeping (state.FieldColon o fs w) _ (some (state.FieldValue o fs w))
-    (None) (on_colon (some (state.FieldValue o fs w)) (None) t.kind) (on_colon_is (some (state.FieldValue o fs w)) (None)
+    (None) (on_colon (some (state.FieldValue o fs w)) (None) t.kind)
+    (on_colon_is (some (state.FieldValue o fs w)) (None)
     t.kind) (one_keeping (state.FieldColon o fs w) (Onward (state.FieldValue o fs w))
     (keeps (state.FieldColon o fs w) (state.FieldValue o fs w) refl refl (λ h. refl)))
     (none_keeping (state.FieldColon o fs w))
@@ -475,7 +484,8 @@ step_keeping k s (state.CallDot p u fs) t = word_keeping (state.CallDot p u fs) 
     (None) (on_dot (some (state.CallOutput p u fs)) (None) t.kind)
     (on_dot_is (some (state.CallOutput p u fs)) (None) t.kind)
     (one_keeping (state.CallDot p u fs) (Onward (state.CallOutput p u fs))
-    (keeps (state.CallDot p u fs) (state.CallOutput p u fs) refl refl (λ h. refl))) (none_keeping (state.CallDot p u fs))
+    (keeps (state.CallDot p u fs) (state.CallOutput p u fs) refl refl (λ h. refl)))
+    (none_keeping (state.CallDot p u fs))
 step_keeping k s (state.CallOutput p u fs) t = lower_keeping (state.CallOutput p u fs)
     (λ w. Onward (state.Complete (node.ScopeCall p u fs w) 9)) t.pos t.kind
     (λ w. keeps (state.CallOutput p u fs) (state.Complete (node.ScopeCall p u fs w) 9) refl refl
@@ -486,7 +496,8 @@ step_keeping k s (state.IfThen p c) t = word_keeping (state.IfThen p c) _ (some 
     (λ h. refl))) (none_keeping (state.IfThen p c))
 step_keeping k s (state.ThenElse p c e) t = word_keeping (state.ThenElse p c e) _ (some (state.Else p c e)) (None)
     (on_else (some (state.Else p c e)) (None) t.kind) (on_else_is (some (state.Else p c e)) (None) t.kind)
-    (one_keeping (state.ThenElse p c e) (Onward (state.Else p c e)) (keeps (state.ThenElse p c e) (state.Else p c e) refl
+    (one_keeping (state.ThenElse p c e) (Onward (state.Else p c e))
+    (keeps (state.ThenElse p c e) (state.Else p c e) refl
     refl (λ h. refl))) (none_keeping (state.ThenElse p c e))
 step_keeping k s (state.MatchWith p e) t = word_keeping (state.MatchWith p e) _ (some (state.FirstArm p e)) (None)
     (on_with_pattern (some (state.FirstArm p e)) (None) t.kind) (on_with_pattern_is (some (state.FirstArm p e)) (None)
@@ -517,8 +528,10 @@ step_keeping k s (state.ArmCase x c) t = word_keeping (state.ArmCase x c) _
     (on_of (some (state.ArmOf x c)) (on_colon (some (state.ArmBody x (pattern.Case c None))) (None) t.kind) t.kind)
     t.kind) (dot_keeping (state.ArmCase x c) c (λ u. Onward (state.ArmDot x u))
     (λ u. keeps (state.ArmCase x c) (state.ArmDot x u) refl refl (λ h. refl)))
-    (word_keeping (state.ArmCase x c) _ (some (state.ArmOf x c)) (on_colon (some (state.ArmBody x (pattern.Case c None)))
-    (None) t.kind) (on_of (some (state.ArmOf x c)) (on_colon (some (state.ArmBody x (pattern.Case c None))) (None) t.kind)
+    (word_keeping (state.ArmCase x c) _ (some (state.ArmOf x c))
+    (on_colon (some (state.ArmBody x (pattern.Case c None)))
+    (None) t.kind)
+    (on_of (some (state.ArmOf x c)) (on_colon (some (state.ArmBody x (pattern.Case c None))) (None) t.kind)
     t.kind) (on_of_is (some (state.ArmOf x c)) (on_colon (some (state.ArmBody x (pattern.Case c None))) (None) t.kind)
     t.kind) (one_keeping (state.ArmCase x c) (Onward (state.ArmOf x c))
     (keeps (state.ArmCase x c) (state.ArmOf x c) refl refl (λ h. refl)))

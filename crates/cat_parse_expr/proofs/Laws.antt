@@ -52,7 +52,8 @@ reached_start k le =
     }
 
 shifted_reached : (k high : ℕ) (p : Token) (front : List Token) (r more : Reading) (o : Option Move) → r.tallest ≡ high
-    → ((m : Move) → o ≡ Some m → MoveReached k m high p front) → moved r o ≡ Some more → Reached k more (front ++ p ∷ [])
+    → ((m : Move) → o ≡ Some m → MoveReached k m high p front) → moved r o ≡ Some more
+    → Reached k more (front ++ p ∷ [])
 shifted_reached k high p front r more None same f h = absurd cc
 shifted_reached k high p front r more (Some (Onward q)) same f h =
     subst (λ (x : Reading). Reached k x (front ++ p ∷ []))
@@ -60,7 +61,9 @@ shifted_reached k high p front r more (Some (Onward q)) same f h =
     (record { at = subst (λ (n : ℕ). ReachedAt k q n false false (front ++ p ∷ [])) (sym same) (f (Onward q) refl) })
 shifted_reached k high p front r more (Some (Grown q)) same f h = subst (λ (x : Reading). Reached k x (front ++ p ∷ []))
     (reading_same (record { state = q; tallest = suc r.tallest; in_form = false; in_match = false }) more h)
-    (record { at = subst (λ (n : ℕ). ReachedAt k q (suc n) false false (front ++ p ∷ [])) (sym same) (f (Grown q) refl) })
+    (record {
+      at = subst (λ (n : ℕ). ReachedAt k q (suc n) false false (front ++ p ∷ [])) (sym same) (f (Grown q) refl);
+    })
 
 pub reached_shift : (k : ℕ) (r more : Reading) (p : Token) (front : List Token) → Reached k r front
     → shift k r p ≡ Some more → Reached k more (front ++ p ∷ [])
@@ -85,7 +88,8 @@ unfolding feed
 fed_lt fuel r e j t lt = let h = fed_left r.state e.node e.in_match j t in omega arith
 
 shift_is : (k : ℕ) (r : Reading) (t : Token) (q : State) → step k (cond r.in_form 0 (strength_of r.state)) r.state t
-    ≡ Some (Onward q) → shift k r t ≡ Some (record { state = q; tallest = r.tallest; in_form = false; in_match = false })
+    ≡ Some (Onward q)
+    → shift k r t ≡ Some (record { state = q; tallest = r.tallest; in_form = false; in_match = false })
 unfolding shift
 shift_is k r t q e = ap (moved r) e
 

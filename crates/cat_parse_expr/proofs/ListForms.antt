@@ -317,7 +317,8 @@ ArmsGo k high p e past whole ps ts = (t : Token) × (us : List Token) × (ts ≡
 
 -- an arm's body, and the next arm
 inner_arm : (k high : ℕ) (p : Pos) (e : Node) (past : List Arm) (pat : Pattern) (b : Node) (whole : List Arm)
-    (ps : Parts) (us : List Token) → ((rest : List Token) → AreSpelled ps rest → ArmsGo k (max high (height (phrase b))) p
+    (ps : Parts) (us : List Token) → ((rest : List Token) → AreSpelled ps rest → ArmsGo k (max high (height (phrase b)))
+    p
     e (past ++ record { pattern = pat; body = b } ∷ []) whole ps rest)
     → ends_in_match (phrase b) ≡ false → IsLevelled (phrase b) → AreSpelled (Part Inner (phrase b) ps) us
     → Walk k 0 (reading_at (state.ArmBody (so_matched p e past) pat) high false false) (node.Match p e whole) us
@@ -355,7 +356,8 @@ inner_arm k high p e past pat b whole ps us go open_ levels sp =
     }
 
 arms_walk : (k high : ℕ) (p : Pos) (e : Node) (past : List Arm) (a : Arm) (more whole : List Arm) (ts : List Token)
-    → past ++ a ∷ more ≡ whole → AreLevelled (arms (map arm_row (a ∷ more))) → AreSpelled (arms (map arm_row (a ∷ more)))
+    → past ++ a ∷ more ≡ whole → AreLevelled (arms (map arm_row (a ∷ more)))
+    → AreSpelled (arms (map arm_row (a ∷ more)))
     ts → ArmsGo k high p e past whole (arms (map arm_row (a ∷ more))) ts
 arms_walk k high p e past a [] whole ts same levels sp =
     let m = so_matched p e past in
@@ -389,7 +391,8 @@ arms_first : (a : Arm) (more : List Arm) (us rest : List Token) → AreSpelled (
 arms_first a [] us rest sp = dashes_next (pattern_parts a.pattern (sign symbol.Colon ▹ part 0 (phrase a.body) ▹ End)) us
     rest sp
 arms_first a (d ∷ more) us rest sp = dashes_next
-    (pattern_parts a.pattern (sign symbol.Colon ▹ Part Inner (phrase a.body) (arms (map arm_row (d ∷ more))))) us rest sp
+    (pattern_parts a.pattern (sign symbol.Colon ▹ Part Inner (phrase a.body) (arms (map arm_row (d ∷ more))))) us rest
+    sp
 
 first_arm : (k high : ℕ) (p : Pos) (e : Node) (a : Arm) (more : List Arm) (ts : List Token)
     → AreLevelled (arms (map arm_row (a ∷ more))) → AreSpelled (arms (map arm_row (a ∷ more))) ts

@@ -76,12 +76,14 @@ module _ (reader : ℕ → Reader) (low : ℕ) (fine : AreFine reader low) (k : 
   turn_shrinks : (go : Going) → Shrinks go → (best : Option Best) (r : Reading) (ts : List Token) (n : Next)
       → Follows k r ts n → Short (length ts) (turn (operand_of reader) k (suc low) go best r ts n)
   turn_shrinks go shrinks best r ts (Shifted more rest) f =
-      subst (λ (w : List Token). Short (length w) (turn (operand_of reader) k (suc low) go best r w (Shifted more rest)))
+      subst (λ (w : List Token). Short (length w)
+      (turn (operand_of reader) k (suc low) go best r w (Shifted more rest)))
       (sym f.1)
       (shift_shrinks go shrinks best more f.0 rest (best_of (done r.state) best r (f.0 ∷ rest))
       (is_high (suc low) more))
   turn_shrinks go shrinks best r ts (Asks j) f = fed_shrinks k (suc low) go best r (length ts)
-      (operand_of reader (leb (suc low) r.tallest) j ts) shrinks (operand_leaves reader low j (leb (suc low) r.tallest) ts
+      (operand_of reader (leb (suc low) r.tallest) j ts) shrinks (operand_leaves reader low j (leb (suc low) r.tallest)
+      ts
       fine (takes_low r.state j f))
   turn_shrinks go shrinks best r ts Ends f = short_ended (length ts) (done r.state) best r ts (omega arith)
 
@@ -135,5 +137,9 @@ module _ (reader : ℕ → Reader) (low : ℕ) (fine : AreFine reader low) (k : 
           → Short n (cond b (run (operand_of reader) k (suc low) fuel best (feed r e) rest)
           (stopped (best_of (done (feed r e).state) best (feed r e) rest) s))
       by true on =
-          omega (arith, when_reached fuel best (feed r e) rest s (next k (feed r e) rest) refl on (omega (arith, l.0)), h)
+          omega (
+            arith,
+            when_reached fuel best (feed r e) rest s (next k (feed r e) rest) refl on (omega (arith, l.0)),
+            h,
+          )
       by false missed = short_stopped n (best_of (done (feed r e).state) best (feed r e) rest) s h

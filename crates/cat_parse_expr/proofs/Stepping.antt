@@ -79,7 +79,8 @@ start_reached : (k high : ℕ) (b c : Bool) (kd : TokenKind) (pos : Pos) (front 
     → MoveReached k m high (record { kind = kd; pos = pos }) front
 start_reached k high b c (kind.Int n) pos front m r h = goes k high (record { kind = kind.Int n; pos = pos }) front
     (Onward (state.Int n pos)) m (some_same (Onward (state.Int n pos)) m h)
-    (begun k high state.Start (state.Int n pos) b c (At (kind.Int n) pos) (record { kind = kind.Int n; pos = pos }) front
+    (begun k high state.Start (state.Int n pos) b c (At (kind.Int n) pos) (record { kind = kind.Int n; pos = pos })
+    front
     r refl (omega arith) (λ ps. refl))
 start_reached k high b c (kind.Lower w) pos front m r h = goes k high (record { kind = kind.Lower w; pos = pos }) front
     (Onward (state.Name (record { text = w; pos = pos }))) m
@@ -173,7 +174,8 @@ end_on : (k high level : ℕ) (q : State) (n : Node) (f : Parts → Parts) (b c 
     → Begun k q high b c front → ((ps : Parts) → f ps ≡ so_far q (Word (Anywhere kd) ps))
     → phrase n ≡ Row (of_level level) (f End) → room q ≤ level → MoveReached k m high p front
 end_on k high level q n f b c p front m kd (inl x) r is e le = goes k high p front (Onward (state.Complete n level)) m
-    (some_same (Onward (state.Complete n level)) m x.1) (ended k high level q n f b c (Anywhere kd) p front r x.0 is e le)
+    (some_same (Onward (state.Complete n level)) m x.1) (ended k high level q n f b c (Anywhere kd) p front r x.0 is e
+    le)
 end_on k high level q n f b c p front m kd (inr x) r is e le = absurd cc
 
 name_on : (k high : ℕ) (q : State) (next : Name → State) (b c : Bool) (p : Token) (front : List Token) (m : Move)
@@ -223,7 +225,8 @@ types_reached : (k high : ℕ) (at : Pos) (n : ℕ) (b c : Bool) (kd : TokenKind
     → MoveReached k m high (record { kind = kd; pos = pos }) front
 types_reached k high at n b c (kind.Pair pair.ListOf) pos front m r h =
     goes k high (record { kind = kind.Pair pair.ListOf; pos = pos }) front (Onward (state.SumType at (suc n))) m
-    (some_same (Onward (state.SumType at (suc n))) m h) (begun k high (state.SumType at n) (state.SumType at (suc n)) b c
+    (some_same (Onward (state.SumType at (suc n))) m h) (begun k high (state.SumType at n) (state.SumType at (suc n)) b
+    c
     (Anywhere (kind.Pair pair.ListOf)) (record { kind = kind.Pair pair.ListOf; pos = pos }) front r refl (omega arith)
     (λ ps. ap (Word (At (kind.Word key.Sum) at)) (lists_more n ps)))
 types_reached k high at n b c (kind.Word key.Boolean) pos front m r h =
@@ -359,21 +362,26 @@ step_reached k high (state.Complete n own) b c p front m r h =
     done_reached k (state.Complete n own) high b c n p front m r refl h
 step_reached k high (state.PrefixOf prefix.IntegerOf at) b c p front m r h =
     word_on k high (state.PrefixOf prefix.IntegerOf at) (state.Prefixed prefix.IntegerOf at) b c p front m
-    (kind.Word key.Of) (on_of_is (some (state.Prefixed prefix.IntegerOf at)) None p.kind m h) r (omega arith) (λ ps. refl)
+    (kind.Word key.Of) (on_of_is (some (state.Prefixed prefix.IntegerOf at)) None p.kind m h) r (omega arith)
+    (λ ps. refl)
     (λ x. x)
 step_reached k high (state.PrefixOf prefix.DecimalOf at) b c p front m r h =
     word_on k high (state.PrefixOf prefix.DecimalOf at) (state.Prefixed prefix.DecimalOf at) b c p front m
-    (kind.Word key.Of) (on_of_is (some (state.Prefixed prefix.DecimalOf at)) None p.kind m h) r (omega arith) (λ ps. refl)
+    (kind.Word key.Of) (on_of_is (some (state.Prefixed prefix.DecimalOf at)) None p.kind m h) r (omega arith)
+    (λ ps. refl)
     (λ x. x)
 step_reached k high (state.PrefixOf prefix.MoneyOf at) b c p front m r h =
-    word_on k high (state.PrefixOf prefix.MoneyOf at) (state.Prefixed prefix.MoneyOf at) b c p front m (kind.Word key.Of)
+    word_on k high (state.PrefixOf prefix.MoneyOf at) (state.Prefixed prefix.MoneyOf at) b c p front m
+    (kind.Word key.Of)
     (on_of_is (some (state.Prefixed prefix.MoneyOf at)) None p.kind m h) r (omega arith) (λ ps. refl) (λ x. x)
 step_reached k high (state.PrefixOf prefix.GetYear at) b c p front m r h =
-    word_on k high (state.PrefixOf prefix.GetYear at) (state.Prefixed prefix.GetYear at) b c p front m (kind.Word key.Of)
+    word_on k high (state.PrefixOf prefix.GetYear at) (state.Prefixed prefix.GetYear at) b c p front m
+    (kind.Word key.Of)
     (on_of_is (some (state.Prefixed prefix.GetYear at)) None p.kind m h) r (omega arith) (λ ps. refl) (λ x. x)
 step_reached k high (state.PrefixOf prefix.GetMonth at) b c p front m r h =
     word_on k high (state.PrefixOf prefix.GetMonth at) (state.Prefixed prefix.GetMonth at) b c p front m
-    (kind.Word key.Of) (on_of_is (some (state.Prefixed prefix.GetMonth at)) None p.kind m h) r (omega arith) (λ ps. refl)
+    (kind.Word key.Of) (on_of_is (some (state.Prefixed prefix.GetMonth at)) None p.kind m h) r (omega arith)
+    (λ ps. refl)
     (λ x. x)
 step_reached k high (state.PrefixOf prefix.GetDay at) b c p front m r h =
     word_on k high (state.PrefixOf prefix.GetDay at) (state.Prefixed prefix.GetDay at) b c p front m (kind.Word key.Of)
@@ -446,7 +454,8 @@ step_reached k high (state.FieldColon o fs w) b c p front m r h = word_on k high
 step_reached k high (state.CallScope at) b c p front m r h = type_on k high (state.CallScope at)
     (λ w. state.CallWith at w) None b c p front m h r (λ w. omega arith) (λ w ps. refl) (λ w x. x) (λ x. absurd cc)
 step_reached k high (state.CallWith at u) b c p front m r h = word_on k high (state.CallWith at u)
-    (state.CallBrace at u) b c p front m (kind.Word key.With) (on_with_is (some (state.CallBrace at u)) None p.kind m h) r
+    (state.CallBrace at u) b c p front m (kind.Word key.With) (on_with_is (some (state.CallBrace at u)) None p.kind m h)
+    r
     (omega arith) (λ ps. refl) (λ x. x)
 step_reached k high (state.CallBrace at u) b c p front m r h = word_on k high (state.CallBrace at u)
     (state.Fields (owner.Call at u) []) b c p front m (kind.Symbol symbol.LeftBrace)
@@ -455,7 +464,8 @@ step_reached k high (state.CallDot at u fs) b c p front m r h = word_on k high (
     (state.CallOutput at u fs) b c p front m (kind.Symbol symbol.Dot)
     (on_dot_is (some (state.CallOutput at u fs)) None p.kind m h) r (omega arith) (λ ps. refl) (λ x. x)
 step_reached k high (state.CallOutput at u fs) b c p front m r h = end_name_on k high (state.CallOutput at u fs)
-    (λ w. node.ScopeCall at u fs w) (λ w ps. so_far (state.CallOutput at u fs) (Word (At (kind.Lower w.text) w.pos) ps)) b
+    (λ w. node.ScopeCall at u fs w) (λ w ps. so_far (state.CallOutput at u fs) (Word (At (kind.Lower w.text) w.pos) ps))
+    b
     c p front m h r (λ w ps. refl) (λ w. phrase_ScopeCall at u fs w) (omega arith)
 step_reached k high (state.IfThen at e) b c p front m r h = word_on k high (state.IfThen at e) (state.Then at e) b c p
     front m (kind.Word key.Then) (on_then_is (some (state.Then at e)) None p.kind m h) r (omega arith) (λ ps. refl)
@@ -464,14 +474,17 @@ step_reached k high (state.ThenElse at e t) b c p front m r h = word_on k high (
     (state.Else at e t) b c p front m (kind.Word key.Else) (on_else_is (some (state.Else at e t)) None p.kind m h) r
     (omega arith) (λ ps. refl) (λ x. x)
 step_reached k high (state.MatchWith at e) b c p front m r h = word_on k high (state.MatchWith at e)
-    (state.FirstArm at e) b c p front m (kind.Pair pair.WithPattern) (on_with_pattern_is (some (state.FirstArm at e)) None
+    (state.FirstArm at e) b c p front m (kind.Pair pair.WithPattern)
+    (on_with_pattern_is (some (state.FirstArm at e)) None
     p.kind m h) r (omega arith) (λ ps. refl) (λ x. x)
 step_reached k high (state.FirstArm at e) b c p front m r h = word_on k high (state.FirstArm at e)
     (state.ArmPattern (record { pos = at; tested = e; arms = [] })) b c p front m (kind.Symbol symbol.MinusMinus)
-    (on_dashes_is (some (state.ArmPattern (record { pos = at; tested = e; arms = [] }))) None p.kind m h) r (omega arith)
+    (on_dashes_is (some (state.ArmPattern (record { pos = at; tested = e; arms = [] }))) None p.kind m h) r
+    (omega arith)
     (λ ps. refl) (λ x. x)
 step_reached k high (state.ArmPattern x) b c p front m r h = type_on k high (state.ArmPattern x)
-    (λ w. state.ArmCase x (Bare w)) (on_anything (some (state.ArmColon x pattern.Anything)) None p.kind) b c p front m h r
+    (λ w. state.ArmCase x (Bare w)) (on_anything (some (state.ArmColon x pattern.Anything)) None p.kind) b c p front m h
+    r
     (λ w. omega arith) (λ w ps. refl) (λ w z. z)
     (λ a. word_on k high (state.ArmPattern x) (state.ArmColon x pattern.Anything) b c p front m (kind.Word key.Anything)
     (on_anything_is (some (state.ArmColon x pattern.Anything)) None p.kind m a) r (omega arith) (λ ps. refl) (λ z. z))
@@ -527,13 +540,15 @@ step_reached k high (state.ArmColon x (pattern.Case d None)) b c p front m r h =
     (kind.Symbol symbol.Colon) (on_colon_is (some (state.ArmBody x (pattern.Case d None))) None p.kind m h) r
     (omega arith) (λ ps. refl) (λ x. x)
 step_reached k high (state.ArmColon x (pattern.Case d (Some w))) b c p front m r h =
-    word_on k high (state.ArmColon x (pattern.Case d (Some w))) (state.ArmBody x (pattern.Case d (Some w))) b c p front m
+    word_on k high (state.ArmColon x (pattern.Case d (Some w))) (state.ArmBody x (pattern.Case d (Some w))) b c p front
+    m
     (kind.Symbol symbol.Colon) (on_colon_is (some (state.ArmBody x (pattern.Case d (Some w)))) None p.kind m h) r
     (omega arith) (λ ps. refl) (λ x. x)
 step_reached k high (state.Each e at) b c p front m r h = name_on k high (state.Each e at) (λ w. state.EachAmong e at w)
     b c p front m h r (λ w. omega arith) (λ w ps. refl) (λ w x. x)
 step_reached k high (state.EachAmong e at w) b c p front m r h = word_on k high (state.EachAmong e at w)
-    (state.EachList e at w) b c p front m (kind.Word key.Among) (on_among_is (some (state.EachList e at w)) None p.kind m
+    (state.EachList e at w) b c p front m (kind.Word key.Among) (on_among_is (some (state.EachList e at w)) None p.kind
+    m
     h) r (omega arith) (λ ps. refl) (λ x. x)
 step_reached k high (state.EachThen each.ForAll at w l) b c p front m r h =
     word_on k high (state.EachThen each.ForAll at w l) (state.EachBody each.ForAll at w l) b c p front m
@@ -541,31 +556,38 @@ step_reached k high (state.EachThen each.ForAll at w l) b c p front m r h =
     (λ ps. refl) (λ x. x)
 step_reached k high (state.EachThen each.Exists at w l) b c p front m r h =
     word_on k high (state.EachThen each.Exists at w l) (state.EachBody each.Exists at w l) b c p front m
-    (kind.Pair pair.SuchThat) (on_such_that_is (some (state.EachBody each.Exists at w l)) None p.kind m h) r (omega arith)
+    (kind.Pair pair.SuchThat) (on_such_that_is (some (state.EachBody each.Exists at w l)) None p.kind m h) r
+    (omega arith)
     (λ ps. refl) (λ x. x)
 step_reached k high (state.EachThen each.MapEach at w l) b c p front m r h =
     word_on k high (state.EachThen each.MapEach at w l) (state.EachBody each.MapEach at w l) b c p front m
-    (kind.Word key.To) (on_to_is (some (state.EachBody each.MapEach at w l)) None p.kind m h) r (omega arith) (λ ps. refl)
+    (kind.Word key.To) (on_to_is (some (state.EachBody each.MapEach at w l)) None p.kind m h) r (omega arith)
+    (λ ps. refl)
     (λ x. x)
 step_reached k high (state.EachThen each.ListOf at w l) b c p front m r h =
     word_on k high (state.EachThen each.ListOf at w l) (state.EachBody each.ListOf at w l) b c p front m
-    (kind.Pair pair.SuchThat) (on_such_that_is (some (state.EachBody each.ListOf at w l)) None p.kind m h) r (omega arith)
+    (kind.Pair pair.SuchThat) (on_such_that_is (some (state.EachBody each.ListOf at w l)) None p.kind m h) r
+    (omega arith)
     (λ ps. refl) (λ x. x)
 step_reached k high (state.Combine at) b c p front m r h = name_on k high (state.Combine at)
     (λ w. state.CombineAmong at w) b c p front m h r (λ w. omega arith) (λ w ps. refl) (λ w x. x)
 step_reached k high (state.CombineAmong at w) b c p front m r h = word_on k high (state.CombineAmong at w)
-    (state.CombineList at w) b c p front m (kind.Word key.Among) (on_among_is (some (state.CombineList at w)) None p.kind
+    (state.CombineList at w) b c p front m (kind.Word key.Among)
+    (on_among_is (some (state.CombineList at w)) None p.kind
     m h) r (omega arith) (λ ps. refl) (λ x. x)
 step_reached k high (state.CombineIn d) b c p front m r h = word_on k high (state.CombineIn d) (state.CombineResult d) b
-    c p front m (kind.Word key.In) (on_in_is (some (state.CombineResult d)) None p.kind m h) r (omega arith) (λ ps. refl)
+    c p front m (kind.Word key.In) (on_in_is (some (state.CombineResult d)) None p.kind m h) r (omega arith)
+    (λ ps. refl)
     (λ x. x)
 step_reached k high (state.CombineResult d) b c p front m r h = name_on k high (state.CombineResult d)
     (λ w. state.CombineInitially d w) b c p front m h r (λ w. omega arith) (λ w ps. refl) (λ w x. x)
 step_reached k high (state.CombineInitially d w) b c p front m r h = word_on k high (state.CombineInitially d w)
-    (state.CombineStart d w) b c p front m (kind.Word key.Initially) (on_initially_is (some (state.CombineStart d w)) None
+    (state.CombineStart d w) b c p front m (kind.Word key.Initially)
+    (on_initially_is (some (state.CombineStart d w)) None
     p.kind m h) r (omega arith) (λ ps. refl) (λ x. x)
 step_reached k high (state.CombineWith d w e) b c p front m r h = word_on k high (state.CombineWith d w e)
-    (state.CombineBody d w e) b c p front m (kind.Word key.With) (on_with_is (some (state.CombineBody d w e)) None p.kind
+    (state.CombineBody d w e) b c p front m (kind.Word key.With)
+    (on_with_is (some (state.CombineBody d w e)) None p.kind
     m h) r (omega arith) (λ ps. refl) (λ x. x)
 step_reached k high (state.Int n at) b c p front m r h = unit_reached k high n at b c p.kind p.pos front m r h
 step_reached k high (state.Name w) b c p front m r h =

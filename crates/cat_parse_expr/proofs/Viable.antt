@@ -251,7 +251,8 @@ module _ (reader : ℕ → Reader) (limit : ℕ) (fine : AreFine reader limit) (
       (best_of (done r.state) best r (p ∷ rest)) (too_deep (p ∷ rest))
       (best_fine k (suc limit) all best r (p ∷ rest) (done r.state) bf h low refl) (deep_viable k all r more p rest h e)
   shift_fine best r more p rest false bf h low e high = keeps (best_of (done r.state) best r (p ∷ rest)) more rest
-      (best_fine k (suc limit) all best r (p ∷ rest) (done r.state) bf h low refl) (stands_shift k all r more p rest h e)
+      (best_fine k (suc limit) all best r (p ∷ rest) (done r.state) bf h low refl)
+      (stands_shift k all r more p rest h e)
       (low_shift (suc limit) more high)
 
   ask_fine : (best : Option Best) (r : Reading) (ts : List Token) (j : ℕ) (b : Bool) → BestFine k (suc limit) all best
@@ -278,7 +279,8 @@ unfolding run
 run_fine reader limit fine k all zero best r ts bf h low =
     stopped_fine k (suc limit) all best (here ts) bf (here_viable k all r ts h)
 run_fine reader limit fine k all (suc fuel) best r ts bf h low = turn_fine reader limit fine k all
-    (run (operand_of reader) k (suc limit) fuel) (run_fine reader limit fine k all fuel) best r ts (next k r ts) bf h low
+    (run (operand_of reader) k (suc limit) fuel) (run_fine reader limit fine k all fuel) best r ts (next k r ts) bf h
+    low
     (next_follows k r ts)
 
 -- what is read is spelled so, and what stands before the stop begins an expression

@@ -72,7 +72,8 @@ module _ (reader : ℕ → Reader) (low : ℕ) (fine : AreFine reader low) (whol
         by : (i : Item) → Heads i → fed k (suc low) (go fuel) best r (Reads e w (Some (here v.1))) ≡ go fuel best
             (feed r e) w
         by (Tok q) h = ap
-            (λ (b : Bool). cond b (go fuel best (feed r e) w) (stopped (best_of (done (feed r e).state) best (feed r e) w)
+            (λ (b : Bool). cond b (go fuel best (feed r e) w)
+            (stopped (best_of (done (feed r e).state) best (feed r e) w)
             (here v.1))) (reach_head v.0 q h.1 v.1 h.0 (is_high (suc low) h.0) some h.2 h.3 v.2 v.4 refl)
         by (Sub f x) h = absurd h
 
@@ -129,7 +130,8 @@ module _ (reader : ℕ → Reader) (low : ℕ) (fine : AreFine reader low) (whol
         → takes r.state ≡ Some j → feed r e ≡ end → length (q ∷ z) < fuel → Leaves m o → m ≤ fuel → Passes e q z o
         → Passes (whole end n) q z (fed k (suc low) (go fuel) best r o)
     last fuel j best r e f o m a t room l fits_m (inl is) = passes_along (whole end n) q z
-        (fed k (suc low) (go fuel) best r o) (go fuel best (feed r e) (q ∷ z)) (ap (fed k (suc low) (go fuel) best r) is)
+        (fed k (suc low) (go fuel) best r o) (go fuel best (feed r e) (q ∷ z))
+        (ap (fed k (suc low) (go fuel) best r) is)
         (at_end fuel best (feed r e) t room)
     last fuel j best r e f o m a t room l fits_m (inr h) =
         inr (short_fed reader low fine k fuel best r (length z) m o l fits_m h)

@@ -5,7 +5,8 @@ ghost use Rattle.cat_parse_state.specs.Readings.{done};
 ghost use Rattle.cat_parse_state.specs.Operands.{takes};
 ghost use Rattle.cat_parse_expr.specs.Reader.{is_high, next, asked, ended, Best};
 ghost use Rattle.cat_parse_expr.specs.inside.Fallback.{before};
-ghost use Rattle.cat_parse_expr.specs.inside.Loop.{outcome_of, mark_after, IsMarkWithin, AreWithin, IsStanding, IsTurnAt, IsAdvance, Leads, reached_on, IsKept, IsOperandAt};
+ghost use Rattle.cat_parse_expr.specs.inside.Loop.{outcome_of, mark_after, IsMarkWithin, AreWithin, IsStanding};
+ghost use Rattle.cat_parse_expr.specs.inside.Loop.{IsTurnAt, IsAdvance, Leads, reached_on, IsKept, IsOperandAt};
 
 use crate::fallback::fallback;
 use crate::outcome::{Halt, Mark, Reached, stopped};

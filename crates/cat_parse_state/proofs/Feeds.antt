@@ -21,21 +21,21 @@ calm_fed (state.ArmBody m pat) n b h = cc h
 calm_fed _ n b h = refl
 
 calm_ok_at : (q : State) (n : Node) (b : Bool) (r : Result State AllocError) → fed_state q n b ≡ fed_state q n false
-  → IfOk r (IsFed q n false) → IfOk r (IsFed q n b)
+    → IfOk r (IsFed q n false) → IfOk r (IsFed q n b)
 calm_ok_at q n b (Ok a) is h = subst (λ (x : State). a ≡ x) (sym is) h
 calm_ok_at q n b (Err e) is h = h
 
 calm_ok : (g : Group) (q : State) (n : Node) (b : Bool) (r : Result State AllocError) → is_form g ≡ false
-  → group_of q ≡ g → IfOk r (IsFed q n false) → IfOk r (IsFed q n b)
+    → group_of q ≡ g → IfOk r (IsFed q n false) → IfOk r (IsFed q n b)
 calm_ok g q n b r calm h = calm_ok_at q n b r (calm_fed q n b (subst (λ (x : Group). is_form x ≡ false) (sym h) calm))
 
 pub parts_fed : (q : State) (n : Node) (b : Bool) (r : Result State AllocError) → group_of q ≡ group.Parts
-  → IfOk r (IsFed q n false) → IfOk r (IsFed q n b)
+    → IfOk r (IsFed q n false) → IfOk r (IsFed q n b)
 unfolding is_form
 parts_fed q n b r = calm_ok group.Parts q n b r refl
 
 pub brackets_fed : (q : State) (n : Node) (b : Bool) (r : Result State AllocError) → group_of q ≡ group.Brackets
-  → IfOk r (IsFed q n false) → IfOk r (IsFed q n b)
+    → IfOk r (IsFed q n false) → IfOk r (IsFed q n b)
 unfolding is_form
 brackets_fed q n b r = calm_ok group.Brackets q n b r refl
 
@@ -96,4 +96,4 @@ unfolding is_fed
 lists_unfed q n b = unfed_as group.Lists q n b refl
 
 pub ruleset feeding =
-  (parts_fed, brackets_fed, start_unfed, whole_unfed, behind_unfed, fields_unfed, branches_unfed, lists_unfed)
+    (parts_fed, brackets_fed, start_unfed, whole_unfed, behind_unfed, fields_unfed, branches_unfed, lists_unfed)

@@ -56,7 +56,8 @@ fed_state (state.Then p c) e b = state.ThenElse p c e
 fed_state (state.Else p c t) e b = state.Complete (node.If p c t e) 8
 fed_state (state.Match p) e b = state.MatchWith p e
 fed_state (state.ArmBody m pat) e b =
-  state.Matched (record { pos = m.pos; tested = m.tested; arms = m.arms ++ record { pattern = pat; body = e } ∷ [] }) b
+    state.Matched (record { pos = m.pos; tested = m.tested; arms = m.arms ++ record { pattern = pat; body = e } ∷ [] })
+    b
 fed_state (state.EachList k p w) e b = state.EachThen k p w e
 fed_state (state.EachBody k p w l) e b = state.Complete (node.Each k p w l e) 8
 fed_state (state.CombineList p w) e b = state.CombineIn (record { pos = p; element = w; list = e })

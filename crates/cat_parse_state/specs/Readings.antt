@@ -29,8 +29,13 @@ start = record { state = state.Start; tallest = 0; in_form = false; in_match = f
 
 -- one operand further
 unfoldable pub feed : Reading → Part → Reading
-feed r e = record { state = fed_state r.state e.node e.in_match; tallest = max r.tallest e.height; in_form =
-  ends_form r.state || e.in_form; in_match = ends_match r.state || e.in_match }
+feed r e = record {
+  state = fed_state r.state e.node e.in_match;
+  tallest = max r.tallest e.height;
+  in_form =
+      ends_form r.state || e.in_form;
+  in_match = ends_match r.state || e.in_match;
+}
 
 -- the state with its operand, and whether that ends in a match
 abbrev pub IsFed : State → Node → (in_match : Bool) → State → Type 0

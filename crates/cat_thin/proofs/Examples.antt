@@ -25,7 +25,7 @@ use Rattle.cat_thin.specs.Answer.{thin_answer}
 -- `unfolding lines` lets `refl` compute what lines say
 lines : Unit {0}
 unfolding is_utf8 chars encode is_keyword line_of first_line opened_line part_line item_line item_of scope_of
-  declared_of definition_of program_of
+    declared_of definition_of program_of
 lines = tt
 
 abbrev at : ℕ → ℕ → Pos
@@ -35,7 +35,7 @@ the_last_line_may_lack_its_feed : lines_of (codes "a" ++ 10 ∷ 10 ∷ codes "b"
 the_last_line_may_lack_its_feed = refl
 
 spaces_part_words : words_of (codes " a  bc") ≡ record { text = codes "a"; column = 2 } ∷
-  record { text = codes "bc"; column = 5 } ∷ []
+    record { text = codes "bc"; column = 5 } ∷ []
 spaces_part_words = refl
 
 a_keyword_is_no_name : is_item_name (codes "sum") ≡ false
@@ -62,15 +62,20 @@ a_sign_begins_no_integer : integer_of (codes "-1") ≡ None
 a_sign_begins_no_integer = refl
 
 an_input_has_the_place_of_its_name : line_of 3 (codes "  input n content integer") ≡ line.Input
-  (record { name = codes "n"; pos = at 3 9 })
+    (record { name = codes "n"; pos = at 3 9 })
 unfolding lines
 an_input_has_the_place_of_its_name = refl
 
 a_definition_has_the_place_of_its_first_word : line_of 6
-  (codes "  definition x under condition n < 3 consequence equals n")
+    (codes "  definition x under condition n < 3 consequence equals n")
     ≡ line.Definition
-      (record { output = codes "x"; condition = Some (record { input = codes "n"; op = Less; bound = pos 3 }); value =
-      operand.Input (codes "n"); pos = at 6 3 })
+    (record {
+      output = codes "x";
+      condition = Some (record { input = codes "n"; op = Less; bound = pos 3 });
+      value =
+          operand.Input (codes "n");
+      pos = at 6 3;
+    })
 unfolding lines
 a_definition_has_the_place_of_its_first_word = refl
 
@@ -88,22 +93,27 @@ ended text = text ++ 10 ∷ []
 -- a scope with one input and one output, and these lines in it
 abbrev source : List ℕ → List ℕ
 source rest = ended (codes "```catala")
-  ++ (ended (codes "declaration scope S:")
-  ++ (ended (codes "input n content integer")
-  ++ (ended (codes "output x content integer") ++ (ended (codes "scope S:") ++ (rest ++ codes "```")))))
+    ++ (ended (codes "declaration scope S:")
+    ++ (ended (codes "input n content integer")
+    ++ (ended (codes "output x content integer") ++ (ended (codes "scope S:") ++ (rest ++ codes "```")))))
 
 abbrev band : ThinProgram
 band = record {
   scope = codes "S";
   inputs = record { name = codes "n"; pos = at 3 7 } ∷ [];
   outputs = record { name = codes "x"; pos = at 4 8 } ∷ [];
-  defs = record { output = 0; condition = Some (record { input = 0; op = AtLeast; bound = pos 0 }); value =
-    Number (pos 1); pos = at 6 1 } ∷ [];
+  defs = record {
+    output = 0;
+    condition = Some (record { input = 0; op = AtLeast; bound = pos 0 });
+    value =
+        Number (pos 1);
+    pos = at 6 1;
+  } ∷ [];
   sound = refl;
 }
 
 a_source_is_its_program : thin_program_of
-  (source (ended (codes "definition x under condition n >= 0 consequence equals 1"))) ≡ Some band
+    (source (ended (codes "definition x under condition n >= 0 consequence equals 1"))) ≡ Some band
 unfolding lines
 a_source_is_its_program = refl
 
@@ -131,11 +141,11 @@ abbrev output : Target
 output = record { scope = 0; item = 1; inner = None }
 
 a_conflict_tells_its_places : thin_answer band (codes "a.md") (outcome.Conflict output (at 6 3 ∷ at 7 3 ∷ [])) ≡ Some
-  (ended (codes "conflict S.x at a.md:6:3 a.md:7:3"))
+    (ended (codes "conflict S.x at a.md:6:3 a.md:7:3"))
 unfolding digits
 a_conflict_tells_its_places = refl
 
 no_value_tells_the_place_of_the_name : thin_answer band (codes "a.md") (outcome.NoValue output (at 4 8)) ≡ Some
-  (ended (codes "no value S.x at a.md:4:8"))
+    (ended (codes "no value S.x at a.md:4:8"))
 unfolding digits
 no_value_tells_the_place_of_the_name = refl

@@ -30,35 +30,36 @@ object_from (array items) members e = cc
 object_from (object others) members e = cc
 
 numbers_in_same : (items : List ThinItem) (members : Members) → members_count members ≡ length items
-  → numbers_in items members ≡ numbers_at (object members) items
+    → numbers_in items members ≡ numbers_at (object members) items
 numbers_in_same items members e = grind (arith, nat_tests)
 
 numbers_in_other : (items : List ThinItem) (members : Members) → members_count members ≢ length items
-  → numbers_in items members ≡ None
+    → numbers_in items members ≡ None
 numbers_in_other items members e = grind (arith, nat_tests)
 
 pub numbers_in-same : (items : List ThinItem) (entries : List Entry) (value : Data) → Some (members_view entries)
-  ≡ as_object value → length entries ≡ length items → option_and_then (numbers_in items) (as_object value) ≡ numbers_at
-  value items
+    ≡ as_object value → length entries ≡ length items → option_and_then (numbers_in items) (as_object value)
+    ≡ numbers_at
+    value items
 numbers_in-same items entries value e count =
     let is : value ≡ object (members_view entries) = object_from value (members_view entries) e in
     rw (← e) (numbers_in_same items (members_view entries) (members_count-view entries ∙ count)
-      ∙ ap (λ v. numbers_at v items) (sym is))
+    ∙ ap (λ v. numbers_at v items) (sym is))
 
 pub numbers_in-other : (items : List ThinItem) (entries : List Entry) (value : Data) → Some (members_view entries)
-  ≡ as_object value → length entries ≢ length items → option_and_then (numbers_in items) (as_object value) ≡ None
+    ≡ as_object value → length entries ≢ length items → option_and_then (numbers_in items) (as_object value) ≡ None
 numbers_in-other items entries value e other =
     rw (← e) (numbers_in_other items (members_view entries) (λ same. other (sym (members_count-view entries) ∙ same)))
 
 -- bytes that are read
 pub numbers_of-read : (items : List ThinItem) (bytes : List ℕ) (value : Data) → IsUtf8 bytes → read bytes ≡ Some value
-  → numbers_of items bytes ≡ option_and_then (numbers_in items) (as_object value)
+    → numbers_of items bytes ≡ option_and_then (numbers_in items) (as_object value)
 unfolding numbers_of
 numbers_of-read items bytes value text e = rw (is_utf8-from_IsUtf8 bytes text, e) refl
 
 -- bytes that are no text, or none that is read
 pub numbers_of-unread : (items : List ThinItem) (bytes : List ℕ) → (IsUtf8 bytes → read bytes ≡ None)
-  → numbers_of items bytes ≡ None
+    → numbers_of items bytes ≡ None
 unfolding numbers_of
 numbers_of-unread items bytes unread = by (is_utf8 bytes) refl
   where

@@ -22,7 +22,7 @@ total_of [] = 0
 total_of (part ∷ parts) = length part + 1 + total_of parts
 
 total_of-onto_first : (byte : ℕ) (parts : List (List ℕ)) → 0 < length parts → total_of (onto_first byte parts)
-  ≡ total_of parts + 1
+    ≡ total_of parts + 1
 total_of-onto_first byte [] within = absurd (omega arith)
 total_of-onto_first byte (part ∷ parts) within = omega arith
 
@@ -34,7 +34,8 @@ total_of-slice_split p [] = omega arith
 total_of-slice_split p (byte ∷ bytes) = by (p byte) (total_of-slice_split p bytes)
   where
     by : (b : Bool) → total_of (slice_split p bytes) ≡ length bytes + 1
-      → total_of (cond b ([] ∷ slice_split p bytes) (onto_first byte (slice_split p bytes))) ≡ length (byte ∷ bytes) + 1
+        → total_of (cond b ([] ∷ slice_split p bytes) (onto_first byte (slice_split p bytes))) ≡ length (byte ∷ bytes) +
+        1
     by true rest = omega arith
     by false rest = omega (arith, total_of-onto_first byte (slice_split p bytes) (some_parts p bytes))
 
@@ -47,30 +48,31 @@ length-without_last_feed bytes = by (ends_with 10 bytes)
 
 -- the parts from a place on
 pub texts-drop : (refs : List (Bor (List ℕ))) (i : ℕ) (part : Bor (List ℕ)) → i < length refs
-  → part ≡ get_or refs i part → map (λ ref. ref.now) (drop i refs) ≡ part.now ∷ map (λ ref. ref.now) (drop (i + 1) refs)
+    → part ≡ get_or refs i part → map (λ ref. ref.now) (drop i refs) ≡ part.now ∷ map (λ ref. ref.now)
+    (drop (i + 1) refs)
 texts-drop refs i part within is = rw (drop-cons refs i part) (rw (add-one, ← is) refl)
 
 pub texts-drop_at : (refs : List (Bor (List ℕ))) (i : ℕ) (default : Bor (List ℕ)) → i < length refs
-  → map (λ (ref : Bor (List ℕ)). ref.now) (drop i refs) ≡ (get_or refs i default).now ∷ map (λ ref. ref.now)
-  (drop (i + 1) refs)
+    → map (λ (ref : Bor (List ℕ)). ref.now) (drop i refs) ≡ (get_or refs i default).now ∷ map (λ ref. ref.now)
+    (drop (i + 1) refs)
 texts-drop_at refs i default within = rw (drop-cons refs i default) (rw add-one refl)
 
 pub texts-end : (refs : List (Bor (List ℕ))) (i : ℕ) → length refs ≤ i → map (λ (ref : Bor (List ℕ)). ref.now)
-  (drop i refs) ≡ []
+    (drop i refs) ≡ []
 texts-end refs i past = rw (drop_all i refs past) refl
 
 -- the words of a first part, and of the rest
 pub words_from-part : (column : ℕ) (part : List ℕ) (parts : List (List ℕ)) → words_from column (part ∷ parts)
-  ≡ words_from column (part ∷ []) ++ words_from (column + (length part + 1)) parts
+    ≡ words_from column (part ∷ []) ++ words_from (column + (length part + 1)) parts
 words_from-part column [] parts = refl
 words_from-part column (byte ∷ part) parts =
-  by (nat_eq (length (byte ∷ part)) 0) (grind (arith, nat_tests)) (omega arith)
+    by (nat_eq (length (byte ∷ part)) 0) (grind (arith, nat_tests)) (omega arith)
   where
     by : (b : Bool) → b ≡ false → column + length (byte ∷ part) + 1 ≡ column + (length (byte ∷ part) + 1)
-      → cond {A = List Word} b (words_from (column + 1) parts)
-      (record { text = byte ∷ part; column = column } ∷ words_from (column + length (byte ∷ part) + 1) parts) ≡ cond
-      {A = List Word} b [] (record { text = byte ∷ part; column = column } ∷ [])
-      ++ words_from (column + (length (byte ∷ part) + 1)) parts
+        → cond {A = List Word} b (words_from (column + 1) parts)
+        (record { text = byte ∷ part; column = column } ∷ words_from (column + length (byte ∷ part) + 1) parts) ≡ cond
+        {A = List Word} b [] (record { text = byte ∷ part; column = column } ∷ [])
+        ++ words_from (column + (length (byte ∷ part) + 1)) parts
     by true never same = absurd (true≢false never)
     by false never same = ap (λ next. record { text = byte ∷ part; column = column } ∷ words_from next parts) same
 
@@ -86,10 +88,10 @@ may_follow-Unknown section.Closing = refl
 may_follow-Unknown section.Unknown = refl
 
 are_in_order-Unknown : (before : Section) (lines more : List ThinLine) → are_in_order before (lines ++ Unknown ∷ more)
-  ≡ false
+    ≡ false
 are_in_order-Unknown before [] more = rw (may_follow-Unknown before) refl
 are_in_order-Unknown before (line ∷ lines) more =
-  rw (are_in_order-Unknown (section_of line) lines more) (and_false (may_follow before (section_of line)))
+    rw (are_in_order-Unknown (section_of line) lines more) (and_false (may_follow before (section_of line)))
   where
     and_false : (b : Bool) → (b && false) ≡ false
     and_false true = refl
@@ -102,8 +104,8 @@ program_of-Unknown lines more = rw (are_in_order-Unknown section.Start lines mor
 
 -- a line that says nothing ends all
 pub program_of-stop : (lines : List ThinLine) (line : ℕ) (text : List ℕ) (more texts : List (List ℕ))
-  → texts ≡ text ∷ more → Unknown ≡ line_of line text → program_of (lines ++ read_from line texts) ≡ program_of
-  (lines ++ Unknown ∷ [])
+    → texts ≡ text ∷ more → Unknown ≡ line_of line text → program_of (lines ++ read_from line texts) ≡ program_of
+    (lines ++ Unknown ∷ [])
 program_of-stop lines line text more texts split unknown =
     rw (split, ← unknown) (program_of-Unknown lines (read_from (line + 1) more) ∙ sym (program_of-Unknown lines []))
 

@@ -24,7 +24,7 @@ members_from [] [] others = Some others
 members_from [] (value ∷ values) others = None
 members_from (item ∷ items) [] others = None
 members_from (item ∷ items) (value ∷ values) others =
-  with_member item.name (integer_in value) others (members_from items values)
+    with_member item.name (integer_in value) others (members_from items values)
 
 -- the object of the outputs
 abbrev pub object_of : List ThinItem → List Value → Option Data
@@ -47,17 +47,17 @@ places_text file (pos ∷ places) = codes " " ++ (place_text file pos ++ places_
 abbrev pub target_text : ThinProgram → Target → Option (List ℕ)
 target_text program target =
     option_map (λ item. program.scope ++ (codes "." ++ item.name))
-      (slice_get program.outputs (target.item - length program.inputs))
+    (slice_get program.outputs (target.item - length program.inputs))
 
 -- what tells an outcome, for a source in the file of this name
 abbrev pub outcome_text : ThinProgram → List ℕ → Outcome → Option (List ℕ)
 outcome_text program file (outcome.Value values) = value_text program.outputs values
 outcome_text program file (outcome.Conflict target places) =
     option_map (λ name. codes "conflict " ++ (name ++ (codes " at" ++ places_text file places)))
-      (target_text program target)
+    (target_text program target)
 outcome_text program file (outcome.NoValue target place) =
     option_map (λ name. codes "no value " ++ (name ++ (codes " at " ++ place_text file place)))
-      (target_text program target)
+    (target_text program target)
 outcome_text program file (outcome.Fault kind place) = None
 
 -- the line, with its line feed

@@ -43,7 +43,7 @@ operand_of text = number_or (integer_of text) (named_or_none text)
 -- a test of its parts, where they could be read
 abbrev pub test_from : List ℕ → Option ThinOp → Option ℤ → Option NamedTest
 test_from input (Some op) (Some bound) =
-  if is_item_name input then Some (record { input = input; op = op; bound = bound }) else None
+    if is_item_name input then Some (record { input = input; op = op; bound = bound }) else None
 test_from input op bound = None
 
 -- an item's name, an operator and an integer literal
@@ -54,7 +54,7 @@ test_of input op bound = test_from input (op_of op) (integer_of bound)
 abbrev pub defined : Pos → List ℕ → Option NamedTest → Option NamedOperand → ThinLine
 defined place output condition (Some value) =
     if is_item_name output then
-      Definition (record { output = output; condition = condition; value = value; pos = place }) else Unknown
+    Definition (record { output = output; condition = condition; value = value; pos = place }) else Unknown
 defined place output condition None = Unknown
 
 -- a definition with a condition, where that could be read
@@ -71,19 +71,19 @@ always_of place output words = Unknown
 abbrev pub consequence_of : Pos → List ℕ → Option NamedTest → List Word → ThinLine
 consequence_of place output test (consequence ∷ equals ∷ value ∷ []) =
     if is consequence (codes "consequence") && is equals (codes "equals") then under_from place output test
-      (operand_of value.text) else Unknown
+    (operand_of value.text) else Unknown
 consequence_of place output test words = Unknown
 
 -- `i OP INT consequence equals V`, after `definition w under condition`
 abbrev pub tested_of : Pos → List ℕ → List Word → ThinLine
 tested_of place output (input ∷ op ∷ bound ∷ words) =
-  consequence_of place output (test_of input.text op.text bound.text) words
+    consequence_of place output (test_of input.text op.text bound.text) words
 tested_of place output words = Unknown
 
 -- `condition i OP INT consequence equals V`, after `definition w under`
 abbrev pub under_of : Pos → List ℕ → List Word → ThinLine
 under_of place output (condition ∷ words) = if is condition (codes "condition") then tested_of place output words else
-  Unknown
+    Unknown
 under_of place output [] = Unknown
 
 -- `w equals V` or `w under condition i OP INT consequence equals V`, after `definition`

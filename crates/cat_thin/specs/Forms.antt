@@ -51,7 +51,7 @@ part_line line first words =
 -- the line that opens the scope, or a part of it
 unfoldable pub opened_line : ℕ → Word → List Word → ThinLine
 opened_line line first words = if is first (codes "scope") then or_unknown Scope (scope_of words) else
-  part_line line first words
+    part_line line first words
 
 -- the form that the first word tells
 unfoldable pub first_line : ℕ → Word → List Word → ThinLine

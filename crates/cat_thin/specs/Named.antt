@@ -74,11 +74,11 @@ condition_named inputs names (Some test) = some_condition (test_named inputs nam
 -- a definition of its parts, where each is there
 abbrev pub def_from : Pos → Option ℕ → Option (Option ThinTest) → Option ThinOperand → Option ThinDef
 def_from place (Some output) (Some condition) (Some value) =
-  Some (record { output = output; condition = condition; value = value; pos = place })
+    Some (record { output = output; condition = condition; value = value; pos = place })
 def_from place output condition value = None
 
 -- the definition by numbers, where it names an output, and inputs alone
 abbrev pub def_named : ℕ → List (List ℕ) → NamedDef → Option ThinDef
 def_named inputs names def =
     def_from def.pos (output_named inputs names def.output) (condition_named inputs names def.condition)
-      (operand_named inputs names def.value)
+    (operand_named inputs names def.value)

@@ -33,4 +33,4 @@ is_item_name (byte ∷ bytes) = is_ascii_lowercase byte && (are_name_bytes bytes
 abbrev pub scope_before_colon : List ℕ → Option (List ℕ)
 scope_before_colon text =
     if ends_with 58 text && is_scope_name (take (length text - 1) text) then Some (take (length text - 1) text) else
-      None
+    None

@@ -18,4 +18,4 @@ value_from value (digit ∷ digits) = value_from (10 * value + (digit - 48)) dig
 abbrev pub integer_of : List ℕ → Option ℤ
 integer_of text =
     if nat_lt 0 (length text) && (are_digits text && nat_le (value_from 0 text) largest) then
-      Some (pos (value_from 0 text)) else None
+    Some (pos (value_from 0 text)) else None

@@ -60,7 +60,7 @@ defs_of inputs names (line ∷ lines) = defs_of inputs names lines
 abbrev pub are_items : List ThinItem → List ThinItem → Bool
 are_items inputs outputs =
     nat_le (length inputs + length outputs) 4096
-      && (are_new [] (names_of inputs) && are_new (names_of inputs) (names_of outputs))
+    && (are_new [] (names_of inputs) && are_new (names_of inputs) (names_of outputs))
 
 -- these are the names of the items, in order
 pub record NamesItems (inputs outputs : List ThinItem) (names : List (List ℕ)) : Type 0 where
@@ -76,9 +76,9 @@ same_scope declared opened = None
 
 -- the program of these parts, where each number names an item
 abbrev pub certified : (scope : List ℕ) (inputs outputs : List ThinItem) (defs : List ThinDef) (test : Bool)
-  → is_sound inputs outputs defs ≡ test → Option ThinProgram
+    → is_sound inputs outputs defs ≡ test → Option ThinProgram
 certified scope inputs outputs defs true sound =
-  Some (record { scope = scope; inputs = inputs; outputs = outputs; defs = defs; sound = sound })
+    Some (record { scope = scope; inputs = inputs; outputs = outputs; defs = defs; sound = sound })
 certified scope inputs outputs defs false unsound = None
 
 -- a program has at most 65,536 definitions

@@ -2,7 +2,8 @@
 ghost use Rattle.std.specs.Prelude.{◌≡◌, IfOk, IsTrue, Some, length, string_bytes};
 ghost use Rattle.std.specs.Option.{is_some};
 ghost use Rattle.cat_thin_scope.specs.Given.{integer_in, are_integers, IsOutput, IsGivenBy};
-ghost use Rattle.cat_thin.specs.Answer.{outcome_text, target_text, place_text, places_text, thin_answer, value_text, object_of};
+ghost use Rattle.cat_thin.specs.Answer.{outcome_text, target_text, place_text, places_text, thin_answer, value_text};
+ghost use Rattle.cat_thin.specs.Answer.{object_of};
 ghost use Rattle.serde_json.specs.View.{view};
 
 use cat_pos::Pos;

@@ -1,8 +1,10 @@
 // What a line says.
 ghost use Rattle.std.specs.Prelude.{◌≡◌, ◌≤◌, ◌*◌, IfOk, length};
 ghost use Rattle.cat_thin.specs.Lines.{ends_with};
-ghost use Rattle.cat_thin.specs.Forms.{line_of, text_of, item_line, part_line, opened_line, first_line, worded, place_of, item_of, scope_of, declared_of};
-ghost use Rattle.cat_thin.specs.Defining.{op_of, operand_of, test_of, defined, always_of, consequence_of, tested_of, under_of, definition_of};
+ghost use Rattle.cat_thin.specs.Forms.{line_of, text_of, item_line, part_line, opened_line, first_line, worded};
+ghost use Rattle.cat_thin.specs.Forms.{place_of, item_of, scope_of, declared_of};
+ghost use Rattle.cat_thin.specs.Defining.{op_of, operand_of, test_of, defined, always_of, consequence_of, tested_of};
+ghost use Rattle.cat_thin.specs.Defining.{under_of, definition_of};
 
 use crate::names::{is_item_name, scope_before_colon};
 use crate::numbers::integer_of;

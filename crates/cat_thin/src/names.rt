@@ -1,7 +1,8 @@
 // Names of scopes and of items.
 ghost use Rattle.std.specs.Prelude.{◌≡◌};
 ghost use Rattle.std.specs.Option.{option_copied};
-ghost use Rattle.cat_thin.specs.Names.{is_name_byte, are_name_bytes, is_keyword, is_scope_name, is_item_name, scope_before_colon};
+ghost use Rattle.cat_thin.specs.Names.{is_name_byte, are_name_bytes, is_keyword, is_scope_name, is_item_name};
+ghost use Rattle.cat_thin.specs.Names.{scope_before_colon};
 
 /// The words of the language that are no names, parted by spaces.
 pub const KEYWORDS: &str =

@@ -1,7 +1,8 @@
 // What the names in definitions stand for.
 ghost use Rattle.std.specs.Prelude.{◌≡◌, ◌<◌, ◌-◌, ◌^◌, ◌++◌, true, false, IfOk, IfSome, IsTrue, MatchBool, length};
 ghost use Rattle.cat_thin_scope.specs.Sound.{is_sound_condition, is_sound_operand, is_sound_def};
-ghost use Rattle.cat_thin.specs.Named.{names_of, are_new, input_named, output_named, operand_named, test_named, condition_named, def_named};
+ghost use Rattle.cat_thin.specs.Named.{names_of, are_new, input_named, output_named, operand_named, test_named};
+ghost use Rattle.cat_thin.specs.Named.{condition_named, def_named};
 
 use crate::line::{NamedDef, NamedOperand, NamedTest};
 use cat_pos::Text;

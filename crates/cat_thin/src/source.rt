@@ -1,10 +1,12 @@
 // Reading a source.
-ghost use Rattle.std.specs.Prelude.{◌≡◌, ◌≤◌, ◌*◌, ◌+◌, ◌<◌, IfOk, IfErr, IfSome, MatchOption, false, IsTrue, Some, length, map};
+ghost use Rattle.std.specs.Prelude.{◌≡◌, ◌≤◌, ◌*◌, ◌+◌, ◌<◌, IfOk, IfErr, IfSome, MatchOption, false, IsTrue, Some};
+ghost use Rattle.std.specs.Prelude.{length, map};
 ghost use Rattle.std.specs.Option.{option_copied};
 ghost use Rattle.cat_thin.specs.Lines.{without_last_feed, lines_of};
 ghost use Rattle.cat_thin.specs.Named.{names_of};
 ghost use Rattle.cat_thin_scope.specs.Sound.{are_sound_defs};
-ghost use Rattle.cat_thin.specs.Source.{inputs_of, outputs_of, declared_scope, opened_scope, same_scope, defs_of, are_items, NamesItems, assembled, program_of, thin_program_of, HasCause};
+ghost use Rattle.cat_thin.specs.Source.{inputs_of, outputs_of, declared_scope, opened_scope, same_scope, defs_of};
+ghost use Rattle.cat_thin.specs.Source.{are_items, NamesItems, assembled, program_of, thin_program_of, HasCause};
 
 use crate::fault::first_fault;
 use crate::line::{ThinLine, read_line};

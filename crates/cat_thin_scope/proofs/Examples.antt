@@ -29,13 +29,23 @@ integer number = Integer (pos number)
 
 -- a definition of this output where the one input stands so to 0
 abbrev band : ℕ → ThinOp → ℕ → ℕ → ThinDef
-band output op value line = record { output = output; condition = Some (record { input = 0; op = op; bound = pos 0 });
-  value = Number (pos value); pos = at line }
+band output op value line = record {
+  output = output;
+  condition = Some (record { input = 0; op = op; bound = pos 0 });
+  value = Number (pos value);
+  pos = at line;
+}
 
 -- 1 from zero on, and 2 up to zero
 abbrev bands : ThinProgram
-bands = record { scope = 83 ∷ []; inputs = item 3 ∷ []; outputs = item 4 ∷ []; defs = band 0 AtLeast 1 6 ∷ band 0 AtMost
-  2 7 ∷ []; sound = refl }
+bands = record {
+  scope = 83 ∷ [];
+  inputs = item 3 ∷ [];
+  outputs = item 4 ∷ [];
+  defs = band 0 AtLeast 1 6 ∷ band 0 AtMost
+      2 7 ∷ [];
+  sound = refl;
+}
 
 both_hold_at_zero : thin_outcome bands (pos 0 ∷ []) ≡ outcome.Conflict (target 1) (at 6 ∷ at 7 ∷ [])
 both_hold_at_zero = refl
@@ -45,8 +55,14 @@ one_holds_at_five = refl
 
 -- at zero the first output has no definition that holds, and the second two
 abbrev two_outputs : ThinProgram
-two_outputs = record { scope = 83 ∷ []; inputs = item 3 ∷ []; outputs = item 4 ∷ item 5 ∷ []; defs =
-  band 1 AtLeast 1 7 ∷ band 1 AtMost 2 8 ∷ band 0 Less 3 9 ∷ []; sound = refl }
+two_outputs = record {
+  scope = 83 ∷ [];
+  inputs = item 3 ∷ [];
+  outputs = item 4 ∷ item 5 ∷ [];
+  defs =
+      band 1 AtLeast 1 7 ∷ band 1 AtMost 2 8 ∷ band 0 Less 3 9 ∷ [];
+  sound = refl;
+}
 
 the_first_output_decides : thin_outcome two_outputs (pos 0 ∷ []) ≡ outcome.NoValue (target 1) (at 4)
 the_first_output_decides = refl
@@ -73,8 +89,14 @@ no_definition_is_no_value = refl
 
 -- the input itself
 abbrev passed_on : ThinProgram
-passed_on = record { scope = 83 ∷ []; inputs = item 3 ∷ []; outputs = item 4 ∷ []; defs =
-  record { output = 0; condition = None; value = Input 0; pos = at 6 } ∷ []; sound = refl }
+passed_on = record {
+  scope = 83 ∷ [];
+  inputs = item 3 ∷ [];
+  outputs = item 4 ∷ [];
+  defs =
+      record { output = 0; condition = None; value = Input 0; pos = at 6 } ∷ [];
+  sound = refl;
+}
 
 an_input_is_passed_on : thin_outcome passed_on (pos 9 ∷ []) ≡ outcome.Value (integer 9 ∷ [])
 an_input_is_passed_on = refl

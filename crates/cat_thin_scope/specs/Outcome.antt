@@ -40,7 +40,7 @@ abbrev pub held : List ℤ → ℕ → List ThinDef → List ThinDef
 held inputs output [] = []
 held inputs output (def ∷ defs) =
     if (def.output == output) && holds inputs def.condition then def ∷ held inputs output defs else
-      held inputs output defs
+    held inputs output defs
 
 -- the places of definitions
 abbrev pub positions_of : List ThinDef → List Pos
@@ -68,7 +68,7 @@ abbrev pub values_from : ThinProgram → List ℤ → ℕ → List ThinItem → 
 values_from program inputs output [] = Ok []
 values_from program inputs output (item ∷ items) =
     before (judged inputs (target_of program output) item.pos (held inputs output program.defs))
-      (values_from program inputs (output + 1) items)
+    (values_from program inputs (output + 1) items)
 
 -- the values as an outcome, or the outcome that stands in their place
 abbrev pub outcome_of : Result (List Value) Outcome → Outcome

@@ -29,4 +29,4 @@ are_sound_defs inputs outputs (def ∷ defs) = is_sound_def inputs outputs def &
 -- each number names an item, and a `u32` numbers the items
 abbrev pub is_sound : List ThinItem → List ThinItem → List ThinDef → Bool
 is_sound inputs outputs defs = nat_lt (length inputs + length outputs) (2 ^ 32) && are_sound_defs (length inputs)
-  (length outputs) defs
+    (length outputs) defs

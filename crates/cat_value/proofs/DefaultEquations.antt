@@ -16,7 +16,7 @@ use Rattle.cat_value.specs.Entries.{content_of}
 use Rattle.cat_value.specs.Defaults.{default_to, default_at, default_fields, default_case}
 
 pub default_step : (ds : Decls) (k : ℕ) (t : Ty) → 0 < k → default_to ds k t ≡ default_at ds (default_to ds (k - 1))
-  (ty.out-Ty t)
+    (ty.out-Ty t)
 unfolding default_to
 default_step ds zero t h = absurd (omega arith)
 default_step ds (suc k) t h = rw sub-one refl
@@ -28,7 +28,7 @@ pub default_Integer : (ds : Decls) (k : ℕ) → 0 < k → default_to ds k flat_
 default_Integer ds k h = search (rules, ty.the_lemmas, default_step)
 
 pub default_Decimal : (ds : Decls) (k : ℕ) → 0 < k → default_to ds k flat_ty.Decimal ≡ flat.Decimal
-  (record { num = pos 0; den = 1 })
+    (record { num = pos 0; den = 1 })
 default_Decimal ds k h = search (rules, ty.the_lemmas, default_step)
 
 pub default_Money : (ds : Decls) (k : ℕ) → 0 < k → default_to ds k flat_ty.Money ≡ flat.Money (pos 0)
@@ -38,7 +38,7 @@ pub default_Date : (ds : Decls) (k : ℕ) → 0 < k → default_to ds k flat_ty.
 default_Date ds k h = search (rules, ty.the_lemmas, default_step)
 
 pub default_Duration : (ds : Decls) (k : ℕ) → 0 < k → default_to ds k flat_ty.Duration ≡ flat.Duration
-  (record { months = pos 0; days = pos 0 })
+    (record { months = pos 0; days = pos 0 })
 default_Duration ds k h = search (rules, ty.the_lemmas, default_step)
 
 pub default_List : (ds : Decls) (k : ℕ) (t : Ty) → 0 < k → default_to ds k (ty.List t) ≡ value.List []
@@ -49,30 +49,40 @@ pub default_Structure : (ds : Decls) (k n : ℕ) (s : Structure) → 0 < k → s
 default_Structure ds k n s h e = search (rules, ty.the_lemmas, default_step)
 
 content_is : (ds : Decls) (n : ℕ) (d : Enumeration) (c : Case) → slice_get ds.enumerations n ≡ Some d
-  → slice_get d.cases 0 ≡ Some c → content_of ds n 0 ≡ Some c.content
+    → slice_get d.cases 0 ≡ Some c → content_of ds n 0 ≡ Some c.content
 content_is ds n d c e f = rw (e, f) refl
 
 default_first : (ds : Decls) (k n : ℕ) (d : Enumeration) (c : Case) → 0 < k → slice_get ds.enumerations n ≡ Some d
-  → slice_get d.cases 0 ≡ Some c
+    → slice_get d.cases 0 ≡ Some c
     → default_to ds k (flat_ty.Enumeration n) ≡ default_case (default_to ds (k - 1)) (Some c.content)
 default_first ds k n d c h e f = search (rules, ty.the_lemmas, default_step, content_is)
 
 pub default_Enumeration_None : (ds : Decls) (k n : ℕ) (d : Enumeration) (c : Case) → 0 < k → slice_get ds.enumerations n
-  ≡ Some d → slice_get d.cases 0 ≡ Some c → c.content ≡ None
+    ≡ Some d → slice_get d.cases 0 ≡ Some c → c.content ≡ None
     → default_to ds k (flat_ty.Enumeration n) ≡ value.Case 0 None
 default_Enumeration_None ds k n d c h e f g =
-  default_first ds k n d c h e f ∙ ap (λ content. default_case (default_to ds (k - 1)) (Some content)) g
+    default_first ds k n d c h e f ∙ ap (λ content. default_case (default_to ds (k - 1)) (Some content)) g
 
 pub default_Enumeration_Some : (ds : Decls) (k n : ℕ) (d : Enumeration) (c : Case) (t : Ty) → 0 < k
-  → slice_get ds.enumerations n ≡ Some d → slice_get d.cases 0 ≡ Some c → c.content ≡ Some t
+    → slice_get ds.enumerations n ≡ Some d → slice_get d.cases 0 ≡ Some c → c.content ≡ Some t
     → default_to ds k (flat_ty.Enumeration n) ≡ value.Case 0 (Some (default_to ds (k - 1) t))
 default_Enumeration_Some ds k n d c t h e f g =
-  default_first ds k n d c h e f ∙ ap (λ content. default_case (default_to ds (k - 1)) (Some content)) g
+    default_first ds k n d c h e f ∙ ap (λ content. default_case (default_to ds (k - 1)) (Some content)) g
 
 pub zero_in_lowest_terms : lowest (pos 0) 1 ≡ record { num = pos 0; den = 1 }
 unfolding lowest gcd
 zero_in_lowest_terms = refl
 
-pub ruleset defaults = (default_Boolean, default_Integer, default_Decimal, default_Money, default_Date,
-  default_Duration, default_List, default_Structure, default_Enumeration_None, default_Enumeration_Some,
-  zero_in_lowest_terms)
+pub ruleset defaults = (
+  default_Boolean,
+  default_Integer,
+  default_Decimal,
+  default_Money,
+  default_Date,
+  default_Duration,
+  default_List,
+  default_Structure,
+  default_Enumeration_None,
+  default_Enumeration_Some,
+  zero_in_lowest_terms,
+)

@@ -42,5 +42,14 @@ pub named_by_Enumeration : (n k : ℕ) → named_by n (flat_ty.Enumeration k) �
 unfolding named_by
 named_by_Enumeration n k = search (rules, ty.the_lemmas, fold_out-Ty (List ℕ) (names_at n))
 
-pub ruleset naming = (named_by_Boolean, named_by_Integer, named_by_Decimal, named_by_Money, named_by_Date,
-  named_by_Duration, named_by_List, named_by_Structure, named_by_Enumeration)
+pub ruleset naming = (
+  named_by_Boolean,
+  named_by_Integer,
+  named_by_Decimal,
+  named_by_Money,
+  named_by_Date,
+  named_by_Duration,
+  named_by_List,
+  named_by_Structure,
+  named_by_Enumeration,
+)

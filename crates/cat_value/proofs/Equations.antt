@@ -172,8 +172,26 @@ fields_have_types-length ds (v ∷ vs) (f ∷ fs) h =
     and_false true = refl
     and_false false = refl
 
-pub ruleset declared = (is_declared_Boolean, is_declared_Integer, is_declared_Decimal, is_declared_Money,
-  is_declared_Date, is_declared_Duration, is_declared_List, is_declared_Structure, is_declared_Enumeration)
+pub ruleset declared = (
+  is_declared_Boolean,
+  is_declared_Integer,
+  is_declared_Decimal,
+  is_declared_Money,
+  is_declared_Date,
+  is_declared_Duration,
+  is_declared_List,
+  is_declared_Structure,
+  is_declared_Enumeration,
+)
 
-pub ruleset typing = (has_type_Boolean, has_type_Integer, has_type_Decimal, has_type_Money, has_type_Date,
-  has_type_Duration, has_type_List, has_type_Structure, has_type_Case)
+pub ruleset typing = (
+  has_type_Boolean,
+  has_type_Integer,
+  has_type_Decimal,
+  has_type_Money,
+  has_type_Date,
+  has_type_Duration,
+  has_type_List,
+  has_type_Structure,
+  has_type_Case,
+)

@@ -25,22 +25,39 @@ use Rattle.cat_value.proofs.Descending.{height_List, height_Structure, height_En
 use Rattle.cat_value.proofs.Descending.{height_Integer}
 
 abbrev pub pair : List ℕ → List ℕ → List ℕ → List Structure
-pair s a b = record { name = s; fields = record { name = a; ty = flat_ty.Integer } ∷
-  record { name = b; ty = ty.List flat_ty.Boolean } ∷ [] } ∷ []
+pair s a b = record {
+  name = s;
+  fields = record { name = a; ty = flat_ty.Integer } ∷
+      record { name = b; ty = ty.List flat_ty.Boolean } ∷ [];
+} ∷ []
 
 abbrev pub choice : List ℕ → List ℕ → List ℕ → List Enumeration
-choice e a b = record { name = e; cases = record { name = a; content = Some (ty.List flat_ty.Integer) } ∷
-  record { name = b; content = None } ∷ [] } ∷ []
+choice e a b = record {
+  name = e;
+  cases = record { name = a; content = Some (ty.List flat_ty.Integer) } ∷
+      record { name = b; content = None } ∷ [];
+} ∷ []
 
 pair_height : (s a b e c d : List ℕ) → height_to (pair s a b) (choice e c d) highest (flat_ty.Structure 0) ≡ 3
 pair_height s a b e c d =
-    omega (arith, height_Structure (pair s a b) (choice e c d) 63 0 _ refl, height_Integer (pair s a b) (choice e c d)
-      62, height_List (pair s a b) (choice e c d) 62 flat_ty.Boolean, height_Boolean (pair s a b) (choice e c d) 61)
+    omega (
+      arith,
+      height_Structure (pair s a b) (choice e c d) 63 0 _ refl,
+      height_Integer (pair s a b) (choice e c d)
+          62,
+      height_List (pair s a b) (choice e c d) 62 flat_ty.Boolean,
+      height_Boolean (pair s a b) (choice e c d) 61,
+    )
 
 choice_height : (s a b e c d : List ℕ) → height_to (pair s a b) (choice e c d) highest (flat_ty.Enumeration 0) ≡ 3
 choice_height s a b e c d =
-    omega (arith, height_Enumeration (pair s a b) (choice e c d) 63 0 _ refl, height_List (pair s a b) (choice e c d) 62
-      flat_ty.Integer, height_Integer (pair s a b) (choice e c d) 61)
+    omega (
+      arith,
+      height_Enumeration (pair s a b) (choice e c d) 63 0 _ refl,
+      height_List (pair s a b) (choice e c d) 62
+          flat_ty.Integer,
+      height_Integer (pair s a b) (choice e c d) 61,
+    )
 
 pair_and_choice_ordered : (s a b e c d : List ℕ) → are_ordered (pair s a b) (choice e c d) ≡ true
 unfolding are_ordered order_of is_ready
@@ -51,8 +68,13 @@ unfolding are_sound
 pair_and_choice_are_sound s a b e c d = search (rules, declared, pair_height, choice_height, pair_and_choice_ordered)
 
 abbrev sample : Decls
-sample = record { structures = pair [] [] []; enumerations = choice [] [] []; scopes = []; sound =
-  pair_and_choice_are_sound [] [] [] [] [] [] }
+sample = record {
+  structures = pair [] [] [];
+  enumerations = choice [] [] [];
+  scopes = [];
+  sound =
+      pair_and_choice_are_sound [] [] [] [] [] [];
+}
 
 abbrev itself : List Structure
 itself = record { name = []; fields = record { name = []; ty = flat_ty.Structure 0 } ∷ [] } ∷ []
@@ -86,7 +108,7 @@ height_none = refl
 a_type_inside_itself_passes_each_height : (k : ℕ) → height_to itself [] k (flat_ty.Structure 0) ≡ k + 1
 a_type_inside_itself_passes_each_height zero = height_none
 a_type_inside_itself_passes_each_height (suc k) =
-  omega (arith, height_Structure itself [] k 0 _ refl, a_type_inside_itself_passes_each_height k)
+    omega (arith, height_Structure itself [] k 0 _ refl, a_type_inside_itself_passes_each_height k)
 
 the_least_i64_is_no_integer : has_type sample (flat.Integer (negsuc 9223372036854775807)) flat_ty.Integer ≡ false
 the_least_i64_is_no_integer = search (rules, typing, ty.the_lemmas)
@@ -103,14 +125,14 @@ the_day_before_the_first_is_no_date : has_type sample (flat.Date (negsuc 719162)
 the_day_before_the_first_is_no_date = search (rules, typing, ty.the_lemmas)
 
 a_boolean_among_integers_is_no_list : has_type sample (value.List (flat.Integer (pos 1) ∷ flat.Boolean true ∷ []))
-  (ty.List flat_ty.Integer) ≡ false
+    (ty.List flat_ty.Integer) ≡ false
 a_boolean_among_integers_is_no_list = search (rules, declared, typing, ty.the_lemmas)
 
 an_empty_list_of_an_unknown_type_is_none : has_type sample (value.List []) (ty.List (flat_ty.Structure 1)) ≡ false
 an_empty_list_of_an_unknown_type_is_none = search (rules, declared, typing, ty.the_lemmas)
 
 a_field_too_few_is_no_structure : has_type sample (value.Structure (flat.Integer (pos 1) ∷ [])) (flat_ty.Structure 0)
-  ≡ false
+    ≡ false
 a_field_too_few_is_no_structure = search (rules, declared, typing, ty.the_lemmas)
 
 a_content_too_many_is_no_case : has_type sample (value.Case 1 (Some (value.List []))) (flat_ty.Enumeration 0) ≡ false
@@ -122,4 +144,4 @@ one_past_the_last_case_is_none = search (rules, declared, typing, ty.the_lemmas)
 the_default_is_the_first_case : default_of sample (flat_ty.Enumeration 0) ≡ value.Case 0 (Some (value.List []))
 the_default_is_the_first_case =
     default_Enumeration_Some sample 64 0 _ _ (ty.List flat_ty.Integer) (omega arith) refl refl refl
-      ∙ ap (λ content. value.Case 0 (Some content)) (default_List sample 63 flat_ty.Integer (omega arith))
+    ∙ ap (λ content. value.Case 0 (Some content)) (default_List sample 63 flat_ty.Integer (omega arith))

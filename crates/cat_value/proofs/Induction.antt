@@ -71,9 +71,9 @@ module _
   at_value (Value-F.Date day) = subst P (sym (value.rolls-Date day)) (date day)
   at_value (Value-F.Duration span) = subst P (sym (value.rolls-Duration span)) (duration span)
   at_value (Value-F.List vs) =
-    subst P (sym (value.rolls-List (map (λ v. v.0) vs))) (list (map (λ v. v.0) vs) (each_held P vs))
+      subst P (sym (value.rolls-List (map (λ v. v.0) vs))) (list (map (λ v. v.0) vs) (each_held P vs))
   at_value (Value-F.Structure vs) =
-    subst P (sym (value.rolls-Structure (map (λ v. v.0) vs))) (structure (map (λ v. v.0) vs) (each_held P vs))
+      subst P (sym (value.rolls-Structure (map (λ v. v.0) vs))) (structure (map (λ v. v.0) vs) (each_held P vs))
   at_value (Value-F.Case k None) = subst P (sym (value.rolls-Case k None)) (case k None tt)
   at_value (Value-F.Case k (Some v)) = subst P (sym (value.rolls-Case k (Some v.0))) (case k (Some v.0) v.1)
 

@@ -28,27 +28,27 @@ use Rattle.cat_value.proofs.Descending.{content_declared, structure_low, enumera
 use Rattle.cat_value.proofs.Inversions.{whole}
 
 scopes_sound : (ss : List Structure) (es : List Enumeration) (scopes : List Scope) → IsTrue (are_sound ss es scopes)
-  → IsTrue (list_all (scope_is_sound ss es (length scopes)) scopes)
+    → IsTrue (list_all (scope_is_sound ss es (length scopes)) scopes)
 unfolding are_sound
 scopes_sound ss es scopes h = grind arith
 
 all_counted : (ss : List Structure) (es : List Enumeration) (scopes : List Scope) → IsTrue (are_sound ss es scopes)
-  → (length ss < ENTRIES_BOUND) × (length es < ENTRIES_BOUND) × (length scopes < ENTRIES_BOUND)
+    → (length ss < ENTRIES_BOUND) × (length es < ENTRIES_BOUND) × (length scopes < ENTRIES_BOUND)
 unfolding are_sound
 all_counted ss es scopes h = (grind arith, grind arith, grind arith)
 
 scope_sound : (ds : Decls) (n : ℕ) (scope : Scope) → slice_get ds.scopes n ≡ Some scope
-  → IsTrue (scope_is_sound ds.structures ds.enumerations (length ds.scopes) scope)
+    → IsTrue (scope_is_sound ds.structures ds.enumerations (length ds.scopes) scope)
 scope_sound ds n scope e =
-  list_all_at _ ds.scopes n scope (scopes_sound ds.structures ds.enumerations ds.scopes ds.sound) e
+    list_all_at _ ds.scopes n scope (scopes_sound ds.structures ds.enumerations ds.scopes ds.sound) e
 
 item_sound : (ds : Decls) (n k : ℕ) (scope : Scope) (item : ItemDecl) → slice_get ds.scopes n ≡ Some scope
-  → slice_get scope.items k ≡ Some item
+    → slice_get scope.items k ≡ Some item
     → IsTrue (item_is_sound ds.structures ds.enumerations (length ds.scopes) item)
 item_sound ds n k scope item e f =
     let s = scope_sound ds n scope e in
     let items : IsTrue (list_all (item_is_sound ds.structures ds.enumerations (length ds.scopes)) scope.items) =
-      grind arith in
+    grind arith in
     list_all_at _ scope.items k item items f
 
 boolean_is : (t : Ty) → IsTrue (is_boolean (ty.out-Ty t)) → t ≡ flat_ty.Boolean
@@ -59,8 +59,8 @@ boolean_is t h = by (ty.out-Ty t) refl h
     by _ q g = absurd (true≢false (sym g))
 
 called_sound : (count : ℕ) (t : Ty) (condition : Bool) (kind : Kind) (scope : ℕ)
-  → IsTrue (kind_is_sound count t condition kind) → kind ≡ Called scope
-  → IsTrue (kind_is_sound count t condition (Called scope))
+    → IsTrue (kind_is_sound count t condition kind) → kind ≡ Called scope
+    → IsTrue (kind_is_sound count t condition (Called scope))
 called_sound count t condition kind scope h e = rw e at h
 
 structure_is : (ds : Decls) (n : ℕ) (s : Structure) → slice_get ds.structures n ≡ Some s → IsStructure ds n s
@@ -68,7 +68,7 @@ structure_is ds n s e = record {
   has_field = let h = structure_sound ds n s e in grind arith;
   counted = let h = structure_sound ds n s e in grind arith;
   declared = λ k f g. list_all_at (field_is_sound ds.structures ds.enumerations) s.fields k f (fields_declared ds n s e)
-    g;
+      g;
   low = structure_low ds n (within ds.structures n s e);
 }
 
@@ -81,7 +81,7 @@ enumeration_is ds n d e = record {
 }
 
 item_is : (ds : Decls) (item : ItemDecl) → IsTrue (item_is_sound ds.structures ds.enumerations (length ds.scopes) item)
-  → IsItem ds item
+    → IsItem ds item
 item_is ds item h =
     let kind : IsTrue (kind_is_sound (length ds.scopes) item.ty item.condition item.kind) = grind arith in
     let params : IsTrue (list_all (is_sound ds.structures ds.enumerations) item.params) = grind arith in
@@ -96,11 +96,11 @@ item_is ds item h =
     }
 
 counted : (ds : Decls) → (length ds.structures < ENTRIES_BOUND) × (length ds.enumerations < ENTRIES_BOUND)
-  × (length ds.scopes < ENTRIES_BOUND)
+    × (length ds.scopes < ENTRIES_BOUND)
 counted ds = all_counted ds.structures ds.enumerations ds.scopes ds.sound
 
 types_ordered : (ss : List Structure) (es : List Enumeration) (scopes : List Scope) → IsTrue (are_sound ss es scopes)
-  → IsTrue (are_ordered ss es)
+    → IsTrue (are_ordered ss es)
 unfolding are_sound
 types_ordered ss es scopes h = grind arith
 
@@ -116,15 +116,15 @@ abbrev CyclesLeaveNone : Type 0
 CyclesLeaveNone = (deps : List (List ℕ)) (item : ℕ) → IsOnCycle deps item → HasNoOrder deps
 
 order_there : IsComputed → (ss : List Structure) (es : List Enumeration) → IsTrue (are_ordered ss es)
-  → (listed : List ℕ) × IsOrder (type_dependencies ss es) listed
+    → (listed : List ℕ) × IsOrder (type_dependencies ss es) listed
 unfolding are_ordered
 order_there computed ss es h = let o = some_is (order_of (type_dependencies ss es)) h in
-  (o.0, (computed (type_dependencies ss es) o.0).0 o.1)
+    (o.0, (computed (type_dependencies ss es) o.0).0 o.1)
 
 pub sound_is : IsComputed → CyclesLeaveNone → (ds : Decls) → AreSound ds
 sound_is computed none ds =
     let order = order_there computed ds.structures ds.enumerations
-      (types_ordered ds.structures ds.enumerations ds.scopes ds.sound) in
+    (types_ordered ds.structures ds.enumerations ds.scopes ds.sound) in
     record {
       ordered = order;
       acyclic = λ n on. none (type_dependencies ds.structures ds.enumerations) n on order.0 order.1;

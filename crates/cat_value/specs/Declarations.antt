@@ -80,7 +80,7 @@ kind_is_sound count t condition _ = true
 -- an item whose kind, type and parameters are declared and not too high
 abbrev pub item_is_sound : List Structure → List Enumeration → ℕ → ItemDecl → Bool
 item_is_sound ss es count item = kind_is_sound count item.ty item.condition item.kind && is_sound ss es item.ty
-  && is_counted item.params && list_all (is_sound ss es) item.params
+    && is_counted item.params && list_all (is_sound ss es) item.params
 
 -- a scope each of whose items is so
 abbrev pub scope_is_sound : List Structure → List Enumeration → ℕ → Scope → Bool
@@ -108,5 +108,5 @@ types_are_low ss es = all_below (structure_is_low ss es) (length ss) && all_belo
 unfoldable pub are_sound : List Structure → List Enumeration → List Scope → Bool
 are_sound ss es scopes = is_counted ss && is_counted es && is_counted scopes
     && list_all (structure_is_sound ss es) ss && list_all (enumeration_is_sound ss es) es
-      && list_all (scope_is_sound ss es (length scopes)) scopes
+    && list_all (scope_is_sound ss es (length scopes)) scopes
     && are_ordered ss es && types_are_low ss es

@@ -40,7 +40,7 @@ named_by_cases structures (c ∷ cs) = named_by_content structures c.content ++ 
 abbrev pub type_dependencies : List Structure → List Enumeration → List (List ℕ)
 type_dependencies ss es =
     map (λ (s : Structure). named_by_fields (length ss) s.fields) ss
-      ++ map (λ (e : Enumeration). named_by_cases (length ss) e.cases) es
+    ++ map (λ (e : Enumeration). named_by_cases (length ss) e.cases) es
 
 -- structures and enumerations have an order in which each stands behind those that it depends on
 unfoldable pub are_ordered : List Structure → List Enumeration → Bool

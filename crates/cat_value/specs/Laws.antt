@@ -88,4 +88,4 @@ pub record AreSound (ds : Decls) : Type 0 where
   pub scopes_counted : length ds.scopes < ENTRIES_BOUND
   pub items_counted : (n : ℕ) (scope : Scope) → slice_get ds.scopes n ≡ Some scope → length scope.items < ENTRIES_BOUND
   pub items : (n k : ℕ) (scope : Scope) (item : ItemDecl) → slice_get ds.scopes n ≡ Some scope → slice_get scope.items k
-    ≡ Some item → IsItem ds item
+      ≡ Some item → IsItem ds item

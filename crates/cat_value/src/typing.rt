@@ -3,7 +3,8 @@ ghost use Rattle.std.specs.Prelude.{◌≡◌};
 ghost use Rattle.cat_num.specs.Whole.{fits};
 ghost use Rattle.cat_date.specs.Calendar.{is_day};
 ghost use Rattle.cat_date.specs.Span.{is_span};
-ghost use Rattle.cat_value.specs.Typing.{has_type, elements_typed, fields_have_types, is_structure, is_case, content_has_type, is_type};
+ghost use Rattle.cat_value.specs.Typing.{has_type, elements_typed, fields_have_types, is_structure, is_case};
+ghost use Rattle.cat_value.specs.Typing.{content_has_type, is_type};
 ghost use Rattle.cat_value.specs.Flat.{is_decimal};
 
 use crate::{Decls, Fields, Ty, Value, Values};

@@ -1,6 +1,8 @@
 // What is read of a line.
-ghost use Rattle.std.specs.Prelude.{◌≡◌, ◌∷◌, ◌++◌, ◌-◌, ◌<◌, ◌≤◌, length, slice_index, nat_le, ◌&&◌, true, false, MatchOption};
-ghost use Rattle.cat_weave.specs.Lines.{lines_of, bare, without_end, without_last, without_last_blanks, without_first_blanks, last_is};
+ghost use Rattle.std.specs.Prelude.{◌≡◌, ◌∷◌, ◌++◌, ◌-◌, ◌<◌, ◌≤◌, length, slice_index, nat_le, ◌&&◌, true, false};
+ghost use Rattle.std.specs.Prelude.{MatchOption};
+ghost use Rattle.cat_weave.specs.Lines.{lines_of, bare, without_end, without_last, without_last_blanks};
+ghost use Rattle.cat_weave.specs.Lines.{without_first_blanks, last_is};
 ghost use Rattle.cat_pos.specs.Bytes.{is_blank};
 ghost use Rattle.cat_weave.specs.Kinds.{law_kind, level_of, is_hash, is_heading, is_include, heading_of, include_of};
 ghost use Rattle.cat_weave.specs.inside.Reading.{kind_read, line_length};

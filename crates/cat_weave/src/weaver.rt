@@ -1,5 +1,6 @@
 // Parts out of lines.
-ghost use Rattle.std.specs.Prelude.{◌≡◌, ◌≢◌, ◌+◌, ◌<◌, ◌≤◌, false, length, Err, IfOk, IfErr, MatchOption, MatchResult, IfSome, ◌∷◌};
+ghost use Rattle.std.specs.Prelude.{◌≡◌, ◌≢◌, ◌+◌, ◌<◌, ◌≤◌, false, length, Err, IfOk, IfErr, MatchOption, MatchResult};
+ghost use Rattle.std.specs.Prelude.{IfSome, ◌∷◌};
 ghost use Rattle.cat_weave.specs.Woven.{woven, woven_lines, line_position, closes, AreWithin};
 ghost use Rattle.cat_weave.specs.Kinds.{ClosingLine};
 ghost use Rattle.cat_weave.specs.inside.Reading.{law_kinds, block_kinds, code_part, IsCodeBefore, IsStep, IsOpen};

@@ -7,5 +7,5 @@ pub returns-in-Up : goal.returns-in-Up
 returns-in-Up c =
     rw c.in-Up.is
     (ap Ok (c.day_on-in-Up.ensures ∙ day_number-next_month (pos c.args.year) c.args.month (omega (arith, ints))
-      (omega arith))
+    (omega arith))
     ∙ sym (day_of_month-past _ _ _ _ (omega arith)))

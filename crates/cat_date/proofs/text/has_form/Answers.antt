@@ -8,9 +8,9 @@ returns-then-text-ne10-clause-value c = sym (bytes_eq-length c.args.text.now c.i
 pub returns-then-form-i-clause-value : goal.returns-then-form-i-clause-value
 returns-then-form-i-clause-value c =
     sym (form_other c.args.text.now c.loop-i.i _ c.loop-i-test.true (omega arith) c.form.ensures c.if-form-i.true)
-      ∙ c.loop-i.invariant
+    ∙ c.loop-i.invariant
 
 pub loop-i-preserved : goal.loop-i-preserved
 loop-i-preserved c =
     form_same c.args.text.now c.loop-i.i _ c.loop-i-test.true (omega arith) c.form.ensures c.if-form-i.false
-      ∙ c.loop-i.invariant
+    ∙ c.loop-i.invariant

@@ -6,7 +6,7 @@ use Rattle.cat_io.proofs.disk_shelf.read_to_limit.Goals as goal
 
 -- bytes that stop short of a cut are all that there were
 all_of : (told : Option (List ℕ)) (most : ℕ) (bytes : List ℕ) → IfSome (option_map (take most) told) (λ xs. bytes ≡ xs)
-  →
+    →
     length bytes < most → IfSome told (λ content. bytes ≡ content)
 all_of None most bytes cut short = tt
 all_of (Some content) most bytes cut short =

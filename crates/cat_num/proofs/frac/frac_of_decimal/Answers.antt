@@ -23,7 +23,7 @@ invariant_of-result c =
     let few = few_digits c.args.literal.digits c.args.literal.places c.digits-digits.ensures.bounded in
     let size = div-le_self c.digits-digits.result c.common_divisor-divisor.result in
     let narrow : to_z w64 (c.digits-digits.result / c.common_divisor-divisor.result) ≡ pos
-      (c.digits-digits.result / c.common_divisor-divisor.result) = to_z_pos w64 _ (grind arith) in
+    (c.digits-digits.result / c.common_divisor-divisor.result) = to_z_pos w64 _ (grind arith) in
     let reduced = numeral_reduced c.args.literal.digits c.args.literal.places c.digits-digits.ensures.bounded in
     rw narrow (search rules)
 
@@ -32,5 +32,5 @@ returns c =
     let few = few_digits c.args.literal.digits c.args.literal.places c.digits-digits.ensures.bounded in
     let size = div-le_self c.digits-digits.result c.common_divisor-divisor.result in
     let narrow : to_z w64 (c.digits-digits.result / c.common_divisor-divisor.result) ≡ pos
-      (c.digits-digits.result / c.common_divisor-divisor.result) = to_z_pos w64 _ (grind arith) in
+    (c.digits-digits.result / c.common_divisor-divisor.result) = to_z_pos w64 _ (grind arith) in
     rw narrow (grind (arith, lowest_parts))

@@ -19,8 +19,8 @@ returns-then-numerator-gt-MAX c = grind (arith, ratio-large_num, ratio-large_den
 
 pub invariant_of-result : goal.invariant_of-result
 invariant_of-result c = let f : FitsSigned w64 c.with_sign-num.result =
-  search rules in rw to_z-of_z (grind (arith, IsReduced-lowest))
+    search rules in rw to_z-of_z (grind (arith, IsReduced-lowest))
 
 pub returns : goal.returns
 returns c = let f : FitsSigned w64 c.with_sign-num.result =
-  search rules in rw to_z-of_z (grind (arith, ratio-fits, lowest_parts))
+    search rules in rw to_z-of_z (grind (arith, ratio-fits, lowest_parts))

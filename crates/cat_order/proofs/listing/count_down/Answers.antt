@@ -31,7 +31,8 @@ positive items start unmet place within enough counts =
 
 pub bounds-unmet-place : goal.bounds-unmet-place
 bounds-unmet-place c = within_of_positive c.loop-item.unmet _
-    (positive c.args.items.now c.args.unmet.now c.loop-item.unmet c.loop-item.item-index c.loop-item-test.true c.requires
+    (positive c.args.items.now c.args.unmet.now c.loop-item.unmet c.loop-item.item-index c.loop-item-test.true
+    c.requires
     c.loop-item.invariant.counts)
 
 pub overflow_sub-unmet : goal.overflow_sub-unmet
@@ -40,7 +41,8 @@ overflow_sub-unmet c = positive c.args.items.now c.args.unmet.now c.loop-item.un
 
 pub bounds-unmet-place-in-loop-item : goal.bounds-unmet-place-in-loop-item
 bounds-unmet-place-in-loop-item c = within_of_positive c.loop-item.unmet _
-    (positive c.args.items.now c.args.unmet.now c.loop-item.unmet c.loop-item.item-index c.loop-item-test.true c.requires
+    (positive c.args.items.now c.args.unmet.now c.loop-item.unmet c.loop-item.item-index c.loop-item-test.true
+    c.requires
     c.loop-item.invariant.counts)
 
 pub bounds-unmet-place-in-loop-item-2 : goal.bounds-unmet-place-in-loop-item-2

@@ -53,7 +53,8 @@ module _ (From To : RattleType) (to : From.Denot → To.Denot) where
         (box_of (one_value From (alike.mir_same i) (alike.own_same box.value i) (alike.shr_same box.value i)
         gnil)).own_val (holding box tt);
     shr_same = λ box i.
-        (box_of (one_value From (alike.mir_same i) (alike.own_same box.value i) (alike.shr_same box.value i) gnil)).shr_at
+        (box_of (one_value From (alike.mir_same i) (alike.own_same box.value i) (alike.shr_same box.value i)
+        gnil)).shr_at
         (holding box tt);
   }
 

@@ -8,6 +8,6 @@ use Rattle.cat_thin.proofs.answer.object_of.Given as goal
 abbrev pub invariant-loop-number : goal.invariant-loop-number
 invariant-loop-number l = record {
   made : members_from (drop l.number l.items) (drop l.number l.values) (members_view l.members.entries) ≡ members_from
-    l.items l.values no_members;
+      l.items l.values no_members;
   integers : IsTrue (are_integers (drop l.number l.values));
 }

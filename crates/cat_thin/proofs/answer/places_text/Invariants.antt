@@ -5,4 +5,4 @@ use Rattle.cat_thin.proofs.answer.places_text.Given as goal
 
 abbrev pub invariant-loop-pos : goal.invariant-loop-pos
 invariant-loop-pos l = string_bytes l.text ++ places_text l.file (drop l.pos-index l.places) ≡ places_text l.file
-  l.places
+    l.places

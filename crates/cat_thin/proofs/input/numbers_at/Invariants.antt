@@ -8,6 +8,6 @@ use Rattle.cat_thin.proofs.input.numbers_at.Given as goal
 abbrev pub invariant-loop-item : goal.invariant-loop-item
 invariant-loop-item l = record {
   made : made_before l.numbers (numbers_at (view l.value) (drop l.item-index l.items)) ≡ numbers_at (view l.value)
-    l.items;
+      l.items;
   one_each : length l.numbers ≡ l.item-index;
 }

@@ -9,5 +9,5 @@ use Rattle.cat_thin.proofs.names.is_keyword.Goals as goal
 pub returns : goal.returns
 unfolding is_keyword
 returns c = any_from_yields_List (λ word. bytes_eq word c.args.text.now) _ _ _ c.any.ensures.ran
-  (YieldsList-from_str_split 32 KEYWORDS.now (lit< tt) c.split.ensures.text c.split.ensures.has_more
-  c.split.ensures.pattern) (λ x b q k. search (rules, tests))
+    (YieldsList-from_str_split 32 KEYWORDS.now (lit< tt) c.split.ensures.text c.split.ensures.has_more
+    c.split.ensures.pattern) (λ x b q k. search (rules, tests))

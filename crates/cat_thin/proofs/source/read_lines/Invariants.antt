@@ -8,5 +8,5 @@ invariant-loop-part l = record {
   room : l.line + total_of (map (λ part. part.now) (drop l.part-index l.part-items)) ≤ length l.fn.bytes + 2;
   counts : 1 ≤ l.line;
   made : program_of (l.lines ++ read_from l.line (map (λ part. part.now) (drop l.part-index l.part-items)))
-    ≡ thin_program_of l.fn.bytes;
+      ≡ thin_program_of l.fn.bytes;
 }

@@ -7,5 +7,5 @@ abbrev pub invariant-loop-def : goal.invariant-loop-def
 invariant-loop-def l = record {
   sound : IsTrue (are_sound_defs (length l.inputs) (length l.program.outputs) (drop l.def-index l.program.defs));
   made : l.places ++ positions_of (held l.inputs l.output (drop l.def-index l.program.defs)) ≡ positions_of
-    (held l.inputs l.output l.program.defs);
+      (held l.inputs l.output l.program.defs);
 }

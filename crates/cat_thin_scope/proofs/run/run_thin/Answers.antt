@@ -10,7 +10,7 @@ returns-in-Nothing-clause-outcome c = grind (arith, common_steps, outcome_on-Not
 pub loop-number-preserved : goal.loop-number-preserved
 loop-number-preserved c =
     let pushed : c.push.new.self ≡ c.loop-number.values ++ Integer c.in-One.value ∷ [] =
-      c.in_ok-push-in-One.ensures.ok in
+    c.in_ok-push-in-One.ensures.ok in
     record {
       outcome = grind (arith, common_steps, outcome_on-One);
       count = grind (arith, common_steps);

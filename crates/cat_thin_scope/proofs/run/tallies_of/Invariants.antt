@@ -12,6 +12,6 @@ invariant-loop-def l = record {
   count : length l.tallies.items ≡ length l.program.outputs;
   each : (output : ℕ) → output < length l.program.outputs
       → with_all l.inputs (slice_index_or l.tallies.items output Nothing)
-        (held l.inputs output (drop l.def-index l.program.defs)) ≡ with_all l.inputs Nothing
-        (held l.inputs output l.program.defs);
+      (held l.inputs output (drop l.def-index l.program.defs)) ≡ with_all l.inputs Nothing
+      (held l.inputs output l.program.defs);
 }

@@ -15,7 +15,7 @@ abbrev pub invariant-least_fields-loop-field : goal.invariant-least_fields-loop-
 invariant-least_fields-loop-field l = record {
   declared : IsTrue (list_all (field_is_sound l.decls.structures l.decls.enumerations) (drop l.field-index l.fields));
   height : highest_field (height_to l.decls.structures l.decls.enumerations l.depth) (drop l.field-index l.fields) ≤
-    l.depth;
+      l.depth;
   made : l.values ++ default_fields (default_to l.decls l.depth) (drop l.field-index l.fields) ≡ default_fields
-    (default_to l.decls l.depth) l.fields;
+      (default_to l.decls l.depth) l.fields;
 }
