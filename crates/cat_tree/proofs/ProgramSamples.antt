@@ -11,6 +11,8 @@ use Rattle.cat_tree.specs.declared.expression.Operator.TheVariants as op
 use Rattle.cat_tree.specs.declared.expression.Node.TheViews as node
 use Rattle.cat_tree.specs.declared.program.Kind.TheVariants as kinds
 use Rattle.cat_tree.specs.declared.program.Exception.TheVariants as exception
+use Rattle.cat_tree.specs.declared.program.Lead.{Lead}
+use Rattle.cat_tree.specs.declared.program.TargetName.{TargetName}
 use Rattle.cat_tree.specs.declared.program.Fulfilled.TheVariants as fulfilled
 use Rattle.cat_tree.specs.declared.program.Use.{Use}
 use Rattle.cat_tree.specs.declared.program.Use.TheVariants as uses
@@ -137,6 +139,118 @@ dates_are_rounded s p p1 p2 p3 = spells_program _ _ refl (search rules) (search 
 the_highest_expression_counts : (s a b : Name) (p p1 q : Pos)
     → highest_in (block_of p s (uses.Assertion p1 (node.Binary op.Plus q (local a) (local b)))) ≡ 2
 the_highest_expression_counts s a b p p1 q = search (rules, phrases)
+
+-- ---- forms in other shapes
+
+abbrev no_lead : Lead
+no_lead = record { label = None; exception = exception.No }
+
+abbrev alone : Name → TargetName
+alone x = record { name = x; inner = None; params = [] }
+
+-- declaration scope S : input a content money
+an_input_is_one_word : (s a : Name) (p p1 p2 p3 p4 p5 : Pos)
+    → SpellsProgram
+    (scope_of p s (variable.Own kinds.Input p3 a (Some (record { lists = 0; base = base.Money; pos = p5 })) []))
+    («word» key.Declaration p ∷ «word» key.Scope p1 ∷ type s ∷ sign symbol.Colon p2 ∷ «word» key.Input p3 ∷ name a
+    ∷ «word» key.Content p4 ∷ «word» key.Money p5 ∷ [])
+an_input_is_one_word s a p p1 p2 p3 p4 p5 = spells_program _ _ refl (search rules) (search rules)
+
+-- declaration scope S : output a condition
+an_output_is_one_word : (s a : Name) (p p1 p2 p3 p4 : Pos)
+    → SpellsProgram (scope_of p s (variable.Own kinds.Output p3 a None []))
+    («word» key.Declaration p ∷ «word» key.Scope p1 ∷ type s ∷ sign symbol.Colon p2 ∷ «word» key.Output p3 ∷ name a ∷
+    «word» key.Condition p4 ∷ [])
+an_output_is_one_word s a p p1 p2 p3 p4 = spells_program _ _ refl (search rules) (search rules)
+
+-- declaration scope S : context a condition
+a_context_is_one_word : (s a : Name) (p p1 p2 p3 p4 : Pos)
+    → SpellsProgram (scope_of p s (variable.Own kinds.Context p3 a None []))
+    («word» key.Declaration p ∷ «word» key.Scope p1 ∷ type s ∷ sign symbol.Colon p2 ∷ «word» key.Context p3 ∷ name a ∷
+    «word» key.Condition p4 ∷ [])
+a_context_is_one_word s a p p1 p2 p3 p4 = spells_program _ _ refl (search rules) (search rules)
+
+-- declaration scope S : context output a condition
+a_context_may_be_an_output : (s a : Name) (p p1 p2 p3 p4 p5 : Pos)
+    → SpellsProgram (scope_of p s (variable.Own kinds.ContextOutput p3 a None []))
+    («word» key.Declaration p ∷ «word» key.Scope p1 ∷ type s ∷ sign symbol.Colon p2 ∷ «word» key.Context p3 ∷ «word»
+    key.Output p4 ∷ name a
+    ∷ «word» key.Condition p5 ∷ [])
+a_context_may_be_an_output s a p p1 p2 p3 p4 p5 = spells_program _ _ refl (search rules) (search rules)
+
+-- declaration scope S : internal a content list of list of duration
+a_type_may_be_a_list_of_lists : (s a : Name) (p p1 p2 p3 p4 p5 p6 p7 : Pos)
+    → SpellsProgram
+    (scope_of p s (variable.Own kinds.Internal p3 a (Some (record { lists = 2; base = base.Duration; pos = p7 })) []))
+    («word» key.Declaration p ∷ «word» key.Scope p1 ∷ type s ∷ sign symbol.Colon p2 ∷ «word» key.Internal p3 ∷ name a ∷
+    «word» key.Content p4
+    ∷ words pair.ListOf p5 ∷ words pair.ListOf p6 ∷ «word» key.Duration p7 ∷ [])
+a_type_may_be_a_list_of_lists s a p p1 p2 p3 p4 p5 p6 p7 = spells_program _ _ refl (search rules) (search rules)
+
+-- declaration scope S :
+a_scope_may_be_empty : (s : Name) (p p1 p2 : Pos) → SpellsProgram (program (item.Scope p s []))
+    («word» key.Declaration p ∷ «word» key.Scope p1 ∷ type s ∷ sign symbol.Colon p2 ∷ [])
+a_scope_may_be_empty s p p1 p2 = spells_program _ _ refl (search rules) (search rules)
+
+-- declaration scope S : input a condition b scope T
+variables_follow_each_other : (s a b t : Name) (p p1 p2 p3 p4 p5 : Pos)
+    → SpellsProgram (program (item.Scope p s (variable.Own kinds.Input p3 a None [] ∷ variable.Called b t ∷ [])))
+    («word» key.Declaration p ∷ «word» key.Scope p1 ∷ type s ∷ sign symbol.Colon p2 ∷ «word» key.Input p3 ∷ name a ∷
+    «word» key.Condition p4
+    ∷ name b ∷ «word» key.Scope p5 ∷ type t ∷ [])
+variables_follow_each_other s a b t p p1 p2 p3 p4 p5 = spells_program _ _ refl (search rules) (search rules)
+
+-- scope S :
+a_block_may_be_empty : (s : Name) (p p1 : Pos)
+    → SpellsProgram (program (item.Block (record { pos = p; name = s; condition = None; uses = [] })))
+    («word» key.Scope p ∷ type s ∷ sign symbol.Colon p1 ∷ [])
+a_block_may_be_empty s p p1 = spells_program _ _ refl (search rules) (search rules)
+
+-- scope S : rule x fulfilled
+a_rule_may_be_fulfilled : (s x : Name) (p p1 p2 p3 : Pos)
+    → SpellsProgram (block_of p s (uses.Rule no_lead p2 (alone x) None fulfilled.Yes))
+    («word» key.Scope p ∷ type s ∷ sign symbol.Colon p1 ∷ «word» key.Rule p2 ∷ name x ∷ «word» key.Fulfilled p3 ∷ [])
+a_rule_may_be_fulfilled s x p p1 p2 p3 = spells_program _ _ refl (search (rules, phrases)) (search (rules, phrases))
+
+-- scope S : rule x of a under condition c consequence fulfilled
+a_rule_has_parameters_and_a_condition : (s x a c : Name) (p p1 p2 p3 p4 p5 p6 : Pos)
+    → SpellsProgram
+    (block_of p s (uses.Rule no_lead p2 (record { name = x; inner = None; params = a ∷ [] }) (Some (local c))
+    fulfilled.Yes))
+    («word» key.Scope p ∷ type s ∷ sign symbol.Colon p1 ∷ «word» key.Rule p2 ∷ name x ∷ «word» key.Of p3 ∷ name a
+    ∷ words pair.UnderCondition p4 ∷ name c ∷ «word» key.Consequence p5 ∷ «word» key.Fulfilled p6 ∷ [])
+a_rule_has_parameters_and_a_condition s x a c p p1 p2 p3 p4 p5 p6 =
+  spells_program _ _ refl (search (rules, phrases)) (search (rules, phrases))
+
+-- scope S : label l definition x equals a
+a_label_may_stand_alone : (s l x a : Name) (p p1 p2 p3 p4 : Pos)
+    → SpellsProgram
+    (block_of p s (uses.Definition (record { label = Some (record { pos = p2; name = l }); exception = exception.No })
+    p3 (alone x) None (local a)))
+    («word» key.Scope p ∷ type s ∷ sign symbol.Colon p1 ∷ «word» key.Label p2 ∷ name l ∷ «word» key.Definition p3 ∷ name
+    x ∷ «word» key.Equals p4
+    ∷ name a ∷ [])
+a_label_may_stand_alone s l x a p p1 p2 p3 p4 =
+  spells_program _ _ refl (search (rules, phrases)) (search (rules, phrases))
+
+-- scope S : date round decreasing assertion a
+uses_follow_each_other : (s a : Name) (p p1 p2 p3 p4 : Pos)
+    → SpellsProgram
+    (program (item.Block
+    (record { pos = p; name = s; condition = None; uses = uses.DateRound p2 false ∷ uses.Assertion p4 (local a) ∷ []
+    })))
+    («word» key.Scope p ∷ type s ∷ sign symbol.Colon p1 ∷ words pair.DateRound p2 ∷ «word» key.Decreasing p3 ∷ «word»
+    key.Assertion p4 ∷ name a ∷ [])
+uses_follow_each_other s a p p1 p2 p3 p4 = spells_program _ _ refl (search (rules, phrases)) (search (rules, phrases))
+
+-- declaration scope S : scope S :
+items_follow_each_other : (s : Name) (p p1 p2 p3 p4 : Pos)
+    → SpellsProgram
+    (record { items = item.Scope p s [] ∷ item.Block (record { pos = p3; name = s; condition = None; uses = [] }) ∷ []
+    })
+    («word» key.Declaration p ∷ «word» key.Scope p1 ∷ type s ∷ sign symbol.Colon p2 ∷ «word» key.Scope p3 ∷ type s ∷
+    sign symbol.Colon p4 ∷ [])
+items_follow_each_other s p p1 p2 p3 p4 = spells_program _ _ refl (search rules) (search rules)
 
 -- ---- trees that no tokens spell
 
