@@ -220,7 +220,7 @@ a_rule_has_parameters_and_a_condition : (s x a c : Name) (p p1 p2 p3 p4 p5 p6 : 
     («word» key.Scope p ∷ type s ∷ sign symbol.Colon p1 ∷ «word» key.Rule p2 ∷ name x ∷ «word» key.Of p3 ∷ name a
     ∷ words pair.UnderCondition p4 ∷ name c ∷ «word» key.Consequence p5 ∷ «word» key.Fulfilled p6 ∷ [])
 a_rule_has_parameters_and_a_condition s x a c p p1 p2 p3 p4 p5 p6 =
-  spells_program _ _ refl (search (rules, phrases)) (search (rules, phrases))
+    spells_program _ _ refl (search (rules, phrases)) (search (rules, phrases))
 
 -- scope S : label l definition x equals a
 a_label_may_stand_alone : (s l x a : Name) (p p1 p2 p3 p4 : Pos)
@@ -231,13 +231,17 @@ a_label_may_stand_alone : (s l x a : Name) (p p1 p2 p3 p4 : Pos)
     x ∷ «word» key.Equals p4
     ∷ name a ∷ [])
 a_label_may_stand_alone s l x a p p1 p2 p3 p4 =
-  spells_program _ _ refl (search (rules, phrases)) (search (rules, phrases))
+    spells_program _ _ refl (search (rules, phrases)) (search (rules, phrases))
 
 -- scope S : date round decreasing assertion a
 uses_follow_each_other : (s a : Name) (p p1 p2 p3 p4 : Pos)
     → SpellsProgram
     (program (item.Block
-    (record { pos = p; name = s; condition = None; uses = uses.DateRound p2 false ∷ uses.Assertion p4 (local a) ∷ []
+    (record {
+      pos = p;
+      name = s;
+      condition = None;
+      uses = uses.DateRound p2 false ∷ uses.Assertion p4 (local a) ∷ [];
     })))
     («word» key.Scope p ∷ type s ∷ sign symbol.Colon p1 ∷ words pair.DateRound p2 ∷ «word» key.Decreasing p3 ∷ «word»
     key.Assertion p4 ∷ name a ∷ [])
@@ -246,7 +250,8 @@ uses_follow_each_other s a p p1 p2 p3 p4 = spells_program _ _ refl (search (rule
 -- declaration scope S : scope S :
 items_follow_each_other : (s : Name) (p p1 p2 p3 p4 : Pos)
     → SpellsProgram
-    (record { items = item.Scope p s [] ∷ item.Block (record { pos = p3; name = s; condition = None; uses = [] }) ∷ []
+    (record {
+      items = item.Scope p s [] ∷ item.Block (record { pos = p3; name = s; condition = None; uses = [] }) ∷ [];
     })
     («word» key.Declaration p ∷ «word» key.Scope p1 ∷ type s ∷ sign symbol.Colon p2 ∷ «word» key.Scope p3 ∷ type s ∷
     sign symbol.Colon p4 ∷ [])
