@@ -10,7 +10,7 @@ use Rattle.cat_scope.specs.declared.defs.Except.TheVariants as except
 use Rattle.cat_scope.specs.declared.defs.Def.{Def}
 use Rattle.cat_scope.specs.declared.expr.Expr.{Expr}
 use Rattle.cat_scope.specs.declared.expr.Expr.TheVariants as leaf
-use Rattle.cat_scope.specs.Readings.{integer}
+use Rattle.cat_scope.specs.Projections.{integer}
 use Rattle.cat_scope.specs.Running.{run_of}
 use Rattle.cat_scope.specs.Targets.{judge_target}
 use Rattle.cat_scope.proofs.Equations.{equations}

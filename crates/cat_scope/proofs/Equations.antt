@@ -19,13 +19,13 @@ use Rattle.cat_scope.specs.declared.expr.Expr.TheFolds.{fold-Arm, fold_out-Arm}
 use Rattle.cat_value.specs.declared.value.Value.TheVariants as flat
 use Rattle.cat_value.specs.declared.value.Value.TheViews as value
 use Rattle.cat_scope.specs.declared.stop.Stop.{Stop}
-use Rattle.cat_scope.specs.Replies.{on_one, known, done}
+use Rattle.cat_scope.specs.Replies.{on_one, known, evaluated}
 use Rattle.cat_scope.specs.Runs.{Decider, Run, plain, gives, behind, and_then, giving, in_front, choose}
-use Rattle.cat_scope.specs.Readings.{case_of}
+use Rattle.cat_scope.specs.Projections.{case_of}
 use Rattle.cat_scope.specs.Operators.{convert, operate}
 use Rattle.cat_scope.specs.Lists.{for_all, exists, mapped, filtered, combined, contained, zero_of, summed}
 use Rattle.cat_scope.specs.Eval.{Env, eval, eval_all, eval_fields, eval_arms, meaning_of, field_meaning, arm_meaning}
-use Rattle.cat_scope.specs.Composed.{Meaning, literal_value, part, all_of, fields_of, structured, arm_value, matched}
+use Rattle.cat_scope.specs.Composed.{Meaning, literal_value, part, all_of, field_values, structured, arm_value, matched}
 use Rattle.cat_scope.specs.Composed.{listed}
 
 abbrev pub Field : Type 0
@@ -49,7 +49,7 @@ unfolding eval
 field_is env f =
     search (rules, expr.the_lemmas, fold_out-FieldValue Meaning Branch Field (meaning_of env) arm_meaning field_meaning)
 
-fields_are : (env : Env) (fs : List FieldValue) (locals : List Value) → fields_of (map (field env) fs) locals
+fields_are : (env : Env) (fs : List FieldValue) (locals : List Value) → field_values (map (field env) fs) locals
     ≡ eval_fields env fs locals
 fields_are env [] locals = refl
 fields_are env (f ∷ fs) locals = rw (field_is env f)
@@ -89,7 +89,7 @@ eval_Literal env p l locals = search (
 )
 
 pub eval_Item : (env : Env) (p : Pos) (item : ℕ) (locals : List Value) → eval env (leaf.Item p item) locals ≡ plain
-    (done (slice_get env.items item))
+    (evaluated (slice_get env.items item))
 unfolding eval
 eval_Item env p item locals = search (
   rules,
@@ -101,7 +101,7 @@ eval_Item env p item locals = search (
 )
 
 pub eval_Output : (env : Env) (p : Pos) (item : ℕ) (k : ℕ) (locals : List Value) → eval env (leaf.Output p item k)
-    locals ≡ plain (on_one (done (slice_get env.items item)) (part k))
+    locals ≡ plain (on_one (evaluated (slice_get env.items item)) (part k))
 unfolding eval
 eval_Output env p item k locals = search (
   rules,

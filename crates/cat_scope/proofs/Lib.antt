@@ -11,7 +11,7 @@ mod Contexts
 mod ForestSamples
 mod DeciderSamples
 pub mod BareProgram
-mod WrongReadings
+mod WrongMeanings
 mod Forms
 mod FunctionSamples
 mod OperatorSamples

@@ -14,7 +14,7 @@ use Rattle.cat_scope.specs.Names.{items_in}
 use Rattle.cat_scope.specs.Judging.{Judged}
 use Rattle.cat_scope.specs.Targets.{judge_target, absent, value_or}
 use Rattle.cat_scope.specs.Eval.{Env, eval}
-use Rattle.cat_scope.specs.Composed.{given}
+use Rattle.cat_scope.specs.Composed.{value_given}
 
 -- the values of items: none for one that is not done, not given or a function, and for a called scope the structure of
 -- its outputs
@@ -54,7 +54,7 @@ call_entry item None = if must_be_given item.kind && item.condition then Some (B
 -- the input of a scope call, from item n on
 abbrev pub call_input : ℕ → List (ℕ × Value) → List ItemDecl → Items
 call_input n fields [] = []
-call_input n fields (item ∷ items) = call_entry item (given n fields) ∷ call_input (n + 1) fields items
+call_input n fields (item ∷ items) = call_entry item (value_given n fields) ∷ call_input (n + 1) fields items
 
 -- an output of a scope, for the fields of a scope call
 abbrev pub scope_call : Scoped → ℕ → List (ℕ × Value) → ℕ → Run Value
@@ -68,8 +68,9 @@ env_of scoped calls values =
     record { rounding = scoped.body.rounding; items = values; call = calls; scope_call = scope_call scoped }
 
 -- a target, where functions give what `calls` tells and the items have these values
-abbrev pub judged : Scoped → (ℕ → List Value → Run Value) → Items → List Value → Target → Judged Value
-judged scoped calls values arguments target = judge_target (λ e. eval (env_of scoped calls values) e arguments) target
+abbrev pub judging_of : Scoped → (ℕ → List Value → Run Value) → Items → List Value → Target → Judged Value
+judging_of scoped calls values arguments target =
+  judge_target (λ e. eval (env_of scoped calls values) e arguments) target
     scoped.body.defs
 
 -- the value of a variable or a function, by its judging: where it is Empty, false for a condition, else NoValue at its
@@ -85,5 +86,5 @@ call scoped values [] function arguments = stops Stuck
 call scoped values (item ∷ before) function arguments =
     if nat_eq item function
     then variable_value (variable scoped item) (slice_get scoped.items item)
-    (judged scoped (call scoped values before) values arguments (variable scoped item))
+    (judging_of scoped (call scoped values before) values arguments (variable scoped item))
     else call scoped values before function arguments

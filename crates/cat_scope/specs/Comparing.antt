@@ -12,7 +12,7 @@ use Rattle.cat_value.specs.declared.value.Value.TheViews.{out-Value}
 use Rattle.cat_scope.specs.declared.stop.Stop.{Stop}
 use Rattle.cat_scope.specs.declared.stop.Stop.TheVariants.{Stuck}
 use Rattle.cat_scope.specs.Replies.{on_one, dated}
-use Rattle.cat_scope.specs.Readings.{truth, integer, decimal, money, date, duration}
+use Rattle.cat_scope.specs.Projections.{truth, integer, decimal, money, date, duration}
 
 -- how two values of one type stand to each other
 abbrev pub compared_in : Pos → Value-F Value → Value → Result Ordering Stop

@@ -13,7 +13,7 @@ use Rattle.cat_scope.specs.declared.expr.ArmPattern.{ArmPattern}
 use Rattle.cat_scope.specs.declared.expr.ArmPattern.TheVariants as pattern
 use Rattle.cat_scope.specs.Replies.{Reply, on_one, known, with_front}
 use Rattle.cat_scope.specs.Runs.{Run, plain, gives, stops, and_then, giving, in_front}
-use Rattle.cat_scope.specs.Readings.{elements, parts}
+use Rattle.cat_scope.specs.Projections.{elements, parts}
 
 -- what an expression gives, where its local names have these values
 abbrev pub Meaning : Type 0
@@ -38,19 +38,19 @@ all_of [] locals = gives []
 all_of (e ∷ es) locals = in_front (e locals) (all_of es locals)
 
 -- the values of some fields, in written order
-abbrev pub fields_of : List (ℕ × Meaning) → List Value → Run (List (ℕ × Value))
-fields_of [] locals = gives []
-fields_of (f ∷ fs) locals = in_front (and_then (f.1 locals) (λ v. gives (f.0, v))) (fields_of fs locals)
+abbrev pub field_values : List (ℕ × Meaning) → List Value → Run (List (ℕ × Value))
+field_values [] locals = gives []
+field_values (f ∷ fs) locals = in_front (and_then (f.1 locals) (λ v. gives (f.0, v))) (field_values fs locals)
 
 -- what is given for number k
-abbrev pub given : ℕ → List (ℕ × Value) → Option Value
-given k [] = None
-given k (f ∷ fs) = if nat_eq k f.0 then Some f.1 else given k fs
+abbrev pub value_given : ℕ → List (ℕ × Value) → Option Value
+value_given k [] = None
+value_given k (f ∷ fs) = if nat_eq k f.0 then Some f.1 else value_given k fs
 
 -- what is given for n numbers from k on, in their order
 abbrev pub in_order : ℕ → ℕ → List (ℕ × Value) → Result (List Value) Stop
 in_order zero k fs = Ok []
-in_order (suc n) k fs = with_front (known (given k fs)) (in_order n (k + 1) fs)
+in_order (suc n) k fs = with_front (known (value_given k fs)) (in_order n (k + 1) fs)
 
 -- a structure of the values of its fields, in the order of their declarations
 abbrev pub structured : List (ℕ × Value) → Reply

@@ -12,12 +12,12 @@ use Rattle.cat_scope.specs.declared.expr.FieldValue.{FieldValue}
 use Rattle.cat_scope.specs.declared.expr.Arm.{Arm}
 use Rattle.cat_scope.specs.declared.expr.Expr.TheOpen.{Expr-F, FieldValue-F, Arm-F}
 use Rattle.cat_scope.specs.declared.expr.Expr.TheFolds.{fold-Expr}
-use Rattle.cat_scope.specs.Replies.{on_one, known, done}
+use Rattle.cat_scope.specs.Replies.{on_one, known, evaluated}
 use Rattle.cat_scope.specs.Runs.{Run, plain, gives, stops, and_then, giving, in_front, choose}
-use Rattle.cat_scope.specs.Readings.{case_of}
+use Rattle.cat_scope.specs.Projections.{case_of}
 use Rattle.cat_scope.specs.Operators.{convert, operate}
 use Rattle.cat_scope.specs.Lists.{for_all, exists, mapped, filtered, combined, contained, zero_of, summed}
-use Rattle.cat_scope.specs.Composed.{Meaning, literal_value, part, all_of, fields_of, structured, arm_value, matched}
+use Rattle.cat_scope.specs.Composed.{Meaning, literal_value, part, all_of, field_values, structured, arm_value, matched}
 use Rattle.cat_scope.specs.Composed.{listed}
 
 -- what an expression stands in: what becomes of a day that its month lacks, the values of the items that are done, what
@@ -31,8 +31,8 @@ pub record Env : Type 0 where
 -- an expression's value, where each part has its meaning in its place
 abbrev pub meaning_of : Env → Expr-F Meaning (ArmPattern × Meaning) (ℕ × Meaning) → Meaning
 meaning_of env (Expr-F.Literal p l) locals = gives (literal_value l)
-meaning_of env (Expr-F.Item p item) locals = plain (done (slice_get env.items item))
-meaning_of env (Expr-F.Output p item k) locals = plain (on_one (done (slice_get env.items item)) (part k))
+meaning_of env (Expr-F.Item p item) locals = plain (evaluated (slice_get env.items item))
+meaning_of env (Expr-F.Output p item k) locals = plain (on_one (evaluated (slice_get env.items item)) (part k))
 meaning_of env (Expr-F.Local p k) locals = plain (known (slice_get locals k))
 meaning_of env (Expr-F.Field p e k) locals = giving (e locals) (part k)
 meaning_of env (Expr-F.Unary p o e) locals = giving (e locals) (convert o p)
@@ -47,14 +47,15 @@ meaning_of env (Expr-F.IsCase p e n k) locals =
     giving (e locals) (λ v. on_one (case_of v) (λ c. Ok (flat.Boolean (nat_eq c.0 k))))
 meaning_of env (Expr-F.Case p n k None) locals = gives (value.Case k None)
 meaning_of env (Expr-F.Case p n k (Some e)) locals = and_then (e locals) (λ v. gives (value.Case k (Some v)))
-meaning_of env (Expr-F.Structure p n fields) locals = giving (fields_of fields locals) structured
+meaning_of env (Expr-F.Structure p n fields) locals = giving (field_values fields locals) structured
 meaning_of env (Expr-F.List p es) locals = and_then (all_of es locals) (λ vs. gives (value.List vs))
 meaning_of env (Expr-F.ForAll p l test) locals = and_then (listed l locals) (for_all (λ v. test (locals ++ v ∷ [])))
 meaning_of env (Expr-F.Exists p l test) locals = and_then (listed l locals) (exists (λ v. test (locals ++ v ∷ [])))
 meaning_of env (Expr-F.Map p l e) locals =
     and_then (listed l locals) (λ vs. and_then (mapped (λ v. e (locals ++ v ∷ [])) vs) (λ ws. gives (value.List ws)))
 meaning_of env (Expr-F.Filter p l test) locals =
-    and_then (listed l locals) (λ vs. and_then (filtered (λ v. test (locals ++ v ∷ [])) vs) (λ ws. gives (value.List ws)))
+    and_then (listed l locals) (λ vs. and_then (filtered (λ v. test (locals ++ v ∷ [])) vs)
+      (λ ws. gives (value.List ws)))
 meaning_of env (Expr-F.Combine p l start e) locals =
     and_then (listed l locals) (λ vs. and_then (start locals) (combined (λ v before. e (locals ++ v ∷ before ∷ [])) vs))
 meaning_of env (Expr-F.Contains p at l e) locals =
@@ -62,7 +63,8 @@ meaning_of env (Expr-F.Contains p at l e) locals =
 meaning_of env (Expr-F.Length p l) locals = and_then (listed l locals) (λ vs. gives (flat.Integer (pos (length vs))))
 meaning_of env (Expr-F.Sum p kind l) locals = giving (listed l locals) (λ vs. summed kind p vs (zero_of kind))
 meaning_of env (Expr-F.Call p f es) locals = and_then (all_of es locals) (env.call f)
-meaning_of env (Expr-F.ScopeCall p s fields k) locals = and_then (fields_of fields locals) (λ fs. env.scope_call s fs k)
+meaning_of env (Expr-F.ScopeCall p s fields k) locals =
+  and_then (field_values fields locals) (λ fs. env.scope_call s fs k)
 
 -- a field with its number
 abbrev pub field_meaning : FieldValue-F Meaning (ArmPattern × Meaning) (ℕ × Meaning) → ℕ × Meaning

@@ -62,14 +62,15 @@ targets_of ds scope items (item ∷ order) = places_of ds scope item (slice_get 
     order
 
 -- the numbers of some definitions
-abbrev pub numbers_of : List Numbered → List ℕ
-numbers_of [] = []
-numbers_of (d ∷ ds) = d.0 ∷ numbers_of ds
+abbrev pub definition_numbers : List Numbered → List ℕ
+definition_numbers [] = []
+definition_numbers (d ∷ ds) = d.0 ∷ definition_numbers ds
 
 -- groups from number n on, each with the numbers of its definitions and of the groups that except it
 abbrev pub forest_groups : List (ℕ × ℕ) → ℕ → List Group → List ForestGroup
 forest_groups pairs n [] = []
-forest_groups pairs n (g ∷ gs) = record { defs = numbers_of g.defs; excepted_by = excepting pairs n } ∷ forest_groups
+forest_groups pairs n (g ∷ gs) = record { defs = definition_numbers g.defs; excepted_by = excepting pairs n } ∷
+  forest_groups
     pairs (n + 1) gs
 
 -- all groups of a target

@@ -67,9 +67,10 @@ abbrev pub groups_of : List Numbered → List Group
 groups_of defs = groups_from defs [] defs
 
 -- the numbers, from n on, of the groups that pass a test
-abbrev pub numbers_of : (Group → Bool) → ℕ → List Group → List ℕ
-numbers_of passes n [] = []
-numbers_of passes n (g ∷ gs) = if passes g then n ∷ numbers_of passes (n + 1) gs else numbers_of passes (n + 1) gs
+abbrev pub group_numbers : (Group → Bool) → ℕ → List Group → List ℕ
+group_numbers passes n [] = []
+group_numbers passes n (g ∷ gs) = if passes g then n ∷ group_numbers passes (n + 1) gs else group_numbers passes (n + 1)
+  gs
 
 -- no exception
 abbrev pub is_none : Except → Bool
@@ -79,7 +80,7 @@ is_none (except.Named pos label) = false
 
 -- the groups that are no exceptions
 abbrev pub roots_of : List Group → List ℕ
-roots_of groups = numbers_of (λ g. is_none g.except) 0 groups
+roots_of groups = group_numbers (λ g. is_none g.except) 0 groups
 
 -- the one number of a list, where it has one alone
 abbrev pub only : List ℕ → Option ℕ
@@ -91,7 +92,7 @@ only (n ∷ m ∷ ns) = None
 abbrev pub target_of : List Group → Except → Option ℕ
 target_of groups except.No = None
 target_of groups (except.OnlyRoot pos) = only (roots_of groups)
-target_of groups (except.Named pos label) = only (numbers_of (λ g. same_key (Labelled label.text) g.key) 0 groups)
+target_of groups (except.Named pos label) = only (group_numbers (λ g. same_key (Labelled label.text) g.key) 0 groups)
 
 -- group g in front, with the group that it excepts, where there is one
 abbrev pub paired : ℕ → Option ℕ → List (ℕ × ℕ) → List (ℕ × ℕ)

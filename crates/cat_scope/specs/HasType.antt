@@ -5,8 +5,9 @@ use Rattle.cat_value.specs.declared.ty.Ty.TheVariants as flat
 use Rattle.cat_value.specs.declared.ty.Ty.TheViews as ty
 use Rattle.cat_scope.specs.declared.expr.Expr.TheVariants as leaf
 use Rattle.cat_scope.specs.declared.expr.Expr.TheViews as expr
-use Rattle.cat_scope.specs.Rules.{Pos, Ty, Expr, Literal, UnaryOp, BinaryOp, SumKind, Arm, FieldValue, Names, Row}
-use Rattle.cat_scope.specs.Rules.{literal_type, literal_fits, rows_of, taken_by, given_by, summed_type, compared_types}
+use Rattle.cat_scope.specs.Rules.{Pos, Ty, Expr, Literal, UnaryOp, BinaryOp, SumKind, Arm, FieldValue, Names, Signature}
+use Rattle.cat_scope.specs.Rules.{literal_type, literal_fits, signatures_of, taken_by, given_by, summed_type}
+use Rattle.cat_scope.specs.Rules.{compared_types}
 use Rattle.cat_scope.specs.Rules.{IsOneOf, is_plain, IsItem, IsCalledOutput, IsFunction, IsOutput, is_type, is_low_type}
 use Rattle.cat_scope.specs.Rules.{most_elements, has_case, content_of, field_type, are_fields_of, numbers_in}
 use Rattle.cat_scope.specs.Rules.{ArmLocals, are_complete, are_call_fields, input_type}
@@ -29,7 +30,7 @@ mutual
     unary : {ls : List Ty} {p : Pos} {o : UnaryOp} {e : Expr} → HasType ns ls e (taken_by o)
         → HasType ns ls (expr.Unary p o e) (given_by o)
     -- an operator between operands of the types of one of its rows
-    binary : {ls : List Ty} {p q : Pos} {o : BinaryOp} {a b : Expr} (r : Row) → IsOneOf r (rows_of o)
+    binary : {ls : List Ty} {p q : Pos} {o : BinaryOp} {a b : Expr} (r : Signature) → IsOneOf r (signatures_of o)
         → HasType ns ls a r.left → HasType ns ls b r.right → HasType ns ls (expr.Binary p o q a b) r.result
     -- `and` of two booleans
     both : {ls : List Ty} {p : Pos} {a b : Expr} → HasType ns ls a flat.Boolean → HasType ns ls b flat.Boolean

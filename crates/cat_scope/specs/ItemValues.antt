@@ -15,7 +15,8 @@ use Rattle.cat_scope.specs.Replies.{on_one}
 use Rattle.cat_scope.specs.Runs.{Run, gives, stops, and_then, giving, in_front}
 use Rattle.cat_scope.specs.Judging.{Held, Judged, decided}
 use Rattle.cat_scope.specs.Targets.{absent}
-use Rattle.cat_scope.specs.Calls.{Items, Scoped, variable, variable_of_called, items_of, judged, variable_value, call}
+use Rattle.cat_scope.specs.Calls.{Items, Scoped, variable, variable_of_called, items_of, judging_of, variable_value}
+use Rattle.cat_scope.specs.Calls.{call}
 
 -- an input or a context of a called scope: nothing where a context is Empty
 abbrev pub passed : Target → Pos → ItemDecl → Option (Held Value) → Result (Option Value) Stop
@@ -34,7 +35,8 @@ passed_input judged_at target_at place n (decl ∷ decls) = in_front
 -- a called scope: its inputs and contexts are judged, and then it is run
 abbrev pub called_value : Scoped → List ℕ → Items → ℕ → ItemDecl → ℕ → Run Value
 called_value scoped before values item decl called =
-    and_then (passed_input (λ n. judged scoped (call scoped values before) values [] (variable_of_called scoped item n))
+    and_then (passed_input (λ n. judging_of scoped (call scoped values before) values []
+      (variable_of_called scoped item n))
     (variable_of_called scoped item) decl.pos 0 (items_of scoped called))
     (λ input. and_then (scoped.runs called input) (λ outputs. gives (value.Structure outputs)))
 
@@ -42,7 +44,7 @@ called_value scoped before values item decl called =
 abbrev pub defined_value : Scoped → List ℕ → Items → ℕ → ItemDecl → List Ty → Run (Option Value)
 defined_value scoped before values item decl [] = and_then
     (variable_value (variable scoped item) (Some decl)
-    (decided (variable scoped item) (judged scoped (call scoped values before) values [] (variable scoped item))))
+    (decided (variable scoped item) (judging_of scoped (call scoped values before) values [] (variable scoped item))))
     (λ v. gives (Some v))
 defined_value scoped before values item decl (t ∷ ts) = gives None
 

@@ -1,6 +1,6 @@
 -- the meaning of programs
 pub mod Replies
-pub mod Readings
+pub mod Projections
 pub mod Runs
 pub mod Comparing
 pub mod Operators

@@ -17,7 +17,7 @@ use Rattle.cat_scope.specs.declared.operators.UnaryOp.TheVariants as unary
 use Rattle.cat_scope.specs.declared.operators.BinaryOp.{BinaryOp}
 use Rattle.cat_scope.specs.declared.operators.BinaryOp.TheVariants as binary
 use Rattle.cat_scope.specs.Replies.{Reply, on_one, exact, dated}
-use Rattle.cat_scope.specs.Readings.{truth, integer, decimal, money, date, duration}
+use Rattle.cat_scope.specs.Projections.{truth, integer, decimal, money, date, duration}
 use Rattle.cat_scope.specs.Comparing.{compared, is_less, is_greater, differ, equal}
 
 -- a whole number as a fraction

@@ -25,9 +25,9 @@ known (Some a) = Ok a
 known None = Err Stuck
 
 -- the value of an item that is done
-abbrev pub done : Option (Option Value) → Reply
-done (Some value) = known value
-done None = Err Stuck
+abbrev pub evaluated : Option (Option Value) → Reply
+evaluated (Some value) = known value
+evaluated None = Err Stuck
 
 -- one more in front of those that follow, or the first stop
 abbrev pub with_front : {A : Type 0} → Result A Stop → Result (List A) Stop → Result (List A) Stop

@@ -12,7 +12,7 @@ pub use Rattle.cat_scope.specs.declared.expr.Expr.{Expr}
 pub use Rattle.cat_scope.specs.declared.expr.FieldValue.{FieldValue}
 pub use Rattle.cat_scope.specs.declared.expr.Arm.{Arm}
 pub use Rattle.cat_scope.specs.Literals.{literal_type, literal_fits}
-pub use Rattle.cat_scope.specs.Signatures.{Row, rows_of, taken_by, given_by, summed_type, compared_types}
+pub use Rattle.cat_scope.specs.Signatures.{Signature, signatures_of, taken_by, given_by, summed_type, compared_types}
 pub use Rattle.cat_scope.specs.Names.{Names, IsOneOf, is_plain}
 pub use Rattle.cat_scope.specs.Naming.{IsItem, IsCalledOutput, IsFunction, IsOutput}
 pub use Rattle.cat_scope.specs.Fitting.{numbers_in, are_complete, ArmLocals, field_type, are_fields_of, is_low_type}

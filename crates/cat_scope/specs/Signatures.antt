@@ -9,18 +9,18 @@ use Rattle.cat_scope.specs.declared.operators.BinaryOp.TheVariants as binary
 use Rattle.cat_scope.specs.declared.operators.SumKind.{SumKind}
 use Rattle.cat_scope.specs.declared.operators.SumKind.TheVariants as sum
 
--- a row of the table: the types of the left and of the right operand, and that of the result
-pub record Row : Type 0 where
+-- a signature: the types of the left and of the right operand, and that of the result
+pub record Signature : Type 0 where
   pub left : Ty
   pub right : Ty
   pub result : Ty
 
--- the one row of an operator
-abbrev pub row : Ty → Ty → Ty → List Row
-row left right result = record { left = left; right = right; result = result } ∷ []
+-- the one signature of an operator
+abbrev pub signature : Ty → Ty → Ty → List Signature
+signature left right result = record { left = left; right = right; result = result } ∷ []
 
 -- two operands of one type, and a truth value
-abbrev pub comparison : Ty → Row
+abbrev pub comparison : Ty → Signature
 comparison t = record { left = t; right = t; result = Boolean }
 
 -- the types that have an order, and those that have an equality
@@ -31,38 +31,38 @@ ordered_types = Integer ∷ Decimal ∷ Money ∷ Date ∷ Duration ∷ []
 abbrev pub compared_types : List Ty
 compared_types = Boolean ∷ ordered_types
 
--- the rows of an operator between two operands
-abbrev pub rows_of : BinaryOp → List Row
-rows_of binary.AddIntegers = row Integer Integer Integer
-rows_of binary.SubtractIntegers = row Integer Integer Integer
-rows_of binary.MultiplyIntegers = row Integer Integer Integer
-rows_of binary.DivideIntegers = row Integer Integer Decimal
-rows_of binary.AddDecimals = row Decimal Decimal Decimal
-rows_of binary.SubtractDecimals = row Decimal Decimal Decimal
-rows_of binary.MultiplyDecimals = row Decimal Decimal Decimal
-rows_of binary.DivideDecimals = row Decimal Decimal Decimal
-rows_of binary.AddMoney = row Money Money Money
-rows_of binary.SubtractMoney = row Money Money Money
-rows_of binary.MultiplyMoneyByDecimal = row Money Decimal Money
-rows_of binary.MultiplyDecimalByMoney = row Decimal Money Money
-rows_of binary.MultiplyMoneyByInteger = row Money Integer Money
-rows_of binary.MultiplyIntegerByMoney = row Integer Money Money
-rows_of binary.DivideMoneyByDecimal = row Money Decimal Money
-rows_of binary.DivideMoneyByInteger = row Money Integer Money
-rows_of binary.DivideMoney = row Money Money Decimal
-rows_of binary.AddDurationToDate = row Date Duration Date
-rows_of binary.SubtractDurationFromDate = row Date Duration Date
-rows_of binary.SubtractDates = row Date Date Duration
-rows_of binary.AddDurations = row Duration Duration Duration
-rows_of binary.SubtractDurations = row Duration Duration Duration
-rows_of binary.MultiplyDurationByInteger = row Duration Integer Duration
-rows_of binary.Xor = row Boolean Boolean Boolean
-rows_of binary.Less = map comparison ordered_types
-rows_of binary.AtMost = map comparison ordered_types
-rows_of binary.Greater = map comparison ordered_types
-rows_of binary.AtLeast = map comparison ordered_types
-rows_of binary.Equal = map comparison compared_types
-rows_of binary.Unequal = map comparison compared_types
+-- the signatures of an operator between two operands
+abbrev pub signatures_of : BinaryOp → List Signature
+signatures_of binary.AddIntegers = signature Integer Integer Integer
+signatures_of binary.SubtractIntegers = signature Integer Integer Integer
+signatures_of binary.MultiplyIntegers = signature Integer Integer Integer
+signatures_of binary.DivideIntegers = signature Integer Integer Decimal
+signatures_of binary.AddDecimals = signature Decimal Decimal Decimal
+signatures_of binary.SubtractDecimals = signature Decimal Decimal Decimal
+signatures_of binary.MultiplyDecimals = signature Decimal Decimal Decimal
+signatures_of binary.DivideDecimals = signature Decimal Decimal Decimal
+signatures_of binary.AddMoney = signature Money Money Money
+signatures_of binary.SubtractMoney = signature Money Money Money
+signatures_of binary.MultiplyMoneyByDecimal = signature Money Decimal Money
+signatures_of binary.MultiplyDecimalByMoney = signature Decimal Money Money
+signatures_of binary.MultiplyMoneyByInteger = signature Money Integer Money
+signatures_of binary.MultiplyIntegerByMoney = signature Integer Money Money
+signatures_of binary.DivideMoneyByDecimal = signature Money Decimal Money
+signatures_of binary.DivideMoneyByInteger = signature Money Integer Money
+signatures_of binary.DivideMoney = signature Money Money Decimal
+signatures_of binary.AddDurationToDate = signature Date Duration Date
+signatures_of binary.SubtractDurationFromDate = signature Date Duration Date
+signatures_of binary.SubtractDates = signature Date Date Duration
+signatures_of binary.AddDurations = signature Duration Duration Duration
+signatures_of binary.SubtractDurations = signature Duration Duration Duration
+signatures_of binary.MultiplyDurationByInteger = signature Duration Integer Duration
+signatures_of binary.Xor = signature Boolean Boolean Boolean
+signatures_of binary.Less = map comparison ordered_types
+signatures_of binary.AtMost = map comparison ordered_types
+signatures_of binary.Greater = map comparison ordered_types
+signatures_of binary.AtLeast = map comparison ordered_types
+signatures_of binary.Equal = map comparison compared_types
+signatures_of binary.Unequal = map comparison compared_types
 
 -- the type that an operator before one operand takes, and that of its result
 abbrev pub taken_by : UnaryOp → Ty

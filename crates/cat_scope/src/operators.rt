@@ -1,4 +1,4 @@
-// The operators, one variant for each row of the operator table.
+// The operators, one variant for each line of the operator table.
 
 /// What stands before one operand.
 #[derive(Clone, Copy, PartialEq, Eq, Debug)]

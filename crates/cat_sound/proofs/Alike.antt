@@ -29,8 +29,8 @@ use Rattle.cat_scope.specs.declared.operators.BinaryOp.TheVariants as binary
 use Rattle.cat_scope.specs.declared.operators.SumKind.{SumKind}
 use Rattle.cat_scope.specs.Replies.{on_one, known, exact, dated}
 use Rattle.cat_scope.specs.Runs.{Decider, Run, plain, gives, behind, and_then, giving, in_front, either}
-use Rattle.cat_scope.specs.Readings as read
-use Rattle.cat_scope.specs.Readings.{case_of, elements}
+use Rattle.cat_scope.specs.Projections as read
+use Rattle.cat_scope.specs.Projections.{case_of, elements}
 use Rattle.cat_scope.specs.Comparing.{compared, compared_in, equal, equal_in}
 use Rattle.cat_scope.specs.Operators.{on_two, convert, operate}
 use Rattle.cat_scope.specs.Composed.{Meaning, part, structured, arm_locals, arm_value, listed}

@@ -12,7 +12,7 @@ use Rattle.cat_scope.specs.Runs.{Decider, Run, plain, gives, behind, and_then}
 use Rattle.cat_scope.specs.Names.{IsOneOf, is_called, has_none, is_plain}
 use Rattle.cat_scope.specs.Judging.{Judged, place_in, decided}
 use Rattle.cat_scope.specs.Targets.{absent, value_or}
-use Rattle.cat_scope.specs.Calls.{Items, Scoped, variable, judged, variable_value, call}
+use Rattle.cat_scope.specs.Calls.{Items, Scoped, variable, judging_of, variable_value, call}
 use Rattle.cat_scope.specs.ItemValues.{defined_value, ungiven_value, item_value}
 use Rattle.cat_scope.specs.Running.{backwards, entry_at, with_entry, no_values, run_items, run_scoped}
 use Rattle.cat_sound.specs.Given.{values_at, IsLogged}
@@ -56,7 +56,7 @@ module _ (scoped : Scoped) (before : List ℕ) (values : Items) (item : ℕ) (de
   own = variable scoped item
 
   abbrev judging : Judged Value
-  judging = judged scoped (call scoped values before) values [] own
+  judging = judging_of scoped (call scoped values before) values [] own
 
   defined_logged : (ps : List Ty) → IsTrue (has_none ps) → (v : Option Value)
       → (defined_value scoped before values item decl ps).end ≡ Ok v

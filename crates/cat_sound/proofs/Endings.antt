@@ -5,7 +5,7 @@ use Rattle.cat_value.specs.declared.ty.Ty.TheVariants as ty
 use Rattle.cat_value.specs.declared.decls.Decls.{Decls}
 use Rattle.cat_scope.specs.declared.stop.Stop.{Stop}
 use Rattle.cat_scope.specs.declared.stop.Stop.TheVariants as stop
-use Rattle.cat_scope.specs.Readings as read
+use Rattle.cat_scope.specs.Projections as read
 use Rattle.cat_scope.specs.Runs.{Decider, Run, plain, gives, behind, and_then, giving, in_front, either, choose}
 use Rattle.cat_scope.specs.Names.{AllHave}
 use Rattle.cat_sound.specs.Endings.{Allowed, IsEnd, IsDecision, Ended, EndsIn, IsFault, ResultsIn, IsOf}

@@ -21,13 +21,13 @@ use Rattle.cat_scope.specs.declared.expr.Arm.{Arm}
 use Rattle.cat_scope.specs.declared.expr.Expr.TheOpen.{Expr-F}
 use Rattle.cat_scope.specs.declared.expr.Expr.TheVariants as leaf
 use Rattle.cat_scope.specs.declared.expr.Expr.TheViews as expr
-use Rattle.cat_scope.specs.Replies.{on_one, done, known}
+use Rattle.cat_scope.specs.Replies.{on_one, evaluated, known}
 use Rattle.cat_scope.specs.Runs.{plain, gives, and_then}
-use Rattle.cat_scope.specs.Readings.{elements, case_of}
+use Rattle.cat_scope.specs.Projections.{elements, case_of}
 use Rattle.cat_scope.specs.Operators.{convert, operate}
 use Rattle.cat_scope.specs.Lists.{zero_of, mapped, filtered, contained, summed}
 use Rattle.cat_scope.specs.Names.{Names, IsOneOf, is_plain}
-use Rattle.cat_scope.specs.Signatures.{Row, rows_of, taken_by, given_by, summed_type, compared_types}
+use Rattle.cat_scope.specs.Signatures.{Signature, signatures_of, taken_by, given_by, summed_type, compared_types}
 use Rattle.cat_scope.specs.Fitting.{numbers_in, are_complete, field_type, are_fields_of, are_call_fields, input_type}
 use Rattle.cat_scope.specs.Naming.{IsItem, IsCalledOutput, IsFunction, IsOutput}
 use Rattle.cat_scope.specs.HasType.{HasType, AllHaveType, EachHasType, FieldsHaveType, ArmsHaveType}
@@ -36,7 +36,8 @@ use Rattle.cat_scope.specs.Names.{AllHave}
 use Rattle.cat_scope.specs.Eval.{Env, eval, eval_all, eval_fields, eval_arms}
 use Rattle.cat_scope.specs.Literals.{literal_type}
 use Rattle.cat_scope.specs.Composed.{literal_value, part, structured, listed}
-use Rattle.cat_sound.specs.Endings.{Allowed, EndsIn, IsOf, AreOf, IsFieldOf, numbers_of, IsReady, IsCallable, IsEnvOf}
+use Rattle.cat_sound.specs.Endings.{Allowed, EndsIn, IsOf, AreOf, IsFieldOf, field_numbers, IsReady, IsCallable}
+use Rattle.cat_sound.specs.Endings.{IsEnvOf}
 use Rattle.cat_scope.proofs.Exported.{eval_Literal, eval_Item, eval_Output, eval_Local, eval_Field, eval_Unary}
 use Rattle.cat_scope.proofs.Exported.{eval_Binary, eval_And, eval_Or, eval_If, eval_Match, eval_IsCase, eval_Case_None}
 use Rattle.cat_scope.proofs.Exported.{eval_Case_Some, eval_Structure, eval_List, eval_ForAll, eval_Exists, eval_Map}
@@ -55,7 +56,7 @@ use Rattle.cat_sound.proofs.NamedParts.{bodies_of, values_of, env_parts, env_ite
 -- fields with their values are those that are written, of their types
 pub record AreWritten (ds : Decls) (type_of : ℕ → Option Ty) (fields : List FieldValue) (fs : List (ℕ × Value)) : Type 0
   where
-  pub numbers : numbers_of fs ≡ numbers_in fields
+  pub numbers : field_numbers fs ≡ numbers_in fields
   pub typed : AllHave (IsFieldOf ds type_of) fs
 
 -- as many values as expressions, each of a type
@@ -80,14 +81,14 @@ module _ (allowed : Allowed) (ns : Names) (env : Env) (locals : List Value) wher
   on_Item : (p : Pos) (i : ℕ) (t : Ty) → IsReady allowed ns env i → IsItem is_plain ns.items i t
     → Ends t (leaf.Item p i)
   on_Item p i t ready is = ends_as allowed (IsOf ns.decls t) (eval env (leaf.Item p i) locals) _
-    (eval_Item env p i locals) (ends_plain allowed (IsOf ns.decls t) (done (slice_get env.items i))
+    (eval_Item env p i locals) (ends_plain allowed (IsOf ns.decls t) (evaluated (slice_get env.items i))
     (ready.variable t is))
 
   on_Output : (p : Pos) (i k : ℕ) (t : Ty) → IsReady allowed ns env i → IsCalledOutput ns i k t
     → Ends t (leaf.Output p i k)
   on_Output p i k t ready is = ends_as allowed (IsOf ns.decls t) (eval env (leaf.Output p i k) locals) _
     (eval_Output env p i k locals)
-      (ends_plain allowed (IsOf ns.decls t) (on_one (done (slice_get env.items i)) (part k)) (ready.output k t is))
+      (ends_plain allowed (IsOf ns.decls t) (on_one (evaluated (slice_get env.items i)) (part k)) (ready.output k t is))
 
   on_Local : (p : Pos) (ls : List Ty) (k : ℕ) (t : Ty) → AreOf ns.decls ls locals → slice_get ls k ≡ Some t
     → Ends t (leaf.Local p k)
@@ -108,7 +109,8 @@ module _ (allowed : Allowed) (ns : Names) (env : Env) (locals : List Value) wher
       (ends_giving allowed (IsOf ns.decls (taken_by o)) (IsOf ns.decls (given_by o)) (eval env e locals) (convert o p) h
         (λ v hv. conversions_go_on ns.decls p v o hv))
 
-  on_Binary : (p q : Pos) (o : BinaryOp) (a b : Expr) (r : Row) → IsOneOf r (rows_of o) → Ends r.left a → Ends r.right b
+  on_Binary : (p q : Pos) (o : BinaryOp) (a b : Expr) (r : Signature) → IsOneOf r (signatures_of o) → Ends r.left a
+    → Ends r.right b
     → Ends r.result (expr.Binary p o q a b)
   on_Binary p q o a b r is ha hb =
       ends_as allowed (IsOf ns.decls r.result) (eval env (expr.Binary p o q a b) locals) _
@@ -336,7 +338,8 @@ module _ (allowed : Allowed) (ns : Names) (env : Env) (locals : List Value) wher
         (AreWritten ns.decls type_of fs) (AreWritten ns.decls type_of (f ∷ fs))
       (and_then (eval env f.value locals) (λ v. gives (f.field, v))) (eval_fields env fs locals)
         (on_field type_of t f is h) more
-      (λ x xs hx are. record { numbers = ap (λ n. n ∷ numbers_of xs) hx.1 ∙ ap (λ ms. f.field ∷ ms) are.numbers; typed =
+      (λ x xs hx are. record { numbers = ap (λ n. n ∷ field_numbers xs) hx.1 ∙ ap (λ ms. f.field ∷ ms) are.numbers;
+        typed =
         (hx.0, are.typed) })
 
 -- ---- induction on the typing

@@ -30,7 +30,7 @@ use Rattle.cat_scope.specs.declared.expr.Literal.TheVariants as literal
 use Rattle.cat_scope.specs.Literals.{literal_type, literal_fits}
 use Rattle.cat_scope.specs.Composed.{literal_value}
 use Rattle.cat_scope.specs.Replies.{dated}
-use Rattle.cat_scope.specs.Readings as read
+use Rattle.cat_scope.specs.Projections as read
 use Rattle.cat_sound.specs.Endings.{ResultsIn, IsOf}
 use Rattle.cat_sound.proofs.Fits.{numeral_decimal}
 use Rattle.cat_sound.proofs.Results.{result_as}

@@ -23,14 +23,14 @@ use Rattle.cat_scope.specs.declared.expr.ArmPattern.TheVariants as pattern
 use Rattle.cat_scope.specs.declared.expr.Arm.{Arm}
 use Rattle.cat_scope.specs.Replies.{on_one, known}
 use Rattle.cat_scope.specs.Runs.{Run, plain, and_then}
-use Rattle.cat_scope.specs.Readings.{parts, parts_in, case_of, case_in}
+use Rattle.cat_scope.specs.Projections.{parts, parts_in, case_of, case_in}
 use Rattle.cat_scope.specs.Names.{is_in, are_all_in}
 use Rattle.cat_scope.specs.Fitting.{with_case, cases_of, is_anything, ends_in_anything, cases_in, are_complete}
 use Rattle.cat_scope.specs.Fitting.{ArmLocals, field_at, type_in, field_type, are_fields_of}
 use Rattle.cat_scope.specs.Names.{AllHave}
 use Rattle.cat_scope.specs.Eval.{Env, eval, eval_arms}
-use Rattle.cat_scope.specs.Composed.{Meaning, part, given, in_order, structured, arm_locals, arm_value}
-use Rattle.cat_sound.specs.Endings.{Allowed, EndsIn, ResultsIn, IsOf, AreOf, IsFieldOf, numbers_of}
+use Rattle.cat_scope.specs.Composed.{Meaning, part, value_given, in_order, structured, arm_locals, arm_value}
+use Rattle.cat_sound.specs.Endings.{Allowed, EndsIn, ResultsIn, IsOf, AreOf, IsFieldOf, field_numbers}
 use Rattle.cat_sound.proofs.Results.{both, result_as, result_then, result_with_front, result_known, are_more}
 use Rattle.cat_sound.proofs.Endings.{ends_as}
 
@@ -77,30 +77,31 @@ part-ends ds n k t v h is =
 pub record IsGiven (ds : Decls) (type_of : ℕ → Option Ty) (k : ℕ) (fs : List (ℕ × Value)) : Type 0 where
   pub value : Value
   pub ty : Ty
-  pub is : given k fs ≡ Some value
+  pub is : value_given k fs ≡ Some value
   pub type_is : type_of k ≡ Some ty
   pub typed : IsOf ds ty value
 
-given-typed : (ds : Decls) (type_of : ℕ → Option Ty) (fs : List (ℕ × Value)) (k : ℕ) → AllHave (IsFieldOf ds type_of) fs
-  → IsTrue (is_in k (numbers_of fs)) → IsGiven ds type_of k fs
-given-typed ds type_of [] k h there = not_true there
-given-typed ds type_of (f ∷ fs) k h there = by (nat_eq k f.0) refl (given-typed ds type_of fs k h.1)
+value_given-typed : (ds : Decls) (type_of : ℕ → Option Ty) (fs : List (ℕ × Value)) (k : ℕ)
+  → AllHave (IsFieldOf ds type_of) fs
+  → IsTrue (is_in k (field_numbers fs)) → IsGiven ds type_of k fs
+value_given-typed ds type_of [] k h there = not_true there
+value_given-typed ds type_of (f ∷ fs) k h there = by (nat_eq k f.0) refl (value_given-typed ds type_of fs k h.1)
   where
-    by : (b : Bool) → nat_eq k f.0 ≡ b → (IsTrue (is_in k (numbers_of fs)) → IsGiven ds type_of k fs)
+    by : (b : Bool) → nat_eq k f.0 ≡ b → (IsTrue (is_in k (field_numbers fs)) → IsGiven ds type_of k fs)
       → IsGiven ds type_of k (f ∷ fs)
     by true e rest = record {
       value = f.1;
       ty = h.0.0;
-      is = ap (λ b. if b then Some f.1 else given k fs) e;
+      is = ap (λ b. if b then Some f.1 else value_given k fs) e;
       type_is = ap type_of (same_number k f.0 e) ∙ h.0.1;
       typed = h.0.2;
     }
     by false e rest =
-        let more = rest (sym (ap (λ b. if b then true else is_in k (numbers_of fs)) e) ∙ there) in
+        let more = rest (sym (ap (λ b. if b then true else is_in k (field_numbers fs)) e) ∙ there) in
         record {
           value = more.value;
           ty = more.ty;
-          is = ap (λ b. if b then Some f.1 else given k fs) e ∙ more.is;
+          is = ap (λ b. if b then Some f.1 else value_given k fs) e ∙ more.is;
           type_is = more.type_is;
           typed = more.typed;
         }
@@ -114,14 +115,14 @@ all_in (suc n) ns k h below =
 
 -- fields in the order of their declarations, from number k on
 ordered : (ds : Decls) (back : List Field) (k : ℕ) (fs : List (ℕ × Value))
-  → ((j : ℕ) (f : Field) → slice_get back j ≡ Some f → ResultsIn (IsOf ds f.ty) (known (given (k + j) fs)))
+  → ((j : ℕ) (f : Field) → slice_get back j ≡ Some f → ResultsIn (IsOf ds f.ty) (known (value_given (k + j) fs)))
     → ResultsIn (λ vs. IsTrue (fields_have_types ds vs back)) (in_order (length back) k fs)
 ordered ds [] k fs each = refl
 ordered ds (f ∷ back) k fs each =
     result_with_front (IsOf ds f.ty) (λ vs. IsTrue (fields_have_types ds vs back))
-      (λ vs. IsTrue (fields_have_types ds vs (f ∷ back))) (known (given k fs)) (in_order (length back) (k + 1) fs)
-    (subst (λ (m : ℕ). ResultsIn (IsOf ds f.ty) (known (given m fs))) (omega arith) (each 0 f refl))
-    (ordered ds back (k + 1) fs (λ j g is. subst (λ (m : ℕ). ResultsIn (IsOf ds g.ty) (known (given m fs)))
+      (λ vs. IsTrue (fields_have_types ds vs (f ∷ back))) (known (value_given k fs)) (in_order (length back) (k + 1) fs)
+    (subst (λ (m : ℕ). ResultsIn (IsOf ds f.ty) (known (value_given m fs))) (omega arith) (each 0 f refl))
+    (ordered ds back (k + 1) fs (λ j g is. subst (λ (m : ℕ). ResultsIn (IsOf ds g.ty) (known (value_given m fs)))
       (omega arith) (each (suc j) g is)))
     (λ v vs hv hvs. and_both v vs hv hvs)
   where
@@ -129,14 +130,14 @@ ordered ds (f ∷ back) k fs each =
       → IsTrue (fields_have_types ds (v ∷ vs) (f ∷ back))
     and_both v vs hv hvs = ap (λ b. b && fields_have_types ds vs back) hv ∙ hvs
 
-numbers-length : (fs : List (ℕ × Value)) → length (numbers_of fs) ≡ length fs
+numbers-length : (fs : List (ℕ × Value)) → length (field_numbers fs) ≡ length fs
 numbers-length [] = refl
 numbers-length (f ∷ fs) = ap suc (numbers-length fs)
 
 in_place : (ds : Decls) (o : Option (List Field)) (fs : List (ℕ × Value))
   → AllHave (IsFieldOf ds (λ k. type_in (field_at o k))) fs
-    → IsTrue (some_passes (λ fields. nat_eq (length (numbers_of fs)) (length fields) && are_all_in (length fields)
-      (numbers_of fs)) o)
+    → IsTrue (some_passes (λ fields. nat_eq (length (field_numbers fs)) (length fields) && are_all_in (length fields)
+      (field_numbers fs)) o)
     → ResultsIn (λ vs. IsTrue (some_passes (fields_have_types ds vs) o)) (in_order (length fs) 0 fs)
 in_place ds None fs h there = not_true there
 in_place ds (Some fields) fs h there =
@@ -145,18 +146,18 @@ in_place ds (Some fields) fs h there =
     subst (λ (n : ℕ). ResultsIn (λ vs. IsTrue (fields_have_types ds vs fields)) (in_order n 0 fs)) many
     (ordered ds fields 0 fs (λ j f is. one j f is two.1))
   where
-    one : (j : ℕ) (f : Field) → slice_get fields j ≡ Some f → IsTrue (are_all_in (length fields) (numbers_of fs))
-      → ResultsIn (IsOf ds f.ty) (known (given (0 + j) fs))
+    one : (j : ℕ) (f : Field) → slice_get fields j ≡ Some f → IsTrue (are_all_in (length fields) (field_numbers fs))
+      → ResultsIn (IsOf ds f.ty) (known (value_given (0 + j) fs))
     one j f is all =
-        let found = given-typed ds (λ k. type_in (field_at (Some fields) k)) fs j h
-          (all_in (length fields) (numbers_of fs) j all (slice_get_within fields j f is)) in
+        let found = value_given-typed ds (λ k. type_in (field_at (Some fields) k)) fs j h
+          (all_in (length fields) (field_numbers fs) j all (slice_get_within fields j f is)) in
         let same : f.ty ≡ found.ty = same_some f.ty found.ty (sym (ap type_in is) ∙ found.type_is) in
-        subst (λ (m : ℕ). ResultsIn (IsOf ds f.ty) (known (given m fs))) (omega arith)
-        (result_known (IsOf ds f.ty) (given j fs) found.value found.is
+        subst (λ (m : ℕ). ResultsIn (IsOf ds f.ty) (known (value_given m fs))) (omega arith)
+        (result_known (IsOf ds f.ty) (value_given j fs) found.value found.is
           (subst (λ u. IsOf ds u found.value) (sym same) found.typed))
 
 pub structured-ends : (ds : Decls) (n : ℕ) (fs : List (ℕ × Value)) → AllHave (IsFieldOf ds (field_type ds n)) fs
-  → IsTrue (are_fields_of ds n (numbers_of fs)) → ResultsIn (IsOf ds (ty.Structure n)) (structured fs)
+  → IsTrue (are_fields_of ds n (field_numbers fs)) → ResultsIn (IsOf ds (ty.Structure n)) (structured fs)
 structured-ends ds n fs h there =
     result_then (λ vs. IsTrue (is_structure ds n vs)) (IsOf ds (ty.Structure n)) (in_order (length fs) 0 fs) _
       (in_place ds (fields_of ds n) fs h there)

@@ -13,7 +13,7 @@ use Rattle.cat_scope.specs.Names.{AllHave, is_in}
 use Rattle.cat_scope.specs.Eval.{Env, eval}
 use Rattle.cat_scope.specs.Orders.{in_def, in_defs_of, item_dependencies}
 use Rattle.cat_scope.specs.Mentions.{items_named, scopes_named}
-use Rattle.cat_scope.specs.Calls.{Items, Scoped, variable, env_of, judged, variable_value, call}
+use Rattle.cat_scope.specs.Calls.{Items, Scoped, variable, env_of, judging_of, variable_value, call}
 use Rattle.cat_scope.specs.Running.{moved, backwards}
 use Rattle.cat_sound.specs.Rests.{TellSame, CallSame}
 use Rattle.cat_sound.proofs.FormTypes.{same_number, not_true}
@@ -156,7 +156,7 @@ module _ (scoped : Scoped) where
 
   judged_as : (calls others : Calls) (values more : Items) (arguments : List Value) (item : ℕ)
       → AllHave (Tells calls others values more) (needs item)
-      → judged scoped calls values arguments (variable scoped item) ≡ judged scoped others more arguments
+      → judging_of scoped calls values arguments (variable scoped item) ≡ judging_of scoped others more arguments
       (variable scoped item)
   judged_as calls others values more arguments item tell =
       target_same (λ e. eval (env_of scoped calls values) e arguments)
@@ -170,7 +170,7 @@ module _ (scoped : Scoped) where
       → IsTrue (is_in f before) → call scoped values (m ∷ before) f arguments ≡ call scoped values before f arguments
   one_behind values m before f arguments out there =
       ap (λ (b : Bool). if b then variable_value (variable scoped m) (slice_get scoped.items m)
-      (judged scoped (call scoped values before) values arguments
+      (judging_of scoped (call scoped values before) values arguments
       (variable scoped m)) else call scoped values before f arguments) (other_than m f before out there)
 
   tells_behind : (values : Items) (m : ℕ) (before ns : List ℕ) → is_in m before ≡ false → AllIn before ns
@@ -184,7 +184,7 @@ module _ (scoped : Scoped) where
   abbrev Judging : Items → List ℕ → ℕ → List Value → Run Value
   Judging values before f arguments =
       variable_value (variable scoped f) (slice_get scoped.items f)
-      (judged scoped (call scoped values before) values arguments (variable scoped f))
+      (judging_of scoped (call scoped values before) values arguments (variable scoped f))
 
   further : (values : Items) (m : ℕ) (before : List ℕ) (f : ℕ) (arguments : List Value) → is_in m before ≡ false
       → AllIn before (needs f) → Judging values before f arguments ≡ Judging values (m ∷ before) f arguments
@@ -246,7 +246,7 @@ module _ (scoped : Scoped) where
       (call scoped more before) values more) (needs m) behind.1
       (λ n there. record { value = same n (in_behind n m before there); call = λ others. rest n others }))))
       ∙ ap (λ (r : Run Value). if nat_eq m f then variable_value (variable scoped m) (slice_get scoped.items m)
-      (judged scoped (call scoped more before) more arguments (variable scoped m)) else r) (rest f arguments)
+      (judging_of scoped (call scoped more before) more arguments (variable scoped m)) else r) (rest f arguments)
 
   -- ---- by the order
 

@@ -20,7 +20,7 @@ use Rattle.cat_scope.specs.declared.expr.Expr.{Expr}
 use Rattle.cat_scope.specs.declared.defs.Body.{Body}
 use Rattle.cat_scope.specs.declared.defs.Assertion.{Assertion}
 use Rattle.cat_scope.specs.Replies.{known, with_front}
-use Rattle.cat_scope.specs.Readings.{truth}
+use Rattle.cat_scope.specs.Projections.{truth}
 use Rattle.cat_scope.specs.Runs.{Decider, Run, plain, stops, behind, and_then, either}
 use Rattle.cat_scope.specs.Names.{is_in, is_output, items_in, scope_items, outputs_in}
 use Rattle.cat_scope.specs.Eval.{eval}

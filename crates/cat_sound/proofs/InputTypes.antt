@@ -25,12 +25,12 @@ use Rattle.cat_scope.specs.Names.{Names, AllHave, is_in, inputs_given, items_in,
 use Rattle.cat_scope.specs.Fitting.{given_type, input_type}
 use Rattle.cat_scope.specs.Judging.{Held, Judged, decided}
 use Rattle.cat_scope.specs.Targets.{absent}
-use Rattle.cat_scope.specs.Composed.{given}
+use Rattle.cat_scope.specs.Composed.{value_given}
 use Rattle.cat_scope.specs.Calls.{Items, Runs, Scoped, items_of, call_entry, call_input, env_of}
 use Rattle.cat_scope.specs.ItemValues.{passed, passed_input}
 use Rattle.cat_scope.specs.WellFormed.{is_internal, is_placed}
 use Rattle.cat_sound.specs.Settled.{IsHeldOf}
-use Rattle.cat_sound.specs.Endings.{Allowed, Ended, EndsIn, ResultsIn, IsOf, types_of, AreOutputsOf, numbers_of}
+use Rattle.cat_sound.specs.Endings.{Allowed, Ended, EndsIn, ResultsIn, IsOf, types_of, AreOutputsOf, field_numbers}
 use Rattle.cat_sound.specs.Endings.{IsFieldOf, IsCallable}
 use Rattle.cat_sound.proofs.Results.{both, and_both, local_of}
 use Rattle.cat_sound.proofs.Endings.{ends_then, ends_giving, ends_in_front}
@@ -63,22 +63,23 @@ may-must (kind.Called scope) h = not_true h
 
 -- ---- scope calls
 
-given_none : (k : ℕ) (fs : List (ℕ × Value)) → given k fs ≡ None → is_in k (numbers_of fs) ≡ false
+given_none : (k : ℕ) (fs : List (ℕ × Value)) → value_given k fs ≡ None → is_in k (field_numbers fs) ≡ false
 given_none k [] h = refl
 given_none k (f ∷ fs) h = by (nat_eq k f.0) h (given_none k fs)
   where
-    by : (b : Bool) → (if b then Some f.1 else given k fs) ≡ None
-        → (given k fs ≡ None → is_in k (numbers_of fs) ≡ false) → (if b then true else is_in k (numbers_of fs)) ≡ false
+    by : (b : Bool) → (if b then Some f.1 else value_given k fs) ≡ None
+        → (value_given k fs ≡ None → is_in k (field_numbers fs) ≡ false)
+          → (if b then true else is_in k (field_numbers fs)) ≡ false
     by true g rest = absurd (cc)
     by false g rest = rest g
 
 given_field : (ds : Decls) (type_of : ℕ → Option Ty) (k : ℕ) (fs : List (ℕ × Value)) (v : Value)
-    → AllHave (IsFieldOf ds type_of) fs → given k fs ≡ Some v → (t : Ty) × (type_of k ≡ Some t) × IsOf ds t v
+    → AllHave (IsFieldOf ds type_of) fs → value_given k fs ≡ Some v → (t : Ty) × (type_of k ≡ Some t) × IsOf ds t v
 given_field ds type_of k [] v h is = absurd (cc)
 given_field ds type_of k (f ∷ fs) v h is = by (nat_eq k f.0) refl is (given_field ds type_of k fs v h.1)
   where
-    by : (b : Bool) → nat_eq k f.0 ≡ b → (if b then Some f.1 else given k fs) ≡ Some v
-        → (given k fs ≡ Some v → (t : Ty) × (type_of k ≡ Some t) × IsOf ds t v)
+    by : (b : Bool) → nat_eq k f.0 ≡ b → (if b then Some f.1 else value_given k fs) ≡ Some v
+        → (value_given k fs ≡ Some v → (t : Ty) × (type_of k ≡ Some t) × IsOf ds t v)
         → (t : Ty) × (type_of k ≡ Some t) × IsOf ds t v
     by true e g rest =
         (h.0.0, ap type_of (same_number k f.0 e) ∙ h.0.1, subst (λ x. IsOf ds h.0.0 x) (same_some f.1 v g) h.0.2)
@@ -107,16 +108,16 @@ entry_typed ds item None there placed missing fits g =
     (sym (ap (λ b. if must_be_given item.kind && not item.condition then b else true) (missing refl)) ∙ g)
 
 call_input-typed : (ds : Decls) (n : ℕ) (fs : List (ℕ × Value)) (items : List ItemDecl) → AllHave Placed items
-    → ((j : ℕ) (i : ItemDecl) → slice_get items j ≡ Some i → FieldFits ds i (given (n + j) fs))
-    → IsTrue (inputs_given n items (numbers_of fs)) → IsTrue (are_given_for ds items (call_input n fs items))
+    → ((j : ℕ) (i : ItemDecl) → slice_get items j ≡ Some i → FieldFits ds i (value_given (n + j) fs))
+    → IsTrue (inputs_given n items (field_numbers fs)) → IsTrue (are_given_for ds items (call_input n fs items))
 call_input-typed ds n fs [] placed fits h = refl
 call_input-typed ds n fs (item ∷ items) placed fits h =
     let two = both _ _ h in
     and_both _ _
-    (entry_typed ds item (given n fs) (is_in n (numbers_of fs)) placed.0 (given_none n fs)
-    (subst (λ (m : ℕ). FieldFits ds item (given m fs)) (omega arith) (fits 0 item refl)) two.0)
+    (entry_typed ds item (value_given n fs) (is_in n (field_numbers fs)) placed.0 (given_none n fs)
+    (subst (λ (m : ℕ). FieldFits ds item (value_given m fs)) (omega arith) (fits 0 item refl)) two.0)
     (call_input-typed ds (n + 1) fs items placed.1
-    (λ j i is. subst (λ (m : ℕ). FieldFits ds i (given m fs)) (omega arith) (fits (suc j) i is)) two.1)
+    (λ j i is. subst (λ (m : ℕ). FieldFits ds i (value_given m fs)) (omega arith) (fits (suc j) i is)) two.1)
 
 if_given : (b : Bool) (u t : Ty) → (if b then Some u else None) ≡ Some t → IsTrue b × (u ≡ t)
 if_given true u t h = (refl, same_some u t h)
@@ -152,7 +153,7 @@ scope_call-ends allowed ns scoped calls values s same callee fs k t typed comple
     let items : scope_items ns.decls s ≡ callee.scope.items = ap items_in callee.there in
     let input =
     call_input-typed ns.decls 0 fs callee.scope.items callee.placed (fits callee.scope.items items)
-    (subst (λ xs. IsTrue (inputs_given 0 xs (numbers_of fs))) items (both _ _ complete).1) in
+    (subst (λ xs. IsTrue (inputs_given 0 xs (field_numbers fs))) items (both _ _ complete).1) in
     ends_giving allowed (AreOutputsOf ns.decls callee.scope.items) (IsOf ns.decls t)
     (scoped.runs s (call_input 0 fs (items_of scoped s))) (λ outputs. known (slice_get outputs k))
     (subst (λ xs. EndsIn allowed (AreOutputsOf ns.decls callee.scope.items) (scoped.runs s (call_input 0 fs xs)))
@@ -162,11 +163,11 @@ scope_call-ends allowed ns scoped calls values s same callee fs k t typed comple
     (sym (ap (λ xs. slice_get (outputs_in xs) k) items) ∙ output.1)))
   where
     fits : (items : List ItemDecl) → scope_items ns.decls s ≡ items → (j : ℕ) (i : ItemDecl)
-        → slice_get items j ≡ Some i → FieldFits ns.decls i (given (0 + j) fs)
+        → slice_get items j ≡ Some i → FieldFits ns.decls i (value_given (0 + j) fs)
     fits items is j i at v found =
         let field =
         given_field ns.decls (input_type ns.decls s) j fs v typed
-        (subst (λ (m : ℕ). given m fs ≡ Some v) (omega arith) found) in
+        (subst (λ (m : ℕ). value_given m fs ≡ Some v) (omega arith) found) in
         let kind_is =
         if_given (may_be_given i.kind) i.ty field.0
         (sym (ap given_type (ap (λ xs. slice_get xs j) is ∙ at)) ∙ field.1) in

@@ -29,7 +29,7 @@ use Rattle.cat_scope.specs.Eval.{Env, eval}
 use Rattle.cat_scope.specs.Orders.{item_dependencies}
 use Rattle.cat_order.specs.Order.{dependencies_of}
 use Rattle.cat_scope.specs.Names.{AllHave}
-use Rattle.cat_scope.specs.Calls.{Items, Scoped, call, variable_value, judged, variable}
+use Rattle.cat_scope.specs.Calls.{Items, Scoped, call, variable_value, judging_of, variable}
 use Rattle.cat_scope.specs.ItemValues.{defined_value}
 use Rattle.cat_scope.specs.Running.{backwards, run_of, run_scoped}
 use Rattle.cat_scope.proofs.Exported.{equations, namings}
@@ -124,7 +124,7 @@ in_order =
 judged_by_the_rule : (values : Items) (arguments : List Value)
     → call calling values (backwards calling.body.order) 2 arguments
     ≡ variable_value (variable calling 2) (Some (function false))
-    (judged calling (call calling values (backwards calling.body.order)) values arguments (variable calling 2))
+    (judging_of calling (call calling values (backwards calling.body.order)) values arguments (variable calling 2))
 judged_by_the_rule values arguments = by_rule calling in_order values 2 arguments (omega arith)
 
 nothing_behind_it : (values : Items) (arguments : List Value)

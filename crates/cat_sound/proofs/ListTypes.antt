@@ -17,12 +17,12 @@ use Rattle.cat_scope.specs.declared.operators.BinaryOp.TheVariants as binary
 use Rattle.cat_scope.specs.declared.operators.SumKind.{SumKind}
 use Rattle.cat_scope.specs.declared.operators.SumKind.TheVariants as sum
 use Rattle.cat_scope.specs.Runs.{Run, gives, in_front}
-use Rattle.cat_scope.specs.Readings.{elements, elements_in}
+use Rattle.cat_scope.specs.Projections.{elements, elements_in}
 use Rattle.cat_scope.specs.Operators.{operate, over_one}
 use Rattle.cat_scope.specs.Comparing.{equal}
 use Rattle.cat_scope.specs.Lists.{for_all, exists, mapped, filtered, combined, contained, zero_of, adding, summed}
 use Rattle.cat_scope.specs.Names.{IsOneOf}
-use Rattle.cat_scope.specs.Signatures.{Row, summed_type, compared_types}
+use Rattle.cat_scope.specs.Signatures.{Signature, summed_type, compared_types}
 use Rattle.cat_scope.specs.Names.{AllHave}
 use Rattle.cat_sound.specs.Endings.{Allowed, EndsIn, ResultsIn, IsOf}
 use Rattle.cat_sound.proofs.Results.{both, and_both, Any, result_as, result_then}
@@ -156,7 +156,7 @@ zero-typed ds sum.Decimals = of-Decimal ds (over_one (pos 0)) (whole_decimal (po
 zero-typed ds sum.Money = of-Money ds (pos 0) refl
 zero-typed ds sum.Durations = of-Duration ds (record { months = pos 0; days = pos 0 }) refl
 
-abbrev alike : Ty → Row
+abbrev alike : Ty → Signature
 alike t = record { left = t; right = t; result = t }
 
 adding-ends : (ds : Decls) (kind : SumKind) (p : Pos) (v w : Value) → IsOf ds (summed_type kind) v

@@ -23,7 +23,7 @@ use Rattle.cat_scope.specs.Names.{is_in, is_called, has_none, is_plain}
 use Rattle.cat_scope.specs.Judging.{Held, Judged, place_in, decided}
 use Rattle.cat_scope.specs.Targets.{absent, value_or, same_inner, same_target}
 use Rattle.cat_scope.specs.WellFormed.{IsWellFormed}
-use Rattle.cat_scope.specs.Calls.{Items, Scoped, variable, judged, variable_value, call}
+use Rattle.cat_scope.specs.Calls.{Items, Scoped, variable, judging_of, variable_value, call}
 use Rattle.cat_scope.specs.ItemValues.{defined_value, ungiven_value, item_value}
 use Rattle.cat_scope.specs.Running.{backwards, entry_at, with_entry, no_values, run_items, run_scoped, run_scope, run}
 use Rattle.cat_scope.specs.Running.{run_of}
@@ -69,7 +69,7 @@ module _ (scoped : Scoped) (input : Items) where
       (slice_get scoped.items item)
     where
       one : (inner : Option ℕ) (found : Option (Held Value))
-          → (judged scoped (call scoped values (backwards front)) values [] (target_in scoped item inner)).end
+          → (judging_of scoped (call scoped values (backwards front)) values [] (target_in scoped item inner)).end
           ≡ Ok found
           → Made (record { target = target_in scoped item inner; by = place_in found } ∷ [])
       one inner found is = logs.own (record { target = target_in scoped item inner; by = place_in found }) (record {
@@ -173,7 +173,7 @@ module _ (scoped : Scoped) (input : Items) (item : ℕ) (decl : ItemDecl)
 
   module _ (before : List ℕ) (values : Items) where
     abbrev judging : Judged Value
-    judging = judged scoped (call scoped values before) values [] own
+    judging = judging_of scoped (call scoped values before) values [] own
 
     abbrev entry_of : Option (Held Value) → Run (Option (Held Value))
     entry_of f = record { log = record { target = own; by = place_in f } ∷ []; end = Ok f }

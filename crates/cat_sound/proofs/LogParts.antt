@@ -26,7 +26,7 @@ use Rattle.cat_scope.specs.declared.expr.Expr.TheViews.{out-Expr}
 use Rattle.cat_scope.specs.declared.expr.Expr.TheFolds.{map-Expr}
 use Rattle.cat_scope.specs.Replies.{on_one, known}
 use Rattle.cat_scope.specs.Runs.{Decider, Run, plain, gives, stops, behind, and_then, giving, in_front, either, choose}
-use Rattle.cat_scope.specs.Readings.{truth, case_of, elements}
+use Rattle.cat_scope.specs.Projections.{truth, case_of, elements}
 use Rattle.cat_scope.specs.Operators.{convert, operate}
 use Rattle.cat_scope.specs.Lists.{for_all, exists, mapped, filtered, combined, contained, zero_of, summed}
 use Rattle.cat_scope.specs.Names.{AllHave}
@@ -34,10 +34,10 @@ use Rattle.cat_scope.specs.Groups.{Numbered, Group, groups_of, roots_of, excepts
 use Rattle.cat_scope.specs.Judging.{Held, Judged, with_held, holding, alone, settle, found_or, judge, place_in, decided}
 use Rattle.cat_scope.specs.Targets.{defs_from, condition_of, held_as, judge_def, own_by, judge_target, absent, value_or}
 use Rattle.cat_scope.specs.Eval.{Env, eval, meaning_of}
-use Rattle.cat_scope.specs.Composed.{Meaning, part, all_of, fields_of, structured, arm_locals, arm_value, matched}
+use Rattle.cat_scope.specs.Composed.{Meaning, part, all_of, field_values, structured, arm_locals, arm_value, matched}
 use Rattle.cat_scope.specs.Composed.{listed}
 use Rattle.cat_scope.specs.Calls.{Items, Scoped, variable, variable_of_called, items_of, call_input, scope_call, env_of}
-use Rattle.cat_scope.specs.Calls.{judged, variable_value, call}
+use Rattle.cat_scope.specs.Calls.{judging_of, variable_value, call}
 use Rattle.cat_value.specs.declared.outcome.FaultKind.TheVariants.{AssertionFailed}
 use Rattle.cat_scope.specs.declared.stop.Stop.TheVariants.{Fault}
 use Rattle.cat_scope.specs.declared.defs.Assertion.{Assertion}
@@ -123,9 +123,9 @@ module _ (P : List Decider → Type 0) (none : P []) (joined : (xs ys : List Dec
   all_logs (m ∷ ms) h locals = front_logs (m locals) (all_of ms locals) (h.0 locals) (all_logs ms h.1 locals)
 
   fields_logs : (fs : List Field) → AllHave (λ (f : Field). Quiet f.1) fs → (locals : List Value)
-      → P (fields_of fs locals).log
+      → P (field_values fs locals).log
   fields_logs [] h locals = none
-  fields_logs (f ∷ fs) h locals = front_logs (and_then (f.1 locals) (λ v. gives (f.0, v))) (fields_of fs locals)
+  fields_logs (f ∷ fs) h locals = front_logs (and_then (f.1 locals) (λ v. gives (f.0, v))) (field_values fs locals)
       (then_logs (f.1 locals) (λ v. gives (f.0, v)) (h.0 locals) (λ v is. none)) (fields_logs fs h.1 locals)
 
   arm_logs : (for : ArmPattern) (body : Meaning) (rest : Run Value) (k : ℕ) (content : Option Value)
@@ -196,7 +196,7 @@ module _ (P : List Decider → Type 0) (none : P []) (joined : (xs ys : List Dec
     form_logs (Expr-F.Case p n k (Some e)) h locals =
         then_logs (eval env e locals) (λ v. gives (value.Case k (Some v))) (h.0 locals) (λ v is. none)
     form_logs (Expr-F.Structure p n fields) h locals =
-        giving_logs (fields_of (map (field env) fields) locals) structured
+        giving_logs (field_values (map (field env) fields) locals) structured
         (fields_logs (map (field env) fields) (quiet_fields fields h) locals)
     form_logs (Expr-F.List p es) h locals =
         then_logs (all_of (map (eval env) es) locals) (λ vs. gives (value.List vs))
@@ -244,7 +244,7 @@ module _ (P : List Decider → Type 0) (none : P []) (joined : (xs ys : List Dec
         then_logs (all_of (map (eval env) es) locals) (env.call f)
         (all_logs (map (eval env) es) (quiet_all es h) locals) (λ vs is. calls f vs)
     form_logs (Expr-F.ScopeCall p s fields k) h locals =
-        then_logs (fields_of (map (field env) fields) locals) (λ fs. env.scope_call s fs k)
+        then_logs (field_values (map (field env) fields) locals) (λ fs. env.scope_call s fs k)
         (fields_logs (map (field env) fields) (quiet_fields fields h) locals) (λ fs is. scope_calls s fs k)
 
     step : (e : Expr) (y : Expr-F Expr Arm FieldValue) → out-Expr e ≡ y → AllHave QuietAt (parts_of y) → QuietAt e
@@ -345,7 +345,7 @@ module _ (P : List Decider → Type 0) (none : P []) (joined : (xs ys : List Dec
 
     judged_logs : (calls : ℕ → List Value → Run Value) → ((f : ℕ) (vs : List Value) → P (calls f vs).log)
         → (values : Items) (arguments : List Value) (target : Target)
-        → P (judged scoped calls values arguments target).log
+        → P (judging_of scoped calls values arguments target).log
     judged_logs calls h values arguments target =
         target_logs (λ e. eval (env_of scoped calls values) e arguments)
         (λ e. scoped_eval_logs calls h values e arguments) target scoped.body.defs
@@ -361,54 +361,54 @@ module _ (P : List Decider → Type 0) (none : P []) (joined : (xs ys : List Dec
     call_logs values (item ∷ before) f vs = by (nat_eq item f) (call_logs values before)
       where
         judging : Judged Value
-        judging = judged scoped (call scoped values before) values vs (variable scoped item)
+        judging = judging_of scoped (call scoped values before) values vs (variable scoped item)
 
         by : (b : Bool) → ((g : ℕ) (ws : List Value) → P (call scoped values before g ws).log)
             → P (if b then variable_value (variable scoped item) (slice_get scoped.items item)
-            (judged scoped (call scoped values before) values vs
+            (judging_of scoped (call scoped values before) values vs
             (variable scoped item)) else call scoped values before f vs).log
         by true rest =
             value_logs (variable scoped item) (slice_get scoped.items item)
-            (judged scoped (call scoped values before) values vs (variable scoped item))
+            (judging_of scoped (call scoped values before) values vs (variable scoped item))
             (judged_logs (call scoped values before) rest values vs (variable scoped item))
         by false rest = rest f vs
 
     module _ (before : List ℕ) (values : Items) (item : ℕ) where
-      abbrev judging_of : Option ℕ → Judged Value
-      judging_of inner = judged scoped (call scoped values before) values [] (target_in scoped item inner)
+      abbrev judging_at : Option ℕ → Judged Value
+      judging_at inner = judging_of scoped (call scoped values before) values [] (target_in scoped item inner)
 
-      pub judging_logs : (inner : Option ℕ) → P (judging_of inner).log
+      pub judging_logs : (inner : Option ℕ) → P (judging_at inner).log
       judging_logs inner =
           judged_logs (call scoped values before) (call_logs values before) values [] (target_in scoped item inner)
 
-      module _ (one : (inner : Option ℕ) (found : Option (Held Value)) → (judging_of inner).end ≡ Ok found
+      module _ (one : (inner : Option ℕ) (found : Option (Held Value)) → (judging_at inner).end ≡ Ok found
           → P (record { target = target_in scoped item inner; by = place_in found } ∷ [])) where
-        decided_logs : (inner : Option ℕ) → P (decided (target_in scoped item inner) (judging_of inner)).log
-        decided_logs inner = then_logs (judging_of inner)
+        decided_logs : (inner : Option ℕ) → P (decided (target_in scoped item inner) (judging_at inner)).log
+        decided_logs inner = then_logs (judging_at inner)
             (λ found. record { log = record { target = target_in scoped item inner; by = place_in found } ∷ []; end =
               Ok found })
             (judging_logs inner) (one inner)
 
         passed_logs : (place : Pos) (n : ℕ) (decls : List ItemDecl)
-            → P (passed_input (λ m. judging_of (Some m)) (variable_of_called scoped item) place n decls).log
+            → P (passed_input (λ m. judging_at (Some m)) (variable_of_called scoped item) place n decls).log
         passed_logs place n [] = none
         passed_logs place n (decl ∷ decls) =
             front_logs (if may_be_given decl.kind then giving
-            (decided (target_in scoped item (Some n)) (judging_of (Some n)))
+            (decided (target_in scoped item (Some n)) (judging_at (Some n)))
             (passed (target_in scoped item (Some n)) place decl) else gives None)
-            (passed_input (λ m. judging_of (Some m)) (variable_of_called scoped item) place (n + 1) decls)
+            (passed_input (λ m. judging_at (Some m)) (variable_of_called scoped item) place (n + 1) decls)
             (by (may_be_given decl.kind)) (passed_logs place (n + 1) decls)
           where
-            by : (b : Bool) → P (if b then giving (decided (target_in scoped item (Some n)) (judging_of (Some n)))
+            by : (b : Bool) → P (if b then giving (decided (target_in scoped item (Some n)) (judging_at (Some n)))
                 (passed (target_in scoped item (Some n)) place decl) else gives None).log
             by true =
-                giving_logs (decided (target_in scoped item (Some n)) (judging_of (Some n)))
+                giving_logs (decided (target_in scoped item (Some n)) (judging_at (Some n)))
                 (passed (target_in scoped item (Some n)) place decl) (decided_logs (Some n))
             by false = none
 
         called_logs : (decl : ItemDecl) (s : ℕ) → P (called_value scoped before values item decl s).log
         called_logs decl s =
-            then_logs (passed_input (λ m. judging_of (Some m)) (variable_of_called scoped item) decl.pos 0
+            then_logs (passed_input (λ m. judging_at (Some m)) (variable_of_called scoped item) decl.pos 0
             (items_of scoped s))
             (λ input. and_then (scoped.runs s input) (λ outputs. gives (value.Structure outputs)))
             (passed_logs decl.pos 0 (items_of scoped s))
@@ -418,8 +418,8 @@ module _ (P : List Decider → Type 0) (none : P []) (joined : (xs ys : List Dec
         defined_logs : (decl : ItemDecl) (ps : List Ty) → P (defined_value scoped before values item decl ps).log
         defined_logs decl [] =
             then_logs (variable_value (variable scoped item) (Some decl)
-            (decided (variable scoped item) (judging_of None))) (λ v. gives (Some v))
-            (value_logs (variable scoped item) (Some decl) (decided (variable scoped item) (judging_of None))
+            (decided (variable scoped item) (judging_at None))) (λ v. gives (Some v))
+            (value_logs (variable scoped item) (Some decl) (decided (variable scoped item) (judging_at None))
             (decided_logs None)) (λ v is. none)
         defined_logs decl (t ∷ ts) = none
 

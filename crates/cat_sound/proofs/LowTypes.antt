@@ -38,7 +38,7 @@ use Rattle.cat_scope.specs.declared.operators.SumKind.{SumKind}
 use Rattle.cat_scope.specs.declared.operators.SumKind.TheVariants as sum
 use Rattle.cat_scope.specs.Names.{AllHave, IsOneOf, is_output, outputs_in, items_in, scope_items, output_at, are_all_in}
 use Rattle.cat_scope.specs.Literals.{literal_type}
-use Rattle.cat_scope.specs.Signatures.{Row, rows_of, given_by, summed_type}
+use Rattle.cat_scope.specs.Signatures.{Signature, signatures_of, given_by, summed_type}
 use Rattle.cat_scope.specs.Fitting.{are_complete, cases_in, ArmLocals, field_at, type_in, field_type}
 use Rattle.cat_scope.specs.HasType.{HasType, ArmsHaveType}
 use Rattle.cat_scope.specs.HasType as typed
@@ -139,7 +139,7 @@ module _ (ds : Decls) (sound : AreSound ds) where
   given_low _ = integer_low
 
   -- the rows of an operator have one result
-  first_low : (o : BinaryOp) → IsLow ds (first_result (rows_of o))
+  first_low : (o : BinaryOp) → IsLow ds (first_result (signatures_of o))
   first_low binary.AddIntegers = integer_low
   first_low binary.SubtractIntegers = integer_low
   first_low binary.MultiplyIntegers = integer_low
@@ -165,7 +165,7 @@ module _ (ds : Decls) (sound : AreSound ds) where
   first_low binary.MultiplyDurationByInteger = duration_low
   first_low _ = boolean_low
 
-  row_low : (o : BinaryOp) (r : Row) → IsOneOf r (rows_of o) → IsLow ds r.result
+  row_low : (o : BinaryOp) (r : Signature) → IsOneOf r (signatures_of o) → IsLow ds r.result
   row_low o r is = subst (IsLow ds) (sym (first_is o r is)) (first_low o)
 
   summed_low : (k : SumKind) → IsLow ds (summed_type k)

@@ -20,7 +20,7 @@ use Rattle.cat_scope.specs.declared.expr.Expr.{Expr}
 use Rattle.cat_scope.specs.declared.expr.Expr.TheOpen.{Expr-F}
 use Rattle.cat_scope.specs.declared.expr.Expr.TheViews as expr
 use Rattle.cat_scope.specs.Names.{Names, AllHave, IsOneOf, is_plain, output_at}
-use Rattle.cat_scope.specs.Signatures.{Row, rows_of}
+use Rattle.cat_scope.specs.Signatures.{Signature, signatures_of}
 use Rattle.cat_scope.specs.Fitting.{ArmLocals, field_type}
 use Rattle.cat_scope.specs.Naming.{IsItem, IsCalledOutput, IsFunction, IsOutput}
 use Rattle.cat_scope.specs.HasType.{HasType, AllHaveType, ArmsHaveType}
@@ -67,14 +67,14 @@ both true false e = absurd (true≢false (sym e))
 both false b e = absurd (true≢false (sym e))
 
 -- all rows of an operator have one result
-abbrev pub first_result : List Row → Ty
+abbrev pub first_result : List Signature → Ty
 first_result [] = flat.Boolean
 first_result (r ∷ rows) = r.result
 
-abbrev GiveFirst : List Row → Type 0
-GiveFirst rows = AllHave (λ (r : Row). r.result ≡ first_result rows) rows
+abbrev GiveFirst : List Signature → Type 0
+GiveFirst rows = AllHave (λ (r : Signature). r.result ≡ first_result rows) rows
 
-same_results : (o : BinaryOp) → GiveFirst (rows_of o)
+same_results : (o : BinaryOp) → GiveFirst (signatures_of o)
 same_results binary.Less = (refl, (refl, (refl, (refl, (refl, tt)))))
 same_results binary.AtMost = (refl, (refl, (refl, (refl, (refl, tt)))))
 same_results binary.Greater = (refl, (refl, (refl, (refl, (refl, tt)))))
@@ -83,16 +83,18 @@ same_results binary.Equal = (refl, (refl, (refl, (refl, (refl, (refl, tt))))))
 same_results binary.Unequal = (refl, (refl, (refl, (refl, (refl, (refl, tt))))))
 same_results _ = (refl, tt)
 
-result_in : (x : Ty) (rows : List Row) → AllHave (λ (r : Row). r.result ≡ x) rows → (r : Row) → IsOneOf r rows
+result_in : (x : Ty) (rows : List Signature) → AllHave (λ (r : Signature). r.result ≡ x) rows → (r : Signature)
+  → IsOneOf r rows
     → r.result ≡ x
 result_in x [] all r among = elim among [ ]
 result_in x (s ∷ rows) all r among =
-    ⊎_elim (λ same. ap (λ (q : Row). q.result) same ∙ all.0) (λ more. result_in x rows all.1 r more) among
+    ⊎_elim (λ same. ap (λ (q : Signature). q.result) same ∙ all.0) (λ more. result_in x rows all.1 r more) among
 
-pub first_is : (o : BinaryOp) (r : Row) → IsOneOf r (rows_of o) → r.result ≡ first_result (rows_of o)
-first_is o r is = result_in (first_result (rows_of o)) (rows_of o) (same_results o) r is
+pub first_is : (o : BinaryOp) (r : Signature) → IsOneOf r (signatures_of o) → r.result ≡ first_result (signatures_of o)
+first_is o r is = result_in (first_result (signatures_of o)) (signatures_of o) (same_results o) r is
 
-one_result : (o : BinaryOp) (r s : Row) → IsOneOf r (rows_of o) → IsOneOf s (rows_of o) → r.result ≡ s.result
+one_result : (o : BinaryOp) (r s : Signature) → IsOneOf r (signatures_of o) → IsOneOf s (signatures_of o)
+  → r.result ≡ s.result
 one_result o r s is are = first_is o r is ∙ sym (first_is o s are)
 
 -- what is named has one type
@@ -165,15 +167,16 @@ mutual
       sym (parts_of ns ls _ (Expr-F.Or p a b) u (expr.outs-Or p a b) h).2
   one_type {ns} {ls} u (typed.choice {p = p} {c = c} {a = a} {b = b} g i j) h placed =
       let s = parts_of ns ls _ (Expr-F.If p c a b) u (expr.outs-If p c a b) h in
-      let row =
+      let signature =
       both (lists_placed c false) (row_placed (lists_placed a ∷ lists_placed b ∷ []) false)
       (sym (ap (λ f. f false) (placed_If p c a b)) ∙ placed) in
-      one_type u i s.1 (both (lists_placed a false) _ row.1).0
+      one_type u i s.1 (both (lists_placed a false) _ signature.1).0
   one_type {ns} {ls} u (typed.matching {p = p} {e = e} {arms = arms} {t = t} n g each whole) h placed =
       let s = parts_of ns ls _ (Expr-F.Match p e arms) u (expr.outs-Match p e arms) h in
-      let row = both (lists_placed e false) (arms_placed arms false) (sym (placed_Match p e arms false) ∙ placed) in
-      let same : n ≡ s.0 = same_enumeration n s.0 (one_type (flat.Enumeration s.0) g s.1 row.0) in
-      one_type_of_arms u each (subst (λ m. ArmsHaveType ns ls m arms u) (sym same) s.2) row.1
+      let signature = both (lists_placed e false) (arms_placed arms false) (sym (placed_Match p e arms false) ∙ placed)
+        in
+      let same : n ≡ s.0 = same_enumeration n s.0 (one_type (flat.Enumeration s.0) g s.1 signature.0) in
+      one_type_of_arms u each (subst (λ m. ArmsHaveType ns ls m arms u) (sym same) s.2) signature.1
   one_type {ns} {ls} u (typed.is_case {p = p} {e = e} {n = n} {k = k} g is) h placed =
       sym (parts_of ns ls _ (Expr-F.IsCase p e n k) u (expr.outs-IsCase p e n k) h).2
   one_type {ns} {ls} u (typed.case_alone {p = p} {n = n} {k = k} is) h placed =
@@ -191,22 +194,23 @@ mutual
       sym (parts_of ns ls _ (Expr-F.Exists p l test) u (expr.outs-Exists p l test) h).3
   one_type {ns} {ls} u (typed.map_each {p = p} {l = l} {e = e} {u = w} t g i declared low) h placed =
       let s = parts_of ns ls _ (Expr-F.Map p l e) u (expr.outs-Map p l e) h in
-      let row =
+      let signature =
       both (lists_placed l false) (lists_placed e false) (sym (ap (λ f. f false) (placed_Map p l e)) ∙ placed) in
-      let same : t ≡ s.0 = same_element t s.0 (one_type (ty.List s.0) g s.2 row.0) in
-      ap ty.List (one_type s.1 i (subst (λ (v : Ty). HasType ns (ls ++ v ∷ []) e s.1) (sym same) s.3) row.1) ∙ sym s.6
+      let same : t ≡ s.0 = same_element t s.0 (one_type (ty.List s.0) g s.2 signature.0) in
+      ap ty.List (one_type s.1 i (subst (λ (v : Ty). HasType ns (ls ++ v ∷ []) e s.1) (sym same) s.3) signature.1)
+        ∙ sym s.6
   one_type {ns} {ls} u (typed.filter {p = p} {l = l} {test = test} t g i) h placed =
       let s = parts_of ns ls _ (Expr-F.Filter p l test) u (expr.outs-Filter p l test) h in
-      let row =
+      let signature =
       both (lists_placed l false) (lists_placed test false)
       (sym (ap (λ f. f false) (placed_Filter p l test)) ∙ placed) in
-      one_type (ty.List s.0) g s.1 row.0 ∙ sym s.3
+      one_type (ty.List s.0) g s.1 signature.0 ∙ sym s.3
   one_type {ns} {ls} u (typed.combine {p = p} {l = l} {start = start} {e = e} t g i j) h placed =
       let s = parts_of ns ls _ (Expr-F.Combine p l start e) u (expr.outs-Combine p l start e) h in
-      let row =
+      let signature =
       both (lists_placed l false && lists_placed start false) (lists_placed e true)
       (sym (ap (λ f. f false) (placed_Combine p l start e)) ∙ placed) in
-      one_type u i s.2 (both (lists_placed l false) (lists_placed start false) row.0).1
+      one_type u i s.2 (both (lists_placed l false) (lists_placed start false) signature.0).1
   one_type {ns} {ls} u (typed.contains {p = p} {q = q} {l = l} {e = e} t g i is) h placed =
       sym (parts_of ns ls _ (Expr-F.Contains p q l e) u (expr.outs-Contains p q l e) h).4
   one_type {ns} {ls} u (typed.number_of {p = p} {l = l} t g) h placed =

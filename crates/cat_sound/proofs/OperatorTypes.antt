@@ -27,11 +27,12 @@ use Rattle.cat_scope.specs.declared.operators.BinaryOp.{BinaryOp}
 use Rattle.cat_scope.specs.declared.operators.BinaryOp.TheVariants as binary
 use Rattle.cat_scope.specs.declared.stop.Stop.{Stop}
 use Rattle.cat_scope.specs.Replies.{on_one, exact, dated}
-use Rattle.cat_scope.specs.Readings as read
+use Rattle.cat_scope.specs.Projections as read
 use Rattle.cat_scope.specs.Operators.{on_two, convert, operate}
 use Rattle.cat_scope.specs.Comparing.{compared, compared_in, equal, equal_in, differ, is_less, is_greater}
 use Rattle.cat_scope.specs.Names.{IsOneOf}
-use Rattle.cat_scope.specs.Signatures.{Row, rows_of, comparison, ordered_types, compared_types, taken_by, given_by}
+use Rattle.cat_scope.specs.Signatures.{Signature, signatures_of, comparison, ordered_types, compared_types, taken_by}
+use Rattle.cat_scope.specs.Signatures.{given_by}
 use Rattle.cat_sound.specs.Endings.{ResultsIn, IsOf}
 use Rattle.cat_sound.proofs.Results.{Any, result_as, result_then, result_two, result_exact, reads-Boolean}
 use Rattle.cat_sound.proofs.Fits.{whole_fits, ratio_fits, negation_fits, ratio_decimal, frac_decimal, negation_decimal}
@@ -228,17 +229,18 @@ module _ (ds : Decls) (p : Pos) (v w : Value) where
   equal-ends t (inl e) hv hw = equal-Boolean (at t ty.Boolean v e hv) (at t ty.Boolean w e hw)
   equal-ends t (inr more) hv hw = equal-ordered t more hv hw
 
-row_in : (row : Row) (ts : List Ty) → IsOneOf row (map comparison ts) → (t : Ty) × IsOneOf t ts × (row ≡ comparison t)
-row_in row [] h = elim h [ ]
-row_in row (t ∷ ts) (inl e) = (t, inl refl, e)
-row_in row (t ∷ ts) (inr h) = let rest = row_in row ts h in (rest.0, inr rest.1, rest.2)
+signature_in : (signature : Signature) (ts : List Ty) → IsOneOf signature (map comparison ts) → (t : Ty) × IsOneOf t ts
+  × (signature ≡ comparison t)
+signature_in signature [] h = elim h [ ]
+signature_in signature (t ∷ ts) (inl e) = (t, inl refl, e)
+signature_in signature (t ∷ ts) (inr h) = let rest = signature_in signature ts h in (rest.0, inr rest.1, rest.2)
 
-module _ (ds : Decls) (p : Pos) (v w : Value) (row : Row) where
-  by_order : (next : Ordering → Bool) → IsOneOf row (map comparison ordered_types) → IsOf ds row.left v
-      → IsOf ds row.right w
-      → ResultsIn (IsOf ds row.result) (on_one (compared p v w) (λ x. Ok (flat.Boolean (next x))))
+module _ (ds : Decls) (p : Pos) (v w : Value) (signature : Signature) where
+  by_order : (next : Ordering → Bool) → IsOneOf signature (map comparison ordered_types) → IsOf ds signature.left v
+      → IsOf ds signature.right w
+      → ResultsIn (IsOf ds signature.result) (on_one (compared p v w) (λ x. Ok (flat.Boolean (next x))))
   by_order next is hv hw =
-      let t = row_in row ordered_types is in
+      let t = signature_in signature ordered_types is in
       subst (λ u. ResultsIn (IsOf ds u) (on_one (compared p v w) (λ x. Ok (flat.Boolean (next x)))))
       (sym (ap (λ x. x.result) t.2))
       (result_then (Any {A = Ordering}) (IsOf ds ty.Boolean) (compared p v w) _
@@ -246,11 +248,11 @@ module _ (ds : Decls) (p : Pos) (v w : Value) (row : Row) where
       (subst (λ u. IsOf ds u w) (ap (λ x. x.right) t.2) hw))
       (λ x h. of-Boolean ds (next x)))
 
-  by_equality : (next : Bool → Bool) → IsOneOf row (map comparison compared_types) → IsOf ds row.left v
-      → IsOf ds row.right w
-      → ResultsIn (IsOf ds row.result) (on_one (equal p v w) (λ x. Ok (flat.Boolean (next x))))
+  by_equality : (next : Bool → Bool) → IsOneOf signature (map comparison compared_types) → IsOf ds signature.left v
+      → IsOf ds signature.right w
+      → ResultsIn (IsOf ds signature.result) (on_one (equal p v w) (λ x. Ok (flat.Boolean (next x))))
   by_equality next is hv hw =
-      let t = row_in row compared_types is in
+      let t = signature_in signature compared_types is in
       subst (λ u. ResultsIn (IsOf ds u) (on_one (equal p v w) (λ x. Ok (flat.Boolean (next x)))))
       (sym (ap (λ x. x.result) t.2))
       (result_then (Any {A = Bool}) (IsOf ds ty.Boolean) (equal p v w) _
@@ -260,100 +262,104 @@ module _ (ds : Decls) (p : Pos) (v w : Value) (row : Row) where
 
 -- ---- what stands between two operands
 
-two : {A B : Type 0} {t u : Ty} (ds : Decls) (v w : Value) (row : Row) (X : Reading ds A t) (Y : Reading ds B u)
+two : {A B : Type 0} {t u : Ty} (ds : Decls) (v w : Value) (signature : Signature) (X : Reading ds A t)
+  (Y : Reading ds B u)
     (x : Ty)
-    (next : A → B → Result Value Stop) → IsOneOf row (record { left = t; right = u; result = x } ∷ [])
-    → IsOf ds row.left v → IsOf ds row.right w
+    (next : A → B → Result Value Stop) → IsOneOf signature (record { left = t; right = u; result = x } ∷ [])
+    → IsOf ds signature.left v → IsOf ds signature.right w
     → ((a : A) (b : B) → X.Bound a → Y.Bound b → ResultsIn (IsOf ds x) (next a b))
-    → ResultsIn (IsOf ds row.result) (on_two (X.reading v) (Y.reading w) next)
-two ds v w row X Y x next (inl e) hv hw go =
-    subst (λ q. ResultsIn (IsOf ds q) (on_two (X.reading v) (Y.reading w) next)) (sym (ap (λ (y : Row). y.result) e))
+    → ResultsIn (IsOf ds signature.result) (on_two (X.reading v) (Y.reading w) next)
+two ds v w signature X Y x next (inl e) hv hw go =
+    subst (λ q. ResultsIn (IsOf ds q) (on_two (X.reading v) (Y.reading w) next))
+      (sym (ap (λ (y : Signature). y.result) e))
     (result_two X.Bound Y.Bound (IsOf ds x) (X.reading v) (Y.reading w) next
-    (X.within v (subst (λ q. IsOf ds q v) (ap (λ (y : Row). y.left) e) hv))
-    (Y.within w (subst (λ q. IsOf ds q w) (ap (λ (y : Row). y.right) e) hw)) go)
-two ds v w row X Y x next (inr none) hv hw go = elim none [ ]
+    (X.within v (subst (λ q. IsOf ds q v) (ap (λ (y : Signature). y.left) e) hv))
+    (Y.within w (subst (λ q. IsOf ds q w) (ap (λ (y : Signature). y.right) e) hw)) go)
+two ds v w signature X Y x next (inr none) hv hw go = elim none [ ]
 
--- an operator between two operands gives a value of the type of its row, or a stop that an outcome may be
-pub operators_go_on : (ds : Decls) (r : Rounding) (p : Pos) (v w : Value) (row : Row) (o : BinaryOp)
-    → IsOneOf row (rows_of o)
-    → IsOf ds row.left v → IsOf ds row.right w → ResultsIn (IsOf ds row.result) (operate r o p v w)
-operators_go_on ds r p v w row binary.AddIntegers is hv hw =
-    two ds v w row (integers ds) (integers ds) ty.Integer _ is hv hw
+-- an operator between two operands gives a value of the type of its signature, or a stop that an outcome may be
+pub operators_go_on : (ds : Decls) (r : Rounding) (p : Pos) (v w : Value) (signature : Signature) (o : BinaryOp)
+    → IsOneOf signature (signatures_of o)
+    → IsOf ds signature.left v → IsOf ds signature.right w → ResultsIn (IsOf ds signature.result) (operate r o p v w)
+operators_go_on ds r p v w signature binary.AddIntegers is hv hw =
+    two ds v w signature (integers ds) (integers ds) ty.Integer _ is hv hw
     (λ a b ha hb. integer-is ds p (whole_sum a b) (λ c e. whole_fits (a +ℤ b) c e))
-operators_go_on ds r p v w row binary.SubtractIntegers is hv hw =
-    two ds v w row (integers ds) (integers ds) ty.Integer _ is hv hw
+operators_go_on ds r p v w signature binary.SubtractIntegers is hv hw =
+    two ds v w signature (integers ds) (integers ds) ty.Integer _ is hv hw
     (λ a b ha hb. integer-is ds p (whole_difference a b) (λ c e. whole_fits (a -ℤ b) c e))
-operators_go_on ds r p v w row binary.MultiplyIntegers is hv hw =
-    two ds v w row (integers ds) (integers ds) ty.Integer _ is hv hw
+operators_go_on ds r p v w signature binary.MultiplyIntegers is hv hw =
+    two ds v w signature (integers ds) (integers ds) ty.Integer _ is hv hw
     (λ a b ha hb. integer-is ds p (whole_product a b) (λ c e. whole_fits (a *ℤ b) c e))
-operators_go_on ds r p v w row binary.DivideIntegers is hv hw =
-    two ds v w row (integers ds) (integers ds) ty.Decimal _ is hv hw
+operators_go_on ds r p v w signature binary.DivideIntegers is hv hw =
+    two ds v w signature (integers ds) (integers ds) ty.Decimal _ is hv hw
     (λ a b ha hb. decimal-is ds p (frac_of a b) (λ c e. frac_decimal a b c e))
-operators_go_on ds r p v w row binary.AddDecimals is hv hw =
-    two ds v w row (decimals ds) (decimals ds) ty.Decimal _ is hv hw
+operators_go_on ds r p v w signature binary.AddDecimals is hv hw =
+    two ds v w signature (decimals ds) (decimals ds) ty.Decimal _ is hv hw
     (λ a b ha hb. decimal-is ds p (frac_sum a b) (λ c e. ratio_decimal _ _ c e))
-operators_go_on ds r p v w row binary.SubtractDecimals is hv hw =
-    two ds v w row (decimals ds) (decimals ds) ty.Decimal _ is hv hw
+operators_go_on ds r p v w signature binary.SubtractDecimals is hv hw =
+    two ds v w signature (decimals ds) (decimals ds) ty.Decimal _ is hv hw
     (λ a b ha hb. decimal-is ds p (frac_difference a b) (λ c e. ratio_decimal _ _ c e))
-operators_go_on ds r p v w row binary.MultiplyDecimals is hv hw =
-    two ds v w row (decimals ds) (decimals ds) ty.Decimal _ is hv hw
+operators_go_on ds r p v w signature binary.MultiplyDecimals is hv hw =
+    two ds v w signature (decimals ds) (decimals ds) ty.Decimal _ is hv hw
     (λ a b ha hb. decimal-is ds p (frac_product a b) (λ c e. ratio_decimal _ _ c e))
-operators_go_on ds r p v w row binary.DivideDecimals is hv hw =
-    two ds v w row (decimals ds) (decimals ds) ty.Decimal _ is hv hw
+operators_go_on ds r p v w signature binary.DivideDecimals is hv hw =
+    two ds v w signature (decimals ds) (decimals ds) ty.Decimal _ is hv hw
     (λ a b ha hb. decimal-is ds p (frac_quotient a b) (λ c e. frac_decimal _ _ c e))
-operators_go_on ds r p v w row binary.AddMoney is hv hw =
-    two ds v w row (amounts ds) (amounts ds) ty.Money _ is hv hw
+operators_go_on ds r p v w signature binary.AddMoney is hv hw =
+    two ds v w signature (amounts ds) (amounts ds) ty.Money _ is hv hw
     (λ a b ha hb. money-is ds p (whole_sum a b) (λ c e. whole_fits (a +ℤ b) c e))
-operators_go_on ds r p v w row binary.SubtractMoney is hv hw =
-    two ds v w row (amounts ds) (amounts ds) ty.Money _ is hv hw
+operators_go_on ds r p v w signature binary.SubtractMoney is hv hw =
+    two ds v w signature (amounts ds) (amounts ds) ty.Money _ is hv hw
     (λ a b ha hb. money-is ds p (whole_difference a b) (λ c e. whole_fits (a -ℤ b) c e))
-operators_go_on ds r p v w row binary.MultiplyMoneyByDecimal is hv hw =
-    two ds v w row (amounts ds) (decimals ds) ty.Money _ is hv hw
+operators_go_on ds r p v w signature binary.MultiplyMoneyByDecimal is hv hw =
+    two ds v w signature (amounts ds) (decimals ds) ty.Money _ is hv hw
     (λ a b ha hb. money-is ds p (money_product a b) (λ c e. whole_fits (rounded (a *ℤ b.num) b.den) c e))
-operators_go_on ds r p v w row binary.MultiplyDecimalByMoney is hv hw =
-    two ds v w row (decimals ds) (amounts ds) ty.Money _ is hv hw
+operators_go_on ds r p v w signature binary.MultiplyDecimalByMoney is hv hw =
+    two ds v w signature (decimals ds) (amounts ds) ty.Money _ is hv hw
     (λ a b ha hb. money-is ds p (money_product b a) (λ c e. whole_fits (rounded (b *ℤ a.num) a.den) c e))
-operators_go_on ds r p v w row binary.MultiplyMoneyByInteger is hv hw =
-    two ds v w row (amounts ds) (integers ds) ty.Money _ is hv hw
+operators_go_on ds r p v w signature binary.MultiplyMoneyByInteger is hv hw =
+    two ds v w signature (amounts ds) (integers ds) ty.Money _ is hv hw
     (λ a b ha hb. money-is ds p (whole_product a b) (λ c e. whole_fits (a *ℤ b) c e))
-operators_go_on ds r p v w row binary.MultiplyIntegerByMoney is hv hw =
-    two ds v w row (integers ds) (amounts ds) ty.Money _ is hv hw
+operators_go_on ds r p v w signature binary.MultiplyIntegerByMoney is hv hw =
+    two ds v w signature (integers ds) (amounts ds) ty.Money _ is hv hw
     (λ a b ha hb. money-is ds p (whole_product a b) (λ c e. whole_fits (a *ℤ b) c e))
-operators_go_on ds r p v w row binary.DivideMoneyByDecimal is hv hw =
-    two ds v w row (amounts ds) (decimals ds) ty.Money _ is hv hw
+operators_go_on ds r p v w signature binary.DivideMoneyByDecimal is hv hw =
+    two ds v w signature (amounts ds) (decimals ds) ty.Money _ is hv hw
     (λ a b ha hb. money-is ds p (money_quotient a b) (λ c e. ratio_fits (a *ℤ pos b.den) b.num c e))
-operators_go_on ds r p v w row binary.DivideMoneyByInteger is hv hw =
-    two ds v w row (amounts ds) (integers ds) ty.Money _ is hv hw
+operators_go_on ds r p v w signature binary.DivideMoneyByInteger is hv hw =
+    two ds v w signature (amounts ds) (integers ds) ty.Money _ is hv hw
     (λ a b ha hb. money-is ds p (rounded_ratio a b) (λ c e. ratio_fits a b c e))
-operators_go_on ds r p v w row binary.DivideMoney is hv hw =
-    two ds v w row (amounts ds) (amounts ds) ty.Decimal _ is hv hw
+operators_go_on ds r p v w signature binary.DivideMoney is hv hw =
+    two ds v w signature (amounts ds) (amounts ds) ty.Decimal _ is hv hw
     (λ a b ha hb. decimal-is ds p (frac_of a b) (λ c e. frac_decimal a b c e))
-operators_go_on ds r p v w row binary.AddDurationToDate is hv hw =
-    two ds v w row (days ds) (spans ds) ty.Date _ is hv hw
+operators_go_on ds r p v w signature binary.AddDurationToDate is hv hw =
+    two ds v w signature (days ds) (spans ds) ty.Date _ is hv hw
     (λ a b ha hb. date-is ds p (day_plus_span a b r) (sum-dated a b r)
     (λ c e. sum_day (date_plus_months (civil_of a) b.months r) b.days c e))
-operators_go_on ds r p v w row binary.SubtractDurationFromDate is hv hw =
-    two ds v w row (days ds) (spans ds) ty.Date _ is hv hw
+operators_go_on ds r p v w signature binary.SubtractDurationFromDate is hv hw =
+    two ds v w signature (days ds) (spans ds) ty.Date _ is hv hw
     (λ a b ha hb. date-is ds p (day_plus_span a (span_negated b) r) (sum-dated a (span_negated b) r)
     (λ c e. sum_day (date_plus_months (civil_of a) (span_negated b).months r) (span_negated b).days c e))
-operators_go_on ds r p v w row binary.AddDurations is hv hw =
-    two ds v w row (spans ds) (spans ds) ty.Duration _ is hv hw
+operators_go_on ds r p v w signature binary.AddDurations is hv hw =
+    two ds v w signature (spans ds) (spans ds) ty.Duration _ is hv hw
     (λ a b ha hb. duration-is ds p _)
-operators_go_on ds r p v w row binary.SubtractDurations is hv hw =
-    two ds v w row (spans ds) (spans ds) ty.Duration _ is hv hw
+operators_go_on ds r p v w signature binary.SubtractDurations is hv hw =
+    two ds v w signature (spans ds) (spans ds) ty.Duration _ is hv hw
     (λ a b ha hb. duration-is ds p _)
-operators_go_on ds r p v w row binary.MultiplyDurationByInteger is hv hw =
-    two ds v w row (spans ds) (integers ds) ty.Duration _ is hv hw
+operators_go_on ds r p v w signature binary.MultiplyDurationByInteger is hv hw =
+    two ds v w signature (spans ds) (integers ds) ty.Duration _ is hv hw
     (λ a b ha hb. duration-is ds p _)
-operators_go_on ds r p v w row binary.SubtractDates is hv hw =
-    two ds v w row (days ds) (days ds) ty.Duration _ is hv hw
+operators_go_on ds r p v w signature binary.SubtractDates is hv hw =
+    two ds v w signature (days ds) (days ds) ty.Duration _ is hv hw
     (λ a b ha hb. of-Duration ds (span_of_days (a -ℤ b)) (days_span a b ha hb))
-operators_go_on ds r p v w row binary.Xor is hv hw =
-    two ds v w row (truths ds) (truths ds) ty.Boolean _ is hv hw
+operators_go_on ds r p v w signature binary.Xor is hv hw =
+    two ds v w signature (truths ds) (truths ds) ty.Boolean _ is hv hw
     (λ a b ha hb. of-Boolean ds (differ a b))
-operators_go_on ds r p v w row binary.Less is hv hw = by_order ds p v w row is_less is hv hw
-operators_go_on ds r p v w row binary.AtMost is hv hw = by_order ds p v w row (λ x. not (is_greater x)) is hv hw
-operators_go_on ds r p v w row binary.Greater is hv hw = by_order ds p v w row is_greater is hv hw
-operators_go_on ds r p v w row binary.AtLeast is hv hw = by_order ds p v w row (λ x. not (is_less x)) is hv hw
-operators_go_on ds r p v w row binary.Equal is hv hw = by_equality ds p v w row (λ x. x) is hv hw
-operators_go_on ds r p v w row binary.Unequal is hv hw = by_equality ds p v w row not is hv hw
+operators_go_on ds r p v w signature binary.Less is hv hw = by_order ds p v w signature is_less is hv hw
+operators_go_on ds r p v w signature binary.AtMost is hv hw =
+  by_order ds p v w signature (λ x. not (is_greater x)) is hv hw
+operators_go_on ds r p v w signature binary.Greater is hv hw = by_order ds p v w signature is_greater is hv hw
+operators_go_on ds r p v w signature binary.AtLeast is hv hw =
+  by_order ds p v w signature (λ x. not (is_less x)) is hv hw
+operators_go_on ds r p v w signature binary.Equal is hv hw = by_equality ds p v w signature (λ x. x) is hv hw
+operators_go_on ds r p v w signature binary.Unequal is hv hw = by_equality ds p v w signature not is hv hw

@@ -9,13 +9,13 @@ use Rattle.cat_scope.specs.declared.expr.Arm.{Arm}
 use Rattle.cat_scope.specs.declared.expr.Expr.TheOpen.{Expr-F}
 use Rattle.cat_scope.specs.declared.expr.Expr.TheViews.{out-Expr}
 use Rattle.cat_scope.specs.declared.expr.Expr.TheFolds.{map-Expr}
-use Rattle.cat_scope.specs.Replies.{on_one, done}
+use Rattle.cat_scope.specs.Replies.{on_one, evaluated}
 use Rattle.cat_scope.specs.Runs.{plain, and_then, giving}
 use Rattle.cat_scope.specs.Operators.{operate}
 use Rattle.cat_scope.specs.Names.{AllHave}
 use Rattle.cat_scope.specs.Mentions.{own_item, own_scope}
 use Rattle.cat_scope.specs.Eval.{Env, eval, meaning_of}
-use Rattle.cat_scope.specs.Composed.{Meaning, part, all_of, fields_of}
+use Rattle.cat_scope.specs.Composed.{Meaning, part, all_of, field_values}
 use Rattle.cat_scope.proofs.Equations.{Field, Branch, field, branch, field_is, branch_is, levels, and_then_same}
 use Rattle.cat_sound.specs.Rests.{TellSame, CallSame, AgreeOn}
 use Rattle.cat_sound.proofs.NamedParts.{parts_of, bodies_of, values_of, parts, itself}
@@ -105,16 +105,16 @@ module _ (a b : Env) where
 
   form_same : (y : Expr-F Expr Arm FieldValue) → a.rounding ≡ b.rounding → AllHave (TellSame a b) (items_in y)
     → AllHave (CallSame a b) (scopes_in y) → meaning_of a (opened b y) ≡ meaning_of b (opened b y)
-  form_same (Expr-F.Item p item) r items scopes = fun_ext (λ locals. ap (λ o. plain (done o)) items.0.value)
+  form_same (Expr-F.Item p item) r items scopes = fun_ext (λ locals. ap (λ o. plain (evaluated o)) items.0.value)
   form_same (Expr-F.Output p item k) r items scopes =
-    fun_ext (λ locals. ap (λ o. plain (on_one (done o) (part k))) items.0.value)
+    fun_ext (λ locals. ap (λ o. plain (on_one (evaluated o) (part k))) items.0.value)
   form_same (Expr-F.Binary p o q x z) r items scopes =
       fun_ext (λ locals. ap (λ (rounding : Rounding). and_then (eval b x locals)
         (λ v. giving (eval b z locals) (operate rounding o q v))) r)
   form_same (Expr-F.Call p f es) r items scopes =
     fun_ext (λ locals. and_then_same (all_of (map (eval b) es) locals) (a.call f) (b.call f) items.0.call)
   form_same (Expr-F.ScopeCall p s fields k) r items scopes =
-      fun_ext (λ locals. and_then_same (fields_of (map (field b) fields) locals) (λ fs. a.scope_call s fs k)
+      fun_ext (λ locals. and_then_same (field_values (map (field b) fields) locals) (λ fs. a.scope_call s fs k)
         (λ fs. b.scope_call s fs k) (λ fs. scopes.0 fs k))
   form_same (Expr-F.Case p n k None) r items scopes = refl
   form_same (Expr-F.Case p n k (Some e)) r items scopes = refl

@@ -12,7 +12,7 @@ use Rattle.cat_value.specs.declared.decls.Decls.{Decls}
 use Rattle.cat_value.proofs.Exported.{boolean_value}
 use Rattle.cat_scope.specs.declared.stop.Stop.{Stop}
 use Rattle.cat_scope.specs.Replies.{on_one, known, with_front, exact}
-use Rattle.cat_scope.specs.Readings as read
+use Rattle.cat_scope.specs.Projections as read
 use Rattle.cat_scope.specs.Operators.{on_two}
 use Rattle.cat_scope.specs.Names.{AllHave}
 use Rattle.cat_sound.specs.Endings.{ResultsIn, IsOf, AreOf}

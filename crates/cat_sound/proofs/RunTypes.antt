@@ -48,7 +48,8 @@ use Rattle.cat_sound.proofs.OrderFacts.{AllIn, in_at, behind_first, Behind, Ahea
 use Rattle.cat_sound.proofs.OrderFacts.{ahead-of_IsOrder, all-of_IsOrder, ahead_as, dependencies-length}
 use Rattle.cat_sound.proofs.OrderFacts.{dependencies-at, scopes-length, scopes-at, all_once}
 use Rattle.cat_sound.proofs.InputTypes.{Placed, Callee}
-use Rattle.cat_sound.proofs.ScopeTypes.{names_of, IsSound, IsDone, DoneAt, callable, ready, done-variable, defined-ends}
+use Rattle.cat_sound.proofs.ScopeTypes.{names_of, IsSound, IsDone, DoneAt, callable, ready, evaluated-variable}
+use Rattle.cat_sound.proofs.ScopeTypes.{defined-ends}
 use Rattle.cat_sound.proofs.ScopeTypes.{called-ends}
 
 -- ---- entries
@@ -214,7 +215,7 @@ module _ (allowed : Allowed) (ds : Decls) (scoped : Scoped) (sound : IsSound all
         → EndsIn allowed (IsDone ns item) (item_value scoped before values item o (Some decl))
     item-ends (Some v) is =
         let two = both (may_be_given decl.kind) _ is in
-        (tt, done-variable allowed ds scoped sound item decl at v (free_of_may decl.kind two.0) two.1)
+        (tt, evaluated-variable allowed ds scoped sound item decl at v (free_of_may decl.kind two.0) two.1)
     item-ends None is = ungiven-ends decl.kind refl is
 
   -- the items that are done stay as they are

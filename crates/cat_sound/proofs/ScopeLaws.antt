@@ -37,7 +37,7 @@ use Rattle.cat_scope.specs.Orders.{in_def, called_by_items, calls_in, scope_depe
 use Rattle.cat_scope.specs.Mentions.{items_named, scopes_named}
 use Rattle.cat_scope.specs.WellFormed.{IsWhole, IsWellFormed}
 use Rattle.cat_scope.specs.Calls.{Items, Runs, Scoped, variable, variable_of_called, items_of, call_input, env_of}
-use Rattle.cat_scope.specs.Calls.{judged, variable_value, call}
+use Rattle.cat_scope.specs.Calls.{judging_of, variable_value, call}
 use Rattle.cat_scope.specs.ItemValues.{passed_input, called_value, defined_value, ungiven_value, item_value}
 use Rattle.cat_scope.specs.Running.{entry_at, with_entry, run_items, no_values, asserted, outputs_of, backwards}
 use Rattle.cat_scope.specs.Running.{run_scoped, run_scope, run, run_of}
@@ -102,7 +102,8 @@ module _ (scoped : Scoped) (others : Runs) where
     )
 
     judged_same : (calls more : Calls) (values : Items) (arguments : List Value) (target : Target)
-        → SameCalls calls more → judged scoped calls values arguments target ≡ judged other more values arguments target
+        → SameCalls calls more → judging_of scoped calls values arguments target ≡ judging_of other more values
+          arguments target
     judged_same calls more values arguments target same =
         target_same (λ e. eval (env_of scoped calls values) e arguments)
         (λ e. eval (env_of other more values) e arguments) target scoped.body.defs
@@ -117,7 +118,7 @@ module _ (scoped : Scoped) (others : Runs) where
         (judged_same (call scoped values before) (call other values before) values arguments (variable scoped m)
         (functions_same values before))
         ∙ ap (λ (r : Run Value). if nat_eq m f then variable_value (variable scoped m) (slice_get scoped.items m)
-        (judged other (call other values before) values arguments (variable scoped m)) else r)
+        (judging_of other (call other values before) values arguments (variable scoped m)) else r)
         (functions_same values before f arguments)
 
     -- ---- items
@@ -130,7 +131,7 @@ module _ (scoped : Scoped) (others : Runs) where
         (λ input. and_then (scoped.runs called input) (λ outputs. gives (value.Structure outputs))))
         (fun_ext (λ n. judged_same (call scoped values before) (call other values before) values []
         (variable_of_called scoped item n) (functions_same values before)))
-        ∙ and_then_same (passed_input (λ n. judged other (call other values before) values []
+        ∙ and_then_same (passed_input (λ n. judging_of other (call other values before) values []
         (variable_of_called scoped item n)) (variable_of_called scoped item) decl.pos 0 (items_of scoped called))
         (λ input. and_then (scoped.runs called input) (λ outputs. gives (value.Structure outputs)))
         (λ input. and_then (others called input) (λ outputs. gives (value.Structure outputs)))

@@ -13,9 +13,9 @@ use Rattle.cat_value.specs.declared.declaration.ItemDecl.{ItemDecl}
 use Rattle.cat_value.specs.Inputs.{must_be_given, may_be_given, are_given_for}
 use Rattle.cat_scope.specs.declared.expr.Expr.{Expr}
 use Rattle.cat_scope.specs.declared.defs.Def.{Def}
-use Rattle.cat_scope.specs.Replies.{on_one, known, done}
+use Rattle.cat_scope.specs.Replies.{on_one, known, evaluated}
 use Rattle.cat_scope.specs.Runs.{Run, plain, gives, and_then}
-use Rattle.cat_scope.specs.Readings.{parts_in}
+use Rattle.cat_scope.specs.Projections.{parts_in}
 use Rattle.cat_scope.specs.Names.{Names, AllHave, is_in, items_in, scope_items, outputs_in, output_at, is_called}
 use Rattle.cat_scope.specs.Names.{has_none, is_plain, is_function}
 use Rattle.cat_scope.specs.Naming.{IsItem, IsCalledOutput, IsFunction}
@@ -27,7 +27,8 @@ use Rattle.cat_scope.specs.Orders.{in_condition, in_def, in_defs_of, called_by_i
 use Rattle.cat_scope.specs.Mentions.{items_named, scopes_named}
 use Rattle.cat_scope.specs.WellFormed.{is_internal, ConditionTyped, DefTyped, AssertionTyped}
 use Rattle.cat_scope.specs.Naming.{is_defined, IsInner, IsTargetAt}
-use Rattle.cat_scope.specs.Calls.{Items, Scoped, variable, variable_of_called, items_of, env_of, judged, variable_value}
+use Rattle.cat_scope.specs.Calls.{Items, Scoped, variable, variable_of_called, items_of, env_of, judging_of}
+use Rattle.cat_scope.specs.Calls.{variable_value}
 use Rattle.cat_scope.specs.Calls.{call}
 use Rattle.cat_scope.specs.ItemValues.{passed_input, called_value, defined_value}
 use Rattle.cat_sound.specs.Endings.{Allowed, Ended, EndsIn, ResultsIn, IsOf, AreOf, AreOutputsOf, IsReady, IsCallable}
@@ -228,14 +229,15 @@ module _ (allowed : Allowed) (ds : Decls) (scoped : Scoped) (sound : IsSound all
     -- a judging ends as its target may, and what is decided may stand in a log
     record JudgingEnds (item : ℕ) (inner : Option ℕ) (ps : List Ty) (t : Ty) : Type 0 where
       ends : EndsIn allowed (IsHeldOf (allowed.may_stop (target_of item inner) || may_be_empty ns item inner) ds t)
-          (judged scoped calls values arguments (target_of item inner))
+          (judging_of scoped calls values arguments (target_of item inner))
       stands : ps ≡ []
-          → MayStand allowed (target_of item inner) (judged scoped calls values arguments (target_of item inner)).end
+          → MayStand allowed (target_of item inner)
+            (judging_of scoped calls values arguments (target_of item inner)).end
 
-    judged-ends : (item : ℕ) (inner : Option ℕ) (ps : List Ty) (t : Ty) → IsTargetAt ns item inner ps t
+    judging_of-ends : (item : ℕ) (inner : Option ℕ) (ps : List Ty) (t : Ty) → IsTargetAt ns item inner ps t
         → AreOf ds ps arguments → AllHave (IsReady allowed ns (env calls values)) (needs item)
         → JudgingEnds item inner ps t
-    judged-ends item inner ps t target are ready =
+    judging_of-ends item inner ps t target are ready =
         let settled = sound.settled (env calls values) arguments item inner ps t target are stand in
         record { ends = by (allowed.may_stop (target_of item inner)) refl settled.ends; stands = settled.stands }
       where
@@ -245,7 +247,7 @@ module _ (allowed : Allowed) (ds : Decls) (scoped : Scoped) (sound : IsSound all
 
         -- where every target may stop
         free : EndsIn (all_stop allowed) (IsHeldOf true ds t)
-            (judged scoped calls values arguments (target_of item inner))
+            (judging_of scoped calls values arguments (target_of item inner))
         free =
             judge_target-ends (all_stop allowed) ds t of (target_of item inner) refl scoped.body.defs
             (all_more (λ d. IsTrue (same_target d.target (target_of item inner)) → StandsIn allowed ns
@@ -264,9 +266,9 @@ module _ (allowed : Allowed) (ds : Decls) (scoped : Scoped) (sound : IsSound all
         by : (b : Bool) → allowed.may_stop (target_of item inner) ≡ b
             → (allowed.may_stop (target_of item inner) ≡ false → Ended allowed
             (IsHeldOf (may_be_empty ns item inner) ds t)
-            (judged scoped calls values arguments (target_of item inner)).end)
+            (judging_of scoped calls values arguments (target_of item inner)).end)
             → EndsIn allowed (IsHeldOf (b || may_be_empty ns item inner) ds t)
-            (judged scoped calls values arguments (target_of item inner))
+            (judging_of scoped calls values arguments (target_of item inner))
         by true e settled =
             judge_target-ends allowed ds t of (target_of item inner) e scoped.body.defs
             (all_more (λ d. IsTrue (same_target d.target (target_of item inner)) → StandsIn allowed ns
@@ -296,11 +298,11 @@ module _ (allowed : Allowed) (ds : Decls) (scoped : Scoped) (sound : IsSound all
               (condition_type decl (all_at Placed scoped.items item decl sound.placed is))) holds,
         ))
 
-    own-judged : (item : ℕ) (decl : ItemDecl) → slice_get scoped.items item ≡ Some decl → IsTrue (is_defined decl)
+    own-judging_of : (item : ℕ) (decl : ItemDecl) → slice_get scoped.items item ≡ Some decl → IsTrue (is_defined decl)
         → AreOf ds decl.params arguments → AllHave (IsReady allowed ns (env calls values)) (needs item)
         → JudgingEnds item None decl.params decl.ty
-    own-judged item decl is defined are ready =
-        judged-ends item None decl.params decl.ty
+    own-judging_of item decl is defined are ready =
+        judging_of-ends item None decl.params decl.ty
         (record { decl = decl; decl_is = is; defined = defined; params_are = refl; ty_is = refl }) are ready
 
   -- ---- functions
@@ -338,11 +340,11 @@ module _ (allowed : Allowed) (ds : Decls) (scoped : Scoped) (sound : IsSound all
       let at = in_at (DoneAt ns values) before k h there in
       record {
         variable =
-            λ t is. result_as (IsOf ds t) (done (slice_get values k)) (known at.value) (ap done at.there)
+            λ t is. result_as (IsOf ds t) (evaluated (slice_get values k)) (known at.value) (ap evaluated at.there)
             (at.is.variable t is);
         output =
-            λ n t is. result_as (IsOf ds t) (on_one (done (slice_get values k)) (part n))
-            (on_one (known at.value) (part n)) (ap (λ o. on_one (done o) (part n)) at.there) (at.is.output n t is);
+            λ n t is. result_as (IsOf ds t) (on_one (evaluated (slice_get values k)) (part n))
+            (on_one (known at.value) (part n)) (ap (λ o. on_one (evaluated o) (part n)) at.there) (at.is.output n t is);
         function = λ ps t vs is are. go k there ps t vs is are;
       }
 
@@ -368,16 +370,17 @@ module _ (allowed : Allowed) (ds : Decls) (scoped : Scoped) (sound : IsSound all
           (subst (λ u. EndsIn allowed (IsOf ds u) (variable_value (variable scoped item) (Some is.decl) judging))
           (sym is.ty_is)
           (variable_value-ends (call scoped values before) values vs item is.decl judging here
-          (own-judged (call scoped values before) values vs item is.decl here
+          (own-judging_of (call scoped values before) values vs item is.decl here
           (function_defined is.decl (all_at Placed scoped.items item is.decl sound.placed here) is.function)
           (subst (λ us. AreOf ds us vs) is.params_are are) ready).ends))
         where
           judging : Judged Value
-          judging = judged scoped (call scoped values before) values vs (variable scoped item)
+          judging = judging_of scoped (call scoped values before) values vs (variable scoped item)
       by false e rest ps t vs is are =
           ends_as allowed (IsOf ds t) (call scoped values (item ∷ before) f vs) (call scoped values before f vs)
           (ap (λ b. if b then variable_value (variable scoped item) (slice_get scoped.items item)
-          (judged scoped (call scoped values before) values vs (variable scoped item)) else call scoped values before f
+          (judging_of scoped (call scoped values before) values vs (variable scoped item)) else
+            call scoped values before f
           vs) e)
           (rest f (behind_first item f before e there) ps t vs is are)
 
@@ -397,14 +400,15 @@ module _ (allowed : Allowed) (ds : Decls) (scoped : Scoped) (sound : IsSound all
         (true≢false (sym (called_is is.called.kind is.scope is.kind_is) ∙ ap (λ (i : ItemDecl). is_called i.kind)
         (decl_is is.called is.called_is) ∙ free))
 
-    pub done-variable : (v : Value) → is_called decl.kind ≡ false → IsOf ds decl.ty v → IsDone ns item (Some v)
-    done-variable v free typed = record {
+    pub evaluated-variable : (v : Value) → is_called decl.kind ≡ false → IsOf ds decl.ty v → IsDone ns item (Some v)
+    evaluated-variable v free typed = record {
       variable = λ t is. subst (λ u. IsOf ds u v) (sym (is.3 ∙ ap (λ (i : ItemDecl). i.ty) (decl_is is.0 is.1))) typed;
       output = λ k t is. no_output free k t is;
     }
 
-    done-function : (o : Option Value) → is_called decl.kind ≡ false → has_none decl.params ≡ false → IsDone ns item o
-    done-function o free some = record {
+    evaluated-function : (o : Option Value) → is_called decl.kind ≡ false → has_none decl.params ≡ false
+      → IsDone ns item o
+    evaluated-function o free some = record {
       variable =
           λ t is. absurd (true≢false
           (sym (both (not (is_called is.0.kind)) (has_none is.0.params) is.2).1 ∙ ap
@@ -412,9 +416,10 @@ module _ (allowed : Allowed) (ds : Decls) (scoped : Scoped) (sound : IsSound all
       output = λ k t is. no_output free k t is;
     }
 
-    done-called : (s : ℕ) (outputs : List Value) (callee : Callee allowed ds scoped.runs s) → decl.kind ≡ kind.Called s
+    evaluated-called : (s : ℕ) (outputs : List Value) (callee : Callee allowed ds scoped.runs s)
+      → decl.kind ≡ kind.Called s
         → AreOutputsOf ds callee.scope.items outputs → IsDone ns item (Some (value.Structure outputs))
-    done-called s outputs callee is_kind are = record {
+    evaluated-called s outputs callee is_kind are = record {
       variable =
           λ t is. absurd (not_both (is_called is.0.kind)
           (both (not (is_called is.0.kind)) (has_none is.0.params) is.2).0
@@ -443,24 +448,26 @@ module _ (allowed : Allowed) (ds : Decls) (scoped : Scoped) (sound : IsSound all
           → IsTrue (not (must_be_given decl.kind))
           → EndsIn allowed (IsDone ns item) (defined_value scoped before values item decl ps)
       defined-ends [] e free open_one =
-          let judging = own-judged (call scoped values before) values [] item decl at
+          let judging = own-judging_of (call scoped values before) values [] item decl at
           (and_both _ _ (ap not free) open_one) (subst (λ us. AreOf ds us []) (sym e) tt) readies in
           ends_then allowed (IsOf ds decl.ty) (IsDone ns item)
           (variable_value (variable scoped item) (Some decl)
           (decided (variable scoped item)
-          (judged scoped (call scoped values before) values [] (variable scoped item)))) _
+          (judging_of scoped (call scoped values before) values [] (variable scoped item)))) _
           (variable_value-ends (call scoped values before) values [] item decl
-          (decided (variable scoped item) (judged scoped (call scoped values before) values [] (variable scoped item)))
+          (decided (variable scoped item) (judging_of scoped (call scoped values before) values []
+            (variable scoped item)))
           at
           (decided-ends allowed
           (IsHeldOf (allowed.may_stop (variable scoped item) || may_be_empty ns item None) ds decl.ty)
           (variable scoped item)
-          (judged scoped (call scoped values before) values [] (variable scoped item)) judging.ends (judging.stands e)))
-          (λ v hv. (tt, done-variable v free hv))
-      defined-ends (t ∷ ts) e free open_one = (tt, done-function None free (ap has_none e))
+          (judging_of scoped (call scoped values before) values [] (variable scoped item)) judging.ends
+            (judging.stands e)))
+          (λ v hv. (tt, evaluated-variable v free hv))
+      defined-ends (t ∷ ts) e free open_one = (tt, evaluated-function None free (ap has_none e))
 
       abbrev judged_at : ℕ → Judged Value
-      judged_at n = judged scoped (call scoped values before) values [] (variable_of_called scoped item n)
+      judged_at n = judging_of scoped (call scoped values before) values [] (variable_of_called scoped item n)
 
       pub called-ends : (s : ℕ) → decl.kind ≡ kind.Called s → Callee allowed ds scoped.runs s
           → EndsIn allowed (IsDone ns item)
@@ -487,7 +494,7 @@ module _ (allowed : Allowed) (ds : Decls) (scoped : Scoped) (sound : IsSound all
           (zero_plus j) ∙ is) may))))
           (λ input typed. ends_then allowed (AreOutputsOf ds callee.scope.items) (λ v. IsDone ns item (Some v))
           (scoped.runs s input) _ (callee.ends input typed)
-          (λ outputs are. (tt, done-called s outputs callee is_kind are))))
+          (λ outputs are. (tt, evaluated-called s outputs callee is_kind are))))
           (λ v hv. (tt, hv))
         where
           inner-decided : (j : ℕ) (i : ItemDecl) → slice_get (scope_items ds s) (0 + j) ≡ Some i
@@ -507,7 +514,7 @@ module _ (allowed : Allowed) (ds : Decls) (scoped : Scoped) (sound : IsSound all
                 params_are = refl;
                 ty_is = refl;
               } in
-              let judging = judged-ends (call scoped values before) values [] item
+              let judging = judging_of-ends (call scoped values before) values [] item
               (Some (0 + j)) [] i.ty inner tt readies in
               decided-ends allowed
               (IsHeldOf (allowed.may_stop (variable_of_called scoped item (0 + j)) || may_be_empty ns item

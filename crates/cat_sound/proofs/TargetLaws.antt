@@ -16,7 +16,7 @@ use Rattle.cat_scope.specs.Judging.{Held, Judged, place_in, decided}
 use Rattle.cat_scope.specs.Targets.{same_target, defs_from, judge_groups, judge_target, absent, value_or}
 use Rattle.cat_value.specs.declared.declaration.ItemDecl.{ItemDecl}
 use Rattle.cat_value.specs.Inputs.{must_be_given}
-use Rattle.cat_scope.specs.Calls.{Items, Scoped, variable, judged, variable_value, call}
+use Rattle.cat_scope.specs.Calls.{Items, Scoped, variable, judging_of, variable_value, call}
 use Rattle.cat_scope.specs.ItemValues.{passed, defined_value}
 
 passed_over : (target : Target) (n : ℕ) (d : Def) (ds : List Def) → same_target d.target target ≡ false
@@ -72,7 +72,7 @@ value-stops target decl judging s condition is =
 pub condition-stops : (scoped : Scoped) (before : List ℕ) (values : Items) (item : ℕ) (decl : ItemDecl) (other : Target)
   (there : Pos) → decl.condition ≡ true
     → (defined_value scoped before values item decl []).end ≡ Err (NoValue other there)
-      → (judged scoped (call scoped values before) values [] (variable scoped item)).end ≡ Err (NoValue other there)
+      → (judging_of scoped (call scoped values before) values [] (variable scoped item)).end ≡ Err (NoValue other there)
 condition-stops scoped before values item decl other there condition is =
     behind-stops judging.log judging.end
       (λ found. record { log = record { target = variable scoped item; by = place_in found } ∷ []; end = Ok found })
@@ -81,7 +81,7 @@ condition-stops scoped before values item decl other there condition is =
     (behind-stops value.log value.end (λ v. gives (Some v)) (NoValue other there) (λ v. refl) is))
   where
     judging : Judged Value
-    judging = judged scoped (call scoped values before) values [] (variable scoped item)
+    judging = judging_of scoped (call scoped values before) values [] (variable scoped item)
 
     value : Run Value
     value = variable_value (variable scoped item) (Some decl) (decided (variable scoped item) judging)
@@ -104,7 +104,7 @@ pub function-stops : (scoped : Scoped) (values : Items) (before : List ℕ) (fun
   (decl : ItemDecl) (other : Target) (there : Pos)
     → slice_get scoped.items function ≡ Some decl → decl.condition ≡ true
       → (call scoped values (function ∷ before) function arguments).end ≡ Err (NoValue other there)
-    → (judged scoped (call scoped values before) values arguments (variable scoped function)).end ≡ Err
+    → (judging_of scoped (call scoped values before) values arguments (variable scoped function)).end ≡ Err
       (NoValue other there)
 function-stops scoped values before function arguments decl other there at condition is =
     value-stops (variable scoped function) decl judging (NoValue other there) condition
@@ -113,7 +113,7 @@ function-stops scoped values before function arguments decl other there at condi
     ∙ ap (λ o. (variable_value (variable scoped function) o judging).end) at) ∙ is)
   where
     judging : Judged Value
-    judging = judged scoped (call scoped values before) values arguments (variable scoped function)
+    judging = judging_of scoped (call scoped values before) values arguments (variable scoped function)
 
 -- the ways in which a condition goes on
 pub ruleset conditions_go_on = (condition-stops, input-has, function-stops)

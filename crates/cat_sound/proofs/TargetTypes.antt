@@ -20,7 +20,7 @@ use Rattle.cat_scope.specs.Replies.{Reply}
 use Rattle.cat_scope.specs.Runs.{Run, plain, gives, behind, and_then}
 use Rattle.cat_scope.specs.declared.stop.Stop.{Stop}
 use Rattle.cat_scope.specs.Groups.{Numbered, Key, Group, key_of, same_key, is_among, with_key, group_at, groups_from}
-use Rattle.cat_scope.specs.Groups.{groups_of, numbers_of, is_none, roots_of, target_of, paired, pairs_from, excepts}
+use Rattle.cat_scope.specs.Groups.{groups_of, group_numbers, is_none, roots_of, target_of, paired, pairs_from, excepts}
 use Rattle.cat_scope.specs.Groups.{excepting}
 use Rattle.cat_scope.specs.Judging.{Held, Judged, with_held, holding, alone, settle, found_or, or_else, judge, place_in}
 use Rattle.cat_scope.specs.Judging.{decided}
@@ -185,16 +185,17 @@ record Passing (passes : Group → Bool) (n : ℕ) (gs : List Group) (k : ℕ) :
   there : slice_get gs place ≡ Some group
   passed : IsTrue (passes group)
 
-passing-all : (passes : Group → Bool) (n : ℕ) (gs : List Group) → AllHave (Passing passes n gs) (numbers_of passes n gs)
+passing-all : (passes : Group → Bool) (n : ℕ) (gs : List Group) → AllHave (Passing passes n gs)
+  (group_numbers passes n gs)
 passing-all passes n [] = tt
 passing-all passes n (g ∷ gs) =
     by (passes g) refl (all_more (Passing passes (n + 1) gs) (Passing passes n (g ∷ gs))
-    (numbers_of passes (n + 1) gs) (passing-all passes (n + 1) gs)
+    (group_numbers passes (n + 1) gs) (passing-all passes (n + 1) gs)
     (λ k e. let is = e.is in record { place = suc e.place; group = e.group; is = omega arith; there = e.there; passed =
       e.passed }))
   where
-    by : (b : Bool) → passes g ≡ b → AllHave (Passing passes n (g ∷ gs)) (numbers_of passes (n + 1) gs)
-        → AllHave (Passing passes n (g ∷ gs)) (if b then n ∷ numbers_of passes (n + 1) gs else numbers_of passes
+    by : (b : Bool) → passes g ≡ b → AllHave (Passing passes n (g ∷ gs)) (group_numbers passes (n + 1) gs)
+        → AllHave (Passing passes n (g ∷ gs)) (if b then n ∷ group_numbers passes (n + 1) gs else group_numbers passes
         (n + 1) gs)
     by true e rest = (record { place = 0; group = g; is = omega arith; there = refl; passed = e }, rest)
     by false e rest = rest

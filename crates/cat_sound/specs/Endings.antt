@@ -12,7 +12,7 @@ use Rattle.cat_value.specs.Typing.{has_type}
 use Rattle.cat_scope.specs.declared.stop.Stop.{Stop}
 use Rattle.cat_scope.specs.declared.stop.Stop.TheVariants.{Conflict, NoValue, Fault, Stuck}
 use Rattle.cat_scope.specs.declared.expr.Expr.{Expr}
-use Rattle.cat_scope.specs.Replies.{on_one, done}
+use Rattle.cat_scope.specs.Replies.{on_one, evaluated}
 use Rattle.cat_scope.specs.Runs.{Decider, Run}
 use Rattle.cat_scope.specs.Names.{Names, AllHave, is_plain, outputs_in}
 use Rattle.cat_scope.specs.Fitting.{are_call_fields, input_type}
@@ -79,9 +79,9 @@ abbrev pub AreOutputsOf : Decls → List ItemDecl → List Value → Type 0
 AreOutputsOf ds items outputs = AreOf ds (types_of (outputs_in items)) outputs
 
 -- the numbers of some fields with their values
-abbrev pub numbers_of : List (ℕ × Value) → List ℕ
-numbers_of [] = []
-numbers_of (f ∷ fs) = f.0 ∷ numbers_of fs
+abbrev pub field_numbers : List (ℕ × Value) → List ℕ
+field_numbers [] = []
+field_numbers (f ∷ fs) = f.0 ∷ field_numbers fs
 
 -- a field is of the type that its number has
 abbrev pub IsFieldOf : Decls → (ℕ → Option Ty) → ℕ × Value → Type 0
@@ -91,9 +91,9 @@ IsFieldOf ds type_of f = (t : Ty) × (type_of f.0 ≡ Some t) × IsOf ds t f.1
 -- of its type, and a function ends in a value of its type for arguments of the types of its parameters
 pub record IsReady (allowed : Allowed) (ns : Names) (env : Env) (item : ℕ) : Type 0 where
   pub variable : (t : Ty) → IsItem is_plain ns.items item t
-      → ResultsIn (IsOf ns.decls t) (done (slice_get env.items item))
+      → ResultsIn (IsOf ns.decls t) (evaluated (slice_get env.items item))
   pub output : (k : ℕ) (t : Ty) → IsCalledOutput ns item k t
-      → ResultsIn (IsOf ns.decls t) (on_one (done (slice_get env.items item)) (part k))
+      → ResultsIn (IsOf ns.decls t) (on_one (evaluated (slice_get env.items item)) (part k))
   pub function : (params : List Ty) (t : Ty) (vs : List Value) → IsFunction ns item params t → AreOf ns.decls params vs
       → EndsIn allowed (IsOf ns.decls t) (env.call item vs)
 
@@ -101,7 +101,7 @@ pub record IsReady (allowed : Allowed) (ns : Names) (env : Env) (item : ℕ) : T
 abbrev pub IsCallable : Allowed → Names → Env → ℕ → Type 0
 IsCallable allowed ns env scope =
     (fs : List (ℕ × Value)) (k : ℕ) (t : Ty) → AllHave (IsFieldOf ns.decls (input_type ns.decls scope)) fs
-    → IsTrue (are_call_fields ns.decls scope (numbers_of fs)) → IsOutput ns.decls scope k t
+    → IsTrue (are_call_fields ns.decls scope (field_numbers fs)) → IsOutput ns.decls scope k t
     → EndsIn allowed (IsOf ns.decls t) (env.scope_call scope fs k)
 
 -- an environment has what an expression names

@@ -5,7 +5,7 @@ use Rattle.cat_value.specs.declared.outcome.Target.{Target}
 use Rattle.cat_scope.specs.Runs.{Decider}
 use Rattle.cat_scope.specs.Judging.{Held, place_in}
 use Rattle.cat_scope.specs.Targets.{same_target}
-use Rattle.cat_scope.specs.Calls.{Items, Scoped, call, judged}
+use Rattle.cat_scope.specs.Calls.{Items, Scoped, call, judging_of}
 use Rattle.cat_scope.specs.Running.{backwards, entry_at, no_values, run_items}
 
 -- a target of the scope: a variable, or what is inside of a called scope
@@ -24,7 +24,8 @@ pub record WasJudged (scoped : Scoped) (input : Items) (decider : Decider) : Typ
   pub in_order : scoped.body.order ≡ front ++ item ∷ back
   pub not_given : entry_at item input ≡ None
   pub reached : (run_items scoped input [] (no_values scoped.items) front).end ≡ Ok values
-  pub is : (judged scoped (call scoped values (backwards front)) values [] (target_in scoped item inner)).end ≡ Ok found
+  pub is : (judging_of scoped (call scoped values (backwards front)) values [] (target_in scoped item inner)).end ≡ Ok
+    found
   pub logged : decider ≡ record { target = target_in scoped item inner; by = place_in found }
 
 -- a log that is made of what was judged in the run of a scope, and of the whole logs of scopes that are run within

@@ -10,7 +10,7 @@ use Rattle.cat_scope.specs.declared.expr.FieldValue.{FieldValue}
 use Rattle.cat_scope.specs.declared.expr.Arm.{Arm}
 use Rattle.cat_scope.specs.declared.expr.Expr.TheOpen.{Expr-F}
 use Rattle.cat_scope.specs.Literals.{literal_type, literal_fits}
-use Rattle.cat_scope.specs.Signatures.{Row, rows_of, taken_by, given_by, summed_type, compared_types}
+use Rattle.cat_scope.specs.Signatures.{Signature, signatures_of, taken_by, given_by, summed_type, compared_types}
 use Rattle.cat_scope.specs.Names.{Names, IsOneOf, is_plain}
 use Rattle.cat_scope.specs.Fitting.{numbers_in, are_complete, field_type, are_fields_of, is_low_type, are_call_fields}
 use Rattle.cat_scope.specs.Fitting.{has_case, input_type}
@@ -27,7 +27,7 @@ PartsTyped ns ls (Expr-F.Field p e k) t =
     (n : ℕ) × HasType ns ls e (flat.Structure n) × (field_type ns.decls n k ≡ Some t)
 PartsTyped ns ls (Expr-F.Unary p o e) t = HasType ns ls e (taken_by o) × (t ≡ given_by o)
 PartsTyped ns ls (Expr-F.Binary p o q a b) t =
-    (r : Row) × IsOneOf r (rows_of o) × HasType ns ls a r.left × HasType ns ls b r.right × (t ≡ r.result)
+    (r : Signature) × IsOneOf r (signatures_of o) × HasType ns ls a r.left × HasType ns ls b r.right × (t ≡ r.result)
 PartsTyped ns ls (Expr-F.And p a b) t = HasType ns ls a flat.Boolean × HasType ns ls b flat.Boolean × (t ≡ flat.Boolean)
 PartsTyped ns ls (Expr-F.Or p a b) t = HasType ns ls a flat.Boolean × HasType ns ls b flat.Boolean × (t ≡ flat.Boolean)
 PartsTyped ns ls (Expr-F.If p c a b) t = HasType ns ls c flat.Boolean × HasType ns ls a t × HasType ns ls b t

@@ -9,7 +9,7 @@ ghost use Rattle.cat_scope.specs.Runs.{Run};
 ghost use Rattle.cat_pos.specs.declared.pos.Pos.{Pos};
 ghost use Rattle.cat_value.specs.declared.declaration.ItemDecl.{ItemDecl};
 ghost use Rattle.cat_scope.specs.declared.stop.Stop.TheVariants.{NoValue};
-ghost use Rattle.cat_scope.specs.Calls.{Items, Scoped, call, judged, variable};
+ghost use Rattle.cat_scope.specs.Calls.{Items, Scoped, call, judging_of, variable};
 ghost use Rattle.cat_scope.specs.ItemValues.{defined_value, passed};
 ghost use Rattle.cat_scope.specs.Groups.{Group, excepts, excepting, exceptions_of};
 ghost use Rattle.cat_scope.specs.Judging.{Held, Judged, judge, settle, or_else};
@@ -32,13 +32,13 @@ pub fn targets_rest_on_their_definitions()
 pub fn conditions_have_values()
     ensures variable { (scoped : Scoped) (before : List ℕ) (values : Items) (item : ℕ) (decl : ItemDecl) (other : Target) (there : Pos) → decl.condition ≡ true
         → (defined_value scoped before values item decl []).end ≡ Err (NoValue other there)
-        → (judged scoped (call scoped values before) values [] (variable scoped item)).end ≡ Err (NoValue other there) }
+        → (judging_of scoped (call scoped values before) values [] (variable scoped item)).end ≡ Err (NoValue other there) }
     ensures input { (target : Target) (place : Pos) (decl : ItemDecl) (found : Option (Held Value)) (other : Target) (there : Pos) → decl.condition ≡ true
         → ¬ (passed target place decl found ≡ Err (NoValue other there)) }
     ensures function { (scoped : Scoped) (values : Items) (before : List ℕ) (function : ℕ) (arguments : List Value) (decl : ItemDecl) (other : Target) (there : Pos)
         → slice_get scoped.items function ≡ Some decl → decl.condition ≡ true
         → (call scoped values (function ∷ before) function arguments).end ≡ Err (NoValue other there)
-        → (judged scoped (call scoped values before) values arguments (variable scoped function)).end ≡ Err (NoValue other there) }
+        → (judging_of scoped (call scoped values before) values arguments (variable scoped function)).end ≡ Err (NoValue other there) }
 {}
 
 /// A group is judged by its rule, where no group of the target is an exception to itself through others: as the list of

@@ -3,7 +3,7 @@ ghost use Rattle.std.specs.Prelude.{◌≡◌, ◌↔◌, ◌<◌, ◌++◌, ℕ
 ghost use Rattle.cat_order.specs.Order.{IsOrder};
 ghost use Rattle.cat_value.specs.declared.value.Value.{Value};
 ghost use Rattle.cat_scope.specs.declared.expr.Expr.{Expr};
-ghost use Rattle.cat_scope.specs.Calls.{Items, Scoped, call, judged, variable, variable_value};
+ghost use Rattle.cat_scope.specs.Calls.{Items, Scoped, call, judging_of, variable, variable_value};
 ghost use Rattle.cat_scope.specs.Eval.{Env, eval};
 ghost use Rattle.cat_scope.specs.Names.{is_in};
 ghost use Rattle.cat_scope.specs.Orders.{item_dependencies};
@@ -46,7 +46,7 @@ pub fn functions_are_judged_by_the_rule()
         → IsOrder (item_dependencies scoped.items scoped.body.defs) scoped.body.order → function < length scoped.items
         → call scoped values (backwards scoped.body.order) function arguments
         ≡ variable_value (variable scoped function) (slice_get scoped.items function)
-        (judged scoped (call scoped values (backwards scoped.body.order)) values arguments (variable scoped function)) }
+        (judging_of scoped (call scoped values (backwards scoped.body.order)) values arguments (variable scoped function)) }
     ensures behind { (scoped : Scoped) (values : Items) (more : Items) (place : ℕ) (function : ℕ) (arguments : List Value)
         → IsOrder (item_dependencies scoped.items scoped.body.defs) scoped.body.order → IsTrue (is_in function (take place scoped.body.order))
         → ((item : ℕ) → IsTrue (is_in item (take place scoped.body.order)) → slice_get values item ≡ slice_get more item)

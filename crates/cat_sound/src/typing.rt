@@ -4,7 +4,7 @@ ghost use Rattle.cat_value.specs.declared.decls.Decls.{Decls};
 ghost use Rattle.cat_scope.specs.declared.operators.UnaryOp.{UnaryOp};
 ghost use Rattle.cat_scope.specs.declared.operators.BinaryOp.{BinaryOp};
 ghost use Rattle.cat_scope.specs.Names.{AllHave, IsOneOf, Names, scope_items};
-ghost use Rattle.cat_scope.specs.Signatures.{Row, rows_of, taken_by, given_by};
+ghost use Rattle.cat_scope.specs.Signatures.{Signature, signatures_of, taken_by, given_by};
 ghost use Rattle.cat_scope.specs.Operators.{convert, operate};
 ghost use Rattle.cat_sound.specs.Settled.{IsClosed, ScopesSettled};
 ghost use Rattle.std.specs.Prelude.{Bool, ℕ, IsTrue, List};
@@ -31,12 +31,12 @@ pub fn conversions_go_on()
     ensures { (ds : Decls) (p : Pos) (v : Value) (o : UnaryOp) → IsOf ds (taken_by o) v → ResultsIn (IsOf ds (given_by o)) (convert o p v) }
 {}
 
-/// An operator between two operands isn't stuck on values of the types of one of its rows: it gives a value of the type
-/// of that row, or a fault.
+/// An operator between two operands isn't stuck on values of the types of one of its signatures: it gives a value of
+/// the type of that signature, or a fault.
 #[tactic(auto, using(crate::proofs::OperatorTypes::operators_go_on))]
 pub fn operators_go_on()
-    ensures { (ds : Decls) (r : Rounding) (p : Pos) (v : Value) (w : Value) (row : Row) (o : BinaryOp)
-        → IsOneOf row (rows_of o) → IsOf ds row.left v → IsOf ds row.right w → ResultsIn (IsOf ds row.result) (operate r o p v w) }
+    ensures { (ds : Decls) (r : Rounding) (p : Pos) (v : Value) (w : Value) (signature : Signature) (o : BinaryOp)
+        → IsOneOf signature (signatures_of o) → IsOf ds signature.left v → IsOf ds signature.right w → ResultsIn (IsOf ds signature.result) (operate r o p v w) }
 {}
 
 /// A well-typed expression, in an environment that has what it names, ends in a value of its type, in a fault, or in a
