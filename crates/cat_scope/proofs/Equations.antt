@@ -24,7 +24,8 @@ use Rattle.cat_scope.specs.Runs.{Decider, Run, plain, gives, behind, and_then, g
 use Rattle.cat_scope.specs.Projections.{case_of}
 use Rattle.cat_scope.specs.Operators.{convert, operate}
 use Rattle.cat_scope.specs.Lists.{for_all, exists, mapped, filtered, combined, contained, zero_of, summed}
-use Rattle.cat_scope.specs.Eval.{Env, eval, eval_all, eval_fields, eval_arms, meaning_of, field_meaning, arm_meaning}
+use Rattle.cat_scope.specs.Eval.{Env, eval, meaning_of, field_meaning, arm_meaning}
+use Rattle.cat_scope.specs.inside.EvalParts.{eval_all, eval_fields, eval_arms}
 use Rattle.cat_scope.specs.Composed.{Meaning, literal_value, part, all_of, field_values, structured, arm_value, matched}
 use Rattle.cat_scope.specs.Composed.{listed}
 

@@ -20,7 +20,8 @@ use Rattle.cat_scope.specs.declared.operators.SumKind.TheVariants.{Integers}
 use Rattle.cat_scope.specs.Replies.{Reply}
 use Rattle.cat_scope.specs.Runs.{Run, plain, stops, and_then}
 use Rattle.cat_scope.specs.Projections.{case_of}
-use Rattle.cat_scope.specs.Eval.{Env, eval, eval_arms}
+use Rattle.cat_scope.specs.Eval.{Env, eval}
+use Rattle.cat_scope.specs.inside.EvalParts.{eval_arms}
 use Rattle.cat_scope.proofs.Equations.{equations, eval_Literal, eval_Case_Some, eval_Match}
 use Rattle.cat_scope.proofs.Samples.{at, whole}
 

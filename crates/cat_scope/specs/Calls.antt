@@ -70,8 +70,7 @@ env_of scoped calls values =
 -- a target, where functions give what `calls` tells and the items have these values
 abbrev pub judging_of : Scoped → (ℕ → List Value → Run Value) → Items → List Value → Target → Judged Value
 judging_of scoped calls values arguments target =
-  judge_target (λ e. eval (env_of scoped calls values) e arguments) target
-    scoped.body.defs
+    judge_target (λ e. eval (env_of scoped calls values) e arguments) target scoped.body.defs
 
 -- the value of a variable or a function, by its judging: where it is Empty, false for a condition, else NoValue at its
 -- name

@@ -5,19 +5,16 @@ use Rattle.cat_date.specs.declared.rounding.Rounding.{Rounding}
 use Rattle.cat_value.specs.declared.value.Value.{Value}
 use Rattle.cat_value.specs.declared.value.Value.TheVariants as flat
 use Rattle.cat_value.specs.declared.value.Value.TheViews as value
-use Rattle.cat_scope.specs.declared.stop.Stop.TheVariants.{Stuck}
 use Rattle.cat_scope.specs.declared.expr.ArmPattern.{ArmPattern}
 use Rattle.cat_scope.specs.declared.expr.Expr.{Expr}
-use Rattle.cat_scope.specs.declared.expr.FieldValue.{FieldValue}
-use Rattle.cat_scope.specs.declared.expr.Arm.{Arm}
 use Rattle.cat_scope.specs.declared.expr.Expr.TheOpen.{Expr-F, FieldValue-F, Arm-F}
 use Rattle.cat_scope.specs.declared.expr.Expr.TheFolds.{fold-Expr}
 use Rattle.cat_scope.specs.Replies.{on_one, known, evaluated}
-use Rattle.cat_scope.specs.Runs.{Run, plain, gives, stops, and_then, giving, in_front, choose}
+use Rattle.cat_scope.specs.Runs.{Run, plain, gives, and_then, giving, choose}
 use Rattle.cat_scope.specs.Projections.{case_of}
 use Rattle.cat_scope.specs.Operators.{convert, operate}
 use Rattle.cat_scope.specs.Lists.{for_all, exists, mapped, filtered, combined, contained, zero_of, summed}
-use Rattle.cat_scope.specs.Composed.{Meaning, literal_value, part, all_of, field_values, structured, arm_value, matched}
+use Rattle.cat_scope.specs.Composed.{Meaning, literal_value, part, all_of, field_values, structured, matched}
 use Rattle.cat_scope.specs.Composed.{listed}
 
 -- what an expression stands in: what becomes of a day that its month lacks, the values of the items that are done, what
@@ -52,19 +49,21 @@ meaning_of env (Expr-F.List p es) locals = and_then (all_of es locals) (λ vs. g
 meaning_of env (Expr-F.ForAll p l test) locals = and_then (listed l locals) (for_all (λ v. test (locals ++ v ∷ [])))
 meaning_of env (Expr-F.Exists p l test) locals = and_then (listed l locals) (exists (λ v. test (locals ++ v ∷ [])))
 meaning_of env (Expr-F.Map p l e) locals =
-    and_then (listed l locals) (λ vs. and_then (mapped (λ v. e (locals ++ v ∷ [])) vs) (λ ws. gives (value.List ws)))
+    and_then (listed l locals)
+    (λ vs. and_then (mapped (λ v. e (locals ++ v ∷ [])) vs) (λ ws. gives (value.List ws)))
 meaning_of env (Expr-F.Filter p l test) locals =
-    and_then (listed l locals) (λ vs. and_then (filtered (λ v. test (locals ++ v ∷ [])) vs)
-      (λ ws. gives (value.List ws)))
+    and_then (listed l locals)
+    (λ vs. and_then (filtered (λ v. test (locals ++ v ∷ [])) vs) (λ ws. gives (value.List ws)))
 meaning_of env (Expr-F.Combine p l start e) locals =
-    and_then (listed l locals) (λ vs. and_then (start locals) (combined (λ v before. e (locals ++ v ∷ before ∷ [])) vs))
+    and_then (listed l locals)
+    (λ vs. and_then (start locals) (combined (λ v total. e (locals ++ v ∷ total ∷ [])) vs))
 meaning_of env (Expr-F.Contains p at l e) locals =
     and_then (listed l locals) (λ vs. giving (e locals) (λ v. contained at v vs))
 meaning_of env (Expr-F.Length p l) locals = and_then (listed l locals) (λ vs. gives (flat.Integer (pos (length vs))))
 meaning_of env (Expr-F.Sum p kind l) locals = giving (listed l locals) (λ vs. summed kind p vs (zero_of kind))
 meaning_of env (Expr-F.Call p f es) locals = and_then (all_of es locals) (env.call f)
 meaning_of env (Expr-F.ScopeCall p s fields k) locals =
-  and_then (field_values fields locals) (λ fs. env.scope_call s fs k)
+    and_then (field_values fields locals) (λ fs. env.scope_call s fs k)
 
 -- a field with its number
 abbrev pub field_meaning : FieldValue-F Meaning (ArmPattern × Meaning) (ℕ × Meaning) → ℕ × Meaning
@@ -77,20 +76,3 @@ arm_meaning a = (a.pattern, a.body)
 -- what an expression gives in an environment
 unfoldable pub eval : Env → Expr → Meaning
 eval env = fold-Expr Meaning (ArmPattern × Meaning) (ℕ × Meaning) (meaning_of env) arm_meaning field_meaning
-
--- the values of some expressions, from the left
-abbrev pub eval_all : Env → List Expr → List Value → Run (List Value)
-eval_all env [] locals = gives []
-eval_all env (e ∷ es) locals = in_front (eval env e locals) (eval_all env es locals)
-
--- the values of some fields, in written order
-abbrev pub eval_fields : Env → List FieldValue → List Value → Run (List (ℕ × Value))
-eval_fields env [] locals = gives []
-eval_fields env (f ∷ fs) locals = in_front (and_then (eval env f.value locals) (λ v. gives (f.field, v)))
-    (eval_fields env fs locals)
-
--- the first arm that is for the case
-abbrev pub eval_arms : Env → List Arm → ℕ → Option Value → List Value → Run Value
-eval_arms env [] k content locals = stops Stuck
-eval_arms env (a ∷ arms) k content locals = arm_value a.pattern (eval env a.body) (eval_arms env arms k content locals)
-    k content locals

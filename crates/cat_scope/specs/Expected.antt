@@ -24,8 +24,7 @@ content_placed None = true
 content_placed (Some e) = e true
 
 -- elements or arms: of the first what is expected of the whole, and of each later one the type of the first. Where
--- there
--- is none, a type must be expected of the whole
+-- there is none, a type must be expected of the whole
 abbrev pub row_placed : List Placed → Placed
 row_placed [] expected = expected
 row_placed (e ∷ es) expected = e expected && all_placed es

@@ -39,8 +39,8 @@ are_low (target ∷ targets) = is_low target && are_low targets
 abbrev pub called_places : ℕ → ℕ → ℕ → List ItemDecl → List Target
 called_places scope item n [] = []
 called_places scope item n (inner ∷ rest) =
-    if may_be_given inner.kind then record { scope = scope; item = item; inner = Some n } ∷ called_places scope item
-    (n + 1) rest
+    if may_be_given inner.kind
+    then record { scope = scope; item = item; inner = Some n } ∷ called_places scope item (n + 1) rest
     else called_places scope item (n + 1) rest
 
 -- the targets that an item stands for, by its kind
@@ -54,12 +54,11 @@ places_of ds scope item None = []
 places_of ds scope item (Some decl) = places_at ds scope item decl.kind
 
 -- the targets of a scope, in the evaluation order: its variables that are no inputs, and for a called scope that
--- scope's
--- inputs and contexts in the order of their declarations
+-- scope's inputs and contexts in the order of their declarations
 abbrev pub targets_of : Decls → ℕ → List ItemDecl → List ℕ → List Target
 targets_of ds scope items [] = []
-targets_of ds scope items (item ∷ order) = places_of ds scope item (slice_get items item) ++ targets_of ds scope items
-    order
+targets_of ds scope items (item ∷ order) =
+    places_of ds scope item (slice_get items item) ++ targets_of ds scope items order
 
 -- the numbers of some definitions
 abbrev pub definition_numbers : List Numbered → List ℕ
@@ -69,9 +68,8 @@ definition_numbers (d ∷ ds) = d.0 ∷ definition_numbers ds
 -- groups from number n on, each with the numbers of its definitions and of the groups that except it
 abbrev pub forest_groups : List (ℕ × ℕ) → ℕ → List Group → List ForestGroup
 forest_groups pairs n [] = []
-forest_groups pairs n (g ∷ gs) = record { defs = definition_numbers g.defs; excepted_by = excepting pairs n } ∷
-  forest_groups
-    pairs (n + 1) gs
+forest_groups pairs n (g ∷ gs) =
+    record { defs = definition_numbers g.defs; excepted_by = excepting pairs n } ∷ forest_groups pairs (n + 1) gs
 
 -- all groups of a target
 abbrev pub forest_of_groups : List Group → List ForestGroup
@@ -86,5 +84,6 @@ forest_of defs (place ∷ places) =
 -- the program has a scope of that number, and a forest has each target of it, with its groups and what excepts what, as
 -- the labels tell
 abbrev pub StandsFor : Program → ℕ → List ForestTarget → Type 0
-StandsFor program scope targets = (body : Body) × (slice_get program.bodies scope ≡ Some body)
+StandsFor program scope targets =
+    (body : Body) × (slice_get program.bodies scope ≡ Some body)
     × (targets ≡ forest_of body.defs (targets_of program.decls scope (scope_items program.decls scope) body.order))

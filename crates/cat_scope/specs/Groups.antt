@@ -10,9 +10,8 @@ use Rattle.cat_scope.specs.declared.defs.Def.{Def}
 abbrev pub Numbered : Type 0
 Numbered = ℕ × Def
 
--- what the definitions of a group have in common: the text of a label; or that they have none and are no exceptions. An
--- exception
--- without a label is a group of its own
+-- what the definitions of a group have in common: the text of a label; or that they have none and are no exceptions.
+-- An exception without a label is a group of its own
 pub data Key : Type 0 where
   Labelled : List ℕ → Key
   Base : Key
@@ -44,7 +43,10 @@ is_among key (k ∷ ks) = if same_key key k then true else is_among key ks
 -- the definitions with a key, in source order
 abbrev pub with_key : Key → List Numbered → List Numbered
 with_key key [] = []
-with_key key (d ∷ ds) = if same_key key (key_of d) then d ∷ with_key key ds else with_key key ds
+with_key key (d ∷ ds) =
+    if same_key key (key_of d)
+    then d ∷ with_key key ds
+    else with_key key ds
 
 -- a group is an exception to what its first definition is one to
 pub record Group : Type 0 where
@@ -60,7 +62,9 @@ group_at all d = record { key = key_of d; except = d.1.except; defs = with_key (
 abbrev pub groups_from : List Numbered → List Key → List Numbered → List Group
 groups_from all seen [] = []
 groups_from all seen (d ∷ ds) =
-    if is_among (key_of d) seen then groups_from all seen ds else group_at all d ∷ groups_from all (key_of d ∷ seen) ds
+    if is_among (key_of d) seen
+    then groups_from all seen ds
+    else group_at all d ∷ groups_from all (key_of d ∷ seen) ds
 
 -- the groups of a target's definitions, ordered by their first definitions, and so numbered from 0
 abbrev pub groups_of : List Numbered → List Group
@@ -111,7 +115,10 @@ excepts groups = pairs_from groups 0 groups
 -- the groups that except a group, in their order
 abbrev pub excepting : List (ℕ × ℕ) → ℕ → List ℕ
 excepting [] h = []
-excepting (pair ∷ pairs) h = if nat_eq pair.1 h then pair.0 ∷ excepting pairs h else excepting pairs h
+excepting (pair ∷ pairs) h =
+    if nat_eq pair.1 h
+    then pair.0 ∷ excepting pairs h
+    else excepting pairs h
 
 -- the same from group n on
 abbrev pub exceptions_from : List (ℕ × ℕ) → ℕ → List Group → List (List ℕ)

@@ -21,28 +21,34 @@ use Rattle.cat_scope.specs.Calls.{call}
 -- an input or a context of a called scope: nothing where a context is Empty
 abbrev pub passed : Target → Pos → ItemDecl → Option (Held Value) → Result (Option Value) Stop
 passed target place decl None =
-    if must_be_given decl.kind then on_one (absent target place decl.condition) (λ v. Ok (Some v)) else Ok None
+    if must_be_given decl.kind
+    then on_one (absent target place decl.condition) (λ v. Ok (Some v))
+    else Ok None
 passed target place decl (Some h) = Ok (Some h.value)
 
 -- the input of a called scope: its inputs and contexts from number n on, in the order of their declarations
 abbrev pub passed_input : (ℕ → Judged Value) → (ℕ → Target) → Pos → ℕ → List ItemDecl → Run Items
 passed_input judged_at target_at place n [] = gives []
-passed_input judged_at target_at place n (decl ∷ decls) = in_front
-    (if may_be_given decl.kind then giving (decided (target_at n) (judged_at n)) (passed (target_at n) place decl) else
-    gives None)
+passed_input judged_at target_at place n (decl ∷ decls) =
+    in_front
+    (if may_be_given decl.kind
+    then giving (decided (target_at n) (judged_at n)) (passed (target_at n) place decl)
+    else gives None)
     (passed_input judged_at target_at place (n + 1) decls)
 
 -- a called scope: its inputs and contexts are judged, and then it is run
 abbrev pub called_value : Scoped → List ℕ → Items → ℕ → ItemDecl → ℕ → Run Value
 called_value scoped before values item decl called =
-    and_then (passed_input (λ n. judging_of scoped (call scoped values before) values []
-      (variable_of_called scoped item n))
+    and_then
+    (passed_input
+    (λ n. judging_of scoped (call scoped values before) values [] (variable_of_called scoped item n))
     (variable_of_called scoped item) decl.pos 0 (items_of scoped called))
     (λ input. and_then (scoped.runs called input) (λ outputs. gives (value.Structure outputs)))
 
 -- a function is passed over, and any other variable is judged
 abbrev pub defined_value : Scoped → List ℕ → Items → ℕ → ItemDecl → List Ty → Run (Option Value)
-defined_value scoped before values item decl [] = and_then
+defined_value scoped before values item decl [] =
+    and_then
     (variable_value (variable scoped item) (Some decl)
     (decided (variable scoped item) (judging_of scoped (call scoped values before) values [] (variable scoped item))))
     (λ v. gives (Some v))

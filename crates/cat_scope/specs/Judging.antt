@@ -66,8 +66,8 @@ or_else first other = and_then first (λ found. found_or found other)
 -- come to `own`; a chain of exceptions that is longer than n is stuck
 abbrev pub judge : {A : Type 0} → Target → List (ℕ × ℕ) → (ℕ → Judged A) → ℕ → ℕ → Judged A
 judge place pairs own zero group = stops Stuck
-judge place pairs own (suc n) group = or_else (settle place (map (judge place pairs own n) (excepting pairs group)))
-    (own group)
+judge place pairs own (suc n) group =
+    or_else (settle place (map (judge place pairs own n) (excepting pairs group))) (own group)
 
 -- the place of the definition that holds
 abbrev pub place_in : {A : Type 0} → Option (Held A) → Option Pos

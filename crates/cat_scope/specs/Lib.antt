@@ -31,3 +31,5 @@ pub mod Forests
 pub mod Same
 pub mod OperatorNumbers
 pub mod SameTree
+-- what proofs take apart: no public clause cites it
+pub mod inside

@@ -58,7 +58,7 @@ abbrev pub outputs_in : List ItemDecl → List ItemDecl
 outputs_in [] = []
 outputs_in (item ∷ items) = if is_output item.kind then item ∷ outputs_in items else outputs_in items
 
--- the items of the scope of that number, and its output k
+-- the items of the scope of that number
 abbrev pub scope_items : Decls → ℕ → List ItemDecl
 scope_items ds scope = items_in (slice_get ds.scopes scope)
 
@@ -85,5 +85,5 @@ are_all_in (suc n) ns = is_in n ns && are_all_in n ns
 abbrev pub inputs_given : ℕ → List ItemDecl → List ℕ → Bool
 inputs_given n [] fields = true
 inputs_given n (item ∷ items) fields =
-    (if must_be_given item.kind && not item.condition then is_in n fields else true) && inputs_given (n + 1) items
-    fields
+    (if must_be_given item.kind && not item.condition then is_in n fields else true)
+    && inputs_given (n + 1) items fields

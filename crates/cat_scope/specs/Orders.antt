@@ -25,8 +25,10 @@ in_def named d = in_condition named d.condition ++ named d.consequence
 -- what the definitions of an item name, those of a called scope's variables too
 abbrev pub in_defs_of : (Expr → List ℕ) → ℕ → List Def → List ℕ
 in_defs_of named item [] = []
-in_defs_of named item (d ∷ ds) = if nat_eq d.target.item item then in_def named d ++ in_defs_of named item ds else
-    in_defs_of named item ds
+in_defs_of named item (d ∷ ds) =
+    if nat_eq d.target.item item
+    then in_def named d ++ in_defs_of named item ds
+    else in_defs_of named item ds
 
 -- for each item from number n on, what its definitions name
 abbrev pub dependencies_from : (Expr → List ℕ) → List Def → ℕ → List ItemDecl → List (List ℕ)

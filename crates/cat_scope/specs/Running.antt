@@ -52,13 +52,15 @@ asserted value (a ∷ rest) last =
 abbrev pub outputs_of : List ItemDecl → Items → Result (List Value) Stop
 outputs_of [] values = Ok []
 outputs_of (item ∷ items) [] = Err Stuck
-outputs_of (item ∷ items) (v ∷ values) = if is_output item.kind then with_front (known v) (outputs_of items values) else
-    outputs_of items values
+outputs_of (item ∷ items) (v ∷ values) =
+    if is_output item.kind
+    then with_front (known v) (outputs_of items values)
+    else outputs_of items values
 
 -- numbers, the last of them first
 abbrev pub moved : List ℕ → List ℕ → List ℕ
-moved done [] = done
-moved done (n ∷ ns) = moved (n ∷ done) ns
+moved ns [] = ns
+moved ns (m ∷ ms) = moved (m ∷ ns) ms
 
 -- a list of numbers from its end
 abbrev pub backwards : List ℕ → List ℕ
@@ -68,7 +70,8 @@ backwards ns = moved [] ns
 abbrev pub run_scoped : Scoped → Items → Run (List Value)
 run_scoped scoped input =
     and_then (run_items scoped input [] (no_values scoped.items) scoped.body.order)
-    (λ values. asserted (λ e. eval (env_of scoped (call scoped values (backwards scoped.body.order)) values) e [])
+    (λ values. asserted
+    (λ e. eval (env_of scoped (call scoped values (backwards scoped.body.order)) values) e [])
     scoped.body.assertions (plain (outputs_of scoped.items values)))
 
 -- the scope of that number, where it is declared and has a body
@@ -82,7 +85,8 @@ run_scope scopes runs n (Some scope) (Some body) input =
 abbrev pub run : List Scope → List Body → List ℕ → Runs
 run scopes bodies [] scope input = stops Stuck
 run scopes bodies (n ∷ before) scope input =
-    if nat_eq n scope then run_scope scopes (run scopes bodies before) n (slice_get scopes n) (slice_get bodies n) input
+    if nat_eq n scope
+    then run_scope scopes (run scopes bodies before) n (slice_get scopes n) (slice_get bodies n) input
     else run scopes bodies before scope input
 
 -- what a scope gives for an input, by the declarations of the scopes, their bodies and their order

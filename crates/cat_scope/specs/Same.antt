@@ -1,6 +1,5 @@
 -- Expressions that agree but for positions. A parameter is the parameter of its function, and a name that is bound
--- inside
--- is counted from its binder.
+-- inside is counted from its binder.
 use Rattle.std.specs.Prelude.{◌≡◌, ◌+◌, ◌<◌, ℕ, List, [], ◌∷◌, Option, Some, None, Result, Ok, Err}
 use Rattle.cat_pos.specs.declared.pos.Pos.{Pos}
 use Rattle.cat_scope.specs.declared.stop.Stop.{Stop}

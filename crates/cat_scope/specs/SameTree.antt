@@ -45,8 +45,8 @@ each_same (t ∷ ts) (x ∷ xs) = t x && each_same ts xs
 each_same _ _ = false
 
 -- a form beside another, where each part has its test
-abbrev pub same_in : Standing → Standing → Expr-F (Expr → Bool) (Arm → Bool) (FieldValue → Bool)
-    → Expr-F Expr Arm FieldValue → Bool
+abbrev pub same_in : Standing → Standing
+    → Expr-F (Expr → Bool) (Arm → Bool) (FieldValue → Bool) → Expr-F Expr Arm FieldValue → Bool
 same_in g h (Expr-F.Literal p l) (Expr-F.Literal q m) = same_literal l m
 same_in g h (Expr-F.Item p i) (Expr-F.Item q j) = nat_eq i j
 same_in g h (Expr-F.Output p i k) (Expr-F.Output q j m) = nat_eq i j && nat_eq k m
@@ -87,5 +87,5 @@ same_field f other = nat_eq f.field other.field && f.value other.value
 
 -- whether two expressions agree but for positions
 unfoldable pub same_tree : Standing → Standing → Expr → Expr → Bool
-same_tree g h = fold-Expr (Expr → Bool) (Arm → Bool) (FieldValue → Bool) (λ y f. same_in g h y (out-Expr f)) same_arm
-    same_field
+same_tree g h =
+    fold-Expr (Expr → Bool) (Arm → Bool) (FieldValue → Bool) (λ y f. same_in g h y (out-Expr f)) same_arm same_field

@@ -26,8 +26,10 @@ same_target p q = nat_eq p.item q.item && same_inner p.inner q.inner
 -- the definitions of a target, in source order, with their numbers from n on
 abbrev pub defs_from : Target → ℕ → List Def → List Numbered
 defs_from target n [] = []
-defs_from target n (d ∷ ds) = if same_target d.target target then (n, d) ∷ defs_from target (n + 1) ds else
-    defs_from target (n + 1) ds
+defs_from target n (d ∷ ds) =
+    if same_target d.target target
+    then (n, d) ∷ defs_from target (n + 1) ds
+    else defs_from target (n + 1) ds
 
 -- a condition is true where there is none
 abbrev pub condition_of : (Expr → Run Value) → Option Expr → Run Value
@@ -40,7 +42,8 @@ held_as d v = record { number = d.0; pos = d.1.pos; value = v }
 
 -- a definition: its condition and, where that is true, at once its consequence
 abbrev pub judge_def : (Expr → Run Value) → Numbered → Judged Value
-judge_def value d = and_then (condition_of value d.1.condition)
+judge_def value d =
+    and_then (condition_of value d.1.condition)
     (λ t. choose t (and_then (value d.1.consequence) (λ v. gives (Some (held_as d v)))) (gives None))
 
 -- a group's own definitions, where each definition comes to something
@@ -51,14 +54,11 @@ own_by each target (Some group) = settle target (map each group.defs)
 -- a target is judged as the list of its roots
 abbrev pub groups_by : {A : Type 0} → (Numbered → Judged A) → Target → List Group → Judged A
 groups_by each target groups =
-    settle target (map (judge target (excepts groups) (λ g. own_by each target (slice_get groups g)) (length groups))
+    settle target
+    (map (judge target (excepts groups) (λ g. own_by each target (slice_get groups g)) (length groups))
     (roots_of groups))
 
--- a group's own definitions, each by its condition and its consequence
-abbrev pub judge_own : (Expr → Run Value) → Target → Option Group → Judged Value
-judge_own value target group = own_by (judge_def value) target group
-
--- all groups of a target
+-- all groups of a target, each definition by its condition and its consequence
 abbrev pub judge_groups : (Expr → Run Value) → Target → List Group → Judged Value
 judge_groups value target groups = groups_by (judge_def value) target groups
 

@@ -1,5 +1,5 @@
--- What holds of every program: it is well typed, its orders are those of its dependencies, and no chain of calls is
--- long.
+-- What holds of every program: it is well typed, its orders are those of its dependencies, and its chains of calls
+-- are short.
 use Rattle.std.specs.Prelude.{◌≡◌, ℕ, zero, suc, ◌+◌, Bool, true, false, not, ◌&&◌, ◌||◌, IsTrue, List, [], ◌∷◌, length}
 use Rattle.std.specs.Prelude.{Option, Some, None}
 use Rattle.cat_value.specs.declared.ty.Ty.{Ty}

@@ -13,7 +13,8 @@ use std::test::Fail;
 
 /// What there is to say of a scope without items.
 fn bodies(alloc: Global) -> Result<Bodies, AllocError>
-    ensures { IfOk result (λ bodies. bodies ≡ record { defs = []; assertions = []; source = Declaration ∷ []; rounding = Up; order = []; calls = [] } ∷ []) }
+    ensures { IfOk result (λ bodies. bodies
+        ≡ record { defs = []; assertions = []; source = Declaration ∷ []; rounding = Up; order = []; calls = [] } ∷ []) }
 {
     let mut source = List::new(alloc);
     source.push(SourcePart::Declaration)?;

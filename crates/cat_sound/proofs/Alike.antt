@@ -35,7 +35,8 @@ use Rattle.cat_scope.specs.Comparing.{compared, compared_in, equal, equal_in}
 use Rattle.cat_scope.specs.Operators.{on_two, convert, operate}
 use Rattle.cat_scope.specs.Composed.{Meaning, part, structured, arm_locals, arm_value, listed}
 use Rattle.cat_scope.specs.Lists.{for_all, exists, mapped, filtered, combined, contained, zero_of, adding, summed}
-use Rattle.cat_scope.specs.Eval.{Env, eval, eval_all, eval_fields, eval_arms}
+use Rattle.cat_scope.specs.Eval.{Env, eval}
+use Rattle.cat_scope.specs.inside.EvalParts.{eval_all, eval_fields, eval_arms}
 use Rattle.cat_scope.specs.Same.{Standing, Same, SameAll, SameFields, SameArms, kept, Alike}
 use Rattle.cat_scope.specs.Same as same
 use Rattle.cat_scope.proofs.Exported.{append_append}

@@ -33,7 +33,8 @@ use Rattle.cat_scope.specs.Naming.{IsItem, IsCalledOutput, IsFunction, IsOutput}
 use Rattle.cat_scope.specs.HasType.{HasType, AllHaveType, EachHasType, FieldsHaveType, ArmsHaveType}
 use Rattle.cat_scope.specs.HasType as typed
 use Rattle.cat_scope.specs.Names.{AllHave}
-use Rattle.cat_scope.specs.Eval.{Env, eval, eval_all, eval_fields, eval_arms}
+use Rattle.cat_scope.specs.Eval.{Env, eval}
+use Rattle.cat_scope.specs.inside.EvalParts.{eval_all, eval_fields, eval_arms}
 use Rattle.cat_scope.specs.Literals.{literal_type}
 use Rattle.cat_scope.specs.Composed.{literal_value, part, structured, listed}
 use Rattle.cat_sound.specs.Endings.{Allowed, EndsIn, IsOf, AreOf, IsFieldOf, field_numbers, IsReady, IsCallable}
@@ -390,9 +391,9 @@ mutual
         (expr.outs-If p c a b) has).1.0 are)
         (sound allowed env locals i (env_parts allowed ns env (expr.If p c a b) (Expr-F.If p c a b)
         (expr.outs-If p c a b) has).1.1.0 are)
-  sound allowed env locals {ns} (typed.matching {ls = ls} {p = p} {e = e} {arms = arms} {t = t} n h each complete) has are =
-      on_Match allowed ns env locals p e arms n ls t are
-        (sound allowed env locals h (env_parts allowed ns env (expr.Match p e arms) (Expr-F.Match p e arms)
+  sound allowed env vs {ns} (typed.matching {ls = ls} {p = p} {e = e} {arms = arms} {t = t} n h each complete) has are =
+      on_Match allowed ns env vs p e arms n ls t are
+        (sound allowed env vs h (env_parts allowed ns env (expr.Match p e arms) (Expr-F.Match p e arms)
         (expr.outs-Match p e arms) has).0 are)
         (arms_sound allowed env each (env_parts allowed ns env (expr.Match p e arms) (Expr-F.Match p e arms)
         (expr.outs-Match p e arms) has).1) complete
@@ -441,15 +442,15 @@ mutual
         (λ v hv. sound allowed env (locals ++ v ∷ []) g
         (env_parts allowed ns env (expr.Filter p l test) (Expr-F.Filter p l test) (expr.outs-Filter p l test) has).1.0
         (are_more ns.decls ls (t ∷ []) locals (v ∷ []) are (hv, tt)))
-  sound allowed env locals {ns} (typed.combine {ls = ls} {p = p} {l = l} {start = start} {e = e} {u = u} t h g i) has are =
-      on_Combine allowed ns env locals p l start e t u
-        (sound allowed env locals h (env_parts allowed ns env (expr.Combine p l start e) (Expr-F.Combine p l start e)
+  sound allowed env vs {ns} (typed.combine {ls = ls} {p = p} {l = l} {start = start} {e = e} {u = u} t h g i) has are =
+      on_Combine allowed ns env vs p l start e t u
+        (sound allowed env vs h (env_parts allowed ns env (expr.Combine p l start e) (Expr-F.Combine p l start e)
         (expr.outs-Combine p l start e) has).0 are)
-        (sound allowed env locals g (env_parts allowed ns env (expr.Combine p l start e) (Expr-F.Combine p l start e)
+        (sound allowed env vs g (env_parts allowed ns env (expr.Combine p l start e) (Expr-F.Combine p l start e)
         (expr.outs-Combine p l start e) has).1.0 are)
-      (λ v w hv hw. sound allowed env (locals ++ v ∷ w ∷ []) i (env_parts allowed ns env (expr.Combine p l start e)
+      (λ v w hv hw. sound allowed env (vs ++ v ∷ w ∷ []) i (env_parts allowed ns env (expr.Combine p l start e)
         (Expr-F.Combine p l start e) (expr.outs-Combine p l start e) has).1.1.0
-        (are_more ns.decls ls (t ∷ u ∷ []) locals (v ∷ w ∷ []) are (hv, (hw, tt))))
+        (are_more ns.decls ls (t ∷ u ∷ []) vs (v ∷ w ∷ []) are (hv, (hw, tt))))
   sound allowed env locals {ns} (typed.contains {ls = ls} {p = p} {q = q} {l = l} {e = e} t h g is) has are =
       on_Contains allowed ns env locals p q l e t is
         (sound allowed env locals h (env_parts allowed ns env (expr.Contains p q l e) (Expr-F.Contains p q l e)
@@ -469,10 +470,10 @@ mutual
         (expr.outs-Call p f es) has).0 is
         (each_sound allowed env locals h (env_parts allowed ns env (expr.Call p f es) (Expr-F.Call p f es)
         (expr.outs-Call p f es) has) are)
-  sound allowed env locals {ns} (typed.scope_call {ls = ls} {p = p} {s = s} {k = k} {fs = fs} {t = t} h there is) has are =
-      on_ScopeCall allowed ns env locals p s fs k t
+  sound allowed env vs {ns} (typed.scope_call {ls = ls} {p = p} {s = s} {k = k} {fs = fs} {t = t} h there is) has are =
+      on_ScopeCall allowed ns env vs p s fs k t
         (env_scope allowed ns env (expr.ScopeCall p s fs k) (Expr-F.ScopeCall p s fs k) (expr.outs-ScopeCall p s fs k)
-        has).0 (fields_sound allowed env locals h
+        has).0 (fields_sound allowed env vs h
         (env_parts allowed ns env (expr.ScopeCall p s fs k) (Expr-F.ScopeCall p s fs k) (expr.outs-ScopeCall p s fs k)
         has) are) there is
 
@@ -497,9 +498,9 @@ mutual
     → AllHave (IsEnvOf allowed ns env) (values_of fs)
       → AreOf ns.decls ls locals → EndsIn allowed (AreWritten ns.decls type_of fs) (eval_fields env fs locals)
   fields_sound allowed env locals typed.fields_none has are = (tt, record { numbers = refl; typed = tt })
-  fields_sound allowed env locals {ns} (typed.fields_more {ls = ls} {ts = type_of} {f = f} {fs = fs} t is h more) has are =
-      on_fields_more allowed ns env locals type_of t f fs is (sound allowed env locals h has.0 are)
-        (fields_sound allowed env locals more has.1 are)
+  fields_sound allowed env vs {ns} (typed.fields_more {ls = ls} {ts = type_of} {f = f} {fs = fs} t is h more) has are =
+      on_fields_more allowed ns env vs type_of t f fs is (sound allowed env vs h has.0 are)
+        (fields_sound allowed env vs more has.1 are)
 
   arms_sound : (allowed : Allowed) → (env : Env) {ns : Names} {ls : List Ty} {n : ℕ} {arms : List Arm} {t : Ty}
     → ArmsHaveType ns ls n arms t → AllHave (IsEnvOf allowed ns env) (bodies_of arms)

@@ -28,7 +28,8 @@ use Rattle.cat_scope.specs.Names.{is_in, are_all_in}
 use Rattle.cat_scope.specs.Fitting.{with_case, cases_of, is_anything, ends_in_anything, cases_in, are_complete}
 use Rattle.cat_scope.specs.Fitting.{ArmLocals, field_at, type_in, field_type, are_fields_of}
 use Rattle.cat_scope.specs.Names.{AllHave}
-use Rattle.cat_scope.specs.Eval.{Env, eval, eval_arms}
+use Rattle.cat_scope.specs.Eval.{Env, eval}
+use Rattle.cat_scope.specs.inside.EvalParts.{eval_arms}
 use Rattle.cat_scope.specs.Composed.{Meaning, part, value_given, in_order, structured, arm_locals, arm_value}
 use Rattle.cat_sound.specs.Endings.{Allowed, EndsIn, ResultsIn, IsOf, AreOf, IsFieldOf, field_numbers}
 use Rattle.cat_sound.proofs.Results.{both, result_as, result_then, result_with_front, result_known, are_more}

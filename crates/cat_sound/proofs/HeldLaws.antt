@@ -118,3 +118,6 @@ pub named : (place target : Target) (hs : Several) (places : List Pos) → alone
 named place target [] places e = absurd (true≢false (ap is_ok e))
 named place target (h ∷ []) places e = absurd (true≢false (ap is_ok e))
 named place target (h ∷ i ∷ hs) places e = sym (ap places_of e)
+
+-- the laws of what holds
+pub ruleset held_laws = (of_all, counts_kept, are_rising, named)

@@ -11,7 +11,7 @@ use Rattle.cat_scope.specs.Runs.{Run, gives, and_then, choose}
 use Rattle.cat_scope.specs.Names.{AllHave}
 use Rattle.cat_scope.specs.Groups.{Numbered, Group, groups_of, roots_of, excepts}
 use Rattle.cat_scope.specs.Judging.{Judged, settle, judge}
-use Rattle.cat_scope.specs.Targets.{same_inner, same_target, defs_from, condition_of, held_as, judge_def, judge_own}
+use Rattle.cat_scope.specs.Targets.{same_inner, same_target, defs_from, condition_of, held_as, judge_def, own_by}
 use Rattle.cat_scope.specs.Targets.{judge_target}
 use Rattle.cat_scope.specs.Eval.{Env, eval}
 use Rattle.cat_scope.specs.Orders.{in_condition, in_def, in_defs_of}
@@ -40,7 +40,7 @@ module _ (v w : Expr → Run Value) where
     ∙ ap (λ (js : List (Judged Value)). judge_def w d ∷ js) (defs_same ds h.1)
 
   own_same : (target : Target) (groups : List Group) → AllHave (λ g. AllHave (λ d. DefSame d.1) g.defs) groups → (k : ℕ)
-    → judge_own v target (slice_get groups k) ≡ judge_own w target (slice_get groups k)
+    → own_by (judge_def v) target (slice_get groups k) ≡ own_by (judge_def w) target (slice_get groups k)
   own_same target [] all k = refl
   own_same target (g ∷ groups) all zero = ap (settle target) (defs_same g.defs all.0)
   own_same target (g ∷ groups) all (suc k) = own_same target groups all.1 k

@@ -389,9 +389,9 @@ pub each_once : (ds : Decls) (bodies : List Body) (order : List ℕ) → ∥ IsW
     → times_logged (record { scope = number; item = item; inner = None })
     (run_of ds.scopes bodies order number input).log ≡ 1
 unfolding run_of
-each_once ds bodies order formed number scope body input outputs item decl scope_is body_is at is_variable not_given ends =
+each_once ds bodies order formed number scope body input outputs item decl scope_is body_is at plain not_given ends =
     ∥∥₁_elim formed (hlevel props)
-    (λ f. once_among ds bodies number scope body scope_is body_is input outputs item decl at is_variable not_given
+    (λ f. once_among ds bodies number scope body scope_is body_is input outputs item decl at plain not_given
     (stands_once f) (backwards order) (differ_of ds bodies order f) ends)
   where
     stands_once : IsWellFormed ds bodies order → times body.order item ≡ 1

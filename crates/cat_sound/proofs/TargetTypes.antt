@@ -25,7 +25,7 @@ use Rattle.cat_scope.specs.Groups.{excepting}
 use Rattle.cat_scope.specs.Judging.{Held, Judged, with_held, holding, alone, settle, found_or, or_else, judge, place_in}
 use Rattle.cat_scope.specs.Judging.{decided}
 use Rattle.cat_scope.specs.Names.{AllHave}
-use Rattle.cat_scope.specs.Targets.{same_target, defs_from, condition_of, held_as, judge_def, judge_own, judge_groups}
+use Rattle.cat_scope.specs.Targets.{same_target, defs_from, condition_of, held_as, judge_def, own_by, judge_groups}
 use Rattle.cat_scope.specs.Targets.{judge_target, absent, value_or}
 use Rattle.cat_sound.specs.Endings.{Allowed, IsDecision, Ended, EndsIn, IsOf}
 use Rattle.cat_sound.specs.Settled.{IsHeldOf, MayStand}
@@ -211,12 +211,12 @@ module _ (allowed : Allowed) (ds : Decls) (t : Ty) (value : Expr → Run Value) 
     (free : IsTrue (allowed.may_stop place)) (groups : List Group)
     (each : AllHave (λ g. AllHave (λ d. DefEnds allowed ds t value d.1) g.defs) groups) where
   abbrev own : ℕ → Judged Value
-  own g = judge_own value place (slice_get groups g)
+  own g = own_by (judge_def value) place (slice_get groups g)
 
   own-ends : (g : ℕ) (group : Group) → slice_get groups g ≡ Some group → EndsIn allowed (IsHeldOf true ds t) (own g)
   own-ends g group is =
       ends_as allowed (IsHeldOf true ds t) (own g) (settle place (map (judge_def value) group.defs))
-      (ap (judge_own value place) is)
+      (ap (own_by (judge_def value) place) is)
       (settle-ends allowed ds t place free (map (judge_def value) group.defs)
       (all_map (λ d. DefEnds allowed ds t value d.1) (EndsIn allowed (IsHeldOf true ds t))
       (judge_def value) group.defs (all_at (λ g. AllHave

@@ -24,10 +24,11 @@ pub fn groups_part_their_definitions()
 {}
 
 /// A conflict names the places of the definitions that hold, each as often as it holds, by their rising numbers.
-#[tactic(auto, using(crate::proofs::HeldLaws::of_all, crate::proofs::HeldLaws::counts_kept, crate::proofs::HeldLaws::are_rising, crate::proofs::HeldLaws::named))]
+#[tactic(auto, using(crate::proofs::HeldLaws::held_laws))]
 pub fn conflicts_name_what_holds()
     ensures same { (hs : List (Held Value)) (h : Held Value) → IsOneOf h (in_source_order hs) ↔ IsOneOf h hs }
-    ensures counts { (hs : List (Held Value)) (n : ℕ) → times (numbers_held (in_source_order hs)) n ≡ times (numbers_held hs) n }
+    ensures counts { (hs : List (Held Value)) (n : ℕ)
+        → times (numbers_held (in_source_order hs)) n ≡ times (numbers_held hs) n }
     ensures rising { (hs : List (Held Value)) → AreRising (numbers_held (in_source_order hs)) }
     ensures named { (place : Target) (target : Target) (hs : List (Held Value)) (places : List Pos)
         → alone place hs ≡ Err (Conflict target places) → places ≡ positions_in (in_source_order hs) }

@@ -1,6 +1,7 @@
 // What holds of judging: of targets, of groups and of their exceptions.
 ghost use Rattle.cat_scope.specs.Names.{AllHave};
-ghost use Rattle.std.specs.Prelude.{◌≡◌, ◌<◌, length, ℕ, false, IsTrue, List, ◌∷◌, ◌++◌, map, ◌↔◌, Option, Some, true, Err, [], slice_get};
+ghost use Rattle.std.specs.Prelude.{◌≡◌, ◌↔◌, ◌<◌, ℕ, true, false, IsTrue, List, [], ◌∷◌, ◌++◌, length, map, slice_get};
+ghost use Rattle.std.specs.Prelude.{Option, Some, Err};
 ghost use Rattle.cat_value.specs.declared.value.Value.{Value};
 ghost use Rattle.cat_value.specs.declared.outcome.Target.{Target};
 ghost use Rattle.cat_scope.specs.declared.expr.Expr.{Expr};
@@ -26,19 +27,24 @@ pub fn targets_rest_on_their_definitions()
         → judge_target value target (front ++ d ∷ back) ≡ judge_target value target (front ++ e ∷ back) }
 {}
 
-/// A condition has no NoValue of its own, be it a variable, an input of a called scope or a function: where one ends in a
-/// NoValue, its judging met it.
+/// A condition has no NoValue of its own, be it a variable, an input of a called scope or a function: where one ends in
+/// a NoValue, its judging met it.
 #[tactic(auto, using(crate::proofs::TargetLaws::conditions_go_on))]
 pub fn conditions_have_values()
-    ensures variable { (scoped : Scoped) (before : List ℕ) (values : Items) (item : ℕ) (decl : ItemDecl) (other : Target) (there : Pos) → decl.condition ≡ true
+    ensures variable { (scoped : Scoped) (before : List ℕ) (values : Items) (item : ℕ) (decl : ItemDecl)
+        (other : Target) (there : Pos) → decl.condition ≡ true
         → (defined_value scoped before values item decl []).end ≡ Err (NoValue other there)
-        → (judging_of scoped (call scoped values before) values [] (variable scoped item)).end ≡ Err (NoValue other there) }
-    ensures input { (target : Target) (place : Pos) (decl : ItemDecl) (found : Option (Held Value)) (other : Target) (there : Pos) → decl.condition ≡ true
+        → (judging_of scoped (call scoped values before) values [] (variable scoped item)).end
+        ≡ Err (NoValue other there) }
+    ensures input { (target : Target) (place : Pos) (decl : ItemDecl) (found : Option (Held Value)) (other : Target)
+        (there : Pos) → decl.condition ≡ true
         → ¬ (passed target place decl found ≡ Err (NoValue other there)) }
-    ensures function { (scoped : Scoped) (values : Items) (before : List ℕ) (function : ℕ) (arguments : List Value) (decl : ItemDecl) (other : Target) (there : Pos)
+    ensures function { (scoped : Scoped) (values : Items) (before : List ℕ) (function : ℕ) (arguments : List Value)
+        (decl : ItemDecl) (other : Target) (there : Pos)
         → slice_get scoped.items function ≡ Some decl → decl.condition ≡ true
         → (call scoped values (function ∷ before) function arguments).end ≡ Err (NoValue other there)
-        → (judging_of scoped (call scoped values before) values arguments (variable scoped function)).end ≡ Err (NoValue other there) }
+        → (judging_of scoped (call scoped values before) values arguments (variable scoped function)).end
+        ≡ Err (NoValue other there) }
 {}
 
 /// A group is judged by its rule, where no group of the target is an exception to itself through others: as the list of
@@ -49,11 +55,15 @@ pub fn groups_are_judged_by_their_rule()
     ensures values { (place : Target) (groups : List Group) (own : ℕ → Judged Value) (group : ℕ)
         → HasNoCycle (exceptions_of groups) → group < length groups
         → judge place (excepts groups) own (length groups) group
-        ≡ or_else (settle place (map (judge place (excepts groups) own (length groups)) (excepting (excepts groups) group))) (own group) }
+        ≡ or_else
+        (settle place (map (judge place (excepts groups) own (length groups)) (excepting (excepts groups) group)))
+        (own group) }
     ensures truths { (place : Target) (groups : List Group) (own : ℕ → Judged (Unit {0})) (group : ℕ)
         → HasNoCycle (exceptions_of groups) → group < length groups
         → judge place (excepts groups) own (length groups) group
-        ≡ or_else (settle place (map (judge place (excepts groups) own (length groups)) (excepting (excepts groups) group))) (own group) }
+        ≡ or_else
+        (settle place (map (judge place (excepts groups) own (length groups)) (excepting (excepts groups) group)))
+        (own group) }
 {}
 
 /// The invariant of a forest says just this: no group is above itself, and no chain is longer than 256.

@@ -26,5 +26,6 @@ pub fn each_variable_is_logged_once(program: &Program)
         → slice_get program.now.bodies number ≡ Some body
         → slice_get scope.items item ≡ Some decl → IsTrue (is_plain decl) → entry_at item input ≡ None
         → (scope_run program.now number input).end ≡ Ok outputs
-        → times_logged (record { scope = number; item = item; inner = None }) (scope_run program.now number input).log ≡ 1 }
+        → times_logged (record { scope = number; item = item; inner = None }) (scope_run program.now number input).log
+        ≡ 1 }
 {}

@@ -26,7 +26,8 @@ pub fn expressions_rest_on_what_they_name()
 /// function have the same arguments.
 #[tactic(auto, using(crate::proofs::Alike::same_gives))]
 pub fn positions_change_no_value()
-    ensures { (env : Env) (here : Standing) (there : Standing) (e : Expr) (f : Expr) (arguments : List Value) (others : List Value) (locals : List Value)
+    ensures { (env : Env) (here : Standing) (there : Standing) (e : Expr) (f : Expr) (arguments : List Value)
+        (others : List Value) (locals : List Value)
         → Same here there e f → length arguments ≡ here.params → length others ≡ there.params
         → (here.function ≡ there.function → arguments ≡ others)
         → Alike (eval env e (arguments ++ locals)) (eval env f (others ++ locals)) }
@@ -35,7 +36,8 @@ pub fn positions_change_no_value()
 /// The test of two expressions is true exactly where they agree but for positions.
 #[tactic(auto, using(crate::proofs::Trees::test_decides))]
 pub fn the_test_of_trees_decides()
-    ensures { (here : Standing) (there : Standing) (e : Expr) (f : Expr) → IsTrue (same_tree here there e f) ↔ Same here there e f }
+    ensures { (here : Standing) (there : Standing) (e : Expr) (f : Expr)
+        → IsTrue (same_tree here there e f) ↔ Same here there e f }
 {}
 
 /// A function is judged by the rule of targets among all items of its scope; and neither more items behind it nor their
@@ -43,14 +45,20 @@ pub fn the_test_of_trees_decides()
 #[tactic(auto, using(crate::proofs::FunctionLaws::by_rule, crate::proofs::FunctionLaws::nothing_behind))]
 pub fn functions_are_judged_by_the_rule()
     ensures rule { (scoped : Scoped) (values : Items) (function : ℕ) (arguments : List Value)
-        → IsOrder (item_dependencies scoped.items scoped.body.defs) scoped.body.order → function < length scoped.items
+        → IsOrder (item_dependencies scoped.items scoped.body.defs) scoped.body.order
+        → function < length scoped.items
         → call scoped values (backwards scoped.body.order) function arguments
         ≡ variable_value (variable scoped function) (slice_get scoped.items function)
-        (judging_of scoped (call scoped values (backwards scoped.body.order)) values arguments (variable scoped function)) }
-    ensures behind { (scoped : Scoped) (values : Items) (more : Items) (place : ℕ) (function : ℕ) (arguments : List Value)
-        → IsOrder (item_dependencies scoped.items scoped.body.defs) scoped.body.order → IsTrue (is_in function (take place scoped.body.order))
-        → ((item : ℕ) → IsTrue (is_in item (take place scoped.body.order)) → slice_get values item ≡ slice_get more item)
-        → call scoped values (backwards (take place scoped.body.order)) function arguments ≡ call scoped more (backwards scoped.body.order) function arguments }
+        (judging_of scoped (call scoped values (backwards scoped.body.order)) values arguments
+        (variable scoped function)) }
+    ensures behind { (scoped : Scoped) (values : Items) (more : Items) (place : ℕ) (function : ℕ)
+        (arguments : List Value)
+        → IsOrder (item_dependencies scoped.items scoped.body.defs) scoped.body.order
+        → IsTrue (is_in function (take place scoped.body.order))
+        → ((item : ℕ) → IsTrue (is_in item (take place scoped.body.order))
+        → slice_get values item ≡ slice_get more item)
+        → call scoped values (backwards (take place scoped.body.order)) function arguments
+        ≡ call scoped more (backwards scoped.body.order) function arguments }
 {}
 
 /// A scope of a program is run by the rule of scopes, where a called scope, and a scope call, give what the run of that
@@ -60,5 +68,6 @@ pub fn scopes_are_run_by_the_rule(program: &Program)
     ensures { (number : ℕ) (scope : Scope) (body : Body) (input : Items)
         → slice_get program.now.decls.scopes number ≡ Some scope → slice_get program.now.bodies number ≡ Some body
         → scope_run program.now number input
-        ≡ run_scoped (record { scope = number; items = scope.items; body = body; scopes = program.now.decls.scopes; runs = scope_run program.now }) input }
+        ≡ run_scoped (record { scope = number; items = scope.items; body = body; scopes = program.now.decls.scopes;
+        runs = scope_run program.now }) input }
 {}

@@ -24,11 +24,12 @@ ghost use Rattle.cat_scope.specs.Running.{scope_run};
 
 use cat_scope::Program;
 
-/// An operator before one operand isn't stuck on a value of the type that it takes: it gives a value of its own type, or
-/// a fault.
+/// An operator before one operand isn't stuck on a value of the type that it takes: it gives a value of its own type,
+/// or a fault.
 #[tactic(auto, using(crate::proofs::OperatorTypes::conversions_go_on))]
 pub fn conversions_go_on()
-    ensures { (ds : Decls) (p : Pos) (v : Value) (o : UnaryOp) → IsOf ds (taken_by o) v → ResultsIn (IsOf ds (given_by o)) (convert o p v) }
+    ensures { (ds : Decls) (p : Pos) (v : Value) (o : UnaryOp) → IsOf ds (taken_by o) v
+        → ResultsIn (IsOf ds (given_by o)) (convert o p v) }
 {}
 
 /// An operator between two operands isn't stuck on values of the types of one of its signatures: it gives a value of
@@ -36,7 +37,8 @@ pub fn conversions_go_on()
 #[tactic(auto, using(crate::proofs::OperatorTypes::operators_go_on))]
 pub fn operators_go_on()
     ensures { (ds : Decls) (r : Rounding) (p : Pos) (v : Value) (w : Value) (signature : Signature) (o : BinaryOp)
-        → IsOneOf signature (signatures_of o) → IsOf ds signature.left v → IsOf ds signature.right w → ResultsIn (IsOf ds signature.result) (operate r o p v w) }
+        → IsOneOf signature (signatures_of o) → IsOf ds signature.left v → IsOf ds signature.right w
+        → ResultsIn (IsOf ds signature.result) (operate r o p v w) }
 {}
 
 /// A well-typed expression, in an environment that has what it names, ends in a value of its type, in a fault, or in a
@@ -44,7 +46,8 @@ pub fn operators_go_on()
 #[tactic(auto, using(crate::proofs::ExprTypes::expressions_go_on))]
 pub fn expressions_go_on()
     ensures { (allowed : Allowed) (ns : Names) (env : Env) (ls : List Ty) (locals : List Value) (e : Expr) (t : Ty)
-        → HasType ns ls e t → IsEnvOf allowed ns env e → AreOf ns.decls ls locals → EndsIn allowed (IsOf ns.decls t) (eval env e locals) }
+        → HasType ns ls e t → IsEnvOf allowed ns env e → AreOf ns.decls ls locals
+        → EndsIn allowed (IsOf ns.decls t) (eval env e locals) }
 {}
 
 /// A typed expression has typed parts, by its form: the rules of typing, read upwards.
@@ -66,9 +69,11 @@ pub fn programs_go_on(program: &Program)
 #[tactic(auto, using(crate::proofs::OutcomeTypes::settled_programs))]
 pub fn settled_programs_go_on(program: &Program)
     ensures { (allowed : Allowed) (within : ℕ → Bool) (scope : ℕ) (input : Items)
-        → IsClosed within program.now.decls program.now.bodies → ScopesSettled allowed within program.now.decls program.now.bodies
+        → IsClosed within program.now.decls program.now.bodies
+        → ScopesSettled allowed within program.now.decls program.now.bodies
         → IsTrue (within scope) → IsWellTyped program.now.decls scope input
-        → EndsIn allowed (AreOutputsOf program.now.decls (scope_items program.now.decls scope)) (scope_run program.now scope input) }
+        → EndsIn allowed (AreOutputsOf program.now.decls (scope_items program.now.decls scope))
+        (scope_run program.now scope input) }
 {}
 
 /// What is decided in a run is a target of a scope that is called, at once or through others, or of the scope itself.

@@ -1,0 +1,2 @@
+-- the parts of an expression evaluated, as proofs take them
+pub mod EvalParts
