@@ -80,7 +80,8 @@ bare_program decls name rounding is = record {
   bodies_are = subst (λ (scopes : List Scope). AreBodiesOf decls 0 scopes (bare_body rounding ∷ [])) (sym is)
       (body_is decls name rounding, tt);
   order = ordered (scope_dependencies decls.scopes (bare_body rounding ∷ [])) ([] ∷ []) (0 ∷ [])
-      (subst (λ (scopes : List Scope). scope_dependencies scopes (bare_body rounding ∷ []) ≡ [] ∷ []) (sym is) refl) refl;
+      (subst (λ (scopes : List Scope). scope_dependencies scopes (bare_body rounding ∷ []) ≡ [] ∷ []) (sym is) refl)
+      refl;
   chains = subst (λ (scopes : List Scope). HasShortChains (scope_dependencies scopes (bare_body rounding ∷ [])))
       (sym is) alone_is_short;
 }

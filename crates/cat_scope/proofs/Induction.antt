@@ -95,8 +95,8 @@ module _
   at_field y = y.value.1
 
   at_arm : (y : Arm-F ((e : Expr) × P e) ((a : Arm) × P a.body) ((f : FieldValue) × P f.value))
-      → P (roll-Arm (map-Arm ((e : Expr) × P e) ((a : Arm) × P a.body) ((f : FieldValue) × P f.value) Expr Arm FieldValue
-      (λ e. e.0) (λ a. a.0) (λ f. f.0) y)).body
+      → P (roll-Arm (map-Arm ((e : Expr) × P e) ((a : Arm) × P a.body) ((f : FieldValue) × P f.value) Expr Arm
+      FieldValue (λ e. e.0) (λ a. a.0) (λ f. f.0) y)).body
   at_arm y = y.body.1
 
   pub induction : (e : Expr) → P e
