@@ -50,11 +50,11 @@ use Rattle.cat_sound.proofs.WellFormedParts.{ordered}
 use Rattle.cat_sound.proofs.WellFormedCalls.{decls, x_in_t, t_items, t_defs, s_items, s_defs, y, depend, well_formed}
 
 -- a scope that calls none
-abbrev alone : List ItemDecl → List Def → List ℕ → Scoped
+abbrev pub alone : List ItemDecl → List Def → List ℕ → Scoped
 alone items defs order =
     record { scope = 0; items = items; body = body defs order; scopes = []; runs = λ scope input. stops Stuck }
 
-abbrev function : Bool → ItemDecl
+abbrev pub function : Bool → ItemDecl
 function condition =
     record { name = []; pos = at 5 12; kind = kind.Internal; ty = ty.Boolean; condition = condition; params =
       ty.Integer ∷ [] }
@@ -94,13 +94,13 @@ a_function_meets_no_value = search (rules, equations, value.the_lemmas)
 
 -- ---- a run that ends in a value
 
-abbrev fives : Scoped
+abbrev pub fives : Scoped
 fives = alone (n_in ∷ x_out ∷ []) (def x None except.No None (whole 5) (at 7 3) ∷ []) (0 ∷ 1 ∷ [])
 
-abbrev three_given : Items
+abbrev pub three_given : Items
 three_given = Some (flat.Integer (pos 3)) ∷ None ∷ []
 
-it_is_five : (run_scoped fives three_given).end ≡ Ok (flat.Integer (pos 5) ∷ [])
+pub it_is_five : (run_scoped fives three_given).end ≡ Ok (flat.Integer (pos 5) ∷ [])
 unfolding judge_target
 it_is_five = search (rules, equations, value.the_lemmas)
 
@@ -135,12 +135,12 @@ nothing_behind_it values arguments =
 
 -- ---- S calls T: the targets of T don't stop, and those of S may
 
-abbrev both_scopes : ℕ → Bool
+abbrev pub both_scopes : ℕ → Bool
 both_scopes zero = true
 both_scopes (suc zero) = true
 both_scopes (suc (suc k)) = false
 
-they_are_closed : IsClosed both_scopes decls calling_bodies
+pub they_are_closed : IsClosed both_scopes decls calling_bodies
 they_are_closed k inside =
     subst (λ (deps : List (List ℕ)). AllHave (λ s. IsTrue (both_scopes s)) (dependencies_of deps k)) (sym depend)
     (each k inside)
@@ -155,7 +155,7 @@ abbrev is_behind_t : ℕ → Bool
 is_behind_t zero = false
 is_behind_t (suc k) = true
 
-abbrev t_goes_on : Allowed
+abbrev pub t_goes_on : Allowed
 t_goes_on = record { may_stop = λ target. is_behind_t target.scope; may_decide = λ target by. true }
 
 any_stands : (target : Target) (r : Result (Option (Held Value)) Stop) → MayStand t_goes_on target r
@@ -209,7 +209,7 @@ they_are_settled zero scope its_body inside is also =
 they_are_settled (suc zero) scope its_body inside is also = s_may_stop scope.items its_body.defs
 they_are_settled (suc (suc k)) scope its_body inside is also = not_true inside
 
-its_run_stops_in_s_alone : (input : Items) → IsWellTyped decls 1 input
+pub its_run_stops_in_s_alone : (input : Items) → IsWellTyped decls 1 input
     → EndsIn t_goes_on (AreOutputsOf decls s_items) (run_of decls.scopes calling_bodies (0 ∷ 1 ∷ []) 1 input)
 its_run_stops_in_s_alone input typed =
     settled_programs t_goes_on both_scopes decls calling_bodies
@@ -217,7 +217,7 @@ its_run_stops_in_s_alone input typed =
 
 -- ---- S calls T, and each variable of S is logged once
 
-abbrev three_to_s : Items
+abbrev pub three_to_s : Items
 three_to_s = Some (flat.Integer (pos 3)) ∷ None ∷ None ∷ []
 
 it_gives_three : (run_of decls.scopes calling_bodies (0 ∷ 1 ∷ []) 1 three_to_s).end ≡ Ok (flat.Integer (pos 3) ∷ [])

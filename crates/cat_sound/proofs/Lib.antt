@@ -6,6 +6,7 @@ mod ProgramSamples
 mod TypeSamples
 mod IllFormed
 pub mod TargetLaws
+pub mod CalledLaws
 pub mod Cycles
 pub mod ForestLaws
 pub mod JudgeLaws
@@ -46,3 +47,4 @@ pub mod Exported
 mod LogParts
 mod LogLaws
 mod LawSamples
+mod PremiseSamples

@@ -37,7 +37,7 @@ forest =
     }
     ∷ record { place = variable 1 2; groups = record { defs = 1 ∷ []; excepted_by = [] } ∷ [] } ∷ []
 
-its_forest : StandsFor program 1 forest
+pub its_forest : StandsFor program 1 forest
 its_forest = (_, refl, refl)
 
 -- no chain of its groups is long, so that it is a forest, and each of its groups is judged by the rule
@@ -45,7 +45,7 @@ it_is_low : IsTrue (are_low forest)
 unfolding are_low is_within
 it_is_low = refl
 
-abbrev whole : Forest
+abbrev pub whole : Forest
 whole = record { targets = forest; low = it_is_low }
 
 abbrev its_targets : List Target

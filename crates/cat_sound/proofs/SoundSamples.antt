@@ -96,12 +96,12 @@ five_names_nothing a b r = record {
 abbrev of_variable : Standing
 of_variable = record { function = 1; params = 0 }
 
-abbrev of_function : Standing
+abbrev pub of_function : Standing
 of_function = record { function = 2; params = 1 }
 
 -- the first name that is bound inside is counted from its binder
 bound_ones_are_same : Same of_variable of_function (leaf.Local (at 1 1) 0) (leaf.Local (at 2 2) 1)
 bound_ones_are_same = same.bound 0
 
-parameters_of_one_function_are_same : Same of_function of_function (leaf.Local (at 1 1) 0) (leaf.Local (at 2 2) 0)
+pub parameters_of_one_function_are_same : Same of_function of_function (leaf.Local (at 1 1) 0) (leaf.Local (at 2 2) 0)
 parameters_of_one_function_are_same = same.parameter refl (omega arith) (omega arith)

@@ -41,7 +41,7 @@ unfolding judge_target
 own_definitions_alone value target front d e back other another =
   ap (λ defs. judge_groups value target (groups_of defs)) (same_defs target 0 front d e back other another)
 
-abbrev is_ok : {A : Type 0} → Result A Stop → Bool
+abbrev pub is_ok : {A : Type 0} → Result A Stop → Bool
 is_ok (Ok a) = true
 is_ok (Err stop) = false
 
@@ -53,7 +53,7 @@ false_or-ok target place true None is = refl
 false_or-ok target place false None is = absurd (true≢false (sym is))
 
 -- the same stop in place of another value
-abbrev as_stop : {A B : Type 0} → Stop → Result B Stop → Result A Stop
+abbrev pub as_stop : {A B : Type 0} → Stop → Result B Stop → Result A Stop
 as_stop s (Ok b) = Err s
 as_stop s (Err t) = Err t
 

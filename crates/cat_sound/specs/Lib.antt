@@ -11,5 +11,7 @@ pub mod Rests
 pub mod Given
 -- groups and conflicts
 pub mod Grouped
+-- of what called scopes come to a stop
+pub mod Stopped
 -- what stands in a log
 pub mod Logs

@@ -9,9 +9,11 @@ ghost use Rattle.cat_scope.specs.declared.defs.Def.{Def};
 ghost use Rattle.cat_scope.specs.Runs.{Run};
 ghost use Rattle.cat_pos.specs.declared.pos.Pos.{Pos};
 ghost use Rattle.cat_value.specs.declared.declaration.ItemDecl.{ItemDecl};
+ghost use Rattle.cat_scope.specs.declared.stop.Stop.{Stop};
 ghost use Rattle.cat_scope.specs.declared.stop.Stop.TheVariants.{NoValue};
+ghost use Rattle.cat_sound.specs.Stopped.{ComesOf};
 ghost use Rattle.cat_scope.specs.Calls.{Items, Scoped, call, judging_of, variable};
-ghost use Rattle.cat_scope.specs.ItemValues.{defined_value, passed};
+ghost use Rattle.cat_scope.specs.ItemValues.{called_value, defined_value, passed};
 ghost use Rattle.cat_scope.specs.Groups.{Group, excepts, excepting, exceptions_of};
 ghost use Rattle.cat_scope.specs.Judging.{Held, Judged, judge, settle, or_else};
 ghost use Rattle.cat_scope.specs.Chains.{HasNoCycle};
@@ -28,8 +30,9 @@ pub fn targets_rest_on_their_definitions()
 {}
 
 /// A condition has no NoValue of its own, be it a variable, an input of a called scope or a function: where one ends in
-/// a NoValue, its judging met it.
-#[tactic(auto, using(crate::proofs::TargetLaws::conditions_go_on))]
+/// a NoValue, its judging met it. A called scope stops where the judging of an input or a context does, or its run, or
+/// at an input that is missing, which is no condition.
+#[tactic(auto, using(crate::proofs::TargetLaws::conditions_go_on, crate::proofs::CalledLaws::called_scopes_stop))]
 pub fn conditions_have_values()
     ensures variable { (scoped : Scoped) (before : List ℕ) (values : Items) (item : ℕ) (decl : ItemDecl)
         (other : Target) (there : Pos) → decl.condition ≡ true
@@ -39,6 +42,9 @@ pub fn conditions_have_values()
     ensures input { (target : Target) (place : Pos) (decl : ItemDecl) (found : Option (Held Value)) (other : Target)
         (there : Pos) → decl.condition ≡ true
         → ¬ (passed target place decl found ≡ Err (NoValue other there)) }
+    ensures called { (scoped : Scoped) (before : List ℕ) (values : Items) (item : ℕ) (called : ℕ) (decl : ItemDecl)
+        (stop : Stop) → (called_value scoped before values item decl called).end ≡ Err stop
+        → ComesOf scoped before values item called decl stop }
     ensures function { (scoped : Scoped) (values : Items) (before : List ℕ) (function : ℕ) (arguments : List Value)
         (decl : ItemDecl) (other : Target) (there : Pos)
         → slice_get scoped.items function ≡ Some decl → decl.condition ≡ true
