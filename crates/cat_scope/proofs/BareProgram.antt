@@ -99,11 +99,11 @@ pub bare_requires : (decls : Decls) (bodies : List Body) (order : List ℕ) (nam
 bare_requires decls bodies order name is are stands = rw (are, stands) (∣ bare_program decls name Up is ∣₁)
 
 -- a forest of one target with two groups, of which the second excepts the first
-pub two_groups_are_low : (place : Target)
+pub two_groups_are_low : (target : Target)
     → are_low (record {
-      place = place;
+      target = target;
       groups = record { defs = 0 ∷ []; excepted_by = 1 ∷ [] } ∷
           record { defs = 1 ∷ []; excepted_by = [] } ∷ [];
     } ∷ []) ≡ true
 unfolding are_low is_within
-two_groups_are_low place = refl
+two_groups_are_low target = refl

@@ -7,7 +7,7 @@ use Rattle.cat_scope.specs.declared.defs.Def.{Def}
 use Rattle.cat_scope.specs.declared.forest.ForestGroup.{ForestGroup}
 use Rattle.cat_scope.specs.Groups.{groups_of}
 use Rattle.cat_scope.specs.Targets.{defs_from}
-use Rattle.cat_scope.specs.Forests.{forest_of_groups, called_places}
+use Rattle.cat_scope.specs.Forests.{forest_of_groups, called_targets}
 use Rattle.cat_scope.proofs.Samples.{at, a, item, whole, variable, n_in, x_out, def, x, chain, forked}
 
 abbrev groups : List Def → List ForestGroup
@@ -47,6 +47,6 @@ a_bare_exception_of_two_roots = refl
 abbrev inner : ℕ → Target
 inner n = record { scope = 1; item = 2; inner = Some n }
 
-inputs_and_contexts_are_targets : called_places 1 2 0 (n_in ∷ x_out ∷ item kind.Context (at 5 11) ∷ []) ≡ inner 0 ∷
+inputs_and_contexts_are_targets : called_targets 1 2 0 (n_in ∷ x_out ∷ item kind.Context (at 5 11) ∷ []) ≡ inner 0 ∷
     inner 2 ∷ []
 inputs_and_contexts_are_targets = refl

@@ -1,4 +1,4 @@
--- Programs for the examples, written out with the places of their sources.
+-- Programs for the examples, written out with the positions of their sources.
 use Rattle.std.proofs.Common.{ℕ, pos, true, false, List, [], ◌∷◌, Option, None, Some}
 use Rattle.cat_pos.specs.declared.pos.Pos.{Pos}
 use Rattle.cat_date.specs.declared.rounding.Rounding.TheVariants.{Refuse}
@@ -61,12 +61,12 @@ n = leaf.Item (at 0 0) 0
 abbrev pub n_above : ℕ → Expr
 n_above k = expr.Binary (at 0 0) Greater (at 0 0) n (whole k)
 
--- `1 / n > 1.0`, with the place of the `/`
+-- `1 / n > 1.0`, with the position of the `/`
 abbrev pub per_n_above_one : Pos → Expr
 per_n_above_one p = expr.Binary (at 0 0) Greater (at 0 0) (expr.Binary (at 0 0) DivideIntegers p (whole 1) n)
     (leaf.Literal (at 0 0) (literal.Decimal (record { digits = 10; places = 1 })))
 
--- `1 month < 31 day`, with the place of the `<`
+-- `1 month < 31 day`, with the position of the `<`
 abbrev pub one_month_below_31_days : Pos → Expr
 one_month_below_31_days p =
     expr.Binary (at 0 0) Less p (leaf.Literal (at 0 0) (literal.Duration (record { months = pos 1; days = pos 0 })))

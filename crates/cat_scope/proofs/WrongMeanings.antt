@@ -18,9 +18,9 @@ abbrev first_taken : {A : Type 0} → List (Held A) → Result (Option (Held A))
 first_taken [] = Ok None
 first_taken (h ∷ hs) = Ok (Some h)
 
-the_first_of_two_is_not_taken : {A : Type 0} (place : Target) (h i : Held A) (hs : List (Held A))
-    → ¬ (first_taken (h ∷ i ∷ hs) ≡ alone place (h ∷ i ∷ hs))
-the_first_of_two_is_not_taken place h i hs same = true≢false (ap is_ok same)
+the_first_of_two_is_not_taken : {A : Type 0} (target : Target) (h i : Held A) (hs : List (Held A))
+    → ¬ (first_taken (h ∷ i ∷ hs) ≡ alone target (h ∷ i ∷ hs))
+the_first_of_two_is_not_taken target h i hs same = true≢false (ap is_ok same)
 
 abbrev number_at : {A : Type 0} → Result (Option (Held A)) Stop → Option ℕ
 number_at (Ok (Some h)) = Some h.number
@@ -46,12 +46,12 @@ reported first None = None
 abbrev reporting : {A : Type 0} → Held A → Judged A → Judged A
 reporting first judged = giving judged (λ found. Ok (reported first found))
 
-the_first_definition_is_not_reported : {A : Type 0} (place : Target) (first h : Held A) → ¬ (first.number ≡ h.number)
-    → ¬ (reporting first (settle place (gives None ∷ gives (Some h) ∷ [])) ≡ settle place
+the_first_definition_is_not_reported : {A : Type 0} (target : Target) (first h : Held A) → ¬ (first.number ≡ h.number)
+    → ¬ (reporting first (settle target (gives None ∷ gives (Some h) ∷ [])) ≡ settle target
     (gives None ∷ gives (Some h) ∷ []))
-the_first_definition_is_not_reported place first h differ same = differ (some_is (ap number_in same))
+the_first_definition_is_not_reported target first h differ same = differ (some_is (ap number_in same))
 
 -- a condition without rules has no value
-a_condition_without_rules_has_a_value : (target : Target) (place : Pos)
-    → ¬ (absent target place true ≡ Err (NoValue target place))
-a_condition_without_rules_has_a_value target place same = true≢false (ap is_ok same)
+a_condition_without_rules_has_a_value : (target : Target) (pos : Pos)
+    → ¬ (absent target pos true ≡ Err (NoValue target pos))
+a_condition_without_rules_has_a_value target pos same = true≢false (ap is_ok same)

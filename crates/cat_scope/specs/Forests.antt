@@ -36,29 +36,29 @@ are_low [] = true
 are_low (target ∷ targets) = is_low target && are_low targets
 
 -- the inputs and contexts of a scope that an item calls, from number n on
-abbrev pub called_places : ℕ → ℕ → ℕ → List ItemDecl → List Target
-called_places scope item n [] = []
-called_places scope item n (inner ∷ rest) =
+abbrev pub called_targets : ℕ → ℕ → ℕ → List ItemDecl → List Target
+called_targets scope item n [] = []
+called_targets scope item n (inner ∷ rest) =
     if may_be_given inner.kind
-    then record { scope = scope; item = item; inner = Some n } ∷ called_places scope item (n + 1) rest
-    else called_places scope item (n + 1) rest
+    then record { scope = scope; item = item; inner = Some n } ∷ called_targets scope item (n + 1) rest
+    else called_targets scope item (n + 1) rest
 
 -- the targets that an item stands for, by its kind
-abbrev pub places_at : Decls → ℕ → ℕ → Kind → List Target
-places_at ds scope item (kind.Called called) = called_places scope item 0 (scope_items ds called)
-places_at ds scope item k = if must_be_given k then [] else record { scope = scope; item = item; inner = None } ∷ []
+abbrev pub targets_at : Decls → ℕ → ℕ → Kind → List Target
+targets_at ds scope item (kind.Called called) = called_targets scope item 0 (scope_items ds called)
+targets_at ds scope item k = if must_be_given k then [] else record { scope = scope; item = item; inner = None } ∷ []
 
 -- the targets of an item of that number
-abbrev pub places_of : Decls → ℕ → ℕ → Option ItemDecl → List Target
-places_of ds scope item None = []
-places_of ds scope item (Some decl) = places_at ds scope item decl.kind
+abbrev pub item_targets : Decls → ℕ → ℕ → Option ItemDecl → List Target
+item_targets ds scope item None = []
+item_targets ds scope item (Some decl) = targets_at ds scope item decl.kind
 
 -- the targets of a scope, in the evaluation order: its variables that are no inputs, and for a called scope that
 -- scope's inputs and contexts in the order of their declarations
 abbrev pub targets_of : Decls → ℕ → List ItemDecl → List ℕ → List Target
 targets_of ds scope items [] = []
 targets_of ds scope items (item ∷ order) =
-    places_of ds scope item (slice_get items item) ++ targets_of ds scope items order
+    item_targets ds scope item (slice_get items item) ++ targets_of ds scope items order
 
 -- the numbers of some definitions
 abbrev pub definition_numbers : List Numbered → List ℕ
@@ -78,8 +78,8 @@ forest_of_groups groups = forest_groups (excepts groups) 0 groups
 -- the groups of each target
 abbrev pub forest_of : List Def → List Target → List ForestTarget
 forest_of defs [] = []
-forest_of defs (place ∷ places) =
-    record { place = place; groups = forest_of_groups (groups_of (defs_from place 0 defs)) } ∷ forest_of defs places
+forest_of defs (target ∷ targets) =
+    record { target = target; groups = forest_of_groups (groups_of (defs_from target 0 defs)) } ∷ forest_of defs targets
 
 -- the program has a scope of that number, and a forest has each target of it, with its groups and what excepts what, as
 -- the labels tell

@@ -1,6 +1,6 @@
 -- Which expressions have which types: one rule a form, with its premises first and what follows from them last. In all,
--- `ns` is what names stand for, `ls` the types of local names, p a place, n the number of a type, k that of a field, a
--- case, a local name or an output, and l what is listed.
+-- `ns` is what names stand for, `ls` the types of local names, p a position, n the number of a type, k that of a field,
+-- a case, a local name or an output, and l what is listed.
 use Rattle.std.specs.Prelude.{◌≡◌, ℕ, nat_le, IsTrue, List, [], ◌∷◌, ◌++◌, length, Option, Some, None, slice_get}
 use Rattle.cat_value.specs.declared.ty.Ty.TheVariants as flat
 use Rattle.cat_value.specs.declared.ty.Ty.TheViews as ty

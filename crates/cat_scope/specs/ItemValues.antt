@@ -20,21 +20,21 @@ use Rattle.cat_scope.specs.Calls.{call}
 
 -- an input or a context of a called scope: nothing where a context is Empty
 abbrev pub passed : Target → Pos → ItemDecl → Option (Held Value) → Result (Option Value) Stop
-passed target place decl None =
+passed target pos decl None =
     if must_be_given decl.kind
-    then on_one (absent target place decl.condition) (λ v. Ok (Some v))
+    then on_one (absent target pos decl.condition) (λ v. Ok (Some v))
     else Ok None
-passed target place decl (Some h) = Ok (Some h.value)
+passed target pos decl (Some h) = Ok (Some h.value)
 
 -- the input of a called scope: its inputs and contexts from number n on, in the order of their declarations
 abbrev pub passed_input : (ℕ → Judged Value) → (ℕ → Target) → Pos → ℕ → List ItemDecl → Run Items
-passed_input judged_at target_at place n [] = gives []
-passed_input judged_at target_at place n (decl ∷ decls) =
+passed_input judged_at target_at pos n [] = gives []
+passed_input judged_at target_at pos n (decl ∷ decls) =
     in_front
     (if may_be_given decl.kind
-    then giving (decided (target_at n) (judged_at n)) (passed (target_at n) place decl)
+    then giving (decided (target_at n) (judged_at n)) (passed (target_at n) pos decl)
     else gives None)
-    (passed_input judged_at target_at place (n + 1) decls)
+    (passed_input judged_at target_at pos (n + 1) decls)
 
 -- a called scope: its inputs and contexts are judged, and then it is run
 abbrev pub called_value : Scoped → List ℕ → Items → ℕ → ItemDecl → ℕ → Run Value

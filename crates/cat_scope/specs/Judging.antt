@@ -8,7 +8,7 @@ use Rattle.cat_scope.specs.declared.stop.Stop.TheVariants.{Conflict, Stuck}
 use Rattle.cat_scope.specs.Runs.{Run, gives, stops, and_then, giving}
 use Rattle.cat_scope.specs.Groups.{excepting}
 
--- a definition that holds: its number and its place, and what it gives
+-- a definition that holds: its number, its position, and what it gives
 pub record Held (A : Type 0) : Type 0 where
   pub number : ℕ
   pub pos : Pos
@@ -38,20 +38,20 @@ abbrev pub in_source_order : {A : Type 0} → List (Held A) → List (Held A)
 in_source_order [] = []
 in_source_order (h ∷ hs) = put h (in_source_order hs)
 
--- the places of definitions, in the order of the list
+-- the positions of definitions, in the order of the list
 abbrev pub positions_in : {A : Type 0} → List (Held A) → List Pos
 positions_in [] = []
 positions_in (h ∷ hs) = h.pos ∷ positions_in hs
 
 -- none is Empty, one is that one, two or more are a Conflict
 abbrev pub alone : {A : Type 0} → Target → List (Held A) → Result (Option (Held A)) Stop
-alone place [] = Ok None
-alone place (h ∷ []) = Ok (Some h)
-alone place (h ∷ i ∷ hs) = Err (Conflict place (positions_in (in_source_order (h ∷ i ∷ hs))))
+alone target [] = Ok None
+alone target (h ∷ []) = Ok (Some h)
+alone target (h ∷ i ∷ hs) = Err (Conflict target (positions_in (in_source_order (h ∷ i ∷ hs))))
 
 -- a list is judged in order: the first stop ends it
 abbrev pub settle : {A : Type 0} → Target → List (Judged A) → Judged A
-settle place judged = giving (holding judged) (alone place)
+settle target judged = giving (holding judged) (alone target)
 
 -- where one holds, nothing else is judged
 abbrev pub found_or : {A : Type 0} → Option (Held A) → Judged A → Judged A
@@ -65,16 +65,17 @@ or_else first other = and_then first (λ found. found_or found other)
 -- a group is judged as the list of the groups that except it and, where that is Empty, by its own definitions, which
 -- come to `own`; a chain of exceptions that is longer than n is stuck
 abbrev pub judge : {A : Type 0} → Target → List (ℕ × ℕ) → (ℕ → Judged A) → ℕ → ℕ → Judged A
-judge place pairs own zero group = stops Stuck
-judge place pairs own (suc n) group =
-    or_else (settle place (map (judge place pairs own n) (excepting pairs group))) (own group)
+judge target pairs own zero group = stops Stuck
+judge target pairs own (suc n) group =
+    or_else (settle target (map (judge target pairs own n) (excepting pairs group))) (own group)
 
--- the place of the definition that holds
-abbrev pub place_in : {A : Type 0} → Option (Held A) → Option Pos
-place_in None = None
-place_in (Some h) = Some h.pos
+-- the position of the definition that holds
+abbrev pub held_position : {A : Type 0} → Option (Held A) → Option Pos
+held_position None = None
+held_position (Some h) = Some h.pos
 
 -- a judging that ends Held or Empty is logged as it ends, behind all that was decided within
 abbrev pub decided : {A : Type 0} → Target → Judged A → Judged A
 decided target judged =
-    and_then judged (λ found. record { log = record { target = target; by = place_in found } ∷ []; end = Ok found })
+    and_then judged
+    (λ found. record { log = record { target = target; by = held_position found } ∷ []; end = Ok found })

@@ -1,4 +1,4 @@
--- What each operator gives: its exact result, or its fault at a place.
+-- What each operator gives: its exact result, or its fault at a position.
 use Rattle.std.specs.Prelude.{ℤ, pos, ◌-ℤ◌, neg_ℤ, not, Result, Ok}
 use Rattle.cat_pos.specs.declared.pos.Pos.{Pos}
 use Rattle.cat_num.specs.Whole.{whole_sum, whole_difference, whole_product}

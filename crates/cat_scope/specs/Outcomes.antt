@@ -13,9 +13,9 @@ use Rattle.cat_scope.specs.Running.{scope_run}
 -- how a run ends; a stuck one has no outcome
 abbrev pub outcome_of : Result (List Value) Stop → Option Outcome
 outcome_of (Ok outputs) = Some (outcome.Value outputs)
-outcome_of (Err (stop.Conflict target places)) = Some (outcome.Conflict target places)
-outcome_of (Err (stop.NoValue target place)) = Some (outcome.NoValue target place)
-outcome_of (Err (stop.Fault fault place)) = Some (outcome.Fault fault place)
+outcome_of (Err (stop.Conflict target positions)) = Some (outcome.Conflict target positions)
+outcome_of (Err (stop.NoValue target pos)) = Some (outcome.NoValue target pos)
+outcome_of (Err (stop.Fault fault pos)) = Some (outcome.Fault fault pos)
 outcome_of (Err stop.Stuck) = None
 
 -- the outcome of a scope on an input

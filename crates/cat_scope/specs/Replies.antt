@@ -33,24 +33,24 @@ evaluated None = Err Stuck
 abbrev pub with_front : {A : Type 0} → Result A Stop → Result (List A) Stop → Result (List A) Stop
 with_front first rest = on_one first (λ a. on_one rest (λ more. Ok (a ∷ more)))
 
--- the stop at a place for which an exact result does not fit, or has a divisor 0
+-- the stop at a position for which an exact result does not fit, or has a divisor 0
 abbrev pub num_stop : Pos → NumFault → Stop
-num_stop place num.Overflow = Fault kind.Overflow place
-num_stop place num.DivisionByZero = Fault kind.DivisionByZero place
+num_stop pos num.Overflow = Fault kind.Overflow pos
+num_stop pos num.DivisionByZero = Fault kind.DivisionByZero pos
 
--- the stop at a place of a date or a duration; none of the operators is refused as no day
+-- the stop at a position of a date or a duration; none of the operators is refused as no day
 abbrev pub date_stop : Pos → DateFault → Stop
-date_stop place date.Overflow = Fault kind.Overflow place
-date_stop place date.AmbiguousDate = Fault kind.AmbiguousDate place
-date_stop place date.Uncomparable = Fault kind.Uncomparable place
-date_stop place date.NotADay = Stuck
+date_stop pos date.Overflow = Fault kind.Overflow pos
+date_stop pos date.AmbiguousDate = Fault kind.AmbiguousDate pos
+date_stop pos date.Uncomparable = Fault kind.Uncomparable pos
+date_stop pos date.NotADay = Stuck
 
--- an exact result as a value, or its fault at a place
+-- an exact result as a value, or its fault at a position
 abbrev pub exact : {A : Type 0} → Pos → (A → Value) → Result A NumFault → Reply
-exact place make (Ok a) = Ok (make a)
-exact place make (Err fault) = Err (num_stop place fault)
+exact pos make (Ok a) = Ok (make a)
+exact pos make (Err fault) = Err (num_stop pos fault)
 
--- a result of dates and durations, or its fault at a place
+-- a result of dates and durations, or its fault at a position
 abbrev pub dated : {A B : Type 0} → Pos → (A → B) → Result A DateFault → Result B Stop
-dated place make (Ok a) = Ok (make a)
-dated place make (Err fault) = Err (date_stop place fault)
+dated pos make (Ok a) = Ok (make a)
+dated pos make (Err fault) = Err (date_stop pos fault)

@@ -6,7 +6,7 @@ use Rattle.cat_value.specs.declared.outcome.Target.{Target}
 use Rattle.cat_scope.specs.declared.stop.Stop.{Stop}
 use Rattle.cat_scope.specs.Projections.{truth}
 
--- a target whose judging ended, and the place of the definition that held there, or none where it is Empty
+-- a target whose judging ended, and the position of the definition that held there, or none where it is Empty
 pub record Decider : Type 0 where
   pub target : Target
   pub by : Option Pos

@@ -66,10 +66,10 @@ judge_groups value target groups = groups_by (judge_def value) target groups
 unfoldable pub judge_target : (Expr → Run Value) → Target → List Def → Judged Value
 judge_target value target defs = judge_groups value target (groups_of (defs_from target 0 defs))
 
--- in place of a value where no definition holds: false for a condition, else NoValue at a place
+-- in place of a value where no definition holds: false for a condition, else NoValue at a position
 abbrev pub absent : Target → Pos → Bool → Reply
-absent target place true = Ok (Boolean false)
-absent target place false = Err (NoValue target place)
+absent target pos true = Ok (Boolean false)
+absent target pos false = Err (NoValue target pos)
 
 -- the value of a target, by what holds there
 abbrev pub value_or : Reply → Option (Held Value) → Reply

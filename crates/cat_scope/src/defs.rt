@@ -4,14 +4,14 @@ use cat_date::Rounding;
 use cat_pos::{List, Numbers, Pos, Text};
 use cat_value::Target;
 
-/// A label, with the place of its word.
+/// A label, with the position of its word.
 #[derive(Debug, Drop)]
 pub struct Label {
     pub text: Text,
     pub pos: Pos,
 }
 
-/// What a definition is an exception to, with the place of the word `exception`.
+/// What a definition is an exception to, with the position of the word `exception`.
 #[derive(Debug, Drop)]
 pub enum Except {
     No,
@@ -22,7 +22,7 @@ pub enum Except {
 }
 
 /// A definition or a rule. Its condition is joined with that of its block; there is none where it always holds. Its
-/// place is that of the word `definition` or `rule`.
+/// position is that of the word `definition` or `rule`.
 #[derive(Debug, Drop)]
 pub struct Def {
     pub target: Target,
@@ -40,7 +40,7 @@ pub type Defs = List<Def>;
 #[derive(Debug, Drop)]
 pub struct Assertion {
     pub condition: Expr,
-    /// The place of the word `assertion`.
+    /// The position of the word `assertion`.
     pub keyword: Pos,
 }
 

@@ -14,8 +14,8 @@ pub enum Literal {
     Duration(Span),
 }
 
-/// An expression. Each variant begins with the place of its first token; where a fault stands elsewhere, at an operator
-/// between two operands, that place follows the operator.
+/// An expression. Each variant begins with the position of its first token; where a fault stands elsewhere, at an
+/// operator between two operands, that position follows the operator.
 ///
 /// Local names are numbered in the order in which they are bound: the parameters of the definition first. A form that
 /// goes over a list binds one name to each element, and `Combine` binds a second one to what was combined before.
@@ -53,7 +53,7 @@ pub enum Expr {
     Filter(Pos, Boxed<Expr>, Boxed<Expr>),
     /// `combine all w among l in a initially s with e`: l, s and e.
     Combine(Pos, Boxed<Expr>, Boxed<Expr>, Boxed<Expr>),
-    /// `l contains e`, with the place of `contains`.
+    /// `l contains e`, with the position of `contains`.
     Contains(Pos, Pos, Boxed<Expr>, Boxed<Expr>),
     /// `number of l`.
     Length(Pos, Boxed<Expr>),

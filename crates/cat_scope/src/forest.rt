@@ -19,7 +19,7 @@ pub type ForestGroups = List<ForestGroup>;
 /// A target with its groups, ordered by their first definitions.
 #[derive(Debug, Drop)]
 pub struct ForestTarget {
-    pub place: Target,
+    pub target: Target,
     pub groups: ForestGroups,
 }
 

@@ -14,7 +14,8 @@ use std::test::Fail;
 /// What there is to say of a scope without items.
 fn bodies(alloc: Global) -> Result<Bodies, AllocError>
     ensures { IfOk result (λ bodies. bodies
-        ≡ record { defs = []; assertions = []; source = Declaration ∷ []; rounding = Up; order = []; calls = [] } ∷ []) }
+        ≡ record { defs = []; assertions = []; source = Declaration ∷ []; rounding = Up; order = []; calls = [] }
+        ∷ []) }
 {
     let mut source = List::new(alloc);
     source.push(SourcePart::Declaration)?;
@@ -76,7 +77,7 @@ fn a_forest_keeps_its_targets(rt: HostRuntime) -> Result<(), Fail> {
     })?;
     let mut targets = List::new(alloc);
     targets.push(ForestTarget {
-        place: Target {
+        target: Target {
             scope: 0,
             item: 1,
             inner: None,

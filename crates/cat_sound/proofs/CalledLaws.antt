@@ -13,7 +13,7 @@ use Rattle.cat_scope.specs.declared.stop.Stop.{Stop}
 use Rattle.cat_scope.specs.declared.stop.Stop.TheVariants.{NoValue}
 use Rattle.cat_scope.specs.Replies.{on_one}
 use Rattle.cat_scope.specs.Runs.{Decider, Run, plain, gives, behind, and_then, giving}
-use Rattle.cat_scope.specs.Judging.{Held, Judged, place_in, decided}
+use Rattle.cat_scope.specs.Judging.{Held, Judged, held_position, decided}
 use Rattle.cat_scope.specs.Targets.{absent}
 use Rattle.cat_scope.specs.Calls.{Items, Scoped, call, items_of, judging_of, variable_of_called}
 use Rattle.cat_scope.specs.ItemValues.{passed, passed_input, called_value}
@@ -43,19 +43,19 @@ stop_or s (Ok a) = s
 stop_or s (Err t) = t
 
 -- what is passed on stops only where an input that is no condition is Empty
-pub record IsMissing (target : Target) (place : Pos) (decl : ItemDecl) (s : Stop) : Type 0 where
+pub record IsMissing (target : Target) (pos : Pos) (decl : ItemDecl) (s : Stop) : Type 0 where
   pub must : IsTrue (must_be_given decl.kind)
   pub none : decl.condition ≡ false
-  pub stop_is : s ≡ NoValue target place
+  pub stop_is : s ≡ NoValue target pos
 
-passed-stops : (target : Target) (place : Pos) (decl : ItemDecl) (found : Option (Held Value)) (s : Stop)
-    → passed target place decl found ≡ Err s → IsMissing target place decl s
-passed-stops target place decl (Some h) s is = no_stop (Some h.value) s is
-passed-stops target place decl None s is = by (must_be_given decl.kind) decl.condition refl refl is
+passed-stops : (target : Target) (pos : Pos) (decl : ItemDecl) (found : Option (Held Value)) (s : Stop)
+    → passed target pos decl found ≡ Err s → IsMissing target pos decl s
+passed-stops target pos decl (Some h) s is = no_stop (Some h.value) s is
+passed-stops target pos decl None s is = by (must_be_given decl.kind) decl.condition refl refl is
   where
     by : (b c : Bool) → must_be_given decl.kind ≡ b → decl.condition ≡ c
-        → (if b then on_one (absent target place c) (λ v. Ok (Some v)) else Ok None) ≡ Err s
-        → IsMissing target place decl s
+        → (if b then on_one (absent target pos c) (λ v. Ok (Some v)) else Ok None) ≡ Err s
+        → IsMissing target pos decl s
     by true true must e g = absurd (true≢false (ap is_ok g))
     by true false must e g = record { must = must; none = e; stop_is = sym (ap (stop_or s) g) }
     by false c must e g = absurd (true≢false (ap is_ok g))
@@ -71,7 +71,7 @@ module _ (scoped : Scoped) (before : List ℕ) (values : Items) (item called : �
   decided-stops n is =
       ⊎_elim (λ first. first) (λ more. no_stop more.0 s more.1)
       (stops_in (judged_at n)
-      (λ found. record { log = record { target = target_at n; by = place_in found } ∷ []; end = Ok found }) s is)
+      (λ found. record { log = record { target = target_at n; by = held_position found } ∷ []; end = Ok found }) s is)
 
   one-stops : (n : ℕ) (inner : ItemDecl) → slice_get (items_of scoped called) n ≡ Some inner → (b : Bool)
       → (if b then giving (decided (target_at n) (judged_at n)) (passed (target_at n) decl.pos inner)

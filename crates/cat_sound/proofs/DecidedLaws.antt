@@ -10,7 +10,7 @@ use Rattle.cat_value.specs.declared.declaration.ItemDecl.{ItemDecl}
 use Rattle.cat_scope.specs.declared.stop.Stop.{Stop}
 use Rattle.cat_scope.specs.Runs.{Decider, Run, plain, gives, behind, and_then}
 use Rattle.cat_scope.specs.Names.{IsOneOf, is_called, has_none, is_plain}
-use Rattle.cat_scope.specs.Judging.{Judged, place_in, decided}
+use Rattle.cat_scope.specs.Judging.{Judged, held_position, decided}
 use Rattle.cat_scope.specs.Targets.{absent, value_or}
 use Rattle.cat_scope.specs.Calls.{Items, Scoped, variable, judging_of, variable_value, call}
 use Rattle.cat_scope.specs.ItemValues.{defined_value, ungiven_value, item_value}
@@ -66,12 +66,12 @@ module _ (scoped : Scoped) (before : List ℕ) (values : Items) (item : ℕ) (de
       let found = first_ok (decided own judging) (λ f. plain
       (value_or (absent own decl.pos decl.condition) f)) value.0 value.1 in
       let here = first_ok judging
-      (λ f. record { log = record { target = own; by = place_in f } ∷ []; end = Ok f }) found.0 found.1 in
+      (λ f. record { log = record { target = own; by = held_position f } ∷ []; end = Ok f }) found.0 found.1 in
       logged_front own (variable_value own (Some decl) (decided own judging)) (λ x. gives (Some x))
       (logged_front own (decided own judging) (λ f. plain (value_or (absent own decl.pos decl.condition) f))
       (logged_back own judging
-      (λ f. record { log = record { target = own; by = place_in f } ∷ []; end = Ok f }) here.0 here.1
-      (place_in here.0, inl refl)))
+      (λ f. record { log = record { target = own; by = held_position f } ∷ []; end = Ok f }) here.0 here.1
+      (held_position here.0, inl refl)))
   defined_logged (t ∷ ts) none v ends = not_true none
 
   ungiven_logged : (k : Kind) → is_called k ≡ false → IsTrue (has_none decl.params) → (v : Option Value)
@@ -101,18 +101,18 @@ module _ (scoped : Scoped) (before : List ℕ) (values : Items) (item : ℕ) (de
       not_is false h = refl
 
 -- each variable without a given value is logged in a run that ends in a value
-pub each_logged : (scoped : Scoped) (input : Items) (outputs : List Value) (place item : ℕ) (decl : ItemDecl)
-    → (run_scoped scoped input).end ≡ Ok outputs → slice_get scoped.body.order place ≡ Some item
+pub each_logged : (scoped : Scoped) (input : Items) (outputs : List Value) (index item : ℕ) (decl : ItemDecl)
+    → (run_scoped scoped input).end ≡ Ok outputs → slice_get scoped.body.order index ≡ Some item
     → slice_get scoped.items item ≡ Some decl → IsTrue (is_plain decl) → entry_at item input ≡ None
     → IsLogged (variable scoped item) (run_scoped scoped input).log
-each_logged scoped input outputs place item decl ends at is plain_one none =
-    let here = each_judged scoped input outputs place item ends at in
-    let rest = drop_at scoped.body.order place item at in
-    let before = backwards (take place scoped.body.order) in
+each_logged scoped input outputs index item decl ends at is plain_one none =
+    let here = each_judged scoped input outputs index item ends at in
+    let rest = drop_at scoped.body.order index item at in
+    let before = backwards (take index scoped.body.order) in
     logged_front (variable scoped item) (run_items scoped input [] (no_values scoped.items) scoped.body.order) _
-    (subst (λ (run : Run Items). IsLogged (variable scoped item) run.log) (sym (run_through scoped input place))
-    (logged_back (variable scoped item) (values_at scoped input place)
-    (λ values. run_items scoped input before values (drop place scoped.body.order)) here.values here.reached
+    (subst (λ (run : Run Items). IsLogged (variable scoped item) run.log) (sym (run_through scoped input index))
+    (logged_back (variable scoped item) (values_at scoped input index)
+    (λ values. run_items scoped input before values (drop index scoped.body.order)) here.values here.reached
     (subst (λ (left : List ℕ). IsLogged (variable scoped item) (run_items scoped input before here.values left).log)
     (sym rest.1)
     (logged_front (variable scoped item) (item_value scoped before here.values item (entry_at item input)

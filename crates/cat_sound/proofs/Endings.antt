@@ -17,9 +17,9 @@ all_both P [] ys h g = g
 all_both P (x ∷ xs) ys h g = (h.0, all_both P xs ys h.1 g)
 
 pub end_of_fault : (allowed : Allowed) (s : Stop) → IsFault s → IsEnd allowed s
-end_of_fault allowed (stop.Conflict target places) h = elim h [ ]
-end_of_fault allowed (stop.NoValue target place) h = elim h [ ]
-end_of_fault allowed (stop.Fault kind place) h = tt
+end_of_fault allowed (stop.Conflict target positions) h = elim h [ ]
+end_of_fault allowed (stop.NoValue target pos) h = elim h [ ]
+end_of_fault allowed (stop.Fault kind pos) h = tt
 end_of_fault allowed stop.Stuck h = h
 
 pub ended : (allowed : Allowed) {A : Type 0} (P : A → Type 0) (r : Result A Stop) → ResultsIn P r → Ended allowed P r
@@ -77,9 +77,9 @@ abbrev pub all_stop : Allowed → Allowed
 all_stop allowed = record { may_stop = λ target. true; may_decide = allowed.may_decide }
 
 end-loosened : (allowed : Allowed) (s : Stop) → IsEnd allowed s → IsEnd (all_stop allowed) s
-end-loosened allowed (stop.Conflict target places) h = refl
-end-loosened allowed (stop.NoValue target place) h = refl
-end-loosened allowed (stop.Fault kind place) h = tt
+end-loosened allowed (stop.Conflict target positions) h = refl
+end-loosened allowed (stop.NoValue target pos) h = refl
+end-loosened allowed (stop.Fault kind pos) h = tt
 end-loosened allowed stop.Stuck h = h
 
 pub loosened : (allowed : Allowed) {A : Type 0} (P : A → Type 0) (run : Run A) → EndsIn allowed P run

@@ -285,15 +285,15 @@ module _ (scoped : Scoped) where
         (item_dependencies scoped.items scoped.body.defs) scoped.body.order order f
         (omega (arith, below, dependencies-length items_named scoped.body.defs 0 scoped.items)))) arguments
 
-    pub nothing_behind : (values more : Items) (place f : ℕ) (arguments : List Value)
-        → IsTrue (is_in f (take place scoped.body.order))
-        → ((k : ℕ) → IsTrue (is_in k (take place scoped.body.order)) → slice_get values k ≡ slice_get more k)
-        → call scoped values (backwards (take place scoped.body.order)) f arguments ≡ call scoped more
+    pub nothing_behind : (values more : Items) (index f : ℕ) (arguments : List Value)
+        → IsTrue (is_in f (take index scoped.body.order))
+        → ((k : ℕ) → IsTrue (is_in k (take index scoped.body.order)) → slice_get values k ≡ slice_get more k)
+        → call scoped values (backwards (take index scoped.body.order)) f arguments ≡ call scoped more
         (backwards scoped.body.order) f arguments
-    nothing_behind values more place f arguments there same =
-        let front = take place scoped.body.order in
-        let back = drop place scoped.body.order in
-        let parts : scoped.body.order ≡ front ++ back = sym (take-append-drop place scoped.body.order) in
+    nothing_behind values more index f arguments there same =
+        let front = take index scoped.body.order in
+        let back = drop index scoped.body.order in
+        let parts : scoped.body.order ≡ front ++ back = sym (take-append-drop index scoped.body.order) in
         let whole : backwards scoped.body.order ≡ moved (backwards front) back = ap backwards parts
         ∙ moved_append [] front back in
         values_behind bound values more (backwards front)

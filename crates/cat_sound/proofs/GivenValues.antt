@@ -88,14 +88,14 @@ run-append scoped input before values (item ∷ front) back =
       (λ vs. run_items scoped input (moved (item ∷ before) front) vs back))
 
 -- the run of the whole order goes through the values with which each item is evaluated
-pub run_through : (scoped : Scoped) (input : Items) (place : ℕ)
+pub run_through : (scoped : Scoped) (input : Items) (index : ℕ)
     → run_items scoped input [] (no_values scoped.items) scoped.body.order
-    ≡ and_then (values_at scoped input place)
-      (λ values. run_items scoped input (backwards (take place scoped.body.order)) values
-      (drop place scoped.body.order))
-run_through scoped input place =
-    ap (run_items scoped input [] (no_values scoped.items)) (sym (take-append-drop place scoped.body.order))
-    ∙ run-append scoped input [] (no_values scoped.items) (take place scoped.body.order) (drop place scoped.body.order)
+    ≡ and_then (values_at scoped input index)
+      (λ values. run_items scoped input (backwards (take index scoped.body.order)) values
+      (drop index scoped.body.order))
+run_through scoped input index =
+    ap (run_items scoped input [] (no_values scoped.items)) (sym (take-append-drop index scoped.body.order))
+    ∙ run-append scoped input [] (no_values scoped.items) (take index scoped.body.order) (drop index scoped.body.order)
 
 module _ (scoped : Scoped) (input : Items) (item : ℕ) (v : Value) (given : entry_at item input ≡ Some v) where
   -- the item has its value once it is evaluated
@@ -151,12 +151,12 @@ module _ (scoped : Scoped) (input : Items) (item : ℕ) (v : Value) (given : ent
       by false e g one other = if_and_then (HasValue item v) (item_value scoped before values x (entry_at x input)
         (slice_get scoped.items x)) _ (λ w. other w g)
 
--- behind its place in the order a given item has its value in the environment of each item
-pub given_stands : (scoped : Scoped) (input : Items) (place item : ℕ) (v : Value) → item < length scoped.items
-  → IsTrue (is_in item (take place scoped.body.order)) → entry_at item input ≡ Some v
-    → IfGives (values_at scoped input place) (HasValue item v)
-given_stands scoped input place item v below there given =
-    reached scoped input item v given (take place scoped.body.order) [] (no_values scoped.items) there
+-- behind its index in the order a given item has its value in the environment of each item
+pub given_stands : (scoped : Scoped) (input : Items) (index item : ℕ) (v : Value) → item < length scoped.items
+  → IsTrue (is_in item (take index scoped.body.order)) → entry_at item input ≡ Some v
+    → IfGives (values_at scoped input index) (HasValue item v)
+given_stands scoped input index item v below there given =
+    reached scoped input item v given (take index scoped.body.order) [] (no_values scoped.items) there
       (omega (arith, no_values-length scoped.items, below))
 
 -- ---- the outputs
@@ -267,8 +267,8 @@ unfolding values_in
 outputs-of (Ok vs) outputs P h is =
   subst P (ap (values_in []) (same_some (outcome.Value vs) (outcome.Value outputs) is)) h
 outputs-of (Err (stop.Conflict target places)) outputs P h is = absurd (cc)
-outputs-of (Err (stop.NoValue target place)) outputs P h is = absurd (cc)
-outputs-of (Err (stop.Fault fault place)) outputs P h is = absurd (cc)
+outputs-of (Err (stop.NoValue target pos)) outputs P h is = absurd (cc)
+outputs-of (Err (stop.Fault fault pos)) outputs P h is = absurd (cc)
 outputs-of (Err stop.Stuck) outputs P h is = absurd (cc)
 
 pub given_outputs_stand : (ds : Decls) (bodies : List Body) (order : List ℕ) (s : ℕ) (input : Items) (item : ℕ)

@@ -196,18 +196,18 @@ above_is pairs n [] = refl
 above_is pairs n (g ∷ gs) = ap (λ (rest : List (List ℕ)). excepting pairs n ∷ rest) (above_is pairs (n + 1) gs)
 
 abbrev IsAcyclic : List Def → Target → Type 0
-IsAcyclic defs place = HasNoCycle (exceptions_of (groups_of (defs_from place 0 defs)))
+IsAcyclic defs target = HasNoCycle (exceptions_of (groups_of (defs_from target 0 defs)))
 
-acyclic_of : (defs : List Def) (places : List Target) → AllHave IsLow (forest_of defs places)
-    → AllHave (IsAcyclic defs) places
+acyclic_of : (defs : List Def) (targets : List Target) → AllHave IsLow (forest_of defs targets)
+    → AllHave (IsAcyclic defs) targets
 acyclic_of defs [] low = tt
-acyclic_of defs (place ∷ places) low =
-    let groups = groups_of (defs_from place 0 defs) in
-    (subst (λ (deps : List (List ℕ)). HasNoCycle deps) (above_is _ 0 groups) low.0.0, acyclic_of defs places low.1)
+acyclic_of defs (target ∷ targets) low =
+    let groups = groups_of (defs_from target 0 defs) in
+    (subst (λ (deps : List (List ℕ)). HasNoCycle deps) (above_is _ 0 groups) low.0.0, acyclic_of defs targets low.1)
 
 pub forest_acyclic : (forest : Forest) (program : Program) (scope : ℕ) (body : Body)
     → slice_get program.bodies scope ≡ Some body → StandsFor program scope forest.targets
-    → AllHave (λ place. HasNoCycle (exceptions_of (groups_of (defs_from place 0 body.defs))))
+    → AllHave (λ target. HasNoCycle (exceptions_of (groups_of (defs_from target 0 body.defs))))
     (targets_of program.decls scope (scope_items program.decls scope) body.order)
 forest_acyclic forest program scope body there stands =
     let same : stands.0 ≡ body = same_some stands.0 body (sym stands.1 ∙ there) in
@@ -219,10 +219,11 @@ forest_acyclic forest program scope body there stands =
 
 pub forest_judged : (forest : Forest) (program : Program) (scope : ℕ) (body : Body)
     → slice_get program.bodies scope ≡ Some body → StandsFor program scope forest.targets
-    → AllHave (λ place. AreJudgedByRule place (groups_of (defs_from place 0 body.defs)))
+    → AllHave (λ target. AreJudgedByRule target (groups_of (defs_from target 0 body.defs)))
     (targets_of program.decls scope (scope_items program.decls scope) body.order)
 forest_judged forest program scope body there stands =
-    all_map (IsAcyclic body.defs) (λ place. AreJudgedByRule place (groups_of (defs_from place 0 body.defs)))
-    (λ place none own group within. judging_rule place (groups_of (defs_from place 0 body.defs)) own group none within)
+    all_map (IsAcyclic body.defs) (λ target. AreJudgedByRule target (groups_of (defs_from target 0 body.defs)))
+    (λ target none own group within. judging_rule target (groups_of (defs_from target 0 body.defs)) own group none
+      within)
     (targets_of program.decls scope (scope_items program.decls scope) body.order)
     (forest_acyclic forest program scope body there stands)

@@ -105,19 +105,20 @@ abbrev is_ok : Result (Option (Held Value)) Stop → Bool
 is_ok (Ok found) = true
 is_ok (Err stop) = false
 
-abbrev places_of_stop : Stop → List Pos
-places_of_stop (Conflict target places) = places
-places_of_stop _ = []
+abbrev positions_of_stop : Stop → List Pos
+positions_of_stop (Conflict target positions) = positions
+positions_of_stop _ = []
 
-abbrev places_of : Result (Option (Held Value)) Stop → List Pos
-places_of (Ok found) = []
-places_of (Err stop) = places_of_stop stop
+abbrev positions_of : Result (Option (Held Value)) Stop → List Pos
+positions_of (Ok found) = []
+positions_of (Err stop) = positions_of_stop stop
 
-pub named : (place target : Target) (hs : Several) (places : List Pos) → alone place hs ≡ Err (Conflict target places)
-    → places ≡ positions_in (in_source_order hs)
-named place target [] places e = absurd (true≢false (ap is_ok e))
-named place target (h ∷ []) places e = absurd (true≢false (ap is_ok e))
-named place target (h ∷ i ∷ hs) places e = sym (ap places_of e)
+pub named : (target other : Target) (hs : Several) (positions : List Pos)
+  → alone target hs ≡ Err (Conflict other positions)
+    → positions ≡ positions_in (in_source_order hs)
+named target other [] positions e = absurd (true≢false (ap is_ok e))
+named target other (h ∷ []) positions e = absurd (true≢false (ap is_ok e))
+named target other (h ∷ i ∷ hs) positions e = sym (ap positions_of e)
 
 -- the laws of what holds
 pub ruleset held_laws = (of_all, counts_kept, are_rising, named)

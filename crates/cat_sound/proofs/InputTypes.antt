@@ -176,11 +176,11 @@ scope_call-ends allowed ns scoped calls values s same callee fs k t typed comple
 -- ---- called scopes
 
 passed-ends : (allowed : Allowed)
-    → (ds : Decls) (target : Target) (place : Pos) (decl : ItemDecl) (found : Option (Held Value)) → Placed decl
+    → (ds : Decls) (target : Target) (pos : Pos) (decl : ItemDecl) (found : Option (Held Value)) → Placed decl
     → IsTrue (may_be_given decl.kind)
     → IsHeldOf (allowed.may_stop target || (decl.condition || not (must_be_given decl.kind))) ds decl.ty found
-    → Ended allowed (λ o. IsTrue (is_given_for ds decl o)) (passed target place decl found)
-passed-ends allowed ds target place decl None placed may h = by (must_be_given decl.kind) refl h
+    → Ended allowed (λ o. IsTrue (is_given_for ds decl o)) (passed target pos decl found)
+passed-ends allowed ds target pos decl None placed may h = by (must_be_given decl.kind) refl h
   where
     no_more : (a b : Bool) → IsTrue (a || (b || false)) → IsTrue (a || b)
     no_more true b h = refl
@@ -194,13 +194,13 @@ passed-ends allowed ds target place decl None placed may h = by (must_be_given d
 
     by : (b : Bool) → must_be_given decl.kind ≡ b → IsTrue (allowed.may_stop target || (decl.condition || not b))
         → Ended allowed (λ o. IsTrue (is_given_for ds decl o))
-        (if b then on_one (absent target place decl.condition) (λ v. Ok (Some v)) else Ok None)
+        (if b then on_one (absent target pos decl.condition) (λ v. Ok (Some v)) else Ok None)
     by true e g =
-        as_given (absent target place decl.condition)
-        (absent-ends allowed ds decl.ty target place decl.condition (condition_type decl placed)
+        as_given (absent target pos decl.condition)
+        (absent-ends allowed ds decl.ty target pos decl.condition (condition_type decl placed)
         (no_more (allowed.may_stop target) decl.condition g))
     by false e g = ap not e
-passed-ends allowed ds target place decl (Some held) placed may h = and_both _ _ may h
+passed-ends allowed ds target pos decl (Some held) placed may h = and_both _ _ may h
 
 not_given : (k : Kind) → may_be_given k ≡ false → must_be_given k ≡ false
 not_given kind.Input h = absurd (true≢false h)
@@ -212,20 +212,20 @@ not_given kind.Output h = refl
 not_given (kind.Called scope) h = refl
 
 pub passed_input-ends : (allowed : Allowed)
-    → (ds : Decls) (judged_at : ℕ → Judged Value) (target_at : ℕ → Target) (place : Pos) (n : ℕ) (decls : List ItemDecl)
+    → (ds : Decls) (judged_at : ℕ → Judged Value) (target_at : ℕ → Target) (pos : Pos) (n : ℕ) (decls : List ItemDecl)
     → AllHave Placed decls
     →
     ((j : ℕ) (i : ItemDecl) → slice_get decls j ≡ Some i → IsTrue (may_be_given i.kind)
     → EndsIn allowed
     (IsHeldOf (allowed.may_stop (target_at (n + j)) || (i.condition || not (must_be_given i.kind))) ds i.ty)
     (decided (target_at (n + j)) (judged_at (n + j))))
-    → EndsIn allowed (λ input. IsTrue (are_given_for ds decls input)) (passed_input judged_at target_at place n decls)
-passed_input-ends allowed ds judged_at target_at place n [] placed each = (tt, refl)
-passed_input-ends allowed ds judged_at target_at place n (decl ∷ decls) placed each =
+    → EndsIn allowed (λ input. IsTrue (are_given_for ds decls input)) (passed_input judged_at target_at pos n decls)
+passed_input-ends allowed ds judged_at target_at pos n [] placed each = (tt, refl)
+passed_input-ends allowed ds judged_at target_at pos n (decl ∷ decls) placed each =
     ends_in_front allowed (λ o. IsTrue (is_given_for ds decl o)) (λ input. IsTrue (are_given_for ds decls input))
     (λ input. IsTrue (are_given_for ds (decl ∷ decls) input)) _ _
     (by (may_be_given decl.kind) refl)
-    (passed_input-ends allowed ds judged_at target_at place (n + 1) decls placed.1
+    (passed_input-ends allowed ds judged_at target_at pos (n + 1) decls placed.1
     (λ j i is may. subst
     (λ (m : ℕ). EndsIn allowed
     (IsHeldOf (allowed.may_stop (target_at m) || (i.condition || not (must_be_given i.kind))) ds i.ty)
@@ -235,16 +235,16 @@ passed_input-ends allowed ds judged_at target_at place n (decl ∷ decls) placed
   where
     by : (b : Bool) → may_be_given decl.kind ≡ b
         → EndsIn allowed (λ o. IsTrue (is_given_for ds decl o))
-        (if b then giving (decided (target_at n) (judged_at n)) (passed (target_at n) place decl) else gives None)
+        (if b then giving (decided (target_at n) (judged_at n)) (passed (target_at n) pos decl) else gives None)
     by true e =
         ends_then allowed
         (IsHeldOf (allowed.may_stop (target_at n) || (decl.condition || not (must_be_given decl.kind))) ds decl.ty)
         (λ o. IsTrue (is_given_for ds decl o)) (decided (target_at n) (judged_at n))
-        (λ found. plain (passed (target_at n) place decl found))
+        (λ found. plain (passed (target_at n) pos decl found))
         (subst
         (λ (m : ℕ). EndsIn allowed
         (IsHeldOf (allowed.may_stop (target_at m) || (decl.condition || not (must_be_given decl.kind))) ds decl.ty)
         (decided (target_at m) (judged_at m)))
         (omega arith) (each 0 decl refl e))
-        (λ found is. (tt, passed-ends allowed ds (target_at n) place decl found placed.0 e is))
+        (λ found is. (tt, passed-ends allowed ds (target_at n) pos decl found placed.0 e is))
     by false e = (tt, ap not (not_given decl.kind e))

@@ -19,13 +19,13 @@ each_same f g Has same [] all = refl
 each_same f g Has same (n ∷ ns) all =
   ap (λ r. r ∷ map f ns) (same n all.0) ∙ ap (λ rest. g n ∷ rest) (each_same f g Has same ns all.1)
 
-steady : {A : Type 0} (place : Target) (pairs : List (ℕ × ℕ)) (own : ℕ → Judged A) (n group : ℕ)
-  → IsWithin (excepting pairs) n group → judge place pairs own n group ≡ judge place pairs own (suc n) group
-steady place pairs own zero group within = elim within [ ]
-steady place pairs own (suc n) group within =
-    ap (λ judged. or_else (settle place judged) (own group))
-    (each_same (judge place pairs own n) (judge place pairs own (suc n)) (IsWithin (excepting pairs) n)
-      (λ g h. steady place pairs own n g h) (excepting pairs group) within)
+steady : {A : Type 0} (target : Target) (pairs : List (ℕ × ℕ)) (own : ℕ → Judged A) (n group : ℕ)
+  → IsWithin (excepting pairs) n group → judge target pairs own n group ≡ judge target pairs own (suc n) group
+steady target pairs own zero group within = elim within [ ]
+steady target pairs own (suc n) group within =
+    ap (λ judged. or_else (settle target judged) (own group))
+    (each_same (judge target pairs own n) (judge target pairs own (suc n)) (IsWithin (excepting pairs) n)
+      (λ g h. steady target pairs own n g h) (excepting pairs group) within)
 
 -- each group that excepts one stands among the groups
 paired_low : (bound n : ℕ) (target : Option ℕ) (pairs : List (ℕ × ℕ)) → n < bound → AllHave (λ pair. pair.0 < bound)
@@ -77,12 +77,13 @@ leads_on groups g h within among =
       (excepting_low (length groups) (excepts groups) (pairs_low groups (length groups) 0 groups (omega arith)) g)
       among)
 
-pub judging_rule : {A : Type 0} (place : Target) (groups : List Group) (own : ℕ → Judged A) (group : ℕ)
+pub judging_rule : {A : Type 0} (target : Target) (groups : List Group) (own : ℕ → Judged A) (group : ℕ)
   → HasNoCycle (exceptions_of groups) → group < length groups
-    → judge place (excepts groups) own (length groups) group
-    ≡ or_else (settle place (map (judge place (excepts groups) own (length groups)) (excepting (excepts groups) group)))
+    → judge target (excepts groups) own (length groups) group
+    ≡ or_else (settle target (map (judge target (excepts groups) own (length groups))
+      (excepting (excepts groups) group)))
       (own group)
-judging_rule place groups own group none within =
-    steady place (excepts groups) own (length groups) group
+judging_rule target groups own group none within =
+    steady target (excepts groups) own (length groups) group
     (within_of_no_cycle (exceptions_of groups) (excepting (excepts groups)) (length groups) none (leads_on groups) group
       within)

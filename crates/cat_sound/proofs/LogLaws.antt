@@ -20,7 +20,7 @@ use Rattle.cat_order.specs.Order.{times}
 use Rattle.cat_scope.specs.declared.defs.Body.{Body}
 use Rattle.cat_scope.specs.Runs.{Decider, Run, plain, gives, behind, and_then}
 use Rattle.cat_scope.specs.Names.{is_in, is_called, has_none, is_plain}
-use Rattle.cat_scope.specs.Judging.{Held, Judged, place_in, decided}
+use Rattle.cat_scope.specs.Judging.{Held, Judged, held_position, decided}
 use Rattle.cat_scope.specs.Targets.{absent, value_or, same_inner, same_target}
 use Rattle.cat_scope.specs.WellFormed.{IsWellFormed}
 use Rattle.cat_scope.specs.Calls.{Items, Scoped, variable, judging_of, variable_value, call}
@@ -71,8 +71,9 @@ module _ (scoped : Scoped) (input : Items) where
       one : (inner : Option ℕ) (found : Option (Held Value))
           → (judging_of scoped (call scoped values (backwards front)) values [] (target_in scoped item inner)).end
           ≡ Ok found
-          → Made (record { target = target_in scoped item inner; by = place_in found } ∷ [])
-      one inner found is = logs.own (record { target = target_in scoped item inner; by = place_in found }) (record {
+          → Made (record { target = target_in scoped item inner; by = held_position found } ∷ [])
+      one inner found is = logs.own (record { target = target_in scoped item inner; by = held_position found })
+        (record {
         front = front;
         item = item;
         back = left;
@@ -176,7 +177,7 @@ module _ (scoped : Scoped) (input : Items) (item : ℕ) (decl : ItemDecl)
     judging = judging_of scoped (call scoped values before) values [] own
 
     abbrev entry_of : Option (Held Value) → Run (Option (Held Value))
-    entry_of f = record { log = record { target = own; by = place_in f } ∷ []; end = Ok f }
+    entry_of f = record { log = record { target = own; by = held_position f } ∷ []; end = Ok f }
 
     one_more : (a b : ℕ) → a ≡ 0 → b ≡ 1 → a + b ≡ 1
     one_more a b h g = omega (arith, h, g)
@@ -196,9 +197,9 @@ module _ (scoped : Scoped) (input : Items) (item : ℕ) (decl : ItemDecl)
         (λ f. plain (value_or (absent own decl.pos decl.condition) f)) found.0 found.1)
         ∙ times_end own (decided own judging).log
         ∙ ap (times_logged own) (then_log judging entry_of here.0 here.1)
-        ∙ times_append own judging.log (record { target = own; by = place_in here.0 } ∷ [])
+        ∙ times_append own judging.log (record { target = own; by = held_position here.0 } ∷ [])
         ∙ one_more (times_logged own judging.log)
-        (times_logged own (record { target = own; by = place_in here.0 } ∷ []))
+        (times_logged own (record { target = own; by = held_position here.0 } ∷ []))
         (judging_logs none_of refl (never_both own) scoped quiet before values item None)
         (own_item (nat_eq scoped.scope scoped.scope) (nat_eq item item) (itself_eq scoped.scope) (itself_eq item))
     defined_once (t ∷ ts) none v ends = not_true none

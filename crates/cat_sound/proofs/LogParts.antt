@@ -31,7 +31,8 @@ use Rattle.cat_scope.specs.Operators.{convert, operate}
 use Rattle.cat_scope.specs.Lists.{for_all, exists, mapped, filtered, combined, contained, zero_of, summed}
 use Rattle.cat_scope.specs.Names.{AllHave}
 use Rattle.cat_scope.specs.Groups.{Numbered, Group, groups_of, roots_of, excepts, excepting}
-use Rattle.cat_scope.specs.Judging.{Held, Judged, with_held, holding, alone, settle, found_or, judge, place_in, decided}
+use Rattle.cat_scope.specs.Judging.{Held, Judged, with_held, holding, alone, settle, found_or, judge, held_position}
+use Rattle.cat_scope.specs.Judging.{decided}
 use Rattle.cat_scope.specs.Targets.{defs_from, condition_of, held_as, judge_def, own_by, judge_target, absent, value_or}
 use Rattle.cat_scope.specs.Eval.{Env, eval, meaning_of}
 use Rattle.cat_scope.specs.Composed.{Meaning, part, all_of, field_values, structured, arm_locals, arm_value, matched}
@@ -382,28 +383,29 @@ module _ (P : List Decider → Type 0) (none : P []) (joined : (xs ys : List Dec
           judged_logs (call scoped values before) (call_logs values before) values [] (target_in scoped item inner)
 
       module _ (one : (inner : Option ℕ) (found : Option (Held Value)) → (judging_at inner).end ≡ Ok found
-          → P (record { target = target_in scoped item inner; by = place_in found } ∷ [])) where
+          → P (record { target = target_in scoped item inner; by = held_position found } ∷ [])) where
         decided_logs : (inner : Option ℕ) → P (decided (target_in scoped item inner) (judging_at inner)).log
         decided_logs inner = then_logs (judging_at inner)
-            (λ found. record { log = record { target = target_in scoped item inner; by = place_in found } ∷ []; end =
+            (λ found. record { log = record { target = target_in scoped item inner; by = held_position found } ∷ [];
+              end =
               Ok found })
             (judging_logs inner) (one inner)
 
-        passed_logs : (place : Pos) (n : ℕ) (decls : List ItemDecl)
-            → P (passed_input (λ m. judging_at (Some m)) (variable_of_called scoped item) place n decls).log
-        passed_logs place n [] = none
-        passed_logs place n (decl ∷ decls) =
+        passed_logs : (at : Pos) (n : ℕ) (decls : List ItemDecl)
+            → P (passed_input (λ m. judging_at (Some m)) (variable_of_called scoped item) at n decls).log
+        passed_logs at n [] = none
+        passed_logs at n (decl ∷ decls) =
             front_logs (if may_be_given decl.kind then giving
             (decided (target_in scoped item (Some n)) (judging_at (Some n)))
-            (passed (target_in scoped item (Some n)) place decl) else gives None)
-            (passed_input (λ m. judging_at (Some m)) (variable_of_called scoped item) place (n + 1) decls)
-            (by (may_be_given decl.kind)) (passed_logs place (n + 1) decls)
+            (passed (target_in scoped item (Some n)) at decl) else gives None)
+            (passed_input (λ m. judging_at (Some m)) (variable_of_called scoped item) at (n + 1) decls)
+            (by (may_be_given decl.kind)) (passed_logs at (n + 1) decls)
           where
             by : (b : Bool) → P (if b then giving (decided (target_in scoped item (Some n)) (judging_at (Some n)))
-                (passed (target_in scoped item (Some n)) place decl) else gives None).log
+                (passed (target_in scoped item (Some n)) at decl) else gives None).log
             by true =
                 giving_logs (decided (target_in scoped item (Some n)) (judging_at (Some n)))
-                (passed (target_in scoped item (Some n)) place decl) (decided_logs (Some n))
+                (passed (target_in scoped item (Some n)) at decl) (decided_logs (Some n))
             by false = none
 
         called_logs : (decl : ItemDecl) (s : ℕ) → P (called_value scoped before values item decl s).log
@@ -456,7 +458,7 @@ module _ (P : List Decider → Type 0) (none : P []) (joined : (xs ys : List Dec
           → P (item_value scoped before values item o d).log
       given_logs before values item (Some v) d = none
       given_logs before values item None d =
-          open_logs before values item (λ inner found is. one item inner (place_in found)) d
+          open_logs before values item (λ inner found is. one item inner (held_position found)) d
 
       items_logs : (left before : List ℕ) (values : Items) → P (run_items scoped input before values left).log
       items_logs [] before values = none

@@ -39,17 +39,17 @@ AreOf-prop ds (t ∷ ts) (v ∷ vs) = hlevel (Bool-set (has_type ds v t) true, A
 
 IsOutcomeOf-prop : (ds : Decls) (items : List ItemDecl) (o : Option Outcome) → IsProp (IsOutcomeOf ds items o)
 IsOutcomeOf-prop ds items (Some (outcome.Value outputs)) = AreOf-prop ds (types_of (outputs_in items)) outputs
-IsOutcomeOf-prop ds items (Some (outcome.Conflict target places)) = hlevel Bool-set
-IsOutcomeOf-prop ds items (Some (outcome.NoValue target place)) = hlevel Bool-set
-IsOutcomeOf-prop ds items (Some (outcome.Fault fault place)) = hlevel Bool-set
+IsOutcomeOf-prop ds items (Some (outcome.Conflict target positions)) = hlevel Bool-set
+IsOutcomeOf-prop ds items (Some (outcome.NoValue target pos)) = hlevel Bool-set
+IsOutcomeOf-prop ds items (Some (outcome.Fault fault pos)) = hlevel Bool-set
 IsOutcomeOf-prop ds items None = hlevel Bool-set
 
 outcome-of : (allowed : Allowed) → (ds : Decls) (items : List ItemDecl) (r : Result (List Value) Stop)
   → Ended allowed (AreOutputsOf ds items) r → IsOutcomeOf ds items (outcome_of r)
 outcome-of allowed ds items (Ok outputs) h = h
-outcome-of allowed ds items (Err (stop.Conflict target places)) h = tt
-outcome-of allowed ds items (Err (stop.NoValue target place)) h = tt
-outcome-of allowed ds items (Err (stop.Fault fault place)) h = tt
+outcome-of allowed ds items (Err (stop.Conflict target positions)) h = tt
+outcome-of allowed ds items (Err (stop.NoValue target pos)) h = tt
+outcome-of allowed ds items (Err (stop.Fault fault pos)) h = tt
 outcome-of allowed ds items (Err stop.Stuck) h = elim h [ ]
 
 everywhere : {A : Type 0} (xs : List A) → AllHave (λ a. IsTrue true) xs
@@ -83,9 +83,9 @@ programs_go_on ds bodies order scope input formed typed =
 Ended-prop : (allowed : Allowed) (ds : Decls) (items : List ItemDecl) (r : Result (List Value) Stop)
   → IsProp (Ended allowed (AreOutputsOf ds items) r)
 Ended-prop allowed ds items (Ok outputs) = AreOf-prop ds (types_of (outputs_in items)) outputs
-Ended-prop allowed ds items (Err (stop.Conflict target places)) = hlevel (Bool-set (allowed.may_stop target) true)
-Ended-prop allowed ds items (Err (stop.NoValue target place)) = hlevel (Bool-set (allowed.may_stop target) true)
-Ended-prop allowed ds items (Err (stop.Fault fault place)) = hlevel Bool-set
+Ended-prop allowed ds items (Err (stop.Conflict target positions)) = hlevel (Bool-set (allowed.may_stop target) true)
+Ended-prop allowed ds items (Err (stop.NoValue target pos)) = hlevel (Bool-set (allowed.may_stop target) true)
+Ended-prop allowed ds items (Err (stop.Fault fault pos)) = hlevel Bool-set
 Ended-prop allowed ds items (Err stop.Stuck) = hlevel Bool-set
 
 log-prop : (allowed : Allowed) (log : List Decider) → IsProp (AllHave (IsDecision allowed) log)

@@ -32,16 +32,16 @@ its_deciders = search (rules, equations, value.the_lemmas)
 abbrev forest : List ForestTarget
 forest =
     record {
-      place = record { scope = 1; item = 1; inner = Some 0 };
+      target = record { scope = 1; item = 1; inner = Some 0 };
       groups = record { defs = 0 ∷ []; excepted_by = [] } ∷ [];
     }
-    ∷ record { place = variable 1 2; groups = record { defs = 1 ∷ []; excepted_by = [] } ∷ [] } ∷ []
+    ∷ record { target = variable 1 2; groups = record { defs = 1 ∷ []; excepted_by = [] } ∷ [] } ∷ []
 
 pub its_forest : StandsFor program 1 forest
 its_forest = (_, refl, refl)
 
 -- no chain of its groups is long, so that it is a forest, and each of its groups is judged by the rule
-it_is_low : IsTrue (are_low forest)
+pub it_is_low : IsTrue (are_low forest)
 unfolding are_low is_within
 it_is_low = refl
 
@@ -51,5 +51,5 @@ whole = record { targets = forest; low = it_is_low }
 abbrev its_targets : List Target
 its_targets = targets_of program.decls 1 (scope_items program.decls 1) (0 ∷ 1 ∷ 2 ∷ [])
 
-its_groups_are_judged : AllHave (λ place. AreJudgedByRule place (groups_of (defs_from place 0 s_defs))) its_targets
+its_groups_are_judged : AllHave (λ target. AreJudgedByRule target (groups_of (defs_from target 0 s_defs))) its_targets
 its_groups_are_judged = forest_judged whole program 1 _ refl its_forest

@@ -70,7 +70,7 @@ result_exact P p make (Err num.DivisionByZero) go = tt
 pub result_known : {A : Type 0} (P : A → Type 0) (o : Option A) (a : A) → o ≡ Some a → P a → ResultsIn P (known o)
 result_known P o a e h = result_as P (known o) (Ok a) (ap known e) h
 
--- the element at a place is of the type there
+-- the element at an index is of the type there
 pub local_of : (ds : Decls) (ts : List Ty) (vs : List Value) (k : ℕ) (t : Ty) → AreOf ds ts vs → slice_get ts k ≡ Some t
   → ResultsIn (IsOf ds t) (known (slice_get vs k))
 local_of ds [] [] k t are is = absurd (cc)

@@ -1,4 +1,4 @@
--- A run that ends in a value has given each of its items what it comes to, in the values of its place.
+-- A run that ends in a value has given each of its items what it comes to, in the values of its index.
 use Rattle.std.proofs.Common.{◌≡◌, ℕ, zero, suc, List, [], ◌∷◌, take, drop, Some, Result, Ok, Err, slice_get, refl, sym}
 use Rattle.std.proofs.Common.{ap, ◌∙◌}
 use Rattle.cat_value.specs.declared.value.Value.{Value}
@@ -24,24 +24,24 @@ pub first_ok : {A B : Type 0} (run : Run A) (next : A → Run B) (b : B) → (an
   → FirstOk run.end next b
 first_ok run next b h = first_behind run.log run.end next b h
 
-pub drop_at : (ns : List ℕ) (place item : ℕ) → slice_get ns place ≡ Some item → (rest : List ℕ)
-  × (drop place ns ≡ item ∷ rest)
-drop_at [] place item at = absurd (cc)
+pub drop_at : (ns : List ℕ) (index item : ℕ) → slice_get ns index ≡ Some item → (rest : List ℕ)
+  × (drop index ns ≡ item ∷ rest)
+drop_at [] index item at = absurd (cc)
 drop_at (n ∷ ns) zero item at = (ns, ap (λ (m : ℕ). m ∷ ns) (same_some n item at))
-drop_at (n ∷ ns) (suc place) item at = drop_at ns place item at
+drop_at (n ∷ ns) (suc index) item at = drop_at ns index item at
 
-pub each_judged : (scoped : Scoped) (input : Items) (outputs : List Value) (place item : ℕ)
-  → (run_scoped scoped input).end ≡ Ok outputs → slice_get scoped.body.order place ≡ Some item
-  → JudgedAt scoped input place item
-each_judged scoped input outputs place item ends at =
+pub each_judged : (scoped : Scoped) (input : Items) (outputs : List Value) (index item : ℕ)
+  → (run_scoped scoped input).end ≡ Ok outputs → slice_get scoped.body.order index ≡ Some item
+  → JudgedAt scoped input index item
+each_judged scoped input outputs index item ends at =
     let whole = first_ok (run_items scoped input [] (no_values scoped.items) scoped.body.order) _ outputs ends in
-    let through = first_ok (values_at scoped input place)
-      (λ values. run_items scoped input (backwards (take place scoped.body.order)) values
-      (drop place scoped.body.order)) whole.0
-    (sym (ap (λ (run : Run Items). run.end) (run_through scoped input place)) ∙ whole.1) in
-    let here = drop_at scoped.body.order place item at in
-    let judged = first_ok (item_value scoped (backwards (take place scoped.body.order)) through.0 item
+    let through = first_ok (values_at scoped input index)
+      (λ values. run_items scoped input (backwards (take index scoped.body.order)) values
+      (drop index scoped.body.order)) whole.0
+    (sym (ap (λ (run : Run Items). run.end) (run_through scoped input index)) ∙ whole.1) in
+    let here = drop_at scoped.body.order index item at in
+    let judged = first_ok (item_value scoped (backwards (take index scoped.body.order)) through.0 item
       (entry_at item input) (slice_get scoped.items item)) _ whole.0
-    (sym (ap (λ left. (run_items scoped input (backwards (take place scoped.body.order)) through.0 left).end) here.1)
+    (sym (ap (λ left. (run_items scoped input (backwards (take index scoped.body.order)) through.0 left).end) here.1)
       ∙ through.2) in
     record { values = through.0; value = judged.0; reached = through.1; is = judged.1 }

@@ -12,7 +12,7 @@ use Rattle.cat_scope.specs.declared.defs.Def.{Def}
 use Rattle.cat_scope.specs.Replies.{on_one}
 use Rattle.cat_scope.specs.Runs.{Decider, Run, plain, gives, behind}
 use Rattle.cat_scope.specs.Groups.{groups_of}
-use Rattle.cat_scope.specs.Judging.{Held, Judged, place_in, decided}
+use Rattle.cat_scope.specs.Judging.{Held, Judged, held_position, decided}
 use Rattle.cat_scope.specs.Targets.{same_target, defs_from, judge_groups, judge_target, absent, value_or}
 use Rattle.cat_value.specs.declared.declaration.ItemDecl.{ItemDecl}
 use Rattle.cat_value.specs.Inputs.{must_be_given}
@@ -46,11 +46,11 @@ is_ok (Ok a) = true
 is_ok (Err stop) = false
 
 -- a condition has a value, whatever is found
-false_or-ok : (target : Target) (place : Pos) (condition : Bool) (found : Option (Held Value)) → condition ≡ true
-  → is_ok (value_or (absent target place condition) found) ≡ true
-false_or-ok target place condition (Some h) is = refl
-false_or-ok target place true None is = refl
-false_or-ok target place false None is = absurd (true≢false (sym is))
+false_or-ok : (target : Target) (pos : Pos) (condition : Bool) (found : Option (Held Value)) → condition ≡ true
+  → is_ok (value_or (absent target pos condition) found) ≡ true
+false_or-ok target pos condition (Some h) is = refl
+false_or-ok target pos true None is = refl
+false_or-ok target pos false None is = absurd (true≢false (sym is))
 
 -- the same stop in place of another value
 abbrev pub as_stop : {A B : Type 0} → Stop → Result B Stop → Result A Stop
@@ -75,7 +75,8 @@ pub condition-stops : (scoped : Scoped) (before : List ℕ) (values : Items) (it
       → (judging_of scoped (call scoped values before) values [] (variable scoped item)).end ≡ Err (NoValue other there)
 condition-stops scoped before values item decl other there condition is =
     behind-stops judging.log judging.end
-      (λ found. record { log = record { target = variable scoped item; by = place_in found } ∷ []; end = Ok found })
+      (λ found. record { log = record { target = variable scoped item; by = held_position found } ∷ []; end =
+        Ok found })
       (NoValue other there) (λ found. refl)
     (value-stops (variable scoped item) decl (decided (variable scoped item) judging) (NoValue other there) condition
     (behind-stops value.log value.end (λ v. gives (Some v)) (NoValue other there) (λ v. refl) is))
@@ -86,12 +87,12 @@ condition-stops scoped before values item decl other there condition is =
     value : Run Value
     value = variable_value (variable scoped item) (Some decl) (decided (variable scoped item) judging)
 
-pub input-has : (target : Target) (place : Pos) (decl : ItemDecl) (found : Option (Held Value)) (other : Target)
-  (there : Pos) → decl.condition ≡ true → ¬ (passed target place decl found ≡ Err (NoValue other there))
-input-has target place decl (Some h) other there condition is = true≢false (ap is_ok is)
-input-has target place decl None other there condition is = by (must_be_given decl.kind) decl.condition condition is
+pub input-has : (target : Target) (pos : Pos) (decl : ItemDecl) (found : Option (Held Value)) (other : Target)
+  (there : Pos) → decl.condition ≡ true → ¬ (passed target pos decl found ≡ Err (NoValue other there))
+input-has target pos decl (Some h) other there condition is = true≢false (ap is_ok is)
+input-has target pos decl None other there condition is = by (must_be_given decl.kind) decl.condition condition is
   where
-    by : (b c : Bool) → c ≡ true → (if b then on_one (absent target place c) (λ v. Ok (Some v)) else Ok None) ≡ Err
+    by : (b c : Bool) → c ≡ true → (if b then on_one (absent target pos c) (λ v. Ok (Some v)) else Ok None) ≡ Err
       (NoValue other there) → ⊥
     by true true e g = true≢false (ap is_ok g)
     by true false e g = true≢false (sym e)

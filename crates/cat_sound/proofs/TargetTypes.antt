@@ -22,7 +22,8 @@ use Rattle.cat_scope.specs.declared.stop.Stop.{Stop}
 use Rattle.cat_scope.specs.Groups.{Numbered, Key, Group, key_of, same_key, is_among, with_key, group_at, groups_from}
 use Rattle.cat_scope.specs.Groups.{groups_of, group_numbers, is_none, roots_of, target_of, paired, pairs_from, excepts}
 use Rattle.cat_scope.specs.Groups.{excepting}
-use Rattle.cat_scope.specs.Judging.{Held, Judged, with_held, holding, alone, settle, found_or, or_else, judge, place_in}
+use Rattle.cat_scope.specs.Judging.{Held, Judged, with_held, holding, alone, settle, found_or, or_else, judge}
+use Rattle.cat_scope.specs.Judging.{held_position}
 use Rattle.cat_scope.specs.Judging.{decided}
 use Rattle.cat_scope.specs.Names.{AllHave}
 use Rattle.cat_scope.specs.Targets.{same_target, defs_from, condition_of, held_as, judge_def, own_by, judge_groups}
@@ -60,17 +61,17 @@ module _ (allowed : Allowed) (ds : Decls) (t : Ty) where
       (λ one ho. ends_then allowed AllOf AllOf (holding rs) _ (holding-ends rs h.1)
       (λ more hm. (tt, with-held one more ho hm)))
 
-  alone-ends : (place : Target) → IsTrue (allowed.may_stop place) → (hs : List (Held Value)) → AllOf hs
-      → Ended allowed (IsHeldOf true ds t) (alone place hs)
-  alone-ends place free [] h = refl
-  alone-ends place free (one ∷ []) h = h.0
-  alone-ends place free (one ∷ two ∷ hs) h = free
+  alone-ends : (target : Target) → IsTrue (allowed.may_stop target) → (hs : List (Held Value)) → AllOf hs
+      → Ended allowed (IsHeldOf true ds t) (alone target hs)
+  alone-ends target free [] h = refl
+  alone-ends target free (one ∷ []) h = h.0
+  alone-ends target free (one ∷ two ∷ hs) h = free
 
-  settle-ends : (place : Target) → IsTrue (allowed.may_stop place) → (rs : List (Judged Value)) → AllHave JudgedOf rs
-      → JudgedOf (settle place rs)
-  settle-ends place free rs h =
-      ends_then allowed AllOf (IsHeldOf true ds t) (holding rs) (λ hs. plain (alone place hs)) (holding-ends rs h)
-      (λ hs all. (tt, alone-ends place free hs all))
+  settle-ends : (target : Target) → IsTrue (allowed.may_stop target) → (rs : List (Judged Value)) → AllHave JudgedOf rs
+      → JudgedOf (settle target rs)
+  settle-ends target free rs h =
+      ends_then allowed AllOf (IsHeldOf true ds t) (holding rs) (λ hs. plain (alone target hs)) (holding-ends rs h)
+      (λ hs all. (tt, alone-ends target free hs all))
 
   or_else-ends : (r other : Judged Value) → JudgedOf r → JudgedOf other → JudgedOf (or_else r other)
   or_else-ends r other is also =
@@ -135,16 +136,16 @@ next groups k = target_in groups (slice_get groups k)
 
 -- a number from n on is that of a group among the ones given, which excepts group h
 record Excepting (all : List Group) (n : ℕ) (gs : List Group) (h k : ℕ) : Type 0 where
-  place : ℕ
+  index : ℕ
   group : Group
-  is : k ≡ n + place
-  there : slice_get gs place ≡ Some group
+  is : k ≡ n + index
+  there : slice_get gs index ≡ Some group
   excepted : target_of all group.except ≡ Some h
 
 one_further : (all : List Group) (n : ℕ) (g : Group) (gs : List Group) (h k : ℕ) → Excepting all (n + 1) gs h k
     → Excepting all n (g ∷ gs) h k
 one_further all n g gs h k e =
-    let is = e.is in record { place = suc e.place; group = e.group; is = omega arith; there = e.there; excepted =
+    let is = e.is in record { index = suc e.index; group = e.group; is = omega arith; there = e.there; excepted =
       e.excepted }
 
 excepting-all : (all : List Group) (n : ℕ) (gs : List Group) (h : ℕ)
@@ -160,7 +161,7 @@ excepting-all all n (g ∷ gs) h =
         (pairs_from all (n + 1) gs) h)
     if_same m true same is rest = (
       record {
-        place = 0;
+        index = 0;
         group = g;
         is = omega arith;
         there = refl;
@@ -179,10 +180,10 @@ excepting-all all n (g ∷ gs) h =
 
 -- a number from n on is that of a group that passes a test
 record Passing (passes : Group → Bool) (n : ℕ) (gs : List Group) (k : ℕ) : Type 0 where
-  place : ℕ
+  index : ℕ
   group : Group
-  is : k ≡ n + place
-  there : slice_get gs place ≡ Some group
+  is : k ≡ n + index
+  there : slice_get gs index ≡ Some group
   passed : IsTrue (passes group)
 
 passing-all : (passes : Group → Bool) (n : ℕ) (gs : List Group) → AllHave (Passing passes n gs)
@@ -191,13 +192,13 @@ passing-all passes n [] = tt
 passing-all passes n (g ∷ gs) =
     by (passes g) refl (all_more (Passing passes (n + 1) gs) (Passing passes n (g ∷ gs))
     (group_numbers passes (n + 1) gs) (passing-all passes (n + 1) gs)
-    (λ k e. let is = e.is in record { place = suc e.place; group = e.group; is = omega arith; there = e.there; passed =
+    (λ k e. let is = e.is in record { index = suc e.index; group = e.group; is = omega arith; there = e.there; passed =
       e.passed }))
   where
     by : (b : Bool) → passes g ≡ b → AllHave (Passing passes n (g ∷ gs)) (group_numbers passes (n + 1) gs)
         → AllHave (Passing passes n (g ∷ gs)) (if b then n ∷ group_numbers passes (n + 1) gs else group_numbers passes
         (n + 1) gs)
-    by true e rest = (record { place = 0; group = g; is = omega arith; there = refl; passed = e }, rest)
+    by true e rest = (record { index = 0; group = g; is = omega arith; there = refl; passed = e }, rest)
     by false e rest = rest
 
 no_target : (groups : List Group) (e : Except) → IsTrue (is_none e) → target_of groups e ≡ None
@@ -207,17 +208,17 @@ no_target groups (except.Named pos label) h = absurd (true≢false (sym h))
 
 -- ---- judging groups and targets
 
-module _ (allowed : Allowed) (ds : Decls) (t : Ty) (value : Expr → Run Value) (place : Target)
-    (free : IsTrue (allowed.may_stop place)) (groups : List Group)
+module _ (allowed : Allowed) (ds : Decls) (t : Ty) (value : Expr → Run Value) (target : Target)
+    (free : IsTrue (allowed.may_stop target)) (groups : List Group)
     (each : AllHave (λ g. AllHave (λ d. DefEnds allowed ds t value d.1) g.defs) groups) where
   abbrev own : ℕ → Judged Value
-  own g = own_by (judge_def value) place (slice_get groups g)
+  own g = own_by (judge_def value) target (slice_get groups g)
 
   own-ends : (g : ℕ) (group : Group) → slice_get groups g ≡ Some group → EndsIn allowed (IsHeldOf true ds t) (own g)
   own-ends g group is =
-      ends_as allowed (IsHeldOf true ds t) (own g) (settle place (map (judge_def value) group.defs))
-      (ap (own_by (judge_def value) place) is)
-      (settle-ends allowed ds t place free (map (judge_def value) group.defs)
+      ends_as allowed (IsHeldOf true ds t) (own g) (settle target (map (judge_def value) group.defs))
+      (ap (own_by (judge_def value) target) is)
+      (settle-ends allowed ds t target free (map (judge_def value) group.defs)
       (all_map (λ d. DefEnds allowed ds t value d.1) (EndsIn allowed (IsHeldOf true ds t))
       (judge_def value) group.defs (all_at (λ g. AllHave
       (λ d. DefEnds allowed ds t value d.1) g.defs) groups g group each is) (def-ends allowed ds t value)))
@@ -244,17 +245,17 @@ module _ (allowed : Allowed) (ds : Decls) (t : Ty) (value : Expr → Run Value) 
         left = omega arith;
       }
 
-  judge-ends : (n g : ℕ) → Reached n g → EndsIn allowed (IsHeldOf true ds t) (judge place (excepts groups) own n g)
+  judge-ends : (n g : ℕ) → Reached n g → EndsIn allowed (IsHeldOf true ds t) (judge target (excepts groups) own n g)
   judge-ends zero g from =
       let left = from.left in
       let short = trail_short (next groups) (length groups) g from.rest from.trail in
       absurd (omega arith)
   judge-ends (suc n) g from =
-      or_else-ends allowed ds t (settle place (map (judge place (excepts groups) own n)
+      or_else-ends allowed ds t (settle target (map (judge target (excepts groups) own n)
       (excepting (excepts groups) g))) (own g)
-      (settle-ends allowed ds t place free (map (judge place (excepts groups) own n) (excepting (excepts groups) g))
+      (settle-ends allowed ds t target free (map (judge target (excepts groups) own n) (excepting (excepts groups) g))
       (all_map (Excepting groups 0 groups g) (EndsIn allowed (IsHeldOf true ds t))
-      (judge place (excepts groups) own n) (excepting (excepts groups) g) (excepting-all groups 0 groups g)
+      (judge target (excepts groups) own n) (excepting (excepts groups) g) (excepting-all groups 0 groups g)
       (λ k e. judge-ends n k (further n g from k e))))
       (own-ends g from.group from.there)
 
@@ -275,11 +276,11 @@ module _ (allowed : Allowed) (ds : Decls) (t : Ty) (value : Expr → Run Value) 
         left = omega arith;
       }
 
-  judge_groups-ends : EndsIn allowed (IsHeldOf true ds t) (judge_groups value place groups)
+  judge_groups-ends : EndsIn allowed (IsHeldOf true ds t) (judge_groups value target groups)
   judge_groups-ends =
-      settle-ends allowed ds t place free (map (judge place (excepts groups) own (length groups)) (roots_of groups))
+      settle-ends allowed ds t target free (map (judge target (excepts groups) own (length groups)) (roots_of groups))
       (all_map (Passing (λ g. is_none g.except) 0 groups) (EndsIn allowed (IsHeldOf true ds t))
-      (judge place (excepts groups) own (length groups)) (roots_of groups)
+      (judge target (excepts groups) own (length groups)) (roots_of groups)
       (passing-all (λ g. is_none g.except) 0 groups)
       (λ k e. judge-ends (length groups) k (root_reached k e)))
 
@@ -306,12 +307,12 @@ judge_target-ends allowed ds t value target free defs h =
     (defs-all (DefEnds allowed ds t value) target 0 defs h))
 
 -- in place of a value where no definition holds; a condition is a boolean
-pub absent-ends : (allowed : Allowed) → (ds : Decls) (t : Ty) (target : Target) (place : Pos) (condition : Bool)
+pub absent-ends : (allowed : Allowed) → (ds : Decls) (t : Ty) (target : Target) (pos : Pos) (condition : Bool)
     → (IsTrue condition → t ≡ flat_ty.Boolean) → IsTrue (allowed.may_stop target || condition)
-    → Ended allowed (IsOf ds t) (absent target place condition)
-absent-ends allowed ds t target place true is free =
+    → Ended allowed (IsOf ds t) (absent target pos condition)
+absent-ends allowed ds t target pos true is free =
     subst (λ u. IsOf ds u (flat.Boolean false)) (sym (is refl)) (of-Boolean ds false)
-absent-ends allowed ds t target place false is free = or_right (allowed.may_stop target) free
+absent-ends allowed ds t target pos false is free = or_right (allowed.may_stop target) free
   where
     or_right : (b : Bool) → IsTrue (b || false) → IsTrue b
     or_right true h = refl
@@ -333,9 +334,9 @@ decided-ends allowed P target judging h stands = by judging.end h.1 stands
     by : (r : Result (Option (Held Value)) Stop) → Ended allowed P r → MayStand allowed target r
         → EndsIn allowed P
         (behind judging.log r
-        (λ found. record { log = record { target = target; by = place_in found } ∷ []; end = Ok found }))
+        (λ found. record { log = record { target = target; by = held_position found } ∷ []; end = Ok found }))
     by (Ok found) g may = (
-      all_both (IsDecision allowed) judging.log (record { target = target; by = place_in found } ∷ []) h.0
+      all_both (IsDecision allowed) judging.log (record { target = target; by = held_position found } ∷ []) h.0
           (may, tt),
       g,
     )

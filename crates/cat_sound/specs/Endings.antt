@@ -28,9 +28,9 @@ pub record Allowed : Type 0 where
 
 -- a stop that an outcome may be: a Conflict or a NoValue of a target that may stop, or a fault
 abbrev pub IsEnd : Allowed → Stop → Type 0
-IsEnd allowed (Conflict target places) = IsTrue (allowed.may_stop target)
-IsEnd allowed (NoValue target place) = IsTrue (allowed.may_stop target)
-IsEnd allowed (Fault kind place) = Unit {0}
+IsEnd allowed (Conflict target positions) = IsTrue (allowed.may_stop target)
+IsEnd allowed (NoValue target pos) = IsTrue (allowed.may_stop target)
+IsEnd allowed (Fault kind pos) = Unit {0}
 IsEnd allowed Stuck = ⊥
 
 -- what a log may hold
@@ -48,9 +48,9 @@ EndsIn allowed Holds run = AllHave (IsDecision allowed) run.log × Ended allowed
 
 -- a fault
 abbrev pub IsFault : Stop → Type 0
-IsFault (Conflict target places) = ⊥
-IsFault (NoValue target place) = ⊥
-IsFault (Fault kind place) = Unit {0}
+IsFault (Conflict target positions) = ⊥
+IsFault (NoValue target pos) = ⊥
+IsFault (Fault kind pos) = Unit {0}
 IsFault Stuck = ⊥
 
 -- where nothing is decided: what has a property, or a fault
@@ -112,7 +112,7 @@ pub record IsEnvOf (allowed : Allowed) (ns : Names) (env : Env) (e : Expr) : Typ
 -- an outcome, and where it is a value the outputs have their types
 abbrev pub IsOutcomeOf : Decls → List ItemDecl → Option Outcome → Type 0
 IsOutcomeOf ds items (Some (outcome.Value outputs)) = AreOutputsOf ds items outputs
-IsOutcomeOf ds items (Some (outcome.Conflict target places)) = Unit {0}
-IsOutcomeOf ds items (Some (outcome.NoValue target place)) = Unit {0}
-IsOutcomeOf ds items (Some (outcome.Fault fault place)) = Unit {0}
+IsOutcomeOf ds items (Some (outcome.Conflict target positions)) = Unit {0}
+IsOutcomeOf ds items (Some (outcome.NoValue target pos)) = Unit {0}
+IsOutcomeOf ds items (Some (outcome.Fault fault pos)) = Unit {0}
 IsOutcomeOf ds items None = ⊥

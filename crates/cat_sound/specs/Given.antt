@@ -10,9 +10,9 @@ use Rattle.cat_scope.specs.Calls.{Scoped, Items}
 use Rattle.cat_scope.specs.Running.{backwards, entry_at, run_items, no_values}
 use Rattle.cat_scope.specs.ItemValues.{item_value}
 
--- the values with which the item at a place of the order is evaluated
+-- the values with which the item at an index of the order is evaluated
 abbrev pub values_at : Scoped → Items → ℕ → Run Items
-values_at scoped input place = run_items scoped input [] (no_values scoped.items) (take place scoped.body.order)
+values_at scoped input index = run_items scoped input [] (no_values scoped.items) (take index scoped.body.order)
 
 -- an item has a value
 abbrev pub HasValue : ℕ → Value → Items → Type 0
@@ -22,12 +22,12 @@ HasValue item v values = slice_get values item ≡ Some (Some v)
 abbrev pub output_number : List ItemDecl → ℕ → ℕ
 output_number items item = length (outputs_in (take item items))
 
--- the item at a place of the order has come to something in a run, in the values of its place
-pub record JudgedAt (scoped : Scoped) (input : Items) (place item : ℕ) : Type 0 where
+-- the item at an index of the order has come to something in a run, in the values that stand there
+pub record JudgedAt (scoped : Scoped) (input : Items) (index item : ℕ) : Type 0 where
   pub values : Items
   pub value : Option Value
-  pub reached : (values_at scoped input place).end ≡ Ok values
-  pub is : (item_value scoped (backwards (take place scoped.body.order)) values item (entry_at item input)
+  pub reached : (values_at scoped input index).end ≡ Ok values
+  pub is : (item_value scoped (backwards (take index scoped.body.order)) values item (entry_at item input)
       (slice_get scoped.items item)).end ≡ Ok value
 
 -- a log tells what came of a target

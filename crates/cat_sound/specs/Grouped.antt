@@ -46,7 +46,9 @@ AreRising (n ∷ ns) = AllHave (λ m. n ≤ m) ns × AreRising ns
 -- each group of a target is judged as the list of the groups that except it and, where that is Empty, by its own
 -- definitions
 abbrev pub AreJudgedByRule : Target → List Group → Type 0
-AreJudgedByRule place groups = (own : ℕ → Judged Value) (group : ℕ) → group < length groups
-    → judge place (excepts groups) own (length groups) group
-    ≡ or_else (settle place (map (judge place (excepts groups) own (length groups)) (excepting (excepts groups) group)))
+AreJudgedByRule target groups =
+    (own : ℕ → Judged Value) (group : ℕ) → group < length groups
+    → judge target (excepts groups) own (length groups) group
+    ≡ or_else
+    (settle target (map (judge target (excepts groups) own (length groups)) (excepting (excepts groups) group)))
     (own group)

@@ -3,7 +3,7 @@ use Rattle.std.specs.Prelude.{◌≡◌, ℕ, ◌+◌, nat_eq, ◌&&◌, List, [
 use Rattle.cat_value.specs.declared.value.Value.{Value}
 use Rattle.cat_value.specs.declared.outcome.Target.{Target}
 use Rattle.cat_scope.specs.Runs.{Decider}
-use Rattle.cat_scope.specs.Judging.{Held, place_in}
+use Rattle.cat_scope.specs.Judging.{Held, held_position}
 use Rattle.cat_scope.specs.Targets.{same_target}
 use Rattle.cat_scope.specs.Calls.{Items, Scoped, call, judging_of}
 use Rattle.cat_scope.specs.Running.{backwards, entry_at, no_values, run_items}
@@ -26,7 +26,7 @@ pub record WasJudged (scoped : Scoped) (input : Items) (decider : Decider) : Typ
   pub reached : (run_items scoped input [] (no_values scoped.items) front).end ≡ Ok values
   pub is : (judging_of scoped (call scoped values (backwards front)) values [] (target_in scoped item inner)).end ≡ Ok
     found
-  pub logged : decider ≡ record { target = target_in scoped item inner; by = place_in found }
+  pub logged : decider ≡ record { target = target_in scoped item inner; by = held_position found }
 
 -- a log that is made of what was judged in the run of a scope, and of the whole logs of scopes that are run within
 pub data IsMadeOf (scoped : Scoped) (input : Items) : List Decider → Type 0 where

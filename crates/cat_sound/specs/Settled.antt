@@ -20,7 +20,7 @@ use Rattle.cat_scope.specs.HasType.{HasType}
 use Rattle.cat_scope.specs.WellFormed.{ConditionTyped}
 use Rattle.cat_scope.specs.Naming.{IsTargetAt}
 use Rattle.cat_scope.specs.declared.stop.Stop.{Stop}
-use Rattle.cat_scope.specs.Judging.{Held, place_in}
+use Rattle.cat_scope.specs.Judging.{Held, held_position}
 use Rattle.cat_scope.specs.Targets.{same_target, judge_target}
 use Rattle.cat_scope.specs.Eval.{Env, eval}
 use Rattle.cat_order.specs.Order.{dependencies_of}
@@ -71,7 +71,7 @@ pub record StandsIn (allowed : Allowed) (ns : Names) (env : Env) (ps : List Ty) 
 
 -- what is decided there may stand in a log
 abbrev pub MayStand : Allowed → Target → Result (Option (Held Value)) Stop → Type 0
-MayStand allowed target (Ok found) = IsTrue (allowed.may_decide target (place_in found))
+MayStand allowed target (Ok found) = IsTrue (allowed.may_decide target (held_position found))
 MayStand allowed target (Err stop) = Unit {0}
 
 -- where a target may not stop, its judging ends in a value of its type, or in nothing where it may be empty, and of one

@@ -21,15 +21,15 @@ pub fn given_values_stand()
     ensures alone { (scoped : Scoped) (before : List ℕ) (values : Items) (item : ℕ) (given : Value)
         (decl : Option ItemDecl)
         → item_value scoped before values item (Some given) decl ≡ gives (Some given) }
-    ensures behind { (scoped : Scoped) (input : Items) (place : ℕ) (item : ℕ) (given : Value)
-        → item < length scoped.items → IsTrue (is_in item (take place scoped.body.order))
+    ensures behind { (scoped : Scoped) (input : Items) (index : ℕ) (item : ℕ) (given : Value)
+        → item < length scoped.items → IsTrue (is_in item (take index scoped.body.order))
         → entry_at item input ≡ Some given
-        → IfOk (values_at scoped input place).end (HasValue item given) }
-    ensures through { (scoped : Scoped) (input : Items) (place : ℕ)
+        → IfOk (values_at scoped input index).end (HasValue item given) }
+    ensures through { (scoped : Scoped) (input : Items) (index : ℕ)
         → run_items scoped input [] (no_values scoped.items) scoped.body.order
-        ≡ and_then (values_at scoped input place)
-        (λ values. run_items scoped input (backwards (take place scoped.body.order)) values
-        (drop place scoped.body.order)) }
+        ≡ and_then (values_at scoped input index)
+        (λ values. run_items scoped input (backwards (take index scoped.body.order)) values
+        (drop index scoped.body.order)) }
 {}
 
 /// A given output has its value in the outcome.
@@ -42,20 +42,20 @@ pub fn given_outputs_stand(program: &Program)
         → slice_get outputs (output_number (scope_items program.now.decls scope) item) ≡ Some given }
 {}
 
-/// A run that ends in a value has given each item of the order what it comes to, in the values of its place.
+/// A run that ends in a value has given each item of the order what it comes to, in the values of its index.
 #[tactic(auto, using(crate::proofs::RunParts::each_judged))]
 pub fn each_item_is_judged()
-    ensures { (scoped : Scoped) (input : Items) (outputs : List Value) (place : ℕ) (item : ℕ)
-        → (run_scoped scoped input).end ≡ Ok outputs → slice_get scoped.body.order place ≡ Some item
-        → JudgedAt scoped input place item }
+    ensures { (scoped : Scoped) (input : Items) (outputs : List Value) (index : ℕ) (item : ℕ)
+        → (run_scoped scoped input).end ≡ Ok outputs → slice_get scoped.body.order index ≡ Some item
+        → JudgedAt scoped input index item }
 {}
 
 /// In a run that ends in a value each variable that has no given value is judged, and the log tells what came of it.
 #[tactic(auto, using(crate::proofs::DecidedLaws::each_logged))]
 pub fn each_variable_is_logged()
-    ensures { (scoped : Scoped) (input : Items) (outputs : List Value) (place : ℕ) (item : ℕ) (decl : ItemDecl)
+    ensures { (scoped : Scoped) (input : Items) (outputs : List Value) (index : ℕ) (item : ℕ) (decl : ItemDecl)
         → (run_scoped scoped input).end ≡ Ok outputs
-        → slice_get scoped.body.order place ≡ Some item → slice_get scoped.items item ≡ Some decl
+        → slice_get scoped.body.order index ≡ Some item → slice_get scoped.items item ≡ Some decl
         → IsTrue (is_plain decl) → entry_at item input ≡ None
         → IsLogged (variable scoped item) (run_scoped scoped input).log }
 {}

@@ -23,25 +23,25 @@ pub fn groups_part_their_definitions()
     ensures { (defs : List Numbered) → AreParted defs }
 {}
 
-/// A conflict names the places of the definitions that hold, each as often as it holds, by their rising numbers.
+/// A conflict names the positions of the definitions that hold, each as often as it holds, by their rising numbers.
 #[tactic(auto, using(crate::proofs::HeldLaws::held_laws))]
 pub fn conflicts_name_what_holds()
     ensures same { (hs : List (Held Value)) (h : Held Value) → IsOneOf h (in_source_order hs) ↔ IsOneOf h hs }
     ensures counts { (hs : List (Held Value)) (n : ℕ)
         → times (numbers_held (in_source_order hs)) n ≡ times (numbers_held hs) n }
     ensures rising { (hs : List (Held Value)) → AreRising (numbers_held (in_source_order hs)) }
-    ensures named { (place : Target) (target : Target) (hs : List (Held Value)) (places : List Pos)
-        → alone place hs ≡ Err (Conflict target places) → places ≡ positions_in (in_source_order hs) }
+    ensures named { (target : Target) (other : Target) (hs : List (Held Value)) (positions : List Pos)
+        → alone target hs ≡ Err (Conflict other positions) → positions ≡ positions_in (in_source_order hs) }
 {}
 
 /// A forest of a scope of a program has no cycle, so that each group of its targets is judged by its rule.
 pub fn forests_are_judged_by_their_rule(forest: &Forest)
     ensures acyclic { (program : WholeProgram) (scope : ℕ) (body : Body) → slice_get program.bodies scope ≡ Some body
         → StandsFor program scope forest.now.targets
-        → AllHave (λ place. HasNoCycle (exceptions_of (groups_of (defs_from place 0 body.defs))))
+        → AllHave (λ target. HasNoCycle (exceptions_of (groups_of (defs_from target 0 body.defs))))
         (targets_of program.decls scope (scope_items program.decls scope) body.order) }
     ensures judged { (program : WholeProgram) (scope : ℕ) (body : Body) → slice_get program.bodies scope ≡ Some body
         → StandsFor program scope forest.now.targets
-        → AllHave (λ place. AreJudgedByRule place (groups_of (defs_from place 0 body.defs)))
+        → AllHave (λ target. AreJudgedByRule target (groups_of (defs_from target 0 body.defs)))
         (targets_of program.decls scope (scope_items program.decls scope) body.order) }
 {}

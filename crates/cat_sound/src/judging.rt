@@ -39,9 +39,9 @@ pub fn conditions_have_values()
         → (defined_value scoped before values item decl []).end ≡ Err (NoValue other there)
         → (judging_of scoped (call scoped values before) values [] (variable scoped item)).end
         ≡ Err (NoValue other there) }
-    ensures input { (target : Target) (place : Pos) (decl : ItemDecl) (found : Option (Held Value)) (other : Target)
+    ensures input { (target : Target) (pos : Pos) (decl : ItemDecl) (found : Option (Held Value)) (other : Target)
         (there : Pos) → decl.condition ≡ true
-        → ¬ (passed target place decl found ≡ Err (NoValue other there)) }
+        → ¬ (passed target pos decl found ≡ Err (NoValue other there)) }
     ensures called { (scoped : Scoped) (before : List ℕ) (values : Items) (item : ℕ) (called : ℕ) (decl : ItemDecl)
         (stop : Stop) → (called_value scoped before values item decl called).end ≡ Err stop
         → ComesOf scoped before values item called decl stop }
@@ -58,17 +58,17 @@ pub fn conditions_have_values()
 /// values, or nothing but whether they hold.
 #[tactic(auto, using(crate::proofs::JudgeLaws::judging_rule))]
 pub fn groups_are_judged_by_their_rule()
-    ensures values { (place : Target) (groups : List Group) (own : ℕ → Judged Value) (group : ℕ)
+    ensures values { (target : Target) (groups : List Group) (own : ℕ → Judged Value) (group : ℕ)
         → HasNoCycle (exceptions_of groups) → group < length groups
-        → judge place (excepts groups) own (length groups) group
+        → judge target (excepts groups) own (length groups) group
         ≡ or_else
-        (settle place (map (judge place (excepts groups) own (length groups)) (excepting (excepts groups) group)))
+        (settle target (map (judge target (excepts groups) own (length groups)) (excepting (excepts groups) group)))
         (own group) }
-    ensures truths { (place : Target) (groups : List Group) (own : ℕ → Judged (Unit {0})) (group : ℕ)
+    ensures truths { (target : Target) (groups : List Group) (own : ℕ → Judged (Unit {0})) (group : ℕ)
         → HasNoCycle (exceptions_of groups) → group < length groups
-        → judge place (excepts groups) own (length groups) group
+        → judge target (excepts groups) own (length groups) group
         ≡ or_else
-        (settle place (map (judge place (excepts groups) own (length groups)) (excepting (excepts groups) group)))
+        (settle target (map (judge target (excepts groups) own (length groups)) (excepting (excepts groups) group)))
         (own group) }
 {}
 

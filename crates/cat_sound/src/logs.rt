@@ -11,7 +11,7 @@ ghost use Rattle.cat_sound.specs.Logs.{IsMadeOf, times_logged};
 
 use cat_scope::Program;
 
-/// What stands in the log of a run was judged in that run, with the values of its place in the order, or in a run of a
+/// What stands in the log of a run was judged in that run, with the values of its index in the order, or in a run of a
 /// scope that is run within, whose whole log stands there.
 #[tactic(auto, using(crate::proofs::LogLaws::made_of_judgings))]
 pub fn logs_are_made_of_judgings()

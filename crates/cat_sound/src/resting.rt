@@ -51,13 +51,13 @@ pub fn functions_are_judged_by_the_rule()
         ≡ variable_value (variable scoped function) (slice_get scoped.items function)
         (judging_of scoped (call scoped values (backwards scoped.body.order)) values arguments
         (variable scoped function)) }
-    ensures behind { (scoped : Scoped) (values : Items) (more : Items) (place : ℕ) (function : ℕ)
+    ensures behind { (scoped : Scoped) (values : Items) (more : Items) (index : ℕ) (function : ℕ)
         (arguments : List Value)
         → IsOrder (item_dependencies scoped.items scoped.body.defs) scoped.body.order
-        → IsTrue (is_in function (take place scoped.body.order))
-        → ((item : ℕ) → IsTrue (is_in item (take place scoped.body.order))
+        → IsTrue (is_in function (take index scoped.body.order))
+        → ((item : ℕ) → IsTrue (is_in item (take index scoped.body.order))
         → slice_get values item ≡ slice_get more item)
-        → call scoped values (backwards (take place scoped.body.order)) function arguments
+        → call scoped values (backwards (take index scoped.body.order)) function arguments
         ≡ call scoped more (backwards scoped.body.order) function arguments }
 {}
 
