@@ -18,7 +18,6 @@ use Rattle.cat_scope.specs.declared.operators.SumKind.{SumKind}
 use Rattle.cat_scope.specs.declared.expr.Expr.{Expr}
 use Rattle.cat_scope.specs.declared.expr.FieldValue.{FieldValue}
 use Rattle.cat_scope.specs.declared.expr.Arm.{Arm}
-use Rattle.cat_scope.specs.declared.expr.Expr.TheOpen.{Expr-F}
 use Rattle.cat_scope.specs.declared.expr.Expr.TheVariants as leaf
 use Rattle.cat_scope.specs.declared.expr.Expr.TheViews as expr
 use Rattle.cat_scope.specs.Replies.{on_one, evaluated, known}
@@ -352,130 +351,88 @@ mutual
   sound allowed env locals {ns} (typed.literal {ls = ls} {p = p} {l = l} is) has are =
       on_Literal allowed ns env locals p l (literal_type l) (literal-typed ns.decls l is)
   sound allowed env locals {ns} (typed.item {ls = ls} {p = p} {i = i} {t = t} is) has are =
-      on_Item allowed ns env locals p i t (env_item allowed ns env (leaf.Item p i) (Expr-F.Item p i)
-        (expr.outs-Item p i) has).0 is
+      on_Item allowed ns env locals p i t (env_item (expr.outs-Item p i) has).0 is
   sound allowed env locals {ns} (typed.output {ls = ls} {p = p} {i = i} {k = k} {t = t} is) has are =
-      on_Output allowed ns env locals p i k t (env_item allowed ns env (leaf.Output p i k) (Expr-F.Output p i k)
-        (expr.outs-Output p i k) has).0 is
+      on_Output allowed ns env locals p i k t (env_item (expr.outs-Output p i k) has).0 is
   sound allowed env locals {ns} (typed.local {ls = ls} {p = p} {k = k} {t = t} is) has are =
       on_Local allowed ns env locals p ls k t are is
   sound allowed env locals {ns} (typed.field {ls = ls} {p = p} {e = e} {k = k} {t = t} n h is) has are =
-      on_Field allowed ns env locals p e n k t
-        (sound allowed env locals h (env_parts allowed ns env (expr.Field p e k) (Expr-F.Field p e k)
-        (expr.outs-Field p e k) has).0 are) is
+      on_Field allowed ns env locals p e n k t (sound allowed env locals h (env_parts (expr.outs-Field p e k) has).0
+        are) is
   sound allowed env locals {ns} (typed.unary {ls = ls} {p = p} {o = o} {e = e} h) has are =
-      on_Unary allowed ns env locals p o e
-        (sound allowed env locals h (env_parts allowed ns env (expr.Unary p o e) (Expr-F.Unary p o e)
-        (expr.outs-Unary p o e) has).0 are)
+      on_Unary allowed ns env locals p o e (sound allowed env locals h (env_parts (expr.outs-Unary p o e) has).0 are)
   sound allowed env locals {ns} (typed.binary {ls = ls} {p = p} {q = q} {o = o} {a = a} {b = b} r is h g) has are =
       on_Binary allowed ns env locals p q o a b r is
-        (sound allowed env locals h (env_parts allowed ns env (expr.Binary p o q a b) (Expr-F.Binary p o q a b)
-        (expr.outs-Binary p o q a b) has).0 are)
-        (sound allowed env locals g (env_parts allowed ns env (expr.Binary p o q a b) (Expr-F.Binary p o q a b)
-        (expr.outs-Binary p o q a b) has).1.0 are)
+        (sound allowed env locals h (env_parts (expr.outs-Binary p o q a b) has).0 are)
+        (sound allowed env locals g (env_parts (expr.outs-Binary p o q a b) has).1.0 are)
   sound allowed env locals {ns} (typed.both {ls = ls} {p = p} {a = a} {b = b} h g) has are =
-      on_And allowed ns env locals p a b
-        (sound allowed env locals h (env_parts allowed ns env (expr.And p a b) (Expr-F.And p a b) (expr.outs-And p a b)
-        has).0 are) (sound allowed env locals g (env_parts allowed ns env (expr.And p a b) (Expr-F.And p a b)
-        (expr.outs-And p a b) has).1.0 are)
+      on_And allowed ns env locals p a b (sound allowed env locals h (env_parts (expr.outs-And p a b) has).0 are)
+        (sound allowed env locals g (env_parts (expr.outs-And p a b) has).1.0 are)
   sound allowed env locals {ns} (typed.any {ls = ls} {p = p} {a = a} {b = b} h g) has are =
-      on_Or allowed ns env locals p a b
-        (sound allowed env locals h (env_parts allowed ns env (expr.Or p a b) (Expr-F.Or p a b) (expr.outs-Or p a b)
-        has).0 are) (sound allowed env locals g (env_parts allowed ns env (expr.Or p a b) (Expr-F.Or p a b)
-        (expr.outs-Or p a b) has).1.0 are)
+      on_Or allowed ns env locals p a b (sound allowed env locals h (env_parts (expr.outs-Or p a b) has).0 are)
+        (sound allowed env locals g (env_parts (expr.outs-Or p a b) has).1.0 are)
   sound allowed env locals {ns} (typed.choice {ls = ls} {p = p} {c = c} {a = a} {b = b} {t = t} h g i) has are =
-      on_If allowed ns env locals p c a b t
-        (sound allowed env locals h (env_parts allowed ns env (expr.If p c a b) (Expr-F.If p c a b)
-        (expr.outs-If p c a b) has).0 are)
-        (sound allowed env locals g (env_parts allowed ns env (expr.If p c a b) (Expr-F.If p c a b)
-        (expr.outs-If p c a b) has).1.0 are)
-        (sound allowed env locals i (env_parts allowed ns env (expr.If p c a b) (Expr-F.If p c a b)
-        (expr.outs-If p c a b) has).1.1.0 are)
+      on_If allowed ns env locals p c a b t (sound allowed env locals h (env_parts (expr.outs-If p c a b) has).0 are)
+        (sound allowed env locals g (env_parts (expr.outs-If p c a b) has).1.0 are)
+        (sound allowed env locals i (env_parts (expr.outs-If p c a b) has).1.1.0 are)
   sound allowed env vs {ns} (typed.matching {ls = ls} {p = p} {e = e} {arms = arms} {t = t} n h each complete) has are =
       on_Match allowed ns env vs p e arms n ls t are
-        (sound allowed env vs h (env_parts allowed ns env (expr.Match p e arms) (Expr-F.Match p e arms)
-        (expr.outs-Match p e arms) has).0 are)
-        (arms_sound allowed env each (env_parts allowed ns env (expr.Match p e arms) (Expr-F.Match p e arms)
-        (expr.outs-Match p e arms) has).1) complete
+        (sound allowed env vs h (env_parts (expr.outs-Match p e arms) has).0 are)
+        (arms_sound allowed env each (env_parts (expr.outs-Match p e arms) has).1) complete
   sound allowed env locals {ns} (typed.is_case {ls = ls} {p = p} {e = e} {n = n} {k = k} h is) has are =
-      on_IsCase allowed ns env locals p e n k
-        (sound allowed env locals h (env_parts allowed ns env (expr.IsCase p e n k) (Expr-F.IsCase p e n k)
-        (expr.outs-IsCase p e n k) has).0 are)
+      on_IsCase allowed ns env locals p e n k (sound allowed env locals h (env_parts (expr.outs-IsCase p e n k) has).0
+        are)
   sound allowed env locals {ns} (typed.case_alone {ls = ls} {p = p} {n = n} {k = k} is) has are =
       on_Case_None allowed ns env locals p n k is
   sound allowed env locals {ns} (typed.case_with {ls = ls} {p = p} {n = n} {k = k} {e = e} t is h) has are =
       on_Case_Some allowed ns env locals p n k e t is
-        (sound allowed env locals h (env_parts allowed ns env (expr.Case p n k (Some e)) (Expr-F.Case p n k (Some e))
-        (expr.outs-Case p n k (Some e)) has).0 are)
+        (sound allowed env locals h (env_parts (expr.outs-Case p n k (Some e)) has).0 are)
   sound allowed env locals {ns} (typed.structure {ls = ls} {p = p} {n = n} {fs = fs} h there) has are =
       on_Structure allowed ns env locals p n fs
-        (fields_sound allowed env locals h (env_parts allowed ns env (expr.Structure p n fs) (Expr-F.Structure p n fs)
-        (expr.outs-Structure p n fs) has) are) there
+        (fields_sound allowed env locals h (env_parts (expr.outs-Structure p n fs) has) are) there
   sound allowed env locals {ns} (typed.list {ls = ls} {p = p} {es = es} {t = t} declared low few h) has are =
       on_List allowed ns env locals p es t declared few
-        (all_sound allowed env locals h (env_parts allowed ns env (expr.List p es) (Expr-F.List p es)
-        (expr.outs-List p es) has) are)
+        (all_sound allowed env locals h (env_parts (expr.outs-List p es) has) are)
   sound allowed env locals {ns} (typed.for_all {ls = ls} {p = p} {l = l} {test = test} t h g) has are =
       on_ForAll allowed ns env locals p l test t
-        (sound allowed env locals h (env_parts allowed ns env (expr.ForAll p l test) (Expr-F.ForAll p l test)
-        (expr.outs-ForAll p l test) has).0 are)
-        (λ v hv. sound allowed env (locals ++ v ∷ []) g
-        (env_parts allowed ns env (expr.ForAll p l test) (Expr-F.ForAll p l test) (expr.outs-ForAll p l test) has).1.0
+        (sound allowed env locals h (env_parts (expr.outs-ForAll p l test) has).0 are)
+        (λ v hv. sound allowed env (locals ++ v ∷ []) g (env_parts (expr.outs-ForAll p l test) has).1.0
         (are_more ns.decls ls (t ∷ []) locals (v ∷ []) are (hv, tt)))
   sound allowed env locals {ns} (typed.exists {ls = ls} {p = p} {l = l} {test = test} t h g) has are =
       on_Exists allowed ns env locals p l test t
-        (sound allowed env locals h (env_parts allowed ns env (expr.Exists p l test) (Expr-F.Exists p l test)
-        (expr.outs-Exists p l test) has).0 are)
-        (λ v hv. sound allowed env (locals ++ v ∷ []) g
-        (env_parts allowed ns env (expr.Exists p l test) (Expr-F.Exists p l test) (expr.outs-Exists p l test) has).1.0
+        (sound allowed env locals h (env_parts (expr.outs-Exists p l test) has).0 are)
+        (λ v hv. sound allowed env (locals ++ v ∷ []) g (env_parts (expr.outs-Exists p l test) has).1.0
         (are_more ns.decls ls (t ∷ []) locals (v ∷ []) are (hv, tt)))
   sound allowed env locals {ns} (typed.map_each {ls = ls} {p = p} {l = l} {e = e} {u = u} t h g declared low) has are =
       on_Map allowed ns env locals p l e t u declared
-        (sound allowed env locals h (env_parts allowed ns env (expr.Map p l e) (Expr-F.Map p l e) (expr.outs-Map p l e)
-        has).0 are) (λ v hv. sound allowed env (locals ++ v ∷ []) g
-        (env_parts allowed ns env (expr.Map p l e) (Expr-F.Map p l e) (expr.outs-Map p l e) has).1.0
+        (sound allowed env locals h (env_parts (expr.outs-Map p l e) has).0 are)
+        (λ v hv. sound allowed env (locals ++ v ∷ []) g (env_parts (expr.outs-Map p l e) has).1.0
         (are_more ns.decls ls (t ∷ []) locals (v ∷ []) are (hv, tt)))
   sound allowed env locals {ns} (typed.filter {ls = ls} {p = p} {l = l} {test = test} t h g) has are =
       on_Filter allowed ns env locals p l test t
-        (sound allowed env locals h (env_parts allowed ns env (expr.Filter p l test) (Expr-F.Filter p l test)
-        (expr.outs-Filter p l test) has).0 are)
-        (λ v hv. sound allowed env (locals ++ v ∷ []) g
-        (env_parts allowed ns env (expr.Filter p l test) (Expr-F.Filter p l test) (expr.outs-Filter p l test) has).1.0
+        (sound allowed env locals h (env_parts (expr.outs-Filter p l test) has).0 are)
+        (λ v hv. sound allowed env (locals ++ v ∷ []) g (env_parts (expr.outs-Filter p l test) has).1.0
         (are_more ns.decls ls (t ∷ []) locals (v ∷ []) are (hv, tt)))
   sound allowed env vs {ns} (typed.combine {ls = ls} {p = p} {l = l} {start = start} {e = e} {u = u} t h g i) has are =
       on_Combine allowed ns env vs p l start e t u
-        (sound allowed env vs h (env_parts allowed ns env (expr.Combine p l start e) (Expr-F.Combine p l start e)
-        (expr.outs-Combine p l start e) has).0 are)
-        (sound allowed env vs g (env_parts allowed ns env (expr.Combine p l start e) (Expr-F.Combine p l start e)
-        (expr.outs-Combine p l start e) has).1.0 are)
-      (λ v w hv hw. sound allowed env (vs ++ v ∷ w ∷ []) i (env_parts allowed ns env (expr.Combine p l start e)
-        (Expr-F.Combine p l start e) (expr.outs-Combine p l start e) has).1.1.0
+        (sound allowed env vs h (env_parts (expr.outs-Combine p l start e) has).0 are)
+        (sound allowed env vs g (env_parts (expr.outs-Combine p l start e) has).1.0 are)
+        (λ v w hv hw. sound allowed env (vs ++ v ∷ w ∷ []) i (env_parts (expr.outs-Combine p l start e) has).1.1.0
         (are_more ns.decls ls (t ∷ u ∷ []) vs (v ∷ w ∷ []) are (hv, (hw, tt))))
   sound allowed env locals {ns} (typed.contains {ls = ls} {p = p} {q = q} {l = l} {e = e} t h g is) has are =
       on_Contains allowed ns env locals p q l e t is
-        (sound allowed env locals h (env_parts allowed ns env (expr.Contains p q l e) (Expr-F.Contains p q l e)
-        (expr.outs-Contains p q l e) has).0 are)
-        (sound allowed env locals g (env_parts allowed ns env (expr.Contains p q l e) (Expr-F.Contains p q l e)
-        (expr.outs-Contains p q l e) has).1.0 are)
+        (sound allowed env locals h (env_parts (expr.outs-Contains p q l e) has).0 are)
+        (sound allowed env locals g (env_parts (expr.outs-Contains p q l e) has).1.0 are)
   sound allowed env locals {ns} (typed.number_of {ls = ls} {p = p} {l = l} t h) has are =
-      on_Length allowed ns env locals p l t
-        (sound allowed env locals h (env_parts allowed ns env (expr.Length p l) (Expr-F.Length p l)
-        (expr.outs-Length p l) has).0 are)
+      on_Length allowed ns env locals p l t (sound allowed env locals h (env_parts (expr.outs-Length p l) has).0 are)
   sound allowed env locals {ns} (typed.sum {ls = ls} {p = p} {k = k} {l = l} h) has are =
-      on_Sum allowed ns env locals p k l
-        (sound allowed env locals h (env_parts allowed ns env (expr.Sum p k l) (Expr-F.Sum p k l) (expr.outs-Sum p k l)
-        has).0 are)
+      on_Sum allowed ns env locals p k l (sound allowed env locals h (env_parts (expr.outs-Sum p k l) has).0 are)
   sound allowed env locals {ns} (typed.call {ls = ls} {p = p} {f = f} {es = es} {t = t} params is h) has are =
-      on_Call allowed ns env locals p f es params t (env_item allowed ns env (expr.Call p f es) (Expr-F.Call p f es)
-        (expr.outs-Call p f es) has).0 is
-        (each_sound allowed env locals h (env_parts allowed ns env (expr.Call p f es) (Expr-F.Call p f es)
-        (expr.outs-Call p f es) has) are)
+      on_Call allowed ns env locals p f es params t (env_item (expr.outs-Call p f es) has).0 is
+        (each_sound allowed env locals h (env_parts (expr.outs-Call p f es) has) are)
   sound allowed env vs {ns} (typed.scope_call {ls = ls} {p = p} {s = s} {k = k} {fs = fs} {t = t} h there is) has are =
-      on_ScopeCall allowed ns env vs p s fs k t
-        (env_scope allowed ns env (expr.ScopeCall p s fs k) (Expr-F.ScopeCall p s fs k) (expr.outs-ScopeCall p s fs k)
-        has).0 (fields_sound allowed env vs h
-        (env_parts allowed ns env (expr.ScopeCall p s fs k) (Expr-F.ScopeCall p s fs k) (expr.outs-ScopeCall p s fs k)
-        has) are) there is
+      on_ScopeCall allowed ns env vs p s fs k t (env_scope (expr.outs-ScopeCall p s fs k) has).0
+        (fields_sound allowed env vs h (env_parts (expr.outs-ScopeCall p s fs k) has) are) there is
 
   all_sound : (allowed : Allowed) → (env : Env) (locals : List Value) {ns : Names} {ls : List Ty} {es : List Expr}
     {t : Ty} → AllHaveType ns ls es t → AllHave (IsEnvOf allowed ns env) es → AreOf ns.decls ls locals

@@ -1,5 +1,6 @@
 -- What the tests of literals, of operators and of patterns say.
-use Rattle.std.proofs.Common.{◌≡◌, ◌<◌, ℕ, ℤ, Bool, true, false, not, IsTrue, refl, sym, ap, ◌∙◌, arith, if◌then◌else◌}
+use Rattle.std.proofs.Common.{◌≡◌, ◌<◌, ℕ, ℤ, Bool, true, false, not, IsTrue, List, [], ◌∷◌, Some, slice_get, refl, sym}
+use Rattle.std.proofs.Common.{ap, ◌∙◌, arith}
 use Rattle.std.specs.Prelude.{nat_eq, nat_lt}
 use Rattle.std.specs.Ordering.{int_eq}
 use Rattle.std.proofs.lemmas.Bool.Decides.{nat_tests, Decides-int_eq}
@@ -17,135 +18,55 @@ use Rattle.cat_scope.specs.Comparing.{differ}
 use Rattle.cat_scope.specs.OperatorNumbers.{unary_number, binary_number, sum_number}
 use Rattle.cat_scope.specs.SameTree.{same_literal, same_pattern}
 use Rattle.cat_sound.proofs.Results.{both, and_both}
-use Rattle.cat_sound.proofs.FormTypes.{same_number, not_true}
+use Rattle.cat_sound.proofs.FormTypes.{same_number, same_some, not_true}
 
--- ---- numbers of operators
+-- ---- operators, in the order of their numbers
 
-abbrev unary_at : ℕ → UnaryOp
-unary_at n =
-    if nat_eq n 0 then unary.NegateInteger
-    else if nat_eq n 1 then unary.NegateDecimal
-    else if nat_eq n 2 then unary.NegateMoney
-    else if nat_eq n 3 then unary.NegateDuration
-    else if nat_eq n 4 then unary.Not
-    else if nat_eq n 5 then unary.IntegerOfDecimal
-    else if nat_eq n 6 then unary.DecimalOfInteger
-    else if nat_eq n 7 then unary.DecimalOfMoney
-    else if nat_eq n 8 then unary.MoneyOfDecimal
-    else if nat_eq n 9 then unary.MoneyOfInteger
-    else if nat_eq n 10 then unary.RoundDecimal
-    else if nat_eq n 11 then unary.RoundMoney
-    else if nat_eq n 12 then unary.YearOfDate
-    else if nat_eq n 13 then unary.MonthOfDate
-    else if nat_eq n 14 then unary.DayOfDate
-    else unary.Not
+abbrev unaries : List UnaryOp
+unaries =
+    unary.NegateInteger ∷ unary.NegateDecimal ∷ unary.NegateMoney ∷ unary.NegateDuration ∷ unary.Not ∷
+    unary.IntegerOfDecimal ∷ unary.DecimalOfInteger ∷ unary.DecimalOfMoney ∷ unary.MoneyOfDecimal ∷ unary.MoneyOfInteger ∷
+    unary.RoundDecimal ∷ unary.RoundMoney ∷ unary.YearOfDate ∷ unary.MonthOfDate ∷ unary.DayOfDate ∷ []
 
-unary_back : (o : UnaryOp) → unary_at (unary_number o) ≡ o
-unary_back unary.NegateInteger = refl
-unary_back unary.NegateDecimal = refl
-unary_back unary.NegateMoney = refl
-unary_back unary.NegateDuration = refl
-unary_back unary.Not = refl
-unary_back unary.IntegerOfDecimal = refl
-unary_back unary.DecimalOfInteger = refl
-unary_back unary.DecimalOfMoney = refl
-unary_back unary.MoneyOfDecimal = refl
-unary_back unary.MoneyOfInteger = refl
-unary_back unary.RoundDecimal = refl
-unary_back unary.RoundMoney = refl
-unary_back unary.YearOfDate = refl
-unary_back unary.MonthOfDate = refl
-unary_back unary.DayOfDate = refl
+abbrev binaries : List BinaryOp
+binaries =
+    binary.AddIntegers ∷ binary.SubtractIntegers ∷ binary.MultiplyIntegers ∷ binary.DivideIntegers ∷ binary.AddDecimals ∷
+    binary.SubtractDecimals ∷ binary.MultiplyDecimals ∷ binary.DivideDecimals ∷ binary.AddMoney ∷ binary.SubtractMoney ∷
+    binary.MultiplyMoneyByDecimal ∷ binary.MultiplyDecimalByMoney ∷ binary.MultiplyMoneyByInteger ∷
+    binary.MultiplyIntegerByMoney ∷ binary.DivideMoneyByDecimal ∷ binary.DivideMoneyByInteger ∷ binary.DivideMoney ∷
+    binary.AddDurationToDate ∷ binary.SubtractDurationFromDate ∷ binary.SubtractDates ∷ binary.AddDurations ∷
+    binary.SubtractDurations ∷ binary.MultiplyDurationByInteger ∷ binary.Xor ∷ binary.Less ∷ binary.AtMost ∷
+    binary.Greater ∷ binary.AtLeast ∷ binary.Equal ∷ binary.Unequal ∷ []
+
+abbrev sums : List SumKind
+sums = sum.Integers ∷ sum.Decimals ∷ sum.Money ∷ sum.Durations ∷ []
+
+unary_there : (o : UnaryOp) → slice_get unaries (unary_number o) ≡ Some o
+unary_there unary.Not = refl
+unary_there _ = refl
+
+binary_there : (o : BinaryOp) → slice_get binaries (binary_number o) ≡ Some o
+binary_there binary.Xor = refl
+binary_there _ = refl
+
+sum_there : (k : SumKind) → slice_get sums (sum_number k) ≡ Some k
+sum_there sum.Money = refl
+sum_there _ = refl
+
+-- two of one number are one
+of_one_number : {A : Type 0} (all : List A) (number : A → ℕ) → ((x : A) → slice_get all (number x) ≡ Some x) → (x y : A)
+    → IsTrue (nat_eq (number x) (number y)) → x ≡ y
+of_one_number all number there x y h =
+    same_some x y (sym (there x) ∙ ap (λ (n : ℕ). slice_get all n) (same_number (number x) (number y) h) ∙ there y)
 
 pub unary_same : (o u : UnaryOp) → IsTrue (nat_eq (unary_number o) (unary_number u)) → o ≡ u
-unary_same o u h = sym (unary_back o) ∙ ap unary_at (same_number (unary_number o) (unary_number u) h) ∙ unary_back u
-
-abbrev binary_at : ℕ → BinaryOp
-binary_at n =
-    if nat_eq n 0 then binary.AddIntegers
-    else if nat_eq n 1 then binary.SubtractIntegers
-    else if nat_eq n 2 then binary.MultiplyIntegers
-    else if nat_eq n 3 then binary.DivideIntegers
-    else if nat_eq n 4 then binary.AddDecimals
-    else if nat_eq n 5 then binary.SubtractDecimals
-    else if nat_eq n 6 then binary.MultiplyDecimals
-    else if nat_eq n 7 then binary.DivideDecimals
-    else if nat_eq n 8 then binary.AddMoney
-    else if nat_eq n 9 then binary.SubtractMoney
-    else if nat_eq n 10 then binary.MultiplyMoneyByDecimal
-    else if nat_eq n 11 then binary.MultiplyDecimalByMoney
-    else if nat_eq n 12 then binary.MultiplyMoneyByInteger
-    else if nat_eq n 13 then binary.MultiplyIntegerByMoney
-    else if nat_eq n 14 then binary.DivideMoneyByDecimal
-    else if nat_eq n 15 then binary.DivideMoneyByInteger
-    else if nat_eq n 16 then binary.DivideMoney
-    else if nat_eq n 17 then binary.AddDurationToDate
-    else if nat_eq n 18 then binary.SubtractDurationFromDate
-    else if nat_eq n 19 then binary.SubtractDates
-    else if nat_eq n 20 then binary.AddDurations
-    else if nat_eq n 21 then binary.SubtractDurations
-    else if nat_eq n 22 then binary.MultiplyDurationByInteger
-    else if nat_eq n 23 then binary.Xor
-    else if nat_eq n 24 then binary.Less
-    else if nat_eq n 25 then binary.AtMost
-    else if nat_eq n 26 then binary.Greater
-    else if nat_eq n 27 then binary.AtLeast
-    else if nat_eq n 28 then binary.Equal
-    else if nat_eq n 29 then binary.Unequal
-    else binary.Xor
-
-binary_back : (o : BinaryOp) → binary_at (binary_number o) ≡ o
-binary_back binary.AddIntegers = refl
-binary_back binary.SubtractIntegers = refl
-binary_back binary.MultiplyIntegers = refl
-binary_back binary.DivideIntegers = refl
-binary_back binary.AddDecimals = refl
-binary_back binary.SubtractDecimals = refl
-binary_back binary.MultiplyDecimals = refl
-binary_back binary.DivideDecimals = refl
-binary_back binary.AddMoney = refl
-binary_back binary.SubtractMoney = refl
-binary_back binary.MultiplyMoneyByDecimal = refl
-binary_back binary.MultiplyDecimalByMoney = refl
-binary_back binary.MultiplyMoneyByInteger = refl
-binary_back binary.MultiplyIntegerByMoney = refl
-binary_back binary.DivideMoneyByDecimal = refl
-binary_back binary.DivideMoneyByInteger = refl
-binary_back binary.DivideMoney = refl
-binary_back binary.AddDurationToDate = refl
-binary_back binary.SubtractDurationFromDate = refl
-binary_back binary.SubtractDates = refl
-binary_back binary.AddDurations = refl
-binary_back binary.SubtractDurations = refl
-binary_back binary.MultiplyDurationByInteger = refl
-binary_back binary.Xor = refl
-binary_back binary.Less = refl
-binary_back binary.AtMost = refl
-binary_back binary.Greater = refl
-binary_back binary.AtLeast = refl
-binary_back binary.Equal = refl
-binary_back binary.Unequal = refl
+unary_same = of_one_number unaries unary_number unary_there
 
 pub binary_same : (o u : BinaryOp) → IsTrue (nat_eq (binary_number o) (binary_number u)) → o ≡ u
-binary_same o u h = sym (binary_back o) ∙ ap binary_at (same_number (binary_number o) (binary_number u) h)
-  ∙ binary_back u
+binary_same = of_one_number binaries binary_number binary_there
 
-abbrev sum_at : ℕ → SumKind
-sum_at n =
-    if nat_eq n 0 then sum.Integers
-    else if nat_eq n 1 then sum.Decimals
-    else if nat_eq n 2 then sum.Money
-    else if nat_eq n 3 then sum.Durations
-    else sum.Money
-
-sum_back : (o : SumKind) → sum_at (sum_number o) ≡ o
-sum_back sum.Integers = refl
-sum_back sum.Decimals = refl
-sum_back sum.Money = refl
-sum_back sum.Durations = refl
-
-pub sum_same : (o u : SumKind) → IsTrue (nat_eq (sum_number o) (sum_number u)) → o ≡ u
-sum_same o u h = sym (sum_back o) ∙ ap sum_at (same_number (sum_number o) (sum_number u) h) ∙ sum_back u
+pub sum_same : (k l : SumKind) → IsTrue (nat_eq (sum_number k) (sum_number l)) → k ≡ l
+sum_same = of_one_number sums sum_number sum_there
 
 -- ---- literals, patterns and local names
 

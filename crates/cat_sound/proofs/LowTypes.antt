@@ -117,62 +117,23 @@ module _ (ds : Decls) (sound : AreSound ds) where
 
   literal_low : (l : Literal) → IsLow ds (literal_type l)
   literal_low (literal.Boolean b) = boolean_low
-  literal_low (literal.Integer n) = integer_low
-  literal_low (literal.Decimal d) = decimal_low
-  literal_low (literal.Money cents) = money_low
-  literal_low (literal.Date day) = date_low
-  literal_low (literal.Duration span) = duration_low
+  literal_low _ = search (integer_low, decimal_low, money_low, date_low, duration_low)
 
   given_low : (o : UnaryOp) → IsLow ds (given_by o)
-  given_low unary.NegateInteger = integer_low
-  given_low unary.NegateDecimal = decimal_low
-  given_low unary.NegateMoney = money_low
-  given_low unary.NegateDuration = duration_low
   given_low unary.Not = boolean_low
-  given_low unary.IntegerOfDecimal = integer_low
-  given_low unary.DecimalOfInteger = decimal_low
-  given_low unary.DecimalOfMoney = decimal_low
-  given_low unary.MoneyOfDecimal = money_low
-  given_low unary.MoneyOfInteger = money_low
-  given_low unary.RoundDecimal = decimal_low
-  given_low unary.RoundMoney = money_low
-  given_low _ = integer_low
+  given_low _ = search (integer_low, decimal_low, money_low, duration_low)
 
-  -- the rows of an operator have one result
+  -- the signatures of an operator have one result
   first_low : (o : BinaryOp) → IsLow ds (first_result (signatures_of o))
-  first_low binary.AddIntegers = integer_low
-  first_low binary.SubtractIntegers = integer_low
-  first_low binary.MultiplyIntegers = integer_low
-  first_low binary.DivideIntegers = decimal_low
-  first_low binary.AddDecimals = decimal_low
-  first_low binary.SubtractDecimals = decimal_low
-  first_low binary.MultiplyDecimals = decimal_low
-  first_low binary.DivideDecimals = decimal_low
-  first_low binary.DivideMoney = decimal_low
-  first_low binary.AddMoney = money_low
-  first_low binary.SubtractMoney = money_low
-  first_low binary.MultiplyMoneyByDecimal = money_low
-  first_low binary.MultiplyDecimalByMoney = money_low
-  first_low binary.MultiplyMoneyByInteger = money_low
-  first_low binary.MultiplyIntegerByMoney = money_low
-  first_low binary.DivideMoneyByDecimal = money_low
-  first_low binary.DivideMoneyByInteger = money_low
-  first_low binary.AddDurationToDate = date_low
-  first_low binary.SubtractDurationFromDate = date_low
-  first_low binary.SubtractDates = duration_low
-  first_low binary.AddDurations = duration_low
-  first_low binary.SubtractDurations = duration_low
-  first_low binary.MultiplyDurationByInteger = duration_low
-  first_low _ = boolean_low
+  first_low binary.Xor = boolean_low
+  first_low _ = search (boolean_low, integer_low, decimal_low, money_low, date_low, duration_low)
 
-  row_low : (o : BinaryOp) (r : Signature) → IsOneOf r (signatures_of o) → IsLow ds r.result
-  row_low o r is = subst (IsLow ds) (sym (first_is o r is)) (first_low o)
+  signature_low : (o : BinaryOp) (r : Signature) → IsOneOf r (signatures_of o) → IsLow ds r.result
+  signature_low o r is = subst (IsLow ds) (sym (first_is o r is)) (first_low o)
 
   summed_low : (k : SumKind) → IsLow ds (summed_type k)
   summed_low sum.Integers = integer_low
-  summed_low sum.Decimals = decimal_low
-  summed_low sum.Money = money_low
-  summed_low sum.Durations = duration_low
+  summed_low _ = search (decimal_low, money_low, duration_low)
 
   -- ---- lists
 
@@ -340,7 +301,7 @@ module _ (ds : Decls) (sound : AreSound ds) where
       low {ls} are (typed.local {k = k} {t = t} is) = all_at (IsLow ds) ls k t are is
       low are (typed.field {k = k} {t = t} n g is) = in_structure n k t is
       low are (typed.unary {o = o} g) = given_low o
-      low are (typed.binary {o = o} r is g h) = row_low o r is
+      low are (typed.binary {o = o} r is g h) = signature_low o r is
       low are (typed.both g h) = boolean_low
       low are (typed.any g h) = boolean_low
       low are (typed.choice c g h) = low are g

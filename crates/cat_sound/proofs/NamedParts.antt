@@ -146,16 +146,19 @@ paired allowed ns env (e ∷ es) items scopes =
   (record { items = items.0; scopes = scopes.0 }, paired allowed ns env es items.1 scopes.1)
 
 -- an environment of an expression is one of its parts
-pub env_parts : (allowed : Allowed) → (ns : Names) (env : Env) (e : Expr) (y : Expr-F Expr Arm FieldValue)
-  → out-Expr e ≡ y → IsEnvOf allowed ns env e → AllHave (IsEnvOf allowed ns env) (parts_of y)
-env_parts allowed ns env e y is h = paired allowed ns env (parts_of y)
-  (parts own_item (IsReady allowed ns env) e y is h.items) (parts own_scope (IsCallable allowed ns env) e y is h.scopes)
+pub env_parts : {allowed : Allowed} {ns : Names} {env : Env} {e : Expr} {y : Expr-F Expr Arm FieldValue}
+    → out-Expr e ≡ y → IsEnvOf allowed ns env e → AllHave (IsEnvOf allowed ns env) (parts_of y)
+env_parts {allowed = allowed} {ns = ns} {env = env} {e = e} {y = y} is h =
+    paired allowed ns env (parts_of y) (parts own_item (IsReady allowed ns env) e y is h.items)
+    (parts own_scope (IsCallable allowed ns env) e y is h.scopes)
 
 -- and has the item, the function or the scope that the expression names itself
-pub env_item : (allowed : Allowed) → (ns : Names) (env : Env) (e : Expr) (y : Expr-F Expr Arm FieldValue)
-  → out-Expr e ≡ y → IsEnvOf allowed ns env e → AllHave (IsReady allowed ns env) (own_item (opened own_item y))
-env_item allowed ns env e y is h = itself own_item (IsReady allowed ns env) e y is h.items
+pub env_item : {allowed : Allowed} {ns : Names} {env : Env} {e : Expr} {y : Expr-F Expr Arm FieldValue}
+    → out-Expr e ≡ y → IsEnvOf allowed ns env e → AllHave (IsReady allowed ns env) (own_item (opened own_item y))
+env_item {allowed = allowed} {ns = ns} {env = env} {e = e} {y = y} is h =
+    itself own_item (IsReady allowed ns env) e y is h.items
 
-pub env_scope : (allowed : Allowed) → (ns : Names) (env : Env) (e : Expr) (y : Expr-F Expr Arm FieldValue)
-  → out-Expr e ≡ y → IsEnvOf allowed ns env e → AllHave (IsCallable allowed ns env) (own_scope (opened own_scope y))
-env_scope allowed ns env e y is h = itself own_scope (IsCallable allowed ns env) e y is h.scopes
+pub env_scope : {allowed : Allowed} {ns : Names} {env : Env} {e : Expr} {y : Expr-F Expr Arm FieldValue}
+    → out-Expr e ≡ y → IsEnvOf allowed ns env e → AllHave (IsCallable allowed ns env) (own_scope (opened own_scope y))
+env_scope {allowed = allowed} {ns = ns} {env = env} {e = e} {y = y} is h =
+    itself own_scope (IsCallable allowed ns env) e y is h.scopes

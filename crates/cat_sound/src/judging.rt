@@ -32,7 +32,7 @@ pub fn targets_rest_on_their_definitions()
 /// A condition has no NoValue of its own, be it a variable, an input of a called scope or a function: where one ends in
 /// a NoValue, its judging met it. A called scope stops where the judging of an input or a context does, or its run, or
 /// at an input that is missing, which is no condition.
-#[tactic(auto, using(crate::proofs::TargetLaws::conditions_go_on, crate::proofs::CalledLaws::called_scopes_stop))]
+#[tactic(auto, using(crate::proofs::TargetLaws::conditions_go_on))]
 pub fn conditions_have_values()
     ensures variable { (scoped : Scoped) (before : List ℕ) (values : Items) (item : ℕ) (decl : ItemDecl)
         (other : Target) (there : Pos) → decl.condition ≡ true
