@@ -15,8 +15,7 @@ abbrev calling : ℕ → Expr
 calling scope = expr.ScopeCall (at 0 0) scope [] 0
 
 -- a scope that has the called scope 1, a definition that calls 3 in its condition and then 2, and an assertion that
--- calls
--- 4, in a source
+-- calls 4, in a source
 abbrev listed : List SourcePart → List ℕ
 listed source = once [] (called_in
     (item (kind.Called 1) (at 3 3) ∷ []) source

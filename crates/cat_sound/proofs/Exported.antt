@@ -4,7 +4,7 @@ pub use Rattle.cat_sound.proofs.ByParts.{by_parts}
 pub use Rattle.cat_sound.proofs.PartTypes.{parts_typed}
 pub use Rattle.cat_sound.proofs.ExprTypes.{expressions_go_on}
 pub use Rattle.cat_sound.proofs.TargetTypes.{DefEnds, groups-all, defs-all, judge_target-ends}
-pub use Rattle.cat_sound.proofs.ScopeTypes.{stands_end}
+pub use Rattle.cat_sound.proofs.ScopeParts.{stands_end}
 pub use Rattle.cat_sound.proofs.OutcomeTypes.{settled_programs, logged_within}
 pub use Rattle.cat_sound.proofs.GivenValues.{run_through}
 pub use Rattle.cat_sound.proofs.RunParts.{first_ok, each_judged}

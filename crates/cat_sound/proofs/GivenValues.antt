@@ -37,7 +37,8 @@ use Rattle.cat_scope.proofs.Exported.{and_then_and_then}
 use Rattle.cat_scope.proofs.Exported.{and_then_same}
 use Rattle.cat_sound.proofs.FormTypes.{same_some, same_number, not_true}
 use Rattle.cat_sound.proofs.OrderFacts.{all-of_IsOrder, dependencies-length}
-use Rattle.cat_sound.proofs.RunTypes.{with_entry-same, with_entry-other, with_entry-length, no_values-length, body_at}
+use Rattle.cat_sound.proofs.RunTypes.{body_at}
+use Rattle.cat_sound.proofs.RunEntries.{with_entry-same, with_entry-other, with_entry-length, no_values-length}
 
 -- ---- what holds of a value, where there is one
 

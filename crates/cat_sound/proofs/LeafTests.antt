@@ -25,12 +25,14 @@ use Rattle.cat_sound.proofs.FormTypes.{same_number, same_some, not_true}
 abbrev unaries : List UnaryOp
 unaries =
     unary.NegateInteger ∷ unary.NegateDecimal ∷ unary.NegateMoney ∷ unary.NegateDuration ∷ unary.Not ∷
-    unary.IntegerOfDecimal ∷ unary.DecimalOfInteger ∷ unary.DecimalOfMoney ∷ unary.MoneyOfDecimal ∷ unary.MoneyOfInteger ∷
+    unary.IntegerOfDecimal ∷ unary.DecimalOfInteger ∷ unary.DecimalOfMoney ∷ unary.MoneyOfDecimal ∷ unary.MoneyOfInteger
+      ∷
     unary.RoundDecimal ∷ unary.RoundMoney ∷ unary.YearOfDate ∷ unary.MonthOfDate ∷ unary.DayOfDate ∷ []
 
 abbrev binaries : List BinaryOp
 binaries =
-    binary.AddIntegers ∷ binary.SubtractIntegers ∷ binary.MultiplyIntegers ∷ binary.DivideIntegers ∷ binary.AddDecimals ∷
+    binary.AddIntegers ∷ binary.SubtractIntegers ∷ binary.MultiplyIntegers ∷ binary.DivideIntegers ∷ binary.AddDecimals
+      ∷
     binary.SubtractDecimals ∷ binary.MultiplyDecimals ∷ binary.DivideDecimals ∷ binary.AddMoney ∷ binary.SubtractMoney ∷
     binary.MultiplyMoneyByDecimal ∷ binary.MultiplyDecimalByMoney ∷ binary.MultiplyMoneyByInteger ∷
     binary.MultiplyIntegerByMoney ∷ binary.DivideMoneyByDecimal ∷ binary.DivideMoneyByInteger ∷ binary.DivideMoney ∷

@@ -18,12 +18,17 @@ pub mod OperatorTypes
 pub mod ListTypes
 pub mod NamedParts
 pub mod FormTypes
+pub mod ExprForms
 pub mod ExprTypes
 pub mod Trails
 pub mod TargetTypes
 pub mod OrderFacts
 pub mod InputTypes
+pub mod ScopeParts
+pub mod JudgedTypes
 pub mod ScopeTypes
+pub mod RunEntries
+pub mod ScopeRuns
 pub mod RunTypes
 pub mod OutcomeTypes
 pub mod GivenValues
@@ -33,7 +38,9 @@ pub mod ByParts
 pub mod Rests
 pub mod JudgingSame
 pub mod FunctionLaws
+pub mod ScopeSame
 pub mod ScopeLaws
+pub mod CloseResults
 pub mod Alike
 pub mod LeafTests
 pub mod Trees
@@ -45,6 +52,8 @@ pub mod OneType
 pub mod LowTypes
 pub mod Exported
 mod LogParts
+mod ScopeLogs
+mod LogCounts
 mod LogLaws
 mod LawSamples
 mod PremiseSamples

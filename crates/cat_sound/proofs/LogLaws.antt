@@ -1,12 +1,11 @@
 -- What stands in a log was judged in that run, and each variable of a run that ends in a value stands there once.
-use Rattle.std.proofs.Common.{◌≡◌, ℕ, ◌+◌, ◌<◌, Bool, true, false, ◌&&◌, not, IsTrue, List, [], ◌∷◌, ◌++◌, length}
+use Rattle.std.proofs.Common.{◌≡◌, ℕ, ◌+◌, ◌<◌, Bool, true, false, not, IsTrue, List, [], ◌∷◌, ◌++◌, length}
 use Rattle.std.proofs.Common.{Option, Some, None, Ok, slice_get, refl, sym, ap, ◌∙◌, subst, arith}
 use Rattle.std.proofs.Common.{true≢false}
 use Rattle.std.proofs.Common.{if◌then◌else◌}
 use Rattle.std.specs.Prelude.{nat_eq}
 use Rattle.std.proofs.Math.Logic.{∥∥₁_elim}
 use Rattle.std.proofs.Props.{props}
-use Rattle.std.proofs.lemmas.Bool.Decides.{nat_tests}
 use Rattle.std.proofs.lemmas.Option.{slice_get_within}
 use Rattle.cat_value.specs.declared.value.Value.{Value}
 use Rattle.cat_value.specs.declared.ty.Ty.{Ty}
@@ -21,7 +20,7 @@ use Rattle.cat_scope.specs.declared.defs.Body.{Body}
 use Rattle.cat_scope.specs.Runs.{Decider, Run, plain, gives, behind, and_then}
 use Rattle.cat_scope.specs.Names.{is_in, is_called, has_none, is_plain}
 use Rattle.cat_scope.specs.Judging.{Held, Judged, held_position, decided}
-use Rattle.cat_scope.specs.Targets.{absent, value_or, same_inner, same_target}
+use Rattle.cat_scope.specs.Targets.{absent, value_or, same_inner}
 use Rattle.cat_scope.specs.WellFormed.{IsWellFormed}
 use Rattle.cat_scope.specs.Calls.{Items, Scoped, variable, judging_of, variable_value, call}
 use Rattle.cat_scope.specs.ItemValues.{defined_value, ungiven_value, item_value}
@@ -39,7 +38,10 @@ use Rattle.cat_sound.proofs.OrderFacts.{dependencies-length}
 use Rattle.cat_scope.specs.Mentions.{items_named}
 use Rattle.cat_sound.proofs.FunctionLaws.{Distinct, moved_append}
 use Rattle.cat_sound.proofs.ScopeLaws.{differ_of}
-use Rattle.cat_sound.proofs.LogParts.{then_logs, open_logs, last_logs, judging_logs, scoped_logs}
+use Rattle.cat_sound.proofs.LogParts.{then_logs}
+use Rattle.cat_sound.proofs.ScopeLogs.{open_logs, last_logs, judging_logs, scoped_logs}
+use Rattle.cat_sound.proofs.LogCounts.{Never, itself_eq, never_both, no_item, no_scope, own_item, plus_zero}
+use Rattle.cat_sound.proofs.LogCounts.{times_append, times_end, turned}
 
 -- how a run goes on with a value
 then_end : {A B : Type 0} (first : Run A) (next : A → Run B) (a : A) → first.end ≡ Ok a
@@ -111,56 +113,6 @@ module _ (scoped : Scoped) (input : Items) where
       then_logs Made logs.nothing together (run_items scoped input [] (no_values scoped.items) scoped.body.order) _
       (items_made scoped.body.order [] (no_values scoped.items) refl refl)
       (λ values is. last_logs Made logs.nothing together scoped (λ s i. logs.within s i) values)
-
--- ---- how often a log tells of a target
-
-sum_after : (a b c d : ℕ) → b ≡ c + d → a + b ≡ (a + c) + d
-sum_after a b c d h = omega (arith, h)
-
-times_append : (t : Target) (xs ys : List Decider) → times_logged t (xs ++ ys) ≡ times_logged t xs + times_logged t ys
-times_append t [] ys = zero_plus (times_logged t ys)
-  where
-    zero_plus : (n : ℕ) → n ≡ 0 + n
-    zero_plus n = omega arith
-times_append t (x ∷ xs) ys =
-    sum_after (if nat_eq x.target.scope t.scope && same_target x.target t then 1 else 0) (times_logged t (xs ++ ys))
-    (times_logged t xs) (times_logged t ys) (times_append t xs ys)
-
-abbrev Never : Target → List Decider → Type 0
-Never t log = times_logged t log ≡ 0
-
-never_both : (t : Target) (xs ys : List Decider) → Never t xs → Never t ys → Never t (xs ++ ys)
-never_both t xs ys h g = times_append t xs ys ∙ none (times_logged t xs) (times_logged t ys) h g
-  where
-    none : (a b : ℕ) → a ≡ 0 → b ≡ 0 → a + b ≡ 0
-    none a b h g = omega (arith, h, g)
-
-times_end : (t : Target) (xs : List Decider) → times_logged t (xs ++ []) ≡ times_logged t xs
-times_end t xs = times_append t xs [] ∙ plus_zero (times_logged t xs)
-  where
-    plus_zero : (n : ℕ) → n + 0 ≡ n
-    plus_zero n = omega arith
-
-itself_eq : (n : ℕ) → nat_eq n n ≡ true
-itself_eq n = grind (arith, nat_tests)
-
-turned : (x y : ℕ) (b : Bool) → nat_eq x y ≡ b → nat_eq y x ≡ b
-turned x y true e = grind (arith, nat_tests)
-turned x y false e = grind (arith, nat_tests)
-
-no_scope : (a b : Bool) → a ≡ false → (if a && b then 1 else 0) + 0 ≡ 0
-no_scope true b e = absurd (true≢false e)
-no_scope false b e = refl
-
-no_item : (a b c : Bool) → b ≡ false → (if a && (b && c) then 1 else 0) + 0 ≡ 0
-no_item true true c e = absurd (true≢false e)
-no_item true false c e = refl
-no_item false b c e = refl
-
-own_item : (a b : Bool) → a ≡ true → b ≡ true → (if a && (b && true) then 1 else 0) + 0 ≡ 1
-own_item true true e f = refl
-own_item true false e f = absurd (true≢false (sym f))
-own_item false b e f = absurd (true≢false (sym e))
 
 -- ---- in the run of a scope, where the scopes that it runs don't tell of its variable
 

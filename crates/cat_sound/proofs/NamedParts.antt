@@ -12,7 +12,8 @@ use Rattle.cat_scope.specs.Mentions.{joined, in_parts, own_item, own_scope, name
 use Rattle.cat_scope.specs.Eval.{Env}
 use Rattle.cat_sound.specs.Endings.{Allowed, IsReady, IsCallable, IsEnvOf}
 use Rattle.cat_sound.proofs.Results.{all_front, all_back}
-use Rattle.cat_scope.proofs.Namings.{Own, of_form, field, arm, field_is, arm_is, levels}
+use Rattle.cat_scope.proofs.Exported.{Own, of_form, names_in_field, names_in_arm, names_in_field_is, names_in_arm_is}
+use Rattle.cat_scope.proofs.Exported.{names_by_level}
 
 abbrev Numbers : Type 0
 Numbers = List ℕ
@@ -62,7 +63,7 @@ module _ (own : Own) where
   named = named_by own
 
   abbrev pub opened : Expr-F Expr Arm FieldValue → Expr-F Numbers Numbers Numbers
-  opened y = map-Expr Expr Arm FieldValue Numbers Numbers Numbers named (arm own) (field own) y
+  opened y = map-Expr Expr Arm FieldValue Numbers Numbers Numbers named (names_in_arm own) (names_in_field own) y
 
   module _ (P : ℕ → Type 0) where
     in_all : (es : List Expr) → AllHave P (joined (map named es)) → AllHave (λ e. AllHave P (named e)) es
@@ -70,19 +71,22 @@ module _ (own : Own) where
     in_all (e ∷ es) h =
       (all_front P (named e) (joined (map named es)) h, in_all es (all_back P (named e) (joined (map named es)) h))
 
-    in_arms : (arms : List Arm) → AllHave P (joined (map (arm own) arms)) → AllHave (λ e. AllHave P (named e))
+    in_arms : (arms : List Arm) → AllHave P (joined (map (names_in_arm own) arms)) → AllHave (λ e. AllHave P (named e))
       (bodies_of arms)
     in_arms [] h = tt
     in_arms (a ∷ arms) h =
-        (subst (λ ns. AllHave P ns) (arm_is own a) (all_front P (arm own a) (joined (map (arm own) arms)) h),
-          in_arms arms (all_back P (arm own a) (joined (map (arm own) arms)) h))
+        (subst (λ ns. AllHave P ns) (names_in_arm_is own a)
+          (all_front P (names_in_arm own a) (joined (map (names_in_arm own) arms)) h),
+          in_arms arms (all_back P (names_in_arm own a) (joined (map (names_in_arm own) arms)) h))
 
-    in_fields : (fs : List FieldValue) → AllHave P (joined (map (field own) fs)) → AllHave (λ e. AllHave P (named e))
+    in_fields : (fs : List FieldValue) → AllHave P (joined (map (names_in_field own) fs))
+      → AllHave (λ e. AllHave P (named e))
       (values_of fs)
     in_fields [] h = tt
     in_fields (f ∷ fs) h =
-        (subst (λ ns. AllHave P ns) (field_is own f) (all_front P (field own f) (joined (map (field own) fs)) h),
-          in_fields fs (all_back P (field own f) (joined (map (field own) fs)) h))
+        (subst (λ ns. AllHave P ns) (names_in_field_is own f)
+          (all_front P (names_in_field own f) (joined (map (names_in_field own) fs)) h),
+          in_fields fs (all_back P (names_in_field own f) (joined (map (names_in_field own) fs)) h))
 
     two : (a b : Expr) → AllHave P (named a ++ named b) → AllHave (λ e. AllHave P (named e)) (a ∷ b ∷ [])
     two a b h = (all_front P (named a) (named b) h, (all_back P (named a) (named b) h, tt))
@@ -106,8 +110,8 @@ module _ (own : Own) where
     each_part (Expr-F.And p a b) h = two a b h
     each_part (Expr-F.Or p a b) h = two a b h
     each_part (Expr-F.If p c a b) h = three c a b h
-    each_part (Expr-F.Match p e arms) h = (all_front P (named e) (joined (map (arm own) arms)) h,
-      in_arms arms (all_back P (named e) (joined (map (arm own) arms)) h))
+    each_part (Expr-F.Match p e arms) h = (all_front P (named e) (joined (map (names_in_arm own) arms)) h,
+      in_arms arms (all_back P (named e) (joined (map (names_in_arm own) arms)) h))
     each_part (Expr-F.IsCase p e n k) h = (h, tt)
     each_part (Expr-F.Case p n k None) h = tt
     each_part (Expr-F.Case p n k (Some e)) h = (h, tt)
@@ -126,7 +130,8 @@ module _ (own : Own) where
 
     seen : (e : Expr) (y : Expr-F Expr Arm FieldValue) → out-Expr e ≡ y → AllHave P (named e)
       → AllHave P (own (opened y) ++ in_parts (opened y))
-    seen e y is h = subst (λ z. AllHave P (of_form own (opened z))) is (subst (λ ns. AllHave P ns) (levels own e) h)
+    seen e y is h =
+      subst (λ z. AllHave P (of_form own (opened z))) is (subst (λ ns. AllHave P ns) (names_by_level own e) h)
 
     -- what an expression names itself, and what its parts name
     pub itself : (e : Expr) (y : Expr-F Expr Arm FieldValue) → out-Expr e ≡ y → AllHave P (named e)

@@ -26,8 +26,8 @@ use Rattle.cat_scope.specs.Naming.{IsItem, IsCalledOutput, IsFunction, IsOutput}
 use Rattle.cat_scope.specs.HasType.{HasType, AllHaveType, ArmsHaveType}
 use Rattle.cat_scope.specs.HasType as typed
 use Rattle.cat_scope.specs.Expected.{lists_placed, row_placed}
-use Rattle.cat_scope.proofs.Placings.{arms_placed, placed_Field, placed_If, placed_Match, placed_List, placed_Map}
-use Rattle.cat_scope.proofs.Placings.{placed_Filter, placed_Combine}
+use Rattle.cat_scope.proofs.Exported.{arms_placed, placed_Field, placed_If, placed_Match, placed_List, placed_Map}
+use Rattle.cat_scope.proofs.Exported.{placed_Filter, placed_Combine}
 use Rattle.cat_sound.specs.Parts.{PartsTyped}
 use Rattle.cat_sound.proofs.PartTypes.{parts_typed}
 use Rattle.cat_sound.proofs.FormTypes.{same_some}

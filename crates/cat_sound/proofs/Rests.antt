@@ -16,7 +16,7 @@ use Rattle.cat_scope.specs.Names.{AllHave}
 use Rattle.cat_scope.specs.Mentions.{own_item, own_scope}
 use Rattle.cat_scope.specs.Eval.{Env, eval, meaning_of}
 use Rattle.cat_scope.specs.Composed.{Meaning, part, all_of, field_values}
-use Rattle.cat_scope.proofs.Equations.{Field, Branch, field, branch, field_is, branch_is, levels, and_then_same}
+use Rattle.cat_scope.proofs.Exported.{Field, Branch, field, branch, field_is, branch_is, levels, and_then_same}
 use Rattle.cat_sound.specs.Rests.{TellSame, CallSame, AgreeOn}
 use Rattle.cat_sound.proofs.NamedParts.{parts_of, bodies_of, values_of, parts, itself}
 use Rattle.cat_sound.proofs.NamedParts as named

@@ -141,73 +141,74 @@ module _ (g h : Standing) where
       let here = both (nat_eq a.field b.field) (tree a.value b.value) (sym (field_is a b) ∙ two.0) in
       same.fields_more (same_number a.field b.field here.0) (s.0 b.value here.1) (fields_sound xs ys s.1 two.1)
 
-  rolled : {y z : Expr-F Expr Arm FieldValue} {e f : Expr} → roll-Expr y ≡ e → roll-Expr z ≡ f → Same g h e f
+  rolled : (y z : Expr-F Expr Arm FieldValue) {e f : Expr} → roll-Expr y ≡ e → roll-Expr z ≡ f → Same g h e f
     → Same g h (roll-Expr y) (roll-Expr z)
-  rolled {z = z} {e = e} is also s =
+  rolled y z {e = e} is also s =
       subst (λ x. Same g h x (roll-Expr z)) (sym is) (subst (λ x. Same g h e x) (sym also) s)
 
   at_form : (y z : Expr-F Expr Arm FieldValue) → AllHave Sound (parts_of y) → IsTrue (same_in g h (opened y) z)
     → Same g h (roll-Expr y) (roll-Expr z)
   at_form (Expr-F.Literal p l) (Expr-F.Literal q m) s t =
-      rolled (expr.rolls-Literal p l) (expr.rolls-Literal q m)
+      rolled _ _ (expr.rolls-Literal p l) (expr.rolls-Literal q m)
         (subst (λ x. Same g h (leaf.Literal p l) (leaf.Literal q x)) (literal_same l m t) same.literal)
   at_form (Expr-F.Item p i) (Expr-F.Item q j) s t =
-      rolled (expr.rolls-Item p i) (expr.rolls-Item q j) (subst (λ (x : ℕ). Same g h (leaf.Item p i) (leaf.Item q x))
+      rolled _ _ (expr.rolls-Item p i) (expr.rolls-Item q j)
+        (subst (λ (x : ℕ). Same g h (leaf.Item p i) (leaf.Item q x))
         (same_number i j t) same.item)
   at_form (Expr-F.Output p i k) (Expr-F.Output q j m) s t =
       let two = both (nat_eq i j) (nat_eq k m) t in
-      rolled (expr.rolls-Output p i k) (expr.rolls-Output q j m)
+      rolled _ _ (expr.rolls-Output p i k) (expr.rolls-Output q j m)
         (subst (λ (x : ℕ). Same g h (leaf.Output p i k) (leaf.Output q x m)) (same_number i j two.0)
         (subst (λ (x : ℕ). Same g h (leaf.Output p i k) (leaf.Output q i x)) (same_number k m two.1) same.output))
   at_form (Expr-F.Local p k) (Expr-F.Local q m) s t =
-      rolled (expr.rolls-Local p k) (expr.rolls-Local q m) (local_same p q k m t)
+      rolled _ _ (expr.rolls-Local p k) (expr.rolls-Local q m) (local_same p q k m t)
   at_form (Expr-F.Field p e k) (Expr-F.Field q f m) s t =
       let two = both (nat_eq k m) (tree e f) t in
-      rolled (expr.rolls-Field p e k) (expr.rolls-Field q f m)
+      rolled _ _ (expr.rolls-Field p e k) (expr.rolls-Field q f m)
         (subst (λ (x : ℕ). Same g h (expr.Field p e k) (expr.Field q f x)) (same_number k m two.0)
         (same.field (s.0 f two.1)))
   at_form (Expr-F.Unary p o e) (Expr-F.Unary q u f) s t =
       let two = both (nat_eq (unary_number o) (unary_number u)) (tree e f) t in
-      rolled (expr.rolls-Unary p o e) (expr.rolls-Unary q u f)
+      rolled _ _ (expr.rolls-Unary p o e) (expr.rolls-Unary q u f)
         (subst (λ x. Same g h (expr.Unary p o e) (expr.Unary q x f)) (unary_same o u two.0) (same.unary (s.0 f two.1)))
   at_form (Expr-F.Binary p o r a b) (Expr-F.Binary q u v c d) s t =
       let two = both (nat_eq (binary_number o) (binary_number u)) (tree a c && tree b d) t in
       let more = both (tree a c) (tree b d) two.1 in
-      rolled (expr.rolls-Binary p o r a b) (expr.rolls-Binary q u v c d)
+      rolled _ _ (expr.rolls-Binary p o r a b) (expr.rolls-Binary q u v c d)
         (subst (λ x. Same g h (expr.Binary p o r a b) (expr.Binary q x v c d)) (binary_same o u two.0)
         (same.binary (s.0 c more.0) (s.1.0 d more.1)))
   at_form (Expr-F.And p a b) (Expr-F.And q c d) s t =
       let two = both (tree a c) (tree b d) t in
-      rolled (expr.rolls-And p a b) (expr.rolls-And q c d) (same.both (s.0 c two.0) (s.1.0 d two.1))
+      rolled _ _ (expr.rolls-And p a b) (expr.rolls-And q c d) (same.both (s.0 c two.0) (s.1.0 d two.1))
   at_form (Expr-F.Or p a b) (Expr-F.Or q c d) s t =
       let two = both (tree a c) (tree b d) t in
-      rolled (expr.rolls-Or p a b) (expr.rolls-Or q c d) (same.any (s.0 c two.0) (s.1.0 d two.1))
+      rolled _ _ (expr.rolls-Or p a b) (expr.rolls-Or q c d) (same.any (s.0 c two.0) (s.1.0 d two.1))
   at_form (Expr-F.If p x a b) (Expr-F.If q y c d) s t =
       let two = both (tree x y) (tree a c && tree b d) t in
       let more = both (tree a c) (tree b d) two.1 in
-      rolled (expr.rolls-If p x a b) (expr.rolls-If q y c d)
+      rolled _ _ (expr.rolls-If p x a b) (expr.rolls-If q y c d)
         (same.choice (s.0 y two.0) (s.1.0 c more.0) (s.1.1.0 d more.1))
   at_form (Expr-F.Match p e xs) (Expr-F.Match q f ys) s t =
       let two = both (tree e f) (each_same (map arm xs) ys) t in
-      rolled (expr.rolls-Match p e xs) (expr.rolls-Match q f ys)
+      rolled _ _ (expr.rolls-Match p e xs) (expr.rolls-Match q f ys)
         (same.matching (s.0 f two.0) (arms_sound xs ys s.1 two.1))
   at_form (Expr-F.IsCase p e n k) (Expr-F.IsCase q f m j) s t =
       let two = both (nat_eq n m) (nat_eq k j && tree e f) t in
       let more = both (nat_eq k j) (tree e f) two.1 in
-      rolled (expr.rolls-IsCase p e n k) (expr.rolls-IsCase q f m j)
+      rolled _ _ (expr.rolls-IsCase p e n k) (expr.rolls-IsCase q f m j)
         (subst (λ (x : ℕ). Same g h (expr.IsCase p e n k) (expr.IsCase q f x j)) (same_number n m two.0)
         (subst (λ (x : ℕ). Same g h (expr.IsCase p e n k) (expr.IsCase q f n x)) (same_number k j more.0)
         (same.is_case (s.0 f more.1))))
   at_form (Expr-F.Case p n k None) (Expr-F.Case q m j None) s t =
       let two = both (nat_eq n m) (nat_eq k j) t in
-      rolled (expr.rolls-Case p n k None) (expr.rolls-Case q m j None)
+      rolled _ _ (expr.rolls-Case p n k None) (expr.rolls-Case q m j None)
         (subst (λ (x : ℕ). Same g h (expr.Case p n k None) (expr.Case q x j None)) (same_number n m two.0)
         (subst (λ (x : ℕ). Same g h (expr.Case p n k None) (expr.Case q n x None)) (same_number k j two.1)
         same.case_alone))
   at_form (Expr-F.Case p n k (Some e)) (Expr-F.Case q m j (Some f)) s t =
       let two = both (nat_eq n m) (nat_eq k j && tree e f) t in
       let more = both (nat_eq k j) (tree e f) two.1 in
-      rolled (expr.rolls-Case p n k (Some e)) (expr.rolls-Case q m j (Some f))
+      rolled _ _ (expr.rolls-Case p n k (Some e)) (expr.rolls-Case q m j (Some f))
         (subst (λ (x : ℕ). Same g h (expr.Case p n k (Some e)) (expr.Case q x j (Some f))) (same_number n m two.0)
         (subst (λ (x : ℕ). Same g h (expr.Case p n k (Some e)) (expr.Case q n x (Some f))) (same_number k j more.0)
         (same.case_with (s.0 f more.1))))
@@ -215,46 +216,47 @@ module _ (g h : Standing) where
   at_form (Expr-F.Case p n k (Some e)) (Expr-F.Case q m j None) s t = not_true t
   at_form (Expr-F.Structure p n xs) (Expr-F.Structure q m ys) s t =
       let two = both (nat_eq n m) (each_same (map field xs) ys) t in
-      rolled (expr.rolls-Structure p n xs) (expr.rolls-Structure q m ys)
+      rolled _ _ (expr.rolls-Structure p n xs) (expr.rolls-Structure q m ys)
         (subst (λ (x : ℕ). Same g h (expr.Structure p n xs) (expr.Structure q x ys)) (same_number n m two.0)
         (same.structure (fields_sound xs ys s two.1)))
   at_form (Expr-F.List p es) (Expr-F.List q fs) s t =
-      rolled (expr.rolls-List p es) (expr.rolls-List q fs) (same.list (all_sound es fs s t))
+      rolled _ _ (expr.rolls-List p es) (expr.rolls-List q fs) (same.list (all_sound es fs s t))
   at_form (Expr-F.ForAll p l e) (Expr-F.ForAll q m f) s t =
       let two = both (tree l m) (tree e f) t in
-      rolled (expr.rolls-ForAll p l e) (expr.rolls-ForAll q m f) (same.for_all (s.0 m two.0) (s.1.0 f two.1))
+      rolled _ _ (expr.rolls-ForAll p l e) (expr.rolls-ForAll q m f) (same.for_all (s.0 m two.0) (s.1.0 f two.1))
   at_form (Expr-F.Exists p l e) (Expr-F.Exists q m f) s t =
       let two = both (tree l m) (tree e f) t in
-      rolled (expr.rolls-Exists p l e) (expr.rolls-Exists q m f) (same.exists (s.0 m two.0) (s.1.0 f two.1))
+      rolled _ _ (expr.rolls-Exists p l e) (expr.rolls-Exists q m f) (same.exists (s.0 m two.0) (s.1.0 f two.1))
   at_form (Expr-F.Map p l e) (Expr-F.Map q m f) s t =
       let two = both (tree l m) (tree e f) t in
-      rolled (expr.rolls-Map p l e) (expr.rolls-Map q m f) (same.map_each (s.0 m two.0) (s.1.0 f two.1))
+      rolled _ _ (expr.rolls-Map p l e) (expr.rolls-Map q m f) (same.map_each (s.0 m two.0) (s.1.0 f two.1))
   at_form (Expr-F.Filter p l e) (Expr-F.Filter q m f) s t =
       let two = both (tree l m) (tree e f) t in
-      rolled (expr.rolls-Filter p l e) (expr.rolls-Filter q m f) (same.filter (s.0 m two.0) (s.1.0 f two.1))
+      rolled _ _ (expr.rolls-Filter p l e) (expr.rolls-Filter q m f) (same.filter (s.0 m two.0) (s.1.0 f two.1))
   at_form (Expr-F.Combine p l x e) (Expr-F.Combine q m y f) s t =
       let two = both (tree l m) (tree x y && tree e f) t in
       let more = both (tree x y) (tree e f) two.1 in
-      rolled (expr.rolls-Combine p l x e) (expr.rolls-Combine q m y f)
+      rolled _ _ (expr.rolls-Combine p l x e) (expr.rolls-Combine q m y f)
         (same.combine (s.0 m two.0) (s.1.0 y more.0) (s.1.1.0 f more.1))
   at_form (Expr-F.Contains p r l e) (Expr-F.Contains q v m f) s t =
       let two = both (tree l m) (tree e f) t in
-      rolled (expr.rolls-Contains p r l e) (expr.rolls-Contains q v m f) (same.contains (s.0 m two.0) (s.1.0 f two.1))
+      rolled _ _ (expr.rolls-Contains p r l e) (expr.rolls-Contains q v m f)
+        (same.contains (s.0 m two.0) (s.1.0 f two.1))
   at_form (Expr-F.Length p l) (Expr-F.Length q m) s t =
-      rolled (expr.rolls-Length p l) (expr.rolls-Length q m) (same.number_of (s.0 m t))
+      rolled _ _ (expr.rolls-Length p l) (expr.rolls-Length q m) (same.number_of (s.0 m t))
   at_form (Expr-F.Sum p k l) (Expr-F.Sum q j m) s t =
       let two = both (nat_eq (sum_number k) (sum_number j)) (tree l m) t in
-      rolled (expr.rolls-Sum p k l) (expr.rolls-Sum q j m) (subst (λ x. Same g h (expr.Sum p k l) (expr.Sum q x m))
+      rolled _ _ (expr.rolls-Sum p k l) (expr.rolls-Sum q j m) (subst (λ x. Same g h (expr.Sum p k l) (expr.Sum q x m))
         (sum_same k j two.0) (same.sum (s.0 m two.1)))
   at_form (Expr-F.Call p i es) (Expr-F.Call q j fs) s t =
       let two = both (nat_eq i j) (each_same (map tree es) fs) t in
-      rolled (expr.rolls-Call p i es) (expr.rolls-Call q j fs)
+      rolled _ _ (expr.rolls-Call p i es) (expr.rolls-Call q j fs)
         (subst (λ (x : ℕ). Same g h (expr.Call p i es) (expr.Call q x fs)) (same_number i j two.0)
         (same.call (all_sound es fs s two.1)))
   at_form (Expr-F.ScopeCall p i xs k) (Expr-F.ScopeCall q j ys m) s t =
       let two = both (nat_eq i j) (nat_eq k m && each_same (map field xs) ys) t in
       let more = both (nat_eq k m) (each_same (map field xs) ys) two.1 in
-      rolled (expr.rolls-ScopeCall p i xs k) (expr.rolls-ScopeCall q j ys m)
+      rolled _ _ (expr.rolls-ScopeCall p i xs k) (expr.rolls-ScopeCall q j ys m)
         (subst (λ (x : ℕ). Same g h (expr.ScopeCall p i xs k) (expr.ScopeCall q x ys m)) (same_number i j two.0)
         (subst (λ (x : ℕ). Same g h (expr.ScopeCall p i xs k) (expr.ScopeCall q i ys x)) (same_number k m more.0)
         (same.scope_call (fields_sound xs ys s more.1))))
@@ -271,71 +273,72 @@ module _ (g h : Standing) where
 
   -- ---- and the same ones pass
 
-  found : {e f : Expr} {y z : Expr-F Expr Arm FieldValue} → out-Expr e ≡ y → out-Expr f ≡ z
+  found : (e f : Expr) {y z : Expr-F Expr Arm FieldValue} → out-Expr e ≡ y → out-Expr f ≡ z
     → IsTrue (same_in g h (opened y) z) → IsTrue (tree e f)
-  found {e = e} {f = f} {y = y} is also t =
+  found e f {y = y} is also t =
       levels e f ∙ ap (λ x. same_in g h (opened x) (out-Expr f)) is ∙ ap (λ x. same_in g h (opened y) x) also ∙ t
 
   mutual
     pub test_whole : {e f : Expr} → Same g h e f → IsTrue (tree e f)
     test_whole (same.literal {p = p} {q = q} {l = l}) =
-        found (expr.outs-Literal p l) (expr.outs-Literal q l) (literal_self l)
-    test_whole (same.item {p = p} {q = q} {i = i}) = found (expr.outs-Item p i) (expr.outs-Item q i) (nat_self i)
+        found _ _ (expr.outs-Literal p l) (expr.outs-Literal q l) (literal_self l)
+    test_whole (same.item {p = p} {q = q} {i = i}) = found _ _ (expr.outs-Item p i) (expr.outs-Item q i) (nat_self i)
     test_whole (same.output {p = p} {q = q} {i = i} {k = k}) =
-        found (expr.outs-Output p i k) (expr.outs-Output q i k) (and_both _ _ (nat_self i) (nat_self k))
+        found _ _ (expr.outs-Output p i k) (expr.outs-Output q i k) (and_both _ _ (nat_self i) (nat_self k))
     test_whole (same.parameter {p = p} {q = q} {k = k} one below under) =
-        found (expr.outs-Local p k) (expr.outs-Local q k) (parameter_self k one below under)
+        found _ _ (expr.outs-Local p k) (expr.outs-Local q k) (parameter_self k one below under)
     test_whole (same.bound {p = p} {q = q} k) =
-        found (expr.outs-Local p (g.params + k)) (expr.outs-Local q (h.params + k)) (bound_self k)
+        found _ _ (expr.outs-Local p (g.params + k)) (expr.outs-Local q (h.params + k)) (bound_self k)
     test_whole (same.field {p = p} {q = q} {e = e} {f = f} {k = k} s) =
-        found (expr.outs-Field p e k) (expr.outs-Field q f k) (and_both _ _ (nat_self k) (test_whole s))
+        found _ _ (expr.outs-Field p e k) (expr.outs-Field q f k) (and_both _ _ (nat_self k) (test_whole s))
     test_whole (same.unary {p = p} {q = q} {o = o} {e = e} {f = f} s) =
-        found (expr.outs-Unary p o e) (expr.outs-Unary q o f) (and_both _ _ (nat_self (unary_number o)) (test_whole s))
+        found _ _ (expr.outs-Unary p o e) (expr.outs-Unary q o f)
+          (and_both _ _ (nat_self (unary_number o)) (test_whole s))
     test_whole (same.binary {p = p} {q = q} {r = r} {s = v} {o = o} {a = a} {b = b} {c = c} {d = d} s t) =
-        found (expr.outs-Binary p o r a b) (expr.outs-Binary q o v c d)
+        found _ _ (expr.outs-Binary p o r a b) (expr.outs-Binary q o v c d)
           (and_both _ _ (nat_self (binary_number o)) (and_both _ _ (test_whole s) (test_whole t)))
     test_whole (same.both {p = p} {q = q} {a = a} {b = b} {c = c} {d = d} s t) =
-        found (expr.outs-And p a b) (expr.outs-And q c d) (and_both _ _ (test_whole s) (test_whole t))
+        found _ _ (expr.outs-And p a b) (expr.outs-And q c d) (and_both _ _ (test_whole s) (test_whole t))
     test_whole (same.any {p = p} {q = q} {a = a} {b = b} {c = c} {d = d} s t) =
-        found (expr.outs-Or p a b) (expr.outs-Or q c d) (and_both _ _ (test_whole s) (test_whole t))
+        found _ _ (expr.outs-Or p a b) (expr.outs-Or q c d) (and_both _ _ (test_whole s) (test_whole t))
     test_whole (same.choice {p = p} {q = q} {t = x} {a = a} {b = b} {u = y} {c = c} {d = d} r s t) =
-        found (expr.outs-If p x a b) (expr.outs-If q y c d)
+        found _ _ (expr.outs-If p x a b) (expr.outs-If q y c d)
           (and_both _ _ (test_whole r) (and_both _ _ (test_whole s) (test_whole t)))
     test_whole (same.matching {p = p} {q = q} {e = e} {f = f} {xs = xs} {ys = ys} s t) =
-        found (expr.outs-Match p e xs) (expr.outs-Match q f ys) (and_both _ _ (test_whole s) (arms_whole t))
+        found _ _ (expr.outs-Match p e xs) (expr.outs-Match q f ys) (and_both _ _ (test_whole s) (arms_whole t))
     test_whole (same.is_case {p = p} {q = q} {e = e} {f = f} {n = n} {k = k} s) =
-        found (expr.outs-IsCase p e n k) (expr.outs-IsCase q f n k)
+        found _ _ (expr.outs-IsCase p e n k) (expr.outs-IsCase q f n k)
           (and_both _ _ (nat_self n) (and_both _ _ (nat_self k) (test_whole s)))
     test_whole (same.case_alone {p = p} {q = q} {n = n} {k = k}) =
-        found (expr.outs-Case p n k None) (expr.outs-Case q n k None) (and_both _ _ (nat_self n) (nat_self k))
+        found _ _ (expr.outs-Case p n k None) (expr.outs-Case q n k None) (and_both _ _ (nat_self n) (nat_self k))
     test_whole (same.case_with {p = p} {q = q} {n = n} {k = k} {e = e} {f = f} s) =
-        found (expr.outs-Case p n k (Some e)) (expr.outs-Case q n k (Some f))
+        found _ _ (expr.outs-Case p n k (Some e)) (expr.outs-Case q n k (Some f))
           (and_both _ _ (nat_self n) (and_both _ _ (nat_self k) (test_whole s)))
     test_whole (same.structure {p = p} {q = q} {n = n} {es = es} {fs = fs} s) =
-        found (expr.outs-Structure p n es) (expr.outs-Structure q n fs) (and_both _ _ (nat_self n) (fields_whole s))
+        found _ _ (expr.outs-Structure p n es) (expr.outs-Structure q n fs) (and_both _ _ (nat_self n) (fields_whole s))
     test_whole (same.list {p = p} {q = q} {es = es} {fs = fs} s) =
-        found (expr.outs-List p es) (expr.outs-List q fs) (all_whole s)
+        found _ _ (expr.outs-List p es) (expr.outs-List q fs) (all_whole s)
     test_whole (same.for_all {p = p} {q = q} {l = l} {e = e} {m = m} {f = f} s t) =
-        found (expr.outs-ForAll p l e) (expr.outs-ForAll q m f) (and_both _ _ (test_whole s) (test_whole t))
+        found _ _ (expr.outs-ForAll p l e) (expr.outs-ForAll q m f) (and_both _ _ (test_whole s) (test_whole t))
     test_whole (same.exists {p = p} {q = q} {l = l} {e = e} {m = m} {f = f} s t) =
-        found (expr.outs-Exists p l e) (expr.outs-Exists q m f) (and_both _ _ (test_whole s) (test_whole t))
+        found _ _ (expr.outs-Exists p l e) (expr.outs-Exists q m f) (and_both _ _ (test_whole s) (test_whole t))
     test_whole (same.map_each {p = p} {q = q} {l = l} {e = e} {m = m} {f = f} s t) =
-        found (expr.outs-Map p l e) (expr.outs-Map q m f) (and_both _ _ (test_whole s) (test_whole t))
+        found _ _ (expr.outs-Map p l e) (expr.outs-Map q m f) (and_both _ _ (test_whole s) (test_whole t))
     test_whole (same.filter {p = p} {q = q} {l = l} {e = e} {m = m} {f = f} s t) =
-        found (expr.outs-Filter p l e) (expr.outs-Filter q m f) (and_both _ _ (test_whole s) (test_whole t))
+        found _ _ (expr.outs-Filter p l e) (expr.outs-Filter q m f) (and_both _ _ (test_whole s) (test_whole t))
     test_whole (same.combine {p = p} {q = q} {l = l} {s = x} {e = e} {m = m} {t = y} {f = f} r s t) =
-        found (expr.outs-Combine p l x e) (expr.outs-Combine q m y f)
+        found _ _ (expr.outs-Combine p l x e) (expr.outs-Combine q m y f)
           (and_both _ _ (test_whole r) (and_both _ _ (test_whole s) (test_whole t)))
     test_whole (same.contains {p = p} {q = q} {r = r} {s = v} {l = l} {e = e} {m = m} {f = f} s t) =
-        found (expr.outs-Contains p r l e) (expr.outs-Contains q v m f) (and_both _ _ (test_whole s) (test_whole t))
+        found _ _ (expr.outs-Contains p r l e) (expr.outs-Contains q v m f) (and_both _ _ (test_whole s) (test_whole t))
     test_whole (same.number_of {p = p} {q = q} {l = l} {m = m} s) =
-        found (expr.outs-Length p l) (expr.outs-Length q m) (test_whole s)
+        found _ _ (expr.outs-Length p l) (expr.outs-Length q m) (test_whole s)
     test_whole (same.sum {p = p} {q = q} {k = k} {l = l} {m = m} s) =
-        found (expr.outs-Sum p k l) (expr.outs-Sum q k m) (and_both _ _ (nat_self (sum_number k)) (test_whole s))
+        found _ _ (expr.outs-Sum p k l) (expr.outs-Sum q k m) (and_both _ _ (nat_self (sum_number k)) (test_whole s))
     test_whole (same.call {p = p} {q = q} {f = i} {es = es} {fs = fs} s) =
-        found (expr.outs-Call p i es) (expr.outs-Call q i fs) (and_both _ _ (nat_self i) (all_whole s))
+        found _ _ (expr.outs-Call p i es) (expr.outs-Call q i fs) (and_both _ _ (nat_self i) (all_whole s))
     test_whole (same.scope_call {p = p} {q = q} {s = i} {k = k} {es = es} {fs = fs} s) =
-        found (expr.outs-ScopeCall p i es k) (expr.outs-ScopeCall q i fs k)
+        found _ _ (expr.outs-ScopeCall p i es k) (expr.outs-ScopeCall q i fs k)
           (and_both _ _ (nat_self i) (and_both _ _ (nat_self k) (fields_whole s)))
 
     all_whole : {es fs : List Expr} → SameAll g h es fs → IsTrue (each_same (map tree es) fs)
