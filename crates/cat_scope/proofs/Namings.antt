@@ -185,6 +185,6 @@ pub ruleset namings = (
   named_Sum,
   named_Call,
   named_ScopeCall,
-  field_is,
-  arm_is,
+  names_in_field_is,
+  names_in_arm_is,
 )
