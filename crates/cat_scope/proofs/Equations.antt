@@ -1,10 +1,9 @@
 -- The equation of `eval` at each form.
-use Rattle.std.proofs.Common.{◌≡◌, ℕ, pos, true, false, List, [], ◌∷◌, ◌++◌, map, length, Option, Some, None, Ok, Err}
-use Rattle.std.proofs.Common.{Result, refl, ap, ◌∙◌, rules, slice_get, nat_eq}
+use Rattle.std.proofs.Common.{◌≡◌, ℕ, pos, true, false, List, [], ◌∷◌, ◌++◌, map, length, Some, None, Ok}
+use Rattle.std.proofs.Common.{refl, ◌∙◌, rules, slice_get, nat_eq}
 use Rattle.cat_pos.specs.declared.pos.Pos.{Pos}
 use Rattle.cat_value.specs.declared.value.Value.{Value}
 use Rattle.cat_scope.specs.declared.expr.Literal.{Literal}
-use Rattle.cat_scope.specs.declared.expr.ArmPattern.{ArmPattern}
 use Rattle.cat_scope.specs.declared.operators.UnaryOp.{UnaryOp}
 use Rattle.cat_scope.specs.declared.operators.BinaryOp.{BinaryOp}
 use Rattle.cat_scope.specs.declared.operators.SumKind.{SumKind}
@@ -14,68 +13,20 @@ use Rattle.cat_scope.specs.declared.expr.Arm.{Arm}
 use Rattle.cat_scope.specs.declared.expr.Expr.TheVariants as leaf
 use Rattle.cat_scope.specs.declared.expr.Expr.TheViews as expr
 use Rattle.cat_scope.specs.declared.expr.Expr.TheViews.{out-Expr}
-use Rattle.cat_scope.specs.declared.expr.Expr.TheFolds.{fold_out-Expr, map-Expr, fold-FieldValue, fold_out-FieldValue}
-use Rattle.cat_scope.specs.declared.expr.Expr.TheFolds.{fold-Arm, fold_out-Arm}
+use Rattle.cat_scope.specs.declared.expr.Expr.TheFolds.{fold_out-Expr, map-Expr}
 use Rattle.cat_value.specs.declared.value.Value.TheVariants as flat
 use Rattle.cat_value.specs.declared.value.Value.TheViews as value
-use Rattle.cat_scope.specs.declared.stop.Stop.{Stop}
 use Rattle.cat_scope.specs.Replies.{on_one, known, evaluated}
-use Rattle.cat_scope.specs.Runs.{Decider, Run, plain, gives, behind, and_then, giving, in_front, choose}
+use Rattle.cat_scope.specs.Runs.{plain, gives, and_then, giving, choose}
 use Rattle.cat_scope.specs.Projections.{case_of}
 use Rattle.cat_scope.specs.Operators.{convert, operate}
 use Rattle.cat_scope.specs.Lists.{for_all, exists, mapped, filtered, combined, contained, zero_of, summed}
 use Rattle.cat_scope.specs.Eval.{Env, eval, meaning_of, field_meaning, arm_meaning}
 use Rattle.cat_scope.specs.inside.EvalParts.{eval_all, eval_fields, eval_arms}
-use Rattle.cat_scope.specs.Composed.{Meaning, literal_value, part, all_of, field_values, structured, arm_value, matched}
+use Rattle.cat_scope.specs.Composed.{Meaning, literal_value, part, structured, matched}
 use Rattle.cat_scope.specs.Composed.{listed}
-
-abbrev pub Field : Type 0
-Field = ℕ × Meaning
-
-abbrev pub Branch : Type 0
-Branch = ArmPattern × Meaning
-
-abbrev pub field : Env → FieldValue → Field
-field env = fold-FieldValue Meaning Branch Field (meaning_of env) arm_meaning field_meaning
-
-abbrev pub branch : Env → Arm → Branch
-branch env = fold-Arm Meaning Branch Field (meaning_of env) arm_meaning field_meaning
-
-all_is : (env : Env) (es : List Expr) (locals : List Value) → all_of (map (eval env) es) locals ≡ eval_all env es locals
-all_is env [] locals = refl
-all_is env (e ∷ es) locals = ap (in_front (eval env e locals)) (all_is env es locals)
-
-pub field_is : (env : Env) (f : FieldValue) → field env f ≡ (f.field, eval env f.value)
-unfolding eval
-field_is env f =
-    search (rules, expr.the_lemmas, fold_out-FieldValue Meaning Branch Field (meaning_of env) arm_meaning field_meaning)
-
-fields_are : (env : Env) (fs : List FieldValue) (locals : List Value) → field_values (map (field env) fs) locals
-    ≡ eval_fields env fs locals
-fields_are env [] locals = refl
-fields_are env (f ∷ fs) locals = rw (field_is env f)
-    (ap (in_front (and_then (eval env f.value locals) (λ v. gives (f.field, v)))) (fields_are env fs locals))
-
-pub branch_is : (env : Env) (a : Arm) → branch env a ≡ (a.pattern, eval env a.body)
-unfolding eval
-branch_is env a =
-    search (rules, expr.the_lemmas, fold_out-Arm Meaning Branch Field (meaning_of env) arm_meaning field_meaning)
-
-branches_are : (env : Env) (arms : List Arm) (k : ℕ) (content : Option Value) (locals : List Value)
-    → matched (map (branch env) arms) k content locals ≡ eval_arms env arms k content locals
-branches_are env [] k content locals = refl
-branches_are env (a ∷ arms) k content locals =
-    rw (branch_is env a) (ap (λ rest. arm_value a.pattern (eval env a.body) rest k content locals)
-    (branches_are env arms k content locals))
-
-behind_same : {A B : Type 0} (log : List Decider) (r : Result A Stop) (f g : A → Run B) → ((a : A) → f a ≡ g a)
-    → behind log r f ≡ behind log r g
-behind_same {B = B} log (Ok a) f g same = ap (λ (run : Run B). record { log = log ++ run.log; end = run.end }) (same a)
-behind_same log (Err stop) f g same = refl
-
-pub and_then_same : {A B : Type 0} (run : Run A) (f g : A → Run B) → ((a : A) → f a ≡ g a) → and_then run f ≡ and_then
-    run g
-and_then_same run f g same = behind_same run.log run.end f g same
+use Rattle.cat_scope.proofs.PartEquations.{Field, Branch, field, branch, all_is, fields_are}
+use Rattle.cat_scope.proofs.PartEquations.{branches_are, and_then_same}
 
 pub eval_Literal : (env : Env) (p : Pos) (l : Literal) (locals : List Value) → eval env (leaf.Literal p l) locals
     ≡ gives (literal_value l)

@@ -5,8 +5,8 @@ pub use Rattle.cat_scope.proofs.Namings.{Own, of_form, names_in_field, names_in_
 pub use Rattle.cat_scope.proofs.Namings.{names_by_level, namings}
 pub use Rattle.cat_scope.proofs.Placings.{arms_placed, placed_Field, placed_If, placed_Match, placed_List, placed_Map}
 pub use Rattle.cat_scope.proofs.Placings.{placed_Filter, placed_Combine, placings}
-pub use Rattle.cat_scope.proofs.Equations.{Field, Branch, field, branch, field_is, branch_is, levels, and_then_same}
-pub use Rattle.cat_scope.proofs.Equations.{equations}
+pub use Rattle.cat_scope.proofs.PartEquations.{Field, Branch, field, branch, field_is, branch_is, and_then_same}
+pub use Rattle.cat_scope.proofs.Equations.{levels, equations}
 pub use Rattle.cat_scope.proofs.Equations.{eval_Literal, eval_Item, eval_Output, eval_Local, eval_Field, eval_Unary}
 pub use Rattle.cat_scope.proofs.Equations.{eval_Binary, eval_And, eval_Or, eval_If, eval_Match, eval_IsCase}
 pub use Rattle.cat_scope.proofs.Equations.{eval_Case_None, eval_Case_Some, eval_Structure, eval_List, eval_ForAll}

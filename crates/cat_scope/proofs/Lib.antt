@@ -1,4 +1,5 @@
 pub mod RunLaws
+pub mod PartEquations
 pub mod Equations
 pub mod Induction
 pub mod Namings

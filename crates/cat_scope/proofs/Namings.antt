@@ -49,7 +49,7 @@ names_in_arm_is own a = search (
 
 pub names_by_level : (own : Own) (e : Expr) → named_by own e ≡ of_form own
     (map-Expr Expr Arm FieldValue (List ℕ) (List ℕ) (List ℕ) (named_by own) (names_in_arm own) (names_in_field own)
-      (out-Expr e))
+    (out-Expr e))
 unfolding named_by
 names_by_level own e = fold_out-Expr (List ℕ) (List ℕ) (List ℕ) (of_form own) (λ arm. arm.body) (λ field. field.value) e
 
@@ -110,7 +110,7 @@ named_Case_Some own p n k e = rw (names_by_level own (expr.Case p n k (Some e)),
 pub named_Structure : (own : Own) (p : Pos) (n : ℕ) (fields : List FieldValue)
     → named_by own (expr.Structure p n fields) ≡ of_form own (Expr-F.Structure p n (map (names_in_field own) fields))
 named_Structure own p n fields = rw (names_by_level own (expr.Structure p n fields), expr.outs-Structure p n fields)
-  refl
+    refl
 
 pub named_List : (own : Own) (p : Pos) (es : List Expr) → named_by own (expr.List p es) ≡ of_form own
     (Expr-F.List p (map (named_by own) es))
@@ -154,9 +154,9 @@ named_Call own p f es = rw (names_by_level own (expr.Call p f es), expr.outs-Cal
 
 pub named_ScopeCall : (own : Own) (p : Pos) (s : ℕ) (fields : List FieldValue) (k : ℕ)
     → named_by own (expr.ScopeCall p s fields k) ≡ of_form own (Expr-F.ScopeCall p s (map (names_in_field own) fields)
-      k)
+    k)
 named_ScopeCall own p s fields k =
-  rw (names_by_level own (expr.ScopeCall p s fields k), expr.outs-ScopeCall p s fields k) refl
+    rw (names_by_level own (expr.ScopeCall p s fields k), expr.outs-ScopeCall p s fields k) refl
 
 pub ruleset namings = (
   named_Literal,

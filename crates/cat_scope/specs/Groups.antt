@@ -73,8 +73,10 @@ groups_of defs = groups_from defs [] defs
 -- the numbers, from n on, of the groups that pass a test
 abbrev pub group_numbers : (Group → Bool) → ℕ → List Group → List ℕ
 group_numbers passes n [] = []
-group_numbers passes n (g ∷ gs) = if passes g then n ∷ group_numbers passes (n + 1) gs else group_numbers passes (n + 1)
-  gs
+group_numbers passes n (g ∷ gs) =
+    if passes g
+    then n ∷ group_numbers passes (n + 1) gs
+    else group_numbers passes (n + 1) gs
 
 -- no exception
 abbrev pub is_none : Except → Bool

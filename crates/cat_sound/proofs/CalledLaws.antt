@@ -97,7 +97,7 @@ module _ (scoped : Scoped) (before : List ℕ) (values : Items) (item called : �
       (λ one. ⊎_elim
       (λ rest. inputs-stop (n + 1) decls
       (λ k. subst (λ (m : ℕ). slice_get (items_of scoped called) m ≡ slice_get decls k) (omega arith) (at (suc k)))
-        rest)
+      rest)
       (λ more. no_stop (one.0 ∷ more.0) s more.1)
       (stops_in (passed_input judged_at target_at decl.pos (n + 1) decls) (λ more. gives (one.0 ∷ more)) s one.1))
       (stops_in first_run (λ one. and_then (passed_input judged_at target_at decl.pos (n + 1) decls)

@@ -27,19 +27,19 @@ ended allowed P (Ok a) h = h
 ended allowed P (Err s) h = end_of_fault allowed s h
 
 pub ends_plain : (allowed : Allowed) {A : Type 0} (P : A → Type 0) (r : Result A Stop) → ResultsIn P r
-  → EndsIn allowed P (plain r)
+    → EndsIn allowed P (plain r)
 ends_plain allowed P r h = (tt, ended allowed P r h)
 
 pub ends_as : (allowed : Allowed) {A : Type 0} (P : A → Type 0) (r s : Run A) → r ≡ s → EndsIn allowed P s
-  → EndsIn allowed P r
+    → EndsIn allowed P r
 ends_as allowed P r s e h = subst (λ x. EndsIn allowed P x) (sym e) h
 
 behind-ends : (allowed : Allowed) {A B : Type 0} (P : A → Type 0) (Q : B → Type 0) (log : List Decider)
-  (r : Result A Stop) (next : A → Run B)
+    (r : Result A Stop) (next : A → Run B)
     → AllHave (IsDecision allowed) log → Ended allowed P r → ((a : A) → P a → EndsIn allowed Q (next a))
-      → EndsIn allowed Q (behind log r next)
+    → EndsIn allowed Q (behind log r next)
 behind-ends allowed P Q log (Ok a) next front h go = let later =
-  go a h in (all_both (IsDecision allowed) log (next a).log front later.0, later.1)
+    go a h in (all_both (IsDecision allowed) log (next a).log front later.0, later.1)
 behind-ends allowed P Q log (Err s) next front h go = (front, h)
 
 pub ends_then : (allowed : Allowed) {A B : Type 0} (P : A → Type 0) (Q : B → Type 0) (r : Run A) (next : A → Run B)
@@ -47,21 +47,21 @@ pub ends_then : (allowed : Allowed) {A B : Type 0} (P : A → Type 0) (Q : B →
 ends_then allowed P Q r next h go = behind-ends allowed P Q r.log r.end next h.0 h.1 go
 
 pub ends_giving : (allowed : Allowed) {A B : Type 0} (P : A → Type 0) (Q : B → Type 0) (r : Run A)
-  (next : A → Result B Stop)
+    (next : A → Result B Stop)
     → EndsIn allowed P r → ((a : A) → P a → ResultsIn Q (next a)) → EndsIn allowed Q (giving r next)
 ends_giving allowed P Q r next h go =
-  ends_then allowed P Q r (λ a. plain (next a)) h (λ a ha. ends_plain allowed Q (next a) (go a ha))
+    ends_then allowed P Q r (λ a. plain (next a)) h (λ a ha. ends_plain allowed Q (next a) (go a ha))
 
 pub ends_in_front : (allowed : Allowed) {A : Type 0} (P : A → Type 0) (Q R : List A → Type 0) (r : Run A)
-  (rest : Run (List A))
+    (rest : Run (List A))
     → EndsIn allowed P r → EndsIn allowed Q rest → ((a : A) (more : List A) → P a → Q more → R (a ∷ more))
-      → EndsIn allowed R (in_front r rest)
+    → EndsIn allowed R (in_front r rest)
 ends_in_front allowed P Q R r rest h g go =
     ends_then allowed P R r (λ a. and_then rest (λ more. gives (a ∷ more))) h
     (λ a ha. ends_then allowed Q R rest (λ more. gives (a ∷ more)) g (λ more hm. (tt, go a more ha hm)))
 
 ends_either : (allowed : Allowed) {A : Type 0} (P : A → Type 0) (Any : Bool → Type 0) (t : Result Bool Stop)
-  (one other : Run A)
+    (one other : Run A)
     → ResultsIn Any t → EndsIn allowed P one → EndsIn allowed P other → EndsIn allowed P (either t one other)
 ends_either allowed P Any (Ok true) one other h left right = left
 ends_either allowed P Any (Ok false) one other h left right = right
@@ -70,7 +70,7 @@ ends_either allowed P Any (Err s) one other h left right = (tt, end_of_fault all
 pub ends_choose : (allowed : Allowed) {A : Type 0} (P : A → Type 0) (ds : Decls) (v : Value) (one other : Run A)
     → IsOf ds ty.Boolean v → EndsIn allowed P one → EndsIn allowed P other → EndsIn allowed P (choose v one other)
 ends_choose allowed P ds v one other h left right =
-  ends_either allowed P (Any {A = Bool}) (read.truth v) one other (reads-Boolean ds v h) left right
+    ends_either allowed P (Any {A = Bool}) (read.truth v) one other (reads-Boolean ds v h) left right
 
 -- every target may stop
 abbrev pub all_stop : Allowed → Allowed
@@ -83,7 +83,7 @@ end-loosened allowed (stop.Fault kind pos) h = tt
 end-loosened allowed stop.Stuck h = h
 
 pub loosened : (allowed : Allowed) {A : Type 0} (P : A → Type 0) (run : Run A) → EndsIn allowed P run
-  → EndsIn (all_stop allowed) P run
+    → EndsIn (all_stop allowed) P run
 loosened allowed {A = A} P run h = (h.0, by run.end h.1)
   where
     by : (r : Result A Stop) → Ended allowed P r → Ended (all_stop allowed) P r
@@ -92,7 +92,7 @@ loosened allowed {A = A} P run h = (h.0, by run.end h.1)
 
 -- what has a property has another one
 pub ends_more : (allowed : Allowed) {A : Type 0} (P Q : A → Type 0) (run : Run A) → EndsIn allowed P run
-  → ((a : A) → P a → Q a) → EndsIn allowed Q run
+    → ((a : A) → P a → Q a) → EndsIn allowed Q run
 ends_more allowed {A = A} P Q run h go = (h.0, by run.end h.1)
   where
     by : (r : Result A Stop) → Ended allowed P r → Ended allowed Q r

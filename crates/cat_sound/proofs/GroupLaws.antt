@@ -224,6 +224,6 @@ pub forest_judged : (forest : Forest) (program : Program) (scope : ℕ) (body : 
 forest_judged forest program scope body there stands =
     all_map (IsAcyclic body.defs) (λ target. AreJudgedByRule target (groups_of (defs_from target 0 body.defs)))
     (λ target none own group within. judging_rule target (groups_of (defs_from target 0 body.defs)) own group none
-      within)
+    within)
     (targets_of program.decls scope (scope_items program.decls scope) body.order)
     (forest_acyclic forest program scope body there stands)

@@ -114,7 +114,7 @@ positions_of (Ok found) = []
 positions_of (Err stop) = positions_of_stop stop
 
 pub named : (target other : Target) (hs : Several) (positions : List Pos)
-  → alone target hs ≡ Err (Conflict other positions)
+    → alone target hs ≡ Err (Conflict other positions)
     → positions ≡ positions_in (in_source_order hs)
 named target other [] positions e = absurd (true≢false (ap is_ok e))
 named target other (h ∷ []) positions e = absurd (true≢false (ap is_ok e))

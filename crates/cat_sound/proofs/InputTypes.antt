@@ -69,7 +69,7 @@ given_none k (f ∷ fs) h = by (nat_eq k f.0) h (given_none k fs)
   where
     by : (b : Bool) → (if b then Some f.1 else value_given k fs) ≡ None
         → (value_given k fs ≡ None → is_in k (field_numbers fs) ≡ false)
-          → (if b then true else is_in k (field_numbers fs)) ≡ false
+        → (if b then true else is_in k (field_numbers fs)) ≡ false
     by true g rest = absurd (cc)
     by false g rest = rest g
 

@@ -149,7 +149,7 @@ module _ (allowed : Allowed) (ds : Decls) (scoped : Scoped) (sound : IsSound all
           (judging_of scoped calls values arguments (target_of item inner))
       stands : ps ≡ []
           → MayStand allowed (target_of item inner)
-            (judging_of scoped calls values arguments (target_of item inner)).end
+          (judging_of scoped calls values arguments (target_of item inner)).end
 
     pub judging_of-ends : (item : ℕ) (inner : Option ℕ) (ps : List Ty) (t : Ty) → IsTargetAt ns item inner ps t
         → AreOf ds ps arguments → AllHave (IsReady allowed ns (env calls values)) (needs item)
@@ -216,7 +216,7 @@ module _ (allowed : Allowed) (ds : Decls) (scoped : Scoped) (sound : IsSound all
         ))
 
     pub own-judging_of : (item : ℕ) (decl : ItemDecl) → slice_get scoped.items item ≡ Some decl
-      → IsTrue (is_defined decl)
+        → IsTrue (is_defined decl)
         → AreOf ds decl.params arguments → AllHave (IsReady allowed ns (env calls values)) (needs item)
         → JudgingEnds item None decl.params decl.ty
     own-judging_of item decl is defined are ready =
@@ -298,7 +298,7 @@ module _ (allowed : Allowed) (ds : Decls) (scoped : Scoped) (sound : IsSound all
           ends_as allowed (IsOf ds t) (call scoped values (item ∷ before) f vs) (call scoped values before f vs)
           (ap (λ b. if b then variable_value (variable scoped item) (slice_get scoped.items item)
           (judging_of scoped (call scoped values before) values vs (variable scoped item)) else
-            call scoped values before f
+          call scoped values before f
           vs) e)
           (rest f (behind_first item f before e there) ps t vs is are)
 

@@ -56,8 +56,15 @@ alone items defs order =
 
 abbrev pub function : Bool → ItemDecl
 function condition =
-    record { name = []; pos = at 5 12; kind = kind.Internal; ty = ty.Boolean; condition = condition; params =
-      ty.Integer ∷ [] }
+    record {
+      name = [];
+      pos = at 5 12;
+      kind = kind.Internal;
+      ty = ty.Boolean;
+      condition = condition;
+      params =
+          ty.Integer ∷ [];
+    }
 
 -- ---- a condition, and a function that is one, which both ask a function that has no value
 
@@ -176,7 +183,7 @@ seven_typed = of-Integer decls (pos 7) refl
 t_is_settled : AreSettled t_goes_on (record { decls = decls; items = t_items }) 0 t_defs
 t_is_settled env arguments zero None ps t target are stand =
     let ty_is : t ≡ ty.Integer =
-      target.ty_is ∙ sym (ap (λ (i : ItemDecl). i.ty) (same_some x_in_t target.decl target.decl_is)) in
+    target.ty_is ∙ sym (ap (λ (i : ItemDecl). i.ty) (same_some x_in_t target.decl target.decl_is)) in
     record {
       ends = λ goes. subst (Ended t_goes_on (IsHeldOf false decls t)) (sym (seven_holds env arguments))
           (subst (λ u. Ended t_goes_on (IsHeldOf false decls u) (Ok (Some seven))) (sym ty_is) seven_typed);

@@ -26,13 +26,13 @@ abbrev unaries : List UnaryOp
 unaries =
     unary.NegateInteger ∷ unary.NegateDecimal ∷ unary.NegateMoney ∷ unary.NegateDuration ∷ unary.Not ∷
     unary.IntegerOfDecimal ∷ unary.DecimalOfInteger ∷ unary.DecimalOfMoney ∷ unary.MoneyOfDecimal ∷ unary.MoneyOfInteger
-      ∷
+    ∷
     unary.RoundDecimal ∷ unary.RoundMoney ∷ unary.YearOfDate ∷ unary.MonthOfDate ∷ unary.DayOfDate ∷ []
 
 abbrev binaries : List BinaryOp
 binaries =
     binary.AddIntegers ∷ binary.SubtractIntegers ∷ binary.MultiplyIntegers ∷ binary.DivideIntegers ∷ binary.AddDecimals
-      ∷
+    ∷
     binary.SubtractDecimals ∷ binary.MultiplyDecimals ∷ binary.DivideDecimals ∷ binary.AddMoney ∷ binary.SubtractMoney ∷
     binary.MultiplyMoneyByDecimal ∷ binary.MultiplyDecimalByMoney ∷ binary.MultiplyMoneyByInteger ∷
     binary.MultiplyIntegerByMoney ∷ binary.DivideMoneyByDecimal ∷ binary.DivideMoneyByInteger ∷ binary.DivideMoney ∷
@@ -103,7 +103,7 @@ literal_same (literal.Date a) (literal.Date b) h = ap literal.Date (int_same a b
 literal_same (literal.Duration a) (literal.Duration b) h =
     let two = both (int_eq a.months b.months) (int_eq a.days b.days) h in
     ap (λ (n : ℤ). literal.Duration (record { months = n; days = a.days })) (int_same a.months b.months two.0)
-      ∙ ap (λ (d : ℤ). literal.Duration (record { months = b.months; days = d })) (int_same a.days b.days two.1)
+    ∙ ap (λ (d : ℤ). literal.Duration (record { months = b.months; days = d })) (int_same a.days b.days two.1)
 literal_same _ _ h = not_true h
 
 pub literal_self : (l : Literal) → IsTrue (same_literal l l)
@@ -118,7 +118,7 @@ pub pattern_same : (p q : ArmPattern) → IsTrue (same_pattern p q) → p ≡ q
 pattern_same (pattern.Case k bound) (pattern.Case m other) h =
     let two = both (nat_eq k m) (not (differ bound other)) h in
     ap (λ (n : ℕ). pattern.Case n bound) (same_number k m two.0) ∙ ap (λ (b : Bool). pattern.Case m b)
-      (bool_same bound other two.1)
+    (bool_same bound other two.1)
 pattern_same pattern.Anything pattern.Anything h = refl
 pattern_same _ _ h = not_true h
 

@@ -75,19 +75,19 @@ module _ (scoped : Scoped) (input : Items) where
           ≡ Ok found
           → Made (record { target = target_in scoped item inner; by = held_position found } ∷ [])
       one inner found is = logs.own (record { target = target_in scoped item inner; by = held_position found })
-        (record {
-        front = front;
-        item = item;
-        back = left;
-        inner = inner;
-        values = values;
-        found = found;
-        in_order = in_order;
-        not_given = e;
-        reached = reached;
-        is = is;
-        logged = refl;
-      })
+          (record {
+            front = front;
+            item = item;
+            back = left;
+            inner = inner;
+            values = values;
+            found = found;
+            in_order = in_order;
+            not_given = e;
+            reached = reached;
+            is = is;
+            logged = refl;
+          })
 
   items_made : (left front : List ℕ) (values : Items) → scoped.body.order ≡ front ++ left
       → (run_items scoped input [] (no_values scoped.items) front).end ≡ Ok values
@@ -270,8 +270,14 @@ module _ (ds : Decls) (bodies : List Body) where
       one_scope rest (Some scope) None = refl
       one_scope rest (Some scope) (Some body) =
           scoped_logs (Never t) refl (never_both t)
-            (record { scope = n; items = scope.items; body = body; scopes = ds.scopes; runs =
-            run ds.scopes bodies before })
+          (record {
+            scope = n;
+            items = scope.items;
+            body = body;
+            scopes = ds.scopes;
+            runs =
+                run ds.scopes bodies before;
+          })
           rest (λ item inner by. no_scope (nat_eq n t.scope) _
           (turned t.scope n false (first_out t.scope n before out).0)) i
 
@@ -294,8 +300,14 @@ module _ (ds : Decls) (bodies : List Body) where
         → times_logged of_scope (run_scope ds.scopes (run ds.scopes bodies before) number (Some scope)
         (Some body) input).log ≡ 1
     here_once before out ends =
-        scoped_times (record { scope = number; items = scope.items; body = body; scopes = ds.scopes; runs =
-          run ds.scopes bodies before }) input item decl
+        scoped_times (record {
+          scope = number;
+          items = scope.items;
+          body = body;
+          scopes = ds.scopes;
+          runs =
+              run ds.scopes bodies before;
+        }) input item decl
         (foreign of_scope before out) is_variable at not_given outputs ends ∙ stands_once
 
     once_among : (whole : List ℕ) → Distinct whole → (run ds.scopes bodies whole number input).end ≡ Ok outputs

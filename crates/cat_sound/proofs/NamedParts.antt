@@ -69,37 +69,40 @@ module _ (own : Own) where
     in_all : (es : List Expr) → AllHave P (joined (map named es)) → AllHave (λ e. AllHave P (named e)) es
     in_all [] h = tt
     in_all (e ∷ es) h =
-      (all_front P (named e) (joined (map named es)) h, in_all es (all_back P (named e) (joined (map named es)) h))
+        (all_front P (named e) (joined (map named es)) h, in_all es (all_back P (named e) (joined (map named es)) h))
 
     in_arms : (arms : List Arm) → AllHave P (joined (map (names_in_arm own) arms)) → AllHave (λ e. AllHave P (named e))
-      (bodies_of arms)
+        (bodies_of arms)
     in_arms [] h = tt
-    in_arms (a ∷ arms) h =
-        (subst (λ ns. AllHave P ns) (names_in_arm_is own a)
+    in_arms (a ∷ arms) h = (
+      subst (λ ns. AllHave P ns) (names_in_arm_is own a)
           (all_front P (names_in_arm own a) (joined (map (names_in_arm own) arms)) h),
-          in_arms arms (all_back P (names_in_arm own a) (joined (map (names_in_arm own) arms)) h))
+      in_arms arms (all_back P (names_in_arm own a) (joined (map (names_in_arm own) arms)) h),
+    )
 
     in_fields : (fs : List FieldValue) → AllHave P (joined (map (names_in_field own) fs))
-      → AllHave (λ e. AllHave P (named e))
-      (values_of fs)
+        → AllHave (λ e. AllHave P (named e))
+        (values_of fs)
     in_fields [] h = tt
-    in_fields (f ∷ fs) h =
-        (subst (λ ns. AllHave P ns) (names_in_field_is own f)
+    in_fields (f ∷ fs) h = (
+      subst (λ ns. AllHave P ns) (names_in_field_is own f)
           (all_front P (names_in_field own f) (joined (map (names_in_field own) fs)) h),
-          in_fields fs (all_back P (names_in_field own f) (joined (map (names_in_field own) fs)) h))
+      in_fields fs (all_back P (names_in_field own f) (joined (map (names_in_field own) fs)) h),
+    )
 
     two : (a b : Expr) → AllHave P (named a ++ named b) → AllHave (λ e. AllHave P (named e)) (a ∷ b ∷ [])
     two a b h = (all_front P (named a) (named b) h, (all_back P (named a) (named b) h, tt))
 
     three : (a b c : Expr) → AllHave P (named a ++ named b ++ named c) → AllHave (λ e. AllHave P (named e))
-      (a ∷ b ∷ c ∷ [])
+        (a ∷ b ∷ c ∷ [])
     three a b c h =
-        let front = all_front P (named a ++ named b) (named c) h in
-        (all_front P (named a) (named b) front,
-          (all_back P (named a) (named b) front, (all_back P (named a ++ named b) (named c) h, tt)))
+        let front = all_front P (named a ++ named b) (named c) h in (
+          all_front P (named a) (named b) front,
+          (all_back P (named a) (named b) front, (all_back P (named a ++ named b) (named c) h, tt)),
+        )
 
     each_part : (y : Expr-F Expr Arm FieldValue) → AllHave P (in_parts (opened y)) → AllHave (λ e. AllHave P (named e))
-      (parts_of y)
+        (parts_of y)
     each_part (Expr-F.Literal p l) h = tt
     each_part (Expr-F.Item p item) h = tt
     each_part (Expr-F.Output p item k) h = tt
@@ -110,8 +113,10 @@ module _ (own : Own) where
     each_part (Expr-F.And p a b) h = two a b h
     each_part (Expr-F.Or p a b) h = two a b h
     each_part (Expr-F.If p c a b) h = three c a b h
-    each_part (Expr-F.Match p e arms) h = (all_front P (named e) (joined (map (names_in_arm own) arms)) h,
-      in_arms arms (all_back P (named e) (joined (map (names_in_arm own) arms)) h))
+    each_part (Expr-F.Match p e arms) h = (
+      all_front P (named e) (joined (map (names_in_arm own) arms)) h,
+      in_arms arms (all_back P (named e) (joined (map (names_in_arm own) arms)) h),
+    )
     each_part (Expr-F.IsCase p e n k) h = (h, tt)
     each_part (Expr-F.Case p n k None) h = tt
     each_part (Expr-F.Case p n k (Some e)) h = (h, tt)
@@ -129,26 +134,26 @@ module _ (own : Own) where
     each_part (Expr-F.ScopeCall p s fields k) h = in_fields fields h
 
     seen : (e : Expr) (y : Expr-F Expr Arm FieldValue) → out-Expr e ≡ y → AllHave P (named e)
-      → AllHave P (own (opened y) ++ in_parts (opened y))
+        → AllHave P (own (opened y) ++ in_parts (opened y))
     seen e y is h =
-      subst (λ z. AllHave P (of_form own (opened z))) is (subst (λ ns. AllHave P ns) (names_by_level own e) h)
+        subst (λ z. AllHave P (of_form own (opened z))) is (subst (λ ns. AllHave P ns) (names_by_level own e) h)
 
     -- what an expression names itself, and what its parts name
     pub itself : (e : Expr) (y : Expr-F Expr Arm FieldValue) → out-Expr e ≡ y → AllHave P (named e)
-      → AllHave P (own (opened y))
+        → AllHave P (own (opened y))
     itself e y is h = all_front P (own (opened y)) (in_parts (opened y)) (seen e y is h)
 
     pub parts : (e : Expr) (y : Expr-F Expr Arm FieldValue) → out-Expr e ≡ y → AllHave P (named e)
-      → AllHave (λ x. AllHave P (named x)) (parts_of y)
+        → AllHave (λ x. AllHave P (named x)) (parts_of y)
     parts e y is h = each_part y (all_back P (own (opened y)) (in_parts (opened y)) (seen e y is h))
 
 paired : (allowed : Allowed) → (ns : Names) (env : Env) (es : List Expr)
-  → AllHave (λ e. AllHave (IsReady allowed ns env) (named_by own_item e)) es
-  → AllHave (λ e. AllHave (IsCallable allowed ns env) (named_by own_scope e)) es
+    → AllHave (λ e. AllHave (IsReady allowed ns env) (named_by own_item e)) es
+    → AllHave (λ e. AllHave (IsCallable allowed ns env) (named_by own_scope e)) es
     → AllHave (IsEnvOf allowed ns env) es
 paired allowed ns env [] items scopes = tt
 paired allowed ns env (e ∷ es) items scopes =
-  (record { items = items.0; scopes = scopes.0 }, paired allowed ns env es items.1 scopes.1)
+    (record { items = items.0; scopes = scopes.0 }, paired allowed ns env es items.1 scopes.1)
 
 -- an environment of an expression is one of its parts
 pub env_parts : {allowed : Allowed} {ns : Names} {env : Env} {e : Expr} {y : Expr-F Expr Arm FieldValue}

@@ -84,7 +84,7 @@ same_results binary.Unequal = (refl, (refl, (refl, (refl, (refl, (refl, tt))))))
 same_results _ = (refl, tt)
 
 result_in : (x : Ty) (rows : List Signature) → AllHave (λ (r : Signature). r.result ≡ x) rows → (r : Signature)
-  → IsOneOf r rows
+    → IsOneOf r rows
     → r.result ≡ x
 result_in x [] all r among = elim among [ ]
 result_in x (s ∷ rows) all r among =
@@ -94,7 +94,7 @@ pub first_is : (o : BinaryOp) (r : Signature) → IsOneOf r (signatures_of o) �
 first_is o r is = result_in (first_result (signatures_of o)) (signatures_of o) (same_results o) r is
 
 one_result : (o : BinaryOp) (r s : Signature) → IsOneOf r (signatures_of o) → IsOneOf s (signatures_of o)
-  → r.result ≡ s.result
+    → r.result ≡ s.result
 one_result o r s is are = first_is o r is ∙ sym (first_is o s are)
 
 -- what is named has one type
@@ -174,7 +174,7 @@ mutual
   one_type {ns} {ls} u (typed.matching {p = p} {e = e} {arms = arms} {t = t} n g each whole) h placed =
       let s = parts_of ns ls _ (Expr-F.Match p e arms) u (expr.outs-Match p e arms) h in
       let signature = both (lists_placed e false) (arms_placed arms false) (sym (placed_Match p e arms false) ∙ placed)
-        in
+      in
       let same : n ≡ s.0 = same_enumeration n s.0 (one_type (flat.Enumeration s.0) g s.1 signature.0) in
       one_type_of_arms u each (subst (λ m. ArmsHaveType ns ls m arms u) (sym same) s.2) signature.1
   one_type {ns} {ls} u (typed.is_case {p = p} {e = e} {n = n} {k = k} g is) h placed =
@@ -198,7 +198,7 @@ mutual
       both (lists_placed l false) (lists_placed e false) (sym (ap (λ f. f false) (placed_Map p l e)) ∙ placed) in
       let same : t ≡ s.0 = same_element t s.0 (one_type (ty.List s.0) g s.2 signature.0) in
       ap ty.List (one_type s.1 i (subst (λ (v : Ty). HasType ns (ls ++ v ∷ []) e s.1) (sym same) s.3) signature.1)
-        ∙ sym s.6
+      ∙ sym s.6
   one_type {ns} {ls} u (typed.filter {p = p} {l = l} {test = test} t g i) h placed =
       let s = parts_of ns ls _ (Expr-F.Filter p l test) u (expr.outs-Filter p l test) h in
       let signature =

@@ -230,7 +230,7 @@ module _ (ds : Decls) (p : Pos) (v w : Value) where
   equal-ends t (inr more) hv hw = equal-ordered t more hv hw
 
 signature_in : (signature : Signature) (ts : List Ty) → IsOneOf signature (map comparison ts) → (t : Ty) × IsOneOf t ts
-  × (signature ≡ comparison t)
+    × (signature ≡ comparison t)
 signature_in signature [] h = elim h [ ]
 signature_in signature (t ∷ ts) (inl e) = (t, inl refl, e)
 signature_in signature (t ∷ ts) (inr h) = let rest = signature_in signature ts h in (rest.0, inr rest.1, rest.2)
@@ -263,7 +263,7 @@ module _ (ds : Decls) (p : Pos) (v w : Value) (signature : Signature) where
 -- ---- what stands between two operands
 
 two : {A B : Type 0} {t u : Ty} (ds : Decls) (v w : Value) (signature : Signature) (X : Reading ds A t)
-  (Y : Reading ds B u)
+    (Y : Reading ds B u)
     (x : Ty)
     (next : A → B → Result Value Stop) → IsOneOf signature (record { left = t; right = u; result = x } ∷ [])
     → IsOf ds signature.left v → IsOf ds signature.right w
@@ -271,7 +271,7 @@ two : {A B : Type 0} {t u : Ty} (ds : Decls) (v w : Value) (signature : Signatur
     → ResultsIn (IsOf ds signature.result) (on_two (X.reading v) (Y.reading w) next)
 two ds v w signature X Y x next (inl e) hv hw go =
     subst (λ q. ResultsIn (IsOf ds q) (on_two (X.reading v) (Y.reading w) next))
-      (sym (ap (λ (y : Signature). y.result) e))
+    (sym (ap (λ (y : Signature). y.result) e))
     (result_two X.Bound Y.Bound (IsOf ds x) (X.reading v) (Y.reading w) next
     (X.within v (subst (λ q. IsOf ds q v) (ap (λ (y : Signature). y.left) e) hv))
     (Y.within w (subst (λ q. IsOf ds q w) (ap (λ (y : Signature). y.right) e) hw)) go)
@@ -357,9 +357,9 @@ operators_go_on ds r p v w signature binary.Xor is hv hw =
     (λ a b ha hb. of-Boolean ds (differ a b))
 operators_go_on ds r p v w signature binary.Less is hv hw = by_order ds p v w signature is_less is hv hw
 operators_go_on ds r p v w signature binary.AtMost is hv hw =
-  by_order ds p v w signature (λ x. not (is_greater x)) is hv hw
+    by_order ds p v w signature (λ x. not (is_greater x)) is hv hw
 operators_go_on ds r p v w signature binary.Greater is hv hw = by_order ds p v w signature is_greater is hv hw
 operators_go_on ds r p v w signature binary.AtLeast is hv hw =
-  by_order ds p v w signature (λ x. not (is_less x)) is hv hw
+    by_order ds p v w signature (λ x. not (is_less x)) is hv hw
 operators_go_on ds r p v w signature binary.Equal is hv hw = by_equality ds p v w signature (λ x. x) is hv hw
 operators_go_on ds r p v w signature binary.Unequal is hv hw = by_equality ds p v w signature not is hv hw

@@ -41,7 +41,7 @@ in_first x ns = grind (arith, nat_tests)
 
 -- what is among some numbers, and is not the first of them
 pub behind_first : (a b : ℕ) (before : List ℕ) → nat_eq a b ≡ false → IsTrue (is_in b (a ∷ before))
-  → IsTrue (is_in b before)
+    → IsTrue (is_in b before)
 behind_first a b before e h = by (nat_eq b a) refl h
   where
     turned : (x y : ℕ) → nat_eq x y ≡ true → nat_eq y x ≡ true
@@ -75,10 +75,10 @@ moved_new x before [] h = not_true h
 moved_new x before (n ∷ left) h = by (nat_eq x n) refl h (moved_new x (n ∷ before) left)
   where
     by : (b : Bool) → nat_eq x n ≡ b → IsTrue (if b then true else is_in x left)
-      → (IsTrue (is_in x left) → IsTrue (is_in x (moved (n ∷ before) left)))
-      → IsTrue (is_in x (moved (n ∷ before) left))
+        → (IsTrue (is_in x left) → IsTrue (is_in x (moved (n ∷ before) left)))
+        → IsTrue (is_in x (moved (n ∷ before) left))
     by true e g rest = moved_old x (n ∷ before) left
-      (subst (λ (m : ℕ). IsTrue (is_in x (m ∷ before))) (same_number x n e) (in_first x before))
+        (subst (λ (m : ℕ). IsTrue (is_in x (m ∷ before))) (same_number x n e) (in_first x before))
     by false e g rest = rest g
 
 -- ---- from the order
@@ -88,16 +88,16 @@ listed_in [] x h = absurd (omega arith)
 listed_in (y ∷ xs) x h = grind (arith, nat_tests, listed_in xs x)
 
 none_missing_in : (front before ns : List ℕ) → ((x : ℕ) → 0 < times front x → IsTrue (is_in x before))
-  → missing front ns ≡ 0 → AllIn before ns
+    → missing front ns ≡ 0 → AllIn before ns
 none_missing_in front before [] go h = tt
 none_missing_in front before (n ∷ ns) go h =
-  (go n (listed front n ns h), none_missing_in front before ns go (omega arith))
+    (go n (listed front n ns h), none_missing_in front before ns go (omega arith))
   where
     listed : (front : List ℕ) (n : ℕ) (ns : List ℕ) → missing front (n ∷ ns) ≡ 0 → 0 < times front n
     listed front n ns g = grind (arith, nat_tests)
 
 in_push : (front before : List ℕ) (n : ℕ) → ((x : ℕ) → 0 < times front x → IsTrue (is_in x before)) → (x : ℕ)
-  → 0 < times (front ++ n ∷ []) x → IsTrue (is_in x (n ∷ before))
+    → 0 < times (front ++ n ∷ []) x → IsTrue (is_in x (n ∷ before))
 in_push front before n go x h = by (nat_eq x n) refl
   where
     other : (front : List ℕ) → nat_eq x n ≡ false → 0 < times (front ++ n ∷ []) x → 0 < times front x
@@ -112,21 +112,21 @@ in_push front before n go x h = by (nat_eq x n) refl
     by false e = go x (other front e h)
 
 order-ahead : (deps : List (List ℕ)) (listed : List ℕ) → IsInOrder deps listed → (front left before : List ℕ) → front
-  ++ left ≡ listed
+    ++ left ≡ listed
     → ((x : ℕ) → 0 < times front x → IsTrue (is_in x before)) → Ahead (length deps) (dependencies_of deps) before left
 order-ahead deps listed in_order front [] before is go = tt
 order-ahead deps listed in_order front (n ∷ left) before is go =
     let here : get_or listed (length front) 0 ≡ n =
-      subst (λ (xs : List ℕ). get_or xs (length front) 0 ≡ n) is (get_or_at front n left 0 (length front) refl) in
+    subst (λ (xs : List ℕ). get_or xs (length front) 0 ≡ n) is (get_or_at front n left 0 (length front) refl) in
     let those : take (length front) listed ≡ front =
-      subst (λ (xs : List ℕ). take (length front) xs ≡ front) is (take_at front (n ∷ left) (length front) refl) in
+    subst (λ (xs : List ℕ). take (length front) xs ≡ front) is (take_at front (n ∷ left) (length front) refl) in
     let next = in_order (length front) (subst (λ (xs : List ℕ). length front < length xs) is (shorter front n left)) in
     let ready = Ready-of_is_ready deps front n (subst (λ (xs : List ℕ). is_ready deps xs n ≡ true) those
-      (subst (λ (m : ℕ). is_ready deps (take (length front) listed) m ≡ true) here next.ready)) in (
+    (subst (λ (m : ℕ). is_ready deps (take (length front) listed) m ≡ true) here next.ready)) in (
       ready.within,
       none_missing_in front before (dependencies_of deps n) go ready.none_missing,
       order-ahead deps listed in_order (front ++ n ∷ []) left (n ∷ before) (again front n left ∙ is)
-        (in_push front before n go),
+          (in_push front before n go),
     )
   where
     shorter : (front : List ℕ) (n : ℕ) (left : List ℕ) → length front < length (front ++ n ∷ left)
@@ -138,43 +138,44 @@ order-ahead deps listed in_order front (n ∷ left) before is go =
     again (x ∷ front) n left = ap (λ xs. x ∷ xs) (again front n left)
 
 pub ahead-of_IsOrder : (deps : List (List ℕ)) (listed : List ℕ) → IsOrder deps listed
-  → Ahead (length deps) (dependencies_of deps) [] listed
+    → Ahead (length deps) (dependencies_of deps) [] listed
 ahead-of_IsOrder deps listed order =
-  order-ahead deps listed order.in_order [] listed [] refl (λ x h. absurd (omega arith))
+    order-ahead deps listed order.in_order [] listed [] refl (λ x h. absurd (omega arith))
 
 pub all-of_IsOrder : (deps : List (List ℕ)) (listed : List ℕ) → IsOrder deps listed → (n : ℕ) → n < length deps
-  → IsTrue (is_in n listed)
+    → IsTrue (is_in n listed)
 all-of_IsOrder deps listed order n below = listed_in listed n (omega (arith, order.once n below))
 
 pub ahead_as : (bound other : ℕ) (needs wants : ℕ → List ℕ) → bound ≡ other
-  → ((n : ℕ) → n < bound → (before : List ℕ) → AllIn before (needs n) → AllIn before (wants n)) → (before left : List ℕ)
+    → ((n : ℕ) → n < bound → (before : List ℕ) → AllIn before (needs n) → AllIn before (wants n))
+    → (before left : List ℕ)
     → Ahead bound needs before left → Ahead other wants before left
 ahead_as bound other needs wants same go before [] h = tt
 ahead_as bound other needs wants same go before (n ∷ left) h =
-  (omega (arith, h.0), go n h.0 before h.1, ahead_as bound other needs wants same go (n ∷ before) left h.2)
+    (omega (arith, h.0), go n h.0 before h.1, ahead_as bound other needs wants same go (n ∷ before) left h.2)
 
 -- ---- the dependencies of items and of scopes
 
 pub dependencies-length : (named : Expr → List ℕ) (defs : List Def) (n : ℕ) (items : List ItemDecl)
-  → length (dependencies_from named defs n items) ≡ length items
+    → length (dependencies_from named defs n items) ≡ length items
 dependencies-length named defs n [] = refl
 dependencies-length named defs n (item ∷ items) = ap suc (dependencies-length named defs (n + 1) items)
 
 pub dependencies-at : (named : Expr → List ℕ) (defs : List Def) (n : ℕ) (items : List ItemDecl) (k : ℕ)
-  → k < length items → dependencies_of (dependencies_from named defs n items) k ≡ in_defs_of named (n + k) defs
+    → k < length items → dependencies_of (dependencies_from named defs n items) k ≡ in_defs_of named (n + k) defs
 dependencies-at named defs n [] k below = absurd (omega arith)
 dependencies-at named defs n (item ∷ items) zero below = ap (λ (m : ℕ). in_defs_of named m defs) (omega arith)
 dependencies-at named defs n (item ∷ items) (suc k) below = dependencies-at named defs (n + 1) items k (omega arith)
-  ∙ ap (λ (m : ℕ). in_defs_of named m defs) (omega arith)
+    ∙ ap (λ (m : ℕ). in_defs_of named m defs) (omega arith)
 
 pub scopes-length : (scopes : List Scope) (bodies : List Body) → length bodies ≡ length scopes
-  → length (scope_dependencies scopes bodies) ≡ length scopes
+    → length (scope_dependencies scopes bodies) ≡ length scopes
 scopes-length [] bodies same = refl
 scopes-length (scope ∷ scopes) [] same = absurd (omega arith)
 scopes-length (scope ∷ scopes) (body ∷ bodies) same = ap suc (scopes-length scopes bodies (omega arith))
 
 pub scopes-at : (scopes : List Scope) (bodies : List Body) (k : ℕ) (scope : Scope) (body : Body)
-  → slice_get scopes k ≡ Some scope → slice_get bodies k ≡ Some body
+    → slice_get scopes k ≡ Some scope → slice_get bodies k ≡ Some body
     → dependencies_of (scope_dependencies scopes bodies) k ≡ once [] (calls_in scope.items body)
 scopes-at [] bodies k scope body is also = absurd (cc)
 scopes-at (s ∷ scopes) [] k scope body is also = absurd (cc)
@@ -190,7 +191,7 @@ all_once P seen [] old h = tt
 all_once P seen (n ∷ ns) old h = by (is_in n seen) refl h (all_once P seen ns) (all_once P (n ∷ seen) ns)
   where
     by : (b : Bool) → is_in n seen ≡ b → AllHave P (if b then once seen ns else n ∷ once (n ∷ seen) ns)
-      → (AllHave P seen → AllHave P (once seen ns) → AllHave P ns)
+        → (AllHave P seen → AllHave P (once seen ns) → AllHave P ns)
         → (AllHave P (n ∷ seen) → AllHave P (once (n ∷ seen) ns) → AllHave P ns) → AllHave P (n ∷ ns)
     by true e g one other = (in_at P seen n old e, one old g)
     by false e g one other = (g.0, other (g.0, old) g.1)

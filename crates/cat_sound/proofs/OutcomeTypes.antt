@@ -45,7 +45,7 @@ IsOutcomeOf-prop ds items (Some (outcome.Fault fault pos)) = hlevel Bool-set
 IsOutcomeOf-prop ds items None = hlevel Bool-set
 
 outcome-of : (allowed : Allowed) → (ds : Decls) (items : List ItemDecl) (r : Result (List Value) Stop)
-  → Ended allowed (AreOutputsOf ds items) r → IsOutcomeOf ds items (outcome_of r)
+    → Ended allowed (AreOutputsOf ds items) r → IsOutcomeOf ds items (outcome_of r)
 outcome-of allowed ds items (Ok outputs) h = h
 outcome-of allowed ds items (Err (stop.Conflict target positions)) h = tt
 outcome-of allowed ds items (Err (stop.NoValue target pos)) h = tt
@@ -66,22 +66,22 @@ any_stands target (Err s) = tt
 
 -- where every target may stop, and a log may hold anything, nothing is asked of a target
 pub programs_go_on : (ds : Decls) (bodies : List Body) (order : List ℕ) (scope : ℕ) (input : Items)
-  → ∥ IsWellFormed ds bodies order ∥₁ → IsWellTyped ds scope input
+    → ∥ IsWellFormed ds bodies order ∥₁ → IsWellTyped ds scope input
     → IsOutcomeOf ds (scope_items ds scope) (outcome_of (run_of ds.scopes bodies order scope input).end)
 programs_go_on ds bodies order scope input formed typed =
     ∥∥₁_elim formed
-      (IsOutcomeOf-prop ds (scope_items ds scope) (outcome_of (run_of ds.scopes bodies order scope input).end))
+    (IsOutcomeOf-prop ds (scope_items ds scope) (outcome_of (run_of ds.scopes bodies order scope input).end))
     (λ is. outcome-of anything ds (scope_items ds scope) (run_of ds.scopes bodies order scope input).end
     (run-ends anything (λ k. true) ds bodies order scope input is
-      (λ k h. everywhere (dependencies_of (scope_dependencies ds.scopes bodies) k))
+    (λ k h. everywhere (dependencies_of (scope_dependencies ds.scopes bodies) k))
     (λ k s body h at body_at env arguments item inner ps t target are stand. record {
       ends = λ stops. absurd (true≢false stops);
       stands = λ none. any_stands (record { scope = k; item = item; inner = inner })
-        (judge_target (λ e. eval env e arguments) (record { scope = k; item = item; inner = inner }) body.defs).end;
+          (judge_target (λ e. eval env e arguments) (record { scope = k; item = item; inner = inner }) body.defs).end;
     }) refl typed).1)
 
 Ended-prop : (allowed : Allowed) (ds : Decls) (items : List ItemDecl) (r : Result (List Value) Stop)
-  → IsProp (Ended allowed (AreOutputsOf ds items) r)
+    → IsProp (Ended allowed (AreOutputsOf ds items) r)
 Ended-prop allowed ds items (Ok outputs) = AreOf-prop ds (types_of (outputs_in items)) outputs
 Ended-prop allowed ds items (Err (stop.Conflict target positions)) = hlevel (Bool-set (allowed.may_stop target) true)
 Ended-prop allowed ds items (Err (stop.NoValue target pos)) = hlevel (Bool-set (allowed.may_stop target) true)
@@ -93,14 +93,14 @@ log-prop allowed [] = hlevel Bool-set
 log-prop allowed (d ∷ log) = hlevel (Bool-set (allowed.may_decide d.target d.by) true, log-prop allowed log)
 
 EndsIn-prop : (allowed : Allowed) (ds : Decls) (items : List ItemDecl) (run : Run (List Value))
-  → IsProp (EndsIn allowed (AreOutputsOf ds items) run)
+    → IsProp (EndsIn allowed (AreOutputsOf ds items) run)
 EndsIn-prop allowed ds items run = hlevel (log-prop allowed run.log, Ended-prop allowed ds items run.end)
 
 -- a run stops only with a fault or at a target that may stop, and its log holds what a log may hold
 pub settled_programs : (allowed : Allowed) (within : ℕ → Bool) (ds : Decls) (bodies : List Body) (order : List ℕ)
-  (scope : ℕ) (input : Items) → ∥ IsWellFormed ds bodies order ∥₁
+    (scope : ℕ) (input : Items) → ∥ IsWellFormed ds bodies order ∥₁
     → IsClosed within ds bodies → ScopesSettled allowed within ds bodies → IsTrue (within scope)
-      → IsWellTyped ds scope input
+    → IsWellTyped ds scope input
     → EndsIn allowed (AreOutputsOf ds (scope_items ds scope)) (run_of ds.scopes bodies order scope input)
 settled_programs allowed within ds bodies order scope input formed closed settled inside typed =
     ∥∥₁_elim formed (EndsIn-prop allowed ds (scope_items ds scope) (run_of ds.scopes bodies order scope input))
@@ -108,20 +108,20 @@ settled_programs allowed within ds bodies order scope input formed closed settle
 
 -- what is decided is a target of a scope that is called
 pub logged_within : (within : ℕ → Bool) (ds : Decls) (bodies : List Body) (order : List ℕ) (scope : ℕ) (input : Items)
-  → ∥ IsWellFormed ds bodies order ∥₁
+    → ∥ IsWellFormed ds bodies order ∥₁
     → IsClosed within ds bodies → IsTrue (within scope) → IsWellTyped ds scope input
-      → AllHave (λ d. IsTrue (within d.target.scope)) (run_of ds.scopes bodies order scope input).log
+    → AllHave (λ d. IsTrue (within d.target.scope)) (run_of ds.scopes bodies order scope input).log
 logged_within within ds bodies order scope input formed closed inside typed =
     (settled_programs (record { may_stop = λ target. true; may_decide = λ target by. within target.scope }) within ds
-      bodies order scope input formed closed
+    bodies order scope input formed closed
     (λ k s body here at body_at env arguments item inner ps t target are stand. record {
       ends = λ stops. absurd (true≢false stops);
       stands = λ none. inside_all k here item inner
-        (judge_target (λ e. eval env e arguments) (record { scope = k; item = item; inner = inner }) body.defs).end;
+          (judge_target (λ e. eval env e arguments) (record { scope = k; item = item; inner = inner }) body.defs).end;
     }) inside typed).0
   where
     inside_all : (k : ℕ) → IsTrue (within k) → (item : ℕ) (inner : Option ℕ) (r : Result (Option (Held Value)) Stop)
         → MayStand (record { may_stop = λ target. true; may_decide = λ target by. within target.scope })
-          (record { scope = k; item = item; inner = inner }) r
+        (record { scope = k; item = item; inner = inner }) r
     inside_all k here item inner (Ok found) = here
     inside_all k here item inner (Err s) = tt

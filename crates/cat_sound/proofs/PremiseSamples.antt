@@ -148,7 +148,7 @@ unfolding judge_target
 its_input_meets_no_value = search (rules, equations, value.the_lemmas)
 
 it_comes_of_its_judging : ComesOf asking (0 ∷ []) (None ∷ None ∷ []) 1 0 caller
-  (NoValue (sample.variable 1 0) (at 5 12))
+    (NoValue (sample.variable 1 0) (at 5 12))
 it_comes_of_its_judging = called_scopes_stop asking (0 ∷ []) (None ∷ None ∷ []) 1 0 caller _ its_input_meets_no_value
 
 -- ---- groups of which none is on a cycle
@@ -179,8 +179,13 @@ they_give_the_same env v =
 -- ---- scopes of a program
 
 t_is_run_by_the_rule : (input : Items) → scope_run program 0 input
-    ≡ run_scoped (record { scope = 0; items = t_items; body = body t_defs (0 ∷ []); scopes = calling_scopes;
-    runs = scope_run program }) input
+    ≡ run_scoped (record {
+      scope = 0;
+      items = t_items;
+      body = body t_defs (0 ∷ []);
+      scopes = calling_scopes;
+      runs = scope_run program;
+    }) input
 t_is_run_by_the_rule input =
     scopes_by_rule decls calling_bodies (0 ∷ 1 ∷ []) ∣ well_formed ∣₁ 0 (scope_of t_items) (body t_defs (0 ∷ [])) input
     refl refl

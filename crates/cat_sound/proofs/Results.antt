@@ -35,17 +35,17 @@ result_then P Q (Ok a) next h go = go a h
 result_then P Q (Err stop) next h go = h
 
 pub result_two : {A B C : Type 0} (P : A → Type 0) (Q : B → Type 0) (R : C → Type 0) (r : Result A Stop)
-  (s : Result B Stop) (next : A → B → Result C Stop)
+    (s : Result B Stop) (next : A → B → Result C Stop)
     → ResultsIn P r → ResultsIn Q s → ((a : A) (b : B) → P a → Q b → ResultsIn R (next a b))
-      → ResultsIn R (on_two r s next)
+    → ResultsIn R (on_two r s next)
 result_two P Q R (Ok a) (Ok b) next h g go = go a b h g
 result_two P Q R (Ok a) (Err stop) next h g go = g
 result_two P Q R (Err stop) s next h g go = h
 
 pub result_with_front : {A : Type 0} (P : A → Type 0) (Q R : List A → Type 0) (r : Result A Stop)
-  (rest : Result (List A) Stop)
+    (rest : Result (List A) Stop)
     → ResultsIn P r → ResultsIn Q rest → ((a : A) (more : List A) → P a → Q more → R (a ∷ more))
-      → ResultsIn R (with_front r rest)
+    → ResultsIn R (with_front r rest)
 result_with_front P Q R (Ok a) (Ok more) h g go = go a more h g
 result_with_front P Q R (Ok a) (Err stop) h g go = g
 result_with_front P Q R (Err stop) rest h g go = h
@@ -58,11 +58,11 @@ pub reads-Boolean : (ds : Decls) (v : Value) → IsOf ds ty.Boolean v → Result
 reads-Boolean ds v h =
     let is = boolean_value ds v h in
     result_as (Any {A = Bool}) (read.truth v) (Ok is.0)
-      (ap read.truth is.1 ∙ ap read.truth_in (value.outs-Boolean is.0)) tt
+    (ap read.truth is.1 ∙ ap read.truth_in (value.outs-Boolean is.0)) tt
 
 -- an exact result that fits, or its fault
 pub result_exact : {A : Type 0} (P : Value → Type 0) (p : Pos) (make : A → Value) (r : Result A NumFault)
-  → ((a : A) → r ≡ Ok a → P (make a)) → ResultsIn P (exact p make r)
+    → ((a : A) → r ≡ Ok a → P (make a)) → ResultsIn P (exact p make r)
 result_exact P p make (Ok a) go = go a refl
 result_exact P p make (Err num.Overflow) go = tt
 result_exact P p make (Err num.DivisionByZero) go = tt
@@ -72,7 +72,7 @@ result_known P o a e h = result_as P (known o) (Ok a) (ap known e) h
 
 -- the element at an index is of the type there
 pub local_of : (ds : Decls) (ts : List Ty) (vs : List Value) (k : ℕ) (t : Ty) → AreOf ds ts vs → slice_get ts k ≡ Some t
-  → ResultsIn (IsOf ds t) (known (slice_get vs k))
+    → ResultsIn (IsOf ds t) (known (slice_get vs k))
 local_of ds [] [] k t are is = absurd (cc)
 local_of ds [] (v ∷ vs) k t are is = elim are [ ]
 local_of ds (u ∷ ts) [] k t are is = elim are [ ]
@@ -87,7 +87,7 @@ local_of ds (u ∷ ts) (v ∷ vs) zero t are is = subst (λ x. IsOf ds x v) (sam
 local_of ds (u ∷ ts) (v ∷ vs) (suc k) t are is = local_of ds ts vs k t are.1 is
 
 pub are_more : (ds : Decls) (ts us : List Ty) (vs ws : List Value) → AreOf ds ts vs → AreOf ds us ws
-  → AreOf ds (ts ++ us) (vs ++ ws)
+    → AreOf ds (ts ++ us) (vs ++ ws)
 are_more ds [] us [] ws are more = more
 are_more ds [] us (v ∷ vs) ws are more = elim are [ ]
 are_more ds (t ∷ ts) us [] ws are more = elim are [ ]

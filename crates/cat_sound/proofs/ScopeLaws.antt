@@ -65,7 +65,7 @@ module _ (ds : Decls) (bodies : List Body) (counted : length bodies ≡ length d
       (are k body.0 body.1) those in
       found_as runs k scope.0 body.0 scope.1 body.1
       ∙ scoped_same (record { scope = k; items = scope.0.items; body = body.0; scopes = ds.scopes; runs = runs }) others
-        called.by_defs called.by_assertions (called.by_items (omega arith)) input
+      called.by_defs called.by_assertions (called.by_items (omega arith)) input
       ∙ sym (found_as others k scope.0 body.0 scope.1 body.1)
     where
       found_as : (rs : Runs) (n : ℕ) (scope : Scope) (body : Body) → slice_get ds.scopes n ≡ Some scope
@@ -190,8 +190,13 @@ module _ (ds : Decls) (bodies : List Body) (order : List ℕ) where
   pub scopes_by_rule : ∥ IsWellFormed ds bodies order ∥₁ → (k : ℕ) (scope : Scope) (body : Body) (input : Items)
       → slice_get ds.scopes k ≡ Some scope → slice_get bodies k ≡ Some body
       → run_of ds.scopes bodies order k input ≡ run_scoped
-        (record { scope = k; items = scope.items; body = body; scopes = ds.scopes; runs = run_of ds.scopes bodies order
-        }) input
+      (record {
+        scope = k;
+        items = scope.items;
+        body = body;
+        scopes = ds.scopes;
+        runs = run_of ds.scopes bodies order;
+      }) input
   unfolding run_of
   scopes_by_rule formed k scope body input is also =
       by_rule ds bodies

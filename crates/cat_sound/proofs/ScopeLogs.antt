@@ -33,13 +33,13 @@ module _ (P : List Decider → Type 0) (none : P []) (joined : (xs ys : List Dec
     scope_call_logs : (s : ℕ) (fs : List (ℕ × Value)) (k : ℕ) → P (scope_call scoped s fs k).log
     scope_call_logs s fs k =
         giving_logs P none joined (scoped.runs s (call_input 0 fs (items_of scoped s)))
-          (λ outputs. known (slice_get outputs k))
+        (λ outputs. known (slice_get outputs k))
         (runs s (call_input 0 fs (items_of scoped s)))
 
     pub scoped_eval_logs : (calls : ℕ → List Value → Run Value) → ((f : ℕ) (vs : List Value) → P (calls f vs).log)
         → (values : Items) (e : Expr) (locals : List Value) → P (eval (env_of scoped calls values) e locals).log
     scoped_eval_logs calls h values e locals = eval_logs P none joined (env_of scoped calls values) h scope_call_logs e
-      locals
+        locals
 
     judged_logs : (calls : ℕ → List Value → Run Value) → ((f : ℕ) (vs : List Value) → P (calls f vs).log)
         → (values : Items) (arguments : List Value) (target : Target)
@@ -52,7 +52,7 @@ module _ (P : List Decider → Type 0) (none : P []) (joined : (xs ys : List Dec
         → P (variable_value target o judging).log
     value_logs target None judging h = none
     value_logs target (Some decl) judging h =
-      giving_logs P none joined judging (value_or (absent target decl.pos decl.condition)) h
+        giving_logs P none joined judging (value_or (absent target decl.pos decl.condition)) h
 
     pub call_logs : (values : Items) (before : List ℕ) (f : ℕ) (vs : List Value)
         → P (call scoped values before f vs).log
@@ -84,9 +84,11 @@ module _ (P : List Decider → Type 0) (none : P []) (joined : (xs ys : List Dec
           → P (record { target = target_in scoped item inner; by = held_position found } ∷ [])) where
         decided_logs : (inner : Option ℕ) → P (decided (target_in scoped item inner) (judging_at inner)).log
         decided_logs inner = then_logs P none joined (judging_at inner)
-            (λ found. record { log = record { target = target_in scoped item inner; by = held_position found } ∷ [];
+            (λ found. record {
+              log = record { target = target_in scoped item inner; by = held_position found } ∷ [];
               end =
-              Ok found })
+                  Ok found;
+            })
             (judging_logs inner) (one inner)
 
         passed_logs : (at : Pos) (n : ℕ) (decls : List ItemDecl)
@@ -113,7 +115,7 @@ module _ (P : List Decider → Type 0) (none : P []) (joined : (xs ys : List Dec
             (λ input. and_then (scoped.runs s input) (λ outputs. gives (value.Structure outputs)))
             (passed_logs decl.pos 0 (items_of scoped s))
             (λ input is. then_logs P none joined (scoped.runs s input) (λ outputs. gives (value.Structure outputs))
-              (runs s input)
+            (runs s input)
             (λ outputs also. none))
 
         defined_logs : (decl : ItemDecl) (ps : List Ty) → P (defined_value scoped before values item decl ps).log
@@ -127,7 +129,7 @@ module _ (P : List Decider → Type 0) (none : P []) (joined : (xs ys : List Dec
         ungiven_logs : (decl : ItemDecl) (k : Kind) → P (ungiven_value scoped before values item decl k).log
         ungiven_logs decl (kind.Called s) =
             then_logs P none joined (called_value scoped before values item decl s) (λ v. gives (Some v))
-              (called_logs decl s)
+            (called_logs decl s)
             (λ v is. none)
         ungiven_logs decl kind.Input = defined_logs decl decl.params
         ungiven_logs decl kind.InputOutput = defined_logs decl decl.params
@@ -148,7 +150,7 @@ module _ (P : List Decider → Type 0) (none : P []) (joined : (xs ys : List Dec
     pub last_logs : (values : Items) → P (last_of values).log
     last_logs values =
         asserted_logs P none joined (λ e. eval (env_of scoped (call scoped values (backwards scoped.body.order)) values)
-          e [])
+        e [])
         (λ e. scoped_eval_logs (call scoped values (backwards scoped.body.order))
         (call_logs values (backwards scoped.body.order)) values e [])
         scoped.body.assertions (plain (outputs_of scoped.items values)) none
@@ -165,12 +167,12 @@ module _ (P : List Decider → Type 0) (none : P []) (joined : (xs ys : List Dec
       items_logs [] before values = none
       items_logs (item ∷ left) before values =
           then_logs P none joined (item_value scoped before values item (entry_at item input)
-            (slice_get scoped.items item))
+          (slice_get scoped.items item))
           (λ v. run_items scoped input (item ∷ before) (with_entry item v values) left)
           (given_logs before values item (entry_at item input) (slice_get scoped.items item))
           (λ v is. items_logs left (item ∷ before) (with_entry item v values))
 
       pub scoped_logs : P (run_scoped scoped input).log
       scoped_logs = then_logs P none joined (run_items scoped input [] (no_values scoped.items) scoped.body.order)
-        last_of
+          last_of
           (items_logs scoped.body.order [] (no_values scoped.items)) (λ values is. last_logs values)

@@ -42,7 +42,7 @@ unfolding called_or
 same_called a b e = ap (called_or a) e
 
 pub unique_target : (ns : Names) (item : ℕ) (inner : Option ℕ) (ps qs : List Ty) (t u : Ty) → IsTargetAt ns item inner
-  ps t
+    ps t
     → IsTargetAt ns item inner qs u → (ps ≡ qs) × (t ≡ u)
 unique_target ns item None ps qs t u h g =
     let same : h.decl ≡ g.decl = same_some h.decl g.decl (sym h.decl_is ∙ g.decl_is) in (

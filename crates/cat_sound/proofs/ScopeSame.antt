@@ -80,13 +80,13 @@ module _ (scoped : Scoped) (others : Runs) where
     defs_same calls more values arguments target same (d ∷ defs) h = (
       (λ one. def_agrees (env_of scoped calls values) (env_of other more values) arguments d refl
           (tells calls more values same (in_def items_named d)) (calls_same calls more values (in_def scopes_named d)
-            h.0)),
+          h.0)),
       defs_same calls more values arguments target same defs h.1,
     )
 
     judged_same : (calls more : Calls) (values : Items) (arguments : List Value) (target : Target)
         → SameCalls calls more → judging_of scoped calls values arguments target ≡ judging_of other more values
-          arguments target
+        arguments target
     judged_same calls more values arguments target same =
         target_same (λ e. eval (env_of scoped calls values) e arguments)
         (λ e. eval (env_of other more values) e arguments) target scoped.body.defs

@@ -61,7 +61,7 @@ module _ (allowed : Allowed) (ds : Decls) (scoped : Scoped) (sound : IsSound all
     }
 
     evaluated-function : (o : Option Value) → is_called decl.kind ≡ false → has_none decl.params ≡ false
-      → IsDone ns item o
+        → IsDone ns item o
     evaluated-function o free some = record {
       variable =
           λ t is. absurd (true≢false
@@ -71,7 +71,7 @@ module _ (allowed : Allowed) (ds : Decls) (scoped : Scoped) (sound : IsSound all
     }
 
     evaluated-called : (s : ℕ) (outputs : List Value) (callee : Callee allowed ds scoped.runs s)
-      → decl.kind ≡ kind.Called s
+        → decl.kind ≡ kind.Called s
         → AreOutputsOf ds callee.scope.items outputs → IsDone ns item (Some (value.Structure outputs))
     evaluated-called s outputs callee is_kind are = record {
       variable =
@@ -96,7 +96,7 @@ module _ (allowed : Allowed) (ds : Decls) (scoped : Scoped) (sound : IsSound all
       readies : AllHave (IsReady allowed ns (env_of scoped (call scoped values before) values)) (needs item)
       readies =
           all_more (λ k. IsTrue (is_in k before))
-            (IsReady allowed ns (env_of scoped (call scoped values before) values))
+          (IsReady allowed ns (env_of scoped (call scoped values before) values))
           (needs item) have (ready allowed ds scoped sound values before behind h)
 
       pub defined-ends : (ps : List Ty) → decl.params ≡ ps → is_called decl.kind ≡ false
@@ -111,13 +111,13 @@ module _ (allowed : Allowed) (ds : Decls) (scoped : Scoped) (sound : IsSound all
           (judging_of scoped (call scoped values before) values [] (variable scoped item)))) _
           (variable_value-ends allowed ds scoped sound (call scoped values before) values [] item decl
           (decided (variable scoped item) (judging_of scoped (call scoped values before) values []
-            (variable scoped item)))
+          (variable scoped item)))
           at
           (decided-ends allowed
           (IsHeldOf (allowed.may_stop (variable scoped item) || may_be_empty ns item None) ds decl.ty)
           (variable scoped item)
           (judging_of scoped (call scoped values before) values [] (variable scoped item)) judging.ends
-            (judging.stands e)))
+          (judging.stands e)))
           (λ v hv. (tt, evaluated-variable v free hv))
       defined-ends (t ∷ ts) e free open_one = (tt, evaluated-function None free (ap has_none e))
 

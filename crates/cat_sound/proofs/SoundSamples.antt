@@ -59,13 +59,13 @@ module _ (ds : Decls) where
   pub x_is_settled : AreSettled held names 0 defs
   x_is_settled env arguments zero None ps t target are stand =
       not_true (subst (λ (i : ItemDecl). IsTrue (is_defined i)) (sym (same_some n_in target.decl target.decl_is))
-        target.defined)
+      target.defined)
   x_is_settled env arguments (suc zero) None ps t target are stand =
       let ty_is : t ≡ flat_ty.Integer =
-        target.ty_is ∙ sym (ap (λ (i : ItemDecl). i.ty) (same_some x_out target.decl target.decl_is)) in
+      target.ty_is ∙ sym (ap (λ (i : ItemDecl). i.ty) (same_some x_out target.decl target.decl_is)) in
       record {
         ends = λ stops. subst (Ended held (IsHeldOf false ds t)) (sym (it_holds env arguments))
-          (subst (λ u. Ended held (IsHeldOf false ds u) (Ok (Some five))) (sym ty_is) (held_typed ds));
+            (subst (λ u. Ended held (IsHeldOf false ds u) (Ok (Some five))) (sym ty_is) (held_typed ds));
         stands = λ none. subst (MayStand held x) (sym (it_holds env arguments)) refl;
       }
   x_is_settled env arguments (suc (suc item)) None ps t target are stand = absurd (cc (target.decl_is))

@@ -145,8 +145,14 @@ record Excepting (all : List Group) (n : ℕ) (gs : List Group) (h k : ℕ) : Ty
 one_further : (all : List Group) (n : ℕ) (g : Group) (gs : List Group) (h k : ℕ) → Excepting all (n + 1) gs h k
     → Excepting all n (g ∷ gs) h k
 one_further all n g gs h k e =
-    let is = e.is in record { index = suc e.index; group = e.group; is = omega arith; there = e.there; excepted =
-      e.excepted }
+    let is = e.is in record {
+      index = suc e.index;
+      group = e.group;
+      is = omega arith;
+      there = e.there;
+      excepted =
+          e.excepted;
+    }
 
 excepting-all : (all : List Group) (n : ℕ) (gs : List Group) (h : ℕ)
     → AllHave (Excepting all n gs h) (excepting (pairs_from all n gs) h)
@@ -187,13 +193,19 @@ record Passing (passes : Group → Bool) (n : ℕ) (gs : List Group) (k : ℕ) :
   passed : IsTrue (passes group)
 
 passing-all : (passes : Group → Bool) (n : ℕ) (gs : List Group) → AllHave (Passing passes n gs)
-  (group_numbers passes n gs)
+    (group_numbers passes n gs)
 passing-all passes n [] = tt
 passing-all passes n (g ∷ gs) =
     by (passes g) refl (all_more (Passing passes (n + 1) gs) (Passing passes n (g ∷ gs))
     (group_numbers passes (n + 1) gs) (passing-all passes (n + 1) gs)
-    (λ k e. let is = e.is in record { index = suc e.index; group = e.group; is = omega arith; there = e.there; passed =
-      e.passed }))
+    (λ k e. let is = e.is in record {
+      index = suc e.index;
+      group = e.group;
+      is = omega arith;
+      there = e.there;
+      passed =
+          e.passed;
+    }))
   where
     by : (b : Bool) → passes g ≡ b → AllHave (Passing passes n (g ∷ gs)) (group_numbers passes (n + 1) gs)
         → AllHave (Passing passes n (g ∷ gs)) (if b then n ∷ group_numbers passes (n + 1) gs else group_numbers passes

@@ -37,17 +37,24 @@ module _ (next : ℕ → Option ℕ) (bound : ℕ) where
   from q (x ∷ []) h there = by (eqb q x) refl there
     where
       by : (b : Bool) → eqb q x ≡ b → (b || false) ≡ true → From q (x ∷ [])
-      by true e g = record { rest = []; trail = subst (λ (n : ℕ). Trail (n ∷ [])) (sym (eqb-true q x e)) h; shorter =
-        omega arith }
+      by true e g = record {
+        rest = [];
+        trail = subst (λ (n : ℕ). Trail (n ∷ [])) (sym (eqb-true q x e)) h;
+        shorter =
+            omega arith;
+      }
       by false e g = absurd (true≢false (sym g))
   from q (x ∷ y ∷ ys) h there = by (eqb q x) refl there (from q (y ∷ ys) h.2)
     where
       by : (b : Bool) → eqb q x ≡ b → (b || among q (y ∷ ys)) ≡ true → (among q (y ∷ ys) ≡ true → From q (y ∷ ys))
-        → From q (x ∷ y ∷ ys)
-      by true e g rest = record { rest = y ∷ ys; trail = subst (λ (n : ℕ). Trail (n ∷ y ∷ ys)) (sym (eqb-true q x e)) h;
-        shorter = omega arith }
+          → From q (x ∷ y ∷ ys)
+      by true e g rest = record {
+        rest = y ∷ ys;
+        trail = subst (λ (n : ℕ). Trail (n ∷ y ∷ ys)) (sym (eqb-true q x e)) h;
+        shorter = omega arith;
+      }
       by false e g rest = let more = rest g in let shorter =
-        more.shorter in record { rest = more.rest; trail = more.trail; shorter = omega arith }
+          more.shorter in record { rest = more.rest; trail = more.trail; shorter = omega arith }
 
   not_again : (x : ℕ) (xs : List ℕ) → Trail (x ∷ xs) → Trail xs → among x xs ≡ true → ⊥
   not_again x xs h g there =

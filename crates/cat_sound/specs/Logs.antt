@@ -24,8 +24,8 @@ pub record WasJudged (scoped : Scoped) (input : Items) (decider : Decider) : Typ
   pub in_order : scoped.body.order ≡ front ++ item ∷ back
   pub not_given : entry_at item input ≡ None
   pub reached : (run_items scoped input [] (no_values scoped.items) front).end ≡ Ok values
-  pub is : (judging_of scoped (call scoped values (backwards front)) values [] (target_in scoped item inner)).end ≡ Ok
-    found
+  pub is : (judging_of scoped (call scoped values (backwards front)) values [] (target_in scoped item inner)).end
+      ≡ Ok found
   pub logged : decider ≡ record { target = target_in scoped item inner; by = held_position found }
 
 -- a log that is made of what was judged in the run of a scope, and of the whole logs of scopes that are run within

@@ -68,6 +68,11 @@ pub fn scopes_are_run_by_the_rule(program: &Program)
     ensures { (number : ℕ) (scope : Scope) (body : Body) (input : Items)
         → slice_get program.now.decls.scopes number ≡ Some scope → slice_get program.now.bodies number ≡ Some body
         → scope_run program.now number input
-        ≡ run_scoped (record { scope = number; items = scope.items; body = body; scopes = program.now.decls.scopes;
-        runs = scope_run program.now }) input }
+        ≡ run_scoped (record {
+          scope = number;
+          items = scope.items;
+          body = body;
+          scopes = program.now.decls.scopes;
+          runs = scope_run program.now;
+        }) input }
 {}
