@@ -144,10 +144,10 @@ module _ (allowed : Allowed) (ds : Decls) (scoped : Scoped) (sound : IsSound all
     target_of item inner = record { scope = scoped.scope; item = item; inner = inner }
 
     -- a judging ends as its target may, and what is decided may stand in a log
-    record JudgingEnds (item : ℕ) (inner : Option ℕ) (ps : List Ty) (t : Ty) : Type 0 where
-      ends : EndsIn allowed (IsHeldOf (allowed.may_stop (target_of item inner) || may_be_empty ns item inner) ds t)
+    pub record JudgingEnds (item : ℕ) (inner : Option ℕ) (ps : List Ty) (t : Ty) : Type 0 where
+      pub ends : EndsIn allowed (IsHeldOf (allowed.may_stop (target_of item inner) || may_be_empty ns item inner) ds t)
           (judging_of scoped calls values arguments (target_of item inner))
-      stands : ps ≡ []
+      pub stands : ps ≡ []
           → MayStand allowed (target_of item inner)
           (judging_of scoped calls values arguments (target_of item inner)).end
 

@@ -16,7 +16,7 @@ sum_after : (a b c d : ℕ) → b ≡ c + d → a + b ≡ (a + c) + d
 sum_after a b c d h = omega (arith, h)
 
 pub times_append : (t : Target) (xs ys : List Decider) → times_logged t (xs ++ ys) ≡ times_logged t xs + times_logged t
-  ys
+    ys
 times_append t [] ys = zero_plus (times_logged t ys)
   where
     zero_plus : (n : ℕ) → n ≡ 0 + n
@@ -37,7 +37,7 @@ never_both t xs ys h g = times_append t xs ys ∙ none (times_logged t xs) (time
 pub times_end : (t : Target) (xs : List Decider) → times_logged t (xs ++ []) ≡ times_logged t xs
 times_end t xs = times_append t xs [] ∙ plus_zero (times_logged t xs)
   where
-    pub plus_zero : (n : ℕ) → n + 0 ≡ n
+    plus_zero : (n : ℕ) → n + 0 ≡ n
     plus_zero n = omega arith
 
 pub itself_eq : (n : ℕ) → nat_eq n n ≡ true

@@ -40,7 +40,7 @@ use Rattle.cat_sound.proofs.FunctionLaws.{Distinct, moved_append}
 use Rattle.cat_sound.proofs.ScopeLaws.{differ_of}
 use Rattle.cat_sound.proofs.LogParts.{then_logs}
 use Rattle.cat_sound.proofs.ScopeLogs.{open_logs, last_logs, judging_logs, scoped_logs}
-use Rattle.cat_sound.proofs.LogCounts.{Never, itself_eq, never_both, no_item, no_scope, own_item, plus_zero}
+use Rattle.cat_sound.proofs.LogCounts.{Never, itself_eq, never_both, no_item, no_scope, own_item}
 use Rattle.cat_sound.proofs.LogCounts.{times_append, times_end, turned}
 
 -- how a run goes on with a value
