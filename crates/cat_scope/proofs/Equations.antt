@@ -273,7 +273,7 @@ eval_Filter env p l test locals = search (
 
 pub eval_Combine : (env : Env) (p : Pos) (l : Expr) (start : Expr) (e : Expr) (locals : List Value)
     → eval env (expr.Combine p l start e) locals ≡ and_then (listed (eval env l) locals)
-    (λ vs. and_then (eval env start locals) (combined (λ v before. eval env e (locals ++ v ∷ before ∷ [])) vs))
+    (λ vs. and_then (eval env start locals) (combined (λ v total. eval env e (locals ++ v ∷ total ∷ [])) vs))
 unfolding eval
 eval_Combine env p l start e locals = search (
   rules,

@@ -3,7 +3,7 @@ use Rattle.std.proofs.Common.{◌≡◌, ℕ, ℤ, pos, negsuc, false, List, [],
 use Rattle.cat_num.specs.Frac.{gcd, ratio, lowest}
 use Rattle.cat_date.specs.declared.rounding.Rounding.{Rounding}
 use Rattle.cat_date.specs.declared.rounding.Rounding.TheVariants.{Up, Down, Refuse}
-use Rattle.cat_date.proofs.OnLiterals.{cat_date_on_literals}
+use Rattle.cat_date.proofs.Exported.{cat_date_on_literals}
 use Rattle.cat_value.specs.declared.ty.Ty.{Ty}
 use Rattle.cat_value.specs.declared.ty.Ty.TheVariants as ty
 use Rattle.cat_value.specs.declared.value.Value.{Value}

@@ -34,10 +34,10 @@ filtered of_each [] = gives []
 filtered of_each (v ∷ vs) =
     and_then (of_each v) (λ t. choose t (in_front (gives v) (filtered of_each vs)) (filtered of_each vs))
 
--- what comes of an element and what was combined before, one element after another
+-- what comes of an element and the total of those in front, one element after another
 abbrev pub combined : (Value → Value → Run Value) → List Value → Value → Run Value
-combined of_each [] before = gives before
-combined of_each (v ∷ vs) before = and_then (of_each v before) (λ after. combined of_each vs after)
+combined of_each [] total = gives total
+combined of_each (v ∷ vs) total = and_then (of_each v total) (λ after. combined of_each vs after)
 
 -- true at the first element that is equal to the value, else false
 abbrev pub contained : Pos → Value → List Value → Reply

@@ -92,10 +92,10 @@ module _ (f g : Value → Run Value) (each : (v : Value) → Alike (f v) (g v)) 
       (filtered_alike vs))
 
 combined_alike : (f g : Value → Value → Run Value) → ((v w : Value) → Alike (f v w) (g v w))
-    → (vs : List Value) (before : Value) → Alike (combined f vs before) (combined g vs before)
-combined_alike f g each [] before = (refl, refl)
-combined_alike f g each (v ∷ vs) before =
-    then_alike (f v before) (g v before) _ _ (each v before) (λ w. combined_alike f g each vs w)
+    → (vs : List Value) (total : Value) → Alike (combined f vs total) (combined g vs total)
+combined_alike f g each [] total = (refl, refl)
+combined_alike f g each (v ∷ vs) total =
+    then_alike (f v total) (g v total) _ _ (each v total) (λ w. combined_alike f g each vs w)
 
 between : {A : Type 0} {r s t u : Run A} → r ≡ s → Alike s t → u ≡ t → Alike r u
 between e h f =
@@ -265,9 +265,9 @@ module _ (env : Env) (here there : Standing) (args others : List Value) (many : 
         between (eval_Combine env p l s e (args ++ vs))
         (then_alike (listed (eval env l) (args ++ vs)) (listed (eval env m) (others ++ vs)) _ _
         (listed_alike l m vs (alike h vs)) (λ ws. then_alike (eval env s (args ++ vs)) (eval env t (others ++ vs)) _ _
-        (alike j vs) (combined_alike (λ v before. eval env e ((args ++ vs) ++ v ∷ before ∷ []))
-        (λ v before. eval env f ((others ++ vs) ++ v ∷ before ∷ []))
-        (λ v before. shifted e f vs (v ∷ before ∷ []) (alike i (vs ++ v ∷ before ∷ []))) ws)))
+        (alike j vs) (combined_alike (λ v total. eval env e ((args ++ vs) ++ v ∷ total ∷ []))
+        (λ v total. eval env f ((others ++ vs) ++ v ∷ total ∷ []))
+        (λ v total. shifted e f vs (v ∷ total ∷ []) (alike i (vs ++ v ∷ total ∷ []))) ws)))
         (eval_Combine env q m t f (others ++ vs))
     alike (same.contains {p = p} {q = q} {r = r} {s = s} {l = l} {e = e} {m = m} {f = f} h i) vs =
         between (eval_Contains env p r l e (args ++ vs))

@@ -131,11 +131,11 @@ module _ (allowed : Allowed) (ds : Decls) (t : Ty) where
 
   pub combined-ends : (u : Ty) (of_each : Value → Value → Run Value)
       → ((v w : Value) → IsOf ds t v → IsOf ds u w → EndsIn allowed (IsOf ds u) (of_each v w))
-      → (vs : List Value) (before : Value)
-      → AllHave (IsOf ds t) vs → IsOf ds u before → EndsIn allowed (IsOf ds u) (combined of_each vs before)
-  combined-ends u of_each go [] before h hb = (tt, hb)
-  combined-ends u of_each go (v ∷ vs) before h hb =
-      ends_then allowed (IsOf ds u) (IsOf ds u) (of_each v before) _ (go v before h.0 hb)
+      → (vs : List Value) (total : Value)
+      → AllHave (IsOf ds t) vs → IsOf ds u total → EndsIn allowed (IsOf ds u) (combined of_each vs total)
+  combined-ends u of_each go [] total h hb = (tt, hb)
+  combined-ends u of_each go (v ∷ vs) total h hb =
+      ends_then allowed (IsOf ds u) (IsOf ds u) (of_each v total) _ (go v total h.0 hb)
       (λ after ha. combined-ends u of_each go vs after h.1 ha)
 
   pub contained-ends : (p : Pos) (w : Value) (vs : List Value) → IsOneOf t compared_types → IsOf ds t w

@@ -94,11 +94,11 @@ module _ (P : List Decider → Type 0) (none : P []) (joined : (xs ys : List Dec
         (front_logs (gives v) (filtered of_each vs) none (filtered_logs vs)) (filtered_logs vs))
 
   combined_logs : (of_each : Value → Value → Run Value) → ((v w : Value) → P (of_each v w).log)
-      → (vs : List Value) (before : Value)
-      → P (combined of_each vs before).log
-  combined_logs of_each each [] before = none
-  combined_logs of_each each (v ∷ vs) before =
-      then_logs (of_each v before) (λ after. combined of_each vs after) (each v before)
+      → (vs : List Value) (total : Value)
+      → P (combined of_each vs total).log
+  combined_logs of_each each [] total = none
+  combined_logs of_each each (v ∷ vs) total =
+      then_logs (of_each v total) (λ after. combined of_each vs after) (each v total)
       (λ after is. combined_logs of_each each vs after)
 
   -- ---- expressions
@@ -215,12 +215,12 @@ module _ (P : List Decider → Type 0) (none : P []) (joined : (xs ys : List Dec
         (filtered_logs (λ v. eval env test (locals ++ v ∷ [])) (λ v. h.1.0 (locals ++ v ∷ [])) vs) (λ ws also. none))
     form_logs (Expr-F.Combine p l start e) h locals =
         then_logs (listed (eval env l) locals)
-        (λ vs. and_then (eval env start locals) (combined (λ v before. eval env e (locals ++ v ∷ before ∷ [])) vs))
+        (λ vs. and_then (eval env start locals) (combined (λ v total. eval env e (locals ++ v ∷ total ∷ [])) vs))
         (listed_logs (eval env l) h.0 locals)
         (λ vs is. then_logs (eval env start locals)
-        (combined (λ v before. eval env e (locals ++ v ∷ before ∷ [])) vs) (h.1.0 locals)
-        (λ first also. combined_logs (λ v before. eval env e (locals ++ v ∷ before ∷ []))
-        (λ v before. h.1.1.0 (locals ++ v ∷ before ∷ [])) vs first))
+        (combined (λ v total. eval env e (locals ++ v ∷ total ∷ [])) vs) (h.1.0 locals)
+        (λ first also. combined_logs (λ v total. eval env e (locals ++ v ∷ total ∷ []))
+        (λ v total. h.1.1.0 (locals ++ v ∷ total ∷ [])) vs first))
     form_logs (Expr-F.Contains p q l e) h locals =
         then_logs (listed (eval env l) locals) (λ vs. giving (eval env e locals) (λ v. contained q v vs))
         (listed_logs (eval env l) h.0 locals)
