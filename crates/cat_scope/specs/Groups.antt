@@ -43,10 +43,7 @@ is_among key (k ∷ ks) = if same_key key k then true else is_among key ks
 -- the definitions with a key, in source order
 abbrev pub with_key : Key → List Numbered → List Numbered
 with_key key [] = []
-with_key key (d ∷ ds) =
-    if same_key key (key_of d)
-    then d ∷ with_key key ds
-    else with_key key ds
+with_key key (d ∷ ds) = if same_key key (key_of d) then d ∷ with_key key ds else with_key key ds
 
 -- a group is an exception to what its first definition is one to
 pub record Group : Type 0 where
@@ -117,10 +114,7 @@ excepts groups = pairs_from groups 0 groups
 -- the groups that except a group, in their order
 abbrev pub excepting : List (ℕ × ℕ) → ℕ → List ℕ
 excepting [] h = []
-excepting (pair ∷ pairs) h =
-    if nat_eq pair.1 h
-    then pair.0 ∷ excepting pairs h
-    else excepting pairs h
+excepting (pair ∷ pairs) h = if nat_eq pair.1 h then pair.0 ∷ excepting pairs h else excepting pairs h
 
 -- the same from group n on
 abbrev pub exceptions_from : List (ℕ × ℕ) → ℕ → List Group → List (List ℕ)

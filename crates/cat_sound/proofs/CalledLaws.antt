@@ -7,6 +7,7 @@ use Rattle.cat_pos.specs.declared.pos.Pos.{Pos}
 use Rattle.cat_value.specs.declared.value.Value.{Value}
 use Rattle.cat_value.specs.declared.value.Value.TheViews as value
 use Rattle.cat_value.specs.declared.declaration.ItemDecl.{ItemDecl}
+use Rattle.cat_value.specs.declared.declaration.Kind.TheVariants as kind
 use Rattle.cat_value.specs.declared.outcome.Target.{Target}
 use Rattle.cat_value.specs.Inputs.{must_be_given, may_be_given}
 use Rattle.cat_scope.specs.declared.stop.Stop.{Stop}
@@ -16,7 +17,7 @@ use Rattle.cat_scope.specs.Runs.{Decider, Run, plain, gives, behind, and_then, g
 use Rattle.cat_scope.specs.Judging.{Held, Judged, held_position, decided}
 use Rattle.cat_scope.specs.Targets.{absent}
 use Rattle.cat_scope.specs.Calls.{Items, Scoped, call, items_of, judging_of, variable_of_called}
-use Rattle.cat_scope.specs.ItemValues.{passed, passed_input, called_value}
+use Rattle.cat_scope.specs.ItemValues.{passed, passed_input, called_value, ungiven_value, item_value}
 use Rattle.cat_sound.specs.Stopped.{ComesOf}
 use Rattle.cat_sound.specs.Stopped as comes
 use Rattle.cat_sound.proofs.TargetLaws.{is_ok, as_stop}
@@ -109,9 +110,9 @@ module _ (scoped : Scoped) (before : List ℕ) (values : Items) (item called : �
           then giving (decided (target_at n) (judged_at n)) (passed (target_at n) decl.pos inner)
           else gives None
 
-  pub called_scopes_stop : (called_value scoped before values item decl called).end ≡ Err s
+  called_value-stops : (called_value scoped before values item decl called).end ≡ Err s
       → ComesOf scoped before values item called decl s
-  called_scopes_stop is =
+  called_value-stops is =
       ⊎_elim
       (inputs-stop 0 (items_of scoped called)
       (λ k. ap (λ (m : ℕ). slice_get (items_of scoped called) m) (omega arith)))
@@ -120,3 +121,11 @@ module _ (scoped : Scoped) (before : List ℕ) (values : Items) (item called : �
       (stops_in (scoped.runs called input.0) (λ outputs. gives (value.Structure outputs)) s input.1))
       (stops_in (passed_input judged_at target_at decl.pos 0 (items_of scoped called))
       (λ input. and_then (scoped.runs called input) (λ outputs. gives (value.Structure outputs))) s is)
+
+  pub called_scopes_stop : decl.kind ≡ kind.Called called
+      → (item_value scoped before values item None (Some decl)).end ≡ Err s
+      → ComesOf scoped before values item called decl s
+  called_scopes_stop is_kind is =
+      ⊎_elim called_value-stops (λ more. no_stop (Some more.0) s more.1)
+      (stops_in (called_value scoped before values item decl called) (λ v. gives (Some v)) s
+      (subst (λ k. (ungiven_value scoped before values item decl k).end ≡ Err s) is_kind is))

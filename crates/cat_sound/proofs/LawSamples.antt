@@ -30,10 +30,10 @@ use Rattle.cat_scope.specs.Orders.{item_dependencies}
 use Rattle.cat_order.specs.Order.{dependencies_of}
 use Rattle.cat_scope.specs.Names.{AllHave}
 use Rattle.cat_scope.specs.Calls.{Items, Scoped, call, variable_value, judging_of, variable}
-use Rattle.cat_scope.specs.ItemValues.{defined_value}
+use Rattle.cat_scope.specs.ItemValues.{item_value}
 use Rattle.cat_scope.specs.Running.{backwards, run_of, run_scoped}
 use Rattle.cat_scope.proofs.Exported.{equations, namings}
-use Rattle.cat_scope.proofs.Samples.{at, n_in, x_out, n, whole, def, body, body_calling, x, scope_of, calling_scopes}
+use Rattle.cat_scope.proofs.Samples.{at, n_in, x_out, n, whole, def, body, body_calling, x, scope_of}
 use Rattle.cat_scope.proofs.Samples.{calling_bodies}
 use Rattle.cat_scope.proofs.Samples as sample
 use Rattle.cat_sound.specs.Endings.{Allowed, Ended, EndsIn, AreOutputsOf}
@@ -88,8 +88,9 @@ asking = alone asked
     ∷ of_function 2 (expr.Call (at 8 23) 0 (leaf.Local (at 8 25) 0 ∷ [])) ∷ [])
     (0 ∷ 1 ∷ 2 ∷ [])
 
-a_condition_meets_no_value : (defined_value asking (0 ∷ []) (None ∷ None ∷ None ∷ []) 1
-    (sample.condition_item kind.Internal (at 6 9)) []).end
+a_condition_meets_no_value :
+    (item_value asking (0 ∷ []) (None ∷ None ∷ None ∷ []) 1 None
+    (Some (sample.condition_item kind.Internal (at 6 9)))).end
     ≡ Err (NoValue (sample.variable 0 0) (at 5 12))
 unfolding judge_target
 a_condition_meets_no_value = search (rules, equations, value.the_lemmas)

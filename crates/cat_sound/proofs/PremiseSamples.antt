@@ -32,7 +32,7 @@ use Rattle.cat_scope.specs.Mentions.{items_named, scopes_named}
 use Rattle.cat_scope.specs.Names.{AllHave, is_function, scope_items}
 use Rattle.cat_scope.specs.Same.{Alike}
 use Rattle.cat_scope.specs.Calls.{Items, Scoped, variable}
-use Rattle.cat_scope.specs.ItemValues.{called_value, passed}
+use Rattle.cat_scope.specs.ItemValues.{item_value, passed}
 use Rattle.cat_scope.specs.Running.{run_of, run_scoped, scope_run}
 use Rattle.cat_scope.specs.Outcomes.{scope_outcome, deciders}
 use Rattle.cat_scope.proofs.Exported.{equations, namings}
@@ -142,14 +142,15 @@ asking = record {
   runs = λ scope input. stops Stuck;
 }
 
-its_input_meets_no_value : (called_value asking (0 ∷ []) (None ∷ None ∷ []) 1 caller 0).end
+its_input_meets_no_value : (item_value asking (0 ∷ []) (None ∷ None ∷ []) 1 None (Some caller)).end
     ≡ Err (NoValue (sample.variable 1 0) (at 5 12))
 unfolding judge_target
 its_input_meets_no_value = search (rules, equations, value.the_lemmas)
 
 it_comes_of_its_judging : ComesOf asking (0 ∷ []) (None ∷ None ∷ []) 1 0 caller
     (NoValue (sample.variable 1 0) (at 5 12))
-it_comes_of_its_judging = called_scopes_stop asking (0 ∷ []) (None ∷ None ∷ []) 1 0 caller _ its_input_meets_no_value
+it_comes_of_its_judging =
+    called_scopes_stop asking (0 ∷ []) (None ∷ None ∷ []) 1 0 caller _ refl its_input_meets_no_value
 
 -- ---- groups of which none is on a cycle
 

@@ -1,6 +1,7 @@
 -- What a target comes to rests on its own definitions, and a condition always has a value of its own.
 use Rattle.std.proofs.Common.{◌≡◌, ℕ, ◌+◌, Bool, true, false, List, [], ◌∷◌, ◌++◌, Option, None, Some, slice_get}
-use Rattle.std.proofs.Common.{nat_eq, refl, arith, Result, Ok, Err, sym, ap, ◌∙◌, if◌then◌else◌, true≢false}
+use Rattle.std.proofs.Common.{not, IsTrue, nat_eq, refl, arith, Result, Ok, Err, sym, ap, ◌∙◌, if◌then◌else◌}
+use Rattle.std.proofs.Common.{true≢false}
 use Rattle.std.proofs.lemmas.Bool.Decides.{nat_tests}
 use Rattle.cat_pos.specs.declared.pos.Pos.{Pos}
 use Rattle.cat_value.specs.declared.value.Value.{Value}
@@ -15,9 +16,14 @@ use Rattle.cat_scope.specs.Groups.{groups_of}
 use Rattle.cat_scope.specs.Judging.{Held, Judged, held_position, decided}
 use Rattle.cat_scope.specs.Targets.{same_target, defs_from, judge_groups, judge_target, absent, value_or}
 use Rattle.cat_value.specs.declared.declaration.ItemDecl.{ItemDecl}
+use Rattle.cat_value.specs.declared.declaration.Kind.{Kind}
+use Rattle.cat_value.specs.declared.declaration.Kind.TheVariants as kind
+use Rattle.cat_value.specs.declared.ty.Ty.{Ty}
 use Rattle.cat_value.specs.Inputs.{must_be_given}
 use Rattle.cat_scope.specs.Calls.{Items, Scoped, variable, judging_of, variable_value, call}
-use Rattle.cat_scope.specs.ItemValues.{passed, defined_value}
+use Rattle.cat_sound.proofs.Results.{both}
+use Rattle.cat_scope.specs.ItemValues.{passed, defined_value, ungiven_value, item_value}
+use Rattle.cat_scope.specs.Names.{is_called, is_plain, has_none}
 
 passed_over : (target : Target) (n : ℕ) (d : Def) (ds : List Def) → same_target d.target target ≡ false
     → defs_from target n (d ∷ ds) ≡ defs_from target (n + 1) ds
@@ -69,7 +75,7 @@ value-stops target decl judging s condition is =
     behind-stops judging.log judging.end (λ found. plain (value_or (absent target decl.pos decl.condition) found)) s
     (λ found. false_or-ok target decl.pos decl.condition found condition) is
 
-pub condition-stops : (scoped : Scoped) (before : List ℕ) (values : Items) (item : ℕ) (decl : ItemDecl) (other : Target)
+condition-stops : (scoped : Scoped) (before : List ℕ) (values : Items) (item : ℕ) (decl : ItemDecl) (other : Target)
     (there : Pos) → decl.condition ≡ true
     → (defined_value scoped before values item decl []).end ≡ Err (NoValue other there)
     → (judging_of scoped (call scoped values before) values [] (variable scoped item)).end ≡ Err (NoValue other there)
@@ -89,6 +95,28 @@ condition-stops scoped before values item decl other there condition is =
 
     value : Run Value
     value = variable_value (variable scoped item) (Some decl) (decided (variable scoped item) judging)
+
+-- of a variable that is no function and has no given value
+pub variable-stops : (scoped : Scoped) (before : List ℕ) (values : Items) (item : ℕ) (decl : ItemDecl) (other : Target)
+    (there : Pos) → IsTrue (is_plain decl) → decl.condition ≡ true
+    → (item_value scoped before values item None (Some decl)).end ≡ Err (NoValue other there)
+    → (judging_of scoped (call scoped values before) values [] (variable scoped item)).end ≡ Err (NoValue other there)
+variable-stops scoped before values item decl other there plain condition is =
+    let two = both (not (is_called decl.kind)) (has_none decl.params) plain in
+    condition-stops scoped before values item decl other there condition
+    (by_params decl.params two.1 (by_kind decl.kind two.0 is))
+  where
+    by_params : (ps : List Ty) → IsTrue (has_none ps)
+        → (defined_value scoped before values item decl ps).end ≡ Err (NoValue other there)
+        → (defined_value scoped before values item decl []).end ≡ Err (NoValue other there)
+    by_params [] none stops = stops
+    by_params (t ∷ ts) none stops = absurd (true≢false (sym none))
+
+    by_kind : (k : Kind) → IsTrue (not (is_called k))
+        → (ungiven_value scoped before values item decl k).end ≡ Err (NoValue other there)
+        → (defined_value scoped before values item decl decl.params).end ≡ Err (NoValue other there)
+    by_kind (kind.Called called) free stops = absurd (true≢false (sym free))
+    by_kind _ free stops = stops
 
 pub input-has : (target : Target) (pos : Pos) (decl : ItemDecl) (found : Option (Held Value)) (other : Target)
     (there : Pos) → decl.condition ≡ true → ¬ (passed target pos decl found ≡ Err (NoValue other there))
@@ -120,4 +148,4 @@ function-stops scoped values before function arguments decl other there at condi
     judging = judging_of scoped (call scoped values before) values arguments (variable scoped function)
 
 -- the ways in which a condition goes on
-pub ruleset conditions_go_on = (condition-stops, input-has, function-stops)
+pub ruleset conditions_go_on = (variable-stops, input-has, function-stops)

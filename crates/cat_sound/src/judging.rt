@@ -1,7 +1,7 @@
 // What holds of judging: of targets, of groups and of their exceptions.
-ghost use Rattle.cat_scope.specs.Names.{AllHave};
+ghost use Rattle.cat_scope.specs.Names.{AllHave, is_plain};
 ghost use Rattle.std.specs.Prelude.{◌≡◌, ◌↔◌, ◌<◌, ℕ, true, false, IsTrue, List, [], ◌∷◌, ◌++◌, length, map, slice_get};
-ghost use Rattle.std.specs.Prelude.{Option, Some, Err};
+ghost use Rattle.std.specs.Prelude.{Option, Some, None, Err};
 ghost use Rattle.cat_value.specs.declared.value.Value.{Value};
 ghost use Rattle.cat_value.specs.declared.outcome.Target.{Target};
 ghost use Rattle.cat_scope.specs.declared.expr.Expr.{Expr};
@@ -9,11 +9,12 @@ ghost use Rattle.cat_scope.specs.declared.defs.Def.{Def};
 ghost use Rattle.cat_scope.specs.Runs.{Run};
 ghost use Rattle.cat_pos.specs.declared.pos.Pos.{Pos};
 ghost use Rattle.cat_value.specs.declared.declaration.ItemDecl.{ItemDecl};
+ghost use Rattle.cat_value.specs.declared.declaration.Kind.TheVariants as kind;
 ghost use Rattle.cat_scope.specs.declared.stop.Stop.{Stop};
 ghost use Rattle.cat_scope.specs.declared.stop.Stop.TheVariants.{NoValue};
 ghost use Rattle.cat_sound.specs.Stopped.{ComesOf};
 ghost use Rattle.cat_scope.specs.Calls.{Items, Scoped, call, judging_of, variable};
-ghost use Rattle.cat_scope.specs.ItemValues.{called_value, defined_value, passed};
+ghost use Rattle.cat_scope.specs.ItemValues.{item_value, passed};
 ghost use Rattle.cat_scope.specs.Groups.{Group, excepts, excepting, exceptions_of};
 ghost use Rattle.cat_scope.specs.Judging.{Held, Judged, judge, settle, or_else};
 ghost use Rattle.cat_scope.specs.Chains.{HasNoCycle};
@@ -35,15 +36,16 @@ pub fn targets_rest_on_their_definitions()
 #[tactic(auto, using(crate::proofs::TargetLaws::conditions_go_on))]
 pub fn conditions_have_values()
     ensures variable { (scoped : Scoped) (before : List ℕ) (values : Items) (item : ℕ) (decl : ItemDecl)
-        (other : Target) (there : Pos) → decl.condition ≡ true
-        → (defined_value scoped before values item decl []).end ≡ Err (NoValue other there)
+        (other : Target) (there : Pos) → IsTrue (is_plain decl) → decl.condition ≡ true
+        → (item_value scoped before values item None (Some decl)).end ≡ Err (NoValue other there)
         → (judging_of scoped (call scoped values before) values [] (variable scoped item)).end
         ≡ Err (NoValue other there) }
     ensures input { (target : Target) (pos : Pos) (decl : ItemDecl) (found : Option (Held Value)) (other : Target)
         (there : Pos) → decl.condition ≡ true
         → ¬ (passed target pos decl found ≡ Err (NoValue other there)) }
     ensures called { (scoped : Scoped) (before : List ℕ) (values : Items) (item : ℕ) (called : ℕ) (decl : ItemDecl)
-        (stop : Stop) → (called_value scoped before values item decl called).end ≡ Err stop
+        (stop : Stop) → decl.kind ≡ kind.Called called
+        → (item_value scoped before values item None (Some decl)).end ≡ Err stop
         → ComesOf scoped before values item called decl stop }
     ensures function { (scoped : Scoped) (values : Items) (before : List ℕ) (function : ℕ) (arguments : List Value)
         (decl : ItemDecl) (other : Target) (there : Pos)
