@@ -9,7 +9,6 @@ use Rattle.cat_scope.specs.declared.expr.Arm.{Arm}
 use Rattle.cat_scope.specs.declared.expr.Expr.TheViews as expr
 use Rattle.cat_scope.specs.declared.expr.Expr.TheFolds.{fold-FieldValue, fold_out-FieldValue}
 use Rattle.cat_scope.specs.declared.expr.Expr.TheFolds.{fold-Arm, fold_out-Arm}
-use Rattle.cat_value.specs.declared.value.Value.TheViews as value
 use Rattle.cat_scope.specs.declared.stop.Stop.{Stop}
 use Rattle.cat_scope.specs.Runs.{Decider, Run, gives, behind, and_then, in_front}
 use Rattle.cat_scope.specs.Eval.{Env, eval, meaning_of, field_meaning, arm_meaning}

@@ -10,8 +10,6 @@ use Rattle.cat_scope.specs.declared.expr.Arm.{Arm}
 use Rattle.cat_scope.specs.declared.expr.ArmPattern.{ArmPattern}
 use Rattle.cat_scope.specs.declared.expr.ArmPattern.TheVariants as pattern
 use Rattle.cat_scope.specs.declared.expr.FieldValue.{FieldValue}
-use Rattle.cat_scope.specs.declared.operators.UnaryOp.TheVariants as unary
-use Rattle.cat_scope.specs.declared.operators.BinaryOp.TheVariants as binary
 use Rattle.cat_scope.specs.Replies.{on_one, known}
 use Rattle.cat_scope.specs.Runs.{Decider, Run, plain, gives, behind, and_then, giving, in_front, either}
 use Rattle.cat_scope.specs.Projections as read

@@ -29,7 +29,6 @@ use Rattle.cat_scope.specs.Names.{Names, IsOneOf, is_plain}
 use Rattle.cat_scope.specs.Signatures.{Signature, signatures_of, taken_by, given_by, summed_type, compared_types}
 use Rattle.cat_scope.specs.Fitting.{numbers_in, are_complete, field_type, are_fields_of, are_call_fields, input_type}
 use Rattle.cat_scope.specs.Naming.{IsItem, IsCalledOutput, IsFunction, IsOutput}
-use Rattle.cat_scope.specs.HasType as typed
 use Rattle.cat_scope.specs.Names.{AllHave}
 use Rattle.cat_scope.specs.Eval.{Env, eval}
 use Rattle.cat_scope.specs.inside.EvalParts.{eval_all, eval_fields, eval_arms}

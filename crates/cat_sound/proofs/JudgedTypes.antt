@@ -1,11 +1,10 @@
 -- Definitions, targets and functions of a scope end in values of their types, where the scopes that it calls do.
-use Rattle.std.proofs.Common.{◌≡◌, ℕ, ◌+◌, Bool, true, false, ◌||◌, not, IsTrue, List, [], ◌∷◌, ◌++◌, length, Option}
+use Rattle.std.proofs.Common.{◌≡◌, ℕ, Bool, true, false, ◌||◌, not, IsTrue, List, [], ◌∷◌, ◌++◌, length, Option}
 use Rattle.std.proofs.Common.{Some, None, slice_get, refl, sym, ap, ◌∙◌, subst, true≢false, if◌then◌else◌}
 use Rattle.std.specs.Prelude.{nat_eq}
 use Rattle.cat_value.specs.declared.ty.Ty.{Ty}
 use Rattle.cat_value.specs.declared.ty.Ty.TheVariants as flat_ty
 use Rattle.cat_value.specs.declared.value.Value.{Value}
-use Rattle.cat_value.specs.declared.value.Value.TheViews as value
 use Rattle.cat_value.specs.declared.decls.Decls.{Decls}
 use Rattle.cat_value.specs.declared.declaration.Kind.{Kind}
 use Rattle.cat_value.specs.declared.declaration.Kind.TheVariants as kind
@@ -18,7 +17,7 @@ use Rattle.cat_scope.specs.Runs.{Run, plain}
 use Rattle.cat_scope.specs.Names.{Names, AllHave, is_in, is_called}
 use Rattle.cat_scope.specs.Names.{has_none, is_function}
 use Rattle.cat_scope.specs.Naming.{IsFunction}
-use Rattle.cat_scope.specs.Judging.{Judged, decided}
+use Rattle.cat_scope.specs.Judging.{Judged}
 use Rattle.cat_scope.specs.Targets.{same_inner, same_target, condition_of, absent, value_or}
 use Rattle.cat_scope.specs.Eval.{Env, eval}
 use Rattle.cat_scope.specs.Composed.{part}

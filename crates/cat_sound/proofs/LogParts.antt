@@ -1,12 +1,11 @@
 -- A property of logs that the empty log has, and two logs together where both have it: where the logs of scopes that
 -- are run have it, so has what expressions, judgings and items log.
-use Rattle.std.proofs.Common.{◌≡◌, ℕ, zero, suc, ◌+◌, Bool, true, false, List, [], ◌∷◌, ◌++◌, map, length, Option, Some}
+use Rattle.std.proofs.Common.{◌≡◌, ℕ, zero, suc, Bool, true, false, List, [], ◌∷◌, ◌++◌, map, length, Option, Some}
 use Rattle.std.proofs.Common.{None, Result, Ok, Err, slice_get, refl, sym, ap, ◌∙◌, subst, pos, if◌then◌else◌}
 use Rattle.std.specs.Prelude.{nat_eq}
 use Rattle.cat_value.specs.declared.value.Value.{Value}
 use Rattle.cat_value.specs.declared.value.Value.TheVariants as flat
 use Rattle.cat_value.specs.declared.value.Value.TheViews as value
-use Rattle.cat_value.specs.declared.declaration.Kind.TheVariants as kind
 use Rattle.cat_value.specs.declared.outcome.Target.{Target}
 use Rattle.cat_scope.specs.declared.stop.Stop.{Stop}
 use Rattle.cat_scope.specs.declared.defs.Def.{Def}
@@ -30,8 +29,6 @@ use Rattle.cat_scope.specs.Targets.{defs_from, condition_of, held_as, judge_def,
 use Rattle.cat_scope.specs.Eval.{Env, eval, meaning_of}
 use Rattle.cat_scope.specs.Composed.{Meaning, part, all_of, field_values, structured, arm_locals, arm_value, matched}
 use Rattle.cat_scope.specs.Composed.{listed}
-use Rattle.cat_scope.specs.Calls.{scope_call}
-use Rattle.cat_scope.specs.Calls.{call}
 use Rattle.cat_value.specs.declared.outcome.FaultKind.TheVariants.{AssertionFailed}
 use Rattle.cat_scope.specs.declared.stop.Stop.TheVariants.{Fault}
 use Rattle.cat_scope.specs.declared.defs.Assertion.{Assertion}

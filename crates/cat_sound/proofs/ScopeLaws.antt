@@ -1,7 +1,6 @@
 -- A scope is run where the scopes that it calls give what their runs give.
 use Rattle.std.proofs.Common.{◌≡◌, ℕ, zero, suc, ◌<◌, Bool, true, false, IsTrue, List, [], ◌∷◌, length, Some}
 use Rattle.std.proofs.Common.{slice_get, refl, sym, ap, ◌∙◌, subst, arith, true≢false, if◌then◌else◌}
-use mathlib.Core.Path.{fun_ext}
 use Rattle.std.specs.Prelude.{nat_eq}
 use Rattle.std.proofs.lemmas.Bool.Decides.{nat_tests}
 use Rattle.std.proofs.lemmas.Option.{slice_get_within}
@@ -12,11 +11,9 @@ use Rattle.std.specs.Coded.{le_prop}
 use Rattle.cat_order.specs.Order.{dependencies_of}
 use Rattle.cat_value.specs.declared.decls.Decls.{Decls}
 use Rattle.cat_value.specs.declared.declaration.Scope.{Scope}
-use Rattle.cat_scope.specs.declared.defs.Assertion.{Assertion}
 use Rattle.cat_scope.specs.declared.defs.Body.{Body}
 use Rattle.cat_scope.specs.declared.defs.SourcePart.{SourcePart}
 use Rattle.cat_scope.specs.declared.defs.SourcePart.TheVariants as part
-use Rattle.cat_scope.specs.Runs.{gives}
 use Rattle.cat_scope.specs.Names.{AllHave, is_in}
 use Rattle.cat_scope.specs.Orders.{calls_in, scope_dependencies}
 use Rattle.cat_scope.specs.WellFormed.{IsWhole, IsWellFormed}

@@ -1,6 +1,6 @@
 -- A property of logs, as in LogParts: where the logs of scopes that are run have it, so has what a scope logs.
 use Rattle.std.proofs.Common.{◌≡◌, ℕ, ◌+◌, Bool, true, false, List, [], ◌∷◌, ◌++◌, Option, Some}
-use Rattle.std.proofs.Common.{None, Ok, slice_get, pos, if◌then◌else◌}
+use Rattle.std.proofs.Common.{None, Ok, slice_get, if◌then◌else◌}
 use Rattle.std.specs.Prelude.{nat_eq}
 use Rattle.cat_pos.specs.declared.pos.Pos.{Pos}
 use Rattle.cat_value.specs.declared.value.Value.{Value}

@@ -4,7 +4,6 @@ use Rattle.std.proofs.Common.{Some, None, slice_get, refl, sym, ap, ◌∙◌, t
 use Rattle.cat_value.specs.declared.ty.Ty.{Ty}
 use Rattle.cat_value.specs.declared.ty.Ty.TheVariants as flat_ty
 use Rattle.cat_value.specs.declared.value.Value.{Value}
-use Rattle.cat_value.specs.declared.value.Value.TheViews as value
 use Rattle.cat_value.specs.declared.decls.Decls.{Decls}
 use Rattle.cat_value.specs.declared.declaration.Kind.{Kind}
 use Rattle.cat_value.specs.declared.declaration.Kind.TheVariants as kind
@@ -22,7 +21,7 @@ use Rattle.cat_scope.specs.Orders.{in_def, called_by_items}
 use Rattle.cat_scope.specs.Mentions.{scopes_named}
 use Rattle.cat_scope.specs.WellFormed.{ConditionTyped, DefTyped, AssertionTyped}
 use Rattle.cat_scope.specs.Naming.{IsTargetAt}
-use Rattle.cat_scope.specs.Calls.{Items, Scoped, variable}
+use Rattle.cat_scope.specs.Calls.{Items, Scoped}
 use Rattle.cat_sound.specs.Endings.{Allowed, EndsIn, ResultsIn, IsOf, AreOf}
 use Rattle.cat_sound.specs.Endings.{IsEnvOf}
 use Rattle.cat_sound.specs.Settled.{InCondition, StandsIn, AreSettled}
