@@ -36,13 +36,17 @@ passed_input judged_at target_at pos n (decl ∷ decls) =
     else gives None)
     (passed_input judged_at target_at pos (n + 1) decls)
 
+-- the judging of input or context n of a called scope
+abbrev pub inner_judging : Scoped → List ℕ → Items → ℕ → ℕ → Judged Value
+inner_judging scoped before values item n =
+    judging_of scoped (call scoped values before) values [] (variable_of_called scoped item n)
+
 -- a called scope: its inputs and contexts are judged, and then it is run
 abbrev pub called_value : Scoped → List ℕ → Items → ℕ → ItemDecl → ℕ → Run Value
 called_value scoped before values item decl called =
     and_then
-    (passed_input
-    (λ n. judging_of scoped (call scoped values before) values [] (variable_of_called scoped item n))
-    (variable_of_called scoped item) decl.pos 0 (items_of scoped called))
+    (passed_input (inner_judging scoped before values item) (variable_of_called scoped item) decl.pos 0
+    (items_of scoped called))
     (λ input. and_then (scoped.runs called input) (λ outputs. gives (value.Structure outputs)))
 
 -- a function is passed over, and any other variable is judged

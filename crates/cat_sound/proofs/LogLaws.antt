@@ -59,7 +59,7 @@ module _ (scoped : Scoped) (input : Items) where
   Made log = IsMadeOf scoped input log
 
   together : (xs ys : List Decider) → Made xs → Made ys → Made (xs ++ ys)
-  together xs ys h g = logs.behind xs ys h g
+  together xs ys h g = logs.joined xs ys h g
 
   item_made : (front : List ℕ) (item : ℕ) (left : List ℕ) (values : Items) → scoped.body.order ≡ front ++ item ∷ left
       → (run_items scoped input [] (no_values scoped.items) front).end ≡ Ok values

@@ -33,7 +33,7 @@ pub data IsMadeOf (scoped : Scoped) (input : Items) : List Decider → Type 0 wh
   nothing : IsMadeOf scoped input []
   own : (decider : Decider) → WasJudged scoped input decider → IsMadeOf scoped input (decider ∷ [])
   within : (scope : ℕ) (its_input : Items) → IsMadeOf scoped input (scoped.runs scope its_input).log
-  behind : (log more : List Decider) → IsMadeOf scoped input log → IsMadeOf scoped input more
+  joined : (log more : List Decider) → IsMadeOf scoped input log → IsMadeOf scoped input more
       → IsMadeOf scoped input (log ++ more)
 
 -- how often a log tells of a target
