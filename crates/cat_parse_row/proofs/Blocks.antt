@@ -24,17 +24,19 @@ use Rattle.cat_tree.specs.Uses.{lead_parts}
 use Rattle.cat_tree.specs.Uses.{rounding_word, use_parts}
 use Rattle.cat_tree.specs.Programs.{condition_parts, block_parts}
 use Rattle.cat_parse_row.specs.declared.cue.Cue.TheVariants as cue
-use Rattle.cat_parse_row.specs.Reader.{Reader, ◌⨟◌, done, heads, by_word, both, optional, many}
+use Rattle.cat_parse_row.specs.Reader.{Reader, ◌⨟◌, pure, heads, by_word, both, optional, many}
 use Rattle.cat_parse_row.specs.Right.{Outside, IsRight}
 use Rattle.cat_parse_row.specs.Cues.{«word», upper}
 use Rattle.cat_parse_row.specs.Declarations.{key_word, is_word, is_lower}
 use Rattle.cat_parse_row.specs.Leads.{lead}
-use Rattle.cat_parse_row.specs.Uses.{is_use, is_item, behind_use, behind_expression, is_under, condition, Tail, Defined}
-use Rattle.cat_parse_row.specs.Uses.{Ruled, defined, ruled, tail, use_of, asserted, direction, is_rounding, rounded}
+use Rattle.cat_parse_row.specs.Uses.{is_use, is_item, behind_use, behind_expression}
+use Rattle.cat_parse_row.specs.Tails.{is_under, condition, Tail, Defined}
+use Rattle.cat_parse_row.specs.Uses.{asserted, direction, is_rounding, rounded}
+use Rattle.cat_parse_row.specs.Tails.{Ruled, defined, ruled, tail, use_of}
 use Rattle.cat_parse_row.specs.Uses.{a_use}
 use Rattle.cat_parse_row.specs.Programs.{block}
 use Rattle.cat_parse_row.specs.Exactly.{expression_row, ReadsExpressions}
-use Rattle.cat_parse_row.proofs.Steps.{done_right}
+use Rattle.cat_parse_row.proofs.Steps.{pure_right}
 use Rattle.cat_parse_row.proofs.Sequel.{part_right}
 use Rattle.cat_parse_row.proofs.Choices.{Opens, OptionFits, optional_right, reshaped, made_right, choice_right}
 use Rattle.cat_parse_row.proofs.Choices.{narrowed, opens_word}
@@ -119,8 +121,8 @@ direction_right : (bound : ℕ)
     → IsRight bound any_word Any (λ up. Word (Anywhere (kind.Word (rounding_word up))) End) direction
 direction_right bound =
     choice_right bound any_word (is_word key.Increasing) Any (λ up. up ≡ true) (λ up. up ≡ false)
-    (λ up. Word (Anywhere (kind.Word (rounding_word up))) End) (key_word key.Increasing ⨟ λ q. done true)
-    (key_word key.Decreasing ⨟ λ q. done false)
+    (λ up. Word (Anywhere (kind.Word (rounding_word up))) End) (key_word key.Increasing ⨟ λ q. pure true)
+    (key_word key.Decreasing ⨟ λ q. pure false)
     (record {
       either = either;
       from_yes = λ up f. tt;
@@ -133,24 +135,24 @@ direction_right bound =
           ∙ ap (λ (b : Bool). is_word key.Increasing (kind.Word (rounding_word b))) f;
     })
     (reshaped bound any_word (λ up. up ≡ true) (λ up. up ≡ true) (λ up. Word (Anywhere (kind.Word key.Increasing)) End)
-    (λ up. Word (Anywhere (kind.Word (rounding_word up))) End) (key_word key.Increasing ⨟ λ q. done true)
+    (λ up. Word (Anywhere (kind.Word (rounding_word up))) End) (key_word key.Increasing ⨟ λ q. pure true)
     (record {
       to = λ up f. f;
       from = λ up f. f;
       rows = λ up f. ap (λ (b : Bool). Word (Anywhere (kind.Word (rounding_word b))) End) (sym f);
     })
-    (word_right bound any_word (cue.Word key.Increasing) (λ (up : Bool). up ≡ true) (λ up. End) (λ q. done true)
-    (λ q. done_right bound any_word (λ up. up ≡ true) true refl (λ up f. f))))
+    (word_right bound any_word (cue.Word key.Increasing) (λ (up : Bool). up ≡ true) (λ up. End) (λ q. pure true)
+    (λ q. pure_right bound any_word (λ up. up ≡ true) true refl (λ up f. f))))
     (reshaped bound any_word (λ up. up ≡ false) (λ up. up ≡ false)
     (λ up. Word (Anywhere (kind.Word key.Decreasing)) End)
-    (λ up. Word (Anywhere (kind.Word (rounding_word up))) End) (key_word key.Decreasing ⨟ λ q. done false)
+    (λ up. Word (Anywhere (kind.Word (rounding_word up))) End) (key_word key.Decreasing ⨟ λ q. pure false)
     (record {
       to = λ up f. f;
       from = λ up f. f;
       rows = λ up f. ap (λ (b : Bool). Word (Anywhere (kind.Word (rounding_word b))) End) (sym f);
     })
-    (word_right bound any_word (cue.Word key.Decreasing) (λ (up : Bool). up ≡ false) (λ up. End) (λ q. done false)
-    (λ q. done_right bound any_word (λ up. up ≡ false) false refl (λ up f. f))))
+    (word_right bound any_word (cue.Word key.Decreasing) (λ (up : Bool). up ≡ false) (λ up. End) (λ q. pure false)
+    (λ q. pure_right bound any_word (λ up. up ≡ false) false refl (λ up f. f))))
   where
     either : (up : Bool) → Any up → (up ≡ true) ⊎ (up ≡ false)
     either true f = inl refl
@@ -162,7 +164,7 @@ rounded_row x = Word (At (kind.Pair pair.DateRound) x.0) (Word (Anywhere (kind.W
 rounded_right : (bound : ℕ) → IsRight bound behind_use Any rounded_row rounded
 rounded_right bound =
     word_at_right bound behind_use (cue.Pair pair.DateRound) Any (λ x. x.0)
-    (λ x. Word (Anywhere (kind.Word (rounding_word x.1))) End) (λ p. direction ⨟ λ up. done (p, up)) λ p.
+    (λ x. Word (Anywhere (kind.Word (rounding_word x.1))) End) (λ p. direction ⨟ λ up. pure (p, up)) λ p.
     last_right bound behind_use Any (λ x. Any x × (x.0 ≡ p)) (λ x. x.1) (λ up. (p, up))
     (λ up. Word (Anywhere (kind.Word (rounding_word up))) End) direction
     (record {
@@ -270,8 +272,8 @@ module _ (ex : Reader Node) (right : ReadsExpressions ex) where
   tail_right : (bound : ℕ) → IsRight bound behind_use Any tail_row (tail ex)
   tail_right bound =
       choice_right bound behind_use (is_word key.Rule) Any (λ y. (x : Meant Fulfilled) × Any x × (y ≡ Ruled x))
-      (λ y. (x : Meant Node) × Any x × (y ≡ Defined x)) tail_row (ruled ex ⨟ λ x. done (Ruled x))
-      (defined ex ⨟ λ x. done (Defined x))
+      (λ y. (x : Meant Node) × Any x × (y ≡ Defined x)) tail_row (ruled ex ⨟ λ x. pure (Ruled x))
+      (defined ex ⨟ λ x. pure (Defined x))
       (record {
         either = either;
         from_yes = λ y f. tt;
@@ -296,7 +298,7 @@ module _ (ex : Reader Node) (right : ReadsExpressions ex) where
       either (Ruled x) f = inl (x, tt, refl)
       either (Defined x) f = inr (x, tt, refl)
 
-  led_right : (bound : ℕ) → IsRight bound behind_use IsLed use_parts (both lead (tail ex) ⨟ λ x. done (use_of x))
+  led_right : (bound : ℕ) → IsRight bound behind_use IsLed use_parts (both lead (tail ex) ⨟ λ x. pure (use_of x))
   led_right bound =
       made_right bound behind_use (BothFit Any Any) (both_rows lead_parts tail_row) use_parts use_of
       (both lead (tail ex)) use_rows
@@ -311,7 +313,7 @@ module _ (ex : Reader Node) (right : ReadsExpressions ex) where
       → IsRight bound behind_use Any (λ x. Word (At (kind.Word key.Assertion) x.0) (expression_row x.1)) (asserted ex)
   asserted_right bound =
       word_at_right bound behind_use (cue.Word key.Assertion) Any (λ x. x.0) (λ x. expression_row x.1)
-      (λ p. ex ⨟ λ e. done (p, e)) λ p.
+      (λ p. ex ⨟ λ e. pure (p, e)) λ p.
       last_right bound behind_use Any (λ x. Any x × (x.0 ≡ p)) (λ x. x.1) (λ e. (p, e)) expression_row ex
       (record {
         to = λ e f. (tt, refl);
@@ -324,9 +326,9 @@ module _ (ex : Reader Node) (right : ReadsExpressions ex) where
   pub use_right : (bound : ℕ) → IsRight bound behind_use Any use_parts (a_use ex)
   use_right bound =
       choice_right bound behind_use (is_word key.Assertion) Any IsAsserted IsOther use_parts
-      (asserted ex ⨟ λ x. done (uses.Assertion x.0 x.1))
-      (by_word is_rounding (rounded ⨟ λ x. done (uses.DateRound x.0 x.1))
-      (both lead (tail ex) ⨟ λ x. done (use_of x)))
+      (asserted ex ⨟ λ x. pure (uses.Assertion x.0 x.1))
+      (by_word is_rounding (rounded ⨟ λ x. pure (uses.DateRound x.0 x.1))
+      (both lead (tail ex) ⨟ λ x. pure (use_of x)))
       (record {
         either = λ y f. either_use y;
         from_yes = λ y f. tt;
@@ -337,7 +339,7 @@ module _ (ex : Reader Node) (right : ReadsExpressions ex) where
       (made_right bound behind_use Any (λ x. Word (At (kind.Word key.Assertion) x.0) (expression_row x.1)) use_parts
       (λ x. uses.Assertion x.0 x.1) (asserted ex) (λ x. refl) (asserted_right bound))
       (choice_right bound behind_use is_rounding IsOther IsRounded IsLed use_parts
-      (rounded ⨟ λ x. done (uses.DateRound x.0 x.1)) (both lead (tail ex) ⨟ λ x. done (use_of x))
+      (rounded ⨟ λ x. pure (uses.DateRound x.0 x.1)) (both lead (tail ex) ⨟ λ x. pure (use_of x))
       (record {
         either = λ y f. f;
         from_yes = λ y f. inl f;
@@ -378,16 +380,16 @@ module _ (ex : Reader Node) (right : ReadsExpressions ex) where
       (λ b. Word (At (kind.Upper b.name.text) b.name.pos)
       (condition_parts b.condition ▸ Word (Anywhere (kind.Symbol symbol.Colon)) (all use_parts b.uses)))
       (λ p. upper ⨟ λ u. optional is_under (condition ex) ⨟ λ c. «word» (cue.Sign symbol.Colon)
-      ⨟ λ q. many is_use (a_use ex) ⨟ λ us. done (record { pos = p; name = u; condition = c; uses = us })) λ p.
+      ⨟ λ q. many is_use (a_use ex) ⨟ λ us. pure (record { pos = p; name = u; condition = c; uses = us })) λ p.
       upper_right bound is_item (λ b. Any b × (b.pos ≡ p)) (λ b. b.name)
       (λ b. condition_parts b.condition ▸ Word (Anywhere (kind.Symbol symbol.Colon)) (all use_parts b.uses))
       (λ u. optional is_under (condition ex) ⨟ λ c. «word» (cue.Sign symbol.Colon) ⨟ λ q. many is_use (a_use ex)
-      ⨟ λ us. done (record { pos = p; name = u; condition = c; uses = us })) λ u.
+      ⨟ λ us. pure (record { pos = p; name = u; condition = c; uses = us })) λ u.
       part_right bound bound is_item is_colon (λ b. (Any b × (b.pos ≡ p)) × (b.name ≡ u)) (OptionFits Any)
       (λ b. b.condition) condition_parts (λ b. Word (Anywhere (kind.Symbol symbol.Colon)) (all use_parts b.uses))
       (optional is_under (condition ex))
       (λ c. «word» (cue.Sign symbol.Colon) ⨟ λ q. many is_use (a_use ex)
-      ⨟ λ us. done (record { pos = p; name = u; condition = c; uses = us }))
+      ⨟ λ us. pure (record { pos = p; name = u; condition = c; uses = us }))
       (record {
         fit = λ b f. any_option b.condition;
         behind =
@@ -400,7 +402,7 @@ module _ (ex : Reader Node) (right : ReadsExpressions ex) where
       (conditions bound) λ c g.
       word_right bound is_item (cue.Sign symbol.Colon) (λ b. ((Any b × (b.pos ≡ p)) × (b.name ≡ u)) × (b.condition ≡ c))
       (λ b. all use_parts b.uses)
-      (λ q. many is_use (a_use ex) ⨟ λ us. done (record { pos = p; name = u; condition = c; uses = us })) λ q.
+      (λ q. many is_use (a_use ex) ⨟ λ us. pure (record { pos = p; name = u; condition = c; uses = us })) λ q.
       last_right bound is_item (AllFit Any) (λ b. ((Any b × (b.pos ≡ p)) × (b.name ≡ u)) × (b.condition ≡ c))
       (λ b. b.uses) (λ us. record { pos = p; name = u; condition = c; uses = us }) (all use_parts)
       (many is_use (a_use ex))

@@ -4,7 +4,7 @@ use Rattle.std.proofs.Common.{None, refl, sym, ap, subst, ◌∙◌, arith, inl,
 use Rattle.cat_lex.specs.declared.token.Token.{Token}
 use Rattle.cat_lex.specs.declared.token.TokenKind.{TokenKind}
 use Rattle.cat_tree.specs.Phrase.{Parts, End, Word, Anywhere, tallest, AreLevelled, AreSpelled}
-use Rattle.cat_parse_row.specs.Reader.{Outcome, Reader, Fails, Reads, left_of, after, ◌⨟◌, done, heads, by_word}
+use Rattle.cat_parse_row.specs.Reader.{Parsed, Reader, Fails, Reads, left_of, after, ◌⨟◌, pure, heads, by_word}
 use Rattle.cat_parse_row.specs.Reader.{optional}
 use Rattle.cat_parse_row.specs.Right.{Agree, Outside, Is, Begun, Took, Taken, Says, Alike, IsRight}
 use Rattle.cat_parse_row.proofs.Steps.{no_front}
@@ -37,13 +37,13 @@ module _ {B : Type 0} (bound : ℕ) (out : TokenKind → Bool) (fits fits2 : B �
   begun_same : (u : List Token) → Begun fits row u → Begun fits2 row2 u
   begun_same u b = record { value = b.value; more = b.more; is = to_second b.value (u ++ b.more) b.is }
 
-  took_same : (o : Outcome B) (u : List Token) → Took fits row o u → Took fits2 row2 o u
+  took_same : (o : Parsed B) (u : List Token) → Took fits row o u → Took fits2 row2 o u
   took_same (Fails left false) u t = begun_same u t
   took_same (Fails left true) u t =
       record { next = t.next; after = t.after; text = t.text; begun = begun_same (u ++ t.next ∷ []) t.begun }
   took_same (Reads y left) u t = (to_second y u t.0, subst (λ (ps : Parts). tallest ps ≤ 256) (s.rows y t.0.fit) t.1)
 
-  says_same : (o : Outcome B) (y : B) (w u : List Token) → fits y → Says row o y w u → Says row2 o y w u
+  says_same : (o : Parsed B) (y : B) (w u : List Token) → fits y → Says row o y w u → Says row2 o y w u
   says_same (Fails left false) y w u fit x = x
   says_same (Fails left true) y w u fit x = λ low. x (subst (λ (ps : Parts). tallest ps ≤ 256) (sym (s.rows y fit)) low)
   says_same (Reads z left) y w u fit x = x
@@ -83,8 +83,8 @@ module _ {A B : Type 0} (bound : ℕ) (out : TokenKind → Bool) (fits : A → T
   begun_made : (u : List Token) → Begun fits row u → Begun made_fits row2 u
   begun_made u b = record { value = f b.value; more = b.more; is = made b.value (u ++ b.more) b.is }
 
-  taken_made : (ts : List Token) (o : Outcome A) → Taken fits row o ts
-      → Taken made_fits row2 (after o (λ x. done (f x))) ts
+  taken_made : (ts : List Token) (o : Parsed A) → Taken fits row o ts
+      → Taken made_fits row2 (after o (λ x. pure (f x))) ts
   taken_made ts (Fails left false) t = record { front = t.front; text = t.text; took = begun_made t.front t.took }
   taken_made ts (Fails left true) t =
       record {
@@ -105,12 +105,12 @@ module _ {A B : Type 0} (bound : ℕ) (out : TokenKind → Bool) (fits : A → T
         took = (made x t.front t.took.0, subst (λ (ps : Parts). tallest ps ≤ 256) (sym (rows x)) t.took.1);
       }
 
-  says_made : (ts : List Token) (o : Outcome A)
+  says_made : (ts : List Token) (o : Parsed A)
       → ((front : List Token) (x : A) (w : List Token) → ts ≡ front ++ left_of o
       → Alike out fits row (left_of o) front x w → Says row o x w front)
-      → (front : List Token) (y : B) (w : List Token) → ts ≡ front ++ left_of (after o (λ x. done (f x)))
-      → Alike out made_fits row2 (left_of (after o (λ x. done (f x)))) front y w
-      → Says row2 (after o (λ x. done (f x))) y w front
+      → (front : List Token) (y : B) (w : List Token) → ts ≡ front ++ left_of (after o (λ x. pure (f x)))
+      → Alike out made_fits row2 (left_of (after o (λ x. pure (f x)))) front y w
+      → Says row2 (after o (λ x. pure (f x))) y w front
   says_made ts o says front y w text a = by o says text a.agree
     where
       inner : Is fits row a.is.fit.0 w
@@ -126,18 +126,18 @@ module _ {A B : Type 0} (bound : ℕ) (out : TokenKind → Bool) (fits : A → T
       alike left g =
           record { others = a.others; behind = a.behind; agree = g; is = inner; outside = a.outside; text = a.text }
 
-      by : (o : Outcome A)
+      by : (o : Parsed A)
           → ((front : List Token) (x : A) (w : List Token) → ts ≡ front ++ left_of o
           → Alike out fits row (left_of o) front x w → Says row o x w front)
-          → ts ≡ front ++ left_of (after o (λ x. done (f x))) → Agree (left_of (after o (λ x. done (f x)))) a.others
-          → Says row2 (after o (λ x. done (f x))) y w front
+          → ts ≡ front ++ left_of (after o (λ x. pure (f x))) → Agree (left_of (after o (λ x. pure (f x)))) a.others
+          → Says row2 (after o (λ x. pure (f x))) y w front
       by (Fails left false) s t g = s front a.is.fit.0 w t (alike left g)
       by (Fails left true) s t g =
           λ low. s front a.is.fit.0 w t (alike left g)
           (subst (λ (ps : Parts). tallest ps ≤ 256) (ap row2 a.is.fit.2 ∙ rows a.is.fit.0) low)
       by (Reads x left) s t g = let e = s front a.is.fit.0 w t (alike left g) in (a.is.fit.2 ∙ ap f e.0, e.1)
 
-  pub made_right : IsRight bound out (λ y. (x : A) × fits x × (y ≡ f x)) row2 (r ⨟ λ x. done (f x))
+  pub made_right : IsRight bound out (λ y. (x : A) × fits x × (y ≡ f x)) row2 (r ⨟ λ x. pure (f x))
   made_right = record {
     alive = begun_made [] right.alive;
     taken = λ ts le. taken_made ts (r ts) (right.taken ts le);
@@ -164,7 +164,7 @@ pub record Decides {B : Type 0} (out test : TokenKind → Bool) (fits yes_fits n
   pub on : (y : B) (w v : List Token) → yes_fits y → AreSpelled (row y) w → Outside out v → heads test (w ++ v) ≡ true
   pub off : (y : B) (w v : List Token) → no_fits y → AreSpelled (row y) w → Outside out v → heads test (w ++ v) ≡ false
 
-widened : {B : Type 0} (fits fits2 : B → Type 0) (row : B → Parts) (o : Outcome B) (u : List Token)
+widened : {B : Type 0} (fits fits2 : B → Type 0) (row : B → Parts) (o : Parsed B) (u : List Token)
     → ((y : B) → fits y → fits2 y) → Took fits row o u → Took fits2 row o u
 widened fits fits2 row (Fails left false) u f t =
     record {
@@ -268,7 +268,7 @@ module _ {B : Type 0} (bound : ℕ) (out test : TokenKind → Bool) (fits yes_fi
 -- ---- nothing, and what may be there
 
 pub none_right : {B : Type 0} → (bound : ℕ) (out : TokenKind → Bool) (row : B → Parts) (x : B) → row x ≡ End
-    → IsRight bound out (λ y. y ≡ x) row (done x)
+    → IsRight bound out (λ y. y ≡ x) row (pure x)
 none_right bound out row x e =
     let is : Is (λ y. y ≡ x) row x [] =
     record {
@@ -331,7 +331,7 @@ pub optional_right : {A : Type 0}
     → IsRight bound out fits row r → IsRight bound out (OptionFits fits) row2 (optional start r)
 optional_right {A = A} bound out start fits row row2 r opens off none some right =
     choice_right bound out start (OptionFits fits) (λ y. (x : A) × fits x × (y ≡ Some x)) (λ y. y ≡ None) row2
-    (r ⨟ λ x. done (Some x)) (done None)
+    (r ⨟ λ x. pure (Some x)) (pure None)
     (option_decides out start fits row row2 opens off none some)
     (made_right bound out fits row row2 (λ x. Some x) r some right)
     (none_right bound out row2 None none)

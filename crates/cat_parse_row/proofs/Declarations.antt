@@ -10,7 +10,7 @@ use Rattle.cat_tree.specs.Phrase.{End, Word, At, Anywhere}
 use Rattle.cat_tree.specs.Literals.{type_parts}
 use Rattle.cat_tree.specs.Declarations.{typed_parts, field_parts, content_parts, case_parts}
 use Rattle.cat_parse_row.specs.declared.cue.Cue.TheVariants as cue
-use Rattle.cat_parse_row.specs.Reader.{◌⨟◌, done, optional}
+use Rattle.cat_parse_row.specs.Reader.{◌⨟◌, pure, optional}
 use Rattle.cat_parse_row.specs.Right.{IsRight}
 use Rattle.cat_parse_row.specs.Cues.{upper}
 use Rattle.cat_parse_row.specs.Types.{a_type}
@@ -27,9 +27,9 @@ Any x = Unit {0}
 pub typed_right : (bound : ℕ) (out : TokenKind → Bool) → IsRight bound out Any typed_parts typed_name
 typed_right bound out =
     lower_right bound out Any (λ y. y.name) (λ y. Word (Anywhere (kind.Word key.Content)) (type_parts y.ty End))
-    (λ w. key_word key.Content ⨟ λ p. a_type ⨟ λ t. done (record { name = w; ty = t })) λ w.
+    (λ w. key_word key.Content ⨟ λ p. a_type ⨟ λ t. pure (record { name = w; ty = t })) λ w.
     word_right bound out (cue.Word key.Content) (λ y. Any y × (y.name ≡ w)) (λ y. type_parts y.ty End)
-    (λ p. a_type ⨟ λ t. done (record { name = w; ty = t })) λ p.
+    (λ p. a_type ⨟ λ t. pure (record { name = w; ty = t })) λ p.
     last_right bound out Any (λ y. Any y × (y.name ≡ w)) (λ y. y.ty) (λ t. record { name = w; ty = t })
     (λ t. type_parts t End) a_type
     (record {
@@ -54,9 +54,9 @@ pub case_right : (bound : ℕ) (out : TokenKind → Bool) → ((k : TokenKind) �
 case_right bound out off =
     word_right bound out (cue.Sign symbol.MinusMinus) Any
     (λ y. Word (At (kind.Upper y.name.text) y.name.pos) (content_parts y.content))
-    (λ p. upper ⨟ λ u. optional is_content content ⨟ λ t. done (record { name = u; content = t })) λ p.
+    (λ p. upper ⨟ λ u. optional is_content content ⨟ λ t. pure (record { name = u; content = t })) λ p.
     upper_right bound out Any (λ y. y.name) (λ y. content_parts y.content)
-    (λ u. optional is_content content ⨟ λ t. done (record { name = u; content = t })) λ u.
+    (λ u. optional is_content content ⨟ λ t. pure (record { name = u; content = t })) λ u.
     last_right bound out (OptionFits Any) (λ y. Any y × (y.name ≡ u)) (λ y. y.content)
     (λ t. record { name = u; content = t }) content_parts (optional is_content content)
     (record {

@@ -9,7 +9,7 @@ use Rattle.cat_tree.specs.declared.program.Item.{Item}
 use Rattle.cat_tree.specs.declared.program.Tree.{Tree}
 use Rattle.cat_tree.specs.Joined.{all}
 use Rattle.cat_tree.specs.Programs.{is_filled, are_filled, item_parts, SpellsProgram, BeginsProgram}
-use Rattle.cat_parse_row.specs.Reader.{Outcome, Reader, Fails, Reads, left_of, after}
+use Rattle.cat_parse_row.specs.Reader.{Parsed, Reader, Fails, Reads, left_of, after}
 use Rattle.cat_parse_row.specs.Right.{Agree, Is, Begun, Taken, Says, Alike, IsRight}
 use Rattle.cat_parse_row.specs.Uses.{is_item}
 use Rattle.cat_parse_row.specs.Programs.{an_item, items, to_end, program}
@@ -67,7 +67,7 @@ agree_self : (ts : List Token) → Agree ts ts
 agree_self [] = tt
 agree_self (p ∷ ts) = refl
 
-abbrev Sayer : List Token → Outcome (List Item) → Type 0
+abbrev Sayer : List Token → Parsed (List Item) → Type 0
 Sayer tokens o =
     (front : List Token) (y : List Item) (w : List Token) → tokens ≡ front ++ left_of o
     → Alike nothing (AllFit Filled) (all item_parts) (left_of o) front y w → Says (all item_parts) o y w front
@@ -98,7 +98,7 @@ all_of tokens front left text t s =
       text = append-nil tokens ∙ text;
     }
 
-exact_of : (tokens : List Token) (o : Outcome (List Item)) → Taken (AllFit Filled) (all item_parts) o tokens
+exact_of : (tokens : List Token) (o : Parsed (List Item)) → Taken (AllFit Filled) (all item_parts) o tokens
     → Sayer tokens o → Exactly tokens (after o to_end)
 exact_of tokens (Fails left false) t says = (
   t.front,

@@ -24,7 +24,7 @@ use Rattle.cat_tree.specs.Declarations.{typed_parts, field_parts, content_parts,
 use Rattle.cat_tree.specs.Programs.{block_parts, item_parts, is_filled, condition_parts}
 use Rattle.cat_tree.specs.Uses.{use_parts}
 use Rattle.cat_parse_row.specs.declared.cue.Cue.TheVariants as cue
-use Rattle.cat_parse_row.specs.Reader.{Reader, ◌⨟◌, done, heads, by_word, many, some}
+use Rattle.cat_parse_row.specs.Reader.{Reader, ◌⨟◌, pure, heads, by_word, many, some}
 use Rattle.cat_parse_row.specs.Right.{IsRight}
 use Rattle.cat_parse_row.specs.Cues.{«word», upper}
 use Rattle.cat_parse_row.specs.Declarations.{is_word, is_content, field, a_case, a_variable}
@@ -141,12 +141,12 @@ named_right : {A : Type 0} (bound : ℕ) (out : TokenKind → Bool) (k : Keyword
 named_right {A = A} bound out k fits row r right =
     word_right bound out (cue.Word k) (λ (x : Name × A). fits x.1)
     (λ x. Word (At (kind.Upper x.0.text) x.0.pos) (Word (Anywhere (kind.Symbol symbol.Colon)) (row x.1)))
-    (λ p. upper ⨟ λ u. «word» (cue.Sign symbol.Colon) ⨟ λ q. r ⨟ λ x. done (u, x)) λ p.
+    (λ p. upper ⨟ λ u. «word» (cue.Sign symbol.Colon) ⨟ λ q. r ⨟ λ x. pure (u, x)) λ p.
     upper_right bound out (λ (x : Name × A). fits x.1) (λ x. x.0)
     (λ x. Word (Anywhere (kind.Symbol symbol.Colon)) (row x.1))
-    (λ u. «word» (cue.Sign symbol.Colon) ⨟ λ q. r ⨟ λ x. done (u, x)) λ u.
+    (λ u. «word» (cue.Sign symbol.Colon) ⨟ λ q. r ⨟ λ x. pure (u, x)) λ u.
     word_right bound out (cue.Sign symbol.Colon) (λ (x : Name × A). fits x.1 × (x.0 ≡ u)) (λ x. row x.1)
-    (λ q. r ⨟ λ x. done (u, x)) λ q.
+    (λ q. r ⨟ λ x. pure (u, x)) λ q.
     last_right bound out fits (λ (x : Name × A). fits x.1 × (x.0 ≡ u)) (λ x. x.1) (λ x. (u, x)) row r
     (record {
       to = λ x f. (f, refl);
@@ -198,13 +198,13 @@ scope_head test d w v f s =
     ∙ ap test t.3
 
 abbrev structures : Reader Declared
-structures = named key.Structure (some (is_word key.Data) field) ⨟ λ x. done (Structures x)
+structures = named key.Structure (some (is_word key.Data) field) ⨟ λ x. pure (Structures x)
 
 abbrev enumerations : Reader Declared
-enumerations = named key.Enumeration (some is_dashes a_case) ⨟ λ x. done (Enumerations x)
+enumerations = named key.Enumeration (some is_dashes a_case) ⨟ λ x. pure (Enumerations x)
 
 abbrev scopes : Reader Declared
-scopes = named key.Scope (many is_variable a_variable) ⨟ λ x. done (Scopes x)
+scopes = named key.Scope (many is_variable a_variable) ⨟ λ x. pure (Scopes x)
 
 declared_right : (bound : ℕ) → IsRight bound is_item IsDeclared declared_row declared
 declared_right bound =
@@ -250,7 +250,7 @@ declaration_row x = Word (At (kind.Word key.Declaration) x.0) (declared_row x.1)
 declaration_right : (bound : ℕ) → IsRight bound is_item (λ x. IsDeclared x.1) declaration_row declaration
 declaration_right bound =
     word_at_right bound is_item (cue.Word key.Declaration) (λ (x : Pos × Declared). IsDeclared x.1) (λ x. x.0)
-    (λ x. declared_row x.1) (λ p. declared ⨟ λ x. done (p, x)) λ p.
+    (λ x. declared_row x.1) (λ p. declared ⨟ λ x. pure (p, x)) λ p.
     last_right bound is_item IsDeclared (λ (x : Pos × Declared). IsDeclared x.1 × (x.0 ≡ p)) (λ x. x.1)
     (λ x. (p, x)) declared_row declared
     (record {
@@ -324,7 +324,7 @@ pub item_right : (ex : Reader Node) → ReadsExpressions ex → (bound : ℕ)
     → IsRight bound is_item Filled item_parts (an_item ex)
 item_right ex right bound =
     choice_right bound is_item (is_word key.Declaration) Filled IsDeclaration IsBlock item_parts
-    (declaration ⨟ λ x. done (item_of x)) (block ex ⨟ λ b. done (item.Block b))
+    (declaration ⨟ λ x. pure (item_of x)) (block ex ⨟ λ b. pure (item.Block b))
     (record {
       either = λ i f. either_item i f;
       from_yes = λ i f. subst Filled (sym f.2) (filled_declared f.0.1 f.0.0 f.1);

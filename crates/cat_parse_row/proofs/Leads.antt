@@ -13,12 +13,12 @@ use Rattle.cat_tree.specs.declared.program.Exception.TheVariants as exception
 use Rattle.cat_tree.specs.Phrase.{Parts, End, Word, At, AreSpelled}
 use Rattle.cat_tree.specs.Uses.{label_parts, exception_parts, lead_parts, name_parts}
 use Rattle.cat_parse_row.specs.declared.cue.Cue.TheVariants as cue
-use Rattle.cat_parse_row.specs.Reader.{◌⨟◌, after, made_of, done, heads, optional}
+use Rattle.cat_parse_row.specs.Reader.{◌⨟◌, after, made_of, pure, heads, optional}
 use Rattle.cat_parse_row.specs.Right.{Outside, IsRight}
 use Rattle.cat_parse_row.specs.Cues.{lower_of, lower}
 use Rattle.cat_parse_row.specs.Declarations.{is_word, is_lower}
 use Rattle.cat_parse_row.specs.Leads.{label, exception_at, exception_of, an_exception, lead}
-use Rattle.cat_parse_row.proofs.Steps.{done_right}
+use Rattle.cat_parse_row.proofs.Steps.{pure_right}
 use Rattle.cat_parse_row.proofs.Sequel.{part_right}
 use Rattle.cat_parse_row.proofs.Choices.{Opens, OptionFits, optional_right, reshaped, made_right}
 use Rattle.cat_parse_row.proofs.Leaves.{word_at_right, lower_right}
@@ -38,19 +38,19 @@ any_list (x ∷ xs) = (tt, any_list xs)
 
 -- ---- a name alone
 
-name_done : (ts : List Token) → (lower ⨟ λ w. done w) ts ≡ lower ts
-name_done [] = refl
-name_done (t ∷ ts) = by (lower_of t)
+name_pure : (ts : List Token) → (lower ⨟ λ w. pure w) ts ≡ lower ts
+name_pure [] = refl
+name_pure (t ∷ ts) = by (lower_of t)
   where
-    by : (o : Option Name) → after (made_of o (t ∷ ts) ts) (λ w. done w) ≡ made_of o (t ∷ ts) ts
+    by : (o : Option Name) → after (made_of o (t ∷ ts) ts) (λ w. pure w) ≡ made_of o (t ∷ ts) ts
     by None = refl
     by (Some w) = refl
 
 pub name_right : (bound : ℕ) (out : TokenKind → Bool) → IsRight bound out Any name_parts lower
 name_right bound out =
-    same_reader bound out Any name_parts (lower ⨟ λ w. done w) lower name_done
-    (lower_right bound out Any (λ w. w) (λ w. End) (λ w. done w)
-    (λ x. done_right bound out (λ w. Any w × (w ≡ x)) x (tt, refl) (λ w f. f.1)))
+    same_reader bound out Any name_parts (lower ⨟ λ w. pure w) lower name_pure
+    (lower_right bound out Any (λ w. w) (λ w. End) (λ w. pure w)
+    (λ x. pure_right bound out (λ w. Any w × (w ≡ x)) x (tt, refl) (λ w f. f.1)))
 
 pub opens_at : {A : Type 0} (start : TokenKind → Bool) (k : A → TokenKind) (at : A → Pos) (fits : A → Type 0)
     (rest : A → Parts) → ((x : A) → start (k x) ≡ true) → Opens start fits (λ x. Word (At (k x) (at x)) (rest x))
@@ -65,7 +65,7 @@ opens_at start k at fits rest e =
 pub label_right : (bound : ℕ) (out : TokenKind → Bool) → IsRight bound out Any (λ l. label_parts (Some l)) label
 label_right bound out =
     word_at_right bound out (cue.Word key.Label) Any (λ l. l.pos) (λ l. name_parts l.name)
-    (λ p. lower ⨟ λ w. done (record { pos = p; name = w })) λ p.
+    (λ p. lower ⨟ λ w. pure (record { pos = p; name = w })) λ p.
     last_right bound out Any (λ l. Any l × (l.pos ≡ p)) (λ l. l.name)
     (λ w. record { pos = p; name = w }) name_parts lower
     (record {
@@ -84,7 +84,7 @@ exception_at_right : (bound : ℕ) (out : TokenKind → Bool) → ((k : TokenKin
     → IsRight bound out Any (λ x. Word (At (kind.Word key.Exception) x.0) (inner_name x.1)) exception_at
 exception_at_right bound out off =
     word_at_right bound out (cue.Word key.Exception) Any (λ x. x.0) (λ x. inner_name x.1)
-    (λ p. optional is_lower lower ⨟ λ w. done (p, w)) λ p.
+    (λ p. optional is_lower lower ⨟ λ w. pure (p, w)) λ p.
     last_right bound out (OptionFits Any) (λ x. Any x × (x.0 ≡ p)) (λ x. x.1) (λ w. (p, w)) inner_name
     (optional is_lower lower)
     (record {
@@ -160,7 +160,7 @@ pub lead_right : (bound : ℕ) (out : TokenKind → Bool) → ((k : TokenKind) �
 lead_right bound out off off2 off3 =
     part_right bound bound out (behind_label out) Any (OptionFits Any) (λ l. l.label) label_parts
     (λ l. exception_parts l.exception) (optional (is_word key.Label) label)
-    (λ l. an_exception ⨟ λ e. done (record { label = l; exception = e }))
+    (λ l. an_exception ⨟ λ e. pure (record { label = l; exception = e }))
     (record {
       fit = λ l f. any_option l.label;
       behind = λ l w v f s o. exception_behind l.exception w v s out off3 o;

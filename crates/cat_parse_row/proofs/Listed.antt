@@ -10,7 +10,7 @@ use Rattle.cat_tree.specs.Phrase.{Parts, End, Word, Anywhere, AreSpelled}
 use Rattle.cat_tree.specs.Joined.{all, behind_comma, with_commas}
 use Rattle.cat_parse_row.specs.declared.cue.Cue.{Cue}
 use Rattle.cat_parse_row.specs.declared.cue.Cue.TheVariants as cue
-use Rattle.cat_parse_row.specs.Reader.{Outcome, Reader, Reads, ◌⨟◌, done, heads, both, many, some}
+use Rattle.cat_parse_row.specs.Reader.{Parsed, Reader, Reads, ◌⨟◌, pure, heads, both, many, some}
 use Rattle.cat_parse_row.specs.Right.{Outside, Taken, IsRight}
 use Rattle.cat_parse_row.specs.Cues.{kind_of, cue_is, «word»}
 use Rattle.cat_parse_row.specs.Declarations.{is_comma, comma, listed, led}
@@ -32,7 +32,7 @@ pub no_longer : {A : Type 0} (bound : ℕ) (out : TokenKind → Bool) (fits : A 
     → IsRight bound out fits row r → (ts : List Token) (x : A) (left : List Token) → length ts ≤ bound → r ts
     ≡ Reads x left → length left ≤ bound
 no_longer {A = A} bound out fits row r h ts x left le e =
-    let t = subst (λ (o : Outcome A). Taken fits row o ts) e (h.taken ts le) in
+    let t = subst (λ (o : Parsed A). Taken fits row o ts) e (h.taken ts le) in
     omega (arith, le, ap length t.text, length-append t.front left)
 
 -- a list that isn't empty, all of whose members fit
@@ -82,7 +82,7 @@ module _ {A : Type 0} (out : TokenKind → Bool) (fits : A → Type 0) (row : A 
     pub led_right : (bound : ℕ) → IsRight bound out (AllFit fits) row2 (led c r)
     led_right bound =
         choice_right bound out (cue_is c) (AllFit fits) (SomeFit fits) (λ y. y ≡ []) row2 («word» c ⨟ λ p. listed r)
-        (done []) led_decides
+        (pure []) led_decides
         (reshaped bound out (SomeFit fits) (SomeFit fits) (λ y. Word (Anywhere (kind_of c)) (with_commas row y)) row2
         («word» c ⨟ λ p. listed r)
         (record { to = λ y f. f; from = λ y f. f; rows = led_row })

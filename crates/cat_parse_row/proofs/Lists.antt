@@ -5,7 +5,7 @@ use Rattle.cat_lex.specs.declared.token.Token.{Token}
 use Rattle.cat_lex.specs.declared.token.TokenKind.{TokenKind}
 use Rattle.cat_tree.specs.Phrase.{Parts, AreSpelled}
 use Rattle.cat_tree.specs.Joined.{◌▸◌, all}
-use Rattle.cat_parse_row.specs.Reader.{Reader, Reads, ◌⨟◌, done, heads, both, at_most, many}
+use Rattle.cat_parse_row.specs.Reader.{Reader, Reads, ◌⨟◌, pure, heads, both, at_most, many}
 use Rattle.cat_parse_row.specs.Right.{Agree, Outside, IsRight}
 use Rattle.cat_parse_row.proofs.Steps.{no_front, agree_same, spelled_split}
 use Rattle.cat_parse_row.proofs.Sequel.{part_right}
@@ -29,11 +29,11 @@ pub both_right : {A B : Type 0}
     → IsRight bound out (BothFit fits fits2) (both_rows row row2) (both r s)
 both_right {A = A} {B = B} bound inner out next fits fits2 row row2 r s behind shrinks first second =
     part_right bound inner out next (BothFit fits fits2) fits (λ p. p.0) row (λ p. row2 p.1) r
-    (λ x. s ⨟ λ y. done (x, y))
+    (λ x. s ⨟ λ y. pure (x, y))
     (record { fit = λ p f. f.0; behind = λ p w v f. behind p.1 w v f.1; shrinks = shrinks })
     first
     (λ x fit. reshaped inner out (λ p. (y : B) × fits2 y × (p ≡ (x, y))) (λ p. BothFit fits fits2 p × (p.0 ≡ x))
-    (λ p. row2 p.1) (λ p. row2 p.1) (s ⨟ λ y. done (x, y))
+    (λ p. row2 p.1) (λ p. row2 p.1) (s ⨟ λ y. pure (x, y))
     (record {
       to =
           λ p f. let e0 : p.0 ≡ x = ap (λ (q : A × B). q.0) f.2 in
@@ -68,7 +68,7 @@ module _ {A : Type 0} (out next start : TokenKind → Bool) (fits : A → Type 0
       heads_assoc [] b c = refl
       heads_assoc (q ∷ a) b c = refl
 
-  zero_right : IsRight 0 out (AllFit fits) (all row) (done [])
+  zero_right : IsRight 0 out (AllFit fits) (all row) (pure [])
   zero_right = record {
     alive = record { value = []; more = []; is = record { fit = tt; levels = tt; spelled = refl } };
     taken =
@@ -129,7 +129,7 @@ module _ {A : Type 0} (out next start : TokenKind → Bool) (fits : A → Type 0
   at_most_right (suc n) =
       choice_right (suc n) out start (AllFit fits)
       (λ ys. (p : A × List A) × BothFit fits (AllFit fits) p × (ys ≡ p.0 ∷ p.1)) (λ ys. ys ≡ []) (all row)
-      (both r (at_most n start r) ⨟ λ p. done (p.0 ∷ p.1)) (done []) decides
+      (both r (at_most n start r) ⨟ λ p. pure (p.0 ∷ p.1)) (pure []) decides
       (made_right (suc n) out (BothFit fits (AllFit fits)) (both_rows row (all row)) (all row) (λ p. p.0 ∷ p.1)
       (both r (at_most n start r)) (λ p. refl)
       (both_right (suc n) n out next fits (AllFit fits) row (all row) r (at_most n start r) all_behind (shrinks n)

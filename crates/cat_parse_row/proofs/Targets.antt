@@ -10,7 +10,7 @@ use Rattle.cat_tree.specs.Phrase.{Word, Anywhere, AreSpelled}
 use Rattle.cat_tree.specs.Joined.{◌▸◌}
 use Rattle.cat_tree.specs.Uses.{name_parts, inner_parts, names_parts, target_parts}
 use Rattle.cat_parse_row.specs.declared.cue.Cue.TheVariants as cue
-use Rattle.cat_parse_row.specs.Reader.{◌⨟◌, done, optional}
+use Rattle.cat_parse_row.specs.Reader.{◌⨟◌, pure, optional}
 use Rattle.cat_parse_row.specs.Right.{Outside, IsRight}
 use Rattle.cat_parse_row.specs.Cues.{lower}
 use Rattle.cat_parse_row.specs.Declarations.{is_comma, is_word}
@@ -75,10 +75,10 @@ inner_right bound =
 pub target_right : (bound : ℕ) → IsRight bound behind_target Any target_parts target
 target_right bound =
     lower_right bound behind_target Any (λ t. t.name) (λ t. inner_parts t.inner ▸ names_parts t.params)
-    (λ w. optional is_dot inner ⨟ λ i. names ⨟ λ ps. done (record { name = w; inner = i; params = ps })) λ w.
+    (λ w. optional is_dot inner ⨟ λ i. names ⨟ λ ps. pure (record { name = w; inner = i; params = ps })) λ w.
     part_right bound bound behind_target no_dot (λ t. Any t × (t.name ≡ w)) (OptionFits Any) (λ t. t.inner) inner_parts
     (λ t. names_parts t.params) (optional is_dot inner)
-    (λ i. names ⨟ λ ps. done (record { name = w; inner = i; params = ps }))
+    (λ i. names ⨟ λ ps. pure (record { name = w; inner = i; params = ps }))
     (record {
       fit = λ t f. any_option t.inner;
       behind = λ t w v f s o. names_behind t.params w v s o;

@@ -5,7 +5,7 @@ use Rattle.std.proofs.lemmas.List.{append-nil, length-append}
 use Rattle.cat_lex.specs.declared.token.Token.{Token}
 use Rattle.cat_lex.specs.declared.token.TokenKind.{TokenKind}
 use Rattle.cat_tree.specs.Phrase.{Parts, Word, Mark, IsAt}
-use Rattle.cat_parse_row.specs.Reader.{Outcome, Reader, Fails, Reads, left_of, after, ◌⨟◌, made_of, one}
+use Rattle.cat_parse_row.specs.Reader.{Parsed, Reader, Fails, Reads, left_of, after, ◌⨟◌, made_of, one}
 use Rattle.cat_parse_row.specs.Right.{Agree, Is, Begun, Took, Taken, Says, Alike, IsRight}
 use Rattle.cat_parse_row.proofs.Steps.{no_front}
 
@@ -54,7 +54,7 @@ module _ {A B : Type 0} (bound : ℕ) (out : TokenKind → Bool) (fits : B → T
       (right m.made).alive in
       record { value = b.value; more = m.token ∷ b.more; is = is_behind m.token m.made b.value b.more m.sample b.is }
 
-  took_behind : (p : Token) (x : A) (o : Outcome B) (u : List Token) → take p ≡ Some x
+  took_behind : (p : Token) (x : A) (o : Parsed B) (u : List Token) → take p ≡ Some x
       → Took (λ y. fits y × at x y) rest o u → Took fits row o (p ∷ u)
   took_behind p x (Fails left false) u t b = begun_behind p x u t b
   took_behind p x (Fails left true) u t f =
@@ -76,7 +76,7 @@ module _ {A B : Type 0} (bound : ℕ) (out : TokenKind → Bool) (fits : B → T
   taken_one [] le = record { front = []; text = refl; took = alive }
   taken_one (p ∷ ts) le = taken_made p ts (omega (arith, le)) (take p) refl
 
-  says_behind : (p : Token) (o : Outcome B) (y : B) (w u : List Token) → Says rest o y w u
+  says_behind : (p : Token) (o : Parsed B) (y : B) (w u : List Token) → Says rest o y w u
       → Says row o y (p ∷ w) (p ∷ u)
   says_behind p (Fails left false) y w u s = s
   says_behind p (Fails left true) y w u s = s

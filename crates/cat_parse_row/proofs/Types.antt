@@ -15,11 +15,11 @@ use Rattle.cat_tree.specs.declared.name.Type as types
 use Rattle.cat_tree.specs.Phrase.{Parts, End, Word, At, Anywhere, IsAt, AreSpelled}
 use Rattle.cat_tree.specs.Literals.{base_kind, lists_of, type_parts}
 use Rattle.cat_parse_row.specs.declared.cue.Cue.TheVariants as cue
-use Rattle.cat_parse_row.specs.Reader.{Outcome, Reader, left_of, ◌⨟◌, done, one, made_of, after, by_word, heads}
+use Rattle.cat_parse_row.specs.Reader.{Parsed, Reader, left_of, ◌⨟◌, pure, one, made_of, after, by_word, heads}
 use Rattle.cat_parse_row.specs.Right.{Begun, Taken, Says, Alike, IsRight}
 use Rattle.cat_parse_row.specs.Cues.{kind_of, base_of, «word»}
 use Rattle.cat_parse_row.specs.Types.{placed, typed, base_at, is_list_of, type_after, a_type}
-use Rattle.cat_parse_row.proofs.Steps.{done_right, no_front, agree_same}
+use Rattle.cat_parse_row.proofs.Steps.{pure_right, no_front, agree_same}
 use Rattle.cat_parse_row.proofs.Token.{Marks, token_right}
 use Rattle.cat_parse_row.proofs.Choices.{reshaped, Decides, choice_right}
 use Rattle.cat_parse_row.proofs.Leaves.{cue_self, word_behind, lowered, some_one, not_both, token_is, anywhere}
@@ -89,21 +89,21 @@ pub same_reader : {B : Type 0} (bound : ℕ) (out : TokenKind → Bool) (fits : 
     (r s : Reader B) → ((ts : List Token) → r ts ≡ s ts) → IsRight bound out fits row r → IsRight bound out fits row s
 same_reader {B = B} bound out fits row r s e h = record {
   alive = h.alive;
-  taken = λ ts le. subst (λ (o : Outcome B). Taken fits row o ts) (e ts) (h.taken ts le);
+  taken = λ ts le. subst (λ (o : Parsed B). Taken fits row o ts) (e ts) (h.taken ts le);
   says =
-      λ ts. subst (λ (o : Outcome B). (front : List Token) (y : B) (w : List Token) → length ts ≤ bound → ts ≡ front
+      λ ts. subst (λ (o : Parsed B). (front : List Token) (y : B) (w : List Token) → length ts ≤ bound → ts ≡ front
       ++ left_of o → Alike out fits row (left_of o) front y w → Says row o y w front) (e ts) (h.says ts);
 }
 
 pub as_choice : (n : ℕ) (ts : List Token)
     → by_word is_list_of («word» (cue.Pair pair.ListOf) ⨟ λ p. type_after (suc n))
-    (one base_at ⨟ λ b. done (typed n b)) ts ≡ type_after n ts
+    (one base_at ⨟ λ b. pure (typed n b)) ts ≡ type_after n ts
 as_choice n [] = refl
 as_choice n (t ∷ ts) = by (is_list_of t.kind)
   where
     by : (c : Bool) → (if c then after (made_of (if c then Some t.pos else None) (t ∷ ts) ts) (λ p. type_after (suc n))
-        else after (made_of (base_at t) (t ∷ ts) ts) (λ b. done (typed n b)))
-        ≡ (if c then type_after (suc n) ts else after (made_of (base_at t) (t ∷ ts) ts) (λ b. done (typed n b)))
+        else after (made_of (base_at t) (t ∷ ts) ts) (λ b. pure (typed n b)))
+        ≡ (if c then type_after (suc n) ts else after (made_of (base_at t) (t ∷ ts) ts) (λ b. pure (typed n b)))
     by true = refl
     by false = refl
 
@@ -145,20 +145,20 @@ type_is : (n : ℕ) (x : Base × Pos) (y : types.Type) → (y.lists ≡ n) × ((
 type_is n x y f = ap (λ (m : ℕ). typed m (y.base, y.pos)) f.0 ∙ ap (typed n) f.1
 
 base_right : (bound n : ℕ) (out : TokenKind → Bool)
-    → IsRight bound out (λ y. y.lists ≡ n) (row n) (one base_at ⨟ λ b. done (typed n b))
+    → IsRight bound out (λ y. y.lists ≡ n) (row n) (one base_at ⨟ λ b. pure (typed n b))
 base_right bound n out =
     reshaped bound out (λ y. y.lists ≡ n) (λ y. y.lists ≡ n) (λ y. Word (At (base_kind y.base) y.pos) End) (row n)
-    (one base_at ⨟ λ b. done (typed n b))
+    (one base_at ⨟ λ b. pure (typed n b))
     (record {
       to = λ y f. f;
       from = λ y f. f;
       rows = λ y f. ap (λ (m : ℕ). lists_of m (Word (At (base_kind y.base) y.pos) End)) (none_left y f);
     })
     (lowered bound out (λ y. y.lists ≡ n) (λ y. Word (At (base_kind y.base) y.pos) End)
-    (one base_at ⨟ λ b. done (typed n b))
+    (one base_at ⨟ λ b. pure (typed n b))
     (token_right bound out (λ y. y.lists ≡ n) (λ y. At (base_kind y.base) y.pos) (λ y. End) base_at
-    (λ x y. (y.base, y.pos) ≡ x) (λ b. done (typed n b)) (base_marks n)
-    (λ x. done_right bound out (λ y. (y.lists ≡ n) × ((y.base, y.pos) ≡ x)) (typed n x) (refl, refl) (type_is n x))))
+    (λ x y. (y.base, y.pos) ≡ x) (λ b. pure (typed n b)) (base_marks n)
+    (λ x. pure_right bound out (λ y. (y.lists ≡ n) × ((y.base, y.pos) ≡ x)) (typed n x) (refl, refl) (type_is n x))))
   where
     none_left : (y : types.Type) → y.lists ≡ n → 0 ≡ y.lists - n
     none_left y f = omega (arith, f)
@@ -207,9 +207,9 @@ type_right zero n out = record {
 type_right (suc bound) n out =
     same_reader (suc bound) out (from n) (row n)
     (by_word is_list_of («word» (cue.Pair pair.ListOf) ⨟ λ p. type_after (suc n))
-    (one base_at ⨟ λ b. done (typed n b))) (type_after n) (as_choice n)
+    (one base_at ⨟ λ b. pure (typed n b))) (type_after n) (as_choice n)
     (choice_right (suc bound) out is_list_of (from n) (from (suc n)) (λ y. y.lists ≡ n) (row n)
-    («word» (cue.Pair pair.ListOf) ⨟ λ p. type_after (suc n)) (one base_at ⨟ λ b. done (typed n b)) (decides n out)
+    («word» (cue.Pair pair.ListOf) ⨟ λ p. type_after (suc n)) (one base_at ⨟ λ b. pure (typed n b)) (decides n out)
     (reshaped (suc bound) out (from (suc n)) (from (suc n))
     (λ y. Word (Anywhere (kind_of (cue.Pair pair.ListOf))) (row (suc n) y)) (row n)
     («word» (cue.Pair pair.ListOf) ⨟ λ p. type_after (suc n))

@@ -21,13 +21,13 @@ use Rattle.cat_tree.specs.Joined.{◌▸◌}
 use Rattle.cat_tree.specs.Literals.{type_parts}
 use Rattle.cat_tree.specs.Declarations.{typed_parts, kind_parts, variable_type_parts, params_parts, variable_parts}
 use Rattle.cat_parse_row.specs.declared.cue.Cue.TheVariants as cue
-use Rattle.cat_parse_row.specs.Reader.{◌⨟◌, done, heads, by_word}
+use Rattle.cat_parse_row.specs.Reader.{◌⨟◌, pure, heads, by_word}
 use Rattle.cat_parse_row.specs.Right.{Outside, IsRight}
 use Rattle.cat_parse_row.specs.Cues.{cue_is, lower, upper}
 use Rattle.cat_parse_row.specs.Declarations.{key_word, typed_name, content, is_content, is_comma, is_word, kind_or}
 use Rattle.cat_parse_row.specs.Declarations.{kind_of_one, a_kind, variable_type, params, is_lower, called, own}
 use Rattle.cat_parse_row.specs.Declarations.{a_variable}
-use Rattle.cat_parse_row.proofs.Steps.{done_right}
+use Rattle.cat_parse_row.proofs.Steps.{pure_right}
 use Rattle.cat_parse_row.proofs.Sequel.{part_right}
 use Rattle.cat_parse_row.proofs.Choices.{reshaped, made_right, Decides, choice_right}
 use Rattle.cat_parse_row.proofs.Leaves.{word_right, word_at_right, lower_right, upper_right}
@@ -72,14 +72,14 @@ pub variable_type_right : (bound : ℕ) → IsRight bound any_word Any variable_
 variable_type_right bound =
     choice_right bound any_word is_content Any (λ o. (t : types.Type) × Any t × (o ≡ Some t)) (λ o. o ≡ None)
     variable_type_parts
-    (content ⨟ λ t. done (Some t)) (key_word key.Condition ⨟ λ p. done None) variable_type_decides
+    (content ⨟ λ t. pure (Some t)) (key_word key.Condition ⨟ λ p. pure None) variable_type_decides
     (made_right bound any_word Any (λ t. Word (Anywhere (kind.Word key.Content)) (type_parts t End)) variable_type_parts
     (λ t. Some t) content (λ t. refl) (content_right bound any_word))
     (reshaped bound any_word (λ o. o ≡ None) (λ o. o ≡ None)
-    (λ o. Word (Anywhere (kind.Word key.Condition)) End) variable_type_parts (key_word key.Condition ⨟ λ p. done None)
+    (λ o. Word (Anywhere (kind.Word key.Condition)) End) variable_type_parts (key_word key.Condition ⨟ λ p. pure None)
     (record { to = λ o f. f; from = λ o f. f; rows = λ o f. ap variable_type_parts (sym f) })
     (word_right bound any_word (cue.Word key.Condition) (λ (o : Option types.Type). o ≡ None) (λ o. End)
-    (λ p. done None) (λ p. done_right bound any_word (λ o. o ≡ None) None refl (λ o f. f))))
+    (λ p. pure None) (λ p. pure_right bound any_word (λ o. o ≡ None) None refl (λ o f. f))))
 
 -- ---- kinds
 
@@ -95,8 +95,8 @@ one_kind : (bound : ℕ) (out : TokenKind → Bool) (c : Keyword) (k : Kind)
 one_kind bound out c k rows =
     reshaped bound out (IsKind k) (IsKind k) (λ x. Word (At (kind.Word c) x.1) End) kind_row (kind_of_one c k)
     (record { to = λ x f. f; from = λ x f. f; rows = λ x f. rows x.1 ∙ ap (λ (z : Kind). kind_parts z x.1) (sym f) })
-    (word_at_right bound out (cue.Word c) (IsKind k) (λ x. x.1) (λ x. End) (λ p. done (k, p))
-    (λ p. done_right bound out (λ x. IsKind k x × (x.1 ≡ p)) (k, p) (refl, refl)
+    (word_at_right bound out (cue.Word c) (IsKind k) (λ x. x.1) (λ x. End) (λ p. pure (k, p))
+    (λ p. pure_right bound out (λ x. IsKind k x × (x.1 ≡ p)) (k, p) (refl, refl)
     (λ x f. ap (λ (z : Kind). (z, x.1)) f.0 ∙ ap (λ (q : Pos). (k, q)) f.1)))
 
 abbrev second_word : Kind → Parts
@@ -124,9 +124,9 @@ two_kinds bound c a b rows_a rows_b sa sb =
     (kind_or c a b)
     (record { to = λ x f. f; from = λ x f. f; rows = rows })
     (word_at_right bound is_lower (cue.Word c) (one_of a b) (λ x. x.1) (λ x. second_word x.0)
-    (λ p. by_word (is_word key.Output) (key_word key.Output ⨟ λ q. done (b, p)) (done (a, p))) λ p.
+    (λ p. by_word (is_word key.Output) (key_word key.Output ⨟ λ q. pure (b, p)) (pure (a, p))) λ p.
     choice_right bound is_lower (is_word key.Output) (λ x. one_of a b x × (x.1 ≡ p)) (λ x. (x.0 ≡ b) × (x.1 ≡ p))
-    (λ x. (x.0 ≡ a) × (x.1 ≡ p)) (λ x. second_word x.0) (key_word key.Output ⨟ λ q. done (b, p)) (done (a, p))
+    (λ x. (x.0 ≡ a) × (x.1 ≡ p)) (λ x. second_word x.0) (key_word key.Output ⨟ λ q. pure (b, p)) (pure (a, p))
     (record {
       either = λ x f. either x p f.0 f.1;
       from_yes = λ x f. (inr f.0, f.1);
@@ -140,15 +140,15 @@ two_kinds bound c a b rows_a rows_b sa sb =
     })
     (reshaped bound is_lower (λ x. (x.0 ≡ b) × (x.1 ≡ p)) (λ x. (x.0 ≡ b) × (x.1 ≡ p))
     (λ x. Word (Anywhere (kind.Word key.Output)) End) (λ x. second_word x.0)
-    (key_word key.Output ⨟ λ q. done (b, p))
+    (key_word key.Output ⨟ λ q. pure (b, p))
     (record { to = λ x f. f; from = λ x f. f; rows = λ x f. sym (ap second_word f.0 ∙ sb) })
     (word_right bound is_lower (cue.Word key.Output) (λ (x : Kind × Pos). (x.0 ≡ b) × (x.1 ≡ p)) (λ x. End)
-    (λ q. done (b, p)) (λ q. done_right bound is_lower (λ x. (x.0 ≡ b) × (x.1 ≡ p)) (b, p) (refl, refl)
+    (λ q. pure (b, p)) (λ q. pure_right bound is_lower (λ x. (x.0 ≡ b) × (x.1 ≡ p)) (b, p) (refl, refl)
     (pair_is b p))))
     (reshaped bound is_lower (λ x. (x.0 ≡ a) × (x.1 ≡ p)) (λ x. (x.0 ≡ a) × (x.1 ≡ p)) (λ x. End) (λ x. second_word x.0)
-    (done (a, p))
+    (pure (a, p))
     (record { to = λ x f. f; from = λ x f. f; rows = λ x f. sym (ap second_word f.0 ∙ sa) })
-    (done_right bound is_lower (λ x. (x.0 ≡ a) × (x.1 ≡ p)) (a, p) (refl, refl) (pair_is a p))))
+    (pure_right bound is_lower (λ x. (x.0 ≡ a) × (x.1 ≡ p)) (a, p) (refl, refl) (pair_is a p))))
   where
     pair_is : (k : Kind) (p : Pos) (x : Kind × Pos) → (x.0 ≡ k) × (x.1 ≡ p) → x ≡ (k, p)
     pair_is k p x f = ap (λ (z : Kind). (z, x.1)) f.0 ∙ ap (λ (q : Pos). (k, q)) f.1
@@ -311,7 +311,7 @@ own_right : (bound : ℕ) → IsRight bound behind_variable Any own_row own
 own_right bound =
     part_right bound bound behind_variable is_lower Any Any (λ x. x.0) kind_row
     (λ x. Word (At (kind.Lower x.1.text) x.1.pos) (variable_type_parts x.2 ▸ params_parts x.3)) a_kind
-    (λ k. lower ⨟ λ w. variable_type ⨟ λ t. params ⨟ λ ps. done (k, w, t, ps))
+    (λ k. lower ⨟ λ w. variable_type ⨟ λ t. params ⨟ λ ps. pure (k, w, t, ps))
     (record {
       fit = λ x f. tt;
       behind =
@@ -322,10 +322,10 @@ own_right bound =
     (kind_right bound) λ k g.
     lower_right bound behind_variable (λ x. Any x × (x.0 ≡ k)) (λ x. x.1)
     (λ x. variable_type_parts x.2 ▸ params_parts x.3)
-    (λ w. variable_type ⨟ λ t. params ⨟ λ ps. done (k, w, t, ps)) λ w.
+    (λ w. variable_type ⨟ λ t. params ⨟ λ ps. pure (k, w, t, ps)) λ w.
     part_right bound bound behind_variable any_word (λ x. (Any x × (x.0 ≡ k)) × (x.1 ≡ w)) Any (λ x. x.2)
     variable_type_parts
-    (λ x. params_parts x.3) variable_type (λ t. params ⨟ λ ps. done (k, w, t, ps))
+    (λ x. params_parts x.3) variable_type (λ t. params ⨟ λ ps. pure (k, w, t, ps))
     (record {
       fit = λ x f. tt;
       behind = λ x w v f s o. outside_any (w ++ v);
@@ -353,11 +353,11 @@ called_right : (bound : ℕ) → IsRight bound behind_variable Any called_row ca
 called_right bound =
     lower_right bound behind_variable Any (λ x. x.0)
     (λ x. Word (Anywhere (kind.Word key.Scope)) (Word (At (kind.Upper x.1.text) x.1.pos) End))
-    (λ w. key_word key.Scope ⨟ λ p. upper ⨟ λ u. done (w, u)) λ w.
+    (λ w. key_word key.Scope ⨟ λ p. upper ⨟ λ u. pure (w, u)) λ w.
     word_right bound behind_variable (cue.Word key.Scope) (λ x. Any x × (x.0 ≡ w))
-    (λ x. Word (At (kind.Upper x.1.text) x.1.pos) End) (λ p. upper ⨟ λ u. done (w, u)) λ p.
-    upper_right bound behind_variable (λ x. Any x × (x.0 ≡ w)) (λ x. x.1) (λ x. End) (λ u. done (w, u)) λ u.
-    done_right bound behind_variable (λ x. (Any x × (x.0 ≡ w)) × (x.1 ≡ u)) (w, u) ((tt, refl), refl)
+    (λ x. Word (At (kind.Upper x.1.text) x.1.pos) End) (λ p. upper ⨟ λ u. pure (w, u)) λ p.
+    upper_right bound behind_variable (λ x. Any x × (x.0 ≡ w)) (λ x. x.1) (λ x. End) (λ u. pure (w, u)) λ u.
+    pure_right bound behind_variable (λ x. (Any x × (x.0 ≡ w)) × (x.1 ≡ u)) (w, u) ((tt, refl), refl)
     (λ x f. ap (λ (z : Name). (z, x.1)) f.0.1 ∙ ap (λ (z : Name). (w, z)) f.1)
 
 abbrev IsCalled : Variable → Type 0
@@ -398,8 +398,8 @@ variable_decides = record {
 pub variable_right : (bound : ℕ) → IsRight bound behind_variable Any variable_parts a_variable
 variable_right bound =
     choice_right bound behind_variable is_lower Any IsCalled IsOwn variable_parts
-    (called ⨟ λ x. done (variable.Called x.0 x.1))
-    (own ⨟ λ x. done (variable.Own x.0.0 x.0.1 x.1 x.2 x.3)) variable_decides
+    (called ⨟ λ x. pure (variable.Called x.0 x.1))
+    (own ⨟ λ x. pure (variable.Own x.0.0 x.0.1 x.1 x.2 x.3)) variable_decides
     (made_right bound behind_variable Any called_row variable_parts (λ x. variable.Called x.0 x.1) called (λ x. refl)
     (called_right bound))
     (made_right bound behind_variable Any own_row variable_parts (λ x. variable.Own x.0.0 x.0.1 x.1 x.2 x.3) own

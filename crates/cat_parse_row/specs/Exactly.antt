@@ -6,7 +6,7 @@ use Rattle.cat_tree.specs.declared.program.Tree.{Tree}
 use Rattle.cat_tree.specs.Phrase.{Parts, End, Part, Operand}
 use Rattle.cat_tree.specs.Grammar.{phrase}
 use Rattle.cat_tree.specs.Programs.{highest_in, SpellsProgram, SpellsLowProgram, BeginsProgram}
-use Rattle.cat_parse_row.specs.Reader.{Outcome, Reader, Fails, Reads}
+use Rattle.cat_parse_row.specs.Reader.{Parsed, Reader, Fails, Reads}
 use Rattle.cat_parse_row.specs.Right.{IsRight}
 use Rattle.cat_parse_row.specs.Uses.{behind_expression}
 
@@ -34,8 +34,8 @@ pub record IsTooHigh (tokens front left : List Token) : Type 0 where
   pub begins : BeginsProgram (front ++ next ∷ [])
   pub too_high : (b : BeginsProgram (front ++ next ∷ [])) → highest_in b.tree ≤ 256 → ⊥
 
--- what an outcome says of the tokens
-abbrev pub Exactly : List Token → Outcome Tree → Type 0
+-- what a parse says of the tokens
+abbrev pub Exactly : List Token → Parsed Tree → Type 0
 Exactly tokens (Reads t left) = SpellsLowProgram t tokens × ((u : Tree) → SpellsProgram u tokens → u ≡ t)
 Exactly tokens (Fails left false) = (front : List Token) × Stops tokens front left
 Exactly tokens (Fails left true) = (front : List Token) × IsTooHigh tokens front left

@@ -3,7 +3,7 @@ use Rattle.std.specs.Prelude.{ℕ, ◌≡◌, ◌≤◌, Bool, true, false, List
 use Rattle.cat_lex.specs.declared.token.Token.{Token}
 use Rattle.cat_lex.specs.declared.token.TokenKind.{TokenKind}
 use Rattle.cat_tree.specs.Phrase.{Parts, tallest, AreLevelled, AreSpelled}
-use Rattle.cat_parse_row.specs.Reader.{Outcome, Reader, Fails, Reads, left_of}
+use Rattle.cat_parse_row.specs.Reader.{Parsed, Reader, Fails, Reads, left_of}
 
 -- the same token next, or none
 abbrev pub Agree : List Token → List Token → Type 0
@@ -37,18 +37,19 @@ pub record Further {B : Type 0} (fits : B → Type 0) (row : B → Parts) (front
   pub begun : Begun fits row (front ++ next ∷ [])
 
 -- what was taken of the tokens
-abbrev pub Took : {B : Type 0} → (B → Type 0) → (B → Parts) → Outcome B → List Token → Type 0
+abbrev pub Took : {B : Type 0} → (B → Type 0) → (B → Parts) → Parsed B → List Token → Type 0
 Took fits row (Fails left false) front = Begun fits row front
 Took fits row (Fails left true) front = Further fits row front left
 Took fits row (Reads y left) front = Is fits row y front × (tallest (row y) ≤ 256)
 
-pub record Taken {B : Type 0} (fits : B → Type 0) (row : B → Parts) (o : Outcome B) (ts : List Token) : Type 0 where
+-- what was taken are tokens in front, and the rest is left
+pub record Taken {B : Type 0} (fits : B → Type 0) (row : B → Parts) (o : Parsed B) (ts : List Token) : Type 0 where
   pub front : List Token
   pub text : ts ≡ front ++ left_of o
   pub took : Took fits row o front
 
--- what an outcome says of a value whose row begins with the same tokens
-abbrev pub Says : {B : Type 0} → (B → Parts) → Outcome B → B → (spelling front : List Token) → Type 0
+-- what a parse says of a value whose row begins with the same tokens
+abbrev pub Says : {B : Type 0} → (B → Parts) → Parsed B → B → (spelling front : List Token) → Type 0
 Says row (Fails left false) y spelling front = ⊥
 Says row (Fails left true) y spelling front = tallest (row y) ≤ 256 → ⊥
 Says row (Reads x left) y spelling front = (y ≡ x) × (spelling ≡ front)
@@ -63,6 +64,8 @@ pub record Alike {B : Type 0} (out : TokenKind → Bool) (fits : B → Type 0) (
   pub outside : Outside out behind
   pub text : spelling ++ behind ≡ front ++ others
 
+-- A reader is right for rows: something has one; what was taken is what it was taken for; and another value whose
+-- row begins with the same tokens, up to and with the one where reading ended, is no other.
 pub record IsRight {B : Type 0} (bound : ℕ) (out : TokenKind → Bool) (fits : B → Type 0) (row : B → Parts)
     (r : Reader B) : Type 0 where
   pub alive : Begun fits row []
