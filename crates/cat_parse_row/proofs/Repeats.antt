@@ -14,10 +14,11 @@ use Rattle.cat_parse_row.proofs.Choices.{Opens}
 abbrev pub Shrinks : {A : Type 0} → Reader A → Type 0
 Shrinks {A = A} r = (ts : List Token) (x : A) (left : List Token) → r ts ≡ Reads x left → length left < length ts
 
-pub shrinks : {A : Type 0} (out start : TokenKind → Bool) (fits : A → Type 0) (row : A → Parts) (r : Reader A)
-    → Opens start fits row → ((bound : ℕ) → IsRight bound out fits row r) → Shrinks r
-shrinks {A = A} out start fits row r opens right ts x left e =
-    let t = subst (λ (o : Parsed A). Taken fits row o ts) e ((right (length ts)).taken ts (omega arith)) in
+pub shrinks : {A : Type 0} (limit : ℕ) (out start : TokenKind → Bool) (fits : A → Type 0) (row : A → Parts)
+    (r : Reader A)
+    → Opens start fits row → ((bound : ℕ) → IsRight limit bound out fits row r) → Shrinks r
+shrinks {A = A} limit out start fits row r opens right ts x left e =
+    let t = subst (λ (o : Parsed A). Taken limit fits row o ts) e ((right (length ts)).taken ts (omega arith)) in
     by t.front t.text (opens.at x t.front [] t.took.0.fit t.took.0.spelled)
   where
     by : (front : List Token) → ts ≡ front ++ left → heads start (front ++ []) ≡ true → length left < length ts

@@ -14,9 +14,19 @@ use Rattle.cat_parse_row.specs.Uses.{behind_expression}
 abbrev pub expression_row : Node → Parts
 expression_row e = Part (Operand 0) (phrase e) End
 
--- a reader of expressions is right before the words that may follow one in a program
+-- a reader of expressions up to a height is right before the words that may follow one in a program
+abbrev pub ReadsExpressionsTo : (limit : ℕ) → Reader Node → Type 0
+ReadsExpressionsTo limit ex =
+    (bound : ℕ) → IsRight limit bound behind_expression (λ e. Unit {0}) expression_row ex
+
+-- the same up to the height that an expression may have
 abbrev pub ReadsExpressions : Reader Node → Type 0
-ReadsExpressions ex = (bound : ℕ) → IsRight bound behind_expression (λ e. Unit {0}) expression_row ex
+ReadsExpressions = ReadsExpressionsTo 256
+
+-- tokens that spell a program whose expressions are that low spell no other
+abbrev pub SpellOneProgram : (limit : ℕ) → Type 0
+SpellOneProgram limit =
+    (tokens : List Token) (t u : Tree) → SpellsProgram t tokens → SpellsProgram u tokens → highest_in t ≤ limit → t ≡ u
 
 -- the tokens in front begin a program, with the next one they begin none or they are all, and all spell none
 pub record Stops (tokens front left : List Token) : Type 0 where
