@@ -9,8 +9,7 @@ use Rattle.cat_parse_expr.specs.declared.refusal.ParseRefusal.{ParseRefusal}
 use Rattle.cat_parse_expr.specs.declared.refusal.ParseRefusal.TheVariants.{Unexpected, TooDeep, Memory}
 use Rattle.cat_parse_expr.specs.Places.{GoesUpTo}
 use Rattle.cat_parse_expr.specs.Causes.{HasReachCause}
-use Rattle.cat_parse_expr.specs.Reach.{Found, expression_reach, GivesReach}
-use Rattle.cat_parse_row.specs.Reader.{Fails, Reads}
+use Rattle.cat_parse_expr.specs.Reach.{expression_reach, GivesReach}
 use Rattle.cat_parse_reach.specs.Places.{Gives}
 use Rattle.cat_parse_reach.specs.Reach.{to_its_end, expression_to, expression}
 

@@ -1,6 +1,6 @@
 -- The reader of expressions is right before the words that may follow one in a program.
-use Rattle.std.proofs.Common.{◌≡◌, ℕ, suc, ◌<◌, ◌≤◌, Bool, true, false, cond, leb, List, [], ◌∷◌, ◌++◌, length}
-use Rattle.std.proofs.Common.{Option, Some, None, refl, sym, ap, subst, ◌∙◌, append_assoc, arith, inl, inr}
+use Rattle.std.proofs.Common.{◌≡◌, ℕ, ◌<◌, ◌≤◌, Bool, true, false, cond, leb, List, [], ◌∷◌, ◌++◌, length}
+use Rattle.std.proofs.Common.{Some, None, refl, sym, ap, subst, ◌∙◌, append_assoc, arith, inl, inr}
 use Rattle.std.proofs.lemmas.Bool.{cases_lt, leb-true, leb-false}
 use Rattle.std.proofs.lemmas.List.{append-nil, append_cancel_right, length-append}
 use Rattle.cat_lex.specs.declared.token.Token.{Token}
@@ -13,7 +13,7 @@ use Rattle.cat_parse_expr.specs.Reach.{reach_of, expression_reach}
 use Rattle.cat_parse_expr.proofs.Exported as known
 use Rattle.cat_parse_expr.proofs.Exported.{IsPart, Begins, IsExact, exact, nothing, longest, high, one_tree, part_of}
 use Rattle.cat_parse_row.specs.Reader.{Parsed, Fails, Reads, left_of}
-use Rattle.cat_parse_row.specs.Right.{Agree, Outside, Is, Taken, Says, Alike, IsRight}
+use Rattle.cat_parse_row.specs.Right.{Agree, Outside, Taken, Says, Alike}
 use Rattle.cat_parse_row.specs.Uses.{behind_expression}
 use Rattle.cat_parse_row.specs.Exactly.{expression_row, ReadsExpressionsTo}
 use Rattle.cat_parse_reach.specs.Reach.{to_its_end, expression_to}
