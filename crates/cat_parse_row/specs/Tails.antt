@@ -15,7 +15,7 @@ use Rattle.cat_parse_row.specs.declared.cue.Cue.TheVariants as cue
 use Rattle.cat_parse_row.specs.Reader.{Reader, ◌⨟◌, pure, by_word, optional}
 use Rattle.cat_parse_row.specs.Cues.{cue_is, «word»}
 use Rattle.cat_parse_row.specs.Declarations.{key_word, is_word}
-use Rattle.cat_parse_row.specs.Leads.{lead, target}
+use Rattle.cat_parse_row.specs.Leads.{target}
 
 -- ---- conditions
 
