@@ -31,3 +31,5 @@ pub mod Keeping
 pub mod TurnLemmas
 pub mod TakeLemmas
 pub mod Answered
+pub mod Gives
+pub mod Exported

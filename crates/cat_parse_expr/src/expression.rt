@@ -1,10 +1,11 @@
 // Expressions at an index of a list of tokens.
-ghost use Rattle.std.specs.Prelude.{◌≡◌, ◌≤◌, ℕ, List, length, cond, IfOk, IfErr};
+ghost use Rattle.std.specs.Prelude.{◌≡◌, ◌≤◌, ℕ, List, length, drop, cond, IfOk, IfErr};
 ghost use Rattle.cat_lex.specs.declared.token.Token.{Token};
 ghost use Rattle.cat_tree.specs.declared.expression.Node.{Node};
 ghost use Rattle.cat_tree.specs.Spells.{Spells, IsFront};
 ghost use Rattle.cat_parse_expr.specs.Places.{GoesUpTo};
 ghost use Rattle.cat_parse_expr.specs.Causes.{HasCause, HasReachCause};
+ghost use Rattle.cat_parse_expr.specs.Reach.{expression_reach, GivesReach};
 
 use crate::outcome::{Halt, Reached};
 use crate::reader::read;
@@ -49,6 +50,7 @@ pub fn expr_reach(
     ensures longest { IfOk result (λ read. (e : Node) (next : ℕ) → IsFront tokens.now at next e → next ≤ read.1) }
     ensures reach { IfOk result (λ read. GoesUpTo tokens.now at read.2) }
     ensures cause { IfErr result (HasReachCause tokens.now at) }
+    ensures gives { GivesReach (expression_reach 256 (drop at tokens.now)) tokens.now result }
 {
     match read(alloc, tokens, at, 256, 0)? {
         Reached::Reads(part, next, tried) => match tried {

@@ -24,17 +24,19 @@ use Rattle.cat_tree.specs.Uses.{lead_parts}
 use Rattle.cat_tree.specs.Uses.{rounding_word, use_parts}
 use Rattle.cat_tree.specs.Programs.{condition_parts, block_parts}
 use Rattle.cat_parse_row.specs.declared.cue.Cue.TheVariants as cue
-use Rattle.cat_parse_row.specs.Reader.{Reader, ◌⨟◌, done, heads, by_word, both, optional, many}
+use Rattle.cat_parse_row.specs.Reader.{Reader, ◌⨟◌, pure, heads, by_word, both, optional, many}
 use Rattle.cat_parse_row.specs.Right.{Outside, IsRight}
 use Rattle.cat_parse_row.specs.Cues.{«word», upper}
 use Rattle.cat_parse_row.specs.Declarations.{key_word, is_word, is_lower}
 use Rattle.cat_parse_row.specs.Leads.{lead}
-use Rattle.cat_parse_row.specs.Uses.{is_use, is_item, behind_use, behind_expression, is_under, condition, Tail, Defined}
-use Rattle.cat_parse_row.specs.Uses.{Ruled, defined, ruled, tail, use_of, asserted, direction, is_rounding, rounded}
+use Rattle.cat_parse_row.specs.Uses.{is_use, is_item, behind_use, behind_expression}
+use Rattle.cat_parse_row.specs.Tails.{is_under, condition, Tail, Defined}
+use Rattle.cat_parse_row.specs.Uses.{asserted, direction, is_rounding, rounded}
+use Rattle.cat_parse_row.specs.Tails.{Ruled, defined, ruled, tail, use_of}
 use Rattle.cat_parse_row.specs.Uses.{a_use}
 use Rattle.cat_parse_row.specs.Programs.{block}
-use Rattle.cat_parse_row.specs.Exactly.{expression_row, ReadsExpressions}
-use Rattle.cat_parse_row.proofs.Steps.{done_right}
+use Rattle.cat_parse_row.specs.Exactly.{expression_row, ReadsExpressionsTo}
+use Rattle.cat_parse_row.proofs.Steps.{pure_right}
 use Rattle.cat_parse_row.proofs.Sequel.{part_right}
 use Rattle.cat_parse_row.proofs.Choices.{Opens, OptionFits, optional_right, reshaped, made_right, choice_right}
 use Rattle.cat_parse_row.proofs.Choices.{narrowed, opens_word}
@@ -115,12 +117,12 @@ lead_head test b el ee ed er l x w v s = by l.label l.exception x s
 
 -- ---- roundings
 
-direction_right : (bound : ℕ)
-    → IsRight bound any_word Any (λ up. Word (Anywhere (kind.Word (rounding_word up))) End) direction
-direction_right bound =
-    choice_right bound any_word (is_word key.Increasing) Any (λ up. up ≡ true) (λ up. up ≡ false)
-    (λ up. Word (Anywhere (kind.Word (rounding_word up))) End) (key_word key.Increasing ⨟ λ q. done true)
-    (key_word key.Decreasing ⨟ λ q. done false)
+direction_right : (limit bound : ℕ)
+    → IsRight limit bound any_word Any (λ up. Word (Anywhere (kind.Word (rounding_word up))) End) direction
+direction_right limit bound =
+    choice_right limit bound any_word (is_word key.Increasing) Any (λ up. up ≡ true) (λ up. up ≡ false)
+    (λ up. Word (Anywhere (kind.Word (rounding_word up))) End) (key_word key.Increasing ⨟ λ q. pure true)
+    (key_word key.Decreasing ⨟ λ q. pure false)
     (record {
       either = either;
       from_yes = λ up f. tt;
@@ -132,25 +134,26 @@ direction_right bound =
           λ up w v f s o. head_any (is_word key.Increasing) (kind.Word (rounding_word up)) End w v s
           ∙ ap (λ (b : Bool). is_word key.Increasing (kind.Word (rounding_word b))) f;
     })
-    (reshaped bound any_word (λ up. up ≡ true) (λ up. up ≡ true) (λ up. Word (Anywhere (kind.Word key.Increasing)) End)
-    (λ up. Word (Anywhere (kind.Word (rounding_word up))) End) (key_word key.Increasing ⨟ λ q. done true)
+    (reshaped limit bound any_word (λ up. up ≡ true) (λ up. up ≡ true)
+    (λ up. Word (Anywhere (kind.Word key.Increasing)) End)
+    (λ up. Word (Anywhere (kind.Word (rounding_word up))) End) (key_word key.Increasing ⨟ λ q. pure true)
     (record {
       to = λ up f. f;
       from = λ up f. f;
       rows = λ up f. ap (λ (b : Bool). Word (Anywhere (kind.Word (rounding_word b))) End) (sym f);
     })
-    (word_right bound any_word (cue.Word key.Increasing) (λ (up : Bool). up ≡ true) (λ up. End) (λ q. done true)
-    (λ q. done_right bound any_word (λ up. up ≡ true) true refl (λ up f. f))))
-    (reshaped bound any_word (λ up. up ≡ false) (λ up. up ≡ false)
+    (word_right limit bound any_word (cue.Word key.Increasing) (λ (up : Bool). up ≡ true) (λ up. End) (λ q. pure true)
+    (λ q. pure_right limit bound any_word (λ up. up ≡ true) true refl (λ up f. f))))
+    (reshaped limit bound any_word (λ up. up ≡ false) (λ up. up ≡ false)
     (λ up. Word (Anywhere (kind.Word key.Decreasing)) End)
-    (λ up. Word (Anywhere (kind.Word (rounding_word up))) End) (key_word key.Decreasing ⨟ λ q. done false)
+    (λ up. Word (Anywhere (kind.Word (rounding_word up))) End) (key_word key.Decreasing ⨟ λ q. pure false)
     (record {
       to = λ up f. f;
       from = λ up f. f;
       rows = λ up f. ap (λ (b : Bool). Word (Anywhere (kind.Word (rounding_word b))) End) (sym f);
     })
-    (word_right bound any_word (cue.Word key.Decreasing) (λ (up : Bool). up ≡ false) (λ up. End) (λ q. done false)
-    (λ q. done_right bound any_word (λ up. up ≡ false) false refl (λ up f. f))))
+    (word_right limit bound any_word (cue.Word key.Decreasing) (λ (up : Bool). up ≡ false) (λ up. End) (λ q. pure false)
+    (λ q. pure_right limit bound any_word (λ up. up ≡ false) false refl (λ up f. f))))
   where
     either : (up : Bool) → Any up → (up ≡ true) ⊎ (up ≡ false)
     either true f = inl refl
@@ -159,11 +162,11 @@ direction_right bound =
 abbrev rounded_row : Pos × Bool → Parts
 rounded_row x = Word (At (kind.Pair pair.DateRound) x.0) (Word (Anywhere (kind.Word (rounding_word x.1))) End)
 
-rounded_right : (bound : ℕ) → IsRight bound behind_use Any rounded_row rounded
-rounded_right bound =
-    word_at_right bound behind_use (cue.Pair pair.DateRound) Any (λ x. x.0)
-    (λ x. Word (Anywhere (kind.Word (rounding_word x.1))) End) (λ p. direction ⨟ λ up. done (p, up)) λ p.
-    last_right bound behind_use Any (λ x. Any x × (x.0 ≡ p)) (λ x. x.1) (λ up. (p, up))
+rounded_right : (limit bound : ℕ) → IsRight limit bound behind_use Any rounded_row rounded
+rounded_right limit bound =
+    word_at_right limit bound behind_use (cue.Pair pair.DateRound) Any (λ x. x.0)
+    (λ x. Word (Anywhere (kind.Word (rounding_word x.1))) End) (λ p. direction ⨟ λ up. pure (p, up)) λ p.
+    last_right limit bound behind_use Any (λ x. Any x × (x.0 ≡ p)) (λ x. x.1) (λ up. (p, up))
     (λ up. Word (Anywhere (kind.Word (rounding_word up))) End) direction
     (record {
       to = λ up f. (tt, refl);
@@ -171,8 +174,8 @@ rounded_right bound =
       back = λ up. refl;
       only = λ x f. ap (λ (q : Pos). (q, x.1)) f.1;
     })
-    (narrowed bound any_word behind_use Any (λ up. Word (Anywhere (kind.Word (rounding_word up))) End) direction
-    (λ v o. outside_any v) (direction_right bound))
+    (narrowed limit bound any_word behind_use Any (λ up. Word (Anywhere (kind.Word (rounding_word up))) End) direction
+    (λ v o. outside_any v) (direction_right limit bound))
 
 -- ---- a line of a scope block
 
@@ -257,7 +260,7 @@ item_behind_use (kind.Word key.Declaration) e = refl
 item_behind_use (kind.Word key.Scope) e = refl
 item_behind_use _ e = absurd cc
 
-use_opens : Opens is_use Any use_parts
+pub use_opens : Opens is_use Any use_parts
 use_opens = record { at = λ y w v f s. by y w v (either_use y) s }
   where
     by : (y : Use) (w v : List Token) → IsAsserted y ⊎ IsOther y → AreSpelled (use_parts y) w → heads is_use (w ++ v)
@@ -266,12 +269,12 @@ use_opens = record { at = λ y w v f s. by y w v (either_use y) s }
     by y w v (inr (inl f)) s = rounded_head is_use y w v f s
     by y w v (inr (inr f)) s = led_head is_use true refl refl refl refl y w v f s
 
-module _ (ex : Reader Node) (right : ReadsExpressions ex) where
-  tail_right : (bound : ℕ) → IsRight bound behind_use Any tail_row (tail ex)
+module _ (limit : ℕ) (ex : Reader Node) (right : ReadsExpressionsTo limit ex) where
+  tail_right : (bound : ℕ) → IsRight limit bound behind_use Any tail_row (tail ex)
   tail_right bound =
-      choice_right bound behind_use (is_word key.Rule) Any (λ y. (x : Meant Fulfilled) × Any x × (y ≡ Ruled x))
-      (λ y. (x : Meant Node) × Any x × (y ≡ Defined x)) tail_row (ruled ex ⨟ λ x. done (Ruled x))
-      (defined ex ⨟ λ x. done (Defined x))
+      choice_right limit bound behind_use (is_word key.Rule) Any (λ y. (x : Meant Fulfilled) × Any x × (y ≡ Ruled x))
+      (λ y. (x : Meant Node) × Any x × (y ≡ Defined x)) tail_row (ruled ex ⨟ λ x. pure (Ruled x))
+      (defined ex ⨟ λ x. pure (Defined x))
       (record {
         either = either;
         from_yes = λ y f. tt;
@@ -286,47 +289,48 @@ module _ (ex : Reader Node) (right : ReadsExpressions ex) where
             (expression_row f.0.3)) w v
             (subst (λ (z : Tail). AreSpelled (tail_row z) w) f.2 s);
       })
-      (made_right bound behind_use Any ruled_row tail_row (λ x. Ruled x) (ruled ex) (λ x. refl)
-      (ruled_right ex right bound))
-      (made_right bound behind_use Any defined_row tail_row (λ x. Defined x) (defined ex) (λ x. refl)
-      (defined_right ex right bound))
+      (made_right limit bound behind_use Any ruled_row tail_row (λ x. Ruled x) (ruled ex) (λ x. refl)
+      (ruled_right limit ex right bound))
+      (made_right limit bound behind_use Any defined_row tail_row (λ x. Defined x) (defined ex) (λ x. refl)
+      (defined_right limit ex right bound))
     where
       either : (y : Tail) → Any y → ((x : Meant Fulfilled) × Any x × (y ≡ Ruled x))
           ⊎ ((x : Meant Node) × Any x × (y ≡ Defined x))
       either (Ruled x) f = inl (x, tt, refl)
       either (Defined x) f = inr (x, tt, refl)
 
-  led_right : (bound : ℕ) → IsRight bound behind_use IsLed use_parts (both lead (tail ex) ⨟ λ x. done (use_of x))
+  led_right : (bound : ℕ) → IsRight limit bound behind_use IsLed use_parts (both lead (tail ex) ⨟ λ x. pure (use_of x))
   led_right bound =
-      made_right bound behind_use (BothFit Any Any) (both_rows lead_parts tail_row) use_parts use_of
+      made_right limit bound behind_use (BothFit Any Any) (both_rows lead_parts tail_row) use_parts use_of
       (both lead (tail ex)) use_rows
-      (both_right bound bound behind_use behind_lead Any Any lead_parts tail_row lead (tail ex)
-      (λ y w v f s o. tail_behind y w v s) (no_longer bound behind_lead Any lead_parts lead (leads bound))
+      (both_right limit bound bound behind_use behind_lead Any Any lead_parts tail_row lead (tail ex)
+      (λ y w v f s o. tail_behind y w v s) (no_longer limit bound behind_lead Any lead_parts lead (leads bound))
       (leads bound) (tail_right bound))
     where
-      leads : (bound : ℕ) → IsRight bound behind_lead Any lead_parts lead
-      leads bound = lead_right bound behind_lead lead_no_lower lead_no_exception lead_no_label
+      leads : (bound : ℕ) → IsRight limit bound behind_lead Any lead_parts lead
+      leads bound = lead_right limit bound behind_lead lead_no_lower lead_no_exception lead_no_label
 
   asserted_right : (bound : ℕ)
-      → IsRight bound behind_use Any (λ x. Word (At (kind.Word key.Assertion) x.0) (expression_row x.1)) (asserted ex)
+      → IsRight limit bound behind_use Any (λ x. Word (At (kind.Word key.Assertion) x.0) (expression_row x.1))
+      (asserted ex)
   asserted_right bound =
-      word_at_right bound behind_use (cue.Word key.Assertion) Any (λ x. x.0) (λ x. expression_row x.1)
-      (λ p. ex ⨟ λ e. done (p, e)) λ p.
-      last_right bound behind_use Any (λ x. Any x × (x.0 ≡ p)) (λ x. x.1) (λ e. (p, e)) expression_row ex
+      word_at_right limit bound behind_use (cue.Word key.Assertion) Any (λ x. x.0) (λ x. expression_row x.1)
+      (λ p. ex ⨟ λ e. pure (p, e)) λ p.
+      last_right limit bound behind_use Any (λ x. Any x × (x.0 ≡ p)) (λ x. x.1) (λ e. (p, e)) expression_row ex
       (record {
         to = λ e f. (tt, refl);
         from = λ x f. tt;
         back = λ e. refl;
         only = λ x f. ap (λ (q : Pos). (q, x.1)) f.1;
       })
-      (narrowed bound behind_expression behind_use Any expression_row ex use_behind (right bound))
+      (narrowed limit bound behind_expression behind_use Any expression_row ex use_behind (right bound))
 
-  pub use_right : (bound : ℕ) → IsRight bound behind_use Any use_parts (a_use ex)
+  pub use_right : (bound : ℕ) → IsRight limit bound behind_use Any use_parts (a_use ex)
   use_right bound =
-      choice_right bound behind_use (is_word key.Assertion) Any IsAsserted IsOther use_parts
-      (asserted ex ⨟ λ x. done (uses.Assertion x.0 x.1))
-      (by_word is_rounding (rounded ⨟ λ x. done (uses.DateRound x.0 x.1))
-      (both lead (tail ex) ⨟ λ x. done (use_of x)))
+      choice_right limit bound behind_use (is_word key.Assertion) Any IsAsserted IsOther use_parts
+      (asserted ex ⨟ λ x. pure (uses.Assertion x.0 x.1))
+      (by_word is_rounding (rounded ⨟ λ x. pure (uses.DateRound x.0 x.1))
+      (both lead (tail ex) ⨟ λ x. pure (use_of x)))
       (record {
         either = λ y f. either_use y;
         from_yes = λ y f. tt;
@@ -334,10 +338,11 @@ module _ (ex : Reader Node) (right : ReadsExpressions ex) where
         on = λ y w v f s o. asserted_head (is_word key.Assertion) y w v f s;
         off = λ y w v f s o. other_off y w v f s;
       })
-      (made_right bound behind_use Any (λ x. Word (At (kind.Word key.Assertion) x.0) (expression_row x.1)) use_parts
+      (made_right limit bound behind_use Any (λ x. Word (At (kind.Word key.Assertion) x.0) (expression_row x.1))
+      use_parts
       (λ x. uses.Assertion x.0 x.1) (asserted ex) (λ x. refl) (asserted_right bound))
-      (choice_right bound behind_use is_rounding IsOther IsRounded IsLed use_parts
-      (rounded ⨟ λ x. done (uses.DateRound x.0 x.1)) (both lead (tail ex) ⨟ λ x. done (use_of x))
+      (choice_right limit bound behind_use is_rounding IsOther IsRounded IsLed use_parts
+      (rounded ⨟ λ x. pure (uses.DateRound x.0 x.1)) (both lead (tail ex) ⨟ λ x. pure (use_of x))
       (record {
         either = λ y f. f;
         from_yes = λ y f. inl f;
@@ -345,8 +350,8 @@ module _ (ex : Reader Node) (right : ReadsExpressions ex) where
         on = λ y w v f s o. rounded_head is_rounding y w v f s;
         off = λ y w v f s o. led_head is_rounding false refl refl refl refl y w v f s;
       })
-      (made_right bound behind_use Any rounded_row use_parts (λ x. uses.DateRound x.0 x.1) rounded (λ x. refl)
-      (rounded_right bound))
+      (made_right limit bound behind_use Any rounded_row use_parts (λ x. uses.DateRound x.0 x.1) rounded (λ x. refl)
+      (rounded_right limit bound))
       (led_right bound))
     where
       other_off : (y : Use) (w v : List Token) → IsOther y → AreSpelled (use_parts y) w
@@ -356,52 +361,54 @@ module _ (ex : Reader Node) (right : ReadsExpressions ex) where
 
   -- ---- a scope block
 
-  condition_right : (bound : ℕ) → IsRight bound is_colon Any expression_after (condition ex)
+  condition_right : (bound : ℕ) → IsRight limit bound is_colon Any expression_after (condition ex)
   condition_right bound =
-      word_right bound is_colon (cue.Pair pair.UnderCondition) Any expression_row (λ p. ex)
-      (λ p. narrowed bound behind_expression is_colon Any expression_row ex colon_behind (right bound))
+      word_right limit bound is_colon (cue.Pair pair.UnderCondition) Any expression_row (λ p. ex)
+      (λ p. narrowed limit bound behind_expression is_colon Any expression_row ex colon_behind (right bound))
 
-  conditions : (bound : ℕ) → IsRight bound is_colon (OptionFits Any) condition_parts (optional is_under (condition ex))
+  conditions : (bound : ℕ) → IsRight limit bound is_colon (OptionFits Any) condition_parts
+      (optional is_under (condition ex))
   conditions bound =
-      optional_right bound is_colon is_under Any expression_after condition_parts (condition ex)
+      optional_right limit bound is_colon is_under Any expression_after condition_parts (condition ex)
       (opens_word is_under (kind.Pair pair.UnderCondition) Any expression_row refl) colon_off refl (λ e. refl)
       (condition_right bound)
 
-  uses_right : (bound : ℕ) → IsRight bound is_item (AllFit Any) (all use_parts) (many is_use (a_use ex))
+  uses_right : (bound : ℕ) → IsRight limit bound is_item (AllFit Any) (all use_parts) (many is_use (a_use ex))
   uses_right bound =
-      many_right is_item behind_use is_use Any use_parts
+      many_right limit is_item behind_use is_use Any use_parts
       (a_use ex) use_opens item_no_use use_behind_use item_behind_use use_right bound
 
-  pub block_right : (bound : ℕ) → IsRight bound is_item Any block_parts (block ex)
+  pub block_right : (bound : ℕ) → IsRight limit bound is_item Any block_parts (block ex)
   block_right bound =
-      word_at_right bound is_item (cue.Word key.Scope) Any (λ b. b.pos)
+      word_at_right limit bound is_item (cue.Word key.Scope) Any (λ b. b.pos)
       (λ b. Word (At (kind.Upper b.name.text) b.name.pos)
       (condition_parts b.condition ▸ Word (Anywhere (kind.Symbol symbol.Colon)) (all use_parts b.uses)))
       (λ p. upper ⨟ λ u. optional is_under (condition ex) ⨟ λ c. «word» (cue.Sign symbol.Colon)
-      ⨟ λ q. many is_use (a_use ex) ⨟ λ us. done (record { pos = p; name = u; condition = c; uses = us })) λ p.
-      upper_right bound is_item (λ b. Any b × (b.pos ≡ p)) (λ b. b.name)
+      ⨟ λ q. many is_use (a_use ex) ⨟ λ us. pure (record { pos = p; name = u; condition = c; uses = us })) λ p.
+      upper_right limit bound is_item (λ b. Any b × (b.pos ≡ p)) (λ b. b.name)
       (λ b. condition_parts b.condition ▸ Word (Anywhere (kind.Symbol symbol.Colon)) (all use_parts b.uses))
       (λ u. optional is_under (condition ex) ⨟ λ c. «word» (cue.Sign symbol.Colon) ⨟ λ q. many is_use (a_use ex)
-      ⨟ λ us. done (record { pos = p; name = u; condition = c; uses = us })) λ u.
-      part_right bound bound is_item is_colon (λ b. (Any b × (b.pos ≡ p)) × (b.name ≡ u)) (OptionFits Any)
+      ⨟ λ us. pure (record { pos = p; name = u; condition = c; uses = us })) λ u.
+      part_right limit bound bound is_item is_colon (λ b. (Any b × (b.pos ≡ p)) × (b.name ≡ u)) (OptionFits Any)
       (λ b. b.condition) condition_parts (λ b. Word (Anywhere (kind.Symbol symbol.Colon)) (all use_parts b.uses))
       (optional is_under (condition ex))
       (λ c. «word» (cue.Sign symbol.Colon) ⨟ λ q. many is_use (a_use ex)
-      ⨟ λ us. done (record { pos = p; name = u; condition = c; uses = us }))
+      ⨟ λ us. pure (record { pos = p; name = u; condition = c; uses = us }))
       (record {
         fit = λ b f. any_option b.condition;
         behind =
             λ b w v f s o. outside_heads is_colon (w ++ v)
             (head_any is_colon (kind.Symbol symbol.Colon) (all use_parts b.uses) w v s);
         shrinks =
-            no_longer bound is_colon (OptionFits Any) condition_parts (optional is_under (condition ex))
+            no_longer limit bound is_colon (OptionFits Any) condition_parts (optional is_under (condition ex))
             (conditions bound);
       })
       (conditions bound) λ c g.
-      word_right bound is_item (cue.Sign symbol.Colon) (λ b. ((Any b × (b.pos ≡ p)) × (b.name ≡ u)) × (b.condition ≡ c))
+      word_right limit bound is_item (cue.Sign symbol.Colon) (λ b. ((Any b × (b.pos ≡ p)) × (b.name ≡ u))
+      × (b.condition ≡ c))
       (λ b. all use_parts b.uses)
-      (λ q. many is_use (a_use ex) ⨟ λ us. done (record { pos = p; name = u; condition = c; uses = us })) λ q.
-      last_right bound is_item (AllFit Any) (λ b. ((Any b × (b.pos ≡ p)) × (b.name ≡ u)) × (b.condition ≡ c))
+      (λ q. many is_use (a_use ex) ⨟ λ us. pure (record { pos = p; name = u; condition = c; uses = us })) λ q.
+      last_right limit bound is_item (AllFit Any) (λ b. ((Any b × (b.pos ≡ p)) × (b.name ≡ u)) × (b.condition ≡ c))
       (λ b. b.uses) (λ us. record { pos = p; name = u; condition = c; uses = us }) (all use_parts)
       (many is_use (a_use ex))
       (record {

@@ -4,7 +4,7 @@ use Rattle.std.proofs.Common.{None, refl, sym, ap, subst, ◌∙◌, arith, inl,
 use Rattle.cat_lex.specs.declared.token.Token.{Token}
 use Rattle.cat_lex.specs.declared.token.TokenKind.{TokenKind}
 use Rattle.cat_tree.specs.Phrase.{Parts, End, Word, Anywhere, tallest, AreLevelled, AreSpelled}
-use Rattle.cat_parse_row.specs.Reader.{Outcome, Reader, Fails, Reads, left_of, after, ◌⨟◌, done, heads, by_word}
+use Rattle.cat_parse_row.specs.Reader.{Parsed, Reader, Fails, Reads, left_of, after, ◌⨟◌, pure, heads, by_word}
 use Rattle.cat_parse_row.specs.Reader.{optional}
 use Rattle.cat_parse_row.specs.Right.{Agree, Outside, Is, Begun, Took, Taken, Says, Alike, IsRight}
 use Rattle.cat_parse_row.proofs.Steps.{no_front}
@@ -16,8 +16,8 @@ pub record Same {B : Type 0} (fits fits2 : B → Type 0) (row row2 : B → Parts
   pub from : (y : B) → fits2 y → fits y
   pub rows : (y : B) → fits y → row y ≡ row2 y
 
-module _ {B : Type 0} (bound : ℕ) (out : TokenKind → Bool) (fits fits2 : B → Type 0) (row row2 : B → Parts)
-    (r : Reader B) (s : Same fits fits2 row row2) (right : IsRight bound out fits row r) where
+module _ {B : Type 0} (limit bound : ℕ) (out : TokenKind → Bool) (fits fits2 : B → Type 0) (row row2 : B → Parts)
+    (r : Reader B) (s : Same fits fits2 row row2) (right : IsRight limit bound out fits row r) where
   to_second : (y : B) (w : List Token) → Is fits row y w → Is fits2 row2 y w
   to_second y w i = record {
     fit = s.to y i.fit;
@@ -37,18 +37,19 @@ module _ {B : Type 0} (bound : ℕ) (out : TokenKind → Bool) (fits fits2 : B �
   begun_same : (u : List Token) → Begun fits row u → Begun fits2 row2 u
   begun_same u b = record { value = b.value; more = b.more; is = to_second b.value (u ++ b.more) b.is }
 
-  took_same : (o : Outcome B) (u : List Token) → Took fits row o u → Took fits2 row2 o u
+  took_same : (o : Parsed B) (u : List Token) → Took limit fits row o u → Took limit fits2 row2 o u
   took_same (Fails left false) u t = begun_same u t
   took_same (Fails left true) u t =
       record { next = t.next; after = t.after; text = t.text; begun = begun_same (u ++ t.next ∷ []) t.begun }
-  took_same (Reads y left) u t = (to_second y u t.0, subst (λ (ps : Parts). tallest ps ≤ 256) (s.rows y t.0.fit) t.1)
+  took_same (Reads y left) u t = (to_second y u t.0, subst (λ (ps : Parts). tallest ps ≤ limit) (s.rows y t.0.fit) t.1)
 
-  says_same : (o : Outcome B) (y : B) (w u : List Token) → fits y → Says row o y w u → Says row2 o y w u
+  says_same : (o : Parsed B) (y : B) (w u : List Token) → fits y → Says limit row o y w u → Says limit row2 o y w u
   says_same (Fails left false) y w u fit x = x
-  says_same (Fails left true) y w u fit x = λ low. x (subst (λ (ps : Parts). tallest ps ≤ 256) (sym (s.rows y fit)) low)
+  says_same (Fails left true) y w u fit x =
+      λ low. x (subst (λ (ps : Parts). tallest ps ≤ limit) (sym (s.rows y fit)) low)
   says_same (Reads z left) y w u fit x = x
 
-  pub reshaped : IsRight bound out fits2 row2 r
+  pub reshaped : IsRight limit bound out fits2 row2 r
   reshaped = record {
     alive = begun_same [] right.alive;
     taken =
@@ -68,8 +69,9 @@ module _ {B : Type 0} (bound : ℕ) (out : TokenKind → Bool) (fits fits2 : B �
 
 -- ---- what is made of what was read
 
-module _ {A B : Type 0} (bound : ℕ) (out : TokenKind → Bool) (fits : A → Type 0) (row : A → Parts) (row2 : B → Parts)
-    (f : A → B) (r : Reader A) (rows : (x : A) → row2 (f x) ≡ row x) (right : IsRight bound out fits row r) where
+module _ {A B : Type 0} (limit bound : ℕ) (out : TokenKind → Bool) (fits : A → Type 0) (row : A → Parts)
+    (row2 : B → Parts)
+    (f : A → B) (r : Reader A) (rows : (x : A) → row2 (f x) ≡ row x) (right : IsRight limit bound out fits row r) where
   abbrev made_fits : B → Type 0
   made_fits y = (x : A) × fits x × (y ≡ f x)
 
@@ -83,8 +85,8 @@ module _ {A B : Type 0} (bound : ℕ) (out : TokenKind → Bool) (fits : A → T
   begun_made : (u : List Token) → Begun fits row u → Begun made_fits row2 u
   begun_made u b = record { value = f b.value; more = b.more; is = made b.value (u ++ b.more) b.is }
 
-  taken_made : (ts : List Token) (o : Outcome A) → Taken fits row o ts
-      → Taken made_fits row2 (after o (λ x. done (f x))) ts
+  taken_made : (ts : List Token) (o : Parsed A) → Taken limit fits row o ts
+      → Taken limit made_fits row2 (after o (λ x. pure (f x))) ts
   taken_made ts (Fails left false) t = record { front = t.front; text = t.text; took = begun_made t.front t.took }
   taken_made ts (Fails left true) t =
       record {
@@ -102,15 +104,15 @@ module _ {A B : Type 0} (bound : ℕ) (out : TokenKind → Bool) (fits : A → T
       record {
         front = t.front;
         text = t.text;
-        took = (made x t.front t.took.0, subst (λ (ps : Parts). tallest ps ≤ 256) (sym (rows x)) t.took.1);
+        took = (made x t.front t.took.0, subst (λ (ps : Parts). tallest ps ≤ limit) (sym (rows x)) t.took.1);
       }
 
-  says_made : (ts : List Token) (o : Outcome A)
+  says_made : (ts : List Token) (o : Parsed A)
       → ((front : List Token) (x : A) (w : List Token) → ts ≡ front ++ left_of o
-      → Alike out fits row (left_of o) front x w → Says row o x w front)
-      → (front : List Token) (y : B) (w : List Token) → ts ≡ front ++ left_of (after o (λ x. done (f x)))
-      → Alike out made_fits row2 (left_of (after o (λ x. done (f x)))) front y w
-      → Says row2 (after o (λ x. done (f x))) y w front
+      → Alike out fits row (left_of o) front x w → Says limit row o x w front)
+      → (front : List Token) (y : B) (w : List Token) → ts ≡ front ++ left_of (after o (λ x. pure (f x)))
+      → Alike out made_fits row2 (left_of (after o (λ x. pure (f x)))) front y w
+      → Says limit row2 (after o (λ x. pure (f x))) y w front
   says_made ts o says front y w text a = by o says text a.agree
     where
       inner : Is fits row a.is.fit.0 w
@@ -126,18 +128,18 @@ module _ {A B : Type 0} (bound : ℕ) (out : TokenKind → Bool) (fits : A → T
       alike left g =
           record { others = a.others; behind = a.behind; agree = g; is = inner; outside = a.outside; text = a.text }
 
-      by : (o : Outcome A)
+      by : (o : Parsed A)
           → ((front : List Token) (x : A) (w : List Token) → ts ≡ front ++ left_of o
-          → Alike out fits row (left_of o) front x w → Says row o x w front)
-          → ts ≡ front ++ left_of (after o (λ x. done (f x))) → Agree (left_of (after o (λ x. done (f x)))) a.others
-          → Says row2 (after o (λ x. done (f x))) y w front
+          → Alike out fits row (left_of o) front x w → Says limit row o x w front)
+          → ts ≡ front ++ left_of (after o (λ x. pure (f x))) → Agree (left_of (after o (λ x. pure (f x)))) a.others
+          → Says limit row2 (after o (λ x. pure (f x))) y w front
       by (Fails left false) s t g = s front a.is.fit.0 w t (alike left g)
       by (Fails left true) s t g =
           λ low. s front a.is.fit.0 w t (alike left g)
-          (subst (λ (ps : Parts). tallest ps ≤ 256) (ap row2 a.is.fit.2 ∙ rows a.is.fit.0) low)
+          (subst (λ (ps : Parts). tallest ps ≤ limit) (ap row2 a.is.fit.2 ∙ rows a.is.fit.0) low)
       by (Reads x left) s t g = let e = s front a.is.fit.0 w t (alike left g) in (a.is.fit.2 ∙ ap f e.0, e.1)
 
-  pub made_right : IsRight bound out (λ y. (x : A) × fits x × (y ≡ f x)) row2 (r ⨟ λ x. done (f x))
+  pub made_right : IsRight limit bound out (λ y. (x : A) × fits x × (y ≡ f x)) row2 (r ⨟ λ x. pure (f x))
   made_right = record {
     alive = begun_made [] right.alive;
     taken = λ ts le. taken_made ts (r ts) (right.taken ts le);
@@ -164,15 +166,15 @@ pub record Decides {B : Type 0} (out test : TokenKind → Bool) (fits yes_fits n
   pub on : (y : B) (w v : List Token) → yes_fits y → AreSpelled (row y) w → Outside out v → heads test (w ++ v) ≡ true
   pub off : (y : B) (w v : List Token) → no_fits y → AreSpelled (row y) w → Outside out v → heads test (w ++ v) ≡ false
 
-widened : {B : Type 0} (fits fits2 : B → Type 0) (row : B → Parts) (o : Outcome B) (u : List Token)
-    → ((y : B) → fits y → fits2 y) → Took fits row o u → Took fits2 row o u
-widened fits fits2 row (Fails left false) u f t =
+widened : {B : Type 0} (limit : ℕ) (fits fits2 : B → Type 0) (row : B → Parts) (o : Parsed B) (u : List Token)
+    → ((y : B) → fits y → fits2 y) → Took limit fits row o u → Took limit fits2 row o u
+widened limit fits fits2 row (Fails left false) u f t =
     record {
       value = t.value;
       more = t.more;
       is = record { fit = f t.value t.is.fit; levels = t.is.levels; spelled = t.is.spelled };
     }
-widened fits fits2 row (Fails left true) u f t =
+widened limit fits fits2 row (Fails left true) u f t =
     record {
       next = t.next;
       after = t.after;
@@ -188,22 +190,23 @@ widened fits fits2 row (Fails left true) u f t =
             };
           };
     }
-widened fits fits2 row (Reads y left) u f t =
+widened limit fits fits2 row (Reads y left) u f t =
     (record { fit = f y t.0.fit; levels = t.0.levels; spelled = t.0.spelled }, t.1)
 
-module _ {B : Type 0} (bound : ℕ) (out test : TokenKind → Bool) (fits yes_fits no_fits : B → Type 0) (row : B → Parts)
-    (a b : Reader B) (d : Decides out test fits yes_fits no_fits row) (ra : IsRight bound out yes_fits row a)
-    (rb : IsRight bound out no_fits row b) where
+module _ {B : Type 0} (limit bound : ℕ) (out test : TokenKind → Bool) (fits yes_fits no_fits : B → Type 0)
+    (row : B → Parts)
+    (a b : Reader B) (d : Decides out test fits yes_fits no_fits row) (ra : IsRight limit bound out yes_fits row a)
+    (rb : IsRight limit bound out no_fits row b) where
   clash : (c : Bool) → c ≡ true → c ≡ false → ⊥
   clash c x y = absurd cc
 
-  taken_by : (ts : List Token) → length ts ≤ bound → (c : Bool) → Taken fits row (if c then a ts else b ts) ts
+  taken_by : (ts : List Token) → length ts ≤ bound → (c : Bool) → Taken limit fits row (if c then a ts else b ts) ts
   taken_by ts le true =
       let t =
       ra.taken ts le in record {
         front = t.front;
         text = t.text;
-        took = widened yes_fits fits row
+        took = widened limit yes_fits fits row
             (a ts) t.front d.from_yes t.took;
       }
   taken_by ts le false =
@@ -211,7 +214,7 @@ module _ {B : Type 0} (bound : ℕ) (out test : TokenKind → Bool) (fits yes_fi
       rb.taken ts le in record {
         front = t.front;
         text = t.text;
-        took = widened no_fits fits row
+        took = widened limit no_fits fits row
             (b ts) t.front d.from_no t.took;
       }
 
@@ -223,7 +226,7 @@ module _ {B : Type 0} (bound : ℕ) (out test : TokenKind → Bool) (fits yes_fi
   says_by : (ts : List Token) → length ts ≤ bound → (c : Bool) → heads test ts ≡ c
       → (front : List Token) (y : B) (w : List Token) → ts ≡ front ++ left_of (if c then a ts else b ts)
       → Alike out fits row (left_of (if c then a ts else b ts)) front y w
-      → Says row (if c then a ts else b ts) y w front
+      → Says limit row (if c then a ts else b ts) y w front
   says_by ts le true e front y w text x = elim (d.either y x.is.fit) [
     | inl f ↦ ra.says ts front y w le text
         (record {
@@ -251,7 +254,7 @@ module _ {B : Type 0} (bound : ℕ) (out test : TokenKind → Bool) (fits yes_fi
         })
   ]
 
-  pub choice_right : IsRight bound out fits row (by_word test a b)
+  pub choice_right : IsRight limit bound out fits row (by_word test a b)
   choice_right = record {
     alive =
         let x =
@@ -267,9 +270,9 @@ module _ {B : Type 0} (bound : ℕ) (out test : TokenKind → Bool) (fits yes_fi
 
 -- ---- nothing, and what may be there
 
-pub none_right : {B : Type 0} → (bound : ℕ) (out : TokenKind → Bool) (row : B → Parts) (x : B) → row x ≡ End
-    → IsRight bound out (λ y. y ≡ x) row (done x)
-none_right bound out row x e =
+pub none_right : {B : Type 0} → (limit bound : ℕ) (out : TokenKind → Bool) (row : B → Parts) (x : B) → row x ≡ End
+    → IsRight limit bound out (λ y. y ≡ x) row (pure x)
+none_right limit bound out row x e =
     let is : Is (λ y. y ≡ x) row x [] =
     record {
       fit = refl;
@@ -325,22 +328,22 @@ option_decides {A = A} out start fits row row2 opens off none some = record {
     either (Some x) f = inl (x, f, refl)
 
 pub optional_right : {A : Type 0}
-    → (bound : ℕ) (out start : TokenKind → Bool) (fits : A → Type 0) (row : A → Parts) (row2 : Option A → Parts)
+    → (limit bound : ℕ) (out start : TokenKind → Bool) (fits : A → Type 0) (row : A → Parts) (row2 : Option A → Parts)
     (r : Reader A) → Opens start fits row → ((k : TokenKind) → out k ≡ true → start k ≡ false) → row2 None ≡ End
     → ((x : A) → row2 (Some x) ≡ row x)
-    → IsRight bound out fits row r → IsRight bound out (OptionFits fits) row2 (optional start r)
-optional_right {A = A} bound out start fits row row2 r opens off none some right =
-    choice_right bound out start (OptionFits fits) (λ y. (x : A) × fits x × (y ≡ Some x)) (λ y. y ≡ None) row2
-    (r ⨟ λ x. done (Some x)) (done None)
+    → IsRight limit bound out fits row r → IsRight limit bound out (OptionFits fits) row2 (optional start r)
+optional_right {A = A} limit bound out start fits row row2 r opens off none some right =
+    choice_right limit bound out start (OptionFits fits) (λ y. (x : A) × fits x × (y ≡ Some x)) (λ y. y ≡ None) row2
+    (r ⨟ λ x. pure (Some x)) (pure None)
     (option_decides out start fits row row2 opens off none some)
-    (made_right bound out fits row row2 (λ x. Some x) r some right)
-    (none_right bound out row2 None none)
+    (made_right limit bound out fits row row2 (λ x. Some x) r some right)
+    (none_right limit bound out row2 None none)
 
 -- where less may follow, it is right still
-pub narrowed : {B : Type 0} (bound : ℕ) (out less : TokenKind → Bool) (fits : B → Type 0) (row : B → Parts)
-    (r : Reader B) → ((v : List Token) → Outside less v → Outside out v) → IsRight bound out fits row r
-    → IsRight bound less fits row r
-narrowed bound out less fits row r wide h = record {
+pub narrowed : {B : Type 0} (limit bound : ℕ) (out less : TokenKind → Bool) (fits : B → Type 0) (row : B → Parts)
+    (r : Reader B) → ((v : List Token) → Outside less v → Outside out v) → IsRight limit bound out fits row r
+    → IsRight limit bound less fits row r
+narrowed limit bound out less fits row r wide h = record {
   alive = h.alive;
   taken = h.taken;
   says =

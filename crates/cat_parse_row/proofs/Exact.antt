@@ -1,5 +1,6 @@
 -- A program is read exactly, where expressions are.
-use Rattle.std.proofs.Common.{◌≡◌, ℕ, Bool, true, false, ◌&&◌, List, [], ◌∷◌, ◌++◌, length, refl, sym, ap, subst, ◌∙◌}
+use Rattle.std.proofs.Common.{◌≡◌, ◌≤◌, ℕ, Bool, true, false, ◌&&◌, List, [], ◌∷◌, ◌++◌, length, refl, sym, ap, subst}
+use Rattle.std.proofs.Common.{◌∙◌}
 use Rattle.std.proofs.Common.{append_assoc, arith}
 use Rattle.std.proofs.lemmas.List.{append-nil, length-append}
 use Rattle.cat_lex.specs.declared.token.Token.{Token}
@@ -8,12 +9,12 @@ use Rattle.cat_tree.specs.declared.expression.Node.{Node}
 use Rattle.cat_tree.specs.declared.program.Item.{Item}
 use Rattle.cat_tree.specs.declared.program.Tree.{Tree}
 use Rattle.cat_tree.specs.Joined.{all}
-use Rattle.cat_tree.specs.Programs.{is_filled, are_filled, item_parts, SpellsProgram, BeginsProgram}
-use Rattle.cat_parse_row.specs.Reader.{Outcome, Reader, Fails, Reads, left_of, after}
+use Rattle.cat_tree.specs.Programs.{highest_in, is_filled, are_filled, item_parts, SpellsProgram, BeginsProgram}
+use Rattle.cat_parse_row.specs.Reader.{Parsed, Reader, Fails, Reads, left_of, after}
 use Rattle.cat_parse_row.specs.Right.{Agree, Is, Begun, Taken, Says, Alike, IsRight}
 use Rattle.cat_parse_row.specs.Uses.{is_item}
 use Rattle.cat_parse_row.specs.Programs.{an_item, items, to_end, program}
-use Rattle.cat_parse_row.specs.Exactly.{ReadsExpressions, Exactly}
+use Rattle.cat_parse_row.specs.Exactly.{ReadsExpressions, ReadsExpressionsTo, SpellOneProgram, Exactly}
 use Rattle.cat_parse_row.proofs.Lists.{AllFit, many_right}
 use Rattle.cat_parse_row.proofs.Items.{Filled, item_opens, item_right}
 
@@ -27,11 +28,11 @@ no_word e = absurd (clash e)
     clash : false ≡ true → ⊥
     clash e = absurd cc
 
-items_right : (ex : Reader Node) → ReadsExpressions ex → (bound : ℕ)
-    → IsRight bound nothing (AllFit Filled) (all item_parts) (items ex)
-items_right ex right bound =
-    many_right nothing is_item is_item Filled item_parts (an_item ex) item_opens (λ k e. no_word e) (λ k e. e)
-    (λ k e. no_word e) (item_right ex right) bound
+items_right : (limit : ℕ) (ex : Reader Node) → ReadsExpressionsTo limit ex → (bound : ℕ)
+    → IsRight limit bound nothing (AllFit Filled) (all item_parts) (items ex)
+items_right limit ex right bound =
+    many_right limit nothing is_item is_item Filled item_parts (an_item ex) item_opens (λ k e. no_word e) (λ k e. e)
+    (λ k e. no_word e) (item_right limit ex right) bound
 
 filled_of : (is : List Item) → AllFit Filled is → are_filled is ≡ true
 filled_of [] f = refl
@@ -67,10 +68,10 @@ agree_self : (ts : List Token) → Agree ts ts
 agree_self [] = tt
 agree_self (p ∷ ts) = refl
 
-abbrev Sayer : List Token → Outcome (List Item) → Type 0
+abbrev Sayer : List Token → Parsed (List Item) → Type 0
 Sayer tokens o =
     (front : List Token) (y : List Item) (w : List Token) → tokens ≡ front ++ left_of o
-    → Alike nothing (AllFit Filled) (all item_parts) (left_of o) front y w → Says (all item_parts) o y w front
+    → Alike nothing (AllFit Filled) (all item_parts) (left_of o) front y w → Says 256 (all item_parts) o y w front
 
 -- a program that begins with the front and the next token
 goes_on : (front left : List Token) (p : Token) (rest : List Token) → left ≡ p ∷ rest
@@ -98,7 +99,7 @@ all_of tokens front left text t s =
       text = append-nil tokens ∙ text;
     }
 
-exact_of : (tokens : List Token) (o : Outcome (List Item)) → Taken (AllFit Filled) (all item_parts) o tokens
+exact_of : (tokens : List Token) (o : Parsed (List Item)) → Taken 256 (AllFit Filled) (all item_parts) o tokens
     → Sayer tokens o → Exactly tokens (after o to_end)
 exact_of tokens (Fails left false) t says = (
   t.front,
@@ -164,6 +165,29 @@ exact_of tokens (Reads is (q ∷ left)) t says = (
 pub program_exact : (ex : Reader Node) → ReadsExpressions ex → (tokens : List Token)
     → Exactly tokens (program ex tokens)
 program_exact ex right tokens =
-    let r = items_right ex right (length tokens) in
+    let r = items_right 256 ex right (length tokens) in
     exact_of tokens (items ex tokens) (r.taken tokens (omega arith))
     (λ front y w text a. r.says tokens front y w (omega arith) text a)
+
+-- ---- at most one
+
+abbrev Judges : (limit : ℕ) → List Token → Parsed (List Item) → Type 0
+Judges limit tokens o =
+    (front : List Token) → tokens ≡ front ++ left_of o → (t : Tree) → SpellsProgram t tokens
+    → Says limit (all item_parts) o t.items tokens front
+
+one_by : (limit : ℕ) (tokens : List Token) (o : Parsed (List Item))
+    → Taken limit (AllFit Filled) (all item_parts) o tokens → Judges limit tokens o → (t u : Tree)
+    → SpellsProgram t tokens → SpellsProgram u tokens → highest_in t ≤ limit → t ≡ u
+one_by limit tokens (Fails left false) k says t u st su low = absurd (says k.front k.text t st)
+one_by limit tokens (Fails left true) k says t u st su low = absurd (says k.front k.text t st low)
+one_by limit tokens (Reads is left) k says t u st su low =
+    ap (λ (x : List Item). tree_of x) ((says k.front k.text t st).0 ∙ sym (says k.front k.text u su).0)
+
+-- where expressions are read up to a height, tokens that spell a program so low spell no other
+pub one_program : (limit : ℕ) (ex : Reader Node) → ReadsExpressionsTo limit ex → SpellOneProgram limit
+one_program limit ex right = λ tokens t u st su low.
+    let r = items_right limit ex right (length tokens) in
+    one_by limit tokens (items ex tokens) (r.taken tokens (omega arith))
+    (λ front text t s. r.says tokens front t.items tokens (omega arith) text
+    (all_of tokens front (left_of (items ex tokens)) text t s)) t u st su low

@@ -17,13 +17,14 @@ use Rattle.cat_tree.specs.Grammar.{phrase}
 use Rattle.cat_tree.specs.Joined.{◌▸◌}
 use Rattle.cat_tree.specs.Uses.{target_parts, use_condition_parts, fulfilled_parts}
 use Rattle.cat_parse_row.specs.declared.cue.Cue.TheVariants as cue
-use Rattle.cat_parse_row.specs.Reader.{Reader, ◌⨟◌, done, heads, optional}
+use Rattle.cat_parse_row.specs.Reader.{Reader, ◌⨟◌, pure, heads, optional}
 use Rattle.cat_parse_row.specs.Right.{Outside, IsRight}
 use Rattle.cat_parse_row.specs.Declarations.{key_word, is_word}
 use Rattle.cat_parse_row.specs.Leads.{target}
-use Rattle.cat_parse_row.specs.Uses.{behind_use, behind_expression, is_under, guard, whether_fulfilled, defined, ruled}
-use Rattle.cat_parse_row.specs.Exactly.{expression_row, ReadsExpressions}
-use Rattle.cat_parse_row.proofs.Steps.{done_right}
+use Rattle.cat_parse_row.specs.Uses.{behind_use, behind_expression}
+use Rattle.cat_parse_row.specs.Tails.{is_under, guard, whether_fulfilled, defined, ruled}
+use Rattle.cat_parse_row.specs.Exactly.{expression_row, ReadsExpressionsTo}
+use Rattle.cat_parse_row.proofs.Steps.{pure_right}
 use Rattle.cat_parse_row.proofs.Sequel.{part_right}
 use Rattle.cat_parse_row.proofs.Choices.{OptionFits, optional_right, reshaped, choice_right, narrowed, opens_word}
 use Rattle.cat_parse_row.proofs.Leaves.{word_right, word_at_right}
@@ -35,11 +36,12 @@ use Rattle.cat_parse_row.proofs.Targets.{behind_target, target_right}
 
 -- ---- whether a rule is fulfilled
 
-fulfilled_right : (bound : ℕ) → IsRight bound any_word Any fulfilled_parts whether_fulfilled
-fulfilled_right bound =
-    choice_right bound any_word (is_word key.Not) Any (λ f. f ≡ fulfilled.No) (λ f. f ≡ fulfilled.Yes) fulfilled_parts
-    (key_word key.Not ⨟ λ p. key_word key.Fulfilled ⨟ λ q. done fulfilled.No)
-    (key_word key.Fulfilled ⨟ λ p. done fulfilled.Yes)
+fulfilled_right : (limit bound : ℕ) → IsRight limit bound any_word Any fulfilled_parts whether_fulfilled
+fulfilled_right limit bound =
+    choice_right limit bound any_word (is_word key.Not) Any (λ f. f ≡ fulfilled.No) (λ f. f ≡ fulfilled.Yes)
+    fulfilled_parts
+    (key_word key.Not ⨟ λ p. key_word key.Fulfilled ⨟ λ q. pure fulfilled.No)
+    (key_word key.Fulfilled ⨟ λ p. pure fulfilled.Yes)
     (record {
       either = either;
       from_yes = λ f e. tt;
@@ -51,22 +53,22 @@ fulfilled_right bound =
           λ f w v e s o. let t = subst (λ (z : Fulfilled). AreSpelled (fulfilled_parts z) w) e s in
           ap (λ (u : List Token). heads (is_word key.Not) (u ++ v)) t.2 ∙ ap (is_word key.Not) t.3;
     })
-    (reshaped bound any_word (λ f. f ≡ fulfilled.No) (λ f. f ≡ fulfilled.No)
+    (reshaped limit bound any_word (λ f. f ≡ fulfilled.No) (λ f. f ≡ fulfilled.No)
     (λ f. Word (Anywhere (kind.Word key.Not)) (Word (Anywhere (kind.Word key.Fulfilled)) End)) fulfilled_parts
-    (key_word key.Not ⨟ λ p. key_word key.Fulfilled ⨟ λ q. done fulfilled.No)
+    (key_word key.Not ⨟ λ p. key_word key.Fulfilled ⨟ λ q. pure fulfilled.No)
     (record { to = λ f e. e; from = λ f e. e; rows = λ f e. ap fulfilled_parts (sym e) })
-    (word_right bound any_word (cue.Word key.Not) (λ (f : Fulfilled). f ≡ fulfilled.No)
-    (λ f. Word (Anywhere (kind.Word key.Fulfilled)) End) (λ p. key_word key.Fulfilled ⨟ λ q. done fulfilled.No) λ p.
-    word_right bound any_word (cue.Word key.Fulfilled) (λ (f : Fulfilled). f ≡ fulfilled.No) (λ f. End)
-    (λ q. done fulfilled.No) λ q.
-    done_right bound any_word (λ f. f ≡ fulfilled.No) fulfilled.No refl (λ f e. e)))
-    (reshaped bound any_word (λ f. f ≡ fulfilled.Yes) (λ f. f ≡ fulfilled.Yes)
+    (word_right limit bound any_word (cue.Word key.Not) (λ (f : Fulfilled). f ≡ fulfilled.No)
+    (λ f. Word (Anywhere (kind.Word key.Fulfilled)) End) (λ p. key_word key.Fulfilled ⨟ λ q. pure fulfilled.No) λ p.
+    word_right limit bound any_word (cue.Word key.Fulfilled) (λ (f : Fulfilled). f ≡ fulfilled.No) (λ f. End)
+    (λ q. pure fulfilled.No) λ q.
+    pure_right limit bound any_word (λ f. f ≡ fulfilled.No) fulfilled.No refl (λ f e. e)))
+    (reshaped limit bound any_word (λ f. f ≡ fulfilled.Yes) (λ f. f ≡ fulfilled.Yes)
     (λ f. Word (Anywhere (kind.Word key.Fulfilled)) End) fulfilled_parts
-    (key_word key.Fulfilled ⨟ λ p. done fulfilled.Yes)
+    (key_word key.Fulfilled ⨟ λ p. pure fulfilled.Yes)
     (record { to = λ f e. e; from = λ f e. e; rows = λ f e. ap fulfilled_parts (sym e) })
-    (word_right bound any_word (cue.Word key.Fulfilled) (λ (f : Fulfilled). f ≡ fulfilled.Yes) (λ f. End)
-    (λ q. done fulfilled.Yes) λ q.
-    done_right bound any_word (λ f. f ≡ fulfilled.Yes) fulfilled.Yes refl (λ f e. e)))
+    (word_right limit bound any_word (cue.Word key.Fulfilled) (λ (f : Fulfilled). f ≡ fulfilled.Yes) (λ f. End)
+    (λ q. pure fulfilled.Yes) λ q.
+    pure_right limit bound any_word (λ f. f ≡ fulfilled.Yes) fulfilled.Yes refl (λ f e. e)))
   where
     either : (f : Fulfilled) → Any f → (f ≡ fulfilled.No) ⊎ (f ≡ fulfilled.Yes)
     either fulfilled.No e = inl refl
@@ -111,28 +113,30 @@ defined_row x =
     Word (At (kind.Word key.Definition) x.0)
     (target_parts x.1 ▸ use_condition_parts x.2 ▸ Word (Anywhere (kind.Word key.Equals)) (expression_row x.3))
 
-module _ (ex : Reader Node) (right : ReadsExpressions ex) where
-  guard_right : (bound : ℕ) → IsRight bound behind_guard Any (λ e. use_condition_parts (Some e)) (guard ex)
+module _ (limit : ℕ) (ex : Reader Node) (right : ReadsExpressionsTo limit ex) where
+  guard_right : (bound : ℕ) → IsRight limit bound behind_guard Any (λ e. use_condition_parts (Some e)) (guard ex)
   guard_right bound =
-      word_right bound behind_guard (cue.Pair pair.UnderCondition) Any
+      word_right limit bound behind_guard (cue.Pair pair.UnderCondition) Any
       (λ e. Part (Operand 0) (phrase e) (Word (Anywhere (kind.Word key.Consequence)) End))
-      (λ p. ex ⨟ λ e. key_word key.Consequence ⨟ λ q. done e) λ p.
-      part_right bound bound behind_guard behind_expression Any Any (λ e. e) expression_row
-      (λ e. Word (Anywhere (kind.Word key.Consequence)) End) ex (λ e. key_word key.Consequence ⨟ λ q. done e)
+      (λ p. ex ⨟ λ e. key_word key.Consequence ⨟ λ q. pure e) λ p.
+      part_right limit bound bound behind_guard behind_expression Any Any (λ e. e) expression_row
+      (λ e. Word (Anywhere (kind.Word key.Consequence)) End) ex (λ e. key_word key.Consequence ⨟ λ q. pure e)
       (record {
         fit = λ e f. tt;
         behind =
             λ e w v f s o. subst (λ (u : List Token). Outside behind_expression (u ++ v)) (sym s.2)
             (ap behind_expression s.3);
-        shrinks = no_longer bound behind_expression Any expression_row ex (right bound);
+        shrinks = no_longer limit bound behind_expression Any expression_row ex (right bound);
       })
       (right bound) λ e g.
-      word_right bound behind_guard (cue.Word key.Consequence) (λ (y : Node). Any y × (y ≡ e)) (λ y. End)
-      (λ q. done e) λ q.
-      done_right bound behind_guard (λ y. Any y × (y ≡ e)) e (tt, refl) (λ y f. f.1)
+      word_right limit bound behind_guard (cue.Word key.Consequence) (λ (y : Node). Any y × (y ≡ e)) (λ y. End)
+      (λ q. pure e) λ q.
+      pure_right limit bound behind_guard (λ y. Any y × (y ≡ e)) e (tt, refl) (λ y f. f.1)
 
-  guards : (bound : ℕ) → IsRight bound behind_guard (OptionFits Any) use_condition_parts (optional is_under (guard ex))
-  guards bound = optional_right bound behind_guard is_under Any (λ e. use_condition_parts (Some e)) use_condition_parts
+  guards : (bound : ℕ) → IsRight limit bound behind_guard (OptionFits Any) use_condition_parts
+      (optional is_under (guard ex))
+  guards bound = optional_right limit bound behind_guard is_under Any (λ e. use_condition_parts (Some e))
+      use_condition_parts
       (guard ex)
       (opens_word is_under (kind.Pair pair.UnderCondition) Any
       (λ e. Part (Operand 0) (phrase e) (Word (Anywhere (kind.Word key.Consequence)) End)) refl)
@@ -160,32 +164,32 @@ module _ (ex : Reader Node) (right : ReadsExpressions ex) where
   fulfilled_guard fulfilled.No w v s =
       subst (λ (u : List Token). Outside behind_guard (u ++ v)) (sym s.2) (ap behind_guard s.3)
 
-  pub ruled_right : (bound : ℕ) → IsRight bound behind_use Any ruled_row (ruled ex)
+  pub ruled_right : (bound : ℕ) → IsRight limit bound behind_use Any ruled_row (ruled ex)
   ruled_right bound =
-      word_at_right bound behind_use (cue.Word key.Rule) Any (λ x. x.0)
+      word_at_right limit bound behind_use (cue.Word key.Rule) Any (λ x. x.0)
       (λ x. target_parts x.1 ▸ use_condition_parts x.2 ▸ fulfilled_parts x.3)
-      (λ p. target ⨟ λ t. optional is_under (guard ex) ⨟ λ c. whether_fulfilled ⨟ λ f. done (p, t, c, f)) λ p.
-      part_right bound bound behind_use behind_target (λ x. Any x × (x.0 ≡ p)) Any (λ x. x.1) target_parts
+      (λ p. target ⨟ λ t. optional is_under (guard ex) ⨟ λ c. whether_fulfilled ⨟ λ f. pure (p, t, c, f)) λ p.
+      part_right limit bound bound behind_use behind_target (λ x. Any x × (x.0 ≡ p)) Any (λ x. x.1) target_parts
       (λ x. use_condition_parts x.2 ▸ fulfilled_parts x.3) target
-      (λ t. optional is_under (guard ex) ⨟ λ c. whether_fulfilled ⨟ λ f. done (p, t, c, f))
+      (λ t. optional is_under (guard ex) ⨟ λ c. whether_fulfilled ⨟ λ f. pure (p, t, c, f))
       (record {
         fit = λ x f. tt;
         behind = λ x w v f s o. fulfilled_behind x.2 x.3 w v s;
-        shrinks = no_longer bound behind_target Any target_parts target (target_right bound);
+        shrinks = no_longer limit bound behind_target Any target_parts target (target_right limit bound);
       })
-      (target_right bound) λ t g.
-      part_right bound bound behind_use behind_guard (λ x. (Any x × (x.0 ≡ p)) × (x.1 ≡ t)) (OptionFits Any)
+      (target_right limit bound) λ t g.
+      part_right limit bound bound behind_use behind_guard (λ x. (Any x × (x.0 ≡ p)) × (x.1 ≡ t)) (OptionFits Any)
       (λ x. x.2) use_condition_parts (λ x. fulfilled_parts x.3) (optional is_under (guard ex))
-      (λ c. whether_fulfilled ⨟ λ f. done (p, t, c, f))
+      (λ c. whether_fulfilled ⨟ λ f. pure (p, t, c, f))
       (record {
         fit = λ x f. any_option x.2;
         behind = λ x w v f s o. fulfilled_guard x.3 w v s;
         shrinks =
-            no_longer bound behind_guard (OptionFits Any) use_condition_parts (optional is_under (guard ex))
+            no_longer limit bound behind_guard (OptionFits Any) use_condition_parts (optional is_under (guard ex))
             (guards bound);
       })
       (guards bound) λ c g.
-      last_right bound behind_use Any (λ x. ((Any x × (x.0 ≡ p)) × (x.1 ≡ t)) × (x.2 ≡ c)) (λ x. x.3)
+      last_right limit bound behind_use Any (λ x. ((Any x × (x.0 ≡ p)) × (x.1 ≡ t)) × (x.2 ≡ c)) (λ x. x.3)
       (λ f. (p, t, c, f)) fulfilled_parts whether_fulfilled
       (record {
         to = λ f e. (((tt, refl), refl), refl);
@@ -195,41 +199,41 @@ module _ (ex : Reader Node) (right : ReadsExpressions ex) where
             λ x f. ap (λ (z : Pos). (z, x.1, x.2, x.3)) f.0.0.1 ∙ ap (λ (z : TargetName). (p, z, x.2, x.3)) f.0.1
             ∙ ap (λ (z : Option Node). (p, t, z, x.3)) f.1;
       })
-      (narrowed bound any_word behind_use Any fulfilled_parts whether_fulfilled (λ v o. outside_any v)
-      (fulfilled_right bound))
+      (narrowed limit bound any_word behind_use Any fulfilled_parts whether_fulfilled (λ v o. outside_any v)
+      (fulfilled_right limit bound))
 
-  pub defined_right : (bound : ℕ) → IsRight bound behind_use Any defined_row (defined ex)
+  pub defined_right : (bound : ℕ) → IsRight limit bound behind_use Any defined_row (defined ex)
   defined_right bound =
-      word_at_right bound behind_use (cue.Word key.Definition) Any (λ x. x.0)
+      word_at_right limit bound behind_use (cue.Word key.Definition) Any (λ x. x.0)
       (λ x. target_parts x.1 ▸ use_condition_parts x.2 ▸ Word (Anywhere (kind.Word key.Equals)) (expression_row x.3))
       (λ p. target ⨟ λ t. optional is_under (guard ex) ⨟ λ c. key_word key.Equals ⨟ λ q. ex
-      ⨟ λ e. done (p, t, c, e)) λ p.
-      part_right bound bound behind_use behind_target (λ x. Any x × (x.0 ≡ p)) Any (λ x. x.1) target_parts
+      ⨟ λ e. pure (p, t, c, e)) λ p.
+      part_right limit bound bound behind_use behind_target (λ x. Any x × (x.0 ≡ p)) Any (λ x. x.1) target_parts
       (λ x. use_condition_parts x.2 ▸ Word (Anywhere (kind.Word key.Equals)) (expression_row x.3)) target
-      (λ t. optional is_under (guard ex) ⨟ λ c. key_word key.Equals ⨟ λ q. ex ⨟ λ e. done (p, t, c, e))
+      (λ t. optional is_under (guard ex) ⨟ λ c. key_word key.Equals ⨟ λ q. ex ⨟ λ e. pure (p, t, c, e))
       (record {
         fit = λ x f. tt;
         behind =
             λ x w v f s o. guard_behind x.2 (kind.Word key.Equals) (expression_row x.3) w v s refl;
         shrinks =
-            no_longer bound behind_target Any target_parts target (target_right bound);
+            no_longer limit bound behind_target Any target_parts target (target_right limit bound);
       })
-      (target_right bound) λ t g.
-      part_right bound bound behind_use behind_guard (λ x. (Any x × (x.0 ≡ p)) × (x.1 ≡ t)) (OptionFits Any)
+      (target_right limit bound) λ t g.
+      part_right limit bound bound behind_use behind_guard (λ x. (Any x × (x.0 ≡ p)) × (x.1 ≡ t)) (OptionFits Any)
       (λ x. x.2) use_condition_parts (λ x. Word (Anywhere (kind.Word key.Equals)) (expression_row x.3))
-      (optional is_under (guard ex)) (λ c. key_word key.Equals ⨟ λ q. ex ⨟ λ e. done (p, t, c, e))
+      (optional is_under (guard ex)) (λ c. key_word key.Equals ⨟ λ q. ex ⨟ λ e. pure (p, t, c, e))
       (record {
         fit = λ x f. any_option x.2;
         behind =
             λ x w v f s o. subst (λ (u : List Token). Outside behind_guard (u ++ v)) (sym s.2) (ap behind_guard s.3);
         shrinks =
-            no_longer bound behind_guard (OptionFits Any) use_condition_parts (optional is_under (guard ex))
+            no_longer limit bound behind_guard (OptionFits Any) use_condition_parts (optional is_under (guard ex))
             (guards bound);
       })
       (guards bound) λ c g.
-      word_right bound behind_use (cue.Word key.Equals) (λ x. ((Any x × (x.0 ≡ p)) × (x.1 ≡ t)) × (x.2 ≡ c))
-      (λ x. expression_row x.3) (λ q. ex ⨟ λ e. done (p, t, c, e)) λ q.
-      last_right bound behind_use Any (λ x. ((Any x × (x.0 ≡ p)) × (x.1 ≡ t)) × (x.2 ≡ c)) (λ x. x.3)
+      word_right limit bound behind_use (cue.Word key.Equals) (λ x. ((Any x × (x.0 ≡ p)) × (x.1 ≡ t)) × (x.2 ≡ c))
+      (λ x. expression_row x.3) (λ q. ex ⨟ λ e. pure (p, t, c, e)) λ q.
+      last_right limit bound behind_use Any (λ x. ((Any x × (x.0 ≡ p)) × (x.1 ≡ t)) × (x.2 ≡ c)) (λ x. x.3)
       (λ e. (p, t, c, e)) expression_row ex
       (record {
         to = λ f e. (((tt, refl), refl), refl);
@@ -239,4 +243,4 @@ module _ (ex : Reader Node) (right : ReadsExpressions ex) where
             λ x f. ap (λ (z : Pos). (z, x.1, x.2, x.3)) f.0.0.1 ∙ ap (λ (z : TargetName). (p, z, x.2, x.3)) f.0.1
             ∙ ap (λ (z : Option Node). (p, t, z, x.3)) f.1;
       })
-      (narrowed bound behind_expression behind_use Any expression_row ex use_behind (right bound))
+      (narrowed limit bound behind_expression behind_use Any expression_row ex use_behind (right bound))

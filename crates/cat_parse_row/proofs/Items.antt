@@ -24,7 +24,7 @@ use Rattle.cat_tree.specs.Declarations.{typed_parts, field_parts, content_parts,
 use Rattle.cat_tree.specs.Programs.{block_parts, item_parts, is_filled, condition_parts}
 use Rattle.cat_tree.specs.Uses.{use_parts}
 use Rattle.cat_parse_row.specs.declared.cue.Cue.TheVariants as cue
-use Rattle.cat_parse_row.specs.Reader.{Reader, ◌⨟◌, done, heads, by_word, many, some}
+use Rattle.cat_parse_row.specs.Reader.{Reader, ◌⨟◌, pure, heads, by_word, many, some}
 use Rattle.cat_parse_row.specs.Right.{IsRight}
 use Rattle.cat_parse_row.specs.Cues.{«word», upper}
 use Rattle.cat_parse_row.specs.Declarations.{is_word, is_content, field, a_case, a_variable}
@@ -39,7 +39,7 @@ use Rattle.cat_parse_row.proofs.Listed.{any_word, SomeFit, some_right}
 use Rattle.cat_parse_row.proofs.Declarations.{Any, field_right, case_right}
 use Rattle.cat_parse_row.proofs.Variables.{behind_variable, variable_right}
 use Rattle.cat_parse_row.proofs.Leads.{any_list}
-use Rattle.cat_parse_row.specs.Exactly.{ReadsExpressions}
+use Rattle.cat_parse_row.specs.Exactly.{ReadsExpressionsTo}
 use Rattle.cat_parse_row.proofs.Blocks.{head_at, block_right}
 
 -- ---- what is declared
@@ -49,11 +49,12 @@ item_no_data (kind.Word key.Declaration) e = refl
 item_no_data (kind.Word key.Scope) e = refl
 item_no_data _ e = absurd cc
 
-fields_right : (bound : ℕ) → IsRight bound is_item (SomeFit Any) (all field_parts) (some (is_word key.Data) field)
-fields_right bound =
-    some_right is_item any_word (is_word key.Data) Any field_parts field
+fields_right : (limit bound : ℕ) → IsRight limit bound is_item (SomeFit Any) (all field_parts)
+    (some (is_word key.Data) field)
+fields_right limit bound =
+    some_right limit is_item any_word (is_word key.Data) Any field_parts field
     (opens_word (is_word key.Data) (kind.Word key.Data) Any typed_parts refl) item_no_data (λ k e. refl) (λ k e. refl)
-    (λ b. field_right b any_word) bound
+    (λ b. field_right limit b any_word) bound
 
 -- what may follow a case
 abbrev pub behind_case : TokenKind → Bool
@@ -82,13 +83,13 @@ item_case (kind.Word key.Declaration) e = refl
 item_case (kind.Word key.Scope) e = refl
 item_case _ e = absurd cc
 
-cases_right : (bound : ℕ) → IsRight bound is_item (SomeFit Any) (all case_parts) (some is_dashes a_case)
-cases_right bound =
-    some_right is_item behind_case is_dashes Any case_parts a_case
+cases_right : (limit bound : ℕ) → IsRight limit bound is_item (SomeFit Any) (all case_parts) (some is_dashes a_case)
+cases_right limit bound =
+    some_right limit is_item behind_case is_dashes Any case_parts a_case
     (opens_word is_dashes (kind.Symbol symbol.MinusMinus) Any
     (λ c. Word (At (kind.Upper c.name.text) c.name.pos) (content_parts c.content))
     (cue_self (cue.Sign symbol.MinusMinus))) item_no_dashes dashes_case item_case
-    (λ b. case_right b behind_case case_no_content) bound
+    (λ b. case_right limit b behind_case case_no_content) bound
 
 pub variable_opens : Opens is_variable Any variable_parts
 variable_opens = record { at = λ y w v f s. by y w v s }
@@ -124,10 +125,11 @@ item_variable (kind.Symbol s) e = absurd cc
 item_variable (kind.Pair d) e = absurd cc
 item_variable _ e = refl
 
-variables_right : (bound : ℕ) → IsRight bound is_item (AllFit Any) (all variable_parts) (many is_variable a_variable)
-variables_right bound =
-    many_right is_item behind_variable is_variable Any variable_parts a_variable variable_opens
-    item_no_variable variable_behind item_variable variable_right bound
+variables_right : (limit bound : ℕ) → IsRight limit bound is_item (AllFit Any) (all variable_parts)
+    (many is_variable a_variable)
+variables_right limit bound =
+    many_right limit is_item behind_variable is_variable Any variable_parts a_variable variable_opens
+    item_no_variable variable_behind item_variable (variable_right limit) bound
 
 -- ---- a declaration
 
@@ -136,18 +138,20 @@ named_row k row x =
     Word (Anywhere (kind.Word k))
     (Word (At (kind.Upper x.0.text) x.0.pos) (Word (Anywhere (kind.Symbol symbol.Colon)) (row x.1)))
 
-named_right : {A : Type 0} (bound : ℕ) (out : TokenKind → Bool) (k : Keyword) (fits : A → Type 0) (row : A → Parts)
-    (r : Reader A) → IsRight bound out fits row r → IsRight bound out (λ x. fits x.1) (named_row k row) (named k r)
-named_right {A = A} bound out k fits row r right =
-    word_right bound out (cue.Word k) (λ (x : Name × A). fits x.1)
+named_right : {A : Type 0} (limit bound : ℕ) (out : TokenKind → Bool) (k : Keyword) (fits : A → Type 0)
+    (row : A → Parts)
+    (r : Reader A) → IsRight limit bound out fits row r → IsRight limit bound out (λ x. fits x.1) (named_row k row)
+    (named k r)
+named_right {A = A} limit bound out k fits row r right =
+    word_right limit bound out (cue.Word k) (λ (x : Name × A). fits x.1)
     (λ x. Word (At (kind.Upper x.0.text) x.0.pos) (Word (Anywhere (kind.Symbol symbol.Colon)) (row x.1)))
-    (λ p. upper ⨟ λ u. «word» (cue.Sign symbol.Colon) ⨟ λ q. r ⨟ λ x. done (u, x)) λ p.
-    upper_right bound out (λ (x : Name × A). fits x.1) (λ x. x.0)
+    (λ p. upper ⨟ λ u. «word» (cue.Sign symbol.Colon) ⨟ λ q. r ⨟ λ x. pure (u, x)) λ p.
+    upper_right limit bound out (λ (x : Name × A). fits x.1) (λ x. x.0)
     (λ x. Word (Anywhere (kind.Symbol symbol.Colon)) (row x.1))
-    (λ u. «word» (cue.Sign symbol.Colon) ⨟ λ q. r ⨟ λ x. done (u, x)) λ u.
-    word_right bound out (cue.Sign symbol.Colon) (λ (x : Name × A). fits x.1 × (x.0 ≡ u)) (λ x. row x.1)
-    (λ q. r ⨟ λ x. done (u, x)) λ q.
-    last_right bound out fits (λ (x : Name × A). fits x.1 × (x.0 ≡ u)) (λ x. x.1) (λ x. (u, x)) row r
+    (λ u. «word» (cue.Sign symbol.Colon) ⨟ λ q. r ⨟ λ x. pure (u, x)) λ u.
+    word_right limit bound out (cue.Sign symbol.Colon) (λ (x : Name × A). fits x.1 × (x.0 ≡ u)) (λ x. row x.1)
+    (λ q. r ⨟ λ x. pure (u, x)) λ q.
+    last_right limit bound out fits (λ (x : Name × A). fits x.1 × (x.0 ≡ u)) (λ x. x.1) (λ x. (u, x)) row r
     (record {
       to = λ x f. (f, refl);
       from = λ x f. f.0;
@@ -198,17 +202,17 @@ scope_head test d w v f s =
     ∙ ap test t.3
 
 abbrev structures : Reader Declared
-structures = named key.Structure (some (is_word key.Data) field) ⨟ λ x. done (Structures x)
+structures = named key.Structure (some (is_word key.Data) field) ⨟ λ x. pure (Structures x)
 
 abbrev enumerations : Reader Declared
-enumerations = named key.Enumeration (some is_dashes a_case) ⨟ λ x. done (Enumerations x)
+enumerations = named key.Enumeration (some is_dashes a_case) ⨟ λ x. pure (Enumerations x)
 
 abbrev scopes : Reader Declared
-scopes = named key.Scope (many is_variable a_variable) ⨟ λ x. done (Scopes x)
+scopes = named key.Scope (many is_variable a_variable) ⨟ λ x. pure (Scopes x)
 
-declared_right : (bound : ℕ) → IsRight bound is_item IsDeclared declared_row declared
-declared_right bound =
-    choice_right bound is_item (is_word key.Structure) IsDeclared IsStructure NoStructure declared_row structures
+declared_right : (limit bound : ℕ) → IsRight limit bound is_item IsDeclared declared_row declared
+declared_right limit bound =
+    choice_right limit bound is_item (is_word key.Structure) IsDeclared IsStructure NoStructure declared_row structures
     (by_word (is_word key.Enumeration) enumerations scopes)
     (record {
       either = λ d f. f;
@@ -217,11 +221,11 @@ declared_right bound =
       on = λ d w v f s o. structure_head (is_word key.Structure) d w v f s;
       off = λ d w v f s o. off d w v f s;
     })
-    (made_right bound is_item (λ x. SomeFit Any x.1) (named_row key.Structure (all field_parts)) declared_row
+    (made_right limit bound is_item (λ x. SomeFit Any x.1) (named_row key.Structure (all field_parts)) declared_row
     (λ x. Structures x) (named key.Structure (some (is_word key.Data) field)) (λ x. refl)
-    (named_right bound is_item key.Structure (SomeFit Any) (all field_parts) (some (is_word key.Data) field)
-    (fields_right bound)))
-    (choice_right bound is_item
+    (named_right limit bound is_item key.Structure (SomeFit Any) (all field_parts) (some (is_word key.Data) field)
+    (fields_right limit bound)))
+    (choice_right limit bound is_item
     (is_word key.Enumeration) NoStructure IsEnumeration IsScope declared_row enumerations scopes
     (record {
       either = λ d f. f;
@@ -230,14 +234,14 @@ declared_right bound =
       on = λ d w v f s o. enumeration_head (is_word key.Enumeration) d w v f s;
       off = λ d w v f s o. scope_head (is_word key.Enumeration) d w v f s;
     })
-    (made_right bound is_item (λ x. SomeFit Any x.1) (named_row key.Enumeration (all case_parts)) declared_row
+    (made_right limit bound is_item (λ x. SomeFit Any x.1) (named_row key.Enumeration (all case_parts)) declared_row
     (λ x. Enumerations x) (named key.Enumeration (some is_dashes a_case)) (λ x. refl)
-    (named_right bound is_item key.Enumeration (SomeFit Any) (all case_parts) (some is_dashes a_case)
-    (cases_right bound)))
-    (made_right bound is_item (λ x. AllFit Any x.1) (named_row key.Scope (all variable_parts)) declared_row
+    (named_right limit bound is_item key.Enumeration (SomeFit Any) (all case_parts) (some is_dashes a_case)
+    (cases_right limit bound)))
+    (made_right limit bound is_item (λ x. AllFit Any x.1) (named_row key.Scope (all variable_parts)) declared_row
     (λ x. Scopes x) (named key.Scope (many is_variable a_variable)) (λ x. refl)
-    (named_right bound is_item key.Scope (AllFit Any) (all variable_parts) (many is_variable a_variable)
-    (variables_right bound))))
+    (named_right limit bound is_item key.Scope (AllFit Any) (all variable_parts) (many is_variable a_variable)
+    (variables_right limit bound))))
   where
     off : (d : Declared) (w v : List Token) → NoStructure d → AreSpelled (declared_row d) w
         → heads (is_word key.Structure) (w ++ v) ≡ false
@@ -247,11 +251,11 @@ declared_right bound =
 abbrev declaration_row : Pos × Declared → Parts
 declaration_row x = Word (At (kind.Word key.Declaration) x.0) (declared_row x.1)
 
-declaration_right : (bound : ℕ) → IsRight bound is_item (λ x. IsDeclared x.1) declaration_row declaration
-declaration_right bound =
-    word_at_right bound is_item (cue.Word key.Declaration) (λ (x : Pos × Declared). IsDeclared x.1) (λ x. x.0)
-    (λ x. declared_row x.1) (λ p. declared ⨟ λ x. done (p, x)) λ p.
-    last_right bound is_item IsDeclared (λ (x : Pos × Declared). IsDeclared x.1 × (x.0 ≡ p)) (λ x. x.1)
+declaration_right : (limit bound : ℕ) → IsRight limit bound is_item (λ x. IsDeclared x.1) declaration_row declaration
+declaration_right limit bound =
+    word_at_right limit bound is_item (cue.Word key.Declaration) (λ (x : Pos × Declared). IsDeclared x.1) (λ x. x.0)
+    (λ x. declared_row x.1) (λ p. declared ⨟ λ x. pure (p, x)) λ p.
+    last_right limit bound is_item IsDeclared (λ (x : Pos × Declared). IsDeclared x.1 × (x.0 ≡ p)) (λ x. x.1)
     (λ x. (p, x)) declared_row declared
     (record {
       to = λ x f. (f, refl);
@@ -259,7 +263,7 @@ declaration_right bound =
       back = λ x. refl;
       only = λ x f. ap (λ (q : Pos). (q, x.1)) f.1;
     })
-    (declared_right bound)
+    (declared_right limit bound)
 
 -- ---- an item
 
@@ -320,11 +324,11 @@ item_opens = record { at = λ i w v f s. by i w v (either_item i f) s }
     by i w v (inl f) s = declaration_head is_item i w v f s
     by i w v (inr f) s = block_head is_item i w v f s
 
-pub item_right : (ex : Reader Node) → ReadsExpressions ex → (bound : ℕ)
-    → IsRight bound is_item Filled item_parts (an_item ex)
-item_right ex right bound =
-    choice_right bound is_item (is_word key.Declaration) Filled IsDeclaration IsBlock item_parts
-    (declaration ⨟ λ x. done (item_of x)) (block ex ⨟ λ b. done (item.Block b))
+pub item_right : (limit : ℕ) (ex : Reader Node) → ReadsExpressionsTo limit ex → (bound : ℕ)
+    → IsRight limit bound is_item Filled item_parts (an_item ex)
+item_right limit ex right bound =
+    choice_right limit bound is_item (is_word key.Declaration) Filled IsDeclaration IsBlock item_parts
+    (declaration ⨟ λ x. pure (item_of x)) (block ex ⨟ λ b. pure (item.Block b))
     (record {
       either = λ i f. either_item i f;
       from_yes = λ i f. subst Filled (sym f.2) (filled_declared f.0.1 f.0.0 f.1);
@@ -332,7 +336,7 @@ item_right ex right bound =
       on = λ i w v f s o. declaration_head (is_word key.Declaration) i w v f s;
       off = λ i w v f s o. block_head (is_word key.Declaration) i w v f s;
     })
-    (made_right bound is_item (λ x. IsDeclared x.1) declaration_row item_parts item_of declaration item_rows
-    (declaration_right bound))
-    (made_right bound is_item Any block_parts item_parts (λ b. item.Block b) (block ex) (λ b. refl)
-    (block_right ex right bound))
+    (made_right limit bound is_item (λ x. IsDeclared x.1) declaration_row item_parts item_of declaration item_rows
+    (declaration_right limit bound))
+    (made_right limit bound is_item Any block_parts item_parts (λ b. item.Block b) (block ex) (λ b. refl)
+    (block_right limit ex right bound))

@@ -3,7 +3,7 @@ use Rattle.std.proofs.Common.{◌≡◌, ℕ, Bool, refl, sym, ap, subst}
 use Rattle.cat_lex.specs.declared.token.TokenKind.{TokenKind}
 use Rattle.cat_tree.specs.Phrase.{Parts, End, Word, Part}
 use Rattle.cat_tree.specs.Joined.{◌▸◌}
-use Rattle.cat_parse_row.specs.Reader.{Reader, ◌⨟◌, done}
+use Rattle.cat_parse_row.specs.Reader.{Reader, ◌⨟◌, pure}
 use Rattle.cat_parse_row.specs.Right.{IsRight}
 use Rattle.cat_parse_row.proofs.Choices.{reshaped, made_right}
 
@@ -19,15 +19,15 @@ pub record Ends {A B : Type 0} (fits_part : A → Type 0) (fits : B → Type 0) 
   pub back : (x : A) → sub (f x) ≡ x
   pub only : (y : B) → fits y → y ≡ f (sub y)
 
-pub last_right : {A B : Type 0} (bound : ℕ) (out : TokenKind → Bool) (fits_part : A → Type 0) (fits : B → Type 0)
+pub last_right : {A B : Type 0} (limit bound : ℕ) (out : TokenKind → Bool) (fits_part : A → Type 0) (fits : B → Type 0)
     (sub : B → A) (f : A → B) (row : A → Parts) (r : Reader A) → Ends fits_part fits sub f
-    → IsRight bound out fits_part row r → IsRight bound out fits (λ y. row (sub y)) (r ⨟ λ x. done (f x))
-last_right {A = A} bound out fits_part fits sub f row r e right =
-    reshaped bound out (λ y. (x : A) × fits_part x × (y ≡ f x)) fits (λ y. row (sub y)) (λ y. row (sub y))
-    (r ⨟ λ x. done (f x))
+    → IsRight limit bound out fits_part row r → IsRight limit bound out fits (λ y. row (sub y)) (r ⨟ λ x. pure (f x))
+last_right {A = A} limit bound out fits_part fits sub f row r e right =
+    reshaped limit bound out (λ y. (x : A) × fits_part x × (y ≡ f x)) fits (λ y. row (sub y)) (λ y. row (sub y))
+    (r ⨟ λ x. pure (f x))
     (record {
       to = λ y g. subst fits (sym g.2) (e.to g.0 g.1);
       from = λ y g. (sub y, e.from y g, e.only y g);
       rows = λ y g. refl;
     })
-    (made_right bound out fits_part row (λ y. row (sub y)) f r (λ x. ap row (e.back x)) right)
+    (made_right limit bound out fits_part row (λ y. row (sub y)) f r (λ x. ap row (e.back x)) right)

@@ -13,12 +13,12 @@ use Rattle.cat_tree.specs.declared.program.Exception.TheVariants as exception
 use Rattle.cat_tree.specs.Phrase.{Parts, End, Word, At, AreSpelled}
 use Rattle.cat_tree.specs.Uses.{label_parts, exception_parts, lead_parts, name_parts}
 use Rattle.cat_parse_row.specs.declared.cue.Cue.TheVariants as cue
-use Rattle.cat_parse_row.specs.Reader.{◌⨟◌, after, made_of, done, heads, optional}
+use Rattle.cat_parse_row.specs.Reader.{◌⨟◌, after, made_of, pure, heads, optional}
 use Rattle.cat_parse_row.specs.Right.{Outside, IsRight}
 use Rattle.cat_parse_row.specs.Cues.{lower_of, lower}
 use Rattle.cat_parse_row.specs.Declarations.{is_word, is_lower}
 use Rattle.cat_parse_row.specs.Leads.{label, exception_at, exception_of, an_exception, lead}
-use Rattle.cat_parse_row.proofs.Steps.{done_right}
+use Rattle.cat_parse_row.proofs.Steps.{pure_right}
 use Rattle.cat_parse_row.proofs.Sequel.{part_right}
 use Rattle.cat_parse_row.proofs.Choices.{Opens, OptionFits, optional_right, reshaped, made_right}
 use Rattle.cat_parse_row.proofs.Leaves.{word_at_right, lower_right}
@@ -38,19 +38,19 @@ any_list (x ∷ xs) = (tt, any_list xs)
 
 -- ---- a name alone
 
-name_done : (ts : List Token) → (lower ⨟ λ w. done w) ts ≡ lower ts
-name_done [] = refl
-name_done (t ∷ ts) = by (lower_of t)
+name_pure : (ts : List Token) → (lower ⨟ λ w. pure w) ts ≡ lower ts
+name_pure [] = refl
+name_pure (t ∷ ts) = by (lower_of t)
   where
-    by : (o : Option Name) → after (made_of o (t ∷ ts) ts) (λ w. done w) ≡ made_of o (t ∷ ts) ts
+    by : (o : Option Name) → after (made_of o (t ∷ ts) ts) (λ w. pure w) ≡ made_of o (t ∷ ts) ts
     by None = refl
     by (Some w) = refl
 
-pub name_right : (bound : ℕ) (out : TokenKind → Bool) → IsRight bound out Any name_parts lower
-name_right bound out =
-    same_reader bound out Any name_parts (lower ⨟ λ w. done w) lower name_done
-    (lower_right bound out Any (λ w. w) (λ w. End) (λ w. done w)
-    (λ x. done_right bound out (λ w. Any w × (w ≡ x)) x (tt, refl) (λ w f. f.1)))
+pub name_right : (limit bound : ℕ) (out : TokenKind → Bool) → IsRight limit bound out Any name_parts lower
+name_right limit bound out =
+    same_reader limit bound out Any name_parts (lower ⨟ λ w. pure w) lower name_pure
+    (lower_right limit bound out Any (λ w. w) (λ w. End) (λ w. pure w)
+    (λ x. pure_right limit bound out (λ w. Any w × (w ≡ x)) x (tt, refl) (λ w f. f.1)))
 
 pub opens_at : {A : Type 0} (start : TokenKind → Bool) (k : A → TokenKind) (at : A → Pos) (fits : A → Type 0)
     (rest : A → Parts) → ((x : A) → start (k x) ≡ true) → Opens start fits (λ x. Word (At (k x) (at x)) (rest x))
@@ -62,11 +62,12 @@ opens_at start k at fits rest e =
 
 -- ---- labels and exceptions
 
-pub label_right : (bound : ℕ) (out : TokenKind → Bool) → IsRight bound out Any (λ l. label_parts (Some l)) label
-label_right bound out =
-    word_at_right bound out (cue.Word key.Label) Any (λ l. l.pos) (λ l. name_parts l.name)
-    (λ p. lower ⨟ λ w. done (record { pos = p; name = w })) λ p.
-    last_right bound out Any (λ l. Any l × (l.pos ≡ p)) (λ l. l.name)
+pub label_right : (limit bound : ℕ) (out : TokenKind → Bool) → IsRight limit bound out Any (λ l. label_parts (Some l))
+    label
+label_right limit bound out =
+    word_at_right limit bound out (cue.Word key.Label) Any (λ l. l.pos) (λ l. name_parts l.name)
+    (λ p. lower ⨟ λ w. pure (record { pos = p; name = w })) λ p.
+    last_right limit bound out Any (λ l. Any l × (l.pos ≡ p)) (λ l. l.name)
     (λ w. record { pos = p; name = w }) name_parts lower
     (record {
       to = λ w f. (tt, refl);
@@ -74,18 +75,18 @@ label_right bound out =
       back = λ w. refl;
       only = λ l f. ap (λ (q : Pos). record { pos = q; name = l.name }) f.1;
     })
-    (name_right bound out)
+    (name_right limit bound out)
 
 abbrev inner_name : Option Name → Parts
 inner_name None = End
 inner_name (Some w) = name_parts w
 
-exception_at_right : (bound : ℕ) (out : TokenKind → Bool) → ((k : TokenKind) → out k ≡ true → is_lower k ≡ false)
-    → IsRight bound out Any (λ x. Word (At (kind.Word key.Exception) x.0) (inner_name x.1)) exception_at
-exception_at_right bound out off =
-    word_at_right bound out (cue.Word key.Exception) Any (λ x. x.0) (λ x. inner_name x.1)
-    (λ p. optional is_lower lower ⨟ λ w. done (p, w)) λ p.
-    last_right bound out (OptionFits Any) (λ x. Any x × (x.0 ≡ p)) (λ x. x.1) (λ w. (p, w)) inner_name
+exception_at_right : (limit bound : ℕ) (out : TokenKind → Bool) → ((k : TokenKind) → out k ≡ true → is_lower k ≡ false)
+    → IsRight limit bound out Any (λ x. Word (At (kind.Word key.Exception) x.0) (inner_name x.1)) exception_at
+exception_at_right limit bound out off =
+    word_at_right limit bound out (cue.Word key.Exception) Any (λ x. x.0) (λ x. inner_name x.1)
+    (λ p. optional is_lower lower ⨟ λ w. pure (p, w)) λ p.
+    last_right limit bound out (OptionFits Any) (λ x. Any x × (x.0 ≡ p)) (λ x. x.1) (λ w. (p, w)) inner_name
     (optional is_lower lower)
     (record {
       to = λ w f. (tt, refl);
@@ -93,9 +94,9 @@ exception_at_right bound out off =
       back = λ w. refl;
       only = λ x f. ap (λ (q : Pos). (q, x.1)) f.1;
     })
-    (optional_right bound out is_lower Any name_parts inner_name lower
+    (optional_right limit bound out is_lower Any name_parts inner_name lower
     (opens_at is_lower (λ w. kind.Lower w.text) (λ w. w.pos) Any (λ w. End) (λ w. refl)) off refl (λ w. refl)
-    (name_right bound out))
+    (name_right limit bound out))
 
 abbrev exception_option : Option (Pos × Option Name) → Parts
 exception_option None = End
@@ -111,19 +112,19 @@ exception_from exception.No = (None, tt, refl)
 exception_from (exception.OnlyRoot p) = (Some (p, None), tt, refl)
 exception_from (exception.Labelled p w) = (Some (p, Some w), tt, refl)
 
-pub exception_right : (bound : ℕ) (out : TokenKind → Bool) → ((k : TokenKind) → out k ≡ true → is_lower k ≡ false)
+pub exception_right : (limit bound : ℕ) (out : TokenKind → Bool) → ((k : TokenKind) → out k ≡ true → is_lower k ≡ false)
     → ((k : TokenKind) → out k ≡ true → is_word key.Exception k ≡ false)
-    → IsRight bound out Any exception_parts an_exception
-exception_right bound out off off2 =
-    reshaped bound out (λ e. (o : Option (Pos × Option Name)) × OptionFits Any o ×
+    → IsRight limit bound out Any exception_parts an_exception
+exception_right limit bound out off off2 =
+    reshaped limit bound out (λ e. (o : Option (Pos × Option Name)) × OptionFits Any o ×
     (e ≡ exception_of o)) Any exception_parts exception_parts an_exception
     (record { to = λ e f. tt; from = λ e f. exception_from e; rows = λ e f. refl })
-    (made_right bound out (OptionFits Any) exception_option exception_parts exception_of
+    (made_right limit bound out (OptionFits Any) exception_option exception_parts exception_of
     (optional (is_word key.Exception) exception_at) exception_rows
-    (optional_right bound out (is_word key.Exception) Any
+    (optional_right limit bound out (is_word key.Exception) Any
     (λ x. Word (At (kind.Word key.Exception) x.0) (inner_name x.1)) exception_option exception_at
     (opens_at (is_word key.Exception) (λ x. kind.Word key.Exception) (λ x. x.0) Any (λ x. inner_name x.1)
-    (λ x. refl)) off2 refl (λ x. refl) (exception_at_right bound out off)))
+    (λ x. refl)) off2 refl (λ x. refl) (exception_at_right limit bound out off)))
 
 -- what may stand behind a label
 abbrev behind_label : (TokenKind → Bool) → TokenKind → Bool
@@ -154,21 +155,22 @@ label_off : (out : TokenKind → Bool) (k : TokenKind) → behind_label out k �
 label_off out (kind.Word key.Label) e = let t : false ≡ true = e in absurd cc
 label_off out _ e = refl
 
-pub lead_right : (bound : ℕ) (out : TokenKind → Bool) → ((k : TokenKind) → out k ≡ true → is_lower k ≡ false)
+pub lead_right : (limit bound : ℕ) (out : TokenKind → Bool) → ((k : TokenKind) → out k ≡ true → is_lower k ≡ false)
     → ((k : TokenKind) → out k ≡ true → is_word key.Exception k ≡ false)
-    → ((k : TokenKind) → out k ≡ true → is_word key.Label k ≡ false) → IsRight bound out Any lead_parts lead
-lead_right bound out off off2 off3 =
-    part_right bound bound out (behind_label out) Any (OptionFits Any) (λ l. l.label) label_parts
+    → ((k : TokenKind) → out k ≡ true → is_word key.Label k ≡ false) → IsRight limit bound out Any lead_parts lead
+lead_right limit bound out off off2 off3 =
+    part_right limit bound bound out (behind_label out) Any (OptionFits Any) (λ l. l.label) label_parts
     (λ l. exception_parts l.exception) (optional (is_word key.Label) label)
-    (λ l. an_exception ⨟ λ e. done (record { label = l; exception = e }))
+    (λ l. an_exception ⨟ λ e. pure (record { label = l; exception = e }))
     (record {
       fit = λ l f. any_option l.label;
       behind = λ l w v f s o. exception_behind l.exception w v s out off3 o;
       shrinks =
-          no_longer bound (behind_label out) (OptionFits Any) label_parts (optional (is_word key.Label) label) labels;
+          no_longer limit bound (behind_label out) (OptionFits Any) label_parts (optional (is_word key.Label) label)
+          labels;
     })
     labels
-    (λ l f. last_right bound out Any (λ y. Any y × (y.label ≡ l)) (λ y. y.exception)
+    (λ l f. last_right limit bound out Any (λ y. Any y × (y.label ≡ l)) (λ y. y.exception)
     (λ e. record { label = l; exception = e }) exception_parts an_exception
     (record {
       to = λ e f. (tt, refl);
@@ -176,10 +178,11 @@ lead_right bound out off off2 off3 =
       back = λ e. refl;
       only = λ y f. ap (λ (o : Option Label). record { label = o; exception = y.exception }) f.1;
     })
-    (exception_right bound out off off2))
+    (exception_right limit bound out off off2))
   where
-    labels : IsRight bound (behind_label out) (OptionFits Any) label_parts (optional (is_word key.Label) label)
+    labels : IsRight limit bound (behind_label out) (OptionFits Any) label_parts (optional (is_word key.Label) label)
     labels =
-        optional_right bound (behind_label out) (is_word key.Label) Any (λ l. label_parts (Some l)) label_parts label
+        optional_right limit bound (behind_label out) (is_word key.Label) Any (λ l. label_parts (Some l)) label_parts
+        label
         (opens_at (is_word key.Label) (λ l. kind.Word key.Label) (λ l. l.pos) Any (λ l. name_parts l.name) (λ l. refl))
-        (label_off out) refl (λ l. refl) (label_right bound (behind_label out))
+        (label_off out) refl (λ l. refl) (label_right limit bound (behind_label out))

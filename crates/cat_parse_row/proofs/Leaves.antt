@@ -31,9 +31,10 @@ cue_self (cue.Word w) = true_same keywords w w refl
 cue_self (cue.Pair w) = true_same pairs w w refl
 cue_self (cue.Sign w) = true_same symbols w w refl
 
-pub lowered : {B : Type 0} (bound : ℕ) (out : TokenKind → Bool) (fits : B → Type 0) (row : B → Parts) (r : Reader B)
-    → IsRight (suc bound) out fits row r → IsRight bound out fits row r
-lowered bound out fits row r h = record {
+pub lowered : {B : Type 0} (limit bound : ℕ) (out : TokenKind → Bool) (fits : B → Type 0) (row : B → Parts)
+    (r : Reader B)
+    → IsRight limit (suc bound) out fits row r → IsRight limit bound out fits row r
+lowered limit bound out fits row r h = record {
   alive = h.alive;
   taken = λ ts le. h.taken ts (omega (arith, le));
   says = λ ts front y w le text a. h.says ts front y w (omega (arith, le)) text a;
@@ -78,20 +79,23 @@ word_marks c fits = record {
   sample = ap (λ (b : Bool). if b then Some anywhere else None) (cue_self c);
 }
 
-pub word_behind : {B : Type 0} (bound : ℕ) (out : TokenKind → Bool) (c : Cue) (fits : B → Type 0) (rest : B → Parts)
-    (r : Pos → Reader B) → ((p : Pos) → IsRight bound out fits rest (r p))
-    → IsRight (suc bound) out fits (λ y. Word (Anywhere (kind_of c)) (rest y)) («word» c ⨟ r)
-word_behind bound out c fits rest r right =
-    token_right bound out fits (λ y. Anywhere (kind_of c)) rest (word_of c) (λ x y. Unit {0}) r (word_marks c fits)
-    (λ p. reshaped bound out fits (λ y. fits y × Unit {0}) rest rest (r p)
+pub word_behind : {B : Type 0} (limit bound : ℕ) (out : TokenKind → Bool) (c : Cue) (fits : B → Type 0)
+    (rest : B → Parts)
+    (r : Pos → Reader B) → ((p : Pos) → IsRight limit bound out fits rest (r p))
+    → IsRight limit (suc bound) out fits (λ y. Word (Anywhere (kind_of c)) (rest y)) («word» c ⨟ r)
+word_behind limit bound out c fits rest r right =
+    token_right limit bound out fits (λ y. Anywhere (kind_of c)) rest (word_of c) (λ x y. Unit {0}) r
+    (word_marks c fits)
+    (λ p. reshaped limit bound out fits (λ y. fits y × Unit {0}) rest rest (r p)
     (record { to = λ y f. (f, tt); from = λ y f. f.0; rows = λ y f. refl }) (right p))
 
-pub word_right : {B : Type 0} (bound : ℕ) (out : TokenKind → Bool) (c : Cue) (fits : B → Type 0) (rest : B → Parts)
-    (r : Pos → Reader B) → ((p : Pos) → IsRight bound out fits rest (r p))
-    → IsRight bound out fits (λ y. Word (Anywhere (kind_of c)) (rest y)) («word» c ⨟ r)
-word_right bound out c fits rest r right =
-    lowered bound out fits (λ y. Word (Anywhere (kind_of c)) (rest y)) («word» c ⨟ r)
-    (word_behind bound out c fits rest r right)
+pub word_right : {B : Type 0} (limit bound : ℕ) (out : TokenKind → Bool) (c : Cue) (fits : B → Type 0)
+    (rest : B → Parts)
+    (r : Pos → Reader B) → ((p : Pos) → IsRight limit bound out fits rest (r p))
+    → IsRight limit bound out fits (λ y. Word (Anywhere (kind_of c)) (rest y)) («word» c ⨟ r)
+word_right limit bound out c fits rest r right =
+    lowered limit bound out fits (λ y. Word (Anywhere (kind_of c)) (rest y)) («word» c ⨟ r)
+    (word_behind limit bound out c fits rest r right)
 
 pub token_is : (p : Token) (k : TokenKind) (at : Pos) → p.kind ≡ k → p.pos ≡ at → p ≡ record { kind = k; pos = at }
 token_is p k at e f =
@@ -111,12 +115,13 @@ word_at_marks c fits at = record {
   sample = ap (λ (b : Bool). if b then Some anywhere else None) (cue_self c);
 }
 
-pub word_at_right : {B : Type 0} (bound : ℕ) (out : TokenKind → Bool) (c : Cue) (fits : B → Type 0) (at : B → Pos)
-    (rest : B → Parts) (r : Pos → Reader B) → ((p : Pos) → IsRight bound out (λ y. fits y × (at y ≡ p)) rest (r p))
-    → IsRight bound out fits (λ y. Word (At (kind_of c) (at y)) (rest y)) («word» c ⨟ r)
-word_at_right bound out c fits at rest r right =
-    lowered bound out fits (λ y. Word (At (kind_of c) (at y)) (rest y)) («word» c ⨟ r)
-    (token_right bound out fits (λ y. At (kind_of c) (at y)) rest (word_of c) (λ x y. at y ≡ x) r
+pub word_at_right : {B : Type 0} (limit bound : ℕ) (out : TokenKind → Bool) (c : Cue) (fits : B → Type 0) (at : B → Pos)
+    (rest : B → Parts) (r : Pos → Reader B)
+    → ((p : Pos) → IsRight limit bound out (λ y. fits y × (at y ≡ p)) rest (r p))
+    → IsRight limit bound out fits (λ y. Word (At (kind_of c) (at y)) (rest y)) («word» c ⨟ r)
+word_at_right limit bound out c fits at rest r right =
+    lowered limit bound out fits (λ y. Word (At (kind_of c) (at y)) (rest y)) («word» c ⨟ r)
+    (token_right limit bound out fits (λ y. At (kind_of c) (at y)) rest (word_of c) (λ x y. at y ≡ x) r
     (word_at_marks c fits at) right)
 
 -- ---- names
@@ -166,18 +171,22 @@ upper_marks fits name = record {
   sample = refl;
 }
 
-pub lower_right : {B : Type 0} (bound : ℕ) (out : TokenKind → Bool) (fits : B → Type 0) (name : B → Name)
-    (rest : B → Parts) (r : Name → Reader B) → ((x : Name) → IsRight bound out (λ y. fits y × (name y ≡ x)) rest (r x))
-    → IsRight bound out fits (λ y. Word (At (kind.Lower (name y).text) (name y).pos) (rest y)) (lower ⨟ r)
-lower_right bound out fits name rest r right =
-    lowered bound out fits (λ y. Word (At (kind.Lower (name y).text) (name y).pos) (rest y)) (lower ⨟ r)
-    (token_right bound out fits (λ y. At (kind.Lower (name y).text) (name y).pos) rest lower_of (λ x y. name y ≡ x) r
+pub lower_right : {B : Type 0} (limit bound : ℕ) (out : TokenKind → Bool) (fits : B → Type 0) (name : B → Name)
+    (rest : B → Parts) (r : Name → Reader B)
+    → ((x : Name) → IsRight limit bound out (λ y. fits y × (name y ≡ x)) rest (r x))
+    → IsRight limit bound out fits (λ y. Word (At (kind.Lower (name y).text) (name y).pos) (rest y)) (lower ⨟ r)
+lower_right limit bound out fits name rest r right =
+    lowered limit bound out fits (λ y. Word (At (kind.Lower (name y).text) (name y).pos) (rest y)) (lower ⨟ r)
+    (token_right limit bound out fits (λ y. At (kind.Lower (name y).text) (name y).pos) rest lower_of
+    (λ x y. name y ≡ x) r
     (lower_marks fits name) right)
 
-pub upper_right : {B : Type 0} (bound : ℕ) (out : TokenKind → Bool) (fits : B → Type 0) (name : B → Name)
-    (rest : B → Parts) (r : Name → Reader B) → ((x : Name) → IsRight bound out (λ y. fits y × (name y ≡ x)) rest (r x))
-    → IsRight bound out fits (λ y. Word (At (kind.Upper (name y).text) (name y).pos) (rest y)) (upper ⨟ r)
-upper_right bound out fits name rest r right =
-    lowered bound out fits (λ y. Word (At (kind.Upper (name y).text) (name y).pos) (rest y)) (upper ⨟ r)
-    (token_right bound out fits (λ y. At (kind.Upper (name y).text) (name y).pos) rest upper_of (λ x y. name y ≡ x) r
+pub upper_right : {B : Type 0} (limit bound : ℕ) (out : TokenKind → Bool) (fits : B → Type 0) (name : B → Name)
+    (rest : B → Parts) (r : Name → Reader B)
+    → ((x : Name) → IsRight limit bound out (λ y. fits y × (name y ≡ x)) rest (r x))
+    → IsRight limit bound out fits (λ y. Word (At (kind.Upper (name y).text) (name y).pos) (rest y)) (upper ⨟ r)
+upper_right limit bound out fits name rest r right =
+    lowered limit bound out fits (λ y. Word (At (kind.Upper (name y).text) (name y).pos) (rest y)) (upper ⨟ r)
+    (token_right limit bound out fits (λ y. At (kind.Upper (name y).text) (name y).pos) rest upper_of
+    (λ x y. name y ≡ x) r
     (upper_marks fits name) right)

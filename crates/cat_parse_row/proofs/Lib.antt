@@ -19,3 +19,4 @@ pub mod Loops
 pub mod Repeats
 pub mod Turns
 pub mod Shorter
+pub mod Exported

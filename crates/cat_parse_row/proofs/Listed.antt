@@ -10,7 +10,7 @@ use Rattle.cat_tree.specs.Phrase.{Parts, End, Word, Anywhere, AreSpelled}
 use Rattle.cat_tree.specs.Joined.{all, behind_comma, with_commas}
 use Rattle.cat_parse_row.specs.declared.cue.Cue.{Cue}
 use Rattle.cat_parse_row.specs.declared.cue.Cue.TheVariants as cue
-use Rattle.cat_parse_row.specs.Reader.{Outcome, Reader, Reads, ◌⨟◌, done, heads, both, many, some}
+use Rattle.cat_parse_row.specs.Reader.{Parsed, Reader, Reads, ◌⨟◌, pure, heads, both, many, some}
 use Rattle.cat_parse_row.specs.Right.{Outside, Taken, IsRight}
 use Rattle.cat_parse_row.specs.Cues.{kind_of, cue_is, «word»}
 use Rattle.cat_parse_row.specs.Declarations.{is_comma, comma, listed, led}
@@ -28,30 +28,32 @@ outside_any [] = tt
 outside_any (p ∷ v) = refl
 
 -- a part is no longer than what it is read from
-pub no_longer : {A : Type 0} (bound : ℕ) (out : TokenKind → Bool) (fits : A → Type 0) (row : A → Parts) (r : Reader A)
-    → IsRight bound out fits row r → (ts : List Token) (x : A) (left : List Token) → length ts ≤ bound → r ts
+pub no_longer : {A : Type 0} (limit bound : ℕ) (out : TokenKind → Bool) (fits : A → Type 0) (row : A → Parts)
+    (r : Reader A)
+    → IsRight limit bound out fits row r → (ts : List Token) (x : A) (left : List Token) → length ts ≤ bound → r ts
     ≡ Reads x left → length left ≤ bound
-no_longer {A = A} bound out fits row r h ts x left le e =
-    let t = subst (λ (o : Outcome A). Taken fits row o ts) e (h.taken ts le) in
+no_longer {A = A} limit bound out fits row r h ts x left le e =
+    let t = subst (λ (o : Parsed A). Taken limit fits row o ts) e (h.taken ts le) in
     omega (arith, le, ap length t.text, length-append t.front left)
 
 -- a list that isn't empty, all of whose members fit
 abbrev pub SomeFit : {A : Type 0} → (A → Type 0) → List A → Type 0
 SomeFit {A = A} fits ys = (p : A × List A) × BothFit fits (AllFit fits) p × (ys ≡ p.0 ∷ p.1)
 
-module _ {A : Type 0} (out : TokenKind → Bool) (fits : A → Type 0) (row : A → Parts) (r : Reader A)
+module _ {A : Type 0} (limit : ℕ) (out : TokenKind → Bool) (fits : A → Type 0) (row : A → Parts) (r : Reader A)
     (off : (k : TokenKind) → out k ≡ true → is_comma k ≡ false)
-    (right : (bound : ℕ) → IsRight bound any_word fits row r) where
-  comma_right : (bound : ℕ) → IsRight bound any_word fits (behind_comma row) (comma r)
-  comma_right bound = word_right bound any_word (cue.Sign symbol.Comma) fits row (λ p. r) (λ p. right bound)
+    (right : (bound : ℕ) → IsRight limit bound any_word fits row r) where
+  comma_right : (bound : ℕ) → IsRight limit bound any_word fits (behind_comma row) (comma r)
+  comma_right bound = word_right limit bound any_word (cue.Sign symbol.Comma) fits row (λ p. r) (λ p. right bound)
 
-  pub listed_right : (bound : ℕ) → IsRight bound out (SomeFit fits) (with_commas row) (listed r)
+  pub listed_right : (bound : ℕ) → IsRight limit bound out (SomeFit fits) (with_commas row) (listed r)
   listed_right bound =
-      made_right bound out (BothFit fits (AllFit fits)) (both_rows row (all (behind_comma row))) (with_commas row)
+      made_right limit bound out (BothFit fits (AllFit fits)) (both_rows row (all (behind_comma row))) (with_commas row)
       (λ p. p.0 ∷ p.1) (both r (many is_comma (comma r))) (λ p. refl)
-      (both_right bound bound out any_word fits (AllFit fits) row (all (behind_comma row)) r (many is_comma (comma r))
-      (λ y w v f s o. outside_any (w ++ v)) (no_longer bound any_word fits row r (right bound)) (right bound)
-      (many_right out any_word is_comma fits (behind_comma row) (comma r)
+      (both_right limit bound bound out any_word fits (AllFit fits) row (all (behind_comma row)) r
+      (many is_comma (comma r))
+      (λ y w v f s o. outside_any (w ++ v)) (no_longer limit bound any_word fits row r (right bound)) (right bound)
+      (many_right limit out any_word is_comma fits (behind_comma row) (comma r)
       (opens_word is_comma (kind.Symbol symbol.Comma) fits row (cue_self (cue.Sign symbol.Comma))) off (λ k e. refl)
       (λ k e. refl) comma_right bound))
 
@@ -79,29 +81,32 @@ module _ {A : Type 0} (out : TokenKind → Bool) (fits : A → Type 0) (row : A 
         either [] f = inr refl
         either (x ∷ xs) f = inl ((x, xs), (f.0, f.1), refl)
 
-    pub led_right : (bound : ℕ) → IsRight bound out (AllFit fits) row2 (led c r)
+    pub led_right : (bound : ℕ) → IsRight limit bound out (AllFit fits) row2 (led c r)
     led_right bound =
-        choice_right bound out (cue_is c) (AllFit fits) (SomeFit fits) (λ y. y ≡ []) row2 («word» c ⨟ λ p. listed r)
-        (done []) led_decides
-        (reshaped bound out (SomeFit fits) (SomeFit fits) (λ y. Word (Anywhere (kind_of c)) (with_commas row y)) row2
+        choice_right limit bound out (cue_is c) (AllFit fits) (SomeFit fits) (λ y. y ≡ []) row2
+        («word» c ⨟ λ p. listed r)
+        (pure []) led_decides
+        (reshaped limit bound out (SomeFit fits) (SomeFit fits) (λ y. Word (Anywhere (kind_of c)) (with_commas row y))
+        row2
         («word» c ⨟ λ p. listed r)
         (record { to = λ y f. f; from = λ y f. f; rows = led_row })
-        (word_right bound out c (SomeFit fits) (with_commas row) (λ p. listed r) (λ p. listed_right bound)))
-        (none_right bound out row2 [] none)
+        (word_right limit bound out c (SomeFit fits) (with_commas row) (λ p. listed r) (λ p. listed_right bound)))
+        (none_right limit bound out row2 [] none)
 
 -- one at least
-module _ {A : Type 0} (out next start : TokenKind → Bool) (fits : A → Type 0) (row : A → Parts) (r : Reader A)
+module _ {A : Type 0} (limit : ℕ) (out next start : TokenKind → Bool) (fits : A → Type 0) (row : A → Parts)
+    (r : Reader A)
     (opens : Opens start fits row) (off : (k : TokenKind) → out k ≡ true → start k ≡ false)
     (on : (k : TokenKind) → start k ≡ true → next k ≡ true) (wide : (k : TokenKind) → out k ≡ true → next k ≡ true)
-    (right : (bound : ℕ) → IsRight bound next fits row r) where
+    (right : (bound : ℕ) → IsRight limit bound next fits row r) where
   all_behind : (ys : List A) (w v : List Token) → AllFit fits ys → AreSpelled (all row ys) w → Outside out v
       → Outside next (w ++ v)
-  all_behind = rest_behind out next start fits row r opens off on wide right
+  all_behind = rest_behind limit out next start fits row r opens off on wide right
 
-  pub some_right : (bound : ℕ) → IsRight bound out (SomeFit fits) (all row) (some start r)
+  pub some_right : (bound : ℕ) → IsRight limit bound out (SomeFit fits) (all row) (some start r)
   some_right bound =
-      made_right bound out (BothFit fits (AllFit fits)) (both_rows row (all row)) (all row) (λ p. p.0 ∷ p.1)
+      made_right limit bound out (BothFit fits (AllFit fits)) (both_rows row (all row)) (all row) (λ p. p.0 ∷ p.1)
       (both r (many start r)) (λ p. refl)
-      (both_right bound bound out next fits (AllFit fits) row (all row) r (many start r) all_behind
-      (no_longer bound next fits row r (right bound)) (right bound)
-      (many_right out next start fits row r opens off on wide right bound))
+      (both_right limit bound bound out next fits (AllFit fits) row (all row) r (many start r) all_behind
+      (no_longer limit bound next fits row r (right bound)) (right bound)
+      (many_right limit out next start fits row r opens off on wide right bound))

@@ -5,7 +5,7 @@ use Rattle.cat_lex.specs.declared.token.Token.{Token}
 use Rattle.cat_lex.specs.declared.token.TokenKind.{TokenKind}
 use Rattle.cat_tree.specs.Phrase.{Parts, AreSpelled}
 use Rattle.cat_tree.specs.Joined.{◌▸◌, all}
-use Rattle.cat_parse_row.specs.Reader.{Reader, Reads, ◌⨟◌, done, heads, both, at_most, many}
+use Rattle.cat_parse_row.specs.Reader.{Reader, Reads, ◌⨟◌, pure, heads, both, at_most, many}
 use Rattle.cat_parse_row.specs.Right.{Agree, Outside, IsRight}
 use Rattle.cat_parse_row.proofs.Steps.{no_front, agree_same, spelled_split}
 use Rattle.cat_parse_row.proofs.Sequel.{part_right}
@@ -21,19 +21,19 @@ abbrev pub both_rows : {A B : Type 0} → (A → Parts) → (B → Parts) → A 
 both_rows row row2 p = row p.0 ▸ row2 p.1
 
 pub both_right : {A B : Type 0}
-    → (bound inner : ℕ) (out next : TokenKind → Bool) (fits : A → Type 0) (fits2 : B → Type 0) (row : A → Parts)
+    → (limit bound inner : ℕ) (out next : TokenKind → Bool) (fits : A → Type 0) (fits2 : B → Type 0) (row : A → Parts)
     (row2 : B → Parts) (r : Reader A) (s : Reader B)
     → ((y : B) (w v : List Token) → fits2 y → AreSpelled (row2 y) w → Outside out v → Outside next (w ++ v))
     → ((ts : List Token) (x : A) (left : List Token) → length ts ≤ bound → r ts ≡ Reads x left → length left ≤ inner)
-    → IsRight bound next fits row r → IsRight inner out fits2 row2 s
-    → IsRight bound out (BothFit fits fits2) (both_rows row row2) (both r s)
-both_right {A = A} {B = B} bound inner out next fits fits2 row row2 r s behind shrinks first second =
-    part_right bound inner out next (BothFit fits fits2) fits (λ p. p.0) row (λ p. row2 p.1) r
-    (λ x. s ⨟ λ y. done (x, y))
+    → IsRight limit bound next fits row r → IsRight limit inner out fits2 row2 s
+    → IsRight limit bound out (BothFit fits fits2) (both_rows row row2) (both r s)
+both_right {A = A} {B = B} limit bound inner out next fits fits2 row row2 r s behind shrinks first second =
+    part_right limit bound inner out next (BothFit fits fits2) fits (λ p. p.0) row (λ p. row2 p.1) r
+    (λ x. s ⨟ λ y. pure (x, y))
     (record { fit = λ p f. f.0; behind = λ p w v f. behind p.1 w v f.1; shrinks = shrinks })
     first
-    (λ x fit. reshaped inner out (λ p. (y : B) × fits2 y × (p ≡ (x, y))) (λ p. BothFit fits fits2 p × (p.0 ≡ x))
-    (λ p. row2 p.1) (λ p. row2 p.1) (s ⨟ λ y. done (x, y))
+    (λ x fit. reshaped limit inner out (λ p. (y : B) × fits2 y × (p ≡ (x, y))) (λ p. BothFit fits fits2 p × (p.0 ≡ x))
+    (λ p. row2 p.1) (λ p. row2 p.1) (s ⨟ λ y. pure (x, y))
     (record {
       to =
           λ p f. let e0 : p.0 ≡ x = ap (λ (q : A × B). q.0) f.2 in
@@ -41,7 +41,7 @@ both_right {A = A} {B = B} bound inner out next fits fits2 row row2 r s behind s
       from = λ p f. (p.1, f.0.1, ap (λ (z : A). (z, p.1)) f.1);
       rows = λ p f. refl;
     })
-    (made_right inner out fits2 row2 (λ p. row2 p.1) (λ y. (x, y)) s (λ y. refl) second))
+    (made_right limit inner out fits2 row2 (λ p. row2 p.1) (λ y. (x, y)) s (λ y. refl) second))
 
 -- ---- as many as there are
 
@@ -49,10 +49,11 @@ abbrev pub AllFit : {A : Type 0} → (A → Type 0) → List A → Type 0
 AllFit fits [] = Unit {0}
 AllFit fits (x ∷ more) = fits x × AllFit fits more
 
-module _ {A : Type 0} (out next start : TokenKind → Bool) (fits : A → Type 0) (row : A → Parts) (r : Reader A)
+module _ {A : Type 0} (limit : ℕ) (out next start : TokenKind → Bool) (fits : A → Type 0) (row : A → Parts)
+    (r : Reader A)
     (opens : Opens start fits row) (off : (k : TokenKind) → out k ≡ true → start k ≡ false)
     (on : (k : TokenKind) → start k ≡ true → next k ≡ true) (wide : (k : TokenKind) → out k ≡ true → next k ≡ true)
-    (right : (bound : ℕ) → IsRight bound next fits row r) where
+    (right : (bound : ℕ) → IsRight limit bound next fits row r) where
   no_head : (w : List Token) → heads start w ≡ true → w ≡ [] → ⊥
   no_head [] h e = absurd cc
   no_head (p ∷ w) h e = absurd (omega (arith, ap length e))
@@ -68,7 +69,7 @@ module _ {A : Type 0} (out next start : TokenKind → Bool) (fits : A → Type 0
       heads_assoc [] b c = refl
       heads_assoc (q ∷ a) b c = refl
 
-  zero_right : IsRight 0 out (AllFit fits) (all row) (done [])
+  zero_right : IsRight limit 0 out (AllFit fits) (all row) (pure [])
   zero_right = record {
     alive = record { value = []; more = []; is = record { fit = tt; levels = tt; spelled = refl } };
     taken =
@@ -92,7 +93,7 @@ module _ {A : Type 0} (out next start : TokenKind → Bool) (fits : A → Type 0
 
   shrinks : (n : ℕ) (ts : List Token) (x : A) (left : List Token) → length ts ≤ suc n → r ts ≡ Reads x left
       → length left ≤ n
-  shrinks n ts x left le e = omega (arith, le, less next start fits row r opens right ts x left e)
+  shrinks n ts x left le e = omega (arith, le, less limit next start fits row r opens right ts x left e)
 
   decides : Decides out start (AllFit fits) (λ ys. (p : A × List A) × BothFit fits (AllFit fits) p × (ys ≡ p.0 ∷ p.1))
       (λ ys. ys ≡ []) (all row)
@@ -124,19 +125,19 @@ module _ {A : Type 0} (out next start : TokenKind → Bool) (fits : A → Type 0
       by [] h = tt
       by (p ∷ u) h = on p.kind h
 
-  pub at_most_right : (n : ℕ) → IsRight n out (AllFit fits) (all row) (at_most n start r)
+  pub at_most_right : (n : ℕ) → IsRight limit n out (AllFit fits) (all row) (at_most n start r)
   at_most_right zero = zero_right
   at_most_right (suc n) =
-      choice_right (suc n) out start (AllFit fits)
+      choice_right limit (suc n) out start (AllFit fits)
       (λ ys. (p : A × List A) × BothFit fits (AllFit fits) p × (ys ≡ p.0 ∷ p.1)) (λ ys. ys ≡ []) (all row)
-      (both r (at_most n start r) ⨟ λ p. done (p.0 ∷ p.1)) (done []) decides
-      (made_right (suc n) out (BothFit fits (AllFit fits)) (both_rows row (all row)) (all row) (λ p. p.0 ∷ p.1)
+      (both r (at_most n start r) ⨟ λ p. pure (p.0 ∷ p.1)) (pure []) decides
+      (made_right limit (suc n) out (BothFit fits (AllFit fits)) (both_rows row (all row)) (all row) (λ p. p.0 ∷ p.1)
       (both r (at_most n start r)) (λ p. refl)
-      (both_right (suc n) n out next fits (AllFit fits) row (all row) r (at_most n start r) all_behind (shrinks n)
+      (both_right limit (suc n) n out next fits (AllFit fits) row (all row) r (at_most n start r) all_behind (shrinks n)
       (right (suc n)) (at_most_right n)))
-      (none_right (suc n) out (all row) [] refl)
+      (none_right limit (suc n) out (all row) [] refl)
 
-  pub many_right : (bound : ℕ) → IsRight bound out (AllFit fits) (all row) (many start r)
+  pub many_right : (bound : ℕ) → IsRight limit bound out (AllFit fits) (all row) (many start r)
   many_right bound = record {
     alive = zero_right.alive;
     taken = λ ts le. (at_most_right (length ts)).taken ts (omega arith);

@@ -2,7 +2,7 @@
 use Rattle.std.proofs.Common.{◌≡◌, ℕ, zero, suc, ◌<◌, ◌+◌, Bool, true, false, if◌then◌else◌, List, [], ◌∷◌, length}
 use Rattle.std.proofs.Common.{drop, refl, sym, ap, ◌∙◌, arith}
 use Rattle.cat_lex.specs.declared.token.Token.{Token}
-use Rattle.cat_parse_row.specs.Reader.{one, after, done, heads}
+use Rattle.cat_parse_row.specs.Reader.{one, after, pure, heads}
 use Rattle.cat_lex.specs.declared.words.DoubleKeyword.TheVariants as pair
 use Rattle.cat_parse_row.specs.declared.cue.Cue.TheVariants as cue
 use Rattle.cat_parse_row.specs.Cues.{word_of}
@@ -26,7 +26,7 @@ list_step n place tokens h = by (drop place tokens) refl h
   where
     taken : (t : Token) (ts : List Token) → is_list_of t.kind ≡ true → type_after n (t ∷ ts) ≡ type_after (suc n) ts
     taken t ts e =
-        ap (λ (c : Bool). if c then type_after (suc n) ts else after (one base_at (t ∷ ts)) (λ b. done (typed n b))) e
+        ap (λ (c : Bool). if c then type_after (suc n) ts else after (one base_at (t ∷ ts)) (λ b. pure (typed n b))) e
 
     by : (l : List Token) → drop place tokens ≡ l → heads is_list_of l ≡ true → Listed n place tokens
     by [] e h = absurd cc
@@ -43,8 +43,8 @@ list_step n place tokens h = by (drop place tokens) refl h
         }
 
 pub list_end : (n : ℕ) (ts : List Token) → heads is_list_of ts ≡ false → type_after n ts
-    ≡ after (one base_at ts) (λ b. done (typed n b))
+    ≡ after (one base_at ts) (λ b. pure (typed n b))
 list_end n ts h =
     sym (as_choice n ts)
     ∙ ap (λ (c : Bool). if c then after (one (word_of (cue.Pair pair.ListOf)) ts) (λ p. type_after (suc n)) else after
-    (one base_at ts) (λ b. done (typed n b))) h
+    (one base_at ts) (λ b. pure (typed n b))) h

@@ -6,7 +6,7 @@ use Rattle.cat_lex.specs.declared.token.Token.{Token}
 use Rattle.cat_lex.specs.declared.token.TokenKind.{TokenKind}
 use Rattle.cat_tree.specs.Phrase.{Parts, tallest, AreLevelled, AreSpelled}
 use Rattle.cat_tree.specs.Joined.{◌▸◌}
-use Rattle.cat_parse_row.specs.Reader.{Outcome, Reader, Fails, Reads, left_of, after, ◌⨟◌}
+use Rattle.cat_parse_row.specs.Reader.{Parsed, Reader, Fails, Reads, left_of, after, ◌⨟◌}
 use Rattle.cat_parse_row.specs.Right.{Agree, Outside, Is, Begun, Took, Taken, Says, Alike, IsRight}
 use Rattle.cat_parse_row.proofs.Steps.{levels_join, levels_split, tallest_join, spelled_join, Splits, spelled_split}
 
@@ -22,10 +22,11 @@ pub record Follows {A B : Type 0} (bound inner : ℕ) (out next : TokenKind → 
   pub shrinks : (ts : List Token) (x : A) (left : List Token) → length ts ≤ bound → r ts ≡ Reads x left
       → length left ≤ inner
 
-module _ {A B : Type 0} (bound inner : ℕ) (out next : TokenKind → Bool) (fits : B → Type 0) (fits_part : A → Type 0)
+module _ {A B : Type 0} (limit bound inner : ℕ) (out next : TokenKind → Bool) (fits : B → Type 0)
+    (fits_part : A → Type 0)
     (sub : B → A) (row : A → Parts) (rest : B → Parts) (one : Reader A) (r : A → Reader B)
-    (f : Follows bound inner out next fits fits_part sub rest one) (first : IsRight bound next fits_part row one)
-    (second : (x : A) → fits_part x → IsRight inner out (λ y. fits y × (sub y ≡ x)) rest (r x)) where
+    (f : Follows bound inner out next fits fits_part sub rest one) (first : IsRight limit bound next fits_part row one)
+    (second : (x : A) → fits_part x → IsRight limit inner out (λ y. fits y × (sub y ≡ x)) rest (r x)) where
   abbrev whole_row : B → Parts
   whole_row y = row (sub y) ▸ rest y
 
@@ -65,11 +66,12 @@ module _ {A B : Type 0} (bound inner : ℕ) (out next : TokenKind → Bool) (fit
             (joined x b.value u (v ++ b.more) i b.is);
       }
 
-  tall_is : (x : A) (y : B) → sub y ≡ x → tallest (row x) ≤ 256 → tallest (rest y) ≤ 256 → tallest (whole_row y) ≤ 256
+  tall_is : (x : A) (y : B) → sub y ≡ x → tallest (row x) ≤ limit → tallest (rest y) ≤ limit → tallest (whole_row y) ≤
+      limit
   tall_is x y e a b = omega (arith, tallest_join (row (sub y)) (rest y), ap (λ (z : A). tallest (row z)) e)
 
-  took_second : (x : A) (u v : List Token) (o : Outcome B) → Is fits_part row x u → tallest (row x) ≤ 256
-      → Took (fits_with x) rest o v → Took fits whole_row o (u ++ v)
+  took_second : (x : A) (u v : List Token) (o : Parsed B) → Is fits_part row x u → tallest (row x) ≤ limit
+      → Took limit (fits_with x) rest o v → Took limit fits whole_row o (u ++ v)
   took_second x u v (Fails left false) i low t = begun_second x u v i t
   took_second x u v (Fails left true) i low t =
       record {
@@ -82,8 +84,8 @@ module _ {A B : Type 0} (bound inner : ℕ) (out next : TokenKind → Bool) (fit
       }
   took_second x u v (Reads y left) i low t = (joined x y u v i t.0, tall_is x y t.0.fit.1 low t.1)
 
-  taken_of : (ts : List Token) → length ts ≤ bound → (o : Outcome A) → one ts ≡ o → Taken fits_part row o ts
-      → Taken fits whole_row (after o r) ts
+  taken_of : (ts : List Token) → length ts ≤ bound → (o : Parsed A) → one ts ≡ o → Taken limit fits_part row o ts
+      → Taken limit fits whole_row (after o r) ts
   taken_of ts le (Fails left false) e t = record { front = t.front; text = t.text; took = begun_first t.front t.took }
   taken_of ts le (Fails left true) e t =
       record {
@@ -108,25 +110,25 @@ module _ {A B : Type 0} (bound inner : ℕ) (out next : TokenKind → Bool) (fit
       }
 
   says_first : (left front : List Token) (deep : Bool) (y : B) (w : List Token)
-      → Says row (Fails left deep) (sub y) w front → (spelling : List Token)
-      → Says whole_row (Fails left deep) y spelling front
+      → Says limit row (Fails left deep) (sub y) w front → (spelling : List Token)
+      → Says limit whole_row (Fails left deep) y spelling front
   says_first left front false y w s spelling = s
   says_first left front true y w s spelling = λ low. s (omega (arith, tallest_join (row (sub y)) (rest y), low))
 
-  says_second : (o : Outcome B) (y : B) (a b u v w front : List Token) → w ≡ a ++ b → a ≡ u → front ≡ u ++ v
-      → Says rest o y b v → Says whole_row o y w front
+  says_second : (o : Parsed B) (y : B) (a b u v w front : List Token) → w ≡ a ++ b → a ≡ u → front ≡ u ++ v
+      → Says limit rest o y b v → Says limit whole_row o y w front
   says_second (Fails left false) y a b u v w front e g h s = s
   says_second (Fails left true) y a b u v w front e g h s =
       λ low. s (omega (arith, tallest_join (row (sub y)) (rest y), low))
   says_second (Reads x left) y a b u v w front e g h s =
       (s.0, e ∙ ap (λ (z : List Token). z ++ b) g ∙ ap (λ (z : List Token). u ++ z) s.1 ∙ sym h)
 
-  says_part : (ts : List Token) → length ts ≤ bound → (o : Outcome A) → one ts ≡ o
+  says_part : (ts : List Token) → length ts ≤ bound → (o : Parsed A) → one ts ≡ o
       → (front : List Token) (x : A) (w : List Token) → ts ≡ front ++ left_of o
-      → Alike next fits_part row (left_of o) front x w → Says row o x w front
+      → Alike next fits_part row (left_of o) front x w → Says limit row o x w front
   says_part ts le o e =
-      subst (λ (o : Outcome A). (front : List Token) (x : A) (w : List Token) → ts ≡ front ++ left_of o
-      → Alike next fits_part row (left_of o) front x w → Says row o x w front) e
+      subst (λ (o : Parsed A). (front : List Token) (x : A) (w : List Token) → ts ≡ front ++ left_of o
+      → Alike next fits_part row (left_of o) front x w → Says limit row o x w front) e
       (λ front x w text a. first.says ts front x w le text a)
 
   part_of : (y : B) (w : List Token) → (i : Is fits whole_row y w) → (s : Splits (row (sub y)) (rest y) w)
@@ -134,9 +136,9 @@ module _ {A B : Type 0} (bound inner : ℕ) (out next : TokenKind → Bool) (fit
   part_of y w i s =
       record { fit = f.fit y i.fit; levels = (levels_split (row (sub y)) (rest y) i.levels).0; spelled = s.one }
 
-  says_of : (ts : List Token) → length ts ≤ bound → (o : Outcome A) → one ts ≡ o → Taken fits_part row o ts
+  says_of : (ts : List Token) → length ts ≤ bound → (o : Parsed A) → one ts ≡ o → Taken limit fits_part row o ts
       → (front : List Token) (y : B) (w : List Token) → ts ≡ front ++ left_of (after o r)
-      → Alike out fits whole_row (left_of (after o r)) front y w → Says whole_row (after o r) y w front
+      → Alike out fits whole_row (left_of (after o r)) front y w → Says limit whole_row (after o r) y w front
   says_of ts le (Fails left deep) e t front y w text a =
       let s = spelled_split (row (sub y)) (rest y) w a.is.spelled in
       let part = says_part ts le (Fails left deep) e front (sub y) s.first text (record {
@@ -187,7 +189,7 @@ module _ {A B : Type 0} (bound inner : ℕ) (out next : TokenKind → Bool) (fit
       }) in
       says_second (r x left) y s.first s.second t.front u.front w front s.text part.1 front_is more
 
-  pub part_right : IsRight bound out fits (λ y. row (sub y) ▸ rest y) (one ⨟ r)
+  pub part_right : IsRight limit bound out fits (λ y. row (sub y) ▸ rest y) (one ⨟ r)
   part_right = record {
     alive = begun_first [] first.alive;
     taken = λ ts le. taken_of ts le (one ts) refl (first.taken ts le);

@@ -6,7 +6,7 @@ use Rattle.cat_lex.specs.declared.token.Token.{Token}
 use Rattle.cat_lex.specs.declared.token.TokenKind.{TokenKind}
 use Rattle.cat_tree.specs.Phrase.{Parts, End, Word, Part, tallest, AreLevelled, AreSpelled}
 use Rattle.cat_tree.specs.Joined.{◌▸◌}
-use Rattle.cat_parse_row.specs.Reader.{done}
+use Rattle.cat_parse_row.specs.Reader.{pure}
 use Rattle.cat_parse_row.specs.Right.{Agree, IsRight}
 
 -- ---- rows behind one another
@@ -73,9 +73,9 @@ agree_same (p ∷ ts) us a e = absurd (omega (arith, e))
 pub no_front : (front ts : List Token) → ts ≡ front ++ ts → front ≡ []
 no_front front ts e = append_cancel_right front [] ts (sym e)
 
-pub done_right : {B : Type 0} → (bound : ℕ) (out : TokenKind → Bool) (fits : B → Type 0) (x : B) → fits x
-    → ((y : B) → fits y → y ≡ x) → IsRight bound out fits (λ y. End) (done x)
-done_right bound out fits x fit only = record {
+pub pure_right : {B : Type 0} → (limit bound : ℕ) (out : TokenKind → Bool) (fits : B → Type 0) (x : B) → fits x
+    → ((y : B) → fits y → y ≡ x) → IsRight limit bound out fits (λ y. End) (pure x)
+pure_right limit bound out fits x fit only = record {
   alive = record { value = x; more = []; is = record { fit = fit; levels = tt; spelled = refl } };
   taken =
       λ ts le. record {

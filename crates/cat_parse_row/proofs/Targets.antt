@@ -10,7 +10,7 @@ use Rattle.cat_tree.specs.Phrase.{Word, Anywhere, AreSpelled}
 use Rattle.cat_tree.specs.Joined.{◌▸◌}
 use Rattle.cat_tree.specs.Uses.{name_parts, inner_parts, names_parts, target_parts}
 use Rattle.cat_parse_row.specs.declared.cue.Cue.TheVariants as cue
-use Rattle.cat_parse_row.specs.Reader.{◌⨟◌, done, optional}
+use Rattle.cat_parse_row.specs.Reader.{◌⨟◌, pure, optional}
 use Rattle.cat_parse_row.specs.Right.{Outside, IsRight}
 use Rattle.cat_parse_row.specs.Cues.{lower}
 use Rattle.cat_parse_row.specs.Declarations.{is_comma, is_word}
@@ -51,9 +51,9 @@ target_no_dot : (k : TokenKind) → behind_target k ≡ true → no_dot k ≡ tr
 target_no_dot (kind.Symbol symbol.Dot) e = let t : false ≡ true = e in absurd cc
 target_no_dot _ e = refl
 
-names_right : (bound : ℕ) → IsRight bound behind_target (AllFit Any) names_parts names
-names_right bound =
-    led_right behind_target Any name_parts lower comma_off (λ b. name_right b any_word)
+names_right : (limit bound : ℕ) → IsRight limit bound behind_target (AllFit Any) names_parts names
+names_right limit bound =
+    led_right limit behind_target Any name_parts lower comma_off (λ b. name_right limit b any_word)
     (cue.Word key.Of) names_parts refl (λ x xs. refl) of_off bound
 
 names_behind : (ns : List Name) (w v : List Token) → AreSpelled (names_parts ns) w → Outside behind_target v
@@ -65,27 +65,30 @@ names_behind [] w v s o = subst (λ (u : List Token). Outside no_dot (u ++ v)) (
     by (p ∷ v) o = target_no_dot p.kind o
 names_behind (n ∷ ns) w v s o = subst (λ (u : List Token). Outside no_dot (u ++ v)) (sym s.2) (ap no_dot s.3)
 
-inner_right : (bound : ℕ) → IsRight bound no_dot (OptionFits Any) inner_parts (optional is_dot inner)
-inner_right bound =
-    optional_right bound no_dot is_dot Any
+inner_right : (limit bound : ℕ) → IsRight limit bound no_dot (OptionFits Any) inner_parts (optional is_dot inner)
+inner_right limit bound =
+    optional_right limit bound no_dot is_dot Any
     (λ w. Word (Anywhere (kind.Symbol symbol.Dot)) (name_parts w)) inner_parts inner
     (opens_word is_dot (kind.Symbol symbol.Dot) Any name_parts refl) dot_off refl (λ w. refl)
-    (word_right bound no_dot (cue.Sign symbol.Dot) Any name_parts (λ p. lower) (λ p. name_right bound no_dot))
+    (word_right limit bound no_dot (cue.Sign symbol.Dot) Any name_parts (λ p. lower)
+    (λ p. name_right limit bound no_dot))
 
-pub target_right : (bound : ℕ) → IsRight bound behind_target Any target_parts target
-target_right bound =
-    lower_right bound behind_target Any (λ t. t.name) (λ t. inner_parts t.inner ▸ names_parts t.params)
-    (λ w. optional is_dot inner ⨟ λ i. names ⨟ λ ps. done (record { name = w; inner = i; params = ps })) λ w.
-    part_right bound bound behind_target no_dot (λ t. Any t × (t.name ≡ w)) (OptionFits Any) (λ t. t.inner) inner_parts
+pub target_right : (limit bound : ℕ) → IsRight limit bound behind_target Any target_parts target
+target_right limit bound =
+    lower_right limit bound behind_target Any (λ t. t.name) (λ t. inner_parts t.inner ▸ names_parts t.params)
+    (λ w. optional is_dot inner ⨟ λ i. names ⨟ λ ps. pure (record { name = w; inner = i; params = ps })) λ w.
+    part_right limit bound bound behind_target no_dot (λ t. Any t × (t.name ≡ w)) (OptionFits Any) (λ t. t.inner)
+    inner_parts
     (λ t. names_parts t.params) (optional is_dot inner)
-    (λ i. names ⨟ λ ps. done (record { name = w; inner = i; params = ps }))
+    (λ i. names ⨟ λ ps. pure (record { name = w; inner = i; params = ps }))
     (record {
       fit = λ t f. any_option t.inner;
       behind = λ t w v f s o. names_behind t.params w v s o;
-      shrinks = no_longer bound no_dot (OptionFits Any) inner_parts (optional is_dot inner) (inner_right bound);
+      shrinks = no_longer limit bound no_dot (OptionFits Any) inner_parts (optional is_dot inner)
+          (inner_right limit bound);
     })
-    (inner_right bound) λ i g.
-    last_right bound behind_target (AllFit Any) (λ t. (Any t × (t.name ≡ w)) × (t.inner ≡ i)) (λ t. t.params)
+    (inner_right limit bound) λ i g.
+    last_right limit bound behind_target (AllFit Any) (λ t. (Any t × (t.name ≡ w)) × (t.inner ≡ i)) (λ t. t.params)
     (λ ps. record { name = w; inner = i; params = ps }) names_parts names
     (record {
       to = λ ps f. ((tt, refl), refl);
@@ -95,4 +98,4 @@ target_right bound =
           λ t f. ap (λ (n : Name). record { name = n; inner = t.inner; params = t.params }) f.0.1
           ∙ ap (λ (o : Option Name). record { name = w; inner = o; params = t.params }) f.1;
     })
-    (names_right bound)
+    (names_right limit bound)

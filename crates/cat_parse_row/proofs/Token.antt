@@ -5,7 +5,7 @@ use Rattle.std.proofs.lemmas.List.{append-nil, length-append}
 use Rattle.cat_lex.specs.declared.token.Token.{Token}
 use Rattle.cat_lex.specs.declared.token.TokenKind.{TokenKind}
 use Rattle.cat_tree.specs.Phrase.{Parts, Word, Mark, IsAt}
-use Rattle.cat_parse_row.specs.Reader.{Outcome, Reader, Fails, Reads, left_of, after, ◌⨟◌, made_of, one}
+use Rattle.cat_parse_row.specs.Reader.{Parsed, Reader, Fails, Reads, left_of, after, ◌⨟◌, made_of, one}
 use Rattle.cat_parse_row.specs.Right.{Agree, Is, Begun, Took, Taken, Says, Alike, IsRight}
 use Rattle.cat_parse_row.proofs.Steps.{no_front}
 
@@ -33,9 +33,10 @@ heads_same p q ps qs e = ap (first_or p) e
 pub tails_same : (p q : Token) (ps qs : List Token) → p ∷ ps ≡ q ∷ qs → ps ≡ qs
 tails_same p q ps qs e = ap rest_of e
 
-module _ {A B : Type 0} (bound : ℕ) (out : TokenKind → Bool) (fits : B → Type 0) (mark : B → Mark) (rest : B → Parts)
+module _ {A B : Type 0} (limit bound : ℕ) (out : TokenKind → Bool) (fits : B → Type 0) (mark : B → Mark)
+    (rest : B → Parts)
     (take : Token → Option A) (at : A → B → Type 0) (r : A → Reader B) (m : Marks fits mark take at)
-    (right : (x : A) → IsRight bound out (λ y. fits y × at x y) rest (r x)) where
+    (right : (x : A) → IsRight limit bound out (λ y. fits y × at x y) rest (r x)) where
   abbrev row : B → Parts
   row y = Word (mark y) (rest y)
 
@@ -54,15 +55,15 @@ module _ {A B : Type 0} (bound : ℕ) (out : TokenKind → Bool) (fits : B → T
       (right m.made).alive in
       record { value = b.value; more = m.token ∷ b.more; is = is_behind m.token m.made b.value b.more m.sample b.is }
 
-  took_behind : (p : Token) (x : A) (o : Outcome B) (u : List Token) → take p ≡ Some x
-      → Took (λ y. fits y × at x y) rest o u → Took fits row o (p ∷ u)
+  took_behind : (p : Token) (x : A) (o : Parsed B) (u : List Token) → take p ≡ Some x
+      → Took limit (λ y. fits y × at x y) rest o u → Took limit fits row o (p ∷ u)
   took_behind p x (Fails left false) u t b = begun_behind p x u t b
   took_behind p x (Fails left true) u t f =
       record { next = f.next; after = f.after; text = f.text; begun = begun_behind p x (u ++ f.next ∷ []) t f.begun }
   took_behind p x (Reads y left) u t i = (is_behind p x y u t i.0, i.1)
 
   taken_made : (p : Token) (ts : List Token) → length ts ≤ bound → (o : Option A) → take p ≡ o
-      → Taken fits row (after (made_of o (p ∷ ts) ts) r) (p ∷ ts)
+      → Taken limit fits row (after (made_of o (p ∷ ts) ts) r) (p ∷ ts)
   taken_made p ts le None e = record { front = []; text = refl; took = alive }
   taken_made p ts le (Some x) e =
       let t = (right x).taken ts le in
@@ -72,12 +73,12 @@ module _ {A B : Type 0} (bound : ℕ) (out : TokenKind → Bool) (fits : B → T
         took = took_behind p x (r x ts) t.front e t.took;
       }
 
-  taken_one : (ts : List Token) → length ts ≤ suc bound → Taken fits row ((one take ⨟ r) ts) ts
+  taken_one : (ts : List Token) → length ts ≤ suc bound → Taken limit fits row ((one take ⨟ r) ts) ts
   taken_one [] le = record { front = []; text = refl; took = alive }
   taken_one (p ∷ ts) le = taken_made p ts (omega (arith, le)) (take p) refl
 
-  says_behind : (p : Token) (o : Outcome B) (y : B) (w u : List Token) → Says rest o y w u
-      → Says row o y (p ∷ w) (p ∷ u)
+  says_behind : (p : Token) (o : Parsed B) (y : B) (w u : List Token) → Says limit rest o y w u
+      → Says limit row o y (p ∷ w) (p ∷ u)
   says_behind p (Fails left false) y w u s = s
   says_behind p (Fails left true) y w u s = s
   says_behind p (Reads x left) y w u s = (s.0, ap (λ (v : List Token). p ∷ v) s.1)
@@ -116,7 +117,7 @@ module _ {A B : Type 0} (bound : ℕ) (out : TokenKind → Bool) (fits : B → T
 
   says_made : (p : Token) (ts : List Token) (y : B) (w : List Token) → length ts ≤ bound → (x : A) → take p ≡ Some x
       → (front : List Token) → (p ∷ ts) ≡ front ++ left_of (r x ts) → Alike out fits row (left_of (r x ts)) front y w
-      → Says row (r x ts) y w front
+      → Says limit row (r x ts) y w front
   says_made p ts y w le x e [] text a =
       let t =
       (right x).taken ts le in
@@ -137,20 +138,21 @@ module _ {A B : Type 0} (bound : ℕ) (out : TokenKind → Bool) (fits : B → T
         text = tails_same s.0 f (s.1 ++ a.behind) (front ++ a.others) same;
       }) in
       let whole : f ∷ s.1 ≡ w = ap (λ (t : Token). t ∷ s.1) (sym is) ∙ sym s.2 in
-      subst (λ (v : List Token). Says row (r x ts) y v (f ∷ front)) whole (says_behind f (r x ts) y s.1 front inner)
+      subst (λ (v : List Token). Says limit row (r x ts) y v (f ∷ front)) whole
+      (says_behind f (r x ts) y s.1 front inner)
 
   says_of : (p : Token) (ts front : List Token) (y : B) (w : List Token) → length ts ≤ bound → (o : Option A) → take p
       ≡ o → (p ∷ ts) ≡ front ++ left_of (after (made_of o (p ∷ ts) ts) r)
       → Alike out fits row (left_of (after (made_of o (p ∷ ts) ts) r)) front y w
-      → Says row (after (made_of o (p ∷ ts) ts) r) y w front
+      → Says limit row (after (made_of o (p ∷ ts) ts) r) y w front
   says_of p ts front y w le None e text a = not_made p ts front y w e text a
   says_of p ts front y w le (Some x) e text a = says_made p ts y w le x e front text a
 
   says_one : (ts front : List Token) (y : B) (w : List Token) → length ts ≤ suc bound → ts ≡ front
       ++ left_of ((one take ⨟ r) ts) → Alike out fits row (left_of ((one take ⨟ r) ts)) front y w
-      → Says row ((one take ⨟ r) ts) y w front
+      → Says limit row ((one take ⨟ r) ts) y w front
   says_one [] front y w le text a = nothing_spelled front y w text a
   says_one (p ∷ ts) front y w le text a = says_of p ts front y w (omega (arith, le)) (take p) refl text a
 
-  pub token_right : IsRight (suc bound) out fits (λ y. Word (mark y) (rest y)) (one take ⨟ r)
+  pub token_right : IsRight limit (suc bound) out fits (λ y. Word (mark y) (rest y)) (one take ⨟ r)
   token_right = record { alive = alive; taken = taken_one; says = says_one }

@@ -5,13 +5,13 @@ use Rattle.cat_lex.specs.declared.token.Token.{Token}
 use Rattle.cat_lex.specs.declared.token.TokenKind.{TokenKind}
 use Rattle.cat_parse_row.specs.declared.stray.Stray.{Stray}
 use Rattle.cat_parse_row.specs.declared.stray.Stray.TheVariants.{Unexpected, Memory}
-use Rattle.cat_parse_row.specs.Reader.{Outcome, Reader, ◌⨟◌, done, heads, both, many}
+use Rattle.cat_parse_row.specs.Reader.{Parsed, Reader, ◌⨟◌, pure, heads, both, many}
 use Rattle.cat_parse_row.specs.Places.{Gives}
 use Rattle.cat_parse_row.proofs.Repeats.{Shrinks, Going, put, begun, begun_behind, goes_on, ends, breaks}
 
 -- one part, and as many others as there are
 abbrev pub one_and_more : {A : Type 0} → Reader A → (TokenKind → Bool) → Reader A → Reader (List A)
-one_and_more q start r = both q (many start r) ⨟ λ x. done (x.0 ∷ x.1)
+one_and_more q start r = both q (many start r) ⨟ λ x. pure (x.0 ∷ x.1)
 
 module _ {A : Type 0} (start : TokenKind → Bool) (r : Reader A) (whole : Reader (List A)) (tokens : List Token)
     (at : ℕ) where
@@ -65,5 +65,5 @@ module _ {A : Type 0} (start : TokenKind → Bool) (r : Reader A) (tokens : List
   pub no_first : (q : Reader A) (stray : Stray) → Gives q tokens at (Err stray)
       → Gives (one_and_more q start r) tokens at (Err stray)
   no_first q (Unexpected there) g =
-      (ap (λ (o : Outcome A). put o (many start r)) g.0, g.1)
+      (ap (λ (o : Parsed A). put o (many start r)) g.0, g.1)
   no_first q Memory g = tt

@@ -15,11 +15,11 @@ use Rattle.cat_tree.specs.declared.name.Type as types
 use Rattle.cat_tree.specs.Phrase.{Parts, End, Word, At, Anywhere, IsAt, AreSpelled}
 use Rattle.cat_tree.specs.Literals.{base_kind, lists_of, type_parts}
 use Rattle.cat_parse_row.specs.declared.cue.Cue.TheVariants as cue
-use Rattle.cat_parse_row.specs.Reader.{Outcome, Reader, left_of, ◌⨟◌, done, one, made_of, after, by_word, heads}
+use Rattle.cat_parse_row.specs.Reader.{Parsed, Reader, left_of, ◌⨟◌, pure, one, made_of, after, by_word, heads}
 use Rattle.cat_parse_row.specs.Right.{Begun, Taken, Says, Alike, IsRight}
 use Rattle.cat_parse_row.specs.Cues.{kind_of, base_of, «word»}
 use Rattle.cat_parse_row.specs.Types.{placed, typed, base_at, is_list_of, type_after, a_type}
-use Rattle.cat_parse_row.proofs.Steps.{done_right, no_front, agree_same}
+use Rattle.cat_parse_row.proofs.Steps.{pure_right, no_front, agree_same}
 use Rattle.cat_parse_row.proofs.Token.{Marks, token_right}
 use Rattle.cat_parse_row.proofs.Choices.{reshaped, Decides, choice_right}
 use Rattle.cat_parse_row.proofs.Leaves.{cue_self, word_behind, lowered, some_one, not_both, token_is, anywhere}
@@ -85,25 +85,26 @@ from n y = n ≤ y.lists
 abbrev row : ℕ → types.Type → Parts
 row n y = lists_of (y.lists - n) (Word (At (base_kind y.base) y.pos) End)
 
-pub same_reader : {B : Type 0} (bound : ℕ) (out : TokenKind → Bool) (fits : B → Type 0) (row : B → Parts)
-    (r s : Reader B) → ((ts : List Token) → r ts ≡ s ts) → IsRight bound out fits row r → IsRight bound out fits row s
-same_reader {B = B} bound out fits row r s e h = record {
+pub same_reader : {B : Type 0} (limit bound : ℕ) (out : TokenKind → Bool) (fits : B → Type 0) (row : B → Parts)
+    (r s : Reader B) → ((ts : List Token) → r ts ≡ s ts) → IsRight limit bound out fits row r → IsRight limit bound out
+    fits row s
+same_reader {B = B} limit bound out fits row r s e h = record {
   alive = h.alive;
-  taken = λ ts le. subst (λ (o : Outcome B). Taken fits row o ts) (e ts) (h.taken ts le);
+  taken = λ ts le. subst (λ (o : Parsed B). Taken limit fits row o ts) (e ts) (h.taken ts le);
   says =
-      λ ts. subst (λ (o : Outcome B). (front : List Token) (y : B) (w : List Token) → length ts ≤ bound → ts ≡ front
-      ++ left_of o → Alike out fits row (left_of o) front y w → Says row o y w front) (e ts) (h.says ts);
+      λ ts. subst (λ (o : Parsed B). (front : List Token) (y : B) (w : List Token) → length ts ≤ bound → ts ≡ front
+      ++ left_of o → Alike out fits row (left_of o) front y w → Says limit row o y w front) (e ts) (h.says ts);
 }
 
 pub as_choice : (n : ℕ) (ts : List Token)
     → by_word is_list_of («word» (cue.Pair pair.ListOf) ⨟ λ p. type_after (suc n))
-    (one base_at ⨟ λ b. done (typed n b)) ts ≡ type_after n ts
+    (one base_at ⨟ λ b. pure (typed n b)) ts ≡ type_after n ts
 as_choice n [] = refl
 as_choice n (t ∷ ts) = by (is_list_of t.kind)
   where
     by : (c : Bool) → (if c then after (made_of (if c then Some t.pos else None) (t ∷ ts) ts) (λ p. type_after (suc n))
-        else after (made_of (base_at t) (t ∷ ts) ts) (λ b. done (typed n b)))
-        ≡ (if c then type_after (suc n) ts else after (made_of (base_at t) (t ∷ ts) ts) (λ b. done (typed n b)))
+        else after (made_of (base_at t) (t ∷ ts) ts) (λ b. pure (typed n b)))
+        ≡ (if c then type_after (suc n) ts else after (made_of (base_at t) (t ∷ ts) ts) (λ b. pure (typed n b)))
     by true = refl
     by false = refl
 
@@ -144,21 +145,22 @@ decides n out = record {
 type_is : (n : ℕ) (x : Base × Pos) (y : types.Type) → (y.lists ≡ n) × ((y.base, y.pos) ≡ x) → y ≡ typed n x
 type_is n x y f = ap (λ (m : ℕ). typed m (y.base, y.pos)) f.0 ∙ ap (typed n) f.1
 
-base_right : (bound n : ℕ) (out : TokenKind → Bool)
-    → IsRight bound out (λ y. y.lists ≡ n) (row n) (one base_at ⨟ λ b. done (typed n b))
-base_right bound n out =
-    reshaped bound out (λ y. y.lists ≡ n) (λ y. y.lists ≡ n) (λ y. Word (At (base_kind y.base) y.pos) End) (row n)
-    (one base_at ⨟ λ b. done (typed n b))
+base_right : (limit bound n : ℕ) (out : TokenKind → Bool)
+    → IsRight limit bound out (λ y. y.lists ≡ n) (row n) (one base_at ⨟ λ b. pure (typed n b))
+base_right limit bound n out =
+    reshaped limit bound out (λ y. y.lists ≡ n) (λ y. y.lists ≡ n) (λ y. Word (At (base_kind y.base) y.pos) End) (row n)
+    (one base_at ⨟ λ b. pure (typed n b))
     (record {
       to = λ y f. f;
       from = λ y f. f;
       rows = λ y f. ap (λ (m : ℕ). lists_of m (Word (At (base_kind y.base) y.pos) End)) (none_left y f);
     })
-    (lowered bound out (λ y. y.lists ≡ n) (λ y. Word (At (base_kind y.base) y.pos) End)
-    (one base_at ⨟ λ b. done (typed n b))
-    (token_right bound out (λ y. y.lists ≡ n) (λ y. At (base_kind y.base) y.pos) (λ y. End) base_at
-    (λ x y. (y.base, y.pos) ≡ x) (λ b. done (typed n b)) (base_marks n)
-    (λ x. done_right bound out (λ y. (y.lists ≡ n) × ((y.base, y.pos) ≡ x)) (typed n x) (refl, refl) (type_is n x))))
+    (lowered limit bound out (λ y. y.lists ≡ n) (λ y. Word (At (base_kind y.base) y.pos) End)
+    (one base_at ⨟ λ b. pure (typed n b))
+    (token_right limit bound out (λ y. y.lists ≡ n) (λ y. At (base_kind y.base) y.pos) (λ y. End) base_at
+    (λ x y. (y.base, y.pos) ≡ x) (λ b. pure (typed n b)) (base_marks n)
+    (λ x. pure_right limit bound out (λ y. (y.lists ≡ n) × ((y.base, y.pos) ≡ x)) (typed n x) (refl, refl)
+    (type_is n x))))
   where
     none_left : (y : types.Type) → y.lists ≡ n → 0 ≡ y.lists - n
     none_left y f = omega (arith, f)
@@ -166,7 +168,7 @@ base_right bound n out =
 type_alive : (n : ℕ) (out : TokenKind → Bool) → Begun (from n) (row n) []
 type_alive n out =
     let b =
-    (base_right 0 n out).alive in
+    (base_right 0 0 n out).alive in
     record {
       value = b.value;
       more = b.more;
@@ -186,49 +188,49 @@ no_words w v front others n y s t a b =
     let o = opens (y.lists - n) y.base y.pos w v s in
     omega (arith, ap length (sym o.2), ap length t, length-append front others, ap length a, ap length b)
 
-pub type_right : (bound n : ℕ) (out : TokenKind → Bool) → IsRight bound out (from n) (row n) (type_after n)
-type_right zero n out = record {
+pub type_right : (limit bound n : ℕ) (out : TokenKind → Bool) → IsRight limit bound out (from n) (row n) (type_after n)
+type_right limit zero n out = record {
   alive = type_alive n out;
   taken = taken;
   says = says;
 }
   where
-    taken : (ts : List Token) → length ts ≤ 0 → Taken (from n) (row n) (type_after n ts) ts
+    taken : (ts : List Token) → length ts ≤ 0 → Taken limit (from n) (row n) (type_after n ts) ts
     taken [] le = record { front = []; text = refl; took = type_alive n out }
     taken (t ∷ ts) le = absurd (omega (arith, le))
 
     says : (ts front : List Token) (y : types.Type) (w : List Token) → length ts ≤ 0 → ts ≡ front
         ++ left_of (type_after n ts) → Alike out (from n) (row n) (left_of (type_after n ts)) front y w
-        → Says (row n) (type_after n ts) y w front
+        → Says limit (row n) (type_after n ts) y w front
     says [] front y w le text a =
         absurd (no_words w a.behind front a.others n y a.is.spelled a.text (no_front front [] text)
         (agree_same [] a.others a.agree refl))
     says (t ∷ ts) front y w le text a = absurd (omega (arith, le))
-type_right (suc bound) n out =
-    same_reader (suc bound) out (from n) (row n)
+type_right limit (suc bound) n out =
+    same_reader limit (suc bound) out (from n) (row n)
     (by_word is_list_of («word» (cue.Pair pair.ListOf) ⨟ λ p. type_after (suc n))
-    (one base_at ⨟ λ b. done (typed n b))) (type_after n) (as_choice n)
-    (choice_right (suc bound) out is_list_of (from n) (from (suc n)) (λ y. y.lists ≡ n) (row n)
-    («word» (cue.Pair pair.ListOf) ⨟ λ p. type_after (suc n)) (one base_at ⨟ λ b. done (typed n b)) (decides n out)
-    (reshaped (suc bound) out (from (suc n)) (from (suc n))
+    (one base_at ⨟ λ b. pure (typed n b))) (type_after n) (as_choice n)
+    (choice_right limit (suc bound) out is_list_of (from n) (from (suc n)) (λ y. y.lists ≡ n) (row n)
+    («word» (cue.Pair pair.ListOf) ⨟ λ p. type_after (suc n)) (one base_at ⨟ λ b. pure (typed n b)) (decides n out)
+    (reshaped limit (suc bound) out (from (suc n)) (from (suc n))
     (λ y. Word (Anywhere (kind_of (cue.Pair pair.ListOf))) (row (suc n) y)) (row n)
     («word» (cue.Pair pair.ListOf) ⨟ λ p. type_after (suc n))
     (record { to = λ y f. f; from = λ y f. f; rows = list_row n })
-    (word_behind bound out (cue.Pair pair.ListOf) (from (suc n)) (row (suc n)) (λ p. type_after (suc n))
-    (λ p. type_right bound (suc n) out)))
-    (base_right (suc bound) n out))
+    (word_behind limit bound out (cue.Pair pair.ListOf) (from (suc n)) (row (suc n)) (λ p. type_after (suc n))
+    (λ p. type_right limit bound (suc n) out)))
+    (base_right limit (suc bound) n out))
 
 -- a type, with all of its `list of`
-pub a_type_right : (bound : ℕ) (out : TokenKind → Bool)
-    → IsRight bound out (λ y. Unit {0}) (λ y. type_parts y End) a_type
-a_type_right bound out =
-    reshaped bound out (from 0) (λ y. Unit {0}) (row 0) (λ y. type_parts y End) a_type
+pub a_type_right : (limit bound : ℕ) (out : TokenKind → Bool)
+    → IsRight limit bound out (λ y. Unit {0}) (λ y. type_parts y End) a_type
+a_type_right limit bound out =
+    reshaped limit bound out (from 0) (λ y. Unit {0}) (row 0) (λ y. type_parts y End) a_type
     (record {
       to = λ y f. tt;
       from = λ y f. omega arith;
       rows = λ y f. ap (λ (m : ℕ). lists_of m (Word (At (base_kind y.base) y.pos) End)) (all_left y);
     })
-    (type_right bound 0 out)
+    (type_right limit bound 0 out)
   where
     all_left : (y : types.Type) → y.lists - 0 ≡ y.lists
     all_left y = omega arith

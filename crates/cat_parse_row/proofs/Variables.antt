@@ -21,13 +21,13 @@ use Rattle.cat_tree.specs.Joined.{◌▸◌}
 use Rattle.cat_tree.specs.Literals.{type_parts}
 use Rattle.cat_tree.specs.Declarations.{typed_parts, kind_parts, variable_type_parts, params_parts, variable_parts}
 use Rattle.cat_parse_row.specs.declared.cue.Cue.TheVariants as cue
-use Rattle.cat_parse_row.specs.Reader.{◌⨟◌, done, heads, by_word}
+use Rattle.cat_parse_row.specs.Reader.{◌⨟◌, pure, heads, by_word}
 use Rattle.cat_parse_row.specs.Right.{Outside, IsRight}
 use Rattle.cat_parse_row.specs.Cues.{cue_is, lower, upper}
 use Rattle.cat_parse_row.specs.Declarations.{key_word, typed_name, content, is_content, is_comma, is_word, kind_or}
 use Rattle.cat_parse_row.specs.Declarations.{kind_of_one, a_kind, variable_type, params, is_lower, called, own}
 use Rattle.cat_parse_row.specs.Declarations.{a_variable}
-use Rattle.cat_parse_row.proofs.Steps.{done_right}
+use Rattle.cat_parse_row.proofs.Steps.{pure_right}
 use Rattle.cat_parse_row.proofs.Sequel.{part_right}
 use Rattle.cat_parse_row.proofs.Choices.{reshaped, made_right, Decides, choice_right}
 use Rattle.cat_parse_row.proofs.Leaves.{word_right, word_at_right, lower_right, upper_right}
@@ -68,18 +68,19 @@ variable_type_decides = record {
         subst (λ (z : Option types.Type). AreSpelled (variable_type_parts z) w) e s in
         ap (λ (u : List Token). heads is_content (u ++ v)) x.2 ∙ ap is_content x.3
 
-pub variable_type_right : (bound : ℕ) → IsRight bound any_word Any variable_type_parts variable_type
-variable_type_right bound =
-    choice_right bound any_word is_content Any (λ o. (t : types.Type) × Any t × (o ≡ Some t)) (λ o. o ≡ None)
+pub variable_type_right : (limit bound : ℕ) → IsRight limit bound any_word Any variable_type_parts variable_type
+variable_type_right limit bound =
+    choice_right limit bound any_word is_content Any (λ o. (t : types.Type) × Any t × (o ≡ Some t)) (λ o. o ≡ None)
     variable_type_parts
-    (content ⨟ λ t. done (Some t)) (key_word key.Condition ⨟ λ p. done None) variable_type_decides
-    (made_right bound any_word Any (λ t. Word (Anywhere (kind.Word key.Content)) (type_parts t End)) variable_type_parts
-    (λ t. Some t) content (λ t. refl) (content_right bound any_word))
-    (reshaped bound any_word (λ o. o ≡ None) (λ o. o ≡ None)
-    (λ o. Word (Anywhere (kind.Word key.Condition)) End) variable_type_parts (key_word key.Condition ⨟ λ p. done None)
+    (content ⨟ λ t. pure (Some t)) (key_word key.Condition ⨟ λ p. pure None) variable_type_decides
+    (made_right limit bound any_word Any (λ t. Word (Anywhere (kind.Word key.Content)) (type_parts t End))
+    variable_type_parts
+    (λ t. Some t) content (λ t. refl) (content_right limit bound any_word))
+    (reshaped limit bound any_word (λ o. o ≡ None) (λ o. o ≡ None)
+    (λ o. Word (Anywhere (kind.Word key.Condition)) End) variable_type_parts (key_word key.Condition ⨟ λ p. pure None)
     (record { to = λ o f. f; from = λ o f. f; rows = λ o f. ap variable_type_parts (sym f) })
-    (word_right bound any_word (cue.Word key.Condition) (λ (o : Option types.Type). o ≡ None) (λ o. End)
-    (λ p. done None) (λ p. done_right bound any_word (λ o. o ≡ None) None refl (λ o f. f))))
+    (word_right limit bound any_word (cue.Word key.Condition) (λ (o : Option types.Type). o ≡ None) (λ o. End)
+    (λ p. pure None) (λ p. pure_right limit bound any_word (λ o. o ≡ None) None refl (λ o f. f))))
 
 -- ---- kinds
 
@@ -89,14 +90,14 @@ kind_row k = kind_parts k.0 k.1
 abbrev IsKind : Kind → Kind × Pos → Type 0
 IsKind k x = x.0 ≡ k
 
-one_kind : (bound : ℕ) (out : TokenKind → Bool) (c : Keyword) (k : Kind)
+one_kind : (limit bound : ℕ) (out : TokenKind → Bool) (c : Keyword) (k : Kind)
     → ((p : Pos) → Word (At (kind.Word c) p) End ≡ kind_parts k p)
-    → IsRight bound out (IsKind k) kind_row (kind_of_one c k)
-one_kind bound out c k rows =
-    reshaped bound out (IsKind k) (IsKind k) (λ x. Word (At (kind.Word c) x.1) End) kind_row (kind_of_one c k)
+    → IsRight limit bound out (IsKind k) kind_row (kind_of_one c k)
+one_kind limit bound out c k rows =
+    reshaped limit bound out (IsKind k) (IsKind k) (λ x. Word (At (kind.Word c) x.1) End) kind_row (kind_of_one c k)
     (record { to = λ x f. f; from = λ x f. f; rows = λ x f. rows x.1 ∙ ap (λ (z : Kind). kind_parts z x.1) (sym f) })
-    (word_at_right bound out (cue.Word c) (IsKind k) (λ x. x.1) (λ x. End) (λ p. done (k, p))
-    (λ p. done_right bound out (λ x. IsKind k x × (x.1 ≡ p)) (k, p) (refl, refl)
+    (word_at_right limit bound out (cue.Word c) (IsKind k) (λ x. x.1) (λ x. End) (λ p. pure (k, p))
+    (λ p. pure_right limit bound out (λ x. IsKind k x × (x.1 ≡ p)) (k, p) (refl, refl)
     (λ x f. ap (λ (z : Kind). (z, x.1)) f.0 ∙ ap (λ (q : Pos). (k, q)) f.1)))
 
 abbrev second_word : Kind → Parts
@@ -115,18 +116,19 @@ heads_outside : (v : List Token) → Outside is_lower v → heads (is_word key.O
 heads_outside [] o = refl
 heads_outside (p ∷ v) o = output_off p.kind o
 
-two_kinds : (bound : ℕ) (c : Keyword) (a b : Kind) → ((p : Pos) → Word (At (kind.Word c) p) End ≡ kind_parts a p)
+two_kinds : (limit bound : ℕ) (c : Keyword) (a b : Kind) → ((p : Pos) → Word (At (kind.Word c) p) End ≡ kind_parts a p)
     → ((p : Pos) → Word (At (kind.Word c) p) (Word (Anywhere (kind.Word key.Output)) End) ≡ kind_parts b p)
     → second_word a ≡ End → second_word b ≡ Word (Anywhere (kind.Word key.Output)) End
-    → IsRight bound is_lower (one_of a b) kind_row (kind_or c a b)
-two_kinds bound c a b rows_a rows_b sa sb =
-    reshaped bound is_lower (one_of a b) (one_of a b) (λ x. Word (At (kind.Word c) x.1) (second_word x.0)) kind_row
+    → IsRight limit bound is_lower (one_of a b) kind_row (kind_or c a b)
+two_kinds limit bound c a b rows_a rows_b sa sb =
+    reshaped limit bound is_lower (one_of a b) (one_of a b) (λ x. Word (At (kind.Word c) x.1) (second_word x.0))
+    kind_row
     (kind_or c a b)
     (record { to = λ x f. f; from = λ x f. f; rows = rows })
-    (word_at_right bound is_lower (cue.Word c) (one_of a b) (λ x. x.1) (λ x. second_word x.0)
-    (λ p. by_word (is_word key.Output) (key_word key.Output ⨟ λ q. done (b, p)) (done (a, p))) λ p.
-    choice_right bound is_lower (is_word key.Output) (λ x. one_of a b x × (x.1 ≡ p)) (λ x. (x.0 ≡ b) × (x.1 ≡ p))
-    (λ x. (x.0 ≡ a) × (x.1 ≡ p)) (λ x. second_word x.0) (key_word key.Output ⨟ λ q. done (b, p)) (done (a, p))
+    (word_at_right limit bound is_lower (cue.Word c) (one_of a b) (λ x. x.1) (λ x. second_word x.0)
+    (λ p. by_word (is_word key.Output) (key_word key.Output ⨟ λ q. pure (b, p)) (pure (a, p))) λ p.
+    choice_right limit bound is_lower (is_word key.Output) (λ x. one_of a b x × (x.1 ≡ p)) (λ x. (x.0 ≡ b) × (x.1 ≡ p))
+    (λ x. (x.0 ≡ a) × (x.1 ≡ p)) (λ x. second_word x.0) (key_word key.Output ⨟ λ q. pure (b, p)) (pure (a, p))
     (record {
       either = λ x f. either x p f.0 f.1;
       from_yes = λ x f. (inr f.0, f.1);
@@ -138,17 +140,18 @@ two_kinds bound c a b rows_a rows_b sa sb =
           λ x w v f s o. ap (λ (u : List Token). heads (is_word key.Output) (u ++ v))
           (subst (λ (ps : Parts). AreSpelled ps w) (ap second_word f.0 ∙ sa) s) ∙ heads_outside v o;
     })
-    (reshaped bound is_lower (λ x. (x.0 ≡ b) × (x.1 ≡ p)) (λ x. (x.0 ≡ b) × (x.1 ≡ p))
+    (reshaped limit bound is_lower (λ x. (x.0 ≡ b) × (x.1 ≡ p)) (λ x. (x.0 ≡ b) × (x.1 ≡ p))
     (λ x. Word (Anywhere (kind.Word key.Output)) End) (λ x. second_word x.0)
-    (key_word key.Output ⨟ λ q. done (b, p))
+    (key_word key.Output ⨟ λ q. pure (b, p))
     (record { to = λ x f. f; from = λ x f. f; rows = λ x f. sym (ap second_word f.0 ∙ sb) })
-    (word_right bound is_lower (cue.Word key.Output) (λ (x : Kind × Pos). (x.0 ≡ b) × (x.1 ≡ p)) (λ x. End)
-    (λ q. done (b, p)) (λ q. done_right bound is_lower (λ x. (x.0 ≡ b) × (x.1 ≡ p)) (b, p) (refl, refl)
+    (word_right limit bound is_lower (cue.Word key.Output) (λ (x : Kind × Pos). (x.0 ≡ b) × (x.1 ≡ p)) (λ x. End)
+    (λ q. pure (b, p)) (λ q. pure_right limit bound is_lower (λ x. (x.0 ≡ b) × (x.1 ≡ p)) (b, p) (refl, refl)
     (pair_is b p))))
-    (reshaped bound is_lower (λ x. (x.0 ≡ a) × (x.1 ≡ p)) (λ x. (x.0 ≡ a) × (x.1 ≡ p)) (λ x. End) (λ x. second_word x.0)
-    (done (a, p))
+    (reshaped limit bound is_lower (λ x. (x.0 ≡ a) × (x.1 ≡ p)) (λ x. (x.0 ≡ a) × (x.1 ≡ p)) (λ x. End)
+    (λ x. second_word x.0)
+    (pure (a, p))
     (record { to = λ x f. f; from = λ x f. f; rows = λ x f. sym (ap second_word f.0 ∙ sa) })
-    (done_right bound is_lower (λ x. (x.0 ≡ a) × (x.1 ≡ p)) (a, p) (refl, refl) (pair_is a p))))
+    (pure_right limit bound is_lower (λ x. (x.0 ≡ a) × (x.1 ≡ p)) (a, p) (refl, refl) (pair_is a p))))
   where
     pair_is : (k : Kind) (p : Pos) (x : Kind × Pos) → (x.0 ≡ k) × (x.1 ≡ p) → x ≡ (k, p)
     pair_is k p x f = ap (λ (z : Kind). (z, x.1)) f.0 ∙ ap (λ (q : Pos). (k, q)) f.1
@@ -196,11 +199,12 @@ heads_of : (test : TokenKind → Bool) (x : Kind × Pos) (k : Kind) (b : Bool) (
     → test (kind.Word (first_word k)) ≡ b → AreSpelled (kind_row x) w → heads test (w ++ v) ≡ b
 heads_of test x k b w v e f s = kind_head test x w v s ∙ ap (λ (z : Kind). test (kind.Word (first_word z))) e ∙ f
 
-third_right : (bound : ℕ)
-    → IsRight bound is_lower Third kind_row
+third_right : (limit bound : ℕ)
+    → IsRight limit bound is_lower Third kind_row
     (by_word (is_word key.Internal) (kind_of_one key.Internal Internal) (kind_or key.Context Context ContextOutput))
-third_right bound =
-    choice_right bound is_lower (is_word key.Internal) Third (IsKind Internal) (one_of Context ContextOutput) kind_row
+third_right limit bound =
+    choice_right limit bound is_lower (is_word key.Internal) Third (IsKind Internal) (one_of Context ContextOutput)
+    kind_row
     (kind_of_one key.Internal Internal) (kind_or key.Context Context ContextOutput)
     (record {
       either = λ x f. f;
@@ -209,20 +213,20 @@ third_right bound =
       on = λ x w v f s o. heads_of (is_word key.Internal) x Internal true w v f refl s;
       off = λ x w v f s o. off x w v f s;
     })
-    (one_kind bound is_lower key.Internal Internal (λ p. refl))
-    (two_kinds bound key.Context Context ContextOutput (λ p. refl) (λ p. refl) refl refl)
+    (one_kind limit bound is_lower key.Internal Internal (λ p. refl))
+    (two_kinds limit bound key.Context Context ContextOutput (λ p. refl) (λ p. refl) refl refl)
   where
     off : (x : Kind × Pos) (w v : List Token) → one_of Context ContextOutput x → AreSpelled (kind_row x) w
         → heads (is_word key.Internal) (w ++ v) ≡ false
     off x w v (inl e) s = heads_of (is_word key.Internal) x Context false w v e refl s
     off x w v (inr e) s = heads_of (is_word key.Internal) x ContextOutput false w v e refl s
 
-second_right : (bound : ℕ)
-    → IsRight bound is_lower Second kind_row
+second_right : (limit bound : ℕ)
+    → IsRight limit bound is_lower Second kind_row
     (by_word (is_word key.Output) (kind_of_one key.Output Output)
     (by_word (is_word key.Internal) (kind_of_one key.Internal Internal) (kind_or key.Context Context ContextOutput)))
-second_right bound =
-    choice_right bound is_lower (is_word key.Output) Second (IsKind Output) Third kind_row
+second_right limit bound =
+    choice_right limit bound is_lower (is_word key.Output) Second (IsKind Output) Third kind_row
     (kind_of_one key.Output Output)
     (by_word (is_word key.Internal) (kind_of_one key.Internal Internal) (kind_or key.Context Context ContextOutput))
     (record {
@@ -232,8 +236,8 @@ second_right bound =
       on = λ x w v f s o. heads_of (is_word key.Output) x Output true w v f refl s;
       off = λ x w v f s o. off x w v f s;
     })
-    (one_kind bound is_lower key.Output Output (λ p. refl))
-    (third_right bound)
+    (one_kind limit bound is_lower key.Output Output (λ p. refl))
+    (third_right limit bound)
   where
     off : (x : Kind × Pos) (w v : List Token) → Third x → AreSpelled (kind_row x) w
         → heads (is_word key.Output) (w ++ v) ≡ false
@@ -241,9 +245,9 @@ second_right bound =
     off x w v (inr (inl e)) s = heads_of (is_word key.Output) x Context false w v e refl s
     off x w v (inr (inr e)) s = heads_of (is_word key.Output) x ContextOutput false w v e refl s
 
-pub kind_right : (bound : ℕ) → IsRight bound is_lower Any kind_row a_kind
-kind_right bound =
-    choice_right bound is_lower (is_word key.Input) Any (one_of Input InputOutput) Second kind_row
+pub kind_right : (limit bound : ℕ) → IsRight limit bound is_lower Any kind_row a_kind
+kind_right limit bound =
+    choice_right limit bound is_lower (is_word key.Input) Any (one_of Input InputOutput) Second kind_row
     (kind_or key.Input Input InputOutput)
     (by_word (is_word key.Output) (kind_of_one key.Output Output)
     (by_word (is_word key.Internal) (kind_of_one key.Internal Internal)
@@ -255,8 +259,8 @@ kind_right bound =
       on = λ x w v f s o. on x w v f s;
       off = λ x w v f s o. off x w v f s;
     })
-    (two_kinds bound key.Input Input InputOutput (λ p. refl) (λ p. refl) refl refl)
-    (second_right bound)
+    (two_kinds limit bound key.Input Input InputOutput (λ p. refl) (λ p. refl) refl refl)
+    (second_right limit bound)
   where
     either : (k : Kind) → ((k ≡ Input) ⊎ (k ≡ InputOutput))
         ⊎ ((k ≡ Output) ⊎ ((k ≡ Internal) ⊎ ((k ≡ Context) ⊎ (k ≡ ContextOutput))))
@@ -296,9 +300,9 @@ no_depends : (k : TokenKind) → behind_variable k ≡ true → cue_is (cue.Pair
 no_depends (kind.Pair d) e = let t : false ≡ true = e in absurd cc
 no_depends _ e = refl
 
-params_right : (bound : ℕ) → IsRight bound behind_variable (AllFit Any) params_parts params
-params_right bound =
-    led_right behind_variable Any typed_parts typed_name no_comma (λ b. typed_right b any_word)
+params_right : (limit bound : ℕ) → IsRight limit bound behind_variable (AllFit Any) params_parts params
+params_right limit bound =
+    led_right limit behind_variable Any typed_parts typed_name no_comma (λ b. typed_right limit b any_word)
     (cue.Pair pair.DependsOn) params_parts refl (λ x xs. refl) no_depends bound
 
 abbrev Own : Type 0
@@ -307,32 +311,32 @@ Own = (Kind × Pos) × Name × Option types.Type × List FieldItem
 abbrev own_row : Own → Parts
 own_row x = kind_row x.0 ▸ Word (At (kind.Lower x.1.text) x.1.pos) (variable_type_parts x.2 ▸ params_parts x.3)
 
-own_right : (bound : ℕ) → IsRight bound behind_variable Any own_row own
-own_right bound =
-    part_right bound bound behind_variable is_lower Any Any (λ x. x.0) kind_row
+own_right : (limit bound : ℕ) → IsRight limit bound behind_variable Any own_row own
+own_right limit bound =
+    part_right limit bound bound behind_variable is_lower Any Any (λ x. x.0) kind_row
     (λ x. Word (At (kind.Lower x.1.text) x.1.pos) (variable_type_parts x.2 ▸ params_parts x.3)) a_kind
-    (λ k. lower ⨟ λ w. variable_type ⨟ λ t. params ⨟ λ ps. done (k, w, t, ps))
+    (λ k. lower ⨟ λ w. variable_type ⨟ λ t. params ⨟ λ ps. pure (k, w, t, ps))
     (record {
       fit = λ x f. tt;
       behind =
           λ x w v f s o. subst (λ (u : List Token). Outside is_lower (u ++ v)) (sym s.2)
           (ap (λ (t : Token). is_lower t.kind) s.3);
-      shrinks = no_longer bound is_lower Any kind_row a_kind (kind_right bound);
+      shrinks = no_longer limit bound is_lower Any kind_row a_kind (kind_right limit bound);
     })
-    (kind_right bound) λ k g.
-    lower_right bound behind_variable (λ x. Any x × (x.0 ≡ k)) (λ x. x.1)
+    (kind_right limit bound) λ k g.
+    lower_right limit bound behind_variable (λ x. Any x × (x.0 ≡ k)) (λ x. x.1)
     (λ x. variable_type_parts x.2 ▸ params_parts x.3)
-    (λ w. variable_type ⨟ λ t. params ⨟ λ ps. done (k, w, t, ps)) λ w.
-    part_right bound bound behind_variable any_word (λ x. (Any x × (x.0 ≡ k)) × (x.1 ≡ w)) Any (λ x. x.2)
+    (λ w. variable_type ⨟ λ t. params ⨟ λ ps. pure (k, w, t, ps)) λ w.
+    part_right limit bound bound behind_variable any_word (λ x. (Any x × (x.0 ≡ k)) × (x.1 ≡ w)) Any (λ x. x.2)
     variable_type_parts
-    (λ x. params_parts x.3) variable_type (λ t. params ⨟ λ ps. done (k, w, t, ps))
+    (λ x. params_parts x.3) variable_type (λ t. params ⨟ λ ps. pure (k, w, t, ps))
     (record {
       fit = λ x f. tt;
       behind = λ x w v f s o. outside_any (w ++ v);
-      shrinks = no_longer bound any_word Any variable_type_parts variable_type (variable_type_right bound);
+      shrinks = no_longer limit bound any_word Any variable_type_parts variable_type (variable_type_right limit bound);
     })
-    (variable_type_right bound) λ t g.
-    last_right bound behind_variable (AllFit Any) (λ x. ((Any x × (x.0 ≡ k)) × (x.1 ≡ w)) × (x.2 ≡ t)) (λ x. x.3)
+    (variable_type_right limit bound) λ t g.
+    last_right limit bound behind_variable (AllFit Any) (λ x. ((Any x × (x.0 ≡ k)) × (x.1 ≡ w)) × (x.2 ≡ t)) (λ x. x.3)
     (λ ps. (k, w, t, ps)) params_parts params
     (record {
       to = λ ps f. (((tt, refl), refl), refl);
@@ -342,22 +346,22 @@ own_right bound =
           λ x f. ap (λ (z : Kind × Pos). (z, x.1, x.2, x.3)) f.0.0.1 ∙ ap (λ (z : Name). (k, z, x.2, x.3)) f.0.1
           ∙ ap (λ (z : Option types.Type). (k, w, z, x.3)) f.1;
     })
-    (params_right bound)
+    (params_right limit bound)
 
 abbrev called_row : Name × Name → Parts
 called_row x =
     Word (At (kind.Lower x.0.text) x.0.pos)
     (Word (Anywhere (kind.Word key.Scope)) (Word (At (kind.Upper x.1.text) x.1.pos) End))
 
-called_right : (bound : ℕ) → IsRight bound behind_variable Any called_row called
-called_right bound =
-    lower_right bound behind_variable Any (λ x. x.0)
+called_right : (limit bound : ℕ) → IsRight limit bound behind_variable Any called_row called
+called_right limit bound =
+    lower_right limit bound behind_variable Any (λ x. x.0)
     (λ x. Word (Anywhere (kind.Word key.Scope)) (Word (At (kind.Upper x.1.text) x.1.pos) End))
-    (λ w. key_word key.Scope ⨟ λ p. upper ⨟ λ u. done (w, u)) λ w.
-    word_right bound behind_variable (cue.Word key.Scope) (λ x. Any x × (x.0 ≡ w))
-    (λ x. Word (At (kind.Upper x.1.text) x.1.pos) End) (λ p. upper ⨟ λ u. done (w, u)) λ p.
-    upper_right bound behind_variable (λ x. Any x × (x.0 ≡ w)) (λ x. x.1) (λ x. End) (λ u. done (w, u)) λ u.
-    done_right bound behind_variable (λ x. (Any x × (x.0 ≡ w)) × (x.1 ≡ u)) (w, u) ((tt, refl), refl)
+    (λ w. key_word key.Scope ⨟ λ p. upper ⨟ λ u. pure (w, u)) λ w.
+    word_right limit bound behind_variable (cue.Word key.Scope) (λ x. Any x × (x.0 ≡ w))
+    (λ x. Word (At (kind.Upper x.1.text) x.1.pos) End) (λ p. upper ⨟ λ u. pure (w, u)) λ p.
+    upper_right limit bound behind_variable (λ x. Any x × (x.0 ≡ w)) (λ x. x.1) (λ x. End) (λ u. pure (w, u)) λ u.
+    pure_right limit bound behind_variable (λ x. (Any x × (x.0 ≡ w)) × (x.1 ≡ u)) (w, u) ((tt, refl), refl)
     (λ x f. ap (λ (z : Name). (z, x.1)) f.0.1 ∙ ap (λ (z : Name). (w, z)) f.1)
 
 abbrev IsCalled : Variable → Type 0
@@ -395,12 +399,13 @@ variable_decides = record {
         by ContextOutput s =
             ap (λ (u : List Token). heads is_lower (u ++ v)) s.2 ∙ ap (λ (t : Token). is_lower t.kind) s.3
 
-pub variable_right : (bound : ℕ) → IsRight bound behind_variable Any variable_parts a_variable
-variable_right bound =
-    choice_right bound behind_variable is_lower Any IsCalled IsOwn variable_parts
-    (called ⨟ λ x. done (variable.Called x.0 x.1))
-    (own ⨟ λ x. done (variable.Own x.0.0 x.0.1 x.1 x.2 x.3)) variable_decides
-    (made_right bound behind_variable Any called_row variable_parts (λ x. variable.Called x.0 x.1) called (λ x. refl)
-    (called_right bound))
-    (made_right bound behind_variable Any own_row variable_parts (λ x. variable.Own x.0.0 x.0.1 x.1 x.2 x.3) own
-    (λ x. refl) (own_right bound))
+pub variable_right : (limit bound : ℕ) → IsRight limit bound behind_variable Any variable_parts a_variable
+variable_right limit bound =
+    choice_right limit bound behind_variable is_lower Any IsCalled IsOwn variable_parts
+    (called ⨟ λ x. pure (variable.Called x.0 x.1))
+    (own ⨟ λ x. pure (variable.Own x.0.0 x.0.1 x.1 x.2 x.3)) variable_decides
+    (made_right limit bound behind_variable Any called_row variable_parts (λ x. variable.Called x.0 x.1) called
+    (λ x. refl)
+    (called_right limit bound))
+    (made_right limit bound behind_variable Any own_row variable_parts (λ x. variable.Own x.0.0 x.0.1 x.1 x.2 x.3) own
+    (λ x. refl) (own_right limit bound))

@@ -43,9 +43,11 @@ abbrev pub upper_kind : TokenKind → Pos → Option Name
 upper_kind (kind.Upper w) p = Some (record { text = w; pos = p })
 upper_kind _ p = None
 
+-- the token as a name
 abbrev pub lower_of : Token → Option Name
 lower_of t = lower_kind t.kind t.pos
 
+-- the token as the word of a type, a case or a scope
 abbrev pub upper_of : Token → Option Name
 upper_of t = upper_kind t.kind t.pos
 
@@ -64,8 +66,10 @@ base_of _ = None
 abbrev pub «word» : Cue → Reader Pos
 «word» c = one (word_of c)
 
+-- a name
 abbrev pub lower : Reader Name
 lower = one lower_of
 
+-- the word of a type, a case or a scope
 abbrev pub upper : Reader Name
 upper = one upper_of

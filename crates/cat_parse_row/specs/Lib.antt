@@ -4,6 +4,7 @@ pub mod Cues
 pub mod Types
 pub mod Declarations
 pub mod Leads
+pub mod Tails
 pub mod Uses
 pub mod Programs
 pub mod Exactly

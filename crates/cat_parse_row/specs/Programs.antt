@@ -16,14 +16,15 @@ use Rattle.cat_tree.specs.declared.program.Item.{Item}
 use Rattle.cat_tree.specs.declared.program.Item.TheVariants as item
 use Rattle.cat_tree.specs.declared.program.Tree.{Tree}
 use Rattle.cat_parse_row.specs.declared.cue.Cue.TheVariants as cue
-use Rattle.cat_parse_row.specs.Reader.{Reader, Fails, Reads, ◌⨟◌, done, by_word, optional, many, some}
+use Rattle.cat_parse_row.specs.Reader.{Reader, Fails, Reads, ◌⨟◌, pure, by_word, optional, many, some}
 use Rattle.cat_parse_row.specs.Cues.{cue_is, «word», upper}
 use Rattle.cat_parse_row.specs.Declarations.{key_word, is_word, field, a_case, a_variable}
-use Rattle.cat_parse_row.specs.Uses.{is_use, is_item, is_under, condition, a_use}
+use Rattle.cat_parse_row.specs.Uses.{is_use, is_item, a_use}
+use Rattle.cat_parse_row.specs.Tails.{is_under, condition}
 
 -- the words of a declaration around what it declares
 abbrev pub named : {A : Type 0} → Keyword → Reader A → Reader (Name × A)
-named k r = key_word k ⨟ λ p. upper ⨟ λ u. «word» (cue.Sign symbol.Colon) ⨟ λ q. r ⨟ λ x. done (u, x)
+named k r = key_word k ⨟ λ p. upper ⨟ λ u. «word» (cue.Sign symbol.Colon) ⨟ λ q. r ⨟ λ x. pure (u, x)
 
 -- the first words of variables
 abbrev pub is_variable : TokenKind → Bool
@@ -34,6 +35,7 @@ is_variable (kind.Word key.Internal) = true
 is_variable (kind.Word key.Context) = true
 is_variable _ = false
 
+-- whether a case follows
 abbrev pub is_dashes : TokenKind → Bool
 is_dashes = cue_is (cue.Sign symbol.MinusMinus)
 
@@ -43,30 +45,35 @@ pub data Declared : Type 0 where
   Enumerations : Name × List CaseItem → Declared
   Scopes : Name × List Variable → Declared
 
+-- a structure, an enumeration or a scope
 abbrev pub declared : Reader Declared
 declared =
-    by_word (is_word key.Structure) (named key.Structure (some (is_word key.Data) field) ⨟ λ x. done (Structures x))
-    (by_word (is_word key.Enumeration) (named key.Enumeration (some is_dashes a_case) ⨟ λ x. done (Enumerations x))
-    (named key.Scope (many is_variable a_variable) ⨟ λ x. done (Scopes x)))
+    by_word (is_word key.Structure) (named key.Structure (some (is_word key.Data) field) ⨟ λ x. pure (Structures x))
+    (by_word (is_word key.Enumeration) (named key.Enumeration (some is_dashes a_case) ⨟ λ x. pure (Enumerations x))
+    (named key.Scope (many is_variable a_variable) ⨟ λ x. pure (Scopes x)))
 
+-- a declaration with the position of its first word
 abbrev pub item_of : Pos × Declared → Item
 item_of (p, Structures x) = item.Structure p x.0 x.1
 item_of (p, Enumerations x) = item.Enumeration p x.0 x.1
 item_of (p, Scopes x) = item.Scope p x.0 x.1
 
+-- declaration, and what is declared
 abbrev pub declaration : Reader (Pos × Declared)
-declaration = key_word key.Declaration ⨟ λ p. declared ⨟ λ x. done (p, x)
+declaration = key_word key.Declaration ⨟ λ p. declared ⨟ λ x. pure (p, x)
 
 -- scope U [under condition E] : use*
 abbrev pub block : Reader Node → Reader Block
 block ex =
     key_word key.Scope ⨟ λ p. upper ⨟ λ u. optional is_under (condition ex) ⨟ λ c. «word» (cue.Sign symbol.Colon)
-    ⨟ λ q. many is_use (a_use ex) ⨟ λ us. done (record { pos = p; name = u; condition = c; uses = us })
+    ⨟ λ q. many is_use (a_use ex) ⨟ λ us. pure (record { pos = p; name = u; condition = c; uses = us })
 
+-- a declaration or a scope block
 abbrev pub an_item : Reader Node → Reader Item
 an_item ex =
-    by_word (is_word key.Declaration) (declaration ⨟ λ x. done (item_of x)) (block ex ⨟ λ b. done (item.Block b))
+    by_word (is_word key.Declaration) (declaration ⨟ λ x. pure (item_of x)) (block ex ⨟ λ b. pure (item.Block b))
 
+-- declarations and scope blocks
 abbrev pub items : Reader Node → Reader (List Item)
 items ex = many is_item (an_item ex)
 
@@ -75,5 +82,6 @@ abbrev pub to_end : List Item → Reader Tree
 to_end is [] = Reads (record { items = is }) []
 to_end is (p ∷ ts) = Fails (p ∷ ts) false
 
+-- a program, from its first token to its last
 abbrev pub program : Reader Node → Reader Tree
 program ex = items ex ⨟ to_end

@@ -3,7 +3,7 @@ use Rattle.std.specs.Prelude.{ℕ, ◌≡◌, ◌≤◌, Bool, true, false, List
 use Rattle.cat_lex.specs.declared.token.Token.{Token}
 use Rattle.cat_lex.specs.declared.token.TokenKind.{TokenKind}
 use Rattle.cat_tree.specs.Phrase.{Parts, tallest, AreLevelled, AreSpelled}
-use Rattle.cat_parse_row.specs.Reader.{Outcome, Reader, Fails, Reads, left_of}
+use Rattle.cat_parse_row.specs.Reader.{Parsed, Reader, Fails, Reads, left_of}
 
 -- the same token next, or none
 abbrev pub Agree : List Token → List Token → Type 0
@@ -36,22 +36,24 @@ pub record Further {B : Type 0} (fits : B → Type 0) (row : B → Parts) (front
   pub text : left ≡ next ∷ after
   pub begun : Begun fits row (front ++ next ∷ [])
 
--- what was taken of the tokens
-abbrev pub Took : {B : Type 0} → (B → Type 0) → (B → Parts) → Outcome B → List Token → Type 0
-Took fits row (Fails left false) front = Begun fits row front
-Took fits row (Fails left true) front = Further fits row front left
-Took fits row (Reads y left) front = Is fits row y front × (tallest (row y) ≤ 256)
+-- what was taken of the tokens, by a reader of rows up to a height
+abbrev pub Took : {B : Type 0} → (limit : ℕ) → (B → Type 0) → (B → Parts) → Parsed B → List Token → Type 0
+Took limit fits row (Fails left false) front = Begun fits row front
+Took limit fits row (Fails left true) front = Further fits row front left
+Took limit fits row (Reads y left) front = Is fits row y front × (tallest (row y) ≤ limit)
 
-pub record Taken {B : Type 0} (fits : B → Type 0) (row : B → Parts) (o : Outcome B) (ts : List Token) : Type 0 where
+-- what was taken are tokens in front, and the rest is left
+pub record Taken {B : Type 0} (limit : ℕ) (fits : B → Type 0) (row : B → Parts) (o : Parsed B)
+    (ts : List Token) : Type 0 where
   pub front : List Token
   pub text : ts ≡ front ++ left_of o
-  pub took : Took fits row o front
+  pub took : Took limit fits row o front
 
--- what an outcome says of a value whose row begins with the same tokens
-abbrev pub Says : {B : Type 0} → (B → Parts) → Outcome B → B → (spelling front : List Token) → Type 0
-Says row (Fails left false) y spelling front = ⊥
-Says row (Fails left true) y spelling front = tallest (row y) ≤ 256 → ⊥
-Says row (Reads x left) y spelling front = (y ≡ x) × (spelling ≡ front)
+-- what a parse says of a value whose row begins with the same tokens
+abbrev pub Says : {B : Type 0} → (limit : ℕ) → (B → Parts) → Parsed B → B → (spelling front : List Token) → Type 0
+Says limit row (Fails left false) y spelling front = ⊥
+Says limit row (Fails left true) y spelling front = tallest (row y) ≤ limit → ⊥
+Says limit row (Reads x left) y spelling front = (y ≡ x) × (spelling ≡ front)
 
 -- tokens that go on as those which were read, up to and with the one where reading ended
 pub record Alike {B : Type 0} (out : TokenKind → Bool) (fits : B → Type 0) (row : B → Parts) (left front : List Token)
@@ -63,9 +65,12 @@ pub record Alike {B : Type 0} (out : TokenKind → Bool) (fits : B → Type 0) (
   pub outside : Outside out behind
   pub text : spelling ++ behind ≡ front ++ others
 
-pub record IsRight {B : Type 0} (bound : ℕ) (out : TokenKind → Bool) (fits : B → Type 0) (row : B → Parts)
+-- A reader is right for rows up to a height: something has one; what was taken is what it was taken for; and another
+-- value whose
+-- row begins with the same tokens, up to and with the one where reading ended, is no other.
+pub record IsRight {B : Type 0} (limit bound : ℕ) (out : TokenKind → Bool) (fits : B → Type 0) (row : B → Parts)
     (r : Reader B) : Type 0 where
   pub alive : Begun fits row []
-  pub taken : (ts : List Token) → length ts ≤ bound → Taken fits row (r ts) ts
+  pub taken : (ts : List Token) → length ts ≤ bound → Taken limit fits row (r ts) ts
   pub says : (ts front : List Token) (y : B) (spelling : List Token) → length ts ≤ bound → ts ≡ front ++ left_of (r ts)
-      → Alike out fits row (left_of (r ts)) front y spelling → Says row (r ts) y spelling front
+      → Alike out fits row (left_of (r ts)) front y spelling → Says limit row (r ts) y spelling front

@@ -4,7 +4,7 @@ ghost use Rattle.cat_lex.specs.declared.words.Keyword.TheVariants as key;
 ghost use Rattle.cat_parse_row.specs.Declarations as parts;
 ghost use Rattle.cat_parse_row.specs.Places.{Gives};
 ghost use Rattle.cat_parse_row.specs.Programs as spec;
-ghost use Rattle.cat_parse_row.specs.Reader.{◌⨟◌, done, many, some};
+ghost use Rattle.cat_parse_row.specs.Reader.{◌⨟◌, pure, many, some};
 
 use crate::cue::Cue;
 use crate::parts::{enumeration_cases, structure_fields};
@@ -64,7 +64,7 @@ fn scope(
 /// A declaration of a structure, an enumeration or a scope.
 pub fn declaration(alloc: Global, tokens: &[Token], at: usize) -> Result<(Item, usize), Stray>
     requires { at ≤ length tokens.now }
-    ensures { Gives (spec.declaration ⨟ λ x. done (spec.item_of x)) tokens.now at result }
+    ensures { Gives (spec.declaration ⨟ λ x. pure (spec.item_of x)) tokens.now at result }
 {
     let (pos, at) = word(tokens, at, Cue::Word(Keyword::Declaration))?;
     if is_next(tokens, at, Cue::Word(Keyword::Structure)) {

@@ -17,7 +17,7 @@ pub use declaring::declaration;
 pub use fields::{a_case, called, field, kind, typed_name, variable_type};
 pub use heading::{lead, target};
 pub use kinds::a_type;
-pub use laws::programs_are_read_exactly;
+pub use laws::{programs_are_read_exactly, tokens_spell_one_low_program};
 pub use parts::{enumeration_cases, names, params, structure_fields};
 pub use scopes::{a_variable, scope_variables};
 pub use stray::Stray;
