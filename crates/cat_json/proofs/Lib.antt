@@ -7,3 +7,5 @@ pub mod ScalarsTyped
 pub mod ReadTyped
 pub mod InputsTyped
 pub mod Examples
+pub mod Exported
+pub mod Samples
