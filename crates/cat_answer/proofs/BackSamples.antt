@@ -1,5 +1,6 @@
 -- Declarations, a value and an input that meet what reading back asks for, and declarations that do not.
-use Rattle.std.proofs.Common.{◌≡◌, ℕ, ◌≤◌, ◌<◌, pos, true, false, IsTrue, List, [], ◌∷◌, codes, None, Some, rules, arith, refl}
+use Rattle.std.proofs.Common.{◌≡◌, ℕ, ◌≤◌, ◌<◌, pos, true, false, IsTrue, List, [], ◌∷◌, codes, None, Some, rules}
+use Rattle.std.proofs.Common.{arith, refl}
 use Rattle.cat_pos.specs.declared.pos.Pos.{Pos}
 use Rattle.cat_order.specs.Computed.{order_of}
 use Rattle.cat_value.specs.declared.ty.Ty.TheVariants as flat_ty
@@ -51,7 +52,7 @@ abbrev scopes : List ℕ → List Scope
 scopes m = record {
   name = codes "S";
   items = record { name = codes "n"; pos = here; kind = Input; ty = flat_ty.Integer; condition = false; params = [] }
-    ∷ record { name = m; pos = here; kind = Context; ty = flat_ty.Integer; condition = false; params = [] } ∷ [];
+      ∷ record { name = m; pos = here; kind = Context; ty = flat_ty.Integer; condition = false; params = [] } ∷ [];
 } ∷ []
 
 scopes_are_sound : (m : List ℕ) → IsTrue (are_sound [] [] (scopes m))

@@ -2,7 +2,6 @@ pub mod WriteEquations
 pub mod WriteShape
 pub mod ObjectSteps
 pub mod Samples
-pub mod NumberTexts
 pub mod ObjectsBack
 pub mod ValuesBack
 pub mod InputsBack

@@ -1,5 +1,6 @@
 -- What is written nests no deeper than the type is high.
-use Rattle.std.proofs.Common.{◌≡◌, ℕ, zero, suc, ◌+◌, ◌≤◌, max, ℤ, Bool, IsTrue, List, [], ◌∷◌, Option, Some, None, slice_get}
+use Rattle.std.proofs.Common.{◌≡◌, ℕ, zero, suc, ◌+◌, ◌≤◌, max, ℤ, Bool, IsTrue, List, [], ◌∷◌, Option, Some, None}
+use Rattle.std.proofs.Common.{slice_get}
 use Rattle.std.proofs.Common.{Ordering, Less, Equal, Greater, refl, sym, ap, subst, arith, true≢false}
 use Rattle.std.specs.List.{list_all}
 use Rattle.std.specs.Ordering.{nat_cmp, match_ordering}
@@ -42,25 +43,26 @@ shallow : (ds : Decls) (v : Value) → ((t : Ty) → depth (data_of ds v t) ≤ 
 shallow ds v h t low = let is = height_of_is ds t low in let flat = h t in omega arith
 
 put_depth : (key : List ℕ) (d : Data) (ms : Members) (n : ℕ) → depth d ≤ n → members_depth ms ≤ n
-  → members_depth (put key d ms) ≤ n
+    → members_depth (put key d ms) ≤ n
 put_depth key d no_members n h k = omega arith
 put_depth key d (member l e ms) n h k =
     by (slice_cmp nat_cmp key l) (put_depth key d ms n h (omega arith))
   where
     by : (o : Ordering) → members_depth (put key d ms) ≤ n
-      → members_depth (match_ordering o (member key d (member l e ms)) (member l d ms) (member l e (put key d ms))) ≤ n
+        → members_depth (match_ordering o (member key d (member l e ms)) (member l d ms) (member l e (put key d ms))) ≤
+        n
     by Less more = omega arith
     by Equal more = omega arith
     by Greater more = omega arith
 
 items_low : (ds : Decls) (t : Ty) (vs : List Value) → Each (NestsLow ds) vs → height_of ds t ≤ highest
-  → items_depth (items_data ds vs t) ≤ height_of ds t
+    → items_depth (items_data ds vs t) ≤ height_of ds t
 items_low ds t [] h low = omega arith
 items_low ds t (v ∷ vs) h low =
-  let first = h.0 t low in let rest = items_low ds t vs h.1 low in omega arith
+    let first = h.0 t low in let rest = items_low ds t vs h.1 low in omega arith
 
 members_low : (ds : Decls) (fs : List Field) (vs : List Value) (others : Members) (n : ℕ) → Each (NestsLow ds) vs
-  → highest_field (height_of ds) fs ≤ n → n ≤ highest → members_depth others ≤ n
+    → highest_field (height_of ds) fs ≤ n → n ≤ highest → members_depth others ≤ n
     → members_depth (members_data ds fs vs others) ≤ n
 members_low ds [] vs others n h low top before = before
 members_low ds (f ∷ fs) [] others n h low top before = before
@@ -84,10 +86,10 @@ structure_low ds vs h t low =
     let is = height_of_is ds t low in rw (data_of_Structure ds vs t, is) (level (out-Ty t) (omega arith))
   where
     object : (s : Option Structure) → 1 + structure_parts (height_of ds) s ≤ highest
-      → depth (fields_written ds vs (fields_in s)) ≤ 1 + structure_parts (height_of ds) s
+        → depth (fields_written ds vs (fields_in s)) ≤ 1 + structure_parts (height_of ds) s
     object None bound = omega arith
     object (Some s) bound =
-      let parts = members_low ds s.fields vs no_members (highest_field (height_of ds) s.fields) h (omega arith)
+        let parts = members_low ds s.fields vs no_members (highest_field (height_of ds) s.fields) h (omega arith)
         (omega arith) (omega arith) in omega arith
 
     level : (y : Ty-F Ty) → 1 + part_height ds y ≤ highest → depth (structure_written ds vs y) ≤ 1 + part_height ds y
@@ -95,7 +97,7 @@ structure_low ds vs h t low =
     level _ bound = omega arith
 
 content_low : (ds : Decls) (name : List ℕ) (wanted : Option Ty) (content : Option Value) → Within (NestsLow ds) content
-  → content_height (height_of ds) wanted ≤ highest
+    → content_height (height_of ds) wanted ≤ highest
     → depth (content_written ds name wanted content) ≤ 1 + content_height (height_of ds) wanted
 content_low ds name None None h low = omega arith
 content_low ds name None (Some v) h low = omega arith
@@ -103,18 +105,18 @@ content_low ds name (Some t) None h low = omega arith
 content_low ds name (Some t) (Some v) h low = let part = h t low in omega arith
 
 content_at : (height : Ty → ℕ) (cs : List Case) (n : ℕ) (c : Case) → slice_get cs n ≡ Some c
-  → content_height height c.content ≤ highest_content height cs
+    → content_height height c.content ≤ highest_content height cs
 content_at height [] n c e = grind arith
 content_at height (x ∷ xs) zero c e = grind arith
 content_at height (x ∷ xs) (suc n) c e = let rest = content_at height xs n c e in omega arith
 
 case_low : (ds : Decls) (k : ℕ) (content : Option Value) → Within (NestsLow ds) content
-  → NestsLow ds (value.Case k content)
+    → NestsLow ds (value.Case k content)
 case_low ds k content h t low =
     let is = height_of_is ds t low in rw (data_of_Case ds k content t, is) (level (out-Ty t) (omega arith))
   where
     among : (cs : List Case) (c : Option Case) → slice_get cs k ≡ c → 1 + highest_content (height_of ds) cs ≤ highest
-      → depth (case_written ds content c) ≤ 1 + highest_content (height_of ds) cs
+        → depth (case_written ds content c) ≤ 1 + highest_content (height_of ds) cs
     among cs None e bound = omega arith
     among cs (Some c) e bound =
         let below = content_at (height_of ds) cs k c e in
@@ -122,17 +124,17 @@ case_low ds k content h t low =
         omega arith
 
     numbered : (e : Option Enumeration) → 1 + enumeration_parts (height_of ds) e ≤ highest
-      → depth (numbered_written ds k content e) ≤ 1 + enumeration_parts (height_of ds) e
+        → depth (numbered_written ds k content e) ≤ 1 + enumeration_parts (height_of ds) e
     numbered None bound = omega arith
     numbered (Some e) bound = among e.cases (slice_get e.cases k) refl bound
 
     level : (y : Ty-F Ty) → 1 + part_height ds y ≤ highest
-      → depth (enumeration_written ds k content y) ≤ 1 + part_height ds y
+        → depth (enumeration_written ds k content y) ≤ 1 + part_height ds y
     level (Ty-F.Enumeration n) bound = numbered (slice_get ds.enumerations n) bound
     level _ bound = omega arith
 
 pub value_low : (ds : Decls) (v : Value) (t : Ty) → height_of ds t ≤ highest
-  → depth (data_of ds v t) ≤ height_of ds t
+    → depth (data_of ds v t) ≤ height_of ds t
 value_low ds =
     value_induction (NestsLow ds)
     (λ b. shallow ds _ (λ t. rw (data_of_Boolean ds b t) (omega arith)))
@@ -149,12 +151,12 @@ AreLow ds [] = Unit {0}
 AreLow ds (i ∷ is) = (height_of ds i.ty ≤ highest) × AreLow ds is
 
 sound-AreLow : (ds : Decls) (count : ℕ) (is : List ItemDecl)
-  → IsTrue (list_all (item_is_sound ds.structures ds.enumerations count) is) → AreLow ds is
+    → IsTrue (list_all (item_is_sound ds.structures ds.enumerations count) is) → AreLow ds is
 sound-AreLow ds count [] h = tt
 sound-AreLow ds count (i ∷ is) h = (grind (arith, nat_tests), sound-AreLow ds count is (grind arith))
 
 inputs_low : (ds : Decls) (is : List ItemDecl) (input : Input) (others : Members) → AreLow ds is
-  → members_depth others ≤ highest → members_depth (inputs_data ds is input others) ≤ highest
+    → members_depth others ≤ highest → members_depth (inputs_data ds is input others) ≤ highest
 inputs_low ds [] input others low before = before
 inputs_low ds (i ∷ is) [] others low before = before
 inputs_low ds (i ∷ is) (None ∷ input) others low before = inputs_low ds is input others low.1 before
@@ -166,12 +168,12 @@ inputs_low ds (i ∷ is) (Some v ∷ input) others low before =
 
 -- an input of a scope nests one level deeper
 pub input_low : (ds : Decls) (n : ℕ) (input : Input)
-  → depth (input_data ds (items_of (slice_get ds.scopes n)) input) ≤ 1 + highest
+    → depth (input_data ds (items_of (slice_get ds.scopes n)) input) ≤ 1 + highest
 input_low ds n input = by (slice_get ds.scopes n) refl
   where
     by : (s : Option Scope) → slice_get ds.scopes n ≡ s → depth (input_data ds (items_of s) input) ≤ 1 + highest
     by None e = omega arith
     by (Some scope) e =
         let parts = inputs_low ds scope.items input no_members
-          (sound-AreLow ds _ scope.items (items_sound ds n scope e)) (omega arith) in
+        (sound-AreLow ds _ scope.items (items_sound ds n scope e)) (omega arith) in
         omega arith

@@ -12,5 +12,5 @@ unfolding are_sound are_ordered order_of
 bare_is_sound name = refl
 
 pub bare_sound : (ss : List Structure) (es : List Enumeration) (scopes : List Scope) (name : List ℕ) → ss ≡ []
-  → es ≡ [] → scopes ≡ record { name = name; items = [] } ∷ [] → IsTrue (are_sound ss es scopes)
+    → es ≡ [] → scopes ≡ record { name = name; items = [] } ∷ [] → IsTrue (are_sound ss es scopes)
 bare_sound ss es scopes name s e is = rw (s, e, is) (bare_is_sound name)

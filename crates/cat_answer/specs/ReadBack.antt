@@ -14,9 +14,9 @@ use Rattle.cat_json.specs.Names.{names_are_distinct}
 -- high
 abbrev pub IsValueText : Decls → Ty → Value → List ℕ → Type 0
 IsValueText ds t v text = IsTrue (names_are_distinct ds) → IsTrue (has_type ds v t) → height_of ds t ≤ highest
-  → value_read ds t text ≡ Ok v
+    → value_read ds t text ≡ Ok v
 
 -- where each name stands for one thing, a text is read as that input of a scope, if it is a well-typed one
 abbrev pub IsInputText : Decls → ℕ → List (Option Value) → List ℕ → Type 0
 IsInputText ds scope input text = IsTrue (names_are_distinct ds) → IsWellTyped ds scope input
-  → input_read ds scope text ≡ Ok input
+    → input_read ds scope text ≡ Ok input
