@@ -1,5 +1,5 @@
 -- Declarations, a value and an input that meet what reading back asks for, and declarations that do not.
-use Rattle.std.proofs.Common.{◌≡◌, ℕ, ◌≤◌, ◌<◌, pos, true, false, IsTrue, List, [], ◌∷◌, codes, None, Some, rules}
+use Rattle.std.proofs.Common.{◌≡◌, ℕ, ◌≤◌, pos, false, IsTrue, List, [], ◌∷◌, codes, None, Some, rules}
 use Rattle.std.proofs.Common.{arith, refl}
 use Rattle.cat_pos.specs.declared.pos.Pos.{Pos}
 use Rattle.cat_order.specs.Computed.{order_of}

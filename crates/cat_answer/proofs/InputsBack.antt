@@ -1,10 +1,9 @@
 -- What is written of an input of a scope is read as that input, where names are distinct.
-use Rattle.std.proofs.Common.{◌≡◌, ℕ, Bool, true, false, true≢false, IsTrue, not, ◌&&◌, List, [], ◌∷◌, Option, Some}
+use Rattle.std.proofs.Common.{◌≡◌, ℕ, Bool, true, false, true≢false, IsTrue, List, [], ◌∷◌, Option, Some}
 use Rattle.std.proofs.Common.{None}
-use Rattle.std.proofs.Common.{Ok, if◌then◌else◌, slice_get, refl, sym, ap, subst, ◌∙◌, arith}
-use Rattle.std.specs.List.{list_all}
+use Rattle.std.proofs.Common.{Ok, if◌then◌else◌, slice_get, refl, sym, ap, ◌∙◌, arith}
 use Rattle.std.specs.Option.{option_map}
-use Rattle.serde_json.specs.Data.{Members, no_members, object, put}
+use Rattle.serde_json.specs.Data.{Members, no_members, put}
 use Rattle.serde_json.specs.Find.{get_member}
 use Rattle.serde_json.proofs.Views.{get_member-put, get_member-put_other}
 use Rattle.cat_value.specs.declared.value.Value.{Value}
@@ -21,7 +20,7 @@ use Rattle.cat_json.specs.InputsRead.{Input, where_there, given_in, variable_in,
 use Rattle.cat_json.specs.InputsRead.{input_in}
 use Rattle.cat_json.specs.InputsRead.{items_of}
 use Rattle.cat_json.proofs.Exported.{members_of-get}
-use Rattle.cat_answer.specs.Writes.{data_of, given_data, inputs_data, input_data}
+use Rattle.cat_answer.specs.Writes.{data_of, inputs_data, input_data}
 use Rattle.cat_answer.proofs.ObjectsBack.{not_among, distinct-first, AreKnown, among_themselves, unknown_key-put}
 use Rattle.cat_answer.proofs.ObjectsBack.{AreAbsent, AreAbsent-put, absent_anywhere}
 use Rattle.cat_answer.proofs.ValuesBack.{IsReadBack, member_back}

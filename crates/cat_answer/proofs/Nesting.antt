@@ -1,7 +1,7 @@
 -- What is written nests no deeper than the type is high.
-use Rattle.std.proofs.Common.{◌≡◌, ℕ, zero, suc, ◌+◌, ◌≤◌, max, ℤ, Bool, IsTrue, List, [], ◌∷◌, Option, Some, None}
+use Rattle.std.proofs.Common.{◌≡◌, ℕ, zero, suc, ◌+◌, ◌≤◌, IsTrue, List, [], ◌∷◌, Option, Some, None}
 use Rattle.std.proofs.Common.{slice_get}
-use Rattle.std.proofs.Common.{Ordering, Less, Equal, Greater, refl, sym, ap, subst, arith, true≢false}
+use Rattle.std.proofs.Common.{Ordering, Less, Equal, Greater, refl, arith}
 use Rattle.std.specs.List.{list_all}
 use Rattle.std.specs.Ordering.{nat_cmp, match_ordering}
 use Rattle.std.specs.Cmp.Lexicographic.{slice_cmp}
@@ -11,7 +11,6 @@ use Rattle.cat_value.specs.declared.ty.Ty.{Ty}
 use Rattle.cat_value.specs.declared.ty.Ty.TheOpen.{Ty-F}
 use Rattle.cat_value.specs.declared.ty.Ty.TheViews.{out-Ty}
 use Rattle.cat_value.specs.declared.value.Value.{Value}
-use Rattle.cat_value.specs.declared.value.Value.TheVariants as flat
 use Rattle.cat_value.specs.declared.value.Value.TheViews as value
 use Rattle.cat_value.specs.declared.declaration.Field.{Field}
 use Rattle.cat_value.specs.declared.declaration.Structure.{Structure}
@@ -24,10 +23,10 @@ use Rattle.cat_value.specs.Declarations.{highest, item_is_sound}
 use Rattle.cat_value.specs.Heights.{highest_field, highest_content, content_height, structure_parts, enumeration_parts}
 use Rattle.cat_value.specs.Laws.{height_of, part_height}
 use Rattle.cat_value.specs.Entries.{fields_in}
-use Rattle.cat_value.proofs.Exported.{Each, Within, value_induction, height_of_is, list_all_at}
+use Rattle.cat_value.proofs.Exported.{Each, Within, value_induction, height_of_is}
 use Rattle.cat_json.specs.InputsRead.{Input, items_of}
 use Rattle.cat_json.proofs.Exported.{items_sound}
-use Rattle.cat_answer.specs.Writes.{data_of, integer_data, inputs_data, input_data}
+use Rattle.cat_answer.specs.Writes.{data_of, inputs_data, input_data}
 use Rattle.cat_answer.specs.WrittenParts.{items_data, members_data, list_written, fields_written, structure_written}
 use Rattle.cat_answer.specs.WrittenParts.{content_written, case_written, numbered_written, enumeration_written}
 use Rattle.cat_answer.proofs.WriteEquations.{data_of_Boolean, data_of_Integer, data_of_Decimal, data_of_Money}

@@ -1,7 +1,7 @@
 -- The texts of values and of inputs are read as what they were written of.
-use Rattle.std.proofs.Common.{◌≡◌, ℕ, ◌+◌, ◌≤◌, IsTrue, List, Some, Ok, String, Global, string_bytes, slice_get, refl}
+use Rattle.std.proofs.Common.{◌≡◌, ℕ, ◌≤◌, List, Some, String, Global, string_bytes, slice_get}
 use Rattle.std.proofs.Common.{ap}
-use Rattle.std.proofs.Common.{subst, ◌∙◌, arith}
+use Rattle.std.proofs.Common.{◌∙◌, arith}
 use Rattle.std.proofs.lemmas.Str.{IsUtf8-string_bytes}
 use Rattle.serde_json.specs.Data.{Data, depth}
 use Rattle.serde_json.specs.Read.{read, max_depth}
@@ -9,12 +9,7 @@ use Rattle.cat_value.specs.declared.ty.Ty.{Ty}
 use Rattle.cat_value.specs.declared.value.Value.{Value}
 use Rattle.cat_value.specs.declared.declaration.ItemDecl.{ItemDecl}
 use Rattle.cat_value.specs.declared.decls.Decls.{Decls}
-use Rattle.cat_value.specs.Declarations.{highest}
-use Rattle.cat_value.specs.Inputs.{IsWellTyped}
-use Rattle.cat_value.specs.Laws.{height_of}
-use Rattle.cat_value.specs.Typing.{has_type}
-use Rattle.cat_json.specs.InputsRead.{Input, items_of, answered, read_from, json_of, value_read, input_read, input_in}
-use Rattle.cat_json.specs.Names.{names_are_distinct}
+use Rattle.cat_json.specs.InputsRead.{Input, items_of, answered, read_from, json_of, input_in}
 use Rattle.cat_json.specs.Reads.{read_as}
 use Rattle.cat_json.proofs.Exported.{json_of-read}
 use Rattle.cat_answer.specs.Writes.{data_of, input_data}

@@ -1,16 +1,15 @@
 -- What is written of a value of a type is read as that value, where names are distinct.
-use Rattle.std.proofs.Common.{◌≡◌, ℕ, suc, ◌+◌, ℤ, pos, negsuc, Bool, true, false, true≢false, IsTrue, ◌&&◌, List, []}
+use Rattle.std.proofs.Common.{◌≡◌, ℕ, suc, ℤ, pos, negsuc, Bool, true, false, true≢false, IsTrue, List, []}
 use Rattle.std.proofs.Common.{◌∷◌}
-use Rattle.std.proofs.Common.{length, map, Option, Some, None, Ok, Err, Result, codes, nat_le, if◌then◌else◌, slice_get}
+use Rattle.std.proofs.Common.{length, Option, Some, None, Ok, codes, nat_le, slice_get}
 use Rattle.std.proofs.Common.{bytes_eq, refl, sym, ap, subst, ◌∙◌, arith}
-use Rattle.std.specs.List.{list_all}
 use Rattle.std.specs.Option.{option_map}
-use Rattle.serde_json.specs.Data.{Data, boolean, number, string, array, object, Items, Members, no_members, member, put}
+use Rattle.serde_json.specs.Data.{Data, boolean, string, array, object, Members, no_members, member, put}
 use Rattle.serde_json.specs.Find.{get_member}
 use Rattle.serde_json.proofs.Views.{get_member-put, get_member-put_other}
 use Rattle.cat_num.specs.Whole.{fits}
 use Rattle.cat_num.specs.Frac.{Fraction}
-use Rattle.cat_date.specs.Calendar.{IsDay, is_day}
+use Rattle.cat_date.specs.Calendar.{IsDay}
 use Rattle.cat_date.specs.Span.{SpanOf, is_span}
 use Rattle.cat_date.specs.Text.{form_of, day_text, day_of_text}
 use Rattle.cat_value.specs.declared.ty.Ty.{Ty}
@@ -25,7 +24,7 @@ use Rattle.cat_value.specs.declared.declaration.Structure.{Structure}
 use Rattle.cat_value.specs.declared.declaration.Case.{Case}
 use Rattle.cat_value.specs.declared.declaration.Enumeration.{Enumeration}
 use Rattle.cat_value.specs.declared.decls.Decls.{Decls}
-use Rattle.cat_value.specs.Entries.{some_passes, fields_in, fields_of, content_in, case_in}
+use Rattle.cat_value.specs.Entries.{some_passes, fields_in, content_in, case_in}
 use Rattle.cat_value.specs.Flat.{integer_typed, decimal_typed, money_typed, date_typed, duration_typed}
 use Rattle.cat_value.specs.Declarations.{is_boolean}
 use Rattle.cat_value.specs.Typing.{has_type, most_elements, all_have_type, elements_typed, fields_have_types}
@@ -33,15 +32,14 @@ use Rattle.cat_value.specs.Typing.{content_has_type, case_typed}
 use Rattle.cat_value.proofs.Exported.{Each, Within, value_induction, has_type-levels, tested, tested_Case, list_is}
 use Rattle.cat_value.proofs.Exported.{structure_is, case_is, has_type_Boolean, has_type_Integer, has_type_Decimal}
 use Rattle.cat_value.proofs.Exported.{has_type_Money, has_type_Date, has_type_Duration, list_all_at}
-use Rattle.cat_json.specs.declared.step.Step.TheVariants.{Name, Element}
-use Rattle.cat_json.specs.Paths.{at_step, made_of}
+use Rattle.cat_json.specs.Paths.{made_of}
 use Rattle.cat_json.specs.WholeNumbers.{integer_of, whole_in}
 use Rattle.cat_json.specs.Scalars.{text_day, existing}
 use Rattle.cat_json.specs.Spans.{span_in}
-use Rattle.cat_json.specs.Keys.{is_among, unknown_key, with_no_others, field_names}
-use Rattle.cat_json.specs.Names.{are_distinct, case_names, fields_are_distinct, cases_are_distinct, names_are_distinct}
-use Rattle.cat_json.specs.Reads.{Reader, read_as, elements_in, list_in, present, member_in, field_values, structure_in}
-use Rattle.cat_json.specs.Reads.{case_named, bare_case, full_case, only_case, enumeration_in, elements_of, members_of}
+use Rattle.cat_json.specs.Keys.{is_among, unknown_key, field_names}
+use Rattle.cat_json.specs.Names.{are_distinct, fields_are_distinct, cases_are_distinct, names_are_distinct}
+use Rattle.cat_json.specs.Reads.{read_as, elements_in, list_in, member_in, field_values, structure_in}
+use Rattle.cat_json.specs.Reads.{case_named, elements_of, members_of}
 use Rattle.cat_json.proofs.Exported.{at_level, members_of-get}
 use Rattle.cat_answer.specs.Writes.{data_of, integer_data, span_data}
 use Rattle.cat_answer.specs.WrittenParts.{items_data, members_data, list_written, fields_written, structure_written}
@@ -50,7 +48,7 @@ use Rattle.cat_answer.proofs.WriteEquations.{data_of_Boolean, data_of_Integer, d
 use Rattle.cat_answer.proofs.WriteEquations.{data_of_Date, data_of_Duration, data_of_List, data_of_Structure}
 use Rattle.cat_answer.proofs.WriteEquations.{data_of_Case}
 use Rattle.cat_json.proofs.Exported.{text_fraction-decimal_bytes, text_cents-money_bytes}
-use Rattle.cat_answer.proofs.ObjectsBack.{same_name, apart, not_among, distinct-first, AreKnown, among_themselves}
+use Rattle.cat_answer.proofs.ObjectsBack.{apart, not_among, distinct-first, AreKnown, among_themselves}
 use Rattle.cat_answer.proofs.ObjectsBack.{unknown_key-put, case_named-first}
 
 -- what is written of a value, for each type that has it, is read as the value

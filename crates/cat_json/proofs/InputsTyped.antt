@@ -20,9 +20,8 @@ use Rattle.cat_value.specs.Inputs.{IsWellTyped}
 use Rattle.cat_value.specs.Typing.{has_type, is_type}
 use Rattle.cat_value.proofs.Exported.{list_all_at, found}
 use Rattle.cat_json.specs.declared.refusal.InputRefusal.{InputRefusal}
-use Rattle.cat_json.specs.Paths.{Reading, made_of}
+use Rattle.cat_json.specs.Paths.{Reading}
 use Rattle.cat_json.specs.Reads.{Reader, member_in, read_as, data_members}
-use Rattle.cat_json.specs.Keys.{with_no_others}
 use Rattle.cat_json.specs.InputsRead.{Input, AreWellTyped, where_there, given_in, variable_in, item_in, items_in}
 use Rattle.cat_json.specs.InputsRead.{given_names}
 use Rattle.cat_json.specs.InputsRead.{variables_in, input_in, items_of, answered, each_input, read_from, json_of}

@@ -1,6 +1,6 @@
 -- The texts of fractions and amounts are read as what they were written of.
-use Rattle.std.proofs.Common.{◌≡◌, ◌≢◌, ◌≤◌, ℕ, zero, suc, ◌+◌, ◌-◌, ◌*◌, ◌/◌, ◌%◌, ◌^◌, ◌<◌, ℤ, pos, negsuc, ◌*ℤ◌}
-use Rattle.std.proofs.Common.{unsigned_abs, Bool, true, false, IsTrue, ◌&&◌, if◌then◌else◌, Option, Some, None, Ok}
+use Rattle.std.proofs.Common.{◌≡◌, ◌≤◌, ℕ, zero, suc, ◌+◌, ◌-◌, ◌*◌, ◌/◌, ◌%◌, ◌^◌, ◌<◌, ℤ, pos, negsuc, ◌*ℤ◌}
+use Rattle.std.proofs.Common.{unsigned_abs, Bool, true, false, IsTrue, Option, Some, None, Ok}
 use Rattle.std.proofs.Common.{List, []}
 use Rattle.std.proofs.Common.{◌∷◌, ◌++◌, length, replicate, refl, sym, ap, ◌∙◌, subst, arith, rules, append_assoc}
 use Rattle.std.proofs.Common.{append-nil}
@@ -20,12 +20,10 @@ use Rattle.cat_num.specs.Text.{decimal_places, places_from, filled, sign, point_
 use Rattle.cat_num.specs.Text.{decimal_bytes, money_bytes}
 use Rattle.cat_num.specs.Reading.{split_at, number_after}
 use Rattle.cat_num.proofs.Exported.{lowest_is, number_after-append, signed-product}
-use Rattle.cat_json.specs.Paths.{Reading}
-use Rattle.cat_json.specs.WholeNumbers.{in_bounds}
 use Rattle.cat_json.specs.Numerals.{are_digits, are_few, has_minus, without_minus, Numeral, quotient, pointed, plain}
-use Rattle.cat_json.specs.Numerals.{numeral_of, numeral_with, pointed_or_plain, has_decimal_form, has_money_form}
-use Rattle.cat_json.specs.Numerals.{has_few_digits, cents_of, fraction_of, fitting, if_numeral, numeral_fraction}
-use Rattle.cat_json.specs.Numerals.{numeral_cents, text_fraction, text_cents}
+use Rattle.cat_json.specs.Numerals.{numeral_of, numeral_with, pointed_or_plain, has_decimal_form}
+use Rattle.cat_json.specs.Numerals.{has_few_digits, cents_of, fraction_of, numeral_fraction}
+use Rattle.cat_json.specs.Numerals.{text_fraction, text_cents}
 
 -- texts of digits
 abbrev AreDigits : List ℕ → Type 0

@@ -1,6 +1,6 @@
 -- What is read of a declared type is a value of it.
-use Rattle.std.proofs.Common.{◌≡◌, ℕ, zero, suc, ◌+◌, ℤ, Bool, true, false, true≢false, IsTrue, List, [], ◌∷◌, length}
-use Rattle.std.proofs.Common.{nat_le, Option, Some, None, Ok, Err, bytes_eq, if◌then◌else◌, map, slice_get, Ordering}
+use Rattle.std.proofs.Common.{◌≡◌, ℕ, zero, suc, ◌+◌, ℤ, Bool, true, false, IsTrue, List, [], ◌∷◌, length}
+use Rattle.std.proofs.Common.{nat_le, Option, Some, None, Ok, Err, bytes_eq, if◌then◌else◌, slice_get, Ordering}
 use Rattle.std.proofs.Common.{Less, Equal, Greater, refl, sym, ap, subst, arith, ◌∙◌}
 use Rattle.std.specs.List.{list_all}
 use Rattle.std.specs.Ordering.{nat_cmp, match_ordering}
@@ -8,16 +8,11 @@ use Rattle.std.specs.Cmp.Lexicographic.{slice_cmp}
 use Rattle.serde_json.specs.Data.{Data, null, boolean, number, string, array, object, Items, no_items, item, Members}
 use Rattle.serde_json.specs.Data.{no_members, member}
 use Rattle.serde_json.specs.Find.{as_bool, as_str, as_array, as_object}
-use Rattle.cat_num.specs.Whole.{fits}
-use Rattle.cat_num.specs.Frac.{Fraction, is_reduced}
-use Rattle.cat_date.specs.Calendar.{is_day}
-use Rattle.cat_date.specs.Span.{SpanOf, is_span}
 use Rattle.cat_value.specs.declared.ty.Ty.{Ty}
 use Rattle.cat_value.specs.declared.ty.Ty.TheOpen.{Ty-F}
 use Rattle.cat_value.specs.declared.ty.Ty.TheFolds.{fold_out-Ty, map-Ty}
 use Rattle.cat_value.specs.declared.ty.Ty.TheViews.{out-Ty}
 use Rattle.cat_value.specs.declared.value.Value.{Value}
-use Rattle.cat_value.specs.declared.value.Value.TheOpen.{Value-F}
 use Rattle.cat_value.specs.declared.value.Value.TheVariants as flat
 use Rattle.cat_value.specs.declared.value.Value.TheViews as value
 use Rattle.cat_value.specs.declared.declaration.Field.{Field}
@@ -27,11 +22,11 @@ use Rattle.cat_value.specs.declared.declaration.Enumeration.{Enumeration}
 use Rattle.cat_value.specs.declared.decls.Decls.{Decls}
 use Rattle.cat_value.specs.Declarations.{is_declared, names_entry, field_is_sound}
 use Rattle.cat_value.specs.Entries.{fields_in as fields_within}
-use Rattle.cat_value.specs.Typing.{has_type, is_type, most_elements, all_have_type, fields_have_types, is_structure}
+use Rattle.cat_value.specs.Typing.{has_type, is_type, most_elements, all_have_type, fields_have_types}
 use Rattle.cat_value.specs.Typing.{is_case}
 use Rattle.cat_value.proofs.Exported.{has_type-levels, tested, tested_Case, list_is, structure_is, case_is}
 use Rattle.cat_value.proofs.Exported.{fields_declared, content_declared}
-use Rattle.cat_json.specs.declared.step.Step.TheVariants.{Name, Element}
+use Rattle.cat_json.specs.declared.step.Step.TheVariants.{Element}
 use Rattle.cat_json.specs.declared.refusal.Reason.TheVariants.{OutOfRange}
 use Rattle.cat_json.specs.Paths.{Reading, refused, at_step, made_of, ahead}
 use Rattle.cat_json.specs.WholeNumbers.{integer_of, whole_in}

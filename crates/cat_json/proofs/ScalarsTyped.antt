@@ -1,19 +1,15 @@
 -- Numbers, amounts, days and durations that are read are in range.
 use Rattle.std.proofs.Common.{◌≡◌, ℕ, ◌<◌, ◌==◌, ◌*ℤ◌, ℤ, pos, unsigned_abs, nat_lt, nat_le, Bool, true, false, ◌&&◌}
-use Rattle.std.proofs.Common.{true≢false, IsTrue, List, [], ◌∷◌, length, ◌++◌, Option, Some, None, Ok, Err, Result}
-use Rattle.std.proofs.Common.{codes, bytes_eq, if◌then◌else◌, refl, sym, ap, subst, arith, ◌∙◌}
+use Rattle.std.proofs.Common.{true≢false, List, [], ◌∷◌, Option, Some, None, Ok, Err, Result}
+use Rattle.std.proofs.Common.{codes, bytes_eq, if◌then◌else◌, refl, sym, ap, subst, arith}
 use Rattle.std.proofs.lemmas.Bool.Decides.{nat_tests}
-use Rattle.std.proofs.Math.Nat.{eq-zero-or-pos}
 use Rattle.jiff_core.specs.declared.civil.date.Date.{Date}
-use Rattle.jiff_core.specs.Date.{epoch_day}
-use Rattle.jiff_core.specs.Calendar.{IsCivilDate}
 use Rattle.serde_json.specs.Data.{Data, Members}
 use Rattle.serde_json.specs.Find.{as_object, get}
 use Rattle.cat_num.specs.declared.fault.NumFault.{NumFault}
 use Rattle.cat_num.specs.declared.fault.NumFault.TheVariants as num_fault
 use Rattle.cat_num.specs.Whole.{largest, fits}
 use Rattle.cat_num.specs.Frac.{Fraction, gcd, lowest, ratio, frac_fits, is_reduced, signed}
-use Rattle.cat_num.specs.Reading.{number_after}
 use Rattle.cat_num.proofs.Exported.{lowest-positive, lowest-coprime}
 use Rattle.cat_date.specs.declared.fault.DateFault.{DateFault}
 use Rattle.cat_date.specs.declared.fault.DateFault.TheVariants as date_fault
@@ -25,7 +21,7 @@ use Rattle.cat_json.specs.declared.step.Step.{Step}
 use Rattle.cat_json.specs.declared.refusal.Reason.TheVariants.{WrongForm, OutOfRange}
 use Rattle.cat_json.specs.Paths.{Reading, refused, at_step, made_of}
 use Rattle.cat_json.specs.Numerals.{Numeral, quotient, pointed, plain, fitting, if_numeral, has_money_form}
-use Rattle.cat_json.specs.Numerals.{has_few_digits, cents_of, fraction_of, numeral_fraction, numeral_cents}
+use Rattle.cat_json.specs.Numerals.{has_few_digits, cents_of, fraction_of}
 use Rattle.cat_json.specs.Numerals.{text_fraction, text_cents, has_minus, without_minus, numeral_of}
 use Rattle.cat_json.specs.WholeNumbers.{in_bounds, whole_in, whole_fraction, integer_of}
 use Rattle.cat_json.specs.Scalars.{existing, text_day, text_in, fraction_in, cents_in}
