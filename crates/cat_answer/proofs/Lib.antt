@@ -1,3 +1,10 @@
 pub mod WriteEquations
 pub mod WriteShape
 pub mod ObjectSteps
+pub mod Samples
+pub mod ObjectsBack
+pub mod ValuesBack
+pub mod InputsBack
+pub mod Nesting
+pub mod TextsBack
+pub mod BackSamples

@@ -125,8 +125,17 @@ data_of_Case ds k content t =
     rw (data_of-levels ds (value.Case k content) t, value.outs-Case k content)
     (level_Case ds k content (out-Ty t) ∙ case_is ds k content (out-Ty t))
 
-pub ruleset writing = (data_of_Boolean, data_of_Integer, data_of_Decimal, data_of_Money, data_of_Date, data_of_Duration,
-  data_of_List, data_of_Structure, data_of_Case)
+pub ruleset writing = (
+  data_of_Boolean,
+  data_of_Integer,
+  data_of_Decimal,
+  data_of_Money,
+  data_of_Date,
+  data_of_Duration,
+  data_of_List,
+  data_of_Structure,
+  data_of_Case,
+)
 
 -- the elements of an array
 items_of-data : (ds : Decls) (vs : List Value) (t : Ty) → items_of (map (λ v. data_of ds v t) vs) ≡ items_data ds vs t

@@ -1,3 +1,6 @@
+-- what public clauses cite
 pub mod Writes
-pub mod WrittenParts
+pub mod ReadBack
 pub mod Answer
+-- what inner clauses cite
+pub mod WrittenParts

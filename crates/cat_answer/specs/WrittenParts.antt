@@ -1,4 +1,4 @@
--- The JSON of values whose parts are values.
+-- The rules of `Writes`, which are the definition, told of values in the place of writers, as functions use them.
 use Rattle.std.specs.Prelude.{ℕ, List, [], ◌∷◌, Option, Some, None, slice_get}
 use Rattle.serde_json.specs.Data.{Data, null, string, array, object, Items, no_items, item, Members, no_members, member}
 use Rattle.serde_json.specs.Data.{put}

@@ -7,32 +7,38 @@ ghost use Rattle.serde_json.specs.Written.{compact_text};
 ghost use Rattle.cat_pos.specs.Position.{shown};
 ghost use Rattle.cat_json.specs.InputsRead.{items_of};
 ghost use Rattle.cat_answer.specs.Writes.{value_bytes, input_bytes};
+ghost use Rattle.cat_answer.specs.ReadBack.{IsValueText, IsInputText};
 ghost use Rattle.cat_answer.specs.Answer as answers;
 ghost use Rattle.cat_answer.specs.Answer.{answer_of, outputs_object, target_text, scope_text, item_text, fault_text};
 
 use crate::members::{input_json, outputs_json};
 use crate::writing::value_json;
+use cat_date::shown_days_are_read;
 use cat_pos::{Files, Pos, show_pos};
 use cat_value::{
     Decls, FaultKind, Input, ItemDecl, ItemDecls, Kind, Outcome, Scope, Target, Ty, Value, Values,
 };
 use std::alloc::{AllocError, Global};
 
-/// The compact text of a value, which is one of the type.
-#[tactic(auto, using(crate::proofs::WriteShape::shape))]
+/// The compact text of a value of the type. It is read as that value where no two fields, cases or inputs of one
+/// declaration have one name.
+#[tactic(auto, using(crate::proofs::WriteShape::shape, crate::proofs::TextsBack::back))]
 pub fn value_text(
     alloc: Global,
     value: &Value,
     ty: &Ty,
     decls: &Decls,
 ) -> Result<String, AllocError>
-    ensures { IfOk result (λ text. string_bytes text ≡ value_bytes decls.now ty.now value.now) }
+    ensures written { IfOk result (λ text. string_bytes text ≡ value_bytes decls.now ty.now value.now) }
+    ensures read_back { IfOk result (λ text. IsValueText decls.now ty.now value.now (string_bytes text)) }
 {
+    shown_days_are_read();
     value_json(alloc, value, ty, decls)?.to_string(alloc)
 }
 
-/// The compact text of an input of the scope.
-#[tactic(auto, using(crate::proofs::WriteShape::shape))]
+/// The compact text of an input of the scope. It is read as that input where no two fields, cases or inputs of one
+/// declaration have one name.
+#[tactic(auto, using(crate::proofs::WriteShape::shape, crate::proofs::TextsBack::back))]
 pub fn input_text(
     alloc: Global,
     input: &Input,
@@ -40,8 +46,11 @@ pub fn input_text(
     scope: u32,
 ) -> Result<String, AllocError>
     requires { scope < length decls.now.scopes }
-    ensures { IfOk result (λ text. string_bytes text ≡ input_bytes decls.now (items_of (slice_get decls.now.scopes scope)) input.now) }
+    ensures written { IfOk result (λ text. string_bytes text ≡
+        input_bytes decls.now (items_of (slice_get decls.now.scopes scope)) input.now) }
+    ensures read_back { IfOk result (λ text. IsInputText decls.now scope input.now (string_bytes text)) }
 {
+    shown_days_are_read();
     let items = &decls.scopes.at(scope as usize).items;
     input_json(alloc, input, items, decls)?.to_string(alloc)
 }

@@ -6,3 +6,6 @@ mod members;
 mod writing;
 
 pub use answer::{answer_text, input_text, value_text};
+
+#[cfg(test)]
+mod tests;

@@ -4,7 +4,8 @@ ghost use Rattle.serde_json.specs.Data.{array, object, no_members};
 ghost use Rattle.serde_json.specs.View.{view};
 ghost use Rattle.cat_value.specs.declared.ty.Ty.TheViews.{out-Ty};
 ghost use Rattle.cat_answer.specs.Writes.{data_of, span_data, input_data};
-ghost use Rattle.cat_answer.specs.WrittenParts.{items_data, members_data, list_written, structure_written, case_written, numbered_written, content_written, enumeration_written};
+ghost use Rattle.cat_answer.specs.WrittenParts.{items_data, members_data, list_written, structure_written};
+ghost use Rattle.cat_answer.specs.WrittenParts.{case_written, numbered_written, content_written, enumeration_written};
 
 use cat_date::{Span, show_day};
 use cat_num::{decimal_text, money_text};
@@ -13,7 +14,7 @@ use cat_value::{Case, Decls, Fields, Input, ItemDecls, Ty, Value, Values};
 use serde_json::{Map, Value as Json};
 use std::alloc::{AllocError, Global};
 
-/// The JSON of a value of a type; `null` where a part is not of its type.
+/// The JSON of a value of the type. What is written of a value of another type says nothing of it.
 #[cycle(write)]
 #[tactic(auto, using(crate::proofs::WriteEquations::writing))]
 pub(crate) fn value_json(
@@ -138,7 +139,8 @@ fn numbered_json(
     enumeration: u32,
     decls: &Decls,
 ) -> Result<Json, AllocError>
-    ensures { IfOk result (λ json. view json ≡ numbered_written decls.now case content.now (slice_get decls.now.enumerations enumeration)) }
+    ensures { IfOk result (λ json. view json ≡ numbered_written decls.now case content.now
+        (slice_get decls.now.enumerations enumeration)) }
 {
     match decls.enumerations.get(enumeration as usize) {
         Some(enumeration) => match enumeration.cases.get(case as usize) {

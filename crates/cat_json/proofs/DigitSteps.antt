@@ -10,7 +10,7 @@ use Rattle.cat_num.specs.Reading.{Parts, in_front, number_after}
 -- one digit more
 pub number_room : (n k d i : ℕ) → n < k * 10 ^ i → d < 10 → 10 * n + d < k * 10 ^ (i + 1)
 number_room n k d i h l = subst (λ w. 10 * n + d < k * w) (sym (ap (λ j. 10 ^ j) (add-one i) ∙ pow-suc 10 i))
-  (by (10 ^ i) h)
+    (by (10 ^ i) h)
   where
     by : (w : ℕ) → n < k * w → 10 * n + d < k * (w * 10)
     by w h = omega arith
@@ -24,7 +24,7 @@ number_fits n k i h l m =
 
 -- the digit at a place, and those behind it
 pub digit_here : (xs : List ℕ) (i : ℕ) → i < length xs → all_ascii_digits (drop i xs) ≡ true → (48 ≤ get_or xs i 0)
-  × (get_or xs i 0 ≤ 57) × (all_ascii_digits (drop (i + 1) xs) ≡ true)
+    × (get_or xs i 0 ≤ 57) × (all_ascii_digits (drop (i + 1) xs) ≡ true)
 digit_here xs i h e = let d = drop-cons xs i 0 h in grind (arith, nat_tests)
 
 pub ruleset digits = (number_room, number_fits, digit_here)
@@ -35,14 +35,14 @@ with_front front None = None
 with_front front (Some parts) = Some (front ++ parts.0, parts.1)
 
 pub with_front-next : (front : List ℕ) (x : ℕ) (parts : Parts) → with_front front (in_front x parts) ≡ with_front
-  (front ++ x ∷ []) parts
+    (front ++ x ∷ []) parts
 with_front-next front x None = refl
 with_front-next front x (Some parts) = ap (λ xs. Some (xs, parts.1)) (sym (append_assoc front (x ∷ []) parts.0))
 
 pub number_after-step : (n : ℕ) (xs : List ℕ) (i : ℕ) → i < length xs → number_after (10 * n + (get_or xs i 0 - 48))
-  (drop (i + 1) xs) ≡ number_after n (drop i xs)
+    (drop (i + 1) xs) ≡ number_after n (drop i xs)
 number_after-step n xs i h = ap (λ j. number_after (10 * n + (get_or xs i 0 - 48)) (drop j xs)) (add-one i)
-  ∙ sym (ap (number_after n) (drop-cons xs i 0 h))
+    ∙ sym (ap (number_after n) (drop-cons xs i 0 h))
 
 pub number_after-end : (n : ℕ) (xs : List ℕ) (i : ℕ) → length xs ≤ i → n ≡ number_after n (drop i xs)
 number_after-end n xs i h = sym (ap (number_after n) (drop_all i xs h))

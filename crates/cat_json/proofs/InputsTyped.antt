@@ -20,21 +20,22 @@ use Rattle.cat_value.specs.Inputs.{IsWellTyped}
 use Rattle.cat_value.specs.Typing.{has_type, is_type}
 use Rattle.cat_value.proofs.Exported.{list_all_at, found}
 use Rattle.cat_json.specs.declared.refusal.InputRefusal.{InputRefusal}
-use Rattle.cat_json.specs.Paths.{Reading, made_of}
-use Rattle.cat_json.specs.Reads.{Reader, member_in, read_as, data_members, with_no_others}
-use Rattle.cat_json.specs.InputsRead.{Input, AreWellTyped, optional_in, given_in, item_in, items_in, given_names}
+use Rattle.cat_json.specs.Paths.{Reading}
+use Rattle.cat_json.specs.Reads.{Reader, member_in, read_as, data_members}
+use Rattle.cat_json.specs.InputsRead.{Input, AreWellTyped, where_there, given_in, variable_in, item_in, items_in}
+use Rattle.cat_json.specs.InputsRead.{given_names}
 use Rattle.cat_json.specs.InputsRead.{variables_in, input_in, items_of, answered, each_input, read_from, json_of}
 use Rattle.cat_json.specs.InputsRead.{array_inputs, input_read, inputs_read}
 use Rattle.cat_json.proofs.ScalarsTyped.{made_of-is, with_no_others-is}
 use Rattle.cat_json.proofs.ReadTyped.{MembersTyped, ahead-is, member_typed, members_of-typed, read_as-typed, none_typed}
 
 scopes_sound : (ss : List Structure) (es : List Enumeration) (scopes : List Scope) → IsTrue (are_sound ss es scopes)
-  → IsTrue (list_all (scope_is_sound ss es (length scopes)) scopes)
+    → IsTrue (list_all (scope_is_sound ss es (length scopes)) scopes)
 unfolding are_sound
 scopes_sound ss es scopes h = grind arith
 
-items_sound : (ds : Decls) (n : ℕ) (scope : Scope) → slice_get ds.scopes n ≡ Some scope
-  → IsTrue (list_all (item_is_sound ds.structures ds.enumerations (length ds.scopes)) scope.items)
+pub items_sound : (ds : Decls) (n : ℕ) (scope : Scope) → slice_get ds.scopes n ≡ Some scope
+    → IsTrue (list_all (item_is_sound ds.structures ds.enumerations (length ds.scopes)) scope.items)
 items_sound ds n scope e =
     let h = list_all_at _ ds.scopes n scope (scopes_sound ds.structures ds.enumerations ds.scopes ds.sound) e in
     grind arith
@@ -45,7 +46,7 @@ AreDeclared ds [] = Unit {0}
 AreDeclared ds (i ∷ is) = IsTrue (is_type ds i.ty) × AreDeclared ds is
 
 sound-AreDeclared : (ds : Decls) (count : ℕ) (is : List ItemDecl)
-  → IsTrue (list_all (item_is_sound ds.structures ds.enumerations count) is) → AreDeclared ds is
+    → IsTrue (list_all (item_is_sound ds.structures ds.enumerations count) is) → AreDeclared ds is
 sound-AreDeclared ds count [] h = tt
 sound-AreDeclared ds count (i ∷ is) h = (grind arith, sound-AreDeclared ds count is (grind arith))
 
@@ -67,26 +68,26 @@ abbrev pub IsGiven : Decls → ItemDecl → Option Value → Type 0
 IsGiven ds i given = (v : Value) × (given ≡ Some v) × IsTrue (has_type ds v i.ty)
 
 given_typed : (ds : Decls) (members : List ℕ → Option Reader) (i : ItemDecl) (given : Option Value)
-  → MembersTyped ds members → IsTrue (is_type ds i.ty) → given_in true members i ≡ Ok given → IsGiven ds i given
+    → MembersTyped ds members → IsTrue (is_type ds i.ty) → given_in members i ≡ Ok given → IsGiven ds i given
 given_typed ds members i given typed h e =
     let p = made_of-is Some (member_in members i.name i.ty) given e in
     (p.0, sym p.2, member_typed ds members i.name i.ty p.0 typed h p.1)
 
 must_be : (ds : Decls) (i : ItemDecl) (given : Option Value) → may_be_given i.kind ≡ true → IsGiven ds i given
-  → is_given_for ds i given ≡ true
+    → is_given_for ds i given ≡ true
 must_be ds i given may h = subst (λ (g : Option Value). is_given_for ds i g ≡ true) (sym h.1) (rw (may, h.2) refl)
 
 may_be : (ds : Decls) (members : List ℕ → Option Reader) (i : ItemDecl) (reader : Option Reader) (given : Option Value)
-  → MembersTyped ds members → IsTrue (is_type ds i.ty) → may_be_given i.kind ≡ true → must_be_given i.kind ≡ false
-    → optional_in members i reader ≡ Ok given → is_given_for ds i given ≡ true
+    → MembersTyped ds members → IsTrue (is_type ds i.ty) → may_be_given i.kind ≡ true → must_be_given i.kind ≡ false
+    → where_there reader (given_in members i) ≡ Ok given → is_given_for ds i given ≡ true
 may_be ds members i None given typed h may must e =
     let same : None ≡ given = cc in
     subst (λ (g : Option Value). is_given_for ds i g ≡ true) same (rw must refl)
 may_be ds members i (Some reader) given typed h may must e =
-  must_be ds i given may (given_typed ds members i given typed h e)
+    must_be ds i given may (given_typed ds members i given typed h e)
 
 nothing : (ds : Decls) (i : ItemDecl) (given : Option Value) → must_be_given i.kind ≡ false → None ≡ given
-  → is_given_for ds i given ≡ true
+    → is_given_for ds i given ≡ true
 nothing ds i given must same =
     subst (λ (g : Option Value). is_given_for ds i g ≡ true) same (rw must refl)
 
@@ -100,19 +101,19 @@ not_must Internal e = refl
 not_must (Called n) e = refl
 
 item_typed : (ds : Decls) (members : List ℕ → Option Reader) (i : ItemDecl) (given : Option Value)
-  → MembersTyped ds members → IsTrue (is_type ds i.ty) → item_in members i ≡ Ok given → is_given_for ds i given ≡ true
+    → MembersTyped ds members → IsTrue (is_type ds i.ty) → item_in members i ≡ Ok given → is_given_for ds i given ≡ true
 item_typed ds members i given typed h e = by (may_be_given i.kind) (must_be_given i.kind) refl refl e
   where
     by : (may must : Bool) → may_be_given i.kind ≡ may → must_be_given i.kind ≡ must
-      → (if may then given_in must members i else Ok None) ≡ Ok given → is_given_for ds i given ≡ true
+        → (if may then variable_in must members i else Ok None) ≡ Ok given → is_given_for ds i given ≡ true
     by false must m n e = let same : None ≡ given = cc in nothing ds i given (not_must i.kind m) same
     by true true m n e = must_be ds i given m (given_typed ds members i given typed h e)
     by true false m n e = may_be ds members i (members i.name) given typed h m n e
 
 items_typed : (ds : Decls) (members : List ℕ → Option Reader) (is : List ItemDecl) (all : Input)
-  → MembersTyped ds members → AreDeclared ds is → items_in members is ≡ Ok all → are_given_for ds is all ≡ true
+    → MembersTyped ds members → AreDeclared ds is → items_in members is ≡ Ok all → are_given_for ds is all ≡ true
 items_typed ds members [] all typed h e = let same : [] ≡ all =
-  cc in subst (λ (given : Input). are_given_for ds [] given ≡ true) same refl
+    cc in subst (λ (given : Input). are_given_for ds [] given ≡ true) same refl
 items_typed ds members (i ∷ is) all typed h e =
     let p = ahead-is (item_in members i) (items_in members is) all e in
     let first = item_typed ds members i p.0 typed h.0 p.2 in
@@ -120,30 +121,31 @@ items_typed ds members (i ∷ is) all typed h e =
     subst (λ (given : Input). are_given_for ds (i ∷ is) given ≡ true) p.4 (rw (first, rest) refl)
 
 variables_typed : (ds : Decls) (is : List ItemDecl) (d : Data) (ms : Option Members) (all : Input) → AreDeclared ds is
-  → variables_in ds is d ms ≡ Ok all → are_given_for ds is all ≡ true
+    → variables_in ds is d ms ≡ Ok all → are_given_for ds is all ≡ true
 variables_typed ds is d None all h e = absurd (cc)
 variables_typed ds is d (Some ms) all h e = items_typed ds (data_members ds d) is all (data_members-typed ds d) h
-  (with_no_others-is (given_names is) ms _ all e)
+    (with_no_others-is (given_names is) ms _ all e)
 
 -- an input of a scope
 pub input_in-typed : (ds : Decls) (scope : ℕ) (d : Data) (all : Input) → scope < length ds.scopes
-  → input_in ds (items_of (slice_get ds.scopes scope)) d ≡ Ok all → IsWellTyped ds scope all
+    → input_in ds (items_of (slice_get ds.scopes scope)) d ≡ Ok all → IsWellTyped ds scope all
 unfolding is_input_of
 input_in-typed ds scope d all within e = by (slice_get ds.scopes scope) refl e
   where
     by : (found : Option Scope) → slice_get ds.scopes scope ≡ found → input_in ds (items_of found) d ≡ Ok all
-      → is_input_for ds all (slice_get ds.scopes scope) ≡ true
+        → is_input_for ds all (slice_get ds.scopes scope) ≡ true
     by None q e = let there = found ds.scopes scope within in absurd (cc there.1)
     by (Some s) q e = rw q
-      (variables_typed ds s.items d (as_object d) all
-      (sound-AreDeclared ds (length ds.scopes) s.items (items_sound ds scope s q)) e)
+        (variables_typed ds s.items d (as_object d) all
+        (sound-AreDeclared ds (length ds.scopes) s.items (items_sound ds scope s q)) e)
 
 answered-is : {A : Type 0} (r : Reading A) (a : A) → answered r ≡ Ok a → r ≡ Ok a
 answered-is (Ok b) a e = let same : b ≡ a = cc in ap Ok same
 answered-is (Err refusal) a e = absurd (cc)
 
 each_typed : (ds : Decls) (scope : ℕ) (items : Items) (k : ℕ) (all : Input) → scope < length ds.scopes
-  → slice_get (each_input ds (items_of (slice_get ds.scopes scope)) items) k ≡ Some (Ok all) → IsWellTyped ds scope all
+    → slice_get (each_input ds (items_of (slice_get ds.scopes scope)) items) k ≡ Some (Ok all)
+    → IsWellTyped ds scope all
 each_typed ds scope no_items k all within e = absurd (cc)
 each_typed ds scope (item d items) zero all within e =
     let same : answered (input_in ds (items_of (slice_get ds.scopes scope)) d) ≡ Ok all = cc in
@@ -152,40 +154,40 @@ each_typed ds scope (item d items) (suc k) all within e = each_typed ds scope it
 
 -- the same, as the calls have it
 pub value_typed : (ds : Decls) (d : Data) (t : Ty) (v : Value) → Ok v ≡ read_as ds d t → IsTrue (is_type ds t)
-  → IsTrue (has_type ds v t)
+    → IsTrue (has_type ds v t)
 value_typed ds d t v e h = read_as-typed ds d t v h (sym e)
 
 pub inputs_typed : (ds : Decls) (scope : ℕ) (items : Items) (all : List (Result Input InputRefusal))
-  → scope < length ds.scopes → each_input ds (items_of (slice_get ds.scopes scope)) items ≡ all
-  → AreWellTyped ds scope all
+    → scope < length ds.scopes → each_input ds (items_of (slice_get ds.scopes scope)) items ≡ all
+    → AreWellTyped ds scope all
 unfolding AreWellTyped
 inputs_typed ds scope items all within e = λ k input q. each_typed ds scope items k input within
-  (ap (λ (r : List (Result Input InputRefusal)). slice_get r k) e ∙ q)
+    (ap (λ (r : List (Result Input InputRefusal)). slice_get r k) e ∙ q)
 
 pub input_read-typed : (ds : Decls) (scope : ℕ) (bytes : List ℕ) (all : Input) → scope < length ds.scopes
-  → input_read ds scope bytes ≡ Ok all → IsWellTyped ds scope all
+    → input_read ds scope bytes ≡ Ok all → IsWellTyped ds scope all
 input_read-typed ds scope bytes all within e = by (json_of bytes) e
   where
     by : (o : Option Data) → read_from (λ d. answered (input_in ds (items_of (slice_get ds.scopes scope)) d)) o ≡ Ok all
-      → IsWellTyped ds scope all
+        → IsWellTyped ds scope all
     by None e = absurd (cc)
     by (Some d) e =
-      input_in-typed ds scope d all within (answered-is (input_in ds (items_of (slice_get ds.scopes scope)) d) all e)
+        input_in-typed ds scope d all within (answered-is (input_in ds (items_of (slice_get ds.scopes scope)) d) all e)
 
 array_typed : (ds : Decls) (scope : ℕ) (o : Option Items) (all : List (Result Input InputRefusal))
-  → scope < length ds.scopes → array_inputs ds (items_of (slice_get ds.scopes scope)) o ≡ Ok all
-  → AreWellTyped ds scope all
+    → scope < length ds.scopes → array_inputs ds (items_of (slice_get ds.scopes scope)) o ≡ Ok all
+    → AreWellTyped ds scope all
 array_typed ds scope None all within e = absurd (cc)
 array_typed ds scope (Some items) all within e =
     let same : each_input ds (items_of (slice_get ds.scopes scope)) items ≡ all = cc in
     inputs_typed ds scope items all within same
 
 pub inputs_read-typed : (ds : Decls) (scope : ℕ) (bytes : List ℕ) (all : List (Result Input InputRefusal))
-  → scope < length ds.scopes → inputs_read ds scope bytes ≡ Ok all → AreWellTyped ds scope all
+    → scope < length ds.scopes → inputs_read ds scope bytes ≡ Ok all → AreWellTyped ds scope all
 inputs_read-typed ds scope bytes all within e = by (json_of bytes) e
   where
     by : (o : Option Data) → read_from (λ d. array_inputs ds (items_of (slice_get ds.scopes scope)) (as_array d)) o ≡ Ok
-      all → AreWellTyped ds scope all
+        all → AreWellTyped ds scope all
     by None e = absurd (cc)
     by (Some d) e = array_typed ds scope (as_array d) all within e
 

@@ -6,4 +6,7 @@ pub mod JsonRead
 pub mod ScalarsTyped
 pub mod ReadTyped
 pub mod InputsTyped
+pub mod NumberTexts
 pub mod Examples
+pub mod Exported
+pub mod Samples

@@ -6,7 +6,7 @@ use Rattle.cat_num.specs.Whole.{Fits}
 use Rattle.cat_num.specs.Frac.{IsReduced, gcd, gcd_to, ratio, frac_of}
 use Rattle.cat_num.specs.Reading.{number_after}
 use Rattle.cat_num.proofs.Exported.{number_after-append, lowest_is}
-use Rattle.cat_json.specs.Scalars.{whole_fraction}
+use Rattle.cat_json.specs.WholeNumbers.{whole_fraction}
 
 pub number_after-joined : (xs ys : List ℕ) → number_after 0 (xs ++ ys) ≡ number_after (number_after 0 xs) ys
 number_after-joined xs ys = number_after-append 0 xs ys
@@ -19,7 +19,7 @@ gcd-one n = ap (gcd_to 1 1) (mod-one n)
 
 one_is_reduced : (n : ℤ) → Fits n → IsReduced n 1
 one_is_reduced n h =
-  record { positive = omega arith; den_fits = omega arith; num_fits = h; lowest_terms = gcd-one (unsigned_abs n) }
+    record { positive = omega arith; den_fits = omega arith; num_fits = h; lowest_terms = gcd-one (unsigned_abs n) }
 
 -- a whole number is itself, over 1
 pub whole-over_one : (n : ℤ) → Fits n → frac_of n (pos 1) ≡ Ok (whole_fraction n)

@@ -17,25 +17,34 @@ use Rattle.cat_json.specs.declared.refusal.Refusal.{Refusal}
 use Rattle.cat_json.specs.declared.refusal.InputRefusal.{InputRefusal}
 use Rattle.cat_json.specs.declared.refusal.InputRefusal.TheVariants.{NotJson, Missing, Extra, WrongForm, OutOfRange}
 use Rattle.cat_json.specs.Paths.{Reading, refused, made_of, ahead, path_text}
-use Rattle.cat_json.specs.Reads.{Reader, with_no_others, member_in, read_as, data_members}
+use Rattle.cat_json.specs.Reads.{Reader, member_in, read_as, data_members}
+use Rattle.cat_json.specs.Keys.{with_no_others}
 
 -- what an input gives
 abbrev pub Input : Type 0
 Input = List (Option Value)
 
--- a variable that may be given, where it is
-abbrev pub optional_in : (List ℕ → Option Reader) → ItemDecl → Option Reader → Reading (Option Value)
-optional_in members i None = Ok None
-optional_in members i (Some reader) = made_of Some (member_in members i.name i.ty)
+-- a variable that must be given
+abbrev pub given_in : (List ℕ → Option Reader) → ItemDecl → Reading (Option Value)
+given_in members i = made_of Some (member_in members i.name i.ty)
+
+-- what is read of a member, where there is one
+abbrev pub where_there : Option Reader → Reading (Option Value) → Reading (Option Value)
+where_there None reading = Ok None
+where_there (Some reader) reading = reading
 
 -- a variable that may be given
-abbrev pub given_in : Bool → (List ℕ → Option Reader) → ItemDecl → Reading (Option Value)
-given_in true members i = made_of Some (member_in members i.name i.ty)
-given_in false members i = optional_in members i (members i.name)
+abbrev pub optional_in : (List ℕ → Option Reader) → ItemDecl → Reading (Option Value)
+optional_in members i = where_there (members i.name) (given_in members i)
+
+-- a variable that must be given or may be
+abbrev pub variable_in : Bool → (List ℕ → Option Reader) → ItemDecl → Reading (Option Value)
+variable_in true members i = given_in members i
+variable_in false members i = optional_in members i
 
 -- an input variable is given, a context variable is given or not, and no other item is
 abbrev pub item_in : (List ℕ → Option Reader) → ItemDecl → Reading (Option Value)
-item_in members i = if may_be_given i.kind then given_in (must_be_given i.kind) members i else Ok None
+item_in members i = if may_be_given i.kind then variable_in (must_be_given i.kind) members i else Ok None
 
 -- each item in order
 abbrev pub items_in : (List ℕ → Option Reader) → List ItemDecl → Reading Input
@@ -93,7 +102,7 @@ value_read ds t bytes = read_from (λ d. answered (read_as ds d t)) (json_of byt
 -- the input of a scope that bytes are
 abbrev pub input_read : Decls → ℕ → List ℕ → Result Input InputRefusal
 input_read ds scope bytes = read_from (λ d. answered (input_in ds (items_of (slice_get ds.scopes scope)) d))
-  (json_of bytes)
+    (json_of bytes)
 
 -- an input, or why it is refused, for each element of an array
 abbrev pub each_input : Decls → List ItemDecl → Items → List (Result Input InputRefusal)
@@ -108,7 +117,7 @@ array_inputs ds is (Some items) = Ok (each_input ds is items)
 -- the inputs of a scope that bytes are
 abbrev pub inputs_read : Decls → ℕ → List ℕ → Result (List (Result Input InputRefusal)) InputRefusal
 inputs_read ds scope bytes = read_from (λ d. array_inputs ds (items_of (slice_get ds.scopes scope)) (as_array d))
-  (json_of bytes)
+    (json_of bytes)
 
 -- each input that is read is well typed for the scope
 unfoldable pub AreWellTyped : Decls → ℕ → List (Result Input InputRefusal) → Type 0

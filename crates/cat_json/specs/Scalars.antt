@@ -1,131 +1,14 @@
--- What JSON is read as numbers, amounts, dates and durations.
-use Rattle.std.specs.Prelude.{ℕ, ◌-◌, ◌*◌, ◌^◌, ◌==◌, nat_le, nat_lt, ℤ, Bool, true, false, ◌&&◌, if◌then◌else◌, List}
-use Rattle.std.specs.Prelude.{[], ◌∷◌, ◌++◌, length, Option, Some, None, option_and_then, Result, Ok, Err, codes}
-use Rattle.std.specs.Prelude.{bytes_eq}
-use Rattle.std.specs.Str.{all_ascii_digits}
-use Rattle.serde_json.specs.Data.{Data}
-use Rattle.serde_json.specs.Find.{as_number, as_integer}
-use Rattle.cat_num.specs.declared.fault.NumFault.{NumFault}
-use Rattle.cat_num.specs.Whole.{fits}
-use Rattle.cat_num.specs.Frac.{Fraction, signed, ratio}
-use Rattle.cat_num.specs.Reading.{Parts, split_at, number_after}
+-- What JSON is read as truth values, fractions, amounts and dates.
+use Rattle.std.specs.Prelude.{if◌then◌else◌}
+use Rattle.std.specs.Prelude.{ℕ, ℤ, Bool, List, Option, Some, None, Result, Ok, Err, codes, bytes_eq, ◌*ℤ◌}
+use Rattle.std.specs.Prelude.{pos}
+use Rattle.cat_num.specs.Frac.{Fraction}
 use Rattle.cat_date.specs.declared.fault.DateFault.{DateFault}
 use Rattle.cat_date.specs.Text.{form_of, day_of_text}
 use Rattle.cat_json.specs.declared.refusal.Reason.TheVariants.{WrongForm, OutOfRange}
-use Rattle.cat_json.specs.Paths.{Reading, refused}
-
--- the whole number of a value that holds one: no float does, and `-0` is a float
-abbrev pub integer_of : Data → Option ℤ
-integer_of d = option_and_then as_integer (as_number d)
-
--- a number from -M to M
-abbrev pub in_bounds : ℤ → Reading ℤ
-in_bounds n = if fits n then Ok n else refused OutOfRange
-
--- a whole number
-abbrev pub whole_in : Option ℤ → Reading ℤ
-whole_in (Some n) = in_bounds n
-whole_in None = refused WrongForm
-
--- n, as a fraction
-abbrev pub whole_fraction : ℤ → Fraction
-whole_fraction n = record { num = n; den = 1 }
-
--- one digit or more
-abbrev pub are_digits : List ℕ → Bool
-are_digits text = nat_lt 0 (length text) && all_ascii_digits text
-
--- at most 19 digits
-abbrev pub are_few : List ℕ → Bool
-are_few digits = nat_le (length digits) 19
-
--- whether a text begins with `-`
-abbrev pub has_minus : List ℕ → Bool
-has_minus [] = false
-has_minus (c ∷ cs) = c == 45
-
--- a text without its `-`
-abbrev pub without_minus : List ℕ → List ℕ
-without_minus [] = []
-without_minus (c ∷ cs) = if c == 45 then cs else c ∷ cs
-
--- the parts of a numeral without its sign
-pub data Numeral : Type 0 where
-  quotient : List ℕ → List ℕ → Numeral
-  pointed : List ℕ → List ℕ → Numeral
-  plain : List ℕ → Numeral
-
--- the parts on both sides of the first point, where there is one
-abbrev pub pointed_or_plain : List ℕ → Parts → Numeral
-pointed_or_plain text None = plain text
-pointed_or_plain text (Some parts) = pointed parts.0 parts.1
-
--- the parts on both sides of the first `/`, where there is one
-abbrev pub numeral_with : List ℕ → Parts → Numeral
-numeral_with text None = pointed_or_plain text (split_at 46 text)
-numeral_with text (Some parts) = quotient parts.0 parts.1
-
--- the parts of a text without its sign
-abbrev pub numeral_of : List ℕ → Numeral
-numeral_of text = numeral_with text (split_at 47 text)
-
--- `d+`, `d+.d+` with at most so many places, or `d+/d+`
-abbrev pub has_decimal_form : Numeral → Bool
-has_decimal_form (quotient num den) = are_digits num && are_digits den
-has_decimal_form (pointed whole places) = are_digits whole && are_digits places && nat_le (length places) 9
-has_decimal_form (plain whole) = are_digits whole
-
--- `d+`, `d+.d` or `d+.dd`
-abbrev pub has_money_form : Numeral → Bool
-has_money_form (quotient num den) = false
-has_money_form (pointed whole places) = are_digits whole && are_digits places && nat_le (length places) 2
-has_money_form (plain whole) = are_digits whole
-
--- no part has more than 19 digits
-abbrev pub has_few_digits : Numeral → Bool
-has_few_digits (quotient num den) = are_few num && are_few den
-has_few_digits (pointed whole places) = are_few whole
-has_few_digits (plain whole) = are_few whole
-
--- the cents of a numeral
-abbrev pub cents_of : Numeral → ℕ
-cents_of (quotient num den) = 0
-cents_of (pointed whole places) = number_after 0 (whole ++ places) * 10 ^ (2 - length places)
-cents_of (plain whole) = number_after 0 whole * 100
-
--- the fraction of a numeral, by its parts
-abbrev pub fraction_of : Bool → Numeral → Result Fraction NumFault
-fraction_of negative (quotient num den) = ratio (signed negative (number_after 0 num)) (number_after 0 den)
-fraction_of negative (pointed whole places) =
-  ratio (signed negative (number_after 0 (whole ++ places))) (10 ^ length places)
-fraction_of negative (plain whole) = ratio (signed negative (number_after 0 whole)) 1
-
--- a fraction, where it fits
-abbrev pub fitting : Result Fraction NumFault → Reading Fraction
-fitting (Ok f) = Ok f
-fitting (Err fault) = refused OutOfRange
-
--- what a numeral of that form is read as, where its parts are short
-abbrev pub if_numeral : {A : Type 0} → Bool → Bool → Reading A → Reading A
-if_numeral false few reading = refused WrongForm
-if_numeral true false reading = refused OutOfRange
-if_numeral true true reading = reading
-
--- the fraction that a numeral stands for
-abbrev pub numeral_fraction : Bool → Numeral → Reading Fraction
-numeral_fraction negative n = if_numeral (has_decimal_form n) (has_few_digits n) (fitting (fraction_of negative n))
-
--- the cents that a numeral stands for
-abbrev pub numeral_cents : Bool → Numeral → Reading ℤ
-numeral_cents negative n = if_numeral (has_money_form n) (has_few_digits n) (in_bounds (signed negative (cents_of n)))
-
--- the fraction that a text stands for
-unfoldable pub fraction_in : List ℕ → Reading Fraction
-fraction_in text = numeral_fraction (has_minus text) (numeral_of (without_minus text))
-
--- the cents of the amount that a text stands for
-unfoldable pub cents_in : List ℕ → Reading ℤ
-cents_in text = numeral_cents (has_minus text) (numeral_of (without_minus text))
+use Rattle.cat_json.specs.Paths.{Reading, refused, made_of}
+use Rattle.cat_json.specs.WholeNumbers.{in_bounds, whole_fraction}
+use Rattle.cat_json.specs.Numerals.{text_fraction, text_cents}
 
 -- a day, where there is one
 abbrev pub existing : Result ℤ DateFault → Reading ℤ
@@ -133,5 +16,25 @@ existing (Ok day) = Ok day
 existing (Err fault) = refused OutOfRange
 
 -- the day that a text names
-unfoldable pub day_in : List ℕ → Reading ℤ
-day_in text = if bytes_eq (form_of text) (codes "0000-00-00") then existing (day_of_text text) else refused WrongForm
+unfoldable pub text_day : List ℕ → Reading ℤ
+text_day text = if bytes_eq (form_of text) (codes "0000-00-00") then existing (day_of_text text) else refused WrongForm
+
+-- `true` or `false`
+abbrev pub truth_in : Option Bool → Reading Bool
+truth_in (Some truth) = Ok truth
+truth_in None = refused WrongForm
+
+-- what a text is read as, where there is one
+abbrev pub text_in : {A : Type 0} → (List ℕ → Reading A) → Option (List ℕ) → Reading A
+text_in read (Some text) = read text
+text_in read None = refused WrongForm
+
+-- a whole number or a text
+abbrev pub fraction_in : Option ℤ → Option (List ℕ) → Reading Fraction
+fraction_in (Some n) text = made_of whole_fraction (in_bounds n)
+fraction_in None text = text_in text_fraction text
+
+-- a whole number of units of 100 cents, or a text
+abbrev pub cents_in : Option ℤ → Option (List ℕ) → Reading ℤ
+cents_in (Some n) text = in_bounds (n *ℤ pos 100)
+cents_in None text = text_in text_cents text

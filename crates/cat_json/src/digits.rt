@@ -3,7 +3,7 @@ ghost use Rattle.std.specs.Prelude.{◌≡◌, ◌+◌, ◌*◌, ◌^◌, ◌<�
 ghost use Rattle.std.specs.Option.{option_map};
 ghost use Rattle.std.specs.Str.{all_ascii_digits};
 ghost use Rattle.cat_num.specs.Reading.{split_at, number_after};
-ghost use Rattle.cat_json.specs.Scalars.{are_digits, has_minus, without_minus};
+ghost use Rattle.cat_json.specs.Numerals.{are_digits, has_minus, without_minus};
 
 /// Whether a text is of one digit or more.
 pub(crate) fn are_digits(text: &[u8]) -> bool

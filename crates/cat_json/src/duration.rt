@@ -5,7 +5,8 @@ ghost use Rattle.serde_json.specs.Find.{as_object};
 ghost use Rattle.serde_json.specs.View.{view, members_view};
 ghost use Rattle.cat_value.specs.declared.value.Value.TheVariants as variant;
 ghost use Rattle.cat_json.specs.Paths.{made_of};
-ghost use Rattle.cat_json.specs.Reads.{is_among, unknown_key, part_in, span_of, span_in};
+ghost use Rattle.cat_json.specs.Keys.{is_among, unknown_key};
+ghost use Rattle.cat_json.specs.Spans.{part_in, days_and_months, span_in};
 
 use crate::known::extra;
 use crate::scalar::whole_in;
@@ -23,7 +24,7 @@ pub(crate) fn duration_in(alloc: Global, value: &Json) -> Result<Result<Value, R
     let Some(members) = value.as_object() else {
         return Ok(Err(Refusal::new(alloc, Reason::WrongForm)));
     };
-    match parts_in(alloc, value)? {
+    match days_and_months(alloc, value)? {
         Ok(span) => match other_part(members) {
             Some(key) => Ok(Err(extra(alloc, key)?)),
             None => Ok(Ok(Value::Duration(span))),
@@ -32,8 +33,9 @@ pub(crate) fn duration_in(alloc: Global, value: &Json) -> Result<Result<Value, R
     }
 }
 
-fn parts_in(alloc: Global, value: &Json) -> Result<Result<Span, Refusal>, AllocError>
-    ensures { IfOk result (λ read. read ≡ span_of (part_in (codes "days") (view value.now)) (part_in (codes "months") (view value.now))) }
+fn days_and_months(alloc: Global, value: &Json) -> Result<Result<Span, Refusal>, AllocError>
+    ensures { IfOk result (λ read. read ≡ days_and_months (part_in (codes "days") (view value.now))
+        (part_in (codes "months") (view value.now))) }
 {
     let days = match part_in(alloc, value, "days")? {
         Ok(days) => days,
@@ -63,7 +65,8 @@ fn part_in(alloc: Global, value: &Json, name: &str) -> Result<Result<Whole, Refu
 
 /// The first key, in byte order, that is neither `days` nor `months`.
 fn other_part(members: &Map<String, Json>) -> Option<&str>
-    ensures { option_map (λ key. key.now) result ≡ unknown_key (is_among (codes "days" ∷ codes "months" ∷ [])) (members_view members.now.entries) }
+    ensures { option_map (λ key. key.now) result ≡
+        unknown_key (is_among (codes "days" ∷ codes "months" ∷ [])) (members_view members.now.entries) }
 {
     for (key, _) in members.iter() {
         if !is_part(key.as_str()) {

@@ -34,8 +34,10 @@ pub fn read_value(
     decls: &Decls,
 ) -> Result<Value, InputRefusal>
     ensures read { IfOk result (λ value. inputs.value_read decls.now ty.now bytes.now ≡ Ok value) }
-    ensures refused { IfErr result (λ refusal. refusal ≢ Memory → inputs.value_read decls.now ty.now bytes.now ≡ Err refusal) }
-    ensures typed { IfOk result (λ value. IsTrue (is_type decls.now ty.now) → IsTrue (has_type decls.now value ty.now)) }
+    ensures refused { IfErr result (λ refusal. refusal ≢ Memory → inputs.value_read decls.now ty.now bytes.now ≡
+        Err refusal) }
+    ensures typed { IfOk result (λ value. IsTrue (is_type decls.now ty.now) →
+        IsTrue (has_type decls.now value ty.now)) }
 {
     let json = json_of(alloc, bytes)?;
     match read_at(alloc, &json, ty, decls, MOST_NESTING)? {
@@ -53,7 +55,8 @@ pub fn read_input(
 ) -> Result<Input, InputRefusal>
     requires { scope < length decls.now.scopes }
     ensures read { IfOk result (λ input. inputs.input_read decls.now scope bytes.now ≡ Ok input) }
-    ensures refused { IfErr result (λ refusal. refusal ≢ Memory → inputs.input_read decls.now scope bytes.now ≡ Err refusal) }
+    ensures refused { IfErr result (λ refusal. refusal ≢ Memory → inputs.input_read decls.now scope bytes.now ≡
+        Err refusal) }
     ensures typed { IfOk result (λ input. IsWellTyped decls.now scope input) }
 {
     let json = json_of(alloc, bytes)?;
@@ -73,7 +76,8 @@ pub fn read_inputs(
 ) -> Result<ReadInputs, InputRefusal>
     requires { scope < length decls.now.scopes }
     ensures read { IfOk result (λ all. inputs.inputs_read decls.now scope bytes.now ≡ Ok all) }
-    ensures refused { IfErr result (λ refusal. refusal ≢ Memory → inputs.inputs_read decls.now scope bytes.now ≡ Err refusal) }
+    ensures refused { IfErr result (λ refusal. refusal ≢ Memory → inputs.inputs_read decls.now scope bytes.now ≡
+        Err refusal) }
     ensures typed { IfOk result (λ all. inputs.AreWellTyped decls.now scope all) }
 {
     let json = json_of(alloc, bytes)?;
@@ -89,7 +93,8 @@ pub fn read_inputs(
 fn json_of(alloc: Global, bytes: &[u8]) -> Result<Json, InputRefusal>
     ensures read { IfOk result (λ json. inputs.json_of bytes.now ≡ Some (view json)) }
     ensures nests { IfOk result (λ json. nesting (view json) ≤ max_depth) }
-    ensures refused { IfErr result (λ refusal. refusal ≢ Memory → (refusal ≡ NotJson) × (inputs.json_of bytes.now ≡ None)) }
+    ensures refused { IfErr result (λ refusal. refusal ≢ Memory →
+        (refusal ≡ NotJson) × (inputs.json_of bytes.now ≡ None)) }
 {
     match Json::from_slice(alloc, bytes) {
         Ok(json) => Ok(json),
@@ -197,7 +202,7 @@ fn optional_in(
     decls: &Decls,
 ) -> Result<Result<Option<Value>, Refusal>, AllocError>
     requires { nesting (view json.now) ≤ 127 }
-    ensures { IfOk result (λ read. read ≡ inputs.given_in false (data_members decls.now (view json.now)) item.now) }
+    ensures { IfOk result (λ read. read ≡ inputs.optional_in (data_members decls.now (view json.now)) item.now) }
 {
     match json.get(item.name.as_str()) {
         Some(_) => given_in(alloc, json, item, decls),
@@ -212,7 +217,7 @@ fn given_in(
     decls: &Decls,
 ) -> Result<Result<Option<Value>, Refusal>, AllocError>
     requires { nesting (view json.now) ≤ 127 }
-    ensures { IfOk result (λ read. read ≡ inputs.given_in true (data_members decls.now (view json.now)) item.now) }
+    ensures { IfOk result (λ read. read ≡ inputs.given_in (data_members decls.now (view json.now)) item.now) }
 {
     match member_in(
         alloc,

@@ -9,7 +9,7 @@ ghost use Rattle.cat_json.specs.declared.refusal.Reason.TheVariants.{Extra};
 ghost use Rattle.cat_json.specs.declared.step.Step.TheVariants.{Name};
 ghost use Rattle.cat_value.specs.Inputs.{may_be_given};
 ghost use Rattle.cat_json.specs.InputsRead.{given_names};
-ghost use Rattle.cat_json.specs.Reads.{is_among, unknown_key, field_names};
+ghost use Rattle.cat_json.specs.Keys.{is_among, unknown_key, field_names};
 
 use crate::{Reason, Refusal, Step};
 use cat_pos::Text;
@@ -27,14 +27,16 @@ pub(crate) fn unknown_field<'a>(
     members: &'a Map<String, Json>,
     fields: &Fields,
 ) -> Result<Option<&'a str>, AllocError>
-    ensures { IfOk result (λ key. option_map (λ k. k.now) key ≡ unknown_key (is_among (field_names fields.now)) (members_view members.now.entries)) }
+    ensures { IfOk result (λ key. option_map (λ k. k.now) key ≡
+        unknown_key (is_among (field_names fields.now)) (members_view members.now.entries)) }
 {
     let known = field_names(alloc, fields)?;
     Ok(unknown_key(members, &known))
 }
 
 fn field_names<'a>(alloc: Global, fields: &'a Fields) -> Result<Known<'a>, AllocError>
-    ensures { IfOk result (λ known. (name : List ℕ) → is_some (get_by (λ k. slice_cmp nat_cmp name k.now) known) ≡ is_among (field_names fields.now) name) }
+    ensures { IfOk result (λ known. (name : List ℕ) → is_some (get_by (λ k. slice_cmp nat_cmp name k.now) known) ≡
+        is_among (field_names fields.now) name) }
 {
     let mut known = BTreeMap::new(alloc);
     for field in fields.as_slice() {
@@ -49,14 +51,16 @@ pub(crate) fn unknown_variable<'a>(
     members: &'a Map<String, Json>,
     items: &ItemDecls,
 ) -> Result<Option<&'a str>, AllocError>
-    ensures { IfOk result (λ key. option_map (λ k. k.now) key ≡ unknown_key (is_among (given_names items.now)) (members_view members.now.entries)) }
+    ensures { IfOk result (λ key. option_map (λ k. k.now) key ≡
+        unknown_key (is_among (given_names items.now)) (members_view members.now.entries)) }
 {
     let known = given_names(alloc, items)?;
     Ok(unknown_key(members, &known))
 }
 
 fn given_names<'a>(alloc: Global, items: &'a ItemDecls) -> Result<Known<'a>, AllocError>
-    ensures { IfOk result (λ known. (name : List ℕ) → is_some (get_by (λ k. slice_cmp nat_cmp name k.now) known) ≡ is_among (given_names items.now) name) }
+    ensures { IfOk result (λ known. (name : List ℕ) → is_some (get_by (λ k. slice_cmp nat_cmp name k.now) known) ≡
+        is_among (given_names items.now) name) }
 {
     let mut known = BTreeMap::new(alloc);
     for item in items.as_slice() {
@@ -79,7 +83,9 @@ fn may_be_given(kind: Kind) -> bool
 
 /// The first key, in byte order, that is not known.
 fn unknown_key<'a>(members: &'a Map<String, Json>, known: &Known<'_>) -> Option<&'a str>
-    ensures { option_map (λ key. key.now) result ≡ unknown_key (λ name. is_some (get_by (λ k. slice_cmp nat_cmp name k.now) known.now)) (members_view members.now.entries) }
+    ensures { option_map (λ key. key.now) result ≡
+        unknown_key (λ name. is_some (get_by (λ k. slice_cmp nat_cmp name k.now) known.now))
+        (members_view members.now.entries) }
 {
     for (key, _) in members.iter() {
         if !known.contains_key(key.as_str()) {

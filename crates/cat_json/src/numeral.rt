@@ -3,7 +3,9 @@ ghost use Rattle.std.specs.Prelude.{◌≡◌, ◌-◌, ◌++◌, ◌^◌, ◌<�
 ghost use Rattle.cat_num.specs.Frac.{signed, ratio};
 ghost use Rattle.cat_num.specs.Reading.{number_after, split_at};
 ghost use Rattle.cat_json.specs.Paths.{of_whole};
-ghost use Rattle.cat_json.specs.Scalars.{quotient, pointed, plain, are_digits, are_few, cents_of, numeral_fraction, numeral_cents, fraction_in, cents_in, fitting, in_bounds, pointed_or_plain};
+ghost use Rattle.cat_json.specs.Numerals.{quotient, pointed, plain, are_digits, are_few, cents_of, numeral_fraction};
+ghost use Rattle.cat_json.specs.Numerals.{numeral_cents, text_fraction, text_cents, fitting, pointed_or_plain};
+ghost use Rattle.cat_json.specs.WholeNumbers.{in_bounds};
 
 use crate::Reason;
 use crate::digits::{are_digits, has_minus, number_after, split, without_minus};
@@ -16,20 +18,20 @@ const MOST_DIGITS: usize = 19;
 const MOST_PLACES: usize = 9;
 
 /// The fraction that a text stands for, as `-3`, `0.25` or `1/3`.
-#[tactic(auto, unfolding(crate::specs::Scalars::fraction_in))]
-pub(crate) fn fraction_in(text: &str) -> Result<Frac, Reason>
-    ensures { of_whole result ≡ fraction_in text.now }
+#[tactic(auto, unfolding(crate::specs::Numerals::text_fraction))]
+pub(crate) fn text_fraction(text: &str) -> Result<Frac, Reason>
+    ensures { of_whole result ≡ text_fraction text.now }
 {
     let text = text.as_bytes();
     let negative = has_minus(text);
     let digits = without_minus(text);
     match split(digits, b'/') {
         Some((num, den)) => quotient_in(negative, num, den),
-        None => decimal_in(negative, digits),
+        None => pointed_or_plain(negative, digits),
     }
 }
 
-fn decimal_in(negative: bool, digits: &[u8]) -> Result<Frac, Reason>
+fn pointed_or_plain(negative: bool, digits: &[u8]) -> Result<Frac, Reason>
     ensures { of_whole result ≡ numeral_fraction negative (pointed_or_plain digits.now (split_at 46 digits.now)) }
 {
     match split(digits, b'.') {
@@ -100,9 +102,9 @@ fn with_sign(negative: bool, size: u128) -> i128
 }
 
 /// The amount that a text stands for, as `-3`, `3.5` or `3.50`.
-#[tactic(auto, unfolding(crate::specs::Scalars::cents_in))]
-pub(crate) fn amount_in(text: &str) -> Result<Money, Reason>
-    ensures { of_whole result ≡ cents_in text.now }
+#[tactic(auto, unfolding(crate::specs::Numerals::text_cents))]
+pub(crate) fn text_cents(text: &str) -> Result<Money, Reason>
+    ensures { of_whole result ≡ text_cents text.now }
 {
     let text = text.as_bytes();
     let negative = has_minus(text);

@@ -43,7 +43,7 @@ pub(crate) fn read_at(
         Ty::Duration => duration_in(alloc, value),
         Ty::List(element) => list_in(alloc, value, element.get(), decls, depth),
         Ty::Structure(structure) => structure_in(alloc, value, *structure, decls, depth),
-        Ty::Enumeration(enumeration) => case_in(alloc, value, *enumeration, decls, depth),
+        Ty::Enumeration(enumeration) => enumeration_in(alloc, value, *enumeration, decls, depth),
     }
 }
 
@@ -67,7 +67,8 @@ fn list_in(
     depth: u32,
 ) -> Result<Result<Value, Refusal>, AllocError>
     requires { nesting (view value.now) ≤ depth }
-    ensures { IfOk result (λ read. read ≡ reads.list_in (as_array (view value.now)) (data_elements decls.now (view value.now)) element.now) }
+    ensures { IfOk result (λ read. read ≡ reads.list_in (as_array (view value.now))
+        (data_elements decls.now (view value.now)) element.now) }
 {
     let Some(elements) = value.as_array() else {
         return Ok(Err(Refusal::new(alloc, Reason::WrongForm)));
@@ -91,7 +92,8 @@ fn elements_in(
     depth: u32,
 ) -> Result<Result<Values, Refusal>, AllocError>
     requires { items_depth (items_view elements.now) ≤ depth }
-    ensures { IfOk result (λ read. read ≡ reads.elements_in 0 (elements_of decls.now (items_view elements.now)) ty.now) }
+    ensures { IfOk result (λ read. read ≡ reads.elements_in 0 (elements_of decls.now (items_view elements.now))
+        ty.now) }
 {
     let mut values = List::new(alloc);
     for (k, element) in elements.iter().enumerate() {
@@ -113,7 +115,8 @@ fn structure_in(
     depth: u32,
 ) -> Result<Result<Value, Refusal>, AllocError>
     requires { nesting (view value.now) ≤ depth }
-    ensures { IfOk result (λ read. read ≡ reads.structure_in (fields_of decls.now structure) (as_object (view value.now)) (data_members decls.now (view value.now))) }
+    ensures { IfOk result (λ read. read ≡ reads.structure_in (fields_of decls.now structure)
+        (as_object (view value.now)) (data_members decls.now (view value.now))) }
 {
     let Some(structure) = decls.structures.get(structure as usize) else {
         return Ok(Err(Refusal::new(alloc, Reason::WrongForm)));
@@ -121,7 +124,7 @@ fn structure_in(
     let Some(members) = value.as_object() else {
         return Ok(Err(Refusal::new(alloc, Reason::WrongForm)));
     };
-    match fields_in(alloc, value, &structure.fields, decls, depth)? {
+    match field_values(alloc, value, &structure.fields, decls, depth)? {
         Ok(values) => match unknown_field(alloc, members, &structure.fields)? {
             None => Ok(Ok(Value::Structure(values))),
             Some(key) => Ok(Err(extra(alloc, key)?)),
@@ -131,7 +134,7 @@ fn structure_in(
 }
 
 #[cycle(read)]
-fn fields_in(
+fn field_values(
     alloc: Global,
     value: &Json,
     fields: &Fields,
@@ -139,7 +142,7 @@ fn fields_in(
     depth: u32,
 ) -> Result<Result<Values, Refusal>, AllocError>
     requires { nesting (view value.now) ≤ depth }
-    ensures { IfOk result (λ read. read ≡ reads.fields_in (data_members decls.now (view value.now)) fields.now) }
+    ensures { IfOk result (λ read. read ≡ reads.field_values (data_members decls.now (view value.now)) fields.now) }
 {
     let mut values = List::new(alloc);
     for field in fields.as_slice() {
@@ -179,7 +182,7 @@ pub(crate) fn member_in(
 }
 
 #[cycle(read)]
-fn case_in(
+fn enumeration_in(
     alloc: Global,
     value: &Json,
     enumeration: u32,
@@ -187,7 +190,8 @@ fn case_in(
     depth: u32,
 ) -> Result<Result<Value, Refusal>, AllocError>
     requires { nesting (view value.now) ≤ depth }
-    ensures { IfOk result (λ read. read ≡ reads.case_in (slice_get decls.now.enumerations enumeration) (as_str (view value.now)) (as_object (view value.now)) (data_members decls.now (view value.now))) }
+    ensures { IfOk result (λ read. read ≡ reads.enumeration_in (slice_get decls.now.enumerations enumeration)
+        (as_str (view value.now)) (as_object (view value.now)) (data_members decls.now (view value.now))) }
 {
     declarations_are_sound(decls);
     let Some(enumeration) = decls.enumerations.get(enumeration as usize) else {
@@ -224,7 +228,8 @@ fn only_case(
 ) -> Result<Result<Value, Refusal>, AllocError>
     requires nests { nesting (view value.now) ≤ depth }
     requires counted { length cases.now < ENTRIES_BOUND }
-    ensures { IfOk result (λ read. read ≡ reads.only_case (data_members decls.now (view value.now)) cases.now (only_key (as_object (view value.now)))) }
+    ensures { IfOk result (λ read. read ≡ reads.only_case (data_members decls.now (view value.now)) cases.now
+        (only_key (as_object (view value.now)))) }
 {
     let Some(name) = only_key(value) else {
         return Ok(Err(Refusal::new(alloc, Reason::WrongForm)));
@@ -250,7 +255,8 @@ fn full_case(
     depth: u32,
 ) -> Result<Result<Value, Refusal>, AllocError>
     requires { nesting (view value.now) ≤ depth }
-    ensures { IfOk result (λ read. read ≡ reads.full_case (data_members decls.now (view value.now)) name.now (Some (number, Some content.now))) }
+    ensures { IfOk result (λ read. read ≡ reads.full_case (data_members decls.now (view value.now)) name.now
+        (Some (number, Some content.now))) }
 {
     match member_in(alloc, value, name, content, decls, depth)? {
         Ok(content) => {

@@ -6,11 +6,12 @@ ghost use Rattle.serde_json.specs.Find.{as_bool, as_str};
 ghost use Rattle.cat_date.specs.Text.{form_of};
 ghost use Rattle.cat_value.specs.declared.value.Value.TheVariants as variant;
 ghost use Rattle.cat_json.specs.Paths.{of_whole, made_of};
-ghost use Rattle.cat_json.specs.Scalars.{integer_of, in_bounds, whole_in, whole_fraction, fraction_in, cents_in, day_in};
-ghost use Rattle.cat_json.specs.Reads.{truth_in, text_in, decimal_in, money_in};
+ghost use Rattle.cat_json.specs.WholeNumbers.{integer_of, in_bounds, whole_in, whole_fraction};
+ghost use Rattle.cat_json.specs.Numerals.{text_fraction, text_cents};
+ghost use Rattle.cat_json.specs.Scalars.{text_day, truth_in, text_in, fraction_in, cents_in};
 
 use crate::Reason;
-use crate::numeral::{amount, amount_in, fraction_in};
+use crate::numeral::{amount, text_cents, text_fraction};
 use cat_date::{Day, read_day};
 use cat_num::{Frac, Money, Whole};
 use cat_value::Value;
@@ -35,22 +36,24 @@ pub(crate) fn integer_in(value: &Json) -> Result<Value, Reason>
 }
 
 pub(crate) fn decimal_in(value: &Json) -> Result<Value, Reason>
-    ensures { of_whole result ≡ made_of variant.Decimal (decimal_in (integer_of (view value.now)) (as_str (view value.now))) }
+    ensures { of_whole result ≡ made_of variant.Decimal
+        (fraction_in (integer_of (view value.now)) (as_str (view value.now))) }
 {
-    Ok(Value::Decimal(frac_in(value)?))
+    Ok(Value::Decimal(fraction_in(value)?))
 }
 
 pub(crate) fn money_in(value: &Json) -> Result<Value, Reason>
-    ensures { of_whole result ≡ made_of variant.Money (money_in (integer_of (view value.now)) (as_str (view value.now))) }
+    ensures { of_whole result ≡ made_of variant.Money
+        (cents_in (integer_of (view value.now)) (as_str (view value.now))) }
 {
     Ok(Value::Money(cents_in(value)?))
 }
 
 pub(crate) fn date_in(value: &Json) -> Result<Value, Reason>
-    ensures { of_whole result ≡ made_of variant.Date (text_in day_in (as_str (view value.now))) }
+    ensures { of_whole result ≡ made_of variant.Date (text_in text_day (as_str (view value.now))) }
 {
     match value.as_str() {
-        Some(text) => Ok(Value::Date(day_in(text)?)),
+        Some(text) => Ok(Value::Date(text_day(text)?)),
         None => Err(Reason::WrongForm),
     }
 }
@@ -81,19 +84,19 @@ fn in_bounds(number: i128) -> Result<Whole, Reason>
     }
 }
 
-fn frac_in(value: &Json) -> Result<Frac, Reason>
-    ensures { of_whole result ≡ decimal_in (integer_of (view value.now)) (as_str (view value.now)) }
+fn fraction_in(value: &Json) -> Result<Frac, Reason>
+    ensures { of_whole result ≡ fraction_in (integer_of (view value.now)) (as_str (view value.now)) }
 {
     match integer_of(value) {
-        Some(number) => whole_fraction(number),
+        Some(number) => bounded_fraction(number),
         None => match value.as_str() {
-            Some(text) => fraction_in(text),
+            Some(text) => text_fraction(text),
             None => Err(Reason::WrongForm),
         },
     }
 }
 
-fn whole_fraction(number: i128) -> Result<Frac, Reason>
+fn bounded_fraction(number: i128) -> Result<Frac, Reason>
     ensures { of_whole result ≡ made_of whole_fraction (in_bounds number) }
 {
     let number = in_bounds(number)?;
@@ -104,12 +107,12 @@ fn whole_fraction(number: i128) -> Result<Frac, Reason>
 }
 
 fn cents_in(value: &Json) -> Result<Money, Reason>
-    ensures { of_whole result ≡ money_in (integer_of (view value.now)) (as_str (view value.now)) }
+    ensures { of_whole result ≡ cents_in (integer_of (view value.now)) (as_str (view value.now)) }
 {
     match integer_of(value) {
         Some(units) => units_in(units),
         None => match value.as_str() {
-            Some(text) => amount_in(text),
+            Some(text) => text_cents(text),
             None => Err(Reason::WrongForm),
         },
     }
@@ -125,9 +128,9 @@ fn units_in(units: i128) -> Result<Money, Reason>
     }
 }
 
-#[tactic(auto, unfolding(crate::specs::Scalars::day_in))]
-fn day_in(text: &str) -> Result<Day, Reason>
-    ensures { of_whole result ≡ day_in text.now }
+#[tactic(auto, unfolding(crate::specs::Scalars::text_day))]
+fn text_day(text: &str) -> Result<Day, Reason>
+    ensures { of_whole result ≡ text_day text.now }
 {
     let text = text.as_bytes();
     if !has_date_form(text) {

@@ -1,6 +1,6 @@
 use Rattle.std.proofs.Common.{◌≡◌, [], ◌∷◌, codes}
 use Rattle.serde_json.specs.View.{members_view}
-use Rattle.cat_json.specs.Reads.{is_among, unknown_key}
+use Rattle.cat_json.specs.Keys.{is_among, unknown_key}
 use Rattle.cat_json.proofs.duration.other_part.Given as goal
 
 abbrev pub invariant-loop-key : goal.invariant-loop-key

@@ -8,5 +8,5 @@ abbrev pub invariant-loop-element : goal.invariant-loop-element
 invariant-loop-element l = record {
   nests : items_depth (items_view (drop l.element-index l.elements)) ≤ 127;
   made : l.inputs ++ each_input l.decls l.items (items_view (drop l.element-index l.elements)) ≡ each_input l.decls
-    l.items (items_view l.elements);
+      l.items (items_view l.elements);
 }

@@ -5,4 +5,4 @@ use Rattle.cat_json.proofs.input.read_inputs.Goals as goal
 pub returns-clause-typed : goal.returns-clause-typed
 returns-clause-typed c =
     inputs_read-typed c.args.decls.now c.args.scope c.args.bytes.now c.in_ok-each_input.field-0 (search rules)
-      (search rules)
+    (search rules)

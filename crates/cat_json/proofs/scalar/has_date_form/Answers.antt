@@ -8,9 +8,9 @@ returns-then-text-ne10 c = sym (bytes_eq-length c.args.text.now c.if-text-ne10.t
 pub returns-then-form-i : goal.returns-then-form-i
 returns-then-form-i c =
     sym (form_other c.args.text.now c.loop-i.i _ c.loop-i-test.true (omega arith) c.form.ensures c.if-form-i.true)
-      ∙ c.loop-i.invariant
+    ∙ c.loop-i.invariant
 
 pub loop-i-preserved : goal.loop-i-preserved
 loop-i-preserved c =
     form_same c.args.text.now c.loop-i.i _ c.loop-i-test.true (omega arith) c.form.ensures c.if-form-i.false
-      ∙ c.loop-i.invariant
+    ∙ c.loop-i.invariant

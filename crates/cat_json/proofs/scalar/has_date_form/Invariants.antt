@@ -5,4 +5,4 @@ use Rattle.cat_json.proofs.scalar.has_date_form.Given as goal
 -- the rest decides
 abbrev pub invariant-loop-i : goal.invariant-loop-i
 invariant-loop-i l = bytes_eq (form_of (drop l.i l.text)) (drop l.i (codes "0000-00-00")) ≡ bytes_eq (form_of l.text)
-  (codes "0000-00-00")
+    (codes "0000-00-00")
