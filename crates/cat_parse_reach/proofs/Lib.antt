@@ -4,3 +4,4 @@ pub mod Rows
 pub mod Meeting
 pub mod Reading
 pub mod Calls
+pub mod ReachSamples
