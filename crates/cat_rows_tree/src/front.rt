@@ -1,0 +1,170 @@
+//! What stands in front of the parts of a node: its form, its own words, and its position.
+
+use crate::writer::{Writer, Written};
+use cat_date::number;
+use cat_num::DecimalLiteral;
+use cat_pos::Pos;
+use cat_tree::{Base, CaseName, Literal, Name, Node, Pattern, Type};
+use std::fmt::Debug;
+
+pub fn front(out: &mut Writer, node: &Node) -> Written {
+    match node {
+        Node::Literal(literal, pos) => literal_front(out, literal, *pos),
+        Node::Name(name) => name_front(out, "(", name),
+        Node::Case(case) => case_front(out, "Case(", case),
+        Node::Parens(pos, _) => form_front(out, "Parens(", *pos),
+        Node::Field(_, name) => name_front(out, "Field(", name),
+        Node::Prefixed(prefix, pos, _) => value_front(out, prefix, *pos),
+        Node::Sum(pos, ty, _) => sum_front(out, *pos, ty),
+        Node::Content(case, _) => case_front(out, "Content(", case),
+        Node::Call(name, _) => name_front(out, "Call(", name),
+        Node::Binary(operator, pos, _, _) => value_front(out, operator, *pos),
+        Node::Test(_, pos, case) => test_front(out, *pos, case),
+        Node::List(pos, _) => form_front(out, "List(", *pos),
+        Node::Structure(name, _) => name_front(out, "Structure(", name),
+        Node::ScopeCall(pos, scope, _, output) => names_front(
+            out,
+            "ScopeCall(",
+            *pos,
+            scope,
+            output,
+        ),
+        Node::If(pos, _, _, _) => form_front(out, "If(", *pos),
+        Node::Match(pos, _, _) => form_front(out, "Match(", *pos),
+        Node::Each(form, pos, name, _, _) => each_front(out, form, *pos, name),
+        Node::Combine(pos, name, _, held, _, _) => names_front(out, "Combine(", *pos, name, held),
+    }
+}
+
+fn form_front(out: &mut Writer, form: &str, pos: Pos) -> Written {
+    out.word(form)?;
+    out.at(pos)
+}
+
+fn value_front<T: Debug>(out: &mut Writer, form: &T, pos: Pos) -> Written {
+    out.word("(")?;
+    out.value(form)?;
+    out.at(pos)
+}
+
+fn name_front(out: &mut Writer, form: &str, name: &Name) -> Written {
+    out.word(form)?;
+    write_name(out, name)
+}
+
+fn names_front(out: &mut Writer, form: &str, pos: Pos, one: &Name, two: &Name) -> Written {
+    name_front(out, form, one)?;
+    write_name(out, two)?;
+    out.at(pos)
+}
+
+fn each_front<T: Debug>(out: &mut Writer, form: &T, pos: Pos, name: &Name) -> Written {
+    out.word("(")?;
+    out.value(form)?;
+    write_name(out, name)?;
+    out.at(pos)
+}
+
+fn case_front(out: &mut Writer, form: &str, case: &CaseName) -> Written {
+    out.word(form)?;
+    write_case(out, case)
+}
+
+fn test_front(out: &mut Writer, pos: Pos, case: &CaseName) -> Written {
+    case_front(out, "Test(", case)?;
+    out.at(pos)
+}
+
+fn sum_front(out: &mut Writer, pos: Pos, ty: &Type) -> Written {
+    out.word("Sum(")?;
+    out.value(&ty.lists)?;
+    write_base(out, &ty.base)?;
+    out.mark_at(ty.pos)?;
+    out.at(pos)
+}
+
+fn literal_front(out: &mut Writer, literal: &Literal, pos: Pos) -> Written {
+    out.word("(")?;
+    write_literal(out, literal)?;
+    out.at(pos)
+}
+
+pub fn write_name(out: &mut Writer, name: &Name) -> Written {
+    out.word(name.text.as_str())?;
+    out.mark_at(name.pos)
+}
+
+fn write_case(out: &mut Writer, case: &CaseName) -> Written {
+    match case {
+        CaseName::Bare(name) => name_front(out, "Bare(", name)?,
+        CaseName::Qualified(owner, name) => {
+            name_front(out, "Qualified(", owner)?;
+            write_name(out, name)?;
+        }
+    }
+    out.mark(")")
+}
+
+pub fn write_pattern(out: &mut Writer, pattern: &Pattern) -> Written {
+    match pattern {
+        Pattern::Anything => out.word("Anything"),
+        Pattern::Case(case, name) => {
+            case_front(out, "Case(", case)?;
+            write_bound(out, name)?;
+            out.mark(")")
+        }
+    }
+}
+
+/// The name that a pattern gives to the content of its case.
+fn write_bound(out: &mut Writer, name: &Option<Name>) -> Written {
+    match name {
+        None => out.word("None"),
+        Some(name) => {
+            name_front(out, "Some(", name)?;
+            out.mark(")")
+        }
+    }
+}
+
+fn write_base(out: &mut Writer, base: &Base) -> Written {
+    match base {
+        Base::Named(name) => write_with(out, "Named(", name.as_str()),
+        other => out.value(other),
+    }
+}
+
+fn write_literal(out: &mut Writer, literal: &Literal) -> Written {
+    match literal {
+        Literal::Int(whole) => write_value(out, "Int(", &whole.get()),
+        Literal::Dec(decimal) => write_decimal(out, "Dec(", *decimal),
+        Literal::Pct(decimal) => write_decimal(out, "Pct(", *decimal),
+        Literal::Money(money) => write_value(out, "Money(", &money.get()),
+        Literal::Date(day) => write_value(out, "Date(", &number(*day)),
+        Literal::Boolean(truth) => write_value(out, "Boolean(", truth),
+        Literal::Span(count, unit) => write_values(out, "Span(", &count.get(), unit),
+    }
+}
+
+fn write_decimal(out: &mut Writer, form: &str, decimal: DecimalLiteral) -> Written {
+    write_values(out, form, &decimal.digits(), &decimal.places())
+}
+
+fn write_values<T: Debug, U: Debug>(out: &mut Writer, form: &str, one: &T, two: &U) -> Written {
+    out.word(form)?;
+    out.value(one)?;
+    out.value(two)?;
+    out.mark(")")
+}
+
+fn write_value<T: Debug>(out: &mut Writer, form: &str, value: &T) -> Written {
+    out.word(form)?;
+    out.value(value)?;
+    out.mark(")")
+}
+
+fn write_with(out: &mut Writer, form: &str, word: &str) -> Written {
+    out.word(form)?;
+    out.word(word)?;
+    out.mark(")")
+}
