@@ -2,6 +2,10 @@
 #![tactic(auto)]
 
 use cat_rows::{Arguments, Problem};
+use cat_rows_json::{
+    read_input_answer, read_inputs_answer, read_value_answer, write_input_answer,
+    write_value_answer,
+};
 use cat_rows_number::{day_answer, frac_answer, money_answer, span_answer, whole_answer};
 use cat_rows_order::order_answer;
 use cat_rows_source::{chain_answer, gather_answer, weave_answer};
@@ -31,9 +35,14 @@ enum Subject {
     Weave,
     Gather,
     IncludeChain,
+    ReadValue,
+    ReadInput,
+    ReadInputs,
+    WriteValue,
+    WriteInput,
 }
 
-const SUBJECTS: [(&str, Subject); 16] = [
+const SUBJECTS: [(&str, Subject); 21] = [
     ("frac", Subject::Frac),
     ("whole", Subject::Whole),
     ("money", Subject::Money),
@@ -50,6 +59,11 @@ const SUBJECTS: [(&str, Subject); 16] = [
     ("weave", Subject::Weave),
     ("gather", Subject::Gather),
     ("include_chain", Subject::IncludeChain),
+    ("read_value", Subject::ReadValue),
+    ("read_input", Subject::ReadInput),
+    ("read_inputs", Subject::ReadInputs),
+    ("write_value", Subject::WriteValue),
+    ("write_input", Subject::WriteInput),
 ];
 
 /// What the call of the line gives. A comment and an empty line stay as they are.
@@ -84,6 +98,11 @@ fn answer_on(
         Subject::Weave => weave_answer(alloc, given),
         Subject::Gather => gather_answer(alloc, given),
         Subject::IncludeChain => chain_answer(alloc, given),
+        Subject::ReadValue => read_value_answer(alloc, given),
+        Subject::ReadInput => read_input_answer(alloc, given),
+        Subject::ReadInputs => read_inputs_answer(alloc, given),
+        Subject::WriteValue => write_value_answer(alloc, given),
+        Subject::WriteInput => write_input_answer(alloc, given),
     }
 }
 

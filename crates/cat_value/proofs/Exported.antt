@@ -1,8 +1,10 @@
 -- What crates above may cite by path: rewriting and induction, which no clause of a law can give.
 pub use Rattle.cat_value.proofs.Induction.{Each, Within, value_induction}
+pub use Rattle.cat_value.proofs.DependencyEquations.{naming}
 pub use Rattle.cat_value.proofs.Descending.{content_declared, enumeration_low, enumeration_there, fields_declared}
 pub use Rattle.cat_value.proofs.Descending.{found, height_Boolean, height_Date, height_Decimal, height_Duration}
-pub use Rattle.cat_value.proofs.Descending.{height_Integer, height_List, height_Money, list_all_at, structure_low}
+pub use Rattle.cat_value.proofs.Descending.{height_Enumeration, height_Integer, height_List, height_Money}
+pub use Rattle.cat_value.proofs.Descending.{height_Structure, list_all_at, structure_low}
 pub use Rattle.cat_value.proofs.Descending.{structure_there, within}
 pub use Rattle.cat_value.proofs.Equations.{case_is, declared, has_type-levels, has_type_Boolean, has_type_Case}
 pub use Rattle.cat_value.proofs.Equations.{has_type_Date, has_type_Decimal, has_type_Duration, has_type_Integer}

@@ -1,0 +1,86 @@
+-- The structures, enumerations and scopes that inputs are read by. A name that has other than ASCII letters is open.
+use Rattle.std.specs.Prelude.{ℕ, false, List, [], ◌∷◌, Option, None, Some, codes}
+use Rattle.cat_pos.specs.declared.pos.Pos.{Pos}
+use Rattle.cat_value.specs.declared.ty.Ty.{Ty}
+use Rattle.cat_value.specs.declared.ty.Ty.TheVariants as ty
+use Rattle.cat_value.specs.declared.ty.Ty.TheViews as view
+use Rattle.cat_value.specs.declared.declaration.Field.{Field}
+use Rattle.cat_value.specs.declared.declaration.Structure.{Structure}
+use Rattle.cat_value.specs.declared.declaration.Case.{Case}
+use Rattle.cat_value.specs.declared.declaration.Enumeration.{Enumeration}
+use Rattle.cat_value.specs.declared.declaration.Kind.{Kind}
+use Rattle.cat_value.specs.declared.declaration.Kind.TheVariants as kind
+use Rattle.cat_value.specs.declared.declaration.ItemDecl.{ItemDecl}
+use Rattle.cat_value.specs.declared.declaration.Scope.{Scope}
+
+abbrev pub field : List ℕ → Ty → Field
+field name t = record { name = name; ty = t }
+
+abbrev pub case : List ℕ → Option Ty → Case
+case name content = record { name = name; content = content }
+
+abbrev pub start : Pos
+start = record { file = 0; line = 1; column = 1 }
+
+abbrev pub item : List ℕ → Kind → Ty → ItemDecl
+item name k t = record { name = name; pos = start; kind = k; ty = t; condition = false; params = [] }
+
+-- `Pair` and `Home`
+abbrev pub pair : Structure
+pair = record {
+  name = codes "Pair";
+  fields =
+      field (codes "count") ty.Integer ∷ field (codes "flags") (view.List ty.Boolean) ∷ [];
+}
+
+abbrev pub home : List ℕ → Structure
+home share = record {
+  name = codes "Home";
+  fields =
+      field (codes "owner") (ty.Structure 0) ∷ field (codes "kinds") (view.List (ty.Enumeration 0))
+      ∷ field (codes "since") ty.Duration ∷ field share ty.Decimal ∷ [];
+}
+
+-- `Choice` and `Letter`
+abbrev pub choice : Enumeration
+choice = record {
+  name = codes "Choice";
+  cases =
+      case (codes "Nothing") None ∷ case (codes "Many") (Some (view.List ty.Integer))
+      ∷ case (codes "One") (Some (ty.Structure 0)) ∷ [];
+}
+
+abbrev pub letter : List ℕ → List ℕ → Enumeration
+letter plain amount = record {
+  name = codes "Letter";
+  cases =
+      case plain None ∷ case amount (Some ty.Money) ∷ case (codes "Of") (Some (ty.Enumeration 0)) ∷ [];
+}
+
+-- `S` and `Kinds`
+abbrev pub types_scope : Scope
+types_scope = record {
+  name = codes "S";
+  items =
+      item (codes "b") kind.Context ty.Boolean ∷ item (codes "n") kind.Input ty.Integer
+      ∷ item (codes "list") kind.Context (view.List ty.Integer) ∷ item (codes "home") kind.Context (ty.Structure 1)
+      ∷ item (codes "letter") kind.Context (ty.Enumeration 1) ∷ item (codes "x") kind.Output ty.Integer
+      ∷ item (codes "t") (kind.Called 1) ty.Boolean ∷ [];
+}
+
+abbrev pub kinds_scope : Scope
+kinds_scope = record {
+  name = codes "Kinds";
+  items =
+      item (codes "aside") kind.Internal ty.Integer ∷ item (codes "first") kind.Input ty.Money
+      ∷ item (codes "both") kind.InputOutput ty.Date ∷ item (codes "last") kind.ContextOutput ty.Decimal ∷ [];
+}
+
+abbrev pub structures : List ℕ → List Structure
+structures share = pair ∷ home share ∷ []
+
+abbrev pub enumerations : List ℕ → List ℕ → List Enumeration
+enumerations plain amount = choice ∷ letter plain amount ∷ []
+
+abbrev pub scopes : List Scope
+scopes = types_scope ∷ kinds_scope ∷ []
