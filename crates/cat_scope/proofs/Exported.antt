@@ -3,8 +3,13 @@ pub use Rattle.cat_scope.proofs.RunLaws.{append_append, and_then_and_then, and_t
 pub use Rattle.cat_scope.proofs.Induction.{Each, Within, induction}
 pub use Rattle.cat_scope.proofs.Namings.{Own, of_form, names_in_field, names_in_arm, names_in_field_is, names_in_arm_is}
 pub use Rattle.cat_scope.proofs.Namings.{names_by_level, namings}
-pub use Rattle.cat_scope.proofs.Placings.{arms_placed, placed_Field, placed_If, placed_Match, placed_List, placed_Map}
-pub use Rattle.cat_scope.proofs.Placings.{placed_Filter, placed_Combine, placings}
+pub use Rattle.cat_scope.proofs.Placings.{arms_placed, fields_placed, later_arms_placed, placed_And, placed_Binary}
+pub use Rattle.cat_scope.proofs.Placings.{placed_Call, placed_Case_None, placed_Case_Some, placed_Combine}
+pub use Rattle.cat_scope.proofs.Placings.{placed_Contains, placed_Exists, placed_Field, placed_Filter, placed_ForAll}
+pub use Rattle.cat_scope.proofs.Placings.{placed_If, placed_IsCase, placed_Item, placed_Length, placed_List}
+pub use Rattle.cat_scope.proofs.Placings.{placed_Literal, placed_Local, placed_Map, placed_Match, placed_Or}
+pub use Rattle.cat_scope.proofs.Placings.{placed_Output, placed_ScopeCall, placed_Structure, placed_Sum, placed_Unary}
+pub use Rattle.cat_scope.proofs.Placings.{placings}
 pub use Rattle.cat_scope.proofs.PartEquations.{Field, Branch, field, branch, field_is, branch_is, and_then_same}
 pub use Rattle.cat_scope.proofs.Equations.{levels, equations}
 pub use Rattle.cat_scope.proofs.Equations.{eval_Literal, eval_Item, eval_Output, eval_Local, eval_Field, eval_Unary}
