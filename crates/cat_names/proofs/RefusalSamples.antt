@@ -1,0 +1,139 @@
+-- Worked examples of what stands against targets, rules, roundings, names of types and cases, and heights.
+use Rattle.std.proofs.Common.{◌≡◌, true, false, IsTrue, List, [], ◌∷◌, Some, None, rules}
+use Rattle.cat_pos.specs.declared.pos.Pos.{Pos}
+use Rattle.cat_value.specs.declared.ty.Ty.TheVariants as flat_ty
+use Rattle.cat_value.specs.declared.declaration.Enumeration.{Enumeration}
+use Rattle.cat_value.specs.declared.declaration.Kind.TheVariants as kind
+use Rattle.cat_value.specs.declared.declaration.ItemDecl.{ItemDecl}
+use Rattle.cat_value.specs.declared.declaration.Scope.{Scope}
+use Rattle.cat_value.specs.Declarations.{are_sound}
+use Rattle.cat_tree.specs.declared.name.CaseName.TheVariants as case
+use Rattle.cat_tree.specs.declared.name.Base.TheVariants as base
+use Rattle.cat_tree.specs.declared.name.Type as types
+use Rattle.cat_tree.specs.declared.expression.Node.TheVariants as leaf
+use Rattle.cat_tree.specs.declared.expression.Node.TheViews as node
+use Rattle.cat_tree.specs.declared.program.Fulfilled.TheVariants as fulfilled
+use Rattle.cat_tree.specs.declared.program.Item.TheVariants as item
+use Rattle.cat_scope.specs.Names.{Names}
+use Rattle.cat_names.specs.declared.fault.Fault.TheVariants.{NameTwice, NameUnknown, TypeMismatch, Misplaced}
+use Rattle.cat_names.specs.Found.{faulty}
+use Rattle.cat_names.specs.Meaning.{meant}
+use Rattle.cat_names.specs.Definitions.{definition_meant, rule_meant}
+use Rattle.cat_names.specs.NameFaults.{name_faults}
+use Rattle.cat_names.specs.Bodies.{contradictions, outward_function}
+use Rattle.cat_names.proofs.TypeEquations.{views}
+use Rattle.cat_names.proofs.Equations.{forms}
+use Rattle.cat_names.proofs.Samples.{at, name, whole, plain, a, b, n, q, s, S, T, item_of}
+
+-- a scope with an input n, a called scope s of the scope T, and a function f of an integer; T has an input a and an
+-- internal variable b
+abbrev items : List ItemDecl
+items = item_of n (at 3 9) kind.Input flat_ty.Integer ∷ item_of s (at 4 3) (kind.Called 1) flat_ty.Boolean
+    ∷ record {
+      name = 102 ∷ [];
+      pos = at 5 12;
+      kind = kind.Internal;
+      ty = flat_ty.Integer;
+      condition = false;
+      params = flat_ty.Integer ∷ [];
+    } ∷ []
+
+abbrev scopes : List Scope
+scopes = record { name = S ∷ []; items = items }
+    ∷ record {
+      name = T ∷ [];
+      items = item_of a (at 8 9) kind.Input flat_ty.Integer
+          ∷ item_of b (at 9 12) kind.Internal flat_ty.Integer ∷ [];
+    } ∷ []
+
+-- enumerations E and F, each with a case A
+abbrev enumerations : List Enumeration
+enumerations = record { name = 69 ∷ []; cases = record { name = 65 ∷ []; content = None } ∷ [] }
+    ∷ record { name = 70 ∷ []; cases = record { name = 65 ∷ []; content = None } ∷ [] } ∷ []
+
+abbrev p : Pos
+p = at 20 14
+
+-- `date round increasing`, then twice `decreasing`
+a_rounding_contradicts_an_earlier_one : contradictions [] ((at 6 3, true) ∷ (at 7 3, false) ∷ (at 8 3, false) ∷ [])
+    ≡ Misplaced (at 7 3) ∷ Misplaced (at 8 3) ∷ []
+a_rounding_contradicts_an_earlier_one = search rules
+
+-- `output f content integer depends on ..`
+a_function_is_internal : outward_function (record {
+  name = 102 ∷ [];
+  pos = at 5 10;
+  kind = kind.Output;
+  ty = flat_ty.Integer;
+  condition = false;
+  params = flat_ty.Integer ∷ [];
+}) ≡ Misplaced (at 5 10) ∷ []
+a_function_is_internal = search rules
+
+module _ (sound : IsTrue (are_sound [] enumerations scopes)) where
+  abbrev names : Names
+  names = record {
+    decls = record { structures = []; enumerations = enumerations; scopes = scopes; sound = sound };
+    items = items;
+  }
+
+  -- `definition s equals 1`
+  a_called_scope_alone_is_misplaced : definition_meant names 0 None plain (at 20 3)
+      (record { name = name s p; inner = None; params = [] }) None (whole 1 p) ≡ faulty (Misplaced p)
+  a_called_scope_alone_is_misplaced = search (rules, forms, views)
+
+  -- `definition s.b equals 1`, where b is internal, and `definition s.q equals 1`
+  an_internal_variable_of_a_called_scope_is_misplaced : definition_meant names 0 None plain (at 20 3)
+      (record { name = name s p; inner = Some (name b (at 20 16)); params = [] }) None (whole 1 p) ≡ faulty
+      (Misplaced p)
+  an_internal_variable_of_a_called_scope_is_misplaced = search (rules, forms, views)
+
+  no_variable_of_a_called_scope_is_unknown : definition_meant names 0 None plain (at 20 3)
+      (record { name = name s p; inner = Some (name q (at 20 16)); params = [] }) None (whole 1 p)
+      ≡ faulty (NameUnknown (at 20 16))
+  no_variable_of_a_called_scope_is_unknown = search (rules, forms, views)
+
+  -- `definition f equals 1`
+  a_function_names_its_parameters : definition_meant names 0 None plain (at 20 3)
+      (record { name = name 102 p; inner = None; params = [] }) None (whole 1 p) ≡ faulty (TypeMismatch p)
+  a_function_names_its_parameters = search (rules, forms, views)
+
+  -- `rule f of q fulfilled`, where f is no condition
+  a_rule_is_for_a_condition : rule_meant names 0 None plain (at 20 3)
+      (record { name = name 102 p; inner = None; params = name q (at 20 19) ∷ [] }) None fulfilled.Yes
+      ≡ faulty (Misplaced (at 20 3))
+  a_rule_is_for_a_condition = search (rules, forms, views)
+
+  -- `A`, which two enumerations declare, and `E.A`
+  a_case_of_two_enumerations_is_unknown : meant names (leaf.Case (case.Bare (name 65 p))) [] None ≡ faulty
+      (NameUnknown p)
+  a_case_of_two_enumerations_is_unknown = search (rules, forms, views)
+
+  a_case_of_no_type_is_unknown_at_the_type :
+      meant names (leaf.Case (case.Qualified (name 81 p) (name 65 (at 20 16)))) [] None ≡ faulty (NameUnknown p)
+  a_case_of_no_type_is_unknown_at_the_type = search (rules, forms, views)
+
+  -- `E { .. }`
+  an_enumeration_is_no_structure : meant names (node.Structure (name 69 p) []) [] None ≡ faulty (TypeMismatch p)
+  an_enumeration_is_no_structure = search (rules, forms, views)
+
+-- `declaration structure S: data a content S` and `declaration scope S`
+types_and_scopes_share_their_names : name_faults (record {
+  items =
+      item.Structure (at 2 1) (name S (at 2 23))
+      (record { name = name a (at 3 8); ty = record { lists = 0; base = base.Integer; pos = at 3 18 } } ∷ [])
+      ∷ item.Scope (at 4 1) (name S (at 4 19)) [] ∷ [];
+}) ≡ NameTwice (at 4 19) ∷ []
+types_and_scopes_share_their_names = search rules
+
+-- `data a content list of Q`
+abbrev list_of_q : types.Type
+list_of_q = record { lists = 1; base = base.Named (81 ∷ []); pos = at 3 26 }
+
+an_unknown_type_stands_at_its_word : name_faults (record {
+  items =
+      item.Structure (at 2 1) (name S (at 2 23))
+      (record { name = name a (at 3 8); ty = list_of_q } ∷ []) ∷ [];
+})
+    ≡ NameUnknown (at 3 26) ∷ []
+an_unknown_type_stands_at_its_word = search rules

@@ -1,0 +1,109 @@
+-- What a tree declares: structures, enumerations and scopes, each numbered in source order, with their types resolved.
+use Rattle.std.specs.Prelude.{ℕ, Bool, true, false, List, [], Option, Some, None, Ok}
+use Rattle.cat_value.specs.declared.ty.Ty.{Ty}
+use Rattle.cat_value.specs.declared.ty.Ty.TheVariants as flat
+use Rattle.cat_value.specs.declared.declaration.Field.{Field}
+use Rattle.cat_value.specs.declared.declaration.Structure.{Structure}
+use Rattle.cat_value.specs.declared.declaration.Case.{Case}
+use Rattle.cat_value.specs.declared.declaration.Enumeration.{Enumeration}
+use Rattle.cat_value.specs.declared.declaration.Kind.{Kind}
+use Rattle.cat_value.specs.declared.declaration.Kind.TheVariants as kind
+use Rattle.cat_value.specs.declared.declaration.ItemDecl.{ItemDecl}
+use Rattle.cat_value.specs.declared.declaration.Scope.{Scope}
+use Rattle.cat_tree.specs.declared.name.Name.{Name}
+use Rattle.cat_tree.specs.declared.name.Type as written
+use Rattle.cat_tree.specs.declared.program.FieldItem.{FieldItem}
+use Rattle.cat_tree.specs.declared.program.CaseItem.{CaseItem}
+use Rattle.cat_tree.specs.declared.program.Kind as kinds
+use Rattle.cat_tree.specs.declared.program.Kind.TheVariants as tree
+use Rattle.cat_tree.specs.declared.program.Variable.{Variable}
+use Rattle.cat_tree.specs.declared.program.Variable.TheVariants as variable
+use Rattle.cat_tree.specs.declared.program.Item.{Item}
+use Rattle.cat_names.specs.Written.{structures_in, enumerations_in, scopes_in, types_in, scope_names_in}
+use Rattle.cat_names.specs.declared.fault.Fault.TheVariants.{NameUnknown}
+use Rattle.cat_names.specs.Found.{Found, and_then, both, or_fault, each_found}
+use Rattle.cat_names.specs.Lookup.{TypeNames, type_written, first_named, number}
+
+-- a type
+abbrev pub type_declared : TypeNames → written.Type → Found Ty
+type_declared names t = or_fault (NameUnknown t.pos) (type_written names t)
+
+-- a field
+abbrev pub field_declared : TypeNames → FieldItem → Found Field
+field_declared names f = and_then (type_declared names f.ty) (λ t. Ok (record { name = f.name.text; ty = t }))
+
+-- a structure
+abbrev pub structure_declared : TypeNames → Name × List FieldItem → Found Structure
+structure_declared names s =
+    and_then (each_found (field_declared names) s.1) (λ fields. Ok (record { name = s.0.text; fields = fields }))
+
+-- the content of a case, where it has one
+abbrev pub content_declared : TypeNames → Option written.Type → Found (Option Ty)
+content_declared names None = Ok None
+content_declared names (Some t) = and_then (type_declared names t) (λ u. Ok (Some u))
+
+-- a case
+abbrev pub case_declared : TypeNames → CaseItem → Found Case
+case_declared names c =
+    and_then (content_declared names c.content) (λ content. Ok (record { name = c.name.text; content = content }))
+
+-- an enumeration
+abbrev pub enumeration_declared : TypeNames → Name × List CaseItem → Found Enumeration
+enumeration_declared names e =
+    and_then (each_found (case_declared names) e.1) (λ cases. Ok (record { name = e.0.text; cases = cases }))
+
+-- where an item's value comes from
+abbrev pub kind_declared : kinds.Kind → Kind
+kind_declared tree.Input = kind.Input
+kind_declared tree.InputOutput = kind.InputOutput
+kind_declared tree.Output = kind.Output
+kind_declared tree.Internal = kind.Internal
+kind_declared tree.Context = kind.Context
+kind_declared tree.ContextOutput = kind.ContextOutput
+
+-- the type of a variable; a condition is a boolean
+abbrev pub variable_type : TypeNames → Option written.Type → Found Ty
+variable_type names None = Ok flat.Boolean
+variable_type names (Some t) = type_declared names t
+
+-- whether a variable is a condition
+abbrev pub is_condition : Option written.Type → Bool
+is_condition None = true
+is_condition (Some t) = false
+
+-- a variable of a scope, or a called scope
+abbrev pub item_declared : TypeNames → List (List ℕ) → Variable → Found ItemDecl
+item_declared names scopes (variable.Own k p w t params) =
+    both (variable_type names t) (each_found (λ f. type_declared names f.ty) params) (λ ty types.
+    Ok (record {
+      name = w.text;
+      pos = w.pos;
+      kind = kind_declared k;
+      ty = ty;
+      condition = is_condition t;
+      params =
+          types;
+    }))
+item_declared names scopes (variable.Called w u) =
+    and_then (or_fault (NameUnknown u.pos) (number kind.Called (first_named (λ name. name) u.text 0 scopes))) (λ called.
+    Ok (record { name = w.text; pos = w.pos; kind = called; ty = flat.Boolean; condition = false; params = [] }))
+
+-- a scope
+abbrev pub scope_declared : TypeNames → List (List ℕ) → Name × List Variable → Found Scope
+scope_declared names scopes s =
+    and_then (each_found (item_declared names scopes) s.1) (λ items. Ok (record { name = s.0.text; items = items }))
+
+-- all that a tree declares
+pub record Declared : Type 0 where
+  pub structures : List Structure
+  pub enumerations : List Enumeration
+  pub scopes : List Scope
+
+-- each declaration, or the names of types and scopes in them that name nothing
+abbrev pub declared_of : List Item → Found Declared
+declared_of items =
+    both {A = List Structure × List Enumeration}
+    (both (each_found (structure_declared (types_in items)) (structures_in items))
+    (each_found (enumeration_declared (types_in items)) (enumerations_in items)) (λ ss es. Ok (ss, es)))
+    (each_found (scope_declared (types_in items) (scope_names_in items)) (scopes_in items))
+    (λ types scopes. Ok (record { structures = types.0; enumerations = types.1; scopes = scopes }))

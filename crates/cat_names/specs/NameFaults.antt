@@ -1,0 +1,78 @@
+-- The faults of names and of counts in a whole tree: these stand in front of all others.
+use Rattle.std.specs.Prelude.{ℕ, List, [], ◌∷◌, ◌++◌, map, Option, Some, None}
+use Rattle.cat_pos.specs.declared.pos.Pos.{Pos}
+use Rattle.cat_tree.specs.declared.name.Name.{Name}
+use Rattle.cat_tree.specs.declared.expression.Node.{Node}
+use Rattle.cat_tree.specs.declared.program.Variable.{Variable}
+use Rattle.cat_tree.specs.declared.program.TargetName.{TargetName}
+use Rattle.cat_tree.specs.declared.program.Use.{Use}
+use Rattle.cat_tree.specs.declared.program.Use.TheVariants as uses
+use Rattle.cat_tree.specs.declared.program.Block.{Block}
+use Rattle.cat_tree.specs.declared.program.Item.{Item}
+use Rattle.cat_tree.specs.declared.program.Item.TheVariants as item
+use Rattle.cat_tree.specs.declared.program.Tree.{Tree}
+use Rattle.cat_names.specs.declared.limits.TheConstants.{MOST_DEFINITIONS}
+use Rattle.cat_names.specs.declared.fault.Fault.{Fault}
+use Rattle.cat_names.specs.declared.fault.Fault.TheVariants.{NameUnknown}
+use Rattle.cat_names.specs.Found.{faults_of, of_all}
+use Rattle.cat_names.specs.Lookup.{first_named}
+use Rattle.cat_names.specs.Written.{types_in, scopes_in, scope_names_in}
+use Rattle.cat_names.specs.Declarations.{declared_of}
+use Rattle.cat_names.specs.Unknown.{Known, twice, is_name, unless, unknown_in}
+use Rattle.cat_names.specs.DeclarationFaults.{past, texts, variable_name, declaration_faults, declared_name}
+
+-- what a condition names, where there is one
+abbrev pub in_condition : Known → Option Node → List (List ℕ) → List Fault
+in_condition known None bound = []
+in_condition known (Some e) bound = unknown_in known e bound
+
+-- what a definition or a rule is for: an item, and no parameter's name twice
+abbrev pub target_faults : Known → TargetName → List Fault
+target_faults known t = unless (is_name t.name.text known.items) t.name ++ twice [] t.params
+
+-- a line of a block; the names of its parameters are bound in a definition
+abbrev pub use_faults : Known → Use → List Fault
+use_faults known (uses.Definition l p t c e) =
+    target_faults known t ++ in_condition known c (texts t.params) ++ unknown_in known e (texts t.params)
+use_faults known (uses.Rule l p t c f) = target_faults known t ++ in_condition known c (texts t.params)
+use_faults known (uses.Assertion p e) = unknown_in known e []
+use_faults known (uses.DateRound p up) = []
+
+-- what may be named in a block of a scope with these variables
+abbrev pub known_in : List Item → List Variable → Known
+known_in items variables = record {
+  types = types_in items;
+  scopes = scope_names_in items;
+  items = texts (map variable_name variables);
+}
+
+-- a block of a scope, where there is one: its condition knows no parameters
+abbrev pub block_faults : List Item → Block → Option (ℕ × (Name × List Variable)) → List Fault
+block_faults items b None = NameUnknown b.name.pos ∷ []
+block_faults items b (Some s) = in_condition (known_in items s.1.1) b.condition []
+    ++ of_all (use_faults (known_in items s.1.1)) b.uses
+
+-- a declaration or a block
+abbrev pub item_faults : List Item → Item → List Fault
+item_faults items (item.Block b) =
+    block_faults items b (first_named (λ s. s.0.text) b.name.text 0 (scopes_in items))
+item_faults items declaration = declaration_faults declaration
+
+-- the position of a definition or a rule
+abbrev pub definition_place : Use → List Pos
+definition_place (uses.Definition l p t c e) = p ∷ []
+definition_place (uses.Rule l p t c f) = p ∷ []
+definition_place _ = []
+
+-- the positions of the definitions and rules of a block
+abbrev pub definition_places : Item → List Pos
+definition_places (item.Block b) = of_all definition_place b.uses
+definition_places _ = []
+
+-- the later of two equal names; names of types and scopes in declarations, of scopes of blocks, of items and bound
+-- names
+-- that name nothing; and the first thing past each count
+abbrev pub name_faults : Tree → List Fault
+name_faults tree = twice [] (of_all declared_name tree.items) ++ faults_of (declared_of tree.items)
+    ++ of_all (item_faults tree.items) tree.items
+    ++ past MOST_DEFINITIONS (of_all definition_places tree.items)
