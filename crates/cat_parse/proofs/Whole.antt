@@ -1,0 +1,92 @@
+-- What reading all items of a program says of the tokens.
+use Rattle.std.proofs.Common.{◌≡◌, ℕ, suc, ◌<◌, ◌≤◌, true, false, List, [], ◌∷◌, ◌++◌, length, drop, take, Ok, Err}
+use Rattle.std.proofs.Common.{sym, ap, subst, ◌∙◌, arith}
+use Rattle.std.proofs.lemmas.List.{drop_all}
+use Rattle.cat_lex.specs.declared.token.Token.{Token}
+use Rattle.cat_tree.specs.declared.expression.Node.{Node}
+use Rattle.cat_tree.specs.declared.program.Item.{Item}
+use Rattle.cat_tree.specs.declared.program.Tree.{Tree}
+use Rattle.cat_tree.specs.Programs.{highest_in, SpellsProgram, SpellsLowProgram, BeginsProgram}
+use Rattle.cat_parse_expr.specs.declared.refusal.ParseRefusal.{ParseRefusal}
+use Rattle.cat_parse_expr.specs.declared.refusal.ParseRefusal.TheVariants.{Unexpected, TooDeep, Memory}
+use Rattle.cat_parse_row.specs.Reader.{Parsed, Reader, Fails, Reads, after}
+use Rattle.cat_parse_row.specs.Programs.{items, to_end, program}
+use Rattle.cat_parse_row.specs.Exactly.{Exactly}
+use Rattle.cat_parse_reach.specs.Places.{Gives}
+use Rattle.cat_parse.specs.Causes.{IsUnexpected, IsTooDeep, HasProgramCause}
+use Rattle.cat_parse.proofs.Places.{front_is, one_more, token_at}
+
+abbrev tree_of : List Item → Tree
+tree_of is = record { items = is }
+
+-- where reading stops, by its index
+unexpected : (tokens : List Token) (at : ℕ) → at ≤ length tokens → Exactly tokens (Fails (drop at tokens) false)
+    → IsUnexpected tokens at
+unexpected tokens at le x =
+    let before = front_is tokens x.0 at x.1.text in
+    record {
+      within = le;
+      begins = subst BeginsProgram before x.1.begins;
+      ends = ends before;
+      none = x.1.none;
+    }
+  where
+    ends : x.0 ≡ take at tokens → at < length tokens → BeginsProgram (take (suc at) tokens) → ⊥
+    ends before more b =
+        let t = token_at at tokens more in
+        let m = one_more at tokens t.0 t.1 t.2 in
+        x.1.dead t.0 t.1 t.2
+        (subst BeginsProgram (m.1 ∙ ap (λ (u : List Token). u ++ t.0 ∷ []) (sym before)) b)
+
+too_deep : (tokens : List Token) (at : ℕ) → Exactly tokens (Fails (drop at tokens) true) → IsTooDeep tokens at
+too_deep tokens at x =
+    let m = one_more at tokens x.1.next x.1.after x.1.at in
+    let same = ap (λ (u : List Token). u ++ x.1.next ∷ []) (front_is tokens x.0 at x.1.text) ∙ sym m.1 in
+    record {
+      within = m.0;
+      begins = subst BeginsProgram same x.1.begins;
+      none_low = λ b low. none (take (suc at) tokens) same b low;
+    }
+  where
+    none : (front : List Token) → x.0 ++ x.1.next ∷ [] ≡ front → (b : BeginsProgram front) → highest_in b.tree ≤ 256
+        → ⊥
+    none front same b low =
+        x.1.too_high
+        (record {
+          tree = b.tree;
+          rest = b.rest;
+          spells = subst (λ (u : List Token). SpellsProgram b.tree (u ++ b.rest)) (sym same) b.spells;
+        }) low
+
+module _ (ex : Reader Node) (exactly : (tokens : List Token) → Exactly tokens (program ex tokens))
+    (tokens : List Token) where
+  come_to : (o : Parsed (List Item)) → items ex tokens ≡ o → Exactly tokens (after o to_end)
+  come_to o e = subst (λ (x : Parsed (List Item)). Exactly tokens (after x to_end)) e (exactly tokens)
+
+  -- all tokens were read
+  pub whole : (is : List Item) (place : ℕ) → Gives (items ex) tokens 0 (Ok (is, place)) → length tokens ≤ place
+      → SpellsLowProgram (tree_of is) tokens
+  whole is place g all =
+      (subst (λ (left : List Token). Exactly tokens (after (Reads is left) to_end)) (drop_all place tokens all)
+      (come_to (Reads is (drop place tokens)) g.0)).0
+
+  -- some are left
+  pub left_over : (is : List Item) (place : ℕ) → Gives (items ex) tokens 0 (Ok (is, place)) → place < length tokens
+      → IsUnexpected tokens place
+  left_over is place g more =
+      unexpected tokens place (omega (arith, more))
+      (by (drop place tokens) (token_at place tokens more) (come_to (Reads is (drop place tokens)) g.0))
+    where
+      by : (left : List Token) → (p : Token) × (rest : List Token) × (left ≡ p ∷ rest)
+          → Exactly tokens (after (Reads is left) to_end) → Exactly tokens (Fails left false)
+      by [] t x = absurd (nothing t.0 t.1 t.2)
+        where
+          nothing : (p : Token) (rest : List Token) → [] ≡ p ∷ rest → ⊥
+          nothing p rest e = absurd cc
+      by (p ∷ rest) t x = x
+
+  -- an item is refused
+  pub cause : (refusal : ParseRefusal) → Gives (items ex) tokens 0 (Err refusal) → HasProgramCause tokens refusal
+  cause (Unexpected at) g = unexpected tokens at g.1 (come_to (Fails (drop at tokens) false) g.0)
+  cause (TooDeep at) g = too_deep tokens at (come_to (Fails (drop at tokens) true) g.0)
+  cause Memory g = tt

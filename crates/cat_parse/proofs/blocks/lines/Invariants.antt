@@ -1,0 +1,13 @@
+use Rattle.std.proofs.Common.{◌-◌, length}
+use Rattle.cat_parse_row.specs.Reader.{many}
+use Rattle.cat_parse_row.specs.Uses.{is_use, a_use}
+use Rattle.cat_parse_row.proofs.Exported.{Stands}
+use Rattle.cat_parse_reach.specs.Reach.{expression}
+use Rattle.cat_parse.proofs.blocks.lines.Given as goal
+
+abbrev pub invariant-loop-alloc : goal.invariant-loop-alloc
+invariant-loop-alloc l =
+    Stands is_use (a_use expression) (many is_use (a_use expression)) l.tokens l.at l.place l.lines
+
+abbrev pub decreases-loop-alloc : goal.decreases-loop-alloc
+decreases-loop-alloc l = length l.tokens - l.place

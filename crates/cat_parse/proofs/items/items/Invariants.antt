@@ -1,0 +1,14 @@
+use Rattle.std.proofs.Common.{◌-◌, length}
+use Rattle.cat_parse_row.specs.Reader.{many}
+use Rattle.cat_parse_row.specs.Uses.{is_item}
+use Rattle.cat_parse_row.specs.Programs.{an_item}
+use Rattle.cat_parse_row.proofs.Exported.{Stands}
+use Rattle.cat_parse_reach.specs.Reach.{expression}
+use Rattle.cat_parse.proofs.items.items.Given as goal
+
+abbrev pub invariant-loop-alloc : goal.invariant-loop-alloc
+invariant-loop-alloc l =
+    Stands is_item (an_item expression) (many is_item (an_item expression)) l.tokens l.at l.place l.items
+
+abbrev pub decreases-loop-alloc : goal.decreases-loop-alloc
+decreases-loop-alloc l = length l.tokens - l.place
