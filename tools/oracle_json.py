@@ -11,9 +11,10 @@ STRUCTURES = {'Pair': [('count', 'integer'), ('flags', '[boolean]')],
               'Home': [('owner', 'Pair'), ('kinds', '[Choice]'), ('since', 'duration'), ('é', 'decimal')]}
 ENUMERATIONS = {'Choice': [('Nothing', None), ('Many', '[integer]'), ('One', 'Pair')],
                 'Letter': [('Aé', None), ('A𐐀', 'money'), ('Of', 'Choice')]}
-SCOPES = {'S': [('b', 'may', 'boolean'), ('n', 'must', 'integer'), ('list', 'may', '[integer]'), ('home', 'may', 'Home'),
-                ('letter', 'may', 'Letter'), ('x', 'none', 'integer'), ('t', 'none', None)],
-          'Kinds': [('aside', 'none', 'integer'), ('first', 'must', 'money'), ('both', 'must', 'date'), ('last', 'may', 'decimal')]}
+SCOPES = {'S': [('b', 'may', 'boolean'), ('n', 'must', 'integer'), ('list', 'may', '[integer]'),
+                ('home', 'may', 'Home'), ('letter', 'may', 'Letter'), ('x', 'none', 'integer'), ('t', 'none', None)],
+          'Kinds': [('aside', 'none', 'integer'), ('first', 'must', 'money'), ('both', 'must', 'date'),
+                    ('last', 'may', 'decimal')]}
 STRING = re.compile(r'"((?:[^"\\\x00-\x1f]|\\(?:["\\/bfnrt]|u[0-9a-fA-F]{4}))*)"')
 NUMBER = re.compile(r'-?(?:0|[1-9][0-9]*)(\.[0-9]+)?([eE][+-]?[0-9]+)?')
 ESCAPES = {'b': '\b', 'f': '\f', 'n': '\n', 'r': '\r', 't': '\t'}
@@ -198,14 +199,16 @@ PLAIN = {'integer': integer, 'decimal': decimal, 'money': money, 'date': date}
 
 def given(json, items):
     form(type(json) is dict, [])
-    values = [member(json, name, ty, []) if kind == 'must' or kind == 'may' and name in json else '-' for name, kind, ty in items]
+    values = [member(json, name, ty, []) if kind == 'must' or kind == 'may' and name in json else '-'
+              for name, kind, ty in items]
     no_others(json, [name for name, kind, _ in items if kind != 'none'], [])
     return ' | '.join(values)
 
 
 def path_text(path):
     text = ''.join('[%d]' % step if type(step) is int else '.' + step for step in path) or '(input)'
-    return (text[1:] if path and type(path[0]) is str else text).replace('\n', '\\n').replace('\r', '\\r').replace('\t', '\\t')
+    text = text[1:] if path and type(path[0]) is str else text
+    return text.replace('\n', '\\n').replace('\r', '\\r').replace('\t', '\\t')
 
 
 def told(reading):
@@ -253,7 +256,10 @@ def written(json, ty):
     if ty in STRUCTURES:
         return object_text({name: written(json[name], field) for name, field in STRUCTURES[ty]})
     if ty in ENUMERATIONS:
-        return quoted(json) if type(json) is str else object_text({name: written(json[name], dict(ENUMERATIONS[ty])[name]) for name in json})
+        contents = dict(ENUMERATIONS[ty])
+        if type(json) is str:
+            return quoted(json)
+        return object_text({name: written(json[name], contents[name]) for name in json})
     return '[%s]' % ','.join(written(element, ty[1:-1]) for element in json)
 
 
@@ -266,5 +272,6 @@ def answer(call, rest):
     if call == 'write_value':
         return written(parsed(data), word)
     if call == 'write_input':
-        return object_text({name: written(parsed(data)[name], ty) for name, _, ty in SCOPES[word] if name in parsed(data)})
+        json = parsed(data)
+        return object_text({name: written(json[name], ty) for name, _, ty in SCOPES[word] if name in json})
     return told(lambda: (given if call == 'read_input' else all_given)(parsed(data), SCOPES[word]))

@@ -1,4 +1,4 @@
-//! Rows of the tables: the words of a call as its line spells them, and how an answer shows texts, positions and numbers.
+//! Rows of the tables: the words of a call as its line spells them, and how an answer shows texts and positions.
 #![tactic(auto)]
 
 mod arguments;
