@@ -5,16 +5,23 @@ import datetime, re
 from json import dumps
 from fractions import Fraction
 
-CALLS = ('read_value', 'read_input', 'read_inputs', 'write_value', 'write_input')
+CALLS = ('read_value', 'read_input', 'read_inputs', 'write_value', 'write_input', 'write_answer')
 M = 2**63 - 1
 STRUCTURES = {'Pair': [('count', 'integer'), ('flags', '[boolean]')],
-              'Home': [('owner', 'Pair'), ('kinds', '[Choice]'), ('since', 'duration'), ('é', 'decimal')]}
+              'Home': [('owner', 'Pair'), ('kinds', '[Choice]'), ('since', 'duration'), ('é', 'decimal')],
+              'Individual': [('income', 'money'), ('number_of_children', 'integer')],
+              'Person': [('income', 'money'), ('credit', 'TaxCredit')]}
 ENUMERATIONS = {'Choice': [('Nothing', None), ('Many', '[integer]'), ('One', 'Pair')],
-                'Letter': [('Aé', None), ('A𐐀', 'money'), ('Of', 'Choice')]}
+                'Letter': [('Aé', None), ('A𐐀', 'money'), ('Of', 'Choice')],
+                'TaxCredit': [('NoTaxCredit', None), ('ChildrenTaxCredit', 'integer')]}
 SCOPES = {'S': [('b', 'may', 'boolean'), ('n', 'must', 'integer'), ('list', 'may', '[integer]'),
                 ('home', 'may', 'Home'), ('letter', 'may', 'Letter'), ('x', 'none', 'integer'), ('t', 'none', None)],
           'Kinds': [('aside', 'none', 'integer'), ('first', 'must', 'money'), ('both', 'must', 'date'),
-                    ('last', 'may', 'decimal')]}
+                    ('last', 'may', 'decimal')],
+          'IncomeTaxComputation': [('individual', 'must', 'Individual'), ('fixed_percentage', 'none', 'decimal'),
+                                   ('income_tax', 'none', 'money')],
+          'Tax': [('persons', 'must', '[Person]'), ('due', 'none', 'money'), ('total', 'none', 'money')]}
+OUTPUTS = {'S': ('x', 'integer'), 'IncomeTaxComputation': ('income_tax', 'money'), 'Tax': ('total', 'money')}
 STRING = re.compile(r'"((?:[^"\\\x00-\x1f]|\\(?:["\\/bfnrt]|u[0-9a-fA-F]{4}))*)"')
 NUMBER = re.compile(r'-?(?:0|[1-9][0-9]*)(\.[0-9]+)?([eE][+-]?[0-9]+)?')
 ESCAPES = {'b': '\b', 'f': '\f', 'n': '\n', 'r': '\r', 't': '\t'}
@@ -274,4 +281,7 @@ def answer(call, rest):
     if call == 'write_input':
         json = parsed(data)
         return object_text({name: written(json[name], ty) for name, _, ty in SCOPES[word] if name in json})
+    if call == 'write_answer':
+        name, ty = OUTPUTS[word]
+        return object_text({name: written(parsed(data), ty)})
     return told(lambda: (given if call == 'read_input' else all_given)(parsed(data), SCOPES[word]))

@@ -52,6 +52,40 @@ letter_height a b c = omega (
   choice_height a b c 59,
 )
 
+individual_height : (a b c : List ℕ) (k : ℕ)
+    → height_to (structures a) (enumerations b c) (suc (suc k)) (ty.Structure 2) ≡ 2
+individual_height a b c k = omega (
+  arith,
+  value.height_Structure (structures a) (enumerations b c) (suc k) 2 _ refl,
+  value.height_Money (structures a) (enumerations b c) k,
+  value.height_Integer (structures a) (enumerations b c) k,
+)
+
+credit_height : (a b c : List ℕ) (k : ℕ)
+    → height_to (structures a) (enumerations b c) (suc (suc k)) (ty.Enumeration 2) ≡ 2
+credit_height a b c k = omega (
+  arith,
+  value.height_Enumeration (structures a) (enumerations b c) (suc k) 2 _ refl,
+  value.height_Integer (structures a) (enumerations b c) k,
+)
+
+person_height : (a b c : List ℕ) (k : ℕ)
+    → height_to (structures a) (enumerations b c) (suc (suc (suc k))) (ty.Structure 3) ≡ 3
+person_height a b c k = omega (
+  arith,
+  value.height_Structure (structures a) (enumerations b c) (suc (suc k)) 3 _ refl,
+  value.height_Money (structures a) (enumerations b c) (suc k),
+  credit_height a b c k,
+)
+
+persons_height : (a b c : List ℕ)
+    → height_to (structures a) (enumerations b c) highest (view.List (ty.Structure 3)) ≡ 4
+persons_height a b c = omega (
+  arith,
+  value.height_List (structures a) (enumerations b c) 63 (ty.Structure 3),
+  person_height a b c 60,
+)
+
 integers_height : (a b c : List ℕ) → height_to (structures a) (enumerations b c) highest (view.List ty.Integer) ≡ 2
 integers_height a b c = omega (
   arith,
@@ -80,6 +114,15 @@ pair_low a b c = pair_height a b c 61
 choice_low : (a b c : List ℕ) → height_to (structures a) (enumerations b c) highest (ty.Enumeration 0) ≡ 4
 choice_low a b c = choice_height a b c 60
 
+individual_low : (a b c : List ℕ) → height_to (structures a) (enumerations b c) highest (ty.Structure 2) ≡ 2
+individual_low a b c = individual_height a b c 62
+
+credit_low : (a b c : List ℕ) → height_to (structures a) (enumerations b c) highest (ty.Enumeration 2) ≡ 2
+credit_low a b c = credit_height a b c 62
+
+person_low : (a b c : List ℕ) → height_to (structures a) (enumerations b c) highest (ty.Structure 3) ≡ 3
+person_low a b c = person_height a b c 61
+
 are_put_in_order : (a b c : List ℕ) → are_ordered (structures a) (enumerations b c) ≡ true
 unfolding are_ordered order_of is_ready
 are_put_in_order a b c = search (rules, value.naming)
@@ -95,6 +138,10 @@ ruleset low = (
   date_height,
   pair_low,
   choice_low,
+  individual_low,
+  credit_low,
+  person_low,
+  persons_height,
 )
 
 these_are_sound : (a b c : List ℕ) → IsTrue (are_sound (structures a) (enumerations b c) scopes)

@@ -41,6 +41,19 @@ home share = record {
       ∷ field (codes "since") ty.Duration ∷ field share ty.Decimal ∷ [];
 }
 
+-- `Individual` and `Person`
+abbrev pub individual : Structure
+individual = record {
+  name = codes "Individual";
+  fields = field (codes "income") ty.Money ∷ field (codes "number_of_children") ty.Integer ∷ [];
+}
+
+abbrev pub person : Structure
+person = record {
+  name = codes "Person";
+  fields = field (codes "income") ty.Money ∷ field (codes "credit") (ty.Enumeration 2) ∷ [];
+}
+
 -- `Choice` and `Letter`
 abbrev pub choice : Enumeration
 choice = record {
@@ -55,6 +68,13 @@ letter plain amount = record {
   name = codes "Letter";
   cases =
       case plain None ∷ case amount (Some ty.Money) ∷ case (codes "Of") (Some (ty.Enumeration 0)) ∷ [];
+}
+
+-- `TaxCredit`
+abbrev pub tax_credit : Enumeration
+tax_credit = record {
+  name = codes "TaxCredit";
+  cases = case (codes "NoTaxCredit") None ∷ case (codes "ChildrenTaxCredit") (Some ty.Integer) ∷ [];
 }
 
 -- `S` and `Kinds`
@@ -76,11 +96,29 @@ kinds_scope = record {
       ∷ item (codes "both") kind.InputOutput ty.Date ∷ item (codes "last") kind.ContextOutput ty.Decimal ∷ [];
 }
 
+-- `IncomeTaxComputation` and `Tax`
+abbrev pub income_tax_scope : Scope
+income_tax_scope = record {
+  name = codes "IncomeTaxComputation";
+  items =
+      item (codes "individual") kind.Input (ty.Structure 2)
+      ∷ item (codes "fixed_percentage") kind.Internal ty.Decimal
+      ∷ item (codes "income_tax") kind.Output ty.Money ∷ [];
+}
+
+abbrev pub tax_scope : Scope
+tax_scope = record {
+  name = codes "Tax";
+  items =
+      item (codes "persons") kind.Input (view.List (ty.Structure 3)) ∷ item (codes "due") kind.Internal ty.Money
+      ∷ item (codes "total") kind.Output ty.Money ∷ [];
+}
+
 abbrev pub structures : List ℕ → List Structure
-structures share = pair ∷ home share ∷ []
+structures share = pair ∷ home share ∷ individual ∷ person ∷ []
 
 abbrev pub enumerations : List ℕ → List ℕ → List Enumeration
-enumerations plain amount = choice ∷ letter plain amount ∷ []
+enumerations plain amount = choice ∷ letter plain amount ∷ tax_credit ∷ []
 
 abbrev pub scopes : List Scope
-scopes = types_scope ∷ kinds_scope ∷ []
+scopes = types_scope ∷ kinds_scope ∷ income_tax_scope ∷ tax_scope ∷ []

@@ -7,7 +7,12 @@ use cat_value::Decls;
 use std::alloc::{AllocError, Global};
 
 /// The names of the scopes, and their numbers.
-pub const SCOPES: [(&str, u32); 2] = [("S", 0), ("Kinds", 1)];
+pub const SCOPES: [(&str, u32); 4] = [
+    ("S", 0),
+    ("Kinds", 1),
+    ("IncomeTaxComputation", 2),
+    ("Tax", 3),
+];
 
 #[tactic(auto, using(crate::proofs::DeclaredSound::declarations_are_sound))]
 pub fn declarations(alloc: Global) -> Result<Decls, AllocError> {

@@ -13,6 +13,7 @@ pub fn enumerations(alloc: Global, plain: &str, amount: &str) -> Result<Enumerat
     let mut enumerations = List::new(alloc);
     enumerations.push(choice(alloc)?)?;
     enumerations.push(letter(alloc, plain, amount)?)?;
+    enumerations.push(tax_credit(alloc)?)?;
     Ok(enumerations)
 }
 
@@ -36,6 +37,16 @@ fn letter(alloc: Global, plain: &str, amount: &str) -> Result<Enumeration, Alloc
     add_case(alloc, &mut cases, plain, None)?;
     add_case(alloc, &mut cases, amount, Some(Ty::Money))?;
     add_case(alloc, &mut cases, "Of", Some(Ty::Enumeration(0)))?;
+    Ok(Enumeration { name, cases })
+}
+
+fn tax_credit(alloc: Global) -> Result<Enumeration, AllocError>
+    ensures { IfOk result (λ enumeration. enumeration ≡ declared.tax_credit) }
+{
+    let name = Text::from_str(alloc, "TaxCredit")?;
+    let mut cases = List::new(alloc);
+    add_case(alloc, &mut cases, "NoTaxCredit", None)?;
+    add_case(alloc, &mut cases, "ChildrenTaxCredit", Some(Ty::Integer))?;
     Ok(Enumeration { name, cases })
 }
 

@@ -11,4 +11,4 @@ mod values;
 mod writes;
 
 pub use reads::{read_input_answer, read_inputs_answer, read_value_answer};
-pub use writes::{write_input_answer, write_value_answer};
+pub use writes::{write_answer, write_input_answer, write_value_answer};

@@ -13,6 +13,8 @@ pub fn scopes(alloc: Global) -> Result<Scopes, AllocError>
     let mut scopes = List::new(alloc);
     scopes.push(types_scope(alloc)?)?;
     scopes.push(kinds_scope(alloc)?)?;
+    scopes.push(income_tax_scope(alloc)?)?;
+    scopes.push(tax_scope(alloc)?)?;
     Ok(scopes)
 }
 
@@ -49,6 +51,43 @@ fn kinds_scope(alloc: Global) -> Result<Scope, AllocError>
     add_item(alloc, &mut items, "first", Kind::Input, Ty::Money)?;
     add_item(alloc, &mut items, "both", Kind::InputOutput, Ty::Date)?;
     add_item(alloc, &mut items, "last", Kind::ContextOutput, Ty::Decimal)?;
+    Ok(Scope { name, items })
+}
+
+/// An income tax at one rate.
+fn income_tax_scope(alloc: Global) -> Result<Scope, AllocError>
+    ensures { IfOk result (λ scope. scope ≡ declared.income_tax_scope) }
+{
+    let name = Text::from_str(alloc, "IncomeTaxComputation")?;
+    let mut items = List::new(alloc);
+    add_item(
+        alloc,
+        &mut items,
+        "individual",
+        Kind::Input,
+        Ty::Structure(2),
+    )?;
+    add_item(
+        alloc,
+        &mut items,
+        "fixed_percentage",
+        Kind::Internal,
+        Ty::Decimal,
+    )?;
+    add_item(alloc, &mut items, "income_tax", Kind::Output, Ty::Money)?;
+    Ok(Scope { name, items })
+}
+
+/// A tax that several persons owe, by brackets.
+fn tax_scope(alloc: Global) -> Result<Scope, AllocError>
+    ensures { IfOk result (λ scope. scope ≡ declared.tax_scope) }
+{
+    let name = Text::from_str(alloc, "Tax")?;
+    let persons = list(alloc, Ty::Structure(3))?;
+    let mut items = List::new(alloc);
+    add_item(alloc, &mut items, "persons", Kind::Input, persons)?;
+    add_item(alloc, &mut items, "due", Kind::Internal, Ty::Money)?;
+    add_item(alloc, &mut items, "total", Kind::Output, Ty::Money)?;
     Ok(Scope { name, items })
 }
 

@@ -13,6 +13,8 @@ pub fn structures(alloc: Global, share: &str) -> Result<Structures, AllocError>
     let mut structures = List::new(alloc);
     structures.push(pair(alloc)?)?;
     structures.push(home(alloc, share)?)?;
+    structures.push(individual(alloc)?)?;
+    structures.push(person(alloc)?)?;
     Ok(structures)
 }
 
@@ -37,6 +39,26 @@ fn home(alloc: Global, share: &str) -> Result<Structure, AllocError>
     add_field(alloc, &mut fields, "kinds", kinds)?;
     add_field(alloc, &mut fields, "since", Ty::Duration)?;
     add_field(alloc, &mut fields, share, Ty::Decimal)?;
+    Ok(Structure { name, fields })
+}
+
+fn individual(alloc: Global) -> Result<Structure, AllocError>
+    ensures { IfOk result (λ structure. structure ≡ declared.individual) }
+{
+    let name = Text::from_str(alloc, "Individual")?;
+    let mut fields = List::new(alloc);
+    add_field(alloc, &mut fields, "income", Ty::Money)?;
+    add_field(alloc, &mut fields, "number_of_children", Ty::Integer)?;
+    Ok(Structure { name, fields })
+}
+
+fn person(alloc: Global) -> Result<Structure, AllocError>
+    ensures { IfOk result (λ structure. structure ≡ declared.person) }
+{
+    let name = Text::from_str(alloc, "Person")?;
+    let mut fields = List::new(alloc);
+    add_field(alloc, &mut fields, "income", Ty::Money)?;
+    add_field(alloc, &mut fields, "credit", Ty::Enumeration(2))?;
     Ok(Structure { name, fields })
 }
 

@@ -26,8 +26,11 @@ fn base_of(word: &str) -> Option<Ty> {
         "duration" => Some(Ty::Duration),
         "Pair" => Some(Ty::Structure(0)),
         "Home" => Some(Ty::Structure(1)),
+        "Individual" => Some(Ty::Structure(2)),
+        "Person" => Some(Ty::Structure(3)),
         "Choice" => Some(Ty::Enumeration(0)),
         "Letter" => Some(Ty::Enumeration(1)),
+        "TaxCredit" => Some(Ty::Enumeration(2)),
         _ => None,
     }
 }

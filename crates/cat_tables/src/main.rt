@@ -3,7 +3,7 @@
 
 use cat_rows::{Arguments, Problem};
 use cat_rows_json::{
-    read_input_answer, read_inputs_answer, read_value_answer, write_input_answer,
+    read_input_answer, read_inputs_answer, read_value_answer, write_answer, write_input_answer,
     write_value_answer,
 };
 use cat_rows_number::{day_answer, frac_answer, money_answer, span_answer, whole_answer};
@@ -40,9 +40,10 @@ enum Subject {
     ReadInputs,
     WriteValue,
     WriteInput,
+    WriteAnswer,
 }
 
-const SUBJECTS: [(&str, Subject); 21] = [
+const SUBJECTS: [(&str, Subject); 22] = [
     ("frac", Subject::Frac),
     ("whole", Subject::Whole),
     ("money", Subject::Money),
@@ -64,6 +65,7 @@ const SUBJECTS: [(&str, Subject); 21] = [
     ("read_inputs", Subject::ReadInputs),
     ("write_value", Subject::WriteValue),
     ("write_input", Subject::WriteInput),
+    ("write_answer", Subject::WriteAnswer),
 ];
 
 /// What the call of the line gives. A comment and an empty line stay as they are.
@@ -103,6 +105,7 @@ fn answer_on(
         Subject::ReadInputs => read_inputs_answer(alloc, given),
         Subject::WriteValue => write_value_answer(alloc, given),
         Subject::WriteInput => write_input_answer(alloc, given),
+        Subject::WriteAnswer => write_answer(alloc, given),
     }
 }
 
