@@ -8,6 +8,7 @@ use cat_rows_json::{
 };
 use cat_rows_number::{day_answer, frac_answer, money_answer, span_answer, whole_answer};
 use cat_rows_order::order_answer;
+use cat_rows_program::{program_answer, program_cuts_answer, program_swaps_answer};
 use cat_rows_source::{chain_answer, gather_answer, weave_answer};
 use cat_rows_token::{token_positions_answer, tokens_answer};
 use cat_rows_tree::{
@@ -32,6 +33,9 @@ enum Subject {
     Cuts,
     TowerHeight,
     TowerTree,
+    Program,
+    ProgramCuts,
+    ProgramSwaps,
     Weave,
     Gather,
     IncludeChain,
@@ -43,7 +47,7 @@ enum Subject {
     WriteAnswer,
 }
 
-const SUBJECTS: [(&str, Subject); 22] = [
+const SUBJECTS: [(&str, Subject); 25] = [
     ("frac", Subject::Frac),
     ("whole", Subject::Whole),
     ("money", Subject::Money),
@@ -57,6 +61,9 @@ const SUBJECTS: [(&str, Subject); 22] = [
     ("cuts", Subject::Cuts),
     ("tower_height", Subject::TowerHeight),
     ("tower_tree", Subject::TowerTree),
+    ("program", Subject::Program),
+    ("program_cuts", Subject::ProgramCuts),
+    ("program_swaps", Subject::ProgramSwaps),
     ("weave", Subject::Weave),
     ("gather", Subject::Gather),
     ("include_chain", Subject::IncludeChain),
@@ -97,6 +104,9 @@ fn answer_on(
         Subject::Cuts => cuts_answer(alloc, given),
         Subject::TowerHeight => tower_height_answer(alloc, given),
         Subject::TowerTree => tower_tree_answer(alloc, given),
+        Subject::Program => program_answer(alloc, given),
+        Subject::ProgramCuts => program_cuts_answer(alloc, given),
+        Subject::ProgramSwaps => program_swaps_answer(alloc, given),
         Subject::Weave => weave_answer(alloc, given),
         Subject::Gather => gather_answer(alloc, given),
         Subject::IncludeChain => chain_answer(alloc, given),
