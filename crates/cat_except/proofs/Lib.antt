@@ -1,0 +1,14 @@
+pub mod Samples
+pub mod Examples
+pub mod Listings
+pub mod TargetKeys
+pub mod Joining
+pub mod Grouped
+pub mod Firsts
+pub mod Measured
+pub mod Linking
+pub mod Pairs
+pub mod EachTarget
+pub mod Low
+pub mod Numbers
+pub mod Whole
