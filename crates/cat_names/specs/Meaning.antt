@@ -93,7 +93,8 @@ unfoldable pub as_part : Names → Node → Part
 as_part ns = fold-Node Part (Pattern × Part) (Name × Part) (part_of ns) arm_part field_part
 
 -- what an expression means under local names, where a type is expected or not: itself with each name as the number of
--- what it names, and its type; or the faults that stand in it
+-- what it names, and its type; or faults that stand in it: of a form itself where its parts have answers, and of what
+-- hangs on a part only where that has one
 unfoldable pub meant : Names → Node → Meaning
 meant ns e = (as_part ns e).means
 

@@ -70,8 +70,7 @@ definition_places (item.Block b) = of_all definition_place b.uses
 definition_places _ = []
 
 -- the later of two equal names; names of types and scopes in declarations, of scopes of blocks, of items and bound
--- names
--- that name nothing; and the first thing past each count
+-- names that name nothing; and the first thing past each count
 abbrev pub name_faults : Tree → List Fault
 name_faults tree = twice [] (of_all declared_name tree.items) ++ faults_of (declared_of tree.items)
     ++ of_all (item_faults tree.items) tree.items
