@@ -48,7 +48,7 @@ use Rattle.cat_names.specs.Compound.{branches_of}
 use Rattle.cat_names.specs.Meaning.{meant, name_alone, type_found, field_meant, arm_meant}
 use Rattle.cat_names.specs.ScopeWords.{all_words, scope_words, IsWordOf, AreWordsOf}
 use Rattle.cat_names.specs.TypedMeanings.{OnFound}
-use Rattle.cat_names.proofs.OnFound.{on_then, on_both, on_where, on_any}
+use Rattle.cat_names.proofs.OnFound.{on_then, on_both, on_both_where, on_where, on_any}
 use Rattle.cat_names.proofs.Equations as equation
 use Rattle.cat_names.proofs.WordEquations as written
 use Rattle.cat_names.proofs.WordEquations.{value_words, body_words}
@@ -195,11 +195,10 @@ module _ (ns : Names) where
   on_call w args he ls ex = rw (written.words_Call w args, equation.meant_Call ns w args ls ex)
       (calls_fitting ns.decls _ ex _ (on_then (λ f. Unit {0}) (By (all_words (map scope_words args)))
       (function_found ns w ls) _ (on_any (function_found ns w ls)) (λ f i.
-      on_where (By (all_words (map scope_words args))) (nat_eq (length args) (length f.1.params)) _ _ (λ is.
-      on_then (CallAll ns.decls scope_words (meant ns) args) (By (all_words (map scope_words args)))
-      (arguments_of (meant ns) args ls f.1.params) _ (calls_arguments ns.decls scope_words (meant ns) args he ls
-      f.1.params) (λ xs hxs.
-      rw (names_by_level own_scope (expr.Call w.pos f.0 xs), expr.outs-Call w.pos f.0 xs) hxs)))))
+      on_both_where (CallAll ns.decls scope_words (meant ns) args) (By (all_words (map scope_words args)))
+      (nat_eq (length args) (length f.1.params)) _ f (arguments_of (meant ns) args ls f.1.params) _
+      (λ is. calls_arguments ns.decls scope_words (meant ns) args he ls f.1.params) (λ is xs hxs.
+      rw (names_by_level own_scope (expr.Call w.pos f.0 xs), expr.outs-Call w.pos f.0 xs) hxs))))
 
   on_binary : (o : Operator) (p : Pos) (a b : Node) → Called_ a → Called_ b → Called_ (node.Binary o p a b)
   on_binary o p a b ha hb ls ex = rw (written.words_Binary o p a b, equation.meant_Binary ns o p a b ls ex)

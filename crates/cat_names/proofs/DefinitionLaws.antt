@@ -40,7 +40,7 @@ use Rattle.cat_names.specs.Definitions.{boolean_of, condition_of, joined, named_
 use Rattle.cat_names.specs.Definitions.{whole_condition}
 use Rattle.cat_names.specs.Definitions.{def_of, definition_meant, is_fulfilled, rule_meant, assertion_meant}
 use Rattle.cat_names.specs.TypedMeanings.{OnFound, names_at, AreDeclared, IsTyped}
-use Rattle.cat_names.proofs.OnFound.{on_then, on_both, on_where, on_or}
+use Rattle.cat_names.proofs.OnFound.{on_then, on_both, on_both_where, on_where, on_or}
 use Rattle.cat_names.proofs.SameTypes.{same_is}
 use Rattle.cat_names.proofs.Lookups.{first_is}
 use Rattle.cat_names.proofs.OperationLaws.{both_true}
@@ -247,13 +247,13 @@ module _ (ds : Decls) (sound : AreSound ds) (conditions : AreConditions ds) (sco
   pub rule_stands : (block : Option Node) (l : Lead) (p : Pos) (t : TargetName) (c : Option Node) (f : Fulfilled)
       → OnFound DefStands (rule_meant ns scope block l p t c f)
   rule_stands block l p t c f = on_then (AimOf t) DefStands (aim_of ns scope t) _ (aim_stands t)
-      (λ a ha. on_where DefStands a.condition _ _
-      (λ is. on_then (ConditionStands a.params) DefStands (whole_condition ns block c t.params a.params) _
-      (whole_stands block c t.params a.params ha.stands.params ha.as_many)
-      (λ condition hc. def_stands l p t a ha condition hc (leaf.Literal p (literal.Boolean (is_fulfilled f)))
+      (λ a ha. on_both_where (ConditionStands a.params) DefStands a.condition _ a
+      (whole_condition ns block c t.params a.params) _
+      (λ is. whole_stands block c t.params a.params ha.stands.params ha.as_many)
+      (λ is condition hc. def_stands l p t a ha condition hc (leaf.Literal p (literal.Boolean (is_fulfilled f)))
       (subst (λ u. HasType ns a.params (leaf.Literal p (literal.Boolean (is_fulfilled f))) u)
       (sym (ha.stands.boolean is)) (typed.literal refl))
-      (rw (placed_Literal p (literal.Boolean (is_fulfilled f))) refl))))
+      (rw (placed_Literal p (literal.Boolean (is_fulfilled f))) refl)))
 
   pub record AssertionStands (a : asserted.Assertion) : Type 0 where
     pub typed : AssertionTyped ns a

@@ -1,5 +1,5 @@
 -- Worked examples of what stands against targets, rules, roundings, names of types and cases, and heights.
-use Rattle.std.proofs.Common.{◌≡◌, true, false, IsTrue, List, [], ◌∷◌, Some, None, rules}
+use Rattle.std.proofs.Common.{◌≡◌, true, false, IsTrue, List, [], ◌∷◌, Some, None, Err, rules}
 use Rattle.cat_pos.specs.declared.pos.Pos.{Pos}
 use Rattle.cat_value.specs.declared.ty.Ty.TheVariants as flat_ty
 use Rattle.cat_value.specs.declared.declaration.Enumeration.{Enumeration}
@@ -10,6 +10,7 @@ use Rattle.cat_value.specs.Declarations.{are_sound}
 use Rattle.cat_tree.specs.declared.name.CaseName.TheVariants as case
 use Rattle.cat_tree.specs.declared.name.Base.TheVariants as base
 use Rattle.cat_tree.specs.declared.name.Type as types
+use Rattle.cat_tree.specs.declared.expression.Operator.TheVariants as operator
 use Rattle.cat_tree.specs.declared.expression.Node.TheVariants as leaf
 use Rattle.cat_tree.specs.declared.expression.Node.TheViews as node
 use Rattle.cat_tree.specs.declared.program.Fulfilled.TheVariants as fulfilled
@@ -18,12 +19,12 @@ use Rattle.cat_scope.specs.Names.{Names}
 use Rattle.cat_names.specs.declared.fault.Fault.TheVariants.{NameTwice, NameUnknown, TypeMismatch, Misplaced}
 use Rattle.cat_names.specs.Found.{faulty}
 use Rattle.cat_names.specs.Meaning.{meant}
-use Rattle.cat_names.specs.Definitions.{definition_meant, rule_meant}
+use Rattle.cat_names.specs.Definitions.{boolean_of, definition_meant, rule_meant}
 use Rattle.cat_names.specs.NameFaults.{name_faults}
 use Rattle.cat_names.specs.Bodies.{contradictions, outward_function}
 use Rattle.cat_names.proofs.TypeEquations.{views}
 use Rattle.cat_names.proofs.Equations.{forms}
-use Rattle.cat_names.proofs.Samples.{at, name, whole, plain, a, b, n, q, s, S, T, item_of}
+use Rattle.cat_names.proofs.Samples.{at, name, local, whole, plain, a, b, n, q, s, S, T, item_of}
 
 -- a scope with an input n, a called scope s of the scope T, and a function f of an integer; T has an input a and an
 -- internal variable b
@@ -103,6 +104,25 @@ module _ (sound : IsTrue (are_sound [] enumerations scopes)) where
       (record { name = name 102 p; inner = None; params = name q (at 20 19) ∷ [] }) None fulfilled.Yes
       ≡ faulty (Misplaced (at 20 3))
   a_rule_is_for_a_condition = search (rules, forms, views)
+
+  -- `rule f of q under condition 1 consequence fulfilled`: the condition is looked at too
+  a_rule_on_no_condition_has_a_condition : rule_meant names 0 None plain (at 20 3)
+      (record { name = name 102 p; inner = None; params = name q (at 20 19) ∷ [] }) (Some (whole 1 (at 20 37)))
+      fulfilled.Yes
+      ≡ Err (Misplaced (at 20 3) ∷ TypeMismatch (at 20 37) ∷ [])
+  a_rule_on_no_condition_has_a_condition = search (rules, forms, views)
+
+  -- `f of q, 1`: the arguments are looked at too
+  arguments_of_another_count : meant names (node.Call (name 102 p) (local q (at 20 19) ∷ whole 1 (at 20 22) ∷ [])) []
+      None
+      ≡ Err (TypeMismatch p ∷ NameUnknown (at 20 19) ∷ [])
+  arguments_of_another_count = search (rules, forms, views)
+
+  -- `(1 + 2)` as a condition: that it is no boolean stands inside
+  a_mismatch_stands_in_parentheses : boolean_of names
+      (node.Parens p (node.Binary operator.Plus (at 20 17) (whole 1 (at 20 15)) (whole 2 (at 20 19)))) []
+      ≡ faulty (TypeMismatch (at 20 17))
+  a_mismatch_stands_in_parentheses = search (rules, forms, views)
 
   -- `A`, which two enumerations declare, and `E.A`
   a_case_of_two_enumerations_is_unknown : meant names (leaf.Case (case.Bare (name 65 p))) [] None ≡ faulty

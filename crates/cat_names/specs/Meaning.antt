@@ -30,9 +30,9 @@ pub record Part : Type 0 where
   pub name : Option Name
   pub means : Meaning
 
--- the same expression, begun by a parenthesis
+-- the same expression, begun by a parenthesis; that its type isn't the one wanted stands inside, where it stood
 abbrev pub starting : Pos → Typed → Typed
-starting p x = record { first = p; operator = p; expr = x.expr; ty = x.ty }
+starting p x = record { first = p; operator = x.operator; expr = x.expr; ty = x.ty }
 
 -- the type that is written in a sum
 abbrev pub type_found : Names → written.Type → Found Ty

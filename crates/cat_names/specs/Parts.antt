@@ -56,8 +56,8 @@ arguments_of means _ locals _ = Ok []
 -- a call of a function: as many arguments as it has parameters
 abbrev pub call_of : {A : Type 0} → (A → Meaning) → Name → List A → List Local → ℕ × ItemDecl → Found Typed
 call_of means w args locals f =
-    where_true (nat_eq (length args) (length f.1.params)) (TypeMismatch w.pos)
-    (and_then (arguments_of means args locals f.1.params) (λ es. Ok (typed w.pos (expr.Call w.pos f.0 es) f.1.ty)))
+    both (where_true (nat_eq (length args) (length f.1.params)) (TypeMismatch w.pos) (Ok f))
+    (arguments_of means args locals f.1.params) (λ g es. Ok (typed w.pos (expr.Call w.pos g.0 es) g.1.ty))
 
 -- ---- fields
 
