@@ -24,9 +24,8 @@ on_where P false fault found h = tt
 
 -- a test beside a part
 pub on_both_where : {A B C : Type 0} (Q : B → Type 0) (R : C → Type 0) (test : Bool) (fault : Fault) (a : A)
-    (y : Found B)
-    (go : A → B → Found C) → (IsTrue test → OnFound Q y) → (IsTrue test → (b : B) → Q b → OnFound R (go a b))
-    → OnFound R (both (where_true test fault (Ok a)) y go)
+    (y : Found B) (go : A → B → Found C) → (IsTrue test → OnFound Q y)
+    → (IsTrue test → (b : B) → Q b → OnFound R (go a b)) → OnFound R (both (where_true test fault (Ok a)) y go)
 on_both_where Q R true fault a (Ok b) go h next = next refl b (h refl)
 on_both_where Q R true fault a (Err faults) go h next = tt
 on_both_where Q R false fault a (Ok b) go h next = tt
