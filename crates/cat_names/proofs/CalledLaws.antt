@@ -35,7 +35,7 @@ use Rattle.cat_names.specs.declared.typed.Typed.{Typed}
 use Rattle.cat_names.specs.declared.typed.Local.{Local}
 use Rattle.cat_names.specs.Found.{or_fault}
 use Rattle.cat_names.specs.Types.{same, element_of, expected_element, enumeration_of, structure_of}
-use Rattle.cat_names.specs.Lookup.{first_named, number, innermost, item_named}
+use Rattle.cat_names.specs.Lookup.{first_named, number, innermost, item_named, type_names, type_found}
 use Rattle.cat_names.specs.Naming.{Called, called_scope, name_found, bound_or_item, item_found, function_found}
 use Rattle.cat_names.specs.Naming.{case_found}
 use Rattle.cat_names.specs.Naming.{case_first, structure_found, scope_found}
@@ -45,7 +45,7 @@ use Rattle.cat_names.specs.Forms.{bound}
 use Rattle.cat_names.specs.Parts.{Meaning, elements_of, arguments_of, values_of, arms_of}
 use Rattle.cat_names.specs.Compound.{dotted, content_of_type, case_alone}
 use Rattle.cat_names.specs.Compound.{branches_of}
-use Rattle.cat_names.specs.Meaning.{meant, name_alone, type_found, field_meant, arm_meant}
+use Rattle.cat_names.specs.Meaning.{meant, name_alone, field_meant, arm_meant}
 use Rattle.cat_names.specs.ScopeWords.{all_words, scope_words, IsWordOf, AreWordsOf}
 use Rattle.cat_names.specs.TypedMeanings.{OnFound}
 use Rattle.cat_names.proofs.OnFound.{on_then, on_both, on_both_where, on_where, on_any}
@@ -181,7 +181,8 @@ module _ (ns : Names) where
   on_sum : (p : Pos) (t : types.Type) (e : Node) → Called_ e → Called_ (node.Sum p t e)
   on_sum p t e he ls ex = rw (written.words_Sum p t e, equation.meant_Sum ns p t e ls ex)
       (calls_fitting ns.decls _ ex _ (on_both (λ u. Unit {0}) (By (scope_words e)) (By (scope_words e))
-      (type_found ns t) (meant ns e ls None) _ (on_any (type_found ns t)) (he ls None)
+      (type_found (type_names ns.decls) t) (meant ns e ls None) _ (on_any (type_found (type_names ns.decls) t))
+      (he ls None)
       (λ u x i hx. calls_sum ns.decls p u (scope_words e) x
       hx)))
 

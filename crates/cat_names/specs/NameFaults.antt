@@ -62,19 +62,19 @@ item_faults items (item.Block b) =
 item_faults items declaration = declaration_faults declaration
 
 -- the position of a definition or a rule
-abbrev pub definition_place : Use → List Pos
-definition_place (uses.Definition l p t c e) = p ∷ []
-definition_place (uses.Rule l p t c f) = p ∷ []
-definition_place _ = []
+abbrev pub definition_position : Use → List Pos
+definition_position (uses.Definition l p t c e) = p ∷ []
+definition_position (uses.Rule l p t c f) = p ∷ []
+definition_position _ = []
 
 -- the positions of the definitions and rules of a block
-abbrev pub definition_places : Item → List Pos
-definition_places (item.Block b) = of_all definition_place b.uses
-definition_places _ = []
+abbrev pub definition_positions : Item → List Pos
+definition_positions (item.Block b) = of_all definition_position b.uses
+definition_positions _ = []
 
 -- the later of two equal names; names of types and scopes in declarations, of scopes of blocks, of items and bound
 -- names that name nothing; and the first thing past each count
 abbrev pub name_faults : Tree → List Fault
 name_faults tree = twice [] (of_all declared_name tree.items) ++ faults_of (declared_of tree.items)
     ++ of_all (item_faults tree.items) tree.items
-    ++ past MOST_DEFINITIONS (of_all definition_places tree.items)
+    ++ past MOST_DEFINITIONS (of_all definition_positions tree.items)
