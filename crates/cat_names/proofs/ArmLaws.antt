@@ -32,7 +32,7 @@ use Rattle.cat_names.specs.Types.{fits, enumeration_of}
 use Rattle.cat_names.specs.Lookup.{first_named, number, with_case, cases_named, types_of, type_named, type_names}
 use Rattle.cat_names.specs.Naming.{only_case, case_among, case_found}
 use Rattle.cat_names.specs.Forms.{bound}
-use Rattle.cat_names.specs.Parts.{Meaning, with_content, is_there, pattern_of, arm_of, all_arms, arms_of}
+use Rattle.cat_names.specs.Parts.{Meaning, with_content, pattern_of, arm_of, all_arms, arms_of}
 use Rattle.cat_names.specs.TypedMeanings.{OnFound, names_at, AreDeclared, IsExpected, IsTyped}
 use Rattle.cat_names.proofs.OnFound.{on_then, on_both, on_where, on_any}
 use Rattle.cat_names.proofs.SameTypes.{same_is}
@@ -154,7 +154,7 @@ module _ (ds : Decls) (sound : AreSound ds) (scope : ℕ) where
       by : (k : ℕ) (w : Option Name) (content : Option (Option Ty)) → content_of ds n k ≡ content
           → IsTrue (has_case ds n k)
           → OnFound (PatternStands n ls) (and_then {A = List Local} (with_content p w content ls)
-          (λ inside. Ok (pattern.Case k (is_there w), inside)))
+          (λ inside. Ok (pattern.Case k (is_some w), inside)))
       by k None content is there = record { locals = (there, refl); declared = all }
       by k (Some w) (Some (Some t)) is there = record {
         locals = (t, is, types_join ls (bound w t));

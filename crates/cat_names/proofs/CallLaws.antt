@@ -33,7 +33,7 @@ use Rattle.cat_names.specs.Forms.{field_in, given_in, input_in, output_in}
 use Rattle.cat_names.specs.Parts.{Meaning, arguments_of, call_of, values_of}
 use Rattle.cat_names.specs.Compound.{content_of_type, structure_of_fields, scope_call_of}
 use Rattle.cat_names.specs.TypedMeanings.{OnFound, names_at, AreDeclared, HasItsType, IsTyped}
-use Rattle.cat_names.proofs.OnFound.{on_then, on_both, on_where, on_or, on_any}
+use Rattle.cat_names.proofs.OnFound.{on_then, on_both, on_both_where, on_where, on_or, on_any}
 use Rattle.cat_names.proofs.Lookups.{first_is}
 use Rattle.cat_names.proofs.DeclaredTypes.{item_declared, param_declared, output_declared, field_declared}
 use Rattle.cat_names.proofs.DeclaredTypes.{content_declared, enumeration_declared}
@@ -175,12 +175,12 @@ module _ (ds : Decls) (sound : AreSound ds) (scope : ℕ) (ls : List Local) (ex 
       → Each (λ a. Sound ds sound scope (means a)) args → AreDeclared ds ls
       → OnFound Has (and_then (function_found ns w ls) (call_of means w args ls))
   call_has means w args each all = on_then IsCallee Has (function_found ns w ls) _ (function_there w)
-      (λ f hf. on_where Has (nat_eq (length args) (length f.1.params)) _ _ (λ as_many.
-      on_then (ArgumentsStand ds sound scope means ls f.1.params) Has (arguments_of means args ls f.1.params) _
-      (arguments_stand ds sound scope means args each ls f.1.params all
+      (λ f hf. on_both_where (ArgumentsStand ds sound scope means ls f.1.params) Has
+      (nat_eq (length args) (length f.1.params)) _ f (arguments_of means args ls f.1.params) _
+      (λ as_many. arguments_stand ds sound scope means args each ls f.1.params all
       (each_all (λ t. IsTrue (is_type ds t)) f.1.params (param_declared ds sound scope f.0 f.1 hf.item))
       (equal_numbers (length args) (length f.1.params) as_many))
-      (λ xs hxs. record {
+      (λ as_many xs hxs. record {
         typed = typed.call f.1.params
             (record {
               decl = f.1;
@@ -191,4 +191,4 @@ module _ (ds : Decls) (sound : AreSound ds) (scope : ℕ) (ls : List Local) (ex 
             }) hxs.typed;
         placed = rw (placed_Call w.pos f.0 xs) hxs.placed;
         declared = item_declared ds sound scope f.0 f.1 hf.item;
-      })))
+      }))

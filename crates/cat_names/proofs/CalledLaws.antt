@@ -35,7 +35,7 @@ use Rattle.cat_names.specs.declared.typed.Typed.{Typed}
 use Rattle.cat_names.specs.declared.typed.Local.{Local}
 use Rattle.cat_names.specs.Found.{or_fault}
 use Rattle.cat_names.specs.Types.{same, element_of, expected_element, enumeration_of, structure_of}
-use Rattle.cat_names.specs.Lookup.{first_named, number, innermost, item_named}
+use Rattle.cat_names.specs.Lookup.{first_named, number, innermost, item_named, type_names, type_found}
 use Rattle.cat_names.specs.Naming.{Called, called_scope, name_found, bound_or_item, item_found, function_found}
 use Rattle.cat_names.specs.Naming.{case_found}
 use Rattle.cat_names.specs.Naming.{case_first, structure_found, scope_found}
@@ -45,10 +45,10 @@ use Rattle.cat_names.specs.Forms.{bound}
 use Rattle.cat_names.specs.Parts.{Meaning, elements_of, arguments_of, values_of, arms_of}
 use Rattle.cat_names.specs.Compound.{dotted, content_of_type, case_alone}
 use Rattle.cat_names.specs.Compound.{branches_of}
-use Rattle.cat_names.specs.Meaning.{meant, name_alone, type_found, field_meant, arm_meant}
+use Rattle.cat_names.specs.Meaning.{meant, name_alone, field_meant, arm_meant}
 use Rattle.cat_names.specs.ScopeWords.{all_words, scope_words, IsWordOf, AreWordsOf}
 use Rattle.cat_names.specs.TypedMeanings.{OnFound}
-use Rattle.cat_names.proofs.OnFound.{on_then, on_both, on_where, on_any}
+use Rattle.cat_names.proofs.OnFound.{on_then, on_both, on_both_where, on_where, on_any}
 use Rattle.cat_names.proofs.Equations as equation
 use Rattle.cat_names.proofs.WordEquations as written
 use Rattle.cat_names.proofs.WordEquations.{value_words, body_words}
@@ -181,7 +181,8 @@ module _ (ns : Names) where
   on_sum : (p : Pos) (t : types.Type) (e : Node) → Called_ e → Called_ (node.Sum p t e)
   on_sum p t e he ls ex = rw (written.words_Sum p t e, equation.meant_Sum ns p t e ls ex)
       (calls_fitting ns.decls _ ex _ (on_both (λ u. Unit {0}) (By (scope_words e)) (By (scope_words e))
-      (type_found ns t) (meant ns e ls None) _ (on_any (type_found ns t)) (he ls None)
+      (type_found (type_names ns.decls) t) (meant ns e ls None) _ (on_any (type_found (type_names ns.decls) t))
+      (he ls None)
       (λ u x i hx. calls_sum ns.decls p u (scope_words e) x
       hx)))
 
@@ -195,11 +196,10 @@ module _ (ns : Names) where
   on_call w args he ls ex = rw (written.words_Call w args, equation.meant_Call ns w args ls ex)
       (calls_fitting ns.decls _ ex _ (on_then (λ f. Unit {0}) (By (all_words (map scope_words args)))
       (function_found ns w ls) _ (on_any (function_found ns w ls)) (λ f i.
-      on_where (By (all_words (map scope_words args))) (nat_eq (length args) (length f.1.params)) _ _ (λ is.
-      on_then (CallAll ns.decls scope_words (meant ns) args) (By (all_words (map scope_words args)))
-      (arguments_of (meant ns) args ls f.1.params) _ (calls_arguments ns.decls scope_words (meant ns) args he ls
-      f.1.params) (λ xs hxs.
-      rw (names_by_level own_scope (expr.Call w.pos f.0 xs), expr.outs-Call w.pos f.0 xs) hxs)))))
+      on_both_where (CallAll ns.decls scope_words (meant ns) args) (By (all_words (map scope_words args)))
+      (nat_eq (length args) (length f.1.params)) _ f (arguments_of (meant ns) args ls f.1.params) _
+      (λ is. calls_arguments ns.decls scope_words (meant ns) args he ls f.1.params) (λ is xs hxs.
+      rw (names_by_level own_scope (expr.Call w.pos f.0 xs), expr.outs-Call w.pos f.0 xs) hxs))))
 
   on_binary : (o : Operator) (p : Pos) (a b : Node) → Called_ a → Called_ b → Called_ (node.Binary o p a b)
   on_binary o p a b ha hb ls ex = rw (written.words_Binary o p a b, equation.meant_Binary ns o p a b ls ex)

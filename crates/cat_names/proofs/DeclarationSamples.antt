@@ -91,9 +91,9 @@ a_structure_is_no_part_of_itself : IsTypeCycle own_part own_part_declared (TypeC
 unfolding IsOnCycle
 a_structure_is_no_part_of_itself = record {
   number = 0;
-  place = at 2 23;
+  position = at 2 23;
   on_cycle = ([], rw (named_Structure 1 0) refl);
-  place_is = refl;
+  position_is = refl;
   fault_is = refl;
 }
 

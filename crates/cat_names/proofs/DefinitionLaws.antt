@@ -1,5 +1,5 @@
 -- What definitions, rules and assertions mean is typed.
-use Rattle.std.proofs.Common.{◌≡◌, ℕ, nat_eq, true, false, IsTrue, List, [], ◌∷◌}
+use Rattle.std.proofs.Common.{◌≡◌, ℕ, nat_eq, not, true, false, is_some, IsTrue, List, [], ◌∷◌}
 use Rattle.std.proofs.Common.{length, Option, Some, None, Ok, slice_get, refl, sym, ap, subst, arith}
 use Rattle.cat_pos.specs.declared.pos.Pos.{Pos}
 use Rattle.cat_value.specs.declared.ty.Ty.{Ty}
@@ -32,15 +32,15 @@ use Rattle.cat_names.specs.declared.fault.Fault.TheVariants.{NameUnknown}
 use Rattle.cat_names.specs.declared.typed.Typed.{Typed}
 use Rattle.cat_names.specs.declared.typed.Local.{Local}
 use Rattle.cat_names.specs.Found.{or_fault}
-use Rattle.cat_names.specs.Types.{fits}
+use Rattle.cat_names.specs.Types.{fits, structure_of}
 use Rattle.cat_names.specs.Lookup.{item_named, scope_called, types_of}
 use Rattle.cat_names.specs.Meaning.{meant}
-use Rattle.cat_names.specs.Aims.{Aim, own_aim, inner_aim, called_aim, aim_at, aim_of}
+use Rattle.cat_names.specs.Aims.{Aim, own_aim, inner_aim, part_fault, called_aim, aim_at, aim_of}
 use Rattle.cat_names.specs.Definitions.{boolean_of, condition_of, joined, named_params, nameless_params}
 use Rattle.cat_names.specs.Definitions.{whole_condition}
 use Rattle.cat_names.specs.Definitions.{def_of, definition_meant, is_fulfilled, rule_meant, assertion_meant}
 use Rattle.cat_names.specs.TypedMeanings.{OnFound, names_at, AreDeclared, IsTyped}
-use Rattle.cat_names.proofs.OnFound.{on_then, on_both, on_where, on_or}
+use Rattle.cat_names.proofs.OnFound.{on_then, on_both, on_both_where, on_where, on_or}
 use Rattle.cat_names.proofs.SameTypes.{same_is}
 use Rattle.cat_names.proofs.Lookups.{first_is}
 use Rattle.cat_names.proofs.OperationLaws.{both_true}
@@ -137,12 +137,14 @@ module _ (ds : Decls) (sound : AreSound ds) (conditions : AreConditions ds) (sco
       by None e = tt
       by (Some i) e = let at = first_is (λ x. x.name) w ns.items i e in
           on_then (λ called. scope_called i.1.kind ≡ Some called) AimStands
-          (or_fault (NameUnknown y.pos) (scope_called i.1.kind)) _ (on_or (NameUnknown y.pos) (scope_called i.1.kind))
+          (or_fault (part_fault ds p y (structure_of i.1.ty)) (scope_called i.1.kind)) _
+          (on_or (part_fault ds p y (structure_of i.1.ty)) (scope_called i.1.kind))
           (λ called is. on_then (λ k. item_named y.text (scope_items ds called) ≡ Some k) AimStands
           (or_fault (NameUnknown y.pos) (item_named y.text (scope_items ds called))) _
           (on_or (NameUnknown y.pos) (item_named y.text (scope_items ds called)))
-          (λ k found. inner_stands p i called at (called_kind i.1.kind called is) k
-          (first_is (λ x. x.name) y.text (scope_items ds called) k found)))
+          (λ k found. on_where AimStands (not (is_some (scope_called k.1.kind))) _ _
+          (λ variable. inner_stands p i called at (called_kind i.1.kind called is) k
+          (first_is (λ x. x.name) y.text (scope_items ds called) k found))))
 
   at_stands : (w : Name) (y : Option Name) → OnFound AimStands (aim_at ns scope w y)
   at_stands w None = own_stands w.pos w.text
@@ -247,13 +249,13 @@ module _ (ds : Decls) (sound : AreSound ds) (conditions : AreConditions ds) (sco
   pub rule_stands : (block : Option Node) (l : Lead) (p : Pos) (t : TargetName) (c : Option Node) (f : Fulfilled)
       → OnFound DefStands (rule_meant ns scope block l p t c f)
   rule_stands block l p t c f = on_then (AimOf t) DefStands (aim_of ns scope t) _ (aim_stands t)
-      (λ a ha. on_where DefStands a.condition _ _
-      (λ is. on_then (ConditionStands a.params) DefStands (whole_condition ns block c t.params a.params) _
-      (whole_stands block c t.params a.params ha.stands.params ha.as_many)
-      (λ condition hc. def_stands l p t a ha condition hc (leaf.Literal p (literal.Boolean (is_fulfilled f)))
+      (λ a ha. on_both_where (ConditionStands a.params) DefStands a.condition _ a
+      (whole_condition ns block c t.params a.params) _
+      (λ is. whole_stands block c t.params a.params ha.stands.params ha.as_many)
+      (λ is condition hc. def_stands l p t a ha condition hc (leaf.Literal p (literal.Boolean (is_fulfilled f)))
       (subst (λ u. HasType ns a.params (leaf.Literal p (literal.Boolean (is_fulfilled f))) u)
       (sym (ha.stands.boolean is)) (typed.literal refl))
-      (rw (placed_Literal p (literal.Boolean (is_fulfilled f))) refl))))
+      (rw (placed_Literal p (literal.Boolean (is_fulfilled f))) refl)))
 
   pub record AssertionStands (a : asserted.Assertion) : Type 0 where
     pub typed : AssertionTyped ns a

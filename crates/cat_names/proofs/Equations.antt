@@ -32,7 +32,8 @@ use Rattle.cat_names.specs.Parts.{elements_of, list_of, call_of}
 use Rattle.cat_names.specs.Compound.{dotted, content_of_type, case_alone, structure_of_fields, scope_call_of}
 use Rattle.cat_names.specs.Compound.{branches_of, match_of, over_list, combine_over}
 use Rattle.cat_names.specs.Meaning.{Part, beside, name_alone, meaning_of, part_of, arm_part, field_part, as_part, meant}
-use Rattle.cat_names.specs.Meaning.{starting, type_found, field_meant, arm_meant}
+use Rattle.cat_names.specs.Lookup.{type_names, type_found}
+use Rattle.cat_names.specs.Meaning.{starting, field_meant, arm_meant}
 use Rattle.cat_names.proofs.ListEquations.{elements_along, call_along, structure_along, scope_call_along, match_along}
 
 abbrev field : Names → FieldValue → Name × Part
@@ -122,7 +123,8 @@ unfolding meant
 meant_Prefixed ns o p e ls ex = at_level ns (node.Prefixed o p e) ls ex ∙ rw (node.outs-Prefixed o p e) refl
 
 pub meant_Sum : (ns : Names) (p : Pos) (t : types.Type) (l : Node) (ls : List Local) (ex : Option Ty)
-    → meant ns (node.Sum p t l) ls ex ≡ fitting ex (both (type_found ns t) (meant ns l ls None) (sum_of p))
+    → meant ns (node.Sum p t l) ls ex ≡ fitting ex (both (type_found (type_names ns.decls) t) (meant ns l ls None)
+    (sum_of p))
 unfolding meant
 meant_Sum ns p t l ls ex = at_level ns (node.Sum p t l) ls ex ∙ rw (node.outs-Sum p t l) refl
 

@@ -22,6 +22,15 @@ pub on_where : {A : Type 0} (P : A → Type 0) (test : Bool) (fault : Fault) (fo
 on_where P true fault found h = h refl
 on_where P false fault found h = tt
 
+-- a test beside a part
+pub on_both_where : {A B C : Type 0} (Q : B → Type 0) (R : C → Type 0) (test : Bool) (fault : Fault) (a : A)
+    (y : Found B) (go : A → B → Found C) → (IsTrue test → OnFound Q y)
+    → (IsTrue test → (b : B) → Q b → OnFound R (go a b)) → OnFound R (both (where_true test fault (Ok a)) y go)
+on_both_where Q R true fault a (Ok b) go h next = next refl b (h refl)
+on_both_where Q R true fault a (Err faults) go h next = tt
+on_both_where Q R false fault a (Ok b) go h next = tt
+on_both_where Q R false fault a (Err faults) go h next = tt
+
 pub on_or : {A : Type 0} (fault : Fault) (o : Option A) → OnFound (λ a. o ≡ Some a) (or_fault fault o)
 on_or fault (Some a) = refl
 on_or fault None = tt

@@ -26,7 +26,8 @@ use Rattle.cat_names.specs.declared.typed.Local.{Local}
 use Rattle.cat_names.specs.Naming.{case_found, case_first, structure_found, scope_found}
 use Rattle.cat_names.specs.Operations.{literal_written}
 use Rattle.cat_names.specs.Compound.{branches_of}
-use Rattle.cat_names.specs.Meaning.{meant, name_alone, type_found, field_meant, arm_meant}
+use Rattle.cat_names.specs.Lookup.{type_names, type_found}
+use Rattle.cat_names.specs.Meaning.{meant, name_alone, field_meant, arm_meant}
 use Rattle.cat_names.specs.TypedMeanings.{names_at, HasItsType, IsTyped}
 use Rattle.cat_names.proofs.OnFound.{on_then, on_both, on_any}
 use Rattle.cat_names.proofs.Equations as equation
@@ -84,8 +85,8 @@ module _ (ds : Decls) (sound : AreSound ds) (scope : ℕ) where
 
   on_sum : (p : Pos) (t : types.Type) (l : Node) → Sound l → Sound (node.Sum p t l)
   on_sum p t l hl ls ex all h = rw (equation.meant_Sum ns p t l ls ex) (on_fitting ds sound scope ls ex _
-      (on_both (λ u. Unit {0}) (Operand ls) (Has ls ex) (type_found ns t) (meant ns l ls None) _
-      (on_any (type_found ns t)) (hl ls None all tt) (λ u x i hx. sum_has ns ls ex p u x hx)))
+      (on_both (λ u. Unit {0}) (Operand ls) (Has ls ex) (type_found (type_names ns.decls) t) (meant ns l ls None) _
+      (on_any (type_found (type_names ns.decls) t)) (hl ls None all tt) (λ u x i hx. sum_has ns ls ex p u x hx)))
 
   on_content : (c : CaseName) (e : Node) → Sound e → Sound (node.Content c e)
   on_content c e he ls ex all h = rw (equation.meant_Content ns c e ls ex) (on_fitting ds sound scope ls ex _

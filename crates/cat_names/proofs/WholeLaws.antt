@@ -35,9 +35,9 @@ use Rattle.cat_names.specs.declared.fault.Fault.{Fault}
 use Rattle.cat_names.specs.declared.fault.Fault.TheVariants.{Misplaced, NameUnknown}
 use Rattle.cat_names.specs.Found.{Found, and_then, both, or_fault, where_none, each_found, of_all}
 use Rattle.cat_value.specs.declared.declaration.Kind.TheVariants as kind
-use Rattle.cat_names.specs.Lookup.{TypeNames, first_named, number}
+use Rattle.cat_names.specs.Lookup.{TypeNames, type_found, first_named, number}
 use Rattle.cat_names.specs.Written.{scopes_in, types_in, scope_names_in}
-use Rattle.cat_names.specs.Declarations.{Declared, variable_type, type_declared, is_condition, item_declared}
+use Rattle.cat_names.specs.Declarations.{Declared, variable_type, is_condition, item_declared}
 use Rattle.cat_names.specs.Declarations.{scope_declared}
 use Rattle.cat_names.specs.Declarations.{declared_of}
 use Rattle.cat_names.specs.Lines.{Line, lines_from}
@@ -96,7 +96,7 @@ IsCondition i = IsTrue i.condition → i.ty ≡ flat_ty.Boolean
 type_stands : (names : TypeNames) (t : Option written.Type)
     → OnFound (λ u. IsTrue (is_condition t) → u ≡ flat_ty.Boolean) (variable_type names t)
 type_stands names None = λ is. refl
-type_stands names (Some t) = by (type_declared names t)
+type_stands names (Some t) = by (type_found names t)
   where
     by : (found : Found Ty) → OnFound (λ u. IsTrue false → u ≡ flat_ty.Boolean) found
     by (Ok u) = λ is. absurd (true≢false (sym is))
@@ -106,8 +106,8 @@ item_stands : (names : TypeNames) (scopes : List (List ℕ)) (v : Variable)
     → OnFound IsCondition (item_declared names scopes v)
 item_stands names scopes (variable.Own k p w t params) =
     on_both (λ u. IsTrue (is_condition t) → u ≡ flat_ty.Boolean) (λ ts. Unit {0}) IsCondition (variable_type names t)
-    (each_found (λ f. type_declared names f.ty) params) _
-    (type_stands names t) (on_any (each_found (λ f. type_declared names f.ty) params)) (λ u ts h i. h)
+    (each_found (λ f. type_found names f.ty) params) _
+    (type_stands names t) (on_any (each_found (λ f. type_found names f.ty) params)) (λ u ts h i. h)
 item_stands names scopes (variable.Called w u) = on_then (λ k. Unit {0}) IsCondition
     (or_fault (NameUnknown u.pos) (number kind.Called (first_named (λ name. name) u.text 0 scopes))) _
     (on_any (or_fault (NameUnknown u.pos) (number kind.Called (first_named (λ name. name) u.text 0 scopes))))

@@ -22,9 +22,9 @@ use Rattle.cat_tree.specs.declared.program.Item.TheVariants as item
 use Rattle.cat_scope.specs.Names.{AllHave}
 use Rattle.cat_names.specs.declared.fault.Fault.TheVariants.{NameUnknown}
 use Rattle.cat_names.specs.Found.{Found, or_fault, each_found, of_all}
-use Rattle.cat_names.specs.Lookup.{TypeNames, type_written}
+use Rattle.cat_names.specs.Lookup.{TypeNames, type_written, type_found}
 use Rattle.cat_names.specs.Written.{structures_in, enumerations_in, scopes_in}
-use Rattle.cat_names.specs.Declarations.{type_declared, field_declared, structure_declared, content_declared}
+use Rattle.cat_names.specs.Declarations.{field_declared, structure_declared, content_declared}
 use Rattle.cat_names.specs.Declarations.{case_declared}
 use Rattle.cat_names.specs.Declarations.{enumeration_declared, variable_type, item_declared, scope_declared}
 use Rattle.cat_names.specs.Declarations.{is_condition}
@@ -51,7 +51,7 @@ module _ (names : TypeNames) (Low : Ty → Type 0) where
   abbrev pub IsLowWritten : written.Type → Type 0
   IsLowWritten t = (u : Ty) → type_written names t ≡ Some u → Low u
 
-  type_back : (t : written.Type) (u : Ty) → type_declared names t ≡ Ok u → Low u → IsLowWritten t
+  type_back : (t : written.Type) (u : Ty) → type_found names t ≡ Ok u → Low u → IsLowWritten t
   type_back t u h low v is = by (type_written names t) h is
     where
       by : (o : Option Ty) → or_fault (NameUnknown t.pos) o ≡ Ok u → o ≡ Some v → Low v
@@ -62,7 +62,7 @@ module _ (names : TypeNames) (Low : Ty → Type 0) where
   HasLowFields s = AllHave (λ f. IsLowWritten f.ty) s.1
 
   field_back : (f : FieldItem) (g : Field) → field_declared names f ≡ Ok g → Low g.ty → IsLowWritten f.ty
-  field_back f g h low = let found = then_ok (type_declared names f.ty) _ g h in
+  field_back f g h low = let found = then_ok (type_found names f.ty) _ g h in
       let is : record { name = f.name.text; ty = found.0 } ≡ g = cc found.2 in
       type_back f.ty found.0 found.1 (subst Low (sym (ap (λ (x : Field). x.ty) is)) low)
 
@@ -89,7 +89,7 @@ module _ (names : TypeNames) (Low : Ty → Type 0) where
   content_back : (c : Option written.Type) (d : Option Ty) → content_declared names c ≡ Ok d → LowContent d
       → IsLowContent c
   content_back None d h low = tt
-  content_back (Some t) d h low = let found = then_ok (type_declared names t) _ d h in
+  content_back (Some t) d h low = let found = then_ok (type_found names t) _ d h in
       let is : Some found.0 ≡ d = cc found.2 in
       (type_back t found.0 found.1 (subst LowContent (sym is) low), tt)
 
@@ -136,7 +136,7 @@ module _ (names : TypeNames) (Low : Ty → Type 0) where
   item_back : (scopes : List (List ℕ)) (v : Variable) (i : ItemDecl) → item_declared names scopes v ≡ Ok i → LowItem i
       → IsLowVariable v
   item_back scopes (variable.Own k p w t params) i h low =
-      let found = both_ok (variable_type names t) (each_found (λ f. type_declared names f.ty) params) _ i h in
+      let found = both_ok (variable_type names t) (each_found (λ f. type_found names f.ty) params) _ i h in
       let is : record {
         name = w.text;
         pos = w.pos;
@@ -147,7 +147,7 @@ module _ (names : TypeNames) (Low : Ty → Type 0) where
       } ≡ i = cc found.4 in
       all_join IsLowWritten (some_type t) (map (λ f. f.ty) params)
       (variable_back t found.0 found.2 (subst Low (sym (ap (λ (x : ItemDecl). x.ty) is)) low.type))
-      (params_map params (each_back (λ f. type_declared names f.ty) (λ f. IsLowWritten f.ty) Low
+      (params_map params (each_back (λ f. type_found names f.ty) (λ f. IsLowWritten f.ty) Low
       (λ f u e l. type_back f.ty u e l) params found.1 found.3
       (subst (AllHave Low) (sym (ap (λ (x : ItemDecl). x.params) is)) low.params)))
   item_back scopes (variable.Called w u) i h low = tt

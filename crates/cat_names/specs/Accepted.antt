@@ -66,8 +66,7 @@ AreOrdered (scope ∷ scopes) (body ∷ bodies) = IsOrder (item_dependencies sco
     × HasShortChains (function_calls scope.items body.defs) × AreOrdered scopes bodies
 
 -- the program of a tree: its names and counts are in order; its declarations, of which `Decls` keeps that no type is on
--- a
--- cycle or too high; what it says of each scope; the orders; and no chain of calls is too long
+-- a cycle or too high; what it says of each scope; the orders; and no chain of calls is too long
 pub record IsProgramOf (tree : Tree) (decls : Decls) (bodies : List Body) (scope_order : List ℕ) : Type 0 where
   pub named : IsNamed tree (parts_of decls)
   pub meant : bodies_meant decls tree ≡ Ok (map unordered bodies)

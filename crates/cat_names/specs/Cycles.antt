@@ -25,16 +25,16 @@ use Rattle.cat_names.specs.ScopeWords.{words_in}
 -- ---- types
 
 -- the position of each name of a structure and, behind these, of an enumeration
-abbrev pub type_places : Tree → List Pos
-type_places tree = map (λ s. s.0.pos) (structures_in tree.items) ++ map (λ e. e.0.pos) (enumerations_in tree.items)
+abbrev pub type_positions : Tree → List Pos
+type_positions tree = map (λ s. s.0.pos) (structures_in tree.items) ++ map (λ e. e.0.pos) (enumerations_in tree.items)
 
 -- the name of a structure or an enumeration that is a part of itself
 pub record IsTypeCycle (tree : Tree) (ds : Declared) (fault : Fault) : Type 0 where
   pub number : ℕ
-  pub place : Pos
+  pub position : Pos
   pub on_cycle : IsOnCycle (type_dependencies ds.structures ds.enumerations) number
-  pub place_is : slice_get (type_places tree) number ≡ Some place
-  pub fault_is : fault ≡ TypeCycle place
+  pub position_is : slice_get (type_positions tree) number ≡ Some position
+  pub fault_is : fault ≡ TypeCycle position
 
 -- ---- scopes
 

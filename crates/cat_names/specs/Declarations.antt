@@ -22,15 +22,11 @@ use Rattle.cat_tree.specs.declared.program.Item.{Item}
 use Rattle.cat_names.specs.Written.{structures_in, enumerations_in, scopes_in, types_in, scope_names_in}
 use Rattle.cat_names.specs.declared.fault.Fault.TheVariants.{NameUnknown}
 use Rattle.cat_names.specs.Found.{Found, and_then, both, or_fault, each_found}
-use Rattle.cat_names.specs.Lookup.{TypeNames, type_written, first_named, number}
-
--- a type
-abbrev pub type_declared : TypeNames → written.Type → Found Ty
-type_declared names t = or_fault (NameUnknown t.pos) (type_written names t)
+use Rattle.cat_names.specs.Lookup.{TypeNames, type_found, first_named, number}
 
 -- a field
 abbrev pub field_declared : TypeNames → FieldItem → Found Field
-field_declared names f = and_then (type_declared names f.ty) (λ t. Ok (record { name = f.name.text; ty = t }))
+field_declared names f = and_then (type_found names f.ty) (λ t. Ok (record { name = f.name.text; ty = t }))
 
 -- a structure
 abbrev pub structure_declared : TypeNames → Name × List FieldItem → Found Structure
@@ -40,7 +36,7 @@ structure_declared names s =
 -- the content of a case, where it has one
 abbrev pub content_declared : TypeNames → Option written.Type → Found (Option Ty)
 content_declared names None = Ok None
-content_declared names (Some t) = and_then (type_declared names t) (λ u. Ok (Some u))
+content_declared names (Some t) = and_then (type_found names t) (λ u. Ok (Some u))
 
 -- a case
 abbrev pub case_declared : TypeNames → CaseItem → Found Case
@@ -64,7 +60,7 @@ kind_declared tree.ContextOutput = kind.ContextOutput
 -- the type of a variable; a condition is a boolean
 abbrev pub variable_type : TypeNames → Option written.Type → Found Ty
 variable_type names None = Ok flat.Boolean
-variable_type names (Some t) = type_declared names t
+variable_type names (Some t) = type_found names t
 
 -- whether a variable is a condition
 abbrev pub is_condition : Option written.Type → Bool
@@ -74,7 +70,7 @@ is_condition (Some t) = false
 -- a variable of a scope, or a called scope
 abbrev pub item_declared : TypeNames → List (List ℕ) → Variable → Found ItemDecl
 item_declared names scopes (variable.Own k p w t params) =
-    both (variable_type names t) (each_found (λ f. type_declared names f.ty) params) (λ ty types.
+    both (variable_type names t) (each_found (λ f. type_found names f.ty) params) (λ ty types.
     Ok (record {
       name = w.text;
       pos = w.pos;

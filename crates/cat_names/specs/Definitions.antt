@@ -105,9 +105,8 @@ is_fulfilled fulfilled.No = false
 abbrev pub rule_meant : Names → ℕ → Option Node → Lead → Pos → TargetName → Option Node → Fulfilled → Found Def
 rule_meant ns scope block l p t c f =
     and_then (aim_of ns scope t) (λ aim.
-    where_true aim.condition (Misplaced p)
-    (and_then (whole_condition ns block c t.params aim.params) (λ condition.
-    Ok (def_of l p aim condition (leaf.Literal p (literal.Boolean (is_fulfilled f)))))))
+    both (where_true aim.condition (Misplaced p) (Ok aim)) (whole_condition ns block c t.params aim.params)
+    (λ own condition. Ok (def_of l p own condition (leaf.Literal p (literal.Boolean (is_fulfilled f))))))
 
 -- an assertion: a boolean, under no block's condition
 abbrev pub assertion_meant : Names → Pos → Node → Found Assertion

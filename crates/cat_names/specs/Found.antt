@@ -1,11 +1,12 @@
--- What is found: an answer, or the faults that stand in its place.
+-- What is found: an answer, or faults that stand in its place.
 use Rattle.std.specs.Prelude.{◌≡◌, Bool, true, false, List, [], ◌∷◌, ◌++◌, Option, Some, None, Result, Ok, Err}
 use Rattle.cat_scope.specs.Names.{IsOneOf}
 use Rattle.cat_names.specs.declared.fault.Fault.{Fault}
 use Rattle.cat_names.specs.declared.fault.Refusal.{Refusal}
 use Rattle.cat_names.specs.declared.fault.Refusal.TheVariants.{Memory, Refused}
 
--- an answer, or each fault that stands
+-- an answer, or faults that stand in its place: of a form itself where its parts have answers, and of what hangs on a
+-- part only where that has one
 abbrev pub Found : Type 0 → Type 0
 Found A = Result A (List Fault)
 

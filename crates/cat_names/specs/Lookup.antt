@@ -12,7 +12,9 @@ use Rattle.cat_value.specs.declared.declaration.Kind.TheVariants as kind
 use Rattle.cat_tree.specs.declared.name.Base.{Base}
 use Rattle.cat_tree.specs.declared.name.Base.TheVariants as base
 use Rattle.cat_tree.specs.declared.name.Type as written
+use Rattle.cat_names.specs.declared.fault.Fault.TheVariants.{NameUnknown}
 use Rattle.cat_names.specs.declared.typed.Local.{Local}
+use Rattle.cat_names.specs.Found.{Found, or_fault}
 
 -- the first of a list that has the name, with its number, where they are numbered from n on
 abbrev pub first_named : {A : Type 0} → (A → List ℕ) → List ℕ → ℕ → List A → Option (ℕ × A)
@@ -93,6 +95,10 @@ listed n (Some t) = Some (lists_of n t)
 -- the type that is written
 abbrev pub type_written : TypeNames → written.Type → Option Ty
 type_written names t = listed t.lists (base_type names t.base)
+
+-- the same, or that the name in it is unknown
+abbrev pub type_found : TypeNames → written.Type → Found Ty
+type_found names t = or_fault (NameUnknown t.pos) (type_written names t)
 
 -- one more case, where an enumeration has one of that name
 abbrev pub with_case : {A : Type 0} → ℕ → Option (ℕ × A) → List (ℕ × ℕ) → List (ℕ × ℕ)

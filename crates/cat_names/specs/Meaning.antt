@@ -1,10 +1,8 @@
 -- What an expression means: one line a form.
 use Rattle.std.specs.Prelude.{Option, Some, None, Ok}
 use Rattle.cat_pos.specs.declared.pos.Pos.{Pos}
-use Rattle.cat_value.specs.declared.ty.Ty.{Ty}
 use Rattle.cat_value.specs.Entries.{content_of}
 use Rattle.cat_tree.specs.declared.name.Name.{Name}
-use Rattle.cat_tree.specs.declared.name.Type as written
 use Rattle.cat_tree.specs.declared.expression.Pattern.{Pattern}
 use Rattle.cat_tree.specs.declared.expression.Node.{Node}
 use Rattle.cat_tree.specs.declared.expression.Arm.{Arm}
@@ -12,11 +10,10 @@ use Rattle.cat_tree.specs.declared.expression.FieldValue.{FieldValue}
 use Rattle.cat_tree.specs.declared.expression.Node.TheOpen.{Node-F, Arm-F, FieldValue-F}
 use Rattle.cat_tree.specs.declared.expression.Node.TheFolds.{fold-Node}
 use Rattle.cat_scope.specs.Names.{Names}
-use Rattle.cat_names.specs.declared.fault.Fault.TheVariants.{NameUnknown}
 use Rattle.cat_names.specs.declared.typed.Typed.{Typed}
-use Rattle.cat_names.specs.Found.{Found, and_then, both, or_fault}
+use Rattle.cat_names.specs.Found.{and_then, both}
 use Rattle.cat_names.specs.Types.{expected_element}
-use Rattle.cat_names.specs.Lookup.{type_written, type_names}
+use Rattle.cat_names.specs.Lookup.{type_names, type_found}
 use Rattle.cat_names.specs.Naming.{name_found, function_found, called_scope, case_found, case_first}
 use Rattle.cat_names.specs.Naming.{structure_found, scope_found}
 use Rattle.cat_names.specs.Operations.{fitting, literal_written, literal_of, binary_of, prefixed_of, sum_of}
@@ -30,13 +27,9 @@ pub record Part : Type 0 where
   pub name : Option Name
   pub means : Meaning
 
--- the same expression, begun by a parenthesis
+-- the same expression, begun by a parenthesis; that its type isn't the one wanted stands inside, where it stood
 abbrev pub starting : Pos → Typed → Typed
-starting p x = record { first = p; operator = p; expr = x.expr; ty = x.ty }
-
--- the type that is written in a sum
-abbrev pub type_found : Names → written.Type → Found Ty
-type_found ns t = or_fault (NameUnknown t.pos) (type_written (type_names ns.decls) t)
+starting p x = record { first = p; operator = x.operator; expr = x.expr; ty = x.ty }
 
 -- what a part means that has a name or a pattern
 abbrev pub beside : {A : Type 0} → A × Part → A × Meaning
@@ -51,7 +44,8 @@ meaning_of ns (Node-F.Case c) ls ex =
 meaning_of ns (Node-F.Parens p e) ls ex = and_then (e.means ls ex) (λ x. Ok (starting p x))
 meaning_of ns (Node-F.Field e w) ls ex = fitting ex (dotted ns w e.means ls (called_scope ns e.name ls))
 meaning_of ns (Node-F.Prefixed o p e) ls ex = fitting ex (and_then (e.means ls None) (prefixed_of o p))
-meaning_of ns (Node-F.Sum p t l) ls ex = fitting ex (both (type_found ns t) (l.means ls None) (sum_of p))
+meaning_of ns (Node-F.Sum p t l) ls ex =
+    fitting ex (both (type_found (type_names ns.decls) t) (l.means ls None) (sum_of p))
 meaning_of ns (Node-F.Content c e) ls ex = fitting ex (and_then (case_found ns c) (λ k.
     content_of_type (case_first c) k e.means ls (content_of ns.decls k.0 k.1)))
 meaning_of ns (Node-F.Call w args) ls ex =
@@ -93,7 +87,8 @@ unfoldable pub as_part : Names → Node → Part
 as_part ns = fold-Node Part (Pattern × Part) (Name × Part) (part_of ns) arm_part field_part
 
 -- what an expression means under local names, where a type is expected or not: itself with each name as the number of
--- what it names, and its type; or the faults that stand in it
+-- what it names, and its type; or faults that stand in it: of a form itself where its parts have answers, and of what
+-- hangs on a part only where that has one
 unfoldable pub meant : Names → Node → Meaning
 meant ns e = (as_part ns e).means
 

@@ -1,5 +1,5 @@
 -- The faults of names and of counts in a whole tree: these stand in front of all others.
-use Rattle.std.specs.Prelude.{ℕ, List, [], ◌∷◌, ◌++◌, map, Option, Some, None}
+use Rattle.std.specs.Prelude.{ℕ, bytes_eq, List, [], ◌∷◌, ◌++◌, map, Option, Some, None, if◌then◌else◌}
 use Rattle.cat_pos.specs.declared.pos.Pos.{Pos}
 use Rattle.cat_tree.specs.declared.name.Name.{Name}
 use Rattle.cat_tree.specs.declared.expression.Node.{Node}
@@ -15,7 +15,6 @@ use Rattle.cat_names.specs.declared.limits.TheConstants.{MOST_DEFINITIONS}
 use Rattle.cat_names.specs.declared.fault.Fault.{Fault}
 use Rattle.cat_names.specs.declared.fault.Fault.TheVariants.{NameUnknown}
 use Rattle.cat_names.specs.Found.{faults_of, of_all}
-use Rattle.cat_names.specs.Lookup.{first_named}
 use Rattle.cat_names.specs.Written.{types_in, scopes_in, scope_names_in}
 use Rattle.cat_names.specs.Declarations.{declared_of}
 use Rattle.cat_names.specs.Unknown.{Known, twice, is_name, unless, unknown_in}
@@ -38,7 +37,7 @@ use_faults known (uses.Rule l p t c f) = target_faults known t ++ in_condition k
 use_faults known (uses.Assertion p e) = unknown_in known e []
 use_faults known (uses.DateRound p up) = []
 
--- what may be named in a block of a scope with these variables
+-- what may be named in a block of a scope with these variables; where several have its name, with those of all
 abbrev pub known_in : List Item → List Variable → Known
 known_in items variables = record {
   types = types_in items;
@@ -46,33 +45,36 @@ known_in items variables = record {
   items = texts (map variable_name variables);
 }
 
--- a block of a scope, where there is one: its condition knows no parameters
-abbrev pub block_faults : List Item → Block → Option (ℕ × (Name × List Variable)) → List Fault
-block_faults items b None = NameUnknown b.name.pos ∷ []
-block_faults items b (Some s) = in_condition (known_in items s.1.1) b.condition []
-    ++ of_all (use_faults (known_in items s.1.1)) b.uses
+-- the variables of each scope of that name
+abbrev pub variables_of : List ℕ → Name × List Variable → List Variable
+variables_of w s = if bytes_eq s.0.text w then s.1 else []
+
+-- a block of a scope: its condition knows no parameters
+abbrev pub block_faults : Known → Block → List Fault
+block_faults known b = in_condition known b.condition [] ++ of_all (use_faults known) b.uses
 
 -- a declaration or a block
 abbrev pub item_faults : List Item → Item → List Fault
 item_faults items (item.Block b) =
-    block_faults items b (first_named (λ s. s.0.text) b.name.text 0 (scopes_in items))
+    if is_name b.name.text (scope_names_in items)
+    then block_faults (known_in items (of_all (variables_of b.name.text) (scopes_in items))) b
+    else NameUnknown b.name.pos ∷ []
 item_faults items declaration = declaration_faults declaration
 
 -- the position of a definition or a rule
-abbrev pub definition_place : Use → List Pos
-definition_place (uses.Definition l p t c e) = p ∷ []
-definition_place (uses.Rule l p t c f) = p ∷ []
-definition_place _ = []
+abbrev pub definition_position : Use → List Pos
+definition_position (uses.Definition l p t c e) = p ∷ []
+definition_position (uses.Rule l p t c f) = p ∷ []
+definition_position _ = []
 
 -- the positions of the definitions and rules of a block
-abbrev pub definition_places : Item → List Pos
-definition_places (item.Block b) = of_all definition_place b.uses
-definition_places _ = []
+abbrev pub definition_positions : Item → List Pos
+definition_positions (item.Block b) = of_all definition_position b.uses
+definition_positions _ = []
 
 -- the later of two equal names; names of types and scopes in declarations, of scopes of blocks, of items and bound
--- names
--- that name nothing; and the first thing past each count
+-- names that name nothing; and the first thing past each count
 abbrev pub name_faults : Tree → List Fault
 name_faults tree = twice [] (of_all declared_name tree.items) ++ faults_of (declared_of tree.items)
     ++ of_all (item_faults tree.items) tree.items
-    ++ past MOST_DEFINITIONS (of_all definition_places tree.items)
+    ++ past MOST_DEFINITIONS (of_all definition_positions tree.items)

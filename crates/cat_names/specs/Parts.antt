@@ -1,6 +1,7 @@
 -- What the lists of parts of a form are: elements, arguments, fields and arms.
-use Rattle.std.specs.Prelude.{ℕ, nat_eq, nat_le, Bool, true, false, List, [], ◌∷◌, ◌++◌, length, Option, Some, None}
+use Rattle.std.specs.Prelude.{ℕ, nat_eq, nat_le, List, [], ◌∷◌, ◌++◌, length, Option, Some, None}
 use Rattle.std.specs.Prelude.{Ok}
+use Rattle.std.specs.Option.{is_some}
 use Rattle.cat_pos.specs.declared.pos.Pos.{Pos}
 use Rattle.cat_value.specs.declared.ty.Ty.{Ty}
 use Rattle.cat_value.specs.declared.declaration.ItemDecl.{ItemDecl}
@@ -56,8 +57,8 @@ arguments_of means _ locals _ = Ok []
 -- a call of a function: as many arguments as it has parameters
 abbrev pub call_of : {A : Type 0} → (A → Meaning) → Name → List A → List Local → ℕ × ItemDecl → Found Typed
 call_of means w args locals f =
-    where_true (nat_eq (length args) (length f.1.params)) (TypeMismatch w.pos)
-    (and_then (arguments_of means args locals f.1.params) (λ es. Ok (typed w.pos (expr.Call w.pos f.0 es) f.1.ty)))
+    both (where_true (nat_eq (length args) (length f.1.params)) (TypeMismatch w.pos) (Ok f))
+    (arguments_of means args locals f.1.params) (λ g es. Ok (typed w.pos (expr.Call w.pos g.0 es) g.1.ty))
 
 -- ---- fields
 
@@ -82,19 +83,14 @@ with_content p None content locals = Ok locals
 with_content p (Some w) (Some (Some t)) locals = Ok (locals ++ bound w t ∷ [])
 with_content p (Some w) _ locals = faulty (TypeMismatch p)
 
--- whether there is a name
-abbrev pub is_there : Option Name → Bool
-is_there None = false
-is_there (Some w) = true
-
--- the pattern of an arm for an enumeration, with the bound names of its body; p is the place of the match
+-- the pattern of an arm for an enumeration, with the bound names of its body; p is the position of the match
 abbrev pub pattern_of : Names → Pos → ℕ → Pattern → List Local → Found (ArmPattern × List Local)
 pattern_of ns p n written.Anything locals = Ok (pattern.Anything, locals)
 pattern_of ns p n (written.Case c w) locals =
     and_then (case_found ns c) (λ k.
     where_true (nat_eq k.0 n) (MatchCases p)
     (and_then (with_content p w (content_of ns.decls n k.1) locals) (λ inside.
-    Ok (pattern.Case k.1 (is_there w), inside))))
+    Ok (pattern.Case k.1 (is_some w), inside))))
 
 -- an arm, of whose body a type is expected or not; with the type of the body
 abbrev pub arm_of : Names → Pos → ℕ → Pattern × Meaning → List Local → Option Ty → Found (Arm × Ty)

@@ -58,7 +58,7 @@ abbrev pub in_case : Known → CaseName → List Fault
 in_case known (case.Bare c) = []
 in_case known (case.Qualified u c) = of_type known u
 
--- what a pattern names, and the names that it binds
+-- the enumeration that a pattern names
 abbrev pub in_pattern : Known → Pattern → List Fault
 in_pattern known (pattern.Case c w) = in_case known c
 in_pattern known pattern.Anything = []
