@@ -1,6 +1,8 @@
 -- Facts on the targets of a scope, one target further.
-use Rattle.std.proofs.Common.{◌≡◌, ◌∙◌, ℕ, zero, suc, ◌<◌, ◌≤◌, ◌+◌, List, [], ◌∷◌, ◌++◌, length, get_or, take, Option, Some, None}
+use Rattle.std.proofs.Common.{◌≡◌, ◌∙◌, ℕ, zero, suc, ◌<◌, ◌≤◌, ◌+◌, List, [], ◌∷◌, ◌++◌, length, get_or, take, Option}
+use Rattle.std.proofs.Common.{Some, None}
 use Rattle.std.proofs.Common.{inl, inr, slice_get, refl, sym, ap, subst, arith, rules}
+use Rattle.std.proofs.lemmas.List.{append_assoc}
 use Rattle.cat_pos.specs.declared.pos.Pos.{Pos}
 use Rattle.cat_scope.specs.declared.defs.Def.{Def}
 use Rattle.cat_value.specs.declared.outcome.Target.{Target}
@@ -23,13 +25,12 @@ use Rattle.cat_scope.specs.declared.forest.ForestTarget.{ForestTarget}
 use Rattle.cat_scope.specs.Forests.{forest_of_groups}
 use Rattle.cat_except.proofs.Pairs.{pairs_are, forest_groups_are}
 use Rattle.cat_except.specs.inside.Chains.{target_at, IsTooLong, IsLimit}
-use Rattle.cat_except.proofs.Linking.{lists_excepted, last_excepts, ExceptsOne, excepts_within, has_word, targets_low, as_many_groups}
+use Rattle.cat_except.proofs.Grouped.{all_push}
+use Rattle.cat_except.proofs.Linking.{lists_excepted, last_excepts, ExceptsOne, excepts_within, has_word, targets_low}
+use Rattle.cat_except.proofs.Linking.{as_many_groups}
 
-pub all_push : {A : Type 0} (P : A → Type 0) (xs : List A) (x : A) → AllHave P xs → P x → AllHave P (xs ++ x ∷ [])
-all_push P [] x all here = (here, tt)
-all_push P (y ∷ xs) x all here = (all.0, all_push P xs x all.1 here)
-
-pub all_at : {A : Type 0} (P : A → Type 0) (xs : List A) (i : ℕ) (d : A) → AllHave P xs → i < length xs → P (get_or xs i d)
+pub all_at : {A : Type 0} (P : A → Type 0) (xs : List A) (i : ℕ) (d : A) → AllHave P xs → i < length xs
+    → P (get_or xs i d)
 all_at P [] i d all within = absurd (omega (arith, within))
 all_at P (x ∷ xs) zero d all within = all.0
 all_at P (x ∷ xs) (suc i) d all within = all_at P xs i d all.1 (omega (arith, within))
@@ -43,21 +44,18 @@ groups_push : (defs : List Def) (ls : List Linked) (l : Linked)
 groups_push defs [] l = refl
 groups_push defs (m ∷ ls) l = ap (λ gs. groups_at defs m.lists.items ∷ gs) (groups_push defs ls l)
 
-pub shifted : {A : Type 0} (xs : List A) (x : A) (ys : List A) → (xs ++ x ∷ []) ++ ys ≡ xs ++ x ∷ ys
-shifted [] x ys = refl
-shifted (z ∷ xs) x ys = ap (λ zs. z ∷ zs) (shifted xs x ys)
-
 pub targets_step : (made : List Linked) (l : Linked) (target : Target) (rest : List Target) → l.target ≡ target
     → linked_targets (made ++ l ∷ []) ++ rest ≡ linked_targets made ++ target ∷ rest
 targets_step made l target rest is =
-    ap (λ ps. ps ++ rest) (targets_push made l) ∙ shifted (linked_targets made) l.target rest
+    ap (λ ps. ps ++ rest) (targets_push made l) ∙ append_assoc (linked_targets made) (l.target ∷ []) rest
     ∙ ap (λ (p : Target). linked_targets made ++ p ∷ rest) is
 
 pub groups_step : (defs : List Def) (made : List Linked) (l : Linked) (lists : List (List ℕ)) (rest : List (List Group))
     → l.lists.items ≡ lists
     → linked_groups defs (made ++ l ∷ []) ++ rest ≡ linked_groups defs made ++ groups_at defs lists ∷ rest
 groups_step defs made l lists rest is =
-    ap (λ gs. gs ++ rest) (groups_push defs made l) ∙ shifted (linked_groups defs made) (groups_at defs l.lists.items) rest
+    ap (λ gs. gs ++ rest) (groups_push defs made l) ∙ append_assoc (linked_groups defs made)
+    ((groups_at defs l.lists.items) ∷ []) rest
     ∙ ap (λ (ls : List (List ℕ)). linked_groups defs made ++ groups_at defs ls ∷ rest) is
 
 among : {A : Type 0} (xs : List A) (x : A) (ys : List A) → IsOneOf x (xs ++ x ∷ ys)
@@ -92,9 +90,11 @@ pub so_far_step : (defs : List Def) (made new : List Linked) (g : Groups) (left 
 so_far_step defs made new g left rest start l is before target lists linked more =
     subst (λ (ms : List Linked). AreSoFar defs ms rest start) (sym more) (record {
       targets = targets_step made l g.target (group_targets rest) target
-          ∙ subst (λ (gs : List Groups). linked_targets made ++ group_targets gs ≡ group_targets start) is before.targets;
+          ∙ subst (λ (gs : List Groups). linked_targets made ++ group_targets gs ≡ group_targets start) is
+          before.targets;
       groups = groups_step defs made l g.lists.items (groups_at_each defs rest) lists
-          ∙ subst (λ (gs : List Groups). linked_groups defs made ++ groups_at_each defs gs ≡ groups_at_each defs start) is
+          ∙ subst (λ (gs : List Groups). linked_groups defs made ++ groups_at_each defs gs ≡ groups_at_each defs start)
+          is
           before.groups;
       linked = all_push (IsLinked defs) made l before.linked linked;
       known = (subst (λ (gs : List Groups). AreGroupsOfEach defs gs) is before.known).1;
@@ -105,7 +105,8 @@ pub cycle_here : (defs : List Def) (made : List Linked) (g : Groups) (left rest 
     → IsCycleIn (StandsOnCycle (groups_at defs g.lists.items)) e
     → IsCycleIn (StandsIn StandsOnCycle (groups_at_each defs all)) e
 cycle_here defs made g left rest start all e is whole before stands =
-    cycle_in (linked_groups defs made) (groups_at defs g.lists.items) (groups_at_each defs rest) (groups_at_each defs all) e
+    cycle_in (linked_groups defs made) (groups_at defs g.lists.items) (groups_at_each defs rest)
+    (groups_at_each defs all) e
     (subst (λ (gs : List Groups). linked_groups defs made ++ groups_at_each defs gs ≡ groups_at_each defs all) is
     (before.groups ∙ ap (groups_at_each defs) whole)) stands
 
@@ -190,7 +191,7 @@ forest_step defs made new t l left rest start is linked target groups more befor
     let groups_is : t.groups ≡ forest_of_groups gs =
     groups ∙ ap (λ ps. with_pairs ps 0 l.lists.items) pairs
     ∙ forest_groups_are defs (excepts gs) 0 l.lists.items linked.placed in
-    ap (λ (ts : List ForestTarget). ts ++ forest_at defs rest) more ∙ shifted made t (forest_at defs rest)
+    ap (λ (ts : List ForestTarget). ts ++ forest_at defs rest) more ∙ append_assoc made (t ∷ []) (forest_at defs rest)
     ∙ ap (λ (p : Target). made ++ record { target = p; groups = t.groups } ∷ forest_at defs rest) target
     ∙ ap (λ gs. made ++ record { target = l.target; groups = gs } ∷ forest_at defs rest) groups_is
     ∙ subst (λ (ls : List Linked). made ++ forest_at defs ls ≡ forest_at defs start) is before

@@ -1,5 +1,6 @@
 -- Worked examples of what stands where in labels and exceptions.
-use Rattle.std.proofs.Common.{◌≡◌, ◌&&◌, ℕ, zero, suc, Bool, true, false, true≢false, sym, IsTrue, List, [], ◌∷◌, Some, None, refl}
+use Rattle.std.proofs.Common.{◌≡◌, ◌&&◌, ℕ, zero, suc, Bool, true, false, true≢false, sym, IsTrue, List, [], ◌∷◌, Some}
+use Rattle.std.proofs.Common.{None, refl}
 use Rattle.cat_order.specs.Order.{dependencies_of, is_listed}
 use Rattle.cat_order.specs.Cycle.{IsOnCycle}
 use Rattle.cat_scope.specs.Chains.{IsChain}

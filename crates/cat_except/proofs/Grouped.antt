@@ -1,6 +1,8 @@
 -- The groups of lists of numbers, of which one takes a number more.
-use Rattle.std.proofs.Common.{◌≡◌, ◌∙◌, ℕ, ◌<◌, ◌≤◌, ◌+◌, suc, Bool, true, false, ◌||◌, if◌then◌else◌, List, [], ◌∷◌, ◌++◌, length}
-use Rattle.std.proofs.Common.{Option, Some, None, slice_get, take, get_or, refl, sym, ap, subst, arith, rules, true≢false, cond, not, nat_lt}
+use Rattle.std.proofs.Common.{◌≡◌, ◌∙◌, ℕ, ◌<◌, ◌≤◌, ◌+◌, suc, Bool, true, false, ◌||◌, if◌then◌else◌, List, [], ◌∷◌}
+use Rattle.std.proofs.Common.{◌++◌, length}
+use Rattle.std.proofs.Common.{Option, Some, None, slice_get, take, get_or, refl, sym, ap, subst, arith, rules}
+use Rattle.std.proofs.Common.{true≢false, cond, not, nat_lt}
 use Rattle.std.proofs.lemmas.List.{take_more, length-take}
 use Rattle.std.proofs.lemmas.Bool.Decides.{nat_tests}
 use Rattle.std.proofs.lemmas.Option.{slice_get-get_or}
@@ -13,7 +15,8 @@ use Rattle.cat_scope.specs.Groups.{group_numbers, only}
 use Rattle.cat_except.specs.declared.group_key.GroupKey.{GroupKey}
 use Rattle.cat_except.specs.inside.Keys.{coded_key, is_labelled}
 use Rattle.cat_except.specs.inside.Listing.{with_number}
-use Rattle.cat_except.specs.inside.Grouping.{numbered, defs_at, group_by, groups_at, coded_keys, AreApart, ArePlaced, AreParted}
+use Rattle.cat_except.specs.inside.Grouping.{numbered, defs_at, group_by, groups_at, coded_keys, AreApart, ArePlaced}
+use Rattle.cat_except.specs.inside.Grouping.{AreParted}
 use Rattle.cat_except.proofs.Joining.{joined, groups_push, key_is}
 
 pub defs_at_push : (defs : List Def) (n : ℕ) (d : Def) → slice_get defs n ≡ Some d → (ns : List ℕ)
@@ -21,7 +24,8 @@ pub defs_at_push : (defs : List Def) (n : ℕ) (d : Def) → slice_get defs n �
 defs_at_push defs n d there [] = ap (λ (o : Option Def). numbered n o []) there
 defs_at_push defs n d there (m ∷ ns) =
     ap (numbered m (slice_get defs m)) (defs_at_push defs n d there ns) ∙ by (slice_get defs m) where
-      by : (o : Option Def) → numbered m o (defs_at defs ns ++ (n, d) ∷ []) ≡ numbered m o (defs_at defs ns) ++ (n, d) ∷ []
+      by : (o : Option Def) → numbered m o (defs_at defs ns ++ (n, d) ∷ []) ≡ numbered m o (defs_at defs ns)
+          ++ (n, d) ∷ []
       by None = refl
       by (Some e) = refl
 
@@ -98,7 +102,7 @@ keys_joined eq same d (g ∷ gs) =
       by false false is true rest = ap (λ ks. coded_key g.key ∷ ks) rest
       by false false is false rest = ap (λ ks. coded_key g.key ∷ ks) rest
 
-all_push : {A : Type 0} (P : A → Type 0) (xs : List A) (x : A) → AllHave P xs → P x → AllHave P (xs ++ x ∷ [])
+pub all_push : {A : Type 0} (P : A → Type 0) (xs : List A) (x : A) → AllHave P xs → P x → AllHave P (xs ++ x ∷ [])
 all_push P [] x all here = (here, tt)
 all_push P (y ∷ xs) x all here = (all.0, all_push P xs x all.1 here)
 
@@ -140,7 +144,8 @@ apart_joined : (d : Numbered) (gs : List Group) → AreApart gs → AreApart (jo
 apart_joined d [] apart = (tt, tt)
 apart_joined d (g ∷ gs) apart = by (same_key (key_of d) g.key) refl (apart_joined d gs apart.1) where
   by : (b : Bool) → same_key (key_of d) g.key ≡ b → AreApart (joined d gs)
-      → AreApart (if b then record { key = g.key; except = g.except; defs = g.defs ++ d ∷ [] } ∷ gs else g ∷ joined d gs)
+      → AreApart (if b then record { key = g.key; except = g.except; defs = g.defs ++ d ∷ [] } ∷ gs else
+      g ∷ joined d gs)
   by true is rest = apart
   by false is rest = (all_joined g.key d is gs apart.0, rest)
 

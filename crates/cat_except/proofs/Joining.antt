@@ -1,7 +1,10 @@
 -- One definition more in its group.
-use Rattle.std.proofs.Common.{◌≡◌, ◌∙◌, ℕ, ◌<◌, ◌+◌, eqb, Bool, true, false, ◌||◌, if◌then◌else◌, IsTrue, List, [], ◌∷◌, ◌++◌, length}
-use Rattle.std.proofs.Common.{Option, Some, None, slice_get, take, get_or, refl, sym, ap, subst, arith, rules, true≢false}
+use Rattle.std.proofs.Common.{◌≡◌, ◌∙◌, ℕ, ◌<◌, ◌+◌, eqb, Bool, true, false, ◌||◌, if◌then◌else◌, IsTrue, List, [], ◌∷◌}
+use Rattle.std.proofs.Common.{◌++◌, length}
+use Rattle.std.proofs.Common.{Option, Some, None, slice_get, take, get_or, refl, sym, ap, subst, arith, rules}
+use Rattle.std.proofs.Common.{true≢false}
 use Rattle.std.proofs.lemmas.Bool.Decides.{Decides-eqb}
+use Rattle.std.proofs.lemmas.List.{append-nil}
 use Rattle.std.proofs.lemmas.Slice.Eq.{bytes_eq-Decides}
 use Rattle.cat_scope.specs.declared.defs.Def.{Def}
 use Rattle.cat_scope.specs.Groups.{Numbered, Key, Labelled, Base, Alone, Group, key_of, same_key, is_among, with_key}
@@ -58,16 +61,12 @@ with_push key (e ∷ ds) d = by (same_key key (key_of e)) (with_push key ds d) w
   by true rest = ap (λ ns. e ∷ ns) rest
   by false rest = rest
 
-append_none : {A : Type 0} (xs : List A) → xs ++ [] ≡ xs
-append_none [] = refl
-append_none (x ∷ xs) = ap (λ ys. x ∷ ys) (append_none xs)
-
 -- the group of another key stays
 other_group : (all : List Numbered) (e d : Numbered) → same_key (key_of e) (key_of d) ≡ false
     → group_at (all ++ d ∷ []) e ≡ group_at all e
 other_group all e d other = ap (λ (ds : List Numbered). record { key = key_of e; except = e.1.except; defs = ds })
     (with_push (key_of e) all d ∙ ap (λ b. with_key (key_of e) all ++ (if b then d ∷ [] else [])) other
-    ∙ append_none (with_key (key_of e) all))
+    ∙ append-nil (with_key (key_of e) all))
 
 -- a definition whose key was seen makes no group
 seen_push : (all : List Numbered) (d : Numbered) (seen : List Key) (ds : List Numbered)
@@ -101,13 +100,19 @@ new_push : (all : List Numbered) (d : Numbered) (seen : List Key) (ds : List Num
 new_push all d seen [] stand none =
     ap (λ b. if b then [] else group_at (all ++ d ∷ []) d ∷ []) none
     ∙ ap (λ (ds : List Numbered). record { key = key_of d; except = d.1.except; defs = ds } ∷ [])
-    (with_push (key_of d) all d ∙ ap (λ (ds : List Numbered). ds ++ (if same_key (key_of d) (key_of d) then d ∷ [] else []))
+    (with_push (key_of d) all d
+    ∙ ap (λ (ds : List Numbered). ds ++ (if same_key (key_of d) (key_of d) then d ∷ [] else []))
     (stand (key_of d) none) ∙ ap (λ b. if b then d ∷ [] else []) (key_same (key_of d)))
 new_push all d seen (e ∷ ds) stand none =
     by (is_among (key_of e) seen) refl (same_key (key_of d) (key_of e)) refl
     (λ more_seen stand_on unseen. new_push all d more_seen ds stand_on unseen) where
       grown_group : same_key (key_of d) (key_of e) ≡ true
-          → group_at (all ++ d ∷ []) e ≡ record { key = key_of e; except = e.1.except; defs = with_key (key_of e) all ++ d ∷ [] }
+          → group_at (all ++ d ∷ []) e ≡ record {
+            key = key_of e;
+            except = e.1.except;
+            defs = with_key (key_of e) all
+                ++ d ∷ [];
+          }
       grown_group same = ap (λ (ds : List Numbered). record { key = key_of e; except = e.1.except; defs = ds })
           (with_push (key_of e) all d ∙ ap (λ b. with_key (key_of e) all ++ (if b then d ∷ [] else []))
           (ap (λ (k : Key). same_key (key_of e) k) (key_is (key_of d) (key_of e) same) ∙ key_same (key_of e)))
@@ -129,10 +134,21 @@ new_push all d seen (e ∷ ds) stand none =
           ∙ passed key e ds (apart seen (key_of e) key is unseen (same_key key (key_of e)) refl)) none
       by false is true same rest =
           ap (λ (g : Group). g ∷ groups_from (all ++ d ∷ []) (key_of e ∷ seen) (ds ++ d ∷ [])) (grown_group same)
-          ∙ ap (λ (gs : List Group). record { key = key_of e; except = e.1.except; defs = with_key (key_of e) all ++ d ∷ [] } ∷ gs)
+          ∙ ap (λ (gs : List Group). record {
+            key = key_of e;
+            except = e.1.except;
+            defs = with_key (key_of e) all
+                ++ d ∷ [];
+          } ∷ gs)
           (seen_push all d (key_of e ∷ seen) ds (ap (λ b. if b then true else is_among (key_of d) seen) same))
-          ∙ sym (ap (λ b. if b then record { key = key_of e; except = e.1.except; defs = with_key (key_of e) all ++ d ∷ [] }
-          ∷ groups_from all (key_of e ∷ seen) ds else group_at all e ∷ joined d (groups_from all (key_of e ∷ seen) ds)) same)
+          ∙ sym (ap (λ b. if b then record {
+            key = key_of e;
+            except = e.1.except;
+            defs = with_key (key_of e) all
+                ++ d ∷ [];
+          }
+          ∷ groups_from all (key_of e ∷ seen) ds else group_at all e ∷ joined d (groups_from all (key_of e ∷ seen) ds))
+          same)
       by false is false same rest =
           ap (λ (g : Group). g ∷ groups_from (all ++ d ∷ []) (key_of e ∷ seen) (ds ++ d ∷ []))
           (other_group all e d (swapped same))
@@ -142,8 +158,14 @@ new_push all d seen (e ∷ ds) stand none =
           split_seen key (key_of e) seen (same_key key (key_of e)) refl unseen in
           stand key parts.1 ∙ passed key e ds parts.0)
           (ap (λ b. if b then true else is_among (key_of d) seen) same ∙ none))
-          ∙ sym (ap (λ b. if b then record { key = key_of e; except = e.1.except; defs = with_key (key_of e) all ++ d ∷ [] }
-          ∷ groups_from all (key_of e ∷ seen) ds else group_at all e ∷ joined d (groups_from all (key_of e ∷ seen) ds)) same)
+          ∙ sym (ap (λ b. if b then record {
+            key = key_of e;
+            except = e.1.except;
+            defs = with_key (key_of e) all
+                ++ d ∷ [];
+          }
+          ∷ groups_from all (key_of e ∷ seen) ds else group_at all e ∷ joined d (groups_from all (key_of e ∷ seen) ds))
+          same)
 
 pub groups_push : (ds : List Numbered) (d : Numbered) → groups_of (ds ++ d ∷ []) ≡ joined d (groups_of ds)
 groups_push ds d = new_push ds d [] ds (λ key unseen. refl) refl

@@ -1,5 +1,6 @@
 -- What groups except, by their numbers.
-use Rattle.std.proofs.Common.{◌≡◌, ◌∙◌, ℕ, zero, suc, ◌<◌, ◌≤◌, ◌+◌, max, Bool, true, false, if◌then◌else◌, List, [], ◌∷◌, ◌++◌, length, get_or}
+use Rattle.std.proofs.Common.{◌≡◌, ◌∙◌, ℕ, zero, suc, ◌<◌, ◌≤◌, ◌+◌, max, Bool, true, false, if◌then◌else◌, List, []}
+use Rattle.std.proofs.Common.{◌∷◌, ◌++◌, length, get_or}
 use Rattle.std.proofs.Common.{Option, Some, None, IsSome, slice_get, refl, sym, ap, subst, arith, rules, true≢false}
 use Rattle.std.proofs.Math.Logic.{⊎_elim}
 use Rattle.std.proofs.lemmas.Bool.{cases_lt}
@@ -33,7 +34,8 @@ as_many_targets all [] = refl
 as_many_targets all (g ∷ gs) = ap suc (as_many_targets all gs)
 
 -- an exception is one to a group of the target
-numbers_low : (test : Group → Bool) (n : ℕ) (gs : List Group) → AllHave (λ m. m < n + length gs) (group_numbers test n gs)
+numbers_low : (test : Group → Bool) (n : ℕ) (gs : List Group) → AllHave (λ m. m < n + length gs)
+    (group_numbers test n gs)
 numbers_low test n [] = tt
 numbers_low test n (g ∷ gs) =
     by (test g) (further (group_numbers test (n + 1) gs) (numbers_low test (n + 1) gs)) where
@@ -58,10 +60,12 @@ only_low bound (n ∷ m ∷ ns) h all is = absurd (search (rules, is))
 target_low : (gs : List Group) (e : Except) (h : ℕ) → target_of gs e ≡ Some h → h < length gs
 target_low gs except.No h is = absurd (search (rules, is))
 target_low gs (except.OnlyRoot p) h is =
-    let low : h < 0 + length gs = only_low (0 + length gs) (roots_of gs) h (numbers_low (λ g. is_none g.except) 0 gs) is in
+    let low : h < 0 + length gs = only_low (0 + length gs) (roots_of gs) h (numbers_low (λ g. is_none g.except) 0 gs) is
+    in
     omega (arith, low)
 target_low gs (except.Named p l) h is =
-    let low : h < 0 + length gs = only_low (0 + length gs) (group_numbers (λ g. same_key (Labelled l.text) g.key) 0 gs) h
+    let low : h < 0 + length gs = only_low (0 + length gs) (group_numbers (λ g. same_key (Labelled l.text) g.key) 0 gs)
+    h
     (numbers_low (λ g. same_key (Labelled l.text) g.key) 0 gs) is in
     omega (arith, low)
 

@@ -1,5 +1,6 @@
 -- Forests whose chains are short are low.
-use Rattle.std.proofs.Common.{◌≡◌, ◌∙◌, ℕ, zero, suc, ◌<◌, ◌≤◌, ◌+◌, eqb, ◌&&◌, Bool, true, false, if◌then◌else◌, List, [], ◌∷◌, length}
+use Rattle.std.proofs.Common.{◌≡◌, ◌∙◌, ℕ, zero, suc, ◌<◌, ◌≤◌, ◌+◌, eqb, ◌&&◌, Bool, true, false, if◌then◌else◌, List}
+use Rattle.std.proofs.Common.{[], ◌∷◌, length}
 use Rattle.std.proofs.Common.{get_or, Option, Some, None, refl, sym, ap, subst, arith, rules, true≢false}
 use Rattle.std.proofs.Math.Logic.{⊎_elim}
 use Rattle.std.proofs.lemmas.Bool.{cases_lt}
@@ -33,7 +34,8 @@ all_excepting test n j (o ∷ targets) each =
     subst (λ (k : ℕ). test k ≡ true) at (each (suc m) is))) where
       here : (h : ℕ) (b : Bool) → eqb h n ≡ b → (Some h ≡ Some n → test (j + 0) ≡ true)
           → list_all test (excepting (pairs_at (j + 1) targets) n) ≡ true
-          → list_all test (if b then j ∷ excepting (pairs_at (j + 1) targets) n else excepting (pairs_at (j + 1) targets) n)
+          → list_all test (if b then j ∷ excepting (pairs_at (j + 1) targets) n else
+          excepting (pairs_at (j + 1) targets) n)
           ≡ true
       here h true is first rest =
           let at : j + 0 ≡ j = omega arith in

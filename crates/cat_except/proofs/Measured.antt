@@ -1,6 +1,8 @@
 -- Chains that are measured in the order of exceptions.
-use Rattle.std.proofs.Common.{◌≡◌, ◌∙◌, ℕ, zero, suc, ◌<◌, ◌≤◌, ◌+◌, max, nat_lt, ◌==◌, ◌&&◌, not, Bool, true, false, IsTrue, IfSome, cond, List, [], ◌∷◌, ◌++◌}
-use Rattle.std.proofs.Common.{length, Option, Some, None, get_or, set, take, replicate, refl, sym, ap, subst, arith, rules, true≢false}
+use Rattle.std.proofs.Common.{◌≡◌, ◌∙◌, ℕ, zero, suc, ◌<◌, ◌≤◌, ◌+◌, max, nat_lt, ◌==◌, ◌&&◌, not, Bool, true, false}
+use Rattle.std.proofs.Common.{IsTrue, IfSome, cond, List, [], ◌∷◌, ◌++◌}
+use Rattle.std.proofs.Common.{length, Option, Some, None, get_or, set, take, replicate, refl, sym, ap, subst, arith}
+use Rattle.std.proofs.Common.{rules, true≢false}
 use Rattle.std.proofs.Math.Logic.{⊎_elim}
 use Rattle.std.proofs.lemmas.Bool.{cases_eq, cases_lt}
 use Rattle.std.proofs.lemmas.Bool.Decides.{nat_tests}
@@ -12,7 +14,8 @@ use Rattle.cat_scope.specs.Chains.{IsChain, HasShortChains, longest_chain}
 use Rattle.cat_except.specs.Excepted.{listed, last_exception}
 use Rattle.cat_except.specs.inside.Linking.{lists_of}
 use Rattle.cat_except.specs.declared.chains.Chain.{Chain}
-use Rattle.cat_except.specs.inside.Chains.{none, chain_at, target_at, one_longer, IsMeasured, IsLonger, IsKnown, AreMeasured}
+use Rattle.cat_except.specs.inside.Chains.{none, chain_at, target_at, one_longer, IsMeasured, IsLonger, IsKnown}
+use Rattle.cat_except.specs.inside.Chains.{AreMeasured}
 use Rattle.cat_except.specs.inside.Chains.{IsTooLong, IsLimit}
 
 -- what a group depends on is the group that it excepts
@@ -58,7 +61,8 @@ unfolding is_ready
 ready_parts deps front g ready =
     let outer : ((nat_lt g (length deps) && not (is_listed front g)) ≡ true)
     × (list_all (is_listed front) (dependencies_of deps g) ≡ true) =
-    both (nat_lt g (length deps) && not (is_listed front g)) (list_all (is_listed front) (dependencies_of deps g)) ready in
+    both (nat_lt g (length deps) && not (is_listed front g)) (list_all (is_listed front) (dependencies_of deps g)) ready
+    in
     let inner : (nat_lt g (length deps) ≡ true) × (not (is_listed front g) ≡ true) =
     both (nat_lt g (length deps)) (not (is_listed front g)) outer.0 in
     (grind (arith, nat_tests, inner.0), grind (arith, nat_tests, inner.1), outer.1)
@@ -142,7 +146,8 @@ module _ (excepted : List (Option ℕ)) (front : List ℕ) (chains : List Chain)
   here = get_or-set_same chains g c none in_list
 
   own_known : IsKnown excepted (set chains g c) g
-  own_known there = subst (λ (d : Chain). IsMeasured excepted g d × IsLonger (set chains g c) (target_at excepted g) d.length)
+  own_known there =
+      subst (λ (d : Chain). IsMeasured excepted g d × IsLonger (set chains g c) (target_at excepted g) d.length)
       (sym (here ∙ is)) (
         ready_measured excepted front chains g measured ready,
         longer_kept (target_at excepted g) (one_longer chains g (target_at excepted g)).length
@@ -154,7 +159,8 @@ module _ (excepted : List (Option ℕ)) (front : List ℕ) (chains : List Chain)
 
   other_known : (h : ℕ) → ¬ (g ≡ h) → IsKnown excepted (set chains g c) h
   other_known h other there =
-      let before : IsMeasured excepted h (chain_at chains h) × IsLonger chains (target_at excepted h) (chain_at chains h).length =
+      let before : IsMeasured excepted h (chain_at chains h) × IsLonger chains (target_at excepted h)
+      (chain_at chains h).length =
       measured.known h (subst (λ (d : Chain). 0 < d.length) (elsewhere h other) there) in
       subst (λ (d : Chain). IsMeasured excepted h d × IsLonger (set chains g c) (target_at excepted h) d.length)
       (sym (elsewhere h other)) (before.0, longer_kept (target_at excepted h) (chain_at chains h).length before.1)
@@ -168,7 +174,8 @@ module _ (excepted : List (Option ℕ)) (front : List ℕ) (chains : List Chain)
       (λ other.
       let before : is_listed front h ≡ nat_lt 0 (chain_at (set chains g c) h).length =
       measured.listed h ∙ ap (λ (d : Chain). nat_lt 0 d.length) (sym (elsewhere h other)) in
-      let still : is_listed (front ++ g ∷ []) h ≡ is_listed front h = grind (arith, nat_tests, other, times_push front g h) in
+      let still : is_listed (front ++ g ∷ []) h ≡ is_listed front h =
+      grind (arith, nat_tests, other, times_push front g h) in
       still ∙ before) (cases_eq g h)
 
   pub measured_step : c.length ≤ longest_chain → AreMeasured excepted (front ++ g ∷ []) (set chains g c)
@@ -217,7 +224,8 @@ target_within (target ∷ excepted) zero h is = omega arith
 target_within (target ∷ excepted) (suc g) h is = omega (arith, target_within excepted g h is)
 
 -- where all groups are listed no chain is too long
-module _ (excepted : List (Option ℕ)) (order : List ℕ) (chains : List Chain) (measured : AreMeasured excepted order chains)
+module _ (excepted : List (Option ℕ)) (order : List ℕ) (chains : List Chain)
+    (measured : AreMeasured excepted order chains)
     (ordered : IsOrder (lists_of excepted) order) where
   all_known : (g : ℕ) → g < length excepted → 0 < (chain_at chains g).length
   all_known g within =

@@ -1,6 +1,8 @@
 -- The definitions of a target by their numbers.
-use Rattle.std.proofs.Common.{◌≡◌, ◌∙◌, ℕ, zero, suc, ◌<◌, ◌≤◌, ◌+◌, Bool, true, false, if◌then◌else◌, List, [], ◌∷◌, ◌++◌, length}
+use Rattle.std.proofs.Common.{◌≡◌, ◌∙◌, ℕ, zero, suc, ◌<◌, ◌≤◌, ◌+◌, Bool, true, false, if◌then◌else◌, List, [], ◌∷◌}
+use Rattle.std.proofs.Common.{◌++◌, length}
 use Rattle.std.proofs.Common.{get_or, slice_get, Option, Some, None, All, refl, sym, ap, subst, arith, rules}
+use Rattle.std.proofs.lemmas.List.{append_assoc}
 use Rattle.std.proofs.lemmas.Option.{slice_get_within}
 use Rattle.cat_value.specs.declared.outcome.Target.{Target}
 use Rattle.cat_scope.specs.declared.defs.Def.{Def}
@@ -18,10 +20,6 @@ get_behind : (front : List Def) (d : Def) (ds : List Def) → slice_get (front +
 get_behind [] d ds = refl
 get_behind (e ∷ front) d ds = get_behind front d ds
 
-shift : (front : List Def) (d : Def) (ds : List Def) → (front ++ d ∷ []) ++ ds ≡ front ++ d ∷ ds
-shift [] d ds = refl
-shift (e ∷ front) d ds = ap (λ es. e ∷ es) (shift front d ds)
-
 longer : (front : List Def) (d : Def) → length (front ++ d ∷ []) ≡ length front + 1
 longer [] d = omega arith
 longer (e ∷ front) d = omega (arith, longer front d)
@@ -29,12 +27,13 @@ longer (e ∷ front) d = omega (arith, longer front d)
 from_true : (target : Target) (front ds : List Def) → AreTrue (front ++ ds) (defs_from target (length front) ds)
 from_true target front [] = tt
 from_true target front (d ∷ ds) = by (same_target d.target target)
-    (subst (λ (all : List Def). AreTrue all (defs_from target (length front + 1) ds)) (shift front d ds)
+    (subst (λ (all : List Def). AreTrue all (defs_from target (length front + 1) ds)) (append_assoc front (d ∷ []) ds)
     (subst (λ (n : ℕ). AreTrue ((front ++ d ∷ []) ++ ds) (defs_from target n ds)) (longer front d)
     (from_true target (front ++ d ∷ []) ds))) where
       by : (b : Bool) → AreTrue (front ++ d ∷ ds) (defs_from target (length front + 1) ds)
           → AreTrue (front ++ d ∷ ds)
-          (if b then (length front, d) ∷ defs_from target (length front + 1) ds else defs_from target (length front + 1) ds)
+          (if b then (length front, d) ∷ defs_from target (length front + 1) ds else defs_from target (length front + 1)
+          ds)
       by true rest = (get_behind front d ds, rest)
       by false rest = rest
 

@@ -1,10 +1,11 @@
 -- Groups that are told which ones except them, one pair after another.
-use Rattle.std.proofs.Common.{◌≡◌, ◌∙◌, ℕ, zero, suc, ◌<◌, ◌+◌, ◌==◌, eqb, Bool, true, false, if◌then◌else◌, List, [], ◌∷◌, ◌++◌, length, get_or}
+use Rattle.std.proofs.Common.{◌≡◌, ◌∙◌, ℕ, zero, suc, ◌<◌, ◌+◌, ◌==◌, eqb, Bool, true, false, if◌then◌else◌, List, []}
+use Rattle.std.proofs.Common.{◌∷◌, ◌++◌, length, get_or}
 use Rattle.std.proofs.Common.{set, take, slice_get, Option, Some, None, refl, sym, ap, subst, arith, rules, true≢false}
 use Rattle.std.proofs.Math.Logic.{⊎_elim}
 use Rattle.std.proofs.lemmas.Bool.{cases_eq}
 use Rattle.std.proofs.lemmas.Bool.Decides.{nat_tests}
-use Rattle.std.proofs.lemmas.List.{take_more, length-take}
+use Rattle.std.proofs.lemmas.List.{take_more, length-take, append-nil}
 use Rattle.cat_scope.specs.declared.forest.ForestGroup.{ForestGroup}
 use Rattle.std.proofs.lemmas.Option.{slice_get_cases}
 use Rattle.cat_scope.specs.declared.defs.Def.{Def}
@@ -35,10 +36,7 @@ pub pairs_none : (targets : List (Option ℕ)) (i : ℕ) (d : Option ℕ) → i 
     → pairs_at 0 (take (i + 1) targets) ≡ pairs_at 0 (take i targets)
 pairs_none targets i d within is =
     ap (pairs_at 0) (take_more targets i d within ∙ ap (λ (o : Option ℕ). take i targets ++ o ∷ []) is)
-    ∙ pairs_push 0 (take i targets) None ∙ append_none (pairs_at 0 (take i targets)) where
-      append_none : (xs : List (ℕ × ℕ)) → xs ++ [] ≡ xs
-      append_none [] = refl
-      append_none (x ∷ xs) = ap (λ ys. x ∷ ys) (append_none xs)
+    ∙ pairs_push 0 (take i targets) None ∙ append-nil (pairs_at 0 (take i targets))
 
 pub pairs_some : (targets : List (Option ℕ)) (i h : ℕ) (d : Option ℕ) → i < length targets
     → get_or targets i d ≡ Some h → pairs_at 0 (take (i + 1) targets) ≡ pairs_at 0 (take i targets) ++ (i, h) ∷ []
@@ -95,11 +93,13 @@ one_pair_more pairs g n (suc k) (list ∷ lists) d within =
     let at : n + suc k ≡ (n + 1) + k = omega arith in
     ap (λ ns. record { defs = list; excepted_by = ns } ∷ with_pairs (pairs ++ (g, n + suc k) ∷ []) (n + 1) lists)
     (excepting_push pairs g (n + suc k) n ∙ append_if (excepting pairs n) (eqb (n + suc k) n) g other)
-    ∙ ap (λ (m : ℕ). record { defs = list; excepted_by = excepting pairs n } ∷ with_pairs (pairs ++ (g, m) ∷ []) (n + 1) lists) at
+    ∙ ap (λ (m : ℕ). record { defs = list; excepted_by = excepting pairs n } ∷ with_pairs (pairs ++ (g, m) ∷ []) (n + 1)
+    lists) at
     ∙ ap (λ gs. record { defs = list; excepted_by = excepting pairs n } ∷ gs)
     (one_pair_more pairs g (n + 1) k lists d (omega (arith, within)))
 
-pub length_with : (pairs : List (ℕ × ℕ)) (n : ℕ) (lists : List (List ℕ)) → length (with_pairs pairs n lists) ≡ length lists
+pub length_with : (pairs : List (ℕ × ℕ)) (n : ℕ) (lists : List (List ℕ)) → length (with_pairs pairs n lists) ≡ length
+    lists
 length_with pairs n [] = refl
 length_with pairs n (list ∷ lists) = ap suc (length_with pairs (n + 1) lists)
 
@@ -157,5 +157,9 @@ forest_groups_are defs pairs n [] placed = refl
 forest_groups_are defs pairs n (list ∷ lists) placed =
     ap (λ ns. record { defs = ns; excepted_by = excepting pairs n } ∷ with_pairs pairs (n + 1) lists)
     (sym (group_numbers_are (defs_at defs list) ∙ numbers_are defs list placed.0.1))
-    ∙ ap (λ gs. record { defs = definition_numbers (group_by (defs_at defs list)).defs; excepted_by = excepting pairs n } ∷ gs)
+    ∙ ap (λ gs. record {
+      defs = definition_numbers (group_by (defs_at defs list)).defs;
+      excepted_by =
+          excepting pairs n;
+    } ∷ gs)
     (forest_groups_are defs pairs (n + 1) lists placed.1)

@@ -1,6 +1,8 @@
 -- Definitions parted by their targets.
-use Rattle.std.proofs.Common.{◌≡◌, ◌∙◌, ℕ, ◌+◌, ◌<◌, ◌≤◌, suc, nat_lt, eqb, Bool, true, false, not, ◌||◌, ◌&&◌, cond, if◌then◌else◌}
-use Rattle.std.proofs.Common.{List, [], ◌∷◌, ◌++◌, length, take, get_or, Option, Some, None, refl, sym, ap, subst, arith, true≢false, rules}
+use Rattle.std.proofs.Common.{◌≡◌, ◌∙◌, ℕ, ◌+◌, ◌<◌, ◌≤◌, suc, nat_lt, eqb, Bool, true, false, not, ◌||◌, ◌&&◌, cond}
+use Rattle.std.proofs.Common.{if◌then◌else◌}
+use Rattle.std.proofs.Common.{List, [], ◌∷◌, ◌++◌, length, take, get_or, Option, Some, None, refl, sym, ap, subst}
+use Rattle.std.proofs.Common.{arith, true≢false, rules}
 use Rattle.std.proofs.lemmas.Bool.Decides.{Decides-eqb, nat_tests}
 use Rattle.std.proofs.lemmas.List.{take_more, get_or_past, length-take}
 use Rattle.std.specs.List.{list_any, position_or_len, position}
@@ -30,7 +32,8 @@ inner_same (Some n) (Some m) is = ap Some ((Decides-eqb n m).0 is)
 key_same : (p q : TargetKey) → key_eq p q ≡ true → p ≡ q
 key_same p q is =
     let parts : (eqb p.0 q.0 ≡ true) × (option_eq eqb p.1 q.1 ≡ true) = both (eqb p.0 q.0) (option_eq eqb p.1 q.1) is in
-    ap (λ (n : ℕ). (n, p.1)) ((Decides-eqb p.0 q.0).0 parts.0) ∙ ap (λ (n : Option ℕ). (q.0, n)) (inner_same p.1 q.1 parts.1)
+    ap (λ (n : ℕ). (n, p.1)) ((Decides-eqb p.0 q.0).0 parts.0) ∙ ap (λ (n : Option ℕ). (q.0, n))
+    (inner_same p.1 q.1 parts.1)
 
 eqb_swap : (a b : ℕ) → eqb a b ≡ eqb b a
 eqb_swap a b = grind (arith, nat_tests)
@@ -65,7 +68,8 @@ head_open false false target key other n keys list lists more = refl
 
 head_or_rest : (b c a : Bool) (n : ℕ) (list rest grew : List ℕ) → (b ≡ true → c ≡ a)
     → (c ≡ true → a ≡ true → b ≡ true) → grew ≡ grown a rest n
-    → (if c then (if b then list ++ n ∷ [] else list) else (if b then rest else grew)) ≡ grown a (if c then list else rest) n
+    → (if c then (if b then list ++ n ∷ [] else list) else (if b then rest else grew)) ≡ grown a
+    (if c then list else rest) n
 head_or_rest true true a n list rest grew same one more = ap (λ (b : Bool). grown b list n) (same refl)
 head_or_rest true false a n list rest grew same one more = ap (λ (b : Bool). grown b rest n) (same refl)
 head_or_rest false true true n list rest grew same one more = absurd (true≢false (sym (one refl refl)))
@@ -117,7 +121,8 @@ as_many eq key n (k ∷ ks) (list ∷ lists) same =
       by false false rest = ap suc rest
 
 -- one definition more
-numbers_push : (ds : List Numbered) (d : Numbered) → definition_numbers (ds ++ d ∷ []) ≡ definition_numbers ds ++ d.0 ∷ []
+numbers_push : (ds : List Numbered) (d : Numbered) → definition_numbers (ds ++ d ∷ []) ≡ definition_numbers ds
+    ++ d.0 ∷ []
 numbers_push [] d = refl
 numbers_push (e ∷ ds) d = ap (λ ns. e.0 ∷ ns) (numbers_push ds d)
 
@@ -144,7 +149,8 @@ defs_push target n (e ∷ ds) d =
           (definition_numbers (if b then (n, e) ∷ defs_from target (n + 1) ds else defs_from target (n + 1) ds))
           (n + suc (length ds))
       by true rest = ap (λ ns. n ∷ ns) rest
-          ∙ grown_behind (same_target d.target target) n (n + suc (length ds)) (definition_numbers (defs_from target (n + 1) ds))
+          ∙ grown_behind (same_target d.target target) n (n + suc (length ds))
+          (definition_numbers (defs_from target (n + 1) ds))
       by false rest = rest
 
 -- one definition more

@@ -1,7 +1,9 @@
 -- From the targets of a scope to its forest.
-use Rattle.std.proofs.Common.{◌≡◌, ◌∙◌, ℕ, zero, suc, ◌<◌, ◌+◌, List, [], ◌∷◌, ◌++◌, length, Option, Some, None, Result, Ok, Err, IfOk, IfErr, IfSome, slice_get}
+use Rattle.std.proofs.Common.{◌≡◌, ◌∙◌, ℕ, zero, suc, ◌<◌, ◌+◌, List, [], ◌∷◌, ◌++◌, length, Option, Some, None, Result}
+use Rattle.std.proofs.Common.{Ok, Err, IfOk, IfErr, IfSome, slice_get}
 use Rattle.std.proofs.Common.{inl, refl, sym, ap, subst, arith, rules}
 use Rattle.std.proofs.Math.Logic.{⊎_elim}
+use Rattle.std.proofs.lemmas.List.{append_assoc}
 use Rattle.cat_pos.specs.declared.pos.Pos.{Pos}
 use Rattle.cat_value.specs.declared.decls.Decls.{Decls}
 use Rattle.cat_value.specs.declared.outcome.Target.{Target}
@@ -24,10 +26,11 @@ use Rattle.cat_except.specs.Causes.{AreResolved, HaveNoCycle, MakeForest, Stands
 use Rattle.cat_except.specs.inside.Grouping.{groups_at, AreGroups}
 use Rattle.cat_except.specs.inside.Linking.{lists_of}
 use Rattle.cat_except.specs.inside.Finding.{first_of, groups_at_each, AreGroupsOfEach}
-use Rattle.cat_except.specs.inside.Linked.{IsLinked, linked_groups, linked_targets, group_targets, forest_at, AreShort, IsCycleIn}
+use Rattle.cat_except.specs.inside.Linked.{IsLinked, linked_groups, linked_targets, group_targets, forest_at, AreShort}
+use Rattle.cat_except.specs.inside.Linked.{IsCycleIn}
 use Rattle.cat_except.specs.inside.Linked.{IsLimitIn}
 use Rattle.cat_except.proofs.Linking.{lists_excepted}
-use Rattle.cat_except.proofs.EachTarget.{shifted, all_push}
+use Rattle.cat_except.proofs.Grouped.{all_push}
 
 -- the first position is one, and where there is none there are none
 pub first_is_one : (positions : List Pos) (p : Pos) → first_of positions ≡ Some p → IsOneOf p positions
@@ -56,17 +59,18 @@ pub targets_more : (made new : List Groups) (t : Groups) (target : Target) (left
     → group_targets new ++ rest ≡ all
 targets_more made new t target left rest all is at more before =
     ap (λ (ts : List Groups). group_targets ts ++ rest) more ∙ ap (λ ps. ps ++ rest) (each_targets_push made t)
-    ∙ shifted (group_targets made) t.target rest ∙ ap (λ (p : Target). group_targets made ++ p ∷ rest) at
+    ∙ append_assoc (group_targets made) (t.target ∷ []) rest ∙ ap (λ (p : Target). group_targets made ++ p ∷ rest) at
     ∙ subst (λ (ps : List Target). group_targets made ++ ps ≡ all) is before
 
 pub groups_more : (defs : List Def) (made new : List Groups) (t : Groups) (target : Target) (left rest : List Target)
-    (all : List (List Group)) → left ≡ target ∷ rest → groups_at defs t.lists.items ≡ groups_of (defs_from target 0 defs)
+    (all : List (List Group)) → left ≡ target ∷ rest → groups_at defs t.lists.items ≡ groups_of
+    (defs_from target 0 defs)
     → new ≡ made ++ t ∷ [] → groups_at_each defs made ++ groups_of_each defs left ≡ all
     → groups_at_each defs new ++ groups_of_each defs rest ≡ all
 groups_more defs made new t target left rest all is at more before =
     ap (λ (ts : List Groups). groups_at_each defs ts ++ groups_of_each defs rest) more
     ∙ ap (λ gs. gs ++ groups_of_each defs rest) (each_groups_push defs made t)
-    ∙ shifted (groups_at_each defs made) (groups_at defs t.lists.items) (groups_of_each defs rest)
+    ∙ append_assoc (groups_at_each defs made) ((groups_at defs t.lists.items) ∷ []) (groups_of_each defs rest)
     ∙ ap (λ (gs : List Group). groups_at_each defs made ++ gs ∷ groups_of_each defs rest) at
     ∙ subst (λ (ps : List Target). groups_at_each defs made ++ groups_of_each defs ps ≡ all) is before
 
@@ -119,7 +123,8 @@ pub make_forest : (defs : List Def) (linked : List Linked) (targets : List (List
 make_forest defs linked targets is all short resolved = record {
   resolved = resolved;
   acyclic = subst (λ (ts : List (List Group)). HaveNoCycle ts) is (linked_acyclic defs linked all);
-  short = subst (λ (ts : List (List Group)). AllHave (λ (groups : List Group). HasShortChains (excepted_of groups)) ts) is
+  short = subst (λ (ts : List (List Group)). AllHave (λ (groups : List Group). HasShortChains (excepted_of groups)) ts)
+      is
       (linked_short defs linked all short);
 }
 
@@ -140,12 +145,14 @@ forest_is defs [] [] at is = refl
 forest_is defs [] (target ∷ targets) at is = absurd (search (rules, at))
 forest_is defs (l ∷ ls) [] at is = absurd (search (rules, at))
 forest_is defs (l ∷ ls) (target ∷ targets) at is =
-    let here : (l.target ≡ target) × (linked_targets ls ≡ targets) = same_heads l.target target (linked_targets ls) targets at in
+    let here : (l.target ≡ target) × (linked_targets ls ≡ targets) =
+    same_heads l.target target (linked_targets ls) targets at in
     let groups : (groups_at defs l.lists.items ≡ groups_of (defs_from target 0 defs))
     × (linked_groups defs ls ≡ groups_of_each defs targets) =
     same_heads (groups_at defs l.lists.items) (groups_of (defs_from target 0 defs)) (linked_groups defs ls)
     (groups_of_each defs targets) is in
-    ap (λ (p : Target). record { target = p; groups = forest_of_groups (groups_at defs l.lists.items) } ∷ forest_at defs ls)
+    ap (λ (p : Target). record { target = p; groups = forest_of_groups (groups_at defs l.lists.items) } ∷ forest_at defs
+    ls)
     here.0
     ∙ ap (λ (gs : List Group). record { target = target; groups = forest_of_groups gs } ∷ forest_at defs ls) groups.0
     ∙ ap (λ ts. record { target = target; groups = forest_of_groups (groups_of (defs_from target 0 defs)) } ∷ ts)

@@ -96,3 +96,6 @@ pub fn forest(alloc: Global, program: &Program, scope: u32) -> Result<Forest, Ex
     let targets = targets_of(alloc, program.decls(), scope, program.order_of(scope))?;
     forest_of(alloc, program.defs(scope), targets.as_slice())
 }
+
+#[cfg(test)]
+mod tests;

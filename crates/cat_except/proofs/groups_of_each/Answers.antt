@@ -36,11 +36,13 @@ loop-target-preserved c =
     c.numbers.ensures ∙ c.in_ok-table.ensures.1 target in
     record {
       targets = targets_more c.loop-target.groups c.push.new.self c.in_ok-new.field-0 target
-          (drop c.loop-target.target-index c.args.targets.now) (drop (c.loop-target.target-index + 1) c.args.targets.now)
+          (drop c.loop-target.target-index c.args.targets.now)
+          (drop (c.loop-target.target-index + 1) c.args.targets.now)
           c.args.targets.now (drop_more c.args.targets.now c.loop-target.target-index nowhere c.loop-target-test.true)
           c.in_ok-new.ensures.target c.in_ok-push.ensures.ok c.loop-target.invariant.targets;
       groups = groups_more c.args.defs.now c.loop-target.groups c.push.new.self c.in_ok-new.field-0 target
-          (drop c.loop-target.target-index c.args.targets.now) (drop (c.loop-target.target-index + 1) c.args.targets.now)
+          (drop c.loop-target.target-index c.args.targets.now)
+          (drop (c.loop-target.target-index + 1) c.args.targets.now)
           (groups_of_each c.args.defs.now c.args.targets.now)
           (drop_more c.args.targets.now c.loop-target.target-index nowhere c.loop-target-test.true)
           (c.in_ok-new.ensures.parted

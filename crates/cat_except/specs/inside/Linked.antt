@@ -77,4 +77,5 @@ bare_groups (list ∷ lists) = record { defs = list; excepted_by = [] } ∷ bare
 -- the groups from number n on with those that except them by some pairs
 abbrev pub with_pairs : List (ℕ × ℕ) → ℕ → List (List ℕ) → List ForestGroup
 with_pairs pairs n [] = []
-with_pairs pairs n (list ∷ lists) = record { defs = list; excepted_by = excepting pairs n } ∷ with_pairs pairs (n + 1) lists
+with_pairs pairs n (list ∷ lists) = record { defs = list; excepted_by = excepting pairs n } ∷ with_pairs pairs (n + 1)
+    lists

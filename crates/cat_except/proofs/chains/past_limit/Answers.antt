@@ -1,4 +1,5 @@
-use Rattle.std.proofs.Common.{rules, ◌≡◌, ◌∙◌, ℕ, ◌+◌, ◌<◌, ◌≤◌, IfSome, set, refl, List, [], ◌∷◌, ◌++◌, get_or, take, sym, subst, ap, arith, length, Option}
+use Rattle.std.proofs.Common.{rules, ◌≡◌, ◌∙◌, ℕ, ◌+◌, ◌<◌, ◌≤◌, IfSome, set, refl, List, [], ◌∷◌, ◌++◌, get_or, take}
+use Rattle.std.proofs.Common.{sym, subst, ap, arith, length, Option}
 use Rattle.std.proofs.lemmas.List.{take_more, take_all}
 use Rattle.cat_order.specs.Order.{is_ready}
 use Rattle.cat_except.specs.declared.chains.Chain.{Chain}
@@ -63,4 +64,5 @@ pub returns : goal.returns
 returns c =
     all_short c.args.excepted.now c.args.order.now c.loop-group.chains.items
     (subst (λ (ns : List ℕ). AreMeasured c.args.excepted.now ns c.loop-group.chains.items)
-    (take_all c.loop-group.group-index c.args.order.now c.loop-group-test.false) c.loop-group.invariant) c.requires.order
+    (take_all c.loop-group.group-index c.args.order.now c.loop-group-test.false) c.loop-group.invariant)
+    c.requires.order

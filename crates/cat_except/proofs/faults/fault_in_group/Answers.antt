@@ -10,7 +10,8 @@ pub returns-in-Some : goal.returns-in-Some
 returns-in-Some c =
     let n : ℕ = get_or c.args.list.now c.loop-number.number-index 0 in
     let at : get_or c.args.list.now c.loop-number.number-index n ≡ n = search (rules, get_or_default) in
-    here _ c.in-Some.pos _ _ _ (in_defs_step (kind_of c.args.kind) (groups_at c.args.defs.now c.args.groups.now.lists.items)
+    here _ c.in-Some.pos _ _ _
+    (in_defs_step (kind_of c.args.kind) (groups_at c.args.defs.now c.args.groups.now.lists.items)
     (group_by (defs_at c.args.defs.now c.args.list.now)) c.args.defs.now c.args.list.now c.loop-number.number-index n
     c.index-defs-number.result c.loop-number-test.true at
     (slice_get_read c.args.defs.now (length c.args.defs.now) n c.index-defs-number.result refl

@@ -15,7 +15,8 @@ loop-group-preserved-in_default c = (
 
 pub loop-group-preserved : goal.loop-group-preserved
 loop-group-preserved c =
-    let low : c.in-Some.target < length c.args.groups.now = c.requires.within c.loop-group.group c.in-Some.target c.in-Some.is in (
+    let low : c.in-Some.target < length c.args.groups.now =
+    c.requires.within c.loop-group.group c.in-Some.target c.in-Some.is in (
       search (rules, length-set),
       λ lists is.
           add_step c.args.excepted.now c.loop-group.group c.in-Some.target None c.args.groups.now c.loop-group.groups

@@ -5,5 +5,6 @@ use Rattle.cat_except.proofs.linked.bare_groups.Given as goal
 
 abbrev pub invariant-loop-defs : goal.invariant-loop-defs
 invariant-loop-defs l =
-    (l.groups.items ++ bare_groups (into_iter_items l.defs-iterator) ≡ bare_groups (into_iter_items l.initial.defs-iterator))
+    (l.groups.items ++ bare_groups (into_iter_items l.defs-iterator) ≡ bare_groups
+    (into_iter_items l.initial.defs-iterator))
     × (l.yielded ++ into_iter_items l.defs-iterator ≡ into_iter_items l.initial.defs-iterator)

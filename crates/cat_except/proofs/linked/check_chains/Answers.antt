@@ -12,10 +12,12 @@ pub word_of-requires-clause-group : goal.word_of-requires-clause-group
 word_of-requires-clause-group c =
     let l : Linked = c.target-item.result in
     let linked : IsLinked c.args.defs.now l = subst (λ (m : Linked). IsLinked c.args.defs.now m) (sym c.target-item.is)
-    (all_at (IsLinked c.args.defs.now) c.args.targets.now c.loop-target.target-index l c.requires c.loop-target-test.true) in
+    (all_at (IsLinked c.args.defs.now) c.args.targets.now c.loop-target.target-index l c.requires
+    c.loop-target-test.true) in
     let long : IsTooLong l.excepted.items c.in-Some.group = found_long l.excepted.items c.deref.result.now
     c.in_ok-group.field-0 c.in-Some.group c.deref.ensures.value c.in-Some.is c.in_ok-group.ensures in
-    let one : ExceptsOne (targets_from (groups_at c.args.defs.now l.lists.items) (groups_at c.args.defs.now l.lists.items))
+    let one : ExceptsOne (targets_from (groups_at c.args.defs.now l.lists.items)
+    (groups_at c.args.defs.now l.lists.items))
     c.in-Some.group = long_excepts c.args.defs.now l c.in-Some.group linked long in
     subst (λ (ls : List (List ℕ)). c.in-Some.group < length ls) (sym c.deref-in-Some.ensures.value)
     (excepts_within c.args.defs.now (groups_at c.args.defs.now l.lists.items) l.lists.items c.in-Some.group one.0 one.1)
@@ -24,19 +26,23 @@ pub word_of-requires-clause-word : goal.word_of-requires-clause-word
 word_of-requires-clause-word c =
     let l : Linked = c.target-item.result in
     let linked : IsLinked c.args.defs.now l = subst (λ (m : Linked). IsLinked c.args.defs.now m) (sym c.target-item.is)
-    (all_at (IsLinked c.args.defs.now) c.args.targets.now c.loop-target.target-index l c.requires c.loop-target-test.true) in
+    (all_at (IsLinked c.args.defs.now) c.args.targets.now c.loop-target.target-index l c.requires
+    c.loop-target-test.true) in
     let long : IsTooLong l.excepted.items c.in-Some.group = found_long l.excepted.items c.deref.result.now
     c.in_ok-group.field-0 c.in-Some.group c.deref.ensures.value c.in-Some.is c.in_ok-group.ensures in
-    let one : ExceptsOne (targets_from (groups_at c.args.defs.now l.lists.items) (groups_at c.args.defs.now l.lists.items))
+    let one : ExceptsOne (targets_from (groups_at c.args.defs.now l.lists.items)
+    (groups_at c.args.defs.now l.lists.items))
     c.in-Some.group = long_excepts c.args.defs.now l c.in-Some.group linked long in
-    subst (λ (ls : List (List ℕ)). IsSome (word_at c.args.defs.now ls c.in-Some.group)) (sym c.deref-in-Some.ensures.value)
+    subst (λ (ls : List (List ℕ)). IsSome (word_at c.args.defs.now ls c.in-Some.group))
+    (sym c.deref-in-Some.ensures.value)
     (word_there c.args.defs.now (groups_at c.args.defs.now l.lists.items) l.lists.items c.in-Some.group one.0 one.1)
 
 pub returns-in-Some-clause-cause : goal.returns-in-Some-clause-cause
 returns-in-Some-clause-cause c =
     let l : Linked = c.target-item.result in
     let linked : IsLinked c.args.defs.now l = subst (λ (m : Linked). IsLinked c.args.defs.now m) (sym c.target-item.is)
-    (all_at (IsLinked c.args.defs.now) c.args.targets.now c.loop-target.target-index l c.requires c.loop-target-test.true) in
+    (all_at (IsLinked c.args.defs.now) c.args.targets.now c.loop-target.target-index l c.requires
+    c.loop-target-test.true) in
     limit_in c.args.defs.now c.args.targets.now c.loop-target.target-index l c.in-Some.group c.word_of.result
     c.loop-target-test.true (sym c.target-item.is) linked
     (found_long l.excepted.items c.deref.result.now c.in_ok-group.field-0 c.in-Some.group c.deref.ensures.value

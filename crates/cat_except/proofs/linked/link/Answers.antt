@@ -1,4 +1,5 @@
-use Rattle.std.proofs.Common.{rules, ◌≡◌, ◌∙◌, ◌<◌, ℕ, List, [], length, Option, Some, IsSome, get_or, sym, ap, subst, arith}
+use Rattle.std.proofs.Common.{rules, ◌≡◌, ◌∙◌, ◌<◌, ℕ, List, [], length, Option, Some, IsSome, get_or, sym, ap, subst}
+use Rattle.std.proofs.Common.{arith}
 use Rattle.cat_order.specs.Order.{AreItems, IsOrder}
 use Rattle.cat_order.specs.Cycle.{IsOnCycle}
 use Rattle.cat_order.specs.Cause.{HasCause}
@@ -53,7 +54,8 @@ returns-in-Ok-clause-linked c =
 pub word_of-requires-clause-group : goal.word_of-requires-clause-group
 word_of-requires-clause-group c =
     let cause : HasCause c.deref-2.result.now (Cycle c.in-Err-Cycle.group) =
-    subst (λ (r : OrderRefusal). HasCause c.deref-2.result.now r) c.in-Err-Cycle.field-0-is c.in-Err-Cycle.ensures.cause in
+    subst (λ (r : OrderRefusal). HasCause c.deref-2.result.now r) c.in-Err-Cycle.field-0-is c.in-Err-Cycle.ensures.cause
+    in
     let gs : List Group = groups_at c.args.defs.now c.args.groups.lists.items in
     let deps : c.deref-2.result.now ≡ lists_of (targets_from gs gs) =
     c.deref-2.ensures.value ∙ c.in_ok-deps.ensures ∙ ap lists_of (c.deref.ensures.value ∙ c.in_ok-excepted.ensures) in
@@ -64,11 +66,13 @@ word_of-requires-clause-group c =
 pub word_of-requires-clause-word : goal.word_of-requires-clause-word
 word_of-requires-clause-word c =
     let cause : HasCause c.deref-2.result.now (Cycle c.in-Err-Cycle.group) =
-    subst (λ (r : OrderRefusal). HasCause c.deref-2.result.now r) c.in-Err-Cycle.field-0-is c.in-Err-Cycle.ensures.cause in
+    subst (λ (r : OrderRefusal). HasCause c.deref-2.result.now r) c.in-Err-Cycle.field-0-is c.in-Err-Cycle.ensures.cause
+    in
     let gs : List Group = groups_at c.args.defs.now c.args.groups.lists.items in
     let deps : c.deref-2.result.now ≡ lists_of (targets_from gs gs) =
     c.deref-2.ensures.value ∙ c.in_ok-deps.ensures ∙ ap lists_of (c.deref.ensures.value ∙ c.in_ok-excepted.ensures) in
-    let one : ExceptsOne (targets_from gs gs) c.in-Err-Cycle.group = one_excepted (targets_from gs gs) c.in-Err-Cycle.group
+    let one : ExceptsOne (targets_from gs gs) c.in-Err-Cycle.group =
+    one_excepted (targets_from gs gs) c.in-Err-Cycle.group
     (subst (λ (ds : List (List ℕ)). IsOnCycle ds c.in-Err-Cycle.group) deps cause.0) in
     subst (λ (ls : List (List ℕ)). IsSome (word_at c.args.defs.now ls c.in-Err-Cycle.group))
     (sym c.deref-in-Err-Cycle.ensures.value)
@@ -77,7 +81,8 @@ word_of-requires-clause-word c =
 pub returns-in-Err-Cycle-clause-cause : goal.returns-in-Err-Cycle-clause-cause
 returns-in-Err-Cycle-clause-cause c =
     let cause : HasCause c.deref-2.result.now (Cycle c.in-Err-Cycle.group) =
-    subst (λ (r : OrderRefusal). HasCause c.deref-2.result.now r) c.in-Err-Cycle.field-0-is c.in-Err-Cycle.ensures.cause in
+    subst (λ (r : OrderRefusal). HasCause c.deref-2.result.now r) c.in-Err-Cycle.field-0-is c.in-Err-Cycle.ensures.cause
+    in
     let gs : List Group = groups_at c.args.defs.now c.args.groups.lists.items in
     let deps : c.deref-2.result.now ≡ lists_of (targets_from gs gs) =
     c.deref-2.ensures.value ∙ c.in_ok-deps.ensures ∙ ap lists_of (c.deref.ensures.value ∙ c.in_ok-excepted.ensures) in

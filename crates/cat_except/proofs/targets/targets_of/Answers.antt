@@ -1,5 +1,6 @@
-use Rattle.std.proofs.Common.{◌≡◌, ◌∙◌, ℕ, ◌<◌, ◌+◌, List, [], ◌∷◌, ◌++◌, length, Option, Some, None, slice_get, get_or, drop, sym, ap, subst, rules, refl}
-use Rattle.std.proofs.lemmas.List.{drop_more, get_or_default}
+use Rattle.std.proofs.Common.{◌≡◌, ◌∙◌, ℕ, ◌<◌, ◌+◌, List, [], ◌∷◌, ◌++◌, length, Option, Some, None, slice_get, get_or}
+use Rattle.std.proofs.Common.{drop, sym, ap, subst, rules, refl}
+use Rattle.std.proofs.lemmas.List.{drop_more, get_or_default, append-nil}
 use Rattle.std.proofs.lemmas.Option.{slice_get_read, slice_get_past}
 use Rattle.cat_value.specs.declared.decls.Decls.{Decls}
 use Rattle.cat_value.specs.declared.declaration.ItemDecl.{ItemDecl}
@@ -16,14 +17,11 @@ next_item : (ds : Decls) (scope : ℕ) (items : List ItemDecl) (order : List ℕ
     ≡ made ++ targets_of ds scope items (drop i order)
 next_item ds scope items order i n decl made within at is =
     append_append made (item_targets ds scope n decl) (targets_of ds scope items (drop (i + 1) order))
-    ∙ ap (λ (o : Option ItemDecl). made ++ (item_targets ds scope n o ++ targets_of ds scope items (drop (i + 1) order)))
+    ∙ ap (λ (o : Option ItemDecl). made
+    ++ (item_targets ds scope n o ++ targets_of ds scope items (drop (i + 1) order)))
     (sym is)
     ∙ sym (ap (λ (ns : List ℕ). made ++ targets_of ds scope items ns)
     (drop_more order i n within ∙ ap (λ (m : ℕ). m ∷ drop (i + 1) order) at))
-
-append_none : {A : Type 0} (xs ys : List A) → (xs ++ []) ++ ys ≡ xs ++ ys
-append_none [] ys = refl
-append_none (x ∷ xs) ys = ap (λ zs. x ∷ zs) (append_none xs ys)
 
 pub loop-item-preserved-in_default : goal.loop-item-preserved-in_default
 loop-item-preserved-in_default c =
@@ -33,8 +31,9 @@ loop-item-preserved-in_default c =
     subst (λ (items : List ItemDecl). slice_get items n ≡ None)
     (c.as_slice-items.ensures ∙ sym (ap items_in c.at.ensures))
     (slice_get_past c.as_slice-items.result.now n c.in_default.ensures.lookup.3) in
-    sym (append_none c.loop-item.targets (targets_of c.args.decls.now c.args.scope
-    (scope_items c.args.decls.now c.args.scope) (drop (c.loop-item.item-index + 1) c.args.order.now)))
+    sym (ap (λ (ts : List Target). ts ++ targets_of c.args.decls.now c.args.scope
+    (scope_items c.args.decls.now c.args.scope) (drop (c.loop-item.item-index + 1) c.args.order.now))
+    (append-nil c.loop-item.targets))
     ∙ next_item c.args.decls.now c.args.scope (scope_items c.args.decls.now c.args.scope) c.args.order.now
     c.loop-item.item-index n None c.loop-item.targets c.loop-item-test.true at none
     ∙ c.loop-item.invariant

@@ -5,7 +5,8 @@ use Rattle.cat_except.proofs.by_target.ByTarget.numbers.Goals as goal
 
 pub returns-in-Some : goal.returns-in-Some
 returns-in-Some c =
-    let read : c.index.result.now ≡ get_or c.args.self.now.lists.items c.in-Some.index [] = search (rules, get_or_default) in
+    let read : c.index.result.now ≡ get_or c.args.self.now.lists.items c.in-Some.index [] =
+    search (rules, get_or_default) in
     c.as_slice.ensures ∙ read
     ∙ sym (list_at_found c.args.target c.args.self.now.keys.keys c.args.self.now.lists.items c.in-Some.index c.requires
     (sym c.in-Some.ensures.index))
