@@ -1,6 +1,7 @@
 // The first fault of a kind in the labels and exceptions of definitions.
 ghost use Rattle.std.specs.Prelude.{◌≡◌, ◌<◌, length, All};
-ghost use Rattle.cat_except.specs.Faults.{unknown_label, split_label, ambiguous_exception, are_alike, in_defs, in_groups, in_targets};
+ghost use Rattle.cat_except.specs.Faults.{unknown_label, split_label, ambiguous_exception, are_alike};
+ghost use Rattle.cat_except.specs.Faults.{in_defs, in_groups, in_targets};
 ghost use Rattle.cat_except.specs.inside.Grouping.{defs_at, group_by, groups_at, AreGroups};
 ghost use Rattle.cat_except.specs.inside.Finding.{kind_of, first_of, groups_at_each, AreGroupsOfEach};
 
@@ -65,7 +66,8 @@ fn fault_at(kind: FaultKind, defs: &[Def], groups: &Groups, list: &[u32], def: &
     requires groups { AreGroups defs.now groups.now }
     requires some { 0 < length list.now }
     requires numbers { All (λ n. n < length defs.now) list.now }
-    ensures { result ≡ kind_of kind (groups_at defs.now groups.now.lists.items) (group_by (defs_at defs.now list.now)) def.now }
+    ensures { result ≡ kind_of kind (groups_at defs.now groups.now.lists.items)
+        (group_by (defs_at defs.now list.now)) def.now }
 {
     match kind {
         FaultKind::UnknownLabel => unknown_label(defs, groups, &def.except),

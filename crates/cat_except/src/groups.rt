@@ -34,7 +34,8 @@ impl Groups {
         requires few { length numbers.now < ENTRIES_BOUND }
         requires numbers { All (λ n. n < length defs.now) numbers.now }
         ensures target { IfOk result (λ groups. groups.target ≡ target) }
-        ensures parted { IfOk result (λ groups. groups_at defs.now groups.lists.items ≡ groups_of (defs_at defs.now numbers.now)) }
+        ensures parted { IfOk result (λ groups. groups_at defs.now groups.lists.items
+            ≡ groups_of (defs_at defs.now numbers.now)) }
         ensures groups { IfOk result (AreGroups defs.now) }
     {
         let (keys, lists) = parted(alloc, defs, numbers)?;
