@@ -5,8 +5,8 @@ use Rattle.std.specs.Str.{is_utf8, chars}
 use lib.Utf8.{encode}
 use Rattle.cat_weave.specs.Lines.{lines_of, without_end, without_last, without_last_blanks, without_first_blanks}
 use Rattle.cat_weave.specs.Kinds.{level_of, law_kind, kind_of, kinds_of}
-use Rattle.cat_weave.specs.Woven.{line_position, code_text, parts_from, closes, unclosed, woven}
-use Rattle.cat_gather.specs.Gathered.{Contents, Whole, Refused, StopsAt, parts_gathered, included, gathered}
+use Rattle.cat_weave.specs.Woven.{line_position, code_text, segments_from, closes, unclosed, woven}
+use Rattle.cat_gather.specs.Gathered.{Contents, Whole, Refused, StopsAt, segments_gathered, included, gathered}
 use Rattle.cat_gather.specs.declared.source.GatherRefusal.TheVariants.{IncludeTwice, FenceOpen}
 
 abbrev line : List ℕ → List ℕ
@@ -30,8 +30,8 @@ the_included_code_stands_in_place_of_its_include : gathered (files
           record { text = line (codes "3"); pos = line_position 0 6 } ∷ [];
       headings = [];
     })
-unfolding gathered included parts_gathered woven lines_of kinds_of kind_of law_kind level_of without_end without_last
-    without_last_blanks without_first_blanks code_text parts_from closes unclosed is_utf8 chars encode
+unfolding gathered included segments_gathered woven lines_of kinds_of kind_of law_kind level_of without_end without_last
+    without_last_blanks without_first_blanks code_text segments_from closes unclosed is_utf8 chars encode
 the_included_code_stands_in_place_of_its_include = refl
 
 abbrev nest : List ℕ → List ℕ → List ℕ → Contents
@@ -48,20 +48,20 @@ an_included_file_may_include : gathered (nest (include (codes "b") ++ code (code
           record { text = line (codes "4"); pos = line_position 0 3 } ∷ [];
       headings = [];
     })
-unfolding gathered included parts_gathered woven lines_of kinds_of kind_of law_kind level_of without_end without_last
-    without_last_blanks without_first_blanks code_text parts_from closes unclosed is_utf8 chars encode
+unfolding gathered included segments_gathered woven lines_of kinds_of kind_of law_kind level_of without_end without_last
+    without_last_blanks without_first_blanks code_text segments_from closes unclosed is_utf8 chars encode
 an_included_file_may_include = refl
 
 a_file_is_taken_once : gathered (files (include (codes "b") ++ include (codes "b")) []) (codes "a")
     ≡ Refused (IncludeTwice (codes "a") (line_position 0 2))
-unfolding gathered included parts_gathered woven lines_of kinds_of kind_of law_kind level_of without_end without_last
-    without_last_blanks without_first_blanks code_text parts_from closes unclosed is_utf8 chars encode
+unfolding gathered included segments_gathered woven lines_of kinds_of kind_of law_kind level_of without_end without_last
+    without_last_blanks without_first_blanks code_text segments_from closes unclosed is_utf8 chars encode
 a_file_is_taken_once = refl
 
 the_main_file_is_taken_too : gathered (files (include (codes "a")) []) (codes "a")
     ≡ Refused (IncludeTwice (codes "a") (line_position 0 1))
-unfolding gathered included parts_gathered woven lines_of kinds_of kind_of law_kind level_of without_end without_last
-    without_last_blanks without_first_blanks code_text parts_from closes unclosed is_utf8 chars encode
+unfolding gathered included segments_gathered woven lines_of kinds_of kind_of law_kind level_of without_end without_last
+    without_last_blanks without_first_blanks code_text segments_from closes unclosed is_utf8 chars encode
 the_main_file_is_taken_too = refl
 
 a_heading_counts_the_pieces_in_front_of_it : gathered (files (include (codes "b") ++ line (codes "# h"))
@@ -71,24 +71,24 @@ a_heading_counts_the_pieces_in_front_of_it : gathered (files (include (codes "b"
       pieces = record { text = line (codes "1"); pos = line_position 1 2 } ∷ [];
       headings = record { pieces = 1; level = 1; text = codes "h"; pos = line_position 0 2 } ∷ [];
     })
-unfolding gathered included parts_gathered woven lines_of kinds_of kind_of law_kind level_of without_end without_last
-    without_last_blanks without_first_blanks code_text parts_from closes unclosed is_utf8 chars encode
+unfolding gathered included segments_gathered woven lines_of kinds_of kind_of law_kind level_of without_end without_last
+    without_last_blanks without_first_blanks code_text segments_from closes unclosed is_utf8 chars encode
 a_heading_counts_the_pieces_in_front_of_it = refl
 
 a_file_that_includes_the_main_file_is_refused : gathered (files (include (codes "b")) (include (codes "a")))
     (codes "a") ≡ Refused (IncludeTwice (codes "b") (line_position 1 1))
-unfolding gathered included parts_gathered woven lines_of kinds_of kind_of law_kind level_of without_end without_last
-    without_last_blanks without_first_blanks code_text parts_from closes unclosed is_utf8 chars encode
+unfolding gathered included segments_gathered woven lines_of kinds_of kind_of law_kind level_of without_end without_last
+    without_last_blanks without_first_blanks code_text segments_from closes unclosed is_utf8 chars encode
 a_file_that_includes_the_main_file_is_refused = refl
 
 a_file_is_woven_before_its_includes_are_taken : gathered (files (include (codes "a") ++ line (codes "```catala")) [])
     (codes "a") ≡ Refused (FenceOpen (codes "a") (line_position 0 2))
-unfolding gathered included parts_gathered woven lines_of kinds_of kind_of law_kind level_of without_end without_last
-    without_last_blanks without_first_blanks code_text parts_from closes unclosed is_utf8 chars encode
+unfolding gathered included segments_gathered woven lines_of kinds_of kind_of law_kind level_of without_end without_last
+    without_last_blanks without_first_blanks code_text segments_from closes unclosed is_utf8 chars encode
 a_file_is_woven_before_its_includes_are_taken = refl
 
 gathering_stops_at_a_file_without_content : gathered (files (include (codes "c")) []) (codes "a") ≡ StopsAt
     (codes "c") 13
-unfolding gathered included parts_gathered woven lines_of kinds_of kind_of law_kind level_of without_end without_last
-    without_last_blanks without_first_blanks code_text parts_from closes unclosed is_utf8 chars encode
+unfolding gathered included segments_gathered woven lines_of kinds_of kind_of law_kind level_of without_end without_last
+    without_last_blanks without_first_blanks code_text segments_from closes unclosed is_utf8 chars encode
 gathering_stops_at_a_file_without_content = refl

@@ -1,4 +1,4 @@
--- How gathering goes on from one part to the next, whatever the files hold that aren't taken yet.
+-- How gathering goes on from one segment to the next, whatever the files hold that aren't taken yet.
 use Rattle.std.proofs.Common.{◌≡◌, ◌∙◌, ap, sym, subst, ℕ, zero, suc, ◌+◌, ◌-◌, ◌<◌, ◌≤◌, Bool, true, false, cond, ◌||◌}
 use Rattle.std.proofs.Common.{List, [], ◌∷◌, ◌++◌, length, drop, reverse, refl, arith, append_assoc, length-append}
 use Rattle.std.proofs.Common.{le-leb, Some, None, Option, Ok, Err, Result, ⊎_elim, ◌⊎◌}
@@ -10,13 +10,13 @@ use Rattle.cat_io.specs.Shelf.{Shelved, Gives}
 use Rattle.cat_pos.specs.declared.pos.Pos.{Pos}
 use Rattle.cat_pos.specs.declared.pos.Piece.{Piece}
 use Rattle.cat_weave.specs.Woven.{woven}
-use Rattle.cat_weave.specs.declared.part.Heading.{Heading as Headed}
-use Rattle.cat_weave.specs.declared.part.Part.{Part}
-use Rattle.cat_weave.specs.declared.part.Part.TheVariants.{Code, Heading, Include}
+use Rattle.cat_weave.specs.declared.segment.Heading.{Heading as Headed}
+use Rattle.cat_weave.specs.declared.segment.Segment.{Segment}
+use Rattle.cat_weave.specs.declared.segment.Segment.TheVariants.{Code, Heading, Include}
 use Rattle.cat_gather.specs.Gathered.{Contents, Gathered, gathered_none, source_of, limit_after, Ending, Whole, Refused}
 use Rattle.cat_gather.specs.Gathered.{woven_as, is_among, twice}
 use Rattle.cat_gather.specs.Causes.{AreTold, AreToldBut, HasEnding, ComesTo, HasCause}
-use Rattle.cat_gather.specs.inside.Worklist.{Leading, gather_parts, put_in_front, take_file, include_with}
+use Rattle.cat_gather.specs.inside.Worklist.{Leading, gather_segments, put_in_front, take_file, include_with}
 use Rattle.cat_gather.specs.inside.UnderWay.{Weaves, Takes, IsRefusedTake, SameOn, GoesOn, AreToCome}
 use Rattle.cat_gather.specs.declared.source.Source.{Source}
 use Rattle.cat_gather.specs.declared.source.GatherRefusal.{GatherRefusal}
@@ -24,14 +24,16 @@ use Rattle.cat_gather.specs.declared.source.GatherRefusal.TheVariants.{NotUtf8, 
 use Rattle.cat_gather.specs.declared.source.GatherRefusal.TheVariants.{ReadFault, TooLarge, Memory}
 use Rattle.cat_gather.proofs.WorklistLemmas.{include_taken, include_full, include_free, gathered-by_list}
 
--- parts to come, last first
-pub moved : (left front old new : List Part) (part : Part) → old ≡ left ++ part ∷ [] → new ≡ front ++ part ∷ [] →
+-- segments to come, last first
+pub moved : (left front old new : List Segment) (segment : Segment) → old ≡ left ++ segment ∷ []
+    → new ≡ front ++ segment ∷ [] →
     left ++ reverse new ≡ old ++ reverse front
-moved left front old new part was is =
-    rw (was, is, reverse-append front (part ∷ [])) (sym (append_assoc left (part ∷ []) (reverse front)))
+moved left front old new segment was is =
+    rw (was, is, reverse-append front (segment ∷ [])) (sym (append_assoc left (segment ∷ []) (reverse front)))
 
-pub reverse_push : (parts : List Part) (part : Part) → reverse (parts ++ part ∷ []) ≡ part ∷ reverse parts
-reverse_push parts part = reverse-append parts (part ∷ [])
+pub reverse_push : (segments : List Segment) (segment : Segment)
+    → reverse (segments ++ segment ∷ []) ≡ segment ∷ reverse segments
+reverse_push segments segment = reverse-append segments (segment ∷ [])
 
 -- names
 same_name : (n name : List ℕ) → bytes_eq n name ≡ true → n ≡ name
@@ -143,64 +145,66 @@ begins told main = record {
 
 pub whole_cause : (old new : Shelved) (main : List ℕ) (g : Gathered) → new ≡ old → AreToCome old.content main g [] →
     HasCause old new main (Ok (source_of g))
-unfolding gather_parts
+unfolding gather_segments
 whole_cause old new main g same come =
     (same, ends_in old.content main g.files _ (Whole (source_of g)) (λ c. refl) come)
 
 pub code_goes_on : (told : Contents) (main : List ℕ) (g : Gathered) (pieces : List Piece) (piece : Piece)
-    (part : Part) (parts : List Part) → part ≡ Code piece → pieces ≡ g.pieces ++ piece ∷ []
-    → AreToCome told main g (part ∷ parts) → AreToCome told main (record g { pieces = pieces }) parts
-unfolding gather_parts
-code_goes_on told main g pieces piece part parts is_part is come = rw is (rw is_part at come)
+    (segment : Segment) (segments : List Segment) → segment ≡ Code piece → pieces ≡ g.pieces ++ piece ∷ []
+    → AreToCome told main g (segment ∷ segments) → AreToCome told main (record g { pieces = pieces }) segments
+unfolding gather_segments
+code_goes_on told main g pieces piece segment segments is_segment is come = rw is (rw is_segment at come)
 
 pub heading_goes_on : (told : Contents) (main : List ℕ) (g : Gathered) (headings : List Headed) (count level : ℕ)
-    (text : List ℕ) (pos : Pos) (part : Part) (parts : List Part) → part ≡ Heading level text pos →
+    (text : List ℕ) (pos : Pos) (segment : Segment) (segments : List Segment) → segment ≡ Heading level text pos →
     count ≡ length g.pieces
     → headings ≡ g.headings ++ record { pieces = count; level = level; text = text; pos = pos } ∷ [] →
-    AreToCome told main g (part ∷ parts) → AreToCome told main (record g { headings = headings }) parts
-unfolding gather_parts
-heading_goes_on told main g headings count level text pos part parts is_part counted is come =
-    rw (is, counted) (rw is_part at come)
+    AreToCome told main g (segment ∷ segments) → AreToCome told main (record g { headings = headings }) segments
+unfolding gather_segments
+heading_goes_on told main g headings count level text pos segment segments is_segment counted is come =
+    rw (is, counted) (rw is_segment at come)
 
 pub include_goes_on : (told : Contents) (main : List ℕ) (g : Gathered) (path : List ℕ) (pos : Pos)
-    (parts : List Part) → AreToCome told main g (Include path pos ∷ parts) →
-    GoesOn told main g.files (λ c. include_with c (64 - length g.files) path pos parts g)
-unfolding gather_parts
-include_goes_on told main g path pos parts come = come
+    (segments : List Segment) → AreToCome told main g (Include path pos ∷ segments) →
+    GoesOn told main g.files (λ c. include_with c (64 - length g.files) path pos segments g)
+unfolding gather_segments
+include_goes_on told main g path pos segments come = come
 
-pub twice_cause : (old : Shelved) (main path name : List ℕ) (pos : Pos) (parts : List Part) (g : Gathered) →
+pub twice_cause : (old : Shelved) (main path name : List ℕ) (pos : Pos) (segments : List Segment) (g : Gathered) →
     (64 ≤ length g.files) ⊎ (is_among path g.files ≡ true) → name ≡ slice_index_or g.files pos.file [] →
-    GoesOn old.content main g.files (λ c. include_with c (64 - length g.files) path pos parts g) →
+    GoesOn old.content main g.files (λ c. include_with c (64 - length g.files) path pos segments g) →
     HasCause old old main (Err (IncludeTwice name pos))
-twice_cause old main path name pos parts g why named on =
+twice_cause old main path name pos segments g why named on =
     rw named (
       refl,
       ends_in old.content main g.files _ (twice pos g)
-          (λ c. ⊎_elim (λ full. include_full c path pos parts g (64 - length g.files) (omega arith))
-          (λ taken. include_taken c (64 - length g.files) path pos parts g taken) why) on,
+          (λ c. ⊎_elim (λ full. include_full c path pos segments g (64 - length g.files) (omega arith))
+          (λ taken. include_taken c (64 - length g.files) path pos segments g taken) why) on,
     )
 
-pub free_goes_on : (told : Contents) (main path : List ℕ) (pos : Pos) (parts : List Part) (g : Gathered) →
+pub free_goes_on : (told : Contents) (main path : List ℕ) (pos : Pos) (segments : List Segment) (g : Gathered) →
     length g.files < 64 → is_among path g.files ≡ false
-    → GoesOn told main g.files (λ c. include_with c (64 - length g.files) path pos parts g) →
-    GoesOn told main g.files (λ c. take_file (include_with c (63 - length g.files)) path parts g (c path))
-free_goes_on told main path pos parts g room fresh on =
-    goes_on_same told main g.files _ (λ c. take_file (include_with c (63 - length g.files)) path parts g (c path))
-    (λ c. include_free c (64 - length g.files) (63 - length g.files) path pos parts g (omega arith) fresh) on
+    → GoesOn told main g.files (λ c. include_with c (64 - length g.files) path pos segments g) →
+    GoesOn told main g.files (λ c. take_file (include_with c (63 - length g.files)) path segments g (c path))
+free_goes_on told main path pos segments g room fresh on =
+    goes_on_same told main g.files _ (λ c. take_file (include_with c (63 - length g.files)) path segments g (c path))
+    (λ c. include_free c (64 - length g.files) (63 - length g.files) path pos segments g (omega arith) fresh) on
 
 -- a file that was read
-file_read : (include : Leading) (name bytes : List ℕ) (parts : List Part) (g : Gathered) (content : Option (List ℕ)) →
+file_read : (include : Leading) (name bytes : List ℕ) (segments : List Segment) (g : Gathered)
+    (content : Option (List ℕ)) →
     content ≡ Some bytes → length bytes ≤ limit_after g.bytes
-    → take_file include name parts g content ≡ put_in_front include name (length bytes) parts g
+    → take_file include name segments g content ≡ put_in_front include name (length bytes) segments g
     (woven_as name (woven bytes (length g.files)))
-file_read include name bytes parts g content is short = rw (is, le-leb (length bytes) (limit_after g.bytes) short) refl
+file_read include name bytes segments g content is short =
+    rw (is, le-leb (length bytes) (limit_after g.bytes) short) refl
 
-read_goes_on : (told : Contents) (main name bytes : List ℕ) (g : Gathered) (parts : List Part) →
+read_goes_on : (told : Contents) (main name bytes : List ℕ) (g : Gathered) (segments : List Segment) →
     is_among name g.files ≡ false → Gives (told name) (limit_after g.bytes) bytes
-    → GoesOn told main g.files (λ c. take_file (include_with c (63 - length g.files)) name parts g (c name))
+    → GoesOn told main g.files (λ c. take_file (include_with c (63 - length g.files)) name segments g (c name))
     → GoesOn told main (g.files ++ name ∷ []) (λ c. put_in_front (include_with c (63 - length g.files)) name
-    (length bytes) parts g (woven_as name (woven bytes (length g.files))))
-read_goes_on told main name bytes g parts fresh gives on = record {
+    (length bytes) segments g (woven_as name (woven bytes (length g.files))))
+read_goes_on told main name bytes g segments fresh gives on = record {
   contents = put name (Some bytes) on.contents;
   agrees = agrees_put told on.contents name bytes gives.content on.agrees;
   goes_on = λ other held.
@@ -208,57 +212,59 @@ read_goes_on told main name bytes g parts fresh gives on = record {
       λ m among. held m (among_front m name g.files among) ∙ put_same g.files name (Some bytes) on.contents fresh
       m among in
       let has : other name ≡ Some bytes = held name (among_last name g.files) ∙ put_own name (Some bytes) on.contents in
-      on.goes_on other held_before ∙ file_read (include_with other (63 - length g.files)) name bytes parts g
+      on.goes_on other held_before ∙ file_read (include_with other (63 - length g.files)) name bytes segments g
       (other name) has gives.short;
 }
 
-pub take_goes_on : (told : Contents) (main name : List ℕ) (old new : Gathered) (parts after : List Part) →
-    is_among name old.files ≡ false → Takes told name old parts new after
-    → GoesOn told main old.files (λ c. take_file (include_with c (63 - length old.files)) name parts old (c name)) →
+pub take_goes_on : (told : Contents) (main name : List ℕ) (old new : Gathered) (segments after : List Segment) →
+    is_among name old.files ≡ false → Takes told name old segments new after
+    → GoesOn told main old.files (λ c. take_file (include_with c (63 - length old.files)) name segments old (c name)) →
     AreToCome told main new after
-take_goes_on told main name old new parts after fresh takes on =
+take_goes_on told main name old new segments after fresh takes on =
     let left : 64 - length (old.files ++ name ∷ []) ≡ 63 - length old.files =
     omega (arith, length-append old.files (name ∷ [])) in
-    rw (takes.gathered_is, takes.parts_are)
-    (goes_on_same told main (old.files ++ name ∷ []) _ _ (λ c. rw (takes.weaves.parts, left) refl)
-    (read_goes_on told main name takes.bytes old parts fresh takes.weaves.read on))
+    rw (takes.gathered_is, takes.segments_are)
+    (goes_on_same told main (old.files ++ name ∷ []) _ _ (λ c. rw (takes.weaves.segments, left) refl)
+    (read_goes_on told main name takes.bytes old segments fresh takes.weaves.read on))
 
-refused_cause : (told : Contents) (main name bytes : List ℕ) (g : Gathered) (parts : List Part)
+refused_cause : (told : Contents) (main name bytes : List ℕ) (g : Gathered) (segments : List Segment)
     (refusal : GatherRefusal) → is_among name g.files ≡ false → Weaves told name g bytes (Err refusal)
-    → GoesOn told main g.files (λ c. take_file (include_with c (63 - length g.files)) name parts g (c name)) →
+    → GoesOn told main g.files (λ c. take_file (include_with c (63 - length g.files)) name segments g (c name)) →
     HasEnding told main (Refused refusal)
-refused_cause told main name bytes g parts refusal fresh weaves on =
-    ends_in told main (g.files ++ name ∷ []) _ (Refused refusal) (λ c. rw weaves.parts refl)
-    (read_goes_on told main name bytes g parts fresh weaves.read on)
+refused_cause told main name bytes g segments refusal fresh weaves on =
+    ends_in told main (g.files ++ name ∷ []) _ (Refused refusal) (λ c. rw weaves.segments refl)
+    (read_goes_on told main name bytes g segments fresh weaves.read on)
 
-comes_to : (told : Contents) (main name : List ℕ) (g : Gathered) (parts : List Part) → is_among name g.files ≡ false
-    → GoesOn told main g.files (λ c. take_file (include_with c (63 - length g.files)) name parts g (c name)) →
+comes_to : (told : Contents) (main name : List ℕ) (g : Gathered) (segments : List Segment)
+    → is_among name g.files ≡ false
+    → GoesOn told main g.files (λ c. take_file (include_with c (63 - length g.files)) name segments g (c name)) →
     ComesTo told main name g.bytes
-comes_to told main name g parts fresh on =
+comes_to told main name g segments fresh on =
     let without = put name None on.contents in (
       without,
       agrees_but told on.contents name on.agrees,
       on.goes_on without (put_same g.files name None on.contents fresh)
-          ∙ ap (λ (content : Option (List ℕ)). take_file (include_with without (63 - length g.files)) name parts g
+          ∙ ap (λ (content : Option (List ℕ)). take_file (include_with without (63 - length g.files)) name segments g
           content) (put_own name None on.contents),
     )
 
-pub take_cause : (old new : Shelved) (main name : List ℕ) (g : Gathered) (parts : List Part) (refusal : GatherRefusal) →
+pub take_cause : (old new : Shelved) (main name : List ℕ) (g : Gathered) (segments : List Segment)
+    (refusal : GatherRefusal) →
     is_among name g.files ≡ false →
-    GoesOn old.content main g.files (λ c. take_file (include_with c (63 - length g.files)) name parts g (c name)) →
+    GoesOn old.content main g.files (λ c. take_file (include_with c (63 - length g.files)) name segments g (c name)) →
     IsRefusedTake name g old new refusal → HasCause old new main (Err refusal)
-take_cause old new main name g parts (NotUtf8 n pos) fresh on why =
-    (why.1, refused_cause old.content main name why.0 g parts (NotUtf8 n pos) fresh why.2 on)
-take_cause old new main name g parts (FenceOpen n pos) fresh on why =
-    (why.1, refused_cause old.content main name why.0 g parts (FenceOpen n pos) fresh why.2 on)
-take_cause old new main name g parts (IncludeTwice n pos) fresh on why = absurd why
-take_cause old new main name g parts (Missing n) fresh on why =
-    rw why.0 (g.bytes, comes_to old.content main name g parts fresh on, why.1)
-take_cause old new main name g parts (ReadFault n) fresh on why =
-    rw why.0 (g.bytes, comes_to old.content main name g parts fresh on, why.1)
-take_cause old new main name g parts (TooLarge n) fresh on why =
-    rw why.0 (g.bytes, comes_to old.content main name g parts fresh on, why.1)
-take_cause old new main name g parts Memory fresh on why = (name, why)
+take_cause old new main name g segments (NotUtf8 n pos) fresh on why =
+    (why.1, refused_cause old.content main name why.0 g segments (NotUtf8 n pos) fresh why.2 on)
+take_cause old new main name g segments (FenceOpen n pos) fresh on why =
+    (why.1, refused_cause old.content main name why.0 g segments (FenceOpen n pos) fresh why.2 on)
+take_cause old new main name g segments (IncludeTwice n pos) fresh on why = absurd why
+take_cause old new main name g segments (Missing n) fresh on why =
+    rw why.0 (g.bytes, comes_to old.content main name g segments fresh on, why.1)
+take_cause old new main name g segments (ReadFault n) fresh on why =
+    rw why.0 (g.bytes, comes_to old.content main name g segments fresh on, why.1)
+take_cause old new main name g segments (TooLarge n) fresh on why =
+    rw why.0 (g.bytes, comes_to old.content main name g segments fresh on, why.1)
+take_cause old new main name g segments Memory fresh on why = (name, why)
 
 -- of an answer, what one or two facts lead to
 pub on_ok : {P Q : Type 0} (r : Result (Unit {0}) GatherRefusal) → OnOk r P → (P → Q) → OnOk r Q
@@ -275,12 +281,12 @@ if_err (Ok u) fact step = tt
 if_err (Err e) fact step = step e fact
 
 -- the main file
-pub main_taken : (told : Contents) (main : List ℕ) (start new : Gathered) (parts after : List Part) →
-    start ≡ gathered_none → parts ≡ [] → Takes told main start parts new after → AreToCome told main new after
-main_taken told main start new parts after none empty takes =
-    let first = subst (λ (s : Gathered). Takes told main s parts new after) none takes in
+pub main_taken : (told : Contents) (main : List ℕ) (start new : Gathered) (segments after : List Segment) →
+    start ≡ gathered_none → segments ≡ [] → Takes told main start segments new after → AreToCome told main new after
+main_taken told main start new segments after none empty takes =
+    let first = subst (λ (s : Gathered). Takes told main s segments new after) none takes in
     take_goes_on told main main gathered_none new [] after refl
-    (subst (λ (p : List Part). Takes told main gathered_none p new after) empty first) (begins told main)
+    (subst (λ (p : List Segment). Takes told main gathered_none p new after) empty first) (begins told main)
 
 pub main_refused : (old new : Shelved) (main : List ℕ) (start : Gathered) (refusal : GatherRefusal) →
     start ≡ gathered_none → IsRefusedTake main start old new refusal → HasCause old new main (Err refusal)

@@ -5,10 +5,11 @@ use Rattle.std.specs.Prelude.{IfSome}
 use Rattle.cat_io.specs.Shelf.{Shelved}
 use Rattle.cat_pos.specs.declared.pos.Pos.{Pos}
 use Rattle.cat_weave.specs.Woven.{woven}
-use Rattle.cat_weave.specs.declared.part.Part.{Part}
-use Rattle.cat_weave.specs.declared.part.Part.TheVariants.{Code, Heading, Include}
+use Rattle.cat_weave.specs.declared.segment.Segment.{Segment}
+use Rattle.cat_weave.specs.declared.segment.Segment.TheVariants.{Code, Heading, Include}
 use Rattle.cat_gather.specs.Gathered.{Contents, Gathered, gathered_none, with_piece, with_heading, with_file, source_of}
-use Rattle.cat_gather.specs.Gathered.{limit_after, Ending, Whole, Refused, StopsAt, and_then, Including, parts_gathered}
+use Rattle.cat_gather.specs.Gathered.{limit_after, Ending, Whole, Refused, StopsAt, and_then, Including}
+use Rattle.cat_gather.specs.Gathered.{segments_gathered}
 use Rattle.cat_gather.specs.Gathered.{woven_as, woven_gathered, bytes_gathered, file_gathered, is_among, is_full}
 use Rattle.cat_gather.specs.Gathered.{included_unless, included, gathered}
 use Rattle.cat_gather.specs.Causes.{AreTold, HasCause, IsAnswerTo, is_fault}
@@ -50,21 +51,24 @@ then_same told ending next other (inl is) same =
     (same_then told next other same)
 then_same told ending next other (inr stop) same = inr (stop_then told next stop)
 
-parts_same : (told include : Including) → AreSameOrStop told include → (parts : List Part) (g : Gathered) →
-    IsSameOrStop (parts_gathered told parts g) (parts_gathered include parts g)
-unfolding parts_gathered
-parts_same told include same [] g = inl refl
-parts_same told include same (Code piece ∷ parts) g = parts_same told include same parts (with_piece piece g)
-parts_same told include same (Heading level text pos ∷ parts) g =
-    parts_same told include same parts (with_heading level text pos g)
-parts_same told include same (Include path pos ∷ parts) g =
-    then_same (told path pos g) (include path pos g) (parts_gathered told parts) (parts_gathered include parts)
-    (same path pos g) (λ h. parts_same told include same parts h)
+segments_same : (told include : Including) → AreSameOrStop told include → (segments : List Segment) (g : Gathered) →
+    IsSameOrStop (segments_gathered told segments g) (segments_gathered include segments g)
+unfolding segments_gathered
+segments_same told include same [] g = inl refl
+segments_same told include same (Code piece ∷ segments) g =
+    segments_same told include same segments (with_piece piece g)
+segments_same told include same (Heading level text pos ∷ segments) g =
+    segments_same told include same segments (with_heading level text pos g)
+segments_same told include same (Include path pos ∷ segments) g =
+    then_same (told path pos g) (include path pos g) (segments_gathered told segments)
+    (segments_gathered include segments)
+    (same path pos g) (λ h. segments_same told include same segments h)
 
 woven_same : (told include : Including) → AreSameOrStop told include → (name : List ℕ) (size : ℕ) (g : Gathered)
-    (parts : Result (List Part) GatherRefusal) →
-    IsSameOrStop (woven_gathered told name size g parts) (woven_gathered include name size g parts)
-woven_same told include same name size g (Ok parts) = parts_same told include same parts (with_file name size g)
+    (segments : Result (List Segment) GatherRefusal) →
+    IsSameOrStop (woven_gathered told name size g segments) (woven_gathered include name size g segments)
+woven_same told include same name size g (Ok segments) =
+    segments_same told include same segments (with_file name size g)
 woven_same told include same name size g (Err refusal) = inl refl
 
 bytes_same : (told include : Including) → AreSameOrStop told include → (name : List ℕ) (g : Gathered)

@@ -5,12 +5,12 @@ use Rattle.cat_pos.specs.declared.limits.TheConstants.{MOST_FILES, MOST_FILE_BYT
 use Rattle.cat_pos.specs.declared.pos.Pos.{Pos}
 use Rattle.cat_pos.specs.declared.pos.Piece.{Piece}
 use Rattle.cat_weave.specs.Woven.{woven}
-use Rattle.cat_weave.specs.declared.part.Heading.{Heading as Headed}
-use Rattle.cat_weave.specs.declared.part.Part.{Part}
-use Rattle.cat_weave.specs.declared.part.Part.TheVariants.{Code, Heading, Include}
-use Rattle.cat_weave.specs.declared.part.Woven.{Woven}
-use Rattle.cat_weave.specs.declared.part.WeaveRefusal.{WeaveRefusal}
-use Rattle.cat_weave.specs.declared.part.WeaveRefusal.TheVariants as weaving
+use Rattle.cat_weave.specs.declared.segment.Heading.{Heading as Headed}
+use Rattle.cat_weave.specs.declared.segment.Segment.{Segment}
+use Rattle.cat_weave.specs.declared.segment.Segment.TheVariants.{Code, Heading, Include}
+use Rattle.cat_weave.specs.declared.segment.Woven.{Woven}
+use Rattle.cat_weave.specs.declared.segment.WeaveRefusal.{WeaveRefusal}
+use Rattle.cat_weave.specs.declared.segment.WeaveRefusal.TheVariants as weaving
 use Rattle.cat_gather.specs.declared.source.Source.{Source}
 use Rattle.cat_gather.specs.declared.source.GatherRefusal.{GatherRefusal}
 use Rattle.cat_gather.specs.declared.source.GatherRefusal.TheVariants.{NotUtf8, FenceOpen, IncludeTwice, TooLarge}
@@ -66,22 +66,24 @@ abbrev pub Including : Type 0
 Including = List ℕ → Pos → Gathered → Ending Gathered
 
 -- the code and headings of a file in their order, with each include replaced by those of the file that it names
-unfoldable pub parts_gathered : Including → List Part → Gathered → Ending Gathered
-parts_gathered include [] g = Whole g
-parts_gathered include (Code piece ∷ parts) g = parts_gathered include parts (with_piece piece g)
-parts_gathered include (Heading level text pos ∷ parts) g = parts_gathered include parts (with_heading level text pos g)
-parts_gathered include (Include path pos ∷ parts) g = and_then (include path pos g) (parts_gathered include parts)
+unfoldable pub segments_gathered : Including → List Segment → Gathered → Ending Gathered
+segments_gathered include [] g = Whole g
+segments_gathered include (Code piece ∷ segments) g = segments_gathered include segments (with_piece piece g)
+segments_gathered include (Heading level text pos ∷ segments) g =
+    segments_gathered include segments (with_heading level text pos g)
+segments_gathered include (Include path pos ∷ segments) g =
+    and_then (include path pos g) (segments_gathered include segments)
 
 -- a refused file is named
-abbrev pub woven_as : List ℕ → Result Woven WeaveRefusal → Result (List Part) GatherRefusal
-woven_as name (Ok woven) = Ok woven.parts
+abbrev pub woven_as : List ℕ → Result Woven WeaveRefusal → Result (List Segment) GatherRefusal
+woven_as name (Ok woven) = Ok woven.segments
 woven_as name (Err (weaving.NotUtf8 pos)) = Err (NotUtf8 name pos)
 woven_as name (Err (weaving.FenceOpen pos)) = Err (FenceOpen name pos)
 woven_as name (Err weaving.Memory) = Err Memory
 
 -- a file of so many bytes, by what weaving it gives
-abbrev pub woven_gathered : Including → List ℕ → ℕ → Gathered → Result (List Part) GatherRefusal → Ending Gathered
-woven_gathered include name size g (Ok parts) = parts_gathered include parts (with_file name size g)
+abbrev pub woven_gathered : Including → List ℕ → ℕ → Gathered → Result (List Segment) GatherRefusal → Ending Gathered
+woven_gathered include name size g (Ok segments) = segments_gathered include segments (with_file name size g)
 woven_gathered include name size g (Err refusal) = Refused refusal
 
 -- a file has at most 4 MiB, and at most what the files in front of it leave of 16 MiB

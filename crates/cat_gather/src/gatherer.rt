@@ -1,4 +1,4 @@
-// Files taken depth first, by a list of the parts to come.
+// Files taken depth first, by a list of the segments to come.
 ghost use Rattle.std.specs.Prelude.{◌≡◌, ◌≢◌, ◌-◌, ◌<◌, ◌≤◌, ℕ, List, [], ◌∷◌, length, Ok, Err, IfOk, IfErr, OnOk};
 ghost use Rattle.cat_weave.specs.Woven.{woven, AreWithin};
 ghost use Rattle.cat_gather.specs.Gathered.{gathered, gathered_none, woven_as, is_among};
@@ -11,7 +11,7 @@ use crate::pending::Pending;
 use crate::{GatherRefusal, Source};
 use cat_io::{Shelf, ShelfFault, read_all};
 use cat_pos::{Files, List, MOST_FILE_BYTES, MOST_FILES, MOST_SOURCE_BYTES, Pieces, Pos, Text};
-use cat_weave::{Heading, Headings, Part, Parts, WeaveRefusal, weave};
+use cat_weave::{Heading, Headings, Segment, Segments, WeaveRefusal, weave};
 use std::alloc::Global;
 
 /// Reads a file and all that it includes, depth first: at most 64 files, each once, of at most 4 MiB
@@ -23,7 +23,7 @@ pub fn gather<S: Shelf>(alloc: Global, shelf: &mut S, main: &str) -> Result<Sour
 {
     let mut gathering = Gathering::new(alloc);
     gathering.take(alloc, shelf, main)?;
-    gathering.take_parts(alloc, shelf)?;
+    gathering.take_segments(alloc, shelf)?;
     let Gathering {
         files,
         bytes: _,
@@ -63,8 +63,8 @@ impl Gathering {
         }
     }
 
-    /// Takes all parts to come, and those of the files that they include.
-    fn take_parts<S: Shelf>(&mut self, alloc: Global, shelf: &mut S) -> Result<(), GatherRefusal>
+    /// Takes all segments to come, and those of the files that they include.
+    fn take_segments<S: Shelf>(&mut self, alloc: Global, shelf: &mut S) -> Result<(), GatherRefusal>
         requires { AreBounded (gathered_of self.old) self.old.to_come }
         ensures on { OnOk result (LeadsOn (S.state shelf.old).content
             (λ main. AreToCome (S.state shelf.old).content main (gathered_of self.old) self.old.to_come)
@@ -74,32 +74,32 @@ impl Gathering {
             → AreToCome (S.state shelf.old).content main (gathered_of self.old) self.old.to_come
             → HasCause (S.state shelf.old) (S.state shelf.new) main (Err e)) }
     {
-        while let Some(part) = self.to_come.next() {
-            self.take_part(alloc, shelf, part)?;
+        while let Some(segment) = self.to_come.next() {
+            self.take_segment(alloc, shelf, segment)?;
         }
         Ok(())
     }
 
-    fn take_part<S: Shelf>(
+    fn take_segment<S: Shelf>(
         &mut self,
         alloc: Global,
         shelf: &mut S,
-        part: Part,
+        segment: Segment,
     ) -> Result<(), GatherRefusal>
-        requires { AreBounded (gathered_of self.old) (part ∷ self.old.to_come) }
+        requires { AreBounded (gathered_of self.old) (segment ∷ self.old.to_come) }
         ensures on { OnOk result (LeadsOn (S.state shelf.old).content
-            (λ main. AreToCome (S.state shelf.old).content main (gathered_of self.old) (part ∷ self.old.to_come))
+            (λ main. AreToCome (S.state shelf.old).content main (gathered_of self.old) (segment ∷ self.old.to_come))
             (gathered_of self.new) self.new.to_come) }
         ensures kept { OnOk result (IsKept (S.state shelf.old) (S.state shelf.new)
             (left_to_take (gathered_of self.new) self.new.to_come)
             (left_to_take (gathered_of self.old) self.old.to_come)) }
         ensures cause { IfErr result (λ e. (main : List ℕ)
-            → AreToCome (S.state shelf.old).content main (gathered_of self.old) (part ∷ self.old.to_come)
+            → AreToCome (S.state shelf.old).content main (gathered_of self.old) (segment ∷ self.old.to_come)
             → HasCause (S.state shelf.old) (S.state shelf.new) main (Err e)) }
     {
-        match part {
-            Part::Code(piece) => Ok(self.pieces.push(piece)?),
-            Part::Heading(level, text, pos) => {
+        match segment {
+            Segment::Code(piece) => Ok(self.pieces.push(piece)?),
+            Segment::Heading(level, text, pos) => {
                 let pieces = self.pieces.len();
                 Ok(
                     self.headings.push(Heading {
@@ -110,7 +110,7 @@ impl Gathering {
                     })?,
                 )
             }
-            Part::Include(path, pos) => self.include(alloc, shelf, path.as_str(), pos),
+            Segment::Include(path, pos) => self.include(alloc, shelf, path.as_str(), pos),
         }
     }
 
@@ -142,7 +142,7 @@ impl Gathering {
         self.take(alloc, shelf, path)
     }
 
-    /// Takes a file: reads it, weaves it, and puts its parts in front of those to come.
+    /// Takes a file: reads it, weaves it, and puts its segments in front of those to come.
     fn take<S: Shelf>(
         &mut self,
         alloc: Global,
@@ -160,9 +160,9 @@ impl Gathering {
         let limit = MOST_FILE_BYTES.min(MOST_SOURCE_BYTES - self.bytes);
         let bytes = read_file(alloc, shelf, name, limit)?;
         let number = self.files.add(name)?;
-        let parts = woven_parts(alloc, name, &bytes, number)?;
+        let segments = woven_segments(alloc, name, &bytes, number)?;
         self.bytes += bytes.len();
-        self.to_come.put_in_front(parts)?;
+        self.to_come.put_in_front(segments)?;
         Ok(())
     }
 }
@@ -198,15 +198,20 @@ fn read_file<S: Shelf>(
     }
 }
 
-/// The parts of a file, or its refusal with its name.
-fn woven_parts(alloc: Global, name: &str, bytes: &[u8], number: u32) -> Result<Parts, GatherRefusal>
+/// The segments of a file, or its refusal with its name.
+fn woven_segments(
+    alloc: Global,
+    name: &str,
+    bytes: &[u8],
+    number: u32,
+) -> Result<Segments, GatherRefusal>
     requires { length bytes.now ≤ MOST_FILE_BYTES }
     ensures gives { result ≢ Err GatherRefusal.Memory
         → result ≡ woven_as name.now (woven bytes.now number) }
-    ensures within { IfOk result (λ parts. AreWithin (length bytes.now) number parts) }
+    ensures within { IfOk result (λ segments. AreWithin (length bytes.now) number segments) }
 {
     match weave(alloc, bytes, number) {
-        Ok(woven) => Ok(woven.parts),
+        Ok(woven) => Ok(woven.segments),
         Err(WeaveRefusal::NotUtf8(pos)) => {
             Err(GatherRefusal::NotUtf8(Text::from_str(alloc, name)?, pos))
         }

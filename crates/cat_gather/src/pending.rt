@@ -1,25 +1,25 @@
-// The parts that are still to be taken.
+// The segments that are still to be taken.
 ghost use Rattle.std.specs.Prelude.{◌≡◌, [], ◌∷◌, ◌++◌, length, IfOk, MatchOption, OnOk};
 
 use cat_pos::List;
-use cat_weave::{Part, Parts};
+use cat_weave::{Segment, Segments};
 use std::alloc::{AllocError, Global};
 use std::marker::Model;
 
-/// The parts to come, in order.
+/// The segments to come, in order.
 #[derive(Drop)]
 pub(crate) struct Pending {
-    /// The next part stands last.
-    parts: Vec<Part>,
+    /// The next segment stands last.
+    segments: Vec<Segment>,
 }
 
 impl Model for Pending {
     ghost use Rattle.std.specs.Prelude.{List, reverse};
-    ghost use Rattle.cat_weave.specs.declared.part.Part.{Part};
+    ghost use Rattle.cat_weave.specs.declared.segment.Segment.{Segment};
 
-    ghost Value = { List Part };
+    ghost Value = { List Segment };
 
-    ghost view = { λ pending. reverse pending.parts.items };
+    ghost view = { λ pending. reverse pending.segments.items };
 }
 
 impl Pending {
@@ -27,26 +27,26 @@ impl Pending {
         ensures { result ≡ [] }
     {
         Pending {
-            parts: Vec::new(alloc),
+            segments: Vec::new(alloc),
         }
     }
 
     #[tactic(auto, using(crate::proofs::GatherLemmas::reverse_push))]
-    pub(crate) fn next(&mut self) -> Option<Part>
+    pub(crate) fn next(&mut self) -> Option<Segment>
         ensures { MatchOption result ((self.old ≡ []) × (self.new ≡ []))
-            (λ part. self.old ≡ part ∷ self.new) }
+            (λ segment. self.old ≡ segment ∷ self.new) }
     {
-        self.parts.pop()
+        self.segments.pop()
     }
 
-    /// Puts parts in front of those to come.
+    /// Puts segments in front of those to come.
     #[tactic(auto, using(crate::proofs::GatherLemmas::moved))]
-    pub(crate) fn put_in_front(&mut self, parts: Parts) -> Result<(), AllocError>
-        ensures { OnOk result (self.new ≡ parts ++ self.old) }
+    pub(crate) fn put_in_front(&mut self, segments: Segments) -> Result<(), AllocError>
+        ensures { OnOk result (self.new ≡ segments ++ self.old) }
     {
-        let mut parts = parts.into_vec();
-        while let Some(part) = parts.pop() {
-            self.parts.push(part)?;
+        let mut segments = segments.into_vec();
+        while let Some(segment) = segments.pop() {
+            self.segments.push(segment)?;
         }
         Ok(())
     }

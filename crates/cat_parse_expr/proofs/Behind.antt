@@ -12,7 +12,8 @@ use Rattle.cat_tree.specs.declared.expression.Literal.TheVariants as literal
 use Rattle.cat_tree.specs.declared.expression.Node.{Node}
 use Rattle.cat_tree.specs.declared.expression.Node.TheVariants as leaf
 use Rattle.cat_tree.specs.declared.expression.Node.TheViews as node
-use Rattle.cat_tree.specs.Phrase.{Row, Parts, End, Word, Mark, ends_in_form, right_strength, left_strength, IsAt, At}
+use Rattle.cat_tree.specs.Phrase.{Row, Parts, End, Word, Terminal, ends_in_form, right_strength, left_strength, IsAt}
+use Rattle.cat_tree.specs.Phrase.{At}
 use Rattle.cat_tree.specs.Phrase.{Anywhere}
 use Rattle.cat_tree.specs.Wording.{of_level, match_of}
 use Rattle.cat_tree.specs.Operators.{operator_kind, operator_level, left_level}
@@ -35,7 +36,7 @@ use Rattle.cat_parse_step.specs.Steps.{follow_of, whole_next, whole_step}
 use Rattle.cat_parse_expr.proofs.Reaching.{push, finish, grow, token_is, MoveReached}
 
 -- from one state that has begun to the next
-pub begun : (k high : ℕ) (q next : State) (b c : Bool) (m : Mark) (p : Token) (front : List Token)
+pub begun : (k high : ℕ) (q next : State) (b c : Bool) (m : Terminal) (p : Token) (front : List Token)
     → Begun k q high b c front → IsAt m p → room q ≤ room next → ((ps : Parts) → so_far next ps ≡ so_far q (Word m ps))
     → Begun k next high false false (front ++ p ∷ [])
 begun k high q next b c m p front r at le is =
@@ -46,7 +47,7 @@ begun k high q next b c m p front r at le is =
     }
 
 -- to a whole expression
-pub ended : (k high level : ℕ) (q : State) (n : Node) (f : Parts → Parts) (b c : Bool) (m : Mark) (p : Token)
+pub ended : (k high level : ℕ) (q : State) (n : Node) (f : Parts → Parts) (b c : Bool) (m : Terminal) (p : Token)
     (front : List Token) → Begun k q high b c front → IsAt m p → ((ps : Parts) → f ps ≡ so_far q (Word m ps))
     → phrase n ≡ Row (of_level level) (f End) → room q ≤ level
     → ReachedAt k (state.Complete n level) high false false (front ++ p ∷ [])

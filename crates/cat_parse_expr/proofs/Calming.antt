@@ -28,7 +28,7 @@ use Rattle.cat_parse_state.specs.declared.state.State.{State}
 use Rattle.cat_parse_state.specs.declared.state.State.TheVariants as state
 use Rattle.cat_parse_state.specs.declared.state.Owner.TheVariants as owner
 use Rattle.cat_parse_state.specs.declared.state.Matching.{Matching}
-use Rattle.cat_parse_state.specs.declared.state.Part.{Part as Found}
+use Rattle.cat_parse_state.specs.declared.state.Measured.{Measured}
 use Rattle.cat_parse_state.specs.declared.state.Reading.{Reading}
 use Rattle.std.proofs.lemmas.Bool.{leb-true}
 use Rattle.cat_lex.specs.declared.token.TokenKind.{TokenKind}
@@ -221,7 +221,7 @@ moved_from r more (Some (Onward q)) h =
 moved_from r more (Some (Grown q)) h =
     (Grown q, refl, λ n d. ap (λ (x : Option Reading). done (reading_or r x).state) h ∙ d)
 
-pub closes : (k j : ℕ) (r more : Reading) (e : Found) (p : Token) (n : Node) → takes r.state ≡ Some j
+pub closes : (k j : ℕ) (r more : Reading) (e : Measured) (p : Token) (n : Node) → takes r.state ≡ Some j
     → shift k (feed r e) p ≡ Some more → done more.state ≡ Some n → Taker p → ⊥
 unfolding shift feed
 closes k j r more e p n t h d taker =

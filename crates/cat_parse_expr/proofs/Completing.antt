@@ -22,9 +22,9 @@ use Rattle.cat_parse_state.specs.declared.state.State.{State}
 use Rattle.cat_parse_state.specs.declared.state.State.TheVariants as state
 use Rattle.cat_parse_state.specs.declared.state.Owner.{Owner}
 use Rattle.cat_parse_state.specs.declared.state.Owner.TheVariants as owner
-use Rattle.cat_parse_state.specs.declared.state.Part.{Part as Found}
+use Rattle.cat_parse_state.specs.declared.state.Measured.{Measured}
 use Rattle.cat_lex.specs.declared.token.TokenKind.{TokenKind}
-use Rattle.cat_parse_expr.proofs.Rows.{IsRow, IsPart, ReachedAt}
+use Rattle.cat_parse_expr.proofs.Rows.{IsRow, IsMeasured, ReachedAt}
 use Rattle.cat_tree.proofs.Exported.{phrase_Literal}
 use Rattle.cat_parse_step.specs.Words.{Onward}
 use Rattle.cat_parse_state.specs.Readings.{done}
@@ -44,10 +44,10 @@ zero_token = record { kind = kind.Int (positive 0); pos = origin }
 abbrev pub zero_node : Node
 zero_node = leaf.Literal (literal.Int (positive 0)) origin
 
-abbrev pub zero_part : Found
-zero_part = record { node = zero_node; height = 1; in_form = false; in_match = false }
+abbrev pub zero_measured : Measured
+zero_measured = record { node = zero_node; height = 1; in_form = false; in_match = false }
 
-pub zero_is : (j : ℕ) → j ≤ 9 → IsPart j zero_part (zero_token ∷ [])
+pub zero_is : (j : ℕ) → j ≤ 9 → IsMeasured j zero_measured (zero_token ∷ [])
 zero_is j le = record {
   row = subst (λ (x : Phrase). IsRow j x 1 false false (zero_token ∷ []))
       (sym (phrase_Literal (literal.Int (positive 0)) origin)) (record {

@@ -5,19 +5,19 @@ use Rattle.std.proofs.lemmas.Bool.{leb-true, cases_lt}
 use Rattle.std.proofs.lemmas.List.{length-append}
 use Rattle.cat_lex.specs.declared.token.Token.{Token}
 use Rattle.cat_tree.specs.declared.expression.Node.{Node}
-use Rattle.cat_parse_state.specs.declared.state.Part.{Part}
+use Rattle.cat_parse_state.specs.declared.state.Measured.{Measured}
 use Rattle.cat_parse_state.specs.declared.state.Reading.{Reading}
 use Rattle.cat_parse_state.specs.Readings.{start, feed, done}
 use Rattle.cat_parse_step.specs.Machine.{shift}
 use Rattle.cat_parse_state.specs.Operands.{takes}
-use Rattle.cat_parse_expr.proofs.Rows.{IsPart}
+use Rattle.cat_parse_expr.proofs.Rows.{IsMeasured}
 use Rattle.cat_parse_expr.proofs.Hold.{hold}
 use Rattle.cat_parse_expr.proofs.Meaning.{Calm, Item, Tok, Sub, text, CalmAt, Path}
-use Rattle.cat_parse_expr.specs.Results.{Outcome, Reader, too_deep}
+use Rattle.cat_parse_expr.specs.Results.{ParseResult, Reader, too_deep}
 use Rattle.cat_parse_expr.specs.Reader.{Best, best_of, stopped, Shifted, Asks, is_high, Going, fed, turn, run, starts}
 use Rattle.cat_parse_expr.specs.Reader.{operand_of, read}
-use Rattle.cat_parse_expr.proofs.Laws.{part_high}
-use Rattle.cat_parse_expr.proofs.Ways.{part_some, path}
+use Rattle.cat_parse_expr.proofs.Laws.{measured_high}
+use Rattle.cat_parse_expr.proofs.Ways.{measured_some, path}
 use Rattle.cat_parse_expr.proofs.Closing.{pull_two}
 use Rattle.cat_parse_expr.proofs.Moves.{takes_low, feed_tallest, start_open, feed_wants}
 use Rattle.cat_parse_expr.proofs.Viable.{read_fine, IsLow, low_shift, low_feed, is_below}
@@ -51,29 +51,30 @@ split (s ∷ a) b (q ∷ x) y e =
 -- ---- passing, at each limit
 
 zero_passed : ArePassed (read zero) zero
-zero_passed j e front q z is low = let h = part_high j e front is in absurd (omega arith)
+zero_passed j e front q z is low = let h = measured_high j e front is in absurd (omega arith)
 
 pub passed : (limit : ℕ) → ArePassed (read limit) limit
 unfolding read
 passed zero = zero_passed
 passed (suc low) = λ k e front q z is fits.
     let t = path k e front is in
-    let small : t.end.tallest ≤ low = omega (arith, ap (λ (x : Part). x.height) t.is) in
+    let small : t.end.tallest ≤ low = omega (arith, ap (λ (x : Measured). x.height) t.is) in
     let p = passing (read low) low (read_fine low) (wholes low) k (hold e.node) q z t.end e.node t.finished small
     (passed low) t.items (suc (length (text t.items ++ q ∷ z))) None start t.way (omega arith) in
     subst (λ (w : List Token). Passes e q z (run (operand_of (read low)) k (suc low) (suc (length (w ++ q ∷ z))) None
     start (w ++ q ∷ z))) (sym t.spelled)
-    (subst (λ (x : Part). Passes x q z (run (operand_of (read low)) k (suc low) (suc (length (text t.items ++ q ∷ z)))
+    (subst (λ (x : Measured). Passes x q z (run (operand_of (read low)) k (suc low)
+    (suc (length (text t.items ++ q ∷ z)))
     None start (text t.items ++ q ∷ z))) t.is p)
 
 -- ---- cuts
 
 -- where the whole is deep, it is low
-abbrev pub Fair : Part → (limit : ℕ) → Outcome → Type 0
+abbrev pub Fair : Measured → (limit : ℕ) → ParseResult → Type 0
 Fair e limit o = Deep o → e.height ≤ limit
 
 abbrev pub AreWithin : (ℕ → Reader) → (limit : ℕ) → Type 0
-AreWithin reader limit = (j : ℕ) (e : Part) (front x y z : List Token) → IsPart j e front → front ≡ x ++ y
+AreWithin reader limit = (j : ℕ) (e : Measured) (front x y z : List Token) → IsMeasured j e front → front ≡ x ++ y
     → Fair e limit (reader j (x ++ z)) → Short (length z) (reader j (x ++ z))
 
 is_nil : (a b : List Token) → [] ≡ a ++ b → a ≡ []
@@ -85,10 +86,10 @@ module _ (low : ℕ) (withins : AreWithin (read low) low) (k bound : ℕ) (z : L
   abbrev go : ℕ → Going
   go fuel = run (operand_of (read low)) k (suc low) fuel
 
-  abbrev pub Ends_in : Outcome → Type 0
+  abbrev pub Ends_in : ParseResult → Type 0
   Ends_in o = (Deep o → end.tallest ≤ low) → Short (length z) o
 
-  ends_along : (a b : Outcome) → a ≡ b → Ends_in b → Ends_in a
+  ends_along : (a b : ParseResult) → a ≡ b → Ends_in b → Ends_in a
   ends_along a b e h = subst Ends_in (sym e) h
 
   abbrev pub Cuts : List Item → Type 0
@@ -110,7 +111,8 @@ module _ (low : ℕ) (withins : AreWithin (read low) low) (k bound : ℕ) (z : L
   cut_shift fuel best r more ts ws false c grows h goes fair = goes h fair
 
   -- inside an operand
-  cut_inside : (fuel j : ℕ) (best : Option Best) (r : Reading) (e : Part) (f x c : List Token) (m : ℕ) → IsPart j e f
+  cut_inside : (fuel j : ℕ) (best : Option Best) (r : Reading) (e : Measured) (f x c : List Token) (m : ℕ)
+      → IsMeasured j e f
       → j ≤ 9 → f ≡ x ++ c → e.height ≤ end.tallest → length (x ++ z) ≤ fuel
       → Ends_in (fed k (suc low) (go fuel) best r (read low j (x ++ z)))
   cut_inside fuel j best r e f x c m is j9 text_is tall room fair =
@@ -120,7 +122,7 @@ module _ (low : ℕ) (withins : AreWithin (read low) low) (k bound : ℕ) (z : L
       short_fed (read low) low (read_fine low) k fuel best r (length z) (length (x ++ z)) o
       (leaves_of j low (x ++ z) o (read_fine low j (x ++ z) j9)) room sub
 
-  passed_goes : (fuel j : ℕ) (best : Option Best) (r : Reading) (e : Part) (q : Token) (o : Outcome) (m : ℕ)
+  passed_goes : (fuel j : ℕ) (best : Option Best) (r : Reading) (e : Measured) (q : Token) (o : ParseResult) (m : ℕ)
       → Leaves m o → m ≤ fuel → Passes e q z o → Ends_in (go fuel best (feed r e) (q ∷ z))
       → Ends_in (fed k (suc low) (go fuel) best r o)
   passed_goes fuel j best r e q o m l room (inl is) goes = ends_along (fed k (suc low) (go fuel) best r o)
@@ -128,7 +130,7 @@ module _ (low : ℕ) (withins : AreWithin (read low) low) (k bound : ℕ) (z : L
   passed_goes fuel j best r e q o m l room (inr h) goes =
       λ fair. short_fed (read low) low (read_fine low) k fuel best r (length z) m o l room h
 
-  calm_cut : (i : Item) (items : List Item) (j : ℕ) (e : Part) (a b : Token) (d y : List Token)
+  calm_cut : (i : Item) (items : List Item) (j : ℕ) (e : Measured) (a b : Token) (d y : List Token)
       → CalmAt bound (i ∷ items) j e → text (i ∷ items) ≡ a ∷ b ∷ (d ++ y) → Calm j e (a ∷ b ∷ (d ++ z))
   calm_cut i items j e a b d y calm is =
       let c : Calm j e (a ∷ b ∷ ((d ++ y) ++ [])) = subst (λ (w : List Token). Calm j e (w ++ [])) is (calm []) in
@@ -136,26 +138,27 @@ module _ (low : ℕ) (withins : AreWithin (read low) low) (k bound : ℕ) (z : L
       record { inside = omega (arith, c.inside, p.0); outside = omega (arith, c.outside, p.1) }
 
   -- behind an operand, with more of the text than one token
-  cut_behind : (fuel j : ℕ) (best : Option Best) (r : Reading) (e : Part) (f : List Token) (items : List Item)
-      (q : Token) (d y : List Token) → takes r.state ≡ Some j → IsPart j e f → e.height ≤ low → CalmAt bound items j e
+  cut_behind : (fuel j : ℕ) (best : Option Best) (r : Reading) (e : Measured) (f : List Token) (items : List Item)
+      (q : Token) (d y : List Token) → takes r.state ≡ Some j → IsMeasured j e f → e.height ≤ low
+      → CalmAt bound items j e
       → Path k bound (feed r e) items end → IsLow (suc low) (feed r e) → text items ≡ (q ∷ d) ++ y → Cuts items
       → length (f ++ (q ∷ (d ++ z))) ≤ fuel
       → Ends_in (fed k (suc low) (go fuel) best r (read low j (f ++ (q ∷ (d ++ z)))))
   cut_behind fuel j best r e f [] q d y a is low_e calm way is_low h cuts room = absurd cc
   cut_behind fuel j best r e f (i ∷ items) q [] y a is low_e calm way is_low h cuts room =
       let ts = f ++ (q ∷ z) in
-      let some = part_some j e f is in
+      let some = measured_some j e f is in
       let l = leaves_of j low ts (read low j ts) (read_fine low j ts (takes_low r.state j a)) in
       passed_goes fuel j best r e q (read low j ts) (length ts) l room (passed low j e f q z is low_e)
       (cuts fuel best (feed r e) (q ∷ []) y way is_low h (omega (arith, length-append f (q ∷ z))))
   cut_behind fuel j best r e f (i ∷ items) q (b ∷ d) y a is low_e calm way is_low h cuts room =
       let w = q ∷ b ∷ (d ++ z) in
       let ts = f ++ w in
-      let some = part_some j e f is in
+      let some = measured_some j e f is in
       let heads = head_item i items q (b ∷ (d ++ z)) ((b ∷ d) ++ y) way h in
       ends_along (fed k (suc low) (go fuel) best r (read low j ts)) (go fuel best (feed r e) w)
       (whole_goes (read low) low (read_fine low) (wholes low) k fuel j best r e bound i items end w a (read low j ts)
-      (omega (arith, part_high j e f is)) heads (wholes low j e f w is low_e (calm_cut i items j e q b d y calm h)))
+      (omega (arith, measured_high j e f is)) heads (wholes low j e f w is low_e (calm_cut i items j e q b d y calm h)))
       (cuts fuel best (feed r e) (q ∷ b ∷ d) y way is_low h (omega (arith, length-append f w)))
     where
       head_item : (i : Item) (items : List Item) (q : Token) (ws us : List Token) → Path k bound (feed r e) (i ∷ items)
@@ -165,8 +168,9 @@ module _ (low : ℕ) (withins : AreWithin (read low) low) (k bound : ℕ) (z : L
           ap (head_or p) h in (t.0, ws, ap (λ (v : Token). v ∷ ws) (sym same), t.1)
       head_item (Sub g v) items q ws us t h = let same : None ≡ Some t.0 = sym (feed_wants r e j a) ∙ t.1 in absurd cc
 
-  ask_cut : (fuel j : ℕ) (best : Option Best) (r : Reading) (e : Part) (f : List Token) (items : List Item) (p : Token)
-      (x y : List Token) (b : Bool) → takes r.state ≡ Some j → IsPart j e f → CalmAt bound items j e
+  ask_cut : (fuel j : ℕ) (best : Option Best) (r : Reading) (e : Measured) (f : List Token) (items : List Item)
+      (p : Token)
+      (x y : List Token) (b : Bool) → takes r.state ≡ Some j → IsMeasured j e f → CalmAt bound items j e
       → Path k bound (feed r e) items end → f ++ text items ≡ (p ∷ x) ++ y → Cuts items → length (p ∷ (x ++ z)) ≤ fuel
       → leb (suc low) r.tallest ≡ b
       → Ends_in (fed k (suc low) (go fuel) best r (operand_of (read low) b j (p ∷ (x ++ z))))
@@ -245,7 +249,7 @@ zero_within j e front (p ∷ x) y z is h fair =
     let same : hd.0 ≡ p = ap (head_or hd.0) (sym hd.3 ∙ h) in
     let started : starts j (p ∷ (x ++ z)) ≡ true = ap (λ (w : Token). starts j (w ∷ (x ++ z))) (sym same)
     ∙ starts_shift j hd.0 (x ++ z) hd.1 hd.4 in
-    let some = part_high j e front is in
+    let some = measured_high j e front is in
     absurd (omega (arith, fair started))
 
 -- whatever follows the cut, reading goes on to it
@@ -254,6 +258,6 @@ unfolding read
 within zero = zero_within
 within (suc low) = λ k e front x y z is h fair.
     let t = path k e front is in
-    let tall : suc t.end.tallest ≡ e.height = ap (λ (w : Part). w.height) t.is in
+    let tall : suc t.end.tallest ≡ e.height = ap (λ (w : Measured). w.height) t.is in
     cutting low (within low) k (hold e.node) z t.end e.node t.finished t.items (suc (length (x ++ z))) None start x y
     t.way (λ m d. absurd (start_open m d)) (sym t.spelled ∙ h) (omega arith) (λ deep. omega (arith, fair deep))

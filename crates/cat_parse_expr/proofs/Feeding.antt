@@ -24,9 +24,9 @@ use Rattle.cat_tree.proofs.Exported.{field_row, arm_row, phrase_Prefixed, phrase
 use Rattle.cat_tree.proofs.Exported.{phrase_If, phrase_Match, phrase_Each, phrase_Combine}
 use Rattle.cat_parse_state.specs.declared.state.State.{State}
 use Rattle.cat_parse_state.specs.declared.state.State.TheVariants as state
-use Rattle.cat_parse_state.specs.declared.state.Part.{Part as Found}
+use Rattle.cat_parse_state.specs.declared.state.Measured.{Measured}
 use Rattle.cat_parse_expr.proofs.Rows.{inner_arms, more_elements, owner_parts, each_word, each_middle, match_parts}
-use Rattle.cat_parse_expr.proofs.Rows.{so_far, room, IsRow, IsPart, Begun, ReachedAt}
+use Rattle.cat_parse_expr.proofs.Rows.{so_far, room, IsRow, IsMeasured, Begun, ReachedAt}
 use Rattle.cat_parse_state.specs.Operands.{takes, fed_state, ends_form, ends_match}
 use Rattle.cat_parse_expr.proofs.Reaching.{put, finish}
 
@@ -76,13 +76,13 @@ abbrev level_or : Option ℕ → ℕ
 level_or None = 0
 level_or (Some j) = j
 
-stands_at : (i j : ℕ) (e : Found) (text : List Token) → Some i ≡ Some j → IsPart j e text
+stands_at : (i j : ℕ) (e : Measured) (text : List Token) → Some i ≡ Some j → IsMeasured j e text
     → i ≤ right_strength (phrase e.node)
 stands_at i j e text h is = let same : i ≡ j = ap level_or h in omega (arith, is.row.stands)
 
 -- to a state that has begun
-part_on : (k i j high : ℕ) (q next : State) (b c : Bool) (e : Found) (front text : List Token)
-    → Begun k q high b c front → Some i ≡ Some j → IsPart j e text → room q ≤ room next
+part_on : (k i j high : ℕ) (q next : State) (b c : Bool) (e : Measured) (front text : List Token)
+    → Begun k q high b c front → Some i ≡ Some j → IsMeasured j e text → room q ≤ room next
     → ((ps : Parts) → so_far next ps ≡ so_far q (Part (Operand i) (phrase e.node) ps))
     → Begun k next (max high e.height)
     e.in_form e.in_match (front ++ text)
@@ -95,8 +95,8 @@ part_on k i j high q next b c e front text r h is le same =
     }
 
 -- to a whole expression
-end_part : (k i j high : ℕ) (q : State) (n : Node) (rank : Rank) (b c : Bool) (e : Found) (front text : List Token)
-    → Begun k q high b c front → Some i ≡ Some j → IsPart j e text
+end_part : (k i j high : ℕ) (q : State) (n : Node) (rank : Rank) (b c : Bool) (e : Measured) (front text : List Token)
+    → Begun k q high b c front → Some i ≡ Some j → IsMeasured j e text
     → phrase n ≡ Row rank (so_far q (Part (Operand i) (phrase e.node) End)) → rank.fits ≡ true → room q ≤ rank.level
     → IsRow k (phrase n) (suc (max high e.height)) (rank.form || e.in_form) (rank.is_match || e.in_match)
     (front ++ text)
@@ -118,8 +118,9 @@ elements_onto : (k high : ℕ) (p : Pos) (es : List Node) (e : Node) (b c : Bool
 elements_onto k high p [] e b c front r = r
 elements_onto k high p (a ∷ more) e b c front r = r
 
-pub fed_reached : (k j high : ℕ) (q : State) (b c : Bool) (e : Found) (front text : List Token) → ReachedAt k q high b c
-    front → takes q ≡ Some j → IsPart j e text
+pub fed_reached : (k j high : ℕ) (q : State) (b c : Bool) (e : Measured) (front text : List Token)
+    → ReachedAt k q high b c
+    front → takes q ≡ Some j → IsMeasured j e text
     → ReachedAt k (fed_state q e.node e.in_match) (max high e.height) (ends_form q || e.in_form)
     (ends_match q || e.in_match) (front ++ text)
 fed_reached k j high (state.Right a o p) b c e front text r h is = (

@@ -19,7 +19,7 @@ use Rattle.cat_tree.specs.declared.expression.Each.TheVariants as each
 use Rattle.cat_tree.specs.declared.expression.Node.{Node}
 use Rattle.cat_tree.specs.declared.expression.Node.TheVariants as leaf
 use Rattle.cat_tree.specs.declared.expression.Node.TheViews as node
-use Rattle.cat_tree.specs.Phrase.{Phrase, Row, Parts, End, Word, Mark, Operand, height, right_strength, IsLevelled}
+use Rattle.cat_tree.specs.Phrase.{Phrase, Row, Parts, End, Word, Terminal, Operand, height, right_strength, IsLevelled}
 use Rattle.cat_tree.specs.Phrase.{AreLevelled, IsSpelling, AreSpelled, At}
 use Rattle.cat_tree.specs.Wording.{◌▹◌, first, key_at, pair_at, symbol_at, «word», words, sign, lower, upper, part}
 use Rattle.cat_tree.specs.Wording.{of_level, form}
@@ -43,8 +43,8 @@ use Rattle.std.proofs.lemmas.Bool.{le-leb}
 use Rattle.cat_parse_expr.proofs.Meaning.{Calm}
 use Rattle.cat_tree.specs.declared.name.Type as types
 use Rattle.cat_tree.specs.declared.name.Base.{Base}
-use Rattle.cat_parse_expr.proofs.Walks.{reading_at, part_of, Walk, end_walk, word_at, word_any, part_word, part_end}
-use Rattle.cat_parse_expr.proofs.Walks.{op_le, op_below, op_apart, calm_part}
+use Rattle.cat_parse_expr.proofs.Walks.{reading_at, measured_of, Walk, end_walk, word_at, word_any, part_word, part_end}
+use Rattle.cat_parse_expr.proofs.Walks.{op_le, op_below, op_apart, calm_measured}
 
 pub if_at_on : (k l : ℕ) (q : State) → k ≤ l → if_at k l q ≡ Some (Onward q)
 if_at_on k l q le = ap (λ (b : Bool). cond b (some q) None) (le-leb k l le)
@@ -55,17 +55,17 @@ Goes k bound n e = (ts : List Token) → k ≤ right_strength e → k ≤ 9 → 
     → Walk k bound start n ts
 
 pub form_calm : (bound : ℕ) (e : Node) (rest : List Token) → bound ≤ min 1 (row_hold (phrase e)) → pull rest ≤ bound
-    → Calm 0 (part_of e) rest
-form_calm bound e rest le h = calm_part 0 e rest (omega arith) (op_below rest (omega (arith, op_le rest)))
+    → Calm 0 (measured_of e) rest
+form_calm bound e rest le h = calm_measured 0 e rest (omega arith) (op_below rest (omega (arith, op_le rest)))
 
 pub level_calm : (bound i : ℕ) (e : Node) (rest : List Token) → bound ≤ min i (row_hold (phrase e)) → pull rest ≤ bound
-    → Calm i (part_of e) rest
-level_calm bound i e rest le h = calm_part i e rest (omega arith) (omega (arith, op_le rest))
+    → Calm i (measured_of e) rest
+level_calm bound i e rest le h = calm_measured i e rest (omega arith) (omega (arith, op_le rest))
 
 pub prefix_calm : (bound : ℕ) (o : Prefix) (e : Node) (rest : List Token) → bound ≤ min (suc (prefix_level o))
-    (row_hold (phrase e)) → pull rest ≤ bound → Calm (prefix_level o) (part_of e) rest
+    (row_hold (phrase e)) → pull rest ≤ bound → Calm (prefix_level o) (measured_of e) rest
 prefix_calm bound o e rest le h =
-    calm_part (prefix_level o) e rest (omega arith) (op_apart o rest (omega (arith, op_le rest)))
+    calm_measured (prefix_level o) e rest (omega arith) (op_apart o rest (omega (arith, op_le rest)))
 
 pub literal_goes : (k bound : ℕ) (l : Literal) (p : Pos) → Goes k bound (leaf.Literal l p)
     (Row (literal_rank l) (literal_parts l p))
@@ -448,7 +448,8 @@ lists_walk k bound p b at e m (suc n) total ts same calm stands levels sp =
     (λ pos. refl)
     (λ us x. lists_walk k bound p b at e (suc m) n total us (omega arith) calm stands levels x)
 
-pub lists_levels : (n : ℕ) (m : Mark) (e : Phrase) → AreLevelled (lists_of n (Word m («word» key.Of ▹ part 8 e ▹ End)))
+pub lists_levels : (n : ℕ) (m : Terminal) (e : Phrase)
+    → AreLevelled (lists_of n (Word m («word» key.Of ▹ part 8 e ▹ End)))
     → (8 ≤ right_strength e) × IsLevelled e
 lists_levels zero m e h = (h.0, h.1)
 lists_levels (suc n) m e h = lists_levels n m e h

@@ -4,18 +4,18 @@ use Rattle.std.proofs.Common.{Option, Some, None, refl, sym, ap, subst, ◌∙�
 use Rattle.std.proofs.lemmas.List.{length-append}
 use Rattle.cat_lex.specs.declared.token.Token.{Token}
 use Rattle.cat_tree.specs.declared.expression.Node.{Node}
-use Rattle.cat_parse_state.specs.declared.state.Part.{Part}
+use Rattle.cat_parse_state.specs.declared.state.Measured.{Measured}
 use Rattle.cat_parse_state.specs.declared.state.Reading.{Reading}
 use Rattle.cat_parse_state.specs.Readings.{start, feed, done}
 use Rattle.cat_parse_state.specs.Operands.{takes}
-use Rattle.cat_parse_expr.proofs.Rows.{IsPart}
+use Rattle.cat_parse_expr.proofs.Rows.{IsMeasured}
 use Rattle.cat_parse_expr.proofs.Hold.{hold}
 use Rattle.cat_parse_expr.proofs.Meaning.{Item, Tok, Sub, text, CalmAt, Path}
-use Rattle.cat_parse_expr.specs.Results.{Stop, Outcome, Fails, Reads, Reader, too_deep}
+use Rattle.cat_parse_expr.specs.Results.{Stop, ParseResult, Fails, Reads, Reader, too_deep}
 use Rattle.cat_parse_expr.specs.Reader.{Best, whole, best_of, stopped, ended, Next, Shifted, Asks, Ends, next, is_high}
 use Rattle.cat_parse_expr.specs.Reader.{Going, reaches, fed, turn, run, operand_of, read}
-use Rattle.cat_parse_expr.proofs.Laws.{part_high}
-use Rattle.cat_parse_expr.proofs.Ways.{part_some, path}
+use Rattle.cat_parse_expr.proofs.Laws.{measured_high}
+use Rattle.cat_parse_expr.proofs.Ways.{measured_some, path}
 use Rattle.cat_parse_expr.proofs.Moves.{takes_low, feed_tallest, feed_done, done_wants}
 use Rattle.cat_parse_expr.proofs.Viable.{AreFine, read_fine, Follows, next_follows}
 use Rattle.cat_parse_expr.proofs.Whole.{wholes, run_shift, run_feed}
@@ -24,15 +24,15 @@ use Rattle.cat_parse_expr.proofs.Short.{Leaves, leaves_of, operand_leaves}
 use Rattle.cat_parse_expr.proofs.Within.{whole_goes, heads_of}
 
 -- a tree was read, and no more than that follows it
-abbrev pub Got : ℕ → Outcome → Type 0
+abbrev pub Got : ℕ → ParseResult → Type 0
 Got n (Fails s) = ⊥
 Got n (Reads e rest tried) = length rest ≤ n
 
-more_got : (a b : ℕ) (o : Outcome) → a ≤ b → Got a o → Got b o
+more_got : (a b : ℕ) (o : ParseResult) → a ≤ b → Got a o → Got b o
 more_got a b (Fails s) le g = g
 more_got a b (Reads e rest tried) le g = omega arith
 
-got_along : (n : ℕ) (a b : Outcome) → a ≡ b → Got n b → Got n a
+got_along : (n : ℕ) (a b : ParseResult) → a ≡ b → Got n b → Got n a
 got_along n a b e g = subst (Got n) (sym e) g
 
 -- ---- once a tree is whole, one is read
@@ -43,7 +43,7 @@ Kept n go = (b : Best) (r : Reading) (ts : List Token) → length b.rest ≤ n �
 best_kept : (n : ℕ) (o : Option Node) (b : Best) (r : Reading) (ts : List Token) → length b.rest ≤ n → length ts ≤ n
     → (c : Best) × (best_of o (Some b) r ts ≡ Some c) × (length c.rest ≤ n)
 best_kept n None b r ts hb h = (b, refl, hb)
-best_kept n (Some m) b r ts hb h = (record { part = whole r m; rest = ts }, refl, h)
+best_kept n (Some m) b r ts hb h = (record { expression = whole r m; rest = ts }, refl, h)
 
 stopped_got : (n : ℕ) (o : Option Node) (b : Best) (r : Reading) (ts : List Token) (s : Stop) → length b.rest ≤ n
     → length ts ≤ n → Got n (stopped (best_of o (Some b) r ts) s)
@@ -55,7 +55,8 @@ ended_got : (n : ℕ) (o : Option Node) (b : Best) (r : Reading) (ts : List Toke
 ended_got n None b r ts hb h = hb
 ended_got n (Some m) b r ts hb h = h
 
-fed_kept : (n k limit : ℕ) (go : Going) (b : Best) (r : Reading) (m : ℕ) (o : Outcome) → Kept n go → Leaves m o → m ≤ n
+fed_kept : (n k limit : ℕ) (go : Going) (b : Best) (r : Reading) (m : ℕ) (o : ParseResult) → Kept n go → Leaves m o
+    → m ≤ n
     → length b.rest ≤ n → Got n (fed k limit go (Some b) r o)
 fed_kept n k limit go b r m (Fails s) kept l le hb = hb
 fed_kept n k limit go b r m (Reads e rest None) kept l le hb = kept b (feed r e) rest hb (omega arith)
@@ -107,7 +108,7 @@ module _ (reader : ℕ → Reader) (low : ℕ) (fine : AreFine reader low) (k : 
       by : (c : Bool) → Got (length ts) (cond c (stopped (best_of (Some n) best r ts) (too_deep ts))
           (run (operand_of reader) k (suc low) fuel (best_of (Some n) best r ts) more rest))
       by true = omega arith
-      by false = run_kept reader low fine k (length ts) fuel (record { part = whole r n; rest = ts }) more rest
+      by false = run_kept reader low fine k (length ts) fuel (record { expression = whole r n; rest = ts }) more rest
           (omega arith) (omega (arith, ap length f.1))
   done_turn fuel best r n ts (Asks j) d f = let same : None ≡ Some j = sym (done_wants r.state n d) ∙ f in absurd cc
   done_turn fuel best r n ts Ends d f = subst (λ (o : Option Node). Got (length ts) (ended o best r ts)) (sym d)
@@ -120,7 +121,7 @@ module _ (reader : ℕ → Reader) (low : ℕ) (fine : AreFine reader low) (k : 
   done_got (suc fuel) best r n ts d room = done_turn fuel best r n ts (next k r ts) d (next_follows k r ts)
 
 abbrev pub AreGot : (ℕ → Reader) → (limit : ℕ) → Type 0
-AreGot reader limit = (j : ℕ) (e : Part) (front rest : List Token) → IsPart j e front → e.height ≤ limit
+AreGot reader limit = (j : ℕ) (e : Measured) (front rest : List Token) → IsMeasured j e front → e.height ≤ limit
     → Got (length rest) (reader j (front ++ rest))
 
 module _ (low : ℕ) (gots : AreGot (read low) low) (k bound : ℕ) (rest : List Token) (end : Reading) (n : Node)
@@ -132,7 +133,8 @@ module _ (low : ℕ) (gots : AreGot (read low) low) (k bound : ℕ) (rest : List
   Gets items = (fuel : ℕ) (best : Option Best) (r : Reading) → Path k bound r items end → length (text items ++ rest) <
       fuel → Got (length rest) (go fuel best r (text items ++ rest))
 
-  last_got : (fuel j : ℕ) (best : Option Best) (r : Reading) (e : Part) (m : ℕ) (o : Outcome) → takes r.state ≡ Some j
+  last_got : (fuel j : ℕ) (best : Option Best) (r : Reading) (e : Measured) (m : ℕ) (o : ParseResult)
+      → takes r.state ≡ Some j
       → feed r e ≡ end → Leaves m o → m ≤ fuel → Got (length rest) o
       → Got (length rest) (fed k (suc low) (go fuel) best r o)
   last_got fuel j best r e m (Fails s) a t l room g = absurd g
@@ -162,11 +164,11 @@ module _ (low : ℕ) (gots : AreGot (read low) low) (k bound : ℕ) (rest : List
       got_along (length rest) (go (suc fuel) best r (p ∷ ts)) (go fuel (best_of (done r.state) best r (p ∷ ts)) t.0 ts)
       (run_shift (read low) low k fuel best r t.0 p ts t.1 (path_low k bound items t.0 end n low t.2 finished fits))
       (getting items fuel (best_of (done r.state) best r (p ∷ ts)) t.0 t.2 (omega arith))
-  getting (Sub e f ∷ items) zero best r t room = let some = part_some t.0 e f t.2 in absurd (omega arith)
+  getting (Sub e f ∷ items) zero best r t room = let some = measured_some t.0 e f t.2 in absurd (omega arith)
   getting (Sub e f ∷ items) (suc fuel) best r t room =
       let g = path_grows k bound items (feed r e) end t.4 in
       let tall = feed_tallest r e in
-      let some = part_some t.0 e f t.2 in
+      let some = measured_some t.0 e f t.2 in
       let ts = text items ++ rest in
       got_along (length rest) (go (suc fuel) best r ((f ++ text items) ++ rest))
       (fed k (suc low) (go fuel) best r (read low t.0 (f ++ ts)))
@@ -200,21 +202,27 @@ module _ (low : ℕ) (gots : AreGot (read low) low) (k bound : ℕ) (rest : List
           got_along (length rest) (fed k (suc low) (go fuel) best r (read low t.0 (f ++ w))) (go fuel best (feed r e) w)
           (whole_goes (read low) low (read_fine low) (wholes low) k fuel t.0 best r e bound i items end w t.1
           (read low t.0 (f ++ w))
-          (omega (arith, part_high t.0 e f t.2, feed_tallest r e, path_grows k bound (i ∷ items) (feed r e) end way))
+          (omega (
+            arith,
+            measured_high t.0 e f t.2,
+            feed_tallest r e,
+            path_grows k bound (i ∷ items)
+                (feed r e) end way,
+          ))
           (heads_of (read low) low (read_fine low) (wholes low) k fuel t.0 best r e bound i items end w rest t.1 way
           refl) (wholes low t.0 e f w t.2
           (omega (arith, feed_tallest r e, path_grows k bound (i ∷ items) (feed r e) end way)) (calm rest)))
           (gets fuel best (feed r e) way room2)
 
 zero_got : AreGot (read zero) zero
-zero_got j e front rest is low = let h = part_high j e front is in absurd (omega arith)
+zero_got j e front rest is low = let h = measured_high j e front is in absurd (omega arith)
 
 pub got : (limit : ℕ) → AreGot (read limit) limit
 unfolding read
 got zero = zero_got
 got (suc low) = λ k e front rest is low_e.
     let t = path k e front is in
-    let small : t.end.tallest ≤ low = omega (arith, ap (λ (x : Part). x.height) t.is) in
+    let small : t.end.tallest ≤ low = omega (arith, ap (λ (x : Measured). x.height) t.is) in
     subst (λ (w : List Token). Got (length rest) (run (operand_of (read low)) k (suc low) (suc (length (w ++ rest)))
     None start (w ++ rest))) (sym t.spelled)
     (getting low (got low) k (hold e.node) rest t.end e.node t.finished small t.items

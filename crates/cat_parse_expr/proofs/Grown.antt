@@ -28,7 +28,7 @@ use Rattle.cat_parse_state.specs.declared.state.State.{State}
 use Rattle.cat_parse_state.specs.declared.state.State.TheVariants as state
 use Rattle.cat_parse_state.specs.declared.state.Owner.TheVariants as owner
 use Rattle.cat_parse_state.specs.declared.state.Matching.{Matching}
-use Rattle.cat_parse_state.specs.declared.state.Part.{Part as Found}
+use Rattle.cat_parse_state.specs.declared.state.Measured.{Measured}
 use Rattle.cat_parse_state.specs.declared.state.Reading.{Reading}
 use Rattle.std.proofs.lemmas.List.{append-nil}
 use Rattle.cat_lex.specs.declared.token.TokenKind.{TokenKind}
@@ -49,7 +49,8 @@ use Rattle.cat_parse_expr.proofs.Behind.{done_row, node_same, strong_is}
 use Rattle.cat_parse_expr.proofs.Hold.{is_dashes, follow_pull, sign_pull, pull, row_hold}
 use Rattle.std.proofs.lemmas.Bool.{le-leb}
 use Rattle.cat_parse_expr.proofs.Meaning.{Item, Tok, Sub, text, Calm, CalmAt, Path}
-use Rattle.cat_parse_expr.proofs.Walks.{reading_at, part_of, part_is, Walk, end_walk, word_at, word_any, fed_reading}
+use Rattle.cat_parse_expr.proofs.Walks.{reading_at, measured_of, measured_is, Walk, end_walk, word_at, word_any}
+use Rattle.cat_parse_expr.proofs.Walks.{fed_reading}
 use Rattle.cat_parse_expr.proofs.Walks.{shift_to, any_step, fed_is}
 use Rattle.cat_parse_expr.proofs.Tails.{left_holds}
 use Rattle.cat_parse_expr.proofs.Forms.{Goes, level_calm}
@@ -70,7 +71,7 @@ text_append (Tok p ∷ a) b = ap (λ (ts : List Token). p ∷ ts) (text_append a
 text_append (Sub e f ∷ a) b = ap (λ (ts : List Token). f ++ ts) (text_append a b)
     ∙ sym (append_assoc f (text a) (text b))
 
-calm_then : (bound bound2 : ℕ) (items : List Item) (i : Item) (more : List Item) (j : ℕ) (e : Found)
+calm_then : (bound bound2 : ℕ) (items : List Item) (i : Item) (more : List Item) (j : ℕ) (e : Measured)
     → ((rest : List Token) → pull (text (i ∷ more) ++ rest) ≤ bound) → CalmAt bound items j e
     → CalmAt bound2 (items ++ i ∷ more) j e
 calm_then bound bound2 [] i more j e le c = λ rest. c (text (i ∷ more) ++ rest) (le rest)
@@ -366,7 +367,7 @@ binary_goes k bound o p a b calm ih ts le low levels sp =
     ap (step k (cond w.end.in_form 0 (strength_of w.end.state)) w.end.state) word.3
     ∙ behind_operator k (cond w.end.in_form 0 (strength_of w.end.state)) w.end.state a o p w.finished
     (no_match_left w.end.state a (left_level o) w.finished lo.1 lv.0) ∙ may in
-    then_walk k bound a (node.Binary o p a b) sp.0 ts w word.0 (Sub (part_of b) tail.0 ∷ []) (fed_reading r b)
+    then_walk k bound a (node.Binary o p a b) sp.0 ts w word.0 (Sub (measured_of b) tail.0 ∷ []) (fed_reading r b)
     (sp.2 ∙ ap (λ (us : List Token). sp.0 ++ us)
     (word.2 ∙ ap (λ (us : List Token). word.0 ∷ us) (tail.2 ∙ ap (λ (us : List Token). tail.0 ++ us) tail.4)))
     (λ us. omega (arith, op_at o word.0 us p word.3, left_holds a lv.1 (left_level o) lo.1 lo.2 lv.0, lo.0)) (
@@ -375,7 +376,7 @@ binary_goes k bound o p a b calm ih ts le low levels sp =
       (
         suc (operator_level o),
         refl,
-        part_is (suc (operator_level o)) b tail.0 lv.2.0 (omega arith) lv.2.1 tail.3,
+        measured_is (suc (operator_level o)) b tail.0 lv.2.0 (omega arith) lv.2.1 tail.3,
         (λ rest h. level_calm bound (suc (operator_level o)) b rest calm h),
         fed_is r b,
       ),

@@ -1,4 +1,4 @@
--- What is too high is not read past the height, and no outcome stops earlier than reading began.
+-- What is too high is not read past the height, and no result stops earlier than reading began.
 use Rattle.std.proofs.Common.{◌≡◌, ℕ, zero, suc, ◌<◌, ◌≤◌, Bool, true, false, cond, ◌&&◌, ◌||◌, not, nat_eq, leb, List}
 use Rattle.std.proofs.Common.{[], ◌∷◌, ◌++◌, length, Option, Some, None, refl, sym, ap, subst, ◌∙◌, append_assoc, arith}
 use Rattle.std.proofs.Common.{inl, inr}
@@ -6,26 +6,26 @@ use Rattle.std.proofs.lemmas.Bool.{cases_lt, lt-leb}
 use Rattle.std.proofs.lemmas.List.{length-append}
 use Rattle.cat_lex.specs.declared.token.Token.{Token}
 use Rattle.cat_tree.specs.declared.expression.Node.{Node}
-use Rattle.cat_parse_state.specs.declared.state.Part.{Part}
+use Rattle.cat_parse_state.specs.declared.state.Measured.{Measured}
 use Rattle.cat_parse_state.specs.declared.state.Reading.{Reading}
 use Rattle.cat_parse_state.specs.Readings.{start, feed, done}
 use Rattle.cat_parse_step.specs.Machine.{shift}
 use Rattle.cat_parse_state.specs.Operands.{takes, needs_part, is_some}
-use Rattle.cat_parse_expr.proofs.Rows.{IsPart}
+use Rattle.cat_parse_expr.proofs.Rows.{IsMeasured}
 use Rattle.cat_parse_expr.proofs.Hold.{hold}
 use Rattle.cat_parse_expr.proofs.Meaning.{Item, Tok, Sub, text, CalmAt, Path, Taker}
-use Rattle.cat_parse_expr.specs.Results.{Stop, Outcome, Fails, Reads, Reader, here, too_deep, stop_of}
+use Rattle.cat_parse_expr.specs.Results.{Stop, ParseResult, Fails, Reads, Reader, here, too_deep, stop_of}
 use Rattle.cat_parse_expr.specs.Reader.{Best, best_of, stopped, Next, Shifted, Asks, Ends, next, is_high, Going}
 use Rattle.cat_parse_expr.specs.Reader.{reaches, fed, turn, run, starts, operand_of, read}
-use Rattle.cat_parse_expr.proofs.Laws.{part_high}
-use Rattle.cat_parse_expr.proofs.Ways.{part_some, path}
+use Rattle.cat_parse_expr.proofs.Laws.{measured_high}
+use Rattle.cat_parse_expr.proofs.Ways.{measured_some, path}
 use Rattle.cat_parse_expr.proofs.Calming.{closes}
 use Rattle.cat_parse_expr.proofs.Moves.{feed_tallest, start_open, shift_tallest, feed_wants, done_needs, needs_no_word}
 use Rattle.cat_parse_expr.proofs.Viable.{IsLow, low_shift, low_feed, is_below}
 use Rattle.cat_parse_expr.proofs.Whole.{IsWhole, AreWhole, wholes, no_test, not_high, head, starts_shift, next_shift}
 use Rattle.cat_parse_expr.proofs.Whole.{next_asks, run_is, nat_same}
 
-abbrev pub Deep : Outcome → Type 0
+abbrev pub Deep : ParseResult → Type 0
 Deep o = (stop_of o).deep ≡ true
 
 pub deep_stopped : (best : Option Best) (s : Stop) → s.deep ≡ true → Deep (stopped best s)
@@ -37,7 +37,7 @@ no_reach limit (Shifted more ts) s d = rw d refl
 no_reach limit (Asks j) s d = refl
 no_reach limit Ends s d = refl
 
-pub deep_fed : (k limit : ℕ) (go : Going) (best : Option Best) (r : Reading) (o : Outcome) → Deep o
+pub deep_fed : (k limit : ℕ) (go : Going) (best : Option Best) (r : Reading) (o : ParseResult) → Deep o
     → Deep (fed k limit go best r o)
 deep_fed k limit go best r (Fails s) d = deep_stopped best s d
 deep_fed k limit go best r (Reads e ts None) d = absurd cc
@@ -67,7 +67,7 @@ path_low k bound items more end n low t d fits =
         (ap (λ (x : Reading). needs_part x.state) (sym t) ∙ h))
     by (Tok p ∷ items) t h = absurd (needs_no_word k more t.0 p h t.1)
     by (Sub e f ∷ items) t h =
-        omega (arith, part_high t.0 e f t.2, feed_tallest more e, path_grows k bound items (feed more e) end t.4)
+        omega (arith, measured_high t.0 e f t.2, feed_tallest more e, path_grows k bound items (feed more e) end t.4)
 
 pub done_of_high : (o : Option Node) (c : Bool) → (is_some o && c) ≡ true → (m : Node) × (o ≡ Some m)
 done_of_high None c h = absurd cc
@@ -100,10 +100,10 @@ head_or w [] = w
 head_or w (v ∷ vs) = v
 
 abbrev pub AreHigh : (ℕ → Reader) → (limit : ℕ) → Type 0
-AreHigh reader limit = (j : ℕ) (e : Part) (front rest : List Token) → IsPart j e front → limit < e.height
+AreHigh reader limit = (j : ℕ) (e : Measured) (front rest : List Token) → IsMeasured j e front → limit < e.height
     → Deep (reader j (front ++ rest))
 
-pub deep_along : (a b : Outcome) → a ≡ b → Deep b → Deep a
+pub deep_along : (a b : ParseResult) → a ≡ b → Deep b → Deep a
 deep_along a b e d = subst Deep (sym e) d
 
 module _ (reader : ℕ → Reader) (low : ℕ) (whole_is : AreWhole reader low) (highs : AreHigh reader low) (k bound : ℕ)
@@ -126,7 +126,7 @@ module _ (reader : ℕ → Reader) (low : ℕ) (whole_is : AreWhole reader low) 
       sinks fuel (best_of (done r.state) best r (p ∷ (text items ++ rest))) more t (low_shift (suc low) more h) room
 
   -- behind an operand that was read whole, where it broke off at the next token
-  broke : (fuel j : ℕ) (best : Option Best) (r more : Reading) (e : Part) (q : Token) (items : List Item)
+  broke : (fuel j : ℕ) (best : Option Best) (r more : Reading) (e : Measured) (q : Token) (items : List Item)
       (ts : List Token) (b : Bool) → 0 < low → takes r.state ≡ Some j → Taker q → Sinks (Tok q ∷ items)
       → shift k (feed r e) q ≡ Some more → Path k bound more items end → IsLow (suc low) (feed r e)
       → length (q ∷ (text items ++ rest)) < fuel → text items ++ rest ≡ ts → is_high (suc low) more ≡ b
@@ -145,7 +145,8 @@ module _ (reader : ℕ → Reader) (low : ℕ) (whole_is : AreWhole reader low) 
       (here ts)))) (sym yes)
       (sinks fuel best (feed r e) (more, t, way) is_low room)
 
-  behind : (fuel j : ℕ) (best : Option Best) (r : Reading) (e : Part) (i : Item) (items : List Item) (o : Outcome)
+  behind : (fuel j : ℕ) (best : Option Best) (r : Reading) (e : Measured) (i : Item) (items : List Item)
+      (o : ParseResult)
       → 0 < low → takes r.state ≡ Some j → Sinks (i ∷ items) → Path k bound (feed r e) (i ∷ items) end
       → IsLow (suc low) (feed r e) → length (text (i ∷ items) ++ rest) < fuel → IsWhole e (text (i ∷ items) ++ rest) o
       → Deep (fed k (suc low) (go fuel) best r o)
@@ -166,8 +167,9 @@ module _ (reader : ℕ → Reader) (low : ℕ) (whole_is : AreWhole reader low) 
   no_items r t is_low = let h = is_low n (ap (λ (x : Reading). done x.state) t ∙ finished) in
       omega (arith, ap (λ (x : Reading). x.tallest) t)
 
-  ask_sinks : (fuel : ℕ) (best : Option Best) (r : Reading) (e : Part) (f : List Token) (j : ℕ) (items : List Item)
-      (b : Bool) → takes r.state ≡ Some j → IsPart j e f → CalmAt bound items j e → Path k bound (feed r e) items end
+  ask_sinks : (fuel : ℕ) (best : Option Best) (r : Reading) (e : Measured) (f : List Token) (j : ℕ) (items : List Item)
+      (b : Bool) → takes r.state ≡ Some j → IsMeasured j e f → CalmAt bound items j e
+      → Path k bound (feed r e) items end
       → Sinks items → IsLow (suc low) r → length (text items ++ rest) < fuel → leb (suc low) r.tallest ≡ b
       → Deep (fed k (suc low) (go fuel) best r (operand_of reader b j (f ++ (text items ++ rest))))
   ask_sinks fuel best r e f j items true a is calm t sinks is_low room h =
@@ -189,7 +191,7 @@ module _ (reader : ℕ → Reader) (low : ℕ) (whole_is : AreWhole reader low) 
           → Deep (fed k (suc low) (go fuel) best r (reader j (f ++ (text items ++ rest))))
       last [] calm t sinks less small room = absurd (no_items (feed r e) t (low_feed low r e small less))
       last (i ∷ items) calm t sinks less small room = behind fuel j best r e i items
-          (reader j (f ++ (text (i ∷ items) ++ rest))) (omega (arith, part_high j e f is)) a sinks t
+          (reader j (f ++ (text (i ∷ items) ++ rest))) (omega (arith, measured_high j e f is)) a sinks t
           (low_feed low r e small less) room (whole_is j e f (text (i ∷ items) ++ rest) is less (calm rest))
 
   pub sinking : (items : List Item) → Sinks items
@@ -202,7 +204,7 @@ module _ (reader : ℕ → Reader) (low : ℕ) (whole_is : AreWhole reader low) 
       (shift_sinks fuel best r t.0 p items (is_high (suc low) t.0) (sinking items) t.2 (omega arith) refl)
   sinking (Sub e f ∷ items) zero best r t is_low room = absurd (omega arith)
   sinking (Sub e f ∷ items) (suc fuel) best r t is_low room =
-      let some = part_some t.0 e f t.2 in
+      let some = measured_some t.0 e f t.2 in
       let ts = text items ++ rest in
       deep_along (go (suc fuel) best r ((f ++ text items) ++ rest)) (turn (operand_of reader) k (suc low) (go fuel) best
       r (f ++ ts) (Asks t.0))
@@ -229,7 +231,7 @@ unfolding read
 high zero = zero_high
 high (suc low) = λ k e front rest is tall.
     let t = path k e front is in
-    let above : low < t.end.tallest = omega (arith, ap (λ (x : Part). x.height) t.is) in
+    let above : low < t.end.tallest = omega (arith, ap (λ (x : Measured). x.height) t.is) in
     subst (λ (w : List Token). Deep (run (operand_of (read low)) k (suc low) (suc (length (w ++ rest))) None start
     (w ++ rest))) (sym t.spelled)
     (sinking (read low) low (wholes low) (high low) k (hold e.node) rest t.end e.node t.finished above t.items

@@ -33,7 +33,7 @@ use Rattle.cat_parse_state.specs.declared.state.State.TheVariants as state
 use Rattle.cat_parse_state.specs.declared.state.Owner.{Owner}
 use Rattle.cat_parse_state.specs.declared.state.Owner.TheVariants as owner
 use Rattle.cat_parse_state.specs.declared.state.Reading.{Reading}
-use Rattle.cat_parse_state.specs.declared.state.Part.{Part}
+use Rattle.cat_parse_state.specs.declared.state.Measured.{Measured}
 use Rattle.cat_parse_step.specs.Words.{Move, Onward, Grown, on_of, on_then, on_else, on_among, on_in, on_initially}
 use Rattle.cat_parse_step.specs.Words.{on_with, on_to, on_anything, on_content, on_with_pattern, on_we_have}
 use Rattle.cat_parse_step.specs.Words.{on_such_that, lower_of, upper_of, unit_of}
@@ -48,7 +48,8 @@ use Rattle.cat_parse_step.specs.Machine.{some, step, strength_of, moved, shift}
 use Rattle.cat_parse_state.specs.Operands.{takes, needs_part, fed_state, is_some}
 use Rattle.cat_parse_expr.specs.Reader.{is_high}
 use Rattle.cat_parse_step.specs.Moves.{lists_before}
-use Rattle.cat_parse_expr.specs.inside.Fallback.{fallback, before, or_else, before_call, match_before, before_literal}
+use Rattle.cat_parse_expr.specs.inside.Fallback.{fallback, last_whole, or_else, before_argument, match_so_far}
+use Rattle.cat_parse_expr.specs.inside.Fallback.{before_unit}
 use Rattle.cat_parse_expr.specs.inside.Fallback.{is_filled, is_filled_list}
 use Rattle.cat_parse_expr.proofs.Viable.{is_below, none_holds}
 use Rattle.cat_parse_expr.proofs.WordsAre.{some_same, on_of_is, on_then_is, on_else_is, on_among_is, on_in_is}
@@ -59,7 +60,7 @@ use Rattle.cat_parse_expr.proofs.WordsAre.{on_dashes_is, on_brace_is, on_end_bra
 
 -- ---- where a tree goes that is whole at last
 
-falls_Literal : (l : Literal) (p : Pos) (s : ℕ) → fallback (state.Complete (leaf.Literal l p) s) ≡ before_literal l p
+falls_Literal : (l : Literal) (p : Pos) (s : ℕ) → fallback (state.Complete (leaf.Literal l p) s) ≡ before_unit l p
 unfolding fallback
 falls_Literal l p s = search (rules, node.the_lemmas)
 
@@ -90,11 +91,12 @@ falls_ScopeCall : (p : Pos) (u : Name) (fs : List FieldValue) (w : Name) (s : �
 unfolding fallback
 falls_ScopeCall p u fs w s = search (rules, node.the_lemmas)
 
-call_falls : (f : Name) (args : List Node) → is_filled_list args ≡ true → before_call f args ≡ Some (node.Call f args)
+call_falls : (f : Name) (args : List Node) → is_filled_list args ≡ true
+    → before_argument f args ≡ Some (node.Call f args)
 call_falls f [] h = absurd cc
 call_falls f (a ∷ args) h = refl
 
-match_falls : (m : Matching) (arms : List Arm) → is_filled_list arms ≡ true → match_before m arms ≡ Some
+match_falls : (m : Matching) (arms : List Arm) → is_filled_list arms ≡ true → match_so_far m arms ≡ Some
     (node.Match m.pos m.tested arms)
 match_falls m [] h = absurd cc
 match_falls m (a ∷ arms) h = refl
@@ -105,7 +107,7 @@ match_falls m (a ∷ arms) h = refl
 pub record IsKeeping (q more : State) : Type 0 where
   pub few : lists_before more ≤ suc (lists_before q)
   pub filled : is_filled more ≡ true
-  pub falls : is_filled q ≡ true → fallback more ≡ before q
+  pub falls : is_filled q ≡ true → fallback more ≡ last_whole q
 
 -- only what is whole, or becomes so, grows
 abbrev pub IsMoveKeeping : State → Move → Type 0
@@ -113,7 +115,7 @@ IsMoveKeeping q (Onward more) = IsKeeping q more
 IsMoveKeeping q (Grown more) = IsKeeping q more × ((is_some (done q) || is_some (done more)) ≡ true)
 
 keeps : (q more : State) → lists_before more ≡ 0 → is_filled more ≡ true
-    → (is_filled q ≡ true → fallback more ≡ before q) → IsKeeping q more
+    → (is_filled q ≡ true → fallback more ≡ last_whole q) → IsKeeping q more
 keeps q more zero_ filled falls = record { few = omega arith; filled = filled; falls = falls }
 
 module _ (q : State) where
@@ -668,7 +670,7 @@ lists_feed (state.CombineStart c w) n b j e = refl
 lists_feed (state.CombineBody c w s) n b j e = refl
 lists_feed _ n b j e = absurd cc
 
-pub lists_fed : (r : Reading) (e : Part) (j : ℕ) → takes r.state ≡ Some j → lists_before (feed r e).state ≡ 0
+pub lists_fed : (r : Reading) (e : Measured) (j : ℕ) → takes r.state ≡ Some j → lists_before (feed r e).state ≡ 0
 unfolding feed
 lists_fed r e j t = lists_feed r.state e.node e.in_match j t
 
@@ -721,11 +723,11 @@ filled_fed (state.CombineStart c w) n b j e = refl
 filled_fed (state.CombineBody c w s) n b j e = refl
 filled_fed _ n b j e = absurd cc
 
-pub fallback_feed : (r : Reading) (e : Part) (j : ℕ) → takes r.state ≡ Some j → done (feed r e).state ≡ None
+pub fallback_feed : (r : Reading) (e : Measured) (j : ℕ) → takes r.state ≡ Some j → done (feed r e).state ≡ None
     → fallback (feed r e).state ≡ fallback r.state
 unfolding feed
 fallback_feed r e j t d = fallback_fed r.state e.node e.in_match j t d
 
-pub filled_feed : (r : Reading) (e : Part) (j : ℕ) → takes r.state ≡ Some j → is_filled (feed r e).state ≡ true
+pub filled_feed : (r : Reading) (e : Measured) (j : ℕ) → takes r.state ≡ Some j → is_filled (feed r e).state ≡ true
 unfolding feed
 filled_feed r e j t = filled_fed r.state e.node e.in_match j t

@@ -4,12 +4,12 @@ use Rattle.std.proofs.Common.{sym, ap, subst, append_assoc, arith, inl, inr}
 use Rattle.cat_lex.specs.declared.token.Token.{Token}
 use Rattle.cat_tree.specs.declared.expression.Node.{Node}
 use Rattle.cat_parse_state.specs.declared.state.State.{State}
-use Rattle.cat_parse_state.specs.declared.state.Part.{Part}
+use Rattle.cat_parse_state.specs.declared.state.Measured.{Measured}
 use Rattle.cat_parse_state.specs.declared.state.Reading.{Reading}
 use Rattle.cat_parse_state.specs.Readings.{start, feed, done}
 use Rattle.cat_parse_step.specs.Machine.{shift, step, strength_of, moved}
 use Rattle.cat_parse_state.specs.Operands.{takes}
-use Rattle.cat_parse_expr.proofs.Rows.{IsPart, Reached, ReachedAt}
+use Rattle.cat_parse_expr.proofs.Rows.{IsMeasured, Reached, ReachedAt}
 use Rattle.cat_parse_expr.proofs.Hold.{pull, op_pull}
 use Rattle.cat_tree.specs.Phrase.{Phrase, Row, height}
 use Rattle.cat_tree.specs.Grammar.{phrase}
@@ -19,7 +19,7 @@ use Rattle.cat_parse_expr.proofs.Behind.{done_row}
 use Rattle.cat_parse_expr.proofs.Stepping.{step_reached}
 use Rattle.cat_parse_expr.proofs.Feeding.{fed_reached}
 use Rattle.cat_parse_expr.proofs.Calming.{calm_stops as still}
-use Rattle.cat_parse_expr.proofs.Completing.{left_over, GoesOn, goes_on, fed_left, zero_token, zero_part, zero_is}
+use Rattle.cat_parse_expr.proofs.Completing.{left_over, GoesOn, goes_on, fed_left, zero_token, zero_measured, zero_is}
 use Rattle.cat_parse_expr.proofs.Moves.{takes_low}
 use Rattle.std.proofs.lemmas.List.{append-nil}
 use Rattle.cat_parse_expr.specs.Reader.{whole}
@@ -72,17 +72,17 @@ reached_shift k r more p front h e = shifted_reached k r.tallest p front r more
     (step k (cond r.in_form 0 (strength_of r.state)) r.state p) refl
     (λ m x. step_reached k r.tallest r.state r.in_form r.in_match p front m h.at x) e
 
-pub reached_feed : (k j : ℕ) (r : Reading) (e : Part) (front text : List Token) → Reached k r front
-    → takes r.state ≡ Some j → IsPart j e text → Reached k (feed r e) (front ++ text)
+pub reached_feed : (k j : ℕ) (r : Reading) (e : Measured) (front text : List Token) → Reached k r front
+    → takes r.state ≡ Some j → IsMeasured j e text → Reached k (feed r e) (front ++ text)
 unfolding feed
 reached_feed k j r e front text h t is =
     record { at = fed_reached k j r.tallest r.state r.in_form r.in_match e front text h.at t is }
 
 pub reached_done : (k : ℕ) (r : Reading) (n : Node) (front : List Token) → Reached k r front → done r.state ≡ Some n
-    → IsPart k (whole r n) front
+    → IsMeasured k (whole r n) front
 reached_done k r n front h e = record { row = (done_row k r.state r.tallest r.in_form r.in_match front n h.at e).0 }
 
-fed_lt : (fuel : ℕ) (r : Reading) (e : Part) (j : ℕ) → takes r.state ≡ Some j → left_over r.state < suc fuel
+fed_lt : (fuel : ℕ) (r : Reading) (e : Measured) (j : ℕ) → takes r.state ≡ Some j → left_over r.state < suc fuel
     → left_over (feed r e).state < fuel
 unfolding feed
 fed_lt fuel r e j t lt = let h = fed_left r.state e.node e.in_match j t in omega arith
@@ -96,7 +96,12 @@ shift_is k r t q e = ap (moved r) e
 -- a token or an operand more that begins an expression
 shorter : (k : ℕ) (front more : List Token) → Begins k (front ++ more) → Begins k front
 shorter k front more b =
-    record { tree = b.tree; rest = more ++ b.rest; is = subst (IsPart k b.tree) (append_assoc front more b.rest) b.is }
+    record {
+      tree = b.tree;
+      rest = more ++ b.rest;
+      is =
+          subst (IsMeasured k b.tree) (append_assoc front more b.rest) b.is;
+    }
 
 begins_by : (fuel k : ℕ) (r : Reading) (front : List Token) → ((q : Reading) (more : List Token) → Reached k q more
     → left_over q.state < fuel → Begins k more) → Reached k r front → left_over r.state < suc fuel
@@ -105,12 +110,13 @@ begins_by fuel k r front go h lt (inl d) =
     record {
       tree = whole r d.0;
       rest = [];
-      is = subst (IsPart k (whole r d.0)) (sym (append-nil front))
+      is = subst (IsMeasured k (whole r d.0)) (sym (append-nil front))
           (reached_done k r d.0 front h d.1);
     }
 begins_by fuel k r front go h lt (inr (inl t)) = shorter k front (zero_token ∷ [])
-    (go (feed r zero_part) (front ++ zero_token ∷ []) (reached_feed k t.0 r zero_part front (zero_token ∷ []) h t.1
-    (zero_is t.0 (takes_low r.state t.0 t.1))) (fed_lt fuel r zero_part t.0 t.1 lt))
+    (go (feed r zero_measured) (front ++ zero_token ∷ [])
+    (reached_feed k t.0 r zero_measured front (zero_token ∷ []) h t.1
+    (zero_is t.0 (takes_low r.state t.0 t.1))) (fed_lt fuel r zero_measured t.0 t.1 lt))
 begins_by fuel k r front go h lt (inr (inr w)) = shorter k front (w.0 ∷ [])
     (go (record { state = w.1; tallest = r.tallest; in_form = false; in_match = false }) (front ++ w.0 ∷ [])
     (reached_shift k r (record { state = w.1; tallest = r.tallest; in_form = false; in_match = false }) w.0 front h
@@ -125,8 +131,8 @@ begins_to (suc fuel) k r front h lt = begins_by fuel k r front (begins_to fuel k
 pub reached_begins : (k : ℕ) (r : Reading) (front : List Token) → Reached k r front → Begins k front
 reached_begins k r front h = begins_to (suc (left_over r.state)) k r front h (omega arith)
 
-pub part_high : (k : ℕ) (e : Part) (text : List Token) → IsPart k e text → 0 < e.height
-part_high k e text is = omega (arith, is.row.tall_is, tall_phrase (phrase e.node))
+pub measured_high : (k : ℕ) (e : Measured) (text : List Token) → IsMeasured k e text → 0 < e.height
+measured_high k e text is = omega (arith, is.row.tall_is, tall_phrase (phrase e.node))
 
 pub calm_stops : (k : ℕ) (end : Reading) (n : Node) (front rest : List Token) → Reached k end front
     → done end.state ≡ Some n → Calm k (whole end n) rest → Stops k end rest
@@ -136,8 +142,8 @@ pub pull_nil : pull [] ≡ 0
 unfolding pull
 pull_nil = refl
 
-pub part_level : (k : ℕ) (e : Part) (text : List Token) → IsPart k e text → k ≤ 9
-part_level k e text is = is.row.low
+pub measured_level : (k : ℕ) (e : Measured) (text : List Token) → IsMeasured k e text → k ≤ 9
+measured_level k e text is = is.row.low
 
 pub op_pull_nil : op_pull [] ≡ 0
 unfolding op_pull

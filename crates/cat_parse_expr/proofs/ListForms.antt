@@ -36,7 +36,8 @@ use Rattle.cat_parse_step.specs.declared.follow.Follow.TheVariants.{Tests}
 use Rattle.cat_parse_step.specs.Steps.{follow_of}
 use Rattle.cat_parse_expr.proofs.Hold.{is_dashes, is_lower, follow_pull, sign_pull, row_hold, last_hold}
 use Rattle.cat_parse_expr.proofs.Meaning.{Tok, Sub, text, Path}
-use Rattle.cat_parse_expr.proofs.Walks.{reading_at, part_of, part_is, Walk, end_walk, word_at, word_any, fed_reading}
+use Rattle.cat_parse_expr.proofs.Walks.{reading_at, measured_of, measured_is, Walk, end_walk, word_at, word_any}
+use Rattle.cat_parse_expr.proofs.Walks.{fed_reading}
 use Rattle.cat_parse_expr.proofs.Walks.{part_word, part_end, shift_to, any_step, fed_is, calm_record}
 use Rattle.cat_parse_expr.proofs.Tails.{arm_hold, strong_holds}
 use Rattle.cat_parse_expr.proofs.Forms.{if_at_on, Goes, form_calm, level_calm}
@@ -329,13 +330,13 @@ inner_arm k high p e past pat b whole ps us go open_ levels sp =
     let w = x.4 in
     let next = reading_at (state.ArmPattern m) (max high (height (phrase b))) false false in
     record {
-      items = Sub (part_of b) sp.0 ∷ Tok x.0 ∷ w.items;
+      items = Sub (measured_of b) sp.0 ∷ Tok x.0 ∷ w.items;
       end = w.end;
       spelled = sp.2 ∙ ap (λ (ts : List Token). sp.0 ++ ts) (x.2 ∙ ap (λ (ts : List Token). x.0 ∷ ts) w.spelled);
       way = (
         0,
         refl,
-        part_is 0 b sp.0 (omega arith) (omega arith) levels sp.3,
+        measured_is 0 b sp.0 (omega arith) (omega arith) levels sp.3,
         (λ rest. calm_record 0 b x.0 (text w.items ++ rest)
             (omega (
               arith,

@@ -2,23 +2,23 @@
 use Rattle.std.specs.Prelude.{ℕ, ◌≤◌, ◌≡◌, List, [], ◌∷◌, ◌++◌, Some, None, ◌⊎◌}
 use Rattle.cat_lex.specs.declared.token.Token.{Token}
 use Rattle.cat_tree.specs.declared.expression.Node.{Node}
-use Rattle.cat_parse_state.specs.declared.state.Part.{Part}
+use Rattle.cat_parse_state.specs.declared.state.Measured.{Measured}
 use Rattle.cat_parse_state.specs.declared.state.Reading.{Reading}
 use Rattle.cat_parse_state.specs.Readings.{start, feed, done}
 use Rattle.cat_parse_step.specs.Machine.{shift}
 use Rattle.cat_parse_state.specs.Operands.{takes}
-use Rattle.cat_parse_expr.proofs.Rows.{IsPart}
+use Rattle.cat_parse_expr.proofs.Rows.{IsMeasured}
 use Rattle.cat_parse_expr.proofs.Hold.{pull, op_pull, hold}
 use Rattle.cat_parse_expr.specs.Reader.{next, Ends, whole}
 
 -- the tokens begin the spelling of an expression that stands at level k
 pub record Begins (k : ℕ) (front : List Token) : Type 0 where
-  pub tree : Part
+  pub tree : Measured
   pub rest : List Token
-  pub is : IsPart k tree (front ++ rest)
+  pub is : IsMeasured k tree (front ++ rest)
 
 -- what follows takes nothing of an expression that stands at level k
-pub record Calm (k : ℕ) (e : Part) (rest : List Token) : Type 0 where
+pub record Calm (k : ℕ) (e : Measured) (rest : List Token) : Type 0 where
   pub inside : pull rest ≤ hold e.node
   pub outside : op_pull rest ≤ k
 
@@ -37,7 +37,7 @@ Stops k end rest = (next k end rest ≡ Ends) ⊎ (Blocked k end rest)
 
 pub data Item : Type 0 where
   Tok : Token → Item
-  Sub : Part → List Token → Item
+  Sub : Measured → List Token → Item
 
 abbrev pub text : List Item → List Token
 text [] = []
@@ -45,7 +45,7 @@ text (Tok p ∷ items) = p ∷ text items
 text (Sub e f ∷ items) = f ++ text items
 
 -- an operand is calm before the words that follow it; the last one before what pulls no more than the whole holds
-abbrev pub CalmAt : (bound : ℕ) → List Item → ℕ → Part → Type 0
+abbrev pub CalmAt : (bound : ℕ) → List Item → ℕ → Measured → Type 0
 CalmAt bound [] j e = (rest : List Token) → pull rest ≤ bound → Calm j e rest
 CalmAt bound (i ∷ items) j e = (rest : List Token) → Calm j e (text (i ∷ items) ++ rest)
 
@@ -53,10 +53,10 @@ CalmAt bound (i ∷ items) j e = (rest : List Token) → Calm j e (text (i ∷ i
 abbrev pub Path : (k bound : ℕ) → Reading → List Item → Reading → Type 0
 Path k bound r [] end = r ≡ end
 Path k bound r (Tok p ∷ items) end = (more : Reading) × (shift k r p ≡ Some more) × Path k bound more items end
-Path k bound r (Sub e f ∷ items) end = (j : ℕ) × (takes r.state ≡ Some j) × IsPart j e f × CalmAt bound items j e
+Path k bound r (Sub e f ∷ items) end = (j : ℕ) × (takes r.state ≡ Some j) × IsMeasured j e f × CalmAt bound items j e
     × Path k bound (feed r e) items end
 
-pub record HasPath (k : ℕ) (e : Part) (front : List Token) : Type 0 where
+pub record HasPath (k : ℕ) (e : Measured) (front : List Token) : Type 0 where
   pub items : List Item
   pub end : Reading
   pub spelled : front ≡ text items
@@ -68,7 +68,8 @@ pub record HasPath (k : ℕ) (e : Part) (front : List Token) : Type 0 where
 abbrev pub Trail : (k : ℕ) (rest : List Token) → Reading → List Item → Reading → Type 0
 Trail k rest r [] end = r ≡ end
 Trail k rest r (Tok p ∷ items) end = (more : Reading) × (shift k r p ≡ Some more) × Trail k rest more items end
-Trail k rest r (Sub e f ∷ items) end = (j : ℕ) × (takes r.state ≡ Some j) × IsPart j e f × Calm j e (text items ++ rest)
+Trail k rest r (Sub e f ∷ items) end = (j : ℕ) × (takes r.state ≡ Some j) × IsMeasured j e f
+    × Calm j e (text items ++ rest)
     × Trail k rest (feed r e) items end
 
 -- a whole expression that takes the word

@@ -14,7 +14,7 @@ use Rattle.cat_tree.specs.declared.expression.Node.{Node}
 use Rattle.cat_tree.specs.Operators.{prefix_level, operator_level}
 use Rattle.cat_parse_state.specs.declared.state.State.{State}
 use Rattle.cat_parse_state.specs.declared.state.State.TheVariants as state
-use Rattle.cat_parse_state.specs.declared.state.Part.{Part}
+use Rattle.cat_parse_state.specs.declared.state.Measured.{Measured}
 use Rattle.cat_parse_state.specs.declared.state.Reading.{Reading}
 use Rattle.cat_parse_step.specs.Words.{Move, Onward, Grown}
 use Rattle.cat_parse_step.specs.Marks.{on_bracket}
@@ -57,7 +57,7 @@ takes_low s j e = omega (arith, ap level_or e, bound s)
     bound (state.Prefixed o p) = let h = prefix_low o in omega arith
     bound _ = omega arith
 
-pub feed_tallest : (r : Reading) (e : Part) → (feed r e).tallest ≡ max r.tallest e.height
+pub feed_tallest : (r : Reading) (e : Measured) → (feed r e).tallest ≡ max r.tallest e.height
 unfolding feed
 feed_tallest r e = refl
 
@@ -96,7 +96,7 @@ fed_wants (state.CombineStart c w) n b j e = refl
 fed_wants (state.CombineBody c w s) n b j e = refl
 fed_wants _ n b j e = absurd cc
 
-pub feed_wants : (r : Reading) (e : Part) (j : ℕ) → takes r.state ≡ Some j → takes (feed r e).state ≡ None
+pub feed_wants : (r : Reading) (e : Measured) (j : ℕ) → takes r.state ≡ Some j → takes (feed r e).state ≡ None
 unfolding feed
 feed_wants r e j t = fed_wants r.state e.node e.in_match j t
 
@@ -122,7 +122,8 @@ fed_done (state.CombineStart d w) n m b c x j t e = absurd cc
 fed_done (state.CombineBody d w s) n m b c x j t e = (_, refl)
 fed_done _ n m b c x j t e = absurd cc
 
-pub feed_done : (r : Reading) (e f : Part) (j : ℕ) (n : Node) → takes r.state ≡ Some j → done (feed r e).state ≡ Some n
+pub feed_done : (r : Reading) (e f : Measured) (j : ℕ) (n : Node) → takes r.state ≡ Some j
+    → done (feed r e).state ≡ Some n
     → (m : Node) × (done (feed r f).state ≡ Some m)
 unfolding feed
 feed_done r e f j n t d = fed_done r.state e.node f.node e.in_match f.in_match n j t d

@@ -7,22 +7,23 @@ use Rattle.cat_lex.specs.declared.token.Token.{Token}
 use Rattle.cat_tree.specs.declared.expression.Node.{Node}
 use Rattle.cat_tree.specs.Spells.{Spells, IsFront, height_of}
 use Rattle.cat_tree.specs.Spells as spelled
-use Rattle.cat_parse_state.specs.declared.state.Part.{Part}
-use Rattle.cat_parse_expr.specs.Results.{Stop, Outcome, Fails, Reads, stop_of}
+use Rattle.cat_parse_state.specs.declared.state.Measured.{Measured}
+use Rattle.cat_parse_expr.specs.Results.{Stop, ParseResult, Fails, Reads, stop_of}
 use Rattle.cat_parse_expr.specs.Reader.{read}
 use Rattle.cat_parse_expr.specs.Places.{IsSpelled, GoesUpTo, IsTooHigh}
-use Rattle.cat_parse_expr.proofs.Rows.{IsPart}
+use Rattle.cat_parse_expr.proofs.Rows.{IsMeasured}
 use Rattle.cat_parse_expr.proofs.Meaning.{Begins}
-use Rattle.cat_parse_expr.proofs.Walks.{part_of, part_is}
+use Rattle.cat_parse_expr.proofs.Walks.{measured_of, measured_is}
 use Rattle.cat_parse_expr.proofs.Exact.{IsExact, exact, nothing, nothing_low, longest, taken, one_tree}
 
-whole_is : (e : Node) (tokens : List Token) → Spells e tokens → IsPart 0 (part_of e) tokens
-whole_is e tokens s = part_is 0 e tokens (omega arith) (omega arith) s.levels s.words
+whole_is : (e : Node) (tokens : List Token) → Spells e tokens → IsMeasured 0 (measured_of e) tokens
+whole_is e tokens s = measured_is 0 e tokens (omega arith) (omega arith) s.levels s.words
 
 -- a list of tokens spells at most one expression
 pub one_expression : (a b : Node) (tokens : List Token) → Spells a tokens → Spells b tokens → a ≡ b
 one_expression a b tokens sa sb =
-    ap (λ (x : Part). x.node) (one_tree (part_of a) (part_of b) tokens (whole_is a tokens sa) (whole_is b tokens sb))
+    ap (λ (x : Measured). x.node) (one_tree (measured_of a) (measured_of b) tokens (whole_is a tokens sa)
+    (whole_is b tokens sb))
 
 -- what stands before a rest
 front_is : (tokens front left : List Token) (at : ℕ) → at ≤ length tokens → drop at tokens ≡ front ++ left
@@ -38,7 +39,12 @@ to_public front b =
     record { tree = b.tree.node; rest = b.rest; spells = record { levels = b.is.row.levels; words = b.is.row.spelled } }
 
 abbrev from_public : (front : List Token) → spelled.Begins front → Begins 0 front
-from_public front b = record { tree = part_of b.tree; rest = b.rest; is = whole_is b.tree (front ++ b.rest) b.spells }
+from_public front b = record {
+  tree = measured_of b.tree;
+  rest = b.rest;
+  is =
+      whole_is b.tree (front ++ b.rest) b.spells;
+}
 
 module _ (tokens : List Token) (at : ℕ) (s : Stop) (le : at ≤ length tokens) (e : IsExact (drop at tokens) 256 s) where
   is_within : length s.left ≤ length tokens
@@ -89,20 +95,20 @@ module _ (tokens : List Token) (at : ℕ) (s : Stop) (le : at ≤ length tokens)
             })) low;
       }
 
-exact_at : (tokens : List Token) (at : ℕ) (o : Outcome) → read 256 0 (drop at tokens) ≡ o
+exact_at : (tokens : List Token) (at : ℕ) (o : ParseResult) → read 256 0 (drop at tokens) ≡ o
     → IsExact (drop at tokens) 256 (stop_of o)
 exact_at tokens at o e =
-    subst (λ (x : Outcome). IsExact (drop at tokens) 256 (stop_of x)) e (exact (drop at tokens) 256)
+    subst (λ (x : ParseResult). IsExact (drop at tokens) 256 (stop_of x)) e (exact (drop at tokens) 256)
 
-pub stop_fits : (tokens : List Token) (at : ℕ) (o : Outcome) → at ≤ length tokens → read 256 0 (drop at tokens) ≡ o
+pub stop_fits : (tokens : List Token) (at : ℕ) (o : ParseResult) → at ≤ length tokens → read 256 0 (drop at tokens) ≡ o
     → length (stop_of o).left ≤ length tokens
 stop_fits tokens at o le e = is_within tokens at (stop_of o) le (exact_at tokens at o e)
 
-pub stop_here : (tokens : List Token) (at : ℕ) (o : Outcome) → at ≤ length tokens → read 256 0 (drop at tokens) ≡ o
+pub stop_here : (tokens : List Token) (at : ℕ) (o : ParseResult) → at ≤ length tokens → read 256 0 (drop at tokens) ≡ o
     → (stop_of o).deep ≡ false → GoesUpTo tokens at (length tokens - length (stop_of o).left)
 stop_here tokens at o le e calm = goes_up_to tokens at (stop_of o) le (exact_at tokens at o e) calm
 
-pub stop_deep : (tokens : List Token) (at : ℕ) (o : Outcome) → at ≤ length tokens → read 256 0 (drop at tokens) ≡ o
+pub stop_deep : (tokens : List Token) (at : ℕ) (o : ParseResult) → at ≤ length tokens → read 256 0 (drop at tokens) ≡ o
     → (stop_of o).deep ≡ true → IsTooHigh tokens at (length tokens - length (stop_of o).left)
 stop_deep tokens at o le e deep = is_too_high tokens at (stop_of o) le (exact_at tokens at o e) deep
 
@@ -113,22 +119,25 @@ rest_of tokens at next e s = sym (take-append-drop (next - at) (drop at tokens))
 pub none_spelled : (tokens : List Token) (at next : ℕ) (s : Stop) → read 256 0 (drop at tokens) ≡ Fails s
     → s.deep ≡ false → IsSpelled tokens at next → ⊥
 none_spelled tokens at next s e calm f =
-    nothing (drop at tokens) 256 s e calm (part_of f.0) (slice_range tokens at next) (drop (next - at) (drop at tokens))
+    nothing (drop at tokens) 256 s e calm (measured_of f.0) (slice_range tokens at next)
+    (drop (next - at) (drop at tokens))
     (whole_is f.0 (slice_range tokens at next) f.3) (rest_of tokens at next f.0 f.3)
 
 pub none_low : (tokens : List Token) (at next : ℕ) (s : Stop) (e : Node) → read 256 0 (drop at tokens) ≡ Fails s
     → IsFront tokens at next e → ⊥
 none_low tokens at next s e is f =
-    nothing_low (drop at tokens) 256 s is (part_of e) (slice_range tokens at next) (drop (next - at) (drop at tokens))
+    nothing_low (drop at tokens) 256 s is (measured_of e) (slice_range tokens at next)
+    (drop (next - at) (drop at tokens))
     (whole_is e (slice_range tokens at next) f.spells) f.low (rest_of tokens at next e f.spells)
 
 -- what was read, by indices
-pub record Answers (tokens : List Token) (at : ℕ) (e : Part) (rest : List Token) : Type 0 where
+pub record Answers (tokens : List Token) (at : ℕ) (e : Measured) (rest : List Token) : Type 0 where
   pub left : length rest ≤ length tokens
   pub found : IsFront tokens at (length tokens - length rest) e.node
   pub furthest : (f : Node) (next : ℕ) → IsFront tokens at next f → next ≤ length tokens - length rest
 
-pub answers : (tokens : List Token) (at : ℕ) (e : Part) (rest : List Token) (tried : Option Stop) → at ≤ length tokens
+pub answers : (tokens : List Token) (at : ℕ) (e : Measured) (rest : List Token) (tried : Option Stop)
+    → at ≤ length tokens
     → read 256 0 (drop at tokens) ≡ Reads e rest tried → Answers tokens at e rest
 answers tokens at e rest tried le is =
     let t = taken (drop at tokens) 256 e rest tried is in
@@ -147,7 +156,7 @@ answers tokens at e rest tried le is =
       furthest =
           λ f next h. omega (
             arith,
-            longest (drop at tokens) 256 e rest tried is (part_of f)
+            longest (drop at tokens) 256 e rest tried is (measured_of f)
                 (slice_range tokens at next) (drop (next - at) (drop at tokens))
                 (whole_is f (slice_range tokens at next) h.spells) h.low
                 (rest_of tokens at next f h.spells),

@@ -4,19 +4,20 @@ use Rattle.std.proofs.Common.{Option, Some, None, refl, sym, ap, subst, ◌∙�
 use Rattle.cat_pos.specs.declared.pos.Pos.{Pos}
 use Rattle.cat_lex.specs.declared.token.Token.{Token}
 use Rattle.cat_tree.specs.declared.expression.Node.{Node}
-use Rattle.cat_tree.specs.Phrase.{Phrase, Row, Parts, End, Word, Part, Mark, Stand, Left, Rank, tallest, last_in_form}
+use Rattle.cat_tree.specs.Phrase.{Phrase, Row, Parts, End, Word, Part, Terminal, Stand, Left, Rank, tallest}
+use Rattle.cat_tree.specs.Phrase.{last_in_form}
 use Rattle.cat_tree.specs.Phrase.{last_in_match, left_strength, Stands, AreLevelled, IsAt, AreSpelled}
 use Rattle.cat_tree.specs.Grammar.{phrase}
-use Rattle.cat_parse_state.specs.declared.state.Part.{Part as Found}
+use Rattle.cat_parse_state.specs.declared.state.Measured.{Measured}
 use Rattle.std.proofs.lemmas.List.{append-nil}
 use Rattle.cat_lex.specs.declared.token.TokenKind.{TokenKind}
-use Rattle.cat_parse_expr.proofs.Rows.{IsRow, IsPart, Extends, ReachedAt}
+use Rattle.cat_parse_expr.proofs.Rows.{IsRow, IsMeasured, Extends, ReachedAt}
 use Rattle.cat_parse_expr.proofs.WordsAre.{some_same}
 use Rattle.cat_parse_step.specs.Words.{Move, Onward, Grown}
 
 -- ---- one word, or one operand, further
 
-pub push : (f g : Parts → Parts) (high : ℕ) (b c : Bool) (m : Mark) (p : Token) (front : List Token)
+pub push : (f g : Parts → Parts) (high : ℕ) (b c : Bool) (m : Terminal) (p : Token) (front : List Token)
     → Extends f high b c front → IsAt m p → ((ps : Parts) → g ps ≡ f (Word m ps)) → Extends g high false false
     (front ++ p ∷ [])
 push f g high b c m p front e at is = record {
@@ -29,8 +30,8 @@ push f g high b c m p front e at is = record {
   matching = λ ps. ap (last_in_match false) (is ps) ∙ e.matching (Word m ps);
 }
 
-pub put : (f g : Parts → Parts) (high : ℕ) (b c : Bool) (j : ℕ) (s : Stand) (e : Found) (front text : List Token)
-    → Extends f high b c front → IsPart j e text → Stands s (phrase e.node)
+pub put : (f g : Parts → Parts) (high : ℕ) (b c : Bool) (j : ℕ) (s : Stand) (e : Measured) (front text : List Token)
+    → Extends f high b c front → IsMeasured j e text → Stands s (phrase e.node)
     → ((ps : Parts) → g ps ≡ f (Part s (phrase e.node) ps)) → Extends g (max high e.height) e.in_form e.in_match
     (front ++ text)
 put f g high b c j s e front text x i stands is = record {
@@ -61,7 +62,7 @@ finish f high k b c rank n front e is fits le low =
     })
 
 -- an expression that becomes the left part of a higher one
-pub grow : (j high k : ℕ) (b c : Bool) (n : Node) (m : Mark) (p : Token) (front : List Token)
+pub grow : (j high k : ℕ) (b c : Bool) (n : Node) (m : Terminal) (p : Token) (front : List Token)
     → IsRow k (phrase n) (suc high) b c front → j ≤ left_strength (phrase n) → IsAt m p
     → Extends (λ ps. Part (Left j) (phrase n) (Word m ps)) (suc high) false false (front ++ p ∷ [])
 grow j high k b c n m p front r le at = record {

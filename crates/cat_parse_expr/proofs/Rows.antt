@@ -30,7 +30,7 @@ use Rattle.cat_parse_state.specs.declared.state.Owner.{Owner}
 use Rattle.cat_parse_state.specs.declared.state.Owner.TheVariants as owner
 use Rattle.cat_parse_state.specs.declared.state.Matching.{Matching}
 use Rattle.cat_parse_state.specs.declared.state.Combining.{Combining}
-use Rattle.cat_parse_state.specs.declared.state.Part.{Part as Found}
+use Rattle.cat_parse_state.specs.declared.state.Measured.{Measured}
 use Rattle.cat_parse_state.specs.declared.state.Reading.{Reading}
 
 -- ---- rows that have begun
@@ -196,7 +196,8 @@ pub record IsRow (k : ℕ) (e : Phrase) (tall : ℕ) (in_form in_match : Bool) (
   pub form_is : in_form ≡ ends_in_form e
   pub match_is : in_match ≡ ends_in_match e
 
-pub record IsPart (k : ℕ) (e : Found) (front : List Token) : Type 0 where
+-- the tokens spell the expression, which may stand at level k and has the numbers that were measured
+pub record IsMeasured (k : ℕ) (e : Measured) (front : List Token) : Type 0 where
   pub row : IsRow k (phrase e.node) e.height e.in_form e.in_match front
 
 -- whatever completes the row, the tokens are its front

@@ -1,4 +1,4 @@
--- No outcome stops earlier than reading began; and a whole expression is passed by.
+-- No result stops earlier than reading began; and a whole expression is passed by.
 use Rattle.std.proofs.Common.{◌≡◌, ℕ, zero, suc, ◌<◌, ◌≤◌, Bool, true, false, cond, ◌&&◌, not, nat_eq, leb, List, ◌∷◌}
 use Rattle.std.proofs.Common.{length, Option, Some, None, refl, sym, ap, subst, ◌∙◌, arith}
 use Rattle.std.proofs.lemmas.Bool.Decides.{nat_tests}
@@ -7,19 +7,19 @@ use Rattle.cat_lex.specs.declared.token.Token.{Token}
 use Rattle.cat_tree.specs.declared.expression.Node.{Node}
 use Rattle.cat_parse_state.specs.declared.state.Reading.{Reading}
 use Rattle.cat_parse_state.specs.Readings.{feed, done}
-use Rattle.cat_parse_expr.specs.Results.{Stop, Outcome, Fails, Reads, Reader, here, too_deep, stop_of}
+use Rattle.cat_parse_expr.specs.Results.{Stop, ParseResult, Fails, Reads, Reader, here, too_deep, stop_of}
 use Rattle.cat_parse_expr.specs.Reader.{Best, best_of, stopped, ended, Next, Shifted, Asks, Ends, next, is_high, Going}
 use Rattle.cat_parse_expr.specs.Reader.{reaches, fed, turn, run, operand_of}
-use Rattle.cat_parse_expr.proofs.Ways.{part_some}
+use Rattle.cat_parse_expr.proofs.Ways.{measured_some}
 use Rattle.cat_parse_expr.proofs.Moves.{takes_low}
 use Rattle.cat_parse_expr.proofs.Viable.{Fine, AreFine, Follows, next_follows, operand_fine}
 use Rattle.cat_parse_expr.proofs.Whole.{run_is}
 
 -- stops with no more than that left
-abbrev pub Short : ℕ → Outcome → Type 0
+abbrev pub Short : ℕ → ParseResult → Type 0
 Short n o = length (stop_of o).left ≤ n
 
-pub short_along : (n : ℕ) (a b : Outcome) → a ≡ b → Short n b → Short n a
+pub short_along : (n : ℕ) (a b : ParseResult) → a ≡ b → Short n b → Short n a
 short_along n a b e h = subst (Short n) (sym e) h
 
 pub short_stopped : (n : ℕ) (best : Option Best) (s : Stop) → length s.left ≤ n → Short n (stopped best s)
@@ -31,18 +31,18 @@ pub short_ended : (n : ℕ) (o : Option Node) (best : Option Best) (r : Reading)
 short_ended n None best r ts h = short_stopped n best (here ts) h
 short_ended n (Some m) best r ts h = h
 
--- what an outcome leaves is shorter
-abbrev pub Leaves : ℕ → Outcome → Type 0
+-- what a result leaves is shorter
+abbrev pub Leaves : ℕ → ParseResult → Type 0
 Leaves n (Fails s) = length s.left ≤ n
 Leaves n (Reads e rest None) = length rest < n
 Leaves n (Reads e rest (Some s)) = (length rest < n) × (length s.left ≤ n)
 
-pub leaves_of : (j limit : ℕ) (ts : List Token) (o : Outcome) → Fine j limit ts o → Leaves (length ts) o
+pub leaves_of : (j limit : ℕ) (ts : List Token) (o : ParseResult) → Fine j limit ts o → Leaves (length ts) o
 leaves_of j limit ts (Fails s) f = omega (arith, ap length f.text, length-append f.front s.left)
 leaves_of j limit ts (Reads e rest None) f =
-    omega (arith, ap length f.text, length-append f.front rest, part_some j e f.front f.is)
+    omega (arith, ap length f.text, length-append f.front rest, measured_some j e f.front f.is)
 leaves_of j limit ts (Reads e rest (Some s)) f = (
-  omega (arith, ap length f.0.text, length-append f.0.front rest, part_some j e f.0.front f.0.is),
+  omega (arith, ap length f.0.text, length-append f.0.front rest, measured_some j e f.0.front f.0.is),
   omega (arith, ap length f.1.text, length-append f.1.front s.left),
 )
 
@@ -54,7 +54,7 @@ operand_leaves reader limit j high ts fine le =
 abbrev pub Shrinks : Going → Type 0
 Shrinks go = (best : Option Best) (r : Reading) (ts : List Token) → Short (length ts) (go best r ts)
 
-fed_shrinks : (k limit : ℕ) (go : Going) (best : Option Best) (r : Reading) (n : ℕ) (o : Outcome) → Shrinks go
+fed_shrinks : (k limit : ℕ) (go : Going) (best : Option Best) (r : Reading) (n : ℕ) (o : ParseResult) → Shrinks go
     → Leaves n o → Short n (fed k limit go best r o)
 fed_shrinks k limit go best r n (Fails s) shrinks h = short_stopped n best s h
 fed_shrinks k limit go best r n (Reads e rest None) shrinks h = omega (arith, shrinks best (feed r e) rest)
@@ -127,7 +127,7 @@ module _ (reader : ℕ → Reader) (low : ℕ) (fine : AreFine reader low) (k : 
   when_reached fuel best r rest s (Asks j) e h room = absurd cc
   when_reached fuel best r rest s Ends e h room = absurd cc
 
-  pub short_fed : (fuel : ℕ) (best : Option Best) (r : Reading) (n m : ℕ) (o : Outcome) → Leaves m o → m ≤ fuel
+  pub short_fed : (fuel : ℕ) (best : Option Best) (r : Reading) (n m : ℕ) (o : ParseResult) → Leaves m o → m ≤ fuel
       → Short n o → Short n (fed k (suc low) (run (operand_of reader) k (suc low) fuel) best r o)
   short_fed fuel best r n m (Fails s) l room h = short_stopped n best s h
   short_fed fuel best r n m (Reads e rest None) l room h = omega (arith, run_short fuel best (feed r e) rest)

@@ -17,7 +17,7 @@ use Rattle.cat_tree.specs.declared.expression.Literal.TheVariants as literal
 use Rattle.cat_tree.specs.declared.expression.Node.{Node}
 use Rattle.cat_tree.specs.declared.expression.Node.TheVariants as leaf
 use Rattle.cat_tree.specs.declared.expression.Node.TheViews as node
-use Rattle.cat_tree.specs.Phrase.{Phrase, Row, Parts, End, Word, Part, Mark, Rank, ends_in_form, ends_in_match}
+use Rattle.cat_tree.specs.Phrase.{Phrase, Row, Parts, End, Word, Part, Terminal, Rank, ends_in_form, ends_in_match}
 use Rattle.cat_tree.specs.Phrase.{last_in_form, last_in_match, right_strength, left_strength, IsLevelled, AreLevelled}
 use Rattle.cat_tree.specs.Phrase.{At, Anywhere}
 use Rattle.cat_tree.specs.Wording.{◌▹◌, first, key_at, pair_at, symbol_at, «word», words, sign, lower, upper, part}
@@ -99,13 +99,13 @@ part_ended level ps e h hold_is form_is deep levels x some_ nine le =
     let inner = h d.1 x some_ nine (left_is e x (sym form_is ∙ b.0) (omega (arith, d.0, b.1))) in
     omega (arith, hold_is, inner, b.1)
 
-elements_end : (own b k : ℕ) (s : Symbol) (xs : List Phrase) (m : Mark) (ps : Parts)
+elements_end : (own b k : ℕ) (s : Symbol) (xs : List Phrase) (m : Terminal) (ps : Parts)
     → last_hold own b (elements k s xs (Word m ps)) ≡ last_hold own 10 ps
 elements_end own b k s [] m ps = refl
 elements_end own b k s (x ∷ []) m ps = refl
 elements_end own b k s (x ∷ y ∷ xs) m ps = elements_end own 10 k s (y ∷ xs) m ps
 
-fields_end_hold : (own b : ℕ) (xs : List (Name × Phrase)) (m : Mark) (ps : Parts)
+fields_end_hold : (own b : ℕ) (xs : List (Name × Phrase)) (m : Terminal) (ps : Parts)
     → last_hold own b (fields xs (Word m ps)) ≡ last_hold own 10 ps
 fields_end_hold own b [] m ps = refl
 fields_end_hold own b (x ∷ xs) m ps = fields_end_hold own (min own (row_hold x.1)) xs m ps
@@ -180,14 +180,14 @@ prefix_left prefix.GetDay p e h = part_ended 8 (prefix_parts prefix.GetDay p (pa
 prefix_left prefix.NumberOf p e h = part_ended 8 (prefix_parts prefix.NumberOf p (part 8 e ▹ End)) e h refl refl
     (λ d. (d.0, d.1))
 
-pub lists_form : (b : Bool) (n : ℕ) (m : Mark) (ps : Parts)
+pub lists_form : (b : Bool) (n : ℕ) (m : Terminal) (ps : Parts)
     → (last_in_form b (lists_of n (Word m ps)) ≡ last_in_form false ps)
     × ((own c : ℕ) → last_hold own c (lists_of n (Word m ps)) ≡ last_hold own 10 ps)
     × (AreLevelled (lists_of n (Word m ps)) → AreLevelled ps)
 lists_form b zero m ps = (refl, (λ own c. refl), (λ h. h))
 lists_form b (suc n) m ps = let x = lists_form false n m ps in (x.0, (λ own c. x.1 own 10), x.2)
 
-sum_left : (p : Pos) (n : ℕ) (m : Mark) (e : Phrase) → RowHolds e
+sum_left : (p : Pos) (n : ℕ) (m : Terminal) (e : Phrase) → RowHolds e
     → RowHolds (Row (of_level 8) (key_at key.Sum p ▹ lists_of n (Word m («word» key.Of ▹ part 8 e ▹ End))))
 sum_left p n m e h =
     let x = lists_form false n m («word» key.Of ▹ part 8 e ▹ End) in

@@ -4,22 +4,23 @@ use Rattle.std.proofs.Common.{Option, Some, None, refl, sym, ap, subst, ◌∙�
 use Rattle.std.specs.Prelude.{Result, Ok, Err, IfOk}
 use Rattle.cat_lex.specs.declared.token.Token.{Token}
 use Rattle.cat_tree.specs.declared.expression.Node.{Node}
-use Rattle.cat_parse_state.specs.declared.state.Part.{Part}
+use Rattle.cat_parse_state.specs.declared.state.Measured.{Measured}
 use Rattle.cat_parse_state.specs.declared.state.State.{State}
 use Rattle.cat_parse_state.specs.declared.state.Reading.{Reading}
-use Rattle.cat_parse_expr.specs.declared.outcome.Halt.{Halt}
-use Rattle.cat_parse_expr.specs.declared.outcome.Reached.{Reached}
-use Rattle.cat_parse_expr.specs.declared.outcome.Reached.TheVariants as reached
+use Rattle.cat_parse_expr.specs.declared.reached.Halt.{Halt}
+use Rattle.cat_parse_expr.specs.declared.reached.Reached.{Reached}
+use Rattle.cat_parse_expr.specs.declared.reached.Reached.TheVariants as reached
 use Rattle.cat_parse_expr.specs.declared.standing.Standing.{Standing}
 use Rattle.cat_parse_expr.specs.declared.standing.Next.TheVariants as steps
 use Rattle.cat_parse_expr.specs.declared.standing.Turn.{Turn}
 use Rattle.cat_parse_expr.specs.declared.standing.Turn.TheVariants.{Goes, Ends}
 use Rattle.cat_parse_state.specs.Readings.{start, feed, done}
 use Rattle.cat_parse_state.specs.Operands.{takes, needs_part}
-use Rattle.cat_parse_expr.specs.Results.{Outcome}
+use Rattle.cat_parse_expr.specs.Results.{ParseResult}
 use Rattle.cat_parse_expr.specs.Reader.{Best, stopped, Asks, next, fed, nothing_at, operand_of, read}
 use Rattle.cat_parse_expr.specs.inside.Fallback.{fallback}
-use Rattle.cat_parse_expr.specs.inside.Loop.{halt_at, outcome_of, AreWithin, marked, IsKept, IsStanding, going_on}
+use Rattle.cat_parse_expr.specs.inside.Loop.{halt_at, parse_result_of, AreWithin, restored, IsKept, IsStanding}
+use Rattle.cat_parse_expr.specs.inside.Loop.{going_on}
 use Rattle.cat_parse_expr.specs.inside.Loop.{GoesOn}
 use Rattle.cat_parse_expr.specs.inside.Loop.{Leads, IsTurnAt, IsAdvance, IsOperandAt, reached_on}
 use Rattle.cat_parse_expr.proofs.Moves.{takes_low, feed_tallest, feed_wants, done_wants, ends_needs}
@@ -39,11 +40,14 @@ unfinished q j t = by (done q) refl
 -- ---- no operand
 
 pub take_fails : (limit k : ℕ) (tokens : List Token) (s : Standing) (h : Halt) (r : Reached) (tree : Option Node)
-    → IsOperandAt limit k tokens s (reached.Fails h) → tree ≡ fallback s.reading.state → outcome_of tokens r ≡ stopped
-    (marked tokens s.mark tree) (halt_at tokens h) → AreWithin (length tokens) r → IsTurnAt limit k tokens s (Ends r)
+    → IsOperandAt limit k tokens s (reached.Fails h) → tree ≡ fallback s.reading.state
+    → parse_result_of tokens r ≡ stopped
+    (restored tokens s.checkpoint tree) (halt_at tokens h) → AreWithin (length tokens) r
+    → IsTurnAt limit k tokens s (Ends r)
 take_fails limit k tokens s h r tree operand tree_is is within = λ o g.
     let t = turned limit k tokens s (Asks operand.0) o operand.2 g in
-    let best_is = t.kept (unfinished s.reading.state operand.0 operand.1) ∙ ap (marked tokens s.mark) (sym tree_is) in (
+    let best_is = t.kept (unfinished s.reading.state operand.0 operand.1)
+    ∙ ap (restored tokens s.checkpoint) (sym tree_is) in (
       within,
       t.is ∙ ap (fed k limit (going_on limit k t.fuel) t.best s.reading) (sym operand.3)
           ∙ ap (λ (b : Option Best). stopped b (halt_at tokens h)) best_is ∙ sym is,
@@ -52,21 +56,24 @@ take_fails limit k tokens s h r tree operand tree_is is within = λ o g.
 -- ---- an operand
 
 -- what was read of it
-pub record Read (limit j : ℕ) (tokens : List Token) (s : Standing) (e : Part) (place : ℕ) : Type 0 where
+pub record Read (limit j : ℕ) (tokens : List Token) (s : Standing) (e : Measured) (place : ℕ) : Type 0 where
   pub low : s.reading.tallest < limit
   pub height : e.height ≤ limit - 1
   pub on : s.at < place
 
-read_with : (limit j : ℕ) (tokens : List Token) (s : Standing) (e : Part) (place : ℕ) (tried : Option Halt) (b : Bool)
-    → takes s.reading.state ≡ Some j → leb limit s.reading.tallest ≡ b → outcome_of tokens (reached.Reads e place tried)
+read_with : (limit j : ℕ) (tokens : List Token) (s : Standing) (e : Measured) (place : ℕ) (tried : Option Halt)
+    (b : Bool)
+    → takes s.reading.state ≡ Some j → leb limit s.reading.tallest ≡ b
+    → parse_result_of tokens (reached.Reads e place tried)
     ≡ operand_of (read (limit - 1)) b j (drop s.at tokens) → Read limit j tokens s e place
 read_with limit j tokens s e place None true t test is = absurd cc
 read_with limit j tokens s e place (Some h) true t test is = absurd cc
 read_with limit j tokens s e place None false t test is =
-    let fine : Fine j (limit - 1) (drop s.at tokens) (outcome_of tokens (reached.Reads e place None)) =
+    let fine : Fine j (limit - 1) (drop s.at tokens) (parse_result_of tokens (reached.Reads e place None)) =
     subst (Fine j (limit - 1) (drop s.at tokens)) (sym is)
     (read_fine (limit - 1) j (drop s.at tokens) (takes_low s.reading.state j t)) in
-    let leaves = leaves_of j (limit - 1) (drop s.at tokens) (outcome_of tokens (reached.Reads e place None)) fine in
+    let leaves = leaves_of j (limit - 1) (drop s.at tokens)
+    (parse_result_of tokens (reached.Reads e place None)) fine in
     record {
       low = is_below limit s.reading.tallest test;
       height = fine.low;
@@ -74,10 +81,11 @@ read_with limit j tokens s e place None false t test is =
           omega (arith, leaves, length-drop s.at tokens, length-drop place tokens);
     }
 read_with limit j tokens s e place (Some h) false t test is =
-    let fine : Fine j (limit - 1) (drop s.at tokens) (outcome_of tokens (reached.Reads e place (Some h))) =
+    let fine : Fine j (limit - 1) (drop s.at tokens) (parse_result_of tokens (reached.Reads e place (Some h))) =
     subst (Fine j (limit - 1) (drop s.at tokens)) (sym is)
     (read_fine (limit - 1) j (drop s.at tokens) (takes_low s.reading.state j t)) in
-    let leaves = leaves_of j (limit - 1) (drop s.at tokens) (outcome_of tokens (reached.Reads e place (Some h))) fine in
+    let leaves = leaves_of j (limit - 1) (drop s.at tokens)
+    (parse_result_of tokens (reached.Reads e place (Some h))) fine in
     record {
       low = is_below limit s.reading.tallest test;
       height = fine.0.low;
@@ -85,15 +93,15 @@ read_with limit j tokens s e place (Some h) false t test is =
           omega (arith, leaves.0, length-drop s.at tokens, length-drop place tokens);
     }
 
-pub operand_read : (limit k : ℕ) (tokens : List Token) (s : Standing) (e : Part) (place : ℕ) (tried : Option Halt)
+pub operand_read : (limit k : ℕ) (tokens : List Token) (s : Standing) (e : Measured) (place : ℕ) (tried : Option Halt)
     (operand : IsOperandAt limit k tokens s (reached.Reads e place tried)) → Read limit operand.0 tokens s e place
 operand_read limit k tokens s e place tried operand =
     read_with limit operand.0 tokens s e place tried (leb limit s.reading.tallest) operand.1 refl operand.3
 
 abbrev pub after_operand : Standing → Reading → (place : ℕ) → Standing
-after_operand s r place = record { reading = r; at = place; mark = s.mark }
+after_operand s r place = record { reading = r; at = place; checkpoint = s.checkpoint }
 
-module _ (limit k : ℕ) (tokens : List Token) (s : Standing) (standing : IsStanding limit tokens s) (e : Part)
+module _ (limit k : ℕ) (tokens : List Token) (s : Standing) (standing : IsStanding limit tokens s) (e : Measured)
     (place : ℕ) (within : place ≤ length tokens) where
   stands_fed : (j : ℕ) → takes s.reading.state ≡ Some j → Read limit j tokens s e place → IsStanding limit tokens
       (after_operand s (feed s.reading e) place)
@@ -101,7 +109,7 @@ module _ (limit k : ℕ) (tokens : List Token) (s : Standing) (standing : IsStan
       let tall = feed_tallest s.reading e in
       record {
         within = within;
-        mark_within = standing.mark_within;
+        checkpoint_within = standing.checkpoint_within;
         tall = omega (arith, read.low, read.height, tall);
         low = not_high limit (feed s.reading e) (omega (arith, read.low, read.height, tall))
             (λ part. absurd
@@ -118,7 +126,7 @@ module _ (limit k : ℕ) (tokens : List Token) (s : Standing) (standing : IsStan
 
   kept_fed : (j : ℕ) (best : Option Best) → takes s.reading.state ≡ Some j → IsKept tokens s best
       → IsKept tokens (after_operand s (feed s.reading e) place) best
-  kept_fed j best t kept = λ d. kept (unfinished s.reading.state j t) ∙ ap (marked tokens s.mark)
+  kept_fed j best t kept = λ d. kept (unfinished s.reading.state j t) ∙ ap (restored tokens s.checkpoint)
       (sym (fallback_feed s.reading e j t d))
 
   goes_fed : IsOperandAt limit k tokens s (reached.Reads e place None) → IsTurnAt limit k tokens s
@@ -142,7 +150,7 @@ module _ (limit k : ℕ) (tokens : List Token) (s : Standing) (standing : IsStan
   operand_goes more operand is = subst (λ (r : Reading). IsTurnAt limit k tokens s (Goes (after_operand s r place)))
       (sym is) (goes_fed operand)
 
-  leads_from : (turn : Turn) (o : Outcome) → s.at < place → Leads limit k tokens place turn o
+  leads_from : (turn : Turn) (o : ParseResult) → s.at < place → Leads limit k tokens place turn o
       → Leads limit k tokens s.at turn o
   leads_from (Goes more) o lt l = (l.0, omega (arith, l.1), l.2)
   leads_from (Ends r) o lt l = l
@@ -197,11 +205,12 @@ asks_of limit k tokens s same j a = subst (λ (x : Standing). (takes x.reading.s
     × (next k x.reading (drop x.at tokens) ≡ Asks j)) (sym a.0) (a.1, a.2)
 
 pub start_stands : (limit at : ℕ) (tokens : List Token) (r : Reading) → r ≡ start → at ≤ length tokens
-    → IsStanding limit tokens (record { reading = r; at = at; mark = None })
+    → IsStanding limit tokens (record { reading = r; at = at; checkpoint = None })
 start_stands limit at tokens r is within =
-    subst (λ (x : Reading). IsStanding limit tokens (record { reading = x; at = at; mark = None })) (sym is) (record {
+    subst (λ (x : Reading). IsStanding limit tokens (record { reading = x; at = at; checkpoint = None })) (sym is)
+    (record {
       within = within;
-      mark_within = tt;
+      checkpoint_within = tt;
       tall = omega arith;
       low = refl;
       few = omega arith;
@@ -209,9 +218,9 @@ start_stands limit at tokens r is within =
     })
 
 pub start_goes : (limit k at : ℕ) (tokens : List Token) (r : Reading) → r ≡ start → 0 < limit
-    → GoesOn limit k tokens (record { reading = r; at = at; mark = None }) (read limit k (drop at tokens))
+    → GoesOn limit k tokens (record { reading = r; at = at; checkpoint = None }) (read limit k (drop at tokens))
 start_goes limit k at tokens r is positive =
-    subst (λ (x : Reading). GoesOn limit k tokens (record { reading = x; at = at; mark = None })
+    subst (λ (x : Reading). GoesOn limit k tokens (record { reading = x; at = at; checkpoint = None })
     (read limit k (drop at tokens))) (sym is) (record {
       fuel = suc (length (drop at tokens));
       best = None;

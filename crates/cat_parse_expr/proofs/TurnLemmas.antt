@@ -6,9 +6,9 @@ use Rattle.std.proofs.Math.Seq.{drop-cons}
 use Rattle.cat_lex.specs.declared.token.Token.{Token}
 use Rattle.cat_tree.specs.declared.expression.Node.{Node}
 use Rattle.cat_parse_state.specs.declared.state.Reading.{Reading}
-use Rattle.cat_parse_expr.specs.declared.outcome.Halt.{Halt}
-use Rattle.cat_parse_expr.specs.declared.outcome.Mark.{Mark}
-use Rattle.cat_parse_expr.specs.declared.outcome.Reached.{Reached}
+use Rattle.cat_parse_expr.specs.declared.reached.Halt.{Halt}
+use Rattle.cat_parse_expr.specs.declared.reached.Checkpoint.{Checkpoint}
+use Rattle.cat_parse_expr.specs.declared.reached.Reached.{Reached}
 use Rattle.cat_parse_expr.specs.declared.standing.Standing.{Standing}
 use Rattle.cat_parse_expr.specs.declared.standing.Turn.{Turn}
 use Rattle.cat_parse_expr.specs.declared.standing.Turn.TheVariants.{Goes, Ends}
@@ -16,11 +16,12 @@ use Rattle.cat_parse_state.specs.Readings.{done}
 use Rattle.cat_parse_step.specs.Machine.{shift}
 use Rattle.cat_parse_state.specs.Operands.{takes, is_some}
 use Rattle.cat_parse_expr.specs.Reader as spec
-use Rattle.cat_parse_expr.specs.Results.{Stop, Outcome, Reader, too_deep}
+use Rattle.cat_parse_expr.specs.Results.{Stop, ParseResult, Reader, too_deep}
 use Rattle.cat_parse_expr.specs.Reader.{Best, whole, best_of, stopped, ended, Next, Shifted, Asks, asked, next, is_high}
 use Rattle.cat_parse_expr.specs.Reader.{Going, reaches, fed, turn, run, nothing_at, operand_of, read}
-use Rattle.cat_parse_expr.specs.inside.Fallback.{fallback, before, or_else}
-use Rattle.cat_parse_expr.specs.inside.Loop.{halt_at, outcome_of, AreWithin, marked, mark_after, IsMarkWithin, IsKept}
+use Rattle.cat_parse_expr.specs.inside.Fallback.{fallback, last_whole, or_else}
+use Rattle.cat_parse_expr.specs.inside.Loop.{halt_at, parse_result_of, AreWithin, restored, checkpoint_after}
+use Rattle.cat_parse_expr.specs.inside.Loop.{IsCheckpointWithin, IsKept}
 use Rattle.cat_parse_expr.specs.inside.Loop.{IsStanding, going_on, GoesOn, Leads, IsTurnAt, reached_on}
 use Rattle.cat_parse_expr.proofs.Viable.{Follows, next_follows}
 use Rattle.cat_parse_expr.proofs.Keeping.{shift_keeps, tall_shift}
@@ -31,29 +32,33 @@ cut_at tokens at place p lt is next =
     drop-cons tokens at p lt ∙ ap (λ (x : Token). x ∷ drop (suc at) tokens) (sym is)
     ∙ ap (λ (n : ℕ). p ∷ drop n tokens) (sym next)
 
--- what is whole, or else what was kept, stands as the new mark and its tree
-kept_as : (tokens : List Token) (r : Reading) (at : ℕ) (mark : Option Mark) (best : Option Best) (o f : Option Node)
-    → (o ≡ None → best ≡ marked tokens mark f)
-    → best_of o best r (drop at tokens) ≡ marked tokens
+-- what is whole, or else what was kept, stands as the new checkpoint and its tree
+kept_as : (tokens : List Token) (r : Reading) (at : ℕ) (checkpoint : Option Checkpoint) (best : Option Best)
+    (o f : Option Node)
+    → (o ≡ None → best ≡ restored tokens checkpoint f)
+    → best_of o best r (drop at tokens) ≡ restored tokens
     (cond (is_some o) (Some (record
-    { at = at; height = suc r.tallest; in_form = r.in_form; in_match = r.in_match })) mark) (or_else o f)
-kept_as tokens r at mark best None f h = h refl
-kept_as tokens r at mark best (Some n) f h = refl
+    { at = at; height = suc r.tallest; in_form = r.in_form; in_match = r.in_match })) checkpoint) (or_else o f)
+kept_as tokens r at checkpoint best None f h = h refl
+kept_as tokens r at checkpoint best (Some n) f h = refl
 
 pub kept_of : (tokens : List Token) (s : Standing) (best : Option Best) → IsKept tokens s best
-    → best_of (done s.reading.state) best s.reading (drop s.at tokens) ≡ marked tokens
-    (mark_after s.reading s.at s.mark) (before s.reading.state)
-kept_of tokens s best h = kept_as tokens s.reading s.at s.mark best (done s.reading.state) (fallback s.reading.state) h
+    → best_of (done s.reading.state) best s.reading (drop s.at tokens) ≡ restored tokens
+    (checkpoint_after s.reading s.at s.checkpoint) (last_whole s.reading.state)
+kept_of tokens s best h = kept_as tokens s.reading s.at s.checkpoint best (done s.reading.state)
+    (fallback s.reading.state) h
 
-mark_cases : (end at : ℕ) (r : Reading) (mark : Option Mark) (b : Bool) → at ≤ end → IsMarkWithin end mark
-    → IsMarkWithin end (cond b (Some
-    (record { at = at; height = suc r.tallest; in_form = r.in_form; in_match = r.in_match })) mark)
-mark_cases end at r mark true le h = le
-mark_cases end at r mark false le h = h
+checkpoint_cases : (end at : ℕ) (r : Reading) (checkpoint : Option Checkpoint) (b : Bool) → at ≤ end
+    → IsCheckpointWithin end checkpoint
+    → IsCheckpointWithin end (cond b (Some
+    (record { at = at; height = suc r.tallest; in_form = r.in_form; in_match = r.in_match })) checkpoint)
+checkpoint_cases end at r checkpoint true le h = le
+checkpoint_cases end at r checkpoint false le h = h
 
-pub mark_within : (end at : ℕ) (r : Reading) (mark : Option Mark) → at ≤ end → IsMarkWithin end mark
-    → IsMarkWithin end (mark_after r at mark)
-mark_within end at r mark le h = mark_cases end at r mark (is_some (done r.state)) le h
+pub checkpoint_within : (end at : ℕ) (r : Reading) (checkpoint : Option Checkpoint) → at ≤ end
+    → IsCheckpointWithin end checkpoint
+    → IsCheckpointWithin end (checkpoint_after r at checkpoint)
+checkpoint_within end at r checkpoint le h = checkpoint_cases end at r checkpoint (is_some (done r.state)) le h
 
 pub run_turn : (operand : Bool → ℕ → Reader) (k limit fuel : ℕ) (best : Option Best) (r : Reading) (ts : List Token)
     (x : Next) → next k r ts ≡ x → run operand k limit (suc fuel) best r ts ≡ turn operand k limit
@@ -69,20 +74,21 @@ pub next_passes : (k : ℕ) (r : Reading) (ts rest : List Token) (p : Token) →
     → next k r ts ≡ asked (takes r.state)
 next_passes k r ts rest p cut e = ap (next k r) cut ∙ ap (spec.shifted r rest) e
 
--- ---- an outcome that goes on from an index takes its turn there
+-- ---- a result that goes on from an index takes its turn there
 
-abbrev pub TurnOf : (limit k fuel : ℕ) → List Token → Standing → Option Best → Next → Outcome
+abbrev pub TurnOf : (limit k fuel : ℕ) → List Token → Standing → Option Best → Next → ParseResult
 TurnOf limit k fuel tokens s best x =
     turn (operand_of (read (limit - 1))) k limit (going_on limit k fuel) best s.reading (drop s.at tokens) x
 
-pub record Turned (limit k : ℕ) (tokens : List Token) (s : Standing) (x : Next) (o : Outcome) : Type 0 where
+pub record Turned (limit k : ℕ) (tokens : List Token) (s : Standing) (x : Next) (o : ParseResult) : Type 0 where
   pub fuel : ℕ
   pub best : Option Best
   pub room : length (drop s.at tokens) ≤ fuel
   pub kept : IsKept tokens s best
   pub is : o ≡ TurnOf limit k fuel tokens s best x
 
-turned_by : (limit k : ℕ) (tokens : List Token) (s : Standing) (x : Next) (o : Outcome) (fuel : ℕ) (best : Option Best)
+turned_by : (limit k : ℕ) (tokens : List Token) (s : Standing) (x : Next) (o : ParseResult) (fuel : ℕ)
+    (best : Option Best)
     → next k s.reading (drop s.at tokens) ≡ x → length (drop s.at tokens) < fuel → IsKept tokens s best
     → o ≡ going_on limit k fuel best s.reading (drop s.at tokens) → Turned limit k tokens s x o
 turned_by limit k tokens s x o zero best e room kept is = absurd (omega arith)
@@ -94,7 +100,7 @@ turned_by limit k tokens s x o (suc fuel) best e room kept is = record {
   is = is ∙ run_turn (operand_of (read (limit - 1))) k limit fuel best s.reading (drop s.at tokens) x e;
 }
 
-pub turned : (limit k : ℕ) (tokens : List Token) (s : Standing) (x : Next) (o : Outcome)
+pub turned : (limit k : ℕ) (tokens : List Token) (s : Standing) (x : Next) (o : ParseResult)
     → next k s.reading (drop s.at tokens) ≡ x → GoesOn limit k tokens s o → Turned limit k tokens s x o
 turned limit k tokens s x o e g = turned_by limit k tokens s x o g.fuel g.best e g.room g.kept g.is
 
@@ -102,38 +108,42 @@ turned limit k tokens s x o e g = turned_by limit k tokens s x o g.fuel g.best e
 
 module _ (limit k : ℕ) (tokens : List Token) (s : Standing) (standing : IsStanding limit tokens s) (p : Token)
     (more : Reading) (place : ℕ) (next_place : place ≡ suc s.at) (lt : s.at < length tokens)
-    (cut : drop s.at tokens ≡ p ∷ drop place tokens) (e : shift k s.reading p ≡ Some more) (mark : Option Mark)
-    (mark_is : mark ≡ mark_after s.reading s.at s.mark) where
+    (cut : drop s.at tokens ≡ p ∷ drop place tokens) (e : shift k s.reading p ≡ Some more)
+    (checkpoint : Option Checkpoint)
+    (checkpoint_is : checkpoint ≡ checkpoint_after s.reading s.at s.checkpoint) where
   further : Standing
-  further = record { reading = more; at = place; mark = mark }
+  further = record { reading = more; at = place; checkpoint = checkpoint }
 
-  new_mark : IsMarkWithin (length tokens) mark
-  new_mark =
-      subst (IsMarkWithin (length tokens)) (sym mark_is)
-      (mark_within (length tokens) s.at s.reading s.mark standing.within standing.mark_within)
+  new_checkpoint : IsCheckpointWithin (length tokens) checkpoint
+  new_checkpoint =
+      subst (IsCheckpointWithin (length tokens)) (sym checkpoint_is)
+      (checkpoint_within (length tokens) s.at s.reading s.checkpoint standing.within standing.checkpoint_within)
 
   pub further_stands : is_high limit more ≡ false
-      → IsStanding limit tokens (record { reading = more; at = place; mark = mark })
+      → IsStanding limit tokens (record { reading = more; at = place; checkpoint = checkpoint })
   further_stands high = record {
     within = omega arith;
-    mark_within = new_mark;
+    checkpoint_within = new_checkpoint;
     tall = tall_shift k limit s.reading more p e standing.tall standing.low high;
     low = high;
     few = omega (arith, (shift_keeps k s.reading more p e).few, standing.few);
     filled = (shift_keeps k s.reading more p e).filled;
   }
 
-  falls : fallback more.state ≡ before s.reading.state
+  falls : fallback more.state ≡ last_whole s.reading.state
   falls = (shift_keeps k s.reading more p e).falls standing.filled
 
   new_kept : (best : Option Best) → IsKept tokens s best
-      → best_of (done s.reading.state) best s.reading (drop s.at tokens) ≡ marked tokens mark (fallback more.state)
+      → best_of (done s.reading.state) best s.reading (drop s.at tokens)
+      ≡ restored tokens checkpoint (fallback more.state)
   new_kept best kept =
-      kept_of tokens s best kept ∙ ap (λ (m : Option Mark). marked tokens m (before s.reading.state)) (sym mark_is)
-      ∙ ap (marked tokens mark) (sym falls)
+      kept_of tokens s best kept ∙ ap (λ (m : Option Checkpoint). restored tokens m (last_whole s.reading.state))
+      (sym checkpoint_is)
+      ∙ ap (restored tokens checkpoint) (sym falls)
 
-  goes_from : is_high limit more ≡ false → (o : Outcome) → Turned limit k tokens s (Shifted more (drop place tokens)) o
-      → GoesOn limit k tokens (record { reading = more; at = place; mark = mark }) o
+  goes_from : is_high limit more ≡ false → (o : ParseResult)
+      → Turned limit k tokens s (Shifted more (drop place tokens)) o
+      → GoesOn limit k tokens (record { reading = more; at = place; checkpoint = checkpoint }) o
   goes_from high o t =
       let best = best_of (done s.reading.state) t.best s.reading (drop s.at tokens) in
       let ts = drop s.at tokens in
@@ -148,7 +158,7 @@ module _ (limit k : ℕ) (tokens : List Token) (s : Standing) (standing : IsStan
       }
 
   pub word_goes : is_high limit more ≡ false
-      → IsTurnAt limit k tokens s (Goes (record { reading = more; at = place; mark = mark }))
+      → IsTurnAt limit k tokens s (Goes (record { reading = more; at = place; checkpoint = checkpoint }))
   word_goes high =
       λ o g. (
         further_stands high,
@@ -159,15 +169,17 @@ module _ (limit k : ℕ) (tokens : List Token) (s : Standing) (standing : IsStan
       )
 
   pub word_high : (r : Reached) (tree : Option Node) → tree ≡ fallback more.state → is_high limit more ≡ true
-      → outcome_of tokens r ≡ stopped (marked tokens mark tree) (halt_at tokens (record { at = s.at; deep = true }))
-      → (IsMarkWithin (length tokens) mark → AreWithin (length tokens) r) → IsTurnAt limit k tokens s (Ends r)
+      → parse_result_of tokens r ≡ stopped (restored tokens checkpoint tree)
+      (halt_at tokens (record { at = s.at; deep = true }))
+      → (IsCheckpointWithin (length tokens) checkpoint → AreWithin (length tokens) r)
+      → IsTurnAt limit k tokens s (Ends r)
   word_high r tree tree_is high is within = λ o g.
       let ts = drop s.at tokens in
       let t = turned limit k tokens s (Shifted more (drop place tokens)) o
       (next_takes k s.reading more ts (drop place tokens) p cut e) g in
       let best = best_of (done s.reading.state) t.best s.reading ts in
-      let same = ap (λ (n : Option Node). stopped (marked tokens mark n) (too_deep ts)) tree_is in (
-        within new_mark,
+      let same = ap (λ (n : Option Node). stopped (restored tokens checkpoint n) (too_deep ts)) tree_is in (
+        within new_checkpoint,
         t.is ∙ ap (λ (b : Bool). cond b (stopped best (too_deep ts))
             (going_on limit k t.fuel best more (drop place tokens))) high
             ∙ ap (λ (b : Option Best). stopped b (too_deep ts)) (new_kept t.best t.kept) ∙ sym (is ∙ same),
@@ -178,7 +190,7 @@ module _ (limit k : ℕ) (tokens : List Token) (s : Standing) (standing : IsStan
 pub no_word_ends : (limit k : ℕ) (tokens : List Token) (s : Standing) (r : Reached)
     → next k s.reading (drop s.at tokens) ≡ asked (takes s.reading.state) → takes s.reading.state ≡ None
     → ((best : Option Best) → IsKept tokens s best
-    → outcome_of tokens r ≡ ended (done s.reading.state) best s.reading (drop s.at tokens))
+    → parse_result_of tokens r ≡ ended (done s.reading.state) best s.reading (drop s.at tokens))
     → AreWithin (length tokens) r → IsTurnAt limit k tokens s (Ends r)
 no_word_ends limit k tokens s r e none gives within = λ o g.
     let t = turned limit k tokens s spec.Ends o (e ∙ ap asked none) g in
@@ -188,18 +200,20 @@ no_word_ends limit k tokens s r e none gives within = λ o g.
 
 -- it stops there, and falls back on what is whole, or was
 pub breaks_off : (limit k fuel : ℕ) (tokens : List Token) (s : Standing) (h : Halt) (best : Option Best) (r : Reached)
-    (mark : Option Mark) (tree : Option Node) → IsStanding limit tokens s → mark ≡ mark_after s.reading s.at s.mark
-    → tree ≡ before s.reading.state
+    (checkpoint : Option Checkpoint) (tree : Option Node) → IsStanding limit tokens s
+    → checkpoint ≡ checkpoint_after s.reading s.at s.checkpoint
+    → tree ≡ last_whole s.reading.state
     → reaches limit (next k s.reading (drop s.at tokens)) (halt_at tokens h) ≡ false → IsKept tokens s best
-    → outcome_of tokens r ≡ stopped (marked tokens mark tree) (halt_at tokens h)
-    → (IsMarkWithin (length tokens) mark → AreWithin (length tokens) r)
+    → parse_result_of tokens r ≡ stopped (restored tokens checkpoint tree) (halt_at tokens h)
+    → (IsCheckpointWithin (length tokens) checkpoint → AreWithin (length tokens) r)
     → Leads limit k tokens s.at (Ends r) (reached_on limit k fuel tokens s h best)
-breaks_off limit k fuel tokens s h best r mark tree standing mark_is tree_is miss kept is within =
+breaks_off limit k fuel tokens s h best r checkpoint tree standing checkpoint_is tree_is miss kept is within =
     let stop = halt_at tokens h in
-    let fits = subst (IsMarkWithin (length tokens)) (sym mark_is)
-    (mark_within (length tokens) s.at s.reading s.mark standing.within standing.mark_within) in
-    let same = ap (λ (m : Option Mark). stopped (marked tokens m tree) stop) mark_is
-    ∙ ap (λ (n : Option Node). stopped (marked tokens (mark_after s.reading s.at s.mark) n) stop) tree_is in (
+    let fits = subst (IsCheckpointWithin (length tokens)) (sym checkpoint_is)
+    (checkpoint_within (length tokens) s.at s.reading s.checkpoint standing.within standing.checkpoint_within) in
+    let same = ap (λ (m : Option Checkpoint). stopped (restored tokens m tree) stop) checkpoint_is
+    ∙ ap (λ (n : Option Node). stopped (restored tokens (checkpoint_after s.reading s.at s.checkpoint) n) stop) tree_is
+    in (
       within fits,
       ap (λ (b : Bool). cond b (going_on limit k fuel best s.reading (drop s.at tokens))
           (stopped (best_of (done s.reading.state) best s.reading (drop s.at tokens)) stop)) miss

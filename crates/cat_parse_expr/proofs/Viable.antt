@@ -5,14 +5,14 @@ use Rattle.std.proofs.Common.{inr}
 use Rattle.std.proofs.lemmas.Bool.{cases_lt, le-leb}
 use Rattle.cat_lex.specs.declared.token.Token.{Token}
 use Rattle.cat_tree.specs.declared.expression.Node.{Node}
-use Rattle.cat_parse_state.specs.declared.state.Part.{Part}
+use Rattle.cat_parse_state.specs.declared.state.Measured.{Measured}
 use Rattle.cat_parse_state.specs.declared.state.Reading.{Reading}
 use Rattle.cat_parse_state.specs.Readings.{start, feed, done}
 use Rattle.cat_parse_step.specs.Machine.{shift}
 use Rattle.cat_parse_state.specs.Operands.{takes, needs_part, is_some}
-use Rattle.cat_parse_expr.proofs.Rows.{IsPart, Reached}
+use Rattle.cat_parse_expr.proofs.Rows.{IsMeasured, Reached}
 use Rattle.cat_parse_expr.proofs.Meaning.{Begins}
-use Rattle.cat_parse_expr.specs.Results.{Stop, Outcome, Fails, Reads, Reader, here, too_deep}
+use Rattle.cat_parse_expr.specs.Results.{Stop, ParseResult, Fails, Reads, Reader, here, too_deep}
 use Rattle.cat_parse_expr.specs.Reader.{Best, whole, best_of, stopped, ended, Next, Shifted, Asks, Ends, asked, shifted}
 use Rattle.cat_parse_expr.specs.Reader.{next, is_high, Going, reaches, fed, turn, run, starts, operand_of, read}
 use Rattle.cat_parse_expr.proofs.Laws.{reached_start, reached_shift, reached_feed, reached_done, reached_begins}
@@ -25,13 +25,13 @@ pub record Viable (k : ℕ) (ts : List Token) (s : Stop) : Type 0 where
   pub deeper : s.deep ≡ true → (p : Token) × (r : List Token) × (s.left ≡ p ∷ r) × Begins k (front ++ p ∷ [])
 
 -- what was read: its text, and that it isn't too high
-pub record Taken (k limit : ℕ) (ts : List Token) (e : Part) (rest : List Token) : Type 0 where
+pub record Taken (k limit : ℕ) (ts : List Token) (e : Measured) (rest : List Token) : Type 0 where
   pub front : List Token
   pub text : ts ≡ front ++ rest
-  pub is : IsPart k e front
+  pub is : IsMeasured k e front
   pub low : e.height ≤ limit
 
-abbrev pub Fine : (k limit : ℕ) → List Token → Outcome → Type 0
+abbrev pub Fine : (k limit : ℕ) → List Token → ParseResult → Type 0
 Fine k limit ts (Fails s) = Viable k ts s
 Fine k limit ts (Reads e rest None) = Taken k limit ts e rest
 Fine k limit ts (Reads e rest (Some s)) = Taken k limit ts e rest × Viable k ts s
@@ -44,7 +44,7 @@ pub record Stands (k : ℕ) (all : List Token) (r : Reading) (ts : List Token) :
 
 abbrev pub BestFine : (k limit : ℕ) → List Token → Option Best → Type 0
 BestFine k limit all None = Unit {0}
-BestFine k limit all (Some b) = Taken k limit all b.part b.rest
+BestFine k limit all (Some b) = Taken k limit all b.expression b.rest
 
 abbrev pub IsLow : (limit : ℕ) → Reading → Type 0
 IsLow limit r = (n : Node) → done r.state ≡ Some n → r.tallest < limit
@@ -59,7 +59,7 @@ lift_begins k j r front text h t b =
     record {
       tree = c.tree;
       rest = b.rest ++ c.rest;
-      is = subst (IsPart k c.tree) (ap (λ (w : List Token). w ++ c.rest) (sym (append_assoc front text b.rest))
+      is = subst (IsMeasured k c.tree) (ap (λ (w : List Token). w ++ c.rest) (sym (append_assoc front text b.rest))
           ∙ append_assoc (front ++ text) b.rest c.rest) c.is;
     }
 
@@ -103,7 +103,8 @@ stands_shift k all r more p ts h e = record {
   reached = reached_shift k r more p h.front h.reached e;
 }
 
-pub stands_feed : (k j limit : ℕ) (all : List Token) (r : Reading) (ts rest : List Token) (e : Part) → Stands k all r ts
+pub stands_feed : (k j limit : ℕ) (all : List Token) (r : Reading) (ts rest : List Token) (e : Measured)
+    → Stands k all r ts
     → takes r.state ≡ Some j → Taken j limit ts e rest → Stands k all (feed r e) rest
 stands_feed k j limit all r ts rest e h t i = record {
   front = h.front ++ i.front;
@@ -162,7 +163,7 @@ nothing_fine k ts le = record {
 }
 
 -- what an operand says, where the whole is too high it is nothing
-abbrev pub OperandFine : (j limit : ℕ) → Bool → List Token → Outcome → Type 0
+abbrev pub OperandFine : (j limit : ℕ) → Bool → List Token → ParseResult → Type 0
 OperandFine j limit high ts o = Fine j limit ts o × (high ≡ true → (s : Stop) × (o ≡ Fails s))
 
 pub operand_fine : (reader : ℕ → Reader) (limit j : ℕ) (high : Bool) (ts : List Token) → AreFine reader limit → j ≤ 9
@@ -171,17 +172,17 @@ operand_fine reader limit j true ts fine le =
     (nothing_fine j ts le, λ h. (record { left = ts; deep = starts j ts }, refl))
 operand_fine reader limit j false ts fine le = (fine j ts le, λ h. absurd cc)
 
-pub low_feed : (limit : ℕ) (r : Reading) (e : Part) → r.tallest < suc limit → e.height ≤ limit
+pub low_feed : (limit : ℕ) (r : Reading) (e : Measured) → r.tallest < suc limit → e.height ≤ limit
     → IsLow (suc limit) (feed r e)
 low_feed limit r e a b n d = omega (arith, feed_tallest r e)
 
-pub if_fine : (k limit : ℕ) (all : List Token) (a b : Outcome) (c : Bool) → Fine k limit all a → Fine k limit all b
+pub if_fine : (k limit : ℕ) (all : List Token) (a b : ParseResult) (c : Bool) → Fine k limit all a → Fine k limit all b
     → Fine k limit all (cond c a b)
 if_fine k limit all a b true fa fb = fa
 if_fine k limit all a b false fa fb = fb
 
 pub fed_fine : (k j limit : ℕ) (all : List Token) (go : Going) (best : Option Best) (r : Reading) (ts : List Token)
-    (o : Outcome) → Keeps k (suc limit) all go → BestFine k (suc limit) all best → Stands k all r ts
+    (o : ParseResult) → Keeps k (suc limit) all go → BestFine k (suc limit) all best → Stands k all r ts
     → takes r.state ≡ Some j → r.tallest < suc limit → Fine j limit ts o → Fine k (suc limit) all
     (fed k (suc limit) go best r o)
 fed_fine k j limit all go best r ts (Fails s) keeps b h t low f =

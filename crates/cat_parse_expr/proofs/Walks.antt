@@ -14,10 +14,10 @@ use Rattle.cat_tree.specs.Phrase.{IsLevelled, IsSpelling, AreSpelled, At, Anywhe
 use Rattle.cat_tree.specs.Operators.{prefix_level, operator_level}
 use Rattle.cat_tree.specs.Grammar.{phrase}
 use Rattle.cat_parse_state.specs.declared.state.State.{State}
-use Rattle.cat_parse_state.specs.declared.state.Part.{Part as Found}
+use Rattle.cat_parse_state.specs.declared.state.Measured.{Measured}
 use Rattle.cat_parse_state.specs.declared.state.Reading.{Reading}
 use Rattle.cat_lex.specs.declared.token.TokenKind.{TokenKind}
-use Rattle.cat_parse_expr.proofs.Rows.{IsPart}
+use Rattle.cat_parse_expr.proofs.Rows.{IsMeasured}
 use Rattle.cat_parse_step.specs.Words.{Move, Onward}
 use Rattle.cat_parse_state.specs.Readings.{feed, done}
 use Rattle.cat_parse_step.specs.Machine.{step, strength_of, moved, shift}
@@ -34,8 +34,8 @@ use Rattle.cat_parse_expr.proofs.Meaning.{Item, Tok, Sub, text, Calm, Path}
 abbrev pub reading_at : State → ℕ → Bool → Bool → Reading
 reading_at q high b c = record { state = q; tallest = high; in_form = b; in_match = c }
 
-abbrev pub part_of : Node → Found
-part_of e =
+abbrev pub measured_of : Node → Measured
+measured_of e =
     record {
       node = e;
       height = height (phrase e);
@@ -43,9 +43,9 @@ part_of e =
       in_match = ends_in_match (phrase e);
     }
 
-pub part_is : (i : ℕ) (e : Node) (f : List Token) → i ≤ right_strength (phrase e) → i ≤ 9 → IsLevelled (phrase e)
-    → IsSpelling (phrase e) f → IsPart i (part_of e) f
-part_is i e f le low levels sp =
+pub measured_is : (i : ℕ) (e : Node) (f : List Token) → i ≤ right_strength (phrase e) → i ≤ 9 → IsLevelled (phrase e)
+    → IsSpelling (phrase e) f → IsMeasured i (measured_of e) f
+measured_is i e f le low levels sp =
     record {
       row = record {
         levels = levels;
@@ -127,12 +127,12 @@ fed_reading r e =
     reading_at (fed_state r.state e (ends_in_match (phrase e))) (max r.tallest (height (phrase e)))
     (ends_form r.state || ends_in_form (phrase e)) (ends_match r.state || ends_in_match (phrase e))
 
-pub fed_is : (r : Reading) (e : Node) → feed r (part_of e) ≡ fed_reading r e
+pub fed_is : (r : Reading) (e : Node) → feed r (measured_of e) ≡ fed_reading r e
 unfolding feed
 fed_is r e = refl
 
 pub calm_record : (i : ℕ) (e : Node) (t : Token) (us : List Token) → sign_pull t.kind us ≤ row_hold (phrase e)
-    → follow_pull (follow_of t.kind) us ≤ i → Calm i (part_of e) (t ∷ us)
+    → follow_pull (follow_of t.kind) us ≤ i → Calm i (measured_of e) (t ∷ us)
 unfolding pull op_pull hold
 calm_record i e t us a b = record { inside = a; outside = b }
 
@@ -152,13 +152,13 @@ part_word k bound i r n e s kd ps ts q sp t le low levels calm st go =
     let w = go word.1 word.4 in
     let same = fed_is r e in
     record {
-      items = Sub (part_of e) sp.0 ∷ Tok word.0 ∷ w.items;
+      items = Sub (measured_of e) sp.0 ∷ Tok word.0 ∷ w.items;
       end = w.end;
       spelled = sp.2 ∙ ap (λ (us : List Token). sp.0 ++ us) (word.2 ∙ ap (λ (us : List Token). word.0 ∷ us) w.spelled);
       way = (
         i,
         t,
-        part_is i e sp.0 le low levels sp.3,
+        measured_is i e sp.0 le low levels sp.3,
         (λ rest. by word.0 word.1 w.items w.spelled word.3 rest word.4),
         subst
             (λ (x : Reading). Path k bound x (Tok word.0 ∷ w.items) w.end) (sym same) (
@@ -173,7 +173,7 @@ part_word k bound i r n e s kd ps ts q sp t le low levels calm st go =
     }
   where
     by : (t : Token) (us : List Token) (items : List Item) → us ≡ text items → t.kind ≡ kd → (rest : List Token)
-        → AreSpelled ps us → Calm i (part_of e) (t ∷ (text items ++ rest))
+        → AreSpelled ps us → Calm i (measured_of e) (t ∷ (text items ++ rest))
     by t us items same kt rest more =
         let c = calm us rest more in
         calm_record i e t (text items ++ rest)
@@ -185,13 +185,13 @@ part_word k bound i r n e s kd ps ts q sp t le low levels calm st go =
 -- the last operand
 pub part_end : (k bound i : ℕ) (r : Reading) (n e : Node) (s : Stand) (ts : List Token)
     → AreSpelled (Part s (phrase e) End) ts → takes r.state ≡ Some i → i ≤ right_strength (phrase e) → i ≤ 9
-    → IsLevelled (phrase e) → ((rest : List Token) → pull rest ≤ bound → Calm i (part_of e) rest)
+    → IsLevelled (phrase e) → ((rest : List Token) → pull rest ≤ bound → Calm i (measured_of e) rest)
     → done (fed_reading r e).state ≡ Some n → Walk k bound r n ts
 part_end k bound i r n e s ts sp t le low levels calm d = record {
-  items = Sub (part_of e) sp.0 ∷ [];
+  items = Sub (measured_of e) sp.0 ∷ [];
   end = fed_reading r e;
   spelled = sp.2 ∙ ap (λ (us : List Token). sp.0 ++ us) sp.4;
-  way = (i, t, part_is i e sp.0 le low levels sp.3, calm, fed_is r e);
+  way = (i, t, measured_is i e sp.0 le low levels sp.3, calm, fed_is r e);
   finished = d;
 }
 
@@ -283,7 +283,7 @@ unfolding op_pull
 op_apart o [] h = omega arith
 op_apart o (t ∷ ts) h = follow_apart o (follow_of t.kind) ts h
 
-pub calm_part : (i : ℕ) (e : Node) (rest : List Token) → pull rest ≤ row_hold (phrase e) → op_pull rest ≤ i
-    → Calm i (part_of e) rest
+pub calm_measured : (i : ℕ) (e : Node) (rest : List Token) → pull rest ≤ row_hold (phrase e) → op_pull rest ≤ i
+    → Calm i (measured_of e) rest
 unfolding hold
-calm_part i e rest a b = record { inside = a; outside = b }
+calm_measured i e rest a b = record { inside = a; outside = b }

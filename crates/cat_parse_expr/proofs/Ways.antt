@@ -17,7 +17,7 @@ use Rattle.cat_tree.specs.declared.expression.Pattern.{Pattern}
 use Rattle.cat_tree.specs.declared.expression.Node.{Node}
 use Rattle.cat_tree.specs.declared.expression.Node.TheVariants as leaf
 use Rattle.cat_tree.specs.declared.expression.Node.TheViews as node
-use Rattle.cat_tree.specs.Phrase.{Phrase, Row, Parts, End, Word, Mark, right_strength, IsLevelled, IsSpelling, At}
+use Rattle.cat_tree.specs.Phrase.{Phrase, Row, Parts, End, Word, Terminal, right_strength, IsLevelled, IsSpelling, At}
 use Rattle.cat_tree.specs.Wording.{◌▹◌, first, key_at, pair_at, symbol_at, «word», words, sign, lower, upper, part}
 use Rattle.cat_tree.specs.Wording.{left, of_level, form, if_some, match_of}
 use Rattle.cat_tree.specs.Literals.{case_parts, lists_of, type_parts, base_kind, literal_parts, literal_rank}
@@ -28,9 +28,9 @@ use Rattle.cat_tree.proofs.Exported.{field_row, arm_row, phrase_Literal, phrase_
 use Rattle.cat_tree.proofs.Exported.{phrase_Field, phrase_Prefixed, phrase_Sum, phrase_Content, phrase_Call}
 use Rattle.cat_tree.proofs.Exported.{phrase_Binary, phrase_Test, phrase_List, phrase_Structure, phrase_ScopeCall}
 use Rattle.cat_tree.proofs.Exported.{phrase_If, phrase_Match, phrase_Each, phrase_Combine}
-use Rattle.cat_parse_state.specs.declared.state.Part.{Part as Found}
+use Rattle.cat_parse_state.specs.declared.state.Measured.{Measured}
 use Rattle.cat_parse_state.specs.declared.state.Reading.{Reading}
-use Rattle.cat_parse_expr.proofs.Rows.{IsPart}
+use Rattle.cat_parse_expr.proofs.Rows.{IsMeasured}
 use Rattle.cat_parse_state.specs.Readings.{done, start}
 use Rattle.cat_parse_expr.proofs.Hold.{hold, row_hold}
 use Rattle.cat_parse_expr.proofs.Meaning.{Item, Tok, Sub, text, Path, HasPath}
@@ -79,7 +79,7 @@ each_bound each.Exists p w l e = omega arith
 each_bound each.MapEach p w l e = omega arith
 each_bound each.ListOf p w l e = omega arith
 
-sum_bound : (p : Pos) (n : ℕ) (m : Mark) (e : Phrase)
+sum_bound : (p : Pos) (n : ℕ) (m : Terminal) (e : Phrase)
     → row_hold (Row (of_level 8) (key_at key.Sum p ▹ lists_of n (Word m («word» key.Of ▹ part 8 e ▹ End)))) ≤ min 9
     (row_hold e)
 sum_bound p n m e = omega (arith, (lists_form false n m («word» key.Of ▹ part 8 e ▹ End)).1 9 10)
@@ -163,13 +163,13 @@ has_way = induction HasWay
     ▹ «word» key.Initially ▹ part 0 (phrase z) ▹ «word» key.With ▹ part 0 (phrase e) ▹ End))
     (phrase_Combine p w l acc z e) (λ k. combine_goes k (min 1 (row_hold (phrase e))) p w l acc z e (omega arith)))
 
-part_same : (a : Found) (h : ℕ) (b c : Bool) → h ≡ a.height → b ≡ a.in_form → c ≡ a.in_match
+measured_same : (a : Measured) (h : ℕ) (b c : Bool) → h ≡ a.height → b ≡ a.in_form → c ≡ a.in_match
     → record { node = a.node; height = h; in_form = b; in_match = c } ≡ a
-part_same a h b c eh eb ec = ap (λ (x : ℕ). record { node = a.node; height = x; in_form = b; in_match = c }) eh
+measured_same a h b c eh eb ec = ap (λ (x : ℕ). record { node = a.node; height = x; in_form = b; in_match = c }) eh
     ∙ ap (λ (x : Bool). record { node = a.node; height = a.height; in_form = x; in_match = c }) eb
     ∙ ap (λ (x : Bool). record { node = a.node; height = a.height; in_form = a.in_form; in_match = x }) ec
 
-pub path : (k : ℕ) (e : Found) (front : List Token) → IsPart k e front → HasPath k e front
+pub path : (k : ℕ) (e : Measured) (front : List Token) → IsMeasured k e front → HasPath k e front
 unfolding hold
 path k e front is =
     let w = has_way e.node k front is.row.stands is.row.low is.row.levels is.row.spelled in
@@ -181,7 +181,7 @@ path k e front is =
       spelled = w.spelled;
       way = w.way;
       finished = w.finished;
-      is = part_same e (suc w.end.tallest) w.end.in_form w.end.in_match (d.row.tall_is ∙ sym is.row.tall_is)
+      is = measured_same e (suc w.end.tallest) w.end.in_form w.end.in_match (d.row.tall_is ∙ sym is.row.tall_is)
           (d.row.form_is ∙ sym is.row.form_is) (d.row.match_is ∙ sym is.row.match_is);
     }
 
@@ -191,6 +191,6 @@ items_some k bound [] end n t d = absurd (start_open n (ap (λ (x : Reading). do
 items_some k bound (Tok p ∷ items) end n t d = omega arith
 items_some k bound (Sub e f ∷ items) end n t d = let h : None ≡ Some t.0 = sym start_asks ∙ t.1 in absurd cc
 
-pub part_some : (k : ℕ) (e : Found) (front : List Token) → IsPart k e front → 0 < length front
-part_some k e front is = let t = path k e front is in
+pub measured_some : (k : ℕ) (e : Measured) (front : List Token) → IsMeasured k e front → 0 < length front
+measured_some k e front is = let t = path k e front is in
     omega (arith, ap length t.spelled, items_some k (hold e.node) t.items t.end e.node t.way t.finished)

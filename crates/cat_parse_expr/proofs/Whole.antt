@@ -7,30 +7,31 @@ use Rattle.std.proofs.lemmas.Bool.Decides.{nat_tests}
 use Rattle.std.proofs.lemmas.List.{append-nil, length-append}
 use Rattle.cat_lex.specs.declared.token.Token.{Token}
 use Rattle.cat_tree.specs.declared.expression.Node.{Node}
-use Rattle.cat_parse_state.specs.declared.state.Part.{Part}
+use Rattle.cat_parse_state.specs.declared.state.Measured.{Measured}
 use Rattle.cat_parse_state.specs.declared.state.Reading.{Reading}
 use Rattle.cat_parse_state.specs.Readings.{start, feed, done}
 use Rattle.cat_parse_step.specs.Machine.{shift}
 use Rattle.cat_parse_state.specs.Operands.{takes, needs_part, is_some}
-use Rattle.cat_parse_expr.proofs.Rows.{IsPart, Reached}
+use Rattle.cat_parse_expr.proofs.Rows.{IsMeasured, Reached}
 use Rattle.cat_parse_expr.proofs.Hold.{pull, hold}
 use Rattle.cat_parse_expr.proofs.Meaning.{Calm, Stops, Item, Tok, Sub, text, CalmAt, Path, Trail, Taker}
-use Rattle.cat_parse_expr.specs.Results.{Outcome, Reads, Reader, here, too_deep}
+use Rattle.cat_parse_expr.specs.Results.{ParseResult, Reads, Reader, here, too_deep}
 use Rattle.cat_parse_expr.specs.Reader.{Best, whole, best_of, stopped, ended, Next, Shifted, Asks, Ends, asked, shifted}
 use Rattle.cat_parse_expr.specs.Reader.{next, is_high, Going, reaches, fed, turn, run, starts, operand_of, read}
-use Rattle.cat_parse_expr.proofs.Laws.{reached_start, reached_shift, reached_feed, part_high, calm_stops, part_level}
-use Rattle.cat_parse_expr.proofs.Ways.{part_some, path}
+use Rattle.cat_parse_expr.proofs.Laws.{reached_start, reached_shift, reached_feed, measured_high, calm_stops}
+use Rattle.cat_parse_expr.proofs.Laws.{measured_level}
+use Rattle.cat_parse_expr.proofs.Ways.{measured_some, path}
 use Rattle.cat_parse_expr.proofs.Moves.{feed_tallest, start_open, start_asks, shift_tallest, feed_wants, no_word}
 use Rattle.cat_parse_expr.proofs.Moves.{done_needs, ends_needs, needs_no_word}
 use Rattle.cat_parse_expr.proofs.Viable.{Follows, next_follows}
 
 -- the expression was read, and a longer one broke off behind the next token at most
-abbrev pub IsWhole : Part → List Token → Outcome → Type 0
+abbrev pub IsWhole : Measured → List Token → ParseResult → Type 0
 IsWhole e rest o = (o ≡ Reads e rest None) ⊎ ((p : Token) × (ts : List Token) × (rest ≡ p ∷ ts)
     × (o ≡ Reads e rest (Some (here ts))) × Taker p)
 
 abbrev pub AreWhole : (ℕ → Reader) → (limit : ℕ) → Type 0
-AreWhole reader limit = (j : ℕ) (e : Part) (front rest : List Token) → IsPart j e front → e.height ≤ limit
+AreWhole reader limit = (j : ℕ) (e : Measured) (front rest : List Token) → IsMeasured j e front → e.height ≤ limit
     → Calm j e rest → IsWhole e rest (reader j (front ++ rest))
 
 pub trail_grows : (k : ℕ) (rest : List Token) (items : List Item) (r end : Reading) → Trail k rest r items end
@@ -41,7 +42,8 @@ trail_grows k rest (Tok p ∷ items) r end t =
 trail_grows k rest (Sub e f ∷ items) r end t =
     omega (arith, feed_tallest r e, trail_grows k rest items (feed r e) end t.4)
 
-pub part_grows : (k : ℕ) (rest : List Token) (items : List Item) (r end : Reading) (e : Part) → Trail k rest (feed r e)
+pub part_grows : (k : ℕ) (rest : List Token) (items : List Item) (r end : Reading) (e : Measured)
+    → Trail k rest (feed r e)
     items end → (e.height ≤ end.tallest) × (r.tallest ≤ end.tallest)
 part_grows k rest items r end e t = let g = trail_grows k rest items (feed r e) end t in
     (omega (arith, feed_tallest r e), omega (arith, feed_tallest r e))
@@ -59,14 +61,14 @@ head_of k bound [] end n t d = absurd (start_open n (ap (λ (x : Reading). done 
 head_of k bound (Tok p ∷ items) end n t d = (p, t.0, text items, refl, t.1)
 head_of k bound (Sub e f ∷ items) end n t d = let h : None ≡ Some t.0 = sym start_asks ∙ t.1 in absurd cc
 
-pub head : (k : ℕ) (e : Part) (front : List Token) → IsPart k e front → (p : Token) × (more : Reading)
+pub head : (k : ℕ) (e : Measured) (front : List Token) → IsMeasured k e front → (p : Token) × (more : Reading)
     × (ts : List Token) × (front ≡ p ∷ ts) × (shift k start p ≡ Some more)
 head k e front is =
     let t = path k e front is in
     let h = head_of k (hold e.node) t.items t.end e.node t.way t.finished in
     (h.0, h.1, h.2, t.spelled ∙ h.3, h.4)
 
-pub calm_at : (bound : ℕ) (items : List Item) (j : ℕ) (e : Part) (rest : List Token) → pull rest ≤ bound
+pub calm_at : (bound : ℕ) (items : List Item) (j : ℕ) (e : Measured) (rest : List Token) → pull rest ≤ bound
     → CalmAt bound items j e → Calm j e (text items ++ rest)
 calm_at bound [] j e rest le c = c rest le
 calm_at bound (i ∷ items) j e rest le c = c rest
@@ -88,7 +90,8 @@ pub asks_at : (k j : ℕ) (r more : Reading) (p : Token) (ts : List Token) → t
     → shift j start p ≡ Some more → next k r (p ∷ ts) ≡ Asks j
 asks_at k j r more p ts t e = ap (shifted r ts) (no_word k j r more p t e) ∙ ap asked t
 
-pub next_asks : (k j : ℕ) (r : Reading) (e : Part) (front rest : List Token) → takes r.state ≡ Some j → IsPart j e front
+pub next_asks : (k j : ℕ) (r : Reading) (e : Measured) (front rest : List Token) → takes r.state ≡ Some j
+    → IsMeasured j e front
     → next k r (front ++ rest) ≡ Asks j
 next_asks k j r e front rest t is =
     let h = head j e front is in
@@ -128,7 +131,7 @@ trail_low k rest items more end n low t d fits =
     by [] t h = absurd (no_test (needs_part end.state) (done_needs end.state n d)
         (ap (λ (x : Reading). needs_part x.state) (sym t) ∙ h))
     by (Tok p ∷ items) t h = absurd (needs_no_word k more t.0 p h t.1)
-    by (Sub e f ∷ items) t h = omega (arith, part_high t.0 e f t.2, (part_grows k rest items more end e t.4).0)
+    by (Sub e f ∷ items) t h = omega (arith, measured_high t.0 e f t.2, (part_grows k rest items more end e t.4).0)
 
 pub reaches_on : (limit : ℕ) (more : Reading) (ts : List Token) → is_high limit more ≡ false
     → reaches limit (Shifted more ts) (here ts) ≡ true
@@ -154,8 +157,9 @@ module _ (reader : ℕ → Reader) (low k : ℕ) where
       (going fuel (best_of (done r.state) best r (p ∷ ts)) more ts)) low_is
 
   -- an operand is read, and then what comes after it
-  pub run_feed : (fuel j : ℕ) (best : Option Best) (r : Reading) (e : Part) (front ts : List Token)
-      → takes r.state ≡ Some j → IsPart j e front → r.tallest < suc low → going (suc fuel) best r (front ++ ts) ≡ fed k
+  pub run_feed : (fuel j : ℕ) (best : Option Best) (r : Reading) (e : Measured) (front ts : List Token)
+      → takes r.state ≡ Some j → IsMeasured j e front → r.tallest < suc low
+      → going (suc fuel) best r (front ++ ts) ≡ fed k
       (suc low) (going fuel) best r (reader j (front ++ ts))
   run_feed fuel j best r e front ts t is lt =
       run_is fuel best r (front ++ ts) (Asks j) (next_asks k j r e front ts t is)
@@ -170,11 +174,11 @@ module _ (reader : ℕ → Reader) (low : ℕ) (wholes : AreWhole reader low) (k
   go fuel = run (operand_of reader) k (suc low) fuel
 
   -- reading comes to the end of the trail, or breaks off right behind the next token
-  abbrev pub Comes : Outcome → Type 0
+  abbrev pub Comes : ParseResult → Type 0
   Comes o = ((fuel : ℕ) × (best : Option Best) × (length rest < fuel) × (o ≡ go fuel best end rest))
       ⊎ ((p : Token) × (ts : List Token) × (rest ≡ p ∷ ts) × (o ≡ Reads (whole end n) rest (Some (here ts))) × Taker p)
 
-  comes_along : (a b : Outcome) → a ≡ b → Comes b → Comes a
+  comes_along : (a b : ParseResult) → a ≡ b → Comes b → Comes a
   comes_along a b e c = subst Comes (sym e) c
 
   abbrev pub Goes : List Item → Type 0
@@ -213,7 +217,7 @@ module _ (reader : ℕ → Reader) (low : ℕ) (wholes : AreWhole reader low) (k
   broke fuel best r (Sub f x ∷ items) p ts false taker asks goes t room e h = let same : None ≡ Some t.0 =
       sym asks ∙ t.1 in absurd cc
 
-  after_whole : (fuel j : ℕ) (best : Option Best) (r : Reading) (e : Part) (items : List Item) (o : Outcome)
+  after_whole : (fuel j : ℕ) (best : Option Best) (r : Reading) (e : Measured) (items : List Item) (o : ParseResult)
       → takes r.state ≡ Some j → Goes items → Trail k rest (feed r e) items end → length (text items ++ rest) < fuel
       → IsWhole e (text items ++ rest) o → Comes (fed k (suc low) (go fuel) best r o)
   after_whole fuel j best r e items o a goes t room (inl is) = comes_along (fed k (suc low) (go fuel) best r o)
@@ -238,7 +242,7 @@ module _ (reader : ℕ → Reader) (low : ℕ) (wholes : AreWhole reader low) (k
   along (Sub e f ∷ items) zero best r t room = absurd (omega arith)
   along (Sub e f ∷ items) (suc fuel) best r t room =
       let g = part_grows k rest items r end e t.4 in
-      let some = part_some t.0 e f t.2 in
+      let some = measured_some t.0 e f t.2 in
       let ts = text items ++ rest in
       comes_along (go (suc fuel) best r ((f ++ text items) ++ rest))
       (fed k (suc low) (go fuel) best r (reader t.0 (f ++ ts)))
@@ -270,8 +274,9 @@ blocked_at reader low k fuel best end more n p ts d e open_ ends =
     ∙ ap (λ (b : Bool). cond b (stopped (best_of (done end.state) best end (p ∷ ts)) (too_deep (p ∷ ts)))
     (go1 (best_of (done end.state) best end (p ∷ ts)) more ts)) high
     ∙ ap (λ (o : Option Node). go1 (best_of o best end (p ∷ ts)) more ts) d
-    ∙ ap (turn (operand_of reader) k (suc low) go (Some (record { part = whole end n; rest = p ∷ ts })) more ts) ends
-    ∙ ap (λ (o : Option Node). ended o (Some (record { part = whole end n; rest = p ∷ ts })) more ts) open_
+    ∙ ap (turn (operand_of reader) k (suc low) go (Some (record { expression = whole end n; rest = p ∷ ts })) more ts)
+    ends
+    ∙ ap (λ (o : Option Node). ended o (Some (record { expression = whole end n; rest = p ∷ ts })) more ts) open_
 
 pub stop_at : (reader : ℕ → Reader) (low k fuel : ℕ) (best : Option Best) (end : Reading) (n : Node) (rest : List Token)
     → done end.state ≡ Some n → length rest < fuel → Stops k end rest → IsWhole (whole end n) rest
@@ -294,7 +299,7 @@ stop_at reader low k (suc (suc fuel)) best end n rest d room (inr b) =
     )
 
 pub zero_whole : AreWhole (read zero) zero
-zero_whole j e front rest is low calm = let h = part_high j e front is in absurd (omega arith)
+zero_whole j e front rest is low calm = let h = measured_high j e front is in absurd (omega arith)
 
 pub way_reached : (k : ℕ) (rest : List Token) (items : List Item) (r end : Reading) (front : List Token)
     → Reached k r front → Trail k rest r items end → Reached k end (front ++ text items)
@@ -305,17 +310,17 @@ way_reached k rest (Tok p ∷ items) r end front h t = subst (Reached k end) (ap
 way_reached k rest (Sub e f ∷ items) r end front h t = subst (Reached k end) (append_assoc front f (text items))
     (way_reached k rest items (feed r e) end (front ++ f) (reached_feed k t.0 r e front f h t.1 t.2) t.4)
 
-pub is_whole_of : (reader : ℕ → Reader) (low k : ℕ) (rest : List Token) (end : Reading) (e : Part) (o : Outcome)
+pub is_whole_of : (reader : ℕ → Reader) (low k : ℕ) (rest : List Token) (end : Reading) (e : Measured) (o : ParseResult)
     (front : List Token) (wholes : AreWhole reader low) (finished : done end.state ≡ Some e.node)
     (fits : end.tallest ≤ low) → whole end e.node ≡ e → Reached k end front → Calm k e rest → Comes reader low wholes k
     rest end e.node finished fits o → IsWhole e rest o
 is_whole_of reader low k rest end e o front wholes finished fits is h calm (inl c) =
-    let calm_end : Calm k (whole end e.node) rest = subst (λ (x : Part). Calm k x rest) (sym is) calm in
-    subst (λ (x : Part). IsWhole x rest o) is
+    let calm_end : Calm k (whole end e.node) rest = subst (λ (x : Measured). Calm k x rest) (sym is) calm in
+    subst (λ (x : Measured). IsWhole x rest o) is
     (subst (IsWhole (whole end e.node) rest) (sym c.3) (stop_at reader low k c.0 c.1 end e.node rest finished c.2
     (calm_stops k end e.node front rest h finished calm_end)))
 is_whole_of reader low k rest end e o front wholes finished fits is h calm (inr w) =
-    inr (w.0, w.1, w.2, w.3 ∙ ap (λ (x : Part). Reads x rest (Some (here w.1))) is, w.4)
+    inr (w.0, w.1, w.2, w.3 ∙ ap (λ (x : Measured). Reads x rest (Some (here w.1))) is, w.4)
 
 pub wholes : (limit : ℕ) → AreWhole (read limit) limit
 unfolding read
@@ -323,8 +328,8 @@ wholes zero = zero_whole
 wholes (suc low) = λ k e front rest is fits calm.
     let t = path k e front is in
     let way = trail_of k (hold e.node) rest t.items start t.end calm.inside t.way in
-    let small : t.end.tallest ≤ low = omega (arith, ap (λ (x : Part). x.height) t.is) in
-    let k9 : k ≤ 9 = part_level k e front is in
+    let small : t.end.tallest ≤ low = omega (arith, ap (λ (x : Measured). x.height) t.is) in
+    let k9 : k ≤ 9 = measured_level k e front is in
     let c = along (read low) low (wholes low) k rest t.end e.node t.finished small t.items
     (suc (length (text t.items ++ rest))) None start way (omega arith) in
     let h = way_reached k rest t.items start t.end [] (reached_start k k9) way in

@@ -6,18 +6,18 @@ use Rattle.std.proofs.lemmas.Bool.{leb-true}
 use Rattle.std.proofs.lemmas.List.{length-append}
 use Rattle.cat_lex.specs.declared.token.Token.{Token}
 use Rattle.cat_tree.specs.declared.expression.Node.{Node}
-use Rattle.cat_parse_state.specs.declared.state.Part.{Part}
+use Rattle.cat_parse_state.specs.declared.state.Measured.{Measured}
 use Rattle.cat_parse_state.specs.declared.state.Reading.{Reading}
 use Rattle.cat_parse_state.specs.Readings.{feed, done}
 use Rattle.cat_parse_step.specs.Machine.{shift}
 use Rattle.cat_parse_state.specs.Operands.{takes, needs_part, is_some}
-use Rattle.cat_parse_expr.proofs.Rows.{IsPart}
+use Rattle.cat_parse_expr.proofs.Rows.{IsMeasured}
 use Rattle.cat_parse_expr.proofs.Meaning.{Item, Tok, Sub, text, CalmAt, Path, Taker}
-use Rattle.cat_parse_expr.specs.Results.{Outcome, Reads, Reader, here, too_deep}
+use Rattle.cat_parse_expr.specs.Results.{ParseResult, Reads, Reader, here, too_deep}
 use Rattle.cat_parse_expr.specs.Reader.{Best, whole, best_of, stopped, ended, Next, Shifted, asked, shifted, next}
 use Rattle.cat_parse_expr.specs.Reader.{is_high, Going, reaches, fed, turn, run, operand_of}
-use Rattle.cat_parse_expr.proofs.Laws.{part_high}
-use Rattle.cat_parse_expr.proofs.Ways.{part_some}
+use Rattle.cat_parse_expr.proofs.Laws.{measured_high}
+use Rattle.cat_parse_expr.proofs.Ways.{measured_some}
 use Rattle.cat_parse_expr.proofs.Closing.{unit_low, unit_needs}
 use Rattle.cat_parse_expr.proofs.Calming.{closes}
 use Rattle.cat_parse_expr.proofs.Moves.{takes_low, feed_tallest, feed_wants, done_wants}
@@ -28,14 +28,14 @@ use Rattle.cat_parse_expr.proofs.High.{head_or}
 use Rattle.cat_parse_expr.proofs.Short.{Short, Leaves, leaves_of, run_short, short_fed}
 
 -- a whole expression was read before one more token, or reading went past that token
-abbrev pub Passes : Part → Token → List Token → Outcome → Type 0
+abbrev pub Passes : Measured → Token → List Token → ParseResult → Type 0
 Passes e q z o = (o ≡ Reads e (q ∷ z) None) ⊎ (Short (length z) o)
 
 abbrev pub ArePassed : (ℕ → Reader) → (limit : ℕ) → Type 0
-ArePassed reader limit = (j : ℕ) (e : Part) (front : List Token) (q : Token) (z : List Token) → IsPart j e front
+ArePassed reader limit = (j : ℕ) (e : Measured) (front : List Token) (q : Token) (z : List Token) → IsMeasured j e front
     → e.height ≤ limit → Passes e q z (reader j (front ++ q ∷ z))
 
-passes_along : (e : Part) (q : Token) (z : List Token) (a b : Outcome) → a ≡ b → Passes e q z b → Passes e q z a
+passes_along : (e : Measured) (q : Token) (z : List Token) (a b : ParseResult) → a ≡ b → Passes e q z b → Passes e q z a
 passes_along e q z a b e' h = subst (Passes e q z) (sym e') h
 
 module _ (reader : ℕ → Reader) (low : ℕ) (fine : AreFine reader low) (whole_is : AreWhole reader low) (k : ℕ) where
@@ -43,7 +43,7 @@ module _ (reader : ℕ → Reader) (low : ℕ) (fine : AreFine reader low) (whol
   go fuel = run (operand_of reader) k (suc low) fuel
 
   -- behind an operand that was read whole, before the words that are wanted
-  module _ (fuel j : ℕ) (best : Option Best) (r : Reading) (e : Part) (bound : ℕ) (i : Item) (items : List Item)
+  module _ (fuel j : ℕ) (best : Option Best) (r : Reading) (e : Measured) (bound : ℕ) (i : Item) (items : List Item)
       (end : Reading) (w : List Token) (asks : takes r.state ≡ Some j) where
     -- the item stands at the head of what follows
     abbrev pub Heads : Item → Type 0
@@ -64,7 +64,8 @@ module _ (reader : ℕ → Reader) (low : ℕ) (fine : AreFine reader low) (whol
         ∙ ap (λ (x : List Token). reaches (suc low) (Shifted more x) (here us)) same
         ∙ ap (λ (x : Bool). not x && nat_eq (length us) (length us)) high ∙ nat_same (length us)
 
-    pub whole_goes : (o : Outcome) → 0 < low → Heads i → IsWhole e w o → fed k (suc low) (go fuel) best r o ≡ go fuel
+    pub whole_goes : (o : ParseResult) → 0 < low → Heads i → IsWhole e w o
+        → fed k (suc low) (go fuel) best r o ≡ go fuel
         best (feed r e) w
     whole_goes o some h (inl is) = ap (fed k (suc low) (go fuel) best r) is
     whole_goes o some h (inr v) = ap (fed k (suc low) (go fuel) best r) v.3 ∙ by i h
@@ -77,7 +78,8 @@ module _ (reader : ℕ → Reader) (low : ℕ) (fine : AreFine reader low) (whol
             (here v.1))) (reach_head v.0 q h.1 v.1 h.0 (is_high (suc low) h.0) some h.2 h.3 v.2 v.4 refl)
         by (Sub f x) h = absurd h
 
-  pub heads_of : (fuel j : ℕ) (best : Option Best) (r : Reading) (e : Part) (bound : ℕ) (i : Item) (items : List Item)
+  pub heads_of : (fuel j : ℕ) (best : Option Best) (r : Reading) (e : Measured) (bound : ℕ) (i : Item)
+      (items : List Item)
       (end : Reading) (w ts : List Token) (asks : takes r.state ≡ Some j) → Path k bound (feed r e) (i ∷ items) end
       → w ≡ text (i ∷ items) ++ ts → Heads fuel j best r e bound i items end w asks i
   heads_of fuel j best r e bound (Tok q) items end w ts asks t h = (t.0, text items ++ ts, h, t.1)
@@ -126,7 +128,7 @@ module _ (reader : ℕ → Reader) (low : ℕ) (fine : AreFine reader low) (whol
         (next k end (q ∷ z)) refl)
         (end_passes fuel best (shift k end q) refl)
 
-    last : (fuel j : ℕ) (best : Option Best) (r : Reading) (e : Part) (f : List Token) (o : Outcome) (m : ℕ)
+    last : (fuel j : ℕ) (best : Option Best) (r : Reading) (e : Measured) (f : List Token) (o : ParseResult) (m : ℕ)
         → takes r.state ≡ Some j → feed r e ≡ end → length (q ∷ z) < fuel → Leaves m o → m ≤ fuel → Passes e q z o
         → Passes (whole end n) q z (fed k (suc low) (go fuel) best r o)
     last fuel j best r e f o m a t room l fits_m (inl is) = passes_along (whole end n) q z
@@ -149,7 +151,7 @@ module _ (reader : ℕ → Reader) (low : ℕ) (fine : AreFine reader low) (whol
     passing (Sub e f ∷ items) (suc fuel) best r t room =
         let g = path_grows k bound items (feed r e) end t.4 in
         let tall = feed_tallest r e in
-        let some = part_some t.0 e f t.2 in
+        let some = measured_some t.0 e f t.2 in
         let ts = text items ++ q ∷ z in
         let l = leaves_of t.0 low (f ++ ts) (reader t.0 (f ++ ts)) (fine t.0 (f ++ ts) (takes_low r.state t.0 t.1)) in
         passes_along (whole end n) q z (go (suc fuel) best r ((f ++ text items) ++ q ∷ z))
@@ -184,7 +186,7 @@ module _ (reader : ℕ → Reader) (low : ℕ) (fine : AreFine reader low) (whol
             (whole_goes fuel t.0 best r e bound i items end w t.1 (reader t.0 (f ++ w))
             (omega (
               arith,
-              part_high t.0 e f t.2,
+              measured_high t.0 e f t.2,
               feed_tallest r e,
               path_grows k bound (i ∷ items) (feed r e) end
                   way,

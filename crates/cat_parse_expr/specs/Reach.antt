@@ -4,7 +4,7 @@ use Rattle.cat_lex.specs.declared.token.Token.{Token}
 use Rattle.cat_tree.specs.declared.expression.Node.{Node}
 use Rattle.cat_parse_expr.specs.declared.refusal.ParseRefusal.{ParseRefusal}
 use Rattle.cat_parse_expr.specs.declared.refusal.ParseRefusal.TheVariants.{Unexpected, TooDeep, Memory}
-use Rattle.cat_parse_expr.specs.Results.{Stop, Outcome, Fails, Reads, here, too_deep}
+use Rattle.cat_parse_expr.specs.Results.{Stop, ParseResult, Fails, Reads, here, too_deep}
 use Rattle.cat_parse_expr.specs.Reader.{read}
 
 -- where reading stopped with no expression, or an expression with what follows it and what is left behind its reach
@@ -13,7 +13,7 @@ pub data Reach : Type 0 where
   Found : Node → (rest left : List Token) → Reach
 
 -- nothing is found where a longer expression broke off for its height
-abbrev pub reach_of : Outcome → Reach
+abbrev pub reach_of : ParseResult → Reach
 reach_of (Fails s) = Refused s
 reach_of (Reads e rest None) = Found e.node rest rest
 reach_of (Reads e rest (Some s)) = if s.deep then Refused s else Found e.node rest s.left

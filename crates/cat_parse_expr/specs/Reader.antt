@@ -3,34 +3,34 @@ use Rattle.std.specs.Prelude.{if◌then◌else◌, ℕ, zero, suc, Bool, false, 
 use Rattle.std.specs.Prelude.{length, Option, Some, None}
 use Rattle.cat_lex.specs.declared.token.Token.{Token}
 use Rattle.cat_tree.specs.declared.expression.Node.{Node}
-use Rattle.cat_parse_state.specs.declared.state.Part.{Part}
+use Rattle.cat_parse_state.specs.declared.state.Measured.{Measured}
 use Rattle.cat_parse_state.specs.declared.state.Reading.{Reading}
 use Rattle.cat_parse_state.specs.Readings.{start, feed, done}
 use Rattle.cat_parse_step.specs.Machine.{shift}
 use Rattle.cat_parse_state.specs.Operands.{is_some, takes, needs_part}
-use Rattle.cat_parse_expr.specs.Results.{Stop, Outcome, Fails, Reads, Reader, here, too_deep}
+use Rattle.cat_parse_expr.specs.Results.{Stop, ParseResult, Fails, Reads, Reader, here, too_deep}
 
 -- the last whole expression on the way, and what follows it
 pub record Best : Type 0 where
-  pub part : Part
+  pub expression : Measured
   pub rest : List Token
 
--- what is whole here, as a part
-abbrev pub whole : Reading → Node → Part
+-- what is whole here, with its height and what it ends in
+abbrev pub whole : Reading → Node → Measured
 whole r n = record { node = n; height = suc r.tallest; in_form = r.in_form; in_match = r.in_match }
 
 -- what is whole here, or else the last whole expression before
 abbrev pub best_of : Option Node → Option Best → Reading → List Token → Option Best
 best_of None best r ts = best
-best_of (Some n) best r ts = Some (record { part = whole r n; rest = ts })
+best_of (Some n) best r ts = Some (record { expression = whole r n; rest = ts })
 
 -- what is read where a stop was met
-abbrev pub stopped : Option Best → Stop → Outcome
+abbrev pub stopped : Option Best → Stop → ParseResult
 stopped None s = Fails s
-stopped (Some b) s = Reads b.part b.rest (Some s)
+stopped (Some b) s = Reads b.expression b.rest (Some s)
 
 -- what is read where nothing can follow
-abbrev pub ended : Option Node → Option Best → Reading → List Token → Outcome
+abbrev pub ended : Option Node → Option Best → Reading → List Token → ParseResult
 ended None best r ts = stopped best (here ts)
 ended (Some n) best r ts = Reads (whole r n) ts None
 
@@ -61,7 +61,7 @@ is_high limit r = (is_some (done r.state) && nat_le limit r.tallest) || (needs_p
 
 -- how reading goes on
 abbrev pub Going : Type 0
-Going = Option Best → Reading → List Token → Outcome
+Going = Option Best → Reading → List Token → ParseResult
 
 -- where the operand broke off further on, the words that are wanted here may still reach that index
 abbrev pub reaches : (limit : ℕ) → Next → Stop → Bool
@@ -70,7 +70,7 @@ reaches limit (Asks j) s = false
 reaches limit Ends s = false
 
 -- how reading goes on with an operand that was read, or stops where it broke off
-abbrev pub fed : (k limit : ℕ) → Going → Option Best → Reading → Outcome → Outcome
+abbrev pub fed : (k limit : ℕ) → Going → Option Best → Reading → ParseResult → ParseResult
 fed k limit go best r (Fails s) = stopped best s
 fed k limit go best r (Reads e ts None) = go best (feed r e) ts
 fed k limit go best r (Reads e ts (Some s)) =
@@ -79,7 +79,7 @@ fed k limit go best r (Reads e ts (Some s)) =
 
 -- one word or one operand of reading
 abbrev pub turn : (operand : Bool → ℕ → Reader) (k limit : ℕ) → Going → Option Best → Reading → List Token → Next
-    → Outcome
+    → ParseResult
 turn operand k limit go best r ts (Shifted more rest) =
     if is_high limit more then stopped (best_of (done r.state) best r ts) (too_deep ts) else go
     (best_of (done r.state) best r ts) more rest

@@ -1,7 +1,7 @@
 -- What reading gives.
 use Rattle.std.specs.Prelude.{Bool, true, false, List, Option, Some, None}
 use Rattle.cat_lex.specs.declared.token.Token.{Token}
-use Rattle.cat_parse_state.specs.declared.state.Part.{Part}
+use Rattle.cat_parse_state.specs.declared.state.Measured.{Measured}
 
 -- what is left where reading stopped, and whether it stopped there for the height alone
 pub record Stop : Type 0 where
@@ -9,13 +9,13 @@ pub record Stop : Type 0 where
   pub deep : Bool
 
 -- A tree that was read comes with what follows it, and where a longer one broke off, if further on.
-pub data Outcome : Type 0 where
-  Fails : Stop → Outcome
-  Reads : Part → List Token → Option Stop → Outcome
+pub data ParseResult : Type 0 where
+  Fails : Stop → ParseResult
+  Reads : Measured → List Token → Option Stop → ParseResult
 
 -- what reading gives for a list of tokens
 abbrev pub Reader : Type 0
-Reader = List Token → Outcome
+Reader = List Token → ParseResult
 
 -- a stop that is not for the height
 abbrev pub here : List Token → Stop
@@ -26,7 +26,7 @@ abbrev pub too_deep : List Token → Stop
 too_deep ts = record { left = ts; deep = true }
 
 -- where reading stopped
-abbrev pub stop_of : Outcome → Stop
+abbrev pub stop_of : ParseResult → Stop
 stop_of (Fails s) = s
 stop_of (Reads e ts None) = here ts
 stop_of (Reads e ts (Some s)) = s

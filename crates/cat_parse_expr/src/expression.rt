@@ -7,7 +7,7 @@ ghost use Rattle.cat_parse_expr.specs.Places.{GoesUpTo};
 ghost use Rattle.cat_parse_expr.specs.Causes.{HasCause, HasReachCause};
 ghost use Rattle.cat_parse_expr.specs.Reach.{expression_reach, GivesReach};
 
-use crate::outcome::{Halt, Reached};
+use crate::reached::{Halt, Reached};
 use crate::reader::read;
 use crate::refusal::ParseRefusal;
 use cat_lex::Token;
@@ -33,7 +33,7 @@ pub fn expr(alloc: Global, tokens: &[Token], at: usize) -> Result<(Node, usize),
     ensures cause { IfErr result (HasCause tokens.now at) }
 {
     match read(alloc, tokens, at, 256, 0)? {
-        Reached::Reads(part, next, _) => Ok((part.node, next)),
+        Reached::Reads(expression, next, _) => Ok((expression.node, next)),
         Reached::Fails(halt) => Err(refusal_at(halt)),
     }
 }
@@ -53,13 +53,13 @@ pub fn expr_reach(
     ensures gives { GivesReach (expression_reach 256 (drop at tokens.now)) tokens.now result }
 {
     match read(alloc, tokens, at, 256, 0)? {
-        Reached::Reads(part, next, tried) => match tried {
-            None => Ok((part.node, next, next)),
+        Reached::Reads(expression, next, tried) => match tried {
+            None => Ok((expression.node, next, next)),
             Some(halt) => {
                 if halt.deep {
                     return Err(ParseRefusal::TooDeep(halt.at));
                 }
-                Ok((part.node, next, halt.at))
+                Ok((expression.node, next, halt.at))
             }
         },
         Reached::Fails(halt) => Err(refusal_at(halt)),

@@ -7,8 +7,8 @@ use cat_parse_state::{Matching, Owner, State, no_node};
 use cat_pos::{Boxed, Pos};
 use cat_tree::{CaseName, Literal, Name, Node, Nodes};
 
-fn before_call(name: Name, arguments: Nodes) -> Option<Node>
-    ensures { result ≡ words.before_call name arguments }
+fn before_argument(name: Name, arguments: Nodes) -> Option<Node>
+    ensures { result ≡ words.before_argument name arguments }
 {
     if arguments.is_empty() {
         Some(Node::Name(name))
@@ -36,8 +36,8 @@ fn before_arm(matching: Matching) -> Option<Node>
 }
 
 /// A literal's number without its unit.
-fn before_literal(literal: Literal, pos: Pos) -> Option<Node>
-    ensures { result ≡ words.before_literal literal pos }
+fn before_unit(literal: Literal, pos: Pos) -> Option<Node>
+    ensures { result ≡ words.before_unit literal pos }
 {
     match literal {
         Literal::Span(number, _) => Some(Node::Literal(Literal::Int(number), pos)),
@@ -46,8 +46,8 @@ fn before_literal(literal: Literal, pos: Pos) -> Option<Node>
 }
 
 /// A test whose case is named without its enumeration.
-fn before_test(tested: Boxed<Node>, pos: Pos, case: CaseName) -> Option<Node>
-    ensures { result ≡ words.before_test tested pos case }
+fn before_dot(tested: Boxed<Node>, pos: Pos, case: CaseName) -> Option<Node>
+    ensures { result ≡ words.before_dot tested pos case }
 {
     match case {
         CaseName::Qualified(owner, _) => Some(Node::Test(tested, pos, CaseName::Bare(owner))),
@@ -67,10 +67,10 @@ fn before_last(node: Node) -> Option<Node>
     ensures { result ≡ words.before_last (out-Node node) }
 {
     match node {
-        Node::Literal(literal, pos) => before_literal(literal, pos),
+        Node::Literal(literal, pos) => before_unit(literal, pos),
         Node::Field(inner, _) => Some(inner.into_inner()),
         Node::Structure(name, _) => Some(Node::Case(CaseName::Bare(name))),
-        Node::Test(inner, pos, case) => before_test(inner, pos, case),
+        Node::Test(inner, pos, case) => before_dot(inner, pos, case),
         other => none_of(other),
     }
 }
@@ -90,7 +90,7 @@ pub(crate) fn fallback(state: State) -> Option<Node>
         State::Tested(node, _, _) => Some(node.into_inner()),
         State::TestedDot(node, pos, name) => Some(Node::Test(node, pos, CaseName::Bare(name))),
         State::Content(case) => Some(Node::Case(case)),
-        State::Argument(name, arguments) => before_call(name, arguments),
+        State::Argument(name, arguments) => before_argument(name, arguments),
         other => fallback_of_parts(other),
     }
 }

@@ -3,7 +3,7 @@
 
 mod expression;
 mod fallback;
-mod outcome;
+mod reached;
 mod reader;
 mod refusal;
 mod standing;

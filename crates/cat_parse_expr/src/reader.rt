@@ -1,9 +1,9 @@
 // The longest expression at an index, read to a height.
 ghost use Rattle.std.specs.Prelude.{◌≡◌, ◌<◌, ◌≤◌, ◌-◌, cond, nat_le, length, drop, IfOk};
 ghost use Rattle.cat_parse_expr.specs.Reader.{starts, nothing_at, read};
-ghost use Rattle.cat_parse_expr.specs.inside.Loop.{outcome_of, AreWithin, IsStanding, IsTurnAt};
+ghost use Rattle.cat_parse_expr.specs.inside.Loop.{parse_result_of, AreWithin, IsStanding, IsTurnAt};
 
-use crate::outcome::{Halt, Reached};
+use crate::reached::{Halt, Reached};
 use crate::standing::{Next, Standing, Turn, advance, take};
 use cat_lex::Token;
 use cat_parse_state::start;
@@ -25,7 +25,8 @@ fn starts(alloc: Global, tokens: &[Token], at: usize, level: u32) -> Result<bool
 
 fn nothing_at(alloc: Global, tokens: &[Token], at: usize, level: u32) -> Result<Reached, AllocError>
     requires { at ≤ length tokens.now }
-    ensures gives { IfOk result (λ reached. outcome_of tokens.now reached ≡ nothing_at level (drop at tokens.now)) }
+    ensures gives { IfOk result (λ reached. parse_result_of tokens.now reached
+        ≡ nothing_at level (drop at tokens.now)) }
     ensures within { IfOk result (AreWithin (length tokens.now)) }
 {
     let deep = starts(alloc, tokens, at, level)?;
@@ -44,7 +45,8 @@ pub(crate) fn read(
     requires place { at ≤ length tokens.now }
     requires limit { limit < 4294967295 }
     requires level { level ≤ 9 }
-    ensures gives { IfOk result (λ reached. outcome_of tokens.now reached ≡ read limit level (drop at tokens.now)) }
+    ensures gives { IfOk result (λ reached. parse_result_of tokens.now reached
+        ≡ read limit level (drop at tokens.now)) }
     ensures within { IfOk result (AreWithin (length tokens.now)) }
 {
     if limit == 0 {
@@ -53,7 +55,7 @@ pub(crate) fn read(
     let mut standing = Standing {
         reading: start(),
         at,
-        mark: None,
+        checkpoint: None,
     };
     loop {
         match go_on(alloc, tokens, standing, limit, level)? {

@@ -4,14 +4,15 @@ ghost use Rattle.cat_lex.specs.declared.token.Token.{Token};
 ghost use Rattle.cat_parse_state.specs.Readings.{done};
 ghost use Rattle.cat_parse_state.specs.Operands.{takes};
 ghost use Rattle.cat_parse_expr.specs.Reader.{is_high, next, asked, ended, Best};
-ghost use Rattle.cat_parse_expr.specs.inside.Fallback.{before};
-ghost use Rattle.cat_parse_expr.specs.inside.Loop.{outcome_of, mark_after, IsMarkWithin, AreWithin, IsStanding};
-ghost use Rattle.cat_parse_expr.specs.inside.Loop.{IsTurnAt, IsAdvance, Leads, reached_on, IsKept, IsOperandAt};
+ghost use Rattle.cat_parse_expr.specs.inside.Fallback.{last_whole};
+ghost use Rattle.cat_parse_expr.specs.inside.Loop.{parse_result_of, checkpoint_after, IsCheckpointWithin};
+ghost use Rattle.cat_parse_expr.specs.inside.Loop.{AreWithin, IsStanding, IsTurnAt, IsAdvance};
+ghost use Rattle.cat_parse_expr.specs.inside.Loop.{Leads, reached_on, IsKept, IsOperandAt};
 
 use crate::fallback::fallback;
-use crate::outcome::{Halt, Mark, Reached, stopped};
+use crate::reached::{Checkpoint, Halt, Reached, stopped};
 use cat_lex::Token;
-use cat_parse_state::{Part, Reading, State, feed, is_whole, needs_part, takes, whole_node};
+use cat_parse_state::{Measured, Reading, State, feed, is_whole, needs_part, takes, whole_node};
 use cat_parse_step::{Shifted, shift};
 use cat_tree::Node;
 use std::alloc::{AllocError, Global};
@@ -21,7 +22,7 @@ use std::alloc::{AllocError, Global};
 pub(crate) struct Standing {
     pub reading: Reading,
     pub at: usize,
-    pub mark: Option<Mark>,
+    pub checkpoint: Option<Checkpoint>,
 }
 
 /// Reading goes on from there, or has ended.
@@ -46,26 +47,30 @@ fn is_high(limit: u32, reading: &Reading) -> bool
         || (needs_part(&reading.state) && limit <= 1)
 }
 
-/// The mark of what is whole here, or else the last one.
-fn mark_after(reading: &Reading, at: usize, mark: Option<Mark>) -> Option<Mark>
+/// The checkpoint of what is whole here, or else the last one.
+fn checkpoint_after(
+    reading: &Reading,
+    at: usize,
+    checkpoint: Option<Checkpoint>,
+) -> Option<Checkpoint>
     requires { reading.now.tallest < 4294967295 }
-    ensures { result ≡ mark_after reading.now at mark }
+    ensures { result ≡ checkpoint_after reading.now at checkpoint }
 {
     if is_whole(&reading.state) {
-        Some(Mark {
+        Some(Checkpoint {
             at,
             height: reading.tallest + 1,
             in_form: reading.in_form,
             in_match: reading.in_match,
         })
     } else {
-        mark
+        checkpoint
     }
 }
 
 /// What is whole here, or else the last whole expression on the way.
-fn before(state: State) -> Option<Node>
-    ensures { result ≡ before state }
+fn last_whole(state: State) -> Option<Node>
+    ensures { result ≡ last_whole state }
 {
     if is_whole(&state) {
         whole_node(state)
@@ -77,20 +82,26 @@ fn before(state: State) -> Option<Node>
 /// Neither a word nor an operand comes next.
 fn ended(standing: Standing) -> Reached
     requires { standing.reading.tallest < 4294967295 }
-    ensures gives { (tokens : List Token) (best : Option Best) → IsKept tokens standing best → outcome_of tokens result ≡ ended (done standing.reading.state) best standing.reading (drop standing.at tokens) }
-    ensures within { (end : ℕ) → IsMarkWithin end standing.mark → standing.at ≤ end → AreWithin end result }
+    ensures gives { (tokens : List Token) (best : Option Best) → IsKept tokens standing best
+        → parse_result_of tokens result
+        ≡ ended (done standing.reading.state) best standing.reading (drop standing.at tokens) }
+    ensures within { (end : ℕ) → IsCheckpointWithin end standing.checkpoint → standing.at ≤ end → AreWithin end result }
 {
-    let Standing { reading, at, mark } = standing;
+    let Standing {
+        reading,
+        at,
+        checkpoint,
+    } = standing;
     let halt = Halt { at, deep: false };
     if !is_whole(&reading.state) {
-        return stopped(mark, fallback(reading.state), halt);
+        return stopped(checkpoint, fallback(reading.state), halt);
     }
     let height = reading.tallest + 1;
     let in_form = reading.in_form;
     let in_match = reading.in_match;
     match whole_node(reading.state) {
         Some(node) => Reached::Reads(
-            Part {
+            Measured {
                 node,
                 height,
                 in_form,
@@ -107,7 +118,8 @@ fn ended(standing: Standing) -> Reached
 fn without_word(tokens: &[Token], standing: Standing, limit: u32, level: u32) -> Next
     requires limit { limit < 4294967295 }
     requires standing { IsStanding limit tokens.now standing }
-    requires no_word { next level standing.reading (drop standing.at tokens.now) ≡ asked (takes standing.reading.state) }
+    requires no_word { next level standing.reading (drop standing.at tokens.now)
+        ≡ asked (takes standing.reading.state) }
     ensures { IsAdvance limit level tokens.now standing result }
 {
     match takes(&standing.reading.state) {
@@ -131,22 +143,30 @@ pub(crate) fn advance(
     if standing.at == tokens.len() {
         return Ok(without_word(tokens, standing, limit, level));
     }
-    let Standing { reading, at, mark } = standing;
-    let marked = mark_after(&reading, at, mark);
+    let Standing {
+        reading,
+        at,
+        checkpoint,
+    } = standing;
+    let latest = checkpoint_after(&reading, at, checkpoint);
     match shift(alloc, level, reading, &tokens[at])? {
         Shifted::Further(more) => {
             if is_high(limit, &more) {
                 let halt = Halt { at, deep: true };
-                return Ok(Next::Turns(Turn::Ends(stopped(marked, fallback(more.state), halt))));
+                return Ok(Next::Turns(Turn::Ends(stopped(latest, fallback(more.state), halt))));
             }
             Ok(Next::Turns(Turn::Goes(Standing {
                 reading: more,
                 at: at + 1,
-                mark: marked,
+                checkpoint: latest,
             })))
         }
         Shifted::Still(reading) => {
-            let standing = Standing { reading, at, mark };
+            let standing = Standing {
+                reading,
+                at,
+                checkpoint,
+            };
             Ok(without_word(tokens, standing, limit, level))
         }
     }
@@ -164,28 +184,34 @@ fn reach(
     requires limit { limit < 4294967295 }
     requires standing { IsStanding limit tokens.now standing }
     requires halt { halt.at ≤ length tokens.now }
-    ensures { IfOk result (λ turn. (fuel : ℕ) (best : Option Best) → length (drop standing.at tokens.now) < fuel → IsKept tokens.now standing best → Leads limit level tokens.now standing.at turn (reached_on limit level fuel tokens.now standing halt best)) }
+    ensures { IfOk result (λ turn. (fuel : ℕ) (best : Option Best) → length (drop standing.at tokens.now) < fuel
+        → IsKept tokens.now standing best → Leads limit level tokens.now standing.at turn
+        (reached_on limit level fuel tokens.now standing halt best)) }
 {
-    let Standing { reading, at, mark } = standing;
-    let marked = mark_after(&reading, at, mark);
+    let Standing {
+        reading,
+        at,
+        checkpoint,
+    } = standing;
+    let latest = checkpoint_after(&reading, at, checkpoint);
     if halt.deep || at + 1 != halt.at {
-        let node = before(reading.state);
-        return Ok(Turn::Ends(stopped(marked, node, halt)));
+        let node = last_whole(reading.state);
+        return Ok(Turn::Ends(stopped(latest, node, halt)));
     }
     match shift(alloc, level, reading, &tokens[at])? {
         Shifted::Further(more) => {
             if is_high(limit, &more) {
-                return Ok(Turn::Ends(stopped(marked, fallback(more.state), halt)));
+                return Ok(Turn::Ends(stopped(latest, fallback(more.state), halt)));
             }
             Ok(Turn::Goes(Standing {
                 reading: more,
                 at: at + 1,
-                mark: marked,
+                checkpoint: latest,
             }))
         }
         Shifted::Still(reading) => {
-            let node = before(reading.state);
-            Ok(Turn::Ends(stopped(marked, node, halt)))
+            let node = last_whole(reading.state);
+            Ok(Turn::Ends(stopped(latest, node, halt)))
         }
     }
 }
@@ -209,13 +235,17 @@ pub(crate) fn take(
     let Standing {
         reading,
         at: _,
-        mark,
+        checkpoint,
     } = standing;
     match operand {
-        Reached::Fails(halt) => Ok(Turn::Ends(stopped(mark, fallback(reading.state), halt))),
-        Reached::Reads(part, at, tried) => {
-            let reading = feed(alloc, reading, part)?;
-            let fed = Standing { reading, at, mark };
+        Reached::Fails(halt) => Ok(Turn::Ends(stopped(checkpoint, fallback(reading.state), halt))),
+        Reached::Reads(measured, at, tried) => {
+            let reading = feed(alloc, reading, measured)?;
+            let fed = Standing {
+                reading,
+                at,
+                checkpoint,
+            };
             match tried {
                 None => Ok(Turn::Goes(fed)),
                 Some(halt) => reach(alloc, tokens, fed, halt, limit, level),

@@ -11,7 +11,7 @@ use Rattle.cat_tree.specs.declared.expression.Node.{Node}
 use Rattle.cat_parse_state.specs.declared.state.State.{State}
 use Rattle.cat_parse_state.specs.declared.state.State.TheVariants as state
 use Rattle.cat_parse_state.specs.declared.state.Reading.{Reading}
-use Rattle.cat_parse_state.specs.declared.state.Part.{Part}
+use Rattle.cat_parse_state.specs.declared.state.Measured.{Measured}
 use Rattle.cat_parse_state.specs.Readings.{done}
 use Rattle.cat_parse_step.specs.Machine.{shift, step, moved, strength_of}
 use Rattle.cat_parse_step.specs.Words.{Move}
@@ -84,7 +84,7 @@ op_pulls_none at ts =
     by_kind (λ (k : TokenKind). op_pull (record { kind = k; pos = at } ∷ ts) ≡ 0) refl refl refl refl refl refl refl
     refl refl refl
 
-pub calm : (e : Part) (p : Token) (ts : List Token) → behind_expression p.kind ≡ true → Calm 0 e (p ∷ ts)
+pub calm : (e : Measured) (p : Token) (ts : List Token) → behind_expression p.kind ≡ true → Calm 0 e (p ∷ ts)
 calm e p ts b = record {
   inside = omega (arith, pulls_none p.pos ts p.kind b);
   outside = omega (arith, op_pulls_none p.pos ts p.kind b);

@@ -5,13 +5,14 @@ use Rattle.std.proofs.lemmas.Bool.{cases_lt, leb-true, leb-false}
 use Rattle.std.proofs.lemmas.List.{append-nil, append_cancel_right, length-append}
 use Rattle.cat_lex.specs.declared.token.Token.{Token}
 use Rattle.cat_tree.specs.declared.expression.Node.{Node}
-use Rattle.cat_parse_state.specs.declared.state.Part.{Part}
+use Rattle.cat_parse_state.specs.declared.state.Measured.{Measured}
 use Rattle.cat_parse_expr.specs.Results as found
 use Rattle.cat_parse_expr.specs.Results.{Stop, here, too_deep, stop_of}
 use Rattle.cat_parse_expr.specs.Reader.{read}
 use Rattle.cat_parse_expr.specs.Reach.{reach_of, expression_reach}
 use Rattle.cat_parse_expr.proofs.Exported as known
-use Rattle.cat_parse_expr.proofs.Exported.{IsPart, Begins, IsExact, exact, nothing, longest, high, one_tree, part_of}
+use Rattle.cat_parse_expr.proofs.Exported.{IsMeasured, Begins, IsExact, exact, nothing, longest, high, one_tree}
+use Rattle.cat_parse_expr.proofs.Exported.{measured_of}
 use Rattle.cat_parse_row.specs.Reader.{Parsed, Fails, Reads, left_of}
 use Rattle.cat_parse_row.specs.Right.{Agree, Outside, Taken, Says, Alike}
 use Rattle.cat_parse_row.specs.Uses.{behind_expression}
@@ -47,13 +48,13 @@ outside (q ∷ qs) p z h e = subst (λ (t : Token). behind_expression t.kind ≡
     first [] = q
     first (t ∷ ts) = t
 
-abbrev begins_longer : (e : Part) (w front : List Token) (p : Token) (more : List Token) → IsPart 0 e w
+abbrev begins_longer : (e : Measured) (w front : List Token) (p : Token) (more : List Token) → IsMeasured 0 e w
     → w ≡ front ++ p ∷ more → Begins 0 (front ++ p ∷ [])
 begins_longer e w front p more is at =
-    record { tree = e; rest = more; is = subst (IsPart 0 e) (at ∙ sym (append_assoc front (p ∷ []) more)) is }
+    record { tree = e; rest = more; is = subst (IsMeasured 0 e) (at ∙ sym (append_assoc front (p ∷ []) more)) is }
 
 -- the front goes on behind the expression, with a word that goes on with none
-too_short : (e : Part) (w front : List Token) (p : Token) (more : List Token) → IsPart 0 e w
+too_short : (e : Measured) (w front : List Token) (p : Token) (more : List Token) → IsMeasured 0 e w
     → behind_expression p.kind ≡ true → front ≡ w ++ p ∷ more → Begins 0 front → ⊥
 too_short e w front p more is b at begins =
     dead_before e w p is b
@@ -61,7 +62,7 @@ too_short e w front p more is b at begins =
       tree = begins.tree;
       rest = more ++ begins.rest;
       is =
-          subst (IsPart 0 begins.tree)
+          subst (IsMeasured 0 begins.tree)
           (ap (λ (x : List Token). x ++ begins.rest) (at ∙ sym (append_assoc w (p ∷ []) more))
           ∙ append_assoc (w ++ p ∷ []) more begins.rest) begins.is;
     })
@@ -73,11 +74,11 @@ nothing_begins (p ∷ front) left e b = absurd cc
 
 module _ (limit : ℕ) where
   -- what was read of tokens, and where it stopped
-  abbrev Found : List Token → Part → (rest : List Token) → Type 0
+  abbrev Found : List Token → Measured → (rest : List Token) → Type 0
   Found ts e rest = known.Taken 0 limit ts e rest
 
-  exact_at : (ts : List Token) (o : found.Outcome) → read limit 0 ts ≡ o → IsExact ts limit (stop_of o)
-  exact_at ts o is = subst (λ (x : found.Outcome). IsExact ts limit (stop_of x)) is (exact ts limit)
+  exact_at : (ts : List Token) (o : found.ParseResult) → read limit 0 ts ≡ o → IsExact ts limit (stop_of o)
+  exact_at ts o is = subst (λ (x : found.ParseResult). IsExact ts limit (stop_of x)) is (exact ts limit)
 
   -- ---- what is read is spelled so
 
@@ -92,7 +93,7 @@ module _ (limit : ℕ) where
         took = record { next = g.0; after = g.1; text = g.2; begun = begun_of (x.front ++ g.0 ∷ []) g.3 };
       }
 
-  ended : (ts : List Token) (e : Part) (rest left : List Token) (b : Bool) → Found ts e rest
+  ended : (ts : List Token) (e : Measured) (rest left : List Token) (b : Bool) → Found ts e rest
       → IsExact ts limit (here left)
       → Taken limit any expression_row (cond b (Reads e.node rest) (Fails left false)) ts
   ended ts e rest left true t x = record {
@@ -102,7 +103,7 @@ module _ (limit : ℕ) where
   }
   ended ts e rest left false t x = failed ts left false x
 
-  taken : (ts : List Token) (o : found.Outcome) → read limit 0 ts ≡ o
+  taken : (ts : List Token) (o : found.ParseResult) → read limit 0 ts ≡ o
       → Taken limit any expression_row (to_its_end (reach_of o)) ts
   taken ts (found.Fails s) is = failed ts s.left s.deep (exact_at ts (found.Fails s) is)
   taken ts (found.Reads e rest None) is =
@@ -121,26 +122,26 @@ module _ (limit : ℕ) where
 
   -- the front is spelled by no expression, and nothing goes on with it
   none_there : (ts left front : List Token) (y : Node) (w : List Token) → IsExact ts limit (here left)
-      → ts ≡ front ++ left → ((e : Part) → IsPart 0 e front → ⊥) → Likely left front y w → ⊥
+      → ts ≡ front ++ left → ((e : Measured) → IsMeasured 0 e front → ⊥) → Likely left front y w → ⊥
   none_there ts left front y w x text none a =
       let is = of_row y w a.is in
       let same : x.front ≡ front = append_cancel_right x.front front left (sym x.text ∙ text) in
       by is same (meet w a.behind front a.others a.text)
     where
-      by : IsPart 0 (part_of y) w → x.front ≡ front → Meet w a.behind front a.others → ⊥
-      by is same (Same at v) = none (part_of y) (subst (IsPart 0 (part_of y)) at is)
+      by : IsMeasured 0 (measured_of y) w → x.front ≡ front → Meet w a.behind front a.others → ⊥
+      by is same (Same at v) = none (measured_of y) (subst (IsMeasured 0 (measured_of y)) at is)
       by is same (Longer p more at o) =
           let h = same_head left a.others p (more ++ a.behind) a.agree o in
           x.dead refl p h.0 h.1
           (subst (λ (f : List Token). Begins 0 (f ++ p ∷ [])) (sym same)
-          (begins_longer (part_of y) w front p more is at))
+          (begins_longer (measured_of y) w front p more is at))
       by is same (Shorter p more at v) =
-          too_short (part_of y) w front p more is (outside a.behind p (more ++ a.others) a.outside v) at
+          too_short (measured_of y) w front p more is (outside a.behind p (more ++ a.others) a.outside v) at
           (subst (Begins 0) same x.begins)
 
   -- what goes on with the front is too high
   none_low : (ts left front : List Token) (y : Node) (w : List Token) → IsExact ts limit (too_deep left)
-      → ts ≡ front ++ left → Likely left front y w → (part_of y).height ≤ limit → ⊥
+      → ts ≡ front ++ left → Likely left front y w → (measured_of y).height ≤ limit → ⊥
   none_low ts left front y w x text a low =
       let is = of_row y w a.is in
       let same : x.front ≡ front = append_cancel_right x.front front left (sym x.text ∙ text) in
@@ -150,24 +151,24 @@ module _ (limit : ℕ) where
       next_other p r [] g = absurd g
       next_other p r (q ∷ z) g = (z, ap (λ (t : Token). t ∷ z) (sym g))
 
-      by : IsPart 0 (part_of y) w → x.front ≡ front → Meet w a.behind front a.others → ⊥
+      by : IsMeasured 0 (measured_of y) w → x.front ≡ front → Meet w a.behind front a.others → ⊥
       by is same (Same at v) =
           let g = x.goes_on refl in
           let o = next_other g.0 g.1 a.others (subst (λ (l : List Token). Agree l a.others) g.2 a.agree) in
-          dead_before (part_of y) w g.0 is (outside a.behind g.0 o.0 a.outside (v ∙ o.1))
+          dead_before (measured_of y) w g.0 is (outside a.behind g.0 o.0 a.outside (v ∙ o.1))
           (subst (λ (f : List Token). Begins 0 (f ++ g.0 ∷ [])) (same ∙ sym at) g.3)
       by is same (Longer p more at o) =
           let h = same_head left a.others p (more ++ a.behind) a.agree o in
           x.too_high p h.0 h.1
           (subst (λ (f : List Token). Begins 0 (f ++ p ∷ [])) (sym same)
-          (begins_longer (part_of y) w front p more is at))
+          (begins_longer (measured_of y) w front p more is at))
           low
       by is same (Shorter p more at v) =
-          too_short (part_of y) w front p more is (outside a.behind p (more ++ a.others) a.outside v) at
+          too_short (measured_of y) w front p more is (outside a.behind p (more ++ a.others) a.outside v) at
           (subst (Begins 0) same x.begins)
 
   -- where the reach of what was read is not behind its end, it is its end
-  same_end : (ts rest left : List Token) (e : Part) → Found ts e rest → IsExact ts limit (here left)
+  same_end : (ts rest left : List Token) (e : Measured) → Found ts e rest → IsExact ts limit (here left)
       → length rest ≤ length left → left ≡ rest
   same_end ts rest left e t x le = by (meet x.front left t.front rest (sym x.text ∙ t.text))
     where
@@ -177,17 +178,18 @@ module _ (limit : ℕ) where
       by (Shorter p more at v) =
           absurd (x.dead refl p (more ++ rest) v (begins_longer e t.front x.front p more t.is at))
 
-  the_one : (ts rest front : List Token) (e : Part) (y : Node) (w : List Token) → Found ts e rest
+  the_one : (ts rest front : List Token) (e : Measured) (y : Node) (w : List Token) → Found ts e rest
       → IsExact ts limit (here rest) → ts ≡ front ++ rest → Likely rest front y w → (y ≡ e.node) × (w ≡ front)
   the_one ts rest front e y w t x text a =
       by (of_row y w a.is) (append_cancel_right t.front front rest (sym t.text ∙ text))
       (append_cancel_right x.front front rest (sym x.text ∙ text)) (meet w a.behind front a.others a.text)
     where
-      by : IsPart 0 (part_of y) w → t.front ≡ front → x.front ≡ front → Meet w a.behind front a.others
+      by : IsMeasured 0 (measured_of y) w → t.front ≡ front → x.front ≡ front → Meet w a.behind front a.others
           → (y ≡ e.node) × (w ≡ front)
       by is same at_x (Same at v) = (
-        ap (λ (z : Part). z.node)
-            (one_tree (part_of y) e front (subst (IsPart 0 (part_of y)) at is) (subst (IsPart 0 e) same t.is)),
+        ap (λ (z : Measured). z.node)
+            (one_tree (measured_of y) e front (subst (IsMeasured 0 (measured_of y)) at is)
+            (subst (IsMeasured 0 e) same t.is)),
         at,
       )
       by is same at_x (Longer p more at o) =
@@ -195,11 +197,11 @@ module _ (limit : ℕ) where
           absurd
           (x.dead refl p h.0 h.1
           (subst (λ (f : List Token). Begins 0 (f ++ p ∷ [])) (sym at_x)
-          (begins_longer (part_of y) w front p more is at)))
+          (begins_longer (measured_of y) w front p more is at)))
       by is same at_x (Shorter p more at v) =
           absurd
-          (too_short (part_of y) w front p more is (outside a.behind p (more ++ a.others) a.outside v) at
-          (record { tree = e; rest = []; is = subst (IsPart 0 e) (same ∙ sym (append-nil front)) t.is }))
+          (too_short (measured_of y) w front p more is (outside a.behind p (more ++ a.others) a.outside v) at
+          (record { tree = e; rest = []; is = subst (IsMeasured 0 e) (same ∙ sym (append-nil front)) t.is }))
 
   abbrev Sayer : List Token → Parsed Node → Type 0
   Sayer ts o =
@@ -208,7 +210,7 @@ module _ (limit : ℕ) where
 
   -- no expression ends where the tokens do that are left
   abbrev HasNone : (ts left : List Token) → Type 0
-  HasNone ts left = (e : Part) (w : List Token) → IsPart 0 e w → ts ≡ w ++ left → ⊥
+  HasNone ts left = (e : Measured) (w : List Token) → IsMeasured 0 e w → ts ≡ w ++ left → ⊥
 
   says_failed : (ts left : List Token) (deep : Bool) → IsExact ts limit (record { left = left; deep = deep })
       → (deep ≡ false → HasNone ts left) → Sayer ts (Fails left deep)
@@ -216,7 +218,8 @@ module _ (limit : ℕ) where
       none_there ts left front y w x text (λ e is. none refl e front is text) a
   says_failed ts left true x none front y w text a = λ low. none_low ts left front y w x text a (omega (arith, low))
 
-  says_ended : (ts : List Token) (e : Part) (rest left : List Token) (b : Bool) → leb (length rest) (length left) ≡ b
+  says_ended : (ts : List Token) (e : Measured) (rest left : List Token) (b : Bool)
+      → leb (length rest) (length left) ≡ b
       → Found ts e rest → IsExact ts limit (here left) → (length left < length rest → HasNone ts left)
       → Sayer ts (cond b (Reads e.node rest) (Fails left false))
   says_ended ts e rest left true le t x none front y w text a =
@@ -226,13 +229,13 @@ module _ (limit : ℕ) where
       says_failed ts left false x (λ calm. none (leb-false (length rest) (length left) le)) front y w text a
 
   -- a longer expression that ends where the one that was read broke off would have been read, or be too high
-  broken : (ts : List Token) (e : Part) (rest left : List Token)
+  broken : (ts : List Token) (e : Measured) (rest left : List Token)
       → read limit 0 ts ≡ found.Reads e rest (Some (here left)) → length left < length rest → HasNone ts left
-  broken ts e rest left is lt f w part text = elim (cases_lt limit f.height) [
+  broken ts e rest left is lt f w measured text = elim (cases_lt limit f.height) [
     | inl more ↦ clash
-        (ap (λ (o : found.Outcome). (stop_of o).deep) (sym is ∙ ap (read limit 0) text) ∙ high limit 0 f w left part
-        more)
-    | inr low ↦ too_far (longest ts limit e rest (Some (here left)) is f w left part low text)
+        (ap (λ (o : found.ParseResult). (stop_of o).deep) (sym is ∙ ap (read limit 0) text)
+        ∙ high limit 0 f w left measured more)
+    | inr low ↦ too_far (longest ts limit e rest (Some (here left)) is f w left measured low text)
   ]
     where
       clash : false ≡ true → ⊥
@@ -241,10 +244,10 @@ module _ (limit : ℕ) where
       too_far : length rest ≤ length left → ⊥
       too_far le = omega arith
 
-  says : (ts : List Token) (o : found.Outcome) → read limit 0 ts ≡ o → Sayer ts (to_its_end (reach_of o))
+  says : (ts : List Token) (o : found.ParseResult) → read limit 0 ts ≡ o → Sayer ts (to_its_end (reach_of o))
   says ts (found.Fails s) is =
       says_failed ts s.left s.deep (exact_at ts (found.Fails s) is)
-      (λ calm e w part text. nothing ts limit s is calm e w s.left part text)
+      (λ calm e w measured text. nothing ts limit s is calm e w s.left measured text)
   says ts (found.Reads e rest None) is =
       says_ended ts e rest rest (leb (length rest) (length rest)) refl (known.taken ts limit e rest None is)
       (exact_at ts (found.Reads e rest None) is) (λ lt. absurd (not_less (length rest) lt))

@@ -17,7 +17,7 @@ use Rattle.cat_parse_row.specs.Reader.{Reader, ◌⨟◌}
 use Rattle.cat_parse_row.specs.Right.{IsRight}
 use Rattle.cat_parse_row.specs.Cues.{kind_of, cue_is, word_of, lower_kind, upper_kind, lower_of, upper_of, «word»}
 use Rattle.cat_parse_row.specs.Cues.{lower, upper}
-use Rattle.cat_parse_row.proofs.Token.{Marks, token_right}
+use Rattle.cat_parse_row.proofs.Token.{Terminals, token_right}
 use Rattle.cat_parse_row.proofs.Choices.{reshaped}
 
 pub cue_found : (c : Cue) (k : TokenKind) → cue_is c k ≡ true → k ≡ kind_of c
@@ -69,7 +69,7 @@ some_one {A = A} x y h = ap (or_that x) h
     or_that d (Some z) = z
 
 word_marks : {B : Type 0} (c : Cue) (fits : B → Type 0)
-    → Marks fits (λ y. Anywhere (kind_of c)) (word_of c) (λ x y. Unit {0})
+    → Terminals fits (λ y. Anywhere (kind_of c)) (word_of c) (λ x y. Unit {0})
 word_marks c fits = record {
   gives = λ p x y e f i. tt;
   is = λ p x y e f i. cue_found c p.kind (word_case c p.kind p.pos x (cue_is c p.kind) refl e).0;
@@ -102,7 +102,7 @@ token_is p k at e f =
     ap (λ (x : TokenKind). record { kind = x; pos = p.pos }) e ∙ ap (λ (x : Pos). record { kind = k; pos = x }) f
 
 word_at_marks : {B : Type 0} (c : Cue) (fits : B → Type 0) (at : B → Pos)
-    → Marks fits (λ y. At (kind_of c) (at y)) (word_of c) (λ x y. at y ≡ x)
+    → Terminals fits (λ y. At (kind_of c) (at y)) (word_of c) (λ x y. at y ≡ x)
 word_at_marks c fits at = record {
   gives = λ p x y e f i. sym (ap (λ (t : Token). t.pos) i) ∙ (word_case c p.kind p.pos x (cue_is c p.kind) refl e).1;
   is =
@@ -144,7 +144,7 @@ pub not_both : {A : Type 0} (o : Option A) (x : A) → o ≡ None → o ≡ Some
 not_both o x e f = let h : None ≡ Some x = sym e ∙ f in absurd cc
 
 lower_marks : {B : Type 0} (fits : B → Type 0) (name : B → Name)
-    → Marks fits (λ y. At (kind.Lower (name y).text) (name y).pos) lower_of (λ x y. name y ≡ x)
+    → Terminals fits (λ y. At (kind.Lower (name y).text) (name y).pos) lower_of (λ x y. name y ≡ x)
 lower_marks fits name = record {
   gives = λ p x y e f i. some_one (name y) x (sym (ap lower_of i) ∙ e);
   is =
@@ -158,7 +158,7 @@ lower_marks fits name = record {
 }
 
 upper_marks : {B : Type 0} (fits : B → Type 0) (name : B → Name)
-    → Marks fits (λ y. At (kind.Upper (name y).text) (name y).pos) upper_of (λ x y. name y ≡ x)
+    → Terminals fits (λ y. At (kind.Upper (name y).text) (name y).pos) upper_of (λ x y. name y ≡ x)
 upper_marks fits name = record {
   gives = λ p x y e f i. some_one (name y) x (sym (ap upper_of i) ∙ e);
   is =

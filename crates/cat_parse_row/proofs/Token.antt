@@ -4,17 +4,17 @@ use Rattle.std.proofs.Common.{refl, sym, ap, subst, ◌∙◌, arith}
 use Rattle.std.proofs.lemmas.List.{append-nil, length-append}
 use Rattle.cat_lex.specs.declared.token.Token.{Token}
 use Rattle.cat_lex.specs.declared.token.TokenKind.{TokenKind}
-use Rattle.cat_tree.specs.Phrase.{Parts, Word, Mark, IsAt}
+use Rattle.cat_tree.specs.Phrase.{Parts, Word, Terminal, IsAt}
 use Rattle.cat_parse_row.specs.Reader.{Parsed, Reader, Fails, Reads, left_of, after, ◌⨟◌, made_of, one}
 use Rattle.cat_parse_row.specs.Right.{Agree, Is, Begun, Took, Taken, Says, Alike, IsRight}
 use Rattle.cat_parse_row.proofs.Steps.{no_front}
 
--- what is made of a token tells which mark it bears
-pub record Marks {A B : Type 0} (fits : B → Type 0) (mark : B → Mark) (take : Token → Option A)
+-- what is made of a token tells which terminal it is
+pub record Terminals {A B : Type 0} (fits : B → Type 0) (terminal : B → Terminal) (take : Token → Option A)
     (at : A → B → Type 0) : Type 0 where
-  pub gives : (p : Token) (x : A) (y : B) → take p ≡ Some x → fits y → IsAt (mark y) p → at x y
-  pub is : (p : Token) (x : A) (y : B) → take p ≡ Some x → fits y → at x y → IsAt (mark y) p
-  pub none : (p : Token) (y : B) → take p ≡ None → fits y → IsAt (mark y) p → ⊥
+  pub gives : (p : Token) (x : A) (y : B) → take p ≡ Some x → fits y → IsAt (terminal y) p → at x y
+  pub is : (p : Token) (x : A) (y : B) → take p ≡ Some x → fits y → at x y → IsAt (terminal y) p
+  pub none : (p : Token) (y : B) → take p ≡ None → fits y → IsAt (terminal y) p → ⊥
   pub token : Token
   pub made : A
   pub sample : take token ≡ Some made
@@ -33,12 +33,12 @@ heads_same p q ps qs e = ap (first_or p) e
 pub tails_same : (p q : Token) (ps qs : List Token) → p ∷ ps ≡ q ∷ qs → ps ≡ qs
 tails_same p q ps qs e = ap rest_of e
 
-module _ {A B : Type 0} (limit bound : ℕ) (out : TokenKind → Bool) (fits : B → Type 0) (mark : B → Mark)
+module _ {A B : Type 0} (limit bound : ℕ) (out : TokenKind → Bool) (fits : B → Type 0) (terminal : B → Terminal)
     (rest : B → Parts)
-    (take : Token → Option A) (at : A → B → Type 0) (r : A → Reader B) (m : Marks fits mark take at)
+    (take : Token → Option A) (at : A → B → Type 0) (r : A → Reader B) (m : Terminals fits terminal take at)
     (right : (x : A) → IsRight limit bound out (λ y. fits y × at x y) rest (r x)) where
   abbrev row : B → Parts
-  row y = Word (mark y) (rest y)
+  row y = Word (terminal y) (rest y)
 
   is_behind : (p : Token) (x : A) (y : B) (w : List Token) → take p ≡ Some x → Is (λ y. fits y × at x y) rest y w
       → Is fits row y (p ∷ w)
@@ -113,7 +113,7 @@ module _ {A B : Type 0} (limit bound : ℕ) (out : TokenKind → Bool) (fits : B
           ap (λ (v : List Token). v ++ a.behind) (sym s.2) ∙ t
           ∙ ap (λ (v : List Token). v ++ q ∷ qs) (no_front front (p ∷ ts) text) in
           let is : s.0 ≡ p = heads_same s.0 q (s.1 ++ a.behind) qs same ∙ sym g in
-          m.none p y e a.is.fit (subst (IsAt (mark y)) is s.3)
+          m.none p y e a.is.fit (subst (IsAt (terminal y)) is s.3)
 
   says_made : (p : Token) (ts : List Token) (y : B) (w : List Token) → length ts ≤ bound → (x : A) → take p ≡ Some x
       → (front : List Token) → (p ∷ ts) ≡ front ++ left_of (r x ts) → Alike out fits row (left_of (r x ts)) front y w
@@ -128,7 +128,7 @@ module _ {A B : Type 0} (limit bound : ℕ) (out : TokenKind → Bool) (fits : B
       ap (λ (v : List Token). v ++ a.behind) (sym s.2) ∙ a.text in
       let pf : p ≡ f = heads_same p f ts (front ++ left_of (r x ts)) text in
       let is : s.0 ≡ f = heads_same s.0 f (s.1 ++ a.behind) (front ++ a.others) same in
-      let there : IsAt (mark y) p = subst (IsAt (mark y)) (is ∙ sym pf) s.3 in
+      let there : IsAt (terminal y) p = subst (IsAt (terminal y)) (is ∙ sym pf) s.3 in
       let inner = (right x).says ts front y s.1 le (tails_same p f ts (front ++ left_of (r x ts)) text) (record {
         others = a.others;
         behind = a.behind;
@@ -154,5 +154,5 @@ module _ {A B : Type 0} (limit bound : ℕ) (out : TokenKind → Bool) (fits : B
   says_one [] front y w le text a = nothing_spelled front y w text a
   says_one (p ∷ ts) front y w le text a = says_of p ts front y w (omega (arith, le)) (take p) refl text a
 
-  pub token_right : IsRight limit (suc bound) out fits (λ y. Word (mark y) (rest y)) (one take ⨟ r)
+  pub token_right : IsRight limit (suc bound) out fits (λ y. Word (terminal y) (rest y)) (one take ⨟ r)
   token_right = record { alive = alive; taken = taken_one; says = says_one }

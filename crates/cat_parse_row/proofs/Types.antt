@@ -20,7 +20,7 @@ use Rattle.cat_parse_row.specs.Right.{Begun, Taken, Says, Alike, IsRight}
 use Rattle.cat_parse_row.specs.Cues.{kind_of, base_of, «word»}
 use Rattle.cat_parse_row.specs.Types.{placed, typed, base_at, is_list_of, type_after, a_type}
 use Rattle.cat_parse_row.proofs.Steps.{pure_right, no_front, agree_same}
-use Rattle.cat_parse_row.proofs.Token.{Marks, token_right}
+use Rattle.cat_parse_row.proofs.Token.{Terminals, token_right}
 use Rattle.cat_parse_row.proofs.Choices.{reshaped, Decides, choice_right}
 use Rattle.cat_parse_row.proofs.Leaves.{cue_self, word_behind, lowered, some_one, not_both, token_is, anywhere}
 
@@ -61,7 +61,8 @@ placed_found (Some b) p x e =
     (ap (λ (t : Base × Pos). Some t.0) same, ap (λ (t : Base × Pos). t.1) same)
 
 base_marks : (n : ℕ)
-    → Marks (λ (y : types.Type). y.lists ≡ n) (λ y. At (base_kind y.base) y.pos) base_at (λ x y. (y.base, y.pos) ≡ x)
+    → Terminals (λ (y : types.Type). y.lists ≡ n) (λ y. At (base_kind y.base) y.pos) base_at
+    (λ x y. (y.base, y.pos) ≡ x)
 base_marks n = record {
   gives = λ p x y e f i. some_one (y.base, y.pos) x (sym (made p y i) ∙ e);
   is =

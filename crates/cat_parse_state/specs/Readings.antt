@@ -8,7 +8,7 @@ use Rattle.cat_tree.specs.declared.expression.Node.TheViews as node
 use Rattle.cat_parse_state.specs.declared.state.State.{State}
 use Rattle.cat_parse_state.specs.declared.state.State.TheVariants as state
 use Rattle.cat_parse_state.specs.declared.state.Reading.{Reading}
-use Rattle.cat_parse_state.specs.declared.state.Part.{Part}
+use Rattle.cat_parse_state.specs.declared.state.Measured.{Measured}
 use Rattle.cat_parse_state.specs.Operands.{fed_state, ends_form, ends_match}
 
 -- the expression that is whole here
@@ -28,7 +28,7 @@ abbrev pub start : Reading
 start = record { state = state.Start; tallest = 0; in_form = false; in_match = false }
 
 -- one operand further
-unfoldable pub feed : Reading → Part → Reading
+unfoldable pub feed : Reading → Measured → Reading
 feed r e = record {
   state = fed_state r.state e.node e.in_match;
   tallest = max r.tallest e.height;

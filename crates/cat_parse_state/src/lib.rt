@@ -13,4 +13,4 @@ pub use ask::{is_whole, needs_part, no_node, takes, whole_node};
 pub use group::{Group, group_of};
 pub use levels::{left_level, operator_level};
 pub use reading::{feed, start};
-pub use state::{Combining, Matching, Owner, Part, Reading, State};
+pub use state::{Combining, Matching, Measured, Owner, Reading, State};

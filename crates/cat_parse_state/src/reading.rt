@@ -7,7 +7,7 @@ ghost use Rattle.cat_parse_state.specs.Readings.{IsFed};
 use crate::feed_forms::feed_forms;
 use crate::feed_parts::{feed_brackets, feed_parts};
 use crate::group::{Group, group_of};
-use crate::{Part, Reading, State};
+use crate::{Measured, Reading, State};
 use cat_tree::Node;
 use std::alloc::{AllocError, Global};
 
@@ -58,13 +58,13 @@ fn fed_state(alloc: Global, state: State, node: Node, in_match: bool) -> Result<
 
 /// The reading with the operand that it waits for.
 #[tactic(auto, unfolding(crate::specs::Readings::feed))]
-pub fn feed(alloc: Global, reading: Reading, part: Part) -> Result<Reading, AllocError>
-    ensures { IfOk result (λ fed. fed ≡ readings.feed reading part) }
+pub fn feed(alloc: Global, reading: Reading, operand: Measured) -> Result<Reading, AllocError>
+    ensures { IfOk result (λ fed. fed ≡ readings.feed reading operand) }
 {
-    let in_form = ends_form(&reading.state) || part.in_form;
-    let in_match = ends_match(&reading.state) || part.in_match;
-    let tallest = reading.tallest.max(part.height);
-    let state = fed_state(alloc, reading.state, part.node, part.in_match)?;
+    let in_form = ends_form(&reading.state) || operand.in_form;
+    let in_match = ends_match(&reading.state) || operand.in_match;
+    let tallest = reading.tallest.max(operand.height);
+    let state = fed_state(alloc, reading.state, operand.node, operand.in_match)?;
     Ok(Reading {
         state,
         tallest,

@@ -110,7 +110,7 @@ pub enum State {
 
 /// An expression with what its place in a larger one depends on.
 #[derive(Drop)]
-pub struct Part {
+pub struct Measured {
     pub node: Node,
     pub height: u32,
     /// It ends in a form.

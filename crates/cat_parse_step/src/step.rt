@@ -17,7 +17,8 @@ use cat_pos::{Pos, Text};
 use cat_tree::Name;
 use std::alloc::{AllocError, Global};
 
-/// Where a word leads: on, or with the expression so far as a part of a higher one, or nowhere, with the state as it was.
+/// Where a word leads: on, or with the expression so far as a part of a higher one, or nowhere, with the state as it
+/// was.
 #[derive(Drop)]
 pub(crate) enum Stepped {
     Onward(State),

@@ -70,7 +70,8 @@ fn arm_pattern(alloc: Global, matching: Matching, token: &Token) -> Result<Stepp
 
 /// The dot behind an arm's case.
 fn case_dot(matching: Matching, case: CaseName) -> Stepped
-    ensures { result ≡ stepped_by (State.ArmCase matching case) (steps.case_dot case (λ u. Onward (State.ArmDot matching u))) }
+    ensures { result
+        ≡ stepped_by (State.ArmCase matching case) (steps.case_dot case (λ u. Onward (State.ArmDot matching u))) }
 {
     match case {
         CaseName::Bare(name) => Stepped::Onward(State::ArmDot(matching, name)),

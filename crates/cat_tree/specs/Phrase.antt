@@ -5,9 +5,9 @@ use Rattle.cat_lex.specs.declared.token.Token.{Token}
 use Rattle.cat_lex.specs.declared.token.TokenKind.{TokenKind}
 
 -- a word of a phrase: a token at a position that the tree keeps, or anywhere
-pub data Mark : Type 0 where
-  At : TokenKind → Pos → Mark
-  Anywhere : TokenKind → Mark
+pub data Terminal : Type 0 where
+  At : TokenKind → Pos → Terminal
+  Anywhere : TokenKind → Terminal
 
 -- what else counts of a phrase: the level at which it may stand as an operand, whether it is a form or a
 -- match, and whether its values are within their bounds
@@ -29,7 +29,7 @@ mutual
 
   pub data Parts : Type 0 where
     End : Parts
-    Word : Mark → Parts → Parts
+    Word : Terminal → Parts → Parts
     Part : Stand → Phrase → Parts → Parts
 
 -- A phrase without parts has height 1, and every other one more than its highest part.
@@ -84,8 +84,8 @@ abbrev mutual
   AreLevelled (Word m ps) = AreLevelled ps
   AreLevelled (Part s e ps) = Stands s e × IsLevelled e × AreLevelled ps
 
--- the token is the one that is marked, at its position where that is kept
-abbrev pub IsAt : Mark → Token → Type 0
+-- the token is that terminal, at its position where that is kept
+abbrev pub IsAt : Terminal → Token → Type 0
 IsAt (At kind pos) t = t ≡ record { kind = kind; pos = pos }
 IsAt (Anywhere kind) t = t.kind ≡ kind
 

@@ -1,12 +1,12 @@
--- Lines, what they are, and the parts of small sources.
+-- Lines, what they are, and the segments of small sources.
 use Rattle.std.proofs.Common.{◌≡◌, ℕ, List, [], ◌∷◌, ◌++◌, refl, false}
 use Rattle.std.specs.Prelude.{codes, None, Err}
 use Rattle.cat_weave.specs.Lines.{lines_of, bare, without_end, without_last, without_last_blanks, without_first_blanks}
 use Rattle.cat_weave.specs.Kinds.{Kind, LawLine, OpeningLine, CodeLine, ClosingLine, HeadingLine, IncludeLine}
 use Rattle.cat_weave.specs.Kinds.{level_of, law_kind, kind_of, kinds_of}
-use Rattle.cat_weave.specs.Woven.{line_position, code_text, parts_from, closes, unclosed, woven_lines}
-use Rattle.cat_weave.specs.declared.part.Part.TheVariants.{Code, Heading, Include}
-use Rattle.cat_weave.specs.declared.part.WeaveRefusal.TheVariants.{FenceOpen}
+use Rattle.cat_weave.specs.Woven.{line_position, code_text, segments_from, closes, unclosed, woven_lines}
+use Rattle.cat_weave.specs.declared.segment.Segment.TheVariants.{Code, Heading, Include}
+use Rattle.cat_weave.specs.declared.segment.WeaveRefusal.TheVariants.{FenceOpen}
 
 each_line_has_its_line_feed : lines_of (97 ∷ 10 ∷ 10 ∷ 98 ∷ []) ≡ (97 ∷ 10 ∷ []) ∷ (10 ∷ []) ∷ (98 ∷ []) ∷ []
 unfolding lines_of
@@ -78,11 +78,11 @@ abbrev lines : List Kind
 lines = OpeningLine ∷ CodeLine heading ∷ CodeLine heading ∷ ClosingLine ∷ OpeningLine ∷ CodeLine opening ∷
     ClosingLine ∷ OpeningLine ∷ ClosingLine ∷ IncludeLine (codes "b") ∷ LawLine ∷ HeadingLine 1 (codes "c") ∷ []
 
-a_block_is_one_piece_and_an_empty_one_none : parts_from 7 false 1 lines ≡ Code
+a_block_is_one_piece_and_an_empty_one_none : segments_from 7 false 1 lines ≡ Code
     (record { text = heading ++ heading; pos = line_position 7 2 }) ∷ Code
     (record { text = opening; pos = line_position 7 6 }) ∷ Include (codes "b") (line_position 7 10) ∷ Heading 1
     (codes "c") (line_position 7 12) ∷ []
-unfolding parts_from code_text
+unfolding segments_from code_text
 a_block_is_one_piece_and_an_empty_one_none = refl
 
 each_block_is_closed : unclosed 1 lines ≡ None

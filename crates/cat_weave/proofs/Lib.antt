@@ -1,4 +1,4 @@
 pub mod LineLemmas
-pub mod PartLemmas
+pub mod SegmentLemmas
 pub mod WithinLemmas
 mod Examples

@@ -2,10 +2,10 @@
 #![tactic(auto)]
 
 mod line;
-mod part;
+mod segment;
 mod weaver;
 
-pub use part::{Heading, Headings, Part, Parts, WeaveRefusal, Woven};
+pub use segment::{Heading, Headings, Segment, Segments, WeaveRefusal, Woven};
 pub use weaver::weave;
 
 #[cfg(test)]

@@ -1,24 +1,24 @@
 //! Sources by the kinds of their lines, and what they are woven to.
-use crate::{Part, Parts, WeaveRefusal, weave};
+use crate::{Segment, Segments, WeaveRefusal, weave};
 use cat_pos::Pos;
 use std::alloc::{AllocError, Global};
 use std::process::Abort;
 use std::test::Fail;
 
-/// The parts, one after another: what each is, its line and column, and its text.
-fn shown(alloc: Global, parts: &Parts) -> Result<String, AllocError> {
+/// The segments, one after another: what each is, its line and column, and its text.
+fn shown(alloc: Global, segments: &Segments) -> Result<String, AllocError> {
     let mut all = String::new(alloc);
-    for part in parts.as_slice() {
-        let text = match part {
-            Part::Code(piece) => {
+    for segment in segments.as_slice() {
+        let text = match segment {
+            Segment::Code(piece) => {
                 let (line, column, text) = (piece.pos.line, piece.pos.column, piece.text.as_str());
                 format!(in alloc; "code {line}:{column} {text};")?
             }
-            Part::Heading(level, text, pos) => {
+            Segment::Heading(level, text, pos) => {
                 let (line, column, text) = (pos.line, pos.column, text.as_str());
                 format!(in alloc; "{level} {line}:{column} {text};")?
             }
-            Part::Include(path, pos) => {
+            Segment::Include(path, pos) => {
                 let (line, column, path) = (pos.line, pos.column, path.as_str());
                 format!(in alloc; "include {line}:{column} {path};")?
             }
@@ -34,7 +34,7 @@ fn a_source_is_woven_by_its_lines(rt: HostRuntime) -> Result<(), Fail> {
     let source =
         b"# a \t\r\n> Include:  \tb c.md\n```catala-metadata\n# d\n``` \r\n####### e\n```catala\n```\n";
     let woven = weave(alloc, source, 7)?;
-    let got = shown(alloc, &woven.parts)?;
+    let got = shown(alloc, &woven.segments)?;
     assert!(rt;
         got.as_str() == "1 1:1 a;include 2:1 b c.md;code 4:1 # d\n;",
         "{got}"

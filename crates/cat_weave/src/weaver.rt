@@ -1,21 +1,21 @@
-// Parts out of lines.
+// Segments out of lines.
 ghost use Rattle.std.specs.Prelude.{◌≡◌, ◌≢◌, ◌+◌, ◌<◌, ◌≤◌, false, length, Err, IfOk, IfErr, MatchOption, MatchResult};
 ghost use Rattle.std.specs.Prelude.{IfSome, ◌∷◌};
 ghost use Rattle.cat_weave.specs.Woven.{woven, woven_lines, line_position, closes, AreWithin};
 ghost use Rattle.cat_weave.specs.Kinds.{ClosingLine};
-ghost use Rattle.cat_weave.specs.inside.Reading.{law_kinds, block_kinds, code_part, IsCodeBefore, IsStep, IsOpen};
+ghost use Rattle.cat_weave.specs.inside.Reading.{law_kinds, block_kinds, code_segment, IsCodeBefore, IsStep, IsOpen};
 ghost use Rattle.std.specs.Option.{option_to_list};
 
 use crate::line::{Line, bare, first_line, law_line};
-use crate::{Part, WeaveRefusal, Woven};
+use crate::{Segment, WeaveRefusal, Woven};
 use cat_pos::{List, MOST_FILE_BYTES, Piece, Pos, Text, pos_at};
 use std::alloc::{AllocError, Global};
 
-/// The parts of a file.
+/// The segments of a file.
 pub fn weave(alloc: Global, bytes: &[u8], file: u32) -> Result<Woven, WeaveRefusal>
     requires { length bytes.now ≤ MOST_FILE_BYTES }
     ensures gives { result ≢ Err WeaveRefusal.Memory → result ≡ woven bytes.now file }
-    ensures within { IfOk result (λ woven. AreWithin (length bytes.now) file woven.parts) }
+    ensures within { IfOk result (λ woven. AreWithin (length bytes.now) file woven.segments) }
 {
     match str::from_utf8(bytes) {
         Ok(text) => woven_text(alloc, text, file),
@@ -26,26 +26,30 @@ pub fn weave(alloc: Global, bytes: &[u8], file: u32) -> Result<Woven, WeaveRefus
 fn woven_text(alloc: Global, text: &str, file: u32) -> Result<Woven, WeaveRefusal>
     requires { length text.now ≤ MOST_FILE_BYTES }
     ensures gives { result ≢ Err WeaveRefusal.Memory → result ≡ woven_lines file (law_kinds text.now) }
-    ensures within { IfOk result (λ woven. AreWithin (length text.now) file woven.parts) }
+    ensures within { IfOk result (λ woven. AreWithin (length text.now) file woven.segments) }
 {
-    let mut parts = List::new(alloc);
+    let mut segments = List::new(alloc);
     let mut rest = text;
     let mut line = 1;
     while !rest.is_empty() {
-        let Step { part, lines, after } = next_step(alloc, rest, file, line)?;
-        if let Some(part) = part {
-            parts.push(part)?;
+        let Step {
+            segment,
+            lines,
+            after,
+        } = next_step(alloc, rest, file, line)?;
+        if let Some(segment) = segment {
+            segments.push(segment)?;
         }
         line += lines;
         rest = after;
     }
-    Ok(Woven { parts })
+    Ok(Woven { segments })
 }
 
 /// A line outside every block, or a whole block.
 #[derive(Drop)]
 struct Step<'a> {
-    part: Option<Part>,
+    segment: Option<Segment>,
     lines: u32,
     after: &'a str,
 }
@@ -54,7 +58,7 @@ fn next_step(alloc: Global, rest: &str, file: u32, line: u32) -> Result<Step<'_>
     requires some { 0 < length rest.now }
     requires short { line + length rest.now ≤ MOST_FILE_BYTES + 1 }
     ensures gives { MatchResult result
-        (λ s. IsStep file line (law_kinds rest.now) s.part s.lines (law_kinds s.after.now))
+        (λ s. IsStep file line (law_kinds rest.now) s.segment s.lines (law_kinds s.after.now))
         (λ e. IsOpen file line (law_kinds rest.now) e) }
     ensures fewer { IfOk result (λ s. s.lines + length s.after.now ≤ length rest.now) }
     ensures goes_on { IfOk result (λ s. 0 < s.lines) }
@@ -70,20 +74,20 @@ fn next_step(alloc: Global, rest: &str, file: u32, line: u32) -> Result<Step<'_>
         Line::Opening => block_step(alloc, after, pos),
         Line::Heading(level, text) => {
             let text = Text::from_str(alloc, text)?;
-            Ok(line_step(Some(Part::Heading(level, text, pos)), after))
+            Ok(line_step(Some(Segment::Heading(level, text, pos)), after))
         }
         Line::Include(path) => {
             let path = Text::from_str(alloc, path)?;
-            Ok(line_step(Some(Part::Include(path, pos)), after))
+            Ok(line_step(Some(Segment::Include(path, pos)), after))
         }
     }
 }
 
-fn line_step(part: Option<Part>, after: &str) -> Step<'_>
-    ensures { result ≡ record { part = part; lines = 1; after = after.entry } }
+fn line_step(segment: Option<Segment>, after: &str) -> Step<'_>
+    ensures { result ≡ record { segment = segment; lines = 1; after = after.entry } }
 {
     Step {
-        part,
+        segment,
         lines: 1,
         after,
     }
@@ -93,18 +97,20 @@ fn line_step(part: Option<Part>, after: &str) -> Step<'_>
 fn block_step(alloc: Global, text: &str, opening: Pos) -> Result<Step<'_>, WeaveRefusal>
     requires { opening.line + length text.now ≤ MOST_FILE_BYTES }
     ensures gives { MatchResult result
-        (λ s. (code : _) × (count : _) × IsCodeBefore (block_kinds text.now) code count (ClosingLine ∷ law_kinds s.after.now)
-        × (option_to_list s.part ≡ code_part (line_position opening.file (opening.line + 1)) code count)
+        (λ s. (code : _) × (count : _) × IsCodeBefore (block_kinds text.now) code count
+        (ClosingLine ∷ law_kinds s.after.now)
+        × (option_to_list s.segment ≡ code_segment (line_position opening.file (opening.line + 1)) code count)
         × (s.lines ≡ count + 2))
-        (λ e. e ≢ WeaveRefusal.Memory → (e ≡ WeaveRefusal.FenceOpen opening) × (closes (block_kinds text.now) ≡ false)) }
+        (λ e. e ≢ WeaveRefusal.Memory → (e ≡ WeaveRefusal.FenceOpen opening)
+        × (closes (block_kinds text.now) ≡ false)) }
     ensures fewer { IfOk result (λ s. s.lines + length s.after.now ≤ length text.now + 1) }
 {
     let Some(block) = block_of(text) else {
         return Err(WeaveRefusal::FenceOpen(opening));
     };
-    let part = piece_of(alloc, block.code, block.code_lines, opening)?;
+    let segment = piece_of(alloc, block.code, block.code_lines, opening)?;
     Ok(Step {
-        part,
+        segment,
         lines: block.code_lines + 2,
         after: block.after,
     })
@@ -116,10 +122,10 @@ fn piece_of(
     code: &str,
     code_lines: u32,
     opening: Pos,
-) -> Result<Option<Part>, AllocError>
+) -> Result<Option<Segment>, AllocError>
     requires { opening.line < MOST_FILE_BYTES }
-    ensures { IfOk result (λ part. option_to_list part
-        ≡ code_part (line_position opening.file (opening.line + 1)) code.now code_lines) }
+    ensures { IfOk result (λ segment. option_to_list segment
+        ≡ code_segment (line_position opening.file (opening.line + 1)) code.now code_lines) }
 {
     if code_lines == 0 {
         return Ok(None);
@@ -130,7 +136,7 @@ fn piece_of(
         line: opening.line + 1,
         column: 1,
     };
-    Ok(Some(Part::Code(Piece { text, pos })))
+    Ok(Some(Segment::Code(Piece { text, pos })))
 }
 
 /// The code of a block and what follows its closing line.

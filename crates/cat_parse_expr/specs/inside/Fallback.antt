@@ -21,9 +21,9 @@ use Rattle.cat_parse_state.specs.declared.state.Owner.TheVariants as owner
 use Rattle.cat_parse_state.specs.Readings.{done}
 
 -- a call up to its argument
-abbrev pub before_call : Name → List Node → Option Node
-before_call f [] = Some (leaf.Name f)
-before_call f (a ∷ args) = Some (node.Call f (a ∷ args))
+abbrev pub before_argument : Name → List Node → Option Node
+before_argument f [] = Some (leaf.Name f)
+before_argument f (a ∷ args) = Some (node.Call f (a ∷ args))
 
 -- a literal up to its fields
 abbrev pub before_fields : Owner → Option Node
@@ -31,30 +31,30 @@ before_fields (owner.Literal u) = Some (leaf.Case (Bare u))
 before_fields (owner.Call p u) = None
 
 -- a match up to its arms
-abbrev pub match_before : Matching → List Arm → Option Node
-match_before m [] = None
-match_before m (a ∷ arms) = Some (node.Match m.pos m.tested (a ∷ arms))
+abbrev pub match_so_far : Matching → List Arm → Option Node
+match_so_far m [] = None
+match_so_far m (a ∷ arms) = Some (node.Match m.pos m.tested (a ∷ arms))
 
 -- the match before an arm that is under way
 abbrev pub before_arm : Matching → Option Node
-before_arm m = match_before m m.arms
+before_arm m = match_so_far m m.arms
 
 -- a number before its unit
-abbrev pub before_literal : Literal → Pos → Option Node
-before_literal (literal.Span n u) p = Some (leaf.Literal (literal.Int n) p)
-before_literal _ p = None
+abbrev pub before_unit : Literal → Pos → Option Node
+before_unit (literal.Span n u) p = Some (leaf.Literal (literal.Int n) p)
+before_unit _ p = None
 
 -- a test before the dot in its case
-abbrev pub before_test : Node → Pos → CaseName → Option Node
-before_test e p (Qualified u c) = Some (node.Test e p (Bare u))
-before_test e p (Bare u) = None
+abbrev pub before_dot : Node → Pos → CaseName → Option Node
+before_dot e p (Qualified u c) = Some (node.Test e p (Bare u))
+before_dot e p (Bare u) = None
 
 -- what stood whole before the last word of an expression
 abbrev pub before_last : Node-F Node Arm FieldValue → Option Node
-before_last (Node-F.Literal l p) = before_literal l p
+before_last (Node-F.Literal l p) = before_unit l p
 before_last (Node-F.Field e w) = Some e
 before_last (Node-F.Structure u fs) = Some (leaf.Case (Bare u))
-before_last (Node-F.Test e p c) = before_test e p c
+before_last (Node-F.Test e p c) = before_dot e p c
 before_last _ = None
 
 -- what was whole before fields or an arm that are under way
@@ -82,7 +82,7 @@ fallback (state.TestedDot e p u) = Some (node.Test e p (Bare u))
 fallback (state.WithPattern n p) = Some n
 fallback (state.Right n o p) = Some n
 fallback (state.Content c) = Some (leaf.Case c)
-fallback (state.Argument f args) = before_call f args
+fallback (state.Argument f args) = before_argument f args
 fallback q = fallback_of_parts q
 
 -- the first, or else the second
@@ -91,8 +91,8 @@ or_else (Some n) other = Some n
 or_else None other = other
 
 -- the last whole expression on the way to what follows a state
-abbrev pub before : State → Option Node
-before q = or_else (done q) (fallback q)
+abbrev pub last_whole : State → Option Node
+last_whole q = or_else (done q) (fallback q)
 
 -- a list that is not empty
 abbrev pub is_filled_list : {A : Type 0} → List A → Bool

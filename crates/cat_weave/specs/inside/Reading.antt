@@ -7,11 +7,11 @@ use Rattle.cat_pos.specs.Position.{is_line_feed}
 use Rattle.cat_pos.specs.declared.pos.Pos.{Pos}
 use Rattle.cat_weave.specs.Lines.{lines_of}
 use Rattle.cat_weave.specs.Kinds.{Kind, LawLine, OpeningLine, CodeLine, HeadingLine, IncludeLine, kinds_of}
-use Rattle.cat_weave.specs.Woven.{line_position, parts_from, unclosed}
-use Rattle.cat_weave.specs.declared.part.Part.{Part}
-use Rattle.cat_weave.specs.declared.part.Part.TheVariants.{Code}
-use Rattle.cat_weave.specs.declared.part.WeaveRefusal.{WeaveRefusal}
-use Rattle.cat_weave.specs.declared.part.WeaveRefusal.TheVariants.{FenceOpen, Memory}
+use Rattle.cat_weave.specs.Woven.{line_position, segments_from, unclosed}
+use Rattle.cat_weave.specs.declared.segment.Segment.{Segment}
+use Rattle.cat_weave.specs.declared.segment.Segment.TheVariants.{Code}
+use Rattle.cat_weave.specs.declared.segment.WeaveRefusal.{WeaveRefusal}
+use Rattle.cat_weave.specs.declared.segment.WeaveRefusal.TheVariants.{FenceOpen, Memory}
 use Rattle.cat_weave.specs.declared.line.Line.{Line}
 use Rattle.cat_weave.specs.declared.line.Line.TheVariants.{Law, Opening, Heading, Include}
 
@@ -48,13 +48,14 @@ pub record IsCodeBefore (lines : List Kind) (code : List ℕ) (count : ℕ) (res
   pub whole : lines ≡ code_lines texts ++ rest
 
 -- the piece of so many code lines
-abbrev pub code_part : Pos → List ℕ → ℕ → List Part
-code_part pos code zero = []
-code_part pos code (suc count) = Code (record { text = code; pos = pos }) ∷ []
+abbrev pub code_segment : Pos → List ℕ → ℕ → List Segment
+code_segment pos code zero = []
+code_segment pos code (suc count) = Code (record { text = code; pos = pos }) ∷ []
 
--- the lines from n on give this part, if any, and then what the rest gives from a later line on
-pub record IsStep (file n : ℕ) (lines : List Kind) (part : Option Part) (count : ℕ) (rest : List Kind) : Type 0 where
-  pub parts : parts_from file false n lines ≡ option_to_list part ++ parts_from file false (n + count) rest
+-- the lines from n on give this segment, if any, and then what the rest gives from a later line on
+pub record IsStep (file n : ℕ) (lines : List Kind) (segment : Option Segment) (count : ℕ)
+    (rest : List Kind) : Type 0 where
+  pub segments : segments_from file false n lines ≡ option_to_list segment ++ segments_from file false (n + count) rest
   pub opened : unclosed n lines ≡ unclosed (n + count) rest
 
 -- the block that opens in line n isn't closed

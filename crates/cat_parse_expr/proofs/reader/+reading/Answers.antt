@@ -1,5 +1,5 @@
 use Rattle.std.proofs.Common.{◌≡◌, drop, leb, refl, sym, ◌∙◌, arith}
-use Rattle.cat_parse_expr.specs.declared.outcome.Reached.{Reached}
+use Rattle.cat_parse_expr.specs.declared.reached.Reached.{Reached}
 use Rattle.cat_parse_expr.specs.Reader.{read}
 use Rattle.cat_parse_expr.proofs.TakeLemmas.{nothing_read, operand_is, asks_of, start_stands, start_goes, if_ok}
 use Rattle.cat_parse_expr.proofs.reader.+reading.Goals as goal

@@ -12,8 +12,8 @@ returns-then-is_high c =
     let following : place ≡ suc s.at = omega arith in
     let taken = rw c.in-Further.is at c.in_ok-more.ensures in
     word_high c.args.limit c.args.level tokens s c.requires.standing p c.in-Further.more place following lt
-    (cut_at tokens s.at place p lt c.index-tokens-at.is following) taken c.mark_after-marked.result
-    c.mark_after-marked.ensures
+    (cut_at tokens s.at place p lt c.index-tokens-at.is following) taken c.checkpoint_after-latest.result
+    c.checkpoint_after-latest.ensures
     c.stopped.result c.fallback.result c.fallback.ensures (sym c.is_high.ensures ∙ c.if-is_high.true)
     (c.stopped.ensures.gives tokens) (λ m. c.stopped.ensures.within (length tokens) m c.requires.standing.within)
 
@@ -27,5 +27,5 @@ returns-else-is_high c =
     let following : place ≡ suc s.at = omega arith in
     let taken = rw c.in-Further.is at c.in_ok-more.ensures in
     word_goes c.args.limit c.args.level tokens s c.requires.standing p c.in-Further.more place following lt
-    (cut_at tokens s.at place p lt c.index-tokens-at.is following) taken c.mark_after-marked.result
-    c.mark_after-marked.ensures (sym c.is_high.ensures ∙ c.if-is_high.false)
+    (cut_at tokens s.at place p lt c.index-tokens-at.is following) taken c.checkpoint_after-latest.result
+    c.checkpoint_after-latest.ensures (sym c.is_high.ensures ∙ c.if-is_high.false)

@@ -1,7 +1,7 @@
 use Rattle.std.proofs.Common.{◌≡◌, ◌<◌, ◌+◌, suc, ℕ, Bool, false, true, drop, length, sym, ap, ◌∙◌, arith}
 use Rattle.cat_parse_state.specs.declared.state.Reading.{Reading}
 use Rattle.cat_parse_expr.specs.declared.standing.Turn.TheVariants.{Goes}
-use Rattle.cat_parse_expr.specs.inside.Fallback.{before}
+use Rattle.cat_parse_expr.specs.inside.Fallback.{last_whole}
 use Rattle.cat_parse_expr.proofs.Keeping.{shift_keeps}
 use Rattle.cat_parse_expr.proofs.TurnLemmas.{cut_at, word_goes, breaks_off, misses, no_word_misses, high_misses, hits}
 use Rattle.cat_parse_expr.proofs.TurnLemmas.{reaches_further}
@@ -20,8 +20,8 @@ returns-then-halt c = λ fuel best room kept.
       | then-halt-via-then-halt w ↦ λ calm same. not_both h.deep calm w.if-halt.true
       | then-halt-via-else-halt+then-at-halt w ↦ λ calm same. w.if-at-halt.true (omega arith)
     ] in
-    breaks_off c.args.limit c.args.level fuel tokens s h best c.stopped.result c.mark_after-marked.result
-    c.before-node.result c.requires.standing c.mark_after-marked.ensures c.before-node.ensures
+    breaks_off c.args.limit c.args.level fuel tokens s h best c.stopped.result c.checkpoint_after-latest.result
+    c.last_whole-node.result c.requires.standing c.checkpoint_after-latest.ensures c.last_whole-node.ensures
     (misses c.args.limit c.args.level tokens s h c.requires.standing.within c.requires.halt away) kept
     (c.stopped.ensures.gives tokens) (λ m. c.stopped.ensures.within (length tokens) m c.requires.halt)
 
@@ -36,8 +36,9 @@ returns-then-is_high c = λ fuel best room kept.
     let following : place ≡ suc s.at = omega arith in
     let taken = rw c.in-Further.is at c.in_ok-more.ensures in
     let more = c.in-Further.more in
-    breaks_off c.args.limit c.args.level fuel tokens s h best c.stopped-then-is_high.result c.mark_after-marked.result
-    c.fallback.result c.requires.standing c.mark_after-marked.ensures
+    breaks_off c.args.limit c.args.level fuel tokens s h best c.stopped-then-is_high.result
+    c.checkpoint_after-latest.result
+    c.fallback.result c.requires.standing c.checkpoint_after-latest.ensures
     (c.fallback.ensures ∙ (shift_keeps c.args.level s.reading more p taken).falls c.requires.standing.filled)
     (high_misses c.args.limit c.args.level s.reading more (drop s.at tokens) (drop place tokens) p _
     (cut_at tokens s.at place p lt c.index-tokens-at.is following) taken (sym c.is_high.ensures ∙ c.if-is_high.true))
@@ -59,11 +60,11 @@ returns-else-is_high c = λ fuel best room kept.
     let high = sym c.is_high.ensures ∙ c.if-is_high.false in
     let same : place ≡ h.at = omega arith in
     reaches_further c.args.limit c.args.level fuel tokens s h best
-    (Goes (record { reading = more; at = place; mark = c.mark_after-marked.result }))
+    (Goes (record { reading = more; at = place; checkpoint = c.checkpoint_after-latest.result }))
     (hits c.args.limit c.args.level s.reading more (drop s.at tokens) (drop place tokens) p _ cut taken high
     c.if-halt.false (ap (λ (n : ℕ). drop n tokens) same)) room kept
     (word_goes c.args.limit c.args.level tokens s c.requires.standing p more place following lt cut taken
-    c.mark_after-marked.result c.mark_after-marked.ensures high)
+    c.checkpoint_after-latest.result c.checkpoint_after-latest.ensures high)
 
 pub returns-in-Still : goal.returns-in-Still
 returns-in-Still c = λ fuel best room kept.
@@ -75,9 +76,10 @@ returns-in-Still c = λ fuel best room kept.
     let lt : s.at < length tokens = omega arith in
     let following : place ≡ suc s.at = omega arith in
     let passed = rw c.in-Still.is at c.in_ok-more.ensures in
-    breaks_off c.args.limit c.args.level fuel tokens s h best c.stopped-in-Still.result c.mark_after-marked.result
-    c.before-node-in-Still.result c.requires.standing c.mark_after-marked.ensures (c.before-node-in-Still.ensures
-    ∙ ap (λ (r : Reading). before r.state) passed.1)
+    breaks_off c.args.limit c.args.level fuel tokens s h best c.stopped-in-Still.result c.checkpoint_after-latest.result
+    c.last_whole-node-in-Still.result c.requires.standing c.checkpoint_after-latest.ensures
+    (c.last_whole-node-in-Still.ensures
+    ∙ ap (λ (r : Reading). last_whole r.state) passed.1)
     (no_word_misses c.args.limit c.args.level s.reading (drop s.at tokens) (drop place tokens) p _
     (cut_at tokens s.at place p lt c.index-tokens-at.is following) passed.0) kept
     (c.stopped-in-Still.ensures.gives tokens) (λ m. c.stopped-in-Still.ensures.within (length tokens) m

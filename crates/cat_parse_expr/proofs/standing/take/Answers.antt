@@ -7,7 +7,7 @@ pub reach-requires-clause-standing : goal.reach-requires-clause-standing
 reach-requires-clause-standing c =
     let operand = rw (c.in-Reads.is, c.in-Some.is) at c.requires.operand in
     let within = rw (c.in-Reads.is, c.in-Some.is) at c.requires.within in
-    operand_stands c.args.limit c.args.level c.args.tokens.now c.args.standing c.requires.standing c.in-Reads.part
+    operand_stands c.args.limit c.args.level c.args.tokens.now c.args.standing c.requires.standing c.in-Reads.measured
     c.in-Reads.at within.0 (Some c.in-Some.halt) c.in_ok-reading-in-Reads.reading operand
     c.in_ok-reading-in-Reads.ensures
 
@@ -17,13 +17,13 @@ returns-in-Fails c =
     let within = rw c.in-Fails.is at c.requires.within in
     take_fails c.args.limit c.args.level c.args.tokens.now c.args.standing c.in-Fails.halt c.stopped.result
     c.fallback.result operand c.fallback.ensures (c.stopped.ensures.gives c.args.tokens.now)
-    (c.stopped.ensures.within (length c.args.tokens.now) c.requires.standing.mark_within within)
+    (c.stopped.ensures.within (length c.args.tokens.now) c.requires.standing.checkpoint_within within)
 
 pub returns-in-None : goal.returns-in-None
 returns-in-None c =
     let operand = rw (c.in-Reads.is, c.in-None.is) at c.requires.operand in
     let within = rw (c.in-Reads.is, c.in-None.is) at c.requires.within in
-    operand_goes c.args.limit c.args.level c.args.tokens.now c.args.standing c.requires.standing c.in-Reads.part
+    operand_goes c.args.limit c.args.level c.args.tokens.now c.args.standing c.requires.standing c.in-Reads.measured
     c.in-Reads.at within c.in_ok-reading-in-Reads.reading operand c.in_ok-reading-in-Reads.ensures
 
 pub returns-in-Some : goal.returns-in-Some
@@ -33,5 +33,5 @@ returns-in-Some c =
     let s = c.args.standing in
     if_ok c.reach.result c.reach.ensures
     (λ (turn : Turn) reach. operand_reaches c.args.limit c.args.level c.args.tokens.now s c.requires.standing
-    c.in-Reads.part c.in-Reads.at within.0 c.in-Some.halt turn c.in_ok-reading-in-Reads.reading operand
+    c.in-Reads.measured c.in-Reads.at within.0 c.in-Some.halt turn c.in_ok-reading-in-Reads.reading operand
     c.in_ok-reading-in-Reads.ensures reach)

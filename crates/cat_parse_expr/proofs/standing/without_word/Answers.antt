@@ -5,4 +5,4 @@ use Rattle.cat_parse_expr.proofs.standing.without_word.Goals as goal
 pub returns-in-None : goal.returns-in-None
 returns-in-None c = no_word_ends c.args.limit c.args.level c.args.tokens.now c.args.standing c.ended.result
     c.requires.no_word (sym c.in-None.ensures) (c.ended.ensures.gives c.args.tokens.now)
-    (c.ended.ensures.within (length c.args.tokens.now) c.requires.standing.mark_within c.requires.standing.within)
+    (c.ended.ensures.within (length c.args.tokens.now) c.requires.standing.checkpoint_within c.requires.standing.within)

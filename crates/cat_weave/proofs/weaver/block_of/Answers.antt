@@ -5,8 +5,8 @@ use Rattle.std.proofs.lemmas.Str.{IsCharBoundary-from_drop}
 use Rattle.std.specs.Str.{IsUtf8}
 use Rattle.cat_weave.specs.Kinds.{is_closing}
 use Rattle.cat_weave.specs.inside.Reading.{block_kinds}
-use Rattle.cat_weave.proofs.PartLemmas.{block_kinds_closed, block_kinds_code, code_before_more, code_before_end}
-use Rattle.cat_weave.proofs.PartLemmas.{rest_after, front_after, front_is}
+use Rattle.cat_weave.proofs.SegmentLemmas.{block_kinds_closed, block_kinds_code, code_before_more, code_before_end}
+use Rattle.cat_weave.proofs.SegmentLemmas.{rest_after, front_after, front_is}
 use Rattle.cat_weave.proofs.weaver.block_of.Goals as goal
 
 pub range-code-requires-clause-end_boundary : goal.range-code-requires-clause-end_boundary

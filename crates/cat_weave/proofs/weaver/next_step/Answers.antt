@@ -2,7 +2,7 @@ use Rattle.std.proofs.Common.{sym, subst}
 use Rattle.cat_weave.specs.Kinds.{LawLine, OpeningLine, HeadingLine, IncludeLine}
 use Rattle.cat_weave.specs.inside.Reading.{law_kinds, block_kinds, IsStep}
 use Rattle.cat_weave.specs.declared.weaver.Step.{Step}
-use Rattle.cat_weave.proofs.PartLemmas.{line_read, law_step, opening_step, heading_step, include_step}
+use Rattle.cat_weave.proofs.SegmentLemmas.{line_read, law_step, opening_step, heading_step, include_step}
 use Rattle.cat_weave.proofs.weaver.next_step.Goals as goal
 
 pub returns-in-Law-clause-gives : goal.returns-in-Law-clause-gives
@@ -12,7 +12,7 @@ returns-in-Law-clause-gives c =
     let first =
     line_read c.args.rest.now c.first_line.result.0.now after c.bare.result.now LawLine c.first_line.ensures.lines
     c.bare.ensures c.in-Law.ensures in
-    subst (λ (s : Step). IsStep c.args.file c.args.line lines s.part s.lines (law_kinds s.after.now))
+    subst (λ (s : Step). IsStep c.args.file c.args.line lines s.segment s.lines (law_kinds s.after.now))
     (sym c.line_step.ensures) (law_step c.args.file c.args.line lines (law_kinds after) first)
 
 pub returns-in-Opening-clause-gives : goal.returns-in-Opening-clause-gives
@@ -36,7 +36,7 @@ returns-in_ok-text-in-Heading-clause-gives c =
     let step =
     heading_step c.args.file c.args.line c.in-Heading.level text lines (law_kinds after)
     (rw c.in_ok-text-in-Heading.ensures first) in
-    subst (λ (s : Step). IsStep c.args.file c.args.line lines s.part s.lines (law_kinds s.after.now))
+    subst (λ (s : Step). IsStep c.args.file c.args.line lines s.segment s.lines (law_kinds s.after.now))
     (sym c.line_step-in-Heading.ensures) step
 
 pub returns-in_ok-path-in-Include-clause-gives : goal.returns-in_ok-path-in-Include-clause-gives
@@ -49,5 +49,5 @@ returns-in_ok-path-in-Include-clause-gives c =
     (IncludeLine c.in-Include.path.now) c.first_line.ensures.lines c.bare.ensures c.in-Include.ensures in
     let step =
     include_step c.args.file c.args.line path lines (law_kinds after) (rw c.in_ok-path-in-Include.ensures first) in
-    subst (λ (s : Step). IsStep c.args.file c.args.line lines s.part s.lines (law_kinds s.after.now))
+    subst (λ (s : Step). IsStep c.args.file c.args.line lines s.segment s.lines (law_kinds s.after.now))
     (sym c.line_step-in-Include.ensures) step

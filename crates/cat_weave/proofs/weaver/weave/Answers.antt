@@ -1,7 +1,7 @@
 use Rattle.std.proofs.Common.{◌∙◌, ap, sym, ℕ, List}
 use Rattle.cat_weave.specs.Woven.{woven_lines}
 use Rattle.cat_weave.specs.inside.Reading.{law_kinds}
-use Rattle.cat_weave.proofs.PartLemmas.{woven_utf8, woven_not_utf8}
+use Rattle.cat_weave.proofs.SegmentLemmas.{woven_utf8, woven_not_utf8}
 use Rattle.cat_weave.proofs.weaver.weave.Goals as goal
 
 pub returns-in-Ok-clause-gives : goal.returns-in-Ok-clause-gives

@@ -6,6 +6,7 @@ use Rattle.cat_gather.proofs.GatherLemmas.{take_cause}
 use Rattle.cat_gather.proofs.gatherer.Gathering.include.Goals as goal
 use Rattle.cat_gather.proofs.gatherer.Gathering.include.Goals.{then-len-eq-MOST_FILES-via-then-len-eq-MOST_FILES}
 use Rattle.cat_gather.proofs.gatherer.Gathering.include.Goals.{}
+use Rattle.cat_gather.proofs.gatherer.Gathering.include.Goals.{}
 use Rattle.cat_gather.proofs.gatherer.Gathering.include.Goals.{then-len-eq-MOST_FILES-via-else-len-eq-MOST_FILES+then-is_taken}
 
 pub returns-then-len-eq-MOST_FILES-clause-cause : goal.returns-then-len-eq-MOST_FILES-clause-cause

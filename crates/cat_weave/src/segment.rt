@@ -1,27 +1,27 @@
 // What a literate source is made of.
 ghost use Rattle.std.specs.Prelude.{◌≡◌};
-ghost use Rattle.cat_weave.specs.declared.part.WeaveRefusal.TheVariants.{Memory};
+ghost use Rattle.cat_weave.specs.declared.segment.WeaveRefusal.TheVariants.{Memory};
 
 use cat_pos::{List, Piece, Pos, Text};
 use std::alloc::AllocError;
 
-/// A part of a literate source, with the position at which its first line begins.
+/// A segment of a literate source, with the position at which its first line begins.
 #[derive(Debug, Drop)]
-pub enum Part {
+pub enum Segment {
     /// A run of code lines, each with its line feed.
     Code(Piece),
     /// A heading with its level, from 1 to 6, and its text.
     Heading(u32, Text, Pos),
-    /// The name of a file whose parts stand here.
+    /// The name of a file whose segments stand here.
     Include(Text, Pos),
 }
 
-pub type Parts = List<Part>;
+pub type Segments = List<Segment>;
 
-/// The parts of one file, in order.
+/// The segments of one file, in order.
 #[derive(Debug, Drop)]
 pub struct Woven {
-    pub parts: Parts,
+    pub segments: Segments,
 }
 
 /// A heading among the pieces of code of all files.

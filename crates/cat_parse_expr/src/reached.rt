@@ -2,9 +2,9 @@
 ghost use Rattle.std.specs.Prelude.{◌≡◌, ◌≤◌, ℕ, List};
 ghost use Rattle.cat_lex.specs.declared.token.Token.{Token};
 ghost use Rattle.cat_parse_expr.specs.Reader.{stopped};
-ghost use Rattle.cat_parse_expr.specs.inside.Loop.{halt_at, outcome_of, marked, IsMarkWithin, AreWithin};
+ghost use Rattle.cat_parse_expr.specs.inside.Loop.{halt_at, parse_result_of, restored, IsCheckpointWithin, AreWithin};
 
-use cat_parse_state::Part;
+use cat_parse_state::Measured;
 use cat_tree::Node;
 
 /// Where reading stopped, and whether it stopped there for the height alone.
@@ -18,12 +18,12 @@ pub(crate) struct Halt {
 #[derive(Drop)]
 pub(crate) enum Reached {
     Fails(Halt),
-    Reads(Part, usize, Option<Halt>),
+    Reads(Measured, usize, Option<Halt>),
 }
 
 /// What is kept of the last whole expression on the way: all but its tree.
 #[derive(Clone, Copy)]
-pub(crate) struct Mark {
+pub(crate) struct Checkpoint {
     /// The index after it.
     pub at: usize,
     pub height: u32,
@@ -32,20 +32,21 @@ pub(crate) struct Mark {
 }
 
 /// Reading stops there, and falls back on the last whole expression, if there is one.
-pub(crate) fn stopped(mark: Option<Mark>, node: Option<Node>, halt: Halt) -> Reached
-    ensures gives { (tokens : List Token) → outcome_of tokens result ≡ stopped (marked tokens mark node) (halt_at tokens halt) }
-    ensures within { (end : ℕ) → IsMarkWithin end mark → halt.at ≤ end → AreWithin end result }
+pub(crate) fn stopped(checkpoint: Option<Checkpoint>, node: Option<Node>, halt: Halt) -> Reached
+    ensures gives { (tokens : List Token) → parse_result_of tokens result
+        ≡ stopped (restored tokens checkpoint node) (halt_at tokens halt) }
+    ensures within { (end : ℕ) → IsCheckpointWithin end checkpoint → halt.at ≤ end → AreWithin end result }
 {
-    match mark {
-        Some(mark) => match node {
+    match checkpoint {
+        Some(checkpoint) => match node {
             Some(node) => {
-                let part = Part {
+                let expression = Measured {
                     node,
-                    height: mark.height,
-                    in_form: mark.in_form,
-                    in_match: mark.in_match,
+                    height: checkpoint.height,
+                    in_form: checkpoint.in_form,
+                    in_match: checkpoint.in_match,
                 };
-                Reached::Reads(part, mark.at, Some(halt))
+                Reached::Reads(expression, checkpoint.at, Some(halt))
             }
             None => Reached::Fails(halt),
         },

@@ -1,4 +1,4 @@
--- The parts of lines, one line or one block at a time.
+-- The segments of lines, one line or one block at a time.
 use Rattle.std.proofs.Common.{◌≡◌, ◌≢◌, ◌∙◌, ap, sym, ℕ, ◌+◌, ◌-◌, ◌≤◌, Bool, true, false, cond, List, [], ◌∷◌, ◌++◌}
 use Rattle.std.proofs.Common.{length, take, drop, refl, arith, append_assoc, append-nil, length-append, Some, None}
 use Rattle.std.proofs.Common.{Option, Ok, Err, Result, ⊎_elim}
@@ -15,15 +15,16 @@ use Rattle.cat_pos.specs.Position.{position_of}
 use Rattle.cat_weave.specs.Lines.{lines_of, bare}
 use Rattle.cat_weave.specs.Kinds.{Kind, LawLine, OpeningLine, CodeLine, ClosingLine, HeadingLine, IncludeLine}
 use Rattle.cat_weave.specs.Kinds.{kinds_of, kind_of, law_kind, is_closing, stays_inside}
-use Rattle.cat_weave.specs.Woven.{line_position, code_text, parts_from, closes, unclosed, woven_unless, woven_lines}
+use Rattle.cat_weave.specs.Woven.{line_position, code_text, segments_from, closes, unclosed, woven_unless, woven_lines}
 use Rattle.cat_weave.specs.Woven.{woven}
-use Rattle.cat_weave.specs.inside.Reading.{law_kinds, block_kinds, code_lines, IsCodeBefore, code_part, IsStep, IsOpen}
+use Rattle.cat_weave.specs.inside.Reading.{law_kinds, block_kinds, code_lines, IsCodeBefore, code_segment, IsStep}
+use Rattle.cat_weave.specs.inside.Reading.{IsOpen}
 use Rattle.cat_weave.specs.declared.weaver.Step.{Step}
-use Rattle.cat_weave.specs.declared.part.Part.{Part}
-use Rattle.cat_weave.specs.declared.part.Part.TheVariants.{Heading, Include}
-use Rattle.cat_weave.specs.declared.part.Woven.{Woven}
-use Rattle.cat_weave.specs.declared.part.WeaveRefusal.{WeaveRefusal}
-use Rattle.cat_weave.specs.declared.part.WeaveRefusal.TheVariants.{NotUtf8, FenceOpen, Memory}
+use Rattle.cat_weave.specs.declared.segment.Segment.{Segment}
+use Rattle.cat_weave.specs.declared.segment.Segment.TheVariants.{Heading, Include}
+use Rattle.cat_weave.specs.declared.segment.Woven.{Woven}
+use Rattle.cat_weave.specs.declared.segment.WeaveRefusal.{WeaveRefusal}
+use Rattle.cat_weave.specs.declared.segment.WeaveRefusal.TheVariants.{NotUtf8, FenceOpen, Memory}
 
 -- the definitions, one line at a time
 pub law_kinds_first : (text line after : List ℕ) → lines_of text ≡ line ∷ lines_of after →
@@ -110,19 +111,19 @@ unfolding unclosed
 unclosed_closed n m [] rest at = let same : n + 1 ≡ m = omega arith in rw same refl
 unclosed_closed n m (text ∷ texts) rest at = unclosed_closed (n + 1) m texts rest (omega arith)
 
-parts_closed : (file n m : ℕ) (texts : List (List ℕ)) (rest : List Kind) → m ≡ n + length texts + 1 →
-    parts_from file true n (code_lines texts ++ ClosingLine ∷ rest) ≡ parts_from file false m rest
-unfolding parts_from
-parts_closed file n m [] rest at = let same : n + 1 ≡ m = omega arith in rw same refl
-parts_closed file n m (text ∷ texts) rest at = parts_closed file (n + 1) m texts rest (omega arith)
+segments_closed : (file n m : ℕ) (texts : List (List ℕ)) (rest : List Kind) → m ≡ n + length texts + 1 →
+    segments_from file true n (code_lines texts ++ ClosingLine ∷ rest) ≡ segments_from file false m rest
+unfolding segments_from
+segments_closed file n m [] rest at = let same : n + 1 ≡ m = omega arith in rw same refl
+segments_closed file n m (text ∷ texts) rest at = segments_closed file (n + 1) m texts rest (omega arith)
 
-block_parts : (file n m : ℕ) (texts : List (List ℕ)) (rest : List Kind) → m ≡ n + length texts + 1
-    → parts_from file false n (code_lines texts ++ ClosingLine ∷ rest) ≡ code_part (line_position file n)
-    (concat texts) (length texts) ++ parts_from file false m rest
-unfolding parts_from
-block_parts file n m [] rest at = let same : n + 1 ≡ m = omega arith in rw same refl
-block_parts file n m (text ∷ texts) rest at =
-    rw (code_text_closed texts rest, parts_closed file (n + 1) m texts rest (omega arith)) refl
+block_segments : (file n m : ℕ) (texts : List (List ℕ)) (rest : List Kind) → m ≡ n + length texts + 1
+    → segments_from file false n (code_lines texts ++ ClosingLine ∷ rest) ≡ code_segment (line_position file n)
+    (concat texts) (length texts) ++ segments_from file false m rest
+unfolding segments_from
+block_segments file n m [] rest at = let same : n + 1 ≡ m = omega arith in rw same refl
+block_segments file n m (text ∷ texts) rest at =
+    rw (code_text_closed texts rest, segments_closed file (n + 1) m texts rest (omega arith)) refl
 
 -- one code line more
 code_lines-append : (texts : List (List ℕ)) (line : List ℕ) (rest : List Kind) →
@@ -159,18 +160,18 @@ code_before_end lines code [] count none before = code_before_open lines code co
 code_before_end lines code (byte ∷ rest) count none before = absurd (omega arith)
 
 -- a whole block, with its opening line n
-pub block_step_is : (file n count m : ℕ) (lines block rest : List Kind) (code : List ℕ) (part : Option Part)
+pub block_step_is : (file n count m : ℕ) (lines block rest : List Kind) (code : List ℕ) (segment : Option Segment)
     → lines ≡ OpeningLine ∷ block → IsCodeBefore block code count (ClosingLine ∷ rest) →
-    option_to_list part ≡ code_part (line_position file (n + 1)) code count → m ≡ count + 2
-    → IsStep file n lines part m rest
-unfolding parts_from unclosed
-block_step_is file n count m lines block rest code part opening before made at =
+    option_to_list segment ≡ code_segment (line_position file (n + 1)) code count → m ≡ count + 2
+    → IsStep file n lines segment m rest
+unfolding segments_from unclosed
+block_step_is file n count m lines block rest code segment opening before made at =
     let end : n + m ≡ n + 1 + length before.texts + 1 = omega (arith, before.many) in
-    let parts = block_parts file (n + 1) (n + m) before.texts rest end in
+    let segments = block_segments file (n + 1) (n + m) before.texts rest end in
     let closed = closes_closed before.texts rest in
     let after = unclosed_closed (n + 1) (n + m) before.texts rest end in
     record {
-      parts = rw (opening, before.whole, parts, made, ← before.joined, ← before.many) refl;
+      segments = rw (opening, before.whole, segments, made, ← before.joined, ← before.many) refl;
       opened = rw (opening, before.whole, closed) after;
     }
 
@@ -184,50 +185,50 @@ open_step file n lines block refusal opening is_open other =
 
 pub opening_step : (file n : ℕ) (lines block : List Kind) (r : Result Step WeaveRefusal) → lines ≡ OpeningLine ∷ block
     → MatchResult r (λ s. (code : List ℕ) × (count : ℕ) × IsCodeBefore block code count
-    (ClosingLine ∷ law_kinds s.after.now) × (option_to_list s.part ≡ code_part (line_position file (n + 1)) code
+    (ClosingLine ∷ law_kinds s.after.now) × (option_to_list s.segment ≡ code_segment (line_position file (n + 1)) code
     count) × (s.lines ≡ count + 2))
     (λ e. e ≢ Memory → (e ≡ FenceOpen (line_position file n)) × (closes block ≡ false))
-    → MatchResult r (λ s. IsStep file n lines s.part s.lines (law_kinds s.after.now)) (λ e. IsOpen file n lines e)
+    → MatchResult r (λ s. IsStep file n lines s.segment s.lines (law_kinds s.after.now)) (λ e. IsOpen file n lines e)
 opening_step file n lines block (Ok s) opening gives =
-    block_step_is file n gives.1 s.lines lines block (law_kinds s.after.now) gives.0 s.part opening gives.2 gives.3
+    block_step_is file n gives.1 s.lines lines block (law_kinds s.after.now) gives.0 s.segment opening gives.2 gives.3
     gives.4
 opening_step file n lines block (Err e) opening gives = open_step file n lines block e opening gives
 
 -- a single line
 pub law_step : (file n : ℕ) (lines rest : List Kind) → lines ≡ LawLine ∷ rest → IsStep file n lines None 1 rest
-unfolding parts_from unclosed
-law_step file n lines rest first = record { parts = rw first refl; opened = rw first refl }
+unfolding segments_from unclosed
+law_step file n lines rest first = record { segments = rw first refl; opened = rw first refl }
 
 pub heading_step : (file n level : ℕ) (text : List ℕ) (lines rest : List Kind) →
     lines ≡ HeadingLine level text ∷ rest →
     IsStep file n lines (Some (Heading level text (line_position file n))) 1 rest
-unfolding parts_from unclosed
-heading_step file n level text lines rest first = record { parts = rw first refl; opened = rw first refl }
+unfolding segments_from unclosed
+heading_step file n level text lines rest first = record { segments = rw first refl; opened = rw first refl }
 
 pub include_step : (file n : ℕ) (path : List ℕ) (lines rest : List Kind) → lines ≡ IncludeLine path ∷ rest →
     IsStep file n lines (Some (Include path (line_position file n))) 1 rest
-unfolding parts_from unclosed
-include_step file n path lines rest first = record { parts = rw first refl; opened = rw first refl }
+unfolding segments_from unclosed
+include_step file n path lines rest first = record { segments = rw first refl; opened = rw first refl }
 
--- what is woven with these parts in front
-abbrev pub woven_after : List Part → ℕ → ℕ → List Kind → Result Woven WeaveRefusal
-woven_after made file n lines = woven_unless file (unclosed n lines) (made ++ parts_from file false n lines)
+-- what is woven with these segments in front
+abbrev pub woven_after : List Segment → ℕ → ℕ → List Kind → Result Woven WeaveRefusal
+woven_after made file n lines = woven_unless file (unclosed n lines) (made ++ segments_from file false n lines)
 
-pub woven_more : (made more : List Part) (part : Option Part) (file n count m : ℕ) (lines rest : List Kind) →
-    IsStep file n lines part count rest → more ≡ made ++ option_to_list part → m ≡ n + count
+pub woven_more : (made more : List Segment) (segment : Option Segment) (file n count m : ℕ) (lines rest : List Kind) →
+    IsStep file n lines segment count rest → more ≡ made ++ option_to_list segment → m ≡ n + count
     → woven_after more file m rest ≡ woven_after made file n lines
-woven_more made more part file n count m lines rest step is at =
-    rw (is, at, step.opened, step.parts, append_assoc) refl
+woven_more made more segment file n count m lines rest step is at =
+    rw (is, at, step.opened, step.segments, append_assoc) refl
 
-pub woven_open : (made : List Part) (file n : ℕ) (lines : List Kind) (refusal : WeaveRefusal) →
+pub woven_open : (made : List Segment) (file n : ℕ) (lines : List Kind) (refusal : WeaveRefusal) →
     IsOpen file n lines refusal → refusal ≢ Memory → woven_after made file n lines ≡ Err refusal
 woven_open made file n lines refusal is_open other =
     let is = is_open other in
     rw (is.1, is.0) refl
 
-pub woven_all : (made : List Part) (file n : ℕ) (text : List ℕ) → length text ≡ 0 →
-    woven_after made file n (law_kinds text) ≡ Ok (record { parts = made })
-unfolding unclosed parts_from
+pub woven_all : (made : List Segment) (file n : ℕ) (text : List ℕ) → length text ≡ 0 →
+    woven_after made file n (law_kinds text) ≡ Ok (record { segments = made })
+unfolding unclosed segments_from
 woven_all made file n [] none = rw (law_kinds_none, append-nil) refl
 woven_all made file n (byte ∷ text) none = absurd (omega arith)
 
