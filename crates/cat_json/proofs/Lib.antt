@@ -9,4 +9,3 @@ pub mod InputsTyped
 pub mod NumberTexts
 pub mod Examples
 pub mod Exported
-pub mod Samples

@@ -16,6 +16,3 @@ pub use input::{ReadInputs, read_input, read_inputs, read_value};
 pub use path::Path;
 pub use refusal::{InputRefusal, Reason, Refusal};
 pub use step::Step;
-
-#[cfg(test)]
-mod tests;
