@@ -1,0 +1,38 @@
+"""The end-to-end cases that run a scope, computed again."""
+import pathlib
+
+from .answers import replies
+
+TOP = pathlib.Path(__file__).resolve().parent.parent.parent
+OURS = {'words', 'stdin', 'stdout', 'status', 'files'}
+# What only the form of sources that is read line by line refuses, until the whole language is read.
+LINE_BY_LINE = ('source refused E0', 'input refused I0')
+
+
+def files_of(case):
+    files = {file.name: file.read_bytes() for file in case.iterdir() if file.name not in OURS}
+    if (case / 'files').exists():
+        for name in (case / 'files').read_text().splitlines():
+            files[pathlib.Path(name).name] = (TOP / name).read_bytes()
+    files['-'] = (case / 'stdin').read_bytes() if (case / 'stdin').exists() else b''
+    return files
+
+
+def is_computed(case):
+    """Whether the case runs a scope on files that it has, and its reply isn't one of the line-by-line form."""
+    words = (case / 'words').read_text().splitlines() if (case / 'words').exists() else []
+    stdout = (case / 'stdout').read_text() if (case / 'stdout').exists() else ''
+    is_run = 3 <= len(words) <= 4 and words[0] == 'run' and 'fault .' not in stdout
+    is_made = (case / 'make').exists() or (case / 'device').exists()
+    return is_run and not is_made and not stdout.startswith(LINE_BY_LINE)
+
+
+def cases():
+    """Each case that can be computed: its name, what it expects, and the replies that the rules allow."""
+    for case in sorted((TOP / 'tests' / 'cases').iterdir()):
+        if is_computed(case):
+            words, files = (case / 'words').read_text().splitlines(), files_of(case)
+            data = files.get(words[3]) if len(words) > 3 else files['-']
+            missing = {'missing file %s' % words[3]} if data is None else None
+            want = (case / 'stdout').read_text().rstrip('\n')
+            yield case.name, want, missing or replies(files, words[2], words[1], data)
