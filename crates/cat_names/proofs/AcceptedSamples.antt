@@ -1,7 +1,6 @@
 -- Worked examples of whole trees: one that is accepted with its program, and two that are refused.
-use Rattle.std.proofs.Common.{◌≡◌, ℕ, zero, suc, true, List, [], ◌∷◌, Some}
-use Rattle.std.proofs.Common.{None}
-use Rattle.std.proofs.Common.{refl, sym, subst, rules, arith, inl, true≢false}
+use Rattle.std.proofs.Common.{◌≡◌, ℕ, zero, suc, true, List, [], ◌∷◌, Some, None, refl, sym, subst, rules, arith, inl}
+use Rattle.std.proofs.Common.{true≢false}
 use Rattle.cat_order.specs.Order.{IsOrder, is_ready}
 use Rattle.cat_order.specs.Cycle.{DependsOn, IsOnCycle}
 use Rattle.cat_order.specs.Computed.{order_of}
@@ -24,14 +23,12 @@ use Rattle.cat_scope.specs.Orders.{item_dependencies, function_calls, scope_depe
 use Rattle.cat_scope.specs.Chains.{HasShortChains, HasNoCycle}
 use Rattle.cat_scope.proofs.Exported.{namings}
 use Rattle.cat_names.specs.declared.fault.Fault.TheVariants.{NameUnknown, TypeMismatch, VariableCycle}
-use Rattle.cat_names.specs.Accepted.{IsNamed, IsMeant, IsProgramOf, IsRefused, parts_of, unordered}
+use Rattle.cat_names.specs.Accepted.{IsMeant, IsProgramOf, IsRefused}
 use Rattle.cat_names.specs.Accepted as refused
 use Rattle.cat_names.proofs.TypeEquations.{views}
 use Rattle.cat_names.proofs.Equations.{forms}
 use Rattle.cat_names.proofs.UnknownEquations.{unknowns}
-use Rattle.cat_names.proofs.Samples.{at, name, local, n, q, x, S, definition, head_of, head_decls}
-use Rattle.cat_names.proofs.Samples.{HeadSound}
-use Rattle.cat_names.proofs.Samples.{item_of}
+use Rattle.cat_names.proofs.Samples.{at, name, local, n, q, x, S, definition, head_of, head_decls, HeadSound, item_of}
 use Rattle.cat_names.proofs.RowSamples.{a_truth_value_is_no_integer, an_unknown_name_stands_where_it_is}
 
 -- an order that is computed, of dependencies that come to these
@@ -100,8 +97,10 @@ module _ (sound : HeadSound flat_ty.Integer) where
   the_program_of_a_tree : IsProgramOf (tree_of (local n (at 6 23))) decls (body_of 0 (0 ∷ 1 ∷ []) ∷ []) (0 ∷ [])
   unfolding order_of is_ready
   the_program_of_a_tree = record {
-    named = record { names = search (rules, unknowns); declared = search rules };
-    meant = search (rules, forms, views, namings);
+    meant = record {
+      named = record { names = search (rules, unknowns); declared = search rules };
+      meant = search (rules, forms, views, namings);
+    };
     items = (
       ordered (item_dependencies items (body_of 0 (0 ∷ 1 ∷ [])).defs) ([] ∷ (0 ∷ []) ∷ []) (0 ∷ 1 ∷ [])
           (search (rules, namings)) refl,

@@ -1,7 +1,9 @@
 -- Cases that are found are there; arms have their types.
-use Rattle.std.proofs.Common.{◌≡◌, ℕ, ◌+◌, nat_eq, IsTrue, is_some, List, [], ◌∷◌}
-use Rattle.std.proofs.Common.{Option, Some, None, Ok, slice_get, refl, sym, subst, arith}
-use Rattle.std.proofs.Common.{rules}
+use Rattle.std.specs.Prelude.{option_map, option_and_then, filter_map}
+use Rattle.std.specs.List.{cons_option}
+use Rattle.cat_scope.specs.Names.{IsOneOf, Names, AllHave}
+use Rattle.std.proofs.Common.{inl, inr, ◌≡◌, ℕ, nat_eq, IsTrue, is_some, List, [], ◌∷◌, Option, Some, None, Ok}
+use Rattle.std.proofs.Common.{slice_get, refl, sym, subst, arith}
 use Rattle.cat_pos.specs.declared.pos.Pos.{Pos}
 use Rattle.cat_value.specs.declared.ty.Ty.{Ty}
 use Rattle.cat_value.specs.declared.declaration.Case.{Case}
@@ -18,25 +20,24 @@ use Rattle.cat_tree.specs.declared.expression.Pattern.TheVariants as written
 use Rattle.cat_scope.specs.declared.expr.Arm.{Arm}
 use Rattle.cat_scope.specs.declared.expr.ArmPattern.{ArmPattern}
 use Rattle.cat_scope.specs.declared.expr.ArmPattern.TheVariants as pattern
-use Rattle.cat_scope.specs.Names.{Names, AllHave}
 use Rattle.cat_scope.specs.Fitting.{ArmLocals, has_case}
 use Rattle.cat_scope.specs.HasType.{HasType, ArmsHaveType}
 use Rattle.cat_scope.specs.HasType as typed
 use Rattle.cat_scope.specs.Expected.{lists_placed}
-use Rattle.cat_scope.proofs.Exported.{later_arms_placed, arms_placed}
-use Rattle.cat_scope.proofs.Exported.{Each}
+use Rattle.cat_scope.proofs.Exported.{later_arms_placed, arms_placed, Each}
 use Rattle.cat_names.specs.declared.fault.Fault.TheVariants.{NameUnknown}
 use Rattle.cat_names.specs.declared.typed.Local.{Local}
 use Rattle.cat_names.specs.Found.{and_then, or_fault}
-use Rattle.cat_names.specs.Types.{fits, enumeration_of}
-use Rattle.cat_names.specs.Lookup.{first_named, number, with_case, cases_named, types_of, type_named, type_names}
-use Rattle.cat_names.specs.Naming.{only_case, case_among, case_found}
+use Rattle.cat_names.specs.Types.{is_as_expected, enumeration_of}
+use Rattle.cat_names.specs.Lookup.{first_named, case_named, cases_named, types_of, type_named, type_names}
+use Rattle.cat_names.specs.Lists.{numbered}
+use Rattle.cat_names.specs.Naming.{only_case, case_found, names_in_scope}
 use Rattle.cat_names.specs.Forms.{bound}
 use Rattle.cat_names.specs.Parts.{Meaning, with_content, pattern_of, arm_of, all_arms, arms_of}
-use Rattle.cat_names.specs.TypedMeanings.{OnFound, names_at, AreDeclared, IsExpected, IsTyped}
+use Rattle.cat_names.specs.TypedMeanings.{OnFound, AreDeclared, IsExpected, IsTyped}
 use Rattle.cat_names.proofs.OnFound.{on_then, on_both, on_where, on_any}
 use Rattle.cat_names.proofs.SameTypes.{same_is}
-use Rattle.cat_names.proofs.Lookups.{first_is}
+use Rattle.cat_names.proofs.Lookups.{first_is, numbered_is}
 use Rattle.cat_names.proofs.OperationLaws.{both_true}
 use Rattle.cat_names.proofs.DeclaredTypes.{content_declared}
 use Rattle.cat_names.proofs.PartLaws.{Sound, types_join, declared_join}
@@ -44,99 +45,65 @@ use Rattle.cat_names.proofs.PartLaws.{Sound, types_join, declared_join}
 equal_numbers : (a b : ℕ) → IsTrue (nat_eq a b) → a ≡ b
 equal_numbers a b h = grind (arith, h)
 
--- a case that is there, where the enumerations are numbered from n on
-record IsThere (n : ℕ) (es : List Enumeration) (k : ℕ × ℕ) : Type 0 where
-  place : ℕ
-  enumeration : Enumeration
-  entry : Case
-  number_is : k.0 ≡ n + place
-  enumeration_is : slice_get es place ≡ Some enumeration
-  case_is : slice_get enumeration.cases k.1 ≡ Some entry
+-- a case of a numbered enumeration that is there
+abbrev IsThere : List Enumeration → ℕ × ℕ → Type 0
+IsThere es k = (e : Enumeration) × (entry : Case) × (slice_get es k.0 ≡ Some e) × (slice_get e.cases k.1 ≡ Some entry)
 
-further : (n : ℕ) (e : Enumeration) (es : List Enumeration) (ks : List (ℕ × ℕ)) → AllHave (IsThere (n + 1) es) ks
-    → AllHave (IsThere n (e ∷ es)) ks
-further n e es [] all = tt
-further n e es (k ∷ ks) all = (
-  record {
-    place = all.0.place + 1;
-    enumeration = all.0.enumeration;
-    entry = all.0.entry;
-    number_is = omega (arith, all.0.number_is);
-    enumeration_is = search (rules, all.0.enumeration_is);
-    case_is = all.0.case_is;
-  },
-  further n e es ks all.1,
-)
-
-named_there : (c : List ℕ) (n : ℕ) (es : List Enumeration) → AllHave (IsThere n es) (cases_named c n es)
-named_there c n [] = tt
-named_there c n (e ∷ es) =
-    by (first_named (λ k. k.name) c 0 e.cases) refl
-    (further n e es (cases_named c (n + 1) es) (named_there c (n + 1) es))
+case_is : (c : List ℕ) (es : List Enumeration) (e : ℕ × Enumeration) (k : ℕ × ℕ) → slice_get es e.0 ≡ Some e.1
+    → case_named c e ≡ Some k → IsThere es k
+case_is c es e k at h = by (first_named (λ x. x.name) c e.1.cases) refl h
   where
-    by : (found : Option (ℕ × Case)) → first_named (λ k. k.name) c 0 e.cases ≡ found
-        → AllHave (IsThere n (e ∷ es)) (cases_named c (n + 1) es)
-        → AllHave (IsThere n (e ∷ es)) (with_case n found (cases_named c (n + 1) es))
-    by None h rest = rest
-    by (Some k) h rest = (
-      record {
-        place = 0;
-        enumeration = e;
-        entry = k.1;
-        number_is = omega arith;
-        enumeration_is = refl;
-        case_is = first_is (λ x. x.name) c e.cases k h;
-      },
-      rest,
-    )
+    by : (found : Option (ℕ × Case)) → first_named (λ x. x.name) c e.1.cases ≡ found
+        → option_map (λ m. (e.0, m.0)) found ≡ Some k → IsThere es k
+    by None g r = cc r
+    by (Some m) g r = let pair : (e.0, m.0) ≡ k = cc r in
+        subst (IsThere es) pair (e.1, m.1, at, first_is (λ x. x.name) c e.1.cases m g)
 
-there_case : (ds : Decls) (k : ℕ × ℕ) → IsThere 0 ds.enumerations k → IsTrue (has_case ds k.0 k.1)
-there_case ds k h = let is : h.place ≡ k.0 = omega (arith, h.number_is) in
-    subst (λ m. IsTrue (has_case ds m k.1)) is (rw (h.enumeration_is, h.case_is) refl)
+cases_there : (c : List ℕ) (es : List Enumeration) (numbers : List (ℕ × Enumeration))
+    → ((e : ℕ × Enumeration) → IsOneOf e numbers → slice_get es e.0 ≡ Some e.1)
+    → AllHave (IsThere es) (filter_map (case_named c) numbers)
+cases_there c es [] at = tt
+cases_there c es (e ∷ numbers) at =
+    by (case_named c e) refl (cases_there c es numbers (λ f h. at f (inr h)))
+  where
+    by : (o : Option (ℕ × ℕ)) → case_named c e ≡ o → AllHave (IsThere es) (filter_map (case_named c) numbers)
+        → AllHave (IsThere es) (cons_option o (filter_map (case_named c) numbers))
+    by None h rest = rest
+    by (Some k) h rest = (case_is c es e k (at e (inl refl)) h, rest)
+
+there_case : (ds : Decls) (k : ℕ × ℕ) → IsThere ds.enumerations k → IsTrue (has_case ds k.0 k.1)
+there_case ds k h = rw (h.2, h.3) refl
 
 module _ (ds : Decls) (sound : AreSound ds) (scope : ℕ) where
   abbrev ns : Names
-  ns = names_at ds scope
+  ns = names_in_scope ds scope
 
   abbrev IsCase : ℕ × ℕ → Type 0
   IsCase k = IsTrue (has_case ds k.0 k.1)
 
-  only_there : (p : Pos) (ks : List (ℕ × ℕ)) → AllHave (IsThere 0 ds.enumerations) ks → OnFound IsCase (only_case p ks)
+  only_there : (p : Pos) (ks : List (ℕ × ℕ)) → AllHave (IsThere ds.enumerations) ks → OnFound IsCase (only_case p ks)
   only_there p [] all = tt
   only_there p (k ∷ []) all = there_case ds k all.0
   only_there p (k ∷ m ∷ ks) all = tt
 
-  among_there : (c : Name) (n : ℕ) (k : ℕ × ℕ) → case_among c.text n (slice_get ds.enumerations n) ≡ Some k → IsCase k
-  among_there c n k h = by (slice_get ds.enumerations n) refl h
+  among_there : (c : Name) (n : ℕ) (o : Option Enumeration) → slice_get ds.enumerations n ≡ o
+      → OnFound IsCase (or_fault (NameUnknown c.pos) (option_and_then (λ e. case_named c.text (n, e)) o))
+  among_there c n None is = tt
+  among_there c n (Some e) is = by (case_named c.text (n, e)) refl
     where
-      at : (e : Enumeration) → slice_get ds.enumerations n ≡ Some e → (found : Option (ℕ × Case))
-          → first_named (λ x. x.name) c.text 0 e.cases ≡ found → number (λ m. (n, m)) found ≡ Some k → IsCase k
-      at e is None g r = cc r
-      at e is (Some m) g r = let pair : (n, m.0) ≡ k = cc r in
-          subst IsCase pair (rw (is, first_is (λ x. x.name) c.text e.cases m g) refl)
-
-      by : (o : Option Enumeration) → slice_get ds.enumerations n ≡ o → case_among c.text n o ≡ Some k → IsCase k
-      by None is g = cc g
-      by (Some e) is g = at e is (first_named (λ x. x.name) c.text 0 e.cases) refl g
+      by : (o : Option (ℕ × ℕ)) → case_named c.text (n, e) ≡ o → OnFound IsCase (or_fault (NameUnknown c.pos) o)
+      by None h = tt
+      by (Some k) h = there_case ds k (case_is c.text ds.enumerations (n, e) k is h)
 
   pub case_there : (c : CaseName) → OnFound IsCase (case_found ns c)
-  case_there (case.Bare c) =
-      only_there c.pos (cases_named c.text 0 ds.enumerations) (named_there c.text 0 ds.enumerations)
+  case_there (case.Bare c) = only_there c.pos (cases_named c.text ds.enumerations)
+      (cases_there c.text ds.enumerations (numbered ds.enumerations) (numbered_is ds.enumerations))
   case_there (case.Qualified u c) =
       on_then (λ t. Unit {0}) IsCase (or_fault (NameUnknown u.pos) (type_named (type_names ds) u.text)) _
       (on_any (or_fault (NameUnknown u.pos) (type_named (type_names ds) u.text)))
       (λ t h. on_then (λ n. Unit {0}) IsCase (or_fault (NameUnknown c.pos) (enumeration_of t)) _
       (on_any (or_fault (NameUnknown c.pos) (enumeration_of t)))
-      (λ n i. found c n))
-    where
-      found : (c : Name) (n : ℕ)
-          → OnFound IsCase (or_fault (NameUnknown c.pos) (case_among c.text n (slice_get ds.enumerations n)))
-      found c n = by (case_among c.text n (slice_get ds.enumerations n)) refl
-        where
-          by : (o : Option (ℕ × ℕ)) → case_among c.text n (slice_get ds.enumerations n) ≡ o
-              → OnFound IsCase (or_fault (NameUnknown c.pos) o)
-          by None is = tt
-          by (Some k) is = among_there c n k is
+      (λ n i. among_there c n (slice_get ds.enumerations n) refl))
 
   -- a pattern with the bound names of its arm
   record PatternStands (n : ℕ) (ls : List Local) (q : ArmPattern × List Local) : Type 0 where
@@ -170,7 +137,7 @@ module _ (ds : Decls) (sound : AreSound ds) (scope : ℕ) where
     typed : HasType ns inside x.0.body x.1
     placed : IsTrue (lists_placed x.0.body (is_some ex))
     declared : IsTrue (is_type ds x.1)
-    fit : IsTrue (fits ex x.1)
+    fit : IsTrue (is_as_expected ex x.1)
 
   arm_stands : (p : Pos) (n : ℕ) (a : Pattern × Meaning) → Sound ds sound scope a.1 → (ls : List Local) (ex : Option Ty)
       → AreDeclared ds ls → IsExpected ds ex → OnFound (ArmStands n ls ex) (arm_of ns p n a ls ex)
@@ -194,7 +161,7 @@ module _ (ds : Decls) (sound : AreSound ds) (scope : ℕ) where
     pub typed : ArmsHaveType ns (types_of ls) n row.0 row.1
     pub placed : IsTrue (arms_placed row.0 (is_some ex))
     pub declared : IsTrue (is_type ds row.1)
-    pub fit : IsTrue (fits ex row.1)
+    pub fit : IsTrue (is_as_expected ex row.1)
 
   module _ {A : Type 0} (means : A → Pattern × Meaning) where
     all_arms_stand : (p : Pos) (n : ℕ) (arms : List A) → Each (λ a. Sound ds sound scope ((means a).1)) arms

@@ -1,9 +1,10 @@
 -- Cases with contents, structures and calls have their types.
-use Rattle.std.proofs.Common.{◌≡◌, ◌<◌, ◌&&◌, ℕ, suc, nat_eq, nat_lt, Bool, true, false, IsTrue, is_some, List}
-use Rattle.std.proofs.Common.{[]}
-use Rattle.std.proofs.Common.{◌∷◌, length, Option, Some, None, Ok, slice_get, if◌then◌else◌, refl, sym}
-use Rattle.std.proofs.Common.{subst}
+use Rattle.std.proofs.Common.{ap, ◌∙◌, ◌≡◌, ◌<◌, ◌&&◌, ℕ, suc, nat_eq, nat_lt, Bool, true, false, IsTrue, is_some, List}
+use Rattle.std.proofs.Common.{[], ◌∷◌, length, Option, Some, None, Ok, slice_get, if◌then◌else◌, refl, sym, subst}
 use Rattle.std.proofs.Common.{arith, true≢false}
+use Rattle.std.specs.Prelude.{option_map, option_and_then}
+use Rattle.cat_scope.specs.Fitting.{given_type, numbers_in, are_fields_of, are_call_fields, input_type, field_type}
+use Rattle.cat_names.specs.Forms.{given_item, field_named, input_named, output_named}
 use Rattle.std.proofs.lemmas.Bool.Decides.{nat_tests}
 use Rattle.cat_pos.specs.declared.pos.Pos.{Pos}
 use Rattle.cat_value.specs.declared.ty.Ty.{Ty}
@@ -18,26 +19,22 @@ use Rattle.cat_value.specs.Laws.{AreSound}
 use Rattle.cat_value.proofs.Exported.{is_declared_Structure, within}
 use Rattle.cat_tree.specs.declared.name.Name.{Name}
 use Rattle.cat_scope.specs.Names.{Names, AllHave, is_function, are_all_in, outputs_in, scope_items}
-use Rattle.cat_scope.specs.Fitting.{numbers_in, are_fields_of, are_call_fields, input_type, field_type}
-use Rattle.cat_scope.specs.HasType.{HasType}
 use Rattle.cat_scope.specs.HasType as typed
-use Rattle.cat_scope.proofs.Exported.{placed_Case_Some, placed_Structure, placed_Call, placed_ScopeCall}
-use Rattle.cat_scope.proofs.Exported.{Each}
+use Rattle.cat_scope.proofs.Exported.{placed_Case_Some, placed_Structure, placed_Call, placed_ScopeCall, Each}
 use Rattle.cat_names.specs.declared.fault.Fault.TheVariants.{NameUnknown, TypeMismatch}
 use Rattle.cat_names.specs.declared.typed.Typed.{Typed}
 use Rattle.cat_names.specs.declared.typed.Local.{Local}
 use Rattle.cat_names.specs.Found.{faulty, and_then, or_fault}
 use Rattle.cat_names.specs.Lookup.{innermost, item_named}
-use Rattle.cat_names.specs.Naming.{called_item, unbound_function, function_found}
-use Rattle.cat_names.specs.Forms.{field_in, given_in, input_in, output_in}
+use Rattle.cat_names.specs.Naming.{called_item, unbound_function, function_found, names_in_scope}
 use Rattle.cat_names.specs.Parts.{Meaning, arguments_of, call_of, values_of}
 use Rattle.cat_names.specs.Compound.{content_of_type, structure_of_fields, scope_call_of}
-use Rattle.cat_names.specs.TypedMeanings.{OnFound, names_at, AreDeclared, HasItsType, IsTyped}
+use Rattle.cat_names.specs.TypedMeanings.{OnFound, AreDeclared, HasItsType, IsTyped}
 use Rattle.cat_names.proofs.OnFound.{on_then, on_both, on_both_where, on_where, on_or, on_any}
-use Rattle.cat_names.proofs.Lookups.{first_is}
+use Rattle.cat_names.proofs.Lookups.{part_is, first_is}
 use Rattle.cat_names.proofs.DeclaredTypes.{item_declared, param_declared, output_declared, field_declared}
 use Rattle.cat_names.proofs.DeclaredTypes.{content_declared, enumeration_declared}
-use Rattle.cat_names.proofs.LeafLaws.{part_is, field_in_is}
+use Rattle.cat_names.proofs.LeafLaws.{field_named_is}
 use Rattle.cat_names.proofs.PartLaws.{Sound, of_type, ArgumentsStand, arguments_stand, ValuesStand, values_stand}
 
 pub equal_numbers : (a b : ℕ) → IsTrue (nat_eq a b) → a ≡ b
@@ -66,38 +63,39 @@ structure_declared ds n ks h =
     by (Some s) e g = below n (length ds.structures) (within ds.structures n s e)
 
 -- an input or a context of a name has its number and its type
-input_in_is : (ds : Decls) (s : ℕ) (w : List ℕ) (k : ℕ × Ty) → input_in ds s w ≡ Some k → input_type ds s k.0 ≡ Some k.1
-input_in_is ds s w k h = by (item_named w (scope_items ds s)) refl h
+given_is : (ds : Decls) (s : ℕ) (w : List ℕ) (k : ℕ × Ty) → input_named ds s w ≡ Some k
+    → (i : ItemDecl) × (slice_get (scope_items ds s) k.0 ≡ Some i) × (given_type (Some i) ≡ Some k.1)
+given_is ds s w k h = by (item_named w (scope_items ds s)) refl h
   where
-    at : (i : ℕ × ItemDecl) → slice_get (scope_items ds s) i.0 ≡ Some i.1 → (b : Bool) → may_be_given i.1.kind ≡ b
-        → (if b then Some (i.0, i.1.ty) else None) ≡ Some k → input_type ds s k.0 ≡ Some k.1
-    at i e true g r = let is : (i.0, i.1.ty) ≡ k = cc r in
-        subst (λ m. input_type ds s m.0 ≡ Some m.1) is (rw (e, g) refl)
-    at i e false g r = cc r
+    Is : ℕ × Ty → Type 0
+    Is m = (i : ItemDecl) × (slice_get (scope_items ds s) m.0 ≡ Some i) × (given_type (Some i) ≡ Some m.1)
 
-    by : (found : Option (ℕ × ItemDecl)) → item_named w (scope_items ds s) ≡ found → given_in found ≡ Some k
-        → input_type ds s k.0 ≡ Some k.1
+    at : (i : ℕ × ItemDecl) → slice_get (scope_items ds s) i.0 ≡ Some i.1 → (o : Option Ty) → given_type (Some i.1) ≡ o
+        → option_map (λ t. (i.0, t)) o ≡ Some k → Is k
+    at i e None g r = cc r
+    at i e (Some t) g r = let is : (i.0, t) ≡ k = cc r in subst Is is (i.1, e, g)
+
+    by : (found : Option (ℕ × ItemDecl)) → item_named w (scope_items ds s) ≡ found
+        → option_and_then given_item found ≡ Some k → Is k
     by None e g = cc g
-    by (Some i) e g = at i (first_is (λ x. x.name) w (scope_items ds s) i e) (may_be_given i.1.kind) refl g
+    by (Some i) e g = at i (first_is (λ x. x.name) w (scope_items ds s) i e) (given_type (Some i.1)) refl g
 
-input_declared : (ds : Decls) → AreSound ds → (s : ℕ) (w : List ℕ) (k : ℕ × Ty) → input_in ds s w ≡ Some k
+input_named_is : (ds : Decls) (s : ℕ) (w : List ℕ) (k : ℕ × Ty) → input_named ds s w ≡ Some k
+    → input_type ds s k.0 ≡ Some k.1
+input_named_is ds s w k h = let is = given_is ds s w k h in ap given_type is.1 ∙ is.2
+
+input_declared : (ds : Decls) → AreSound ds → (s : ℕ) (w : List ℕ) (k : ℕ × Ty) → input_named ds s w ≡ Some k
     → IsTrue (is_type ds k.1)
-input_declared ds sound s w k h = by (item_named w (scope_items ds s)) refl h
+input_declared ds sound s w k h = let is = given_is ds s w k h in
+    by is.0.ty (may_be_given is.0.kind) is.2 (item_declared ds sound s k.0 is.0 is.1)
   where
-    at : (i : ℕ × ItemDecl) → slice_get (scope_items ds s) i.0 ≡ Some i.1 → (b : Bool)
-        → (if b then Some (i.0, i.1.ty) else None) ≡ Some k → IsTrue (is_type ds k.1)
-    at i e true r = let is : (i.0, i.1.ty) ≡ k = cc r in
-        subst (λ m. IsTrue (is_type ds m.1)) is (item_declared ds sound s i.0 i.1 e)
-    at i e false r = cc r
-
-    by : (found : Option (ℕ × ItemDecl)) → item_named w (scope_items ds s) ≡ found → given_in found ≡ Some k
-        → IsTrue (is_type ds k.1)
-    by None e g = cc g
-    by (Some i) e g = at i (first_is (λ x. x.name) w (scope_items ds s) i e) (may_be_given i.1.kind) g
+    by : (t : Ty) (b : Bool) → (if b then Some t else None) ≡ Some k.1 → IsTrue (is_type ds t) → IsTrue (is_type ds k.1)
+    by t true g is = let same : t ≡ k.1 = cc g in subst (λ u. IsTrue (is_type ds u)) same is
+    by t false g is = cc g
 
 module _ (ds : Decls) (sound : AreSound ds) (scope : ℕ) (ls : List Local) (ex : Option Ty) where
   abbrev ns : Names
-  ns = names_at ds scope
+  ns = names_in_scope ds scope
 
   abbrev Has : Typed → Type 0
   Has = HasItsType ns ls ex
@@ -125,9 +123,9 @@ module _ (ds : Decls) (sound : AreSound ds) (scope : ℕ) (ls : List Local) (ex 
       → Each (λ f. Sound ds sound scope ((means f).1)) fs → AreDeclared ds ls → (n : ℕ)
       → OnFound Has (structure_of_fields means ns u fs ls n)
   structure_has means u fs each all n =
-      on_then (ValuesStand ds sound scope ls (field_type ds n)) Has (values_of means (field_in ds n) fs ls) _
-      (values_stand ds sound scope means (field_in ds n) (field_type ds n) (field_in_is ds n)
-      (λ w k e. field_declared ds sound n k.0 k.1 (field_in_is ds n w k e)) fs each ls all)
+      on_then (ValuesStand ds sound scope ls (field_type ds n)) Has (values_of means (field_named ds n) fs ls) _
+      (values_stand ds sound scope means (field_named ds n) (field_type ds n) (field_named_is ds n)
+      (λ w k e. field_declared ds sound n k.0 k.1 (field_named_is ds n w k e)) fs each ls all)
       (λ values h. on_where Has (are_fields_of ds n (numbers_in values)) _ _ (λ whole. record {
         typed = typed.structure h.typed whole;
         placed = rw (placed_Structure u.pos n values (is_some ex)) h.placed;
@@ -138,11 +136,11 @@ module _ (ds : Decls) (sound : AreSound ds) (scope : ℕ) (ls : List Local) (ex 
       → Each (λ f. Sound ds sound scope ((means f).1)) fs → AreDeclared ds ls → (s : ℕ)
       → OnFound Has (scope_call_of means ns p u fs w ls s)
   scope_call_has means p u fs w each all s =
-      on_both (ValuesStand ds sound scope ls (input_type ds s)) (λ o. output_in ds s w.text ≡ Some o) Has
-      (values_of means (input_in ds s) fs ls) (or_fault (NameUnknown w.pos) (output_in ds s w.text)) _
-      (values_stand ds sound scope means (input_in ds s) (input_type ds s) (input_in_is ds s)
+      on_both (ValuesStand ds sound scope ls (input_type ds s)) (λ o. output_named ds s w.text ≡ Some o) Has
+      (values_of means (input_named ds s) fs ls) (or_fault (NameUnknown w.pos) (output_named ds s w.text)) _
+      (values_stand ds sound scope means (input_named ds s) (input_type ds s) (input_named_is ds s)
       (input_declared ds sound s) fs each ls all)
-      (on_or (NameUnknown w.pos) (output_in ds s w.text))
+      (on_or (NameUnknown w.pos) (output_named ds s w.text))
       (λ values o h is. on_where Has (are_call_fields ds s (numbers_in values)) _ _ (λ whole.
       let found = part_is (λ i. i.ty) (item_named w.text (outputs_in (scope_items ds s))) o is in
       let at = first_is (λ i. i.name) w.text (outputs_in (scope_items ds s)) (o.0, found.0) found.1 in record {
@@ -157,7 +155,7 @@ module _ (ds : Decls) (sound : AreSound ds) (scope : ℕ) (ls : List Local) (ex 
     function : IsTrue (is_function f.1)
 
   function_there : (w : Name) → OnFound IsCallee (function_found ns w ls)
-  function_there w = by (innermost w.text 0 ls)
+  function_there w = by (innermost w.text ls)
     where
       item : (found : Option (ℕ × ItemDecl)) → item_named w.text ns.items ≡ found
           → OnFound IsCallee (called_item w.pos found)

@@ -1,6 +1,7 @@
 -- Each scope that a meaning calls is named by a word of the expression: one lemma a form.
-use Rattle.std.proofs.Common.{◌≡◌, ℕ, nat_eq, nat_le, List, [], ◌∷◌, ◌++◌, length, map, Option, Some, None}
-use Rattle.std.proofs.Common.{refl, sym, subst, inl}
+use Rattle.std.specs.Prelude.{option_map}
+use Rattle.std.proofs.Common.{◌≡◌, ℕ, nat_eq, nat_le, List, [], ◌∷◌, ◌++◌, length, map, Option, Some, None, refl, sym}
+use Rattle.std.proofs.Common.{subst, inl}
 use Rattle.cat_pos.specs.declared.pos.Pos.{Pos}
 use Rattle.cat_value.specs.declared.ty.Ty.{Ty}
 use Rattle.cat_value.specs.declared.ty.Ty.TheVariants as flat_ty
@@ -35,16 +36,13 @@ use Rattle.cat_names.specs.declared.typed.Typed.{Typed}
 use Rattle.cat_names.specs.declared.typed.Local.{Local}
 use Rattle.cat_names.specs.Found.{or_fault}
 use Rattle.cat_names.specs.Types.{same, element_of, expected_element, enumeration_of, structure_of}
-use Rattle.cat_names.specs.Lookup.{first_named, number, innermost, item_named, type_names, type_found}
+use Rattle.cat_names.specs.Lookup.{scope_named, innermost, item_named, type_names, type_found}
 use Rattle.cat_names.specs.Naming.{Called, called_scope, name_found, bound_or_item, item_found, function_found}
-use Rattle.cat_names.specs.Naming.{case_found}
-use Rattle.cat_names.specs.Naming.{case_first, structure_found, scope_found}
+use Rattle.cat_names.specs.Naming.{case_found, case_first, structure_found, scope_found}
 use Rattle.cat_names.specs.Operations.{literal_written}
-use Rattle.cat_names.specs.Forms.{field_in, input_in, output_in, if_of, test_of, each_of}
-use Rattle.cat_names.specs.Forms.{bound}
+use Rattle.cat_names.specs.Forms.{field_named, input_named, output_named, if_of, test_of, each_of, bound}
 use Rattle.cat_names.specs.Parts.{Meaning, elements_of, arguments_of, values_of, arms_of}
-use Rattle.cat_names.specs.Compound.{dotted, content_of_type, case_alone}
-use Rattle.cat_names.specs.Compound.{branches_of}
+use Rattle.cat_names.specs.Compound.{dotted, content_of_type, case_alone, branches_of}
 use Rattle.cat_names.specs.Meaning.{meant, name_alone, field_meant, arm_meant}
 use Rattle.cat_names.specs.ScopeWords.{all_words, scope_words, IsWordOf, AreWordsOf}
 use Rattle.cat_names.specs.TypedMeanings.{OnFound}
@@ -52,12 +50,10 @@ use Rattle.cat_names.proofs.OnFound.{on_then, on_both, on_both_where, on_where, 
 use Rattle.cat_names.proofs.Equations as equation
 use Rattle.cat_names.proofs.WordEquations as written
 use Rattle.cat_names.proofs.WordEquations.{value_words, body_words}
-use Rattle.cat_names.proofs.CalledWords.{Calls, both_words, calls_fitting}
-use Rattle.cat_names.proofs.CalledWords.{calls_literal, calls_binary, calls_prefixed, calls_sum, calls_one, calls_two}
-use Rattle.cat_names.proofs.CalledParts.{CallsBy, values_are, bodies_are, CallRow}
-use Rattle.cat_names.proofs.CalledParts.{CallAll}
-use Rattle.cat_names.proofs.CalledParts.{CallValues, CallRows, calls_elements, calls_arguments, calls_values}
-use Rattle.cat_names.proofs.CalledParts.{calls_arms}
+use Rattle.cat_names.proofs.CalledWords.{Calls, both_words, calls_fitting, calls_literal, calls_binary, calls_prefixed}
+use Rattle.cat_names.proofs.CalledWords.{calls_sum, calls_one, calls_two}
+use Rattle.cat_names.proofs.CalledParts.{CallsBy, values_are, bodies_are, CallRow, CallAll, CallValues, CallRows}
+use Rattle.cat_names.proofs.CalledParts.{calls_elements, calls_arguments, calls_values, calls_arms}
 use Rattle.cat_names.proofs.Induction.{induction}
 
 module _ (ns : Names) where
@@ -70,7 +66,7 @@ module _ (ns : Names) where
   -- ---- forms with known parts
 
   named_none : (w : Name) (ls : List Local) → OnFound (By []) (name_found ns w ls)
-  named_none w ls = by (innermost w.text 0 ls)
+  named_none w ls = by (innermost w.text ls)
     where
       item : (found : Option (ℕ × ItemDecl)) → OnFound (By []) (item_found w.pos found)
       item None = tt
@@ -100,14 +96,14 @@ module _ (ns : Names) where
       → (ls : List Local) (o : Option Called)
       → OnFound (By ws) (dotted ns w e ls o)
   dotted_calls w ws e h ls (Some c) = on_then (λ o. Unit {0}) (By ws)
-      (or_fault (NameUnknown w.pos) (output_in ns.decls c.scope w.text)) _
-      (on_any (or_fault (NameUnknown w.pos) (output_in ns.decls c.scope w.text)))
+      (or_fault (NameUnknown w.pos) (output_named ns.decls c.scope w.text)) _
+      (on_any (or_fault (NameUnknown w.pos) (output_named ns.decls c.scope w.text)))
       (λ o i. rw (names_by_level own_scope (leaf.Output c.first c.item o.0), expr.outs-Output c.first c.item o.0) tt)
   dotted_calls w ws e h ls None = on_then (By ws) (By ws) (e ls None) _ (h ls None) (λ x hx.
       on_then (λ n. Unit {0}) (By ws) (or_fault (TypeMismatch x.first) (structure_of x.ty)) _
       (on_any (or_fault (TypeMismatch x.first) (structure_of x.ty))) (λ n i.
-      on_then (λ f. Unit {0}) (By ws) (or_fault (NameUnknown w.pos) (field_in ns.decls n w.text)) _
-      (on_any (or_fault (NameUnknown w.pos) (field_in ns.decls n w.text))) (λ f j.
+      on_then (λ f. Unit {0}) (By ws) (or_fault (NameUnknown w.pos) (field_named ns.decls n w.text)) _
+      (on_any (or_fault (NameUnknown w.pos) (field_named ns.decls n w.text))) (λ f j.
       calls_one ns.decls ws x hx (expr.Field x.first x.expr f.0)
       (rw (names_by_level own_scope (expr.Field x.first x.expr f.0), expr.outs-Field x.first x.expr f.0) refl))))
 
@@ -141,10 +137,10 @@ module _ (ns : Names) where
       (rw (names_by_level own_scope (expr.Map p l.expr body.expr), expr.outs-Map p l.expr body.expr) refl))
 
   scope_word : (u : Name) → OnFound (λ s. IsWordOf ns.decls (u ∷ []) s) (scope_found ns u)
-  scope_word u = by (first_named (λ s. s.name) u.text 0 ns.decls.scopes) refl
+  scope_word u = by (scope_named u.text ns.decls.scopes) refl
     where
-      by : (o : Option (ℕ × Scope)) → first_named (λ s. s.name) u.text 0 ns.decls.scopes ≡ o
-          → OnFound (λ s. IsWordOf ns.decls (u ∷ []) s) (or_fault (NameUnknown u.pos) (number (λ n. n) o))
+      by : (o : Option (ℕ × Scope)) → scope_named u.text ns.decls.scopes ≡ o
+          → OnFound (λ s. IsWordOf ns.decls (u ∷ []) s) (or_fault (NameUnknown u.pos) (option_map (λ s. s.0) o))
       by None e = tt
       by (Some s) e = record { word = u; there = inl refl; found = s; found_is = e; number = refl }
 
@@ -227,9 +223,9 @@ module _ (ns : Names) where
   on_structure u fs he ls ex = rw (written.words_Structure u fs, equation.meant_Structure ns u fs ls ex)
       (calls_fitting ns.decls _ ex _ (on_then (λ n. Unit {0}) (By (all_words (map value_words fs)))
       (structure_found ns u) _ (on_any (structure_found ns u)) (λ n i.
-      on_then (CallValues ns.decls value_words (field_meant ns) (field_in ns.decls n) fs)
-      (By (all_words (map value_words fs))) (values_of (field_meant ns) (field_in ns.decls n) fs ls) _
-      (calls_values ns.decls value_words (field_meant ns) (field_in ns.decls n) fs he ls) (λ xs hxs.
+      on_then (CallValues ns.decls value_words (field_meant ns) (field_named ns.decls n) fs)
+      (By (all_words (map value_words fs))) (values_of (field_meant ns) (field_named ns.decls n) fs ls) _
+      (calls_values ns.decls value_words (field_meant ns) (field_named ns.decls n) fs he ls) (λ xs hxs.
       on_where (By (all_words (map value_words fs))) (are_fields_of ns.decls n (numbers_in xs)) _ _ (λ is.
       rw (names_by_level own_scope (expr.Structure u.pos n xs), expr.outs-Structure u.pos n xs)
       (subst (AreWordsOf ns.decls (all_words (map value_words fs))) (sym (values_are xs)) hxs))))))
@@ -240,11 +236,11 @@ module _ (ns : Names) where
       (calls_fitting ns.decls _ ex _
       (on_then (λ s. IsWordOf ns.decls (u ∷ []) s) (By (u ∷ all_words (map value_words fs))) (scope_found ns u) _
       (scope_word u) (λ s hs.
-      on_both (CallValues ns.decls value_words (field_meant ns) (input_in ns.decls s) fs) (λ o. Unit {0})
-      (By (u ∷ all_words (map value_words fs))) (values_of (field_meant ns) (input_in ns.decls s) fs ls)
-      (or_fault (NameUnknown w.pos) (output_in ns.decls s w.text)) _
-      (calls_values ns.decls value_words (field_meant ns) (input_in ns.decls s) fs he ls)
-      (on_any (or_fault (NameUnknown w.pos) (output_in ns.decls s w.text))) (λ xs o hxs i.
+      on_both (CallValues ns.decls value_words (field_meant ns) (input_named ns.decls s) fs) (λ o. Unit {0})
+      (By (u ∷ all_words (map value_words fs))) (values_of (field_meant ns) (input_named ns.decls s) fs ls)
+      (or_fault (NameUnknown w.pos) (output_named ns.decls s w.text)) _
+      (calls_values ns.decls value_words (field_meant ns) (input_named ns.decls s) fs he ls)
+      (on_any (or_fault (NameUnknown w.pos) (output_named ns.decls s w.text))) (λ xs o hxs i.
       on_where (By (u ∷ all_words (map value_words fs))) (are_call_fields ns.decls s (numbers_in xs)) _ _ (λ is.
       rw (names_by_level own_scope (expr.ScopeCall p s xs o.0), expr.outs-ScopeCall p s xs o.0)
       (both_words ns.decls (u ∷ []) (all_words (map value_words fs)) (s ∷ [])

@@ -1,6 +1,5 @@
 -- Each scope that a list of parts calls is named by a word of one of them.
-use Rattle.std.proofs.Common.{◌≡◌, ℕ, List, [], ◌∷◌, ◌++◌, map, Option, Some, None, refl}
-use Rattle.std.proofs.Common.{ap, ◌∙◌}
+use Rattle.std.proofs.Common.{◌≡◌, ℕ, List, [], ◌∷◌, ◌++◌, map, Option, Some, None, refl, ap, ◌∙◌}
 use Rattle.cat_pos.specs.declared.pos.Pos.{Pos}
 use Rattle.cat_value.specs.declared.ty.Ty.{Ty}
 use Rattle.cat_value.specs.declared.decls.Decls.{Decls}
@@ -15,9 +14,8 @@ use Rattle.cat_scope.proofs.Exported.{names_in_field, names_in_arm, names_in_fie
 use Rattle.cat_names.specs.declared.fault.Fault.TheVariants.{NameUnknown}
 use Rattle.cat_names.specs.declared.typed.Local.{Local}
 use Rattle.cat_names.specs.Found.{or_fault}
-use Rattle.cat_names.specs.Parts.{Meaning, all_of, elements_of, arguments_of, value_of, values_of, pattern_of, arm_of}
-use Rattle.cat_names.specs.Parts.{all_arms}
-use Rattle.cat_names.specs.Parts.{arms_of}
+use Rattle.cat_names.specs.Parts.{Meaning, all_of_type, elements_of, arguments_of, value_of, values_of, pattern_of}
+use Rattle.cat_names.specs.Parts.{arm_of, all_arms, arms_of}
 use Rattle.cat_names.specs.ScopeWords.{all_words, AreWordsOf}
 use Rattle.cat_names.specs.TypedMeanings.{OnFound}
 use Rattle.cat_names.proofs.OnFound.{on_then, on_both, on_any}
@@ -53,10 +51,10 @@ module _ (ds : Decls) {A : Type 0} (words : A → List Name) where
     CallAll xs es = AreWordsOf ds (All xs) (joined (map scopes_named es))
 
     calls_all : (xs : List A) → Each (λ x. CallsBy ds (words x) (means x)) xs → (ls : List Local) (t : Ty)
-        → OnFound (CallAll xs) (all_of means xs ls t)
+        → OnFound (CallAll xs) (all_of_type means xs ls t)
     calls_all [] each ls t = tt
     calls_all (x ∷ xs) each ls t = on_both (Calls ds (words x)) (CallAll xs) (CallAll (x ∷ xs)) (means x ls (Some t))
-        (all_of means xs ls t) _
+        (all_of_type means xs ls t) _
         (each.0 ls (Some t)) (calls_all xs each.1 ls t)
         (λ y ys hy hys. both_words ds (words x) (All xs) (scopes_named y.expr) (joined (map scopes_named ys)) hy hys)
 
@@ -69,7 +67,7 @@ module _ (ds : Decls) {A : Type 0} (words : A → List Name) where
     calls_elements p [] each ls (Some t) = tt
     calls_elements p (x ∷ xs) each ls ex =
         on_then (Calls ds (words x)) (CallRow (x ∷ xs)) (means x ls ex) _ (each.0 ls ex)
-        (λ y hy. on_then (CallAll xs) (CallRow (x ∷ xs)) (all_of means xs ls y.ty) _ (calls_all xs each.1 ls y.ty)
+        (λ y hy. on_then (CallAll xs) (CallRow (x ∷ xs)) (all_of_type means xs ls y.ty) _ (calls_all xs each.1 ls y.ty)
         (λ ys hys. both_words ds (words x) (All xs) (scopes_named y.expr) (joined (map scopes_named ys)) hy hys))
 
     pub calls_arguments : (xs : List A) → Each (λ x. CallsBy ds (words x) (means x)) xs

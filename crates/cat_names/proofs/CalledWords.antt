@@ -1,7 +1,5 @@
 -- Each scope that a meaning calls is named by a word of the expression.
-use Rattle.std.proofs.Common.{◌≡◌, ◌&&◌, ℕ, List, [], ◌∷◌, ◌++◌, Option}
-use Rattle.std.proofs.Common.{Ok}
-use Rattle.std.proofs.Common.{refl, sym, subst, inl, inr}
+use Rattle.std.proofs.Common.{◌≡◌, ◌&&◌, ℕ, List, [], ◌∷◌, ◌++◌, Option, Ok, refl, sym, subst}
 use Rattle.cat_pos.specs.declared.pos.Pos.{Pos}
 use Rattle.cat_value.specs.declared.ty.Ty.{Ty}
 use Rattle.cat_value.specs.declared.ty.Ty.TheVariants as flat_ty
@@ -16,34 +14,22 @@ use Rattle.cat_scope.specs.declared.expr.Literal.{Literal}
 use Rattle.cat_scope.specs.declared.expr.Expr.{Expr}
 use Rattle.cat_scope.specs.declared.expr.Expr.TheVariants as leaf
 use Rattle.cat_scope.specs.declared.expr.Expr.TheViews as expr
-use Rattle.cat_scope.specs.Names.{AllHave, IsOneOf}
+use Rattle.cat_scope.specs.Names.{IsOneOf}
 use Rattle.cat_scope.specs.Mentions.{own_scope, scopes_named}
 use Rattle.cat_scope.proofs.Exported.{names_by_level}
+use Rattle.cat_names.proofs.ListLaws.{all_join, behind, in_front}
 use Rattle.cat_names.specs.declared.fault.Fault.TheVariants.{TypeMismatch}
 use Rattle.cat_names.specs.declared.typed.Typed.{Typed}
 use Rattle.cat_names.specs.Found.{Found, and_then, or_fault}
-use Rattle.cat_names.specs.Types.{same, flat_of, whole, element_of, fits}
+use Rattle.cat_names.specs.Types.{same, flat_of, whole, element_of, is_as_expected}
 use Rattle.cat_names.specs.Rows.{operator_for, prefix_for, sum_for}
-use Rattle.cat_names.specs.Operations.{fitting, operated, binary_of, prefixed_of, sum_of}
+use Rattle.cat_names.specs.Operations.{as_expected, operated, binary_of, prefixed_of, sum_of}
 use Rattle.cat_names.specs.Naming.{typed}
 use Rattle.cat_names.specs.ScopeWords.{IsWordOf, AreWordsOf}
 use Rattle.cat_names.specs.TypedMeanings.{OnFound}
 use Rattle.cat_names.proofs.OnFound.{on_then, on_where, on_any}
 
-pub in_front : {A : Type 0} (x : A) (xs ys : List A) → IsOneOf x xs → IsOneOf x (xs ++ ys)
-in_front x [] ys h = elim h [ ]
-in_front x (y ∷ xs) ys (inl is) = inl is
-in_front x (y ∷ xs) ys (inr h) = inr (in_front x xs ys h)
-
-pub behind : {A : Type 0} (x : A) (xs ys : List A) → IsOneOf x ys → IsOneOf x (xs ++ ys)
-behind x [] ys h = h
-behind x (y ∷ xs) ys h = inr (behind x xs ys h)
-
-pub all_join : {A : Type 0} (P : A → Type 0) (xs ys : List A) → AllHave P xs → AllHave P ys → AllHave P (xs ++ ys)
-all_join P [] ys h i = i
-all_join P (x ∷ xs) ys h i = (h.0, all_join P xs ys h.1 i)
-
-more_words : (ds : Decls) (ws vs : List Name) → ((w : Name) → IsOneOf w ws → IsOneOf w vs) → (ns : List ℕ)
+pub more_words : (ds : Decls) (ws vs : List Name) → ((w : Name) → IsOneOf w ws → IsOneOf w vs) → (ns : List ℕ)
     → AreWordsOf ds ws ns → AreWordsOf ds vs ns
 more_words ds ws vs more [] h = tt
 more_words ds ws vs more (n ∷ ns) h = (
@@ -74,9 +60,10 @@ Calls ds words x = AreWordsOf ds words (scopes_named x.expr)
 
 module _ (ds : Decls) where
   pub calls_fitting : (ws : List Name) (ex : Option Ty) (found : Found Typed) → OnFound (Calls ds ws) found
-      → OnFound (Calls ds ws) (fitting ex found)
+      → OnFound (Calls ds ws) (as_expected ex found)
   calls_fitting ws ex found h =
-      on_then (Calls ds ws) (Calls ds ws) found _ h (λ x hx. on_where (Calls ds ws) (fits ex x.ty) _ (Ok x) (λ is. hx))
+      on_then (Calls ds ws) (Calls ds ws) found _ h
+      (λ x hx. on_where (Calls ds ws) (is_as_expected ex x.ty) _ (Ok x) (λ is. hx))
 
   pub calls_literal : (p : Pos) (l : Literal) → AreWordsOf ds [] (scopes_named (leaf.Literal p l))
   calls_literal p l = rw (names_by_level own_scope (leaf.Literal p l), expr.outs-Literal p l) tt

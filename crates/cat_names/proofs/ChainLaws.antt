@@ -1,20 +1,21 @@
 -- Where no chain is too long, none begins too long a one.
-use Rattle.std.proofs.Common.{◌≡◌, ◌<◌, ◌&&◌, ◌+◌, not, ℕ, zero, suc, Bool, true, false, List, [], ◌∷◌}
-use Rattle.std.proofs.Common.{◌++◌}
-use Rattle.std.proofs.Common.{length, if◌then◌else◌, refl, sym, arith, true≢false}
+use Rattle.std.proofs.Common.{◌≡◌, ◌<◌, ◌&&◌, ◌+◌, ℕ, zero, suc, Bool, true, false, List, [], ◌∷◌, length, refl, arith}
+use Rattle.std.proofs.Common.{true≢false}
 use Rattle.std.proofs.lemmas.Bool.Decides.{nat_tests}
 use Rattle.std.specs.List.{list_all}
 use Rattle.cat_pos.specs.declared.pos.Pos.{Pos}
 use Rattle.cat_order.specs.Order.{dependencies_of, times}
 use Rattle.cat_scope.specs.Chains.{IsChain, HasShortChains, is_within, longest_chain}
 use Rattle.cat_names.specs.declared.fault.Fault.TheVariants.{TooMany}
-use Rattle.cat_names.specs.Cycles.{past_chains}
+use Rattle.cat_names.specs.Cycles.{is_first_past, past_chains}
+use Rattle.cat_names.specs.Lists.{numbered}
+use Rattle.cat_names.proofs.Steps.{no_fault}
 
 -- one of some numbers that fails a test
-record Failing (test : ℕ → Bool) (ns : List ℕ) : Type 0 where
-  number : ℕ
-  there : 0 < times ns number
-  fails : test number ≡ false
+pub record Failing (test : ℕ → Bool) (ns : List ℕ) : Type 0 where
+  pub number : ℕ
+  pub there : 0 < times ns number
+  pub fails : test number ≡ false
 
 fails_at : (test : ℕ → Bool) (n : ℕ) (ns : List ℕ) (b : Bool) → test n ≡ b
     → (list_all test ns ≡ false → Failing test ns)
@@ -23,7 +24,7 @@ fails_at test n ns true e rest g = let more = rest g in
     record { number = more.number; there = omega (arith, more.there); fails = more.fails }
 fails_at test n ns false e rest g = record { number = n; there = grind (arith, nat_tests); fails = e }
 
-failing : (test : ℕ → Bool) (ns : List ℕ) → list_all test ns ≡ false → Failing test ns
+pub failing : (test : ℕ → Bool) (ns : List ℕ) → list_all test ns ≡ false → Failing test ns
 failing test [] h = absurd (true≢false h)
 failing test (n ∷ ns) h = fails_at test n ns (test n) refl (failing test ns) h
 
@@ -56,13 +57,6 @@ all_within deps short n = by (is_within deps longest_chain n) refl
     by false e = let long = too_long deps longest_chain n e in
         absurd (omega (arith, short (n ∷ long.rest) long.chain, long.long))
 
-past_at : (deps : List (List ℕ)) (n : ℕ) (p : Pos) (ps : List Pos) (b : Bool) → b ≡ true → past_chains deps (n + 1) ps
-    ≡ []
-    → (if not b && is_within deps (suc longest_chain) n then TooMany p ∷ [] else []) ++ past_chains deps (n + 1) ps ≡ []
-past_at deps n p ps true e rest = rest
-past_at deps n p ps false e rest = absurd (true≢false (sym e))
-
-pub none_past : (deps : List (List ℕ)) → HasShortChains deps → (n : ℕ) (ps : List Pos) → past_chains deps n ps ≡ []
-none_past deps short n [] = refl
-none_past deps short n (p ∷ ps) =
-    past_at deps n p ps (is_within deps longest_chain n) (all_within deps short n) (none_past deps short (n + 1) ps)
+pub none_past : (deps : List (List ℕ)) → HasShortChains deps → (ps : List Pos) → past_chains deps ps ≡ []
+none_past deps short ps = no_fault (λ p. is_first_past deps p.0) (λ p. TooMany p.1) (numbered ps)
+    (λ p. rw (all_within deps short p.0) refl)

@@ -1,7 +1,7 @@
 -- Worked examples of declarations: names that stand twice, counts, and what depends on itself.
-use Rattle.std.proofs.Common.{◌≡◌, ℕ, false, IsTrue, List, [], ◌∷◌, ◌++◌, Some, Ok}
-use Rattle.std.proofs.Common.{refl}
-use Rattle.std.proofs.Common.{rules, inl}
+use Rattle.std.specs.Prelude.{map}
+use Rattle.cat_names.specs.Accepted.{unordered}
+use Rattle.std.proofs.Common.{◌≡◌, ℕ, false, IsTrue, List, [], ◌∷◌, ◌++◌, Some, Ok, refl, rules, inl}
 use Rattle.cat_order.specs.Cycle.{IsOnCycle}
 use Rattle.cat_date.specs.declared.rounding.Rounding.TheVariants.{Refuse}
 use Rattle.cat_value.specs.declared.ty.Ty.TheVariants as flat_ty
@@ -131,7 +131,7 @@ module _ (sound : IsTrue (are_sound [] [] own_scopes)) where
   abbrev own_decls : Decls
   own_decls = record { structures = []; enumerations = []; scopes = own_scopes; sound = sound }
 
-  it_says_that_it_calls_itself : bodies_meant own_decls own_scope ≡ Ok own_bodies
+  it_says_that_it_calls_itself : bodies_meant own_decls own_scope ≡ Ok (map unordered own_bodies)
   it_says_that_it_calls_itself = search rules
 
   a_scope_does_not_call_itself : IsScopeCycle own_scope own_decls own_bodies (ScopeCycle (at 3 3))

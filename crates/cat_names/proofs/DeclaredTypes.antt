@@ -1,6 +1,6 @@
 -- Which types are declared: those of items, outputs, fields and contents.
-use Rattle.std.proofs.Common.{◌≡◌, ℕ, zero, suc, ◌<◌, nat_lt, Bool, true, false, IsTrue, List, [], ◌∷◌, length}
-use Rattle.std.proofs.Common.{Option, Some, None, slice_get, if◌then◌else◌, refl, subst, arith}
+use Rattle.std.proofs.Common.{◌≡◌, ℕ, zero, suc, ◌<◌, nat_lt, Bool, true, false, IsTrue, List, [], ◌∷◌, length, Option}
+use Rattle.std.proofs.Common.{Some, None, slice_get, if◌then◌else◌, refl, subst, arith}
 use Rattle.std.proofs.lemmas.Bool.Decides.{nat_tests}
 use Rattle.cat_value.specs.declared.ty.Ty.{Ty}
 use Rattle.cat_value.specs.declared.ty.Ty.TheVariants as flat_ty

@@ -1,6 +1,6 @@
 -- What definitions, rules and assertions mean is typed.
-use Rattle.std.proofs.Common.{◌≡◌, ℕ, nat_eq, not, true, false, is_some, IsTrue, List, [], ◌∷◌}
-use Rattle.std.proofs.Common.{length, Option, Some, None, Ok, slice_get, refl, sym, ap, subst, arith}
+use Rattle.std.proofs.Common.{◌≡◌, ℕ, nat_eq, not, true, false, is_some, IsTrue, List, [], ◌∷◌, length, Option, Some}
+use Rattle.std.proofs.Common.{None, Ok, slice_get, refl, sym, ap, subst, arith}
 use Rattle.cat_pos.specs.declared.pos.Pos.{Pos}
 use Rattle.cat_value.specs.declared.ty.Ty.{Ty}
 use Rattle.cat_value.specs.declared.ty.Ty.TheVariants as flat_ty
@@ -32,14 +32,15 @@ use Rattle.cat_names.specs.declared.fault.Fault.TheVariants.{NameUnknown}
 use Rattle.cat_names.specs.declared.typed.Typed.{Typed}
 use Rattle.cat_names.specs.declared.typed.Local.{Local}
 use Rattle.cat_names.specs.Found.{or_fault}
-use Rattle.cat_names.specs.Types.{fits, structure_of}
+use Rattle.cat_names.specs.Types.{is_as_expected, structure_of}
 use Rattle.cat_names.specs.Lookup.{item_named, scope_called, types_of}
 use Rattle.cat_names.specs.Meaning.{meant}
 use Rattle.cat_names.specs.Aims.{Aim, own_aim, inner_aim, part_fault, called_aim, aim_at, aim_of}
-use Rattle.cat_names.specs.Definitions.{boolean_of, condition_of, joined, named_params, nameless_params}
-use Rattle.cat_names.specs.Definitions.{whole_condition}
-use Rattle.cat_names.specs.Definitions.{def_of, definition_meant, is_fulfilled, rule_meant, assertion_meant}
-use Rattle.cat_names.specs.TypedMeanings.{OnFound, names_at, AreDeclared, IsTyped}
+use Rattle.cat_names.specs.Definitions.{boolean_of, condition_meant, conjunction, named_params, nameless_params}
+use Rattle.cat_names.specs.Definitions.{whole_condition, def_of, definition_meant, is_fulfilled, rule_meant}
+use Rattle.cat_names.specs.Definitions.{assertion_meant}
+use Rattle.cat_names.specs.Naming.{names_in_scope}
+use Rattle.cat_names.specs.TypedMeanings.{OnFound, AreDeclared, IsTyped}
 use Rattle.cat_names.proofs.OnFound.{on_then, on_both, on_both_where, on_where, on_or}
 use Rattle.cat_names.proofs.SameTypes.{same_is}
 use Rattle.cat_names.proofs.Lookups.{first_is}
@@ -82,7 +83,7 @@ called_kind _ called h = cc h
 
 module _ (ds : Decls) (sound : AreSound ds) (conditions : AreConditions ds) (scope : ℕ) where
   abbrev ns : Names
-  ns = names_at ds scope
+  ns = names_in_scope ds scope
 
   -- ---- targets
 
@@ -171,7 +172,7 @@ module _ (ds : Decls) (sound : AreSound ds) (conditions : AreConditions ds) (sco
       (boolean_of ns e ls)
   boolean_stands e ls all = on_then (IsTyped ns ls None) (IsBoolean (types_of ls)) (meant ns e ls None) _
       (each_is_typed ds sound scope e ls None all tt)
-      (λ x hx. on_where (IsBoolean (types_of ls)) (fits (Some flat_ty.Boolean) x.ty) _ (Ok x) (λ is. record {
+      (λ x hx. on_where (IsBoolean (types_of ls)) (is_as_expected (Some flat_ty.Boolean) x.ty) _ (Ok x) (λ is. record {
         typed = subst (λ t. HasType ns (types_of ls) x.expr t) (sym (same_is flat_ty.Boolean x.ty is)) hx.has.typed;
         placed = hx.has.placed;
       }))
@@ -181,7 +182,7 @@ module _ (ds : Decls) (sound : AreSound ds) (conditions : AreConditions ds) (sco
   AreBoolean ts (Some x) = IsBoolean ts x
 
   pub condition_stands : (e : Option Node) (ls : List Local) → AreDeclared ds ls → OnFound (AreBoolean (types_of ls))
-      (condition_of ns e ls)
+      (condition_meant ns e ls)
   condition_stands None ls all = tt
   condition_stands (Some e) ls all = on_then (IsBoolean (types_of ls)) (AreBoolean (types_of ls)) (boolean_of ns e ls) _
       (boolean_stands e ls all) (λ x hx. hx)
@@ -191,7 +192,7 @@ module _ (ds : Decls) (sound : AreSound ds) (conditions : AreConditions ds) (sco
     placed : IsTrue (condition_placed c)
 
   joined_stands : (ts : List Ty) (b c : Option Typed) → AreBoolean ts b → AreBoolean ts c
-      → ConditionStands ts (joined b c)
+      → ConditionStands ts (conjunction b c)
   joined_stands ts None None hb hc = record { typed = tt; placed = refl }
   joined_stands ts (Some b) None hb hc = record { typed = hb.typed; placed = hb.placed }
   joined_stands ts None (Some c) hb hc = record { typed = hc.typed; placed = hc.placed }
@@ -203,11 +204,11 @@ module _ (ds : Decls) (sound : AreSound ds) (conditions : AreConditions ds) (sco
   whole_stands : (block c : Option Node) (ws : List Name) (ts : List Ty) → AllHave (λ t. IsTrue (is_type ds t)) ts
       → length ws ≡ length ts → OnFound (ConditionStands ts) (whole_condition ns block c ws ts)
   whole_stands block c ws ts all are =
-      on_both (AreBoolean ts) (AreBoolean ts) (ConditionStands ts) (condition_of ns block (nameless_params ts))
-      (condition_of ns c (named_params ws ts)) _
-      (subst (λ us. OnFound (AreBoolean us) (condition_of ns block (nameless_params ts))) (nameless_types ts)
+      on_both (AreBoolean ts) (AreBoolean ts) (ConditionStands ts) (condition_meant ns block (nameless_params ts))
+      (condition_meant ns c (named_params ws ts)) _
+      (subst (λ us. OnFound (AreBoolean us) (condition_meant ns block (nameless_params ts))) (nameless_types ts)
       (condition_stands block (nameless_params ts) (nameless_declared ds ts all)))
-      (subst (λ us. OnFound (AreBoolean us) (condition_of ns c (named_params ws ts))) (named_types ws ts are)
+      (subst (λ us. OnFound (AreBoolean us) (condition_meant ns c (named_params ws ts))) (named_types ws ts are)
       (condition_stands c (named_params ws ts) (named_declared ds ws ts all)))
       (λ b own hb hown. joined_stands ts b own hb hown)
 

@@ -1,8 +1,6 @@
 -- Forms over lists, choices and matches have their types.
-use Rattle.std.proofs.Common.{◌≡◌, ℕ, nat_eq, nat_le, IsTrue, is_some, List, []}
-use Rattle.std.proofs.Common.{◌∷◌}
-use Rattle.std.proofs.Common.{◌++◌, length, Option, Some, None, Ok, refl, sym, ap, ◌∙◌, subst}
-use Rattle.std.proofs.Common.{arith}
+use Rattle.std.proofs.Common.{◌≡◌, ℕ, nat_eq, nat_le, IsTrue, is_some, List, [], ◌∷◌, ◌++◌, length, Option, Some, None}
+use Rattle.std.proofs.Common.{Ok, refl, sym, ap, ◌∙◌, subst, arith}
 use Rattle.cat_pos.specs.declared.pos.Pos.{Pos}
 use Rattle.cat_value.specs.declared.ty.Ty.{Ty}
 use Rattle.cat_value.specs.declared.ty.Ty.TheVariants as flat_ty
@@ -22,20 +20,20 @@ use Rattle.cat_scope.specs.HasType.{HasType}
 use Rattle.cat_scope.specs.HasType as typed
 use Rattle.cat_scope.specs.Expected.{lists_placed}
 use Rattle.cat_scope.proofs.Exported.{placed_If, placed_IsCase, placed_List, placed_ForAll, placed_Exists, placed_Map}
-use Rattle.cat_scope.proofs.Exported.{placed_Filter, placed_Combine, placed_Match}
-use Rattle.cat_scope.proofs.Exported.{Each}
+use Rattle.cat_scope.proofs.Exported.{placed_Filter, placed_Combine, placed_Match, Each}
 use Rattle.cat_names.specs.declared.fault.Fault.TheVariants.{TypeMismatch}
 use Rattle.cat_names.specs.declared.typed.Typed.{Typed}
 use Rattle.cat_names.specs.declared.typed.Local.{Local}
 use Rattle.cat_names.specs.declared.typed.Flat.TheVariants as flat
 use Rattle.cat_names.specs.Found.{and_then, or_fault}
-use Rattle.cat_names.specs.Types.{fits, same, element_of, expected_element, enumeration_of}
+use Rattle.cat_names.specs.Types.{is_as_expected, same, element_of, expected_element, enumeration_of}
 use Rattle.cat_names.specs.Lookup.{types_of}
-use Rattle.cat_names.specs.Operations.{fitting}
+use Rattle.cat_names.specs.Operations.{as_expected}
 use Rattle.cat_names.specs.Forms.{if_of, test_of, each_of, bound}
 use Rattle.cat_names.specs.Parts.{Meaning, elements_of, list_of, arms_of}
-use Rattle.cat_names.specs.Compound.{branches_of, match_of, over_list, combine_over}
-use Rattle.cat_names.specs.TypedMeanings.{OnFound, names_at, AreDeclared, IsExpected, HasItsType, IsTyped}
+use Rattle.cat_names.specs.Compound.{branches_of, match_over, over_list, combine_over}
+use Rattle.cat_names.specs.Naming.{names_in_scope}
+use Rattle.cat_names.specs.TypedMeanings.{OnFound, AreDeclared, IsExpected, HasItsType, IsTyped}
 use Rattle.cat_names.proofs.OnFound.{on_then, on_where, on_or}
 use Rattle.cat_names.proofs.TypeEquations.{element_level}
 use Rattle.cat_names.proofs.SameTypes.{same_is, element_is, enumeration_is}
@@ -71,7 +69,7 @@ element_expected ds (Some u) h = by (element_of u) refl
 
 module _ (ds : Decls) (sound : AreSound ds) (scope : ℕ) (ls : List Local) where
   abbrev ns : Names
-  ns = names_at ds scope
+  ns = names_in_scope ds scope
 
   abbrev Operand : Typed → Type 0
   Operand = IsTyped ns ls None
@@ -117,7 +115,7 @@ module _ (ds : Decls) (sound : AreSound ds) (scope : ℕ) (ls : List Local) wher
 
   pub match_has : {A : Type 0} (means : A → Pattern × Meaning) (p : Pos) (arms : List A)
       → Each (λ a. Sound ds sound scope ((means a).1)) arms → (ex : Option Ty) → AreDeclared ds ls → IsExpected ds ex
-      → (e : Typed) → Operand e → OnFound (IsTyped ns ls ex) (match_of means ns p arms ls ex e)
+      → (e : Typed) → Operand e → OnFound (IsTyped ns ls ex) (match_over means ns p arms ls ex e)
   match_has means p arms each ex all h e he = on_then (λ n. enumeration_of e.ty ≡ Some n) (IsTyped ns ls ex)
       (or_fault (TypeMismatch p) (enumeration_of e.ty)) _ (on_or (TypeMismatch p) (enumeration_of e.ty))
       (λ n is. on_then (ArmsStand ds sound scope n ls ex) (IsTyped ns ls ex) (arms_of means ns p n arms ls ex) _
@@ -141,7 +139,7 @@ module _ (ds : Decls) (sound : AreSound ds) (scope : ℕ) (ls : List Local) wher
     declared : IsTrue (is_type ds x.ty)
 
   -- where a list has the expected type, a type is expected of its elements
-  list_fits : (ex : Option Ty) (x : Typed) → ListStands ex x → IsTrue (fits ex x.ty) → HasItsType ns ls ex x
+  list_fits : (ex : Option Ty) (x : Typed) → ListStands ex x → IsTrue (is_as_expected ex x.ty) → HasItsType ns ls ex x
   list_fits None x h fit = record { typed = h.typed; placed = h.placed; declared = h.declared }
   list_fits (Some u) x h fit = record {
     typed = h.typed;
@@ -166,13 +164,13 @@ module _ (ds : Decls) (sound : AreSound ds) (scope : ℕ) (ls : List Local) wher
       es
       → (ex : Option Ty) → AreDeclared ds ls → IsExpected ds ex
       → OnFound (IsTyped ns ls ex)
-      (fitting ex (and_then (elements_of means p es ls (expected_element ex)) (list_of ns p)))
+      (as_expected ex (and_then (elements_of means p es ls (expected_element ex)) (list_of ns p)))
   list_has means p es each ex all h = on_then (ListStands ex) (IsTyped ns ls ex) _ _
       (on_then (RowStands ds sound scope ls (is_some (expected_element ex))) (ListStands ex)
       (elements_of means p es ls (expected_element ex)) _
       (row_stands ds sound scope means p es each ls (expected_element ex) all (element_expected ds ex h))
       (λ row hrow. list_stands p ex row hrow))
-      (λ x hx. on_where (IsTyped ns ls ex) (fits ex x.ty) _ (Ok x)
+      (λ x hx. on_where (IsTyped ns ls ex) (is_as_expected ex x.ty) _ (Ok x)
       (λ fit. record { has = list_fits ex x hx fit; fit = fit }))
 
   each_has : (k : eaches.Each) (p : Pos) (ex : Option Ty) (t : Ty) (b : Local) → b.ty ≡ t → (l body : Typed) → Operand l

@@ -1,7 +1,5 @@
 -- Where declarations keep what they are to keep, no declared type is too high.
-use Rattle.std.proofs.Common.{◌≡◌, ◌≤◌, ◌&&◌, ◌+◌, not, nat_le, ℕ, suc, false, List, [], ◌∷◌}
-use Rattle.std.proofs.Common.{◌++◌}
-use Rattle.std.proofs.Common.{Option, Some, None, slice_get, if◌then◌else◌, refl}
+use Rattle.std.proofs.Common.{◌≡◌, ◌≤◌, ◌&&◌, not, nat_le, ℕ, suc, false, List, [], Option, Some, None, slice_get, refl}
 use Rattle.std.proofs.Common.{arith, rules}
 use Rattle.std.proofs.lemmas.Bool.Decides.{nat_tests}
 use Rattle.cat_value.specs.declared.ty.Ty.{Ty}
@@ -14,10 +12,11 @@ use Rattle.cat_value.specs.Declarations.{highest}
 use Rattle.cat_value.specs.Heights.{height_to}
 use Rattle.cat_value.specs.Laws.{AreSound, height_of}
 use Rattle.cat_tree.specs.declared.name.Name.{Name}
-use Rattle.cat_names.specs.declared.fault.Fault.{Fault}
 use Rattle.cat_names.specs.declared.fault.Fault.TheVariants.{TooMany}
+use Rattle.cat_names.specs.Lists.{numbered}
 use Rattle.cat_names.specs.Heights.{is_high, has_low_parts, high_named}
 use Rattle.cat_names.specs.Accepted.{parts_of}
+use Rattle.cat_names.proofs.Steps.{no_fault}
 
 pub low_test : (h : ℕ) → h ≤ highest → not (nat_le h highest) ≡ false
 low_test h low = grind (arith, nat_tests)
@@ -51,22 +50,14 @@ module _ (ds : Decls) (sound : AreSound ds) where
           (omega (arith, no_enumeration ds.structures ds.enumerations 63 n e))
       by (Some s) e = low_test (height_of ds (flat_ty.Enumeration n)) ((sound.enumerations n s e).low)
 
-  named_at : (of_number : ℕ → Ty) (n : ℕ) (w : Name) (rest : List Fault) → is_high (parts_of ds) (of_number n) ≡ false
-      → rest ≡ []
-      → (if is_high (parts_of ds) (of_number n) && has_low_parts (parts_of ds) (of_number n) then TooMany w.pos ∷ []
-      else []) ++ rest ≡ []
-  named_at of_number n w rest low none = rw (low, none) refl
+  named_low : (of_number : ℕ → Ty) → ((n : ℕ) → is_high (parts_of ds) (of_number n) ≡ false) → (ws : List Name)
+      → high_named (parts_of ds) of_number ws ≡ []
+  named_low of_number low ws =
+      no_fault (λ w. is_high (parts_of ds) (of_number w.0) && has_low_parts (parts_of ds) (of_number w.0))
+      (λ w. TooMany w.1.pos) (numbered ws) (λ w. rw (low w.0) refl)
 
-  pub named_low : (of_number : ℕ → Ty) → ((n : ℕ) → is_high (parts_of ds) (of_number n) ≡ false)
-      → (n : ℕ) (ws : List Name)
-      → high_named (parts_of ds) of_number n ws ≡ []
-  named_low of_number low n [] = refl
-  named_low of_number low n (w ∷ ws) =
-      named_at of_number n w (high_named (parts_of ds) of_number (n + 1) ws) (low n)
-      (named_low of_number low (n + 1) ws)
+  pub structures_named_low : (ws : List Name) → high_named (parts_of ds) flat_ty.Structure ws ≡ []
+  structures_named_low ws = named_low flat_ty.Structure structure_low ws
 
-  pub structures_named_low : (ws : List Name) → high_named (parts_of ds) flat_ty.Structure 0 ws ≡ []
-  structures_named_low ws = named_low flat_ty.Structure structure_low 0 ws
-
-  pub enumerations_named_low : (ws : List Name) → high_named (parts_of ds) flat_ty.Enumeration 0 ws ≡ []
-  enumerations_named_low ws = named_low flat_ty.Enumeration enumeration_low 0 ws
+  pub enumerations_named_low : (ws : List Name) → high_named (parts_of ds) flat_ty.Enumeration ws ≡ []
+  enumerations_named_low ws = named_low flat_ty.Enumeration enumeration_low ws

@@ -1,7 +1,7 @@
 -- Literals, names, cases, fields and outputs have their types.
-use Rattle.std.proofs.Common.{◌≡◌, ℕ, zero, suc, IsTrue, List, [], ◌∷◌, Option}
-use Rattle.std.proofs.Common.{Some}
-use Rattle.std.proofs.Common.{None, Ok, slice_get, refl, sym, ap, ◌∙◌, subst}
+use Rattle.std.specs.Prelude.{option_and_then}
+use Rattle.std.proofs.Common.{◌≡◌, ℕ, zero, suc, IsTrue, List, [], ◌∷◌, Option, Some, None, Ok, slice_get, refl, sym}
+use Rattle.std.proofs.Common.{ap, ◌∙◌, subst}
 use Rattle.cat_pos.specs.declared.pos.Pos.{Pos}
 use Rattle.cat_value.specs.declared.ty.Ty.{Ty}
 use Rattle.cat_value.specs.declared.declaration.Field.{Field}
@@ -28,26 +28,19 @@ use Rattle.cat_names.specs.declared.fault.Fault.TheVariants.{NameUnknown, TypeMi
 use Rattle.cat_names.specs.declared.typed.Typed.{Typed}
 use Rattle.cat_names.specs.declared.typed.Local.{Local}
 use Rattle.cat_names.specs.Found.{Found, or_fault}
-use Rattle.cat_names.specs.Types.{fits, structure_of}
-use Rattle.cat_names.specs.Lookup.{first_named, with_part, innermost, item_named, scope_called, types_of}
+use Rattle.cat_names.specs.Types.{is_as_expected, structure_of}
+use Rattle.cat_names.specs.Lookup.{first_named, innermost, item_named, scope_called, types_of}
 use Rattle.cat_names.specs.Naming.{Called, calling, as_called, unbound_scope, called_scope, item_found, bound_or_item}
-use Rattle.cat_names.specs.Naming.{name_found}
-use Rattle.cat_names.specs.Operations.{fitting, literal_of}
-use Rattle.cat_names.specs.Forms.{field_named, field_in, field_of, output_in, output_of}
+use Rattle.cat_names.specs.Naming.{name_found, names_in_scope}
+use Rattle.cat_names.specs.Operations.{as_expected, literal_of}
+use Rattle.cat_names.specs.Forms.{field_among, field_named, field_of, output_named, output_of}
 use Rattle.cat_names.specs.Compound.{dotted, case_alone}
 use Rattle.cat_names.specs.Parts.{Meaning}
-use Rattle.cat_names.specs.TypedMeanings.{OnFound, names_at, AreDeclared, HasItsType, IsTyped}
+use Rattle.cat_names.specs.TypedMeanings.{OnFound, AreDeclared, HasItsType, IsTyped}
 use Rattle.cat_names.proofs.OnFound.{on_then, on_where, on_or}
 use Rattle.cat_names.proofs.SameTypes.{structure_is}
-use Rattle.cat_names.proofs.Lookups.{first_is, inner_is}
+use Rattle.cat_names.proofs.Lookups.{part_is, first_is, inner_is}
 use Rattle.cat_names.proofs.DeclaredTypes.{item_declared, output_declared, field_declared, enumeration_declared}
-
--- what was found with a part of it
-pub part_is : {A B : Type 0} (part : A → B) (found : Option (ℕ × A)) (o : ℕ × B) → with_part part found ≡ Some o
-    → (a : A) × (found ≡ Some (o.0, a)) × (o.1 ≡ part a)
-part_is part None o h = cc h
-part_is part (Some f) o h = let is : (f.0, part f.1) ≡ o = cc h in
-    (f.1, subst (λ m. Some f ≡ Some (m.0, f.1)) is refl, subst (λ m. m.1 ≡ part f.1) is refl)
 
 pub literal_declared : (ds : Decls) (l : Literal) → IsTrue (is_type ds (literal_type l))
 literal_declared ds (literal.Boolean b) = is_declared_Boolean ds.structures ds.enumerations
@@ -66,28 +59,28 @@ local_declared ds (l ∷ ls) zero t all h = let is : l.ty ≡ t = cc h in subst 
 local_declared ds (l ∷ ls) (suc k) t all h = local_declared ds ls k t all.1 h
 
 -- the field of a name has its number and its type
-field_number : (w : List ℕ) (fields : Option (List Field)) (f : ℕ × Ty) → field_named w fields ≡ Some f
-    → type_in (field_at fields f.0) ≡ Some f.1
-field_number w None f h = cc h
-field_number w (Some fields) f h =
-    let found = part_is (λ x. x.ty) (first_named (λ x. x.name) w 0 fields) f h in
-    let at = first_is (λ x. x.name) w fields (f.0, found.0) found.1 in
-    ap type_in at ∙ ap (λ t. Some t) (sym found.2)
-
-pub field_in_is : (ds : Decls) (n : ℕ) (w : List ℕ) (f : ℕ × Ty) → field_in ds n w ≡ Some f
+pub field_named_is : (ds : Decls) (n : ℕ) (w : List ℕ) (f : ℕ × Ty) → field_named ds n w ≡ Some f
     → field_type ds n f.0 ≡ Some f.1
-field_in_is ds n w f h = field_number w (fields_of ds n) f h
+field_named_is ds n w f h = by (fields_of ds n) h
+  where
+    by : (fields : Option (List Field)) → option_and_then (field_among w) fields ≡ Some f
+        → type_in (field_at fields f.0) ≡ Some f.1
+    by None g = cc g
+    by (Some fields) g =
+        let found = part_is (λ (x : Field). x.ty) (first_named (λ x. x.name) w fields) f g in
+        let at = first_is (λ x. x.name) w fields (f.0, found.0) found.1 in
+        ap type_in at ∙ ap (λ t. Some t) (sym found.2)
 
 module _ (ds : Decls) (sound : AreSound ds) (scope : ℕ) (ls : List Local) (ex : Option Ty) where
   abbrev ns : Names
-  ns = names_at ds scope
+  ns = names_in_scope ds scope
 
   abbrev Has : Typed → Type 0
   Has = HasItsType ns ls ex
 
-  pub on_fitting : (found : Found Typed) → OnFound Has found → OnFound (IsTyped ns ls ex) (fitting ex found)
-  on_fitting found h = on_then Has (IsTyped ns ls ex) found _ h
-      (λ x has. on_where (IsTyped ns ls ex) (fits ex x.ty) _ (Ok x) (λ fit. record { has = has; fit = fit }))
+  pub on_as_expected : (found : Found Typed) → OnFound Has found → OnFound (IsTyped ns ls ex) (as_expected ex found)
+  on_as_expected found h = on_then Has (IsTyped ns ls ex) found _ h
+      (λ x has. on_where (IsTyped ns ls ex) (is_as_expected ex x.ty) _ (Ok x) (λ fit. record { has = has; fit = fit }))
 
   pub literal_has : (p : Pos) (l : Literal) → OnFound Has (literal_of p l)
   literal_has p l = on_where Has (literal_fits l) _ _ (λ within. record {
@@ -97,7 +90,7 @@ module _ (ds : Decls) (sound : AreSound ds) (scope : ℕ) (ls : List Local) (ex 
   })
 
   pub name_has : AreDeclared ds ls → (w : Name) → OnFound Has (name_found ns w ls)
-  name_has all w = by (innermost w.text 0 ls) refl
+  name_has all w = by (innermost w.text ls) refl
     where
       item : (found : Option (ℕ × ItemDecl)) → item_named w.text ns.items ≡ found → OnFound Has (item_found w.pos found)
       item None e = tt
@@ -108,7 +101,7 @@ module _ (ds : Decls) (sound : AreSound ds) (scope : ℕ) (ls : List Local) (ex 
             declared = item_declared ds sound scope i.0 i.1 at;
           })
 
-      by : (found : Option (ℕ × Ty)) → innermost w.text 0 ls ≡ found → OnFound Has (bound_or_item ns w found)
+      by : (found : Option (ℕ × Ty)) → innermost w.text ls ≡ found → OnFound Has (bound_or_item ns w found)
       by (Some l) e = let at = inner_is w.text ls l e in record {
         typed = typed.local at;
         placed = rw (placed_Local w.pos l.0) refl;
@@ -134,7 +127,7 @@ module _ (ds : Decls) (sound : AreSound ds) (scope : ℕ) (ls : List Local) (ex 
 
   called_is : (base : Option Name) (called : Called) → called_scope ns base ls ≡ Some called → IsCalled called
   called_is None called h = cc h
-  called_is (Some t) called h = by (innermost t.text 0 ls) h
+  called_is (Some t) called h = by (innermost t.text ls) h
     where
       kind_is : (k : Kind) (p : Pos) (item : ℕ) (c : Called) → calling p item (scope_called k) ≡ Some c
           → (item ≡ c.item) × (k ≡ kind.Called c.scope)
@@ -154,10 +147,11 @@ module _ (ds : Decls) (sound : AreSound ds) (scope : ℕ) (ls : List Local) (ex 
 
   output_has : (w : Name) (called : Called) → IsCalled called → OnFound Has (output_of ns w called)
   output_has w called is =
-      on_then (λ o. output_in ds called.scope w.text ≡ Some o) Has
-      (or_fault (NameUnknown w.pos) (output_in ds called.scope w.text)) _
-      (on_or (NameUnknown w.pos) (output_in ds called.scope w.text))
-      (λ o h. let found = part_is (λ i. i.ty) (item_named w.text (outputs_in (scope_items ds called.scope))) o h in
+      on_then (λ o. output_named ds called.scope w.text ≡ Some o) Has
+      (or_fault (NameUnknown w.pos) (output_named ds called.scope w.text)) _
+      (on_or (NameUnknown w.pos) (output_named ds called.scope w.text))
+      (λ o h. let found = part_is (λ (i : ItemDecl). i.ty)
+      (item_named w.text (outputs_in (scope_items ds called.scope))) o h in
       let at = first_is (λ i. i.name) w.text (outputs_in (scope_items ds called.scope)) (o.0, found.0) found.1 in
       record {
         typed = typed.output (record {
@@ -178,13 +172,14 @@ module _ (ds : Decls) (sound : AreSound ds) (scope : ℕ) (ls : List Local) (ex 
   field_has w e h =
       on_then (λ n. structure_of e.ty ≡ Some n) Has (or_fault (TypeMismatch e.first) (structure_of e.ty)) _
       (on_or (TypeMismatch e.first) (structure_of e.ty))
-      (λ n is. on_then (λ f. field_in ds n w.text ≡ Some f) Has (or_fault (NameUnknown w.pos) (field_in ds n w.text)) _
-      (on_or (NameUnknown w.pos) (field_in ds n w.text))
+      (λ n is. on_then (λ f. field_named ds n w.text ≡ Some f) Has
+      (or_fault (NameUnknown w.pos) (field_named ds n w.text)) _
+      (on_or (NameUnknown w.pos) (field_named ds n w.text))
       (λ f at. record {
         typed = typed.field n (subst (λ t. HasType ns (types_of ls) e.expr t) (structure_is e.ty n is) h.has.typed)
-            (field_in_is ds n w.text f at);
+            (field_named_is ds n w.text f at);
         placed = rw (placed_Field e.first e.expr f.0) h.has.placed;
-        declared = field_declared ds sound n f.0 f.1 (field_in_is ds n w.text f at);
+        declared = field_declared ds sound n f.0 f.1 (field_named_is ds n w.text f at);
       }))
 
   pub dotted_has : (w : Name) (e : Meaning) → OnFound (IsTyped ns ls None) (e ls None) → (base : Option Name)

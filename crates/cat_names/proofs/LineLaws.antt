@@ -1,11 +1,13 @@
 -- What a source says of a scope is typed, and has its declaration once.
-use Rattle.std.proofs.Common.{◌≡◌, ◌<◌, ◌≤◌, ℕ, suc, ◌+◌, nat_eq, Bool, true, false, IsTrue, List, [], ◌∷◌}
-use Rattle.std.proofs.Common.{◌++◌}
-use Rattle.std.proofs.Common.{length, map, Option, Some, None, Ok, if◌then◌else◌, refl, ◌∙◌}
-use Rattle.std.proofs.Common.{arith}
+use Rattle.std.proofs.Common.{◌≡◌, ◌<◌, ◌≤◌, ℕ, suc, ◌+◌, nat_eq, Bool, true, false, IsTrue, List, [], ◌∷◌, ◌++◌}
+use Rattle.std.proofs.Common.{length, map, Option, Some, None, Ok, Err, slice_get, refl, sym, ap, ◌∙◌, arith}
 use Rattle.cat_value.specs.declared.ty.Ty.TheVariants as flat_ty
 use Rattle.cat_value.specs.declared.decls.Decls.{Decls}
 use Rattle.cat_value.specs.Laws.{AreSound}
+use Rattle.std.specs.Prelude.{cond}
+use Rattle.cat_pos.specs.declared.pos.Pos.{Pos}
+use Rattle.cat_tree.specs.declared.name.Name.{Name}
+use Rattle.cat_tree.specs.declared.program.Variable.{Variable}
 use Rattle.cat_tree.specs.declared.expression.Node.{Node}
 use Rattle.cat_tree.specs.declared.program.Use.{Use}
 use Rattle.cat_tree.specs.declared.program.Use.TheVariants as uses
@@ -16,23 +18,20 @@ use Rattle.cat_scope.specs.Names.{Names, AllHave}
 use Rattle.cat_scope.specs.Expected.{defs_placed, assertions_placed, parts_placed, lists_placed}
 use Rattle.cat_scope.specs.HasType.{HasType}
 use Rattle.cat_scope.specs.WellFormed.{DefTyped, AssertionTyped, PartTyped, IsWhole}
+use Rattle.cat_names.proofs.ListLaws.{all_join}
 use Rattle.cat_names.specs.declared.typed.Typed.{Typed}
-use Rattle.cat_names.specs.Written.{scopes_in}
-use Rattle.cat_names.specs.Definitions.{condition_of, definition_meant, rule_meant, assertion_meant}
+use Rattle.cat_names.specs.Found.{Found}
+use Rattle.cat_names.specs.Written.{names_of, scopes_in}
+use Rattle.cat_names.specs.Definitions.{condition_meant, definition_meant, rule_meant, assertion_meant}
 use Rattle.cat_names.specs.Lines.{Line, Declaration, Condition, Definition, Assertion, use_lines, all_lines}
-use Rattle.cat_names.specs.Lines.{condition_lines}
-use Rattle.cat_names.specs.Lines.{block_lines, is_block_of, lines_from}
+use Rattle.cat_names.specs.Lines.{condition_lines, block_lines, is_scope_name, items_about, item_lines, lines_found}
 use Rattle.cat_names.specs.Bodies.{defs_in, assertions_in, source_part}
-use Rattle.cat_names.specs.TypedMeanings.{OnFound, names_at}
+use Rattle.cat_names.specs.Naming.{names_in_scope}
+use Rattle.cat_names.specs.TypedMeanings.{OnFound}
 use Rattle.cat_names.proofs.OnFound.{on_then, on_both}
 use Rattle.cat_names.proofs.OperationLaws.{both_true}
-use Rattle.cat_names.proofs.DefinitionLaws.{AreConditions, AreBoolean, condition_stands, DefStands}
-use Rattle.cat_names.proofs.DefinitionLaws.{definition_stands}
+use Rattle.cat_names.proofs.DefinitionLaws.{AreConditions, AreBoolean, condition_stands, DefStands, definition_stands}
 use Rattle.cat_names.proofs.DefinitionLaws.{rule_stands, AssertionStands, assertion_stands}
-
-all_join : {A : Type 0} (P : A → Type 0) (xs ys : List A) → AllHave P xs → AllHave P ys → AllHave P (xs ++ ys)
-all_join P [] ys h i = i
-all_join P (x ∷ xs) ys h i = (h.0, all_join P xs ys h.1 i)
 
 -- how often a source declares the scope
 abbrev pub declarations_in : List Line → ℕ
@@ -60,7 +59,7 @@ are_whole (Assertion a ∷ lines) = are_whole lines
 
 module _ (ds : Decls) (sound : AreSound ds) (conditions : AreConditions ds) (scope : ℕ) where
   abbrev ns : Names
-  ns = names_at ds scope
+  ns = names_in_scope ds scope
 
   -- a line that is typed
   abbrev pub LineStands : Line → Type 0
@@ -103,14 +102,10 @@ module _ (ds : Decls) (sound : AreSound ds) (conditions : AreConditions ds) (sco
   condition_in (Some x) h = record { stand = ((h.typed, h.placed), tt); none = refl }
 
   block_stands : (b : Block) → OnFound InBlock (block_lines ns scope b)
-  block_stands b = on_both (AreBoolean ds sound conditions scope []) InBlock InBlock (condition_of ns b.condition [])
+  block_stands b = on_both (AreBoolean ds sound conditions scope []) InBlock InBlock (condition_meant ns b.condition [])
       (all_lines (use_lines ns scope b.condition) b.uses) _
       (condition_stands ds sound conditions scope b.condition [] tt) (uses_stand b.condition b.uses)
       (λ c lines hc h. in_block_join (condition_lines c) lines (condition_in c hc) h)
-
-  chosen_stands : (b : Block) (is : Bool) → OnFound InBlock (if is then block_lines ns scope b else Ok [])
-  chosen_stands b true = block_stands b
-  chosen_stands b false = record { stand = tt; none = refl }
 
   -- lines that are typed, in which the scope of this number is declared where it is one of so many from m on
   pub record InSource (m count : ℕ) (lines : List Line) : Type 0 where
@@ -118,39 +113,75 @@ module _ (ds : Decls) (sound : AreSound ds) (conditions : AreConditions ds) (sco
     pub before : scope < m → declarations_in lines ≡ 0
     pub declared : m ≤ scope → scope < m + count → declarations_in lines ≡ 1
 
-  scope_stands : (m count : ℕ) (lines : List Line) → InSource (m + 1) count lines → (is : Bool) → nat_eq m scope ≡ is
-      → InSource m (suc count) (if is then Declaration ∷ lines else lines)
-  scope_stands m count lines h true e = let same : m ≡ scope = grind (arith, e) in record {
+  own_stands : (m count : ℕ) (lines : List Line) → InSource (m + 1) count lines → nat_eq m scope ≡ true
+      → InSource m (suc count) (Declaration ∷ lines)
+  own_stands m count lines h e = let same : m ≡ scope = grind (arith, e) in record {
     stand = (tt, h.stand);
     before = λ less. absurd (omega (arith, less, same));
     declared =
         λ low high. omega (arith, h.before (omega (arith, same)));
   }
-  scope_stands m count lines h false e = let other : ¬ (m ≡ scope) =
+
+  other_stands : (m count : ℕ) (lines : List Line) → InSource (m + 1) count lines → nat_eq m scope ≡ false
+      → InSource m (suc count) lines
+  other_stands m count lines h e = let other : ¬ (m ≡ scope) =
       λ is. absurd (grind (arith, e, is)) in record {
         stand = h.stand;
         before = λ less. h.before (omega (arith, less));
         declared = λ low high. h.declared (grind (arith, low, other)) (omega (arith, high));
       }
 
-  pub lines_stand : (m : ℕ) (items : List Item) → OnFound (InSource m (length (scopes_in items)))
-      (lines_from ns scope m items)
-  lines_stand m [] =
-      record { stand = tt; before = λ less. refl; declared = λ low high. absurd (omega (arith, low, high)) }
-  lines_stand m (item.Scope p u variables ∷ more) = on_then (InSource (m + 1) (length (scopes_in more)))
-      (InSource m (suc (length (scopes_in more)))) (lines_from ns scope (m + 1) more) _
-      (lines_stand (m + 1) more) (λ lines h. scope_stands m (length (scopes_in more)) lines h (nat_eq m scope) refl)
-  lines_stand m (item.Block b ∷ more) = on_both InBlock (InSource m (length (scopes_in more)))
-      (InSource m (length (scopes_in more))) (if is_block_of ds scope b then block_lines ns scope b else Ok [])
-      (lines_from ns scope m more) _
-      (chosen_stands b (is_block_of ds scope b)) (lines_stand m more)
-      (λ lines rest h i. record {
-        stand = all_join LineStands lines rest h.stand i.stand;
-        before = λ less. declarations_join lines rest ∙ omega (arith, h.none, i.before less);
-        declared = λ low high. declarations_join lines rest ∙ omega (arith, h.none, i.declared low high);
+  -- the names of scopes, numbered from m on, name the scope of that number where theirs is its
+  abbrev pub AreNumbered : ℕ → List Name → Type 0
+  AreNumbered m names =
+      (k : ℕ) (w : Name) → slice_get names k ≡ Some w → is_scope_name ds scope w ≡ nat_eq (m + k) scope
+
+  numbered_on : (m : ℕ) (u : Name) (names : List Name) → AreNumbered m (u ∷ names) → AreNumbered (m + 1) names
+  numbered_on m u names are k w h =
+      let same : m + suc k ≡ m + 1 + k = omega arith in
+      are (suc k) w h ∙ ap (λ i. nat_eq i scope) same
+
+  first_numbered : (m : ℕ) (u : Name) (names : List Name) → AreNumbered m (u ∷ names)
+      → nat_eq m scope ≡ is_scope_name ds scope u
+  first_numbered m u names are =
+      let same : m ≡ m + 0 = omega arith in ap (λ i. nat_eq i scope) same ∙ sym (are 0 u refl)
+
+  -- lines of an item in front of others
+  with_own : (m count : ℕ) (found : Found (List Line)) → OnFound (InSource (m + 1) count) found → (is : Bool)
+      → nat_eq m scope ≡ is → (p : Pos) (u : Name) (variables : List Variable) (more : List Item)
+      → all_lines (item_lines ns scope) more ≡ found
+      → OnFound (InSource m (suc count))
+      (all_lines (item_lines ns scope) (cond is (item.Scope p u variables ∷ more) more))
+  with_own m count (Ok lines) h true e p u variables more is = rw is (own_stands m count lines h e)
+  with_own m count (Ok lines) h false e p u variables more is = rw is (other_stands m count lines h e)
+  with_own m count (Err faults) h true e p u variables more is = rw is tt
+  with_own m count (Err faults) h false e p u variables more is = rw is tt
+
+  with_block : (m count : ℕ) (b : Block) (is : Bool) (more : List Item)
+      → OnFound (InSource m count) (all_lines (item_lines ns scope) more)
+      → OnFound (InSource m count) (all_lines (item_lines ns scope) (cond is (item.Block b ∷ more) more))
+  with_block m count b true more h = on_both InBlock (InSource m count) (InSource m count) (block_lines ns scope b)
+      (all_lines (item_lines ns scope) more) _ (block_stands b) h
+      (λ lines rest i j. record {
+        stand = all_join LineStands lines rest i.stand j.stand;
+        before = λ less. declarations_join lines rest ∙ omega (arith, i.none, j.before less);
+        declared = λ low high. declarations_join lines rest ∙ omega (arith, i.none, j.declared low high);
       })
-  lines_stand m (item.Structure p u fields ∷ more) = lines_stand m more
-  lines_stand m (item.Enumeration p u cases ∷ more) = lines_stand m more
+  with_block m count b false more h = h
+
+  pub lines_stand : (m : ℕ) (items : List Item) → AreNumbered m (names_of (scopes_in items))
+      → OnFound (InSource m (length (scopes_in items))) (lines_found ns scope items)
+  lines_stand m [] are =
+      record { stand = tt; before = λ less. refl; declared = λ low high. absurd (omega (arith, low, high)) }
+  lines_stand m (item.Scope p u variables ∷ more) are =
+      with_own m (length (scopes_in more)) (lines_found ns scope more)
+      (lines_stand (m + 1) more (numbered_on m u (names_of (scopes_in more)) are)) (is_scope_name ds scope u)
+      (first_numbered m u (names_of (scopes_in more)) are) p u variables (items_about ds scope more) refl
+  lines_stand m (item.Block b ∷ more) are =
+      with_block m (length (scopes_in more)) b (is_scope_name ds scope b.name) (items_about ds scope more)
+      (lines_stand m more are)
+  lines_stand m (item.Structure p u fields ∷ more) are = lines_stand m more are
+  lines_stand m (item.Enumeration p u cases ∷ more) are = lines_stand m more are
 
   -- what bodies keep of lines
   pub defs_typed : (lines : List Line) → AllHave LineStands lines → AllHave (DefTyped ns scope) (defs_in lines)

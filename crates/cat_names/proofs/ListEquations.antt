@@ -1,6 +1,5 @@
 -- The lists of parts of a form, where the parts are given one by one or all at once.
-use Rattle.std.proofs.Common.{◌≡◌, ℕ, List, [], ◌∷◌, map, length, Option, Some, None, Ok, Err, refl, ap, ◌∙◌}
-use Rattle.std.proofs.Common.{arith}
+use Rattle.std.proofs.Common.{◌≡◌, ℕ, List, [], ◌∷◌, map, length, Option, Some, None, Ok, Err, refl, ap, ◌∙◌, arith}
 use Rattle.std.proofs.lemmas.List.{length-map}
 use Rattle.cat_pos.specs.declared.pos.Pos.{Pos}
 use Rattle.cat_value.specs.declared.ty.Ty.{Ty}
@@ -15,10 +14,9 @@ use Rattle.cat_names.specs.declared.typed.Local.{Local}
 use Rattle.cat_names.specs.declared.fault.Fault.TheVariants.{TypeMismatch}
 use Rattle.cat_names.specs.Found.{Found, and_then, both, or_fault}
 use Rattle.cat_names.specs.Types.{enumeration_of}
-use Rattle.cat_names.specs.Parts.{Meaning, all_of, elements_of, arguments_of, call_of, value_of, values_of, arm_of}
-use Rattle.cat_names.specs.Parts.{all_arms}
-use Rattle.cat_names.specs.Parts.{arms_of}
-use Rattle.cat_names.specs.Compound.{structure_of_fields, scope_call_of, match_of}
+use Rattle.cat_names.specs.Parts.{Meaning, all_of_type, elements_of, arguments_of, call_of, value_of, values_of, arm_of}
+use Rattle.cat_names.specs.Parts.{all_arms, arms_of}
+use Rattle.cat_names.specs.Compound.{structure_of_fields, scope_call_of, match_over}
 
 counted : {A B : Type 0} (f : A → B) (xs : List A) → length (map f xs) ≡ length xs
 counted f xs = grind (arith, length-map)
@@ -31,10 +29,10 @@ then_same (Err faults) f g are = refl
 
 module _ {A B : Type 0} (part : B → Meaning) (whole : A → Meaning) (make : A → B)
     (is : (a : A) → part (make a) ≡ whole a) where
-  all_along : (xs : List A) (ls : List Local) (t : Ty) → all_of part (map make xs) ls t ≡ all_of whole xs ls t
+  all_along : (xs : List A) (ls : List Local) (t : Ty) → all_of_type part (map make xs) ls t ≡ all_of_type whole xs ls t
   all_along [] ls t = refl
   all_along (x ∷ xs) ls t =
-      ap (λ (m : Meaning). both (m ls (Some t)) (all_of part (map make xs) ls t) (λ y ys. Ok (y.expr ∷ ys))) (is x)
+      ap (λ (m : Meaning). both (m ls (Some t)) (all_of_type part (map make xs) ls t) (λ y ys. Ok (y.expr ∷ ys))) (is x)
       ∙ ap (λ rest. both (whole x ls (Some t)) rest (λ y ys. Ok (y.expr ∷ ys))) (all_along xs ls t)
 
   pub elements_along : (p : Pos) (xs : List A) (ls : List Local) (ex : Option Ty)
@@ -42,7 +40,8 @@ module _ {A B : Type 0} (part : B → Meaning) (whole : A → Meaning) (make : A
   elements_along p [] ls None = refl
   elements_along p [] ls (Some t) = refl
   elements_along p (x ∷ xs) ls ex = ap (λ (m : Meaning). and_then {B = List Expr × Ty} (m ls ex)
-      (λ y. and_then {B = List Expr × Ty} (all_of part (map make xs) ls y.ty) (λ ys. Ok (y.expr ∷ ys, y.ty)))) (is x)
+      (λ y. and_then {B = List Expr × Ty} (all_of_type part (map make xs) ls y.ty)
+      (λ ys. Ok (y.expr ∷ ys, y.ty)))) (is x)
       ∙ then_same {B = List Expr × Ty} (whole x ls ex) _ _
       (λ y. ap (λ rest. and_then {B = List Expr × Ty} rest (λ ys. Ok (y.expr ∷ ys, y.ty))) (all_along xs ls y.ty))
 
@@ -99,6 +98,6 @@ module _ {A B : Type 0} (part : B → Pattern × Meaning) (whole : A → Pattern
       (all_arms_along ns p n xs ls y.1))
 
   pub match_along : (ns : Names) (p : Pos) (xs : List A) (ls : List Local) (ex : Option Ty) (found : Found Typed)
-      → and_then found (match_of part ns p (map make xs) ls ex) ≡ and_then found (match_of whole ns p xs ls ex)
+      → and_then found (match_over part ns p (map make xs) ls ex) ≡ and_then found (match_over whole ns p xs ls ex)
   match_along ns p xs ls ex found = then_same found _ _
       (λ e. then_same (or_fault (TypeMismatch p) (enumeration_of e.ty)) _ _ (λ n. rw (arms_along ns p n xs ls ex) refl))

@@ -1,9 +1,7 @@
 -- No declared type of a tree with declarations is too high.
-use Rattle.std.proofs.Common.{◌≡◌, ◌≤◌, ℕ, zero, suc, false, List, []}
-use Rattle.std.proofs.Common.{◌∷◌}
-use Rattle.std.proofs.Common.{map, Option, Some, None, Ok, slice_get, refl, ap}
-use Rattle.std.proofs.Common.{◌∙◌}
-use Rattle.std.proofs.Common.{subst, arith}
+use Rattle.std.specs.Prelude.{flat_map}
+use Rattle.std.proofs.Common.{◌≡◌, ◌≤◌, ℕ, zero, suc, false, List, [], ◌∷◌, Option, Some, None, Ok, slice_get, refl, ap}
+use Rattle.std.proofs.Common.{◌∙◌, subst, arith}
 use Rattle.cat_value.specs.declared.ty.Ty.{Ty}
 use Rattle.cat_value.specs.declared.ty.Ty.TheVariants as flat_ty
 use Rattle.cat_value.specs.declared.ty.Ty.TheViews as ty
@@ -20,19 +18,17 @@ use Rattle.cat_value.proofs.Exported.{height_of_is}
 use Rattle.cat_tree.specs.declared.name.Type as written
 use Rattle.cat_tree.specs.declared.program.Tree.{Tree}
 use Rattle.cat_scope.specs.Names.{AllHave}
-use Rattle.cat_names.specs.Found.{each_found, of_all}
+use Rattle.cat_names.specs.Found.{each_found}
 use Rattle.cat_names.specs.Lookup.{TypeNames, base_type, type_written}
-use Rattle.cat_names.specs.Written.{structures_in, enumerations_in, scopes_in, types_in, scope_names_in}
-use Rattle.cat_names.specs.Declarations.{Declared, structure_declared, enumeration_declared}
-use Rattle.cat_names.specs.Declarations.{declared_of}
+use Rattle.cat_names.specs.Written.{structures_in, enumerations_in, scopes_in, names_of, types_in, scope_names_in}
+use Rattle.cat_names.specs.Declarations.{Declared, DeclaredTypes, structure_declared, enumeration_declared, declared_of}
 use Rattle.cat_names.specs.Heights.{is_high, is_high_list, high_list, types_written, height_faults}
 use Rattle.cat_names.specs.Accepted.{parts_of}
 use Rattle.cat_names.proofs.CallLaws.{each_all}
 use Rattle.cat_names.proofs.HeightKept.{low_test, structures_named_low, enumerations_named_low}
-use Rattle.cat_names.proofs.WholeLaws.{both_ok}
+use Rattle.cat_names.proofs.OkParts.{both_ok}
 use Rattle.cat_names.proofs.WrittenKept.{IsLowWritten, LowContent, LowItem, structures_back, enumerations_back}
-use Rattle.cat_names.proofs.WrittenKept.{scopes_back}
-use Rattle.cat_names.proofs.WrittenKept.{all_written}
+use Rattle.cat_names.proofs.WrittenKept.{scopes_back, all_written}
 
 -- no field and no content is higher than the highest
 field_below : (height : Ty → ℕ) (fs : List Field) (k : ℕ) (f : Field) → slice_get fs k ≡ Some f
@@ -101,12 +97,9 @@ module _ (ds : Decls) (sound : AreSound ds) (names : TypeNames) where
   high_at (Some u) (Some v) low = rw (low u refl) refl
 
   lists_low : (ts : List written.Type) → AllHave (IsLowWritten names Low) ts
-      → of_all (high_list (parts_of ds) names) ts ≡ []
+      → flat_map (high_list (parts_of ds) names) ts ≡ []
   lists_low [] all = refl
   lists_low (t ∷ ts) all = rw (high_at (type_written names t) (base_type names t.base) all.0) (lists_low ts all.1)
-
-abbrev Types : Type 0
-Types = List Structure × List Enumeration
 
 pub heights_kept : (ds : Decls) → AreSound ds → (tree : Tree) → declared_of tree.items ≡ Ok (parts_of ds)
     → height_faults tree (parts_of ds) ≡ []
@@ -115,11 +108,16 @@ heights_kept ds sound tree h =
     let all = both_ok _ _ _ (parts_of ds) h in
     let types = both_ok (each_found (structure_declared names) (structures_in tree.items))
     (each_found (enumeration_declared names) (enumerations_in tree.items)) _ all.0 all.2 in
-    let is : record { structures = all.0.0; enumerations = all.0.1; scopes = all.1 } ≡ parts_of ds = cc all.4 in
-    let pair : (types.0, types.1) ≡ all.0 = cc types.4 in
-    let structures : types.0 ≡ ds.structures = ap (λ (t : Types). t.0) pair ∙ ap (λ (d : Declared). d.structures) is in
-    let enumerations : types.1 ≡ ds.enumerations = ap (λ (t : Types). t.1) pair ∙ ap (λ (d : Declared). d.enumerations)
-    is in
+    let is : record {
+      structures = all.0.structures;
+      enumerations = all.0.enumerations;
+      scopes = all.1;
+    } ≡ parts_of ds = cc all.4 in
+    let pair : record { structures = types.0; enumerations = types.1 } ≡ all.0 = cc types.4 in
+    let structures : types.0 ≡ ds.structures = ap (λ (t : DeclaredTypes). t.structures) pair
+    ∙ ap (λ (d : Declared). d.structures) is in
+    let enumerations : types.1 ≡ ds.enumerations = ap (λ (t : DeclaredTypes). t.enumerations) pair
+    ∙ ap (λ (d : Declared). d.enumerations) is in
     let scopes : all.1 ≡ ds.scopes = ap (λ (d : Declared). d.scopes) is in
     let low = Low ds sound names in
     let written = all_written names low tree.items
@@ -132,7 +130,7 @@ heights_kept ds sound tree h =
     (all.3 ∙ ap (λ x. Ok x) scopes)
     (each_all (λ (d : Scope). AllHave (LowItem names low) d.items) ds.scopes (items_low ds sound names))) in
     rw (
-      structures_named_low ds sound (map (λ s. s.0) (structures_in tree.items)),
-      enumerations_named_low ds sound (map (λ e. e.0) (enumerations_in tree.items)),
+      structures_named_low ds sound (names_of (structures_in tree.items)),
+      enumerations_named_low ds sound (names_of (enumerations_in tree.items)),
     )
-    (lists_low ds sound names (of_all types_written tree.items) written)
+    (lists_low ds sound names (flat_map types_written tree.items) written)

@@ -1,6 +1,6 @@
 -- Operators have their types.
-use Rattle.std.proofs.Common.{◌≡◌, ◌&&◌, Bool, true, false, IsTrue, List, Option, Some, None, Ok}
-use Rattle.std.proofs.Common.{refl, sym, ap, ◌∙◌, subst}
+use Rattle.std.proofs.Common.{◌≡◌, ◌&&◌, Bool, true, false, IsTrue, List, Option, Some, None, Ok, refl, sym, ap, ◌∙◌}
+use Rattle.std.proofs.Common.{subst}
 use Rattle.cat_pos.specs.declared.pos.Pos.{Pos}
 use Rattle.cat_value.specs.declared.ty.Ty.{Ty}
 use Rattle.cat_value.specs.declared.ty.Ty.TheVariants as flat_ty
@@ -18,8 +18,7 @@ use Rattle.cat_scope.specs.Names.{Names}
 use Rattle.cat_scope.specs.HasType.{HasType}
 use Rattle.cat_scope.specs.HasType as typed
 use Rattle.cat_scope.proofs.Exported.{placed_Binary, placed_And, placed_Or, placed_Contains, placed_Length}
-use Rattle.cat_scope.proofs.Exported.{placed_Unary}
-use Rattle.cat_scope.proofs.Exported.{placed_Sum}
+use Rattle.cat_scope.proofs.Exported.{placed_Unary, placed_Sum}
 use Rattle.cat_names.specs.declared.fault.Fault.TheVariants.{TypeMismatch}
 use Rattle.cat_names.specs.declared.typed.Typed.{Typed}
 use Rattle.cat_names.specs.declared.typed.Local.{Local}
@@ -27,7 +26,7 @@ use Rattle.cat_names.specs.declared.typed.Flat.{Flat}
 use Rattle.cat_names.specs.declared.typed.Flat.TheVariants as flat
 use Rattle.cat_names.specs.Found.{Found, and_then, or_fault}
 use Rattle.cat_names.specs.Types.{same, element_of, flat_of, whole}
-use Rattle.cat_names.specs.Rows.{chosen, converted, summed, of_flat, operator_for, prefix_for, sum_for}
+use Rattle.cat_names.specs.Rows.{chosen, converted, sum_kind, of_flat, operator_for, prefix_for, sum_for}
 use Rattle.cat_names.specs.Lookup.{types_of}
 use Rattle.cat_names.specs.Naming.{typed as plain}
 use Rattle.cat_names.specs.Operations.{operated, binary_of, prefixed_of, sum_of}
@@ -173,7 +172,7 @@ module _ (ns : Names) (ls : List Local) (ex : Option Ty) where
   pub sum_has : (p : Pos) (t : Ty) (l : Typed) → Operand l → OnFound Has (sum_of p t l)
   sum_has p t l h = on_then (λ kind. sum_for t ≡ Some kind) Has (or_fault (TypeMismatch p) (sum_for t)) _
       (on_or (TypeMismatch p) (sum_for t))
-      (λ kind is. let f = flat_row summed (flat_of t) kind is in let row = flat_is t f.0 f.1 ∙ sum_row f.0 kind f.2 in
+      (λ kind is. let f = flat_row sum_kind (flat_of t) kind is in let row = flat_is t f.0 f.1 ∙ sum_row f.0 kind f.2 in
       on_where Has (same (ty.List t) l.ty) _ _ (λ fits. record {
         typed = subst (λ u. HasType ns (types_of ls) (expr.Sum p kind l.expr) u) (sym row)
             (typed.sum (as_type l _ h (sym (same_is (ty.List t) l.ty fits) ∙ ap (λ u. ty.List u) row)));

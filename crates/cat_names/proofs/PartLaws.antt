@@ -1,8 +1,6 @@
 -- Elements, arguments, fields and arms have their types.
-use Rattle.std.proofs.Common.{◌≡◌, ℕ, nat_eq, Bool, true, IsTrue, is_some, List, []}
-use Rattle.std.proofs.Common.{◌∷◌}
-use Rattle.std.proofs.Common.{◌++◌, length, map, Option, Some, None, refl, sym, ap, subst}
-use Rattle.std.proofs.Common.{arith}
+use Rattle.std.proofs.Common.{◌≡◌, ℕ, nat_eq, Bool, true, IsTrue, is_some, List, [], ◌∷◌, ◌++◌, length, map, Option}
+use Rattle.std.proofs.Common.{Some, None, refl, sym, ap, subst, arith}
 use Rattle.cat_pos.specs.declared.pos.Pos.{Pos}
 use Rattle.cat_value.specs.declared.ty.Ty.{Ty}
 use Rattle.cat_value.specs.declared.decls.Decls.{Decls}
@@ -12,18 +10,18 @@ use Rattle.cat_tree.specs.declared.name.Name.{Name}
 use Rattle.cat_scope.specs.declared.expr.Expr.{Expr}
 use Rattle.cat_scope.specs.declared.expr.FieldValue.{FieldValue}
 use Rattle.cat_scope.specs.Names.{Names, AllHave}
-use Rattle.cat_scope.specs.HasType.{HasType, AllHaveType, EachHasType, FieldsHaveType, ArmsHaveType}
+use Rattle.cat_scope.specs.HasType.{HasType, AllHaveType, EachHasType, FieldsHaveType}
 use Rattle.cat_scope.specs.HasType as typed
 use Rattle.cat_scope.specs.Expected.{lists_placed, all_placed, row_placed}
-use Rattle.cat_scope.proofs.Exported.{fields_placed}
-use Rattle.cat_scope.proofs.Exported.{Each}
+use Rattle.cat_scope.proofs.Exported.{fields_placed, Each}
 use Rattle.cat_names.specs.declared.fault.Fault.TheVariants.{NameUnknown}
 use Rattle.cat_names.specs.declared.typed.Typed.{Typed}
 use Rattle.cat_names.specs.declared.typed.Local.{Local}
 use Rattle.cat_names.specs.Found.{or_fault}
 use Rattle.cat_names.specs.Lookup.{types_of}
-use Rattle.cat_names.specs.Parts.{Meaning, all_of, elements_of, arguments_of, value_of, values_of}
-use Rattle.cat_names.specs.TypedMeanings.{OnFound, names_at, AreDeclared, IsExpected, IsTyped}
+use Rattle.cat_names.specs.Parts.{Meaning, all_of_type, elements_of, arguments_of, value_of, values_of}
+use Rattle.cat_names.specs.Naming.{names_in_scope}
+use Rattle.cat_names.specs.TypedMeanings.{OnFound, AreDeclared, IsExpected, IsTyped}
 use Rattle.cat_names.proofs.OnFound.{on_then, on_both, on_or}
 use Rattle.cat_names.proofs.SameTypes.{same_is}
 use Rattle.cat_names.proofs.OperationLaws.{both_true}
@@ -44,7 +42,7 @@ equal_numbers a b h = grind (arith, h)
 
 module _ (ds : Decls) (sound : AreSound ds) (scope : ℕ) where
   abbrev ns : Names
-  ns = names_at ds scope
+  ns = names_in_scope ds scope
 
   -- a meaning has its type, wherever it stands
   abbrev pub Sound : Meaning → Type 0
@@ -67,10 +65,11 @@ module _ (ds : Decls) (sound : AreSound ds) (scope : ℕ) where
 
   module _ {A : Type 0} (means : A → Meaning) where
     pub all_stand : (xs : List A) → Each (λ x. Sound (means x)) xs → (ls : List Local) (t : Ty) → AreDeclared ds ls
-        → IsTrue (is_type ds t) → OnFound (AllStand ls t) (all_of means xs ls t)
+        → IsTrue (is_type ds t) → OnFound (AllStand ls t) (all_of_type means xs ls t)
     all_stand [] each ls t all h = record { typed = typed.all_none; placed = refl }
     all_stand (e ∷ es) each ls t all h =
-        on_both (IsTyped ns ls (Some t)) (AllStand ls t) (AllStand ls t) (means e ls (Some t)) (all_of means es ls t) _
+        on_both (IsTyped ns ls (Some t)) (AllStand ls t) (AllStand ls t) (means e ls (Some t))
+        (all_of_type means es ls t) _
         (each.0 ls (Some t) all h) (all_stand es each.1 ls t all h)
         (λ x xs hx hxs. record {
           typed = typed.all_more (of_type ls t x hx) hxs.typed;
@@ -83,7 +82,7 @@ module _ (ds : Decls) (sound : AreSound ds) (scope : ℕ) where
     row_stands p [] each ls (Some t) all h = record { typed = typed.all_none; placed = refl; declared = h }
     row_stands p (e ∷ es) each ls ex all h =
         on_then (IsTyped ns ls ex) (RowStands ls (is_some ex)) (means e ls ex) _ (each.0 ls ex all h)
-        (λ x hx. on_then (AllStand ls x.ty) (RowStands ls (is_some ex)) (all_of means es ls x.ty) _
+        (λ x hx. on_then (AllStand ls x.ty) (RowStands ls (is_some ex)) (all_of_type means es ls x.ty) _
         (all_stand es each.1 ls x.ty all hx.has.declared)
         (λ xs hxs. record {
           typed = typed.all_more hx.has.typed hxs.typed;

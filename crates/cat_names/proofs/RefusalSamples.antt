@@ -70,7 +70,7 @@ abbrev p : Pos
 p = at 20 14
 
 -- `date round increasing`, then twice `decreasing`
-a_rounding_contradicts_an_earlier_one : contradictions [] ((at 6 3, true) ∷ (at 7 3, false) ∷ (at 8 3, false) ∷ [])
+a_rounding_contradicts_an_earlier_one : contradictions ((at 6 3, true) ∷ (at 7 3, false) ∷ (at 8 3, false) ∷ [])
     ≡ Misplaced (at 7 3) ∷ Misplaced (at 8 3) ∷ []
 a_rounding_contradicts_an_earlier_one = search rules
 

@@ -1,6 +1,6 @@
 -- A tree that has a program is not refused.
-use Rattle.std.proofs.Common.{◌≡◌, ℕ, zero, suc, IsTrue, List, [], ◌∷◌, ◌++◌, map}
-use Rattle.std.proofs.Common.{Some, Ok, slice_get, refl, sym, ap, ◌∙◌, subst, inl, inr}
+use Rattle.std.proofs.Common.{◌≡◌, ℕ, zero, suc, IsTrue, List, [], ◌∷◌, ◌++◌, map, Some, Ok, slice_get, refl, sym, ap}
+use Rattle.std.proofs.Common.{◌∙◌, subst, inl, inr}
 use Rattle.std.proofs.Math.Bool.{Bool-set}
 use Rattle.cat_order.specs.Order.{IsOrder}
 use Rattle.cat_order.specs.Cycle.{DependsOn, IsOnCycle}
@@ -13,18 +13,16 @@ use Rattle.cat_value.specs.Laws.{AreSound}
 use Rattle.cat_tree.specs.declared.program.Tree.{Tree}
 use Rattle.cat_scope.specs.declared.defs.Body.{Body}
 use Rattle.cat_scope.specs.Names.{IsOneOf}
-use Rattle.cat_scope.specs.Orders.{item_dependencies, function_calls, scope_dependencies, calls_in, once}
+use Rattle.cat_scope.specs.Orders.{item_dependencies, function_calls, scope_dependencies, called_in, calls_in, once}
 use Rattle.cat_scope.specs.Chains.{HasShortChains}
 use Rattle.cat_names.specs.declared.fault.Fault.{Fault}
 use Rattle.cat_names.specs.Found.{Found, Stands}
-use Rattle.cat_names.specs.Written.{scopes_in}
+use Rattle.cat_names.specs.Written.{scopes_in, names_of, positions}
 use Rattle.cat_names.specs.Declarations.{Declared, declared_of}
 use Rattle.cat_names.specs.NameFaults.{name_faults}
 use Rattle.cat_names.specs.Heights.{height_faults}
-use Rattle.cat_names.specs.Bodies.{bodies_meant}
-use Rattle.cat_names.specs.Cycles.{IsCallOnCycle, IsScopeCycle, past_chains}
-use Rattle.cat_names.specs.Cycles.{past_functions}
-use Rattle.cat_names.specs.Cycles.{chain_faults}
+use Rattle.cat_names.specs.Bodies.{UnorderedBody, bodies_meant}
+use Rattle.cat_names.specs.Cycles.{IsCallOnCycle, IsScopeCycle, past_chains, past_functions, chain_faults}
 use Rattle.cat_names.specs.Accepted.{IsNamed, parts_of, unordered, AreOrdered, IsProgramOf, IsMeant, IsRefused}
 use Rattle.cat_names.specs.Accepted as refused
 use Rattle.cat_names.proofs.ChainLaws.{none_past}
@@ -62,14 +60,24 @@ parts_same d e is sound = subst (λ (x : Declared). (other : IsSound x) → with
 pub decls_same : (a b : Decls) → parts_of a ≡ parts_of b → a ≡ b
 decls_same a b is = parts_same (parts_of a) (parts_of b) is a.sound b.sound
 
--- ---- dependencies before items are in order
+-- ---- what doesn't hang on the order of items
 
-unordered_calls : (scopes : List Scope) (bodies : List Body)
-    → scope_dependencies scopes (map unordered bodies) ≡ scope_dependencies scopes bodies
-unordered_calls [] bodies = refl
-unordered_calls (s ∷ scopes) [] = refl
-unordered_calls (s ∷ scopes) (b ∷ bodies) =
-    ap (λ rest. once [] (calls_in s.items b) ∷ rest) (unordered_calls scopes bodies)
+-- bodies that are the same but for the order of their items
+abbrev AreAlike : List Body → List Body → Type 0
+AreAlike bodies more = map unordered bodies ≡ map unordered more
+
+pub alike_calls : (scopes : List Scope) (bodies more : List Body) → AreAlike bodies more
+    → scope_dependencies scopes bodies ≡ scope_dependencies scopes more
+alike_calls [] bodies more alike = refl
+alike_calls (s ∷ scopes) [] [] alike = refl
+alike_calls (s ∷ scopes) [] (m ∷ more) alike = cc alike
+alike_calls (s ∷ scopes) (b ∷ bodies) [] alike = cc alike
+alike_calls (s ∷ scopes) (b ∷ bodies) (m ∷ more) alike =
+    let first : unordered b ≡ unordered m = cc alike in
+    let rest : AreAlike bodies more = cc alike in
+    ap (λ (x : UnorderedBody). once [] (called_in s.items x.source x.defs x.assertions)
+    ∷ scope_dependencies scopes bodies) first
+    ∙ ap (λ deps. once [] (calls_in s.items m) ∷ deps) (alike_calls scopes bodies more rest)
 
 -- a call on a cycle puts its caller on one
 on_cycle_of : (deps : List (List ℕ)) (caller called : ℕ) → IsCallOnCycle deps caller called → IsOnCycle deps caller
@@ -85,38 +93,41 @@ scope_on_cycle tree ds bodies fault (inr c) =
     (c.caller, on_cycle_of (scope_dependencies ds.scopes bodies) c.caller c.called.0 c.on_cycle)
 
 -- items in order are on no cycle
-item_ordered : CyclesLeaveNone → (scopes : List Scope) (bodies : List Body) → AreOrdered scopes bodies
-    → (n k : ℕ) (s : Scope)
-    (b : Body) → slice_get scopes n ≡ Some s → slice_get (map unordered bodies) n ≡ Some b
+item_ordered : CyclesLeaveNone → (scopes : List Scope) (bodies more : List Body) → AreOrdered scopes bodies
+    → AreAlike bodies more → (n k : ℕ) (s : Scope) (b : Body) → slice_get scopes n ≡ Some s → slice_get more n ≡ Some b
     → IsOnCycle (item_dependencies s.items b.defs) k → ⊥
-item_ordered none [] bodies ordered n k s b at h on = cc at
-item_ordered none (t ∷ scopes) [] ordered n k s b at h on = cc h
-item_ordered none (t ∷ scopes) (c ∷ bodies) ordered zero k s b at h on =
-    let first : t ≡ s = cc at in let second : unordered c ≡ b = cc h in
+item_ordered none [] bodies more ordered alike n k s b at h on = cc at
+item_ordered none (t ∷ scopes) [] more ordered alike n k s b at h on = absurd ordered
+item_ordered none (t ∷ scopes) (c ∷ bodies) [] ordered alike n k s b at h on = cc h
+item_ordered none (t ∷ scopes) (c ∷ bodies) (m ∷ more) ordered alike zero k s b at h on =
+    let first : t ≡ s = cc at in let second : m ≡ b = cc h in let same : unordered c ≡ unordered m = cc alike in
     let deps : item_dependencies t.items c.defs ≡ item_dependencies s.items b.defs =
-    ap (λ (x : Scope). item_dependencies x.items c.defs) first ∙ ap (λ (x : Body). item_dependencies s.items x.defs)
-    second in
+    ap (λ (x : Scope). item_dependencies x.items c.defs) first
+    ∙ ap (λ (x : UnorderedBody). item_dependencies s.items x.defs) same
+    ∙ ap (λ (x : Body). item_dependencies s.items x.defs) second in
     none (item_dependencies s.items b.defs) k on c.order (subst (λ d. IsOrder d c.order) deps ordered.0)
-item_ordered none (t ∷ scopes) (c ∷ bodies) ordered (suc n) k s b at h on =
-    item_ordered none scopes bodies ordered.2 n k s b at h on
+item_ordered none (t ∷ scopes) (c ∷ bodies) (m ∷ more) ordered alike (suc n) k s b at h on =
+    item_ordered none scopes bodies more ordered.2 (cc alike) n k s b at h on
 
-functions_kept : (scopes : List Scope) (bodies : List Body) → AreOrdered scopes bodies
-    → past_functions scopes (map unordered bodies) ≡ []
-functions_kept [] bodies ordered = refl
-functions_kept (s ∷ scopes) [] ordered = refl
-functions_kept (s ∷ scopes) (b ∷ bodies) ordered =
-    ap (λ fs. fs ++ past_functions scopes (map unordered bodies)) (none_past (function_calls s.items b.defs) ordered.1 0
-    (map (λ i. i.pos) s.items))
-    ∙ functions_kept scopes bodies ordered.2
+functions_kept : (scopes : List Scope) (bodies more : List Body) → AreOrdered scopes bodies → AreAlike bodies more
+    → past_functions scopes more ≡ []
+functions_kept [] bodies more ordered alike = refl
+functions_kept (s ∷ scopes) bodies [] ordered alike = refl
+functions_kept (s ∷ scopes) [] (m ∷ more) ordered alike = absurd ordered
+functions_kept (s ∷ scopes) (b ∷ bodies) (m ∷ more) ordered alike =
+    let same : unordered b ≡ unordered m = cc alike in
+    let short = subst (λ (x : UnorderedBody). HasShortChains (function_calls s.items x.defs)) same ordered.1 in
+    ap (λ fs. fs ++ past_functions scopes more)
+    (none_past (function_calls s.items m.defs) short (map (λ i. i.pos) s.items))
+    ∙ functions_kept scopes bodies more ordered.2 (cc alike)
 
-chains_kept : (tree : Tree) (ds : Decls) (bodies : List Body) → AreOrdered ds.scopes bodies
-    → HasShortChains (scope_dependencies ds.scopes bodies) → chain_faults tree ds (map unordered bodies) ≡ []
-chains_kept tree ds bodies ordered short =
-    ap (λ fs. fs ++ past_chains (scope_dependencies ds.scopes (map unordered bodies)) 0
-    (map (λ s. s.0.pos) (scopes_in tree.items))) (functions_kept ds.scopes bodies ordered)
-    ∙ none_past (scope_dependencies ds.scopes (map unordered bodies))
-    (subst HasShortChains (sym (unordered_calls ds.scopes bodies)) short) 0
-    (map (λ s. s.0.pos) (scopes_in tree.items))
+chains_kept : (tree : Tree) (ds : Decls) (bodies more : List Body) → AreOrdered ds.scopes bodies → AreAlike bodies more
+    → HasShortChains (scope_dependencies ds.scopes bodies) → chain_faults tree ds more ≡ []
+chains_kept tree ds bodies more ordered alike short =
+    ap (λ fs. fs ++ past_chains (scope_dependencies ds.scopes more) (positions (names_of (scopes_in tree.items))))
+    (functions_kept ds.scopes bodies more ordered alike)
+    ∙ none_past (scope_dependencies ds.scopes more)
+    (subst HasShortChains (alike_calls ds.scopes bodies more alike) short) (positions (names_of (scopes_in tree.items)))
 
 -- ---- a tree that has a program
 
@@ -124,27 +135,28 @@ module _ (none : CyclesLeaveNone) (ds : Decls) (sound : AreSound ds) (tree : Tre
     (scope_order : List ℕ) (is : IsProgramOf tree ds bodies scope_order) where
   -- what it declares is one thing
   declared_is : (d : Declared) → IsNamed tree d → parts_of ds ≡ d
-  declared_is d named = ok_same (declared_of tree.items) (parts_of ds) d is.named.declared named.declared
+  declared_is d named = ok_same (declared_of tree.items) (parts_of ds) d is.meant.named.declared named.declared
 
   decls_are : (other : Decls) → IsNamed tree (parts_of other) → ds ≡ other
   decls_are other named = decls_same ds other (declared_is (parts_of other) named)
 
   meant_is : (other : Decls) → IsNamed tree (parts_of other) → bodies_meant other tree ≡ Ok (map unordered bodies)
-  meant_is other named = subst (λ d. bodies_meant d tree ≡ Ok (map unordered bodies)) (decls_are other named) is.meant
+  meant_is other named =
+      subst (λ d. bodies_meant d tree ≡ Ok (map unordered bodies)) (decls_are other named) is.meant.meant
 
-  bodies_are : (other : Decls) (more : List Body) → IsMeant tree other more → map unordered bodies ≡ more
+  bodies_are : (other : Decls) (more : List Body) → IsMeant tree other more → AreAlike bodies more
   bodies_are other more meant =
-      ok_same (bodies_meant other tree) (map unordered bodies) more (meant_is other meant.named) meant.meant
+      ok_same (bodies_meant other tree) (map unordered bodies) (map unordered more) (meant_is other meant.named)
+      meant.meant
 
   deps_are : (other : Decls) (more : List Body) → IsMeant tree other more
       → scope_dependencies ds.scopes bodies ≡ scope_dependencies other.scopes more
-  deps_are other more meant = sym (unordered_calls ds.scopes bodies)
-      ∙ ap (λ (d : Decls). scope_dependencies d.scopes (map unordered bodies)) (decls_are other meant.named)
-      ∙ ap (λ bs. scope_dependencies other.scopes bs) (bodies_are other more meant)
+  deps_are other more meant = ap (λ (d : Decls). scope_dependencies d.scopes bodies) (decls_are other meant.named)
+      ∙ alike_calls other.scopes bodies more (bodies_are other more meant)
 
   -- no fault stands against it
   pub not_refused : (fault : Fault) → IsRefused tree fault → ⊥
-  not_refused fault (refused.name h) = none_stands fault (name_faults tree) is.named.names h
+  not_refused fault (refused.name h) = none_stands fault (name_faults tree) is.meant.named.names h
   not_refused fault (refused.type_cycle d named h) =
       let same = declared_is d named in
       sound.acyclic h.number
@@ -152,7 +164,7 @@ module _ (none : CyclesLeaveNone) (ds : Decls) (sound : AreSound ds) (tree : Tre
       h.on_cycle)
   not_refused fault (refused.height d named order h) =
       none_stands fault (height_faults tree d) (subst (λ x. height_faults tree x ≡ []) (declared_is d named)
-      (heights_kept ds sound tree is.named.declared)) h
+      (heights_kept ds sound tree is.meant.named.declared)) h
   not_refused fault (refused.expression other named h) =
       answers_stand fault (bodies_meant other tree) (map unordered bodies) (meant_is other named) h
   not_refused fault (refused.scope_cycle other more meant h) =
@@ -160,11 +172,11 @@ module _ (none : CyclesLeaveNone) (ds : Decls) (sound : AreSound ds) (tree : Tre
       none (scope_dependencies other.scopes more) on.0 on.1 scope_order
       (subst (λ deps. IsOrder deps scope_order) (deps_are other more meant) is.order)
   not_refused fault (refused.item_cycle other more meant order h) =
-      item_ordered none ds.scopes bodies is.items h.number h.item_number h.scope h.body
+      item_ordered none ds.scopes bodies more is.items (bodies_are other more meant)
+      h.number h.item_number h.scope h.body
       (subst (λ (d : Decls). slice_get d.scopes h.number ≡ Some h.scope) (sym (decls_are other meant.named)) h.scope_is)
-      (subst (λ bs. slice_get bs h.number ≡ Some h.body) (sym (bodies_are other more meant)) h.body_is) h.on_cycle
+      h.body_is h.on_cycle
   not_refused fault (refused.chain other more meant order items h) =
       none_stands fault (chain_faults tree other more)
-      (subst (λ bs. chain_faults tree other bs ≡ []) (bodies_are other more meant)
-      (subst (λ d. chain_faults tree d (map unordered bodies) ≡ []) (decls_are other meant.named)
-      (chains_kept tree ds bodies is.items is.chains))) h
+      (subst (λ d. chain_faults tree d more ≡ []) (decls_are other meant.named)
+      (chains_kept tree ds bodies more is.items (bodies_are other more meant) is.chains)) h

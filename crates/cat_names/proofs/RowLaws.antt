@@ -1,6 +1,6 @@
 -- What the rows of operators give has the types of the operator table.
-use Rattle.std.proofs.Common.{◌≡◌, ◌&&◌, Bool, true, false, IsTrue, List, map, Some, refl, sym}
-use Rattle.std.proofs.Common.{subst, inl, inr, true≢false}
+use Rattle.std.proofs.Common.{◌≡◌, ◌&&◌, Bool, true, false, IsTrue, List, map, Some, refl, sym, subst, inl, inr}
+use Rattle.std.proofs.Common.{true≢false}
 use Rattle.cat_pos.specs.declared.pos.Pos.{Pos}
 use Rattle.cat_value.specs.declared.ty.Ty.{Ty}
 use Rattle.cat_value.specs.declared.ty.Ty.TheVariants as ty
@@ -24,28 +24,39 @@ use Rattle.cat_scope.specs.HasType as typed
 use Rattle.cat_names.specs.declared.typed.Flat.{Flat}
 use Rattle.cat_names.specs.declared.typed.Flat.TheVariants as flat
 use Rattle.cat_names.specs.Types.{whole}
-use Rattle.cat_names.specs.Rows.{chosen, compared, same_flat, is_ordered, converted, summed}
+use Rattle.cat_names.specs.Rows.{chosen, comparing, same_flat, is_ordered, converted, sum_kind}
+use Rattle.cat_names.proofs.SameTypes.{same_is}
 
 -- two flat types that may be ordered are one of the types with an order
+has_order : (a : Flat) → IsTrue (is_ordered a) → IsOneOf (comparison (whole a)) (map comparison ordered_types)
+has_order flat.Boolean h = absurd (true≢false (sym h))
+has_order flat.Integer h = inl refl
+has_order flat.Decimal h = inr (inl refl)
+has_order flat.Money h = inr (inr (inl refl))
+has_order flat.Date h = inr (inr (inr (inl refl)))
+has_order flat.Duration h = inr (inr (inr (inr (inl refl))))
+
 ordered_row : (a b : Flat) → IsTrue (is_ordered a && same_flat a b)
     → (whole b ≡ whole a) × IsOneOf (comparison (whole a)) (map comparison ordered_types)
-ordered_row flat.Integer flat.Integer h = (refl, inl refl)
-ordered_row flat.Decimal flat.Decimal h = (refl, inr (inl refl))
-ordered_row flat.Money flat.Money h = (refl, inr (inr (inl refl)))
-ordered_row flat.Date flat.Date h = (refl, inr (inr (inr (inl refl))))
-ordered_row flat.Duration flat.Duration h = (refl, inr (inr (inr (inr (inl refl)))))
-ordered_row _ _ h = absurd (true≢false (sym h))
+ordered_row a b h = by (is_ordered a) refl h
+  where
+    by : (o : Bool) → is_ordered a ≡ o → IsTrue (o && same_flat a b)
+        → (whole b ≡ whole a) × IsOneOf (comparison (whole a)) (map comparison ordered_types)
+    by true e g = (sym (same_is (whole a) (whole b) g), has_order a e)
+    by false e g = absurd (true≢false (sym g))
 
 -- and so for equality
+has_equality : (a : Flat) → IsOneOf (comparison (whole a)) (map comparison compared_types)
+has_equality flat.Boolean = inl refl
+has_equality flat.Integer = inr (inl refl)
+has_equality flat.Decimal = inr (inr (inl refl))
+has_equality flat.Money = inr (inr (inr (inl refl)))
+has_equality flat.Date = inr (inr (inr (inr (inl refl))))
+has_equality flat.Duration = inr (inr (inr (inr (inr (inl refl)))))
+
 equal_row : (a b : Flat) → IsTrue (same_flat a b)
     → (whole b ≡ whole a) × IsOneOf (comparison (whole a)) (map comparison compared_types)
-equal_row flat.Boolean flat.Boolean h = (refl, inl refl)
-equal_row flat.Integer flat.Integer h = (refl, inr (inl refl))
-equal_row flat.Decimal flat.Decimal h = (refl, inr (inr (inl refl)))
-equal_row flat.Money flat.Money h = (refl, inr (inr (inr (inl refl))))
-equal_row flat.Date flat.Date h = (refl, inr (inr (inr (inr (inl refl)))))
-equal_row flat.Duration flat.Duration h = (refl, inr (inr (inr (inr (inr (inl refl))))))
-equal_row _ _ h = absurd (true≢false (sym h))
+equal_row a b h = (sym (same_is (whole a) (whole b) h), has_equality a)
 
 -- each flat type has an equality
 pub is_compared : (t : Flat) → IsOneOf (whole t) compared_types
@@ -63,7 +74,7 @@ module _ (ns : Names) (ls : List Ty) (p q : Pos) (x y : Expr) where
   known : (o r : BinaryOp × Flat) → Some o ≡ Some r → Gives o → Gives r
   known o r h gives = let is : o ≡ r = cc h in subst Gives is gives
 
-  compares : (o : BinaryOp) (a b : Flat) (test : Bool) (r : BinaryOp × Flat) → compared o test ≡ Some r
+  compares : (o : BinaryOp) (a b : Flat) (test : Bool) (r : BinaryOp × Flat) → comparing o test ≡ Some r
       → (IsTrue test → (whole b ≡ whole a) × IsOneOf (comparison (whole a)) (signatures_of o))
       → HasType ns ls x (whole a) → HasType ns ls y (whole b) → Gives r
   compares o a b true r h rows hx hy = known (o, flat.Boolean) r h
@@ -161,7 +172,7 @@ prefix_row prefix.GetDay flat.Date r h = takes flat.Date (unary.DayOfDate, flat.
 prefix_row _ _ r h = cc h
 
 -- a sum adds up its type
-pub sum_row : (a : Flat) (k : SumKind) → summed a ≡ Some k → whole a ≡ summed_type k
+pub sum_row : (a : Flat) (k : SumKind) → sum_kind a ≡ Some k → whole a ≡ summed_type k
 sum_row flat.Integer k h = let is : sum.Integers ≡ k = cc h in subst (λ j. ty.Integer ≡ summed_type j) is refl
 sum_row flat.Decimal k h = let is : sum.Decimals ≡ k = cc h in subst (λ j. ty.Decimal ≡ summed_type j) is refl
 sum_row flat.Money k h = let is : sum.Money ≡ k = cc h in subst (λ j. ty.Money ≡ summed_type j) is refl

@@ -70,7 +70,6 @@ durations_are_compared : (sound : HeadSound flat_ty.Boolean)
       assertions = [];
       source = part.Declaration ∷ part.Definition ∷ [];
       rounding = Refuse;
-      order = [];
       calls = [];
     } ∷ [])
 durations_are_compared sound = search (rules, forms, views, namings)

@@ -1,7 +1,6 @@
 -- Two types are one exactly where `same` tells so; and what the words on types tell of a type.
-use Rattle.std.proofs.Common.{◌↔◌, true, false, refl}
-use Rattle.std.proofs.Common.{◌≡◌, ℕ, Bool, IsTrue, Some, sym, ap, ◌∙◌}
-use Rattle.std.proofs.Common.{subst, arith, true≢false}
+use Rattle.std.proofs.Common.{◌↔◌, true, false, refl, ◌≡◌, ℕ, Bool, IsTrue, Some, sym, ap, ◌∙◌, subst, arith}
+use Rattle.std.proofs.Common.{true≢false}
 use Rattle.cat_value.specs.declared.ty.Ty.{Ty}
 use Rattle.cat_value.specs.declared.ty.Ty.TheOpen.{Ty-F}
 use Rattle.cat_value.specs.declared.ty.Ty.TheFolds.{map-Ty, ind-Ty}

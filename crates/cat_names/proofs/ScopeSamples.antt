@@ -1,6 +1,7 @@
 -- Worked examples of scope calls: fields that name nothing or lack, and a scope that calls itself.
-use Rattle.std.proofs.Common.{◌≡◌, ℕ, pos, IsTrue, List, [], ◌∷◌, Option, Some, None, Ok, refl, rules}
-use Rattle.std.proofs.Common.{inl, inr}
+use Rattle.std.specs.Prelude.{map}
+use Rattle.cat_names.specs.Accepted.{unordered}
+use Rattle.std.proofs.Common.{◌≡◌, ℕ, pos, IsTrue, List, [], ◌∷◌, Option, Some, None, Ok, refl, rules, inl, inr}
 use Rattle.cat_pos.specs.declared.pos.Pos.{Pos}
 use Rattle.cat_date.specs.declared.rounding.Rounding.TheVariants.{Refuse}
 use Rattle.cat_value.specs.declared.ty.Ty.TheVariants as flat_ty
@@ -115,11 +116,11 @@ module _ (sound : IsTrue (are_sound [] [] scopes)) where
   decls = record { structures = []; enumerations = []; scopes = scopes; sound = sound }
 
   a_scope_call_is_found : bodies_meant decls (calling b_above_zero (x_calls_t (a_is_n ∷ []) (at 11 55)))
-      ≡ Ok (body (def 0 1 (at 9 3)
+      ≡ Ok (map unordered (body (def 0 1 (at 9 3)
       (Some (expr.Binary (at 9 32) Greater (at 9 34) (leaf.Item (at 9 32) 0) (number 0 (at 9 36))))
       (expr.Binary (at 9 57) MultiplyIntegers (at 9 59) (leaf.Item (at 9 57) 0) (number 2 (at 9 61))) ∷ []) []
       ∷ body (def 1 1 (at 11 3) None
-      (expr.ScopeCall (at 11 23) 0 (record { field = 0; value = leaf.Item (at 11 49) 0 } ∷ []) 0) ∷ []) (0 ∷ []) ∷ [])
+      (expr.ScopeCall (at 11 23) 0 (record { field = 0; value = leaf.Item (at 11 49) 0 } ∷ []) 0) ∷ []) (0 ∷ []) ∷ []))
   a_scope_call_is_found = search (rules, forms, views, namings)
 
   a_field_that_is_no_input_is_unknown :
@@ -139,7 +140,7 @@ module _ (sound : IsTrue (are_sound [] [] scopes)) where
       (expr.ScopeCall (at 11 23) 0 (record { field = 0; value = leaf.Item (at 11 49) 0 } ∷ []) 0) ∷ []) (0 ∷ []) ∷ []
 
   a_scope_may_call_itself_before_orders :
-      bodies_meant decls (calling b_calls_t (x_calls_t (a_is_n ∷ []) (at 11 55))) ≡ Ok self_calling
+      bodies_meant decls (calling b_calls_t (x_calls_t (a_is_n ∷ []) (at 11 55))) ≡ Ok (map unordered self_calling)
   a_scope_may_call_itself_before_orders = search (rules, forms, views, namings)
 
   a_scope_call_on_a_cycle_is_refused :

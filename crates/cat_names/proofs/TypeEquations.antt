@@ -4,8 +4,8 @@ use Rattle.cat_value.specs.declared.ty.Ty.{Ty}
 use Rattle.cat_value.specs.declared.ty.Ty.TheFolds.{fold_out-Ty, map-Ty}
 use Rattle.cat_value.specs.declared.ty.Ty.TheViews as ty
 use Rattle.cat_value.specs.declared.ty.Ty.TheViews.{out-Ty}
-use Rattle.cat_names.specs.Types.{same, same_level, element_of, element_in, structure_of, structure_in}
-use Rattle.cat_names.specs.Types.{enumeration_of, enumeration_in, flat_of, flat_in}
+use Rattle.cat_names.specs.Types.{same, same_level, element_of, element_in, structure_of, structure_in, enumeration_of}
+use Rattle.cat_names.specs.Types.{enumeration_in, flat_of, flat_in}
 
 -- a word on a type is its word on the type's level
 pub element_level : (t : Ty) → element_of t ≡ element_in (out-Ty t)

@@ -1,4 +1,5 @@
 -- The equation of `unknown_in` at each form.
+use Rattle.std.specs.Prelude.{flat_map}
 use Rattle.std.proofs.Common.{◌≡◌, ℕ, List, [], ◌∷◌, ◌++◌, map, refl, ap, ◌∙◌}
 use Rattle.cat_pos.specs.declared.pos.Pos.{Pos}
 use Rattle.cat_tree.specs.declared.name.Name.{Name}
@@ -17,7 +18,6 @@ use Rattle.cat_tree.specs.declared.expression.Node.TheViews as node
 use Rattle.cat_tree.specs.declared.expression.Node.TheViews.{out-Node}
 use Rattle.cat_tree.specs.declared.expression.Node.TheFolds.{fold_out-Node, fold_out-Arm, fold_out-FieldValue, map-Node}
 use Rattle.cat_tree.specs.declared.expression.Node.TheFolds.{fold-FieldValue, fold-Arm}
-use Rattle.cat_names.specs.Found.{of_all}
 use Rattle.cat_names.specs.Unknown.{Known, Unknown, is_name, unless, in_reach, of_type, in_type, in_case, in_fields}
 use Rattle.cat_names.specs.Unknown.{in_arms, unknown_of, arm_unknown, field_unknown, unknown_in}
 
@@ -87,7 +87,7 @@ pub unknown_Content : (known : Known) (c : CaseName) (e : Node) (bound : List (L
 unknown_Content known c e bound = rw (levels known (node.Content c e), node.outs-Content c e) refl
 
 pub unknown_Call : (known : Known) (w : Name) (args : List Node) (bound : List (List ℕ))
-    → unknown_in known (node.Call w args) bound ≡ in_reach known w bound ++ of_all (λ e. e bound)
+    → unknown_in known (node.Call w args) bound ≡ in_reach known w bound ++ flat_map (λ e. e bound)
     (map (unknown_in known) args)
 unknown_Call known w args bound = rw (levels known (node.Call w args), node.outs-Call w args) refl
 
@@ -100,7 +100,7 @@ pub unknown_Test : (known : Known) (e : Node) (p : Pos) (c : CaseName) (bound : 
 unknown_Test known e p c bound = rw (levels known (node.Test e p c), node.outs-Test e p c) refl
 
 pub unknown_List : (known : Known) (p : Pos) (es : List Node) (bound : List (List ℕ))
-    → unknown_in known (node.List p es) bound ≡ of_all (λ e. e bound) (map (unknown_in known) es)
+    → unknown_in known (node.List p es) bound ≡ flat_map (λ e. e bound) (map (unknown_in known) es)
 unknown_List known p es bound = rw (levels known (node.List p es), node.outs-List p es) refl
 
 pub unknown_Structure : (known : Known) (u : Name) (fs : List FieldValue) (bound : List (List ℕ))

@@ -1,9 +1,6 @@
 -- Each type that is written in a declaration is one that is declared, and so is no higher than types may be.
-use Rattle.std.proofs.Common.{◌≡◌, ℕ, List}
-use Rattle.std.proofs.Common.{[]}
-use Rattle.std.proofs.Common.{◌∷◌, ◌++◌, map, Option, Some, None, Ok, sym}
-use Rattle.std.proofs.Common.{ap}
-use Rattle.std.proofs.Common.{◌∙◌, subst}
+use Rattle.std.specs.Prelude.{is_none, flat_map, option_to_list}
+use Rattle.std.proofs.Common.{◌≡◌, ℕ, List, [], ◌∷◌, map, Option, Some, None, Ok, sym, ap, ◌∙◌, subst}
 use Rattle.cat_value.specs.declared.ty.Ty.{Ty}
 use Rattle.cat_value.specs.declared.declaration.Field.{Field}
 use Rattle.cat_value.specs.declared.declaration.Structure.{Structure}
@@ -20,21 +17,16 @@ use Rattle.cat_tree.specs.declared.program.Variable.TheVariants as variable
 use Rattle.cat_tree.specs.declared.program.Item.{Item}
 use Rattle.cat_tree.specs.declared.program.Item.TheVariants as item
 use Rattle.cat_scope.specs.Names.{AllHave}
+use Rattle.cat_names.proofs.ListLaws.{all_join}
 use Rattle.cat_names.specs.declared.fault.Fault.TheVariants.{NameUnknown}
-use Rattle.cat_names.specs.Found.{Found, or_fault, each_found, of_all}
+use Rattle.cat_names.specs.Found.{Found, or_fault, each_found}
 use Rattle.cat_names.specs.Lookup.{TypeNames, type_written, type_found}
 use Rattle.cat_names.specs.Written.{structures_in, enumerations_in, scopes_in}
-use Rattle.cat_names.specs.Declarations.{field_declared, structure_declared, content_declared}
-use Rattle.cat_names.specs.Declarations.{case_declared}
+use Rattle.cat_names.specs.Declarations.{field_declared, structure_declared, content_declared, case_declared}
 use Rattle.cat_names.specs.Declarations.{enumeration_declared, variable_type, item_declared, scope_declared}
-use Rattle.cat_names.specs.Declarations.{is_condition}
 use Rattle.cat_names.specs.Declarations.{kind_declared}
-use Rattle.cat_names.specs.Heights.{some_type, variable_types, types_written}
-use Rattle.cat_names.proofs.WholeLaws.{then_ok, both_ok}
-
-all_join : {A : Type 0} (P : A → Type 0) (xs ys : List A) → AllHave P xs → AllHave P ys → AllHave P (xs ++ ys)
-all_join P [] ys h i = i
-all_join P (x ∷ xs) ys h i = (h.0, all_join P xs ys h.1 i)
+use Rattle.cat_names.specs.Heights.{variable_types, types_written}
+use Rattle.cat_names.proofs.OkParts.{then_ok, both_ok}
 
 -- what each of some things gives holds back of the things
 each_back : {A B : Type 0} (f : A → Found B) (P : A → Type 0) (G : B → Type 0)
@@ -80,7 +72,7 @@ module _ (names : TypeNames) (Low : Ty → Type 0) where
       structure_back
 
   abbrev pub IsLowContent : Option written.Type → Type 0
-  IsLowContent c = AllHave IsLowWritten (some_type c)
+  IsLowContent c = AllHave IsLowWritten (option_to_list c)
 
   abbrev pub LowContent : Option Ty → Type 0
   LowContent None = Unit {0}
@@ -125,7 +117,7 @@ module _ (names : TypeNames) (Low : Ty → Type 0) where
   IsLowVariable v = AllHave IsLowWritten (variable_types v)
 
   variable_back : (t : Option written.Type) (u : Ty) → variable_type names t ≡ Ok u → Low u
-      → AllHave IsLowWritten (some_type t)
+      → AllHave IsLowWritten (option_to_list t)
   variable_back None u h low = tt
   variable_back (Some t) u h low = (type_back t u h low, tt)
 
@@ -142,10 +134,10 @@ module _ (names : TypeNames) (Low : Ty → Type 0) where
         pos = w.pos;
         kind = kind_declared k;
         ty = found.0;
-        condition = is_condition t;
+        condition = is_none t;
         params = found.1;
       } ≡ i = cc found.4 in
-      all_join IsLowWritten (some_type t) (map (λ f. f.ty) params)
+      all_join IsLowWritten (option_to_list t) (map (λ f. f.ty) params)
       (variable_back t found.0 found.2 (subst Low (sym (ap (λ (x : ItemDecl). x.ty) is)) low.type))
       (params_map params (each_back (λ f. type_found names f.ty) (λ f. IsLowWritten f.ty) Low
       (λ f u e l. type_back f.ty u e l) params found.1 found.3
@@ -170,22 +162,24 @@ module _ (names : TypeNames) (Low : Ty → Type 0) where
 
   -- the types that are written in a tree
   cases_all : (cs : List CaseItem) → AllHave (λ c. IsLowContent c.content) cs
-      → AllHave IsLowWritten (of_all (λ c. some_type c.content) cs)
+      → AllHave IsLowWritten (flat_map (λ c. option_to_list c.content) cs)
   cases_all [] all = tt
-  cases_all (c ∷ cs) all = all_join IsLowWritten (some_type c.content) _ all.0 (cases_all cs all.1)
+  cases_all (c ∷ cs) all = all_join IsLowWritten (option_to_list c.content) _ all.0 (cases_all cs all.1)
 
-  variables_all : (vs : List Variable) → AllHave IsLowVariable vs → AllHave IsLowWritten (of_all variable_types vs)
+  variables_all : (vs : List Variable) → AllHave IsLowVariable vs → AllHave IsLowWritten (flat_map variable_types vs)
   variables_all [] all = tt
   variables_all (v ∷ vs) all = all_join IsLowWritten (variable_types v) _ all.0 (variables_all vs all.1)
 
   pub all_written : (items : List Item) → AllHave HasLowFields (structures_in items)
       → AllHave HasLowCases (enumerations_in items)
-      → AllHave HasLowVariables (scopes_in items) → AllHave IsLowWritten (of_all types_written items)
+      → AllHave HasLowVariables (scopes_in items) → AllHave IsLowWritten (flat_map types_written items)
   all_written [] s e v = tt
   all_written (item.Structure p u fields ∷ more) s e v =
       all_join IsLowWritten (map (λ f. f.ty) fields) _ (params_map fields s.0) (all_written more s.1 e v)
   all_written (item.Enumeration p u cases ∷ more) s e v =
-      all_join IsLowWritten (of_all (λ c. some_type c.content) cases) _ (cases_all cases e.0) (all_written more s e.1 v)
+      all_join IsLowWritten (flat_map (λ c. option_to_list c.content) cases) _ (cases_all cases e.0)
+      (all_written more s e.1 v)
   all_written (item.Scope p u variables ∷ more) s e v =
-      all_join IsLowWritten (of_all variable_types variables) _ (variables_all variables v.0) (all_written more s e v.1)
+      all_join IsLowWritten (flat_map variable_types variables) _ (variables_all variables v.0)
+      (all_written more s e v.1)
   all_written (item.Block b ∷ more) s e v = all_written more s e v

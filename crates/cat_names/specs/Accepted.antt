@@ -19,7 +19,7 @@ use Rattle.cat_names.specs.Written.{structures_in}
 use Rattle.cat_names.specs.Declarations.{Declared, declared_of}
 use Rattle.cat_names.specs.NameFaults.{name_faults}
 use Rattle.cat_names.specs.Heights.{height_faults}
-use Rattle.cat_names.specs.Bodies.{bodies_meant}
+use Rattle.cat_names.specs.Bodies.{UnorderedBody, bodies_meant}
 use Rattle.cat_names.specs.Cycles.{IsTypeCycle, IsScopeCycle, IsItemCycle, chain_faults}
 
 -- the structures of a tree have fewer fields than a u32 numbers
@@ -29,7 +29,7 @@ AreCounted (s ∷ more) = (length s.1 < ENTRIES_BOUND) × AreCounted more
 
 -- what is known of a tree that was read: each structure has a field and each enumeration a case, and a u32 numbers its
 -- lists
-pub record IsReadable (tree : Tree) : Type 0 where
+pub record IsParsed (tree : Tree) : Type 0 where
   pub filled : IsTrue (are_filled tree.items)
   pub items : length tree.items < ENTRIES_BOUND
   pub fields : AreCounted (structures_in tree.items)
@@ -46,16 +46,21 @@ pub record IsNamed (tree : Tree) (ds : Declared) : Type 0 where
 abbrev pub parts_of : Decls → Declared
 parts_of ds = record { structures = ds.structures; enumerations = ds.enumerations; scopes = ds.scopes }
 
--- a body whose items are not yet in order
-abbrev pub unordered : Body → Body
+-- a body without the order of its items
+abbrev pub unordered : Body → UnorderedBody
 unordered b = record {
   defs = b.defs;
   assertions = b.assertions;
   source = b.source;
   rounding = b.rounding;
-  order = [];
   calls = b.calls;
 }
+
+-- what a tree means whose names, types and expressions are in order: its declarations, of which `Decls` keeps that no
+-- type is on a cycle or too high, and what it says of each scope, but for the order of the items
+pub record IsMeant (tree : Tree) (decls : Decls) (bodies : List Body) : Type 0 where
+  pub named : IsNamed tree (parts_of decls)
+  pub meant : bodies_meant decls tree ≡ Ok (map unordered bodies)
 
 -- the items of each scope are in order, and no chain of its functions is too long
 abbrev pub AreOrdered : List Scope → List Body → Type 0
@@ -65,21 +70,14 @@ AreOrdered (scope ∷ scopes) [] = ⊥
 AreOrdered (scope ∷ scopes) (body ∷ bodies) = IsOrder (item_dependencies scope.items body.defs) body.order
     × HasShortChains (function_calls scope.items body.defs) × AreOrdered scopes bodies
 
--- the program of a tree: its names and counts are in order; its declarations, of which `Decls` keeps that no type is on
--- a cycle or too high; what it says of each scope; the orders; and no chain of calls is too long
+-- the program of a tree: what it means, with the orders; and no chain of calls is too long
 pub record IsProgramOf (tree : Tree) (decls : Decls) (bodies : List Body) (scope_order : List ℕ) : Type 0 where
-  pub named : IsNamed tree (parts_of decls)
-  pub meant : bodies_meant decls tree ≡ Ok (map unordered bodies)
+  pub meant : IsMeant tree decls bodies
   pub items : AreOrdered decls.scopes bodies
   pub order : IsOrder (scope_dependencies decls.scopes bodies) scope_order
   pub chains : HasShortChains (scope_dependencies decls.scopes bodies)
 
 -- ---- refused trees
-
--- what a tree means whose names, types and expressions are in order
-pub record IsMeant (tree : Tree) (decls : Decls) (bodies : List Body) : Type 0 where
-  pub named : IsNamed tree (parts_of decls)
-  pub meant : bodies_meant decls tree ≡ Ok bodies
 
 -- no item of any scope is on a cycle
 abbrev pub HaveNoCycles : List Scope → List Body → Type 0

@@ -16,7 +16,7 @@ use Rattle.cat_names.specs.declared.fault.Fault.TheVariants.{NameUnknown, TypeMi
 use Rattle.cat_names.specs.Found.{Found, faulty, and_then, or_fault, where_true}
 use Rattle.cat_names.specs.Types.{structure_of}
 use Rattle.cat_names.specs.Lookup.{item_named, scope_called}
-use Rattle.cat_names.specs.Forms.{field_in}
+use Rattle.cat_names.specs.Forms.{field_named}
 
 -- what definitions are for: its target, the types of its parameters, its own, and whether it is a condition
 pub record Aim : Type 0 where
@@ -47,7 +47,7 @@ inner_aim scope p item k = where_true (may_be_given k.1.kind) (Misplaced p) (Ok 
 -- what stands against `x.y` where x is no called scope: a field y of x is misplaced, and else y is unknown
 abbrev pub part_fault : Decls → Pos → Name → Option ℕ → Fault
 part_fault ds p y None = NameUnknown y.pos
-part_fault ds p y (Some n) = if is_some (field_in ds n y.text) then Misplaced p else NameUnknown y.pos
+part_fault ds p y (Some n) = if is_some (field_named ds n y.text) then Misplaced p else NameUnknown y.pos
 
 -- `t.y`, where t is an item: a called scope, of which y is a variable and no scope that it calls
 abbrev pub called_aim : Names → ℕ → Pos → Name → Option (ℕ × ItemDecl) → Found Aim

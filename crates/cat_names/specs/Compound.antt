@@ -15,7 +15,8 @@ use Rattle.cat_names.specs.declared.typed.Local.{Local}
 use Rattle.cat_names.specs.Found.{Found, faulty, and_then, both, or_fault, where_true}
 use Rattle.cat_names.specs.Types.{element_of, enumeration_of}
 use Rattle.cat_names.specs.Naming.{typed, Called}
-use Rattle.cat_names.specs.Forms.{field_in, field_of, input_in, output_in, output_of, each_of, bound, combine_of}
+use Rattle.cat_names.specs.Forms.{field_named, field_of, input_named, output_named, output_of, each_of, bound}
+use Rattle.cat_names.specs.Forms.{combine_of}
 use Rattle.cat_names.specs.Parts.{Meaning, values_of, arms_of}
 
 -- `e . w`: an output where e names a called scope, and else a field
@@ -38,7 +39,7 @@ case_alone p k _ = faulty (TypeMismatch p)
 abbrev pub structure_of_fields : {A : Type 0} → (A → Name × Meaning) → Names → Name → List A → List Local → ℕ
     → Found Typed
 structure_of_fields means ns u fields locals n =
-    and_then (values_of means (field_in ns.decls n) fields locals) (λ values.
+    and_then (values_of means (field_named ns.decls n) fields locals) (λ values.
     where_true (are_fields_of ns.decls n (numbers_in values)) (TypeMismatch u.pos)
     (Ok (typed u.pos (expr.Structure u.pos n values) (flat_ty.Structure n))))
 
@@ -46,8 +47,8 @@ structure_of_fields means ns u fields locals n =
 abbrev pub scope_call_of : {A : Type 0} → (A → Name × Meaning) → Names → Pos → Name → List A → Name → List Local → ℕ
     → Found Typed
 scope_call_of means ns p u fields w locals s =
-    both (values_of means (input_in ns.decls s) fields locals)
-    (or_fault (NameUnknown w.pos) (output_in ns.decls s w.text))
+    both (values_of means (input_named ns.decls s) fields locals)
+    (or_fault (NameUnknown w.pos) (output_named ns.decls s w.text))
     (λ values o. where_true (are_call_fields ns.decls s (numbers_in values)) (TypeMismatch u.pos)
     (Ok (typed p (expr.ScopeCall p s values o.0) o.1)))
 
@@ -57,9 +58,9 @@ branches_of a b locals expected =
     and_then (a locals expected) (λ x. and_then (b locals (Some x.ty)) (λ y. Ok (x, y)))
 
 -- a match of what has the type of an enumeration, with arms for its cases
-abbrev pub match_of : {A : Type 0} → (A → Pattern × Meaning) → Names → Pos → List A → List Local → Option Ty → Typed
+abbrev pub match_over : {A : Type 0} → (A → Pattern × Meaning) → Names → Pos → List A → List Local → Option Ty → Typed
     → Found Typed
-match_of means ns p arms locals expected e =
+match_over means ns p arms locals expected e =
     and_then (or_fault (TypeMismatch p) (enumeration_of e.ty)) (λ n.
     and_then (arms_of means ns p n arms locals expected) (λ x.
     where_true (are_complete ns.decls n x.0) (MatchCases p) (Ok (typed p (expr.Match p e.expr x.0) x.1))))

@@ -1,6 +1,5 @@
 -- What depends on itself, and what is called in too long a chain: where this stands in a source.
-use Rattle.std.specs.Prelude.{◌≡◌, ◌⊎◌, ℕ, suc, ◌+◌, not, ◌&&◌, Bool, List, [], ◌∷◌, ◌++◌, map, Some}
-use Rattle.std.specs.Prelude.{slice_get, if◌then◌else◌}
+use Rattle.std.specs.Prelude.{◌≡◌, ◌⊎◌, ℕ, suc, not, ◌&&◌, Bool, List, [], ◌∷◌, ◌++◌, map, flat_map, Some, slice_get}
 use Rattle.cat_pos.specs.declared.pos.Pos.{Pos}
 use Rattle.cat_order.specs.Cycle.{DependsOn, IsPath, IsOnCycle}
 use Rattle.cat_value.specs.declared.decls.Decls.{Decls}
@@ -14,11 +13,12 @@ use Rattle.cat_scope.specs.declared.defs.Body.{Body}
 use Rattle.cat_scope.specs.Names.{IsOneOf}
 use Rattle.cat_scope.specs.Orders.{item_dependencies, function_calls, scope_dependencies}
 use Rattle.cat_scope.specs.Chains.{is_within, longest_chain}
-use Rattle.cat_names.specs.Found.{of_all}
+use Rattle.cat_names.specs.Found.{fault_if}
 use Rattle.cat_names.specs.declared.fault.Fault.{Fault}
 use Rattle.cat_names.specs.declared.fault.Fault.TheVariants.{TypeCycle, ScopeCycle, VariableCycle, TooMany}
-use Rattle.cat_names.specs.Lookup.{first_named}
-use Rattle.cat_names.specs.Written.{structures_in, enumerations_in, scopes_in}
+use Rattle.cat_names.specs.Lookup.{scope_named}
+use Rattle.cat_names.specs.Lists.{numbered}
+use Rattle.cat_names.specs.Written.{structures_in, enumerations_in, scopes_in, names_of, positions}
 use Rattle.cat_names.specs.Declarations.{Declared}
 use Rattle.cat_names.specs.ScopeWords.{words_in}
 
@@ -26,7 +26,8 @@ use Rattle.cat_names.specs.ScopeWords.{words_in}
 
 -- the position of each name of a structure and, behind these, of an enumeration
 abbrev pub type_positions : Tree → List Pos
-type_positions tree = map (λ s. s.0.pos) (structures_in tree.items) ++ map (λ e. e.0.pos) (enumerations_in tree.items)
+type_positions tree =
+    positions (names_of (structures_in tree.items)) ++ positions (names_of (enumerations_in tree.items))
 
 -- the name of a structure or an enumeration that is a part of itself
 pub record IsTypeCycle (tree : Tree) (ds : Declared) (fault : Fault) : Type 0 where
@@ -63,8 +64,8 @@ pub record IsCalledCycle (tree : Tree) (ds : Decls) (bodies : List Body) (fault 
   pub caller : ℕ
   pub called : ℕ × Scope
   pub word : Name
-  pub word_is : IsOneOf word (of_all (words_in ds caller) tree.items)
-  pub called_is : first_named (λ s. s.name) word.text 0 ds.scopes ≡ Some called
+  pub word_is : IsOneOf word (words_in ds caller tree.items)
+  pub called_is : scope_named word.text ds.scopes ≡ Some called
   pub on_cycle : IsCallOnCycle (scope_dependencies ds.scopes bodies) caller called.0
   pub fault_is : fault ≡ ScopeCycle word.pos
 
@@ -93,19 +94,18 @@ pub record IsItemCycle (ds : Decls) (bodies : List Body) (fault : Fault) : Type 
 abbrev pub is_first_past : List (List ℕ) → ℕ → Bool
 is_first_past deps n = not (is_within deps longest_chain n) && is_within deps (suc longest_chain) n
 
--- the first past the longest chain: of these positions, from number n on, each that begins one
-abbrev pub past_chains : List (List ℕ) → ℕ → List Pos → List Fault
-past_chains deps n [] = []
-past_chains deps n (p ∷ ps) = (if is_first_past deps n then TooMany p ∷ [] else []) ++ past_chains deps (n + 1) ps
+-- the first past the longest chain: each of these positions whose number begins one
+abbrev pub past_chains : List (List ℕ) → List Pos → List Fault
+past_chains deps positions = flat_map (λ p. fault_if (is_first_past deps p.0) (TooMany p.1)) (numbered positions)
 
 -- the functions of scopes
 abbrev pub past_functions : List Scope → List Body → List Fault
 past_functions [] bodies = []
 past_functions (scope ∷ scopes) [] = []
 past_functions (scope ∷ scopes) (body ∷ bodies) =
-    past_chains (function_calls scope.items body.defs) 0 (map (λ i. i.pos) scope.items) ++ past_functions scopes bodies
+    past_chains (function_calls scope.items body.defs) (map (λ i. i.pos) scope.items) ++ past_functions scopes bodies
 
 -- the names, in their declarations, of functions and scopes from which a chain of calls is longer than it may be by one
 abbrev pub chain_faults : Tree → Decls → List Body → List Fault
 chain_faults tree ds bodies = past_functions ds.scopes bodies
-    ++ past_chains (scope_dependencies ds.scopes bodies) 0 (map (λ s. s.0.pos) (scopes_in tree.items))
+    ++ past_chains (scope_dependencies ds.scopes bodies) (positions (names_of (scopes_in tree.items)))

@@ -1,5 +1,5 @@
 -- Names that stand twice in a declaration, and counts that it passes.
-use Rattle.std.specs.Prelude.{ℕ, List, [], ◌∷◌, ◌++◌, map, Option, Some, None, slice_get}
+use Rattle.std.specs.Prelude.{ℕ, List, [], ◌∷◌, ◌++◌, map, flat_map, Option, Some, None, slice_get}
 use Rattle.cat_pos.specs.declared.pos.Pos.{Pos}
 use Rattle.cat_tree.specs.declared.name.Name.{Name}
 use Rattle.cat_tree.specs.declared.program.Variable.{Variable}
@@ -9,7 +9,7 @@ use Rattle.cat_tree.specs.declared.program.Item.TheVariants as item
 use Rattle.cat_names.specs.declared.limits.TheConstants.{MOST_ITEMS, MOST_CASES, MOST_PARAMETERS}
 use Rattle.cat_names.specs.declared.fault.Fault.{Fault}
 use Rattle.cat_names.specs.declared.fault.Fault.TheVariants.{TooMany}
-use Rattle.cat_names.specs.Found.{of_all}
+use Rattle.cat_names.specs.Written.{positions}
 use Rattle.cat_names.specs.Unknown.{twice}
 
 -- a thing that is past a limit, where there is one
@@ -21,14 +21,6 @@ too_many (Some p) = TooMany p ∷ []
 abbrev pub past : ℕ → List Pos → List Fault
 past limit positions = too_many (slice_get positions limit)
 
--- the texts of names, and their positions
-abbrev pub texts : List Name → List (List ℕ)
-texts names = map (λ w. w.text) names
-
--- the positions of names
-abbrev pub positions : List Name → List Pos
-positions names = map (λ w. w.pos) names
-
 -- the name of a variable or of a called scope
 abbrev pub variable_name : Variable → Name
 variable_name (variable.Own k p w t params) = w
@@ -37,16 +29,16 @@ variable_name (variable.Called w u) = w
 -- parameters: no name twice, and past the most of them stands the name of the next
 abbrev pub param_faults : Variable → List Fault
 param_faults (variable.Own k p w t params) =
-    twice [] (map (λ f. f.name) params) ++ past MOST_PARAMETERS (positions (map (λ f. f.name) params))
+    twice (map (λ f. f.name) params) ++ past MOST_PARAMETERS (positions (map (λ f. f.name) params))
 param_faults (variable.Called w u) = []
 
 -- a declaration: in it no name stands twice; past the most cases or items stands the name of the next
 abbrev pub declaration_faults : Item → List Fault
-declaration_faults (item.Structure p u fields) = twice [] (map (λ f. f.name) fields)
+declaration_faults (item.Structure p u fields) = twice (map (λ f. f.name) fields)
 declaration_faults (item.Enumeration p u cases) =
-    twice [] (map (λ c. c.name) cases) ++ past MOST_CASES (positions (map (λ c. c.name) cases))
-declaration_faults (item.Scope p u variables) = twice [] (map variable_name variables)
-    ++ past MOST_ITEMS (positions (map variable_name variables)) ++ of_all param_faults variables
+    twice (map (λ c. c.name) cases) ++ past MOST_CASES (positions (map (λ c. c.name) cases))
+declaration_faults (item.Scope p u variables) = twice (map variable_name variables)
+    ++ past MOST_ITEMS (positions (map variable_name variables)) ++ flat_map param_faults variables
 declaration_faults (item.Block b) = []
 
 -- the name that a declaration declares: types and scopes share their names

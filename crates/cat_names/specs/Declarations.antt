@@ -1,5 +1,5 @@
 -- What a tree declares: structures, enumerations and scopes, each numbered in source order, with their types resolved.
-use Rattle.std.specs.Prelude.{ℕ, Bool, true, false, List, [], Option, Some, None, Ok}
+use Rattle.std.specs.Prelude.{ℕ, is_none, false, List, [], Option, Some, None, Ok}
 use Rattle.cat_value.specs.declared.ty.Ty.{Ty}
 use Rattle.cat_value.specs.declared.ty.Ty.TheVariants as flat
 use Rattle.cat_value.specs.declared.declaration.Field.{Field}
@@ -22,7 +22,7 @@ use Rattle.cat_tree.specs.declared.program.Item.{Item}
 use Rattle.cat_names.specs.Written.{structures_in, enumerations_in, scopes_in, types_in, scope_names_in}
 use Rattle.cat_names.specs.declared.fault.Fault.TheVariants.{NameUnknown}
 use Rattle.cat_names.specs.Found.{Found, and_then, both, or_fault, each_found}
-use Rattle.cat_names.specs.Lookup.{TypeNames, type_found, first_named, number}
+use Rattle.cat_names.specs.Lookup.{TypeNames, type_found, first_named}
 
 -- a field
 abbrev pub field_declared : TypeNames → FieldItem → Found Field
@@ -62,27 +62,30 @@ abbrev pub variable_type : TypeNames → Option written.Type → Found Ty
 variable_type names None = Ok flat.Boolean
 variable_type names (Some t) = type_found names t
 
--- whether a variable is a condition
-abbrev pub is_condition : Option written.Type → Bool
-is_condition None = true
-is_condition (Some t) = false
+-- a variable of that type, with parameters of these types
+abbrev pub variable_item : kinds.Kind → Name → Option written.Type → Ty → List Ty → ItemDecl
+variable_item k w t ty params = record {
+  name = w.text;
+  pos = w.pos;
+  kind = kind_declared k;
+  ty = ty;
+  condition = is_none t;
+  params = params;
+}
+
+-- an item that calls a scope
+abbrev pub called_item_of : Name → ℕ → ItemDecl
+called_item_of w scope =
+    record { name = w.text; pos = w.pos; kind = kind.Called scope; ty = flat.Boolean; condition = false; params = [] }
 
 -- a variable of a scope, or a called scope
 abbrev pub item_declared : TypeNames → List (List ℕ) → Variable → Found ItemDecl
 item_declared names scopes (variable.Own k p w t params) =
     both (variable_type names t) (each_found (λ f. type_found names f.ty) params) (λ ty types.
-    Ok (record {
-      name = w.text;
-      pos = w.pos;
-      kind = kind_declared k;
-      ty = ty;
-      condition = is_condition t;
-      params =
-          types;
-    }))
+    Ok (variable_item k w t ty types))
 item_declared names scopes (variable.Called w u) =
-    and_then (or_fault (NameUnknown u.pos) (number kind.Called (first_named (λ name. name) u.text 0 scopes))) (λ called.
-    Ok (record { name = w.text; pos = w.pos; kind = called; ty = flat.Boolean; condition = false; params = [] }))
+    and_then (or_fault (NameUnknown u.pos) (first_named (λ name. name) u.text scopes)) (λ scope.
+    Ok (called_item_of w scope.0))
 
 -- a scope
 abbrev pub scope_declared : TypeNames → List (List ℕ) → Name × List Variable → Found Scope
@@ -95,11 +98,21 @@ pub record Declared : Type 0 where
   pub enumerations : List Enumeration
   pub scopes : List Scope
 
+-- the types that a tree declares
+pub record DeclaredTypes : Type 0 where
+  pub structures : List Structure
+  pub enumerations : List Enumeration
+
+-- each of them, or the names of types in them that name nothing
+abbrev pub types_declared : List Item → Found DeclaredTypes
+types_declared items =
+    both (each_found (structure_declared (types_in items)) (structures_in items))
+    (each_found (enumeration_declared (types_in items)) (enumerations_in items))
+    (λ structures enumerations. Ok (record { structures = structures; enumerations = enumerations }))
+
 -- each declaration, or the names of types and scopes in them that name nothing
 abbrev pub declared_of : List Item → Found Declared
 declared_of items =
-    both {A = List Structure × List Enumeration}
-    (both (each_found (structure_declared (types_in items)) (structures_in items))
-    (each_found (enumeration_declared (types_in items)) (enumerations_in items)) (λ ss es. Ok (ss, es)))
-    (each_found (scope_declared (types_in items) (scope_names_in items)) (scopes_in items))
-    (λ types scopes. Ok (record { structures = types.0; enumerations = types.1; scopes = scopes }))
+    both (types_declared items) (each_found (scope_declared (types_in items) (scope_names_in items)) (scopes_in items))
+    (λ types scopes.
+    Ok (record { structures = types.structures; enumerations = types.enumerations; scopes = scopes }))

@@ -26,7 +26,7 @@ use Rattle.cat_names.specs.declared.fault.Fault.TheVariants.{Misplaced}
 use Rattle.cat_names.specs.declared.typed.Typed.{Typed}
 use Rattle.cat_names.specs.declared.typed.Local.{Local}
 use Rattle.cat_names.specs.Found.{Found, and_then, both, where_true}
-use Rattle.cat_names.specs.Operations.{fitting}
+use Rattle.cat_names.specs.Operations.{as_expected}
 use Rattle.cat_names.specs.Forms.{bound}
 use Rattle.cat_names.specs.Aims.{Aim, aim_of}
 use Rattle.cat_names.specs.Meaning.{meant}
@@ -35,34 +35,35 @@ use Rattle.cat_names.specs.Meaning.{meant}
 
 -- a boolean, of which no type is expected beforehand
 abbrev pub boolean_of : Names → Node → List Local → Found Typed
-boolean_of ns e locals = fitting (Some flat_ty.Boolean) (meant ns e locals None)
+boolean_of ns e locals = as_expected (Some flat_ty.Boolean) (meant ns e locals None)
 
 -- a condition, where there is one
-abbrev pub condition_of : Names → Option Node → List Local → Found (Option Typed)
-condition_of ns None locals = Ok None
-condition_of ns (Some e) locals = and_then (boolean_of ns e locals) (λ x. Ok (Some x))
+abbrev pub condition_meant : Names → Option Node → List Local → Found (Option Typed)
+condition_meant ns None locals = Ok None
+condition_meant ns (Some e) locals = and_then (boolean_of ns e locals) (λ x. Ok (Some x))
 
 -- the condition of a block and that of a definition, joined by `and`, the block's on the left
-abbrev pub joined : Option Typed → Option Typed → Option Expr
-joined None None = None
-joined (Some b) None = Some b.expr
-joined None (Some c) = Some c.expr
-joined (Some b) (Some c) = Some (expr.And b.first b.expr c.expr)
+abbrev pub conjunction : Option Typed → Option Typed → Option Expr
+conjunction None None = None
+conjunction (Some b) None = Some b.expr
+conjunction None (Some c) = Some c.expr
+conjunction (Some b) (Some c) = Some (expr.And b.first b.expr c.expr)
 
 -- parameters under their names
 abbrev pub named_params : List Name → List Ty → List Local
 named_params (w ∷ ws) (t ∷ ts) = bound w t ∷ named_params ws ts
 named_params _ _ = []
 
--- parameters as a block's condition has them: without names, since it doesn't know them. No word is empty
+-- parameters as a block's condition has them: under empty names, since it doesn't know them. No word of a source is
+-- empty: a token is the longest text of its form, and the words of names have a letter
 abbrev pub nameless_params : List Ty → List Local
 nameless_params types = map (λ t. record { name = []; ty = t }) types
 
 -- the condition of a definition in a block with a condition of its own or none
 abbrev pub whole_condition : Names → Option Node → Option Node → List Name → List Ty → Found (Option Expr)
 whole_condition ns block c params types =
-    both (condition_of ns block (nameless_params types)) (condition_of ns c (named_params params types))
-    (λ b own. Ok (joined b own))
+    both (condition_meant ns block (nameless_params types)) (condition_meant ns c (named_params params types))
+    (λ b own. Ok (conjunction b own))
 
 -- ---- definitions, rules and assertions
 

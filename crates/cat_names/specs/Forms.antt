@@ -1,5 +1,5 @@
 -- What single forms are, where their parts are known.
-use Rattle.std.specs.Prelude.{ℕ, List, Option, Some, None, Ok, nat_eq, if◌then◌else◌}
+use Rattle.std.specs.Prelude.{ℕ, List, Option, Some, Ok, nat_eq, option_map, option_and_then}
 use Rattle.cat_pos.specs.declared.pos.Pos.{Pos}
 use Rattle.cat_value.specs.declared.ty.Ty.{Ty}
 use Rattle.cat_value.specs.declared.ty.Ty.TheVariants as flat_ty
@@ -8,7 +8,6 @@ use Rattle.cat_value.specs.declared.declaration.Field.{Field}
 use Rattle.cat_value.specs.declared.decls.Decls.{Decls}
 use Rattle.cat_value.specs.declared.declaration.ItemDecl.{ItemDecl}
 use Rattle.cat_value.specs.Entries.{fields_of}
-use Rattle.cat_value.specs.Inputs.{may_be_given}
 use Rattle.cat_tree.specs.declared.name.Name.{Name}
 use Rattle.cat_tree.specs.declared.expression.Each.{Each}
 use Rattle.cat_tree.specs.declared.expression.Each.TheVariants as each
@@ -16,49 +15,47 @@ use Rattle.cat_scope.specs.declared.expr.Expr.{Expr}
 use Rattle.cat_scope.specs.declared.expr.Expr.TheVariants as leaf
 use Rattle.cat_scope.specs.declared.expr.Expr.TheViews as expr
 use Rattle.cat_scope.specs.Names.{Names, outputs_in, scope_items}
-use Rattle.cat_scope.specs.Fitting.{is_low_type}
+use Rattle.cat_scope.specs.Fitting.{is_low_type, given_type}
 use Rattle.cat_names.specs.declared.fault.Fault.TheVariants.{NameUnknown, TypeMismatch, TooMany}
 use Rattle.cat_names.specs.declared.typed.Typed.{Typed}
 use Rattle.cat_names.specs.declared.typed.Local.{Local}
 use Rattle.cat_names.specs.Found.{Found, and_then, or_fault, where_true}
 use Rattle.cat_names.specs.Types.{same, structure_of, enumeration_of}
-use Rattle.cat_names.specs.Lookup.{first_named, with_part, item_named}
+use Rattle.cat_names.specs.Lookup.{first_named, item_named}
 use Rattle.cat_names.specs.Naming.{typed, Called}
 use Rattle.cat_names.specs.Operations.{operated}
 
 -- the field of that name, with its number and its type
-abbrev pub field_named : List ℕ → Option (List Field) → Option (ℕ × Ty)
-field_named w None = None
-field_named w (Some fields) = with_part (λ f. f.ty) (first_named (λ f. f.name) w 0 fields)
+abbrev pub field_among : List ℕ → List Field → Option (ℕ × Ty)
+field_among w fields = option_map (λ f. (f.0, f.1.ty)) (first_named (λ f. f.name) w fields)
 
 -- the field of that name of a structure
-abbrev pub field_in : Decls → ℕ → List ℕ → Option (ℕ × Ty)
-field_in ds n w = field_named w (fields_of ds n)
+abbrev pub field_named : Decls → ℕ → List ℕ → Option (ℕ × Ty)
+field_named ds n w = option_and_then (field_among w) (fields_of ds n)
 
 -- a field of a structure
 abbrev pub field_of : Names → Name → Typed → Found Typed
 field_of ns w e =
     and_then (or_fault (TypeMismatch e.first) (structure_of e.ty)) (λ n.
-    and_then (or_fault (NameUnknown w.pos) (field_in ns.decls n w.text)) (λ f.
+    and_then (or_fault (NameUnknown w.pos) (field_named ns.decls n w.text)) (λ f.
     Ok (typed e.first (expr.Field e.first e.expr f.0) f.1)))
 
--- the type of an item that may be given, with its number
-abbrev pub given_in : Option (ℕ × ItemDecl) → Option (ℕ × Ty)
-given_in None = None
-given_in (Some i) = if may_be_given i.1.kind then Some (i.0, i.1.ty) else None
+-- an item that may be given, with its number and its type
+abbrev pub given_item : ℕ × ItemDecl → Option (ℕ × Ty)
+given_item i = option_map (λ t. (i.0, t)) (given_type (Some i.1))
 
 -- the input or context of that name of a scope, with its number and its type
-abbrev pub input_in : Decls → ℕ → List ℕ → Option (ℕ × Ty)
-input_in ds scope w = given_in (item_named w (scope_items ds scope))
+abbrev pub input_named : Decls → ℕ → List ℕ → Option (ℕ × Ty)
+input_named ds scope w = option_and_then given_item (item_named w (scope_items ds scope))
 
 -- the output of that name of a scope, with its number among the outputs and its type
-abbrev pub output_in : Decls → ℕ → List ℕ → Option (ℕ × Ty)
-output_in ds scope w = with_part (λ i. i.ty) (item_named w (outputs_in (scope_items ds scope)))
+abbrev pub output_named : Decls → ℕ → List ℕ → Option (ℕ × Ty)
+output_named ds scope w = option_map (λ i. (i.0, i.1.ty)) (item_named w (outputs_in (scope_items ds scope)))
 
 -- an output of a called scope
 abbrev pub output_of : Names → Name → Called → Found Typed
 output_of ns w called =
-    and_then (or_fault (NameUnknown w.pos) (output_in ns.decls called.scope w.text)) (λ o.
+    and_then (or_fault (NameUnknown w.pos) (output_named ns.decls called.scope w.text)) (λ o.
     Ok (typed called.first (leaf.Output called.first called.item o.0) o.1))
 
 -- a choice between two branches

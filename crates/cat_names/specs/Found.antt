@@ -57,12 +57,12 @@ Tells (Ok a) found = found ≡ Ok a
 Tells (Err Memory) found = Unit {0}
 Tells (Err (Refused fault)) found = Stands fault found
 
+-- a fault, where a test passes
+abbrev pub fault_if : Bool → Fault → List Fault
+fault_if true fault = fault ∷ []
+fault_if false fault = []
+
 -- what each of some things gives, or the faults of all of them
 abbrev pub each_found : {A B : Type 0} → (A → Found B) → List A → Found (List B)
 each_found f [] = Ok []
 each_found f (x ∷ xs) = both (f x) (each_found f xs) (λ y ys. Ok (y ∷ ys))
-
--- what each of some things has, one behind another
-abbrev pub of_all : {A B : Type 0} → (A → List B) → List A → List B
-of_all f [] = []
-of_all f (x ∷ xs) = f x ++ of_all f xs

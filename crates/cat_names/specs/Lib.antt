@@ -1,7 +1,9 @@
 -- which trees are accepted, with their programs, and what stands against the others
 pub mod Accepted
+pub mod Decided
 -- what expressions mean
 pub mod Found
+pub mod Lists
 pub mod Types
 pub mod Rows
 pub mod Lookup
@@ -26,4 +28,6 @@ pub mod Heights
 pub mod ScopeWords
 pub mod Cycles
 -- what the laws say
+pub mod Symbols
+pub mod TypedNames
 pub mod TypedMeanings

@@ -1,6 +1,7 @@
 -- What a source says of a scope, line by line.
-use Rattle.std.specs.Prelude.{ℕ, ◌+◌, nat_eq, Bool, false, List, [], ◌∷◌, ◌++◌, Option, Some, None, Ok, if◌then◌else◌}
+use Rattle.std.specs.Prelude.{ℕ, filter, nat_eq, Bool, false, List, [], ◌∷◌, ◌++◌, Option, Some, None, Ok}
 use Rattle.cat_value.specs.declared.decls.Decls.{Decls}
+use Rattle.cat_tree.specs.declared.name.Name.{Name}
 use Rattle.cat_tree.specs.declared.expression.Node.{Node}
 use Rattle.cat_tree.specs.declared.program.Use.{Use}
 use Rattle.cat_tree.specs.declared.program.Use.TheVariants as uses
@@ -13,8 +14,8 @@ use Rattle.cat_scope.specs.declared.defs.Assertion as asserted
 use Rattle.cat_scope.specs.Names.{Names}
 use Rattle.cat_names.specs.declared.typed.Typed.{Typed}
 use Rattle.cat_names.specs.Found.{Found, and_then, both}
-use Rattle.cat_names.specs.Lookup.{first_named}
-use Rattle.cat_names.specs.Definitions.{condition_of, definition_meant, rule_meant, assertion_meant}
+use Rattle.cat_names.specs.Lookup.{scope_named}
+use Rattle.cat_names.specs.Definitions.{condition_meant, definition_meant, rule_meant, assertion_meant}
 
 -- what a source says of a scope, in its order
 pub data Line : Type 0 where
@@ -48,24 +49,34 @@ condition_lines (Some x) = one (Condition x.expr)
 
 -- a block: its condition, which knows no parameters, and then its lines
 abbrev pub block_lines : Names → ℕ → Block → Found (List Line)
-block_lines ns scope b = both (condition_of ns b.condition []) (all_lines (use_lines ns scope b.condition) b.uses)
+block_lines ns scope b = both (condition_meant ns b.condition []) (all_lines (use_lines ns scope b.condition) b.uses)
     (λ x lines. Ok (condition_lines x ++ lines))
 
--- whether a number that was found is this one
+-- whether something was found that has this number
 abbrev pub is_number : {A : Type 0} → ℕ → Option (ℕ × A) → Bool
 is_number n None = false
 is_number n (Some found) = nat_eq found.0 n
 
--- whether a block is one of the scope of that number
-abbrev pub is_block_of : Decls → ℕ → Block → Bool
-is_block_of ds scope b = is_number scope (first_named (λ s. s.name) b.name.text 0 ds.scopes)
+-- whether a name names the scope of that number
+abbrev pub is_scope_name : Decls → ℕ → Name → Bool
+is_scope_name ds scope w = is_number scope (scope_named w.text ds.scopes)
 
--- what a source says of the scope of that number, where the next declaration of a scope has number n
-abbrev pub lines_from : Names → ℕ → ℕ → List Item → Found (List Line)
-lines_from ns scope n [] = Ok []
-lines_from ns scope n (item.Scope p u variables ∷ more) = and_then (lines_from ns scope (n + 1) more)
-    (λ lines. Ok (if nat_eq n scope then Declaration ∷ lines else lines))
-lines_from ns scope n (item.Block b ∷ more) =
-    both (if is_block_of ns.decls scope b then block_lines ns scope b else Ok []) (lines_from ns scope n more)
-    (λ lines rest. Ok (lines ++ rest))
-lines_from ns scope n (_ ∷ more) = lines_from ns scope n more
+-- whether a declaration or a block is one of the scope of that number
+abbrev pub is_about : Decls → ℕ → Item → Bool
+is_about ds scope (item.Scope p u variables) = is_scope_name ds scope u
+is_about ds scope (item.Block b) = is_scope_name ds scope b.name
+is_about ds scope _ = false
+
+-- the declaration and the blocks of the scope of that number, in source order
+abbrev pub items_about : Decls → ℕ → List Item → List Item
+items_about ds scope items = filter (is_about ds scope) items
+
+-- what a declaration or a block says of its scope
+abbrev pub item_lines : Names → ℕ → Item → Found (List Line)
+item_lines ns scope (item.Scope p u variables) = Ok (one Declaration)
+item_lines ns scope (item.Block b) = block_lines ns scope b
+item_lines ns scope _ = Ok []
+
+-- what a source says of the scope of that number
+abbrev pub lines_found : Names → ℕ → List Item → Found (List Line)
+lines_found ns scope items = all_lines (item_lines ns scope) (items_about ns.decls scope items)

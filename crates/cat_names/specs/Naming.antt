@@ -1,22 +1,26 @@
 -- What names stand for in expressions: bound names, items, functions, called scopes, cases and structures.
-use Rattle.std.specs.Prelude.{ℕ, List, [], ◌∷◌, Option, Some, None, Ok, slice_get}
+use Rattle.std.specs.Prelude.{ℕ, List, [], ◌∷◌, Option, Some, None, Ok, slice_get, option_map, option_and_then}
 use Rattle.cat_pos.specs.declared.pos.Pos.{Pos}
 use Rattle.cat_value.specs.declared.ty.Ty.{Ty}
-use Rattle.cat_value.specs.declared.declaration.Enumeration.{Enumeration}
+use Rattle.cat_value.specs.declared.decls.Decls.{Decls}
 use Rattle.cat_value.specs.declared.declaration.ItemDecl.{ItemDecl}
 use Rattle.cat_tree.specs.declared.name.Name.{Name}
 use Rattle.cat_tree.specs.declared.name.CaseName.{CaseName}
 use Rattle.cat_tree.specs.declared.name.CaseName.TheVariants as case
 use Rattle.cat_scope.specs.declared.expr.Expr.{Expr}
 use Rattle.cat_scope.specs.declared.expr.Expr.TheVariants as leaf
-use Rattle.cat_scope.specs.Names.{Names, is_plain, is_function}
+use Rattle.cat_scope.specs.Names.{Names, scope_items, is_plain, is_function}
 use Rattle.cat_names.specs.declared.fault.Fault.TheVariants.{NameUnknown, TypeMismatch}
 use Rattle.cat_names.specs.declared.typed.Typed.{Typed}
 use Rattle.cat_names.specs.declared.typed.Local.{Local}
 use Rattle.cat_names.specs.Found.{Found, faulty, and_then, or_fault, where_true}
 use Rattle.cat_names.specs.Types.{structure_of, enumeration_of}
-use Rattle.cat_names.specs.Lookup.{first_named, number, innermost, item_named, scope_called, type_named, type_names}
+use Rattle.cat_names.specs.Lookup.{innermost, item_named, scope_named, scope_called, type_named, type_names, case_named}
 use Rattle.cat_names.specs.Lookup.{cases_named}
+
+-- what names stand for in the scope of that number
+abbrev pub names_in_scope : Decls → ℕ → Names
+names_in_scope ds scope = record { decls = ds; items = scope_items ds scope }
 
 -- an expression with its type; that this is not the type wanted stands at the first token
 abbrev pub typed : Pos → Expr → Ty → Typed
@@ -36,7 +40,7 @@ bound_or_item ns w None = item_found w.pos (item_named w.text ns.items)
 
 -- what a name stands for as a value: the innermost bound name, or else an item
 abbrev pub name_found : Names → Name → List Local → Found Typed
-name_found ns w locals = bound_or_item ns w (innermost w.text 0 locals)
+name_found ns w locals = bound_or_item ns w (innermost w.text locals)
 
 -- an item that is called: a function
 abbrev pub called_item : Pos → Option (ℕ × ItemDecl) → Found (ℕ × ItemDecl)
@@ -50,7 +54,7 @@ unbound_function ns w None = called_item w.pos (item_named w.text ns.items)
 
 -- what a name stands for where it is called
 abbrev pub function_found : Names → Name → List Local → Found (ℕ × ItemDecl)
-function_found ns w locals = unbound_function ns w (innermost w.text 0 locals)
+function_found ns w locals = unbound_function ns w (innermost w.text locals)
 
 -- a called scope in front of `.`: its first token, its item and its scope
 pub record Called : Type 0 where
@@ -76,7 +80,7 @@ unbound_scope ns t None = as_called t.pos (item_named t.text ns.items)
 -- the called scope that the base of `.` is, where it is a name alone
 abbrev pub called_scope : Names → Option Name → List Local → Option Called
 called_scope ns None locals = None
-called_scope ns (Some t) locals = unbound_scope ns t (innermost t.text 0 locals)
+called_scope ns (Some t) locals = unbound_scope ns t (innermost t.text locals)
 
 -- ---- names of types and cases
 
@@ -85,19 +89,14 @@ abbrev pub only_case : Pos → List (ℕ × ℕ) → Found (ℕ × ℕ)
 only_case p (k ∷ []) = Ok k
 only_case p _ = faulty (NameUnknown p)
 
--- the number of the case of that name, with that of its enumeration
-abbrev pub case_among : List ℕ → ℕ → Option Enumeration → Option (ℕ × ℕ)
-case_among c n None = None
-case_among c n (Some e) = number (λ k. (n, k)) (first_named (λ k. k.name) c 0 e.cases)
-
 -- a case of a type: of an enumeration, since a structure has none
 abbrev pub case_of_type : Names → Name → Ty → Found (ℕ × ℕ)
 case_of_type ns c t = and_then (or_fault (NameUnknown c.pos) (enumeration_of t)) (λ n.
-    or_fault (NameUnknown c.pos) (case_among c.text n (slice_get ns.decls.enumerations n)))
+    or_fault (NameUnknown c.pos) (option_and_then (λ e. case_named c.text (n, e)) (slice_get ns.decls.enumerations n)))
 
 -- the case that is named: its enumeration and its number in it
 abbrev pub case_found : Names → CaseName → Found (ℕ × ℕ)
-case_found ns (case.Bare c) = only_case c.pos (cases_named c.text 0 ns.decls.enumerations)
+case_found ns (case.Bare c) = only_case c.pos (cases_named c.text ns.decls.enumerations)
 case_found ns (case.Qualified u c) =
     and_then (or_fault (NameUnknown u.pos) (type_named (type_names ns.decls) u.text)) (case_of_type ns c)
 
@@ -113,4 +112,5 @@ structure_found ns u = and_then (or_fault (NameUnknown u.pos) (type_named (type_
 
 -- the number of the scope that is named
 abbrev pub scope_found : Names → Name → Found ℕ
-scope_found ns u = or_fault (NameUnknown u.pos) (number (λ n. n) (first_named (λ s. s.name) u.text 0 ns.decls.scopes))
+scope_found ns u =
+    or_fault (NameUnknown u.pos) (option_map (λ s. s.0) (scope_named u.text ns.decls.scopes))

@@ -22,7 +22,7 @@ use Rattle.cat_scope.specs.Literals.{literal_type, literal_fits}
 use Rattle.cat_names.specs.declared.fault.Fault.TheVariants.{TypeMismatch}
 use Rattle.cat_names.specs.declared.typed.Typed.{Typed}
 use Rattle.cat_names.specs.Found.{Found, and_then, or_fault, where_true}
-use Rattle.cat_names.specs.Types.{same, fits, element_of, flat_of, whole}
+use Rattle.cat_names.specs.Types.{same, is_as_expected, element_of, flat_of, whole}
 use Rattle.cat_names.specs.Rows.{operator_for, prefix_for, sum_for}
 use Rattle.cat_names.specs.Naming.{typed}
 
@@ -31,8 +31,9 @@ abbrev pub operated : Pos → Pos → Expr → Ty → Typed
 operated first p e t = record { first = first; operator = p; expr = e; ty = t }
 
 -- an expression, where it has the expected type
-abbrev pub fitting : Option Ty → Found Typed → Found Typed
-fitting expected found = and_then found (λ x. where_true (fits expected x.ty) (TypeMismatch x.operator) (Ok x))
+abbrev pub as_expected : Option Ty → Found Typed → Found Typed
+as_expected expected found =
+    and_then found (λ x. where_true (is_as_expected expected x.ty) (TypeMismatch x.operator) (Ok x))
 
 -- so many years, months or days
 abbrev pub span_written : ℤ → TimeUnit → SpanOf

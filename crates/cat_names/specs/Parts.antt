@@ -1,6 +1,5 @@
 -- What the lists of parts of a form are: elements, arguments, fields and arms.
-use Rattle.std.specs.Prelude.{ℕ, nat_eq, nat_le, List, [], ◌∷◌, ◌++◌, length, Option, Some, None}
-use Rattle.std.specs.Prelude.{Ok}
+use Rattle.std.specs.Prelude.{ℕ, nat_eq, nat_le, List, [], ◌∷◌, ◌++◌, length, Option, Some, None, Ok}
 use Rattle.std.specs.Option.{is_some}
 use Rattle.cat_pos.specs.declared.pos.Pos.{Pos}
 use Rattle.cat_value.specs.declared.ty.Ty.{Ty}
@@ -31,17 +30,17 @@ Meaning = List Local → Option Ty → Found Typed
 -- ---- elements and arguments
 
 -- some expressions, of each of which the same type is expected
-abbrev pub all_of : {A : Type 0} → (A → Meaning) → List A → List Local → Ty → Found (List Expr)
-all_of means [] locals t = Ok []
-all_of means (e ∷ es) locals t =
-    both (means e locals (Some t)) (all_of means es locals t) (λ x xs. Ok (x.expr ∷ xs))
+abbrev pub all_of_type : {A : Type 0} → (A → Meaning) → List A → List Local → Ty → Found (List Expr)
+all_of_type means [] locals t = Ok []
+all_of_type means (e ∷ es) locals t =
+    both (means e locals (Some t)) (all_of_type means es locals t) (λ x xs. Ok (x.expr ∷ xs))
 
 -- elements: of the first is expected what is expected of all, and of each later one the type of the first
 abbrev pub elements_of : {A : Type 0} → (A → Meaning) → Pos → List A → List Local → Option Ty → Found (List Expr × Ty)
 elements_of means p [] locals None = faulty (TypeMismatch p)
 elements_of means p [] locals (Some t) = Ok ([], t)
 elements_of means p (e ∷ es) locals expected =
-    and_then (means e locals expected) (λ x. and_then (all_of means es locals x.ty) (λ xs. Ok (x.expr ∷ xs, x.ty)))
+    and_then (means e locals expected) (λ x. and_then (all_of_type means es locals x.ty) (λ xs. Ok (x.expr ∷ xs, x.ty)))
 
 -- a list, of no more elements than lists may have
 abbrev pub list_of : Names → Pos → List Expr × Ty → Found Typed

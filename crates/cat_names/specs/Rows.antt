@@ -14,27 +14,21 @@ use Rattle.cat_scope.specs.declared.operators.SumKind.{SumKind}
 use Rattle.cat_scope.specs.declared.operators.SumKind.TheVariants as sum
 use Rattle.cat_names.specs.declared.typed.Flat.{Flat}
 use Rattle.cat_names.specs.declared.typed.Flat.TheVariants as flat
-use Rattle.cat_names.specs.Types.{flat_of}
+use Rattle.cat_names.specs.Types.{same, flat_of, whole}
 
--- two flat types are one
+-- whether two flat types are one
 abbrev pub same_flat : Flat → Flat → Bool
-same_flat flat.Boolean flat.Boolean = true
-same_flat flat.Integer flat.Integer = true
-same_flat flat.Decimal flat.Decimal = true
-same_flat flat.Money flat.Money = true
-same_flat flat.Date flat.Date = true
-same_flat flat.Duration flat.Duration = true
-same_flat _ _ = false
+same_flat a b = same (whole a) (whole b)
 
 -- all but truth values have an order
 abbrev pub is_ordered : Flat → Bool
 is_ordered flat.Boolean = false
 is_ordered _ = true
 
--- a comparison, which gives a truth value, where its operands may be compared
-abbrev pub compared : BinaryOp → Bool → Option (BinaryOp × Flat)
-compared o true = Some (o, flat.Boolean)
-compared o false = None
+-- a comparing, which gives a truth value, where its operands may be compared
+abbrev pub comparing : BinaryOp → Bool → Option (BinaryOp × Flat)
+comparing o true = Some (o, flat.Boolean)
+comparing o false = None
 
 -- the row of a written operator for operands of these types, and the type that it gives
 abbrev pub chosen : Operator → Flat → Flat → Option (BinaryOp × Flat)
@@ -62,12 +56,12 @@ chosen operator.Divide flat.Money flat.Decimal = Some (binary.DivideMoneyByDecim
 chosen operator.Divide flat.Money flat.Integer = Some (binary.DivideMoneyByInteger, flat.Money)
 chosen operator.Divide flat.Money flat.Money = Some (binary.DivideMoney, flat.Decimal)
 chosen operator.Xor flat.Boolean flat.Boolean = Some (binary.Xor, flat.Boolean)
-chosen operator.Less a b = compared binary.Less (is_ordered a && same_flat a b)
-chosen operator.LessEqual a b = compared binary.AtMost (is_ordered a && same_flat a b)
-chosen operator.Greater a b = compared binary.Greater (is_ordered a && same_flat a b)
-chosen operator.GreaterEqual a b = compared binary.AtLeast (is_ordered a && same_flat a b)
-chosen operator.Equal a b = compared binary.Equal (same_flat a b)
-chosen operator.NotEqual a b = compared binary.Unequal (same_flat a b)
+chosen operator.Less a b = comparing binary.Less (is_ordered a && same_flat a b)
+chosen operator.LessEqual a b = comparing binary.AtMost (is_ordered a && same_flat a b)
+chosen operator.Greater a b = comparing binary.Greater (is_ordered a && same_flat a b)
+chosen operator.GreaterEqual a b = comparing binary.AtLeast (is_ordered a && same_flat a b)
+chosen operator.Equal a b = comparing binary.Equal (same_flat a b)
+chosen operator.NotEqual a b = comparing binary.Unequal (same_flat a b)
 chosen _ _ _ = None
 
 -- the row of a written prefix for an operand of this type, and the type that it gives
@@ -90,12 +84,12 @@ converted prefix.GetDay flat.Date = Some (unary.DayOfDate, flat.Integer)
 converted _ _ = None
 
 -- what a sum of this type adds up
-abbrev pub summed : Flat → Option SumKind
-summed flat.Integer = Some sum.Integers
-summed flat.Decimal = Some sum.Decimals
-summed flat.Money = Some sum.Money
-summed flat.Duration = Some sum.Durations
-summed _ = None
+abbrev pub sum_kind : Flat → Option SumKind
+sum_kind flat.Integer = Some sum.Integers
+sum_kind flat.Decimal = Some sum.Decimals
+sum_kind flat.Money = Some sum.Money
+sum_kind flat.Duration = Some sum.Durations
+sum_kind _ = None
 
 -- the same where the types may be any
 abbrev pub of_flat : {A : Type 0} → (Flat → Option A) → Option Flat → Option A
@@ -112,4 +106,4 @@ prefix_for o t = of_flat (converted o) (flat_of t)
 
 -- what is added up in a sum of any type
 abbrev pub sum_for : Ty → Option SumKind
-sum_for t = of_flat summed (flat_of t)
+sum_for t = of_flat sum_kind (flat_of t)

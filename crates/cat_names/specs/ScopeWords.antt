@@ -1,5 +1,5 @@
 -- Where an expression calls scopes: one line a form.
-use Rattle.std.specs.Prelude.{◌≡◌, ℕ, List, [], ◌∷◌, ◌++◌, Option, Some, None, if◌then◌else◌}
+use Rattle.std.specs.Prelude.{flat_map, ◌≡◌, ℕ, List, [], ◌∷◌, ◌++◌, Option, Some, None}
 use Rattle.cat_value.specs.declared.declaration.Scope.{Scope}
 use Rattle.cat_value.specs.declared.decls.Decls.{Decls}
 use Rattle.cat_scope.specs.Names.{AllHave, IsOneOf}
@@ -11,14 +11,12 @@ use Rattle.cat_tree.specs.declared.program.Use.{Use}
 use Rattle.cat_tree.specs.declared.program.Use.TheVariants as uses
 use Rattle.cat_tree.specs.declared.program.Item.{Item}
 use Rattle.cat_tree.specs.declared.program.Item.TheVariants as item
-use Rattle.cat_names.specs.Found.{of_all}
-use Rattle.cat_names.specs.Lookup.{first_named}
-use Rattle.cat_names.specs.Lines.{is_block_of}
+use Rattle.cat_names.specs.Lookup.{scope_named}
+use Rattle.cat_names.specs.Lines.{items_about}
 
 -- the words of scopes in the parts of an expression, from the left
 abbrev pub all_words : List (List Name) → List Name
-all_words [] = []
-all_words (ws ∷ more) = ws ++ all_words more
+all_words parts = flat_map (λ words. words) parts
 
 -- an expression, where each part tells its own
 abbrev pub words_of : Node-F (List Name) (List Name) (List Name) → List Name
@@ -57,18 +55,21 @@ use_words (uses.Rule l p t c f) = condition_words c
 use_words (uses.Assertion p e) = scope_words e
 use_words (uses.DateRound p up) = []
 
--- those of the blocks of a scope
-abbrev pub words_in : Decls → ℕ → Item → List Name
-words_in ds scope (item.Block b) =
-    if is_block_of ds scope b then condition_words b.condition ++ of_all use_words b.uses else []
-words_in ds scope _ = []
+-- those of a block
+abbrev pub item_words : Item → List Name
+item_words (item.Block b) = condition_words b.condition ++ flat_map use_words b.uses
+item_words _ = []
+
+-- those of the blocks of the scope of that number
+abbrev pub words_in : Decls → ℕ → List Item → List Name
+words_in ds scope items = flat_map item_words (items_about ds scope items)
 
 -- one of these words names the scope of that number
 pub record IsWordOf (ds : Decls) (words : List Name) (scope : ℕ) : Type 0 where
   pub word : Name
   pub there : IsOneOf word words
   pub found : ℕ × Scope
-  pub found_is : first_named (λ s. s.name) word.text 0 ds.scopes ≡ Some found
+  pub found_is : scope_named word.text ds.scopes ≡ Some found
   pub number : found.0 ≡ scope
 
 -- each of some scopes is named by one of these words

@@ -1,26 +1,22 @@
 -- What holds of what an expression means: the words of the laws.
-use Rattle.std.specs.Prelude.{ℕ, IsTrue, List, Option, Some, None, Ok, Err}
+use Rattle.std.specs.Prelude.{IsTrue, List, Option, Some, None, Ok, Err}
 use Rattle.std.specs.Option.{is_some}
 use Rattle.cat_value.specs.declared.ty.Ty.{Ty}
 use Rattle.cat_value.specs.declared.decls.Decls.{Decls}
 use Rattle.cat_value.specs.Typing.{is_type}
-use Rattle.cat_scope.specs.Names.{Names, AllHave, scope_items}
+use Rattle.cat_scope.specs.Names.{Names, AllHave}
 use Rattle.cat_scope.specs.HasType.{HasType}
 use Rattle.cat_scope.specs.Expected.{lists_placed}
 use Rattle.cat_names.specs.declared.typed.Typed.{Typed}
 use Rattle.cat_names.specs.declared.typed.Local.{Local}
 use Rattle.cat_names.specs.Found.{Found}
-use Rattle.cat_names.specs.Types.{fits}
+use Rattle.cat_names.specs.Types.{is_as_expected}
 use Rattle.cat_names.specs.Lookup.{types_of}
 
 -- what holds of an answer, where there is one
 abbrev pub OnFound : {A : Type 0} → (A → Type 0) → Found A → Type 0
 OnFound P (Ok a) = P a
 OnFound P (Err faults) = Unit {0}
-
--- what names stand for in the scope of that number
-abbrev pub names_at : Decls → ℕ → Names
-names_at ds scope = record { decls = ds; items = scope_items ds scope }
 
 -- bound names have declared types
 abbrev pub AreDeclared : Decls → List Local → Type 0
@@ -40,4 +36,4 @@ pub record HasItsType (ns : Names) (locals : List Local) (expected : Option Ty) 
 -- and that type is the expected one
 pub record IsTyped (ns : Names) (locals : List Local) (expected : Option Ty) (x : Typed) : Type 0 where
   pub has : HasItsType ns locals expected x
-  pub fit : IsTrue (fits expected x.ty)
+  pub fit : IsTrue (is_as_expected expected x.ty)

@@ -26,9 +26,9 @@ unfoldable pub same : Ty → Ty → Bool
 same = fold-Ty (Ty → Bool) (λ level t. same_level level (out-Ty t))
 
 -- whether a type is the expected one, where one is expected
-abbrev pub fits : Option Ty → Ty → Bool
-fits None t = true
-fits (Some u) t = same u t
+abbrev pub is_as_expected : Option Ty → Ty → Bool
+is_as_expected None t = true
+is_as_expected (Some u) t = same u t
 
 -- the type of the elements, at one level
 abbrev pub element_in : Ty-F Ty → Option Ty

@@ -1,6 +1,6 @@
 -- Names of an expression that name nothing whatever the types are, and fields that are given twice: one line a form.
-use Rattle.std.specs.Prelude.{ℕ, bytes_eq, ◌||◌, Bool, true, false, List, [], ◌∷◌, ◌++◌, map, Option, Some, None}
-use Rattle.std.specs.Prelude.{if◌then◌else◌}
+use Rattle.std.specs.Prelude.{ℕ, bytes_eq, not, ◌||◌, Bool, false, List, [], ◌∷◌, ◌++◌, map, flat_map, Option, Some}
+use Rattle.std.specs.Prelude.{None}
 use Rattle.std.specs.Option.{is_some}
 use Rattle.cat_tree.specs.declared.name.Name.{Name}
 use Rattle.cat_tree.specs.declared.name.CaseName.{CaseName}
@@ -13,7 +13,8 @@ use Rattle.cat_tree.specs.declared.expression.Node.TheOpen.{Node-F, Arm-F, Field
 use Rattle.cat_tree.specs.declared.expression.Node.TheFolds.{fold-Node}
 use Rattle.cat_names.specs.declared.fault.Fault.{Fault}
 use Rattle.cat_names.specs.declared.fault.Fault.TheVariants.{NameTwice, NameUnknown}
-use Rattle.cat_names.specs.Found.{of_all}
+use Rattle.cat_names.specs.Lists.{clashing}
+use Rattle.cat_names.specs.Found.{fault_if}
 use Rattle.cat_names.specs.Lookup.{TypeNames, type_named, type_written}
 
 -- whether a text is one of some names
@@ -21,15 +22,13 @@ abbrev pub is_name : List ℕ → List (List ℕ) → Bool
 is_name w [] = false
 is_name w (name ∷ names) = bytes_eq name w || is_name w names
 
--- each name that equals one in front of it, where these names stand in front of all
-abbrev pub twice : List (List ℕ) → List Name → List Fault
-twice front [] = []
-twice front (w ∷ ws) = (if is_name w.text front then NameTwice w.pos ∷ [] else []) ++ twice (w.text ∷ front) ws
+-- the later of two equal names
+abbrev pub twice : List Name → List Fault
+twice names = map (λ w. NameTwice w.pos) (clashing (λ w other. bytes_eq other.text w.text) names)
 
 -- a name, where it names nothing
 abbrev pub unless : Bool → Name → List Fault
-unless true w = []
-unless false w = NameUnknown w.pos ∷ []
+unless known w = fault_if (not known) (NameUnknown w.pos)
 
 -- what names may name: types, scopes, and the items of the scope at hand
 pub record Known : Type 0 where
@@ -51,7 +50,7 @@ of_type known u = unless (is_some (type_named known.types u.text)) u
 
 -- a type that is written
 abbrev pub in_type : Known → written.Type → List Fault
-in_type known t = if is_some (type_written known.types t) then [] else NameUnknown t.pos ∷ []
+in_type known t = fault_if (not (is_some (type_written known.types t))) (NameUnknown t.pos)
 
 -- the enumeration of a case, where it is named
 abbrev pub in_case : Known → CaseName → List Fault
@@ -75,11 +74,11 @@ bound_by pattern.Anything = []
 
 -- fields: each name once
 abbrev pub in_fields : List (Name × Unknown) → Unknown
-in_fields fields bound = twice [] (map (λ f. f.0) fields) ++ of_all (λ f. f.1 bound) fields
+in_fields fields bound = twice (map (λ f. f.0) fields) ++ flat_map (λ f. f.1 bound) fields
 
 -- arms, each with the name that it binds
 abbrev pub in_arms : Known → List (Pattern × Unknown) → Unknown
-in_arms known arms bound = of_all (λ a. in_pattern known a.0 ++ a.1 (bound ++ bound_by a.0)) arms
+in_arms known arms bound = flat_map (λ a. in_pattern known a.0 ++ a.1 (bound ++ bound_by a.0)) arms
 
 -- an expression, where each part tells its faults
 abbrev pub unknown_of : Known → Node-F Unknown (Pattern × Unknown) (Name × Unknown) → Unknown
@@ -91,10 +90,10 @@ unknown_of known (Node-F.Field e w) bound = e bound
 unknown_of known (Node-F.Prefixed o p e) bound = e bound
 unknown_of known (Node-F.Sum p t l) bound = in_type known t ++ l bound
 unknown_of known (Node-F.Content c e) bound = in_case known c ++ e bound
-unknown_of known (Node-F.Call w args) bound = in_reach known w bound ++ of_all (λ e. e bound) args
+unknown_of known (Node-F.Call w args) bound = in_reach known w bound ++ flat_map (λ e. e bound) args
 unknown_of known (Node-F.Binary o p a b) bound = a bound ++ b bound
 unknown_of known (Node-F.Test e p c) bound = e bound ++ in_case known c
-unknown_of known (Node-F.List p es) bound = of_all (λ e. e bound) es
+unknown_of known (Node-F.List p es) bound = flat_map (λ e. e bound) es
 unknown_of known (Node-F.Structure u fields) bound = of_type known u ++ in_fields fields bound
 unknown_of known (Node-F.ScopeCall p u fields w) bound =
     unless (is_name u.text known.scopes) u ++ in_fields fields bound
