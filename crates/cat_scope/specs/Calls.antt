@@ -1,5 +1,6 @@
 -- What functions and scopes give that a scope calls, where each calls only those that stand before it.
 use Rattle.std.specs.Prelude.{ℕ, ◌+◌, nat_eq, ◌&&◌, false, List, [], ◌∷◌, Option, Some, None, slice_get, if◌then◌else◌}
+use Rattle.cat_date.specs.declared.rounding.Rounding.{Rounding}
 use Rattle.cat_value.specs.declared.value.Value.{Value}
 use Rattle.cat_value.specs.declared.value.Value.TheVariants.{Boolean}
 use Rattle.cat_value.specs.declared.declaration.ItemDecl.{ItemDecl}
@@ -7,12 +8,13 @@ use Rattle.cat_value.specs.declared.declaration.Scope.{Scope}
 use Rattle.cat_value.specs.Inputs.{must_be_given}
 use Rattle.cat_value.specs.declared.outcome.Target.{Target}
 use Rattle.cat_scope.specs.declared.stop.Stop.TheVariants.{Stuck}
-use Rattle.cat_scope.specs.declared.defs.Body.{Body}
+use Rattle.cat_scope.specs.declared.expr.Expr.{Expr}
+use Rattle.cat_scope.specs.declared.defs.Assertion.{Assertion}
 use Rattle.cat_scope.specs.Replies.{known}
 use Rattle.cat_scope.specs.Runs.{Run, stops, giving}
 use Rattle.cat_scope.specs.Names.{items_in}
 use Rattle.cat_scope.specs.Judging.{Judged}
-use Rattle.cat_scope.specs.Targets.{judge_target, absent, value_or}
+use Rattle.cat_scope.specs.Targets.{absent, value_or}
 use Rattle.cat_scope.specs.Eval.{Env, eval}
 use Rattle.cat_scope.specs.Composed.{value_given}
 
@@ -25,11 +27,16 @@ Items = List (Option Value)
 abbrev pub Runs : Type 0
 Runs = ℕ → Items → Run (List Value)
 
--- a scope of a program: its number, its items, its body, and the items and runs of the scopes that it calls
+-- a scope that is run: its number, its items and their order, what becomes of a day that its month lacks, what its
+-- targets come to where expressions come to something, its assertions, and the items and runs of the scopes that it
+-- calls
 pub record Scoped : Type 0 where
   pub scope : ℕ
   pub items : List ItemDecl
-  pub body : Body
+  pub order : List ℕ
+  pub rounding : Rounding
+  pub judging : (Expr → Run Value) → Target → Judged Value
+  pub assertions : List Assertion
   pub scopes : List Scope
   pub runs : Runs
 
@@ -65,12 +72,12 @@ scope_call scoped called fields output =
 -- what the expressions of a scope stand in
 abbrev pub env_of : Scoped → (ℕ → List Value → Run Value) → Items → Env
 env_of scoped calls values =
-    record { rounding = scoped.body.rounding; items = values; call = calls; scope_call = scope_call scoped }
+    record { rounding = scoped.rounding; items = values; call = calls; scope_call = scope_call scoped }
 
 -- a target, where functions give what `calls` tells and the items have these values
 abbrev pub judging_of : Scoped → (ℕ → List Value → Run Value) → Items → List Value → Target → Judged Value
 judging_of scoped calls values arguments target =
-    judge_target (λ e. eval (env_of scoped calls values) e arguments) target scoped.body.defs
+    scoped.judging (λ e. eval (env_of scoped calls values) e arguments) target
 
 -- the value of a variable or a function, by its judging: where it is Empty, false for a condition, else NoValue at its
 -- name

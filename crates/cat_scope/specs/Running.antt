@@ -14,6 +14,7 @@ use Rattle.cat_scope.specs.declared.programs.Program.{Program}
 use Rattle.cat_scope.specs.Replies.{known, with_front}
 use Rattle.cat_scope.specs.Runs.{Run, plain, gives, stops, and_then, choose}
 use Rattle.cat_scope.specs.Names.{is_output}
+use Rattle.cat_scope.specs.Targets.{judge_target}
 use Rattle.cat_scope.specs.Eval.{eval}
 use Rattle.cat_scope.specs.Calls.{Items, Runs, Scoped, env_of, call}
 use Rattle.cat_scope.specs.ItemValues.{item_value}
@@ -69,25 +70,40 @@ backwards ns = moved [] ns
 -- a scope on an input
 abbrev pub run_scoped : Scoped → Items → Run (List Value)
 run_scoped scoped input =
-    and_then (run_items scoped input [] (no_values scoped.items) scoped.body.order)
+    and_then (run_items scoped input [] (no_values scoped.items) scoped.order)
     (λ values. asserted
-    (λ e. eval (env_of scoped (call scoped values (backwards scoped.body.order)) values) e [])
-    scoped.body.assertions (plain (outputs_of scoped.items values)))
+    (λ e. eval (env_of scoped (call scoped values (backwards scoped.order)) values) e [])
+    scoped.assertions (plain (outputs_of scoped.items values)))
+
+-- a scope of a program, by its body: its targets are judged by their definitions
+abbrev pub scoped_of : ℕ → List ItemDecl → Body → List Scope → Runs → Scoped
+scoped_of n items body scopes runs = record {
+  scope = n;
+  items = items;
+  order = body.order;
+  rounding = body.rounding;
+  judging = λ value target. judge_target value target body.defs;
+  assertions = body.assertions;
+  scopes = scopes;
+  runs = runs;
+}
 
 -- the scope of that number, where it is declared and has a body
 abbrev pub run_scope : List Scope → Runs → ℕ → Option Scope → Option Body → Items → Run (List Value)
 run_scope scopes runs n None body input = stops Stuck
 run_scope scopes runs n (Some scope) None input = stops Stuck
-run_scope scopes runs n (Some scope) (Some body) input =
-    run_scoped (record { scope = n; items = scope.items; body = body; scopes = scopes; runs = runs }) input
+run_scope scopes runs n (Some scope) (Some body) input = run_scoped (scoped_of n scope.items body scopes runs) input
 
--- a scope among those that stand before, the last of them first: each runs only those that stand before itself
+-- a scope among those that stand before, the last of them first, where each gives what `each` tells: it runs only those
+-- that stand before itself
+abbrev pub run_by : (ℕ → Runs → Items → Run (List Value)) → List ℕ → Runs
+run_by each [] scope input = stops Stuck
+run_by each (n ∷ before) scope input =
+    if nat_eq n scope then each n (run_by each before) input else run_by each before scope input
+
+-- the same by the bodies of a program
 abbrev pub run : List Scope → List Body → List ℕ → Runs
-run scopes bodies [] scope input = stops Stuck
-run scopes bodies (n ∷ before) scope input =
-    if nat_eq n scope
-    then run_scope scopes (run scopes bodies before) n (slice_get scopes n) (slice_get bodies n) input
-    else run scopes bodies before scope input
+run scopes bodies = run_by (λ n runs. run_scope scopes runs n (slice_get scopes n) (slice_get bodies n))
 
 -- what a scope gives for an input, by the declarations of the scopes, their bodies and their order
 unfoldable pub run_of : List Scope → List Body → List ℕ → Runs

@@ -102,17 +102,17 @@ module _ (scoped : Scoped) (before : List ℕ) (values : Items) (item : ℕ) (de
 
 -- each variable without a given value is logged in a run that ends in a value
 pub each_logged : (scoped : Scoped) (input : Items) (outputs : List Value) (index item : ℕ) (decl : ItemDecl)
-    → (run_scoped scoped input).end ≡ Ok outputs → slice_get scoped.body.order index ≡ Some item
+    → (run_scoped scoped input).end ≡ Ok outputs → slice_get scoped.order index ≡ Some item
     → slice_get scoped.items item ≡ Some decl → IsTrue (is_plain decl) → entry_at item input ≡ None
     → IsLogged (variable scoped item) (run_scoped scoped input).log
 each_logged scoped input outputs index item decl ends at is plain_one none =
     let here = each_judged scoped input outputs index item ends at in
-    let rest = drop_at scoped.body.order index item at in
-    let before = backwards (take index scoped.body.order) in
-    logged_front (variable scoped item) (run_items scoped input [] (no_values scoped.items) scoped.body.order) _
+    let rest = drop_at scoped.order index item at in
+    let before = backwards (take index scoped.order) in
+    logged_front (variable scoped item) (run_items scoped input [] (no_values scoped.items) scoped.order) _
     (subst (λ (run : Run Items). IsLogged (variable scoped item) run.log) (sym (run_through scoped input index))
     (logged_back (variable scoped item) (values_at scoped input index)
-    (λ values. run_items scoped input before values (drop index scoped.body.order)) here.values here.reached
+    (λ values. run_items scoped input before values (drop index scoped.order)) here.values here.reached
     (subst (λ (left : List ℕ). IsLogged (variable scoped item) (run_items scoped input before here.values left).log)
     (sym rest.1)
     (logged_front (variable scoped item) (item_value scoped before here.values item (entry_at item input)

@@ -42,13 +42,13 @@ one_fails test (k ∷ ks) none = fails_at test k ks (test k) refl (one_fails tes
       let found : Failing test ks = rest (sym (ap (λ b. b && list_all test ks) here) ∙ none) in
       (found.0, omega (arith, found.1), found.2)
 
-within_step : (deps : List (List ℕ)) (k n m : ℕ) → is_within deps (suc k) n ≡ true → DependsOn deps n m
+pub within_step : (deps : List (List ℕ)) (k n m : ℕ) → is_within deps (suc k) n ≡ true → DependsOn deps n m
     → is_within deps k m ≡ true
 unfolding is_within
 within_step deps k n m within step =
     one_passes (is_within deps k) (dependencies_of deps n) m within (grind (arith, nat_tests, step))
 
-within_none : (deps : List (List ℕ)) (n : ℕ) → is_within deps zero n ≡ true → ⊥
+pub within_none : (deps : List (List ℕ)) (n : ℕ) → is_within deps zero n ≡ true → ⊥
 unfolding is_within
 within_none deps n within = true≢false (sym within)
 

@@ -7,14 +7,17 @@ use Rattle.std.proofs.lemmas.Bool.Decides.{nat_tests}
 use Rattle.std.proofs.lemmas.List.{take-append-drop}
 use Rattle.cat_order.specs.Order.{dependencies_of, times, IsOrder}
 use Rattle.cat_value.specs.declared.value.Value.{Value}
+use Rattle.cat_value.specs.declared.declaration.ItemDecl.{ItemDecl}
+use Rattle.cat_value.specs.declared.declaration.Scope.{Scope}
 use Rattle.cat_scope.specs.declared.defs.Def.{Def}
+use Rattle.cat_scope.specs.declared.defs.Body.{Body}
 use Rattle.cat_scope.specs.Runs.{Run}
 use Rattle.cat_scope.specs.Names.{AllHave, is_in}
 use Rattle.cat_scope.specs.Eval.{Env, eval}
 use Rattle.cat_scope.specs.Orders.{in_def, in_defs_of, item_dependencies}
 use Rattle.cat_scope.specs.Mentions.{items_named, scopes_named}
-use Rattle.cat_scope.specs.Calls.{Items, Scoped, variable, env_of, judging_of, variable_value, call}
-use Rattle.cat_scope.specs.Running.{moved, backwards}
+use Rattle.cat_scope.specs.Calls.{Items, Runs, Scoped, variable, env_of, judging_of, variable_value, call}
+use Rattle.cat_scope.specs.Running.{moved, backwards, scoped_of}
 use Rattle.cat_sound.specs.Rests.{TellSame, CallSame}
 use Rattle.cat_sound.proofs.FormTypes.{same_number, not_true}
 use Rattle.cat_sound.proofs.TargetTypes.{all_more}
@@ -134,9 +137,12 @@ ahead_front bound needs before (n ∷ front) back h = (h.0, h.1, ahead_front bou
 
 -- ---- functions of a scope
 
-module _ (scoped : Scoped) where
+module _ (number : ℕ) (items : List ItemDecl) (body : Body) (scopes : List Scope) (runs : Runs) where
+  abbrev scoped : Scoped
+  scoped = scoped_of number items body scopes runs
+
   abbrev needs : ℕ → List ℕ
-  needs item = in_defs_of items_named item scoped.body.defs
+  needs item = in_defs_of items_named item body.defs
 
   abbrev Calls : Type 0
   Calls = ℕ → List Value → Run Value
@@ -160,10 +166,10 @@ module _ (scoped : Scoped) where
       (variable scoped item)
   judged_as calls others values more arguments item tell =
       target_same (λ e. eval (env_of scoped calls values) e arguments)
-      (λ e. eval (env_of scoped others more) e arguments) (variable scoped item) scoped.body.defs
+      (λ e. eval (env_of scoped others more) e arguments) (variable scoped item) body.defs
       (defs_agree (env_of scoped calls values)
-      (env_of scoped others more) arguments item None scoped.scope refl scoped.body.defs tell
-      (no_scopes (env_of scoped calls values) (env_of scoped others more) (λ k fields output. refl) scoped.body.defs))
+      (env_of scoped others more) arguments item None scoped.scope refl body.defs tell
+      (no_scopes (env_of scoped calls values) (env_of scoped others more) (λ k fields output. refl) body.defs))
 
   -- one more item behind changes nothing
   one_behind : (values : Items) (m : ℕ) (before : List ℕ) (f : ℕ) (arguments : List Value) → is_in m before ≡ false
@@ -250,51 +256,51 @@ module _ (scoped : Scoped) where
 
   -- ---- by the order
 
-  module _ (order : IsOrder (item_dependencies scoped.items scoped.body.defs) scoped.body.order) where
+  module _ (order : IsOrder (item_dependencies scoped.items body.defs) scoped.order) where
     abbrev bound : ℕ
     bound = length scoped.items
 
-    ahead : Ahead bound needs [] scoped.body.order
+    ahead : Ahead bound needs [] scoped.order
     ahead =
-        ahead_as (length (item_dependencies scoped.items scoped.body.defs)) bound
-        (dependencies_of (item_dependencies scoped.items scoped.body.defs)) needs
-        (dependencies-length items_named scoped.body.defs 0 scoped.items)
+        ahead_as (length (item_dependencies scoped.items body.defs)) bound
+        (dependencies_of (item_dependencies scoped.items body.defs)) needs
+        (dependencies-length items_named body.defs 0 scoped.items)
         (λ n below before all. subst (λ ns. AllIn before ns)
-        (dependencies-at items_named scoped.body.defs 0 scoped.items n
-        (omega (arith, below, dependencies-length items_named scoped.body.defs 0 scoped.items)) ∙ ap
+        (dependencies-at items_named body.defs 0 scoped.items n
+        (omega (arith, below, dependencies-length items_named body.defs 0 scoped.items)) ∙ ap
         (λ (m : ℕ). needs m) (zero_plus n)) all)
-        [] scoped.body.order
-        (ahead-of_IsOrder (item_dependencies scoped.items scoped.body.defs) scoped.body.order order)
+        [] scoped.order
+        (ahead-of_IsOrder (item_dependencies scoped.items body.defs) scoped.order order)
       where
         zero_plus : (n : ℕ) → 0 + n ≡ n
         zero_plus n = omega arith
 
-    whole_behind : Behind bound needs (backwards scoped.body.order)
-    whole_behind = moved-behind bound needs [] scoped.body.order tt ahead
+    whole_behind : Behind bound needs (backwards scoped.order)
+    whole_behind = moved-behind bound needs [] scoped.order tt ahead
 
-    differ : Distinct (backwards scoped.body.order)
+    differ : Distinct (backwards scoped.order)
     differ =
-        distinct_order (item_dependencies scoped.items scoped.body.defs) scoped.body.order bound needs order
-        (dependencies-length items_named scoped.body.defs 0 scoped.items) whole_behind
+        distinct_order (item_dependencies scoped.items body.defs) scoped.order bound needs order
+        (dependencies-length items_named body.defs 0 scoped.items) whole_behind
 
     pub by_rule : (values : Items) (f : ℕ) (arguments : List Value) → f < bound → call scoped values
-        (backwards scoped.body.order) f arguments ≡ Judging values (backwards scoped.body.order) f arguments
+        (backwards scoped.order) f arguments ≡ Judging values (backwards scoped.order) f arguments
     by_rule values f arguments below =
-        judged_by_rule bound values (backwards scoped.body.order) whole_behind differ f
-        (moved_new f [] scoped.body.order (all-of_IsOrder
-        (item_dependencies scoped.items scoped.body.defs) scoped.body.order order f
-        (omega (arith, below, dependencies-length items_named scoped.body.defs 0 scoped.items)))) arguments
+        judged_by_rule bound values (backwards scoped.order) whole_behind differ f
+        (moved_new f [] scoped.order (all-of_IsOrder
+        (item_dependencies scoped.items body.defs) scoped.order order f
+        (omega (arith, below, dependencies-length items_named body.defs 0 scoped.items)))) arguments
 
     pub nothing_behind : (values more : Items) (index f : ℕ) (arguments : List Value)
-        → IsTrue (is_in f (take index scoped.body.order))
-        → ((k : ℕ) → IsTrue (is_in k (take index scoped.body.order)) → slice_get values k ≡ slice_get more k)
-        → call scoped values (backwards (take index scoped.body.order)) f arguments ≡ call scoped more
-        (backwards scoped.body.order) f arguments
+        → IsTrue (is_in f (take index scoped.order))
+        → ((k : ℕ) → IsTrue (is_in k (take index scoped.order)) → slice_get values k ≡ slice_get more k)
+        → call scoped values (backwards (take index scoped.order)) f arguments ≡ call scoped more
+        (backwards scoped.order) f arguments
     nothing_behind values more index f arguments there same =
-        let front = take index scoped.body.order in
-        let back = drop index scoped.body.order in
-        let parts : scoped.body.order ≡ front ++ back = sym (take-append-drop index scoped.body.order) in
-        let whole : backwards scoped.body.order ≡ moved (backwards front) back = ap backwards parts
+        let front = take index scoped.order in
+        let back = drop index scoped.order in
+        let parts : scoped.order ≡ front ++ back = sym (take-append-drop index scoped.order) in
+        let whole : backwards scoped.order ≡ moved (backwards front) back = ap backwards parts
         ∙ moved_append [] front back in
         values_behind bound values more (backwards front)
         (moved-behind bound needs [] front tt (ahead_front bound needs [] front back

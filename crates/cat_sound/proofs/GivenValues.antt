@@ -29,7 +29,7 @@ use Rattle.cat_scope.specs.Mentions.{items_named}
 use Rattle.cat_scope.specs.WellFormed.{IsWellFormed}
 use Rattle.cat_scope.specs.Calls.{Items, Runs, Scoped, env_of, call}
 use Rattle.cat_scope.specs.Running.{entry_at, with_entry, run_items, no_values, asserted, outputs_of, moved, backwards}
-use Rattle.cat_scope.specs.Running.{run_scoped, run_scope, run, run_of}
+use Rattle.cat_scope.specs.Running.{run_scoped, run_scope, run, run_of, scoped_of}
 use Rattle.cat_scope.specs.ItemValues.{item_value}
 use Rattle.cat_scope.specs.Outcomes.{outcome_of}
 use Rattle.cat_sound.specs.Given.{values_at, HasValue, output_number}
@@ -90,13 +90,13 @@ run-append scoped input before values (item ∷ front) back =
 
 -- the run of the whole order goes through the values with which each item is evaluated
 pub run_through : (scoped : Scoped) (input : Items) (index : ℕ)
-    → run_items scoped input [] (no_values scoped.items) scoped.body.order
+    → run_items scoped input [] (no_values scoped.items) scoped.order
     ≡ and_then (values_at scoped input index)
-    (λ values. run_items scoped input (backwards (take index scoped.body.order)) values
-    (drop index scoped.body.order))
+    (λ values. run_items scoped input (backwards (take index scoped.order)) values
+    (drop index scoped.order))
 run_through scoped input index =
-    ap (run_items scoped input [] (no_values scoped.items)) (sym (take-append-drop index scoped.body.order))
-    ∙ run-append scoped input [] (no_values scoped.items) (take index scoped.body.order) (drop index scoped.body.order)
+    ap (run_items scoped input [] (no_values scoped.items)) (sym (take-append-drop index scoped.order))
+    ∙ run-append scoped input [] (no_values scoped.items) (take index scoped.order) (drop index scoped.order)
 
 module _ (scoped : Scoped) (input : Items) (item : ℕ) (v : Value) (given : entry_at item input ≡ Some v) where
   -- the item has its value once it is evaluated
@@ -154,10 +154,10 @@ module _ (scoped : Scoped) (input : Items) (item : ℕ) (v : Value) (given : ent
 
 -- behind its index in the order a given item has its value in the environment of each item
 pub given_stands : (scoped : Scoped) (input : Items) (index item : ℕ) (v : Value) → item < length scoped.items
-    → IsTrue (is_in item (take index scoped.body.order)) → entry_at item input ≡ Some v
+    → IsTrue (is_in item (take index scoped.order)) → entry_at item input ≡ Some v
     → IfGives (values_at scoped input index) (HasValue item v)
 given_stands scoped input index item v below there given =
-    reached scoped input item v given (take index scoped.body.order) [] (no_values scoped.items) there
+    reached scoped input item v given (take index scoped.order) [] (no_values scoped.items) there
     (omega (arith, no_values-length scoped.items, below))
 
 -- ---- the outputs
@@ -199,15 +199,15 @@ output_has (item ∷ items) (w ∷ values) (suc k) decl v is out has =
     by false rest = rest
 
 run_has : (scoped : Scoped) (input : Items) (item : ℕ) (decl : ItemDecl) (v : Value) → slice_get scoped.items item
-    ≡ Some decl → IsTrue (is_output decl.kind) → IsTrue (is_in item scoped.body.order) → entry_at item input ≡ Some v
+    ≡ Some decl → IsTrue (is_output decl.kind) → IsTrue (is_in item scoped.order) → entry_at item input ≡ Some v
     → IfGives (run_scoped scoped input) (IsOutputOf (output_number scoped.items item) v)
 run_has scoped input item decl v is out there given =
     if_then (HasValue item v) (IsOutputOf (output_number scoped.items item) v)
-    (run_items scoped input [] (no_values scoped.items) scoped.body.order) _
-    (reached scoped input item v given scoped.body.order [] (no_values scoped.items) there
+    (run_items scoped input [] (no_values scoped.items) scoped.order) _
+    (reached scoped input item v given scoped.order [] (no_values scoped.items) there
     (omega (arith, no_values-length scoped.items, slice_get_within scoped.items item decl is)))
     (λ values has. if_asserted (IsOutputOf (output_number scoped.items item) v)
-    (λ e. eval (env_of scoped (call scoped values (backwards scoped.body.order)) values) e []) scoped.body.assertions
+    (λ e. eval (env_of scoped (call scoped values (backwards scoped.order)) values) e []) scoped.assertions
     (plain (outputs_of scoped.items values))
     (output_has scoped.items values item decl v is out has))
 
@@ -220,8 +220,7 @@ scope_has : (ds : Decls) (runs : Runs) (s : ℕ) (o : Option Scope) (b : Option 
 scope_has ds runs s None b input item decl v is out there given = absurd (cc)
 scope_has ds runs s (Some scope) None input item decl v is out there given = tt
 scope_has ds runs s (Some scope) (Some body) input item decl v is out there given =
-    run_has (record { scope = s; items = scope.items; body = body; scopes = ds.scopes; runs = runs }) input item decl v
-    is out (there body refl) given
+    run_has (scoped_of s scope.items body ds.scopes runs) input item decl v is out (there body refl) given
 
 runs_have : (ds : Decls) (bodies : List Body) (before : List ℕ) (s : ℕ) (input : Items) (item : ℕ) (decl : ItemDecl)
     (v : Value) → slice_get (scope_items ds s) item ≡ Some decl → IsTrue (is_output decl.kind)

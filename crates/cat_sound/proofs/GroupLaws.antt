@@ -189,6 +189,36 @@ are_parted defs = record {
   first = first_from defs [] defs (λ key none. refl);
 }
 
+-- a group is an exception to what its first definition is one to
+abbrev pub IsAsItsFirst : Group → Type 0
+IsAsItsFirst g = (d : Numbered) × (first_of g ≡ Some d) × (g.except ≡ d.1.except)
+
+excepts_if : (b : Bool) (all : List Numbered) (seen : List Key) (d : Numbered) (ds : List Numbered)
+    → is_among (key_of d) seen ≡ b → Stand all seen (d ∷ ds)
+    → (Stand all seen ds → AllHave IsAsItsFirst (groups_from all seen ds))
+    → (Stand all (key_of d ∷ seen) ds → AllHave IsAsItsFirst (groups_from all (key_of d ∷ seen) ds))
+    → AllHave IsAsItsFirst
+    (if b then groups_from all seen ds else group_at all d ∷ groups_from all (key_of d ∷ seen) ds)
+excepts_if true all seen d ds is stand old new =
+    old (λ key none. stand key none ∙ passed_by key d ds (other_key key seen d (same_key key (key_of d)) refl is none))
+excepts_if false all seen d ds is stand old new = (
+  (d, first_is all seen d ds stand is, refl),
+  new
+      (λ key none.
+      let parts = not_among key (key_of d) seen (same_key key (key_of d)) refl none in
+      stand key parts.1 ∙ passed_by key d ds parts.0),
+)
+
+excepts_from : (all : List Numbered) (seen : List Key) (ds : List Numbered) → Stand all seen ds
+    → AllHave IsAsItsFirst (groups_from all seen ds)
+excepts_from all seen [] stand = tt
+excepts_from all seen (d ∷ ds) stand =
+    excepts_if (is_among (key_of d) seen) all seen d ds refl stand (excepts_from all seen ds)
+    (excepts_from all (key_of d ∷ seen) ds)
+
+pub are_as_their_first : (defs : List Numbered) → AllHave IsAsItsFirst (groups_of defs)
+are_as_their_first defs = excepts_from defs [] defs (λ key none. refl)
+
 -- what a forest of a program keeps, its groups keep
 above_is : (pairs : List (ℕ × ℕ)) (n : ℕ) (gs : List Group)
     → above (forest_groups pairs n gs) ≡ exceptions_from pairs n gs

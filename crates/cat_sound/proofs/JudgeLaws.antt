@@ -67,7 +67,7 @@ exceptions_at pairs n zero (h ∷ gs) within = ap (excepting pairs) (omega arith
 exceptions_at pairs n (suc g) (h ∷ gs) within = exceptions_at pairs (n + 1) g gs (omega arith)
     ∙ ap (excepting pairs) (omega arith)
 
-leads_on : (groups : List Group) (g h : ℕ) → g < length groups → IsOneOf h (excepting (excepts groups) g)
+pub leads_on : (groups : List Group) (g h : ℕ) → g < length groups → IsOneOf h (excepting (excepts groups) g)
     → DependsOn (exceptions_of groups) g h × (h < length groups)
 leads_on groups g h within among =
     let listed : 0 < times (excepting (excepts groups) g) h = times_of_one (excepting (excepts groups) g) h among in

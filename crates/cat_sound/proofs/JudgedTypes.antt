@@ -1,54 +1,43 @@
--- Definitions, targets and functions of a scope end in values of their types, where the scopes that it calls do.
-use Rattle.std.proofs.Common.{◌≡◌, ℕ, Bool, true, false, ◌||◌, not, IsTrue, List, [], ◌∷◌, ◌++◌, length, Option}
-use Rattle.std.proofs.Common.{Some, None, slice_get, refl, sym, ap, ◌∙◌, subst, true≢false, if◌then◌else◌}
+-- Variables and functions of a scope end in values of their types, where the scopes that it calls do.
+use Rattle.std.proofs.Common.{◌≡◌, ℕ, Bool, true, false, ◌||◌, not, IsTrue, List, [], ◌∷◌, length}
+use Rattle.std.proofs.Common.{Some, None, slice_get, refl, sym, ap, ◌∙◌, subst, if◌then◌else◌}
 use Rattle.std.specs.Prelude.{nat_eq}
 use Rattle.cat_value.specs.declared.ty.Ty.{Ty}
-use Rattle.cat_value.specs.declared.ty.Ty.TheVariants as flat_ty
 use Rattle.cat_value.specs.declared.value.Value.{Value}
 use Rattle.cat_value.specs.declared.decls.Decls.{Decls}
 use Rattle.cat_value.specs.declared.declaration.Kind.{Kind}
 use Rattle.cat_value.specs.declared.declaration.Kind.TheVariants as kind
 use Rattle.cat_value.specs.declared.declaration.ItemDecl.{ItemDecl}
 use Rattle.cat_value.specs.Inputs.{must_be_given}
-use Rattle.cat_scope.specs.declared.expr.Expr.{Expr}
-use Rattle.cat_scope.specs.declared.defs.Def.{Def}
 use Rattle.cat_scope.specs.Replies.{on_one, known, evaluated}
 use Rattle.cat_scope.specs.Runs.{Run, plain}
 use Rattle.cat_scope.specs.Names.{Names, AllHave, is_in, is_called}
 use Rattle.cat_scope.specs.Names.{has_none, is_function}
 use Rattle.cat_scope.specs.Naming.{IsFunction}
 use Rattle.cat_scope.specs.Judging.{Judged}
-use Rattle.cat_scope.specs.Targets.{same_inner, same_target, condition_of, absent, value_or}
-use Rattle.cat_scope.specs.Eval.{Env, eval}
+use Rattle.cat_scope.specs.Targets.{absent, value_or}
+use Rattle.cat_scope.specs.Eval.{Env}
 use Rattle.cat_scope.specs.Composed.{part}
-use Rattle.cat_scope.specs.Orders.{in_condition, in_def, in_defs_of}
-use Rattle.cat_scope.specs.Mentions.{items_named, scopes_named}
-use Rattle.cat_scope.specs.WellFormed.{is_internal, ConditionTyped, DefTyped}
-use Rattle.cat_scope.specs.Naming.{is_defined, IsTargetAt}
+use Rattle.cat_scope.specs.WellFormed.{is_internal}
+use Rattle.cat_scope.specs.Naming.{is_defined}
 use Rattle.cat_scope.specs.Calls.{Items, Scoped, variable, env_of, judging_of}
 use Rattle.cat_scope.specs.Calls.{variable_value}
 use Rattle.cat_scope.specs.Calls.{call}
-use Rattle.cat_sound.specs.Endings.{Allowed, Ended, EndsIn, IsOf, AreOf, IsReady, IsCallable}
-use Rattle.cat_sound.specs.Endings.{IsEnvOf}
-use Rattle.cat_scope.specs.HasType.{HasType}
-use Rattle.cat_sound.specs.Settled.{IsHeldOf, MayStand, InCondition, StandsIn, empty_variable}
+use Rattle.cat_sound.specs.Endings.{Allowed, EndsIn, IsOf, AreOf, IsReady}
+use Rattle.cat_sound.specs.Settled.{IsHeldOf, empty_variable}
 use Rattle.cat_sound.specs.Settled.{may_be_empty}
-use Rattle.cat_sound.proofs.Results.{both, and_both, result_as, all_front, all_back}
-use Rattle.cat_sound.proofs.Endings.{ends_as, ends_then, all_stop, loosened}
+use Rattle.cat_sound.proofs.Results.{both, and_both, result_as}
+use Rattle.cat_sound.proofs.Endings.{ends_as, ends_then}
 use Rattle.cat_sound.proofs.FormTypes.{same_number, not_true}
-use Rattle.cat_sound.proofs.TargetTypes.{DefEnds, all_more, all_at, judge_target-ends, absent-ends, value_or-ends}
+use Rattle.cat_sound.proofs.TargetTypes.{all_more, all_at, absent-ends, value_or-ends}
 use Rattle.cat_sound.proofs.OrderFacts.{in_at, behind_first, Behind}
-use Rattle.cat_value.specs.declared.outcome.Target.{Target}
-use Rattle.cat_sound.proofs.InputTypes.{Placed, condition_type, Callee, scope_call-ends}
-use Rattle.cat_sound.proofs.ScopeParts.{DoneAt, IsSound, inner_is, names_of}
-use Rattle.cat_sound.proofs.ScopeParts.{stands_end, unique_target}
+use Rattle.cat_sound.proofs.InputTypes.{Placed, condition_type}
+use Rattle.cat_sound.proofs.ScopeParts.{DoneAt, IsSound, JudgingEnds, names_of}
 
-module _ (allowed : Allowed) (ds : Decls) (scoped : Scoped) (sound : IsSound allowed ds scoped) where
+module _ (allowed : Allowed) (ds : Decls) (scoped : Scoped) (needs : ℕ → List ℕ)
+    (sound : IsSound allowed ds scoped needs) where
   abbrev ns : Names
   ns = names_of ds scoped
-
-  abbrev needs : ℕ → List ℕ
-  needs item = in_defs_of items_named item scoped.body.defs
 
   abbrev Calls : Type 0
   Calls = ℕ → List Value → Run Value
@@ -56,144 +45,7 @@ module _ (allowed : Allowed) (ds : Decls) (scoped : Scoped) (sound : IsSound all
   abbrev env : Calls → Items → Env
   env calls values = env_of scoped calls values
 
-  pub callable : (calls : Calls) (values : Items) (ss : List ℕ) → AllHave (Callee allowed ds scoped.runs) ss
-      → AllHave (IsCallable allowed ns (env calls values)) ss
-  callable calls values ss h =
-      all_more (Callee allowed ds scoped.runs) (IsCallable allowed ns (env calls values)) ss h
-      (λ s callee. scope_call-ends allowed ns scoped calls values s sound.scopes callee)
-
   module _ (calls : Calls) (values : Items) (arguments : List Value) where
-    abbrev of : Expr → Run Value
-    of e = eval (env calls values) e arguments
-
-    condition-stands : (o : Option Expr) → AllHave (IsReady allowed ns (env calls values)) (in_condition items_named o)
-        → AllHave (Callee allowed ds scoped.runs) (in_condition scopes_named o)
-        → InCondition (IsEnvOf allowed ns (env calls values)) o
-    condition-stands None ready callees = tt
-    condition-stands (Some e) ready callees =
-        record { items = ready; scopes = callable calls values (scopes_named e) callees }
-
-    def-stands : (item : ℕ) (inner : Option ℕ) (ps : List Ty) (t : Ty) → IsTargetAt ns item inner ps t → (d : Def)
-        → DefTyped ns scoped.scope d
-        → IsTrue (same_target d.target (record { scope = scoped.scope; item = item; inner = inner })) → AllHave
-        (IsReady allowed ns (env calls values)) (in_def items_named d)
-        → AllHave (Callee allowed ds scoped.runs) (in_def scopes_named d) → StandsIn allowed ns
-        (env calls values) ps t d
-    def-stands item inner ps t target d typed same ready callees =
-        let two = both (nat_eq d.target.item item) (same_inner d.target.inner inner) same in
-        let own : IsTargetAt ns item inner typed.params typed.ty =
-        subst (λ o. IsTargetAt ns item o typed.params typed.ty) (inner_is d.target.inner inner two.1)
-        (subst (λ (i : ℕ). IsTargetAt ns i d.target.inner typed.params typed.ty)
-        (same_number d.target.item item two.0) typed.target) in
-        let unique = unique_target ns item inner typed.params ps typed.ty t own target in
-        record {
-          condition = subst (λ us. ConditionTyped ns us d.condition) unique.0 typed.condition;
-          consequence =
-              subst (λ u. HasType ns ps d.consequence u) unique.1
-              (subst (λ us. HasType ns us d.consequence typed.ty) unique.0 typed.consequence);
-          condition_env = condition-stands d.condition
-              (all_front (IsReady allowed ns (env calls values)) (in_condition items_named d.condition)
-              (items_named d.consequence) ready)
-              (all_front (Callee allowed ds scoped.runs) (in_condition scopes_named d.condition)
-              (scopes_named d.consequence) callees);
-          consequence_env = record {
-            items =
-                all_back (IsReady allowed ns (env calls values)) (in_condition items_named d.condition)
-                (items_named d.consequence) ready;
-            scopes =
-                callable calls values (scopes_named d.consequence)
-                (all_back (Callee allowed ds scoped.runs) (in_condition scopes_named d.condition)
-                (scopes_named d.consequence) callees);
-          };
-        }
-
-    defs-stand : (item : ℕ) (inner : Option ℕ) (ps : List Ty) (t : Ty) → IsTargetAt ns item inner ps t
-        → (defs : List Def) → AllHave (DefTyped ns scoped.scope) defs
-        → AllHave (λ d. AllHave (Callee allowed ds scoped.runs) (in_def scopes_named d)) defs → AllHave
-        (IsReady allowed ns (env calls values)) (in_defs_of items_named item defs)
-        → AllHave (λ d. IsTrue (same_target d.target (record { scope = scoped.scope; item = item; inner = inner }))
-        → StandsIn allowed ns (env calls values) ps t d) defs
-    defs-stand item inner ps t target [] typed callees ready = tt
-    defs-stand item inner ps t target (d ∷ defs) typed callees ready =
-        by (nat_eq d.target.item item) refl ready (defs-stand item inner ps t target defs typed.1 callees.1)
-      where
-        by : (b : Bool) → nat_eq d.target.item item ≡ b
-            → AllHave (IsReady allowed ns (env calls values))
-            (if b then in_def items_named d ++ in_defs_of items_named item defs else in_defs_of items_named item defs)
-            → (AllHave (IsReady allowed ns (env calls values)) (in_defs_of items_named item defs)
-            → AllHave (λ d. IsTrue (same_target d.target (record { scope = scoped.scope; item = item; inner = inner }))
-            → StandsIn allowed ns (env calls values) ps t d) defs)
-            → AllHave (λ d. IsTrue (same_target d.target (record { scope = scoped.scope; item = item; inner = inner }))
-            → StandsIn allowed ns (env calls values) ps t d) (d ∷ defs)
-        by true e h rest = (
-          (λ same. def-stands item inner ps t target d typed.0 same
-              (all_front (IsReady allowed ns (env calls values)) (in_def items_named d)
-              (in_defs_of items_named item defs) h) callees.0),
-          rest (all_back (IsReady allowed ns (env calls values)) (in_def items_named d)
-              (in_defs_of items_named item defs) h),
-        )
-        by false e h rest = (
-          (λ same. absurd (true≢false
-              (sym (both (nat_eq d.target.item item) (same_inner d.target.inner inner) same).0 ∙ e))),
-          rest h,
-        )
-
-    -- a target of the scope
-    abbrev target_of : ℕ → Option ℕ → Target
-    target_of item inner = record { scope = scoped.scope; item = item; inner = inner }
-
-    -- a judging ends as its target may, and what is decided may stand in a log
-    pub record JudgingEnds (item : ℕ) (inner : Option ℕ) (ps : List Ty) (t : Ty) : Type 0 where
-      pub ends : EndsIn allowed (IsHeldOf (allowed.may_stop (target_of item inner) || may_be_empty ns item inner) ds t)
-          (judging_of scoped calls values arguments (target_of item inner))
-      pub stands : ps ≡ []
-          → MayStand allowed (target_of item inner)
-          (judging_of scoped calls values arguments (target_of item inner)).end
-
-    pub judging_of-ends : (item : ℕ) (inner : Option ℕ) (ps : List Ty) (t : Ty) → IsTargetAt ns item inner ps t
-        → AreOf ds ps arguments → AllHave (IsReady allowed ns (env calls values)) (needs item)
-        → JudgingEnds item inner ps t
-    judging_of-ends item inner ps t target are ready =
-        let settled = sound.settled (env calls values) arguments item inner ps t target are stand in
-        record { ends = by (allowed.may_stop (target_of item inner)) refl settled.ends; stands = settled.stands }
-      where
-        stand : AllHave (λ d. IsTrue (same_target d.target (target_of item inner))
-            → StandsIn allowed ns (env calls values) ps t d) scoped.body.defs
-        stand = defs-stand item inner ps t target scoped.body.defs sound.defs sound.def_calls ready
-
-        -- where every target may stop
-        free : EndsIn (all_stop allowed) (IsHeldOf true ds t)
-            (judging_of scoped calls values arguments (target_of item inner))
-        free =
-            judge_target-ends (all_stop allowed) ds t of (target_of item inner) refl scoped.body.defs
-            (all_more (λ d. IsTrue (same_target d.target (target_of item inner)) → StandsIn allowed ns
-            (env calls values) ps t d)
-            (λ d. IsTrue (same_target d.target (target_of item inner)) → DefEnds (all_stop allowed) ds t of d)
-            scoped.body.defs stand
-            (λ d stands same. def-loosened d
-            (stands_end allowed ns (env calls values) ps t arguments are d (stands same))))
-          where
-            def-loosened : (d : Def) → DefEnds allowed ds t of d → DefEnds (all_stop allowed) ds t of d
-            def-loosened d h = record {
-              condition = loosened allowed (IsOf ds flat_ty.Boolean) (condition_of of d.condition) h.condition;
-              consequence = loosened allowed (IsOf ds t) (of d.consequence) h.consequence;
-            }
-
-        by : (b : Bool) → allowed.may_stop (target_of item inner) ≡ b
-            → (allowed.may_stop (target_of item inner) ≡ false → Ended allowed
-            (IsHeldOf (may_be_empty ns item inner) ds t)
-            (judging_of scoped calls values arguments (target_of item inner)).end)
-            → EndsIn allowed (IsHeldOf (b || may_be_empty ns item inner) ds t)
-            (judging_of scoped calls values arguments (target_of item inner))
-        by true e settled =
-            judge_target-ends allowed ds t of (target_of item inner) e scoped.body.defs
-            (all_more (λ d. IsTrue (same_target d.target (target_of item inner)) → StandsIn allowed ns
-            (env calls values) ps t d)
-            (λ d. IsTrue (same_target d.target (target_of item inner)) → DefEnds allowed ds t of d) scoped.body.defs
-            stand
-            (λ d stands same. stands_end allowed ns (env calls values) ps t arguments are d (stands same)))
-        by false e settled = (free.0, settled e)
-
     -- the value of a variable or a function, by a judging that ends so
     pub variable_value-ends : (item : ℕ) (decl : ItemDecl) (judging : Judged Value)
         → slice_get scoped.items item ≡ Some decl
@@ -217,9 +69,9 @@ module _ (allowed : Allowed) (ds : Decls) (scoped : Scoped) (sound : IsSound all
     pub own-judging_of : (item : ℕ) (decl : ItemDecl) → slice_get scoped.items item ≡ Some decl
         → IsTrue (is_defined decl)
         → AreOf ds decl.params arguments → AllHave (IsReady allowed ns (env calls values)) (needs item)
-        → JudgingEnds item None decl.params decl.ty
+        → JudgingEnds allowed ds scoped calls values arguments item None decl.params decl.ty
     own-judging_of item decl is defined are ready =
-        judging_of-ends item None decl.params decl.ty
+        sound.judged calls values arguments item None decl.params decl.ty
         (record { decl = decl; decl_is = is; defined = defined; params_are = refl; ty_is = refl }) are ready
 
   -- ---- functions

@@ -29,9 +29,9 @@ use Rattle.cat_scope.specs.Eval.{Env, eval}
 use Rattle.cat_scope.specs.Orders.{item_dependencies}
 use Rattle.cat_order.specs.Order.{dependencies_of}
 use Rattle.cat_scope.specs.Names.{AllHave}
-use Rattle.cat_scope.specs.Calls.{Items, Scoped, call, variable_value, judging_of, variable}
+use Rattle.cat_scope.specs.Calls.{Items, Runs, Scoped, call, variable_value, judging_of, variable}
 use Rattle.cat_scope.specs.ItemValues.{item_value}
-use Rattle.cat_scope.specs.Running.{backwards, run_of, run_scoped}
+use Rattle.cat_scope.specs.Running.{backwards, run_of, run_scoped, scoped_of}
 use Rattle.cat_scope.proofs.Exported.{equations, namings}
 use Rattle.cat_scope.proofs.Samples.{at, n_in, x_out, n, whole, def, body, body_calling, x, scope_of}
 use Rattle.cat_scope.proofs.Samples.{calling_bodies}
@@ -52,7 +52,7 @@ use Rattle.cat_sound.proofs.WellFormedCalls.{decls, x_in_t, t_items, t_defs, s_i
 -- a scope that calls none
 abbrev pub alone : List ItemDecl → List Def → List ℕ → Scoped
 alone items defs order =
-    record { scope = 0; items = items; body = body defs order; scopes = []; runs = λ scope input. stops Stuck }
+    scoped_of 0 items (body defs order) [] (λ scope input. stops Stuck)
 
 abbrev pub function : Bool → ItemDecl
 function condition =
@@ -117,29 +117,42 @@ x_is_judged = each_judged fives three_given (flat.Integer (pos 5) ∷ []) 1 1 it
 
 -- ---- a function that another item calls
 
-abbrev calling : Scoped
-calling = alone (n_in ∷ sample.truth_item kind.Output (at 4 10) ∷ function false ∷ [])
-    (of_function 2 (expr.Binary (at 8 40) Greater (at 8 42) (leaf.Local (at 8 40) 0) (whole 0))
-    ∷ def x None except.No None (expr.Call (at 9 23) 2 (n ∷ [])) (at 9 3) ∷ [])
-    (0 ∷ 2 ∷ 1 ∷ [])
+abbrev calling_items : List ItemDecl
+calling_items = n_in ∷ sample.truth_item kind.Output (at 4 10) ∷ function false ∷ []
 
-in_order : IsOrder (item_dependencies calling.items calling.body.defs) calling.body.order
+abbrev calling_defs : List Def
+calling_defs =
+    of_function 2 (expr.Binary (at 8 40) Greater (at 8 42) (leaf.Local (at 8 40) 0) (whole 0))
+    ∷ def x None except.No None (expr.Call (at 9 23) 2 (n ∷ [])) (at 9 3) ∷ []
+
+abbrev nothing_runs : Runs
+nothing_runs scope input = stops Stuck
+
+abbrev calling_body : Body
+calling_body = body calling_defs (0 ∷ 2 ∷ 1 ∷ [])
+
+abbrev calling : Scoped
+calling = scoped_of 0 calling_items calling_body [] nothing_runs
+
+in_order : IsOrder (item_dependencies calling_items calling_defs) (0 ∷ 2 ∷ 1 ∷ [])
 unfolding order_of is_ready
 in_order =
-    ordered (item_dependencies calling.items calling.body.defs) ([] ∷ (2 ∷ 0 ∷ []) ∷ [] ∷ []) (0 ∷ 2 ∷ 1 ∷ [])
+    ordered (item_dependencies calling_items calling_defs) ([] ∷ (2 ∷ 0 ∷ []) ∷ [] ∷ []) (0 ∷ 2 ∷ 1 ∷ [])
     (search (rules, namings)) refl
 
 judged_by_the_rule : (values : Items) (arguments : List Value)
-    → call calling values (backwards calling.body.order) 2 arguments
+    → call calling values (backwards calling.order) 2 arguments
     ≡ variable_value (variable calling 2) (Some (function false))
-    (judging_of calling (call calling values (backwards calling.body.order)) values arguments (variable calling 2))
-judged_by_the_rule values arguments = by_rule calling in_order values 2 arguments (omega arith)
+    (judging_of calling (call calling values (backwards calling.order)) values arguments (variable calling 2))
+judged_by_the_rule values arguments =
+    by_rule 0 calling_items calling_body [] nothing_runs in_order values 2 arguments (omega arith)
 
 nothing_behind_it : (values : Items) (arguments : List Value)
     → call calling values (backwards (0 ∷ 2 ∷ [])) 2 arguments ≡ call calling values
-    (backwards calling.body.order) 2 arguments
+    (backwards calling.order) 2 arguments
 nothing_behind_it values arguments =
-    nothing_behind calling in_order values values 2 2 arguments refl (λ item there. refl)
+    nothing_behind 0 calling_items calling_body [] nothing_runs in_order values values 2 2 arguments refl
+    (λ item there. refl)
 
 -- ---- S calls T: the targets of T don't stop, and those of S may
 

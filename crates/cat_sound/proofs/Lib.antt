@@ -26,6 +26,8 @@ pub mod OrderFacts
 pub mod InputTypes
 pub mod ScopeParts
 pub mod JudgedTypes
+pub mod DefsJudged
+pub mod PlacedRuns
 pub mod ScopeTypes
 pub mod RunEntries
 pub mod ScopeRuns

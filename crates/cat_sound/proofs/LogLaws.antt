@@ -16,16 +16,17 @@ use Rattle.cat_value.specs.declared.declaration.ItemDecl.{ItemDecl}
 use Rattle.cat_value.specs.declared.declaration.Scope.{Scope}
 use Rattle.cat_value.specs.declared.outcome.Target.{Target}
 use Rattle.cat_order.specs.Order.{times}
+use Rattle.cat_scope.specs.declared.expr.Expr.{Expr}
 use Rattle.cat_scope.specs.declared.defs.Body.{Body}
 use Rattle.cat_scope.specs.Runs.{Decider, Run, plain, gives, behind, and_then}
 use Rattle.cat_scope.specs.Names.{is_in, is_called, has_none, is_plain}
 use Rattle.cat_scope.specs.Judging.{Held, Judged, held_position, decided}
-use Rattle.cat_scope.specs.Targets.{absent, value_or, same_inner}
+use Rattle.cat_scope.specs.Targets.{absent, value_or, same_inner, judge_target}
 use Rattle.cat_scope.specs.WellFormed.{IsWellFormed}
-use Rattle.cat_scope.specs.Calls.{Items, Scoped, variable, judging_of, variable_value, call}
+use Rattle.cat_scope.specs.Calls.{Items, Runs, Scoped, variable, judging_of, variable_value, call}
 use Rattle.cat_scope.specs.ItemValues.{defined_value, ungiven_value, item_value}
 use Rattle.cat_scope.specs.Running.{backwards, entry_at, with_entry, no_values, run_items, run_scoped, run_scope, run}
-use Rattle.cat_scope.specs.Running.{run_of}
+use Rattle.cat_scope.specs.Running.{run_of, scoped_of}
 use Rattle.cat_scope.proofs.Exported.{append_append}
 use Rattle.cat_sound.specs.Logs.{IsMadeOf, target_in, times_logged}
 use Rattle.cat_sound.specs.Logs as logs
@@ -38,7 +39,7 @@ use Rattle.cat_sound.proofs.OrderFacts.{dependencies-length}
 use Rattle.cat_scope.specs.Mentions.{items_named}
 use Rattle.cat_sound.proofs.FunctionLaws.{Distinct, moved_append}
 use Rattle.cat_sound.proofs.ScopeLaws.{differ_of}
-use Rattle.cat_sound.proofs.LogParts.{then_logs}
+use Rattle.cat_sound.proofs.LogParts.{target_logs, then_logs}
 use Rattle.cat_sound.proofs.ScopeLogs.{open_logs, last_logs, judging_logs, scoped_logs}
 use Rattle.cat_sound.proofs.LogCounts.{Never, itself_eq, never_both, no_item, no_scope, own_item}
 use Rattle.cat_sound.proofs.LogCounts.{times_append, times_end, turned}
@@ -54,20 +55,27 @@ then_log first next a is = ap (λ r. (behind first.log r next).log) is
 
 -- ---- a log is made of what was judged
 
-module _ (scoped : Scoped) (input : Items) where
+module _ (number : ℕ) (items : List ItemDecl) (body : Body) (scopes : List Scope) (runs : Runs) (input : Items) where
+  abbrev scoped : Scoped
+  scoped = scoped_of number items body scopes runs
+
   abbrev Made : List Decider → Type 0
   Made log = IsMadeOf scoped input log
 
   together : (xs ys : List Decider) → Made xs → Made ys → Made (xs ++ ys)
   together xs ys h g = logs.joined xs ys h g
 
-  item_made : (front : List ℕ) (item : ℕ) (left : List ℕ) (values : Items) → scoped.body.order ≡ front ++ item ∷ left
+  judges : (value : Expr → Run Value) → ((e : Expr) → Made (value e).log) → (target : Target)
+      → Made (judge_target value target body.defs).log
+  judges value of target = target_logs Made logs.nothing together value of target body.defs
+
+  item_made : (front : List ℕ) (item : ℕ) (left : List ℕ) (values : Items) → scoped.order ≡ front ++ item ∷ left
       → (run_items scoped input [] (no_values scoped.items) front).end ≡ Ok values
       → (o : Option Value) → entry_at item input ≡ o
       → Made (item_value scoped (backwards front) values item o (slice_get scoped.items item)).log
   item_made front item left values in_order reached (Some v) e = logs.nothing
   item_made front item left values in_order reached None e =
-      open_logs Made logs.nothing together scoped (λ s i. logs.within s i) (backwards front) values item one
+      open_logs Made logs.nothing together scoped (λ s i. logs.within s i) judges (backwards front) values item one
       (slice_get scoped.items item)
     where
       one : (inner : Option ℕ) (found : Option (Held Value))
@@ -89,7 +97,7 @@ module _ (scoped : Scoped) (input : Items) where
             logged = refl;
           })
 
-  items_made : (left front : List ℕ) (values : Items) → scoped.body.order ≡ front ++ left
+  items_made : (left front : List ℕ) (values : Items) → scoped.order ≡ front ++ left
       → (run_items scoped input [] (no_values scoped.items) front).end ≡ Ok values
       → Made (run_items scoped input (backwards front) values left).log
   items_made [] front values in_order reached = logs.nothing
@@ -110,140 +118,145 @@ module _ (scoped : Scoped) (input : Items) where
 
   pub made_of_judgings : IsMadeOf scoped input (run_scoped scoped input).log
   made_of_judgings =
-      then_logs Made logs.nothing together (run_items scoped input [] (no_values scoped.items) scoped.body.order) _
-      (items_made scoped.body.order [] (no_values scoped.items) refl refl)
-      (λ values is. last_logs Made logs.nothing together scoped (λ s i. logs.within s i) values)
+      then_logs Made logs.nothing together (run_items scoped input [] (no_values scoped.items) scoped.order) _
+      (items_made scoped.order [] (no_values scoped.items) refl refl)
+      (λ values is. last_logs Made logs.nothing together scoped (λ s i. logs.within s i) judges values)
 
--- ---- in the run of a scope, where the scopes that it runs don't tell of its variable
+  -- ---- in the run of a scope, where the scopes that it runs don't tell of its variable
 
-module _ (scoped : Scoped) (input : Items) (item : ℕ) (decl : ItemDecl)
-    (quiet : (s : ℕ) (i : Items) → times_logged (variable scoped item) (scoped.runs s i).log ≡ 0) where
-  abbrev own : Target
-  own = variable scoped item
+  module _ (item : ℕ) (decl : ItemDecl) (quiet : (s : ℕ) (i : Items)
+      → times_logged (record { scope = number; item = item; inner = None }) (runs s i).log ≡ 0) where
+    abbrev own : Target
+    own = variable scoped item
 
-  abbrev none_of : List Decider → Type 0
-  none_of log = Never own log
+    abbrev none_of : List Decider → Type 0
+    none_of log = Never own log
 
-  module _ (before : List ℕ) (values : Items) where
-    abbrev judging : Judged Value
-    judging = judging_of scoped (call scoped values before) values [] own
+    quietly : (value : Expr → Run Value) → ((e : Expr) → none_of (value e).log) → (target : Target)
+        → none_of (judge_target value target body.defs).log
+    quietly value of target = target_logs none_of refl (never_both own) value of target body.defs
 
-    abbrev entry_of : Option (Held Value) → Run (Option (Held Value))
-    entry_of f = record { log = record { target = own; by = held_position f } ∷ []; end = Ok f }
+    module _ (before : List ℕ) (values : Items) where
+      abbrev judging : Judged Value
+      judging = judging_of scoped (call scoped values before) values [] own
 
-    one_more : (a b : ℕ) → a ≡ 0 → b ≡ 1 → a + b ≡ 1
-    one_more a b h g = omega (arith, h, g)
+      abbrev entry_of : Option (Held Value) → Run (Option (Held Value))
+      entry_of f = record { log = record { target = own; by = held_position f } ∷ []; end = Ok f }
 
-    defined_once : (ps : List Ty) → IsTrue (has_none ps) → (v : Option Value)
-        → (defined_value scoped before values item decl ps).end ≡ Ok v
-        → times_logged own (defined_value scoped before values item decl ps).log ≡ 1
-    defined_once [] none v ends =
-        let value = first_ok (variable_value own (Some decl) (decided own judging)) (λ x. gives (Some x)) v ends in
-        let found = first_ok (decided own judging)
-        (λ f. plain (value_or (absent own decl.pos decl.condition) f)) value.0 value.1 in
-        let here = first_ok judging entry_of found.0 found.1 in
-        ap (times_logged own) (then_log (variable_value own (Some decl) (decided own judging))
-        (λ x. gives (Some x)) value.0 value.1)
-        ∙ times_end own (variable_value own (Some decl) (decided own judging)).log
-        ∙ ap (times_logged own) (then_log (decided own judging)
-        (λ f. plain (value_or (absent own decl.pos decl.condition) f)) found.0 found.1)
-        ∙ times_end own (decided own judging).log
-        ∙ ap (times_logged own) (then_log judging entry_of here.0 here.1)
-        ∙ times_append own judging.log (record { target = own; by = held_position here.0 } ∷ [])
-        ∙ one_more (times_logged own judging.log)
-        (times_logged own (record { target = own; by = held_position here.0 } ∷ []))
-        (judging_logs none_of refl (never_both own) scoped quiet before values item None)
-        (own_item (nat_eq scoped.scope scoped.scope) (nat_eq item item) (itself_eq scoped.scope) (itself_eq item))
-    defined_once (t ∷ ts) none v ends = not_true none
+      one_more : (a b : ℕ) → a ≡ 0 → b ≡ 1 → a + b ≡ 1
+      one_more a b h g = omega (arith, h, g)
 
-    ungiven_once : (k : Kind) → is_called k ≡ false → IsTrue (has_none decl.params) → (v : Option Value)
-        → (ungiven_value scoped before values item decl k).end ≡ Ok v
-        → times_logged own (ungiven_value scoped before values item decl k).log ≡ 1
-    ungiven_once (kind.Called s) free none v ends = absurd (true≢false free)
-    ungiven_once kind.Input free none v ends = defined_once decl.params none v ends
-    ungiven_once kind.InputOutput free none v ends = defined_once decl.params none v ends
-    ungiven_once kind.Context free none v ends = defined_once decl.params none v ends
-    ungiven_once kind.ContextOutput free none v ends = defined_once decl.params none v ends
-    ungiven_once kind.Internal free none v ends = defined_once decl.params none v ends
-    ungiven_once kind.Output free none v ends = defined_once decl.params none v ends
+      defined_once : (ps : List Ty) → IsTrue (has_none ps) → (v : Option Value)
+          → (defined_value scoped before values item decl ps).end ≡ Ok v
+          → times_logged own (defined_value scoped before values item decl ps).log ≡ 1
+      defined_once [] none v ends =
+          let value = first_ok (variable_value own (Some decl) (decided own judging)) (λ x. gives (Some x)) v ends in
+          let found = first_ok (decided own judging)
+          (λ f. plain (value_or (absent own decl.pos decl.condition) f)) value.0 value.1 in
+          let here = first_ok judging entry_of found.0 found.1 in
+          ap (times_logged own) (then_log (variable_value own (Some decl) (decided own judging))
+          (λ x. gives (Some x)) value.0 value.1)
+          ∙ times_end own (variable_value own (Some decl) (decided own judging)).log
+          ∙ ap (times_logged own) (then_log (decided own judging)
+          (λ f. plain (value_or (absent own decl.pos decl.condition) f)) found.0 found.1)
+          ∙ times_end own (decided own judging).log
+          ∙ ap (times_logged own) (then_log judging entry_of here.0 here.1)
+          ∙ times_append own judging.log (record { target = own; by = held_position here.0 } ∷ [])
+          ∙ one_more (times_logged own judging.log)
+          (times_logged own (record { target = own; by = held_position here.0 } ∷ []))
+          (judging_logs none_of refl (never_both own) scoped quiet quietly before values item None)
+          (own_item (nat_eq scoped.scope scoped.scope) (nat_eq item item) (itself_eq scoped.scope) (itself_eq item))
+      defined_once (t ∷ ts) none v ends = not_true none
 
-    own_once : IsTrue (is_plain decl) → (o : Option Value) (d : Option ItemDecl) → o ≡ None → d ≡ Some decl
-        → (v : Option Value)
-        → (item_value scoped before values item o d).end ≡ Ok v
-        → times_logged own (item_value scoped before values item o d).log ≡ 1
-    own_once plain_one o d open_one there v ends =
-        let two = both (not (is_called decl.kind)) (has_none decl.params) plain_one in
-        let same = ap (λ x. item_value scoped before values item x d) open_one ∙ ap
-        (item_value scoped before values item None) there in
-        ap (λ (r : Run (Option Value)). times_logged own r.log) same
-        ∙ ungiven_once decl.kind (not_is (is_called decl.kind) two.0) two.1 v
-        (sym (ap (λ (r : Run (Option Value)). r.end) same) ∙ ends)
-      where
-        not_is : (b : Bool) → IsTrue (not b) → b ≡ false
-        not_is true h = not_true h
-        not_is false h = refl
+      ungiven_once : (k : Kind) → is_called k ≡ false → IsTrue (has_none decl.params) → (v : Option Value)
+          → (ungiven_value scoped before values item decl k).end ≡ Ok v
+          → times_logged own (ungiven_value scoped before values item decl k).log ≡ 1
+      ungiven_once (kind.Called s) free none v ends = absurd (true≢false free)
+      ungiven_once kind.Input free none v ends = defined_once decl.params none v ends
+      ungiven_once kind.InputOutput free none v ends = defined_once decl.params none v ends
+      ungiven_once kind.Context free none v ends = defined_once decl.params none v ends
+      ungiven_once kind.ContextOutput free none v ends = defined_once decl.params none v ends
+      ungiven_once kind.Internal free none v ends = defined_once decl.params none v ends
+      ungiven_once kind.Output free none v ends = defined_once decl.params none v ends
 
-    other_never : (k : ℕ) → nat_eq k item ≡ false → (o : Option Value) (d : Option ItemDecl)
-        → Never own (item_value scoped before values k o d).log
-    other_never k other (Some v) d = refl
-    other_never k other None d =
-        open_logs none_of refl (never_both own) scoped quiet before values k
-        (λ inner found is. no_item (nat_eq scoped.scope scoped.scope) (nat_eq k item) (same_inner inner None) other) d
+      own_once : IsTrue (is_plain decl) → (o : Option Value) (d : Option ItemDecl) → o ≡ None → d ≡ Some decl
+          → (v : Option Value)
+          → (item_value scoped before values item o d).end ≡ Ok v
+          → times_logged own (item_value scoped before values item o d).log ≡ 1
+      own_once plain_one o d open_one there v ends =
+          let two = both (not (is_called decl.kind)) (has_none decl.params) plain_one in
+          let same = ap (λ x. item_value scoped before values item x d) open_one ∙ ap
+          (item_value scoped before values item None) there in
+          ap (λ (r : Run (Option Value)). times_logged own r.log) same
+          ∙ ungiven_once decl.kind (not_is (is_called decl.kind) two.0) two.1 v
+          (sym (ap (λ (r : Run (Option Value)). r.end) same) ∙ ends)
+        where
+          not_is : (b : Bool) → IsTrue (not b) → b ≡ false
+          not_is true h = not_true h
+          not_is false h = refl
 
-  module _ (is_variable : IsTrue (is_plain decl)) (at : slice_get scoped.items item ≡ Some decl)
-      (not_given : entry_at item input ≡ None) where
-    item_times : (before : List ℕ) (values : Items) (k : ℕ) (v : Option Value) → (b : Bool) → nat_eq k item ≡ b
-        → (item_value scoped before values k (entry_at k input) (slice_get scoped.items k)).end ≡ Ok v
-        → times_logged own (item_value scoped before values k (entry_at k input) (slice_get scoped.items k)).log ≡
-        (if b then 1 else 0)
-    item_times before values k v true e ends =
-        let same = same_number k item e in
-        own_once_at before values k same ends
-      where
-        own_once_at : (before : List ℕ) (values : Items) (k : ℕ) → k ≡ item
-            → (item_value scoped before values k (entry_at k input) (slice_get scoped.items k)).end ≡ Ok v
-            → times_logged own (item_value scoped before values k (entry_at k input) (slice_get scoped.items k)).log ≡ 1
-        own_once_at before values k same ends =
-            subst (λ (x : ℕ). (item_value scoped before values x (entry_at x input)
-            (slice_get scoped.items x)).end ≡ Ok v
-            → times_logged own (item_value scoped before values x (entry_at x input) (slice_get scoped.items x)).log
-            ≡ 1) (sym same)
-            (λ g. own_once before values is_variable (entry_at item input)
-            (slice_get scoped.items item) not_given at v g) ends
-    item_times before values k v false e ends =
-        other_never before values k e (entry_at k input) (slice_get scoped.items k)
+      other_never : (k : ℕ) → nat_eq k item ≡ false → (o : Option Value) (d : Option ItemDecl)
+          → Never own (item_value scoped before values k o d).log
+      other_never k other (Some v) d = refl
+      other_never k other None d =
+          open_logs none_of refl (never_both own) scoped quiet quietly before values k
+          (λ inner found is. no_item (nat_eq scoped.scope scoped.scope) (nat_eq k item) (same_inner inner None) other) d
 
-    -- a variable is logged as often as it stands in the order
-    items_times : (left before : List ℕ) (values final : Items)
-        → (run_items scoped input before values left).end ≡ Ok final
-        → times_logged own (run_items scoped input before values left).log ≡ times left item
-    items_times [] before values final ends = refl
-    items_times (k ∷ left) before values final ends =
-        let first = item_value scoped before values k (entry_at k input) (slice_get scoped.items k) in
-        let next = λ (v : Option Value). run_items scoped input (k ∷ before) (with_entry k v values) left in
-        let here = first_ok first next final ends in
-        ap (times_logged own) (then_log first next here.0 here.1)
-        ∙ times_append own first.log (next here.0).log
-        ∙ ap (λ (n : ℕ). n + times_logged own (next here.0).log)
-        (item_times before values k here.0 (nat_eq k item) refl here.1)
-        ∙ ap (λ (n : ℕ). (if nat_eq k item then 1 else 0) + n)
-        (items_times left (k ∷ before) (with_entry k here.0 values) final here.2)
+    module _ (is_variable : IsTrue (is_plain decl)) (at : slice_get scoped.items item ≡ Some decl)
+        (not_given : entry_at item input ≡ None) where
+      item_times : (before : List ℕ) (values : Items) (k : ℕ) (v : Option Value) → (b : Bool) → nat_eq k item ≡ b
+          → (item_value scoped before values k (entry_at k input) (slice_get scoped.items k)).end ≡ Ok v
+          → times_logged own (item_value scoped before values k (entry_at k input) (slice_get scoped.items k)).log ≡
+          (if b then 1 else 0)
+      item_times before values k v true e ends =
+          let same = same_number k item e in
+          own_once_at before values k same ends
+        where
+          own_once_at : (before : List ℕ) (values : Items) (k : ℕ) → k ≡ item
+              → (item_value scoped before values k (entry_at k input) (slice_get scoped.items k)).end ≡ Ok v
+              → times_logged own (item_value scoped before values k (entry_at k input) (slice_get scoped.items k)).log
+              ≡ 1
+          own_once_at before values k same ends =
+              subst (λ (x : ℕ). (item_value scoped before values x (entry_at x input)
+              (slice_get scoped.items x)).end ≡ Ok v
+              → times_logged own (item_value scoped before values x (entry_at x input) (slice_get scoped.items x)).log
+              ≡ 1) (sym same)
+              (λ g. own_once before values is_variable (entry_at item input)
+              (slice_get scoped.items item) not_given at v g) ends
+      item_times before values k v false e ends =
+          other_never before values k e (entry_at k input) (slice_get scoped.items k)
 
-    pub scoped_times : (outputs : List Value) → (run_scoped scoped input).end ≡ Ok outputs
-        → times_logged own (run_scoped scoped input).log ≡ times scoped.body.order item
-    scoped_times outputs ends =
-        let whole = first_ok (run_items scoped input [] (no_values scoped.items) scoped.body.order) _ outputs ends in
-        ap (times_logged own) (then_log (run_items scoped input []
-        (no_values scoped.items) scoped.body.order) _ whole.0 whole.1)
-        ∙ times_append own (run_items scoped input [] (no_values scoped.items) scoped.body.order).log _
-        ∙ ap (λ (n : ℕ). times_logged own (run_items scoped input []
-        (no_values scoped.items) scoped.body.order).log + n)
-        (last_logs none_of refl (never_both own) scoped quiet whole.0)
-        ∙ plus_zero (times_logged own (run_items scoped input [] (no_values scoped.items) scoped.body.order).log)
-        ∙ items_times scoped.body.order [] (no_values scoped.items) whole.0 whole.1
-      where
-        plus_zero : (n : ℕ) → n + 0 ≡ n
-        plus_zero n = omega arith
+      -- a variable is logged as often as it stands in the order
+      items_times : (left before : List ℕ) (values final : Items)
+          → (run_items scoped input before values left).end ≡ Ok final
+          → times_logged own (run_items scoped input before values left).log ≡ times left item
+      items_times [] before values final ends = refl
+      items_times (k ∷ left) before values final ends =
+          let first = item_value scoped before values k (entry_at k input) (slice_get scoped.items k) in
+          let next = λ (v : Option Value). run_items scoped input (k ∷ before) (with_entry k v values) left in
+          let here = first_ok first next final ends in
+          ap (times_logged own) (then_log first next here.0 here.1)
+          ∙ times_append own first.log (next here.0).log
+          ∙ ap (λ (n : ℕ). n + times_logged own (next here.0).log)
+          (item_times before values k here.0 (nat_eq k item) refl here.1)
+          ∙ ap (λ (n : ℕ). (if nat_eq k item then 1 else 0) + n)
+          (items_times left (k ∷ before) (with_entry k here.0 values) final here.2)
+
+      pub scoped_times : (outputs : List Value) → (run_scoped scoped input).end ≡ Ok outputs
+          → times_logged own (run_scoped scoped input).log ≡ times scoped.order item
+      scoped_times outputs ends =
+          let whole = first_ok (run_items scoped input [] (no_values scoped.items) scoped.order) _ outputs ends in
+          ap (times_logged own) (then_log (run_items scoped input []
+          (no_values scoped.items) scoped.order) _ whole.0 whole.1)
+          ∙ times_append own (run_items scoped input [] (no_values scoped.items) scoped.order).log _
+          ∙ ap (λ (n : ℕ). times_logged own (run_items scoped input []
+          (no_values scoped.items) scoped.order).log + n)
+          (last_logs none_of refl (never_both own) scoped quiet quietly whole.0)
+          ∙ plus_zero (times_logged own (run_items scoped input [] (no_values scoped.items) scoped.order).log)
+          ∙ items_times scoped.order [] (no_values scoped.items) whole.0 whole.1
+        where
+          plus_zero : (n : ℕ) → n + 0 ≡ n
+          plus_zero n = omega arith
 
 -- ---- in a program
 
@@ -270,15 +283,9 @@ module _ (ds : Decls) (bodies : List Body) where
       one_scope rest (Some scope) None = refl
       one_scope rest (Some scope) (Some body) =
           scoped_logs (Never t) refl (never_both t)
-          (record {
-            scope = n;
-            items = scope.items;
-            body = body;
-            scopes = ds.scopes;
-            runs =
-                run ds.scopes bodies before;
-          })
-          rest (λ item inner by. no_scope (nat_eq n t.scope) _
+          (scoped_of n scope.items body ds.scopes (run ds.scopes bodies before)) rest
+          (λ value of target. target_logs (Never t) refl (never_both t) value of target body.defs)
+          (λ item inner by. no_scope (nat_eq n t.scope) _
           (turned t.scope n false (first_out t.scope n before out).0)) i
 
       by : (b : Bool) → ((r : ℕ) (j : Items) → Never t (run ds.scopes bodies before r j).log)
@@ -300,14 +307,7 @@ module _ (ds : Decls) (bodies : List Body) where
         → times_logged of_scope (run_scope ds.scopes (run ds.scopes bodies before) number (Some scope)
         (Some body) input).log ≡ 1
     here_once before out ends =
-        scoped_times (record {
-          scope = number;
-          items = scope.items;
-          body = body;
-          scopes = ds.scopes;
-          runs =
-              run ds.scopes bodies before;
-        }) input item decl
+        scoped_times number scope.items body ds.scopes (run ds.scopes bodies before) input item decl
         (foreign of_scope before out) is_variable at not_given outputs ends ∙ stands_once
 
     once_among : (whole : List ℕ) → Distinct whole → (run ds.scopes bodies whole number input).end ≡ Ok outputs

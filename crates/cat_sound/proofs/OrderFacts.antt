@@ -13,8 +13,10 @@ use Rattle.cat_scope.specs.declared.expr.Expr.{Expr}
 use Rattle.cat_scope.specs.declared.defs.Def.{Def}
 use Rattle.cat_scope.specs.declared.defs.Body.{Body}
 use Rattle.cat_scope.specs.Names.{AllHave, is_in}
-use Rattle.cat_scope.specs.Orders.{in_defs_of, dependencies_from, once, calls_in, scope_dependencies}
-use Rattle.cat_scope.specs.Running.{moved}
+use Rattle.cat_scope.specs.Mentions.{items_named}
+use Rattle.cat_scope.specs.Orders.{in_defs_of, item_dependencies, dependencies_from, once, calls_in}
+use Rattle.cat_scope.specs.Orders.{scope_dependencies}
+use Rattle.cat_scope.specs.Running.{moved, backwards}
 use Rattle.cat_sound.proofs.FormTypes.{same_some, same_number, not_true}
 
 -- each number of a list stands in another
@@ -83,7 +85,7 @@ moved_new x before (n ∷ left) h = by (nat_eq x n) refl h (moved_new x (n ∷ b
 
 -- ---- from the order
 
-listed_in : (xs : List ℕ) (x : ℕ) → 0 < times xs x → IsTrue (is_in x xs)
+pub listed_in : (xs : List ℕ) (x : ℕ) → 0 < times xs x → IsTrue (is_in x xs)
 listed_in [] x h = absurd (omega arith)
 listed_in (y ∷ xs) x h = grind (arith, nat_tests, listed_in xs x)
 
@@ -167,6 +169,29 @@ dependencies-at named defs n [] k below = absurd (omega arith)
 dependencies-at named defs n (item ∷ items) zero below = ap (λ (m : ℕ). in_defs_of named m defs) (omega arith)
 dependencies-at named defs n (item ∷ items) (suc k) below = dependencies-at named defs (n + 1) items k (omega arith)
     ∙ ap (λ (m : ℕ). in_defs_of named m defs) (omega arith)
+
+pub items_ahead : (items : List ItemDecl) (defs : List Def) (order : List ℕ)
+    → IsOrder (item_dependencies items defs) order
+    → Ahead (length items) (λ item. in_defs_of items_named item defs) [] order
+items_ahead items defs order is =
+    ahead_as (length (item_dependencies items defs)) (length items) (dependencies_of (item_dependencies items defs))
+    (λ item. in_defs_of items_named item defs) (dependencies-length items_named defs 0 items)
+    (λ n below before all. subst (λ (ks : List ℕ). AllIn before ks)
+    (those n (omega (arith, dependencies-length items_named defs 0 items, below))) all) [] order
+    (ahead-of_IsOrder (item_dependencies items defs) order is)
+  where
+    those : (n : ℕ) → n < length items
+        → dependencies_of (item_dependencies items defs) n ≡ in_defs_of items_named n defs
+    those n below =
+        dependencies-at items_named defs 0 items n below
+        ∙ ap (λ (m : ℕ). in_defs_of items_named m defs) (omega arith)
+
+pub items_listed : (items : List ItemDecl) (defs : List Def) (order : List ℕ)
+    → IsOrder (item_dependencies items defs) order → (k : ℕ) → k < length items
+    → IsTrue (is_in k (backwards order))
+items_listed items defs order is k below =
+    moved_new k [] order (all-of_IsOrder (item_dependencies items defs) order is k
+    (omega (arith, dependencies-length items_named defs 0 items, below)))
 
 pub scopes-length : (scopes : List Scope) (bodies : List Body) → length bodies ≡ length scopes
     → length (scope_dependencies scopes bodies) ≡ length scopes

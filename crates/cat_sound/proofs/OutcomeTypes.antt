@@ -37,14 +37,14 @@ AreOf-prop ds [] (v ∷ vs) = hlevel Bool-set
 AreOf-prop ds (t ∷ ts) [] = hlevel Bool-set
 AreOf-prop ds (t ∷ ts) (v ∷ vs) = hlevel (Bool-set (has_type ds v t) true, AreOf-prop ds ts vs)
 
-IsOutcomeOf-prop : (ds : Decls) (items : List ItemDecl) (o : Option Outcome) → IsProp (IsOutcomeOf ds items o)
+pub IsOutcomeOf-prop : (ds : Decls) (items : List ItemDecl) (o : Option Outcome) → IsProp (IsOutcomeOf ds items o)
 IsOutcomeOf-prop ds items (Some (outcome.Value outputs)) = AreOf-prop ds (types_of (outputs_in items)) outputs
 IsOutcomeOf-prop ds items (Some (outcome.Conflict target positions)) = hlevel Bool-set
 IsOutcomeOf-prop ds items (Some (outcome.NoValue target pos)) = hlevel Bool-set
 IsOutcomeOf-prop ds items (Some (outcome.Fault fault pos)) = hlevel Bool-set
 IsOutcomeOf-prop ds items None = hlevel Bool-set
 
-outcome-of : (allowed : Allowed) → (ds : Decls) (items : List ItemDecl) (r : Result (List Value) Stop)
+pub outcome-of : (allowed : Allowed) → (ds : Decls) (items : List ItemDecl) (r : Result (List Value) Stop)
     → Ended allowed (AreOutputsOf ds items) r → IsOutcomeOf ds items (outcome_of r)
 outcome-of allowed ds items (Ok outputs) h = h
 outcome-of allowed ds items (Err (stop.Conflict target positions)) h = tt
@@ -52,15 +52,15 @@ outcome-of allowed ds items (Err (stop.NoValue target pos)) h = tt
 outcome-of allowed ds items (Err (stop.Fault fault pos)) h = tt
 outcome-of allowed ds items (Err stop.Stuck) h = elim h [ ]
 
-everywhere : {A : Type 0} (xs : List A) → AllHave (λ a. IsTrue true) xs
+pub everywhere : {A : Type 0} (xs : List A) → AllHave (λ a. IsTrue true) xs
 everywhere [] = tt
 everywhere (x ∷ xs) = (refl, everywhere xs)
 
 -- nothing is ruled out
-abbrev anything : Allowed
+abbrev pub anything : Allowed
 anything = record { may_stop = λ target. true; may_decide = λ target by. true }
 
-any_stands : (target : Target) (r : Result (Option (Held Value)) Stop) → MayStand anything target r
+pub any_stands : (target : Target) (r : Result (Option (Held Value)) Stop) → MayStand anything target r
 any_stands target (Ok found) = refl
 any_stands target (Err s) = tt
 
@@ -92,7 +92,7 @@ log-prop : (allowed : Allowed) (log : List Decider) → IsProp (AllHave (IsDecis
 log-prop allowed [] = hlevel Bool-set
 log-prop allowed (d ∷ log) = hlevel (Bool-set (allowed.may_decide d.target d.by) true, log-prop allowed log)
 
-EndsIn-prop : (allowed : Allowed) (ds : Decls) (items : List ItemDecl) (run : Run (List Value))
+pub EndsIn-prop : (allowed : Allowed) (ds : Decls) (items : List ItemDecl) (run : Run (List Value))
     → IsProp (EndsIn allowed (AreOutputsOf ds items) run)
 EndsIn-prop allowed ds items run = hlevel (log-prop allowed run.log, Ended-prop allowed ds items run.end)
 

@@ -33,7 +33,7 @@ use Rattle.cat_scope.specs.Names.{AllHave, is_function, scope_items}
 use Rattle.cat_scope.specs.Same.{Alike}
 use Rattle.cat_scope.specs.Calls.{Items, Scoped, variable}
 use Rattle.cat_scope.specs.ItemValues.{item_value, passed}
-use Rattle.cat_scope.specs.Running.{run_of, run_scoped, scope_run}
+use Rattle.cat_scope.specs.Running.{run_of, run_scoped, scoped_of, scope_run}
 use Rattle.cat_scope.specs.Outcomes.{scope_outcome, deciders}
 use Rattle.cat_scope.proofs.Exported.{equations, namings}
 use Rattle.cat_scope.proofs.Samples.{at, n_in, x_out, n_above, whole, def, body, x, scope_of, calling_scopes}
@@ -132,15 +132,11 @@ caller = sample.truth_item (kind.Called 0) (at 6 3)
 
 -- it asks a function that has no value
 abbrev asking : Scoped
-asking = record {
-  scope = 1;
-  items = function false ∷ caller ∷ [];
-  body =
-      body (def (record { scope = 1; item = 1; inner = Some 0 }) None except.No None
-      (expr.Call (at 9 23) 0 (whole 1 ∷ [])) (at 9 3) ∷ []) (0 ∷ 1 ∷ []);
-  scopes = scope_of (truth_in ∷ []) ∷ [];
-  runs = λ scope input. stops Stuck;
-}
+asking =
+    scoped_of 1 (function false ∷ caller ∷ [])
+    (body (def (record { scope = 1; item = 1; inner = Some 0 }) None except.No None
+    (expr.Call (at 9 23) 0 (whole 1 ∷ [])) (at 9 3) ∷ []) (0 ∷ 1 ∷ []))
+    (scope_of (truth_in ∷ []) ∷ []) (λ scope input. stops Stuck)
 
 its_input_meets_no_value : (item_value asking (0 ∷ []) (None ∷ None ∷ []) 1 None (Some caller)).end
     ≡ Err (NoValue (sample.variable 1 0) (at 5 12))
@@ -180,13 +176,7 @@ they_give_the_same env v =
 -- ---- scopes of a program
 
 t_is_run_by_the_rule : (input : Items) → scope_run program 0 input
-    ≡ run_scoped (record {
-      scope = 0;
-      items = t_items;
-      body = body t_defs (0 ∷ []);
-      scopes = calling_scopes;
-      runs = scope_run program;
-    }) input
+    ≡ run_scoped (scoped_of 0 t_items (body t_defs (0 ∷ [])) calling_scopes (scope_run program)) input
 t_is_run_by_the_rule input =
     scopes_by_rule decls calling_bodies (0 ∷ 1 ∷ []) ∣ well_formed ∣₁ 0 (scope_of t_items) (body t_defs (0 ∷ [])) input
     refl refl

@@ -31,17 +31,17 @@ drop_at (n ∷ ns) zero item at = (ns, ap (λ (m : ℕ). m ∷ ns) (same_some n 
 drop_at (n ∷ ns) (suc index) item at = drop_at ns index item at
 
 pub each_judged : (scoped : Scoped) (input : Items) (outputs : List Value) (index item : ℕ)
-    → (run_scoped scoped input).end ≡ Ok outputs → slice_get scoped.body.order index ≡ Some item
+    → (run_scoped scoped input).end ≡ Ok outputs → slice_get scoped.order index ≡ Some item
     → JudgedAt scoped input index item
 each_judged scoped input outputs index item ends at =
-    let whole = first_ok (run_items scoped input [] (no_values scoped.items) scoped.body.order) _ outputs ends in
+    let whole = first_ok (run_items scoped input [] (no_values scoped.items) scoped.order) _ outputs ends in
     let through = first_ok (values_at scoped input index)
-    (λ values. run_items scoped input (backwards (take index scoped.body.order)) values
-    (drop index scoped.body.order)) whole.0
+    (λ values. run_items scoped input (backwards (take index scoped.order)) values
+    (drop index scoped.order)) whole.0
     (sym (ap (λ (run : Run Items). run.end) (run_through scoped input index)) ∙ whole.1) in
-    let here = drop_at scoped.body.order index item at in
-    let judged = first_ok (item_value scoped (backwards (take index scoped.body.order)) through.0 item
+    let here = drop_at scoped.order index item at in
+    let judged = first_ok (item_value scoped (backwards (take index scoped.order)) through.0 item
     (entry_at item input) (slice_get scoped.items item)) _ whole.0
-    (sym (ap (λ left. (run_items scoped input (backwards (take index scoped.body.order)) through.0 left).end) here.1)
+    (sym (ap (λ left. (run_items scoped input (backwards (take index scoped.order)) through.0 left).end) here.1)
     ∙ through.2) in
     record { values = through.0; value = judged.0; reached = through.1; is = judged.1 }

@@ -19,7 +19,7 @@ use Rattle.cat_scope.specs.Orders.{calls_in, scope_dependencies}
 use Rattle.cat_scope.specs.WellFormed.{IsWhole, IsWellFormed}
 use Rattle.cat_scope.specs.Calls.{Items, Runs}
 use Rattle.cat_scope.specs.Running.{backwards}
-use Rattle.cat_scope.specs.Running.{run_scoped, run_scope, run, run_of}
+use Rattle.cat_scope.specs.Running.{run_scoped, run_scope, run, run_of, scoped_of}
 use Rattle.cat_sound.proofs.FormTypes.{same_some, same_number, not_true}
 use Rattle.cat_sound.proofs.TargetTypes.{all_more}
 use Rattle.cat_sound.proofs.OrderFacts.{AllIn, Behind, Ahead, moved-behind, moved_new, ahead-of_IsOrder, all-of_IsOrder}
@@ -61,7 +61,7 @@ module _ (ds : Decls) (bodies : List Body) (counted : length bodies ≡ length d
       (λ s. (i : Items) → runs s i ≡ others s i) scope.0.items body.0.source 1 body.0.defs body.0.assertions
       (are k body.0 body.1) those in
       found_as runs k scope.0 body.0 scope.1 body.1
-      ∙ scoped_same (record { scope = k; items = scope.0.items; body = body.0; scopes = ds.scopes; runs = runs }) others
+      ∙ scoped_same k scope.0.items body.0 ds.scopes runs others
       called.by_defs called.by_assertions (called.by_items (omega arith)) input
       ∙ sym (found_as others k scope.0 body.0 scope.1 body.1)
     where
@@ -187,13 +187,7 @@ module _ (ds : Decls) (bodies : List Body) (order : List ℕ) where
   pub scopes_by_rule : ∥ IsWellFormed ds bodies order ∥₁ → (k : ℕ) (scope : Scope) (body : Body) (input : Items)
       → slice_get ds.scopes k ≡ Some scope → slice_get bodies k ≡ Some body
       → run_of ds.scopes bodies order k input ≡ run_scoped
-      (record {
-        scope = k;
-        items = scope.items;
-        body = body;
-        scopes = ds.scopes;
-        runs = run_of ds.scopes bodies order;
-      }) input
+      (scoped_of k scope.items body ds.scopes (run_of ds.scopes bodies order)) input
   unfolding run_of
   scopes_by_rule formed k scope body input is also =
       by_rule ds bodies

@@ -1,4 +1,5 @@
--- A property of logs, as in LogParts: where the logs of scopes that are run have it, so has what a scope logs.
+-- A property of logs, as in LogParts: where the logs of scopes that are run have it, and those of judgings of what has
+-- it, so has what a scope logs.
 use Rattle.std.proofs.Common.{◌≡◌, ℕ, ◌+◌, Bool, true, false, List, [], ◌∷◌, ◌++◌, Option, Some}
 use Rattle.std.proofs.Common.{None, Ok, slice_get, if◌then◌else◌}
 use Rattle.std.specs.Prelude.{nat_eq}
@@ -24,12 +25,14 @@ use Rattle.cat_scope.specs.Running.{backwards, entry_at, with_entry, no_values, 
 use Rattle.cat_scope.specs.Running.{run_scoped}
 use Rattle.cat_scope.specs.ItemValues.{passed, passed_input, called_value, defined_value, ungiven_value, item_value}
 use Rattle.cat_sound.specs.Logs.{target_in}
-use Rattle.cat_sound.proofs.LogParts.{asserted_logs, eval_logs, front_logs, giving_logs, target_logs, then_logs}
+use Rattle.cat_sound.proofs.LogParts.{asserted_logs, eval_logs, front_logs, giving_logs, then_logs}
 
 module _ (P : List Decider → Type 0) (none : P []) (joined : (xs ys : List Decider) → P xs → P ys → P (xs ++ ys)) where
   -- ---- a scope, where the logs of scopes that it runs have the property
 
-  module _ (scoped : Scoped) (runs : (s : ℕ) (i : Items) → P (scoped.runs s i).log) where
+  module _ (scoped : Scoped) (runs : (s : ℕ) (i : Items) → P (scoped.runs s i).log)
+      (judges : (value : Expr → Run Value) → ((e : Expr) → P (value e).log) → (target : Target)
+      → P (scoped.judging value target).log) where
     scope_call_logs : (s : ℕ) (fs : List (ℕ × Value)) (k : ℕ) → P (scope_call scoped s fs k).log
     scope_call_logs s fs k =
         giving_logs P none joined (scoped.runs s (call_input 0 fs (items_of scoped s)))
@@ -45,8 +48,8 @@ module _ (P : List Decider → Type 0) (none : P []) (joined : (xs ys : List Dec
         → (values : Items) (arguments : List Value) (target : Target)
         → P (judging_of scoped calls values arguments target).log
     judged_logs calls h values arguments target =
-        target_logs P none joined (λ e. eval (env_of scoped calls values) e arguments)
-        (λ e. scoped_eval_logs calls h values e arguments) target scoped.body.defs
+        judges (λ e. eval (env_of scoped calls values) e arguments)
+        (λ e. scoped_eval_logs calls h values e arguments) target
 
     value_logs : (target : Target) (o : Option ItemDecl) (judging : Judged Value) → P judging.log
         → P (variable_value target o judging).log
@@ -145,15 +148,15 @@ module _ (P : List Decider → Type 0) (none : P []) (joined : (xs ys : List Dec
     abbrev last_of : Items → Run (List Value)
     last_of values =
         asserted (λ e. eval (env_of scoped (call scoped values
-        (backwards scoped.body.order)) values) e []) scoped.body.assertions (plain (outputs_of scoped.items values))
+        (backwards scoped.order)) values) e []) scoped.assertions (plain (outputs_of scoped.items values))
 
     pub last_logs : (values : Items) → P (last_of values).log
     last_logs values =
-        asserted_logs P none joined (λ e. eval (env_of scoped (call scoped values (backwards scoped.body.order)) values)
+        asserted_logs P none joined (λ e. eval (env_of scoped (call scoped values (backwards scoped.order)) values)
         e [])
-        (λ e. scoped_eval_logs (call scoped values (backwards scoped.body.order))
-        (call_logs values (backwards scoped.body.order)) values e [])
-        scoped.body.assertions (plain (outputs_of scoped.items values)) none
+        (λ e. scoped_eval_logs (call scoped values (backwards scoped.order))
+        (call_logs values (backwards scoped.order)) values e [])
+        scoped.assertions (plain (outputs_of scoped.items values)) none
 
     module _ (one : (item : ℕ) (inner : Option ℕ) (by : Option Pos) → P
         (record { target = target_in scoped item inner; by = by } ∷ [])) (input : Items) where
@@ -173,6 +176,6 @@ module _ (P : List Decider → Type 0) (none : P []) (joined : (xs ys : List Dec
           (λ v is. items_logs left (item ∷ before) (with_entry item v values))
 
       pub scoped_logs : P (run_scoped scoped input).log
-      scoped_logs = then_logs P none joined (run_items scoped input [] (no_values scoped.items) scoped.body.order)
+      scoped_logs = then_logs P none joined (run_items scoped input [] (no_values scoped.items) scoped.order)
           last_of
-          (items_logs scoped.body.order [] (no_values scoped.items)) (λ values is. last_logs values)
+          (items_logs scoped.order [] (no_values scoped.items)) (λ values is. last_logs values)

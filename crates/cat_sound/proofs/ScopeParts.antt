@@ -1,5 +1,5 @@
 -- What is asked of a scope, and of the values of its items, for its run to go on.
-use Rattle.std.proofs.Common.{◌≡◌, ℕ, Bool, true, false, not, IsTrue, List, Option}
+use Rattle.std.proofs.Common.{◌≡◌, ℕ, Bool, true, false, ◌||◌, not, IsTrue, List, [], Option}
 use Rattle.std.proofs.Common.{Some, None, slice_get, refl, sym, ap, ◌∙◌, true≢false}
 use Rattle.cat_value.specs.declared.ty.Ty.{Ty}
 use Rattle.cat_value.specs.declared.ty.Ty.TheVariants as flat_ty
@@ -10,26 +10,28 @@ use Rattle.cat_value.specs.declared.declaration.Kind.TheVariants as kind
 use Rattle.cat_value.specs.declared.declaration.ItemDecl.{ItemDecl}
 use Rattle.cat_scope.specs.declared.expr.Expr.{Expr}
 use Rattle.cat_scope.specs.declared.defs.Def.{Def}
+use Rattle.cat_value.specs.declared.outcome.Target.{Target}
 use Rattle.cat_scope.specs.Replies.{on_one, known}
+use Rattle.cat_scope.specs.Runs.{Run}
 use Rattle.cat_scope.specs.Names.{Names, AllHave, scope_items, is_called}
 use Rattle.cat_scope.specs.Names.{is_plain}
 use Rattle.cat_scope.specs.Naming.{IsItem, IsCalledOutput}
 use Rattle.cat_scope.specs.Targets.{same_inner, condition_of}
 use Rattle.cat_scope.specs.Eval.{Env, eval}
 use Rattle.cat_scope.specs.Composed.{part}
-use Rattle.cat_scope.specs.Orders.{in_def, called_by_items}
+use Rattle.cat_scope.specs.Orders.{called_by_items}
 use Rattle.cat_scope.specs.Mentions.{scopes_named}
-use Rattle.cat_scope.specs.WellFormed.{ConditionTyped, DefTyped, AssertionTyped}
+use Rattle.cat_scope.specs.WellFormed.{ConditionTyped, AssertionTyped}
 use Rattle.cat_scope.specs.Naming.{IsTargetAt}
-use Rattle.cat_scope.specs.Calls.{Items, Scoped}
+use Rattle.cat_scope.specs.Calls.{Items, Scoped, env_of, judging_of}
 use Rattle.cat_sound.specs.Endings.{Allowed, EndsIn, ResultsIn, IsOf, AreOf}
-use Rattle.cat_sound.specs.Endings.{IsEnvOf}
-use Rattle.cat_sound.specs.Settled.{InCondition, StandsIn, AreSettled}
+use Rattle.cat_sound.specs.Endings.{IsCallable, IsEnvOf, IsReady}
+use Rattle.cat_sound.specs.Settled.{InCondition, IsHeldOf, MayStand, StandsIn, may_be_empty}
 use Rattle.cat_sound.proofs.FlatTypes.{of-Boolean}
 use Rattle.cat_sound.proofs.FormTypes.{same_some, same_number, not_true}
 use Rattle.cat_sound.proofs.ExprTypes.{expressions_go_on}
-use Rattle.cat_sound.proofs.TargetTypes.{DefEnds}
-use Rattle.cat_sound.proofs.InputTypes.{Placed, Callee}
+use Rattle.cat_sound.proofs.TargetTypes.{DefEnds, all_more}
+use Rattle.cat_sound.proofs.InputTypes.{Placed, Callee, scope_call-ends}
 
 -- ---- targets
 called_or : ℕ → Kind → ℕ
@@ -68,17 +70,41 @@ inner_is (Some a) (Some b) h = ap Some (same_number a b h)
 abbrev pub names_of : Decls → Scoped → Names
 names_of ds scoped = record { decls = ds; items = scoped.items }
 
--- a scope is well typed, and the scopes that it calls end in their outputs
-pub record IsSound (allowed : Allowed) (ds : Decls) (scoped : Scoped) : Type 0 where
+-- a target of a scope
+abbrev pub target_of : Scoped → ℕ → Option ℕ → Target
+target_of scoped item inner = record { scope = scoped.scope; item = item; inner = inner }
+
+-- a judging ends as its target may, and what is decided may stand in a log
+pub record JudgingEnds (allowed : Allowed) (ds : Decls) (scoped : Scoped) (calls : ℕ → List Value → Run Value)
+    (values : Items) (arguments : List Value) (item : ℕ) (inner : Option ℕ) (ps : List Ty) (t : Ty) : Type 0 where
+  pub ends : EndsIn allowed (IsHeldOf (allowed.may_stop (target_of scoped item inner) || may_be_empty
+      (names_of ds scoped) item inner) ds t)
+      (judging_of scoped calls values arguments (target_of scoped item inner))
+  pub stands : ps ≡ []
+      → MayStand allowed (target_of scoped item inner)
+      (judging_of scoped calls values arguments (target_of scoped item inner)).end
+
+-- a scope is well typed, the scopes that it calls end in their outputs, and its targets end as they may where what they
+-- need does
+pub record IsSound (allowed : Allowed) (ds : Decls) (scoped : Scoped) (needs : ℕ → List ℕ) : Type 0 where
   pub scopes : scoped.scopes ≡ ds.scopes
   pub placed : AllHave Placed scoped.items
-  pub defs : AllHave (DefTyped (names_of ds scoped) scoped.scope) scoped.body.defs
-  pub assertions : AllHave (AssertionTyped (names_of ds scoped)) scoped.body.assertions
-  pub def_calls : AllHave (λ d. AllHave (Callee allowed ds scoped.runs) (in_def scopes_named d)) scoped.body.defs
+  pub assertions : AllHave (AssertionTyped (names_of ds scoped)) scoped.assertions
   pub assertion_calls : AllHave (λ a. AllHave (Callee allowed ds scoped.runs) (scopes_named a.condition))
-      scoped.body.assertions
+      scoped.assertions
   pub item_calls : AllHave (Callee allowed ds scoped.runs) (called_by_items scoped.items)
-  pub settled : AreSettled allowed (names_of ds scoped) scoped.scope scoped.body.defs
+  pub judged : (calls : ℕ → List Value → Run Value) (values : Items) (arguments : List Value) (item : ℕ)
+      (inner : Option ℕ) (ps : List Ty) (t : Ty) → IsTargetAt (names_of ds scoped) item inner ps t
+      → AreOf ds ps arguments
+      → AllHave (IsReady allowed (names_of ds scoped) (env_of scoped calls values)) (needs item)
+      → JudgingEnds allowed ds scoped calls values arguments item inner ps t
+
+pub callable : (allowed : Allowed) (ds : Decls) (scoped : Scoped) → scoped.scopes ≡ ds.scopes
+    → (calls : ℕ → List Value → Run Value) (values : Items) (ss : List ℕ) → AllHave (Callee allowed ds scoped.runs) ss
+    → AllHave (IsCallable allowed (names_of ds scoped) (env_of scoped calls values)) ss
+callable allowed ds scoped same calls values ss h =
+    all_more (Callee allowed ds scoped.runs) (IsCallable allowed (names_of ds scoped) (env_of scoped calls values)) ss h
+    (λ s callee. scope_call-ends allowed (names_of ds scoped) scoped calls values s same callee)
 
 -- what an item comes to: a value of its type, outputs of a called scope, and whatever else for a function
 pub record IsDone (ns : Names) (item : ℕ) (o : Option Value) : Type 0 where

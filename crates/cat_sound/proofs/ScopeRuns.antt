@@ -10,12 +10,10 @@ use Rattle.cat_value.specs.declared.declaration.Kind.{Kind}
 use Rattle.cat_value.specs.declared.declaration.Kind.TheVariants as kind
 use Rattle.cat_value.specs.declared.declaration.ItemDecl.{ItemDecl}
 use Rattle.cat_value.specs.Inputs.{must_be_given, may_be_given, is_given_for, are_given_for}
-use Rattle.cat_order.specs.Order.{dependencies_of, IsOrder}
 use Rattle.cat_scope.specs.declared.defs.Assertion.{Assertion}
 use Rattle.cat_scope.specs.Runs.{plain}
 use Rattle.cat_scope.specs.Names.{Names, AllHave, is_in, is_called}
 use Rattle.cat_scope.specs.Eval.{Env, eval}
-use Rattle.cat_scope.specs.Orders.{in_defs_of, item_dependencies}
 use Rattle.cat_scope.specs.Mentions.{items_named, scopes_named}
 use Rattle.cat_scope.specs.WellFormed.{AssertionTyped}
 use Rattle.cat_scope.specs.Calls.{Items, Scoped, env_of, call}
@@ -28,13 +26,11 @@ use Rattle.cat_sound.proofs.Endings.{ends_plain, ends_as, ends_then}
 use Rattle.cat_sound.proofs.FormTypes.{same_number}
 use Rattle.cat_sound.proofs.ExprTypes.{expressions_go_on}
 use Rattle.cat_sound.proofs.TargetTypes.{all_more, all_at}
-use Rattle.cat_sound.proofs.OrderFacts.{AllIn, in_at, Behind, Ahead, moved-behind, moved_new}
-use Rattle.cat_sound.proofs.OrderFacts.{ahead-of_IsOrder, all-of_IsOrder, ahead_as, dependencies-length}
-use Rattle.cat_sound.proofs.OrderFacts.{dependencies-at}
+use Rattle.cat_sound.proofs.OrderFacts.{AllIn, in_at, Behind, Ahead, moved-behind}
 use Rattle.cat_sound.proofs.InputTypes.{Placed, Callee}
 use Rattle.cat_sound.proofs.ScopeTypes.{evaluated-variable}
-use Rattle.cat_sound.proofs.JudgedTypes.{callable, ready}
-use Rattle.cat_sound.proofs.ScopeParts.{names_of, IsSound, IsDone, DoneAt}
+use Rattle.cat_sound.proofs.JudgedTypes.{ready}
+use Rattle.cat_sound.proofs.ScopeParts.{names_of, callable, IsSound, IsDone, DoneAt}
 use Rattle.cat_sound.proofs.ScopeTypes.{defined-ends}
 use Rattle.cat_sound.proofs.ScopeTypes.{called-ends}
 use Rattle.cat_sound.proofs.RunEntries.{OutputAt, asserted-ends, callee_at, entry_given, found, free_of_may}
@@ -43,13 +39,11 @@ use Rattle.cat_sound.proofs.RunEntries.{with_entry-other, with_entry-same}
 
 -- ---- the run of a scope
 
-module _ (allowed : Allowed) (ds : Decls) (scoped : Scoped) (sound : IsSound allowed ds scoped) (input : Items)
+module _ (allowed : Allowed) (ds : Decls) (scoped : Scoped) (needs : ℕ → List ℕ)
+    (sound : IsSound allowed ds scoped needs) (input : Items)
     (given : IsTrue (are_given_for ds scoped.items input)) where
   abbrev ns : Names
   ns = names_of ds scoped
-
-  abbrev needs : ℕ → List ℕ
-  needs item = in_defs_of items_named item scoped.body.defs
 
   module _ (item : ℕ) (decl : ItemDecl) (at : slice_get scoped.items item ≡ Some decl) (values : Items)
       (before : List ℕ) (behind : Behind (length scoped.items) needs before) (h : AllHave (DoneAt ns values) before)
@@ -57,32 +51,32 @@ module _ (allowed : Allowed) (ds : Decls) (scoped : Scoped) (sound : IsSound all
     ungiven-ends : (k : Kind) → decl.kind ≡ k → IsTrue (not (must_be_given decl.kind))
         → EndsIn allowed (IsDone ns item) (ungiven_value scoped before values item decl k)
     ungiven-ends (kind.Called s) e open_one =
-        called-ends allowed ds scoped sound item decl at values before behind h have s e
+        called-ends allowed ds scoped needs sound item decl at values before behind h have s e
         (callee_at (Callee allowed ds scoped.runs) scoped.items item decl s sound.item_calls at e)
     ungiven-ends kind.Input e open_one =
-        defined-ends allowed ds scoped sound item decl at values before behind h have decl.params refl
+        defined-ends allowed ds scoped needs sound item decl at values before behind h have decl.params refl
         (ap is_called e) open_one
     ungiven-ends kind.InputOutput e open_one =
-        defined-ends allowed ds scoped sound item decl at values before behind h have decl.params refl
+        defined-ends allowed ds scoped needs sound item decl at values before behind h have decl.params refl
         (ap is_called e) open_one
     ungiven-ends kind.Context e open_one =
-        defined-ends allowed ds scoped sound item decl at values before behind h have decl.params refl
+        defined-ends allowed ds scoped needs sound item decl at values before behind h have decl.params refl
         (ap is_called e) open_one
     ungiven-ends kind.ContextOutput e open_one =
-        defined-ends allowed ds scoped sound item decl at values before behind h have decl.params refl
+        defined-ends allowed ds scoped needs sound item decl at values before behind h have decl.params refl
         (ap is_called e) open_one
     ungiven-ends kind.Internal e open_one =
-        defined-ends allowed ds scoped sound item decl at values before behind h have decl.params refl
+        defined-ends allowed ds scoped needs sound item decl at values before behind h have decl.params refl
         (ap is_called e) open_one
     ungiven-ends kind.Output e open_one =
-        defined-ends allowed ds scoped sound item decl at values before behind h have decl.params refl
+        defined-ends allowed ds scoped needs sound item decl at values before behind h have decl.params refl
         (ap is_called e) open_one
 
     item-ends : (o : Option Value) → IsTrue (is_given_for ds decl o)
         → EndsIn allowed (IsDone ns item) (item_value scoped before values item o (Some decl))
     item-ends (Some v) is =
         let two = both (may_be_given decl.kind) _ is in
-        (tt, evaluated-variable allowed ds scoped sound item decl at v (free_of_may decl.kind two.0) two.1)
+        (tt, evaluated-variable allowed ds scoped needs sound item decl at v (free_of_may decl.kind two.0) two.1)
     item-ends None is = ungiven-ends decl.kind refl is
 
   -- the items that are done stay as they are
@@ -123,38 +117,19 @@ module _ (allowed : Allowed) (ds : Decls) (scoped : Scoped) (sound : IsSound all
           → item < length values
       below item values same h = omega arith
 
-  module _ (order : IsOrder (item_dependencies scoped.items scoped.body.defs) scoped.body.order) where
-    ahead : Ahead (length scoped.items) needs [] scoped.body.order
-    ahead =
-        let same = dependencies-length items_named scoped.body.defs 0 scoped.items in
-        ahead_as (length (item_dependencies scoped.items scoped.body.defs)) (length scoped.items)
-        (dependencies_of (item_dependencies scoped.items scoped.body.defs)) needs same
-        (λ n below before all. subst (λ (ks : List ℕ). AllIn before ks) (those n (omega (arith, same, below))) all) []
-        scoped.body.order (ahead-of_IsOrder (item_dependencies scoped.items scoped.body.defs) scoped.body.order order)
-      where
-        those : (n : ℕ) → n < length scoped.items
-            → dependencies_of (item_dependencies scoped.items scoped.body.defs) n ≡ needs n
-        those n below =
-            dependencies-at items_named scoped.body.defs 0 scoped.items n below ∙ ap
-            (λ (m : ℕ). in_defs_of items_named m scoped.body.defs) (omega arith)
-
-    all_listed : (k : ℕ) → k < length scoped.items → IsTrue (is_in k (backwards scoped.body.order))
-    all_listed k below =
-        moved_new k [] scoped.body.order
-        (all-of_IsOrder (item_dependencies scoped.items scoped.body.defs) scoped.body.order order k
-        (omega (arith, dependencies-length items_named scoped.body.defs 0 scoped.items, below)))
-
+  module _ (ahead : Ahead (length scoped.items) needs [] scoped.order)
+      (all_listed : (k : ℕ) → k < length scoped.items → IsTrue (is_in k (backwards scoped.order))) where
     abbrev at_end : Items → Env
-    at_end values = env_of scoped (call scoped values (backwards scoped.body.order)) values
+    at_end values = env_of scoped (call scoped values (backwards scoped.order)) values
 
     -- at the end all items are there
-    all_ready : (values : Items) → AllHave (DoneAt ns values) (backwards scoped.body.order) → (k : ℕ)
+    all_ready : (values : Items) → AllHave (DoneAt ns values) (backwards scoped.order) → (k : ℕ)
         → k < length scoped.items → IsReady allowed ns (at_end values) k
     all_ready values h k below =
-        ready allowed ds scoped sound values (backwards scoped.body.order)
-        (moved-behind (length scoped.items) needs [] scoped.body.order tt ahead) h k (all_listed k below)
+        ready allowed ds scoped needs sound values (backwards scoped.order)
+        (moved-behind (length scoped.items) needs [] scoped.order tt ahead) h k (all_listed k below)
 
-    any_ready : (values : Items) → AllHave (DoneAt ns values) (backwards scoped.body.order) → (k : ℕ)
+    any_ready : (values : Items) → AllHave (DoneAt ns values) (backwards scoped.order) → (k : ℕ)
         → IsReady allowed ns (at_end values) k
     any_ready values h k = record {
       variable = λ t is. (all_ready values h k (slice_get_within scoped.items k is.0 is.1)).variable t is;
@@ -167,7 +142,7 @@ module _ (allowed : Allowed) (ds : Decls) (scoped : Scoped) (sound : IsSound all
     everywhere P go [] = tt
     everywhere P go (k ∷ ks) = (go k, everywhere P go ks)
 
-    assertions-end : (values : Items) → AllHave (DoneAt ns values) (backwards scoped.body.order)
+    assertions-end : (values : Items) → AllHave (DoneAt ns values) (backwards scoped.order)
         → (assertions : List Assertion) → AllHave (AssertionTyped ns) assertions
         → AllHave (λ a. AllHave (Callee allowed ds scoped.runs) (scopes_named a.condition)) assertions → AllHave
         (λ a. EndsIn allowed (IsOf ds flat_ty.Boolean) (eval (at_end values) a.condition [])) assertions
@@ -176,16 +151,16 @@ module _ (allowed : Allowed) (ds : Decls) (scoped : Scoped) (sound : IsSound all
       expressions_go_on allowed ns (at_end values) [] [] a.condition flat_ty.Boolean typed.0 (record {
         items = everywhere (IsReady allowed ns (at_end values)) (any_ready values h) (items_named a.condition);
         scopes =
-            callable allowed ds scoped sound (call scoped values (backwards scoped.body.order)) values
+            callable allowed ds scoped sound.scopes (call scoped values (backwards scoped.order)) values
             (scopes_named a.condition) callees.0;
       }) tt,
       assertions-end values h rest typed.1 callees.1,
     )
 
-    output-at : (values : Items) → AllHave (DoneAt ns values) (backwards scoped.body.order) → (k : ℕ) (item : ItemDecl)
+    output-at : (values : Items) → AllHave (DoneAt ns values) (backwards scoped.order) → (k : ℕ) (item : ItemDecl)
         → slice_get scoped.items k ≡ Some item → OutputAt ds values k item
     output-at values h k item is =
-        let at = in_at (DoneAt ns values) (backwards scoped.body.order) k h
+        let at = in_at (DoneAt ns values) (backwards scoped.order) k h
         (all_listed k (slice_get_within scoped.items k item is)) in
         record {
           value = at.value;
@@ -197,11 +172,11 @@ module _ (allowed : Allowed) (ds : Decls) (scoped : Scoped) (sound : IsSound all
 
     pub run_scoped-ends : EndsIn allowed (AreOutputsOf ds scoped.items) (run_scoped scoped input)
     run_scoped-ends =
-        ends_then allowed (λ final. AllHave (DoneAt ns final) (backwards scoped.body.order))
-        (AreOutputsOf ds scoped.items) (run_items scoped input [] (no_values scoped.items) scoped.body.order) _
-        (run_items-end scoped.body.order [] (no_values scoped.items) ahead tt tt (no_values-length scoped.items))
+        ends_then allowed (λ final. AllHave (DoneAt ns final) (backwards scoped.order))
+        (AreOutputsOf ds scoped.items) (run_items scoped input [] (no_values scoped.items) scoped.order) _
+        (run_items-end scoped.order [] (no_values scoped.items) ahead tt tt (no_values-length scoped.items))
         (λ values h. asserted-ends allowed (AreOutputsOf ds scoped.items) ds
-        (λ e. eval (at_end values) e []) scoped.body.assertions (plain (outputs_of scoped.items values))
-        (assertions-end values h scoped.body.assertions sound.assertions sound.assertion_calls)
+        (λ e. eval (at_end values) e []) scoped.assertions (plain (outputs_of scoped.items values))
+        (assertions-end values h scoped.assertions sound.assertions sound.assertion_calls)
         (ends_plain allowed (AreOutputsOf ds scoped.items) (outputs_of scoped.items values)
         (outputs-end ds scoped.items values (output-at values h))))

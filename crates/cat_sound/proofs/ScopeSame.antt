@@ -11,9 +11,11 @@ use Rattle.cat_value.specs.declared.outcome.FaultKind.TheVariants.{AssertionFail
 use Rattle.cat_value.specs.declared.declaration.Kind.{Kind}
 use Rattle.cat_value.specs.declared.declaration.Kind.TheVariants as kind
 use Rattle.cat_value.specs.declared.declaration.ItemDecl.{ItemDecl}
+use Rattle.cat_value.specs.declared.declaration.Scope.{Scope}
 use Rattle.cat_scope.specs.declared.stop.Stop.TheVariants.{Fault}
 use Rattle.cat_scope.specs.declared.expr.Expr.{Expr}
 use Rattle.cat_scope.specs.declared.defs.Def.{Def}
+use Rattle.cat_scope.specs.declared.defs.Body.{Body}
 use Rattle.cat_scope.specs.declared.defs.Assertion.{Assertion}
 use Rattle.cat_scope.specs.Replies.{known}
 use Rattle.cat_scope.specs.Runs.{Run, plain, gives, stops, and_then, giving, choose}
@@ -27,7 +29,7 @@ use Rattle.cat_scope.specs.Calls.{Items, Runs, Scoped, variable, variable_of_cal
 use Rattle.cat_scope.specs.Calls.{judging_of, variable_value, call}
 use Rattle.cat_scope.specs.ItemValues.{passed_input, called_value, defined_value, ungiven_value, item_value}
 use Rattle.cat_scope.specs.Running.{entry_at, with_entry, run_items, no_values, asserted, outputs_of, backwards}
-use Rattle.cat_scope.specs.Running.{run_scoped}
+use Rattle.cat_scope.specs.Running.{run_scoped, scoped_of}
 use Rattle.cat_scope.proofs.Exported.{and_then_same}
 use Rattle.cat_sound.specs.Rests.{TellSame, CallSame}
 use Rattle.cat_sound.proofs.TargetTypes.{all_more}
@@ -37,17 +39,19 @@ use Rattle.cat_sound.proofs.JudgingSame.{DefSame, target_same, def_agrees}
 
 -- ---- one scope, with two ways in which scopes that it calls are run
 
-module _ (scoped : Scoped) (others : Runs) where
+module _ (number : ℕ) (items : List ItemDecl) (body : Body) (scopes : List Scope) (runs : Runs) (others : Runs) where
+  abbrev scoped : Scoped
+  scoped = scoped_of number items body scopes runs
+
   abbrev other : Scoped
-  other =
-      record { scope = scoped.scope; items = scoped.items; body = scoped.body; scopes = scoped.scopes; runs = others }
+  other = scoped_of number items body scopes others
 
   -- what a scope gives is the same
   abbrev RunSame : ℕ → Type 0
   RunSame k = (input : Items) → scoped.runs k input ≡ others k input
 
-  module _ (def_calls : AllHave (λ d. AllHave RunSame (in_def scopes_named d)) scoped.body.defs)
-      (assertion_calls : AllHave (λ a. AllHave RunSame (scopes_named a.condition)) scoped.body.assertions)
+  module _ (def_calls : AllHave (λ d. AllHave RunSame (in_def scopes_named d)) body.defs)
+      (assertion_calls : AllHave (λ a. AllHave RunSame (scopes_named a.condition)) scoped.assertions)
       (item_calls : AllHave RunSame (called_by_items scoped.items)) where
     abbrev Calls : Type 0
     Calls = ℕ → List Value → Run Value
@@ -89,8 +93,8 @@ module _ (scoped : Scoped) (others : Runs) where
         arguments target
     judged_same calls more values arguments target same =
         target_same (λ e. eval (env_of scoped calls values) e arguments)
-        (λ e. eval (env_of other more values) e arguments) target scoped.body.defs
-        (defs_same calls more values arguments target same scoped.body.defs def_calls)
+        (λ e. eval (env_of other more values) e arguments) target body.defs
+        (defs_same calls more values arguments target same body.defs def_calls)
 
     functions_same : (values : Items) (before : List ℕ)
         → SameCalls (call scoped values before) (call other values before)
@@ -191,19 +195,19 @@ module _ (scoped : Scoped) (others : Runs) where
     scoped_same input =
         ap (λ (r : Run Items). and_then r (λ values. asserted
         (λ e. eval (env_of scoped (call scoped values
-        (backwards scoped.body.order)) values) e []) scoped.body.assertions (plain (outputs_of scoped.items values))))
-        (items_same input [] (no_values scoped.items) scoped.body.order)
-        ∙ and_then_same (run_items other input [] (no_values scoped.items) scoped.body.order)
+        (backwards scoped.order)) values) e []) scoped.assertions (plain (outputs_of scoped.items values))))
+        (items_same input [] (no_values scoped.items) scoped.order)
+        ∙ and_then_same (run_items other input [] (no_values scoped.items) scoped.order)
         (λ values. asserted (λ e. eval (env_of scoped
-        (call scoped values (backwards scoped.body.order)) values) e []) scoped.body.assertions
+        (call scoped values (backwards scoped.order)) values) e []) scoped.assertions
         (plain (outputs_of scoped.items values)))
         (λ values. asserted (λ e. eval (env_of other
-        (call other values (backwards scoped.body.order)) values) e []) scoped.body.assertions
+        (call other values (backwards scoped.order)) values) e []) scoped.assertions
         (plain (outputs_of scoped.items values)))
         (λ values. assertions_same (λ e. eval (env_of scoped
-        (call scoped values (backwards scoped.body.order)) values) e [])
-        (λ e. eval (env_of other (call other values (backwards scoped.body.order)) values) e [])
-        scoped.body.assertions (plain (outputs_of scoped.items values))
-        (conditions_same (call scoped values (backwards scoped.body.order))
-        (call other values (backwards scoped.body.order)) values
-        (functions_same values (backwards scoped.body.order)) scoped.body.assertions assertion_calls))
+        (call scoped values (backwards scoped.order)) values) e [])
+        (λ e. eval (env_of other (call other values (backwards scoped.order)) values) e [])
+        scoped.assertions (plain (outputs_of scoped.items values))
+        (conditions_same (call scoped values (backwards scoped.order))
+        (call other values (backwards scoped.order)) values
+        (functions_same values (backwards scoped.order)) scoped.assertions assertion_calls))

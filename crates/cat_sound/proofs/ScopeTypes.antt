@@ -16,8 +16,6 @@ use Rattle.cat_scope.specs.Names.{has_none}
 use Rattle.cat_scope.specs.Naming.{IsCalledOutput}
 use Rattle.cat_scope.specs.Judging.{Judged, decided}
 use Rattle.cat_scope.specs.Composed.{part}
-use Rattle.cat_scope.specs.Orders.{in_defs_of}
-use Rattle.cat_scope.specs.Mentions.{items_named}
 use Rattle.cat_scope.specs.Naming.{IsInner}
 use Rattle.cat_scope.specs.Calls.{Items, Scoped, variable, variable_of_called, items_of, env_of, judging_of}
 use Rattle.cat_scope.specs.Calls.{variable_value}
@@ -34,14 +32,12 @@ use Rattle.cat_sound.proofs.TargetTypes.{decided-ends}
 use Rattle.cat_sound.proofs.OrderFacts.{AllIn, Behind}
 use Rattle.cat_sound.proofs.InputTypes.{output-ends, Callee, passed_input-ends}
 use Rattle.cat_sound.proofs.ScopeParts.{DoneAt, IsDone, IsSound, called_is, names_of, not_both, same_called}
-use Rattle.cat_sound.proofs.JudgedTypes.{judging_of-ends, own-judging_of, ready, variable_value-ends}
+use Rattle.cat_sound.proofs.JudgedTypes.{own-judging_of, ready, variable_value-ends}
 
-module _ (allowed : Allowed) (ds : Decls) (scoped : Scoped) (sound : IsSound allowed ds scoped) where
+module _ (allowed : Allowed) (ds : Decls) (scoped : Scoped) (needs : ℕ → List ℕ)
+    (sound : IsSound allowed ds scoped needs) where
   abbrev ns : Names
   ns = names_of ds scoped
-
-  abbrev needs : ℕ → List ℕ
-  needs item = in_defs_of items_named item scoped.body.defs
 
   -- ---- items
 
@@ -97,19 +93,19 @@ module _ (allowed : Allowed) (ds : Decls) (scoped : Scoped) (sound : IsSound all
       readies =
           all_more (λ k. IsTrue (is_in k before))
           (IsReady allowed ns (env_of scoped (call scoped values before) values))
-          (needs item) have (ready allowed ds scoped sound values before behind h)
+          (needs item) have (ready allowed ds scoped needs sound values before behind h)
 
       pub defined-ends : (ps : List Ty) → decl.params ≡ ps → is_called decl.kind ≡ false
           → IsTrue (not (must_be_given decl.kind))
           → EndsIn allowed (IsDone ns item) (defined_value scoped before values item decl ps)
       defined-ends [] e free open_one =
-          let judging = own-judging_of allowed ds scoped sound (call scoped values before) values [] item decl at
+          let judging = own-judging_of allowed ds scoped needs sound (call scoped values before) values [] item decl at
           (and_both _ _ (ap not free) open_one) (subst (λ us. AreOf ds us []) (sym e) tt) readies in
           ends_then allowed (IsOf ds decl.ty) (IsDone ns item)
           (variable_value (variable scoped item) (Some decl)
           (decided (variable scoped item)
           (judging_of scoped (call scoped values before) values [] (variable scoped item)))) _
-          (variable_value-ends allowed ds scoped sound (call scoped values before) values [] item decl
+          (variable_value-ends allowed ds scoped needs sound (call scoped values before) values [] item decl
           (decided (variable scoped item) (judging_of scoped (call scoped values before) values []
           (variable scoped item)))
           at
@@ -169,7 +165,7 @@ module _ (allowed : Allowed) (ds : Decls) (scoped : Scoped) (sound : IsSound all
                 params_are = refl;
                 ty_is = refl;
               } in
-              let judging = judging_of-ends allowed ds scoped sound (call scoped values before) values [] item
+              let judging = sound.judged (call scoped values before) values [] item
               (Some (0 + j)) [] i.ty inner tt readies in
               decided-ends allowed
               (IsHeldOf (allowed.may_stop (variable_of_called scoped item (0 + j)) || may_be_empty ns item

@@ -67,13 +67,14 @@ module _ (allowed : Allowed) (ds : Decls) (t : Ty) where
   alone-ends target free (one ∷ []) h = h.0
   alone-ends target free (one ∷ two ∷ hs) h = free
 
-  settle-ends : (target : Target) → IsTrue (allowed.may_stop target) → (rs : List (Judged Value)) → AllHave JudgedOf rs
+  pub settle-ends : (target : Target) → IsTrue (allowed.may_stop target) → (rs : List (Judged Value))
+      → AllHave JudgedOf rs
       → JudgedOf (settle target rs)
   settle-ends target free rs h =
       ends_then allowed AllOf (IsHeldOf true ds t) (holding rs) (λ hs. plain (alone target hs)) (holding-ends rs h)
       (λ hs all. (tt, alone-ends target free hs all))
 
-  or_else-ends : (r other : Judged Value) → JudgedOf r → JudgedOf other → JudgedOf (or_else r other)
+  pub or_else-ends : (r other : Judged Value) → JudgedOf r → JudgedOf other → JudgedOf (or_else r other)
   or_else-ends r other is also =
       ends_then allowed (IsHeldOf true ds t) (IsHeldOf true ds t) r (λ found. found_or found other) is by
     where
@@ -91,7 +92,7 @@ module _ (allowed : Allowed) (ds : Decls) (t : Ty) where
 
 -- ---- groups
 
-all_map : {A B : Type 0} (P : A → Type 0) (Q : B → Type 0) (f : A → B) (xs : List A) → AllHave P xs
+pub all_map : {A B : Type 0} (P : A → Type 0) (Q : B → Type 0) (f : A → B) (xs : List A) → AllHave P xs
     → ((a : A) → P a → Q (f a)) → AllHave Q (map f xs)
 all_map P Q f [] h go = tt
 all_map P Q f (x ∷ xs) h go = (go x h.0, all_map P Q f xs h.1 go)

@@ -12,7 +12,7 @@ use Rattle.cat_scope.specs.ItemValues.{item_value}
 
 -- the values with which the item at an index of the order is evaluated
 abbrev pub values_at : Scoped → Items → ℕ → Run Items
-values_at scoped input index = run_items scoped input [] (no_values scoped.items) (take index scoped.body.order)
+values_at scoped input index = run_items scoped input [] (no_values scoped.items) (take index scoped.order)
 
 -- an item has a value
 abbrev pub HasValue : ℕ → Value → Items → Type 0
@@ -27,7 +27,7 @@ pub record JudgedAt (scoped : Scoped) (input : Items) (index item : ℕ) : Type 
   pub values : Items
   pub value : Option Value
   pub reached : (values_at scoped input index).end ≡ Ok values
-  pub is : (item_value scoped (backwards (take index scoped.body.order)) values item (entry_at item input)
+  pub is : (item_value scoped (backwards (take index scoped.order)) values item (entry_at item input)
       (slice_get scoped.items item)).end ≡ Ok value
 
 -- a log tells what came of a target

@@ -21,7 +21,7 @@ pub record WasJudged (scoped : Scoped) (input : Items) (decider : Decider) : Typ
   pub inner : Option ℕ
   pub values : Items
   pub found : Option (Held Value)
-  pub in_order : scoped.body.order ≡ front ++ item ∷ back
+  pub in_order : scoped.order ≡ front ++ item ∷ back
   pub not_given : entry_at item input ≡ None
   pub reached : (run_items scoped input [] (no_values scoped.items) front).end ≡ Ok values
   pub is : (judging_of scoped (call scoped values (backwards front)) values [] (target_in scoped item inner)).end

@@ -4,7 +4,9 @@ use Rattle.cat_value.specs.declared.value.Value.{Value}
 use Rattle.cat_scope.specs.declared.expr.Expr.{Expr}
 use Rattle.cat_scope.specs.Names.{AllHave}
 use Rattle.cat_scope.specs.Mentions.{items_named, scopes_named}
+use Rattle.cat_scope.specs.Runs.{Run}
 use Rattle.cat_scope.specs.Eval.{Env}
+use Rattle.cat_scope.specs.Calls.{Items, Scoped, call, judging_of, variable, variable_value}
 
 -- of an item: its value, and what it gives for arguments
 pub record TellSame (a b : Env) (item : ℕ) : Type 0 where
@@ -21,3 +23,9 @@ pub record AgreeOn (a b : Env) (e : Expr) : Type 0 where
   pub rounding : a.rounding ≡ b.rounding
   pub items : AllHave (TellSame a b) (items_named e)
   pub scopes : AllHave (CallSame a b) (scopes_named e)
+
+-- what a function gives by the judging of its target, where functions call those among these items
+abbrev pub judged_call : Scoped → Items → List ℕ → ℕ → List Value → Run Value
+judged_call scoped values before function arguments =
+    variable_value (variable scoped function) (slice_get scoped.items function)
+    (judging_of scoped (call scoped values before) values arguments (variable scoped function))

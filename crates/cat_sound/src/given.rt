@@ -22,14 +22,14 @@ pub fn given_values_stand()
         (decl : Option ItemDecl)
         → item_value scoped before values item (Some given) decl ≡ gives (Some given) }
     ensures behind { (scoped : Scoped) (input : Items) (index : ℕ) (item : ℕ) (given : Value)
-        → item < length scoped.items → IsTrue (is_in item (take index scoped.body.order))
+        → item < length scoped.items → IsTrue (is_in item (take index scoped.order))
         → entry_at item input ≡ Some given
         → IfOk (values_at scoped input index).end (HasValue item given) }
     ensures through { (scoped : Scoped) (input : Items) (index : ℕ)
-        → run_items scoped input [] (no_values scoped.items) scoped.body.order
+        → run_items scoped input [] (no_values scoped.items) scoped.order
         ≡ and_then (values_at scoped input index)
-        (λ values. run_items scoped input (backwards (take index scoped.body.order)) values
-        (drop index scoped.body.order)) }
+        (λ values. run_items scoped input (backwards (take index scoped.order)) values
+        (drop index scoped.order)) }
 {}
 
 /// A given output has its value in the outcome.
@@ -46,7 +46,7 @@ pub fn given_outputs_stand(program: &Program)
 #[tactic(auto, using(crate::proofs::RunParts::each_judged))]
 pub fn each_item_is_judged()
     ensures { (scoped : Scoped) (input : Items) (outputs : List Value) (index : ℕ) (item : ℕ)
-        → (run_scoped scoped input).end ≡ Ok outputs → slice_get scoped.body.order index ≡ Some item
+        → (run_scoped scoped input).end ≡ Ok outputs → slice_get scoped.order index ≡ Some item
         → JudgedAt scoped input index item }
 {}
 
@@ -55,7 +55,7 @@ pub fn each_item_is_judged()
 pub fn each_variable_is_logged()
     ensures { (scoped : Scoped) (input : Items) (outputs : List Value) (index : ℕ) (item : ℕ) (decl : ItemDecl)
         → (run_scoped scoped input).end ≡ Ok outputs
-        → slice_get scoped.body.order index ≡ Some item → slice_get scoped.items item ≡ Some decl
+        → slice_get scoped.order index ≡ Some item → slice_get scoped.items item ≡ Some decl
         → IsTrue (is_plain decl) → entry_at item input ≡ None
         → IsLogged (variable scoped item) (run_scoped scoped input).log }
 {}

@@ -5,8 +5,8 @@ ghost use Rattle.cat_value.specs.declared.declaration.ItemDecl.{ItemDecl};
 ghost use Rattle.cat_value.specs.declared.declaration.Scope.{Scope};
 ghost use Rattle.cat_scope.specs.declared.defs.Body.{Body};
 ghost use Rattle.cat_scope.specs.Names.{is_plain};
-ghost use Rattle.cat_scope.specs.Calls.{Items, Scoped};
-ghost use Rattle.cat_scope.specs.Running.{entry_at, run_scoped, scope_run};
+ghost use Rattle.cat_scope.specs.Calls.{Items, Runs};
+ghost use Rattle.cat_scope.specs.Running.{entry_at, run_scoped, scope_run, scoped_of};
 ghost use Rattle.cat_sound.specs.Logs.{IsMadeOf, times_logged};
 
 use cat_scope::Program;
@@ -15,7 +15,9 @@ use cat_scope::Program;
 /// scope that is run within, whose whole log stands there.
 #[tactic(auto, using(crate::proofs::LogLaws::made_of_judgings))]
 pub fn logs_are_made_of_judgings()
-    ensures { (scoped : Scoped) (input : Items) → IsMadeOf scoped input (run_scoped scoped input).log }
+    ensures { (number : ℕ) (items : List ItemDecl) (body : Body) (scopes : List Scope) (runs : Runs) (input : Items)
+        → IsMadeOf (scoped_of number items body scopes runs) input
+        (run_scoped (scoped_of number items body scopes runs) input).log }
 {}
 
 /// Where the run of a scope ends in a value, each variable of the scope that has no given value is logged once.

@@ -3,16 +3,17 @@ ghost use Rattle.std.specs.Prelude.{◌≡◌, ◌↔◌, ◌<◌, ◌++◌, ℕ
 ghost use Rattle.cat_order.specs.Order.{IsOrder};
 ghost use Rattle.cat_value.specs.declared.value.Value.{Value};
 ghost use Rattle.cat_scope.specs.declared.expr.Expr.{Expr};
-ghost use Rattle.cat_scope.specs.Calls.{Items, Scoped, call, judging_of, variable, variable_value};
+ghost use Rattle.cat_scope.specs.Calls.{Items, Runs, call};
 ghost use Rattle.cat_scope.specs.Eval.{Env, eval};
 ghost use Rattle.cat_scope.specs.Names.{is_in};
 ghost use Rattle.cat_scope.specs.Orders.{item_dependencies};
-ghost use Rattle.cat_scope.specs.Running.{backwards, run_scoped, scope_run};
+ghost use Rattle.cat_scope.specs.Running.{backwards, run_scoped, scope_run, scoped_of};
+ghost use Rattle.cat_value.specs.declared.declaration.ItemDecl.{ItemDecl};
 ghost use Rattle.cat_value.specs.declared.declaration.Scope.{Scope};
 ghost use Rattle.cat_scope.specs.declared.defs.Body.{Body};
 ghost use Rattle.cat_scope.specs.Same.{Alike, Same, Standing};
 ghost use Rattle.cat_scope.specs.SameTree.{same_tree};
-ghost use Rattle.cat_sound.specs.Rests.{AgreeOn};
+ghost use Rattle.cat_sound.specs.Rests.{AgreeOn, judged_call};
 
 use cat_scope::Program;
 
@@ -44,21 +45,18 @@ pub fn the_test_of_trees_decides()
 /// values change what it gives.
 #[tactic(auto, using(crate::proofs::FunctionLaws::by_rule, crate::proofs::FunctionLaws::nothing_behind))]
 pub fn functions_are_judged_by_the_rule()
-    ensures rule { (scoped : Scoped) (values : Items) (function : ℕ) (arguments : List Value)
-        → IsOrder (item_dependencies scoped.items scoped.body.defs) scoped.body.order
-        → function < length scoped.items
-        → call scoped values (backwards scoped.body.order) function arguments
-        ≡ variable_value (variable scoped function) (slice_get scoped.items function)
-        (judging_of scoped (call scoped values (backwards scoped.body.order)) values arguments
-        (variable scoped function)) }
-    ensures behind { (scoped : Scoped) (values : Items) (more : Items) (index : ℕ) (function : ℕ)
-        (arguments : List Value)
-        → IsOrder (item_dependencies scoped.items scoped.body.defs) scoped.body.order
-        → IsTrue (is_in function (take index scoped.body.order))
-        → ((item : ℕ) → IsTrue (is_in item (take index scoped.body.order))
-        → slice_get values item ≡ slice_get more item)
-        → call scoped values (backwards (take index scoped.body.order)) function arguments
-        ≡ call scoped more (backwards scoped.body.order) function arguments }
+    ensures rule { (number : ℕ) (items : List ItemDecl) (body : Body) (scopes : List Scope) (runs : Runs)
+        (values : Items) (function : ℕ) (arguments : List Value)
+        → IsOrder (item_dependencies items body.defs) body.order → function < length items
+        → call (scoped_of number items body scopes runs) values (backwards body.order) function arguments
+        ≡ judged_call (scoped_of number items body scopes runs) values (backwards body.order) function arguments }
+    ensures behind { (number : ℕ) (items : List ItemDecl) (body : Body) (scopes : List Scope) (runs : Runs)
+        (values : Items) (more : Items) (index : ℕ) (function : ℕ) (arguments : List Value)
+        → IsOrder (item_dependencies items body.defs) body.order
+        → IsTrue (is_in function (take index body.order))
+        → ((item : ℕ) → IsTrue (is_in item (take index body.order)) → slice_get values item ≡ slice_get more item)
+        → call (scoped_of number items body scopes runs) values (backwards (take index body.order)) function arguments
+        ≡ call (scoped_of number items body scopes runs) more (backwards body.order) function arguments }
 {}
 
 /// A scope of a program is run by the rule of scopes, where a called scope, and a scope call, give what the run of that
@@ -68,11 +66,5 @@ pub fn scopes_are_run_by_the_rule(program: &Program)
     ensures { (number : ℕ) (scope : Scope) (body : Body) (input : Items)
         → slice_get program.now.decls.scopes number ≡ Some scope → slice_get program.now.bodies number ≡ Some body
         → scope_run program.now number input
-        ≡ run_scoped (record {
-          scope = number;
-          items = scope.items;
-          body = body;
-          scopes = program.now.decls.scopes;
-          runs = scope_run program.now;
-        }) input }
+        ≡ run_scoped (scoped_of number scope.items body program.now.decls.scopes (scope_run program.now)) input }
 {}
