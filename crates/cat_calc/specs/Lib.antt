@@ -1,0 +1,4 @@
+pub mod Terms
+pub mod Reducing
+pub mod Calculus
+pub mod WellFormed

@@ -1,0 +1,27 @@
+// The terms of the default calculus.
+use cat_pos::{Boxed, List, Pos};
+use cat_scope::Expr;
+
+/// What the consequence of a default stands under.
+#[derive(Debug, Drop)]
+pub enum Justification {
+    Never,
+    Always,
+    /// A boolean expression.
+    Where(Expr),
+}
+
+/// A term of the default calculus, over the expressions of a scope.
+#[cycle(term)]
+#[derive(Debug, Drop)]
+pub enum Term {
+    /// Nothing holds.
+    Empty,
+    /// The consequence of a definition: the definition's number among those of its scope, its position, and what it
+    /// gives.
+    Consequence(u32, Pos, Expr),
+    /// `⟨exceptions | justification :- consequence⟩`.
+    Default(Terms, Justification, Boxed<Term>),
+}
+
+pub type Terms = List<Term>;
