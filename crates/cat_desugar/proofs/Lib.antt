@@ -1,0 +1,4 @@
+pub mod TargetTerms
+pub mod Numbers
+pub mod Chains
+pub mod Roots
