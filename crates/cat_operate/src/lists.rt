@@ -1,0 +1,60 @@
+// Sums over a list, and whether it has a value.
+ghost use Rattle.std.specs.Prelude.{◌≡◌};
+ghost use Rattle.cat_scope.specs.Lists.{contained, summed, zero_of, adding};
+
+use crate::comparing::equal;
+use crate::numbers::over_one;
+use crate::operating::operate;
+use cat_date::{Rounding, Span};
+use cat_num::{Money, Whole};
+use cat_pos::Pos;
+use cat_scope::{BinaryOp, Stop, SumKind};
+use cat_shared::{Elements, Shared};
+
+/// Whether a list has a value: true at the first element that is equal to it.
+#[tactic(auto, using(crate::proofs::Elements::containing))]
+pub fn contained(pos: Pos, value: &Shared, elements: &Elements) -> Result<Shared, Stop>
+    ensures { result ≡ contained pos value.now elements.now }
+{
+    for element in elements.as_slice() {
+        if equal(pos, element, value)? {
+            return Ok(Shared::of_truth(true));
+        }
+    }
+    Ok(Shared::of_truth(false))
+}
+
+fn zero_of(kind: SumKind) -> Shared
+    ensures { result ≡ zero_of kind }
+{
+    match kind {
+        SumKind::Integers => Shared::of_whole(Whole::new(0).unwrap()),
+        SumKind::Decimals => Shared::of_frac(over_one(Whole::new(0).unwrap())),
+        SumKind::Money => Shared::of_money(Money::new(0).unwrap()),
+        SumKind::Durations => Shared::of_span(Span::from_parts(0, 0)),
+    }
+}
+
+fn adding(kind: SumKind) -> BinaryOp
+    ensures { result ≡ adding kind }
+{
+    match kind {
+        SumKind::Integers => BinaryOp::AddIntegers,
+        SumKind::Decimals => BinaryOp::AddDecimals,
+        SumKind::Money => BinaryOp::AddMoney,
+        SumKind::Durations => BinaryOp::AddDurations,
+    }
+}
+
+/// The sum of a list, from zero on in its order.
+#[tactic(auto, using(crate::proofs::Elements::summing))]
+pub fn summed(kind: SumKind, pos: Pos, elements: &Elements) -> Result<Shared, Stop>
+    ensures { result ≡ summed kind pos elements.now (zero_of kind) }
+{
+    let op = adding(kind);
+    let mut total = zero_of(kind);
+    for element in elements.as_slice() {
+        total = operate(Rounding::Refuse, op, pos, &total, element)?;
+    }
+    Ok(total)
+}

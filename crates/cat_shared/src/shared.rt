@@ -1,0 +1,287 @@
+// Values whose parts are shared.
+ghost use Rattle.std.specs.Prelude.{◌≡◌, IfOk};
+ghost use Rattle.cat_value.specs.declared.value.Value.TheVariants as flat;
+ghost use Rattle.cat_value.specs.declared.value.Value.TheViews as value;
+ghost use Rattle.cat_scope.specs.Projections.{truth, integer, decimal, money, date, duration, elements, case_of};
+ghost use Rattle.cat_scope.specs.Composed.{part};
+ghost use Rattle.cat_shared.specs.Telling.{Tells};
+ghost use Rattle.cat_shared.specs.Scalars.{scalar_of};
+
+use crate::{Elements, Failure};
+use cat_date::{Day, Span};
+use cat_num::{Frac, Money, Whole};
+use cat_pos::List;
+use cat_scope::Stop;
+use std::alloc::{AllocError, Global};
+use std::marker::Model;
+use std::rc::Rc;
+
+/// A value that is shared: a second one takes no room of its own, and contracts see no difference.
+#[cycle(shared)]
+#[derive(Drop)]
+pub struct Shared {
+    pub(crate) node: Node,
+}
+
+#[cycle(shared)]
+#[derive(Drop)]
+pub(crate) enum Node {
+    Boolean(bool),
+    Integer(Whole),
+    Decimal(Frac),
+    Money(Money),
+    Date(Day),
+    Duration(Span),
+    List(Rc<List<Shared>>),
+    Structure(Rc<List<Shared>>),
+    Case(u32, Option<Rc<Shared>>),
+}
+
+impl Model for Shared {
+    ghost use Rattle.cat_value.specs.declared.value.Value.{Value as Valued};
+    ghost use Rattle.cat_value.specs.contracts.value.Value as valued;
+    ghost use Rattle.std.specs.Coded.{codes};
+
+    ghost Value = { Valued };
+
+    ghost coded = { Prim.hlevel (codes, valued.the_row.coded) };
+
+    ghost use Rattle.cat_shared.specs.Nodes.{value_in};
+
+    ghost view = { λ s. value_in s.node };
+
+    ghost use Rattle.cat_value.specs.Laws.{value_height};
+
+    ghost size = { value_height };
+
+    ghost use Rattle.cat_shared.specs.Falls.{node_falls};
+    ghost use Rattle.std.proofs.Common.{arith};
+
+    ghost size_decreases = { λ a h. Prim.omega (arith, node_falls a.node) };
+}
+
+/// What is in a value that has no parts.
+#[derive(Clone, Copy, PartialEq, Eq, Debug)]
+pub enum Scalar {
+    Boolean(bool),
+    Integer(Whole),
+    Decimal(Frac),
+    Money(Money),
+    Date(Day),
+    Duration(Span),
+    /// It has parts.
+    Compound,
+}
+
+impl Shared {
+    pub fn of_truth(truth: bool) -> Shared
+        ensures { result ≡ flat.Boolean truth }
+    {
+        Shared {
+            node: Node::Boolean(truth),
+        }
+    }
+
+    pub fn of_whole(whole: Whole) -> Shared
+        ensures { result ≡ flat.Integer whole }
+    {
+        Shared {
+            node: Node::Integer(whole),
+        }
+    }
+
+    pub fn of_frac(frac: Frac) -> Shared
+        ensures { result ≡ flat.Decimal frac }
+    {
+        Shared {
+            node: Node::Decimal(frac),
+        }
+    }
+
+    pub fn of_money(money: Money) -> Shared
+        ensures { result ≡ flat.Money money }
+    {
+        Shared {
+            node: Node::Money(money),
+        }
+    }
+
+    pub fn of_day(day: Day) -> Shared
+        ensures { result ≡ flat.Date day }
+    {
+        Shared {
+            node: Node::Date(day),
+        }
+    }
+
+    pub fn of_span(span: Span) -> Shared
+        ensures { result ≡ flat.Duration span }
+    {
+        Shared {
+            node: Node::Duration(span),
+        }
+    }
+
+    pub fn of_list(alloc: Global, elements: List<Shared>) -> Result<Shared, AllocError>
+        ensures { IfOk result (λ made. made ≡ value.List elements) }
+    {
+        Ok(Shared {
+            node: Node::List(Rc::new(alloc, elements)?),
+        })
+    }
+
+    pub fn of_structure(alloc: Global, fields: List<Shared>) -> Result<Shared, AllocError>
+        ensures { IfOk result (λ made. made ≡ value.Structure fields) }
+    {
+        Ok(Shared {
+            node: Node::Structure(Rc::new(alloc, fields)?),
+        })
+    }
+
+    pub fn of_case(alloc: Global, case: u32, content: Option<Shared>) -> Result<Shared, AllocError>
+        ensures { IfOk result (λ made. made ≡ value.Case case content) }
+    {
+        let content = match content {
+            None => None,
+            Some(content) => Some(Rc::new(alloc, content)?),
+        };
+        Ok(Shared {
+            node: Node::Case(case, content),
+        })
+    }
+
+    /// The same value once more.
+    pub fn share(&self) -> Result<Shared, AllocError>
+        ensures { IfOk result (λ shared. shared ≡ self.now) }
+    {
+        let node = match &self.node {
+            Node::Boolean(truth) => Node::Boolean(*truth),
+            Node::Integer(whole) => Node::Integer(*whole),
+            Node::Decimal(frac) => Node::Decimal(*frac),
+            Node::Money(money) => Node::Money(*money),
+            Node::Date(day) => Node::Date(*day),
+            Node::Duration(span) => Node::Duration(*span),
+            Node::List(elements) => Node::List(elements.clone()?),
+            Node::Structure(fields) => Node::Structure(fields.clone()?),
+            Node::Case(case, None) => Node::Case(*case, None),
+            Node::Case(case, Some(content)) => Node::Case(*case, Some(content.clone()?)),
+        };
+        Ok(Shared { node })
+    }
+
+    #[tactic(auto, using(crate::proofs::Telling::truth_is, crate::proofs::Telling::no_truth))]
+    pub fn truth(&self) -> Result<bool, Stop>
+        ensures { result ≡ truth self.now }
+    {
+        match &self.node {
+            Node::Boolean(truth) => Ok(*truth),
+            _ => Err(Stop::Stuck),
+        }
+    }
+
+    #[tactic(auto, using(crate::proofs::Telling::integer_is, crate::proofs::Telling::no_integer))]
+    pub fn integer(&self) -> Result<Whole, Stop>
+        ensures { result ≡ integer self.now }
+    {
+        match &self.node {
+            Node::Integer(whole) => Ok(*whole),
+            _ => Err(Stop::Stuck),
+        }
+    }
+
+    #[tactic(auto, using(crate::proofs::Telling::decimal_is, crate::proofs::Telling::no_decimal))]
+    pub fn decimal(&self) -> Result<Frac, Stop>
+        ensures { result ≡ decimal self.now }
+    {
+        match &self.node {
+            Node::Decimal(frac) => Ok(*frac),
+            _ => Err(Stop::Stuck),
+        }
+    }
+
+    #[tactic(auto, using(crate::proofs::Telling::money_is, crate::proofs::Telling::no_money))]
+    pub fn money(&self) -> Result<Money, Stop>
+        ensures { result ≡ money self.now }
+    {
+        match &self.node {
+            Node::Money(money) => Ok(*money),
+            _ => Err(Stop::Stuck),
+        }
+    }
+
+    #[tactic(auto, using(crate::proofs::Telling::date_is, crate::proofs::Telling::no_date))]
+    pub fn date(&self) -> Result<Day, Stop>
+        ensures { result ≡ date self.now }
+    {
+        match &self.node {
+            Node::Date(day) => Ok(*day),
+            _ => Err(Stop::Stuck),
+        }
+    }
+
+    #[tactic(auto, using(crate::proofs::Telling::duration_is, crate::proofs::Telling::no_duration))]
+    pub fn duration(&self) -> Result<Span, Stop>
+        ensures { result ≡ duration self.now }
+    {
+        match &self.node {
+            Node::Duration(span) => Ok(*span),
+            _ => Err(Stop::Stuck),
+        }
+    }
+
+    /// The elements of a list.
+    #[tactic(auto, using(crate::proofs::Telling::elements_is, crate::proofs::Telling::no_elements))]
+    pub fn elements(&self) -> Result<Elements, Failure>
+        ensures { Tells result (elements self.now) }
+    {
+        match &self.node {
+            Node::List(elements) => Ok(Elements::from_rc(elements.clone()?)),
+            _ => Err(Failure::Stop(Stop::Stuck)),
+        }
+    }
+
+    /// Field k of a structure.
+    #[tactic(auto, using(crate::proofs::Telling::part_is, crate::proofs::Telling::no_part))]
+    pub fn part(&self, k: usize) -> Result<Shared, Failure>
+        ensures { Tells result (part k self.now) }
+    {
+        match &self.node {
+            Node::Structure(fields) => match fields.get(k) {
+                Some(field) => Ok(field.share()?),
+                None => Err(Failure::Stop(Stop::Stuck)),
+            },
+            _ => Err(Failure::Stop(Stop::Stuck)),
+        }
+    }
+
+    /// The number of a case, and its content.
+    #[tactic(auto, using(crate::proofs::Telling::cases))]
+    pub fn case_of(&self) -> Result<(u32, Option<Shared>), Failure>
+        ensures { Tells result (case_of self.now) }
+    {
+        match &self.node {
+            Node::Case(case, None) => Ok((*case, None)),
+            Node::Case(case, Some(content)) => Ok((*case, Some(content.share()?))),
+            _ => Err(Failure::Stop(Stop::Stuck)),
+        }
+    }
+
+    /// What is in the value, where it has no parts.
+    #[tactic(auto, using(crate::proofs::Telling::scalars))]
+    pub fn scalar(&self) -> Scalar
+        ensures { result ≡ scalar_of self.now }
+    {
+        match &self.node {
+            Node::Boolean(truth) => Scalar::Boolean(*truth),
+            Node::Integer(whole) => Scalar::Integer(*whole),
+            Node::Decimal(frac) => Scalar::Decimal(*frac),
+            Node::Money(money) => Scalar::Money(*money),
+            Node::Date(day) => Scalar::Date(*day),
+            Node::Duration(span) => Scalar::Duration(*span),
+            Node::List(_) => Scalar::Compound,
+            Node::Structure(_) => Scalar::Compound,
+            Node::Case(_, None) => Scalar::Compound,
+            Node::Case(_, Some(_)) => Scalar::Compound,
+        }
+    }
+}

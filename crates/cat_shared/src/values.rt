@@ -1,0 +1,90 @@
+// Between values and shared ones.
+ghost use Rattle.std.specs.Prelude.{◌≡◌, IfOk};
+
+use crate::Shared;
+use crate::shared::Node;
+use cat_pos::{Boxed, List};
+use cat_value::{Value, Values};
+use std::alloc::{AllocError, Global};
+
+/// A value as a shared one.
+#[cycle(sharing)]
+pub fn shared_of(alloc: Global, value: &Value) -> Result<Shared, AllocError>
+    ensures { IfOk result (λ shared. shared ≡ value.now) }
+{
+    match value {
+        Value::Boolean(truth) => Ok(Shared::of_truth(*truth)),
+        Value::Integer(whole) => Ok(Shared::of_whole(*whole)),
+        Value::Decimal(frac) => Ok(Shared::of_frac(*frac)),
+        Value::Money(money) => Ok(Shared::of_money(*money)),
+        Value::Date(day) => Ok(Shared::of_day(*day)),
+        Value::Duration(span) => Ok(Shared::of_span(*span)),
+        Value::List(elements) => {
+            let elements = all_shared(alloc, elements)?;
+            Shared::of_list(alloc, elements)
+        }
+        Value::Structure(fields) => {
+            let fields = all_shared(alloc, fields)?;
+            Shared::of_structure(alloc, fields)
+        }
+        Value::Case(case, None) => Shared::of_case(alloc, *case, None),
+        Value::Case(case, Some(content)) => {
+            let content = shared_of(alloc, content.get())?;
+            Shared::of_case(alloc, *case, Some(content))
+        }
+    }
+}
+
+#[cycle(sharing)]
+fn all_shared(alloc: Global, values: &Values) -> Result<List<Shared>, AllocError>
+    ensures { IfOk result (λ shared. shared ≡ values.now) }
+{
+    let mut shared = List::new(alloc);
+    for value in values.as_slice() {
+        shared.push(shared_of(alloc, value)?)?;
+    }
+    Ok(shared)
+}
+
+/// A shared value as one in memory of its own.
+#[cycle(unsharing)]
+#[tactic(auto, using(crate::proofs::Lower::heights))]
+pub fn value_of(alloc: Global, shared: &Shared) -> Result<Value, AllocError>
+    ensures { IfOk result (λ value. value ≡ shared.now) }
+{
+    match &shared.node {
+        Node::Boolean(truth) => Ok(Value::Boolean(*truth)),
+        Node::Integer(whole) => Ok(Value::Integer(*whole)),
+        Node::Decimal(frac) => Ok(Value::Decimal(*frac)),
+        Node::Money(money) => Ok(Value::Money(*money)),
+        Node::Date(day) => Ok(Value::Date(*day)),
+        Node::Duration(span) => Ok(Value::Duration(*span)),
+        Node::List(elements) => {
+            let elements = values_of(alloc, elements)?;
+            Ok(Value::List(elements))
+        }
+        Node::Structure(fields) => {
+            let fields = values_of(alloc, fields)?;
+            Ok(Value::Structure(fields))
+        }
+        Node::Case(case, None) => Ok(Value::Case(*case, None)),
+        Node::Case(case, Some(content)) => {
+            let content = value_of(alloc, content)?;
+            let content = Boxed::new(alloc, content)?;
+            Ok(Value::Case(*case, Some(content)))
+        }
+    }
+}
+
+/// Shared values, each in memory of its own.
+#[cycle(unsharing)]
+#[tactic(auto, using(crate::proofs::Lower::heights))]
+pub fn values_of(alloc: Global, shared: &List<Shared>) -> Result<Values, AllocError>
+    ensures { IfOk result (λ values. values ≡ shared.now) }
+{
+    let mut values = List::new(alloc);
+    for one in shared.as_slice() {
+        values.push(value_of(alloc, one)?)?;
+    }
+    Ok(values)
+}
