@@ -1,0 +1,13 @@
+pub mod Tells
+pub mod Constants
+pub mod GuardTells
+pub mod Follow
+pub mod AskedTypes
+pub mod Numbered
+pub mod SameSelf
+pub mod AtomAnswers
+pub mod DefFollows
+pub mod TargetFollows
+pub mod TargetsListed
+pub mod ScopeFollows
+pub mod AuditLaws

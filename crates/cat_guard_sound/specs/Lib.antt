@@ -1,0 +1,3 @@
+pub mod Evaluations
+pub mod Follows
+pub mod Audited
