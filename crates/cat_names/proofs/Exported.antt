@@ -5,7 +5,11 @@ pub use Rattle.cat_names.proofs.Equations.{alone, forms, meant_Binary, meant_Cal
 pub use Rattle.cat_names.proofs.Equations.{meant_Content, meant_Each, meant_Field, meant_If, meant_List, meant_Literal}
 pub use Rattle.cat_names.proofs.Equations.{meant_Match, meant_Name, meant_Parens, meant_Prefixed, meant_ScopeCall}
 pub use Rattle.cat_names.proofs.Equations.{meant_Structure, meant_Sum, meant_Test}
-pub use Rattle.cat_names.proofs.UnknownEquations.{unknowns}
+pub use Rattle.cat_names.proofs.UnknownEquations.{arm_row, field_row, unknowns, unknown_Binary, unknown_Call}
+pub use Rattle.cat_names.proofs.UnknownEquations.{unknown_Case, unknown_Combine, unknown_Content, unknown_Each}
+pub use Rattle.cat_names.proofs.UnknownEquations.{unknown_Field, unknown_If, unknown_List, unknown_Literal}
+pub use Rattle.cat_names.proofs.UnknownEquations.{unknown_Match, unknown_Name, unknown_Parens, unknown_Prefixed}
+pub use Rattle.cat_names.proofs.UnknownEquations.{unknown_ScopeCall, unknown_Structure, unknown_Sum, unknown_Test}
 pub use Rattle.cat_names.proofs.WordEquations.{words}
 pub use Rattle.cat_names.proofs.Steps.{beside_stands, behind, found_stands, in_front, left_stands, left_tells}
 pub use Rattle.cat_names.proofs.Steps.{right_stands, right_tells, then_stands, then_tells}
