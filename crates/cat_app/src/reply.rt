@@ -34,7 +34,7 @@ pub fn whole_reply<S: Shelf>(
     ensures may { IfOk result (λ reply. MayReply (texts_of words.now)
         (S.state shelf.old) (S.state shelf.new) reply.status (string_bytes reply.text)) }
 {
-    match read_words(words) {
+    match read_words(alloc, words)? {
         Some(asked) => run(alloc, asked, shelf),
         None => usage(alloc),
     }

@@ -1,9 +1,12 @@
 // The words of the command line.
-ghost use Rattle.std.specs.Prelude.{◌≡◌, option_map};
+ghost use Rattle.std.specs.Prelude.{◌≡◌, IfOk, option_map};
 ghost use Rattle.cat_io.specs.Stored.{texts_of};
-ghost use Rattle.cat_app.specs.Words.{request_of};
+ghost use Rattle.cat_words.specs.Asked.{asked_of as words_of};
+ghost use Rattle.cat_app.specs.Words.{request_by, request_of};
 ghost use Rattle.cat_app.specs.inside.Says.{asked_of};
-ghost use Rattle.cat_app.specs.Words as spec;
+
+use cat_words::CommandLine;
+use std::alloc::{AllocError, Global};
 
 /// A run of a scope, with the names of the source and of the input.
 #[derive(Clone, Copy, Debug)]
@@ -13,23 +16,26 @@ pub struct RunWords<'a> {
     pub extra: &'a str,
 }
 
-/// What the words `run SCOPE FILE [EXTRA]` ask for. EXTRA is standard input where it isn't given.
-pub fn read_words(words: &[String]) -> Option<RunWords<'_>>
-    ensures { option_map asked_of result ≡ request_of (texts_of words.now) }
+/// The run that a command line asks for. EXTRA is standard input where it isn't given.
+fn run_words(line: CommandLine<'_>) -> Option<RunWords<'_>>
+    ensures { option_map asked_of result ≡ request_by (words_of line.entry) }
 {
-    let (mode, scope, file, extra) = match words {
-        [mode, scope, file] => (mode, scope, file, "-"),
-        [mode, scope, file, extra] => (mode, scope, file, extra.as_str()),
-        _ => return None,
-    };
-    if !is_run(mode, file) {
+    if line.mode != "run" || line.file.as_bytes().contains(&10) {
         return None;
     }
-    Some(RunWords { scope, file, extra })
+    Some(RunWords {
+        scope: line.scope,
+        file: line.file,
+        extra: line.extra.unwrap_or("-"),
+    })
 }
 
-fn is_run(mode: &str, file: &str) -> bool
-    ensures { result ≡ spec.is_run mode.now file.now }
+/// What the words `run SCOPE FILE [EXTRA]` ask for.
+pub fn read_words<'a>(alloc: Global, words: &'a [String]) -> Result<Option<RunWords<'a>>, AllocError>
+    ensures { IfOk result (λ asked. option_map asked_of asked ≡ request_of (texts_of words.entry.now)) }
 {
-    mode == "run" && !file.as_bytes().contains(&10)
+    match cat_words::read_words(alloc, words)? {
+        Some(line) => Ok(run_words(line)),
+        None => Ok(None),
+    }
 }

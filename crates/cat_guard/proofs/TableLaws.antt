@@ -1,6 +1,8 @@
 -- What is known of the judging of a table's target is so, where its numbers name what they should.
-use Rattle.std.proofs.Common.{◌≡◌, ℕ, zero, suc, ◌+◌, ◌<◌, nat_eq, nat_lt, Bool, true, false, ◌&&◌, IsTrue, List, [], ◌∷◌}
-use Rattle.std.proofs.Common.{◌++◌, map, length, Option, Some, None, slice_get, refl, sym, ap, ◌∙◌, subst, arith, true≢false}
+use Rattle.std.proofs.Common.{◌≡◌, ℕ, zero, suc, ◌+◌, ◌<◌, nat_eq, nat_lt, Bool, true, false, ◌&&◌, IsTrue, List, []}
+use Rattle.std.proofs.Common.{◌∷◌}
+use Rattle.std.proofs.Common.{◌++◌, map, length, Option, Some, None, slice_get, refl, sym, ap, ◌∙◌, subst, arith}
+use Rattle.std.proofs.Common.{true≢false}
 use Rattle.std.proofs.Common.{get_or, if◌then◌else◌}
 use Rattle.std.proofs.lemmas.Bool.Decides.{nat_tests}
 use Rattle.std.specs.List.{list_all}
@@ -19,7 +21,8 @@ use Rattle.cat_guard.specs.declared.table.Atom.{Atom}
 use Rattle.cat_guard.specs.Formulas.{IsSo, known, truth}
 use Rattle.cat_guard.specs.GuardFormulas.{formula_of}
 use Rattle.cat_guard.specs.Soundness.{are_below, def_is_sound, group_is_sound, above, target_is_sound, is_sound}
-use Rattle.cat_guard.specs.TableJudging.{Decided, decided_def, decided_own, each_before, pairs_from, decided_group, decided}
+use Rattle.cat_guard.specs.TableJudging.{Decided, decided_def, decided_own, each_before, pairs_from, decided_group}
+use Rattle.cat_guard.specs.TableJudging.{decided}
 use Rattle.cat_guard.specs.Verdicts.{Verdict, listed, def_verdict, own_verdict, excepting_in, group_verdict, verdict_of}
 use Rattle.cat_guard.specs.Verdicts.{Stands}
 use Rattle.cat_guard.proofs.FormulaLaws.{known_so}
@@ -29,7 +32,8 @@ pub both_true : (a b : Bool) → IsTrue (a && b) → IsTrue a × IsTrue b
 both_true true b h = (refl, h)
 both_true false b h = absurd (true≢false (sym h))
 
-pub all_true : {A : Type 0} (test : A → Bool) (xs : List A) → IsTrue (list_all test xs) → AllHave (λ x. IsTrue (test x)) xs
+pub all_true : {A : Type 0} (test : A → Bool) (xs : List A) → IsTrue (list_all test xs)
+  → AllHave (λ x. IsTrue (test x)) xs
 all_true test [] h = tt
 all_true test (x ∷ xs) h = let two = both_true (test x) (list_all test xs) h in (two.0, all_true test xs two.1)
 
@@ -142,7 +146,8 @@ module _ (t : TableTarget) (sound : IsSoundTarget t) (answers : ℕ → Option B
       (known_so answers holds each (formula_of e.value.guard)) d e.value e.is)
 
   own_stands : (g : ℕ) (group : GuardGroup) → slice_get t.groups g ≡ Some group
-      → Stands t.target t.defs (own_verdict t answers (slice_get t.groups g)) (decided_own t holds (slice_get t.groups g)).end
+      → Stands t.target t.defs (own_verdict t answers (slice_get t.groups g))
+        (decided_own t holds (slice_get t.groups g)).end
   own_stands g group is =
       let two = both_true (are_below (length t.defs) group.defs) (are_below (length t.groups) group.excepted_by)
       (list_all_at (group_is_sound (length t.defs) (length t.groups)) t.groups g group sound.groups is) in
@@ -169,7 +174,8 @@ module _ (t : TableTarget) (sound : IsSoundTarget t) (answers : ℕ → Option B
       (own_verdict t answers (slice_get t.groups g))
       (settle t.target (map (decided_group t holds n) (excepting (pairs_from 0 t.groups) g)))
       (decided_own t holds (slice_get t.groups g))
-      (subst (λ hs. Stands t.target t.defs (listed (map (group_verdict t answers n) (excepting_in (slice_get t.groups g))))
+      (subst (λ hs. Stands t.target t.defs
+        (listed (map (group_verdict t answers n) (excepting_in (slice_get t.groups g))))
       (settle t.target (map (decided_group t holds n) hs)).end) (sym (excepting_is t.groups g))
       (settle_stands t.target t.defs _ _
       (maps_stand t.target t.defs (group_verdict t answers n) (decided_group t holds n)

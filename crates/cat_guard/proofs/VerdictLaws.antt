@@ -1,17 +1,20 @@
 -- What is known of the judging of a target is so.
 use Rattle.std.proofs.Common.{◌≡◌, ℕ, zero, suc, ◌≤◌, Bool, true, false, ◌||◌, IsTrue, List, [], ◌∷◌, map, length}
-use Rattle.std.proofs.Common.{Option, Some, None, Result, Ok, Err, slice_get, refl, sym, ap, ◌∙◌, subst, arith, true≢false}
+use Rattle.std.proofs.Common.{Option, Some, None, Result, Ok, Err, slice_get, refl, sym, ap, ◌∙◌, subst, arith}
+use Rattle.std.proofs.Common.{true≢false}
 use Rattle.std.proofs.Common.{if◌then◌else◌}
 use Rattle.cat_value.specs.declared.outcome.Target.{Target}
 use Rattle.cat_scope.specs.declared.stop.Stop.{Stop}
 use Rattle.cat_scope.specs.declared.stop.Stop.TheVariants as stops
 use Rattle.cat_scope.specs.Names.{AllHave}
 use Rattle.cat_scope.specs.Replies.{on_one}
-use Rattle.cat_scope.specs.Judging.{Held, Judged, with_held, holding, alone, settle, or_else, in_source_order, positions_in}
+use Rattle.cat_scope.specs.Judging.{Held, Judged, with_held, holding, alone, settle, or_else, in_source_order}
+use Rattle.cat_scope.specs.Judging.{positions_in}
 use Rattle.cat_guard.specs.declared.guard.GuardDef.{GuardDef}
 use Rattle.cat_guard.specs.TableJudging.{Decided, by_truth}
 use Rattle.cat_guard.specs.Formulas.{IsSo}
-use Rattle.cat_guard.specs.Verdicts.{Verdict, some_conflict, some_open, holders, are_two, first_of, listed, else_verdict}
+use Rattle.cat_guard.specs.Verdicts.{Verdict, some_conflict, some_open, holders, are_two, first_of, listed}
+use Rattle.cat_guard.specs.Verdicts.{else_verdict}
 use Rattle.cat_guard.specs.Verdicts.{verdict_by, IsHeldAt, IsConflictOf, Stands}
 use Rattle.cat_guard.specs.Verdicts as v
 use Rattle.cat_guard.proofs.Ends.{one_more, holding_end, settle_end, else_end, or_else_end}
@@ -56,7 +59,8 @@ module _ (target : Target) (defs : List GuardDef) where
   Counts ws (Err stop) = IsTrue (some_conflict ws || some_open ws) × IsConflictOf target stop
   Counts ws (Ok hs) = Counted ws hs
 
-  more : (w : Verdict) (ws : List Verdict) (o : End) (m : Ends) → Fits w o → Counts ws m → Counts (w ∷ ws) (one_more o m)
+  more : (w : Verdict) (ws : List Verdict) (o : End) (m : Ends) → Fits w o → Counts ws m
+    → Counts (w ∷ ws) (one_more o m)
   more (v.Holds d) ws (Ok (Some h)) (Err stop) is c = c
   more (v.Holds d) ws (Ok (Some h)) (Ok hs) is c = record {
     calm = c.calm;

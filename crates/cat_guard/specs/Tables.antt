@@ -1,5 +1,6 @@
 -- The table of a scope.
-use Rattle.std.specs.Prelude.{◌≡◌, ℕ, ◌+◌, ◌&&◌, ◌||◌, nat_eq, Bool, false, not, List, [], ◌∷◌, ◌++◌, map, Option, Some, None}
+use Rattle.std.specs.Prelude.{◌≡◌, ℕ, ◌+◌, ◌&&◌, ◌||◌, nat_eq, Bool, false, not, List, [], ◌∷◌, ◌++◌, map, Option, Some}
+use Rattle.std.specs.Prelude.{None}
 use Rattle.std.specs.Prelude.{slice_get, if◌then◌else◌}
 use Rattle.cat_pos.specs.declared.pos.Pos.{Pos}
 use Rattle.cat_value.specs.declared.decls.Decls.{Decls}
@@ -141,7 +142,8 @@ target_of ds items defs qs t = record {
 pub record IsTableOf (ds : Decls) (scope : ℕ) (decl : Scope) (body : Body) (table : Table) : Type 0 where
   pub scope_is : table.scope ≡ scope
   pub name_is : table.name ≡ decl.name
-  pub terms_are : table.terms ≡ terms_of decl.items (questions_of ds body.defs (targets_of ds scope decl.items body.order))
+  pub terms_are : table.terms ≡ terms_of decl.items
+    (questions_of ds body.defs (targets_of ds scope decl.items body.order))
   pub atoms_are : table.atoms ≡ atoms_of (questions_of ds body.defs (targets_of ds scope decl.items body.order))
   pub targets_are : table.targets
       ≡ map (target_of ds decl.items body.defs (questions_of ds body.defs (targets_of ds scope decl.items body.order)))

@@ -82,8 +82,8 @@ abbrev pub excepting_in : Option GuardGroup → List ℕ
 excepting_in None = []
 excepting_in (Some g) = g.excepted_by
 
--- a group, as the list of the groups that except it and, where that is Empty, as that of its own definitions; a chain of
--- exceptions that is longer than n is open
+-- a group, as the list of the groups that except it and, where that is Empty, as that of its own definitions; a chain
+-- of exceptions that is longer than n is open
 abbrev pub group_verdict : TableTarget → (ℕ → Option Bool) → ℕ → ℕ → Verdict
 group_verdict t answers zero g = Open
 group_verdict t answers (suc n) g =
@@ -104,8 +104,8 @@ IsHeldAt defs d h =
 abbrev pub IsConflictOf : Target → Stop → Type 0
 IsConflictOf target stop = (positions : List Pos) × (stop ≡ stops.Conflict target positions)
 
--- what a verdict says of a judging: it ends Held with that definition, Empty, or in a Conflict of this very target. Where
--- it is open it ends in one of these
+-- what a verdict says of a judging: it ends Held with that definition, Empty, or in a Conflict of this very target.
+-- Where it is open it ends in one of these
 abbrev pub Stands : Target → List GuardDef → Verdict → Result (Option (Held (Unit {0}))) Stop → Type 0
 Stands target defs (Holds d) (Ok (Some h)) = IsHeldAt defs d h
 Stands target defs (Holds d) (Ok None) = ⊥

@@ -1,5 +1,6 @@
 -- The questions of a typed condition: each is of a term of a type, whose dimension it has.
-use Rattle.std.proofs.Common.{◌≡◌, Bool, true, false, not, IsTrue, List, [], ◌∷◌, ◌++◌, Option, Some, None, slice_get, refl}
+use Rattle.std.proofs.Common.{◌≡◌, Bool, true, false, not, IsTrue, List, [], ◌∷◌, ◌++◌, Option, Some, None, slice_get}
+use Rattle.std.proofs.Common.{refl}
 use Rattle.std.proofs.Common.{sym, ap, ◌∙◌, subst, arith, true≢false, ℕ, zero, suc, length, nat_lt, Result, Err}
 use Rattle.std.proofs.lemmas.Bool.Decides.{nat_tests}
 use Rattle.cat_num.specs.Frac.{gcd}
@@ -136,7 +137,8 @@ module _ (ns : Names) (ps : List Ty) (g : Standing) where
   against_asked : (e : Expr) (c : Comparison) (s : Scalar) → HasType ns ps e (scalar_type s)
       → AreAsked (against g e c s)
   against_asked e c s typed =
-      parted_all (IsAskedOf ns ps g) c _ _ (scalar_asked e s (cut.Below s) typed) (scalar_asked e s (cut.AtMost s) typed)
+      parted_all (IsAskedOf ns ps g) c _ _ (scalar_asked e s (cut.Below s) typed)
+        (scalar_asked e s (cut.AtMost s) typed)
 
   compared_asked : (e : Expr) (c : Comparison) (o : BinaryOp) → comparison_of o ≡ Some c → (r : Signature)
       → IsOneOf r (signatures_of o) → (a b : Expr) → HasType ns ps a r.left → HasType ns ps b r.right

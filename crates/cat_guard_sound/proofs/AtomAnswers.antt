@@ -1,6 +1,8 @@
 -- At the valuation of a judging each atom of a target's guards answers as the judging's own evaluation does.
-use Rattle.std.proofs.Common.{◌≡◌, ℕ, zero, suc, nat_eq, Bool, true, false, ◌&&◌, not, IsTrue, List, [], ◌∷◌, ◌++◌, length}
-use Rattle.std.proofs.Common.{Option, Some, None, Result, Ok, Err, slice_get, refl, sym, ap, ◌∙◌, subst, arith, true≢false}
+use Rattle.std.proofs.Common.{◌≡◌, ℕ, zero, suc, nat_eq, Bool, true, false, ◌&&◌, not, IsTrue, List, [], ◌∷◌, ◌++◌}
+use Rattle.std.proofs.Common.{length}
+use Rattle.std.proofs.Common.{Option, Some, None, Result, Ok, Err, slice_get, refl, sym, ap, ◌∙◌, subst, arith}
+use Rattle.std.proofs.Common.{true≢false}
 use Rattle.std.proofs.Common.{if◌then◌else◌}
 use Rattle.std.proofs.lemmas.Bool.Decides.{nat_tests}
 use Rattle.cat_value.specs.declared.ty.Ty.{Ty}
@@ -31,7 +33,8 @@ use Rattle.cat_guard.specs.declared.table.Atom.{Atom}
 use Rattle.cat_guard.specs.Formulas.{asked}
 use Rattle.cat_guard.specs.Numbering.{firsts}
 use Rattle.cat_guard.specs.Questions.{Question}
-use Rattle.cat_guard.specs.Terms.{same_term, same_question, term_of, terms_of, term_number, atom_of, atoms_of, atom_number}
+use Rattle.cat_guard.specs.Terms.{same_term, same_question, term_of, terms_of, term_number, atom_of, atoms_of}
+use Rattle.cat_guard.specs.Terms.{atom_number}
 use Rattle.cat_guard.specs.Tables.{standing_of, def_formula, defs_questions, questions_of}
 use Rattle.cat_guard.specs.Valuations.{atom_answer, holds_at}
 use Rattle.cat_guard.specs.PointValues.{point_at}
@@ -95,7 +98,8 @@ module _ (ns : Names) (scope : ℕ) (defs : List Def) (typed : AllHave (DefTyped
     pub asked_of : IsAskedOf ns def_typed.params (standing_of def) q
 
   pub def_all : (d : Def) → DefTyped ns scope d → AllHave IsOfDef (asked (def_formula ns.decls d))
-  def_all d h = go (asked (def_formula ns.decls d)) (condition_asked ns h.params (standing_of d) d.condition h.condition)
+  def_all d h = go (asked (def_formula ns.decls d))
+    (condition_asked ns h.params (standing_of d) d.condition h.condition)
     where
       go : (xs : List Question) → AllHave (IsAskedOf ns h.params (standing_of d)) xs → AllHave IsOfDef xs
       go [] all = tt

@@ -1,5 +1,6 @@
 -- Scopes whose targets are covered by each valuation of their tables have no conflict and no gap.
-use Rattle.std.proofs.Common.{◌≡◌, ◌⊎◌, inl, inr, ℕ, Bool, true, false, IsTrue, List, [], ◌∷◌, map, length, Option, Some}
+use Rattle.std.proofs.Common.{◌≡◌, ◌⊎◌, inl, inr, ℕ, Bool, true, false, IsTrue, List, [], ◌∷◌, map, length, Option}
+use Rattle.std.proofs.Common.{Some}
 use Rattle.std.proofs.Common.{None, Result, Ok, Err, slice_get, refl, sym, ap, ◌∙◌, subst, arith, true≢false}
 use Rattle.std.proofs.lemmas.Option.{slice_get_within}
 use Rattle.std.proofs.Math.Logic.{∥∥₁_elim}
@@ -45,7 +46,8 @@ use Rattle.cat_guard.specs.Valuations.{dims_of, holds_at}
 use Rattle.cat_guard.proofs.Exported.{IsSoundTarget, sound_parts, targets_sound}
 use Rattle.cat_guard_sound.specs.Evaluations.{valuation_of}
 use Rattle.cat_guard_sound.specs.Follows.{Follows}
-use Rattle.cat_guard_sound.specs.Audited.{MayDecide, IsTargetAudited, IsAudited, ScopesAudited, none_may_stop, IsValueOrFault}
+use Rattle.cat_guard_sound.specs.Audited.{MayDecide, IsTargetAudited, IsAudited, ScopesAudited, none_may_stop}
+use Rattle.cat_guard_sound.specs.Audited.{IsValueOrFault}
 use Rattle.cat_guard_sound.proofs.Follow.{covered_follows}
 use Rattle.cat_guard_sound.proofs.ScopeFollows.{of_mapped, valuation_is, target_follows}
 use Rattle.cat_guard_sound.proofs.TargetsListed.{target_listed, same_empty, no_function}
@@ -66,7 +68,8 @@ in_table ds k decl body t = target_of ds decl.items body.defs (questions ds k de
 
 -- what holds of the targets of a table holds of each target of the scope
 pub table_target : (P : TableTarget → Type 0) (ds : Decls) (k : ℕ) (decl : Scope) (body : Body) (table : Table)
-    → IsTableOf ds k decl body table → AllHave P table.targets → (t : Target) → IsOneOf t (listed_targets ds k decl body)
+    → IsTableOf ds k decl body table → AllHave P table.targets → (t : Target)
+      → IsOneOf t (listed_targets ds k decl body)
     → P (in_table ds k decl body t)
 table_target P ds k decl body table is all t among =
     of_mapped P (in_table ds k decl body) (listed_targets ds k decl body) t (subst (AllHave P) is.targets_are all) among
@@ -111,7 +114,8 @@ module _ (ds : Decls) (k : ℕ) (decl : Scope) (body : Body) (table : Table)
         subst (λ terms. Follows (IsOf ds t) (IsEnd allowed) (judge_target of here body.defs).end
         (decided here_in_table (holds_at table.atoms (valuation_of env terms item arguments))).end) (sym is.terms_are)
         (subst (λ atoms. Follows (IsOf ds t) (IsEnd allowed) (judge_target of here body.defs).end
-        (decided here_in_table (holds_at atoms (valuation_of env (terms_of decl.items (questions ds k decl body)) item arguments))).end)
+        (decided here_in_table (holds_at atoms
+          (valuation_of env (terms_of decl.items (questions ds k decl body)) item arguments))).end)
         (sym is.atoms_are)
         (target_follows (names ds decl) k body.defs body.order typed allowed env item inner ps t target arguments are
         listed sound_here stand))
@@ -146,12 +150,15 @@ audited_settled allowed ds k decl body table typed ordered audited env arguments
     let here : Target = record { scope = k; item = item; inner = inner } in
     let this = table_target (IsTargetAudited allowed table) ds k decl body table audited.table_is audited.targets here
     (target_listed (names ds decl) k body.defs body.order ordered item inner ps t target) in
-    let at = valuation ds k decl body table typed ordered audited.table_is audited.sound allowed env item inner ps t target
+    let at = valuation ds k decl body table typed ordered audited.table_is audited.sound allowed env item inner ps t
+      target
     arguments are stand in record {
-      ends = λ stops. covered_ends ds k decl body table typed ordered audited.table_is audited.sound allowed env item inner
+      ends = λ stops. covered_ends ds k decl body table typed ordered audited.table_is audited.sound allowed env item
+        inner
           ps t target arguments are stand (this.covered stops (valuation_of env table.terms item arguments) at);
       stands = λ none. held_of allowed here ds t (judge_target (λ e. eval env e arguments) here body.defs).end
-          (decided (in_table ds k decl body here) (holds_at table.atoms (valuation_of env table.terms item arguments))).end
+          (decided (in_table ds k decl body here)
+            (holds_at table.atoms (valuation_of env table.terms item arguments))).end
           (follows ds k decl body table typed ordered audited.table_is audited.sound allowed env item inner ps t target
           arguments are stand)
           (this.decides (no_function (names ds decl) item inner ps t target none)
@@ -185,7 +192,8 @@ audited_programs allowed within tables ds bodies order scope input formed closed
     (λ is. settled_programs allowed within ds bodies order scope input formed closed
     (λ k decl body here at body_there.
     let b = body_is ds bodies order is k decl body at body_there in
-    audited_settled allowed ds k decl body (tables k) b.defs b.order (audited k decl body here at body_there)) inside typed)
+    audited_settled allowed ds k decl body (tables k) b.defs b.order (audited k decl body here at body_there)) inside
+      typed)
 
 calm : (ds : Decls) (items : List ItemDecl) (r : Result (List Value) Stop)
     → Ended none_may_stop (AreOutputsOf ds items) r → IsValueOrFault (outcome_of r)

@@ -1,5 +1,6 @@
 -- A definition follows the truth value of its guard.
-use Rattle.std.proofs.Common.{◌≡◌, ◌⊎◌, inl, inr, ℕ, Bool, true, false, IsTrue, List, [], ◌∷◌, Option, Some, None, Result}
+use Rattle.std.proofs.Common.{◌≡◌, ◌⊎◌, inl, inr, ℕ, Bool, true, false, IsTrue, List, [], ◌∷◌, Option, Some, None}
+use Rattle.std.proofs.Common.{Result}
 use Rattle.std.proofs.Common.{Ok, Err, refl, sym, ap, ◌∙◌, subst}
 use Rattle.cat_pos.specs.declared.pos.Pos.{Pos}
 use Rattle.cat_value.specs.declared.ty.Ty.{Ty}
@@ -73,7 +74,8 @@ module _ (allowed : Allowed) (ds : Decls) (t : Ty) (of : Expr → Run Value) (d 
       let seen : read.truth v ≡ Ok is.0 = ap read.truth is.1 ∙ ap read.truth_in (value.outs-Boolean is.0) in
       subst (λ x. Goes (one_end x (on_one r (λ w. Ok (Some (held_as d w)))) (Ok None)) (by_truth b d.0 d.1.pos).end)
       (sym seen)
-      (subst (λ x. Goes (one_end (Ok is.0) (on_one r (λ w. Ok (Some (held_as d w)))) (Ok None)) (by_truth x d.0 d.1.pos).end)
+      (subst (λ x. Goes (one_end (Ok is.0) (on_one r (λ w. Ok (Some (held_as d w)))) (Ok None))
+        (by_truth x d.0 d.1.pos).end)
       (sym (tells is.0 (ap told seen))) (chosen_goes is.0 r ended))
 
   pub def_goes : (b : Bool) → DefEnds allowed ds t of d.1 → Tells (condition_of of d.1.condition).end b

@@ -52,9 +52,11 @@ use Rattle.cat_guard.specs.Questions.{binary_guard, guard_in, guard_of}
 use Rattle.cat_guard.specs.PointValues.{point_in, point_of, point_or, point_at, default_point}
 use Rattle.cat_guard.proofs.Exported.{guarded, guard_at, then_end}
 use Rattle.cat_guard_sound.specs.Evaluations.{told, says, answered}
-use Rattle.cat_guard_sound.proofs.Tells.{Tells, tells_as, tells_Boolean, tells_and, tells_or, tells_if, tells_not, tells_xor}
+use Rattle.cat_guard_sound.proofs.Tells.{Tells, tells_as, tells_Boolean, tells_and, tells_or, tells_if, tells_not}
+use Rattle.cat_guard_sound.proofs.Tells.{tells_xor}
 use Rattle.cat_guard_sound.proofs.Tells.{on_one_same}
-use Rattle.cat_guard_sound.proofs.Constants.{Form, eval_at, typed_at, scalar_value, scalar_type, IsConstant, constant_is}
+use Rattle.cat_guard_sound.proofs.Constants.{Form, eval_at, typed_at, scalar_value, scalar_type, IsConstant}
+use Rattle.cat_guard_sound.proofs.Constants.{constant_is}
 use Rattle.cat_guard_sound.proofs.Constants.{tells_right, tells_left}
 
 -- ---- a condition that is not taken apart
@@ -68,7 +70,8 @@ tells_truth allowed ds (Err stop) ends b e = absurd (cc)
 tells_truth allowed ds (Ok v) ends b e =
     let is = boolean_value ds v ends in
     subst (λ u. Tells (Ok u) (answer cut.IsTrue (point_at dim.Truth (Ok u)))) (sym is.1)
-    (tells_as (Ok (flat.Boolean is.0)) (Ok (flat.Boolean is.0)) _ is.0 refl (boolean_point is.0) (tells_Boolean is.0)) b e
+    (tells_as (Ok (flat.Boolean is.0)) (Ok (flat.Boolean is.0)) _ is.0 refl (boolean_point is.0) (tells_Boolean is.0))
+      b e
 
 -- ---- the operands of a comparison have one type
 
@@ -105,7 +108,8 @@ case_below : (ds : Decls) (n k : ℕ) (content : Option Value) → IsTrue (is_ca
     → nat_lt k (cases_in (slice_get ds.enumerations n)) ≡ true
 case_below ds n k content h = by (slice_get ds.enumerations n) h
   where
-    in_list : (cases : List Case) (k : ℕ) → IsTrue (some_passes (content_has_type ds content) (content_in (slice_get cases k)))
+    in_list : (cases : List Case) (k : ℕ)
+      → IsTrue (some_passes (content_has_type ds content) (content_in (slice_get cases k)))
         → nat_lt k (length cases) ≡ true
     in_list [] k h = absurd (true≢false (sym h))
     in_list (c ∷ cases) zero h = grind (arith, nat_tests)
@@ -237,7 +241,8 @@ module _ (allowed : Allowed) (ns : Names) (env : Env) (ps : List Ty) (arguments 
       → HasType ns ps a (flat_ty.Enumeration n) → Has a → IsTrue (has_case ns.decls n k)
       → Goal e (guard_in ns.decls g (guarded ns.decls g (Expr-F.IsCase p a n k)) e (Expr-F.IsCase p a n k))
   case_tells e p a n k is typed has there =
-      tells_as (value_of e).end (on_one (value_of a).end (λ v. on_one (case_of v) (λ c. Ok (flat.Boolean (nat_eq c.0 k)))))
+      tells_as (value_of e).end (on_one (value_of a).end
+        (λ v. on_one (case_of v) (λ c. Ok (flat.Boolean (nat_eq c.0 k)))))
       _ _
       (ap (λ (x : Run Value). x.end) (eval_at env e (Expr-F.IsCase p a n k) is arguments)
       ∙ then_end (value_of a) (λ v. plain (on_one (case_of v) (λ c. Ok (flat.Boolean (nat_eq c.0 k)))))) refl
@@ -260,10 +265,12 @@ module _ (allowed : Allowed) (ns : Names) (env : Env) (ps : List Ty) (arguments 
           (tells_Boolean (nat_eq c.case k)) b e
 
   pub guard_told : (e : Expr) → IsTold e
-  guard_told = by_parts IsTold (λ e y is held typed has. by e y is held typed has (typed_at ns ps e y is flat_ty.Boolean typed)
+  guard_told = by_parts IsTold (λ e y is held typed has. by e y is held typed has
+    (typed_at ns ps e y is flat_ty.Boolean typed)
       (env_parts is has))
     where
-      by : (e : Expr) (y : Form) → out-Expr e ≡ y → AllHave IsTold (parts_of y) → HasType ns ps e flat_ty.Boolean → Has e
+      by : (e : Expr) (y : Form) → out-Expr e ≡ y → AllHave IsTold (parts_of y) → HasType ns ps e flat_ty.Boolean
+        → Has e
           → PartsTyped ns ps y flat_ty.Boolean → AllHave Has (parts_of y) → Goal e (guard_of ns.decls g e)
       by e (Expr-F.Literal p l) is held typed has parts envs =
           subst (Goal e) (sym (guard_at ns.decls g e (Expr-F.Literal p l) is)) (literal_tells e p l is typed has)
@@ -278,13 +285,15 @@ module _ (allowed : Allowed) (ns : Names) (env : Env) (ps : List Ty) (arguments 
           subst (Goal e) (sym (guard_at ns.decls g e (Expr-F.And p a b) is))
           (tells_as (value_of e).end _ _ _
           (ap (λ (x : Run Value). x.end) (eval_at env e (Expr-F.And p a b) is arguments)) refl
-          (tells_and (value_of a) (value_of b) (truth holds (guard_of ns.decls g a)) (truth holds (guard_of ns.decls g b))
+          (tells_and (value_of a) (value_of b) (truth holds (guard_of ns.decls g a))
+            (truth holds (guard_of ns.decls g b))
           (held.0 parts.0 envs.0) (held.1.0 parts.1 envs.1.0)))
       by e (Expr-F.Or p a b) is held typed has parts envs =
           subst (Goal e) (sym (guard_at ns.decls g e (Expr-F.Or p a b) is))
           (tells_as (value_of e).end _ _ _
           (ap (λ (x : Run Value). x.end) (eval_at env e (Expr-F.Or p a b) is arguments)) refl
-          (tells_or (value_of a) (value_of b) (truth holds (guard_of ns.decls g a)) (truth holds (guard_of ns.decls g b))
+          (tells_or (value_of a) (value_of b) (truth holds (guard_of ns.decls g a))
+            (truth holds (guard_of ns.decls g b))
           (held.0 parts.0 envs.0) (held.1.0 parts.1 envs.1.0)))
       by e (Expr-F.If p c a b) is held typed has parts envs =
           subst (Goal e) (sym (guard_at ns.decls g e (Expr-F.If p c a b) is))

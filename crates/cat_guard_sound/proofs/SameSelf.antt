@@ -1,5 +1,6 @@
 -- An expression agrees with itself, and so does the term of a question.
-use Rattle.std.proofs.Common.{◌≡◌, ℕ, zero, suc, ◌+◌, ◌-◌, ◌<◌, ◌&&◌, nat_eq, nat_lt, Bool, true, false, IsTrue, List, [], ◌∷◌}
+use Rattle.std.proofs.Common.{◌≡◌, ℕ, zero, suc, ◌+◌, ◌-◌, ◌<◌, ◌&&◌, nat_eq, nat_lt, Bool, true, false, IsTrue, List}
+use Rattle.std.proofs.Common.{[], ◌∷◌}
 use Rattle.std.proofs.Common.{Option, Some, None, refl, sym, ap, ◌∙◌, subst, arith, ℤ, pos, negsuc}
 use Rattle.std.specs.Ordering.{int_eq}
 use Rattle.std.proofs.lemmas.Bool.Decides.{nat_tests, Decides-int_eq}
@@ -45,7 +46,8 @@ module _ (g : Standing) where
       by : (b : Bool) → nat_lt k g.params ≡ b → Self (leaf.Local p k)
       by true e = same.parameter refl (grind (arith, nat_tests)) (grind (arith, nat_tests))
       by false e =
-          subst (λ n. Self (leaf.Local p n)) (sym (grind (arith, nat_tests))) (same.bound {p = p} {q = p} (k - g.params))
+          subst (λ n. Self (leaf.Local p n)) (sym (grind (arith, nat_tests)))
+            (same.bound {p = p} {q = p} (k - g.params))
 
   case_self : (p : Pos) (n k : ℕ) (content : Option Expr) → Within Self content → Self (expr.Case p n k content)
   case_self p n k None h = same.case_alone

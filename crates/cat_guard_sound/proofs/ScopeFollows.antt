@@ -1,6 +1,8 @@
 -- The judging of a target of a scope follows its guards in the table of the scope, at the valuation of the judging.
-use Rattle.std.proofs.Common.{◌≡◌, ◌⊎◌, inl, inr, ℕ, zero, suc, ◌+◌, ◌<◌, nat_eq, Bool, true, false, ◌&&◌, IsTrue, List, [], ◌∷◌}
-use Rattle.std.proofs.Common.{◌++◌, map, length, Option, Some, None, Result, Ok, Err, slice_get, refl, sym, ap, ◌∙◌, subst}
+use Rattle.std.proofs.Common.{◌≡◌, ◌⊎◌, inl, inr, ℕ, zero, suc, ◌+◌, ◌<◌, nat_eq, Bool, true, false, ◌&&◌, IsTrue, List}
+use Rattle.std.proofs.Common.{[], ◌∷◌}
+use Rattle.std.proofs.Common.{◌++◌, map, length, Option, Some, None, Result, Ok, Err, slice_get, refl, sym, ap, ◌∙◌}
+use Rattle.std.proofs.Common.{subst}
 use Rattle.std.proofs.Common.{arith, true≢false, if◌then◌else◌}
 use Rattle.std.proofs.lemmas.Bool.Decides.{nat_tests}
 use Rattle.std.proofs.lemmas.Option.{slice_get_within}
@@ -48,13 +50,15 @@ use Rattle.cat_guard.specs.GuardFormulas.{formula_of}
 use Rattle.cat_guard.specs.Numbering.{firsts}
 use Rattle.cat_guard.specs.Questions.{Question, guard_of, condition_guard}
 use Rattle.cat_guard.specs.Terms.{same_term, term_of, terms_of, atoms_of, atom_number}
-use Rattle.cat_guard.specs.Tables.{standing_of, def_formula, defs_questions, questions_of, guard_tree, guard_def, target_of}
+use Rattle.cat_guard.specs.Tables.{standing_of, def_formula, defs_questions, questions_of, guard_tree, guard_def}
+use Rattle.cat_guard.specs.Tables.{target_of}
 use Rattle.cat_guard.specs.Tables.{may_be_empty, IsTableOf}
 use Rattle.cat_guard.specs.PointValues.{point_of, point_or, point_at, default_point}
 use Rattle.cat_guard.specs.Soundness.{target_is_sound, is_sound}
 use Rattle.cat_guard.specs.TableJudging.{Decided, by_truth, IsCovered, Covers, decided}
 use Rattle.cat_guard.specs.Valuations.{dims_of, holds_at}
-use Rattle.cat_guard.proofs.Exported.{truth_renamed, truth_same, formula_of_guard_tree, all_and, IsSoundTarget, sound_parts}
+use Rattle.cat_guard.proofs.Exported.{truth_renamed, truth_same, formula_of_guard_tree, all_and, IsSoundTarget}
+use Rattle.cat_guard.proofs.Exported.{sound_parts}
 use Rattle.cat_guard.proofs.Exported.{targets_sound}
 use Rattle.cat_guard_sound.specs.Evaluations.{answered, any_values, term_point, arguments_for, valuation_of}
 use Rattle.cat_guard_sound.specs.Follows.{Follows}
@@ -95,11 +99,13 @@ valuation_at env item arguments (term ∷ terms) h zero below =
 valuation_at env item arguments (term ∷ terms) h (suc i) below =
     valuation_at env item arguments terms h.1 i (omega arith)
 
-all_mapped : {A B : Type 0} (P : B → Type 0) (f : A → B) (xs : List A) → AllHave (λ x. P (f x)) xs → AllHave P (map f xs)
+all_mapped : {A B : Type 0} (P : B → Type 0) (f : A → B) (xs : List A) → AllHave (λ x. P (f x)) xs
+  → AllHave P (map f xs)
 all_mapped P f [] h = tt
 all_mapped P f (x ∷ xs) h = (h.0, all_mapped P f xs h.1)
 
-pub of_mapped : {A B : Type 0} (P : B → Type 0) (f : A → B) (xs : List A) (x : A) → AllHave P (map f xs) → IsOneOf x xs → P (f x)
+pub of_mapped : {A B : Type 0} (P : B → Type 0) (f : A → B) (xs : List A) (x : A) → AllHave P (map f xs) → IsOneOf x xs
+  → P (f x)
 of_mapped P f [] x h among = elim among [ ]
 of_mapped P f (y ∷ ys) x h (inl e) = subst (λ z. P (f z)) (sym e) h.0
 of_mapped P f (y ∷ ys) x h (inr more) = of_mapped P f ys x h.1 more
@@ -153,9 +159,11 @@ module _ (ns : Names) (scope : ℕ) (defs : List Def) (order : List ℕ) (typed 
       → IsValuation (dims_of terms) (valuation_of env terms item arguments)
   valuation_is env item arguments =
       valuation_at env item arguments terms
-      (all_mapped (λ term. IsTrue (is_point term.dim (default_point term.dim))) (term_of ns.items) (firsts same_term [] qs)
+      (all_mapped (λ term. IsTrue (is_point term.dim (default_point term.dim))) (term_of ns.items)
+        (firsts same_term [] qs)
       (all_kept (IsOfDef ns scope defs typed targets) _ (firsts same_term [] qs)
-      (firsts_all (IsOfDef ns scope defs typed targets) same_term [] qs (targets_all ns scope defs typed targets targets))
+      (firsts_all (IsOfDef ns scope defs typed targets) same_term [] qs
+        (targets_all ns scope defs typed targets targets))
       (λ q o. o.asked_of.inhabited)))
 
   -- a target that is judged in an environment
@@ -206,8 +214,10 @@ module _ (ns : Names) (scope : ℕ) (defs : List Def) (order : List ℕ) (typed 
         each : (q : Question) → IsOneOf q (asked (def_formula ns.decls d.1)) → IsOfDef ns scope defs typed targets q
             → q.standing ≡ standing_of d.1 → holds (atom_number qs q) ≡ answered (λ e. (of e).end) q
         each q asks o standing =
-            atom_is ns scope defs typed targets env item inner ps t target arguments (are_length ns.decls ps arguments are) q
-            (among_targets ns.decls defs targets here q listed (among_defs ns.decls (defs_from here 0 defs) d q among asks)) o
+            atom_is ns scope defs typed targets env item inner ps t target arguments
+              (are_length ns.decls ps arguments are) q
+            (among_targets ns.decls defs targets here q listed
+              (among_defs ns.decls (defs_from here 0 defs) d q among asks)) o
             ∙ ap (λ vs. answer q.cut (point_at q.dim (eval env q.expr vs).end))
             (own q (ap (λ (g : Standing). g.function) standing ∙ item_same d.1 same))
 
@@ -249,7 +259,8 @@ module _ (ns : Names) (scope : ℕ) (defs : List Def) (order : List ℕ) (typed 
     target_follows listed sound stand =
         target_goes (IsOf ns.decls t) (IsEnd allowed) ns.decls ns.items defs qs here of holds sound
         (all_and (λ d. Ready d.1) (λ d. IsOneOf d (defs_from here 0 defs))
-        (DefGoes (IsOf ns.decls t) (IsEnd allowed) ns.decls ns.items defs qs here of holds sound) (defs_from here 0 defs)
+        (DefGoes (IsOf ns.decls t) (IsEnd allowed) ns.decls ns.items defs qs here of holds sound)
+          (defs_from here 0 defs)
         (defs-all Ready here 0 defs
         (all_and (λ d. IsTrue (same_target d.target here) → Stands d) (DefTyped ns scope)
         (λ d. IsTrue (same_target d.target here) → Ready d) defs stand typed (λ d h k same. (same, h same, k))))

@@ -1,6 +1,8 @@
 -- The judging of a target follows its guards in a table.
-use Rattle.std.proofs.Common.{◌≡◌, ◌⊎◌, inl, inr, ℕ, zero, suc, ◌+◌, ◌<◌, nat_eq, nat_lt, Bool, true, false, ◌&&◌, IsTrue}
-use Rattle.std.proofs.Common.{List, [], ◌∷◌, ◌++◌, map, length, Option, Some, None, Result, Ok, Err, slice_get, refl, sym, ap}
+use Rattle.std.proofs.Common.{◌≡◌, ◌⊎◌, inl, inr, ℕ, zero, suc, ◌+◌, ◌<◌, nat_eq, nat_lt, Bool, true, false, ◌&&◌}
+use Rattle.std.proofs.Common.{IsTrue}
+use Rattle.std.proofs.Common.{List, [], ◌∷◌, ◌++◌, map, length, Option, Some, None, Result, Ok, Err, slice_get, refl}
+use Rattle.std.proofs.Common.{sym, ap}
 use Rattle.std.proofs.Common.{◌∙◌, subst, arith, true≢false, if◌then◌else◌}
 use Rattle.std.specs.List.{list_all}
 use Rattle.std.proofs.lemmas.Bool.Decides.{nat_tests}
@@ -18,7 +20,8 @@ use Rattle.cat_scope.specs.declared.forest.ForestTarget.{ForestTarget}
 use Rattle.cat_scope.specs.declared.forest.ForestGroup.{ForestGroup}
 use Rattle.cat_scope.specs.Runs.{Run}
 use Rattle.cat_scope.specs.Names.{AllHave, IsOneOf}
-use Rattle.cat_scope.specs.Groups.{Numbered, Group, groups_of, roots_of, excepts, excepting, exceptions_from, exceptions_of}
+use Rattle.cat_scope.specs.Groups.{Numbered, Group, groups_of, roots_of, excepts, excepting, exceptions_from}
+use Rattle.cat_scope.specs.Groups.{exceptions_of}
 use Rattle.cat_scope.specs.Judging.{Judged, settle, judge}
 use Rattle.cat_scope.specs.Targets.{defs_from, same_target, judge_def, own_by, judge_groups, judge_target}
 use Rattle.cat_scope.specs.Chains.{HasNoCycle, longest_chain, is_within, are_within}
@@ -32,7 +35,8 @@ use Rattle.cat_guard.specs.Formulas.{truth}
 use Rattle.cat_guard.specs.GuardFormulas.{formula_of}
 use Rattle.cat_guard.specs.Questions.{Question}
 use Rattle.cat_guard.specs.Tables.{guard_def, place_of, guard_groups, target_of}
-use Rattle.cat_guard.specs.TableJudging.{Decided, by_truth, decided_def, decided_own, pairs_from, decided_group, decided}
+use Rattle.cat_guard.specs.TableJudging.{Decided, by_truth, decided_def, decided_own, pairs_from, decided_group}
+use Rattle.cat_guard.specs.TableJudging.{decided}
 use Rattle.cat_guard.specs.Verdicts.{excepting_in}
 use Rattle.cat_guard.specs.Soundness.{above, are_below, group_is_sound}
 use Rattle.cat_guard.proofs.Exported.{both_true, all_true, all_more, all_and, Entry, entry, excepting_is, above_is}
@@ -192,10 +196,12 @@ module _ (Has : Value → Type 0) (Inside : Stop → Type 0) (ds : Decls) (items
         (all_and DefGoes Known (λ d. DefGoes d × Known d) all each (defs_at t 0 defs) (λ d h k. (h, k))) (all_are all)
         (λ d h k. place_goes d h.0 h.1 k)
 
-    own_goes : (k : ℕ) → Goes (own_by (judge_def of) t (slice_get groups k)) (decided_own table holds (slice_get table.groups k))
+    own_goes : (k : ℕ) → Goes (own_by (judge_def of) t (slice_get groups k))
+      (decided_own table holds (slice_get table.groups k))
     own_goes k = by (slice_get groups k) refl
       where
-        by : (o : Option Group) → slice_get groups k ≡ o → Goes (own_by (judge_def of) t o) (decided_own table holds (slice_get table.groups k))
+        by : (o : Option Group) → slice_get groups k ≡ o
+          → Goes (own_by (judge_def of) t o) (decided_own table holds (slice_get table.groups k))
         by None e =
             subst (λ x. Goes (own_by (judge_def of) t None) (decided_own table holds x))
             (sym (no_group all pairs 0 groups k e)) (inr refl)
@@ -204,7 +210,8 @@ module _ (Has : Value → Type 0) (Inside : Stop → Type 0) (ds : Decls) (items
             (sym (group_there all pairs 0 groups k g e))
             (settle_goes Has Inside t (map (judge_def of) g.defs)
             (map (λ p. decided_def holds (slice_get table.defs p)) (map (λ d. place_of d.0 all) g.defs))
-            (maps_go Has Inside (judge_def of) (λ d. place_of d.0 all) (λ p. decided_def holds (slice_get table.defs p)) g.defs
+            (maps_go Has Inside (judge_def of) (λ d. place_of d.0 all)
+              (λ p. decided_def holds (slice_get table.defs p)) g.defs
             (all_at (λ g. AllHave PlaceGoes g.defs) groups k g (groups-all PlaceGoes all [] all places_go) e)))
 
     acyclic : HasNoCycle (exceptions_of groups)
@@ -236,8 +243,10 @@ module _ (Has : Value → Type 0) (Inside : Stop → Type 0) (ds : Decls) (items
     group_goes zero g within below = absurd (no_chain (above table.groups) g within)
     group_goes (suc m) g within below =
         let e = entry table.groups g below in
-        let two = both_true (are_below (length table.defs) e.value.defs) (are_below (length table.groups) e.value.excepted_by)
-        (list_all_at (group_is_sound (length table.defs) (length table.groups)) table.groups g e.value sound.groups e.is) in
+        let two = both_true (are_below (length table.defs) e.value.defs)
+          (are_below (length table.groups) e.value.excepted_by)
+        (list_all_at (group_is_sound (length table.defs) (length table.groups)) table.groups g e.value sound.groups
+          e.is) in
         let on : IsTrue (list_all (is_within (above table.groups) m) (excepting_in (slice_get table.groups g))) =
         subst (λ hs. IsTrue (list_all (is_within (above table.groups) m) hs)) (above_is table.groups g)
         (chain_on (above table.groups) m g within) in
@@ -249,9 +258,11 @@ module _ (Has : Value → Type 0) (Inside : Stop → Type 0) (ds : Decls) (items
         (or_else_goes Has Inside (settle t (map judged (excepting pairs g))) (own g)
         (settle t (map (decided_group table holds m) (excepting (pairs_from 0 table.groups) g)))
         (decided_own table holds (slice_get table.groups g))
-        (subst (λ hs. Goes (settle t (map judged hs)) (settle t (map (decided_group table holds m) (excepting (pairs_from 0 table.groups) g))))
+        (subst (λ hs. Goes (settle t (map judged hs))
+          (settle t (map (decided_group table holds m) (excepting (pairs_from 0 table.groups) g))))
         (sym same)
-        (subst (λ hs. Goes (settle t (map judged (excepting_in (slice_get table.groups g)))) (settle t (map (decided_group table holds m) hs)))
+        (subst (λ hs. Goes (settle t (map judged (excepting_in (slice_get table.groups g))))
+          (settle t (map (decided_group table holds m) hs)))
         (sym (excepting_is table.groups g))
         (groups_go m (excepting_in (slice_get table.groups g))
         (all_and (λ h. IsTrue (is_within (above table.groups) m h)) (λ h. IsTrue (nat_lt h (length table.groups)))

@@ -1,6 +1,8 @@
 -- Each target of a scope is listed among its targets, and which of them may be empty.
-use Rattle.std.proofs.Common.{◌≡◌, ◌⊎◌, inl, inr, ℕ, zero, suc, ◌+◌, ◌<◌, nat_eq, Bool, true, false, not, ◌&&◌, ◌||◌, IsTrue}
-use Rattle.std.proofs.Common.{List, [], ◌∷◌, ◌++◌, map, length, Option, Some, None, slice_get, refl, sym, ap, ◌∙◌, subst, arith}
+use Rattle.std.proofs.Common.{◌≡◌, ◌⊎◌, inl, inr, ℕ, zero, suc, ◌+◌, ◌<◌, nat_eq, Bool, true, false, not, ◌&&◌, ◌||◌}
+use Rattle.std.proofs.Common.{IsTrue}
+use Rattle.std.proofs.Common.{List, [], ◌∷◌, ◌++◌, map, length, Option, Some, None, slice_get, refl, sym, ap, ◌∙◌}
+use Rattle.std.proofs.Common.{subst, arith}
 use Rattle.std.proofs.Common.{true≢false, if◌then◌else◌}
 use Rattle.std.proofs.lemmas.Bool.Decides.{nat_tests}
 use Rattle.std.proofs.lemmas.Option.{slice_get_within}
@@ -21,7 +23,8 @@ use Rattle.cat_scope.specs.Mentions.{items_named}
 use Rattle.cat_scope.specs.Orders.{dependencies_from, item_dependencies}
 use Rattle.cat_sound.specs.Settled.{empty_variable, empty_input, items_of_kind, items_called}
 use Rattle.cat_sound.specs.Settled.{may_be_empty as settled_empty}
-use Rattle.cat_guard.specs.Tables.{inner_items, inner_item, is_condition, condition_or_context, may_be_empty, is_function}
+use Rattle.cat_guard.specs.Tables.{inner_items, inner_item, is_condition, condition_or_context, may_be_empty}
+use Rattle.cat_guard.specs.Tables.{is_function}
 use Rattle.cat_guard_sound.proofs.Numbered.{one_front, one_back}
 
 -- ---- the order has each item
@@ -86,7 +89,8 @@ inner_listed scope item n (i ∷ items) (suc k) decl at given =
     (by (may_be_given i.kind) (inner_listed scope item (n + 1) items k decl at given))
   where
     by : (b : Bool)
-        → IsOneOf (record { scope = scope; item = item; inner = Some ((n + 1) + k) }) (called_targets scope item (n + 1) items)
+        → IsOneOf (record { scope = scope; item = item; inner = Some ((n + 1) + k) })
+          (called_targets scope item (n + 1) items)
         → IsOneOf (record { scope = scope; item = item; inner = Some ((n + 1) + k) })
         (if b then record { scope = scope; item = item; inner = Some n } ∷ called_targets scope item (n + 1) items
         else called_targets scope item (n + 1) items)
@@ -94,7 +98,8 @@ inner_listed scope item n (i ∷ items) (suc k) decl at given =
     by false h = h
 
 at_item : (ns : Names) (scope item : ℕ) (inner : Option ℕ) (ps : List Ty) (t : Ty) → IsTargetAt ns item inner ps t
-    → IsOneOf (record { scope = scope; item = item; inner = inner }) (item_targets ns.decls scope item (slice_get ns.items item))
+    → IsOneOf (record { scope = scope; item = item; inner = inner })
+      (item_targets ns.decls scope item (slice_get ns.items item))
 at_item ns scope item None ps t h =
     subst (λ o. IsOneOf (record { scope = scope; item = item; inner = None }) (item_targets ns.decls scope item o))
     (sym h.decl_is) (own_listed ns.decls scope item h.decl.kind h.defined)

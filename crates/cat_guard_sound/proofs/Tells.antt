@@ -96,7 +96,8 @@ tells_if r one other w x y f h g =
     tells_as _ _ (choice w x y) (choice w x y) (choose_end r one other) refl
     (tells_choice r.end one.end other.end w x y f h g)
 
-pub tells_not : (p : Pos) (r : Run Value) (x : Bool) → Tells r.end x → Tells (giving r (convert unary.Not p)).end (not x)
+pub tells_not : (p : Pos) (r : Run Value) (x : Bool) → Tells r.end x
+  → Tells (giving r (convert unary.Not p)).end (not x)
 tells_not p r x h =
     tells_as _ _ (not x) (not x) (then_end r (λ v. plain (convert unary.Not p v))) refl (by r.end h)
   where
@@ -130,7 +131,8 @@ tells_xor rounding p r other x y h g =
             → says (on_one (read.truth w) (λ c. Ok (flat.Boolean (differ a c)))) ≡ Some b → differ x y ≡ b
         first a at h e =
             seen (read.truth w)
-            (λ z. ((c : Bool) → told z ≡ Some c → y ≡ c) → says (on_one z (λ c. Ok (flat.Boolean (differ a c)))) ≡ Some b
+            (λ z. ((c : Bool) → told z ≡ Some c → y ≡ c) → says (on_one z (λ c. Ok (flat.Boolean (differ a c))))
+              ≡ Some b
             → differ x y ≡ b)
             (λ c there g e. ap (λ z. differ z y) (h a refl) ∙ ap (differ a) (g c refl) ∙ tells_Boolean (differ a c) b e)
             (λ stop there g e. absurd (cc)) g e

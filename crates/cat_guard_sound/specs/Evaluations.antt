@@ -46,7 +46,7 @@ term_point env item arguments None = Truth false
 term_point env item arguments (Some term) =
     point_at term.dim (eval env term.expr (arguments_for item arguments term)).end
 
--- the valuation of the judging of a target of an item, with some arguments, in an environment: each term has the point of
--- what it evaluates to, or the default where it has no value
+-- the valuation of the judging of a target of an item, with some arguments, in an environment: each term has the point
+-- of what it evaluates to, or the default where it has no value
 abbrev pub valuation_of : Env → List Term → ℕ → List Value → Valuation
 valuation_of env terms item arguments i = term_point env item arguments (slice_get terms i)

@@ -11,7 +11,8 @@ use Rattle.cat_region.specs.declared.cut.Cut.{Cut}
 use Rattle.cat_region.specs.declared.point.Point.{Point}
 use Rattle.cat_region.specs.declared.narrowing.Narrowing.{Narrowing}
 use Rattle.cat_region.specs.Points.{answer}
-use Rattle.cat_region.specs.Regions.{Constraints, with_narrowing, narrowed_to, is_cut_at, IsRegion, Valuation, agrees, Admits}
+use Rattle.cat_region.specs.Regions.{Constraints, with_narrowing, narrowed_to, is_cut_at, IsRegion, Valuation, agrees}
+use Rattle.cat_region.specs.Regions.{Admits}
 use Rattle.cat_region.specs.Regions.{IsInhabited, Occurs, AreAll, IsDecision}
 use Rattle.cat_region.specs.Decided.{admits_none, excludes, decided_at}
 use Rattle.cat_region.specs.Chosen.{point_at}

@@ -1,0 +1,3 @@
+pub mod CaseReads
+pub mod Refusing
+pub mod Examples
