@@ -24,5 +24,5 @@ request_by asked =
     if is_run asked.mode asked.file then Some (request asked.scope asked.file (unwrap_or asked.extra (codes "-"))) else None
 
 -- the words `run SCOPE FILE [EXTRA]` of a command that is taken; other words are no request
-abbrev pub request_of : List (List ℕ) → Option Request
+unfoldable pub request_of : List (List ℕ) → Option Request
 request_of words = option_and_then request_by (asked_by words)
