@@ -22,7 +22,8 @@ def is_computed(case):
     """Whether the case runs a scope on files that it has, and its reply isn't one of the line-by-line form."""
     words = (case / 'words').read_text().splitlines() if (case / 'words').exists() else []
     stdout = (case / 'stdout').read_text() if (case / 'stdout').exists() else ''
-    is_run = 3 <= len(words) <= 4 and words[0] == 'run' and 'fault .' not in stdout
+    has_options = any(word.startswith('-') and word != '-' for word in words)
+    is_run = 3 <= len(words) <= 4 and words[0] == 'run' and not has_options and 'fault .' not in stdout
     is_made = (case / 'make').exists() or (case / 'device').exists()
     return is_run and not is_made and not stdout.startswith(LINE_BY_LINE)
 
