@@ -1,10 +1,11 @@
 """The cases that run a scope, computed again."""
-import pathlib
+import pathlib, re
 
 from .answers import replies
 
 TOP = pathlib.Path(__file__).resolve().parent.parent.parent
 OURS = {'words', 'stdin', 'stdout', 'status', 'files'}
+EXAMPLE = re.compile(r'^\[(\w+)\]\(\.\./tests/language/\1\)\n\n?(?:````\n(.*?)\n````\n)?.*?\bgives `(.*?)`\.$', re.M | re.S)
 # What only the form of sources that is read line by line refuses, until the whole language is read.
 LINE_BY_LINE = ('source refused E0', 'input refused I0')
 
@@ -50,3 +51,12 @@ def cases():
             want = (case / 'stdout').read_text().rstrip('\n')
             found = missing or replies(files, words[2], words[1], data)
             yield case.name, told(want, found), found
+
+
+def pages():
+    """Each example of the pages: its page and name, its source and reply as its case has them, and as the page does."""
+    for page in ('LANGUAGE.md', 'REFUSALS.md'):
+        for name, source, reply in EXAMPLE.findall((TOP / 'docs' / page).read_text()):
+            case = TOP / 'tests' / 'language' / name
+            kept = (case / 'a.md').read_bytes().decode(errors='replace').rstrip('\n') if source else ''
+            yield '%s %s' % (page, name), (kept, (case / 'stdout').read_text().rstrip('\n')), {(source, reply)}
