@@ -16,21 +16,28 @@ use Rattle.cat_value.specs.declared.outcome.Target.{Target}
 use Rattle.cat_value.specs.Declarations.{are_sound}
 use Rattle.cat_scope.specs.declared.defs.Def.{Def}
 use Rattle.cat_scope.specs.declared.defs.Body.{Body}
+use Rattle.cat_scope.specs.declared.forest.Forest.{Forest}
 use Rattle.cat_scope.specs.declared.forest.ForestTarget.{ForestTarget}
 use Rattle.cat_scope.specs.declared.programs.Program.{Program}
 use Rattle.cat_scope.specs.Names.{AllHave, IsOneOf, has_none, items_in, scope_items}
 use Rattle.cat_scope.specs.Targets.{defs_from}
 use Rattle.cat_scope.specs.WellFormed.{IsWellFormed}
 use Rattle.cat_scope.specs.Forests.{are_low, forest_of, targets_of, StandsFor}
+use Rattle.cat_scope.specs.Calls.{Items}
+use Rattle.cat_scope.specs.Running.{scope_run}
 use Rattle.cat_sound.proofs.Exported.{all_at, same_some}
 use Rattle.cat_calc.specs.declared.calcs.CalcScope.{CalcScope}
+use Rattle.cat_calc.specs.declared.calcs.Calc.{Calc}
+use Rattle.cat_calc.specs.Calculus.{calc_run, run_of_terms}
 use Rattle.cat_calc.specs.WellFormed.{IsCalc}
+use Rattle.cat_desugar.specs.Desugared.{AreForestsOf}
 use Rattle.cat_desugar.specs.inside.Items.{target_at, calc_scope, calc_scope_at, calc_scopes}
 use Rattle.cat_desugar.specs.inside.Tabled.{AreTargetsOf}
 use Rattle.cat_desugar.proofs.CalcFormed.{is_body, is_calc}
 use Rattle.cat_desugar.proofs.Listed.{IsTarget, target_or_none, target_listed}
 use Rattle.cat_desugar.proofs.Lows.{IsListed, are_targets, steady_at}
-use Rattle.cat_desugar.proofs.SameRuns.{AreSteady}
+use Rattle.cat_desugar.proofs.SameRuns.{AreSteady, AllSteady, runs_same}
+use Rattle.cat_desugar.proofs.TargetTerms.{there}
 
 -- ---- a scope of a program
 
@@ -151,3 +158,48 @@ calc_formed ds copied bodies order copied_order scopes formed same also is =
     (subst (λ (ns : List ℕ). IsCalc copied (calc_scopes ds ds.scopes bodies) ns) (sym also)
     (subst (λ (c : Decls). IsCalc c (calc_scopes ds ds.scopes bodies) order) (sym same)
     (is_calc ds bodies order f))) ∣₁))
+
+-- ---- what is asked of a scope
+
+pub targets_of_scope : (program : Program) (n : ℕ) (scope : Scope) (body : Body) (forest : Forest) (defs : List Def)
+    (targets : List ForestTarget)
+    → ∥ IsWellFormed program.decls program.bodies program.scope_order ∥₁
+    → AllHave (λ b. length b.defs < ENTRIES_BOUND) program.bodies
+    → slice_get program.decls.scopes n ≡ Some scope → slice_get program.bodies n ≡ Some body
+    → StandsFor program n forest.targets → defs ≡ body.defs → targets ≡ forest.targets → AreTargetsOf defs targets
+targets_of_scope program n scope body forest defs targets formed few scope_is body_is stands same also =
+    subst (λ (ds : List Def). AreTargetsOf ds targets) (sym same)
+    (subst (λ (ts : List ForestTarget). AreTargetsOf body.defs ts) (sym also)
+    (forest_targets program.decls program.bodies program.scope_order formed n scope body scope_is body_is forest.targets
+    forest.low (stands_at program n body forest.targets stands body_is)
+    (all_at (λ b. length b.defs < ENTRIES_BOUND) program.bodies n body few body_is)))
+
+-- each scope is steady
+steady_scopes : (program : Program) (forests : List Forest)
+    → ∥ IsWellFormed program.decls program.bodies program.scope_order ∥₁ → AreForestsOf program forests
+    → AllSteady program.decls program.decls.scopes program.bodies
+steady_scopes program forests formed are n scope body scope_is body_is =
+    by (slice_get forests n) refl
+  where
+    by : (o : Option Forest) → slice_get forests n ≡ o → AreSteady program.decls scope.items body.defs
+    by None none = absurd (there forests n (omega (arith, are.counted, slice_get_within program.bodies n body body_is))
+        none)
+    by (Some forest) is =
+        forest_steady program.decls program.bodies program.scope_order formed n scope body scope_is body_is
+        forest.targets forest.low (stands_at program n body forest.targets
+        (subst (λ (o : Option Forest). IfSome o (λ forest. StandsFor program n forest.targets)) is (are.stand n))
+        body_is)
+
+-- a scope of the calculus is run as that of the program
+pub program_runs : (program : Program) (forests : List Forest) (calc : Calc)
+    → ∥ IsWellFormed program.decls program.bodies program.scope_order ∥₁ → AreForestsOf program forests
+    → calc.decls ≡ program.decls → calc.scopes ≡ calc_scopes program.decls program.decls.scopes program.bodies
+    → calc.scope_order ≡ program.scope_order → (scope : ℕ) (input : Items)
+    → calc_run calc scope input ≡ scope_run program scope input
+program_runs program forests calc formed are same is also scope input =
+    ap (λ (ds : Decls). run_of_terms ds.scopes calc.scopes calc.scope_order scope input) same
+    ∙ ap (λ (xs : List CalcScope). run_of_terms program.decls.scopes xs calc.scope_order scope input) is
+    ∙ ap (λ (ns : List ℕ). run_of_terms program.decls.scopes
+    (calc_scopes program.decls program.decls.scopes program.bodies) ns scope input) also
+    ∙ runs_same program.decls program.decls.scopes program.bodies program.scope_order
+    (steady_scopes program forests formed are) scope input

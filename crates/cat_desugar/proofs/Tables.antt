@@ -1,11 +1,11 @@
 -- Tables of the targets of a forest, with one target more.
 use Rattle.std.proofs.Common.{◌≡◌, ◌∙◌, ℕ, zero, suc, ◌+◌, ◌<◌, nat_eq, Bool, true, false, ◌&&◌, ◌||◌, cond, List, []}
 use Rattle.std.proofs.Common.{◌∷◌, ◌++◌, length, take, get_or, Option, Some, None, slice_get, refl, sym, ap, subst, arith}
-use Rattle.std.proofs.Common.{rules, true≢false, if◌then◌else◌}
+use Rattle.std.proofs.Common.{rules, true≢false, if◌then◌else◌, Result, Ok, Err, IfOk}
 use Rattle.std.proofs.lemmas.Bool.Decides.{nat_tests}
 use Rattle.std.specs.Option.{option_eq}
 use Rattle.std.proofs.lemmas.List.{take_more, length-take}
-use Rattle.std.proofs.lemmas.Option.{slice_get_within}
+use Rattle.std.proofs.lemmas.Option.{slice_get_within, slice_get-get_or}
 use Rattle.indexmap.specs.IndexMap.{IndexMap, get}
 use Rattle.cat_value.specs.declared.outcome.Target.{Target}
 use Rattle.cat_scope.specs.declared.defs.Def.{Def}
@@ -177,3 +177,15 @@ pub not_found : {S : Type 0} (defs : List Def) (targets : List ForestTarget) (ta
     → get same_key table (item, inner) ≡ None → one_of [] ≡ term_at defs item inner
 not_found defs targets table item inner stand is at =
     ap target_term (sym (stand.others item inner (subst (λ o. IsFound targets item inner o) at (is item inner))))
+
+-- one that is read is found
+pub found_read : {S : Type 0} (defs : List Def) (targets : List ForestTarget) (table : IndexMap TargetKey ℕ S)
+    (item : ℕ) (inner : Option ℕ) (n : ℕ) (t : ForestTarget) → AreTargetsOf defs targets → IsTableOf targets table
+    → get same_key table (item, inner) ≡ Some n → t ≡ get_or targets n t → IsThere defs targets item inner n t
+found_read defs targets table item inner n t stand is at read =
+    found_there defs targets table item inner n t stand is at
+    (slice_get-get_or targets n t (found_within targets table item inner n is at) ∙ ap Some (sym read))
+
+pub if_same : {A E : Type 0} (r : Result A E) (a b : A) → a ≡ b → IfOk r (λ x. x ≡ a) → IfOk r (λ x. x ≡ b)
+if_same (Ok x) a b same is = is ∙ same
+if_same (Err e) a b same is = is
