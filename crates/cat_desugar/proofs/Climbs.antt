@@ -184,20 +184,33 @@ module _ (groups : List Group) where
           → sum_of (λ e. climb up (suc room) e h) (excepting (excepts groups) g) ≤ climb_on (climb up (suc room) g) o
       by None is whole steps =
           let once = up_once groups 0 groups g h in
-          omega (arith, whole, subst (λ o. times (excepting (excepts groups) g) h ≤ is_up o g) is once,
-          ap (λ o. sum_of (λ e. climb_on (climb up room e) o) (excepting (excepts groups) g)) is
-          ∙ sums_none (excepting (excepts groups) g))
+          omega (
+            arith,
+            whole,
+            subst (λ o. times (excepting (excepts groups) g) h ≤ is_up o g) is once,
+            ap (λ o. sum_of (λ e. climb_on (climb up room e) o) (excepting (excepts groups) g)) is
+                ∙ sums_none (excepting (excepts groups) g),
+          )
       by (Some p) is whole steps =
           let once = up_once groups 0 groups g h in
-          omega (arith, whole, subst (λ o. times (excepting (excepts groups) g) h ≤ is_up o g) is once,
-          ap (λ o. sum_of (λ e. climb_on (climb up room e) o) (excepting (excepts groups) g)) is, steps p)
+          omega (
+            arith,
+            whole,
+            subst (λ o. times (excepting (excepts groups) g) h ≤ is_up o g) is once,
+            ap (λ o. sum_of (λ e. climb_on (climb up room e) o) (excepting (excepts groups) g)) is,
+            steps p,
+          )
 
   pub reach_climbs : (room g h : ℕ) → reach (excepts groups) room g h ≤ climb up room g h
   unfolding reach climb
   reach_climbs zero g h = omega arith
   reach_climbs (suc room) g h =
-      omega (arith, sums_below (λ e. reach (excepts groups) room e h) (λ e. climb up room e h)
-      (excepting (excepts groups) g) (λ e. reach_climbs room e h), step room g h)
+      omega (
+        arith,
+        sums_below (λ e. reach (excepts groups) room e h) (λ e. climb up room e h)
+            (excepting (excepts groups) g) (λ e. reach_climbs room e h),
+        step room g h,
+      )
 
   -- from the roots on each group is reached at most once
   pub roots_climb : (room h : ℕ) → sum_of (λ g. climb up room g h) (roots_of groups) ≤ 1
@@ -216,14 +229,27 @@ module _ (groups : List Group) where
           → sum_of (λ g. climb up (suc room) g h) (roots_of groups) ≤ 1
       by None is whole once_more =
           let once = root_once groups 0 groups h in
-          omega (arith, whole, subst (λ o. times (roots_of groups) h ≤ one_where_none o) is once,
-          ap (λ o. sum_of (λ g. climb_on (climb up room g) o) (roots_of groups)) is ∙ sums_none (roots_of groups))
+          omega (
+            arith,
+            whole,
+            subst (λ o. times (roots_of groups) h ≤ one_where_none o) is once,
+            ap (λ o. sum_of (λ g. climb_on (climb up room g) o) (roots_of groups)) is ∙ sums_none (roots_of groups),
+          )
       by (Some p) is whole once_more =
           let once = root_once groups 0 groups h in
-          omega (arith, whole, subst (λ o. times (roots_of groups) h ≤ one_where_none o) is once,
-          ap (λ o. sum_of (λ g. climb_on (climb up room g) o) (roots_of groups)) is, once_more p)
+          omega (
+            arith,
+            whole,
+            subst (λ o. times (roots_of groups) h ≤ one_where_none o) is once,
+            ap (λ o. sum_of (λ g. climb_on (climb up room g) o) (roots_of groups)) is,
+            once_more p,
+          )
 
   pub roots_reach : (room h : ℕ) → sum_of (λ g. reach (excepts groups) room g h) (roots_of groups) ≤ 1
   roots_reach room h =
-      omega (arith, sums_below (λ g. reach (excepts groups) room g h) (λ g. climb up room g h) (roots_of groups)
-      (λ g. reach_climbs room g h), roots_climb room h)
+      omega (
+        arith,
+        sums_below (λ g. reach (excepts groups) room g h) (λ g. climb up room g h) (roots_of groups)
+            (λ g. reach_climbs room g h),
+        roots_climb room h,
+      )

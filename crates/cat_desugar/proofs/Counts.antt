@@ -109,8 +109,11 @@ module _ (m : ℕ) where
       let alone : count (leaf.Consequence d.0 d.1.pos d.1.consequence) ≡ times (d.0 ∷ []) m =
       ap (λ (hs : List (Held Expr)). times (map (λ h. h.number) hs) m)
       (consequences_Consequence d.0 d.1.pos d.1.consequence) in
-      omega (arith, alone,
-      count_default [] (justification_of d.1.condition) (leaf.Consequence d.0 d.1.pos d.1.consequence))
+      omega (
+        arith,
+        alone,
+        count_default [] (justification_of d.1.condition) (leaf.Consequence d.0 d.1.pos d.1.consequence),
+      )
 
   count_definitions : (ds : List Numbered) → counts (map definition_term ds) ≡ times (definition_numbers ds) m
   count_definitions [] = refl
@@ -142,14 +145,22 @@ module _ (m : ℕ) where
     unfolding group_term
     count_group zero g = omega (arith, count_empty)
     count_group (suc room) g =
-        omega (arith, count_default (map (group_term groups room) (excepting (excepts groups) g)) justification.Always
-        (own_term (slice_get groups g)), count_own (slice_get groups g), grows room g,
-        counts_below room (excepting (excepts groups) g) (count_group room))
+        omega (
+          arith,
+          count_default (map (group_term groups room) (excepting (excepts groups) g)) justification.Always
+              (own_term (slice_get groups g)),
+          count_own (slice_get groups g),
+          grows room g,
+          counts_below room (excepting (excepts groups) g) (count_group room),
+        )
 
     count_target : count (target_term groups) ≤ sum_of (most longest_chain) (roots_of groups)
     count_target =
-        omega (arith, count_one_of (map (group_term groups longest_chain) (roots_of groups)),
-        counts_below longest_chain (roots_of groups) (count_group longest_chain))
+        omega (
+          arith,
+          count_one_of (map (group_term groups longest_chain) (roots_of groups)),
+          counts_below longest_chain (roots_of groups) (count_group longest_chain),
+        )
 
   -- how often it stands among the definitions of all groups
   abbrev total : List Group → ℕ
@@ -192,14 +203,21 @@ module _ (m : ℕ) where
 
   count_none : (groups : List Group) → total groups ≤ 0 → count (target_term groups) ≤ 0
   count_none groups none =
-      omega (arith, sums_none (roots_of groups), count_target groups (λ room g. 0)
-      (λ room g. omega (arith, sums_none (excepting (excepts groups) g), below_total groups g, none)))
+      omega (
+        arith,
+        sums_none (roots_of groups),
+        count_target groups (λ room g. 0)
+            (λ room g. omega (arith, sums_none (excepting (excepts groups) g), below_total groups g, none)),
+      )
 
   count_once : (groups : List Group) → HasHome groups → count (target_term groups) ≤ 1
   unfolding reach
   count_once groups has =
-      omega (arith, roots_reach groups longest_chain has.home,
-      count_target groups (λ room g. reach (excepts groups) room g has.home) grown)
+      omega (
+        arith,
+        roots_reach groups longest_chain has.home,
+        count_target groups (λ room g. reach (excepts groups) room g has.home) grown,
+      )
     where
       grown : (room g : ℕ)
           → sum_of (λ e. reach (excepts groups) room e has.home) (excepting (excepts groups) g)
@@ -420,24 +438,39 @@ module _ (m : ℕ) where
       → times (numbers_in_all (inner_terms defs item n items)) m ≤ is_inside (def_at 0 defs) item n
   count_inner defs item n [] = omega arith
   count_inner defs item n (decl ∷ items) =
-      omega (arith, times_join (numbers_in (term_at defs item (Some n)))
-      (numbers_in_all (inner_terms defs item (n + 1) items)) m, count_at defs item (Some n),
-      count_inner defs item (n + 1) items, next_inner (def_at 0 defs) item n)
+      omega (
+        arith,
+        times_join (numbers_in (term_at defs item (Some n)))
+            (numbers_in_all (inner_terms defs item (n + 1) items)) m,
+        count_at defs item (Some n),
+        count_inner defs item (n + 1) items,
+        next_inner (def_at 0 defs) item n,
+      )
 
   count_item : (ds : Decls) (defs : List Def) (item : ℕ) (decl : ItemDecl)
       → times (numbers_in_all (all_terms (item_terms ds defs item decl))) m ≤ is_in_item (def_at 0 defs) item
   count_item ds defs item decl =
-      omega (arith, times_join (numbers_in (term_at defs item None))
-      (numbers_in_all (inner_terms defs item 0 (inner_items ds decl.kind))) m, count_at defs item None,
-      count_inner defs item 0 (inner_items ds decl.kind), own_or_inner (def_at 0 defs) item)
+      omega (
+        arith,
+        times_join (numbers_in (term_at defs item None))
+            (numbers_in_all (inner_terms defs item 0 (inner_items ds decl.kind))) m,
+        count_at defs item None,
+        count_inner defs item 0 (inner_items ds decl.kind),
+        own_or_inner (def_at 0 defs) item,
+      )
 
   count_items : (ds : Decls) (defs : List Def) (n : ℕ) (items : List ItemDecl)
       → times (numbers_of_terms (terms_of_items ds defs n items)) m ≤ is_from (def_at 0 defs) n
   count_items ds defs n [] = omega arith
   count_items ds defs n (decl ∷ items) =
-      omega (arith, times_join (numbers_in_all (all_terms (item_terms ds defs n decl)))
-      (numbers_of_terms (terms_of_items ds defs (n + 1) items)) m, count_item ds defs n decl,
-      count_items ds defs (n + 1) items, next_item (def_at 0 defs) n)
+      omega (
+        arith,
+        times_join (numbers_in_all (all_terms (item_terms ds defs n decl)))
+            (numbers_of_terms (terms_of_items ds defs (n + 1) items)) m,
+        count_item ds defs n decl,
+        count_items ds defs (n + 1) items,
+        next_item (def_at 0 defs) n,
+      )
 
   from_once : (o : Option Def) (n : ℕ) → is_from o n ≤ 1
   from_once None n = omega arith

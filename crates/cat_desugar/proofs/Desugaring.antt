@@ -59,12 +59,15 @@ module _ (ds : Decls) (bodies : List Body) (order : List ℕ) (formed : ∥ IsWe
   not_listed : (item : ℕ) (inner : Option ℕ) → (IsListed body.defs targets item inner → ⊥)
       → has_none (defs_from (target_at item inner) 0 body.defs) ≡ true
   not_listed item inner not = ∥∥₁_elim formed (Bool-set (has_none (defs_from (target_at item inner) 0 body.defs)) true)
-      (λ f. no_target item inner (λ target. not (n, subst
-      (λ (items : List ItemDecl). IsOneOf (record { scope = n; item = item; inner = inner })
-      (targets_of ds n items body.order))
-      (sym (ap items_in scope_is))
-      (target_listed (record { decls = ds; items = scope.items }) n body.defs body.order
-      (is_body ds bodies order f n scope body scope_is body_is).order item inner target.params target.ty target.is))))
+      (λ f. no_target item inner (λ target. not (
+        n,
+        subst
+            (λ (items : List ItemDecl). IsOneOf (record { scope = n; item = item; inner = inner })
+            (targets_of ds n items body.order))
+            (sym (ap items_in scope_is))
+            (target_listed (record { decls = ds; items = scope.items }) n body.defs body.order
+            (is_body ds bodies order f n scope body scope_is body_is).order item inner target.params target.ty target.is),
+      )))
 
   module _ (forest : List ForestTarget) (low : IsTrue (are_low forest)) (is : forest ≡ forest_of body.defs targets) where
     pub forest_targets : length body.defs < ENTRIES_BOUND → AreTargetsOf body.defs forest

@@ -11,3 +11,4 @@ pub mod Climbs
 pub mod Counts
 pub mod CalcFormed
 pub mod Desugaring
+pub mod Samples

@@ -140,8 +140,13 @@ few_defs target n (d ∷ defs) = by (same_target d.target target) (few_defs targ
 few_of : (bound : ℕ) (defs : List Def) (target : Target) → length defs < bound
     → length (forest_of_groups (groups_in defs target)) < bound
 few_of bound defs target few =
-    omega (arith, as_many_groups (groups_in defs target), few_defs target 0 defs,
-    few_groups (defs_from target 0 defs) [] (defs_from target 0 defs), few)
+    omega (
+      arith,
+      as_many_groups (groups_in defs target),
+      few_defs target 0 defs,
+      few_groups (defs_from target 0 defs) [] (defs_from target 0 defs),
+      few,
+    )
 
 -- ---- the targets of a forest
 

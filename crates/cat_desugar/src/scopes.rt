@@ -25,14 +25,21 @@ fn calc_scope(
     requires few { AllHave (λ body. length body.defs < ENTRIES_BOUND) program.now.bodies }
     requires stands { StandsFor program.now scope forest.now.targets }
     ensures { IfOk result (λ found. Some found
-        ≡ calc_scope_at program.now.decls (slice_get program.now.decls.scopes scope) (slice_get program.now.bodies scope)) }
+        ≡ calc_scope_at program.now.decls (slice_get program.now.decls.scopes scope)
+        (slice_get program.now.bodies scope)) }
 {
     programs_are_well_formed(program);
     declarations_are_sound(&program.decls);
     let items = program.decls.scopes.at(scope).items.as_slice();
     let body = program.bodies.at(scope);
     let defs = body.defs.as_slice();
-    let terms = terms_of_items(alloc, &program.decls, items, defs, forest.targets.as_slice())?;
+    let terms = terms_of_items(
+        alloc,
+        &program.decls,
+        items,
+        defs,
+        forest.targets.as_slice(),
+    )?;
     let order = List::from_slice(alloc, body.order.as_slice())?;
     let assertions = copy_assertions(alloc, &body.assertions)?;
     Ok(CalcScope {
@@ -51,7 +58,8 @@ pub fn calc_scopes(
 ) -> Result<CalcScopes, AllocError>
     requires few { AllHave (λ body. length body.defs < ENTRIES_BOUND) program.now.bodies }
     requires stand { AreForestsOf program.now forests.now }
-    ensures { IfOk result (λ scopes. scopes ≡ calc_scopes program.now.decls program.now.decls.scopes program.now.bodies) }
+    ensures { IfOk result (λ scopes. scopes
+        ≡ calc_scopes program.now.decls program.now.decls.scopes program.now.bodies) }
 {
     programs_are_well_formed(program);
     let mut scopes = List::new(alloc);
