@@ -2,3 +2,13 @@ pub mod TargetTerms
 pub mod Numbers
 pub mod Chains
 pub mod Roots
+pub mod Tables
+pub mod Listed
+pub mod Lows
+pub mod SameRuns
+pub mod TermParts
+pub mod Climbs
+pub mod Counts
+pub mod CalcFormed
+pub mod Desugaring
+pub mod Samples

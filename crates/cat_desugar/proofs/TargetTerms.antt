@@ -40,7 +40,7 @@ map_map : {A B C : Type 0} (f : B → C) (g : A → B) (xs : List A) → map f (
 map_map f g [] = refl
 map_map f g (x ∷ xs) = ap (λ ys. f (g x) ∷ ys) (map_map f g xs)
 
-there : {A : Type 0} (xs : List A) (n : ℕ) → n < length xs → slice_get xs n ≡ None → ⊥
+pub there : {A : Type 0} (xs : List A) (n : ℕ) → n < length xs → slice_get xs n ≡ None → ⊥
 there [] n within none = omega (arith, within)
 there (x ∷ xs) zero within none = true≢false (ap is_some none)
 there (x ∷ xs) (suc n) within none = there xs n (omega (arith, within)) none

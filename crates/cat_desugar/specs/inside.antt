@@ -1,2 +1,4 @@
 pub mod Numbered
 pub mod Terms
+pub mod Items
+pub mod Tabled

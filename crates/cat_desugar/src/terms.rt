@@ -31,7 +31,7 @@ fn definition_term(alloc: Global, number: u32, def: &Def) -> Result<Term, AllocE
 }
 
 /// What holds where one of some terms does, and nothing else.
-fn one_of(alloc: Global, terms: Terms) -> Result<Term, AllocError>
+pub fn one_of(alloc: Global, terms: Terms) -> Result<Term, AllocError>
     ensures { IfOk result (λ term. term ≡ one_of terms) }
 {
     let nothing = Boxed::new(alloc, Term::Empty)?;
