@@ -9,10 +9,12 @@ use Rattle.cat_scope.specs.Chains.{longest_chain, is_within, are_within}
 use Rattle.cat_order.specs.Order.{dependencies_of}
 use Rattle.cat_guard.specs.declared.guard.GuardDef.{GuardDef}
 use Rattle.cat_guard.specs.declared.guard.GuardGroup.{GuardGroup}
+use Rattle.cat_guard.specs.declared.table.Term.{Term}
+use Rattle.cat_guard.specs.declared.table.Atom.{Atom}
 use Rattle.cat_guard.specs.declared.table.TableTarget.{TableTarget}
 use Rattle.cat_guard.specs.Formulas.{asked}
 use Rattle.cat_guard.specs.GuardFormulas.{formula_of}
-use Rattle.cat_guard.specs.Soundness.{are_below, def_is_sound, group_is_sound, above, target_is_sound}
+use Rattle.cat_guard.specs.Soundness.{are_below, def_is_sound, group_is_sound, above, target_is_sound, is_sound}
 use Rattle.cat_guard.specs.Verdicts.{Verdict, listed, else_verdict, def_verdict, own_verdict, excepting_in, group_verdict}
 use Rattle.cat_guard.specs.Verdicts as v
 use Rattle.cat_guard.proofs.Exported.{both_true, IsSoundTarget, sound_parts, are_within_at, chain_on, no_chain, above_is}
@@ -32,6 +34,14 @@ all_pass P test (x ∷ xs) go h (suc k) d within =
 
 pub all_below : (bound : ℕ) (ns : List ℕ) → IsTrue (are_below bound ns) → All (λ n. n < bound) ns
 all_below bound ns h = all_pass (λ n. n < bound) (λ n. nat_lt n bound) ns (λ n is. grind (arith, nat_tests)) h
+
+pub sound_target : (terms : List Term) (atoms : List Atom) (targets : List TableTarget) (n : ℕ) (t : TableTarget)
+    → IsTrue (is_sound terms atoms targets) → slice_get targets n ≡ Some t
+    → IsTrue (target_is_sound (length atoms) t)
+unfolding is_sound
+sound_target terms atoms targets n t h is =
+    list_all_at (target_is_sound (length atoms)) targets n t
+    (both_true _ (list_all (target_is_sound (length atoms)) targets) h).1 is
 
 -- ---- definitions
 

@@ -113,3 +113,52 @@ module _ (answers : ℕ → Option Bool) (w : Guard) (x : Truth) where
       let three : formula_of w ≡ formula.Choice (formula_of c) (formula_of f) (formula_of g) =
       ap formula_of is ∙ search (rules, formulas) in
       subst Found (sym three) h
+
+-- ---- in the form in which the search applies them
+
+pub atom_there : (n a : ℕ) → Names n (formula_of (leaf.Atom a)) → a < n
+atom_there n a h = names_Atom n (leaf.Atom a) a refl h
+
+pub part_of_Not : (n : ℕ) (f : Guard) → Names n (formula_of (guard.Not f)) → Names n (formula_of f)
+part_of_Not n f h = names_Not n (guard.Not f) f refl h
+
+pub left_of_Both : (n : ℕ) (f g : Guard) → Names n (formula_of (guard.Both f g)) → Names n (formula_of f)
+left_of_Both n f g h = (names_Both n (guard.Both f g) f g refl h).0
+
+pub right_of_Both : (n : ℕ) (f g : Guard) → Names n (formula_of (guard.Both f g)) → Names n (formula_of g)
+right_of_Both n f g h = (names_Both n (guard.Both f g) f g refl h).1
+
+pub left_of_Either : (n : ℕ) (f g : Guard) → Names n (formula_of (guard.Either f g)) → Names n (formula_of f)
+left_of_Either n f g h = (names_Either n (guard.Either f g) f g refl h).0
+
+pub right_of_Either : (n : ℕ) (f g : Guard) → Names n (formula_of (guard.Either f g)) → Names n (formula_of g)
+right_of_Either n f g h = (names_Either n (guard.Either f g) f g refl h).1
+
+pub left_of_Differ : (n : ℕ) (f g : Guard) → Names n (formula_of (guard.Differ f g)) → Names n (formula_of f)
+left_of_Differ n f g h = (names_Differ n (guard.Differ f g) f g refl h).0
+
+pub right_of_Differ : (n : ℕ) (f g : Guard) → Names n (formula_of (guard.Differ f g)) → Names n (formula_of g)
+right_of_Differ n f g h = (names_Differ n (guard.Differ f g) f g refl h).1
+
+pub test_of_Choice : (n : ℕ) (c f g : Guard) → Names n (formula_of (guard.Choice c f g)) → Names n (formula_of c)
+test_of_Choice n c f g h = (names_Choice n (guard.Choice c f g) c f g refl h).0
+
+pub first_of_Choice : (n : ℕ) (c f g : Guard) → Names n (formula_of (guard.Choice c f g)) → Names n (formula_of f)
+first_of_Choice n c f g h = (names_Choice n (guard.Choice c f g) c f g refl h).1
+
+pub second_of_Choice : (n : ℕ) (c f g : Guard) → Names n (formula_of (guard.Choice c f g)) → Names n (formula_of g)
+second_of_Choice n c f g h = (names_Choice n (guard.Choice c f g) c f g refl h).2
+
+pub ruleset parts_named = (
+  atom_there,
+  part_of_Not,
+  left_of_Both,
+  right_of_Both,
+  left_of_Either,
+  right_of_Either,
+  left_of_Differ,
+  right_of_Differ,
+  test_of_Choice,
+  first_of_Choice,
+  second_of_Choice,
+)

@@ -4,3 +4,4 @@ pub mod FurtherLaws
 pub mod TellLaws
 pub mod GroupLaws
 pub mod GuardLaws
+pub mod CountLaws

@@ -70,6 +70,7 @@ fn choice(test: Truth, first: Truth, second: Truth) -> Truth
 /// What a region decides of a guard. The connectives of two parts are choices between what the second part is and what
 /// the first alone decides.
 #[cycle(known)]
+#[tactic(auto, using(crate::proofs::GuardLaws::parts_named))]
 pub fn known(region: &Region, atoms: &[Atom], guard: &Guard) -> Truth
     requires cuts { IsTrue (are_cuts_of region.now.dims atoms.now) }
     requires names { IsTrue (are_below (length atoms.now) (asked (formula_of guard.now))) }
