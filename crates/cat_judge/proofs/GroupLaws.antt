@@ -14,7 +14,7 @@ use Rattle.cat_guard.specs.declared.table.Atom.{Atom}
 use Rattle.cat_guard.specs.declared.table.TableTarget.{TableTarget}
 use Rattle.cat_guard.specs.Formulas.{asked}
 use Rattle.cat_guard.specs.GuardFormulas.{formula_of}
-use Rattle.cat_guard.specs.Soundness.{are_below, def_is_sound, group_is_sound, above, target_is_sound, is_sound}
+use Rattle.cat_guard.specs.Soundness.{are_below, group_is_sound, above, target_is_sound, is_sound}
 use Rattle.cat_guard.specs.Verdicts.{Verdict, listed, else_verdict, def_verdict, own_verdict, excepting_in, group_verdict}
 use Rattle.cat_guard.specs.Verdicts as v
 use Rattle.cat_guard.proofs.Exported.{both_true, IsSoundTarget, sound_parts, are_within_at, chain_on, no_chain, above_is}
@@ -44,10 +44,6 @@ sound_target terms atoms targets n t h is =
     (both_true _ (list_all (target_is_sound (length atoms)) targets) h).1 is
 
 -- ---- definitions
-
-pub def_names : (atoms : ℕ) (t : TableTarget) (d : ℕ) (def : GuardDef) → IsTrue (target_is_sound atoms t)
-    → slice_get t.defs d ≡ Some def → IsTrue (are_below atoms (asked (formula_of def.guard)))
-def_names atoms t d def sound is = list_all_at (def_is_sound atoms) t.defs d def (sound_parts atoms t sound).0 is
 
 asked_of : (defs : List GuardDef) (d : ℕ) (def : GuardDef) (a : ℕ) → slice_get defs d ≡ Some def
     → IsOneOf a (asked (formula_of def.guard)) → IsOneOf a (asked_in defs)

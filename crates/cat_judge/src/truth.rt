@@ -1,9 +1,8 @@
 // What a region decides of guards.
-ghost use Rattle.std.specs.Prelude.{◌≡◌, ◌<◌, ℕ, Bool, Option, IsTrue, length};
-ghost use Rattle.cat_guard.specs.Formulas.{Formula, Atom as Asked, Not as Negated, Choice as Chosen, asked};
+ghost use Rattle.std.specs.Prelude.{ℕ, Bool, Option, IsTrue};
+ghost use Rattle.cat_guard.specs.Formulas.{Formula, Atom as Asked, Not as Negated, Choice as Chosen};
 ghost use Rattle.cat_guard.specs.GuardFormulas.{formula_of};
 ghost use Rattle.cat_guard.specs.Judged.{answers_in};
-ghost use Rattle.cat_guard.specs.Soundness.{are_below};
 ghost use Rattle.cat_judge.specs.declared.truth.Truth.TheVariants.{Open};
 ghost use Rattle.cat_judge.specs.inside.Telling.{are_cuts_of, Tells};
 
@@ -17,12 +16,14 @@ pub enum Truth {
     Open(usize),
 }
 
+/// The atom of that number. One that isn't there has no answer.
 fn answer(region: &Region, atoms: &[Atom], number: usize) -> Truth
-    requires cuts { IsTrue (are_cuts_of region.now.dims atoms.now) }
-    requires number { number < length atoms.now }
+    requires { IsTrue (are_cuts_of region.now.dims atoms.now) }
     ensures { Tells (answers_in atoms.now region.now) (Asked number) result }
 {
-    let atom = &atoms[number];
+    let Some(atom) = atoms.get(number) else {
+        return Truth::Open(number);
+    };
     match region.decided(atom.term, &atom.cut) {
         Some(answer) => Truth::Known(answer),
         None => Truth::Open(number),
@@ -70,10 +71,8 @@ fn choice(test: Truth, first: Truth, second: Truth) -> Truth
 /// What a region decides of a guard. The connectives of two parts are choices between what the second part is and what
 /// the first alone decides.
 #[cycle(known)]
-#[tactic(auto, using(crate::proofs::GuardLaws::parts_named))]
 pub fn known(region: &Region, atoms: &[Atom], guard: &Guard) -> Truth
-    requires cuts { IsTrue (are_cuts_of region.now.dims atoms.now) }
-    requires names { IsTrue (are_below (length atoms.now) (asked (formula_of guard.now))) }
+    requires { IsTrue (are_cuts_of region.now.dims atoms.now) }
     ensures { Tells (answers_in atoms.now region.now) (formula_of guard.now) result }
 {
     match guard {

@@ -1,5 +1,6 @@
 use Rattle.std.proofs.Common.{◌≡◌, ◌<◌, ◌-◌, true, [], All, Some, map, length, drop, slice_get, sym, subst, ap, ◌∙◌, arith, rules}
 use Rattle.cat_scope.specs.Chains.{is_within}
+use Rattle.std.proofs.lemmas.List.{drop_all}
 use Rattle.cat_guard.specs.Judged.{answers_in}
 use Rattle.cat_guard.specs.Soundness.{above}
 use Rattle.cat_guard.specs.Verdicts.{listed, def_verdict, own_verdict, group_verdict}
@@ -73,7 +74,8 @@ judged_groups-loop-number-preserved t c =
 
 pub judged_groups-returns : goal.judged_groups-returns
 judged_groups-returns t c =
-    let gone : drop c.loop-number.number-index c.args.numbers.now ≡ [] = search rules in
+    let gone : drop c.loop-number.number-index c.args.numbers.now ≡ [] =
+    drop_all c.loop-number.number-index c.args.numbers.now (omega (arith, c.loop-number-test.false)) in
     all_counted (answers_in c.args.atoms.now c.args.region.now) c.args.target.now
     (group_verdict c.args.target.now (answers_in c.args.atoms.now c.args.region.now) c.args.room) c.args.numbers.now
     c.loop-number.number-index c.loop-number.tally c.total.result gone c.loop-number.invariant.total

@@ -1,12 +1,8 @@
-use Rattle.std.proofs.Common.{◌≡◌, length, ap, ◌∙◌}
+use Rattle.std.proofs.Common.{◌≡◌, ap, ◌∙◌}
 use Rattle.cat_guard.specs.Judged.{answers_in}
 use Rattle.cat_guard.specs.Verdicts.{verdict_by, def_verdict}
-use Rattle.cat_judge.proofs.GroupLaws.{def_names, atom_of_def}
+use Rattle.cat_judge.proofs.GroupLaws.{atom_of_def}
 use Rattle.cat_judge.proofs.judge.judged_def.Goals as goal
-
-pub known-requires-clause-names : goal.known-requires-clause-names
-known-requires-clause-names c =
-    def_names (length c.args.atoms.now) c.args.target.now c.args.number c.at.result.now c.requires.sound c.at.ensures
 
 pub returns-in-Open : goal.returns-in-Open
 returns-in-Open c =

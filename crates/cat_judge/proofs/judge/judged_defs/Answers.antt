@@ -1,4 +1,5 @@
 use Rattle.std.proofs.Common.{◌≡◌, [], drop, slice_get, arith, rules}
+use Rattle.std.proofs.lemmas.List.{drop_all}
 use Rattle.cat_guard.specs.Judged.{answers_in}
 use Rattle.cat_guard.specs.Verdicts.{def_verdict}
 use Rattle.cat_judge.proofs.CountLaws.{one_counted, all_counted}
@@ -15,7 +16,8 @@ loop-number-preserved c =
 
 pub returns : goal.returns
 returns c =
-    let gone : drop c.loop-number.number-index c.args.numbers.now ≡ [] = search rules in
+    let gone : drop c.loop-number.number-index c.args.numbers.now ≡ [] =
+    drop_all c.loop-number.number-index c.args.numbers.now (omega (arith, c.loop-number-test.false)) in
     all_counted (answers_in c.args.atoms.now c.args.region.now) c.args.target.now
     (λ d. def_verdict (answers_in c.args.atoms.now c.args.region.now) d (slice_get c.args.target.now.defs d)) c.args.numbers.now
     c.loop-number.number-index c.loop-number.tally c.total.result gone c.loop-number.invariant.total
