@@ -1,7 +1,6 @@
 -- What is judged stays so where more is known.
-use Rattle.std.proofs.Common.{◌≡◌, ℕ, zero, suc, ◌≤◌, Bool, true, false, ◌||◌, IsTrue, List, [], ◌∷◌, map, length, Option}
-use Rattle.std.proofs.Common.{Some, None, slice_get, refl, sym, ap, ◌∙◌, subst, true≢false, if◌then◌else◌, arith}
-use Rattle.std.specs.List.{list_all}
+use Rattle.std.proofs.Common.{◌≡◌, ℕ, zero, suc, ◌≤◌, Bool, true, false, ◌||◌, IsTrue, List, [], ◌∷◌, map, length}
+use Rattle.std.proofs.Common.{Option, Some, None, slice_get, refl, sym, ap, ◌∙◌, subst, true≢false, if◌then◌else◌, arith}
 use Rattle.cat_region.specs.declared.narrowing.Narrowing.{Narrowing}
 use Rattle.cat_region.specs.Regions.{Constraints, IsRegion, IsInhabited, with_narrowing, is_cut_at}
 use Rattle.cat_region.proofs.Exported.{decided_at-narrowed}
@@ -18,8 +17,9 @@ use Rattle.cat_guard.specs.GuardFormulas.{formula_of}
 use Rattle.cat_guard.specs.Judged.{atom_decided, answers_in, judged_in}
 use Rattle.cat_guard.specs.Soundness.{is_sound}
 use Rattle.cat_guard.specs.Valuations.{dims_of}
-use Rattle.cat_guard.specs.Verdicts.{Verdict, some_conflict, some_open, holders, are_two, first_of, listed, else_verdict}
-use Rattle.cat_guard.specs.Verdicts.{verdict_by, def_verdict, own_verdict, excepting_in, group_verdict, verdict_of, IsFurther}
+use Rattle.cat_guard.specs.Verdicts.{Verdict, some_conflict, some_open, holders, are_two, first_of, listed}
+use Rattle.cat_guard.specs.Verdicts.{else_verdict, verdict_by, def_verdict, own_verdict, excepting_in}
+use Rattle.cat_guard.specs.Verdicts.{group_verdict, verdict_of, IsFurther}
 use Rattle.cat_guard.specs.Verdicts as v
 use Rattle.cat_guard.proofs.Exported.{known_kept}
 use Rattle.cat_judge.specs.inside.Telling.{are_cuts_of}

@@ -1,12 +1,11 @@
 -- A target's groups: what is there, what stands above it, and its verdict by theirs.
-use Rattle.std.proofs.Common.{◌≡◌, ℕ, zero, suc, ◌-◌, ◌<◌, nat_lt, Bool, true, false, IsTrue, List, [], ◌∷◌, map, length}
+use Rattle.std.proofs.Common.{◌≡◌, ℕ, zero, suc, ◌-◌, ◌<◌, nat_lt, Bool, true, IsTrue, List, [], ◌∷◌, map, length}
 use Rattle.std.proofs.Common.{Option, Some, None, slice_get, refl, sym, ap, ◌∙◌, subst, arith, All}
 use Rattle.std.proofs.lemmas.Bool.Decides.{nat_tests}
 use Rattle.std.specs.List.{list_all}
 use Rattle.cat_value.proofs.Exported.{list_all_at}
-use Rattle.cat_scope.specs.Names.{AllHave, IsOneOf}
-use Rattle.cat_scope.specs.Chains.{longest_chain, is_within, are_within}
-use Rattle.cat_order.specs.Order.{dependencies_of}
+use Rattle.cat_scope.specs.Names.{IsOneOf}
+use Rattle.cat_scope.specs.Chains.{longest_chain, is_within}
 use Rattle.cat_guard.specs.declared.guard.GuardDef.{GuardDef}
 use Rattle.cat_guard.specs.declared.guard.GuardGroup.{GuardGroup}
 use Rattle.cat_guard.specs.declared.table.Term.{Term}
@@ -15,9 +14,9 @@ use Rattle.cat_guard.specs.declared.table.TableTarget.{TableTarget}
 use Rattle.cat_guard.specs.Formulas.{asked}
 use Rattle.cat_guard.specs.GuardFormulas.{formula_of}
 use Rattle.cat_guard.specs.Soundness.{are_below, group_is_sound, above, target_is_sound, is_sound}
-use Rattle.cat_guard.specs.Verdicts.{Verdict, listed, else_verdict, def_verdict, own_verdict, excepting_in, group_verdict}
+use Rattle.cat_guard.specs.Verdicts.{Verdict, listed, else_verdict, own_verdict, excepting_in, group_verdict}
 use Rattle.cat_guard.specs.Verdicts as v
-use Rattle.cat_guard.proofs.Exported.{both_true, IsSoundTarget, sound_parts, are_within_at, chain_on, no_chain, above_is}
+use Rattle.cat_guard.proofs.Exported.{both_true, sound_parts, are_within_at, chain_on, no_chain, above_is}
 use Rattle.cat_judge.specs.declared.tally.Finding.{Finding}
 use Rattle.cat_judge.specs.declared.tally.Finding.TheVariants as finding
 use Rattle.cat_judge.specs.Judgements.{asked_in, atoms_in}

@@ -5,3 +5,4 @@ pub mod TellLaws
 pub mod GroupLaws
 pub mod GuardLaws
 pub mod CountLaws
+pub mod Examples

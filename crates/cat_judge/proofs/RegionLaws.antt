@@ -1,15 +1,13 @@
 -- What a region answers of atoms, and what is judged by its answers, is so for each admitted valuation.
-use Rattle.std.proofs.Common.{◌≡◌, ◌⊎◌, inl, inr, ℕ, zero, suc, Bool, true, false, IsTrue, List, [], ◌∷◌, map, length}
+use Rattle.std.proofs.Common.{◌≡◌, inl, inr, ℕ, zero, suc, Bool, true, false, IsTrue, List, [], ◌∷◌, length}
 use Rattle.std.proofs.Common.{Option, Some, None, Result, Ok, Err, slice_get, refl, sym, ap, ◌∙◌, subst, true≢false}
 use Rattle.std.proofs.Math.Logic.{∥∥₁_elim}
 use Rattle.std.proofs.Props.{props}
-use Rattle.std.specs.Prelude.{◌&&◌}
 use Rattle.std.specs.List.{list_all}
 use Rattle.cat_value.proofs.Exported.{list_all_at}
 use Rattle.cat_region.specs.declared.dim.Dim.{Dim}
-use Rattle.cat_region.specs.declared.cut.Cut.{Cut}
 use Rattle.cat_region.specs.Points.{answer}
-use Rattle.cat_region.specs.Regions.{Constraints, Valuation, Admits, IsRegion, IsInhabited, IsDecision, is_cut_at}
+use Rattle.cat_region.specs.Regions.{Constraints, Valuation, Admits, IsRegion, IsDecision, is_cut_at}
 use Rattle.cat_region.specs.Regions.{is_cut_of as is_dim_cut}
 use Rattle.cat_region.specs.Decided.{decided_at}
 use Rattle.cat_region.proofs.Exported.{answer-of_decided_at, IsDecision-decided_at}
@@ -72,7 +70,8 @@ module _ (atoms : List Atom) (region : Constraints) (sound : IsRegion region)
       → IsAnswer atoms region a (answers_in atoms region a)
   answers_exact a atom is =
       subst (λ o. IsAnswer atoms region a (atom_decided region o)) (sym is)
-      (by (decided_at region atom.term atom.cut) (IsDecision-decided_at region atom.term atom.cut sound (cut_at a atom is)))
+      (by (decided_at region atom.term atom.cut)
+      (IsDecision-decided_at region atom.term atom.cut sound (cut_at a atom is)))
     where
       here : (w : Valuation) → answer atom.cut (w atom.term) ≡ holds_at atoms w a
       here w = ap (atom_answer w) (sym is)
@@ -122,7 +121,8 @@ module _ (terms : List Term) (atoms : List Atom) (targets : List TableTarget)
   stands_in : (t : TableTarget) → IsTrue (target_is_sound (length atoms) t) → StandsIn t
   stands_in t h region w is dims admits =
       target_stands t (sound_parts (length atoms) t h).1 (answers_in atoms region) (holds_at atoms w)
-      (answers_so atoms region is (cuts_of region.dims terms atoms dims (sound_atoms terms atoms targets sound)) w admits)
+      (answers_so atoms region is (cuts_of region.dims terms atoms dims (sound_atoms terms atoms targets sound)) w
+      admits)
 
   pub stand : AllHave StandsIn targets
   stand = all_more (λ t. IsTrue (target_is_sound (length atoms) t)) StandsIn targets

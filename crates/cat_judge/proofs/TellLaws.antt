@@ -1,6 +1,6 @@
 -- What is found of a formula by what is found of its parts.
-use Rattle.std.proofs.Common.{◌≡◌, ◌⊎◌, inl, inr, ℕ, Bool, true, false, not, List, [], ◌∷◌, ◌++◌, Option, Some, None, refl, sym}
-use Rattle.std.proofs.Common.{ap, ◌∙◌, subst}
+use Rattle.std.proofs.Common.{◌≡◌, ◌⊎◌, inl, inr, ℕ, Bool, true, false, not, List, [], ◌∷◌, ◌++◌, Option, Some, None}
+use Rattle.std.proofs.Common.{refl, sym, ap, ◌∙◌}
 use Rattle.cat_scope.specs.Comparing.{differ}
 use Rattle.cat_scope.specs.Names.{IsOneOf}
 use Rattle.cat_guard.specs.Formulas.{Formula, both, any, choice, agreed, of_one, of_two, of_three, known, asked}
@@ -129,7 +129,7 @@ module _ (answers : ℕ → Option Bool) where
         (found_is g z j) ∙ first_known b (said z)
     chosen_first (truth.Open a) z h i j = (
       three_same (known answers c) (known answers f) (known answers g) (Some true) None (said z) h i.0
-      (found_is g z j) ∙ first_open (said z),
+          (found_is g z j) ∙ first_open (said z),
       in_front a (asked c ++ asked f) (asked g) (in_back a (asked c) (asked f) i.1),
       i.2,
     )
@@ -141,7 +141,7 @@ module _ (answers : ℕ → Option Bool) where
         (found_is f y i) j ∙ second_known b (said y)
     chosen_second y (truth.Open a) h i j = (
       three_same (known answers c) (known answers f) (known answers g) (Some false) (said y) None h (found_is f y i)
-      j.0 ∙ second_open (said y),
+          j.0 ∙ second_open (said y),
       in_back a (asked c ++ asked f) (asked g) j.1,
       j.2,
     )

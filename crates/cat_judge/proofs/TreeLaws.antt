@@ -1,11 +1,9 @@
 -- Closed trees cover what is admitted.
-use Rattle.std.proofs.Common.{◌≡◌, ℕ, Bool, true, false, List, [], ◌∷◌, Option, Some, None, refl, sym, subst, slice_get}
-use Rattle.std.proofs.Common.{if◌then◌else◌}
+use Rattle.std.proofs.Common.{◌≡◌, ℕ, Bool, true, false, List, [], Option, Some, None, refl, slice_get}
 use Rattle.std.proofs.Math.Bool.{beq}
 use Rattle.cat_region.specs.declared.dim.Dim.{Dim}
-use Rattle.cat_region.specs.declared.narrowing.Narrowing.{Narrowing}
 use Rattle.cat_region.specs.Points.{answer}
-use Rattle.cat_region.specs.Regions.{Constraints, Valuation, IsValuation, Admits, IsEmpty, with_narrowing, agrees}
+use Rattle.cat_region.specs.Regions.{Constraints, Valuation, IsValuation, Admits, IsEmpty}
 use Rattle.cat_region.proofs.Exported.{Admits-with_narrowing}
 use Rattle.cat_guard.specs.declared.table.Atom.{Atom}
 use Rattle.cat_guard.specs.declared.table.TableTarget.{TableTarget}

@@ -21,7 +21,6 @@ const LONGEST_CHAIN: u32 = 256;
 /// The definition of that number among the target's.
 fn judged_def(region: &Region, atoms: &[Atom], target: &TableTarget, number: u32) -> Finding
     requires cuts { IsTrue (are_cuts_of region.now.dims atoms.now) }
-    requires sound { IsTrue (target_is_sound (length atoms.now) target.now) }
     requires number { number < length target.now.defs }
     ensures { Finds (answers_in atoms.now region.now) target.now
         (def_verdict (answers_in atoms.now region.now) number (slice_get target.now.defs number)) result }
@@ -36,7 +35,6 @@ fn judged_def(region: &Region, atoms: &[Atom], target: &TableTarget, number: u32
 /// The list of some definitions.
 fn judged_defs(region: &Region, atoms: &[Atom], target: &TableTarget, numbers: &[u32]) -> Finding
     requires cuts { IsTrue (are_cuts_of region.now.dims atoms.now) }
-    requires sound { IsTrue (target_is_sound (length atoms.now) target.now) }
     requires numbers { All (λ n. n < length target.now.defs) numbers.now }
     ensures { Finds (answers_in atoms.now region.now) target.now
         (listed (map (λ d. def_verdict (answers_in atoms.now region.now) d (slice_get target.now.defs d)) numbers.now))
@@ -67,7 +65,13 @@ fn judged_group(
         (group_verdict target.now (answers_in atoms.now region.now) room number) result }
 {
     let group = target.groups.at(number as usize);
-    match judged_groups(region, atoms, target, room - 1, group.excepted_by.as_slice()) {
+    match judged_groups(
+        region,
+        atoms,
+        target,
+        room - 1,
+        group.excepted_by.as_slice(),
+    ) {
         Finding::Empty => judged_defs(region, atoms, target, group.defs.as_slice()),
         other => other,
     }
@@ -105,11 +109,17 @@ fn judged(table: &Table, target: u32, region: &Region) -> Finding
 {
     let atoms = table.atoms.as_slice();
     let target = table.targets.at(target as usize);
-    judged_groups(region, atoms, target, LONGEST_CHAIN, target.roots.as_slice())
+    judged_groups(
+        region,
+        atoms,
+        target,
+        LONGEST_CHAIN,
+        target.roots.as_slice(),
+    )
 }
 
-/// How a target is judged in a region of the table's dimensions. It costs the guards of the target, each of whose groups
-/// is looked at once.
+/// How a target is judged in a region of the table's dimensions. It costs the guards of the target, of which it looks at
+/// each once.
 pub fn judge_box(table: &Table, target: u32, region: &Region) -> Judgement
     requires target { target < length table.now.targets }
     requires dims { region.now.dims ≡ dims_of table.now.terms }

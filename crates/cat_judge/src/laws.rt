@@ -29,8 +29,8 @@ pub fn regions_answer_exactly(table: &Table)
         → IsAnswer table.now.atoms region a (answers_in table.now.atoms region a) }
 {}
 
-/// What is judged in a region is so for each valuation that it admits: the same definition holds, none does, or there is
-/// a conflict of this very target.
+/// What is judged in a region is so for each valuation that it admits: the same definition holds, none does, or there
+/// is a conflict of this very target.
 pub fn judgings_of_regions_hold(table: &Table)
     ensures { AllHave (λ t. (region : Constraints) (v : Valuation) → IsRegion region
         → region.dims ≡ dims_of table.now.terms → Admits region v

@@ -10,7 +10,7 @@ mod truth;
 pub use judge::{judge_box, winner};
 pub use judgement::Judgement;
 pub use laws::{
-    bad_regions_cover_nothing, closed_trees_cover_each_valuation, closed_trees_cover_what_is_admitted,
-    covered_leaves_are_closed, empty_regions_close_each_tree, judgings_of_regions_hold,
-    narrowing_keeps_what_is_judged, regions_answer_exactly,
+    bad_regions_cover_nothing, closed_trees_cover_each_valuation,
+    closed_trees_cover_what_is_admitted, covered_leaves_are_closed, empty_regions_close_each_tree,
+    judgings_of_regions_hold, narrowing_keeps_what_is_judged, regions_answer_exactly,
 };

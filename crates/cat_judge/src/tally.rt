@@ -38,21 +38,28 @@ impl Tally {
     pub(crate) fn with_member(self, member: Finding) -> Tally
         ensures { Counts self member result }
     {
-        let Tally {
-            conflict,
-            held,
-            needs,
-        } = self;
         match member {
-            Finding::Holds(number) => match held {
-                Some(_) => Tally { conflict: true, held, needs },
-                None => Tally { conflict, held: Some(number), needs },
+            Finding::Holds(number) => match self.held {
+                Some(_) => Tally {
+                    conflict: true,
+                    ..self
+                },
+                None => Tally {
+                    held: Some(number),
+                    ..self
+                },
             },
             Finding::Empty => self,
-            Finding::Conflict => Tally { conflict: true, held, needs },
-            Finding::Needs(atom) => match needs {
+            Finding::Conflict => Tally {
+                conflict: true,
+                ..self
+            },
+            Finding::Needs(atom) => match self.needs {
                 Some(_) => self,
-                None => Tally { conflict, held, needs: Some(atom) },
+                None => Tally {
+                    needs: Some(atom),
+                    ..self
+                },
             },
         }
     }

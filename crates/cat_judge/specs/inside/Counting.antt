@@ -1,5 +1,5 @@
 -- The verdict of a list, some of whose members were counted.
-use Rattle.std.specs.Prelude.{◌≡◌, ℕ, Bool, true, false, ◌||◌, List, [], ◌∷◌, ◌++◌, Option, Some, None, if◌then◌else◌}
+use Rattle.std.specs.Prelude.{◌≡◌, ℕ, Bool, true, false, ◌||◌, List, ◌∷◌, Option, Some, None, if◌then◌else◌}
 use Rattle.cat_scope.specs.Names.{IsOneOf}
 use Rattle.cat_guard.specs.declared.table.TableTarget.{TableTarget}
 use Rattle.cat_guard.specs.Verdicts.{Verdict, Conflict, Open, some_conflict, some_open, holders, are_two, first_of}

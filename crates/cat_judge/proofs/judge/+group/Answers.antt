@@ -1,4 +1,5 @@
-use Rattle.std.proofs.Common.{◌≡◌, ◌<◌, ◌-◌, true, [], All, Some, map, length, drop, slice_get, sym, subst, ap, ◌∙◌, arith, rules}
+use Rattle.std.proofs.Common.{◌≡◌, ◌<◌, ◌-◌, true, [], All, Some, map, length, drop, slice_get}
+use Rattle.std.proofs.Common.{sym, subst, ap, ◌∙◌, arith}
 use Rattle.cat_scope.specs.Chains.{is_within}
 use Rattle.std.proofs.lemmas.List.{drop_all}
 use Rattle.cat_guard.specs.Judged.{answers_in}
@@ -25,7 +26,7 @@ judged_group-judged_groups-requires t c =
           (
             subst (All (λ e. e < length c.args.target.now.groups)) (sym c.as_slice.ensures) found.there,
             subst (All (λ e. is_within (above c.args.target.now.groups) (c.args.room - 1) e ≡ true))
-            (sym c.as_slice.ensures) found.short,
+                (sym c.as_slice.ensures) found.short,
           ),
         ),
       ),

@@ -13,6 +13,7 @@ decreases-judged_groups l = 2 * l.room + 1
 abbrev pub invariant-judged_groups-loop-number : goal.invariant-judged_groups-loop-number
 invariant-judged_groups-loop-number l = record {
   total : completed l.tally (map (group_verdict l.target (answers_in l.atoms l.region) l.room)
-      (drop l.number-index l.numbers)) ≡ listed (map (group_verdict l.target (answers_in l.atoms l.region) l.room) l.numbers);
+      (drop l.number-index l.numbers))
+      ≡ listed (map (group_verdict l.target (answers_in l.atoms l.region) l.room) l.numbers);
   needs : HasOpen (answers_in l.atoms l.region) l.target l.tally.needs;
 }

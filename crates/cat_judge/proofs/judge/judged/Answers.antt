@@ -2,7 +2,7 @@ use Rattle.std.proofs.Common.{◌≡◌, ◌<◌, true, IsTrue, All, IfSome, Lis
 use Rattle.cat_scope.specs.Chains.{is_within, longest_chain}
 use Rattle.cat_guard.specs.declared.table.Atom.{Atom}
 use Rattle.cat_guard.specs.Judged.{answers_in, judged_in}
-use Rattle.cat_guard.specs.Soundness.{above, target_is_sound, is_sound}
+use Rattle.cat_guard.specs.Soundness.{above, target_is_sound}
 use Rattle.cat_guard.specs.Verdicts.{listed, group_verdict}
 use Rattle.cat_judge.specs.inside.Telling.{are_cuts_of}
 use Rattle.cat_judge.specs.inside.Found.{Finds}

@@ -39,8 +39,10 @@ returns-in-Either t c =
     found_Either answers c.args.guard.now c.choice-in-Either.result c.in-Either.left c.in-Either.right c.in-Either.is
     (c.choice-in-Either.ensures answers (formula_of c.in-Either.left) (formula.Constant true)
     (formula_of c.in-Either.right)
-    (subst (λ g. Tells answers (formula_of g) c.known-left-in-Either.result) c.get-in-Either.ensures c.known-left-in-Either.ensures) refl
-    (subst (λ g. Tells answers (formula_of g) c.known-right-in-Either.result) c.get-in-Either-2.ensures c.known-right-in-Either.ensures))
+    (subst (λ g. Tells answers (formula_of g) c.known-left-in-Either.result) c.get-in-Either.ensures
+    c.known-left-in-Either.ensures) refl
+    (subst (λ g. Tells answers (formula_of g) c.known-right-in-Either.result) c.get-in-Either-2.ensures
+    c.known-right-in-Either.ensures))
 
 pub returns-in-Differ : goal.returns-in-Differ
 returns-in-Differ t c =
@@ -51,7 +53,8 @@ returns-in-Differ t c =
     found_Differ answers c.args.guard.now c.choice-in-Differ.result c.in-Differ.left c.in-Differ.right c.in-Differ.is
     (c.choice-in-Differ.ensures answers (formula_of c.in-Differ.left) (formula.Not (formula_of c.in-Differ.right))
     (formula_of c.in-Differ.right)
-    (subst (λ g. Tells answers (formula_of g) c.known-left-in-Differ.result) c.get-in-Differ.ensures c.known-left-in-Differ.ensures)
+    (subst (λ g. Tells answers (formula_of g) c.known-left-in-Differ.result) c.get-in-Differ.ensures
+    c.known-left-in-Differ.ensures)
     (c.negation-in-Differ.ensures answers (formula_of c.in-Differ.right) right) right)
 
 pub returns-in-Choice : goal.returns-in-Choice
