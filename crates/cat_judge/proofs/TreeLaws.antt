@@ -1,0 +1,80 @@
+-- Closed trees cover what is admitted.
+use Rattle.std.proofs.Common.{◌≡◌, ℕ, Bool, true, false, List, [], Option, Some, None, refl, slice_get}
+use Rattle.std.proofs.Math.Bool.{beq}
+use Rattle.cat_region.specs.declared.dim.Dim.{Dim}
+use Rattle.cat_region.specs.Points.{answer}
+use Rattle.cat_region.specs.Regions.{Constraints, Valuation, IsValuation, Admits, IsEmpty}
+use Rattle.cat_region.proofs.Exported.{Admits-with_narrowing}
+use Rattle.cat_guard.specs.declared.table.Atom.{Atom}
+use Rattle.cat_guard.specs.declared.table.TableTarget.{TableTarget}
+use Rattle.cat_guard.specs.declared.tree.TreeNode.{TreeNode}
+use Rattle.cat_guard.specs.declared.tree.CitedTree.{CitedTree}
+use Rattle.cat_guard.specs.TableJudging.{Covers}
+use Rattle.cat_guard.specs.Trees.{Tree, with_answer, answering, Closed, AreClosed, IsCitedClosed}
+use Rattle.cat_guard.specs.Trees as tree
+use Rattle.cat_guard.specs.Valuations.{holds_at}
+
+-- a valuation is admitted on one of the two sides of an atom
+module _ (region : Constraints) (v : Valuation) where
+  abbrev On : Option Atom → Bool → Type 0
+  On o b = Admits (with_answer region o b) v
+
+  -- the answer of an atom at the valuation, or true where there is no atom
+  abbrev side : Option Atom → Bool
+  side None = true
+  side (Some atom) = answer atom.cut (v atom.term)
+
+  same : (b : Bool) → beq b b ≡ true
+  same true = refl
+  same false = refl
+
+  pub on_side : (o : Option Atom) → Admits region v → On o (side o)
+  on_side None admits = admits
+  on_side (Some atom) admits =
+      (Admits-with_narrowing region
+      (record { dim = atom.term; cut = atom.cut; yes = answer atom.cut (v atom.term) }) v).1
+      (admits, same (answer atom.cut (v atom.term)))
+
+  pub from_side : (o : Option Atom) (b : Bool) → On o b → Admits region v
+  from_side None b admits = admits
+  from_side (Some atom) b admits =
+      ((Admits-with_narrowing region (record { dim = atom.term; cut = atom.cut; yes = b }) v).0 admits).0
+
+pub empty_closed : (atoms : List Atom) (t : TableTarget) (region : Constraints) (tree : Tree) → IsEmpty region
+    → Closed atoms t region tree
+empty_closed atoms t region tree.Leaf empty = λ v admits. absurd (empty v admits)
+empty_closed atoms t region tree.Rest empty = empty
+empty_closed atoms t region (tree.Split a left right) empty = (
+  empty_closed atoms t (answering atoms region a true) left
+      (λ v admits. empty v (from_side region v (slice_get atoms a) true admits)),
+  empty_closed atoms t (answering atoms region a false) right
+      (λ v admits. empty v (from_side region v (slice_get atoms a) false admits)),
+)
+
+pub closed_covers : (atoms : List Atom) (t : TableTarget) (region : Constraints) (tree : Tree) (v : Valuation)
+    → Closed atoms t region tree → Admits region v → Covers t (holds_at atoms v)
+closed_covers atoms t region tree.Leaf v closed admits = closed v admits
+closed_covers atoms t region tree.Rest v closed admits = absurd (closed v admits)
+closed_covers atoms t region (tree.Split a left right) v closed admits =
+    by (side region v (slice_get atoms a)) (on_side region v (slice_get atoms a) admits)
+    (closed_covers atoms t (answering atoms region a true) left v closed.0)
+    (closed_covers atoms t (answering atoms region a false) right v closed.1)
+  where
+    by : (b : Bool) → Admits (with_answer region (slice_get atoms a) b) v
+        → (Admits (answering atoms region a true) v → Covers t (holds_at atoms v))
+        → (Admits (answering atoms region a false) v → Covers t (holds_at atoms v)) → Covers t (holds_at atoms v)
+    by true on one other = one on
+    by false on one other = other on
+
+pub nodes_cover : (atoms : List Atom) (t : TableTarget) (region : Constraints) (nodes : List TreeNode) (v : Valuation)
+    → AreClosed atoms t region nodes → Admits region v → Covers t (holds_at atoms v)
+nodes_cover atoms t region nodes v closed admits = closed_covers atoms t region closed.0 v closed.2 admits
+
+pub cited_cover : (atoms : List Atom) (t : TableTarget) (region : Constraints) (cited : CitedTree) (v : Valuation)
+    → IsCitedClosed atoms t region cited → Admits region v → Covers t (holds_at atoms v)
+cited_cover atoms t region cited v closed admits = closed_covers atoms t region closed.0 v closed.2 admits
+
+-- what is admitted before any narrowing
+pub all_admitted : (dims : List Dim) (room : ℕ) (v : Valuation) → IsValuation dims v
+    → Admits (record { dims = dims; narrowings = []; room = room }) v
+all_admitted dims room v is = record { valuation = is; agreeing = refl }

@@ -1,0 +1,3 @@
+pub mod Telling
+pub mod Found
+pub mod Counting

@@ -1,0 +1,16 @@
+//! How the targets of a table are judged in regions, and what that says of each valuation that is admitted.
+#![tactic(auto)]
+
+mod judge;
+mod judgement;
+mod laws;
+mod tally;
+mod truth;
+
+pub use judge::{judge_box, winner};
+pub use judgement::Judgement;
+pub use laws::{
+    bad_regions_cover_nothing, closed_trees_cover_each_valuation,
+    closed_trees_cover_what_is_admitted, covered_leaves_are_closed, empty_regions_close_each_tree,
+    judgings_of_regions_hold, narrowing_keeps_what_is_judged, regions_answer_exactly,
+};
