@@ -2,6 +2,7 @@
 #![tactic(auto)]
 
 use cat_rows::{Arguments, Problem};
+use cat_rows_except::{forest_answer, forest_chain_answer};
 use cat_rows_json::{
     read_input_answer, read_inputs_answer, read_value_answer, write_answer, write_input_answer,
     write_value_answer,
@@ -36,6 +37,8 @@ enum Subject {
     Program,
     ProgramCuts,
     ProgramSwaps,
+    Forest,
+    ForestChain,
     Weave,
     Gather,
     IncludeChain,
@@ -47,7 +50,7 @@ enum Subject {
     WriteAnswer,
 }
 
-const SUBJECTS: [(&str, Subject); 25] = [
+const SUBJECTS: [(&str, Subject); 27] = [
     ("frac", Subject::Frac),
     ("whole", Subject::Whole),
     ("money", Subject::Money),
@@ -64,6 +67,8 @@ const SUBJECTS: [(&str, Subject); 25] = [
     ("program", Subject::Program),
     ("program_cuts", Subject::ProgramCuts),
     ("program_swaps", Subject::ProgramSwaps),
+    ("forest", Subject::Forest),
+    ("forest_chain", Subject::ForestChain),
     ("weave", Subject::Weave),
     ("gather", Subject::Gather),
     ("include_chain", Subject::IncludeChain),
@@ -107,6 +112,8 @@ fn answer_on(
         Subject::Program => program_answer(alloc, given),
         Subject::ProgramCuts => program_cuts_answer(alloc, given),
         Subject::ProgramSwaps => program_swaps_answer(alloc, given),
+        Subject::Forest => forest_answer(alloc, given),
+        Subject::ForestChain => forest_chain_answer(alloc, given),
         Subject::Weave => weave_answer(alloc, given),
         Subject::Gather => gather_answer(alloc, given),
         Subject::IncludeChain => chain_answer(alloc, given),
