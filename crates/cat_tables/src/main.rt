@@ -10,6 +10,7 @@ use cat_rows_json::{
 use cat_rows_number::{day_answer, frac_answer, money_answer, span_answer, whole_answer};
 use cat_rows_order::order_answer;
 use cat_rows_program::{program_answer, program_cuts_answer, program_swaps_answer};
+use cat_rows_region::region_answer;
 use cat_rows_source::{chain_answer, gather_answer, weave_answer};
 use cat_rows_token::{token_positions_answer, tokens_answer};
 use cat_rows_tree::{
@@ -39,6 +40,7 @@ enum Subject {
     ProgramSwaps,
     Forest,
     ForestChain,
+    Region,
     Weave,
     Gather,
     IncludeChain,
@@ -50,7 +52,7 @@ enum Subject {
     WriteAnswer,
 }
 
-const SUBJECTS: [(&str, Subject); 27] = [
+const SUBJECTS: [(&str, Subject); 28] = [
     ("frac", Subject::Frac),
     ("whole", Subject::Whole),
     ("money", Subject::Money),
@@ -69,6 +71,7 @@ const SUBJECTS: [(&str, Subject); 27] = [
     ("program_swaps", Subject::ProgramSwaps),
     ("forest", Subject::Forest),
     ("forest_chain", Subject::ForestChain),
+    ("region", Subject::Region),
     ("weave", Subject::Weave),
     ("gather", Subject::Gather),
     ("include_chain", Subject::IncludeChain),
@@ -114,6 +117,7 @@ fn answer_on(
         Subject::ProgramSwaps => program_swaps_answer(alloc, given),
         Subject::Forest => forest_answer(alloc, given),
         Subject::ForestChain => forest_chain_answer(alloc, given),
+        Subject::Region => region_answer(alloc, given),
         Subject::Weave => weave_answer(alloc, given),
         Subject::Gather => gather_answer(alloc, given),
         Subject::IncludeChain => chain_answer(alloc, given),
