@@ -2,6 +2,7 @@
 #![tactic(auto)]
 
 use cat_rows::{Arguments, Problem};
+use cat_rows_except::{forest_answer, forest_chain_answer};
 use cat_rows_json::{
     read_input_answer, read_inputs_answer, read_value_answer, write_answer, write_input_answer,
     write_value_answer,
@@ -9,6 +10,7 @@ use cat_rows_json::{
 use cat_rows_number::{day_answer, frac_answer, money_answer, span_answer, whole_answer};
 use cat_rows_order::order_answer;
 use cat_rows_program::{program_answer, program_cuts_answer, program_swaps_answer};
+use cat_rows_region::region_answer;
 use cat_rows_source::{chain_answer, gather_answer, weave_answer};
 use cat_rows_token::{token_positions_answer, tokens_answer};
 use cat_rows_tree::{
@@ -36,6 +38,9 @@ enum Subject {
     Program,
     ProgramCuts,
     ProgramSwaps,
+    Forest,
+    ForestChain,
+    Region,
     Weave,
     Gather,
     IncludeChain,
@@ -47,7 +52,7 @@ enum Subject {
     WriteAnswer,
 }
 
-const SUBJECTS: [(&str, Subject); 25] = [
+const SUBJECTS: [(&str, Subject); 28] = [
     ("frac", Subject::Frac),
     ("whole", Subject::Whole),
     ("money", Subject::Money),
@@ -64,6 +69,9 @@ const SUBJECTS: [(&str, Subject); 25] = [
     ("program", Subject::Program),
     ("program_cuts", Subject::ProgramCuts),
     ("program_swaps", Subject::ProgramSwaps),
+    ("forest", Subject::Forest),
+    ("forest_chain", Subject::ForestChain),
+    ("region", Subject::Region),
     ("weave", Subject::Weave),
     ("gather", Subject::Gather),
     ("include_chain", Subject::IncludeChain),
@@ -107,6 +115,9 @@ fn answer_on(
         Subject::Program => program_answer(alloc, given),
         Subject::ProgramCuts => program_cuts_answer(alloc, given),
         Subject::ProgramSwaps => program_swaps_answer(alloc, given),
+        Subject::Forest => forest_answer(alloc, given),
+        Subject::ForestChain => forest_chain_answer(alloc, given),
+        Subject::Region => region_answer(alloc, given),
         Subject::Weave => weave_answer(alloc, given),
         Subject::Gather => gather_answer(alloc, given),
         Subject::IncludeChain => chain_answer(alloc, given),
