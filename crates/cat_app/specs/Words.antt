@@ -21,7 +21,8 @@ is_run mode file = bytes_eq mode (codes "run") && not (list_any (λ byte. byte =
 -- the run that words ask for; EXTRA is standard input unless it is given, and `--cases` is passed over
 abbrev pub request_by : Asked → Option Request
 request_by asked =
-    if is_run asked.mode asked.file then Some (request asked.scope asked.file (unwrap_or asked.extra (codes "-"))) else None
+    let extra = unwrap_or asked.extra (codes "-") in
+    if is_run asked.mode asked.file then Some (request asked.scope asked.file extra) else None
 
 -- the words `run SCOPE FILE [EXTRA]` of a command that is taken; other words are no request
 unfoldable pub request_of : List (List ℕ) → Option Request

@@ -32,7 +32,10 @@ fn run_words(line: CommandLine<'_>) -> Option<RunWords<'_>>
 
 /// What the words `run SCOPE FILE [EXTRA]` ask for.
 #[tactic(auto, unfolding(crate::specs::Words::request_of))]
-pub fn read_words<'a>(alloc: Global, words: &'a [String]) -> Result<Option<RunWords<'a>>, AllocError>
+pub fn read_words<'a>(
+    alloc: Global,
+    words: &'a [String],
+) -> Result<Option<RunWords<'a>>, AllocError>
     ensures { IfOk result (λ asked. option_map asked_of asked ≡ request_of (texts_of words.entry.now)) }
 {
     match cat_words::read_words(alloc, words)? {

@@ -1,6 +1,8 @@
 -- The number of a definition stands once in the terms of a scope: in that of its target.
-use Rattle.std.proofs.Common.{◌≡◌, ◌∙◌, ◌⊎◌, inl, inr, ℕ, zero, suc, ◌+◌, ◌<◌, ◌≤◌, nat_eq, nat_lt, Bool, true, false, not, ◌&&◌}
-use Rattle.std.proofs.Common.{IsTrue, List, [], ◌∷◌, ◌++◌, length, map, Option, Some, None, slice_get, refl, sym, ap, subst}
+use Rattle.std.proofs.Common.{◌≡◌, ◌∙◌, ◌⊎◌, inl, inr, ℕ, zero, suc, ◌+◌, ◌<◌, ◌≤◌, nat_eq, nat_lt, Bool, true, false}
+use Rattle.std.proofs.Common.{not, ◌&&◌}
+use Rattle.std.proofs.Common.{IsTrue, List, [], ◌∷◌, ◌++◌, length, map, Option, Some, None, slice_get, refl, sym, ap}
+use Rattle.std.proofs.Common.{subst}
 use Rattle.std.proofs.Common.{arith, true≢false, if◌then◌else◌, IfSome}
 use Rattle.std.proofs.Math.Logic.{⊎_elim}
 use Rattle.std.proofs.lemmas.Bool.{cases_eq}
@@ -193,7 +195,8 @@ module _ (m : ℕ) where
           → ((g : ℕ) → own_count (slice_get gs g) ≤ one_if (nat_eq g home)) → (g : ℕ)
           → own_count (slice_get (x ∷ gs) g) ≤ one_if (nat_eq g (suc home))
       further home is alone zero = omega (arith, is)
-      further home is alone (suc g) = subst (λ (b : Bool). own_count (slice_get gs g) ≤ one_if b) (next g home) (alone g)
+      further home is alone (suc g) = subst (λ (b : Bool). own_count (slice_get gs g) ≤ one_if b) (next g home)
+          (alone g)
 
       by : (k : ℕ) → times (definition_numbers x.defs) m ≡ k → (total gs ≤ 1 → HasHome gs) → HasHome (x ∷ gs)
       by (suc k) is rest = record { home = 0; alone = there k is }

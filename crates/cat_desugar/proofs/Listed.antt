@@ -1,6 +1,8 @@
 -- Each definition is one of a target that is listed among the targets of its scope.
-use Rattle.std.proofs.Common.{◌≡◌, ◌⊎◌, inl, inr, ℕ, zero, suc, ◌+◌, ◌<◌, nat_eq, Bool, true, false, not, ◌&&◌, ◌||◌, IsTrue}
-use Rattle.std.proofs.Common.{List, [], ◌∷◌, ◌++◌, length, Option, Some, None, slice_get, refl, sym, ap, ◌∙◌, subst, arith}
+use Rattle.std.proofs.Common.{◌≡◌, ◌⊎◌, inl, inr, ℕ, zero, suc, ◌+◌, ◌<◌, nat_eq, Bool, true, false, not, ◌&&◌, ◌||◌}
+use Rattle.std.proofs.Common.{IsTrue}
+use Rattle.std.proofs.Common.{List, [], ◌∷◌, ◌++◌, length, Option, Some, None, slice_get, refl, sym, ap, ◌∙◌, subst}
+use Rattle.std.proofs.Common.{arith}
 use Rattle.std.proofs.Common.{true≢false, if◌then◌else◌}
 use Rattle.std.proofs.Math.Logic.{⊎_elim}
 use Rattle.std.proofs.lemmas.Bool.Decides.{nat_tests}
@@ -90,7 +92,8 @@ inner_listed scope item n (i ∷ items) (suc k) decl at given =
     (by (may_be_given i.kind) (inner_listed scope item (n + 1) items k decl at given))
   where
     by : (b : Bool)
-        → IsOneOf (record { scope = scope; item = item; inner = Some ((n + 1) + k) }) (called_targets scope item (n + 1) items)
+        → IsOneOf (record { scope = scope; item = item; inner = Some ((n + 1) + k) })
+        (called_targets scope item (n + 1) items)
         → IsOneOf (record { scope = scope; item = item; inner = Some ((n + 1) + k) })
         (if b then record { scope = scope; item = item; inner = Some n } ∷ called_targets scope item (n + 1) items
         else called_targets scope item (n + 1) items)
@@ -98,7 +101,8 @@ inner_listed scope item n (i ∷ items) (suc k) decl at given =
     by false h = h
 
 at_item : (ns : Names) (scope item : ℕ) (inner : Option ℕ) (ps : List Ty) (t : Ty) → IsTargetAt ns item inner ps t
-    → IsOneOf (record { scope = scope; item = item; inner = inner }) (item_targets ns.decls scope item (slice_get ns.items item))
+    → IsOneOf (record { scope = scope; item = item; inner = inner })
+    (item_targets ns.decls scope item (slice_get ns.items item))
 at_item ns scope item None ps t h =
     subst (λ o. IsOneOf (record { scope = scope; item = item; inner = None }) (item_targets ns.decls scope item o))
     (sym h.decl_is) (own_listed ns.decls scope item h.decl.kind h.defined)

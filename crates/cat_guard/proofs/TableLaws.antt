@@ -33,7 +33,7 @@ both_true true b h = (refl, h)
 both_true false b h = absurd (true≢false (sym h))
 
 pub all_true : {A : Type 0} (test : A → Bool) (xs : List A) → IsTrue (list_all test xs)
-  → AllHave (λ x. IsTrue (test x)) xs
+    → AllHave (λ x. IsTrue (test x)) xs
 all_true test [] h = tt
 all_true test (x ∷ xs) h = let two = both_true (test x) (list_all test xs) h in (two.0, all_true test xs two.1)
 
@@ -147,7 +147,7 @@ module _ (t : TableTarget) (sound : IsSoundTarget t) (answers : ℕ → Option B
 
   own_stands : (g : ℕ) (group : GuardGroup) → slice_get t.groups g ≡ Some group
       → Stands t.target t.defs (own_verdict t answers (slice_get t.groups g))
-        (decided_own t holds (slice_get t.groups g)).end
+      (decided_own t holds (slice_get t.groups g)).end
   own_stands g group is =
       let two = both_true (are_below (length t.defs) group.defs) (are_below (length t.groups) group.excepted_by)
       (list_all_at (group_is_sound (length t.defs) (length t.groups)) t.groups g group sound.groups is) in
@@ -175,7 +175,7 @@ module _ (t : TableTarget) (sound : IsSoundTarget t) (answers : ℕ → Option B
       (settle t.target (map (decided_group t holds n) (excepting (pairs_from 0 t.groups) g)))
       (decided_own t holds (slice_get t.groups g))
       (subst (λ hs. Stands t.target t.defs
-        (listed (map (group_verdict t answers n) (excepting_in (slice_get t.groups g))))
+      (listed (map (group_verdict t answers n) (excepting_in (slice_get t.groups g))))
       (settle t.target (map (decided_group t holds n) hs)).end) (sym (excepting_is t.groups g))
       (settle_stands t.target t.defs _ _
       (maps_stand t.target t.defs (group_verdict t answers n) (decided_group t holds n)

@@ -60,7 +60,7 @@ module _ (target : Target) (defs : List GuardDef) where
   Counts ws (Ok hs) = Counted ws hs
 
   more : (w : Verdict) (ws : List Verdict) (o : End) (m : Ends) → Fits w o → Counts ws m
-    → Counts (w ∷ ws) (one_more o m)
+      → Counts (w ∷ ws) (one_more o m)
   more (v.Holds d) ws (Ok (Some h)) (Err stop) is c = c
   more (v.Holds d) ws (Ok (Some h)) (Ok hs) is c = record {
     calm = c.calm;

@@ -88,7 +88,7 @@ guard_in ds g x e y = ask_truth g e
 unfoldable pub guard_as : Decls → Standing → Expr → Expr → Formula Question
 guard_as ds g =
     fold-Expr (Expr → Formula Question) (Unit {0}) (Unit {0}) (λ x e. guard_in ds g x e (out-Expr e)) (λ a. tt)
-      (λ f. tt)
+    (λ f. tt)
 
 -- the guard of an expression in the definitions of a function or of a variable
 abbrev pub guard_of : Decls → Standing → Expr → Formula Question

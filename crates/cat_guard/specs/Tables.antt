@@ -143,7 +143,7 @@ pub record IsTableOf (ds : Decls) (scope : ℕ) (decl : Scope) (body : Body) (ta
   pub scope_is : table.scope ≡ scope
   pub name_is : table.name ≡ decl.name
   pub terms_are : table.terms ≡ terms_of decl.items
-    (questions_of ds body.defs (targets_of ds scope decl.items body.order))
+      (questions_of ds body.defs (targets_of ds scope decl.items body.order))
   pub atoms_are : table.atoms ≡ atoms_of (questions_of ds body.defs (targets_of ds scope decl.items body.order))
   pub targets_are : table.targets
       ≡ map (target_of ds decl.items body.defs (questions_of ds body.defs (targets_of ds scope decl.items body.order)))

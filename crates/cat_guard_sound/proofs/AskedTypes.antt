@@ -138,7 +138,7 @@ module _ (ns : Names) (ps : List Ty) (g : Standing) where
       → AreAsked (against g e c s)
   against_asked e c s typed =
       parted_all (IsAskedOf ns ps g) c _ _ (scalar_asked e s (cut.Below s) typed)
-        (scalar_asked e s (cut.AtMost s) typed)
+      (scalar_asked e s (cut.AtMost s) typed)
 
   compared_asked : (e : Expr) (c : Comparison) (o : BinaryOp) → comparison_of o ≡ Some c → (r : Signature)
       → IsOneOf r (signatures_of o) → (a b : Expr) → HasType ns ps a r.left → HasType ns ps b r.right

@@ -99,7 +99,7 @@ module _ (ns : Names) (scope : ℕ) (defs : List Def) (typed : AllHave (DefTyped
 
   pub def_all : (d : Def) → DefTyped ns scope d → AllHave IsOfDef (asked (def_formula ns.decls d))
   def_all d h = go (asked (def_formula ns.decls d))
-    (condition_asked ns h.params (standing_of d) d.condition h.condition)
+      (condition_asked ns h.params (standing_of d) d.condition h.condition)
     where
       go : (xs : List Question) → AllHave (IsAskedOf ns h.params (standing_of d)) xs → AllHave IsOfDef xs
       go [] all = tt

@@ -69,7 +69,7 @@ in_table ds k decl body t = target_of ds decl.items body.defs (questions ds k de
 -- what holds of the targets of a table holds of each target of the scope
 pub table_target : (P : TableTarget → Type 0) (ds : Decls) (k : ℕ) (decl : Scope) (body : Body) (table : Table)
     → IsTableOf ds k decl body table → AllHave P table.targets → (t : Target)
-      → IsOneOf t (listed_targets ds k decl body)
+    → IsOneOf t (listed_targets ds k decl body)
     → P (in_table ds k decl body t)
 table_target P ds k decl body table is all t among =
     of_mapped P (in_table ds k decl body) (listed_targets ds k decl body) t (subst (AllHave P) is.targets_are all) among
@@ -115,7 +115,7 @@ module _ (ds : Decls) (k : ℕ) (decl : Scope) (body : Body) (table : Table)
         (decided here_in_table (holds_at table.atoms (valuation_of env terms item arguments))).end) (sym is.terms_are)
         (subst (λ atoms. Follows (IsOf ds t) (IsEnd allowed) (judge_target of here body.defs).end
         (decided here_in_table (holds_at atoms
-          (valuation_of env (terms_of decl.items (questions ds k decl body)) item arguments))).end)
+        (valuation_of env (terms_of decl.items (questions ds k decl body)) item arguments))).end)
         (sym is.atoms_are)
         (target_follows (names ds decl) k body.defs body.order typed allowed env item inner ps t target arguments are
         listed sound_here stand))
@@ -151,14 +151,14 @@ audited_settled allowed ds k decl body table typed ordered audited env arguments
     let this = table_target (IsTargetAudited allowed table) ds k decl body table audited.table_is audited.targets here
     (target_listed (names ds decl) k body.defs body.order ordered item inner ps t target) in
     let at = valuation ds k decl body table typed ordered audited.table_is audited.sound allowed env item inner ps t
-      target
+    target
     arguments are stand in record {
       ends = λ stops. covered_ends ds k decl body table typed ordered audited.table_is audited.sound allowed env item
-        inner
+          inner
           ps t target arguments are stand (this.covered stops (valuation_of env table.terms item arguments) at);
       stands = λ none. held_of allowed here ds t (judge_target (λ e. eval env e arguments) here body.defs).end
           (decided (in_table ds k decl body here)
-            (holds_at table.atoms (valuation_of env table.terms item arguments))).end
+          (holds_at table.atoms (valuation_of env table.terms item arguments))).end
           (follows ds k decl body table typed ordered audited.table_is audited.sound allowed env item inner ps t target
           arguments are stand)
           (this.decides (no_function (names ds decl) item inner ps t target none)
@@ -193,7 +193,7 @@ audited_programs allowed within tables ds bodies order scope input formed closed
     (λ k decl body here at body_there.
     let b = body_is ds bodies order is k decl body at body_there in
     audited_settled allowed ds k decl body (tables k) b.defs b.order (audited k decl body here at body_there)) inside
-      typed)
+    typed)
 
 calm : (ds : Decls) (items : List ItemDecl) (r : Result (List Value) Stop)
     → Ended none_may_stop (AreOutputsOf ds items) r → IsValueOrFault (outcome_of r)

@@ -254,7 +254,7 @@ decimal_compared c n h = record {
   equal_is = λ p. ap (λ y. equal_in p y (flat.Decimal n) (flat.Decimal c)) (value.outs-Decimal n);
   back = λ p. ap (λ y. compared_in p y (flat.Decimal n)) (value.outs-Decimal c)
       ∙ ap (λ y. on_one (read.decimal_in y) (λ b. Ok (frac_order c b))) (value.outs-Decimal n)
-        ∙ ap Ok (fractions_turned n c);
+      ∙ ap Ok (fractions_turned n c);
   equal_back = λ p. ap (λ y. equal_in p y (flat.Decimal c) (flat.Decimal n)) (value.outs-Decimal c);
 }
 
@@ -336,14 +336,14 @@ parted_reads holds comparison.AtLeast o f g below at_most = ap not below ∙ lea
 parted_reads holds comparison.Equal o f g below at_most = rw (below, at_most) (same o)
   where
     same : (o : Ordering) → truth {A = Bool} (λ b. b)
-      (parted comparison.Equal (formula.Constant (is_lt o)) (formula.Constant (is_le o))) ≡ is_equal o
+        (parted comparison.Equal (formula.Constant (is_lt o)) (formula.Constant (is_le o))) ≡ is_equal o
     same order.Less = refl
     same order.Equal = refl
     same order.Greater = refl
 parted_reads holds comparison.Unequal o f g below at_most = rw (below, at_most) (other o)
   where
     other : (o : Ordering) → truth {A = Bool} (λ b. b)
-      (parted comparison.Unequal (formula.Constant (is_lt o)) (formula.Constant (is_le o))) ≡ not (is_equal o)
+        (parted comparison.Unequal (formula.Constant (is_lt o)) (formula.Constant (is_le o))) ≡ not (is_equal o)
     other order.Less = refl
     other order.Equal = refl
     other order.Greater = refl

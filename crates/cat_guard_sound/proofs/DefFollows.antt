@@ -75,7 +75,7 @@ module _ (allowed : Allowed) (ds : Decls) (t : Ty) (of : Expr → Run Value) (d 
       subst (λ x. Goes (one_end x (on_one r (λ w. Ok (Some (held_as d w)))) (Ok None)) (by_truth b d.0 d.1.pos).end)
       (sym seen)
       (subst (λ x. Goes (one_end (Ok is.0) (on_one r (λ w. Ok (Some (held_as d w)))) (Ok None))
-        (by_truth x d.0 d.1.pos).end)
+      (by_truth x d.0 d.1.pos).end)
       (sym (tells is.0 (ap told seen))) (chosen_goes is.0 r ended))
 
   pub def_goes : (b : Bool) → DefEnds allowed ds t of d.1 → Tells (condition_of of d.1.condition).end b

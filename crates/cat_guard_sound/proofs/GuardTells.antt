@@ -71,7 +71,7 @@ tells_truth allowed ds (Ok v) ends b e =
     let is = boolean_value ds v ends in
     subst (λ u. Tells (Ok u) (answer cut.IsTrue (point_at dim.Truth (Ok u)))) (sym is.1)
     (tells_as (Ok (flat.Boolean is.0)) (Ok (flat.Boolean is.0)) _ is.0 refl (boolean_point is.0) (tells_Boolean is.0))
-      b e
+    b e
 
 -- ---- the operands of a comparison have one type
 
@@ -109,7 +109,7 @@ case_below : (ds : Decls) (n k : ℕ) (content : Option Value) → IsTrue (is_ca
 case_below ds n k content h = by (slice_get ds.enumerations n) h
   where
     in_list : (cases : List Case) (k : ℕ)
-      → IsTrue (some_passes (content_has_type ds content) (content_in (slice_get cases k)))
+        → IsTrue (some_passes (content_has_type ds content) (content_in (slice_get cases k)))
         → nat_lt k (length cases) ≡ true
     in_list [] k h = absurd (true≢false (sym h))
     in_list (c ∷ cases) zero h = grind (arith, nat_tests)
@@ -242,7 +242,7 @@ module _ (allowed : Allowed) (ns : Names) (env : Env) (ps : List Ty) (arguments 
       → Goal e (guard_in ns.decls g (guarded ns.decls g (Expr-F.IsCase p a n k)) e (Expr-F.IsCase p a n k))
   case_tells e p a n k is typed has there =
       tells_as (value_of e).end (on_one (value_of a).end
-        (λ v. on_one (case_of v) (λ c. Ok (flat.Boolean (nat_eq c.0 k)))))
+      (λ v. on_one (case_of v) (λ c. Ok (flat.Boolean (nat_eq c.0 k)))))
       _ _
       (ap (λ (x : Run Value). x.end) (eval_at env e (Expr-F.IsCase p a n k) is arguments)
       ∙ then_end (value_of a) (λ v. plain (on_one (case_of v) (λ c. Ok (flat.Boolean (nat_eq c.0 k)))))) refl
@@ -266,11 +266,11 @@ module _ (allowed : Allowed) (ns : Names) (env : Env) (ps : List Ty) (arguments 
 
   pub guard_told : (e : Expr) → IsTold e
   guard_told = by_parts IsTold (λ e y is held typed has. by e y is held typed has
-    (typed_at ns ps e y is flat_ty.Boolean typed)
+      (typed_at ns ps e y is flat_ty.Boolean typed)
       (env_parts is has))
     where
       by : (e : Expr) (y : Form) → out-Expr e ≡ y → AllHave IsTold (parts_of y) → HasType ns ps e flat_ty.Boolean
-        → Has e
+          → Has e
           → PartsTyped ns ps y flat_ty.Boolean → AllHave Has (parts_of y) → Goal e (guard_of ns.decls g e)
       by e (Expr-F.Literal p l) is held typed has parts envs =
           subst (Goal e) (sym (guard_at ns.decls g e (Expr-F.Literal p l) is)) (literal_tells e p l is typed has)
@@ -286,14 +286,14 @@ module _ (allowed : Allowed) (ns : Names) (env : Env) (ps : List Ty) (arguments 
           (tells_as (value_of e).end _ _ _
           (ap (λ (x : Run Value). x.end) (eval_at env e (Expr-F.And p a b) is arguments)) refl
           (tells_and (value_of a) (value_of b) (truth holds (guard_of ns.decls g a))
-            (truth holds (guard_of ns.decls g b))
+          (truth holds (guard_of ns.decls g b))
           (held.0 parts.0 envs.0) (held.1.0 parts.1 envs.1.0)))
       by e (Expr-F.Or p a b) is held typed has parts envs =
           subst (Goal e) (sym (guard_at ns.decls g e (Expr-F.Or p a b) is))
           (tells_as (value_of e).end _ _ _
           (ap (λ (x : Run Value). x.end) (eval_at env e (Expr-F.Or p a b) is arguments)) refl
           (tells_or (value_of a) (value_of b) (truth holds (guard_of ns.decls g a))
-            (truth holds (guard_of ns.decls g b))
+          (truth holds (guard_of ns.decls g b))
           (held.0 parts.0 envs.0) (held.1.0 parts.1 envs.1.0)))
       by e (Expr-F.If p c a b) is held typed has parts envs =
           subst (Goal e) (sym (guard_at ns.decls g e (Expr-F.If p c a b) is))

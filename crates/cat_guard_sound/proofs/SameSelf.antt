@@ -47,7 +47,7 @@ module _ (g : Standing) where
       by true e = same.parameter refl (grind (arith, nat_tests)) (grind (arith, nat_tests))
       by false e =
           subst (λ n. Self (leaf.Local p n)) (sym (grind (arith, nat_tests)))
-            (same.bound {p = p} {q = p} (k - g.params))
+          (same.bound {p = p} {q = p} (k - g.params))
 
   case_self : (p : Pos) (n k : ℕ) (content : Option Expr) → Within Self content → Self (expr.Case p n k content)
   case_self p n k None h = same.case_alone

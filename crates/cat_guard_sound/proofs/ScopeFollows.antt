@@ -100,12 +100,12 @@ valuation_at env item arguments (term ∷ terms) h (suc i) below =
     valuation_at env item arguments terms h.1 i (omega arith)
 
 all_mapped : {A B : Type 0} (P : B → Type 0) (f : A → B) (xs : List A) → AllHave (λ x. P (f x)) xs
-  → AllHave P (map f xs)
+    → AllHave P (map f xs)
 all_mapped P f [] h = tt
 all_mapped P f (x ∷ xs) h = (h.0, all_mapped P f xs h.1)
 
 pub of_mapped : {A B : Type 0} (P : B → Type 0) (f : A → B) (xs : List A) (x : A) → AllHave P (map f xs) → IsOneOf x xs
-  → P (f x)
+    → P (f x)
 of_mapped P f [] x h among = elim among [ ]
 of_mapped P f (y ∷ ys) x h (inl e) = subst (λ z. P (f z)) (sym e) h.0
 of_mapped P f (y ∷ ys) x h (inr more) = of_mapped P f ys x h.1 more
@@ -160,10 +160,10 @@ module _ (ns : Names) (scope : ℕ) (defs : List Def) (order : List ℕ) (typed 
   valuation_is env item arguments =
       valuation_at env item arguments terms
       (all_mapped (λ term. IsTrue (is_point term.dim (default_point term.dim))) (term_of ns.items)
-        (firsts same_term [] qs)
+      (firsts same_term [] qs)
       (all_kept (IsOfDef ns scope defs typed targets) _ (firsts same_term [] qs)
       (firsts_all (IsOfDef ns scope defs typed targets) same_term [] qs
-        (targets_all ns scope defs typed targets targets))
+      (targets_all ns scope defs typed targets targets))
       (λ q o. o.asked_of.inhabited)))
 
   -- a target that is judged in an environment
@@ -215,9 +215,9 @@ module _ (ns : Names) (scope : ℕ) (defs : List Def) (order : List ℕ) (typed 
             → q.standing ≡ standing_of d.1 → holds (atom_number qs q) ≡ answered (λ e. (of e).end) q
         each q asks o standing =
             atom_is ns scope defs typed targets env item inner ps t target arguments
-              (are_length ns.decls ps arguments are) q
+            (are_length ns.decls ps arguments are) q
             (among_targets ns.decls defs targets here q listed
-              (among_defs ns.decls (defs_from here 0 defs) d q among asks)) o
+            (among_defs ns.decls (defs_from here 0 defs) d q among asks)) o
             ∙ ap (λ vs. answer q.cut (point_at q.dim (eval env q.expr vs).end))
             (own q (ap (λ (g : Standing). g.function) standing ∙ item_same d.1 same))
 
@@ -260,7 +260,7 @@ module _ (ns : Names) (scope : ℕ) (defs : List Def) (order : List ℕ) (typed 
         target_goes (IsOf ns.decls t) (IsEnd allowed) ns.decls ns.items defs qs here of holds sound
         (all_and (λ d. Ready d.1) (λ d. IsOneOf d (defs_from here 0 defs))
         (DefGoes (IsOf ns.decls t) (IsEnd allowed) ns.decls ns.items defs qs here of holds sound)
-          (defs_from here 0 defs)
+        (defs_from here 0 defs)
         (defs-all Ready here 0 defs
         (all_and (λ d. IsTrue (same_target d.target here) → Stands d) (DefTyped ns scope)
         (λ d. IsTrue (same_target d.target here) → Ready d) defs stand typed (λ d h k same. (same, h same, k))))

@@ -197,11 +197,11 @@ module _ (Has : Value → Type 0) (Inside : Stop → Type 0) (ds : Decls) (items
         (λ d h k. place_goes d h.0 h.1 k)
 
     own_goes : (k : ℕ) → Goes (own_by (judge_def of) t (slice_get groups k))
-      (decided_own table holds (slice_get table.groups k))
+        (decided_own table holds (slice_get table.groups k))
     own_goes k = by (slice_get groups k) refl
       where
         by : (o : Option Group) → slice_get groups k ≡ o
-          → Goes (own_by (judge_def of) t o) (decided_own table holds (slice_get table.groups k))
+            → Goes (own_by (judge_def of) t o) (decided_own table holds (slice_get table.groups k))
         by None e =
             subst (λ x. Goes (own_by (judge_def of) t None) (decided_own table holds x))
             (sym (no_group all pairs 0 groups k e)) (inr refl)
@@ -211,7 +211,7 @@ module _ (Has : Value → Type 0) (Inside : Stop → Type 0) (ds : Decls) (items
             (settle_goes Has Inside t (map (judge_def of) g.defs)
             (map (λ p. decided_def holds (slice_get table.defs p)) (map (λ d. place_of d.0 all) g.defs))
             (maps_go Has Inside (judge_def of) (λ d. place_of d.0 all)
-              (λ p. decided_def holds (slice_get table.defs p)) g.defs
+            (λ p. decided_def holds (slice_get table.defs p)) g.defs
             (all_at (λ g. AllHave PlaceGoes g.defs) groups k g (groups-all PlaceGoes all [] all places_go) e)))
 
     acyclic : HasNoCycle (exceptions_of groups)
@@ -244,9 +244,9 @@ module _ (Has : Value → Type 0) (Inside : Stop → Type 0) (ds : Decls) (items
     group_goes (suc m) g within below =
         let e = entry table.groups g below in
         let two = both_true (are_below (length table.defs) e.value.defs)
-          (are_below (length table.groups) e.value.excepted_by)
+        (are_below (length table.groups) e.value.excepted_by)
         (list_all_at (group_is_sound (length table.defs) (length table.groups)) table.groups g e.value sound.groups
-          e.is) in
+        e.is) in
         let on : IsTrue (list_all (is_within (above table.groups) m) (excepting_in (slice_get table.groups g))) =
         subst (λ hs. IsTrue (list_all (is_within (above table.groups) m) hs)) (above_is table.groups g)
         (chain_on (above table.groups) m g within) in
@@ -259,10 +259,10 @@ module _ (Has : Value → Type 0) (Inside : Stop → Type 0) (ds : Decls) (items
         (settle t (map (decided_group table holds m) (excepting (pairs_from 0 table.groups) g)))
         (decided_own table holds (slice_get table.groups g))
         (subst (λ hs. Goes (settle t (map judged hs))
-          (settle t (map (decided_group table holds m) (excepting (pairs_from 0 table.groups) g))))
+        (settle t (map (decided_group table holds m) (excepting (pairs_from 0 table.groups) g))))
         (sym same)
         (subst (λ hs. Goes (settle t (map judged (excepting_in (slice_get table.groups g))))
-          (settle t (map (decided_group table holds m) hs)))
+        (settle t (map (decided_group table holds m) hs)))
         (sym (excepting_is table.groups g))
         (groups_go m (excepting_in (slice_get table.groups g))
         (all_and (λ h. IsTrue (is_within (above table.groups) m h)) (λ h. IsTrue (nat_lt h (length table.groups)))

@@ -90,7 +90,7 @@ inner_listed scope item n (i ∷ items) (suc k) decl at given =
   where
     by : (b : Bool)
         → IsOneOf (record { scope = scope; item = item; inner = Some ((n + 1) + k) })
-          (called_targets scope item (n + 1) items)
+        (called_targets scope item (n + 1) items)
         → IsOneOf (record { scope = scope; item = item; inner = Some ((n + 1) + k) })
         (if b then record { scope = scope; item = item; inner = Some n } ∷ called_targets scope item (n + 1) items
         else called_targets scope item (n + 1) items)
@@ -99,7 +99,7 @@ inner_listed scope item n (i ∷ items) (suc k) decl at given =
 
 at_item : (ns : Names) (scope item : ℕ) (inner : Option ℕ) (ps : List Ty) (t : Ty) → IsTargetAt ns item inner ps t
     → IsOneOf (record { scope = scope; item = item; inner = inner })
-      (item_targets ns.decls scope item (slice_get ns.items item))
+    (item_targets ns.decls scope item (slice_get ns.items item))
 at_item ns scope item None ps t h =
     subst (λ o. IsOneOf (record { scope = scope; item = item; inner = None }) (item_targets ns.decls scope item o))
     (sym h.decl_is) (own_listed ns.decls scope item h.decl.kind h.defined)

@@ -97,7 +97,7 @@ tells_if r one other w x y f h g =
     (tells_choice r.end one.end other.end w x y f h g)
 
 pub tells_not : (p : Pos) (r : Run Value) (x : Bool) → Tells r.end x
-  → Tells (giving r (convert unary.Not p)).end (not x)
+    → Tells (giving r (convert unary.Not p)).end (not x)
 tells_not p r x h =
     tells_as _ _ (not x) (not x) (then_end r (λ v. plain (convert unary.Not p v))) refl (by r.end h)
   where
@@ -132,7 +132,7 @@ tells_xor rounding p r other x y h g =
         first a at h e =
             seen (read.truth w)
             (λ z. ((c : Bool) → told z ≡ Some c → y ≡ c) → says (on_one z (λ c. Ok (flat.Boolean (differ a c))))
-              ≡ Some b
+            ≡ Some b
             → differ x y ≡ b)
             (λ c there g e. ap (λ z. differ z y) (h a refl) ∙ ap (differ a) (g c refl) ∙ tells_Boolean (differ a c) b e)
             (λ stop there g e. absurd (cc)) g e

@@ -102,7 +102,7 @@ case-least n set k few p some h = by (nat_lt k t) refl
 
 -- a value of what is left lies no nearer to the default
 pub least : (d : Dim) (e : Extent) (y : Point) → IsTrue (is_dim d) → IsPart d e → is_none e ≡ false
-  → (d ≡ dim.Decimal → ⊥)
+    → (d ≡ dim.Decimal → ⊥)
     → IsTrue (is_point d y) → is_in e y ≡ true
     → distance (point_in d e) ≤ distance y
 unfolding rank

@@ -26,7 +26,8 @@ an_option_stands_anywhere : asked_by (codes "--cases" ∷ codes "5" ∷ first ++
 unfolding clap_on_literals the_command
 an_option_stands_anywhere = refl
 
-the_text_of_an_option : one_of (codes "cases") (matches_of the_command (first ++ codes "a.md" ∷ codes "--cases=70" ∷ []))
+the_text_of_an_option : one_of (codes "cases")
+    (matches_of the_command (first ++ codes "a.md" ∷ codes "--cases=70" ∷ []))
     ≡ Some (codes "70")
 unfolding clap_on_literals the_command
 the_text_of_an_option = refl

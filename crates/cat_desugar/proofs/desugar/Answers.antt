@@ -16,23 +16,28 @@ from_parts-requires c =
 
 pub returns-clause-decls : goal.returns-clause-decls
 returns-clause-decls c =
-    c.from_parts.ensures.decls ∙ decls_same c.in_ok-decls.decls c.args.program.now.decls c.in_ok-decls.ensures.structures
+    c.from_parts.ensures.decls ∙ decls_same c.in_ok-decls.decls c.args.program.now.decls
+    c.in_ok-decls.ensures.structures
     c.in_ok-decls.ensures.enumerations c.in_ok-decls.ensures.scopes
 
 pub returns-clause-outcomes : goal.returns-clause-outcomes
 returns-clause-outcomes c scope input =
-    ap (λ (run : Run (List Value)). outcome_of run.end) (program_runs c.args.program.now c.args.forests.now c.from_parts.result c.programs_are_well_formed.ensures
+    ap (λ (run : Run (List Value)). outcome_of run.end)
+    (program_runs c.args.program.now c.args.forests.now c.from_parts.result c.programs_are_well_formed.ensures
     c.requires.stand
-    (c.from_parts.ensures.decls ∙ decls_same c.in_ok-decls.decls c.args.program.now.decls c.in_ok-decls.ensures.structures
+    (c.from_parts.ensures.decls ∙ decls_same c.in_ok-decls.decls c.args.program.now.decls
+    c.in_ok-decls.ensures.structures
     c.in_ok-decls.ensures.enumerations c.in_ok-decls.ensures.scopes)
     (c.from_parts.ensures.scopes ∙ c.in_ok-scopes.ensures)
     (c.from_parts.ensures.scope_order ∙ c.in_ok-scope_order.ensures ∙ c.scope_order.ensures) scope input)
 
 pub returns-clause-deciders : goal.returns-clause-deciders
 returns-clause-deciders c scope input =
-    ap (λ (run : Run (List Value)). run.log) (program_runs c.args.program.now c.args.forests.now c.from_parts.result c.programs_are_well_formed.ensures
+    ap (λ (run : Run (List Value)). run.log)
+    (program_runs c.args.program.now c.args.forests.now c.from_parts.result c.programs_are_well_formed.ensures
     c.requires.stand
-    (c.from_parts.ensures.decls ∙ decls_same c.in_ok-decls.decls c.args.program.now.decls c.in_ok-decls.ensures.structures
+    (c.from_parts.ensures.decls ∙ decls_same c.in_ok-decls.decls c.args.program.now.decls
+    c.in_ok-decls.ensures.structures
     c.in_ok-decls.ensures.enumerations c.in_ok-decls.ensures.scopes)
     (c.from_parts.ensures.scopes ∙ c.in_ok-scopes.ensures)
     (c.from_parts.ensures.scope_order ∙ c.in_ok-scope_order.ensures ∙ c.scope_order.ensures) scope input)
