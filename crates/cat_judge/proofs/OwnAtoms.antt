@@ -1,6 +1,6 @@
 -- What a target comes to hangs on its own atoms alone.
-use Rattle.std.proofs.Common.{◌≡◌, ℕ, zero, suc, Bool, List, [], ◌∷◌, ◌++◌, map, Option, Some, None, slice_get, refl, sym, ap}
-use Rattle.std.proofs.Common.{subst}
+use Rattle.std.proofs.Common.{◌≡◌, ℕ, zero, suc, Bool, List, [], ◌∷◌, ◌++◌, map, Option, Some, None, slice_get}
+use Rattle.std.proofs.Common.{refl, ap}
 use mathlib.Core.Path.{fun_ext}
 use Rattle.cat_scope.specs.Names.{AllHave}
 use Rattle.cat_scope.specs.Chains.{longest_chain}
@@ -14,13 +14,13 @@ use Rattle.cat_guard.specs.TableJudging.{Decided, by_truth, decided_def, decided
 use Rattle.cat_guard.proofs.Exported.{truth_same}
 use Rattle.cat_judge.specs.Judgements.{asked_in, atoms_in}
 
-in_front : {A : Type 0} (P : A → Type 0) (xs ys : List A) → AllHave P (xs ++ ys) → AllHave P xs
-in_front P [] ys h = tt
-in_front P (x ∷ xs) ys h = (h.0, in_front P xs ys h.1)
+all_front : {A : Type 0} (P : A → Type 0) (xs ys : List A) → AllHave P (xs ++ ys) → AllHave P xs
+all_front P [] ys h = tt
+all_front P (x ∷ xs) ys h = (h.0, all_front P xs ys h.1)
 
-in_back : {A : Type 0} (P : A → Type 0) (xs ys : List A) → AllHave P (xs ++ ys) → AllHave P ys
-in_back P [] ys h = h
-in_back P (x ∷ xs) ys h = in_back P xs ys h.1
+all_back : {A : Type 0} (P : A → Type 0) (xs ys : List A) → AllHave P (xs ++ ys) → AllHave P ys
+all_back P [] ys h = h
+all_back P (x ∷ xs) ys h = all_back P xs ys h.1
 
 module _ (holds other : ℕ → Bool) where
   abbrev Same : ℕ → Type 0
@@ -31,8 +31,8 @@ module _ (holds other : ℕ → Bool) where
   def_same [] d h = refl
   def_same (e ∷ defs) zero h =
       ap (λ b. by_truth b e.number e.pos) (truth_same holds other (formula_of e.guard)
-      (in_front Same (asked (formula_of e.guard)) (asked_in defs) h))
-  def_same (e ∷ defs) (suc d) h = def_same defs d (in_back Same (asked (formula_of e.guard)) (asked_in defs) h)
+      (all_front Same (asked (formula_of e.guard)) (asked_in defs) h))
+  def_same (e ∷ defs) (suc d) h = def_same defs d (all_back Same (asked (formula_of e.guard)) (asked_in defs) h)
 
   module _ (t : TableTarget) (same : AllHave Same (atoms_in t)) where
     own_same : (o : Option GuardGroup) → decided_own t holds o ≡ decided_own t other o
@@ -42,5 +42,6 @@ module _ (holds other : ℕ → Bool) where
 
     pub decided_same : decided t holds ≡ decided t other
     decided_same =
-        ap (λ (own : ℕ → Decided). settle t.target (map (judge t.target (pairs_from 0 t.groups) own longest_chain) t.roots))
+        ap (λ (own : ℕ → Decided). settle t.target
+        (map (judge t.target (pairs_from 0 t.groups) own longest_chain) t.roots))
         (fun_ext (λ g. own_same (slice_get t.groups g)))
