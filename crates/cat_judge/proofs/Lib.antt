@@ -6,3 +6,4 @@ pub mod GroupLaws
 pub mod GuardLaws
 pub mod CountLaws
 pub mod Examples
+pub mod OwnAtoms

@@ -4,10 +4,11 @@ use Rattle.std.proofs.Common.{Option, Some, None, Result, Ok, Err, slice_get, re
 use Rattle.std.proofs.Math.Logic.{∥∥₁_elim}
 use Rattle.std.proofs.Props.{props}
 use Rattle.std.specs.List.{list_all}
+use Rattle.std.proofs.lemmas.List.Folds.{list_all-map}
 use Rattle.cat_value.proofs.Exported.{list_all_at}
 use Rattle.cat_region.specs.declared.dim.Dim.{Dim}
 use Rattle.cat_region.specs.Points.{answer}
-use Rattle.cat_region.specs.Regions.{Constraints, Valuation, Admits, IsRegion, IsDecision, is_cut_at}
+use Rattle.cat_region.specs.Regions.{Constraints, Valuation, Admits, IsRegion, IsDecision, is_dim, is_cut_at}
 use Rattle.cat_region.specs.Regions.{is_cut_of as is_dim_cut}
 use Rattle.cat_region.specs.Decided.{decided_at}
 use Rattle.cat_region.proofs.Exported.{answer-of_decided_at, IsDecision-decided_at}
@@ -21,7 +22,7 @@ use Rattle.cat_guard.specs.declared.table.Atom.{Atom}
 use Rattle.cat_guard.specs.declared.table.TableTarget.{TableTarget}
 use Rattle.cat_guard.specs.Formulas.{IsSo}
 use Rattle.cat_guard.specs.Judged.{atom_decided, answers_in, judged_in, covers}
-use Rattle.cat_guard.specs.Soundness.{is_cut_of, atom_is_sound, target_is_sound, is_sound}
+use Rattle.cat_guard.specs.Soundness.{is_cut_of, term_is_sound, atom_is_sound, target_is_sound, is_sound}
 use Rattle.cat_guard.specs.TableJudging.{IsCovered, Covers, decided}
 use Rattle.cat_guard.specs.Valuations.{dims_of, atom_answer, holds_at}
 use Rattle.cat_guard.specs.Verdicts.{Verdict, Stands}
@@ -46,6 +47,15 @@ cuts_of dims terms (a ∷ atoms) same h =
     let first : is_cut_at dims a.term a.cut ≡ true =
     subst (λ (ds : List Dim). IsTrue (is_cut_at ds a.term a.cut)) (sym same) (cut_of_term terms a.term a two.0) in
     rw first (cuts_of dims terms atoms same two.1)
+
+-- each dimension is one that regions have
+pub sound_dims : (terms : List Term) (atoms : List Atom) (targets : List TableTarget)
+    → IsTrue (is_sound terms atoms targets) → IsTrue (list_all is_dim (dims_of terms))
+unfolding is_sound
+sound_dims terms atoms targets h =
+    list_all-map is_dim (λ (term : Term). term.dim) terms
+    ∙ (both_true (list_all term_is_sound terms) (list_all (atom_is_sound terms) atoms)
+    (both_true _ (list_all (target_is_sound (length atoms)) targets) h).0).0
 
 pub sound_atoms : (terms : List Term) (atoms : List Atom) (targets : List TableTarget)
     → IsTrue (is_sound terms atoms targets) → IsTrue (list_all (atom_is_sound terms) atoms)

@@ -1,9 +1,12 @@
 -- Closed trees cover what is admitted.
-use Rattle.std.proofs.Common.{◌≡◌, ℕ, Bool, true, false, List, [], Option, Some, None, refl, slice_get}
+use Rattle.std.proofs.Common.{◌≡◌, ℕ, Bool, true, false, IsTrue, List, [], ◌∷◌, ◌++◌, Option, Some, None, refl, sym, ap}
+use Rattle.std.proofs.Common.{subst, slice_get}
+use Rattle.std.specs.List.{list_all}
 use Rattle.std.proofs.Math.Bool.{beq}
 use Rattle.cat_region.specs.declared.dim.Dim.{Dim}
 use Rattle.cat_region.specs.Points.{answer}
-use Rattle.cat_region.specs.Regions.{Constraints, Valuation, IsValuation, Admits, IsEmpty}
+use Rattle.cat_region.specs.Regions.{Constraints, Valuation, IsValuation, Admits, IsEmpty, agrees}
+use Rattle.cat_region.specs.declared.narrowing.Narrowing.{Narrowing}
 use Rattle.cat_region.proofs.Exported.{Admits-with_narrowing}
 use Rattle.cat_guard.specs.declared.table.Atom.{Atom}
 use Rattle.cat_guard.specs.declared.table.TableTarget.{TableTarget}
@@ -65,6 +68,44 @@ closed_covers atoms t region (tree.Split a left right) v closed admits =
         → (Admits (answering atoms region a false) v → Covers t (holds_at atoms v)) → Covers t (holds_at atoms v)
     by true on one other = one on
     by false on one other = other on
+
+-- what is admitted doesn't hang on the room
+pub admits_alike : (region other : Constraints) (v : Valuation) → region.dims ≡ other.dims
+    → region.narrowings ≡ other.narrowings → Admits other v → Admits region v
+admits_alike region other v dims narrowings admits = record {
+  valuation = subst (λ (ds : List Dim). IsValuation ds v) (sym dims) admits.valuation;
+  agreeing =
+      subst (λ (ns : List Narrowing). IsTrue (list_all (λ n. agrees (v n.dim) n) ns)) (sym narrowings)
+      admits.agreeing;
+}
+
+answered_dims : (region other : Constraints) (o : Option Atom) (b : Bool) → region.dims ≡ other.dims
+    → (with_answer region o b).dims ≡ (with_answer other o b).dims
+answered_dims region other None b dims = dims
+answered_dims region other (Some atom) b dims = dims
+
+answered_narrowings : (region other : Constraints) (o : Option Atom) (b : Bool)
+    → region.narrowings ≡ other.narrowings
+    → (with_answer region o b).narrowings ≡ (with_answer other o b).narrowings
+answered_narrowings region other None b narrowings = narrowings
+answered_narrowings region other (Some atom) b narrowings =
+    ap (λ ns. ns ++ record { dim = atom.term; cut = atom.cut; yes = b } ∷ []) narrowings
+
+pub closed_alike : (atoms : List Atom) (t : TableTarget) (region other : Constraints) (tree : Tree)
+    → region.dims ≡ other.dims → region.narrowings ≡ other.narrowings → Closed atoms t region tree
+    → Closed atoms t other tree
+closed_alike atoms t region other tree.Leaf dims narrowings closed =
+    λ v admits. closed v (admits_alike region other v dims narrowings admits)
+closed_alike atoms t region other tree.Rest dims narrowings closed =
+    λ v admits. closed v (admits_alike region other v dims narrowings admits)
+closed_alike atoms t region other (tree.Split a left right) dims narrowings closed = (
+  closed_alike atoms t (answering atoms region a true) (answering atoms other a true) left
+      (answered_dims region other (slice_get atoms a) true dims)
+      (answered_narrowings region other (slice_get atoms a) true narrowings) closed.0,
+  closed_alike atoms t (answering atoms region a false) (answering atoms other a false) right
+      (answered_dims region other (slice_get atoms a) false dims)
+      (answered_narrowings region other (slice_get atoms a) false narrowings) closed.1,
+)
 
 pub nodes_cover : (atoms : List Atom) (t : TableTarget) (region : Constraints) (nodes : List TreeNode) (v : Valuation)
     → AreClosed atoms t region nodes → Admits region v → Covers t (holds_at atoms v)

@@ -118,8 +118,8 @@ fn judged(table: &Table, target: u32, region: &Region) -> Finding
     )
 }
 
-/// How a target is judged in a region of the table's dimensions. It costs the guards of the target, of which it looks at
-/// each once.
+/// How a target is judged in a region of the table's dimensions. It costs the guards of the target, each of which it
+/// looks at once.
 pub fn judge_box(table: &Table, target: u32, region: &Region) -> Judgement
     requires target { target < length table.now.targets }
     requires dims { region.now.dims ≡ dims_of table.now.terms }

@@ -15,7 +15,7 @@ ghost use Rattle.cat_guard.specs.TableJudging.{Covers, decided};
 ghost use Rattle.cat_guard.specs.Trees.{Tree, Leaf, Closed, AreClosed, IsCitedClosed};
 ghost use Rattle.cat_guard.specs.Valuations.{dims_of, holds_at};
 ghost use Rattle.cat_guard.specs.Verdicts.{Stands, IsFurther, verdict_of};
-ghost use Rattle.cat_judge.specs.Judgements.{IsAnswer, is_bad};
+ghost use Rattle.cat_judge.specs.Judgements.{IsAnswer, atoms_in, is_bad};
 
 use cat_guard::Table;
 
@@ -47,6 +47,12 @@ pub fn narrowing_keeps_what_is_judged(table: &Table)
         table.now.targets }
 {}
 
+/// What truth values make of a target hangs on those of its own atoms alone.
+pub fn targets_hang_on_their_own_atoms()
+    ensures { (t : TargetSeen) (holds : ℕ → Bool) (other : ℕ → Bool)
+        → AllHave (λ a. holds a ≡ other a) (atoms_in t) → decided t holds ≡ decided t other }
+{}
+
 /// A leaf is closed in a region that is judged covered.
 pub fn covered_leaves_are_closed(table: &Table)
     ensures { AllHave (λ t. (region : Constraints) → IsRegion region → region.dims ≡ dims_of table.now.terms
@@ -67,6 +73,14 @@ pub fn bad_regions_cover_nothing(table: &Table)
 pub fn empty_regions_close_each_tree()
     ensures { (atoms : List AtomSeen) (t : TargetSeen) (region : Constraints) (tree : Tree) → IsEmpty region
         → Closed atoms t region tree }
+{}
+
+/// Where trees are closed hangs on what a region admits, and not on the room that it has for more narrowings.
+#[tactic(auto, using(crate::proofs::TreeLaws::closed_alike))]
+pub fn room_closes_no_tree()
+    ensures { (atoms : List AtomSeen) (t : TargetSeen) (region : Constraints) (other : Constraints) (tree : Tree)
+        → region.dims ≡ other.dims → region.narrowings ≡ other.narrowings → Closed atoms t region tree
+        → Closed atoms t other tree }
 {}
 
 /// A tree that is closed in a region covers each valuation that the region admits, also where parts of it are cited.

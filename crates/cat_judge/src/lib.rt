@@ -4,6 +4,7 @@
 mod judge;
 mod judgement;
 mod laws;
+mod regions;
 mod tally;
 mod truth;
 
@@ -13,4 +14,6 @@ pub use laws::{
     bad_regions_cover_nothing, closed_trees_cover_each_valuation,
     closed_trees_cover_what_is_admitted, covered_leaves_are_closed, empty_regions_close_each_tree,
     judgings_of_regions_hold, narrowing_keeps_what_is_judged, regions_answer_exactly,
+    room_closes_no_tree, targets_hang_on_their_own_atoms,
 };
+pub use regions::{answer_atom, whole_region};
