@@ -1,0 +1,16 @@
+mod Founds
+mod DeclaredFaults
+mod DeclaredWhole
+mod TypeNames
+mod Standing
+mod Clearing
+mod Tabling
+mod SameHeights
+mod SameNames
+mod LowWhole
+mod BlockNames
+mod Numbering
+mod LowParts
+mod Finishing
+mod FewItems
+mod Nexts

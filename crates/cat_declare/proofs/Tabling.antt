@@ -1,0 +1,60 @@
+-- Tables of declarations are tables of their names.
+use Rattle.std.proofs.Common.{◌≡◌, ◌∙◌, ℕ, ◌+◌, ◌≤◌, Bool, true, false, cond, List, [], ◌∷◌, length, map, Option, Some}
+use Rattle.std.proofs.Common.{option_map, bytes_eq, find, refl, sym, ap, subst, arith}
+use Rattle.std.specs.List.{enumerate_from}
+use Rattle.std.proofs.lemmas.List.{length-map}
+use Rattle.cat_tree.specs.declared.name.Name.{Name}
+use Rattle.cat_tree.specs.declared.program.Item.{Item}
+use Rattle.cat_tree.specs.declared.program.Item.TheVariants as item
+use Rattle.cat_lookup.specs.Table.{Table, IsTableOf}
+use Rattle.cat_names.specs.Written.{texts, names_of, structures_in, enumerations_in, scopes_in}
+use Rattle.cat_declare.specs.declared.written.Declaration.{Declaration}
+use Rattle.cat_declare.specs.inside.Writings.{as_pair}
+
+-- the names of some things have the numbers of the things
+numbers_map : {A : Type 0} (name_of : A → List ℕ) (w : List ℕ) (n : ℕ) (xs : List A)
+    → option_map (λ x. x.0) (find (λ (x : ℕ × List ℕ). bytes_eq x.1 w) (enumerate_from n (map name_of xs)))
+    ≡ option_map (λ x. x.0) (find (λ (x : ℕ × A). bytes_eq (name_of x.1) w) (enumerate_from n xs))
+numbers_map name_of w n [] = refl
+numbers_map {A} name_of w n (x ∷ xs) = by (bytes_eq (name_of x) w) (numbers_map name_of w (n + 1) xs) where
+  names : Option (ℕ × List ℕ)
+  names = find (λ (y : ℕ × List ℕ). bytes_eq y.1 w) (enumerate_from (n + 1) (map name_of xs))
+
+  things : Option (ℕ × A)
+  things = find (λ (y : ℕ × A). bytes_eq (name_of y.1) w) (enumerate_from (n + 1) xs)
+
+  by : (b : Bool) → option_map (λ y. y.0) names ≡ option_map (λ y. y.0) things
+      → option_map {T = ℕ × List ℕ} (λ y. y.0) (cond b (Some (n, name_of x)) names)
+      ≡ option_map {T = ℕ × A} (λ y. y.0) (cond b (Some (n, x)) things)
+  by true rest = refl
+  by false rest = rest
+
+names_are : {T : Type 0} (ds : List (Declaration T)) → map (λ d. d.name.now.text) ds ≡ texts (names_of (map as_pair ds))
+names_are [] = refl
+names_are (d ∷ ds) = ap (λ ns. d.name.now.text ∷ ns) (names_are ds)
+
+-- a table of declarations is one of their names
+pub declared_table : {T : Type 0} (ds : List (Declaration T)) (pairs : List (Name × List T)) (table : Table)
+    → map as_pair ds ≡ pairs → IsTableOf (λ d. d.name.now.text) ds table
+    → IsTableOf (λ name. name) (texts (names_of pairs)) table
+declared_table ds pairs table is known =
+    subst (λ names. IsTableOf (λ name. name) names table) (names_are ds ∙ ap (λ ps. texts (names_of ps)) is)
+    (λ w. known w ∙ sym (numbers_map (λ d. d.name.now.text) w 0 ds))
+
+-- no more are declared than items stand in a tree
+pub lists_few : (items : List Item) → length (structures_in items) + length (enumerations_in items)
+    + length (scopes_in items) ≤ length items
+lists_few [] = omega arith
+lists_few (item.Structure p u fields ∷ more) = omega (arith, lists_few more)
+lists_few (item.Enumeration p u cases ∷ more) = omega (arith, lists_few more)
+lists_few (item.Scope p u variables ∷ more) = omega (arith, lists_few more)
+lists_few (item.Block b ∷ more) = omega (arith, lists_few more)
+
+pub names_counted : {A : Type 0} (xs : List (Name × A)) → length (texts (names_of xs)) ≡ length xs
+names_counted [] = refl
+names_counted (x ∷ xs) = omega (arith, names_counted xs)
+
+-- as many declarations as pairs
+pub as_many_pairs : {T : Type 0} (ds : List (Declaration T)) (pairs : List (Name × List T)) → map as_pair ds ≡ pairs
+    → length ds ≡ length pairs
+as_many_pairs ds pairs is = sym (length-map ds as_pair) ∙ ap length is

@@ -1,0 +1,9 @@
+pub mod Clearing
+pub mod Writings
+pub mod Made
+pub mod Tabling
+pub mod Naming
+pub mod Scoping
+pub mod Parted
+pub mod Cycling
+pub mod Measuring

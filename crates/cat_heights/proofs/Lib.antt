@@ -1,0 +1,4 @@
+mod Levels
+mod Rounds
+mod Highest
+pub mod Exported
