@@ -1,0 +1,16 @@
+pub mod Leaves
+pub mod Ends
+pub mod Fronts
+pub mod Onward
+pub mod Forms
+pub mod Popping
+pub mod OperandSteps
+pub mod Matches
+pub mod Overs
+pub mod Afters
+pub mod Wholes
+pub mod ElementSteps
+pub mod Ordering
+pub mod PartSteps
+pub mod RunSteps
+pub mod Cases
