@@ -11,5 +11,6 @@ loop-field-preserved c =
     c.args.fields.now)) (highest_field (height_to ss es k) c.args.fields.now))
     (sym (c.higher-highest.ensures ∙ ap (max c.loop-field.highest) c.height_to.ensures))
     (field_more (height_to ss es k) c.args.fields.now c.loop-field.field-index c.field-item.result (k + 1)
-    c.loop-field.highest _ (search rules) (sym c.field-item.is) (omega (arith, height_bounded ss es k c.field-item.result.ty))
+    c.loop-field.highest _ (search rules) (sym c.field-item.is)
+    (omega (arith, height_bounded ss es k c.field-item.result.ty))
     c.loop-field.invariant)
