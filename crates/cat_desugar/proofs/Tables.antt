@@ -10,11 +10,9 @@ use Rattle.indexmap.specs.IndexMap.{IndexMap, get}
 use Rattle.cat_value.specs.declared.outcome.Target.{Target}
 use Rattle.cat_scope.specs.declared.defs.Def.{Def}
 use Rattle.cat_scope.specs.declared.forest.ForestTarget.{ForestTarget}
-use Rattle.cat_scope.specs.Names.{AllHave}
-use Rattle.cat_scope.specs.Groups.{Group, groups_of}
+use Rattle.cat_scope.specs.Groups.{groups_of}
 use Rattle.cat_scope.specs.Targets.{same_inner, same_target, defs_from}
 use Rattle.cat_sound.proofs.Exported.{all_at, same_some}
-use Rattle.cat_calc.specs.declared.term.Term.{Term}
 use Rattle.cat_desugar.specs.inside.Numbered.{groups_in}
 use Rattle.cat_desugar.specs.inside.Terms.{one_of, target_term}
 use Rattle.cat_desugar.specs.inside.Items.{target_at, term_at}
