@@ -119,7 +119,8 @@ module _ (P : ℕ → Type 0) (named : Expr → List ℕ) where
       (all_more (λ d. nat_eq d.target.item item ≡ true → AllHave P (in_def named d))
       (λ d. IsTrue (same_target d.target (target_at item inner))
       → IfSome d.condition AllNamed × AllNamed d.consequence) defs all
-      (λ d names same. def_names d (names (first (nat_eq d.target.item item) (same_inner d.target.inner inner) same)))) in
+      (λ d names same. def_names d
+      (names (first (nat_eq d.target.item item) (same_inner d.target.inner inner) same)))) in
       all_join P (joined (map named (conditions_in (term_at defs item inner))))
       (joined (map (λ (h : Held Expr). named h.value) (consequences_in (term_at defs item inner))))
       (joined_have P named (conditions_in (term_at defs item inner)) has.conditions)

@@ -189,7 +189,8 @@ module _ (m : ℕ) where
           → ((g : ℕ) → own_count (slice_get gs g) ≤ one_if (nat_eq g home)) → (g : ℕ)
           → own_count (slice_get (x ∷ gs) g) ≤ one_if (nat_eq g (suc home))
       further home is alone zero = omega (arith, is)
-      further home is alone (suc g) = subst (λ (b : Bool). own_count (slice_get gs g) ≤ one_if b) (next g home) (alone g)
+      further home is alone (suc g) =
+          subst (λ (b : Bool). own_count (slice_get gs g) ≤ one_if b) (next g home) (alone g)
 
       by : (k : ℕ) → times (definition_numbers x.defs) m ≡ k → (total gs ≤ 1 → HasHome gs) → HasHome (x ∷ gs)
       by (suc k) is rest = record { home = 0; alone = there k is }

@@ -66,10 +66,12 @@ module _ (ds : Decls) (bodies : List Body) (order : List ℕ) (formed : ∥ IsWe
             (targets_of ds n items body.order))
             (sym (ap items_in scope_is))
             (target_listed (record { decls = ds; items = scope.items }) n body.defs body.order
-            (is_body ds bodies order f n scope body scope_is body_is).order item inner target.params target.ty target.is),
+            (is_body ds bodies order f n scope body scope_is body_is).order item inner target.params
+            target.ty target.is),
       )))
 
-  module _ (forest : List ForestTarget) (low : IsTrue (are_low forest)) (is : forest ≡ forest_of body.defs targets) where
+  module _ (forest : List ForestTarget) (low : IsTrue (are_low forest))
+      (is : forest ≡ forest_of body.defs targets) where
     pub forest_targets : length body.defs < ENTRIES_BOUND → AreTargetsOf body.defs forest
     forest_targets few = are_targets body.defs targets forest few low is not_listed
 
@@ -123,7 +125,8 @@ one_scope_more ds scopes bodies made new whole n found here there is more before
         (same_some (get_or bodies n b) b (sym (slice_get-get_or bodies n b there) ∙ also)) in
         ap (λ xs. calc_scopes ds xs (drop n bodies)) one
         ∙ ap (λ xs. calc_scopes ds (s ∷ drop (n + 1) scopes) xs) two
-        ∙ ap (λ x. x ∷ calc_scopes ds (drop (n + 1) scopes) (drop (n + 1) bodies)) (sym (same_some found (calc_scope ds s b) same))
+        ∙ ap (λ x. x ∷ calc_scopes ds (drop (n + 1) scopes) (drop (n + 1) bodies))
+        (sym (same_some found (calc_scope ds s b) same))
 
 pub no_scope_more : (ds : Decls) (scopes : List Scope) (bodies : List Body) (made whole : List CalcScope) (n : ℕ)
     → length scopes ≤ n → made ++ calc_scopes ds (drop n scopes) (drop n bodies) ≡ whole → made ≡ whole

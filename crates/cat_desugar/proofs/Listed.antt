@@ -90,7 +90,8 @@ inner_listed scope item n (i ∷ items) (suc k) decl at given =
     (by (may_be_given i.kind) (inner_listed scope item (n + 1) items k decl at given))
   where
     by : (b : Bool)
-        → IsOneOf (record { scope = scope; item = item; inner = Some ((n + 1) + k) }) (called_targets scope item (n + 1) items)
+        → IsOneOf (record { scope = scope; item = item; inner = Some ((n + 1) + k) })
+        (called_targets scope item (n + 1) items)
         → IsOneOf (record { scope = scope; item = item; inner = Some ((n + 1) + k) })
         (if b then record { scope = scope; item = item; inner = Some n } ∷ called_targets scope item (n + 1) items
         else called_targets scope item (n + 1) items)
@@ -98,7 +99,8 @@ inner_listed scope item n (i ∷ items) (suc k) decl at given =
     by false h = h
 
 at_item : (ns : Names) (scope item : ℕ) (inner : Option ℕ) (ps : List Ty) (t : Ty) → IsTargetAt ns item inner ps t
-    → IsOneOf (record { scope = scope; item = item; inner = inner }) (item_targets ns.decls scope item (slice_get ns.items item))
+    → IsOneOf (record { scope = scope; item = item; inner = inner })
+    (item_targets ns.decls scope item (slice_get ns.items item))
 at_item ns scope item None ps t h =
     subst (λ o. IsOneOf (record { scope = scope; item = item; inner = None }) (item_targets ns.decls scope item o))
     (sym h.decl_is) (own_listed ns.decls scope item h.decl.kind h.defined)

@@ -1,6 +1,6 @@
 -- The groups of each target of a forest make no long chains, and are judged by their rule.
-use Rattle.std.proofs.Common.{◌≡◌, ◌∙◌, ℕ, zero, suc, ◌+◌, ◌<◌, ◌≤◌, nat_eq, Bool, true, false, ◌&&◌, ◌||◌, IsTrue, List}
-use Rattle.std.proofs.Common.{[], ◌∷◌, length, Option, Some, None, inl, inr, refl, sym, ap, subst, arith, true≢false}
+use Rattle.std.proofs.Common.{◌≡◌, ◌∙◌, ℕ, zero, suc, ◌+◌, ◌<◌, ◌≤◌, nat_eq, Bool, true, false, ◌&&◌, ◌||◌, IsTrue}
+use Rattle.std.proofs.Common.{List, [], ◌∷◌, length, Option, Some, None, inl, inr, refl, sym, ap, subst, arith, true≢false}
 use Rattle.std.proofs.Common.{if◌then◌else◌}
 use Rattle.std.proofs.Math.Logic.{⊎_elim}
 use Rattle.std.proofs.lemmas.Bool.{cases_eq}
@@ -241,7 +241,8 @@ pub steady_at : (defs : List Def) (targets : List Target) (forest : List ForestT
 steady_at defs targets forest low is others item inner =
     by (is_any_at (forest_of defs targets) item inner) refl
   where
-    by : (b : Bool) → is_any_at (forest_of defs targets) item inner ≡ b → IsSteady (groups_in defs (target_at item inner))
+    by : (b : Bool) → is_any_at (forest_of defs targets) item inner ≡ b
+        → IsSteady (groups_in defs (target_at item inner))
     by false none = steady_undefined defs (target_at item inner)
         (others item inner (λ listed. not_listed defs targets item inner listed none))
     by true some =
