@@ -1,15 +1,14 @@
 -- The terms of a program are well formed.
-use Rattle.std.proofs.Common.{◌≡◌, ◌∙◌, ◌⊎◌, ℕ, zero, suc, ◌+◌, ◌<◌, nat_eq, Bool, true, false, ◌&&◌, IsTrue, List, []}
+use Rattle.std.proofs.Common.{◌≡◌, ◌∙◌, ℕ, suc, ◌+◌, ◌<◌, nat_eq, Bool, true, false, ◌&&◌, IsTrue, List, []}
 use Rattle.std.proofs.Common.{◌∷◌, ◌++◌, length, map, Option, Some, None, slice_get, refl, sym, ap, subst, arith}
 use Rattle.std.proofs.Common.{true≢false, if◌then◌else◌, IfSome}
 use Rattle.std.proofs.lemmas.Option.{slice_get_within}
-use Rattle.cat_order.specs.Order.{dependencies_of, times}
+use Rattle.cat_order.specs.Order.{dependencies_of}
 use Rattle.cat_value.specs.declared.ty.Ty.{Ty}
 use Rattle.cat_value.specs.declared.ty.Ty.TheVariants.{Boolean}
 use Rattle.cat_value.specs.declared.decls.Decls.{Decls}
 use Rattle.cat_value.specs.declared.declaration.ItemDecl.{ItemDecl}
 use Rattle.cat_value.specs.declared.declaration.Scope.{Scope}
-use Rattle.cat_value.specs.declared.outcome.Target.{Target}
 use Rattle.cat_scope.specs.declared.expr.Expr.{Expr}
 use Rattle.cat_scope.specs.declared.defs.Def.{Def}
 use Rattle.cat_scope.specs.declared.defs.Assertion.{Assertion}
@@ -18,28 +17,25 @@ use Rattle.cat_scope.specs.Names.{AllHave, Names, is_in, items_in}
 use Rattle.cat_scope.specs.Naming.{IsTargetAt}
 use Rattle.cat_scope.specs.HasType.{HasType}
 use Rattle.cat_scope.specs.Judging.{Held}
-use Rattle.cat_scope.specs.Groups.{Numbered}
 use Rattle.cat_scope.specs.Targets.{same_inner, same_target, defs_from}
 use Rattle.cat_scope.specs.Mentions.{items_named, joined, scopes_named}
-use Rattle.cat_scope.specs.Orders.{in_condition, in_def, in_defs_of, item_dependencies, called_by_items, calls_in, once}
+use Rattle.cat_scope.specs.Orders.{in_condition, in_def, in_defs_of, called_by_items, calls_in, once}
 use Rattle.cat_scope.specs.Orders.{scope_dependencies}
 use Rattle.cat_scope.specs.WellFormed.{ConditionTyped, DefTyped, IsBodyOf, AreBodiesOf, IsWellFormed}
-use Rattle.cat_sound.proofs.Exported.{AllIn, Ahead, ahead_as, ahead-of_IsOrder, all_back, all_front, all_more}
+use Rattle.cat_sound.proofs.Exported.{Ahead, ahead_as, ahead-of_IsOrder, all_back, all_front, all_more}
 use Rattle.cat_sound.proofs.Exported.{called-all, defs-all, dependencies-length, groups-all, in_at, items_ahead}
 use Rattle.cat_sound.proofs.Exported.{same_some, scopes-at, scopes-length, unique_target, body_at}
 use Rattle.cat_calc.specs.declared.term.Term.{Term}
-use Rattle.cat_calc.specs.declared.calcs.ItemTerms.{ItemTerms}
-use Rattle.cat_calc.specs.declared.calcs.CalcScope.{CalcScope}
 use Rattle.cat_calc.specs.Terms.{conditions_in, consequences_in, named_in}
 use Rattle.cat_calc.specs.Reducing.{term_of}
-use Rattle.cat_calc.specs.WellFormed.{AreCalcScopes, IsCalc, IsCalcScope, IsOrderOf, StandBehind, TermTyped, all_terms}
+use Rattle.cat_calc.specs.WellFormed.{AreCalcScopes, IsCalc, IsCalcScope, StandBehind, TermTyped, all_terms}
 use Rattle.cat_calc.specs.WellFormed.{items_needed, named_by_items, named_by_terms, named_in_all, scopes_called}
 use Rattle.cat_desugar.specs.inside.Numbered.{groups_in}
 use Rattle.cat_desugar.specs.inside.Items.{target_at, term_at, inner_terms, inner_items, item_terms, terms_of_items}
 use Rattle.cat_desugar.specs.inside.Items.{calc_scope, calc_scope_at, calc_scopes}
 use Rattle.cat_desugar.proofs.Tables.{same_parts}
 use Rattle.cat_desugar.proofs.SameRuns.{IsTermAt, there, missing, term_found, scopes_at, item_terms_at, terms_at}
-use Rattle.cat_desugar.proofs.TermParts.{TermHas, DefHas, has_target, all_join, joined_have, consequence_of}
+use Rattle.cat_desugar.proofs.TermParts.{TermHas, DefHas, has_target, all_join, joined_have}
 use Rattle.cat_desugar.proofs.Counts.{numbers_differ}
 
 -- ---- what holds of the definitions of a target holds of its term
@@ -123,8 +119,8 @@ module _ (P : ℕ → Type 0) (named : Expr → List ℕ) where
       (all_more (λ d. nat_eq d.target.item item ≡ true → AllHave P (in_def named d))
       (λ d. IsTrue (same_target d.target (target_at item inner))
       → IfSome d.condition AllNamed × AllNamed d.consequence) defs all
-      (λ d names same. def_names d (names (first (nat_eq d.target.item item) (same_inner d.target.inner inner) same))))
-      in
+      (λ d names same. def_names d
+      (names (first (nat_eq d.target.item item) (same_inner d.target.inner inner) same)))) in
       all_join P (joined (map named (conditions_in (term_at defs item inner))))
       (joined (map (λ (h : Held Expr). named h.value) (consequences_in (term_at defs item inner))))
       (joined_have P named (conditions_in (term_at defs item inner)) has.conditions)

@@ -1,11 +1,7 @@
 -- The number of a definition stands once in the terms of a scope: in that of its target.
-use Rattle.std.proofs.Common.{◌≡◌, ◌∙◌, ◌⊎◌, inl, inr, ℕ, zero, suc, ◌+◌, ◌<◌, ◌≤◌, nat_eq, nat_lt, Bool, true, false}
-use Rattle.std.proofs.Common.{not, ◌&&◌}
-use Rattle.std.proofs.Common.{IsTrue, List, [], ◌∷◌, ◌++◌, length, map, Option, Some, None, slice_get, refl, sym, ap}
-use Rattle.std.proofs.Common.{subst}
-use Rattle.std.proofs.Common.{arith, true≢false, if◌then◌else◌, IfSome}
-use Rattle.std.proofs.Math.Logic.{⊎_elim}
-use Rattle.std.proofs.lemmas.Bool.{cases_eq}
+use Rattle.std.proofs.Common.{◌≡◌, ◌∙◌, ℕ, zero, suc, ◌+◌, ◌<◌, ◌≤◌, nat_eq, nat_lt, Bool, true, false, not, ◌&&◌}
+use Rattle.std.proofs.Common.{List, [], ◌∷◌, ◌++◌, map, Option, Some, None, slice_get, refl, sym, ap, subst}
+use Rattle.std.proofs.Common.{arith, true≢false, if◌then◌else◌}
 use Rattle.std.proofs.lemmas.Bool.Decides.{nat_tests, Decides-eqb}
 use Rattle.std.proofs.lemmas.Cmp.{nat_list_eq_equiv}
 use Rattle.std.proofs.lemmas.Slice.Eq.{bytes_eq-Decides}
@@ -15,7 +11,7 @@ use Rattle.cat_value.specs.declared.declaration.ItemDecl.{ItemDecl}
 use Rattle.cat_value.specs.declared.outcome.Target.{Target}
 use Rattle.cat_scope.specs.declared.expr.Expr.{Expr}
 use Rattle.cat_scope.specs.declared.defs.Def.{Def}
-use Rattle.cat_scope.specs.Names.{AllHave, all_differ, is_in}
+use Rattle.cat_scope.specs.Names.{all_differ, is_in}
 use Rattle.cat_scope.specs.Judging.{Held}
 use Rattle.cat_scope.specs.Groups.{Numbered, Key, Labelled, Base, Alone, Group, key_of, same_key, is_among, with_key}
 use Rattle.cat_scope.specs.Groups.{group_at, groups_from, groups_of, excepts, excepting, roots_of}
@@ -27,7 +23,6 @@ use Rattle.cat_calc.specs.declared.term.Justification.TheVariants as justificati
 use Rattle.cat_calc.specs.declared.term.Term.{Term}
 use Rattle.cat_calc.specs.declared.term.Term.TheVariants as leaf
 use Rattle.cat_calc.specs.declared.term.Term.TheViews as term
-use Rattle.cat_calc.specs.declared.calcs.ItemTerms.{ItemTerms}
 use Rattle.cat_calc.specs.Terms.{all_in, consequences_in, numbers_in}
 use Rattle.cat_calc.specs.WellFormed.{all_terms, numbers_in_all}
 use Rattle.cat_calc.specs.WellFormed.{definition_numbers as numbers_of_terms}
@@ -35,7 +30,6 @@ use Rattle.cat_calc.proofs.Exported.{consequences_Empty, consequences_Consequenc
 use Rattle.cat_desugar.specs.inside.Numbered.{groups_in}
 use Rattle.cat_desugar.specs.inside.Terms.{justification_of, definition_term, one_of, own_term, group_term, target_term}
 use Rattle.cat_desugar.specs.inside.Items.{target_at, term_at, inner_terms, inner_items, item_terms, terms_of_items}
-use Rattle.cat_desugar.proofs.Tables.{same_parts}
 use Rattle.cat_desugar.proofs.Climbs.{sum_of, sums_none, one_if, reach, roots_reach}
 
 -- ---- keys
@@ -195,8 +189,8 @@ module _ (m : ℕ) where
           → ((g : ℕ) → own_count (slice_get gs g) ≤ one_if (nat_eq g home)) → (g : ℕ)
           → own_count (slice_get (x ∷ gs) g) ≤ one_if (nat_eq g (suc home))
       further home is alone zero = omega (arith, is)
-      further home is alone (suc g) = subst (λ (b : Bool). own_count (slice_get gs g) ≤ one_if b) (next g home)
-          (alone g)
+      further home is alone (suc g) =
+          subst (λ (b : Bool). own_count (slice_get gs g) ≤ one_if b) (next g home) (alone g)
 
       by : (k : ℕ) → times (definition_numbers x.defs) m ≡ k → (total gs ≤ 1 → HasHome gs) → HasHome (x ∷ gs)
       by (suc k) is rest = record { home = 0; alone = there k is }

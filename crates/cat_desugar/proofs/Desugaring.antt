@@ -1,6 +1,5 @@
 -- A program's terms are well formed, and come to what it means.
-use Rattle.std.proofs.Common.{◌≡◌, ◌∙◌, ◌⊎◌, ℕ, ◌+◌, ◌<◌, ◌≤◌, Bool, true, false, IsTrue, List, [], ◌∷◌, ◌++◌, length}
-use Rattle.std.proofs.Common.{drop}
+use Rattle.std.proofs.Common.{◌≡◌, ◌∙◌, ℕ, ◌+◌, ◌<◌, ◌≤◌, true, IsTrue, List, [], ◌∷◌, ◌++◌, length, drop}
 use Rattle.std.proofs.Common.{Option, Some, None, slice_get, get_or, refl, sym, ap, subst, arith, IfSome}
 use Rattle.std.proofs.lemmas.List.{drop_more, append_assoc, drop_all, append-nil}
 use Rattle.std.proofs.lemmas.Option.{slice_get_within, slice_get-get_or}
@@ -67,8 +66,8 @@ module _ (ds : Decls) (bodies : List Body) (order : List ℕ) (formed : ∥ IsWe
             (targets_of ds n items body.order))
             (sym (ap items_in scope_is))
             (target_listed (record { decls = ds; items = scope.items }) n body.defs body.order
-            (is_body ds bodies order f n scope body scope_is body_is).order item inner target.params target.ty
-            target.is),
+            (is_body ds bodies order f n scope body scope_is body_is).order item inner target.params
+            target.ty target.is),
       )))
 
   module _ (forest : List ForestTarget) (low : IsTrue (are_low forest))

@@ -1,32 +1,26 @@
 -- A scope of terms is run as the scope of definitions is.
-use Rattle.std.proofs.Common.{◌≡◌, ◌∙◌, ◌⊎◌, ℕ, zero, suc, ◌+◌, ◌<◌, Bool, true, false, IsTrue, List, [], ◌∷◌, length}
-use Rattle.std.proofs.Common.{Option, Some, None, slice_get, refl, sym, ap, subst, arith, true≢false}
-use Rattle.std.proofs.Math.Logic.{⊎_elim}
-use Rattle.std.proofs.lemmas.Option.{slice_get_within}
+use Rattle.std.proofs.Common.{◌≡◌, ◌∙◌, ℕ, zero, suc, ◌+◌, true, List, [], ◌∷◌}
+use Rattle.std.proofs.Common.{Option, Some, None, slice_get, refl, sym, ap, subst, arith}
 use mathlib.Core.Path.{fun_ext}
 use Rattle.cat_value.specs.declared.value.Value.{Value}
 use Rattle.cat_value.specs.declared.decls.Decls.{Decls}
 use Rattle.cat_value.specs.declared.declaration.Kind.{Kind}
-use Rattle.cat_value.specs.declared.declaration.Kind.TheVariants as kind
 use Rattle.cat_value.specs.declared.declaration.ItemDecl.{ItemDecl}
 use Rattle.cat_value.specs.declared.declaration.Scope.{Scope}
 use Rattle.cat_value.specs.declared.outcome.Target.{Target}
 use Rattle.cat_scope.specs.declared.expr.Expr.{Expr}
 use Rattle.cat_scope.specs.declared.defs.Def.{Def}
 use Rattle.cat_scope.specs.declared.defs.Body.{Body}
-use Rattle.cat_scope.specs.Runs.{Run, gives, stops}
-use Rattle.cat_scope.specs.Names.{AllHave, Names, has_none, scope_items}
-use Rattle.cat_scope.specs.Naming.{IsTargetAt}
+use Rattle.cat_scope.specs.Runs.{Run}
+use Rattle.cat_scope.specs.Names.{has_none, scope_items}
 use Rattle.cat_scope.specs.Groups.{Group}
 use Rattle.cat_scope.specs.Judging.{Judged}
 use Rattle.cat_scope.specs.Targets.{defs_from, judge_groups, judge_target}
-use Rattle.cat_scope.specs.WellFormed.{DefTyped}
 use Rattle.cat_scope.specs.Calls.{Items, Runs, Scoped}
 use Rattle.cat_scope.specs.Running.{backwards, run_by, run_scope, run_of, run_scoped, scoped_of}
 use Rattle.cat_sound.proofs.Exported.{same_some}
 use Rattle.cat_calc.specs.declared.term.Term.{Term}
 use Rattle.cat_calc.specs.declared.calcs.ItemTerms.{ItemTerms}
-use Rattle.cat_calc.specs.declared.calcs.CalcScope.{CalcScope}
 use Rattle.cat_calc.specs.Reducing.{term_among, term_of, reduced_or, judged_by}
 use Rattle.cat_calc.specs.Calculus.{calc_scoped, run_terms, run_of_terms}
 use Rattle.cat_desugar.specs.inside.Numbered.{groups_in}

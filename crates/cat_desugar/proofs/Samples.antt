@@ -6,7 +6,6 @@ use Rattle.cat_scope.specs.declared.expr.Expr.{Expr}
 use Rattle.cat_scope.specs.declared.expr.Expr.TheVariants as leaf
 use Rattle.cat_scope.specs.declared.expr.Literal.TheVariants as literal
 use Rattle.cat_scope.specs.declared.defs.Def.{Def}
-use Rattle.cat_scope.specs.declared.defs.Except.{Except}
 use Rattle.cat_scope.specs.declared.defs.Except.TheVariants as except
 use Rattle.cat_calc.specs.declared.term.Justification.TheVariants.{Never, Always, Where}
 use Rattle.cat_calc.specs.declared.term.Term.{Term}

@@ -1,8 +1,7 @@
 -- Tables of the targets of a forest, with one target more.
 use Rattle.std.proofs.Common.{◌≡◌, ◌∙◌, ℕ, zero, suc, ◌+◌, ◌<◌, nat_eq, Bool, true, false, ◌&&◌, ◌||◌, cond, List, []}
 use Rattle.std.proofs.Common.{◌∷◌, ◌++◌, length, take, get_or, Option, Some, None, slice_get, refl, sym, ap, subst}
-use Rattle.std.proofs.Common.{arith}
-use Rattle.std.proofs.Common.{rules, true≢false, if◌then◌else◌, Result, Ok, Err, IfOk}
+use Rattle.std.proofs.Common.{arith, rules, true≢false, if◌then◌else◌, Result, Ok, Err, IfOk}
 use Rattle.std.proofs.lemmas.Bool.Decides.{nat_tests}
 use Rattle.std.specs.Option.{option_eq}
 use Rattle.std.proofs.lemmas.List.{take_more, length-take}
@@ -11,11 +10,9 @@ use Rattle.indexmap.specs.IndexMap.{IndexMap, get}
 use Rattle.cat_value.specs.declared.outcome.Target.{Target}
 use Rattle.cat_scope.specs.declared.defs.Def.{Def}
 use Rattle.cat_scope.specs.declared.forest.ForestTarget.{ForestTarget}
-use Rattle.cat_scope.specs.Names.{AllHave}
-use Rattle.cat_scope.specs.Groups.{Group, groups_of}
+use Rattle.cat_scope.specs.Groups.{groups_of}
 use Rattle.cat_scope.specs.Targets.{same_inner, same_target, defs_from}
 use Rattle.cat_sound.proofs.Exported.{all_at, same_some}
-use Rattle.cat_calc.specs.declared.term.Term.{Term}
 use Rattle.cat_desugar.specs.inside.Numbered.{groups_in}
 use Rattle.cat_desugar.specs.inside.Terms.{one_of, target_term}
 use Rattle.cat_desugar.specs.inside.Items.{target_at, term_at}

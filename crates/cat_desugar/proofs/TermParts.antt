@@ -1,17 +1,14 @@
 -- What holds of the expressions of definitions holds of those of their terms.
-use Rattle.std.proofs.Common.{◌≡◌, ◌∙◌, ℕ, zero, suc, ◌+◌, Bool, true, false, List, [], ◌∷◌, ◌++◌, map, Option, Some}
+use Rattle.std.proofs.Common.{◌≡◌, ℕ, zero, suc, List, [], ◌∷◌, ◌++◌, map, Option, Some}
 use Rattle.std.proofs.Common.{None, slice_get, refl, sym, subst, IfSome}
 use Rattle.cat_pos.specs.declared.pos.Pos.{Pos}
-use Rattle.cat_value.specs.declared.declaration.ItemDecl.{ItemDecl}
-use Rattle.cat_value.specs.declared.outcome.Target.{Target}
 use Rattle.cat_scope.specs.declared.expr.Expr.{Expr}
-use Rattle.cat_scope.specs.declared.defs.Def.{Def}
 use Rattle.cat_scope.specs.Names.{AllHave}
 use Rattle.cat_scope.specs.Judging.{Held}
 use Rattle.cat_scope.specs.Groups.{Numbered, Group, excepts, excepting, roots_of}
 use Rattle.cat_scope.specs.Chains.{longest_chain}
 use Rattle.cat_scope.specs.Mentions.{joined}
-use Rattle.cat_sound.proofs.Exported.{all_at, groups-all}
+use Rattle.cat_sound.proofs.Exported.{all_at}
 use Rattle.cat_calc.specs.declared.term.Justification.{Justification}
 use Rattle.cat_calc.specs.declared.term.Justification.TheVariants as justification
 use Rattle.cat_calc.specs.declared.term.Term.{Term}

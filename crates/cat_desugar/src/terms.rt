@@ -84,7 +84,8 @@ fn group_terms(
 ) -> Result<Terms, AllocError>
     requires stands { forest.now.groups ≡ forest_of_groups (groups_in defs.now forest.now.target) }
     requires there { All (λ n. n < length forest.now.groups) numbers.now }
-    requires short { All (λ n. is_within (exceptions_of (groups_in defs.now forest.now.target)) room n ≡ true) numbers.now }
+    requires short { All (λ n. is_within (exceptions_of (groups_in defs.now forest.now.target)) room n ≡ true)
+        numbers.now }
     ensures { IfOk result (λ terms. terms ≡ map (group_term (groups_in defs.now forest.now.target) room) numbers.now) }
 {
     let mut terms = List::new(alloc);

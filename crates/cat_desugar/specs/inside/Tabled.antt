@@ -1,7 +1,6 @@
 -- The targets of a forest, by item and inner item.
-use Rattle.std.specs.Prelude.{◌≡◌, ◌<◌, ◌&&◌, ◌||◌, ℕ, nat_eq, Bool, true, false, List, [], ◌∷◌, length, Option, Some}
-use Rattle.std.specs.Prelude.{None}
-use Rattle.std.specs.Prelude.{slice_get}
+use Rattle.std.specs.Prelude.{◌≡◌, ◌<◌, ◌&&◌, ◌||◌, ℕ, nat_eq, Bool, true, false, List, [], ◌∷◌, length, Option}
+use Rattle.std.specs.Prelude.{Some, None, slice_get}
 use Rattle.std.specs.Option.{option_eq}
 use Rattle.indexmap.specs.IndexMap.{IndexMap, get}
 use Rattle.cat_pos.specs.declared.limits.TheConstants.{ENTRIES_BOUND}
