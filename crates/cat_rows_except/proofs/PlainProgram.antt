@@ -1,7 +1,6 @@
 -- A program whose definitions are plain is well formed.
-use Rattle.std.proofs.Common.{◌≡◌, ◌<◌, ◌&&◌, ◌∙◌, ℕ, zero, suc, nat_eq, Bool, true, false, if◌then◌else◌, IsTrue, List}
-use Rattle.std.proofs.Common.{[]}
-use Rattle.std.proofs.Common.{◌∷◌, ◌++◌, ◌+◌}
+use Rattle.std.proofs.Common.{◌≡◌, ◌<◌, ◌&&◌, ◌∙◌, ℕ, zero, suc, nat_eq, Bool, true, false, if◌then◌else◌}
+use Rattle.std.proofs.Common.{IsTrue, List, [], ◌∷◌, ◌++◌, ◌+◌}
 use Rattle.std.proofs.Common.{length, replicate, Some, None, codes, refl, sym, ap, subst, arith, rules, true≢false}
 use Rattle.std.proofs.lemmas.List.{replicate_more}
 use Rattle.cat_pos.specs.declared.pos.Pos.{Pos}
@@ -35,8 +34,8 @@ use Rattle.cat_scope.specs.Expected.{lists_placed, condition_placed, parts_place
 use Rattle.cat_scope.specs.Orders.{in_condition, in_def, in_defs_of, item_dependencies, called_in, calls_in, once}
 use Rattle.cat_scope.specs.Orders.{scope_dependencies}
 use Rattle.cat_scope.specs.Chains.{HasShortChains}
-use Rattle.cat_scope.specs.WellFormed.{DefTyped, ConditionTyped, PartTyped, IsWhole, IsBodyOf, AreBodiesOf}
-use Rattle.cat_scope.specs.WellFormed.{IsWellFormed}
+use Rattle.cat_scope.specs.WellFormed.{DefTyped, ConditionTyped, PartTyped, IsWhole}
+use Rattle.cat_scope.specs.WellFormed.{IsBodyOf, AreBodiesOf, IsWellFormed}
 use Rattle.cat_scope.proofs.Exported.{namings, placed_Literal}
 use Rattle.cat_rows_except.specs.inside.Plain.{IsPlain, variable, scope, body_of}
 
