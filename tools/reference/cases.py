@@ -1,5 +1,5 @@
 """The cases that run a scope, computed again."""
-import pathlib, re
+import pathlib, re, subprocess, sys
 
 from .answers import replies
 
@@ -60,3 +60,15 @@ def pages():
             case = TOP / 'tests' / 'language' / name
             kept = (case / 'a.md').read_bytes().decode(errors='replace').rstrip('\n') if source else ''
             yield '%s %s' % (page, name), (kept, (case / 'stdout').read_text().rstrip('\n')), {(source, reply)}
+
+
+def statutes():
+    """Each input of each statute of the examples: its name, what the law's text gives by the program beside it, and the
+    reply of the language."""
+    for law in sorted((TOP / 'examples').glob('*/law.md')):
+        scope = (law.parent / 'scope').read_text().strip()
+        for given in sorted(law.parent.glob('*.json')):
+            told = subprocess.run([sys.executable, law.parent / 'replies.py'], input=given.read_bytes(),
+                                  stdout=subprocess.PIPE, check=True)
+            found = replies({'law.md': law.read_bytes()}, 'law.md', scope, given.read_bytes())
+            yield '%s %s' % (law.parent.name, given.stem), told.stdout.decode().strip(), found
