@@ -9,7 +9,7 @@ ghost use Rattle.cat_evaluate_step.specs.inside.Steps.{case_run, IsTold, Passes}
 use crate::frames::{ExprsUse, FieldsUse, Frames, ListForm, OnList, OnOperand, Task};
 use crate::going::{give, list, operand};
 use crate::made::made_case;
-use crate::parts::{exprs_next, fields_next};
+use crate::parts::{exprs_first, fields_first};
 use crate::scene::Scene;
 use cat_operate::literal_value;
 use cat_pos::{Boxed, List};
@@ -94,15 +94,8 @@ pub(crate) fn on_expr<'a>(
         Expr::Match(_, e, arms) => operand(frames, OnOperand::Match(arms), e),
         Expr::IsCase(_, e, _, k) => operand(frames, OnOperand::IsCase(*k), e),
         Expr::Case(_, _, k, content) => on_case(alloc, frames, *k, content),
-        Expr::Structure(_, _, fs) => fields_next(
-            alloc,
-            frames,
-            FieldsUse::Structure,
-            fs,
-            0,
-            List::new(alloc),
-        ),
-        Expr::List(_, es) => exprs_next(alloc, frames, ExprsUse::List, es, 0, List::new(alloc)),
+        Expr::Structure(_, _, fs) => fields_first(alloc, frames, FieldsUse::Structure, fs),
+        Expr::List(_, es) => exprs_first(alloc, frames, ExprsUse::List, es),
         Expr::ForAll(_, l, e) => list(frames, OnList::Over(ListForm::ForAll, e), l),
         Expr::Exists(_, l, e) => list(frames, OnList::Over(ListForm::Exists, e), l),
         Expr::Map(_, l, e) => list(frames, OnList::Over(ListForm::Map, e), l),
@@ -111,23 +104,9 @@ pub(crate) fn on_expr<'a>(
         Expr::Contains(_, p, l, e) => list(frames, OnList::Contains(*p, e), l),
         Expr::Length(_, l) => list(frames, OnList::Length, l),
         Expr::Sum(p, kind, l) => list(frames, OnList::Sum(*kind, *p), l),
-        Expr::Call(_, f, es) => exprs_next(
-            alloc,
-            frames,
-            ExprsUse::Call(*f),
-            es,
-            0,
-            List::new(alloc),
-        ),
+        Expr::Call(_, f, es) => exprs_first(alloc, frames, ExprsUse::Call(*f), es),
         Expr::ScopeCall(_, s, fs, k) => {
-            fields_next(
-                alloc,
-                frames,
-                FieldsUse::ScopeCall(*s, *k),
-                fs,
-                0,
-                List::new(alloc),
-            )
+            fields_first(alloc, frames, FieldsUse::ScopeCall(*s, *k), fs)
         }
     }
 }

@@ -1,5 +1,5 @@
 // What waits for the value of one of several parts goes on with the next, or with the values of all.
-ghost use Rattle.std.specs.Prelude.{drop};
+ghost use Rattle.std.specs.Prelude.{[], drop};
 ghost use Rattle.cat_evaluate_step.specs.Waiting.{exprs_run, fields_run, part_run};
 ghost use Rattle.cat_evaluate_step.specs.inside.Steps.{Passes};
 
@@ -54,6 +54,30 @@ pub(crate) fn fields_next<'a>(
         FieldsUse::Structure => give(structured(alloc, &values)),
         FieldsUse::ScopeCall(scope, output) => Ok(Task::ScopeCall(scope, values, output)),
     }
+}
+
+/// The first of some expressions is next.
+pub(crate) fn exprs_first<'a>(
+    alloc: Global,
+    frames: &mut Frames<'a>,
+    purpose: ExprsUse,
+    es: &'a Exprs,
+) -> Result<Task<'a>, Failure>
+    ensures { Passes result (exprs_run purpose es.now []) frames.old frames.new }
+{
+    exprs_next(alloc, frames, purpose, es, 0, List::new(alloc))
+}
+
+/// The first of some fields is next.
+pub(crate) fn fields_first<'a>(
+    alloc: Global,
+    frames: &mut Frames<'a>,
+    purpose: FieldsUse,
+    fields: &'a FieldValues,
+) -> Result<Task<'a>, Failure>
+    ensures { Passes result (fields_run purpose fields.now []) frames.old frames.new }
+{
+    fields_next(alloc, frames, purpose, fields, 0, List::new(alloc))
 }
 
 /// The value of a part is there.
