@@ -1,5 +1,5 @@
 -- What a part of an input is, by the form of its type, and that its parts are lower.
-use Rattle.std.proofs.Common.{◌≡◌, ℕ, zero, suc, ◌-◌, ◌<◌, ◌≤◌, Option, Some, slice_get, arith, refl, sym, ap, ◌∙◌}
+use Rattle.std.proofs.Common.{◌≡◌, ℕ, zero, suc, ◌-◌, ◌<◌, ◌≤◌, Option, Some, slice_get, arith, refl, ◌∙◌}
 use Rattle.std.proofs.Common.{sub-one, List}
 use Rattle.cat_value.specs.declared.decls.Decls.{Decls}
 use Rattle.cat_value.specs.declared.declaration.Structure.{Structure}
@@ -14,7 +14,7 @@ use Rattle.cat_value.specs.Heights.{height_to, highest_field}
 use Rattle.cat_value.proofs.Exported.{height_Structure, whole, fields_declared, structure_there}
 use Rattle.cat_region.specs.declared.point.Point.{Point}
 use Rattle.cat_guard.specs.declared.table.Path.{Path}
-use Rattle.cat_audit_input.specs.PointInputs.{part_to, part_in, structure_of, fields_from, with_point}
+use Rattle.cat_audit_input.specs.PointInputs.{part_to, part_in, fields_from, with_point}
 
 pub height_positive : (ss : List Structure) (es : List Enumeration) (k : ℕ) (t : Ty) → 0 < height_to ss es k t
 unfolding height_to

@@ -8,7 +8,6 @@ use Rattle.cat_date.specs.Calendar.{is_day}
 use Rattle.cat_value.specs.declared.decls.Decls.{Decls}
 use Rattle.cat_value.specs.declared.declaration.Case.{Case}
 use Rattle.cat_value.specs.declared.declaration.Enumeration.{Enumeration}
-use Rattle.cat_value.specs.declared.declaration.Field.{Field}
 use Rattle.cat_value.specs.declared.declaration.ItemDecl.{ItemDecl}
 use Rattle.cat_value.specs.declared.declaration.Structure.{Structure}
 use Rattle.cat_value.specs.declared.ty.Ty.{Ty}

@@ -43,7 +43,15 @@ pub fn part(
     };
     declarations_are_sound(decls);
     let structure = decls.structures.at(*number as usize);
-    let values = parts(alloc, decls, terms, region, path, &structure.fields, depth - 1)?;
+    let values = parts(
+        alloc,
+        decls,
+        terms,
+        region,
+        path,
+        &structure.fields,
+        depth - 1,
+    )?;
     Ok(Value::Structure(values))
 }
 

@@ -2,7 +2,7 @@ use Rattle.std.proofs.Common.{◌≡◌, Some, slice_get, length, refl, rules, a
 use Rattle.std.proofs.lemmas.Option.{slice_get_read}
 use Rattle.cat_region.specs.Chosen.{point_at}
 use Rattle.cat_audit_input.specs.PointInputs.{point_from, given_from, given_for}
-use Rattle.cat_audit_input.proofs.TypedLaws.{given_more, made_more, given_all}
+use Rattle.cat_audit_input.proofs.TypedLaws.{given_more, made_more}
 use Rattle.cat_audit_input.proofs.input.given.Goals as goal
 
 pub loop-number-preserved : goal.loop-number-preserved

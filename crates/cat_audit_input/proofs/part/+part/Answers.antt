@@ -1,4 +1,4 @@
-use Rattle.std.proofs.Common.{◌≡◌, sym, ap, ◌∙◌, subst, Some, IsTrue, IfOk, arith, ◌≤◌}
+use Rattle.std.proofs.Common.{sym, ap, ◌∙◌, subst, IfOk, arith, ◌≤◌}
 use Rattle.cat_value.specs.declared.ty.Ty.{Ty}
 use Rattle.cat_value.specs.Heights.{height_to}
 use Rattle.cat_value.proofs.Exported.{fields_declared}
@@ -34,9 +34,19 @@ part-parts-requires t c =
     let low = subst (λ (t : Ty). height_to ds.structures ds.enumerations c.args.depth t ≤ c.args.depth) c.in-Structure.is
     c.requires.height in (
       omega (arith, positive, c.requires.height),
-      (c.requires.dims, (c.requires.inhabited, ((c.declarations_are_sound.ensures.structures n s c.at-structure.ensures).counted,
-      (fields_declared ds n s c.at-structure.ensures,
-      fields_lower ds.structures ds.enumerations c.args.depth n s low c.at-structure.ensures)))),
+      (
+        c.requires.dims,
+        (
+          c.requires.inhabited,
+          (
+            (c.declarations_are_sound.ensures.structures n s c.at-structure.ensures).counted,
+            (
+              fields_declared ds n s c.at-structure.ensures,
+              fields_lower ds.structures ds.enumerations c.args.depth n s low c.at-structure.ensures,
+            ),
+          ),
+        ),
+      ),
     )
 
 pub part-returns : goal.part-returns
