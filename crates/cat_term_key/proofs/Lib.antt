@@ -1,0 +1,4 @@
+pub mod KeyNumbers
+pub mod KeyForms
+pub mod KeyLaws
+pub mod TermLaws
