@@ -1,6 +1,6 @@
 -- Terms of one path are one, and those of a table are apart.
-use Rattle.std.proofs.Common.{◌≡◌, ℕ, zero, suc, ◌<◌, nat_eq, Bool, true, false, ◌&&◌, IsTrue, List, [], ◌∷◌, ◌++◌}
-use Rattle.std.proofs.Common.{Option, Some, None, slice_get, refl, sym, ap, ◌∙◌, subst, arith, true≢false}
+use Rattle.std.proofs.Common.{◌≡◌, ℕ, zero, suc, ◌<◌, Bool, true, false, List, [], ◌∷◌, ◌++◌}
+use Rattle.std.proofs.Common.{Some, slice_get, refl, sym, ap, ◌∙◌, subst, arith, true≢false}
 use Rattle.std.proofs.Common.{if◌then◌else◌}
 use Rattle.std.proofs.lemmas.Bool.Decides.{nat_tests}
 use Rattle.cat_pos.specs.declared.pos.Pos.{Pos}
@@ -10,7 +10,6 @@ use Rattle.cat_value.specs.declared.ty.Ty.{Ty}
 use Rattle.cat_value.specs.declared.ty.Ty.TheOpen.{Ty-F}
 use Rattle.cat_value.specs.declared.ty.Ty.TheVariants as flat_ty
 use Rattle.cat_value.specs.declared.ty.Ty.TheViews as ty
-use Rattle.cat_value.specs.Inputs.{must_be_given}
 use Rattle.cat_region.specs.declared.dim.Dim.{Dim}
 use Rattle.cat_region.specs.declared.dim.Dim.TheVariants as dim
 use Rattle.cat_scope.specs.declared.expr.Expr.{Expr}
@@ -29,7 +28,7 @@ use Rattle.cat_sound.proofs.Exported.{by_parts, parts_of, parts_typed}
 use Rattle.cat_guard.specs.declared.table.Path.{Path}
 use Rattle.cat_guard.specs.Numbering.{is_seen, firsts}
 use Rattle.cat_guard.specs.Terms.{path_of, same_dim}
-use Rattle.cat_audit_input.specs.PointInputs.{variable, field_of}
+use Rattle.cat_audit_input.specs.PointInputs.{variable}
 use Rattle.cat_input_sound.proofs.PointedValues.{same_some, none_some}
 use Rattle.cat_input_sound.proofs.FreeValues.{Form, PathForm, an_item, a_field, path_form}
 
@@ -99,7 +98,8 @@ module _ (ds : Decls) (items : List ItemDecl) (g h : Standing) (ps qs : List Ty)
       → AreOne e f t u
   one_item e f q r i j t u is also one own other =
       let number : i ≡ j = ap (λ (p : Path). p.item) one in record {
-        trees = subst (λ (x : Expr). Same g h x f) (sym (rolled e (Expr-F.Item q i) (leaf.Item q i) is (expr.rolls-Item q i)))
+        trees = subst (λ (x : Expr). Same g h x f)
+            (sym (rolled e (Expr-F.Item q i) (leaf.Item q i) is (expr.rolls-Item q i)))
             (subst (λ (x : Expr). Same g h (leaf.Item q i) x)
             (sym (rolled f (Expr-F.Item r j) (leaf.Item r j) also (expr.rolls-Item r j)))
             (subst (λ (n : ℕ). Same g h (leaf.Item q i) (leaf.Item r n)) number same.item));
@@ -126,13 +126,13 @@ module _ (ds : Decls) (items : List ItemDecl) (g h : Standing) (ps qs : List Ty)
     where
       by : (e : Expr) (y : Form) → out-Expr e ≡ y → AllHave IsOne (parts_of y) → (f : Expr) (p : Path) (t u : Ty)
           → HasType names ps e t → HasType names qs f u → PathForm items e p → PathForm items f p → AreOne e f t u
-      by e y is inner f p t u typed other (an_item q i decl form there must at) (an_item r j decl2 form2 there2 must2 at2) =
+      by e y is inner f p t u typed other (an_item q i decl form there must at) (an_item r j d form2 there2 must2 at2) =
           one_item e f q r i j t u form form2 (at ∙ sym at2)
           (subst (λ (x : Form). PartsTyped names ps x t) form (parts_typed names ps e t typed))
           (subst (λ (x : Form). PartsTyped names qs x u) form2 (parts_typed names qs f u other))
       by e y is inner f p t u typed other (an_item q i decl form there must at) (a_field r b l path form2 there2 at2) =
           absurd (not_none path.fields l (ap (λ (x : Path). x.fields) (at ∙ sym at2)))
-      by e y is inner f p t u typed other (a_field q a k path form there at) (an_item r j decl2 form2 there2 must2 at2) =
+      by e y is inner f p t u typed other (a_field q a k path form there at) (an_item r j d form2 there2 must2 at2) =
           absurd (not_none path.fields k (ap (λ (x : Path). x.fields) (at2 ∙ sym at)))
       by e y is inner f p t u typed other (a_field q a k path form there at) (a_field r b l path2 form2 there2 at2) =
           let own : PartsTyped names ps (Expr-F.Field q a k) t =

@@ -1,7 +1,7 @@
 -- What a path evaluates to, where an input is given: the part of the input at the path.
-use Rattle.std.proofs.Common.{◌≡◌, ℕ, zero, suc, ◌+◌, ◌-◌, ◌<◌, ◌≤◌, max, Bool, true, false, IsTrue, List, [], ◌∷◌}
-use Rattle.std.proofs.Common.{◌++◌, Option, Some, None, Result, Ok, slice_get, refl, sym, ap, ◌∙◌, subst, arith}
-use Rattle.std.proofs.Common.{true≢false, if◌then◌else◌}
+use Rattle.std.proofs.Common.{◌≡◌, ℕ, zero, suc, ◌+◌, ◌-◌, ◌≤◌, Bool, true, false, List, [], ◌∷◌}
+use Rattle.std.proofs.Common.{Option, Some, None, Ok, slice_get, refl, sym, ap, ◌∙◌, subst, arith}
+use Rattle.std.proofs.Common.{if◌then◌else◌}
 use Rattle.cat_pos.specs.declared.pos.Pos.{Pos}
 use Rattle.cat_value.specs.declared.decls.Decls.{Decls}
 use Rattle.cat_value.specs.declared.declaration.Field.{Field as FieldDecl}
@@ -185,7 +185,8 @@ module _ (ds : Decls) (points : Path → Option Point) (items : List ItemDecl) (
       let f = found.1.0 in
       let j = part_reads.k in
       let positive = height_positive ds.structures ds.enumerations j (flat_ty.Structure n) in
-      let structure = part_Structure ds points inner j n s (omega (arith, positive, part_reads.low_enough)) found.1.1.0 in
+      let structure = part_Structure ds points inner j n s (omega (arith, positive, part_reads.low_enough))
+      found.1.1.0 in
       subst (Reads e (field_of inner k)) found.1.1.1.1 (record {
         k = j - 1;
         is = ap (λ (r : Run Value). r.end) (eval_at env e (Expr-F.Field q a k) is arguments)

@@ -57,9 +57,11 @@ case_pointed : (ds : Decls) (n k : ℕ) (content : Option Ty) → content_of ds 
     → HasPoint ds (Ty-F.Enumeration n) (point.Case k)
 case_pointed ds n k None e =
     (value.Case k None, ap (case_with ds k) e, ap point_in (value.outs-Case k None))
-case_pointed ds n k (Some t) e =
-    (value.Case k (Some (default_of ds t)), ap (case_with ds k) e,
-    ap point_in (value.outs-Case k (Some (default_of ds t))))
+case_pointed ds n k (Some t) e = (
+  value.Case k (Some (default_of ds t)),
+  ap (case_with ds k) e,
+  ap point_in (value.outs-Case k (Some (default_of ds t))),
+)
 
 by_dim : (ds : Decls) (y : Ty-F Ty) (d : Dim) (x : Point) → dim_in ds y ≡ Some d → IsTrue (is_point d x)
     → HasPoint ds y x

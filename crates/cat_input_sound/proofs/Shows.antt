@@ -1,7 +1,6 @@
 -- In the input of a region each free term evaluates to the region's point.
-use Rattle.std.proofs.Common.{◌≡◌, ℕ, zero, suc, ◌+◌, ◌<◌, ◌≤◌, Bool, true, false, ◌&&◌, IsTrue, List, [], ◌∷◌, map}
-use Rattle.std.proofs.Common.{Option, Some, None, Ok, slice_get, refl, sym, ap, ◌∙◌, subst, arith, true≢false, length}
-use Rattle.std.proofs.lemmas.Option.{slice_get_within}
+use Rattle.std.proofs.Common.{◌≡◌, ℕ, zero, suc, ◌+◌, ◌<◌, ◌≤◌, Bool, true, ◌&&◌, IsTrue, List, [], ◌∷◌, map}
+use Rattle.std.proofs.Common.{Option, Some, Ok, slice_get, refl, sym, ap, ◌∙◌, subst, arith, true≢false, length}
 use Rattle.std.proofs.Math.Logic.{∥∥₁_elim}
 use Rattle.std.proofs.Props.{props}
 use Rattle.cat_value.specs.declared.decls.Decls.{Decls}
@@ -19,7 +18,7 @@ use Rattle.cat_region.specs.declared.dim.Dim.{Dim}
 use Rattle.cat_region.specs.declared.point.Point.{Point}
 use Rattle.cat_region.specs.Chosen.{point_at}
 use Rattle.cat_region.specs.Points.{is_point}
-use Rattle.cat_region.specs.Regions.{Constraints, Valuation, IsRegion, IsInhabited, IsValuation, is_point_of}
+use Rattle.cat_region.specs.Regions.{Constraints, IsRegion, IsInhabited, IsValuation, is_point_of}
 use Rattle.cat_region.proofs.Exported.{Admits-point_at}
 use Rattle.cat_scope.specs.declared.expr.Expr.{Expr}
 use Rattle.cat_scope.specs.declared.defs.Def.{Def}
@@ -39,12 +38,13 @@ use Rattle.cat_guard.specs.Questions.{Question}
 use Rattle.cat_guard.specs.Tables.{questions_of, IsTableOf}
 use Rattle.cat_guard.specs.Terms.{path_of, same_term, same_dim, term_of, terms_of}
 use Rattle.cat_guard.specs.Valuations.{dims_of}
-use Rattle.cat_guard_sound.proofs.Exported.{IsAskedOf, IsOfDef, targets_all, firsts_all, all_at, body_is}
-use Rattle.cat_audit_input.specs.PointInputs.{part_to, point_from, value_at, with_point, or_default, given_from, input_at}
+use Rattle.cat_guard_sound.proofs.Exported.{IsOfDef, targets_all, firsts_all, all_at, body_is}
+use Rattle.cat_audit_input.specs.PointInputs.{part_to, point_from, with_point, or_default, given_from}
+use Rattle.cat_audit_input.specs.PointInputs.{input_at}
 use Rattle.cat_audit_input.proofs.Exported.{height_positive, part_other}
 use Rattle.cat_input_sound.specs.Shown.{AreGiven, IsFree, IsSeenAs}
 use Rattle.cat_input_sound.proofs.PointedValues.{same_some, none_some, pointed, first_point}
-use Rattle.cat_input_sound.proofs.FreeValues.{Reads, reads}
+use Rattle.cat_input_sound.proofs.FreeValues.{reads}
 use Rattle.cat_input_sound.proofs.Apart.{are_one, apart, dim_self}
 
 -- what stands at a number of the images of a list
@@ -76,9 +76,14 @@ seen_part : (ds : Decls) (points : Path → Option Point) (k : ℕ) (p : Path) (
     → (v : Value) × ((part_to ds points k p t ≡ v) × (point_of v ≡ Some x))
 seen_part ds points k p t d x low has at is =
     let found = pointed ds (out-Ty t) d x has is in
-    let positive = height_positive ds.structures ds.enumerations k t in
-    (found.0, (part_other ds points p k t (omega (arith, positive, low)) no_structure
-    ∙ ap (with_point ds t) at ∙ ap (or_default ds t) found.1, found.2))
+    let positive = height_positive ds.structures ds.enumerations k t in (
+      found.0,
+      (
+        part_other ds points p k t (omega (arith, positive, low)) no_structure
+            ∙ ap (with_point ds t) at ∙ ap (or_default ds t) found.1,
+        found.2,
+      ),
+    )
   where
     no_structure : (n : ℕ) → t ≡ flat_ty.Structure n → ⊥
     no_structure n e = none_some d (sym (ap (λ (u : Ty). dim_of ds u) e ∙ ap (dim_in ds) (ty.outs-Structure n)) ∙ has)
@@ -131,8 +136,8 @@ module _ (ds : Decls) (scope : ℕ) (items : List ItemDecl) (defs : List Def)
         let q = image.0 in
         let path : path_of items q.expr ≡ Some p = ap (λ (t : Term). t.path) image.1.1 ∙ free in
         let x = asked i q image.1.0 in
-        let read = reads ds (point_from (point_at region) 0 terms) items env arguments x.def_typed.params given low q.expr
-        x.asked_of.ty p path x.asked_of.typed in
+        let read = reads ds (point_from (point_at region) 0 terms) items env arguments x.def_typed.params given low
+        q.expr x.asked_of.ty p path x.asked_of.typed in
         let point : point_from (point_at region) 0 terms p ≡ Some (point_at region i) =
         first_point (point_at region) 0 terms i term p at free
         (λ j u below there has. let other = image_at (term_of items) (firsts same_term [] qs) j u there in
@@ -172,13 +177,13 @@ scope_shows ds bodies order scope table region env arguments i term formed low s
     let terms : table.terms ≡ terms_of decl.items (questions_of ds body.defs targets) = is.terms_are in
     let items : scope_items ds table.scope ≡ decl.items = ap (scope_items ds) is.scope_is ∙ ap items_in scoped.2 in
     let input : input_at ds table (point_at region)
-        ≡ given_from ds (point_from (point_at region) 0 (terms_of decl.items (questions_of ds body.defs targets))) 0
-        decl.items =
+    ≡ given_from ds (point_from (point_at region) 0 (terms_of decl.items (questions_of ds body.defs targets))) 0
+    decl.items =
     ap (λ (ts : List Term). given_from ds (point_from (point_at region) 0 ts) 0 (scope_items ds table.scope)) terms
     ∙ ap (given_from ds (point_from (point_at region) 0 (terms_of decl.items (questions_of ds body.defs targets))) 0)
     items in
     ∥∥₁_elim formed (hlevel props) (λ well.
     (∣ shows ds scope decl.items body.defs (body_is ds bodies order well scope decl body scoped.2 scoped.3).defs
     (λ k item there. low scope k decl item scoped.2 there) targets region is_region (dims ∙ ap dims_of terms) some env
-    arguments (subst (AreGiven env) input given) i term free.0 (ap (λ (ts : List Term). slice_get ts i) (sym terms) ∙ at)
-    free.1 ∣₁))
+    arguments (subst (AreGiven env) input given) i term free.0
+    (ap (λ (ts : List Term). slice_get ts i) (sym terms) ∙ at) free.1 ∣₁))

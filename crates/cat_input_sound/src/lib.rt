@@ -1,4 +1,5 @@
-//! What the input of a region shows: its free terms evaluate to the region's points. Each law is the contract of a function.
+//! What the input of a region shows: its free terms evaluate to the region's points. Each law is the contract of a
+//! function.
 #![tactic(auto)]
 
 mod laws;
