@@ -70,8 +70,8 @@ fn given(
     Ok(input)
 }
 
-/// The input of the scope of a table in which each free term has its point of the region, and all else that must be given
-/// its default. No context is given.
+/// The input of the scope of a table in which each free term has its point of the region, and all else that must be
+/// given its default. No context is given. It takes a look at each term for each part of an input.
 pub fn input_of(
     alloc: Global,
     table: &Table,

@@ -31,8 +31,8 @@ part-parts-requires t c =
     let n = c.in-Structure.number in
     let s = c.at-structure.result.now in
     let positive = height_positive ds.structures ds.enumerations c.args.depth c.args.ty.now in
-    let low = subst (λ (t : Ty). height_to ds.structures ds.enumerations c.args.depth t ≤ c.args.depth) c.in-Structure.is
-    c.requires.height in (
+    let low = subst (λ (t : Ty). height_to ds.structures ds.enumerations c.args.depth t ≤ c.args.depth)
+    c.in-Structure.is c.requires.height in (
       omega (arith, positive, c.requires.height),
       (
         c.requires.dims,
