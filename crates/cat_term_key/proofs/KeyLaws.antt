@@ -1,13 +1,12 @@
 -- Expressions have one key exactly where they agree but for positions.
-use Rattle.std.proofs.Common.{◌≡◌, ℕ, ◌+◌, ◌-◌, ◌<◌, nat_lt, Bool, true, false, IsTrue, List, [], ◌∷◌, ◌++◌, map}
-use Rattle.std.proofs.Common.{length, Option, Some, None, refl, sym, ap, ◌∙◌, subst, arith, if◌then◌else◌}
+use Rattle.std.proofs.Common.{◌≡◌, ℕ, ◌+◌, ◌-◌, ◌<◌, nat_lt, Bool, true, false, List, [], ◌∷◌, ◌++◌, map}
+use Rattle.std.proofs.Common.{length, Some, None, refl, sym, ap, ◌∙◌, arith, if◌then◌else◌}
 use Rattle.std.proofs.lemmas.Bool.Decides.{nat_tests}
 use Rattle.std.proofs.lemmas.List.{append_assoc}
 use Rattle.cat_scope.specs.declared.expr.Expr.{Expr}
 use Rattle.cat_scope.specs.declared.expr.Arm.{Arm}
 use Rattle.cat_scope.specs.declared.expr.ArmPattern.{ArmPattern}
 use Rattle.cat_scope.specs.declared.expr.FieldValue.{FieldValue}
-use Rattle.cat_scope.specs.declared.expr.Expr.TheOpen.{Expr-F}
 use Rattle.cat_scope.specs.declared.expr.Expr.TheViews as expr
 use Rattle.cat_scope.specs.declared.expr.Expr.TheViews.{out-Expr}
 use Rattle.cat_scope.specs.Names.{AllHave}
@@ -17,7 +16,7 @@ use Rattle.cat_scope.specs.Same as same
 use Rattle.cat_scope.specs.SameTree.{same_tree, same_in}
 use Rattle.cat_sound.proofs.Exported.{by_parts, parts_of}
 use Rattle.cat_term_key.specs.Keys.{Branch, Part, form_number, own_numbers, parts, bodies, values, key_in, key_of}
-use Rattle.cat_term_key.specs.Keys.{patterns_numbers, field_numbers, local_numbers, literal_numbers, joined, spelled}
+use Rattle.cat_term_key.specs.Keys.{patterns_numbers, field_numbers, local_numbers, joined, spelled}
 use Rattle.cat_term_key.proofs.KeyNumbers.{one_number, Told, told}
 use Rattle.cat_term_key.proofs.KeyForms.{Form, arm_of, field_of, opened, key_level, arm_is, field_is, parts_are}
 use Rattle.cat_term_key.proofs.KeyForms.{form_is, tests, test_level, EachSame, same_form}
@@ -52,7 +51,7 @@ module _ (g h : Standing) where
   tells = by_parts Tells (λ e y is inner f xs ys eq.
       let z = out-Expr f in
       let one : Told (form_number (opened g y)) (own_numbers g (opened g y)) (parts (opened g y)) xs
-          (form_number (opened h z)) (own_numbers h (opened h z)) (parts (opened h z)) ys =
+      (form_number (opened h z)) (own_numbers h (opened h z)) (parts (opened h z)) ys =
       told (form_number (opened g y)) (own_numbers g (opened g y)) (parts (opened g y)) xs
       (form_number (opened h z)) (own_numbers h (opened h z)) (parts (opened h z)) ys
       (ap (λ (k : List ℕ). k ++ xs) (sym (key_level g e ∙ ap (λ (x : Form). key_in g (opened g x)) is)) ∙ eq
@@ -60,10 +59,12 @@ module _ (g h : Standing) where
       let two = pairs (parts_of y) (parts_of z) inner xs ys
       (ap length (sym (parts_are g y)) ∙ one.many ∙ ap length (parts_are h z))
       (ap (λ (ks : List (List ℕ)). joined ks ++ xs) (sym (parts_are g y)) ∙ one.rest
-      ∙ ap (λ (ks : List (List ℕ)). joined ks ++ ys) (parts_are h z)) in
-      (test_level g h e f ∙ ap (λ (x : Form). same_in g h (tests g h x) z) is
-      ∙ same_form g h y z (one_number (form_number y) (form_number z)
-      (sym (form_is g y) ∙ one.forms ∙ form_is h z)) one.owns two.0, two.1))
+      ∙ ap (λ (ks : List (List ℕ)). joined ks ++ ys) (parts_are h z)) in (
+        test_level g h e f ∙ ap (λ (x : Form). same_in g h (tests g h x) z) is
+            ∙ same_form g h y z (one_number (form_number y) (form_number z)
+            (sym (form_is g y) ∙ one.forms ∙ form_is h z)) one.owns two.0,
+        two.1,
+      ))
 
   -- ---- the same have one key
 

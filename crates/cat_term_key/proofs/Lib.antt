@@ -2,3 +2,4 @@ pub mod KeyNumbers
 pub mod KeyForms
 pub mod KeyLaws
 pub mod TermLaws
+pub mod Exported
