@@ -11,3 +11,4 @@ pub mod TargetFollows
 pub mod TargetsListed
 pub mod ScopeFollows
 pub mod AuditLaws
+pub mod Exported

@@ -1,0 +1,4 @@
+pub mod PartEquations
+pub mod TypedLaws
+pub mod Examples
+pub mod Exported

@@ -1,0 +1,4 @@
+pub mod PointedValues
+pub mod FreeValues
+pub mod Apart
+pub mod Shows

@@ -1,0 +1,5 @@
+pub mod KeyNumbers
+pub mod KeyForms
+pub mod KeyLaws
+pub mod TermLaws
+pub mod Exported
