@@ -117,7 +117,11 @@ taken_leads (Err failure.Memory) target judged one t before after taken is = rec
 pub exceptions_on : (result : Result TermTask Failure) (target : Target) (terms : Bor (List Term)) (i : ℕ) (t : Term)
     (held : List Definition) (j : Bor Justification) (consequence : Bor Term) (before after : List OnExceptions)
     → IsTaken result before after (record {
-      exceptions = terms; next = i + 1; held = held; justification = j; consequence = consequence;
+      exceptions = terms;
+      next = i + 1;
+      held = held;
+      justification = j;
+      consequence = consequence;
     }) t → slice_get terms.now i ≡ Some t
     → Leads result (left_run (drop i terms.now) (all_held held) j.now consequence.now) target before after
 exceptions_on result target terms i t held j consequence before after taken is =

@@ -6,3 +6,4 @@ pub mod InTurn
 pub mod TermForms
 pub mod Holds
 pub mod Reached
+pub mod Judgings

@@ -2,5 +2,7 @@
 pub mod Verdicts
 -- how a reduction ends from a task on
 pub mod Reductions
+-- how a judging ends whose expressions call
+pub mod Judgings
 -- what the code keeps on its way: no public clause cites it
 pub mod inside

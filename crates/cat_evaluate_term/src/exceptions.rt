@@ -169,11 +169,7 @@ pub(crate) fn on_value<'a>(
             Err(stop) => Err(Failure::Stop(stop)),
         },
         OnValue::Holds(number, pos) => {
-            Ok(TermTask::Found(Some(Definition {
-                number,
-                pos,
-                value,
-            })))
+            Ok(TermTask::Found(Some(Definition { number, pos, value })))
         }
     }
 }
