@@ -1,5 +1,5 @@
 -- None, one, or the conflict of several.
-use Rattle.std.proofs.Common.{◌≡◌, ℕ, ◌<◌, ◌≤◌, length, List, [], ◌∷◌, ◌++◌, Option, Some, None, Result, Ok, Err, refl, ap, sym}
+use Rattle.std.proofs.Common.{◌≡◌, ◌<◌, ◌≤◌, length, List, [], ◌∷◌, ◌++◌, Option, Some, None, Ok, Err, refl, ap, sym}
 use Rattle.std.proofs.Common.{◌∙◌, MatchOption, arith}
 use Rattle.cat_value.specs.declared.outcome.Target.{Target}
 use Rattle.cat_scope.specs.Judging.{alone}
@@ -8,7 +8,7 @@ use Rattle.cat_shared.specs.declared.failure.Failure.TheVariants as failure
 use Rattle.cat_scope.specs.declared.stop.Stop.TheVariants.{Conflict}
 use Rattle.cat_scope.specs.Judging.{in_source_order, positions_in}
 use Rattle.cat_evaluate_term.specs.declared.frames.Definition.{Definition}
-use Rattle.cat_evaluate_term.specs.Verdicts.{Verdict, all_held}
+use Rattle.cat_evaluate_term.specs.Verdicts.{all_held}
 use Rattle.cat_evaluate_term.specs.inside.Putting.{IsConflict, IsFound}
 
 several : (target : Target) (held : List Definition) → 1 < length held

@@ -13,7 +13,7 @@ use Rattle.cat_evaluate_step.specs.declared.frames.Frame.{Frame}
 use Rattle.cat_evaluate_step.specs.declared.frames.Pause.TheVariants as at_pause
 use Rattle.cat_evaluate_step.specs.declared.frames.Task.{Task}
 use Rattle.cat_evaluate_step.specs.declared.frames.Task.TheVariants as task
-use Rattle.cat_evaluate_step.specs.Waiting.{into, resumed}
+use Rattle.cat_evaluate_step.specs.Waiting.{resumed}
 use Rattle.cat_evaluate_step.specs.Pauses.{PausesAt, ending}
 use Rattle.cat_evaluate_term.specs.declared.frames.Definition.{Definition}
 use Rattle.cat_evaluate_term.specs.declared.frames.OnExceptions.{OnExceptions}

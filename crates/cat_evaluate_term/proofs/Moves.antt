@@ -1,5 +1,5 @@
 -- Definitions are moved to where their numbers stand.
-use Rattle.std.proofs.Common.{◌≡◌, ℕ, ◌<◌, List, [], ◌∷◌, ◌++◌, true, false, nat_lt, refl, ap, sym, ◌∙◌, if◌then◌else◌}
+use Rattle.std.proofs.Common.{◌≡◌, List, [], ◌∷◌, ◌++◌, true, false, nat_lt, refl, ap, sym, ◌∙◌, if◌then◌else◌}
 use Rattle.std.proofs.Common.{append-nil, Bool}
 use Rattle.cat_pos.specs.declared.pos.Pos.{Pos}
 use Rattle.cat_value.specs.declared.value.Value.{Value}

@@ -1,5 +1,5 @@
 -- What holds of all exceptions leads on.
-use Rattle.std.proofs.Common.{◌≡◌, List, None, Some, Option, Result, Ok, Err, ap, ◌∙◌}
+use Rattle.std.proofs.Common.{◌≡◌, List, None, Some, Ok, Err, ap, ◌∙◌}
 use Rattle.cat_value.specs.declared.value.Value.{Value}
 use Rattle.cat_value.specs.declared.outcome.Target.{Target}
 use Rattle.cat_scope.specs.declared.stop.Stop.{Stop}

@@ -7,7 +7,7 @@ use Rattle.cat_scope.specs.Judging.{Held, in_source_order, positions_in, put}
 use Rattle.cat_shared.specs.declared.failure.Failure.{Failure}
 use Rattle.cat_shared.specs.declared.failure.Failure.TheVariants as failure
 use Rattle.cat_evaluate_term.specs.declared.frames.Definition.{Definition}
-use Rattle.cat_evaluate_term.specs.Verdicts.{Verdict, all_held, found_as}
+use Rattle.cat_evaluate_term.specs.Verdicts.{Verdict, found_as}
 
 -- those that were passed stand in front again, the last one passed first
 abbrev pub put_back : List (Held Value) → List (Held Value) → List (Held Value)
