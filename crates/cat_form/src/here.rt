@@ -1,0 +1,25 @@
+// Where an expression stands.
+
+use cat_lookup::NameTables;
+use cat_pos::{List, Numbers};
+use cat_value::Decls;
+use std::alloc::Global;
+
+/// How high the structures and the enumerations of a program are.
+#[derive(Drop)]
+pub struct HeightTable {
+    pub structures: Numbers,
+    pub enumerations: Numbers,
+}
+
+/// What may be named where an expression stands: the declarations of a program, with tables of them, and the scope at
+/// hand.
+pub struct Here<'a> {
+    pub alloc: Global,
+    pub decls: &'a Decls,
+    pub tables: &'a NameTables,
+    /// The inputs of each scope that a call must give.
+    pub inputs: &'a List<Numbers>,
+    pub heights: &'a HeightTable,
+    pub scope: u32,
+}

@@ -1,0 +1,30 @@
+//! What single forms of expressions are, where their parts are known: each with its type, or what stands against it.
+#![tactic(auto)]
+
+mod cases;
+mod complete;
+mod forms;
+mod heights;
+mod here;
+mod lists;
+mod literals;
+mod names;
+mod number_set;
+mod operations;
+mod parts;
+mod resolved;
+mod rows;
+mod types;
+
+pub use cases::{
+    case, case_first, case_named, case_with, content_type, scope_named, structure_named, sum_type,
+};
+pub use forms::{choice, combine, each, element_local, field, matched_type, start_local, test};
+pub use here::{HeightTable, Here};
+pub use lists::{call, called_output, counted, list, matched, no_elements, scope_call, structure};
+pub use literals::literal;
+pub use names::{function, name, output};
+pub use operations::{as_expected, binary, prefixed, sum};
+pub use parts::{Owner, arm_pattern, part_named};
+pub use resolved::Resolved;
+pub use types::{element_of, expected_element};
