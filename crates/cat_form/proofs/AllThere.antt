@@ -1,15 +1,20 @@
 -- Numbers that are all there, and arms for all cases.
-use Rattle.std.proofs.Common.{◌≡◌, ◌∙◌, ℕ, zero, suc, ◌+◌, ◌<◌, ◌&&◌, ◌||◌, Bool, true, false, not, cond, nat_eq, List, []}
-use Rattle.std.proofs.Common.{◌∷◌, ◌++◌, take, length, get_or, slice_get, Some, refl, sym, ap, subst, arith, rules}
+use Rattle.std.proofs.Common.{◌≡◌, ◌∙◌, ℕ, zero, suc, ◌+◌, ◌-◌, ◌<◌, ◌&&◌, ◌||◌, Bool, true, false, not, cond, nat_eq, List, []}
+use Rattle.std.proofs.Common.{◌∷◌, ◌++◌, take, length, get_or, slice_get, map, option_map, Option, Some, None, refl, sym, ap, subst, arith, rules}
 use Rattle.std.specs.List.{list_all, list_any}
 use Rattle.std.proofs.lemmas.Bool.Decides.{nat_tests}
 use Rattle.std.proofs.lemmas.List.{take_more}
 use Rattle.std.specs.Prelude.{if◌then◌else◌}
 use Rattle.cat_value.specs.declared.declaration.ItemDecl.{ItemDecl}
+use Rattle.cat_value.specs.declared.declaration.Scope.{Scope}
+use Rattle.cat_value.specs.declared.declaration.Structure.{Structure}
+use Rattle.cat_value.specs.Entries.{fields_in, some_passes}
+use Rattle.cat_value.specs.declared.decls.Decls.{Decls}
 use Rattle.cat_value.specs.Inputs.{must_be_given}
 use Rattle.cat_scope.specs.declared.expr.Arm.{Arm}
-use Rattle.cat_scope.specs.Fitting.{is_anything, anything_is_last, ends_in_anything}
-use Rattle.cat_scope.specs.Names.{all_differ, are_all_in, inputs_given, is_in}
+use Rattle.cat_scope.specs.Fitting.{is_anything, anything_is_last, are_call_fields, are_complete, are_fields_of, cases_in}
+use Rattle.cat_scope.specs.Fitting.{cases_of, ends_in_anything}
+use Rattle.cat_scope.specs.Names.{all_differ, are_all_in, inputs_given, is_in, items_in, scope_items}
 use Rattle.cat_form.specs.Tabled.{required_from}
 
 -- the same numbers
@@ -28,17 +33,18 @@ each_alike ns ms same (k ∷ ks) = rw (same k, each_alike ns ms same ks) refl
 -- a number below a bound that isn't there
 pub missing : (count n : ℕ) (ns : List ℕ) → n < count → is_in n ns ≡ false → are_all_in count ns ≡ false
 missing zero n ns within none = absurd (omega (arith, within))
-missing (suc count) n ns within none = by (nat_eq n count) refl
+missing (suc count) n ns within none = by (nat_eq n count) refl (λ less. missing count n ns less none)
   where
-    by : (b : Bool) → nat_eq n count ≡ b → (is_in count ns && are_all_in count ns) ≡ false
-    by true is = let same : n ≡ count = grind (arith, nat_tests, is) in
-        rw (subst (λ (k : ℕ). is_in k ns ≡ false) same none) refl
-    by false is = let less : n < count = grind (arith, nat_tests, is, within) in
-        rw (missing count n ns less none) (none_of (is_in count ns))
-
     none_of : (b : Bool) → (b && false) ≡ false
     none_of true = refl
     none_of false = refl
+
+    by : (b : Bool) → nat_eq n count ≡ b → (n < count → are_all_in count ns ≡ false)
+        → (is_in count ns && are_all_in count ns) ≡ false
+    by true is lower = let same : n ≡ count = grind (arith, nat_tests, is) in
+        rw (subst (λ (k : ℕ). is_in k ns ≡ false) same none) refl
+    by false is lower = let less : n < count = grind (arith, nat_tests, is, within) in
+        rw (lower less) (none_of (is_in count ns))
 
 -- one number more
 pub in_more : (ns : List ℕ) (n k : ℕ) → is_in k (ns ++ n ∷ []) ≡ (nat_eq k n || is_in k ns)
@@ -139,3 +145,95 @@ added_in old new n added k = sym (any_in new k) ∙ added k ∙ rw (any_in old k
     by : (a b : Bool) → cond a true b ≡ (a || b)
     by true b = refl
     by false b = refl
+
+-- the inputs of a scope, by the table of those that must be given
+inputs_at : (scopes : List Scope) (n : ℕ)
+    → slice_get (map (λ s. required_from 0 s.items) scopes) n
+    ≡ option_map (λ s. required_from 0 s.items) (slice_get scopes n)
+inputs_at [] n = refl
+inputs_at (s ∷ scopes) zero = refl
+inputs_at (s ∷ scopes) (suc n) = inputs_at scopes n
+
+pub inputs_there : (ds : Decls) (inputs : List (List ℕ)) (scope : ℕ) (given required : List ℕ)
+    → inputs ≡ map (λ s. required_from 0 s.items) ds.scopes → slice_get inputs scope ≡ Some required
+    → list_all (λ k. is_in k given) required ≡ inputs_given 0 (scope_items ds scope) given
+inputs_there ds inputs scope given required table at =
+    by (slice_get ds.scopes scope) refl
+    (sym (inputs_at ds.scopes scope) ∙ sym (ap (λ rows. slice_get rows scope) table) ∙ at)
+  where
+    by : (s : Option Scope) → slice_get ds.scopes scope ≡ s
+        → option_map (λ r. required_from 0 r.items) (slice_get ds.scopes scope) ≡ Some required
+        → list_all (λ k. is_in k given) required ≡ inputs_given 0 (scope_items ds scope) given
+    by None none is = absurd (cc (is, none))
+    by (Some s) found is =
+        let same : required_from 0 s.items ≡ required = cc (is, found) in
+        sym (ap (λ (r : Option Scope). inputs_given 0 (items_in r) given) found ∙ required_is 0 s.items given
+        ∙ ap (list_all (λ k. is_in k given)) same)
+
+pub no_inputs : (ds : Decls) (inputs : List (List ℕ)) (scope : ℕ) (given : List ℕ)
+    → inputs ≡ map (λ s. required_from 0 s.items) ds.scopes → slice_get inputs scope ≡ None
+    → true ≡ inputs_given 0 (scope_items ds scope) given
+no_inputs ds inputs scope given table none =
+    by (slice_get ds.scopes scope) refl
+    (sym (inputs_at ds.scopes scope) ∙ sym (ap (λ rows. slice_get rows scope) table) ∙ none)
+  where
+    by : (s : Option Scope) → slice_get ds.scopes scope ≡ s
+        → option_map (λ r. required_from 0 r.items) (slice_get ds.scopes scope) ≡ None
+        → true ≡ inputs_given 0 (scope_items ds scope) given
+    by None found is = sym (ap (λ (r : Option Scope). inputs_given 0 (items_in r) given) found)
+    by (Some s) found is = absurd (cc (is, found))
+
+pub inputs_alike : (ns ms : List ℕ) → Alike ns ms → (n : ℕ) (items : List ItemDecl)
+    → inputs_given n items ns ≡ inputs_given n items ms
+inputs_alike ns ms same n items =
+    required_is n items ns ∙ each_alike ns ms same (required_from n items) ∙ sym (required_is n items ms)
+
+pub last_is : (arms : List Arm) (a : Arm) → Some a ≡ slice_get arms (length arms - 1)
+    → is_anything a.pattern ≡ ends_in_anything arms
+last_is [] a at = absurd (cc at)
+last_is (x ∷ arms) a at = last_ends (x ∷ arms) (length (x ∷ arms) - 1) a (omega arith) (sym at)
+
+-- the tests of a scope call, of a structure and of arms, by the set of their numbers
+pub call_fields_are : (ds : Decls) (scope : ℕ) (ms ns given : List ℕ) (r : Bool) → ms ≡ ns → Alike given ms
+    → true ≡ all_differ ms → r ≡ inputs_given 0 (scope_items ds scope) given → r ≡ are_call_fields ds scope ns
+call_fields_are ds scope ms ns given r same alike differ is =
+    subst (λ ks. r ≡ are_call_fields ds scope ks) same
+    (is ∙ inputs_alike given ms alike 0 (scope_items ds scope)
+    ∙ ap (λ (b : Bool). b && inputs_given 0 (scope_items ds scope) ms) differ)
+
+pub not_differing : (ds : Decls) (scope : ℕ) (ms ns : List ℕ) → ms ≡ ns → false ≡ all_differ ms
+    → false ≡ are_call_fields ds scope ns
+not_differing ds scope ms ns same differ = subst (λ ks. false ≡ are_call_fields ds scope ks) same
+    (ap (λ (b : Bool). b && inputs_given 0 (scope_items ds scope) ms) differ)
+
+pub fields_are : (ds : Decls) (n : ℕ) (ms ns given : List ℕ) (s : Structure) (r : Bool) → ms ≡ ns → Alike given ms
+    → slice_get ds.structures n ≡ Some s → length ns ≡ length s.fields → r ≡ are_all_in (length s.fields) given
+    → r ≡ are_fields_of ds n ns
+fields_are ds n ms ns given s r same alike at long is =
+    is ∙ all_alike given ms alike (length s.fields) ∙ ap (are_all_in (length s.fields)) same
+    ∙ ap (λ (b : Bool). b && are_all_in (length s.fields) ns) long_is
+    ∙ sym (ap (λ (r : Option Structure).
+    some_passes (λ fields. nat_eq (length ns) (length fields) && are_all_in (length fields) ns) (fields_in r)) at)
+  where
+    long_is : true ≡ nat_eq (length ns) (length s.fields)
+    long_is = grind (arith, nat_tests, long)
+
+pub not_as_many : (ds : Decls) (n : ℕ) (ns : List ℕ) (s : Structure) → slice_get ds.structures n ≡ Some s
+    → nat_eq (length ns) (length s.fields) ≡ false → false ≡ are_fields_of ds n ns
+not_as_many ds n ns s at other =
+    sym (ap (λ (b : Bool). b && are_all_in (length s.fields) ns) other)
+    ∙ sym (ap (λ (r : Option Structure).
+    some_passes (λ fields. nat_eq (length ns) (length fields) && are_all_in (length fields) ns) (fields_in r)) at)
+
+pub arms_are : (ds : Decls) (n : ℕ) (arms : List Arm) (ms given : List ℕ) (r : Bool) → ms ≡ cases_of arms
+    → Alike given ms → true ≡ anything_is_last arms → true ≡ all_differ ms → ends_in_anything arms ≡ false
+    → r ≡ are_all_in (cases_in (slice_get ds.enumerations n)) given → r ≡ are_complete ds n arms
+arms_are ds n arms ms given r same alike last differ ends is =
+    is ∙ all_alike given ms alike (cases_in (slice_get ds.enumerations n))
+    ∙ ap (are_all_in (cases_in (slice_get ds.enumerations n))) same
+    ∙ sym (rw (sym last, sym (differ ∙ ap all_differ same), ends) refl)
+
+pub same_entry : {A : Type 0} (xs : List A) (i : ℕ) (d : A) → i < length xs → get_or xs i (get_or xs i d) ≡ get_or xs i d
+same_entry [] i d within = absurd (omega (arith, within))
+same_entry (x ∷ xs) zero d within = refl
+same_entry (x ∷ xs) (suc i) d within = same_entry xs i d (omega arith)

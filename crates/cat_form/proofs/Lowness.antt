@@ -17,6 +17,7 @@ use Rattle.cat_value.specs.Declarations.{highest}
 use Rattle.cat_value.specs.Heights.{highest_field, content_height, highest_content, structure_parts, enumeration_parts}
 use Rattle.cat_value.specs.Heights.{highest_part, height_to}
 use Rattle.cat_value.specs.Laws.{height_of}
+use Rattle.cat_scope.specs.Fitting.{is_low_type}
 use Rattle.cat_form.specs.declared.here.HeightTable.{HeightTable}
 use Rattle.cat_form.specs.Tabled.{AreHeightsOf, is_low_entry}
 
@@ -134,6 +135,10 @@ by_parts ss es (suc k) t part some is =
 pub list_low : (ss : List Structure) (es : List Enumeration) (k : ℕ) (t : Ty) → 0 < k
     → nat_le (height_to ss es (k - 1) t) (k - 1) ≡ nat_le (height_to ss es k (ty.List t)) k
 list_low ss es k t some = by_parts ss es k (ty.List t) (height_to ss es (k - 1) t) some (rw (ty.outs-List t) refl)
+
+pub list_is_low : (ds : Decls) (t : Ty)
+    → nat_le (height_to ds.structures ds.enumerations 63 t) 63 ≡ is_low_type ds (ty.List t)
+list_is_low ds t = list_low ds.structures ds.enumerations 64 t (omega arith)
 
 no_parts : (k : ℕ) → true ≡ nat_le 0 (k - 1)
 no_parts k = grind (arith, nat_tests)

@@ -1,14 +1,13 @@
 // Whether fields, inputs and arms are complete.
 ghost use Rattle.std.specs.Prelude.{◌≡◌, IfOk, slice_get};
 ghost use Rattle.cat_scope.specs.Fitting as words;
-ghost use Rattle.cat_scope.specs.Names.{are_all_in};
+ghost use Rattle.cat_scope.specs.Names.{are_all_in, inputs_given, scope_items};
 ghost use Rattle.cat_form.specs.Tabled.{IsTabled};
 
 use crate::Here;
 use crate::number_set::{NumberSet, set_of};
 use cat_pos::{List, Numbers};
-use cat_scope::{ArmPattern, Arms, FieldValues};
-use cat_value::declarations_are_sound;
+use cat_scope::{Arm, ArmPattern, Arms, FieldValues};
 use std::alloc::{AllocError, Global};
 
 /// Whether each field of a structure is there once.
@@ -18,12 +17,12 @@ pub fn are_fields_of(here: &Here, structure: u32, values: &FieldValues) -> Resul
     let Some(declared) = here.decls.structures.get(structure as usize) else {
         return Ok(false);
     };
-    if values.len() != declared.fields.len() {
+    let numbers = numbers_in(here.alloc, values)?;
+    if numbers.len() != declared.fields.len() {
         return Ok(false);
     }
-    let (given, _) = set_of(here.alloc, &numbers_in(here.alloc, values)?)?;
-    declarations_are_sound(here.decls);
-    Ok(given.has_all(declared.fields.len() as u32))
+    let (given, _) = set_of(here.alloc, numbers.as_slice())?;
+    Ok(has_below(&given, declared.fields.len())?)
 }
 
 /// Whether a scope is given each input that is no condition, and nothing twice.
@@ -31,10 +30,32 @@ pub fn are_call_fields(here: &Here, scope: u32, values: &FieldValues) -> Result<
     requires { IsTabled here.now }
     ensures { IfOk result (λ r. r ≡ words.are_call_fields here.now.decls.now scope (words.numbers_in values.now)) }
 {
-    let (given, differ) = set_of(here.alloc, &numbers_in(here.alloc, values)?)?;
+    let numbers = numbers_in(here.alloc, values)?;
+    let (given, differ) = set_of(here.alloc, numbers.as_slice())?;
+    if !differ {
+        return Ok(false);
+    }
+    Ok(has_inputs(here, scope, &given))
+}
+
+/// Whether each input of a scope that must be given is there.
+fn has_inputs(here: &Here, scope: u32, given: &NumberSet) -> bool
+    requires { IsTabled here.now }
+    ensures { result ≡ inputs_given 0 (scope_items here.now.decls.now scope) given.now }
+{
     match here.inputs.get(scope as usize) {
-        Some(required) => Ok(differ && given.has_each(required)),
-        None => Ok(differ),
+        Some(required) => given.has_each(required),
+        None => true,
+    }
+}
+
+/// Whether each number below a bound is there.
+fn has_below(given: &NumberSet, count: usize) -> Result<bool, AllocError>
+    ensures { IfOk result (λ r. r ≡ are_all_in count given.now) }
+{
+    match u32::try_from(count) {
+        Ok(count) => Ok(given.has_all(count)),
+        Err(_) => Err(AllocError),
     }
 }
 
@@ -52,20 +73,27 @@ fn numbers_in(alloc: Global, values: &FieldValues) -> Result<Numbers, AllocError
 pub fn are_complete(here: &Here, enumeration: u32, arms: &Arms) -> Result<bool, AllocError>
     ensures { IfOk result (λ r. r ≡ words.are_complete here.now.decls.now enumeration arms.now) }
 {
-    let (cases, differ) = set_of(here.alloc, &cases_of(here.alloc, arms)?)?;
-    if !anything_is_last(arms) || !differ {
+    let numbers = cases_of(here.alloc, arms)?;
+    let (cases, differ) = set_of(here.alloc, numbers.as_slice())?;
+    if !anything_is_last(arms) {
         return Ok(false);
     }
-    Ok(ends_in_anything(arms) || has_all_cases(here, enumeration, &cases))
+    if !differ {
+        return Ok(false);
+    }
+    if ends_in_anything(arms.as_slice()) {
+        return Ok(true);
+    }
+    Ok(has_all_cases(here, enumeration, &cases)?)
 }
 
-fn has_all_cases(here: &Here, enumeration: u32, cases: &NumberSet) -> bool
-    ensures { result ≡ are_all_in (words.cases_in (slice_get here.now.decls.now.enumerations enumeration)) cases.now }
+fn has_all_cases(here: &Here, enumeration: u32, cases: &NumberSet) -> Result<bool, AllocError>
+    ensures { IfOk result (λ r. r
+        ≡ are_all_in (words.cases_in (slice_get here.now.decls.now.enumerations enumeration)) cases.now) }
 {
-    declarations_are_sound(here.decls);
     match here.decls.enumerations.get(enumeration as usize) {
-        Some(declared) => cases.has_all(declared.cases.len() as u32),
-        None => true,
+        Some(declared) => has_below(cases, declared.cases.len()),
+        None => Ok(true),
     }
 }
 
@@ -102,10 +130,10 @@ fn anything_is_last(arms: &Arms) -> bool
     true
 }
 
-fn ends_in_anything(arms: &Arms) -> bool
+fn ends_in_anything(arms: &[Arm]) -> bool
     ensures { result ≡ words.ends_in_anything arms.now }
 {
-    match arms.as_slice().last() {
+    match arms.last() {
         Some(arm) => is_anything(arm.pattern),
         None => false,
     }

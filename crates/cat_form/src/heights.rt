@@ -22,11 +22,19 @@ pub fn list_type(here: &Here, place: Pos, element: &Ty) -> Result<Ty, Refusal>
     ensures { Tells result (where_true (is_low_type (names_at here.now).decls (types.List element.now))
         (faults.TooMany place) (Ok (types.List element.now))) }
 {
-    if !is_low(here, element, HIGHEST - 1) {
+    if !is_list_low(here, element) {
         return Err(Refusal::Refused(Fault::TooMany(place)));
     }
     let element = copy_ty(here.alloc, element)?;
     Ok(Ty::List(Boxed::new(here.alloc, element)?))
+}
+
+/// Whether a list of elements of that type is no higher than types may be.
+fn is_list_low(here: &Here, element: &Ty) -> bool
+    requires { IsTabled here.now }
+    ensures { result ≡ is_low_type here.now.decls.now (types.List element.now) }
+{
+    is_low(here, element, HIGHEST - 1)
 }
 
 /// Whether a type is at most so high.

@@ -1,5 +1,5 @@
 // What names of values stand for.
-ghost use Rattle.std.specs.Prelude.{◌≡◌, IfOk, option_map, option_and_then};
+ghost use Rattle.std.specs.Prelude.{◌≡◌, ◌<◌, IfOk, IfSome, length};
 ghost use Rattle.std.specs.Option.{option_copied};
 ghost use Rattle.cat_tree.specs.declared.expression.Node.TheViews.{out-Node};
 ghost use Rattle.cat_scope.specs.Names as scope_words;
@@ -13,7 +13,7 @@ ghost use Rattle.cat_form.specs.Tabled.{IsTabled, names_at};
 ghost use Rattle.cat_form.specs.Taken.{at_number, lent, output_found};
 
 use crate::{Here, Resolved};
-use cat_names::{Fault, Locals, Refusal};
+use cat_names::{Fault, Local, Locals, Refusal};
 use cat_pos::{Pos, Text};
 use cat_scope::Expr;
 use cat_tree::{Name, Node};
@@ -24,7 +24,7 @@ use std::alloc::AllocError;
 fn innermost<'a>(locals: &'a Locals, name: &Text) -> Result<Option<(u32, &'a Ty)>, AllocError>
     ensures { IfOk result (λ found. shown found ≡ lookups.innermost name.now locals.now) }
 {
-    match last_named(locals, name) {
+    match last_named(locals.as_slice(), name) {
         Some(number) => match u32::try_from(number) {
             Ok(narrow) => Ok(Some((narrow, &locals.at(number).ty))),
             Err(_) => Err(AllocError),
@@ -33,11 +33,12 @@ fn innermost<'a>(locals: &'a Locals, name: &Text) -> Result<Option<(u32, &'a Ty)
     }
 }
 
-fn last_named(locals: &Locals, name: &Text) -> Option<usize>
-    ensures { at_number result locals.now ≡ lookups.innermost name.now locals.now }
+fn last_named(locals: &[Local], name: &Text) -> Option<usize>
+    ensures last { at_number result locals.now ≡ lookups.innermost name.now locals.now }
+    ensures within { IfSome result (λ number. number < length locals.now) }
 {
     let mut last = None;
-    for (number, local) in locals.as_slice().iter().enumerate() {
+    for (number, local) in locals.iter().enumerate() {
         if local.name != *name {
             continue;
         }

@@ -71,13 +71,13 @@ impl NumberSet {
 }
 
 /// The set of some numbers, and whether all of them differ.
-pub fn set_of(alloc: Global, numbers: &Numbers) -> Result<(NumberSet, bool), AllocError>
+pub fn set_of(alloc: Global, numbers: &[u32]) -> Result<(NumberSet, bool), AllocError>
     ensures same { IfOk result (λ r. (k : ℕ) → is_in k r.0 ≡ is_in k numbers.now) }
     ensures differ { IfOk result (λ r. r.1 ≡ all_differ numbers.now) }
 {
     let mut set = NumberSet::new(alloc);
     let mut differ = true;
-    for number in numbers.as_slice() {
+    for number in numbers {
         if set.add(*number)? {
             continue;
         }

@@ -16,7 +16,7 @@ returns-in-List t c =
     let some : 0 < c.args.most = grind (arith, nat_tests, c.if-most-eq0.false) in
     c.is_low.ensures
     ∙ ap (λ u. nat_le (height_to ds.structures ds.enumerations (c.args.most - 1) u) (c.args.most - 1)) c.get.ensures
-    ∙ list_low ds.structures ds.enumerations c.args.most c.in-List.element.now some
+    ∙ list_low ds.structures ds.enumerations c.args.most c.in-List.element some
     ∙ ap (λ u. nat_le (height_to ds.structures ds.enumerations c.args.most u) c.args.most) (sym c.in-List.is)
 
 pub returns-in-Structure : goal.returns-in-Structure
@@ -25,7 +25,7 @@ returns-in-Structure t c =
     let some : 0 < c.args.most = grind (arith, nat_tests, c.if-most-eq0.false) in
     let rest : highest - c.args.most + c.args.most ≡ highest = omega (arith, c.requires.within) in
     c.is_entry_low.ensures
-    ∙ structure_low ds c.args.here.now.heights.now c.requires.tabled.heights c.args.most c.in-Structure.structure.now
+    ∙ structure_low ds c.args.here.now.heights.now c.requires.tabled.heights c.args.most c.in-Structure.structure
     (highest - c.args.most) rest some
     ∙ ap (λ u. nat_le (height_to ds.structures ds.enumerations c.args.most u) c.args.most) (sym c.in-Structure.is)
 
@@ -35,7 +35,7 @@ returns-in-Enumeration t c =
     let some : 0 < c.args.most = grind (arith, nat_tests, c.if-most-eq0.false) in
     let rest : highest - c.args.most + c.args.most ≡ highest = omega (arith, c.requires.within) in
     c.is_entry_low-in-Enumeration.ensures
-    ∙ enumeration_low ds c.args.here.now.heights.now c.requires.tabled.heights c.args.most c.in-Enumeration.enumeration.now
+    ∙ enumeration_low ds c.args.here.now.heights.now c.requires.tabled.heights c.args.most c.in-Enumeration.enumeration
     (highest - c.args.most) rest some
     ∙ ap (λ u. nat_le (height_to ds.structures ds.enumerations c.args.most u) c.args.most) (sym c.in-Enumeration.is)
 
