@@ -34,7 +34,8 @@ pub fn infer_under(
     expected: Option<&Ty>,
 ) -> Result<Resolved, Refusal>
     requires { IsTabled here.now }
-    ensures told { Tells result (meant (names_at here.now) body.now (locals.old ++ local ∷ []) (option_copied expected.entry)) }
+    ensures told { Tells result
+        (meant (names_at here.now) body.now (locals.old ++ local ∷ []) (option_copied expected.entry)) }
     ensures kept { OnOk result (locals.new ≡ locals.old) }
 {
     locals.push(local)?;
@@ -73,7 +74,9 @@ pub fn infer_arms(
     expected: Option<&Ty>,
 ) -> Result<(Bodies, Ty), Refusal>
     requires { IsTabled here.now }
-    ensures told { Tells result (arms_of (arm_meant (names_at here.now)) (names_at here.now) of.0 of.1 arms.now locals.old (option_copied expected.entry)) }
+    ensures told { Tells result
+        (arms_of (arm_meant (names_at here.now)) (names_at here.now) of.0 of.1
+        arms.now locals.old (option_copied expected.entry)) }
     ensures kept { OnOk result (locals.new ≡ locals.old) }
 {
     let Some((first, rest)) = parted(arms) else {
@@ -95,7 +98,9 @@ pub fn infer_more_arms(
     made: Bodies,
 ) -> Result<Bodies, Refusal>
     requires { IsTabled here.now }
-    ensures told { Tells result (behind made (all_arms (arm_meant (names_at here.now)) (names_at here.now) of.0 of.1 arms.now locals.old ty.now)) }
+    ensures told { Tells result
+        (behind made (all_arms (arm_meant (names_at here.now)) (names_at here.now) of.0 of.1
+        arms.now locals.old ty.now)) }
     ensures kept { OnOk result (locals.new ≡ locals.old) }
 {
     let mut made = made;
@@ -115,7 +120,9 @@ pub fn infer_arm(
     expected: Option<&Ty>,
 ) -> Result<(Body, Ty), Refusal>
     requires { IsTabled here.now }
-    ensures told { Tells result (arm_of (names_at here.now) of.0 of.1 (arm_meant (names_at here.now) arm.now) locals.old (option_copied expected.entry)) }
+    ensures told { Tells result
+        (arm_of (names_at here.now) of.0 of.1 (arm_meant (names_at here.now) arm.now) locals.old
+        (option_copied expected.entry)) }
     ensures kept { OnOk result (locals.new ≡ locals.old) }
 {
     let (pattern, local) = arm_pattern(here, of.0, of.1, &arm.pattern)?;
@@ -135,7 +142,8 @@ pub fn infer_body(
     expected: Option<&Ty>,
 ) -> Result<Resolved, Refusal>
     requires { IsTabled here.now }
-    ensures told { Tells result (meant (names_at here.now) body.now (with_local locals.old local) (option_copied expected.entry)) }
+    ensures told { Tells result
+        (meant (names_at here.now) body.now (with_local locals.old local) (option_copied expected.entry)) }
     ensures kept { OnOk result (locals.new ≡ locals.old) }
 {
     match local {
@@ -209,7 +217,8 @@ pub fn infer_under_two(
     expected: &Ty,
 ) -> Result<Resolved, Refusal>
     requires { IsTabled here.now }
-    ensures told { Tells result (meant (names_at here.now) body.now (locals.old ++ outer ∷ [] ++ inner ∷ []) (Some expected.now)) }
+    ensures told { Tells result
+        (meant (names_at here.now) body.now (locals.old ++ outer ∷ [] ++ inner ∷ []) (Some expected.now)) }
     ensures kept { OnOk result (locals.new ≡ locals.old) }
 {
     locals.push(outer)?;

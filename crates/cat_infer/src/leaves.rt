@@ -43,7 +43,8 @@ pub fn infer_name(
 /// A case without content.
 pub fn infer_case(here: &Here, named: &CaseName, expected: Option<&Ty>) -> Result<Resolved, Refusal>
     requires { IsTabled here.now }
-    ensures { Tells result (as_expected (option_copied expected.entry) (and_then (case_found (names_at here.now) named.now)
+    ensures { Tells result
+        (as_expected (option_copied expected.entry) (and_then (case_found (names_at here.now) named.now)
         (λ k. case_alone (case_first named.now) k (content_of (names_at here.now).decls k.0 k.1)))) }
 {
     let found = case(here, named)?;

@@ -97,7 +97,8 @@ pub fn infer_elements(
     expected: Option<&Ty>,
 ) -> Result<(Exprs, Ty), Refusal>
     requires { IsTabled here.now }
-    ensures told { Tells result (elements_of (meant (names_at here.now)) place nodes.now locals.old (option_copied expected.entry)) }
+    ensures told { Tells result
+        (elements_of (meant (names_at here.now)) place nodes.now locals.old (option_copied expected.entry)) }
     ensures kept { OnOk result (locals.new ≡ locals.old) }
 {
     let Some((first, rest)) = parted(nodes) else {
@@ -145,7 +146,8 @@ pub fn infer_values(
     locals: &mut Locals,
 ) -> Result<Values, Refusal>
     requires { IsTabled here.now }
-    ensures told { Tells result (values_of (field_meant (names_at here.now)) (part_named here.now.decls.now owner) fields.now locals.old) }
+    ensures told { Tells result
+        (values_of (field_meant (names_at here.now)) (part_named here.now.decls.now owner) fields.now locals.old) }
     ensures kept { OnOk result (locals.new ≡ locals.old) }
 {
     let mut made = List::new(here.alloc);
@@ -163,7 +165,8 @@ pub fn infer_value(
     locals: &mut Locals,
 ) -> Result<Value, Refusal>
     requires { IsTabled here.now }
-    ensures told { Tells result (value_of (part_named here.now.decls.now owner) (field_meant (names_at here.now) field.now) locals.old) }
+    ensures told { Tells result
+        (value_of (part_named here.now.decls.now owner) (field_meant (names_at here.now) field.now) locals.old) }
     ensures kept { OnOk result (locals.new ≡ locals.old) }
 {
     let (number, ty) = part_named(here, owner, &field.name)?;

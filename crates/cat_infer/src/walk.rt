@@ -127,7 +127,9 @@ pub fn infer_inside(
     expected: Option<&Ty>,
 ) -> Result<Resolved, Refusal>
     requires { IsTabled here.now }
-    ensures told { Tells result (and_then (meant (names_at here.now) inner.now locals.old (option_copied expected.entry)) (λ x. Ok (starting place x))) }
+    ensures told { Tells result
+        (and_then (meant (names_at here.now) inner.now locals.old
+        (option_copied expected.entry)) (λ x. Ok (starting place x))) }
     ensures kept { OnOk result (locals.new ≡ locals.old) }
 {
     let inner = resolve(here, inner, locals, expected)?;
@@ -230,7 +232,9 @@ pub fn infer_two(
     locals: &mut Locals,
 ) -> Result<(Resolved, Resolved), Refusal>
     requires { IsTabled here.now }
-    ensures told { Tells result (paired (meant (names_at here.now) left.now locals.old None) (meant (names_at here.now) right.now locals.old None)) }
+    ensures told { Tells result
+        (paired (meant (names_at here.now) left.now locals.old None) (meant (names_at here.now) right.now
+        locals.old None)) }
     ensures kept { OnOk result (locals.new ≡ locals.old) }
 {
     let left = resolve(here, left, locals, None)?;
@@ -311,7 +315,8 @@ pub fn infer_branches(
     expected: Option<&Ty>,
 ) -> Result<(Resolved, Resolved), Refusal>
     requires { IsTabled here.now }
-    ensures told { Tells result (branches_of (meant (names_at here.now) yes.now) (meant (names_at here.now) no.now) locals.old
+    ensures told { Tells result
+        (branches_of (meant (names_at here.now) yes.now) (meant (names_at here.now) no.now) locals.old
         (option_copied expected.entry)) }
     ensures kept { OnOk result (locals.new ≡ locals.old) }
 {
