@@ -85,7 +85,8 @@ cut_at ss es m (suc k) t =
     let high = height_step ss es (m + k) t in
     let same : height_to ss es (m + suc k) t ≡ height_to ss es (suc (m + k)) t =
     ap (λ (n : ℕ). height_to ss es n t) (omega arith) in
-    let parts = parts_cut ss es (suc k) (height_to ss es k) (height_to ss es (m + k)) (cut_at ss es m k) (ty.out-Ty t) in
+    let parts =
+    parts_cut ss es (suc k) (height_to ss es k) (height_to ss es (m + k)) (cut_at ss es m k) (ty.out-Ty t) in
     omega (arith, low, high, same, parts)
 
 -- so a test against the bound tells the same of both
@@ -110,7 +111,8 @@ entry_at f n (x ∷ xs) (suc i) =
 -- no type is so low
 pub none_low : (ss : List Structure) (es : List Enumeration) (k : ℕ) (t : Ty) → k ≡ 0
     → false ≡ nat_le (height_to ss es k t) k
-none_low ss es k t zero_is = by (height_to ss es k t) (ap (λ (n : ℕ). height_to ss es n t) zero_is ∙ height_none ss es t)
+none_low ss es k t zero_is = by (height_to ss es k t)
+    (ap (λ (n : ℕ). height_to ss es n t) zero_is ∙ height_none ss es t)
   where
     by : (h : ℕ) → h ≡ 1 → false ≡ nat_le h k
     by h is = grind (arith, nat_tests, is, zero_is)
@@ -170,7 +172,8 @@ module _ (ds : Decls) (heights : HeightTable) (are : AreHeightsOf ds heights) wh
       by : (s : Option Structure) → slice_get ds.structures n ≡ s
           → is_low_entry (slice_get heights.structures n) k
           ≡ nat_le (height_to ds.structures ds.enumerations k (flat.Structure n)) k
-      by None none = ap (λ h. is_low_entry h k) (entry ∙ ap (option_map (λ s. height_of ds (flat.Structure (0 + n)))) none)
+      by None none = ap (λ h. is_low_entry h k)
+          (entry ∙ ap (option_map (λ s. height_of ds (flat.Structure (0 + n)))) none)
           ∙ flat_low ds.structures ds.enumerations k (flat.Structure n) some
           (rw (ty.outs-Structure n, none) refl)
       by (Some s) found = ap (λ h. is_low_entry h k)

@@ -1,5 +1,6 @@
 -- What forms take from their parts and from names.
-use Rattle.std.specs.Prelude.{ℕ, List, [], ◌∷◌, ◌++◌, Option, Some, None, Result, Ok, Err, nat_eq, slice_get, option_map, min}
+use Rattle.std.specs.Prelude.{ℕ, List, [], ◌∷◌, ◌++◌, Option, Some, None, Result, Ok, Err, nat_eq, slice_get}
+use Rattle.std.specs.Prelude.{option_map, min}
 use Rattle.std.specs.Borrow.{Bor}
 use Rattle.std.specs.Option.{is_some}
 use Rattle.cat_pos.specs.declared.pos.Pos.{Pos}

@@ -16,7 +16,8 @@ pub loop-number-preserved : goal.loop-number-preserved
 loop-number-preserved c =
     let same : bytes_eq c.index-locals-number.result.name c.args.name.now ≡ true = search rules in
     let within : c.loop-number.number < length c.args.locals.now = search rules in (
-      hit_at c.args.name.now c.args.locals.now c.loop-number.number c.index-locals-number.result within (sym c.index-locals-number.is)
+      hit_at c.args.name.now c.args.locals.now c.loop-number.number c.index-locals-number.result within
+          (sym c.index-locals-number.is)
           same,
       within,
     )
