@@ -1,7 +1,9 @@
 -- What each form means, part after part: then the exit of a part is the exit of the whole.
-use Rattle.std.proofs.Common.{◌≡◌, ◌∙◌, ℕ, zero, suc, List, [], ◌∷◌, ◌++◌, Option, Some, None, Result, Ok, Err, refl, ap}
-use Rattle.std.proofs.Common.{sym, min, option_map, rules}
+use Rattle.std.proofs.Common.{◌≡◌, ◌∙◌, ℕ, zero, suc, List, [], ◌∷◌, ◌++◌, Option, Some, None, Ok, Err, refl, ap}
+use Rattle.std.proofs.Common.{sym, min, option_map, arith, rules}
 use Rattle.std.proofs.lemmas.List.{append_assoc}
+use Rattle.std.proofs.Common.{Bool, true, false, nat_eq}
+use Rattle.std.specs.Option.{is_some}
 use Rattle.cat_pos.specs.declared.pos.Pos.{Pos}
 use Rattle.cat_value.specs.declared.ty.Ty.{Ty}
 use Rattle.cat_value.specs.declared.ty.Ty.TheViews as types
@@ -11,18 +13,26 @@ use Rattle.cat_tree.specs.declared.name.CaseName.{CaseName}
 use Rattle.cat_tree.specs.declared.name.Type as written
 use Rattle.cat_tree.specs.declared.expression.Operator.{Operator}
 use Rattle.cat_tree.specs.declared.expression.Each.{Each}
+use Rattle.cat_tree.specs.declared.expression.Pattern.{Pattern}
+use Rattle.cat_tree.specs.declared.expression.Pattern.TheVariants as patterns
+use Rattle.cat_tree.specs.declared.expression.Arm.{Arm}
 use Rattle.cat_tree.specs.declared.expression.Node.{Node}
 use Rattle.cat_tree.specs.declared.expression.Node.TheViews as node
 use Rattle.cat_tree.specs.declared.expression.Node.TheViews.{out-Node}
+use Rattle.cat_scope.specs.declared.expr.Arm as bodies
+use Rattle.cat_scope.specs.declared.expr.Expr.{Expr}
+use Rattle.cat_scope.specs.declared.expr.ArmPattern.{ArmPattern}
+use Rattle.cat_scope.specs.declared.expr.ArmPattern.TheVariants as resolved
 use Rattle.cat_scope.specs.Names.{Names}
 use Rattle.cat_names.specs.declared.typed.Local.{Local}
 use Rattle.cat_names.specs.declared.typed.Typed.{Typed}
-use Rattle.cat_names.specs.declared.fault.Fault.TheVariants.{NameUnknown, TypeMismatch}
+use Rattle.cat_names.specs.declared.fault.Fault.{Fault}
+use Rattle.cat_names.specs.declared.fault.Fault.TheVariants.{MatchCases, NameUnknown, TypeMismatch}
 use Rattle.cat_names.specs.Compound.{combine_over, content_of_type, dotted, over_list}
-use Rattle.cat_names.specs.Found.{Found, and_then, both, faulty, or_fault}
+use Rattle.cat_names.specs.Found.{Found, and_then, both, faulty, or_fault, where_true}
 use Rattle.cat_names.specs.Forms.{bound, combine_of, each_of, output_of}
 use Rattle.cat_names.specs.Lookup.{base_type, nested_list, type_found, type_names}
-use Rattle.cat_names.specs.Meaning.{meant, name_alone}
+use Rattle.cat_names.specs.Meaning.{arm_meant, meant, name_alone}
 use Rattle.cat_names.specs.Naming.{Called, called_scope, case_found, case_first}
 use Rattle.cat_names.specs.Operations.{as_expected, binary_of, sum_of}
 use Rattle.cat_names.specs.Parts.{Meaning}
@@ -32,8 +42,9 @@ use Rattle.cat_names.proofs.Exported.{meant_Binary, meant_Call, meant_Case, mean
 use Rattle.cat_names.proofs.Exported.{meant_Field, meant_If, meant_List, meant_Literal, meant_Match, meant_Name}
 use Rattle.cat_names.proofs.Exported.{meant_Parens, meant_Prefixed, meant_ScopeCall, meant_Structure, meant_Sum}
 use Rattle.cat_names.proofs.Exported.{meant_Test, views}
-use Rattle.cat_form.specs.Taken.{content_bound, cut, element_bound, output_found, some_content, with_content, with_local}
-use Rattle.cat_infer.specs.inside.Chains.{or_field, paired}
+use Rattle.cat_form.specs.Taken.{content_bound, cut, element_bound, none_of, output_found, pattern_bound}
+use Rattle.cat_form.specs.Taken.{some_content, with_content, with_local}
+use Rattle.cat_infer.specs.inside.Chains.{behind, or_field, paired}
 
 -- two parts, and then what follows from them
 both_is : {A B C : Type 0} (a : Found A) (b : Found B) (go : A → B → Found C)
@@ -123,6 +134,9 @@ sums : (p : Pos) (t u : Ty) (l : Found Typed)
 sums p t u (Ok l) = no_sum p t l ∙ sym (no_sum p u l)
 sums p t u (Err fs) = refl
 
+one : (n : ℕ) → 1 ≡ min (suc (suc n)) 1
+one n = omega arith
+
 sum_cut : (p at : Pos) (n : ℕ) (t : Option Ty) (l : Found Typed)
     → both (or_fault (NameUnknown at) (option_map (nested_list n) t)) l (sum_of p)
     ≡ both (or_fault (NameUnknown at) (option_map (nested_list (min n 1)) t)) l (sum_of p)
@@ -130,6 +144,7 @@ sum_cut p at n None l = refl
 sum_cut p at zero (Some t) l = refl
 sum_cut p at (suc zero) (Some t) l = refl
 sum_cut p at (suc (suc n)) (Some t) l = sums p (nested_list (suc n) t) t l
+    ∙ ap (λ (k : ℕ). both (Ok (nested_list k t)) l (sum_of p)) (one n)
 
 pub chain_Sum : (ns : Names) (p : Pos) (t : written.Type) (l : Node) (ls : List Local) (ex : Option Ty)
     → meant ns (node.Sum p t l) ls ex ≡ as_expected ex
@@ -157,12 +172,103 @@ chain_Content ns c e ls ex = meant_Content ns c e ls ex
     (λ k. content_is (case_first c) k (meant ns e) ls (content_of ns.decls k.0 k.1)))
 
 -- an arm, and what its pattern binds
-bound_is : (p : Pos) (w : Option Name) (content : Option (Option Ty)) (ls : List Local)
-    → parts.with_content p w content ls ≡ and_then (content_bound p w content) (λ local. Ok (with_local ls local))
-bound_is p None content ls = refl
-bound_is p (Some w) None ls = refl
-bound_is p (Some w) (Some None) ls = refl
-bound_is p (Some w) (Some (Some t)) ls = refl
+bound_on : {A : Type 0} (p : Pos) (q : ArmPattern) (w : Option Name) (content : Option (Option Ty)) (ls : List Local)
+    (go : ArmPattern × List Local → Found A)
+    → and_then (and_then {B = ArmPattern × List Local} (parts.with_content p w content ls)
+    (λ inside. Ok (q, inside))) go
+    ≡ and_then (and_then {B = ArmPattern × Option Local} (content_bound p w content) (λ local. Ok (q, local)))
+    (λ b. go (b.0, with_local ls b.1))
+bound_on p q None content ls go = refl
+bound_on p q (Some w) None ls go = refl
+bound_on p q (Some w) (Some None) ls go = refl
+bound_on p q (Some w) (Some (Some t)) ls go = refl
+
+tested_on : {A B C : Type 0} (test : Bool) (fault : Fault) (a : Found A) (b : Found B) (go : A → Found C)
+    (more : B → Found C) → and_then a go ≡ and_then b more
+    → and_then (where_true test fault a) go ≡ and_then (where_true test fault b) more
+tested_on true fault a b go more same = same
+tested_on false fault a b go more same = refl
+
+found_on : {A B C D : Type 0} (found : Found D) (f : D → Found A) (g : D → Found B) (go : A → Found C)
+    (more : B → Found C) → ((d : D) → and_then (f d) go ≡ and_then (g d) more)
+    → and_then (and_then found f) go ≡ and_then (and_then found g) more
+found_on (Ok d) f g go more same = same d
+found_on (Err fs) f g go more same = refl
+
+abbrev names_of : Pos → Option Name → Option (Option Ty) → List Local → ℕ → Found (ArmPattern × List Local)
+names_of p w content ls k =
+    and_then (parts.with_content p w content ls) (λ inside. Ok (resolved.Case k (is_some w), inside))
+
+abbrev name_of : Pos → Option Name → Option (Option Ty) → ℕ → Found (ArmPattern × Option Local)
+name_of p w content k = and_then (content_bound p w content) (λ local. Ok (resolved.Case k (is_some w), local))
+
+pattern_is : {A : Type 0} (ns : Names) (p : Pos) (n : ℕ) (q : Pattern) (ls : List Local)
+    (go : ArmPattern × List Local → Found A) → and_then (parts.pattern_of ns p n q ls) go
+    ≡ and_then (pattern_bound ns p n q) (λ b. go (b.0, with_local ls b.1))
+pattern_is ns p n patterns.Anything ls go = refl
+pattern_is ns p n (patterns.Case c w) ls go = found_on (case_found ns c)
+    (λ k. where_true (nat_eq k.0 n) (MatchCases p) (names_of p w (content_of ns.decls n k.1) ls k.1))
+    (λ k. where_true (nat_eq k.0 n) (MatchCases p) (name_of p w (content_of ns.decls n k.1) k.1))
+    go (λ b. go (b.0, with_local ls b.1))
+    (λ k. tested_on (nat_eq k.0 n) (MatchCases p) (names_of p w (content_of ns.decls n k.1) ls k.1)
+    (name_of p w (content_of ns.decls n k.1) k.1) go (λ b. go (b.0, with_local ls b.1))
+    (bound_on p (resolved.Case k.1 (is_some w)) w (content_of ns.decls n k.1) ls go))
+
+pub chain_arm : (ns : Names) (p : Pos) (n : ℕ) (a : Arm) (ls : List Local) (ex : Option Ty)
+    → parts.arm_of ns p n (arm_meant ns a) ls ex ≡ and_then (pattern_bound ns p n a.pattern)
+    (λ b. and_then (meant ns a.body (with_local ls b.1) ex)
+    (λ x. Ok (record { pattern = b.0; body = x.expr }, x.ty)))
+chain_arm ns p n a ls ex = pattern_is {A = bodies.Arm × Ty} ns p n a.pattern ls
+    (λ q. and_then (meant ns a.body q.1 ex) (λ x. Ok (record { pattern = q.0; body = x.expr }, x.ty)))
+
+pub ruleset arms = (chain_arm)
+
+-- a first part, and those behind it
+led_by : {A B : Type 0} (x : A) (t : B) (found : Found (List A))
+    → and_then {B = List A × B} found (λ xs. Ok (x ∷ xs, t))
+    ≡ and_then {B = List A × B} (behind (x ∷ []) found) (λ xs. Ok (xs, t))
+led_by x t (Ok xs) = refl
+led_by x t (Err fs) = refl
+
+pub chain_arms : (ns : Names) (p : Pos) (n : ℕ) (all : List Arm) (a : Arm) (rest : List Arm) (ls : List Local)
+    (ex : Option Ty) → all ≡ a ∷ rest → parts.arms_of (arm_meant ns) ns p n all ls ex
+    ≡ and_then (parts.arm_of ns p n (arm_meant ns a) ls ex) (λ x.
+    and_then (behind (x.0 ∷ []) (parts.all_arms (arm_meant ns) ns p n rest ls x.1)) (λ xs. Ok (xs, x.1)))
+chain_arms ns p n all a rest ls ex is = ap (λ arms. parts.arms_of (arm_meant ns) ns p n arms ls ex) is
+    ∙ alike (parts.arm_of ns p n (arm_meant ns a) ls ex)
+    (λ x. and_then {B = List bodies.Arm × Ty} (parts.all_arms (arm_meant ns) ns p n rest ls x.1)
+    (λ xs. Ok (x.0 ∷ xs, x.1)))
+    (λ x. and_then {B = List bodies.Arm × Ty} (behind (x.0 ∷ []) (parts.all_arms (arm_meant ns) ns p n rest ls x.1))
+    (λ xs. Ok (xs, x.1)))
+    (λ x. led_by x.0 x.1 (parts.all_arms (arm_meant ns) ns p n rest ls x.1))
+
+pub no_arms : (ns : Names) (p : Pos) (n : ℕ) (all : List Arm) (ls : List Local) (ex : Option Ty) → all ≡ []
+    → parts.arms_of (arm_meant ns) ns p n all ls ex ≡ faulty (MatchCases p)
+no_arms ns p n all ls ex is = ap (λ arms. parts.arms_of (arm_meant ns) ns p n arms ls ex) is
+
+pub ruleset all_arms = (chain_arms, no_arms)
+
+pub chain_elements : (ns : Names) (p : Pos) (all : List Node) (e : Node) (rest : List Node) (ls : List Local)
+    (ex : Option Ty) → all ≡ e ∷ rest → parts.elements_of (meant ns) p all ls ex
+    ≡ and_then (meant ns e ls ex) (λ x.
+    and_then (behind (x.expr ∷ []) (parts.all_of_type (meant ns) rest ls x.ty)) (λ xs. Ok (xs, x.ty)))
+chain_elements ns p all e rest ls ex is = ap (λ es. parts.elements_of (meant ns) p es ls ex) is
+    ∙ alike (meant ns e ls ex)
+    (λ x. and_then {B = List Expr × Ty} (parts.all_of_type (meant ns) rest ls x.ty) (λ xs. Ok (x.expr ∷ xs, x.ty)))
+    (λ x. and_then {B = List Expr × Ty} (behind (x.expr ∷ []) (parts.all_of_type (meant ns) rest ls x.ty))
+    (λ xs. Ok (xs, x.ty)))
+    (λ x. led_by x.expr x.ty (parts.all_of_type (meant ns) rest ls x.ty))
+
+-- no elements
+pub chain_none : (ns : Names) (p : Pos) (all : List Node) (ls : List Local) (ex : Option Ty) → all ≡ []
+    → parts.elements_of (meant ns) p all ls ex ≡ none_of p ex
+chain_none ns p all ls ex is = ap (λ es. parts.elements_of (meant ns) p es ls ex) is ∙ none ex
+  where
+    none : (ex : Option Ty) → parts.elements_of (meant ns) p [] ls ex ≡ none_of p ex
+    none None = refl
+    none (Some t) = refl
+
+pub ruleset elements = (chain_elements, chain_none)
 
 -- what each form means, part after part
 pub ruleset chains = (

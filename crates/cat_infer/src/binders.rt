@@ -55,7 +55,8 @@ pub fn infer_match(
 ) -> Result<Resolved, Refusal>
     requires { IsTabled here.now }
     ensures told { Tells result (and_then (meant (names_at here.now) tested.now locals.old None)
-        (match_over (arm_meant (names_at here.now)) (names_at here.now) place arms.now locals.old (option_copied expected.entry))) }
+        (match_over (arm_meant (names_at here.now)) (names_at here.now) place arms.now locals.old
+        (option_copied expected.entry))) }
     ensures kept { OnOk result (locals.new ≡ locals.old) }
 {
     let tested = resolve(here, tested, locals, None)?;
@@ -66,6 +67,7 @@ pub fn infer_match(
 
 /// The arms of a match at a position for the enumeration of a number: those behind the first have its type.
 #[cycle(walk)]
+#[tactic(auto, using(crate::proofs::Chains::all_arms))]
 pub fn infer_arms(
     here: &Here,
     of: (Pos, u32),
@@ -112,6 +114,7 @@ pub fn infer_more_arms(
 }
 
 #[cycle(walk)]
+#[tactic(auto, using(crate::proofs::Chains::arms))]
 pub fn infer_arm(
     here: &Here,
     of: (Pos, u32),
@@ -193,7 +196,8 @@ pub fn infer_combine(
 ) -> Result<Resolved, Refusal>
     requires { IsTabled here.now }
     ensures told { Tells result (as_expected (option_copied expected.entry)
-        (and_then (paired (meant (names_at here.now) list.now locals.old None) (meant (names_at here.now) start.now locals.old None)) (λ x. and_then (element_bound place name.now x.0)
+        (and_then (paired (meant (names_at here.now) list.now locals.old None) (meant (names_at here.now) start.now
+        locals.old None)) (λ x. and_then (element_bound place name.now x.0)
         (λ local. and_then (meant (names_at here.now) body.now
         (locals.old ++ local ∷ [] ++ bound sum.now x.1.ty ∷ []) (Some x.1.ty)) (combine_of place x.0 x.1))))) }
     ensures kept { OnOk result (locals.new ≡ locals.old) }

@@ -89,6 +89,7 @@ pub fn infer_list(
 
 /// Elements: those behind the first have its type.
 #[cycle(walk)]
+#[tactic(auto, using(crate::proofs::Chains::elements))]
 pub fn infer_elements(
     here: &Here,
     place: Pos,

@@ -191,7 +191,8 @@ pub fn infer_sum(
 ) -> Result<Resolved, Refusal>
     requires { IsTabled here.now }
     ensures told { Tells result (as_expected (option_copied expected.entry)
-        (both (type_found (type_names here.now.decls.now) (cut ty.now)) (meant (names_at here.now) list.now locals.old None) (sum_of place))) }
+        (both (type_found (type_names here.now.decls.now) (cut ty.now)) (meant (names_at here.now) list.now
+        locals.old None) (sum_of place))) }
     ensures kept { OnOk result (locals.new ≡ locals.old) }
 {
     let ty = sum_type(here, ty)?;
@@ -254,7 +255,8 @@ pub fn infer_binary(
 ) -> Result<Resolved, Refusal>
     requires { IsTabled here.now }
     ensures told { Tells result (as_expected (option_copied expected.entry)
-        (and_then (paired (meant (names_at here.now) left.now locals.old None) (meant (names_at here.now) right.now locals.old None))
+        (and_then (paired (meant (names_at here.now) left.now locals.old None) (meant (names_at here.now) right.now
+        locals.old None))
         (λ operands. binary_of operator place operands.0 operands.1))) }
     ensures kept { OnOk result (locals.new ≡ locals.old) }
 {
@@ -275,7 +277,8 @@ pub fn infer_test(
 ) -> Result<Resolved, Refusal>
     requires { IsTabled here.now }
     ensures told { Tells result (as_expected (option_copied expected.entry)
-        (both (meant (names_at here.now) tested.now locals.old None) (case_found (names_at here.now) case.now) (test_of place))) }
+        (both (meant (names_at here.now) tested.now locals.old None) (case_found (names_at here.now) case.now)
+        (test_of place))) }
     ensures kept { OnOk result (locals.new ≡ locals.old) }
 {
     let case = case_named(here, case)?;
