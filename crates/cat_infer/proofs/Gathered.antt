@@ -1,8 +1,7 @@
 -- Parts of a list, found one after another.
 use Rattle.std.proofs.Common.{◌≡◌, ◌∙◌, ℕ, zero, suc, ◌+◌, ◌<◌, List, [], ◌∷◌, ◌++◌, length, drop, get_or, Ok}
-use Rattle.std.proofs.Common.{Err, refl, ap, sym, subst, arith}
-use Rattle.std.proofs.lemmas.List.{append_assoc, append-nil}
-use Rattle.std.proofs.Common.{slice_get, Option, Some, None}
+use Rattle.std.proofs.Common.{Err, None, Some, refl, ap, slice_get, sym, subst}
+use Rattle.std.proofs.lemmas.List.{append_assoc, append-nil, drop_more}
 use Rattle.std.proofs.lemmas.Option.{get_or_from_slice_get, slice_get_within}
 use Rattle.cat_value.specs.declared.ty.Ty.{Ty}
 use Rattle.cat_tree.specs.declared.expression.Node.{Node}
@@ -44,9 +43,7 @@ end_on made whole before = sym before ∙ ap Ok (append-nil made)
 -- what is left, one part on
 pub dropped : {A : Type 0} (xs : List A) (i : ℕ) (x : A) → i < length xs → get_or xs i x ≡ x
     → drop i xs ≡ x ∷ drop (i + 1) xs
-dropped [] i x within is = absurd (omega (arith, within))
-dropped (y ∷ xs) zero x within is = ap (λ z. z ∷ xs) is
-dropped (y ∷ xs) (suc i) x within is = dropped xs i x (omega arith) is
+dropped xs i x within is = drop_more xs i x within ∙ ap (λ y. y ∷ drop (i + 1) xs) is
 
 -- a list of parts, from a part on: where that part is found, the rest stands behind it
 pub turn_on : {A B C : Type 0} (part : A → Found C) (g : C → B) (rest : List A → Found (List B))
