@@ -1,5 +1,5 @@
 use Rattle.std.proofs.Common.{Ok, Err, None, Some, rules, ◌≡◌, ◌∙◌, ◌+◌, ◌<◌, drop, length, sym, ap, refl, ◌++◌, ◌∷◌}
-use Rattle.std.proofs.Common.{[], get_or, subst, slice_get, ℕ, ◌×◌}
+use Rattle.std.proofs.Common.{[], get_or, subst, slice_get, ℕ}
 use Rattle.std.proofs.lemmas.Result.{err_from_is_err_and}
 use Rattle.std.specs.Option.{option_copied}
 use Rattle.cat_names.specs.Compound.{branches_of, scope_call_of}
