@@ -2,7 +2,7 @@
 use Rattle.std.proofs.Common.{◌≡◌, ◌∙◌, ℕ, zero, suc, ◌+◌, ◌-◌, ◌<◌, ◌&&◌, ◌||◌, Bool, true, false, not, cond, nat_eq}
 use Rattle.std.proofs.Common.{List, []}
 use Rattle.std.proofs.Common.{◌∷◌, ◌++◌, take, length, get_or, slice_get, map, option_map, Option, Some, None, refl}
-use Rattle.std.proofs.Common.{sym, ap, subst, arith}
+use Rattle.std.proofs.Common.{sym, ap, subst, arith, rules}
 use Rattle.std.specs.List.{list_all, list_any}
 use Rattle.std.proofs.lemmas.Bool.Decides.{nat_tests}
 use Rattle.std.proofs.lemmas.List.{take_more}
@@ -143,8 +143,8 @@ any_in (n ∷ ns) k = rw (any_in ns k) (by (nat_eq k n) (is_in k ns))
 pub added_in : (old new : List ℕ) (n : ℕ)
     → ((w : ℕ) → list_any (nat_eq w) new ≡ cond (nat_eq n w) true (list_any (nat_eq w) old))
     → (k : ℕ) → is_in k new ≡ (nat_eq k n || is_in k old)
-added_in old new n added k = sym (any_in new k) ∙ added k
-    ∙ rw (any_in old k, swapped n k) (by (nat_eq k n) (is_in k old))
+added_in old new n added k =
+    sym (any_in new k) ∙ added k ∙ rw (any_in old k, swapped n k) (by (nat_eq k n) (is_in k old))
   where
     by : (a b : Bool) → cond a true b ≡ (a || b)
     by true b = refl
@@ -237,8 +237,8 @@ arms_are ds n arms ms given r same alike last differ ends is =
     ∙ ap (are_all_in (cases_in (slice_get ds.enumerations n))) same
     ∙ sym (rw (sym last, sym (differ ∙ ap all_differ same), ends) refl)
 
-pub same_entry : {A : Type 0} (xs : List A) (i : ℕ) (d : A) → i < length xs → get_or xs i (get_or xs i d)
-    ≡ get_or xs i d
+pub same_entry : {A : Type 0} (xs : List A) (i : ℕ) (d : A) → i < length xs
+    → get_or xs i (get_or xs i d) ≡ get_or xs i d
 same_entry [] i d within = absurd (omega (arith, within))
 same_entry (x ∷ xs) zero d within = refl
 same_entry (x ∷ xs) (suc i) d within = same_entry xs i d (omega arith)

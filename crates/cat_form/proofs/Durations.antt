@@ -1,6 +1,6 @@
 -- Years as durations.
-use Rattle.std.proofs.Common.{◌≡◌, ◌∙◌, Bool, true, false, ℤ, pos, ◌*ℤ◌, Option, Some, None, Result, Ok, Err, refl, sym}
-use Rattle.std.proofs.Common.{ap}
+use Rattle.std.proofs.Common.{◌≡◌, ◌∙◌, Bool, true, false, ℤ, pos, ◌*ℤ◌, Option, Some, None, Result, Ok, Err, refl}
+use Rattle.std.proofs.Common.{sym, ap}
 use Rattle.std.proofs.Math.IntN.{zero-*ℤ}
 use Rattle.std.specs.Prelude.{if◌then◌else◌}
 use Rattle.cat_date.specs.declared.fault.DateFault.{DateFault}

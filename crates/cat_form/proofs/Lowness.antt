@@ -1,7 +1,7 @@
 -- Types that are at most so high.
-use Rattle.std.proofs.Common.{◌≡◌, ◌∙◌, ◌<◌, ℕ, zero, suc, ◌+◌, ◌-◌, min, nat_le, true, false, List, []}
+use Rattle.std.proofs.Common.{◌≡◌, ◌∙◌, ◌<◌, ◌≤◌, ℕ, zero, suc, ◌+◌, ◌-◌, min, max, nat_le, true, false, List, []}
 use Rattle.std.proofs.Common.{◌∷◌, map, Option, Some}
-use Rattle.std.proofs.Common.{None, option_map, slice_get, refl, sym, ap, subst, arith}
+use Rattle.std.proofs.Common.{None, option_map, slice_get, refl, sym, ap, subst, arith, rules}
 use Rattle.std.proofs.lemmas.Bool.Decides.{nat_tests}
 use Rattle.std.specs.List.{enumerate_from}
 use Rattle.cat_value.specs.declared.ty.Ty.{Ty}
@@ -85,8 +85,8 @@ cut_at ss es m (suc k) t =
     let high = height_step ss es (m + k) t in
     let same : height_to ss es (m + suc k) t ≡ height_to ss es (suc (m + k)) t =
     ap (λ (n : ℕ). height_to ss es n t) (omega arith) in
-    let parts = parts_cut ss es (suc k) (height_to ss es k) (height_to ss es (m + k)) (cut_at ss es m k)
-    (ty.out-Ty t) in
+    let parts =
+    parts_cut ss es (suc k) (height_to ss es k) (height_to ss es (m + k)) (cut_at ss es m k) (ty.out-Ty t) in
     omega (arith, low, high, same, parts)
 
 -- so a test against the bound tells the same of both

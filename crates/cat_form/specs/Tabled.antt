@@ -21,8 +21,8 @@ names_at here = names_in_scope here.decls.now here.scope
 abbrev pub required_from : ℕ → List ItemDecl → List ℕ
 required_from n [] = []
 required_from n (item ∷ items) =
-    if must_be_given item.kind && not item.condition then n ∷ required_from (n + 1) items else required_from
-    (n + 1) items
+    if must_be_given item.kind && not item.condition then n ∷ required_from (n + 1) items
+    else required_from (n + 1) items
 
 -- how high each structure and each enumeration is
 pub record AreHeightsOf (ds : Decls) (heights : HeightTable) : Type 0 where

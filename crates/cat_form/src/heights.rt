@@ -41,7 +41,8 @@ fn is_list_low(here: &Here, element: &Ty) -> bool
 fn is_low(here: &Here, ty: &Ty, most: u32) -> bool
     requires tabled { IsTabled here.now }
     requires within { most ≤ highest }
-    ensures { result ≡ nat_le (height_to here.now.decls.now.structures here.now.decls.now.enumerations most ty.now) most }
+    ensures { result
+        ≡ nat_le (height_to here.now.decls.now.structures here.now.decls.now.enumerations most ty.now) most }
 {
     if most == 0 {
         return false;

@@ -65,7 +65,8 @@ pub fn name(here: &Here, name: &Name, locals: &Locals) -> Result<Resolved, Refus
 /// An item that is used as a value.
 fn item(here: &Here, name: &Name) -> Result<Resolved, Refusal>
     requires { IsTabled here.now }
-    ensures { Tells result (words.item_found name.now.pos (lookups.item_named name.now.text (names_at here.now).items)) }
+    ensures { Tells result
+        (words.item_found name.now.pos (lookups.item_named name.now.text (names_at here.now).items)) }
 {
     let Some((number, item)) = here.tables.item(here.decls, here.scope, &name.text) else {
         return Err(Refusal::Refused(Fault::NameUnknown(name.pos)));

@@ -130,7 +130,8 @@ fn by_row(
     left: Resolved,
     right: Resolved,
 ) -> Result<Resolved, Refusal>
-    ensures { Tells result (and_then (or_fault (faults.TypeMismatch place) (rows.operator_for operator left.ty right.ty))
+    ensures { Tells result (and_then
+        (or_fault (faults.TypeMismatch place) (rows.operator_for operator left.ty right.ty))
         (λ row. Ok (operated left.first place (expr.Binary left.first row.0 place left.expr right.expr)
         (words.whole row.1)))) }
 {

@@ -1,7 +1,7 @@
 use Rattle.std.proofs.Common.{rules, arith, ◌≡◌, ◌∙◌, ◌<◌, ◌-◌, ◌+◌, nat_le, sym, ap}
 use Rattle.std.proofs.lemmas.Bool.Decides.{nat_tests}
 use Rattle.cat_value.specs.Declarations.{highest}
-use Rattle.cat_value.specs.Heights.{height_to}
+use Rattle.cat_value.specs.Heights.{height_to, highest_part}
 use Rattle.cat_value.specs.declared.ty.Ty.TheViews as ty
 use Rattle.cat_form.proofs.Lowness.{none_low, list_low, flat_low, structure_low, enumeration_low}
 use Rattle.cat_form.proofs.heights.+is_low.Goals as goal
