@@ -1,5 +1,5 @@
 -- Chains of calls that are too long, and the program.
-use Rattle.std.proofs.Common.{◌≡◌, ◌⊎◌, ◌<◌, ◌∙◌, ◌+◌, ◌++◌, ◌==◌, ℕ, zero, suc, Bool, true, false, List, [], ◌∷◌, length, map}
+use Rattle.std.proofs.Common.{◌≡◌, ◌⊎◌, ◌<◌, ◌≤◌, ◌∙◌, ◌+◌, ◌++◌, ◌==◌, ℕ, zero, suc, Bool, true, false, List, [], ◌∷◌, length, map}
 use Rattle.std.proofs.Common.{Option, None, Some, Ok, slice_get, refl, sym, ap, subst, inl, inr, arith}
 use Rattle.std.specs.Prelude.{flat_map}
 use Rattle.std.specs.List.{enumerate_from}
@@ -20,6 +20,7 @@ use Rattle.cat_scope.specs.declared.expr.Expr.{Expr}
 use Rattle.cat_scope.specs.declared.defs.Def.{Def}
 use Rattle.cat_scope.specs.declared.defs.Body.{Body}
 use Rattle.cat_scope.specs.Names.{IsOneOf}
+use Rattle.cat_scope.specs.Mentions.{functions_named}
 use Rattle.cat_scope.specs.Chains.{HasNoCycle, HasShortChains}
 use Rattle.cat_scope.specs.Orders.{dependencies_from, item_dependencies, only_functions, function_calls}
 use Rattle.cat_scope.specs.Orders.{scope_dependencies}
@@ -59,8 +60,10 @@ first_past deps n past = rw (past.long, past.first) refl
 pub past_is_fault : (deps : List (List ℕ)) (ps : List Pos) (n : ℕ) (p : Pos) → IsPast deps n
     → slice_get ps n ≡ Some p → IsOneOf (TooMany p) (past_chains deps ps)
 past_is_fault deps ps n p past at =
+    let same : 0 + n ≡ n = omega arith in
     in_flat (λ (x : ℕ × Pos). fault_if (is_first_past deps x.0) (TooMany x.1)) (numbered ps) (n, p) (TooMany p)
-    (one_numbered 0 ps n p at) (one_fault (is_first_past deps n) (TooMany p) (first_past deps n past))
+    (subst (λ m. IsOneOf (m, p) (numbered ps)) same (one_numbered 0 ps n p at))
+    (one_fault (is_first_past deps n) (TooMany p) (first_past deps n past))
 
 -- what is told of chains
 pub told_short : (deps all : List (List ℕ)) (told : Option ℕ) → deps ≡ all → told ≡ None → TellsPast deps told
@@ -82,7 +85,7 @@ calls_as_long named defs k (i ∷ items) = omega (arith, calls_as_long named def
 
 pub function_there : (items : List ItemDecl) (defs : List Def) (n : ℕ) → IsPast (function_calls items defs) n
     → n < length items
-function_there items defs n past = omega (arith, past.number, calls_as_long _ defs 0 items)
+function_there items defs n past = omega (arith, past.number, calls_as_long functions_named defs 0 items)
 
 position_at : (items : List ItemDecl) (n : ℕ) (i : ItemDecl) → slice_get items n ≡ Some i
     → slice_get (map (λ (x : ItemDecl). x.pos) items) n ≡ Some i.pos
@@ -138,7 +141,7 @@ one_below n scopes bodies s b below at is short k t c less here there = by (k ==
         subst (λ (x : Body). HasShortChains (function_calls t.items x.defs)) body_is
         (subst (λ (x : Scope). HasShortChains (function_calls x.items b.defs)) scope_is short)
 
-pub all_below : (scopes : List Scope) (bodies : List Body) (n : ℕ) → n ≡ length bodies
+pub all_below : (scopes : List Scope) (bodies : List Body) (n : ℕ) → length bodies ≤ n
     → AreShortBelow n scopes bodies → AreShort scopes bodies
 all_below scopes bodies n all below k s b at is = below k s b (omega (arith, all, within bodies k b is)) at is
 

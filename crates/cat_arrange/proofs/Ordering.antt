@@ -13,6 +13,7 @@ use Rattle.cat_tree.specs.declared.program.Tree.{Tree}
 use Rattle.cat_scope.specs.declared.expr.Expr.{Expr}
 use Rattle.cat_scope.specs.declared.defs.Def.{Def}
 use Rattle.cat_scope.specs.declared.defs.Body.{Body}
+use Rattle.cat_scope.specs.Mentions.{items_named}
 use Rattle.cat_scope.specs.Orders.{dependencies_from, item_dependencies}
 use Rattle.cat_names.specs.declared.fault.Fault.{Fault}
 use Rattle.cat_names.specs.declared.fault.Refusal.{Refusal}
@@ -45,7 +46,7 @@ as_long_from named defs k [] = refl
 as_long_from named defs k (i ∷ items) = omega (arith, as_long_from named defs (k + 1) items)
 
 pub as_long : (items : List ItemDecl) (defs : List Def) → length (item_dependencies items defs) ≡ length items
-as_long items defs = as_long_from _ defs 0 items
+as_long items defs = as_long_from items_named defs 0 items
 
 -- ---- lists that grow
 

@@ -50,7 +50,6 @@ module _ (t : Table) (n : ℕ) where
       ∙ sym (append_assoc f (called_at t n a ++ called_at t n b) (called_at t n c))
       ∙ ap (λ ps. ps ++ called_at t n c) (sym (append_assoc f (called_at t n a) (called_at t n b)))
 
-
   each : {A : Type 0} (part : A → Node) (xs : List A)
       → flat_map (of_word t n) (all_words (map (λ x. scope_words (part x)) xs)) ≡ flat_map (λ x. called_at t n (part x)) xs
   unfolding called_at

@@ -34,7 +34,13 @@ fn call_position(
     let items = decls.scopes.at(caller as usize).items.as_slice();
     let mut positions = List::new(alloc);
     add_declared(items, called, &mut positions)?;
-    add_blocks(&table, caller, called, tree.items.as_slice(), &mut positions)?;
+    add_blocks(
+        &table,
+        caller,
+        called,
+        tree.items.as_slice(),
+        &mut positions,
+    )?;
     Ok(*positions.at(0))
 }
 

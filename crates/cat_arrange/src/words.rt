@@ -66,9 +66,9 @@ pub fn add_words(
         Node::Call(_, args) => add_all(table, called, args, positions),
         Node::List(_, elements) => add_all(table, called, elements, positions),
         Node::Structure(_, fields) => add_fields(table, called, fields, positions),
-        Node::ScopeCall(_, scope, fields, _) => {
+        Node::ScopeCall(_, scope, inputs, _) => {
             add_word(table, called, scope, positions)?;
-            add_fields(table, called, fields, positions)
+            add_fields(table, called, inputs, positions)
         }
         Node::Match(_, matched, arms) => {
             add_words(table, called, matched.get(), positions)?;

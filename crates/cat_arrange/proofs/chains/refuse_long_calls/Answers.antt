@@ -27,17 +27,17 @@ pub at-pos-requires : goal.at-pos-requires
 at-pos-requires c =
     let past = told_past (listed_calls c.as_slice.result.now) (listed_calls c.args.bodies.now) c.in_ok-long.long
     c.in-Some.scope (ap listed_calls c.as_slice.ensures) c.in-Some.is c.in_ok-long.ensures in
-    let places = c.in_ok-found.ensures
+    let places = c.in_ok-found-in-Some.ensures
     ∙ ap (λ (is : List Item). positions (names_of (scopes_in is))) c.as_slice-in-Some.ensures in
     subst (λ (ps : List Pos). c.in-Some.scope < length ps) (sym places)
     (scope_there c.args.decls.now c.declarations_are_sound.ensures c.args.tree.now c.args.bodies.now c.requires.meant
     c.in-Some.scope past)
 
-pub returns-in-Some-clause-cause : goal.returns-in-Some-clause-cause
-returns-in-Some-clause-cause c =
+pub returns-in_ok-found-in-Some-clause-cause : goal.returns-in_ok-found-in-Some-clause-cause
+returns-in_ok-found-in-Some-clause-cause c =
     let past = told_past (listed_calls c.as_slice.result.now) (listed_calls c.args.bodies.now) c.in_ok-long.long
     c.in-Some.scope (ap listed_calls c.as_slice.ensures) c.in-Some.is c.in_ok-long.ensures in
-    let places = c.in_ok-found.ensures
+    let places = c.in_ok-found-in-Some.ensures
     ∙ ap (λ (is : List Item). positions (names_of (scopes_in is))) c.as_slice-in-Some.ensures in
     scope_is_fault c.args.decls.now c.declarations_are_sound.ensures c.args.tree.now c.args.bodies.now c.requires.meant
     c.in-Some.scope c.at-pos.result.now past

@@ -3,7 +3,6 @@ use Rattle.cat_pos.specs.declared.limits.TheConstants.{ENTRIES_BOUND}
 use Rattle.cat_order.specs.Order.{AreItems, IsOrder}
 use Rattle.cat_scope.specs.declared.defs.Body.{Body}
 use Rattle.cat_depend.specs.Causes.{HasCallCause}
-use Rattle.cat_depend.specs.declared.refusal.CallRefusal.TheVariants.{Cycle}
 use Rattle.cat_depend.specs.Listed.{listed_calls}
 use Rattle.cat_arrange.proofs.Scoped.{few, listed, scopes_are, caller_there, there_is_a_call, call_is_cycle}
 use Rattle.cat_arrange.proofs.scopes.scopes_in_order.Goals as goal
@@ -19,15 +18,17 @@ scope_order-requires-clause-scopes c =
 
 pub call_position-requires-clause-caller : goal.call_position-requires-clause-caller
 call_position-requires-clause-caller c =
-    let cause = subst (λ (bs : List Body). HasCallCause (listed_calls bs)
-    (Cycle c.in-Err-Cycle.caller c.in-Err-Cycle.called)) c.as_slice.ensures c.in-Err-Cycle.ensures.cause in
+    let cause = subst (HasCallCause (listed_calls c.args.bodies.now)) c.in-Err-Cycle.field-0-is
+    (subst (λ (bs : List Body). HasCallCause (listed_calls bs) c.in-Err-Cycle.field-0) c.as_slice.ensures
+    c.in-Err-Cycle.ensures.cause) in
     caller_there c.args.decls.now c.declarations_are_sound.ensures c.args.tree.now c.args.bodies.now c.requires
     c.in-Err-Cycle.caller cause.0
 
 pub call_position-requires-clause-call : goal.call_position-requires-clause-call
 call_position-requires-clause-call c =
-    let cause = subst (λ (bs : List Body). HasCallCause (listed_calls bs)
-    (Cycle c.in-Err-Cycle.caller c.in-Err-Cycle.called)) c.as_slice.ensures c.in-Err-Cycle.ensures.cause in
+    let cause = subst (HasCallCause (listed_calls c.args.bodies.now)) c.in-Err-Cycle.field-0-is
+    (subst (λ (bs : List Body). HasCallCause (listed_calls bs) c.in-Err-Cycle.field-0) c.as_slice.ensures
+    c.in-Err-Cycle.ensures.cause) in
     there_is_a_call c.args.decls.now c.declarations_are_sound.ensures c.args.tree.now c.args.bodies.now c.requires
     c.in-Err-Cycle.caller c.in-Err-Cycle.called cause.1
 
@@ -39,7 +40,8 @@ returns-in-Ok-clause-order c =
 
 pub returns-in_ok-pos-in-Err-Cycle-clause-cause : goal.returns-in_ok-pos-in-Err-Cycle-clause-cause
 returns-in_ok-pos-in-Err-Cycle-clause-cause c =
-    let cause = subst (λ (bs : List Body). HasCallCause (listed_calls bs)
-    (Cycle c.in-Err-Cycle.caller c.in-Err-Cycle.called)) c.as_slice.ensures c.in-Err-Cycle.ensures.cause in
+    let cause = subst (HasCallCause (listed_calls c.args.bodies.now)) c.in-Err-Cycle.field-0-is
+    (subst (λ (bs : List Body). HasCallCause (listed_calls bs) c.in-Err-Cycle.field-0) c.as_slice.ensures
+    c.in-Err-Cycle.ensures.cause) in
     call_is_cycle c.args.decls.now c.declarations_are_sound.ensures c.args.tree.now c.args.bodies.now c.requires
     c.in-Err-Cycle.caller c.in-Err-Cycle.called cause.1 c.in_ok-pos-in-Err-Cycle.pos c.in_ok-pos-in-Err-Cycle.ensures
