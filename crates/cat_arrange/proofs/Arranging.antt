@@ -1,5 +1,5 @@
 -- Each phase's refusal is one of the tree, where the phases before it have passed.
-use Rattle.std.proofs.Common.{◌≡◌, List, ℕ, map, sym, subst}
+use Rattle.std.proofs.Common.{◌≡◌, List, ℕ, map, subst}
 use Rattle.cat_order.specs.Order.{IsOrder}
 use Rattle.cat_value.specs.declared.decls.Decls.{Decls}
 use Rattle.cat_value.specs.Laws.{AreSound}
@@ -10,11 +10,12 @@ use Rattle.cat_scope.specs.Orders.{scope_dependencies}
 use Rattle.cat_names.specs.declared.fault.Refusal.{Refusal}
 use Rattle.cat_names.specs.Accepted.{unordered, IsMeant, IsProgramOf, IsRefused}
 use Rattle.cat_names.specs.Accepted as refused
-use Rattle.cat_names.specs.Cycles.{IsScopeCycle, IsItemCycle}
+use Rattle.cat_names.specs.Cycles.{IsScopeCycle, IsItemCycle, past_functions}
 use Rattle.cat_arrange.specs.Cause.{Because}
-use Rattle.cat_arrange.specs.inside.Ordered.{AreInOrder}
-use Rattle.cat_arrange.specs.inside.Chained.{AreShort, IsChainFault}
-use Rattle.cat_arrange.proofs.Ordering.{because}
+use Rattle.cat_arrange.specs.inside.Ordered.{AreInOrder, AreItemized}
+use Rattle.cat_arrange.specs.inside.Chained.{AreShort, IsChainFault, IsFunctionFault}
+use Rattle.cat_arrange.proofs.Sourced.{one_left}
+use Rattle.cat_arrange.proofs.Ordering.{all_itemized, because}
 use Rattle.cat_arrange.proofs.Chaining.{CyclesLeaveNone, no_cycle, no_cycles, made_meant, dependencies_kept, program}
 
 module _ (none : CyclesLeaveNone) (ds : Decls) (sound : AreSound ds) (tree : Tree) (bodies : List Body)
@@ -40,6 +41,13 @@ module _ (none : CyclesLeaveNone) (ds : Decls) (sound : AreSound ds) (tree : Tre
       chain_refused r h = because (IsChainFault tree ds made) (IsRefused tree) (λ fault there.
           refused.chain ds made meant_still (no_cycle none (scope_dependencies ds.scopes made) order order_still)
           (no_cycles none ds.scopes made in_order) there) r h
+
+      pub itemized_still : AreItemized ds.scopes made
+      itemized_still = all_itemized ds sound tree made meant_still
+
+      pub function_refused : (r : Refusal) → Because (IsFunctionFault ds.scopes made) r → Because (IsRefused tree) r
+      function_refused r h = chain_refused r (because (IsFunctionFault ds.scopes made) (IsChainFault tree ds made)
+          (λ fault there. one_left fault (past_functions ds.scopes made) _ there) r h)
 
       pub arranged_program : AreShort ds.scopes made → HasShortChains (scope_dependencies ds.scopes made)
           → IsProgramOf tree ds made order

@@ -1,7 +1,6 @@
 -- Chains of calls that are too long, and the program.
-use Rattle.std.proofs.Common.{◌≡◌, ◌⊎◌, ◌<◌, ◌≤◌, ◌∙◌, ◌+◌, ◌++◌, ◌==◌, ℕ, zero, suc, Bool, true, false, List, [], ◌∷◌, length, map}
-use Rattle.std.proofs.Common.{Option, None, Some, Ok, slice_get, refl, sym, ap, subst, inl, inr, arith}
-use Rattle.std.specs.Prelude.{flat_map}
+use Rattle.std.proofs.Common.{◌≡◌, ◌<◌, ◌≤◌, ◌∙◌, ◌+◌, ◌==◌, ℕ, zero, suc, Bool, true, false, List, [], ◌∷◌, length}
+use Rattle.std.proofs.Common.{map, Option, None, Some, Ok, slice_get, refl, sym, ap, subst, inl, inr, arith}
 use Rattle.std.specs.List.{enumerate_from}
 use Rattle.std.proofs.lemmas.List.{length-map}
 use Rattle.std.proofs.lemmas.Bool.Decides.{nat_tests}
@@ -37,7 +36,7 @@ use Rattle.cat_names.proofs.Exported.{as_many, declared_parts, meant_calls, mean
 use Rattle.cat_depend.specs.Listed.{listed_calls}
 use Rattle.cat_depend.specs.Past.{IsPast, TellsPast}
 use Rattle.cat_arrange.specs.inside.Ordered.{AreInOrder}
-use Rattle.cat_arrange.specs.inside.Chained.{AreShort, IsLongFunction}
+use Rattle.cat_arrange.specs.inside.Chained.{AreShort, IsFunctionFault, IsLongFunction}
 use Rattle.cat_arrange.proofs.Sourced.{one_left, one_right, in_flat}
 
 -- ---- a number past the longest chain
@@ -101,23 +100,24 @@ functions_at [] bodies k s b fault at is h = cc at
 functions_at (t ∷ scopes) [] k s b fault at is h = cc is
 functions_at (t ∷ scopes) (c ∷ bodies) zero s b fault at is h =
     let first : s ≡ t = cc at in let second : b ≡ c = cc is in
-    one_left fault (past_chains (function_calls t.items c.defs) (map (λ i. i.pos) t.items)) (past_functions scopes bodies)
+    one_left fault (past_chains (function_calls t.items c.defs) (map (λ i. i.pos) t.items))
+    (past_functions scopes bodies)
     (subst (λ (x : Body). IsOneOf fault (past_chains (function_calls t.items x.defs) (map (λ i. i.pos) t.items))) second
     (subst (λ (x : Scope). IsOneOf fault (past_chains (function_calls x.items b.defs) (map (λ i. i.pos) x.items))) first
     h))
 functions_at (t ∷ scopes) (c ∷ bodies) (suc k) s b fault at is h =
-    one_right fault (past_chains (function_calls t.items c.defs) (map (λ i. i.pos) t.items)) (past_functions scopes bodies)
+    one_right fault (past_chains (function_calls t.items c.defs) (map (λ i. i.pos) t.items))
+    (past_functions scopes bodies)
     (functions_at scopes bodies k s b fault at is h)
 
 -- a function past the longest chain is a fault of chains
-pub function_is_fault : (tree : Tree) (ds : Decls) (bodies : List Body) (k : ℕ) (s : Scope) (b : Body)
-    → slice_get ds.scopes k ≡ Some s → slice_get bodies k ≡ Some b → (fault : Fault)
-    → IsLongFunction s.items b.defs fault → IsOneOf fault (chain_faults tree ds bodies)
-function_is_fault tree ds bodies k s b at is fault long =
-    one_left fault (past_functions ds.scopes bodies) _ (functions_at ds.scopes bodies k s b fault at is
+pub function_is_fault : (scopes : List Scope) (bodies : List Body) (k : ℕ) (s : Scope) (b : Body)
+    → slice_get scopes k ≡ Some s → slice_get bodies k ≡ Some b → (fault : Fault)
+    → IsLongFunction s.items b.defs fault → IsFunctionFault scopes bodies fault
+function_is_fault scopes bodies k s b at is fault long = functions_at scopes bodies k s b fault at is
     (subst (λ f. IsOneOf f (past_chains (function_calls s.items b.defs) (map (λ i. i.pos) s.items))) (sym long.fault_is)
     (past_is_fault (function_calls s.items b.defs) (map (λ x. x.pos) s.items) long.number long.item.pos long.past
-    (position_at s.items long.number long.item long.item_is))))
+    (position_at s.items long.number long.item long.item_is)))
 
 -- no chain of the functions of so many scopes is too long
 abbrev pub AreShortBelow : ℕ → List Scope → List Body → Type 0

@@ -1,8 +1,7 @@
 -- Items in order, body by body.
 use Rattle.std.proofs.Common.{◌≡◌, ◌⊎◌, ◌<◌, ◌∙◌, ◌+◌, ◌++◌, ℕ, zero, suc, List, [], ◌∷◌, length, map, Some, slice_get}
-use Rattle.std.proofs.Common.{refl, sym, ap, subst, inl, inr, arith, All}
+use Rattle.std.proofs.Common.{refl, sym, ap, subst, inl, inr, arith}
 use Rattle.std.proofs.lemmas.List.{length-map, map-append}
-use Rattle.cat_pos.specs.declared.limits.TheConstants.{ENTRIES_BOUND}
 use Rattle.cat_order.specs.Order.{IsOrder}
 use Rattle.cat_order.specs.declared.refusal.OrderRefusal.{OrderRefusal}
 use Rattle.cat_value.specs.declared.declaration.ItemDecl.{ItemDecl}
@@ -24,7 +23,7 @@ use Rattle.cat_names.specs.Cycles.{IsItemCycle}
 use Rattle.cat_names.proofs.Exported.{meant_counted, meant_items, meant_targets}
 use Rattle.cat_depend.specs.Causes.{HasItemCause}
 use Rattle.cat_arrange.specs.Cause.{Because}
-use Rattle.cat_arrange.specs.inside.Ordered.{IsItemized, IsCyclicItem, IsWithOrder, AreInOrder}
+use Rattle.cat_arrange.specs.inside.Ordered.{IsItemized, IsCyclicItem, IsWithOrder, AreInOrder, AreItemized}
 
 -- ---- refusals
 
@@ -113,16 +112,18 @@ one_more scopes made front s b new order so_far at with_it is = record {
 
 -- ---- what is meant
 
-module _ (ds : Decls) (sound : AreSound ds) (tree : Tree) (bodies : List Body) (meant : IsMeant tree ds bodies) where
-  -- the body of a scope has to do with its items alone
-  pub itemized_at : (n : ℕ) (s : Scope) (b : Body) → slice_get ds.scopes n ≡ Some s → slice_get bodies n ≡ Some b
-      → IsItemized s.items b.defs
-  itemized_at n s b at is = record {
+pub all_itemized : (ds : Decls) → AreSound ds → (tree : Tree) (bodies : List Body) → IsMeant tree ds bodies
+    → AreItemized ds.scopes bodies
+all_itemized ds sound tree bodies meant = record {
+  counted = meant_counted ds sound tree bodies meant;
+  each = λ n s b at is. record {
     few = sound.items_counted n s at;
     targets = meant_targets ds sound tree bodies meant n s b at is;
     named = meant_items ds sound tree bodies meant n s b at is;
-  }
+  };
+}
 
+module _ (ds : Decls) (bodies : List Body) (all : AreItemized ds.scopes bodies) where
   -- a body between others
   module _ (made front : List Body) (b : Body) (rest : List Body) (split : front ++ b ∷ rest ≡ bodies)
       (kept : map unordered made ≡ map unordered front) where
@@ -134,7 +135,7 @@ module _ (ds : Decls) (sound : AreSound ds) (tree : Tree) (bodies : List Body) (
     scope_there = omega (
       arith,
       counted made front kept,
-      meant_counted ds sound tree bodies meant,
+      all.counted,
       ap (λ (bs : List Body). length bs) (sym split),
       longer front rest,
     )
@@ -145,7 +146,7 @@ module _ (ds : Decls) (sound : AreSound ds) (tree : Tree) (bodies : List Body) (
 
     module _ (s : Scope) (at : slice_get ds.scopes (length made) ≡ Some s) where
       pub itemized : IsItemized s.items b.defs
-      itemized = itemized_at (length made) s b at body_at
+      itemized = all.each (length made) s b at body_at
 
       pub cyclic : (fault : Fault) → IsCyclicItem s.items b.defs fault → IsItemCycle ds bodies fault
       cyclic fault c = record {

@@ -1,14 +1,12 @@
 -- Scopes in order, and the calls on a cycle.
-use Rattle.std.proofs.Common.{◌≡◌, ◌⊎◌, ◌<◌, ◌∙◌, ℕ, List, length, map, Some, slice_get, refl, sym, ap, subst, inl, inr}
+use Rattle.std.proofs.Common.{◌≡◌, ◌⊎◌, ◌<◌, ℕ, List, length, sym, ap, subst, inl, inr}
 use Rattle.std.proofs.Common.{arith}
 use Rattle.std.proofs.lemmas.List.{length-map}
 use Rattle.cat_pos.specs.declared.pos.Pos.{Pos}
 use Rattle.cat_pos.specs.declared.limits.TheConstants.{ENTRIES_BOUND}
-use Rattle.cat_order.specs.Order.{AreItems, IsOrder}
-use Rattle.cat_order.specs.Cycle.{DependsOn}
+use Rattle.cat_order.specs.Order.{AreItems}
 use Rattle.cat_value.specs.declared.declaration.Kind.TheVariants as kind
 use Rattle.cat_value.specs.declared.declaration.ItemDecl.{ItemDecl}
-use Rattle.cat_value.specs.declared.declaration.Scope.{Scope}
 use Rattle.cat_value.specs.declared.decls.Decls.{Decls}
 use Rattle.cat_value.specs.Laws.{AreSound}
 use Rattle.cat_tree.specs.declared.program.Tree.{Tree}

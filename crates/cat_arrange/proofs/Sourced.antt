@@ -1,6 +1,6 @@
 -- Where a scope calls another: what is found there, and that something is.
-use Rattle.std.proofs.Common.{◌≡◌, ◌⊎◌, ◌<◌, ◌∙◌, ◌++◌, ◌∷◌, ℕ, zero, suc, Bool, true, false, List, [], length, map, Option}
-use Rattle.std.proofs.Common.{Some, None, slice_get, refl, sym, ap, subst, inl, inr, arith, nat_eq, if◌then◌else◌}
+use Rattle.std.proofs.Common.{◌≡◌, ◌⊎◌, ◌<◌, ◌∙◌, ◌++◌, ◌∷◌, ℕ, zero, suc, Bool, true, false, List, [], length, Option}
+use Rattle.std.proofs.Common.{Some, None, slice_get, refl, sym, ap, subst, inl, inr, arith, if◌then◌else◌}
 use Rattle.std.specs.Prelude.{flat_map, filter, option_map, cond}
 use Rattle.std.proofs.lemmas.Bool.Decides.{nat_tests}
 use Rattle.std.proofs.lemmas.Grind.{flat_map-append}
@@ -21,8 +21,8 @@ use Rattle.cat_tree.specs.declared.program.Tree.{Tree}
 use Rattle.cat_scope.specs.Names.{IsOneOf, items_in, scope_items}
 use Rattle.cat_names.specs.Lines.{is_about, is_number, is_scope_name}
 use Rattle.cat_names.specs.Lookup.{scope_named}
-use Rattle.cat_names.specs.ScopeWords.{condition_words, use_words, item_words, words_in, IsWordOf}
-use Rattle.cat_lookup.specs.Table.{Table, IsTableOf, number_in}
+use Rattle.cat_names.specs.ScopeWords.{condition_words, use_words, item_words, words_in}
+use Rattle.cat_lookup.specs.Table.{Table, IsTableOf}
 use Rattle.cat_arrange.specs.inside.Calling.{is_it, is_for, of_word, called_at, condition_called, use_called}
 use Rattle.cat_arrange.specs.inside.Calling.{block_called, called_about, called_by_item, declared_at}
 use Rattle.cat_arrange.specs.inside.Calls.{IsCall, IsCallAt}
@@ -114,7 +114,8 @@ module _ (ds : Decls) (t : Table) (is_table : IsTableOf (λ s. s.name) ds.scopes
       ∙ ap (λ ps. flat_map (of_word t called) (use_words u) ++ ps) (uses_are called us)
       ∙ sym (flat_map-append (of_word t called) (use_words u) (flat_map use_words us))
 
-  block_is : (called : ℕ) (b : Block) → block_called t called b ≡ flat_map (of_word t called) (item_words (item.Block b))
+  block_is : (called : ℕ) (b : Block)
+      → block_called t called b ≡ flat_map (of_word t called) (item_words (item.Block b))
   block_is called b = ap (λ ps. ps ++ flat_map (use_called t called) b.uses) (condition_is called b.condition)
       ∙ ap (λ ps. flat_map (of_word t called) (condition_words b.condition) ++ ps) (uses_are called b.uses)
       ∙ sym (flat_map-append (of_word t called) (condition_words b.condition) (flat_map use_words b.uses))
@@ -161,7 +162,8 @@ module _ (ds : Decls) (t : Table) (is_table : IsTableOf (λ s. s.name) ds.scopes
   of_kind k called is = subst (λ x. called_by_item x called ≡ true) (sym is) (grind (arith, nat_tests))
 
   abbrev places : ℕ → ℕ → List ItemDecl → List Item → List Pos
-  places caller called items about = flat_map (declared_at called) items ++ flat_map (called_about t caller called) about
+  places caller called items about =
+      flat_map (declared_at called) items ++ flat_map (called_about t caller called) about
 
   number_of : (n : ℕ) (o : Option (ℕ × Scope)) → is_number n o ≡ true
       → (found : ℕ × Scope) × (o ≡ Some found) × (found.0 ≡ n)

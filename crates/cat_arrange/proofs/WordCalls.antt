@@ -32,13 +32,15 @@ module _ (t : Table) (n : ℕ) where
   one : (e a : Node) → scope_words e ≡ scope_words a → (f : List Pos) → f ++ called_at t n e ≡ f ++ called_at t n a
   one e a is f = ap (λ ps. f ++ ps) (at_words e (scope_words a) is ∙ sym (at_words a (scope_words a) refl))
 
-  join : (ws vs : List Name) → flat_map (of_word t n) (ws ++ vs) ≡ flat_map (of_word t n) ws ++ flat_map (of_word t n) vs
+  join : (ws vs : List Name)
+      → flat_map (of_word t n) (ws ++ vs) ≡ flat_map (of_word t n) ws ++ flat_map (of_word t n) vs
   join ws vs = flat_map-append (of_word t n) ws vs
 
   two : (e a b : Node) → scope_words e ≡ scope_words a ++ scope_words b → (f : List Pos)
       → f ++ called_at t n e ≡ f ++ called_at t n a ++ called_at t n b
   unfolding called_at
-  two e a b is f = ap (λ ws. f ++ flat_map (of_word t n) ws) is ∙ ap (λ ps. f ++ ps) (join (scope_words a) (scope_words b))
+  two e a b is f = ap (λ ws. f ++ flat_map (of_word t n) ws) is
+      ∙ ap (λ ps. f ++ ps) (join (scope_words a) (scope_words b))
       ∙ sym (append_assoc f (called_at t n a) (called_at t n b))
 
   three : (e a b c : Node) → scope_words e ≡ scope_words a ++ scope_words b ++ scope_words c → (f : List Pos)
@@ -51,7 +53,8 @@ module _ (t : Table) (n : ℕ) where
       ∙ ap (λ ps. ps ++ called_at t n c) (sym (append_assoc f (called_at t n a) (called_at t n b)))
 
   each : {A : Type 0} (part : A → Node) (xs : List A)
-      → flat_map (of_word t n) (all_words (map (λ x. scope_words (part x)) xs)) ≡ flat_map (λ x. called_at t n (part x)) xs
+      → flat_map (of_word t n) (all_words (map (λ x. scope_words (part x)) xs))
+      ≡ flat_map (λ x. called_at t n (part x)) xs
   unfolding called_at
   each part [] = refl
   each part (x ∷ xs) = join (scope_words (part x)) _ ∙ ap (λ ps. called_at t n (part x) ++ ps) (each part xs)
@@ -135,7 +138,8 @@ called_ScopeCall t n p u fs w f =
 pub called_Match : (t : Table) (n : ℕ) (p : Pos) (e : Node) (arms : List Arm) (f : List Pos)
     → f ++ called_at t n (node.Match p e arms) ≡ f ++ called_at t n e ++ flat_map (λ x. called_at t n x.body) arms
 called_Match t n p e arms f =
-    let is : scope_words (node.Match p e arms) ≡ scope_words e ++ all_words (map (λ (x : Arm). scope_words x.body) arms) =
+    let is : scope_words (node.Match p e arms)
+    ≡ scope_words e ++ all_words (map (λ (x : Arm). scope_words x.body) arms) =
     search words in
     ap (λ ps. f ++ ps) (at_words t n (node.Match p e arms) _ is
     ∙ join t n (scope_words e) (all_words (map (λ (x : Arm). scope_words x.body) arms))

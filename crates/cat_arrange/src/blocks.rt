@@ -1,8 +1,7 @@
 // Where blocks and declarations call a scope.
 ghost use Rattle.std.specs.Prelude.{◌≡◌, ◌++◌, OnOk, flat_map};
-ghost use Rattle.cat_tree.specs.declared.program.Block.{Block as Written};
-ghost use Rattle.cat_arrange.specs.inside.Calling.{condition_called, use_called, block_called, called_about, called_by_item};
-ghost use Rattle.cat_arrange.specs.inside.Calling.{declared_at};
+ghost use Rattle.cat_arrange.specs.inside.Calling.{condition_called, use_called, block_called, called_about};
+ghost use Rattle.cat_arrange.specs.inside.Calling.{called_by_item, declared_at};
 
 use crate::naming::is_for;
 use crate::words::add_words;

@@ -6,8 +6,8 @@ ghost use Rattle.cat_scope.specs.Orders.{item_dependencies, function_calls, scop
 ghost use Rattle.cat_names.specs.Accepted.{IsMeant};
 ghost use Rattle.cat_names.specs.Written.{scopes_in, names_of, positions};
 ghost use Rattle.cat_arrange.specs.Cause.{Because};
-ghost use Rattle.cat_arrange.specs.inside.Chained.{AreShort, IsChainFault, IsLongFunction};
-ghost use Rattle.cat_arrange.specs.inside.Ordered.{AreInOrder, IsItemized};
+ghost use Rattle.cat_arrange.specs.inside.Chained.{AreShort, IsChainFault, IsFunctionFault, IsLongFunction};
+ghost use Rattle.cat_arrange.specs.inside.Ordered.{AreInOrder, AreItemized, IsItemized};
 
 use cat_depend::{long_function, long_scope};
 use cat_names::{Fault, Refusal};
@@ -36,18 +36,12 @@ fn refuse_long(alloc: Global, items: &ItemDecls, body: &Body) -> Result<(), Refu
 }
 
 /// Refuses where a chain of functions is too long.
-pub fn refuse_long_functions(
-    alloc: Global,
-    tree: &Tree,
-    decls: &Decls,
-    bodies: &Bodies,
-) -> Result<(), Refusal>
-    requires meant { IsMeant tree.now decls.now bodies.now }
+pub fn refuse_long_functions(alloc: Global, decls: &Decls, bodies: &Bodies) -> Result<(), Refusal>
+    requires items { AreItemized decls.now.scopes bodies.now }
     requires order { AreInOrder decls.now.scopes bodies.now }
     ensures short { IfOk result (λ _. AreShort decls.now.scopes bodies.now) }
-    ensures cause { IfErr result (Because (IsChainFault tree.now decls.now bodies.now)) }
+    ensures cause { IfErr result (Because (IsFunctionFault decls.now.scopes bodies.now)) }
 {
-    declarations_are_sound(decls);
     for (number, body) in bodies.as_slice().iter().enumerate() {
         let scope = decls.scopes.at(number);
         refuse_long(alloc, &scope.items, body)?;

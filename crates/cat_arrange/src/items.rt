@@ -2,18 +2,17 @@
 ghost use Rattle.std.specs.Prelude.{◌≡◌, IfOk, IfErr, map};
 ghost use Rattle.cat_order.specs.Order.{IsOrder};
 ghost use Rattle.cat_scope.specs.Orders.{item_dependencies};
-ghost use Rattle.cat_names.specs.Accepted.{IsMeant, unordered};
+ghost use Rattle.cat_names.specs.Accepted.{unordered};
 ghost use Rattle.cat_names.specs.Cycles.{IsItemCycle};
 ghost use Rattle.cat_arrange.specs.Cause.{Because};
-ghost use Rattle.cat_arrange.specs.inside.Ordered.{IsItemized, IsCyclicItem, IsWithOrder, AreInOrder};
+ghost use Rattle.cat_arrange.specs.inside.Ordered.{IsItemized, IsCyclicItem, IsWithOrder, AreInOrder, AreItemized};
 
 use cat_depend::item_order;
 use cat_names::{Fault, Refusal};
 use cat_order::OrderRefusal;
 use cat_pos::{List, Numbers};
 use cat_scope::{Bodies, Body, Defs};
-use cat_tree::Tree;
-use cat_value::{Decls, ItemDecls, declarations_are_sound};
+use cat_value::{Decls, ItemDecls};
 use std::alloc::Global;
 
 /// The order of the items of a scope, or the name of one that depends on itself.
@@ -54,18 +53,12 @@ fn with_order(body: Body, order: Numbers) -> Body
 }
 
 /// Each body with the order of its items, or the name of an item that depends on itself.
-pub fn items_in_order(
-    alloc: Global,
-    tree: &Tree,
-    decls: &Decls,
-    bodies: Bodies,
-) -> Result<Bodies, Refusal>
-    requires { IsMeant tree.now decls.now bodies }
+pub fn items_in_order(alloc: Global, decls: &Decls, bodies: Bodies) -> Result<Bodies, Refusal>
+    requires { AreItemized decls.now.scopes bodies }
     ensures kept { IfOk result (λ made. map unordered made ≡ map unordered bodies) }
     ensures order { IfOk result (AreInOrder decls.now.scopes) }
     ensures cause { IfErr result (Because (IsItemCycle decls.now bodies)) }
 {
-    declarations_are_sound(decls);
     let mut made = List::new(alloc);
     for body in bodies.into_vec() {
         let scope = decls.scopes.at(made.len());

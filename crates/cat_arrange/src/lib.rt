@@ -24,7 +24,7 @@ use std::alloc::Global;
 
 /// The program of a tree, from what the tree means: the orders that the bodies come with are not read. A scope on a
 /// cycle is refused before an item on one, and both before a chain of calls that is too long. It takes time in
-/// proportion to the bodies, and n log n for orders; where a scope is on a cycle, in proportion to the tree as well.
+/// proportion to the bodies, and n log n for orders; where a scope is refused, in proportion to the tree as well.
 pub fn arranged(
     alloc: Global,
     tree: &Tree,
@@ -40,8 +40,8 @@ pub fn arranged(
     programs_of_trees_are_well_formed(&decls);
     a_cycle_leaves_no_order();
     let scope_order = scopes_in_order(alloc, tree, &decls, &bodies)?;
-    let bodies = items_in_order(alloc, tree, &decls, bodies)?;
-    refuse_long_functions(alloc, tree, &decls, &bodies)?;
+    let bodies = items_in_order(alloc, &decls, bodies)?;
+    refuse_long_functions(alloc, &decls, &bodies)?;
     refuse_long_calls(alloc, tree, &decls, &bodies, &scope_order)?;
     Ok(Program::from_parts(decls, bodies, scope_order))
 }

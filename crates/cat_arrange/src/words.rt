@@ -115,7 +115,8 @@ fn add_arms(
     arms: &Arms,
     positions: &mut Positions,
 ) -> Result<(), AllocError>
-    ensures { OnOk result (positions.new ≡ positions.old ++ flat_map (λ a. called_at table.now called a.body) arms.now) }
+    ensures { OnOk result (positions.new
+        ≡ positions.old ++ flat_map (λ a. called_at table.now called a.body) arms.now) }
 {
     for arm in arms.as_slice() {
         add_words(table, called, &arm.body, positions)?;

@@ -2,7 +2,9 @@ use Rattle.std.proofs.Common.{List, ℕ, sym, subst}
 use Rattle.std.proofs.lemmas.Result.{err_from_is_err_and}
 use Rattle.cat_scope.specs.declared.defs.Body.{Body}
 use Rattle.cat_names.specs.Accepted.{IsProgramOf}
-use Rattle.cat_arrange.proofs.Arranging.{scope_refused, item_refused, order_still, chain_refused, arranged_program}
+use Rattle.cat_arrange.proofs.Arranging.{scope_refused, item_refused, itemized_still, order_still}
+use Rattle.cat_arrange.proofs.Arranging.{chain_refused, function_refused, arranged_program}
+use Rattle.cat_arrange.proofs.Ordering.{all_itemized}
 use Rattle.cat_arrange.proofs.arranged.Goals as goal
 
 pub returns-in_err-scope_order-clause-cause : goal.returns-in_err-scope_order-clause-cause
@@ -18,11 +20,21 @@ returns-in_err-bodies-clause-cause c =
     c.args.tree.now c.args.bodies c.requires c.in_ok-scope_order.scope_order c.in_ok-scope_order.ensures.order
     c.in_err-bodies.field-0.0 c.in_err-bodies.ensures.cause)
 
+pub items_in_order-requires : goal.items_in_order-requires
+items_in_order-requires c =
+    all_itemized c.args.decls c.declarations_are_sound.ensures c.args.tree.now c.args.bodies c.requires
+
+pub refuse_long_functions-requires-clause-items : goal.refuse_long_functions-requires-clause-items
+refuse_long_functions-requires-clause-items c =
+    itemized_still c.a_cycle_leaves_no_order.ensures c.args.decls c.declarations_are_sound.ensures
+    c.args.tree.now c.args.bodies c.requires c.in_ok-scope_order.scope_order c.in_ok-scope_order.ensures.order
+    c.in_ok-bodies.bodies c.in_ok-bodies.ensures.kept c.in_ok-bodies.ensures.order
+
 pub returns-in_err-refuse_long_functions-clause-cause : goal.returns-in_err-refuse_long_functions-clause-cause
 returns-in_err-refuse_long_functions-clause-cause c =
     let p = err_from_is_err_and c.from_residual-in_err-refuse_long_functions.result
     c.from_residual-in_err-refuse_long_functions.ensures.1 in
-    rw (p.1, p.2) (chain_refused c.a_cycle_leaves_no_order.ensures c.args.decls c.declarations_are_sound.ensures
+    rw (p.1, p.2) (function_refused c.a_cycle_leaves_no_order.ensures c.args.decls c.declarations_are_sound.ensures
     c.args.tree.now c.args.bodies c.requires c.in_ok-scope_order.scope_order c.in_ok-scope_order.ensures.order
     c.in_ok-bodies.bodies c.in_ok-bodies.ensures.kept c.in_ok-bodies.ensures.order
     c.in_err-refuse_long_functions.field-0.0 c.in_err-refuse_long_functions.ensures.cause)

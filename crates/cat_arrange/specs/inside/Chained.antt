@@ -11,7 +11,7 @@ use Rattle.cat_scope.specs.Chains.{HasShortChains}
 use Rattle.cat_scope.specs.Orders.{function_calls}
 use Rattle.cat_names.specs.declared.fault.Fault.{Fault}
 use Rattle.cat_names.specs.declared.fault.Fault.TheVariants.{TooMany}
-use Rattle.cat_names.specs.Cycles.{chain_faults}
+use Rattle.cat_names.specs.Cycles.{chain_faults, past_functions}
 use Rattle.cat_depend.specs.Past.{IsPast}
 
 -- no chain of the functions of a scope is too long
@@ -26,6 +26,10 @@ pub record IsLongFunction (items : List ItemDecl) (defs : List Def) (fault : Fau
   pub past : IsPast (function_calls items defs) number
   pub item_is : slice_get items number ≡ Some item
   pub fault_is : fault ≡ TooMany item.pos
+
+-- one of the faults of chains of functions
+abbrev pub IsFunctionFault : List Scope → List Body → Fault → Type 0
+IsFunctionFault scopes bodies fault = IsOneOf fault (past_functions scopes bodies)
 
 -- one of the faults of chains
 abbrev pub IsChainFault : Tree → Decls → List Body → Fault → Type 0

@@ -18,6 +18,12 @@ pub record IsItemized (items : List ItemDecl) (defs : List Def) : Type 0 where
   pub targets : All (λ d. d.target.item < length items) defs
   pub named : AreItems (item_dependencies items defs)
 
+-- each scope has a body whose definitions have to do with its items alone
+pub record AreItemized (scopes : List Scope) (bodies : List Body) : Type 0 where
+  pub counted : length bodies ≡ length scopes
+  pub each : (k : ℕ) (s : Scope) (b : Body) → slice_get scopes k ≡ Some s → slice_get bodies k ≡ Some b
+      → IsItemized s.items b.defs
+
 -- the name of an item that depends on itself
 pub record IsCyclicItem (items : List ItemDecl) (defs : List Def) (fault : Fault) : Type 0 where
   pub number : ℕ

@@ -2,9 +2,8 @@ use Rattle.std.proofs.Common.{◌≡◌, ◌<◌, ◌≤◌, ◌∙◌, Some, ge
 use Rattle.std.proofs.lemmas.Option.{slice_get-get_or}
 use Rattle.std.proofs.lemmas.Result.{err_from_is_err_and}
 use Rattle.cat_scope.specs.declared.defs.Body.{Body}
-use Rattle.cat_names.proofs.Exported.{meant_counted}
-use Rattle.cat_arrange.specs.inside.Chained.{IsChainFault, IsLongFunction}
-use Rattle.cat_arrange.proofs.Ordering.{because, itemized_at}
+use Rattle.cat_arrange.specs.inside.Chained.{IsFunctionFault, IsLongFunction}
+use Rattle.cat_arrange.proofs.Ordering.{because}
 use Rattle.cat_arrange.proofs.Chaining.{all_below, function_is_fault, one_below}
 use Rattle.cat_arrange.proofs.chains.refuse_long_functions.Goals as goal
 
@@ -12,7 +11,7 @@ pub at-scope-requires : goal.at-scope-requires
 at-scope-requires c = let less : c.loop-number.number < length c.args.bodies.now = search rules in omega (
   arith,
   less,
-  meant_counted c.args.decls.now c.declarations_are_sound.ensures c.args.tree.now c.args.bodies.now c.requires.meant,
+  c.requires.items.counted,
 )
 
 pub refuse_long-requires-clause-items : goal.refuse_long-requires-clause-items
@@ -21,8 +20,7 @@ refuse_long-requires-clause-items c =
     let is : c.body-item.result ≡ get_or c.args.bodies.now c.loop-number.number c.body-item.result = search rules in
     let there = slice_get-get_or c.args.bodies.now c.loop-number.number c.body-item.result less
     ∙ ap (λ (b : Body). Some b) (sym is) in
-    itemized_at c.args.decls.now c.declarations_are_sound.ensures c.args.tree.now c.args.bodies.now c.requires.meant
-    c.loop-number.number c.at-scope.result.now c.body-item.result c.at-scope.ensures there
+    c.requires.items.each c.loop-number.number c.at-scope.result.now c.body-item.result c.at-scope.ensures there
 
 pub refuse_long-requires-clause-order : goal.refuse_long-requires-clause-order
 refuse_long-requires-clause-order c =
@@ -40,8 +38,8 @@ returns-in_err-refuse_long-clause-cause c =
     ∙ ap (λ (b : Body). Some b) (sym is) in
     let p = err_from_is_err_and c.from_residual.result c.from_residual.ensures.1 in
     rw (p.1, p.2) (because (IsLongFunction c.at-scope.result.now.items c.body-item.result.defs)
-    (IsChainFault c.args.tree.now c.args.decls.now c.args.bodies.now)
-    (function_is_fault c.args.tree.now c.args.decls.now c.args.bodies.now c.loop-number.number c.at-scope.result.now
+    (IsFunctionFault c.args.decls.now.scopes c.args.bodies.now)
+    (function_is_fault c.args.decls.now.scopes c.args.bodies.now c.loop-number.number c.at-scope.result.now
     c.body-item.result c.at-scope.ensures there) c.in_err-refuse_long.field-0.0 c.in_err-refuse_long.ensures.cause)
 
 pub loop-number-preserved : goal.loop-number-preserved

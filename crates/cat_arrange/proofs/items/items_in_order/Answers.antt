@@ -14,7 +14,7 @@ at-scope-requires c =
     ∙ c.loop-body.invariant.1
     ∙ c.into_iter-body-iterator.ensures.into_iter_gives.0 ∙ c.into_vec-body-items.ensures in
     subst (λ (n : ℕ). n < length c.args.decls.now.scopes) (sym c.len.ensures)
-    (scope_there c.args.decls.now c.declarations_are_sound.ensures c.args.tree.now c.args.bodies c.requires
+    (scope_there c.args.decls.now c.args.bodies c.requires
     c.loop-body.made c.loop-body.yielded c.in-Some.body (into_iter_items c.next.new.self) split
     c.loop-body.invariant.0.kept)
 
@@ -25,7 +25,7 @@ order_of-requires c =
     ∙ c.into_iter-body-iterator.ensures.into_iter_gives.0 ∙ c.into_vec-body-items.ensures in
     let at = subst (λ (n : ℕ). slice_get c.args.decls.now.scopes n ≡ Some c.at-scope.result.now) c.len.ensures
     c.at-scope.ensures in
-    itemized c.args.decls.now c.declarations_are_sound.ensures c.args.tree.now c.args.bodies c.requires
+    itemized c.args.decls.now c.args.bodies c.requires
     c.loop-body.made c.loop-body.yielded c.in-Some.body (into_iter_items c.next.new.self) split
     c.loop-body.invariant.0.kept c.at-scope.result.now at
 
@@ -39,7 +39,7 @@ returns-in_err-order-clause-cause c =
     let p = err_from_is_err_and c.from_residual.result c.from_residual.ensures.1 in
     rw (p.1, p.2) (because (IsCyclicItem c.at-scope.result.now.items c.in-Some.body.defs)
     (IsItemCycle c.args.decls.now c.args.bodies)
-    (cyclic c.args.decls.now c.declarations_are_sound.ensures c.args.tree.now c.args.bodies c.requires
+    (cyclic c.args.decls.now c.args.bodies c.requires
     c.loop-body.made c.loop-body.yielded c.in-Some.body (into_iter_items c.next.new.self) split
     c.loop-body.invariant.0.kept c.at-scope.result.now at) c.in_err-order.field-0.0 c.in_err-order.ensures.cause)
 

@@ -1,4 +1,4 @@
-use Rattle.std.proofs.Common.{◌<◌, ◌≡◌, ◌++◌, List, length, sym, subst, rules}
+use Rattle.std.proofs.Common.{◌<◌, List, length, sym, subst, rules}
 use Rattle.std.specs.Prelude.{flat_map}
 use Rattle.cat_pos.specs.declared.pos.Pos.{Pos}
 use Rattle.cat_value.specs.declared.declaration.Scope.{Scope}
