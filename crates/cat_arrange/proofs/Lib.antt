@@ -1,0 +1,6 @@
+pub mod WordCalls
+pub mod Sourced
+pub mod Scoped
+pub mod Ordering
+pub mod Chaining
+pub mod Arranging

@@ -1,0 +1,4 @@
+pub mod Calling
+pub mod Calls
+pub mod Ordered
+pub mod Chained
