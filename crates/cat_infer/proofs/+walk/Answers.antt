@@ -100,7 +100,8 @@ lists::infer_arguments-returns-in_default-clause-told t c =
     arguments_end ms a.args.now a.params.now l.number a.locals.now l.made
     (arguments_of ms a.args.now a.locals.now a.params.now) none l.invariant.1
 
-pub lists::infer_arguments-returns-in_err-found-clause-told : goal.lists::infer_arguments-returns-in_err-found-clause-told
+pub lists::infer_arguments-returns-in_err-found-clause-told :
+    goal.lists::infer_arguments-returns-in_err-found-clause-told
 lists::infer_arguments-returns-in_err-found-clause-told t c =
     let p = err_from_is_err_and c.from_residual.result c.from_residual.ensures.1 in
     let a = c.args in
@@ -136,7 +137,8 @@ lists::infer_arguments-loop-number-preserved t c =
       (sym (c.arg-item.is ∙ ap (λ es. get_or es l.number arg) c.as_slice-arg-items.ensures)) at found l.invariant.1),
     )
 
-pub lists::infer_scope_call-returns-in_err-output-clause-told : goal.lists::infer_scope_call-returns-in_err-output-clause-told
+pub lists::infer_scope_call-returns-in_err-output-clause-told :
+    goal.lists::infer_scope_call-returns-in_err-output-clause-told
 lists::infer_scope_call-returns-in_err-output-clause-told t c =
     let p = err_from_is_err_and c.from_residual-in_err-output.result c.from_residual-in_err-output.ensures.1 in
     let a = c.args in
@@ -152,7 +154,8 @@ lists::infer_scope_call-returns-in_err-output-clause-told t c =
     (and_then found (scope_call_of (field_meant ns) ns a.place a.name.now a.fields.now a.output.now a.locals.now))))
     (sym c.in_ok-scope.ensures) exit)
 
-pub lists::infer_values-returns-in_err-infer_value-clause-told : goal.lists::infer_values-returns-in_err-infer_value-clause-told
+pub lists::infer_values-returns-in_err-infer_value-clause-told :
+    goal.lists::infer_values-returns-in_err-infer_value-clause-told
 lists::infer_values-returns-in_err-infer_value-clause-told t c =
     let p = err_from_is_err_and c.from_residual.result c.from_residual.ensures.1 in
     let l = c.loop-field in
@@ -170,7 +173,8 @@ lists::infer_values-returns-in_err-infer_value-clause-told t c =
     (sym (c.field-item.is ∙ ap (λ fs. get_or fs l.field-index field) c.as_slice-field-items.ensures)) told
     l.invariant.1)
 
-pub binders::infer_more_arms-returns-in_err-arm-clause-told : goal.binders::infer_more_arms-returns-in_err-arm-clause-told
+pub binders::infer_more_arms-returns-in_err-arm-clause-told :
+    goal.binders::infer_more_arms-returns-in_err-arm-clause-told
 binders::infer_more_arms-returns-in_err-arm-clause-told t c =
     let p = err_from_is_err_and c.from_residual.result c.from_residual.ensures.1 in
     let l = c.loop-arm in
