@@ -6,7 +6,7 @@ use Rattle.cat_names.specs.declared.fault.Refusal.{Refusal}
 use Rattle.cat_names.specs.declared.fault.Refusal.TheVariants.{Memory, Refused}
 use Rattle.cat_names.specs.declared.fault.Fault.TheVariants.{TypeMismatch}
 use Rattle.cat_names.specs.declared.typed.Typed.{Typed}
-use Rattle.cat_names.specs.Found.{Found, Tells, and_then, both, where_true}
+use Rattle.cat_names.specs.Found.{Found, Tells, both, where_true}
 use Rattle.cat_names.specs.Operations.{as_expected}
 use Rattle.cat_names.specs.Types.{is_as_expected}
 use Rattle.cat_names.proofs.Exported.{left_tells, right_tells, then_tells}
