@@ -84,11 +84,11 @@ lists::infer_all-loop-node-preserved t c =
     let pushed : c.push.new.self ≡ l.made ++ c.in_ok-found.found.expr ∷ [] = search rules in (
       search rules,
       subst (λ made. behind made (all_of_type (meant ns) (drop (l.node-index + 1) c.args.nodes.now) ls ty)
-      ≡ behind c.args.made (all_of_type (meant ns) c.args.nodes.now ls ty)) (sym pushed)
-      (turn_on (λ e. meant ns e ls (Some ty)) (λ x. x.expr) (λ es. all_of_type (meant ns) es ls ty)
-      (λ e es. refl) c.args.nodes.now l.node-index c.node-item.result l.made
-      (behind c.args.made (all_of_type (meant ns) c.args.nodes.now ls ty)) c.in_ok-found.found within
-      (sym c.node-item.is) found l.invariant.1),
+          ≡ behind c.args.made (all_of_type (meant ns) c.args.nodes.now ls ty)) (sym pushed)
+          (turn_on (λ e. meant ns e ls (Some ty)) (λ x. x.expr) (λ es. all_of_type (meant ns) es ls ty)
+          (λ e es. refl) c.args.nodes.now l.node-index c.node-item.result l.made
+          (behind c.args.made (all_of_type (meant ns) c.args.nodes.now ls ty)) c.in_ok-found.found within
+          (sym c.node-item.is) found l.invariant.1),
     )
 
 pub lists::infer_arguments-returns-in_default-clause-told : goal.lists::infer_arguments-returns-in_default-clause-told
@@ -131,10 +131,10 @@ lists::infer_arguments-loop-number-preserved t c =
     let pushed : c.push.new.self ≡ l.made ++ x.expr ∷ [] = search rules in (
       search rules,
       subst (λ made. behind made (arguments_of ms (drop (l.number + 1) a.args.now) a.locals.now
-      (drop (l.number + 1) a.params.now)) ≡ arguments_of ms a.args.now a.locals.now a.params.now) (sym pushed)
-      (argument_on ms a.args.now a.params.now l.number arg c.in-Some.ty.now a.locals.now l.made
-      (arguments_of ms a.args.now a.locals.now a.params.now) x within
-      (sym (c.arg-item.is ∙ ap (λ es. get_or es l.number arg) c.as_slice-arg-items.ensures)) at found l.invariant.1),
+          (drop (l.number + 1) a.params.now)) ≡ arguments_of ms a.args.now a.locals.now a.params.now) (sym pushed)
+          (argument_on ms a.args.now a.params.now l.number arg c.in-Some.ty.now a.locals.now l.made
+          (arguments_of ms a.args.now a.locals.now a.params.now) x within
+          (sym (c.arg-item.is ∙ ap (λ es. get_or es l.number arg) c.as_slice-arg-items.ensures)) at found l.invariant.1),
     )
 
 pub lists::infer_scope_call-returns-in_err-output-clause-told :
@@ -207,9 +207,9 @@ binders::infer_more_arms-loop-arm-preserved t c =
     c.in_ok-arm.ensures.told in (
       search rules,
       subst (λ now. behind now (all_arms (arm_meant ns) ns of.0 of.1 (drop (l.arm-index + 1) c.args.arms.now) ls ty)
-      ≡ behind c.args.made (all_arms (arm_meant ns) ns of.0 of.1 c.args.arms.now ls ty)) (sym c.in_ok-push.ensures.ok)
-      (turn_on (λ a. arm_of ns of.0 of.1 (arm_meant ns a) ls (Some ty)) (λ x. x.0)
-      (λ arms. all_arms (arm_meant ns) ns of.0 of.1 arms ls ty) (λ a arms. refl) c.args.arms.now l.arm-index arm l.made
-      (behind c.args.made (all_arms (arm_meant ns) ns of.0 of.1 c.args.arms.now ls ty)) made within
-      (sym c.arm-item.is) found l.invariant.1),
+          ≡ behind c.args.made (all_arms (arm_meant ns) ns of.0 of.1 c.args.arms.now ls ty)) (sym c.in_ok-push.ensures.ok)
+          (turn_on (λ a. arm_of ns of.0 of.1 (arm_meant ns a) ls (Some ty)) (λ x. x.0)
+          (λ arms. all_arms (arm_meant ns) ns of.0 of.1 arms ls ty) (λ a arms. refl) c.args.arms.now l.arm-index arm l.made
+          (behind c.args.made (all_arms (arm_meant ns) ns of.0 of.1 c.args.arms.now ls ty)) made within
+          (sym c.arm-item.is) found l.invariant.1),
     )
