@@ -47,21 +47,21 @@ HasCause old new main (Err (TooLarge name)) =
     (bytes : ℕ) × ComesTo old.content main name bytes × Reads name (limit_after bytes) old new (Err fault.Long)
 HasCause old new main (Err Memory) = (name : List ℕ) × Keeps name old new
 
--- whether a read was refused, or memory ran out
-abbrev pub is_fault : {T : Type 0} → Result T GatherRefusal → Bool
-is_fault (Ok _) = false
-is_fault (Err (NotUtf8 name pos)) = false
-is_fault (Err (FenceOpen name pos)) = false
-is_fault (Err (IncludeTwice name pos)) = false
-is_fault (Err (Missing name)) = true
-is_fault (Err (ReadFault name)) = true
-is_fault (Err (TooLarge name)) = true
-is_fault (Err Memory) = true
+-- whether a read failed, or memory ran out: these may come whatever is told
+abbrev pub is_failure : {T : Type 0} → Result T GatherRefusal → Bool
+is_failure (Ok _) = false
+is_failure (Err (NotUtf8 name pos)) = false
+is_failure (Err (FenceOpen name pos)) = false
+is_failure (Err (IncludeTwice name pos)) = false
+is_failure (Err (Missing name)) = false
+is_failure (Err (ReadFault name)) = true
+is_failure (Err (TooLarge name)) = false
+is_failure (Err Memory) = true
 
--- what must be answered, but for refused reads and want of memory: anything where content isn't told
+-- what must be answered, but for failed reads and want of memory: anything where content isn't told
 abbrev pub IsAnswerTo : Ending Source → Result Source GatherRefusal → Type 0
-IsAnswerTo (Whole source) result = is_fault result ≡ false → result ≡ Ok source
-IsAnswerTo (Refused refusal) result = is_fault result ≡ false → result ≡ Err refusal
+IsAnswerTo (Whole source) result = is_failure result ≡ false → result ≡ Ok source
+IsAnswerTo (Refused refusal) result = is_failure result ≡ false → result ≡ Err refusal
 IsAnswerTo (StopsAt name bytes) result = ⊤
 
 -- how many bytes pieces have together

@@ -2,10 +2,12 @@
 #![tactic(auto)]
 
 mod gatherer;
+mod laws;
 mod pending;
 mod source;
 
 pub use gatherer::gather;
+pub use laws::told_sources_are_gathered;
 pub use source::{GatherRefusal, Source};
 
 #[cfg(test)]
