@@ -1,21 +1,18 @@
 -- Objects of inputs and outputs, a member at a time, and positions.
-use Rattle.std.proofs.Common.{◌≡◌, ℕ, zero, suc, ◌+◌, ◌<◌, ◌≤◌, true, List, [], ◌∷◌, drop, drop-cons, get_or, length}
-use Rattle.std.proofs.Common.{add-one, Option, None, Some, refl, arith, String, Global, string_bytes, string_cmp}
+use Rattle.std.proofs.Common.{◌≡◌, ℕ, ◌+◌, ◌<◌, ◌≤◌, true, List, [], ◌∷◌, drop, drop-cons, get_or, length}
+use Rattle.std.proofs.Common.{add-one, Option, None, Some, refl, String, Global, string_bytes, string_cmp}
 use Rattle.std.specs.Prelude.{slice_get}
-use Rattle.std.specs.Option.{option_map, is_some}
 use Rattle.std.specs.BTreeMap.{insert_entry}
 use Rattle.std.proofs.lemmas.List.{drop_all}
 use Rattle.serde_json.specs.Data.{Members}
 use Rattle.serde_json.specs.View.{view, members_view}
 use Rattle.serde_json.specs.declared.value.Value.{Value as Json}
 use Rattle.serde_json.proofs.Views.{Entry, members_view-insert_entry}
-use Rattle.cat_pos.specs.declared.pos.Pos.{Pos}
-use Rattle.cat_pos.specs.Position.{shown}
 use Rattle.cat_value.specs.declared.value.Value.{Value}
 use Rattle.cat_value.specs.declared.declaration.ItemDecl.{ItemDecl}
 use Rattle.cat_value.specs.declared.decls.Decls.{Decls}
 use Rattle.cat_answer.specs.Writes.{data_of, inputs_data}
-use Rattle.cat_answer.specs.Answer.{is_output, outputs_of, outputs_data, joined, places_text}
+use Rattle.cat_answer.specs.Answer.{is_output, outputs_of, outputs_data}
 use Rattle.cat_answer.proofs.WriteEquations.{drop-get, drop-past}
 
 -- a variable that is given
@@ -91,21 +88,3 @@ outputs_data-past ds is vs m others e = rw (drop-past vs m e) (outputs_data-none
 pub outputs_data-end : (ds : Decls) (is : List ItemDecl) (vs : List Value) (n m : ℕ) (others : Members) → length is ≤ n
     → outputs_data ds (outputs_of (drop n is)) (drop m vs) others ≡ others
 outputs_data-end ds is vs n m others h = rw (drop_all n is h) refl
-
-has_entry : {A B : Type 0} (xs : List A) (n : ℕ) (f : A → B) → is_some (option_map f (slice_get xs n)) ≡ true
-    → n < length xs
-has_entry [] n f e = absurd (cc)
-has_entry (x ∷ xs) zero f e = omega arith
-has_entry (x ∷ xs) (suc n) f e = omega (arith, has_entry xs n f e)
-
-joined-first : (a b : Option (List ℕ)) → is_some (joined a b) ≡ true → is_some a ≡ true
-joined-first None b e = absurd (cc)
-joined-first (Some first) b e = refl
-
--- the file of a position that is told
-pub places_text-file : (names : List (List ℕ)) (places : List Pos) (n : ℕ) (d : Pos) → n < length places
-    → is_some (places_text names (drop n places)) ≡ true → (get_or places n d).file < length names
-places_text-file names places n d h e =
-    let told = rw (drop-cons places n d h) at e in
-    has_entry names (get_or places n d).file _
-    (joined-first (shown names (get_or places n d)) (places_text names (drop (suc n) places)) told)

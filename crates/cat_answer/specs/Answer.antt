@@ -1,11 +1,9 @@
--- The line that tells an outcome. Where a number names no entry, there is none.
+-- The line that tells an outcome. Where a number names no entry, its name is empty.
 use Rattle.std.specs.Prelude.{ℕ, Bool, true, false, List, [], ◌∷◌, ◌++◌, slice_get, if◌then◌else◌, Option, Some, None}
-use Rattle.std.specs.Prelude.{codes, option_and_then}
-use Rattle.std.specs.Option.{option_map}
+use Rattle.std.specs.Prelude.{codes, decimal, option_map, unwrap_or}
 use Rattle.serde_json.specs.Data.{Data, Members, no_members, object, put}
 use Rattle.serde_json.specs.Written.{compact_text}
 use Rattle.cat_pos.specs.declared.pos.Pos.{Pos}
-use Rattle.cat_pos.specs.Position.{shown}
 use Rattle.cat_value.specs.declared.value.Value.{Value}
 use Rattle.cat_value.specs.declared.declaration.Kind.{Kind}
 use Rattle.cat_value.specs.declared.declaration.Kind.TheVariants.{Output, InputOutput, ContextOutput, Called}
@@ -42,37 +40,43 @@ outputs_data ds (i ∷ is) (v ∷ vs) others = outputs_data ds is vs (put i.name
 abbrev pub outputs_object : Decls → List ItemDecl → List Value → Data
 outputs_object ds is vs = object (outputs_data ds (outputs_of is) vs no_members)
 
+-- a text, or nothing where there is none
+abbrev pub text_or_nothing : Option (List ℕ) → List ℕ
+text_or_nothing text = unwrap_or text []
+
 -- item k of the scope that an item calls
 abbrev pub called_item : Decls → Kind → ℕ → Option ItemDecl
 called_item ds (Called n) k = slice_get (items_of (slice_get ds.scopes n)) k
 called_item ds kind k = None
 
 -- `x`, or `t.x` for an item of a called scope
-abbrev pub item_text : Decls → ItemDecl → Option ℕ → Option (List ℕ)
-item_text ds i None = Some i.name
+abbrev pub item_text : Decls → ItemDecl → Option ℕ → List ℕ
+item_text ds i None = i.name
 item_text ds i (Some k) =
-    option_map (λ (inner : ItemDecl). i.name ++ (codes "." ++ inner.name)) (called_item ds i.kind k)
+    i.name ++ (codes "." ++ text_or_nothing (option_map (λ (inner : ItemDecl). inner.name) (called_item ds i.kind k)))
 
 -- `S.x` or `S.t.x`, in the scope S
-abbrev pub scope_text : Decls → Scope → Target → Option (List ℕ)
+abbrev pub scope_text : Decls → Scope → Target → List ℕ
 scope_text ds s target =
-    option_map (λ name. s.name ++ (codes "." ++ name))
-    (option_and_then (λ i. item_text ds i target.inner) (slice_get s.items target.item))
+    s.name ++ (codes "." ++ text_or_nothing (option_map (λ i. item_text ds i target.inner)
+    (slice_get s.items target.item)))
 
 -- `S.x` or `S.t.x`
-abbrev pub target_text : Decls → Target → Option (List ℕ)
-target_text ds target = option_and_then (λ s. scope_text ds s target) (slice_get ds.scopes target.scope)
+abbrev pub target_text : Decls → Target → List ℕ
+target_text ds target = text_or_nothing (option_map (λ s. scope_text ds s target) (slice_get ds.scopes target.scope))
 
--- two texts one after the other, where both are there
-abbrev pub joined : Option (List ℕ) → Option (List ℕ) → Option (List ℕ)
-joined (Some first) (Some rest) = Some (codes " " ++ (first ++ rest))
-joined (Some first) None = None
-joined None rest = None
+-- the text `name:line:column`, of a position in a file of that name
+abbrev pub named_position : List ℕ → Pos → List ℕ
+named_position name pos = name ++ (codes ":" ++ (decimal pos.line ++ (codes ":" ++ decimal pos.column)))
+
+-- the same, where files have these names
+abbrev pub position_text : List (List ℕ) → Pos → List ℕ
+position_text names pos = named_position (text_or_nothing (slice_get names pos.file)) pos
 
 -- the positions, each after a blank
-abbrev pub places_text : List (List ℕ) → List Pos → Option (List ℕ)
-places_text names [] = Some []
-places_text names (place ∷ places) = joined (shown names place) (places_text names places)
+abbrev pub positions_text : List (List ℕ) → List Pos → List ℕ
+positions_text names [] = []
+positions_text names (pos ∷ more) = codes " " ++ (position_text names pos ++ positions_text names more)
 
 -- the name of a kind of faults
 abbrev pub fault_text : FaultKind → List ℕ
@@ -82,24 +86,13 @@ fault_text fault.AmbiguousDate = codes "AmbiguousDate"
 fault_text fault.Uncomparable = codes "Uncomparable"
 fault_text fault.AssertionFailed = codes "AssertionFailed"
 
--- `conflict S.x at P1 P2`
-abbrev pub conflict_text : Option (List ℕ) → Option (List ℕ) → Option (List ℕ)
-conflict_text (Some target) (Some places) = Some (codes "conflict " ++ (target ++ (codes " at" ++ places)))
-conflict_text (Some target) None = None
-conflict_text None places = None
-
--- `no value S.x at P`
-abbrev pub no_value_text : Option (List ℕ) → Option (List ℕ) → Option (List ℕ)
-no_value_text (Some target) (Some place) = Some (codes "no value " ++ (target ++ (codes " at " ++ place)))
-no_value_text (Some target) None = None
-no_value_text None place = None
-
 -- the line of an outcome of a scope, without its line feed: the object of the outputs, or why there is none
-abbrev pub answer_of : Decls → ℕ → List (List ℕ) → Outcome → Option (List ℕ)
+abbrev pub answer_of : Decls → ℕ → List (List ℕ) → Outcome → List ℕ
 answer_of ds scope names (outcome.Value vs) =
-    Some (compact_text (outputs_object ds (items_of (slice_get ds.scopes scope)) vs))
-answer_of ds scope names (outcome.Conflict target places) =
-    conflict_text (target_text ds target) (places_text names places)
-answer_of ds scope names (outcome.NoValue target place) = no_value_text (target_text ds target) (shown names place)
-answer_of ds scope names (outcome.Fault kind place) =
-    option_map (λ text. codes "fault " ++ (fault_text kind ++ (codes " at " ++ text))) (shown names place)
+    compact_text (outputs_object ds (items_of (slice_get ds.scopes scope)) vs)
+answer_of ds scope names (outcome.Conflict target positions) =
+    codes "conflict " ++ (target_text ds target ++ (codes " at" ++ positions_text names positions))
+answer_of ds scope names (outcome.NoValue target pos) =
+    codes "no value " ++ (target_text ds target ++ (codes " at " ++ position_text names pos))
+answer_of ds scope names (outcome.Fault kind pos) =
+    codes "fault " ++ (fault_text kind ++ (codes " at " ++ position_text names pos))

@@ -1,20 +1,19 @@
 //! Writes values, inputs and outcomes.
-ghost use Rattle.std.specs.Prelude.{◌≡◌, ◌<◌, IfOk, IsTrue, Some, length, slice_get, string_bytes};
-ghost use Rattle.std.specs.Option.{is_some, option_copied};
+ghost use Rattle.std.specs.Prelude.{◌≡◌, ◌<◌, IfOk, length, slice_get, string_bytes};
+ghost use Rattle.std.specs.Option.{option_copied};
 ghost use Rattle.serde_json.specs.Data.{no_members};
 ghost use Rattle.serde_json.specs.View.{view};
 ghost use Rattle.serde_json.specs.Written.{compact_text};
-ghost use Rattle.cat_pos.specs.Position.{shown};
 ghost use Rattle.cat_json.specs.InputsRead.{items_of};
 ghost use Rattle.cat_answer.specs.Writes.{value_bytes, input_bytes};
 ghost use Rattle.cat_answer.specs.ReadBack.{IsValueText, IsInputText};
 ghost use Rattle.cat_answer.specs.Answer as answers;
-ghost use Rattle.cat_answer.specs.Answer.{answer_of, outputs_object, target_text, scope_text, item_text, fault_text};
+ghost use Rattle.cat_answer.specs.Answer.{answer_of, outputs_object, fault_text, text_or_nothing};
 
 use crate::members::{input_json, outputs_json};
 use crate::writing::value_json;
 use cat_date::shown_days_are_read;
-use cat_pos::{Files, Pos, show_pos};
+use cat_pos::{Files, Pos};
 use cat_value::{
     Decls, FaultKind, Input, ItemDecl, ItemDecls, Kind, Outcome, Scope, Target, Ty, Value, Values,
 };
@@ -55,8 +54,8 @@ pub fn input_text(
     input_json(alloc, input, items, decls)?.to_string(alloc)
 }
 
-/// The line that tells an outcome of the scope, without its line feed. A number in the outcome names an entry of the
-/// declarations or the files.
+/// The line that tells an outcome of the scope, without its line feed. Where a number in the outcome names no entry of
+/// the declarations or the files, its name is empty.
 pub fn answer_text(
     alloc: Global,
     outcome: &Outcome,
@@ -64,29 +63,28 @@ pub fn answer_text(
     scope: u32,
     files: &Files,
 ) -> Result<String, AllocError>
-    requires scope { scope < length decls.now.scopes }
-    requires named { IsTrue (is_some (answer_of decls.now scope files.now outcome.now)) }
-    ensures { IfOk result (λ text. answer_of decls.now scope files.now outcome.now ≡ Some (string_bytes text)) }
+    requires { scope < length decls.now.scopes }
+    ensures { IfOk result (λ text. string_bytes text ≡ answer_of decls.now scope files.now outcome.now) }
 {
     match outcome {
         Outcome::Value(values) => {
             let items = &decls.scopes.at(scope as usize).items;
             outputs_text(alloc, values, items, decls)
         }
-        Outcome::Conflict(target, places) => {
+        Outcome::Conflict(target, positions) => {
             let target = target_text(alloc, *target, decls)?;
-            let places = places_text(alloc, places.as_slice(), files)?;
-            format!(in alloc; "conflict {target} at{places}")
+            let positions = positions_text(alloc, positions.as_slice(), files)?;
+            format!(in alloc; "conflict {target} at{positions}")
         }
-        Outcome::NoValue(target, place) => {
+        Outcome::NoValue(target, pos) => {
             let target = target_text(alloc, *target, decls)?;
-            let place = show_pos(alloc, files, *place)?;
-            format!(in alloc; "no value {target} at {place}")
+            let pos = position_text(alloc, files, *pos)?;
+            format!(in alloc; "no value {target} at {pos}")
         }
-        Outcome::Fault(kind, place) => {
+        Outcome::Fault(kind, pos) => {
             let kind = fault_text(*kind);
-            let place = show_pos(alloc, files, *place)?;
-            format!(in alloc; "fault {kind} at {place}")
+            let pos = position_text(alloc, files, *pos)?;
+            format!(in alloc; "fault {kind} at {pos}")
         }
     }
 }
@@ -105,12 +103,11 @@ fn outputs_text(
 
 /// `S.x`, or `S.t.x` for an item of a called scope.
 fn target_text(alloc: Global, target: Target, decls: &Decls) -> Result<String, AllocError>
-    requires { IsTrue (is_some (target_text decls.now target)) }
-    ensures { IfOk result (λ text. target_text decls.now target ≡ Some (string_bytes text)) }
+    ensures { IfOk result (λ text. string_bytes text ≡ answers.target_text decls.now target) }
 {
     match decls.scopes.get(target.scope as usize) {
         Some(scope) => scope_text(alloc, scope, target, decls),
-        None => unreachable!(),
+        None => Ok(String::new(alloc)),
     }
 }
 
@@ -120,16 +117,15 @@ fn scope_text(
     target: Target,
     decls: &Decls,
 ) -> Result<String, AllocError>
-    requires { IsTrue (is_some (scope_text decls.now scope.now target)) }
-    ensures { IfOk result (λ text. scope_text decls.now scope.now target ≡ Some (string_bytes text)) }
+    ensures { IfOk result (λ text. string_bytes text ≡ answers.scope_text decls.now scope.now target) }
 {
+    let name = scope.name.as_str();
     match scope.items.get(target.item as usize) {
         Some(item) => {
-            let name = scope.name.as_str();
             let item = item_text(alloc, item, target.inner, decls)?;
             format!(in alloc; "{name}.{item}")
         }
-        None => unreachable!(),
+        None => format!(in alloc; "{name}."),
     }
 }
 
@@ -139,19 +135,18 @@ fn item_text(
     inner: Option<u32>,
     decls: &Decls,
 ) -> Result<String, AllocError>
-    requires { IsTrue (is_some (item_text decls.now item.now inner)) }
-    ensures { IfOk result (λ text. item_text decls.now item.now inner ≡ Some (string_bytes text)) }
+    ensures { IfOk result (λ text. string_bytes text ≡ answers.item_text decls.now item.now inner) }
 {
     let name = item.name.as_str();
-    match inner {
-        None => String::from_str(alloc, name),
-        Some(inner) => match called_item(item.kind, inner, decls) {
-            Some(inner) => {
-                let inner = inner.name.as_str();
-                format!(in alloc; "{name}.{inner}")
-            }
-            None => unreachable!(),
-        },
+    let Some(inner) = inner else {
+        return String::from_str(alloc, name);
+    };
+    match called_item(item.kind, inner, decls) {
+        Some(inner) => {
+            let inner = inner.name.as_str();
+            format!(in alloc; "{name}.{inner}")
+        }
+        None => format!(in alloc; "{name}."),
     }
 }
 
@@ -168,16 +163,41 @@ fn called_item(kind: Kind, inner: u32, decls: &Decls) -> Option<&ItemDecl>
     }
 }
 
+/// The name of a file, empty where none has that number.
+fn file_name(files: &Files, file: u32) -> &str
+    ensures { result.now ≡ text_or_nothing (slice_get files.now file) }
+{
+    if (file as usize) < files.len() {
+        return files.name(file);
+    }
+    ""
+}
+
+/// The text `name:line:column` of a position in a file of that name.
+pub fn named_position(alloc: Global, name: &str, pos: Pos) -> Result<String, AllocError>
+    ensures { IfOk result (λ text. string_bytes text ≡ answers.named_position name.now pos) }
+{
+    let line = pos.line;
+    let column = pos.column;
+    format!(in alloc; "{name}:{line}:{column}")
+}
+
+/// The text `name:line:column` of a position. Where no file has its number, the name is empty.
+pub fn position_text(alloc: Global, files: &Files, pos: Pos) -> Result<String, AllocError>
+    ensures { IfOk result (λ text. string_bytes text ≡ answers.position_text files.now pos) }
+{
+    named_position(alloc, file_name(files, pos.file), pos)
+}
+
 /// The positions, each after a blank.
-fn places_text(alloc: Global, places: &[Pos], files: &Files) -> Result<String, AllocError>
-    requires { IsTrue (is_some (answers.places_text files.now places.now)) }
-    ensures { IfOk result (λ text. answers.places_text files.now places.now ≡ Some (string_bytes text)) }
+fn positions_text(alloc: Global, positions: &[Pos], files: &Files) -> Result<String, AllocError>
+    ensures { IfOk result (λ text. string_bytes text ≡ answers.positions_text files.now positions.now) }
 {
     let mut text = String::new(alloc);
-    for &place in places {
-        let place = show_pos(alloc, files, place)?;
+    for &pos in positions {
+        let pos = position_text(alloc, files, pos)?;
         text.push_str(" ")?;
-        text.push_str(place.as_str())?;
+        text.push_str(pos.as_str())?;
     }
     Ok(text)
 }
