@@ -1,5 +1,5 @@
 -- Each tree that was read has a program, or a fault stands against it.
-use Rattle.std.proofs.Common.{◌≡◌, ◌⊎◌, ◌<◌, ◌+◌, nat_lt, ℕ, suc, Bool, true, false, IsTrue, List, [], ◌∷◌, ◌++◌}
+use Rattle.std.proofs.Common.{◌≡◌, ◌⊎◌, ◌<◌, nat_lt, ℕ, suc, Bool, true, false, IsTrue, List, [], ◌∷◌, ◌++◌}
 use Rattle.std.proofs.Common.{length, map, Some, Ok, Err, slice_get, refl, sym, ap, ◌∙◌, subst, arith, inl, inr}
 use Rattle.std.proofs.Common.{true≢false}
 use Rattle.std.specs.Prelude.{flat_map}
@@ -80,7 +80,7 @@ on_within deps n on = let next = next_on deps n on in depends_within deps n next
 
 -- ---- bodies without an order, and with one
 
-abbrev with_order : List ℕ → UnorderedBody → Body
+abbrev pub with_order : List ℕ → UnorderedBody → Body
 with_order order b = record {
   defs = b.defs;
   assertions = b.assertions;

@@ -1,5 +1,5 @@
 -- What a tree declares keeps the counts, where no name and no count is at fault.
-use Rattle.std.proofs.Common.{◌≡◌, ◌<◌, ◌≤◌, ◌+◌, ◌&&◌, nat_lt, not, ℕ, zero, suc, Bool, true, false, IsTrue, List, []}
+use Rattle.std.proofs.Common.{◌≡◌, ◌<◌, ◌≤◌, ◌&&◌, nat_lt, not, ℕ, zero, suc, Bool, true, false, IsTrue, List, []}
 use Rattle.std.proofs.Common.{◌∷◌, ◌++◌, length, map, Option, Some, None, Ok, slice_get, refl, ap, subst, arith}
 use Rattle.std.specs.Prelude.{flat_map}
 use Rattle.std.proofs.lemmas.Bool.Decides.{nat_tests}
@@ -57,7 +57,7 @@ few_of_none [] n h = omega arith
 few_of_none (x ∷ xs) zero h = cc h
 few_of_none (x ∷ xs) (suc n) h = omega (arith, few_of_none xs n h)
 
-none_past : (limit : ℕ) (ps : List Pos) → past limit ps ≡ [] → length ps ≤ limit
+pub none_past : (limit : ℕ) (ps : List Pos) → past limit ps ≡ [] → length ps ≤ limit
 none_past limit ps h = few_of_none ps limit (by (slice_get ps limit) h)
   where
     by : (o : Option Pos) → too_many o ≡ [] → o ≡ None

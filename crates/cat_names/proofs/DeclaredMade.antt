@@ -3,9 +3,7 @@ use Rattle.std.proofs.Common.{◌≡◌, List, [], ◌∷◌, length, Option, So
 use Rattle.std.specs.Prelude.{flat_map}
 use Rattle.cat_value.specs.declared.ty.Ty.{Ty}
 use Rattle.cat_value.specs.declared.ty.Ty.TheVariants as flat_ty
-use Rattle.cat_value.specs.declared.ty.Ty.TheViews as ty
 use Rattle.cat_tree.specs.declared.name.Name.{Name}
-use Rattle.cat_tree.specs.declared.name.Type as written
 use Rattle.cat_tree.specs.declared.program.Item.{Item}
 use Rattle.cat_scope.specs.Names.{AllHave}
 use Rattle.cat_names.proofs.ListLaws.{all_any, each_of}

@@ -4,21 +4,11 @@ use Rattle.std.proofs.Common.{◌≡◌, ◌⊎◌, not, Bool, true, false, List
 use Rattle.std.proofs.Common.{refl, inl, inr}
 use Rattle.cat_pos.specs.declared.pos.Pos.{Pos}
 use Rattle.cat_tree.specs.declared.name.Name.{Name}
-use Rattle.cat_tree.specs.declared.name.CaseName.TheVariants as case
-use Rattle.cat_tree.specs.declared.name.Type as written
-use Rattle.cat_tree.specs.declared.expression.Each as eaches
-use Rattle.cat_tree.specs.declared.expression.Pattern.TheVariants as pattern
-use Rattle.cat_tree.specs.declared.expression.Node.TheVariants as leaf
-use Rattle.cat_tree.specs.declared.expression.Node.TheViews as node
-use Rattle.cat_scope.specs.declared.expr.Expr.TheViews as expr
-use Rattle.cat_scope.specs.declared.expr.ArmPattern.TheVariants as resolved
 use Rattle.cat_scope.specs.Names.{IsOneOf}
 use Rattle.cat_names.specs.declared.fault.Fault.{Fault}
 use Rattle.cat_names.specs.declared.fault.Fault.TheVariants.{NameTwice, NameUnknown}
 use Rattle.cat_names.specs.Found.{Found, and_then, both, or_fault, where_true, fault_if}
 use Rattle.cat_names.specs.Unknown.{unless}
-use Rattle.cat_names.proofs.Equations as equation
-use Rattle.cat_names.proofs.UnknownEquations as unknown
 use Rattle.cat_names.proofs.OnlyLaws.{split}
 
 -- ---- answers

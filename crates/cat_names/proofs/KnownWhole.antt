@@ -1,6 +1,6 @@
 -- Where no name of a tree is at fault, an unknown name that stands in what it says of its scopes needs a type.
 use Rattle.std.specs.Prelude.{flat_map, bytes_eq, not, find}
-use Rattle.std.proofs.Common.{◌≡◌, ◌⊎◌, ◌||◌, ◌+◌, ℕ, zero, suc, Bool, true, false, List, [], ◌∷◌, ◌++◌, map, Option}
+use Rattle.std.proofs.Common.{◌≡◌, ◌⊎◌, ◌||◌, ℕ, zero, suc, Bool, true, false, List, [], ◌∷◌, ◌++◌, map, Option}
 use Rattle.std.proofs.Common.{Some, None, Ok, slice_get, refl, sym, ap, ◌∙◌, subst, arith, inl, inr, if◌then◌else◌}
 use Rattle.std.proofs.Common.{cond}
 use Rattle.std.proofs.lemmas.Slice.Eq.{bytes_eq-Decides}

@@ -52,6 +52,8 @@ mod HonestLaws
 mod HonestBodies
 mod DecidedLaws
 mod RefusedLaws
+mod DefinitionCounts
+mod OneProgram
 mod CalledWords
 mod CalledParts
 mod CalledLaws

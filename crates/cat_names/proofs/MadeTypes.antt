@@ -8,7 +8,6 @@ use Rattle.std.proofs.lemmas.List.{length-append, length-map}
 use Rattle.cat_order.specs.Order.{AreItems}
 use Rattle.cat_value.specs.declared.ty.Ty.{Ty}
 use Rattle.cat_value.specs.declared.ty.Ty.TheVariants as flat_ty
-use Rattle.cat_value.specs.declared.ty.Ty.TheViews as ty
 use Rattle.cat_value.specs.declared.declaration.Field.{Field}
 use Rattle.cat_value.specs.declared.declaration.Structure.{Structure}
 use Rattle.cat_value.specs.declared.declaration.Case.{Case}

@@ -32,7 +32,7 @@ use Rattle.cat_names.proofs.LowKept.{heights_kept}
 abbrev pub CyclesLeaveNone : Type 0
 CyclesLeaveNone = (deps : List (List ℕ)) (item : ℕ) → IsOnCycle deps item → HasNoOrder deps
 
-ok_same : {A : Type 0} (found : Found A) (a b : A) → found ≡ Ok a → found ≡ Ok b → a ≡ b
+pub ok_same : {A : Type 0} (found : Found A) (a b : A) → found ≡ Ok a → found ≡ Ok b → a ≡ b
 ok_same found a b h i = cc (h, i)
 
 none_stands : (fault : Fault) (faults : List Fault) → faults ≡ [] → IsOneOf fault faults → ⊥

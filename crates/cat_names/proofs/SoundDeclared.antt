@@ -21,10 +21,6 @@ use Rattle.cat_value.specs.Declarations.{are_sound, is_boolean, highest}
 use Rattle.cat_value.specs.Heights.{height_to}
 use Rattle.cat_value.specs.Dependencies.{type_dependencies, are_ordered}
 use Rattle.cat_value.proofs.Exported.{within}
-use Rattle.cat_tree.specs.declared.program.Kind as kinds
-use Rattle.cat_tree.specs.declared.program.Kind.TheVariants as kind
-use Rattle.cat_tree.specs.declared.program.Variable.TheVariants as variable
-use Rattle.cat_tree.specs.declared.program.Item.TheVariants as item
 use Rattle.cat_tree.specs.declared.program.Tree.{Tree}
 use Rattle.cat_scope.specs.Names.{AllHave}
 use Rattle.cat_names.proofs.ListLaws.{each_of}

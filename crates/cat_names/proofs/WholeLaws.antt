@@ -30,7 +30,6 @@ use Rattle.cat_scope.specs.WellFormed.{is_internal, is_placed, DefTyped, Asserti
 use Rattle.cat_scope.specs.WellFormed.{AreBodiesOf, IsWellFormed}
 use Rattle.cat_names.specs.declared.fault.Fault.TheVariants.{Misplaced, NameUnknown}
 use Rattle.cat_names.specs.Found.{Found, or_fault, fault_if, faults_of, each_found}
-use Rattle.cat_value.specs.declared.declaration.Kind.TheVariants as kind
 use Rattle.cat_names.specs.Lookup.{TypeNames, type_found, first_named}
 use Rattle.cat_names.specs.Written.{texts, names_of, scopes_in, types_in, scope_names_in}
 use Rattle.cat_names.specs.Declarations.{Declared, variable_type, item_declared, scope_declared, types_declared}

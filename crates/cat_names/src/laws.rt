@@ -1,5 +1,5 @@
 // What holds of what a tree means: each law is the contract of a function.
-ghost use Rattle.std.specs.Prelude.{◌≡◌, ℕ, List, map, Option, Some, Ok};
+ghost use Rattle.std.specs.Prelude.{◌≡◌, ◌≤◌, ℕ, List, length, map, Option, Some, Ok};
 ghost use Rattle.cat_pos.specs.declared.pos.Pos.{Pos};
 ghost use Rattle.cat_value.specs.declared.decls.Decls.{Decls};
 ghost use Rattle.cat_value.specs.declared.ty.Ty.{Ty};
@@ -24,13 +24,14 @@ ghost use Rattle.cat_names.specs.TypedNames.{known_of, typed_names_in};
 ghost use Rattle.cat_names.specs.Bodies.{bodies_meant};
 ghost use Rattle.cat_names.specs.Rows.{sum_for};
 ghost use Rattle.cat_names.specs.Symbols.{StandsBetween, StandsBefore, IsFlat};
-ghost use Rattle.cat_names.specs.Accepted.{IsNamed, IsParsed, IsProgramOf, IsRefused, parts_of};
+ghost use Rattle.cat_names.specs.Accepted.{IsMeant, IsNamed, IsParsed, IsProgramOf, IsRefused, parts_of};
+ghost use Rattle.cat_names.specs.declared.limits.TheConstants.{MOST_DEFINITIONS};
 ghost use Rattle.cat_names.specs.Decided.{IsDecided};
 ghost use Rattle.cat_names.specs.ScopeWords.{scope_words, AreWordsOf};
 ghost use Rattle.cat_names.specs.Naming.{names_in_scope};
 ghost use Rattle.cat_names.specs.TypedMeanings.{OnFound, AreDeclared, IsExpected, IsTyped};
 
-use cat_order::a_cycle_leaves_no_order;
+use cat_order::{a_cycle_leaves_no_order, the_order_is_computed, the_order_is_one};
 use cat_value::{Decls, declarations_are_sound};
 
 /// What an expression means, in any scope, under bound names of declared types, has the type that is told: a declared
@@ -63,13 +64,28 @@ pub fn programs_of_trees_are_well_formed(decls: &Decls)
 }
 
 /// A tree that has a program is not refused: so it is refused only where it has none.
-pub fn refused_trees_have_no_program(decls: &Decls)
-    ensures { (tree : Tree) (bodies : List Body) (scope_order : List ℕ) (fault : Fault)
-        → IsProgramOf tree decls.now bodies scope_order → ¬ IsRefused tree fault }
+pub fn refused_trees_have_no_program()
+    ensures { (tree : Tree) (decls : Decls) (bodies : List Body) (scope_order : List ℕ) (fault : Fault)
+        → IsProgramOf tree decls bodies scope_order → ¬ IsRefused tree fault }
 {
-    declarations_are_sound(decls);
+    the_order_is_computed();
     a_cycle_leaves_no_order();
 }
+
+/// A tree has at most one program.
+pub fn trees_have_one_program()
+    ensures { (tree : Tree) (decls other : Decls) (bodies more : List Body) (scope_order order : List ℕ)
+        → IsProgramOf tree decls bodies scope_order → IsProgramOf tree other more order
+        → (decls ≡ other) × (bodies ≡ more) × (scope_order ≡ order) }
+{
+    the_order_is_one();
+}
+
+/// A scope of a tree has no more definitions than a tree may have in all.
+pub fn definitions_are_counted()
+    ensures { (tree : Tree) (decls : Decls) (bodies : List Body) → IsMeant tree decls bodies
+        → AllHave (λ body. length body.defs ≤ MOST_DEFINITIONS) bodies }
+{}
 
 /// The walk that looks for unknown names and the one that resolves expressions bind the same names. Where no name of a
 /// tree is at fault, an unknown name in what it says of its scopes is one that needs a type; and an expression that has
