@@ -1,7 +1,7 @@
 -- The innermost of bound names.
 use Rattle.std.proofs.Common.{◌≡◌, ◌∙◌, ℕ, zero, suc, ◌+◌, ◌<◌, true, false, bytes_eq, List, [], ◌∷◌, ◌++◌, Option}
 use Rattle.std.proofs.Common.{Some}
-use Rattle.std.proofs.Common.{length, take, get_or, slice_get, reverse, find, option_map, refl, sym, ap, arith, rules}
+use Rattle.std.proofs.Common.{length, take, get_or, slice_get, reverse, find, option_map, refl, sym, ap, arith}
 use Rattle.std.proofs.lemmas.List.{reverse-append, take_more}
 use Rattle.std.specs.List.{enumerate_from}
 use Rattle.cat_value.specs.declared.ty.Ty.{Ty}

@@ -1,5 +1,4 @@
 pub mod Views
 pub mod Durations
-pub mod Lowness
 pub mod Innermost
 pub mod AllThere

@@ -1,16 +1,10 @@
 // Where an expression stands.
 
+use cat_heights::TypeHeights;
 use cat_lookup::NameTables;
 use cat_pos::{List, Numbers};
 use cat_value::Decls;
 use std::alloc::Global;
-
-/// How high the structures and the enumerations of a program are.
-#[derive(Drop)]
-pub struct HeightTable {
-    pub structures: Numbers,
-    pub enumerations: Numbers,
-}
 
 /// What may be named where an expression stands: the declarations of a program, with tables of them, and the scope at
 /// hand.
@@ -20,6 +14,6 @@ pub struct Here<'a> {
     pub tables: &'a NameTables,
     /// The inputs of each scope that a call must give.
     pub inputs: &'a List<Numbers>,
-    pub heights: &'a HeightTable,
+    pub heights: &'a TypeHeights,
     pub scope: u32,
 }

@@ -20,7 +20,7 @@ pub use cases::{
     case, case_first, case_named, case_with, content_type, scope_named, structure_named, sum_type,
 };
 pub use forms::{choice, combine, each, element_local, field, matched_type, start_local, test};
-pub use here::{HeightTable, Here};
+pub use here::Here;
 pub use lists::{call, called_output, counted, list, matched, no_elements, scope_call, structure};
 pub use literals::literal;
 pub use names::{function, name, output};

@@ -1,4 +1,4 @@
-use Rattle.std.proofs.Common.{rules, ◌≡◌, ◌∙◌, true, false, sym}
+use Rattle.std.proofs.Common.{rules, ◌∙◌}
 use Rattle.cat_scope.specs.Fitting.{numbers_in}
 use Rattle.cat_form.proofs.AllThere.{call_fields_are, not_differing}
 use Rattle.cat_form.proofs.complete.are_call_fields.Goals as goal

@@ -1,4 +1,4 @@
-use Rattle.std.proofs.Common.{rules, ◌≡◌, ◌∙◌, nat_eq, false, length}
+use Rattle.std.proofs.Common.{rules, ◌∙◌}
 use Rattle.cat_scope.specs.Fitting.{numbers_in}
 use Rattle.cat_form.proofs.AllThere.{fields_are, not_as_many}
 use Rattle.cat_form.proofs.complete.are_fields_of.Goals as goal

@@ -1,4 +1,4 @@
-use Rattle.std.proofs.Common.{rules, ◌∙◌}
+use Rattle.std.proofs.Common.{◌∙◌}
 use Rattle.cat_form.proofs.AllThere.{last_is}
 use Rattle.cat_form.proofs.complete.ends_in_anything.Goals as goal
 

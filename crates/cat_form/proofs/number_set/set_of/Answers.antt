@@ -1,4 +1,4 @@
-use Rattle.std.proofs.Common.{rules, ◌≡◌, ◌∙◌, ◌<◌, ◌&&◌, Bool, true, false, not, length, get_or, sym, ap}
+use Rattle.std.proofs.Common.{rules, ◌∙◌, ◌<◌, ◌&&◌, Bool, length, get_or, sym, ap}
 use Rattle.cat_form.proofs.AllThere.{set_more, fresh_more, same_entry}
 use Rattle.cat_form.proofs.number_set.set_of.Goals as goal
 

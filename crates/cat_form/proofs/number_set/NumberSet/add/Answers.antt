@@ -1,4 +1,4 @@
-use Rattle.std.proofs.Common.{◌≡◌, ◌∙◌, ◌||◌, ℕ, List, not, nat_eq, ap}
+use Rattle.std.proofs.Common.{◌∙◌, ◌||◌, ℕ, List, not, nat_eq, ap}
 use Rattle.cat_scope.specs.Names.{is_in}
 use Rattle.cat_form.proofs.AllThere.{any_in, added_in}
 use Rattle.cat_form.proofs.number_set.NumberSet.add.Goals as goal

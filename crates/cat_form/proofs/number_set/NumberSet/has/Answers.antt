@@ -1,4 +1,4 @@
-use Rattle.std.proofs.Common.{◌≡◌, ◌∙◌, ap}
+use Rattle.std.proofs.Common.{◌∙◌, ap}
 use Rattle.cat_scope.specs.Names.{is_in}
 use Rattle.cat_form.proofs.AllThere.{any_in}
 use Rattle.cat_form.proofs.number_set.NumberSet.has.Goals as goal
