@@ -1,0 +1,4 @@
+pub mod Picked
+pub mod Listed
+pub mod Agreeing
+pub mod Whole

@@ -1,0 +1,2 @@
+pub mod ByScope
+pub mod Differing

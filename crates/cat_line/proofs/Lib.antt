@@ -1,0 +1,4 @@
+pub mod Views
+pub mod Exits
+pub mod Gathered
+pub mod Exported
