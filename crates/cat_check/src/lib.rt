@@ -1,0 +1,32 @@
+//! From a tree to its program, or to a fault that stands against the tree.
+#![tactic(auto)]
+
+ghost use Rattle.std.specs.Prelude.{IfOk, IfErr};
+ghost use Rattle.cat_names.specs.Accepted.{IsParsed, IsProgramOf, IsRefused};
+ghost use Rattle.cat_arrange.specs.Cause.{Because};
+
+mod meaning;
+mod required;
+mod tables;
+
+use crate::meaning::meaning_of;
+use cat_arrange::arranged;
+use cat_declare::declared;
+use cat_names::Refusal;
+use cat_scope::Program;
+use cat_tree::Tree;
+use std::alloc::Global;
+
+/// The program of a tree. A tree without one is refused by a fault of the first kind that stands in it: names and
+/// counts, cycles of types, heights of declared types, placements and expressions, cycles of scopes, cycles of items,
+/// chains of calls. It takes time in proportion to the tree, and n log n for orders.
+pub fn check(alloc: Global, tree: &Tree) -> Result<Program, Refusal>
+    requires { IsParsed tree.now }
+    ensures program { IfOk result (λ program.
+        IsProgramOf tree.now program.decls program.bodies program.scope_order) }
+    ensures cause { IfErr result (Because (IsRefused tree.now)) }
+{
+    let decls = declared(alloc, tree)?;
+    let bodies = meaning_of(alloc, tree, &decls)?;
+    arranged(alloc, tree, decls, bodies)
+}

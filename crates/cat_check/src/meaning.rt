@@ -1,0 +1,51 @@
+// What a tree says of its scopes, by tables of what it declares.
+ghost use Rattle.std.specs.Prelude.{IfOk, IfErr};
+ghost use Rattle.cat_names.specs.Accepted.{IsMeant, IsNamed, IsRefused, parts_of};
+ghost use Rattle.cat_arrange.specs.Cause.{Because};
+ghost use Rattle.cat_check.specs.inside.Tabling.{AreTables};
+
+use crate::tables::Tables;
+use cat_body::bodies;
+use cat_form::Here;
+use cat_names::Refusal;
+use cat_scope::Bodies;
+use cat_tree::Tree;
+use cat_value::Decls;
+use std::alloc::Global;
+
+/// What a tree says of each scope that it declares, by tables of its declarations.
+fn meaning_by(alloc: Global, tree: &Tree, decls: &Decls, tables: &Tables) -> Result<Bodies, Refusal>
+    requires named { IsNamed tree.now (parts_of decls.now) }
+    requires tables { AreTables decls.now tables.now }
+    ensures meant { IfOk result (IsMeant tree.now decls.now) }
+    ensures cause { IfErr result (Because (IsRefused tree.now)) }
+{
+    let here = Here {
+        alloc,
+        decls,
+        tables: &tables.names,
+        inputs: &tables.inputs,
+        heights: &tables.heights,
+        scope: 0,
+    };
+    let found = bodies(&here, tree);
+    let Here {
+        alloc: _,
+        decls: _,
+        tables: _,
+        inputs: _,
+        heights: _,
+        scope: _,
+    } = here;
+    found
+}
+
+/// What a tree says of each scope that it declares.
+pub fn meaning_of(alloc: Global, tree: &Tree, decls: &Decls) -> Result<Bodies, Refusal>
+    requires { IsNamed tree.now (parts_of decls.now) }
+    ensures meant { IfOk result (IsMeant tree.now decls.now) }
+    ensures cause { IfErr result (Because (IsRefused tree.now)) }
+{
+    let tables = Tables::of(alloc, decls)?;
+    meaning_by(alloc, tree, decls, &tables)
+}
