@@ -1,0 +1,4 @@
+pub mod Ends
+pub mod Beginnings
+pub mod Steps
+pub mod Calculating

@@ -1,0 +1,13 @@
+pub mod Ends
+pub mod Fronts
+pub mod EntryLaws
+pub mod ItemEnds
+pub mod ItemSteps
+pub mod CalledEnds
+pub mod CalledSteps
+pub mod FoundSteps
+pub mod CallFields
+pub mod CallSteps
+pub mod AssertionSteps
+pub mod JudgedSteps
+pub mod RunSteps

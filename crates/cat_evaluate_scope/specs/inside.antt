@@ -1,0 +1,4 @@
+pub mod Steps
+pub mod ItemForms
+pub mod Outputs
+pub mod CallInputs
