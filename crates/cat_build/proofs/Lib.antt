@@ -1,0 +1,4 @@
+pub mod Counted
+pub mod FrontSteps
+pub mod ForestSteps
+pub mod OneProgram

@@ -1,0 +1,127 @@
+// From pieces to a program: tokens, tree, and what the tree means.
+ghost use Rattle.std.specs.Prelude.{◌≡◌, ◌<◌, IfOk, IfErr, length, slice_get};
+ghost use Rattle.cat_pos.specs.declared.limits.TheConstants.{ENTRIES_BOUND};
+ghost use Rattle.cat_pos.specs.Readable.{AreReadable, IsReadable};
+ghost use Rattle.cat_gather.specs.Causes.{AreReadableTogether};
+ghost use Rattle.cat_lex.specs.Positions.{position_after};
+ghost use Rattle.cat_lex.specs.Lexes.{Lexes};
+ghost use Rattle.cat_scope.specs.Names.{AllHave};
+ghost use Rattle.cat_names.specs.Accepted.{IsParsed, IsProgramOf};
+ghost use Rattle.cat_build.specs.Accepted.{IsProgramIn, IsTreeOf};
+ghost use Rattle.cat_build.specs.Causes.{HasCause, end_of, token_position};
+
+use crate::code::{BuildRefusal, Code, fault_refusal};
+use cat_check::check;
+use cat_lex::{LexRefusal, Token, Tokens, lex};
+use cat_names::{Refusal, definitions_are_counted};
+use cat_parse::{ParseRefusal, program};
+use cat_pos::{Piece, Pos};
+use cat_scope::Program;
+use cat_tree::Tree;
+use std::alloc::Global;
+
+/// The tokens of the pieces.
+pub fn tokens_of(alloc: Global, pieces: &[Piece]) -> Result<Tokens, BuildRefusal>
+    requires { AreReadable pieces.now }
+    ensures lexed { IfOk result (Lexes pieces.now) }
+    ensures cause { IfErr result (HasCause pieces.now) }
+{
+    match lex(alloc, pieces) {
+        Ok(tokens) => Ok(tokens),
+        Err(LexRefusal::NoToken(pos)) => Err(BuildRefusal::Refused(Code::NoToken, pos)),
+        Err(LexRefusal::LiteralRange(pos)) => Err(BuildRefusal::Refused(Code::LiteralRange, pos)),
+        Err(LexRefusal::Memory) => Err(BuildRefusal::Memory),
+    }
+}
+
+/// The position behind a piece.
+fn position_behind(piece: &Piece) -> Pos
+    requires { IsReadable piece.now }
+    ensures { result ≡ position_after piece.now.pos piece.now.text }
+{
+    let mut pos = piece.pos;
+    for &byte in piece.text.as_str().as_bytes() {
+        if byte == 10 {
+            pos.line += 1;
+            pos.column = 1;
+        } else {
+            pos.column += 1;
+        }
+    }
+    pos
+}
+
+/// The position behind the last piece.
+fn position_at_end(pieces: &[Piece]) -> Pos
+    requires { AreReadable pieces.now }
+    ensures { result ≡ end_of pieces.now }
+{
+    match pieces.last() {
+        Some(piece) => position_behind(piece),
+        None => Pos {
+            file: 0,
+            line: 1,
+            column: 1,
+        },
+    }
+}
+
+/// The position of the token of that number, or of the end where there is none.
+fn position_of(pieces: &[Piece], tokens: &[Token], at: usize) -> Pos
+    requires { AreReadable pieces.now }
+    ensures { result ≡ token_position pieces.now (slice_get tokens.now at) }
+{
+    match tokens.get(at) {
+        Some(token) => token.pos,
+        None => position_at_end(pieces),
+    }
+}
+
+/// The tree that the tokens of the pieces spell.
+pub fn tree_of(alloc: Global, pieces: &[Piece], tokens: &[Token]) -> Result<Tree, BuildRefusal>
+    requires readable { AreReadable pieces.now }
+    requires lexed { Lexes pieces.now tokens.now }
+    ensures spelled { IfOk result (IsTreeOf pieces.now) }
+    ensures cause { IfErr result (HasCause pieces.now) }
+{
+    match program(alloc, tokens) {
+        Ok(tree) => Ok(tree),
+        Err(ParseRefusal::Unexpected(at)) => {
+            let pos = position_of(pieces, tokens, at);
+            Err(BuildRefusal::Refused(Code::Unexpected, pos))
+        }
+        Err(ParseRefusal::TooDeep(at)) => {
+            let pos = position_of(pieces, tokens, at);
+            Err(BuildRefusal::Refused(Code::TooDeep, pos))
+        }
+        Err(ParseRefusal::Memory) => Err(BuildRefusal::Memory),
+    }
+}
+
+/// The program of a tree, where the pieces are that tree.
+fn checked(alloc: Global, pieces: &[Piece], tree: &Tree) -> Result<Program, BuildRefusal>
+    requires parsed { IsParsed tree.now }
+    requires spelled { IsTreeOf pieces.now tree.now }
+    ensures meant { IfOk result (λ program.
+        IsProgramOf tree.now program.decls program.bodies program.scope_order) }
+    ensures cause { IfErr result (HasCause pieces.now) }
+{
+    match check(alloc, tree) {
+        Ok(program) => Ok(program),
+        Err(Refusal::Refused(fault)) => Err(fault_refusal(fault)),
+        Err(Refusal::Memory) => Err(BuildRefusal::Memory),
+    }
+}
+
+/// The program of the tree that the pieces are.
+pub fn program_of(alloc: Global, pieces: &[Piece], tree: &Tree) -> Result<Program, BuildRefusal>
+    requires readable { AreReadableTogether pieces.now }
+    requires spelled { IsTreeOf pieces.now tree.now }
+    ensures program { IfOk result (IsProgramIn pieces.now) }
+    ensures few { IfOk result (λ program. AllHave (λ body. length body.defs < ENTRIES_BOUND) program.bodies) }
+    ensures cause { IfErr result (HasCause pieces.now) }
+{
+    definitions_are_counted();
+    let program = checked(alloc, pieces, tree)?;
+    Ok(program)
+}

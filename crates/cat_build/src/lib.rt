@@ -1,0 +1,52 @@
+//! Builds the gathered pieces of a source into a program, the forests of its exceptions and its default terms; or tells
+//! what is at fault in it.
+#![tactic(auto)]
+
+ghost use Rattle.std.specs.Prelude.{IfOk, IfErr};
+ghost use Rattle.cat_gather.specs.Causes.{AreReadableTogether};
+ghost use Rattle.cat_build.specs.Built.{IsBuiltOf};
+ghost use Rattle.cat_build.specs.Causes.{HasCause};
+
+mod code;
+mod forests;
+mod front;
+mod laws;
+
+pub use crate::forests::Forests;
+use crate::forests::forests_of;
+use crate::front::{program_of, tokens_of, tree_of};
+use cat_calc::Calc;
+use cat_desugar::desugar;
+use cat_gather::Source;
+use cat_scope::Program;
+pub use code::{BuildRefusal, Code};
+pub use laws::{pieces_have_one_program, refused_pieces_are_not_accepted};
+use std::alloc::Global;
+
+/// A program, the forest of each of its scopes, and its default terms.
+#[derive(Drop)]
+pub struct Built {
+    pub program: Program,
+    pub forests: Forests,
+    pub calc: Calc,
+}
+
+/// The program of a source, with what it is turned into. Of several faults of one phase any may be named, but that the
+/// lexer names the first, and that the parser has one position for a token that is unexpected.
+pub fn build(alloc: Global, source: &Source) -> Result<Built, BuildRefusal>
+    requires { AreReadableTogether source.now.pieces }
+    ensures built { IfOk result (IsBuiltOf source.now.pieces) }
+    ensures cause { IfErr result (HasCause source.now.pieces) }
+{
+    let pieces = source.pieces.as_slice();
+    let tokens = tokens_of(alloc, pieces)?;
+    let tree = tree_of(alloc, pieces, tokens.as_slice())?;
+    let program = program_of(alloc, pieces, &tree)?;
+    let forests = forests_of(alloc, pieces, &program)?;
+    let calc = desugar(alloc, &program, forests.as_slice())?;
+    Ok(Built {
+        program,
+        forests,
+        calc,
+    })
+}
