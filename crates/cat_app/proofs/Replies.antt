@@ -1,42 +1,104 @@
 -- Which replies the steps of a call lead to.
-use Rattle.std.proofs.Common.{◌≡◌, ◌≢◌, ℕ, ℤ, List, [], refl, inl, inr}
-use Rattle.std.specs.Prelude.{Some, None, Result, Ok, Err, IfOk, codes, string_bytes}
-use Rattle.cat_pos.specs.declared.limits.TheConstants.{MOST_FILE_BYTES, MOST_INPUT_BYTES}
-use Rattle.cat_io.specs.Shelf.{Shelved, Reads}
+use Rattle.std.proofs.Common.{◌≡◌, ◌≢◌, ◌∙◌, ◌≤◌, ◌<◌, ◌+◌, ℕ, Bool, true, false, List, [], ◌∷◌, refl, sym, ap, subst, inl, inr, arith}
+use Rattle.std.specs.Prelude.{Option, Some, None, Result, Ok, Err, IfOk, codes, length, string_bytes, if◌then◌else◌}
+use Rattle.std.specs.Prelude.{bytes_eq}
+use Rattle.cat_pos.specs.declared.limits.TheConstants.{MOST_INPUT_BYTES}
+use Rattle.cat_pos.specs.declared.pos.Pos.{Pos}
+use Rattle.cat_io.specs.Shelf.{Shelved, Reads, Keeps, GrowsBy, ListsGrowBy}
 use Rattle.cat_io.specs.declared.shelf.ShelfFault.{ShelfFault}
 use Rattle.cat_io.specs.declared.shelf.ShelfFault.TheVariants as shelf
-use Rattle.cat_thin_scope.specs.declared.program.ThinProgram.{ThinProgram}
+use Rattle.cat_value.specs.declared.value.Value.{Value}
+use Rattle.cat_value.specs.declared.declaration.Scope.{Scope}
 use Rattle.cat_value.specs.declared.outcome.Outcome.{Outcome}
 use Rattle.cat_value.specs.declared.outcome.Outcome.TheVariants as outcome
-use Rattle.cat_thin_scope.specs.Outcome.{thin_outcome}
-use Rattle.cat_thin_scope.specs.Given.{IsGivenBy}
-use Rattle.cat_thin.specs.Source.{thin_program_of}
-use Rattle.cat_thin.specs.Input.{thin_input_of}
+use Rattle.cat_scope.specs.declared.programs.Program.{Program}
+use Rattle.cat_scope.specs.Named.{number_named}
+use Rattle.cat_scope.specs.Outcomes.{scope_outcome}
+use Rattle.cat_calc.specs.Calculus.{calc_outcome}
+use Rattle.cat_json.specs.declared.refusal.InputRefusal.{InputRefusal}
+use Rattle.cat_json.specs.declared.refusal.InputRefusal.TheVariants as refused
+use Rattle.cat_json.specs.InputsRead.{input_read}
+use Rattle.cat_answer.specs.Answer.{position_text}
+use Rattle.cat_gather.specs.declared.source.Source.{Source}
+use Rattle.cat_gather.specs.declared.source.GatherRefusal.{GatherRefusal}
+use Rattle.cat_gather.specs.declared.source.GatherRefusal.TheVariants as gathering
+use Rattle.cat_gather.specs.Gathered.{limit_after}
+use Rattle.cat_gather.specs.Causes.{HasCause}
+use Rattle.cat_build.specs.declared.Built.{Built}
+use Rattle.cat_build.specs.declared.code.Code.{Code}
+use Rattle.cat_build.specs.Accepted.{IsAccepted}
+use Rattle.cat_build.specs.Built.{IsBuiltOf}
+use Rattle.cat_build.specs.Causes.{StandsAt}
+use Rattle.cat_build.specs.Codes.{number_of}
 use Rattle.cat_app.specs.Words.{Request, request_of}
-use Rattle.cat_app.specs.Asked.{IsFile, IsExtra, IsAccepted, IsReadNow}
-use Rattle.cat_app.specs.Answers.{IsOutcome, refusal_line, line, status_of}
-use Rattle.cat_app.specs.Table.{MayAnswer, MayReply}
-use Rattle.cat_app.specs.inside.Says.{Says, SaysFault, SaysOutcome, MaySay}
+use Rattle.cat_app.specs.Asked.{IsSource, IsExtra, IsAsked, IsReadNow}
+use Rattle.cat_app.specs.Answers.{IsOutcome, input_line, refusal_line, line, status_of}
+use Rattle.cat_app.specs.Table.{MayAnswer, MayReply, ListsOne}
+use Rattle.cat_app.specs.inside.Says.{Says, SaysFault, SaysGathering, SaysInput, SaysOf, MaySay}
 use Rattle.cat_app.specs.declared.reply.Reply.{Reply}
 use Rattle.cat_app.specs.declared.status.Status.{Status}
-use Rattle.cat_app.specs.declared.status.Status.TheVariants.{Source, Input, Usage}
+use Rattle.cat_app.specs.declared.status.Status.TheVariants.{Source as SourceStatus, Input, Usage}
 
 -- of a result, what a fact leads to
 pub if_ok : {A E : Type 0} {P Q : A → Type 0} (r : Result A E) → IfOk r P → ((a : A) → P a → Q a) → IfOk r Q
 if_ok (Ok a) p step = step a p
 if_ok (Err e) p step = tt
 
--- of a result, what two facts lead to
-pub if_both_ok : {A E : Type 0} {P Q R : A → Type 0} (r : Result A E) → IfOk r P → IfOk r Q →
-    ((a : A) → P a → Q a → R a) → IfOk r R
-if_both_ok (Ok a) p q step = step a p q
-if_both_ok (Err e) p q step = tt
-
 -- what may answer a request may reply to its words
 pub answered : (words : List (List ℕ)) (request : Request) (old new : Shelved) (status : Status) (text : List ℕ) →
     Some request ≡ request_of words → MayAnswer request old new status text → MayReply words old new status text
 answered words request old new Usage text is may = inr (rw (← is) may)
 answered words request old new status text is may = rw (← is) may
+
+-- ---- what is listed
+
+none_more : (name : List ℕ) (names : List (List ℕ)) → GrowsBy name names names
+none_more name names = record { no_fewer = λ n. omega arith; no_other = λ n other. refl }
+
+-- where the shelf is as it was, no name was listed
+pub lists_none : (old new : Shelved) → new ≡ old → ListsOne old new
+lists_none old new same = subst (λ (s : Shelved). ListsOne old s) (sym same) (record {
+  name = [];
+  keeps = record {
+    told = refl;
+    lists = record {
+      misses = none_more [] old.misses;
+      faults = none_more [] old.faults;
+      longs = none_more [] old.longs;
+    };
+  };
+})
+
+pub lists_one : (name : List ℕ) (old new : Shelved) → Keeps name old new → ListsOne old new
+lists_one name old new keeps = record { name = name; keeps = keeps }
+
+-- a refused read lists its own name
+pub read_lists : (name : List ℕ) (limit : ℕ) (old new : Shelved) (fault : ShelfFault)
+    → Reads name limit old new (Err fault) → ListsOne old new
+read_lists name limit old new shelf.Missing reads = lists_one name old new reads.0
+read_lists name limit old new shelf.Failed reads = lists_one name old new reads.0
+read_lists name limit old new shelf.Long reads = lists_one name old new reads.0
+read_lists name limit old new shelf.Memory reads = lists_one name old new reads
+
+-- and so does refused gathering
+pub gather_lists : (old new : Shelved) (main : List ℕ) (refusal : GatherRefusal) → HasCause old new main (Err refusal)
+    → ListsOne old new
+gather_lists old new main (gathering.NotUtf8 name pos) cause = lists_none old new cause.0
+gather_lists old new main (gathering.FenceOpen name pos) cause = lists_none old new cause.0
+gather_lists old new main (gathering.IncludeTwice name pos) cause = lists_none old new cause.0
+gather_lists old new main (gathering.Missing name) cause =
+    read_lists name (limit_after cause.0) old new shelf.Missing cause.2
+gather_lists old new main (gathering.ReadFault name) cause =
+    read_lists name (limit_after cause.0) old new shelf.Failed cause.2
+gather_lists old new main (gathering.TooLarge name) cause =
+    read_lists name (limit_after cause.0) old new shelf.Long cause.2
+gather_lists old new main gathering.Memory cause = lists_one cause.0 old new cause.1
+
+-- what is told stays
+pub lists_told : (old new : Shelved) → ListsOne old new → new.content ≡ old.content
+lists_told old new lists = lists.keeps.told
+
+-- ---- replies
 
 -- the read of this file was refused
 refused_now : (request : Request) (old new : Shelved) (name : List ℕ) (limit : ℕ) (fault : ShelfFault) (reply : Reply) →
@@ -50,92 +112,154 @@ refused_now request old new name limit shelf.Long reply now read says =
     rw says.0 (record { name = name; limit = limit; now = now; read = read; reply = says.1 })
 refused_now request old new name limit shelf.Memory reply now read says = absurd says
 
--- the source can't be read
-pub refused_file : (request : Request) (old new : Shelved) (fault : ShelfFault) (reply : Reply) →
-    Reads request.file MOST_FILE_BYTES old new (Err fault) → SaysFault request.file fault reply →
-    MaySay request old new reply
-refused_file request old new fault reply read says =
-    refused_now request old new request.file MOST_FILE_BYTES fault reply (inl (refl, refl)) read says
-
--- the input can't be read
-pub refused_extra : (request : Request) (old new : Shelved) (file : List ℕ) (program : ThinProgram) (fault : ShelfFault)
-    (reply : Reply) → Reads request.extra MOST_INPUT_BYTES old new (Err fault) → SaysFault request.extra fault reply →
-    IsFile request old file → IsAccepted request file program → MaySay request old new reply
-refused_extra request old new file program fault reply read says file_read accepted =
-    refused_now request old new request.extra MOST_INPUT_BYTES fault reply
-    (inr (refl, refl, (file, program, file_read, accepted))) read says
-
--- the source is none that is read
-pub no_program : (request : Request) (old new : Shelved) (file : List ℕ) (number : ℕ) (reply : Reply) →
-    IsFile request old file → thin_program_of file ≡ None → new ≡ old →
-    Says Source (refusal_line request.file number) reply → MaySay request old new reply
-no_program request old new file number reply read none same says = rw says.0 (record {
-  file = file;
-  number = number;
-  file_read = read;
-  refused = none;
-  untouched = same;
-  reply = says.1;
-})
-
--- the source declares another scope
-pub no_scope : (request : Request) (old new : Shelved) (file : List ℕ) (program : ThinProgram) (reply : Reply) →
-    IsFile request old file → thin_program_of file ≡ Some program → program.scope ≢ request.scope → new ≡ old →
-    Says Usage (line (codes "no such scope ") request.scope) reply → MaySay request old new reply
-no_scope request old new file program reply read thin other same says = rw says.0 (record {
-  file = file;
-  program = program;
-  file_read = read;
-  thin = thin;
-  other = other;
-  untouched = same;
-  reply = says.1;
-})
-
--- the input is none of the program's
-pub no_input : (request : Request) (old new : Shelved) (file extra : List ℕ) (program : ThinProgram) (reply : Reply) →
-    IsExtra request old extra → new ≡ old → thin_input_of program extra ≡ None →
-    Says Input (line (codes "input refused I0") []) reply →
-    IsFile request old file → IsAccepted request file program → MaySay request old new reply
-no_input request old new file extra program reply extra_read same none says file_read accepted = rw says.0 (record {
-  file = file;
-  extra = extra;
-  program = program;
-  file_read = file_read;
-  extra_read = extra_read;
-  accepted = accepted;
-  refused = none;
-  untouched = same;
-  reply = says.1;
-})
-
--- an outcome answers with its own status
-outcome_answers : (request : Request) (program : ThinProgram) (old new : Shelved) (ended : Outcome) (text : List ℕ) →
-    IsGivenBy program ended → IsOutcome request old new (status_of ended) text →
-    MayAnswer request old new (status_of ended) text
-outcome_answers request program old new (outcome.Value values) text given is = is
-outcome_answers request program old new (outcome.Conflict target positions) text given is = is
-outcome_answers request program old new (outcome.NoValue target pos) text given is = is
-outcome_answers request program old new (outcome.Fault kind pos) text given is = absurd given
-
--- the program gives its outcome on the input
-pub an_outcome : (request : Request) (old new : Shelved) (file extra : List ℕ) (program : ThinProgram) (input : List ℤ)
-    (reply : Reply) → IsExtra request old extra → new ≡ old → thin_input_of program extra ≡ Some input →
-    IsGivenBy program (thin_outcome program input) →
-    SaysOutcome program request.file (thin_outcome program input) reply →
-    IsFile request old file → IsAccepted request file program → MaySay request old new reply
-an_outcome request old new file extra program input reply extra_read same known given says file_read accepted =
-    rw says.0 (outcome_answers request program old new (thin_outcome program input) (string_bytes reply.text) given
-    (record {
-      file = file;
-      extra = extra;
-      program = program;
-      input = input;
-      file_read = file_read;
-      extra_read = extra_read;
-      accepted = accepted;
-      input_read = known;
-      untouched = same;
-      status = refl;
+-- the files of the source can't be gathered
+pub no_source : (request : Request) (old new : Shelved) (refusal : GatherRefusal) (reply : Reply)
+    → HasCause old new request.file (Err refusal) → SaysGathering refusal reply → MaySay request old new reply
+no_source request old new (gathering.NotUtf8 name pos) reply cause says =
+    rw says.0 (inl (record {
+      refusal = gathering.NotUtf8 name pos;
+      ending = cause.1;
+      untouched = cause.0;
       reply = says.1;
     }))
+no_source request old new (gathering.FenceOpen name pos) reply cause says =
+    rw says.0 (inl (record {
+      refusal = gathering.FenceOpen name pos;
+      ending = cause.1;
+      untouched = cause.0;
+      reply = says.1;
+    }))
+no_source request old new (gathering.IncludeTwice name pos) reply cause says =
+    rw says.0 (inl (record {
+      refusal = gathering.IncludeTwice name pos;
+      ending = cause.1;
+      untouched = cause.0;
+      reply = says.1;
+    }))
+no_source request old new (gathering.Missing name) reply cause says =
+    refused_now request old new name (limit_after cause.0) shelf.Missing reply (inl (cause.0, cause.1, refl)) cause.2
+    says
+no_source request old new (gathering.ReadFault name) reply cause says =
+    refused_now request old new name (limit_after cause.0) shelf.Failed reply (inl (cause.0, cause.1, refl)) cause.2
+    says
+no_source request old new (gathering.TooLarge name) reply cause says =
+    refused_now request old new name (limit_after cause.0) shelf.Long reply (inl (cause.0, cause.1, refl)) cause.2 says
+no_source request old new gathering.Memory reply cause says = absurd says
+
+-- this stands in the source
+pub no_program : (request : Request) (old new : Shelved) (source : Source) (found : Code) (pos : Pos) (reply : Reply)
+    → IsSource request old source → StandsAt source.pieces found pos → new ≡ old
+    → Says SourceStatus (refusal_line (number_of found) (position_text source.files pos)) reply
+    → MaySay request old new reply
+no_program request old new source found pos reply read stands same says = rw says.0 (inr (record {
+  source = source;
+  code = found;
+  pos = pos;
+  source_read = read;
+  stands = stands;
+  untouched = same;
+  reply = says.1;
+}))
+
+-- the source declares no such scope
+pub no_scope : (request : Request) (old new : Shelved) (source : Source) (program : Program) (reply : Reply)
+    → IsSource request old source → IsAccepted source.pieces program
+    → number_named request.scope 0 program.decls.scopes ≡ None → new ≡ old
+    → Says Usage (line (codes "no such scope ") request.scope) reply → MaySay request old new reply
+no_scope request old new source program reply read accepted unnamed same says = rw says.0 (record {
+  source = source;
+  program = program;
+  source_read = read;
+  accepted = accepted;
+  unnamed = unnamed;
+  untouched = same;
+  reply = says.1;
+})
+
+-- the scope is there
+pub asked_for : (request : Request) (old : Shelved) (source : Source) (built : Built) (scope : ℕ)
+    → IsSource request old source → IsBuiltOf source.pieces built
+    → number_named request.scope 0 built.program.decls.scopes ≡ Some scope
+    → IsAsked request old source built.program scope
+asked_for request old source built scope read is named =
+    record { source_read = read; accepted = is.accepted; named = named }
+
+-- the input can't be read
+pub no_extra : (request : Request) (old new : Shelved) (source : Source) (program : Program) (scope : ℕ)
+    (fault : ShelfFault) (reply : Reply) → Reads request.extra MOST_INPUT_BYTES old new (Err fault)
+    → SaysFault request.extra fault reply → IsAsked request old source program scope → MaySay request old new reply
+no_extra request old new source program scope fault reply read says asked =
+    refused_now request old new request.extra MOST_INPUT_BYTES fault reply
+    (inr (refl, refl, (source, program, scope, asked))) read says
+
+-- the input is none of the scope's
+pub no_input : (request : Request) (old new : Shelved) (source : Source) (program : Program) (scope : ℕ)
+    (extra : List ℕ) (refusal : InputRefusal) (reply : Reply) → IsExtra request old extra → new ≡ old
+    → input_read program.decls scope extra ≡ Err refusal → SaysInput refusal reply
+    → IsAsked request old source program scope → MaySay request old new reply
+no_input request old new source program scope extra refusal reply extra_read same none says asked =
+    rw says.0 (record {
+      source = source;
+      program = program;
+      scope = scope;
+      extra = extra;
+      refusal = refusal;
+      asked = asked;
+      extra_read = extra_read;
+      refused = none;
+      untouched = same;
+      reply = says.1;
+    })
+
+-- want of memory refuses no input
+pub not_memory : (refusal : InputRefusal) (reply : Reply) → SaysInput refusal reply → refusal ≢ refused.Memory
+not_memory refusal reply says is =
+    cc (subst (λ (r : InputRefusal). input_line r ≡ Some (string_bytes reply.text)) is says.1)
+
+-- an outcome answers with its own status
+outcome_answers : (request : Request) (old new : Shelved) (ended : Outcome) (text : List ℕ)
+    → IsOutcome request old new (status_of ended) text → MayAnswer request old new (status_of ended) text
+outcome_answers request old new (outcome.Value values) text is = is
+outcome_answers request old new (outcome.Conflict target positions) text is = is
+outcome_answers request old new (outcome.NoValue target pos) text is = is
+outcome_answers request old new (outcome.Fault kind pos) text is = is
+
+-- the scope comes to its outcome on the input
+pub an_outcome : (request : Request) (old new : Shelved) (source : Source) (built : Built) (scope : ℕ)
+    (extra : List ℕ) (input : List (Option Value)) (reply : Reply) → IsExtra request old extra → new ≡ old
+    → input_read built.program.decls scope extra ≡ Ok input → IsBuiltOf source.pieces built
+    → SaysOf built.program.decls scope source.files (calc_outcome built.calc scope input) reply
+    → IsAsked request old source built.program scope → MaySay request old new reply
+an_outcome request old new source built scope extra input reply extra_read same known is says asked =
+    rw says.says.0 (outcome_answers request old new says.outcome (string_bytes reply.text) (record {
+      source = source;
+      program = built.program;
+      scope = scope;
+      extra = extra;
+      input = input;
+      outcome = says.outcome;
+      asked = asked;
+      extra_read = extra_read;
+      input_is = known;
+      outcome_is = sym (is.outcomes scope input) ∙ says.found_is;
+      untouched = same;
+      status = refl;
+      reply = says.says.1;
+    }))
+
+-- ---- scopes by name
+
+named_from : (name : List ℕ) (n k : ℕ) (scopes : List Scope) → number_named name n scopes ≡ Some k
+    → k < n + length scopes
+named_from name n k [] named = cc named
+named_from name n k (s ∷ scopes) named = by (bytes_eq s.name name) named (named_from name (n + 1) k scopes)
+  where
+    by : (test : Bool) → (if test then Some n else number_named name (n + 1) scopes) ≡ Some k
+        → (number_named name (n + 1) scopes ≡ Some k → k < n + 1 + length scopes) → k < n + length (s ∷ scopes)
+    by true is later = let same : n ≡ k = cc is in omega (arith, same)
+    by false is later = omega (arith, later is)
+
+-- a scope that has a name is one of them
+pub named_within : (name : List ℕ) (k : ℕ) (scopes : List Scope) → number_named name 0 scopes ≡ Some k
+    → k < length scopes
+named_within name k scopes named = omega (arith, named_from name 0 k scopes named)

@@ -1,17 +1,30 @@
 -- The answers of the top call, each with its cause.
-use Rattle.std.specs.Prelude.{◌≡◌, ◌≢◌, ℕ, ℤ, List, [], ◌∷◌, ◌++◌, Some, None, Err, IsNone, codes}
+use Rattle.std.specs.Prelude.{◌≡◌, ℕ, List, [], ◌∷◌, ◌++◌, Option, Some, None, Ok, Err, IsNone, codes}
 use Rattle.std.specs.Fmt.{decimal}
 use Rattle.cat_io.specs.Shelf.{Shelved, Reads}
 use Rattle.cat_io.specs.declared.shelf.ShelfFault.{ShelfFault}
-use Rattle.cat_thin_scope.specs.declared.program.ThinProgram.{ThinProgram}
+use Rattle.cat_pos.specs.declared.pos.Pos.{Pos}
+use Rattle.cat_value.specs.declared.value.Value.{Value}
 use Rattle.cat_value.specs.declared.outcome.Outcome.{Outcome}
-use Rattle.cat_value.specs.declared.outcome.Outcome.TheVariants.{Value, Conflict, NoValue, Fault}
-use Rattle.cat_thin_scope.specs.Outcome.{thin_outcome}
-use Rattle.cat_thin.specs.Source.{thin_program_of}
-use Rattle.cat_thin.specs.Input.{thin_input_of}
-use Rattle.cat_thin.specs.Answer.{thin_answer}
+use Rattle.cat_value.specs.declared.outcome.Outcome.TheVariants as outcome
+use Rattle.cat_scope.specs.declared.programs.Program.{Program}
+use Rattle.cat_scope.specs.Named.{number_named}
+use Rattle.cat_scope.specs.Outcomes.{scope_outcome}
+use Rattle.cat_json.specs.declared.refusal.InputRefusal.{InputRefusal}
+use Rattle.cat_json.specs.declared.refusal.InputRefusal.TheVariants as refused
+use Rattle.cat_json.specs.InputsRead.{input_read}
+use Rattle.cat_answer.specs.Answer.{answer_of, named_position, position_text}
+use Rattle.cat_gather.specs.declared.source.Source.{Source}
+use Rattle.cat_gather.specs.declared.source.GatherRefusal.{GatherRefusal}
+use Rattle.cat_gather.specs.declared.source.GatherRefusal.TheVariants as gathering
+use Rattle.cat_gather.specs.Gathered.{Refused}
+use Rattle.cat_gather.specs.Causes.{HasEnding}
+use Rattle.cat_build.specs.declared.code.Code.{Code}
+use Rattle.cat_build.specs.Accepted.{IsAccepted}
+use Rattle.cat_build.specs.Causes.{StandsAt}
+use Rattle.cat_build.specs.Codes.{number_of}
 use Rattle.cat_app.specs.Words.{Request, request_of}
-use Rattle.cat_app.specs.Asked.{IsFile, IsExtra, IsAccepted, IsReadNow}
+use Rattle.cat_app.specs.Asked.{IsSource, IsExtra, IsAsked, IsReadNow}
 use Rattle.cat_app.specs.declared.status.Status.{Status}
 use Rattle.cat_app.specs.declared.status.Status.TheVariants as status
 
@@ -19,64 +32,98 @@ use Rattle.cat_app.specs.declared.status.Status.TheVariants as status
 abbrev pub line : List ℕ → List ℕ → List ℕ
 line words name = words ++ (name ++ 10 ∷ [])
 
--- the line that refuses a source at a line of it
-abbrev pub refusal_line : List ℕ → ℕ → List ℕ
-refusal_line name number =
-    codes "source refused E0 at " ++ (name ++ (codes ":" ++ (decimal number ++ (codes ":1" ++ 10 ∷ []))))
+-- the line that refuses a source by a code, at a position that is told so
+abbrev pub refusal_line : ℕ → List ℕ → List ℕ
+refusal_line number position =
+    codes "source refused E" ++ (decimal number ++ (codes " at " ++ (position ++ 10 ∷ [])))
+
+-- the line that refuses a source because of a file that is gathered, where it is refused for what it holds
+abbrev pub gathering_line : GatherRefusal → Option (List ℕ)
+gathering_line (gathering.NotUtf8 name pos) = Some (refusal_line 1 (named_position name pos))
+gathering_line (gathering.FenceOpen name pos) = Some (refusal_line 2 (named_position name pos))
+gathering_line (gathering.IncludeTwice name pos) = Some (refusal_line 3 (named_position name pos))
+gathering_line (gathering.Missing name) = None
+gathering_line (gathering.ReadFault name) = None
+gathering_line (gathering.TooLarge name) = None
+gathering_line gathering.Memory = None
+
+-- the line that refuses a part of an input
+abbrev pub part_line : ℕ → List ℕ → List ℕ
+part_line number path = codes "input refused I" ++ (decimal number ++ (codes " " ++ (path ++ 10 ∷ [])))
+
+-- the line that refuses an input
+abbrev pub input_line : InputRefusal → Option (List ℕ)
+input_line refused.NotJson = Some (line (codes "input refused I1") [])
+input_line (refused.Missing path) = Some (part_line 2 path)
+input_line (refused.Extra path) = Some (part_line 3 path)
+input_line (refused.WrongForm path) = Some (part_line 4 path)
+input_line (refused.OutOfRange path) = Some (part_line 5 path)
+input_line refused.Memory = None
 
 -- the status of an outcome
 abbrev pub status_of : Outcome → Status
-status_of (Value values) = status.Fine
-status_of (Conflict target positions) = status.Conflict
-status_of (NoValue target pos) = status.NoValue
-status_of (Fault kind pos) = status.Fault
+status_of (outcome.Value values) = status.Fine
+status_of (outcome.Conflict target positions) = status.Conflict
+status_of (outcome.NoValue target pos) = status.NoValue
+status_of (outcome.Fault kind pos) = status.Fault
 
 -- The replies. The files are as they may have been read, and no name was listed.
 
 -- what the scope gives on the input
 pub record IsOutcome (request : Request) (old new : Shelved) (ended : Status) (text : List ℕ) : Type 0 where
-  pub file : List ℕ
+  pub source : Source
+  pub program : Program
+  pub scope : ℕ
   pub extra : List ℕ
-  pub program : ThinProgram
-  pub input : List ℤ
-  pub file_read : IsFile request old file
+  pub input : List (Option Value)
+  pub outcome : Outcome
+  pub asked : IsAsked request old source program scope
   pub extra_read : IsExtra request old extra
-  pub accepted : IsAccepted request file program
-  pub input_read : thin_input_of program extra ≡ Some input
+  pub input_is : input_read program.decls scope extra ≡ Ok input
+  pub outcome_is : scope_outcome program scope input ≡ Some outcome
   pub untouched : new ≡ old
-  pub status : ended ≡ status_of (thin_outcome program input)
-  pub reply : thin_answer program request.file (thin_outcome program input) ≡ Some text
+  pub status : ended ≡ status_of outcome
+  pub reply : text ≡ line (answer_of program.decls scope source.files outcome) []
 
--- the source is none that the program reads; a line of it is named
+-- a file of the source isn't text, has an open block, or includes one that is taken or one too many
+pub record IsRefusedFile (request : Request) (old new : Shelved) (text : List ℕ) : Type 0 where
+  pub refusal : GatherRefusal
+  pub ending : HasEnding old.content request.file (Refused refusal)
+  pub untouched : new ≡ old
+  pub reply : gathering_line refusal ≡ Some text
+
+-- the source is gathered, and this stands in it at this position
 pub record IsRefusedSource (request : Request) (old new : Shelved) (text : List ℕ) : Type 0 where
-  pub file : List ℕ
-  pub number : ℕ
-  pub file_read : IsFile request old file
-  pub refused : thin_program_of file ≡ None
+  pub source : Source
+  pub code : Code
+  pub pos : Pos
+  pub source_read : IsSource request old source
+  pub stands : StandsAt source.pieces code pos
   pub untouched : new ≡ old
-  pub reply : text ≡ refusal_line request.file number
+  pub reply : text ≡ refusal_line (number_of code) (position_text source.files pos)
 
--- the source declares another scope
+-- the source is accepted, and declares no scope of that name
 pub record IsNoScope (request : Request) (old new : Shelved) (text : List ℕ) : Type 0 where
-  pub file : List ℕ
-  pub program : ThinProgram
-  pub file_read : IsFile request old file
-  pub thin : thin_program_of file ≡ Some program
-  pub other : program.scope ≢ request.scope
+  pub source : Source
+  pub program : Program
+  pub source_read : IsSource request old source
+  pub accepted : IsAccepted source.pieces program
+  pub unnamed : number_named request.scope 0 program.decls.scopes ≡ None
   pub untouched : new ≡ old
   pub reply : text ≡ line (codes "no such scope ") request.scope
 
--- the input is none of the program's
+-- the input is none of the scope's
 pub record IsRefusedInput (request : Request) (old new : Shelved) (text : List ℕ) : Type 0 where
-  pub file : List ℕ
+  pub source : Source
+  pub program : Program
+  pub scope : ℕ
   pub extra : List ℕ
-  pub program : ThinProgram
-  pub file_read : IsFile request old file
+  pub refusal : InputRefusal
+  pub asked : IsAsked request old source program scope
   pub extra_read : IsExtra request old extra
-  pub accepted : IsAccepted request file program
-  pub refused : thin_input_of program extra ≡ None
+  pub refused : input_read program.decls scope extra ≡ Err refusal
   pub untouched : new ≡ old
-  pub reply : text ≡ line (codes "input refused I0") []
+  pub reply : input_line refusal ≡ Some text
 
 -- the words ask for nothing
 pub record IsUsage (words : List (List ℕ)) (old new : Shelved) (text : List ℕ) : Type 0 where

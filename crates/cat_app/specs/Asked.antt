@@ -1,27 +1,34 @@
--- What the files that are asked for may hold, and which of them is read when.
+-- What is asked for: the source that is gathered, the scope of its program, and the input; and which file is read when.
 use Rattle.std.specs.Prelude.{◌≡◌, ◌⊎◌, ℕ, List, Some}
-use Rattle.cat_pos.specs.declared.limits.TheConstants.{MOST_FILE_BYTES, MOST_INPUT_BYTES}
+use Rattle.cat_pos.specs.declared.limits.TheConstants.{MOST_INPUT_BYTES}
 use Rattle.cat_io.specs.Shelf.{Shelved, Gives}
-use Rattle.cat_thin_scope.specs.declared.program.ThinProgram.{ThinProgram}
-use Rattle.cat_thin.specs.Source.{thin_program_of}
+use Rattle.cat_scope.specs.declared.programs.Program.{Program}
+use Rattle.cat_scope.specs.Named.{number_named}
+use Rattle.cat_gather.specs.declared.source.Source.{Source}
+use Rattle.cat_gather.specs.Gathered.{Whole, limit_after}
+use Rattle.cat_gather.specs.Causes.{ComesTo, HasEnding}
+use Rattle.cat_build.specs.Accepted.{IsAccepted}
 use Rattle.cat_app.specs.Words.{Request}
 
--- these bytes may be what the source has
-abbrev pub IsFile : Request → Shelved → List ℕ → Type 0
-IsFile request shelf file = Gives (shelf.content request.file) MOST_FILE_BYTES file
+-- this may be what is gathered of the main file
+abbrev pub IsSource : Request → Shelved → Source → Type 0
+IsSource request shelf source = HasEnding shelf.content request.file (Whole source)
 
 -- these bytes may be what the input has
 abbrev pub IsExtra : Request → Shelved → List ℕ → Type 0
 IsExtra request shelf extra = Gives (shelf.content request.extra) MOST_INPUT_BYTES extra
 
--- the source is accepted, and declares the scope that is asked for
-pub record IsAccepted (request : Request) (file : List ℕ) (program : ThinProgram) : Type 0 where
-  pub thin : thin_program_of file ≡ Some program
-  pub named : program.scope ≡ request.scope
+-- the source is accepted as a program, of which the scope that is asked for has this number
+pub record IsAsked (request : Request) (shelf : Shelved) (source : Source) (program : Program) (scope : ℕ) : Type 0
+  where
+    pub source_read : IsSource request shelf source
+    pub accepted : IsAccepted source.pieces program
+    pub named : number_named request.scope 0 program.decls.scopes ≡ Some scope
 
--- the file that is read at this point, with its limit: the source first, and the input once the source is accepted
+-- the file that is read at this point, with its limit: those of the source first, and the input once the source is
+-- accepted and its scope found
 abbrev pub IsReadNow : Request → Shelved → List ℕ → ℕ → Type 0
 IsReadNow request shelf name limit =
-    ((name ≡ request.file) × (limit ≡ MOST_FILE_BYTES))
+    ((bytes : ℕ) × ComesTo shelf.content request.file name bytes × (limit ≡ limit_after bytes))
     ⊎ ((name ≡ request.extra) × (limit ≡ MOST_INPUT_BYTES)
-    × ((file : List ℕ) × (program : ThinProgram) × IsFile request shelf file × IsAccepted request file program))
+    × ((source : Source) × (program : Program) × (scope : ℕ) × IsAsked request shelf source program scope))

@@ -1,16 +1,22 @@
 -- What follows from the answers: when a reply comes, and when a fault can't.
-use Rattle.std.specs.Prelude.{◌≡◌, ◌⊎◌, ℕ, ℤ, ◌≤◌, Bool, true, false, List, length, Some, IfSome, IsSomeAnd, ⊤}
+use Rattle.std.specs.Prelude.{◌≡◌, ◌⊎◌, ℕ, ◌≤◌, Bool, true, false, List, [], length, Option, Some, Ok, IfSome, ⊤}
 use Rattle.std.specs.Io.KnownBytes.{Appends}
-use Rattle.cat_pos.specs.declared.limits.TheConstants.{MOST_FILE_BYTES, MOST_INPUT_BYTES}
+use Rattle.cat_pos.specs.declared.limits.TheConstants.{MOST_INPUT_BYTES}
 use Rattle.cat_io.specs.Shelf.{Shelved, Rose}
 use Rattle.cat_io.specs.Sink.{Sunk}
-use Rattle.cat_thin_scope.specs.declared.program.ThinProgram.{ThinProgram}
-use Rattle.cat_thin_scope.specs.Outcome.{thin_outcome}
-use Rattle.cat_thin.specs.Input.{thin_input_of}
-use Rattle.cat_thin.specs.Answer.{thin_answer}
+use Rattle.cat_value.specs.declared.value.Value.{Value}
+use Rattle.cat_value.specs.declared.outcome.Outcome.{Outcome}
+use Rattle.cat_scope.specs.declared.programs.Program.{Program}
+use Rattle.cat_scope.specs.Named.{number_named}
+use Rattle.cat_scope.specs.Outcomes.{scope_outcome}
+use Rattle.cat_json.specs.InputsRead.{input_read}
+use Rattle.cat_answer.specs.Answer.{answer_of}
+use Rattle.cat_gather.specs.declared.source.Source.{Source}
+use Rattle.cat_gather.specs.Gathered.{Whole, gathered}
+use Rattle.cat_build.specs.Accepted.{IsAccepted}
 use Rattle.cat_app.specs.Words.{Request, request_of}
-use Rattle.cat_app.specs.Asked.{IsAccepted}
-use Rattle.cat_app.specs.Answers.{status_of}
+use Rattle.cat_app.specs.Asked.{IsReadNow}
+use Rattle.cat_app.specs.Answers.{line, status_of}
 use Rattle.cat_app.specs.Table.{MayReply}
 use Rattle.cat_app.specs.declared.status.Status.{Status}
 use Rattle.cat_app.specs.declared.status.Status.TheVariants.{Missing, ReadFault, WriteFault, Memory, TooLarge}
@@ -20,10 +26,10 @@ abbrev pub NameRose : List ℕ → Shelved → Shelved → Type 0
 NameRose name old new =
     Rose name old.misses new.misses ⊎ (Rose name old.faults new.faults ⊎ Rose name old.longs new.longs)
 
--- no count of a file that the words name rose
+-- no count of a file rose that the words or an include name
 abbrev pub NoFileRose : List (List ℕ) → Shelved → Shelved → Type 0
 NoFileRose words old new = IfSome (request_of words) (λ request.
-    (NameRose request.file old new → ⊥) × (NameRose request.extra old new → ⊥))
+    (name : List ℕ) (limit : ℕ) → IsReadNow request old name limit → NameRose name old new → ⊥)
 
 -- whether a status tells of a cause outside: a shelf's or a sink's
 abbrev pub is_fault : Status → Bool
@@ -47,26 +53,30 @@ abbrev pub RepliesFit : List (List ℕ) → Shelved → Shelved → ℕ → Type
 RepliesFit words old new room =
     (status : Status) (text : List ℕ) → MayReply words old new status text → length text ≤ room
 
--- the words ask for these contents, which the shelf tells and which are within their limits; the scope of the program
--- is asked for, and the input is read
-pub record IsToldRun (words : List (List ℕ)) (old : Shelved) (request : Request) (program : ThinProgram)
-    (input : List ℤ) : Type 0 where
-  pub file : List ℕ
+-- the words ask for a scope of a source that is accepted and for an input that is read, over contents that the shelf
+-- tells
+pub record IsToldRun (words : List (List ℕ)) (old : Shelved) (request : Request) (source : Source) (program : Program)
+    (scope : ℕ) (input : List (Option Value)) : Type 0 where
   pub extra : List ℕ
   pub asked : request_of words ≡ Some request
-  pub file_told : old.content request.file ≡ Some file
+  pub source_told : gathered old.content request.file ≡ Whole source
+  pub accepted : IsAccepted source.pieces program
+  pub named : number_named request.scope 0 program.decls.scopes ≡ Some scope
   pub extra_told : old.content request.extra ≡ Some extra
-  pub file_short : length file ≤ MOST_FILE_BYTES
   pub extra_short : length extra ≤ MOST_INPUT_BYTES
-  pub accepted : IsAccepted request file program
-  pub input_read : thin_input_of program extra ≡ Some input
+  pub input_is : input_read program.decls scope extra ≡ Ok input
 
--- the program's outcome is written whole; else the shelf or the sink failed, or memory ran out
-abbrev pub EndsRun : Sunk → Sunk → Request → ThinProgram → List ℤ → Status → Type 0
-EndsRun sink sunk request program input ReadFault = ⊤
-EndsRun sink sunk request program input WriteFault = ⊤
-EndsRun sink sunk request program input Memory = ⊤
-EndsRun sink sunk request program input status =
-    (status ≡ status_of (thin_outcome program input))
-    × IsSomeAnd (thin_answer program request.file (thin_outcome program input))
-    (λ text. Appends sink.taken sunk.taken text)
+-- the scope's outcome on the input is written whole, with its status
+pub record WritesOutcome (sink sunk : Sunk) (source : Source) (program : Program) (scope : ℕ)
+    (input : List (Option Value)) (ended : Status) : Type 0 where
+  pub outcome : Outcome
+  pub outcome_is : scope_outcome program scope input ≡ Some outcome
+  pub status : ended ≡ status_of outcome
+  pub written : Appends sink.taken sunk.taken (line (answer_of program.decls scope source.files outcome) [])
+
+-- the outcome is written; else the shelf or the sink failed, or memory ran out
+abbrev pub EndsRun : Sunk → Sunk → Source → Program → ℕ → List (Option Value) → Status → Type 0
+EndsRun sink sunk source program scope input ReadFault = ⊤
+EndsRun sink sunk source program scope input WriteFault = ⊤
+EndsRun sink sunk source program scope input Memory = ⊤
+EndsRun sink sunk source program scope input status = WritesOutcome sink sunk source program scope input status

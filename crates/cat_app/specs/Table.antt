@@ -1,20 +1,22 @@
 -- The table of answers: which texts may come with a status, and what the sink took of them.
 use Rattle.std.specs.Prelude.{◌≡◌, ◌⊎◌, ℕ, List, IsSomeAnd, codes}
-use Rattle.cat_io.specs.Shelf.{Shelved}
+use Rattle.cat_io.specs.Shelf.{Shelved, Keeps}
 use Rattle.cat_io.specs.declared.shelf.ShelfFault.TheVariants as shelf
 use Rattle.cat_io.specs.Sink.{Sunk, Took, FailedAt}
 use Rattle.cat_app.specs.Words.{Request, request_of}
-use Rattle.cat_app.specs.Answers.{IsOutcome, IsRefusedSource, IsNoScope, IsRefusedInput, IsUsage, IsRefusedRead}
+use Rattle.cat_app.specs.Answers.{IsOutcome, IsRefusedFile, IsRefusedSource, IsNoScope, IsRefusedInput, IsUsage}
+use Rattle.cat_app.specs.Answers.{IsRefusedRead}
 use Rattle.cat_app.specs.declared.status.Status.{Status}
-use Rattle.cat_app.specs.declared.status.Status.TheVariants.{Fine, Conflict, NoValue, Source, Input, Usage, Missing}
-use Rattle.cat_app.specs.declared.status.Status.TheVariants.{ReadFault, WriteFault, Memory, TooLarge}
+use Rattle.cat_app.specs.declared.status.Status.TheVariants.{Fine, Conflict, NoValue, Fault, Source, Input, Usage}
+use Rattle.cat_app.specs.declared.status.Status.TheVariants.{Missing, ReadFault, WriteFault, Memory, TooLarge}
 
 -- the texts that may come with a status to a request
 abbrev pub MayAnswer : Request → Shelved → Shelved → Status → List ℕ → Type 0
 MayAnswer request old new Fine text = IsOutcome request old new Fine text
 MayAnswer request old new Conflict text = IsOutcome request old new Conflict text
 MayAnswer request old new NoValue text = IsOutcome request old new NoValue text
-MayAnswer request old new Source text = IsRefusedSource request old new text
+MayAnswer request old new Fault text = IsOutcome request old new Fault text
+MayAnswer request old new Source text = IsRefusedFile request old new text ⊎ IsRefusedSource request old new text
 MayAnswer request old new Input text = IsRefusedInput request old new text
 MayAnswer request old new Usage text = IsNoScope request old new text
 MayAnswer request old new Missing text = IsRefusedRead request old new shelf.Missing (codes "missing file ") text
@@ -29,6 +31,11 @@ MayReply words old new Usage text =
 MayReply words old new status text =
     IsSomeAnd (request_of words) (λ request. MayAnswer request old new status text)
 
+-- at most one name was listed
+pub record ListsOne (old new : Shelved) : Type 0 where
+  pub name : List ℕ
+  pub keeps : Keeps name old new
+
 -- the sink failed at a text that may come, of which it took a front
 pub record IsWriteFault (words : List (List ℕ)) (old new : Shelved) (sink sunk : Sunk) : Type 0 where
   pub status : Status
@@ -37,9 +44,9 @@ pub record IsWriteFault (words : List (List ℕ)) (old new : Shelved) (sink sunk
   pub failed : FailedAt sink sunk text
 
 -- a status is answered only with its text, written whole; `WriteFault` only by the sink's own fault; `Memory` writes
--- nothing
+-- nothing, and at most one name was listed
 abbrev pub Answers : List (List ℕ) → Shelved → Shelved → Sunk → Sunk → Status → Type 0
 Answers words old new sink sunk WriteFault = IsWriteFault words old new sink sunk
-Answers words old new sink sunk Memory = sunk ≡ sink
+Answers words old new sink sunk Memory = (sunk ≡ sink) × ListsOne old new
 Answers words old new sink sunk status =
     (text : List ℕ) × MayReply words old new status text × Took sink sunk text

@@ -4,7 +4,9 @@
 
 mod reply;
 mod request;
+mod run;
 mod status;
+mod texts;
 mod top;
 
 pub use status::Status;

@@ -1,14 +1,18 @@
 // The top call: the whole reply first, and then one put.
-ghost use Rattle.std.specs.Prelude.{◌≡◌, ◌≢◌, List, ℤ, true, false, IfSome};
+ghost use Rattle.std.specs.Prelude.{◌≡◌, ◌≢◌, ℕ, List, Option, true, false, IfSome};
 ghost use Rattle.cat_io.specs.Count.{FaultsRose};
 ghost use Rattle.cat_io.specs.Stored.{texts_of};
-ghost use Rattle.cat_thin_scope.specs.declared.program.ThinProgram.{ThinProgram};
+ghost use Rattle.cat_value.specs.declared.value.Value.{Value};
+ghost use Rattle.cat_scope.specs.declared.programs.Program.{Program};
+ghost use Rattle.cat_gather.specs.declared.source.Source.{Source};
 ghost use Rattle.cat_app.specs.Words.{Request};
 ghost use Rattle.cat_app.specs.Table.{Answers};
 ghost use Rattle.cat_app.specs.Complete.{NoFileRose, RepliesFit, IsToldRun, EndsRun, is_fault, is_reply};
 
 use crate::Status;
 use crate::reply::whole_reply;
+use cat_build::{pieces_have_one_program, refused_pieces_are_not_accepted};
+use cat_gather::told_sources_are_gathered;
 use cat_io::{Shelf, Sink};
 use std::alloc::Global;
 
@@ -16,9 +20,9 @@ use std::alloc::Global;
 ///
 /// | Status | What is written |
 /// |---|---|
-/// | `Fine`, `Conflict`, `NoValue` | the scope's outcome on the input |
-/// | `Source` | where the source is refused |
-/// | `Input` | that the input is refused |
+/// | `Fine`, `Conflict`, `NoValue`, `Fault` | the scope's outcome on the input |
+/// | `Source` | the code and the position by which the source is refused |
+/// | `Input` | the code by which the input is refused, and of which part |
 /// | `Usage` | how the program is used, or that the source has no such scope |
 /// | `Missing`, `ReadFault`, `TooLarge` | the name of a file whose count of misses, faults or long reads rose |
 /// | `WriteFault` | the front of one of these texts; the sink's count of faults rose |
@@ -44,11 +48,15 @@ pub fn catala<S: Shelf, K: Sink>(
         RepliesFit (texts_of words.now) (S.state shelf.old) (S.state shelf.new) room
         → (result ≢ Status.WriteFault) × ((K.state sink.new).faults ≡ (K.state sink.old).faults)) }
 
-    // Over told contents the reply is a function of them.
-    ensures a_run_writes_the_outcome { (request : Request) (program : ThinProgram) (input : List ℤ)
-        → IsToldRun (texts_of words.now) (S.state shelf.old) request program input
-        → EndsRun (K.state sink.old) (K.state sink.new) request program input result }
+    // Over told contents the outcome of the scope is written.
+    ensures a_run_writes_the_outcome { (request : Request) (source : Source) (program : Program) (scope : ℕ)
+        (input : List (Option Value))
+        → IsToldRun (texts_of words.now) (S.state shelf.old) request source program scope input
+        → EndsRun (K.state sink.old) (K.state sink.new) source program scope input result }
 {
+    pieces_have_one_program();
+    refused_pieces_are_not_accepted();
+    told_sources_are_gathered();
     answer(alloc, words, shelf, sink)
 }
 

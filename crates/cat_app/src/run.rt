@@ -1,0 +1,120 @@
+// A run of a scope: the source first, then the input, then the outcome.
+ghost use Rattle.std.specs.Prelude.{◌≡◌, ◌<◌, IfOk, OnErr, Some, length};
+ghost use Rattle.cat_scope.specs.Named.{number_named};
+ghost use Rattle.cat_calc.specs.Calculus.{calc_outcome};
+ghost use Rattle.cat_gather.specs.Causes.{AreReadableTogether};
+ghost use Rattle.cat_value.specs.Inputs.{IsWellTyped};
+ghost use Rattle.cat_build.specs.Built.{IsBuiltOf};
+ghost use Rattle.cat_app.specs.Answers.{status_of};
+ghost use Rattle.cat_app.specs.Asked.{IsSource};
+ghost use Rattle.cat_app.specs.Table.{ListsOne};
+ghost use Rattle.cat_app.specs.inside.Says.{asked_of, MaySay, SaysOf};
+
+use crate::Status;
+use crate::reply::Reply;
+use crate::request::RunWords;
+use crate::texts::{no_scope, refuse_file, refuse_gathering, refuse_input, refuse_source};
+use cat_answer::answer_text;
+use cat_build::{BuildRefusal, Built, build};
+use cat_evaluate::evaluate;
+use cat_gather::{Source, gather};
+use cat_io::{Shelf, read_all};
+use cat_json::read_input;
+use cat_pos::{Files, MOST_INPUT_BYTES};
+use cat_value::{Input, Outcome};
+use std::alloc::{AllocError, Global};
+
+/// Gathers the source first.
+pub fn run<S: Shelf>(alloc: Global, asked: RunWords<'_>, shelf: &mut S) -> Result<Reply, AllocError>
+    ensures told { (S.state shelf.new).content ≡ (S.state shelf.old).content }
+    ensures may { IfOk result (MaySay (asked_of asked.entry) (S.state shelf.old) (S.state shelf.new)) }
+    ensures lists { OnErr result (ListsOne (S.state shelf.old) (S.state shelf.new)) }
+{
+    match gather(alloc, shelf, asked.file) {
+        Ok(source) => run_source(alloc, asked, &source, shelf),
+        Err(refusal) => refuse_gathering(alloc, refusal),
+    }
+}
+
+/// Builds the source, and looks for the scope.
+fn run_source<S: Shelf>(
+    alloc: Global,
+    asked: RunWords<'_>,
+    source: &Source,
+    shelf: &mut S,
+) -> Result<Reply, AllocError>
+    requires readable { AreReadableTogether source.now.pieces }
+    requires gathered { IsSource (asked_of asked) (S.state shelf.old) source.now }
+    ensures told { (S.state shelf.new).content ≡ (S.state shelf.old).content }
+    ensures may { IfOk result (MaySay (asked_of asked.entry) (S.state shelf.old) (S.state shelf.new)) }
+    ensures lists { OnErr result (ListsOne (S.state shelf.old) (S.state shelf.new)) }
+{
+    let built = match build(alloc, source) {
+        Ok(built) => built,
+        Err(BuildRefusal::Refused(code, pos)) => {
+            return refuse_source(alloc, &source.files, code, pos);
+        }
+        Err(BuildRefusal::Memory) => return Err(AllocError),
+    };
+    match built.program.scope_named(asked.scope) {
+        Some(scope) => run_scope(alloc, asked, source, &built, scope, shelf),
+        None => no_scope(alloc, asked.scope),
+    }
+}
+
+/// Reads the input, once the source is accepted and its scope found.
+fn run_scope<S: Shelf>(
+    alloc: Global,
+    asked: RunWords<'_>,
+    source: &Source,
+    built: &Built,
+    scope: u32,
+    shelf: &mut S,
+) -> Result<Reply, AllocError>
+    requires gathered { IsSource (asked_of asked) (S.state shelf.old) source.now }
+    requires built { IsBuiltOf source.now.pieces built.now }
+    requires named { number_named asked.scope.now 0 built.now.program.decls.scopes ≡ Some scope }
+    ensures told { (S.state shelf.new).content ≡ (S.state shelf.old).content }
+    ensures may { IfOk result (MaySay (asked_of asked.entry) (S.state shelf.old) (S.state shelf.new)) }
+    ensures lists { OnErr result (ListsOne (S.state shelf.old) (S.state shelf.new)) }
+{
+    let extra = match read_all(alloc, shelf, asked.extra, MOST_INPUT_BYTES) {
+        Ok(bytes) => bytes,
+        Err(fault) => return refuse_file(alloc, asked.extra, fault),
+    };
+    match read_input(alloc, &extra, built.program.decls(), scope) {
+        Ok(input) => answer(alloc, &source.files, built, scope, &input),
+        Err(refusal) => refuse_input(alloc, refusal),
+    }
+}
+
+/// What the scope comes to on the input.
+fn answer(
+    alloc: Global,
+    files: &Files,
+    built: &Built,
+    scope: u32,
+    input: &Input,
+) -> Result<Reply, AllocError>
+    requires scope { scope < length built.now.program.decls.scopes }
+    requires typed { IsWellTyped built.now.calc.decls scope input.now }
+    ensures { IfOk result (SaysOf built.now.program.decls scope files.now
+        (calc_outcome built.now.calc scope input.now)) }
+{
+    let outcome = evaluate(alloc, &built.calc, scope, input)?;
+    let mut text = answer_text(alloc, &outcome, built.program.decls(), scope, files)?;
+    text.push_str("\n")?;
+    let status = ended(&outcome);
+    Ok(Reply { status, text })
+}
+
+fn ended(outcome: &Outcome) -> Status
+    ensures { result ≡ status_of outcome.now }
+{
+    match outcome {
+        Outcome::Value(_) => Status::Fine,
+        Outcome::Conflict(_, _) => Status::Conflict,
+        Outcome::NoValue(_, _) => Status::NoValue,
+        Outcome::Fault(_, _) => Status::Fault,
+    }
+}

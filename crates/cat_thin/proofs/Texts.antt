@@ -1,4 +1,0 @@
--- Whether a line is text, as a test.
-use Rattle.std.proofs.lemmas.Str.{is_utf8-from_IsUtf8, IsUtf8-from_is_utf8}
-
-pub ruleset texts = (is_utf8-from_IsUtf8, IsUtf8-from_is_utf8)
