@@ -5,9 +5,7 @@ from .answers import replies
 
 TOP = pathlib.Path(__file__).resolve().parent.parent.parent
 OURS = {'words', 'stdin', 'stdout', 'status', 'files'}
-EXAMPLE = re.compile(r'^\[(\w+)\]\(\.\./tests/language/\1\)\n\n?(?:````\n(.*?)\n````\n)?.*?\bgives `(.*?)`\.$', re.M | re.S)
-# What only the form of sources that is read line by line refuses, until the whole language is read.
-LINE_BY_LINE = ('source refused E0', 'input refused I0')
+EXAMPLE = re.compile(r'^\[(\w+)\]\(\.\./tests/cases/\1\)\n\n?(?:````\n(.*?)\n````\n)?.*?\bgives `(.*?)`\.$', re.M | re.S)
 
 
 def files_of(case):
@@ -20,19 +18,18 @@ def files_of(case):
 
 
 def is_computed(case):
-    """Whether the case runs a scope on files that it has, and its reply isn't one of the line-by-line form."""
+    """Whether the case runs a scope on files that it has."""
     words = (case / 'words').read_text().splitlines() if (case / 'words').exists() else []
     stdout = (case / 'stdout').read_text() if (case / 'stdout').exists() else ''
     has_options = any(word.startswith('-') and word != '-' for word in words)
     is_run = 3 <= len(words) <= 4 and words[0] == 'run' and not has_options and 'fault .' not in stdout
     is_made = (case / 'make').exists() or (case / 'device').exists()
-    return is_run and not is_made and not stdout.startswith(LINE_BY_LINE)
+    return is_run and not is_made
 
 
 def case_folders():
-    """The cases that the program runs, and those of the whole language, which are computed here alone until it does."""
-    for folder in ('cases', 'language'):
-        yield from sorted(case for case in (TOP / 'tests' / folder).iterdir() if case.is_dir())
+    """The end-to-end cases."""
+    return sorted(case for case in (TOP / 'tests' / 'cases').iterdir() if case.is_dir())
 
 
 def told(want, found):
@@ -57,7 +54,7 @@ def pages():
     """Each example of the pages: its page and name, its source and reply as its case has them, and as the page does."""
     for page in ('LANGUAGE.md', 'REFUSALS.md'):
         for name, source, reply in EXAMPLE.findall((TOP / 'docs' / page).read_text()):
-            case = TOP / 'tests' / 'language' / name
+            case = TOP / 'tests' / 'cases' / name
             kept = (case / 'a.md').read_bytes().decode(errors='replace').rstrip('\n') if source else ''
             yield '%s %s' % (page, name), (kept, (case / 'stdout').read_text().rstrip('\n')), {(source, reply)}
 
