@@ -21,7 +21,7 @@ use cat_tree::Tree;
 use std::alloc::Global;
 
 /// The tokens of the pieces.
-pub fn tokens_of(alloc: Global, pieces: &[Piece]) -> Result<Tokens, BuildRefusal>
+fn tokens_of(alloc: Global, pieces: &[Piece]) -> Result<Tokens, BuildRefusal>
     requires { AreReadable pieces.now }
     ensures lexed { IfOk result (Lexes pieces.now) }
     ensures cause { IfErr result (HasCause pieces.now) }
@@ -78,7 +78,7 @@ fn position_of(pieces: &[Piece], tokens: &[Token], at: usize) -> Pos
 }
 
 /// The tree that the tokens of the pieces spell.
-pub fn tree_of(alloc: Global, pieces: &[Piece], tokens: &[Token]) -> Result<Tree, BuildRefusal>
+fn tree_of(alloc: Global, pieces: &[Piece], tokens: &[Token]) -> Result<Tree, BuildRefusal>
     requires readable { AreReadable pieces.now }
     requires lexed { Lexes pieces.now tokens.now }
     ensures spelled { IfOk result (IsTreeOf pieces.now) }
@@ -114,7 +114,7 @@ fn checked(alloc: Global, pieces: &[Piece], tree: &Tree) -> Result<Program, Buil
 }
 
 /// The program of the tree that the pieces are.
-pub fn program_of(alloc: Global, pieces: &[Piece], tree: &Tree) -> Result<Program, BuildRefusal>
+fn program_of(alloc: Global, pieces: &[Piece], tree: &Tree) -> Result<Program, BuildRefusal>
     requires readable { AreReadableTogether pieces.now }
     requires spelled { IsTreeOf pieces.now tree.now }
     ensures program { IfOk result (IsProgramIn pieces.now) }
@@ -123,5 +123,28 @@ pub fn program_of(alloc: Global, pieces: &[Piece], tree: &Tree) -> Result<Progra
 {
     definitions_are_counted();
     let program = checked(alloc, pieces, tree)?;
+    Ok(program)
+}
+
+/// The tree that the pieces are. Their tokens are dropped with the answer, since they take as much memory as the tree.
+fn parsed(alloc: Global, pieces: &[Piece]) -> Result<Tree, BuildRefusal>
+    requires { AreReadable pieces.now }
+    ensures spelled { IfOk result (IsTreeOf pieces.now) }
+    ensures cause { IfErr result (HasCause pieces.now) }
+{
+    let tokens = tokens_of(alloc, pieces)?;
+    let tree = tree_of(alloc, pieces, tokens.as_slice())?;
+    Ok(tree)
+}
+
+/// The program that the pieces are. Their tree is dropped with the answer.
+pub fn program_in(alloc: Global, pieces: &[Piece]) -> Result<Program, BuildRefusal>
+    requires { AreReadableTogether pieces.now }
+    ensures program { IfOk result (IsProgramIn pieces.now) }
+    ensures few { IfOk result (λ program. AllHave (λ body. length body.defs < ENTRIES_BOUND) program.bodies) }
+    ensures cause { IfErr result (HasCause pieces.now) }
+{
+    let tree = parsed(alloc, pieces)?;
+    let program = program_of(alloc, pieces, &tree)?;
     Ok(program)
 }

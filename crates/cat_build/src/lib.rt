@@ -14,7 +14,7 @@ mod laws;
 
 pub use crate::forests::Forests;
 use crate::forests::forests_of;
-use crate::front::{program_of, tokens_of, tree_of};
+use crate::front::program_in;
 use cat_calc::Calc;
 use cat_desugar::desugar;
 use cat_gather::Source;
@@ -39,9 +39,7 @@ pub fn build(alloc: Global, source: &Source) -> Result<Built, BuildRefusal>
     ensures cause { IfErr result (HasCause source.now.pieces) }
 {
     let pieces = source.pieces.as_slice();
-    let tokens = tokens_of(alloc, pieces)?;
-    let tree = tree_of(alloc, pieces, tokens.as_slice())?;
-    let program = program_of(alloc, pieces, &tree)?;
+    let program = program_in(alloc, pieces)?;
     let forests = forests_of(alloc, pieces, &program)?;
     let calc = desugar(alloc, &program, forests.as_slice())?;
     Ok(Built {

@@ -88,10 +88,14 @@ impl<T: Copy> List<T> {
 }
 
 impl<T: Drop> List<T> {
+    /// Puts an element at the end. A first element gets room for itself alone, since most lists of a source have one.
     pub fn push(&mut self, item: T) -> Result<(), AllocError>
         ensures ok { OnOk result (self.new ≡ self.old ++ item ∷ []) }
         ensures err { OnErr result (self.new ≡ self.old) }
     {
+        if self.items.capacity() == 0 {
+            self.items.reserve_exact(1)?;
+        }
         self.items.push(item)?;
         Ok(())
     }
