@@ -65,6 +65,24 @@ ENDS = [
 ]
 
 
+# Each form that goes over a list, and the type that it gives.
+OVER_LISTS = [
+    ('`number of`', 'number of l', 'integer'),
+    ('`sum`', 'sum integer of l', 'integer'),
+    ('`map each`', 'number of (map each w among l to w + 1)', 'integer'),
+    ('`list of .. such that`', 'number of (list of w among l such that w > 500)', 'integer'),
+    ('`for all`', 'for all w among l we have w >= 0', 'boolean'),
+    ('`exists`', 'exists w among l such that w < 0', 'boolean'),
+    ('`combine all`', 'combine all w among l in s initially 0 with s + w', 'integer'),
+    ('`contains`', 'l contains (0 - 1)', 'boolean'),
+]
+
+
+def over_list(form, kind):
+    return block(['declaration scope S:', '  input l content list of integer', '  output x content %s' % kind, 'scope S:',
+                  '  definition x equals %s' % form])
+
+
 def nested(form, times):
     """A scope whose one definition has a form in itself so often."""
     text = 'n'
