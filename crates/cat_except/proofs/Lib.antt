@@ -12,3 +12,4 @@ pub mod EachTarget
 pub mod Low
 pub mod Numbers
 pub mod Whole
+pub mod Exported

@@ -13,7 +13,8 @@ use Rattle.cat_scope.specs.declared.defs.Def.{Def}
 use Rattle.cat_scope.specs.Groups.{Numbered}
 use Rattle.cat_scope.specs.Targets.{same_inner, same_target, defs_from}
 use Rattle.cat_scope.specs.Forests.{definition_numbers}
-use Rattle.cat_except.specs.inside.Listing.{with_number, TargetKey, is_at, list_at, ArePartedBy}
+use Rattle.cat_except.specs.Parted.{TargetKey, is_at, list_at, ArePartedBy}
+use Rattle.cat_except.specs.inside.Listing.{with_number}
 
 abbrev pub key_eq : TargetKey → TargetKey → Bool
 key_eq p q = eqb p.0 q.0 && option_eq eqb p.1 q.1

@@ -1,3 +1,4 @@
+pub mod Parted
 pub mod Faults
 pub mod Excepted
 pub mod Causes

@@ -2,7 +2,7 @@
 ghost use Rattle.std.specs.Prelude.{◌≡◌, ◌<◌, length, IfOk};
 ghost use Rattle.cat_scope.specs.Forests.{definition_numbers};
 ghost use Rattle.cat_scope.specs.Targets.{defs_from};
-ghost use Rattle.cat_except.specs.inside.Listing.{ArePartedBy, list_at};
+ghost use Rattle.cat_except.specs.Parted.{ArePartedBy, list_at};
 
 use crate::lists::list_under;
 use cat_pos::{ENTRIES_BOUND, Numbers};
@@ -14,8 +14,8 @@ use std::alloc::{AllocError, Global};
 /// The targets of definitions, by their items, with the numbers of the definitions of each.
 #[derive(Drop)]
 pub struct ByTarget {
-    keys: IndexSet<(u32, Option<u32>)>,
-    lists: Vec<Numbers>,
+    pub keys: IndexSet<(u32, Option<u32>)>,
+    pub lists: Vec<Numbers>,
 }
 
 impl ByTarget {
@@ -32,7 +32,7 @@ impl ByTarget {
 }
 
 /// Parts the definitions of a scope by their targets.
-pub fn by_target(alloc: Global, defs: &[Def]) -> Result<ByTarget, AllocError>
+pub fn definitions_by_target(alloc: Global, defs: &[Def]) -> Result<ByTarget, AllocError>
     requires { length defs.now < ENTRIES_BOUND }
     ensures { IfOk result (λ table. ArePartedBy defs.now table.keys.keys table.lists.items) }
 {

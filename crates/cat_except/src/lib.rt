@@ -20,11 +20,11 @@ mod lists;
 mod refusal;
 mod targets;
 
-use crate::by_target::by_target;
 use crate::faults::{FaultKind, fault_in};
 use crate::groups::Groups;
 use crate::linked::{check_chains, forest_targets, link_each};
 use crate::targets::targets_of;
+pub use by_target::{ByTarget, definitions_by_target};
 use cat_pos::{ENTRIES_BOUND, List};
 use cat_scope::{Def, Forest, Program, programs_are_well_formed};
 use cat_value::Target;
@@ -43,7 +43,7 @@ fn groups_of_each(
     ensures groups { IfOk result (λ groups. groups_at_each defs.now groups ≡ groups_of_each defs.now targets.now) }
     ensures known { IfOk result (AreGroupsOfEach defs.now) }
 {
-    let table = by_target(alloc, defs)?;
+    let table = definitions_by_target(alloc, defs)?;
     let mut groups = List::new(alloc);
     for &target in targets {
         groups.push(Groups::new(alloc, defs, target, table.numbers(target))?)?;

@@ -1,6 +1,6 @@
 use Rattle.std.proofs.Common.{◌≡◌, ◌≤◌, take, length}
-use Rattle.cat_except.specs.inside.Listing.{ArePartedBy}
-use Rattle.cat_except.proofs.by_target.by_target.Given as goal
+use Rattle.cat_except.specs.Parted.{ArePartedBy}
+use Rattle.cat_except.proofs.by_target.definitions_by_target.Given as goal
 
 abbrev pub invariant-loop-number : goal.invariant-loop-number
 invariant-loop-number l = ArePartedBy (take l.number l.defs) l.keys.keys l.lists.items

@@ -1,6 +1,6 @@
 use Rattle.std.proofs.Common.{rules, sym}
 use Rattle.cat_except.proofs.TargetKeys.{one_def_more}
-use Rattle.cat_except.proofs.by_target.by_target.Goals as goal
+use Rattle.cat_except.proofs.by_target.definitions_by_target.Goals as goal
 
 pub loop-number-preserved : goal.loop-number-preserved
 loop-number-preserved c =

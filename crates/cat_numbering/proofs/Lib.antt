@@ -1,0 +1,10 @@
+pub mod Firsts
+pub mod Keyed
+pub mod TermNumbers
+pub mod AtomNumbers
+pub mod Adding
+pub mod GuardForms
+pub mod Tokens
+pub mod Paths
+pub mod Constants
+pub mod Exported

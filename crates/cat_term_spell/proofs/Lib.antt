@@ -1,0 +1,3 @@
+pub mod KeyEquations
+pub mod CutLaws
+pub mod Exported

@@ -1,0 +1,6 @@
+-- In which definitions an expression stands, by its function and how many parameters that has.
+use Rattle.std.specs.Prelude.{ℕ}
+use Rattle.cat_scope.specs.Same.{Standing}
+
+abbrev pub standing : ℕ → ℕ → Standing
+standing function params = record { function = function; params = params }
