@@ -1,0 +1,10 @@
+pub mod Lists
+pub mod MeetingLemmas
+pub mod StandLemmas
+pub mod SideLemmas
+pub mod WalkLemmas
+pub mod ClosedLaws
+pub mod SizeLemmas
+pub mod Examples
+pub mod WholeLemmas
+pub mod ExpandLemmas

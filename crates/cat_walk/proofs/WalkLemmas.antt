@@ -1,0 +1,347 @@
+-- A walk goes on from one node to the next.
+use Rattle.std.proofs.Common.{◌≡◌, ℕ, suc, ◌+◌, ◌<◌, ◌≤◌, nat_lt, max, Bool, true, false, not, ◌&&◌, ◌||◌, IsTrue}
+use Rattle.std.proofs.Common.{if◌then◌else◌, List, [], ◌∷◌, ◌++◌, length, Option, Some, None, Result, Ok, Err}
+use Rattle.std.proofs.Common.{slice_get}
+use Rattle.std.proofs.Common.{IfSome, refl, sym, ap, ◌∙◌, subst, arith, append_assoc, append-nil}
+use Rattle.std.proofs.Math.Path.{fun_ext}
+use Rattle.std.proofs.lemmas.Bool.Decides.{nat_tests}
+use Rattle.std.proofs.Math.Nat.{le-max_left, le-max_right}
+use Rattle.std.specs.List.{list_any}
+use Rattle.cat_region.specs.declared.cut.Cut.{Cut}
+use Rattle.cat_region.specs.declared.narrowing.Narrowing.{Narrowing}
+use Rattle.cat_region.specs.Regions.{Constraints, with_narrowing, narrowed_to}
+use Rattle.cat_region.specs.Decided.{admits_none, decided_at}
+use Rattle.cat_guard.specs.declared.table.Atom.{Atom}
+use Rattle.cat_guard.specs.declared.table.TableTarget.{TableTarget}
+use Rattle.cat_guard.specs.declared.tree.TreeNode.TheVariants as node
+use Rattle.cat_guard.specs.Judged.{atom_decided, answers_in, covers}
+use Rattle.cat_guard.specs.Trees.{Tree, node_before, height, answering, with_answer}
+use Rattle.cat_guard.specs.Trees as tree
+use Rattle.cat_guard.specs.Verdicts.{verdict_of}
+use Rattle.cat_guard.proofs.Exported.{both_true}
+use Rattle.cat_walk.specs.declared.place.NodePlace.{NodePlace}
+use Rattle.cat_walk.specs.declared.refusal.WalkRefusal.{WalkRefusal}
+use Rattle.cat_walk.specs.declared.refusal.WalkRefusal.TheVariants as why
+use Rattle.cat_walk.specs.declared.meeting.Met.{Met}
+use Rattle.cat_walk.specs.declared.meeting.Met.TheVariants as met
+use Rattle.cat_walk.specs.Coverage.{leaf_regions, is_uncovered, first_place, Answers, AnswersOf}
+use Rattle.cat_walk.specs.Walkable.{splits_below, IsWalkable}
+use Rattle.cat_walk.specs.inside.Sides.{along, turns, Turns}
+use Rattle.cat_walk.specs.inside.Walking.{uncovered_at, trees_met, leaves_met, regions_along, AreFit, IsUnderWay}
+use Rattle.cat_guard.specs.declared.tree.CitedTree.{CitedTree}
+use Rattle.cat_guard.specs.Trees.{expanded}
+use Rattle.cat_walk.specs.LeafPlaces.{lists_of, leaf_places}
+use Rattle.cat_walk.specs.inside.Meetings.{are_earlier, start_of, to_come}
+use Rattle.cat_walk.proofs.StandLemmas.{stands}
+use Rattle.cat_walk.proofs.Lists.{there}
+
+-- ---- what is covered doesn't hang on the room
+
+none_alike : (region other : Constraints) → region.dims ≡ other.dims → region.narrowings ≡ other.narrowings
+    → admits_none region ≡ admits_none other
+unfolding admits_none
+none_alike region other dims narrowings =
+    ap (λ ds. admits_none (record { dims = ds; narrowings = region.narrowings; room = 0 })) dims
+    ∙ ap (λ ns. admits_none (record { dims = other.dims; narrowings = ns; room = 0 })) narrowings
+
+decided_alike : (region other : Constraints) (i : ℕ) (c : Cut) → region.dims ≡ other.dims
+    → region.narrowings ≡ other.narrowings → decided_at region i c ≡ decided_at other i c
+unfolding decided_at
+decided_alike region other i c dims narrowings =
+    let same : (n : Narrowing) → admits_none (with_narrowing region n) ≡ admits_none (with_narrowing other n) =
+    λ n. none_alike (with_narrowing region n) (with_narrowing other n) dims (ap (λ ns. ns ++ n ∷ []) narrowings) in
+    rw (none_alike region other dims narrowings, same (narrowed_to i c false), same (narrowed_to i c true)) refl
+
+answers_alike : (atoms : List Atom) (region other : Constraints) → region.dims ≡ other.dims
+    → region.narrowings ≡ other.narrowings → answers_in atoms region ≡ answers_in atoms other
+answers_alike atoms region other dims narrowings = fun_ext (λ a. by (slice_get atoms a))
+  where
+    by : (o : Option Atom) → atom_decided region o ≡ atom_decided other o
+    by None = refl
+    by (Some atom) = decided_alike region other atom.term atom.cut dims narrowings
+
+pub uncovered_alike : (atoms : List Atom) (o : Option TableTarget) (region other : Constraints)
+    → region.dims ≡ other.dims → region.narrowings ≡ other.narrowings
+    → uncovered_at atoms o region ≡ uncovered_at atoms o other
+uncovered_alike atoms None region other dims narrowings = refl
+uncovered_alike atoms (Some t) region other dims narrowings =
+    ap (λ b. not (b || covers t.may_be_empty (verdict_of t (answers_in atoms region))))
+    (none_alike region other dims narrowings)
+    ∙ ap (λ answers. not (admits_none other || covers t.may_be_empty (verdict_of t answers)))
+    (answers_alike atoms region other dims narrowings)
+
+-- ---- the dimensions stay
+
+along_dims : (base : Constraints) (path : List Narrowing) → (along base path).dims ≡ base.dims
+along_dims base [] = refl
+along_dims base (n ∷ path) = along_dims base path
+
+-- ---- a target's answer is that of the target of its number
+
+pub told_of : (atoms : List Atom) (o : Option TableTarget) (region : Constraints) (places : List NodePlace)
+    (t : Option Tree) (answer : Result (Unit {0}) WalkRefusal)
+    → AnswersOf (uncovered_at atoms o) atoms region places t answer
+    → IfSome o (λ target. AnswersOf (is_uncovered atoms target) atoms region places t answer)
+told_of atoms None region places t answer told = tt
+told_of atoms (Some target) region places t answer told = told
+
+-- ---- trees of what is met
+
+record IsSplit (a : ℕ) (o : Option (List Tree)) (trees : List Tree) : Type 0 where
+  pub left : Tree
+  pub right : Tree
+  pub rest : List Tree
+  pub is : o ≡ Some (left ∷ right ∷ rest)
+  pub same : trees ≡ tree.Split a left right ∷ rest
+
+split_there : (a : ℕ) (o : Option (List Tree)) (trees : List Tree) → node_before (node.Split a) o ≡ Some trees
+    → IsSplit a o trees
+split_there a None trees h = absurd (cc)
+split_there a (Some []) trees h = absurd (cc)
+split_there a (Some (l ∷ [])) trees h = absurd (cc)
+split_there a (Some (l ∷ r ∷ rest)) trees h = record { left = l; right = r; rest = rest; is = refl; same = cc }
+
+record IsLeaf (o : Option (List Tree)) (trees : List Tree) : Type 0 where
+  pub rest : List Tree
+  pub is : o ≡ Some rest
+  pub same : trees ≡ tree.Leaf ∷ rest
+
+leaf_there : (o : Option (List Tree)) (trees : List Tree) → node_before node.Leaf o ≡ Some trees → IsLeaf o trees
+leaf_there None trees h = absurd (cc)
+leaf_there (Some rest) trees h = record { rest = rest; is = refl; same = cc }
+
+-- ---- the steps of a walk
+
+module _ (atoms : List Atom) (o : Option TableTarget) (base : Constraints)
+    (Told : Result (Unit {0}) WalkRefusal → Type 0) where
+  abbrev test : Constraints → Bool
+  test = uncovered_at atoms o
+
+  -- a walk is under way in a region, before what is to come
+  abbrev pub GoesOn : Constraints → List Met → Type 0
+  GoesOn region ms = IsUnderWay atoms test base Told region ms
+
+  pub begins : (t : Tree) (ms : List Met) → IsWalkable (length atoms) base.room (Some t)
+      → trees_met ms ≡ Some (t ∷ [])
+      → ((answer : Result (Unit {0}) WalkRefusal) → Answers test (leaves_met ms) (leaf_regions atoms base t) answer
+      → Told answer) → GoesOn base ms
+  begins t ms walkable makes told = record {
+    path = [];
+    trees = t ∷ [];
+    here = record { dims = refl; narrowings = refl; room = omega arith };
+    made = makes;
+    fit = (record { splits = walkable.0; low = let high = walkable.1 in omega (arith, high) }, tt);
+    rest = λ answer all. told answer (subst (λ (rs : List Constraints). Answers test (leaves_met ms) rs answer)
+        (append-nil (leaf_regions atoms base t)) all);
+  }
+
+  pub goes_past : (region : Constraints) (ms : List Met) → GoesOn region (met.Passed ∷ ms) → GoesOn region ms
+  goes_past region ms walk = record {
+    path = walk.path;
+    trees = walk.trees;
+    here = walk.here;
+    made = walk.made;
+    fit = walk.fit;
+    rest = walk.rest;
+  }
+
+  -- a split
+  module _ (region : Constraints) (a : ℕ) (ms : List Met) (walk : GoesOn region (met.Split a ∷ ms)) where
+    abbrev split : IsSplit a (trees_met ms) walk.trees
+    split = split_there a (trees_met ms) walk.trees walk.made
+
+    abbrev fits : AreFit (length atoms) base.room (walk.path ∷ turns walk.path)
+        (tree.Split a split.left split.right ∷ split.rest)
+    fits = subst (AreFit (length atoms) base.room (walk.path ∷ turns walk.path)) split.same walk.fit
+
+    parts : IsTrue (nat_lt a (length atoms)) × IsTrue (splits_below (length atoms) split.left)
+        × IsTrue (splits_below (length atoms) split.right)
+    parts =
+        let two = both_true (nat_lt a (length atoms) && splits_below (length atoms) split.left)
+        (splits_below (length atoms) split.right) fits.0.splits in
+        let first = both_true (nat_lt a (length atoms)) (splits_below (length atoms) split.left) two.0 in
+        (first.0, first.1, two.1)
+
+    pub split_atom : a < length atoms
+    split_atom = let below = parts.0 in grind (arith, nat_tests, below)
+
+    high : length walk.path + (1 + max (height split.left) (height split.right)) ≤ base.room
+    high = fits.0.low
+
+    pub split_room : 0 < region.room
+    split_room =
+        let left = walk.here.room in
+        let up = high in
+        omega (arith, left, up)
+
+    -- a side has room
+    side_room : (side : Tree) → height side ≤ max (height split.left) (height split.right)
+        → suc (length walk.path) + height side ≤ base.room
+    side_room side h =
+        let up = high in
+        omega (arith, h, up)
+
+    module _ (after : Constraints) (dims : after.dims ≡ region.dims)
+        (narrowings : after.narrowings ≡ (answering atoms region a true).narrowings)
+        (room : after.room + 1 ≡ region.room) where
+      abbrev atom : Atom
+      atom = (there atoms a split_atom).value
+
+      found : slice_get atoms a ≡ Some atom
+      found = (there atoms a split_atom).is
+
+      -- the narrowing of a side
+      abbrev side : Bool → Narrowing
+      side b = record { dim = atom.term; cut = atom.cut; yes = b }
+
+      answered : (r : Constraints) (b : Bool) → answering atoms r a b ≡ with_narrowing r (side b)
+      answered r b = ap (λ x. with_answer r x b) found
+
+      abbrev rest_regions : List Constraints
+      rest_regions = regions_along atoms base (turns walk.path) split.rest
+
+      same_regions : regions_along atoms base (walk.path ∷ turns walk.path) walk.trees
+          ≡ leaf_regions atoms (along base (side true ∷ walk.path)) split.left
+          ++ (leaf_regions atoms (along base (side false ∷ walk.path)) split.right ++ rest_regions)
+      same_regions =
+          ap (regions_along atoms base (walk.path ∷ turns walk.path)) split.same
+          ∙ ap (λ r. leaf_regions atoms r split.left
+          ++ leaf_regions atoms (answering atoms (along base walk.path) a false) split.right ++ rest_regions)
+          (answered (along base walk.path) true)
+          ∙ ap (λ r. leaf_regions atoms (along base (side true ∷ walk.path)) split.left
+          ++ leaf_regions atoms r split.right ++ rest_regions)
+          (answered (along base walk.path) false)
+          ∙ append_assoc (leaf_regions atoms (along base (side true ∷ walk.path)) split.left)
+          (leaf_regions atoms (along base (side false ∷ walk.path)) split.right) rest_regions
+
+      pub goes_down : GoesOn after ms
+      goes_down = record {
+        path = side true ∷ walk.path;
+        trees = split.left ∷ split.right ∷ split.rest;
+        here = record {
+          dims = dims ∙ walk.here.dims;
+          narrowings =
+              narrowings ∙ ap (λ r. r.narrowings) (answered region true)
+              ∙ ap (λ ns. ns ++ side true ∷ []) walk.here.narrowings;
+          room = let left = walk.here.room in omega (arith, left, room);
+        };
+        made = split.is;
+        fit = (
+          record {
+            splits = parts.1;
+            low = side_room split.left (le-max_left (height split.left) (height split.right));
+          },
+          (
+            record {
+              splits = parts.2;
+              low = side_room split.right (le-max_right (height split.left) (height split.right));
+            },
+            fits.1,
+          ),
+        );
+        rest = λ answer told. walk.rest answer
+            (subst (λ (rs : List Constraints). Answers test (leaves_met ms) rs answer)
+            (sym same_regions) told);
+      }
+
+  -- a leaf
+  module _ (region : Constraints) (place : NodePlace) (ms : List Met) (walk : GoesOn region (met.Leaf place ∷ ms)) where
+    abbrev leaf : IsLeaf (trees_met ms) walk.trees
+    leaf = leaf_there (trees_met ms) walk.trees walk.made
+
+    tested : test region ≡ test (along base walk.path)
+    tested =
+        uncovered_alike atoms o region (along base walk.path)
+        (walk.here.dims ∙ sym (along_dims base walk.path)) walk.here.narrowings
+
+    abbrev left_regions : List Constraints
+    left_regions = regions_along atoms base (turns walk.path) leaf.rest
+
+    -- whatever answers for this leaf and the others answers for all
+    all_told : (answer : Result (Unit {0}) WalkRefusal)
+        → Answers test (place ∷ leaves_met ms) (along base walk.path ∷ left_regions) answer → Told answer
+    all_told answer told =
+        walk.rest answer (subst (λ (rs : List Constraints). Answers test (place ∷ leaves_met ms) rs answer)
+        (sym (ap (regions_along atoms base (walk.path ∷ turns walk.path)) leaf.same)) told)
+
+    pub not_covered : test region ≡ true → Told (Err (why.NotCovered place))
+    not_covered is =
+        all_told (Err (why.NotCovered place))
+        (ap (λ b. if b then Some place else first_place test (leaves_met ms) left_regions) (sym tested ∙ is))
+
+    -- a leaf that is covered changes no answer
+    covered_told : test region ≡ false → (answer : Result (Unit {0}) WalkRefusal)
+        → Answers test (leaves_met ms) left_regions answer → Told answer
+    covered_told is answer told = all_told answer (by answer told)
+      where
+        by : (r : Result (Unit {0}) WalkRefusal) → Answers test (leaves_met ms) left_regions r
+            → Answers test (place ∷ leaves_met ms) (along base walk.path ∷ left_regions) r
+        by (Ok u) told = ap (λ b. b || list_any test left_regions) (sym tested ∙ is) ∙ told
+        by (Err (why.NotCovered p)) told =
+            ap (λ b. if b then Some place else first_place test (leaves_met ms) left_regions) (sym tested ∙ is) ∙ told
+        by (Err why.Memory) told = tt
+
+    pub all_covered : test region ≡ false → turns walk.path ≡ [] → Told (Ok tt)
+    all_covered is none =
+        covered_told is (Ok tt) (ap (λ ps. list_any test (regions_along atoms base ps leaf.rest)) none)
+
+    pub goes_over : test region ≡ false → (after : Constraints) → Turns base walk.path true after → GoesOn after ms
+    goes_over is after turned =
+        let fits : AreFit (length atoms) base.room (walk.path ∷ turns walk.path) (tree.Leaf ∷ leaf.rest) =
+        subst (AreFit (length atoms) base.room (walk.path ∷ turns walk.path)) leaf.same walk.fit in
+        record {
+          path = turned.0;
+          trees = leaf.rest;
+          here = turned.2;
+          made = leaf.is;
+          fit = subst (λ ps. AreFit (length atoms) base.room ps leaf.rest) turned.1 fits.1;
+          rest = λ answer told. covered_told is answer
+              (subst (λ (ps : List (List Narrowing)). Answers test (leaves_met ms)
+              (regions_along atoms base ps leaf.rest) answer) (sym turned.1) told);
+        }
+
+  -- nothing is to come where no walk is under way
+  pub ends : (region : Constraints) → GoesOn region [] → ⊥
+  ends region walk = by walk.trees walk.made walk.fit
+    where
+      by : (ts : List Tree) → Some [] ≡ Some ts → AreFit (length atoms) base.room (walk.path ∷ turns walk.path) ts → ⊥
+      by [] is fit = fit
+      by (t ∷ ts) is fit = absurd (cc)
+
+-- ---- a walk through a tree with citations
+
+-- what a walk through a tree is to tell of a target, where there is one
+abbrev pub ToldOf : List Atom → Option TableTarget → Constraints → CitedTree → Result (Unit {0}) WalkRefusal → Type 0
+ToldOf atoms o base c answer = AnswersOf (uncovered_at atoms o) atoms base (leaf_places c) (expanded c) answer
+
+module _ (c : CitedTree) (count room : ℕ) where
+  pub walkable_earlier : IsWalkable count room (expanded c) → are_earlier 0 (lists_of c) ≡ true
+  walkable_earlier walkable = by (expanded c) refl walkable
+    where
+      by : (o : Option Tree) → expanded c ≡ o → IsWalkable count room o → are_earlier 0 (lists_of c) ≡ true
+      by None at walkable = absurd (walkable)
+      by (Some t) at walkable = (stands c t at).earlier
+
+pub tree_begins : (atoms : List Atom) (o : Option TableTarget) (base : Constraints) (c : CitedTree)
+    → IsWalkable (length atoms) base.room (expanded c)
+    → GoesOn atoms o base (ToldOf atoms o base c) base (to_come (lists_of c) (start_of c ∷ []))
+tree_begins atoms o base c walkable = by (expanded c) refl walkable
+  where
+    by : (e : Option Tree) → expanded c ≡ e → IsWalkable (length atoms) base.room e
+        → GoesOn atoms o base (ToldOf atoms o base c) base (to_come (lists_of c) (start_of c ∷ []))
+    by None at walkable = absurd (walkable)
+    by (Some t) at walkable =
+        let all = stands c t at in
+        begins atoms o base (ToldOf atoms o base c) t (to_come (lists_of c) (start_of c ∷ [])) walkable all.makes
+        (λ answer told. subst (λ e. AnswersOf (uncovered_at atoms o) atoms base (leaf_places c) e answer) (sym at)
+        (subst (λ ps. Answers (uncovered_at atoms o) ps (leaf_regions atoms base t) answer) all.leaves told))
+
+-- a flag that tells of the target of that number whether it is uncovered
+pub flag_is : (atoms : List Atom) (targets : List TableTarget) (target : ℕ) → target < length targets
+    → (region : Constraints) (flag : Bool)
+    → IfSome (slice_get targets target) (λ t. flag ≡ is_uncovered atoms t region)
+    → flag ≡ uncovered_at atoms (slice_get targets target) region
+flag_is atoms targets target within region flag is =
+    let at = there targets target within in
+    subst (λ o. flag ≡ uncovered_at atoms o region) (sym at.is)
+    (subst (λ o. IfSome o (λ t. flag ≡ is_uncovered atoms t region)) at.is is)

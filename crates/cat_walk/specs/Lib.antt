@@ -1,0 +1,6 @@
+pub mod LeafPlaces
+pub mod Coverage
+pub mod Walkable
+pub mod Sizes
+-- what the code keeps on its way: no public clause cites it
+pub mod inside

@@ -1,0 +1,5 @@
+pub mod Meetings
+pub mod Sides
+pub mod Walking
+pub mod Sizing
+pub mod Nodes

@@ -1,0 +1,30 @@
+// What a walk says of a tree: each law is the contract of a function.
+ghost use Rattle.std.specs.Prelude.{◌≡◌, ℕ, Some, false, IsTrue};
+ghost use Rattle.std.specs.List.{list_any};
+ghost use Rattle.cat_region.specs.Regions.{Constraints, IsRegion};
+ghost use Rattle.cat_scope.specs.Names.{AllHave};
+ghost use Rattle.cat_guard.specs.declared.tree.CitedTree.{CitedTree as CitedSeen};
+ghost use Rattle.cat_guard.specs.Trees.{Tree, Closed, expanded, is_whole};
+ghost use Rattle.cat_guard.specs.Valuations.{dims_of};
+ghost use Rattle.cat_walk.specs.Coverage.{is_uncovered, leaf_regions};
+ghost use Rattle.cat_walk.specs.Walkable.{splits_below, written_below};
+
+use cat_guard::Table;
+use cat_judge::covered_leaves_are_closed;
+
+/// A whole tree is closed in a region where none of its leaves is uncovered.
+pub fn covered_trees_are_closed(table: &Table)
+    ensures { AllHave (λ t. (region : Constraints) (tree : Tree) → IsRegion region
+        → region.dims ≡ dims_of table.now.terms → IsTrue (is_whole tree)
+        → list_any (is_uncovered table.now.atoms t) (leaf_regions table.now.atoms region tree) ≡ false
+        → Closed table.now.atoms t region tree) table.now.targets }
+{
+    covered_leaves_are_closed(table);
+}
+
+/// The tree that a tree with citations stands for splits on the atoms alone that are written.
+#[tactic(auto, using(crate::proofs::WholeLemmas::splits_as_written))]
+pub fn trees_split_as_they_are_written()
+    ensures { (atoms : ℕ) (c : CitedSeen) (t : Tree) → expanded c ≡ Some t → IsTrue (written_below atoms c)
+        → IsTrue (splits_below atoms t) }
+{}
