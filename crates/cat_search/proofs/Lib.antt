@@ -1,0 +1,11 @@
+mod AskedLemmas
+mod CellLemmas
+mod Examples
+mod LawLemmas
+mod SampleLemmas
+mod SideLemmas
+mod WayLemmas
+mod TargetLemmas
+mod TreeLemmas
+mod UnderwayLemmas
+mod ValueLemmas

@@ -1,0 +1,147 @@
+use Rattle.std.proofs.Common.{◌∙◌, ◌++◌, ◌∷◌, [], slice_get, subst, sym, ap, arith, rules}
+use Rattle.std.specs.Prelude.{ℕ, List, All, IfSome, false}
+use Rattle.cat_scope.specs.Names.{IsOneOf}
+use Rattle.cat_judge.specs.Judgements.{atoms_in}
+use Rattle.cat_guard.specs.declared.table.TableTarget.{TableTarget}
+use Rattle.cat_guard.specs.declared.tree.TreeNode.TheVariants as node
+use Rattle.cat_guard.specs.Trees as tree
+use Rattle.cat_guard.specs.Trees.{tree_of}
+use Rattle.cat_search.specs.Searched.{everything}
+use Rattle.cat_search.proofs.LawLemmas.{closed_found}
+use Rattle.cat_search.specs.inside.Underway.{IsUnderway, IsTurned, IsComplete}
+use Rattle.cat_search.specs.inside.ToCome.{in_front, leaf_nodes, rest_nodes}
+use Rattle.cat_search.proofs.TreeLemmas.{is_tree_of, leaves_made, rests_made, whole_of, part_of}
+use Rattle.cat_search.proofs.TargetLemmas.{if_some, target_at}
+use Rattle.cat_search.proofs.UnderwayLemmas.{begins, complete_is_tree, complete_found}
+use Rattle.cat_search.proofs.TargetLemmas.{all_at, some_target}
+use Rattle.cat_search.proofs.UnderwayLemmas.{nothing_begins}
+use Rattle.cat_search.proofs.CellLemmas.{StaysWithin}
+use Rattle.cat_search.proofs.searched.search.Goals as goal
+
+-- a tree of one leaf
+pub into_parts-tree-requires : goal.into_parts-tree-requires
+into_parts-tree-requires c =
+    let begun = c.in_ok-searching.ensures in
+    let nodes = c.in_ok-push.ensures.ok ∙ ap (λ s. s.nodes ++ node.Leaf ∷ []) begun in
+    is_tree_of c.push.new.self c.in_ok-searching.searching.depth tree.Leaf (ap (λ ns. in_front ns []) nodes)
+    (sym (ap (λ s. s.depth) begun))
+
+pub loop-init : goal.loop-init
+loop-init c =
+    let table = c.args.table.now in
+    let begun = c.in_ok-searching.ensures in
+    record {
+      underway = some_target (slice_get table.targets c.args.target) (λ t. begins table.terms table.atoms t
+          c.in_ok-searching.searching begun (c.is_empty.ensures.inhabited c.if-is_empty.false));
+      leaves = ap (λ s. leaf_nodes s.nodes) begun;
+      rests = ap (λ s. rest_nodes s.nodes) begun;
+    }
+
+pub into_parts-tree-requires-then-not-turn : goal.into_parts-tree-requires-then-not-turn
+into_parts-tree-requires-then-not-turn c =
+    let table = c.args.table.now in
+    let one = target_at (λ t. IsUnderway table.terms table.atoms t false c.to_leaf.new.self) table.targets c.args.target
+    c.requires.target c.in_ok-to_leaf.ensures.underway in
+    complete_is_tree table.terms table.atoms one.0 c.turn.new.self
+    (subst (λ b. IsTurned table.terms table.atoms one.0 b c.turn.new.self) c.if-not-turn.true
+    (c.turn.ensures.turned table.terms table.atoms one.0 one.2))
+
+pub returns-then-not-turn-clause-found : goal.returns-then-not-turn-clause-found
+returns-then-not-turn-clause-found c some =
+    let table = c.args.table.now in
+    let s = c.turn.new.self in
+    let parts = c.into_parts-tree-then-not-turn in
+    let within = c.loop-test.true in
+    let leaves = ap leaf_nodes c.turn.ensures.nodes ∙ c.in_ok-to_leaf.ensures.leaves in
+    let before = c.loop.invariant.leaves in
+    let rests = ap rest_nodes c.turn.ensures.nodes ∙ c.in_ok-to_leaf.ensures.rests ∙ c.loop.invariant.rests in
+    if_some (slice_get table.targets c.args.target) c.in_ok-to_leaf.ensures.underway (λ t is u.
+    let complete : IsComplete table.terms table.atoms t s =
+    subst (λ b. IsTurned table.terms table.atoms t b s) c.if-not-turn.true
+    (c.turn.ensures.turned table.terms table.atoms t u) in
+    let made = leaves_made s.nodes complete.tree complete.tree_is in (
+      complete.tree,
+      complete_found table.terms table.atoms t s complete parts.result.0.nodes parts.result.1 parts.ensures.tree
+          parts.ensures.bad,
+      whole_of complete.tree (rests_made s.nodes complete.tree complete.tree_is ∙ rests),
+      omega (arith, made, leaves, before, within),
+    ))
+
+pub into_parts-tree-requires-2 : goal.into_parts-tree-requires-2
+into_parts-tree-requires-2 c =
+    let table = c.args.table.now in
+    let one = target_at (λ t. IsComplete table.terms table.atoms t c.rests.new.self) table.targets c.args.target
+    c.requires.target c.in_ok-rests.ensures.complete in
+    complete_is_tree table.terms table.atoms one.0 c.rests.new.self one.2
+
+pub returns-clause-found : goal.returns-clause-found
+returns-clause-found c some =
+    let table = c.args.table.now in
+    let s = c.rests.new.self in
+    let parts = c.into_parts-tree-2 in
+    let past = c.loop-test.false in
+    let within = c.loop.auto.counter-end in
+    let leaves = c.in_ok-rests.ensures.leaves in
+    let before = c.loop.invariant.leaves in
+    let rests = c.in_ok-rests.ensures.rests in
+    if_some (slice_get table.targets c.args.target) c.in_ok-rests.ensures.complete (λ t is complete.
+    let made = leaves_made s.nodes complete.tree complete.tree_is in
+    let left = rests_made s.nodes complete.tree complete.tree_is in (
+      complete.tree,
+      complete_found table.terms table.atoms t s complete parts.result.0.nodes parts.result.1 parts.ensures.tree
+          parts.ensures.bad,
+      part_of complete.tree (omega (arith, left, rests)),
+      omega (arith, made, leaves, before, within, past),
+    ))
+
+pub to_leaf-requires-clause-order : goal.to_leaf-requires-clause-order
+to_leaf-requires-clause-order c =
+    let table = c.args.table.now in
+    subst (λ (xs : List ℕ). IfSome (slice_get table.targets c.args.target)
+    (λ t. All (λ (a : ℕ). IsOneOf a (atoms_in t)) xs)) (sym c.as_slice.ensures) c.in_ok-order.ensures
+
+pub returns-then-not-turn-clause-closed : goal.returns-then-not-turn-clause-closed
+returns-then-not-turn-clause-closed c =
+    let table = c.args.table.now in
+    let s = c.turn.new.self in
+    let parts = c.into_parts-tree-then-not-turn in
+    let rests = ap rest_nodes c.turn.ensures.nodes ∙ c.in_ok-to_leaf.ensures.rests ∙ c.loop.invariant.rests in
+    if_some (slice_get table.targets c.args.target) c.in_ok-to_leaf.ensures.underway (λ t is u.
+    let complete : IsComplete table.terms table.atoms t s =
+    subst (λ b. IsTurned table.terms table.atoms t b s) c.if-not-turn.true
+    (c.turn.ensures.turned table.terms table.atoms t u) in
+    let found = complete_found table.terms table.atoms t s complete parts.result.0.nodes parts.result.1
+    parts.ensures.tree parts.ensures.bad in
+    closed_found table.terms table.atoms table.targets (search rules) c.trees_without_bad_leaves_are_closed.ensures
+    c.args.target t is parts.result.0.nodes parts.result.1 complete.tree found
+    (whole_of complete.tree (rests_made s.nodes complete.tree complete.tree_is ∙ rests)))
+
+pub returns-then-is_empty-clause-closed : goal.returns-then-is_empty-clause-closed
+returns-then-is_empty-clause-closed c =
+    let table = c.args.table.now in
+    let begun = c.in_ok-searching.ensures in
+    let parts = c.into_parts-tree in
+    let nodes = parts.ensures.tree ∙ c.in_ok-push.ensures.ok ∙ ap (λ s. s.nodes ++ node.Leaf ∷ []) begun in
+    some_target (slice_get table.targets c.args.target) (λ (t : TableTarget). λ none. (
+      tree.Leaf,
+      ap tree_of nodes,
+      c.empty_regions_close_each_tree.ensures table.atoms t (everything table.terms) tree.Leaf
+          (nothing_begins table.terms table.atoms t c.in_ok-searching.searching begun
+          (c.is_empty.ensures.empty c.if-is_empty.true)),
+    ))
+
+pub returns-clause-spent : goal.returns-clause-spent
+returns-clause-spent c =
+    let table = c.args.table.now in
+    let s = c.rests.new.self in
+    let past = c.loop-test.false in
+    let within = c.loop.auto.counter-end in
+    let leaves = c.in_ok-rests.ensures.leaves in
+    let before = c.loop.invariant.leaves in
+    let rests = c.in_ok-rests.ensures.rests in
+    if_some (slice_get table.targets c.args.target) c.in_ok-rests.ensures.complete (λ t is complete.
+    let made = leaves_made s.nodes complete.tree complete.tree_is in
+    let left = rests_made s.nodes complete.tree complete.tree_is in
+    let most = all_at (StaysWithin table.terms table.atoms) table.targets c.args.target t
+    c.searched_trees_stay_within_the_cells.ensures is complete.tree complete.searched in
+    omega (arith, made, left, most, leaves, before, within, past, rests))

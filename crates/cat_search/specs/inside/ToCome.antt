@@ -1,0 +1,62 @@
+-- Trees that are still to come behind some nodes, one behind the other, each in the region at the end of its path.
+use Rattle.std.specs.Prelude.{◌≡◌, ℕ, ◌+◌, ◌-◌, max, Bool, true, false, IsTrue, if◌then◌else◌, List, [], ◌∷◌, ◌++◌, length}
+use Rattle.std.specs.Prelude.{Option, Some, None, slice_get}
+use Rattle.cat_region.specs.declared.dim.Dim.{Dim}
+use Rattle.cat_region.specs.declared.narrowing.Narrowing.{Narrowing}
+use Rattle.cat_region.specs.Regions.{Constraints, IsInhabited}
+use Rattle.cat_region.specs.Decided.{decided_at}
+use Rattle.cat_guard.specs.declared.table.Term.{Term}
+use Rattle.cat_guard.specs.declared.table.Atom.{Atom}
+use Rattle.cat_guard.specs.declared.table.TableTarget.{TableTarget}
+use Rattle.cat_guard.specs.declared.tree.TreeNode.{TreeNode}
+use Rattle.cat_guard.specs.declared.tree.TreeNode.TheVariants as node
+use Rattle.cat_guard.specs.Judged.{judged_in, covers}
+use Rattle.cat_guard.specs.Trees.{Tree, node_before, height}
+use Rattle.cat_guard.specs.Valuations.{dims_of}
+use Rattle.cat_guard.specs.Verdicts.{Verdict}
+use Rattle.cat_search.specs.declared.bad.BadLeaf.{BadLeaf}
+use Rattle.cat_search.specs.declared.bad.Flaw.{Flaw}
+use Rattle.cat_search.specs.declared.node.NextNode.{NextNode}
+use Rattle.cat_search.specs.declared.node.NextNode.TheVariants as next
+use Rattle.cat_search.specs.declared.searching.Searching.{Searching}
+use Rattle.cat_search.specs.Searched.{everything, IsSplit, IsSearched, is_known, flaw_of, Reached, leaves_from, bad_among, size}
+use Rattle.cat_search.specs.inside.Sides.{along, IsAt, turns}
+
+-- nodes in front of trees
+abbrev pub in_front : List TreeNode → List Tree → Option (List Tree)
+in_front [] trees = Some trees
+in_front (n ∷ ns) trees = node_before n (in_front ns trees)
+
+-- each path has a tree that is searched in its region
+abbrev pub AreSearched : List Atom → TableTarget → List Dim → List (List Narrowing) → List Tree → Type 0
+AreSearched atoms t dims [] [] = Unit {0}
+AreSearched atoms t dims [] (tree ∷ trees) = ⊥
+AreSearched atoms t dims (path ∷ paths) [] = ⊥
+AreSearched atoms t dims (path ∷ paths) (tree ∷ trees) =
+    IsSearched atoms t (along dims path) tree × AreSearched atoms t dims paths trees
+
+-- the greatest number of splits above a node: of one that is written, or of one in these trees
+abbrev pub highest : ℕ → List (List Narrowing) → List Tree → ℕ
+highest depth [] trees = depth
+highest depth (path ∷ paths) [] = depth
+highest depth (path ∷ paths) (tree ∷ trees) = highest (max depth (length path + height tree)) paths trees
+
+-- the leaves of these trees, of which the first node has that place
+abbrev pub leaves_along : List Atom → List Dim → ℕ → List (List Narrowing) → List Tree → List Reached
+leaves_along atoms dims place [] trees = []
+leaves_along atoms dims place (path ∷ paths) [] = []
+leaves_along atoms dims place (path ∷ paths) (tree ∷ trees) =
+    leaves_from atoms place (along dims path) tree ++ leaves_along atoms dims (place + size tree) paths trees
+
+-- ---- counts
+
+-- the leaves among some nodes, and the rests
+abbrev pub leaf_nodes : List TreeNode → ℕ
+leaf_nodes [] = 0
+leaf_nodes (node.Leaf ∷ ns) = 1 + leaf_nodes ns
+leaf_nodes (n ∷ ns) = leaf_nodes ns
+
+abbrev pub rest_nodes : List TreeNode → ℕ
+rest_nodes [] = 0
+rest_nodes (node.Rest ∷ ns) = 1 + rest_nodes ns
+rest_nodes (n ∷ ns) = rest_nodes ns

@@ -1,0 +1,109 @@
+// The atoms that a target asks, in an order in which those that a region leaves open stand together.
+ghost use Rattle.std.specs.Prelude.{◌≡◌, ◌≤◌, ◌<◌, ◌^◌, ◌++◌, All, IfOk, OnOk, IfSome, length, slice_get, unsigned_abs};
+ghost use Rattle.cat_num.specs.Whole.{Fits};
+ghost use Rattle.cat_scope.specs.Names.{IsOneOf};
+ghost use Rattle.cat_guard.specs.Formulas.{asked};
+ghost use Rattle.cat_guard.specs.GuardFormulas.{formula_of};
+ghost use Rattle.cat_judge.specs.Judgements.{asked_in, atoms_in};
+
+use cat_date::number;
+use cat_guard::{Atom, Guard, GuardDef, Table};
+use cat_pos::List;
+use cat_region::{Cut, Scalar};
+use std::alloc::{AllocError, Global};
+
+/// Adds the atoms that a guard asks.
+fn add_asked(guard: &Guard, atoms: &mut List<usize>) -> Result<(), AllocError>
+    ensures { OnOk result (atoms.new ≡ atoms.old ++ asked (formula_of guard.now)) }
+{
+    match guard {
+        Guard::Constant(_) => Ok(()),
+        Guard::Atom(number) => atoms.push(*number),
+        Guard::Not(of) => add_asked(of.get(), atoms),
+        Guard::Both(left, right) => {
+            add_asked(left.get(), atoms)?;
+            add_asked(right.get(), atoms)
+        }
+        Guard::Either(left, right) => {
+            add_asked(left.get(), atoms)?;
+            add_asked(right.get(), atoms)
+        }
+        Guard::Differ(left, right) => {
+            add_asked(left.get(), atoms)?;
+            add_asked(right.get(), atoms)
+        }
+        Guard::Choice(test, first, second) => {
+            add_asked(test.get(), atoms)?;
+            add_asked(first.get(), atoms)?;
+            add_asked(second.get(), atoms)
+        }
+    }
+}
+
+/// The atoms that definitions ask.
+fn asked_atoms(alloc: Global, defs: &[GuardDef]) -> Result<List<usize>, AllocError>
+    ensures { IfOk result (λ atoms. atoms ≡ asked_in defs.now) }
+{
+    let mut atoms = List::new(alloc);
+    for def in defs {
+        add_asked(&def.guard, &mut atoms)?;
+    }
+    Ok(atoms)
+}
+
+/// The number times a factor.
+fn scaled(n: i64, factor: u64) -> i128
+    requires n { Fits n }
+    requires factor { factor ≤ 2_000_000_000 }
+    ensures { unsigned_abs result < 2 ^ 126 }
+{
+    n as i128 * factor as i128
+}
+
+/// Where a scalar stands among those of its kind.
+fn scalar_place(scalar: &Scalar) -> i128 {
+    match *scalar {
+        Scalar::Whole(whole) => whole.get() as i128,
+        Scalar::Money(money) => money.get() as i128,
+        Scalar::Day(day) => number(day) as i128,
+        Scalar::Decimal(frac) => scaled(frac.num(), 2_000_000_000 / frac.den() as u64),
+    }
+}
+
+/// Where a cut stands among those of its kind, which part the values of a term in this order.
+fn cut_place(cut: &Cut) -> (i128, bool) {
+    match cut {
+        Cut::Below(scalar) => (scalar_place(scalar), false),
+        Cut::AtMost(scalar) => (scalar_place(scalar), true),
+        Cut::IsTrue => (0, false),
+        Cut::IsCase(case) => (*case as i128, false),
+    }
+}
+
+/// Where an atom stands: by its term, and then by its cut.
+fn atom_place(atoms: &[Atom], number: usize) -> (usize, i128, bool) {
+    match atoms.get(number) {
+        None => (0, 0, false),
+        Some(atom) => {
+            let (place, at_most) = cut_place(&atom.cut);
+            (atom.term, place, at_most)
+        }
+    }
+}
+
+/// The atoms that a target asks, by their terms, and those of one term from its least values to its greatest.
+pub(crate) fn atoms_in_order(
+    alloc: Global,
+    table: &Table,
+    target: u32,
+) -> Result<List<usize>, AllocError>
+    requires { target < length table.now.targets }
+    ensures { IfOk result (λ order. IfSome (slice_get table.now.targets target)
+        (λ t. All (λ a. IsOneOf a (atoms_in t)) order)) }
+{
+    let target = table.targets.at(target as usize);
+    let mut order = asked_atoms(alloc, target.defs.as_slice())?.into_vec();
+    let atoms = table.atoms.as_slice();
+    order.sort_by_key(|&number| atom_place(atoms, number))?;
+    Ok(List::from_vec(order))
+}
