@@ -1,37 +1,21 @@
 -- Targets of a table and their atoms.
-use Rattle.std.proofs.Common.{◌≡◌, ℕ, zero, suc, ◌+◌, ◌-◌, ◌<◌, ◌≤◌, Bool, true, false, IsTrue, if◌then◌else◌, List, []}
-use Rattle.std.proofs.Common.{◌∷◌, ◌++◌, length, Option, Some, None, slice_get, refl, sym, ap, ◌∙◌, subst, arith}
-use Rattle.std.proofs.Common.{◌⊎◌, inl, inr, append_assoc, nat_lt, Result, Ok, Err}
-use Rattle.std.proofs.lemmas.List.{append-nil}
-use Rattle.std.proofs.Math.Logic.{∥∥₁_elim}
-use Rattle.std.proofs.Props.{props}
-use Rattle.std.specs.Prelude.{max, IfSome, OnOk}
+use Rattle.std.proofs.Common.{◌≡◌, ℕ, zero, suc, ◌<◌, IsTrue, List, []}
+use Rattle.std.proofs.Common.{◌∷◌, ◌++◌, length, Option, Some, None, slice_get, refl, sym, subst, arith}
+use Rattle.std.proofs.Common.{◌⊎◌, inl, inr, nat_lt, Result, Ok, Err}
+use Rattle.std.specs.Prelude.{IfSome, OnOk}
 use Rattle.std.specs.List.{list_all}
 use Rattle.std.proofs.lemmas.Bool.Decides.{nat_tests}
 use Rattle.cat_value.proofs.Exported.{found}
 use Rattle.cat_scope.specs.Names.{IsOneOf, AllHave}
-use mathlib.Core.Path.{fun_ext}
-use Rattle.cat_region.specs.declared.dim.Dim.{Dim}
-use Rattle.cat_region.specs.declared.cut.Cut.{Cut}
-use Rattle.cat_region.specs.declared.narrowing.Narrowing.{Narrowing}
-use Rattle.cat_region.specs.Regions.{Constraints, IsInhabited, IsEmpty}
-use Rattle.cat_region.specs.Decided.{admits_none, decided_at}
 use Rattle.cat_guard.specs.declared.table.Term.{Term}
 use Rattle.cat_guard.specs.declared.table.Atom.{Atom}
 use Rattle.cat_guard.specs.declared.table.TableTarget.{TableTarget}
-use Rattle.cat_guard.specs.declared.tree.TreeNode.{TreeNode}
-use Rattle.cat_guard.specs.declared.tree.TreeNode.TheVariants as node
-use Rattle.cat_guard.specs.Judged.{atom_decided, answers_in, judged_in}
 use Rattle.cat_guard.specs.declared.guard.GuardDef.{GuardDef}
 use Rattle.cat_guard.specs.Formulas.{asked}
 use Rattle.cat_guard.specs.GuardFormulas.{formula_of}
 use Rattle.cat_guard.specs.Soundness.{are_below, def_is_sound, target_is_sound, is_sound}
 use Rattle.cat_guard.proofs.Exported.{both_true, targets_sound, sound_parts}
 use Rattle.cat_judge.specs.Judgements.{asked_in, atoms_in}
-use Rattle.cat_guard.specs.Trees.{Tree, with_answer, answering, height, tree_of, is_tree}
-use Rattle.cat_guard.specs.Trees as tree
-use Rattle.cat_guard.specs.Valuations.{dims_of}
-use Rattle.cat_guard.specs.Verdicts.{verdict_of}
 
 pub on_ok : {A E : Type 0} {P Q : Type 0} (r : Result A E) → OnOk r P → (P → Q) → OnOk r Q
 on_ok (Ok a) p go = go p

@@ -1,6 +1,6 @@
 -- Something is admitted where each term has a value.
-use Rattle.std.proofs.Common.{◌≡◌, ℕ, ◌<◌, Bool, true, false, IsTrue, List, [], length, Option, Some, None, slice_get}
-use Rattle.std.proofs.Common.{refl, sym, ap, subst}
+use Rattle.std.proofs.Common.{false, IsTrue, List, Option, Some, None, slice_get}
+use Rattle.std.proofs.Common.{refl, sym, subst}
 use Rattle.std.specs.List.{list_all}
 use Rattle.cat_value.proofs.Exported.{found, list_all_at}
 use Rattle.cat_num.specs.Frac.{gcd}
@@ -9,7 +9,7 @@ use Rattle.cat_region.specs.declared.dim.Dim.TheVariants as dim
 use Rattle.cat_region.specs.declared.point.Point.{Point}
 use Rattle.cat_region.specs.declared.point.Point.TheVariants as point
 use Rattle.cat_region.specs.Points.{is_point, default_point}
-use Rattle.cat_region.specs.Regions.{Valuation, IsInhabited, IsValuation, is_point_of}
+use Rattle.cat_region.specs.Regions.{IsInhabited, IsValuation, is_point_of}
 use Rattle.cat_guard.specs.declared.table.Term.{Term}
 use Rattle.cat_guard.specs.Valuations.{dims_of}
 use Rattle.cat_search.specs.Searched.{everything, has_value}

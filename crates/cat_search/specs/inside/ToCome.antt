@@ -1,26 +1,15 @@
 -- Trees that are still to come behind some nodes, one behind the other, each in the region at the end of its path.
-use Rattle.std.specs.Prelude.{◌≡◌, ℕ, ◌+◌, ◌-◌, max, Bool, true, false, IsTrue, if◌then◌else◌, List, [], ◌∷◌, ◌++◌, length}
-use Rattle.std.specs.Prelude.{Option, Some, None, slice_get}
+use Rattle.std.specs.Prelude.{ℕ, ◌+◌, max, List, [], ◌∷◌, ◌++◌, length}
+use Rattle.std.specs.Prelude.{Option, Some}
 use Rattle.cat_region.specs.declared.dim.Dim.{Dim}
 use Rattle.cat_region.specs.declared.narrowing.Narrowing.{Narrowing}
-use Rattle.cat_region.specs.Regions.{Constraints, IsInhabited}
-use Rattle.cat_region.specs.Decided.{decided_at}
-use Rattle.cat_guard.specs.declared.table.Term.{Term}
 use Rattle.cat_guard.specs.declared.table.Atom.{Atom}
 use Rattle.cat_guard.specs.declared.table.TableTarget.{TableTarget}
 use Rattle.cat_guard.specs.declared.tree.TreeNode.{TreeNode}
 use Rattle.cat_guard.specs.declared.tree.TreeNode.TheVariants as node
-use Rattle.cat_guard.specs.Judged.{judged_in, covers}
 use Rattle.cat_guard.specs.Trees.{Tree, node_before, height}
-use Rattle.cat_guard.specs.Valuations.{dims_of}
-use Rattle.cat_guard.specs.Verdicts.{Verdict}
-use Rattle.cat_search.specs.declared.bad.BadLeaf.{BadLeaf}
-use Rattle.cat_search.specs.declared.bad.Flaw.{Flaw}
-use Rattle.cat_search.specs.declared.node.NextNode.{NextNode}
-use Rattle.cat_search.specs.declared.node.NextNode.TheVariants as next
-use Rattle.cat_search.specs.declared.searching.Searching.{Searching}
-use Rattle.cat_search.specs.Searched.{everything, IsSplit, IsSearched, is_known, flaw_of, Reached, leaves_from, bad_among, size}
-use Rattle.cat_search.specs.inside.Sides.{along, IsAt, turns}
+use Rattle.cat_search.specs.Searched.{IsSearched, Reached, leaves_from, size}
+use Rattle.cat_search.specs.inside.Sides.{along}
 
 -- nodes in front of trees
 abbrev pub in_front : List TreeNode → List Tree → Option (List Tree)

@@ -1,5 +1,5 @@
 -- A search on its way: the nodes written so far, and the regions for which nodes are still to come.
-use Rattle.std.specs.Prelude.{◌≡◌, ℕ, ◌+◌, ◌-◌, max, Bool, true, false, IsTrue, if◌then◌else◌, List, [], ◌∷◌, ◌++◌, length}
+use Rattle.std.specs.Prelude.{◌≡◌, ℕ, ◌-◌, max, Bool, true, false, IsTrue, if◌then◌else◌, List, [], ◌∷◌, ◌++◌, length}
 use Rattle.std.specs.Prelude.{Option, Some, None, slice_get}
 use Rattle.cat_region.specs.declared.dim.Dim.{Dim}
 use Rattle.cat_region.specs.declared.narrowing.Narrowing.{Narrowing}
@@ -9,9 +9,8 @@ use Rattle.cat_guard.specs.declared.table.Term.{Term}
 use Rattle.cat_guard.specs.declared.table.Atom.{Atom}
 use Rattle.cat_guard.specs.declared.table.TableTarget.{TableTarget}
 use Rattle.cat_guard.specs.declared.tree.TreeNode.{TreeNode}
-use Rattle.cat_guard.specs.declared.tree.TreeNode.TheVariants as node
 use Rattle.cat_guard.specs.Judged.{judged_in, covers}
-use Rattle.cat_guard.specs.Trees.{Tree, node_before, height}
+use Rattle.cat_guard.specs.Trees.{Tree, height}
 use Rattle.cat_guard.specs.Valuations.{dims_of}
 use Rattle.cat_guard.specs.Verdicts.{Verdict}
 use Rattle.cat_search.specs.declared.bad.BadLeaf.{BadLeaf}
@@ -19,7 +18,7 @@ use Rattle.cat_search.specs.declared.bad.Flaw.{Flaw}
 use Rattle.cat_search.specs.declared.node.NextNode.{NextNode}
 use Rattle.cat_search.specs.declared.node.NextNode.TheVariants as next
 use Rattle.cat_search.specs.declared.searching.Searching.{Searching}
-use Rattle.cat_search.specs.Searched.{everything, IsSplit, IsSearched, is_known, flaw_of, Reached, leaves_from, bad_among, size}
+use Rattle.cat_search.specs.Searched.{everything, IsSplit, IsSearched, is_known, flaw_of, leaves_from, bad_among}
 use Rattle.cat_search.specs.inside.ToCome.{in_front, AreSearched, highest, leaves_along}
 use Rattle.cat_search.specs.inside.Sides.{along, IsAt, turns}
 
