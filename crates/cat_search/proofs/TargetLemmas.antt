@@ -76,7 +76,8 @@ pub asked_below : (terms : List Term) (atoms : List Atom) (targets : List TableT
     → IsTrue (is_sound terms atoms targets) → (n : ℕ) (t : TableTarget) → slice_get targets n ≡ Some t → (a : ℕ)
     → IsOneOf a (atoms_in t) → a < length atoms
 asked_below terms atoms targets sound n t is a among =
-    let of = all_at (λ t. IsTrue (target_is_sound (length atoms) t)) targets n t (targets_sound terms atoms targets sound) is in
+    let of = all_at (λ t. IsTrue (target_is_sound (length atoms) t)) targets n t
+    (targets_sound terms atoms targets sound) is in
     def_below (length atoms) a t.defs (sound_parts (length atoms) t of).0 among
 
 pub some_target : {P : TableTarget → Type 0} (o : Option TableTarget) → ((t : TableTarget) → P t) → IfSome o P

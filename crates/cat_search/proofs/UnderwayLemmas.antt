@@ -131,7 +131,8 @@ module _ (terms : List Term) (atoms : List Atom) (t : TableTarget) where
             omega (arith, depth) in
             c.height_is ∙ ap (λ d. highest d ps more) same;
         bad_are =
-            let place : length s.nodes + 1 ≡ length s'.nodes = sym (ap length nodes ∙ one_more s.nodes (node.Split a)) in
+            let place : length s.nodes + 1 ≡ length s'.nodes =
+            sym (ap length nodes ∙ one_more s.nodes (node.Split a)) in
             c.bad_are
             ∙ ap (λ ls. s.bad ++ bad_among atoms t ls) (split_leaves (length s.nodes) ps l r more)
             ∙ ap (λ k. s.bad ++ bad_among atoms t (leaves_along atoms Dims k (Side true ∷ Side false ∷ ps)

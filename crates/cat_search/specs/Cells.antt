@@ -1,6 +1,6 @@
 -- Into how many cells the cuts of a target part the values of its terms.
-use Rattle.std.specs.Prelude.{ℕ, zero, suc, ◌+◌, ◌*◌, ◌<◌, nat_eq, if◌then◌else◌, List, [], ◌∷◌, length, Option, Some, None}
-use Rattle.std.specs.Prelude.{slice_get}
+use Rattle.std.specs.Prelude.{ℕ, zero, suc, ◌+◌, ◌*◌, ◌<◌, nat_eq, if◌then◌else◌, List, [], ◌∷◌, length}
+use Rattle.std.specs.Prelude.{Option, Some, None, slice_get}
 use Rattle.cat_region.specs.declared.dim.Dim.{Dim}
 use Rattle.cat_region.specs.declared.dim.Dim.TheVariants as dim
 use Rattle.cat_region.specs.declared.cut.Cut.{Cut}
@@ -28,8 +28,8 @@ cuts_of atoms i (a ∷ numbers) = cut_before i (slice_get atoms a) (cuts_of atom
 abbrev pub distinct_cuts : List Atom → List ℕ → ℕ → List Cut
 distinct_cuts atoms numbers i = firsts same_cut [] (cuts_of atoms i numbers)
 
--- into how many cells so many distinct cuts part a dimension: one for each case, two for a truth value, and else one more
--- than the cuts
+-- into how many cells so many distinct cuts part a dimension: one for each case, two for a truth value, and else one
+-- more than the cuts
 abbrev pub parted : Dim → ℕ → ℕ
 parted d zero = 1
 parted (dim.Cases n) (suc k) = n

@@ -19,8 +19,8 @@ fn is_undecided(table: &Table, region: &Region, number: usize) -> bool
     region.decided(term, &cut).is_none()
 }
 
-/// Whether an atom stands before those of a term that a region doesn't decide, or, where `end` is true, before their end:
-/// cuts below what is admitted are false there, and those above it true.
+/// Whether an atom stands before those of a term that a region doesn't decide, or, where `end` is true, before their
+/// end: cuts below what is admitted are false there, and those above it true.
 fn stands_before(table: &Table, region: &Region, number: usize, term: usize, end: bool) -> bool
     requires number { number < length table.now.atoms }
     requires dims { region.now.dims ≡ dims_of table.now.terms }
@@ -54,9 +54,9 @@ fn bound(table: &Table, region: &Region, order: &[usize], term: usize, end: bool
     low
 }
 
-/// The middle one of the atoms that a region doesn't decide and that ask the same term as the one that is named. It costs
-/// a few questions for each doubling of the number of atoms. Among cases, whose undecided ones need not stand together,
-/// it may be the named one itself.
+/// The middle one of the atoms that a region doesn't decide and that ask the same term as the one that is named. It
+/// costs a few questions for each doubling of the number of atoms. Among cases, whose undecided ones need not stand
+/// together, it may be the named one itself.
 pub(crate) fn split_atom(
     table: &Table,
     target: u32,

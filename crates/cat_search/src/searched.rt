@@ -16,8 +16,8 @@ use std::alloc::{AllocError, Global};
 pub fn search(alloc: Global, table: &Table, target: u32, budget: u64) -> Result<Search, AllocError>
     requires target { target < length table.now.targets }
     requires budget { 0 < budget }
-    ensures found { IsInhabited (everything table.now.terms) → IfSome (slice_get table.now.targets target) (λ t. IfOk result
-        (IsSearchOf table.now.terms table.now.atoms t budget)) }
+    ensures found { IsInhabited (everything table.now.terms) → IfSome (slice_get table.now.targets target)
+        (λ t. IfOk result (IsSearchOf table.now.terms table.now.atoms t budget)) }
     ensures closed { IfSome (slice_get table.now.targets target) (λ t. IfOk result
         (IsClosedSearch table.now.terms table.now.atoms t)) }
     ensures spent { IfSome (slice_get table.now.targets target) (λ t. IfOk result

@@ -40,7 +40,8 @@ Undoes dims most (n ∷ path) (Some last) region = (last ≡ (n.dim, n.cut, n.ye
 -- a region comes from a path to the first of its turns, if there is one
 abbrev pub Turns : List Dim → ℕ → List Narrowing → Bool → Constraints → Type 0
 Turns dims most path false region = turns path ≡ []
-Turns dims most path true region = (next : List Narrowing) × (turns path ≡ next ∷ turns next) × IsAt dims most next region
+Turns dims most path true region =
+    (next : List Narrowing) × (turns path ≡ next ∷ turns next) × IsAt dims most next region
 
 -- the narrowings that are on true sides
 abbrev pub true_sides : List Narrowing → ℕ

@@ -64,8 +64,8 @@ pub record Completes (atoms : List Atom) (t : TableTarget) (dims : List Dim) (s 
   pub bad_are : bad_among atoms t (leaves_from atoms 0 (along dims []) tree)
       ≡ s.bad ++ bad_among atoms t (leaves_along atoms dims (length s.nodes) paths trees)
 
--- the regions for which nodes are to come: that where a search is, if its node isn't written yet, and those at the turns
--- of the way to it
+-- the regions for which nodes are to come: that where a search is, if its node isn't written yet, and those at the
+-- turns of the way to it
 abbrev pub to_come : Bool → List Narrowing → List (List Narrowing)
 to_come here path = if here then path ∷ turns path else turns path
 

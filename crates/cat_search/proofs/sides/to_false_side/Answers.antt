@@ -13,7 +13,8 @@ returns-then-yes-clause-turns c dims most path at =
 pub returns-then-yes-clause-fewer : goal.returns-then-yes-clause-fewer
 returns-then-yes-clause-fewer c so =
     let before = c.loop-dim.invariant.sides in
-    let less = c.in-Some.ensures.sides ∙ ap (λ b. true_sides c.undone.new.region.narrowings + (if b then 1 else 0)) c.if-yes.true in
+    let less = c.in-Some.ensures.sides
+    ∙ ap (λ b. true_sides c.undone.new.region.narrowings + (if b then 1 else 0)) c.if-yes.true in
     let now = ap true_sides c.narrow.ensures.narrowings
     ∙ sides_more c.undone.new.region.narrowings (narrowed_to c.in-Some.dim c.in-Some.cut false) in
     omega (arith, before, less, now)
@@ -24,7 +25,8 @@ loop-dim-preserved c = record {
       (c.in-Some.dim, c.in-Some.cut, c.in-Some.yes) c.loop-dim.region (c.loop-dim.invariant.back dims most path at)
       (c.in-Some.ensures.undone dims most) c.if-yes.false;
   sides = let before = c.loop-dim.invariant.sides in
-      let same = c.in-Some.ensures.sides ∙ ap (λ b. true_sides c.undone.new.region.narrowings + (if b then 1 else 0)) c.if-yes.false in
+      let same = c.in-Some.ensures.sides
+      ∙ ap (λ b. true_sides c.undone.new.region.narrowings + (if b then 1 else 0)) c.if-yes.false in
       omega (arith, before, same);
 }
 

@@ -11,7 +11,8 @@ split-requires-clause-atom c =
     let table = c.args.table.now in
     let one = target_at (λ t. IsSplit table.atoms t c.loop-atom.self.region c.in-Split.atom) table.targets c.args.target
     c.requires.target c.in-Split.ensures in
-    asked_below table.terms table.atoms table.targets (search rules) c.args.target one.0 one.1 c.in-Split.atom one.2.asked
+    asked_below table.terms table.atoms table.targets (search rules) c.args.target one.0 one.1 c.in-Split.atom
+    one.2.asked
 
 pub split-requires-clause-dims : goal.split-requires-clause-dims
 split-requires-clause-dims c =
