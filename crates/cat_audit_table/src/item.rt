@@ -1,5 +1,5 @@
 // What is told of a target by its item.
-ghost use Rattle.std.specs.Prelude.{◌≡◌, IfOk, slice_get};
+ghost use Rattle.std.specs.Prelude.{◌≡◌, IfOk, Some, slice_get, string_bytes};
 ghost use Rattle.std.specs.Option.{option_copied};
 ghost use Rattle.cat_value.specs.Inputs.{must_be_given};
 ghost use Rattle.cat_guard.specs.Tables.{inner_items, inner_item, item_name, item_pos, is_function, may_be_empty};
@@ -48,6 +48,22 @@ fn item_name(decl: Option<&ItemDecl>) -> &str
     }
 }
 
+/// The name `t.x` of an item of the scope that an item calls.
+fn inner_name(
+    alloc: Global,
+    decls: &Decls,
+    decl: Option<&ItemDecl>,
+    number: u32,
+) -> Result<String, AllocError>
+    ensures { IfOk result (λ name. string_bytes name
+        ≡ target_name decls.now (option_copied decl.entry) (Some number)) }
+{
+    let mut name = String::from_str(alloc, item_name(decl))?;
+    name.push_str(".")?;
+    name.push_str(item_name(inner_item(decls, decl, number)))?;
+    Ok(name)
+}
+
 /// The name of a target: `x`, or `t.x`.
 pub fn target_name(
     alloc: Global,
@@ -62,10 +78,9 @@ pub fn target_name(
     let Some(number) = target.inner else {
         return Text::from_str(alloc, item_name(decl));
     };
-    let mut name = String::from_str(alloc, item_name(decl))?;
-    name.push_str(".")?;
-    name.push_str(item_name(inner_item(decls, decl, number)))?;
-    Ok(Text::from_string(name))
+    let name = inner_name(alloc, decls, decl, number)?;
+    let name = Text::from_string(alloc, name)?;
+    Ok(name)
 }
 
 /// Whether a target is a function.

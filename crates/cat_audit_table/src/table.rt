@@ -58,6 +58,6 @@ pub fn audit_table(
         defs: body.defs.as_slice(),
     };
     let (targets, terms, atoms) = targets_asked(&scene, forest.targets.as_slice())?;
-    let name = decl.name.copy(alloc)?;
+    let name = decl.name.copy()?;
     Ok(Table::from_parts(scope, name, terms, atoms, targets))
 }

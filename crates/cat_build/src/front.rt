@@ -12,7 +12,7 @@ ghost use Rattle.cat_build.specs.Causes.{HasCause, end_of, token_position};
 
 use crate::code::{BuildRefusal, Code, fault_refusal};
 use cat_check::check;
-use cat_lex::{LexRefusal, Token, Tokens, lex};
+use cat_lex::{LexRefusal, Token, Tokens, lex, position_after};
 use cat_names::{Refusal, definitions_are_counted};
 use cat_parse::{ParseRefusal, program};
 use cat_pos::{Piece, Pos};
@@ -39,16 +39,7 @@ fn position_behind(piece: &Piece) -> Pos
     requires { IsReadable piece.now }
     ensures { result ≡ position_after piece.now.pos piece.now.text }
 {
-    let mut pos = piece.pos;
-    for &byte in piece.text.as_str().as_bytes() {
-        if byte == 10 {
-            pos.line += 1;
-            pos.column = 1;
-        } else {
-            pos.column += 1;
-        }
-    }
-    pos
+    position_after(piece.pos, piece.text.as_str().as_bytes())
 }
 
 /// The position behind the last piece.

@@ -1,7 +1,10 @@
 // What holds of sources that are accepted.
-ghost use Rattle.std.specs.Prelude.{◌≡◌, ◌≢◌, List};
+ghost use Rattle.std.specs.Prelude.{◌≡◌, ◌≢◌, ◌≤◌, ◌<◌, List, length};
+ghost use Rattle.cat_pos.specs.declared.limits.TheConstants.{ENTRIES_BOUND};
 ghost use Rattle.cat_pos.specs.declared.pos.Piece.{Piece};
 ghost use Rattle.cat_scope.specs.declared.programs.Program.{Program};
+ghost use Rattle.cat_scope.specs.Names.{AllHave};
+ghost use Rattle.cat_names.specs.declared.limits.TheConstants.{MOST_CASES};
 ghost use Rattle.cat_build.specs.Accepted.{IsAccepted};
 ghost use Rattle.cat_build.specs.Causes.{HasCause};
 ghost use Rattle.cat_build.specs.declared.code.BuildRefusal.{BuildRefusal};
@@ -9,7 +12,10 @@ ghost use Rattle.cat_build.specs.declared.code.BuildRefusal.{BuildRefusal};
 use crate::code::BuildRefusal;
 use cat_except::refused_scopes_make_no_forest;
 use cat_lex::{pieces_have_one_reading, refused_pieces_have_no_reading};
-use cat_names::{refused_trees_have_no_program, trees_have_one_program};
+use cat_names::{
+    cases_are_counted, definitions_are_counted, refused_trees_have_no_program,
+    trees_have_one_program,
+};
 use cat_parse::tokens_spell_one_program;
 
 /// Pieces are accepted as one program at most.
@@ -34,4 +40,15 @@ pub fn refused_pieces_are_not_accepted()
     refused_trees_have_no_program();
     trees_have_one_program();
     refused_scopes_make_no_forest();
+}
+
+/// An accepted program keeps the counts of definitions and of cases.
+pub fn accepted_programs_are_counted()
+    ensures definitions { (pieces : List Piece) (program : Program) → IsAccepted pieces program
+        → AllHave (λ body. length body.defs < ENTRIES_BOUND) program.bodies }
+    ensures cases { (pieces : List Piece) (program : Program) → IsAccepted pieces program
+        → AllHave (λ e. length e.cases ≤ MOST_CASES) program.decls.enumerations }
+{
+    definitions_are_counted();
+    cases_are_counted();
 }

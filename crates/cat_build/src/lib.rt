@@ -20,7 +20,9 @@ use cat_desugar::desugar;
 use cat_gather::Source;
 use cat_scope::Program;
 pub use code::{BuildRefusal, Code};
-pub use laws::{pieces_have_one_program, refused_pieces_are_not_accepted};
+pub use laws::{
+    accepted_programs_are_counted, pieces_have_one_program, refused_pieces_are_not_accepted,
+};
 use std::alloc::Global;
 
 /// A program, the forest of each of its scopes, and its default terms.

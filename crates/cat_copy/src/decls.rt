@@ -26,7 +26,7 @@ fn copy_structures(alloc: Global, structures: &Structures) -> Result<Structures,
 {
     let mut copies = List::new(alloc);
     for structure in structures.as_slice() {
-        let name = structure.name.copy(alloc)?;
+        let name = structure.name.copy()?;
         let fields = copy_fields(alloc, &structure.fields)?;
         copies.push(Structure { name, fields })?;
     }
@@ -38,7 +38,7 @@ fn copy_fields(alloc: Global, fields: &Fields) -> Result<Fields, AllocError>
 {
     let mut copies = List::new(alloc);
     for field in fields.as_slice() {
-        let name = field.name.copy(alloc)?;
+        let name = field.name.copy()?;
         let ty = copy_ty(alloc, &field.ty)?;
         copies.push(Field { name, ty })?;
     }
@@ -50,7 +50,7 @@ fn copy_enumerations(alloc: Global, enumerations: &Enumerations) -> Result<Enume
 {
     let mut copies = List::new(alloc);
     for enumeration in enumerations.as_slice() {
-        let name = enumeration.name.copy(alloc)?;
+        let name = enumeration.name.copy()?;
         let cases = copy_cases(alloc, &enumeration.cases)?;
         copies.push(Enumeration { name, cases })?;
     }
@@ -70,7 +70,7 @@ fn copy_cases(alloc: Global, cases: &Cases) -> Result<Cases, AllocError>
 fn copy_case(alloc: Global, case: &Case) -> Result<Case, AllocError>
     ensures { IfOk result (λ copied. copied ≡ case.now) }
 {
-    let name = case.name.copy(alloc)?;
+    let name = case.name.copy()?;
     let content = match &case.content {
         Some(content) => Some(copy_ty(alloc, content)?),
         None => None,
@@ -83,7 +83,7 @@ fn copy_scopes(alloc: Global, scopes: &Scopes) -> Result<Scopes, AllocError>
 {
     let mut copies = List::new(alloc);
     for scope in scopes.as_slice() {
-        let name = scope.name.copy(alloc)?;
+        let name = scope.name.copy()?;
         let items = copy_items(alloc, &scope.items)?;
         copies.push(Scope { name, items })?;
     }
@@ -103,7 +103,7 @@ fn copy_items(alloc: Global, items: &ItemDecls) -> Result<ItemDecls, AllocError>
 fn copy_item(alloc: Global, item: &ItemDecl) -> Result<ItemDecl, AllocError>
     ensures { IfOk result (λ copied. copied ≡ item.now) }
 {
-    let name = item.name.copy(alloc)?;
+    let name = item.name.copy()?;
     let ty = copy_ty(alloc, &item.ty)?;
     let params = copy_types(alloc, &item.params)?;
     Ok(ItemDecl {

@@ -58,7 +58,7 @@ fn fields_of(
     let mut made = List::new(alloc);
     for field in fields {
         let ty = type_of(alloc, tables, &field.ty, faults)?;
-        let name = field.name.text.copy(alloc)?;
+        let name = field.name.text.copy()?;
         made.push(Field { name, ty })?;
     }
     Ok(made)
@@ -79,7 +79,7 @@ fn structures_of(
     let mut made = List::new(alloc);
     for structure in structures.as_slice() {
         let fields = fields_of(alloc, tables, structure.parts.as_slice(), faults)?;
-        let name = structure.name.text.copy(alloc)?;
+        let name = structure.name.text.copy()?;
         made.push(Structure { name, fields })?;
     }
     Ok(made)
@@ -99,7 +99,7 @@ fn cases_of(
     let mut made = List::new(alloc);
     for case in cases {
         let content = content_of(alloc, tables, &case.content, faults)?;
-        let name = case.name.text.copy(alloc)?;
+        let name = case.name.text.copy()?;
         made.push(Case { name, content })?;
     }
     Ok(made)
@@ -120,7 +120,7 @@ fn enumerations_of(
     let mut made = List::new(alloc);
     for enumeration in enumerations.as_slice() {
         let cases = cases_of(alloc, tables, enumeration.parts.as_slice(), faults)?;
-        let name = enumeration.name.text.copy(alloc)?;
+        let name = enumeration.name.text.copy()?;
         made.push(Enumeration { name, cases })?;
     }
     Ok(made)
@@ -176,7 +176,7 @@ fn own_item(
     let declared = variable_type_of(alloc, tables, ty, faults)?;
     let params = params_of(alloc, tables, params, faults)?;
     Ok(ItemDecl {
-        name: name.text.copy(alloc)?,
+        name: name.text.copy()?,
         pos: name.pos,
         kind: kind_of(kind),
         ty: declared,
@@ -200,7 +200,7 @@ fn called_item(
 {
     let number = scope_number(tables, scope, faults)?;
     Ok(ItemDecl {
-        name: name.text.copy(alloc)?,
+        name: name.text.copy()?,
         pos: name.pos,
         kind: Kind::Called(number),
         ty: Ty::Boolean,
@@ -263,7 +263,7 @@ fn scopes_of(
     let mut made = List::new(alloc);
     for scope in scopes.as_slice() {
         let items = items_of(alloc, tables, scope.parts.as_slice(), faults)?;
-        let name = scope.name.text.copy(alloc)?;
+        let name = scope.name.text.copy()?;
         made.push(Scope { name, items })?;
     }
     Ok(made)

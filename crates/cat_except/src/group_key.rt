@@ -61,7 +61,7 @@ pub fn key_of(alloc: Global, number: u32, def: &Def) -> Result<GroupKey, AllocEr
     ensures { IfOk result (λ key. key ≡ coded_key (key_at number def.now.label def.now.except)) }
 {
     match (&def.label, &def.except) {
-        (Some(label), _) => Ok(GroupKey::Labelled(label.text.copy(alloc)?)),
+        (Some(label), _) => Ok(GroupKey::Labelled(label.text.copy()?)),
         (None, Except::No) => Ok(GroupKey::Base),
         (None, Except::OnlyRoot(_) | Except::Named(_, _)) => Ok(GroupKey::Alone(number)),
     }

@@ -28,7 +28,7 @@ fn label(alloc: Global, letters: u32, pos: Pos) -> Result<Label, AllocError> {
         text.push('a')?;
     }
     Ok(Label {
-        text: Text::from_string(text),
+        text: Text::from_string(alloc, text)?,
         pos,
     })
 }

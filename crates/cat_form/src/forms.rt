@@ -112,7 +112,7 @@ pub fn element_local(
 pub fn bound(alloc: Global, name: &Name, ty: Ty) -> Result<Local, AllocError>
     ensures { IfOk result (λ local. local ≡ words.bound name.now ty) }
 {
-    let name = name.text.copy(alloc)?;
+    let name = name.text.copy()?;
     Ok(Local { name, ty })
 }
 

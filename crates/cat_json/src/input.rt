@@ -108,7 +108,7 @@ fn told(alloc: Global, refusal: Refusal) -> Result<InputRefusal, AllocError>
     ensures { IfOk result (λ told. told ≡ inputs.refusal_told refusal) }
 {
     let Refusal { reason, path } = refusal;
-    let path = Text::from_string(path.text(alloc)?);
+    let path = Text::from_string(alloc, path.text(alloc)?)?;
     Ok(match reason {
         Reason::Missing => InputRefusal::Missing(path),
         Reason::Extra => InputRefusal::Extra(path),

@@ -6,6 +6,7 @@ ghost use Rattle.cat_pos.specs.Readable.{AreReadable, IsReadable};
 ghost use Rattle.cat_lex.specs.Lexes.{Lexes, HasCause};
 ghost use Rattle.cat_lex.specs.inside.Steps.{AddsPiece, IsAfterGap, IsFirst, HasCauseAt, HasCauseIn};
 
+use crate::names::Names;
 use crate::reader::read;
 use crate::skip::skip_gap;
 use crate::values::token_kind;
@@ -14,7 +15,7 @@ use cat_pos::{ENTRIES_BOUND, List, Piece, Pos};
 use std::alloc::Global;
 
 /// The position after these bytes.
-fn position_after(pos: Pos, bytes: &[u8]) -> Pos
+pub fn position_after(pos: Pos, bytes: &[u8]) -> Pos
     requires line { pos.line + length bytes.now < ENTRIES_BOUND }
     requires column { pos.column + length bytes.now < ENTRIES_BOUND }
     ensures position { result ≡ position_after pos bytes.now }
@@ -54,6 +55,7 @@ fn tail<'a>(text: &'a str, rest: &[u8]) -> &'a str
 /// The token in front of the text, which stands at this position, and what follows it.
 fn first_token<'a>(
     alloc: Global,
+    names: &mut Names,
     text: &'a str,
     position: Pos,
 ) -> Result<(Token, &'a str), LexRefusal>
@@ -63,7 +65,7 @@ fn first_token<'a>(
     let Some((form, rest)) = read(text) else {
         return Err(LexRefusal::NoToken(position));
     };
-    match token_kind(alloc, form, front(text, rest))? {
+    match token_kind(alloc, names, form, front(text, rest))? {
         Some(kind) => Ok((
             Token {
                 kind,
@@ -89,7 +91,12 @@ fn after_gap(text: &str, pos: Pos) -> (&str, Pos)
 }
 
 /// Adds the tokens of the piece. After a refusal, those that stand in front of the fault are added.
-fn add_piece(alloc: Global, piece: &Piece, tokens: &mut Tokens) -> Result<(), LexRefusal>
+fn add_piece(
+    alloc: Global,
+    names: &mut Names,
+    piece: &Piece,
+    tokens: &mut Tokens,
+) -> Result<(), LexRefusal>
     requires { IsReadable piece.now }
     ensures tokens { OnOk result (AddsPiece piece.now tokens.old tokens.new) }
     ensures cause { IfErr result (λ refusal. HasCauseIn piece.now refusal) }
@@ -101,7 +108,7 @@ fn add_piece(alloc: Global, piece: &Piece, tokens: &mut Tokens) -> Result<(), Le
         if first.is_empty() {
             return Ok(());
         }
-        let (token, after) = first_token(alloc, first, position)?;
+        let (token, after) = first_token(alloc, names, first, position)?;
         pos = position_after(position, front(first, after.as_bytes()).as_bytes());
         text = after;
         tokens.push(token)?;
@@ -114,9 +121,10 @@ pub fn lex(alloc: Global, pieces: &[Piece]) -> Result<Tokens, LexRefusal>
     ensures lexed { IfOk result (λ tokens. Lexes pieces.now tokens) }
     ensures cause { IfErr result (λ refusal. HasCause pieces.now refusal) }
 {
+    let mut names = Names::new(alloc);
     let mut tokens = List::new(alloc);
     for piece in pieces {
-        add_piece(alloc, piece, &mut tokens)?;
+        add_piece(alloc, &mut names, piece, &mut tokens)?;
     }
     Ok(tokens)
 }

@@ -4,11 +4,11 @@ ghost use Rattle.std.specs.Char.{is_ascii_digit};
 ghost use Rattle.std.specs.List.{count_by, position_or_len};
 ghost use Rattle.cat_lex.specs.Values.{is_point, number_of, units_of, places_of, token_of};
 
+use crate::names::Names;
 use crate::tables::keyword;
 use crate::{Form, TokenKind};
 use cat_date::read_day;
 use cat_num::{DecimalLiteral, Money, Whole};
-use cat_pos::Text;
 use std::alloc::{AllocError, Global};
 
 /// More than any bound on a number.
@@ -135,6 +135,7 @@ fn date(word: &[u8]) -> Option<TokenKind>
 /// The token that a spelling of this form is; `None` where it passes a bound.
 pub(crate) fn token_kind(
     alloc: Global,
+    names: &mut Names,
     form: Form,
     word: &str,
 ) -> Result<Option<TokenKind>, AllocError>
@@ -142,10 +143,10 @@ pub(crate) fn token_kind(
 {
     let bytes = word.as_bytes();
     let kind = match form {
-        Form::TypeWord => Some(TokenKind::Upper(Text::from_str(alloc, word)?)),
+        Form::TypeWord => Some(TokenKind::Upper(names.text(alloc, word)?)),
         Form::Word => match keyword(word) {
             Some(keyword) => Some(TokenKind::Word(keyword)),
-            None => Some(TokenKind::Lower(Text::from_str(alloc, word)?)),
+            None => Some(TokenKind::Lower(names.text(alloc, word)?)),
         },
         Form::Pair(keyword) => Some(TokenKind::Pair(keyword)),
         Form::Whole => whole(bytes),

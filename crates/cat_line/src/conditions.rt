@@ -105,7 +105,7 @@ pub fn named_params(alloc: Global, names: &[Name], mut types: &[Ty]) -> Result<L
             return Ok(locals);
         };
         locals.push(Local {
-            name: name.text.copy(alloc)?,
+            name: name.text.copy()?,
             ty: copy_ty(alloc, ty)?,
         })?;
         types = rest;

@@ -80,7 +80,7 @@ fn label(alloc: Global, written: &Option<Written>) -> Result<Option<Label>, Allo
     match written {
         None => Ok(None),
         Some(label) => {
-            let text = label.name.text.copy(alloc)?;
+            let text = label.name.text.copy()?;
             Ok(Some(Label {
                 text,
                 pos: label.name.pos,
@@ -97,7 +97,7 @@ fn except(alloc: Global, exception: &Exception) -> Result<Except, AllocError>
         Exception::No => Ok(Except::No),
         Exception::OnlyRoot(place) => Ok(Except::OnlyRoot(*place)),
         Exception::Labelled(place, label) => {
-            let text = label.text.copy(alloc)?;
+            let text = label.text.copy()?;
             Ok(Except::Named(
                 *place,
                 Label {

@@ -38,7 +38,7 @@ impl NameTable {
         if self.numbers.contains_key(name) {
             return Ok(false);
         }
-        self.numbers.insert(name.copy(alloc)?, number)?;
+        self.numbers.insert(name.copy()?, number)?;
         Ok(true)
     }
 

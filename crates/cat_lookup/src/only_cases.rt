@@ -39,7 +39,7 @@ impl OnlyCases {
         } else {
             Some(case)
         };
-        self.cases.insert(name.copy(alloc)?, only)?;
+        self.cases.insert(name.copy()?, only)?;
         Ok(())
     }
 

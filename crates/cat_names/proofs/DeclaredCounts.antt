@@ -64,7 +64,7 @@ none_past limit ps h = few_of_none ps limit (by (slice_get ps limit) h)
     by None e = refl
     by (Some p) e = cc e
 
-positions_counted : {A : Type 0} (f : A → Name) (xs : List A) → length (positions (map f xs)) ≡ length xs
+pub positions_counted : {A : Type 0} (f : A → Name) (xs : List A) → length (positions (map f xs)) ≡ length xs
 positions_counted f [] = refl
 positions_counted f (x ∷ xs) = omega (arith, positions_counted f xs)
 

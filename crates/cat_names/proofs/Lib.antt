@@ -53,6 +53,7 @@ mod HonestBodies
 mod DecidedLaws
 mod RefusedLaws
 mod DefinitionCounts
+mod CaseCounts
 mod OneProgram
 mod CalledWords
 mod CalledParts

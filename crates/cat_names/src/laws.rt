@@ -25,7 +25,7 @@ ghost use Rattle.cat_names.specs.Bodies.{bodies_meant};
 ghost use Rattle.cat_names.specs.Rows.{sum_for};
 ghost use Rattle.cat_names.specs.Symbols.{StandsBetween, StandsBefore, IsFlat};
 ghost use Rattle.cat_names.specs.Accepted.{IsMeant, IsNamed, IsParsed, IsProgramOf, IsRefused, parts_of};
-ghost use Rattle.cat_names.specs.declared.limits.TheConstants.{MOST_DEFINITIONS};
+ghost use Rattle.cat_names.specs.declared.limits.TheConstants.{MOST_CASES, MOST_DEFINITIONS};
 ghost use Rattle.cat_names.specs.Decided.{IsDecided};
 ghost use Rattle.cat_names.specs.ScopeWords.{scope_words, AreWordsOf};
 ghost use Rattle.cat_names.specs.Naming.{names_in_scope};
@@ -85,6 +85,12 @@ pub fn trees_have_one_program()
 pub fn definitions_are_counted()
     ensures { (tree : Tree) (decls : Decls) (bodies : List Body) → IsMeant tree decls bodies
         → AllHave (λ body. length body.defs ≤ MOST_DEFINITIONS) bodies }
+{}
+
+/// An enumeration of a tree has no more cases than one may have.
+pub fn cases_are_counted()
+    ensures { (tree : Tree) (decls : Decls) (bodies : List Body) → IsMeant tree decls bodies
+        → AllHave (λ e. length e.cases ≤ MOST_CASES) decls.enumerations }
 {}
 
 /// The walk that looks for unknown names and the one that resolves expressions bind the same names. Where no name of a

@@ -45,7 +45,7 @@ fn names_of(alloc: Global, params: &[Name]) -> Result<Texts, AllocError>
 {
     let mut names = List::new(alloc);
     for param in params {
-        names.push(param.text.copy(alloc)?)?;
+        names.push(param.text.copy()?)?;
     }
     Ok(names)
 }

@@ -10,7 +10,7 @@ pub fn bind(alloc: Global, names: &[&Name], bound: &mut Texts) -> Result<(), All
     ensures { OnOk result (bound.new ≡ bound.old ++ map (λ w. w.now.text) names.now) }
 {
     for name in names {
-        bound.push(name.text.copy(alloc)?)?;
+        bound.push(name.text.copy()?)?;
     }
     Ok(())
 }

@@ -18,7 +18,7 @@ pub fn add_repeated<T: Written>(
     let mut seen = IndexSet::new(alloc);
     for thing in things {
         let name = thing.written();
-        if seen.insert(name.text.copy(alloc)?)? {
+        if seen.insert(name.text.copy()?)? {
             continue;
         }
         faults.push(Fault::NameTwice(name.pos))?;

@@ -72,6 +72,12 @@ fn below(limit: u32, tallest: u32) -> u32
     if limit <= tallest { 0 } else { limit - 1 }
 }
 
+/// What was read is dropped here, since its many forms would make the caller too large for the borrow checker.
+fn left(standing: Standing, error: AllocError) -> AllocError {
+    drop(standing);
+    error
+}
+
 /// One word further, or one operand, which is read to a lower height.
 #[cycle(reading)]
 fn go_on(
@@ -90,8 +96,10 @@ fn go_on(
         Next::Turns(turn) => Ok(turn),
         Next::Asks(waiting, wanted) => {
             let below = below(limit, waiting.reading.tallest);
-            let operand = read(alloc, tokens, waiting.at, below, wanted)?;
-            take(alloc, tokens, waiting, operand, limit, level)
+            match read(alloc, tokens, waiting.at, below, wanted) {
+                Ok(operand) => take(alloc, tokens, waiting, operand, limit, level),
+                Err(error) => Err(left(waiting, error)),
+            }
         }
     }
 }

@@ -24,7 +24,7 @@ fn base_of(alloc: Global, kind: &TokenKind) -> Result<Option<Base>, AllocError>
         TokenKind::Word(Keyword::Money) => Some(Base::Money),
         TokenKind::Word(Keyword::Date) => Some(Base::Date),
         TokenKind::Word(Keyword::Duration) => Some(Base::Duration),
-        TokenKind::Upper(text) => Some(Base::Named(text.copy(alloc)?)),
+        TokenKind::Upper(text) => Some(Base::Named(text.copy()?)),
         _ => None,
     })
 }

@@ -37,7 +37,7 @@ pub fn lower(alloc: Global, tokens: &[Token], at: usize) -> Result<(Name, usize)
     match tokens.get(at) {
         Some(token) => match &token.kind {
             TokenKind::Lower(text) => {
-                let text = text.copy(alloc)?;
+                let text = text.copy()?;
                 Ok((
                     Name {
                         text,
@@ -60,7 +60,7 @@ pub fn upper(alloc: Global, tokens: &[Token], at: usize) -> Result<(Name, usize)
     match tokens.get(at) {
         Some(token) => match &token.kind {
             TokenKind::Upper(text) => {
-                let text = text.copy(alloc)?;
+                let text = text.copy()?;
                 Ok((
                     Name {
                         text,

@@ -30,7 +30,7 @@ pub(crate) enum Stepped {
 pub(crate) fn named(alloc: Global, text: &Text, pos: Pos) -> Result<Name, AllocError>
     ensures { IfOk result (λ name. name ≡ one.named text.now pos) }
 {
-    let text = text.copy(alloc)?;
+    let text = text.copy()?;
     Ok(Name { text, pos })
 }
 

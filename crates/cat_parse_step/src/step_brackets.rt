@@ -57,7 +57,7 @@ fn sum_type(alloc: Global, pos: Pos, lists: usize, token: &Token) -> Result<Step
         }
         TokenKind::Word(keyword) => Ok(sum_word(pos, lists, token.pos, *keyword)),
         TokenKind::Upper(text) => {
-            let text = text.copy(alloc)?;
+            let text = text.copy()?;
             Ok(sum_of(pos, lists, Base::Named(text), token.pos))
         }
         _ => Ok(Stepped::Still(State::SumType(pos, lists))),

@@ -35,7 +35,7 @@ fn lists_boxes_texts_and_files_keep_what_they_are_given(rt: HostRuntime) -> Resu
     let boxed = Boxed::new(alloc, 8u32)?;
     assert_eq!(rt; *boxed.get(), 8);
     assert_eq!(rt; boxed.into_inner(), 8);
-    let text = Text::from_str(alloc, "é")?.copy(alloc)?;
+    let text = Text::from_str(alloc, "é")?.copy()?;
     assert!(rt; text.is("é"));
     let mut files = Files::new(alloc);
     assert_eq!(rt; files.add("a.md")?, 0);

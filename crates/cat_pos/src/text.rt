@@ -12,11 +12,12 @@ use std::alloc::{AllocError, Global};
 use std::cmp::Ordering;
 use std::hash::{Hash, Hasher};
 use std::marker::Model;
+use std::rc::Rc;
 
-/// A text that contracts see as the list of its bytes.
+/// A text that contracts see as the list of its bytes. Copies share the bytes.
 #[derive(Debug, Drop)]
 pub struct Text {
-    text: String,
+    text: Rc<String>,
 }
 
 impl Model for Text {
@@ -24,33 +25,36 @@ impl Model for Text {
 
     ghost Value = { List ℕ };
 
-    ghost view = { λ t. string_bytes t.text };
+    ghost view = { λ t. string_bytes t.text.value };
 }
 
 impl Text {
-    pub fn from_string(text: String) -> Text
-        ensures { result ≡ string_bytes text }
+    pub fn from_string(alloc: Global, text: String) -> Result<Text, AllocError>
+        ensures { IfOk result (λ t. t ≡ string_bytes text) }
     {
-        Text { text }
+        let text = Rc::new(alloc, text)?;
+        Ok(Text { text })
     }
 
     pub fn from_str(alloc: Global, text: &str) -> Result<Text, AllocError>
         ensures { IfOk result (λ t. t ≡ text.now) }
     {
         let text = String::from_str(alloc, text)?;
-        Ok(Text { text })
+        Text::from_string(alloc, text)
     }
 
     pub fn as_str(&self) -> &str
         ensures { result.now ≡ self.now }
     {
-        self.text.as_str()
+        self.text.as_ref().as_str()
     }
 
-    pub fn copy(&self, alloc: Global) -> Result<Text, AllocError>
+    /// A text that shares the bytes of this one.
+    pub fn copy(&self) -> Result<Text, AllocError>
         ensures { IfOk result (λ t. t ≡ self.now) }
     {
-        Text::from_str(alloc, self.as_str())
+        let text = self.text.clone()?;
+        Ok(Text { text })
     }
 
     /// Whether the two texts have the same bytes.

@@ -13,7 +13,7 @@ go_on-take-requires-clause-operand t c =
       c.in-Asks.wanted,
       asked.0,
       asked.1,
-      c.in_ok-operand-in-Asks.ensures.gives ∙ operand_is c.args.limit
+      c.in-Ok.ensures.gives ∙ operand_is c.args.limit
           waiting.reading.tallest c.below-below.result c.in-Asks.wanted (drop waiting.at tokens)
           (leb c.args.limit waiting.reading.tallest) refl c.below-below.ensures,
     )

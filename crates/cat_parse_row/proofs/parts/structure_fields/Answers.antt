@@ -1,9 +1,9 @@
-use Rattle.std.proofs.Common.{List, sym, subst, ◌∙◌}
+use Rattle.std.proofs.Common.{◌≡◌, List, [], ◌∷◌, rules, sym, subst, ◌∙◌}
 use Rattle.cat_tree.specs.declared.program.FieldItem.{FieldItem}
 use Rattle.cat_lex.specs.declared.words.Keyword.TheVariants as key
 use Rattle.cat_parse_row.specs.Declarations.{is_word, field}
 use Rattle.cat_parse_row.proofs.Shorter.{field_shrinks}
-use Rattle.cat_parse_row.proofs.Turns.{Stands, further, smaller, last, one_and_more}
+use Rattle.cat_parse_row.proofs.Turns.{Stands, at_first, further, smaller, last, one_and_more}
 use Rattle.cat_parse_row.proofs.parts.structure_fields.Goals as goal
 
 pub loop-alloc-smaller : goal.loop-alloc-smaller
@@ -27,3 +27,13 @@ returns c =
     last (is_word key.Data) field
     (one_and_more field (is_word key.Data) field) c.args.tokens.now c.args.at c.loop-alloc.place c.loop-alloc.fields
     (sym c.is_next.ensures ∙ c.loop-alloc-test.false) c.loop-alloc.invariant
+
+pub loop-alloc-init : goal.loop-alloc-init
+loop-alloc-init c =
+    let made : c.push.new.self ≡ c.in_ok-first.first ∷ [] = search rules in
+    let whole = one_and_more field (is_word key.Data) field in
+    subst (λ (made : List FieldItem). Stands
+    (is_word key.Data) field whole c.args.tokens.now c.args.at c.in_ok-first.behind made)
+    (sym made)
+    (at_first (is_word key.Data) field c.args.tokens.now c.args.at field c.in_ok-first.first c.in_ok-first.behind
+    c.in_ok-first.ensures)
