@@ -283,13 +283,15 @@ none_behind (tree.Split a l r) whole =
     let both = both_true (is_whole l) (is_whole r) whole in
     (refl, (none_behind l both.0, none_behind r both.1))
 
+pub named_shared : (t : Tree) → is_whole t ≡ true → named_from (Some []) (shared t).names ≡ Some (named_in t)
+named_shared t whole =
+    let known = grown t whole [] tt in
+    names_are (recurs_in t) (named_in t) [] [] (with_all [] (subtrees t)) known.ordered refl
+
 pub expanded_shared : (t : Tree) → is_whole t ≡ true → expanded (shared t) ≡ Some t
 expanded_shared t whole =
     let names = named_in t in
-    let known = grown t whole [] tt in
-    let named : named_from (Some []) (map (body names) names) ≡ Some names =
-    names_are (recurs_in t) names [] [] (with_all [] (subtrees t)) known.ordered refl in
     let main : cited_tree_of names (written names t) ≡ Some t =
     ap (λ ns. one_tree (cited_trees_of names ns)) (sym (append-nil (written names t)))
     ∙ ap one_tree (written_is names [] names (sym (append-nil names)) t (none_behind t whole) [] [] refl) in
-    ap (λ o. main_of o (written names t)) named ∙ main
+    ap (λ o. main_of o (written names t)) (named_shared t whole) ∙ main

@@ -8,5 +8,5 @@ mod sharing;
 mod stack;
 mod writing;
 
-pub use laws::shared_trees_stand_for_the_tree;
+pub use laws::{named_parts_are_subtrees, shared_trees_stand_for_the_tree};
 pub use sharing::share;

@@ -155,8 +155,7 @@ split_passes : (pass : ℕ → Bool) (a : ℕ) (l r : Tree) → pass a ≡ true 
     → splits_pass pass r ≡ true → splits_pass pass (tree.Split a l r) ≡ true
 split_passes pass a l r ok left right = rw (ok, left) right
 
-pub splits_as_written : (atoms : ℕ) (c : CitedTree) (t : Tree) → expanded c ≡ Some t → written_below atoms c ≡ true
-    → splits_below atoms t ≡ true
-splits_as_written atoms c t is ok =
-    expanded_has (λ a. nat_lt a atoms) (splits_pass (λ a. nat_lt a atoms))
-    (record { leaf = refl; split = split_passes (λ a. nat_lt a atoms) }) c ok t is
+pub splits_as_written : (pass : ℕ → Bool) (c : CitedTree) (t : Tree) → expanded c ≡ Some t
+    → list_all (nodes_pass pass) (lists_of c) ≡ true → splits_pass pass t ≡ true
+splits_as_written pass c t is ok =
+    expanded_has pass (splits_pass pass) (record { leaf = refl; split = split_passes pass }) c ok t is

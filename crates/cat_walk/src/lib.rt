@@ -13,7 +13,7 @@ mod stack;
 mod walking;
 
 pub use expanding::expand;
-pub use laws::{covered_trees_are_closed, trees_split_as_they_are_written};
+pub use laws::{cited_trees_are_whole, covered_trees_are_closed, trees_split_as_they_are_written};
 pub use place::NodePlace;
 pub use refusal::WalkRefusal;
 pub use size::{PAST_MOST, TreeSize, tree_size};

@@ -1,0 +1,4 @@
+pub mod Uncovered
+pub mod Checked
+-- what the code keeps on its way: no public clause cites it
+pub mod inside

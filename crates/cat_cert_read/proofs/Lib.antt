@@ -1,0 +1,17 @@
+pub mod ResultLemmas
+pub mod LineLemmas
+pub mod StepLemmas
+pub mod DigitLemmas
+pub mod LeadLemmas
+pub mod FeedLemmas
+pub mod TreeLemmas
+pub mod ItemLemmas
+pub mod CompleteLemmas
+pub mod StandLemmas
+pub mod GoesLemmas
+pub mod FrontLemmas
+pub mod WhyLemmas
+pub mod AtomLemmas
+pub mod EndingLemmas
+pub mod TextLemmas
+pub mod ReadLemmas

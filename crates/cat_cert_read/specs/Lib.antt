@@ -1,0 +1,2 @@
+-- what the code keeps on its way: no public clause cites it
+pub mod inside

@@ -1,0 +1,10 @@
+pub mod AtomLemmas
+pub mod TextLemmas
+pub mod WidthLemmas
+pub mod SharedLemmas
+pub mod ReadBackLemmas
+pub mod ReadTreeLemmas
+pub mod RefusalLaws
+pub mod ReadingLemmas
+pub mod OnceLemmas
+pub mod Examples

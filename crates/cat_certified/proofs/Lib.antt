@@ -1,0 +1,4 @@
+pub mod OneTables
+pub mod ClosedTables
+pub mod NameLemmas
+pub mod ScopeLemmas

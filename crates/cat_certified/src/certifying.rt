@@ -1,0 +1,35 @@
+// Certificates for scopes of programs.
+ghost use Rattle.std.specs.Prelude.{◌<◌, IfOk, IfErr, length, string_bytes};
+ghost use Rattle.std.specs.Option.{option_map};
+ghost use Rattle.cat_desugar.specs.Desugared.{AreForestsOf};
+ghost use Rattle.cat_audit.specs.Complete.{HasNoGap};
+ghost use Rattle.cat_audit.specs.Reports.{IsCounted};
+ghost use Rattle.cat_certified.specs.ScopeTables.{HasScopeCause, IsOverScope};
+
+use crate::laws::closed_tables_leave_no_gap;
+use cat_audit::audited_tables;
+use cat_cert::check_over;
+use cat_cert_text::CertRefusal;
+use cat_scope::{Forest, Program};
+use std::alloc::Global;
+
+/// Whether a text is a certificate for a scope, with the text of version 2 where it is of version 1. It costs the
+/// tables of the scope and of those that it calls, and the check of the text over them.
+pub fn certified(
+    alloc: Global,
+    program: &Program,
+    forests: &[Forest],
+    scope: u32,
+    bytes: &[u8],
+) -> Result<Option<String>, CertRefusal>
+    requires counted { IsCounted program.now }
+    requires forests { AreForestsOf program.now forests.now }
+    requires scope { scope < length program.now.bodies }
+    ensures no_gap { IfOk result (λ o. HasNoGap program.now scope) }
+    ensures over { IfOk result (λ o. IsOverScope program.now scope bytes.now (option_map string_bytes o)) }
+    ensures cause { IfErr result (HasScopeCause program.now scope bytes.now) }
+{
+    closed_tables_leave_no_gap(program);
+    let tables = audited_tables(alloc, program, forests, scope)?;
+    check_over(alloc, tables.as_slice(), bytes)
+}
