@@ -1,0 +1,9 @@
+mod CauseLemmas
+mod Examples
+mod FindingLemmas
+mod LeastLemmas
+mod LineLemmas
+mod SearchedLemmas
+mod Targets
+mod TriedLemmas
+mod Values

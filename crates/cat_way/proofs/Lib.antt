@@ -1,0 +1,4 @@
+mod AskedLemmas
+mod Examples
+mod FollowingLemmas
+mod WayLemmas
