@@ -1,0 +1,9 @@
+pub mod CalledLemmas
+pub mod VerdictLemmas
+pub mod TargetLemmas
+pub mod SectionLemmas
+pub mod UnderwayLemmas
+pub mod LineLemmas
+pub mod TableLemmas
+pub mod TurnLemmas
+pub mod CompleteLemmas

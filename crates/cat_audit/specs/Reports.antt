@@ -1,0 +1,75 @@
+-- The report of an audit.
+use Rattle.std.specs.Prelude.{◌≡◌, ◌<◌, ◌≤◌, ℕ, List, [], ◌∷◌, ◌++◌, map, length, Option, None, Some}
+use Rattle.cat_pos.specs.declared.limits.TheConstants.{ENTRIES_BOUND}
+use Rattle.cat_scope.specs.declared.programs.Program.{Program}
+use Rattle.cat_scope.specs.Names.{AllHave}
+use Rattle.cat_calc.specs.declared.calcs.Calc.{Calc}
+use Rattle.cat_desugar.specs.Desugared.{KeepsOutcomes}
+use Rattle.cat_guard.specs.declared.table.Table.{Table}
+use Rattle.cat_guard.specs.declared.tree.CaseTree.{CaseTree}
+use Rattle.cat_guard.specs.Tables.{TablesScope}
+use Rattle.cat_finding.specs.declared.finding.TargetLine.{TargetLine}
+use Rattle.cat_reach.specs.Reached.{AreReachedFrom}
+use Rattle.cat_audit.specs.declared.report.Verdict.{Verdict}
+use Rattle.cat_audit.specs.declared.report.Verdict.TheVariants as verdict
+use Rattle.cat_audit.specs.declared.report.Section.{Section}
+use Rattle.cat_audit.specs.declared.report.Report.{Report}
+use Rattle.cat_audit.specs.Called.{verdict_in}
+use Rattle.cat_audit.specs.Sections.{IsSection}
+
+-- ---- what is audited
+
+-- a program keeps the counts of definitions and of cases, as each accepted one does
+pub record IsCounted (program : Program) : Type 0 where
+  pub definitions : AllHave (λ body. length body.defs < ENTRIES_BOUND) program.bodies
+  pub cases : AllHave (λ e. length e.cases ≤ 128) program.decls.enumerations
+
+-- default terms are those of a program
+pub record IsCalcOf (program : Program) (calc : Calc) : Type 0 where
+  pub declared : calc.decls ≡ program.decls
+  pub outcomes : KeepsOutcomes program calc
+
+-- the scopes of tables
+abbrev pub scopes_of : List Table → List ℕ
+scopes_of tables = map (λ t. t.scope) tables
+
+-- the tables of an audit: those of the scopes that the audited one calls, directly or not, and of itself
+pub record AreTablesOf (program : Program) (scope : ℕ) (tables : List Table) : Type 0 where
+  pub scopes_are : AreReachedFrom program scope (scopes_of tables)
+  pub tables_are : AllHave (λ t. TablesScope program t.scope t) tables
+
+-- ---- reports
+
+-- a section for each table
+abbrev pub AreSections : Program → ℕ → (ℕ → Verdict) → List Table → List (List TargetLine) → List Section → Type 0
+AreSections program budget verdicts [] [] [] = Unit {0}
+AreSections program budget verdicts [] [] (s ∷ sections) = ⊥
+AreSections program budget verdicts [] (m ∷ made) sections = ⊥
+AreSections program budget verdicts (t ∷ tables) [] sections = ⊥
+AreSections program budget verdicts (t ∷ tables) (m ∷ made) [] = ⊥
+AreSections program budget verdicts (t ∷ tables) (m ∷ made) (s ∷ sections) =
+    IsSection program budget verdicts t m s × AreSections program budget verdicts tables made sections
+
+-- the verdict of the last section
+abbrev pub last_verdict : List Section → Verdict
+last_verdict [] = verdict.Undecided
+last_verdict (s ∷ []) = s.verdict
+last_verdict (s ∷ t ∷ sections) = last_verdict (t ∷ sections)
+
+-- the trees of all targets
+abbrev pub trees_of : List (List TargetLine) → List CaseTree
+trees_of [] = []
+trees_of (m ∷ made) = map (λ l. l.tree) m ++ trees_of made
+
+-- trees, where a verdict is Complete
+abbrev pub trees_at : Verdict → List CaseTree → Option (List CaseTree)
+trees_at verdict.Complete trees = Some trees
+trees_at v trees = None
+
+-- what an audit says of a scope: a section for each of its tables, in which a called scope has the verdict of its own
+-- section, and the trees of all targets where the last verdict is Complete
+pub record IsReport (program : Program) (scope budget : ℕ) (report : Report) : Type 0 where
+  pub tables_are : AreTablesOf program scope report.tables
+  pub made : List (List TargetLine)
+  pub sections_are : AreSections program budget (verdict_in report.sections) report.tables made report.sections
+  pub trees_are : report.trees ≡ trees_at (last_verdict report.sections) (trees_of made)

@@ -1,0 +1,78 @@
+// The audit of a scope.
+ghost use Rattle.std.specs.Prelude.{◌≡◌, ◌<◌, IfOk, length};
+ghost use Rattle.cat_desugar.specs.Desugared.{AreForestsOf};
+ghost use Rattle.cat_audit.specs.Reports.{AreTablesOf, IsCalcOf, IsCounted, IsReport, trees_at};
+
+use crate::report::{CaseTrees, Report, Section, Tables, Verdict};
+use crate::section::section_of;
+use crate::tabling::audited_tables;
+use cat_calc::Calc;
+use cat_pos::List;
+use cat_reach::audited_scopes_have_what_they_call;
+use cat_scope::{Forest, Program, programs_are_well_formed};
+use std::alloc::{AllocError, Global};
+
+/// Trees, where a verdict is Complete.
+fn trees_at(verdict: Verdict, trees: CaseTrees) -> Option<CaseTrees>
+    ensures { result ≡ trees_at verdict trees }
+{
+    match verdict {
+        Verdict::Complete => Some(trees),
+        _ => None,
+    }
+}
+
+/// The report over the tables of an audit. A table of verdicts has that of each scope that has its section.
+fn report_over(
+    alloc: Global,
+    program: &Program,
+    calc: &Calc,
+    tables: Tables,
+    scope: u32,
+    budget: u64,
+) -> Result<Report, AllocError>
+    requires calc { IsCalcOf program.now calc.now }
+    requires tables { AreTablesOf program.now scope tables }
+    requires budget { 0 < budget }
+    ensures { IfOk result (IsReport program.now scope budget) }
+{
+    programs_are_well_formed(program);
+    audited_scopes_have_what_they_call(program);
+    let mut verdicts = vec![in alloc; Verdict::Undecided; program.bodies.len()]?;
+    let mut last = Verdict::Undecided;
+    let mut sections = List::new(alloc);
+    let mut trees = List::new(alloc);
+    for table in tables.as_slice() {
+        let section = section_of(alloc, program, calc, table, budget, &verdicts, &mut trees)?;
+        last = section.verdict;
+        verdicts[table.scope as usize] = last;
+        sections.push(section)?;
+    }
+    let trees = trees_at(last, trees);
+    Ok(Report {
+        tables,
+        sections,
+        trees,
+    })
+}
+
+/// The audit of a scope, in which the search for a target makes at most `budget` leaves. It has the cost of those
+/// searches and of a run for each leaf that isn't covered, up to the first of a target that shows a conflict or a gap.
+pub fn audit(
+    alloc: Global,
+    program: &Program,
+    forests: &[Forest],
+    calc: &Calc,
+    scope: u32,
+    budget: u64,
+) -> Result<Report, AllocError>
+    requires counted { IsCounted program.now }
+    requires forests { AreForestsOf program.now forests.now }
+    requires calc { IsCalcOf program.now calc.now }
+    requires scope { scope < length program.now.bodies }
+    requires budget { 0 < budget }
+    ensures { IfOk result (IsReport program.now scope budget) }
+{
+    let tables = audited_tables(alloc, program, forests, scope)?;
+    report_over(alloc, program, calc, tables, scope, budget)
+}
