@@ -2,10 +2,13 @@
 import pathlib, re, subprocess, sys
 
 from .answers import replies
+from .report import audit
 
 TOP = pathlib.Path(__file__).resolve().parent.parent.parent
 OURS = {'words', 'stdin', 'stdout', 'status', 'files'}
-EXAMPLE = re.compile(r'^\[(\w+)\]\(\.\./tests/cases/\1\)\n\n?(?:````\n(.*?)\n````\n)?.*?\bgives `(.*?)`\.$', re.M | re.S)
+EXAMPLE = re.compile(r'^\[(\w+)\]\(\.\./tests/cases/\1\)\n\n?(?:````\n(.*?)\n````\n)?'
+                     r'(?:\non (?:`(.*?)` |this:\n\n```\n(.*?)\n```))?'
+                     r'.*?\bgives(?: `(.*?)`\.|:\n\n```\n(.*?)\n```)$', re.M | re.S)
 
 
 def files_of(case):
@@ -51,12 +54,28 @@ def cases():
 
 
 def pages():
-    """Each example of the pages: its page and name, its source and reply as its case has them, and as the page does."""
-    for page in ('LANGUAGE.md', 'REFUSALS.md'):
-        for name, source, reply in EXAMPLE.findall((TOP / 'docs' / page).read_text()):
-            case = TOP / 'tests' / 'cases' / name
-            kept = (case / 'a.md').read_bytes().decode(errors='replace').rstrip('\n') if source else ''
-            yield '%s %s' % (page, name), (kept, (case / 'stdout').read_text().rstrip('\n')), {(source, reply)}
+    """Each example of the pages: its page and name, its source, input and reply as its case has them, and as it does."""
+    for page in ('LANGUAGE.md', 'REFUSALS.md', 'AUDIT.md'):
+        for name, source, line, text, reply, report in EXAMPLE.findall((TOP / 'docs' / page).read_text()):
+            case, told = TOP / 'tests' / 'cases' / name, (source, line or text, reply or report)
+            kept = [(case / file).read_bytes().decode(errors='replace').rstrip('\n') if is_told else ''
+                    for file, is_told in zip(('a.md', 'stdin', 'stdout'), told)]
+            yield '%s %s' % (page, name), tuple(kept), {told}
+
+
+def audits():
+    """Each case that audits a scope which there is: its name, what it expects, and the reply."""
+    for case in case_folders():
+        words = (case / 'words').read_text().splitlines() if (case / 'words').exists() else []
+        want = (case / 'stdout').read_text().rstrip('\n') if (case / 'stdout').exists() else ''
+        if words[:1] == ['audit'] and want.startswith('audit '):
+            budget = int(words[words.index('--cases') + 1]) if '--cases' in words else 100_000
+            yield case.name, want, {audit(files_of(case), words[2], words[1], budget)}
+
+
+def without_places(reply):
+    """What a program that knows the law's text alone can tell of a reply."""
+    return reply if reply.startswith('{') else reply.split(' at ')[0]
 
 
 def statutes():
@@ -68,4 +87,4 @@ def statutes():
             told = subprocess.run([sys.executable, law.parent / 'replies.py'], input=given.read_bytes(),
                                   stdout=subprocess.PIPE, check=True)
             found = replies({'law.md': law.read_bytes()}, 'law.md', scope, given.read_bytes())
-            yield '%s %s' % (law.parent.name, given.stem), told.stdout.decode().strip(), found
+            yield '%s %s' % (law.parent.name, given.stem), told.stdout.decode().strip(), set(map(without_places, found))

@@ -1,13 +1,11 @@
 -- What follows from the answers of the top call.
-use Rattle.std.proofs.Common.{◌≡◌, ◌≢◌, ◌∙◌, ◌≤◌, ◌<◌, ℕ, Bool, false, List, [], refl, sym, ap, subst, inl, inr, arith, ⊎_elim}
-use Rattle.std.specs.Prelude.{◌⊎◌, Option, Some, None, Ok, Err, IsSomeAnd, IfSome, IsNone, codes, length}
+use Rattle.std.proofs.Common.{◌≡◌, ◌≢◌, ◌∙◌, ◌≤◌, ◌<◌, ℕ, List, [], refl, sym, ap, subst, inl, inr, arith, ⊎_elim}
+use Rattle.std.specs.Prelude.{◌⊎◌, Option, Some, None, Ok, Err, IsSomeAnd, IfSome, IsNone, IsTrue, codes, length}
 use Rattle.std.specs.Io.KnownBytes.{Appends}
 use Rattle.cat_pos.specs.declared.limits.TheConstants.{MOST_INPUT_BYTES}
 use Rattle.cat_pos.specs.declared.pos.Piece.{Piece}
-use Rattle.cat_io.specs.Count.{FaultsRose}
-use Rattle.cat_io.specs.Shelf.{Shelved, Reads}
+use Rattle.cat_io.specs.Shelf.{Shelved}
 use Rattle.cat_io.specs.Sink.{Sunk, Took}
-use Rattle.cat_io.specs.declared.shelf.ShelfFault.{ShelfFault}
 use Rattle.cat_io.specs.declared.shelf.ShelfFault.TheVariants as shelf
 use Rattle.cat_value.specs.declared.value.Value.{Value}
 use Rattle.cat_value.specs.declared.decls.Decls.{Decls}
@@ -17,6 +15,10 @@ use Rattle.cat_scope.specs.Named.{number_named}
 use Rattle.cat_scope.specs.Outcomes.{scope_outcome}
 use Rattle.cat_json.specs.InputsRead.{input_read}
 use Rattle.cat_answer.specs.Answer.{answer_of}
+use Rattle.cat_audit.specs.declared.report.Report.{Report}
+use Rattle.cat_audit.specs.declared.report.Verdict.{Verdict}
+use Rattle.cat_audit.specs.declared.report.Verdict.TheVariants as verdict
+use Rattle.cat_audit.specs.Reports.{last_verdict}
 use Rattle.cat_gather.specs.declared.source.Source.{Source}
 use Rattle.cat_gather.specs.Gathered.{Contents, Ending, Whole, Refused, gathered, limit_after}
 use Rattle.cat_gather.specs.Causes.{ComesTo, HasEnding}
@@ -24,42 +26,18 @@ use Rattle.cat_build.specs.declared.code.BuildRefusal.{BuildRefusal}
 use Rattle.cat_build.specs.declared.code.BuildRefusal.TheVariants as building
 use Rattle.cat_build.specs.Accepted.{IsAccepted}
 use Rattle.cat_build.specs.Causes.{HasCause}
-use Rattle.cat_app.specs.Words.{Request, request_of}
+use Rattle.cat_app.specs.Words.{Request, reads_extra, request_of}
 use Rattle.cat_app.specs.Asked.{IsSource, IsExtra, IsAsked, IsReadNow}
 use Rattle.cat_app.specs.Answers.{IsOutcome, IsRefusedFile, IsRefusedSource, IsNoScope, IsRefusedInput, IsRefusedRead}
 use Rattle.cat_app.specs.Answers.{line}
-use Rattle.cat_app.specs.Table.{Answers}
-use Rattle.cat_app.specs.Complete.{NameRose, NoFileRose, IsToldRun, WritesOutcome, EndsRun, is_fault}
+use Rattle.cat_app.specs.Audits.{HasReport, IsAudited, audit_text, status_at}
+use Rattle.cat_app.specs.Table.{Answers, MayAnswer, MayReply}
+use Rattle.cat_app.specs.declared.request.Mode.TheVariants.{Run, Audit, Check}
+use Rattle.cat_app.specs.Complete.{IsToldScope, IsToldRun, WritesOutcome, EndsRun}
+use Rattle.cat_app.specs.Complete.{WritesReport, EndsAudit, EndsCheck, IsComplete, IsToldCheck}
+use Rattle.cat_app.specs.Checks.{HasCertificate, HasNoCertificate, IsChecked}
 use Rattle.cat_app.specs.declared.status.Status.{Status}
 use Rattle.cat_app.specs.declared.status.Status.TheVariants as status
-
--- ---- a fault has its count
-
--- where a request is asked for, of it
-on_some : {A : Type 0} {P Q : A → Type 0} {R : Type 0} (o : Option A) → IsSomeAnd o P → IfSome o Q
-    → ((x : A) → P x → Q x → R) → R
-on_some None p q step = absurd p
-on_some (Some x) p q step = step x p q
-
--- no file was refused where no count rose
-none_refused : (words : List (List ℕ)) (old new : Shelved) (fault : ShelfFault) (text line : List ℕ)
-    → ((name : List ℕ) (limit : ℕ) → Reads name limit old new (Err fault) → NameRose name old new)
-    → IsSomeAnd (request_of words) (λ request. IsRefusedRead request old new fault line text)
-    → NoFileRose words old new → ⊥
-none_refused words old new fault text line rises may none =
-    on_some (request_of words) may none (λ request is still. still is.name is.limit is.now (rises is.name is.limit is.read))
-
-pub no_fault : (words : List (List ℕ)) (old new : Shelved) (sink sunk : Sunk) (ended : Status)
-    → Answers words old new sink sunk ended → NoFileRose words old new → (FaultsRose sink.faults sunk.faults → ⊥)
-    → is_fault ended ≡ false
-no_fault words old new sink sunk status.Missing is none steady =
-    absurd (none_refused words old new shelf.Missing is.0 _ (λ name limit reads. inl reads.1) is.1 none)
-no_fault words old new sink sunk status.ReadFault is none steady =
-    absurd (none_refused words old new shelf.Failed is.0 _ (λ name limit reads. inr (inl reads.1)) is.1 none)
-no_fault words old new sink sunk status.TooLarge is none steady =
-    absurd (none_refused words old new shelf.Long is.0 _ (λ name limit reads. inr (inr reads.1)) is.1 none)
-no_fault words old new sink sunk status.WriteFault is none steady = absurd (steady is.failed.rose)
-no_fault words old new sink sunk _ is none steady = refl
 
 -- ---- over told contents
 
@@ -97,10 +75,21 @@ not_longer : (o : Option (List ℕ)) (limit most : ℕ) → limit ≡ most
 not_longer None limit most is short long = absurd short
 not_longer (Some content) limit most is short long = absurd (omega (arith, is, short, long))
 
+-- `Fine` is the status of Complete alone
+is_complete : (v : Verdict) → status_at v ≡ status.Fine → v ≡ verdict.Complete
+is_complete verdict.Found is = cc is
+is_complete verdict.Masked is = cc is
+is_complete verdict.Undecided is = cc is
+is_complete verdict.Complete is = refl
+
+complete_of : {program : Program} {scope most : ℕ} (report : Report) → HasReport program scope most report
+    → status_at (last_verdict report.sections) ≡ status.Fine → IsComplete program scope report
+complete_of report is fine =
+    let last = is_complete (last_verdict report.sections) fine in (last, is.no_gap last)
+
 module _ (one_program : IsOneProgram) (not_accepted : AreNotAccepted) (endings : EndingsAreTold) (files : FilesAreTold)
     (words : List (List ℕ)) (old new : Shelved) (sink sunk : Sunk) (request : Request) (source : Source)
-    (program : Program) (scope : ℕ) (input : List (Option Value))
-    (told : IsToldRun words old request source program scope input) where
+    (program : Program) (scope : ℕ) (told : IsToldScope words old request source program scope) where
   -- what may be answered is answered to this request
   asked_is : (P : Request → Type 0) → IsSomeAnd (request_of words) P → P request
   asked_is P may = subst (λ (o : Option Request). IsSomeAnd o P) told.asked may
@@ -124,41 +113,6 @@ module _ (one_program : IsOneProgram) (not_accepted : AreNotAccepted) (endings :
       subst (λ (p : Program). number_named request.scope 0 p.decls.scopes ≡ Some number) (sym same) named in
       cc (told.named, here)
 
-  extra_is : (other : List ℕ) → IsExtra request old other → other ≡ told.extra
-  extra_is other read = of_told (λ content. other ≡ content) (old.content request.extra) told.extra told.extra_told read.content
-
-  -- what is read of the input is this
-  read_as : (other : Program) (number : ℕ) (extra : List ℕ) → program ≡ other → scope ≡ number → extra ≡ told.extra
-      → input_read other.decls number extra ≡ Ok input
-  read_as other number extra program_is scope_is extra_is =
-      ap (λ (p : Program). input_read p.decls number extra) (sym program_is)
-      ∙ (ap (λ n. input_read program.decls n extra) (sym scope_is)
-      ∙ (ap (λ (e : List ℕ). input_read program.decls scope e) extra_is ∙ told.input_is))
-
-  outcome_written : (ended : Status) (text : List ℕ) → IsOutcome request old new ended text → Took sink sunk text
-      → WritesOutcome sink sunk source program scope input ended
-  outcome_written ended text o took =
-      let sources = source_is o.source o.asked.source_read in
-      let programs = program_of o.source o.program o.asked.source_read o.asked.accepted in
-      let scopes = scope_of o.program o.scope programs o.asked.named in
-      let read = read_as o.program o.scope o.extra programs scopes (extra_is o.extra o.extra_read) in
-      let inputs : input ≡ o.input = cc (read, o.input_is) in
-      let outcome_is : scope_outcome program scope input ≡ Some o.outcome =
-      ap (λ (p : Program). scope_outcome p scope input) programs
-      ∙ (ap (λ n. scope_outcome o.program n input) scopes
-      ∙ (ap (λ (i : List (Option Value)). scope_outcome o.program o.scope i) inputs ∙ o.outcome_is)) in
-      let text_is : text ≡ line (answer_of program.decls scope source.files o.outcome) [] =
-      o.reply
-      ∙ (ap (λ (s : Source). line (answer_of o.program.decls o.scope s.files o.outcome) []) sources
-      ∙ (ap (λ n. line (answer_of o.program.decls n source.files o.outcome) []) (sym scopes)
-      ∙ ap (λ (p : Program). line (answer_of p.decls scope source.files o.outcome) []) (sym programs))) in
-      record {
-        outcome = o.outcome;
-        outcome_is = outcome_is;
-        status = o.status;
-        written = subst (λ (t : List ℕ). Appends sink.taken sunk.taken t) text_is took.taken;
-      }
-
   no_file : (text : List ℕ) → IsRefusedFile request old new text → ⊥
   no_file text is =
       let same : Refused is.refusal ≡ Whole source =
@@ -178,54 +132,270 @@ module _ (one_program : IsOneProgram) (not_accepted : AreNotAccepted) (endings :
       subst (λ (p : Program). number_named request.scope 0 p.decls.scopes ≡ None) (sym programs) is.unnamed in
       cc (told.named, here)
 
-  no_input : (text : List ℕ) → IsRefusedInput request old new text → ⊥
-  no_input text is =
-      let programs = program_of is.source is.program is.asked.source_read is.asked.accepted in
-      let scopes = scope_of is.program is.scope programs is.asked.named in
-      let read = read_as is.program is.scope is.extra programs scopes (extra_is is.extra is.extra_read) in
-      cc (read, is.refused)
-
-  not_missing : (name : List ℕ) (limit : ℕ) → IsReadNow request old name limit → IsNone (old.content name) → ⊥
-  not_missing name limit (inl now) none =
+  -- the source is told, and so is the input of a run
+  no_source_missing : (name : List ℕ) (limit : ℕ) → ((bytes : ℕ) × ComesTo old.content request.file name bytes
+      × (limit ≡ limit_after bytes)) → IsNone (old.content name) → ⊥
+  no_source_missing name limit now none =
       some_there (λ content. length content ≤ limit_after now.0) (old.content name)
       (files old.content request.file name source now.0 told.source_told now.1) none
-  not_missing name limit (inr now) none =
-      none_there (old.content name) told.extra (ap old.content now.0 ∙ told.extra_told) none
 
-  not_large : (name : List ℕ) (limit : ℕ) → IsReadNow request old name limit
-      → IfSome (old.content name) (λ content. limit < length content) → ⊥
-  not_large name limit (inl now) long =
+  no_source_large : (name : List ℕ) (limit : ℕ) → ((bytes : ℕ) × ComesTo old.content request.file name bytes
+      × (limit ≡ limit_after bytes)) → IfSome (old.content name) (λ content. limit < length content) → ⊥
+  no_source_large name limit now long =
       not_longer (old.content name) limit (limit_after now.0) now.2
       (files old.content request.file name source now.0 told.source_told now.1) long
-  not_large name limit (inr now) long =
-      let longer : limit < length told.extra =
-      of_told (λ content. limit < length content) (old.content name) told.extra
-      (ap old.content now.0 ∙ told.extra_told) long in
-      absurd (omega (arith, longer, now.1, told.extra_short))
 
-  pub ends_run : (ended : Status) → Answers words old new sink sunk ended
-      → EndsRun sink sunk source program scope input ended
-  ends_run status.Fine is = outcome_written status.Fine is.0 (asked_is (λ r. IsOutcome r old new status.Fine is.0) is.1) is.2
-  ends_run status.Conflict is = outcome_written status.Conflict is.0 (asked_is (λ r. IsOutcome r old new status.Conflict is.0) is.1) is.2
-  ends_run status.NoValue is = outcome_written status.NoValue is.0 (asked_is (λ r. IsOutcome r old new status.NoValue is.0) is.1) is.2
-  ends_run status.Fault is = outcome_written status.Fault is.0 (asked_is (λ r. IsOutcome r old new status.Fault is.0) is.1) is.2
-  ends_run status.Source is = absurd (⊎_elim (no_file is.0) (no_source is.0)
-      (asked_is (λ r. IsRefusedFile r old new is.0 ⊎ IsRefusedSource r old new is.0) is.1))
-  ends_run status.Input is = absurd (no_input is.0 (asked_is (λ r. IsRefusedInput r old new is.0) is.1))
-  ends_run status.Found is = absurd (asked_is (λ r. ⊥) is.1)
-  ends_run status.Unsettled is = absurd (asked_is (λ r. ⊥) is.1)
-  ends_run status.Certificate is = absurd (asked_is (λ r. ⊥) is.1)
-  ends_run status.Usage is =
-      absurd (⊎_elim (λ none. none_asked none.no_request) (λ may. no_scope is.0 (asked_is (λ r. IsNoScope r old new is.0) may)) is.1)
-    where
-      none_asked : IsNone (request_of words) → ⊥
-      none_asked none = cc (subst (λ (o : Option Request). IsNone o) told.asked none)
-  ends_run status.Missing is =
-      let read = asked_is (λ r. IsRefusedRead r old new shelf.Missing (codes "missing file ") is.0) is.1 in
-      absurd (not_missing read.name read.limit read.now read.read.2)
-  ends_run status.ReadFault is = tt
-  ends_run status.WriteFault is = tt
-  ends_run status.Memory is = tt
-  ends_run status.TooLarge is =
-      let read = asked_is (λ r. IsRefusedRead r old new shelf.Long (codes "too large ") is.0) is.1 in
-      absurd (not_large read.name read.limit read.now read.read.2)
+  none_asked : IsNone (request_of words) → ⊥
+  none_asked none = cc (subst (λ (o : Option Request). IsNone o) told.asked none)
+
+  refused_usage : (text : List ℕ) → MayReply words old new status.Usage text → ⊥
+  refused_usage text may =
+      ⊎_elim (λ none. none_asked none.no_request) (λ a. no_scope text (asked_is (λ r. IsNoScope r old new text) a)) may
+
+  refused_source : (text : List ℕ) → IsSomeAnd (request_of words) (λ r. MayAnswer r old new status.Source text) → ⊥
+  refused_source text may = ⊎_elim (no_file text) (no_source text)
+      (asked_is (λ r. IsRefusedFile r old new text ⊎ IsRefusedSource r old new text) may)
+
+  -- the report that is answered is one of this program's scope
+  report_written : (ended : Status) (text : List ℕ) → IsAudited request old new ended text → Took sink sunk text
+      → WritesReport sink sunk request source program scope ended
+  report_written ended text a took =
+      let sources = source_is a.source a.asked.source_read in
+      let programs = program_of a.source a.program a.asked.source_read a.asked.accepted in
+      let scopes = scope_of a.program a.scope programs a.asked.named in
+      let report_is : HasReport program scope a.most a.report =
+      subst (λ (p : Program). HasReport p scope a.most a.report) (sym programs)
+      (subst (λ n. HasReport a.program n a.most a.report) (sym scopes) a.report_is) in
+      let text_is : text ≡ audit_text program.decls source.files a.most a.report =
+      a.reply
+      ∙ (ap (λ (s : Source). audit_text a.program.decls s.files a.most a.report) sources
+      ∙ ap (λ (p : Program). audit_text p.decls source.files a.most a.report) (sym programs)) in
+      record {
+        most = a.most;
+        report = a.report;
+        most_is = a.most_is;
+        report_is = report_is;
+        status = a.status;
+        written = subst (λ (t : List ℕ). Appends sink.taken sunk.taken t) text_is took.taken;
+        complete = λ fine. complete_of a.report report_is (sym a.status ∙ fine);
+      }
+
+  -- ---- of an audit
+
+  module _ (audits : request.mode ≡ Audit) where
+    not_run : request.mode ≡ Run → ⊥
+    not_run runs = cc (runs, audits)
+
+    not_check : request.mode ≡ Check → ⊥
+    not_check checks = cc (checks, audits)
+
+    not_read : IsTrue (reads_extra request.mode) → ⊥
+    not_read reads = cc (ap reads_extra audits, reads)
+
+    audit_missing : (name : List ℕ) (limit : ℕ) → IsReadNow request old name limit → IsNone (old.content name) → ⊥
+    audit_missing name limit (inl now) none = no_source_missing name limit now none
+    audit_missing name limit (inr now) none = not_read now.2
+
+    audit_large : (name : List ℕ) (limit : ℕ) → IsReadNow request old name limit
+        → IfSome (old.content name) (λ content. limit < length content) → ⊥
+    audit_large name limit (inl now) long = no_source_large name limit now long
+    audit_large name limit (inr now) long = not_read now.2
+
+    no_outcome : (ended : Status) (text : List ℕ) → IsOutcome request old new ended text → ⊥
+    no_outcome ended text o = not_run o.mode
+
+    pub ends_audit : (ended : Status) → Answers words old new sink sunk ended
+        → EndsAudit sink sunk request source program scope ended
+    ends_audit status.Fine is = ⊎_elim (λ o. absurd (no_outcome status.Fine is.0 o))
+        (⊎_elim (λ a. report_written status.Fine is.0 a is.2) (λ k. absurd (not_check k.mode)))
+        (asked_is (λ r. MayAnswer r old new status.Fine is.0) is.1)
+    ends_audit status.Conflict is =
+        absurd (no_outcome status.Conflict is.0 (asked_is (λ r. IsOutcome r old new status.Conflict is.0) is.1))
+    ends_audit status.NoValue is =
+        absurd (no_outcome status.NoValue is.0 (asked_is (λ r. IsOutcome r old new status.NoValue is.0) is.1))
+    ends_audit status.Fault is =
+        absurd (no_outcome status.Fault is.0 (asked_is (λ r. IsOutcome r old new status.Fault is.0) is.1))
+    ends_audit status.Source is = absurd (refused_source is.0 is.1)
+    ends_audit status.Input is =
+        let refused = asked_is (λ r. IsRefusedInput r old new is.0) is.1 in absurd (not_run refused.mode)
+    ends_audit status.Found is =
+        report_written status.Found is.0 (asked_is (λ r. IsAudited r old new status.Found is.0) is.1) is.2
+    ends_audit status.Unsettled is =
+        report_written status.Unsettled is.0 (asked_is (λ r. IsAudited r old new status.Unsettled is.0) is.1) is.2
+    ends_audit status.Certificate is =
+        let refused = asked_is (λ r. IsChecked HasNoCertificate r old new is.0) is.1 in absurd (not_check refused.mode)
+    ends_audit status.Usage is = absurd (refused_usage is.0 is.1)
+    ends_audit status.Missing is =
+        let read = asked_is (λ r. IsRefusedRead r old new shelf.Missing (codes "missing file ") is.0) is.1 in
+        absurd (audit_missing read.name read.limit read.now read.read.2)
+    ends_audit status.ReadFault is = tt
+    ends_audit status.WriteFault is = tt
+    ends_audit status.Memory is = tt
+    ends_audit status.TooLarge is =
+        let read = asked_is (λ r. IsRefusedRead r old new shelf.Long (codes "too large ") is.0) is.1 in
+        absurd (audit_large read.name read.limit read.now read.read.2)
+
+  -- ---- where the file that EXTRA names is told
+
+  module _ (extra : List ℕ) (extra_told : old.content request.extra ≡ Some extra)
+      (extra_short : length extra ≤ MOST_INPUT_BYTES) where
+    extra_is : (other : List ℕ) → IsExtra request old other → other ≡ extra
+    extra_is other read =
+        of_told (λ content. other ≡ content) (old.content request.extra) extra extra_told read.content
+
+    not_missing : (name : List ℕ) (limit : ℕ) → IsReadNow request old name limit → IsNone (old.content name) → ⊥
+    not_missing name limit (inl now) none = no_source_missing name limit now none
+    not_missing name limit (inr now) none =
+        none_there (old.content name) extra (ap old.content now.0 ∙ extra_told) none
+
+    not_large : (name : List ℕ) (limit : ℕ) → IsReadNow request old name limit
+        → IfSome (old.content name) (λ content. limit < length content) → ⊥
+    not_large name limit (inl now) long = no_source_large name limit now long
+    not_large name limit (inr now) long =
+        let longer : limit < length extra =
+        of_told (λ content. limit < length content) (old.content name) extra
+        (ap old.content now.0 ∙ extra_told) long in
+        absurd (omega (arith, longer, now.1, extra_short))
+
+  -- ---- of a run
+
+  module _ (input : List (Option Value)) (run : IsToldRun words old request source program scope input) where
+    run_extra : (other : List ℕ) → IsExtra request old other → other ≡ run.extra
+    run_extra other read = extra_is run.extra run.extra_told run.extra_short other read
+
+    -- what is read of the input is this
+    read_as : (other : Program) (number : ℕ) (extra : List ℕ) → program ≡ other → scope ≡ number → extra ≡ run.extra
+        → input_read other.decls number extra ≡ Ok input
+    read_as other number extra program_is scope_is extra_is =
+        ap (λ (p : Program). input_read p.decls number extra) (sym program_is)
+        ∙ (ap (λ n. input_read program.decls n extra) (sym scope_is)
+        ∙ (ap (λ (e : List ℕ). input_read program.decls scope e) extra_is ∙ run.input_is))
+
+    outcome_written : (ended : Status) (text : List ℕ) → IsOutcome request old new ended text → Took sink sunk text
+        → WritesOutcome sink sunk source program scope input ended
+    outcome_written ended text o took =
+        let sources = source_is o.source o.asked.source_read in
+        let programs = program_of o.source o.program o.asked.source_read o.asked.accepted in
+        let scopes = scope_of o.program o.scope programs o.asked.named in
+        let read = read_as o.program o.scope o.extra programs scopes (run_extra o.extra o.extra_read) in
+        let inputs : input ≡ o.input = cc (read, o.input_is) in
+        let outcome_is : scope_outcome program scope input ≡ Some o.outcome =
+        ap (λ (p : Program). scope_outcome p scope input) programs
+        ∙ (ap (λ n. scope_outcome o.program n input) scopes
+        ∙ (ap (λ (i : List (Option Value)). scope_outcome o.program o.scope i) inputs ∙ o.outcome_is)) in
+        let text_is : text ≡ line (answer_of program.decls scope source.files o.outcome) [] =
+        o.reply
+        ∙ (ap (λ (s : Source). line (answer_of o.program.decls o.scope s.files o.outcome) []) sources
+        ∙ (ap (λ n. line (answer_of o.program.decls n source.files o.outcome) []) (sym scopes)
+        ∙ ap (λ (p : Program). line (answer_of p.decls scope source.files o.outcome) []) (sym programs))) in
+        record {
+          outcome = o.outcome;
+          outcome_is = outcome_is;
+          status = o.status;
+          written = subst (λ (t : List ℕ). Appends sink.taken sunk.taken t) text_is took.taken;
+        }
+
+    no_input : (text : List ℕ) → IsRefusedInput request old new text → ⊥
+    no_input text is =
+        let programs = program_of is.source is.program is.asked.source_read is.asked.accepted in
+        let scopes = scope_of is.program is.scope programs is.asked.named in
+        let read = read_as is.program is.scope is.extra programs scopes (run_extra is.extra is.extra_read) in
+        cc (read, is.refused)
+
+    not_checked : request.mode ≡ Check → ⊥
+    not_checked checks = cc (checks, run.mode)
+
+    not_audited : (ended : Status) (text : List ℕ) → IsAudited request old new ended text → ⊥
+    not_audited ended text a = cc (a.mode, run.mode)
+
+    pub ends_run : (ended : Status) → Answers words old new sink sunk ended
+        → EndsRun sink sunk source program scope input ended
+    ends_run status.Fine is = ⊎_elim (λ o. outcome_written status.Fine is.0 o is.2)
+        (⊎_elim (λ a. absurd (not_audited status.Fine is.0 a)) (λ k. absurd (not_checked k.mode)))
+        (asked_is (λ r. MayAnswer r old new status.Fine is.0) is.1)
+    ends_run status.Conflict is =
+        outcome_written status.Conflict is.0 (asked_is (λ r. IsOutcome r old new status.Conflict is.0) is.1) is.2
+    ends_run status.NoValue is =
+        outcome_written status.NoValue is.0 (asked_is (λ r. IsOutcome r old new status.NoValue is.0) is.1) is.2
+    ends_run status.Fault is =
+        outcome_written status.Fault is.0 (asked_is (λ r. IsOutcome r old new status.Fault is.0) is.1) is.2
+    ends_run status.Source is = absurd (refused_source is.0 is.1)
+    ends_run status.Input is = absurd (no_input is.0 (asked_is (λ r. IsRefusedInput r old new is.0) is.1))
+    ends_run status.Found is =
+        absurd (not_audited status.Found is.0 (asked_is (λ r. IsAudited r old new status.Found is.0) is.1))
+    ends_run status.Unsettled is =
+        absurd (not_audited status.Unsettled is.0 (asked_is (λ r. IsAudited r old new status.Unsettled is.0) is.1))
+    ends_run status.Certificate is =
+        let refused = asked_is (λ r. IsChecked HasNoCertificate r old new is.0) is.1 in
+        absurd (not_checked refused.mode)
+    ends_run status.Usage is = absurd (refused_usage is.0 is.1)
+    ends_run status.Missing is =
+        let read = asked_is (λ r. IsRefusedRead r old new shelf.Missing (codes "missing file ") is.0) is.1 in
+        absurd (not_missing run.extra run.extra_told run.extra_short read.name read.limit read.now read.read.2)
+    ends_run status.ReadFault is = tt
+    ends_run status.WriteFault is = tt
+    ends_run status.Memory is = tt
+    ends_run status.TooLarge is =
+        let read = asked_is (λ r. IsRefusedRead r old new shelf.Long (codes "too large ") is.0) is.1 in
+        absurd (not_large run.extra run.extra_told run.extra_short read.name read.limit read.now read.read.2)
+
+  -- ---- of a check
+
+  module _ (extra : List ℕ) (check : IsToldCheck words old request source program scope extra) where
+    -- what is said is said of this program's scope and these bytes
+    said_here : (Says : Program → ℕ → List ℕ → List ℕ → Type 0) (text : List ℕ) → IsChecked Says request old new text
+        → Says program scope extra text
+    said_here Says text k =
+        let programs = program_of k.source k.program k.asked.source_read k.asked.accepted in
+        let scopes = scope_of k.program k.scope programs k.asked.named in
+        let same = extra_is extra check.extra_told check.extra_short k.extra k.extra_read in
+        subst (λ (p : Program). Says p scope extra text) (sym programs)
+        (subst (λ n. Says k.program n extra text) (sym scopes)
+        (subst (λ (e : List ℕ). Says k.program k.scope e text) same k.says))
+
+    check_runs : request.mode ≡ Run → ⊥
+    check_runs runs = cc (runs, check.mode)
+
+    check_audits : request.mode ≡ Audit → ⊥
+    check_audits audits = cc (audits, check.mode)
+
+    no_outcome_checked : (ended : Status) (text : List ℕ) → IsOutcome request old new ended text → ⊥
+    no_outcome_checked ended text o = check_runs o.mode
+
+    no_audit_checked : (ended : Status) (text : List ℕ) → IsAudited request old new ended text → ⊥
+    no_audit_checked ended text a = check_audits a.mode
+
+    pub ends_check : (ended : Status) → Answers words old new sink sunk ended
+        → EndsCheck sink sunk program scope extra ended
+    ends_check status.Fine is = ⊎_elim (λ o. absurd (no_outcome_checked status.Fine is.0 o))
+        (⊎_elim (λ a. absurd (no_audit_checked status.Fine is.0 a))
+        (λ k. (is.0, said_here HasCertificate is.0 k, is.2.taken)))
+        (asked_is (λ r. MayAnswer r old new status.Fine is.0) is.1)
+    ends_check status.Conflict is = absurd
+        (no_outcome_checked status.Conflict is.0 (asked_is (λ r. IsOutcome r old new status.Conflict is.0) is.1))
+    ends_check status.NoValue is = absurd
+        (no_outcome_checked status.NoValue is.0 (asked_is (λ r. IsOutcome r old new status.NoValue is.0) is.1))
+    ends_check status.Fault is = absurd
+        (no_outcome_checked status.Fault is.0 (asked_is (λ r. IsOutcome r old new status.Fault is.0) is.1))
+    ends_check status.Source is = absurd (refused_source is.0 is.1)
+    ends_check status.Input is =
+        let refused = asked_is (λ r. IsRefusedInput r old new is.0) is.1 in absurd (check_runs refused.mode)
+    ends_check status.Found is = absurd
+        (no_audit_checked status.Found is.0 (asked_is (λ r. IsAudited r old new status.Found is.0) is.1))
+    ends_check status.Unsettled is = absurd
+        (no_audit_checked status.Unsettled is.0 (asked_is (λ r. IsAudited r old new status.Unsettled is.0) is.1))
+    ends_check status.Certificate is = (
+      is.0,
+      said_here HasNoCertificate is.0 (asked_is (λ r. IsChecked HasNoCertificate r old new is.0) is.1),
+      is.2.taken,
+    )
+    ends_check status.Usage is = absurd (refused_usage is.0 is.1)
+    ends_check status.Missing is =
+        let read = asked_is (λ r. IsRefusedRead r old new shelf.Missing (codes "missing file ") is.0) is.1 in
+        absurd (not_missing extra check.extra_told check.extra_short read.name read.limit read.now read.read.2)
+    ends_check status.ReadFault is = tt
+    ends_check status.WriteFault is = tt
+    ends_check status.Memory is = tt
+    ends_check status.TooLarge is =
+        let read = asked_is (λ r. IsRefusedRead r old new shelf.Long (codes "too large ") is.0) is.1 in
+        absurd (not_large extra check.extra_told check.extra_short read.name read.limit read.now read.read.2)

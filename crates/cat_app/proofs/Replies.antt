@@ -1,7 +1,7 @@
 -- Which replies the steps of a call lead to.
 use Rattle.std.proofs.Common.{◌≡◌, ◌≢◌, ◌∙◌, ◌≤◌, ◌<◌, ◌+◌, ℕ, Bool, true, false, List, [], ◌∷◌, refl, sym, ap, subst, inl, inr, arith}
 use Rattle.std.specs.Prelude.{Option, Some, None, Result, Ok, Err, IfOk, codes, length, string_bytes, if◌then◌else◌}
-use Rattle.std.specs.Prelude.{bytes_eq}
+use Rattle.std.specs.Prelude.{bytes_eq, IsTrue}
 use Rattle.cat_pos.specs.declared.limits.TheConstants.{MOST_INPUT_BYTES}
 use Rattle.cat_pos.specs.declared.pos.Pos.{Pos}
 use Rattle.cat_io.specs.Shelf.{Shelved, Reads, Keeps, GrowsBy, ListsGrowBy}
@@ -15,6 +15,9 @@ use Rattle.cat_scope.specs.declared.programs.Program.{Program}
 use Rattle.cat_scope.specs.Named.{number_named}
 use Rattle.cat_scope.specs.Outcomes.{scope_outcome}
 use Rattle.cat_calc.specs.Calculus.{calc_outcome}
+use Rattle.cat_audit.specs.declared.report.Verdict.{Verdict}
+use Rattle.cat_audit.specs.declared.report.Verdict.TheVariants as verdict
+use Rattle.cat_audit.specs.Reports.{last_verdict}
 use Rattle.cat_json.specs.declared.refusal.InputRefusal.{InputRefusal}
 use Rattle.cat_json.specs.declared.refusal.InputRefusal.TheVariants as refused
 use Rattle.cat_json.specs.InputsRead.{input_read}
@@ -30,11 +33,15 @@ use Rattle.cat_build.specs.Accepted.{IsAccepted}
 use Rattle.cat_build.specs.Built.{IsBuiltOf}
 use Rattle.cat_build.specs.Causes.{StandsAt}
 use Rattle.cat_build.specs.Codes.{number_of}
-use Rattle.cat_app.specs.Words.{Request, request_of}
+use Rattle.cat_app.specs.Words.{Request, IsMost, reads_extra, request_of}
 use Rattle.cat_app.specs.Asked.{IsSource, IsExtra, IsAsked, IsReadNow}
+use Rattle.cat_app.specs.declared.request.Mode.TheVariants.{Run, Audit, Check}
+use Rattle.cat_app.specs.Audits.{IsAudited, status_at}
+use Rattle.cat_app.specs.Checks.{HasCertificate, HasNoCertificate, IsChecked}
 use Rattle.cat_app.specs.Answers.{IsOutcome, input_line, refusal_line, line, status_of}
 use Rattle.cat_app.specs.Table.{MayAnswer, MayReply, ListsOne}
-use Rattle.cat_app.specs.inside.Says.{Says, SaysFault, SaysGathering, SaysInput, SaysOf, MaySay}
+use Rattle.cat_app.specs.inside.Says.{Says, SaysChecked, SaysFault, SaysGathering}
+use Rattle.cat_app.specs.inside.Says.{SaysInput, SaysOf, SaysReport, MaySay}
 use Rattle.cat_app.specs.declared.reply.Reply.{Reply}
 use Rattle.cat_app.specs.declared.status.Status.{Status}
 use Rattle.cat_app.specs.declared.status.Status.TheVariants.{Source as SourceStatus, Input, Usage}
@@ -187,23 +194,25 @@ asked_for request old source built scope read is named =
 -- the input can't be read
 pub no_extra : (request : Request) (old new : Shelved) (source : Source) (program : Program) (scope : ℕ)
     (fault : ShelfFault) (reply : Reply) → Reads request.extra MOST_INPUT_BYTES old new (Err fault)
-    → SaysFault request.extra fault reply → IsAsked request old source program scope → MaySay request old new reply
-no_extra request old new source program scope fault reply read says asked =
+    → SaysFault request.extra fault reply → IsAsked request old source program scope
+    → IsTrue (reads_extra request.mode) → MaySay request old new reply
+no_extra request old new source program scope fault reply read says asked mode =
     refused_now request old new request.extra MOST_INPUT_BYTES fault reply
-    (inr (refl, refl, (source, program, scope, asked))) read says
+    (inr (refl, refl, mode, (source, program, scope, asked))) read says
 
 -- the input is none of the scope's
 pub no_input : (request : Request) (old new : Shelved) (source : Source) (program : Program) (scope : ℕ)
     (extra : List ℕ) (refusal : InputRefusal) (reply : Reply) → IsExtra request old extra → new ≡ old
     → input_read program.decls scope extra ≡ Err refusal → SaysInput refusal reply
-    → IsAsked request old source program scope → MaySay request old new reply
-no_input request old new source program scope extra refusal reply extra_read same none says asked =
+    → IsAsked request old source program scope → request.mode ≡ Run → MaySay request old new reply
+no_input request old new source program scope extra refusal reply extra_read same none says asked mode =
     rw says.0 (record {
       source = source;
       program = program;
       scope = scope;
       extra = extra;
       refusal = refusal;
+      mode = mode;
       asked = asked;
       extra_read = extra_read;
       refused = none;
@@ -219,7 +228,7 @@ not_memory refusal reply says is =
 -- an outcome answers with its own status
 outcome_answers : (request : Request) (old new : Shelved) (ended : Outcome) (text : List ℕ)
     → IsOutcome request old new (status_of ended) text → MayAnswer request old new (status_of ended) text
-outcome_answers request old new (outcome.Value values) text is = is
+outcome_answers request old new (outcome.Value values) text is = inl is
 outcome_answers request old new (outcome.Conflict target positions) text is = is
 outcome_answers request old new (outcome.NoValue target pos) text is = is
 outcome_answers request old new (outcome.Fault kind pos) text is = is
@@ -229,8 +238,8 @@ pub an_outcome : (request : Request) (old new : Shelved) (source : Source) (buil
     (extra : List ℕ) (input : List (Option Value)) (reply : Reply) → IsExtra request old extra → new ≡ old
     → input_read built.program.decls scope extra ≡ Ok input → IsBuiltOf source.pieces built
     → SaysOf built.program.decls scope source.files (calc_outcome built.calc scope input) reply
-    → IsAsked request old source built.program scope → MaySay request old new reply
-an_outcome request old new source built scope extra input reply extra_read same known is says asked =
+    → IsAsked request old source built.program scope → request.mode ≡ Run → MaySay request old new reply
+an_outcome request old new source built scope extra input reply extra_read same known is says asked mode =
     rw says.says.0 (outcome_answers request old new says.outcome (string_bytes reply.text) (record {
       source = source;
       program = built.program;
@@ -238,6 +247,7 @@ an_outcome request old new source built scope extra input reply extra_read same 
       extra = extra;
       input = input;
       outcome = says.outcome;
+      mode = mode;
       asked = asked;
       extra_read = extra_read;
       input_is = known;
@@ -246,6 +256,65 @@ an_outcome request old new source built scope extra input reply extra_read same 
       status = refl;
       reply = says.says.1;
     }))
+
+-- a report answers with the status of its last verdict
+report_answers : (request : Request) (old new : Shelved) (v : Verdict) (text : List ℕ)
+    → IsAudited request old new (status_at v) text → MayAnswer request old new (status_at v) text
+report_answers request old new verdict.Found text is = is
+report_answers request old new verdict.Masked text is = is
+report_answers request old new verdict.Undecided text is = is
+report_answers request old new verdict.Complete text is = inr (inl is)
+
+-- an audit says this of the scope
+pub a_report : (request : Request) (old new : Shelved) (source : Source) (program : Program) (scope most : ℕ)
+    (reply : Reply) → new ≡ old → SaysReport program scope most source.files reply
+    → IsAsked request old source program scope → request.mode ≡ Audit → IsMost request.cases most
+    → MaySay request old new reply
+a_report request old new source program scope most reply same says asked mode most_is =
+    rw says.says.0
+    (report_answers request old new (last_verdict says.report.sections) (string_bytes reply.text) (record {
+      source = source;
+      program = program;
+      scope = scope;
+      most = most;
+      report = says.report;
+      mode = mode;
+      asked = asked;
+      most_is = most_is;
+      report_is = says.report_is;
+      untouched = same;
+      status = refl;
+      reply = says.says.1;
+    }))
+
+-- whatever a check says of the bytes, it says of the scope
+is_checked : (Says : Program → ℕ → List ℕ → List ℕ → Type 0) (request : Request) (old new : Shelved)
+    (source : Source) (program : Program) (scope : ℕ) (extra text : List ℕ) → IsExtra request old extra → new ≡ old
+    → IsAsked request old source program scope → request.mode ≡ Check → Says program scope extra text
+    → IsChecked Says request old new text
+is_checked Says request old new source program scope extra text extra_read same asked mode says = record {
+  source = source;
+  program = program;
+  scope = scope;
+  extra = extra;
+  mode = mode;
+  asked = asked;
+  extra_read = extra_read;
+  says = says;
+  untouched = same;
+}
+
+-- a check answers
+pub a_check : (request : Request) (old new : Shelved) (source : Source) (program : Program) (scope : ℕ)
+    (extra : List ℕ) (reply : Reply) → IsExtra request old extra → new ≡ old
+    → IsAsked request old source program scope → request.mode ≡ Check → SaysChecked program scope extra reply
+    → MaySay request old new reply
+a_check request old new source program scope extra reply extra_read same asked mode (inl yes_says) =
+    rw yes_says.0 (inr (inr (is_checked HasCertificate request old new source program scope extra
+    (string_bytes reply.text) extra_read same asked mode yes_says.1)))
+a_check request old new source program scope extra reply extra_read same asked mode (inr no_says) =
+    rw no_says.0 (is_checked HasNoCertificate request old new source program scope extra (string_bytes reply.text)
+    extra_read same asked mode no_says.1)
 
 -- ---- scopes by name
 

@@ -24,6 +24,7 @@ use Rattle.cat_build.specs.Accepted.{IsAccepted}
 use Rattle.cat_build.specs.Causes.{StandsAt}
 use Rattle.cat_build.specs.Codes.{number_of}
 use Rattle.cat_app.specs.Words.{Request, request_of}
+use Rattle.cat_app.specs.declared.request.Mode.TheVariants.{Run}
 use Rattle.cat_app.specs.Asked.{IsSource, IsExtra, IsAsked, IsReadNow}
 use Rattle.cat_app.specs.declared.status.Status.{Status}
 use Rattle.cat_app.specs.declared.status.Status.TheVariants as status
@@ -69,7 +70,7 @@ status_of (outcome.Fault kind pos) = status.Fault
 
 -- The replies. The files are as they may have been read, and no name was listed.
 
--- what the scope gives on the input
+-- of a run: what the scope gives on the input
 pub record IsOutcome (request : Request) (old new : Shelved) (ended : Status) (text : List ℕ) : Type 0 where
   pub source : Source
   pub program : Program
@@ -77,6 +78,7 @@ pub record IsOutcome (request : Request) (old new : Shelved) (ended : Status) (t
   pub extra : List ℕ
   pub input : List (Option Value)
   pub outcome : Outcome
+  pub mode : request.mode ≡ Run
   pub asked : IsAsked request old source program scope
   pub extra_read : IsExtra request old extra
   pub input_is : input_read program.decls scope extra ≡ Ok input
@@ -112,13 +114,14 @@ pub record IsNoScope (request : Request) (old new : Shelved) (text : List ℕ) :
   pub untouched : new ≡ old
   pub reply : text ≡ line (codes "no such scope ") request.scope
 
--- the input is none of the scope's
+-- of a run: the input is none of the scope's
 pub record IsRefusedInput (request : Request) (old new : Shelved) (text : List ℕ) : Type 0 where
   pub source : Source
   pub program : Program
   pub scope : ℕ
   pub extra : List ℕ
   pub refusal : InputRefusal
+  pub mode : request.mode ≡ Run
   pub asked : IsAsked request old source program scope
   pub extra_read : IsExtra request old extra
   pub refused : input_read program.decls scope extra ≡ Err refusal

@@ -1,5 +1,5 @@
 -- What is asked for: the source that is gathered, the scope of its program, and the input; and which file is read when.
-use Rattle.std.specs.Prelude.{◌≡◌, ◌⊎◌, ℕ, List, Some}
+use Rattle.std.specs.Prelude.{◌≡◌, ◌⊎◌, ℕ, IsTrue, List, Some}
 use Rattle.cat_pos.specs.declared.limits.TheConstants.{MOST_INPUT_BYTES}
 use Rattle.cat_io.specs.Shelf.{Shelved, Gives}
 use Rattle.cat_scope.specs.declared.programs.Program.{Program}
@@ -8,13 +8,13 @@ use Rattle.cat_gather.specs.declared.source.Source.{Source}
 use Rattle.cat_gather.specs.Gathered.{Whole, limit_after}
 use Rattle.cat_gather.specs.Causes.{ComesTo, HasEnding}
 use Rattle.cat_build.specs.Accepted.{IsAccepted}
-use Rattle.cat_app.specs.Words.{Request}
+use Rattle.cat_app.specs.Words.{Request, reads_extra}
 
 -- this may be what is gathered of the main file
 abbrev pub IsSource : Request → Shelved → Source → Type 0
 IsSource request shelf source = HasEnding shelf.content request.file (Whole source)
 
--- these bytes may be what the input has
+-- these bytes may be what the input or the certificate has
 abbrev pub IsExtra : Request → Shelved → List ℕ → Type 0
 IsExtra request shelf extra = Gives (shelf.content request.extra) MOST_INPUT_BYTES extra
 
@@ -25,10 +25,10 @@ pub record IsAsked (request : Request) (shelf : Shelved) (source : Source) (prog
     pub accepted : IsAccepted source.pieces program
     pub named : number_named request.scope 0 program.decls.scopes ≡ Some scope
 
--- the file that is read at this point, with its limit: those of the source first, and the input once the source is
--- accepted and its scope found
+-- the file that is read at this point, with its limit: those of the source first, and the input or the certificate
+-- once the source is accepted and its scope found
 abbrev pub IsReadNow : Request → Shelved → List ℕ → ℕ → Type 0
 IsReadNow request shelf name limit =
     ((bytes : ℕ) × ComesTo shelf.content request.file name bytes × (limit ≡ limit_after bytes))
-    ⊎ ((name ≡ request.extra) × (limit ≡ MOST_INPUT_BYTES)
+    ⊎ ((name ≡ request.extra) × (limit ≡ MOST_INPUT_BYTES) × IsTrue (reads_extra request.mode)
     × ((source : Source) × (program : Program) × (scope : ℕ) × IsAsked request shelf source program scope))

@@ -1,6 +1,8 @@
 -- the table of answers
 pub mod Table
 pub mod Answers
+pub mod Audits
+pub mod Checks
 pub mod Asked
 pub mod Words
 pub mod Status

@@ -6,18 +6,26 @@ use Rattle.cat_io.specs.Sink.{Sunk, Took, FailedAt}
 use Rattle.cat_app.specs.Words.{Request, request_of}
 use Rattle.cat_app.specs.Answers.{IsOutcome, IsRefusedFile, IsRefusedSource, IsNoScope, IsRefusedInput, IsUsage}
 use Rattle.cat_app.specs.Answers.{IsRefusedRead}
+use Rattle.cat_app.specs.Audits.{IsAudited}
+use Rattle.cat_app.specs.Checks.{HasCertificate, HasNoCertificate, IsChecked}
 use Rattle.cat_app.specs.declared.status.Status.{Status}
-use Rattle.cat_app.specs.declared.status.Status.TheVariants.{Fine, Conflict, NoValue, Fault, Source, Input, Usage}
-use Rattle.cat_app.specs.declared.status.Status.TheVariants.{Missing, ReadFault, WriteFault, Memory, TooLarge}
+use Rattle.cat_app.specs.declared.status.Status.TheVariants.{Fine, Conflict, NoValue, Fault, Source, Input, Found}
+use Rattle.cat_app.specs.declared.status.Status.TheVariants.{Certificate, Unsettled, Usage, Missing, ReadFault}
+use Rattle.cat_app.specs.declared.status.Status.TheVariants.{WriteFault, Memory, TooLarge}
 
 -- the texts that may come with a status to a request
 abbrev pub MayAnswer : Request → Shelved → Shelved → Status → List ℕ → Type 0
-MayAnswer request old new Fine text = IsOutcome request old new Fine text
+MayAnswer request old new Fine text =
+    IsOutcome request old new Fine text ⊎ (IsAudited request old new Fine text
+    ⊎ IsChecked HasCertificate request old new text)
 MayAnswer request old new Conflict text = IsOutcome request old new Conflict text
 MayAnswer request old new NoValue text = IsOutcome request old new NoValue text
 MayAnswer request old new Fault text = IsOutcome request old new Fault text
 MayAnswer request old new Source text = IsRefusedFile request old new text ⊎ IsRefusedSource request old new text
 MayAnswer request old new Input text = IsRefusedInput request old new text
+MayAnswer request old new Found text = IsAudited request old new Found text
+MayAnswer request old new Unsettled text = IsAudited request old new Unsettled text
+MayAnswer request old new Certificate text = IsChecked HasNoCertificate request old new text
 MayAnswer request old new Usage text = IsNoScope request old new text
 MayAnswer request old new Missing text = IsRefusedRead request old new shelf.Missing (codes "missing file ") text
 MayAnswer request old new ReadFault text = IsRefusedRead request old new shelf.Failed (codes "read fault ") text

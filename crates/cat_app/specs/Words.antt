@@ -1,29 +1,59 @@
 -- What the words ask for.
-use Rattle.std.specs.Prelude.{ℕ, Bool, List, Option, Some, None, ◌&&◌, not, ◌==◌, bytes_eq, codes, unwrap_or}
-use Rattle.std.specs.Prelude.{if◌then◌else◌, option_and_then}
+use Rattle.std.specs.Prelude.{◌≡◌, ℕ, max, Bool, true, false, List, Option, Some, None, ◌&&◌, not, ◌==◌, bytes_eq}
+use Rattle.std.specs.Prelude.{codes, if◌then◌else◌, is_some, option_and_then, option_map, unwrap_or}
 use Rattle.std.specs.List.{list_any}
-use Rattle.cat_words.specs.Asked.{Asked, asked_by}
+use Rattle.clap.specs.Words.{matches_of, one_of}
+use Rattle.cat_words.specs.Asked.{Asked, IsCases, asked_by}
+use Rattle.cat_words.specs.TheCommand.{the_command}
+use Rattle.cat_app.specs.declared.request.Mode.{Mode}
+use Rattle.cat_app.specs.declared.request.Mode.TheVariants.{Run, Audit, Check}
 
--- a run of the scope of this name, with the names of the source and of the input
+-- a mode and the scope of this name, with the names of the source and of the input or the certificate, which no audit
+-- has, and the text of the number of cases, which an audit alone looks at
 pub record Request : Type 0 where
+  pub mode : Mode
   pub scope : List ℕ
   pub file : List ℕ
   pub extra : List ℕ
+  pub cases : Option (List ℕ)
 
--- a request of these names
-abbrev pub request : List ℕ → List ℕ → List ℕ → Request
-request scope file extra = record { scope = scope; file = file; extra = extra }
+-- a request of these
+abbrev pub request : Mode → List ℕ → List ℕ → List ℕ → Option (List ℕ) → Request
+request mode scope file extra cases =
+    record { mode = mode; scope = scope; file = file; extra = extra; cases = cases }
 
--- the mode is `run`, and the name of the source has no line feed
-abbrev pub is_run : List ℕ → List ℕ → Bool
-is_run mode file = bytes_eq mode (codes "run") && not (list_any (λ byte. byte == 10) file)
+-- the mode that goes by a name: `run`, `check`, or `audit`, which takes no EXTRA
+abbrev pub mode_by : List ℕ → Bool → Option Mode
+mode_by name has_extra =
+    if bytes_eq name (codes "run") then Some Run else
+    (if bytes_eq name (codes "check") then Some Check else
+    (if bytes_eq name (codes "audit") && not has_extra then Some Audit else None))
 
--- the run that words ask for; EXTRA is standard input unless it is given, and `--cases` is passed over
-abbrev pub request_by : Asked → Option Request
-request_by asked =
+-- whether a mode reads the file that EXTRA names
+abbrev pub reads_extra : Mode → Bool
+reads_extra Run = true
+reads_extra Audit = false
+reads_extra Check = true
+
+-- what words ask for: the name of the source has no line feed, and EXTRA is standard input unless it is given
+abbrev pub request_by : Option (List ℕ) → Asked → Option Request
+request_by cases asked =
     let extra = unwrap_or asked.extra (codes "-") in
-    if is_run asked.mode asked.file then Some (request asked.scope asked.file extra) else None
+    if list_any (λ byte. byte == 10) asked.file then None
+    else option_map (λ mode. request mode asked.scope asked.file extra cases)
+    (mode_by asked.mode (is_some asked.extra))
 
--- the words `run SCOPE FILE [EXTRA]` of a command that is taken; other words are no request
+-- the text of the number of cases
+abbrev pub cases_in : List (List ℕ) → Option (List ℕ)
+cases_in words = one_of (codes "cases") (matches_of the_command words)
+
+-- the words `run SCOPE FILE [EXTRA]`, `check SCOPE FILE [EXTRA]` or `audit SCOPE FILE` of a command that is taken; other
+-- words are no request
 unfoldable pub request_of : List (List ℕ) → Option Request
-request_of words = option_and_then request_by (asked_by words)
+request_of words = option_and_then (request_by (cases_in words)) (asked_by words)
+
+-- the most leaves that an audit makes of a target: the number of cases, and one at least
+pub record IsMost (cases : Option (List ℕ)) (most : ℕ) : Type 0 where
+  pub number : ℕ
+  pub number_is : IsCases cases number
+  pub most_is : most ≡ max number 1

@@ -2,6 +2,8 @@
 //! and a status come out.
 #![tactic(auto)]
 
+mod audited;
+mod checked;
 mod reply;
 mod request;
 mod run;
@@ -9,6 +11,7 @@ mod status;
 mod texts;
 mod top;
 
+pub use request::Mode;
 pub use status::Status;
 pub use top::catala;
 

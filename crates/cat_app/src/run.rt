@@ -1,4 +1,4 @@
-// A run of a scope: the source first, then the input, then the outcome.
+// What is asked of a scope: the source first, and then an audit, a check, or the outcome on an input.
 ghost use Rattle.std.specs.Prelude.{◌≡◌, ◌<◌, IfOk, OnErr, Some, length};
 ghost use Rattle.cat_scope.specs.Named.{number_named};
 ghost use Rattle.cat_calc.specs.Calculus.{calc_outcome};
@@ -6,13 +6,14 @@ ghost use Rattle.cat_gather.specs.Causes.{AreReadableTogether};
 ghost use Rattle.cat_value.specs.Inputs.{IsWellTyped};
 ghost use Rattle.cat_build.specs.Built.{IsBuiltOf};
 ghost use Rattle.cat_app.specs.Answers.{status_of};
-ghost use Rattle.cat_app.specs.Asked.{IsSource};
 ghost use Rattle.cat_app.specs.Table.{ListsOne};
-ghost use Rattle.cat_app.specs.inside.Says.{asked_of, MaySay, SaysOf};
+ghost use Rattle.cat_app.specs.inside.Says.{IsGathered, MayTell, SaysOf};
 
 use crate::Status;
+use crate::audited::{audited, most_of};
+use crate::checked::checked;
 use crate::reply::Reply;
-use crate::request::RunWords;
+use crate::request::{AskedWords, Mode};
 use crate::texts::{no_scope, refuse_file, refuse_gathering, refuse_input, refuse_source};
 use cat_answer::answer_text;
 use cat_build::{BuildRefusal, Built, build};
@@ -25,9 +26,13 @@ use cat_value::{Input, Outcome};
 use std::alloc::{AllocError, Global};
 
 /// Gathers the source first.
-pub fn run<S: Shelf>(alloc: Global, asked: RunWords<'_>, shelf: &mut S) -> Result<Reply, AllocError>
+pub fn run<S: Shelf>(
+    alloc: Global,
+    asked: AskedWords<'_>,
+    shelf: &mut S,
+) -> Result<Reply, AllocError>
     ensures told { (S.state shelf.new).content ≡ (S.state shelf.old).content }
-    ensures may { IfOk result (MaySay (asked_of asked.entry) (S.state shelf.old) (S.state shelf.new)) }
+    ensures may { IfOk result (MayTell asked.entry (S.state shelf.old) (S.state shelf.new)) }
     ensures lists { OnErr result (ListsOne (S.state shelf.old) (S.state shelf.new)) }
 {
     match gather(alloc, shelf, asked.file) {
@@ -39,14 +44,14 @@ pub fn run<S: Shelf>(alloc: Global, asked: RunWords<'_>, shelf: &mut S) -> Resul
 /// Builds the source, and looks for the scope.
 fn run_source<S: Shelf>(
     alloc: Global,
-    asked: RunWords<'_>,
+    asked: AskedWords<'_>,
     source: &Source,
     shelf: &mut S,
 ) -> Result<Reply, AllocError>
     requires readable { AreReadableTogether source.now.pieces }
-    requires gathered { IsSource (asked_of asked) (S.state shelf.old) source.now }
+    requires gathered { IsGathered asked (S.state shelf.old) source.now }
     ensures told { (S.state shelf.new).content ≡ (S.state shelf.old).content }
-    ensures may { IfOk result (MaySay (asked_of asked.entry) (S.state shelf.old) (S.state shelf.new)) }
+    ensures may { IfOk result (MayTell asked.entry (S.state shelf.old) (S.state shelf.new)) }
     ensures lists { OnErr result (ListsOne (S.state shelf.old) (S.state shelf.new)) }
 {
     let built = match build(alloc, source) {
@@ -57,25 +62,49 @@ fn run_source<S: Shelf>(
         Err(BuildRefusal::Memory) => return Err(AllocError),
     };
     match built.program.scope_named(asked.scope) {
-        Some(scope) => run_scope(alloc, asked, source, &built, scope, shelf),
+        Some(scope) => answer_for(alloc, asked, source, &built, scope, shelf),
         None => no_scope(alloc, asked.scope),
     }
 }
 
-/// Reads the input, once the source is accepted and its scope found.
-fn run_scope<S: Shelf>(
+/// Does what is asked, once the source is accepted and its scope found.
+fn answer_for<S: Shelf>(
     alloc: Global,
-    asked: RunWords<'_>,
+    asked: AskedWords<'_>,
     source: &Source,
     built: &Built,
     scope: u32,
     shelf: &mut S,
 ) -> Result<Reply, AllocError>
-    requires gathered { IsSource (asked_of asked) (S.state shelf.old) source.now }
+    requires gathered { IsGathered asked (S.state shelf.old) source.now }
     requires built { IsBuiltOf source.now.pieces built.now }
     requires named { number_named asked.scope.now 0 built.now.program.decls.scopes ≡ Some scope }
     ensures told { (S.state shelf.new).content ≡ (S.state shelf.old).content }
-    ensures may { IfOk result (MaySay (asked_of asked.entry) (S.state shelf.old) (S.state shelf.new)) }
+    ensures may { IfOk result (MayTell asked.entry (S.state shelf.old) (S.state shelf.new)) }
+    ensures lists { OnErr result (ListsOne (S.state shelf.old) (S.state shelf.new)) }
+{
+    match asked.mode {
+        Mode::Run => run_scope(alloc, asked, source, built, scope, shelf),
+        Mode::Check => check_scope(alloc, asked, source, built, scope, shelf),
+        Mode::Audit => audited(alloc, source, built, scope, most_of(asked.cases)),
+    }
+}
+
+/// Reads the input, and runs the scope on it.
+fn run_scope<S: Shelf>(
+    alloc: Global,
+    asked: AskedWords<'_>,
+    source: &Source,
+    built: &Built,
+    scope: u32,
+    shelf: &mut S,
+) -> Result<Reply, AllocError>
+    requires gathered { IsGathered asked (S.state shelf.old) source.now }
+    requires built { IsBuiltOf source.now.pieces built.now }
+    requires named { number_named asked.scope.now 0 built.now.program.decls.scopes ≡ Some scope }
+    requires mode { asked.mode ≡ Mode.Run }
+    ensures told { (S.state shelf.new).content ≡ (S.state shelf.old).content }
+    ensures may { IfOk result (MayTell asked.entry (S.state shelf.old) (S.state shelf.new)) }
     ensures lists { OnErr result (ListsOne (S.state shelf.old) (S.state shelf.new)) }
 {
     let extra = match read_all(alloc, shelf, asked.extra, MOST_INPUT_BYTES) {
@@ -85,6 +114,29 @@ fn run_scope<S: Shelf>(
     match read_input(alloc, &extra, built.program.decls(), scope) {
         Ok(input) => answer(alloc, &source.files, built, scope, &input),
         Err(refusal) => refuse_input(alloc, refusal),
+    }
+}
+
+/// Reads the certificate, and checks it.
+fn check_scope<S: Shelf>(
+    alloc: Global,
+    asked: AskedWords<'_>,
+    source: &Source,
+    built: &Built,
+    scope: u32,
+    shelf: &mut S,
+) -> Result<Reply, AllocError>
+    requires gathered { IsGathered asked (S.state shelf.old) source.now }
+    requires built { IsBuiltOf source.now.pieces built.now }
+    requires named { number_named asked.scope.now 0 built.now.program.decls.scopes ≡ Some scope }
+    requires mode { asked.mode ≡ Mode.Check }
+    ensures told { (S.state shelf.new).content ≡ (S.state shelf.old).content }
+    ensures may { IfOk result (MayTell asked.entry (S.state shelf.old) (S.state shelf.new)) }
+    ensures lists { OnErr result (ListsOne (S.state shelf.old) (S.state shelf.new)) }
+{
+    match read_all(alloc, shelf, asked.extra, MOST_INPUT_BYTES) {
+        Ok(bytes) => checked(alloc, source, built, scope, &bytes),
+        Err(fault) => refuse_file(alloc, asked.extra, fault),
     }
 }
 

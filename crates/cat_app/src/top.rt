@@ -7,7 +7,8 @@ ghost use Rattle.cat_scope.specs.declared.programs.Program.{Program};
 ghost use Rattle.cat_gather.specs.declared.source.Source.{Source};
 ghost use Rattle.cat_app.specs.Words.{Request};
 ghost use Rattle.cat_app.specs.Table.{Answers};
-ghost use Rattle.cat_app.specs.Complete.{NoFileRose, RepliesFit, IsToldRun, EndsRun, is_fault, is_reply};
+ghost use Rattle.cat_app.specs.Complete.{NoFileRose, RepliesFit, IsToldAudit, IsToldCheck, IsToldRun, EndsAudit};
+ghost use Rattle.cat_app.specs.Complete.{EndsCheck, EndsRun, is_fault, is_reply};
 
 use crate::Status;
 use crate::reply::whole_reply;
@@ -20,7 +21,10 @@ use std::alloc::Global;
 ///
 /// | Status | What is written |
 /// |---|---|
-/// | `Fine`, `Conflict`, `NoValue`, `Fault` | the scope's outcome on the input |
+/// | `Fine`, `Conflict`, `NoValue`, `Fault` | of a run, the scope's outcome on the input |
+/// | `Fine` | of an audit, a complete report and its certificate |
+/// | `Found`, `Unsettled` | the report of an audit |
+/// | `Fine`, `Certificate` | of a check, a yes, or why the certificate is refused |
 /// | `Source` | the code and the position by which the source is refused |
 /// | `Input` | the code by which the input is refused, and of which part |
 /// | `Usage` | how the program is used, or that the source has no such scope |
@@ -53,6 +57,18 @@ pub fn catala<S: Shelf, K: Sink>(
         (input : List (Option Value))
         → IsToldRun (texts_of words.now) (S.state shelf.old) request source program scope input
         → EndsRun (K.state sink.old) (K.state sink.new) source program scope input result }
+
+    // Over told contents the report of the scope is written. Where it is complete, no well-typed input of the scope
+    // ends in a Conflict or a NoValue.
+    ensures an_audit_writes_the_report { (request : Request) (source : Source) (program : Program) (scope : ℕ)
+        → IsToldAudit (texts_of words.now) (S.state shelf.old) request source program scope
+        → EndsAudit (K.state sink.old) (K.state sink.new) request source program scope result }
+
+    // Over told contents a yes is written, after which no well-typed input of the scope ends in a Conflict or a
+    // NoValue, or why the bytes are no certificate.
+    ensures a_check_writes_its_answer { (request : Request) (source : Source) (program : Program) (scope : ℕ)
+        (extra : List ℕ) → IsToldCheck (texts_of words.now) (S.state shelf.old) request source program scope extra
+        → EndsCheck (K.state sink.old) (K.state sink.new) program scope extra result }
 {
     pieces_have_one_program();
     refused_pieces_are_not_accepted();

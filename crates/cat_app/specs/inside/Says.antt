@@ -1,25 +1,47 @@
--- What the steps of a call say to one who asked for a run.
-use Rattle.std.specs.Prelude.{◌≡◌, List, [], ℕ, Option, Some, string_bytes, codes}
+-- What the steps of a call say.
+use Rattle.std.specs.Prelude.{◌≡◌, ◌⊎◌, List, [], ℕ, Option, Some, IfSome, option_map, string_bytes, codes}
 use Rattle.cat_io.specs.Shelf.{Shelved}
 use Rattle.cat_io.specs.declared.shelf.ShelfFault.{ShelfFault}
 use Rattle.cat_io.specs.declared.shelf.ShelfFault.TheVariants as shelf
 use Rattle.cat_value.specs.declared.decls.Decls.{Decls}
 use Rattle.cat_value.specs.declared.outcome.Outcome.{Outcome}
+use Rattle.cat_scope.specs.declared.programs.Program.{Program}
+use Rattle.cat_audit.specs.declared.report.Report.{Report}
+use Rattle.cat_guard.specs.declared.tree.CaseTree.{CaseTree}
+use Rattle.cat_audit.specs.Complete.{AreClosedTrees, targets_in}
+use Rattle.cat_audit.specs.Reports.{last_verdict}
 use Rattle.cat_json.specs.declared.refusal.InputRefusal.{InputRefusal}
 use Rattle.cat_answer.specs.Answer.{answer_of}
+use Rattle.cat_gather.specs.declared.source.Source.{Source}
 use Rattle.cat_gather.specs.declared.source.GatherRefusal.{GatherRefusal}
 use Rattle.cat_gather.specs.declared.source.GatherRefusal.TheVariants as gathering
-use Rattle.cat_app.specs.Words.{Request, request}
+use Rattle.cat_gather.specs.Gathered.{Whole}
+use Rattle.cat_gather.specs.Causes.{HasEnding}
+use Rattle.cat_words.specs.Asked.{IsCases}
+use Rattle.cat_app.specs.Words.{Request, cases_in, request, request_of}
 use Rattle.cat_app.specs.Answers.{line, status_of, gathering_line, input_line}
+use Rattle.cat_cert_text.specs.declared.refusal.CertRefusal.{CertRefusal}
+use Rattle.cat_app.specs.Checks.{HasCertificate, HasNoCertificate, certificate_line}
+use Rattle.cat_app.specs.Audits.{HasReport, audit_text, status_at}
 use Rattle.cat_app.specs.Table.{MayAnswer}
-use Rattle.cat_app.specs.declared.request.RunWords.{RunWords}
+use Rattle.cat_app.specs.declared.request.AskedWords.{AskedWords}
 use Rattle.cat_app.specs.declared.reply.Reply.{Reply}
 use Rattle.cat_app.specs.declared.status.Status.{Status}
-use Rattle.cat_app.specs.declared.status.Status.TheVariants.{Input, Missing, ReadFault, Source, TooLarge}
+use Rattle.cat_app.specs.declared.status.Status.TheVariants.{Certificate, Fine, Input, Missing, ReadFault, TooLarge}
+use Rattle.cat_app.specs.declared.status.Status.TheVariants.{Source as SourceStatus}
 
--- the request of these words
-abbrev pub asked_of : RunWords → Request
-asked_of asked = request asked.scope.now asked.file.now asked.extra.now
+-- the request of these words, where the number of cases has this text
+abbrev pub asked_of : Option (List ℕ) → AskedWords → Request
+asked_of cases asked = request asked.mode asked.scope.now asked.file.now asked.extra.now cases
+
+-- this may be what is gathered of the main file that is asked for
+abbrev pub IsGathered : AskedWords → Shelved → Source → Type 0
+IsGathered asked shelf source = HasEnding shelf.content asked.file.now (Whole source)
+
+-- words ask for this
+pub record AsksFor (words : List (List ℕ)) (asked : Option AskedWords) : Type 0 where
+  pub request_is : option_map (asked_of (cases_in words)) asked ≡ request_of words
+  pub cases_are : IfSome asked (λ a. IsCases (cases_in words) a.cases)
 
 -- a reply has this status and this text
 abbrev pub Says : Status → List ℕ → Reply → Type 0
@@ -35,11 +57,11 @@ SaysFault name shelf.Memory reply = ⊥
 -- a reply tells why files can't be gathered; none tells of want of memory
 abbrev pub SaysGathering : GatherRefusal → Reply → Type 0
 SaysGathering (gathering.NotUtf8 name pos) reply =
-    (reply.status ≡ Source) × (gathering_line (gathering.NotUtf8 name pos) ≡ Some (string_bytes reply.text))
+    (reply.status ≡ SourceStatus) × (gathering_line (gathering.NotUtf8 name pos) ≡ Some (string_bytes reply.text))
 SaysGathering (gathering.FenceOpen name pos) reply =
-    (reply.status ≡ Source) × (gathering_line (gathering.FenceOpen name pos) ≡ Some (string_bytes reply.text))
+    (reply.status ≡ SourceStatus) × (gathering_line (gathering.FenceOpen name pos) ≡ Some (string_bytes reply.text))
 SaysGathering (gathering.IncludeTwice name pos) reply =
-    (reply.status ≡ Source) × (gathering_line (gathering.IncludeTwice name pos) ≡ Some (string_bytes reply.text))
+    (reply.status ≡ SourceStatus) × (gathering_line (gathering.IncludeTwice name pos) ≡ Some (string_bytes reply.text))
 SaysGathering (gathering.Missing name) reply = SaysFault name shelf.Missing reply
 SaysGathering (gathering.ReadFault name) reply = SaysFault name shelf.Failed reply
 SaysGathering (gathering.TooLarge name) reply = SaysFault name shelf.Long reply
@@ -57,6 +79,32 @@ SaysOutcome decls scope names ended reply =
 -- a reply may answer the request
 abbrev pub MaySay : Request → Shelved → Shelved → Reply → Type 0
 MaySay asked old new reply = MayAnswer asked old new reply.status (string_bytes reply.text)
+
+-- a reply may answer what is asked for, whatever text its number of cases has
+abbrev pub MayTell : AskedWords → Shelved → Shelved → Reply → Type 0
+MayTell asked old new reply =
+    (cases : Option (List ℕ)) → IsCases cases asked.cases → MaySay (asked_of cases asked) old new reply
+
+-- the trees of a report, where it has any, are closed ones
+abbrev pub HasClosedTrees : Report → Type 0
+HasClosedTrees report = (trees : List CaseTree) → report.trees ≡ Some trees
+    → (most : ℕ) × AreClosedTrees most (targets_in report.tables) trees
+
+-- a reply tells why a certificate is refused
+abbrev pub SaysCertificate : CertRefusal → Reply → Type 0
+SaysCertificate why reply = (reply.status ≡ Certificate) × (certificate_line why ≡ Some (string_bytes reply.text))
+
+-- a reply tells whether bytes are a certificate
+abbrev pub SaysChecked : Program → ℕ → List ℕ → Reply → Type 0
+SaysChecked program scope extra reply =
+    ((reply.status ≡ Fine) × HasCertificate program scope extra (string_bytes reply.text))
+    ⊎ ((reply.status ≡ Certificate) × HasNoCertificate program scope extra (string_bytes reply.text))
+
+-- a reply tells of a report
+pub record SaysReport (program : Program) (scope most : ℕ) (files : List (List ℕ)) (reply : Reply) : Type 0 where
+  pub report : Report
+  pub report_is : HasReport program scope most report
+  pub says : Says (status_at (last_verdict report.sections)) (audit_text program.decls files most report) reply
 
 -- a reply tells of an outcome, where there is one
 pub record SaysOf (decls : Decls) (scope : ℕ) (names : List (List ℕ)) (found : Option Outcome) (reply : Reply) : Type 0

@@ -1,5 +1,6 @@
 use Rattle.cat_io.specs.Stored.{texts_of}
-use Rattle.cat_app.proofs.Complete.{no_fault, ends_run}
+use Rattle.cat_app.proofs.Complete.{ends_audit, ends_check, ends_run}
+use Rattle.cat_app.proofs.Faults.{no_fault}
 use Rattle.cat_app.proofs.top.catala.Goals as goal
 
 pub returns-clause-a_fault_comes_only_where_a_count_rose : goal.returns-clause-a_fault_comes_only_where_a_count_rose
@@ -7,7 +8,19 @@ returns-clause-a_fault_comes_only_where_a_count_rose g c none steady =
     no_fault (texts_of c.args.words.now) _ _ _ _ c.answer.result c.answer.ensures.answers none steady
 
 pub returns-clause-a_run_writes_the_outcome : goal.returns-clause-a_run_writes_the_outcome
-returns-clause-a_run_writes_the_outcome g c request source program scope input told =
+returns-clause-a_run_writes_the_outcome g c request source program scope input run =
     ends_run c.pieces_have_one_program.ensures c.refused_pieces_are_not_accepted.ensures
     c.told_sources_are_gathered.ensures.endings c.told_sources_are_gathered.ensures.files (texts_of c.args.words.now) _ _
-    _ _ request source program scope input told c.answer.result c.answer.ensures.answers
+    _ _ request source program scope run.told input run c.answer.result c.answer.ensures.answers
+
+pub returns-clause-an_audit_writes_the_report : goal.returns-clause-an_audit_writes_the_report
+returns-clause-an_audit_writes_the_report g c request source program scope audit =
+    ends_audit c.pieces_have_one_program.ensures c.refused_pieces_are_not_accepted.ensures
+    c.told_sources_are_gathered.ensures.endings c.told_sources_are_gathered.ensures.files (texts_of c.args.words.now) _ _
+    _ _ request source program scope audit.told audit.mode c.answer.result c.answer.ensures.answers
+
+pub returns-clause-a_check_writes_its_answer : goal.returns-clause-a_check_writes_its_answer
+returns-clause-a_check_writes_its_answer g c request source program scope extra check =
+    ends_check c.pieces_have_one_program.ensures c.refused_pieces_are_not_accepted.ensures
+    c.told_sources_are_gathered.ensures.endings c.told_sources_are_gathered.ensures.files (texts_of c.args.words.now) _ _
+    _ _ request source program scope check.told extra check c.answer.result c.answer.ensures.answers

@@ -1,0 +1,64 @@
+-- The answer to one who asked for an audit.
+use Rattle.std.specs.Prelude.{◌≡◌, ℕ, List, [], ◌++◌, map, Option, Some, None}
+use Rattle.cat_io.specs.Shelf.{Shelved}
+use Rattle.cat_value.specs.declared.decls.Decls.{Decls}
+use Rattle.cat_scope.specs.declared.programs.Program.{Program}
+use Rattle.cat_guard.specs.declared.table.Table.{Table}
+use Rattle.cat_guard.specs.declared.tree.CaseTree.{CaseTree}
+use Rattle.cat_guard.specs.Trees.{tree_of}
+use Rattle.cat_audit.specs.declared.report.Report.{Report}
+use Rattle.cat_audit.specs.declared.report.Verdict.{Verdict}
+use Rattle.cat_audit.specs.declared.report.Verdict.TheVariants as verdict
+use Rattle.cat_audit.specs.Complete.{AreClosedTrees, HasNoGap, targets_in}
+use Rattle.cat_audit.specs.Reports.{IsReport, last_verdict}
+use Rattle.cat_report.specs.ReportTexts.{report_text}
+use Rattle.cat_cert_text.specs.declared.certificate.Version.TheVariants as version
+use Rattle.cat_cert_text.specs.Certifiable.{shared_tree}
+use Rattle.cat_cert_text.specs.Texts.{certificate_text}
+use Rattle.cat_gather.specs.declared.source.Source.{Source}
+use Rattle.cat_app.specs.Words.{Request, IsMost}
+use Rattle.cat_app.specs.Asked.{IsAsked}
+use Rattle.cat_app.specs.declared.request.Mode.TheVariants.{Audit}
+use Rattle.cat_app.specs.declared.status.Status.{Status}
+use Rattle.cat_app.specs.declared.status.Status.TheVariants as status
+
+-- the status of a verdict
+abbrev pub status_at : Verdict → Status
+status_at verdict.Found = status.Found
+status_at verdict.Masked = status.Unsettled
+status_at verdict.Undecided = status.Unsettled
+status_at verdict.Complete = status.Fine
+
+-- the certificate of trees with their equal parts written once, where there are trees
+abbrev pub certificate_of : List Table → Option (List CaseTree) → List ℕ
+certificate_of tables None = []
+certificate_of tables (Some trees) =
+    certificate_text version.Two tables (map (λ t. shared_tree (tree_of t.nodes)) trees)
+
+-- what is written of a report, which has trees where its last verdict is Complete: its text, and their certificate
+abbrev pub audit_text : Decls → List (List ℕ) → ℕ → Report → List ℕ
+audit_text ds files most report =
+    report_text ds files most report.sections ++ certificate_of report.tables report.trees
+
+-- the report of a scope; where its last verdict is Complete, no well-typed input of the scope ends in a conflict or a
+-- gap, and the trees are closed ones, one for each target
+pub record HasReport (program : Program) (scope most : ℕ) (report : Report) : Type 0 where
+  pub report_is : IsReport program scope most report
+  pub no_gap : last_verdict report.sections ≡ verdict.Complete → HasNoGap program scope
+  pub closed : (trees : List CaseTree) → report.trees ≡ Some trees
+      → AreClosedTrees most (targets_in report.tables) trees
+
+-- of an audit: what it says of the scope
+pub record IsAudited (request : Request) (old new : Shelved) (ended : Status) (text : List ℕ) : Type 0 where
+  pub source : Source
+  pub program : Program
+  pub scope : ℕ
+  pub most : ℕ
+  pub report : Report
+  pub mode : request.mode ≡ Audit
+  pub asked : IsAsked request old source program scope
+  pub most_is : IsMost request.cases most
+  pub report_is : HasReport program scope most report
+  pub untouched : new ≡ old
+  pub status : ended ≡ status_at (last_verdict report.sections)
+  pub reply : text ≡ audit_text program.decls source.files most report
