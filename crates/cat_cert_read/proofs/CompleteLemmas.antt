@@ -19,10 +19,10 @@ use Rattle.cat_cert_text.specs.declared.certificate.Version.TheVariants as versi
 use Rattle.cat_cert_text.specs.Lines.{Due, ScopeDue, TargetDue, list_heads, tree_lines, tree_heads, due_heads}
 use Rattle.cat_cert_text.specs.Certified.{is_atom_of, IsTreeOf, AreTreesOf, node_leaves, nodes_leaves, widths_from}
 use Rattle.cat_cert_text.specs.Certified.{named_widths, named_leaves, tree_widths, due_widths}
-use Rattle.cat_cert_read.specs.inside.States.{Part, State, AtDue, AtPart, AtNode, Done, with_head}
+use Rattle.cat_cert_read.specs.inside.States.{Growing, State, AtDue, AtList, AtNode, Done, with_head}
 use Rattle.cat_cert_read.specs.inside.States.{with_name, whole_tree, after_list, after_node, leaves_there}
 use Rattle.cat_cert_read.specs.inside.Steps.{Plain, Node, at_tree}
-use Rattle.cat_cert_read.proofs.StepLemmas.{takes_end, takes_heading, takes_part, takes_node}
+use Rattle.cat_cert_read.proofs.StepLemmas.{takes_end, takes_heading, takes_list, takes_node}
 use Rattle.cat_cert_read.proofs.LeadLemmas.{Leads, leads_on, leads_first}
 use Rattle.cat_cert_read.proofs.TreeLemmas.{behind, none_left, next_name, main_there}
 use Rattle.cat_cert_read.proofs.ItemLemmas.{named_items, tree_items, due_items, tree_items_count, heads_last}
@@ -41,7 +41,7 @@ cited_leaves : (named : List ℕ) (i : ℕ) → i < length named → slice_get n
 cited_leaves named i within =
     slice_get-get_or named i 0 within ∙ ap (λ (l : ℕ). Some l) (sym (unwrap_or-slice_get named i 0))
 
-module _ (v : Version) (main : Bool) (p : Part) where
+module _ (v : Version) (main : Bool) (p : Growing) where
   first_leads : (n : CitedNode) (ms pre : List CitedNode) (pending count k : ℕ) (ws : List ℕ) (last : State)
       → leaves_there (is_atom_of p.target) p.named n ≡ Some (node_leaves p.named n)
       → Leads (map Node ms)
@@ -121,7 +121,7 @@ module _ (v : Version) (main : Bool) (p : Part) where
 -- ---- named trees
 
 -- behind named trees, that begin behind so many lines
-pub record AfterNames (p : Part) (more : List (List CitedNode)) (k : ℕ) (q : Part) : Type 0 where
+pub record AfterNames (p : Growing) (more : List (List CitedNode)) (k : ℕ) (q : Growing) : Type 0 where
   pub target : q.target ≡ p.target
   pub dues : q.dues ≡ p.dues
   pub trees : q.trees ≡ p.trees
@@ -129,13 +129,13 @@ pub record AfterNames (p : Part) (more : List (List CitedNode)) (k : ℕ) (q : P
   pub named : q.named ≡ named_leaves p.named more
   pub heads : q.heads ≡ p.heads ++ list_heads (suc k) more
 
-pub record NamesLead (p : Part) (all : List Tree) (more : List (List CitedNode)) (i k : ℕ) : Type 0 where
-  pub part : Part
-  pub leads : Leads (named_items i more) (AtPart p) k (named_widths p.named more) (AtPart part)
+pub record NamesLead (p : Growing) (all : List Tree) (more : List (List CitedNode)) (i k : ℕ) : Type 0 where
+  pub part : Growing
+  pub leads : Leads (named_items i more) (AtList p) k (named_widths p.named more) (AtList part)
   pub after : AfterNames p more k part
   pub count : length part.named ≡ length all
 
-pub names_lead : (p : Part) (ts all : List Tree) (more : List (List CitedNode)) (i k : ℕ)
+pub names_lead : (p : Growing) (ts all : List Tree) (more : List (List CitedNode)) (i k : ℕ)
     → named_from (Some ts) more ≡ Some all → length p.named ≡ length ts → i ≡ length p.names
     → list_all (nodes_pass (is_atom_of p.target)) more ≡ true → NamesLead p all more i k
 names_lead p ts all [] i k is named number passes =
@@ -168,17 +168,17 @@ names_lead p ts all (nodes ∷ more) i k is named number passes =
     let more_names = length-append p.names (nodes ∷ []) in
     let rest = names_lead q (ts ++ next.tree ∷ []) all more (suc i) behind_list next.others
     (omega (arith, grown, more_named, named)) (omega (arith, more_names, number)) parts.1 in
-    let named_line = takes_part false p (suc k) in
+    let named_line = takes_list false p (suc k) in
     let places : suc behind_list ≡ suc (suc k) + length nodes = omega arith in
     record {
       part = rest.part;
-      leads = subst (λ (j : ℕ). Leads (named_items j (nodes ∷ more)) (AtPart p) k (named_widths p.named (nodes ∷ more))
-          (AtPart rest.part)) (sym number)
-          (leads_first _ _ (AtPart p) (AtNode version.Two false begun [] 0 0) (AtPart rest.part) k 0 _ named_line
-          (leads_on (map Node nodes) _ (AtNode version.Two false begun [] 0 0) (suc k) behind_list _ _ (AtPart q)
-          (AtPart rest.part) (omega (arith, length-map nodes Node)) listed
-          (subst (λ (j : ℕ). Leads (named_items (suc j) more) (AtPart q) behind_list (named_widths q.named more)
-          (AtPart rest.part)) number rest.leads)));
+      leads = subst (λ (j : ℕ). Leads (named_items j (nodes ∷ more)) (AtList p) k (named_widths p.named (nodes ∷ more))
+          (AtList rest.part)) (sym number)
+          (leads_first _ _ (AtList p) (AtNode version.Two false begun [] 0 0) (AtList rest.part) k 0 _ named_line
+          (leads_on (map Node nodes) _ (AtNode version.Two false begun [] 0 0) (suc k) behind_list _ _ (AtList q)
+          (AtList rest.part) (omega (arith, length-map nodes Node)) listed
+          (subst (λ (j : ℕ). Leads (named_items (suc j) more) (AtList q) behind_list (named_widths q.named more)
+          (AtList rest.part)) number rest.leads)));
       after = record {
         target = rest.after.target;
         dues = rest.after.dues;
@@ -210,7 +210,7 @@ tree_leads : (v : Version) (t : TableTarget) (dues : List Due) (trees : List Cer
     → IsTreeOf v t tree → Leads (tree_items v tree) (at_tree v t dues trees k) k (tree_widths v tree)
     (AtDue v dues (trees ++ placed v k tree ∷ []))
 tree_leads version.One t dues trees k tree is =
-    let p : Part = record { target = t; dues = dues; trees = trees; names = []; named = []; heads = k ∷ [] } in
+    let p : Growing = record { target = t; dues = dues; trees = trees; names = []; named = []; heads = k ∷ [] } in
     let there = main_there (named_from (Some []) tree.names) tree.main is.whole is.stands in
     let none : [] ≡ there.0 =
     let e : named_from (Some []) [] ≡ Some there.0 = ap (named_from (Some [])) (sym is.names) ∙ there.1 in cc in
@@ -224,7 +224,7 @@ tree_leads version.One t dues trees k tree is =
     (nodes_lead version.One true p there.0 (is.whole ∷ []) tree.main [] tree.main 0 0 (nodes_leaves [] tree.main) k
     there.2 refl passes.1 (ap length none) refl (omega arith))
 tree_leads version.Two t dues trees k tree is =
-    let p : Part = record { target = t; dues = dues; trees = trees; names = []; named = []; heads = [] } in
+    let p : Growing = record { target = t; dues = dues; trees = trees; names = []; named = []; heads = [] } in
     let there = main_there (named_from (Some []) tree.names) tree.main is.whole is.stands in
     let passes = all_parts (nodes_pass (is_atom_of t)) tree.names tree.main is.splits in
     let names = names_lead p [] there.0 tree.names 0 k there.1 refl refl passes.0 in
@@ -255,10 +255,10 @@ tree_leads version.Two t dues trees k tree is =
     ∙ ap (λ (c : CertTree). AtDue version.Two dues (trees ++ c ∷ [])) whole in
     let widths : widths_from q.named 0 tree.main ≡ widths_from leaves 0 tree.main =
     ap (λ (named : List ℕ). widths_from named 0 tree.main) names.after.named in
-    leads_on (named_items 0 tree.names) (Plain (codes "tree") ∷ map Node tree.main) (AtPart p) k m _ _ (AtPart q) _ refl
+    leads_on (named_items 0 tree.names) (Plain (codes "tree") ∷ map Node tree.main) (AtList p) k m _ _ (AtList q) _ refl
     names.leads
-    (leads_first (Plain (codes "tree")) (map Node tree.main) (AtPart q) (AtNode version.Two true begun [] 0 0) _ m 0 _
-    (takes_part true q (suc m))
+    (leads_first (Plain (codes "tree")) (map Node tree.main) (AtList q) (AtNode version.Two true begun [] 0 0) _ m 0 _
+    (takes_list true q (suc m))
     (subst (λ (ws : List ℕ). Leads (map Node tree.main) (AtNode version.Two true begun [] 0 0) (suc m) ws
     (AtDue version.Two dues (trees ++ placed version.Two k tree ∷ []))) widths
     (subst (λ (s : State). Leads (map Node tree.main) (AtNode version.Two true begun [] 0 0) (suc m)

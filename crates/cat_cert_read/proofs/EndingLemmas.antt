@@ -22,7 +22,7 @@ use Rattle.cat_cert_text.specs.Certified.{is_atom_of}
 use Rattle.cat_cert_text.specs.Texts.{parted, byte_before}
 use Rattle.cat_cert_read.specs.declared.place.Place.{Place}
 use Rattle.cat_cert_read.specs.inside.LineForms.{node_of, list_begun}
-use Rattle.cat_cert_read.specs.inside.States.{Part, State, First, AtDue, AtPart, AtNode, Done, Stepped, with_head}
+use Rattle.cat_cert_read.specs.inside.States.{Growing, State, First, AtDue, AtList, AtNode, Done, Stepped, with_head}
 use Rattle.cat_cert_read.specs.inside.States.{to, after_list, after_node, leaves_there, pending_after}
 use Rattle.cat_cert_read.specs.inside.Steps.{Plain, Node, item_in, step, refusal_at, ended_in, met, outcome}
 use Rattle.cat_cert_read.specs.inside.Steps.{after_heading, heading_refusal, list_step}
@@ -68,7 +68,7 @@ no_line s bytes old new none = ap (λ (ls : List (List ℕ)). outcome ls s old.l
 
 -- ---- nodes
 
-module _ (v : Version) (main : Bool) (p : Part) (nodes : List CitedNode) (pending count : ℕ) (bytes : List ℕ)
+module _ (v : Version) (main : Bool) (p : Growing) (nodes : List CitedNode) (pending count : ℕ) (bytes : List ℕ)
     (old new : Place) (line : List ℕ) (next : IsNext bytes old new (Some line)) where
   abbrev here : State
   here = AtNode v main p nodes pending count
@@ -110,7 +110,8 @@ module _ (v : Version) (main : Bool) (p : Part) (nodes : List CitedNode) (pendin
     node_goes small = line_goes here bytes old new line next _ taken small
 
 -- behind a node, by how many subtrees follow
-pub after_pending : (v : Version) (main : Bool) (p : Part) (nodes : List CitedNode) (pending count : ℕ) (n : CitedNode)
+pub after_pending : (v : Version) (main : Bool) (p : Growing) (nodes : List CitedNode) (pending count : ℕ)
+    (n : CitedNode)
     → (more : ℕ) → pending_after n pending ≡ Some more
     → after_node v main p nodes pending count n ≡ AtNode v main p nodes more count
 after_pending v main p nodes pending count (cited.Split a) more is =
@@ -125,7 +126,7 @@ after_pending v main p nodes (suc pending) count (cited.Cite i) more is =
     let same : pending ≡ more = cc in
     ap (λ (k : ℕ). AtNode v main p nodes k count) same
 
-pub after_none : (v : Version) (main : Bool) (p : Part) (nodes : List CitedNode) (pending count : ℕ) (n : CitedNode)
+pub after_none : (v : Version) (main : Bool) (p : Growing) (nodes : List CitedNode) (pending count : ℕ) (n : CitedNode)
     → pending_after n pending ≡ None → after_node v main p nodes pending count n ≡ after_list v main p nodes count
 after_none v main p nodes pending count (cited.Split a) is = absurd (cc)
 after_none v main p nodes zero count cited.Leaf is = refl
@@ -135,23 +136,24 @@ after_none v main p nodes (suc pending) count (cited.Cite i) is = absurd (cc)
 
 -- ---- lists of a tree of version 2
 
-module _ (p : Part) (bytes : List ℕ) (old new : Place) (line : List ℕ) (next : IsNext bytes old new (Some line)) where
+module _ (p : Growing) (bytes : List ℕ) (old new : Place) (line : List ℕ)
+    (next : IsNext bytes old new (Some line)) where
   pub part_goes : (main : Bool) → list_begun (length p.names) line ≡ Some main
-      → ending (AtPart p) bytes old ≡ ending (AtNode version.Two main (with_head p new.line) [] 0 0) bytes new
+      → ending (AtList p) bytes old ≡ ending (AtNode version.Two main (with_head p new.line) [] 0 0) bytes new
   unfolding step
   part_goes main is =
-      line_goes (AtPart p) bytes old new line next _ (ap (list_step p new.line) is) (omega arith)
+      line_goes (AtList p) bytes old new line next _ (ap (list_step p new.line) is) (omega arith)
 
   pub part_bad : list_begun (length p.names) line ≡ None
-      → ending (AtPart p) bytes old ≡ Err (refusal.BadLine new.line)
+      → ending (AtList p) bytes old ≡ Err (refusal.BadLine new.line)
   unfolding step
-  part_bad none = line_stops (AtPart p) bytes old new line next (ap (list_step p new.line) none)
+  part_bad none = line_stops (AtList p) bytes old new line next (ap (list_step p new.line) none)
 
 -- behind the tree itself, and behind a named tree, with the numbers of lines as they are kept
 module _ (t : TableTarget) (dues : List Due) (trees : List CertTree) (names : List (List CitedNode))
     (named heads more_heads : List ℕ) (n : ℕ) (heads_are : more_heads ≡ heads ++ n ∷ []) (nodes : List CitedNode)
     (count : ℕ) (bytes : List ℕ) (last : Place) where
-  abbrev begun : Part
+  abbrev begun : Growing
   begun = with_head (record {
     target = t;
     dues = dues;
@@ -176,7 +178,7 @@ module _ (t : TableTarget) (dues : List Due) (trees : List CertTree) (names : Li
   pub name_listed : (main : Bool) → main ≡ false → (more_names : List (List CitedNode)) (more_named : List ℕ)
       → more_names ≡ names ++ nodes ∷ [] → more_named ≡ named ++ count ∷ []
       → ending (after_list version.Two main begun nodes count) bytes last
-      ≡ ending (AtPart (record {
+      ≡ ending (AtList (record {
         target = t;
         dues = dues;
         trees = trees;
@@ -186,7 +188,7 @@ module _ (t : TableTarget) (dues : List Due) (trees : List CertTree) (names : Li
       })) bytes last
   name_listed main is more_names more_named names_are named_are =
       ap (λ (b : Bool). ending (after_list version.Two b begun nodes count) bytes last) is
-      ∙ ap (λ (ns : List (List CitedNode)). ending (AtPart (record {
+      ∙ ap (λ (ns : List (List CitedNode)). ending (AtList (record {
         target = t;
         dues = dues;
         trees = trees;
@@ -194,7 +196,7 @@ module _ (t : TableTarget) (dues : List Due) (trees : List CertTree) (names : Li
         named = named ++ count ∷ [];
         heads = heads ++ n ∷ [];
       })) bytes last) (sym names_are)
-      ∙ ap (λ (ls : List ℕ). ending (AtPart (record {
+      ∙ ap (λ (ls : List ℕ). ending (AtList (record {
         target = t;
         dues = dues;
         trees = trees;
@@ -202,7 +204,7 @@ module _ (t : TableTarget) (dues : List Due) (trees : List CertTree) (names : Li
         named = ls;
         heads = heads ++ n ∷ [];
       })) bytes last) (sym named_are)
-      ∙ ap (λ (hs : List ℕ). ending (AtPart (record {
+      ∙ ap (λ (hs : List ℕ). ending (AtList (record {
         target = t;
         dues = dues;
         trees = trees;

@@ -19,10 +19,10 @@ use Rattle.cat_cert_text.specs.Lines.{named_lines}
 use Rattle.cat_cert_text.specs.Lines.{due_lines, certificate_lines}
 use Rattle.cat_cert_text.specs.Certified.{is_atom_of, IsTreeOf, AreTreesOf}
 use Rattle.cat_cert_text.specs.Fronts.{IsFront}
-use Rattle.cat_cert_read.specs.inside.States.{Part, State, First, AtDue, AtPart, AtNode, Done, Stepped, with_head}
+use Rattle.cat_cert_read.specs.inside.States.{Growing, State, First, AtDue, AtList, AtNode, Done, Stepped, with_head}
 use Rattle.cat_cert_read.specs.inside.States.{after_list, after_node, leaves_there}
 use Rattle.cat_cert_read.specs.inside.Steps.{Item, Plain, Node, item_in, step, after_heading}
-use Rattle.cat_cert_read.proofs.StepLemmas.{item_line, part_line, Took, took, line_of_item}
+use Rattle.cat_cert_read.proofs.StepLemmas.{item_line, list_line, Took, took, line_of_item}
 use Rattle.cat_cert_read.proofs.LeadLemmas.{LineLeads, atom_there}
 use Rattle.cat_cert_read.proofs.StandLemmas.{trees_in, DueAt, NodesAt, NamesAt, Awaits, Stands}
 use Rattle.cat_cert_read.proofs.StandLemmas.{awaits_first, leaf_alone, cite_alone, awaits_alone, awaits_split}
@@ -67,8 +67,9 @@ heading_stands tables version.Two (TargetDue t) dues trees n before d = record {
   before_is = refl;
 }
 
-part_stands : (tables : List Table) (main : Bool) (p : Part) (n : ℕ) (before : List (List ℕ)) → NamesAt tables p before
-    → NodesAt tables version.Two main (with_head p n) [] 0 (before ++ part_line main p ∷ [])
+part_stands : (tables : List Table) (main : Bool) (p : Growing) (n : ℕ) (before : List (List ℕ))
+    → NamesAt tables p before
+    → NodesAt tables version.Two main (with_head p n) [] 0 (before ++ list_line main p ∷ [])
 part_stands tables true p n before at =
     let part = at.part in
     let heading = heading_line (TargetDue p.target) in
@@ -101,16 +102,16 @@ part_stands tables false p n before at =
         count = part.count;
         splits = part.splits;
       };
-      opening = before ++ part_line false p ∷ [];
+      opening = before ++ list_line false p ∷ [];
       opened =
-          ap (λ (ls : List (List ℕ)). ls ++ part_line false p ∷ []) at.before_is
-          ∙ append_assoc part.base (heading ∷ named_lines 0 p.names) (part_line false p ∷ []);
+          ap (λ (ls : List (List ℕ)). ls ++ list_line false p ∷ []) at.before_is
+          ∙ append_assoc part.base (heading ∷ named_lines 0 p.names) (list_line false p ∷ []);
       before_is = sym (append-nil _);
       awaits = awaits_first part.named;
       passes = refl;
     }
 
-module _ (tables : List Table) (v : Version) (main : Bool) (p : Part) (nodes : List CitedNode) (pending : ℕ)
+module _ (tables : List Table) (v : Version) (main : Bool) (p : Growing) (nodes : List CitedNode) (pending : ℕ)
     (before : List (List ℕ)) (at : NodesAt tables v main p nodes pending before) (n : CitedNode) where
   abbrev line_more : before ++ node_line n ∷ [] ≡ at.opening ++ map node_line (nodes ++ n ∷ [])
   line_more =
@@ -140,7 +141,7 @@ module _ (tables : List Table) (v : Version) (main : Bool) (p : Part) (nodes : L
 one_passes : (test : ℕ → Bool) (a : ℕ) → test a ≡ true → nodes_pass test (cited.Split a ∷ []) ≡ true
 one_passes test a holds = rw holds refl
 
-after_stands : (tables : List Table) (v : Version) (main : Bool) (p : Part) (nodes : List CitedNode)
+after_stands : (tables : List Table) (v : Version) (main : Bool) (p : Growing) (nodes : List CitedNode)
     (pending count : ℕ) (before : List (List ℕ)) (at : NodesAt tables v main p nodes pending before) (n : CitedNode)
     (leaves : ℕ) → leaves_there (is_atom_of p.target) p.named n ≡ Some leaves
     → Stands tables (before ++ node_line n ∷ []) (after_node v main p (nodes ++ n ∷ []) pending count n)
@@ -181,8 +182,8 @@ stands_on tables (AtDue v [] trees) n item st before h at =
 stands_on tables (AtDue v (due ∷ dues) trees) n item st before h at =
     carry tables before item (Plain (heading_line due)) st _ h.0 h.1
     (heading_stands tables v due dues trees n before at)
-stands_on tables (AtPart p) n item st before h at =
-    carry tables before item (Plain (part_line h.0 p)) st _ h.1.0 h.1.1 (part_stands tables h.0 p n before at)
+stands_on tables (AtList p) n item st before h at =
+    carry tables before item (Plain (list_line h.0 p)) st _ h.1.0 h.1.1 (part_stands tables h.0 p n before at)
 stands_on tables (AtNode v main p nodes pending count) n item st before h at =
     carry tables before item (Node h.node) st _ h.item_is h.step_is
     (after_stands tables v main p nodes pending (count + h.leaves) before at h.node h.leaves h.there)
@@ -251,7 +252,7 @@ due_finished tables v dues trees before d = (
   },
 )
 
-main_finished : (tables : List Table) (v : Version) (p : Part) (nodes : List CitedNode) (pending : ℕ)
+main_finished : (tables : List Table) (v : Version) (p : Growing) (nodes : List CitedNode) (pending : ℕ)
     (before : List (List ℕ)) → NodesAt tables v true p nodes pending before → IsFront tables before
 main_finished tables v p nodes zero before at =
     shorter tables before (node_line cited.Leaf)
@@ -262,14 +263,14 @@ main_finished tables v p nodes (suc pending) before at =
     (main_finished tables v p (nodes ++ cited.Leaf ∷ []) pending (before ++ node_line cited.Leaf ∷ [])
     (after_stands tables v true p nodes (suc pending) 0 before at cited.Leaf 1 refl))
 
-names_finished : (tables : List Table) (p : Part) (before : List (List ℕ)) → NamesAt tables p before
+names_finished : (tables : List Table) (p : Growing) (before : List (List ℕ)) → NamesAt tables p before
     → IsFront tables before
 names_finished tables p before at =
     shorter tables before (codes "tree")
     (main_finished tables version.Two (with_head p 0) [] 0 (before ++ codes "tree" ∷ [])
     (part_stands tables true p 0 before at))
 
-name_finished : (tables : List Table) (v : Version) (p : Part) (nodes : List CitedNode) (pending : ℕ)
+name_finished : (tables : List Table) (v : Version) (p : Growing) (nodes : List CitedNode) (pending : ℕ)
     (before : List (List ℕ)) → NodesAt tables v false p nodes pending before → IsFront tables before
 name_finished tables version.One p nodes pending before at = absurd (at.opened)
 name_finished tables version.Two p nodes zero before at =
@@ -288,7 +289,7 @@ finished tables (First dues) before at =
     (due_finished tables version.One dues [] (before ++ first_line version.One ∷ [])
     (first_stands tables version.One dues before at.0 at.1))
 finished tables (AtDue v dues trees) before at = due_finished tables v dues trees before at
-finished tables (AtPart p) before at = names_finished tables p before at
+finished tables (AtList p) before at = names_finished tables p before at
 finished tables (AtNode v true p nodes pending count) before at = main_finished tables v p nodes pending before at
 finished tables (AtNode v false p nodes pending count) before at = name_finished tables v p nodes pending before at
 finished tables (Done v trees) before at = (

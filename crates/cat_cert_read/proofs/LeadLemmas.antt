@@ -11,7 +11,7 @@ use Rattle.cat_cert_text.specs.declared.certificate.Version.{Version}
 use Rattle.cat_cert_text.specs.declared.certificate.Version.TheVariants as version
 use Rattle.cat_cert_text.specs.Lines.{Due, ScopeDue, TargetDue}
 use Rattle.cat_cert_text.specs.Certified.{is_atom_of}
-use Rattle.cat_cert_read.specs.inside.States.{Part, State, First, AtDue, AtPart, AtNode, Done, Stepped}
+use Rattle.cat_cert_read.specs.inside.States.{Growing, State, First, AtDue, AtList, AtNode, Done, Stepped}
 use Rattle.cat_cert_read.specs.inside.States.{after_list, after_node, leaves_there}
 use Rattle.cat_cert_read.specs.inside.Steps.{Item, item_in, step, after_heading}
 use Rattle.cat_cert_read.proofs.LineLemmas.{IsLowNode, node_written}
@@ -144,17 +144,17 @@ AreLow (TargetDue t ∷ dues) = IsLowTarget t × AreLow dues
 abbrev pub IsLow : State → ℕ → Type 0
 IsLow (First dues) n = AreLow dues
 IsLow (AtDue v dues trees) n = AreLow dues
-IsLow (AtPart p) n = IsLowTarget p.target × AreLow p.dues × (length p.named ≤ n)
+IsLow (AtList p) n = IsLowTarget p.target × AreLow p.dues × (length p.named ≤ n)
 IsLow (AtNode v main p nodes pending count) n = IsLowTarget p.target × AreLow p.dues × (length p.named ≤ n)
 IsLow (Done v trees) n = Unit {0}
 
-low_list : (v : Version) (main : Bool) (p : Part) (nodes : List CitedNode) (count n : ℕ) → IsLowTarget p.target
+low_list : (v : Version) (main : Bool) (p : Growing) (nodes : List CitedNode) (count n : ℕ) → IsLowTarget p.target
     → AreLow p.dues → length p.named ≤ n → IsLow (after_list v main p nodes count) (suc n)
 low_list v true p nodes count n target dues most = dues
 low_list v false p nodes count n target dues most =
     (target, dues, omega (arith, length-append p.named (count ∷ []), most))
 
-low_node : (v : Version) (main : Bool) (p : Part) (nodes : List CitedNode) (pending count n : ℕ) (node : CitedNode)
+low_node : (v : Version) (main : Bool) (p : Growing) (nodes : List CitedNode) (pending count n : ℕ) (node : CitedNode)
     → IsLowTarget p.target → AreLow p.dues → length p.named ≤ n
     → IsLow (after_node v main p nodes pending count node) (suc n)
 low_node v main p nodes pending count n (cited.Split a) target dues most = (target, dues, omega (arith, most))
@@ -175,7 +175,7 @@ low_after (First dues) n item st h low = subst (λ (to : Stepped). IsLow to.stat
 low_after (AtDue v [] trees) n item st h low = subst (λ (to : Stepped). IsLow to.state (suc n)) (sym h.1) tt
 low_after (AtDue v (due ∷ dues) trees) n item st h low =
     subst (λ (to : Stepped). IsLow to.state (suc n)) (sym h.1) (low_heading v due dues trees (suc n) (suc n) low)
-low_after (AtPart p) n item st h low =
+low_after (AtList p) n item st h low =
     subst (λ (to : Stepped). IsLow to.state (suc n)) (sym h.1.1) (low.0, low.1, omega (arith, low.2))
 low_after (AtNode v main p nodes pending count) n item st h low =
     subst (λ (to : Stepped). IsLow to.state (suc n)) (sym h.step_is)
@@ -190,7 +190,7 @@ atom_there test named a l true is h = is
 atom_there test named a l false is h =
     let none : leaves_there test named (cited.Split a) ≡ None = rw is refl in absurd (cc)
 
-node_low : (p : Part) (n : ℕ) (node : CitedNode) (l : ℕ) → IsLowTarget p.target → length p.named ≤ n → n < 2 ^ 64
+node_low : (p : Growing) (n : ℕ) (node : CitedNode) (l : ℕ) → IsLowTarget p.target → length p.named ≤ n → n < 2 ^ 64
     → leaves_there (is_atom_of p.target) p.named node ≡ Some l → IsLowNode node
 node_low p n (cited.Split a) l target most low there =
     target a (atom_there (is_atom_of p.target) p.named a l (is_atom_of p.target a) refl there)
@@ -202,7 +202,7 @@ pub item_again : (s : State) (n : ℕ) (item : Item) (st : Stepped) → Took s (
 item_again (First dues) n item st h low small = rw h.1.0 refl
 item_again (AtDue v [] trees) n item st h low small = rw h.0 refl
 item_again (AtDue v (due ∷ dues) trees) n item st h low small = rw h.0 refl
-item_again (AtPart p) n item st h low small = rw h.1.0 refl
+item_again (AtList p) n item st h low small = rw h.1.0 refl
 item_again (AtNode v main p nodes pending count) n item st h low small =
     subst (λ (it : Item). item_in (AtNode v main p nodes pending count) (item_line it) ≡ it) (sym h.item_is)
     (rw (node_written h.node (node_low p n h.node h.leaves low.0 low.2 small h.there)) refl)

@@ -22,7 +22,7 @@ use Rattle.cat_cert_text.specs.Lines.{Due, TargetDue, dues_of, heading_line, nod
 use Rattle.cat_cert_text.specs.Lines.{tree_lines, due_lines, certificate_lines}
 use Rattle.cat_cert_text.specs.Certified.{is_atom_of, MayName, IsTreeOf, AreTreesOf}
 use Rattle.cat_cert_read.specs.inside.LineForms.{name_line}
-use Rattle.cat_cert_read.specs.inside.States.{Part, State, First, AtDue, AtPart, AtNode, Done}
+use Rattle.cat_cert_read.specs.inside.States.{Growing, State, First, AtDue, AtList, AtNode, Done}
 use Rattle.cat_cert_read.specs.inside.States.{with_name, whole_tree, after_list}
 use Rattle.cat_cert_read.proofs.TreeLemmas.{named_last}
 
@@ -41,7 +41,7 @@ pub record DueAt (tables : List Table) (v : Version) (dues : List Due) (trees : 
         → certificate_lines v tables (trees_in trees ++ more) ≡ before ++ due_lines v dues more
 
 -- a target is due, and these are its named trees as far as they are read
-pub record PartAt (tables : List Table) (v : Version) (p : Part) : Type 0 where
+pub record PartAt (tables : List Table) (v : Version) (p : Growing) : Type 0 where
   pub base : List (List ℕ)
   pub due : DueAt tables v (TargetDue p.target ∷ p.dues) p.trees base
   pub named : List Tree
@@ -55,7 +55,7 @@ pub record Awaits (ts : List Tree) (nodes : List CitedNode) (k : ℕ) : Type 0 w
       → (t : Tree) × (cited_trees_of ts (nodes ++ rest) ≡ Some (t ∷ drop k us))
 
 -- the lines up to a list of a tree
-abbrev pub IsOpened : Version → Bool → Part → List (List ℕ) → List (List ℕ) → Type 0
+abbrev pub IsOpened : Version → Bool → Growing → List (List ℕ) → List (List ℕ) → Type 0
 IsOpened version.One true p base opening =
     (p.names ≡ []) × (opening ≡ base ++ heading_line (TargetDue p.target) ∷ [])
 IsOpened version.One false p base opening = ⊥
@@ -65,7 +65,8 @@ IsOpened version.Two false p base opening =
     opening ≡ base ++ heading_line (TargetDue p.target) ∷ (named_lines 0 p.names ++ name_line (length p.names) ∷ [])
 
 -- nodes of a list as far as they are read, with so many subtrees behind the one that comes next
-pub record NodesAt (tables : List Table) (v : Version) (main : Bool) (p : Part) (nodes : List CitedNode) (pending : ℕ)
+pub record NodesAt (tables : List Table) (v : Version) (main : Bool) (p : Growing) (nodes : List CitedNode)
+    (pending : ℕ)
     (before : List (List ℕ)) : Type 0
   where
     pub part : PartAt tables v p
@@ -75,7 +76,7 @@ pub record NodesAt (tables : List Table) (v : Version) (main : Bool) (p : Part) 
     pub awaits : Awaits part.named nodes (suc pending)
     pub passes : nodes_pass (is_atom_of p.target) nodes ≡ true
 
-pub record NamesAt (tables : List Table) (p : Part) (before : List (List ℕ)) : Type 0 where
+pub record NamesAt (tables : List Table) (p : Growing) (before : List (List ℕ)) : Type 0 where
   pub part : PartAt tables version.Two p
   pub before_is : before ≡ part.base ++ heading_line (TargetDue p.target) ∷ named_lines 0 p.names
 
@@ -83,7 +84,7 @@ pub record NamesAt (tables : List Table) (p : Part) (before : List (List ℕ)) :
 abbrev pub Stands : List Table → List (List ℕ) → State → Type 0
 Stands tables before (First dues) = (before ≡ []) × (dues ≡ dues_of tables)
 Stands tables before (AtDue v dues trees) = DueAt tables v dues trees before
-Stands tables before (AtPart p) = NamesAt tables p before
+Stands tables before (AtList p) = NamesAt tables p before
 Stands tables before (AtNode v main p nodes pending count) = NodesAt tables v main p nodes pending before
 Stands tables before (Done v trees) =
     AreTreesOf v (dues_of tables) (trees_in trees) × (certificate_lines v tables (trees_in trees) ≡ before)
@@ -186,7 +187,7 @@ named_lines_last i (first ∷ names) nodes =
     ∙ sym (append_assoc (name_line i ∷ map node_line first) (named_lines (suc i) names) _)
 
 -- a list is whole that awaits no tree
-module _ (tables : List Table) (v : Version) (p : Part) (nodes : List CitedNode) (opening : List (List ℕ))
+module _ (tables : List Table) (v : Version) (p : Growing) (nodes : List CitedNode) (opening : List (List ℕ))
     (part : PartAt tables v p) (whole : Awaits part.named nodes 0)
     (passes : nodes_pass (is_atom_of p.target) nodes ≡ true) where
   abbrev one : (t : Tree) × (cited_trees_of part.named nodes ≡ Some (t ∷ []))
@@ -243,7 +244,7 @@ module _ (tables : List Table) (v : Version) (p : Part) (nodes : List CitedNode)
   }
 
 -- behind the last node of a list
-pub list_stands : (tables : List Table) (v : Version) (main : Bool) (p : Part) (nodes : List CitedNode) (count : ℕ)
+pub list_stands : (tables : List Table) (v : Version) (main : Bool) (p : Growing) (nodes : List CitedNode) (count : ℕ)
     (before opening : List (List ℕ)) (part : PartAt tables v p) → IsOpened v main p part.base opening
     → before ≡ opening ++ map node_line nodes → Awaits part.named nodes 0
     → nodes_pass (is_atom_of p.target) nodes ≡ true → Stands tables before (after_list v main p nodes count)

@@ -12,7 +12,8 @@ use Rattle.cat_cert_text.specs.declared.certificate.Version.TheVariants as versi
 use Rattle.cat_cert_text.specs.Lines.{Due, heading_line, first_line, node_line}
 use Rattle.cat_cert_text.specs.Certified.{is_atom_of}
 use Rattle.cat_cert_read.specs.inside.LineForms.{node_of, name_line, list_begun}
-use Rattle.cat_cert_read.specs.inside.States.{Part, State, First, AtDue, AtPart, AtNode, Done, Stepped, to, with_head}
+use Rattle.cat_cert_read.specs.inside.States.{Growing, State, First, AtDue, AtList, AtNode, Done, Stepped, to}
+use Rattle.cat_cert_read.specs.inside.States.{with_head}
 use Rattle.cat_cert_read.specs.inside.States.{leaves_there, after_node}
 use Rattle.cat_cert_read.specs.inside.Steps.{Item, Plain, Node, node_item, item_in, after_heading, stepped_on}
 use Rattle.cat_cert_read.specs.inside.Steps.{list_step, step}
@@ -24,16 +25,16 @@ item_line (Plain line) = line
 item_line (Node n) = node_line n
 
 -- the line before a list of a tree of version 2: of the tree itself, or of its next named tree
-abbrev pub part_line : Bool → Part → List ℕ
-part_line true p = codes "tree"
-part_line false p = name_line (length p.names)
+abbrev pub list_line : Bool → Growing → List ℕ
+list_line true p = codes "tree"
+list_line false p = name_line (length p.names)
 
 -- a step that belongs to no tree
 abbrev pub Goes : Item → List ℕ → Stepped → State → Type 0
 Goes item line st s = (item ≡ Plain line) × (st ≡ record { width = 0; state = s })
 
 -- a node that may stand there
-pub record IsNode (v : Version) (main : Bool) (p : Part) (nodes : List CitedNode) (pending count : ℕ) (item : Item)
+pub record IsNode (v : Version) (main : Bool) (p : Growing) (nodes : List CitedNode) (pending count : ℕ) (item : Item)
     (st : Stepped) : Type 0
   where
     pub node : CitedNode
@@ -50,8 +51,8 @@ abbrev pub Took : State → ℕ → Item → Stepped → Type 0
 Took (First dues) n item st = (v : Version) × Goes item (first_line v) st (AtDue v dues [])
 Took (AtDue v [] trees) n item st = Goes item (codes "end") st (Done v trees)
 Took (AtDue v (due ∷ dues) trees) n item st = Goes item (heading_line due) st (after_heading v due dues trees n)
-Took (AtPart p) n item st =
-    (main : Bool) × Goes item (part_line main p) st (AtNode version.Two main (with_head p n) [] 0 0)
+Took (AtList p) n item st =
+    (main : Bool) × Goes item (list_line main p) st (AtNode version.Two main (with_head p n) [] 0 0)
 Took (AtNode v main p nodes pending count) n item st = IsNode v main p nodes pending count item st
 Took (Done v trees) n item st = ⊥
 
@@ -65,21 +66,21 @@ tested line word s st true is h =
     (ap (λ (l : List ℕ). Plain l) ((bytes_eq-Decides line word).0 is), sym there)
 tested line word s st false is h = absurd (cc)
 
-begun_is : (p : Part) (line : List ℕ) (tree name : Bool) → bytes_eq line (codes "tree") ≡ tree
+begun_is : (p : Growing) (line : List ℕ) (tree name : Bool) → bytes_eq line (codes "tree") ≡ tree
     → bytes_eq line (name_line (length p.names)) ≡ name → (main : Bool)
-    → (if tree then Some true else if name then Some false else None) ≡ Some main → line ≡ part_line main p
+    → (if tree then Some true else if name then Some false else None) ≡ Some main → line ≡ list_line main p
 begun_is p line true name one two main is =
     let same : true ≡ main = cc in
-    (bytes_eq-Decides line (codes "tree")).0 one ∙ ap (λ (m : Bool). part_line m p) same
+    (bytes_eq-Decides line (codes "tree")).0 one ∙ ap (λ (m : Bool). list_line m p) same
 begun_is p line false true one two main is =
     let same : false ≡ main = cc in
-    (bytes_eq-Decides line (name_line (length p.names))).0 two ∙ ap (λ (m : Bool). part_line m p) same
+    (bytes_eq-Decides line (name_line (length p.names))).0 two ∙ ap (λ (m : Bool). list_line m p) same
 begun_is p line false false one two main is = absurd (cc)
 
-took_part : (p : Part) (n : ℕ) (line : List ℕ) (st : Stepped) (begun : Option Bool)
-    → list_begun (length p.names) line ≡ begun → list_step p n begun ≡ Some st → Took (AtPart p) n (Plain line) st
-took_part p n line st None is h = absurd (cc)
-took_part p n line st (Some main) is h =
+took_list : (p : Growing) (n : ℕ) (line : List ℕ) (st : Stepped) (begun : Option Bool)
+    → list_begun (length p.names) line ≡ begun → list_step p n begun ≡ Some st → Took (AtList p) n (Plain line) st
+took_list p n line st None is h = absurd (cc)
+took_list p n line st (Some main) is h =
     let there : record { width = 0; state = AtNode version.Two main (with_head p n) [] 0 0 } ≡ st = cc in
     let line_is =
     begun_is p line (bytes_eq line (codes "tree")) (bytes_eq line (name_line (length p.names))) refl refl main is in
@@ -98,7 +99,7 @@ took_first dues n line st false is h = (
       (bytes_eq line (first_line version.Two)) refl h,
 )
 
-took_node : (v : Version) (main : Bool) (p : Part) (nodes : List CitedNode) (pending count : ℕ) (node : CitedNode)
+took_node : (v : Version) (main : Bool) (p : Growing) (nodes : List CitedNode) (pending count : ℕ) (node : CitedNode)
     (st : Stepped) (there : Option ℕ) → leaves_there (is_atom_of p.target) p.named node ≡ there
     → stepped_on v main p nodes pending count node there ≡ Some st
     → IsNode v main p nodes pending count (Node node) st
@@ -120,8 +121,8 @@ took (AtDue v [] trees) n (Node node) st h = absurd (cc)
 took (AtDue v (due ∷ dues) trees) n (Plain line) st h =
     tested line (heading_line due) (after_heading v due dues trees n) st (bytes_eq line (heading_line due)) refl h
 took (AtDue v (due ∷ dues) trees) n (Node node) st h = absurd (cc)
-took (AtPart p) n (Plain line) st h = took_part p n line st (list_begun (length p.names) line) refl h
-took (AtPart p) n (Node node) st h = absurd (cc)
+took (AtList p) n (Plain line) st h = took_list p n line st (list_begun (length p.names) line) refl h
+took (AtList p) n (Node node) st h = absurd (cc)
 took (AtNode v main p nodes pending count) n (Plain line) st h = absurd (cc)
 took (AtNode v main p nodes pending count) n (Node node) st h =
     took_node v main p nodes pending count node st (leaves_there (is_atom_of p.target) p.named node) refl h
@@ -151,13 +152,13 @@ pub takes_heading : (v : Version) (due : Due) (dues : List Due) (n : ℕ) (trees
 unfolding step
 takes_heading v due dues n trees = rw (itself (heading_line due)) refl
 
-pub takes_part : (main : Bool) (p : Part) (n : ℕ)
-    → step (AtPart p) n (Plain (part_line main p)) ≡ to (AtNode version.Two main (with_head p n) [] 0 0)
+pub takes_list : (main : Bool) (p : Growing) (n : ℕ)
+    → step (AtList p) n (Plain (list_line main p)) ≡ to (AtNode version.Two main (with_head p n) [] 0 0)
 unfolding step
-takes_part true p n = refl
-takes_part false p n = rw (itself (name_line (length p.names))) refl
+takes_list true p n = refl
+takes_list false p n = rw (itself (name_line (length p.names))) refl
 
-pub takes_node : (v : Version) (main : Bool) (p : Part) (nodes : List CitedNode) (pending count n : ℕ)
+pub takes_node : (v : Version) (main : Bool) (p : Growing) (nodes : List CitedNode) (pending count n : ℕ)
     (node : CitedNode) (leaves : ℕ) → leaves_there (is_atom_of p.target) p.named node ≡ Some leaves
     → step (AtNode v main p nodes pending count) n (Node node) ≡ Some (record {
       width = count + leaves;
@@ -176,6 +177,6 @@ from_node line (Some n) at = sym (node_read line n at)
 pub line_of_item : (s : State) (line : List ℕ) → item_line (item_in s line) ≡ line
 line_of_item (First dues) line = refl
 line_of_item (AtDue v dues trees) line = refl
-line_of_item (AtPart p) line = refl
+line_of_item (AtList p) line = refl
 line_of_item (AtNode v main p nodes pending count) line = from_node line (node_of line) refl
 line_of_item (Done v trees) line = refl

@@ -25,9 +25,9 @@ use Rattle.cat_cert_text.specs.Lines.{first_line}
 use Rattle.cat_cert_text.specs.Lines.{node_line}
 use Rattle.cat_cert_text.specs.Fronts.{IsFront, IsSmallFront, IsCertificate}
 use Rattle.cat_cert_text.specs.Causes.{IsReadBehind, IsMisnamed, IsStray, IsMet, IsNone, RefusedBehind}
-use Rattle.cat_cert_read.specs.inside.States.{Part, State, First, AtDue, AtPart, AtNode, Done, Stepped}
+use Rattle.cat_cert_read.specs.inside.States.{Growing, State, First, AtDue, AtList, AtNode, Done, Stepped}
 use Rattle.cat_cert_read.specs.inside.Steps.{Plain, item_in, step, refusal_at, ended_in, met, outcome}
-use Rattle.cat_cert_read.proofs.StepLemmas.{item_line, part_line, Took, took, takes_heading, line_of_item}
+use Rattle.cat_cert_read.proofs.StepLemmas.{item_line, list_line, Took, took, takes_heading, line_of_item}
 use Rattle.cat_cert_read.proofs.LeadLemmas.{LineLeads, line_leads_last, AreLow}
 use Rattle.cat_cert_read.proofs.StandLemmas.{trees_in}
 use Rattle.cat_cert_read.proofs.GoesLemmas.{finished, line_stands}
@@ -57,7 +57,7 @@ no_end : (due : Due) → letter due (codes "end") ≡ letter_of due → ⊥
 no_end (ScopeDue name) h = omega (arith, h)
 no_end (TargetDue t) h = omega (arith, h)
 
-no_part : (due : Due) (main : Bool) (p : Part) → letter due (part_line main p) ≡ letter_of due → ⊥
+no_part : (due : Due) (main : Bool) (p : Growing) → letter due (list_line main p) ≡ letter_of due → ⊥
 no_part (ScopeDue name) true p h = omega (arith, h)
 no_part (ScopeDue name) false p h = omega (arith, h)
 no_part (TargetDue t) true p h = omega (arith, h)
@@ -86,7 +86,7 @@ abbrev IsDue : State → Due → List ℕ → Type 0
 IsDue (First dues) other name = ⊥
 IsDue (AtDue v [] trees) other name = ⊥
 IsDue (AtDue v (due ∷ dues) trees) other name = (heading_word other ≡ heading_word due) × (name ≡ due_name due)
-IsDue (AtPart p) other name = ⊥
+IsDue (AtList p) other name = ⊥
 IsDue (AtNode v main p nodes pending count) other name = ⊥
 IsDue (Done v trees) other name = ⊥
 
@@ -105,7 +105,7 @@ heading_due s n other name st goes =
     by (AtDue v [] trees) h back =
         no_end other (ap (letter other) (sym (plain_is _ _ h.0)) ∙ heading_letter other name)
     by (AtDue v (due ∷ dues) trees) h back = same_heading due other name (plain_is _ _ h.0)
-    by (AtPart p) h back =
+    by (AtList p) h back =
         no_part other h.0 p (ap (letter other) (sym (plain_is _ _ h.1.0)) ∙ heading_letter other name)
     by (AtNode v main p nodes pending count) h back =
         no_node other h.node (ap (letter other) (ap item_line (sym h.item_is) ∙ back) ∙ heading_letter other name)
@@ -127,7 +127,7 @@ slice_at (x ∷ before) line lines = slice_at before line lines
 abbrev is_done : State → Bool
 is_done (First dues) = false
 is_done (AtDue v dues trees) = false
-is_done (AtPart p) = false
+is_done (AtList p) = false
 is_done (AtNode v main p nodes pending count) = false
 is_done (Done v trees) = true
 
@@ -174,8 +174,8 @@ module _ (tables : List Table) (low : AreLow (dues_of tables)) (passed : ℕ) (r
       short_at before ws (First dues) way small refl bound
   ends before ws (AtDue v dues trees) way small n count bound =
       short_at before ws (AtDue v dues trees) way small refl bound
-  ends before ws (AtPart p) way small n count bound =
-      short_at before ws (AtPart p) way small refl bound
+  ends before ws (AtList p) way small n count bound =
+      short_at before ws (AtList p) way small refl bound
   ends before ws (AtNode v main p nodes pending count) way small n number bound =
       short_at before ws (AtNode v main p nodes pending count) way small refl bound
   ends before ws (Done v certs) way small n count bound = done_is before ws v certs way small n count bound rest refl
@@ -295,8 +295,8 @@ module _ (tables : List Table) (low : AreLow (dues_of tables)) (passed : ℕ) (r
     refused ws (AtDue v (due ∷ dues) trees) way small bound none n number =
         named ws v due dues trees way small bound none
         (starts_with nat_eq line (heading_word due) && is_utf8 line) refl n number
-    refused ws (AtPart p) way small bound none n number =
-        bad_here ws (AtPart p) way small bound none n number refl (λ m at. at)
+    refused ws (AtList p) way small bound none n number =
+        bad_here ws (AtList p) way small bound none n number refl (λ m at. at)
     refused ws (AtNode v main p nodes pending count) way small bound none n number =
         bad_here ws (AtNode v main p nodes pending count) way small bound none n number refl (λ m at. at)
     refused ws (Done v certs) way small bound none n number = (

@@ -5,7 +5,7 @@ ghost use Rattle.cat_cert_text.specs.declared.certificate.TheConstants.{MOST_LEA
 ghost use Rattle.cat_cert_text.specs.Certified.{is_atom_of};
 ghost use Rattle.cat_guard.specs.declared.table.TableTarget.{TableTarget};
 ghost use Rattle.cat_cert_read.specs.inside.Atoms.{HasAtoms};
-ghost use Rattle.cat_cert_read.specs.inside.States.{Part, AtNode, after_list, leaves_there, pending_after};
+ghost use Rattle.cat_cert_read.specs.inside.States.{Growing, AtNode, after_list, leaves_there, pending_after};
 ghost use Rattle.cat_cert_read.specs.inside.Outcomes.{IsWithin, ending, Passes};
 
 use crate::line::node_of;
@@ -63,7 +63,7 @@ pub(crate) fn read_nodes(
     requires { IsWithin bytes.now place.old }
     ensures within { IfOk result (λ read. IsWithin bytes.now place.new) }
     ensures later { IfOk result (λ read. place.old.at ≤ place.new.at) }
-    ensures read { (v : Versions) (main : Bool) (p : Part) → HasAtoms atoms.now p.target → named.now ≡ p.named
+    ensures read { (v : Versions) (main : Bool) (p : Growing) → HasAtoms atoms.now p.target → named.now ≡ p.named
         → Passes (ending (AtNode v main p [] 0 0) bytes.now place.old) result
         (λ read. ending (after_list v main p read.nodes read.count) bytes.now place.new) }
 {

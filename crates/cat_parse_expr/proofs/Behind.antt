@@ -27,7 +27,7 @@ use Rattle.cat_lex.specs.declared.token.TokenKind.{TokenKind}
 use Rattle.cat_parse_expr.proofs.Rows.{so_far, room, IsRow, Begun, ReachedAt}
 use Rattle.cat_parse_expr.proofs.WordsAre.{some_same}
 use Rattle.cat_parse_step.specs.Words.{Move, Onward, Grown}
-use Rattle.cat_parse_state.specs.Readings.{done}
+use Rattle.cat_parse_state.specs.Readings.{node_in}
 use Rattle.cat_parse_step.specs.Machine.{some, strength_of}
 use Rattle.cat_parse_step.specs.Starts.{if_at}
 use Rattle.cat_parse_step.specs.declared.follow.Follow.{Follow}
@@ -161,7 +161,7 @@ match_level (x ∷ xs) = refl
 
 -- the row of a whole expression, and its strength
 pub done_row : (k : ℕ) (q : State) (high : ℕ) (b c : Bool) (front : List Token) (n : Node) → ReachedAt k q high b c
-    front → done q ≡ Some n → IsRow k (phrase n) (suc high) b c front × (strength_of q ≡ right_strength (phrase n))
+    front → node_in q ≡ Some n → IsRow k (phrase n) (suc high) b c front × (strength_of q ≡ right_strength (phrase n))
 done_row k (state.Complete e s) high b c front n r h = subst (λ (x : Node). IsRow k (phrase x) (suc high) b c front
     × (strength_of (state.Complete e s) ≡ right_strength (phrase x))) (node_same (e) n h) (r)
 done_row k (state.Int i p) high b c front n r h = subst (λ (x : Node). IsRow k (phrase x) (suc high) b c front
@@ -215,7 +215,7 @@ strong_is k q high b c front n d = ap (λ (x : Bool). cond x 0 (strength_of q)) 
     ∙ ap (λ (x : ℕ). cond (ends_in_form (phrase n)) 0 x) d.1
 
 pub done_reached : (k : ℕ) (q : State) (high : ℕ) (b c : Bool) (n : Node) (p : Token) (front : List Token) (m : Move)
-    → ReachedAt k q high b c front → done q ≡ Some n → whole_step k (cond b 0 (strength_of q)) n p ≡ Some m
+    → ReachedAt k q high b c front → node_in q ≡ Some n → whole_step k (cond b 0 (strength_of q)) n p ≡ Some m
     → MoveReached k m high p front
 done_reached k q high b c n p front m r d h = let row = done_row k q high b c front n r d in
     whole_reached k (cond b 0 (strength_of q)) high b c n p front m row.0 (strong_is k q high b c front n row) h

@@ -39,7 +39,7 @@ use Rattle.cat_parse_expr.proofs.WordsAre.{on_close_is, on_bracket_is, on_semico
 use Rattle.cat_parse_expr.proofs.WordsAre.{on_dashes_is, on_brace_is, on_end_brace_is, some_same}
 use Rattle.cat_parse_step.specs.Words.{Move, Onward, Grown, on_anything, on_content, upper_of, unit_of}
 use Rattle.cat_parse_step.specs.Marks.{on_bracket, on_brace, on_end_brace}
-use Rattle.cat_parse_state.specs.Readings.{feed, done}
+use Rattle.cat_parse_state.specs.Readings.{feed, node_in}
 use Rattle.cat_parse_step.specs.Machine.{step, some, strength_of, moved, shift}
 use Rattle.cat_parse_state.specs.Operands.{takes, needs_part, fed_state}
 use Rattle.std.specs.Prelude.{ℤ, int_lt}
@@ -63,7 +63,7 @@ is_closer (kind.Symbol symbol.RightBracket) = true
 is_closer (kind.Symbol symbol.RightBrace) = true
 is_closer _ = false
 
-stays_paren : (k s : ℕ) (q : State) (pos : Pos) (n : Node) → done q ≡ Some n
+stays_paren : (k s : ℕ) (q : State) (pos : Pos) (n : Node) → node_in q ≡ Some n
     → step k s q (record { kind = kind.Symbol symbol.RightParen; pos = pos }) ≡ None
 stays_paren k s (state.Complete e own) pos n d = refl
 stays_paren k s (state.Int i p) pos n d = refl
@@ -75,7 +75,7 @@ stays_paren k s (state.Tested e p u) pos n d = refl
 stays_paren k s (state.Matched x b) pos n d = refl
 stays_paren k s _ pos n d = absurd cc
 
-stays_bracket : (k s : ℕ) (q : State) (pos : Pos) (n : Node) → done q ≡ Some n
+stays_bracket : (k s : ℕ) (q : State) (pos : Pos) (n : Node) → node_in q ≡ Some n
     → step k s q (record { kind = kind.Symbol symbol.RightBracket; pos = pos }) ≡ None
 stays_bracket k s (state.Complete e own) pos n d = refl
 stays_bracket k s (state.Int i p) pos n d = refl
@@ -87,7 +87,7 @@ stays_bracket k s (state.Tested e p u) pos n d = refl
 stays_bracket k s (state.Matched x b) pos n d = refl
 stays_bracket k s _ pos n d = absurd cc
 
-stays_brace : (k s : ℕ) (q : State) (pos : Pos) (n : Node) → done q ≡ Some n
+stays_brace : (k s : ℕ) (q : State) (pos : Pos) (n : Node) → node_in q ≡ Some n
     → step k s q (record { kind = kind.Symbol symbol.RightBrace; pos = pos }) ≡ None
 stays_brace k s (state.Complete e own) pos n d = refl
 stays_brace k s (state.Int i p) pos n d = refl
@@ -105,7 +105,7 @@ no_some x h = absurd cc
 none_some : (o : Option Move) (m : Move) → o ≡ None → o ≡ Some m → ⊥
 none_some o m a b = no_some m (sym a ∙ b)
 
-no_taker : (k s : ℕ) (q : State) (kd : TokenKind) (pos : Pos) (n : Node) (m : Move) → done q ≡ Some n
+no_taker : (k s : ℕ) (q : State) (kd : TokenKind) (pos : Pos) (n : Node) (m : Move) → node_in q ≡ Some n
     → is_closer kd ≡ true → step k s q (record { kind = kd; pos = pos }) ≡ Some m → ⊥
 no_taker k s q (kind.Symbol symbol.RightParen) pos n m d c h =
     none_some (step k s q (record { kind = kind.Symbol symbol.RightParen; pos = pos })) m (stays_paren k s q pos n d) h
@@ -118,8 +118,8 @@ no_taker k s q (kind.Symbol symbol.RightBrace) pos n m d c h =
 no_taker k s q _ pos n m d c h = absurd cc
 
 abbrev MoveDone : Move → Node → Type 0
-MoveDone (Onward q) n = done q ≡ Some n
-MoveDone (Grown q) n = done q ≡ Some n
+MoveDone (Onward q) n = node_in q ≡ Some n
+MoveDone (Grown q) n = node_in q ≡ Some n
 
 clash : (m : Move) (n : Node) → Unfinished m → MoveDone m n → ⊥
 clash (Onward q) n u d = let v = u.0 in absurd cc
@@ -133,7 +133,7 @@ either kd p a b m (inr x) f g = g x
 
 -- one word that leads to a state that isn't whole
 one_word : (kd : TokenKind) (p : Token) (q : State) (m : Move) (n : Node) → ((p.kind ≡ kd) × (some q ≡ Some m)) ⊎
-    (None ≡ Some m) → (done q ≡ None) × (needs_part q ≡ false) → MoveDone m n → is_closer p.kind ≡ true
+    (None ≡ Some m) → (node_in q ≡ None) × (needs_part q ≡ false) → MoveDone m n → is_closer p.kind ≡ true
 one_word kd p q m n (inl x) u d = absurd (clash m n (opens_as (Onward q) m x.1 u) d)
 one_word kd p q m n (inr x) u d = absurd (no_some m x)
 
@@ -214,15 +214,15 @@ reading_or r None = r
 reading_or r (Some x) = x
 
 moved_from : (r more : Reading) (o : Option Move) → moved r o ≡ Some more → (m : Move) × (o ≡ Some m)
-    × ((n : Node) → done more.state ≡ Some n → MoveDone m n)
+    × ((n : Node) → node_in more.state ≡ Some n → MoveDone m n)
 moved_from r more None h = absurd cc
 moved_from r more (Some (Onward q)) h =
-    (Onward q, refl, λ n d. ap (λ (x : Option Reading). done (reading_or r x).state) h ∙ d)
+    (Onward q, refl, λ n d. ap (λ (x : Option Reading). node_in (reading_or r x).state) h ∙ d)
 moved_from r more (Some (Grown q)) h =
-    (Grown q, refl, λ n d. ap (λ (x : Option Reading). done (reading_or r x).state) h ∙ d)
+    (Grown q, refl, λ n d. ap (λ (x : Option Reading). node_in (reading_or r x).state) h ∙ d)
 
 pub closes : (k j : ℕ) (r more : Reading) (e : Measured) (p : Token) (n : Node) → takes r.state ≡ Some j
-    → shift k (feed r e) p ≡ Some more → done more.state ≡ Some n → Taker p → ⊥
+    → shift k (feed r e) p ≡ Some more → node_in more.state ≡ Some n → Taker p → ⊥
 unfolding shift feed
 closes k j r more e p n t h d taker =
     let f = feed r e in
@@ -262,7 +262,7 @@ NoStep k s q (t ∷ ts) = step k s q t ≡ None
 
 -- the move leads nowhere with the next token
 record Stuck (m : Move) (ts : List Token) : Type 0 where
-  unfinished : done (target m) ≡ None
+  unfinished : node_in (target m) ≡ None
   waits_not : takes (target m) ≡ None
   no_step : (k s : ℕ) → NoStep k s (target m) ts
 
@@ -366,7 +366,7 @@ call_hold f a more =
     omega (arith, ap row_hold (phrase_Call f (a ∷ more)), elements_hold 10 symbol.Comma (phrase a) (map phrase more))
 
 state_calm : (k s high : ℕ) (b c : Bool) (front : List Token) (q : State) (n : Node) (p : Token) (ts : List Token)
-    (m : Move) → ReachedAt k q high b c front → done q ≡ Some n → k ≤ 9 → step k s q p ≡ Some m
+    (m : Move) → ReachedAt k q high b c front → node_in q ≡ Some n → k ≤ 9 → step k s q p ≡ Some m
     → sign_pull p.kind ts ≤ row_hold (phrase n) → follow_pull (follow_of p.kind) ts ≤ k → Stuck m ts
 state_calm k s high b c front (state.Complete e own) n p ts m r d k9 h le op =
     whole_calm k s e p.pos ts (follow_of p.kind) m k9 h op
@@ -452,7 +452,7 @@ ends_at k r (t ∷ ts) w no_step =
     ap (λ (x : Option Move). shifted r ts (moved r x)) (no_step k (cond r.in_form 0 (strength_of r.state))) ∙ ap asked w
 
 stops_by : (k : ℕ) (end : Reading) (n : Node) (front : List Token) (p : Token) (ts : List Token) (o : Option Move)
-    → Reached k end front → done end.state ≡ Some n → k ≤ 9 → sign_pull p.kind ts ≤ row_hold (phrase n)
+    → Reached k end front → node_in end.state ≡ Some n → k ≤ 9 → sign_pull p.kind ts ≤ row_hold (phrase n)
     → follow_pull (follow_of p.kind) ts ≤ k → step k (cond end.in_form 0 (strength_of end.state)) end.state p ≡ o
     → Stops k end (p ∷ ts)
 unfolding shift
@@ -468,13 +468,13 @@ stops_by k end n front p ts (Some m) h d k9 le op e =
       more = moved_to end m;
       text = refl;
       taken = ap (moved end) e ∙ moved_is end m;
-      unfinished = ap done same ∙ stuck.unfinished;
+      unfinished = ap node_in same ∙ stuck.unfinished;
       ends = ends_at k (moved_to end m) ts (ap takes same ∙ stuck.waits_not)
           (λ j s. subst (λ (q : State). NoStep j s q ts) (sym same) (stuck.no_step j s));
     })
 
 pub calm_stops : (k : ℕ) (end : Reading) (n : Node) (front rest : List Token) → Reached k end front
-    → done end.state ≡ Some n → k ≤ 9 → Calm k (whole end n) rest → Stops k end rest
+    → node_in end.state ≡ Some n → k ≤ 9 → Calm k (whole end n) rest → Stops k end rest
 unfolding pull op_pull hold
 calm_stops k end n front [] h d k9 c = inl (ap asked (done_wants end.state n d))
 calm_stops k end n front (p ∷ ts) h d k9 c = stops_by k end n front p ts

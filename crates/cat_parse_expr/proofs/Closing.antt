@@ -22,7 +22,7 @@ use Rattle.cat_parse_expr.proofs.WordsAre.{on_of_is, on_content_is, on_comma_is,
 use Rattle.cat_parse_expr.proofs.WordsAre.{some_same}
 use Rattle.cat_parse_step.specs.Words.{Move, Onward, Grown, on_content, unit_of}
 use Rattle.cat_parse_step.specs.Marks.{on_brace}
-use Rattle.cat_parse_state.specs.Readings.{done}
+use Rattle.cat_parse_state.specs.Readings.{node_in}
 use Rattle.cat_parse_step.specs.Machine.{step, some, strength_of, moved, shift}
 use Rattle.cat_parse_state.specs.Operands.{needs_part}
 use Rattle.std.specs.Prelude.{ℤ, int_lt}
@@ -60,11 +60,11 @@ pull_two a b r s = (sign_two a.kind b r s, follow_two (follow_of a.kind) b r s)
 -- where a move from a whole expression leads
 abbrev pub Opens : Move → Type 0
 Opens (Onward q) = Unit {0}
-Opens (Grown q) = done q ≡ None
+Opens (Grown q) = node_in q ≡ None
 
 abbrev pub Unfinished : Move → Type 0
-Unfinished (Onward q) = (done q ≡ None) × (needs_part q ≡ false)
-Unfinished (Grown q) = (done q ≡ None) × (needs_part q ≡ false)
+Unfinished (Onward q) = (node_in q ≡ None) × (needs_part q ≡ false)
+Unfinished (Grown q) = (node_in q ≡ None) × (needs_part q ≡ false)
 
 pub opens_as : (m n : Move) → Some m ≡ Some n → Unfinished m → Unfinished n
 opens_as m n h u = subst Unfinished (some_same m n h) u
@@ -89,7 +89,7 @@ alternatives kd p a b m (inr x) f g = g x
 -- a number with its unit is as high as the number
 abbrev pub Fine : Move → Type 0
 Fine (Onward q) = needs_part q ≡ false
-Fine (Grown q) = (done q ≡ None) × (needs_part q ≡ false)
+Fine (Grown q) = (node_in q ≡ None) × (needs_part q ≡ false)
 
 fine_of : (m : Move) → Unfinished m → Fine m
 fine_of (Onward q) u = u.1
@@ -119,11 +119,11 @@ unit_fine n at k s (kind.Word key.Day) pos m h =
 unit_fine n at k s kd pos m h =
     fine_of m (whole_unfinished k s (leaf.Literal (literal.Int n) at) pos (follow_of kd) m h)
 
-if_at_unfinished : (k l : ℕ) (q : State) (m : Move) → (done q ≡ None) × (needs_part q ≡ false) → if_at k l q ≡ Some m
+if_at_unfinished : (k l : ℕ) (q : State) (m : Move) → (node_in q ≡ None) × (needs_part q ≡ false) → if_at k l q ≡ Some m
     → Unfinished m
 if_at_unfinished k l q m u h = if_unfinished (leb k l) (Onward q) m h u
 
-pub whole_opens : (k s : ℕ) (q : State) (n : Node) (p : Token) (m : Move) → done q ≡ Some n → step k s q p ≡ Some m
+pub whole_opens : (k s : ℕ) (q : State) (n : Node) (p : Token) (m : Move) → node_in q ≡ Some n → step k s q p ≡ Some m
     → Fine m
 whole_opens k s (state.Complete e own) n p m d h = fine_of m (whole_unfinished k s e p.pos (follow_of p.kind) m h)
 whole_opens k s (state.Int i at) n p m d h = unit_fine i at k s p.kind p.pos m h
@@ -176,16 +176,16 @@ reading_or r None = r
 reading_or r (Some x) = x
 
 moved_low : (r more : Reading) (o : Option Move) (m : Node) → ((x : Move) → o ≡ Some x → Fine x) → moved r o ≡ Some more
-    → done more.state ≡ Some m → more.tallest ≡ r.tallest
+    → node_in more.state ≡ Some m → more.tallest ≡ r.tallest
 moved_low r more None m f e h = absurd cc
 moved_low r more (Some (Onward q)) m f e h = ap (λ (x : Option Reading). (reading_or r x).tallest) (sym e)
 moved_low r more (Some (Grown q)) m f e h =
-    let open_ : done q ≡ None = (f (Grown q) refl).0 in
-    let same : done q ≡ Some m = ap (λ (x : Option Reading). done (reading_or r x).state) e ∙ h in
+    let open_ : node_in q ≡ None = (f (Grown q) refl).0 in
+    let same : node_in q ≡ Some m = ap (λ (x : Option Reading). node_in (reading_or r x).state) e ∙ h in
     absurd cc
 
-pub unit_low : (k : ℕ) (r more : Reading) (p : Token) (n m : Node) → done r.state ≡ Some n → shift k r p ≡ Some more
-    → done more.state ≡ Some m → more.tallest ≡ r.tallest
+pub unit_low : (k : ℕ) (r more : Reading) (p : Token) (n m : Node) → node_in r.state ≡ Some n → shift k r p ≡ Some more
+    → node_in more.state ≡ Some m → more.tallest ≡ r.tallest
 unfolding shift
 unit_low k r more p n m d e h = moved_low r more (step k (cond r.in_form 0 (strength_of r.state)) r.state p) m
     (λ x is. whole_opens k (cond r.in_form 0 (strength_of r.state)) r.state n p x d is) e h
@@ -199,7 +199,7 @@ moved_needs r more (Some (Grown q)) f e = ap (λ (x : Option Reading). needs_par
     ∙ (f (Grown q) refl).1
 
 -- a word behind a whole expression begins none that has to have a part
-pub unit_needs : (k : ℕ) (r more : Reading) (p : Token) (n : Node) → done r.state ≡ Some n → shift k r p ≡ Some more
+pub unit_needs : (k : ℕ) (r more : Reading) (p : Token) (n : Node) → node_in r.state ≡ Some n → shift k r p ≡ Some more
     → needs_part more.state ≡ false
 unfolding shift
 unit_needs k r more p n d e = moved_needs r more (step k (cond r.in_form 0 (strength_of r.state)) r.state p)

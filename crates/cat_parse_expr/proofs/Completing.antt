@@ -27,7 +27,7 @@ use Rattle.cat_lex.specs.declared.token.TokenKind.{TokenKind}
 use Rattle.cat_parse_expr.proofs.Rows.{IsRow, IsMeasured, ReachedAt}
 use Rattle.cat_tree.proofs.Exported.{phrase_Literal}
 use Rattle.cat_parse_step.specs.Words.{Onward}
-use Rattle.cat_parse_state.specs.Readings.{done}
+use Rattle.cat_parse_state.specs.Readings.{node_in}
 use Rattle.cat_parse_step.specs.Machine.{step}
 use Rattle.cat_parse_state.specs.Operands.{takes, fed_state}
 use Rattle.cat_tree.specs.declared.name.Base.TheVariants as base
@@ -122,11 +122,11 @@ left_over _ = 0
 
 -- a state is whole, waits for an operand, or goes on with some word
 abbrev pub GoesOn : ℕ → ℕ → State → Type 0
-GoesOn k s q = ((n : Node) × (done q ≡ Some n)) ⊎
+GoesOn k s q = ((n : Node) × (node_in q ≡ Some n)) ⊎
     (((j : ℕ) × (takes q ≡ Some j)) ⊎ ((t : Token) × (next : State) × (step k s q t ≡ Some (Onward next))
     × (left_over next < left_over q)))
 
-whole_at : (k s : ℕ) (q : State) (n : Node) → done q ≡ Some n → GoesOn k s q
+whole_at : (k s : ℕ) (q : State) (n : Node) → node_in q ≡ Some n → GoesOn k s q
 whole_at k s q n e = inl (n, e)
 
 waits : (k s : ℕ) (q : State) (j : ℕ) → takes q ≡ Some j → GoesOn k s q

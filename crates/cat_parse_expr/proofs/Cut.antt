@@ -7,7 +7,7 @@ use Rattle.cat_lex.specs.declared.token.Token.{Token}
 use Rattle.cat_tree.specs.declared.expression.Node.{Node}
 use Rattle.cat_parse_state.specs.declared.state.Measured.{Measured}
 use Rattle.cat_parse_state.specs.declared.state.Reading.{Reading}
-use Rattle.cat_parse_state.specs.Readings.{start, feed, done}
+use Rattle.cat_parse_state.specs.Readings.{start, feed, node_in}
 use Rattle.cat_parse_step.specs.Machine.{shift}
 use Rattle.cat_parse_state.specs.Operands.{takes}
 use Rattle.cat_parse_expr.proofs.Rows.{IsMeasured}
@@ -82,7 +82,7 @@ is_nil [] b e = refl
 is_nil (p ∷ a) b e = absurd cc
 
 module _ (low : ℕ) (withins : AreWithin (read low) low) (k bound : ℕ) (z : List Token) (end : Reading) (n : Node)
-    (finished : done end.state ≡ Some n) where
+    (finished : node_in end.state ≡ Some n) where
   abbrev go : ℕ → Going
   go fuel = run (operand_of (read low)) k (suc low) fuel
 
@@ -102,11 +102,11 @@ module _ (low : ℕ) (withins : AreWithin (read low) low) (k bound : ℕ) (z : L
   cut_shift : (fuel : ℕ) (best : Option Best) (r more : Reading) (ts ws : List Token) (b : Bool)
       → end.tallest ≤ low ⊎ low < end.tallest → (end.tallest ≤ low → is_high (suc low) more ≡ false)
       → is_high (suc low) more ≡ b
-      → (is_high (suc low) more ≡ false → Ends_in (go fuel (best_of (done r.state) best r ts) more ws))
-      → Ends_in (cond b (stopped (best_of (done r.state) best r ts) (too_deep ts))
-      (go fuel (best_of (done r.state) best r ts) more ws))
+      → (is_high (suc low) more ≡ false → Ends_in (go fuel (best_of (node_in r.state) best r ts) more ws))
+      → Ends_in (cond b (stopped (best_of (node_in r.state) best r ts) (too_deep ts))
+      (go fuel (best_of (node_in r.state) best r ts) more ws))
   cut_shift fuel best r more ts ws true c grows h goes fair =
-      let le = fair (deep_stopped (best_of (done r.state) best r ts) (too_deep ts) refl) in
+      let le = fair (deep_stopped (best_of (node_in r.state) best r ts) (too_deep ts) refl) in
       absurd (no_test (is_high (suc low) more) (grows le) h)
   cut_shift fuel best r more ts ws false c grows h goes fair = goes h fair
 
@@ -224,7 +224,7 @@ module _ (low : ℕ) (withins : AreWithin (read low) low) (k bound : ℕ) (z : L
       (next_shift k r t.0 p (x ++ z) shift_is))
       (cut_shift fuel best r t.0 ts (x ++ z) (is_high (suc low) t.0) (side (cases_lt low end.tallest))
       (path_low k bound items t.0 end n low t.2 finished) refl
-      (λ flat. cutting items fuel (best_of (done r.state) best r ts) t.0 x y t.2 (low_shift (suc low) t.0 flat)
+      (λ flat. cutting items fuel (best_of (node_in r.state) best r ts) t.0 x y t.2 (low_shift (suc low) t.0 flat)
       (ap tail_of h) (omega arith)))
     where
       side : (low < end.tallest) ⊎ (end.tallest ≤ low) → end.tallest ≤ low ⊎ low < end.tallest

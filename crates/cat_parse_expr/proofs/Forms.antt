@@ -31,7 +31,7 @@ use Rattle.cat_tree.specs.Rows.{each_parts}
 use Rattle.cat_parse_state.specs.declared.state.State.{State}
 use Rattle.cat_parse_state.specs.declared.state.State.TheVariants as state
 use Rattle.cat_parse_step.specs.Words.{Onward}
-use Rattle.cat_parse_state.specs.Readings.{done, start}
+use Rattle.cat_parse_state.specs.Readings.{node_in, start}
 use Rattle.cat_parse_step.specs.Machine.{step, some, strength_of}
 use Rattle.std.specs.Prelude.{ℤ, int_lt, not}
 use Rattle.cat_tree.specs.declared.expression.Unit.{Unit as TimeUnit}
@@ -128,7 +128,7 @@ name_goes k bound w ts le low levels sp = word_at k bound start (leaf.Name w) (k
 
 -- a case's name, and what follows it
 pub case_walk : (k bound : ℕ) (c : CaseName) (n : Node) (ps : Parts) (ts : List Token) (q : State)
-    → done q ≡ Some (leaf.Case c) → ((u : Name) → c ≡ Bare u → q ≡ state.Upper u)
+    → node_in q ≡ Some (leaf.Case c) → ((u : Name) → c ≡ Bare u → q ≡ state.Upper u)
     → ((u v : Name) → c ≡ Qualified u v → q ≡ state.Qualified u v) → AreSpelled (case_parts c ps) ts
     → ((us : List Token) → AreSpelled ps us → Walk k bound (reading_at q 0 false false) n us) → Walk k bound start n ts
 case_walk k bound (Bare u) n ps ts q d f g sp go = word_at k bound start n (kind.Upper u.text) u.pos ps ts
@@ -146,7 +146,7 @@ abbrev case_state : CaseName → State
 case_state (Bare u) = state.Upper u
 case_state (Qualified u v) = state.Qualified u v
 
-pub case_done : (c : CaseName) → done (case_state c) ≡ Some (leaf.Case c)
+pub case_done : (c : CaseName) → node_in (case_state c) ≡ Some (leaf.Case c)
 case_done (Bare u) = refl
 case_done (Qualified u v) = refl
 

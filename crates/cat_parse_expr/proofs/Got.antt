@@ -6,7 +6,7 @@ use Rattle.cat_lex.specs.declared.token.Token.{Token}
 use Rattle.cat_tree.specs.declared.expression.Node.{Node}
 use Rattle.cat_parse_state.specs.declared.state.Measured.{Measured}
 use Rattle.cat_parse_state.specs.declared.state.Reading.{Reading}
-use Rattle.cat_parse_state.specs.Readings.{start, feed, done}
+use Rattle.cat_parse_state.specs.Readings.{start, feed, node_in}
 use Rattle.cat_parse_state.specs.Operands.{takes}
 use Rattle.cat_parse_expr.proofs.Rows.{IsMeasured}
 use Rattle.cat_parse_expr.proofs.Hold.{hold}
@@ -64,19 +64,19 @@ fed_kept n k limit go b r m (Reads e rest (Some s)) kept l le hb = by (reaches l
   where
     by : (c : Bool)
         → Got n (cond c (go (Some b) (feed r e) rest)
-        (stopped (best_of (done (feed r e).state) (Some b) (feed r e) rest)
+        (stopped (best_of (node_in (feed r e).state) (Some b) (feed r e) rest)
         s))
     by true = kept b (feed r e) rest hb (omega (arith, l.0))
-    by false = stopped_got n (done (feed r e).state) b (feed r e) rest s hb (omega (arith, l.0))
+    by false = stopped_got n (node_in (feed r e).state) b (feed r e) rest s hb (omega (arith, l.0))
 
 module _ (reader : ℕ → Reader) (low : ℕ) (fine : AreFine reader low) (k n : ℕ) where
   shift_kept : (go : Going) → Kept n go → (b : Best) (r more : Reading) (ts rest : List Token) (c : Bool)
       → length b.rest ≤ n → length ts ≤ n → length rest ≤ n
-      → Got n (cond c (stopped (best_of (done r.state) (Some b) r ts) (too_deep ts))
-      (go (best_of (done r.state) (Some b) r ts) more rest))
-  shift_kept go kept b r more ts rest true hb h hr = stopped_got n (done r.state) b r ts (too_deep ts) hb h
+      → Got n (cond c (stopped (best_of (node_in r.state) (Some b) r ts) (too_deep ts))
+      (go (best_of (node_in r.state) (Some b) r ts) more rest))
+  shift_kept go kept b r more ts rest true hb h hr = stopped_got n (node_in r.state) b r ts (too_deep ts) hb h
   shift_kept go kept b r more ts rest false hb h hr =
-      let c = best_kept n (done r.state) b r ts hb h in
+      let c = best_kept n (node_in r.state) b r ts hb h in
       subst (λ (x : Option Best). Got n (go x more rest)) (sym c.1) (kept c.0 more rest c.2 hr)
 
   turn_kept : (go : Going) → Kept n go → (b : Best) (r : Reading) (ts : List Token) (x : Next) → length b.rest ≤ n
@@ -86,7 +86,7 @@ module _ (reader : ℕ → Reader) (low : ℕ) (fine : AreFine reader low) (k n 
   turn_kept go kept b r ts (Asks j) hb h f = fed_kept n k (suc low) go b r (length ts)
       (operand_of reader (leb (suc low) r.tallest) j ts) kept (operand_leaves reader low j (leb (suc low) r.tallest) ts
       fine (takes_low r.state j f)) h hb
-  turn_kept go kept b r ts Ends hb h f = ended_got n (done r.state) b r ts hb h
+  turn_kept go kept b r ts Ends hb h f = ended_got n (node_in r.state) b r ts hb h
 
   run_kept : (fuel : ℕ) → Kept n (run (operand_of reader) k (suc low) fuel)
   unfolding run
@@ -97,7 +97,7 @@ module _ (reader : ℕ → Reader) (low : ℕ) (fine : AreFine reader low) (k n 
 -- at a whole tree
 module _ (reader : ℕ → Reader) (low : ℕ) (fine : AreFine reader low) (k : ℕ) where
   done_turn : (fuel : ℕ) (best : Option Best) (r : Reading) (n : Node) (ts : List Token) (x : Next)
-      → done r.state ≡ Some n → Follows k r ts x
+      → node_in r.state ≡ Some n → Follows k r ts x
       → Got (length ts) (turn (operand_of reader) k (suc low) (run (operand_of reader) k (suc low) fuel) best r ts x)
   done_turn fuel best r n ts (Shifted more rest) d f =
       subst (λ (o : Option Node). Got (length ts)
@@ -114,7 +114,7 @@ module _ (reader : ℕ → Reader) (low : ℕ) (fine : AreFine reader low) (k : 
   done_turn fuel best r n ts Ends d f = subst (λ (o : Option Node). Got (length ts) (ended o best r ts)) (sym d)
       (omega arith)
 
-  pub done_got : (fuel : ℕ) (best : Option Best) (r : Reading) (n : Node) (ts : List Token) → done r.state ≡ Some n
+  pub done_got : (fuel : ℕ) (best : Option Best) (r : Reading) (n : Node) (ts : List Token) → node_in r.state ≡ Some n
       → length ts < fuel → Got (length ts) (run (operand_of reader) k (suc low) fuel best r ts)
   unfolding run
   done_got zero best r n ts d room = absurd (omega arith)
@@ -125,7 +125,7 @@ AreGot reader limit = (j : ℕ) (e : Measured) (front rest : List Token) → IsM
     → Got (length rest) (reader j (front ++ rest))
 
 module _ (low : ℕ) (gots : AreGot (read low) low) (k bound : ℕ) (rest : List Token) (end : Reading) (n : Node)
-    (finished : done end.state ≡ Some n) (fits : end.tallest ≤ low) where
+    (finished : node_in end.state ≡ Some n) (fits : end.tallest ≤ low) where
   abbrev go : ℕ → Going
   go fuel = run (operand_of (read low)) k (suc low) fuel
 
@@ -139,20 +139,20 @@ module _ (low : ℕ) (gots : AreGot (read low) low) (k bound : ℕ) (rest : List
       → Got (length rest) (fed k (suc low) (go fuel) best r o)
   last_got fuel j best r e m (Fails s) a t l room g = absurd g
   last_got fuel j best r e m (Reads f left None) a t l room g =
-      let d = feed_done r e f j n a (ap (λ (x : Reading). done x.state) t ∙ finished) in
+      let d = feed_done r e f j n a (ap (λ (x : Reading). node_in x.state) t ∙ finished) in
       more_got (length left) (length rest) (go fuel best (feed r f) left) g
       (done_got (read low) low (read_fine low) k fuel best (feed r f) d.0 left d.1 (omega arith))
   last_got fuel j best r e m (Reads f left (Some s)) a t l room g = by (reaches (suc low) (next k (feed r f) left) s)
     where
       by : (c : Bool)
           → Got (length rest)
-          (cond c (go fuel best (feed r f) left) (stopped (best_of (done (feed r f).state) best (feed r f) left) s))
+          (cond c (go fuel best (feed r f) left) (stopped (best_of (node_in (feed r f).state) best (feed r f) left) s))
       by true =
-          let d = feed_done r e f j n a (ap (λ (x : Reading). done x.state) t ∙ finished) in
+          let d = feed_done r e f j n a (ap (λ (x : Reading). node_in x.state) t ∙ finished) in
           more_got (length left) (length rest) (go fuel best (feed r f) left) g
           (done_got (read low) low (read_fine low) k fuel best (feed r f) d.0 left d.1 (omega (arith, l.0)))
       by false =
-          let d = feed_done r e f j n a (ap (λ (x : Reading). done x.state) t ∙ finished) in
+          let d = feed_done r e f j n a (ap (λ (x : Reading). node_in x.state) t ∙ finished) in
           subst (λ (o : Option Node). Got (length rest) (stopped (best_of o best (feed r f) left) s)) (sym d.1) g
 
   pub getting : (items : List Item) → Gets items
@@ -161,9 +161,10 @@ module _ (low : ℕ) (gots : AreGot (read low) low) (k bound : ℕ) (rest : List
   getting (Tok p ∷ items) zero best r t room = absurd (omega arith)
   getting (Tok p ∷ items) (suc fuel) best r t room =
       let ts = text items ++ rest in
-      got_along (length rest) (go (suc fuel) best r (p ∷ ts)) (go fuel (best_of (done r.state) best r (p ∷ ts)) t.0 ts)
+      got_along (length rest) (go (suc fuel) best r (p ∷ ts))
+      (go fuel (best_of (node_in r.state) best r (p ∷ ts)) t.0 ts)
       (run_shift (read low) low k fuel best r t.0 p ts t.1 (path_low k bound items t.0 end n low t.2 finished fits))
-      (getting items fuel (best_of (done r.state) best r (p ∷ ts)) t.0 t.2 (omega arith))
+      (getting items fuel (best_of (node_in r.state) best r (p ∷ ts)) t.0 t.2 (omega arith))
   getting (Sub e f ∷ items) zero best r t room = let some = measured_some t.0 e f t.2 in absurd (omega arith)
   getting (Sub e f ∷ items) (suc fuel) best r t room =
       let g = path_grows k bound items (feed r e) end t.4 in

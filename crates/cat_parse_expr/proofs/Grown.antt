@@ -35,7 +35,7 @@ use Rattle.cat_lex.specs.declared.token.TokenKind.{TokenKind}
 use Rattle.cat_parse_expr.proofs.Rows.{Reached}
 use Rattle.cat_parse_step.specs.Words.{Move, Onward, Grown, on_of, on_content, unit_of}
 use Rattle.cat_parse_step.specs.Marks.{on_comma, on_dot, on_brace}
-use Rattle.cat_parse_state.specs.Readings.{feed, done, start}
+use Rattle.cat_parse_state.specs.Readings.{feed, node_in, start}
 use Rattle.cat_parse_step.specs.Machine.{step, some, strength_of, moved, shift}
 use Rattle.std.specs.Prelude.{int_lt}
 use Rattle.cat_tree.specs.declared.expression.Operator.{Operator}
@@ -99,7 +99,7 @@ path_then k bound bound2 (Sub e f ∷ items) r end i more last le t way = (
 then_walk : (k bound : ℕ) (a n : Node) (fa ts : List Token) (w : Walk k (row_hold (phrase a)) start a fa) (t : Token)
     (more : List Item) (last : Reading) → ts ≡ fa ++ t ∷ text more
     → ((us : List Token) → pull (t ∷ us) ≤ row_hold (phrase a)) → Path k bound w.end (Tok t ∷ more) last
-    → done last.state ≡ Some n → Walk k bound start n ts
+    → node_in last.state ≡ Some n → Walk k bound start n ts
 then_walk k bound a n fa ts w t more last e le way d = record {
   items = w.items ++ Tok t ∷ more;
   end = last;
@@ -281,7 +281,7 @@ whole_operator : (k s : ℕ) (n : Node) (o : Operator) (pos : Pos)
 whole_operator k s n o pos = ap (whole_next k s n pos) (operator_follow o)
 
 -- a whole expression that isn't a match, at an operator
-behind_operator : (k s : ℕ) (q : State) (n : Node) (o : Operator) (pos : Pos) → done q ≡ Some n
+behind_operator : (k s : ℕ) (q : State) (n : Node) (o : Operator) (pos : Pos) → node_in q ≡ Some n
     → ((x : Matching) (b : Bool) → q ≡ state.Matched x b → ⊥)
     → step k s q (record { kind = operator_kind o; pos = pos })
     ≡ whole_next k s n pos (Operated o)
@@ -322,10 +322,10 @@ behind_operator k s (state.Matched x b) n o pos d f = absurd (f x b refl)
 behind_operator k s _ n o pos d f = absurd cc
 
 -- a match is no left part
-no_match_left : (q : State) (n : Node) (j : ℕ) → done q ≡ Some n → 1 ≤ j → j ≤ left_strength (phrase n)
+no_match_left : (q : State) (n : Node) (j : ℕ) → node_in q ≡ Some n → 1 ≤ j → j ≤ left_strength (phrase n)
     → (x : Matching) (b : Bool) → q ≡ state.Matched x b → ⊥
 no_match_left q n j d some_ le x b e =
-    let same = node_same (node.Match x.pos x.tested x.arms) n (sym (ap done e) ∙ d) in
+    let same = node_same (node.Match x.pos x.tested x.arms) n (sym (ap node_in e) ∙ d) in
     let is = ap (λ (y : Node). left_strength (phrase y)) same in
     omega (arith, is, ap left_strength (phrase_Match x.pos x.tested x.arms), by (map arm_row x.arms))
   where
@@ -385,7 +385,7 @@ binary_goes k bound o p a b calm ih ts le low levels sp =
 
 -- ---- tests
 
-behind_test : (k s : ℕ) (q : State) (n : Node) (pos : Pos) → done q ≡ Some n
+behind_test : (k s : ℕ) (q : State) (n : Node) (pos : Pos) → node_in q ≡ Some n
     → ((x : Matching) (b : Bool) → q ≡ state.Matched x b → ⊥)
     → step k s q (record { kind = kind.Pair pair.WithPattern; pos = pos }) ≡ whole_next k s n pos Tests
 behind_test k s (state.Complete e own) n pos d f = ap (λ (x : Node). whole_next k s x pos Tests) (node_same e n d)
@@ -471,7 +471,7 @@ record FieldWay (k : ℕ) (r : Reading) (e : Node) (w : Name) (t u : Token) : Ty
   last : Reading
   first_word : shift k r t ≡ Some middle
   second_word : shift k middle u ≡ Some last
-  finished : done last.state ≡ Some (node.Field e w)
+  finished : node_in last.state ≡ Some (node.Field e w)
 
 dotted_way : (k : ℕ) (r : Reading) (e : Node) (w : Name) (t u : Token) → step k (cond r.in_form 0 (strength_of r.state))
     r.state t ≡ Some (Grown (state.Dot e)) → u ≡ record { kind = kind.Lower w.text; pos = w.pos } → FieldWay k r e w t u
@@ -490,7 +490,7 @@ dot_step : (k s : ℕ) (q : State) (n : Node) (t : Token) → t.kind ≡ kind.Sy
 dot_step k s q n t e le st = any_step k s q t (kind.Symbol symbol.Dot) (Grown (state.Dot n)) e
     (st t.pos ∙ ap (λ (b : Bool). cond b (Some (Grown (state.Dot n))) None) (le-leb 9 s le))
 
-field_way : (k : ℕ) (q : State) (high : ℕ) (b c : Bool) (e : Node) (w : Name) (t u : Token) → done q ≡ Some e
+field_way : (k : ℕ) (q : State) (high : ℕ) (b c : Bool) (e : Node) (w : Name) (t u : Token) → node_in q ≡ Some e
     → 9 ≤ cond b 0 (strength_of q) → t.kind ≡ kind.Symbol symbol.Dot
     → u ≡ record { kind = kind.Lower w.text; pos = w.pos } → FieldWay k (reading_at q high b c) e w t u
 field_way k (state.Complete x own) high b c e w t u d le kd at =

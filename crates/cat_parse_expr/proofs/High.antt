@@ -8,9 +8,10 @@ use Rattle.cat_lex.specs.declared.token.Token.{Token}
 use Rattle.cat_tree.specs.declared.expression.Node.{Node}
 use Rattle.cat_parse_state.specs.declared.state.Measured.{Measured}
 use Rattle.cat_parse_state.specs.declared.state.Reading.{Reading}
-use Rattle.cat_parse_state.specs.Readings.{start, feed, done}
+use Rattle.cat_parse_state.specs.Readings.{start, feed, node_in}
 use Rattle.cat_parse_step.specs.Machine.{shift}
-use Rattle.cat_parse_state.specs.Operands.{takes, needs_part, is_some}
+use Rattle.std.specs.Option.{is_some}
+use Rattle.cat_parse_state.specs.Operands.{takes, needs_part}
 use Rattle.cat_parse_expr.proofs.Rows.{IsMeasured}
 use Rattle.cat_parse_expr.proofs.Hold.{hold}
 use Rattle.cat_parse_expr.proofs.Meaning.{Item, Tok, Sub, text, CalmAt, Path, Taker}
@@ -43,9 +44,9 @@ deep_fed k limit go best r (Fails s) d = deep_stopped best s d
 deep_fed k limit go best r (Reads e ts None) d = absurd cc
 deep_fed k limit go best r (Reads e ts (Some s)) d =
     subst (λ (b : Bool). Deep
-    (cond b (go best (feed r e) ts) (stopped (best_of (done (feed r e).state) best (feed r e) ts) s)))
+    (cond b (go best (feed r e) ts) (stopped (best_of (node_in (feed r e).state) best (feed r e) ts) s)))
     (sym (no_reach limit (next k (feed r e) ts) s d))
-    (deep_stopped (best_of (done (feed r e).state) best (feed r e) ts) s d)
+    (deep_stopped (best_of (node_in (feed r e).state) best (feed r e) ts) s d)
 
 pub path_grows : (k bound : ℕ) (items : List Item) (r end : Reading) → Path k bound r items end
     → r.tallest ≤ end.tallest
@@ -57,7 +58,7 @@ path_grows k bound (Sub e f ∷ items) r end t =
 
 -- along a path to what is whole and low enough, nothing is high
 pub path_low : (k bound : ℕ) (items : List Item) (more end : Reading) (n : Node) (low : ℕ) → Path k bound more items end
-    → done end.state ≡ Some n → end.tallest ≤ low → is_high (suc low) more ≡ false
+    → node_in end.state ≡ Some n → end.tallest ≤ low → is_high (suc low) more ≡ false
 path_low k bound items more end n low t d fits =
     let g = path_grows k bound items more end t in
     not_high (suc low) more (omega arith) (by items t)
@@ -86,9 +87,9 @@ first_holds_before false false c e h = absurd cc
 
 -- with room for a part, what is high is whole
 pub high_done : (low : ℕ) (more : Reading) → 0 < low → is_high (suc low) more ≡ true → (m : Node)
-    × (done more.state ≡ Some m)
-high_done low more room high = done_of_high (done more.state) (leb (suc low) more.tallest)
-    (first_holds (is_some (done more.state) && leb (suc low) more.tallest) (needs_part more.state) (leb (suc low) 1)
+    × (node_in more.state ≡ Some m)
+high_done low more room high = done_of_high (node_in more.state) (leb (suc low) more.tallest)
+    (first_holds (is_some (node_in more.state) && leb (suc low) more.tallest) (needs_part more.state) (leb (suc low) 1)
     (lt-leb (suc low) 1 (omega arith)) high)
 
 abbrev pub tail_of : List Token → List Token
@@ -107,7 +108,8 @@ pub deep_along : (a b : ParseResult) → a ≡ b → Deep b → Deep a
 deep_along a b e d = subst Deep (sym e) d
 
 module _ (reader : ℕ → Reader) (low : ℕ) (whole_is : AreWhole reader low) (highs : AreHigh reader low) (k bound : ℕ)
-    (rest : List Token) (end : Reading) (n : Node) (finished : done end.state ≡ Some n) (tall : low < end.tallest) where
+    (rest : List Token) (end : Reading) (n : Node) (finished : node_in end.state ≡ Some n)
+    (tall : low < end.tallest) where
   abbrev go : ℕ → Going
   go fuel = run (operand_of reader) k (suc low) fuel
 
@@ -117,13 +119,14 @@ module _ (reader : ℕ → Reader) (low : ℕ) (whole_is : AreWhole reader low) 
 
   shift_sinks : (fuel : ℕ) (best : Option Best) (r more : Reading) (p : Token) (items : List Item) (b : Bool)
       → Sinks items → Path k bound more items end → length (text items ++ rest) < fuel → is_high (suc low) more ≡ b
-      → Deep (cond b (stopped (best_of (done r.state) best r (p ∷ (text items ++ rest)))
-      (too_deep (p ∷ (text items ++ rest)))) (go fuel (best_of (done r.state) best r (p ∷ (text items ++ rest))) more
+      → Deep (cond b (stopped (best_of (node_in r.state) best r (p ∷ (text items ++ rest)))
+      (too_deep (p ∷ (text items ++ rest)))) (go fuel (best_of (node_in r.state) best r (p ∷ (text items ++ rest))) more
       (text items ++ rest)))
   shift_sinks fuel best r more p items true sinks t room h =
-      deep_stopped (best_of (done r.state) best r (p ∷ (text items ++ rest))) (too_deep (p ∷ (text items ++ rest))) refl
+      deep_stopped (best_of (node_in r.state) best r (p ∷ (text items ++ rest)))
+      (too_deep (p ∷ (text items ++ rest))) refl
   shift_sinks fuel best r more p items false sinks t room h =
-      sinks fuel (best_of (done r.state) best r (p ∷ (text items ++ rest))) more t (low_shift (suc low) more h) room
+      sinks fuel (best_of (node_in r.state) best r (p ∷ (text items ++ rest))) more t (low_shift (suc low) more h) room
 
   -- behind an operand that was read whole, where it broke off at the next token
   broke : (fuel j : ℕ) (best : Option Best) (r more : Reading) (e : Measured) (q : Token) (items : List Item)
@@ -141,7 +144,7 @@ module _ (reader : ℕ → Reader) (low : ℕ) (whole_is : AreWhole reader low) 
       ∙ ap (λ (x : List Token). reaches (suc low) (Shifted more x) (here ts)) same
       ∙ ap (λ (x : Bool). not x && nat_eq (length ts) (length ts)) h ∙ nat_same (length ts) in
       subst (λ (x : Bool). Deep
-      (cond x (go fuel best (feed r e) (q ∷ w)) (stopped (best_of (done (feed r e).state) best (feed r e) (q ∷ w))
+      (cond x (go fuel best (feed r e) (q ∷ w)) (stopped (best_of (node_in (feed r e).state) best (feed r e) (q ∷ w))
       (here ts)))) (sym yes)
       (sinks fuel best (feed r e) (more, t, way) is_low room)
 
@@ -164,7 +167,7 @@ module _ (reader : ℕ → Reader) (low : ℕ) (whole_is : AreWhole reader low) 
       sym (feed_wants r e j a) ∙ t.1 in absurd cc
 
   no_items : (r : Reading) → r ≡ end → IsLow (suc low) r → ⊥
-  no_items r t is_low = let h = is_low n (ap (λ (x : Reading). done x.state) t ∙ finished) in
+  no_items r t is_low = let h = is_low n (ap (λ (x : Reading). node_in x.state) t ∙ finished) in
       omega (arith, ap (λ (x : Reading). x.tallest) t)
 
   ask_sinks : (fuel : ℕ) (best : Option Best) (r : Reading) (e : Measured) (f : List Token) (j : ℕ) (items : List Item)

@@ -43,12 +43,14 @@ use Rattle.cat_parse_step.specs.Starts.{if_at, start_step}
 use Rattle.cat_parse_step.specs.declared.follow.Follow.{Follow}
 use Rattle.cat_parse_step.specs.declared.follow.Follow.TheVariants.{Operated, Dotted, Tests, Other}
 use Rattle.cat_parse_step.specs.Steps.{follow_of, whole_next, whole_step, type_step, fields_end, each_step, case_dot}
-use Rattle.cat_parse_state.specs.Readings.{done, feed}
+use Rattle.cat_parse_state.specs.Readings.{node_in, feed}
 use Rattle.cat_parse_step.specs.Machine.{some, step, strength_of, moved, shift}
-use Rattle.cat_parse_state.specs.Operands.{takes, needs_part, fed_state, is_some}
+use Rattle.std.specs.Option.{is_some}
+use Rattle.cat_parse_state.specs.Operands.{takes, needs_part, fed_state}
 use Rattle.cat_parse_expr.specs.Reader.{is_high}
 use Rattle.cat_parse_step.specs.Moves.{lists_before}
-use Rattle.cat_parse_expr.specs.inside.Fallback.{fallback, last_whole, or_else, before_argument, match_so_far}
+use Rattle.std.specs.Option.{option_or}
+use Rattle.cat_parse_expr.specs.inside.Fallback.{fallback, last_whole, before_argument, match_so_far}
 use Rattle.cat_parse_expr.specs.inside.Fallback.{before_unit}
 use Rattle.cat_parse_expr.specs.inside.Fallback.{is_filled, is_filled_list}
 use Rattle.cat_parse_expr.proofs.Viable.{is_below, none_holds}
@@ -112,7 +114,7 @@ pub record IsKeeping (q more : State) : Type 0 where
 -- only what is whole, or becomes so, grows
 abbrev pub IsMoveKeeping : State → Move → Type 0
 IsMoveKeeping q (Onward more) = IsKeeping q more
-IsMoveKeeping q (Grown more) = IsKeeping q more × ((is_some (done q) || is_some (done more)) ≡ true)
+IsMoveKeeping q (Grown more) = IsKeeping q more × ((is_some (node_in q) || is_some (node_in more)) ≡ true)
 
 keeps : (q more : State) → lists_before more ≡ 0 → is_filled more ≡ true
     → (is_filled q ≡ true → fallback more ≡ last_whole q) → IsKeeping q more
@@ -159,14 +161,14 @@ module _ (q : State) where
   unit_keeping f o (kind.Word key.Day) h ho m e = h _ m e
   unit_keeping f o _ h ho m e = ho m e
 
-  grows : (n : Node) (more : State) → done q ≡ Some n → lists_before more ≡ 0 → is_filled more ≡ true
+  grows : (n : Node) (more : State) → node_in q ≡ Some n → lists_before more ≡ 0 → is_filled more ≡ true
       → fallback more ≡ Some n → IsMoveKeeping q (Grown more)
   grows n more w few filled falls = (
-    keeps q more few filled (λ f. falls ∙ sym (ap (λ (o : Option Node). or_else o (fallback q)) w)),
-    ap (λ (o : Option Node). is_some o || is_some (done more)) w,
+    keeps q more few filled (λ f. falls ∙ sym (ap (λ (o : Option Node). option_or o (fallback q)) w)),
+    ap (λ (o : Option Node). is_some o || is_some (node_in more)) w,
   )
 
-  next_keeping : (k s : ℕ) (n : Node) (p : Pos) (f : Follow) → done q ≡ Some n → AllKeeping (whole_next k s n p f)
+  next_keeping : (k s : ℕ) (n : Node) (p : Pos) (f : Follow) → node_in q ≡ Some n → AllKeeping (whole_next k s n p f)
   unfolding fallback
   next_keeping k s n p (Operated o) w m e = if_keeping (nat_le k (operator_level o) && nat_le (left_level o) s)
       (Grown (state.Right n o p)) (grows n (state.Right n o p) w refl refl refl) m e
@@ -610,13 +612,14 @@ unfolding shift
 shift_keeps k r more p e = moved_keeps r more (step k (cond r.in_form 0 (strength_of r.state)) r.state p)
     (step_keeping k (cond r.in_form 0 (strength_of r.state)) r.state p) e
 
-high_of : (limit : ℕ) (r : Reading) (b : Bool) → is_some (done r.state) ≡ b → b ≡ true → is_high limit r ≡ false
+high_of : (limit : ℕ) (r : Reading) (b : Bool) → is_some (node_in r.state) ≡ b → b ≡ true → is_high limit r ≡ false
     → r.tallest < limit
 high_of limit r true e h low = is_below limit r.tallest (ap (λ (x : Bool). x && leb limit r.tallest) (sym e)
-    ∙ none_holds (is_some (done r.state) && leb limit r.tallest) (needs_part r.state && leb limit 1) low)
+    ∙ none_holds (is_some (node_in r.state) && leb limit r.tallest) (needs_part r.state && leb limit 1) low)
 high_of limit r false e h low = absurd cc
 
-grown_tall : (limit : ℕ) (r : Reading) (q : State) (a b : Bool) → is_some (done r.state) ≡ a → is_some (done q) ≡ b
+grown_tall : (limit : ℕ) (r : Reading) (q : State) (a b : Bool) → is_some (node_in r.state) ≡ a
+    → is_some (node_in q) ≡ b
     → (a || b) ≡ true → r.tallest ≤ limit → is_high limit r ≡ false
     → is_high limit (record { state = q; tallest = suc r.tallest; in_form = false; in_match = false }) ≡ false
     → suc r.tallest ≤ limit
@@ -637,7 +640,8 @@ moved_tall limit r more (Some (Onward q)) h e tall low high =
 moved_tall limit r more (Some (Grown q)) h e tall low high =
     let is : record { state = q; tallest = suc r.tallest; in_form = false; in_match = false } ≡ more =
     ap (reading_or r) e in
-    subst (λ (x : Reading). x.tallest ≤ limit) is (grown_tall limit r q (is_some (done r.state)) (is_some (done q)) refl
+    subst (λ (x : Reading). x.tallest ≤ limit) is (grown_tall limit r q (is_some (node_in r.state))
+    (is_some (node_in q)) refl
     refl (h (Grown q) refl).1 tall low (ap (is_high limit) is ∙ high))
 
 -- what isn't too high after a word is within the limit
@@ -675,7 +679,7 @@ unfolding feed
 lists_fed r e j t = lists_feed r.state e.node e.in_match j t
 
 -- an operand where the expression isn't whole yet changes nothing of what stood whole before
-fallback_fed : (q : State) (n : Node) (b : Bool) (j : ℕ) → takes q ≡ Some j → done (fed_state q n b) ≡ None
+fallback_fed : (q : State) (n : Node) (b : Bool) (j : ℕ) → takes q ≡ Some j → node_in (fed_state q n b) ≡ None
     → fallback (fed_state q n b) ≡ fallback q
 unfolding fallback
 fallback_fed (state.Right a o p) n b j e d = absurd cc
@@ -723,7 +727,7 @@ filled_fed (state.CombineStart c w) n b j e = refl
 filled_fed (state.CombineBody c w s) n b j e = refl
 filled_fed _ n b j e = absurd cc
 
-pub fallback_feed : (r : Reading) (e : Measured) (j : ℕ) → takes r.state ≡ Some j → done (feed r e).state ≡ None
+pub fallback_feed : (r : Reading) (e : Measured) (j : ℕ) → takes r.state ≡ Some j → node_in (feed r e).state ≡ None
     → fallback (feed r e).state ≡ fallback r.state
 unfolding feed
 fallback_feed r e j t d = fallback_fed r.state e.node e.in_match j t d

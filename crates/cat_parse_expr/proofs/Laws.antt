@@ -6,7 +6,7 @@ use Rattle.cat_tree.specs.declared.expression.Node.{Node}
 use Rattle.cat_parse_state.specs.declared.state.State.{State}
 use Rattle.cat_parse_state.specs.declared.state.Measured.{Measured}
 use Rattle.cat_parse_state.specs.declared.state.Reading.{Reading}
-use Rattle.cat_parse_state.specs.Readings.{start, feed, done}
+use Rattle.cat_parse_state.specs.Readings.{start, feed, node_in}
 use Rattle.cat_parse_step.specs.Machine.{shift, step, strength_of, moved}
 use Rattle.cat_parse_state.specs.Operands.{takes}
 use Rattle.cat_parse_expr.proofs.Rows.{IsMeasured, Reached, ReachedAt}
@@ -78,7 +78,7 @@ unfolding feed
 reached_feed k j r e front text h t is =
     record { at = fed_reached k j r.tallest r.state r.in_form r.in_match e front text h.at t is }
 
-pub reached_done : (k : ℕ) (r : Reading) (n : Node) (front : List Token) → Reached k r front → done r.state ≡ Some n
+pub reached_done : (k : ℕ) (r : Reading) (n : Node) (front : List Token) → Reached k r front → node_in r.state ≡ Some n
     → IsMeasured k (whole r n) front
 reached_done k r n front h e = record { row = (done_row k r.state r.tallest r.in_form r.in_match front n h.at e).0 }
 
@@ -135,7 +135,7 @@ pub measured_high : (k : ℕ) (e : Measured) (text : List Token) → IsMeasured 
 measured_high k e text is = omega (arith, is.row.tall_is, tall_phrase (phrase e.node))
 
 pub calm_stops : (k : ℕ) (end : Reading) (n : Node) (front rest : List Token) → Reached k end front
-    → done end.state ≡ Some n → Calm k (whole end n) rest → Stops k end rest
+    → node_in end.state ≡ Some n → Calm k (whole end n) rest → Stops k end rest
 calm_stops k end n front rest h d c = still k end n front rest h d (reached_done k end n front h d).row.low c
 
 pub pull_nil : pull [] ≡ 0

@@ -4,7 +4,7 @@ use Rattle.cat_lex.specs.declared.token.Token.{Token}
 use Rattle.cat_tree.specs.declared.expression.Node.{Node}
 use Rattle.cat_parse_state.specs.declared.state.Measured.{Measured}
 use Rattle.cat_parse_state.specs.declared.state.Reading.{Reading}
-use Rattle.cat_parse_state.specs.Readings.{start, feed, done}
+use Rattle.cat_parse_state.specs.Readings.{start, feed, node_in}
 use Rattle.cat_parse_step.specs.Machine.{shift}
 use Rattle.cat_parse_state.specs.Operands.{takes}
 use Rattle.cat_parse_expr.proofs.Rows.{IsMeasured}
@@ -29,7 +29,7 @@ pub record Blocked (k : ℕ) (end : Reading) (rest : List Token) : Type 0 where
   pub more : Reading
   pub text : rest ≡ word ∷ after
   pub taken : shift k end word ≡ Some more
-  pub unfinished : done more.state ≡ None
+  pub unfinished : node_in more.state ≡ None
   pub ends : next k more after ≡ Ends
 
 abbrev pub Stops : ℕ → Reading → List Token → Type 0
@@ -61,7 +61,7 @@ pub record HasPath (k : ℕ) (e : Measured) (front : List Token) : Type 0 where
   pub end : Reading
   pub spelled : front ≡ text items
   pub way : Path k (hold e.node) start items end
-  pub finished : done end.state ≡ Some e.node
+  pub finished : node_in end.state ≡ Some e.node
   pub is : whole end e.node ≡ e
 
 -- the same way before a rest that is calm
@@ -78,5 +78,5 @@ pub record Taker (p : Token) : Type 0 where
   pub from : Reading
   pub node : Node
   pub more : Reading
-  pub is : done from.state ≡ Some node
+  pub is : node_in from.state ≡ Some node
   pub takes_it : shift level from p ≡ Some more

@@ -19,11 +19,11 @@ use Rattle.cat_parse_state.specs.declared.state.Reading.{Reading}
 use Rattle.cat_parse_step.specs.Words.{Move, Onward, Grown}
 use Rattle.cat_parse_step.specs.Marks.{on_bracket}
 use Rattle.cat_parse_step.specs.Starts.{start_step}
-use Rattle.cat_parse_state.specs.Readings.{start, feed, done}
+use Rattle.cat_parse_state.specs.Readings.{start, feed, node_in}
 use Rattle.cat_parse_step.specs.Machine.{step, strength_of, moved, shift}
 use Rattle.cat_parse_state.specs.Operands.{takes, needs_part, fed_state}
 
-pub start_open : (n : Node) → done start.state ≡ Some n → ⊥
+pub start_open : (n : Node) → node_in start.state ≡ Some n → ⊥
 start_open n e = absurd cc
 
 pub start_asks : takes start.state ≡ None
@@ -100,8 +100,9 @@ pub feed_wants : (r : Reading) (e : Measured) (j : ℕ) → takes r.state ≡ So
 unfolding feed
 feed_wants r e j t = fed_wants r.state e.node e.in_match j t
 
-fed_done : (q : State) (n m : Node) (b c : Bool) (x : Node) (j : ℕ) → takes q ≡ Some j → done (fed_state q n b) ≡ Some x
-    → (y : Node) × (done (fed_state q m c) ≡ Some y)
+fed_done : (q : State) (n m : Node) (b c : Bool) (x : Node) (j : ℕ) → takes q ≡ Some j
+    → node_in (fed_state q n b) ≡ Some x
+    → (y : Node) × (node_in (fed_state q m c) ≡ Some y)
 fed_done (state.Right a o p) n m b c x j t e = (_, refl)
 fed_done (state.Content d) n m b c x j t e = (_, refl)
 fed_done (state.Argument f args) n m b c x j t e = (_, refl)
@@ -123,12 +124,12 @@ fed_done (state.CombineBody d w s) n m b c x j t e = (_, refl)
 fed_done _ n m b c x j t e = absurd cc
 
 pub feed_done : (r : Reading) (e f : Measured) (j : ℕ) (n : Node) → takes r.state ≡ Some j
-    → done (feed r e).state ≡ Some n
-    → (m : Node) × (done (feed r f).state ≡ Some m)
+    → node_in (feed r e).state ≡ Some n
+    → (m : Node) × (node_in (feed r f).state ≡ Some m)
 unfolding feed
 feed_done r e f j n t d = fed_done r.state e.node f.node e.in_match f.in_match n j t d
 
-pub done_wants : (s : State) (n : Node) → done s ≡ Some n → takes s ≡ None
+pub done_wants : (s : State) (n : Node) → node_in s ≡ Some n → takes s ≡ None
 done_wants (state.Complete m s) n d = refl
 done_wants (state.Int m p) n d = refl
 done_wants (state.Name w) n d = refl
@@ -139,7 +140,7 @@ done_wants (state.Tested e p u) n d = refl
 done_wants (state.Matched m b) n d = refl
 done_wants _ n d = absurd cc
 
-pub done_needs : (s : State) (n : Node) → done s ≡ Some n → needs_part s ≡ false
+pub done_needs : (s : State) (n : Node) → node_in s ≡ Some n → needs_part s ≡ false
 done_needs (state.Complete m s) n d = refl
 done_needs (state.Int m p) n d = refl
 done_needs (state.Name w) n d = refl

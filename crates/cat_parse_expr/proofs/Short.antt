@@ -6,7 +6,7 @@ use Rattle.std.proofs.lemmas.List.{length-append}
 use Rattle.cat_lex.specs.declared.token.Token.{Token}
 use Rattle.cat_tree.specs.declared.expression.Node.{Node}
 use Rattle.cat_parse_state.specs.declared.state.Reading.{Reading}
-use Rattle.cat_parse_state.specs.Readings.{feed, done}
+use Rattle.cat_parse_state.specs.Readings.{feed, node_in}
 use Rattle.cat_parse_expr.specs.Results.{Stop, ParseResult, Fails, Reads, Reader, here, too_deep, stop_of}
 use Rattle.cat_parse_expr.specs.Reader.{Best, best_of, stopped, ended, Next, Shifted, Asks, Ends, next, is_high, Going}
 use Rattle.cat_parse_expr.specs.Reader.{reaches, fed, turn, run, operand_of}
@@ -61,9 +61,10 @@ fed_shrinks k limit go best r n (Reads e rest None) shrinks h = omega (arith, sh
 fed_shrinks k limit go best r n (Reads e rest (Some s)) shrinks h = by (reaches limit (next k (feed r e) rest) s)
   where
     by : (b : Bool)
-        → Short n (cond b (go best (feed r e) rest) (stopped (best_of (done (feed r e).state) best (feed r e) rest) s))
+        → Short n (cond b (go best (feed r e) rest)
+        (stopped (best_of (node_in (feed r e).state) best (feed r e) rest) s))
     by true = omega (arith, shrinks best (feed r e) rest, h.0)
-    by false = short_stopped n (best_of (done (feed r e).state) best (feed r e) rest) s h.1
+    by false = short_stopped n (best_of (node_in (feed r e).state) best (feed r e) rest) s h.1
 
 module _ (reader : ℕ → Reader) (low : ℕ) (fine : AreFine reader low) (k : ℕ) where
   shift_shrinks : (go : Going) → Shrinks go → (best : Option Best) (more : Reading) (p : Token) (rest : List Token)
@@ -79,13 +80,13 @@ module _ (reader : ℕ → Reader) (low : ℕ) (fine : AreFine reader low) (k : 
       subst (λ (w : List Token). Short (length w)
       (turn (operand_of reader) k (suc low) go best r w (Shifted more rest)))
       (sym f.1)
-      (shift_shrinks go shrinks best more f.0 rest (best_of (done r.state) best r (f.0 ∷ rest))
+      (shift_shrinks go shrinks best more f.0 rest (best_of (node_in r.state) best r (f.0 ∷ rest))
       (is_high (suc low) more))
   turn_shrinks go shrinks best r ts (Asks j) f = fed_shrinks k (suc low) go best r (length ts)
       (operand_of reader (leb (suc low) r.tallest) j ts) shrinks (operand_leaves reader low j (leb (suc low) r.tallest)
       ts
       fine (takes_low r.state j f))
-  turn_shrinks go shrinks best r ts Ends f = short_ended (length ts) (done r.state) best r ts (omega arith)
+  turn_shrinks go shrinks best r ts Ends f = short_ended (length ts) (node_in r.state) best r ts (omega arith)
 
   pub run_short : (fuel : ℕ) → Shrinks (run (operand_of reader) k (suc low) fuel)
   unfolding run
@@ -102,11 +103,11 @@ module _ (reader : ℕ → Reader) (low : ℕ) (fine : AreFine reader low) (k : 
   on_shift (suc fuel) best r more ts rest e high room =
       let go = run (operand_of reader) k (suc low) fuel in
       short_along (length ts) (run (operand_of reader) k (suc low) (suc fuel) best r rest)
-      (go (best_of (done r.state) best r rest) more ts)
+      (go (best_of (node_in r.state) best r rest) more ts)
       (run_is reader low k fuel best r rest (Shifted more ts) e
-      ∙ ap (λ (b : Bool). cond b (stopped (best_of (done r.state) best r rest) (too_deep rest))
-      (go (best_of (done r.state) best r rest) more ts)) high)
-      (run_short fuel (best_of (done r.state) best r rest) more ts)
+      ∙ ap (λ (b : Bool). cond b (stopped (best_of (node_in r.state) best r rest) (too_deep rest))
+      (go (best_of (node_in r.state) best r rest) more ts)) high)
+      (run_short fuel (best_of (node_in r.state) best r rest) more ts)
 
   when_reached : (fuel : ℕ) (best : Option Best) (r : Reading) (rest : List Token) (s : Stop) (x : Next)
       → next k r rest ≡ x → reaches (suc low) x s ≡ true → length rest < fuel
@@ -135,11 +136,11 @@ module _ (reader : ℕ → Reader) (low : ℕ) (fine : AreFine reader low) (k : 
     where
       by : (b : Bool) → reaches (suc low) (next k (feed r e) rest) s ≡ b
           → Short n (cond b (run (operand_of reader) k (suc low) fuel best (feed r e) rest)
-          (stopped (best_of (done (feed r e).state) best (feed r e) rest) s))
+          (stopped (best_of (node_in (feed r e).state) best (feed r e) rest) s))
       by true on =
           omega (
             arith,
             when_reached fuel best (feed r e) rest s (next k (feed r e) rest) refl on (omega (arith, l.0)),
             h,
           )
-      by false missed = short_stopped n (best_of (done (feed r e).state) best (feed r e) rest) s h
+      by false missed = short_stopped n (best_of (node_in (feed r e).state) best (feed r e) rest) s h

@@ -14,7 +14,7 @@ use Rattle.cat_parse_expr.specs.declared.standing.Standing.{Standing}
 use Rattle.cat_parse_expr.specs.declared.standing.Next.TheVariants as steps
 use Rattle.cat_parse_expr.specs.declared.standing.Turn.{Turn}
 use Rattle.cat_parse_expr.specs.declared.standing.Turn.TheVariants.{Goes, Ends}
-use Rattle.cat_parse_state.specs.Readings.{start, feed, done}
+use Rattle.cat_parse_state.specs.Readings.{start, feed, node_in}
 use Rattle.cat_parse_state.specs.Operands.{takes, needs_part}
 use Rattle.cat_parse_expr.specs.Results.{ParseResult}
 use Rattle.cat_parse_expr.specs.Reader.{Best, stopped, Asks, next, fed, nothing_at, operand_of, read}
@@ -30,10 +30,10 @@ use Rattle.cat_parse_expr.proofs.Whole.{no_test, not_high}
 use Rattle.cat_parse_expr.proofs.Keeping.{lists_fed, fallback_feed, filled_feed}
 use Rattle.cat_parse_expr.proofs.TurnLemmas.{turned}
 
-pub unfinished : (q : State) (j : ℕ) → takes q ≡ Some j → done q ≡ None
-unfinished q j t = by (done q) refl
+pub unfinished : (q : State) (j : ℕ) → takes q ≡ Some j → node_in q ≡ None
+unfinished q j t = by (node_in q) refl
   where
-    by : (o : Option Node) → done q ≡ o → o ≡ None
+    by : (o : Option Node) → node_in q ≡ o → o ≡ None
     by None d = refl
     by (Some n) d = let none : None ≡ Some j = sym (done_wants q n d) ∙ t in absurd cc
 

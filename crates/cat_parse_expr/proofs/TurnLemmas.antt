@@ -12,14 +12,16 @@ use Rattle.cat_parse_expr.specs.declared.reached.Reached.{Reached}
 use Rattle.cat_parse_expr.specs.declared.standing.Standing.{Standing}
 use Rattle.cat_parse_expr.specs.declared.standing.Turn.{Turn}
 use Rattle.cat_parse_expr.specs.declared.standing.Turn.TheVariants.{Goes, Ends}
-use Rattle.cat_parse_state.specs.Readings.{done}
+use Rattle.cat_parse_state.specs.Readings.{node_in}
 use Rattle.cat_parse_step.specs.Machine.{shift}
-use Rattle.cat_parse_state.specs.Operands.{takes, is_some}
+use Rattle.std.specs.Option.{is_some}
+use Rattle.cat_parse_state.specs.Operands.{takes}
 use Rattle.cat_parse_expr.specs.Reader as spec
 use Rattle.cat_parse_expr.specs.Results.{Stop, ParseResult, Reader, too_deep}
 use Rattle.cat_parse_expr.specs.Reader.{Best, whole, best_of, stopped, ended, Next, Shifted, Asks, asked, next, is_high}
 use Rattle.cat_parse_expr.specs.Reader.{Going, reaches, fed, turn, run, nothing_at, operand_of, read}
-use Rattle.cat_parse_expr.specs.inside.Fallback.{fallback, last_whole, or_else}
+use Rattle.std.specs.Option.{option_or}
+use Rattle.cat_parse_expr.specs.inside.Fallback.{fallback, last_whole}
 use Rattle.cat_parse_expr.specs.inside.Loop.{halt_at, parse_result_of, AreWithin, restored, checkpoint_after}
 use Rattle.cat_parse_expr.specs.inside.Loop.{IsCheckpointWithin, IsKept}
 use Rattle.cat_parse_expr.specs.inside.Loop.{IsStanding, going_on, GoesOn, Leads, IsTurnAt, reached_on}
@@ -38,14 +40,14 @@ kept_as : (tokens : List Token) (r : Reading) (at : ℕ) (checkpoint : Option Ch
     → (o ≡ None → best ≡ restored tokens checkpoint f)
     → best_of o best r (drop at tokens) ≡ restored tokens
     (cond (is_some o) (Some (record
-    { at = at; height = suc r.tallest; in_form = r.in_form; in_match = r.in_match })) checkpoint) (or_else o f)
+    { at = at; height = suc r.tallest; in_form = r.in_form; in_match = r.in_match })) checkpoint) (option_or o f)
 kept_as tokens r at checkpoint best None f h = h refl
 kept_as tokens r at checkpoint best (Some n) f h = refl
 
 pub kept_of : (tokens : List Token) (s : Standing) (best : Option Best) → IsKept tokens s best
-    → best_of (done s.reading.state) best s.reading (drop s.at tokens) ≡ restored tokens
+    → best_of (node_in s.reading.state) best s.reading (drop s.at tokens) ≡ restored tokens
     (checkpoint_after s.reading s.at s.checkpoint) (last_whole s.reading.state)
-kept_of tokens s best h = kept_as tokens s.reading s.at s.checkpoint best (done s.reading.state)
+kept_of tokens s best h = kept_as tokens s.reading s.at s.checkpoint best (node_in s.reading.state)
     (fallback s.reading.state) h
 
 checkpoint_cases : (end at : ℕ) (r : Reading) (checkpoint : Option Checkpoint) (b : Bool) → at ≤ end
@@ -58,7 +60,7 @@ checkpoint_cases end at r checkpoint false le h = h
 pub checkpoint_within : (end at : ℕ) (r : Reading) (checkpoint : Option Checkpoint) → at ≤ end
     → IsCheckpointWithin end checkpoint
     → IsCheckpointWithin end (checkpoint_after r at checkpoint)
-checkpoint_within end at r checkpoint le h = checkpoint_cases end at r checkpoint (is_some (done r.state)) le h
+checkpoint_within end at r checkpoint le h = checkpoint_cases end at r checkpoint (is_some (node_in r.state)) le h
 
 pub run_turn : (operand : Bool → ℕ → Reader) (k limit fuel : ℕ) (best : Option Best) (r : Reading) (ts : List Token)
     (x : Next) → next k r ts ≡ x → run operand k limit (suc fuel) best r ts ≡ turn operand k limit
@@ -134,7 +136,7 @@ module _ (limit k : ℕ) (tokens : List Token) (s : Standing) (standing : IsStan
   falls = (shift_keeps k s.reading more p e).falls standing.filled
 
   new_kept : (best : Option Best) → IsKept tokens s best
-      → best_of (done s.reading.state) best s.reading (drop s.at tokens)
+      → best_of (node_in s.reading.state) best s.reading (drop s.at tokens)
       ≡ restored tokens checkpoint (fallback more.state)
   new_kept best kept =
       kept_of tokens s best kept ∙ ap (λ (m : Option Checkpoint). restored tokens m (last_whole s.reading.state))
@@ -145,7 +147,7 @@ module _ (limit k : ℕ) (tokens : List Token) (s : Standing) (standing : IsStan
       → Turned limit k tokens s (Shifted more (drop place tokens)) o
       → GoesOn limit k tokens (record { reading = more; at = place; checkpoint = checkpoint }) o
   goes_from high o t =
-      let best = best_of (done s.reading.state) t.best s.reading (drop s.at tokens) in
+      let best = best_of (node_in s.reading.state) t.best s.reading (drop s.at tokens) in
       let ts = drop s.at tokens in
       record {
         fuel = t.fuel;
@@ -177,7 +179,7 @@ module _ (limit k : ℕ) (tokens : List Token) (s : Standing) (standing : IsStan
       let ts = drop s.at tokens in
       let t = turned limit k tokens s (Shifted more (drop place tokens)) o
       (next_takes k s.reading more ts (drop place tokens) p cut e) g in
-      let best = best_of (done s.reading.state) t.best s.reading ts in
+      let best = best_of (node_in s.reading.state) t.best s.reading ts in
       let same = ap (λ (n : Option Node). stopped (restored tokens checkpoint n) (too_deep ts)) tree_is in (
         within new_checkpoint,
         t.is ∙ ap (λ (b : Bool). cond b (stopped best (too_deep ts))
@@ -190,7 +192,7 @@ module _ (limit k : ℕ) (tokens : List Token) (s : Standing) (standing : IsStan
 pub no_word_ends : (limit k : ℕ) (tokens : List Token) (s : Standing) (r : Reached)
     → next k s.reading (drop s.at tokens) ≡ asked (takes s.reading.state) → takes s.reading.state ≡ None
     → ((best : Option Best) → IsKept tokens s best
-    → parse_result_of tokens r ≡ ended (done s.reading.state) best s.reading (drop s.at tokens))
+    → parse_result_of tokens r ≡ ended (node_in s.reading.state) best s.reading (drop s.at tokens))
     → AreWithin (length tokens) r → IsTurnAt limit k tokens s (Ends r)
 no_word_ends limit k tokens s r e none gives within = λ o g.
     let t = turned limit k tokens s spec.Ends o (e ∙ ap asked none) g in
@@ -216,7 +218,7 @@ breaks_off limit k fuel tokens s h best r checkpoint tree standing checkpoint_is
     in (
       within fits,
       ap (λ (b : Bool). cond b (going_on limit k fuel best s.reading (drop s.at tokens))
-          (stopped (best_of (done s.reading.state) best s.reading (drop s.at tokens)) stop)) miss
+          (stopped (best_of (node_in s.reading.state) best s.reading (drop s.at tokens)) stop)) miss
           ∙ ap (λ (b : Option Best). stopped b stop) (kept_of tokens s best kept) ∙ sym (is ∙ same),
     )
 
@@ -301,5 +303,5 @@ reaches_further limit k fuel tokens s h best turn hit room kept is =
       kept = kept;
       is =
           ap (λ (b : Bool). cond b (going_on limit k fuel best s.reading (drop s.at tokens))
-          (stopped (best_of (done s.reading.state) best s.reading (drop s.at tokens)) (halt_at tokens h))) hit;
+          (stopped (best_of (node_in s.reading.state) best s.reading (drop s.at tokens)) (halt_at tokens h))) hit;
     })

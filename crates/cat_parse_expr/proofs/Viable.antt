@@ -7,9 +7,10 @@ use Rattle.cat_lex.specs.declared.token.Token.{Token}
 use Rattle.cat_tree.specs.declared.expression.Node.{Node}
 use Rattle.cat_parse_state.specs.declared.state.Measured.{Measured}
 use Rattle.cat_parse_state.specs.declared.state.Reading.{Reading}
-use Rattle.cat_parse_state.specs.Readings.{start, feed, done}
+use Rattle.cat_parse_state.specs.Readings.{start, feed, node_in}
 use Rattle.cat_parse_step.specs.Machine.{shift}
-use Rattle.cat_parse_state.specs.Operands.{takes, needs_part, is_some}
+use Rattle.std.specs.Option.{is_some}
+use Rattle.cat_parse_state.specs.Operands.{takes, needs_part}
 use Rattle.cat_parse_expr.proofs.Rows.{IsMeasured, Reached}
 use Rattle.cat_parse_expr.proofs.Meaning.{Begins}
 use Rattle.cat_parse_expr.specs.Results.{Stop, ParseResult, Fails, Reads, Reader, here, too_deep}
@@ -47,7 +48,7 @@ BestFine k limit all None = Unit {0}
 BestFine k limit all (Some b) = Taken k limit all b.expression b.rest
 
 abbrev pub IsLow : (limit : ℕ) → Reading → Type 0
-IsLow limit r = (n : Node) → done r.state ≡ Some n → r.tallest < limit
+IsLow limit r = (n : Node) → node_in r.state ≡ Some n → r.tallest < limit
 
 -- ---- what begins a part begins the whole
 
@@ -118,18 +119,18 @@ stopped_fine k limit all None s b v = v
 stopped_fine k limit all (Some best) s b v = (b, v)
 
 pub whole_taken : (k limit : ℕ) (all : List Token) (r : Reading) (ts : List Token) (n : Node) → Stands k all r ts
-    → IsLow limit r → done r.state ≡ Some n → Taken k limit all (whole r n) ts
+    → IsLow limit r → node_in r.state ≡ Some n → Taken k limit all (whole r n) ts
 whole_taken k limit all r ts n h low e =
     record { front = h.front; text = h.text; is = reached_done k r n h.front h.reached e; low = omega (arith, low n e) }
 
 pub best_fine : (k limit : ℕ) (all : List Token) (best : Option Best) (r : Reading) (ts : List Token) (o : Option Node)
-    → BestFine k limit all best → Stands k all r ts → IsLow limit r → done r.state ≡ o
+    → BestFine k limit all best → Stands k all r ts → IsLow limit r → node_in r.state ≡ o
     → BestFine k limit all (best_of o best r ts)
 best_fine k limit all best r ts None b h low e = b
 best_fine k limit all best r ts (Some n) b h low e = whole_taken k limit all r ts n h low e
 
 pub ended_fine : (k limit : ℕ) (all : List Token) (best : Option Best) (r : Reading) (ts : List Token) (o : Option Node)
-    → BestFine k limit all best → Stands k all r ts → IsLow limit r → done r.state ≡ o
+    → BestFine k limit all best → Stands k all r ts → IsLow limit r → node_in r.state ≡ o
     → Fine k limit all (ended o best r ts)
 ended_fine k limit all best r ts None b h low e = stopped_fine k limit all best (here ts) b (here_viable k all r ts h)
 ended_fine k limit all best r ts (Some n) b h low e = whole_taken k limit all r ts n h low e
@@ -192,11 +193,12 @@ fed_fine k j limit all go best r ts (Reads e rest None) keeps b h t low f =
 fed_fine k j limit all go best r ts (Reads e rest (Some s)) keeps b h t low f =
     let stands = stands_feed k j limit all r ts rest e h t f.0 in
     let is_low = low_feed limit r e low f.0.low in
-    if_fine k (suc limit) all (go best (feed r e) rest) (stopped (best_of (done (feed r e).state) best (feed r e) rest)
+    if_fine k (suc limit) all (go best (feed r e) rest)
+    (stopped (best_of (node_in (feed r e).state) best (feed r e) rest)
     s) (reaches (suc limit) (next k (feed r e) rest) s)
     (keeps best (feed r e) rest b stands is_low)
-    (stopped_fine k (suc limit) all (best_of (done (feed r e).state) best (feed r e) rest) s
-    (best_fine k (suc limit) all best (feed r e) rest (done (feed r e).state) b stands is_low refl)
+    (stopped_fine k (suc limit) all (best_of (node_in (feed r e).state) best (feed r e) rest) s
+    (best_fine k (suc limit) all best (feed r e) rest (node_in (feed r e).state) b stands is_low refl)
     (lift k j all r ts s h t f.1))
 
 -- what the turn at a next step means
@@ -234,10 +236,11 @@ none_holds true b h = absurd cc
 none_holds false b h = refl
 
 pub low_shift : (limit : ℕ) (more : Reading) → is_high limit more ≡ false → IsLow limit more
-low_shift limit more high = by (done more.state) refl (none_holds (is_some (done more.state) && leb limit more.tallest)
+low_shift limit more high = by (node_in more.state) refl
+    (none_holds (is_some (node_in more.state) && leb limit more.tallest)
     (needs_part more.state && leb limit 1) high)
   where
-    by : (o : Option Node) → done more.state ≡ o → (is_some o && leb limit more.tallest) ≡ false → IsLow limit more
+    by : (o : Option Node) → node_in more.state ≡ o → (is_some o && leb limit more.tallest) ≡ false → IsLow limit more
     by None e h n d = absurd cc
     by (Some m) e h n d = is_below limit more.tallest h
 
@@ -246,13 +249,14 @@ module _ (reader : ℕ → Reader) (limit : ℕ) (fine : AreFine reader limit) (
   shift_fine : (best : Option Best) (r more : Reading) (p : Token) (rest : List Token) (b : Bool)
       → BestFine k (suc limit) all best → Stands k all r (p ∷ rest) → IsLow (suc limit) r → shift k r p ≡ Some more
       → is_high (suc limit) more ≡ b
-      → Fine k (suc limit) all (cond b (stopped (best_of (done r.state) best r (p ∷ rest)) (too_deep (p ∷ rest)))
-      (go (best_of (done r.state) best r (p ∷ rest)) more rest))
+      → Fine k (suc limit) all (cond b (stopped (best_of (node_in r.state) best r (p ∷ rest)) (too_deep (p ∷ rest)))
+      (go (best_of (node_in r.state) best r (p ∷ rest)) more rest))
   shift_fine best r more p rest true bf h low e high = stopped_fine k (suc limit) all
-      (best_of (done r.state) best r (p ∷ rest)) (too_deep (p ∷ rest))
-      (best_fine k (suc limit) all best r (p ∷ rest) (done r.state) bf h low refl) (deep_viable k all r more p rest h e)
-  shift_fine best r more p rest false bf h low e high = keeps (best_of (done r.state) best r (p ∷ rest)) more rest
-      (best_fine k (suc limit) all best r (p ∷ rest) (done r.state) bf h low refl)
+      (best_of (node_in r.state) best r (p ∷ rest)) (too_deep (p ∷ rest))
+      (best_fine k (suc limit) all best r (p ∷ rest) (node_in r.state) bf h low refl)
+      (deep_viable k all r more p rest h e)
+  shift_fine best r more p rest false bf h low e high = keeps (best_of (node_in r.state) best r (p ∷ rest)) more rest
+      (best_fine k (suc limit) all best r (p ∷ rest) (node_in r.state) bf h low refl)
       (stands_shift k all r more p rest h e)
       (low_shift (suc limit) more high)
 
@@ -272,7 +276,7 @@ module _ (reader : ℕ → Reader) (limit : ℕ) (fine : AreFine reader limit) (
       (turn (operand_of reader) k (suc limit) go best r w (Shifted more rest))) (sym f.1)
       (shift_fine best r more f.0 rest (is_high (suc limit) more) bf (subst (Stands k all r) f.1 h) low f.2 refl)
   turn_fine best r ts (Asks j) bf h low f = ask_fine best r ts j (leb (suc limit) r.tallest) bf h f refl
-  turn_fine best r ts Ends bf h low f = ended_fine k (suc limit) all best r ts (done r.state) bf h low refl
+  turn_fine best r ts Ends bf h low f = ended_fine k (suc limit) all best r ts (node_in r.state) bf h low refl
 
 pub run_fine : (reader : ℕ → Reader) (limit : ℕ) → AreFine reader limit → (k : ℕ) (all : List Token) (fuel : ℕ)
     → Keeps k (suc limit) all (run (operand_of reader) k (suc limit) fuel)

@@ -19,7 +19,7 @@ use Rattle.cat_parse_state.specs.declared.state.Reading.{Reading}
 use Rattle.cat_lex.specs.declared.token.TokenKind.{TokenKind}
 use Rattle.cat_parse_expr.proofs.Rows.{IsMeasured}
 use Rattle.cat_parse_step.specs.Words.{Move, Onward}
-use Rattle.cat_parse_state.specs.Readings.{feed, done}
+use Rattle.cat_parse_state.specs.Readings.{feed, node_in}
 use Rattle.cat_parse_step.specs.Machine.{step, strength_of, moved, shift}
 use Rattle.cat_parse_state.specs.Operands.{takes, fed_state, ends_form, ends_match}
 use Rattle.cat_tree.specs.declared.expression.Operator.{Operator}
@@ -63,9 +63,9 @@ pub record Walk (k bound : ℕ) (r : Reading) (n : Node) (ts : List Token) : Typ
   pub end : Reading
   pub spelled : ts ≡ text items
   pub way : Path k bound r items end
-  pub finished : done end.state ≡ Some n
+  pub finished : node_in end.state ≡ Some n
 
-pub end_walk : (k bound : ℕ) (r : Reading) (n : Node) (ts : List Token) → done r.state ≡ Some n → ts ≡ []
+pub end_walk : (k bound : ℕ) (r : Reading) (n : Node) (ts : List Token) → node_in r.state ≡ Some n → ts ≡ []
     → Walk k bound r n ts
 end_walk k bound r n ts d e = record { items = []; end = r; spelled = e; way = refl; finished = d }
 
@@ -186,7 +186,7 @@ part_word k bound i r n e s kd ps ts q sp t le low levels calm st go =
 pub part_end : (k bound i : ℕ) (r : Reading) (n e : Node) (s : Stand) (ts : List Token)
     → AreSpelled (Part s (phrase e) End) ts → takes r.state ≡ Some i → i ≤ right_strength (phrase e) → i ≤ 9
     → IsLevelled (phrase e) → ((rest : List Token) → pull rest ≤ bound → Calm i (measured_of e) rest)
-    → done (fed_reading r e).state ≡ Some n → Walk k bound r n ts
+    → node_in (fed_reading r e).state ≡ Some n → Walk k bound r n ts
 part_end k bound i r n e s ts sp t le low levels calm d = record {
   items = Sub (measured_of e) sp.0 ∷ [];
   end = fed_reading r e;

@@ -31,7 +31,7 @@ use Rattle.cat_tree.proofs.Exported.{phrase_If, phrase_Match, phrase_Each, phras
 use Rattle.cat_parse_state.specs.declared.state.Measured.{Measured}
 use Rattle.cat_parse_state.specs.declared.state.Reading.{Reading}
 use Rattle.cat_parse_expr.proofs.Rows.{IsMeasured}
-use Rattle.cat_parse_state.specs.Readings.{done, start}
+use Rattle.cat_parse_state.specs.Readings.{node_in, start}
 use Rattle.cat_parse_expr.proofs.Hold.{hold, row_hold}
 use Rattle.cat_parse_expr.proofs.Meaning.{Item, Tok, Sub, text, Path, HasPath}
 use Rattle.cat_parse_expr.proofs.Walks.{Walk}
@@ -186,8 +186,8 @@ path k e front is =
     }
 
 items_some : (k bound : ℕ) (items : List Item) (end : Reading) (n : Node) → Path k bound start items end
-    → done end.state ≡ Some n → 0 < length (text items)
-items_some k bound [] end n t d = absurd (start_open n (ap (λ (x : Reading). done x.state) t ∙ d))
+    → node_in end.state ≡ Some n → 0 < length (text items)
+items_some k bound [] end n t d = absurd (start_open n (ap (λ (x : Reading). node_in x.state) t ∙ d))
 items_some k bound (Tok p ∷ items) end n t d = omega arith
 items_some k bound (Sub e f ∷ items) end n t d = let h : None ≡ Some t.0 = sym start_asks ∙ t.1 in absurd cc
 

@@ -9,9 +9,10 @@ use Rattle.cat_lex.specs.declared.token.Token.{Token}
 use Rattle.cat_tree.specs.declared.expression.Node.{Node}
 use Rattle.cat_parse_state.specs.declared.state.Measured.{Measured}
 use Rattle.cat_parse_state.specs.declared.state.Reading.{Reading}
-use Rattle.cat_parse_state.specs.Readings.{start, feed, done}
+use Rattle.cat_parse_state.specs.Readings.{start, feed, node_in}
 use Rattle.cat_parse_step.specs.Machine.{shift}
-use Rattle.cat_parse_state.specs.Operands.{takes, needs_part, is_some}
+use Rattle.std.specs.Option.{is_some}
+use Rattle.cat_parse_state.specs.Operands.{takes, needs_part}
 use Rattle.cat_parse_expr.proofs.Rows.{IsMeasured, Reached}
 use Rattle.cat_parse_expr.proofs.Hold.{pull, hold}
 use Rattle.cat_parse_expr.proofs.Meaning.{Calm, Stops, Item, Tok, Sub, text, CalmAt, Path, Trail, Taker}
@@ -55,9 +56,9 @@ pub starts_shift : (k : ℕ) (p : Token) (ts : List Token) (more : Reading) → 
 starts_shift k p ts more e = ap (λ (o : Option Reading). is_some o) e
 
 pub head_of : (k bound : ℕ) (items : List Item) (end : Reading) (n : Node) → Path k bound start items end
-    → done end.state ≡ Some n → (p : Token) × (more : Reading) × (ts : List Token) × (text items ≡ p ∷ ts)
+    → node_in end.state ≡ Some n → (p : Token) × (more : Reading) × (ts : List Token) × (text items ≡ p ∷ ts)
     × (shift k start p ≡ Some more)
-head_of k bound [] end n t d = absurd (start_open n (ap (λ (x : Reading). done x.state) t ∙ d))
+head_of k bound [] end n t d = absurd (start_open n (ap (λ (x : Reading). node_in x.state) t ∙ d))
 head_of k bound (Tok p ∷ items) end n t d = (p, t.0, text items, refl, t.1)
 head_of k bound (Sub e f ∷ items) end n t d = let h : None ≡ Some t.0 = sym start_asks ∙ t.1 in absurd cc
 
@@ -106,8 +107,8 @@ no_test c x y = absurd cc
 -- what is low enough isn't high, where there is room for the part that it may have to have
 pub not_high : (limit : ℕ) (more : Reading) → more.tallest < limit → (needs_part more.state ≡ true → 1 < limit)
     → is_high limit more ≡ false
-not_high limit more lt room = neither (is_some (done more.state) && leb limit more.tallest)
-    (needs_part more.state && leb limit 1) (first (is_some (done more.state))) (second (needs_part more.state) refl)
+not_high limit more lt room = neither (is_some (node_in more.state) && leb limit more.tallest)
+    (needs_part more.state && leb limit 1) (first (is_some (node_in more.state))) (second (needs_part more.state) refl)
   where
     first : (b : Bool) → (b && leb limit more.tallest) ≡ false
     first true = lt-leb limit more.tallest lt
@@ -122,7 +123,7 @@ not_high limit more lt room = neither (is_some (done more.state) && leb limit mo
 
 -- along a trail to what is whole and low enough, nothing is high
 pub trail_low : (k : ℕ) (rest : List Token) (items : List Item) (more end : Reading) (n : Node) (low : ℕ)
-    → Trail k rest more items end → done end.state ≡ Some n → end.tallest ≤ low → is_high (suc low) more ≡ false
+    → Trail k rest more items end → node_in end.state ≡ Some n → end.tallest ≤ low → is_high (suc low) more ≡ false
 trail_low k rest items more end n low t d fits =
     let g = trail_grows k rest items more end t in
     not_high (suc low) more (omega arith) (by items t)
@@ -150,11 +151,11 @@ module _ (reader : ℕ → Reader) (low k : ℕ) where
 
   pub run_shift : (fuel : ℕ) (best : Option Best) (r more : Reading) (p : Token) (ts : List Token)
       → shift k r p ≡ Some more → is_high (suc low) more ≡ false → going (suc fuel) best r (p ∷ ts) ≡ going fuel
-      (best_of (done r.state) best r (p ∷ ts)) more ts
+      (best_of (node_in r.state) best r (p ∷ ts)) more ts
   run_shift fuel best r more p ts e low_is =
       run_is fuel best r (p ∷ ts) (Shifted more ts) (next_shift k r more p ts e)
-      ∙ ap (λ (b : Bool). cond b (stopped (best_of (done r.state) best r (p ∷ ts)) (too_deep (p ∷ ts)))
-      (going fuel (best_of (done r.state) best r (p ∷ ts)) more ts)) low_is
+      ∙ ap (λ (b : Bool). cond b (stopped (best_of (node_in r.state) best r (p ∷ ts)) (too_deep (p ∷ ts)))
+      (going fuel (best_of (node_in r.state) best r (p ∷ ts)) more ts)) low_is
 
   -- an operand is read, and then what comes after it
   pub run_feed : (fuel j : ℕ) (best : Option Best) (r : Reading) (e : Measured) (front ts : List Token)
@@ -169,7 +170,7 @@ module _ (reader : ℕ → Reader) (low k : ℕ) where
 -- ---- along a trail
 
 module _ (reader : ℕ → Reader) (low : ℕ) (wholes : AreWhole reader low) (k : ℕ) (rest : List Token) (end : Reading)
-    (n : Node) (finished : done end.state ≡ Some n) (fits : end.tallest ≤ low) where
+    (n : Node) (finished : node_in end.state ≡ Some n) (fits : end.tallest ≤ low) where
   abbrev pub go : ℕ → Going
   go fuel = run (operand_of reader) k (suc low) fuel
 
@@ -191,10 +192,10 @@ module _ (reader : ℕ → Reader) (low : ℕ) (wholes : AreWhole reader low) (k
       → text items ++ rest ≡ p ∷ ts
       → reaches (suc low) (next k r (text items ++ rest)) (here ts) ≡ b
       → Comes (cond b (go fuel best r (text items ++ rest))
-      (stopped (best_of (done r.state) best r (text items ++ rest)) (here ts)))
+      (stopped (best_of (node_in r.state) best r (text items ++ rest)) (here ts)))
   broke fuel best r items p ts true taker asks goes t room e h = goes fuel best r t room
   broke fuel best r [] p ts false taker asks goes t room e h =
-      let d : done r.state ≡ Some n = ap (λ (x : Reading). done x.state) t ∙ finished in
+      let d : node_in r.state ≡ Some n = ap (λ (x : Reading). node_in x.state) t ∙ finished in
       inr (
         p,
         ts,
@@ -235,10 +236,10 @@ module _ (reader : ℕ → Reader) (low : ℕ) (wholes : AreWhole reader low) (k
   along (Tok p ∷ items) zero best r t room = absurd (omega arith)
   along (Tok p ∷ items) (suc fuel) best r t room =
       comes_along (go (suc fuel) best r (p ∷ (text items ++ rest)))
-      (go fuel (best_of (done r.state) best r (p ∷ (text items ++ rest))) t.0 (text items ++ rest))
+      (go fuel (best_of (node_in r.state) best r (p ∷ (text items ++ rest))) t.0 (text items ++ rest))
       (run_shift reader low k fuel best r t.0 p (text items ++ rest) t.1
       (trail_low k rest items t.0 end n low t.2 finished fits))
-      (along items fuel (best_of (done r.state) best r (p ∷ (text items ++ rest))) t.0 t.2 (omega arith))
+      (along items fuel (best_of (node_in r.state) best r (p ∷ (text items ++ rest))) t.0 t.2 (omega arith))
   along (Sub e f ∷ items) zero best r t room = absurd (omega arith)
   along (Sub e f ∷ items) (suc fuel) best r t room =
       let g = part_grows k rest items r end e t.4 in
@@ -260,7 +261,7 @@ module _ (reader : ℕ → Reader) (low : ℕ) (wholes : AreWhole reader low) (k
 -- ---- a whole expression
 
 pub blocked_at : (reader : ℕ → Reader) (low k fuel : ℕ) (best : Option Best) (end more : Reading) (n : Node) (p : Token)
-    (ts : List Token) → done end.state ≡ Some n → shift k end p ≡ Some more → done more.state ≡ None
+    (ts : List Token) → node_in end.state ≡ Some n → shift k end p ≡ Some more → node_in more.state ≡ None
     → next k more ts ≡ Ends
     → run (operand_of reader) k (suc low) (suc (suc fuel)) best end (p ∷ ts) ≡ Reads (whole end n) (p ∷ ts)
     (Some (here ts))
@@ -271,15 +272,15 @@ blocked_at reader low k fuel best end more n p ts d e open_ ends =
     let asks_none : takes more.state ≡ None = subst (Follows k more ts) ends (next_follows k more ts) in
     let high : is_high (suc low) more ≡ false = rw (open_, ends_needs more.state asks_none) refl in
     ap (turn (operand_of reader) k (suc low) go1 best end (p ∷ ts)) (next_shift k end more p ts e)
-    ∙ ap (λ (b : Bool). cond b (stopped (best_of (done end.state) best end (p ∷ ts)) (too_deep (p ∷ ts)))
-    (go1 (best_of (done end.state) best end (p ∷ ts)) more ts)) high
+    ∙ ap (λ (b : Bool). cond b (stopped (best_of (node_in end.state) best end (p ∷ ts)) (too_deep (p ∷ ts)))
+    (go1 (best_of (node_in end.state) best end (p ∷ ts)) more ts)) high
     ∙ ap (λ (o : Option Node). go1 (best_of o best end (p ∷ ts)) more ts) d
     ∙ ap (turn (operand_of reader) k (suc low) go (Some (record { expression = whole end n; rest = p ∷ ts })) more ts)
     ends
     ∙ ap (λ (o : Option Node). ended o (Some (record { expression = whole end n; rest = p ∷ ts })) more ts) open_
 
 pub stop_at : (reader : ℕ → Reader) (low k fuel : ℕ) (best : Option Best) (end : Reading) (n : Node) (rest : List Token)
-    → done end.state ≡ Some n → length rest < fuel → Stops k end rest → IsWhole (whole end n) rest
+    → node_in end.state ≡ Some n → length rest < fuel → Stops k end rest → IsWhole (whole end n) rest
     (run (operand_of reader) k (suc low) fuel best end rest)
 unfolding run
 stop_at reader low k zero best end n rest d room s = absurd (omega arith)
@@ -311,7 +312,7 @@ way_reached k rest (Sub e f ∷ items) r end front h t = subst (Reached k end) (
     (way_reached k rest items (feed r e) end (front ++ f) (reached_feed k t.0 r e front f h t.1 t.2) t.4)
 
 pub is_whole_of : (reader : ℕ → Reader) (low k : ℕ) (rest : List Token) (end : Reading) (e : Measured) (o : ParseResult)
-    (front : List Token) (wholes : AreWhole reader low) (finished : done end.state ≡ Some e.node)
+    (front : List Token) (wholes : AreWhole reader low) (finished : node_in end.state ≡ Some e.node)
     (fits : end.tallest ≤ low) → whole end e.node ≡ e → Reached k end front → Calm k e rest → Comes reader low wholes k
     rest end e.node finished fits o → IsWhole e rest o
 is_whole_of reader low k rest end e o front wholes finished fits is h calm (inl c) =

@@ -8,9 +8,10 @@ use Rattle.cat_lex.specs.declared.token.Token.{Token}
 use Rattle.cat_tree.specs.declared.expression.Node.{Node}
 use Rattle.cat_parse_state.specs.declared.state.Measured.{Measured}
 use Rattle.cat_parse_state.specs.declared.state.Reading.{Reading}
-use Rattle.cat_parse_state.specs.Readings.{feed, done}
+use Rattle.cat_parse_state.specs.Readings.{feed, node_in}
 use Rattle.cat_parse_step.specs.Machine.{shift}
-use Rattle.cat_parse_state.specs.Operands.{takes, needs_part, is_some}
+use Rattle.std.specs.Option.{is_some}
+use Rattle.cat_parse_state.specs.Operands.{takes, needs_part}
 use Rattle.cat_parse_expr.proofs.Rows.{IsMeasured}
 use Rattle.cat_parse_expr.proofs.Meaning.{Item, Tok, Sub, text, CalmAt, Path, Taker}
 use Rattle.cat_parse_expr.specs.Results.{ParseResult, Reads, Reader, here, too_deep}
@@ -74,7 +75,7 @@ module _ (reader : ℕ → Reader) (low : ℕ) (fine : AreFine reader low) (whol
             (feed r e) w
         by (Tok q) h = ap
             (λ (b : Bool). cond b (go fuel best (feed r e) w)
-            (stopped (best_of (done (feed r e).state) best (feed r e) w)
+            (stopped (best_of (node_in (feed r e).state) best (feed r e) w)
             (here v.1))) (reach_head v.0 q h.1 v.1 h.0 (is_high (suc low) h.0) some h.2 h.3 v.2 v.4 refl)
         by (Sub f x) h = absurd h
 
@@ -88,24 +89,24 @@ module _ (reader : ℕ → Reader) (low : ℕ) (fine : AreFine reader low) (whol
 
   -- ---- passing
 
-  module _ (bound : ℕ) (q : Token) (z : List Token) (end : Reading) (n : Node) (finished : done end.state ≡ Some n)
+  module _ (bound : ℕ) (q : Token) (z : List Token) (end : Reading) (n : Node) (finished : node_in end.state ≡ Some n)
       (fits : end.tallest ≤ low) (passed : ArePassed reader low) where
     end_shift : (fuel : ℕ) (best : Option Best) (more : Reading) (zs : List Token) (b : Bool) → q ∷ z ≡ q ∷ zs
         → shift k end q ≡ Some more → is_high (suc low) more ≡ b
-        → Passes (whole end n) q z (cond b (stopped (best_of (done end.state) best end (q ∷ z)) (too_deep (q ∷ z)))
-        (go fuel (best_of (done end.state) best end (q ∷ z)) more z))
+        → Passes (whole end n) q z (cond b (stopped (best_of (node_in end.state) best end (q ∷ z)) (too_deep (q ∷ z)))
+        (go fuel (best_of (node_in end.state) best end (q ∷ z)) more z))
     end_shift fuel best more zs true same e high =
-        let whole_high = first_holds_before (is_some (done more.state) && leb (suc low) more.tallest)
+        let whole_high = first_holds_before (is_some (node_in more.state) && leb (suc low) more.tallest)
         (needs_part more.state) (leb (suc low) 1) (unit_needs k end more q n finished e) high in
-        let d = done_of_high (done more.state) (leb (suc low) more.tallest) whole_high in
+        let d = done_of_high (node_in more.state) (leb (suc low) more.tallest) whole_high in
         let is = unit_low k end more q n d.0 finished e d.1 in
-        absurd (above (done more.state) whole_high (omega (arith, is)))
+        absurd (above (node_in more.state) whole_high (omega (arith, is)))
       where
         above : (o : Option Node) → (is_some o && leb (suc low) more.tallest) ≡ true → more.tallest ≤ low → ⊥
         above None h le = absurd cc
         above (Some m) h le = let lt = leb-true (suc low) more.tallest h in omega arith
     end_shift fuel best more zs false same e high =
-        inr (run_short reader low fine k fuel (best_of (done end.state) best end (q ∷ z)) more z)
+        inr (run_short reader low fine k fuel (best_of (node_in end.state) best end (q ∷ z)) more z)
 
     end_passes : (fuel : ℕ) (best : Option Best) (o : Option Reading) → shift k end q ≡ o → Passes (whole end n) q z
         (turn (operand_of reader) k (suc low) (go fuel) best end (q ∷ z) (shifted end z o))
@@ -144,9 +145,9 @@ module _ (reader : ℕ → Reader) (low : ℕ) (fine : AreFine reader low) (whol
     passing (Tok p ∷ items) (suc fuel) best r t room =
         let ts = text items ++ q ∷ z in
         passes_along (whole end n) q z (go (suc fuel) best r (p ∷ ts))
-        (go fuel (best_of (done r.state) best r (p ∷ ts)) t.0 ts)
+        (go fuel (best_of (node_in r.state) best r (p ∷ ts)) t.0 ts)
         (run_shift reader low k fuel best r t.0 p ts t.1 (path_low k bound items t.0 end n low t.2 finished fits))
-        (passing items fuel (best_of (done r.state) best r (p ∷ ts)) t.0 t.2 (omega arith))
+        (passing items fuel (best_of (node_in r.state) best r (p ∷ ts)) t.0 t.2 (omega arith))
     passing (Sub e f ∷ items) zero best r t room = absurd (omega arith)
     passing (Sub e f ∷ items) (suc fuel) best r t room =
         let g = path_grows k bound items (feed r e) end t.4 in

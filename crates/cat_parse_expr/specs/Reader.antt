@@ -5,9 +5,10 @@ use Rattle.cat_lex.specs.declared.token.Token.{Token}
 use Rattle.cat_tree.specs.declared.expression.Node.{Node}
 use Rattle.cat_parse_state.specs.declared.state.Measured.{Measured}
 use Rattle.cat_parse_state.specs.declared.state.Reading.{Reading}
-use Rattle.cat_parse_state.specs.Readings.{start, feed, done}
+use Rattle.cat_parse_state.specs.Readings.{start, feed, node_in}
 use Rattle.cat_parse_step.specs.Machine.{shift}
-use Rattle.cat_parse_state.specs.Operands.{is_some, takes, needs_part}
+use Rattle.std.specs.Option.{is_some}
+use Rattle.cat_parse_state.specs.Operands.{takes, needs_part}
 use Rattle.cat_parse_expr.specs.Results.{Stop, ParseResult, Fails, Reads, Reader, here, too_deep}
 
 -- the last whole expression on the way, and what follows it
@@ -57,7 +58,7 @@ next k r (p ∷ ts) = shifted r ts (shift k r p)
 
 -- whether the tree is higher than it may be: the one that is whole here, or one that has to have a part
 abbrev pub is_high : ℕ → Reading → Bool
-is_high limit r = (is_some (done r.state) && nat_le limit r.tallest) || (needs_part r.state && nat_le limit 1)
+is_high limit r = (is_some (node_in r.state) && nat_le limit r.tallest) || (needs_part r.state && nat_le limit 1)
 
 -- how reading goes on
 abbrev pub Going : Type 0
@@ -75,16 +76,16 @@ fed k limit go best r (Fails s) = stopped best s
 fed k limit go best r (Reads e ts None) = go best (feed r e) ts
 fed k limit go best r (Reads e ts (Some s)) =
     if reaches limit (next k (feed r e) ts) s then go best (feed r e) ts else stopped
-    (best_of (done (feed r e).state) best (feed r e) ts) s
+    (best_of (node_in (feed r e).state) best (feed r e) ts) s
 
 -- one word or one operand of reading
 abbrev pub turn : (operand : Bool → ℕ → Reader) (k limit : ℕ) → Going → Option Best → Reading → List Token → Next
     → ParseResult
 turn operand k limit go best r ts (Shifted more rest) =
-    if is_high limit more then stopped (best_of (done r.state) best r ts) (too_deep ts) else go
-    (best_of (done r.state) best r ts) more rest
+    if is_high limit more then stopped (best_of (node_in r.state) best r ts) (too_deep ts) else go
+    (best_of (node_in r.state) best r ts) more rest
 turn operand k limit go best r ts (Asks j) = fed k limit go best r (operand (nat_le limit r.tallest) j ts)
-turn operand k limit go best r ts Ends = ended (done r.state) best r ts
+turn operand k limit go best r ts Ends = ended (node_in r.state) best r ts
 
 -- reading from a state on
 unfoldable pub run : (operand : Bool → ℕ → Reader) (k limit fuel : ℕ) → Going

@@ -1,7 +1,7 @@
 // Where reading stands, and how it goes on by one word or one operand.
 ghost use Rattle.std.specs.Prelude.{◌≡◌, ◌<◌, ◌≤◌, ℕ, List, length, drop, Option, IfOk};
 ghost use Rattle.cat_lex.specs.declared.token.Token.{Token};
-ghost use Rattle.cat_parse_state.specs.Readings.{done};
+ghost use Rattle.cat_parse_state.specs.Readings.{node_in};
 ghost use Rattle.cat_parse_state.specs.Operands.{takes};
 ghost use Rattle.cat_parse_expr.specs.Reader.{is_high, next, asked, ended, Best};
 ghost use Rattle.cat_parse_expr.specs.inside.Fallback.{last_whole};
@@ -84,7 +84,7 @@ fn ended(standing: Standing) -> Reached
     requires { standing.reading.tallest < 4294967295 }
     ensures gives { (tokens : List Token) (best : Option Best) → IsKept tokens standing best
         → parse_result_of tokens result
-        ≡ ended (done standing.reading.state) best standing.reading (drop standing.at tokens) }
+        ≡ ended (node_in standing.reading.state) best standing.reading (drop standing.at tokens) }
     ensures within { (end : ℕ) → IsCheckpointWithin end standing.checkpoint → standing.at ≤ end → AreWithin end result }
 {
     let Standing {

@@ -12,7 +12,7 @@ use Rattle.cat_parse_state.specs.declared.state.State.{State}
 use Rattle.cat_parse_state.specs.declared.state.State.TheVariants as state
 use Rattle.cat_parse_state.specs.declared.state.Reading.{Reading}
 use Rattle.cat_parse_state.specs.declared.state.Measured.{Measured}
-use Rattle.cat_parse_state.specs.Readings.{done}
+use Rattle.cat_parse_state.specs.Readings.{node_in}
 use Rattle.cat_parse_step.specs.Machine.{shift, step, moved, strength_of}
 use Rattle.cat_parse_step.specs.Words.{Move}
 use Rattle.cat_parse_expr.proofs.Exported.{pull, op_pull, Calm, Taker}
@@ -39,7 +39,8 @@ abbrev Stays : (level s : ℕ) → State → Pos → TokenKind → Type 0
 Stays level s q at k = step level s q (record { kind = k; pos = at }) ≡ None
 
 -- no state where an expression is whole goes on with one
-stays : (level s : ℕ) (q : State) (at : Pos) (n : Node) (k : TokenKind) → behind_expression k ≡ true → done q ≡ Some n
+stays : (level s : ℕ) (q : State) (at : Pos) (n : Node) (k : TokenKind) → behind_expression k ≡ true
+    → node_in q ≡ Some n
     → Stays level s q at k
 stays level s (state.Complete e own) at n k b d =
     by_kind (Stays level s (state.Complete e own) at) refl refl refl refl refl refl refl refl refl refl k b

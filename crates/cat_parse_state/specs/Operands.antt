@@ -6,11 +6,6 @@ use Rattle.cat_tree.specs.Operators.{prefix_level, operator_level}
 use Rattle.cat_parse_state.specs.declared.state.State.{State}
 use Rattle.cat_parse_state.specs.declared.state.State.TheVariants as state
 
--- there is one
-abbrev pub is_some : {A : Type 0} → Option A → Bool
-is_some None = false
-is_some (Some x) = true
-
 -- the level of the operand that a state waits for
 abbrev pub takes : State → Option ℕ
 takes (state.Right a o p) = Some (suc (operator_level o))

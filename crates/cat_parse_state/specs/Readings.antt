@@ -12,16 +12,16 @@ use Rattle.cat_parse_state.specs.declared.state.Measured.{Measured}
 use Rattle.cat_parse_state.specs.Operands.{fed_state, ends_form, ends_match}
 
 -- the expression that is whole here
-abbrev pub done : State → Option Node
-done (state.Complete n s) = Some n
-done (state.Int n p) = Some (leaf.Literal (literal.Int n) p)
-done (state.Name w) = Some (leaf.Name w)
-done (state.Upper u) = Some (leaf.Case (Bare u))
-done (state.Qualified e c) = Some (leaf.Case (Qualified e c))
-done (state.Called f args) = Some (node.Call f args)
-done (state.Tested e p u) = Some (node.Test e p (Bare u))
-done (state.Matched m b) = Some (node.Match m.pos m.tested m.arms)
-done _ = None
+abbrev pub node_in : State → Option Node
+node_in (state.Complete n s) = Some n
+node_in (state.Int n p) = Some (leaf.Literal (literal.Int n) p)
+node_in (state.Name w) = Some (leaf.Name w)
+node_in (state.Upper u) = Some (leaf.Case (Bare u))
+node_in (state.Qualified e c) = Some (leaf.Case (Qualified e c))
+node_in (state.Called f args) = Some (node.Call f args)
+node_in (state.Tested e p u) = Some (node.Test e p (Bare u))
+node_in (state.Matched m b) = Some (node.Match m.pos m.tested m.arms)
+node_in _ = None
 
 -- nothing is read yet
 abbrev pub start : Reading

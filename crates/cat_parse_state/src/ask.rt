@@ -1,8 +1,8 @@
 //! What a state waits for, and the expression that is whole in it.
 ghost use Rattle.std.specs.Prelude.{◌≡◌};
 ghost use Rattle.cat_parse_state.specs.Operands as operands;
-ghost use Rattle.cat_parse_state.specs.Operands.{is_some};
-ghost use Rattle.cat_parse_state.specs.Readings.{done};
+ghost use Rattle.std.specs.Option.{is_some};
+ghost use Rattle.cat_parse_state.specs.Readings.{node_in};
 
 use crate::State;
 use crate::levels::{operator_level, prefix_level};
@@ -36,7 +36,7 @@ pub fn takes(state: &State) -> Option<u32>
 
 /// Whether an expression is whole.
 pub fn is_whole(state: &State) -> bool
-    ensures { result ≡ is_some (done state.now) }
+    ensures { result ≡ is_some (node_in state.now) }
 {
     match state {
         State::Complete(..)
@@ -63,7 +63,7 @@ pub fn needs_part(state: &State) -> bool
 
 /// The expression that is whole.
 pub fn whole_node(state: State) -> Option<Node>
-    ensures { result ≡ done state }
+    ensures { result ≡ node_in state }
 {
     match state {
         State::Complete(node, _) => Some(node),

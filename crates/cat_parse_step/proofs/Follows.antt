@@ -15,7 +15,7 @@ use Rattle.cat_parse_step.specs.declared.follow.Follow.{Follow}
 use Rattle.cat_parse_step.specs.declared.follow.Follow.TheVariants.{Operated, Dotted, Tests, Other}
 use Rattle.cat_parse_step.specs.Steps.{follow_of, whole_next, each_step}
 use Rattle.cat_parse_step.specs.Words.{Move, Onward, on_we_have, on_such_that, on_to}
-use Rattle.cat_parse_state.specs.Readings.{done}
+use Rattle.cat_parse_state.specs.Readings.{node_in}
 use Rattle.cat_parse_step.specs.inside.OneStep.{stepped_by, may_follow, followed, behind, joins, is_we_have}
 use Rattle.cat_parse_step.specs.inside.OneStep.{is_such_that}
 use Rattle.cat_parse_step.specs.inside.OneStep.{is_to}
@@ -27,8 +27,9 @@ follows_at k s q n p Dotted may = rw may refl
 follows_at k s q n p Tests may = rw may refl
 follows_at k s q n p Other may = cc may
 
-pub follows : (k s : ℕ) (q : State) (t : Token) (n : Node) → done q ≡ Some n → may_follow k s (follow_of t.kind) ≡ true
-    → stepped.Grown (followed n t.pos (follow_of t.kind)) ≡ stepped_by q (behind k s (done q) t)
+pub follows : (k s : ℕ) (q : State) (t : Token) (n : Node) → node_in q ≡ Some n
+    → may_follow k s (follow_of t.kind) ≡ true
+    → stepped.Grown (followed n t.pos (follow_of t.kind)) ≡ stepped_by q (behind k s (node_in q) t)
 follows k s q t n whole may = rw (whole, follows_at k s q n t.pos (follow_of t.kind) may) refl
 
 -- ---- between the list and the body of a form

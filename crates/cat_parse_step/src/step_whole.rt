@@ -1,6 +1,6 @@
 //! One word further from a whole expression.
 ghost use Rattle.std.specs.Prelude.{◌≡◌, IsSome};
-ghost use Rattle.cat_parse_state.specs.Readings.{done};
+ghost use Rattle.cat_parse_state.specs.Readings.{node_in};
 ghost use Rattle.cat_parse_state.specs.Groups.{group_of};
 ghost use Rattle.cat_parse_step.specs.Starts.{if_at};
 ghost use Rattle.cat_parse_step.specs.inside.OneStep as one;
@@ -20,8 +20,8 @@ const SPAN_BOUND: i64 = 999_999_999;
 
 /// An operator, a field or a test behind a whole expression.
 fn behind(level: u32, strength: u32, state: State, token: &Token) -> Stepped
-    requires { IsSome (done state) }
-    ensures { result ≡ stepped_by state (one.behind level strength (done state) token.now) }
+    requires { IsSome (node_in state) }
+    ensures { result ≡ stepped_by state (one.behind level strength (node_in state) token.now) }
 {
     let follow = follow_of(&token.kind);
     if !may_follow(level, strength, follow) {

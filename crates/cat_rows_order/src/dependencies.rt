@@ -9,12 +9,12 @@ pub fn listed(alloc: Global, text: &str) -> Result<NumberLists, Problem> {
     let mut deps = List::new(alloc);
     for part in text.split_terminator(']') {
         let numbers = part.trim().strip_prefix('[').ok_or(Problem::Unreadable)?;
-        deps.push(numbers_of(alloc, numbers)?)?;
+        deps.push(read_numbers(alloc, numbers)?)?;
     }
     Ok(deps)
 }
 
-fn numbers_of(alloc: Global, text: &str) -> Result<Numbers, Problem> {
+fn read_numbers(alloc: Global, text: &str) -> Result<Numbers, Problem> {
     let mut numbers = List::new(alloc);
     for word in text.split_whitespace() {
         numbers.push(word.parse::<u32>().ok().ok_or(Problem::Unreadable)?)?;

@@ -12,7 +12,7 @@ use Rattle.cat_scope.specs.OperatorNumbers.{unary_number, binary_number, sum_num
 use Rattle.cat_scope.specs.Same.{Standing}
 use Rattle.cat_scope.specs.SameTree.{same_pattern, each_same, same_in, same_arm, same_field, same_tree}
 use Rattle.cat_sound.proofs.Exported.{parts_of, bodies_of, values_of}
-use Rattle.cat_term_key.specs.Keys.{Branch, Part, form_number, own_numbers, parts, bodies, values, key_in, arm_key}
+use Rattle.cat_term_key.specs.Keys.{Branch, Slot, form_number, own_numbers, parts, bodies, values, key_in, arm_key}
 use Rattle.cat_term_key.specs.Keys.{field_key, key_of, pattern_numbers, patterns_numbers, field_numbers}
 use Rattle.cat_term_key.proofs.KeyNumbers.{number_at, behind, one_number, and_both, one_front, literal_told}
 use Rattle.cat_term_key.proofs.KeyNumbers.{pattern_told, local_told, pattern_length}
@@ -22,25 +22,25 @@ Form = Expr-F Expr Arm FieldValue
 
 module _ (g : Standing) where
   abbrev pub arm_of : Arm → Branch (List ℕ)
-  arm_of = fold-Arm (List ℕ) (Branch (List ℕ)) (Part (List ℕ)) (key_in g) arm_key field_key
+  arm_of = fold-Arm (List ℕ) (Branch (List ℕ)) (Slot (List ℕ)) (key_in g) arm_key field_key
 
-  abbrev pub field_of : FieldValue → Part (List ℕ)
-  field_of = fold-FieldValue (List ℕ) (Branch (List ℕ)) (Part (List ℕ)) (key_in g) arm_key field_key
+  abbrev pub field_of : FieldValue → Slot (List ℕ)
+  field_of = fold-FieldValue (List ℕ) (Branch (List ℕ)) (Slot (List ℕ)) (key_in g) arm_key field_key
 
-  abbrev pub opened : Form → Expr-F (List ℕ) (Branch (List ℕ)) (Part (List ℕ))
-  opened y = map-Expr Expr Arm FieldValue (List ℕ) (Branch (List ℕ)) (Part (List ℕ)) (key_of g) arm_of field_of y
+  abbrev pub opened : Form → Expr-F (List ℕ) (Branch (List ℕ)) (Slot (List ℕ))
+  opened y = map-Expr Expr Arm FieldValue (List ℕ) (Branch (List ℕ)) (Slot (List ℕ)) (key_of g) arm_of field_of y
 
   pub key_level : (e : Expr) → key_of g e ≡ key_in g (opened (out-Expr e))
   unfolding key_of
-  key_level e = fold_out-Expr (List ℕ) (Branch (List ℕ)) (Part (List ℕ)) (key_in g) arm_key field_key e
+  key_level e = fold_out-Expr (List ℕ) (Branch (List ℕ)) (Slot (List ℕ)) (key_in g) arm_key field_key e
 
   pub arm_is : (a : Arm) → arm_of a ≡ (a.pattern, key_of g a.body)
   unfolding key_of
-  arm_is a = fold_out-Arm (List ℕ) (Branch (List ℕ)) (Part (List ℕ)) (key_in g) arm_key field_key a
+  arm_is a = fold_out-Arm (List ℕ) (Branch (List ℕ)) (Slot (List ℕ)) (key_in g) arm_key field_key a
 
   pub field_is : (f : FieldValue) → field_of f ≡ (f.field, key_of g f.value)
   unfolding key_of
-  field_is f = fold_out-FieldValue (List ℕ) (Branch (List ℕ)) (Part (List ℕ)) (key_in g) arm_key field_key f
+  field_is f = fold_out-FieldValue (List ℕ) (Branch (List ℕ)) (Slot (List ℕ)) (key_in g) arm_key field_key f
 
   bodies_are : (arms : List Arm) → bodies (map arm_of arms) ≡ map (key_of g) (bodies_of arms)
   bodies_are [] = refl
@@ -51,7 +51,7 @@ module _ (g : Standing) where
   values_are : (fs : List FieldValue) → values (map field_of fs) ≡ map (key_of g) (values_of fs)
   values_are [] = refl
   values_are (f ∷ fs) =
-      ap (λ (b : Part (List ℕ)). b.1 ∷ values (map field_of fs)) (field_is f)
+      ap (λ (b : Slot (List ℕ)). b.1 ∷ values (map field_of fs)) (field_is f)
       ∙ ap (λ (ks : List (List ℕ)). key_of g f.value ∷ ks) (values_are fs)
 
   -- the keys of the parts
@@ -130,8 +130,8 @@ module _ (g h : Standing) where
   fields_same (a ∷ xs) [] n s = elim s [ ]
   fields_same (a ∷ xs) (b ∷ ys) n s =
       let number : a.field ≡ b.field =
-      sym (ap (λ (x : Part (List ℕ)). x.0) (field_is g a)) ∙ ap (number_at 0) n
-      ∙ ap (λ (x : Part (List ℕ)). x.0) (field_is h b) in
+      sym (ap (λ (x : Slot (List ℕ)). x.0) (field_is g a)) ∙ ap (number_at 0) n
+      ∙ ap (λ (x : Slot (List ℕ)). x.0) (field_is h b) in
       and_both _ _ (field_test_is a b ∙ and_both _ _ (one_number a.field b.field number) s.0)
       (fields_same xs ys (ap behind n) s.1)
 

@@ -15,13 +15,13 @@ use Rattle.cat_scope.specs.Same.{Standing, Same, SameAll, SameFields, SameArms}
 use Rattle.cat_scope.specs.Same as same
 use Rattle.cat_scope.specs.SameTree.{same_tree, same_in}
 use Rattle.cat_sound.proofs.Exported.{by_parts, parts_of}
-use Rattle.cat_term_key.specs.Keys.{Branch, Part, form_number, own_numbers, parts, bodies, values, key_in, key_of}
+use Rattle.cat_term_key.specs.Keys.{Branch, Slot, form_number, own_numbers, parts, bodies, values, key_in, key_of}
 use Rattle.cat_term_key.specs.Keys.{patterns_numbers, field_numbers, local_numbers, joined, spelled}
 use Rattle.cat_term_key.proofs.KeyNumbers.{one_number, Told, told}
 use Rattle.cat_term_key.proofs.KeyForms.{Form, arm_of, field_of, opened, key_level, arm_is, field_is, parts_are}
 use Rattle.cat_term_key.proofs.KeyForms.{form_is, tests, test_level, EachSame, same_form}
 
-abbrev pair : ℕ → List ℕ → Part (List ℕ)
+abbrev pair : ℕ → List ℕ → Slot (List ℕ)
 pair n k = (n, k)
 
 abbrev branch : ArmPattern → List ℕ → Branch (List ℕ)
@@ -156,7 +156,7 @@ module _ (g h : Standing) where
         (ap (one 12 (n ∷ k ∷ [])) (one_key s))
     one_key (same.structure {p = p} {q = q} {n = n} {es = es} {fs = fs} s) =
         found _ _ (expr.outs-Structure p n es) (expr.outs-Structure q n fs)
-        (ap (λ (fields : List (Part (List ℕ))). spelled 13 (n ∷ field_numbers fields) (values fields)) (fields_keys s))
+        (ap (λ (fields : List (Slot (List ℕ))). spelled 13 (n ∷ field_numbers fields) (values fields)) (fields_keys s))
     one_key (same.list {p = p} {q = q} {es = es} {fs = fs} s) =
         found _ _ (expr.outs-List p es) (expr.outs-List q fs) (ap (spelled 14 []) (all_keys s))
     one_key (same.for_all {p = p} {q = q} {l = l} {e = e} {m = m} {f = f} s t) =
@@ -181,7 +181,7 @@ module _ (g h : Standing) where
         found _ _ (expr.outs-Call p i es) (expr.outs-Call q i fs) (ap (spelled 23 (i ∷ [])) (all_keys s))
     one_key (same.scope_call {p = p} {q = q} {s = i} {k = k} {es = es} {fs = fs} s) =
         found _ _ (expr.outs-ScopeCall p i es k) (expr.outs-ScopeCall q i fs k)
-        (ap (λ (fields : List (Part (List ℕ))). spelled 24 (i ∷ k ∷ field_numbers fields) (values fields))
+        (ap (λ (fields : List (Slot (List ℕ))). spelled 24 (i ∷ k ∷ field_numbers fields) (values fields))
         (fields_keys s))
 
     all_keys : {es fs : List Expr} → SameAll g h es fs → map (key_of g) es ≡ map (key_of h) fs
@@ -193,10 +193,10 @@ module _ (g h : Standing) where
     fields_keys : {xs ys : List FieldValue} → SameFields g h xs ys → map (field_of g) xs ≡ map (field_of h) ys
     fields_keys same.fields_none = refl
     fields_keys (same.fields_more {e = e} {f = f} {es = es} {fs = fs} n s t) =
-        ap (λ (x : Part (List ℕ)). x ∷ map (field_of g) es)
+        ap (λ (x : Slot (List ℕ)). x ∷ map (field_of g) es)
         (field_is g e ∙ ap (λ (x : ℕ). pair x (key_of g e.value)) n
         ∙ ap (λ (k : List ℕ). pair f.field k) (one_key s) ∙ sym (field_is h f))
-        ∙ ap (λ (xs : List (Part (List ℕ))). field_of h f ∷ xs) (fields_keys t)
+        ∙ ap (λ (xs : List (Slot (List ℕ))). field_of h f ∷ xs) (fields_keys t)
 
     arms_keys : {xs ys : List Arm} → SameArms g h xs ys → map (arm_of g) xs ≡ map (arm_of h) ys
     arms_keys same.arms_none = refl

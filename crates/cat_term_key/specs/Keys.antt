@@ -19,8 +19,8 @@ use Rattle.cat_guard.specs.Questions.{Question}
 abbrev pub Branch : Type 0 → Type 0
 Branch E = ArmPattern × E
 
-abbrev pub Part : Type 0 → Type 0
-Part E = ℕ × E
+abbrev pub Slot : Type 0 → Type 0
+Slot E = ℕ × E
 
 -- the number of a form
 abbrev pub form_number : {E A F : Type 0} → Expr-F E A F → ℕ
@@ -84,12 +84,12 @@ patterns_numbers [] = []
 patterns_numbers (a ∷ arms) = pattern_numbers a.0 ++ patterns_numbers arms
 
 -- which fields there are, in written order
-abbrev pub field_numbers : {E : Type 0} → List (Part E) → List ℕ
+abbrev pub field_numbers : {E : Type 0} → List (Slot E) → List ℕ
 field_numbers [] = []
 field_numbers (f ∷ fields) = f.0 ∷ field_numbers fields
 
 -- the numbers of a form, but for those of its parts
-abbrev pub own_numbers : {E : Type 0} → Standing → Expr-F E (Branch E) (Part E) → List ℕ
+abbrev pub own_numbers : {E : Type 0} → Standing → Expr-F E (Branch E) (Slot E) → List ℕ
 own_numbers g (Expr-F.Literal p l) = literal_numbers l
 own_numbers g (Expr-F.Item p i) = i ∷ []
 own_numbers g (Expr-F.Output p i k) = i ∷ k ∷ []
@@ -111,7 +111,7 @@ abbrev pub bodies : {E : Type 0} → List (Branch E) → List E
 bodies [] = []
 bodies (a ∷ arms) = a.1 ∷ bodies arms
 
-abbrev pub values : {E : Type 0} → List (Part E) → List E
+abbrev pub values : {E : Type 0} → List (Slot E) → List E
 values [] = []
 values (f ∷ fields) = f.1 ∷ values fields
 
@@ -120,7 +120,7 @@ content None = []
 content (Some e) = e ∷ []
 
 -- the parts of a form, from the left
-abbrev pub parts : {E : Type 0} → Expr-F E (Branch E) (Part E) → List E
+abbrev pub parts : {E : Type 0} → Expr-F E (Branch E) (Slot E) → List E
 parts (Expr-F.Literal p l) = []
 parts (Expr-F.Item p i) = []
 parts (Expr-F.Output p i k) = []
@@ -157,18 +157,18 @@ abbrev pub spelled : ℕ → List ℕ → List (List ℕ) → List ℕ
 spelled form own inner = form ∷ length own ∷ own ++ (length inner ∷ joined inner)
 
 -- the key of a form by those of its parts
-abbrev pub key_in : Standing → Expr-F (List ℕ) (Branch (List ℕ)) (Part (List ℕ)) → List ℕ
+abbrev pub key_in : Standing → Expr-F (List ℕ) (Branch (List ℕ)) (Slot (List ℕ)) → List ℕ
 key_in g y = spelled (form_number y) (own_numbers g y) (parts y)
 
-abbrev pub arm_key : Arm-F (List ℕ) (Branch (List ℕ)) (Part (List ℕ)) → Branch (List ℕ)
+abbrev pub arm_key : Arm-F (List ℕ) (Branch (List ℕ)) (Slot (List ℕ)) → Branch (List ℕ)
 arm_key a = (a.pattern, a.body)
 
-abbrev pub field_key : FieldValue-F (List ℕ) (Branch (List ℕ)) (Part (List ℕ)) → Part (List ℕ)
+abbrev pub field_key : FieldValue-F (List ℕ) (Branch (List ℕ)) (Slot (List ℕ)) → Slot (List ℕ)
 field_key f = (f.field, f.value)
 
 -- the key of an expression in the definitions of a function or of a variable
 unfoldable pub key_of : Standing → Expr → List ℕ
-key_of g = fold-Expr (List ℕ) (Branch (List ℕ)) (Part (List ℕ)) (key_in g) arm_key field_key
+key_of g = fold-Expr (List ℕ) (Branch (List ℕ)) (Slot (List ℕ)) (key_in g) arm_key field_key
 
 -- a dimension
 abbrev pub dim_numbers : Dim → List ℕ

@@ -16,7 +16,7 @@ use Rattle.cat_scope.specs.declared.operators.BinaryOp.{BinaryOp}
 use Rattle.cat_scope.specs.declared.operators.SumKind.{SumKind}
 use Rattle.cat_scope.specs.OperatorNumbers.{unary_number, binary_number, sum_number}
 use Rattle.cat_scope.specs.Same.{Standing}
-use Rattle.cat_term_key.specs.Keys.{Branch, Part, key_of, key_in, joined, literal_numbers, local_numbers, spelled}
+use Rattle.cat_term_key.specs.Keys.{Branch, Slot, key_of, key_in, joined, literal_numbers, local_numbers, spelled}
 use Rattle.cat_term_key.specs.Keys.{pattern_numbers, patterns_numbers, field_numbers, bodies, values}
 use Rattle.cat_term_key.proofs.Exported.{arm_of, field_of, opened, key_level, arm_is, field_is}
 use Rattle.cat_term_spell.specs.inside.Fronts.{front_of, keys_of, body_keys, value_keys, patterns_in, fields_in}
@@ -164,7 +164,7 @@ keys_are g (e ∷ es) = ap (λ (k : List ℕ). key_of g e ++ k) (keys_are g es)
 values_are : (g : Standing) (fs : List FieldValue) → joined (values (map (field_of g) fs)) ≡ value_keys g fs
 values_are g [] = refl
 values_are g (f ∷ fs) =
-    ap (λ (x : Part (List ℕ)). x.1 ++ joined (values (map (field_of g) fs))) (field_is g f)
+    ap (λ (x : Slot (List ℕ)). x.1 ++ joined (values (map (field_of g) fs))) (field_is g f)
     ∙ ap (λ (k : List ℕ). key_of g f.value ++ k) (values_are g fs)
 
 values_many : (g : Standing) (fs : List FieldValue) → length (values (map (field_of g) fs)) ≡ length fs
@@ -174,7 +174,7 @@ values_many g (f ∷ fs) = let rest = values_many g fs in omega (arith, rest)
 fields_are : (g : Standing) (fs : List FieldValue) → field_numbers (map (field_of g) fs) ≡ fields_in fs
 fields_are g [] = refl
 fields_are g (f ∷ fs) =
-    ap (λ (x : Part (List ℕ)). x.0 ∷ field_numbers (map (field_of g) fs)) (field_is g f)
+    ap (λ (x : Slot (List ℕ)). x.0 ∷ field_numbers (map (field_of g) fs)) (field_is g f)
     ∙ ap (λ (k : List ℕ). f.field ∷ k) (fields_are g fs)
 
 bodies_are : (g : Standing) (arms : List Arm) → joined (bodies (map (arm_of g) arms)) ≡ body_keys g arms

@@ -10,9 +10,9 @@ use Rattle.cat_cert_text.specs.Lines.{Due}
 
 -- ---- states
 
--- the tree of a target as far as its lists are read: what is due behind it, the trees before it, its named trees with
--- their numbers of leaves, and the line before each list
-pub record Part : Type 0 where
+-- the growing tree of a target, as far as its lists are read: what is due behind it, the trees before it, its named
+-- trees with their numbers of leaves, and the line before each list
+pub record Growing : Type 0 where
   pub target : TableTarget
   pub dues : List Due
   pub trees : List CertTree
@@ -25,8 +25,8 @@ pub record Part : Type 0 where
 pub data State : Type 0 where
   First : List Due → State
   AtDue : Version → List Due → List CertTree → State
-  AtPart : Part → State
-  AtNode : Version → Bool → Part → List CitedNode → ℕ → ℕ → State
+  AtList : Growing → State
+  AtNode : Version → Bool → Growing → List CitedNode → ℕ → ℕ → State
   Done : Version → List CertTree → State
 
 -- where a line leads, and the leaves up to and with it of the tree that is read
@@ -41,7 +41,7 @@ to s = Some (record { width = 0; state = s })
 -- ---- nodes
 
 -- a list more begins behind that line
-abbrev pub with_head : Part → ℕ → Part
+abbrev pub with_head : Growing → ℕ → Growing
 with_head p n = record {
   target = p.target;
   dues = p.dues;
@@ -52,7 +52,7 @@ with_head p n = record {
 }
 
 -- a named tree more, with so many leaves
-abbrev pub with_name : Part → List CitedNode → ℕ → Part
+abbrev pub with_name : Growing → List CitedNode → ℕ → Growing
 with_name p nodes count = record {
   target = p.target;
   dues = p.dues;
@@ -63,13 +63,13 @@ with_name p nodes count = record {
 }
 
 -- the whole tree, with these nodes of its own
-abbrev pub whole_tree : Part → List CitedNode → CertTree
+abbrev pub whole_tree : Growing → List CitedNode → CertTree
 whole_tree p nodes = record { tree = record { names = p.names; main = nodes }; heads = p.heads }
 
 -- behind the last node of a list
-abbrev pub after_list : Version → Bool → Part → List CitedNode → ℕ → State
+abbrev pub after_list : Version → Bool → Growing → List CitedNode → ℕ → State
 after_list v true p nodes count = AtDue v p.dues (p.trees ++ whole_tree p nodes ∷ [])
-after_list v false p nodes count = AtPart (with_name p nodes count)
+after_list v false p nodes count = AtList (with_name p nodes count)
 
 -- the leaves of a node, where it may stand there
 abbrev pub leaves_there : (ℕ → Bool) → List ℕ → CitedNode → Option ℕ
@@ -78,7 +78,7 @@ leaves_there is_atom named cited.Leaf = Some 1
 leaves_there is_atom named (cited.Cite i) = slice_get named i
 
 -- behind a node
-abbrev pub after_node : Version → Bool → Part → List CitedNode → ℕ → ℕ → CitedNode → State
+abbrev pub after_node : Version → Bool → Growing → List CitedNode → ℕ → ℕ → CitedNode → State
 after_node v main p nodes pending count (cited.Split a) = AtNode v main p nodes (suc pending) count
 after_node v main p nodes zero count cited.Leaf = after_list v main p nodes count
 after_node v main p nodes (suc pending) count cited.Leaf = AtNode v main p nodes pending count

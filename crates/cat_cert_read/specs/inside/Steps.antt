@@ -16,7 +16,8 @@ use Rattle.cat_cert_text.specs.declared.refusal.CertRefusal.TheVariants as refus
 use Rattle.cat_cert_text.specs.Lines.{Due, ScopeDue, TargetDue, heading_word, heading_line, first_line}
 use Rattle.cat_cert_text.specs.Certified.{is_atom_of}
 use Rattle.cat_cert_read.specs.inside.LineForms.{node_of, list_begun}
-use Rattle.cat_cert_read.specs.inside.States.{Part, State, First, AtDue, AtPart, AtNode, Done, Stepped, to, with_head}
+use Rattle.cat_cert_read.specs.inside.States.{Growing, State, First, AtDue, AtList, AtNode, Done, Stepped, to}
+use Rattle.cat_cert_read.specs.inside.States.{with_head}
 use Rattle.cat_cert_read.specs.inside.States.{leaves_there, after_node}
 
 -- ---- one line
@@ -35,7 +36,7 @@ node_item line (Some n) = Node n
 abbrev pub item_in : State → List ℕ → Item
 item_in (First dues) line = Plain line
 item_in (AtDue v dues trees) line = Plain line
-item_in (AtPart p) line = Plain line
+item_in (AtList p) line = Plain line
 item_in (AtNode v main p nodes pending count) line = node_item line (node_of line)
 item_in (Done v trees) line = Plain line
 
@@ -45,7 +46,7 @@ at_tree version.One t dues trees n =
     AtNode version.One true
     (record { target = t; dues = dues; trees = trees; names = []; named = []; heads = n ∷ [] }) [] 0 0
 at_tree version.Two t dues trees n =
-    AtPart (record { target = t; dues = dues; trees = trees; names = []; named = []; heads = [] })
+    AtList (record { target = t; dues = dues; trees = trees; names = []; named = []; heads = [] })
 
 -- behind the heading of something due
 abbrev pub after_heading : Version → Due → List Due → List CertTree → ℕ → State
@@ -53,7 +54,7 @@ after_heading v (ScopeDue name) dues trees n = AtDue v dues trees
 after_heading v (TargetDue t) dues trees n = at_tree v t dues trees n
 
 -- behind a node with so many leaves
-abbrev pub stepped_on : Version → Bool → Part → List CitedNode → ℕ → ℕ → CitedNode → Option ℕ → Option Stepped
+abbrev pub stepped_on : Version → Bool → Growing → List CitedNode → ℕ → ℕ → CitedNode → Option ℕ → Option Stepped
 stepped_on v main p nodes pending count n None = None
 stepped_on v main p nodes pending count n (Some leaves) = Some (record {
   width = count + leaves;
@@ -61,7 +62,7 @@ stepped_on v main p nodes pending count n (Some leaves) = Some (record {
 })
 
 -- behind the line before a list of a tree of version 2
-abbrev pub list_step : Part → ℕ → Option Bool → Option Stepped
+abbrev pub list_step : Growing → ℕ → Option Bool → Option Stepped
 list_step p n None = None
 list_step p n (Some main) = to (AtNode version.Two main (with_head p n) [] 0 0)
 
@@ -75,8 +76,8 @@ step (AtDue v [] trees) n (Plain line) = if bytes_eq line (codes "end") then to 
 step (AtDue v (due ∷ dues) trees) n (Plain line) =
     if bytes_eq line (heading_line due) then to (after_heading v due dues trees n) else None
 step (AtDue v dues trees) n (Node node) = None
-step (AtPart p) n (Plain line) = list_step p n (list_begun (length p.names) line)
-step (AtPart p) n (Node node) = None
+step (AtList p) n (Plain line) = list_step p n (list_begun (length p.names) line)
+step (AtList p) n (Node node) = None
 step (AtNode v main p nodes pending count) n (Plain line) = None
 step (AtNode v main p nodes pending count) n (Node node) =
     stepped_on v main p nodes pending count node (leaves_there (is_atom_of p.target) p.named node)
@@ -94,7 +95,7 @@ abbrev pub refusal_at : State → ℕ → List ℕ → CertRefusal
 refusal_at (First dues) n line = refusal.BadLine n
 refusal_at (AtDue v [] trees) n line = refusal.BadLine n
 refusal_at (AtDue v (due ∷ dues) trees) n line = heading_refusal (heading_word due) n line
-refusal_at (AtPart p) n line = refusal.BadLine n
+refusal_at (AtList p) n line = refusal.BadLine n
 refusal_at (AtNode v main p nodes pending count) n line = refusal.BadLine n
 refusal_at (Done v trees) n line = refusal.Trailing n
 
@@ -102,7 +103,7 @@ refusal_at (Done v trees) n line = refusal.Trailing n
 abbrev pub ended_in : State → ℕ → List ℕ → Result Certificate CertRefusal
 ended_in (First dues) n rest = Err refusal.Short
 ended_in (AtDue v dues trees) n rest = Err refusal.Short
-ended_in (AtPart p) n rest = Err refusal.Short
+ended_in (AtList p) n rest = Err refusal.Short
 ended_in (AtNode v main p nodes pending count) n rest = Err refusal.Short
 ended_in (Done v trees) n [] = Ok (record { version = v; trees = trees })
 ended_in (Done v trees) n (byte ∷ rest) = Err (refusal.Trailing (suc n))

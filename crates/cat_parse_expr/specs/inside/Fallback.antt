@@ -1,5 +1,6 @@
 -- What stood whole on the way to a state.
 use Rattle.std.specs.Prelude.{Bool, true, false, List, [], ◌∷◌, Option, Some, None}
+use Rattle.std.specs.Option.{option_or}
 use Rattle.cat_tree.specs.declared.name.CaseName.TheVariants.{Bare, Qualified}
 use Rattle.cat_tree.specs.declared.expression.Literal.{Literal}
 use Rattle.cat_tree.specs.declared.expression.Literal.TheVariants as literal
@@ -18,7 +19,7 @@ use Rattle.cat_parse_state.specs.declared.state.State.TheVariants as state
 use Rattle.cat_parse_state.specs.declared.state.Matching.{Matching}
 use Rattle.cat_parse_state.specs.declared.state.Owner.{Owner}
 use Rattle.cat_parse_state.specs.declared.state.Owner.TheVariants as owner
-use Rattle.cat_parse_state.specs.Readings.{done}
+use Rattle.cat_parse_state.specs.Readings.{node_in}
 
 -- a call up to its argument
 abbrev pub before_argument : Name → List Node → Option Node
@@ -85,14 +86,9 @@ fallback (state.Content c) = Some (leaf.Case c)
 fallback (state.Argument f args) = before_argument f args
 fallback q = fallback_of_parts q
 
--- the first, or else the second
-abbrev pub or_else : Option Node → Option Node → Option Node
-or_else (Some n) other = Some n
-or_else None other = other
-
 -- the last whole expression on the way to what follows a state
 abbrev pub last_whole : State → Option Node
-last_whole q = or_else (done q) (fallback q)
+last_whole q = option_or (node_in q) (fallback q)
 
 -- a list that is not empty
 abbrev pub is_filled_list : {A : Type 0} → List A → Bool

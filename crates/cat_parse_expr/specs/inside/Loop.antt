@@ -13,8 +13,9 @@ use Rattle.cat_parse_expr.specs.declared.standing.Turn.{Turn}
 use Rattle.cat_parse_expr.specs.declared.standing.Turn.TheVariants.{Goes, Ends}
 use Rattle.cat_parse_expr.specs.declared.standing.Next.{Next}
 use Rattle.cat_parse_expr.specs.declared.standing.Next.TheVariants.{Turns, Asks}
-use Rattle.cat_parse_state.specs.Readings.{done}
-use Rattle.cat_parse_state.specs.Operands.{takes, is_some}
+use Rattle.cat_parse_state.specs.Readings.{node_in}
+use Rattle.std.specs.Option.{is_some}
+use Rattle.cat_parse_state.specs.Operands.{takes}
 use Rattle.cat_parse_expr.specs.Reader as spec
 use Rattle.cat_parse_expr.specs.Results.{Stop, ParseResult, Fails, Reads}
 use Rattle.cat_parse_expr.specs.Reader.{Best, is_high, next, reaches, best_of, stopped, run, operand_of, read}
@@ -54,7 +55,7 @@ restored tokens (Some m) (Some tree) =
 -- the checkpoint of what is whole here, or else the one before
 abbrev pub checkpoint_after : Reading → (at : ℕ) → Option Checkpoint → Option Checkpoint
 checkpoint_after r at checkpoint =
-    cond (is_some (done r.state)) (Some
+    cond (is_some (node_in r.state)) (Some
     (record { at = at; height = suc r.tallest; in_form = r.in_form; in_match = r.in_match })) checkpoint
 
 -- the restored index is not past the end
@@ -64,7 +65,7 @@ IsCheckpointWithin end (Some m) = m.at ≤ end
 
 -- at an unfinished state the checkpoint and the state keep the last whole expression
 abbrev pub IsKept : List Token → Standing → Option Best → Type 0
-IsKept tokens s best = done s.reading.state ≡ None → best ≡ restored tokens s.checkpoint (fallback s.reading.state)
+IsKept tokens s best = node_in s.reading.state ≡ None → best ≡ restored tokens s.checkpoint (fallback s.reading.state)
 
 -- ---- turns
 
@@ -109,7 +110,7 @@ abbrev pub reached_on : (limit k fuel : ℕ) → List Token → Standing → Hal
 reached_on limit k fuel tokens s h best =
     cond (reaches limit (next k s.reading (drop s.at tokens)) (halt_at tokens h))
     (going_on limit k fuel best s.reading (drop s.at tokens))
-    (stopped (best_of (done s.reading.state) best s.reading (drop s.at tokens)) (halt_at tokens h))
+    (stopped (best_of (node_in s.reading.state) best s.reading (drop s.at tokens)) (halt_at tokens h))
 
 -- what was read where an operand is asked for
 abbrev pub IsOperandAt : (limit k : ℕ) → List Token → Standing → Reached → Type 0

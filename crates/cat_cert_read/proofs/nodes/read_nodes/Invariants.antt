@@ -1,7 +1,7 @@
 use Rattle.std.proofs.Common.{◌≡◌, ◌-◌, ◌≤◌, [], Bool, length}
 use Rattle.cat_cert_text.specs.declared.certificate.Version.{Version}
 use Rattle.cat_cert_read.specs.inside.Atoms.{HasAtoms}
-use Rattle.cat_cert_read.specs.inside.States.{Part, AtNode}
+use Rattle.cat_cert_read.specs.inside.States.{Growing, AtNode}
 use Rattle.cat_cert_read.specs.inside.Outcomes.{IsWithin, ending}
 use Rattle.cat_cert_read.proofs.nodes.read_nodes.Given as goal
 
@@ -10,7 +10,7 @@ invariant-loop-line l = record {
   within : IsWithin l.bytes l.place;
   later : l.fn.place.at ≤ l.place.at;
   few : l.pending ≤ length l.nodes;
-  read : (v : Version) (main : Bool) (p : Part) → HasAtoms l.atoms p.target → l.named ≡ p.named
+  read : (v : Version) (main : Bool) (p : Growing) → HasAtoms l.atoms p.target → l.named ≡ p.named
       → ending (AtNode v main p [] 0 0) l.bytes l.fn.place
       ≡ ending (AtNode v main p l.nodes l.pending l.count) l.bytes l.place;
 }

@@ -2,14 +2,14 @@ use Rattle.std.proofs.Common.{◌∙◌, inr, sym, ap, arith, ℕ}
 use Rattle.std.proofs.lemmas.Result.{err_from_is_err_and}
 use Rattle.cat_cert_text.specs.declared.certificate.Version.TheVariants as version
 use Rattle.cat_cert_read.specs.inside.LineForms.{list_begun}
-use Rattle.cat_cert_read.specs.inside.States.{Part, AtPart, with_head}
+use Rattle.cat_cert_read.specs.inside.States.{Growing, AtList, with_head}
 use Rattle.cat_cert_read.proofs.EndingLemmas.{no_line, part_goes, part_bad, main_listed, name_listed, stops_before}
 use Rattle.cat_cert_read.proofs.trees.read_named.Goals as goal
 
 pub returns-in_default-list_begun-clause-read : goal.returns-in_default-list_begun-clause-read
 returns-in_default-list_begun-clause-read c = λ t dues trees has.
     let l = c.loop-line in
-    let p : Part = record {
+    let p : Growing = record {
       target = t;
       dues = dues;
       trees = trees;
@@ -24,7 +24,7 @@ returns-in_default-list_begun-clause-read c = λ t dues trees has.
 pub returns-in_err-nodes-clause-read : goal.returns-in_err-nodes-clause-read
 returns-in_err-nodes-clause-read c = λ t dues trees has.
     let l = c.loop-line in
-    let p : Part = record {
+    let p : Growing = record {
       target = t;
       dues = dues;
       trees = trees;
@@ -44,7 +44,7 @@ returns-in_err-nodes-clause-read c = λ t dues trees has.
 pub returns-then-main-clause-read : goal.returns-then-main-clause-read
 returns-then-main-clause-read c = λ t dues trees has.
     let l = c.loop-line in
-    let p : Part = record {
+    let p : Growing = record {
       target = t;
       dues = dues;
       trees = trees;
@@ -76,7 +76,7 @@ loop-line-preserved c =
     record {
       within = c.in_ok-nodes.ensures.within;
       read = λ t dues trees has.
-          let p : Part = record {
+          let p : Growing = record {
             target = t;
             dues = dues;
             trees = trees;
@@ -99,7 +99,7 @@ loop-line-preserved c =
 pub returns-clause-read : goal.returns-clause-read
 returns-clause-read c = λ t dues trees has.
     let l = c.loop-line in
-    let p : Part = record {
+    let p : Growing = record {
       target = t;
       dues = dues;
       trees = trees;
@@ -108,4 +108,4 @@ returns-clause-read c = λ t dues trees has.
       heads = l.heads;
     } in
     inr (l.invariant.read t dues trees has
-    ∙ no_line (AtPart p) c.args.bytes.now l.place c.next_line.new.place c.in_default.ensures.next)
+    ∙ no_line (AtList p) c.args.bytes.now l.place c.next_line.new.place c.in_default.ensures.next)

@@ -4,7 +4,7 @@ use Rattle.cat_cert_text.specs.declared.certificate.CertTree.{CertTree}
 use Rattle.cat_cert_text.specs.declared.certificate.Version.TheVariants as version
 use Rattle.cat_cert_text.specs.Lines.{Due}
 use Rattle.cat_cert_read.specs.inside.Atoms.{HasAtoms}
-use Rattle.cat_cert_read.specs.inside.States.{AtPart}
+use Rattle.cat_cert_read.specs.inside.States.{AtList}
 use Rattle.cat_cert_read.specs.inside.Steps.{at_tree}
 use Rattle.cat_cert_read.specs.inside.Outcomes.{IsWithin, ending}
 use Rattle.cat_cert_read.proofs.trees.read_named.Given as goal
@@ -14,7 +14,7 @@ invariant-loop-line l = record {
   within : IsWithin l.bytes l.place;
   read : (t : TableTarget) (dues : List Due) (trees : List CertTree) → HasAtoms l.atoms t
       → ending (at_tree version.Two t dues trees l.fn.place.line) l.bytes l.fn.place
-      ≡ ending (AtPart (record {
+      ≡ ending (AtList (record {
         target = t;
         dues = dues;
         trees = trees;
