@@ -1,6 +1,6 @@
 -- Roundings that agree, and those that don't.
 use Rattle.std.proofs.Common.{◌≡◌, ◌∙◌, ℕ, zero, suc, ◌+◌, ◌<◌, Bool, true, false, not, List, [], ◌∷◌, Some, Ok, Err}
-use Rattle.std.proofs.Common.{length, drop, take, get_or, refl, ap, slice_get, sym, subst, rules, arith, inl, inr, map}
+use Rattle.std.proofs.Common.{length, drop, take, get_or, refl, ap, slice_get, sym, subst, arith, inl, inr, map}
 use Rattle.std.proofs.Common.{◌≤◌}
 use Rattle.std.proofs.lemmas.List.{drop_all}
 use Rattle.std.specs.Prelude.{cond, filter, if◌then◌else◌}
@@ -12,10 +12,8 @@ use Rattle.cat_names.specs.declared.fault.Fault.TheVariants.{Misplaced}
 use Rattle.cat_names.specs.declared.fault.Refusal.TheVariants.{Refused}
 use Rattle.cat_names.specs.Bodies.{contradictions, differ, rounding_of}
 use Rattle.cat_names.specs.Found.{Tells, where_none}
-use Rattle.cat_names.specs.Lists.{numbered}
 use Rattle.cat_names.proofs.Exported.{beside_stands}
 use Rattle.cat_body.specs.inside.Differing.{any_differs}
-use Rattle.cat_body.proofs.Picked.{dropped}
 
 abbrev Round : Type 0
 Round = Pos × Bool

@@ -12,7 +12,7 @@ use Rattle.cat_value.specs.declared.decls.Decls.{Decls}
 use Rattle.cat_tree.specs.declared.program.Item.{Item}
 use Rattle.cat_tree.specs.declared.program.Item.TheVariants as item
 use Rattle.cat_names.specs.Lines.{is_about, is_number, items_about}
-use Rattle.cat_names.specs.Lookup.{first_named, scope_named}
+use Rattle.cat_names.specs.Lookup.{scope_named}
 use Rattle.cat_names.proofs.Exported.{first_is}
 use Rattle.cat_body.specs.inside.ByScope.{AreByScope, items_at, scope_about, with_number}
 

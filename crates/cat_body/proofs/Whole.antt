@@ -1,6 +1,6 @@
 -- What a tree says of a scope, and of all, from what its parts say.
 use Rattle.std.proofs.Common.{◌≡◌, ◌∙◌, ℕ, ◌+◌, ◌<◌, List, [], ◌∷◌, ◌++◌, Some, Ok, Err, length, drop, get_or, refl, ap}
-use Rattle.std.proofs.Common.{slice_get, sym, subst, map, Bool, true, false, inl, inr}
+use Rattle.std.proofs.Common.{slice_get, sym, subst, map, true, false, inl}
 use Rattle.std.specs.Prelude.{◌||◌, flat_map}
 use Rattle.std.specs.List.{enumerate_from}
 use Rattle.std.proofs.Common.{◌≤◌}
@@ -23,7 +23,7 @@ use Rattle.cat_names.specs.Bodies.{UnorderedBody, body_of, outward_function}
 use Rattle.cat_names.specs.Found.{Found, Stands, Tells, and_then, both, each_found, where_none}
 use Rattle.cat_names.specs.Lines.{Line, all_lines, item_lines, items_about, lines_found}
 use Rattle.cat_names.specs.Naming.{names_in_scope}
-use Rattle.cat_names.proofs.Exported.{behind, beside_stands, found_stands, in_front, left_tells, then_stands, then_tells}
+use Rattle.cat_names.proofs.Exported.{behind, beside_stands, found_stands, in_front, left_tells, then_tells}
 use Rattle.cat_line.specs.declared.said.Said.{Said}
 use Rattle.cat_line.specs.Saying as saying
 use Rattle.cat_line.proofs.Exported.{gather_off, gather_on}

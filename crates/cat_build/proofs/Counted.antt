@@ -1,12 +1,12 @@
 -- A tree has no more items, and a structure no more fields, than a u32 numbers: each has a token, and each token a byte.
-use Rattle.std.proofs.Common.{◌≡◌, ◌≢◌, ◌≤◌, ◌<◌, ◌+◌, ℕ, Bool, true, false, List, [], ◌∷◌, refl, sym, ap, subst, arith}
+use Rattle.std.proofs.Common.{◌≡◌, ◌≢◌, ◌≤◌, ◌<◌, ◌+◌, ℕ, Bool, true, false, List, [], ◌∷◌, refl, ap, arith}
 use Rattle.std.proofs.lemmas.List.{length-append}
 use Rattle.std.specs.Prelude.{◌++◌, length}
-use Rattle.cat_pos.specs.declared.limits.TheConstants.{ENTRIES_BOUND, MOST_SOURCE_BYTES}
+use Rattle.cat_pos.specs.declared.limits.TheConstants.{ENTRIES_BOUND}
 use Rattle.cat_pos.specs.declared.pos.Pos.{Pos}
 use Rattle.cat_pos.specs.declared.pos.Piece.{Piece}
 use Rattle.cat_lex.specs.declared.token.Token.{Token}
-use Rattle.cat_lex.specs.Lexes.{Lexes, AreTokens, IsPieceOf, left_after}
+use Rattle.cat_lex.specs.Lexes.{Lexes, AreTokens, left_after}
 use Rattle.cat_lex.proofs.Spelled.{word_some}
 use Rattle.cat_tree.specs.declared.name.Name.{Name}
 use Rattle.cat_tree.specs.declared.program.Item.{Item}

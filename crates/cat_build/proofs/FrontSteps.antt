@@ -1,5 +1,5 @@
 -- From pieces to a program: where they end, and what stands where they are refused.
-use Rattle.std.proofs.Common.{◌≡◌, ◌∙◌, ◌≤◌, ◌<◌, ◌-◌, ℕ, suc, List, [], ◌∷◌, Some, refl, sym, ap, subst, arith, inl}
+use Rattle.std.proofs.Common.{◌≡◌, ◌∙◌, ◌≤◌, ◌<◌, ◌-◌, suc, List, [], ◌∷◌, Some, sym, ap, arith, inl}
 use Rattle.std.specs.Prelude.{length, slice_get}
 use Rattle.cat_pos.specs.declared.limits.TheConstants.{ENTRIES_BOUND}
 use Rattle.cat_pos.specs.declared.pos.Piece.{Piece}

@@ -1,16 +1,13 @@
 -- The runs of a calculus end in values of the types of the outputs, or in a stop that an outcome may be.
 use Rattle.std.proofs.Common.{◌≡◌, ℕ, zero, suc, ◌<◌, true, IsTrue, List, [], ◌∷◌, ◌++◌, length, map, Option, None}
 use Rattle.std.proofs.Common.{Some}
-use Rattle.std.proofs.Common.{slice_get, refl, sym, ap, ◌∙◌, subst, arith, IfSome}
-use Rattle.std.proofs.lemmas.Option.{slice_get_within}
+use Rattle.std.proofs.Common.{slice_get, refl, ap, ◌∙◌, subst, arith, IfSome}
 use Rattle.std.proofs.Math.Logic.{∥∥₁_elim}
-use Rattle.cat_order.specs.Order.{times}
 use Rattle.cat_value.specs.declared.ty.Ty.{Ty}
 use Rattle.cat_value.specs.declared.ty.Ty.TheVariants as flat_ty
 use Rattle.cat_value.specs.declared.value.Value.{Value}
 use Rattle.cat_value.specs.declared.decls.Decls.{Decls}
 use Rattle.cat_value.specs.declared.declaration.Scope.{Scope}
-use Rattle.cat_value.specs.declared.outcome.Target.{Target}
 use Rattle.cat_value.specs.Inputs.{IsWellTyped, are_given_for}
 use Rattle.cat_scope.specs.declared.expr.Expr.{Expr}
 use Rattle.cat_scope.specs.declared.defs.Assertion.{Assertion}
@@ -23,13 +20,13 @@ use Rattle.cat_scope.specs.Runs.{Run, gives}
 use Rattle.cat_scope.specs.Judging.{Held}
 use Rattle.cat_scope.specs.Eval.{eval}
 use Rattle.cat_scope.specs.Calls.{Items, Runs, Scoped, env_of, judging_of}
-use Rattle.cat_scope.specs.Running.{backwards, run_scoped}
+use Rattle.cat_scope.specs.Running.{run_scoped}
 use Rattle.cat_scope.specs.Outcomes.{outcome_of}
-use Rattle.cat_sound.specs.Endings.{AreOf, AreOutputsOf, EndsIn, IsEnvOf, IsOf, IsOutcomeOf, IsReady}
+use Rattle.cat_sound.specs.Endings.{AreOf, AreOutputsOf, EndsIn, IsOf, IsOutcomeOf, IsReady}
 use Rattle.cat_sound.specs.Settled.{IsHeldOf}
-use Rattle.cat_sound.proofs.Exported.{Ahead, Callee, IsOutcomeOf-prop, IsSound, JudgingEnds, all_at, all_back}
+use Rattle.cat_sound.proofs.Exported.{Ahead, Callee, IsOutcomeOf-prop, JudgingEnds, all_at, all_back}
 use Rattle.cat_sound.proofs.Exported.{all_front}
-use Rattle.cat_sound.proofs.Exported.{all_more, all_runs-end, any_stands, anything, callable, ends_as, everywhere}
+use Rattle.cat_sound.proofs.Exported.{all_runs-end, any_stands, anything, callable, ends_as, everywhere}
 use Rattle.cat_sound.proofs.Exported.{expressions_go_on, listed_in, moved_new, names_of, outcome-of, run_scoped-ends}
 use Rattle.cat_sound.proofs.Exported.{same_some, target_of}
 use Rattle.cat_calc.specs.declared.term.Term.{Term}

@@ -1,30 +1,24 @@
 -- Worked examples of terms: each is written out, and what it comes to is computed.
-use Rattle.std.proofs.Common.{◌≡◌, ℕ, pos, true, false, List, [], ◌∷◌, Option, None, Some, Result, Ok, Err, rules}
+use Rattle.std.proofs.Common.{◌≡◌, ℕ, pos, false, List, [], ◌∷◌, None, Some, Result, Ok, rules}
 use Rattle.cat_pos.specs.declared.pos.Pos.{Pos}
 use Rattle.cat_date.specs.declared.rounding.Rounding.TheVariants.{Refuse}
-use Rattle.cat_num.specs.Frac.{gcd, ratio, lowest}
 use Rattle.cat_value.specs.declared.value.Value.{Value}
 use Rattle.cat_value.specs.declared.value.Value.TheVariants as flat
 use Rattle.cat_value.specs.declared.value.Value.TheViews as value
 use Rattle.cat_value.specs.declared.declaration.ItemDecl.{ItemDecl}
 use Rattle.cat_value.specs.declared.declaration.Kind.TheVariants as kind
-use Rattle.cat_value.specs.declared.declaration.Scope.{Scope}
 use Rattle.cat_value.specs.declared.ty.Ty.TheVariants as ty
-use Rattle.cat_value.specs.declared.outcome.FaultKind.TheVariants.{DivisionByZero}
 use Rattle.cat_scope.specs.declared.expr.Expr.{Expr}
 use Rattle.cat_scope.specs.declared.expr.Expr.TheVariants as leaf
 use Rattle.cat_scope.specs.declared.expr.Expr.TheViews as expr
 use Rattle.cat_scope.specs.declared.expr.Literal.TheVariants as literal
 use Rattle.cat_scope.specs.declared.operators.BinaryOp.TheVariants.{Greater, DivideIntegers}
 use Rattle.cat_scope.specs.declared.stop.Stop.{Stop}
-use Rattle.cat_scope.specs.declared.stop.Stop.TheVariants.{Conflict, NoValue, Fault}
-use Rattle.cat_scope.specs.Runs.{Decider}
 use Rattle.cat_scope.proofs.Exported.{equations}
 use Rattle.cat_calc.specs.declared.term.Justification.TheVariants.{Never, Always, Where}
 use Rattle.cat_calc.specs.declared.term.Term.{Term}
 use Rattle.cat_calc.specs.declared.term.Term.TheVariants as term
 use Rattle.cat_calc.specs.declared.term.Term.TheViews as default
-use Rattle.cat_calc.specs.declared.calcs.ItemTerms.{ItemTerms}
 use Rattle.cat_calc.specs.declared.calcs.CalcScope.{CalcScope}
 use Rattle.cat_calc.specs.Calculus.{run_of_terms}
 use Rattle.cat_calc.proofs.Equations.{reductions}

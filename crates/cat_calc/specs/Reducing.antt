@@ -11,7 +11,6 @@ use Rattle.cat_calc.specs.declared.term.Term.{Term}
 use Rattle.cat_calc.specs.declared.term.Term.TheOpen.{Term-F}
 use Rattle.cat_calc.specs.declared.term.Term.TheFolds.{fold-Term}
 use Rattle.cat_calc.specs.declared.calcs.ItemTerms.{ItemTerms}
-use Rattle.cat_calc.specs.declared.calcs.CalcScope.{CalcScope}
 
 -- what stands under a justification, where that is true
 abbrev pub justified : (Expr → Run Value) → Justification → Judged Value → Judged Value

@@ -14,7 +14,7 @@ use Rattle.cat_guard.specs.declared.guard.Guard.TheViews as guard
 use Rattle.cat_guard.specs.declared.guard.GuardDef.{GuardDef}
 use Rattle.cat_guard.specs.declared.table.Table.{Table}
 use Rattle.cat_guard.specs.declared.table.TableTarget.{TableTarget}
-use Rattle.cat_guard.specs.Formulas.{Formula, asked}
+use Rattle.cat_guard.specs.Formulas.{asked}
 use Rattle.cat_guard.specs.Formulas as formula
 use Rattle.cat_guard.specs.GuardFormulas.{formula_of}
 use Rattle.cat_guard.specs.Soundness.{are_below, def_is_sound, group_is_sound, target_is_sound}

@@ -11,7 +11,7 @@ use Rattle.cat_guard.specs.declared.table.Table.{Table}
 use Rattle.cat_guard.specs.declared.tree.CitedNode.{CitedNode}
 use Rattle.cat_guard.specs.declared.tree.CitedNode.TheVariants as cited
 use Rattle.cat_guard.specs.declared.tree.CitedTree.{CitedTree}
-use Rattle.cat_guard.specs.Trees.{Tree, cited_before, cited_trees_of, named_from, with_named, main_of, expanded}
+use Rattle.cat_guard.specs.Trees.{Tree, cited_before, cited_trees_of, named_from, with_named, main_of}
 use Rattle.cat_guard.specs.Trees.{one_tree}
 use Rattle.cat_guard.specs.Trees as tree
 use Rattle.cat_walk.specs.Walkable.{nodes_pass}

@@ -4,7 +4,7 @@ use Rattle.std.proofs.Common.{refl, sym, ap}
 use Rattle.std.proofs.lemmas.Option.{slice_get_within}
 use Rattle.cat_guard.specs.declared.tree.CitedNode.{CitedNode}
 use Rattle.cat_guard.specs.declared.tree.CitedNode.TheVariants as cited
-use Rattle.cat_guard.specs.Trees.{Tree, split_before, one_tree, named_before, cited_before, cited_trees_of}
+use Rattle.cat_guard.specs.Trees.{Tree, one_tree, named_before, cited_before, cited_trees_of}
 use Rattle.cat_guard.specs.Trees.{cited_tree_of}
 use Rattle.cat_guard.specs.Trees.{name_behind, with_named, named_from, main_of}
 use Rattle.cat_guard.specs.Trees as tree

@@ -9,7 +9,7 @@ use Rattle.cat_guard.specs.declared.tree.CitedNode.{CitedNode}
 use Rattle.cat_guard.specs.declared.tree.CitedNode.TheVariants as cited
 use Rattle.cat_guard.specs.declared.tree.CitedTree.{CitedTree}
 use Rattle.cat_guard.specs.Trees.{Tree, leaves, one_tree, named_before, cited_before, cited_trees_of, cited_tree_of}
-use Rattle.cat_guard.specs.Trees.{name_behind, with_named, named_from, main_of, expanded}
+use Rattle.cat_guard.specs.Trees.{name_behind, named_from}
 use Rattle.cat_guard.specs.Trees as tree
 use Rattle.cat_cert_text.specs.declared.certificate.Version.{Version}
 use Rattle.cat_cert_text.specs.declared.certificate.Version.TheVariants as version

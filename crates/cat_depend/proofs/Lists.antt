@@ -1,17 +1,15 @@
 -- The lists of what items name, as definitions are added.
 use Rattle.std.proofs.Common.{◌≡◌, ◌<◌, ◌+◌, ℕ, zero, suc, nat_eq, Bool, true, false, List, [], ◌∷◌, ◌++◌, length, set}
-use Rattle.std.proofs.Common.{get_or, take, replicate, if◌then◌else◌, refl, sym, ap, ◌∙◌, arith, subst}
+use Rattle.std.proofs.Common.{get_or, take, replicate, if◌then◌else◌, refl, sym, ap, ◌∙◌, arith}
 use Rattle.std.proofs.lemmas.List.{append_assoc, append-nil, take_more}
 use Rattle.std.proofs.lemmas.Bool.Decides.{nat_tests}
 use Rattle.cat_value.specs.declared.declaration.ItemDecl.{ItemDecl}
 use Rattle.cat_scope.specs.declared.expr.Expr.{Expr}
 use Rattle.cat_scope.specs.declared.defs.Def.{Def}
-use Rattle.cat_scope.specs.Names.{is_function}
 use Rattle.cat_scope.specs.Mentions.{items_named, functions_named}
-use Rattle.cat_scope.specs.Orders.{in_def, in_defs_of, dependencies_from, only_functions, item_dependencies}
-use Rattle.cat_scope.specs.Orders.{function_calls}
+use Rattle.cat_scope.specs.Orders.{in_def, in_defs_of, dependencies_from, only_functions}
 use Rattle.cat_depend.specs.declared.naming.Wanted.{Wanted}
-use Rattle.cat_depend.specs.declared.naming.Wanted.TheVariants.{Items, Functions, Scopes}
+use Rattle.cat_depend.specs.declared.naming.Wanted.TheVariants.{Items, Functions}
 use Rattle.cat_depend.specs.inside.Wanted.{named, wants, lists_from}
 
 -- ---- one definition more

@@ -1,10 +1,10 @@
 -- How long chains are, number by number in an order.
 use Rattle.std.proofs.Common.{◌≡◌, ◌<◌, ◌≤◌, ◌+◌, ◌&&◌, max, ℕ, zero, suc, nat_eq, nat_lt, nat_le, Bool, true, false}
 use Rattle.std.proofs.Common.{IsTrue}
-use Rattle.std.proofs.Common.{List, [], ◌∷◌, ◌++◌, length, take, set, get_or, slice_index, All, refl, sym, ap, ◌∙◌}
+use Rattle.std.proofs.Common.{List, [], ◌∷◌, length, take, set, get_or, slice_index, All, refl, sym, ap, ◌∙◌}
 use Rattle.std.proofs.Common.{subst, arith}
-use Rattle.std.proofs.Common.{true≢false, if◌then◌else◌}
-use Rattle.std.proofs.lemmas.List.{length-set, get_or-set_same, get_or-set_other, take_more, take_all}
+use Rattle.std.proofs.Common.{true≢false}
+use Rattle.std.proofs.lemmas.List.{get_or-set_same, get_or-set_other, take_more, take_all}
 use Rattle.std.proofs.lemmas.Bool.{cases_eq}
 use Rattle.std.proofs.lemmas.Bool.Decides.{nat_tests}
 use Rattle.std.proofs.Math.Logic.{⊎_elim}

@@ -1,5 +1,5 @@
 -- The equation of the wanted numbers at each form of expression.
-use Rattle.std.proofs.Common.{◌≡◌, ℕ, List, [], ◌∷◌, ◌++◌, map, Option, Some, None, refl, sym, ap, ◌∙◌, Bool, true}
+use Rattle.std.proofs.Common.{◌≡◌, ℕ, List, [], ◌∷◌, ◌++◌, map, Some, None, refl, sym, ap, ◌∙◌, Bool, true}
 use Rattle.std.proofs.Common.{false}
 use Rattle.std.proofs.lemmas.List.{append_assoc}
 use Rattle.cat_pos.specs.declared.pos.Pos.{Pos}
@@ -21,7 +21,6 @@ use Rattle.cat_scope.proofs.Exported.{of_form, names_by_level}
 use Rattle.cat_depend.specs.declared.naming.Wanted.{Wanted}
 use Rattle.cat_depend.specs.declared.naming.Wanted.TheVariants.{Items, Functions, Scopes}
 use Rattle.cat_depend.specs.inside.Wanted.{own_of, named, item_in, function_in, scope_in, in_each, in_fields, in_arms}
-use Rattle.cat_depend.specs.inside.Wanted.{in_content}
 
 -- an expression whose parts tell their numbers
 abbrev Level : Type 0

@@ -1,11 +1,11 @@
 -- The functions that expressions call are among the items that they name.
-use Rattle.std.proofs.Common.{◌≡◌, ◌<◌, ◌+◌, ◌&&◌, ◌||◌, ℕ, zero, suc, nat_eq, Bool, true, false, IsTrue, List, [], ◌∷◌}
-use Rattle.std.proofs.Common.{◌++◌, length, Option, None, Some, refl, sym, ap, ◌∙◌, subst, arith, get_or, true≢false}
+use Rattle.std.proofs.Common.{◌≡◌, ◌+◌, ℕ, zero, suc, nat_eq, Bool, true, false, IsTrue, List, [], ◌∷◌}
+use Rattle.std.proofs.Common.{◌++◌, Option, None, Some, refl, sym, arith, get_or, true≢false}
 use Rattle.std.proofs.Common.{if◌then◌else◌}
 use Rattle.std.proofs.lemmas.Bool.Decides.{nat_tests}
 use Rattle.cat_pos.specs.declared.pos.Pos.{Pos}
 use Rattle.cat_value.specs.declared.declaration.ItemDecl.{ItemDecl}
-use Rattle.cat_order.specs.Order.{is_listed, times}
+use Rattle.cat_order.specs.Order.{is_listed}
 use Rattle.cat_scope.specs.declared.expr.Expr.{Expr}
 use Rattle.cat_scope.specs.declared.expr.FieldValue.{FieldValue}
 use Rattle.cat_scope.specs.declared.expr.Arm.{Arm}
@@ -13,9 +13,8 @@ use Rattle.cat_scope.specs.declared.defs.Def.{Def}
 use Rattle.cat_scope.specs.Names.{is_function}
 use Rattle.cat_scope.specs.Orders.{in_condition, in_def, in_defs_of}
 use Rattle.cat_scope.proofs.Exported.{Each, Within, induction}
-use Rattle.cat_depend.specs.declared.naming.Wanted.{Wanted}
 use Rattle.cat_depend.specs.declared.naming.Wanted.TheVariants.{Items, Functions}
-use Rattle.cat_depend.specs.inside.Wanted.{named, item_in, function_in, in_each, in_fields, in_arms, in_content}
+use Rattle.cat_depend.specs.inside.Wanted.{named, function_in, in_each, in_fields, in_arms}
 use Rattle.cat_depend.specs.inside.Wanted.{lists_from}
 use Rattle.cat_scope.specs.declared.expr.Expr.TheViews as expr
 use Rattle.cat_depend.proofs.Named as named

@@ -17,9 +17,7 @@ use Rattle.cat_evaluate_step.specs.declared.frames.Task.TheVariants as task
 use Rattle.cat_evaluate_step.specs.OverLists.{after_run, over_run}
 use Rattle.cat_evaluate_step.specs.inside.Listing.{kept_run}
 use Rattle.cat_evaluate_step.specs.inside.Steps.{Binds}
-use Rattle.cat_evaluate_step.proofs.Onward.{binds_memory, binds_from, binds_give, binds_stop, evaluates_is}
-use Rattle.cat_evaluate_step.proofs.Onward.{given_goes, goes_from, goes_memory}
-use Rattle.cat_evaluate_step.proofs.Onward.{goes_stop, goes_task, replied_goes, waiting_goes}
+use Rattle.cat_evaluate_step.proofs.Onward.{binds_memory, binds_from, binds_give, binds_stop}
 
 module _ (before after : List Frame) (result : Result Task Failure) (e : Expr) (rest done locals left : List Value)
     (last : Option Value) (v : Value) where

@@ -32,8 +32,7 @@ use Rattle.cat_evaluate_step.specs.inside.Matching.{match_run}
 use Rattle.cat_evaluate_step.specs.inside.Steps.{Binds, IsEither, IsNext}
 use Rattle.cat_evaluate_step.specs.inside.Steps.{replied_into}
 use Rattle.cat_evaluate_step.proofs.Ends.{into_then}
-use Rattle.cat_evaluate_step.proofs.Onward.{chosen_goes, evaluates_is, given_goes, goes_from, goes_task, going}
-use Rattle.cat_evaluate_step.proofs.Onward.{replied_goes}
+use Rattle.cat_evaluate_step.proofs.Onward.{chosen_goes, evaluates_is, going}
 
 module _ (env : Env) (locals : List Value) (frames : List Frame) (v : Value) where
   pub on_Field : (k : ℕ) → resumed env locals (frame.OnOperand (operand.Field k) ∷ frames) v

@@ -29,9 +29,9 @@ use Rattle.cat_evaluate_step.specs.inside.Going.{evaluated_into, run_into}
 use Rattle.cat_evaluate_step.specs.inside.Steps.{Binds, IsGiven, IsReplied, IsTold, IsWaiting}
 use Rattle.cat_evaluate_step.specs.inside.Steps.{replied_into}
 use Rattle.cat_evaluate_step.proofs.Ends.{into_then}
-use Rattle.cat_evaluate_step.proofs.Onward.{binds_memory, binds_from, binds_give, binds_stop, evaluates_is}
-use Rattle.cat_evaluate_step.proofs.Onward.{given_goes, goes_from, goes_memory}
-use Rattle.cat_evaluate_step.proofs.Onward.{goes_stop, goes_task, replied_goes, waiting_goes}
+use Rattle.cat_evaluate_step.proofs.Onward.{binds_memory, binds_from, binds_stop}
+use Rattle.cat_evaluate_step.proofs.Onward.{given_goes}
+use Rattle.cat_evaluate_step.proofs.Onward.{replied_goes, waiting_goes}
 
 pub whole_over : (before after : List Frame) (result : Result Task Failure) (one : ListForm) (e : Bor Expr)
     (vs done locals left : List Value) → done ≡ []

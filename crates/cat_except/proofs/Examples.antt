@@ -1,5 +1,5 @@
 -- Worked examples of what stands where in labels and exceptions.
-use Rattle.std.proofs.Common.{◌≡◌, ◌&&◌, ℕ, zero, suc, Bool, true, false, true≢false, sym, IsTrue, List, [], ◌∷◌, Some}
+use Rattle.std.proofs.Common.{◌≡◌, ◌&&◌, ℕ, zero, suc, Bool, true, false, true≢false, sym, IsTrue, List, [], ◌∷◌}
 use Rattle.std.proofs.Common.{None, refl}
 use Rattle.cat_order.specs.Order.{dependencies_of, is_listed}
 use Rattle.cat_order.specs.Cycle.{IsOnCycle}
@@ -8,7 +8,7 @@ use Rattle.cat_scope.specs.declared.defs.Except.TheVariants as except
 use Rattle.cat_scope.specs.declared.defs.Def.{Def}
 use Rattle.cat_except.specs.Faults.{unknown_labels, split_labels, ambiguous_exceptions}
 use Rattle.cat_except.specs.Excepted.{excepted_of, last_exception, StandsOnCycle, StandsPastLimit}
-use Rattle.cat_except.proofs.Samples.{at, x, label, def, groups, plain, exception_to, alone_to, bare, chain_of}
+use Rattle.cat_except.proofs.Samples.{at, def, groups, plain, exception_to, alone_to, bare, chain_of}
 
 -- `exception q definition x`
 a_label_that_no_definition_has : unknown_labels (groups (alone_to 113 6 ∷ []) ∷ []) ≡ at 6 13 ∷ []

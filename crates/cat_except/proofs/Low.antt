@@ -1,20 +1,18 @@
 -- Forests whose chains are short are low.
-use Rattle.std.proofs.Common.{◌≡◌, ◌∙◌, ℕ, zero, suc, ◌<◌, ◌≤◌, ◌+◌, eqb, ◌&&◌, Bool, true, false, if◌then◌else◌, List}
+use Rattle.std.proofs.Common.{◌≡◌, ◌∙◌, ℕ, zero, suc, ◌<◌, ◌+◌, eqb, ◌&&◌, Bool, true, false, if◌then◌else◌, List}
 use Rattle.std.proofs.Common.{[], ◌∷◌, length}
-use Rattle.std.proofs.Common.{get_or, Option, Some, None, refl, sym, ap, subst, arith, rules, true≢false}
+use Rattle.std.proofs.Common.{Option, Some, None, refl, sym, ap, subst, arith}
 use Rattle.std.proofs.Math.Logic.{⊎_elim}
 use Rattle.std.proofs.lemmas.Bool.{cases_lt}
-use Rattle.std.proofs.lemmas.Bool.Decides.{nat_tests, Decides-eqb}
+use Rattle.std.proofs.lemmas.Bool.Decides.{Decides-eqb}
 use Rattle.std.proofs.lemmas.List.{get_or_past}
 use Rattle.std.specs.List.{list_all}
 use Rattle.cat_order.specs.Order.{dependencies_of}
-use Rattle.cat_scope.specs.declared.forest.ForestGroup.{ForestGroup}
-use Rattle.cat_scope.specs.declared.forest.ForestTarget.{ForestTarget}
 use Rattle.cat_scope.specs.declared.defs.Def.{Def}
 use Rattle.cat_scope.specs.Names.{AllHave}
 use Rattle.cat_scope.specs.Groups.{Group, paired, excepting, excepts}
 use Rattle.cat_scope.specs.Chains.{IsChain, HasShortChains, longest_chain, is_within, are_within}
-use Rattle.cat_scope.specs.Forests.{above, is_low, are_low, forest_groups, forest_of_groups}
+use Rattle.cat_scope.specs.Forests.{above, are_low, forest_groups, forest_of_groups}
 use Rattle.cat_except.specs.declared.linked.Linked.{Linked}
 use Rattle.cat_except.specs.inside.Grouping.{groups_at}
 use Rattle.cat_except.specs.inside.Linking.{targets_from, lists_of, pairs_at}

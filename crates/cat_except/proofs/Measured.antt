@@ -1,22 +1,22 @@
 -- Chains that are measured in the order of exceptions.
 use Rattle.std.proofs.Common.{◌≡◌, ◌∙◌, ℕ, zero, suc, ◌<◌, ◌≤◌, ◌+◌, max, nat_lt, ◌==◌, ◌&&◌, not, Bool, true, false}
-use Rattle.std.proofs.Common.{IsTrue, IfSome, cond, List, [], ◌∷◌, ◌++◌}
-use Rattle.std.proofs.Common.{length, Option, Some, None, get_or, set, take, replicate, refl, sym, ap, subst, arith}
+use Rattle.std.proofs.Common.{IfSome, cond, List, [], ◌∷◌, ◌++◌}
+use Rattle.std.proofs.Common.{length, Option, Some, None, get_or, set, replicate, refl, sym, ap, subst, arith}
 use Rattle.std.proofs.Common.{rules, true≢false}
 use Rattle.std.proofs.Math.Logic.{⊎_elim}
-use Rattle.std.proofs.lemmas.Bool.{cases_eq, cases_lt}
+use Rattle.std.proofs.lemmas.Bool.{cases_eq}
 use Rattle.std.proofs.lemmas.Bool.Decides.{nat_tests}
 use Rattle.std.proofs.lemmas.List.{get_or-set_same, get_or-set_other, length-set, length-replicate}
 use Rattle.cat_order.specs.Order.{dependencies_of, is_listed, times, is_ready, IsOrder, AreItems}
 use Rattle.std.specs.List.{list_all}
 use Rattle.cat_order.specs.Cycle.{DependsOn}
 use Rattle.cat_scope.specs.Chains.{IsChain, HasShortChains, longest_chain}
-use Rattle.cat_except.specs.Excepted.{listed, last_exception}
+use Rattle.cat_except.specs.Excepted.{listed}
 use Rattle.cat_except.specs.inside.Linking.{lists_of}
 use Rattle.cat_except.specs.declared.chains.Chain.{Chain}
 use Rattle.cat_except.specs.inside.Chains.{none, chain_at, target_at, one_longer, IsMeasured, IsLonger, IsKnown}
 use Rattle.cat_except.specs.inside.Chains.{AreMeasured}
-use Rattle.cat_except.specs.inside.Chains.{IsTooLong, IsLimit}
+use Rattle.cat_except.specs.inside.Chains.{IsTooLong}
 
 -- what a group depends on is the group that it excepts
 pub excepted_at : (excepted : List (Option ℕ)) (g : ℕ)

@@ -1,7 +1,7 @@
 -- The definitions of a target by their numbers.
 use Rattle.std.proofs.Common.{◌≡◌, ◌∙◌, ℕ, zero, suc, ◌<◌, ◌≤◌, ◌+◌, Bool, true, false, if◌then◌else◌, List, [], ◌∷◌}
 use Rattle.std.proofs.Common.{◌++◌, length}
-use Rattle.std.proofs.Common.{get_or, slice_get, Option, Some, None, All, refl, sym, ap, subst, arith, rules}
+use Rattle.std.proofs.Common.{get_or, slice_get, Option, Some, All, refl, ap, subst, arith}
 use Rattle.std.proofs.lemmas.List.{append_assoc}
 use Rattle.std.proofs.lemmas.Option.{slice_get_within}
 use Rattle.cat_value.specs.declared.outcome.Target.{Target}

@@ -1,9 +1,8 @@
 -- Groups that are told which ones except them, one pair after another.
-use Rattle.std.proofs.Common.{◌≡◌, ◌∙◌, ℕ, zero, suc, ◌<◌, ◌+◌, ◌==◌, eqb, Bool, true, false, if◌then◌else◌, List, []}
+use Rattle.std.proofs.Common.{◌≡◌, ◌∙◌, ℕ, zero, suc, ◌<◌, ◌+◌, eqb, Bool, true, false, if◌then◌else◌, List, []}
 use Rattle.std.proofs.Common.{◌∷◌, ◌++◌, length, get_or}
-use Rattle.std.proofs.Common.{set, take, slice_get, Option, Some, None, refl, sym, ap, subst, arith, rules, true≢false}
+use Rattle.std.proofs.Common.{set, take, slice_get, Option, Some, None, refl, sym, ap, arith, rules, true≢false}
 use Rattle.std.proofs.Math.Logic.{⊎_elim}
-use Rattle.std.proofs.lemmas.Bool.{cases_eq}
 use Rattle.std.proofs.lemmas.Bool.Decides.{nat_tests}
 use Rattle.std.proofs.lemmas.List.{take_more, length-take, append-nil}
 use Rattle.cat_scope.specs.declared.forest.ForestGroup.{ForestGroup}

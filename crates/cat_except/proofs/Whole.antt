@@ -1,20 +1,15 @@
 -- From the targets of a scope to its forest.
-use Rattle.std.proofs.Common.{◌≡◌, ◌∙◌, ℕ, zero, suc, ◌<◌, ◌+◌, List, [], ◌∷◌, ◌++◌, length, Option, Some, None, Result}
-use Rattle.std.proofs.Common.{Ok, Err, IfOk, IfErr, IfSome, slice_get}
+use Rattle.std.proofs.Common.{◌≡◌, ◌∙◌, ℕ, ◌+◌, List, [], ◌∷◌, ◌++◌, Option, Some, None}
 use Rattle.std.proofs.Common.{inl, refl, sym, ap, subst, arith, rules}
 use Rattle.std.proofs.Math.Logic.{⊎_elim}
 use Rattle.std.proofs.lemmas.List.{append_assoc}
 use Rattle.cat_pos.specs.declared.pos.Pos.{Pos}
-use Rattle.cat_value.specs.declared.decls.Decls.{Decls}
 use Rattle.cat_value.specs.declared.outcome.Target.{Target}
 use Rattle.cat_scope.specs.declared.defs.Def.{Def}
-use Rattle.cat_scope.specs.declared.defs.Body.{Body}
-use Rattle.cat_scope.specs.declared.programs.Program.{Program}
-use Rattle.cat_scope.specs.declared.forest.ForestTarget.{ForestTarget}
-use Rattle.cat_scope.specs.Names.{AllHave, IsOneOf, scope_items}
+use Rattle.cat_scope.specs.Names.{AllHave, IsOneOf}
 use Rattle.cat_scope.specs.Groups.{Group, groups_of}
 use Rattle.cat_scope.specs.Targets.{defs_from}
-use Rattle.cat_scope.specs.Forests.{targets_of, forest_of, forest_of_groups}
+use Rattle.cat_scope.specs.Forests.{forest_of, forest_of_groups}
 use Rattle.cat_scope.specs.Chains.{HasNoCycle, HasShortChains}
 use Rattle.cat_except.specs.declared.refusal.ExceptRefusal.{ExceptRefusal}
 use Rattle.cat_except.specs.declared.refusal.ExceptRefusal.TheVariants as refusal

@@ -1,9 +1,9 @@
 -- The ends of runs that are put together, and of what is judged.
-use Rattle.std.proofs.Common.{◌≡◌, List, ◌∷◌, Option, Some, None, Result, Ok, Err, refl, ap, ◌∙◌}
+use Rattle.std.proofs.Common.{◌≡◌, List, ◌∷◌, Option, Some, None, Result, Ok, Err, refl, ◌∙◌}
 use Rattle.cat_value.specs.declared.outcome.Target.{Target}
 use Rattle.cat_scope.specs.declared.stop.Stop.{Stop}
 use Rattle.cat_scope.specs.Replies.{on_one}
-use Rattle.cat_scope.specs.Runs.{Run, plain, gives, behind, and_then, giving}
+use Rattle.cat_scope.specs.Runs.{Run, plain, gives, behind, and_then}
 use Rattle.cat_scope.specs.Judging.{Held, Judged, with_held, holding, alone, settle, found_or, or_else}
 
 pub then_end : {A B : Type 0} (run : Run A) (next : A → Run B)

@@ -1,5 +1,5 @@
 -- What is known of a formula is so, and stays known where more is.
-use Rattle.std.proofs.Common.{◌≡◌, ◌↔◌, Bool, true, false, not, List, [], ◌∷◌, ◌++◌, Option, Some, None, refl, sym, ap}
+use Rattle.std.proofs.Common.{◌≡◌, ◌↔◌, Bool, true, false, not, List, [], ◌∷◌, ◌++◌, Option, Some, None, refl, ap}
 use Rattle.std.proofs.Common.{◌∙◌}
 use Rattle.cat_scope.specs.Comparing.{differ}
 use Rattle.cat_guard.specs.Formulas.{Formula, both, any, choice, truth, agreed, of_one, of_two, of_three, known}

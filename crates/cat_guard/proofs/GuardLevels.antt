@@ -1,5 +1,5 @@
 -- The guard of an expression by its form, and the formula of each guard.
-use Rattle.std.proofs.Common.{◌≡◌, ℕ, Bool, refl, ap, ◌∙◌, rules}
+use Rattle.std.proofs.Common.{◌≡◌, ℕ, Bool, ap, ◌∙◌, rules}
 use Rattle.cat_value.specs.declared.decls.Decls.{Decls}
 use Rattle.cat_scope.specs.declared.expr.Expr.{Expr}
 use Rattle.cat_scope.specs.declared.expr.Arm.{Arm}

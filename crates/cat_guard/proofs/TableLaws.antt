@@ -1,19 +1,17 @@
 -- What is known of the judging of a table's target is so, where its numbers name what they should.
 use Rattle.std.proofs.Common.{◌≡◌, ℕ, zero, suc, ◌+◌, ◌<◌, nat_eq, nat_lt, Bool, true, false, ◌&&◌, IsTrue, List, []}
 use Rattle.std.proofs.Common.{◌∷◌}
-use Rattle.std.proofs.Common.{◌++◌, map, length, Option, Some, None, slice_get, refl, sym, ap, ◌∙◌, subst, arith}
+use Rattle.std.proofs.Common.{◌++◌, map, length, Option, Some, slice_get, refl, sym, ap, ◌∙◌, subst, arith}
 use Rattle.std.proofs.Common.{true≢false}
-use Rattle.std.proofs.Common.{get_or, if◌then◌else◌}
+use Rattle.std.proofs.Common.{if◌then◌else◌}
 use Rattle.std.proofs.lemmas.Bool.Decides.{nat_tests}
 use Rattle.std.specs.List.{list_all}
 use Rattle.cat_order.specs.Order.{dependencies_of}
-use Rattle.cat_value.specs.declared.outcome.Target.{Target}
 use Rattle.cat_value.proofs.Exported.{list_all_at}
 use Rattle.cat_scope.specs.Names.{AllHave}
 use Rattle.cat_scope.specs.Groups.{excepting}
-use Rattle.cat_scope.specs.Judging.{settle, judge}
+use Rattle.cat_scope.specs.Judging.{settle}
 use Rattle.cat_scope.specs.Chains.{longest_chain, is_within, are_within}
-use Rattle.cat_guard.specs.declared.guard.GuardDef.{GuardDef}
 use Rattle.cat_guard.specs.declared.guard.GuardGroup.{GuardGroup}
 use Rattle.cat_guard.specs.declared.table.TableTarget.{TableTarget}
 use Rattle.cat_guard.specs.declared.table.Term.{Term}
@@ -21,9 +19,9 @@ use Rattle.cat_guard.specs.declared.table.Atom.{Atom}
 use Rattle.cat_guard.specs.Formulas.{IsSo, known, truth}
 use Rattle.cat_guard.specs.GuardFormulas.{formula_of}
 use Rattle.cat_guard.specs.Soundness.{are_below, def_is_sound, group_is_sound, above, target_is_sound, is_sound}
-use Rattle.cat_guard.specs.TableJudging.{Decided, decided_def, decided_own, each_before, pairs_from, decided_group}
+use Rattle.cat_guard.specs.TableJudging.{decided_def, decided_own, each_before, pairs_from, decided_group}
 use Rattle.cat_guard.specs.TableJudging.{decided}
-use Rattle.cat_guard.specs.Verdicts.{Verdict, listed, def_verdict, own_verdict, excepting_in, group_verdict, verdict_of}
+use Rattle.cat_guard.specs.Verdicts.{listed, def_verdict, own_verdict, excepting_in, group_verdict, verdict_of}
 use Rattle.cat_guard.specs.Verdicts.{Stands}
 use Rattle.cat_guard.proofs.FormulaLaws.{known_so}
 use Rattle.cat_guard.proofs.VerdictLaws.{settle_stands, or_else_stands, maps_stand, truth_stands}

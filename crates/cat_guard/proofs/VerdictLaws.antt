@@ -1,6 +1,6 @@
 -- What is known of the judging of a target is so.
-use Rattle.std.proofs.Common.{◌≡◌, ℕ, zero, suc, ◌≤◌, Bool, true, false, ◌||◌, IsTrue, List, [], ◌∷◌, map, length}
-use Rattle.std.proofs.Common.{Option, Some, None, Result, Ok, Err, slice_get, refl, sym, ap, ◌∙◌, subst, arith}
+use Rattle.std.proofs.Common.{◌≡◌, ℕ, ◌≤◌, Bool, true, false, ◌||◌, IsTrue, List, [], ◌∷◌, map, length}
+use Rattle.std.proofs.Common.{Option, Some, None, Result, Ok, Err, slice_get, refl, sym, subst, arith}
 use Rattle.std.proofs.Common.{true≢false}
 use Rattle.std.proofs.Common.{if◌then◌else◌}
 use Rattle.cat_value.specs.declared.outcome.Target.{Target}
@@ -8,7 +8,7 @@ use Rattle.cat_scope.specs.declared.stop.Stop.{Stop}
 use Rattle.cat_scope.specs.declared.stop.Stop.TheVariants as stops
 use Rattle.cat_scope.specs.Names.{AllHave}
 use Rattle.cat_scope.specs.Replies.{on_one}
-use Rattle.cat_scope.specs.Judging.{Held, Judged, with_held, holding, alone, settle, or_else, in_source_order}
+use Rattle.cat_scope.specs.Judging.{Held, holding, alone, settle, or_else, in_source_order}
 use Rattle.cat_scope.specs.Judging.{positions_in}
 use Rattle.cat_guard.specs.declared.guard.GuardDef.{GuardDef}
 use Rattle.cat_guard.specs.TableJudging.{Decided, by_truth}

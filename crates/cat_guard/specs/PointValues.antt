@@ -1,5 +1,5 @@
 -- What cuts see of values, and the point of a term.
-use Rattle.std.specs.Prelude.{pos, Bool, false, Option, Some, None, Result, Ok, Err, slice_get}
+use Rattle.std.specs.Prelude.{pos, false, Option, Some, None, Ok, Err, slice_get}
 use Rattle.std.specs.Prelude.{if◌then◌else◌}
 use Rattle.cat_date.specs.Calendar.{first_day}
 use Rattle.cat_value.specs.declared.decls.Decls.{Decls}

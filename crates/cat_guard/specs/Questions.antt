@@ -1,5 +1,5 @@
 -- The guard of a condition: connectives over questions, each a cut of a term.
-use Rattle.std.specs.Prelude.{ℕ, Bool, true, List, length, Option, Some, None, slice_get}
+use Rattle.std.specs.Prelude.{true, Option, Some, None, slice_get}
 use Rattle.cat_value.specs.declared.decls.Decls.{Decls}
 use Rattle.cat_region.specs.declared.dim.Dim.{Dim}
 use Rattle.cat_region.specs.declared.dim.Dim.TheVariants as dim

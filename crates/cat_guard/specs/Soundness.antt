@@ -1,5 +1,5 @@
 -- What holds of every table.
-use Rattle.std.specs.Prelude.{ℕ, nat_lt, Bool, true, false, ◌&&◌, List, length, map, Option, Some, None, slice_get}
+use Rattle.std.specs.Prelude.{ℕ, nat_lt, Bool, false, ◌&&◌, List, length, map, Option, Some, None, slice_get}
 use Rattle.std.specs.List.{list_all}
 use Rattle.cat_region.specs.Points.{is_cut}
 use Rattle.cat_region.specs.Regions.{is_dim}

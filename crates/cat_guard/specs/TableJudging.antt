@@ -1,8 +1,7 @@
 -- How a table's target is judged by the truth values of its guards, without consequences, and what covers it.
-use Rattle.std.specs.Prelude.{ℕ, ◌+◌, Bool, true, false, IsTrue, List, [], ◌∷◌, ◌++◌, map, Option, Some, None}
+use Rattle.std.specs.Prelude.{ℕ, ◌+◌, Bool, true, false, IsTrue, List, [], ◌∷◌, map, Option, Some, None}
 use Rattle.std.specs.Prelude.{Result, Ok, Err, slice_get}
 use Rattle.cat_pos.specs.declared.pos.Pos.{Pos}
-use Rattle.cat_order.specs.Order.{dependencies_of}
 use Rattle.cat_scope.specs.declared.stop.Stop.{Stop}
 use Rattle.cat_scope.specs.declared.stop.Stop.TheVariants.{Stuck}
 use Rattle.cat_scope.specs.Runs.{gives, stops}

@@ -4,7 +4,6 @@ use Rattle.std.specs.Prelude.{slice_get}
 use Rattle.std.specs.Prelude.{if◌then◌else◌}
 use Rattle.std.specs.Ordering.{int_eq}
 use Rattle.cat_pos.specs.declared.pos.Pos.{Pos}
-use Rattle.cat_num.specs.Frac.{Fraction}
 use Rattle.cat_value.specs.declared.declaration.ItemDecl.{ItemDecl}
 use Rattle.cat_value.specs.Inputs.{must_be_given}
 use Rattle.cat_region.specs.declared.dim.Dim.{Dim}

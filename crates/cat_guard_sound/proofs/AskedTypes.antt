@@ -1,11 +1,10 @@
 -- The questions of a typed condition: each is of a term of a type, whose dimension it has.
-use Rattle.std.proofs.Common.{◌≡◌, Bool, true, false, not, IsTrue, List, [], ◌∷◌, ◌++◌, Option, Some, None, slice_get}
+use Rattle.std.proofs.Common.{◌≡◌, true, false, IsTrue, List, [], ◌∷◌, ◌++◌, Option, Some, None, slice_get}
 use Rattle.std.proofs.Common.{refl}
-use Rattle.std.proofs.Common.{sym, ap, ◌∙◌, subst, arith, true≢false, ℕ, zero, suc, length, nat_lt, Result, Err}
+use Rattle.std.proofs.Common.{sym, ap, ◌∙◌, subst, arith, true≢false, ℕ, length, nat_lt}
 use Rattle.std.proofs.lemmas.Bool.Decides.{nat_tests}
 use Rattle.cat_num.specs.Frac.{gcd}
 use Rattle.cat_date.specs.declared.rounding.Rounding.TheVariants.{Up}
-use Rattle.cat_pos.specs.declared.pos.Pos.{Pos}
 use Rattle.cat_value.specs.declared.ty.Ty.{Ty}
 use Rattle.cat_value.specs.declared.ty.Ty.TheVariants as flat_ty
 use Rattle.cat_value.specs.declared.ty.Ty.TheViews as ty
@@ -15,8 +14,6 @@ use Rattle.cat_value.specs.declared.declaration.Enumeration.{Enumeration}
 use Rattle.cat_value.specs.Entries.{some_passes, content_in, case_in}
 use Rattle.cat_region.specs.declared.cut.Scalar.{Scalar}
 use Rattle.cat_region.specs.declared.cut.Scalar.TheVariants as scalar
-use Rattle.cat_region.specs.declared.dim.Dim.{Dim}
-use Rattle.cat_region.specs.declared.dim.Dim.TheVariants as dim
 use Rattle.cat_region.specs.declared.cut.Cut.{Cut}
 use Rattle.cat_region.specs.declared.cut.Cut.TheVariants as cut
 use Rattle.cat_region.specs.Points.{is_point}
@@ -44,10 +41,10 @@ use Rattle.cat_guard.specs.Formulas.{Formula, asked}
 use Rattle.cat_guard.specs.Formulas as formula
 use Rattle.cat_guard.specs.Comparisons.{Comparison, comparison_of, turned, parted, scalar_dim, constant_of}
 use Rattle.cat_guard.specs.Comparisons as comparison
-use Rattle.cat_guard.specs.Questions.{Question, ask, ask_truth, against, compared, operated, literal_guard, unary_guard}
-use Rattle.cat_guard.specs.Questions.{binary_guard, guard_in, guard_of, condition_guard}
+use Rattle.cat_guard.specs.Questions.{Question, ask_truth, against, compared, operated, literal_guard, unary_guard}
+use Rattle.cat_guard.specs.Questions.{binary_guard, guard_of, condition_guard}
 use Rattle.cat_guard.specs.PointValues.{dim_of, dim_in, default_point}
-use Rattle.cat_guard.proofs.Exported.{guarded, guard_at}
+use Rattle.cat_guard.proofs.Exported.{guard_at}
 use Rattle.cat_guard_sound.proofs.Constants.{Form, typed_at, scalar_type, constant_is}
 use Rattle.cat_guard_sound.proofs.GuardTells.{compared_alike, xor_signature}
 

@@ -1,23 +1,19 @@
 -- At the valuation of a judging each atom of a target's guards answers as the judging's own evaluation does.
 use Rattle.std.proofs.Common.{◌≡◌, ℕ, zero, suc, nat_eq, Bool, true, false, ◌&&◌, not, IsTrue, List, [], ◌∷◌, ◌++◌}
 use Rattle.std.proofs.Common.{length}
-use Rattle.std.proofs.Common.{Option, Some, None, Result, Ok, Err, slice_get, refl, sym, ap, ◌∙◌, subst, arith}
+use Rattle.std.proofs.Common.{Option, Some, None, Ok, Err, refl, sym, ap, ◌∙◌, subst, arith}
 use Rattle.std.proofs.Common.{true≢false}
 use Rattle.std.proofs.Common.{if◌then◌else◌}
 use Rattle.std.proofs.lemmas.Bool.Decides.{nat_tests}
 use Rattle.cat_value.specs.declared.ty.Ty.{Ty}
 use Rattle.cat_value.specs.declared.value.Value.{Value}
-use Rattle.cat_value.specs.declared.decls.Decls.{Decls}
 use Rattle.cat_value.specs.declared.declaration.Kind.{Kind}
 use Rattle.cat_value.specs.declared.declaration.Kind.TheVariants as kind
 use Rattle.cat_value.specs.declared.declaration.ItemDecl.{ItemDecl}
 use Rattle.cat_value.specs.declared.outcome.Target.{Target}
 use Rattle.cat_region.specs.declared.dim.Dim.{Dim}
-use Rattle.cat_region.specs.declared.point.Point.{Point}
 use Rattle.cat_region.specs.Points.{answer}
 use Rattle.cat_region.specs.Regions.{Valuation}
-use Rattle.cat_scope.specs.declared.stop.Stop.{Stop}
-use Rattle.cat_scope.specs.declared.expr.Expr.{Expr}
 use Rattle.cat_scope.specs.declared.defs.Def.{Def}
 use Rattle.cat_scope.specs.Replies.{Reply}
 use Rattle.cat_scope.specs.Names.{Names, AllHave, IsOneOf, is_called}
@@ -25,11 +21,9 @@ use Rattle.cat_scope.specs.Naming.{IsTargetAt}
 use Rattle.cat_scope.specs.Groups.{Numbered}
 use Rattle.cat_scope.specs.Targets.{same_target, defs_from}
 use Rattle.cat_scope.specs.WellFormed.{DefTyped}
-use Rattle.cat_scope.specs.Same.{Standing, Same, kept, Alike}
+use Rattle.cat_scope.specs.Same.{Standing, kept}
 use Rattle.cat_scope.specs.Eval.{Env, eval}
 use Rattle.cat_sound.proofs.Exported.{defs-all, same_gives}
-use Rattle.cat_guard.specs.declared.table.Term.{Term}
-use Rattle.cat_guard.specs.declared.table.Atom.{Atom}
 use Rattle.cat_guard.specs.Formulas.{asked}
 use Rattle.cat_guard.specs.Numbering.{firsts}
 use Rattle.cat_guard.specs.Questions.{Question}
@@ -38,9 +32,9 @@ use Rattle.cat_guard.specs.Terms.{atom_number}
 use Rattle.cat_guard.specs.Tables.{standing_of, def_formula, defs_questions, questions_of}
 use Rattle.cat_guard.specs.Valuations.{atom_answer, holds_at}
 use Rattle.cat_guard.specs.PointValues.{point_at}
-use Rattle.cat_guard_sound.specs.Evaluations.{answered, any_values, arguments_for, term_point, valuation_of}
+use Rattle.cat_guard_sound.specs.Evaluations.{any_values, term_point, valuation_of}
 use Rattle.cat_guard_sound.proofs.AskedTypes.{IsAskedOf, all_append, condition_asked}
-use Rattle.cat_guard_sound.proofs.Numbered.{Found, numbered, firsts_all, all_at, get_map, all_are}
+use Rattle.cat_guard_sound.proofs.Numbered.{numbered, firsts_all, all_at, get_map, all_are}
 use Rattle.cat_guard_sound.proofs.SameSelf.{term_self, question_self, IsOneTerm, one_term, one_question}
 
 -- ---- parameters of targets of one item

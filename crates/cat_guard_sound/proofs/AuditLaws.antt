@@ -1,7 +1,7 @@
 -- Scopes whose targets are covered by each valuation of their tables have no conflict and no gap.
-use Rattle.std.proofs.Common.{◌≡◌, ◌⊎◌, inl, inr, ℕ, Bool, true, false, IsTrue, List, [], ◌∷◌, map, length, Option}
+use Rattle.std.proofs.Common.{◌≡◌, ℕ, Bool, true, false, IsTrue, List, length, Option}
 use Rattle.std.proofs.Common.{Some}
-use Rattle.std.proofs.Common.{None, Result, Ok, Err, slice_get, refl, sym, ap, ◌∙◌, subst, arith, true≢false}
+use Rattle.std.proofs.Common.{None, Result, Ok, Err, slice_get, sym, ap, ◌∙◌, subst, arith, true≢false}
 use Rattle.std.proofs.lemmas.Option.{slice_get_within}
 use Rattle.std.proofs.Math.Logic.{∥∥₁_elim}
 use Rattle.cat_order.specs.Order.{IsOrder}
@@ -16,15 +16,13 @@ use Rattle.cat_region.specs.Regions.{Valuation, IsValuation}
 use Rattle.cat_scope.specs.declared.stop.Stop.{Stop}
 use Rattle.cat_scope.specs.declared.stop.Stop.TheVariants as stop
 use Rattle.cat_scope.specs.declared.expr.Expr.{Expr}
-use Rattle.cat_scope.specs.declared.defs.Def.{Def}
 use Rattle.cat_scope.specs.declared.defs.Body.{Body}
-use Rattle.cat_scope.specs.declared.programs.Program.{Program}
 use Rattle.cat_scope.specs.Runs.{Run}
 use Rattle.cat_scope.specs.Names.{Names, AllHave, IsOneOf, scope_items}
 use Rattle.cat_scope.specs.Naming.{IsTargetAt}
 use Rattle.cat_scope.specs.Orders.{item_dependencies}
 use Rattle.cat_scope.specs.WellFormed.{DefTyped, IsBodyOf, IsWellFormed}
-use Rattle.cat_scope.specs.Judging.{Held, held_position}
+use Rattle.cat_scope.specs.Judging.{Held}
 use Rattle.cat_scope.specs.Targets.{same_target, judge_target}
 use Rattle.cat_scope.specs.Forests.{targets_of}
 use Rattle.cat_scope.specs.Calls.{Items}
@@ -32,21 +30,21 @@ use Rattle.cat_scope.specs.Eval.{Env, eval}
 use Rattle.cat_scope.specs.Running.{run_of}
 use Rattle.cat_scope.specs.Outcomes.{outcome_of}
 use Rattle.cat_sound.specs.Endings.{Allowed, IsEnd, Ended, EndsIn, IsOf, AreOf, AreOutputsOf}
-use Rattle.cat_sound.specs.Settled.{IsHeldOf, StandsIn, MayStand, IsSettled, AreSettled, IsClosed}
+use Rattle.cat_sound.specs.Settled.{IsHeldOf, StandsIn, MayStand, AreSettled, IsClosed}
 use Rattle.cat_sound.specs.Settled.{may_be_empty as settled_empty}
-use Rattle.cat_sound.proofs.Exported.{settled_programs, EndsIn-prop, BodyAt, body_at}
+use Rattle.cat_sound.proofs.Exported.{settled_programs, EndsIn-prop, body_at}
 use Rattle.cat_guard.specs.declared.table.TableTarget.{TableTarget}
 use Rattle.cat_guard.specs.declared.table.Table.{Table}
 use Rattle.cat_guard.specs.Questions.{Question}
-use Rattle.cat_guard.specs.Terms.{terms_of, atoms_of}
+use Rattle.cat_guard.specs.Terms.{terms_of}
 use Rattle.cat_guard.specs.Tables.{questions_of, target_of, may_be_empty, IsTableOf}
 use Rattle.cat_guard.specs.Soundness.{target_is_sound, is_sound}
-use Rattle.cat_guard.specs.TableJudging.{IsCovered, Covers, decided}
+use Rattle.cat_guard.specs.TableJudging.{Covers, decided}
 use Rattle.cat_guard.specs.Valuations.{dims_of, holds_at}
 use Rattle.cat_guard.proofs.Exported.{IsSoundTarget, sound_parts, targets_sound}
 use Rattle.cat_guard_sound.specs.Evaluations.{valuation_of}
 use Rattle.cat_guard_sound.specs.Follows.{Follows}
-use Rattle.cat_guard_sound.specs.Audited.{MayDecide, IsTargetAudited, IsAudited, ScopesAudited, none_may_stop}
+use Rattle.cat_guard_sound.specs.Audited.{MayDecide, IsTargetAudited, IsAudited, none_may_stop}
 use Rattle.cat_guard_sound.specs.Audited.{IsValueOrFault}
 use Rattle.cat_guard_sound.proofs.Follow.{covered_follows}
 use Rattle.cat_guard_sound.proofs.ScopeFollows.{of_mapped, valuation_is, target_follows}

@@ -1,7 +1,7 @@
 -- Comparisons with constants: what they evaluate to, and that their cuts say the same.
-use Rattle.std.proofs.Common.{◌≡◌, ℤ, pos, negsuc, Bool, true, false, not, IsTrue, List, [], ◌∷◌, map, inl, inr}
+use Rattle.std.proofs.Common.{◌≡◌, ℤ, pos, negsuc, Bool, true, false, not, IsTrue, List, map}
 use Rattle.std.proofs.Common.{Option, Some, None, Result, Ok, Err, refl, sym, ap, ◌∙◌, subst, arith, true≢false}
-use Rattle.std.specs.Prelude.{◌*ℤ◌, cond, int_lt, neg_ℤ, if◌then◌else◌}
+use Rattle.std.specs.Prelude.{◌*ℤ◌, cond, int_lt, if◌then◌else◌}
 use Rattle.std.specs.declared.cmp.Ordering.{Ordering}
 use Rattle.std.specs.declared.cmp.Ordering.TheVariants as order
 use Rattle.std.specs.Ordering.{int_cmp, is_lt, is_le, ordering_reverse}

@@ -1,19 +1,17 @@
 -- A definition follows the truth value of its guard.
-use Rattle.std.proofs.Common.{◌≡◌, ◌⊎◌, inl, inr, ℕ, Bool, true, false, IsTrue, List, [], ◌∷◌, Option, Some, None}
+use Rattle.std.proofs.Common.{◌≡◌, inl, Bool, true, false, Option, Some, None}
 use Rattle.std.proofs.Common.{Result}
 use Rattle.std.proofs.Common.{Ok, Err, refl, sym, ap, ◌∙◌, subst}
-use Rattle.cat_pos.specs.declared.pos.Pos.{Pos}
 use Rattle.cat_value.specs.declared.ty.Ty.{Ty}
 use Rattle.cat_value.specs.declared.ty.Ty.TheVariants as flat_ty
 use Rattle.cat_value.specs.declared.value.Value.{Value}
-use Rattle.cat_value.specs.declared.value.Value.TheVariants as flat
 use Rattle.cat_value.specs.declared.value.Value.TheViews as value
 use Rattle.cat_value.specs.declared.decls.Decls.{Decls}
 use Rattle.cat_value.proofs.Exported.{boolean_value}
 use Rattle.cat_scope.specs.declared.stop.Stop.{Stop}
 use Rattle.cat_scope.specs.declared.expr.Expr.{Expr}
 use Rattle.cat_scope.specs.Replies.{Reply, on_one}
-use Rattle.cat_scope.specs.Runs.{Run, plain, gives, and_then, either, choose}
+use Rattle.cat_scope.specs.Runs.{Run, gives, and_then, either, choose}
 use Rattle.cat_scope.specs.Projections as read
 use Rattle.cat_scope.specs.Groups.{Numbered}
 use Rattle.cat_scope.specs.Judging.{Held, Judged}

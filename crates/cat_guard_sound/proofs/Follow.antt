@@ -1,13 +1,13 @@
 -- Where each definition follows its truth value, so do lists, groups and targets.
-use Rattle.std.proofs.Common.{◌≡◌, ◌⊎◌, inl, inr, ℕ, zero, suc, Bool, true, false, IsTrue, List, [], ◌∷◌, map, length}
-use Rattle.std.proofs.Common.{Option, Some, None, Result, Ok, Err, slice_get, refl, sym, ap, ◌∙◌, subst, if◌then◌else◌}
+use Rattle.std.proofs.Common.{◌≡◌, ◌⊎◌, inl, inr, Bool, true, false, IsTrue, List, [], ◌∷◌, map}
+use Rattle.std.proofs.Common.{Option, Some, None, Result, Ok, Err, refl, sym, ap, ◌∙◌, subst, if◌then◌else◌}
 use Rattle.std.specs.Prelude.{nat_lt}
 use Rattle.cat_value.specs.declared.outcome.Target.{Target}
 use Rattle.cat_scope.specs.declared.stop.Stop.{Stop}
 use Rattle.cat_scope.specs.declared.stop.Stop.TheVariants.{Conflict}
 use Rattle.cat_scope.specs.Names.{AllHave}
 use Rattle.cat_scope.specs.Replies.{on_one}
-use Rattle.cat_scope.specs.Judging.{Held, Judged, with_held, holding, put, in_source_order, positions_in, alone, settle}
+use Rattle.cat_scope.specs.Judging.{Held, Judged, holding, put, in_source_order, positions_in, alone, settle}
 use Rattle.cat_scope.specs.Judging.{or_else}
 use Rattle.cat_guard.specs.TableJudging.{Decided, IsCovered}
 use Rattle.cat_guard.proofs.Exported.{one_more, holding_end, settle_end, else_end, or_else_end}

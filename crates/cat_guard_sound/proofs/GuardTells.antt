@@ -1,6 +1,6 @@
 -- A condition that gives a truth value gives that of its guard.
-use Rattle.std.proofs.Common.{◌≡◌, ◌⊎◌, inl, inr, Bool, true, false, IsTrue, List, [], ◌∷◌, map, Option, Some, None}
-use Rattle.std.proofs.Common.{Result, Ok, Err, slice_get, refl, sym, ap, ◌∙◌, subst, arith, true≢false, nat_eq, nat_lt}
+use Rattle.std.proofs.Common.{◌≡◌, inl, inr, Bool, true, false, IsTrue, List, [], ◌∷◌, map, Option, Some, None}
+use Rattle.std.proofs.Common.{Ok, Err, slice_get, refl, sym, ap, ◌∙◌, subst, arith, true≢false, nat_eq, nat_lt}
 use Rattle.std.proofs.Common.{ℕ, zero, suc, length, if◌then◌else◌}
 use Rattle.std.proofs.lemmas.Bool.Decides.{nat_tests}
 use Rattle.cat_pos.specs.declared.pos.Pos.{Pos}
@@ -20,7 +20,6 @@ use Rattle.cat_region.specs.declared.dim.Dim.TheVariants as dim
 use Rattle.cat_region.specs.declared.cut.Cut.TheVariants as cut
 use Rattle.cat_region.specs.declared.point.Point.TheVariants as point
 use Rattle.cat_region.specs.Points.{is_point, answer}
-use Rattle.cat_scope.specs.declared.stop.Stop.{Stop}
 use Rattle.cat_scope.specs.declared.expr.Literal.{Literal}
 use Rattle.cat_scope.specs.declared.expr.Literal.TheVariants as literal
 use Rattle.cat_scope.specs.declared.expr.Expr.{Expr}
@@ -31,7 +30,7 @@ use Rattle.cat_scope.specs.declared.operators.UnaryOp.TheVariants as unary
 use Rattle.cat_scope.specs.declared.operators.BinaryOp.{BinaryOp}
 use Rattle.cat_scope.specs.declared.operators.BinaryOp.TheVariants as binary
 use Rattle.cat_scope.specs.Replies.{Reply, on_one}
-use Rattle.cat_scope.specs.Runs.{Run, plain, gives, and_then, giving}
+use Rattle.cat_scope.specs.Runs.{Run, plain, giving}
 use Rattle.cat_scope.specs.Operators.{operate}
 use Rattle.cat_scope.specs.Projections as read
 use Rattle.cat_scope.specs.Projections.{case_of}
@@ -45,17 +44,16 @@ use Rattle.cat_sound.specs.Endings.{Allowed, Ended, IsOf, AreOf, IsEnvOf}
 use Rattle.cat_sound.specs.Parts.{PartsTyped}
 use Rattle.cat_sound.proofs.Exported.{by_parts, parts_of, env_parts, expressions_go_on}
 use Rattle.cat_guard.specs.Formulas.{Formula, truth}
-use Rattle.cat_guard.specs.Formulas as formula
-use Rattle.cat_guard.specs.Comparisons.{Comparison, comparison_of, turned, parted, scalar_dim, constant_of}
+use Rattle.cat_guard.specs.Comparisons.{Comparison, comparison_of, turned, constant_of}
 use Rattle.cat_guard.specs.Questions.{Question, ask_truth, against, compared, operated, literal_guard, unary_guard}
 use Rattle.cat_guard.specs.Questions.{binary_guard, guard_in, guard_of}
 use Rattle.cat_guard.specs.PointValues.{point_in, point_of, point_or, point_at, default_point}
 use Rattle.cat_guard.proofs.Exported.{guarded, guard_at, then_end}
-use Rattle.cat_guard_sound.specs.Evaluations.{told, says, answered}
+use Rattle.cat_guard_sound.specs.Evaluations.{says, answered}
 use Rattle.cat_guard_sound.proofs.Tells.{Tells, tells_as, tells_Boolean, tells_and, tells_or, tells_if, tells_not}
 use Rattle.cat_guard_sound.proofs.Tells.{tells_xor}
 use Rattle.cat_guard_sound.proofs.Tells.{on_one_same}
-use Rattle.cat_guard_sound.proofs.Constants.{Form, eval_at, typed_at, scalar_value, scalar_type, IsConstant}
+use Rattle.cat_guard_sound.proofs.Constants.{Form, eval_at, typed_at, scalar_value, scalar_type}
 use Rattle.cat_guard_sound.proofs.Constants.{constant_is}
 use Rattle.cat_guard_sound.proofs.Constants.{tells_right, tells_left}
 

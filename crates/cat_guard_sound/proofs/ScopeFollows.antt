@@ -1,76 +1,55 @@
 -- The judging of a target of a scope follows its guards in the table of the scope, at the valuation of the judging.
-use Rattle.std.proofs.Common.{◌≡◌, ◌⊎◌, inl, inr, ℕ, zero, suc, ◌+◌, ◌<◌, nat_eq, Bool, true, false, ◌&&◌, IsTrue, List}
+use Rattle.std.proofs.Common.{◌≡◌, inl, inr, ℕ, zero, suc, ◌<◌, nat_eq, Bool, true, false, ◌&&◌, IsTrue, List}
 use Rattle.std.proofs.Common.{[], ◌∷◌}
-use Rattle.std.proofs.Common.{◌++◌, map, length, Option, Some, None, Result, Ok, Err, slice_get, refl, sym, ap, ◌∙◌}
+use Rattle.std.proofs.Common.{map, length, Option, Some, None, Ok, Err, slice_get, refl, sym, ap, ◌∙◌}
 use Rattle.std.proofs.Common.{subst}
 use Rattle.std.proofs.Common.{arith, true≢false, if◌then◌else◌}
 use Rattle.std.proofs.lemmas.Bool.Decides.{nat_tests}
-use Rattle.std.proofs.lemmas.Option.{slice_get_within}
 use Rattle.cat_value.specs.declared.ty.Ty.{Ty}
 use Rattle.cat_value.specs.declared.value.Value.{Value}
 use Rattle.cat_value.specs.declared.decls.Decls.{Decls}
-use Rattle.cat_value.specs.declared.declaration.ItemDecl.{ItemDecl}
-use Rattle.cat_value.specs.declared.declaration.Scope.{Scope}
 use Rattle.cat_value.specs.declared.outcome.Target.{Target}
-use Rattle.cat_value.specs.Inputs.{IsWellTyped}
 use Rattle.cat_region.specs.declared.dim.Dim.{Dim}
 use Rattle.cat_region.specs.declared.point.Point.{Point}
 use Rattle.cat_region.specs.Points.{is_point, answer}
-use Rattle.cat_region.specs.Regions.{Valuation, IsValuation, is_point_at, is_point_of}
-use Rattle.cat_scope.specs.declared.stop.Stop.{Stop}
-use Rattle.cat_scope.specs.declared.stop.Stop.TheVariants as stop
+use Rattle.cat_region.specs.Regions.{Valuation, IsValuation, is_point_of}
 use Rattle.cat_scope.specs.declared.expr.Expr.{Expr}
 use Rattle.cat_scope.specs.declared.defs.Def.{Def}
-use Rattle.cat_scope.specs.declared.defs.Body.{Body}
 use Rattle.cat_scope.specs.Replies.{Reply}
-use Rattle.cat_scope.specs.Runs.{Run, gives}
-use Rattle.cat_scope.specs.Names.{Names, AllHave, IsOneOf, scope_items}
+use Rattle.cat_scope.specs.Runs.{Run}
+use Rattle.cat_scope.specs.Names.{Names, AllHave, IsOneOf}
 use Rattle.cat_scope.specs.Naming.{IsTargetAt}
-use Rattle.cat_scope.specs.WellFormed.{ConditionTyped, DefTyped, IsBodyOf, IsWellFormed}
+use Rattle.cat_scope.specs.WellFormed.{ConditionTyped, DefTyped}
 use Rattle.cat_scope.specs.Groups.{Numbered}
-use Rattle.cat_scope.specs.Judging.{Held, held_position}
 use Rattle.cat_scope.specs.Same.{Standing}
 use Rattle.cat_scope.specs.Targets.{same_inner, same_target, defs_from, condition_of, judge_target}
 use Rattle.cat_scope.specs.Forests.{targets_of}
-use Rattle.cat_scope.specs.Calls.{Items}
 use Rattle.cat_scope.specs.Eval.{Env, eval}
-use Rattle.cat_scope.specs.Running.{run_of}
-use Rattle.cat_scope.specs.Outcomes.{outcome_of}
-use Rattle.cat_sound.specs.Endings.{Allowed, IsEnd, Ended, EndsIn, IsOf, AreOf, AreOutputsOf, IsEnvOf}
-use Rattle.cat_sound.specs.Settled.{IsHeldOf, InCondition, StandsIn, MayStand, IsSettled, AreSettled, IsClosed}
-use Rattle.cat_sound.specs.Settled.{may_be_empty as settled_empty}
-use Rattle.cat_sound.proofs.Exported.{defs-all, stands_end, settled_programs, EndsIn-prop, BodyAt, body_at}
+use Rattle.cat_sound.specs.Endings.{Allowed, IsEnd, IsOf, AreOf, IsEnvOf}
+use Rattle.cat_sound.specs.Settled.{InCondition, StandsIn}
+use Rattle.cat_sound.proofs.Exported.{defs-all, stands_end}
 use Rattle.cat_guard.specs.declared.table.Term.{Term}
 use Rattle.cat_guard.specs.declared.table.Atom.{Atom}
-use Rattle.cat_guard.specs.declared.table.TableTarget.{TableTarget}
-use Rattle.cat_guard.specs.declared.table.Table.{Table}
-use Rattle.cat_guard.specs.Formulas.{Formula, truth, asked, renamed}
-use Rattle.cat_guard.specs.Formulas as formula
+use Rattle.cat_guard.specs.Formulas.{truth, asked, renamed}
 use Rattle.cat_guard.specs.GuardFormulas.{formula_of}
 use Rattle.cat_guard.specs.Numbering.{firsts}
-use Rattle.cat_guard.specs.Questions.{Question, guard_of, condition_guard}
+use Rattle.cat_guard.specs.Questions.{Question, condition_guard}
 use Rattle.cat_guard.specs.Terms.{same_term, term_of, terms_of, atoms_of, atom_number}
-use Rattle.cat_guard.specs.Tables.{standing_of, def_formula, defs_questions, questions_of, guard_tree, guard_def}
+use Rattle.cat_guard.specs.Tables.{standing_of, def_formula, defs_questions, questions_of, guard_def}
 use Rattle.cat_guard.specs.Tables.{target_of}
-use Rattle.cat_guard.specs.Tables.{may_be_empty, IsTableOf}
 use Rattle.cat_guard.specs.PointValues.{point_of, point_or, point_at, default_point}
-use Rattle.cat_guard.specs.Soundness.{target_is_sound, is_sound}
-use Rattle.cat_guard.specs.TableJudging.{Decided, by_truth, IsCovered, Covers, decided}
+use Rattle.cat_guard.specs.TableJudging.{decided}
 use Rattle.cat_guard.specs.Valuations.{dims_of, holds_at}
 use Rattle.cat_guard.proofs.Exported.{truth_renamed, truth_same, formula_of_guard_tree, all_and, IsSoundTarget}
-use Rattle.cat_guard.proofs.Exported.{sound_parts}
-use Rattle.cat_guard.proofs.Exported.{targets_sound}
 use Rattle.cat_guard_sound.specs.Evaluations.{answered, any_values, term_point, arguments_for, valuation_of}
 use Rattle.cat_guard_sound.specs.Follows.{Follows}
 use Rattle.cat_guard_sound.proofs.Tells.{Tells, tells_as, tells_Boolean}
 use Rattle.cat_guard_sound.proofs.GuardTells.{guard_told}
-use Rattle.cat_guard_sound.proofs.Follow.{covered_follows}
 use Rattle.cat_guard_sound.proofs.AskedTypes.{IsAskedOf, condition_asked}
 use Rattle.cat_guard_sound.proofs.Numbered.{firsts_all, one_front, one_back, all_are}
-use Rattle.cat_guard_sound.proofs.AtomAnswers.{IsOfDef, targets_all, def_all, params_agree, atom_is}
+use Rattle.cat_guard_sound.proofs.AtomAnswers.{IsOfDef, targets_all, atom_is}
 use Rattle.cat_guard_sound.proofs.DefFollows.{def_goes}
 use Rattle.cat_guard_sound.proofs.TargetFollows.{DefGoes, target_goes}
-use Rattle.cat_guard_sound.proofs.TargetsListed.{target_listed, same_empty, no_function}
 
 -- ---- the valuation of a judging is one
 

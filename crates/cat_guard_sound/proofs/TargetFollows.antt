@@ -1,13 +1,11 @@
 -- The judging of a target follows its guards in a table.
 use Rattle.std.proofs.Common.{◌≡◌, ◌⊎◌, inl, inr, ℕ, zero, suc, ◌+◌, ◌<◌, nat_eq, nat_lt, Bool, true, false, ◌&&◌}
 use Rattle.std.proofs.Common.{IsTrue}
-use Rattle.std.proofs.Common.{List, [], ◌∷◌, ◌++◌, map, length, Option, Some, None, Result, Ok, Err, slice_get, refl}
+use Rattle.std.proofs.Common.{List, [], ◌∷◌, map, length, Option, Some, None, slice_get, refl}
 use Rattle.std.proofs.Common.{sym, ap}
-use Rattle.std.proofs.Common.{◌∙◌, subst, arith, true≢false, if◌then◌else◌}
+use Rattle.std.proofs.Common.{◌∙◌, subst, arith, if◌then◌else◌}
 use Rattle.std.specs.List.{list_all}
 use Rattle.std.proofs.lemmas.Bool.Decides.{nat_tests}
-use Rattle.cat_order.specs.Order.{dependencies_of}
-use Rattle.cat_value.specs.declared.ty.Ty.{Ty}
 use Rattle.cat_value.specs.declared.value.Value.{Value}
 use Rattle.cat_value.specs.declared.decls.Decls.{Decls}
 use Rattle.cat_value.specs.declared.declaration.ItemDecl.{ItemDecl}
@@ -16,7 +14,6 @@ use Rattle.cat_value.proofs.Exported.{list_all_at}
 use Rattle.cat_scope.specs.declared.stop.Stop.{Stop}
 use Rattle.cat_scope.specs.declared.expr.Expr.{Expr}
 use Rattle.cat_scope.specs.declared.defs.Def.{Def}
-use Rattle.cat_scope.specs.declared.forest.ForestTarget.{ForestTarget}
 use Rattle.cat_scope.specs.declared.forest.ForestGroup.{ForestGroup}
 use Rattle.cat_scope.specs.Runs.{Run}
 use Rattle.cat_scope.specs.Names.{AllHave, IsOneOf}
@@ -28,7 +25,6 @@ use Rattle.cat_scope.specs.Chains.{HasNoCycle, longest_chain, is_within, are_wit
 use Rattle.cat_scope.specs.Forests.{are_low}
 use Rattle.cat_scope.specs.Forests.{above as forest_above}
 use Rattle.cat_sound.proofs.Exported.{groups-all, judging_rule, are_low_says}
-use Rattle.cat_guard.specs.declared.guard.GuardDef.{GuardDef}
 use Rattle.cat_guard.specs.declared.guard.GuardGroup.{GuardGroup}
 use Rattle.cat_guard.specs.declared.table.TableTarget.{TableTarget}
 use Rattle.cat_guard.specs.Formulas.{truth}
@@ -39,7 +35,7 @@ use Rattle.cat_guard.specs.TableJudging.{Decided, by_truth, decided_def, decided
 use Rattle.cat_guard.specs.TableJudging.{decided}
 use Rattle.cat_guard.specs.Verdicts.{excepting_in}
 use Rattle.cat_guard.specs.Soundness.{above, are_below, group_is_sound}
-use Rattle.cat_guard.proofs.Exported.{both_true, all_true, all_more, all_and, Entry, entry, excepting_is, above_is}
+use Rattle.cat_guard.proofs.Exported.{both_true, all_true, all_more, all_and, entry, excepting_is, above_is}
 use Rattle.cat_guard.proofs.Exported.{IsSoundTarget, are_within_at, chain_on, no_chain}
 use Rattle.cat_guard_sound.specs.Follows.{Follows}
 use Rattle.cat_guard_sound.proofs.Follow.{settle_goes, or_else_goes, maps_go}

@@ -1,7 +1,7 @@
 -- Each target of a scope is listed among its targets, and which of them may be empty.
-use Rattle.std.proofs.Common.{◌≡◌, ◌⊎◌, inl, inr, ℕ, zero, suc, ◌+◌, ◌<◌, nat_eq, Bool, true, false, not, ◌&&◌, ◌||◌}
+use Rattle.std.proofs.Common.{◌≡◌, inl, inr, ℕ, zero, suc, ◌+◌, ◌<◌, nat_eq, Bool, true, false, not, ◌&&◌}
 use Rattle.std.proofs.Common.{IsTrue}
-use Rattle.std.proofs.Common.{List, [], ◌∷◌, ◌++◌, map, length, Option, Some, None, slice_get, refl, sym, ap, ◌∙◌}
+use Rattle.std.proofs.Common.{List, [], ◌∷◌, length, Option, Some, None, slice_get, refl, sym, ap, ◌∙◌}
 use Rattle.std.proofs.Common.{subst, arith}
 use Rattle.std.proofs.Common.{true≢false, if◌then◌else◌}
 use Rattle.std.proofs.lemmas.Bool.Decides.{nat_tests}
@@ -16,8 +16,8 @@ use Rattle.cat_value.specs.declared.outcome.Target.{Target}
 use Rattle.cat_value.specs.Inputs.{must_be_given, may_be_given}
 use Rattle.cat_scope.specs.declared.expr.Expr.{Expr}
 use Rattle.cat_scope.specs.declared.defs.Def.{Def}
-use Rattle.cat_scope.specs.Names.{Names, AllHave, IsOneOf, is_called, scope_items, has_none}
-use Rattle.cat_scope.specs.Naming.{IsTargetAt, is_defined}
+use Rattle.cat_scope.specs.Names.{Names, IsOneOf, is_called, scope_items, has_none}
+use Rattle.cat_scope.specs.Naming.{IsTargetAt}
 use Rattle.cat_scope.specs.Forests.{called_targets, targets_at, item_targets, targets_of}
 use Rattle.cat_scope.specs.Mentions.{items_named}
 use Rattle.cat_scope.specs.Orders.{dependencies_from, item_dependencies}

@@ -1,5 +1,5 @@
 -- Where the parts of a condition tell what is true, so does the condition.
-use Rattle.std.proofs.Common.{◌≡◌, Bool, true, false, not, Option, Some, Result, Ok, Err, refl, sym, ap, ◌∙◌, subst}
+use Rattle.std.proofs.Common.{◌≡◌, Bool, true, false, not, Some, Result, Ok, Err, refl, sym, ap, ◌∙◌, subst}
 use Rattle.cat_pos.specs.declared.pos.Pos.{Pos}
 use Rattle.cat_date.specs.declared.rounding.Rounding.{Rounding}
 use Rattle.cat_value.specs.declared.value.Value.{Value}

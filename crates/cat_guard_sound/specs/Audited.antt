@@ -1,5 +1,5 @@
 -- Scopes whose targets are covered by each valuation of their tables.
-use Rattle.std.specs.Prelude.{◌≡◌, ℕ, Bool, true, false, IsTrue, List, Option, Some, None, Result, Ok, Err, slice_get}
+use Rattle.std.specs.Prelude.{◌≡◌, ℕ, Bool, true, false, IsTrue, Option, Some, None, Result, Ok, Err, slice_get}
 use Rattle.cat_value.specs.declared.decls.Decls.{Decls}
 use Rattle.cat_value.specs.declared.declaration.Scope.{Scope}
 use Rattle.cat_value.specs.declared.outcome.Target.{Target}

@@ -1,5 +1,5 @@
 -- The forms of tokens, without their bounds: which spellings each has, and which is the longest in front of a text.
-use Rattle.std.specs.Prelude.{◌≡◌, ◌≢◌, ◌≤◌, ℕ, Bool, true, false, not, ◌&&◌, ◌||◌, ◌==◌, List, [], ◌∷◌, ◌++◌, map}
+use Rattle.std.specs.Prelude.{◌≡◌, ◌≢◌, ◌≤◌, ℕ, Bool, true, false, not, ◌&&◌, ◌==◌, List, [], ◌∷◌, ◌++◌, map}
 use Rattle.std.specs.Prelude.{length, Some, codes}
 use Rattle.std.specs.Char.{encode_utf8, is_ascii_digit, is_ascii_uppercase}
 use Rattle.std.specs.List.{list_all, concat}

@@ -1,5 +1,5 @@
 -- Lines that are found one after another, behind what was said before.
-use Rattle.std.proofs.Common.{◌≡◌, ◌∙◌, ℕ, ◌+◌, ◌<◌, List, [], ◌∷◌, ◌++◌, Option, Some, None, Ok, Err, length, drop, map}
+use Rattle.std.proofs.Common.{◌≡◌, ◌∙◌, ℕ, ◌+◌, ◌<◌, List, [], ◌∷◌, ◌++◌, Option, Ok, Err, length, drop, map}
 use Rattle.std.proofs.Common.{get_or, refl, ap, sym, subst}
 use Rattle.std.proofs.lemmas.List.{append_assoc, append-nil, drop_more}
 use Rattle.cat_scope.specs.declared.defs.Def.{Def}

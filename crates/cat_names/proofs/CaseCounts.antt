@@ -1,5 +1,5 @@
 -- An enumeration has no more cases than one may have, where no name and no count of its tree is at fault.
-use Rattle.std.proofs.Common.{◌≡◌, ◌≤◌, ℕ, List, [], ◌∷◌, length, map, Ok, ap, subst, arith}
+use Rattle.std.proofs.Common.{◌≡◌, ◌≤◌, List, [], ◌∷◌, length, map, Ok, ap, subst, arith}
 use Rattle.cat_value.specs.declared.decls.Decls.{Decls}
 use Rattle.cat_value.specs.declared.declaration.Enumeration.{Enumeration}
 use Rattle.cat_tree.specs.declared.name.Name.{Name}

@@ -1,6 +1,6 @@
 -- Whether a name is one of some names, by a table of them.
 use Rattle.std.proofs.Common.{◌≡◌, ◌∙◌, ℕ, ◌+◌, Bool, true, false, ◌||◌, cond, List, [], ◌∷◌, Option, Some, None, refl}
-use Rattle.std.proofs.Common.{sym, ap}
+use Rattle.std.proofs.Common.{ap}
 use Rattle.std.proofs.Common.{find, bytes_eq, option_map, is_some, map}
 use Rattle.std.specs.List.{enumerate_from}
 use Rattle.cat_names.specs.Unknown.{is_name}

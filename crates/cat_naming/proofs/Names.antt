@@ -1,7 +1,7 @@
 -- Names in lists of names.
-use Rattle.std.proofs.Common.{◌≡◌, ◌∙◌, ℕ, ◌+◌, ◌<◌, ◌||◌, Bool, true, false, List, [], ◌∷◌, length, drop, get_or}
+use Rattle.std.proofs.Common.{◌≡◌, ◌∙◌, ℕ, ◌+◌, ◌<◌, ◌||◌, List, ◌∷◌, length, drop, get_or}
 use Rattle.std.proofs.Common.{bytes_eq}
-use Rattle.std.proofs.Common.{refl, sym, ap, suc, arith}
+use Rattle.std.proofs.Common.{ap, suc, arith}
 use Rattle.std.proofs.Math.Seq.{drop-cons}
 use Rattle.cat_names.specs.Unknown.{is_name}
 

@@ -1,12 +1,11 @@
 -- Fractions over one and over a hundred, and years of days.
-use Rattle.std.proofs.Common.{◌≡◌, ℕ, suc, ℤ, pos, negsuc, neg_ℤ, ◌*ℤ◌, ◌≤ℤ◌, ◌%◌, ◌/◌, unsigned_abs, Ok, Err, refl}
-use Rattle.std.proofs.Common.{rules}
+use Rattle.std.proofs.Common.{◌≡◌, ℕ, ℤ, pos, negsuc, ◌*ℤ◌, ◌≤ℤ◌, ◌%◌, ◌/◌, unsigned_abs, Ok, Err, refl}
 use Rattle.std.proofs.Common.{arith, ap, ◌∙◌, FitsSigned, w64}
 use Rattle.std.proofs.Math.IntN.{*ℤ-one, one}
 use Rattle.jiff_core.proofs.SignedLemmas.{one_part, signed_arith}
 use Rattle.cat_num.specs.declared.fault.NumFault.TheVariants.{Overflow}
 use Rattle.cat_num.specs.Whole.{Fits}
-use Rattle.cat_num.specs.Frac.{Fraction, gcd, gcd_to, is_negative, signed, ratio, lowest}
+use Rattle.cat_num.specs.Frac.{gcd, gcd_to, is_negative, signed, ratio, lowest}
 use Rattle.cat_num.specs.Rounding.{money_quotient, rounded_ratio}
 use Rattle.cat_date.specs.Calendar.{IsDay, civil_of}
 use Rattle.cat_date.proofs.Exported.{civil_of-IsDateOf}

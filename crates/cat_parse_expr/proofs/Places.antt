@@ -5,7 +5,7 @@ use Rattle.std.specs.Prelude.{slice_range}
 use Rattle.std.proofs.lemmas.List.{take_at, take-append-drop, length-append, length-drop}
 use Rattle.cat_lex.specs.declared.token.Token.{Token}
 use Rattle.cat_tree.specs.declared.expression.Node.{Node}
-use Rattle.cat_tree.specs.Spells.{Spells, IsFront, height_of}
+use Rattle.cat_tree.specs.Spells.{Spells, IsFront}
 use Rattle.cat_tree.specs.Spells as spelled
 use Rattle.cat_parse_state.specs.declared.state.Measured.{Measured}
 use Rattle.cat_parse_expr.specs.Results.{Stop, ParseResult, Fails, Reads, stop_of}

@@ -18,8 +18,8 @@ use Rattle.std.specs.Option.{is_some}
 use Rattle.cat_parse_state.specs.Operands.{takes}
 use Rattle.cat_parse_expr.specs.Reader as spec
 use Rattle.cat_parse_expr.specs.Results.{Stop, ParseResult, Reader, too_deep}
-use Rattle.cat_parse_expr.specs.Reader.{Best, whole, best_of, stopped, ended, Next, Shifted, Asks, asked, next, is_high}
-use Rattle.cat_parse_expr.specs.Reader.{Going, reaches, fed, turn, run, nothing_at, operand_of, read}
+use Rattle.cat_parse_expr.specs.Reader.{Best, best_of, stopped, ended, Next, Shifted, Asks, asked, next, is_high}
+use Rattle.cat_parse_expr.specs.Reader.{reaches, turn, run, operand_of, read}
 use Rattle.std.specs.Option.{option_or}
 use Rattle.cat_parse_expr.specs.inside.Fallback.{fallback, last_whole}
 use Rattle.cat_parse_expr.specs.inside.Loop.{halt_at, parse_result_of, AreWithin, restored, checkpoint_after}

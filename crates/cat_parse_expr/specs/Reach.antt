@@ -1,5 +1,5 @@
 -- The expression that is read, and how far the tokens go on as one.
-use Rattle.std.specs.Prelude.{if◌then◌else◌, ℕ, ◌≡◌, List, drop, Option, Some, None, ⊤, Result, Ok, Err}
+use Rattle.std.specs.Prelude.{if◌then◌else◌, ℕ, ◌≡◌, List, drop, Some, None, ⊤, Result, Ok, Err}
 use Rattle.cat_lex.specs.declared.token.Token.{Token}
 use Rattle.cat_tree.specs.declared.expression.Node.{Node}
 use Rattle.cat_parse_expr.specs.declared.refusal.ParseRefusal.{ParseRefusal}

@@ -1,5 +1,5 @@
 -- Expressions of programs, worked out.
-use Rattle.std.proofs.Common.{◌≡◌, false, List, [], ◌∷◌, refl}
+use Rattle.std.proofs.Common.{◌≡◌, false, [], ◌∷◌, refl}
 use Rattle.cat_pos.specs.declared.pos.Pos.{Pos}
 use Rattle.cat_lex.specs.declared.token.Token.{Token}
 use Rattle.cat_lex.specs.declared.token.TokenKind.TheVariants as kind

@@ -7,7 +7,7 @@ use Rattle.cat_lex.specs.declared.token.Token.{Token}
 use Rattle.cat_tree.specs.declared.expression.Node.{Node}
 use Rattle.cat_parse_state.specs.declared.state.Measured.{Measured}
 use Rattle.cat_parse_expr.specs.Results as found
-use Rattle.cat_parse_expr.specs.Results.{Stop, here, too_deep, stop_of}
+use Rattle.cat_parse_expr.specs.Results.{here, too_deep, stop_of}
 use Rattle.cat_parse_expr.specs.Reader.{read}
 use Rattle.cat_parse_expr.specs.Reach.{reach_of, expression_reach}
 use Rattle.cat_parse_expr.proofs.Exported as known

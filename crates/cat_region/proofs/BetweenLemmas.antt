@@ -1,39 +1,19 @@
 -- The decimal between the bounds of a range is that of its parts.
-use Rattle.std.proofs.Common.{◌≡◌, inl, inr, ℕ, ◌^◌, ◌<◌, ◌≤◌, ◌==◌, ℤ, pos, negsuc, neg_ℤ, length, Option, Some, None}
-use Rattle.std.proofs.Common.{Bool, true, false, not, IsTrue, refl, sym, ap, ◌∙◌, subst, arith, if◌then◌else◌}
+use Rattle.std.proofs.Common.{◌≡◌, inl, inr, ℕ, ◌<◌, ◌≤◌, ℤ, pos, negsuc, neg_ℤ, Option, Some, None}
+use Rattle.std.proofs.Common.{Bool, true, false, not, IsTrue, refl, sym, ap, ◌∙◌, arith, if◌then◌else◌}
 use Rattle.std.proofs.Common.{unsigned_abs, true≢false}
-use Rattle.std.specs.Prelude.{int_lt, int_le, ◌+ℤ◌, ◌-ℤ◌, ◌&&◌, nat_le, nat_lt}
-use Rattle.std.specs.Int.{bit_at, int_min, int_max, trailing_zeros}
-use mir.Syntax.{w128}
+use Rattle.std.specs.Prelude.{int_lt, int_le, ◌+ℤ◌, ◌-ℤ◌, ◌&&◌}
 use Rattle.std.proofs.lemmas.Int.{ints}
-use Rattle.std.proofs.lemmas.Nat.Bits.{bit_at-trailing_zeros}
-use Rattle.std.proofs.Math.Pow.{pow_mono}
-use Rattle.cat_num.specs.Frac.{Fraction, lowest, is_reduced, gcd}
-use Rattle.cat_date.specs.Calendar.{first_day}
-use Rattle.cat_region.specs.declared.dim.Dim.{Dim}
-use Rattle.cat_region.specs.declared.dim.Dim.TheVariants as dim
+use Rattle.cat_num.specs.Frac.{Fraction, lowest}
 use Rattle.cat_region.specs.declared.cut.Scalar.TheVariants as scalar
-use Rattle.cat_region.specs.declared.point.Point.{Point}
-use Rattle.cat_region.specs.declared.point.Point.TheVariants as point
 use Rattle.cat_region.specs.declared.extent.Range.{Range}
-use Rattle.cat_region.specs.declared.extent.Extent.{Extent}
-use Rattle.cat_region.specs.declared.extent.Extent.TheVariants.{Ranks, Cases}
-use Rattle.cat_region.specs.Points.{is_point, is_bound, default_point}
-use Rattle.cat_region.specs.Regions.{Constraints, IsRegion, IsInhabited, is_dim, is_admitted}
-use Rattle.cat_region.specs.Extents.{rank, place, start, after, is_none, farthest}
-use Rattle.cat_region.specs.Chosen.{is_even, inner_parts, outer_parts, decimal_in, point_in, point_at}
-use Rattle.cat_region.specs.Choices.{distance, plus, middle, zero_decimal, between, lower_bound, upper_bound}
-use Rattle.cat_region.specs.Choices.{decimal_at, IsChoice, IsPointOf}
-use Rattle.cat_region.proofs.RankLemmas.{bound_parts}
-use Rattle.cat_region.proofs.Tests.{le_of, lt_of, not_lt_of, positive_of, and-parts}
-use Rattle.cat_region.proofs.ExtentLemmas.{has, lies, is_in}
-use Rattle.cat_region.specs.inside.Parts.{IsPart}
-use Rattle.cat_region.proofs.PartLemmas.{IsPart-start, place-bound, one-more, one-less, not-below, not-above, lies_in}
-use Rattle.cat_region.proofs.PointLemmas.{sized, point_in-part}
-use Rattle.cat_region.proofs.AdmitLemmas.{IsAt, IsPart-after, few_of, at_index, some_left, is_admitted-left}
-use Rattle.cat_region.proofs.AdmitLemmas.{is_point-admitted, is_admitted-point_at, point_at-left}
-use Rattle.cat_region.proofs.DecisionLaws.{admits-of_IsInhabited}
-use Rattle.cat_region.proofs.BoundLemmas.{IsUpper, IsLower, IsBounded, IsBounded-after, IsBounded-start, rank-place}
+use Rattle.cat_region.specs.Points.{is_bound}
+use Rattle.cat_region.specs.Extents.{place, farthest}
+use Rattle.cat_region.specs.Chosen.{is_even, inner_parts, outer_parts}
+use Rattle.cat_region.specs.Choices.{plus, middle, between}
+use Rattle.cat_region.proofs.ExtentLemmas.{lies}
+use Rattle.cat_region.proofs.PartLemmas.{place-bound, one-more, one-less, not-below, lies_in}
+use Rattle.cat_region.proofs.BoundLemmas.{IsUpper, IsLower}
 use Rattle.cat_region.proofs.BoundLemmas.{even-place, odd-over, odd-under}
 use Rattle.cat_region.proofs.ValueLemmas.{value-place, value-over, value-under, value-middle}
 

@@ -8,8 +8,8 @@ use Rattle.std.proofs.lemmas.Bool.{or_parts}
 use Rattle.std.proofs.lemmas.List.Folds.{list_any-append}
 use Rattle.cat_guard.specs.declared.tree.CitedNode.{CitedNode}
 use Rattle.cat_guard.specs.declared.tree.CitedNode.TheVariants as cited
-use Rattle.cat_guard.specs.Trees.{Tree, is_whole, split_before, one_tree, named_before, cited_before, cited_trees_of}
-use Rattle.cat_guard.specs.Trees.{cited_tree_of, name_behind, with_named, named_from, main_of, expanded}
+use Rattle.cat_guard.specs.Trees.{Tree, is_whole, one_tree, named_before, cited_before, cited_trees_of}
+use Rattle.cat_guard.specs.Trees.{cited_tree_of, name_behind, named_from, main_of, expanded}
 use Rattle.cat_guard.specs.Trees as tree
 use Rattle.cat_guard.proofs.Exported.{both_true}
 use Rattle.cat_share.specs.Sharing.{same_tree, is_among, number_in, subtrees, with_tree, with_all, recurs_in, named_in}

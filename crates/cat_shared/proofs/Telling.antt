@@ -1,5 +1,5 @@
 -- What a node tells of its value.
-use Rattle.std.proofs.Common.{◌≡◌, ℕ, ℤ, Bool, List, Option, Some, None, Result, Ok, Err, Global, slice_get, refl}
+use Rattle.std.proofs.Common.{◌≡◌, ℕ, ℤ, Bool, List, Option, Some, None, Ok, Err, Global, slice_get, refl}
 use Rattle.std.proofs.Common.{rules}
 use Rattle.std.specs.declared.rc.Rc.{Rc}
 use Rattle.cat_pos.specs.declared.list.List.{List as Listed}
@@ -12,7 +12,7 @@ use Rattle.cat_scope.specs.declared.stop.Stop.TheVariants.{Stuck}
 use Rattle.cat_scope.specs.Replies.{known}
 use Rattle.cat_scope.specs.Composed.{part}
 use Rattle.cat_shared.specs.declared.shared.Shared.{Shared}
-use Rattle.cat_scope.specs.Projections.{truth, integer, decimal, money, date, duration, elements, parts, case_of}
+use Rattle.cat_scope.specs.Projections.{truth, integer, decimal, money, date, duration, elements, case_of}
 use Rattle.cat_shared.specs.declared.shared.Node.{Node}
 use Rattle.cat_shared.specs.declared.shared.Node.TheVariants as node
 use Rattle.cat_shared.specs.Nodes.{value_in}

@@ -1,5 +1,5 @@
 -- The parts of a node are less high than its value.
-use Rattle.std.specs.Prelude.{◌≡◌, ℕ, ◌≤◌, ◌+◌, max, List, [], ◌∷◌, map, Option, Some, None}
+use Rattle.std.specs.Prelude.{◌≡◌, ℕ, ◌≤◌, ◌+◌, List, [], ◌∷◌, map, Some, None}
 use Rattle.std.proofs.Common.{arith, rules}
 use denote.Param.Weighed.{most}
 use Rattle.cat_value.specs.declared.value.Value.{Value}

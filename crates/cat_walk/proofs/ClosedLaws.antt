@@ -20,8 +20,6 @@ use Rattle.cat_guard.specs.declared.tree.CitedTree.{CitedTree}
 use Rattle.cat_guard.specs.Judged.{judged_in, covers}
 use Rattle.cat_guard.specs.Soundness.{is_cut_of, atom_is_sound, target_is_sound, term_is_sound, is_sound}
 use Rattle.cat_guard.specs.Trees.{Tree, Closed, is_whole, with_answer, answering, IsCitedClosed, expanded}
-use Rattle.cat_guard.specs.Trees.{one_tree, split_before, named_before, cited_before, cited_trees_of, cited_tree_of}
-use Rattle.cat_guard.specs.Trees.{name_behind, with_named, named_from, main_of}
 use Rattle.cat_guard.specs.Trees as tree
 use Rattle.cat_guard.specs.Valuations.{dims_of}
 use Rattle.cat_guard.proofs.Exported.{both_true, all_more}

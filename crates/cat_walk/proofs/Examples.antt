@@ -7,7 +7,7 @@ use Rattle.cat_region.specs.Regions.{Constraints}
 use Rattle.cat_guard.specs.declared.table.Atom.{Atom}
 use Rattle.cat_guard.specs.declared.tree.CitedNode.TheVariants as cited
 use Rattle.cat_guard.specs.declared.tree.CitedTree.{CitedTree}
-use Rattle.cat_guard.specs.Trees.{Tree, expanded}
+use Rattle.cat_guard.specs.Trees.{expanded}
 use Rattle.cat_guard.specs.Trees as tree
 use Rattle.cat_walk.specs.declared.place.NodePlace.{NodePlace}
 use Rattle.cat_walk.specs.LeafPlaces.{leaf_places}

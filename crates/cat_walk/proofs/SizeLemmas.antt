@@ -8,7 +8,7 @@ use Rattle.std.proofs.lemmas.Option.{slice_get-map}
 use Rattle.cat_guard.specs.declared.tree.CitedNode.{CitedNode}
 use Rattle.cat_guard.specs.declared.tree.CitedNode.TheVariants as cited
 use Rattle.cat_guard.specs.declared.tree.CitedTree.{CitedTree}
-use Rattle.cat_guard.specs.Trees.{Tree, height, leaves, one_tree, named_before, cited_before, cited_trees_of}
+use Rattle.cat_guard.specs.Trees.{Tree, height, leaves, named_before, cited_before, cited_trees_of}
 use Rattle.cat_guard.specs.Trees.{cited_tree_of}
 use Rattle.cat_guard.specs.Trees.{name_behind, named_from, main_of, expanded}
 use Rattle.cat_guard.specs.Trees as tree

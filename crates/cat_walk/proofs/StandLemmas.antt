@@ -10,7 +10,7 @@ use Rattle.cat_guard.specs.declared.tree.CitedNode.{CitedNode}
 use Rattle.cat_guard.specs.declared.tree.CitedNode.TheVariants as cited
 use Rattle.cat_guard.specs.declared.tree.CitedTree.{CitedTree}
 use Rattle.cat_guard.specs.declared.tree.TreeNode.TheVariants as node
-use Rattle.cat_guard.specs.Trees.{Tree, split_before, node_before, one_tree, named_before, cited_before, cited_trees_of}
+use Rattle.cat_guard.specs.Trees.{Tree, node_before, one_tree, named_before, cited_before, cited_trees_of}
 use Rattle.cat_guard.specs.Trees.{cited_tree_of, name_behind, with_named, named_from, main_of, expanded}
 use Rattle.cat_guard.specs.Trees as tree
 use Rattle.cat_walk.specs.declared.place.NodePlace.{NodePlace}

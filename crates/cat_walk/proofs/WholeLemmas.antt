@@ -1,5 +1,5 @@
 -- What holds of leaves and of splits holds of the tree that a tree with citations stands for.
-use Rattle.std.proofs.Common.{◌≡◌, ℕ, zero, suc, ◌<◌, nat_lt, Bool, true, List, [], ◌∷◌, ◌++◌}
+use Rattle.std.proofs.Common.{◌≡◌, ℕ, zero, suc, ◌<◌, Bool, true, List, [], ◌∷◌, ◌++◌}
 use Rattle.std.proofs.Common.{Option, Some, None, slice_get, refl, sym, subst, arith, true≢false}
 use Rattle.std.specs.List.{list_all}
 use Rattle.cat_scope.specs.Names.{AllHave}
@@ -7,11 +7,11 @@ use Rattle.cat_guard.specs.declared.tree.CitedNode.{CitedNode}
 use Rattle.cat_guard.specs.declared.tree.CitedNode.TheVariants as cited
 use Rattle.cat_guard.specs.declared.tree.CitedTree.{CitedTree}
 use Rattle.cat_guard.specs.Trees.{Tree, is_whole, height, leaves, one_tree, named_before, cited_before, cited_trees_of}
-use Rattle.cat_guard.specs.Trees.{cited_tree_of, name_behind, with_named, named_from, main_of, expanded}
+use Rattle.cat_guard.specs.Trees.{cited_tree_of, name_behind, named_from, main_of, expanded}
 use Rattle.cat_guard.specs.Trees as tree
 use Rattle.cat_guard.proofs.Exported.{both_true}
 use Rattle.cat_walk.specs.LeafPlaces.{lists_of}
-use Rattle.cat_walk.specs.Walkable.{splits_pass, splits_below, nodes_pass, written_below}
+use Rattle.cat_walk.specs.Walkable.{splits_pass, nodes_pass}
 
 -- a property of leaves, and of splits on atoms that pass a test where both sides have it
 record IsMade (pass : ℕ → Bool) (has : Tree → Bool) : Type 0 where

@@ -1,6 +1,6 @@
 -- The items of a tree by the scopes that they are about.
-use Rattle.std.specs.Prelude.{◌≡◌, ◌<◌, ◌++◌, ℕ, Bool, false, List, [], ◌∷◌, length, Option, None, Some, filter_map}
-use Rattle.std.specs.Prelude.{get_or, nat_eq, option_map, set, slice_get}
+use Rattle.std.specs.Prelude.{◌≡◌, ◌<◌, ◌++◌, ℕ, List, [], ◌∷◌, length, Option, None, Some, filter_map}
+use Rattle.std.specs.Prelude.{get_or, option_map, set, slice_get}
 use Rattle.cat_value.specs.declared.decls.Decls.{Decls}
 use Rattle.cat_tree.specs.declared.program.Item.{Item}
 use Rattle.cat_tree.specs.declared.program.Item.TheVariants as item

@@ -1,6 +1,5 @@
-use Rattle.std.proofs.Common.{◌≡◌, ◌∙◌, List, [], sym}
-use Rattle.cat_pos.specs.declared.pos.Pos.{Pos}
-use Rattle.cat_except.specs.Faults.{in_targets, unknown_labels, split_labels, ambiguous_exceptions}
+use Rattle.std.proofs.Common.{◌∙◌, sym}
+use Rattle.cat_except.specs.Faults.{unknown_labels, split_labels, ambiguous_exceptions}
 use Rattle.cat_except.specs.inside.Finding.{groups_at_each}
 use Rattle.cat_except.proofs.Whole.{first_is_one, none_at_all}
 use Rattle.cat_except.proofs.check_labels.Goals as goal

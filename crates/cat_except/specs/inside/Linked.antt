@@ -1,5 +1,5 @@
 -- Targets whose groups stand in an order, as the code has them.
-use Rattle.std.specs.Prelude.{◌≡◌, ◌<◌, ℕ, ◌+◌, List, [], ◌∷◌, length, Option, Some, slice_index_or}
+use Rattle.std.specs.Prelude.{◌≡◌, ◌<◌, ℕ, ◌+◌, List, [], ◌∷◌, length, Option, slice_index_or}
 use Rattle.cat_pos.specs.declared.pos.Pos.{Pos}
 use Rattle.cat_pos.specs.declared.limits.TheConstants.{ENTRIES_BOUND}
 use Rattle.cat_value.specs.declared.outcome.Target.{Target}
@@ -8,15 +8,14 @@ use Rattle.cat_scope.specs.declared.defs.Def.{Def}
 use Rattle.cat_scope.specs.declared.forest.ForestGroup.{ForestGroup}
 use Rattle.cat_scope.specs.declared.forest.ForestTarget.{ForestTarget}
 use Rattle.cat_scope.specs.Names.{AllHave}
-use Rattle.cat_scope.specs.Groups.{Group, excepts, excepting}
+use Rattle.cat_scope.specs.Groups.{Group, excepting}
 use Rattle.cat_scope.specs.Forests.{forest_of_groups}
 use Rattle.cat_scope.specs.Chains.{HasNoCycle, HasShortChains}
 use Rattle.cat_except.specs.declared.refusal.ExceptRefusal.{ExceptRefusal}
 use Rattle.cat_except.specs.declared.refusal.ExceptRefusal.TheVariants as refusal
 use Rattle.cat_except.specs.declared.groups.Groups.{Groups}
 use Rattle.cat_except.specs.declared.linked.Linked.{Linked}
-use Rattle.cat_except.specs.Excepted.{exception_word, StandsOnCycle, StandsPastLimit}
-use Rattle.cat_except.specs.Causes.{StandsIn}
+use Rattle.cat_except.specs.Excepted.{exception_word}
 use Rattle.cat_except.specs.inside.Grouping.{defs_at, group_by, groups_at, ArePlaced}
 use Rattle.cat_except.specs.inside.Linking.{targets_from, lists_of}
 

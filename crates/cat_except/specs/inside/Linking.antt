@@ -1,5 +1,5 @@
 -- What each group excepts, as the code has it.
-use Rattle.std.specs.Prelude.{ℕ, ◌+◌, nat_eq, List, [], ◌∷◌, Option, Some, None, if◌then◌else◌}
+use Rattle.std.specs.Prelude.{ℕ, ◌+◌, List, [], ◌∷◌, Option}
 use Rattle.cat_scope.specs.Groups.{Group, target_of, paired}
 use Rattle.cat_except.specs.Excepted.{listed}
 

@@ -1,11 +1,11 @@
-use Rattle.std.proofs.Common.{◌≡◌, ◌∙◌, ◌<◌, ◌+◌, ◌++◌, [], ◌∷◌, List, Ok, Err, length, drop, get_or, map, rules, sym, subst, ap}
+use Rattle.std.proofs.Common.{◌≡◌, ◌∙◌, ◌<◌, ◌+◌, ◌++◌, [], ◌∷◌, List, length, drop, get_or, map, rules, sym, subst, ap}
 use Rattle.std.specs.List.{enumerate_from}
 use Rattle.std.proofs.lemmas.Result.{err_from_is_err_and}
 use Rattle.cat_scope.specs.declared.defs.Body.{Body}
 use Rattle.cat_value.specs.declared.declaration.Scope.{Scope}
 use Rattle.cat_names.specs.Accepted.{unordered}
 use Rattle.cat_names.specs.Bodies.{UnorderedBody, bodies_meant, body_found}
-use Rattle.cat_names.specs.Found.{Tells, each_found}
+use Rattle.cat_names.specs.Found.{each_found}
 use Rattle.cat_body.proofs.Whole.{each_off, each_on, front, unordered_more}
 use Rattle.cat_body.proofs.scopes.bodies.Goals as goal
 

@@ -1,4 +1,3 @@
-use Rattle.std.proofs.Common.{◌≡◌}
 use Rattle.cat_build.specs.inside.Forests.{AreForestsTo}
 use Rattle.cat_build.proofs.forests.forests_of.Given as goal
 

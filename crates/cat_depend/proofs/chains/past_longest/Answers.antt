@@ -1,4 +1,4 @@
-use Rattle.std.proofs.Common.{rules, ◌≡◌, ◌<◌, ◌+◌, ◌∙◌, ℕ, List, length, get_or, sym, ap, subst, arith}
+use Rattle.std.proofs.Common.{rules, ◌≡◌, ◌∙◌, length, get_or, sym, arith}
 use Rattle.std.proofs.lemmas.List.{get_or_default, length-set}
 use Rattle.cat_order.specs.Order.{dependencies_of}
 use Rattle.cat_depend.specs.inside.Chains.{longest_of}

@@ -1,4 +1,4 @@
-use Rattle.std.proofs.Common.{◌≡◌, ◌≤◌, ℕ, nat_le, IsTrue, length, take, get_or, All}
+use Rattle.std.proofs.Common.{◌≡◌, ◌≤◌, ℕ, nat_le, IsTrue, length, take, get_or}
 use Rattle.cat_order.specs.Order.{is_listed}
 use Rattle.cat_scope.specs.Chains.{is_within}
 use Rattle.cat_depend.proofs.chains.past_longest.Given as goal

@@ -1,7 +1,4 @@
-use Rattle.std.proofs.Common.{◌≡◌, ◌<◌, ◌+◌, ◌||◌, ℕ, true, false, IsTrue, length, All}
-use Rattle.cat_order.specs.Order.{is_listed}
-use Rattle.cat_order.specs.Cycle.{DependsOn}
-use Rattle.cat_depend.specs.Causes.{LeadsTo}
+use Rattle.std.proofs.Common.{◌+◌, length}
 use Rattle.cat_depend.specs.inside.Searching.{left_over}
 use Rattle.cat_depend.proofs.Searching.{IsUnderWay}
 use Rattle.cat_depend.proofs.cycle.leads_to.Given as goal

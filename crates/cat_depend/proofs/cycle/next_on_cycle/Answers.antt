@@ -1,11 +1,9 @@
-use Rattle.std.proofs.Common.{◌≡◌, ◌<◌, ◌≤◌, ◌∙◌, ℕ, List, [], length, get_or, true, false, Bool, arith, subst, sym, ap}
+use Rattle.std.proofs.Common.{◌≡◌, ◌<◌, ◌≤◌, ◌∙◌, ℕ, List, [], length, get_or, true, false, subst, sym, ap}
 use Rattle.std.proofs.Common.{IsTrue}
-use Rattle.std.proofs.lemmas.List.{with_items_is, get_or_default, take_all}
+use Rattle.std.proofs.lemmas.List.{with_items_is, take_all}
 use Rattle.std.specs.Vec.{with_items}
 use Rattle.cat_order.specs.Order.{dependencies_of, is_listed}
-use Rattle.cat_order.specs.Cycle.{DependsOn}
-use Rattle.cat_depend.specs.Causes.{LeadsTo}
-use Rattle.cat_depend.specs.inside.Searching.{is_marked, IsSearched, Finds}
+use Rattle.cat_depend.specs.inside.Searching.{is_marked, Finds}
 use Rattle.cat_depend.proofs.Cycles.{within_of_IsOnCycle}
 use Rattle.cat_depend.proofs.Listing.{listed_at}
 use Rattle.cat_depend.proofs.Searching as way

@@ -1,4 +1,4 @@
-use Rattle.std.proofs.Common.{◌≡◌, ◌∙◌, List, ℕ, length, sym, ap, subst, IfErr, rules}
+use Rattle.std.proofs.Common.{◌≡◌, ◌∙◌, List, ℕ, length, ap, subst, IfErr}
 use Rattle.cat_order.specs.Cause.{HasCause}
 use Rattle.cat_depend.specs.declared.naming.Wanted.TheVariants.{Items}
 use Rattle.cat_scope.specs.Orders.{item_dependencies}

@@ -1,4 +1,4 @@
-use Rattle.std.proofs.Common.{◌≡◌, ◌<◌, ◌∙◌, ℕ, List, length, IfOk, sym, subst}
+use Rattle.std.proofs.Common.{◌≡◌, ◌∙◌, IfOk, sym, subst}
 use Rattle.cat_order.specs.Order.{IsOrder}
 use Rattle.cat_scope.specs.Orders.{item_dependencies, function_calls}
 use Rattle.cat_depend.specs.declared.naming.Wanted.TheVariants.{Items, Functions}

@@ -1,6 +1,4 @@
-use Rattle.std.proofs.Common.{rules, ◌≡◌, ◌<◌, length, ◌∙◌, sym, ap, arith, subst, take}
-use Rattle.std.proofs.lemmas.List.{take_more}
-use Rattle.cat_depend.specs.inside.Wanted.{lists_from}
+use Rattle.std.proofs.Common.{rules, ◌∙◌, sym}
 use Rattle.cat_depend.proofs.Lists as lists
 use Rattle.cat_depend.proofs.items.named_by_items.Goals as goal
 use Rattle.cat_depend.proofs.items.named_by_items.Goals.{then-wants+in_ok-add_definition, else-wants}

@@ -1,5 +1,4 @@
-use Rattle.std.proofs.Common.{◌≡◌, ◌∙◌, refl, IfOk, subst}
-use Rattle.cat_depend.specs.Past.{TellsPast}
+use Rattle.std.proofs.Common.{◌∙◌, refl}
 use Rattle.cat_depend.specs.Listed.{listed_calls}
 use Rattle.cat_depend.proofs.Measured.{IsTopological-of_IsOrder}
 use Rattle.cat_depend.proofs.scopes.long_scope.Goals as goal

@@ -1,4 +1,4 @@
-use Rattle.std.proofs.Common.{◌≡◌, ◌≤◌, take, length}
+use Rattle.std.proofs.Common.{take}
 use Rattle.cat_except.specs.Parted.{ArePartedBy}
 use Rattle.cat_except.proofs.by_target.definitions_by_target.Given as goal
 

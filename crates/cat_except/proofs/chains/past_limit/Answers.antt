@@ -1,12 +1,10 @@
-use Rattle.std.proofs.Common.{rules, ◌≡◌, ◌∙◌, ℕ, ◌+◌, ◌<◌, ◌≤◌, IfSome, set, refl, List, [], ◌∷◌, ◌++◌, get_or, take}
-use Rattle.std.proofs.Common.{sym, subst, ap, arith, length, Option}
+use Rattle.std.proofs.Common.{◌∙◌, ℕ, ◌<◌, ◌≤◌, IfSome, set, refl, List, get_or, take}
+use Rattle.std.proofs.Common.{sym, subst, ap, arith, length}
 use Rattle.std.proofs.lemmas.List.{take_more, take_all}
-use Rattle.cat_order.specs.Order.{is_ready}
 use Rattle.cat_except.specs.declared.chains.Chain.{Chain}
-use Rattle.cat_except.specs.inside.Linking.{lists_of}
 use Rattle.cat_scope.specs.Chains.{longest_chain}
 use Rattle.cat_except.specs.inside.Chains.{AreMeasured, chain_at, target_at, one_longer}
-use Rattle.cat_except.proofs.Measured.{ready_within, target_fits, measured_step, too_long, none_measured, all_short}
+use Rattle.cat_except.proofs.Measured.{ready_within, target_fits, measured_step, too_long, all_short}
 use Rattle.cat_except.proofs.chains.past_limit.Goals as goal
 
 pub one_longer-chain-requires-clause-group : goal.one_longer-chain-requires-clause-group

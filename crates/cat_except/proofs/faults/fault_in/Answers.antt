@@ -1,7 +1,5 @@
 use Rattle.std.proofs.Common.{sym, ◌∙◌}
-use Rattle.cat_except.specs.Faults.{in_groups, in_targets}
-use Rattle.cat_except.specs.inside.Grouping.{groups_at}
-use Rattle.cat_except.specs.inside.Finding.{kind_of, groups_at_each}
+use Rattle.cat_except.specs.inside.Finding.{kind_of}
 use Rattle.cat_except.proofs.Firsts.{here, behind, in_targets_step}
 use Rattle.cat_except.proofs.faults.fault_in.Goals as goal
 

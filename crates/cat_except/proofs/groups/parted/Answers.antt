@@ -1,7 +1,7 @@
-use Rattle.std.proofs.Common.{rules, sym, ap, ◌∙◌, length, List, get_or, ℕ, ◌≡◌, refl, Some, slice_get}
+use Rattle.std.proofs.Common.{rules, sym, ap, ◌∙◌, length, List, get_or, ℕ, ◌≡◌, refl}
 use Rattle.std.proofs.lemmas.List.{get_or_default}
 use Rattle.std.proofs.lemmas.Option.{slice_get_read}
-use Rattle.cat_scope.specs.Groups.{Key, Labelled, Base, Alone}
+use Rattle.cat_scope.specs.Groups.{Labelled, Base, Alone}
 use Rattle.cat_except.specs.contracts.group_key.GroupKeyPartialEq.TheImpl as key_eq
 use Rattle.cat_except.specs.declared.group_key.GroupKey.{GroupKey}
 use Rattle.cat_except.proofs.Grouped.{IsSameKey, one_number_more, as_many_keys}

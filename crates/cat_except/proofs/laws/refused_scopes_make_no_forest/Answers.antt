@@ -1,4 +1,3 @@
-use Rattle.std.proofs.Common.{rules}
 use Rattle.cat_except.proofs.Whole.{no_forest}
 use Rattle.cat_except.proofs.laws.refused_scopes_make_no_forest.Goals as goal
 

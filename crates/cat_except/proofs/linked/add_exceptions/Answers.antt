@@ -1,7 +1,6 @@
-use Rattle.std.proofs.Common.{rules, ◌≡◌, ◌∙◌, ◌<◌, ℕ, List, length, Option, Some, None, get_or, sym, ap, arith}
-use Rattle.std.proofs.lemmas.List.{length-set, get_or_default}
+use Rattle.std.proofs.Common.{rules, ◌∙◌, ◌<◌, length, Some, None, sym, ap}
+use Rattle.std.proofs.lemmas.List.{length-set}
 use Rattle.cat_except.specs.inside.Linked.{with_pairs}
-use Rattle.cat_except.specs.inside.Chains.{target_at}
 use Rattle.cat_except.proofs.Pairs.{pairs_none, add_step}
 use Rattle.cat_except.proofs.linked.add_exceptions.Goals as goal
 

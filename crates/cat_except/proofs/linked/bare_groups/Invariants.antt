@@ -1,5 +1,5 @@
 use Rattle.std.proofs.Common.{◌≡◌, ◌++◌}
-use Rattle.std.specs.Vec.Iter.{into_iter_items, into_iter_len}
+use Rattle.std.specs.Vec.Iter.{into_iter_items}
 use Rattle.cat_except.specs.inside.Linked.{bare_groups}
 use Rattle.cat_except.proofs.linked.bare_groups.Given as goal
 

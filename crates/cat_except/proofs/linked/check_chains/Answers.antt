@@ -1,4 +1,4 @@
-use Rattle.std.proofs.Common.{◌≡◌, ◌∙◌, ◌<◌, ℕ, List, length, Option, Some, IsSome, sym, ap, subst}
+use Rattle.std.proofs.Common.{◌≡◌, ◌<◌, ℕ, List, length, Some, IsSome, sym, subst}
 use Rattle.cat_except.specs.declared.linked.Linked.{Linked}
 use Rattle.cat_except.specs.inside.Grouping.{groups_at}
 use Rattle.cat_except.specs.inside.Linking.{targets_from}

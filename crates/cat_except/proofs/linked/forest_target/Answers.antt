@@ -1,4 +1,4 @@
-use Rattle.std.proofs.Common.{rules, ◌≡◌, ◌∙◌, ◌<◌, ℕ, List, length, Option, Some, sym, ap, subst, arith}
+use Rattle.std.proofs.Common.{◌≡◌, ◌∙◌, ◌<◌, ℕ, List, length, Option, Some, ap, subst, arith}
 use Rattle.std.proofs.lemmas.List.{with_items_is}
 use Rattle.cat_scope.specs.declared.forest.ForestGroup.{ForestGroup}
 use Rattle.cat_except.specs.inside.Linking.{pairs_at}

@@ -1,10 +1,8 @@
-use Rattle.std.proofs.Common.{◌≡◌, ◌∙◌, ◌<◌, ℕ, List, [], ◌∷◌, ◌++◌, length, Option, Some, sym, ap, subst, arith}
+use Rattle.std.proofs.Common.{◌≡◌, ◌∙◌, List, [], ◌∷◌, ◌++◌, Some, sym, ap, subst}
 use Rattle.std.proofs.lemmas.List.{append_assoc}
 use Rattle.std.specs.Vec.Iter.{into_iter_items}
-use Rattle.cat_scope.specs.declared.forest.ForestTarget.{ForestTarget}
 use Rattle.cat_scope.specs.Names.{AllHave}
 use Rattle.cat_except.specs.declared.linked.Linked.{Linked}
-use Rattle.cat_except.specs.inside.Grouping.{groups_at}
 use Rattle.cat_except.specs.inside.Linked.{IsLinked}
 use Rattle.cat_except.proofs.EachTarget.{forest_step, linked_few, linked_low}
 use Rattle.cat_except.proofs.linked.forest_targets.Goals as goal

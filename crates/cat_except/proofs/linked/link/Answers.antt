@@ -1,4 +1,4 @@
-use Rattle.std.proofs.Common.{rules, ◌≡◌, ◌∙◌, ◌<◌, ℕ, List, [], length, Option, Some, IsSome, get_or, sym, ap, subst}
+use Rattle.std.proofs.Common.{rules, ◌≡◌, ◌∙◌, ◌<◌, ℕ, List, length, Option, Some, IsSome, sym, ap, subst}
 use Rattle.std.proofs.Common.{arith}
 use Rattle.cat_order.specs.Order.{AreItems, IsOrder}
 use Rattle.cat_order.specs.Cycle.{IsOnCycle}
@@ -6,8 +6,6 @@ use Rattle.cat_order.specs.Cause.{HasCause}
 use Rattle.cat_order.specs.declared.refusal.OrderRefusal.{OrderRefusal}
 use Rattle.cat_order.specs.declared.refusal.OrderRefusal.TheVariants.{Cycle}
 use Rattle.cat_scope.specs.Groups.{Group}
-use Rattle.cat_scope.specs.Chains.{HasNoCycle}
-use Rattle.cat_except.specs.Excepted.{excepted_of}
 use Rattle.cat_except.specs.inside.Grouping.{groups_at}
 use Rattle.cat_except.specs.inside.Linking.{targets_from, lists_of}
 use Rattle.cat_except.specs.inside.Linked.{word_at}

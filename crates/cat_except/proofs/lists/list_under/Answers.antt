@@ -1,8 +1,7 @@
-use Rattle.std.proofs.Common.{rules, ◌≡◌, ◌∙◌, ℕ, Bool, true, false, not, List, [], ◌∷◌, ◌++◌, length, set, get_or}
-use Rattle.std.proofs.Common.{OnOk, refl, sym, ap, Vec, Global}
+use Rattle.std.proofs.Common.{rules, ◌≡◌, ◌∙◌, ℕ, Bool, true, false, List, [], ◌∷◌, ◌++◌}
+use Rattle.std.proofs.Common.{ap, Vec, Global}
 use Rattle.std.proofs.lemmas.List.{get_or_default}
-use Rattle.std.specs.List.{list_any, position_or_len}
-use Rattle.cat_except.specs.inside.Listing.{with_number}
+use Rattle.std.specs.List.{list_any}
 use Rattle.cat_except.proofs.Listings.{with_room, room_new, room_old, put_at, on_ok}
 use Rattle.cat_except.proofs.lists.list_under.Goals.{then-is_new+in_ok-push, else-is_new}
 use Rattle.cat_except.proofs.lists.list_under.Goals as goal

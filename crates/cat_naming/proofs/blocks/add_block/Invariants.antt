@@ -1,6 +1,6 @@
 use Rattle.std.proofs.Common.{◌≡◌, ◌++◌, take}
 use Rattle.std.specs.Prelude.{flat_map}
-use Rattle.cat_names.specs.NameFaults.{unknown_in_condition, use_faults}
+use Rattle.cat_names.specs.NameFaults.{use_faults}
 use Rattle.cat_naming.specs.Tabled.{known_at}
 use Rattle.cat_naming.proofs.blocks.add_block.Given as goal
 

@@ -1,4 +1,4 @@
-use Rattle.std.proofs.Common.{◌≡◌, ◌∙◌, ◌++◌, Bool, OnOk, ap, subst, map}
+use Rattle.std.proofs.Common.{◌≡◌, ◌∙◌, ◌++◌, Bool, OnOk, ap, subst}
 use Rattle.cat_names.specs.Unknown.{is_name, unless}
 use Rattle.cat_names.specs.Written.{scope_names_in}
 use Rattle.cat_naming.proofs.Knowing.{known_name, ids}

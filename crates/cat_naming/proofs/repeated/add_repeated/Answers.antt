@@ -1,6 +1,5 @@
-use Rattle.std.proofs.Common.{rules, ◌≡◌, ◌∙◌, true, false, not, bytes_eq, sym, ap, subst, cond, ℕ, List}
+use Rattle.std.proofs.Common.{rules, ◌≡◌, true, false, bytes_eq, sym, subst, cond, ℕ, List}
 use Rattle.std.specs.List.{list_any}
-use Rattle.cat_tree.specs.declared.name.Name.{Name}
 use Rattle.cat_naming.proofs.Twice.{fresh_name, seen_name, seen_more}
 use Rattle.cat_naming.proofs.repeated.add_repeated.Goals as goal
 

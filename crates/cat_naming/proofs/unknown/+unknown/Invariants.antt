@@ -1,6 +1,6 @@
 use Rattle.std.proofs.Common.{◌≡◌, ◌++◌, take}
 use Rattle.std.specs.Prelude.{flat_map}
-use Rattle.cat_names.specs.Unknown.{unknown_in, twice, in_pattern, bound_by}
+use Rattle.cat_names.specs.Unknown.{unknown_in, in_pattern, bound_by}
 use Rattle.cat_naming.specs.Tabled.{known_at}
 use Rattle.cat_naming.proofs.unknown.+unknown.Given as goal
 
