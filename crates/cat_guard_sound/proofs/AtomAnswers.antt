@@ -65,11 +65,11 @@ params_agree ns item (Some n) None ps qs t u h g =
 
 -- ---- values for names
 
-any_values_length : (n : ℕ) → length (any_values n) ≡ n
+pub any_values_length : (n : ℕ) → length (any_values n) ≡ n
 any_values_length zero = refl
 any_values_length (suc n) = ap suc (any_values_length n)
 
-append_nil : (vs : List Value) → vs ++ [] ≡ vs
+pub append_nil : (vs : List Value) → vs ++ [] ≡ vs
 append_nil [] = refl
 append_nil (v ∷ vs) = ap (λ ws. v ∷ ws) (append_nil vs)
 

@@ -7,6 +7,7 @@ pub mod Numbered
 pub mod SameSelf
 pub mod AtomAnswers
 pub mod DefFollows
+pub mod TableGroups
 pub mod TargetFollows
 pub mod TargetsListed
 pub mod ScopeFollows

@@ -101,8 +101,12 @@ term_self q =
     both_are (same_tree q.standing q.standing q.expr q.expr) (same_dim q.dim q.dim)
     (test_whole q.standing q.standing (same_self q.standing q.expr)) (dim_self q.dim)
 
+-- two questions with one cut are one where their terms are
+pub question_of_term : (q : Question) → same_term q q ≡ true → same_question q q ≡ true
+question_of_term q self = both_are (same_term q q) (same_cut q.cut q.cut) self (cut_self q.cut)
+
 pub question_self : (q : Question) → same_question q q ≡ true
-question_self q = both_are (same_term q q) (same_cut q.cut q.cut) (term_self q) (cut_self q.cut)
+question_self q = question_of_term q (term_self q)
 
 -- ---- and what they say
 

@@ -54,7 +54,7 @@ use Rattle.cat_leaf_sound.proofs.FilledEnvs.{filled, filled_given, filled_done, 
 use Rattle.cat_leaf_sound.proofs.Goes.{covered_goes}
 use Rattle.cat_leaf_sound.proofs.JudgedTargets.{variable_covered, inner_covered}
 use Rattle.cat_leaf_sound.proofs.Lists.{all_mapped}
-use Rattle.cat_leaf_sound.proofs.Numbered.{all_are}
+use Rattle.cat_guard_sound.proofs.Exported.{all_are}
 use Rattle.cat_leaf_sound.proofs.PointsOfTerms.{points_in, points_is, term_point}
 use Rattle.cat_leaf_sound.proofs.PrefixRuns.{StandsAt, front_behind, front_stands, needed_before}
 use Rattle.cat_leaf_sound.proofs.ReadyItems.{DoneAt, ready}

@@ -8,7 +8,6 @@ pub mod StandingDefs
 pub mod FilledEnvs
 pub mod JudgedTargets
 pub mod Goes
-pub mod Numbered
 pub mod OneQuestions
 pub mod PointsOfTerms
 pub mod TableGoes

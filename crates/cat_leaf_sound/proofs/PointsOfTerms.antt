@@ -1,12 +1,7 @@
 -- The valuation in which each term of a scope has the point of what it evaluates to.
-use Rattle.std.proofs.Common.{◌≡◌, ℕ, zero, suc, ◌<◌, Bool, true, false, ◌&&◌, not, IsTrue, List, [], ◌∷◌, ◌++◌}
+use Rattle.std.proofs.Common.{◌≡◌, ℕ, zero, suc, ◌<◌, Bool, true, false, IsTrue, List, [], ◌∷◌}
 use Rattle.std.proofs.Common.{length, Option, Some, None, Ok, Err, slice_get, refl, sym, ap, ◌∙◌, subst, arith}
-use Rattle.std.proofs.Common.{true≢false, if◌then◌else◌}
-use Rattle.cat_value.specs.declared.ty.Ty.{Ty}
-use Rattle.cat_value.specs.declared.value.Value.{Value}
-use Rattle.cat_value.specs.declared.declaration.Kind.{Kind}
-use Rattle.cat_value.specs.declared.declaration.Kind.TheVariants as kind
-use Rattle.cat_value.specs.declared.declaration.ItemDecl.{ItemDecl}
+use Rattle.std.proofs.Common.{if◌then◌else◌}
 use Rattle.cat_value.specs.declared.outcome.Target.{Target}
 use Rattle.cat_region.specs.declared.dim.Dim.{Dim}
 use Rattle.cat_region.specs.declared.point.Point.{Point}
@@ -15,12 +10,12 @@ use Rattle.cat_region.specs.Points.{is_point, answer}
 use Rattle.cat_region.specs.Regions.{Valuation, IsValuation, is_point_of}
 use Rattle.cat_scope.specs.declared.defs.Def.{Def}
 use Rattle.cat_scope.specs.Replies.{Reply}
-use Rattle.cat_scope.specs.Names.{Names, AllHave, IsOneOf, is_called}
+use Rattle.cat_scope.specs.Names.{Names, AllHave, IsOneOf}
 use Rattle.cat_scope.specs.Naming.{IsTargetAt}
 use Rattle.cat_scope.specs.WellFormed.{DefTyped}
 use Rattle.cat_scope.specs.Same.{Standing, kept}
 use Rattle.cat_scope.specs.Eval.{Env, eval}
-use Rattle.cat_sound.proofs.Exported.{all_more, same_gives, same_some}
+use Rattle.cat_sound.proofs.Exported.{all_more, same_gives}
 use Rattle.cat_guard.specs.declared.table.Term.{Term}
 use Rattle.cat_guard.specs.Numbering.{firsts}
 use Rattle.cat_guard.specs.Questions.{Question}
@@ -32,8 +27,9 @@ use Rattle.cat_guard.specs.PointValues.{point_of, point_or, point_at, default_po
 use Rattle.cat_guard_sound.specs.Evaluations.{any_values}
 use Rattle.cat_guard_sound.proofs.Exported.{IsOfDef, targets_all, firsts_all, all_at}
 use Rattle.cat_leaf_sound.proofs.Lists.{all_mapped}
-use Rattle.cat_leaf_sound.proofs.Numbered.{numbered, get_map, all_are}
-use Rattle.cat_leaf_sound.proofs.OneQuestions.{question_self, IsOneTerm, one_term, one_question}
+use Rattle.cat_guard_sound.proofs.Exported.{numbered, get_map, all_are}
+use Rattle.cat_guard_sound.proofs.Exported.{question_of_term, IsOneTerm, one_term, one_question}
+use Rattle.cat_guard_sound.proofs.Exported.{params_agree, any_values_length, append_nil, alike_points}
 
 -- the point of a term, where there is one: of what it evaluates to with any arguments
 abbrev pub term_point : Env → Option Term → Point
@@ -43,41 +39,7 @@ term_point env (Some term) = point_at term.dim (eval env term.expr (any_values t
 abbrev pub points_in : Env → List Term → Valuation
 points_in env terms i = term_point env (slice_get terms i)
 
--- ---- parameters of targets of one item
-
-not_called : (decl : ItemDecl) (scope : ℕ) (rest : Bool) → IsTrue (not (is_called decl.kind) && rest)
-    → decl.kind ≡ kind.Called scope → ⊥
-not_called decl scope rest h e = true≢false (sym (subst (λ (k : Kind). IsTrue (not (is_called k) && rest)) e h))
-
-params_agree : (ns : Names) (item : ℕ) (inner other : Option ℕ) (ps qs : List Ty) (t u : Ty)
-    → IsTargetAt ns item inner ps t → IsTargetAt ns item other qs u → ps ≡ qs
-params_agree ns item None None ps qs t u h g =
-    h.params_are ∙ ap (λ (i : ItemDecl). i.params) (same_some h.decl g.decl (sym h.decl_is ∙ g.decl_is))
-    ∙ sym g.params_are
-params_agree ns item (Some n) (Some m) ps qs t u h g = h.params_are ∙ sym g.params_are
-params_agree ns item None (Some m) ps qs t u h g =
-    absurd (not_called h.decl g.scope _ h.defined
-    (ap (λ (i : ItemDecl). i.kind) (same_some h.decl g.called (sym h.decl_is ∙ g.called_is)) ∙ g.kind_is))
-params_agree ns item (Some n) None ps qs t u h g =
-    absurd (not_called g.decl h.scope _ g.defined
-    (ap (λ (i : ItemDecl). i.kind) (same_some g.decl h.called (sym g.decl_is ∙ h.called_is)) ∙ h.kind_is))
-
 -- ---- points
-
-any_values_length : (n : ℕ) → length (any_values n) ≡ n
-any_values_length zero = refl
-any_values_length (suc n) = ap suc (any_values_length n)
-
-append_nil : (vs : List Value) → vs ++ [] ≡ vs
-append_nil [] = refl
-append_nil (v ∷ vs) = ap (λ ws. v ∷ ws) (append_nil vs)
-
--- the point of what has the same value or none is the same
-alike_points : (d : Dim) (r s : Reply) → kept r ≡ kept s → point_at d r ≡ point_at d s
-alike_points d (Ok v) (Ok w) h = ap (λ x. point_at d (Ok x)) (same_some v w h)
-alike_points d (Ok v) (Err stop) h = absurd (cc)
-alike_points d (Err stop) (Ok w) h = absurd (cc)
-alike_points d (Err stop) (Err other) h = refl
 
 point_is_of : (d : Dim) → IsTrue (is_point d (default_point d)) → (r : Reply) → IsTrue (is_point d (point_at d r))
 point_is_of d default (Err s) = default
@@ -171,7 +133,7 @@ module _ (ns : Names) (scope : ℕ) (defs : List Def) (typed : AllHave (DefTyped
     pub atom_is : (q : Question) → IsOneOf q qs → Asked q
         → holds_at (atoms_of qs) at (atom_number qs q) ≡ answer q.cut (point_at q.dim (value_at q))
     atom_is q among o =
-        let f = numbered same_question (λ r. question_self r (self r)) qs q among in
+        let f = numbered same_question (λ r. question_of_term r (self r)) qs q among in
         let one = one_question f.value q f.is in
         let here = all_at Asked (firsts same_question [] qs) (atom_number qs q) f.value
         (firsts_all Asked same_question [] qs (targets_all ns scope defs typed targets targets)) f.there in

@@ -39,7 +39,7 @@ use Rattle.cat_guard_sound.proofs.Exported.{IsOfDef, targets_all}
 use Rattle.cat_leaf_sound.proofs.Goes as ends
 use Rattle.cat_leaf_sound.proofs.Goes.{def_goes}
 use Rattle.cat_leaf_sound.proofs.Lists.{among_all}
-use Rattle.cat_leaf_sound.proofs.Numbered.{all_are, one_back, one_front}
+use Rattle.cat_guard_sound.proofs.Exported.{all_are, one_back, one_front}
 use Rattle.cat_leaf_sound.proofs.OneQuestions.{condition_here}
 use Rattle.cat_leaf_sound.proofs.PointsOfTerms.{points_in, atom_is}
 use Rattle.cat_leaf_sound.proofs.StandingDefs.{target_of_def}
