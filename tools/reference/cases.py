@@ -73,6 +73,14 @@ def audits():
             yield case.name, want, {audit(files_of(case), words[2], words[1], budget)}
 
 
+def statute_audits():
+    """The audit of each statute of the examples: the file that keeps it, what that says, and the reply."""
+    for law in sorted((TOP / 'examples').glob('*/law.md')):
+        kept, scope = law.parent / 'audit.txt', (law.parent / 'scope').read_text().strip()
+        want = kept.read_text().rstrip('\n') if kept.exists() else ''
+        yield kept, want, audit({'law.md': law.read_bytes()}, 'law.md', scope)
+
+
 def without_places(reply):
     """What a program that knows the law's text alone can tell of a reply."""
     return reply if reply.startswith('{') else reply.split(' at ')[0]
