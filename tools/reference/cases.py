@@ -2,6 +2,7 @@
 import pathlib, re, subprocess, sys
 
 from .answers import replies
+from .certificate import check
 from .report import audit
 
 TOP = pathlib.Path(__file__).resolve().parent.parent.parent
@@ -71,6 +72,22 @@ def audits():
         if words[:1] == ['audit'] and want.startswith('audit '):
             budget = int(words[words.index('--cases') + 1]) if '--cases' in words else 100_000
             yield case.name, want, {audit(files_of(case), words[2], words[1], budget)}
+
+
+def checks():
+    """Each case that checks a certificate of a scope which there is, and each audit of a statute that has one: its name,
+    what it expects, and the reply."""
+    for case in case_folders():
+        words = (case / 'words').read_text().splitlines() if (case / 'words').exists() else []
+        want = (case / 'stdout').read_text().rstrip('\n') if (case / 'stdout').exists() else ''
+        if words[:1] == ['check'] and want.startswith(('Yes', 'certificate refused')) and not (case / 'make').exists():
+            files = files_of(case)
+            yield case.name, want, {check(files, words[2], words[1], files[(words[3:] or ['-'])[0]])}
+    for kept in sorted((TOP / 'examples').glob('*/audit.txt')):
+        if b'\ncatala-certificate' in kept.read_bytes():
+            law = {'law.md': (kept.parent / 'law.md').read_bytes()}
+            reply = check(law, 'law.md', (kept.parent / 'scope').read_text().strip(), kept.read_bytes())
+            yield '%s check' % kept.parent.name, 'Yes', {reply}
 
 
 def statute_audits():
