@@ -1,0 +1,110 @@
+"""What tools/measure tells of audits: of bands, beside z3 and beside the check of the certificate, and of `drill`.
+
+Of the forms in which z3 may be asked this is the fastest that was found: truth values for the bounds, in their order. With
+an integer it takes up to ten times as long; a sum of indicators, `at-least`, all pairs, and one band after another take longer still."""
+import random, shutil, subprocess, sys
+
+from measure_runs import measured
+
+COUNTS = 100, 1_000, 10_000
+MOST = 600
+HEAD = ['```catala', 'declaration scope Bands:', '  input income content money', '  output rate content integer', 'scope Bands:']
+
+
+def bands(count, order):
+    """Bands of a thousand each: the bound from which one holds, but for the first, and the one in front of which it ends."""
+    made = [(1_000 * k if k else None, 1_000 * (k + 1) if k + 1 < count else None) for k in range(count)]
+    if order == 'shuffled':
+        random.Random(0).shuffle(made)
+    return made
+
+
+def joined(band, forms, word):
+    """What the bounds of a band ask, by the forms of the lower and of the upper one."""
+    return word.join(form % bound for bound, form in zip(band, forms) if bound is not None)
+
+
+def source(made):
+    """A scope with a definition for each band."""
+    asked = [joined(band, ['income >= $%d', 'income < $%d'], ' and ') for band in made]
+    lines = ['  definition rate under condition %s consequence equals %d' % (text, k) for k, text in enumerate(asked)]
+    return '\n'.join([*HEAD, *lines, '```', ''])
+
+
+def cuts(made):
+    """For z3, of each bound whether the income is below it, which implies that it is below the next one."""
+    bounds = sorted({bound for band in made for bound in band if bound is not None})
+    lines = ['(declare-const below%d Bool)' % bound for bound in bounds]
+    return lines + ['(assert (=> below%d below%d))' % pair for pair in zip(bounds, bounds[1:])]
+
+
+def held(band):
+    """That the income is in a band."""
+    return '(and %s)' % joined(band, ['(not below%d)', 'below%d'], ' ')
+
+
+def in_none(made):
+    """Whether some income is in no band."""
+    return '\n'.join([*cuts(made), *('(assert (not %s))' % held(band) for band in made), '(check-sat)', ''])
+
+
+def in_two(made):
+    """Whether some income is in two bands: of each half of them whether one has it and whether two have, half by half."""
+    lines, parts = [], [(held(band), 'false') for band in made]
+    while len(parts) > 1:
+        joint = []
+        for (one, two), (other, others) in zip(parts[::2], parts[1::2]):
+            k = len(lines)
+            lines.append('(declare-const a%d Bool) (declare-const t%d Bool) (assert (=> a%d (or %s %s))) '
+                         '(assert (=> t%d (or %s %s (and %s %s))))' % (k, k, k, one, other, k, two, others, one, other))
+            joint.append(('a%d' % k, 't%d' % k))
+        parts = joint + parts[2 * len(joint):]
+    return '\n'.join([*cuts(made), *lines, '(assert %s)' % parts[0][1], '(check-sat)', ''])
+
+
+def cells(took, memory):
+    return '%s | %.0f MiB' % ('%.2f s' % took if took < MOST else 'over %d s' % MOST, memory)
+
+
+def of_z3(folder, made):
+    """What z3 takes for both questions, each asked for itself."""
+    told = []
+    for ask in (in_none, in_two):
+        took, memory, reply = measured(folder, ['z3', '-in'], ask(made).encode(), MOST)
+        told.append(cells(took, memory))
+        if reply != b'unsat\n' and took < MOST:
+            print('z3 answers %r' % reply[:100], file=sys.stderr)
+    return told
+
+
+def audits(folder, program):
+    has_z3 = shutil.which('z3') is not None
+    version = subprocess.run(['z3', '--version'], stdout=subprocess.PIPE).stdout.decode().split()[2] if has_z3 else 'is not there'
+    print('\n| Bands | in order | audit | memory | check | memory | z3 %s: in no band | memory | in two bands | memory |' % version)
+    print('|---|---|---|---|---|---|---|---|---|---|')
+    for count in COUNTS:
+        for order in ('in order', 'shuffled'):
+            made = bands(count, order)
+            (folder / 'a.md').write_text(source(made))
+            took, memory, audit = measured(folder, [program, 'audit', 'Bands', 'a.md'], most=MOST)
+            told = [cells(took, memory)]
+            if b'\nverdict Complete\n' not in audit:
+                print('%d bands: %r' % (count, audit[:100]), file=sys.stderr)
+            (folder / 'certificate').write_bytes(audit)
+            took, memory, reply = measured(folder, [program, 'check', 'Bands', 'a.md', 'certificate'], most=MOST)
+            told.append(cells(took, memory))
+            if reply != b'Yes\n':
+                print('%d bands: %r' % (count, reply[:100]), file=sys.stderr)
+            told += of_z3(folder, made) if has_z3 else ['', '', '', '']
+            print('| %d | %s | %s |' % (count, order, ' | '.join(told)), flush=True)
+
+
+def drills(folder, program):
+    print('\n| Bands of `drill` | time | memory |\n|---|---|---|')
+    for count in (1, 10, 100, 1_000):
+        took, memory, reply = measured(folder, [program, 'drill', str(count), 'none'], most=MOST)
+        total = sum(run * count // 1_000 for run in range(1_000))
+        want = 'bands %d runs 1000 sum %d leaves %d Complete\n' % (count, total, count)
+        print('| %d | %s |' % (count, cells(took, memory)), flush=True)
+        if reply != want.encode():
+            print('differs: %r and by the rules %r' % (reply[:100], want), file=sys.stderr)
