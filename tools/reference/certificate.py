@@ -25,7 +25,10 @@ class Reader:
         if self.taken == len(self.lines):
             raise Refused('C4')
         self.taken += 1
-        return self.lines[self.taken - 1].decode(errors='replace')
+        try:
+            return self.lines[self.taken - 1].decode()
+        except UnicodeDecodeError:
+            raise Refused('C1 at line %d' % self.taken) from None
 
     def refuse_unless(self, test, code):
         if not test:
@@ -33,7 +36,7 @@ class Reader:
 
     def name(self, word, wanted):
         line = self.line()
-        self.refuse_unless(re.fullmatch(r'%s [^\s\ufffd]+' % word, line), 'C1')
+        self.refuse_unless(line.startswith(word + ' '), 'C1')
         self.refuse_unless(line == '%s %s' % (word, wanted), 'C2')
 
     def tree(self, atoms, named):
