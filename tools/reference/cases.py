@@ -1,9 +1,10 @@
 """The cases that run a scope, computed again."""
 import pathlib, re, subprocess, sys
 
-from .answers import replies
+from .answers import Program, replies
+from .audit import Table
 from .certificate import check
-from .report import audit
+from .report import audit, scopes_of
 
 TOP = pathlib.Path(__file__).resolve().parent.parent.parent
 OURS = {'words', 'stdin', 'stdout', 'status', 'files'}
@@ -96,6 +97,17 @@ def statute_audits():
         kept, scope = law.parent / 'audit.txt', (law.parent / 'scope').read_text().strip()
         want = kept.read_text().rstrip('\n') if kept.exists() else ''
         yield kept, want, audit({'law.md': law.read_bytes()}, 'law.md', scope)
+
+
+def cells():
+    """Each statute of the examples: the targets that its audit calls covered, and those that are, by trying a value of each
+    cell of what they ask."""
+    for kept in sorted((TOP / 'examples').glob('*/audit.txt')):
+        program = Program({'law.md': (kept.parent / 'law.md').read_bytes()}, 'law.md')
+        tables = [Table(program, n) for n in scopes_of(program, program.runs.numbers[(kept.parent / 'scope').read_text().strip()])]
+        found = [target.name for table in tables for target in table.targets if table.verdict(target) == {'covered'}]
+        told = [line[:-len(': Covered')] for line in kept.read_text().split('\n') if line.endswith(': Covered')]
+        yield '%s cells' % kept.parent.name, ' '.join(told), {' '.join(found)}
 
 
 def without_places(reply):
