@@ -79,7 +79,7 @@ has_room t (suc room) g short = omega arith
 less : (room : ℕ) → suc room - 1 ≡ room
 less room = omega arith
 
-above_short : (t : TableTarget) (room n : ℕ) (g : GuardGroup) → slice_get t.groups n ≡ Some g
+pub above_short : (t : TableTarget) (room n : ℕ) (g : GuardGroup) → slice_get t.groups n ≡ Some g
     → is_within (above t.groups) room n ≡ true → All (λ e. is_within (above t.groups) (room - 1) e ≡ true) g.excepted_by
 above_short t zero n g is short = absurd (no_chain (above t.groups) n short)
 above_short t (suc room) n g is short =

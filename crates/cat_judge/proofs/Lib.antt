@@ -7,3 +7,5 @@ pub mod GuardLaws
 pub mod CountLaws
 pub mod Examples
 pub mod OwnAtoms
+pub mod LiveLaws
+pub mod WholeLaws

@@ -3,7 +3,7 @@ use Rattle.std.proofs.Common.{◌≡◌, ◌⊎◌, inl, inr, ℕ, Bool, true, f
 use Rattle.std.proofs.Common.{refl, sym, ap, ◌∙◌}
 use Rattle.cat_scope.specs.Comparing.{differ}
 use Rattle.cat_scope.specs.Names.{IsOneOf}
-use Rattle.cat_guard.specs.Formulas.{Formula, both, any, choice, agreed, of_one, of_two, of_three, known, asked}
+use Rattle.cat_guard.specs.Formulas.{Formula, both, any, choice, of_one, of_two, of_three, known, asked}
 use Rattle.cat_guard.specs.Formulas as formula
 use Rattle.cat_judge.specs.declared.truth.Truth.{Truth}
 use Rattle.cat_judge.specs.declared.truth.Truth.TheVariants as truth

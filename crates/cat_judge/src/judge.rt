@@ -16,7 +16,7 @@ use cat_guard::{Atom, Table, TableTarget};
 use cat_region::Region;
 
 /// The most groups of a chain.
-const LONGEST_CHAIN: u32 = 256;
+pub(crate) const LONGEST_CHAIN: u32 = 256;
 
 /// The definition of that number among the target's.
 fn judged_def(region: &Region, atoms: &[Atom], target: &TableTarget, number: u32) -> Finding
@@ -33,7 +33,12 @@ fn judged_def(region: &Region, atoms: &[Atom], target: &TableTarget, number: u32
 }
 
 /// The list of some definitions.
-fn judged_defs(region: &Region, atoms: &[Atom], target: &TableTarget, numbers: &[u32]) -> Finding
+pub(crate) fn judged_defs(
+    region: &Region,
+    atoms: &[Atom],
+    target: &TableTarget,
+    numbers: &[u32],
+) -> Finding
     requires cuts { IsTrue (are_cuts_of region.now.dims atoms.now) }
     requires numbers { All (λ n. n < length target.now.defs) numbers.now }
     ensures { Finds (answers_in atoms.now region.now) target.now

@@ -15,6 +15,8 @@ ghost use Rattle.cat_guard.specs.TableJudging.{Covers, decided};
 ghost use Rattle.cat_guard.specs.Trees.{Tree, Leaf, Closed, AreClosed, IsCitedClosed};
 ghost use Rattle.cat_guard.specs.Valuations.{dims_of, holds_at};
 ghost use Rattle.cat_guard.specs.Verdicts.{Stands, IsFurther, verdict_of};
+ghost use Rattle.cat_judge.specs.declared.live.LiveGroup.{LiveGroup as LiveSeen};
+ghost use Rattle.cat_judge.specs.Live.{IsLiveOf};
 ghost use Rattle.cat_judge.specs.Judgements.{IsAnswer, atoms_in, is_bad};
 
 use cat_guard::Table;
@@ -45,6 +47,14 @@ pub fn narrowing_keeps_what_is_judged(table: &Table)
         → IsInhabited (with_narrowing region n)
         → IsFurther (judged_in table.now.atoms region t) (judged_in table.now.atoms (with_narrowing region n) t))
         table.now.targets }
+{}
+
+/// What is live of a target stays so where a narrowing leaves something admitted: it is judged as the target is.
+pub fn narrowing_keeps_what_is_live(table: &Table)
+    ensures { (t : TargetSeen) (region : Constraints) (n : Narrowed) (live : List LiveSeen) → IsRegion region
+        → region.dims ≡ dims_of table.now.terms → IsTrue (is_cut_at region.dims n.dim n.cut)
+        → IsInhabited (with_narrowing region n) → IsLiveOf t (answers_in table.now.atoms region) live
+        → IsLiveOf t (answers_in table.now.atoms (with_narrowing region n)) live }
 {}
 
 /// What truth values make of a target hangs on those of its own atoms alone.

@@ -6,7 +6,7 @@ use Rattle.cat_scope.specs.Names.{IsOneOf}
 use Rattle.cat_guard.specs.declared.guard.Guard.{Guard}
 use Rattle.cat_guard.specs.declared.guard.Guard.TheVariants as leaf
 use Rattle.cat_guard.specs.declared.guard.Guard.TheViews as guard
-use Rattle.cat_guard.specs.Formulas.{Formula, asked}
+use Rattle.cat_guard.specs.Formulas.{asked}
 use Rattle.cat_guard.specs.Formulas as formula
 use Rattle.cat_guard.specs.GuardFormulas.{formula_of}
 use Rattle.cat_guard.proofs.Exported.{formulas}

@@ -29,7 +29,7 @@ use Rattle.cat_guard.specs.declared.table.TableTarget.{TableTarget}
 use Rattle.cat_guard.specs.Numbering.{firsts, is_seen}
 use Rattle.cat_guard.specs.Soundness.{target_is_sound, is_sound}
 use Rattle.cat_guard.specs.Terms.{same_cut, same_scalar}
-use Rattle.cat_guard.specs.Trees.{Tree, with_answer, answering, leaves}
+use Rattle.cat_guard.specs.Trees.{Tree, with_answer, leaves}
 use Rattle.cat_guard.specs.Trees as tree
 use Rattle.cat_guard.specs.Valuations.{dims_of}
 use Rattle.cat_guard.proofs.Exported.{both_true, all_more, targets_sound, sound_parts}

@@ -9,3 +9,5 @@ mod TargetLemmas
 mod TreeLemmas
 mod UnderwayLemmas
 mod ValueLemmas
+mod LevelLemmas
+mod StackLemmas

@@ -83,3 +83,15 @@ asked_below terms atoms targets sound n t is a among =
 pub some_target : {P : TableTarget → Type 0} (o : Option TableTarget) → ((t : TableTarget) → P t) → IfSome o P
 some_target None all = tt
 some_target (Some t) all = all t
+
+-- two facts of a target
+pub both_some : {A : Type 0} (P Q : A → Type 0) (o : Option A) → IfSome o P → IfSome o Q → IfSome o (λ a. P a × Q a)
+both_some P Q None p q = tt
+both_some P Q (Some a) p q = (p, q)
+
+-- a fact of a target, of what a call leaves
+pub on_ok_some : {A E B : Type 0} (P Q : B → Type 0) (r : Result A E) (o : Option B) → IfSome o P
+    → ((b : B) → P b → OnOk r (Q b)) → OnOk r (IfSome o Q)
+on_ok_some P Q (Ok a) None p go = tt
+on_ok_some P Q (Ok a) (Some b) p go = go b p
+on_ok_some P Q (Err e) o p go = tt

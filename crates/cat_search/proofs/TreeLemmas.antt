@@ -6,7 +6,7 @@ use Rattle.cat_guard.specs.declared.table.TableTarget.{TableTarget}
 use Rattle.cat_guard.specs.declared.tree.TreeNode.{TreeNode}
 use Rattle.cat_guard.specs.declared.tree.TreeNode.TheVariants as node
 use Rattle.cat_guard.specs.Judged.{judged_in, covers}
-use Rattle.cat_guard.specs.Trees.{Tree, node_before, split_before, trees_of, tree_of, one_tree, height}
+use Rattle.cat_guard.specs.Trees.{Tree, node_before, trees_of, tree_of, one_tree, height}
 use Rattle.cat_guard.specs.Trees.{has_height, is_tree, is_whole, leaves}
 use Rattle.cat_guard.specs.Trees as tree
 use Rattle.cat_guard.specs.Verdicts.{Verdict}

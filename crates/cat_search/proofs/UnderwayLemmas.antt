@@ -48,7 +48,7 @@ decided_alike region other dims narrowings i c =
     ap (λ ds. decided_at (record { dims = ds; narrowings = region.narrowings; room = 0 }) i c) dims
     ∙ ap (λ ns. decided_at (record { dims = other.dims; narrowings = ns; room = 0 }) i c) narrowings
 
-answers_alike : (atoms : List Atom) (region other : Constraints) → region.dims ≡ other.dims
+pub answers_alike : (atoms : List Atom) (region other : Constraints) → region.dims ≡ other.dims
     → region.narrowings ≡ other.narrowings → (a : ℕ) → answers_in atoms region a ≡ answers_in atoms other a
 answers_alike atoms region other dims narrowings a = by (slice_get atoms a)
   where

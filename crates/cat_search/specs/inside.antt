@@ -1,3 +1,4 @@
 pub mod Sides
 pub mod ToCome
 pub mod Underway
+pub mod Levels

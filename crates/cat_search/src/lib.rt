@@ -6,10 +6,12 @@ mod bad;
 mod choice;
 mod found;
 mod laws;
+mod levels;
 mod node;
 mod searched;
 mod searching;
 mod sides;
+mod stack;
 
 pub use bad::{BadLeaf, Flaw, Leaves};
 pub use found::Search;

@@ -2,14 +2,16 @@
 ghost use Rattle.std.specs.Prelude.{◌≡◌, ◌<◌, Some, None, All, IfSome, if◌then◌else◌, length, slice_get};
 ghost use Rattle.cat_scope.specs.Names.{IsOneOf};
 ghost use Rattle.cat_guard.specs.Valuations.{dims_of};
+ghost use Rattle.cat_guard.specs.Judged.{answers_in};
 ghost use Rattle.cat_judge.specs.Judgements.{atoms_in};
+ghost use Rattle.cat_judge.specs.Live.{IsLiveOf};
 ghost use Rattle.cat_search.specs.declared.bad.Flaw.TheVariants.{NoValue as NoValueSeen};
 ghost use Rattle.cat_search.specs.inside.Underway.{IsMadeOf};
 
 use crate::bad::Flaw;
 use crate::choice::split_atom;
 use cat_guard::Table;
-use cat_judge::{Judgement, judge_box};
+use cat_judge::{Judgement, LiveGroups, judge_live};
 use cat_region::Region;
 
 /// A split on the atom of that number, or a leaf, maybe one that isn't covered.
@@ -30,14 +32,22 @@ fn flaw_of_empty(may_be_empty: bool) -> Option<Flaw>
     }
 }
 
-/// The node for a region, where the atoms of the target are given in their order.
-pub(crate) fn next_node(table: &Table, target: u32, region: &Region, order: &[usize]) -> NextNode
+/// The node for a region, where the atoms of the target are given in their order, and what is live of it there.
+pub(crate) fn next_node(
+    table: &Table,
+    target: u32,
+    region: &Region,
+    order: &[usize],
+    live: &LiveGroups,
+) -> NextNode
     requires target { target < length table.now.targets }
     requires dims { region.now.dims ≡ dims_of table.now.terms }
     requires order { IfSome (slice_get table.now.targets target) (λ t. All (λ a. IsOneOf a (atoms_in t)) order.now) }
+    requires live { IfSome (slice_get table.now.targets target)
+        (λ t. IsLiveOf t (answers_in table.now.atoms region.now) live.now) }
     ensures { IfSome (slice_get table.now.targets target) (λ t. IsMadeOf table.now.atoms t region.now result) }
 {
-    match judge_box(table, target, region) {
+    match judge_live(table, target, region, live) {
         Judgement::Holds => NextNode::Leaf(None),
         Judgement::Empty => {
             let may_be_empty = table.targets.at(target as usize).may_be_empty;

@@ -7,6 +7,7 @@ ghost use Rattle.cat_search.specs.Searched.{everything, IsSearchOf, IsClosedSear
 use crate::asked::atoms_in_order;
 use crate::found::Search;
 use crate::laws::{searched_trees_stay_within_the_cells, trees_without_bad_leaves_are_closed};
+use crate::levels::Levels;
 use crate::searching::Searching;
 use cat_guard::{Table, TreeNode};
 use cat_judge::empty_regions_close_each_tree;
@@ -33,12 +34,14 @@ pub fn search(alloc: Global, table: &Table, target: u32, budget: u64) -> Result<
         return Ok(Search::Closed { tree, bad });
     }
     let order = atoms_in_order(alloc, table, target)?;
+    let mut levels = Levels::new(alloc, table, target)?;
     for _ in 0..budget {
-        searching.to_leaf(table, target, order.as_slice())?;
+        searching.to_leaf(alloc, table, target, order.as_slice(), &mut levels)?;
         if !searching.turn() {
             let (tree, bad) = searching.into_parts();
             return Ok(Search::Closed { tree, bad });
         }
+        levels.back_to(table.atoms.len() - searching.region.room());
     }
     searching.rests(table, target)?;
     let (tree, bad) = searching.into_parts();

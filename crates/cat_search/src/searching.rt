@@ -7,21 +7,24 @@ ghost use Rattle.cat_guard.specs.declared.table.Term.{Term as TermSeen};
 ghost use Rattle.cat_guard.specs.declared.table.Atom.{Atom as AtomSeen};
 ghost use Rattle.cat_guard.specs.declared.table.TableTarget.{TableTarget as TargetSeen};
 ghost use Rattle.cat_guard.specs.declared.tree.TreeNode.TheVariants.{Rest as RestSeen};
-ghost use Rattle.cat_guard.specs.Trees.{is_tree};
+ghost use Rattle.cat_guard.specs.Trees.{is_tree, answering};
 ghost use Rattle.cat_guard.specs.Valuations.{dims_of};
+ghost use Rattle.cat_guard.specs.Judged.{answers_in};
 ghost use Rattle.cat_judge.specs.Judgements.{atoms_in};
+ghost use Rattle.cat_judge.specs.Live.{IsLiveOf};
 ghost use Rattle.cat_search.specs.declared.node.NextNode.TheVariants.{Leaf as LeafMade};
 ghost use Rattle.cat_search.specs.Searched.{IsSplit};
-ghost use Rattle.cat_search.specs.inside.Sides.{IsAt};
+ghost use Rattle.cat_search.specs.inside.Levels.{AreLiveOn, IsWayBack};
 ghost use Rattle.cat_search.specs.inside.Underway.{IsMadeOf, IsUnderway, IsComplete, IsTurned, bad_one, start, ended};
 ghost use Rattle.cat_search.specs.inside.ToCome.{leaf_nodes, rest_nodes};
 ghost use Rattle.cat_search.specs.inside.Sides.{true_sides};
 
 use crate::bad::{BadLeaf, Flaw, Leaves};
+use crate::levels::Levels;
 use crate::node::{NextNode, next_node};
 use crate::sides::to_false_side;
 use cat_guard::{CaseTree, Table, TreeNode, TreeNodes};
-use cat_judge::{answer_atom, whole_region};
+use cat_judge::{LiveGroups, answer_atom, narrowing_keeps_what_is_live, still_live, whole_region};
 use cat_pos::List;
 use cat_region::Region;
 use std::alloc::{AllocError, Global};
@@ -78,6 +81,7 @@ impl Searching {
             → OnOk result (IsUnderway table.now.terms table.now.atoms t false self.new) }
         ensures leaves { OnOk result (leaf_nodes self.new.nodes ≡ leaf_nodes self.old.nodes + 1) }
         ensures rests { OnOk result (rest_nodes self.new.nodes ≡ rest_nodes self.old.nodes) }
+        ensures region { OnOk result (self.new.region ≡ self.old.region) }
     {
         add_bad(&mut self.bad, self.nodes.len(), flaw)?;
         self.end(table, TreeNode::Leaf)
@@ -94,32 +98,85 @@ impl Searching {
         ensures leaves { OnOk result (leaf_nodes self.new.nodes ≡ leaf_nodes self.old.nodes) }
         ensures rests { OnOk result (rest_nodes self.new.nodes ≡ rest_nodes self.old.nodes) }
         ensures room { OnOk result (self.new.region.room < self.old.region.room) }
+        ensures way { OnOk result (self.new.region.narrowings
+            ≡ (answering table.now.atoms self.old.region atom true).narrowings) }
     {
         self.nodes.push(TreeNode::Split(atom))?;
         answer_atom(table, &mut self.region, atom, true);
         Ok(())
     }
 
+    /// What is live in the region where it is.
+    fn live(
+        &self,
+        alloc: Global,
+        table: &Table,
+        target: u32,
+        levels: &Levels,
+    ) -> Result<LiveGroups, AllocError>
+        requires target { target < length table.now.targets }
+        requires underway { IfSome (slice_get table.now.targets target)
+            (λ t. IsUnderway table.now.terms table.now.atoms t true self.now) }
+        requires live { IfSome (slice_get table.now.targets target) (λ t. AreLiveOn table.now.atoms t
+            (dims_of table.now.terms) self.now.region.narrowings levels.now) }
+        ensures { IfOk result (λ live. IfSome (slice_get table.now.targets target)
+            (λ t. IsLiveOf t (answers_in table.now.atoms self.now.region) live)) }
+    {
+        narrowing_keeps_what_is_live(table);
+        still_live(alloc, table, target, &self.region, levels.live())
+    }
+
+    /// Keeps what is live in the region where it is, if that is little.
+    fn keep(
+        &self,
+        table: &Table,
+        target: u32,
+        live: LiveGroups,
+        levels: &mut Levels,
+    ) -> Result<(), AllocError>
+        requires target { target < length table.now.targets }
+        requires underway { IfSome (slice_get table.now.targets target)
+            (λ t. IsUnderway table.now.terms table.now.atoms t true self.now) }
+        requires here { IfSome (slice_get table.now.targets target)
+            (λ t. IsLiveOf t (answers_in table.now.atoms self.now.region) live) }
+        requires live { IfSome (slice_get table.now.targets target) (λ t. AreLiveOn table.now.atoms t
+            (dims_of table.now.terms) self.now.region.narrowings levels.old) }
+        ensures { OnOk result (IfSome (slice_get table.now.targets target) (λ t. AreLiveOn table.now.atoms t
+            (dims_of table.now.terms) self.now.region.narrowings levels.new)) }
+    {
+        levels.keep(table.atoms.len() - self.region.room(), live)
+    }
+
     /// Splits until there is a leaf.
     pub(crate) fn to_leaf(
         &mut self,
+        alloc: Global,
         table: &Table,
         target: u32,
         order: &[usize],
+        levels: &mut Levels,
     ) -> Result<(), AllocError>
         requires target { target < length table.now.targets }
         requires order { IfSome (slice_get table.now.targets target)
             (λ t. All (λ a. IsOneOf a (atoms_in t)) order.now) }
         requires underway { IfSome (slice_get table.now.targets target)
             (λ t. IsUnderway table.now.terms table.now.atoms t true self.old) }
+        requires live { IfSome (slice_get table.now.targets target) (λ t. AreLiveOn table.now.atoms t
+            (dims_of table.now.terms) self.old.region.narrowings levels.old) }
         ensures underway { OnOk result (IfSome (slice_get table.now.targets target)
             (λ t. IsUnderway table.now.terms table.now.atoms t false self.new)) }
+        ensures live { OnOk result (IfSome (slice_get table.now.targets target) (λ t. AreLiveOn table.now.atoms t
+            (dims_of table.now.terms) self.new.region.narrowings levels.new)) }
         ensures leaves { OnOk result (leaf_nodes self.new.nodes ≡ leaf_nodes self.old.nodes + 1) }
         ensures rests { OnOk result (rest_nodes self.new.nodes ≡ rest_nodes self.old.nodes) }
     {
         loop {
-            match next_node(table, target, &self.region, order) {
-                NextNode::Split(atom) => self.split(table, atom)?,
+            let live = self.live(alloc, table, target, levels)?;
+            match next_node(table, target, &self.region, order, &live) {
+                NextNode::Split(atom) => {
+                    self.keep(table, target, live, levels)?;
+                    self.split(table, atom)?;
+                }
                 NextNode::Leaf(flaw) => return self.leaf(table, flaw),
             }
         }
@@ -130,6 +187,9 @@ impl Searching {
         ensures turned { (terms : Listed TermSeen) (atoms : Listed AtomSeen) (t : TargetSeen)
             → IsUnderway terms atoms t false self.old → IsTurned terms atoms t result self.new }
         ensures nodes { self.new.nodes ≡ self.old.nodes }
+        ensures way { (terms : Listed TermSeen) (atoms : Listed AtomSeen) (t : TargetSeen)
+            → IsUnderway terms atoms t false self.old → IsTrue result
+            → IsWayBack self.old.region.narrowings self.new.region.narrowings }
         ensures fewer { IsTrue result
             → true_sides self.new.region.narrowings < true_sides self.old.region.narrowings }
     {

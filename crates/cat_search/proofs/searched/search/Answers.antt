@@ -1,5 +1,5 @@
 use Rattle.std.proofs.Common.{◌∙◌, ◌++◌, ◌∷◌, [], slice_get, subst, sym, ap, arith, rules}
-use Rattle.std.specs.Prelude.{ℕ, List, All, IfSome, false}
+use Rattle.std.specs.Prelude.{ℕ, ◌+◌, List, All, IfSome, false, true}
 use Rattle.cat_scope.specs.Names.{IsOneOf}
 use Rattle.cat_judge.specs.Judgements.{atoms_in}
 use Rattle.cat_guard.specs.declared.table.TableTarget.{TableTarget}
@@ -11,7 +11,10 @@ use Rattle.cat_search.proofs.LawLemmas.{closed_found}
 use Rattle.cat_search.specs.inside.Underway.{IsUnderway, IsTurned, IsComplete}
 use Rattle.cat_search.specs.inside.ToCome.{in_front, leaf_nodes, rest_nodes}
 use Rattle.cat_search.proofs.TreeLemmas.{is_tree_of, leaves_made, rests_made, whole_of, part_of}
-use Rattle.cat_search.proofs.TargetLemmas.{if_some, target_at}
+use Rattle.cat_guard.specs.Valuations.{dims_of}
+use Rattle.cat_search.specs.inside.Levels.{AreLiveOn}
+use Rattle.cat_search.proofs.LevelLemmas.{depth_is}
+use Rattle.cat_search.proofs.TargetLemmas.{both_some, if_some, target_at}
 use Rattle.cat_search.proofs.UnderwayLemmas.{begins, complete_is_tree, complete_found}
 use Rattle.cat_search.proofs.TargetLemmas.{all_at, some_target}
 use Rattle.cat_search.proofs.UnderwayLemmas.{nothing_begins}
@@ -33,6 +36,8 @@ loop-init c =
     record {
       underway = some_target (slice_get table.targets c.args.target) (λ t. begins table.terms table.atoms t
           c.in_ok-searching.searching begun (c.is_empty.ensures.inhabited c.if-is_empty.false));
+      live = if_some (slice_get table.targets c.args.target) c.in_ok-levels.ensures (λ t is are.
+          are table.atoms (dims_of table.terms) c.in_ok-searching.searching.region.narrowings);
       leaves = ap (λ s. leaf_nodes s.nodes) begun;
       rests = ap (λ s. rest_nodes s.nodes) begun;
     }
@@ -145,3 +150,30 @@ returns-clause-spent c =
     let most = all_at (StaysWithin table.terms table.atoms) table.targets c.args.target t
     c.searched_trees_stay_within_the_cells.ensures is complete.tree complete.searched in
     omega (arith, made, left, most, leaves, before, within, past, rests))
+
+pub loop-preserved : goal.loop-preserved
+loop-preserved c =
+    let table = c.args.table.now in
+    let target = slice_get table.targets c.args.target in
+    let s = c.turn.new.self in
+    record {
+      underway = if_some target c.in_ok-to_leaf.ensures.underway (λ t is u.
+          subst (λ b. IsTurned table.terms table.atoms t b s) c.if-not-turn.false
+          (c.turn.ensures.turned table.terms table.atoms t u));
+      live = if_some target (both_some (λ t. IsUnderway table.terms table.atoms t false c.to_leaf.new.self)
+          (λ t. AreLiveOn table.atoms t (dims_of table.terms) c.to_leaf.new.self.region.narrowings
+          c.to_leaf.new.levels) target c.in_ok-to_leaf.ensures.underway c.in_ok-to_leaf.ensures.live)
+          (λ t is both.
+          let on : IsUnderway table.terms table.atoms t true s =
+          subst (λ b. IsTurned table.terms table.atoms t b s) c.if-not-turn.false
+          (c.turn.ensures.turned table.terms table.atoms t both.0) in
+          let deep = depth_is table.terms table.atoms t true s on in
+          let atoms = c.len.ensures in
+          let room = c.room.ensures in
+          c.back_to.ensures table.atoms t (dims_of table.terms) c.to_leaf.new.self.region.narrowings s.region.narrowings
+          (c.turn.ensures.way table.terms table.atoms t both.0 c.if-not-turn.false)
+          (omega (arith, deep, atoms, room)) both.1);
+      leaves = ap leaf_nodes c.turn.ensures.nodes ∙ c.in_ok-to_leaf.ensures.leaves
+          ∙ ap (λ n. n + 1) c.loop.invariant.leaves;
+      rests = ap rest_nodes c.turn.ensures.nodes ∙ c.in_ok-to_leaf.ensures.rests ∙ c.loop.invariant.rests;
+    }

@@ -26,3 +26,6 @@ returns-clause-rests c =
     on_ok c.end.result c.end.ensures
     (λ same. let more = rest_more c.args.self.now.nodes node.Leaf in
     ap (λ s. rest_nodes s.nodes) same ∙ omega (arith, more))
+
+pub returns-clause-region : goal.returns-clause-region
+returns-clause-region c = on_ok c.end.result c.end.ensures (λ same. ap (λ s. s.region) same)

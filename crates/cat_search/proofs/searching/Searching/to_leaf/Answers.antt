@@ -1,15 +1,18 @@
-use Rattle.std.proofs.Common.{subst, rules}
+use Rattle.std.proofs.Common.{◌∙◌, slice_get, sym, subst, rules}
+use Rattle.cat_guard.specs.Valuations.{dims_of}
+use Rattle.cat_search.specs.inside.Levels.{AreLiveOn}
+use Rattle.cat_search.proofs.LevelLemmas.{live_split}
 use Rattle.std.specs.Prelude.{true, IfSome}
 use Rattle.cat_search.specs.Searched.{IsSplit}
 use Rattle.cat_search.specs.inside.Underway.{IsUnderway}
-use Rattle.cat_search.proofs.TargetLemmas.{target_at, asked_below, atom_at}
+use Rattle.cat_search.proofs.TargetLemmas.{on_ok, both_some, if_some, target_at, asked_below, atom_at}
 use Rattle.cat_search.proofs.UnderwayLemmas.{room_within, split_room}
 use Rattle.cat_search.proofs.searching.Searching.to_leaf.Goals as goal
 
 pub split-requires-clause-atom : goal.split-requires-clause-atom
 split-requires-clause-atom c =
     let table = c.args.table.now in
-    let one = target_at (λ t. IsSplit table.atoms t c.loop-atom.self.region c.in-Split.atom) table.targets c.args.target
+    let one = target_at (λ t. IsSplit table.atoms t c.loop-live.self.region c.in-Split.atom) table.targets c.args.target
     c.requires.target c.in-Split.ensures in
     asked_below table.terms table.atoms table.targets (search rules) c.args.target one.0 one.1 c.in-Split.atom
     one.2.asked
@@ -17,24 +20,48 @@ split-requires-clause-atom c =
 pub split-requires-clause-dims : goal.split-requires-clause-dims
 split-requires-clause-dims c =
     let table = c.args.table.now in
-    let one = target_at (λ t. IsUnderway table.terms table.atoms t true c.loop-atom.self) table.targets c.args.target
-    c.requires.target c.loop-atom.invariant.underway in
+    let one = target_at (λ t. IsUnderway table.terms table.atoms t true c.loop-live.self) table.targets c.args.target
+    c.requires.target c.loop-live.invariant.underway in
     one.2.at.dims_are
 
 pub leaf-requires : goal.leaf-requires
 leaf-requires c =
     let table = c.args.table.now in
-    let one = target_at (λ t. IsUnderway table.terms table.atoms t true c.loop-atom.self) table.targets c.args.target
-    c.requires.target c.loop-atom.invariant.underway in
-    room_within table.terms table.atoms one.0 true c.loop-atom.self one.2
+    let one = target_at (λ t. IsUnderway table.terms table.atoms t true c.loop-live.self) table.targets c.args.target
+    c.requires.target c.loop-live.invariant.underway in
+    room_within table.terms table.atoms one.0 true c.loop-live.self one.2
 
 pub split-requires-clause-room : goal.split-requires-clause-room
 split-requires-clause-room c =
     let table = c.args.table.now in
-    let one = target_at (λ t. IsUnderway table.terms table.atoms t true c.loop-atom.self) table.targets c.args.target
-    c.requires.target c.loop-atom.invariant.underway in
-    let is = subst (λ o. IfSome o (λ t. IsSplit table.atoms t c.loop-atom.self.region c.in-Split.atom)) one.1
+    let one = target_at (λ t. IsUnderway table.terms table.atoms t true c.loop-live.self) table.targets c.args.target
+    c.requires.target c.loop-live.invariant.underway in
+    let is = subst (λ o. IfSome o (λ t. IsSplit table.atoms t c.loop-live.self.region c.in-Split.atom)) one.1
     c.in-Split.ensures in
     let found = atom_at table.atoms c.in-Split.atom (split-requires-clause-atom c) in
-    split_room table.terms table.atoms one.0 table.targets (search rules) c.loop-atom.self c.in-Split.atom found.0
+    split_room table.terms table.atoms one.0 table.targets (search rules) c.loop-live.self c.in-Split.atom found.0
     found.1 one.2 is
+
+pub loop-live-preserved : goal.loop-live-preserved
+loop-live-preserved c =
+    let table = c.args.table.now in
+    let target = slice_get table.targets c.args.target in
+    record {
+      underway = if_some target (both_some
+          (λ t. IsUnderway table.terms table.atoms t true c.loop-live.self)
+          (λ t. IsSplit table.atoms t c.loop-live.self.region c.in-Split.atom) target c.loop-live.invariant.underway
+          c.in-Split.ensures) (λ t is both.
+          c.in_ok-split-in-Split.ensures.underway t both.0 both.1);
+      live = if_some target c.in_ok-keep-in-Split.ensures (λ t is are. live_split table.atoms t (dims_of table.terms)
+          c.loop-live.self.region c.in-Split.atom c.split.new.self.region.narrowings c.keep.new.levels
+          c.in_ok-split-in-Split.ensures.way are);
+      leaves = c.in_ok-split-in-Split.ensures.leaves ∙ c.loop-live.invariant.leaves;
+      rests = c.in_ok-split-in-Split.ensures.rests ∙ c.loop-live.invariant.rests;
+    }
+
+pub returns-in-Leaf-clause-live : goal.returns-in-Leaf-clause-live
+returns-in-Leaf-clause-live c =
+    let table = c.args.table.now in
+    on_ok c.leaf.result c.leaf.ensures.region (λ same.
+    subst (λ region. IfSome (slice_get table.targets c.args.target) (λ t. AreLiveOn table.atoms t (dims_of table.terms)
+    region.narrowings c.loop-live.levels)) (sym same) c.loop-live.invariant.live)

@@ -1,0 +1,53 @@
+// A stack that contracts see as its entries, the last one first.
+ghost use Rattle.std.specs.Prelude.{◌≡◌, [], ◌∷◌, MatchOption, OnOk, slice_get};
+ghost use Rattle.std.specs.Option.{option_copied};
+
+use cat_pos::List;
+use std::alloc::{AllocError, Global};
+use std::marker::Model;
+
+/// A stack on the heap.
+#[derive(Drop)]
+pub struct Stack<T> {
+    entries: List<T>,
+}
+
+impl<T> Model for Stack<T> {
+    ghost use Rattle.std.specs.Prelude.{List as Listed, reverse};
+    ghost use Rattle.std.specs.Coded.{coded_list};
+
+    ghost Value = { Listed T };
+
+    ghost coded = { coded_list T.code };
+
+    ghost view = { λ it. reverse it.entries };
+}
+
+impl<T: Drop> Stack<T> {
+    pub(crate) fn new(alloc: Global) -> Stack<T>
+        ensures { result ≡ [] }
+    {
+        Stack {
+            entries: List::new(alloc),
+        }
+    }
+
+    pub(crate) fn push(&mut self, entry: T) -> Result<(), AllocError>
+        ensures { OnOk result (self.new ≡ entry ∷ self.old) }
+    {
+        self.entries.push(entry)
+    }
+
+    pub(crate) fn pop(&mut self) -> Option<T>
+        ensures { MatchOption result ((self.old ≡ []) × (self.new ≡ [])) (λ top. self.old ≡ top ∷ self.new) }
+    {
+        self.entries.pop()
+    }
+
+    /// The last entry that was put on.
+    pub(crate) fn top(&self) -> Option<&T>
+        ensures { option_copied result ≡ slice_get self.now 0 }
+    {
+        self.entries.as_slice().last()
+    }
+}
