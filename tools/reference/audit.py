@@ -138,6 +138,16 @@ class Table:
         return terms, [sorted(set(samples(self.types, self.terms[t].kind, [a.cut for a in asked if a.term == t])))
                        for t in terms]
 
+    def cell_count(self, target):
+        """Into how many cells the cuts of a target part the values of its terms."""
+        asked = {self.atoms[a] for g in target.definitions.values() for a in self.atoms_in(g)}
+        count = 1
+        for term in {atom.term for atom in asked}:
+            kind, cuts = self.terms[term].kind, sum(1 for atom in asked if atom.term == term)
+            cases = len(self.types.enumerations[kind[1]].parts) if isinstance(kind, tuple) else 2
+            count *= cuts + 1 if kind in NUMBERS else cases
+        return count
+
     def verdict(self, target):
         """Covered, or how the rules fail in some cell: a conflict, or no value; None where there are too many cells."""
         terms, values = self.cells(target)
