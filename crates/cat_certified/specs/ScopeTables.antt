@@ -1,5 +1,5 @@
 -- What is answered of a text that is to be a certificate for a scope of a program.
-use Rattle.std.specs.Prelude.{ℕ, IsTrue, List, Option}
+use Rattle.std.specs.Prelude.{◌≤◌, ◌^◌, ℕ, IsTrue, List, length, Option}
 use Rattle.cat_value.specs.declared.decls.Decls.{Decls}
 use Rattle.cat_scope.specs.declared.programs.Program.{Program}
 use Rattle.cat_scope.specs.Names.{AllHave}
@@ -22,9 +22,14 @@ IsScopeCertified program scope bytes = HoldsOfTables program scope (λ tables. I
 abbrev pub IsOverScope : Program → ℕ → List ℕ → Option (List ℕ) → Type 0
 IsOverScope program scope bytes over = HoldsOfTables program scope (λ tables. IsOver tables bytes over)
 
--- the refusal is one over those tables
+-- no table has more atoms than a `usize` numbers
+abbrev pub AreNumbered : List Table → Type 0
+AreNumbered tables = AllHave (λ table. length table.atoms ≤ 2 ^ 64) tables
+
+-- the refusal is one over those tables, which aren't too large
 abbrev pub IsRefusedOver : Program → ℕ → List ℕ → CertRefusal → Type 0
-IsRefusedOver program scope bytes why = HoldsOfTables program scope (λ tables. HasCause tables bytes why)
+IsRefusedOver program scope bytes why =
+    HoldsOfTables program scope (λ tables. AreNumbered tables × HasCause tables bytes why)
 
 -- why a text is none
 abbrev pub HasScopeCause : Program → ℕ → List ℕ → CertRefusal → Type 0

@@ -1,7 +1,8 @@
 // Certificates for scopes of programs.
-ghost use Rattle.std.specs.Prelude.{◌<◌, IfOk, IfErr, length, string_bytes};
+ghost use Rattle.std.specs.Prelude.{◌<◌, ◌≤◌, ◌^◌, All, IfOk, IfErr, length, string_bytes};
 ghost use Rattle.std.specs.Option.{option_map};
 ghost use Rattle.cat_desugar.specs.Desugared.{AreForestsOf};
+ghost use Rattle.cat_guard.specs.declared.table.Table.{Table as Tabled};
 ghost use Rattle.cat_audit.specs.Complete.{HasNoGap};
 ghost use Rattle.cat_audit.specs.Reports.{IsCounted};
 ghost use Rattle.cat_certified.specs.ScopeTables.{HasScopeCause, IsOverScope};
@@ -10,8 +11,18 @@ use crate::laws::closed_tables_leave_no_gap;
 use cat_audit::audited_tables;
 use cat_cert::check_over;
 use cat_cert_text::CertRefusal;
+use cat_guard::Table;
 use cat_scope::{Forest, Program};
 use std::alloc::Global;
+
+/// The atoms of each table are numbered by a `usize`.
+fn count_atoms(tables: &[Table])
+    ensures { All (λ (table : Tabled). length table.atoms ≤ 2 ^ 64) tables.now }
+{
+    for table in tables {
+        let _count = table.atoms.len();
+    }
+}
 
 /// Whether a text is a certificate for a scope, with the text of version 2 where it is of version 1. It costs the
 /// tables of the scope and of those that it calls, and the check of the text over them.
@@ -31,5 +42,7 @@ pub fn certified(
 {
     closed_tables_leave_no_gap(program);
     let tables = audited_tables(alloc, program, forests, scope)?;
-    check_over(alloc, tables.as_slice(), bytes)
+    let tables = tables.as_slice();
+    count_atoms(tables);
+    check_over(alloc, tables, bytes)
 }

@@ -1,13 +1,12 @@
 // What certificates say of programs: each law is the contract of a function.
-ghost use Rattle.std.specs.Prelude.{◌≡◌, ◌<◌, ◌≤◌, ◌^◌, ℕ, List, Some, length};
-ghost use Rattle.cat_scope.specs.Names.{AllHave};
+ghost use Rattle.std.specs.Prelude.{◌≡◌, ◌<◌, ◌^◌, ℕ, List, Some, length};
 ghost use Rattle.cat_guard.specs.declared.table.Table.{Table as TableSeen};
 ghost use Rattle.cat_cert_text.specs.declared.refusal.CertRefusal.{CertRefusal as RefusalSeen};
 ghost use Rattle.cat_cert_text.specs.declared.refusal.CertRefusal.TheVariants.{Memory};
 ghost use Rattle.cat_audit.specs.Complete.{HasNoGap};
 ghost use Rattle.cat_audit.specs.Reports.{AreTablesOf};
 ghost use Rattle.cat_cert.specs.Checked.{HaveClosedTrees};
-ghost use Rattle.cat_certified.specs.ScopeTables.{AreNamedInLines, HasScopeCause, HoldsOfTables};
+ghost use Rattle.cat_certified.specs.ScopeTables.{AreNamedInLines, HasScopeCause};
 ghost use Rattle.cat_certified.specs.ScopeTables.{IsOverScope, IsScopeCertified};
 
 use cat_cert::{certified_texts_are_not_refused, what_is_written_over_is_read_again};
@@ -42,13 +41,10 @@ pub fn what_is_written_over_is_certified_again(program: &Program)
     what_is_written_over_is_read_again();
 }
 
-/// A certificate for a scope isn't refused, unless for want of memory, where its length and the numbers of atoms are
-/// numbers that are written.
+/// A certificate for a scope isn't refused, unless for want of memory, where a `usize` numbers its bytes.
 pub fn certified_scopes_are_not_refused(program: &Program)
-    ensures { (scope : ℕ) (bytes : List ℕ) (why : RefusalSeen)
-        → HoldsOfTables program.now scope (λ tables. AllHave (λ table. length table.atoms ≤ 2 ^ 64) tables)
-        → length bytes < 2 ^ 64 → IsScopeCertified program.now scope bytes
-        → HasScopeCause program.now scope bytes why → why ≡ Memory }
+    ensures { (scope : ℕ) (bytes : List ℕ) (why : RefusalSeen) → length bytes < 2 ^ 64
+        → IsScopeCertified program.now scope bytes → HasScopeCause program.now scope bytes why → why ≡ Memory }
 {
     certified_texts_are_not_refused();
 }

@@ -49,7 +49,7 @@ use Rattle.cat_guard.specs.declared.table.Path.{Path}
 use Rattle.cat_guard.specs.declared.table.Table.{Table}
 use Rattle.cat_guard.specs.declared.table.TableTarget.{TableTarget}
 use Rattle.cat_guard.specs.declared.table.Term.{Term}
-use Rattle.cat_guard.specs.Formulas.{Formula, asked, renamed}
+use Rattle.cat_guard.specs.Formulas.{Formula, asked}
 use Rattle.cat_guard.specs.Formulas as formula
 use Rattle.cat_guard.specs.Questions.{Question, guard_of}
 use Rattle.cat_guard.specs.Tables.{IsTableOf, def_formula, questions_of, standing_of, target_of}

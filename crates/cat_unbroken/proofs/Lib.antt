@@ -1,0 +1,4 @@
+pub mod WordBytes
+pub mod TokenNames
+pub mod TreeNames
+pub mod DeclaredNames
