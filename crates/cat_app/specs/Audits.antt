@@ -12,6 +12,8 @@ use Rattle.cat_audit.specs.declared.report.Verdict.TheVariants as verdict
 use Rattle.cat_audit.specs.Complete.{AreClosedTrees, HasNoGap, targets_in}
 use Rattle.cat_audit.specs.Reports.{IsReport, last_verdict}
 use Rattle.cat_report.specs.ReportTexts.{report_text}
+use Rattle.cat_plain.specs.Decided.{EndsInNoFault, HasCellsWithin, IsDecided, IsWholeVerdict}
+use Rattle.cat_plain.specs.Plain.{IsPlain}
 use Rattle.cat_cert_text.specs.declared.certificate.Version.TheVariants as version
 use Rattle.cat_cert_text.specs.Certifiable.{shared_tree}
 use Rattle.cat_cert_text.specs.Texts.{certificate_text}
@@ -41,12 +43,15 @@ audit_text ds files most report =
     report_text ds files most report.sections ++ certificate_of report.tables report.trees
 
 -- the report of a scope; where its last verdict is Complete, no well-typed input of the scope ends in a conflict or a
--- gap, and the trees are closed ones, one for each target
+-- gap, and the trees are closed ones, one for each target. A plain scope whose targets have no more cells is decided
 pub record HasReport (program : Program) (scope most : ℕ) (report : Report) : Type 0 where
   pub report_is : IsReport program scope most report
   pub no_gap : last_verdict report.sections ≡ verdict.Complete → HasNoGap program scope
   pub closed : (trees : List CaseTree) → report.trees ≡ Some trees
       → AreClosedTrees most (targets_in report.tables) trees
+  pub decided : IsPlain program scope → HasCellsWithin program scope most → IsDecided scope report
+  pub whole : IsPlain program scope → HasCellsWithin program scope most → EndsInNoFault program scope
+      → IsWholeVerdict program scope (last_verdict report.sections)
 
 -- of an audit: what it says of the scope
 pub record IsAudited (request : Request) (old new : Shelved) (ended : Status) (text : List ℕ) : Type 0 where

@@ -14,6 +14,7 @@ use cat_audit::{
 use cat_build::{Built, accepted_programs_are_counted};
 use cat_cert_text::write_cert;
 use cat_gather::Source;
+use cat_plain::plain_scopes_are_decided;
 use cat_report::report_text;
 use cat_scope::programs_are_well_formed;
 use std::alloc::{AllocError, Global};
@@ -65,6 +66,7 @@ fn report_of(
     programs_are_well_formed(&built.program);
     complete_audits_leave_no_gap(&built.program);
     complete_audits_have_closed_trees(&built.program);
+    plain_scopes_are_decided(&built.program);
     let forests = built.forests.as_slice();
     audit(
         alloc,
