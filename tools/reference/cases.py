@@ -4,6 +4,7 @@ import pathlib, re, subprocess, sys
 from .answers import Program, replies
 from .audit import Table
 from .certificate import check
+from .drill import drill
 from .report import audit, scopes_of
 
 TOP = pathlib.Path(__file__).resolve().parent.parent.parent
@@ -108,6 +109,15 @@ def cells():
         found = [target.name for table in tables for target in table.targets if table.verdict(target) == {'covered'}]
         told = [line[:-len(': Covered')] for line in kept.read_text().split('\n') if line.endswith(': Covered')]
         yield '%s cells' % kept.parent.name, ' '.join(told), {' '.join(found)}
+
+
+def drills():
+    """Each case that asks for a drill: its name, what it expects, and the reply."""
+    for case in case_folders():
+        words = (case / 'words').read_text().splitlines() if (case / 'words').exists() else []
+        if words[:1] == ['drill']:
+            at = words.index('--cases') if '--cases' in words else len(words)
+            yield case.name, (case / 'stdout').read_text().rstrip('\n'), {drill(words[1:at] + words[at + 2:])}
 
 
 def without_places(reply):

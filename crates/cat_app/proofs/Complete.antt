@@ -1,15 +1,11 @@
 -- What follows from the answers of the top call.
-use Rattle.std.proofs.Common.{◌≡◌, ◌≢◌, ◌∙◌, ◌≤◌, ◌<◌, ℕ, List, [], refl, sym, ap, subst, inl, inr, arith, ⊎_elim}
-use Rattle.std.specs.Prelude.{◌⊎◌, Option, Some, None, Ok, Err, IsSomeAnd, IfSome, IsNone, IsTrue, codes, length}
+use Rattle.std.proofs.Common.{◌≡◌, ◌∙◌, ◌≤◌, ◌<◌, ℕ, List, [], refl, sym, ap, subst, inl, inr, arith, ⊎_elim}
+use Rattle.std.specs.Prelude.{◌⊎◌, Option, Some, None, Ok, IsSomeAnd, IfSome, IsNone, IsTrue, length}
 use Rattle.std.specs.Io.KnownBytes.{Appends}
 use Rattle.cat_pos.specs.declared.limits.TheConstants.{MOST_INPUT_BYTES}
-use Rattle.cat_pos.specs.declared.pos.Piece.{Piece}
 use Rattle.cat_io.specs.Shelf.{Shelved}
 use Rattle.cat_io.specs.Sink.{Sunk, Took}
-use Rattle.cat_io.specs.declared.shelf.ShelfFault.TheVariants as shelf
 use Rattle.cat_value.specs.declared.value.Value.{Value}
-use Rattle.cat_value.specs.declared.decls.Decls.{Decls}
-use Rattle.cat_value.specs.declared.outcome.Outcome.{Outcome}
 use Rattle.cat_scope.specs.declared.programs.Program.{Program}
 use Rattle.cat_scope.specs.Named.{number_named}
 use Rattle.cat_scope.specs.Outcomes.{scope_outcome}
@@ -20,19 +16,18 @@ use Rattle.cat_audit.specs.declared.report.Verdict.{Verdict}
 use Rattle.cat_audit.specs.declared.report.Verdict.TheVariants as verdict
 use Rattle.cat_audit.specs.Reports.{last_verdict}
 use Rattle.cat_gather.specs.declared.source.Source.{Source}
-use Rattle.cat_gather.specs.Gathered.{Contents, Ending, Whole, Refused, gathered, limit_after}
-use Rattle.cat_gather.specs.Causes.{ComesTo, HasEnding}
-use Rattle.cat_build.specs.declared.code.BuildRefusal.{BuildRefusal}
-use Rattle.cat_build.specs.declared.code.BuildRefusal.TheVariants as building
+use Rattle.cat_gather.specs.Gathered.{Contents, Whole, gathered, limit_after}
+use Rattle.cat_gather.specs.Causes.{ComesTo}
 use Rattle.cat_build.specs.Accepted.{IsAccepted}
-use Rattle.cat_build.specs.Causes.{HasCause}
-use Rattle.cat_app.specs.Words.{Request, reads_extra, request_of}
-use Rattle.cat_app.specs.Asked.{IsSource, IsExtra, IsAsked, IsReadNow}
-use Rattle.cat_app.specs.Answers.{IsOutcome, IsRefusedFile, IsRefusedSource, IsNoScope, IsRefusedInput, IsRefusedRead}
+use Rattle.cat_app.specs.Words.{Ask, OfBands, OfScope, Request, ask_of, reads_extra, request_in}
+use Rattle.cat_app.specs.Asked.{IsSource, IsExtra, IsReadNow}
+use Rattle.cat_app.specs.Answers.{IsOutcome, IsRefusedFile, IsRefusedSource, IsNoScope, IsRefusedInput}
 use Rattle.cat_app.specs.Answers.{line}
 use Rattle.cat_app.specs.Audits.{HasReport, IsAudited, audit_text, status_at}
-use Rattle.cat_app.specs.Table.{Answers, MayAnswer, MayReply}
+use Rattle.cat_app.specs.Table.{Answers, MayAnswer, MayAnswerTo, MayReply}
 use Rattle.cat_app.specs.declared.request.Mode.TheVariants.{Run, Audit, Check}
+use Rattle.cat_app.proofs.ToldSources.{AreNotAccepted, EndingsAreTold, IsOneProgram, no_refused_file, no_refused_source}
+use Rattle.cat_app.proofs.ToldSources.{scope_is_there, told_program, told_scope, told_source}
 use Rattle.cat_app.specs.Complete.{IsToldScope, IsToldRun, WritesOutcome, EndsRun}
 use Rattle.cat_app.specs.Complete.{WritesReport, EndsAudit, EndsCheck, IsComplete, IsToldCheck}
 use Rattle.cat_app.specs.Checks.{HasCertificate, HasNoCertificate, IsChecked}
@@ -40,19 +35,6 @@ use Rattle.cat_app.specs.declared.status.Status.{Status}
 use Rattle.cat_app.specs.declared.status.Status.TheVariants as status
 
 -- ---- over told contents
-
--- the laws on which this rests
-abbrev IsOneProgram : Type 0
-IsOneProgram = (pieces : List Piece) (program other : Program) → IsAccepted pieces program → IsAccepted pieces other
-    → program ≡ other
-
-abbrev AreNotAccepted : Type 0
-AreNotAccepted = (pieces : List Piece) (refusal : BuildRefusal) (program : Program) → refusal ≢ building.Memory
-    → HasCause pieces refusal → IsAccepted pieces program → ⊥
-
-abbrev EndingsAreTold : Type 0
-EndingsAreTold = (told : Contents) (main : List ℕ) (source : Source) (ending : Ending Source)
-    → gathered told main ≡ Whole source → HasEnding told main ending → ending ≡ Whole source
 
 abbrev FilesAreTold : Type 0
 FilesAreTold = (told : Contents) (main name : List ℕ) (source : Source) (bytes : ℕ)
@@ -87,50 +69,41 @@ complete_of : {program : Program} {scope most : ℕ} (report : Report) → HasRe
 complete_of report is fine =
     let last = is_complete (last_verdict report.sections) fine in (last, is.no_gap last)
 
+-- where a request is what is asked of a scope, it is what is asked
+of_scope : (o : Option Ask) (request : Request) → request_in o ≡ Some request → o ≡ Some (OfScope request)
+of_scope None request is = cc is
+of_scope (Some (OfScope other)) request is = cc is
+of_scope (Some (OfBands bands)) request is = cc is
+
 module _ (one_program : IsOneProgram) (not_accepted : AreNotAccepted) (endings : EndingsAreTold) (files : FilesAreTold)
     (words : List (List ℕ)) (old new : Shelved) (sink sunk : Sunk) (request : Request) (source : Source)
     (program : Program) (scope : ℕ) (told : IsToldScope words old request source program scope) where
-  -- what may be answered is answered to this request
-  asked_is : (P : Request → Type 0) → IsSomeAnd (request_of words) P → P request
-  asked_is P may = subst (λ (o : Option Request). IsSomeAnd o P) told.asked may
+  -- what may be replied answers this request
+  answer_is : (ended : Status) (text : List ℕ) → MayReply words old new ended text
+      → MayAnswer request old new ended text
+  answer_is ended text may = subst (λ (o : Option Ask). MayAnswerTo o old new ended text)
+      (of_scope (ask_of words) request told.asked) may
 
   source_is : (other : Source) → IsSource request old other → other ≡ source
-  source_is other read =
-      let same : Whole other ≡ Whole source =
-      endings old.content request.file source (Whole other) told.source_told read in
-      cc same
+  source_is = told_source endings old request source told.source_told
 
   program_of : (others : Source) (other : Program) → IsSource request old others → IsAccepted others.pieces other
       → program ≡ other
-  program_of others other read accepted =
-      one_program source.pieces program other told.accepted
-      (subst (λ (s : Source). IsAccepted s.pieces other) (source_is others read) accepted)
+  program_of = told_program one_program endings old request source program told.source_told told.accepted
 
   scope_of : (other : Program) (number : ℕ) → program ≡ other
       → number_named request.scope 0 other.decls.scopes ≡ Some number → scope ≡ number
-  scope_of other number same named =
-      let here : number_named request.scope 0 program.decls.scopes ≡ Some number =
-      subst (λ (p : Program). number_named request.scope 0 p.decls.scopes ≡ Some number) (sym same) named in
-      cc (told.named, here)
+  scope_of = told_scope request program scope told.named
 
   no_file : (text : List ℕ) → IsRefusedFile request old new text → ⊥
-  no_file text is =
-      let same : Refused is.refusal ≡ Whole source =
-      endings old.content request.file source (Refused is.refusal) told.source_told is.ending in
-      cc same
+  no_file = no_refused_file endings old new request source told.source_told
 
   no_source : (text : List ℕ) → IsRefusedSource request old new text → ⊥
-  no_source text is =
-      let stands = subst (λ (s : Source). HasCause s.pieces (building.Refused is.code is.pos))
-      (source_is is.source is.source_read) is.stands in
-      not_accepted source.pieces (building.Refused is.code is.pos) program (λ e. cc e) stands told.accepted
+  no_source = no_refused_source not_accepted endings old new request source program told.source_told told.accepted
 
   no_scope : (text : List ℕ) → IsNoScope request old new text → ⊥
-  no_scope text is =
-      let programs = program_of is.source is.program is.source_read is.accepted in
-      let here : number_named request.scope 0 program.decls.scopes ≡ None =
-      subst (λ (p : Program). number_named request.scope 0 p.decls.scopes ≡ None) (sym programs) is.unnamed in
-      cc (told.named, here)
+  no_scope = scope_is_there one_program endings old new request source program scope told.source_told told.accepted
+      told.named
 
   -- the source is told, and so is the input of a run
   no_source_missing : (name : List ℕ) (limit : ℕ) → ((bytes : ℕ) × ComesTo old.content request.file name bytes
@@ -145,16 +118,11 @@ module _ (one_program : IsOneProgram) (not_accepted : AreNotAccepted) (endings :
       not_longer (old.content name) limit (limit_after now.0) now.2
       (files old.content request.file name source now.0 told.source_told now.1) long
 
-  none_asked : IsNone (request_of words) → ⊥
-  none_asked none = cc (subst (λ (o : Option Request). IsNone o) told.asked none)
-
   refused_usage : (text : List ℕ) → MayReply words old new status.Usage text → ⊥
-  refused_usage text may =
-      ⊎_elim (λ none. none_asked none.no_request) (λ a. no_scope text (asked_is (λ r. IsNoScope r old new text) a)) may
+  refused_usage text may = no_scope text (answer_is status.Usage text may)
 
-  refused_source : (text : List ℕ) → IsSomeAnd (request_of words) (λ r. MayAnswer r old new status.Source text) → ⊥
-  refused_source text may = ⊎_elim (no_file text) (no_source text)
-      (asked_is (λ r. IsRefusedFile r old new text ⊎ IsRefusedSource r old new text) may)
+  refused_source : (text : List ℕ) → MayReply words old new status.Source text → ⊥
+  refused_source text may = ⊎_elim (no_file text) (no_source text) (answer_is status.Source text may)
 
   -- the report that is answered is one of this program's scope
   report_written : (ended : Status) (text : List ℕ) → IsAudited request old new ended text → Took sink sunk text
@@ -208,31 +176,31 @@ module _ (one_program : IsOneProgram) (not_accepted : AreNotAccepted) (endings :
         → EndsAudit sink sunk request source program scope ended
     ends_audit status.Fine is = ⊎_elim (λ o. absurd (no_outcome status.Fine is.0 o))
         (⊎_elim (λ a. report_written status.Fine is.0 a is.2) (λ k. absurd (not_check k.mode)))
-        (asked_is (λ r. MayAnswer r old new status.Fine is.0) is.1)
+        (answer_is status.Fine is.0 is.1)
     ends_audit status.Conflict is =
-        absurd (no_outcome status.Conflict is.0 (asked_is (λ r. IsOutcome r old new status.Conflict is.0) is.1))
+        absurd (no_outcome status.Conflict is.0 (answer_is status.Conflict is.0 is.1))
     ends_audit status.NoValue is =
-        absurd (no_outcome status.NoValue is.0 (asked_is (λ r. IsOutcome r old new status.NoValue is.0) is.1))
+        absurd (no_outcome status.NoValue is.0 (answer_is status.NoValue is.0 is.1))
     ends_audit status.Fault is =
-        absurd (no_outcome status.Fault is.0 (asked_is (λ r. IsOutcome r old new status.Fault is.0) is.1))
+        absurd (no_outcome status.Fault is.0 (answer_is status.Fault is.0 is.1))
     ends_audit status.Source is = absurd (refused_source is.0 is.1)
     ends_audit status.Input is =
-        let refused = asked_is (λ r. IsRefusedInput r old new is.0) is.1 in absurd (not_run refused.mode)
+        let refused = answer_is status.Input is.0 is.1 in absurd (not_run refused.mode)
     ends_audit status.Found is =
-        report_written status.Found is.0 (asked_is (λ r. IsAudited r old new status.Found is.0) is.1) is.2
+        report_written status.Found is.0 (answer_is status.Found is.0 is.1) is.2
     ends_audit status.Unsettled is =
-        report_written status.Unsettled is.0 (asked_is (λ r. IsAudited r old new status.Unsettled is.0) is.1) is.2
+        report_written status.Unsettled is.0 (answer_is status.Unsettled is.0 is.1) is.2
     ends_audit status.Certificate is =
-        let refused = asked_is (λ r. IsChecked HasNoCertificate r old new is.0) is.1 in absurd (not_check refused.mode)
+        let refused = answer_is status.Certificate is.0 is.1 in absurd (not_check refused.mode)
     ends_audit status.Usage is = absurd (refused_usage is.0 is.1)
     ends_audit status.Missing is =
-        let read = asked_is (λ r. IsRefusedRead r old new shelf.Missing (codes "missing file ") is.0) is.1 in
+        let read = answer_is status.Missing is.0 is.1 in
         absurd (audit_missing read.name read.limit read.now read.read.2)
     ends_audit status.ReadFault is = tt
     ends_audit status.WriteFault is = tt
     ends_audit status.Memory is = tt
     ends_audit status.TooLarge is =
-        let read = asked_is (λ r. IsRefusedRead r old new shelf.Long (codes "too large ") is.0) is.1 in
+        let read = answer_is status.TooLarge is.0 is.1 in
         absurd (audit_large read.name read.limit read.now read.read.2)
 
   -- ---- where the file that EXTRA names is told
@@ -312,31 +280,31 @@ module _ (one_program : IsOneProgram) (not_accepted : AreNotAccepted) (endings :
         → EndsRun sink sunk source program scope input ended
     ends_run status.Fine is = ⊎_elim (λ o. outcome_written status.Fine is.0 o is.2)
         (⊎_elim (λ a. absurd (not_audited status.Fine is.0 a)) (λ k. absurd (not_checked k.mode)))
-        (asked_is (λ r. MayAnswer r old new status.Fine is.0) is.1)
+        (answer_is status.Fine is.0 is.1)
     ends_run status.Conflict is =
-        outcome_written status.Conflict is.0 (asked_is (λ r. IsOutcome r old new status.Conflict is.0) is.1) is.2
+        outcome_written status.Conflict is.0 (answer_is status.Conflict is.0 is.1) is.2
     ends_run status.NoValue is =
-        outcome_written status.NoValue is.0 (asked_is (λ r. IsOutcome r old new status.NoValue is.0) is.1) is.2
+        outcome_written status.NoValue is.0 (answer_is status.NoValue is.0 is.1) is.2
     ends_run status.Fault is =
-        outcome_written status.Fault is.0 (asked_is (λ r. IsOutcome r old new status.Fault is.0) is.1) is.2
+        outcome_written status.Fault is.0 (answer_is status.Fault is.0 is.1) is.2
     ends_run status.Source is = absurd (refused_source is.0 is.1)
-    ends_run status.Input is = absurd (no_input is.0 (asked_is (λ r. IsRefusedInput r old new is.0) is.1))
+    ends_run status.Input is = absurd (no_input is.0 (answer_is status.Input is.0 is.1))
     ends_run status.Found is =
-        absurd (not_audited status.Found is.0 (asked_is (λ r. IsAudited r old new status.Found is.0) is.1))
+        absurd (not_audited status.Found is.0 (answer_is status.Found is.0 is.1))
     ends_run status.Unsettled is =
-        absurd (not_audited status.Unsettled is.0 (asked_is (λ r. IsAudited r old new status.Unsettled is.0) is.1))
+        absurd (not_audited status.Unsettled is.0 (answer_is status.Unsettled is.0 is.1))
     ends_run status.Certificate is =
-        let refused = asked_is (λ r. IsChecked HasNoCertificate r old new is.0) is.1 in
+        let refused = answer_is status.Certificate is.0 is.1 in
         absurd (not_checked refused.mode)
     ends_run status.Usage is = absurd (refused_usage is.0 is.1)
     ends_run status.Missing is =
-        let read = asked_is (λ r. IsRefusedRead r old new shelf.Missing (codes "missing file ") is.0) is.1 in
+        let read = answer_is status.Missing is.0 is.1 in
         absurd (not_missing run.extra run.extra_told run.extra_short read.name read.limit read.now read.read.2)
     ends_run status.ReadFault is = tt
     ends_run status.WriteFault is = tt
     ends_run status.Memory is = tt
     ends_run status.TooLarge is =
-        let read = asked_is (λ r. IsRefusedRead r old new shelf.Long (codes "too large ") is.0) is.1 in
+        let read = answer_is status.TooLarge is.0 is.1 in
         absurd (not_large run.extra run.extra_told run.extra_short read.name read.limit read.now read.read.2)
 
   -- ---- of a check
@@ -370,32 +338,32 @@ module _ (one_program : IsOneProgram) (not_accepted : AreNotAccepted) (endings :
     ends_check status.Fine is = ⊎_elim (λ o. absurd (no_outcome_checked status.Fine is.0 o))
         (⊎_elim (λ a. absurd (no_audit_checked status.Fine is.0 a))
         (λ k. (is.0, said_here HasCertificate is.0 k, is.2.taken)))
-        (asked_is (λ r. MayAnswer r old new status.Fine is.0) is.1)
+        (answer_is status.Fine is.0 is.1)
     ends_check status.Conflict is = absurd
-        (no_outcome_checked status.Conflict is.0 (asked_is (λ r. IsOutcome r old new status.Conflict is.0) is.1))
+        (no_outcome_checked status.Conflict is.0 (answer_is status.Conflict is.0 is.1))
     ends_check status.NoValue is = absurd
-        (no_outcome_checked status.NoValue is.0 (asked_is (λ r. IsOutcome r old new status.NoValue is.0) is.1))
+        (no_outcome_checked status.NoValue is.0 (answer_is status.NoValue is.0 is.1))
     ends_check status.Fault is = absurd
-        (no_outcome_checked status.Fault is.0 (asked_is (λ r. IsOutcome r old new status.Fault is.0) is.1))
+        (no_outcome_checked status.Fault is.0 (answer_is status.Fault is.0 is.1))
     ends_check status.Source is = absurd (refused_source is.0 is.1)
     ends_check status.Input is =
-        let refused = asked_is (λ r. IsRefusedInput r old new is.0) is.1 in absurd (check_runs refused.mode)
+        let refused = answer_is status.Input is.0 is.1 in absurd (check_runs refused.mode)
     ends_check status.Found is = absurd
-        (no_audit_checked status.Found is.0 (asked_is (λ r. IsAudited r old new status.Found is.0) is.1))
+        (no_audit_checked status.Found is.0 (answer_is status.Found is.0 is.1))
     ends_check status.Unsettled is = absurd
-        (no_audit_checked status.Unsettled is.0 (asked_is (λ r. IsAudited r old new status.Unsettled is.0) is.1))
+        (no_audit_checked status.Unsettled is.0 (answer_is status.Unsettled is.0 is.1))
     ends_check status.Certificate is = (
       is.0,
-      said_here HasNoCertificate is.0 (asked_is (λ r. IsChecked HasNoCertificate r old new is.0) is.1),
+      said_here HasNoCertificate is.0 (answer_is status.Certificate is.0 is.1),
       is.2.taken,
     )
     ends_check status.Usage is = absurd (refused_usage is.0 is.1)
     ends_check status.Missing is =
-        let read = asked_is (λ r. IsRefusedRead r old new shelf.Missing (codes "missing file ") is.0) is.1 in
+        let read = answer_is status.Missing is.0 is.1 in
         absurd (not_missing extra check.extra_told check.extra_short read.name read.limit read.now read.read.2)
     ends_check status.ReadFault is = tt
     ends_check status.WriteFault is = tt
     ends_check status.Memory is = tt
     ends_check status.TooLarge is =
-        let read = asked_is (λ r. IsRefusedRead r old new shelf.Long (codes "too large ") is.0) is.1 in
+        let read = answer_is status.TooLarge is.0 is.1 in
         absurd (not_large extra check.extra_told check.extra_short read.name read.limit read.now read.read.2)

@@ -1,41 +1,53 @@
 -- A fault is answered only where a count rose.
-use Rattle.std.proofs.Common.{◌≡◌, ℕ, false, List, refl, inl, inr}
-use Rattle.std.specs.Prelude.{Option, Some, None, Err, IsSomeAnd, IfSome}
+use Rattle.std.proofs.Common.{◌≡◌, ◌≢◌, ℕ, false, List, refl, inl, inr}
+use Rattle.std.specs.Prelude.{Option, Some, None, Err, IfSome, codes}
 use Rattle.cat_io.specs.Count.{FaultsRose}
 use Rattle.cat_io.specs.Shelf.{Shelved, Reads}
 use Rattle.cat_io.specs.Sink.{Sunk}
 use Rattle.cat_io.specs.declared.shelf.ShelfFault.{ShelfFault}
 use Rattle.cat_io.specs.declared.shelf.ShelfFault.TheVariants as shelf
-use Rattle.cat_app.specs.Words.{request_of}
+use Rattle.cat_app.specs.Words.{Ask, OfBands, OfScope, Request, ask_of, request_in}
+use Rattle.cat_app.specs.Asked.{IsReadNow}
 use Rattle.cat_app.specs.Answers.{IsRefusedRead}
-use Rattle.cat_app.specs.Table.{Answers}
+use Rattle.cat_app.specs.Table.{Answers, MayAnswer, MayAnswerTo, MayDrill}
 use Rattle.cat_app.specs.Complete.{NameRose, NoFileRose, is_fault}
 use Rattle.cat_app.specs.declared.status.Status.{Status}
 use Rattle.cat_app.specs.declared.status.Status.TheVariants as status
 
--- where a request is asked for, of it
-on_some : {A : Type 0} {P Q : A → Type 0} {R : Type 0} (o : Option A) → IsSomeAnd o P → IfSome o Q
-    → ((x : A) → P x → Q x → R) → R
-on_some None p q step = absurd p
-on_some (Some x) p q step = step x p q
+-- what may be answered answers a request, unless it is how the program is used or what a drill comes to
+on_request : {R : Type 0} (P : Request → Type 0) (o : Option Ask) (old new : Shelved) (ended : Status) (text : List ℕ)
+    → ended ≢ status.Usage → ((bands : ℕ) → MayDrill bands ended text → ⊥) → MayAnswerTo o old new ended text
+    → IfSome (request_in o) P → ((request : Request) → MayAnswer request old new ended text → P request → R) → R
+on_request P None old new ended text other no_drill may p step = absurd (other may.ended_is)
+on_request P (Some (OfScope request)) old new ended text other no_drill may p step = step request may p
+on_request P (Some (OfBands bands)) old new ended text other no_drill may p step = absurd (no_drill bands may.1)
 
--- no file was refused where no count rose
-none_refused : (words : List (List ℕ)) (old new : Shelved) (fault : ShelfFault) (text line : List ℕ)
+-- no count of a file rose that a request reads
+abbrev IsCalm : Shelved → Shelved → Request → Type 0
+IsCalm old new request =
+    (name : List ℕ) (limit : ℕ) → IsReadNow request old name limit → NameRose name old new → ⊥
+
+-- no read of a request was refused where none rose
+still : (request : Request) (old new : Shelved) (fault : ShelfFault) (line text : List ℕ)
     → ((name : List ℕ) (limit : ℕ) → Reads name limit old new (Err fault) → NameRose name old new)
-    → IsSomeAnd (request_of words) (λ request. IsRefusedRead request old new fault line text)
-    → NoFileRose words old new → ⊥
-none_refused words old new fault text line rises may none =
-    on_some (request_of words) may none (λ request is still.
-    still is.name is.limit is.now (rises is.name is.limit is.read))
+    → IsRefusedRead request old new fault line text → IsCalm old new request → ⊥
+still request old new fault line text rises is none =
+    none is.name is.limit is.now (rises is.name is.limit is.read)
 
 pub no_fault : (words : List (List ℕ)) (old new : Shelved) (sink sunk : Sunk) (ended : Status)
     → Answers words old new sink sunk ended → NoFileRose words old new → (FaultsRose sink.faults sunk.faults → ⊥)
     → is_fault ended ≡ false
 no_fault words old new sink sunk status.Missing is none steady =
-    absurd (none_refused words old new shelf.Missing is.0 _ (λ name limit reads. inl reads.1) is.1 none)
+    absurd (on_request (IsCalm old new) (ask_of words) old new status.Missing is.0 (λ e. cc e)
+    (λ bands may. may) is.1 none (λ request refused calm. still request old new shelf.Missing (codes "missing file ") is.0
+    (λ name limit reads. inl reads.1) refused calm))
 no_fault words old new sink sunk status.ReadFault is none steady =
-    absurd (none_refused words old new shelf.Failed is.0 _ (λ name limit reads. inr (inl reads.1)) is.1 none)
+    absurd (on_request (IsCalm old new) (ask_of words) old new status.ReadFault is.0 (λ e. cc e)
+    (λ bands may. may) is.1 none (λ request refused calm. still request old new shelf.Failed (codes "read fault ") is.0
+    (λ name limit reads. inr (inl reads.1)) refused calm))
 no_fault words old new sink sunk status.TooLarge is none steady =
-    absurd (none_refused words old new shelf.Long is.0 _ (λ name limit reads. inr (inr reads.1)) is.1 none)
+    absurd (on_request (IsCalm old new) (ask_of words) old new status.TooLarge is.0 (λ e. cc e)
+    (λ bands may. may) is.1 none (λ request refused calm. still request old new shelf.Long (codes "too large ") is.0
+    (λ name limit reads. inr (inr reads.1)) refused calm))
 no_fault words old new sink sunk status.WriteFault is none steady = absurd (steady is.failed.rose)
 no_fault words old new sink sunk _ is none steady = refl

@@ -1,10 +1,11 @@
 -- Which replies the steps of a call lead to.
-use Rattle.std.proofs.Common.{◌≡◌, ◌≢◌, ◌∙◌, ◌≤◌, ◌<◌, ◌+◌, ℕ, Bool, true, false, List, [], ◌∷◌, refl, sym, ap, subst, inl, inr, arith}
+use Rattle.std.proofs.Common.{◌≡◌, ◌≢◌, ◌∙◌, ◌<◌, ◌+◌, ℕ, Bool, true, false, List, [], ◌∷◌, refl}
+use Rattle.std.proofs.Common.{sym, subst, inl, inr, arith}
 use Rattle.std.specs.Prelude.{Option, Some, None, Result, Ok, Err, IfOk, codes, length, string_bytes, if◌then◌else◌}
 use Rattle.std.specs.Prelude.{bytes_eq, IsTrue}
 use Rattle.cat_pos.specs.declared.limits.TheConstants.{MOST_INPUT_BYTES}
 use Rattle.cat_pos.specs.declared.pos.Pos.{Pos}
-use Rattle.cat_io.specs.Shelf.{Shelved, Reads, Keeps, GrowsBy, ListsGrowBy}
+use Rattle.cat_io.specs.Shelf.{Shelved, Reads, Keeps, GrowsBy}
 use Rattle.cat_io.specs.declared.shelf.ShelfFault.{ShelfFault}
 use Rattle.cat_io.specs.declared.shelf.ShelfFault.TheVariants as shelf
 use Rattle.cat_value.specs.declared.value.Value.{Value}
@@ -13,7 +14,6 @@ use Rattle.cat_value.specs.declared.outcome.Outcome.{Outcome}
 use Rattle.cat_value.specs.declared.outcome.Outcome.TheVariants as outcome
 use Rattle.cat_scope.specs.declared.programs.Program.{Program}
 use Rattle.cat_scope.specs.Named.{number_named}
-use Rattle.cat_scope.specs.Outcomes.{scope_outcome}
 use Rattle.cat_calc.specs.Calculus.{calc_outcome}
 use Rattle.cat_audit.specs.declared.report.Verdict.{Verdict}
 use Rattle.cat_audit.specs.declared.report.Verdict.TheVariants as verdict
@@ -33,29 +33,28 @@ use Rattle.cat_build.specs.Accepted.{IsAccepted}
 use Rattle.cat_build.specs.Built.{IsBuiltOf}
 use Rattle.cat_build.specs.Causes.{StandsAt}
 use Rattle.cat_build.specs.Codes.{number_of}
-use Rattle.cat_app.specs.Words.{Request, IsMost, reads_extra, request_of}
+use Rattle.cat_app.specs.Words.{Ask, Request, IsMost, ask_of, reads_extra}
 use Rattle.cat_app.specs.Asked.{IsSource, IsExtra, IsAsked, IsReadNow}
 use Rattle.cat_app.specs.declared.request.Mode.TheVariants.{Run, Audit, Check}
 use Rattle.cat_app.specs.Audits.{IsAudited, status_at}
 use Rattle.cat_app.specs.Checks.{HasCertificate, HasNoCertificate, IsChecked}
 use Rattle.cat_app.specs.Answers.{IsOutcome, input_line, refusal_line, line, status_of}
-use Rattle.cat_app.specs.Table.{MayAnswer, MayReply, ListsOne}
+use Rattle.cat_app.specs.Table.{MayAnswer, MayAnswerTo, MayReply, ListsOne}
 use Rattle.cat_app.specs.inside.Says.{Says, SaysChecked, SaysFault, SaysGathering}
 use Rattle.cat_app.specs.inside.Says.{SaysInput, SaysOf, SaysReport, MaySay}
 use Rattle.cat_app.specs.declared.reply.Reply.{Reply}
 use Rattle.cat_app.specs.declared.status.Status.{Status}
-use Rattle.cat_app.specs.declared.status.Status.TheVariants.{Source as SourceStatus, Input, Usage}
+use Rattle.cat_app.specs.declared.status.Status.TheVariants.{Source as SourceStatus, Usage}
 
 -- of a result, what a fact leads to
 pub if_ok : {A E : Type 0} {P Q : A → Type 0} (r : Result A E) → IfOk r P → ((a : A) → P a → Q a) → IfOk r Q
 if_ok (Ok a) p step = step a p
 if_ok (Err e) p step = tt
 
--- what may answer a request may reply to its words
-pub answered : (words : List (List ℕ)) (request : Request) (old new : Shelved) (status : Status) (text : List ℕ) →
-    Some request ≡ request_of words → MayAnswer request old new status text → MayReply words old new status text
-answered words request old new Usage text is may = inr (rw (← is) may)
-answered words request old new status text is may = rw (← is) may
+-- what may answer what is asked may reply to its words
+pub answered : (words : List (List ℕ)) (o : Option Ask) (old new : Shelved) (ended : Status) (text : List ℕ)
+    → o ≡ ask_of words → MayAnswerTo o old new ended text → MayReply words old new ended text
+answered words o old new ended text is may = subst (λ (a : Option Ask). MayAnswerTo a old new ended text) is may
 
 -- ---- what is listed
 

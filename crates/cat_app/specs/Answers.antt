@@ -1,5 +1,5 @@
 -- The answers of the top call, each with its cause.
-use Rattle.std.specs.Prelude.{◌≡◌, ℕ, List, [], ◌∷◌, ◌++◌, Option, Some, None, Ok, Err, IsNone, codes}
+use Rattle.std.specs.Prelude.{◌≡◌, ℕ, List, [], ◌∷◌, ◌++◌, Option, Some, None, Ok, Err, codes}
 use Rattle.std.specs.Fmt.{decimal}
 use Rattle.cat_io.specs.Shelf.{Shelved, Reads}
 use Rattle.cat_io.specs.declared.shelf.ShelfFault.{ShelfFault}
@@ -23,7 +23,7 @@ use Rattle.cat_build.specs.declared.code.Code.{Code}
 use Rattle.cat_build.specs.Accepted.{IsAccepted}
 use Rattle.cat_build.specs.Causes.{StandsAt}
 use Rattle.cat_build.specs.Codes.{number_of}
-use Rattle.cat_app.specs.Words.{Request, request_of}
+use Rattle.cat_app.specs.Words.{Request}
 use Rattle.cat_app.specs.declared.request.Mode.TheVariants.{Run}
 use Rattle.cat_app.specs.Asked.{IsSource, IsExtra, IsAsked, IsReadNow}
 use Rattle.cat_app.specs.declared.status.Status.{Status}
@@ -129,9 +129,9 @@ pub record IsRefusedInput (request : Request) (old new : Shelved) (text : List �
   pub reply : input_line refusal ≡ Some text
 
 -- the words ask for nothing
-pub record IsUsage (words : List (List ℕ)) (old new : Shelved) (text : List ℕ) : Type 0 where
-  pub no_request : IsNone (request_of words)
+pub record IsUsage (old new : Shelved) (ended : Status) (text : List ℕ) : Type 0 where
   pub untouched : new ≡ old
+  pub ended_is : ended ≡ status.Usage
   pub reply : text ≡ line (codes "usage: catala MODE SCOPE FILE [EXTRA] [--cases N]") []
 
 -- The shelf's own causes.

@@ -1,13 +1,14 @@
 -- The table of answers: which texts may come with a status, and what the sink took of them.
-use Rattle.std.specs.Prelude.{◌≡◌, ◌⊎◌, ℕ, List, IsSomeAnd, codes}
+use Rattle.std.specs.Prelude.{◌≡◌, ◌⊎◌, ℕ, List, Option, None, Some, codes}
 use Rattle.cat_io.specs.Shelf.{Shelved, Keeps}
 use Rattle.cat_io.specs.declared.shelf.ShelfFault.TheVariants as shelf
 use Rattle.cat_io.specs.Sink.{Sunk, Took, FailedAt}
-use Rattle.cat_app.specs.Words.{Request, request_of}
+use Rattle.cat_app.specs.Words.{Ask, OfScope, OfBands, Request, ask_of}
 use Rattle.cat_app.specs.Answers.{IsOutcome, IsRefusedFile, IsRefusedSource, IsNoScope, IsRefusedInput, IsUsage}
 use Rattle.cat_app.specs.Answers.{IsRefusedRead}
 use Rattle.cat_app.specs.Audits.{IsAudited}
 use Rattle.cat_app.specs.Checks.{HasCertificate, HasNoCertificate, IsChecked}
+use Rattle.cat_app.specs.Drills.{HasLine, HasRefusedRun, HasStop, IsOfBands, bands_request, bands_shelf}
 use Rattle.cat_app.specs.declared.status.Status.{Status}
 use Rattle.cat_app.specs.declared.status.Status.TheVariants.{Fine, Conflict, NoValue, Fault, Source, Input, Found}
 use Rattle.cat_app.specs.declared.status.Status.TheVariants.{Certificate, Unsettled, Usage, Missing, ReadFault}
@@ -32,12 +33,27 @@ MayAnswer request old new ReadFault text = IsRefusedRead request old new shelf.F
 MayAnswer request old new TooLarge text = IsRefusedRead request old new shelf.Long (codes "too large ") text
 MayAnswer request old new status text = ⊥
 
+-- the texts that may come with a status to one who asked for a drill: refusals are those of a run of `Bands`, over a shelf
+-- that has the source of the bands alone
+abbrev pub MayDrill : ℕ → Status → List ℕ → Type 0
+MayDrill bands Fine text = IsOfBands (HasLine bands) bands text
+MayDrill bands Conflict text = IsOfBands (HasStop bands Conflict) bands text
+MayDrill bands NoValue text = IsOfBands (HasStop bands NoValue) bands text
+MayDrill bands Fault text = IsOfBands (HasStop bands Fault) bands text
+MayDrill bands Input text = IsOfBands (HasRefusedRun bands) bands text
+MayDrill bands Source text = MayAnswer bands_request (bands_shelf bands) (bands_shelf bands) Source text
+MayDrill bands Usage text = MayAnswer bands_request (bands_shelf bands) (bands_shelf bands) Usage text
+MayDrill bands status text = ⊥
+
+-- the texts that may come with a status to what is asked, if anything is
+abbrev pub MayAnswerTo : Option Ask → Shelved → Shelved → Status → List ℕ → Type 0
+MayAnswerTo None old new status text = IsUsage old new status text
+MayAnswerTo (Some (OfScope request)) old new status text = MayAnswer request old new status text
+MayAnswerTo (Some (OfBands bands)) old new status text = (new ≡ old) × MayDrill bands status text
+
 -- the texts that may come with a status to some words
 abbrev pub MayReply : List (List ℕ) → Shelved → Shelved → Status → List ℕ → Type 0
-MayReply words old new Usage text =
-    IsUsage words old new text ⊎ IsSomeAnd (request_of words) (λ request. MayAnswer request old new Usage text)
-MayReply words old new status text =
-    IsSomeAnd (request_of words) (λ request. MayAnswer request old new status text)
+MayReply words = MayAnswerTo (ask_of words)
 
 -- at most one name was listed
 pub record ListsOne (old new : Shelved) : Type 0 where

@@ -5,6 +5,7 @@ use Rattle.std.specs.List.{list_any}
 use Rattle.clap.specs.Words.{matches_of, one_of}
 use Rattle.cat_words.specs.Asked.{Asked, IsCases, asked_by}
 use Rattle.cat_words.specs.TheCommand.{the_command}
+use Rattle.cat_drill.specs.Numbers.{bands_in}
 use Rattle.cat_app.specs.declared.request.Mode.{Mode}
 use Rattle.cat_app.specs.declared.request.Mode.TheVariants.{Run, Audit, Check}
 
@@ -47,10 +48,49 @@ request_by cases asked =
 abbrev pub cases_in : List (List ℕ) → Option (List ℕ)
 cases_in words = one_of (codes "cases") (matches_of the_command words)
 
--- the words `run SCOPE FILE [EXTRA]`, `check SCOPE FILE [EXTRA]` or `audit SCOPE FILE` of a command that is taken; other
--- words are no request
-unfoldable pub request_of : List (List ℕ) → Option Request
-request_of words = option_and_then (request_by (cases_in words)) (asked_by words)
+-- what is asked: something of a scope, or a drill of so many bands
+pub data Ask : Type 0 where
+  OfScope : Request → Ask
+  OfBands : ℕ → Ask
+
+-- how many bands a drill has: SCOPE names them, FILE is `none`, and there is no EXTRA
+abbrev pub bands_from : List ℕ → List ℕ → Bool → Option ℕ
+bands_from scope file has_extra =
+    if bytes_eq file (codes "none") && not has_extra then bands_in scope else None
+
+abbrev pub bands_by : Asked → Option ℕ
+bands_by asked = bands_from asked.scope asked.file (is_some asked.extra)
+
+-- what words ask by their mode
+abbrev pub ask_by : Option (List ℕ) → Asked → Option Ask
+ask_by cases asked =
+    if bytes_eq asked.mode (codes "drill") then option_map OfBands (bands_by asked)
+    else option_map OfScope (request_by cases asked)
+
+-- the words `run SCOPE FILE [EXTRA]`, `check SCOPE FILE [EXTRA]`, `audit SCOPE FILE` or `drill N none` of a command that
+-- is taken; other words ask for nothing
+unfoldable pub ask_of : List (List ℕ) → Option Ask
+ask_of words = option_and_then (ask_by (cases_in words)) (asked_by words)
+
+-- what is asked of a scope, where something is
+abbrev pub request_in : Option Ask → Option Request
+request_in None = None
+request_in (Some (OfScope r)) = Some r
+request_in (Some (OfBands bands)) = None
+
+-- how many bands a drill that is asked for has, where one is
+abbrev pub bands_asked : Option Ask → Option ℕ
+bands_asked None = None
+bands_asked (Some (OfScope r)) = None
+bands_asked (Some (OfBands bands)) = Some bands
+
+-- what words ask of a scope
+abbrev pub request_of : List (List ℕ) → Option Request
+request_of words = request_in (ask_of words)
+
+-- how many bands words ask for
+abbrev pub bands_of : List (List ℕ) → Option ℕ
+bands_of words = bands_asked (ask_of words)
 
 -- the most leaves that an audit makes of a target: the number of cases, and one at least
 pub record IsMost (cases : Option (List ℕ)) (most : ℕ) : Type 0 where

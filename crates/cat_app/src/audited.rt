@@ -28,7 +28,7 @@ pub fn most_of(cases: u32) -> u32
 }
 
 /// The last verdict of sections.
-fn last_verdict(sections: &[Section]) -> Verdict
+pub(crate) fn last_verdict(sections: &[Section]) -> Verdict
     ensures { result ≡ last_verdict sections.now }
 {
     let mut last = Verdict::Undecided;
@@ -50,7 +50,7 @@ fn status_at(verdict: Verdict) -> Status
 }
 
 /// The report of a scope.
-fn report_of(
+pub(crate) fn report_of(
     alloc: Global,
     source: &Source,
     built: &Built,

@@ -4,6 +4,7 @@
 
 mod audited;
 mod checked;
+mod drilled;
 mod reply;
 mod request;
 mod run;

@@ -2,9 +2,12 @@
 ghost use Rattle.std.specs.Prelude.{◌≡◌, IfOk, OnErr, string_bytes};
 ghost use Rattle.cat_io.specs.Stored.{texts_of};
 ghost use Rattle.cat_app.specs.Table.{ListsOne, MayReply};
+ghost use Rattle.cat_app.specs.inside.Says.{HasBands};
+ghost use Rattle.cat_app.specs.inside.SaysOfBands.{MayTellTo};
 
 use crate::Status;
-use crate::request::read_words;
+use crate::drilled::drilled;
+use crate::request::{AskedFor, read_words};
 use crate::run::run;
 use crate::texts::usage;
 use cat_io::Shelf;
@@ -15,6 +18,23 @@ use std::alloc::{AllocError, Global};
 pub struct Reply {
     pub status: Status,
     pub text: String,
+}
+
+/// The reply to what is asked.
+fn reply_to<S: Shelf>(
+    alloc: Global,
+    asked: AskedFor<'_>,
+    shelf: &mut S,
+) -> Result<Reply, AllocError>
+    requires { HasBands asked }
+    ensures told { (S.state shelf.new).content ≡ (S.state shelf.old).content }
+    ensures may { IfOk result (MayTellTo asked.entry (S.state shelf.old) (S.state shelf.new)) }
+    ensures lists { OnErr result (ListsOne (S.state shelf.old) (S.state shelf.new)) }
+{
+    match asked {
+        AskedFor::Scope(words) => run(alloc, words, shelf),
+        AskedFor::Drill(bands) => drilled(alloc, bands),
+    }
 }
 
 /// The reply to the words, over the files of the shelf.
@@ -29,7 +49,7 @@ pub fn whole_reply<S: Shelf>(
     ensures lists { OnErr result (ListsOne (S.state shelf.old) (S.state shelf.new)) }
 {
     match read_words(alloc, words)? {
-        Some(asked) => run(alloc, asked, shelf),
+        Some(asked) => reply_to(alloc, asked, shelf),
         None => usage(alloc),
     }
 }

@@ -1,10 +1,11 @@
 // The words of the command line.
-ghost use Rattle.std.specs.Prelude.{◌≡◌, ℕ, List, Option, IfOk, IfSome, option_map};
+ghost use Rattle.std.specs.Prelude.{◌≡◌, ◌≤◌, ℕ, List, Option, IfOk, IfSome, option_map};
 ghost use Rattle.cat_io.specs.Stored.{texts_of};
 ghost use Rattle.cat_words.specs.Asked.{asked_of as words_of};
-ghost use Rattle.cat_app.specs.Words.{mode_by, request_by};
-ghost use Rattle.cat_app.specs.inside.Says.{asked_of, AsksFor};
+ghost use Rattle.cat_app.specs.Words.{ask_by, bands_by, bands_from, mode_by, request_by};
+ghost use Rattle.cat_app.specs.inside.Says.{ask_in, asked_of, AsksFor, HasBands, HasNumber};
 
+use cat_drill::bands_in;
 use cat_words::CommandLine;
 use std::alloc::{AllocError, Global};
 
@@ -24,6 +25,13 @@ pub struct AskedWords<'a> {
     pub file: &'a str,
     pub extra: &'a str,
     pub cases: u32,
+}
+
+/// What words ask for: something of a scope, or a drill of so many bands.
+#[derive(Clone, Copy, Debug)]
+pub enum AskedFor<'a> {
+    Scope(AskedWords<'a>),
+    Drill(u32),
 }
 
 /// The mode that goes by this name, where it takes EXTRA or none is given.
@@ -60,16 +68,59 @@ fn asked_words(line: CommandLine<'_>) -> Option<AskedWords<'_>>
     })
 }
 
+/// How many bands a drill has.
+fn bands_from(
+    alloc: Global,
+    scope: &str,
+    file: &str,
+    has_extra: bool,
+) -> Result<Option<u32>, AllocError>
+    ensures named { IfOk result (λ bands. bands ≡ bands_from scope.now file.now has_extra) }
+    ensures range { IfOk result (λ bands. IfSome bands (λ n. (1 ≤ n) × (n ≤ 1000))) }
+{
+    if file == "none" && !has_extra {
+        return bands_in(alloc, scope);
+    }
+    Ok(None)
+}
+
+/// How many bands a command line names that asks for a drill.
+fn asked_bands(alloc: Global, line: CommandLine<'_>) -> Result<Option<u32>, AllocError>
+    ensures named { IfOk result (λ bands. bands ≡ bands_by (words_of line.entry)) }
+    ensures range { IfOk result (λ bands. IfSome bands (λ n. (1 ≤ n) × (n ≤ 1000))) }
+{
+    bands_from(alloc, line.scope, line.file, line.extra.is_some())
+}
+
+/// What a command line asks for by its mode.
+fn asked_for(alloc: Global, line: CommandLine<'_>) -> Result<Option<AskedFor<'_>>, AllocError>
+    ensures asked { IfOk result (λ asked. (cases : Option (List ℕ))
+        → option_map (ask_in cases) asked ≡ ask_by cases (words_of line.entry)) }
+    ensures cases { IfOk result (λ asked. IfSome asked (HasNumber line.entry.cases)) }
+    ensures bands { IfOk result (λ asked. IfSome asked HasBands) }
+{
+    if line.mode == "drill" {
+        return match asked_bands(alloc, line)? {
+            Some(bands) => Ok(Some(AskedFor::Drill(bands))),
+            None => Ok(None),
+        };
+    }
+    match asked_words(line) {
+        Some(asked) => Ok(Some(AskedFor::Scope(asked))),
+        None => Ok(None),
+    }
+}
+
 /// What the words `MODE SCOPE FILE [EXTRA] [--cases N]` ask for.
-#[tactic(auto, unfolding(crate::specs::Words::request_of))]
+#[tactic(auto, unfolding(crate::specs::Words::ask_of))]
 pub fn read_words<'a>(
     alloc: Global,
     words: &'a [String],
-) -> Result<Option<AskedWords<'a>>, AllocError>
+) -> Result<Option<AskedFor<'a>>, AllocError>
     ensures { IfOk result (AsksFor (texts_of words.entry.now)) }
 {
     match cat_words::read_words(alloc, words)? {
-        Some(line) => Ok(asked_words(line)),
+        Some(line) => asked_for(alloc, line),
         None => Ok(None),
     }
 }

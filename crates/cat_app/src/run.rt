@@ -7,7 +7,7 @@ ghost use Rattle.cat_value.specs.Inputs.{IsWellTyped};
 ghost use Rattle.cat_build.specs.Built.{IsBuiltOf};
 ghost use Rattle.cat_app.specs.Answers.{status_of};
 ghost use Rattle.cat_app.specs.Table.{ListsOne};
-ghost use Rattle.cat_app.specs.inside.Says.{IsGathered, MayTell, SaysOf};
+ghost use Rattle.cat_app.specs.inside.Says.{IsGathered, MayTell, SaysOf, SaysOutcome};
 
 use crate::Status;
 use crate::audited::{audited, most_of};
@@ -22,7 +22,7 @@ use cat_gather::{Source, gather};
 use cat_io::{Shelf, read_all};
 use cat_json::read_input;
 use cat_pos::{Files, MOST_INPUT_BYTES};
-use cat_value::{Input, Outcome};
+use cat_value::{Decls, Input, Outcome};
 use std::alloc::{AllocError, Global};
 
 /// Gathers the source first.
@@ -154,9 +154,23 @@ fn answer(
         (calc_outcome built.now.calc scope input.now)) }
 {
     let outcome = evaluate(alloc, &built.calc, scope, input)?;
-    let mut text = answer_text(alloc, &outcome, built.program.decls(), scope, files)?;
+    tell(alloc, files, built.program.decls(), scope, &outcome)
+}
+
+/// The line of an outcome, with its status.
+pub(crate) fn tell(
+    alloc: Global,
+    files: &Files,
+    decls: &Decls,
+    scope: u32,
+    outcome: &Outcome,
+) -> Result<Reply, AllocError>
+    requires { scope < length decls.now.scopes }
+    ensures { IfOk result (SaysOutcome decls.now scope files.now outcome.now) }
+{
+    let mut text = answer_text(alloc, outcome, decls, scope, files)?;
     text.push_str("\n")?;
-    let status = ended(&outcome);
+    let status = ended(outcome);
     Ok(Reply { status, text })
 }
 

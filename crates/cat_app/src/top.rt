@@ -9,6 +9,7 @@ ghost use Rattle.cat_app.specs.Words.{Request};
 ghost use Rattle.cat_app.specs.Table.{Answers};
 ghost use Rattle.cat_app.specs.Complete.{NoFileRose, RepliesFit, IsToldAudit, IsToldCheck, IsToldRun, EndsAudit};
 ghost use Rattle.cat_app.specs.Complete.{EndsCheck, EndsRun, is_fault, is_reply};
+ghost use Rattle.cat_app.specs.DrillEnds.{EndsDrill, IsToldDrill};
 
 use crate::Status;
 use crate::reply::whole_reply;
@@ -25,6 +26,7 @@ use std::alloc::Global;
 /// | `Fine` | of an audit, a complete report and its certificate |
 /// | `Found`, `Unsettled` | the report of an audit |
 /// | `Fine`, `Certificate` | of a check, a yes, or why the certificate is refused |
+/// | `Fine` | of a drill, its line; where a run of it has no value, that outcome with its own status |
 /// | `Source` | the code and the position by which the source is refused |
 /// | `Input` | the code by which the input is refused, and of which part |
 /// | `Usage` | how the program is used, or that the source has no such scope |
@@ -69,6 +71,11 @@ pub fn catala<S: Shelf, K: Sink>(
     ensures a_check_writes_its_answer { (request : Request) (source : Source) (program : Program) (scope : ℕ)
         (extra : List ℕ) → IsToldCheck (texts_of words.now) (S.state shelf.old) request source program scope extra
         → EndsCheck (K.state sink.old) (K.state sink.new) program scope extra result }
+
+    // The line of a drill has the sum of the rates of its runs, the leaves of the trees of its audit, and the verdict.
+    ensures a_drill_writes_its_line { (bands : ℕ) (source : Source) (program : Program) (scope : ℕ)
+        → IsToldDrill (texts_of words.now) bands source program scope
+        → EndsDrill (K.state sink.old) (K.state sink.new) bands source program scope result }
 {
     pieces_have_one_program();
     refused_pieces_are_not_accepted();

@@ -1,8 +1,8 @@
 -- Over contents that tell what is read, the replies that may come have a room.
 use Rattle.std.proofs.Common.{◌≡◌, ◌≤◌, ◌+◌, ◌-◌, ◌⊎◌, ◌∙◌, ℕ, List, [], ◌∷◌, ◌++◌, Option, Some, None, length, refl}
-use Rattle.std.proofs.Common.{sym, ap, subst, inl, inr, arith, slice_get, IsSomeAnd}
+use Rattle.std.proofs.Common.{sym, ap, subst, inl, inr, arith, slice_get}
 use Rattle.std.proofs.lemmas.List.{length-append}
-use Rattle.std.specs.Prelude.{IfSome, IsSome, codes}
+use Rattle.std.specs.Prelude.{IsSome, codes}
 use Rattle.cat_pos.specs.declared.pos.Pos.{Pos}
 use Rattle.cat_io.specs.Shelf.{Shelved}
 use Rattle.cat_io.specs.declared.shelf.ShelfFault.{ShelfFault}
@@ -21,16 +21,16 @@ use Rattle.cat_build.specs.declared.code.Code.TheVariants as code
 use Rattle.cat_build.specs.Accepted.{IsAccepted}
 use Rattle.cat_build.specs.Causes.{StandsAt}
 use Rattle.cat_build.specs.Codes.{number_of}
-use Rattle.cat_app.specs.Words.{Request, request_of}
+use Rattle.cat_app.specs.Words.{Ask, OfBands, OfScope, Request, ask_of}
 use Rattle.cat_app.specs.Asked.{IsSource, IsAsked}
 use Rattle.cat_app.specs.Answers.{line, refusal_line, gathering_line, IsOutcome, IsRefusedFile, IsRefusedSource}
-use Rattle.cat_app.specs.Answers.{IsNoScope, IsRefusedInput, IsUsage, IsRefusedRead}
+use Rattle.cat_app.specs.Answers.{IsNoScope, IsRefusedInput, IsRefusedRead}
 use Rattle.cat_app.specs.Audits.{IsAudited}
 use Rattle.cat_app.specs.declared.request.Mode.TheVariants.{Check}
-use Rattle.cat_app.specs.Table.{MayAnswer, MayReply}
+use Rattle.cat_app.specs.Table.{MayAnswer, MayAnswerTo}
 use Rattle.cat_app.specs.declared.status.Status.{Status}
 use Rattle.cat_app.specs.declared.status.Status.TheVariants as status
-use Rattle.cat_room.specs.Told.{IsRun, IsTold, TellsRun, TellsAll, HasRoom}
+use Rattle.cat_room.specs.Told.{IsRun, IsTold, TellsRun, TellsAll, HasRoom, WhereAsked}
 use Rattle.cat_room.proofs.Rooms.{Decided, Room, room_none, room_less, room_or, room_one, room_some, room_each, By}
 use Rattle.cat_room.proofs.Rooms.{one_of_at}
 use Rattle.cat_room.proofs.Endings.{ending_is, longest_name, source_readable, name_short, all_told}
@@ -301,56 +301,30 @@ module _ (request : Request) (old : Shelved) where
 -- ---- the replies to words
 
 -- a text that answers what the words ask for
-abbrev Answers : Option Request → Shelved → List ℕ → Type 0
-Answers asked old text =
-    (new : Shelved) × (ended : Status) × IsSomeAnd asked (λ request. MayAnswer request old new ended text)
+abbrev Answers : Option Ask → Shelved → List ℕ → Type 0
+Answers asked old text = (new : Shelved) × (ended : Status) × MayAnswerTo asked old new ended text
 
-answers_room : (laws : Laws) (old : Shelved) (asked : Option Request) → IfSome asked (TellsRun old)
+answers_room : (laws : Laws) (old : Shelved) (asked : Option Ask) → WhereAsked asked (TellsRun old)
     → TextRoom (Answers asked old)
-answers_room laws old None told = room_none size (Answers None old) (λ text h. h.2)
-answers_room laws old (Some request) told = request_room request old laws told
+answers_room laws old None told =
+    only_room (Answers None old) (line (codes "usage: catala MODE SCOPE FILE [EXTRA] [--cases N]") [])
+    (λ text h. h.2.reply)
+answers_room laws old (Some (OfScope request)) told = request_room request old laws told
+answers_room laws old (Some (OfBands bands)) told = absurd told
 
-module _ (words : List (List ℕ)) (old : Shelved) where
-  abbrev HasUsage : List ℕ → Type 0
-  HasUsage text = (new : Shelved) × IsUsage words old new text
+pub run_room : Laws → (words : List (List ℕ)) (old : Shelved) → WhereAsked (ask_of words) (TellsRun old)
+    → HasRoom words old
+run_room laws words old told =
+    let room = answers_room laws old (ask_of words) told in
+    (room.0, λ new ended text h. room.1 text (new, ended, h))
 
-  usage_room : TextRoom HasUsage
-  usage_room = only_room HasUsage (line (codes "usage: catala MODE SCOPE FILE [EXTRA] [--cases N]") [])
-      (λ text has. has.1.reply)
+where_asked : (Has Holds : Request → Type 0) (asked : Option Ask) → ((request : Request) → Has request → Holds request)
+    → WhereAsked asked Has → WhereAsked asked Holds
+where_asked Has Holds None holds has = tt
+where_asked Has Holds (Some (OfScope request)) holds has = holds request has
+where_asked Has Holds (Some (OfBands bands)) holds has = absurd has
 
-  abbrev MayBe : List ℕ → Type 0
-  MayBe text = HasUsage text ⊎ Answers (request_of words) old text
-
-  may_be : (new : Shelved) (ended : Status) (text : List ℕ) → MayReply words old new ended text → MayBe text
-  may_be new status.Usage text (inl h) = inl (new, h)
-  may_be new status.Usage text (inr h) = inr (new, status.Usage, h)
-  may_be new status.Fine text h = inr (new, status.Fine, h)
-  may_be new status.Conflict text h = inr (new, status.Conflict, h)
-  may_be new status.NoValue text h = inr (new, status.NoValue, h)
-  may_be new status.Fault text h = inr (new, status.Fault, h)
-  may_be new status.Source text h = inr (new, status.Source, h)
-  may_be new status.Input text h = inr (new, status.Input, h)
-  may_be new status.Found text h = inr (new, status.Found, h)
-  may_be new status.Unsettled text h = inr (new, status.Unsettled, h)
-  may_be new status.Certificate text h = inr (new, status.Certificate, h)
-  may_be new status.Missing text h = inr (new, status.Missing, h)
-  may_be new status.ReadFault text h = inr (new, status.ReadFault, h)
-  may_be new status.WriteFault text h = inr (new, status.WriteFault, h)
-  may_be new status.Memory text h = inr (new, status.Memory, h)
-  may_be new status.TooLarge text h = inr (new, status.TooLarge, h)
-
-  pub run_room : Laws → IfSome (request_of words) (TellsRun old) → HasRoom words old
-  run_room laws told =
-      let room = room_or size HasUsage (Answers (request_of words) old) usage_room
-      (answers_room laws old (request_of words) told) in
-      (room.0, λ new ended text h. room.1 text (may_be new ended text h))
-
-if_some : {A : Type 0} (Has Holds : A → Type 0) (o : Option A) → ((x : A) → Has x → Holds x) → IfSome o Has
-    → IfSome o Holds
-if_some Has Holds None holds has = tt
-if_some Has Holds (Some x) holds has = holds x has
-
-pub shelf_room : Laws → (words : List (List ℕ)) (old : Shelved) → IfSome (request_of words) IsRun → TellsAll old
+pub shelf_room : Laws → (words : List (List ℕ)) (old : Shelved) → WhereAsked (ask_of words) IsRun → TellsAll old
     → HasRoom words old
 shelf_room laws words old runs told =
-    run_room words old laws (if_some IsRun (TellsRun old) (request_of words) (all_told old told) runs)
+    run_room laws words old (where_asked IsRun (TellsRun old) (ask_of words) (all_told old told) runs)

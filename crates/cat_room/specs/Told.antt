@@ -1,10 +1,10 @@
 -- Which shelves tell all that a run reads.
-use Rattle.std.specs.Prelude.{◌≡◌, ℕ, List, IsSome, ⊤}
+use Rattle.std.specs.Prelude.{◌≡◌, ℕ, List, Option, None, Some, IsSome, ⊤}
 use Rattle.cat_io.specs.Shelf.{Shelved}
 use Rattle.cat_scope.specs.declared.programs.Program.{Program}
 use Rattle.cat_gather.specs.declared.source.Source.{Source}
 use Rattle.cat_gather.specs.Gathered.{Ending, Whole, Refused, StopsAt, gathered}
-use Rattle.cat_app.specs.Words.{Request}
+use Rattle.cat_app.specs.Words.{Ask, OfBands, OfScope, Request}
 use Rattle.cat_app.specs.Asked.{IsAsked}
 use Rattle.cat_app.specs.declared.request.Mode.TheVariants.{Run}
 use Rattle.cat_app.specs.Complete.{RepliesFit}
@@ -30,6 +30,12 @@ pub record TellsRun (shelf : Shelved) (request : Request) : Type 0 where
 -- the shelf tells every file
 abbrev pub TellsAll : Shelved → Type 0
 TellsAll shelf = (name : List ℕ) → IsSome (shelf.content name)
+
+-- no drill is asked for, and what is asked of a scope, if anything is, is of this kind
+abbrev pub WhereAsked : Option Ask → (Request → Type 0) → Type 0
+WhereAsked None Holds = ⊤
+WhereAsked (Some (OfScope request)) Holds = Holds request
+WhereAsked (Some (OfBands bands)) Holds = ⊥
 
 -- some room is enough for each reply to the words over that shelf, whatever the shelf is left as
 abbrev pub HasRoom : List (List ℕ) → Shelved → Type 0

@@ -1,5 +1,5 @@
 -- What the steps of a call say.
-use Rattle.std.specs.Prelude.{◌≡◌, ◌⊎◌, List, [], ℕ, Option, Some, IfSome, option_map, string_bytes, codes}
+use Rattle.std.specs.Prelude.{◌≡◌, ◌≤◌, ◌⊎◌, List, [], ℕ, Option, Some, IfSome, option_map, string_bytes, codes}
 use Rattle.cat_io.specs.Shelf.{Shelved}
 use Rattle.cat_io.specs.declared.shelf.ShelfFault.{ShelfFault}
 use Rattle.cat_io.specs.declared.shelf.ShelfFault.TheVariants as shelf
@@ -18,12 +18,14 @@ use Rattle.cat_gather.specs.declared.source.GatherRefusal.TheVariants as gatheri
 use Rattle.cat_gather.specs.Gathered.{Whole}
 use Rattle.cat_gather.specs.Causes.{HasEnding}
 use Rattle.cat_words.specs.Asked.{IsCases}
-use Rattle.cat_app.specs.Words.{Request, cases_in, request, request_of}
+use Rattle.cat_app.specs.Words.{Ask, OfBands, OfScope, Request, ask_of, cases_in, request}
 use Rattle.cat_app.specs.Answers.{line, status_of, gathering_line, input_line}
 use Rattle.cat_cert_text.specs.declared.refusal.CertRefusal.{CertRefusal}
 use Rattle.cat_app.specs.Checks.{HasCertificate, HasNoCertificate, certificate_line}
 use Rattle.cat_app.specs.Audits.{HasReport, audit_text, status_at}
 use Rattle.cat_app.specs.Table.{MayAnswer}
+use Rattle.cat_app.specs.declared.request.AskedFor.{AskedFor}
+use Rattle.cat_app.specs.declared.request.AskedFor.TheVariants as asking
 use Rattle.cat_app.specs.declared.request.AskedWords.{AskedWords}
 use Rattle.cat_app.specs.declared.reply.Reply.{Reply}
 use Rattle.cat_app.specs.declared.status.Status.{Status}
@@ -38,10 +40,31 @@ asked_of cases asked = request asked.mode asked.scope.now asked.file.now asked.e
 abbrev pub IsGathered : AskedWords → Shelved → Source → Type 0
 IsGathered asked shelf source = HasEnding shelf.content asked.file.now (Whole source)
 
+-- what is asked by these words, where the number of cases has this text
+abbrev pub ask_in : Option (List ℕ) → AskedFor → Ask
+ask_in cases (asking.Scope asked) = OfScope (asked_of cases asked)
+ask_in cases (asking.Drill bands) = OfBands bands
+
+-- the number of cases has this text, where something is asked of a scope
+abbrev pub HasCases : Option (List ℕ) → AskedFor → Type 0
+HasCases cases (asking.Scope asked) = IsCases cases asked.cases
+HasCases cases (asking.Drill bands) = Unit {0}
+
+-- there is no other number of cases than this, where something is asked of a scope
+abbrev pub HasNumber : ℕ → AskedFor → Type 0
+HasNumber number (asking.Scope asked) = asked.cases ≡ number
+HasNumber number (asking.Drill bands) = Unit {0}
+
+-- a drill may have so many bands, where one is asked for
+abbrev pub HasBands : AskedFor → Type 0
+HasBands (asking.Scope asked) = Unit {0}
+HasBands (asking.Drill bands) = (1 ≤ bands) × (bands ≤ 1000)
+
 -- words ask for this
-pub record AsksFor (words : List (List ℕ)) (asked : Option AskedWords) : Type 0 where
-  pub request_is : option_map (asked_of (cases_in words)) asked ≡ request_of words
-  pub cases_are : IfSome asked (λ a. IsCases (cases_in words) a.cases)
+pub record AsksFor (words : List (List ℕ)) (asked : Option AskedFor) : Type 0 where
+  pub ask_is : option_map (ask_in (cases_in words)) asked ≡ ask_of words
+  pub cases_are : IfSome asked (HasCases (cases_in words))
+  pub bands_are : IfSome asked HasBands
 
 -- a reply has this status and this text
 abbrev pub Says : Status → List ℕ → Reply → Type 0

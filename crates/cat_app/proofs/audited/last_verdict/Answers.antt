@@ -1,4 +1,4 @@
-use Rattle.std.proofs.Common.{◌≡◌, ◌≤◌, ◌∙◌, length, sym, arith}
+use Rattle.std.proofs.Common.{◌≤◌, ◌∙◌, length, sym, arith}
 use Rattle.cat_app.proofs.Audits.{last_at, last_of}
 use Rattle.cat_app.proofs.audited.last_verdict.Goals as goal
 

@@ -1,4 +1,4 @@
-use Rattle.std.proofs.Common.{◌≡◌, ℕ, subst}
+use Rattle.std.proofs.Common.{◌≡◌, subst}
 use Rattle.cat_audit.specs.Reports.{IsReport}
 use Rattle.cat_app.proofs.Audits.{has_body}
 use Rattle.cat_app.proofs.Replies.{if_ok}

@@ -2,7 +2,6 @@ use Rattle.std.proofs.Common.{◌≡◌, ap, subst, List, ℕ}
 use Rattle.cat_app.specs.Words.{reads_extra}
 use Rattle.cat_app.specs.inside.Says.{asked_of, SaysChecked}
 use Rattle.cat_app.proofs.Replies.{if_ok, asked_for, no_extra, a_check, named_within}
-use Rattle.cat_app.specs.declared.reply.Reply.{Reply}
 use Rattle.cat_app.proofs.run.check_scope.Goals as goal
 
 pub returns-in-Err-clause-may : goal.returns-in-Err-clause-may

@@ -1,4 +1,4 @@
-use Rattle.std.proofs.Common.{◌≡◌, ◌≢◌, ◌<◌, ◌∙◌, length, sym, ap, subst, List, ℕ}
+use Rattle.std.proofs.Common.{◌≡◌, ◌<◌, length, sym, ap, subst, List, ℕ}
 use Rattle.std.specs.Prelude.{Ok, Err}
 use Rattle.cat_value.specs.declared.decls.Decls.{Decls}
 use Rattle.cat_json.specs.InputsRead.{input_read}

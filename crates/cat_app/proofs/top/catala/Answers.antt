@@ -1,11 +1,17 @@
 use Rattle.cat_io.specs.Stored.{texts_of}
 use Rattle.cat_app.proofs.Complete.{ends_audit, ends_check, ends_run}
+use Rattle.cat_app.proofs.DrillEnds.{ends_drill}
 use Rattle.cat_app.proofs.Faults.{no_fault}
+use Rattle.cat_app.proofs.Putting.{reply_untouched}
 use Rattle.cat_app.proofs.top.catala.Goals as goal
 
 pub returns-clause-a_fault_comes_only_where_a_count_rose : goal.returns-clause-a_fault_comes_only_where_a_count_rose
 returns-clause-a_fault_comes_only_where_a_count_rose g c none steady =
     no_fault (texts_of c.args.words.now) _ _ _ _ c.answer.result c.answer.ensures.answers none steady
+
+pub returns-clause-a_reply_comes_only_where_no_count_rose : goal.returns-clause-a_reply_comes_only_where_no_count_rose
+returns-clause-a_reply_comes_only_where_no_count_rose g c is =
+    reply_untouched (texts_of c.args.words.now) _ _ _ _ c.answer.result c.answer.ensures.answers is
 
 pub returns-clause-a_run_writes_the_outcome : goal.returns-clause-a_run_writes_the_outcome
 returns-clause-a_run_writes_the_outcome g c request source program scope input run =
@@ -24,3 +30,9 @@ returns-clause-a_check_writes_its_answer g c request source program scope extra 
     ends_check c.pieces_have_one_program.ensures c.refused_pieces_are_not_accepted.ensures
     c.told_sources_are_gathered.ensures.endings c.told_sources_are_gathered.ensures.files (texts_of c.args.words.now) _ _
     _ _ request source program scope check.told extra check c.answer.result c.answer.ensures.answers
+
+pub returns-clause-a_drill_writes_its_line : goal.returns-clause-a_drill_writes_its_line
+returns-clause-a_drill_writes_its_line g c bands source program scope drill =
+    ends_drill c.pieces_have_one_program.ensures c.refused_pieces_are_not_accepted.ensures
+    c.told_sources_are_gathered.ensures.endings (texts_of c.args.words.now) _ _ _ _ bands source program scope drill
+    c.answer.result c.answer.ensures.answers

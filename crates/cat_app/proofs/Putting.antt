@@ -1,0 +1,85 @@
+-- Which statuses have texts, and what the shelf is left as.
+use Rattle.std.proofs.Common.{◌≡◌, ℕ, true, List, ⊎_elim}
+use Rattle.std.specs.Prelude.{Option, None, Some}
+use Rattle.cat_io.specs.Shelf.{Shelved}
+use Rattle.cat_io.specs.Sink.{Sunk, Took}
+use Rattle.cat_app.specs.Words.{Ask, OfBands, OfScope, Request, ask_of}
+use Rattle.cat_app.specs.Table.{Answers, MayAnswer, MayAnswerTo, MayReply}
+use Rattle.cat_app.specs.Complete.{is_reply}
+use Rattle.cat_app.specs.declared.status.Status.{Status}
+use Rattle.cat_app.specs.declared.status.Status.TheVariants as status
+
+-- no text comes with want of memory or with a fault of the sink
+no_fault_text : (o : Option Ask) (old new : Shelved) (text : List ℕ) → MayAnswerTo o old new status.WriteFault text → ⊥
+no_fault_text None old new text may = cc may.ended_is
+no_fault_text (Some (OfScope request)) old new text may = may
+no_fault_text (Some (OfBands bands)) old new text may = may.1
+
+no_memory_text : (o : Option Ask) (old new : Shelved) (text : List ℕ) → MayAnswerTo o old new status.Memory text → ⊥
+no_memory_text None old new text may = cc may.ended_is
+no_memory_text (Some (OfScope request)) old new text may = may
+no_memory_text (Some (OfBands bands)) old new text may = may.1
+
+-- a text that may come and was taken is an answer
+pub taken_answers : (words : List (List ℕ)) (old new : Shelved) (sink sunk : Sunk) (ended : Status) (text : List ℕ)
+    → MayReply words old new ended text → Took sink sunk text → Answers words old new sink sunk ended
+taken_answers words old new sink sunk status.WriteFault text may took =
+    absurd (no_fault_text (ask_of words) old new text may)
+taken_answers words old new sink sunk status.Memory text may took =
+    absurd (no_memory_text (ask_of words) old new text may)
+taken_answers words old new sink sunk _ text may took = (text, may, took)
+
+-- ---- where the shelf is as it was
+
+untouched_answer : (request : Request) (old new : Shelved) (ended : Status) (text : List ℕ) → is_reply ended ≡ true
+    → MayAnswer request old new ended text → new ≡ old
+untouched_answer request old new status.Fine text is may =
+    ⊎_elim (λ o. o.untouched) (⊎_elim (λ a. a.untouched) (λ k. k.untouched)) may
+untouched_answer request old new status.Conflict text is may = may.untouched
+untouched_answer request old new status.NoValue text is may = may.untouched
+untouched_answer request old new status.Fault text is may = may.untouched
+untouched_answer request old new status.Source text is may = ⊎_elim (λ f. f.untouched) (λ s. s.untouched) may
+untouched_answer request old new status.Input text is may = may.untouched
+untouched_answer request old new status.Found text is may = may.untouched
+untouched_answer request old new status.Unsettled text is may = may.untouched
+untouched_answer request old new status.Certificate text is may = may.untouched
+untouched_answer request old new status.Usage text is may = may.untouched
+untouched_answer request old new status.Missing text is may = cc is
+untouched_answer request old new status.ReadFault text is may = cc is
+untouched_answer request old new status.TooLarge text is may = cc is
+untouched_answer request old new status.WriteFault text is may = absurd may
+untouched_answer request old new status.Memory text is may = absurd may
+
+untouched : (o : Option Ask) (old new : Shelved) (ended : Status) (text : List ℕ) → is_reply ended ≡ true
+    → MayAnswerTo o old new ended text → new ≡ old
+untouched None old new ended text is may = may.untouched
+untouched (Some (OfScope request)) old new ended text is may = untouched_answer request old new ended text is may
+untouched (Some (OfBands bands)) old new ended text is may = may.0
+
+-- a reply that is a function of words and bytes leaves the shelf as it was
+pub reply_untouched : (words : List (List ℕ)) (old new : Shelved) (sink sunk : Sunk) (ended : Status)
+    → Answers words old new sink sunk ended → is_reply ended ≡ true → new ≡ old
+reply_untouched words old new sink sunk status.WriteFault is reply = cc reply
+reply_untouched words old new sink sunk status.Memory is reply = cc reply
+reply_untouched words old new sink sunk status.Fine is reply = untouched (ask_of words) old new status.Fine is.0 reply is.1
+reply_untouched words old new sink sunk status.Conflict is reply =
+    untouched (ask_of words) old new status.Conflict is.0 reply is.1
+reply_untouched words old new sink sunk status.NoValue is reply =
+    untouched (ask_of words) old new status.NoValue is.0 reply is.1
+reply_untouched words old new sink sunk status.Fault is reply =
+    untouched (ask_of words) old new status.Fault is.0 reply is.1
+reply_untouched words old new sink sunk status.Source is reply =
+    untouched (ask_of words) old new status.Source is.0 reply is.1
+reply_untouched words old new sink sunk status.Input is reply =
+    untouched (ask_of words) old new status.Input is.0 reply is.1
+reply_untouched words old new sink sunk status.Found is reply =
+    untouched (ask_of words) old new status.Found is.0 reply is.1
+reply_untouched words old new sink sunk status.Unsettled is reply =
+    untouched (ask_of words) old new status.Unsettled is.0 reply is.1
+reply_untouched words old new sink sunk status.Certificate is reply =
+    untouched (ask_of words) old new status.Certificate is.0 reply is.1
+reply_untouched words old new sink sunk status.Usage is reply =
+    untouched (ask_of words) old new status.Usage is.0 reply is.1
+reply_untouched words old new sink sunk status.Missing is reply = cc reply
+reply_untouched words old new sink sunk status.ReadFault is reply = cc reply
+reply_untouched words old new sink sunk status.TooLarge is reply = cc reply

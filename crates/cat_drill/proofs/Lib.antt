@@ -1,0 +1,4 @@
+pub mod Growing
+pub mod Numbered
+pub mod RunLemmas
+pub mod TreeLemmas
