@@ -1,4 +1,5 @@
-"""What tools/measure tells of audits: of bands, beside z3 and beside the check of the certificate, and of `drill`.
+"""What tools/measure tells of audits: of bands, beside z3 and beside the check of the certificate, of deep certificates, and of
+`drill`.
 
 Of the forms in which z3 may be asked this is the fastest that was found: truth values for the bounds, in their order. With an
 integer in their place it takes up to ten times as long; with a sum of indicators, `at-least`, all pairs, or one band after
@@ -99,6 +100,20 @@ def audits(folder, program):
                 print('%d bands: %r' % (count, reply[:100]), file=sys.stderr)
             told += of_z3(folder, made) if has_z3 else ['', '', '', '']
             print('| %d | %s | %s |' % (count, order, ' | '.join(told)), flush=True)
+
+
+def certificates(folder, program):
+    """Checks of a tree that asks one atom over and over: each split behind the first has an empty side."""
+    (folder / 'a.md').write_text(source(bands(2, 'in order')))
+    print('\n| Splits, each in the one before | certificate | check | memory |\n|---|---|---|---|')
+    for splits in (300_000, 1_200_000, 4_800_000):
+        lines = ['catala-certificate 2', 'scope Bands', 'var rate', 'tree', *['split 0'] * splits, *['leaf'] * (splits + 1), 'end', '']
+        (folder / 'certificate').write_text('\n'.join(lines))
+        took, memory, reply = measured(folder, [program, 'check', 'Bands', 'a.md', 'certificate'], most=MOST)
+        size = (folder / 'certificate').stat().st_size / 2**20
+        print('| %s | %.1f MiB | %s |' % (format(splits, ','), size, cells(took, memory)), flush=True)
+        if reply != b'Yes\n':
+            print('%d splits: %r' % (splits, reply[:100]), file=sys.stderr)
 
 
 def drills(folder, program):
