@@ -14,6 +14,16 @@ EXAMPLE = re.compile(r'^\[(\w+)\]\(\.\./tests/cases/\1\)\n\n?(?:````\n(.*?)\n```
                      r'.*?\bgives(?: `(.*?)`\.|:\n\n```\n(.*?)\n```)$', re.M | re.S)
 
 
+def words_of(case):
+    """The words of a case."""
+    return (case / 'words').read_text().splitlines() if (case / 'words').exists() else []
+
+
+def reply_in(case):
+    """What a case expects, without its last line feed."""
+    return (case / 'stdout').read_text().rstrip('\n') if (case / 'stdout').exists() else ''
+
+
 def files_of(case):
     files = {file.name: file.read_bytes() for file in case.iterdir() if file.name not in OURS}
     if (case / 'files').exists():
@@ -25,10 +35,9 @@ def files_of(case):
 
 def is_computed(case):
     """Whether the case runs a scope on files that it has."""
-    words = (case / 'words').read_text().splitlines() if (case / 'words').exists() else []
-    stdout = (case / 'stdout').read_text() if (case / 'stdout').exists() else ''
+    words = words_of(case)
     has_options = any(word.startswith('-') and word != '-' for word in words)
-    is_run = 3 <= len(words) <= 4 and words[0] == 'run' and not has_options and 'fault .' not in stdout
+    is_run = 3 <= len(words) <= 4 and words[0] == 'run' and not has_options and 'fault .' not in reply_in(case)
     is_made = (case / 'make').exists() or (case / 'device').exists()
     return is_run and not is_made
 
@@ -48,10 +57,10 @@ def cases():
     """Each case that can be computed: its name, what it expects, and the replies that the rules allow."""
     for case in case_folders():
         if is_computed(case):
-            words, files = (case / 'words').read_text().splitlines(), files_of(case)
+            words, files = words_of(case), files_of(case)
             data = files.get(words[3]) if len(words) > 3 else files['-']
             missing = {'missing file %s' % words[3]} if data is None else None
-            want = (case / 'stdout').read_text().rstrip('\n')
+            want = reply_in(case)
             found = missing or replies(files, words[2], words[1], data)
             yield case.name, told(want, found), found
 
@@ -69,8 +78,8 @@ def pages():
 def audits():
     """Each case that audits a scope which there is: its name, what it expects, and the reply."""
     for case in case_folders():
-        words = (case / 'words').read_text().splitlines() if (case / 'words').exists() else []
-        want = (case / 'stdout').read_text().rstrip('\n') if (case / 'stdout').exists() else ''
+        words = words_of(case)
+        want = reply_in(case)
         if words[:1] == ['audit'] and want.startswith('audit '):
             budget = int(words[words.index('--cases') + 1]) if '--cases' in words else 100_000
             yield case.name, want, {audit(files_of(case), words[2], words[1], budget)}
@@ -80,8 +89,8 @@ def checks():
     """Each case that checks a certificate of a scope which there is, and each audit of a statute that has one: its name,
     what it expects, and the reply."""
     for case in case_folders():
-        words = (case / 'words').read_text().splitlines() if (case / 'words').exists() else []
-        want = (case / 'stdout').read_text().rstrip('\n') if (case / 'stdout').exists() else ''
+        words = words_of(case)
+        want = reply_in(case)
         if words[:1] == ['check'] and want.startswith(('Yes', 'certificate refused')) and not (case / 'make').exists():
             files = files_of(case)
             yield case.name, want, {check(files, words[2], words[1], files[(words[3:] or ['-'])[0]])}
@@ -114,10 +123,10 @@ def cells():
 def drills():
     """Each case that asks for a drill: its name, what it expects, and the reply."""
     for case in case_folders():
-        words = (case / 'words').read_text().splitlines() if (case / 'words').exists() else []
+        words = words_of(case)
         if words[:1] == ['drill']:
             at = words.index('--cases') if '--cases' in words else len(words)
-            yield case.name, (case / 'stdout').read_text().rstrip('\n'), {drill(words[1:at] + words[at + 2:])}
+            yield case.name, reply_in(case), {drill(words[1:at] + words[at + 2:])}
 
 
 def without_places(reply):

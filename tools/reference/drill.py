@@ -5,7 +5,7 @@ import json
 import re
 
 from .answers import Program
-from .report import VERDICTS, Scoped
+from .report import Scoped, verdict_of
 
 RUNS = 1000
 MOST_BANDS = 1000
@@ -42,8 +42,7 @@ def tried(bands):
     program = Program({'none': source(bands).encode()}, 'none')
     replies = [program.run('Bands', b'{"income":%d}' % (run * bands)) for run in range(RUNS)]
     lines, trees = Scoped(program, program.runs.numbers['Bands'], bands).lines()
-    verdict = next((v for v in VERDICTS if any(said.startswith(v) for _, said in lines)), 'Complete')
-    return sum(json.loads(reply)['rate'] for reply in replies), sum(leaves(tree) for _, tree in trees), verdict
+    return sum(json.loads(reply)['rate'] for reply in replies), sum(leaves(tree) for _, tree in trees), verdict_of(lines)
 
 
 def closed(bands):

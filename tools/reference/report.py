@@ -253,6 +253,11 @@ class Scoped:
                 if verdicts[n] != 'Complete']
 
 
+def verdict_of(lines):
+    """The verdict of a scope, by what is said of its targets and of the scopes that it calls."""
+    return next((v for v in VERDICTS if any(said.startswith(v) for _, said in lines)), 'Complete')
+
+
 def scope_calls(expr):
     """The scopes of the scope calls in an expression, or in a list of what has some."""
     if isinstance(expr, (tuple, list)):
@@ -312,7 +317,7 @@ def audit(files, main, scope, budget=100_000):
         scoped = Scoped(program, n, budget)
         lines, trees = scoped.lines()
         lines += scoped.called(verdicts)
-        verdicts[n] = next((v for v in VERDICTS if any(said.startswith(v) for _, said in lines)), 'Complete')
+        verdicts[n] = verdict_of(lines)
         name = program.scopes[n].name
         report += ['audit %s' % name, *['%s: %s' % line for line in lines], 'verdict %s' % verdicts[n]]
         certificate += ['scope %s' % name]
