@@ -1,6 +1,7 @@
 -- Declarations, a value and an input that meet what reading back asks for, and declarations that do not.
 use Rattle.std.proofs.Common.{◌≡◌, ℕ, ◌≤◌, pos, false, IsTrue, List, [], ◌∷◌, codes, None, Some, rules}
 use Rattle.std.proofs.Common.{arith, refl}
+use Rattle.cat_pos.specs.Position.{pos_of}
 use Rattle.cat_pos.specs.declared.pos.Pos.{Pos}
 use Rattle.cat_order.specs.Computed.{order_of}
 use Rattle.cat_value.specs.declared.ty.Ty.TheVariants as flat_ty
@@ -45,7 +46,7 @@ a_type_is_low : height_of plain (flat_ty.Enumeration 0) ≤ highest
 a_type_is_low = enumeration_low plain 0 (omega arith)
 
 abbrev here : Pos
-here = record { file = 0; line = 1; column = 1 }
+here = pos_of 0 1 1
 
 -- a scope of an integer that must be given and one that may be
 abbrev scopes : List ℕ → List Scope

@@ -3,6 +3,7 @@ use Rattle.std.specs.Prelude.{ℕ, Bool, true, false, List, [], ◌∷◌, ◌++
 use Rattle.std.specs.Prelude.{codes, decimal, option_map, unwrap_or}
 use Rattle.serde_json.specs.Data.{Data, Members, no_members, object, put}
 use Rattle.serde_json.specs.Written.{compact_text}
+use Rattle.cat_pos.specs.Position.{pos_file, pos_column}
 use Rattle.cat_pos.specs.declared.pos.Pos.{Pos}
 use Rattle.cat_value.specs.declared.value.Value.{Value}
 use Rattle.cat_value.specs.declared.declaration.Kind.{Kind}
@@ -67,11 +68,11 @@ target_text ds target = text_or_nothing (option_map (λ s. scope_text ds s targe
 
 -- the text `name:line:column`, of a position in a file of that name
 abbrev pub named_position : List ℕ → Pos → List ℕ
-named_position name pos = name ++ (codes ":" ++ (decimal pos.line ++ (codes ":" ++ decimal pos.column)))
+named_position name pos = name ++ (codes ":" ++ (decimal pos.line ++ (codes ":" ++ decimal (pos_column pos))))
 
 -- the same, where files have these names
 abbrev pub position_text : List (List ℕ) → Pos → List ℕ
-position_text names pos = named_position (text_or_nothing (slice_get names pos.file)) pos
+position_text names pos = named_position (text_or_nothing (slice_get names (pos_file pos))) pos
 
 -- the positions, each after a blank
 abbrev pub positions_text : List (List ℕ) → List Pos → List ℕ

@@ -178,7 +178,7 @@ pub fn named_position(alloc: Global, name: &str, pos: Pos) -> Result<String, All
     ensures { IfOk result (λ text. string_bytes text ≡ answers.named_position name.now pos) }
 {
     let line = pos.line;
-    let column = pos.column;
+    let column = pos.column();
     format!(in alloc; "{name}:{line}:{column}")
 }
 
@@ -186,7 +186,7 @@ pub fn named_position(alloc: Global, name: &str, pos: Pos) -> Result<String, All
 pub fn position_text(alloc: Global, files: &Files, pos: Pos) -> Result<String, AllocError>
     ensures { IfOk result (λ text. string_bytes text ≡ answers.position_text files.now pos) }
 {
-    named_position(alloc, file_name(files, pos.file), pos)
+    named_position(alloc, file_name(files, pos.file()), pos)
 }
 
 /// The positions, each after a blank.

@@ -48,11 +48,7 @@ fn outcomes_are_told(rt: HostRuntime) -> Result<(), Fail> {
     let decls = decls(alloc, "S")?;
     let mut files = Files::new(alloc);
     files.add("a.md")?;
-    let place = Pos {
-        file: 0,
-        line: 5,
-        column: 3,
-    };
+    let place = Pos::new(0, 5, 3);
     let fault = Outcome::Fault(FaultKind::DivisionByZero, place);
     let text = answer_text(alloc, &fault, &decls, 0, &files)?;
     assert_eq!(rt; text.as_str(), "fault DivisionByZero at a.md:5:3");

@@ -39,7 +39,8 @@ pub no_fault : (words : List (List ℕ)) (old new : Shelved) (sink sunk : Sunk) 
     → is_fault ended ≡ false
 no_fault words old new sink sunk status.Missing is none steady =
     absurd (on_request (IsCalm old new) (ask_of words) old new status.Missing is.0 (λ e. cc e)
-    (λ bands may. may) is.1 none (λ request refused calm. still request old new shelf.Missing (codes "missing file ") is.0
+    (λ bands may. may) is.1 none
+    (λ request refused calm. still request old new shelf.Missing (codes "missing file ") is.0
     (λ name limit reads. inl reads.1) refused calm))
 no_fault words old new sink sunk status.ReadFault is none steady =
     absurd (on_request (IsCalm old new) (ask_of words) old new status.ReadFault is.0 (λ e. cc e)

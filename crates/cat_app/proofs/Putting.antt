@@ -61,7 +61,8 @@ pub reply_untouched : (words : List (List ℕ)) (old new : Shelved) (sink sunk :
     → Answers words old new sink sunk ended → is_reply ended ≡ true → new ≡ old
 reply_untouched words old new sink sunk status.WriteFault is reply = cc reply
 reply_untouched words old new sink sunk status.Memory is reply = cc reply
-reply_untouched words old new sink sunk status.Fine is reply = untouched (ask_of words) old new status.Fine is.0 reply is.1
+reply_untouched words old new sink sunk status.Fine is reply =
+    untouched (ask_of words) old new status.Fine is.0 reply is.1
 reply_untouched words old new sink sunk status.Conflict is reply =
     untouched (ask_of words) old new status.Conflict is.0 reply is.1
 reply_untouched words old new sink sunk status.NoValue is reply =

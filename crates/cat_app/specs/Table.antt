@@ -33,8 +33,8 @@ MayAnswer request old new ReadFault text = IsRefusedRead request old new shelf.F
 MayAnswer request old new TooLarge text = IsRefusedRead request old new shelf.Long (codes "too large ") text
 MayAnswer request old new status text = ⊥
 
--- the texts that may come with a status to one who asked for a drill: refusals are those of a run of `Bands`, over a shelf
--- that has the source of the bands alone
+-- the texts that may come with a status to one who asked for a drill: refusals are those of a run of `Bands`, over a
+-- shelf that has the source of the bands alone
 abbrev pub MayDrill : ℕ → Status → List ℕ → Type 0
 MayDrill bands Fine text = IsOfBands (HasLine bands) bands text
 MayDrill bands Conflict text = IsOfBands (HasStop bands Conflict) bands text

@@ -58,6 +58,7 @@ abbrev pub bands_from : List ℕ → List ℕ → Bool → Option ℕ
 bands_from scope file has_extra =
     if bytes_eq file (codes "none") && not has_extra then bands_in scope else None
 
+-- how many bands a drill has that words ask for so
 abbrev pub bands_by : Asked → Option ℕ
 bands_by asked = bands_from asked.scope asked.file (is_some asked.extra)
 
@@ -67,8 +68,8 @@ ask_by cases asked =
     if bytes_eq asked.mode (codes "drill") then option_map OfBands (bands_by asked)
     else option_map OfScope (request_by cases asked)
 
--- the words `run SCOPE FILE [EXTRA]`, `check SCOPE FILE [EXTRA]`, `audit SCOPE FILE` or `drill N none` of a command that
--- is taken; other words ask for nothing
+-- the words `run SCOPE FILE [EXTRA]`, `check SCOPE FILE [EXTRA]`, `audit SCOPE FILE` or `drill N none` of a command
+-- that is taken; other words ask for nothing
 unfoldable pub ask_of : List (List ℕ) → Option Ask
 ask_of words = option_and_then (ask_by (cases_in words)) (asked_by words)
 

@@ -35,8 +35,8 @@ fn shelf_of(alloc: Global, bands: u32) -> Result<PureShelf, AllocError>
     Ok(PureShelf::new(alloc, files))
 }
 
-/// Gathers the source of so many bands. It includes no file and is short, so that no other file can be missing, and none
-/// be too large.
+/// Gathers the source of so many bands. It includes no file and is short, so that no other file can be missing, and
+/// none be too large.
 fn gather_bands(alloc: Global, bands: u32) -> Result<Source, GatherRefusal>
     requires some { 1 ≤ bands }
     requires most { bands ≤ 1000 }
@@ -136,8 +136,8 @@ fn drill_source_of(alloc: Global, bands: u32, source: &Source) -> Result<Reply, 
     }
 }
 
-/// Makes the source of so many bands, runs it 1,000 times, and audits it with as many leaves as there are bands. No file
-/// is read.
+/// Makes the source of so many bands, runs it 1,000 times, and audits it with as many leaves as there are bands. No
+/// file is read.
 pub fn drilled(alloc: Global, bands: u32) -> Result<Reply, AllocError>
     requires some { 1 ≤ bands }
     requires most { bands ≤ 1000 }

@@ -1,4 +1,4 @@
-pub mod WordCalls
+pub mod WordLemmas
 pub mod Sourced
 pub mod Scoped
 pub mod Ordering

@@ -11,20 +11,16 @@ use Rattle.cat_value.specs.declared.declaration.ItemDecl.{ItemDecl}
 use Rattle.cat_value.specs.declared.declaration.Scope.{Scope}
 use Rattle.cat_value.specs.declared.decls.Decls.{Decls}
 use Rattle.cat_tree.specs.declared.name.Name.{Name}
-use Rattle.cat_tree.specs.declared.expression.Node.{Node}
-use Rattle.cat_tree.specs.declared.program.Use.{Use}
-use Rattle.cat_tree.specs.declared.program.Use.TheVariants as uses
-use Rattle.cat_tree.specs.declared.program.Block.{Block}
 use Rattle.cat_tree.specs.declared.program.Item.{Item}
 use Rattle.cat_tree.specs.declared.program.Item.TheVariants as item
 use Rattle.cat_tree.specs.declared.program.Tree.{Tree}
 use Rattle.cat_scope.specs.Names.{IsOneOf, items_in, scope_items}
 use Rattle.cat_names.specs.Lines.{is_about, is_number, is_scope_name}
 use Rattle.cat_names.specs.Lookup.{scope_named}
-use Rattle.cat_names.specs.ScopeWords.{condition_words, use_words, item_words, words_in}
+use Rattle.cat_names.specs.ScopeWords.{item_words, words_in}
 use Rattle.cat_lookup.specs.Table.{Table, IsTableOf}
-use Rattle.cat_arrange.specs.inside.Calling.{is_it, is_for, of_word, called_at, condition_called, use_called}
-use Rattle.cat_arrange.specs.inside.Calling.{block_called, called_about, called_by_item, declared_at}
+use Rattle.cat_arrange.specs.Outlined.{item_outline}
+use Rattle.cat_arrange.specs.inside.Calling.{is_it, is_for, of_word, called_about, called_by_item, declared_at}
 use Rattle.cat_arrange.specs.inside.Calls.{IsCall, IsCallAt}
 
 -- ---- members of lists
@@ -93,33 +89,6 @@ module _ (ds : Decls) (t : Table) (is_table : IsTableOf (λ s. s.name) ds.scopes
   is_for_scope : (n : ℕ) (w : Name) → is_for t n w ≡ is_scope_name ds n w
   is_for_scope n w = ap (is_it n) (is_table w.text) ∙ found_for n (scope_named w.text ds.scopes)
 
-  condition_is : (called : ℕ) (c : Option Node) → condition_called t called c
-      ≡ flat_map (of_word t called) (condition_words c)
-  unfolding called_at
-  condition_is called None = refl
-  condition_is called (Some e) = refl
-
-  use_is : (called : ℕ) (u : Use) → use_called t called u ≡ flat_map (of_word t called) (use_words u)
-  unfolding called_at
-  use_is called (uses.Definition l p w c e) = ap (λ ps. ps ++ called_at t called e) (condition_is called c)
-      ∙ sym (flat_map-append (of_word t called) (condition_words c) _)
-  use_is called (uses.Rule l p w c f) = condition_is called c
-  use_is called (uses.Assertion p e) = refl
-  use_is called (uses.DateRound p up) = refl
-
-  uses_are : (called : ℕ) (us : List Use) → flat_map (use_called t called) us
-      ≡ flat_map (of_word t called) (flat_map use_words us)
-  uses_are called [] = refl
-  uses_are called (u ∷ us) = ap (λ ps. ps ++ flat_map (use_called t called) us) (use_is called u)
-      ∙ ap (λ ps. flat_map (of_word t called) (use_words u) ++ ps) (uses_are called us)
-      ∙ sym (flat_map-append (of_word t called) (use_words u) (flat_map use_words us))
-
-  block_is : (called : ℕ) (b : Block)
-      → block_called t called b ≡ flat_map (of_word t called) (item_words (item.Block b))
-  block_is called b = ap (λ ps. ps ++ flat_map (use_called t called) b.uses) (condition_is called b.condition)
-      ∙ ap (λ ps. flat_map (of_word t called) (condition_words b.condition) ++ ps) (uses_are called b.uses)
-      ∙ sym (flat_map-append (of_word t called) (condition_words b.condition) (flat_map use_words b.uses))
-
   -- an item without words
   wordless : (called : ℕ) (test : Bool) (i : Item) (more : List Item) → item_words i ≡ []
       → flat_map (of_word t called) (flat_map item_words more)
@@ -128,7 +97,8 @@ module _ (ds : Decls) (t : Table) (is_table : IsTableOf (λ s. s.name) ds.scopes
       ap (λ ws. flat_map (of_word t called) (ws ++ flat_map item_words more)) (sym none)
   wordless called false i more none = refl
 
-  about_is : (caller called : ℕ) (items : List Item) → flat_map (called_about t caller called) items
+  about_is : (caller called : ℕ) (items : List Item)
+      → flat_map (called_about t caller called) (flat_map item_outline items)
       ≡ flat_map (of_word t called) (words_in ds caller items)
   about_is caller called [] = refl
   about_is caller called (item.Structure p u fields ∷ more) = about_is caller called more
@@ -140,13 +110,13 @@ module _ (ds : Decls) (t : Table) (is_table : IsTableOf (λ s. s.name) ds.scopes
       (about_is caller called more)
     where
       by : (c d : Bool) → c ≡ d
-          → flat_map (called_about t caller called) more ≡ flat_map (of_word t called) (words_in ds caller more)
-          → (if c then block_called t called b else []) ++ flat_map (called_about t caller called) more
+          → flat_map (called_about t caller called) (flat_map item_outline more)
+          ≡ flat_map (of_word t called) (words_in ds caller more)
+          → (if c then flat_map (of_word t called) (item_words (item.Block b)) else [])
+          ++ flat_map (called_about t caller called) (flat_map item_outline more)
           ≡ flat_map (of_word t called) (flat_map item_words
           (cond d (item.Block b ∷ filter (is_about ds caller) more) (filter (is_about ds caller) more)))
-      by true true same rest =
-          ap (λ ps. ps ++ flat_map (called_about t caller called) more) (block_is called b)
-          ∙ ap (λ ps. flat_map (of_word t called) (item_words (item.Block b)) ++ ps) rest
+      by true true same rest = ap (λ ps. flat_map (of_word t called) (item_words (item.Block b)) ++ ps) rest
           ∙ sym (flat_map-append (of_word t called) (item_words (item.Block b)) (words_in ds caller more))
       by true false same rest = cc same
       by false true same rest = cc same
@@ -163,7 +133,7 @@ module _ (ds : Decls) (t : Table) (is_table : IsTableOf (λ s. s.name) ds.scopes
 
   abbrev places : ℕ → ℕ → List ItemDecl → List Item → List Pos
   places caller called items about =
-      flat_map (declared_at called) items ++ flat_map (called_about t caller called) about
+      flat_map (declared_at called) items ++ flat_map (called_about t caller called) (flat_map item_outline about)
 
   number_of : (n : ℕ) (o : Option (ℕ × Scope)) → is_number n o ≡ true
       → (found : ℕ × Scope) × (o ≡ Some found) × (found.0 ≡ n)
@@ -199,7 +169,8 @@ module _ (ds : Decls) (t : Table) (is_table : IsTableOf (λ s. s.name) ds.scopes
     call_at p h = by (one_of_two p (flat_map (declared_at called) s.items) _ h)
       where
         by : IsOneOf p (flat_map (declared_at called) s.items)
-            ⊎ IsOneOf p (flat_map (called_about t caller called) tree.items) → IsCallAt tree ds caller called p
+            ⊎ IsOneOf p (flat_map (called_about t caller called) (flat_map item_outline tree.items))
+            → IsCallAt tree ds caller called p
         by (inl i) = let r = out_flat (declared_at called) s.items p i in
             let q = if_passes (called_by_item r.0.kind called) r.0.pos p r.2 in
             inl (

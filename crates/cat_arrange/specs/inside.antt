@@ -2,3 +2,4 @@ pub mod Calling
 pub mod Calls
 pub mod Ordered
 pub mod Chained
+pub mod Outlining

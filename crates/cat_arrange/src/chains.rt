@@ -1,19 +1,20 @@
 // Chains of calls that are too long.
 ghost use Rattle.std.specs.Prelude.{◌≡◌, IfOk, IfErr};
 ghost use Rattle.cat_order.specs.Order.{IsOrder};
+ghost use Rattle.cat_tree.specs.declared.program.Tree.{Tree};
 ghost use Rattle.cat_scope.specs.Chains.{HasShortChains};
 ghost use Rattle.cat_scope.specs.Orders.{item_dependencies, function_calls, scope_dependencies};
 ghost use Rattle.cat_names.specs.Accepted.{IsMeant};
-ghost use Rattle.cat_names.specs.Written.{scopes_in, names_of, positions};
 ghost use Rattle.cat_arrange.specs.Cause.{Because};
+ghost use Rattle.cat_arrange.specs.Outlined.{IsMeantIn, outline_of};
 ghost use Rattle.cat_arrange.specs.inside.Chained.{AreShort, IsChainFault, IsFunctionFault, IsLongFunction};
 ghost use Rattle.cat_arrange.specs.inside.Ordered.{AreInOrder, AreItemized, IsItemized};
 
+use crate::Outline;
 use cat_depend::{long_function, long_scope};
 use cat_names::{Fault, Refusal};
-use cat_pos::{List, Numbers, Positions};
+use cat_pos::Numbers;
 use cat_scope::{Bodies, Body};
-use cat_tree::{Item, Tree};
 use cat_value::{Decls, ItemDecls, declarations_are_sound};
 use std::alloc::{AllocError, Global};
 
@@ -49,40 +50,26 @@ pub fn refuse_long_functions(alloc: Global, decls: &Decls, bodies: &Bodies) -> R
     Ok(())
 }
 
-/// Where the names of scopes stand in their declarations.
-fn scope_positions(alloc: Global, items: &[Item]) -> Result<Positions, AllocError>
-    ensures { IfOk result (λ found. found ≡ positions (names_of (scopes_in items.now))) }
-{
-    let mut found = List::new(alloc);
-    for item in items {
-        let Item::Scope(_, name, _) = item else {
-            continue;
-        };
-        found.push(name.pos)?;
-    }
-    Ok(found)
-}
-
 /// Refuses where a chain of scopes is too long.
 pub fn refuse_long_calls(
     alloc: Global,
-    tree: &Tree,
+    outline: &Outline,
     decls: &Decls,
     bodies: &Bodies,
     order: &Numbers,
 ) -> Result<(), Refusal>
-    requires meant { IsMeant tree.now decls.now bodies.now }
+    requires meant { IsMeantIn outline.now decls.now bodies.now }
     requires order { IsOrder (scope_dependencies decls.now.scopes bodies.now) order.now }
     ensures short { IfOk result (λ _. HasShortChains (scope_dependencies decls.now.scopes bodies.now)) }
-    ensures cause { IfErr result (Because (IsChainFault tree.now decls.now bodies.now)) }
+    ensures cause { IfErr result (λ refusal. (tree : Tree) → outline.now ≡ outline_of tree
+        → IsMeant tree decls.now bodies.now → Because (IsChainFault tree decls.now bodies.now) refusal) }
 {
     declarations_are_sound(decls);
     let long = long_scope(alloc, bodies.as_slice(), order.as_slice())?;
     match long {
         None => Ok(()),
         Some(scope) => {
-            let found = scope_positions(alloc, tree.items.as_slice())?;
-            let pos = *found.at(scope as usize);
+            let pos = *outline.scopes.at(scope as usize);
             Err(Refusal::Refused(Fault::TooMany(pos)))
         }
     }

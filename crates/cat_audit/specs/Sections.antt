@@ -20,14 +20,17 @@ use Rattle.cat_audit.specs.Called.{called_lines}
 
 -- ---- verdicts
 
+-- an input is found on which the rules fail
 abbrev pub is_found : Line → Bool
 is_found (line.Bad (finding.Found outcome input)) = true
 is_found l = false
 
+-- a fault hides a conflict or a gap
 abbrev pub is_masked : Line → Bool
 is_masked (line.Bad (finding.Masked kind pos input)) = true
 is_masked l = false
 
+-- too little is known of a target
 abbrev pub is_undecided : Line → Bool
 is_undecided (line.Bad (finding.Derived at input outcome)) = true
 is_undecided line.Budget = true

@@ -115,10 +115,6 @@ pub fn item_pos(items: &[ItemDecl], target: Target) -> Pos
 {
     match items.get(target.item as usize) {
         Some(decl) => decl.pos,
-        None => Pos {
-            file: 0,
-            line: 0,
-            column: 0,
-        },
+        None => Pos::new(0, 0, 0),
     }
 }

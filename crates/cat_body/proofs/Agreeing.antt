@@ -78,7 +78,8 @@ kept_at test [] n (suc m) x at h = cc at
 kept_at test (y ∷ ys) n zero x at h =
     let is : y ≡ x = cc at in
     let here : n + 0 ≡ n = omega arith in
-    let passes : test (n, y) ≡ true = ap test (ap (λ (k : ℕ). (k, y)) (sym here) ∙ ap (λ (r : Round). (n + 0, r)) is) ∙ h in
+    let passes : test (n, y) ≡ true =
+    ap test (ap (λ (k : ℕ). (k, y)) (sym here) ∙ ap (λ (r : Round). (n + 0, r)) is) ∙ h in
     rw passes (inl (ap (λ (r : Round). Misplaced r.0) (sym is)))
 kept_at test (y ∷ ys) n (suc m) x at h =
     let next : n + suc m ≡ n + 1 + m = omega arith in
@@ -111,7 +112,8 @@ settled rounds first rest is h =
 -- one doesn't
 pub unsettled : (rounds : List Round) (first : Round) (rest : List Round) (i : ℕ) (x : Round) → rounds ≡ first ∷ rest
     → slice_get rest i ≡ Some x → differ x first ≡ true
-    → Tells {A = Rounding} (Err (Refused (Misplaced x.0))) (where_none (contradictions rounds) (Ok (rounding_of rounds)))
+    → Tells {A = Rounding} (Err (Refused (Misplaced x.0)))
+    (where_none (contradictions rounds) (Ok (rounding_of rounds)))
 unsettled rounds first rest i x is at other =
     subst (λ rs. Tells {A = Rounding} (Err (Refused (Misplaced x.0))) (where_none (contradictions rs)
     (Ok (rounding_of rs)))) (sym is)

@@ -4,7 +4,7 @@ use Rattle.std.proofs.Common.{slice_get, sym, subst, map, true, false, inl}
 use Rattle.std.specs.Prelude.{◌||◌, flat_map}
 use Rattle.std.specs.List.{enumerate_from}
 use Rattle.std.proofs.Common.{◌≤◌}
-use Rattle.std.proofs.lemmas.List.{append_assoc, append-nil, drop_all, drop_more}
+use Rattle.std.proofs.lemmas.List.{append_assoc, append-nil, drop_all}
 use Rattle.cat_date.specs.declared.rounding.Rounding.{Rounding}
 use Rattle.cat_value.specs.declared.declaration.ItemDecl.{ItemDecl}
 use Rattle.cat_value.specs.declared.declaration.Scope.{Scope}
@@ -27,7 +27,6 @@ use Rattle.cat_names.proofs.Exported.{behind, beside_stands, found_stands, in_fr
 use Rattle.cat_line.specs.declared.said.Said.{Said}
 use Rattle.cat_line.specs.Saying as saying
 use Rattle.cat_line.proofs.Exported.{gather_off, gather_on}
-use Rattle.cat_body.specs.inside.ByScope.{items_at}
 use Rattle.cat_body.proofs.Picked.{dropped}
 
 -- ---- functions that are not internal
@@ -120,28 +119,19 @@ all_found items outward rounds of r lines said inward agree found =
     ∙ ap (λ way. and_then lines (λ found. Ok (body_of items way found))) (same_there rounds of r agree)
     ∙ lines_body items r lines said found
 
--- ---- items that are picked by their numbers
-
-picked_at : (items : List Item) (ns : List ℕ) (i : ℕ) (x : Item) → i < length ns
-    → slice_get items (get_or ns i 0) ≡ Some x → items_at items (drop i ns) ≡ x ∷ items_at items (drop (i + 1) ns)
-picked_at items ns i x within found = ap (items_at items) (drop_more ns i 0 within) ∙ rw found refl
+-- ---- items one after another
 
 -- what one says stands behind what was said before it
-pub said_on : (f : Item → Found (List Line)) (items : List Item) (ns : List ℕ) (i : ℕ) (x : Item) (said mid : Said)
-    (whole : Found Said) → i < length ns → slice_get items (get_or ns i 0) ≡ Some x
-    → saying.behind said (f x) ≡ Ok mid → saying.behind said (all_lines f (items_at items (drop i ns))) ≡ whole
-    → saying.behind mid (all_lines f (items_at items (drop (i + 1) ns))) ≡ whole
-said_on f items ns i x said mid whole within found says before =
-    gather_on said mid (f x) (all_lines f (items_at items (drop (i + 1) ns))) says
-    ∙ ap (λ from. saying.behind said (all_lines f from)) (sym (picked_at items ns i x within found)) ∙ before
+pub said_on : (f : Item → Found (List Line)) (x : Item) (rest : List Item) (said mid : Said) (whole : Found Said)
+    → saying.behind said (f x) ≡ Ok mid → saying.behind said (all_lines f (x ∷ rest)) ≡ whole
+    → saying.behind mid (all_lines f rest) ≡ whole
+said_on f x rest said mid whole says before = gather_on said mid (f x) (all_lines f rest) says ∙ before
 
-pub said_off : (f : Item → Found (List Line)) (items : List Item) (ns : List ℕ) (i : ℕ) (x : Item) (said : Said)
-    (whole : Found Said) (e : Refusal) → i < length ns → slice_get items (get_or ns i 0) ≡ Some x
-    → Tells {A = Said} (Err e) (saying.behind said (f x))
-    → saying.behind said (all_lines f (items_at items (drop i ns))) ≡ whole → Tells {A = Said} (Err e) whole
-said_off f items ns i x said whole e within found h before = subst (λ found. Tells {A = Said} (Err e) found)
-    (ap (λ from. saying.behind said (all_lines f from)) (sym (picked_at items ns i x within found)) ∙ before)
-    (gather_off said (f x) (all_lines f (items_at items (drop (i + 1) ns))) e h)
+pub said_off : (f : Item → Found (List Line)) (x : Item) (rest : List Item) (said : Said) (whole : Found Said)
+    (e : Refusal) → Tells {A = Said} (Err e) (saying.behind said (f x))
+    → saying.behind said (all_lines f (x ∷ rest)) ≡ whole → Tells {A = Said} (Err e) whole
+said_off f x rest said whole e h before =
+    subst (λ found. Tells {A = Said} (Err e) found) before (gather_off said (f x) (all_lines f rest) e h)
 
 -- the lines that are said of a scope, which is declared so
 pub lines_are : (ds : Decls) (n : ℕ) (s : Scope) (items picked : List Item) → slice_get ds.scopes n ≡ Some s
@@ -150,7 +140,8 @@ pub lines_are : (ds : Decls) (n : ℕ) (s : Scope) (items picked : List Item) �
     ≡ lines_found (record { decls = ds; items = s.items }) n items
 lines_are ds n s items picked declared about =
     ap (all_lines (item_lines (names_in_scope ds n) n)) about
-    ∙ ap (λ own. all_lines (item_lines (record { decls = ds; items = items_in own }) n) (items_about ds n items)) declared
+    ∙ ap (λ own. all_lines (item_lines (record { decls = ds; items = items_in own }) n) (items_about ds n items))
+    declared
 
 -- ---- all scopes
 

@@ -1,5 +1,6 @@
 // What a tree says of one scope.
-ghost use Rattle.std.specs.Prelude.{◌≡◌, ◌||◌, Some, Ok, flat_map, slice_get};
+ghost use Rattle.std.specs.Prelude.{◌≡◌, ◌||◌, List, Some, Ok, flat_map, slice_get};
+ghost use Rattle.cat_tree.specs.declared.program.Item.{Item};
 ghost use Rattle.cat_scope.specs.Names.{has_none};
 ghost use Rattle.cat_scope.specs.WellFormed.{is_internal};
 ghost use Rattle.cat_names.specs.Bodies as words;
@@ -8,8 +9,8 @@ ghost use Rattle.cat_names.specs.Lines.{all_lines, item_lines, items_about};
 ghost use Rattle.cat_form.specs.Tabled.{IsTabled, names_at};
 ghost use Rattle.cat_line.specs.Saying.{behind, nothing_said};
 ghost use Rattle.cat_body.specs.Unordered.{without_order};
-ghost use Rattle.cat_body.specs.inside.ByScope.{items_at};
 
+use crate::by_scope::Items;
 use crate::rounds::{rounding, rounds_in};
 use cat_depend::calls_of;
 use cat_form::Here;
@@ -17,7 +18,6 @@ use cat_line::{Said, add_item};
 use cat_names::{Fault, Refusal};
 use cat_pos::List;
 use cat_scope::Body;
-use cat_tree::Item;
 use cat_value::{ItemDecl, Kind, Scope};
 
 /// Whether an item is no function, or an internal one.
@@ -39,44 +39,36 @@ fn all_inward(items: &[ItemDecl]) -> Result<(), Refusal>
     Ok(())
 }
 
-/// What the items of these numbers say of the scope at hand.
-fn said_in(here: &Here, items: &List<Item>, numbers: &[usize]) -> Result<Said, Refusal>
+/// What items say of the scope at hand. Each is dropped as soon as it is read, since it takes as much memory as what it
+/// says.
+fn said_in(here: &Here, items: Items) -> Result<Said, Refusal>
     requires { IsTabled here.now }
     ensures { Tells result (behind nothing_said
-        (all_lines (item_lines (names_at here.now) here.now.scope) (items_at items.now numbers.now))) }
+        (all_lines (item_lines (names_at here.now) here.now.scope) items)) }
 {
     let mut said = Said::new(here.alloc);
-    for number in numbers {
-        let Some(item) = items.get(*number) else {
-            continue;
-        };
-        add_item(here, item, &mut said)?;
+    for item in items.into_vec() {
+        add_item(here, &item, &mut said)?;
     }
     Ok(said)
 }
 
-/// What the items of a tree say of the scope at hand, which is declared so: those of these numbers are about it.
-pub fn body_of(
-    here: &Here,
-    scope: &Scope,
-    items: &List<Item>,
-    numbers: &[usize],
-) -> Result<Body, Refusal>
+/// What the items of a tree say of the scope at hand, which is declared so: these are those about it.
+pub fn body_of(here: &Here, scope: &Scope, own: Items) -> Result<Body, Refusal>
     requires tabled { IsTabled here.now }
     requires declared { slice_get here.now.decls.now.scopes here.now.scope ≡ Some scope.now }
-    requires about { items_at items.now numbers.now ≡ items_about here.now.decls.now here.now.scope items.now }
-    ensures { Tells (without_order result)
-        (words.body_found here.now.decls.now items.now (here.now.scope, scope.now)) }
+    ensures { (items : List Item) → own ≡ items_about here.now.decls.now here.now.scope items
+        → Tells (without_order result) (words.body_found here.now.decls.now items (here.now.scope, scope.now)) }
 {
     let decls = scope.items.as_slice();
     all_inward(decls)?;
-    let rounds = rounds_in(here.alloc, items, numbers)?;
+    let rounds = rounds_in(here.alloc, own.as_slice())?;
     let rounding = rounding(rounds.as_slice())?;
     let Said {
         defs,
         assertions,
         source,
-    } = said_in(here, items, numbers)?;
+    } = said_in(here, own)?;
     let calls = calls_of(
         here.alloc,
         decls,

@@ -1,18 +1,18 @@
 // The declaration and the blocks of each scope.
 ghost use Rattle.std.specs.Prelude.{◌≡◌, [], IfOk, OnOk, length, replicate};
 ghost use Rattle.cat_form.specs.Tabled.{IsTabled};
-ghost use Rattle.cat_body.specs.inside.ByScope.{AreByScope, scope_about, with_number};
+ghost use Rattle.cat_body.specs.inside.ByScope.{AreByScope, scope_about, with_item};
 
 use cat_form::Here;
 use cat_pos::List;
 use cat_tree::Item;
 use std::alloc::{AllocError, Global};
 
-/// Numbers of the items of a tree.
-pub type Indices = List<usize>;
+/// Declarations and blocks of a tree.
+pub type Items = List<Item>;
 
 /// So many empty lists.
-fn empty_lists(alloc: Global, count: usize) -> Result<Vec<Indices>, AllocError>
+fn empty_lists(alloc: Global, count: usize) -> Result<Vec<Items>, AllocError>
     ensures { IfOk result (λ lists. lists.items ≡ replicate count []) }
 {
     let mut lists = Vec::with_capacity(alloc, count)?;
@@ -34,32 +34,27 @@ fn scope_about(here: &Here, item: &Item) -> Option<u32>
     }
 }
 
-/// Adds the number of an item to the list of the scope that it is about.
-fn add_number(
-    here: &Here,
-    item: &Item,
-    number: usize,
-    lists: &mut Vec<Indices>,
-) -> Result<(), AllocError>
+/// Adds an item to the list of the scope that it is about.
+fn add_item(here: &Here, item: Item, lists: &mut Vec<Items>) -> Result<(), AllocError>
     requires tabled { IsTabled here.now }
     requires counted { length lists.old.items ≡ length here.now.decls.now.scopes }
     ensures { OnOk result (lists.new.items
-        ≡ with_number (scope_about here.now.decls.now item.now) number lists.old.items) }
+        ≡ with_item (scope_about here.now.decls.now item) item lists.old.items) }
 {
-    match scope_about(here, item) {
+    match scope_about(here, &item) {
         None => Ok(()),
-        Some(scope) => lists[scope as usize].push(number),
+        Some(scope) => lists[scope as usize].push(item),
     }
 }
 
-/// For each scope the numbers of its declaration and its blocks among the items of a tree, in one pass over them.
-pub fn by_scope(here: &Here, items: &[Item]) -> Result<Vec<Indices>, AllocError>
+/// For each scope its declaration and its blocks among the items of a tree, in one pass over them.
+pub fn by_scope(here: &Here, items: Items) -> Result<Vec<Items>, AllocError>
     requires { IsTabled here.now }
-    ensures { IfOk result (λ lists. AreByScope here.now.decls.now items.now items.now lists.items) }
+    ensures { IfOk result (λ lists. AreByScope here.now.decls.now items lists.items) }
 {
     let mut lists = empty_lists(here.alloc, here.decls.scopes.len())?;
-    for (number, item) in items.iter().enumerate() {
-        add_number(here, item, number, &mut lists)?;
+    for item in items.into_vec() {
+        add_item(here, item, &mut lists)?;
     }
     Ok(lists)
 }

@@ -1,4 +1,5 @@
-//! What a tree says of each of its scopes: its definitions, assertions, rounding and calls, or what stands against them.
+//! What a tree says of each of its scopes: its definitions, assertions, rounding and calls, or what stands against
+//! them.
 #![tactic(auto)]
 
 mod body;

@@ -2,7 +2,6 @@
 ghost use Rattle.std.specs.Prelude.{◌≡◌, ◌++◌, [], ◌∷◌, Ok, IfOk, OnOk, flat_map};
 ghost use Rattle.cat_names.specs.Bodies as words;
 ghost use Rattle.cat_names.specs.Found.{Tells, where_none};
-ghost use Rattle.cat_body.specs.inside.ByScope.{items_at};
 
 use cat_date::Rounding;
 use cat_names::{Fault, Refusal};
@@ -40,15 +39,12 @@ fn add_item(item: &Item, rounds: &mut Rounds) -> Result<(), AllocError>
     }
 }
 
-/// How the items of these numbers say that dates are rounded.
-pub fn rounds_in(alloc: Global, items: &List<Item>, numbers: &[usize]) -> Result<Rounds, AllocError>
-    ensures { IfOk result (λ rounds. rounds ≡ flat_map words.item_rounds (items_at items.now numbers.now)) }
+/// How items say that dates are rounded.
+pub fn rounds_in(alloc: Global, items: &[Item]) -> Result<Rounds, AllocError>
+    ensures { IfOk result (λ rounds. rounds ≡ flat_map words.item_rounds items.now) }
 {
     let mut rounds = List::new(alloc);
-    for number in numbers {
-        let Some(item) = items.get(*number) else {
-            continue;
-        };
+    for item in items {
         add_item(item, &mut rounds)?;
     }
     Ok(rounds)

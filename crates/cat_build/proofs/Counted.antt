@@ -1,4 +1,5 @@
--- A tree has no more items, and a structure no more fields, than a u32 numbers: each has a token, and each token a byte.
+-- A tree has no more items, and a structure no more fields, than a u32 numbers: each has a token, and each token a
+-- byte.
 use Rattle.std.proofs.Common.{◌≡◌, ◌≢◌, ◌≤◌, ◌<◌, ◌+◌, ℕ, Bool, true, false, List, [], ◌∷◌, refl, ap, arith}
 use Rattle.std.proofs.lemmas.List.{length-append}
 use Rattle.std.specs.Prelude.{◌++◌, length}

@@ -37,7 +37,8 @@ tree_refused pieces tree found spelled refused = record { tree = tree; spelled =
 -- what stands against the tree stands in the pieces
 pub tree_cause : (pieces : List Piece) (tree : Tree) → IsTreeOf pieces tree → (found : Fault) → IsRefused tree found
     → HasCause pieces (refusal_of found)
-tree_cause pieces tree spelled (fault.NameTwice p) refused = tree_refused pieces tree (fault.NameTwice p) spelled refused
+tree_cause pieces tree spelled (fault.NameTwice p) refused =
+    tree_refused pieces tree (fault.NameTwice p) spelled refused
 tree_cause pieces tree spelled (fault.NameUnknown p) refused =
     tree_refused pieces tree (fault.NameUnknown p) spelled refused
 tree_cause pieces tree spelled (fault.TypeMismatch p) refused =
@@ -48,7 +49,9 @@ tree_cause pieces tree spelled (fault.VariableCycle p) refused =
     tree_refused pieces tree (fault.VariableCycle p) spelled refused
 tree_cause pieces tree spelled (fault.ScopeCycle p) refused =
     tree_refused pieces tree (fault.ScopeCycle p) spelled refused
-tree_cause pieces tree spelled (fault.TypeCycle p) refused = tree_refused pieces tree (fault.TypeCycle p) spelled refused
-tree_cause pieces tree spelled (fault.Misplaced p) refused = tree_refused pieces tree (fault.Misplaced p) spelled refused
+tree_cause pieces tree spelled (fault.TypeCycle p) refused =
+    tree_refused pieces tree (fault.TypeCycle p) spelled refused
+tree_cause pieces tree spelled (fault.Misplaced p) refused =
+    tree_refused pieces tree (fault.Misplaced p) spelled refused
 tree_cause pieces tree spelled (fault.TooMany p) refused =
     inl (tree_refused pieces tree (fault.TooMany p) spelled refused)

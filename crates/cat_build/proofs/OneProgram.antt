@@ -71,7 +71,8 @@ formed_once decls bodies order = hlevel
 
 same_formed : (decls : Decls) (bodies : List Body) (order : List ℕ) (well other : ∥ IsWellFormed decls bodies order ∥₁)
     → with_parts decls bodies order well ≡ with_parts decls bodies order other
-same_formed decls bodies order well other = ap (with_parts decls bodies order) (formed_once decls bodies order well other)
+same_formed decls bodies order well other =
+    ap (with_parts decls bodies order) (formed_once decls bodies order well other)
 
 same_order : (decls : Decls) (bodies : List Body) (order listed : List ℕ) → order ≡ listed
     → (well : ∥ IsWellFormed decls bodies order ∥₁) (other : ∥ IsWellFormed decls bodies listed ∥₁)

@@ -1,5 +1,6 @@
 -- What stands at a position where a source is refused: one line a code. Each says that no earlier phase has a fault.
 use Rattle.std.specs.Prelude.{◌≡◌, ◌<◌, ◌⊎◌, ℕ, List, [], ◌∷◌, length, slice_get, Option, Some, None}
+use Rattle.cat_pos.specs.Position.{pos_of}
 use Rattle.cat_pos.specs.declared.pos.Pos.{Pos}
 use Rattle.cat_pos.specs.declared.pos.Piece.{Piece}
 use Rattle.cat_lex.specs.declared.token.Token.{Token}
@@ -25,7 +26,7 @@ use Rattle.cat_build.specs.Accepted.{IsTreeOf, IsProgramIn, MakeForestsTo}
 
 -- the position behind the last piece; where there is none, the first position of all
 abbrev pub end_of : List Piece → Pos
-end_of [] = record { file = 0; line = 1; column = 1 }
+end_of [] = pos_of 0 1 1
 end_of (piece ∷ []) = position_after piece.pos piece.text
 end_of (piece ∷ next ∷ more) = end_of (next ∷ more)
 

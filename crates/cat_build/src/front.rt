@@ -49,11 +49,7 @@ fn position_at_end(pieces: &[Piece]) -> Pos
 {
     match pieces.last() {
         Some(piece) => position_behind(piece),
-        None => Pos {
-            file: 0,
-            line: 1,
-            column: 1,
-        },
+        None => Pos::new(0, 1, 1),
     }
 }
 
@@ -90,11 +86,11 @@ fn tree_of(alloc: Global, pieces: &[Piece], tokens: &[Token]) -> Result<Tree, Bu
 }
 
 /// The program of a tree, where the pieces are that tree.
-fn checked(alloc: Global, pieces: &[Piece], tree: &Tree) -> Result<Program, BuildRefusal>
-    requires parsed { IsParsed tree.now }
-    requires spelled { IsTreeOf pieces.now tree.now }
+fn checked(alloc: Global, pieces: &[Piece], tree: Tree) -> Result<Program, BuildRefusal>
+    requires parsed { IsParsed tree }
+    requires spelled { IsTreeOf pieces.now tree }
     ensures meant { IfOk result (λ program.
-        IsProgramOf tree.now program.decls program.bodies program.scope_order) }
+        IsProgramOf tree program.decls program.bodies program.scope_order) }
     ensures cause { IfErr result (HasCause pieces.now) }
 {
     match check(alloc, tree) {
@@ -105,9 +101,9 @@ fn checked(alloc: Global, pieces: &[Piece], tree: &Tree) -> Result<Program, Buil
 }
 
 /// The program of the tree that the pieces are.
-fn program_of(alloc: Global, pieces: &[Piece], tree: &Tree) -> Result<Program, BuildRefusal>
+fn program_of(alloc: Global, pieces: &[Piece], tree: Tree) -> Result<Program, BuildRefusal>
     requires readable { AreReadableTogether pieces.now }
-    requires spelled { IsTreeOf pieces.now tree.now }
+    requires spelled { IsTreeOf pieces.now tree }
     ensures program { IfOk result (IsProgramIn pieces.now) }
     ensures few { IfOk result (λ program. AllHave (λ body. length body.defs < ENTRIES_BOUND) program.bodies) }
     ensures cause { IfErr result (HasCause pieces.now) }
@@ -128,7 +124,7 @@ fn parsed(alloc: Global, pieces: &[Piece]) -> Result<Tree, BuildRefusal>
     Ok(tree)
 }
 
-/// The program that the pieces are. Their tree is dropped with the answer.
+/// The program that the pieces are.
 pub fn program_in(alloc: Global, pieces: &[Piece]) -> Result<Program, BuildRefusal>
     requires { AreReadableTogether pieces.now }
     ensures program { IfOk result (IsProgramIn pieces.now) }
@@ -136,6 +132,6 @@ pub fn program_in(alloc: Global, pieces: &[Piece]) -> Result<Program, BuildRefus
     ensures cause { IfErr result (HasCause pieces.now) }
 {
     let tree = parsed(alloc, pieces)?;
-    let program = program_of(alloc, pieces, &tree)?;
+    let program = program_of(alloc, pieces, tree)?;
     Ok(program)
 }

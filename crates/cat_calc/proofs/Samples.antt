@@ -1,5 +1,6 @@
 -- Worked examples of terms: each is written out, and what it comes to is computed.
 use Rattle.std.proofs.Common.{◌≡◌, ℕ, pos, false, List, [], ◌∷◌, None, Some, Result, Ok, rules}
+use Rattle.cat_pos.specs.Position.{pos_of}
 use Rattle.cat_pos.specs.declared.pos.Pos.{Pos}
 use Rattle.cat_date.specs.declared.rounding.Rounding.TheVariants.{Refuse}
 use Rattle.cat_value.specs.declared.value.Value.{Value}
@@ -24,7 +25,7 @@ use Rattle.cat_calc.specs.Calculus.{run_of_terms}
 use Rattle.cat_calc.proofs.Equations.{reductions}
 
 abbrev pub at : ℕ → ℕ → Pos
-at l c = record { file = 0; line = l; column = c }
+at l c = pos_of 0 l c
 
 abbrev whole : ℕ → Expr
 whole n = leaf.Literal (at 0 0) (literal.Integer (pos n))

@@ -1,5 +1,5 @@
 // The terms of the default calculus.
-use cat_pos::{Boxed, List, Pos};
+use cat_pos::{Boxed, List, Pos, Shared};
 use cat_scope::Expr;
 
 /// What the consequence of a default stands under.
@@ -8,7 +8,7 @@ pub enum Justification {
     Never,
     Always,
     /// A boolean expression.
-    Where(Expr),
+    Where(Shared<Expr>),
 }
 
 /// A term of the default calculus, over the expressions of a scope.
@@ -19,7 +19,7 @@ pub enum Term {
     Empty,
     /// The consequence of a definition: the definition's number among those of its scope, its position, and what it
     /// gives.
-    Consequence(u32, Pos, Expr),
+    Consequence(u32, Pos, Shared<Expr>),
     /// `⟨exceptions | justification :- consequence⟩`.
     Default(Terms, Justification, Boxed<Term>),
 }

@@ -21,8 +21,8 @@ pub fn audited_scopes_have_one_list_of_tables(program: &Program)
         → AreTablesOf program.now scope others → tables ≡ others }
 {}
 
-/// Where each target of a scope, and of those that it calls, has a closed tree, no well-typed input of the scope ends in
-/// a Conflict or a NoValue.
+/// Where each target of a scope, and of those that it calls, has a closed tree, no well-typed input of the scope ends
+/// in a Conflict or a NoValue.
 pub fn closed_tables_leave_no_gap(program: &Program)
     ensures { (scope : ℕ) (tables : List TableSeen) → scope < length program.now.bodies
         → AreTablesOf program.now scope tables → HaveClosedTrees tables → HasNoGap program.now scope }

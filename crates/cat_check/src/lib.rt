@@ -10,23 +10,25 @@ mod required;
 mod tables;
 
 use crate::meaning::meaning_of;
-use cat_arrange::arranged;
+use cat_arrange::{Outline, arranged};
 use cat_declare::declared;
 use cat_names::Refusal;
 use cat_scope::Program;
 use cat_tree::Tree;
 use std::alloc::Global;
 
-/// The program of a tree. A tree without one is refused by a fault of the first kind that stands in it: names and
+/// The program of a tree. Its blocks are dropped as they are read, since together they would take as much memory as the
+/// program. A tree without a program is refused by a fault of the first kind that stands in it: names and
 /// counts, cycles of types, heights of declared types, placements and expressions, cycles of scopes, cycles of items,
 /// chains of calls. It takes time in proportion to the tree, and n log n for orders.
-pub fn check(alloc: Global, tree: &Tree) -> Result<Program, Refusal>
-    requires { IsParsed tree.now }
+pub fn check(alloc: Global, tree: Tree) -> Result<Program, Refusal>
+    requires { IsParsed tree }
     ensures program { IfOk result (λ program.
-        IsProgramOf tree.now program.decls program.bodies program.scope_order) }
-    ensures cause { IfErr result (Because (IsRefused tree.now)) }
+        IsProgramOf tree program.decls program.bodies program.scope_order) }
+    ensures cause { IfErr result (Because (IsRefused tree)) }
 {
-    let decls = declared(alloc, tree)?;
+    let decls = declared(alloc, &tree)?;
+    let outline = Outline::of(alloc, &tree)?;
     let bodies = meaning_of(alloc, tree, &decls)?;
-    arranged(alloc, tree, decls, bodies)
+    arranged(alloc, &outline, decls, bodies)
 }

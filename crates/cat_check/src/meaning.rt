@@ -14,11 +14,11 @@ use cat_value::Decls;
 use std::alloc::Global;
 
 /// What a tree says of each scope that it declares, by tables of its declarations.
-fn meaning_by(alloc: Global, tree: &Tree, decls: &Decls, tables: &Tables) -> Result<Bodies, Refusal>
-    requires named { IsNamed tree.now (parts_of decls.now) }
+fn meaning_by(alloc: Global, tree: Tree, decls: &Decls, tables: &Tables) -> Result<Bodies, Refusal>
+    requires named { IsNamed tree (parts_of decls.now) }
     requires tables { AreTables decls.now tables.now }
-    ensures meant { IfOk result (IsMeant tree.now decls.now) }
-    ensures cause { IfErr result (Because (IsRefused tree.now)) }
+    ensures meant { IfOk result (IsMeant tree decls.now) }
+    ensures cause { IfErr result (Because (IsRefused tree)) }
 {
     let here = Here {
         alloc,
@@ -40,11 +40,11 @@ fn meaning_by(alloc: Global, tree: &Tree, decls: &Decls, tables: &Tables) -> Res
     found
 }
 
-/// What a tree says of each scope that it declares.
-pub fn meaning_of(alloc: Global, tree: &Tree, decls: &Decls) -> Result<Bodies, Refusal>
-    requires { IsNamed tree.now (parts_of decls.now) }
-    ensures meant { IfOk result (IsMeant tree.now decls.now) }
-    ensures cause { IfErr result (Because (IsRefused tree.now)) }
+/// What a tree says of each scope that it declares. Its blocks are dropped one after another.
+pub fn meaning_of(alloc: Global, tree: Tree, decls: &Decls) -> Result<Bodies, Refusal>
+    requires { IsNamed tree (parts_of decls.now) }
+    ensures meant { IfOk result (IsMeant tree decls.now) }
+    ensures cause { IfErr result (Because (IsRefused tree)) }
 {
     let tables = Tables::of(alloc, decls)?;
     meaning_by(alloc, tree, decls, &tables)

@@ -3,7 +3,7 @@ ghost use Rattle.std.specs.Prelude.{◌≡◌, Some, IfOk};
 ghost use Rattle.cat_scope.specs.declared.expr.Expr.TheViews as expr;
 
 use cat_pos::{Boxed, List, Pos};
-use cat_scope::{Arm, Arms, Assertion, Assertions, BinaryOp, Expr, Exprs, FieldValue, FieldValues};
+use cat_scope::{Arm, Arms, BinaryOp, Expr, Exprs, FieldValue, FieldValues};
 use std::alloc::{AllocError, Global};
 
 /// The same expression.
@@ -22,7 +22,7 @@ pub fn copy_expr(alloc: Global, expr: &Expr) -> Result<Expr, AllocError>
         Expr::And(pos, left, right) => copy_and(alloc, *pos, left, right),
         Expr::Or(pos, left, right) => copy_or(alloc, *pos, left, right),
         Expr::If(pos, test, yes, no) => copy_if(alloc, *pos, test, yes, no),
-        Expr::Match(pos, of, arms) => copy_match(alloc, *pos, of, arms),
+        Expr::Match(pos, of, arms) => copy_match(alloc, *pos, of, arms.get()),
         Expr::IsCase(pos, of, ty, case) => Ok(Expr::IsCase(
             *pos,
             copy_part(alloc, of)?,
@@ -42,7 +42,13 @@ pub fn copy_expr(alloc: Global, expr: &Expr) -> Result<Expr, AllocError>
         Expr::Length(pos, list) => Ok(Expr::Length(*pos, copy_part(alloc, list)?)),
         Expr::Sum(pos, kind, list) => Ok(Expr::Sum(*pos, *kind, copy_part(alloc, list)?)),
         Expr::Call(pos, function, of) => Ok(Expr::Call(*pos, *function, copy_all(alloc, of)?)),
-        Expr::ScopeCall(pos, scope, of, output) => copy_call(alloc, *pos, *scope, of, *output),
+        Expr::ScopeCall(pos, scope, of, output) => copy_call(
+            alloc,
+            *pos,
+            *scope,
+            of.get(),
+            *output,
+        ),
     }
 }
 
@@ -247,7 +253,7 @@ fn copy_match(alloc: Global, pos: Pos, of: &Boxed<Expr>, arms: &Arms) -> Result<
     ensures { IfOk result (λ copied. copied ≡ expr.Match pos of.now arms.now) }
 {
     let of = copy_part(alloc, of)?;
-    let arms = copy_arms(alloc, arms)?;
+    let arms = Boxed::new(alloc, copy_arms(alloc, arms)?)?;
     Ok(Expr::Match(pos, of, arms))
 }
 
@@ -275,21 +281,6 @@ fn copy_call(
 ) -> Result<Expr, AllocError>
     ensures { IfOk result (λ copied. copied ≡ expr.ScopeCall pos scope of.now output) }
 {
-    let of = copy_fields(alloc, of)?;
+    let of = Boxed::new(alloc, copy_fields(alloc, of)?)?;
     Ok(Expr::ScopeCall(pos, scope, of, output))
-}
-
-/// The same assertions.
-pub fn copy_assertions(alloc: Global, assertions: &Assertions) -> Result<Assertions, AllocError>
-    ensures { IfOk result (λ copied. copied ≡ assertions.now) }
-{
-    let mut copies = List::new(alloc);
-    for assertion in assertions.as_slice() {
-        let condition = copy_expr(alloc, &assertion.condition)?;
-        copies.push(Assertion {
-            condition,
-            keyword: assertion.keyword,
-        })?;
-    }
-    Ok(copies)
 }

@@ -5,4 +5,4 @@ mod decls;
 mod expr;
 
 pub use decls::copy_decls;
-pub use expr::{copy_assertions, copy_expr};
+pub use expr::copy_expr;

@@ -19,7 +19,8 @@ pub fn add_span(d: Day, s: Span, r: Rounding) -> Result<Day, DateFault>
 
 #[tactic(auto, unfolding(crate::specs::Add::date_plus_months))]
 fn plus_months(date: Date, months: i64, rounding: Rounding) -> Result<Day, DateFault>
-    ensures { result ≡ date_plus_months (record { year = date.year; month = date.month; day = date.day }) months rounding }
+    ensures { result
+        ≡ date_plus_months (record { year = date.year; month = date.month; day = date.day }) months rounding }
 {
     let index = index_after(date, months);
     if index < 12 || index >= 120_000 {

@@ -14,7 +14,8 @@ pub fn numbers_are_those_of_jiff()
 
 /// Each date has its own day, and each day its own date.
 pub fn days_are_dates()
-    ensures date { (y : ℤ) (m d : ℕ) → IsTrue (is_civil y m d) → civil_of (day_number y m d) ≡ record { year = y; month = m; day = d } }
+    ensures date { (y : ℤ) (m d : ℕ) → IsTrue (is_civil y m d) → civil_of (day_number y m d)
+        ≡ record { year = y; month = m; day = d } }
     ensures day { (n : ℤ) → IsDay n → day_of_civil (civil_of n).year (civil_of n).month (civil_of n).day ≡ Ok n }
 {}
 
@@ -25,6 +26,8 @@ pub fn shown_days_are_read()
 
 /// A duration of days alone adds its days, and the days between two days lead from the one to the other.
 pub fn days_lead_from_day_to_day()
-    ensures days { (day days : ℤ) (r : Rounding) → IsDay day → day_plus_span day (span_of_days days) r ≡ in_range (day +ℤ days) }
-    ensures between { (later earlier : ℤ) (r : Rounding) → IsDay later → IsDay earlier → day_plus_span earlier (span_of_days (later -ℤ earlier)) r ≡ Ok later }
+    ensures days { (day days : ℤ) (r : Rounding) → IsDay day → day_plus_span day (span_of_days days) r
+        ≡ in_range (day +ℤ days) }
+    ensures between { (later earlier : ℤ) (r : Rounding) → IsDay later → IsDay earlier
+        → day_plus_span earlier (span_of_days (later -ℤ earlier)) r ≡ Ok later }
 {}

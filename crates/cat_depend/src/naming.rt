@@ -80,7 +80,7 @@ pub fn add_named(numbers: &mut Numbers, wanted: Wanted, e: &Expr) -> Result<(), 
         }
         Expr::Match(_, matched, arms) => {
             add_named(numbers, wanted, matched.get())?;
-            add_arms(numbers, wanted, arms)?;
+            add_arms(numbers, wanted, arms.get())?;
             Ok(())
         }
         Expr::Case(_, _, _, content) => add_content(numbers, wanted, content),
@@ -93,7 +93,7 @@ pub fn add_named(numbers: &mut Numbers, wanted: Wanted, e: &Expr) -> Result<(), 
         }
         Expr::ScopeCall(_, scope, fields, _) => {
             add_scope(numbers, wanted, *scope)?;
-            add_fields(numbers, wanted, fields)?;
+            add_fields(numbers, wanted, fields.get())?;
             Ok(())
         }
     }
@@ -148,7 +148,7 @@ pub fn add_definition(numbers: &mut Numbers, wanted: Wanted, def: &Def) -> Resul
     ensures { OnOk result (numbers.new ≡ numbers.old ++ in_def (named wanted) def.now) }
 {
     if let Some(condition) = &def.condition {
-        add_named(numbers, wanted, condition)?;
+        add_named(numbers, wanted, condition.get())?;
     }
-    add_named(numbers, wanted, &def.consequence)
+    add_named(numbers, wanted, def.consequence.get())
 }

@@ -78,7 +78,7 @@ fn all_calls(
                 let Some((assertion, rest)) = assertions.split_first() else {
                     continue;
                 };
-                add_named(&mut calls, Wanted::Scopes, &assertion.condition)?;
+                add_named(&mut calls, Wanted::Scopes, assertion.condition.get())?;
                 assertions = rest;
             }
         }

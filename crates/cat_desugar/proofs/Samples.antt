@@ -1,5 +1,6 @@
 -- Worked examples of the terms of targets: each is written out.
 use Rattle.std.proofs.Common.{◌≡◌, ℕ, ◌+◌, pos, List, [], ◌∷◌, None, Some, refl}
+use Rattle.cat_pos.specs.Position.{pos_of}
 use Rattle.cat_pos.specs.declared.pos.Pos.{Pos}
 use Rattle.cat_value.specs.declared.outcome.Target.{Target}
 use Rattle.cat_scope.specs.declared.expr.Expr.{Expr}
@@ -15,7 +16,7 @@ use Rattle.cat_desugar.specs.inside.Terms.{group_term}
 use Rattle.cat_desugar.specs.inside.Items.{term_at}
 
 abbrev at : ℕ → Pos
-at l = record { file = 0; line = l; column = 3 }
+at l = pos_of 0 l 3
 
 abbrev whole : ℕ → Expr
 whole n = leaf.Literal (at 0) (literal.Integer (pos n))

@@ -8,11 +8,25 @@ ghost use Rattle.cat_desugar.specs.inside.Items.{calc_scope_at, calc_scopes};
 
 use crate::items::terms_of_items;
 use cat_calc::{CalcScope, CalcScopes};
-use cat_copy::copy_assertions;
 use cat_pos::List;
-use cat_scope::{Forest, Program, programs_are_well_formed};
+use cat_scope::{Assertion, Assertions, Forest, Program, programs_are_well_formed};
 use cat_value::declarations_are_sound;
 use std::alloc::{AllocError, Global};
+
+/// The same assertions, which share their conditions with these.
+fn copy_assertions(alloc: Global, assertions: &Assertions) -> Result<Assertions, AllocError>
+    ensures { IfOk result (λ copied. copied ≡ assertions.now) }
+{
+    let mut copies = List::new(alloc);
+    for assertion in assertions.as_slice() {
+        let condition = assertion.condition.copy()?;
+        copies.push(Assertion {
+            condition,
+            keyword: assertion.keyword,
+        })?;
+    }
+    Ok(copies)
+}
 
 /// The terms of the scope of that number.
 fn calc_scope(

@@ -9,7 +9,6 @@ ghost use Rattle.cat_desugar.specs.inside.Numbered.{numbered_at, is_first_root, 
 ghost use Rattle.cat_desugar.specs.inside.Terms.{definition_term, one_of, group_term, target_term, HasLowGroups};
 
 use cat_calc::{Justification, Term, Terms};
-use cat_copy::copy_expr;
 use cat_pos::{Boxed, List, Numbers};
 use cat_scope::{Def, Except, ForestGroup, ForestTarget};
 use std::alloc::{AllocError, Global};
@@ -22,10 +21,10 @@ fn definition_term(alloc: Global, number: u32, def: &Def) -> Result<Term, AllocE
     ensures { IfOk result (λ term. term ≡ definition_term (number, def.now)) }
 {
     let justification = match &def.condition {
-        Some(condition) => Justification::Where(copy_expr(alloc, condition)?),
+        Some(condition) => Justification::Where(condition.copy()?),
         None => Justification::Always,
     };
-    let consequence = copy_expr(alloc, &def.consequence)?;
+    let consequence = def.consequence.copy()?;
     let consequence = Boxed::new(alloc, Term::Consequence(number, def.pos, consequence))?;
     Ok(Term::Default(List::new(alloc), justification, consequence))
 }

@@ -24,8 +24,8 @@ abbrev pub rate_of : List Value → ℤ
 rate_of (value.Integer n ∷ []) = n
 rate_of outputs = pos 0
 
--- the first runs each have a value, and their rates have this sum. Run j, from 0, has an income of j times the number of
--- bands
+-- the first runs each have a value, and their rates have this sum. Run j, from 0, has an income of j times the number
+-- of bands
 pub data HaveSum (program : Program) (scope bands : ℕ) : ℕ → ℤ → Type 0 where
   none : HaveSum program scope bands 0 (pos 0)
   one_more : (j : ℕ) (sum : ℤ) (outputs : List Value) → HaveSum program scope bands j sum

@@ -44,7 +44,7 @@ pub(crate) fn assertion_next<'a>(
         target,
         limit,
         assertion.keyword,
-        &assertion.condition,
+        assertion.condition.get(),
     );
     Ok(ScopeStep::Next(ScopeTask::Judge(purpose, now, Stack::new(alloc), next)))
 }

@@ -91,7 +91,7 @@ pub(crate) fn on_expr<'a>(
         Expr::And(_, e, f) => operand(frames, OnOperand::And(f), e),
         Expr::Or(_, e, f) => operand(frames, OnOperand::Or(f), e),
         Expr::If(_, e, f, g) => operand(frames, OnOperand::If(f, g), e),
-        Expr::Match(_, e, arms) => operand(frames, OnOperand::Match(arms), e),
+        Expr::Match(_, e, arms) => operand(frames, OnOperand::Match(arms.get()), e),
         Expr::IsCase(_, e, _, k) => operand(frames, OnOperand::IsCase(*k), e),
         Expr::Case(_, _, k, content) => on_case(alloc, frames, *k, content),
         Expr::Structure(_, _, fs) => fields_first(alloc, frames, FieldsUse::Structure, fs),
@@ -106,7 +106,7 @@ pub(crate) fn on_expr<'a>(
         Expr::Sum(p, kind, l) => list(frames, OnList::Sum(*kind, *p), l),
         Expr::Call(_, f, es) => exprs_first(alloc, frames, ExprsUse::Call(*f), es),
         Expr::ScopeCall(_, s, fs, k) => {
-            fields_first(alloc, frames, FieldsUse::ScopeCall(*s, *k), fs)
+            fields_first(alloc, frames, FieldsUse::ScopeCall(*s, *k), fs.get())
         }
     }
 }

@@ -2,7 +2,8 @@
 ghost use Rattle.std.specs.Prelude.{◌++◌, [], drop};
 ghost use Rattle.cat_scope.specs.Judging.{with_held};
 ghost use Rattle.cat_evaluate_term.specs.Verdicts.{all_held, found_as, found_run, left_run, used_run};
-ghost use Rattle.cat_evaluate_term.specs.inside.Steps.{IsHeld, Leads, own_run, reduced_run, settled_run, Settles, Stays};
+ghost use Rattle.cat_evaluate_term.specs.inside.Steps.{IsHeld, Leads, own_run, reduced_run, settled_run, Settles};
+ghost use Rattle.cat_evaluate_term.specs.inside.Steps.{Stays};
 
 use crate::conflicts::alone;
 use crate::frames::{Definition, ExceptionFrames, OnExceptions, OnValue, TermTask};
@@ -22,7 +23,7 @@ fn own<'a>(justification: &'a Justification, consequence: &'a Boxed<Term>) -> Te
     match justification {
         Justification::Never => TermTask::Found(None),
         Justification::Always => TermTask::Reduce(consequence.get()),
-        Justification::Where(e) => TermTask::Evaluate(e, OnValue::Under(consequence)),
+        Justification::Where(e) => TermTask::Evaluate(e.get(), OnValue::Under(consequence)),
     }
 }
 
@@ -85,7 +86,10 @@ pub(crate) fn on_term<'a>(
 {
     match term {
         Term::Empty => Ok(TermTask::Found(None)),
-        Term::Consequence(number, p, e) => Ok(TermTask::Evaluate(e, OnValue::Holds(*number, *p))),
+        Term::Consequence(number, p, e) => Ok(TermTask::Evaluate(
+            e.get(),
+            OnValue::Holds(*number, *p),
+        )),
         Term::Default(exceptions, justification, consequence) => {
             let held = List::new(alloc);
             exceptions_next(

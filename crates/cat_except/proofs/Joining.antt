@@ -1,5 +1,5 @@
 -- One definition more in its group.
-use Rattle.std.proofs.Common.{◌≡◌, ◌∙◌, ◌+◌, eqb, Bool, true, false, if◌then◌else◌, List, [], ◌∷◌}
+use Rattle.std.proofs.Common.{◌≡◌, ◌∙◌, ◌+◌, Bool, true, false, if◌then◌else◌, List, [], ◌∷◌}
 use Rattle.std.proofs.Common.{◌++◌}
 use Rattle.std.proofs.Common.{refl, sym, ap}
 use Rattle.std.proofs.Common.{true≢false}

@@ -1,5 +1,6 @@
 -- Definitions of a target for the examples, written out with their positions in their sources.
 use Rattle.std.proofs.Common.{ℕ, zero, suc, pos, List, [], ◌∷◌, Option, None, Some}
+use Rattle.cat_pos.specs.Position.{pos_of}
 use Rattle.cat_pos.specs.declared.pos.Pos.{Pos}
 use Rattle.cat_value.specs.declared.outcome.Target.{Target}
 use Rattle.cat_scope.specs.declared.expr.Expr.TheVariants as leaf
@@ -12,7 +13,7 @@ use Rattle.cat_scope.specs.Groups.{Group, groups_of}
 use Rattle.cat_scope.specs.Targets.{defs_from}
 
 abbrev pub at : ℕ → ℕ → Pos
-at l c = record { file = 0; line = l; column = c }
+at l c = pos_of 0 l c
 
 abbrev pub x : Target
 x = record { scope = 0; item = 1; inner = None }

@@ -1,6 +1,8 @@
 // Forests of definitions, and why there is none.
+ghost use Rattle.std.specs.Prelude.{◌<◌};
+
 use crate::{ExceptRefusal, forest_of};
-use cat_pos::{List, Pos, Text};
+use cat_pos::{COLUMNS_BOUND, List, Pos, Shared, Text};
 use cat_scope::{Def, Defs, Except, Expr, Label};
 use cat_value::Target;
 use std::alloc::{AllocError, Global};
@@ -13,12 +15,10 @@ const X: Target = Target {
     inner: None,
 };
 
-fn at(line: u32, column: u32) -> Pos {
-    Pos {
-        file: 0,
-        line,
-        column,
-    }
+fn at(line: u32, column: u32) -> Pos
+    requires { column < COLUMNS_BOUND }
+{
+    Pos::new(0, line, column)
 }
 
 /// A label of so many letters.
@@ -33,28 +33,28 @@ fn label(alloc: Global, letters: u32, pos: Pos) -> Result<Label, AllocError> {
     })
 }
 
-fn def(label: Option<Label>, except: Except) -> Def {
-    Def {
+fn def(alloc: Global, label: Option<Label>, except: Except) -> Result<Def, AllocError> {
+    Ok(Def {
         target: X,
         label,
         except,
         condition: None,
-        consequence: Expr::Item(at(0, 0), 0),
+        consequence: Shared::new(alloc, Expr::Item(at(0, 0), 0))?,
         params: 0,
         pos: at(0, 0),
-    }
+    })
 }
 
 /// `label L definition x`
 fn plain(alloc: Global, own: u32, line: u32) -> Result<Def, AllocError> {
-    Ok(def(Some(label(alloc, own, at(line, 9))?), Except::No))
+    def(alloc, Some(label(alloc, own, at(line, 9))?), Except::No)
 }
 
 /// `label L exception M definition x`
 fn exception(alloc: Global, own: u32, other: u32, line: u32) -> Result<Def, AllocError> {
     let excepted = label(alloc, other, at(line, 21))?;
     let except = Except::Named(at(line, 11), excepted);
-    Ok(def(Some(label(alloc, own, at(line, 9))?), except))
+    def(alloc, Some(label(alloc, own, at(line, 9))?), except)
 }
 
 fn refused(rt: &impl Abort, alloc: Global, defs: &[Def]) -> Option<ExceptRefusal> {
@@ -65,10 +65,11 @@ fn refused(rt: &impl Abort, alloc: Global, defs: &[Def]) -> Option<ExceptRefusal
 #[test]
 fn labels_and_exceptions_are_refused(rt: HostRuntime) -> Result<(), Fail> {
     let alloc = rt.alloc();
-    let unknown = def(None, Except::Named(at(6, 3), label(alloc, 1, at(6, 13))?));
+    let except = Except::Named(at(6, 3), label(alloc, 1, at(6, 13))?);
+    let unknown = def(alloc, None, except)?;
     let refusal = refused(&rt, alloc, &[unknown]);
     assert!(rt; refusal == Some(ExceptRefusal::LabelUnknown(at(6, 13))));
-    let refusal = refused(&rt, alloc, &[def(None, Except::OnlyRoot(at(6, 3)))]);
+    let refusal = refused(&rt, alloc, &[def(alloc, None, Except::OnlyRoot(at(6, 3)))?]);
     assert!(rt; refusal == Some(ExceptRefusal::ExceptionAmbiguous(at(6, 3))));
     Ok(())
 }

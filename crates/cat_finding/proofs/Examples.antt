@@ -1,5 +1,6 @@
 -- Findings of one target, of which one counts.
 use Rattle.std.proofs.Common.{◌≡◌, [], ◌∷◌, Some, None, refl}
+use Rattle.cat_pos.specs.Position.{pos_of}
 use Rattle.cat_pos.specs.declared.pos.Pos.{Pos}
 use Rattle.cat_value.specs.declared.outcome.FaultKind.TheVariants.{Overflow, DivisionByZero}
 use Rattle.cat_value.specs.declared.outcome.Outcome.TheVariants as outcome
@@ -10,10 +11,10 @@ use Rattle.cat_finding.specs.Findings.{least, finding_of}
 use Rattle.cat_finding.specs.Lines.{counting}
 
 abbrev here : Pos
-here = record { file = 0; line = 4; column = 10 }
+here = pos_of 0 4 10
 
 abbrev there : Pos
-there = record { file = 0; line = 7; column = 3 }
+there = pos_of 0 7 3
 
 abbrev rate : Target
 rate = record { scope = 0; item = 1; inner = None }

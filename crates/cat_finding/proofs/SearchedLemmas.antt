@@ -1,6 +1,7 @@
 -- The bad leaves of a searched tree: where their ways lead, and what holds of their regions.
 use Rattle.std.proofs.Common.{◌≡◌, ℕ, zero, suc, ◌+◌, Bool, true, false, not, ◌&&◌, IsTrue, if◌then◌else◌, List}
-use Rattle.std.proofs.Common.{[], ◌∷◌, ◌++◌, length, map, Option, Some, None, slice_get, refl, sym, ap, ◌∙◌, subst, arith}
+use Rattle.std.proofs.Common.{[], ◌∷◌, ◌++◌, length, map, Option, Some, None, slice_get, refl, sym, ap, ◌∙◌, subst}
+use Rattle.std.proofs.Common.{arith}
 use Rattle.std.proofs.Common.{true≢false}
 use Rattle.std.specs.List.{list_all}
 use Rattle.std.proofs.lemmas.List.Folds.{list_all-map}
@@ -182,7 +183,8 @@ module _ (table : Table) (t : TableTarget) where
         by true e rest =
             let first = on.0 in
             record {
-              bad = earlier table t nodes from (suc l.leaf) (bad_among table.atoms t ls) (omega (arith, first)) rest.bad;
+              bad = earlier table t nodes from (suc l.leaf) (bad_among table.atoms t ls) (omega (arith, first))
+                  rest.bad;
               regions_are = rest.regions_are;
             }
         by false e rest = record {

@@ -52,14 +52,17 @@ findings program table t [] = []
 findings program table t (region ∷ regions) =
     found_before (finding_in program table t region) (findings program table t regions)
 
+-- the run ends in a conflict or in no value
 abbrev pub is_found : Finding → Bool
 is_found (finding.Found outcome input) = true
 is_found f = false
 
+-- the run ends in a fault, and the region hangs on inputs alone
 abbrev pub is_masked : Finding → Bool
 is_masked (finding.Masked kind pos input) = true
 is_masked f = false
 
+-- the region hangs on what a run computes, or on arguments
 abbrev pub is_hanging : Finding → Bool
 is_hanging (finding.Derived at input outcome) = true
 is_hanging f = false

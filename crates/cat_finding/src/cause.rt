@@ -42,8 +42,8 @@ fn least_derived(terms: &[Term], region: Region) -> Option<usize>
     least
 }
 
-/// The position on which a target's finding in a region hangs beside the inputs: of a function its declaration, and else
-/// the first appearance of the first derived term that the region constrains.
+/// The position on which a target's finding in a region hangs beside the inputs: of a function its declaration, and
+/// else the first appearance of the first derived term that the region constrains.
 pub(crate) fn undecided_at(table: &Table, target: u32, region: Region) -> Option<Pos>
     requires { target < length table.now.targets }
     ensures { IfSome (slice_get table.now.targets target) (λ t. result ≡ undecided_at table.now.terms t region) }

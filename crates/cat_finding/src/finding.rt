@@ -11,8 +11,8 @@ pub enum Finding {
     Found(Outcome, Input),
     /// A fault in front of what is wrong, where the region constrains inputs alone.
     Masked(FaultKind, Pos, Input),
-    /// Nothing is known, since the region constrains what a run computes: the position of that, or of the function whose
-    /// arguments it hangs on; and a value or a fault.
+    /// Nothing is known, since the region constrains what a run computes: the position of that, or of the function
+    /// whose arguments it hangs on; and a value or a fault.
     Derived(Pos, Input, Outcome),
 }
 

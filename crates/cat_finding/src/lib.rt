@@ -1,5 +1,5 @@
-//! What an audit says of one target: the line that the target has, by its decision tree and by runs on the inputs of the
-//! leaves that aren't covered.
+//! What an audit says of one target: the line that the target has, by its decision tree and by runs on the inputs of
+//! the leaves that aren't covered.
 #![tactic(auto)]
 
 mod cause;

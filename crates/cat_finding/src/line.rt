@@ -65,8 +65,8 @@ fn line_by(found: Option<Finding>, search: Search) -> TargetLine
     }
 }
 
-/// Searches for the leaves of a target, of which it makes at most `budget`, and runs the scope on the input of each that
-/// isn't covered, up to the first whose run shows a conflict or a gap.
+/// Searches for the leaves of a target, of which it makes at most `budget`, and runs the scope on the input of each
+/// that isn't covered, up to the first whose run shows a conflict or a gap.
 pub fn target_line(
     alloc: Global,
     program: &Program,

@@ -1,5 +1,6 @@
 // The bad leaves of a tree are tried.
-ghost use Rattle.std.specs.Prelude.{◌≡◌, ◌<◌, ◌≤◌, ℕ, [], None, IsTrue, IfOk, OnOk, IfSome, length, map, slice_get, take};
+ghost use Rattle.std.specs.Prelude.{◌≡◌, ◌<◌, ◌≤◌, ℕ, [], None, IsTrue, IfOk, OnOk, IfSome, length, map, slice_get};
+ghost use Rattle.std.specs.Prelude.{take};
 ghost use Rattle.std.specs.List.{slice_range};
 ghost use Rattle.cat_desugar.specs.Desugared.{KeepsOutcomes};
 ghost use Rattle.cat_guard.specs.Tables.{TablesScope};

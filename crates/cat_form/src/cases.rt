@@ -28,7 +28,7 @@ pub fn case_named(here: &Here, case: &CaseName) -> Result<(u32, u32), Refusal>
             Some(case) => Ok(case),
             None => Err(Refusal::Refused(Fault::NameUnknown(name.pos))),
         },
-        CaseName::Qualified(ty, name) => qualified(here, ty, name),
+        CaseName::Qualified(ty, name) => qualified(here, ty.get(), name.get()),
     }
 }
 
@@ -61,7 +61,7 @@ pub fn case_first(case: &CaseName) -> Pos
 {
     match case {
         CaseName::Bare(name) => name.pos,
-        CaseName::Qualified(ty, _) => ty.pos,
+        CaseName::Qualified(ty, _) => ty.get().pos,
     }
 }
 

@@ -16,7 +16,7 @@ use crate::complete::{are_call_fields, are_complete, are_fields_of};
 use crate::heights::list_type;
 use crate::{Here, Resolved};
 use cat_names::{Fault, Refusal};
-use cat_pos::{List, Pos};
+use cat_pos::{Boxed, List, Pos};
 use cat_scope::{Arms, Expr, Exprs, FieldValues};
 use cat_tree::Name;
 use cat_value::{Ty, copy_ty};
@@ -97,6 +97,7 @@ pub fn scope_call(
         return Err(Refusal::Refused(Fault::TypeMismatch(named)));
     }
     let (number, ty) = output;
+    let values = Boxed::new(here.alloc, values)?;
     let expr = Expr::ScopeCall(place, scope, values, number);
     Resolved::new(here.alloc, place, place, expr, ty)
 }
@@ -128,6 +129,7 @@ pub fn matched(
     if !are_complete(here, enumeration, &arms)? {
         return Err(Refusal::Refused(Fault::MatchCases(place)));
     }
+    let arms = Boxed::new(here.alloc, arms)?;
     let expr = Expr::Match(place, tested.into_expr(), arms);
     Resolved::new(here.alloc, place, place, expr, ty)
 }

@@ -1,15 +1,18 @@
 -- The bounds of what is gathered, from one segment to the next.
-use Rattle.std.proofs.Common.{◌≡◌, ap, sym, subst, ℕ, ◌+◌, ◌<◌, ◌≤◌, List, [], ◌∷◌, ◌++◌, length, arith, length-append}
+use Rattle.std.proofs.Common.{◌≡◌, ◌∙◌, ap, sym, subst, ℕ, ◌+◌, ◌<◌, ◌≤◌, List, [], ◌∷◌, ◌++◌, length, arith}
+use Rattle.std.proofs.Common.{length-append}
 use Rattle.std.proofs.lemmas.List.Elements.{All-nil, All-cons, All-head, All-tail, All-append, All-push, All-weaker}
 use Rattle.std.specs.Prelude.{All}
 use Rattle.cat_pos.specs.declared.pos.Piece.{Piece}
-use Rattle.cat_weave.specs.Woven.{code_size, code_total, AreWithin}
+use Rattle.cat_pos.proofs.Packing.{file_kept, column_kept}
+use Rattle.cat_pos.specs.Position.{pos_file, pos_column}
+use Rattle.cat_weave.specs.Woven.{segment_position, code_size, code_total, AreWithin}
 use Rattle.cat_weave.specs.declared.segment.Heading.{Heading as Headed}
 use Rattle.cat_weave.specs.declared.segment.Segment.{Segment}
 use Rattle.cat_weave.specs.declared.segment.Segment.TheVariants.{Code}
 use Rattle.cat_gather.specs.Gathered.{Gathered, gathered_none, with_file, limit_after}
 use Rattle.cat_pos.specs.Readable.{IsReadable}
-use Rattle.cat_pos.specs.declared.limits.TheConstants.{MOST_FILE_BYTES}
+use Rattle.cat_pos.specs.declared.limits.TheConstants.{MOST_FILES, MOST_FILE_BYTES}
 use Rattle.cat_gather.specs.Causes.{pieces_total, AreReadableTogether}
 use Rattle.cat_gather.specs.inside.UnderWay.{IsInFiles, AreBounded}
 
@@ -81,18 +84,17 @@ bounded_heading g headings segment segments bounded =
     record { few = rest.few; all = rest.all; short = rest.short; code = rest.code; starts = rest.starts }
 
 -- segments of one file more
-in_file : (size file : ℕ) (segments : List Segment) → size ≤ MOST_FILE_BYTES → AreWithin size file segments →
-    All (IsInFiles (file + 1)) segments
-in_file size file segments small within =
+in_file : (size file : ℕ) (segments : List Segment) → size ≤ MOST_FILE_BYTES → file < MOST_FILES
+    → AreWithin size file segments → All (IsInFiles (file + 1)) segments
+in_file size file segments small known within =
     let sizes = size_in_total segments in
     λ k d inside.
     let starts = within.starts k d inside in
     let size_here = sizes k d inside in
     record {
-      file = omega (arith, starts.same_file);
+      file = omega (arith, ap pos_file starts.begins ∙ file_kept file (segment_position d).line 1 known);
       line = omega (arith, starts.within);
-      column =
-          starts.first_column;
+      column = ap pos_column starts.begins ∙ column_kept file (segment_position d).line 1 known;
       size = omega (arith, size_here, within.code);
     }
 
@@ -108,7 +110,7 @@ bounded_file old name bytes own segments short within room bounded =
     segments bounded.starts in
     let starts =
     All-append (IsInFiles (length old.files + 1)) own segments
-    (in_file (length bytes) (length old.files) own (omega arith) within) before in
+    (in_file (length bytes) (length old.files) own (omega arith) room within) before in
     record {
       few = omega (arith, number);
       all = omega (arith, bounded.all);

@@ -7,6 +7,7 @@ use Rattle.std.proofs.lemmas.Bool.{cases_Bool, false≢true}
 use Rattle.std.proofs.lemmas.Slice.Eq.{bytes_eq-Decides}
 use Rattle.std.specs.Prelude.{bytes_eq, IfSome, OnOk, IfErr, slice_get, slice_index_or}
 use Rattle.cat_io.specs.Shelf.{Shelved, Gives}
+use Rattle.cat_pos.specs.Position.{pos_file}
 use Rattle.cat_pos.specs.declared.pos.Pos.{Pos}
 use Rattle.cat_pos.specs.declared.pos.Piece.{Piece}
 use Rattle.cat_weave.specs.Woven.{woven}
@@ -171,7 +172,7 @@ unfolding gather_segments
 include_goes_on told main g path pos segments come = come
 
 pub twice_cause : (old : Shelved) (main path name : List ℕ) (pos : Pos) (segments : List Segment) (g : Gathered) →
-    (64 ≤ length g.files) ⊎ (is_among path g.files ≡ true) → name ≡ slice_index_or g.files pos.file [] →
+    (64 ≤ length g.files) ⊎ (is_among path g.files ≡ true) → name ≡ slice_index_or g.files (pos_file pos) [] →
     GoesOn old.content main g.files (λ c. include_with c (64 - length g.files) path pos segments g) →
     HasCause old old main (Err (IncludeTwice name pos))
 twice_cause old main path name pos segments g why named on =

@@ -161,7 +161,8 @@ module _ (name content : List ℕ) where
     file_like told include like file g (Some own) (Some bytes) here_is there_is =
         let other : file ≢ name = λ is. absurd (cc (sym unknown ∙ (ap contents (sym is) ∙ there_is))) in
         let same : Some bytes ≡ Some own = sym there_is ∙ (rw here_is at (agrees file other)) in
-        subst (λ (b : Option (List ℕ)). IsLike (file_gathered told file g b) (file_gathered include file g (Some bytes)))
+        subst (λ (b : Option (List ℕ)). IsLike (file_gathered told file g b)
+        (file_gathered include file g (Some bytes)))
         same (bytes_like told include like file g bytes (leb (length bytes) (limit_after g.bytes)))
 
     unless_like : (next include : Including) → AreLike next include → (full taken : Bool)

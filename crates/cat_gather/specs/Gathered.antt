@@ -1,6 +1,7 @@
 -- What is gathered of a main file and the files that it includes, where each file's content is known by its name.
 use Rattle.std.specs.Prelude.{ℕ, zero, suc, ◌+◌, ◌-◌, nat_le, min, Bool, true, false, ◌||◌, List, [], ◌∷◌, ◌++◌, length}
 use Rattle.std.specs.Prelude.{slice_index_or, bytes_eq, Option, Some, None, Result, Ok, Err}
+use Rattle.cat_pos.specs.Position.{pos_file}
 use Rattle.cat_pos.specs.declared.limits.TheConstants.{MOST_FILES, MOST_FILE_BYTES, MOST_SOURCE_BYTES}
 use Rattle.cat_pos.specs.declared.pos.Pos.{Pos}
 use Rattle.cat_pos.specs.declared.pos.Piece.{Piece}
@@ -113,7 +114,7 @@ is_full g = nat_le MOST_FILES (length g.files)
 
 -- an include that can't be taken is refused in the file in which it stands
 abbrev pub twice : {T : Type 0} → Pos → Gathered → Ending T
-twice pos g = Refused (IncludeTwice (slice_index_or g.files pos.file []) pos)
+twice pos g = Refused (IncludeTwice (slice_index_or g.files (pos_file pos) []) pos)
 
 -- an include, unless there are enough files or its own was taken
 abbrev pub included_unless : Bool → Bool → Contents → Including → Including

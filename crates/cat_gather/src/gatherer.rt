@@ -1,5 +1,6 @@
 // Files taken depth first, by a list of the segments to come.
 ghost use Rattle.std.specs.Prelude.{◌≡◌, ◌≢◌, ◌-◌, ◌<◌, ◌≤◌, ℕ, List, [], ◌∷◌, length, Ok, Err, IfOk, IfErr, OnOk};
+ghost use Rattle.cat_pos.specs.Position.{pos_file};
 ghost use Rattle.cat_weave.specs.Woven.{woven, AreWithin};
 ghost use Rattle.cat_gather.specs.Gathered.{gathered, gathered_none, woven_as, is_among};
 ghost use Rattle.cat_gather.specs.Causes.{HasCause, IsAnswerTo, AreReadableTogether};
@@ -122,7 +123,7 @@ impl Gathering {
         pos: Pos,
     ) -> Result<(), GatherRefusal>
         requires bounded { AreBounded (gathered_of self.old) self.old.to_come }
-        requires named { pos.file < length self.old.files }
+        requires named { pos_file pos < length self.old.files }
         ensures on { OnOk result (LeadsOn (S.state shelf.old).content
             (λ main. GoesOn (S.state shelf.old).content main self.old.files (λ contents.
             include_with contents (64 - length self.old.files) path.now pos self.old.to_come (gathered_of self.old)))
@@ -136,7 +137,7 @@ impl Gathering {
             → HasCause (S.state shelf.old) (S.state shelf.new) main (Err e)) }
     {
         if self.files.len() == MOST_FILES || is_taken(&self.files, path) {
-            let name = Text::from_str(alloc, self.files.name(pos.file))?;
+            let name = Text::from_str(alloc, self.files.name(pos.file()))?;
             return Err(GatherRefusal::IncludeTwice(name, pos));
         }
         self.take(alloc, shelf, path)
@@ -205,7 +206,8 @@ fn woven_segments(
     bytes: &[u8],
     number: u32,
 ) -> Result<Segments, GatherRefusal>
-    requires { length bytes.now ≤ MOST_FILE_BYTES }
+    requires short { length bytes.now ≤ MOST_FILE_BYTES }
+    requires file { number < MOST_FILES }
     ensures gives { result ≢ Err GatherRefusal.Memory
         → result ≡ woven_as name.now (woven bytes.now number) }
     ensures within { IfOk result (λ segments. AreWithin (length bytes.now) number segments) }

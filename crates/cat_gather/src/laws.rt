@@ -4,8 +4,8 @@ ghost use Rattle.cat_gather.specs.Gathered.{Contents, Ending, Whole, gathered, l
 ghost use Rattle.cat_gather.specs.Causes.{ComesTo, HasEnding};
 ghost use Rattle.cat_gather.specs.declared.source.Source.{Source};
 
-/// Where contents are told of which a source is gathered, gathering ends so whatever else files hold; and each file that
-/// it comes to is told, and within its limit.
+/// Where contents are told of which a source is gathered, gathering ends so whatever else files hold; and each file
+/// that it comes to is told, and within its limit.
 pub fn told_sources_are_gathered()
     ensures endings { (told : Contents) (main : List ℕ) (source : Source) (ending : Ending Source)
         → gathered told main ≡ Whole source → HasEnding told main ending → ending ≡ Whole source }

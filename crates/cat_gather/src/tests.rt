@@ -21,7 +21,7 @@ fn stored(alloc: Global, files: &[(&str, &str)]) -> Result<Stored, AllocError> {
 }
 
 fn at(alloc: Global, what: &str, name: &str, pos: Pos) -> Result<String, AllocError> {
-    let (file, line, column) = (pos.file, pos.line, pos.column);
+    let (file, line, column) = (pos.file(), pos.line, pos.column());
     format!(in alloc; "{what} {name} {file}:{line}:{column}")
 }
 

@@ -2,6 +2,7 @@
 use Rattle.std.specs.Prelude.{◌≡◌, ℕ, ◌+◌, ◌||◌, nat_eq, Bool, false, not, List, [], ◌∷◌, ◌++◌, map, Option, Some}
 use Rattle.std.specs.Prelude.{None}
 use Rattle.std.specs.Prelude.{slice_get, if◌then◌else◌}
+use Rattle.cat_pos.specs.Position.{pos_of}
 use Rattle.cat_pos.specs.declared.pos.Pos.{Pos}
 use Rattle.cat_value.specs.declared.decls.Decls.{Decls}
 use Rattle.cat_value.specs.declared.declaration.Kind.{Kind}
@@ -121,7 +122,7 @@ is_function (Some decl) (Some n) = false
 
 -- the position of an item's name in its declaration
 abbrev pub item_pos : Option ItemDecl → Pos
-item_pos None = record { file = 0; line = 0; column = 0 }
+item_pos None = pos_of 0 0 0
 item_pos (Some decl) = decl.pos
 
 -- a target of a scope with these items, of which these are all definitions and questions

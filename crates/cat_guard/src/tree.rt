@@ -53,8 +53,8 @@ pub type CitedNodes = List<CitedNode>;
 
 pub type CitedNames = List<CitedNodes>;
 
-/// A tree some of whose parts are named: the named trees, each of which cites earlier ones alone, and the tree itself, all
-/// in preorder.
+/// A tree some of whose parts are named: the named trees, each of which cites earlier ones alone, and the tree itself,
+/// all in preorder.
 #[derive(Debug, Drop)]
 pub struct CitedTree {
     pub names: CitedNames,

@@ -25,8 +25,8 @@ ghost use Rattle.cat_guard_sound.specs.Audited.{ScopesAudited, none_may_stop, Is
 use cat_scope::Program;
 
 /// Where every valuation covers the targets of a scope, and of those that it calls, that may not stop, a run on a
-/// well-typed input ends in a value, in a fault, or in a Conflict or a NoValue of a target that may stop; and its log holds
-/// only what a valuation decides.
+/// well-typed input ends in a value, in a fault, or in a Conflict or a NoValue of a target that may stop; and its log
+/// holds only what a valuation decides.
 pub fn audited_programs_go_on(program: &Program)
     ensures { (allowed : Allowed) (within : ℕ → Bool) (tables : ℕ → TableSeen) (scope : ℕ) (input : Items)
         → IsClosed within program.now.decls program.now.bodies → ScopesAudited allowed within program.now tables
@@ -35,8 +35,8 @@ pub fn audited_programs_go_on(program: &Program)
         (scope_run program.now scope input) }
 {}
 
-/// Where every valuation covers each target of a scope and of those that it calls, no well-typed input ends in a Conflict
-/// or a NoValue.
+/// Where every valuation covers each target of a scope and of those that it calls, no well-typed input ends in a
+/// Conflict or a NoValue.
 pub fn audited_programs_have_no_gap(program: &Program)
     ensures { (within : ℕ → Bool) (tables : ℕ → TableSeen) (scope : ℕ) (input : Items)
         → IsClosed within program.now.decls program.now.bodies → ScopesAudited none_may_stop within program.now tables

@@ -8,6 +8,7 @@ use Rattle.cat_pos.specs.declared.pos.Pos.{Pos}
 use Rattle.cat_value.specs.declared.ty.Ty.{Ty}
 use Rattle.cat_value.specs.declared.ty.Ty.TheViews as types
 use Rattle.cat_value.specs.Entries.{content_of}
+use Rattle.cat_tree.specs.Accumulation.{accumulation}
 use Rattle.cat_tree.specs.declared.name.Name.{Name}
 use Rattle.cat_tree.specs.declared.name.CaseName.{CaseName}
 use Rattle.cat_tree.specs.declared.name.Type as written
@@ -84,7 +85,7 @@ chain_Each ns k p w l e ls ex = meant_Each ns k p w l e ls ex
 
 pub chain_Combine : (ns : Names) (p : Pos) (w : Name) (l : Node) (acc : Name) (s e : Node) (ls : List Local)
     (ex : Option Ty)
-    → meant ns (node.Combine p w l acc s e) ls ex ≡ as_expected ex
+    → meant ns (node.Combine (accumulation p w acc) l s e) ls ex ≡ as_expected ex
     (and_then (paired (meant ns l ls None) (meant ns s ls None)) (λ x. and_then (element_bound p w x.0)
     (λ local. and_then (meant ns e (ls ++ local ∷ [] ++ bound acc x.1.ty ∷ []) (Some x.1.ty)) (combine_of p x.0 x.1))))
 chain_Combine ns p w l acc s e ls ex = meant_Combine ns p w l acc s e ls ex

@@ -21,7 +21,7 @@ use cat_form::{
 use cat_names::{Fault, Local, Locals, Refusal};
 use cat_pos::Pos;
 use cat_scope::{Arm as Body, Arms as Bodies};
-use cat_tree::{Arm, Arms, Each, Name, Node};
+use cat_tree::{Accumulation, Arm, Arms, Each, Name, Node};
 use cat_value::Ty;
 
 /// An expression under one more bound name.
@@ -61,7 +61,7 @@ pub fn infer_match(
 {
     let tested = resolve(here, tested, locals, None)?;
     let number = matched_type(place, &tested)?;
-    let (arms, ty) = infer_arms(here, (place, number), arms, locals, expected)?;
+    let (arms, ty) = infer_arms(here, place, number, arms, locals, expected)?;
     matched(here, place, tested, number, arms, ty)
 }
 
@@ -70,22 +70,24 @@ pub fn infer_match(
 #[tactic(auto, using(crate::proofs::Chains::all_arms))]
 pub fn infer_arms(
     here: &Here,
-    of: (Pos, u32),
+    place: Pos,
+    enumeration: u32,
     arms: &Arms,
     locals: &mut Locals,
     expected: Option<&Ty>,
 ) -> Result<(Bodies, Ty), Refusal>
     requires { IsTabled here.now }
     ensures told { Tells result
-        (arms_of (arm_meant (names_at here.now)) (names_at here.now) of.0 of.1
+        (arms_of (arm_meant (names_at here.now)) (names_at here.now) place enumeration
         arms.now locals.old (option_copied expected.entry)) }
     ensures kept { OnOk result (locals.new ≡ locals.old) }
 {
     let Some((first, rest)) = parted(arms) else {
-        return Err(Refusal::Refused(Fault::MatchCases(of.0)));
+        return Err(Refusal::Refused(Fault::MatchCases(place)));
     };
-    let (first, ty) = infer_arm(here, of, first, locals, expected)?;
-    let arms = infer_more_arms(here, of, rest, locals, &ty, alone(here.alloc, first)?)?;
+    let (first, ty) = infer_arm(here, place, enumeration, first, locals, expected)?;
+    let made = alone(here.alloc, first)?;
+    let arms = infer_more_arms(here, place, enumeration, rest, locals, &ty, made)?;
     Ok((arms, ty))
 }
 
@@ -93,7 +95,8 @@ pub fn infer_arms(
 #[cycle(walk)]
 pub fn infer_more_arms(
     here: &Here,
-    of: (Pos, u32),
+    place: Pos,
+    enumeration: u32,
     arms: &[Arm],
     locals: &mut Locals,
     ty: &Ty,
@@ -101,13 +104,13 @@ pub fn infer_more_arms(
 ) -> Result<Bodies, Refusal>
     requires { IsTabled here.now }
     ensures told { Tells result
-        (behind made (all_arms (arm_meant (names_at here.now)) (names_at here.now) of.0 of.1
+        (behind made (all_arms (arm_meant (names_at here.now)) (names_at here.now) place enumeration
         arms.now locals.old ty.now)) }
     ensures kept { OnOk result (locals.new ≡ locals.old) }
 {
     let mut made = made;
     for arm in arms {
-        let (arm, _) = infer_arm(here, of, arm, locals, Some(ty))?;
+        let (arm, _) = infer_arm(here, place, enumeration, arm, locals, Some(ty))?;
         made.push(arm)?;
     }
     Ok(made)
@@ -117,18 +120,19 @@ pub fn infer_more_arms(
 #[tactic(auto, using(crate::proofs::Chains::arms))]
 pub fn infer_arm(
     here: &Here,
-    of: (Pos, u32),
+    place: Pos,
+    enumeration: u32,
     arm: &Arm,
     locals: &mut Locals,
     expected: Option<&Ty>,
 ) -> Result<(Body, Ty), Refusal>
     requires { IsTabled here.now }
     ensures told { Tells result
-        (arm_of (names_at here.now) of.0 of.1 (arm_meant (names_at here.now) arm.now) locals.old
+        (arm_of (names_at here.now) place enumeration (arm_meant (names_at here.now) arm.now) locals.old
         (option_copied expected.entry)) }
     ensures kept { OnOk result (locals.new ≡ locals.old) }
 {
-    let (pattern, local) = arm_pattern(here, of.0, of.1, &arm.pattern)?;
+    let (pattern, local) = arm_pattern(here, place, enumeration, &arm.pattern)?;
     let body = infer_body(here, local, &arm.body, locals, expected)?;
     let (body, ty) = body.into_parts();
     let body = body.into_inner();
@@ -185,10 +189,8 @@ pub fn infer_each(
 #[cycle(walk)]
 pub fn infer_combine(
     here: &Here,
-    place: Pos,
-    name: &Name,
+    words: &Accumulation,
     list: &Node,
-    sum: &Name,
     start: &Node,
     body: &Node,
     locals: &mut Locals,
@@ -197,16 +199,17 @@ pub fn infer_combine(
     requires { IsTabled here.now }
     ensures told { Tells result (as_expected (option_copied expected.entry)
         (and_then (paired (meant (names_at here.now) list.now locals.old None) (meant (names_at here.now) start.now
-        locals.old None)) (λ x. and_then (element_bound place name.now x.0)
+        locals.old None)) (λ x. and_then (element_bound words.now.pos words.now.element x.0)
         (λ local. and_then (meant (names_at here.now) body.now
-        (locals.old ++ local ∷ [] ++ bound sum.now x.1.ty ∷ []) (Some x.1.ty)) (combine_of place x.0 x.1))))) }
+        (locals.old ++ local ∷ [] ++ bound words.now.sum x.1.ty ∷ []) (Some x.1.ty))
+        (combine_of words.now.pos x.0 x.1))))) }
     ensures kept { OnOk result (locals.new ≡ locals.old) }
 {
     let (list, start) = infer_two(here, list, start, locals)?;
-    let local = element_local(here.alloc, place, name, &list)?;
-    let total = start_local(here.alloc, sum, &start)?;
+    let local = element_local(here.alloc, words.pos, &words.element, &list)?;
+    let total = start_local(here.alloc, &words.sum, &start)?;
     let body = infer_under_two(here, local, total, body, locals, start.ty())?;
-    let found = combine(here.alloc, place, list, start, body)?;
+    let found = combine(here.alloc, words.pos, list, start, body)?;
     as_expected(expected, found)
 }
 

@@ -48,11 +48,18 @@ pub fn resolve(
         Node::Prefixed(prefix, place, operand) => {
             infer_prefixed(here, *prefix, *place, operand.get(), locals, expected)
         }
-        Node::Sum(place, ty, list) => infer_sum(here, *place, ty, list.get(), locals, expected),
+        Node::Sum(place, ty, list) => infer_sum(
+            here,
+            *place,
+            ty.get(),
+            list.get(),
+            locals,
+            expected,
+        ),
         Node::Content(case, content) => {
             infer_content(here, case, content.get(), locals, expected)
         }
-        Node::Call(name, args) => infer_call(here, name, args, locals, expected),
+        Node::Call(name, args) => infer_call(here, name.get(), args, locals, expected),
         Node::Binary(operator, place, left, right) => {
             infer_binary(
                 here,
@@ -65,12 +72,26 @@ pub fn resolve(
             )
         }
         Node::Test(tested, place, case) => {
-            infer_test(here, tested.get(), *place, case, locals, expected)
+            infer_test(here, tested.get(), *place, case.get(), locals, expected)
         }
         Node::List(place, nodes) => infer_list(here, *place, nodes, locals, expected),
-        Node::Structure(name, fields) => infer_structure(here, name, fields, locals, expected),
+        Node::Structure(name, fields) => infer_structure(
+            here,
+            name.get(),
+            fields,
+            locals,
+            expected,
+        ),
         Node::ScopeCall(place, name, fields, output) => {
-            infer_scope_call(here, *place, name, fields, output, locals, expected)
+            infer_scope_call(
+                here,
+                *place,
+                name.get(),
+                fields.get(),
+                output.get(),
+                locals,
+                expected,
+            )
         }
         Node::If(place, test, yes, no) => {
             infer_if(
@@ -87,7 +108,7 @@ pub fn resolve(
             here,
             *place,
             tested.get(),
-            arms,
+            arms.get(),
             locals,
             expected,
         ),
@@ -96,19 +117,17 @@ pub fn resolve(
                 here,
                 *form,
                 *place,
-                name,
+                name.get(),
                 list.get(),
                 body.get(),
                 locals,
                 expected,
             )
         }
-        Node::Combine(place, name, list, sum, start, body) => infer_combine(
+        Node::Combine(words, list, start, body) => infer_combine(
             here,
-            *place,
-            name,
+            words.get(),
             list.get(),
-            sum,
             start.get(),
             body.get(),
             locals,

@@ -217,7 +217,8 @@ amount_sound text first =
     let some : run.run ≢ [] = run_some is_ascii_digit text (skip is_ascii_digit text) run.run run.split first
     (skip_stops is_ascii_digit text) in
     let whole : text ≡ run.run
-    ++ (concat (map after_comma g.groups) ++ (after_point e.cents ++ skip_cents (skip_groups (skip is_ascii_digit text)))) =
+    ++ (concat (map after_comma g.groups)
+    ++ (after_point e.cents ++ skip_cents (skip_groups (skip is_ascii_digit text)))) =
     run.split ∙ ap (λ (w : List ℕ). run.run ++ w) (g.split ∙ ap (λ (w : List ℕ). concat (map after_comma g.groups) ++ w)
     e.split) in
     record {

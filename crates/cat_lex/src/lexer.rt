@@ -1,6 +1,7 @@
 //! Pieces into tokens.
 ghost use Rattle.std.specs.Prelude.{◌≡◌, ◌++◌, ◌+◌, ◌<◌, ◌≤◌, ℕ, List, length, IfOk, IfErr, OnOk};
 ghost use Rattle.std.specs.Str.{IsUtf8};
+ghost use Rattle.cat_pos.specs.Position.{pos_column};
 ghost use Rattle.cat_lex.specs.Positions.{position_after};
 ghost use Rattle.cat_pos.specs.Readable.{AreReadable, IsReadable};
 ghost use Rattle.cat_lex.specs.Lexes.{Lexes, HasCause};
@@ -11,27 +12,28 @@ use crate::reader::read;
 use crate::skip::skip_gap;
 use crate::values::token_kind;
 use crate::{LexRefusal, Token, Tokens};
-use cat_pos::{ENTRIES_BOUND, List, Piece, Pos};
+use cat_pos::{COLUMNS_BOUND, ENTRIES_BOUND, List, Piece, Pos};
 use std::alloc::Global;
 
 /// The position after these bytes.
 pub fn position_after(pos: Pos, bytes: &[u8]) -> Pos
     requires line { pos.line + length bytes.now < ENTRIES_BOUND }
-    requires column { pos.column + length bytes.now < ENTRIES_BOUND }
+    requires column { pos_column pos + length bytes.now < COLUMNS_BOUND }
     ensures position { result ≡ position_after pos bytes.now }
     ensures line { result.line ≤ pos.line + length bytes.now }
-    ensures column { result.column ≤ pos.column + length bytes.now }
+    ensures column { pos_column result ≤ pos_column pos + length bytes.now }
 {
-    let mut position = pos;
+    let mut line = pos.line;
+    let mut column = pos.column();
     for &byte in bytes {
         if byte == b'\n' {
-            position.line += 1;
-            position.column = 1;
+            line += 1;
+            column = 1;
         } else {
-            position.column += 1;
+            column += 1;
         }
     }
-    position
+    Pos::new(pos.file(), line, column)
 }
 
 /// What stands in front of the rest.
@@ -80,10 +82,10 @@ fn first_token<'a>(
 /// The text after its white space and comments, and its position.
 fn after_gap(text: &str, pos: Pos) -> (&str, Pos)
     requires line { pos.line + length text.now < ENTRIES_BOUND }
-    requires column { pos.column + length text.now < ENTRIES_BOUND }
+    requires column { pos_column pos + length text.now < COLUMNS_BOUND }
     ensures gap { IsAfterGap pos text.now result.1 result.0.now }
     ensures line { result.1.line + length result.0.now ≤ pos.line + length text.now }
-    ensures column { result.1.column + length result.0.now ≤ pos.column + length text.now }
+    ensures column { pos_column result.1 + length result.0.now ≤ pos_column pos + length text.now }
 {
     let rest = skip_gap(text.as_bytes());
     let position = position_after(pos, front(text, rest).as_bytes());

@@ -107,7 +107,8 @@ turn_on f xs i x said mid whole within is found before =
 
 -- and what stands in that thing stands in the whole
 pub turn_off : {A : Type 0} (f : A → Found (List Line)) (xs : List A) (i : ℕ) (x : A) (said : Said)
-    (whole : Found Said) (e : Refusal) → i < length xs → get_or xs i x ≡ x → Tells {A = Said} (Err e) (behind said (f x))
+    (whole : Found Said) (e : Refusal) → i < length xs → get_or xs i x ≡ x
+    → Tells {A = Said} (Err e) (behind said (f x))
     → behind said (all_lines f (drop i xs)) ≡ whole → Tells {A = Said} (Err e) whole
 turn_off f xs i x said whole e within is h before = subst (λ found. Tells {A = Said} (Err e) found)
     (ap (λ from. behind said (all_lines f from)) (sym (dropped xs i x within is)) ∙ before)

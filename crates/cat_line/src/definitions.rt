@@ -10,7 +10,7 @@ use crate::heads::Head;
 use crate::{Aim, aim_of};
 use cat_form::{Here, Resolved};
 use cat_names::{Fault, Refusal};
-use cat_pos::{List, Pos};
+use cat_pos::{List, Pos, Shared};
 use cat_scope::{Assertion, Def, Expr, Literal};
 use cat_tree::{Fulfilled, Lead, Name, Node, TargetName};
 
@@ -43,7 +43,8 @@ pub fn definition(
     let head = Head::of(here.alloc, lead, place, &aim)?;
     let value = consequence(here, value, params, &aim)?;
     let condition = whole_condition(here, block, condition, params, aim.params)?;
-    Ok(head.define(condition, value.into_expr().into_inner()))
+    let def = head.define(here.alloc, condition, value.into_expr().into_inner())?;
+    Ok(def)
 }
 
 /// A rule: a definition of a condition variable as true or false.
@@ -68,7 +69,8 @@ pub fn rule(
     let params = target.params.as_slice();
     let condition = whole_condition(here, block, condition, params, aim.params)?;
     let holds = Literal::Boolean(is_fulfilled(fulfilled));
-    Ok(head.define(condition, Expr::Literal(place, holds)))
+    let def = head.define(here.alloc, condition, Expr::Literal(place, holds))?;
+    Ok(def)
 }
 
 /// What a rule says of its condition variable.
@@ -88,8 +90,9 @@ pub fn assertion(here: &Here, place: Pos, node: &Node) -> Result<Assertion, Refu
 {
     let mut none = List::new(here.alloc);
     let condition = boolean(here, node, &mut none)?;
+    let condition = Shared::new(here.alloc, condition.into_expr().into_inner())?;
     Ok(Assertion {
-        condition: condition.into_expr().into_inner(),
+        condition,
         keyword: place,
     })
 }

@@ -5,7 +5,7 @@ ghost use Rattle.cat_line.specs.Aimed.{aim_lent};
 ghost use Rattle.cat_line.specs.inside.Heads.{defined, head_of};
 
 use crate::Aim;
-use cat_pos::Pos;
+use cat_pos::{Pos, Shared};
 use cat_scope::{Def, Except, Expr, Label};
 use cat_tree::{Exception, Label as Written, Lead};
 use cat_value::Target;
@@ -51,9 +51,19 @@ impl Head {
         })
     }
 
-    pub fn define(self, condition: Option<Expr>, consequence: Expr) -> Def
-        ensures { result ≡ defined self condition consequence }
+    pub fn define(
+        self,
+        alloc: Global,
+        condition: Option<Expr>,
+        consequence: Expr,
+    ) -> Result<Def, AllocError>
+        ensures { IfOk result (λ def. def ≡ defined self condition consequence) }
     {
+        let condition = match condition {
+            Some(condition) => Some(Shared::new(alloc, condition)?),
+            None => None,
+        };
+        let consequence = Shared::new(alloc, consequence)?;
         let Head {
             target,
             label,
@@ -61,7 +71,7 @@ impl Head {
             params,
             pos,
         } = self;
-        Def {
+        Ok(Def {
             target,
             label,
             except,
@@ -69,7 +79,7 @@ impl Head {
             consequence,
             params,
             pos,
-        }
+        })
     }
 }
 

@@ -12,6 +12,7 @@ use Rattle.cat_value.specs.declared.decls.Decls.{Decls}
 use Rattle.cat_value.specs.Declarations.{are_sound}
 use Rattle.cat_value.proofs.Exported.{height_List, height_Integer}
 use Rattle.cat_scope.specs.Fitting.{is_low_type}
+use Rattle.cat_tree.specs.Accumulation.{accumulation}
 use Rattle.cat_tree.specs.declared.name.CaseName.TheVariants as case
 use Rattle.cat_tree.specs.declared.expression.Literal.TheVariants as literal
 use Rattle.cat_tree.specs.declared.expression.Operator.TheVariants as operator
@@ -127,7 +128,7 @@ module _ (sound : IsTrue (are_sound [] enumerations scopes)) where
 
   -- `combine` over `[1]` from 0 on, where the element and the accumulator have one name: it is the accumulator
   an_accumulator_hides_an_element : meant names
-      (node.Combine (at 20 3) (name q p) (one_whole 1) (name q p) (whole 0 p) (local q p)) [] None
+      (node.Combine (accumulation (at 20 3) (name q p) (name q p)) (one_whole 1) (whole 0 p) (local q p)) [] None
       ≡ Ok (typed (at 20 3) (expr.Combine (at 20 3) (expr.List p (number 1 ∷ [])) (number 0) (leaf_expr.Local p 1))
       flat_ty.Integer)
   an_accumulator_hides_an_element = search (rules, forms, views, low_integers)

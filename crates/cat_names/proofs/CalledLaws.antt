@@ -10,6 +10,7 @@ use Rattle.cat_value.specs.declared.declaration.ItemDecl.{ItemDecl}
 use Rattle.cat_value.specs.declared.declaration.Scope.{Scope}
 use Rattle.cat_value.specs.Entries.{content_of}
 use Rattle.cat_value.specs.Typing.{most_elements}
+use Rattle.cat_tree.specs.Accumulation.{accumulation}
 use Rattle.cat_tree.specs.declared.name.Name.{Name}
 use Rattle.cat_tree.specs.declared.name.CaseName.{CaseName}
 use Rattle.cat_tree.specs.declared.name.Type as types
@@ -284,7 +285,7 @@ module _ (ns : Names) where
       (he (ls ++ bound w t ∷ []) None) (λ y hy. each_calls k p (scope_words l) (scope_words e) x y hx hy)))))
 
   on_combine : (p : Pos) (w : Name) (l : Node) (acc : Name) (s e : Node) → Called_ l → Called_ s → Called_ e
-      → Called_ (node.Combine p w l acc s e)
+      → Called_ (node.Combine (accumulation p w acc) l s e)
   on_combine p w l acc s e hl hs he ls ex = rw (
     written.words_Combine p w l acc s e,
     equation.meant_Combine ns p w l acc

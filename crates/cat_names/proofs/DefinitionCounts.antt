@@ -48,7 +48,8 @@ each_has f Has one (x ∷ xs) ys h =
 abbrev Few : List Line → List Pos → Type 0
 Few lines positions = length (defs_in lines) ≤ length positions
 
-defs_behind : (lines more : List Line) → length (defs_in (lines ++ more)) ≡ length (defs_in lines) + length (defs_in more)
+defs_behind : (lines more : List Line) → length (defs_in (lines ++ more))
+    ≡ length (defs_in lines) + length (defs_in more)
 defs_behind [] more = omega arith
 defs_behind (Declaration ∷ lines) more = defs_behind lines more
 defs_behind (Condition e ∷ lines) more = defs_behind lines more

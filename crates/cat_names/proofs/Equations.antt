@@ -3,6 +3,7 @@ use Rattle.std.proofs.Common.{◌≡◌, List, Option, None, Ok, refl, ap, ◌�
 use Rattle.cat_pos.specs.declared.pos.Pos.{Pos}
 use Rattle.cat_value.specs.declared.ty.Ty.{Ty}
 use Rattle.cat_value.specs.Entries.{content_of}
+use Rattle.cat_tree.specs.Accumulation.{accumulation}
 use Rattle.cat_tree.specs.declared.name.Name.{Name}
 use Rattle.cat_tree.specs.declared.name.CaseName.{CaseName}
 use Rattle.cat_tree.specs.declared.name.Type as types
@@ -90,7 +91,7 @@ name_of_level ns (Node-F.ScopeCall p u fs w) = refl
 name_of_level ns (Node-F.If p c a b) = refl
 name_of_level ns (Node-F.Match p e arms) = refl
 name_of_level ns (Node-F.Each k p w l e) = refl
-name_of_level ns (Node-F.Combine p w l acc s e) = refl
+name_of_level ns (Node-F.Combine c l s e) = refl
 
 pub alone : (ns : Names) (e : Node) → (named_meaning ns e).name ≡ name_alone (out-Node e)
 alone ns e = ap (λ (part : NamedMeaning). part.name) (levels ns e) ∙ name_of_level ns (out-Node e)
@@ -203,11 +204,11 @@ meant_Each ns k p w l e ls ex = at_level ns (node.Each k p w l e) ls ex ∙ rw (
 
 pub meant_Combine : (ns : Names) (p : Pos) (w : Name) (l : Node) (acc : Name) (s e : Node) (ls : List Local)
     (ex : Option Ty)
-    → meant ns (node.Combine p w l acc s e) ls ex ≡ as_expected ex
+    → meant ns (node.Combine (accumulation p w acc) l s e) ls ex ≡ as_expected ex
     (both (meant ns l ls None) (meant ns s ls None) (combine_over p w acc (meant ns e) ls))
 unfolding meant
-meant_Combine ns p w l acc s e ls ex = at_level ns (node.Combine p w l acc s e) ls ex
-    ∙ rw (node.outs-Combine p w l acc s e) refl
+meant_Combine ns p w l acc s e ls ex = at_level ns (node.Combine (accumulation p w acc) l s e) ls ex
+    ∙ rw (node.outs-Combine (accumulation p w acc) l s e) refl
 
 -- each form's equation
 pub ruleset forms = (

@@ -8,6 +8,7 @@ use Rattle.cat_value.specs.declared.ty.Ty.{Ty}
 use Rattle.cat_value.specs.declared.declaration.ItemDecl.{ItemDecl}
 use Rattle.cat_value.specs.declared.declaration.Scope.{Scope}
 use Rattle.cat_value.specs.Entries.{content_of}
+use Rattle.cat_tree.specs.Accumulation.{accumulation}
 use Rattle.cat_tree.specs.declared.name.Name.{Name}
 use Rattle.cat_tree.specs.declared.name.CaseName.{CaseName}
 use Rattle.cat_tree.specs.declared.name.CaseName.TheVariants as case
@@ -391,7 +392,7 @@ module _ (ns : Names) (known : Known) (agree : Agrees ns known) where
       (subst (λ ts. Free (unknown_in known e ts)) (names_join ls (bound w t ∷ [])) i))))))
 
   on_combine : (p : Pos) (w : Name) (l : Node) (acc : Name) (s e : Node) → Clear l → Clear s → Clear e
-      → Clear (node.Combine p w l acc s e)
+      → Clear (node.Combine (accumulation p w acc) l s e)
   on_combine p w l acc s e hl hs he ls ex =
       let texts = names_of_locals ls in let of_l = unknown_in known l texts in let of_s = unknown_in known s texts in
       let of_e = unknown_in known e (texts ++ w.text ∷ acc.text ∷ []) in let F = Free (of_l ++ of_s ++ of_e) in

@@ -1,6 +1,7 @@
 -- Induction over trees, one case a form.
 use Rattle.std.proofs.Common.{List, [], ◌∷◌, map, subst}
 use Rattle.cat_pos.specs.declared.pos.Pos.{Pos}
+use Rattle.cat_tree.specs.Accumulation.{accumulation}
 use Rattle.cat_tree.specs.declared.name.Name.{Name}
 use Rattle.cat_tree.specs.declared.name.CaseName.{CaseName}
 use Rattle.cat_tree.specs.declared.name.Type as types
@@ -44,7 +45,7 @@ module _
     (on_match : (p : Pos) (e : Node) (arms : List Arm) → P e → Each (λ a. P a.body) arms → P (node.Match p e arms))
     (on_each : (k : eaches.Each) (p : Pos) (w : Name) (l e : Node) → P l → P e → P (node.Each k p w l e))
     (on_combine : (p : Pos) (w : Name) (l : Node) (acc : Name) (s e : Node) → P l → P s → P e
-    → P (node.Combine p w l acc s e)) where
+    → P (node.Combine (accumulation p w acc) l s e)) where
   at : (y : Node-F ((e : Node) × P e) ((a : Arm) × P a.body) ((f : FieldValue) × P f.value))
       → P (roll-Node (map-Node ((e : Node) × P e) ((a : Arm) × P a.body) ((f : FieldValue) × P f.value) Node Arm
       FieldValue (λ e. e.0) (λ a. a.0) (λ f. f.0) y))
@@ -66,7 +67,7 @@ module _
   at (Node-F.If p c a b) = on_if p c.0 a.0 b.0 c.1 a.1 b.1
   at (Node-F.Match p e arms) = on_match p e.0 (map (λ a. a.0) arms) e.1 (held (λ a. P a.body) arms)
   at (Node-F.Each k p w l e) = on_each k p w l.0 e.0 l.1 e.1
-  at (Node-F.Combine p w l acc s e) = on_combine p w l.0 acc s.0 e.0 l.1 s.1 e.1
+  at (Node-F.Combine c l s e) = on_combine c.pos c.element l.0 c.sum s.0 e.0 l.1 s.1 e.1
 
   at_field : (y : FieldValue-F ((e : Node) × P e) ((a : Arm) × P a.body) ((f : FieldValue) × P f.value))
       → P (roll-FieldValue (map-FieldValue ((e : Node) × P e) ((a : Arm) × P a.body) ((f : FieldValue) × P f.value) Node

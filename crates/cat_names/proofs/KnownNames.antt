@@ -10,6 +10,7 @@ use Rattle.cat_value.specs.declared.declaration.ItemDecl.{ItemDecl}
 use Rattle.cat_value.specs.declared.declaration.Scope.{Scope}
 use Rattle.cat_value.specs.Entries.{content_of}
 use Rattle.cat_value.specs.Typing.{most_elements}
+use Rattle.cat_tree.specs.Accumulation.{accumulation}
 use Rattle.cat_tree.specs.declared.name.Name.{Name}
 use Rattle.cat_tree.specs.declared.name.CaseName.{CaseName}
 use Rattle.cat_tree.specs.declared.name.CaseName.TheVariants as case
@@ -534,7 +535,7 @@ module _ (ns : Names) (known : Known) (agree : Agrees ns known) where
       (λ body. over_only ps k p x body)))))
 
   on_combine : (p : Pos) (w : Name) (l : Node) (acc : Name) (s e : Node) → Fine l → Fine s → Fine e
-      → Fine (node.Combine p w l acc s e)
+      → Fine (node.Combine (accumulation p w acc) l s e)
   on_combine p w l acc s e hl hs he texts ls covers h ex =
       let front = typed_names l ++ typed_names s in let ps = front ++ typed_names e in
       let none = sym (unknown.unknown_Combine known p w l acc s e texts) ∙ h in

@@ -19,7 +19,8 @@ IsOne = (deps : List (List ℕ)) (one : List ℕ) (other : List ℕ) → IsOrder
 
 body_same : (b m : Body) → unordered b ≡ unordered m → b.order ≡ m.order → b ≡ m
 body_same b m same order =
-    ap (λ (listed : List ℕ). with_order listed (unordered b)) order ∙ ap (λ (u : UnorderedBody). with_order m.order u) same
+    ap (λ (listed : List ℕ). with_order listed (unordered b)) order
+    ∙ ap (λ (u : UnorderedBody). with_order m.order u) same
 
 bodies_same : IsOne → (scopes : List Scope) (bodies more : List Body) → AreOrdered scopes bodies
     → AreOrdered scopes more → map unordered bodies ≡ map unordered more → bodies ≡ more
@@ -45,7 +46,8 @@ pub one_program : IsOne → (tree : Tree) (ds other : Decls) (bodies more : List
 one_program one tree ds other bodies more listed order is also =
     let decls : ds ≡ other = decls_same ds other (ok_same (declared_of tree.items) (parts_of ds) (parts_of other)
     is.meant.named.declared also.meant.named.declared) in
-    let here : IsProgramOf tree other bodies listed = subst (λ (d : Decls). IsProgramOf tree d bodies listed) decls is in
+    let here : IsProgramOf tree other bodies listed =
+    subst (λ (d : Decls). IsProgramOf tree d bodies listed) decls is in
     let alike = ok_same (bodies_meant other tree) (map unordered bodies) (map unordered more)
     here.meant.meant also.meant.meant in
     let same = bodies_same one other.scopes bodies more here.items also.items alike in

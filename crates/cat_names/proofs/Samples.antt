@@ -1,5 +1,6 @@
 -- What the worked examples are put together from.
 use Rattle.std.proofs.Common.{ℕ, pos, false, IsTrue, List, [], ◌∷◌, Some, None}
+use Rattle.cat_pos.specs.Position.{pos_of}
 use Rattle.cat_pos.specs.declared.pos.Pos.{Pos}
 use Rattle.cat_value.specs.declared.ty.Ty.{Ty}
 use Rattle.cat_value.specs.declared.ty.Ty.TheVariants as flat_ty
@@ -29,7 +30,7 @@ use Rattle.cat_tree.specs.declared.program.Item.TheVariants as item
 use Rattle.cat_tree.specs.declared.program.Tree.{Tree}
 
 abbrev pub at : ℕ → ℕ → Pos
-at l c = record { file = 0; line = l; column = c }
+at l c = pos_of 0 l c
 
 -- a name of one letter
 abbrev pub name : ℕ → Pos → Name

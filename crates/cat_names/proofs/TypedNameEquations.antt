@@ -1,6 +1,7 @@
 -- The equation of `typed_names` at each form.
 use Rattle.std.proofs.Common.{◌≡◌, List, [], ◌∷◌, ◌++◌, map, refl}
 use Rattle.cat_pos.specs.declared.pos.Pos.{Pos}
+use Rattle.cat_tree.specs.Accumulation.{accumulation}
 use Rattle.cat_tree.specs.declared.name.Name.{Name}
 use Rattle.cat_tree.specs.declared.name.CaseName.{CaseName}
 use Rattle.cat_tree.specs.declared.name.Type as types
@@ -113,9 +114,10 @@ pub positions_Each : (k : Each) (p : Pos) (w : Name) (l e : Node) → typed_name
 positions_Each k p w l e = rw (levels (node.Each k p w l e), node.outs-Each k p w l e) refl
 
 pub positions_Combine : (p : Pos) (w : Name) (l : Node) (acc : Name) (s e : Node) → typed_names
-    (node.Combine p w l acc s e)
+    (node.Combine (accumulation p w acc) l s e)
     ≡ typed_names l ++ typed_names s ++ typed_names e
-positions_Combine p w l acc s e = rw (levels (node.Combine p w l acc s e), node.outs-Combine p w l acc s e) refl
+positions_Combine p w l acc s e =
+    rw (levels (node.Combine (accumulation p w acc) l s e), node.outs-Combine (accumulation p w acc) l s e) refl
 
 -- each form's equation
 pub ruleset positions = (

@@ -4,6 +4,7 @@ use Rattle.cat_pos.specs.declared.pos.Pos.{Pos}
 use Rattle.cat_value.specs.declared.ty.Ty.{Ty}
 use Rattle.cat_value.specs.declared.decls.Decls.{Decls}
 use Rattle.cat_value.specs.Laws.{AreSound}
+use Rattle.cat_tree.specs.Accumulation.{accumulation}
 use Rattle.cat_tree.specs.declared.name.Name.{Name}
 use Rattle.cat_tree.specs.declared.name.CaseName.{CaseName}
 use Rattle.cat_tree.specs.declared.name.Type as types
@@ -146,7 +147,7 @@ module _ (ds : Decls) (sound : AreSound ds) (scope : ℕ) where
       (λ x hx. over_has ds sound scope ls k p w (meant ns e) he ex all x hx)))
 
   on_combine : (p : Pos) (w : Name) (l : Node) (acc : Name) (s e : Node) → Sound l → Sound s → Sound e
-      → Sound (node.Combine p w l acc s e)
+      → Sound (node.Combine (accumulation p w acc) l s e)
   on_combine p w l acc s e hl hs he ls ex all h =
       rw (equation.meant_Combine ns p w l acc s e ls ex) (on_as_expected ds sound scope ls ex _
       (on_both (Operand ls) (Operand ls) (Has ls ex) (meant ns l ls None) (meant ns s ls None) _ (hl ls None all tt)

@@ -2,6 +2,7 @@
 use Rattle.std.specs.Prelude.{flat_map}
 use Rattle.std.proofs.Common.{◌≡◌, ℕ, List, [], ◌∷◌, ◌++◌, map, refl, ap, ◌∙◌}
 use Rattle.cat_pos.specs.declared.pos.Pos.{Pos}
+use Rattle.cat_tree.specs.Accumulation.{accumulation}
 use Rattle.cat_tree.specs.declared.name.Name.{Name}
 use Rattle.cat_tree.specs.declared.name.CaseName.{CaseName}
 use Rattle.cat_tree.specs.declared.name.Type as types
@@ -140,10 +141,11 @@ pub unknown_Each : (known : Known) (k : Each) (p : Pos) (w : Name) (l e : Node) 
 unknown_Each known k p w l e bound = rw (levels known (node.Each k p w l e), node.outs-Each k p w l e) refl
 
 pub unknown_Combine : (known : Known) (p : Pos) (w : Name) (l : Node) (acc : Name) (s e : Node) (bound : List (List ℕ))
-    → unknown_in known (node.Combine p w l acc s e) bound ≡ unknown_in known l bound ++ unknown_in known s bound
+    → unknown_in known (node.Combine (accumulation p w acc) l s e) bound
+    ≡ unknown_in known l bound ++ unknown_in known s bound
     ++ unknown_in known e (bound ++ w.text ∷ acc.text ∷ [])
 unknown_Combine known p w l acc s e bound =
-    rw (levels known (node.Combine p w l acc s e), node.outs-Combine p w l acc s e) refl
+    rw (levels known (node.Combine (accumulation p w acc) l s e), node.outs-Combine (accumulation p w acc) l s e) refl
 
 -- each form's equation
 pub ruleset unknowns = (

@@ -1,6 +1,7 @@
 -- The equation of `scope_words` at each form.
 use Rattle.std.proofs.Common.{◌≡◌, List, [], ◌∷◌, ◌++◌, map, refl}
 use Rattle.cat_pos.specs.declared.pos.Pos.{Pos}
+use Rattle.cat_tree.specs.Accumulation.{accumulation}
 use Rattle.cat_tree.specs.declared.name.Name.{Name}
 use Rattle.cat_tree.specs.declared.name.CaseName.{CaseName}
 use Rattle.cat_tree.specs.declared.name.Type as types
@@ -107,9 +108,11 @@ pub words_Each : (k : Each) (p : Pos) (w : Name) (l e : Node) → scope_words (n
     ++ scope_words e
 words_Each k p w l e = rw (levels (node.Each k p w l e), node.outs-Each k p w l e) refl
 
-pub words_Combine : (p : Pos) (w : Name) (l : Node) (acc : Name) (s e : Node) → scope_words (node.Combine p w l acc s e)
+pub words_Combine : (p : Pos) (w : Name) (l : Node) (acc : Name) (s e : Node)
+    → scope_words (node.Combine (accumulation p w acc) l s e)
     ≡ scope_words l ++ scope_words s ++ scope_words e
-words_Combine p w l acc s e = rw (levels (node.Combine p w l acc s e), node.outs-Combine p w l acc s e) refl
+words_Combine p w l acc s e =
+    rw (levels (node.Combine (accumulation p w acc) l s e), node.outs-Combine (accumulation p w acc) l s e) refl
 
 -- each form's equation
 pub ruleset words = (

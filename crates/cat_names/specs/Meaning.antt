@@ -69,8 +69,8 @@ meaning_of ns (Node-F.If p c a b) ls ex = both (c.means ls None) (branches_of a.
 meaning_of ns (Node-F.Match p e arms) ls ex = and_then (e.means ls None) (match_over beside ns p arms ls ex)
 meaning_of ns (Node-F.Each k p w l e) ls ex =
     as_expected ex (and_then (l.means ls None) (over_list ns k p w e.means ls))
-meaning_of ns (Node-F.Combine p w l acc s e) ls ex =
-    as_expected ex (both (l.means ls None) (s.means ls None) (combine_over p w acc e.means ls))
+meaning_of ns (Node-F.Combine c l s e) ls ex =
+    as_expected ex (both (l.means ls None) (s.means ls None) (combine_over c.pos c.element c.sum e.means ls))
 
 -- the name that an expression is, where it is one alone
 abbrev pub name_alone : {A B C : Type 0} → Node-F A B C → Option Name

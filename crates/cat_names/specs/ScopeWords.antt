@@ -37,7 +37,7 @@ words_of (Node-F.ScopeCall p u fields w) = u ∷ all_words fields
 words_of (Node-F.If p c a b) = c ++ a ++ b
 words_of (Node-F.Match p e arms) = e ++ all_words arms
 words_of (Node-F.Each k p w l e) = l ++ e
-words_of (Node-F.Combine p w l acc s e) = l ++ s ++ e
+words_of (Node-F.Combine c l s e) = l ++ s ++ e
 
 -- the scopes' words of the scope calls in an expression
 unfoldable pub scope_words : Node → List Name

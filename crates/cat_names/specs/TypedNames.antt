@@ -60,7 +60,7 @@ typed_names_of (Node-F.ScopeCall p u fields w) = w.pos ∷ all_positions fields
 typed_names_of (Node-F.If p c a b) = c ++ a ++ b
 typed_names_of (Node-F.Match p e arms) = e ++ all_positions arms
 typed_names_of (Node-F.Each k p w l e) = l ++ e
-typed_names_of (Node-F.Combine p w l acc s e) = l ++ s ++ e
+typed_names_of (Node-F.Combine c l s e) = l ++ s ++ e
 
 -- an arm: the case of its pattern, and its body
 abbrev pub arm_positions : Arm-F (List Pos) (List Pos) (List Pos) → List Pos

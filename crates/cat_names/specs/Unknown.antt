@@ -100,7 +100,7 @@ unknown_of known (Node-F.ScopeCall p u fields w) bound =
 unknown_of known (Node-F.If p c a b) bound = c bound ++ a bound ++ b bound
 unknown_of known (Node-F.Match p e arms) bound = e bound ++ in_arms known arms bound
 unknown_of known (Node-F.Each k p w l e) bound = l bound ++ e (bound ++ w.text ∷ [])
-unknown_of known (Node-F.Combine p w l acc s e) bound = l bound ++ s bound ++ e (bound ++ w.text ∷ acc.text ∷ [])
+unknown_of known (Node-F.Combine c l s e) bound = l bound ++ s bound ++ e (bound ++ c.element.text ∷ c.sum.text ∷ [])
 
 -- an arm, with the faults of its body
 abbrev pub arm_unknown : Arm-F Unknown (Pattern × Unknown) (Name × Unknown) → Pattern × Unknown

@@ -5,6 +5,7 @@ use Rattle.std.proofs.lemmas.List.{append_assoc, append-nil}
 use Rattle.std.proofs.lemmas.List.Folds.{flat_map-map}
 use Rattle.std.proofs.lemmas.Simd.{map-map}
 use Rattle.cat_pos.specs.declared.pos.Pos.{Pos}
+use Rattle.cat_tree.specs.Accumulation.{accumulation}
 use Rattle.cat_tree.specs.declared.name.Name.{Name}
 use Rattle.cat_tree.specs.declared.name.CaseName.{CaseName}
 use Rattle.cat_tree.specs.declared.name.Type as types
@@ -160,7 +161,7 @@ added_Each known k p w l e bound f = ap (λ fs. f ++ fs) (unknown_Each known k p
 
 pub added_Combine : (known : Known) (p : Pos) (w : Name) (l : Node) (acc : Name) (s e : Node) (bound : List (List ℕ))
     (f : List Fault)
-    → f ++ unknown_in known (node.Combine p w l acc s e) bound
+    → f ++ unknown_in known (node.Combine (accumulation p w acc) l s e) bound
     ≡ f ++ unknown_in known l bound ++ unknown_in known s bound ++ unknown_in known e (bound ++ w.text ∷ acc.text ∷ [])
 added_Combine known p w l acc s e bound f = ap (λ fs. f ++ fs) (unknown_Combine known p w l acc s e bound)
     ∙ sym (append_assoc f (unknown_in known l bound ++ unknown_in known s bound)

@@ -5,8 +5,8 @@ use cat_pos::List;
 use cat_tree::{Tree, Variable};
 use std::alloc::Global;
 
-/// What may be named where an expression stands: the types and scopes of a tree, and the variables of the scope at hand,
-/// with tables of all of these.
+/// What may be named where an expression stands: the types and scopes of a tree, and the variables of the scope at
+/// hand, with tables of all of these.
 pub struct Here<'a> {
     pub alloc: Global,
     pub tree: &'a Tree,

@@ -104,7 +104,7 @@ pub fn add_case(here: &Here, case: &CaseName, faults: &mut Faults) -> Result<(),
 {
     match case {
         CaseName::Bare(_) => Ok(()),
-        CaseName::Qualified(enumeration, _) => add_type_name(here, enumeration, faults),
+        CaseName::Qualified(enumeration, _) => add_type_name(here, enumeration.get(), faults),
     }
 }
 

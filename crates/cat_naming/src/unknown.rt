@@ -1,6 +1,7 @@
 // Names of expressions that name nothing, and fields that are given twice.
 ghost use Rattle.std.specs.Prelude.{◌≡◌, ◌<◌, ◌++◌, [], ◌∷◌, OnOk, length, map, flat_map};
-ghost use Rattle.cat_names.specs.Unknown.{unknown_in, in_fields, in_arms, in_reach, bound_by, in_case, in_pattern, in_type, twice};
+ghost use Rattle.cat_names.specs.Unknown.{unknown_in, in_fields, in_arms, in_reach, bound_by, in_case, in_pattern};
+ghost use Rattle.cat_names.specs.Unknown.{in_type, twice};
 ghost use Rattle.cat_names.specs.Written.{texts};
 ghost use Rattle.cat_naming.specs.Tabled.{AreTabled, known_at};
 
@@ -33,22 +34,22 @@ pub fn add_unknown(
         Node::Parens(_, inner) => add_unknown(here, inner.get(), bound, faults),
         Node::Field(base, _) => add_unknown(here, base.get(), bound, faults),
         Node::Prefixed(_, _, operand) => add_unknown(here, operand.get(), bound, faults),
-        Node::Sum(_, ty, list) => add_sum(here, ty, list.get(), bound, faults),
+        Node::Sum(_, ty, list) => add_sum(here, ty.get(), list.get(), bound, faults),
         Node::Content(case, content) => add_content(here, case, content.get(), bound, faults),
-        Node::Call(name, args) => add_call(here, name, args, bound, faults),
+        Node::Call(name, args) => add_call(here, name.get(), args, bound, faults),
         Node::Binary(_, _, left, right) => {
             add_unknown(here, left.get(), bound, faults)?;
             add_unknown(here, right.get(), bound, faults)
         }
-        Node::Test(tested, _, case) => add_test(here, tested.get(), case, bound, faults),
+        Node::Test(tested, _, case) => add_test(here, tested.get(), case.get(), bound, faults),
         Node::List(_, elements) => add_all(here, elements, bound, faults),
         Node::Structure(name, fields) => {
-            add_type_name(here, name, faults)?;
+            add_type_name(here, name.get(), faults)?;
             add_fields(here, fields, bound, faults)
         }
         Node::ScopeCall(_, name, fields, _) => {
-            add_scope_name(here, name, faults)?;
-            add_fields(here, fields, bound, faults)
+            add_scope_name(here, name.get(), faults)?;
+            add_fields(here, fields.get(), bound, faults)
         }
         Node::If(_, test, yes, no) => {
             add_unknown(here, test.get(), bound, faults)?;
@@ -57,16 +58,23 @@ pub fn add_unknown(
         }
         Node::Match(_, tested, arms) => {
             add_unknown(here, tested.get(), bound, faults)?;
-            add_arms(here, arms, bound, faults)
+            add_arms(here, arms.get(), bound, faults)
         }
         Node::Each(_, _, name, list, body) => {
             add_unknown(here, list.get(), bound, faults)?;
-            add_under(here, &[name], body.get(), bound, faults)
+            add_under(here, &[name.get()], body.get(), bound, faults)
         }
-        Node::Combine(_, name, list, sum, start, body) => {
+        Node::Combine(words, list, start, body) => {
             add_unknown(here, list.get(), bound, faults)?;
             add_unknown(here, start.get(), bound, faults)?;
-            add_under(here, &[name, sum], body.get(), bound, faults)
+            let words = words.get();
+            add_under(
+                here,
+                &[&words.element, &words.sum],
+                body.get(),
+                bound,
+                faults,
+            )
         }
     }
 }

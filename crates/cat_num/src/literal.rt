@@ -7,22 +7,30 @@ use std::marker::Model;
 
 /// A decimal as it is written: the number that its digits spell without the point, and how many of them stand behind
 /// the point. There are at most 9 of these, and at most 9 before the point; the two places of a percentage count.
+/// It takes 8 bytes, so that no literal needs more than any other.
 #[derive(Clone, Copy, PartialEq, Eq, Debug)]
 pub struct DecimalLiteral {
-    digits: u64,
-    places: u32,
+    /// `digits * PLACES + places`.
+    packed: u64,
 }
 
+/// More than the places that a decimal may have.
+const PLACES: u64 = 16;
+
 impl Model for DecimalLiteral {
+    ghost use Rattle.std.specs.Prelude.{◌*◌, ◌+◌, ◌/◌, ◌%◌};
+    ghost use Rattle.std.proofs.lemmas.Nat.{div-add-mod'};
     ghost use Rattle.cat_num.specs.Numerals.{Numeral, IsNumeral};
 
     ghost Value = { Numeral };
 
-    ghost view = { λ d. record { digits = d.digits; places = d.places } };
+    ghost view = { λ d. record { digits = d.packed / 16; places = d.packed % 16 } };
 
-    ghost invariant = { λ d. IsNumeral d.digits d.places };
+    ghost invariant = { λ d. IsNumeral (d.packed / 16) (d.packed % 16) };
 
-    ghost inverse = { λ n. record { digits = n.digits; places = n.places } };
+    ghost inverse = { λ n. record { packed = n.digits * 16 + n.places } };
+
+    ghost inverse_ok = { λ d h i. record { packed = div-add-mod' d.packed 16 i } };
 }
 
 impl DecimalLiteral {
@@ -34,7 +42,9 @@ impl DecimalLiteral {
         if places > 9 || digits >= 10_u64.pow(9 + places) {
             return None;
         }
-        Some(DecimalLiteral { digits, places })
+        Some(DecimalLiteral {
+            packed: digits * PLACES + u64::from(places),
+        })
     }
 
     /// The number that the digits spell without the point, below 10^18.
@@ -43,7 +53,7 @@ impl DecimalLiteral {
         ensures bounded { IsNumeral self.digits self.places }
         ensures tested { IsTrue (is_numeral self) }
     {
-        self.digits
+        self.packed / PLACES
     }
 
     /// How many digits stand behind the point, at most 9.
@@ -51,6 +61,6 @@ impl DecimalLiteral {
         ensures value { result ≡ self.places }
         ensures few { result ≤ 9 }
     {
-        self.places
+        (self.packed % PLACES) as u32
     }
 }

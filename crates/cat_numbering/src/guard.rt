@@ -11,6 +11,7 @@ use crate::connectives::{conjunction, difference, disjunction, negation, selecti
 use crate::here::Here;
 use crate::numbering::Numbering;
 use cat_guard::Guard;
+use cat_pos::Shared;
 use cat_region::{Cut, Dim};
 use cat_scope::{BinaryOp, Expr, Literal, UnaryOp};
 use cat_value::{Decls, declarations_are_sound};
@@ -21,14 +22,14 @@ use std::alloc::AllocError;
 pub fn condition_guard(
     here: &Here,
     numbering: &mut Numbering,
-    condition: &Option<Expr>,
+    condition: &Option<Shared<Expr>>,
 ) -> Result<Guard, AllocError>
     ensures { IfOk result (AddsGuard (items_at here.now)
         (questions.condition_guard here.now.decls.now (standing_at here.now) condition.now) numbering.old
         numbering.new) }
 {
     match condition {
-        Some(condition) => guard(here, numbering, condition),
+        Some(condition) => guard(here, numbering, condition.get()),
         None => Ok(Guard::Constant(true)),
     }
 }

@@ -8,6 +8,7 @@ use Rattle.cat_lex.specs.declared.words.Keyword.TheVariants as key
 use Rattle.cat_lex.specs.declared.words.DoubleKeyword.TheVariants as pair
 use Rattle.cat_lex.specs.declared.symbol.Symbol.{Symbol}
 use Rattle.cat_lex.specs.declared.symbol.Symbol.TheVariants as symbol
+use Rattle.cat_tree.specs.Accumulation.{accumulation}
 use Rattle.cat_tree.specs.declared.name.Name.{Name}
 use Rattle.cat_tree.specs.declared.name.CaseName.TheVariants.{Bare, Qualified}
 use Rattle.cat_tree.specs.declared.expression.Literal.TheVariants as literal
@@ -206,7 +207,7 @@ fed_closes k s (state.CombineList at w) e b j p m n t h d = one_word (kind.Word 
 fed_closes k s (state.CombineStart c w) e b j p m n t h d = one_word (kind.Word key.With) p (state.CombineBody c w e) m
     n (on_with_is (some (state.CombineBody c w e)) None p.kind m h) (refl, refl) d
 fed_closes k s (state.CombineBody c w z) e b j p m n t h d =
-    behind_whole k s (node.Combine c.pos c.element c.list w z e) p m n h d
+    behind_whole k s (node.Combine (accumulation c.pos c.element w) c.list z e) p m n h d
 fed_closes k s _ e b j p m n t h d = absurd cc
 
 abbrev reading_or : Reading → Option Reading → Reading

@@ -1,6 +1,7 @@
 -- What has been read of an expression can be completed to one.
 use Rattle.std.proofs.Common.{inl, inr, ◌⊎◌, ◌≡◌, ℕ, suc, ◌<◌, ◌≤◌, Bool, false, List, [], ◌∷◌, ◌++◌, Some, None, refl}
 use Rattle.std.proofs.Common.{sym, subst, arith}
+use Rattle.cat_pos.specs.Position.{pos_of}
 use Rattle.cat_pos.specs.declared.pos.Pos.{Pos}
 use Rattle.cat_lex.specs.declared.token.Token.{Token}
 use Rattle.cat_lex.specs.declared.token.TokenKind.TheVariants as kind
@@ -36,7 +37,7 @@ use Rattle.std.specs.Prelude.{pos as positive}
 -- ---- the least expression, and a word for each state that waits for one
 
 abbrev origin : Pos
-origin = record { file = 0; line = 0; column = 0 }
+origin = pos_of 0 0 0
 
 abbrev pub zero_token : Token
 zero_token = record { kind = kind.Int (positive 0); pos = origin }

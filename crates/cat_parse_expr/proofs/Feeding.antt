@@ -8,6 +8,7 @@ use Rattle.cat_lex.specs.declared.words.Keyword.TheVariants as key
 use Rattle.cat_lex.specs.declared.words.DoubleKeyword.TheVariants as pair
 use Rattle.cat_lex.specs.declared.symbol.Symbol.{Symbol}
 use Rattle.cat_lex.specs.declared.symbol.Symbol.TheVariants as symbol
+use Rattle.cat_tree.specs.Accumulation.{accumulation}
 use Rattle.cat_tree.specs.declared.name.Name.{Name}
 use Rattle.cat_tree.specs.declared.expression.Each.{Each}
 use Rattle.cat_tree.specs.declared.expression.Each.TheVariants as each
@@ -205,7 +206,8 @@ fed_reached k j high (state.CombineList p w) b c e front text r h is = part_on k
 fed_reached k j high (state.CombineStart d w) b c e front text r h is = part_on k 0 j high (state.CombineStart d w)
     (state.CombineWith d w e.node) b c e front text r h is (omega arith) (λ ps. refl)
 fed_reached k j high (state.CombineBody d w z) b c e front text r h is = (
-  end_part k (0) j high (state.CombineBody d w z) (node.Combine d.pos d.element d.list w z e.node) form b c e front
+  end_part k (0) j high (state.CombineBody d w z) (node.Combine (accumulation d.pos d.element w) d.list z e.node) form b
+      c e front
       text r h is (phrase_Combine d.pos d.element d.list w z e.node) refl (omega arith),
   sym (ap right_strength (phrase_Combine d.pos d.element d.list w z e.node)),
 )

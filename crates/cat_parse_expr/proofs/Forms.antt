@@ -7,6 +7,7 @@ use Rattle.cat_lex.specs.declared.token.TokenKind.TheVariants as kind
 use Rattle.cat_lex.specs.declared.words.Keyword.TheVariants as key
 use Rattle.cat_lex.specs.declared.words.DoubleKeyword.TheVariants as pair
 use Rattle.cat_lex.specs.declared.symbol.Symbol.TheVariants as symbol
+use Rattle.cat_tree.specs.Accumulation.{accumulation}
 use Rattle.cat_tree.specs.declared.name.Name.{Name}
 use Rattle.cat_tree.specs.declared.name.CaseName.{CaseName}
 use Rattle.cat_tree.specs.declared.name.CaseName.TheVariants.{Bare, Qualified}
@@ -283,40 +284,44 @@ each_goes k bound each.ListOf p w l e calm ts le low levels sp =
     (λ rest h. form_calm bound e rest calm h) refl))))
 
 pub combine_goes : (k bound : ℕ) (p : Pos) (w : Name) (l : Node) (acc : Name) (z e : Node)
-    → bound ≤ min 1 (row_hold (phrase e)) → Goes k bound (node.Combine p w l acc z e)
+    → bound ≤ min 1 (row_hold (phrase e)) → Goes k bound (node.Combine (accumulation p w acc) l z e)
     (Row form (pair_at pair.CombineAll p ▹ lower w ▹ «word» key.Among ▹ part 0 (phrase l) ▹ «word» key.In ▹ lower acc ▹
     «word» key.Initially ▹ part 0 (phrase z) ▹ «word» key.With ▹ part 0 (phrase e) ▹ End))
 combine_goes k bound p w l acc z e calm ts le low levels sp =
     let hl = max 0 (height (phrase l)) in
     let hz = max (max 0 (height (phrase l))) (height (phrase z)) in
-    word_at k bound start (node.Combine p w l acc z e) (kind.Pair pair.CombineAll) p
+    word_at k bound start (node.Combine (accumulation p w acc) l z e) (kind.Pair pair.CombineAll) p
     (lower w ▹ «word» key.Among ▹ part 0 (phrase l) ▹ «word» key.In ▹ lower acc ▹ «word» key.Initially ▹ part 0
     (phrase z) ▹ «word» key.With ▹ part 0 (phrase e) ▹ End) ts (state.Combine p) sp
     (if_at_on k 8 (state.Combine p) le)
-    (λ us x. word_at k bound (reading_at (state.Combine p) 0 false false) (node.Combine p w l acc z e)
+    (λ us x. word_at k bound (reading_at (state.Combine p) 0 false false) (node.Combine (accumulation p w acc) l z e)
     (kind.Lower w.text) w.pos («word» key.Among ▹ part 0 (phrase l) ▹ «word» key.In ▹ lower acc ▹ «word» key.Initially
     ▹ part 0 (phrase z) ▹ «word» key.With ▹ part 0 (phrase e) ▹ End) us (state.CombineAmong p w) x refl
-    (λ vs y. word_any k bound (reading_at (state.CombineAmong p w) 0 false false) (node.Combine p w l acc z e)
+    (λ vs y. word_any k bound (reading_at (state.CombineAmong p w) 0 false false)
+    (node.Combine (accumulation p w acc) l z e)
     (kind.Word key.Among) (part 0 (phrase l) ▹ «word» key.In ▹ lower acc ▹ «word» key.Initially ▹ part 0 (phrase z) ▹
     «word» key.With ▹ part 0 (phrase e) ▹ End) vs (state.CombineList p w) y (λ pos. refl)
-    (λ ws a. part_word k bound 0 (reading_at (state.CombineList p w) 0 false false) (node.Combine p w l acc z e) l
+    (λ ws a. part_word k bound 0 (reading_at (state.CombineList p w) 0 false false)
+    (node.Combine (accumulation p w acc) l z e) l
     (Operand 0) (kind.Word key.In) (lower acc ▹ «word» key.Initially ▹ part 0 (phrase z) ▹ «word» key.With ▹ part 0
     (phrase e) ▹ End) ws (state.CombineResult (record { pos = p; element = w; list = l })) a refl (omega arith)
     (omega arith) levels.1.1 (λ xs rest m. (omega arith, omega arith)) (λ pos. refl)
     (λ xs b. word_at k bound (reading_at (state.CombineResult (record { pos = p; element = w; list = l }))
-    (max 0 (height (phrase l))) false false) (node.Combine p w l acc z e) (kind.Lower acc.text) acc.pos
+    (max 0 (height (phrase l))) false false) (node.Combine (accumulation p w acc) l z e) (kind.Lower acc.text) acc.pos
     («word» key.Initially ▹ part 0 (phrase z) ▹ «word» key.With ▹ part 0 (phrase e) ▹ End) xs
     (state.CombineInitially (record { pos = p; element = w; list = l }) acc) b refl
     (λ ys d. word_any k bound (reading_at (state.CombineInitially (record { pos = p; element = w; list = l }) acc)
-    (max 0 (height (phrase l))) false false) (node.Combine p w l acc z e) (kind.Word key.Initially)
+    (max 0 (height (phrase l))) false false) (node.Combine (accumulation p w acc) l z e) (kind.Word key.Initially)
     (part 0 (phrase z) ▹ «word» key.With ▹ part 0 (phrase e) ▹ End) ys
     (state.CombineStart (record { pos = p; element = w; list = l }) acc) d (λ pos. refl)
     (λ zs f. part_word k bound 0 (reading_at (state.CombineStart (record { pos = p; element = w; list = l }) acc)
-    (max 0 (height (phrase l))) false false) (node.Combine p w l acc z e) z (Operand 0) (kind.Word key.With)
+    (max 0 (height (phrase l))) false false) (node.Combine (accumulation p w acc) l z e) z (Operand 0)
+    (kind.Word key.With)
     (part 0 (phrase e) ▹ End) zs (state.CombineBody (record { pos = p; element = w; list = l }) acc z) f refl
     (omega arith) (omega arith) levels.1.2.1 (λ q rest m. (omega arith, omega arith)) (λ pos. refl)
     (λ q g. part_end k bound 0 (reading_at (state.CombineBody (record { pos = p; element = w; list = l }) acc z)
-    (max (max 0 (height (phrase l))) (height (phrase z))) false false) (node.Combine p w l acc z e) e (Operand 0) q g
+    (max (max 0 (height (phrase l))) (height (phrase z))) false false) (node.Combine (accumulation p w acc) l z e) e
+    (Operand 0) q g
     refl (omega arith) (omega arith) levels.1.2.2.1 (λ rest h. form_calm bound e rest calm h) refl)))))))
 
 pub prefix_goes : (k bound : ℕ) (o : Prefix) (p : Pos) (e : Node) → bound ≤ min (suc (prefix_level o))

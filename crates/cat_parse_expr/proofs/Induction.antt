@@ -2,6 +2,7 @@
 use Rattle.std.proofs.Common.{List, [], ◌∷◌, map, subst}
 use denote.Hole.Carrier.{roll}
 use Rattle.cat_pos.specs.declared.pos.Pos.{Pos}
+use Rattle.cat_tree.specs.Accumulation.{accumulation}
 use Rattle.cat_tree.specs.declared.name.Name.{Name}
 use Rattle.cat_tree.specs.declared.name.CaseName.{CaseName}
 use Rattle.cat_tree.specs.declared.name.Type as types
@@ -48,7 +49,7 @@ module _
     (matching : (p : Pos) (e : Node) (more : List Arm) → P e → AllHold (λ a. P a.body) more → P (node.Match p e more))
     (each : (k : Each) (p : Pos) (w : Name) (l e : Node) → P l → P e → P (node.Each k p w l e))
     (combine : (p : Pos) (w : Name) (l : Node) (acc : Name) (s e : Node) → P l → P s → P e
-    → P (node.Combine p w l acc s e)) where
+    → P (node.Combine (accumulation p w acc) l s e)) where
   abbrev H : Type 0
   H = (e : Node) × P e
 
@@ -77,7 +78,7 @@ module _
   at (Node-F.If p c t e) = choice p c.0 t.0 e.0 c.1 t.1 e.1
   at (Node-F.Match p e more) = matching p e.0 (map (λ a. a.0) more) e.1 (held (λ a. P a.body) more)
   at (Node-F.Each k p w l e) = each k p w l.0 e.0 l.1 e.1
-  at (Node-F.Combine p w l acc s e) = combine p w l.0 acc s.0 e.0 l.1 s.1 e.1
+  at (Node-F.Combine c l s e) = combine c.pos c.element l.0 c.sum s.0 e.0 l.1 s.1 e.1
 
   at_arm : (y : Arm-F H HA HF)
       → P (roll-Arm (map-Arm H HA HF Node Arm FieldValue (λ e. e.0) (λ a. a.0) (λ f. f.0) y)).body

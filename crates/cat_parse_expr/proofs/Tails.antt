@@ -7,6 +7,7 @@ use Rattle.cat_lex.specs.declared.words.Keyword.TheVariants as key
 use Rattle.cat_lex.specs.declared.words.DoubleKeyword.TheVariants as pair
 use Rattle.cat_lex.specs.declared.symbol.Symbol.{Symbol}
 use Rattle.cat_lex.specs.declared.symbol.Symbol.TheVariants as symbol
+use Rattle.cat_tree.specs.Accumulation.{accumulation}
 use Rattle.cat_tree.specs.declared.name.Name.{Name}
 use Rattle.cat_tree.specs.declared.name.CaseName.{CaseName}
 use Rattle.cat_tree.specs.declared.name.CaseName.TheVariants.{Bare, Qualified}
@@ -241,7 +242,7 @@ left_holds = induction LeftHolds
     (map arm_row more)) (match_form (map arm_row more))))
     (λ k p w l e hl he. by_row (node.Each k p w l e) _ (phrase_Each k p w l e)
     (form_left form (each_parts k p w (phrase l) (phrase e)) refl))
-    (λ p w l acc z e hl hz he. by_row (node.Combine p w l acc z e) _ (phrase_Combine p w l acc z e)
+    (λ p w l acc z e hl hz he. by_row (node.Combine (accumulation p w acc) l z e) _ (phrase_Combine p w l acc z e)
     (form_left form (pair_at pair.CombineAll p ▹ lower w ▹ «word» key.Among ▹ part 0 (phrase l) ▹ «word» key.In ▹
     lower acc ▹ «word» key.Initially ▹ part 0 (phrase z) ▹ «word» key.With ▹ part 0 (phrase e) ▹ End) refl))
 
@@ -312,6 +313,6 @@ strong_holds = induction (λ n. RowStrong (phrase n))
     (map arm_row more)) (omega (arith, match_level (map arm_row more)))))
     (λ k p w l e hl he. by_strong (node.Each k p w l e) _ (phrase_Each k p w l e)
     (weak form (each_parts k p w (phrase l) (phrase e)) (omega arith)))
-    (λ p w l acc z e hl hz he. by_strong (node.Combine p w l acc z e) _ (phrase_Combine p w l acc z e)
+    (λ p w l acc z e hl hz he. by_strong (node.Combine (accumulation p w acc) l z e) _ (phrase_Combine p w l acc z e)
     (weak form (pair_at pair.CombineAll p ▹ lower w ▹ «word» key.Among ▹ part 0 (phrase l) ▹ «word» key.In ▹ lower acc
     ▹ «word» key.Initially ▹ part 0 (phrase z) ▹ «word» key.With ▹ part 0 (phrase e) ▹ End) (omega arith)))

@@ -6,6 +6,7 @@ use Rattle.cat_lex.specs.declared.token.Token.{Token}
 use Rattle.cat_lex.specs.declared.words.Keyword.TheVariants as key
 use Rattle.cat_lex.specs.declared.words.DoubleKeyword.TheVariants as pair
 use Rattle.cat_lex.specs.declared.symbol.Symbol.TheVariants as symbol
+use Rattle.cat_tree.specs.Accumulation.{accumulation}
 use Rattle.cat_tree.specs.declared.name.Name.{Name}
 use Rattle.cat_tree.specs.declared.name.CaseName.{CaseName}
 use Rattle.cat_tree.specs.declared.name.CaseName.TheVariants.{Bare, Qualified}
@@ -158,7 +159,7 @@ has_way = induction HasWay
     (λ x p w l e hl he. by_goes (node.Each x p w l e) (Row form (each_parts x p w (phrase l) (phrase e)))
     (phrase_Each x p w l e) (λ k. each_goes k (row_hold (Row form (each_parts x p w (phrase l) (phrase e)))) x p w l e
     (each_bound x p w (phrase l) (phrase e))))
-    (λ p w l acc z e hl hz he. by_goes (node.Combine p w l acc z e)
+    (λ p w l acc z e hl hz he. by_goes (node.Combine (accumulation p w acc) l z e)
     (Row form (pair_at pair.CombineAll p ▹ lower w ▹ «word» key.Among ▹ part 0 (phrase l) ▹ «word» key.In ▹ lower acc
     ▹ «word» key.Initially ▹ part 0 (phrase z) ▹ «word» key.With ▹ part 0 (phrase e) ▹ End))
     (phrase_Combine p w l acc z e) (λ k. combine_goes k (min 1 (row_hold (phrase e))) p w l acc z e (omega arith)))

@@ -1,17 +1,18 @@
 //! The last whole expression on the way to a state.
-ghost use Rattle.std.specs.Prelude.{◌≡◌};
+ghost use Rattle.std.specs.Prelude.{◌≡◌, IfOk};
 ghost use Rattle.cat_parse_expr.specs.inside.Fallback as words;
 ghost use Rattle.cat_tree.specs.declared.expression.Node.TheViews.{out-Node};
 
 use cat_parse_state::{Matching, Owner, State, no_node};
 use cat_pos::{Boxed, Pos};
 use cat_tree::{CaseName, Literal, Name, Node, Nodes};
+use std::alloc::{AllocError, Global};
 
-fn before_argument(name: Name, arguments: Nodes) -> Option<Node>
+fn before_argument(name: Boxed<Name>, arguments: Nodes) -> Option<Node>
     ensures { result ≡ words.before_argument name arguments }
 {
     if arguments.is_empty() {
-        Some(Node::Name(name))
+        Some(Node::Name(name.into_inner()))
     } else {
         Some(Node::Call(name, arguments))
     }
@@ -21,7 +22,7 @@ fn before_fields(owner: Owner) -> Option<Node>
     ensures { result ≡ words.before_fields owner }
 {
     match owner {
-        Owner::Literal(name) => Some(Node::Case(CaseName::Bare(name))),
+        Owner::Literal(name) => Some(Node::Case(CaseName::Bare(name.into_inner()))),
         Owner::Call(..) => None,
     }
 }
@@ -29,7 +30,7 @@ fn before_fields(owner: Owner) -> Option<Node>
 fn before_arm(matching: Matching) -> Option<Node>
     ensures { result ≡ words.before_arm matching }
 {
-    if matching.arms.is_empty() {
+    if matching.arms.get().is_empty() {
         return None;
     }
     Some(Node::Match(matching.pos, matching.tested, matching.arms))
@@ -46,12 +47,20 @@ fn before_unit(literal: Literal, pos: Pos) -> Option<Node>
 }
 
 /// A test whose case is named without its enumeration.
-fn before_dot(tested: Boxed<Node>, pos: Pos, case: CaseName) -> Option<Node>
-    ensures { result ≡ words.before_dot tested pos case }
+fn before_dot(
+    alloc: Global,
+    tested: Boxed<Node>,
+    pos: Pos,
+    case: CaseName,
+) -> Result<Option<Node>, AllocError>
+    ensures { IfOk result (λ node. node ≡ words.before_dot tested pos case) }
 {
     match case {
-        CaseName::Qualified(owner, _) => Some(Node::Test(tested, pos, CaseName::Bare(owner))),
-        CaseName::Bare(_) => None,
+        CaseName::Qualified(owner, _) => {
+            let case = Boxed::new(alloc, CaseName::Bare(owner.into_inner()))?;
+            Ok(Some(Node::Test(tested, pos, case)))
+        }
+        CaseName::Bare(_) => Ok(None),
     }
 }
 
@@ -63,35 +72,38 @@ fn none_of(_node: Node) -> Option<Node>
 }
 
 /// What stood whole before the last word of an expression.
-fn before_last(node: Node) -> Option<Node>
-    ensures { result ≡ words.before_last (out-Node node) }
+fn before_last(alloc: Global, node: Node) -> Result<Option<Node>, AllocError>
+    ensures { IfOk result (λ before. before ≡ words.before_last (out-Node node)) }
 {
     match node {
-        Node::Literal(literal, pos) => before_unit(literal, pos),
-        Node::Field(inner, _) => Some(inner.into_inner()),
-        Node::Structure(name, _) => Some(Node::Case(CaseName::Bare(name))),
-        Node::Test(inner, pos, case) => before_dot(inner, pos, case),
-        other => none_of(other),
+        Node::Literal(literal, pos) => Ok(before_unit(literal, pos)),
+        Node::Field(inner, _) => Ok(Some(inner.into_inner())),
+        Node::Structure(name, _) => Ok(Some(Node::Case(CaseName::Bare(name.into_inner())))),
+        Node::Test(inner, pos, case) => before_dot(alloc, inner, pos, case.into_inner()),
+        other => Ok(none_of(other)),
     }
 }
 
 /// The last whole expression on the way to a state, before that state.
 #[tactic(auto, unfolding(crate::specs::inside::Fallback::fallback))]
-pub(crate) fn fallback(state: State) -> Option<Node>
-    ensures { result ≡ words.fallback state }
+pub(crate) fn fallback(alloc: Global, state: State) -> Result<Option<Node>, AllocError>
+    ensures { IfOk result (λ node. node ≡ words.fallback state) }
 {
     match state {
-        State::Complete(node, _) => before_last(node),
-        State::Dot(node) => Some(node),
-        State::WithPattern(node, _) => Some(node),
-        State::Right(node, _, _) => Some(node),
-        State::Qualified(name, _) => Some(Node::Case(CaseName::Bare(name))),
-        State::UpperDot(name) => Some(Node::Case(CaseName::Bare(name))),
-        State::Tested(node, _, _) => Some(node.into_inner()),
-        State::TestedDot(node, pos, name) => Some(Node::Test(node, pos, CaseName::Bare(name))),
-        State::Content(case) => Some(Node::Case(case)),
-        State::Argument(name, arguments) => before_argument(name, arguments),
-        other => fallback_of_parts(other),
+        State::Complete(node, _) => before_last(alloc, node),
+        State::Dot(node) => Ok(Some(node)),
+        State::WithPattern(node, _) => Ok(Some(node)),
+        State::Right(node, _, _) => Ok(Some(node)),
+        State::Qualified(name, _) => Ok(Some(Node::Case(CaseName::Bare(name.into_inner())))),
+        State::UpperDot(name) => Ok(Some(Node::Case(CaseName::Bare(name)))),
+        State::Tested(node, _, _) => Ok(Some(node.into_inner())),
+        State::TestedDot(node, pos, name) => {
+            let case = Boxed::new(alloc, CaseName::Bare(name))?;
+            Ok(Some(Node::Test(node, pos, case)))
+        }
+        State::Content(case) => Ok(Some(Node::Case(case))),
+        State::Argument(name, arguments) => Ok(before_argument(name, arguments)),
+        other => Ok(fallback_of_parts(other)),
     }
 }
 

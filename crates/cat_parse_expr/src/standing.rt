@@ -69,23 +69,24 @@ fn checkpoint_after(
 }
 
 /// What is whole here, or else the last whole expression on the way.
-fn last_whole(state: State) -> Option<Node>
-    ensures { result ≡ last_whole state }
+fn last_whole(alloc: Global, state: State) -> Result<Option<Node>, AllocError>
+    ensures { IfOk result (λ node. node ≡ last_whole state) }
 {
     if is_whole(&state) {
-        whole_node(state)
+        whole_node(alloc, state)
     } else {
-        fallback(state)
+        fallback(alloc, state)
     }
 }
 
 /// Neither a word nor an operand comes next.
-fn ended(standing: Standing) -> Reached
+fn ended(alloc: Global, standing: Standing) -> Result<Reached, AllocError>
     requires { standing.reading.tallest < 4294967295 }
-    ensures gives { (tokens : List Token) (best : Option Best) → IsKept tokens standing best
-        → parse_result_of tokens result
-        ≡ ended (node_in standing.reading.state) best standing.reading (drop standing.at tokens) }
-    ensures within { (end : ℕ) → IsCheckpointWithin end standing.checkpoint → standing.at ≤ end → AreWithin end result }
+    ensures gives { IfOk result (λ reached. (tokens : List Token) (best : Option Best) → IsKept tokens standing best
+        → parse_result_of tokens reached
+        ≡ ended (node_in standing.reading.state) best standing.reading (drop standing.at tokens)) }
+    ensures within { IfOk result (λ reached. (end : ℕ) → IsCheckpointWithin end standing.checkpoint
+        → standing.at ≤ end → AreWithin end reached) }
 {
     let Standing {
         reading,
@@ -94,13 +95,13 @@ fn ended(standing: Standing) -> Reached
     } = standing;
     let halt = Halt { at, deep: false };
     if !is_whole(&reading.state) {
-        return stopped(checkpoint, fallback(reading.state), halt);
+        return Ok(stopped(checkpoint, fallback(alloc, reading.state)?, halt));
     }
     let height = reading.tallest + 1;
     let in_form = reading.in_form;
     let in_match = reading.in_match;
-    match whole_node(reading.state) {
-        Some(node) => Reached::Reads(
+    match whole_node(alloc, reading.state)? {
+        Some(node) => Ok(Reached::Reads(
             Measured {
                 node,
                 height,
@@ -109,22 +110,31 @@ fn ended(standing: Standing) -> Reached
             },
             at,
             None,
-        ),
-        None => Reached::Fails(halt),
+        )),
+        None => Ok(Reached::Fails(halt)),
     }
 }
 
 /// No word comes next: an operand is asked for, or reading ends.
-fn without_word(tokens: &[Token], standing: Standing, limit: u32, level: u32) -> Next
+fn without_word(
+    alloc: Global,
+    tokens: &[Token],
+    standing: Standing,
+    limit: u32,
+    level: u32,
+) -> Result<Next, AllocError>
     requires limit { limit < 4294967295 }
     requires standing { IsStanding limit tokens.now standing }
     requires no_word { next level standing.reading (drop standing.at tokens.now)
         ≡ asked (takes standing.reading.state) }
-    ensures { IsAdvance limit level tokens.now standing result }
+    ensures { IfOk result (IsAdvance limit level tokens.now standing) }
 {
     match takes(&standing.reading.state) {
-        Some(wanted) => Next::Asks(standing, wanted),
-        None => Next::Turns(Turn::Ends(ended(standing))),
+        Some(wanted) => Ok(Next::Asks(standing, wanted)),
+        None => {
+            let reached = ended(alloc, standing)?;
+            Ok(Next::Turns(Turn::Ends(reached)))
+        }
     }
 }
 
@@ -141,7 +151,7 @@ pub(crate) fn advance(
     ensures { IfOk result (IsAdvance limit level tokens.now standing) }
 {
     if standing.at == tokens.len() {
-        return Ok(without_word(tokens, standing, limit, level));
+        return without_word(alloc, tokens, standing, limit, level);
     }
     let Standing {
         reading,
@@ -153,7 +163,8 @@ pub(crate) fn advance(
         Shifted::Further(more) => {
             if is_high(limit, &more) {
                 let halt = Halt { at, deep: true };
-                return Ok(Next::Turns(Turn::Ends(stopped(latest, fallback(more.state), halt))));
+                let node = fallback(alloc, more.state)?;
+                return Ok(Next::Turns(Turn::Ends(stopped(latest, node, halt))));
             }
             Ok(Next::Turns(Turn::Goes(Standing {
                 reading: more,
@@ -167,7 +178,7 @@ pub(crate) fn advance(
                 at,
                 checkpoint,
             };
-            Ok(without_word(tokens, standing, limit, level))
+            without_word(alloc, tokens, standing, limit, level)
         }
     }
 }
@@ -195,13 +206,14 @@ fn reach(
     } = standing;
     let latest = checkpoint_after(&reading, at, checkpoint);
     if halt.deep || at + 1 != halt.at {
-        let node = last_whole(reading.state);
+        let node = last_whole(alloc, reading.state)?;
         return Ok(Turn::Ends(stopped(latest, node, halt)));
     }
     match shift(alloc, level, reading, &tokens[at])? {
         Shifted::Further(more) => {
             if is_high(limit, &more) {
-                return Ok(Turn::Ends(stopped(latest, fallback(more.state), halt)));
+                let node = fallback(alloc, more.state)?;
+                return Ok(Turn::Ends(stopped(latest, node, halt)));
             }
             Ok(Turn::Goes(Standing {
                 reading: more,
@@ -210,7 +222,7 @@ fn reach(
             }))
         }
         Shifted::Still(reading) => {
-            let node = last_whole(reading.state);
+            let node = last_whole(alloc, reading.state)?;
             Ok(Turn::Ends(stopped(latest, node, halt)))
         }
     }
@@ -238,7 +250,10 @@ pub(crate) fn take(
         checkpoint,
     } = standing;
     match operand {
-        Reached::Fails(halt) => Ok(Turn::Ends(stopped(checkpoint, fallback(reading.state), halt))),
+        Reached::Fails(halt) => {
+            let node = fallback(alloc, reading.state)?;
+            Ok(Turn::Ends(stopped(checkpoint, node, halt)))
+        }
         Reached::Reads(measured, at, tried) => {
             let reading = feed(alloc, reading, measured)?;
             let fed = Standing {

@@ -2,6 +2,7 @@
 use Rattle.std.proofs.Common.{◌≡◌, ℕ, suc, Bool, true, false, if◌then◌else◌, [], Option, Some, None, refl, sym, ap, ◌∙◌}
 use Rattle.std.proofs.Common.{arith, rules}
 use denote.Enum.Bare.{same_true, true_same}
+use Rattle.cat_pos.specs.Position.{pos_of}
 use Rattle.cat_pos.specs.declared.pos.Pos.{Pos}
 use Rattle.cat_lex.specs.contracts.words.Keyword.{the_type as keywords}
 use Rattle.cat_lex.specs.contracts.words.DoubleKeyword.{the_type as pairs}
@@ -41,7 +42,7 @@ lowered limit bound out fits row r h = record {
 }
 
 abbrev pub anywhere : Pos
-anywhere = record { file = 0; line = 0; column = 0 }
+anywhere = pos_of 0 0 0
 
 -- ---- a word, wherever it stands
 

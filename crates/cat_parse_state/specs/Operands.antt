@@ -1,5 +1,6 @@
 -- Which operand a state waits for, and the state with it.
 use Rattle.std.specs.Prelude.{ℕ, suc, Bool, true, false, [], ◌∷◌, ◌++◌, Option, Some, None}
+use Rattle.cat_tree.specs.Accumulation.{accumulation}
 use Rattle.cat_tree.specs.declared.expression.Node.{Node}
 use Rattle.cat_tree.specs.declared.expression.Node.TheViews as node
 use Rattle.cat_tree.specs.Operators.{prefix_level, operator_level}
@@ -57,7 +58,7 @@ fed_state (state.EachList k p w) e b = state.EachThen k p w e
 fed_state (state.EachBody k p w l) e b = state.Complete (node.Each k p w l e) 8
 fed_state (state.CombineList p w) e b = state.CombineIn (record { pos = p; element = w; list = e })
 fed_state (state.CombineStart c w) e b = state.CombineWith c w e
-fed_state (state.CombineBody c w s) e b = state.Complete (node.Combine c.pos c.element c.list w s e) 8
+fed_state (state.CombineBody c w s) e b = state.Complete (node.Combine (accumulation c.pos c.element w) c.list s e) 8
 fed_state q e b = q
 
 -- whether the operand ends a form, or a match

@@ -1,12 +1,14 @@
 //! What a state waits for, and the expression that is whole in it.
-ghost use Rattle.std.specs.Prelude.{◌≡◌};
+ghost use Rattle.std.specs.Prelude.{◌≡◌, IfOk};
 ghost use Rattle.cat_parse_state.specs.Operands as operands;
 ghost use Rattle.std.specs.Option.{is_some};
 ghost use Rattle.cat_parse_state.specs.Readings.{node_in};
 
 use crate::State;
 use crate::levels::{operator_level, prefix_level};
+use cat_pos::Boxed;
 use cat_tree::{CaseName, Literal, Node};
+use std::alloc::{AllocError, Global};
 
 /// The level of the operand that a state waits for.
 pub fn takes(state: &State) -> Option<u32>
@@ -62,22 +64,26 @@ pub fn needs_part(state: &State) -> bool
 }
 
 /// The expression that is whole.
-pub fn whole_node(state: State) -> Option<Node>
-    ensures { result ≡ node_in state }
+pub fn whole_node(alloc: Global, state: State) -> Result<Option<Node>, AllocError>
+    ensures { IfOk result (λ node. node ≡ node_in state) }
 {
-    match state {
+    let node = match state {
         State::Complete(node, _) => Some(node),
         State::Int(number, pos) => Some(Node::Literal(Literal::Int(number), pos)),
         State::Name(name) => Some(Node::Name(name)),
         State::Upper(name) => Some(Node::Case(CaseName::Bare(name))),
         State::Qualified(owner, name) => Some(Node::Case(CaseName::Qualified(owner, name))),
         State::Called(name, arguments) => Some(Node::Call(name, arguments)),
-        State::Tested(node, pos, name) => Some(Node::Test(node, pos, CaseName::Bare(name))),
+        State::Tested(node, pos, name) => {
+            let case = Boxed::new(alloc, CaseName::Bare(name))?;
+            Some(Node::Test(node, pos, case))
+        }
         State::Matched(matching, _) => {
             Some(Node::Match(matching.pos, matching.tested, matching.arms))
         }
         other => no_node(other),
-    }
+    };
+    Ok(node)
 }
 
 /// Drops a state in which no expression is whole.

@@ -6,7 +6,7 @@ ghost use Rattle.cat_parse_state.specs.Readings.{IsFed};
 use crate::group::Group;
 use crate::{Combining, Matching, State};
 use cat_pos::{Boxed, Pos};
-use cat_tree::{Arm, Each, Name, Node, Pattern};
+use cat_tree::{Accumulation, Arm, Each, Name, Node, Pattern};
 use std::alloc::{AllocError, Global};
 
 fn if_condition(alloc: Global, pos: Pos, node: Node) -> Result<State, AllocError>
@@ -44,6 +44,7 @@ fn tested(alloc: Global, pos: Pos, node: Node) -> Result<State, AllocError>
 }
 
 fn arm_body(
+    alloc: Global,
     matching: Matching,
     pattern: Pattern,
     body: Node,
@@ -51,12 +52,10 @@ fn arm_body(
 ) -> Result<State, AllocError>
     ensures { IfOk result (IsFed (State.ArmBody matching pattern) body in_match) }
 {
-    let Matching {
-        pos,
-        tested,
-        mut arms,
-    } = matching;
+    let Matching { pos, tested, arms } = matching;
+    let mut arms = arms.into_inner();
     arms.push(Arm { pattern, body })?;
+    let arms = Boxed::new(alloc, arms)?;
     Ok(State::Matched(Matching { pos, tested, arms }, in_match))
 }
 
@@ -83,6 +82,7 @@ fn each_body(
 ) -> Result<State, AllocError>
     ensures { IfOk result (IsFed (State.EachBody each pos name list) node false) }
 {
+    let name = Boxed::new(alloc, name)?;
     let node = Boxed::new(alloc, node)?;
     Ok(State::Complete(Node::Each(each, pos, name, list, node), 8))
 }
@@ -121,7 +121,13 @@ fn combine_body(
 {
     let node = Boxed::new(alloc, node)?;
     let Combining { pos, element, list } = combining;
-    Ok(State::Complete(Node::Combine(pos, element, list, name, first, node), 8))
+    let words = Accumulation {
+        pos,
+        element,
+        sum: name,
+    };
+    let words = Boxed::new(alloc, words)?;
+    Ok(State::Complete(Node::Combine(words, list, first, node), 8))
 }
 
 /// A form with the part that it waits for, and whether that ends in a match.
@@ -139,7 +145,7 @@ pub(crate) fn feed_forms(
         State::Then(pos, condition) => then(alloc, pos, condition, node),
         State::Else(pos, condition, then) => otherwise(alloc, pos, condition, then, node),
         State::Match(pos) => tested(alloc, pos, node),
-        State::ArmBody(matching, pattern) => arm_body(matching, pattern, node, in_match),
+        State::ArmBody(matching, pattern) => arm_body(alloc, matching, pattern, node, in_match),
         State::EachList(each, pos, name) => each_list(alloc, each, pos, name, node),
         State::EachBody(each, pos, name, list) => each_body(alloc, each, pos, name, list, node),
         State::CombineList(pos, name) => combine_list(alloc, pos, name, node),

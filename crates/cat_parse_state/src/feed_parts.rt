@@ -32,7 +32,7 @@ fn content(alloc: Global, case: CaseName, node: Node) -> Result<State, AllocErro
     Ok(State::Complete(Node::Content(case, node), 8))
 }
 
-fn argument(name: Name, arguments: Nodes, node: Node) -> Result<State, AllocError>
+fn argument(name: Boxed<Name>, arguments: Nodes, node: Node) -> Result<State, AllocError>
     ensures { IfOk result (IsFed (State.Argument name arguments) node false) }
 {
     let mut arguments = arguments;
@@ -51,6 +51,7 @@ fn prefixed(alloc: Global, prefix: Prefix, pos: Pos, node: Node) -> Result<State
 fn sum(alloc: Global, pos: Pos, ty: Type, node: Node) -> Result<State, AllocError>
     ensures { IfOk result (IsFed (State.Sum pos ty) node false) }
 {
+    let ty = Boxed::new(alloc, ty)?;
     let node = Boxed::new(alloc, node)?;
     Ok(State::Complete(Node::Sum(pos, ty, node), 8))
 }

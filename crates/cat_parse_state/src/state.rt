@@ -10,7 +10,7 @@ use cat_tree::{
 #[derive(Drop)]
 pub enum Owner {
     /// A literal of that structure.
-    Literal(Name),
+    Literal(Boxed<Name>),
     /// A call of that scope; the position of `output of`.
     Call(Pos, Name),
 }
@@ -20,7 +20,7 @@ pub enum Owner {
 pub struct Matching {
     pub pos: Pos,
     pub tested: Boxed<Node>,
-    pub arms: Arms,
+    pub arms: Boxed<Arms>,
 }
 
 /// `combine all` up to its list: its position, the element's name, and the list.
@@ -41,8 +41,8 @@ pub enum State {
     Int(Whole, Pos),
     Name(Name),
     Upper(Name),
-    Qualified(Name, Name),
-    Called(Name, Nodes),
+    Qualified(Boxed<Name>, Boxed<Name>),
+    Called(Boxed<Name>, Nodes),
     Tested(Boxed<Node>, Pos, Name),
     /// Whether the last arm ends in a match, which would have taken another arm.
     Matched(Matching, bool),
@@ -53,7 +53,7 @@ pub enum State {
     WithPattern(Node, Pos),
     Right(Node, Operator, Pos),
     Content(CaseName),
-    Argument(Name, Nodes),
+    Argument(Boxed<Name>, Nodes),
     // ---- prefixes
     PrefixOf(Prefix, Pos),
     Prefixed(Prefix, Pos),

@@ -51,7 +51,7 @@ pub(crate) fn step(
             no_node(state);
             step_start(alloc, level, token)
         }
-        Group::Whole => Ok(step_whole(alloc, level, strength, state, token)),
+        Group::Whole => step_whole(alloc, level, strength, state, token),
         Group::Behind => step_behind(alloc, state, token),
         Group::Brackets => step_brackets(alloc, state, token),
         Group::Fields => step_fields(alloc, state, token),

@@ -29,6 +29,8 @@ fn upper_dot(alloc: Global, upper: Name, token: &Token) -> Result<Stepped, Alloc
     match &token.kind {
         TokenKind::Upper(text) => {
             let name = named(alloc, text, token.pos)?;
+            let upper = Boxed::new(alloc, upper)?;
+            let name = Boxed::new(alloc, name)?;
             Ok(Stepped::Onward(State::Qualified(upper, name)))
         }
         TokenKind::Lower(text) => {
@@ -52,8 +54,10 @@ fn tested_dot(
     match &token.kind {
         TokenKind::Upper(text) => {
             let name = named(alloc, text, token.pos)?;
-            let test = Node::Test(node, pos, CaseName::Qualified(upper, name));
-            Ok(Stepped::Onward(State::Complete(test, 4)))
+            let upper = Boxed::new(alloc, upper)?;
+            let name = Boxed::new(alloc, name)?;
+            let case = Boxed::new(alloc, CaseName::Qualified(upper, name))?;
+            Ok(Stepped::Onward(State::Complete(Node::Test(node, pos, case), 4)))
         }
         _ => Ok(Stepped::Still(State::TestedDot(node, pos, upper))),
     }

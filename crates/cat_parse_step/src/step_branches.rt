@@ -41,15 +41,20 @@ fn match_with(pos: Pos, tested: Boxed<Node>, token: &Token) -> Stepped
     }
 }
 
-fn first_arm(alloc: Global, pos: Pos, tested: Boxed<Node>, token: &Token) -> Stepped
-    ensures { IsStepOf 0 0 (State.FirstArm pos tested) token.now result }
+fn first_arm(
+    alloc: Global,
+    pos: Pos,
+    tested: Boxed<Node>,
+    token: &Token,
+) -> Result<Stepped, AllocError>
+    ensures { IfOk result (IsStepOf 0 0 (State.FirstArm pos tested) token.now) }
 {
     match &token.kind {
         TokenKind::Symbol(Symbol::MinusMinus) => {
-            let arms = List::new(alloc);
-            Stepped::Onward(State::ArmPattern(Matching { pos, tested, arms }))
+            let arms = Boxed::new(alloc, List::new(alloc))?;
+            Ok(Stepped::Onward(State::ArmPattern(Matching { pos, tested, arms })))
         }
-        _ => Stepped::Still(State::FirstArm(pos, tested)),
+        _ => Ok(Stepped::Still(State::FirstArm(pos, tested))),
     }
 }
 
@@ -105,6 +110,8 @@ fn arm_dot(
     match &token.kind {
         TokenKind::Upper(text) => {
             let name = named(alloc, text, token.pos)?;
+            let upper = Boxed::new(alloc, upper)?;
+            let name = Boxed::new(alloc, name)?;
             let case = CaseName::Qualified(upper, name);
             Ok(Stepped::Onward(State::ArmCase(matching, case)))
         }
@@ -152,7 +159,7 @@ pub(crate) fn step_branches(
         State::IfThen(pos, condition) => Ok(if_then(pos, condition, token)),
         State::ThenElse(pos, condition, node) => Ok(then_else(pos, condition, node, token)),
         State::MatchWith(pos, tested) => Ok(match_with(pos, tested, token)),
-        State::FirstArm(pos, tested) => Ok(first_arm(alloc, pos, tested, token)),
+        State::FirstArm(pos, tested) => first_arm(alloc, pos, tested, token),
         State::ArmPattern(matching) => arm_pattern(alloc, matching, token),
         State::ArmCase(matching, case) => Ok(arm_case(matching, case, token)),
         State::ArmDot(matching, name) => arm_dot(alloc, matching, name, token),

@@ -7,7 +7,7 @@ ghost use Rattle.cat_parse_step.specs.inside.OneStep.{IsStepOf, stepped_by};
 use crate::step::{Stepped, named};
 use cat_lex::{Keyword, Symbol, Token, TokenKind};
 use cat_parse_state::{Group, Owner, State};
-use cat_pos::{List, Pos};
+use cat_pos::{Boxed, List, Pos};
 use cat_tree::{FieldValues, Name, Node};
 use std::alloc::{AllocError, Global};
 
@@ -118,6 +118,9 @@ fn call_output(
     match &token.kind {
         TokenKind::Lower(text) => {
             let name = named(alloc, text, token.pos)?;
+            let scope = Boxed::new(alloc, scope)?;
+            let values = Boxed::new(alloc, values)?;
+            let name = Boxed::new(alloc, name)?;
             let call = Node::ScopeCall(pos, scope, values, name);
             Ok(Stepped::Onward(State::Complete(call, 9)))
         }

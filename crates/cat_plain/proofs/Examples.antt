@@ -122,7 +122,8 @@ two_guard : def_formula decls two ≡ formula.Not (formula.Atom asks)
 two_guard = guard_at decls g not_n (Expr-F.Unary (at 0 0) Not n) (expr.outs-Unary (at 0 0) Not n)
     ∙ ap formula.Not n_guard
 
-path_level : (e : Expr) → path_of items e ≡ path_in items (map-Expr Expr Arm FieldValue (Option Path) (Unit {0}) (Unit {0})
+path_level : (e : Expr) → path_of items e
+    ≡ path_in items (map-Expr Expr Arm FieldValue (Option Path) (Unit {0}) (Unit {0})
     (path_of items) (λ a. tt) (λ f. tt) (out-Expr e))
 unfolding path_of
 path_level e = fold_out-Expr (Option Path) (Unit {0}) (Unit {0}) (path_in items) (λ a. tt) (λ f. tt) e

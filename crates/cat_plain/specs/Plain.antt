@@ -18,8 +18,8 @@ use Rattle.cat_audit.specs.Called.{in_scope_calls}
 abbrev pub HasFreeTerms : Decls → List ItemDecl → Def → Type 0
 HasFreeTerms ds items d = AllHave (λ q. IsFree (term_of items q)) (asked (def_formula ds d))
 
--- what makes a scope with these items plain: every term of every condition is free, and it has no called scope, no scope
--- call and no function variable
+-- what makes a scope with these items plain: every term of every condition is free, and it has no called scope, no
+-- scope call and no function variable
 pub record IsPlainBody (ds : Decls) (items : List ItemDecl) (body : Body) : Type 0 where
   pub free : AllHave (HasFreeTerms ds items) body.defs
   pub no_called_scope : AllHave (λ item. is_called item.kind ≡ false) items

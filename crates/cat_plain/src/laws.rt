@@ -9,9 +9,9 @@ use cat_audit::complete_audits_leave_no_gap;
 use cat_reach::{audited_scopes_end_with_the_audited_one, audited_scopes_have_what_they_call};
 use cat_scope::Program;
 
-/// In a plain scope none of whose targets has more cells than leaves may be made, each line is Covered, Found or Masked.
-/// Where besides no well-typed input ends in a fault, the verdict is Complete or Found: Complete exactly where no
-/// well-typed input ends in a Conflict or a NoValue, and Found exactly where one does.
+/// In a plain scope none of whose targets has more cells than leaves may be made, each line is Covered, Found or
+/// Masked. Where besides no well-typed input ends in a fault, the verdict is Complete or Found: Complete exactly where
+/// no well-typed input ends in a Conflict or a NoValue, and Found exactly where one does.
 pub fn plain_scopes_are_decided(program: &Program)
     ensures lines { (scope : ℕ) (budget : ℕ) (report : ReportSeen) → IsPlain program.now scope
         → HasCellsWithin program.now scope budget → IsReport program.now scope budget report

@@ -1,7 +1,7 @@
 // The names of the source files, by number.
 ghost use Rattle.std.specs.Prelude.{◌≡◌, [], ◌∷◌, ◌++◌, ◌<◌, ◌+◌, length, slice_get, Some, IfOk, OnOk, OnErr};
 ghost use Rattle.std.specs.Prelude.{string_bytes};
-ghost use Rattle.cat_pos.specs.Position.{shown};
+ghost use Rattle.cat_pos.specs.Position.{pos_file, shown};
 
 use crate::{ENTRIES_BOUND, List, Pos, Text};
 use std::alloc::{AllocError, Global};
@@ -61,11 +61,11 @@ impl Files {
 
 /// The text `name:line:column` of a position.
 pub fn show_pos(alloc: Global, files: &Files, pos: Pos) -> Result<String, AllocError>
-    requires { pos.file < length files.now }
+    requires { pos_file pos < length files.now }
     ensures { IfOk result (λ text. shown files.now pos ≡ Some (string_bytes text)) }
 {
-    let name = files.name(pos.file);
+    let name = files.name(pos.file());
     let line = pos.line;
-    let column = pos.column;
+    let column = pos.column();
     format!(in alloc; "{name}:{line}:{column}")
 }

@@ -7,16 +7,19 @@ mod files;
 mod limits;
 mod list;
 mod pos;
+mod shared;
 mod text;
 
 pub use boxed::Boxed;
 pub use bytes::is_blank;
 pub use files::{Files, show_pos};
 pub use limits::{
-    ENTRIES_BOUND, LAST_LINE, MOST_FILE_BYTES, MOST_FILES, MOST_INPUT_BYTES, MOST_SOURCE_BYTES,
+    COLUMNS_BOUND, ENTRIES_BOUND, LAST_LINE, MOST_FILE_BYTES, MOST_FILES, MOST_INPUT_BYTES,
+    MOST_SOURCE_BYTES,
 };
 pub use list::List;
 pub use pos::{Piece, Pieces, Pos, Positions, pos_at};
+pub use shared::Shared;
 pub use text::Text;
 
 /// Numbers of scopes, items, definitions and the like.

@@ -15,5 +15,8 @@ pub const MOST_INPUT_BYTES: usize = 64 * 1024 * 1024;
 /// The line and the column at which a piece may begin that is read as tokens.
 pub const LAST_LINE: u32 = 8 * 1024 * 1024;
 
+/// A column is less: 64 Mi.
+pub const COLUMNS_BOUND: u32 = 64 * 1024 * 1024;
+
 /// A list that a `u32` numbers has fewer entries.
 pub const ENTRIES_BOUND: u64 = 1 << 32;

@@ -1,15 +1,47 @@
 // Where something stands in a source file.
-ghost use Rattle.std.specs.Prelude.{◌≡◌, ◌≤◌, ◌*◌, length};
-ghost use Rattle.cat_pos.specs.Position.{position_of};
+ghost use Rattle.std.specs.Prelude.{◌≡◌, ◌≤◌, ◌<◌, ◌*◌, length};
+ghost use Rattle.cat_pos.specs.Position.{pos_of, pos_file, pos_column, position_of};
 
-use crate::{List, MOST_FILE_BYTES, Text};
+use crate::{COLUMNS_BOUND, List, MOST_FILE_BYTES, MOST_FILES, Text};
 
-/// A position in a source file: the file's number, and line and column from 1. A column counts bytes.
+/// A position in a source file: the file's number, and line and column from 1. A column counts bytes. It takes 8 bytes,
+/// since a source has millions of them.
 #[derive(Clone, Copy, Debug, PartialEq, Eq)]
 pub struct Pos {
-    pub file: u32,
     pub line: u32,
-    pub column: u32,
+    /// The column times `MOST_FILES`, and the number of the file.
+    pub place: u32,
+}
+
+/// As many as a program may have.
+const FILES: u32 = MOST_FILES as u32;
+
+impl Pos {
+    pub fn new(file: u32, line: u32, column: u32) -> Pos
+        requires file { file < MOST_FILES }
+        requires column { column < COLUMNS_BOUND }
+        ensures { result ≡ pos_of file line column }
+    {
+        Pos {
+            line,
+            place: column * FILES + file,
+        }
+    }
+
+    /// The number of the file.
+    pub fn file(self) -> u32
+        ensures value { result ≡ pos_file self }
+        ensures few { result < MOST_FILES }
+    {
+        self.place % FILES
+    }
+
+    pub fn column(self) -> u32
+        ensures value { result ≡ pos_column self }
+        ensures few { result < COLUMNS_BOUND }
+    {
+        self.place / FILES
+    }
 }
 
 pub type Positions = List<Pos>;
@@ -30,6 +62,7 @@ const LINE_FEED: u8 = 10;
 pub fn pos_at(text: &[u8], file: u32, offset: usize) -> Pos
     requires within { offset ≤ length text.now }
     requires short { length text.now ≤ MOST_FILE_BYTES }
+    requires file { file < MOST_FILES }
     ensures { result ≡ position_of text.now file offset }
 {
     let mut line = 1;
@@ -42,5 +75,5 @@ pub fn pos_at(text: &[u8], file: u32, offset: usize) -> Pos
             column += 1;
         }
     }
-    Pos { file, line, column }
+    Pos::new(file, line, column)
 }

@@ -9,14 +9,7 @@ fn positions_count_line_feeds_and_bytes(rt: HostRuntime) -> Result<(), Fail> {
     let positions = [(1, 1), (1, 2), (1, 3), (2, 1), (3, 1), (3, 2), (3, 3)];
     for (offset, (line, column)) in positions.iter().enumerate() {
         let pos = pos_at(text, 7, offset);
-        assert_eq!(rt;
-            pos,
-            Pos {
-                file: 7,
-                line: *line,
-                column: *column
-            }
-        );
+        assert_eq!(rt; pos, Pos::new(7, *line, *column));
     }
     Ok(())
 }
@@ -42,15 +35,7 @@ fn lists_boxes_texts_and_files_keep_what_they_are_given(rt: HostRuntime) -> Resu
     assert_eq!(rt; files.add("b.md")?, 1);
     assert_eq!(rt; files.len(), 2);
     assert_eq!(rt; files.name(0), "a.md");
-    let shown = show_pos(
-        alloc,
-        &files,
-        Pos {
-            file: 1,
-            line: 12,
-            column: 345,
-        },
-    )?;
+    let shown = show_pos(alloc, &files, Pos::new(1, 12, 345))?;
     assert_eq!(rt; shown.as_str(), "b.md:12:345");
     Ok(())
 }

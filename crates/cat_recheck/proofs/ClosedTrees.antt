@@ -61,7 +61,8 @@ module _ (most : ℕ) where
           narrowings = refl;
         } in
         subst (IsCovered table.atoms (everything table.terms) t) (sym is.tree_is)
-        (leaves_covered table.terms table.atoms (sound_atoms table.terms table.atoms table.targets table.sound) t nothing
+        (leaves_covered table.terms table.atoms (sound_atoms table.terms table.atoms table.targets table.sound) t
+        nothing
         (everything table.terms) is.tree whole refl is.searched is.closed)
 
     -- the trees of a table's targets are covered, and others are left

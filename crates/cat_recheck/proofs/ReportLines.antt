@@ -64,7 +64,8 @@ module _ (ds : Decls) (files : List (List ℕ)) (most : ℕ) where
       passed_line (first_line ds s.scope) _ (passed_of (first_line ds s.scope) (of_first s.scope scopes))
       (passed_both (target_lines ds s.scope files most s.lines) _ (of_lines s.scope s.lines named covered)
       (passed_both (called_lines ds s.called) (line_before (last_line s.verdict) []) (of_called s.called none)
-      (passed_line (last_line s.verdict) [] (passed_of (last_line s.verdict) (of_last s.verdict complete)) passed_none)))
+      (passed_line (last_line s.verdict) [] (passed_of (last_line s.verdict) (of_last s.verdict complete))
+      passed_none)))
 
 -- the lines of targets have their names
 of_targets : (targets : List TableTarget) (made : List TargetLine) → AllHave (λ t. IsTrue (is_unbroken t.name)) targets

@@ -17,6 +17,7 @@ use Rattle.cat_audit.specs.Called.{scope_name}
 
 -- ---- words
 
+-- a verdict as it is printed
 abbrev pub verdict_text : Verdict → List ℕ
 verdict_text verdict.Found = codes "Found"
 verdict_text verdict.Masked = codes "Masked"

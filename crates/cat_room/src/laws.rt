@@ -10,9 +10,9 @@ use cat_names::{
 use cat_parse_reach::{expressions_are_read_rightly, tokens_spell_one_program};
 use cat_parse_row::programs_are_read_exactly;
 
-/// Over a shelf that tells what a run reads, some room is enough for each reply that may come to one who asks for a run,
-/// with every status: also where the source is refused or a read fails. The room hangs on the words and the shelf before
-/// the call alone, so that a sink may have it.
+/// Over a shelf that tells what a run reads, some room is enough for each reply that may come to one who asks for a
+/// run, with every status: also where the source is refused or a read fails. The room hangs on the words and the shelf
+/// before the call alone, so that a sink may have it.
 pub fn told_replies_fit()
     ensures runs { (words : List (List ℕ)) (shelf : Shelved) → WhereAsked (ask_of words) (TellsRun shelf)
         → HasRoom words shelf }

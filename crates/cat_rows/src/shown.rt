@@ -20,7 +20,7 @@ pub fn add(text: &mut String, mark: &str, part: &str) -> Result<(), AllocError> 
 
 /// File, line and column.
 pub fn show_pos(alloc: Global, pos: Pos) -> Result<String, AllocError> {
-    let Pos { file, line, column } = pos;
+    let (file, line, column) = (pos.file(), pos.line, pos.column());
     format!(in alloc; "{file}:{line}:{column}")
 }
 

@@ -4,7 +4,7 @@ ghost use Rattle.std.specs.Prelude.{◌<◌, IfOk};
 ghost use Rattle.cat_scope.specs.Names.{AllHave};
 ghost use Rattle.cat_rows_except.specs.inside.Plain.{IsPlain};
 
-use cat_pos::{List, Pos, Text};
+use cat_pos::{COLUMNS_BOUND, List, Pos, Shared, Text};
 use cat_rows::Problem;
 use cat_scope::{Def, Defs, Except, Expr, Label, Literal};
 use cat_value::Target;
@@ -23,11 +23,10 @@ impl<'a> Line<'a> {
     fn pos(self) -> Result<Pos, Problem> {
         let read = self.text.len().saturating_sub(self.rest.len());
         let column = u32::try_from(read).ok().ok_or(Problem::Unreadable)?;
-        Ok(Pos {
-            file: 0,
-            line: self.number,
-            column: column.saturating_add(1),
-        })
+        if column >= COLUMNS_BOUND - 1 {
+            return Err(Problem::Unreadable);
+        }
+        Ok(Pos::new(0, self.number, column + 1))
     }
 
     /// The line behind a word, where the word stands next.
@@ -103,7 +102,7 @@ fn definition(alloc: Global, line: Line<'_>) -> Result<Def, Problem>
         label,
         except,
         condition: None,
-        consequence: Expr::Literal(pos, Literal::Boolean(true)),
+        consequence: Shared::new(alloc, Expr::Literal(pos, Literal::Boolean(true)))?,
         params: 0,
         pos,
     })

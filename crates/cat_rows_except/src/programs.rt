@@ -13,11 +13,7 @@ use std::alloc::{AllocError, Global};
 fn add_variable(alloc: Global, items: &mut ItemDecls, name: &str) -> Result<(), AllocError>
     ensures { OnOk result (items.new ≡ items.old ++ variable name.now ∷ []) }
 {
-    let pos = Pos {
-        file: 0,
-        line: 1,
-        column: 1,
-    };
+    let pos = Pos::new(0, 1, 1);
     items.push(ItemDecl {
         name: Text::from_str(alloc, name)?,
         pos,

@@ -1,5 +1,6 @@
 -- The structures, enumerations and scopes that inputs are read by. A name that has other than ASCII letters is open.
 use Rattle.std.specs.Prelude.{ℕ, false, List, [], ◌∷◌, Option, None, Some, codes}
+use Rattle.cat_pos.specs.Position.{pos_of}
 use Rattle.cat_pos.specs.declared.pos.Pos.{Pos}
 use Rattle.cat_value.specs.declared.ty.Ty.{Ty}
 use Rattle.cat_value.specs.declared.ty.Ty.TheVariants as ty
@@ -13,6 +14,7 @@ use Rattle.cat_value.specs.declared.declaration.Kind.TheVariants as kind
 use Rattle.cat_value.specs.declared.declaration.ItemDecl.{ItemDecl}
 use Rattle.cat_value.specs.declared.declaration.Scope.{Scope}
 
+-- a field, a case and an item of that name and type; positions are not looked at
 abbrev pub field : List ℕ → Ty → Field
 field name t = record { name = name; ty = t }
 
@@ -20,7 +22,7 @@ abbrev pub case : List ℕ → Option Ty → Case
 case name content = record { name = name; content = content }
 
 abbrev pub start : Pos
-start = record { file = 0; line = 1; column = 1 }
+start = pos_of 0 1 1
 
 abbrev pub item : List ℕ → Kind → Ty → ItemDecl
 item name k t = record { name = name; pos = start; kind = k; ty = t; condition = false; params = [] }
@@ -33,6 +35,7 @@ pair = record {
       field (codes "count") ty.Integer ∷ field (codes "flags") (view.List ty.Boolean) ∷ [];
 }
 
+-- a home, the share in which has that name
 abbrev pub home : List ℕ → Structure
 home share = record {
   name = codes "Home";
@@ -48,6 +51,7 @@ individual = record {
   fields = field (codes "income") ty.Money ∷ field (codes "number_of_children") ty.Integer ∷ [];
 }
 
+-- a person with a credit
 abbrev pub person : Structure
 person = record {
   name = codes "Person";
@@ -63,6 +67,7 @@ choice = record {
       ∷ case (codes "One") (Some (ty.Structure 0)) ∷ [];
 }
 
+-- a letter, two cases of which have these names
 abbrev pub letter : List ℕ → List ℕ → Enumeration
 letter plain amount = record {
   name = codes "Letter";
@@ -88,6 +93,7 @@ types_scope = record {
       ∷ item (codes "t") (kind.Called 1) ty.Boolean ∷ [];
 }
 
+-- a scope with an item of each kind
 abbrev pub kinds_scope : Scope
 kinds_scope = record {
   name = codes "Kinds";
@@ -106,6 +112,7 @@ income_tax_scope = record {
       ∷ item (codes "income_tax") kind.Output ty.Money ∷ [];
 }
 
+-- a scope with a list of persons as its input
 abbrev pub tax_scope : Scope
 tax_scope = record {
   name = codes "Tax";
@@ -114,6 +121,7 @@ tax_scope = record {
       ∷ item (codes "total") kind.Output ty.Money ∷ [];
 }
 
+-- the declarations together
 abbrev pub structures : List ℕ → List Structure
 structures share = pair ∷ home share ∷ individual ∷ person ∷ []
 

@@ -100,11 +100,7 @@ fn add_item(
 ) -> Result<(), AllocError>
     ensures { OnOk result (items.new ≡ items.old ++ declared.item name.now kind ty ∷ []) }
 {
-    let pos = Pos {
-        file: 0,
-        line: 1,
-        column: 1,
-    };
+    let pos = Pos::new(0, 1, 1);
     items.push(ItemDecl {
         name: Text::from_str(alloc, name)?,
         pos,

@@ -57,7 +57,7 @@ fn with_word(
 
 /// The offset of a token in a text of one line.
 fn start_of(token: &Token) -> usize {
-    token.pos.column.saturating_sub(1) as usize
+    token.pos.column().saturating_sub(1) as usize
 }
 
 fn answer_of(alloc: Global, text: &str) -> Result<String, Problem> {

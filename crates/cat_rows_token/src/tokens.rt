@@ -1,4 +1,6 @@
 //! Calls that read tokens. The text stands in line 7 of file 3, from column 5 on; what follows `\/` is another piece.
+ghost use Rattle.std.specs.Prelude.{◌≡◌};
+ghost use Rattle.cat_pos.specs.Position.{pos_of};
 
 use crate::sources::tokens_of_two;
 use cat_date::number;
@@ -8,11 +10,12 @@ use cat_pos::Pos;
 use cat_rows::{Arguments, Problem, add, show_pos, spelled};
 use std::alloc::{AllocError, Global};
 
-const START: Pos = Pos {
-    file: 3,
-    line: 7,
-    column: 5,
-};
+/// Where the first piece stands.
+fn start() -> Pos
+    ensures { result ≡ pos_of 3 7 5 }
+{
+    Pos::new(3, 7, 5)
+}
 
 /// The tokens, or the refusal.
 pub fn tokens_answer(alloc: Global, given: &mut Arguments<'_>) -> Result<String, Problem> {
@@ -34,7 +37,7 @@ fn tokens(alloc: Global, text: &str) -> Result<Result<Tokens, LexRefusal>, Probl
     let (first, second) = text.split_once("\\/").unwrap_or((text, ""));
     let first = spelled(alloc, first)?;
     let second = spelled(alloc, second)?;
-    tokens_of_two(alloc, first.as_str(), START, second.as_str())
+    tokens_of_two(alloc, first.as_str(), start(), second.as_str())
 }
 
 fn refused(alloc: Global, refusal: LexRefusal) -> Result<String, Problem> {

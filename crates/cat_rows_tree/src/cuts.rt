@@ -23,7 +23,7 @@ pub fn cuts_answer(alloc: Global, given: &mut Arguments<'_>) -> Result<String, P
 fn reaches(alloc: Global, text: &str, tokens: &[Token], behind: &str) -> Result<String, Problem> {
     let mut reaches: Numbers = List::new(alloc);
     for token in tokens {
-        let start = token.pos.column.saturating_sub(1) as usize;
+        let start = token.pos.column().saturating_sub(1) as usize;
         let front = text.get(..start).ok_or(Problem::Unreadable)?;
         reaches.push(reach_with(alloc, front, behind)?)?;
     }

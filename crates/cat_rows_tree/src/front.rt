@@ -4,7 +4,7 @@ use crate::writer::{Writer, Written};
 use cat_date::number;
 use cat_num::DecimalLiteral;
 use cat_pos::Pos;
-use cat_tree::{Base, CaseName, Literal, Name, Node, Pattern, Type};
+use cat_tree::{Accumulation, Base, CaseName, Literal, Name, Node, Pattern, Type};
 use std::fmt::Debug;
 
 pub fn front(out: &mut Writer, node: &Node) -> Written {
@@ -15,25 +15,29 @@ pub fn front(out: &mut Writer, node: &Node) -> Written {
         Node::Parens(pos, _) => form_front(out, "Parens(", *pos),
         Node::Field(_, name) => name_front(out, "Field(", name),
         Node::Prefixed(prefix, pos, _) => value_front(out, prefix, *pos),
-        Node::Sum(pos, ty, _) => sum_front(out, *pos, ty),
+        Node::Sum(pos, ty, _) => sum_front(out, *pos, ty.get()),
         Node::Content(case, _) => case_front(out, "Content(", case),
-        Node::Call(name, _) => name_front(out, "Call(", name),
+        Node::Call(name, _) => name_front(out, "Call(", name.get()),
         Node::Binary(operator, pos, _, _) => value_front(out, operator, *pos),
-        Node::Test(_, pos, case) => test_front(out, *pos, case),
+        Node::Test(_, pos, case) => test_front(out, *pos, case.get()),
         Node::List(pos, _) => form_front(out, "List(", *pos),
-        Node::Structure(name, _) => name_front(out, "Structure(", name),
+        Node::Structure(name, _) => name_front(out, "Structure(", name.get()),
         Node::ScopeCall(pos, scope, _, output) => names_front(
             out,
             "ScopeCall(",
             *pos,
-            scope,
-            output,
+            scope.get(),
+            output.get(),
         ),
         Node::If(pos, _, _, _) => form_front(out, "If(", *pos),
         Node::Match(pos, _, _) => form_front(out, "Match(", *pos),
-        Node::Each(form, pos, name, _, _) => each_front(out, form, *pos, name),
-        Node::Combine(pos, name, _, held, _, _) => names_front(out, "Combine(", *pos, name, held),
+        Node::Each(form, pos, name, _, _) => each_front(out, form, *pos, name.get()),
+        Node::Combine(words, _, _, _) => combine_front(out, words.get()),
     }
+}
+
+fn combine_front(out: &mut Writer, words: &Accumulation) -> Written {
+    names_front(out, "Combine(", words.pos, &words.element, &words.sum)
 }
 
 fn form_front(out: &mut Writer, form: &str, pos: Pos) -> Written {
@@ -98,8 +102,8 @@ fn write_case(out: &mut Writer, case: &CaseName) -> Written {
     match case {
         CaseName::Bare(name) => name_front(out, "Bare(", name)?,
         CaseName::Qualified(owner, name) => {
-            name_front(out, "Qualified(", owner)?;
-            write_name(out, name)?;
+            name_front(out, "Qualified(", owner.get())?;
+            write_name(out, name.get())?;
         }
     }
     out.mark(")")

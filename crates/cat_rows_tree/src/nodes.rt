@@ -31,16 +31,17 @@ fn write(out: &mut Writer, node: &Node) -> Written {
             write_part(out, one)?;
             write_part(out, two)
         }
-        Node::If(_, one, two, three) | Node::Combine(_, _, one, _, two, three) => {
+        Node::If(_, one, two, three) | Node::Combine(_, one, two, three) => {
             write_part(out, one)?;
             write_part(out, two)?;
             write_part(out, three)
         }
         Node::Call(_, parts) | Node::List(_, parts) => write_nodes(out, parts),
-        Node::Structure(_, fields) | Node::ScopeCall(_, _, fields, _) => write_fields(out, fields),
+        Node::Structure(_, fields) => write_fields(out, fields),
+        Node::ScopeCall(_, _, fields, _) => write_fields(out, fields.get()),
         Node::Match(_, part, arms) => {
             write_part(out, part)?;
-            write_arms(out, arms)
+            write_arms(out, arms.get())
         }
     }
 }

@@ -69,7 +69,7 @@ impl Writer {
     }
 
     fn column(&mut self, pos: Pos) -> Written {
-        let column = format!(in self.alloc; "{}", pos.column)?;
+        let column = format!(in self.alloc; "{}", pos.column())?;
         self.mark(column.as_str())
     }
 }

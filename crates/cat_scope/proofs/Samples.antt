@@ -1,5 +1,6 @@
 -- Programs for the examples, written out with the positions of their sources.
 use Rattle.std.proofs.Common.{ℕ, pos, true, false, List, [], ◌∷◌, Option, None, Some}
+use Rattle.cat_pos.specs.Position.{pos_of}
 use Rattle.cat_pos.specs.declared.pos.Pos.{Pos}
 use Rattle.cat_date.specs.declared.rounding.Rounding.TheVariants.{Refuse}
 use Rattle.cat_value.specs.declared.ty.Ty.TheVariants as ty
@@ -22,7 +23,7 @@ use Rattle.cat_scope.specs.declared.defs.SourcePart.TheVariants.{Declaration, De
 use Rattle.cat_scope.specs.declared.defs.Body.{Body}
 
 abbrev pub at : ℕ → ℕ → Pos
-at l c = record { file = 0; line = l; column = c }
+at l c = pos_of 0 l c
 
 -- labels, each one letter
 abbrev pub a : Pos → Label

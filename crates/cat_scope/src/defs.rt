@@ -1,7 +1,7 @@
 // The definitions of a program and their exceptions.
 use crate::Expr;
 use cat_date::Rounding;
-use cat_pos::{List, Numbers, Pos, Text};
+use cat_pos::{List, Numbers, Pos, Shared, Text};
 use cat_value::Target;
 
 /// A label, with the position of its word.
@@ -22,14 +22,14 @@ pub enum Except {
 }
 
 /// A definition or a rule. Its condition is joined with that of its block; there is none where it always holds. Its
-/// position is that of the word `definition` or `rule`.
+/// position is that of the word `definition` or `rule`. Default terms share its expressions.
 #[derive(Debug, Drop)]
 pub struct Def {
     pub target: Target,
     pub label: Option<Label>,
     pub except: Except,
-    pub condition: Option<Expr>,
-    pub consequence: Expr,
+    pub condition: Option<Shared<Expr>>,
+    pub consequence: Shared<Expr>,
     /// How many parameters it names.
     pub params: u32,
     pub pos: Pos,
@@ -39,7 +39,7 @@ pub type Defs = List<Def>;
 
 #[derive(Debug, Drop)]
 pub struct Assertion {
-    pub condition: Expr,
+    pub condition: Shared<Expr>,
     /// The position of the word `assertion`.
     pub keyword: Pos,
 }

@@ -37,7 +37,7 @@ pub enum Expr {
     And(Pos, Boxed<Expr>, Boxed<Expr>),
     Or(Pos, Boxed<Expr>, Boxed<Expr>),
     If(Pos, Boxed<Expr>, Boxed<Expr>, Boxed<Expr>),
-    Match(Pos, Boxed<Expr>, Arms),
+    Match(Pos, Boxed<Expr>, Boxed<Arms>),
     /// `e with pattern C`: whether e is that case of that enumeration.
     IsCase(Pos, Boxed<Expr>, u32, u32),
     /// A case of an enumeration, with its content where it has one.
@@ -63,7 +63,7 @@ pub enum Expr {
     Call(Pos, u32, Exprs),
     /// `output of U with { .. } . w`: the scope, its inputs and contexts by their numbers among its items, in written
     /// order, and the number of w among its outputs.
-    ScopeCall(Pos, u32, FieldValues, u32),
+    ScopeCall(Pos, u32, Boxed<FieldValues>, u32),
 }
 
 pub type Exprs = List<Expr>;

@@ -1,6 +1,7 @@
 -- A searched tree has at most as many leaves and rests as its target has cells.
 use Rattle.std.proofs.Common.{◌≡◌, ◌⊎◌, inl, inr, ℕ, zero, suc, ◌+◌, ◌*◌, ◌<◌, ◌≤◌, ◌==◌, nat_eq, Bool, true, false}
-use Rattle.std.proofs.Common.{IsTrue, if◌then◌else◌, List, [], ◌∷◌, ◌++◌, length, Option, Some, None, slice_get, refl, sym, ap}
+use Rattle.std.proofs.Common.{IsTrue, if◌then◌else◌, List, [], ◌∷◌, ◌++◌, length, Option, Some, None, slice_get, refl}
+use Rattle.std.proofs.Common.{sym, ap}
 use Rattle.std.proofs.Common.{◌∙◌, subst, true≢false, arith, ℤ}
 use Rattle.std.specs.Prelude.{◌||◌, ◌&&◌}
 use Rattle.std.specs.List.{list_any}

@@ -11,6 +11,7 @@ use Rattle.cat_shared.specs.declared.shared.Node.TheVariants as node
 use Rattle.cat_shared.specs.declared.shared.Shared.TheDeep.{deep-Node}
 use Rattle.cat_shared.specs.Nodes.{value_in}
 
+-- the height of a list, a structure and a case is one more than that of what is in it
 pub height_List : (vs : List Value) → value_height (value.List vs) ≡ 1 + greatest (map value_height vs)
 unfolding value_height
 height_List vs = search (rules, value.the_lemmas, fold_out-Value ℕ height_at)
@@ -27,6 +28,7 @@ most_below : (vs : List Value) → most (λ v. value_height v + 1) vs ≤ 1 + gr
 most_below [] = omega arith
 most_below (v ∷ vs) = omega (arith, most_below vs)
 
+-- a shared value is no deeper than the value that it means is high
 pub node_falls : (n : Node) → deep-Node n ≤ value_height (value_in n)
 node_falls (node.Boolean b) = omega arith
 node_falls (node.Integer n) = omega arith

@@ -5,6 +5,7 @@ use Rattle.cat_value.specs.declared.value.Value.TheViews.{out-Value}
 use Rattle.cat_shared.specs.declared.shared.Scalar.{Scalar}
 use Rattle.cat_shared.specs.declared.shared.Scalar.TheVariants as scalar
 
+-- the scalar that a value is
 abbrev pub scalar_in : Value-F Value → Scalar
 scalar_in (Value-F.Boolean b) = scalar.Boolean b
 scalar_in (Value-F.Integer n) = scalar.Integer n

@@ -57,7 +57,7 @@ pub fn with_key(
         Expr::And(_, left, right) => two(alloc, key, place, 7, &[], left.get(), right.get()),
         Expr::Or(_, left, right) => two(alloc, key, place, 8, &[], left.get(), right.get()),
         Expr::If(_, test, yes, no) => three(alloc, key, place, 9, test.get(), yes.get(), no.get()),
-        Expr::Match(_, of, arms) => matched(alloc, key, place, of.get(), arms),
+        Expr::Match(_, of, arms) => matched(alloc, key, place, of.get(), arms.get()),
         Expr::IsCase(_, of, ty, case) => {
             one(alloc, key, place, 11, &[*ty as u64, *case as u64], of.get())
         }
@@ -79,7 +79,7 @@ pub fn with_key(
         Expr::Sum(_, kind, list) => one(alloc, key, place, 22, &[sum_number(*kind)], list.get()),
         Expr::Call(_, function, all) => each(alloc, key, place, 23, &[*function as u64], all),
         Expr::ScopeCall(_, scope, fields, output) => {
-            call(alloc, key, place, *scope, *output, fields)
+            call(alloc, key, place, *scope, *output, fields.get())
         }
     }
 }

@@ -4,6 +4,7 @@ use Rattle.cat_pos.specs.declared.pos.Pos.{Pos}
 use Rattle.cat_lex.specs.declared.words.Keyword.TheVariants as key
 use Rattle.cat_lex.specs.declared.words.DoubleKeyword.TheVariants as pair
 use Rattle.cat_lex.specs.declared.symbol.Symbol.TheVariants as symbol
+use Rattle.cat_tree.specs.Accumulation.{accumulation}
 use Rattle.cat_tree.specs.declared.name.Name.{Name}
 use Rattle.cat_tree.specs.declared.name.CaseName.{CaseName}
 use Rattle.cat_tree.specs.declared.name.Type as types
@@ -259,7 +260,8 @@ phrase_Each k p w l e = search (
       phrase_step arm_step field_step,
 )
 
-pub phrase_Combine : (p : Pos) (w : Name) (l : Node) (acc : Name) (s e : Node) → phrase (node.Combine p w l acc s e)
+pub phrase_Combine : (p : Pos) (w : Name) (l : Node) (acc : Name) (s e : Node)
+    → phrase (node.Combine (accumulation p w acc) l s e)
     ≡ Row form (pair_at pair.CombineAll p ▹ lower w ▹ «word» key.Among ▹ part 0 (phrase l) ▹ «word» key.In ▹ lower acc ▹
     «word» key.Initially ▹ part 0 (phrase s) ▹ «word» key.With ▹ part 0 (phrase e) ▹ End)
 unfolding phrase

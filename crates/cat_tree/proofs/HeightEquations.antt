@@ -4,6 +4,7 @@ use Rattle.std.proofs.Math.Nat.{max-zero}
 use Rattle.cat_pos.specs.declared.pos.Pos.{Pos}
 use Rattle.cat_lex.specs.declared.symbol.Symbol.{Symbol}
 use Rattle.cat_lex.specs.declared.symbol.Symbol.TheVariants as symbol
+use Rattle.cat_tree.specs.Accumulation.{accumulation}
 use Rattle.cat_tree.specs.declared.name.Name.{Name}
 use Rattle.cat_tree.specs.declared.name.CaseName.{CaseName}
 use Rattle.cat_tree.specs.declared.name.CaseName.TheVariants.{Bare, Qualified}
@@ -160,7 +161,8 @@ pub part_Each : (k : Each) (p : Pos) (w : Name) (l e : Node) → highest_part (n
     (height_of e)
 part_Each k p w l e = rw (phrase_Each k p w l e) (each_high k p w (phrase l) (phrase e))
 
-pub part_Combine : (p : Pos) (w : Name) (l : Node) (acc : Name) (s e : Node) → highest_part (node.Combine p w l acc s e)
+pub part_Combine : (p : Pos) (w : Name) (l : Node) (acc : Name) (s e : Node)
+    → highest_part (node.Combine (accumulation p w acc) l s e)
     ≡ max (height_of l) (max (height_of s) (height_of e))
 part_Combine p w l acc s e = rw (phrase_Combine p w l acc s e) (omega arith)
 

@@ -41,9 +41,9 @@ phrase_step (Node-F.If p c t e) =
 phrase_step (Node-F.Match p e more) =
     Row (match_of more) (key_at key.Match p ▹ part 0 e ▹ words pair.WithPattern ▹ arms more)
 phrase_step (Node-F.Each k p w l e) = Row form (each_parts k p w l e)
-phrase_step (Node-F.Combine p w l acc start e) =
-    Row form (pair_at pair.CombineAll p ▹ lower w ▹ «word» key.Among ▹ part 0 l ▹ «word» key.In ▹ lower acc ▹ «word»
-    key.Initially ▹ part 0 start ▹ «word» key.With ▹ part 0 e ▹ End)
+phrase_step (Node-F.Combine c l start e) =
+    Row form (pair_at pair.CombineAll c.pos ▹ lower c.element ▹ «word» key.Among ▹ part 0 l ▹ «word» key.In
+    ▹ lower c.sum ▹ «word» key.Initially ▹ part 0 start ▹ «word» key.With ▹ part 0 e ▹ End)
 
 -- a field, with how its value is spelled
 abbrev pub field_step : FieldValue-F Phrase (Pattern × Phrase) (Name × Phrase) → Name × Phrase

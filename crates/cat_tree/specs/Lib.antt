@@ -1,3 +1,4 @@
+pub mod Accumulation
 pub mod Spells
 pub mod Grammar
 pub mod Rows

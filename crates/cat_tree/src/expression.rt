@@ -93,25 +93,33 @@ pub enum Node {
     Field(Boxed<Node>, Name),
     Prefixed(Prefix, Pos, Boxed<Node>),
     /// `sum T of e`
-    Sum(Pos, Type, Boxed<Node>),
+    Sum(Pos, Boxed<Type>, Boxed<Node>),
     /// `C content e`
     Content(CaseName, Boxed<Node>),
     /// `w of a, b`
-    Call(Name, Nodes),
+    Call(Boxed<Name>, Nodes),
     Binary(Operator, Pos, Boxed<Node>, Boxed<Node>),
     /// `e with pattern C`
-    Test(Boxed<Node>, Pos, CaseName),
+    Test(Boxed<Node>, Pos, Boxed<CaseName>),
     /// `[ a ; b ]`
     List(Pos, Nodes),
     /// `U { -- w : e }`
-    Structure(Name, FieldValues),
+    Structure(Boxed<Name>, FieldValues),
     /// `output of U with { -- w : e } . w`
-    ScopeCall(Pos, Name, FieldValues, Name),
+    ScopeCall(Pos, Boxed<Name>, Boxed<FieldValues>, Boxed<Name>),
     If(Pos, Boxed<Node>, Boxed<Node>, Boxed<Node>),
-    Match(Pos, Boxed<Node>, Arms),
-    Each(Each, Pos, Name, Boxed<Node>, Boxed<Node>),
+    Match(Pos, Boxed<Node>, Boxed<Arms>),
+    Each(Each, Pos, Boxed<Name>, Boxed<Node>, Boxed<Node>),
     /// `combine all w among E in w initially E with E`
-    Combine(Pos, Name, Boxed<Node>, Name, Boxed<Node>, Boxed<Node>),
+    Combine(Boxed<Accumulation>, Boxed<Node>, Boxed<Node>, Boxed<Node>),
+}
+
+/// What `combine` binds: the name of an element, and that of what was combined before.
+#[derive(Debug, Drop)]
+pub struct Accumulation {
+    pub pos: Pos,
+    pub element: Name,
+    pub sum: Name,
 }
 
 /// A field of a literal or of a scope call.

@@ -36,14 +36,14 @@ fn highest_part(e: &Node) -> u32
         Node::Test(tested, _, _) => height_in(tested),
         Node::List(_, elements) => highest_node(elements),
         Node::Structure(_, fields) => highest_value(fields),
-        Node::ScopeCall(_, _, fields, _) => highest_value(fields),
+        Node::ScopeCall(_, _, fields, _) => highest_value(fields.get()),
         Node::If(_, test, yes, no) => higher(
             height_in(test),
             higher(height_in(yes), height_in(no)),
         ),
-        Node::Match(_, tested, arms) => higher(height_in(tested), highest_body(arms)),
+        Node::Match(_, tested, arms) => higher(height_in(tested), highest_body(arms.get())),
         Node::Each(_, _, _, list, body) => higher(height_in(list), height_in(body)),
-        Node::Combine(_, _, list, _, start, body) => higher(
+        Node::Combine(_, list, start, body) => higher(
             height_in(list),
             higher(height_in(start), height_in(body)),
         ),

@@ -7,7 +7,8 @@ mod name;
 mod program;
 
 pub use expression::{
-    Arm, Arms, Each, FieldValue, FieldValues, Literal, Node, Nodes, Operator, Pattern, Prefix, Unit,
+    Accumulation, Arm, Arms, Each, FieldValue, FieldValues, Literal, Node, Nodes, Operator,
+    Pattern, Prefix, Unit,
 };
 pub use heights::height;
 pub use name::{Base, CaseName, Name, Type};

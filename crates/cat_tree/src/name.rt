@@ -1,6 +1,8 @@
 // Names and types as they are written.
+ghost use Rattle.std.specs.Prelude.{◌≡◌, IfOk};
 
-use cat_pos::{Pos, Text};
+use cat_pos::{Boxed, Pos, Text};
+use std::alloc::AllocError;
 
 /// A word that names something, with its position.
 #[derive(Debug, Drop)]
@@ -9,12 +11,24 @@ pub struct Name {
     pub pos: Pos,
 }
 
+impl Name {
+    pub fn copy(&self) -> Result<Name, AllocError>
+        ensures { IfOk result (λ copied. copied ≡ self.now) }
+    {
+        let text = self.text.copy()?;
+        Ok(Name {
+            text,
+            pos: self.pos,
+        })
+    }
+}
+
 /// How a case is named: by its own word, or behind its enumeration's.
 #[derive(Debug, Drop)]
 pub enum CaseName {
     Bare(Name),
     /// The enumeration, then the case.
-    Qualified(Name, Name),
+    Qualified(Boxed<Name>, Boxed<Name>),
 }
 
 /// What a type is once each `list of` before it is taken off.

@@ -1,5 +1,5 @@
-//! What holds of the names that a source declares: no line feed and no hyphen stands in one. Each law is the contract of
-//! a function.
+//! What holds of the names that a source declares: no line feed and no hyphen stands in one. Each law is the contract
+//! of a function.
 #![tactic(auto)]
 
 mod laws;

@@ -132,7 +132,7 @@ StartsLine file m segment = IsLineStart file m (segment_position segment)
 one_start : (file n m : ℕ) (segment : Segment) → segment_position segment ≡ line_position file n → n ≤ m →
     All (StartsLine file m) (segment ∷ [])
 one_start file n m segment is below =
-    All-cons (StartsLine file m) segment [] (rw is (record { same_file = refl; within = below; first_column = refl }))
+    All-cons (StartsLine file m) segment [] (rw is (record { begins = refl; within = below }))
     (All-nil (StartsLine file m))
 
 start_segment : (file n m : ℕ) (after : Bool) (line : Kind) (lines : List Kind) → n ≤ m →

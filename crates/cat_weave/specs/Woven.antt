@@ -3,7 +3,7 @@ use Rattle.std.specs.Prelude.{◌≡◌, ℕ, ◌+◌, ◌≤◌, Bool, true, fa
 use Rattle.std.specs.Prelude.{Option, Some, None, All, if◌then◌else◌}
 use Rattle.std.specs.Str.{is_utf8}
 use Rattle.std.specs.Str.Lossy.{utf8_valid_len}
-use Rattle.cat_pos.specs.Position.{position_of}
+use Rattle.cat_pos.specs.Position.{pos_of, position_of}
 use Rattle.cat_pos.specs.declared.pos.Pos.{Pos}
 use Rattle.cat_weave.specs.Lines.{lines_of}
 use Rattle.cat_weave.specs.Kinds.{Kind, OpeningLine, CodeLine, ClosingLine, HeadingLine, IncludeLine, kinds_of}
@@ -15,7 +15,7 @@ use Rattle.cat_weave.specs.declared.segment.WeaveRefusal.TheVariants.{NotUtf8, F
 
 -- where line n begins
 abbrev pub line_position : ℕ → ℕ → Pos
-line_position file n = record { file = file; line = n; column = 1 }
+line_position file n = pos_of file n 1
 
 -- the text of the code lines that these lines begin with
 unfoldable pub code_text : List Kind → List ℕ
@@ -87,9 +87,8 @@ segment_position (Include path pos) = pos
 
 -- a segment stands at a line's beginning, at most so far down in its file
 pub record IsLineStart (file lines : ℕ) (pos : Pos) : Type 0 where
-  pub same_file : pos.file ≡ file
+  pub begins : pos ≡ line_position file pos.line
   pub within : pos.line ≤ lines
-  pub first_column : pos.column ≡ 1
 
 -- segments of a file of at most so many bytes
 pub record AreWithin (size file : ℕ) (segments : List Segment) : Type 0 where

@@ -11,15 +11,19 @@ fn shown(alloc: Global, segments: &Segments) -> Result<String, AllocError> {
     for segment in segments.as_slice() {
         let text = match segment {
             Segment::Code(piece) => {
-                let (line, column, text) = (piece.pos.line, piece.pos.column, piece.text.as_str());
+                let (line, column, text) = (
+                    piece.pos.line,
+                    piece.pos.column(),
+                    piece.text.as_str(),
+                );
                 format!(in alloc; "code {line}:{column} {text};")?
             }
             Segment::Heading(level, text, pos) => {
-                let (line, column, text) = (pos.line, pos.column, text.as_str());
+                let (line, column, text) = (pos.line, pos.column(), text.as_str());
                 format!(in alloc; "{level} {line}:{column} {text};")?
             }
             Segment::Include(path, pos) => {
-                let (line, column, path) = (pos.line, pos.column, path.as_str());
+                let (line, column, path) = (pos.line, pos.column(), path.as_str());
                 format!(in alloc; "include {line}:{column} {path};")?
             }
         };
@@ -48,11 +52,7 @@ fn a_faulty_source_is_refused_at_its_first_fault(rt: HostRuntime) -> Result<(), 
     let alloc = rt.alloc();
     let cut = weave(alloc, b"law\n```catala\n\xe2\x82", 7).err();
     let open = weave(alloc, b"```catala\n```\n```catala", 7).err();
-    let pos = Pos {
-        file: 7,
-        line: 3,
-        column: 1,
-    };
+    let pos = Pos::new(7, 3, 1);
     assert_eq!(rt; cut, Some(WeaveRefusal::NotUtf8(pos)));
     assert_eq!(rt; open, Some(WeaveRefusal::FenceOpen(pos)));
     Ok(())

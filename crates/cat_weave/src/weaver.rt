@@ -1,6 +1,7 @@
 // Segments out of lines.
 ghost use Rattle.std.specs.Prelude.{◌≡◌, ◌≢◌, ◌+◌, ◌<◌, ◌≤◌, false, length, Err, IfOk, IfErr, MatchOption, MatchResult};
 ghost use Rattle.std.specs.Prelude.{IfSome, ◌∷◌};
+ghost use Rattle.cat_pos.specs.Position.{pos_file};
 ghost use Rattle.cat_weave.specs.Woven.{woven, woven_lines, line_position, closes, AreWithin};
 ghost use Rattle.cat_weave.specs.Kinds.{ClosingLine};
 ghost use Rattle.cat_weave.specs.inside.Reading.{law_kinds, block_kinds, code_segment, IsCodeBefore, IsStep, IsOpen};
@@ -8,12 +9,13 @@ ghost use Rattle.std.specs.Option.{option_to_list};
 
 use crate::line::{Line, bare, first_line, law_line};
 use crate::{Segment, WeaveRefusal, Woven};
-use cat_pos::{List, MOST_FILE_BYTES, Piece, Pos, Text, pos_at};
+use cat_pos::{List, MOST_FILE_BYTES, MOST_FILES, Piece, Pos, Text, pos_at};
 use std::alloc::{AllocError, Global};
 
 /// The segments of a file.
 pub fn weave(alloc: Global, bytes: &[u8], file: u32) -> Result<Woven, WeaveRefusal>
-    requires { length bytes.now ≤ MOST_FILE_BYTES }
+    requires short { length bytes.now ≤ MOST_FILE_BYTES }
+    requires file { file < MOST_FILES }
     ensures gives { result ≢ Err WeaveRefusal.Memory → result ≡ woven bytes.now file }
     ensures within { IfOk result (λ woven. AreWithin (length bytes.now) file woven.segments) }
 {
@@ -24,7 +26,8 @@ pub fn weave(alloc: Global, bytes: &[u8], file: u32) -> Result<Woven, WeaveRefus
 }
 
 fn woven_text(alloc: Global, text: &str, file: u32) -> Result<Woven, WeaveRefusal>
-    requires { length text.now ≤ MOST_FILE_BYTES }
+    requires short { length text.now ≤ MOST_FILE_BYTES }
+    requires file { file < MOST_FILES }
     ensures gives { result ≢ Err WeaveRefusal.Memory → result ≡ woven_lines file (law_kinds text.now) }
     ensures within { IfOk result (λ woven. AreWithin (length text.now) file woven.segments) }
 {
@@ -57,6 +60,7 @@ struct Step<'a> {
 fn next_step(alloc: Global, rest: &str, file: u32, line: u32) -> Result<Step<'_>, WeaveRefusal>
     requires some { 0 < length rest.now }
     requires short { line + length rest.now ≤ MOST_FILE_BYTES + 1 }
+    requires file { file < MOST_FILES }
     ensures gives { MatchResult result
         (λ s. IsStep file line (law_kinds rest.now) s.segment s.lines (law_kinds s.after.now))
         (λ e. IsOpen file line (law_kinds rest.now) e) }
@@ -64,11 +68,7 @@ fn next_step(alloc: Global, rest: &str, file: u32, line: u32) -> Result<Step<'_>
     ensures goes_on { IfOk result (λ s. 0 < s.lines) }
 {
     let (text, after) = first_line(rest);
-    let pos = Pos {
-        file,
-        line,
-        column: 1,
-    };
+    let pos = Pos::new(file, line, 1);
     match law_line(bare(text)) {
         Line::Law => Ok(line_step(None, after)),
         Line::Opening => block_step(alloc, after, pos),
@@ -99,7 +99,7 @@ fn block_step(alloc: Global, text: &str, opening: Pos) -> Result<Step<'_>, Weave
     ensures gives { MatchResult result
         (λ s. (code : _) × (count : _) × IsCodeBefore (block_kinds text.now) code count
         (ClosingLine ∷ law_kinds s.after.now)
-        × (option_to_list s.segment ≡ code_segment (line_position opening.file (opening.line + 1)) code count)
+        × (option_to_list s.segment ≡ code_segment (line_position (pos_file opening) (opening.line + 1)) code count)
         × (s.lines ≡ count + 2))
         (λ e. e ≢ WeaveRefusal.Memory → (e ≡ WeaveRefusal.FenceOpen opening)
         × (closes (block_kinds text.now) ≡ false)) }
@@ -125,17 +125,13 @@ fn piece_of(
 ) -> Result<Option<Segment>, AllocError>
     requires { opening.line < MOST_FILE_BYTES }
     ensures { IfOk result (λ segment. option_to_list segment
-        ≡ code_segment (line_position opening.file (opening.line + 1)) code.now code_lines) }
+        ≡ code_segment (line_position (pos_file opening) (opening.line + 1)) code.now code_lines) }
 {
     if code_lines == 0 {
         return Ok(None);
     }
     let text = Text::from_str(alloc, code)?;
-    let pos = Pos {
-        file: opening.file,
-        line: opening.line + 1,
-        column: 1,
-    };
+    let pos = Pos::new(opening.file(), opening.line + 1, 1);
     Ok(Some(Segment::Code(Piece { text, pos })))
 }
 

@@ -13,6 +13,7 @@ pub record Asked : Type 0 where
   pub file : Text
   pub extra : Option Text
 
+-- what a command line asks
 abbrev pub asked_of : CommandLine → Asked
 asked_of line = record {
   mode = line.mode.now;
@@ -21,6 +22,7 @@ asked_of line = record {
   extra = option_map (λ word. word.now) line.extra;
 }
 
+-- a word that may be left out, as a text
 abbrev pub text_in : Option (Bor Text) → Option Text
 text_in = option_map (λ word. word.now)
 

@@ -54,7 +54,8 @@ fn cases_of(matches: &ArgMatches<'_>) -> u32
 /// What was found for each word.
 fn found<'a>(matches: &ArgMatches<'a>) -> Option<CommandLine<'a>>
     ensures asked { option_map asked_of result ≡ found_in (rows_of (found_of matches.now)) }
-    ensures cases { IfSome result (λ line. IsCases (one_of (codes "cases") (rows_of (found_of matches.now))) line.cases) }
+    ensures cases { IfSome result (λ line.
+        IsCases (one_of (codes "cases") (rows_of (found_of matches.now))) line.cases) }
 {
     line_of(
         matches.get_str("MODE"),

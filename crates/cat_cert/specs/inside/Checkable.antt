@@ -28,6 +28,7 @@ abbrev pub IsLow : ℕ → Option Tree → Type 0
 IsLow most None = Unit {0}
 IsLow most (Some t) = height t ≤ most
 
+-- the tree of a target is no higher than that, where there is one
 abbrev pub IsUpTo : ℕ → CertTree → Type 0
 IsUpTo most c = IsLow most (expanded c.tree)
 

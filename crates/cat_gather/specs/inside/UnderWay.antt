@@ -1,6 +1,7 @@
 -- What the code keeps while it gathers.
 use Rattle.std.specs.Prelude.{◌≡◌, ℕ, ◌+◌, ◌-◌, ◌<◌, ◌≤◌, true, List, ◌++◌, length, All, Result, Ok, Err, Vec}
 use Rattle.std.specs.declared.alloc.Global.{Global}
+use Rattle.cat_pos.specs.Position.{pos_file, pos_column}
 use Rattle.cat_pos.specs.Readable.{AreReadable}
 use Rattle.cat_pos.specs.declared.limits.TheConstants.{MOST_FILES, MOST_FILE_BYTES, MOST_SOURCE_BYTES}
 use Rattle.cat_io.specs.Shelf.{Shelved, Gives, Keeps, Reads}
@@ -22,9 +23,9 @@ gathered_of g = record { files = g.files; bytes = g.bytes; pieces = g.pieces; he
 
 -- a segment that stands in a file taken, at the beginning of a line
 pub record IsInFiles (files : ℕ) (segment : Segment) : Type 0 where
-  pub file : (segment_position segment).file < files
+  pub file : pos_file (segment_position segment) < files
   pub line : (segment_position segment).line ≤ MOST_FILE_BYTES
-  pub column : (segment_position segment).column ≡ 1
+  pub column : pos_column (segment_position segment) ≡ 1
   pub size : code_size segment ≤ MOST_FILE_BYTES
 
 -- the bounds of what is gathered and of these segments to come

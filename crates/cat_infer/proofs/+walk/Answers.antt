@@ -134,7 +134,8 @@ lists::infer_arguments-loop-number-preserved t c =
           (drop (l.number + 1) a.params.now)) ≡ arguments_of ms a.args.now a.locals.now a.params.now) (sym pushed)
           (argument_on ms a.args.now a.params.now l.number arg c.in-Some.ty.now a.locals.now l.made
           (arguments_of ms a.args.now a.locals.now a.params.now) x within
-          (sym (c.arg-item.is ∙ ap (λ es. get_or es l.number arg) c.as_slice-arg-items.ensures)) at found l.invariant.1),
+          (sym (c.arg-item.is ∙ ap (λ es. get_or es l.number arg) c.as_slice-arg-items.ensures)) at found
+          l.invariant.1),
     )
 
 pub lists::infer_scope_call-returns-in_err-output-clause-told :
@@ -182,14 +183,18 @@ binders::infer_more_arms-returns-in_err-arm-clause-told t c =
     let ns = names_at c.args.here.now in
     let ls = c.args.locals.now in
     let ty = c.args.ty.now in
-    let of = c.args.of in
+    let place = c.args.place in
+    let enumeration = c.args.enumeration in
     let within : l.arm-index < length c.args.arms.now = search rules in
-    let told : Tells {A = Arm × Ty} (Err c.in_err-arm.field-0.0) (arm_of ns of.0 of.1 (arm_meant ns arm) ls (Some ty)) =
+    let told : Tells {A = Arm × Ty} (Err c.in_err-arm.field-0.0)
+    (arm_of ns place enumeration (arm_meant ns arm) ls (Some ty)) =
     subst (λ under. Tells {A = Arm × Ty} (Err c.in_err-arm.field-0.0)
-    (arm_of ns of.0 of.1 (arm_meant ns arm) under (Some ty))) l.invariant.0 c.in_err-arm.ensures.told in
-    rw (p.1, p.2) (turn_off (λ a. arm_of ns of.0 of.1 (arm_meant ns a) ls (Some ty)) (λ x. x.0)
-    (λ arms. all_arms (arm_meant ns) ns of.0 of.1 arms ls ty) (λ a arms. refl) c.args.arms.now l.arm-index arm l.made
-    (behind c.args.made (all_arms (arm_meant ns) ns of.0 of.1 c.args.arms.now ls ty)) c.in_err-arm.field-0.0 within
+    (arm_of ns place enumeration (arm_meant ns arm) under (Some ty))) l.invariant.0 c.in_err-arm.ensures.told in
+    rw (p.1, p.2) (turn_off (λ a. arm_of ns place enumeration (arm_meant ns a) ls (Some ty)) (λ x. x.0)
+    (λ arms. all_arms (arm_meant ns) ns place enumeration arms ls ty) (λ a arms. refl) c.args.arms.now l.arm-index
+    arm l.made
+    (behind c.args.made (all_arms (arm_meant ns) ns place enumeration c.args.arms.now ls ty)) c.in_err-arm.field-0.0
+    within
     (sym c.arm-item.is) told l.invariant.1)
 
 pub binders::infer_more_arms-loop-arm-preserved : goal.binders::infer_more_arms-loop-arm-preserved
@@ -199,17 +204,21 @@ binders::infer_more_arms-loop-arm-preserved t c =
     let ns = names_at c.args.here.now in
     let ls = c.args.locals.now in
     let ty = c.args.ty.now in
-    let of = c.args.of in
+    let place = c.args.place in
+    let enumeration = c.args.enumeration in
     let made : Arm × Ty = (c.in_ok-arm.arm, c.in_ok-arm.field-0-1) in
     let within : l.arm-index < length c.args.arms.now = search rules in
-    let found : arm_of ns of.0 of.1 (arm_meant ns arm) ls (Some ty) ≡ Ok made =
-    subst (λ under. arm_of ns of.0 of.1 (arm_meant ns arm) under (Some ty) ≡ Ok made) l.invariant.0
+    let found : arm_of ns place enumeration (arm_meant ns arm) ls (Some ty) ≡ Ok made =
+    subst (λ under. arm_of ns place enumeration (arm_meant ns arm) under (Some ty) ≡ Ok made) l.invariant.0
     c.in_ok-arm.ensures.told in (
       search rules,
-      subst (λ now. behind now (all_arms (arm_meant ns) ns of.0 of.1 (drop (l.arm-index + 1) c.args.arms.now) ls ty)
-          ≡ behind c.args.made (all_arms (arm_meant ns) ns of.0 of.1 c.args.arms.now ls ty)) (sym c.in_ok-push.ensures.ok)
-          (turn_on (λ a. arm_of ns of.0 of.1 (arm_meant ns a) ls (Some ty)) (λ x. x.0)
-          (λ arms. all_arms (arm_meant ns) ns of.0 of.1 arms ls ty) (λ a arms. refl) c.args.arms.now l.arm-index arm l.made
-          (behind c.args.made (all_arms (arm_meant ns) ns of.0 of.1 c.args.arms.now ls ty)) made within
+      subst (λ now. behind now (all_arms (arm_meant ns) ns place enumeration (drop (l.arm-index + 1) c.args.arms.now)
+          ls ty)
+          ≡ behind c.args.made (all_arms (arm_meant ns) ns place enumeration c.args.arms.now ls ty))
+          (sym c.in_ok-push.ensures.ok)
+          (turn_on (λ a. arm_of ns place enumeration (arm_meant ns a) ls (Some ty)) (λ x. x.0)
+          (λ arms. all_arms (arm_meant ns) ns place enumeration arms ls ty) (λ a arms. refl) c.args.arms.now l.arm-index
+          arm l.made
+          (behind c.args.made (all_arms (arm_meant ns) ns place enumeration c.args.arms.now ls ty)) made within
           (sym c.arm-item.is) found l.invariant.1),
     )

@@ -117,7 +117,8 @@ invariant-lists::infer_values-loop-field l = (l.locals ≡ l.fn.locals)
 
 abbrev pub invariant-binders::infer_more_arms-loop-arm : goal.invariant-binders::infer_more_arms-loop-arm
 invariant-binders::infer_more_arms-loop-arm l = (l.locals ≡ l.fn.locals)
-    × (behind l.made (all_arms (arm_meant (names_at l.here)) (names_at l.here) l.of.0 l.of.1
+    × (behind l.made (all_arms (arm_meant (names_at l.here)) (names_at l.here) l.place l.enumeration
     (drop l.arm-index l.arms) l.fn.locals l.ty)
-    ≡ behind l.fn.made (all_arms (arm_meant (names_at l.here)) (names_at l.here) l.of.0 l.of.1 l.arms l.fn.locals
+    ≡ behind l.fn.made (all_arms (arm_meant (names_at l.here)) (names_at l.here) l.place l.enumeration l.arms
+    l.fn.locals
     l.ty))

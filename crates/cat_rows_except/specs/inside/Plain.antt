@@ -1,5 +1,6 @@
 -- Programs whose definitions hold always and are true.
 use Rattle.std.specs.Prelude.{◌≡◌, ◌<◌, ℕ, false, true, List, [], ◌∷◌, length, replicate, None, codes}
+use Rattle.cat_pos.specs.Position.{pos_of}
 use Rattle.cat_date.specs.declared.rounding.Rounding.TheVariants.{Up}
 use Rattle.cat_value.specs.declared.ty.Ty.TheVariants.{Boolean}
 use Rattle.cat_value.specs.declared.declaration.Kind.TheVariants.{Output}
@@ -23,7 +24,7 @@ pub record IsPlain (d : Def) : Type 0 where
 abbrev pub variable : List ℕ → ItemDecl
 variable name = record {
   name = name;
-  pos = record { file = 0; line = 1; column = 1 };
+  pos = pos_of 0 1 1;
   kind = Output;
   ty = Boolean;
   condition = false;

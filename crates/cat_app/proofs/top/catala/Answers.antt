@@ -16,19 +16,22 @@ returns-clause-a_reply_comes_only_where_no_count_rose g c is =
 pub returns-clause-a_run_writes_the_outcome : goal.returns-clause-a_run_writes_the_outcome
 returns-clause-a_run_writes_the_outcome g c request source program scope input run =
     ends_run c.pieces_have_one_program.ensures c.refused_pieces_are_not_accepted.ensures
-    c.told_sources_are_gathered.ensures.endings c.told_sources_are_gathered.ensures.files (texts_of c.args.words.now) _ _
+    c.told_sources_are_gathered.ensures.endings c.told_sources_are_gathered.ensures.files (texts_of c.args.words.now) _
+    _
     _ _ request source program scope run.told input run c.answer.result c.answer.ensures.answers
 
 pub returns-clause-an_audit_writes_the_report : goal.returns-clause-an_audit_writes_the_report
 returns-clause-an_audit_writes_the_report g c request source program scope audit =
     ends_audit c.pieces_have_one_program.ensures c.refused_pieces_are_not_accepted.ensures
-    c.told_sources_are_gathered.ensures.endings c.told_sources_are_gathered.ensures.files (texts_of c.args.words.now) _ _
+    c.told_sources_are_gathered.ensures.endings c.told_sources_are_gathered.ensures.files (texts_of c.args.words.now) _
+    _
     _ _ request source program scope audit.told audit.mode c.answer.result c.answer.ensures.answers
 
 pub returns-clause-a_check_writes_its_answer : goal.returns-clause-a_check_writes_its_answer
 returns-clause-a_check_writes_its_answer g c request source program scope extra check =
     ends_check c.pieces_have_one_program.ensures c.refused_pieces_are_not_accepted.ensures
-    c.told_sources_are_gathered.ensures.endings c.told_sources_are_gathered.ensures.files (texts_of c.args.words.now) _ _
+    c.told_sources_are_gathered.ensures.endings c.told_sources_are_gathered.ensures.files (texts_of c.args.words.now) _
+    _
     _ _ request source program scope check.told extra check c.answer.result c.answer.ensures.answers
 
 pub returns-clause-a_drill_writes_its_line : goal.returns-clause-a_drill_writes_its_line

@@ -1,8 +1,9 @@
-use Rattle.std.proofs.Common.{◌<◌, List, length, sym, subst, rules}
+use Rattle.std.proofs.Common.{◌<◌, ◌∙◌, ◌++◌, List, length, sym, ap, subst, rules}
 use Rattle.std.specs.Prelude.{flat_map}
 use Rattle.cat_pos.specs.declared.pos.Pos.{Pos}
 use Rattle.cat_value.specs.declared.declaration.Scope.{Scope}
 use Rattle.cat_lookup.specs.Table.{IsTableOf}
+use Rattle.cat_arrange.specs.declared.outline.Outline.{Outline}
 use Rattle.cat_arrange.specs.inside.Calling.{called_about, declared_at}
 use Rattle.cat_arrange.proofs.Sourced.{behind_none, call_there, call_at, one_at}
 use Rattle.cat_arrange.proofs.scopes.call_position.Goals as goal
@@ -11,21 +12,25 @@ pub at-requires-2 : goal.at-requires-2
 at-requires-2 c =
     let t = c.in_ok-table.table in
     let is_table = subst (λ (xs : List Scope). IsTableOf (λ s. s.name) xs t) c.as_slice.ensures c.in_ok-table.ensures in
-    let whole = behind_none c.new-positions.result c.add_declared.new.positions c.add_blocks.new.positions
-    (flat_map (declared_at c.args.called) c.at.result.now.items)
-    (flat_map (called_about t c.args.caller c.args.called) c.args.tree.now.items)
+    let declared = flat_map (declared_at c.args.called) c.at.result.now.items in
+    let whole = behind_none c.new-positions.result c.add_declared.new.positions c.add_called.new.positions declared
+    (flat_map (called_about t c.args.caller c.args.called) c.args.outline.now.blocks)
     (search rules) (search rules) (search rules) in
-    subst (λ (ps : List Pos). 0 < length ps) (sym whole)
-    (call_there c.args.decls.now t is_table c.args.tree.now c.args.caller c.args.called c.at.result.now
-    c.at.ensures c.requires.call)
+    let all = whole ∙ ap (λ (o : Outline). declared ++ flat_map (called_about t c.args.caller c.args.called) o.blocks)
+    c.requires.call.1 in
+    subst (λ (ps : List Pos). 0 < length ps) (sym all)
+    (call_there c.args.decls.now t is_table c.requires.call.0 c.args.caller c.args.called c.at.result.now
+    c.at.ensures c.requires.call.2)
 
 pub returns : goal.returns
-returns c =
+returns c = λ tree is.
     let t = c.in_ok-table.table in
     let is_table = subst (λ (xs : List Scope). IsTableOf (λ s. s.name) xs t) c.as_slice.ensures c.in_ok-table.ensures in
-    let whole = behind_none c.new-positions.result c.add_declared.new.positions c.add_blocks.new.positions
-    (flat_map (declared_at c.args.called) c.at.result.now.items)
-    (flat_map (called_about t c.args.caller c.args.called) c.args.tree.now.items)
+    let declared = flat_map (declared_at c.args.called) c.at.result.now.items in
+    let whole = behind_none c.new-positions.result c.add_declared.new.positions c.add_called.new.positions declared
+    (flat_map (called_about t c.args.caller c.args.called) c.args.outline.now.blocks)
     (search rules) (search rules) (search rules) in
-    call_at c.args.decls.now t is_table c.args.tree.now c.args.caller c.args.called c.at.result.now
-    c.at.ensures c.at-2.result.now (one_at c.at-2.result.now _ 0 (search (rules, whole)))
+    let all = whole ∙ ap (λ (o : Outline). declared ++ flat_map (called_about t c.args.caller c.args.called) o.blocks)
+    is in
+    call_at c.args.decls.now t is_table tree c.args.caller c.args.called c.at.result.now
+    c.at.ensures c.at-2.result.now (one_at c.at-2.result.now _ 0 (search (rules, all)))

@@ -1,14 +1,18 @@
-use Rattle.std.proofs.Common.{◌<◌, length, rules, subst, sym, take, ◌+◌, List, ℕ}
+use Rattle.std.proofs.Common.{◌∙◌, ◌++◌, [], ◌∷◌, List, ap, sym, subst}
+use Rattle.std.proofs.lemmas.List.{append_assoc}
+use Rattle.std.specs.Vec.Iter.{into_iter_items}
+use Rattle.cat_tree.specs.declared.program.Item.{Item}
 use Rattle.cat_body.specs.inside.ByScope.{AreByScope}
 use Rattle.cat_body.proofs.Listed.{listed_more}
 use Rattle.cat_body.proofs.by_scope.by_scope.Goals as goal
 
-pub loop-number-preserved : goal.loop-number-preserved
-loop-number-preserved c =
-    let a = c.args in
-    let l = c.loop-number in
-    let within : l.number < length a.items.now = search rules in
-    subst (λ (lists : List (List ℕ)). AreByScope a.here.now.decls.now (take (l.number + 1) a.items.now) a.items.now lists)
-    (sym c.in_ok-add_number.ensures)
-    (listed_more a.here.now.decls.now a.items.now l.lists.items l.number c.index-items-number.result within
-    (sym c.index-items-number.is) l.invariant)
+pub loop-item-preserved : goal.loop-item-preserved
+loop-item-preserved c =
+    let l = c.loop-item in
+    let ds = c.args.here.now.decls.now in (
+      subst (λ (lists : List (List Item)). AreByScope ds (l.yielded ++ c.in-Some.item ∷ []) lists)
+          (sym c.in_ok-add_item.ensures)
+          (listed_more ds l.yielded l.lists.items c.in-Some.item l.invariant.0),
+      append_assoc l.yielded (c.in-Some.item ∷ []) (into_iter_items c.next.new.self)
+          ∙ ap (λ (xs : List Item). l.yielded ++ xs) (sym c.in-Some.ensures.steps.0) ∙ l.invariant.1,
+    )

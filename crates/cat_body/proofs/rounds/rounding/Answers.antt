@@ -1,4 +1,5 @@
 use Rattle.std.proofs.Common.{◌≡◌, ◌≤◌, ◌<◌, ◌∙◌, ◌∷◌, true, false, Ok, length, get_or, rules, sym, ap}
+use Rattle.cat_pos.specs.Position.{pos_of}
 use Rattle.cat_pos.specs.declared.pos.Pos.{Pos}
 use Rattle.cat_names.specs.Bodies.{differ}
 use Rattle.cat_body.proofs.Agreeing.{at_slot, none_left, settled, unsettled}
@@ -9,11 +10,12 @@ returns-then-differ c =
     let first = c.in-Some.first.now in
     let rest = c.in-Some.rest.now in
     let i = c.loop-round.round-index in
-    let nowhere : Pos = record { file = 0; line = 0; column = 0 } in
+    let nowhere : Pos = pos_of 0 0 0 in
     let is : c.args.rounds.now ≡ first ∷ rest = search rules in
     let within : i < length rest = search rules in
     let other : differ (get_or rest i (nowhere, false)) first ≡ true = search rules in
-    unsettled c.args.rounds.now first rest i (get_or rest i (nowhere, false)) is (at_slot rest i (nowhere, false) within)
+    unsettled c.args.rounds.now first rest i (get_or rest i (nowhere, false)) is
+    (at_slot rest i (nowhere, false) within)
     other
 
 pub returns : goal.returns

@@ -1,4 +1,4 @@
-use Rattle.std.proofs.Common.{rules, ◌≡◌, ℕ, true, false, not, get_or}
+use Rattle.std.proofs.Common.{rules, ◌≡◌, ℕ, true, false, get_or}
 use Rattle.std.specs.Ordering.{nat_cmp}
 use Rattle.std.specs.BTreeSet.{contains}
 use Rattle.cat_depend.proofs.Once as part

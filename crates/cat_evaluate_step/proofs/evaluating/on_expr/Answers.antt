@@ -1,3 +1,5 @@
+use Rattle.std.proofs.Common.{◌∙◌, ap, sym}
+use Rattle.cat_scope.specs.declared.expr.Expr.TheViews as expr
 use Rattle.cat_evaluate_step.proofs.Forms.{go_And, go_Binary, go_Combine, go_Contains, go_Exists, go_Filter, go_ForAll}
 use Rattle.cat_evaluate_step.proofs.Forms.{go_If, go_Map, go_Match, go_Or}
 use Rattle.cat_evaluate_step.proofs.evaluating.on_expr.Goals as goal
@@ -20,7 +22,8 @@ returns-in-If c =
 
 pub returns-in-Match : goal.returns-in-Match
 returns-in-Match c =
-    go_Match _ _ _ _ _ _ _ _ _ c.operand-in-Match.ensures c.in-Match.is
+    go_Match _ _ _ _ _ _ _ _ _ c.operand-in-Match.ensures
+    (c.in-Match.is ∙ ap (expr.Match c.in-Match.field-0 c.in-Match.e) (sym c.get.ensures))
 
 pub returns-in-ForAll : goal.returns-in-ForAll
 returns-in-ForAll c =

@@ -1,4 +1,4 @@
-use Rattle.std.proofs.Common.{rules, ◌∙◌, ◌<◌, length, Some, None, sym, ap}
+use Rattle.std.proofs.Common.{rules, ◌∙◌, ◌<◌, length, None, sym, ap}
 use Rattle.std.proofs.lemmas.List.{length-set}
 use Rattle.cat_except.specs.inside.Linked.{with_pairs}
 use Rattle.cat_except.proofs.Pairs.{pairs_none, add_step}

@@ -44,7 +44,8 @@ returns-clause-line c =
     if_some o (λ t is.
     let counts = counts_as program table t s c.nodes_of-nodes.result.now c.bad_of-bad.result.now
     c.nodes_of-nodes.ensures c.bad_of-bad.ensures best (at_some (λ t. best ≡ counting (findings program table t
-    (map (region_at table c.nodes_of-nodes.result.now) c.bad_of-bad.result.now))) o t is c.in_ok-found.ensures.counts) in
+    (map (region_at table c.nodes_of-nodes.result.now) c.bad_of-bad.result.now))) o t is c.in_ok-found.ensures.counts)
+    in
     line_made program table t c.args.budget (search rules) c.leaves_are_where_their_ways_lead.ensures s
     (at_some (λ t. IsSearchOf table.terms table.atoms t c.args.budget s) o t is (c.in_ok-search.ensures.found some))
     (at_some (λ t. IsClosedSearch table.terms table.atoms t s) o t is c.in_ok-search.ensures.closed)
@@ -62,7 +63,8 @@ returns-clause-cause c =
     if_some o (λ t is.
     let counts = counts_as program table t s c.nodes_of-nodes.result.now c.bad_of-bad.result.now
     c.nodes_of-nodes.ensures c.bad_of-bad.ensures best (at_some (λ t. best ≡ counting (findings program table t
-    (map (region_at table c.nodes_of-nodes.result.now) c.bad_of-bad.result.now))) o t is c.in_ok-found.ensures.counts) in
+    (map (region_at table c.nodes_of-nodes.result.now) c.bad_of-bad.result.now))) o t is c.in_ok-found.ensures.counts)
+    in
     cause_made program table t c.args.budget (search rules)
     (λ v valid. c.inputs_of_valuations_are_well_typed.ensures table.scope table v c.requires.tabled valid)
     c.points_are_admitted.ensures c.leaves_are_where_their_ways_lead.ensures s

@@ -72,7 +72,8 @@ finding_in-requires-clause-bad c =
     ahead.order c.in_ok-go_to.ensures in
     let same = leads_there table nodes b c.go_to.new.way c.in_ok-region.region here c.in_ok-region.ensures in
     if_some (slice_get table.targets c.args.target) (λ t is.
-    let trying = at_some (λ t. IsTrying c.args.program.now table t nodes c.loop-leaf.at c.loop-leaf.best (drop i all) all)
+    let trying = at_some (λ t. IsTrying c.args.program.now table t nodes c.loop-leaf.at c.loop-leaf.best (drop i all)
+    all)
     (slice_get table.targets c.args.target) t is c.loop-leaf.invariant.trying in
     let next = next_is c.args.program.now table t nodes c.loop-leaf.at c.loop-leaf.best i b all slot trying in
     subst (λ r. IsTrue (is_bad t.may_be_empty (judged_in table.atoms r t))) (sym same) next.1.bad)

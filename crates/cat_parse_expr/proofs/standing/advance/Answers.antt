@@ -14,7 +14,8 @@ returns-then-is_high c =
     word_high c.args.limit c.args.level tokens s c.requires.standing p c.in-Further.more place following lt
     (cut_at tokens s.at place p lt c.index-tokens-at.is following) taken c.checkpoint_after-latest.result
     c.checkpoint_after-latest.ensures
-    c.stopped.result c.fallback.result c.fallback.ensures (sym c.is_high.ensures ∙ c.if-is_high.true)
+    c.stopped.result c.in_ok-node-in-Further.node c.in_ok-node-in-Further.ensures
+    (sym c.is_high.ensures ∙ c.if-is_high.true)
     (c.stopped.ensures.gives tokens) (λ m. c.stopped.ensures.within (length tokens) m c.requires.standing.within)
 
 pub returns-else-is_high : goal.returns-else-is_high

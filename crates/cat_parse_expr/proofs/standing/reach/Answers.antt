@@ -21,7 +21,7 @@ returns-then-halt c = λ fuel best room kept.
       | then-halt-via-else-halt+then-at-halt w ↦ λ calm same. w.if-at-halt.true (omega arith)
     ] in
     breaks_off c.args.limit c.args.level fuel tokens s h best c.stopped.result c.checkpoint_after-latest.result
-    c.last_whole-node.result c.requires.standing c.checkpoint_after-latest.ensures c.last_whole-node.ensures
+    c.in_ok-node.node c.requires.standing c.checkpoint_after-latest.ensures c.in_ok-node.ensures
     (misses c.args.limit c.args.level tokens s h c.requires.standing.within c.requires.halt away) kept
     (c.stopped.ensures.gives tokens) (λ m. c.stopped.ensures.within (length tokens) m c.requires.halt)
 
@@ -38,8 +38,9 @@ returns-then-is_high c = λ fuel best room kept.
     let more = c.in-Further.more in
     breaks_off c.args.limit c.args.level fuel tokens s h best c.stopped-then-is_high.result
     c.checkpoint_after-latest.result
-    c.fallback.result c.requires.standing c.checkpoint_after-latest.ensures
-    (c.fallback.ensures ∙ (shift_keeps c.args.level s.reading more p taken).falls c.requires.standing.filled)
+    c.in_ok-node-in-Further.node c.requires.standing c.checkpoint_after-latest.ensures
+    (c.in_ok-node-in-Further.ensures ∙ (shift_keeps c.args.level s.reading more p taken).falls
+    c.requires.standing.filled)
     (high_misses c.args.limit c.args.level s.reading more (drop s.at tokens) (drop place tokens) p _
     (cut_at tokens s.at place p lt c.index-tokens-at.is following) taken (sym c.is_high.ensures ∙ c.if-is_high.true))
     kept (c.stopped-then-is_high.ensures.gives tokens) (λ m. c.stopped-then-is_high.ensures.within (length tokens) m
@@ -66,8 +67,8 @@ returns-else-is_high c = λ fuel best room kept.
     (word_goes c.args.limit c.args.level tokens s c.requires.standing p more place following lt cut taken
     c.checkpoint_after-latest.result c.checkpoint_after-latest.ensures high)
 
-pub returns-in-Still : goal.returns-in-Still
-returns-in-Still c = λ fuel best room kept.
+pub returns-in_ok-node-in-Still : goal.returns-in_ok-node-in-Still
+returns-in_ok-node-in-Still c = λ fuel best room kept.
     let tokens = c.args.tokens.now in
     let s = c.args.standing in
     let h = c.args.halt in
@@ -77,8 +78,8 @@ returns-in-Still c = λ fuel best room kept.
     let following : place ≡ suc s.at = omega arith in
     let passed = rw c.in-Still.is at c.in_ok-more.ensures in
     breaks_off c.args.limit c.args.level fuel tokens s h best c.stopped-in-Still.result c.checkpoint_after-latest.result
-    c.last_whole-node-in-Still.result c.requires.standing c.checkpoint_after-latest.ensures
-    (c.last_whole-node-in-Still.ensures
+    c.in_ok-node-in-Still.node c.requires.standing c.checkpoint_after-latest.ensures
+    (c.in_ok-node-in-Still.ensures
     ∙ ap (λ (r : Reading). last_whole r.state) passed.1)
     (no_word_misses c.args.limit c.args.level s.reading (drop s.at tokens) (drop place tokens) p _
     (cut_at tokens s.at place p lt c.index-tokens-at.is following) passed.0) kept

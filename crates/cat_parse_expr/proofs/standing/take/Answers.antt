@@ -11,12 +11,12 @@ reach-requires-clause-standing c =
     c.in-Reads.at within.0 (Some c.in-Some.halt) c.in_ok-reading-in-Reads.reading operand
     c.in_ok-reading-in-Reads.ensures
 
-pub returns-in-Fails : goal.returns-in-Fails
-returns-in-Fails c =
+pub returns-in_ok-node-in-Fails : goal.returns-in_ok-node-in-Fails
+returns-in_ok-node-in-Fails c =
     let operand = rw c.in-Fails.is at c.requires.operand in
     let within = rw c.in-Fails.is at c.requires.within in
     take_fails c.args.limit c.args.level c.args.tokens.now c.args.standing c.in-Fails.halt c.stopped.result
-    c.fallback.result operand c.fallback.ensures (c.stopped.ensures.gives c.args.tokens.now)
+    c.in_ok-node-in-Fails.node operand c.in_ok-node-in-Fails.ensures (c.stopped.ensures.gives c.args.tokens.now)
     (c.stopped.ensures.within (length c.args.tokens.now) c.requires.standing.checkpoint_within within)
 
 pub returns-in-None : goal.returns-in-None

@@ -1,4 +1,5 @@
 use Rattle.std.proofs.Common.{sym, subst}
+use Rattle.cat_pos.proofs.Packing.{file_kept}
 use Rattle.cat_weave.specs.Kinds.{LawLine, OpeningLine, HeadingLine, IncludeLine}
 use Rattle.cat_weave.specs.inside.Reading.{law_kinds, block_kinds, IsStep}
 use Rattle.cat_weave.specs.declared.weaver.Step.{Step}
@@ -22,7 +23,7 @@ returns-in-Opening-clause-gives c =
     line_read c.args.rest.now c.first_line.result.0.now after c.bare.result.now OpeningLine
     c.first_line.ensures.lines c.bare.ensures c.in-Opening.ensures in
     opening_step c.args.file c.args.line (law_kinds c.args.rest.now) (block_kinds after) c.block_step.result first
-    c.block_step.ensures.gives
+    (rw (c.new-pos.ensures, file_kept c.args.file c.args.line 1 c.requires.file) at c.block_step.ensures.gives)
 
 pub returns-in_ok-text-in-Heading-clause-gives : goal.returns-in_ok-text-in-Heading-clause-gives
 returns-in_ok-text-in-Heading-clause-gives c =
@@ -37,7 +38,7 @@ returns-in_ok-text-in-Heading-clause-gives c =
     heading_step c.args.file c.args.line c.in-Heading.level text lines (law_kinds after)
     (rw c.in_ok-text-in-Heading.ensures first) in
     subst (λ (s : Step). IsStep c.args.file c.args.line lines s.segment s.lines (law_kinds s.after.now))
-    (sym c.line_step-in-Heading.ensures) step
+    (sym c.line_step-in-Heading.ensures) (rw c.new-pos.ensures step)
 
 pub returns-in_ok-path-in-Include-clause-gives : goal.returns-in_ok-path-in-Include-clause-gives
 returns-in_ok-path-in-Include-clause-gives c =
@@ -50,4 +51,4 @@ returns-in_ok-path-in-Include-clause-gives c =
     let step =
     include_step c.args.file c.args.line path lines (law_kinds after) (rw c.in_ok-path-in-Include.ensures first) in
     subst (λ (s : Step). IsStep c.args.file c.args.line lines s.segment s.lines (law_kinds s.after.now))
-    (sym c.line_step-in-Include.ensures) step
+    (sym c.line_step-in-Include.ensures) (rw c.new-pos.ensures step)

@@ -1,12 +1,11 @@
 use Rattle.std.proofs.Common.{◌≡◌, ◌∙◌, ◌<◌, ◌≤◌, ◌⊎◌, inl, inr, true, false, length, arith, rules}
+use Rattle.cat_pos.specs.Position.{pos_file}
 use Rattle.cat_gather.specs.Gathered.{is_among}
 use Rattle.cat_gather.specs.inside.UnderWay.{gathered_of}
 use Rattle.cat_gather.proofs.GatherLemmas.{twice_cause, named_at, on_ok, on_both_ok, if_err, take_goes_on, free_goes_on}
 use Rattle.cat_gather.proofs.GatherLemmas.{take_cause}
 use Rattle.cat_gather.proofs.gatherer.Gathering.include.Goals as goal
 use Rattle.cat_gather.proofs.gatherer.Gathering.include.Goals.{then-len-eq-MOST_FILES-via-then-len-eq-MOST_FILES}
-use Rattle.cat_gather.proofs.gatherer.Gathering.include.Goals.{}
-use Rattle.cat_gather.proofs.gatherer.Gathering.include.Goals.{}
 use Rattle.cat_gather.proofs.gatherer.Gathering.include.Goals.{then-len-eq-MOST_FILES-via-else-len-eq-MOST_FILES+then-is_taken}
 
 pub returns-then-len-eq-MOST_FILES-clause-cause : goal.returns-then-len-eq-MOST_FILES-clause-cause
@@ -17,7 +16,8 @@ returns-then-len-eq-MOST_FILES-clause-cause g c main on =
       | then-len-eq-MOST_FILES-via-then-len-eq-MOST_FILES w ↦ inl (omega arith)
       | then-len-eq-MOST_FILES-via-else-len-eq-MOST_FILES+then-is_taken w ↦ inr (first_of (cc, search rules))
     ] in
-    let named = c.in_ok-name.ensures ∙ named_at files c.args.pos.file c.name.result.now c.name.ensures in
+    let named = c.in_ok-name.ensures ∙ named_at files (pos_file c.args.pos) c.name.result.now
+    (rw c.file.ensures.value at c.name.ensures) in
     twice_cause (g.S.Shelf.state c.args.shelf.now) main c.args.path.now c.in_ok-name.name c.args.pos
     c.args.self.now.to_come (gathered_of c.args.self.now) why named on
 

@@ -1,7 +1,7 @@
 use Rattle.std.proofs.Common.{◌≡◌, ◌++◌, take}
 use Rattle.std.specs.Prelude.{flat_map}
 use Rattle.cat_arrange.specs.inside.Calling.{declared_at}
-use Rattle.cat_arrange.proofs.blocks.add_declared.Given as goal
+use Rattle.cat_arrange.proofs.declared.add_declared.Given as goal
 
 abbrev pub invariant-loop-item : goal.invariant-loop-item
 invariant-loop-item l =

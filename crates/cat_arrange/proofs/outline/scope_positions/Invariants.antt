@@ -1,6 +1,6 @@
 use Rattle.std.proofs.Common.{◌≡◌, ◌++◌, drop}
 use Rattle.cat_names.specs.Written.{scopes_in, names_of, positions}
-use Rattle.cat_arrange.proofs.chains.scope_positions.Given as goal
+use Rattle.cat_arrange.proofs.outline.scope_positions.Given as goal
 
 abbrev pub invariant-loop-item : goal.invariant-loop-item
 invariant-loop-item l =
