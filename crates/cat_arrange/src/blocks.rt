@@ -3,9 +3,8 @@ ghost use Rattle.std.specs.Prelude.{◌≡◌, ◌++◌, OnOk, flat_map};
 ghost use Rattle.cat_names.specs.ScopeWords.{condition_words, item_words, use_words};
 ghost use Rattle.cat_tree.specs.declared.program.Item.TheVariants as item;
 
-use crate::Names;
 use crate::words::add_words;
-use cat_tree::{Block, Node, Use};
+use cat_tree::{Block, Names, Node, Use};
 use std::alloc::AllocError;
 
 fn add_condition(condition: &Option<Node>, words: &mut Names) -> Result<(), AllocError>

@@ -23,13 +23,12 @@ use cat_names::{Refusal, programs_of_trees_are_well_formed};
 use cat_order::a_cycle_leaves_no_order;
 use cat_scope::{Bodies, Program};
 use cat_value::{Decls, declarations_are_sound};
-pub use outline::{BlockOutline, Names, Outline};
+pub use outline::{BlockOutline, Outline};
 use std::alloc::Global;
 
 /// The program of a tree, from its outline and from what it means: the orders that the bodies come with are not read.
 /// A scope on a cycle is refused before an item on one, and both before a chain of calls that is too long. It takes
-/// time
-/// in proportion to the bodies and the outline, and n log n for orders.
+/// time in proportion to the bodies and the outline, and n log n for orders.
 pub fn arranged(
     alloc: Global,
     outline: &Outline,

@@ -5,10 +5,8 @@ ghost use Rattle.cat_arrange.specs.Outlined.{block_outline, item_outline, outlin
 
 use crate::blocks::add_block;
 use cat_pos::{List, Positions};
-use cat_tree::{Block, Item, Name, Tree};
+use cat_tree::{Block, Item, Name, Names, Tree};
 use std::alloc::{AllocError, Global};
-
-pub type Names = List<Name>;
 
 /// A block: the name of its scope, and the names of the scopes that it calls, in source order.
 #[derive(Debug, Drop)]

@@ -2,8 +2,7 @@
 ghost use Rattle.std.specs.Prelude.{◌≡◌, ◌++◌, OnOk, flat_map};
 ghost use Rattle.cat_names.specs.ScopeWords.{scope_words};
 
-use crate::Names;
-use cat_tree::{Arms, FieldValues, Node, Nodes};
+use cat_tree::{Arms, FieldValues, Names, Node, Nodes};
 use std::alloc::AllocError;
 
 /// Adds the names of the scopes that an expression calls, from the left. Calls nest in proportion to the expression's

@@ -132,6 +132,5 @@ pub fn program_in(alloc: Global, pieces: &[Piece]) -> Result<Program, BuildRefus
     ensures cause { IfErr result (HasCause pieces.now) }
 {
     let tree = parsed(alloc, pieces)?;
-    let program = program_of(alloc, pieces, tree)?;
-    Ok(program)
+    program_of(alloc, pieces, tree)
 }

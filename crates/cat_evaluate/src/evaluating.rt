@@ -16,7 +16,7 @@ use cat_evaluate_scope::{Entries, ScopeRun, ScopeTask};
 use cat_evaluate_step::Stack;
 use cat_pos::List;
 use cat_scope::Stop;
-use cat_shared::{Failure, Shared, shared_of, values_of};
+use cat_shared::{Failure, SharedValue, shared_of, values_of};
 use cat_value::{Input, Outcome};
 use std::alloc::{AllocError, Global};
 
@@ -28,7 +28,7 @@ fn run_scopes<'a>(
     scopes: &Places,
     items: &AllPlaces,
     first: ScopeRun<'a>,
-) -> Result<List<Shared>, Failure>
+) -> Result<List<SharedValue>, Failure>
     requires scopes { ArePlacesOf scopes.now calc.now.scope_order }
     requires items { AreAllPlaces items.now calc.now.scopes }
     requires of { IsOf calc.now first.scene }
@@ -72,7 +72,7 @@ fn run_calculus(
     calc: &Calc,
     scope: u32,
     input: &Input,
-) -> Result<List<Shared>, Failure>
+) -> Result<List<SharedValue>, Failure>
     ensures { IsTold result (calc_run calc.now scope input.now).end }
 {
     let scopes = scope_places(alloc, calc)?;

@@ -13,7 +13,7 @@ use cat_evaluate_call::{AllPlaces, Places};
 use cat_evaluate_scope::{Entries, OnOutputs, ScopePause, ScopeRun, ScopeTask, run_scope};
 use cat_evaluate_step::Stack;
 use cat_pos::List;
-use cat_shared::{Failure, Shared};
+use cat_shared::{Failure, SharedValue};
 use std::alloc::Global;
 
 /// A scope that waits for the outputs of one that it calls.
@@ -31,12 +31,12 @@ pub(crate) enum Step<'a> {
     /// A scope goes on with this task.
     Next(ScopeRun<'a>, ScopeTask<'a>),
     /// The outputs of the first scope.
-    Outputs(List<Shared>),
+    Outputs(List<SharedValue>),
 }
 
 /// The outputs of a scope are given to the one that waits, or are those of the first.
 #[tactic(auto, using(crate::proofs::Steps::giving))]
-fn give_outputs<'a>(waiting: &mut WaitingScopes<'a>, outputs: List<Shared>) -> Step<'a>
+fn give_outputs<'a>(waiting: &mut WaitingScopes<'a>, outputs: List<SharedValue>) -> Step<'a>
     ensures { (calc : Calc) → AllHave (Waits calc) waiting.old
         → Goes (Ok result) calc (resumed_scopes waiting.old (Ok outputs)) waiting.new }
 {

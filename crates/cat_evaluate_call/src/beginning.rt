@@ -16,7 +16,7 @@ use cat_evaluate_step::{Scene, Stack, Task};
 use cat_evaluate_term::{Definition, JudgeTask, OnValue, TermTask};
 use cat_pos::{List, Pos};
 use cat_scope::{Expr, Stop};
-use cat_shared::Shared;
+use cat_shared::SharedValue;
 use cat_value::{ItemDecls, Target};
 use std::alloc::Global;
 
@@ -47,7 +47,7 @@ pub fn begun<'a>(
     scene: &Scene<'a>,
     target: Target,
     limit: usize,
-    arguments: List<Shared>,
+    arguments: List<SharedValue>,
 ) -> (Activation<'a>, JudgeTask<'a>)
     ensures target { result.0.target ≡ target }
     ensures ending { activation_ending (scoped_at scene.now) scene.now.values result.0 result.1
@@ -92,7 +92,11 @@ pub fn begun_alone<'a>(
 }
 
 /// The value of a target, by what holds there: where nothing does, a condition is false.
-pub fn given(items: &ItemDecls, target: Target, found: Option<Definition>) -> Result<Shared, Stop>
+pub fn given(
+    items: &ItemDecls,
+    target: Target,
+    found: Option<Definition>,
+) -> Result<SharedValue, Stop>
     ensures { result ≡ given_by target (slice_get items.now target.item) (found_as found) }
 {
     let Some(item) = items.get(target.item as usize) else {
@@ -102,7 +106,7 @@ pub fn given(items: &ItemDecls, target: Target, found: Option<Definition>) -> Re
         Some(definition) => Ok(definition.value),
         None => {
             if item.condition {
-                Ok(Shared::of_truth(false))
+                Ok(SharedValue::of_truth(false))
             } else {
                 Err(Stop::NoValue(target, item.pos))
             }

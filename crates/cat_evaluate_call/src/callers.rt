@@ -2,7 +2,7 @@
 use cat_evaluate_step::{Frames, Stack};
 use cat_evaluate_term::{Definition, ExceptionFrames, OnValue};
 use cat_pos::List;
-use cat_shared::Shared;
+use cat_shared::SharedValue;
 use cat_value::Target;
 
 /// A target that is judged for some arguments.
@@ -11,10 +11,10 @@ pub struct Activation<'a> {
     pub target: Target,
     /// How many items of the order stand before its item.
     pub limit: usize,
-    pub arguments: List<Shared>,
+    pub arguments: List<SharedValue>,
     pub exceptions: ExceptionFrames<'a>,
     pub frames: Frames<'a>,
-    pub locals: List<Shared>,
+    pub locals: List<SharedValue>,
 }
 
 /// A judging that waits for the value of a call, and what that value is for.
@@ -32,5 +32,5 @@ pub type Callers<'a> = Stack<Caller<'a>>;
 pub enum TargetPause<'a> {
     Found(Option<Definition>),
     /// A scope is called, with these fields, for an output.
-    ScopeCall(Caller<'a>, u32, List<(u32, Shared)>, u32),
+    ScopeCall(Caller<'a>, u32, List<(u32, SharedValue)>, u32),
 }

@@ -16,7 +16,7 @@ use cat_evaluate_step::{Scene, Task};
 use cat_evaluate_term::{Definition, JudgePause, JudgeTask, judge};
 use cat_pos::List;
 use cat_scope::Stop;
-use cat_shared::{Failure, Shared};
+use cat_shared::{Failure, SharedValue};
 use cat_value::Target;
 use std::alloc::Global;
 
@@ -59,7 +59,7 @@ fn called<'a>(
     callers: &mut Callers<'a>,
     caller: Caller<'a>,
     function: u32,
-    arguments: List<Shared>,
+    arguments: List<SharedValue>,
 ) -> Result<TargetStep<'a>, Failure>
     requires { ArePlacesOf places.now scene.now.terms.now.order }
     ensures { TakesStep result

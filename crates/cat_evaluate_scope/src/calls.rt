@@ -16,7 +16,7 @@ use cat_evaluate_step::Task;
 use cat_evaluate_term::JudgeTask;
 use cat_pos::List;
 use cat_scope::Stop;
-use cat_shared::{Failure, Shared};
+use cat_shared::{Failure, SharedValue};
 use cat_value::ItemDecls;
 use std::alloc::{AllocError, Global};
 
@@ -27,7 +27,7 @@ fn ungiven_input(alloc: Global, items: &ItemDecls) -> Result<Entries, AllocError
     let mut input = List::new(alloc);
     for item in items.as_slice() {
         let is_false = must_be_given(item.kind) && item.condition;
-        let entry = is_false.then_some(Shared::of_truth(false));
+        let entry = is_false.then_some(SharedValue::of_truth(false));
         input.push(entry)?;
     }
     Ok(input)
@@ -39,7 +39,7 @@ pub(crate) fn call_input(
     alloc: Global,
     calc: &Calc,
     scope: u32,
-    fields: List<(u32, Shared)>,
+    fields: List<(u32, SharedValue)>,
 ) -> Result<Entries, AllocError>
     ensures { IfOk result (λ input. input
         ≡ call_input 0 fields (items_in (slice_get calc.now.decls.scopes scope))) }
@@ -60,13 +60,13 @@ pub(crate) fn call_input(
 pub(crate) fn on_outputs<'a>(
     alloc: Global,
     waits: OnOutputs<'a>,
-    outputs: List<Shared>,
+    outputs: List<SharedValue>,
 ) -> Result<ScopeTask<'a>, Failure>
     ensures { (run : ScopeRun) → GoesOn result
         (outputs_into (scoped_at run.scene) run.input run.scene.values waits.entry outputs) run }
 {
     match waits {
-        OnOutputs::Item(place, item) => match Shared::of_structure(alloc, outputs) {
+        OnOutputs::Item(place, item) => match SharedValue::of_structure(alloc, outputs) {
             Ok(value) => Ok(ScopeTask::Done(place, item, Some(value))),
             Err(_) => Err(Failure::Memory),
         },

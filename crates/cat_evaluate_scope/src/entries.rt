@@ -7,13 +7,13 @@ ghost use Rattle.cat_evaluate_scope.specs.inside.Steps.{IsTold};
 use crate::tasks::Entries;
 use cat_pos::List;
 use cat_scope::Stop;
-use cat_shared::{Failure, Shared};
+use cat_shared::{Failure, SharedValue};
 use cat_value::{ItemDecls, Kind};
 use std::alloc::{AllocError, Global};
 
 /// What is given at an item.
 #[tactic(auto, using(crate::proofs::EntryLaws::entries))]
-pub(crate) fn entry_at(entries: &Entries, item: u32) -> Result<Option<Shared>, AllocError>
+pub(crate) fn entry_at(entries: &Entries, item: u32) -> Result<Option<SharedValue>, AllocError>
     ensures { IfOk result (λ entry. entry ≡ entry_at item entries.now) }
 {
     match entries.get(item as usize) {
@@ -25,7 +25,7 @@ pub(crate) fn entry_at(entries: &Entries, item: u32) -> Result<Option<Shared>, A
 
 /// One more item is done.
 #[tactic(auto, using(crate::proofs::EntryLaws::entries))]
-pub(crate) fn put_entry(entries: &mut Entries, item: u32, entry: Option<Shared>)
+pub(crate) fn put_entry(entries: &mut Entries, item: u32, entry: Option<SharedValue>)
     ensures { entries.new ≡ with_entry item entry entries.old }
 {
     let at = item as usize;
@@ -48,7 +48,7 @@ pub(crate) fn outputs_of(
     alloc: Global,
     items: &ItemDecls,
     values: &Entries,
-) -> Result<List<Shared>, Failure>
+) -> Result<List<SharedValue>, Failure>
     ensures { IsTold result (outputs_of items.now values.now) }
 {
     let mut outputs = List::new(alloc);

@@ -17,7 +17,7 @@ use cat_evaluate_call::given;
 use cat_evaluate_term::Definition;
 use cat_pos::Pos;
 use cat_scope::Stop;
-use cat_shared::{Failure, Shared};
+use cat_shared::{Failure, SharedValue};
 use cat_value::{FaultKind, ItemDecl, Kind, Target};
 
 /// A variable has come to what holds of it.
@@ -55,7 +55,7 @@ fn passed(
     pos: Pos,
     decl: &ItemDecl,
     found: Option<Definition>,
-) -> Result<Option<Shared>, Stop>
+) -> Result<Option<SharedValue>, Stop>
     ensures { result ≡ passed target pos decl.now (found_as found) }
 {
     match found {
@@ -65,7 +65,7 @@ fn passed(
                 return Ok(None);
             }
             if decl.condition {
-                Ok(Some(Shared::of_truth(false)))
+                Ok(Some(SharedValue::of_truth(false)))
             } else {
                 Err(Stop::NoValue(target, pos))
             }
@@ -81,7 +81,7 @@ fn passed_at(
     one: CalledItem,
     at: usize,
     found: Option<Definition>,
-) -> Result<Option<Shared>, Stop>
+) -> Result<Option<SharedValue>, Stop>
     ensures { result ≡ passed_by target one.pos
         (slice_get (items_in (slice_get calc.now.decls.scopes one.scope)) at) (found_as found) }
 {

@@ -12,7 +12,7 @@ use cat_evaluate_call::begun;
 use cat_evaluate_step::Stack;
 use cat_pos::List;
 use cat_scope::Stop;
-use cat_shared::{Failure, Shared};
+use cat_shared::{Failure, SharedValue};
 use cat_value::{ItemDecl, Kind, Target};
 use std::alloc::Global;
 
@@ -112,7 +112,7 @@ pub(crate) fn item_done<'a>(
     run: &mut ScopeRun<'a>,
     place: usize,
     item: u32,
-    value: Option<Shared>,
+    value: Option<SharedValue>,
 ) -> Result<ScopeTask<'a>, Failure>
     ensures goes { GoesOn result
         (done_end (scoped_at run.old.scene) run.old.input run.old.scene.values place item value) run.new }

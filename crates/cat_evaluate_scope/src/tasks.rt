@@ -3,10 +3,10 @@ use cat_evaluate_call::{Activation, Caller, Callers};
 use cat_evaluate_step::Scene;
 use cat_evaluate_term::{Definition, JudgeTask};
 use cat_pos::{List, Pos};
-use cat_shared::Shared;
+use cat_shared::SharedValue;
 
 /// Values of items: none for one that is not done, not given, or a function.
-pub type Entries = List<Option<Shared>>;
+pub type Entries = List<Option<SharedValue>>;
 
 /// A scope that is run, with what it is given.
 #[derive(Drop)]
@@ -52,7 +52,7 @@ pub enum ScopeTask<'a> {
     /// The item behind so many items of the order.
     Items(usize),
     /// An item, behind so many of the order, has come to a value or to none.
-    Done(usize, u32, Option<Shared>),
+    Done(usize, u32, Option<SharedValue>),
     /// The next input or context of a called scope, behind those before it.
     Inner(CalledItem, Entries),
     /// The assertion of this index.
@@ -62,13 +62,13 @@ pub enum ScopeTask<'a> {
     /// A target has been judged.
     Found(Purpose, Option<Definition>),
     /// A scope has given its outputs.
-    Give(OnOutputs<'a>, List<Shared>),
+    Give(OnOutputs<'a>, List<SharedValue>),
 }
 
 /// Where a scope comes to.
 #[derive(Drop)]
 pub enum ScopePause<'a> {
-    Outputs(List<Shared>),
+    Outputs(List<SharedValue>),
     /// A scope is to be run on this input.
     Run(OnOutputs<'a>, u32, Entries),
 }

@@ -8,7 +8,7 @@ use crate::lists::{after, combine_next};
 use crate::locals::unbind;
 use cat_operate::contained;
 use cat_pos::List;
-use cat_shared::{Failure, Shared};
+use cat_shared::{Failure, SharedValue};
 use std::alloc::Global;
 
 /// What came of an element is there, or a total, or the value that a list is to have.
@@ -16,9 +16,9 @@ use std::alloc::Global;
 pub(crate) fn on_element<'a>(
     alloc: Global,
     frames: &mut Frames<'a>,
-    locals: &mut List<Shared>,
+    locals: &mut List<SharedValue>,
     one: OnElement<'a>,
-    value: Shared,
+    value: SharedValue,
 ) -> Result<Task<'a>, Failure>
     ensures { Resumes result (frame.OnElement one.entry) value frames.old frames.new locals.old locals.new }
 {

@@ -14,12 +14,12 @@ use crate::scene::Scene;
 use cat_operate::literal_value;
 use cat_pos::{Boxed, List};
 use cat_scope::{Expr, Stop};
-use cat_shared::{Failure, Shared};
+use cat_shared::{Failure, SharedValue};
 use std::alloc::Global;
 
 /// The value of an item that is done.
 #[tactic(auto, using(crate::proofs::Leaves::leaves))]
-fn item_value(scene: &Scene, item: u32) -> Result<Shared, Failure>
+fn item_value(scene: &Scene, item: u32) -> Result<SharedValue, Failure>
     ensures { IsTold result (evaluated (slice_get scene.now.values item)) }
 {
     match scene.values.get(item as usize) {
@@ -31,7 +31,7 @@ fn item_value(scene: &Scene, item: u32) -> Result<Shared, Failure>
 
 /// An output of a called scope that is done.
 #[tactic(auto, using(crate::proofs::Leaves::leaves))]
-fn output_value(scene: &Scene, item: u32, k: u32) -> Result<Shared, Failure>
+fn output_value(scene: &Scene, item: u32, k: u32) -> Result<SharedValue, Failure>
     ensures { IsTold result (on_one (evaluated (slice_get scene.now.values item)) (part k)) }
 {
     match scene.values.get(item as usize) {
@@ -43,7 +43,7 @@ fn output_value(scene: &Scene, item: u32, k: u32) -> Result<Shared, Failure>
 
 /// The value of a local name.
 #[tactic(auto, using(crate::proofs::Leaves::leaves))]
-fn local_value(locals: &List<Shared>, k: u32) -> Result<Shared, Failure>
+fn local_value(locals: &List<SharedValue>, k: u32) -> Result<SharedValue, Failure>
     ensures { IsTold result (known (slice_get locals.now k)) }
 {
     match locals.get(k as usize) {
@@ -74,7 +74,7 @@ pub(crate) fn on_expr<'a>(
     alloc: Global,
     frames: &mut Frames<'a>,
     scene: &Scene<'a>,
-    locals: &List<Shared>,
+    locals: &List<SharedValue>,
     e: &'a Expr,
 ) -> Result<Task<'a>, Failure>
     ensures { GoesOn result (evaluated_into (env_at scene.now) locals.now frames.old e.now)

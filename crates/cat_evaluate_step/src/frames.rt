@@ -2,7 +2,7 @@
 use crate::stack::Stack;
 use cat_pos::{Boxed, List, Pos};
 use cat_scope::{Arms, BinaryOp, Expr, Exprs, FieldValues, SumKind, UnaryOp};
-use cat_shared::{Elements, Shared};
+use cat_shared::{Elements, SharedValue};
 
 /// A form that goes over a list, with one local name.
 #[derive(Clone, Copy)]
@@ -36,7 +36,7 @@ pub enum OnOperand<'a> {
     Convert(UnaryOp, Pos),
     /// The right operand is next.
     Left(BinaryOp, Pos, &'a Boxed<Expr>),
-    Right(BinaryOp, Pos, Shared),
+    Right(BinaryOp, Pos, SharedValue),
     And(&'a Boxed<Expr>),
     Or(&'a Boxed<Expr>),
     If(&'a Boxed<Expr>, &'a Boxed<Expr>),
@@ -62,7 +62,7 @@ pub enum OnList<'a> {
 pub enum OnElement<'a> {
     /// For what comes of the element that is the last local name; the next element has this index, and these came of
     /// those before.
-    At(ListForm, &'a Boxed<Expr>, Elements, usize, List<Shared>),
+    At(ListForm, &'a Boxed<Expr>, Elements, usize, List<SharedValue>),
     /// For the total to begin with.
     CombineFrom(&'a Boxed<Expr>, Elements),
     /// For the total after an element; the next element has this index.
@@ -75,9 +75,9 @@ pub enum OnElement<'a> {
 #[derive(Drop)]
 pub enum OnPart<'a> {
     /// The next expression has this index.
-    Exprs(ExprsUse, &'a Exprs, usize, List<Shared>),
+    Exprs(ExprsUse, &'a Exprs, usize, List<SharedValue>),
     /// The next field has this index, and the one that is evaluated the number at the end.
-    Fields(FieldsUse, &'a FieldValues, usize, List<(u32, Shared)>, u32),
+    Fields(FieldsUse, &'a FieldValues, usize, List<(u32, SharedValue)>, u32),
 }
 
 #[derive(Drop)]
@@ -95,19 +95,19 @@ pub type Frames<'a> = Stack<Frame<'a>>;
 pub enum Task<'a> {
     Eval(&'a Expr),
     /// A part has given a value.
-    Give(Shared),
+    Give(SharedValue),
     /// A function is called.
-    Call(u32, List<Shared>),
+    Call(u32, List<SharedValue>),
     /// A scope is called, with these fields, for an output.
-    ScopeCall(u32, List<(u32, Shared)>, u32),
+    ScopeCall(u32, List<(u32, SharedValue)>, u32),
 }
 
 /// Where an evaluation comes to.
 #[derive(Drop)]
 pub enum Pause {
-    Value(Shared),
+    Value(SharedValue),
     /// A function is called.
-    Call(u32, List<Shared>),
+    Call(u32, List<SharedValue>),
     /// A scope is called, with these fields, for an output.
-    ScopeCall(u32, List<(u32, Shared)>, u32),
+    ScopeCall(u32, List<(u32, SharedValue)>, u32),
 }

@@ -5,7 +5,7 @@ ghost use Rattle.cat_evaluate_step.specs.inside.Steps.{IsEither, IsGiven, IsNext
 use crate::frames::{Frame, Frames, OnElement, OnList, OnOperand, OnPart, Task};
 use cat_pos::Boxed;
 use cat_scope::{Expr, Stop};
-use cat_shared::{Failure, Shared};
+use cat_shared::{Failure, SharedValue};
 
 /// An expression is next.
 pub(crate) fn eval<'a>(e: &'a Expr) -> Task<'a>
@@ -80,7 +80,7 @@ pub(crate) fn part<'a>(
 }
 
 /// A value is there, or a stop, or memory wants.
-pub(crate) fn give<'a>(told: Result<Shared, Failure>) -> Result<Task<'a>, Failure>
+pub(crate) fn give<'a>(told: Result<SharedValue, Failure>) -> Result<Task<'a>, Failure>
     ensures { IsGiven result told }
 {
     match told {
@@ -90,7 +90,7 @@ pub(crate) fn give<'a>(told: Result<Shared, Failure>) -> Result<Task<'a>, Failur
 }
 
 /// A value is there, or a stop.
-pub(crate) fn give_reply<'a>(reply: Result<Shared, Stop>) -> Result<Task<'a>, Failure>
+pub(crate) fn give_reply<'a>(reply: Result<SharedValue, Stop>) -> Result<Task<'a>, Failure>
     ensures { IsReplied result reply }
 {
     match reply {
@@ -101,7 +101,7 @@ pub(crate) fn give_reply<'a>(reply: Result<Shared, Stop>) -> Result<Task<'a>, Fa
 
 /// One of two is next, by a value that is a boolean.
 pub(crate) fn either<'a>(
-    value: &Shared,
+    value: &SharedValue,
     one: Task<'a>,
     other: Task<'a>,
 ) -> Result<Task<'a>, Failure>

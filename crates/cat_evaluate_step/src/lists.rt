@@ -13,17 +13,21 @@ use cat_num::Whole;
 use cat_operate::summed;
 use cat_pos::{Boxed, List};
 use cat_scope::{Expr, Stop};
-use cat_shared::{Elements, Failure, Shared};
+use cat_shared::{Elements, Failure, SharedValue};
 use std::alloc::Global;
 
 /// What a form comes to, where no element is left.
 #[tactic(auto, using(crate::proofs::Leaves::leaves))]
-fn over_value(alloc: Global, form: ListForm, done: List<Shared>) -> Result<Shared, Failure>
+fn over_value(
+    alloc: Global,
+    form: ListForm,
+    done: List<SharedValue>,
+) -> Result<SharedValue, Failure>
     ensures { IsTold result (Ok (over_value form done)) }
 {
     match form {
-        ListForm::ForAll => Ok(Shared::of_truth(true)),
-        ListForm::Exists => Ok(Shared::of_truth(false)),
+        ListForm::ForAll => Ok(SharedValue::of_truth(true)),
+        ListForm::Exists => Ok(SharedValue::of_truth(false)),
         ListForm::Map => made_list(alloc, done),
         ListForm::Filter => made_list(alloc, done),
     }
@@ -34,12 +38,12 @@ fn over_value(alloc: Global, form: ListForm, done: List<Shared>) -> Result<Share
 fn over_next<'a>(
     alloc: Global,
     frames: &mut Frames<'a>,
-    locals: &mut List<Shared>,
+    locals: &mut List<SharedValue>,
     form: ListForm,
     e: &'a Boxed<Expr>,
     elements: Elements,
     i: usize,
-    done: List<Shared>,
+    done: List<SharedValue>,
 ) -> Result<Task<'a>, Failure>
     ensures { Binds result (over_run form e.now (drop i elements) done) frames.old frames.new locals.old locals.new }
 {
@@ -57,12 +61,12 @@ fn over_next<'a>(
 fn filter_next<'a>(
     alloc: Global,
     frames: &mut Frames<'a>,
-    locals: &mut List<Shared>,
+    locals: &mut List<SharedValue>,
     e: &'a Boxed<Expr>,
     elements: Elements,
     i: usize,
-    mut done: List<Shared>,
-    last: Option<Shared>,
+    mut done: List<SharedValue>,
+    last: Option<SharedValue>,
     test: bool,
 ) -> Result<Task<'a>, Failure>
     ensures { Binds result (kept_run test e.now (drop i elements) done last)
@@ -103,14 +107,14 @@ fn filter_next<'a>(
 pub(crate) fn after<'a>(
     alloc: Global,
     frames: &mut Frames<'a>,
-    locals: &mut List<Shared>,
+    locals: &mut List<SharedValue>,
     form: ListForm,
     e: &'a Boxed<Expr>,
     elements: Elements,
     i: usize,
-    mut done: List<Shared>,
-    last: Option<Shared>,
-    value: Shared,
+    mut done: List<SharedValue>,
+    last: Option<SharedValue>,
+    value: SharedValue,
 ) -> Result<Task<'a>, Failure>
     ensures { Binds result (after_run form e.now (drop i elements) done last value)
         frames.old frames.new locals.old locals.new }
@@ -127,11 +131,11 @@ pub(crate) fn after<'a>(
                 i,
                 done,
             ),
-            Ok(false) => Ok(Task::Give(Shared::of_truth(false))),
+            Ok(false) => Ok(Task::Give(SharedValue::of_truth(false))),
             Err(stop) => Err(Failure::Stop(stop)),
         },
         ListForm::Exists => match value.truth() {
-            Ok(true) => Ok(Task::Give(Shared::of_truth(true))),
+            Ok(true) => Ok(Task::Give(SharedValue::of_truth(true))),
             Ok(false) => over_next(
                 alloc,
                 frames,
@@ -159,11 +163,11 @@ pub(crate) fn after<'a>(
 #[tactic(auto, using(crate::proofs::Overs::steps))]
 pub(crate) fn combine_next<'a>(
     frames: &mut Frames<'a>,
-    locals: &mut List<Shared>,
+    locals: &mut List<SharedValue>,
     e: &'a Boxed<Expr>,
     elements: Elements,
     i: usize,
-    total: Shared,
+    total: SharedValue,
 ) -> Result<Task<'a>, Failure>
     ensures { Binds result (combined_run e.now (drop i elements) total) frames.old frames.new locals.old locals.new }
 {
@@ -181,12 +185,12 @@ pub(crate) fn combine_next<'a>(
 
 /// How many elements a list has.
 #[tactic(auto, using(crate::proofs::Leaves::leaves))]
-fn length_of(elements: &Elements) -> Result<Shared, Failure>
+fn length_of(elements: &Elements) -> Result<SharedValue, Failure>
     ensures { IsTold result (Ok (flat.Integer (pos (length elements.now)))) }
 {
     match i64::try_from(elements.len()) {
         Ok(length) => match Whole::new(length) {
-            Some(length) => Ok(Shared::of_whole(length)),
+            Some(length) => Ok(SharedValue::of_whole(length)),
             None => Err(Failure::Memory),
         },
         Err(_) => Err(Failure::Memory),
@@ -198,7 +202,7 @@ fn length_of(elements: &Elements) -> Result<Shared, Failure>
 fn on_whole<'a>(
     alloc: Global,
     frames: &mut Frames<'a>,
-    locals: &mut List<Shared>,
+    locals: &mut List<SharedValue>,
     one: OnList<'a>,
     elements: Elements,
 ) -> Result<Task<'a>, Failure>
@@ -229,9 +233,9 @@ fn on_whole<'a>(
 pub(crate) fn on_list<'a>(
     alloc: Global,
     frames: &mut Frames<'a>,
-    locals: &mut List<Shared>,
+    locals: &mut List<SharedValue>,
     one: OnList<'a>,
-    value: Shared,
+    value: SharedValue,
 ) -> Result<Task<'a>, Failure>
     ensures { Binds result (list_run one.entry value) frames.old frames.new locals.old locals.new }
 {

@@ -4,12 +4,12 @@ ghost use Rattle.cat_evaluate_step.specs.OverLists.{last_of, without_last};
 ghost use Rattle.cat_evaluate_step.specs.inside.Listing.{IsBound};
 
 use cat_pos::List;
-use cat_shared::{Elements, Shared};
+use cat_shared::{Elements, SharedValue};
 use std::alloc::AllocError;
 
 /// The element at an index has a local name.
 pub(crate) fn bind_element(
-    locals: &mut List<Shared>,
+    locals: &mut List<SharedValue>,
     elements: &Elements,
     i: usize,
 ) -> Result<(), AllocError>
@@ -21,7 +21,7 @@ pub(crate) fn bind_element(
 }
 
 /// The last local name goes out of scope.
-pub(crate) fn unbind(locals: &mut List<Shared>) -> Option<Shared>
+pub(crate) fn unbind(locals: &mut List<SharedValue>) -> Option<SharedValue>
     ensures last { result ≡ last_of locals.old }
     ensures left { locals.new ≡ without_last locals.old }
 {

@@ -8,7 +8,7 @@ use crate::frames::{Frame, Frames, OnOperand, Task};
 use crate::going::{eval, wait};
 use cat_pos::List;
 use cat_scope::{Arm, ArmPattern, Arms, Stop};
-use cat_shared::{Failure, Shared};
+use cat_shared::{Failure, SharedValue};
 
 fn is_for(pattern: ArmPattern, case: u32) -> bool
     ensures { result ≡ is_for case pattern }
@@ -36,9 +36,9 @@ fn arm_for<'a>(arms: &'a Arms, case: u32) -> Option<&'a Arm>
 #[tactic(auto, using(crate::proofs::Matches::steps))]
 fn arm_body<'a>(
     frames: &mut Frames<'a>,
-    locals: &mut List<Shared>,
+    locals: &mut List<SharedValue>,
     arm: &'a Arm,
-    content: Option<Shared>,
+    content: Option<SharedValue>,
 ) -> Result<Task<'a>, Failure>
     ensures { Binds result (arm_run arm.now content) frames.old frames.new locals.old locals.new }
 {
@@ -63,9 +63,9 @@ fn arm_body<'a>(
 #[tactic(auto, using(crate::proofs::Matches::steps))]
 pub(crate) fn on_match<'a>(
     frames: &mut Frames<'a>,
-    locals: &mut List<Shared>,
+    locals: &mut List<SharedValue>,
     arms: &'a Arms,
-    value: &Shared,
+    value: &SharedValue,
 ) -> Result<Task<'a>, Failure>
     ensures { Binds result (match_run arms.now value.now) frames.old frames.new locals.old locals.new }
 {

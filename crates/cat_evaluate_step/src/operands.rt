@@ -18,12 +18,12 @@ use crate::matching::on_match;
 use crate::scene::Scene;
 use cat_operate::{convert, operate};
 use cat_pos::List;
-use cat_shared::{Failure, Shared};
+use cat_shared::{Failure, SharedValue};
 use std::alloc::Global;
 
 /// Field k of a structure.
 #[tactic(auto, using(crate::proofs::Leaves::leaves))]
-fn field(value: &Shared, k: u32) -> Result<Shared, Failure>
+fn field(value: &SharedValue, k: u32) -> Result<SharedValue, Failure>
     ensures { IsTold result (part k value.now) }
 {
     value.part(k as usize)
@@ -31,11 +31,11 @@ fn field(value: &Shared, k: u32) -> Result<Shared, Failure>
 
 /// Whether a value is a case.
 #[tactic(auto, using(crate::proofs::Leaves::leaves))]
-fn is_case(value: &Shared, k: u32) -> Result<Shared, Failure>
+fn is_case(value: &SharedValue, k: u32) -> Result<SharedValue, Failure>
     ensures { IsTold result (on_one (case_of value.now) (λ c. Ok (flat.Boolean (nat_eq c.0 k)))) }
 {
     match value.case_of() {
-        Ok((case, _)) => Ok(Shared::of_truth(case == k)),
+        Ok((case, _)) => Ok(SharedValue::of_truth(case == k)),
         Err(Failure::Stop(stop)) => Err(Failure::Stop(stop)),
         Err(Failure::Memory) => Err(Failure::Memory),
     }
@@ -47,9 +47,9 @@ pub(crate) fn on_operand<'a>(
     alloc: Global,
     frames: &mut Frames<'a>,
     scene: &Scene<'a>,
-    locals: &mut List<Shared>,
+    locals: &mut List<SharedValue>,
     one: OnOperand<'a>,
-    value: Shared,
+    value: SharedValue,
 ) -> Result<Task<'a>, Failure>
     ensures { GoesOn result (resumed (env_at scene.now) locals.old (frame.OnOperand one.entry ∷ frames.old) value)
         (env_at scene.now) locals.new frames.new }
@@ -65,8 +65,8 @@ pub(crate) fn on_operand<'a>(
             &left,
             &value,
         )),
-        OnOperand::And(e) => either(&value, next(e), Task::Give(Shared::of_truth(false))),
-        OnOperand::Or(e) => either(&value, Task::Give(Shared::of_truth(true)), next(e)),
+        OnOperand::And(e) => either(&value, next(e), Task::Give(SharedValue::of_truth(false))),
+        OnOperand::Or(e) => either(&value, Task::Give(SharedValue::of_truth(true)), next(e)),
         OnOperand::If(e, f) => either(&value, next(e), next(f)),
         OnOperand::Match(arms) => on_match(frames, locals, arms, &value),
         OnOperand::IsCase(k) => give(is_case(&value, k)),

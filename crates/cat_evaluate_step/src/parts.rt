@@ -9,7 +9,7 @@ use crate::made::made_list;
 use crate::structures::structured;
 use cat_pos::List;
 use cat_scope::{Exprs, FieldValues};
-use cat_shared::{Failure, Shared};
+use cat_shared::{Failure, SharedValue};
 use std::alloc::Global;
 
 /// The expression at an index is next, behind the values of those before it.
@@ -20,7 +20,7 @@ pub(crate) fn exprs_next<'a>(
     purpose: ExprsUse,
     es: &'a Exprs,
     i: usize,
-    values: List<Shared>,
+    values: List<SharedValue>,
 ) -> Result<Task<'a>, Failure>
     ensures { Passes result (exprs_run purpose (drop i es.now) values) frames.old frames.new }
 {
@@ -41,7 +41,7 @@ pub(crate) fn fields_next<'a>(
     purpose: FieldsUse,
     fields: &'a FieldValues,
     i: usize,
-    values: List<(u32, Shared)>,
+    values: List<(u32, SharedValue)>,
 ) -> Result<Task<'a>, Failure>
     ensures { Passes result (fields_run purpose (drop i fields.now) values) frames.old frames.new }
 {
@@ -86,7 +86,7 @@ pub(crate) fn on_part<'a>(
     alloc: Global,
     frames: &mut Frames<'a>,
     one: OnPart<'a>,
-    value: Shared,
+    value: SharedValue,
 ) -> Result<Task<'a>, Failure>
     ensures { Passes result (part_run one.entry value) frames.old frames.new }
 {

@@ -15,7 +15,7 @@ use crate::operands::on_operand;
 use crate::parts::on_part;
 use crate::scene::Scene;
 use cat_pos::List;
-use cat_shared::{Failure, Shared};
+use cat_shared::{Failure, SharedValue};
 use std::alloc::Global;
 
 /// What a task leads to.
@@ -41,9 +41,9 @@ fn on_frame<'a>(
     alloc: Global,
     frames: &mut Frames<'a>,
     scene: &Scene<'a>,
-    locals: &mut List<Shared>,
+    locals: &mut List<SharedValue>,
     frame: Frame<'a>,
-    value: Shared,
+    value: SharedValue,
 ) -> Result<Task<'a>, Failure>
     ensures { GoesOn result (resumed (env_at scene.now) locals.old (frame.entry ∷ frames.old) value)
         (env_at scene.now) locals.new frames.new }
@@ -62,7 +62,7 @@ fn take_step<'a>(
     alloc: Global,
     scene: &Scene<'a>,
     frames: &mut Frames<'a>,
-    locals: &mut List<Shared>,
+    locals: &mut List<SharedValue>,
     task: Task<'a>,
 ) -> Result<Step<'a>, Failure>
     ensures { StepsTo result (ending (env_at scene.now) locals.old frames.old task.entry)
@@ -86,7 +86,7 @@ pub fn advance<'a>(
     alloc: Global,
     scene: &Scene<'a>,
     frames: &mut Frames<'a>,
-    locals: &mut List<Shared>,
+    locals: &mut List<SharedValue>,
     task: Task<'a>,
 ) -> Result<Pause, Failure>
     ensures { PausesAt result (ending (env_at scene.now) locals.old frames.old task.entry)

@@ -6,12 +6,12 @@ ghost use Rattle.cat_evaluate_step.specs.inside.Steps.{IsTold};
 
 use cat_pos::List;
 use cat_scope::Stop;
-use cat_shared::{Failure, Shared};
+use cat_shared::{Failure, SharedValue};
 use std::alloc::Global;
 
 /// What is given for a field.
 #[tactic(auto, using(crate::proofs::Ordering::walking))]
-fn value_given(fields: &List<(u32, Shared)>, k: usize) -> Option<&Shared>
+fn value_given(fields: &List<(u32, SharedValue)>, k: usize) -> Option<&SharedValue>
     ensures { option_copied result ≡ value_given k fields.now }
 {
     for (field, value) in fields.as_slice() {
@@ -24,7 +24,10 @@ fn value_given(fields: &List<(u32, Shared)>, k: usize) -> Option<&Shared>
 
 /// A structure of the values of its fields, in the order of their declarations.
 #[tactic(auto, using(crate::proofs::Ordering::ordering, crate::proofs::Leaves::leaves))]
-pub(crate) fn structured(alloc: Global, fields: &List<(u32, Shared)>) -> Result<Shared, Failure>
+pub(crate) fn structured(
+    alloc: Global,
+    fields: &List<(u32, SharedValue)>,
+) -> Result<SharedValue, Failure>
     ensures { IsTold result (structured fields.now) }
 {
     let mut values = List::new(alloc);
@@ -34,5 +37,5 @@ pub(crate) fn structured(alloc: Global, fields: &List<(u32, Shared)>) -> Result<
             None => return Err(Failure::Stop(Stop::Stuck)),
         }
     }
-    Ok(Shared::of_structure(alloc, values)?)
+    Ok(SharedValue::of_structure(alloc, values)?)
 }

@@ -11,7 +11,7 @@ use crate::going::wait;
 use cat_calc::{Justification, Term, Terms};
 use cat_pos::{Boxed, List};
 use cat_scope::Stop;
-use cat_shared::{Failure, Shared};
+use cat_shared::{Failure, SharedValue};
 use cat_value::Target;
 use std::alloc::{AllocError, Global};
 
@@ -162,7 +162,7 @@ pub(crate) fn on_found<'a>(
 pub(crate) fn on_value<'a>(
     target: Target,
     use_of: OnValue<'a>,
-    value: Shared,
+    value: SharedValue,
 ) -> Result<TermTask<'a>, Failure>
     ensures { Settles result (used_run use_of.entry value) target }
 {

@@ -3,14 +3,14 @@ use cat_calc::{Justification, Term, Terms};
 use cat_evaluate_step::Stack;
 use cat_pos::{Boxed, List, Pos};
 use cat_scope::Expr;
-use cat_shared::Shared;
+use cat_shared::SharedValue;
 
 /// A definition that holds: its number, its position, and what it gives.
 #[derive(Drop)]
 pub struct Definition {
     pub number: u32,
     pub pos: Pos,
-    pub value: Shared,
+    pub value: SharedValue,
 }
 
 /// What the value of an expression is for.
@@ -45,7 +45,7 @@ pub enum TermTask<'a> {
     /// An expression is to be evaluated.
     Evaluate(&'a Expr, OnValue<'a>),
     /// An expression has given a value.
-    Give(OnValue<'a>, Shared),
+    Give(OnValue<'a>, SharedValue),
 }
 
 /// Where a reduction comes to.

@@ -8,7 +8,7 @@ use crate::frames::{Definition, ExceptionFrames, OnValue, TermPause, TermTask};
 use crate::reducing::reduce;
 use cat_evaluate_step::{Frames, Pause, Scene, Task, advance};
 use cat_pos::List;
-use cat_shared::{Failure, Shared};
+use cat_shared::{Failure, SharedValue};
 use cat_value::Target;
 use std::alloc::{AllocError, Global};
 
@@ -25,9 +25,9 @@ pub enum JudgeTask<'a> {
 pub enum JudgePause<'a> {
     Found(Option<Definition>),
     /// A function is called by an expression whose value is for this.
-    Call(OnValue<'a>, u32, List<Shared>),
+    Call(OnValue<'a>, u32, List<SharedValue>),
     /// A scope is called, with these fields, for an output.
-    ScopeCall(OnValue<'a>, u32, List<(u32, Shared)>, u32),
+    ScopeCall(OnValue<'a>, u32, List<(u32, SharedValue)>, u32),
 }
 
 /// What a task leads to.
@@ -38,7 +38,7 @@ enum JudgeStep<'a> {
 }
 
 /// The same values once more.
-fn all_shared(alloc: Global, values: &List<Shared>) -> Result<List<Shared>, AllocError>
+fn all_shared(alloc: Global, values: &List<SharedValue>) -> Result<List<SharedValue>, AllocError>
     ensures { IfOk result (λ shared. shared ≡ values.now) }
 {
     let mut shared = List::new(alloc);
@@ -60,10 +60,10 @@ fn clear<'a>(frames: &mut Frames<'a>)
 fn term_step<'a>(
     alloc: Global,
     target: Target,
-    arguments: &List<Shared>,
+    arguments: &List<SharedValue>,
     exceptions: &mut ExceptionFrames<'a>,
     frames: &mut Frames<'a>,
-    locals: &mut List<Shared>,
+    locals: &mut List<SharedValue>,
     one: TermTask<'a>,
 ) -> Result<JudgeStep<'a>, Failure>
     ensures { TermSteps result target arguments.now exceptions.old one.entry exceptions.new frames.new locals.new }
@@ -88,7 +88,7 @@ fn expression_step<'a>(
     alloc: Global,
     scene: &Scene<'a>,
     frames: &mut Frames<'a>,
-    locals: &mut List<Shared>,
+    locals: &mut List<SharedValue>,
     use_of: OnValue<'a>,
     one: Task<'a>,
 ) -> Result<JudgeStep<'a>, Failure>
@@ -114,10 +114,10 @@ fn judge_step<'a>(
     alloc: Global,
     scene: &Scene<'a>,
     target: Target,
-    arguments: &List<Shared>,
+    arguments: &List<SharedValue>,
     exceptions: &mut ExceptionFrames<'a>,
     frames: &mut Frames<'a>,
-    locals: &mut List<Shared>,
+    locals: &mut List<SharedValue>,
     task: JudgeTask<'a>,
 ) -> Result<JudgeStep<'a>, Failure>
     ensures { TakesStep result (env_at scene.now) target arguments.now exceptions.old frames.old locals.old task.entry
@@ -140,10 +140,10 @@ pub fn judge<'a>(
     alloc: Global,
     scene: &Scene<'a>,
     target: Target,
-    arguments: &List<Shared>,
+    arguments: &List<SharedValue>,
     exceptions: &mut ExceptionFrames<'a>,
     frames: &mut Frames<'a>,
-    locals: &mut List<Shared>,
+    locals: &mut List<SharedValue>,
     task: JudgeTask<'a>,
 ) -> Result<JudgePause<'a>, Failure>
     ensures { IsJudged result (env_at scene.now) target arguments.now exceptions.old frames.old locals.old task.entry

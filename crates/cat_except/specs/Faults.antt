@@ -72,10 +72,12 @@ abbrev pub in_defs : Kind → List Group → Group → List Numbered → List Po
 in_defs kind groups g [] = []
 in_defs kind groups g (d ∷ ds) = in_front (kind groups g d.1) (in_defs kind groups g ds)
 
+-- the positions that a check finds in the definitions of some groups of one target
 abbrev pub in_groups : Kind → List Group → List Group → List Pos
 in_groups kind groups [] = []
 in_groups kind groups (g ∷ gs) = in_defs kind groups g g.defs ++ in_groups kind groups gs
 
+-- and in the groups of each target
 abbrev pub in_targets : Kind → List (List Group) → List Pos
 in_targets kind [] = []
 in_targets kind (groups ∷ targets) = in_groups kind groups groups ++ in_targets kind targets

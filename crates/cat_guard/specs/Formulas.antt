@@ -18,6 +18,7 @@ pub data Formula (A : Type 0) : Type 0 where
 abbrev pub both : Bool → Bool → Bool
 both a b = a && b
 
+-- at least one of the two
 abbrev pub any : Bool → Bool → Bool
 any a b = a || b
 

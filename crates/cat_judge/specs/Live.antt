@@ -18,6 +18,7 @@ defs_verdict t answers defs = listed (map (λ d. def_verdict answers d (slice_ge
 abbrev pub live_by : TableTarget → (ℕ → Option Bool) → LiveGroup-F Verdict → Verdict
 live_by t answers g = else_verdict (listed g.excepted_by) (defs_verdict t answers g.defs)
 
+-- what is known of a group that may still count
 unfoldable pub live_verdict : TableTarget → (ℕ → Option Bool) → LiveGroup → Verdict
 live_verdict t answers = fold-LiveGroup Verdict (live_by t answers)
 
@@ -29,6 +30,7 @@ lives_verdict t answers live = listed (map (live_verdict t answers) live)
 abbrev pub named_by : ℕ → LiveGroup-F Bool → Bool
 named_by defs g = list_all (λ named. named) g.excepted_by && are_below defs g.defs
 
+-- a group, and those excepted to it, name only definitions below that number
 unfoldable pub names_defs : ℕ → LiveGroup → Bool
 names_defs defs = fold-LiveGroup Bool (named_by defs)
 

@@ -43,8 +43,7 @@ pub fn definition(
     let head = Head::of(here.alloc, lead, place, &aim)?;
     let value = consequence(here, value, params, &aim)?;
     let condition = whole_condition(here, block, condition, params, aim.params)?;
-    let def = head.define(here.alloc, condition, value.into_expr().into_inner())?;
-    Ok(def)
+    Ok(head.define(here.alloc, condition, value.into_expr().into_inner())?)
 }
 
 /// A rule: a definition of a condition variable as true or false.
@@ -69,8 +68,7 @@ pub fn rule(
     let params = target.params.as_slice();
     let condition = whole_condition(here, block, condition, params, aim.params)?;
     let holds = Literal::Boolean(is_fulfilled(fulfilled));
-    let def = head.define(here.alloc, condition, Expr::Literal(place, holds))?;
-    Ok(def)
+    Ok(head.define(here.alloc, condition, Expr::Literal(place, holds))?)
 }
 
 /// What a rule says of its condition variable.

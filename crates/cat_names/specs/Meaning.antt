@@ -31,6 +31,7 @@ pub record NamedMeaning : Type 0 where
 abbrev pub ArmMeaning : Type 0
 ArmMeaning = Pattern × NamedMeaning
 
+-- the name of a field, and what its value means
 abbrev pub FieldMeaning : Type 0
 FieldMeaning = Name × NamedMeaning
 

@@ -23,6 +23,7 @@ use Rattle.cat_numbering.specs.declared.numbering.Numbering.{Numbering}
 abbrev pub items_at : Here → List ItemDecl
 items_at here = here.items.now
 
+-- what an expression there stands in
 abbrev pub standing_at : Here → Standing
 standing_at here = standing here.place.function here.place.params
 
@@ -30,6 +31,7 @@ standing_at here = standing here.place.function here.place.params
 abbrev pub question_at : Here → Expr → Dim → Cut → Question
 question_at here e d c = record { standing = standing_at here; expr = e; dim = d; cut = c }
 
+-- the guard that an expression there is
 abbrev pub guard_at : Here → Expr → Formula Question
 guard_at here e = guard_of here.decls.now (standing_at here) e
 

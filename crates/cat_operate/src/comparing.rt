@@ -6,12 +6,12 @@ use crate::faults::date_stop;
 use cat_date::{cmp_day, cmp_span};
 use cat_pos::Pos;
 use cat_scope::Stop;
-use cat_shared::{Scalar, Shared};
+use cat_shared::{Scalar, SharedValue};
 use std::cmp::Ordering;
 
 /// The order of two values; booleans and values with parts have none.
 #[tactic(auto, using(crate::proofs::Comparisons::compared_is))]
-pub(crate) fn compared(pos: Pos, left: &Shared, right: &Shared) -> Result<Ordering, Stop>
+pub(crate) fn compared(pos: Pos, left: &SharedValue, right: &SharedValue) -> Result<Ordering, Stop>
     ensures { result ≡ compared pos left.now right.now }
 {
     match left.scalar() {
@@ -30,7 +30,7 @@ pub(crate) fn compared(pos: Pos, left: &Shared, right: &Shared) -> Result<Orderi
 
 /// Whether two values are equal.
 #[tactic(auto, using(crate::proofs::Comparisons::equal_is))]
-pub(crate) fn equal(pos: Pos, left: &Shared, right: &Shared) -> Result<bool, Stop>
+pub(crate) fn equal(pos: Pos, left: &SharedValue, right: &SharedValue) -> Result<bool, Stop>
     ensures { result ≡ equal pos left.now right.now }
 {
     match left.scalar() {

@@ -7,7 +7,7 @@ use cat_date::{DateFault, Day, Span};
 use cat_num::{Frac, Money, NumFault, Whole};
 use cat_pos::Pos;
 use cat_scope::Stop;
-use cat_shared::Shared;
+use cat_shared::SharedValue;
 use cat_value::FaultKind;
 
 fn num_stop(pos: Pos, fault: NumFault) -> Stop
@@ -30,47 +30,47 @@ pub(crate) fn date_stop(pos: Pos, fault: DateFault) -> Stop
     }
 }
 
-pub(crate) fn whole_at(pos: Pos, found: Result<Whole, NumFault>) -> Result<Shared, Stop>
+pub(crate) fn whole_at(pos: Pos, found: Result<Whole, NumFault>) -> Result<SharedValue, Stop>
     ensures { result ≡ exact pos flat.Integer found }
 {
     match found {
-        Ok(whole) => Ok(Shared::of_whole(whole)),
+        Ok(whole) => Ok(SharedValue::of_whole(whole)),
         Err(fault) => Err(num_stop(pos, fault)),
     }
 }
 
-pub(crate) fn frac_at(pos: Pos, found: Result<Frac, NumFault>) -> Result<Shared, Stop>
+pub(crate) fn frac_at(pos: Pos, found: Result<Frac, NumFault>) -> Result<SharedValue, Stop>
     ensures { result ≡ exact pos flat.Decimal found }
 {
     match found {
-        Ok(frac) => Ok(Shared::of_frac(frac)),
+        Ok(frac) => Ok(SharedValue::of_frac(frac)),
         Err(fault) => Err(num_stop(pos, fault)),
     }
 }
 
-pub(crate) fn money_at(pos: Pos, found: Result<Money, NumFault>) -> Result<Shared, Stop>
+pub(crate) fn money_at(pos: Pos, found: Result<Money, NumFault>) -> Result<SharedValue, Stop>
     ensures { result ≡ exact pos flat.Money found }
 {
     match found {
-        Ok(money) => Ok(Shared::of_money(money)),
+        Ok(money) => Ok(SharedValue::of_money(money)),
         Err(fault) => Err(num_stop(pos, fault)),
     }
 }
 
-pub(crate) fn day_at(pos: Pos, found: Result<Day, DateFault>) -> Result<Shared, Stop>
+pub(crate) fn day_at(pos: Pos, found: Result<Day, DateFault>) -> Result<SharedValue, Stop>
     ensures { result ≡ dated pos flat.Date found }
 {
     match found {
-        Ok(day) => Ok(Shared::of_day(day)),
+        Ok(day) => Ok(SharedValue::of_day(day)),
         Err(fault) => Err(date_stop(pos, fault)),
     }
 }
 
-pub(crate) fn span_at(pos: Pos, found: Result<Span, DateFault>) -> Result<Shared, Stop>
+pub(crate) fn span_at(pos: Pos, found: Result<Span, DateFault>) -> Result<SharedValue, Stop>
     ensures { result ≡ dated pos flat.Duration found }
 {
     match found {
-        Ok(span) => Ok(Shared::of_span(span)),
+        Ok(span) => Ok(SharedValue::of_span(span)),
         Err(fault) => Err(date_stop(pos, fault)),
     }
 }

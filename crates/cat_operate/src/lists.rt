@@ -9,29 +9,29 @@ use cat_date::{Rounding, Span};
 use cat_num::{Money, Whole};
 use cat_pos::Pos;
 use cat_scope::{BinaryOp, Stop, SumKind};
-use cat_shared::{Elements, Shared};
+use cat_shared::{Elements, SharedValue};
 
 /// Whether a list has a value: true at the first element that is equal to it.
 #[tactic(auto, using(crate::proofs::Elements::containing))]
-pub fn contained(pos: Pos, value: &Shared, elements: &Elements) -> Result<Shared, Stop>
+pub fn contained(pos: Pos, value: &SharedValue, elements: &Elements) -> Result<SharedValue, Stop>
     ensures { result ≡ contained pos value.now elements.now }
 {
     for element in elements.as_slice() {
         if equal(pos, element, value)? {
-            return Ok(Shared::of_truth(true));
+            return Ok(SharedValue::of_truth(true));
         }
     }
-    Ok(Shared::of_truth(false))
+    Ok(SharedValue::of_truth(false))
 }
 
-fn zero_of(kind: SumKind) -> Shared
+fn zero_of(kind: SumKind) -> SharedValue
     ensures { result ≡ zero_of kind }
 {
     match kind {
-        SumKind::Integers => Shared::of_whole(Whole::new(0).unwrap()),
-        SumKind::Decimals => Shared::of_frac(over_one(Whole::new(0).unwrap())),
-        SumKind::Money => Shared::of_money(Money::new(0).unwrap()),
-        SumKind::Durations => Shared::of_span(Span::from_parts(0, 0)),
+        SumKind::Integers => SharedValue::of_whole(Whole::new(0).unwrap()),
+        SumKind::Decimals => SharedValue::of_frac(over_one(Whole::new(0).unwrap())),
+        SumKind::Money => SharedValue::of_money(Money::new(0).unwrap()),
+        SumKind::Durations => SharedValue::of_span(Span::from_parts(0, 0)),
     }
 }
 
@@ -48,7 +48,7 @@ fn adding(kind: SumKind) -> BinaryOp
 
 /// The sum of a list, from zero on in its order.
 #[tactic(auto, using(crate::proofs::Elements::summing))]
-pub fn summed(kind: SumKind, pos: Pos, elements: &Elements) -> Result<Shared, Stop>
+pub fn summed(kind: SumKind, pos: Pos, elements: &Elements) -> Result<SharedValue, Stop>
     ensures { result ≡ summed kind pos elements.now (zero_of kind) }
 {
     let op = adding(kind);

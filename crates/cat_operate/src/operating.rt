@@ -12,45 +12,45 @@ use cat_date::{Rounding, add_span, days_between, span_add, span_neg, span_sub, s
 use cat_num::{frac_of_decimal, money_over, money_times, round_half_away, round_units, truncate};
 use cat_pos::Pos;
 use cat_scope::{BinaryOp, Literal, Stop, UnaryOp};
-use cat_shared::Shared;
+use cat_shared::SharedValue;
 use std::cmp::Ordering;
 
-pub fn literal_value(literal: &Literal) -> Shared
+pub fn literal_value(literal: &Literal) -> SharedValue
     ensures { result ≡ literal_value literal.now }
 {
     match literal {
-        Literal::Boolean(truth) => Shared::of_truth(*truth),
-        Literal::Integer(whole) => Shared::of_whole(*whole),
-        Literal::Decimal(decimal) => Shared::of_frac(frac_of_decimal(*decimal)),
-        Literal::Money(money) => Shared::of_money(*money),
-        Literal::Date(day) => Shared::of_day(*day),
-        Literal::Duration(span) => Shared::of_span(*span),
+        Literal::Boolean(truth) => SharedValue::of_truth(*truth),
+        Literal::Integer(whole) => SharedValue::of_whole(*whole),
+        Literal::Decimal(decimal) => SharedValue::of_frac(frac_of_decimal(*decimal)),
+        Literal::Money(money) => SharedValue::of_money(*money),
+        Literal::Date(day) => SharedValue::of_day(*day),
+        Literal::Duration(span) => SharedValue::of_span(*span),
     }
 }
 
 /// What stands before one operand.
-pub fn convert(op: UnaryOp, pos: Pos, operand: &Shared) -> Result<Shared, Stop>
+pub fn convert(op: UnaryOp, pos: Pos, operand: &SharedValue) -> Result<SharedValue, Stop>
     ensures { result ≡ convert op pos operand.now }
 {
     match op {
-        UnaryOp::NegateInteger => Ok(Shared::of_whole(operand.integer()?.neg())),
-        UnaryOp::NegateDecimal => Ok(Shared::of_frac(operand.decimal()?.neg())),
-        UnaryOp::NegateMoney => Ok(Shared::of_money(operand.money()?.neg())),
-        UnaryOp::NegateDuration => Ok(Shared::of_span(span_neg(operand.duration()?))),
-        UnaryOp::Not => Ok(Shared::of_truth(!operand.truth()?)),
-        UnaryOp::IntegerOfDecimal => Ok(Shared::of_whole(truncate(operand.decimal()?))),
-        UnaryOp::DecimalOfInteger => Ok(Shared::of_frac(over_one(operand.integer()?))),
-        UnaryOp::DecimalOfMoney => Ok(Shared::of_frac(units(operand.money()?))),
+        UnaryOp::NegateInteger => Ok(SharedValue::of_whole(operand.integer()?.neg())),
+        UnaryOp::NegateDecimal => Ok(SharedValue::of_frac(operand.decimal()?.neg())),
+        UnaryOp::NegateMoney => Ok(SharedValue::of_money(operand.money()?.neg())),
+        UnaryOp::NegateDuration => Ok(SharedValue::of_span(span_neg(operand.duration()?))),
+        UnaryOp::Not => Ok(SharedValue::of_truth(!operand.truth()?)),
+        UnaryOp::IntegerOfDecimal => Ok(SharedValue::of_whole(truncate(operand.decimal()?))),
+        UnaryOp::DecimalOfInteger => Ok(SharedValue::of_frac(over_one(operand.integer()?))),
+        UnaryOp::DecimalOfMoney => Ok(SharedValue::of_frac(units(operand.money()?))),
         UnaryOp::MoneyOfDecimal => money_at(pos, money_times(unit(), operand.decimal()?)),
         UnaryOp::MoneyOfInteger => money_at(pos, in_cents(operand.integer()?)),
         UnaryOp::RoundDecimal => {
             let whole = round_half_away(operand.decimal()?);
-            Ok(Shared::of_frac(over_one(whole)))
+            Ok(SharedValue::of_frac(over_one(whole)))
         }
-        UnaryOp::RoundMoney => Ok(Shared::of_money(round_units(operand.money()?))),
-        UnaryOp::YearOfDate => Ok(Shared::of_whole(year_of(operand.date()?))),
-        UnaryOp::MonthOfDate => Ok(Shared::of_whole(month_of(operand.date()?))),
-        UnaryOp::DayOfDate => Ok(Shared::of_whole(day_in_month(operand.date()?))),
+        UnaryOp::RoundMoney => Ok(SharedValue::of_money(round_units(operand.money()?))),
+        UnaryOp::YearOfDate => Ok(SharedValue::of_whole(year_of(operand.date()?))),
+        UnaryOp::MonthOfDate => Ok(SharedValue::of_whole(month_of(operand.date()?))),
+        UnaryOp::DayOfDate => Ok(SharedValue::of_whole(day_in_month(operand.date()?))),
     }
 }
 
@@ -59,9 +59,9 @@ pub fn operate(
     rounding: Rounding,
     op: BinaryOp,
     pos: Pos,
-    left: &Shared,
-    right: &Shared,
-) -> Result<Shared, Stop>
+    left: &SharedValue,
+    right: &SharedValue,
+) -> Result<SharedValue, Stop>
     ensures { result ≡ operate rounding op pos left.now right.now }
 {
     match op {
@@ -102,18 +102,27 @@ pub fn operate(
             let day = left.date()?;
             day_at(pos, add_span(day, span_neg(right.duration()?), rounding))
         }
-        BinaryOp::SubtractDates => Ok(Shared::of_span(days_between(left.date()?, right.date()?))),
+        BinaryOp::SubtractDates => Ok(SharedValue::of_span(days_between(
+            left.date()?,
+            right.date()?,
+        ))),
         BinaryOp::AddDurations => span_at(pos, span_add(left.duration()?, right.duration()?)),
         BinaryOp::SubtractDurations => span_at(pos, span_sub(left.duration()?, right.duration()?)),
         BinaryOp::MultiplyDurationByInteger => {
             span_at(pos, span_times(left.duration()?, right.integer()?.get()))
         }
-        BinaryOp::Xor => Ok(Shared::of_truth(left.truth()? != right.truth()?)),
-        BinaryOp::Less => Ok(Shared::of_truth(compared(pos, left, right)? == Ordering::Less)),
-        BinaryOp::AtMost => Ok(Shared::of_truth(compared(pos, left, right)? != Ordering::Greater)),
-        BinaryOp::Greater => Ok(Shared::of_truth(compared(pos, left, right)? == Ordering::Greater)),
-        BinaryOp::AtLeast => Ok(Shared::of_truth(compared(pos, left, right)? != Ordering::Less)),
-        BinaryOp::Equal => Ok(Shared::of_truth(equal(pos, left, right)?)),
-        BinaryOp::Unequal => Ok(Shared::of_truth(!equal(pos, left, right)?)),
+        BinaryOp::Xor => Ok(SharedValue::of_truth(left.truth()? != right.truth()?)),
+        BinaryOp::Less => Ok(SharedValue::of_truth(compared(pos, left, right)? == Ordering::Less)),
+        BinaryOp::AtMost => Ok(SharedValue::of_truth(
+            compared(pos, left, right)? != Ordering::Greater,
+        )),
+        BinaryOp::Greater => Ok(SharedValue::of_truth(
+            compared(pos, left, right)? == Ordering::Greater,
+        )),
+        BinaryOp::AtLeast => Ok(SharedValue::of_truth(
+            compared(pos, left, right)? != Ordering::Less,
+        )),
+        BinaryOp::Equal => Ok(SharedValue::of_truth(equal(pos, left, right)?)),
+        BinaryOp::Unequal => Ok(SharedValue::of_truth(!equal(pos, left, right)?)),
     }
 }

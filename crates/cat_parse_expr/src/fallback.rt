@@ -27,13 +27,15 @@ fn before_fields(owner: Owner) -> Option<Node>
     }
 }
 
-fn before_arm(matching: Matching) -> Option<Node>
-    ensures { result ≡ words.before_arm matching }
+fn before_arm(alloc: Global, matching: Matching) -> Result<Option<Node>, AllocError>
+    ensures { IfOk result (λ node. node ≡ words.before_arm matching) }
 {
-    if matching.arms.get().is_empty() {
-        return None;
+    let Matching { pos, tested, arms } = matching;
+    if arms.is_empty() {
+        return Ok(None);
     }
-    Some(Node::Match(matching.pos, matching.tested, matching.arms))
+    let arms = Boxed::new(alloc, arms)?;
+    Ok(Some(Node::Match(pos, tested, arms)))
 }
 
 /// A literal's number without its unit.
@@ -103,26 +105,26 @@ pub(crate) fn fallback(alloc: Global, state: State) -> Result<Option<Node>, Allo
         }
         State::Content(case) => Ok(Some(Node::Case(case))),
         State::Argument(name, arguments) => Ok(before_argument(name, arguments)),
-        other => Ok(fallback_of_parts(other)),
+        other => fallback_of_parts(alloc, other),
     }
 }
 
 /// The expression before the fields of a literal, or before an arm.
 #[tactic(auto, unfolding(crate::specs::inside::Fallback::fallback))]
-fn fallback_of_parts(state: State) -> Option<Node>
-    ensures { result ≡ words.fallback_of_parts state }
+fn fallback_of_parts(alloc: Global, state: State) -> Result<Option<Node>, AllocError>
+    ensures { IfOk result (λ node. node ≡ words.fallback_of_parts state) }
 {
     match state {
-        State::Fields(owner, _) => before_fields(owner),
-        State::FieldName(owner, _) => before_fields(owner),
-        State::FieldColon(owner, _, _) => before_fields(owner),
-        State::FieldValue(owner, _, _) => before_fields(owner),
-        State::ArmPattern(matching) => before_arm(matching),
-        State::ArmCase(matching, _) => before_arm(matching),
-        State::ArmDot(matching, _) => before_arm(matching),
-        State::ArmOf(matching, _) => before_arm(matching),
-        State::ArmColon(matching, _) => before_arm(matching),
-        State::ArmBody(matching, _) => before_arm(matching),
-        other => no_node(other),
+        State::Fields(owner, _) => Ok(before_fields(owner)),
+        State::FieldName(owner, _) => Ok(before_fields(owner)),
+        State::FieldColon(owner, _, _) => Ok(before_fields(owner)),
+        State::FieldValue(owner, _, _) => Ok(before_fields(owner)),
+        State::ArmPattern(matching) => before_arm(alloc, matching),
+        State::ArmCase(matching, _) => before_arm(alloc, matching),
+        State::ArmDot(matching, _) => before_arm(alloc, matching),
+        State::ArmOf(matching, _) => before_arm(alloc, matching),
+        State::ArmColon(matching, _) => before_arm(alloc, matching),
+        State::ArmBody(matching, _) => before_arm(alloc, matching),
+        other => Ok(no_node(other)),
     }
 }

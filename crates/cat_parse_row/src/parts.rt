@@ -14,7 +14,7 @@ use crate::stray::Stray;
 use crate::words::{is_next, lower, word};
 use cat_lex::{DoubleKeyword, Keyword, Symbol, Token, TokenKind};
 use cat_pos::List;
-use cat_tree::{CaseItem, FieldItem, FieldItems, Name, Variable};
+use cat_tree::{CaseItem, FieldItem, FieldItems, Name, Names, Variable};
 use std::alloc::Global;
 
 /// The fields of a structure, of which there is one at least.
@@ -105,7 +105,7 @@ fn next_name(alloc: Global, tokens: &[Token], at: usize) -> Result<(Name, usize)
     lower(alloc, tokens, at)
 }
 
-fn listed_names(alloc: Global, tokens: &[Token], at: usize) -> Result<(List<Name>, usize), Stray>
+fn listed_names(alloc: Global, tokens: &[Token], at: usize) -> Result<(Names, usize), Stray>
     requires { at ≤ length tokens.now }
     ensures { Gives (spec.listed cues.lower) tokens.now at result }
 {
@@ -122,7 +122,7 @@ fn listed_names(alloc: Global, tokens: &[Token], at: usize) -> Result<(List<Name
 }
 
 /// The names of parameters, where there are some.
-pub fn names(alloc: Global, tokens: &[Token], at: usize) -> Result<(List<Name>, usize), Stray>
+pub fn names(alloc: Global, tokens: &[Token], at: usize) -> Result<(Names, usize), Stray>
     requires { at ≤ length tokens.now }
     ensures { Gives leads.names tokens.now at result }
 {

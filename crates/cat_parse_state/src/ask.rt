@@ -4,8 +4,8 @@ ghost use Rattle.cat_parse_state.specs.Operands as operands;
 ghost use Rattle.std.specs.Option.{is_some};
 ghost use Rattle.cat_parse_state.specs.Readings.{node_in};
 
-use crate::State;
 use crate::levels::{operator_level, prefix_level};
+use crate::{Matching, State};
 use cat_pos::Boxed;
 use cat_tree::{CaseName, Literal, Node};
 use std::alloc::{AllocError, Global};
@@ -79,7 +79,9 @@ pub fn whole_node(alloc: Global, state: State) -> Result<Option<Node>, AllocErro
             Some(Node::Test(node, pos, case))
         }
         State::Matched(matching, _) => {
-            Some(Node::Match(matching.pos, matching.tested, matching.arms))
+            let Matching { pos, tested, arms } = matching;
+            let arms = Boxed::new(alloc, arms)?;
+            Some(Node::Match(pos, tested, arms))
         }
         other => no_node(other),
     };

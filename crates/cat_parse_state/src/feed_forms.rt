@@ -44,7 +44,6 @@ fn tested(alloc: Global, pos: Pos, node: Node) -> Result<State, AllocError>
 }
 
 fn arm_body(
-    alloc: Global,
     matching: Matching,
     pattern: Pattern,
     body: Node,
@@ -52,10 +51,12 @@ fn arm_body(
 ) -> Result<State, AllocError>
     ensures { IfOk result (IsFed (State.ArmBody matching pattern) body in_match) }
 {
-    let Matching { pos, tested, arms } = matching;
-    let mut arms = arms.into_inner();
+    let Matching {
+        pos,
+        tested,
+        mut arms,
+    } = matching;
     arms.push(Arm { pattern, body })?;
-    let arms = Boxed::new(alloc, arms)?;
     Ok(State::Matched(Matching { pos, tested, arms }, in_match))
 }
 
@@ -145,7 +146,7 @@ pub(crate) fn feed_forms(
         State::Then(pos, condition) => then(alloc, pos, condition, node),
         State::Else(pos, condition, then) => otherwise(alloc, pos, condition, then, node),
         State::Match(pos) => tested(alloc, pos, node),
-        State::ArmBody(matching, pattern) => arm_body(alloc, matching, pattern, node, in_match),
+        State::ArmBody(matching, pattern) => arm_body(matching, pattern, node, in_match),
         State::EachList(each, pos, name) => each_list(alloc, each, pos, name, node),
         State::EachBody(each, pos, name, list) => each_body(alloc, each, pos, name, list, node),
         State::CombineList(pos, name) => combine_list(alloc, pos, name, node),

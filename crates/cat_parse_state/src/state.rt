@@ -20,7 +20,7 @@ pub enum Owner {
 pub struct Matching {
     pub pos: Pos,
     pub tested: Boxed<Node>,
-    pub arms: Boxed<Arms>,
+    pub arms: Arms,
 }
 
 /// `combine all` up to its list: its position, the element's name, and the list.

@@ -41,20 +41,15 @@ fn match_with(pos: Pos, tested: Boxed<Node>, token: &Token) -> Stepped
     }
 }
 
-fn first_arm(
-    alloc: Global,
-    pos: Pos,
-    tested: Boxed<Node>,
-    token: &Token,
-) -> Result<Stepped, AllocError>
-    ensures { IfOk result (IsStepOf 0 0 (State.FirstArm pos tested) token.now) }
+fn first_arm(alloc: Global, pos: Pos, tested: Boxed<Node>, token: &Token) -> Stepped
+    ensures { IsStepOf 0 0 (State.FirstArm pos tested) token.now result }
 {
     match &token.kind {
         TokenKind::Symbol(Symbol::MinusMinus) => {
-            let arms = Boxed::new(alloc, List::new(alloc))?;
-            Ok(Stepped::Onward(State::ArmPattern(Matching { pos, tested, arms })))
+            let arms = List::new(alloc);
+            Stepped::Onward(State::ArmPattern(Matching { pos, tested, arms }))
         }
-        _ => Ok(Stepped::Still(State::FirstArm(pos, tested))),
+        _ => Stepped::Still(State::FirstArm(pos, tested)),
     }
 }
 
@@ -159,7 +154,7 @@ pub(crate) fn step_branches(
         State::IfThen(pos, condition) => Ok(if_then(pos, condition, token)),
         State::ThenElse(pos, condition, node) => Ok(then_else(pos, condition, node, token)),
         State::MatchWith(pos, tested) => Ok(match_with(pos, tested, token)),
-        State::FirstArm(pos, tested) => first_arm(alloc, pos, tested, token),
+        State::FirstArm(pos, tested) => Ok(first_arm(alloc, pos, tested, token)),
         State::ArmPattern(matching) => arm_pattern(alloc, matching, token),
         State::ArmCase(matching, case) => Ok(arm_case(matching, case, token)),
         State::ArmDot(matching, name) => arm_dot(alloc, matching, name, token),

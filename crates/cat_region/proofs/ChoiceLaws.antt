@@ -15,7 +15,7 @@ use Rattle.cat_region.specs.declared.extent.Extent.{Extent}
 use Rattle.cat_region.specs.declared.extent.Extent.TheVariants.{Ranks, Cases}
 use Rattle.cat_region.specs.Points.{is_point, default_point}
 use Rattle.cat_region.specs.Regions.{Constraints, IsRegion, IsInhabited, is_admitted}
-use Rattle.cat_region.specs.Extents.{rank, place, start, after, is_none}
+use Rattle.cat_region.specs.Extents.{rank, start, after, is_none}
 use Rattle.cat_region.specs.Chosen.{outer_parts, decimal_in, point_in, point_at}
 use Rattle.cat_region.specs.Choices.{distance, zero_decimal, between, lower_bound, upper_bound}
 use Rattle.cat_region.specs.Choices.{decimal_at, IsChoice, IsPointOf}

@@ -51,6 +51,7 @@ closest under i bound (n ∷ ns) = closest under i (closer under bound (bound_of
 abbrev pub upper_bound : Constraints → ℕ → Option Fraction
 upper_bound region i = closest true i None region.narrowings
 
+-- the greatest bound from below of a dimension
 abbrev pub lower_bound : Constraints → ℕ → Option Fraction
 lower_bound region i = closest false i None region.narrowings
 
@@ -62,6 +63,7 @@ plus f n = lowest (f.num +ℤ n *ℤ pos f.den) f.den
 abbrev pub middle : Fraction → Fraction → Fraction
 middle f g = lowest (f.num *ℤ pos g.den +ℤ g.num *ℤ pos f.den) (2 * f.den * g.den)
 
+-- 0 as a fraction
 abbrev pub zero_decimal : Fraction
 zero_decimal = record { num = pos 0; den = 1 }
 

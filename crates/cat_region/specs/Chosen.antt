@@ -63,5 +63,6 @@ abbrev pub point_of : ℕ → Option Dim → Constraints → Point
 point_of i None region = point.Truth false
 point_of i (Some d) region = point_in d (after i (start d) region.narrowings)
 
+-- the point that is chosen in the dimension of that number
 unfoldable pub point_at : Constraints → ℕ → Point
 point_at region i = point_of i (slice_get region.dims i) region

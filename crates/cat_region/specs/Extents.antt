@@ -96,6 +96,7 @@ is_none (Cases set) = set == 0
 abbrev pub after_one : ℕ → Extent → Narrowing → Extent
 after_one i e n = if n.dim == i then narrowed e n.cut n.yes else e
 
+-- an extent after all narrowings of its dimension
 unfoldable pub after : ℕ → Extent → List Narrowing → Extent
 after i e [] = e
 after i e (n ∷ ns) = after i (after_one i e n) ns

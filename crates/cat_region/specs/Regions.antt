@@ -36,6 +36,7 @@ abbrev pub is_cut_of : Option Dim → Cut → Bool
 is_cut_of None c = false
 is_cut_of (Some d) c = is_cut d c
 
+-- a cut of the dimension of that number
 abbrev pub is_cut_at : List Dim → ℕ → Cut → Bool
 is_cut_at dims i c = is_cut_of (slice_get dims i) c
 
@@ -53,6 +54,7 @@ abbrev pub is_point_of : Option Dim → Point → Bool
 is_point_of None x = false
 is_point_of (Some d) x = is_point d x
 
+-- a value of the dimension of that number
 abbrev pub is_point_at : List Dim → ℕ → Point → Bool
 is_point_at dims i x = is_point_of (slice_get dims i) x
 

@@ -11,7 +11,7 @@ use Rattle.cat_value.specs.declared.value.Value.TheViews as value
 use Rattle.cat_scope.specs.declared.stop.Stop.TheVariants.{Stuck}
 use Rattle.cat_scope.specs.Replies.{known}
 use Rattle.cat_scope.specs.Composed.{part}
-use Rattle.cat_shared.specs.declared.shared.Shared.{Shared}
+use Rattle.cat_shared.specs.declared.shared.SharedValue.{SharedValue}
 use Rattle.cat_scope.specs.Projections.{truth, integer, decimal, money, date, duration, elements, case_of}
 use Rattle.cat_shared.specs.declared.shared.Node.{Node}
 use Rattle.cat_shared.specs.declared.shared.Node.TheVariants as node
@@ -76,7 +76,7 @@ no_duration _ other = search (rules, value.the_lemmas)
 pub elements_is : (vs : List Value) → elements (value.List vs) ≡ Ok vs
 elements_is vs = search (rules, value.the_lemmas)
 
-pub no_elements : (n : Node) → ((x : Rc (Listed Shared) Global) → n ≡ node.List x → ⊥)
+pub no_elements : (n : Node) → ((x : Rc (Listed SharedValue) Global) → n ≡ node.List x → ⊥)
     → elements (value_in n) ≡ Err Stuck
 no_elements (node.List x) other = absurd (other x refl)
 no_elements (node.Case k None) other = search (rules, value.the_lemmas)
@@ -86,7 +86,7 @@ no_elements _ other = search (rules, value.the_lemmas)
 pub part_is : (k : ℕ) (vs : List Value) → part k (value.Structure vs) ≡ known (slice_get vs k)
 part_is k vs = search (rules, value.the_lemmas)
 
-pub no_part : (k : ℕ) (n : Node) → ((x : Rc (Listed Shared) Global) → n ≡ node.Structure x → ⊥)
+pub no_part : (k : ℕ) (n : Node) → ((x : Rc (Listed SharedValue) Global) → n ≡ node.Structure x → ⊥)
     → part k (value_in n) ≡ Err Stuck
 no_part k (node.Structure x) other = absurd (other x refl)
 no_part k (node.Case n None) other = search (rules, value.the_lemmas)
@@ -99,7 +99,7 @@ case_none k = search (rules, value.the_lemmas)
 pub case_some : (k : ℕ) (v : Value) → case_of (value.Case k (Some v)) ≡ Ok (k, Some v)
 case_some k v = search (rules, value.the_lemmas)
 
-pub no_case : (n : Node) → ((k : ℕ) (content : Option (Rc Shared Global)) → n ≡ node.Case k content → ⊥)
+pub no_case : (n : Node) → ((k : ℕ) (content : Option (Rc SharedValue Global)) → n ≡ node.Case k content → ⊥)
     → case_of (value_in n) ≡ Err Stuck
 no_case (node.Case k content) other = absurd (other k content refl)
 no_case _ other = search (rules, value.the_lemmas)

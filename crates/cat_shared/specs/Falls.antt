@@ -8,7 +8,7 @@ use Rattle.cat_value.specs.declared.value.Value.TheFolds.{fold_out-Value}
 use Rattle.cat_value.specs.Laws.{value_height, height_at, greatest}
 use Rattle.cat_shared.specs.declared.shared.Node.{Node}
 use Rattle.cat_shared.specs.declared.shared.Node.TheVariants as node
-use Rattle.cat_shared.specs.declared.shared.Shared.TheDeep.{deep-Node}
+use Rattle.cat_shared.specs.declared.shared.SharedValue.TheDeep.{deep-Node}
 use Rattle.cat_shared.specs.Nodes.{value_in}
 
 -- the height of a list, a structure and a case is one more than that of what is in it

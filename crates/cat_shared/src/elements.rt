@@ -2,7 +2,7 @@
 ghost use Rattle.std.specs.Prelude.{◌≡◌, length, slice_get, IfOk};
 ghost use Rattle.std.specs.Option.{option_copied};
 
-use crate::Shared;
+use crate::SharedValue;
 use cat_pos::List;
 use std::alloc::AllocError;
 use std::marker::Model;
@@ -11,7 +11,7 @@ use std::rc::Rc;
 /// The elements of a list, which stay as long as someone holds them.
 #[derive(Drop)]
 pub struct Elements {
-    elements: Rc<List<Shared>>,
+    elements: Rc<List<SharedValue>>,
 }
 
 impl Model for Elements {
@@ -28,13 +28,13 @@ impl Model for Elements {
 }
 
 impl Elements {
-    pub(crate) fn from_rc(elements: Rc<List<Shared>>) -> Elements
+    pub(crate) fn from_rc(elements: Rc<List<SharedValue>>) -> Elements
         ensures { result ≡ elements.value }
     {
         Elements { elements }
     }
 
-    pub fn as_slice(&self) -> &[Shared]
+    pub fn as_slice(&self) -> &[SharedValue]
         ensures { result.now ≡ self.now }
     {
         self.elements.as_slice()
@@ -46,7 +46,7 @@ impl Elements {
         self.elements.len()
     }
 
-    pub fn get(&self, at: usize) -> Option<&Shared>
+    pub fn get(&self, at: usize) -> Option<&SharedValue>
         ensures { option_copied result ≡ slice_get self.now at }
     {
         self.elements.get(at)

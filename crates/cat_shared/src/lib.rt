@@ -8,5 +8,5 @@ mod values;
 
 pub use elements::Elements;
 pub use failure::Failure;
-pub use shared::{Scalar, Shared};
+pub use shared::{Scalar, SharedValue};
 pub use values::{shared_of, value_of, values_of};

@@ -19,7 +19,7 @@ use std::rc::Rc;
 /// A value that is shared: a second one takes no room of its own, and contracts see no difference.
 #[cycle(shared)]
 #[derive(Drop)]
-pub struct Shared {
+pub struct SharedValue {
     pub(crate) node: Node,
 }
 
@@ -32,12 +32,12 @@ pub(crate) enum Node {
     Money(Money),
     Date(Day),
     Duration(Span),
-    List(Rc<List<Shared>>),
-    Structure(Rc<List<Shared>>),
-    Case(u32, Option<Rc<Shared>>),
+    List(Rc<List<SharedValue>>),
+    Structure(Rc<List<SharedValue>>),
+    Case(u32, Option<Rc<SharedValue>>),
 }
 
-impl Model for Shared {
+impl Model for SharedValue {
     ghost use Rattle.cat_value.specs.declared.value.Value.{Value as Valued};
     ghost use Rattle.cat_value.specs.contracts.value.Value as valued;
     ghost use Rattle.std.specs.Coded.{codes};
@@ -73,85 +73,89 @@ pub enum Scalar {
     Compound,
 }
 
-impl Shared {
-    pub fn of_truth(truth: bool) -> Shared
+impl SharedValue {
+    pub fn of_truth(truth: bool) -> SharedValue
         ensures { result ≡ flat.Boolean truth }
     {
-        Shared {
+        SharedValue {
             node: Node::Boolean(truth),
         }
     }
 
-    pub fn of_whole(whole: Whole) -> Shared
+    pub fn of_whole(whole: Whole) -> SharedValue
         ensures { result ≡ flat.Integer whole }
     {
-        Shared {
+        SharedValue {
             node: Node::Integer(whole),
         }
     }
 
-    pub fn of_frac(frac: Frac) -> Shared
+    pub fn of_frac(frac: Frac) -> SharedValue
         ensures { result ≡ flat.Decimal frac }
     {
-        Shared {
+        SharedValue {
             node: Node::Decimal(frac),
         }
     }
 
-    pub fn of_money(money: Money) -> Shared
+    pub fn of_money(money: Money) -> SharedValue
         ensures { result ≡ flat.Money money }
     {
-        Shared {
+        SharedValue {
             node: Node::Money(money),
         }
     }
 
-    pub fn of_day(day: Day) -> Shared
+    pub fn of_day(day: Day) -> SharedValue
         ensures { result ≡ flat.Date day }
     {
-        Shared {
+        SharedValue {
             node: Node::Date(day),
         }
     }
 
-    pub fn of_span(span: Span) -> Shared
+    pub fn of_span(span: Span) -> SharedValue
         ensures { result ≡ flat.Duration span }
     {
-        Shared {
+        SharedValue {
             node: Node::Duration(span),
         }
     }
 
-    pub fn of_list(alloc: Global, elements: List<Shared>) -> Result<Shared, AllocError>
+    pub fn of_list(alloc: Global, elements: List<SharedValue>) -> Result<SharedValue, AllocError>
         ensures { IfOk result (λ made. made ≡ value.List elements) }
     {
-        Ok(Shared {
+        Ok(SharedValue {
             node: Node::List(Rc::new(alloc, elements)?),
         })
     }
 
-    pub fn of_structure(alloc: Global, fields: List<Shared>) -> Result<Shared, AllocError>
+    pub fn of_structure(alloc: Global, fields: List<SharedValue>) -> Result<SharedValue, AllocError>
         ensures { IfOk result (λ made. made ≡ value.Structure fields) }
     {
-        Ok(Shared {
+        Ok(SharedValue {
             node: Node::Structure(Rc::new(alloc, fields)?),
         })
     }
 
-    pub fn of_case(alloc: Global, case: u32, content: Option<Shared>) -> Result<Shared, AllocError>
+    pub fn of_case(
+        alloc: Global,
+        case: u32,
+        content: Option<SharedValue>,
+    ) -> Result<SharedValue, AllocError>
         ensures { IfOk result (λ made. made ≡ value.Case case content) }
     {
         let content = match content {
             None => None,
             Some(content) => Some(Rc::new(alloc, content)?),
         };
-        Ok(Shared {
+        Ok(SharedValue {
             node: Node::Case(case, content),
         })
     }
 
     /// The same value once more.
-    pub fn share(&self) -> Result<Shared, AllocError>
+    pub fn share(&self) -> Result<SharedValue, AllocError>
         ensures { IfOk result (λ shared. shared ≡ self.now) }
     {
         let node = match &self.node {
@@ -166,7 +170,7 @@ impl Shared {
             Node::Case(case, None) => Node::Case(*case, None),
             Node::Case(case, Some(content)) => Node::Case(*case, Some(content.clone()?)),
         };
-        Ok(Shared { node })
+        Ok(SharedValue { node })
     }
 
     #[tactic(auto, using(crate::proofs::Telling::truth_is, crate::proofs::Telling::no_truth))]
@@ -242,7 +246,7 @@ impl Shared {
 
     /// Field k of a structure.
     #[tactic(auto, using(crate::proofs::Telling::part_is, crate::proofs::Telling::no_part))]
-    pub fn part(&self, k: usize) -> Result<Shared, Failure>
+    pub fn part(&self, k: usize) -> Result<SharedValue, Failure>
         ensures { Tells result (part k self.now) }
     {
         match &self.node {
@@ -256,7 +260,7 @@ impl Shared {
 
     /// The number of a case, and its content.
     #[tactic(auto, using(crate::proofs::Telling::cases))]
-    pub fn case_of(&self) -> Result<(u32, Option<Shared>), Failure>
+    pub fn case_of(&self) -> Result<(u32, Option<SharedValue>), Failure>
         ensures { Tells result (case_of self.now) }
     {
         match &self.node {

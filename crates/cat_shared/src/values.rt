@@ -1,7 +1,7 @@
 // Between values and shared ones.
 ghost use Rattle.std.specs.Prelude.{◌≡◌, IfOk};
 
-use crate::Shared;
+use crate::SharedValue;
 use crate::shared::Node;
 use cat_pos::{Boxed, List};
 use cat_value::{Value, Values};
@@ -9,34 +9,34 @@ use std::alloc::{AllocError, Global};
 
 /// A value as a shared one.
 #[cycle(sharing)]
-pub fn shared_of(alloc: Global, value: &Value) -> Result<Shared, AllocError>
+pub fn shared_of(alloc: Global, value: &Value) -> Result<SharedValue, AllocError>
     ensures { IfOk result (λ shared. shared ≡ value.now) }
 {
     match value {
-        Value::Boolean(truth) => Ok(Shared::of_truth(*truth)),
-        Value::Integer(whole) => Ok(Shared::of_whole(*whole)),
-        Value::Decimal(frac) => Ok(Shared::of_frac(*frac)),
-        Value::Money(money) => Ok(Shared::of_money(*money)),
-        Value::Date(day) => Ok(Shared::of_day(*day)),
-        Value::Duration(span) => Ok(Shared::of_span(*span)),
+        Value::Boolean(truth) => Ok(SharedValue::of_truth(*truth)),
+        Value::Integer(whole) => Ok(SharedValue::of_whole(*whole)),
+        Value::Decimal(frac) => Ok(SharedValue::of_frac(*frac)),
+        Value::Money(money) => Ok(SharedValue::of_money(*money)),
+        Value::Date(day) => Ok(SharedValue::of_day(*day)),
+        Value::Duration(span) => Ok(SharedValue::of_span(*span)),
         Value::List(elements) => {
             let elements = all_shared(alloc, elements)?;
-            Shared::of_list(alloc, elements)
+            SharedValue::of_list(alloc, elements)
         }
         Value::Structure(fields) => {
             let fields = all_shared(alloc, fields)?;
-            Shared::of_structure(alloc, fields)
+            SharedValue::of_structure(alloc, fields)
         }
-        Value::Case(case, None) => Shared::of_case(alloc, *case, None),
+        Value::Case(case, None) => SharedValue::of_case(alloc, *case, None),
         Value::Case(case, Some(content)) => {
             let content = shared_of(alloc, content.get())?;
-            Shared::of_case(alloc, *case, Some(content))
+            SharedValue::of_case(alloc, *case, Some(content))
         }
     }
 }
 
 #[cycle(sharing)]
-fn all_shared(alloc: Global, values: &Values) -> Result<List<Shared>, AllocError>
+fn all_shared(alloc: Global, values: &Values) -> Result<List<SharedValue>, AllocError>
     ensures { IfOk result (λ shared. shared ≡ values.now) }
 {
     let mut shared = List::new(alloc);
@@ -49,7 +49,7 @@ fn all_shared(alloc: Global, values: &Values) -> Result<List<Shared>, AllocError
 /// A shared value as one in memory of its own.
 #[cycle(unsharing)]
 #[tactic(auto, using(crate::proofs::Lower::heights))]
-pub fn value_of(alloc: Global, shared: &Shared) -> Result<Value, AllocError>
+pub fn value_of(alloc: Global, shared: &SharedValue) -> Result<Value, AllocError>
     ensures { IfOk result (λ value. value ≡ shared.now) }
 {
     match &shared.node {
@@ -76,10 +76,10 @@ pub fn value_of(alloc: Global, shared: &Shared) -> Result<Value, AllocError>
     }
 }
 
-/// Shared values, each in memory of its own.
+/// SharedValue values, each in memory of its own.
 #[cycle(unsharing)]
 #[tactic(auto, using(crate::proofs::Lower::heights))]
-pub fn values_of(alloc: Global, shared: &List<Shared>) -> Result<Values, AllocError>
+pub fn values_of(alloc: Global, shared: &List<SharedValue>) -> Result<Values, AllocError>
     ensures { IfOk result (λ values. values ≡ shared.now) }
 {
     let mut values = List::new(alloc);

@@ -19,6 +19,7 @@ use Rattle.cat_guard.specs.Questions.{Question}
 abbrev pub Branch : Type 0 → Type 0
 Branch E = ArmPattern × E
 
+-- the number of a field, and its value
 abbrev pub Slot : Type 0 → Type 0
 Slot E = ℕ × E
 
@@ -79,6 +80,7 @@ abbrev pub pattern_numbers : ArmPattern → List ℕ
 pattern_numbers (pattern.Case k bound) = suc (truth_number bound) ∷ k ∷ []
 pattern_numbers pattern.Anything = 0 ∷ 0 ∷ []
 
+-- the numbers of the patterns of some arms
 abbrev pub patterns_numbers : {E : Type 0} → List (Branch E) → List ℕ
 patterns_numbers [] = []
 patterns_numbers (a ∷ arms) = pattern_numbers a.0 ++ patterns_numbers arms
@@ -111,10 +113,12 @@ abbrev pub bodies : {E : Type 0} → List (Branch E) → List E
 bodies [] = []
 bodies (a ∷ arms) = a.1 ∷ bodies arms
 
+-- the values of some fields
 abbrev pub values : {E : Type 0} → List (Slot E) → List E
 values [] = []
 values (f ∷ fields) = f.1 ∷ values fields
 
+-- what a case holds, as a list
 abbrev pub content : {E : Type 0} → Option E → List E
 content None = []
 content (Some e) = e ∷ []
@@ -160,6 +164,7 @@ spelled form own inner = form ∷ length own ∷ own ++ (length inner ∷ joined
 abbrev pub key_in : Standing → Expr-F (List ℕ) (Branch (List ℕ)) (Slot (List ℕ)) → List ℕ
 key_in g y = spelled (form_number y) (own_numbers g y) (parts y)
 
+-- an arm, and a field, with the key of what is in it
 abbrev pub arm_key : Arm-F (List ℕ) (Branch (List ℕ)) (Slot (List ℕ)) → Branch (List ℕ)
 arm_key a = (a.pattern, a.body)
 

@@ -47,6 +47,7 @@ is_filled (item.Structure p u fields) = has_some fields
 is_filled (item.Enumeration p u cases) = has_some cases
 is_filled _ = true
 
+-- each item is filled
 abbrev pub are_filled : List Item → Bool
 are_filled [] = true
 are_filled (i ∷ more) = is_filled i && are_filled more

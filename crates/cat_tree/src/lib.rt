@@ -11,7 +11,7 @@ pub use expression::{
     Pattern, Prefix, Unit,
 };
 pub use heights::height;
-pub use name::{Base, CaseName, Name, Type};
+pub use name::{Base, CaseName, Name, Names, Type};
 pub use program::{
     Block, CaseItem, Exception, FieldItem, FieldItems, Fulfilled, Item, Kind, Label, Lead,
     TargetName, Tree, Use, Variable,

@@ -1,7 +1,7 @@
 // Names and types as they are written.
 ghost use Rattle.std.specs.Prelude.{◌≡◌, IfOk};
 
-use cat_pos::{Boxed, Pos, Text};
+use cat_pos::{Boxed, List, Pos, Text};
 use std::alloc::AllocError;
 
 /// A word that names something, with its position.
@@ -22,6 +22,8 @@ impl Name {
         })
     }
 }
+
+pub type Names = List<Name>;
 
 /// How a case is named: by its own word, or behind its enumeration's.
 #[derive(Debug, Drop)]

@@ -1,6 +1,6 @@
 // Declarations and scope blocks as they are written.
 
-use crate::{Name, Node, Type};
+use crate::{Name, Names, Node, Type};
 use cat_pos::{List, Pos};
 
 /// A name with its declared type.
@@ -67,7 +67,7 @@ pub struct Lead {
 pub struct TargetName {
     pub name: Name,
     pub inner: Option<Name>,
-    pub params: List<Name>,
+    pub params: Names,
 }
 
 /// What a rule says of the condition variable that it is for.

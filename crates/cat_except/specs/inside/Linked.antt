@@ -38,10 +38,12 @@ abbrev pub linked_groups : List Def → List Linked → List (List Group)
 linked_groups defs [] = []
 linked_groups defs (l ∷ ls) = groups_at defs l.lists.items ∷ linked_groups defs ls
 
+-- the targets that are linked
 abbrev pub linked_targets : List Linked → List Target
 linked_targets [] = []
 linked_targets (l ∷ ls) = l.target ∷ linked_targets ls
 
+-- the targets that have groups
 abbrev pub group_targets : List Groups → List Target
 group_targets [] = []
 group_targets (g ∷ gs) = g.target ∷ group_targets gs

@@ -45,6 +45,7 @@ leaf_nodes [] = 0
 leaf_nodes (node.Leaf ∷ ns) = 1 + leaf_nodes ns
 leaf_nodes (n ∷ ns) = leaf_nodes ns
 
+-- how many nodes were left undecided
 abbrev pub rest_nodes : List TreeNode → ℕ
 rest_nodes [] = 0
 rest_nodes (node.Rest ∷ ns) = 1 + rest_nodes ns

@@ -97,6 +97,7 @@ start terms atoms = record {
   bad = [];
 }
 
+-- a region ends in that node
 abbrev pub ended : TreeNode → ℕ → Searching → Searching
 ended n most s = record {
   region = s.region;

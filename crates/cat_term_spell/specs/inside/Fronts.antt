@@ -20,6 +20,7 @@ abbrev pub body_keys : Standing → List Arm → List ℕ
 body_keys g [] = []
 body_keys g (a ∷ arms) = key_of g a.body ++ body_keys g arms
 
+-- the keys of the values of some fields
 abbrev pub value_keys : Standing → List FieldValue → List ℕ
 value_keys g [] = []
 value_keys g (f ∷ fields) = key_of g f.value ++ value_keys g fields
@@ -29,6 +30,7 @@ abbrev pub patterns_in : List Arm → List ℕ
 patterns_in [] = []
 patterns_in (a ∷ arms) = pattern_numbers a.pattern ++ patterns_in arms
 
+-- the numbers of some fields
 abbrev pub fields_in : List FieldValue → List ℕ
 fields_in [] = []
 fields_in (f ∷ fields) = f.field ∷ fields_in fields
