@@ -14,16 +14,19 @@ use Rattle.cat_value.specs.declared.declaration.Kind.TheVariants as kind
 use Rattle.cat_value.specs.declared.declaration.ItemDecl.{ItemDecl}
 use Rattle.cat_value.specs.declared.declaration.Scope.{Scope}
 
--- a field, a case and an item of that name and type; positions are not looked at
+-- a field of that name and type
 abbrev pub field : List ℕ → Ty → Field
 field name t = record { name = name; ty = t }
 
+-- a case of that name, with what it holds
 abbrev pub case : List ℕ → Option Ty → Case
 case name content = record { name = name; content = content }
 
+-- where all of them stand: positions are not looked at
 abbrev pub start : Pos
 start = pos_of 0 1 1
 
+-- an item of that name, kind and type
 abbrev pub item : List ℕ → Kind → Ty → ItemDecl
 item name k t = record { name = name; pos = start; kind = k; ty = t; condition = false; params = [] }
 
@@ -121,12 +124,14 @@ tax_scope = record {
       ∷ item (codes "total") kind.Output ty.Money ∷ [];
 }
 
--- the declarations together
+-- all structures
 abbrev pub structures : List ℕ → List Structure
 structures share = pair ∷ home share ∷ individual ∷ person ∷ []
 
+-- all enumerations
 abbrev pub enumerations : List ℕ → List ℕ → List Enumeration
 enumerations plain amount = choice ∷ letter plain amount ∷ tax_credit ∷ []
 
+-- all scopes
 abbrev pub scopes : List Scope
 scopes = types_scope ∷ kinds_scope ∷ income_tax_scope ∷ tax_scope ∷ []
