@@ -12,8 +12,8 @@ use Rattle.cat_guard.specs.declared.table.Table.{Table}
 use Rattle.cat_guard.specs.declared.table.TableTarget.{TableTarget}
 use Rattle.cat_guard.specs.declared.tree.CaseTree.{CaseTree}
 use Rattle.cat_guard.specs.Trees.{Tree, tree_of}
-use Rattle.cat_share.specs.Sharing.{is_whole_tree}
-use Rattle.cat_cert_text.specs.Lines.{targets_of}
+use Rattle.cat_walk.specs.Sharing.{is_whole_tree}
+use Rattle.cat_cert.specs.Lines.{targets_of}
 use Rattle.cat_audit.specs.declared.report.Verdict.{Verdict}
 use Rattle.cat_audit.specs.declared.report.Verdict.TheVariants as verdict
 use Rattle.cat_audit.specs.declared.report.Section.{Section}

@@ -15,9 +15,9 @@ use Rattle.cat_audit.specs.declared.report.Report.{Report}
 use Rattle.cat_audit.specs.declared.report.Verdict.{Verdict}
 use Rattle.cat_audit.specs.declared.report.Verdict.TheVariants as verdict
 use Rattle.cat_audit.specs.Reports.{last_verdict}
-use Rattle.cat_gather.specs.declared.source.Source.{Source}
-use Rattle.cat_gather.specs.Gathered.{Contents, Whole, gathered, limit_after}
-use Rattle.cat_gather.specs.Causes.{ComesTo}
+use Rattle.cat_weave.specs.declared.source.Source.{Source}
+use Rattle.cat_weave.specs.Gathered.{Contents, Whole, gathered, limit_after}
+use Rattle.cat_weave.specs.Causes.{ComesTo}
 use Rattle.cat_build.specs.Accepted.{IsAccepted}
 use Rattle.cat_app.specs.Words.{Ask, OfBands, OfScope, Request, ask_of, reads_extra, request_in}
 use Rattle.cat_app.specs.Asked.{IsSource, IsExtra, IsReadNow}

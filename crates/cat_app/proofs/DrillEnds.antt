@@ -4,7 +4,7 @@ use Rattle.std.specs.Prelude.{Option, Some, None}
 use Rattle.cat_io.specs.Shelf.{Shelved}
 use Rattle.cat_io.specs.Sink.{Sunk}
 use Rattle.cat_scope.specs.declared.programs.Program.{Program}
-use Rattle.cat_gather.specs.declared.source.Source.{Source}
+use Rattle.cat_weave.specs.declared.source.Source.{Source}
 use Rattle.cat_app.specs.Words.{Ask, OfBands, OfScope, ask_of, bands_asked}
 use Rattle.cat_app.specs.Drills.{HasLine, HasRefusedRun, HasStop, IsOfBands, bands_request, bands_shelf}
 use Rattle.cat_app.specs.Table.{Answers, MayAnswerTo, MayDrill, MayReply}

@@ -12,11 +12,11 @@ use Rattle.cat_scope.specs.declared.programs.Program.{Program}
 use Rattle.cat_scope.specs.Named.{number_named}
 use Rattle.cat_answer.specs.Answer.{position_text}
 use Rattle.cat_json.specs.declared.refusal.InputRefusal.{InputRefusal}
-use Rattle.cat_gather.specs.declared.source.Source.{Source}
-use Rattle.cat_gather.specs.declared.source.GatherRefusal.{GatherRefusal}
-use Rattle.cat_gather.specs.declared.source.GatherRefusal.TheVariants as gathering
-use Rattle.cat_gather.specs.Gathered.{Contents}
-use Rattle.cat_gather.specs.Causes.{AreReadableTogether, HasCause}
+use Rattle.cat_weave.specs.declared.source.Source.{Source}
+use Rattle.cat_weave.specs.declared.source.GatherRefusal.{GatherRefusal}
+use Rattle.cat_weave.specs.declared.source.GatherRefusal.TheVariants as gathering
+use Rattle.cat_weave.specs.Gathered.{Contents}
+use Rattle.cat_weave.specs.Causes.{AreReadableTogether, HasCause}
 use Rattle.cat_build.specs.declared.Built.{Built}
 use Rattle.cat_build.specs.declared.code.Code.{Code}
 use Rattle.cat_build.specs.Accepted.{IsAccepted}
@@ -26,9 +26,9 @@ use Rattle.cat_build.specs.Codes.{number_of}
 use Rattle.cat_audit.specs.declared.report.Section.{Section}
 use Rattle.cat_audit.specs.declared.report.Verdict.{Verdict}
 use Rattle.cat_audit.specs.Reports.{last_verdict}
-use Rattle.cat_report.specs.Lines.{verdict_text}
-use Rattle.cat_drill.specs.Texts.{drill_text}
-use Rattle.cat_drill.specs.Runs.{IsFirstRefused, IsFirstStop, IsValue}
+use Rattle.cat_audit.specs.ReportLines.{verdict_text}
+use Rattle.cat_app.specs.Texts.{drill_text}
+use Rattle.cat_app.specs.Runs.{IsFirstRefused, IsFirstStop, IsValue}
 use Rattle.cat_app.specs.Asked.{IsAsked, IsSource}
 use Rattle.cat_app.specs.Answers.{line, refusal_line, status_of}
 use Rattle.cat_app.specs.Drills.{HasLine, HasRefusedRun, HasStop, IsOfBands, bands_request, bands_shelf, drill_line}

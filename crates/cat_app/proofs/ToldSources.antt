@@ -5,9 +5,9 @@ use Rattle.cat_pos.specs.declared.pos.Piece.{Piece}
 use Rattle.cat_io.specs.Shelf.{Shelved}
 use Rattle.cat_scope.specs.declared.programs.Program.{Program}
 use Rattle.cat_scope.specs.Named.{number_named}
-use Rattle.cat_gather.specs.declared.source.Source.{Source}
-use Rattle.cat_gather.specs.Gathered.{Contents, Ending, Whole, Refused, gathered}
-use Rattle.cat_gather.specs.Causes.{HasEnding}
+use Rattle.cat_weave.specs.declared.source.Source.{Source}
+use Rattle.cat_weave.specs.Gathered.{Contents, Ending, Whole, Refused, gathered}
+use Rattle.cat_weave.specs.Causes.{HasEnding}
 use Rattle.cat_build.specs.declared.code.BuildRefusal.{BuildRefusal}
 use Rattle.cat_build.specs.declared.code.BuildRefusal.TheVariants as building
 use Rattle.cat_build.specs.Accepted.{IsAccepted}

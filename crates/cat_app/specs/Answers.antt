@@ -14,11 +14,11 @@ use Rattle.cat_json.specs.declared.refusal.InputRefusal.{InputRefusal}
 use Rattle.cat_json.specs.declared.refusal.InputRefusal.TheVariants as refused
 use Rattle.cat_json.specs.InputsRead.{input_read}
 use Rattle.cat_answer.specs.Answer.{answer_of, named_position, position_text}
-use Rattle.cat_gather.specs.declared.source.Source.{Source}
-use Rattle.cat_gather.specs.declared.source.GatherRefusal.{GatherRefusal}
-use Rattle.cat_gather.specs.declared.source.GatherRefusal.TheVariants as gathering
-use Rattle.cat_gather.specs.Gathered.{Refused}
-use Rattle.cat_gather.specs.Causes.{HasEnding}
+use Rattle.cat_weave.specs.declared.source.Source.{Source}
+use Rattle.cat_weave.specs.declared.source.GatherRefusal.{GatherRefusal}
+use Rattle.cat_weave.specs.declared.source.GatherRefusal.TheVariants as gathering
+use Rattle.cat_weave.specs.Gathered.{Refused}
+use Rattle.cat_weave.specs.Causes.{HasEnding}
 use Rattle.cat_build.specs.declared.code.Code.{Code}
 use Rattle.cat_build.specs.Accepted.{IsAccepted}
 use Rattle.cat_build.specs.Causes.{StandsAt}

@@ -4,9 +4,9 @@ use Rattle.cat_pos.specs.declared.limits.TheConstants.{MOST_INPUT_BYTES}
 use Rattle.cat_io.specs.Shelf.{Shelved, Gives}
 use Rattle.cat_scope.specs.declared.programs.Program.{Program}
 use Rattle.cat_scope.specs.Named.{number_named}
-use Rattle.cat_gather.specs.declared.source.Source.{Source}
-use Rattle.cat_gather.specs.Gathered.{Whole, limit_after}
-use Rattle.cat_gather.specs.Causes.{ComesTo, HasEnding}
+use Rattle.cat_weave.specs.declared.source.Source.{Source}
+use Rattle.cat_weave.specs.Gathered.{Whole, limit_after}
+use Rattle.cat_weave.specs.Causes.{ComesTo, HasEnding}
 use Rattle.cat_build.specs.Accepted.{IsAccepted}
 use Rattle.cat_app.specs.Words.{Request, reads_extra}
 

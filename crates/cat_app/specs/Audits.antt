@@ -9,15 +9,16 @@ use Rattle.cat_guard.specs.Trees.{tree_of}
 use Rattle.cat_audit.specs.declared.report.Report.{Report}
 use Rattle.cat_audit.specs.declared.report.Verdict.{Verdict}
 use Rattle.cat_audit.specs.declared.report.Verdict.TheVariants as verdict
-use Rattle.cat_audit.specs.Complete.{AreClosedTrees, HasNoGap, targets_in}
+use Rattle.cat_audit.specs.Complete.{AreClosedTrees, targets_in}
+use Rattle.cat_audit_sound.specs.Audited.{HasNoGap}
 use Rattle.cat_audit.specs.Reports.{IsReport, last_verdict}
-use Rattle.cat_report.specs.ReportTexts.{report_text}
-use Rattle.cat_plain.specs.Decided.{EndsInNoFault, HasCellsWithin, IsDecided, IsWholeVerdict}
-use Rattle.cat_plain.specs.Plain.{IsPlain}
-use Rattle.cat_cert_text.specs.declared.certificate.Version.TheVariants as version
-use Rattle.cat_cert_text.specs.Certifiable.{shared_tree}
-use Rattle.cat_cert_text.specs.Texts.{certificate_text}
-use Rattle.cat_gather.specs.declared.source.Source.{Source}
+use Rattle.cat_audit.specs.ReportTexts.{report_text}
+use Rattle.cat_audit.specs.Decided.{EndsInNoFault, HasCellsWithin, IsDecided, IsWholeVerdict}
+use Rattle.cat_audit.specs.Plain.{IsPlain}
+use Rattle.cat_cert.specs.declared.certificate.Version.TheVariants as version
+use Rattle.cat_cert.specs.Certifiable.{shared_tree}
+use Rattle.cat_cert.specs.Texts.{certificate_text}
+use Rattle.cat_weave.specs.declared.source.Source.{Source}
 use Rattle.cat_app.specs.Words.{Request, IsMost}
 use Rattle.cat_app.specs.Asked.{IsAsked}
 use Rattle.cat_app.specs.declared.request.Mode.TheVariants.{Audit}

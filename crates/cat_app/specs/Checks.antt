@@ -3,11 +3,11 @@ use Rattle.std.specs.Prelude.{◌≡◌, ℕ, List, [], ◌∷◌, ◌++◌, Opt
 use Rattle.std.specs.Fmt.{decimal}
 use Rattle.cat_io.specs.Shelf.{Shelved}
 use Rattle.cat_scope.specs.declared.programs.Program.{Program}
-use Rattle.cat_audit.specs.Complete.{HasNoGap}
-use Rattle.cat_cert_text.specs.declared.refusal.CertRefusal.{CertRefusal}
-use Rattle.cat_cert_text.specs.declared.refusal.CertRefusal.TheVariants as refusal
-use Rattle.cat_certified.specs.ScopeTables.{HasScopeCause, IsOverScope}
-use Rattle.cat_gather.specs.declared.source.Source.{Source}
+use Rattle.cat_audit_sound.specs.Audited.{HasNoGap}
+use Rattle.cat_cert.specs.declared.refusal.CertRefusal.{CertRefusal}
+use Rattle.cat_cert.specs.declared.refusal.CertRefusal.TheVariants as refusal
+use Rattle.cat_cert.specs.ScopeTables.{HasScopeCause, IsOverScope}
+use Rattle.cat_weave.specs.declared.source.Source.{Source}
 use Rattle.cat_app.specs.Words.{Request}
 use Rattle.cat_app.specs.Asked.{IsAsked, IsExtra}
 use Rattle.cat_app.specs.Answers.{line}

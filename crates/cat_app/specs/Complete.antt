@@ -13,10 +13,10 @@ use Rattle.cat_json.specs.InputsRead.{input_read}
 use Rattle.cat_answer.specs.Answer.{answer_of}
 use Rattle.cat_audit.specs.declared.report.Report.{Report}
 use Rattle.cat_audit.specs.declared.report.Verdict.TheVariants.{Complete}
-use Rattle.cat_audit.specs.Complete.{HasNoGap}
+use Rattle.cat_audit_sound.specs.Audited.{HasNoGap}
 use Rattle.cat_audit.specs.Reports.{last_verdict}
-use Rattle.cat_gather.specs.declared.source.Source.{Source}
-use Rattle.cat_gather.specs.Gathered.{Whole, gathered}
+use Rattle.cat_weave.specs.declared.source.Source.{Source}
+use Rattle.cat_weave.specs.Gathered.{Whole, gathered}
 use Rattle.cat_build.specs.Accepted.{IsAccepted}
 use Rattle.cat_app.specs.Words.{Request, IsMost, request_of}
 use Rattle.cat_app.specs.Asked.{IsReadNow}

@@ -3,8 +3,8 @@ use Rattle.std.specs.Prelude.{◌≡◌, ℕ, List, Some, ⊤}
 use Rattle.cat_io.specs.Sink.{Sunk}
 use Rattle.cat_scope.specs.declared.programs.Program.{Program}
 use Rattle.cat_scope.specs.Named.{number_named}
-use Rattle.cat_gather.specs.declared.source.Source.{Source}
-use Rattle.cat_gather.specs.Gathered.{Whole, gathered}
+use Rattle.cat_weave.specs.declared.source.Source.{Source}
+use Rattle.cat_weave.specs.Gathered.{Whole, gathered}
 use Rattle.cat_build.specs.Accepted.{IsAccepted}
 use Rattle.cat_app.specs.Words.{bands_of}
 use Rattle.cat_app.specs.Complete.{WritesText}

@@ -9,12 +9,12 @@ use Rattle.cat_answer.specs.Answer.{answer_of}
 use Rattle.cat_audit.specs.declared.report.Report.{Report}
 use Rattle.cat_audit.specs.declared.report.Verdict.{Verdict}
 use Rattle.cat_audit.specs.Reports.{last_verdict}
-use Rattle.cat_report.specs.Lines.{verdict_text}
-use Rattle.cat_drill.specs.Texts.{drill_text}
-use Rattle.cat_drill.specs.Runs.{HaveSum, IsFirstRefused, IsFirstStop}
-use Rattle.cat_drill.specs.Leaves.{HasLeaves}
-use Rattle.cat_gather.specs.Gathered.{Contents}
-use Rattle.cat_gather.specs.declared.source.Source.{Source}
+use Rattle.cat_audit.specs.ReportLines.{verdict_text}
+use Rattle.cat_app.specs.Texts.{drill_text}
+use Rattle.cat_app.specs.Runs.{HaveSum, IsFirstRefused, IsFirstStop}
+use Rattle.cat_app.specs.Leaves.{HasLeaves}
+use Rattle.cat_weave.specs.Gathered.{Contents}
+use Rattle.cat_weave.specs.declared.source.Source.{Source}
 use Rattle.cat_app.specs.Words.{Request, request}
 use Rattle.cat_app.specs.Asked.{IsAsked}
 use Rattle.cat_app.specs.Answers.{input_line, line, status_of}

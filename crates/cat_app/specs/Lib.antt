@@ -1,4 +1,3 @@
--- the table of answers
 pub mod Table
 pub mod Answers
 pub mod Audits
@@ -7,8 +6,11 @@ pub mod Drills
 pub mod Asked
 pub mod Words
 pub mod Status
--- what follows from it
 pub mod Complete
 pub mod DrillEnds
+pub mod Texts
+pub mod Numbers
+pub mod Runs
+pub mod Leaves
 -- what the code keeps on its way: no public clause cites it
 pub mod inside

@@ -5,7 +5,7 @@ use Rattle.std.specs.List.{list_any}
 use Rattle.clap.specs.Words.{matches_of, one_of}
 use Rattle.cat_words.specs.Asked.{Asked, IsCases, asked_by}
 use Rattle.cat_words.specs.TheCommand.{the_command}
-use Rattle.cat_drill.specs.Numbers.{bands_in}
+use Rattle.cat_app.specs.Numbers.{bands_in}
 use Rattle.cat_app.specs.declared.request.Mode.{Mode}
 use Rattle.cat_app.specs.declared.request.Mode.TheVariants.{Run, Audit, Check}
 

@@ -1,2 +1,4 @@
+pub mod Making
+pub mod Once
 pub mod Says
 pub mod SaysOfBands

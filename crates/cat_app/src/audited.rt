@@ -9,14 +9,13 @@ use crate::Status;
 use crate::reply::Reply;
 use cat_audit::{
     Report, Section, Verdict, audit, complete_audits_have_closed_trees,
-    complete_audits_leave_no_gap, reports_are_of_declared_scopes,
+    complete_audits_leave_no_gap, plain_scopes_are_decided, report_text,
+    reports_are_of_declared_scopes,
 };
 use cat_build::{Built, accepted_programs_are_counted};
-use cat_cert_text::write_cert;
-use cat_gather::Source;
-use cat_plain::plain_scopes_are_decided;
-use cat_report::report_text;
+use cat_cert::write_cert;
 use cat_scope::programs_are_well_formed;
+use cat_weave::Source;
 use std::alloc::{AllocError, Global};
 
 /// The most leaves that an audit makes of a target: the number of cases, and one at least.

@@ -8,10 +8,9 @@ ghost use Rattle.cat_app.specs.inside.Says.{Says, SaysCertificate, SaysChecked};
 use crate::Status;
 use crate::reply::Reply;
 use cat_build::{Built, accepted_programs_are_counted};
-use cat_cert_text::CertRefusal;
-use cat_certified::certified;
-use cat_gather::Source;
+use cat_cert::{CertRefusal, certified};
 use cat_scope::programs_are_well_formed;
+use cat_weave::Source;
 use std::alloc::{AllocError, Global};
 
 /// The line that refuses a certificate at a line of it.

@@ -2,24 +2,23 @@
 ghost use Rattle.std.specs.Prelude.{◌≡◌, ◌<◌, ◌≤◌, IfOk, Some, length, string_bytes};
 ghost use Rattle.cat_io.specs.PureShelf.{shelved_of};
 ghost use Rattle.cat_scope.specs.Named.{number_named};
-ghost use Rattle.cat_gather.specs.Causes.{AreReadableTogether, HasEnding};
-ghost use Rattle.cat_gather.specs.Gathered.{Whole};
+ghost use Rattle.cat_weave.specs.Causes.{AreReadableTogether, HasEnding};
+ghost use Rattle.cat_weave.specs.Gathered.{Whole};
 ghost use Rattle.cat_build.specs.Built.{IsBuiltOf};
-ghost use Rattle.cat_drill.specs.Runs.{HaveSum};
-ghost use Rattle.cat_report.specs.Lines.{verdict_text};
+ghost use Rattle.cat_app.specs.Runs.{HaveSum};
+ghost use Rattle.cat_audit.specs.ReportLines.{verdict_text};
 ghost use Rattle.cat_app.specs.Drills.{HasLine, bands_request, bands_shelf};
 ghost use Rattle.cat_app.specs.inside.SaysOfBands.{GathersBands, MaySayOfBands, SaysLine};
 
-use crate::Status;
 use crate::audited::{last_verdict, report_of};
 use crate::reply::Reply;
 use crate::run::tell;
 use crate::texts::{no_scope, refuse_gathering, refuse_input, refuse_source};
+use crate::{Ran, Status, drill_source, report_leaves, run_all};
 use cat_audit::Verdict;
 use cat_build::{BuildRefusal, Built, build};
-use cat_drill::{Ran, drill_source, report_leaves, run_all};
-use cat_gather::{GatherRefusal, Source, gather};
 use cat_io::PureShelf;
+use cat_weave::{GatherRefusal, Source, gather};
 use std::alloc::{AllocError, Global};
 
 /// The shelf that has the source of so many bands alone.

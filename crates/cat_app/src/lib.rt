@@ -5,14 +5,22 @@
 mod audited;
 mod checked;
 mod drilled;
+mod leaves;
+mod number;
 mod reply;
 mod request;
 mod run;
+mod runs;
+mod source;
 mod status;
 mod texts;
 mod top;
 
+pub use leaves::report_leaves;
+pub use number::{MOST_BANDS, bands_in};
 pub use request::Mode;
+pub use runs::{RUNS, Ran, run_all};
+pub use source::{drill_source, income_input};
 pub use status::Status;
 pub use top::catala;
 

@@ -5,7 +5,7 @@ ghost use Rattle.cat_words.specs.Asked.{asked_of as words_of};
 ghost use Rattle.cat_app.specs.Words.{ask_by, bands_by, bands_from, mode_by, request_by};
 ghost use Rattle.cat_app.specs.inside.Says.{ask_in, asked_of, AsksFor, HasBands, HasNumber};
 
-use cat_drill::bands_in;
+use crate::bands_in;
 use cat_words::CommandLine;
 use std::alloc::{AllocError, Global};
 

@@ -2,7 +2,7 @@
 ghost use Rattle.std.specs.Prelude.{◌≡◌, ◌<◌, IfOk, OnErr, Some, length};
 ghost use Rattle.cat_scope.specs.Named.{number_named};
 ghost use Rattle.cat_calc.specs.Calculus.{calc_outcome};
-ghost use Rattle.cat_gather.specs.Causes.{AreReadableTogether};
+ghost use Rattle.cat_weave.specs.Causes.{AreReadableTogether};
 ghost use Rattle.cat_value.specs.Inputs.{IsWellTyped};
 ghost use Rattle.cat_build.specs.Built.{IsBuiltOf};
 ghost use Rattle.cat_app.specs.Answers.{status_of};
@@ -18,11 +18,11 @@ use crate::texts::{no_scope, refuse_file, refuse_gathering, refuse_input, refuse
 use cat_answer::answer_text;
 use cat_build::{BuildRefusal, Built, build};
 use cat_evaluate::evaluate;
-use cat_gather::{Source, gather};
 use cat_io::{Shelf, read_all};
 use cat_json::read_input;
 use cat_pos::{Files, MOST_INPUT_BYTES};
 use cat_value::{Decls, Input, Outcome};
+use cat_weave::{Source, gather};
 use std::alloc::{AllocError, Global};
 
 /// Gathers the source first.

@@ -9,10 +9,10 @@ use crate::Status;
 use crate::reply::Reply;
 use cat_answer::{named_position, position_text};
 use cat_build::Code;
-use cat_gather::GatherRefusal;
 use cat_io::ShelfFault;
 use cat_json::InputRefusal;
 use cat_pos::{Files, Pos};
+use cat_weave::GatherRefusal;
 use std::alloc::{AllocError, Global};
 
 /// How the program is used.

@@ -4,7 +4,7 @@ ghost use Rattle.cat_io.specs.Count.{FaultsRose};
 ghost use Rattle.cat_io.specs.Stored.{texts_of};
 ghost use Rattle.cat_value.specs.declared.value.Value.{Value};
 ghost use Rattle.cat_scope.specs.declared.programs.Program.{Program};
-ghost use Rattle.cat_gather.specs.declared.source.Source.{Source};
+ghost use Rattle.cat_weave.specs.declared.source.Source.{Source};
 ghost use Rattle.cat_app.specs.Words.{Request};
 ghost use Rattle.cat_app.specs.Table.{Answers};
 ghost use Rattle.cat_app.specs.Complete.{NoFileRose, RepliesFit, IsToldAudit, IsToldCheck, IsToldRun, EndsAudit};
@@ -14,8 +14,8 @@ ghost use Rattle.cat_app.specs.DrillEnds.{EndsDrill, IsToldDrill};
 use crate::Status;
 use crate::reply::whole_reply;
 use cat_build::{pieces_have_one_program, refused_pieces_are_not_accepted};
-use cat_gather::told_sources_are_gathered;
 use cat_io::{Shelf, Sink};
+use cat_weave::told_sources_are_gathered;
 use std::alloc::Global;
 
 /// Does all that the program does, over the words after its name, and gives the status that it ends with.

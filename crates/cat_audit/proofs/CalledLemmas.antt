@@ -19,21 +19,18 @@ use Rattle.cat_scope.specs.Names.{AllHave, items_in, is_in}
 use Rattle.cat_scope.specs.Orders.{called_by_items, called_by_kind, called_in, calls_in, in_def, once}
 use Rattle.cat_scope.specs.Orders.{scope_dependencies}
 use Rattle.cat_scope.specs.WellFormed.{IsWellFormed}
-use Rattle.cat_guard_sound.proofs.Exported.{body_is}
+use Rattle.cat_audit_sound.proofs.Exported.{body_is}
 use Rattle.cat_sound.proofs.Exported.{all_back, all_front, called-all, in_at, scopes-at}
 use Rattle.cat_sound.proofs.OrderFacts.{all_once}
-use Rattle.cat_reach.proofs.Exported.{all_have}
+use Rattle.cat_depend.proofs.Exported.{all_have}
 use Rattle.cat_audit.specs.declared.report.Verdict.{Verdict}
 use Rattle.cat_audit.specs.declared.report.Verdict.TheVariants as verdict
 use Rattle.cat_audit.specs.declared.report.CalledLine.{CalledLine}
 use Rattle.cat_audit.specs.Called.{called_line, called_lines, in_scope_calls, item_line, item_lines, scope_lines}
 use Rattle.cat_audit.specs.Called.{scope_name}
+use Rattle.cat_scope.proofs.Exported.{all_append}
 
 -- ---- lists
-
-pub all_both : {A : Type 0} (P : A → Type 0) (xs ys : List A) → AllHave P xs → AllHave P ys → AllHave P (xs ++ ys)
-all_both P [] ys h g = g
-all_both P (x ∷ xs) ys h g = (h.0, all_both P xs ys h.1 g)
 
 pub append_none : {A : Type 0} (xs ys : List A) → xs ++ ys ≡ [] → (xs ≡ []) × (ys ≡ [])
 append_none [] ys e = (refl, e)
@@ -60,21 +57,21 @@ module _ (P : ℕ → Type 0) (items : List ItemDecl) where
       → AllHave P (called_in items source defs assertions)
   calls_all [] defs assertions h g = tt
   calls_all (part.Declaration ∷ source) defs assertions h g =
-      all_both P (called_by_items items) (called_in items source defs assertions) h
+      all_append P (called_by_items items) (called_in items source defs assertions) h
       (calls_all source defs assertions h g)
   calls_all (part.Condition e ∷ source) defs assertions h g =
-      all_both P (scopes_named e) (called_in items source defs assertions)
+      all_append P (scopes_named e) (called_in items source defs assertions)
       (all_front P (scopes_named e) (called_in [] source defs assertions) g)
       (calls_all source defs assertions h (all_back P (scopes_named e) (called_in [] source defs assertions) g))
   calls_all (part.Definition ∷ source) [] assertions h g = calls_all source [] assertions h g
   calls_all (part.Definition ∷ source) (d ∷ defs) assertions h g =
-      all_both P (in_def scopes_named d) (called_in items source defs assertions)
+      all_append P (in_def scopes_named d) (called_in items source defs assertions)
       (all_front P (in_def scopes_named d) (called_in [] source defs assertions) g)
       (calls_all source defs assertions h
       (all_back P (in_def scopes_named d) (called_in [] source defs assertions) g))
   calls_all (part.Assertion ∷ source) defs [] h g = calls_all source defs [] h g
   calls_all (part.Assertion ∷ source) defs (a ∷ assertions) h g =
-      all_both P (scopes_named a.condition) (called_in items source defs assertions)
+      all_append P (scopes_named a.condition) (called_in items source defs assertions)
       (all_front P (scopes_named a.condition) (called_in [] source defs assertions) g)
       (calls_all source defs assertions h
       (all_back P (scopes_named a.condition) (called_in [] source defs assertions) g))
@@ -85,18 +82,18 @@ module _ (P : ℕ → Type 0) (items : List ItemDecl) where
   calls_less (part.Declaration ∷ source) defs assertions g =
       calls_less source defs assertions (all_back P (called_by_items items) (called_in items source defs assertions) g)
   calls_less (part.Condition e ∷ source) defs assertions g =
-      all_both P (scopes_named e) (called_in [] source defs assertions)
+      all_append P (scopes_named e) (called_in [] source defs assertions)
       (all_front P (scopes_named e) (called_in items source defs assertions) g)
       (calls_less source defs assertions (all_back P (scopes_named e) (called_in items source defs assertions) g))
   calls_less (part.Definition ∷ source) [] assertions g = calls_less source [] assertions g
   calls_less (part.Definition ∷ source) (d ∷ defs) assertions g =
-      all_both P (in_def scopes_named d) (called_in [] source defs assertions)
+      all_append P (in_def scopes_named d) (called_in [] source defs assertions)
       (all_front P (in_def scopes_named d) (called_in items source defs assertions) g)
       (calls_less source defs assertions
       (all_back P (in_def scopes_named d) (called_in items source defs assertions) g))
   calls_less (part.Assertion ∷ source) defs [] g = calls_less source defs [] g
   calls_less (part.Assertion ∷ source) defs (a ∷ assertions) g =
-      all_both P (scopes_named a.condition) (called_in [] source defs assertions)
+      all_append P (scopes_named a.condition) (called_in [] source defs assertions)
       (all_front P (scopes_named a.condition) (called_in items source defs assertions) g)
       (calls_less source defs assertions
       (all_back P (scopes_named a.condition) (called_in items source defs assertions) g))
@@ -121,7 +118,7 @@ module _ (f : ℕ → Verdict) where
   items_none [] e = tt
   items_none (item ∷ items) e =
       let both = append_none (item_line f item.name item.kind) (item_lines f items) e in
-      all_both IsComplete (called_by_kind item.kind) (called_by_items items)
+      all_append IsComplete (called_by_kind item.kind) (called_by_items items)
       (kind_none item.name item.kind both.0) (items_none items both.1)
 
   scopes_none : (scopes : List Scope) (ns : List ℕ) → scope_lines f scopes ns ≡ [] → AllHave IsComplete ns

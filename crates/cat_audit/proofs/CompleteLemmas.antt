@@ -15,23 +15,27 @@ use Rattle.cat_sound.proofs.Exported.{in_at, same_some}
 use Rattle.cat_guard.specs.declared.table.Table.{Table}
 use Rattle.cat_guard.specs.declared.tree.CaseTree.{CaseTree}
 use Rattle.cat_guard.specs.Tables.{IsTableOf, TablesScope}
-use Rattle.cat_guard_sound.specs.Audited.{IsValueOrFault, ScopesAudited, none_may_stop}
-use Rattle.cat_finding.specs.declared.finding.TargetLine.{TargetLine}
-use Rattle.cat_reach.specs.Reached.{AreReachedFrom, EndsWith, IsReached, calls_in}
-use Rattle.cat_reach.specs.Reached as reach
-use Rattle.cat_reach.proofs.Exported.{in_of_listed}
+use Rattle.cat_audit_sound.specs.Audited.{IsValueOrFault, ScopesAudited, none_may_stop}
+use Rattle.cat_audit.specs.declared.finding.TargetLine.{TargetLine}
+use Rattle.cat_depend.specs.Reached.{AreReachedFrom, EndsWith, IsReached, calls_in}
+use Rattle.cat_depend.specs.Reached as reach
+use Rattle.cat_depend.proofs.Exported.{in_of_listed}
 use Rattle.cat_audit.specs.declared.report.Report.{Report}
 use Rattle.cat_audit.specs.declared.report.Section.{Section}
 use Rattle.cat_audit.specs.declared.report.Verdict.{Verdict}
 use Rattle.cat_audit.specs.declared.report.Verdict.TheVariants as verdict
 use Rattle.cat_audit.specs.Called.{called_lines, verdict_in}
-use Rattle.cat_audit.specs.Complete.{AreClosedTrees, HasNoGap, HasNoGapWhereComplete, targets_in}
-use Rattle.cat_audit.specs.Reports.{AreSections, IsReport, last_verdict, scopes_of, trees_at, trees_of}
+use Rattle.cat_audit.specs.Complete.{AreClosedTrees, HasNoGapWhereComplete, targets_in}
+use Rattle.cat_audit_sound.specs.Audited.{HasNoGap}
+use Rattle.cat_audit.specs.Reports.{AreSections, IsReport, last_verdict, trees_at, trees_of}
+use Rattle.cat_audit_table.specs.AuditedTables.{scopes_of}
 use Rattle.cat_audit.specs.Sections.{IsSection, named_lines}
 use Rattle.cat_audit.proofs.CalledLemmas.{IsComplete, all_as, all_complete}
-use Rattle.cat_audit.proofs.SectionLemmas.{ToldAt, last_is, own_verdicts, scopes_are, section_scopes, table_in, told_at}
+use Rattle.cat_audit.proofs.SectionLemmas.{ToldAt, last_is, own_verdicts, scopes_are, section_scopes, told_at}
+use Rattle.cat_audit_table.proofs.TableLemmas.{table_in}
 use Rattle.cat_audit.proofs.TargetLemmas.{CoverEach, closed_trees, targets_audited}
 use Rattle.cat_audit.proofs.VerdictLemmas.{IsCoveredLine, complete_lines}
+use Rattle.cat_audit_sound.specs.Audited.{GapLaw}
 
 -- ---- a complete verdict
 
@@ -136,13 +140,6 @@ module _ (program : Program) (budget : ℕ) (tables : List Table) (made : List (
     each_complete scope e [] reached own = tt
     each_complete scope e (s ∷ rest) reached own =
         (own.0 ∙ reached_complete scope s.scope e reached.0, each_complete scope e rest reached.1 own.1)
-
--- what is asked of a law of gaps
-abbrev pub GapLaw : Program → Type 0
-GapLaw program = (within : ℕ → Bool) (tables : ℕ → Table) (scope : ℕ) (input : Items)
-    → IsClosed within program.decls program.bodies → ScopesAudited none_may_stop within program tables
-    → IsTrue (within scope) → IsWellTyped program.decls scope input
-    → IsValueOrFault (scope_outcome program scope input)
 
 gaps_of : (program : Program) (budget : ℕ) (tables : List Table) (made : List (List TargetLine))
     (sections : List Section) → AllHave (λ t. TablesScope program t.scope t) tables

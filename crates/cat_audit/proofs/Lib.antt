@@ -4,6 +4,22 @@ pub mod TargetLemmas
 pub mod SectionLemmas
 pub mod UnderwayLemmas
 pub mod LineLemmas
-pub mod TableLemmas
 pub mod TurnLemmas
 pub mod CompleteLemmas
+mod CauseLemmas
+mod FindingExamples
+mod FindingLemmas
+mod LeastLemmas
+mod TargetLineLemmas
+mod SearchedLemmas
+mod Targets
+mod TriedLemmas
+mod Values
+pub mod Lists
+pub mod Alone
+pub mod FreeTables
+pub mod PlainLines
+pub mod Verdicts
+pub mod PlainSections
+pub mod Sample
+pub mod PlainExamples

@@ -8,13 +8,13 @@ use Rattle.cat_guard.specs.declared.table.TableTarget.{TableTarget}
 use Rattle.cat_guard.specs.declared.tree.CaseTree.{CaseTree}
 use Rattle.cat_scope.proofs.Exported.{append_append}
 use Rattle.cat_sound.proofs.Exported.{same_some}
-use Rattle.cat_finding.specs.declared.finding.TargetLine.{TargetLine}
-use Rattle.cat_finding.specs.Causes.{HasCause}
-use Rattle.cat_finding.specs.Lines.{IsLineOf}
+use Rattle.cat_audit.specs.declared.finding.TargetLine.{TargetLine}
+use Rattle.cat_audit.specs.Causes.{HasCause}
+use Rattle.cat_audit.specs.Lines.{IsLineOf}
 use Rattle.cat_audit.specs.declared.report.NamedLine.{NamedLine}
 use Rattle.cat_audit.specs.Sections.{AreLinesOf, named_lines}
 use Rattle.cat_audit.specs.inside.Underway.{HasLines}
-use Rattle.cat_audit.proofs.UnderwayLemmas.{mapped_append}
+use Rattle.cat_scope.proofs.Exported.{map_append}
 
 -- the lines of the first targets of a table, whose trees go behind others
 pub record AreLinesTo (program : Program) (table : Table) (budget : ℕ) (targets : List TableTarget)
@@ -65,7 +65,7 @@ module _ (program : Program) (table : Table) (budget : ℕ) where
         ∙ sym (named_push targets are.made t m are.made_are);
     trees_are = ap (λ (cs : List CaseTree). cs ++ m.tree ∷ []) are.trees_are
         ∙ append_append old (map (λ l. l.tree) are.made) (m.tree ∷ [])
-        ∙ ap (λ (cs : List CaseTree). old ++ cs) (sym (mapped_append (λ (l : TargetLine). l.tree) are.made (m ∷ [])));
+        ∙ ap (λ (cs : List CaseTree). old ++ cs) (sym (map_append (λ (l : TargetLine). l.tree) are.made (m ∷ [])));
   }
 
   pub all_lines : (old new : List CaseTree) (lines : List NamedLine)

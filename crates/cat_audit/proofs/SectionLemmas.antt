@@ -7,14 +7,16 @@ use Rattle.cat_scope.specs.declared.programs.Program.{Program}
 use Rattle.cat_scope.specs.Names.{AllHave, all_differ, is_in}
 use Rattle.cat_guard.specs.declared.table.Table.{Table}
 use Rattle.cat_guard.specs.Tables.{TablesScope}
-use Rattle.cat_finding.specs.declared.finding.TargetLine.{TargetLine}
-use Rattle.cat_reach.proofs.Exported.{differ_first, differ_rest, in_here, in_later, one_or_other}
+use Rattle.cat_audit.specs.declared.finding.TargetLine.{TargetLine}
+use Rattle.cat_depend.proofs.Exported.{differ_first, differ_rest, in_here, in_later, one_or_other}
 use Rattle.cat_audit.specs.declared.report.Verdict.{Verdict}
 use Rattle.cat_audit.specs.declared.report.Verdict.TheVariants as verdict
 use Rattle.cat_audit.specs.declared.report.Section.{Section}
 use Rattle.cat_audit.specs.Called.{verdict_in}
-use Rattle.cat_audit.specs.Reports.{AreSections, last_verdict, scopes_of}
+use Rattle.cat_audit.specs.Reports.{AreSections, last_verdict}
+use Rattle.cat_audit_table.specs.AuditedTables.{scopes_of}
 use Rattle.cat_audit.specs.Sections.{IsSection}
+use Rattle.cat_audit_table.proofs.TableLemmas.{table_in}
 
 -- the scopes of sections
 abbrev pub section_scopes : List Section → List ℕ
@@ -64,11 +66,6 @@ own_verdicts (s ∷ sections) differ = (
         (h.0 ∙ sym (verdict_past s sections t.scope both.0), later rest both.1 h.1)
 
 -- ---- sections and their tables
-
--- the table of a scope, or another one
-abbrev pub table_in : List Table → Table → ℕ → Table
-table_in [] default n = default
-table_in (t ∷ tables) default n = if nat_eq t.scope n then t else table_in tables default n
 
 -- the section of a scope, by its table
 pub record ToldAt (program : Program) (budget : ℕ) (f : ℕ → Verdict) (tables : List Table) (default : Table)

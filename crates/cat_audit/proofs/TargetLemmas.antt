@@ -20,12 +20,12 @@ use Rattle.cat_guard.specs.Valuations.{dims_of, holds_at}
 use Rattle.cat_search.specs.declared.found.Search.{Search}
 use Rattle.cat_search.specs.declared.found.Search.TheVariants as search
 use Rattle.cat_search.specs.Searched.{IsSearchOf, everything}
-use Rattle.cat_guard_sound.specs.Audited.{IsTargetAudited, MayDecide, none_may_stop}
-use Rattle.cat_finding.specs.declared.finding.Finding.{Finding}
-use Rattle.cat_finding.specs.declared.finding.Line.TheVariants as line
-use Rattle.cat_finding.specs.declared.finding.TargetLine.{TargetLine}
-use Rattle.cat_finding.specs.Causes.{HasCause}
-use Rattle.cat_finding.specs.Lines.{IsLineOf, line_by, tree_in, counting, findings, bad_in}
+use Rattle.cat_audit_sound.specs.Audited.{IsTargetAudited, MayDecide, none_may_stop}
+use Rattle.cat_audit.specs.declared.finding.Finding.{Finding}
+use Rattle.cat_audit.specs.declared.finding.Line.TheVariants as line
+use Rattle.cat_audit.specs.declared.finding.TargetLine.{TargetLine}
+use Rattle.cat_audit.specs.Causes.{HasCause}
+use Rattle.cat_audit.specs.Lines.{IsLineOf, line_by, tree_in, counting, findings, bad_in}
 use Rattle.cat_audit.specs.Complete.{AreClosedTrees, IsClosedTree}
 use Rattle.cat_audit.specs.Sections.{AreLinesOf, named_lines}
 use Rattle.cat_audit.proofs.VerdictLemmas.{IsCoveredLine}

@@ -8,14 +8,15 @@ use Rattle.cat_scope.specs.WellFormed.{IsWellFormed}
 use Rattle.cat_guard.specs.declared.table.Table.{Table}
 use Rattle.cat_guard.specs.declared.tree.CaseTree.{CaseTree}
 use Rattle.cat_guard.specs.Tables.{TablesScope}
-use Rattle.cat_reach.specs.Reached.{AreReachedFrom, StandBehind, calls_in}
+use Rattle.cat_depend.specs.Reached.{AreReachedFrom, StandBehind, calls_in}
 use Rattle.cat_audit.specs.declared.report.Report.{Report}
 use Rattle.cat_audit.specs.declared.report.Section.{Section}
 use Rattle.cat_audit.specs.declared.report.Verdict.{Verdict}
-use Rattle.cat_audit.specs.Reports.{AreTablesOf, IsReport, last_verdict, scopes_of, trees_at}
+use Rattle.cat_audit.specs.Reports.{IsReport, last_verdict, trees_at}
+use Rattle.cat_audit_table.specs.AuditedTables.{AreTablesOf, scopes_of}
 use Rattle.cat_audit.specs.inside.Underway.{MakesSection}
 use Rattle.cat_audit.proofs.LineLemmas.{have_front, split_get, take_next}
-use Rattle.cat_audit.proofs.TableLemmas.{have_at}
+use Rattle.cat_audit_table.proofs.TableLemmas.{have_at}
 use Rattle.cat_audit.proofs.UnderwayLemmas.{IsUnderWay, one_more}
 
 module _ (program : Program) (scope : ℕ) (tables listed : List Table) (are : AreTablesOf program scope tables)

@@ -15,24 +15,22 @@ use Rattle.cat_sound.proofs.Exported.{in_at}
 use Rattle.cat_guard.specs.declared.table.Table.{Table}
 use Rattle.cat_guard.specs.declared.tree.CaseTree.{CaseTree}
 use Rattle.cat_guard.specs.Tables.{TablesScope}
-use Rattle.cat_finding.specs.declared.finding.TargetLine.{TargetLine}
-use Rattle.cat_reach.specs.Reached.{StandBehind, calls_in}
-use Rattle.cat_reach.proofs.Exported.{all_have, apart, in_both, in_cons, in_front, in_here, one_or_other}
+use Rattle.cat_audit.specs.declared.finding.TargetLine.{TargetLine}
+use Rattle.cat_depend.specs.Reached.{StandBehind, calls_in}
+use Rattle.cat_depend.proofs.Exported.{all_have, apart, in_both, in_cons, in_front, in_here, one_or_other}
 use Rattle.cat_audit.specs.declared.report.Verdict.{Verdict}
 use Rattle.cat_audit.specs.declared.report.Verdict.TheVariants as verdict
 use Rattle.cat_audit.specs.declared.report.Section.{Section}
 use Rattle.cat_audit.specs.Called.{verdict_in}
-use Rattle.cat_audit.specs.Reports.{AreSections, last_verdict, scopes_of, trees_of}
+use Rattle.cat_audit.specs.Reports.{AreSections, last_verdict, trees_of}
+use Rattle.cat_audit_table.specs.AuditedTables.{scopes_of}
 use Rattle.cat_audit.specs.Sections.{IsSection}
 use Rattle.cat_audit.specs.inside.Underway.{MakesSection, verdict_at}
 use Rattle.cat_audit.proofs.CalledLemmas.{all_as, lines_same}
 use Rattle.cat_audit.proofs.SectionLemmas.{scopes_are, section_scopes, verdict_past}
+use Rattle.cat_scope.proofs.Exported.{map_append}
 
 -- ---- lists that grow
-
-pub mapped_append : {A B : Type 0} (f : A → B) (xs ys : List A) → map f (xs ++ ys) ≡ map f xs ++ map f ys
-mapped_append f [] ys = refl
-mapped_append f (x ∷ xs) ys = ap (λ zs. f x ∷ zs) (mapped_append f xs ys)
 
 last_push : (sections : List Section) (s : Section) → last_verdict (sections ++ s ∷ []) ≡ s.verdict
 last_push [] s = refl
@@ -182,7 +180,7 @@ module _ (program : Program) (formed : ∥ IsWellFormed program.decls program.bo
     (way : IsUnderWay program budget front verdicts last sections old) (new : List CaseTree) (s : Section)
     (makes : MakesSection program budget verdicts t old new s) where
   scopes_split : scopes_of tables ≡ scopes_of front ++ t.scope ∷ scopes_of rest
-  scopes_split = ap scopes_of is ∙ mapped_append (λ (x : Table). x.scope) front (t ∷ rest)
+  scopes_split = ap scopes_of is ∙ map_append (λ (x : Table). x.scope) front (t ∷ rest)
 
   same_scopes : section_scopes sections ≡ scopes_of front
   same_scopes = scopes_are program budget (verdict_in sections) front way.made sections way.sections_are
@@ -252,7 +250,7 @@ module _ (program : Program) (formed : ∥ IsWellFormed program.decls program.bo
       differ n m e same = grind (arith, nat_tests)
 
   new_scopes : section_scopes (sections ++ s ∷ []) ≡ section_scopes sections ++ s.scope ∷ []
-  new_scopes = mapped_append (λ (x : Section). x.scope) sections (s ∷ [])
+  new_scopes = map_append (λ (x : Section). x.scope) sections (s ∷ [])
 
   wider : (k : ℕ) → AllHave (λ m. IsTrue (is_in m (section_scopes sections))) (dependencies_of (calls_in program) k)
       → AllHave (λ m. IsTrue (is_in m (section_scopes (sections ++ s ∷ [])))) (dependencies_of (calls_in program) k)

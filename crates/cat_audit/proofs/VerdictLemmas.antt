@@ -2,9 +2,9 @@
 use Rattle.std.proofs.Common.{◌≡◌, Bool, true, false, not, ◌||◌, if◌then◌else◌, List, [], ◌∷◌, refl}
 use Rattle.std.proofs.Common.{true≢false}
 use Rattle.cat_scope.specs.Names.{AllHave, has_none}
-use Rattle.cat_finding.specs.declared.finding.Finding.TheVariants as finding
-use Rattle.cat_finding.specs.declared.finding.Line.{Line}
-use Rattle.cat_finding.specs.declared.finding.Line.TheVariants as line
+use Rattle.cat_audit.specs.declared.finding.Finding.TheVariants as finding
+use Rattle.cat_audit.specs.declared.finding.Line.{Line}
+use Rattle.cat_audit.specs.declared.finding.Line.TheVariants as line
 use Rattle.cat_audit.specs.declared.report.Verdict.TheVariants as verdict
 use Rattle.cat_audit.specs.declared.report.NamedLine.{NamedLine}
 use Rattle.cat_audit.specs.declared.report.CalledLine.{CalledLine}

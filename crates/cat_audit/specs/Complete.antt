@@ -10,14 +10,10 @@ use Rattle.cat_guard.specs.declared.tree.CaseTree.{CaseTree}
 use Rattle.cat_guard.specs.declared.tree.TreeNode.{TreeNode}
 use Rattle.cat_guard.specs.Trees.{Tree, tree_of, is_whole, leaves, Closed}
 use Rattle.cat_search.specs.Searched.{everything, IsSearched}
-use Rattle.cat_guard_sound.specs.Audited.{IsValueOrFault}
+use Rattle.cat_audit_sound.specs.Audited.{IsValueOrFault}
 use Rattle.cat_audit.specs.declared.report.Verdict.TheVariants as verdict
 use Rattle.cat_audit.specs.declared.report.Section.{Section}
-
--- no well-typed input of a scope ends in a conflict or a gap
-abbrev pub HasNoGap : Program → ℕ → Type 0
-HasNoGap program scope =
-    (input : Items) → IsWellTyped program.decls scope input → IsValueOrFault (scope_outcome program scope input)
+use Rattle.cat_audit_sound.specs.Audited.{HasNoGap}
 
 -- the scope of a section that is complete
 abbrev pub HasNoGapWhereComplete : Program → Section → Type 0

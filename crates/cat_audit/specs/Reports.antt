@@ -4,39 +4,24 @@ use Rattle.cat_pos.specs.declared.limits.TheConstants.{ENTRIES_BOUND}
 use Rattle.cat_scope.specs.declared.programs.Program.{Program}
 use Rattle.cat_scope.specs.Names.{AllHave}
 use Rattle.cat_calc.specs.declared.calcs.Calc.{Calc}
-use Rattle.cat_desugar.specs.Desugared.{KeepsOutcomes}
+use Rattle.cat_calc.specs.Desugared.{KeepsOutcomes}
 use Rattle.cat_guard.specs.declared.table.Table.{Table}
 use Rattle.cat_guard.specs.declared.tree.CaseTree.{CaseTree}
 use Rattle.cat_guard.specs.Tables.{TablesScope}
-use Rattle.cat_finding.specs.declared.finding.TargetLine.{TargetLine}
-use Rattle.cat_reach.specs.Reached.{AreReachedFrom}
+use Rattle.cat_audit.specs.declared.finding.TargetLine.{TargetLine}
+use Rattle.cat_depend.specs.Reached.{AreReachedFrom}
 use Rattle.cat_audit.specs.declared.report.Verdict.{Verdict}
 use Rattle.cat_audit.specs.declared.report.Verdict.TheVariants as verdict
 use Rattle.cat_audit.specs.declared.report.Section.{Section}
 use Rattle.cat_audit.specs.declared.report.Report.{Report}
 use Rattle.cat_audit.specs.Called.{verdict_in}
 use Rattle.cat_audit.specs.Sections.{IsSection}
-
--- ---- what is audited
-
--- a program keeps the counts of definitions and of cases, as each accepted one does
-pub record IsCounted (program : Program) : Type 0 where
-  pub definitions : AllHave (λ body. length body.defs < ENTRIES_BOUND) program.bodies
-  pub cases : AllHave (λ e. length e.cases ≤ 128) program.decls.enumerations
+use Rattle.cat_audit_table.specs.AuditedTables.{AreTablesOf}
 
 -- default terms are those of a program
 pub record IsCalcOf (program : Program) (calc : Calc) : Type 0 where
   pub declared : calc.decls ≡ program.decls
   pub outcomes : KeepsOutcomes program calc
-
--- the scopes of tables
-abbrev pub scopes_of : List Table → List ℕ
-scopes_of tables = map (λ t. t.scope) tables
-
--- the tables of an audit: those of the scopes that the audited one calls, directly or not, and of itself
-pub record AreTablesOf (program : Program) (scope : ℕ) (tables : List Table) : Type 0 where
-  pub scopes_are : AreReachedFrom program scope (scopes_of tables)
-  pub tables_are : AllHave (λ t. TablesScope program t.scope t) tables
 
 -- ---- reports
 

@@ -5,12 +5,12 @@ use Rattle.cat_scope.specs.declared.programs.Program.{Program}
 use Rattle.cat_scope.specs.Names.{has_none}
 use Rattle.cat_guard.specs.declared.table.Table.{Table}
 use Rattle.cat_guard.specs.declared.table.TableTarget.{TableTarget}
-use Rattle.cat_finding.specs.declared.finding.Finding.TheVariants as finding
-use Rattle.cat_finding.specs.declared.finding.Line.{Line}
-use Rattle.cat_finding.specs.declared.finding.Line.TheVariants as line
-use Rattle.cat_finding.specs.declared.finding.TargetLine.{TargetLine}
-use Rattle.cat_finding.specs.Causes.{HasCause}
-use Rattle.cat_finding.specs.Lines.{IsLineOf}
+use Rattle.cat_audit.specs.declared.finding.Finding.TheVariants as finding
+use Rattle.cat_audit.specs.declared.finding.Line.{Line}
+use Rattle.cat_audit.specs.declared.finding.Line.TheVariants as line
+use Rattle.cat_audit.specs.declared.finding.TargetLine.{TargetLine}
+use Rattle.cat_audit.specs.Causes.{HasCause}
+use Rattle.cat_audit.specs.Lines.{IsLineOf}
 use Rattle.cat_audit.specs.declared.report.Verdict.{Verdict}
 use Rattle.cat_audit.specs.declared.report.Verdict.TheVariants as verdict
 use Rattle.cat_audit.specs.declared.report.NamedLine.{NamedLine}

@@ -1,1 +1,3 @@
+pub mod Least
+pub mod Tried
 pub mod Underway

@@ -1,14 +1,16 @@
 // The audit of a scope.
 ghost use Rattle.std.specs.Prelude.{◌≡◌, ◌<◌, IfOk, length};
-ghost use Rattle.cat_desugar.specs.Desugared.{AreForestsOf};
-ghost use Rattle.cat_audit.specs.Reports.{AreTablesOf, IsCalcOf, IsCounted, IsReport, trees_at};
+ghost use Rattle.cat_scope.specs.AllForests.{AreForestsOf};
+ghost use Rattle.cat_audit.specs.Reports.{IsCalcOf, IsReport, trees_at};
+ghost use Rattle.cat_audit_table.specs.AuditedTables.{AreTablesOf, IsCounted};
 
-use crate::report::{CaseTrees, Report, Section, Tables, Verdict};
+use crate::report::{CaseTrees, Report, Section, Verdict};
 use crate::section::section_of;
-use crate::tabling::audited_tables;
+use cat_audit_table::audited_tables;
 use cat_calc::Calc;
+use cat_depend::audited_scopes_have_what_they_call;
+use cat_guard::ScopeTables;
 use cat_pos::List;
-use cat_reach::audited_scopes_have_what_they_call;
 use cat_scope::{Forest, Program, programs_are_well_formed};
 use std::alloc::{AllocError, Global};
 
@@ -27,7 +29,7 @@ fn report_over(
     alloc: Global,
     program: &Program,
     calc: &Calc,
-    tables: Tables,
+    tables: ScopeTables,
     scope: u32,
     budget: u64,
 ) -> Result<Report, AllocError>

@@ -3,13 +3,14 @@ ghost use Rattle.std.specs.Prelude.{◌≡◌, ◌<◌, ℕ, List, Some, length}
 ghost use Rattle.cat_guard.specs.declared.tree.CaseTree.{CaseTree as TreeSeen};
 ghost use Rattle.cat_scope.specs.Names.{AllHave};
 ghost use Rattle.cat_audit.specs.declared.report.Report.{Report as ReportSeen};
-ghost use Rattle.cat_audit.specs.Complete.{AreClosedTrees, HasNoGap, HasNoGapWhereComplete, targets_in};
+ghost use Rattle.cat_audit.specs.Complete.{AreClosedTrees, HasNoGapWhereComplete, targets_in};
+ghost use Rattle.cat_audit_sound.specs.Audited.{HasNoGap};
 ghost use Rattle.cat_audit.specs.Reports.{IsReport, last_verdict};
 
 use crate::report::Verdict;
-use cat_guard_sound::audited_programs_have_no_gap;
-use cat_judge::closed_trees_cover_each_valuation;
-use cat_reach::{audited_scopes_end_with_the_audited_one, audited_scopes_have_what_they_call};
+use cat_audit_sound::audited_programs_have_no_gap;
+use cat_depend::{audited_scopes_end_with_the_audited_one, audited_scopes_have_what_they_call};
+use cat_guard::closed_trees_cover_each_valuation;
 use cat_scope::Program;
 
 /// Of a scope whose section is Complete no well-typed input ends in a Conflict or a NoValue.

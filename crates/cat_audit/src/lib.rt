@@ -1,21 +1,32 @@
 //! The audit of a scope: a section for each scope that it calls, directly or not, and for itself, with a line for each
-//! target and for each called scope that isn't complete; and the closed trees, where all are complete.
+//! target and for each called scope that isn't complete; its text; and the closed trees, where all are complete.
 #![tactic(auto)]
 
 mod auditing;
 mod called;
+mod cause;
+mod finding;
+mod finding_laws;
 mod laws;
+mod leaf;
+mod line;
+mod lines;
+mod plain_laws;
 mod report;
 mod section;
-mod tabling;
+mod text;
+mod tried;
 
 pub use auditing::audit;
+pub use finding::{Finding, Line, TargetLine};
+pub use finding_laws::tables_admit_something;
 pub use laws::{
     complete_audits_have_closed_trees, complete_audits_leave_no_gap, complete_scopes_leave_no_gap,
     reports_are_of_declared_scopes,
 };
+pub use line::target_line;
+pub use plain_laws::plain_scopes_are_decided;
 pub use report::{
-    CalledLine, CalledLines, CaseTrees, NamedLine, NamedLines, Report, Section, Sections, Tables,
-    Verdict,
+    CalledLine, CalledLines, CaseTrees, NamedLine, NamedLines, Report, Section, Sections, Verdict,
 };
-pub use tabling::audited_tables;
+pub use text::report_text;

@@ -1,6 +1,6 @@
 // What an audit says.
-use cat_finding::Line;
-use cat_guard::{CaseTree, Table};
+use crate::Line;
+use cat_guard::{CaseTree, ScopeTables};
 use cat_pos::{List, Text};
 
 /// What an audit says of a scope.
@@ -48,16 +48,13 @@ pub struct Section {
 
 pub type Sections = List<Section>;
 
-/// Tables of scopes, of which one calls those before it alone.
-pub type Tables = List<Table>;
-
 pub type CaseTrees = List<CaseTree>;
 
 /// What an audit says: a section for each table, the last of them that of the audited scope. It has trees where the
 /// last verdict is Complete: one for each target of each table, in their order.
 #[derive(Debug, Drop)]
 pub struct Report {
-    pub tables: Tables,
+    pub tables: ScopeTables,
     pub sections: Sections,
     pub trees: Option<CaseTrees>,
 }

@@ -7,8 +7,8 @@ ghost use Rattle.cat_audit.specs.inside.Underway.{HasLines, MakesSection};
 
 use crate::called::called_lines;
 use crate::report::{CalledLine, CaseTrees, NamedLine, NamedLines, Section, Verdict};
+use crate::{Finding, Line, TargetLine, target_line};
 use cat_calc::Calc;
-use cat_finding::{Finding, Line, TargetLine, target_line};
 use cat_guard::Table;
 use cat_pos::List;
 use cat_scope::Program;

@@ -40,6 +40,7 @@ use Rattle.cat_guard.specs.Questions.{Question, ask_truth, against, compared, op
 use Rattle.cat_guard.specs.Questions.{binary_guard, guard_of, condition_guard}
 use Rattle.cat_guard.proofs.Exported.{guard_at}
 use Rattle.cat_audit_table.proofs.Bounds.{numeral_bound, negated_bound}
+use Rattle.cat_scope.proofs.Exported.{all_append}
 
 abbrev Form : Type 0
 Form = Expr-F Expr Arm FieldValue
@@ -48,10 +49,6 @@ Form = Expr-F Expr Arm FieldValue
 pub record IsFit (q : Question) : Type 0 where
   pub dim : is_dim q.dim ≡ true
   pub cut : is_cut q.dim q.cut ≡ true
-
-all_append : {A : Type 0} (P : A → Type 0) (xs ys : List A) → AllHave P xs → AllHave P ys → AllHave P (xs ++ ys)
-all_append P [] ys h k = k
-all_append P (x ∷ xs) ys h k = (h.0, all_append P xs ys h.1 k)
 
 parted_all : (P : Question → Type 0) (c : Comparison) (q r : Question) → P q → P r
     → AllHave P (asked (parted c (formula.Atom q) (formula.Atom r)))

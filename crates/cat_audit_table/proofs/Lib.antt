@@ -6,3 +6,14 @@ pub mod Rooted
 pub mod Sound
 pub mod Whole
 pub mod Steps
+pub mod Firsts
+pub mod Keyed
+pub mod TermNumbers
+pub mod AtomNumbers
+pub mod Adding
+pub mod GuardForms
+pub mod Tokens
+pub mod Paths
+pub mod Constants
+pub mod TableLemmas
+pub mod Exported

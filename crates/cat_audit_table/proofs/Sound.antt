@@ -35,10 +35,13 @@ use Rattle.cat_guard.specs.Tables.{guard_groups, target_of as table_target}
 use Rattle.cat_guard.specs.Soundness.{are_below, is_cut_of, atom_is_sound, def_is_sound, group_is_sound, above}
 use Rattle.cat_guard.specs.Soundness.{target_is_sound, term_is_sound, is_sound}
 use Rattle.cat_guard.proofs.Exported.{formula_of_guard_tree}
-use Rattle.cat_numbering.proofs.Exported.{all_seen, all_firsts, term_self, question_self}
+use Rattle.cat_audit_table.proofs.Firsts.{all_seen, all_firsts}
+use Rattle.cat_audit_table.proofs.TermNumbers.{term_self}
+use Rattle.cat_audit_table.proofs.AtomNumbers.{question_self}
 use Rattle.cat_audit_table.proofs.Numbers.{and_both, both, lt_is, all_each, all_both, all_pass, found, number_below}
 use Rattle.cat_audit_table.proofs.Fit.{IsFit}
 use Rattle.cat_audit_table.proofs.Rooted.{forest_length}
+use Rattle.cat_scope.proofs.Exported.{map_append}
 
 -- ---- terms and atoms
 
@@ -76,10 +79,6 @@ module _ (items : List ItemDecl) (qs : List Question) (fit : AllHave IsFit qs) w
       (all_seen same_term term_self qs)))
 
 -- ---- guards
-
-map_append : {A B : Type 0} (f : A → B) (xs ys : List A) → map f (xs ++ ys) ≡ map f xs ++ map f ys
-map_append f [] ys = refl
-map_append f (x ∷ xs) ys = ap (λ zs. f x ∷ zs) (map_append f xs ys)
 
 asked_two : {A B : Type 0} (name : A → B) (xs ys : List A) (us vs : List B) → us ≡ map name xs → vs ≡ map name ys
     → us ++ vs ≡ map name (xs ++ ys)

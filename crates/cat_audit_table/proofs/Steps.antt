@@ -18,23 +18,20 @@ use Rattle.cat_guard.specs.Questions.{Question}
 use Rattle.cat_guard.specs.Tables.{def_formula, defs_questions, questions_of, guard_def, guard_groups, target_of}
 use Rattle.cat_guard.specs.Tables.{target_name, is_function, may_be_empty, item_pos}
 use Rattle.cat_except.specs.inside.Grouping.{numbered, defs_at}
-use Rattle.cat_numbering.specs.declared.numbering.Numbering.{Numbering}
-use Rattle.cat_numbering.specs.Numbered.{IsNumberingOf, AddsGuard, Grows, IsMade}
-use Rattle.cat_numbering.proofs.Exported.{grows_none, grows_then, made_front, made_back}
-use Rattle.cat_audit_table.specs.declared.scene.Scene.{Scene}
+use Rattle.cat_audit_table.specs.declared.numbering.Numbering.{Numbering}
+use Rattle.cat_audit_table.specs.Numbered.{IsNumberingOf, AddsGuard, Grows, IsMade}
+use Rattle.cat_audit_table.proofs.Adding.{grows_none, grows_then, made_front, made_back}
+use Rattle.cat_audit_table.specs.declared.scene.TabledScope.{TabledScope}
 use Rattle.cat_audit_table.specs.inside.Added.{AddsDef, AddsDefs, AddsTarget, AddsTargets, IsSceneTable, targets_in}
 use Rattle.cat_audit_table.specs.inside.Added.{scene_questions}
-
-map_append : {A B : Type 0} (f : A → B) (xs ys : List A) → map f (xs ++ ys) ≡ map f xs ++ map f ys
-map_append f [] ys = refl
-map_append f (x ∷ xs) ys = ap (λ zs. f x ∷ zs) (map_append f xs ys)
+use Rattle.cat_scope.proofs.Exported.{map_append}
 
 -- ---- definitions
 
 abbrev the_def : ℕ → Guard → Pos → GuardDef
 the_def number guard pos = record { number = number; guard = guard; pos = pos }
 
-pub def_added : (scene : Scene) (n : ℕ) (d : Def) (before after : Numbering) (guard : Guard)
+pub def_added : (scene : TabledScope) (n : ℕ) (d : Def) (before after : Numbering) (guard : Guard)
     → AddsGuard scene.items.now (def_formula scene.decls.now d) before after guard
     → AddsDef scene (n, d) before after (the_def n guard d.pos)
 def_added scene n d before after guard is = record {
@@ -42,7 +39,7 @@ def_added scene n d before after guard is = record {
   made_is = λ qs rest are. ap (λ (g : Guard). the_def n g d.pos) (is.guard_is qs rest are);
 }
 
-pub no_defs : (scene : Scene) (before : Numbering) → AddsDefs scene [] before before []
+pub no_defs : (scene : TabledScope) (before : Numbering) → AddsDefs scene [] before before []
 no_defs scene before = record { grown = grows_none scene.items.now before; made_is = λ qs rest are. refl }
 
 questions_push : (ds : Decls) (xs : List Numbered) (d : Numbered)
@@ -52,7 +49,7 @@ questions_push ds (x ∷ xs) d =
     ap (λ (qs : List Question). asked (def_formula ds x.1) ++ qs) (questions_push ds xs d)
     ∙ sym (append_assoc (asked (def_formula ds x.1)) (defs_questions ds xs) (asked (def_formula ds d.1)))
 
-one_def : (scene : Scene) (xs : List Numbered) (d : Numbered) (before middle after : Numbering) (made : List GuardDef)
+one_def : (scene : TabledScope) (xs : List Numbered) (d : Numbered) (before middle after : Numbering) (made : List GuardDef)
     (new : GuardDef) → AddsDefs scene xs before middle made → AddsDef scene d middle after new
     → AddsDefs scene (xs ++ d ∷ []) before after (made ++ new ∷ [])
 one_def scene xs d before middle after made new is also = record {
@@ -93,7 +90,7 @@ numbers_push defs n d there (m ∷ ns) =
     by None = refl
     by (Some e) = refl
 
-pub one_def_more : (scene : Scene) (numbers : List ℕ) (i n : ℕ) (d : Def) (before middle after : Numbering)
+pub one_def_more : (scene : TabledScope) (numbers : List ℕ) (i n : ℕ) (d : Def) (before middle after : Numbering)
     (made now : List GuardDef) (new : GuardDef) → i < length numbers → get_or numbers i n ≡ n
     → slice_get scene.defs.now n ≡ Some d
     → AddsDefs scene (defs_at scene.defs.now (take i numbers)) before middle made
@@ -122,7 +119,7 @@ the_target target name function may_be_empty pos defs groups roots = record {
   roots = roots;
 }
 
-pub target_added : (scene : Scene) (t : Target) (before after : Numbering) (name : List ℕ) (function empty : Bool)
+pub target_added : (scene : TabledScope) (t : Target) (before after : Numbering) (name : List ℕ) (function empty : Bool)
     (pos : Pos) (defs : List GuardDef) (groups : List GuardGroup) (roots : List ℕ)
     → name ≡ target_name scene.decls.now (slice_get scene.items.now t.item) t.inner
     → function ≡ is_function (slice_get scene.items.now t.item) t.inner
@@ -169,7 +166,7 @@ target_added scene t before after name function empty pos defs groups roots name
     groups_in = guard_groups (defs_from t 0 scene.defs.now) (excepts (groups_of (defs_from t 0 scene.defs.now))) 0
         (groups_of (defs_from t 0 scene.defs.now))
 
-pub no_targets : (scene : Scene) (before : Numbering) → AddsTargets scene [] before before []
+pub no_targets : (scene : TabledScope) (before : Numbering) → AddsTargets scene [] before before []
 no_targets scene before = record { grown = grows_none scene.items.now before; made_is = λ qs rest are. refl }
 
 all_questions_push : (ds : Decls) (defs : List Def) (ts : List Target) (t : Target)
@@ -180,7 +177,7 @@ all_questions_push ds defs (u ∷ ts) t =
     ∙ sym (append_assoc (defs_questions ds (defs_from u 0 defs)) (questions_of ds defs ts)
     (defs_questions ds (defs_from t 0 defs)))
 
-one_target : (scene : Scene) (ts : List Target) (t : Target) (before middle after : Numbering)
+one_target : (scene : TabledScope) (ts : List Target) (t : Target) (before middle after : Numbering)
     (made : List TableTarget) (new : TableTarget) → AddsTargets scene ts before middle made
     → AddsTarget scene t middle after new → AddsTargets scene (ts ++ t ∷ []) before after (made ++ new ∷ [])
 one_target scene ts t before middle after made new is also = record {
@@ -216,7 +213,7 @@ targets_push : (fs : List ForestTarget) (f : ForestTarget) → targets_in (fs ++
 targets_push [] f = refl
 targets_push (g ∷ fs) f = ap (λ (ts : List Target). g.target ∷ ts) (targets_push fs f)
 
-pub one_target_more : (scene : Scene) (forest : List ForestTarget) (i : ℕ) (f : ForestTarget)
+pub one_target_more : (scene : TabledScope) (forest : List ForestTarget) (i : ℕ) (f : ForestTarget)
     (before middle after : Numbering) (made now : List TableTarget) (new : TableTarget) → i < length forest
     → get_or forest i f ≡ f → AddsTargets scene (targets_in (take i forest)) before middle made
     → AddsTarget scene f.target middle after new → now ≡ made ++ new ∷ []
@@ -230,7 +227,7 @@ one_target_more scene forest i f before middle after made now new within at is a
 
 -- ---- the whole
 
-pub scene_table : (scene : Scene) (ts : List Target) (before after : Numbering) (targets : List TableTarget)
+pub scene_table : (scene : TabledScope) (ts : List Target) (before after : Numbering) (targets : List TableTarget)
     → IsNumberingOf scene.items.now [] before → AddsTargets scene ts before after targets
     → IsSceneTable scene ts targets after.terms.terms after.atoms.atoms
 scene_table scene ts before after targets none is =

@@ -28,11 +28,12 @@ use Rattle.cat_guard.specs.Terms.{terms_of, atoms_of}
 use Rattle.cat_guard.specs.Tables.{TablesScope, standing_of, def_formula, defs_questions, questions_of}
 use Rattle.cat_guard.specs.Tables.{target_of}
 use Rattle.cat_guard.specs.Soundness.{is_sound}
-use Rattle.cat_audit_table.specs.declared.scene.Scene.{Scene}
+use Rattle.cat_audit_table.specs.declared.scene.TabledScope.{TabledScope}
 use Rattle.cat_audit_table.specs.inside.Added.{IsForestOf, IsSceneTable, scene_questions, targets_in}
 use Rattle.cat_audit_table.proofs.Numbers.{all_each}
 use Rattle.cat_audit_table.proofs.Fit.{IsFit, condition_fit}
 use Rattle.cat_audit_table.proofs.Sound.{table_sound}
+use Rattle.cat_scope.proofs.Exported.{all_append}
 
 -- ---- a forest
 
@@ -45,10 +46,6 @@ forest_targets defs [] = refl
 forest_targets defs (t ∷ ts) = ap (λ (us : List Target). t ∷ us) (forest_targets defs ts)
 
 -- ---- what conditions ask
-
-all_append : {A : Type 0} (P : A → Type 0) (xs ys : List A) → AllHave P xs → AllHave P ys → AllHave P (xs ++ ys)
-all_append P [] ys h k = k
-all_append P (x ∷ xs) ys h k = (h.0, all_append P xs ys h.1 k)
 
 module _ (ns : Names) (few : AllHave (λ (e : Enumeration). length e.cases ≤ 128) ns.decls.enumerations) (scope : ℕ)
     (defs : List Def) (typed : AllHave (DefTyped ns scope) defs) where
@@ -141,7 +138,7 @@ module _ (program : Program) (few : AllHave (λ (e : Enumeration). length e.case
     pub atoms_are : atoms ≡ atoms_of the_questions
     pub targets_made : targets ≡ map (target_of program.decls decl.items body.defs the_questions) the_targets
 
-  pub made_of : (scene : Scene) (ts : List Target) (targets : List TableTarget) (terms : List Term) (atoms : List Atom)
+  pub made_of : (scene : TabledScope) (ts : List Target) (targets : List TableTarget) (terms : List Term) (atoms : List Atom)
       → IsSceneTable scene ts targets terms atoms → scene.decls.now ≡ program.decls → scene.items.now ≡ decl.items
       → scene.defs.now ≡ body.defs → ts ≡ the_targets → IsMadeOf targets terms atoms
   made_of scene ts targets terms atoms is decls items defs same = record {

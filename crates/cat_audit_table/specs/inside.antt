@@ -1,2 +1,3 @@
-pub mod Placed
 pub mod Added
+pub mod Placed
+pub mod Seen

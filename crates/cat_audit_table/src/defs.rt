@@ -4,21 +4,25 @@ ghost use Rattle.cat_scope.specs.declared.defs.Def.{Def as Definition};
 ghost use Rattle.cat_except.specs.inside.Grouping.{defs_at};
 ghost use Rattle.cat_audit_table.specs.inside.Added.{AddsDef, AddsDefs};
 
-use crate::scene::Scene;
+use crate::scene::TabledScope;
+use crate::{ConditionContext, Numbering, condition_guard};
+use cat_audit_keys::Place;
 use cat_guard::{GuardDef, GuardDefs};
-use cat_numbering::{Here, Numbering, condition_guard};
 use cat_pos::List;
-use cat_term_spell::Place;
 use std::alloc::AllocError;
 
 /// The definition of that number.
-fn guard_def(scene: &Scene, numbering: &mut Numbering, number: u32) -> Result<GuardDef, AllocError>
+fn guard_def(
+    scene: &TabledScope,
+    numbering: &mut Numbering,
+    number: u32,
+) -> Result<GuardDef, AllocError>
     requires { number < length scene.now.defs.now }
     ensures { IfOk result (λ made. (d : Definition) → slice_get scene.now.defs.now number ≡ Some d
         → AddsDef scene.now (number, d) numbering.old numbering.new made) }
 {
     let def = &scene.defs[number as usize];
-    let here = Here {
+    let here = ConditionContext {
         alloc: scene.alloc,
         decls: scene.decls,
         items: scene.items,
@@ -37,7 +41,7 @@ fn guard_def(scene: &Scene, numbering: &mut Numbering, number: u32) -> Result<Gu
 
 /// The definitions of these numbers.
 pub fn guard_defs(
-    scene: &Scene,
+    scene: &TabledScope,
     numbering: &mut Numbering,
     numbers: &[u32],
 ) -> Result<GuardDefs, AllocError>

@@ -5,7 +5,7 @@ use std::alloc::Global;
 
 /// The scope whose table is made: the declarations of its program, its items and its definitions.
 #[derive(Clone, Copy)]
-pub struct Scene<'a> {
+pub struct TabledScope<'a> {
     pub alloc: Global,
     pub decls: &'a Decls,
     pub items: &'a [ItemDecl],

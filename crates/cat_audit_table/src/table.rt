@@ -7,18 +7,18 @@ ghost use Rattle.cat_guard.specs.Tables.{TablesScope};
 ghost use Rattle.cat_audit_table.specs.inside.Added.{IsForestOf, IsSceneTable, targets_in};
 ghost use Rattle.cat_except.specs.Parted.{ArePartedBy};
 
-use crate::scene::Scene;
+use crate::scene::TabledScope;
 use crate::target::table_targets;
+use crate::{AtomTable, Numbering, TermTable};
 use cat_except::definitions_by_target;
 use cat_guard::{Atoms, Table, TableTargets, Terms};
-use cat_numbering::{AtomTable, Numbering, TermTable};
 use cat_pos::ENTRIES_BOUND;
 use cat_scope::{Forest, ForestTarget, Program, programs_are_well_formed};
 use std::alloc::{AllocError, Global};
 
 /// The targets of a scope, with what their guards ask.
 fn targets_asked(
-    scene: &Scene,
+    scene: &TabledScope,
     forest: &[ForestTarget],
 ) -> Result<(TableTargets, Terms, Atoms), AllocError>
     requires few { length scene.now.defs.now < ENTRIES_BOUND }
@@ -51,7 +51,7 @@ pub fn audit_table(
     programs_are_well_formed(program);
     let decl = program.decls.scopes.at(scope as usize);
     let body = program.bodies.at(scope as usize);
-    let scene = Scene {
+    let scene = TabledScope {
         alloc,
         decls: &program.decls,
         items: decl.items.as_slice(),

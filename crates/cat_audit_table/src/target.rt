@@ -5,20 +5,20 @@ ghost use Rattle.cat_scope.specs.Names.{AllHave};
 ghost use Rattle.cat_except.specs.Parted.{ArePartedBy};
 ghost use Rattle.cat_audit_table.specs.inside.Added.{AddsTarget, AddsTargets, IsForestOf, targets_in};
 
+use crate::Numbering;
 use crate::defs::guard_defs;
 use crate::groups::{guard_groups, roots};
 use crate::item::{is_function, item_pos, may_be_empty, target_name};
-use crate::scene::Scene;
+use crate::scene::TabledScope;
 use cat_except::ByTarget;
 use cat_guard::{TableTarget, TableTargets};
-use cat_numbering::Numbering;
 use cat_pos::{ENTRIES_BOUND, List};
 use cat_scope::ForestTarget;
 use std::alloc::AllocError;
 
 /// A target with the guards of its definitions.
 fn table_target(
-    scene: &Scene,
+    scene: &TabledScope,
     numbering: &mut Numbering,
     parted: &ByTarget,
     forest: &ForestTarget,
@@ -49,7 +49,7 @@ fn table_target(
 
 /// All targets, in the order of the forest.
 pub fn table_targets(
-    scene: &Scene,
+    scene: &TabledScope,
     numbering: &mut Numbering,
     parted: &ByTarget,
     forest: &[ForestTarget],

@@ -18,7 +18,7 @@ use Rattle.cat_tree.specs.Phrase.{Parts, End, Word, Part, AreSpelled}
 use Rattle.cat_tree.specs.Joined.{◌▸◌, all}
 use Rattle.cat_tree.specs.Declarations.{field_parts}
 use Rattle.cat_tree.specs.Programs.{item_parts}
-use Rattle.cat_gather.specs.Causes.{AreReadableTogether, pieces_total}
+use Rattle.cat_weave.specs.Causes.{AreReadableTogether, pieces_total}
 use Rattle.cat_names.specs.Written.{structures_in}
 use Rattle.cat_names.specs.Accepted.{AreCounted, IsParsed}
 use Rattle.cat_build.specs.Accepted.{IsTreeOf}

@@ -9,8 +9,8 @@ use Rattle.cat_scope.specs.declared.programs.Program.{Program}
 use Rattle.cat_names.specs.Accepted.{IsProgramOf}
 use Rattle.cat_except.specs.Causes.{MakeForest}
 use Rattle.cat_except.specs.Faults.{groups_in}
-use Rattle.cat_gather.specs.declared.source.Source.{Source}
-use Rattle.cat_gather.specs.Gathered.{Contents, Whole, gathered}
+use Rattle.cat_weave.specs.declared.source.Source.{Source}
+use Rattle.cat_weave.specs.Gathered.{Contents, Whole, gathered}
 
 -- the pieces are tokens, which spell a tree whose expressions are at most 256 high
 pub record IsTreeOf (pieces : List Piece) (tree : Tree) : Type 0 where

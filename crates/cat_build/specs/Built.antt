@@ -1,7 +1,8 @@
 -- What a source is built into.
 use Rattle.std.specs.Prelude.{◌≡◌, List}
 use Rattle.cat_pos.specs.declared.pos.Piece.{Piece}
-use Rattle.cat_desugar.specs.Desugared.{AreForestsOf, KeepsOutcomes, KeepsDeciders}
+use Rattle.cat_calc.specs.Desugared.{KeepsOutcomes, KeepsDeciders}
+use Rattle.cat_scope.specs.AllForests.{AreForestsOf}
 use Rattle.cat_build.specs.declared.Built.{Built}
 use Rattle.cat_build.specs.Accepted.{IsAccepted}
 

@@ -2,7 +2,7 @@
 ghost use Rattle.std.specs.Prelude.{◌≡◌, ◌<◌, IfOk, IfErr, length, slice_get};
 ghost use Rattle.cat_pos.specs.declared.limits.TheConstants.{ENTRIES_BOUND};
 ghost use Rattle.cat_pos.specs.Readable.{AreReadable, IsReadable};
-ghost use Rattle.cat_gather.specs.Causes.{AreReadableTogether};
+ghost use Rattle.cat_weave.specs.Causes.{AreReadableTogether};
 ghost use Rattle.cat_lex.specs.Positions.{position_after};
 ghost use Rattle.cat_lex.specs.Lexes.{Lexes};
 ghost use Rattle.cat_scope.specs.Names.{AllHave};

@@ -3,7 +3,7 @@
 #![tactic(auto)]
 
 ghost use Rattle.std.specs.Prelude.{IfOk, IfErr};
-ghost use Rattle.cat_gather.specs.Causes.{AreReadableTogether};
+ghost use Rattle.cat_weave.specs.Causes.{AreReadableTogether};
 ghost use Rattle.cat_build.specs.Built.{IsBuiltOf};
 ghost use Rattle.cat_build.specs.Causes.{HasCause};
 
@@ -15,10 +15,9 @@ mod laws;
 pub use crate::forests::Forests;
 use crate::forests::forests_of;
 use crate::front::program_in;
-use cat_calc::Calc;
-use cat_desugar::desugar;
-use cat_gather::Source;
+use cat_calc::{Calc, desugar};
 use cat_scope::Program;
+use cat_weave::Source;
 pub use code::{BuildRefusal, Code};
 pub use laws::{
     accepted_programs_are_counted, pieces_have_one_program, refused_pieces_are_not_accepted,

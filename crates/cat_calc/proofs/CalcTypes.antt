@@ -29,7 +29,7 @@ use Rattle.cat_sound.proofs.Exported.{all_front}
 use Rattle.cat_sound.proofs.Exported.{all_runs-end, any_stands, anything, callable, ends_as, everywhere}
 use Rattle.cat_sound.proofs.Exported.{expressions_go_on, listed_in, moved_new, names_of, outcome-of, run_scoped-ends}
 use Rattle.cat_sound.proofs.Exported.{same_some, target_of}
-use Rattle.cat_calc.specs.declared.term.Term.{Term}
+use Rattle.cat_calc.specs.declared.term.DefaultTerm.{DefaultTerm}
 use Rattle.cat_calc.specs.declared.calcs.ItemTerms.{ItemTerms}
 use Rattle.cat_calc.specs.declared.calcs.CalcScope.{CalcScope}
 use Rattle.cat_calc.specs.Terms.{conditions_in, consequences_in, named_in}
@@ -48,7 +48,7 @@ all_joined P f [] h = tt
 all_joined P f (x ∷ xs) h =
     (all_front P (f x) (joined (map f xs)) h, all_joined P f xs (all_back P (f x) (joined (map f xs)) h))
 
-all_terms_have : (P : ℕ → Type 0) (named : Expr → List ℕ) (terms : List Term) → AllHave P (named_in_all named terms)
+all_terms_have : (P : ℕ → Type 0) (named : Expr → List ℕ) (terms : List DefaultTerm) → AllHave P (named_in_all named terms)
     → AllHave (λ term. AllHave P (named_in named term)) terms
 all_terms_have P named [] h = tt
 all_terms_have P named (term ∷ terms) h = (
@@ -56,11 +56,11 @@ all_terms_have P named (term ∷ terms) h = (
   all_terms_have P named terms (all_back P (named_in named term) (named_in_all named terms) h),
 )
 
-term_has : (P : ℕ → Type 0) (named : Expr → List ℕ) (o : Option ItemTerms) (inner : Option ℕ) (term : Term)
+term_has : (P : ℕ → Type 0) (named : Expr → List ℕ) (o : Option ItemTerms) (inner : Option ℕ) (term : DefaultTerm)
     → AllHave P (named_by_terms named o) → term_among o inner ≡ Some term → AllHave P (named_in named term)
 term_has P named None inner term h is = absurd (cc (is))
 term_has P named (Some terms) None term h is =
-    subst (λ (x : Term). AllHave P (named_in named x)) (same_some terms.own term is)
+    subst (λ (x : DefaultTerm). AllHave P (named_in named x)) (same_some terms.own term is)
     (all_terms_have P named (all_terms terms) h).0
 term_has P named (Some terms) (Some n) term h is =
     all_at (λ x. AllHave P (named_in named x)) terms.inner n term (all_terms_have P named (all_terms terms) h).1 is
@@ -117,7 +117,7 @@ module _ (ds : Decls) (number : ℕ) (scope : Scope) (terms : CalcScope) (is : I
           scopes = callable anything ds scoped refl calls values (scopes_named e) scopes;
         }) are
 
-    term-ends : (term : Term) → term_among (slice_get terms.terms item) inner ≡ Some term → TermTyped ns ps t term
+    term-ends : (term : DefaultTerm) → term_among (slice_get terms.terms item) inner ≡ Some term → TermTyped ns ps t term
         → EndsIn anything (IsHeldOf true ds t)
         (reduced_or (λ e. eval (env_of scoped calls values) e arguments) (target_of scoped item inner) (Some term))
     term-ends term there typed =
@@ -145,7 +145,7 @@ module _ (ds : Decls) (number : ℕ) (scope : Scope) (terms : CalcScope) (is : I
     judged : JudgingEnds anything ds scoped calls values arguments item inner ps t
     judged = by (term_of terms.terms (target_of scoped item inner)) refl
       where
-        by : (o : Option Term) → term_of terms.terms (target_of scoped item inner) ≡ o
+        by : (o : Option DefaultTerm) → term_of terms.terms (target_of scoped item inner) ≡ o
             → JudgingEnds anything ds scoped calls values arguments item inner ps t
         by None e = record {
           ends = ends_as anything (IsHeldOf true ds t) _ (gives None)
@@ -159,7 +159,7 @@ module _ (ds : Decls) (number : ℕ) (scope : Scope) (terms : CalcScope) (is : I
               (reduced_or (λ x. eval (env_of scoped calls values) x arguments) (target_of scoped item inner)
               (Some term))
               (ap (reduced_or (λ x. eval (env_of scoped calls values) x arguments) (target_of scoped item inner)) e)
-              (term-ends term e (subst (λ (o : Option Term). IfSome o (TermTyped ns ps t)) e
+              (term-ends term e (subst (λ (o : Option DefaultTerm). IfSome o (TermTyped ns ps t)) e
               (is.typed (target_of scoped item inner) ps t target)));
           stands = λ none. any_stands (target_of scoped item inner)
               (judging_of scoped calls values arguments (target_of scoped item inner)).end;

@@ -1,4 +1,4 @@
--- What crates above may cite by path: rewriting and induction, which no clause of a law can give.
+-- What crates above may cite by path: rewriting, which no clause of a call can give.
 pub use Rattle.cat_calc.proofs.Equations.{reduced_Empty, reduced_Consequence, reduced_Default, reductions}
 pub use Rattle.cat_calc.proofs.Equations.{conditions_Empty, conditions_Consequence, conditions_Default}
 pub use Rattle.cat_calc.proofs.Equations.{consequences_Empty, consequences_Consequence, consequences_Default}

@@ -17,9 +17,9 @@ use Rattle.cat_scope.specs.declared.operators.BinaryOp.TheVariants.{Greater, Div
 use Rattle.cat_scope.specs.declared.stop.Stop.{Stop}
 use Rattle.cat_scope.proofs.Exported.{equations}
 use Rattle.cat_calc.specs.declared.term.Justification.TheVariants.{Never, Always, Where}
-use Rattle.cat_calc.specs.declared.term.Term.{Term}
-use Rattle.cat_calc.specs.declared.term.Term.TheVariants as term
-use Rattle.cat_calc.specs.declared.term.Term.TheViews as default
+use Rattle.cat_calc.specs.declared.term.DefaultTerm.{DefaultTerm}
+use Rattle.cat_calc.specs.declared.term.DefaultTerm.TheVariants as term
+use Rattle.cat_calc.specs.declared.term.DefaultTerm.TheViews as default
 use Rattle.cat_calc.specs.declared.calcs.CalcScope.{CalcScope}
 use Rattle.cat_calc.specs.Calculus.{run_of_terms}
 use Rattle.cat_calc.proofs.Equations.{reductions}
@@ -43,21 +43,21 @@ per_n_above_one p = expr.Binary (at 0 0) Greater (at 0 0) (expr.Binary (at 0 0) 
     (leaf.Literal (at 0 0) (literal.Decimal (record { digits = 10; places = 1 })))
 
 -- a definition that always holds, and one under a condition
-abbrev always : ℕ → Pos → Expr → Term
+abbrev always : ℕ → Pos → Expr → DefaultTerm
 always number p e = default.Default [] Always (term.Consequence number p e)
 
-abbrev under : ℕ → Pos → Expr → Expr → Term
+abbrev under : ℕ → Pos → Expr → Expr → DefaultTerm
 under number p condition e = default.Default [] (Where condition) (term.Consequence number p e)
 
 -- a list of terms, of which one alone may hold
-abbrev listed : List Term → Term
+abbrev listed : List DefaultTerm → DefaultTerm
 listed terms = default.Default terms Never term.Empty
 
 -- a group with the groups that except it
-abbrev group : List Term → List Term → Term
+abbrev group : List DefaultTerm → List DefaultTerm → DefaultTerm
 group exceptions own = default.Default exceptions Always (listed own)
 
-abbrev x_of : Term → CalcScope
+abbrev x_of : DefaultTerm → CalcScope
 x_of x = record {
   rounding = Refuse;
   order = 0 ∷ 1 ∷ [];
@@ -72,7 +72,7 @@ abbrev x_out : ItemDecl
 x_out = record { name = []; pos = at 4 10; kind = kind.Output; ty = ty.Integer; condition = false; params = [] }
 
 -- a scope with the input n and the output x, on k
-abbrev alone : Term → ℕ → Result (List Value) Stop
+abbrev alone : DefaultTerm → ℕ → Result (List Value) Stop
 alone x k =
     (run_of_terms (record { name = []; items = n_in ∷ x_out ∷ [] } ∷ []) (x_of x ∷ []) (0 ∷ []) 0
     (Some (flat.Integer (pos k)) ∷ None ∷ [])).end
@@ -81,7 +81,7 @@ abbrev gives : ℕ → Result (List Value) Stop
 gives k = Ok (flat.Integer (pos k) ∷ [])
 
 -- an exception, and an exception to it
-abbrev chain : Term
+abbrev chain : DefaultTerm
 chain = listed (group
     (group (group [] (under 2 (at 8 15) (n_above 1) (whole 3) ∷ []) ∷ []) (under 1 (at 7 23) (n_above 0) (whole 2) ∷ [])
     ∷ []) (always 0 (at 6 11) (whole 1) ∷ []) ∷ [])

@@ -17,9 +17,9 @@ use Rattle.cat_sound.specs.Settled.{IsHeldOf}
 use Rattle.cat_sound.proofs.Exported.{all_front, all_back, ends_as, ends_choose, ends_then, or_else-ends, settle-ends}
 use Rattle.cat_calc.specs.declared.term.Justification.{Justification}
 use Rattle.cat_calc.specs.declared.term.Justification.TheVariants as justification
-use Rattle.cat_calc.specs.declared.term.Term.{Term}
-use Rattle.cat_calc.specs.declared.term.Term.TheVariants as leaf
-use Rattle.cat_calc.specs.declared.term.Term.TheViews as term
+use Rattle.cat_calc.specs.declared.term.DefaultTerm.{DefaultTerm}
+use Rattle.cat_calc.specs.declared.term.DefaultTerm.TheVariants as leaf
+use Rattle.cat_calc.specs.declared.term.DefaultTerm.TheViews as term
 use Rattle.cat_calc.specs.Terms.{all_in, condition_in, conditions_in, consequences_in}
 use Rattle.cat_calc.specs.Reducing.{justified, reduced}
 use Rattle.cat_calc.proofs.Equations.{reduced_Empty, reduced_Consequence, reduced_Default, conditions_Default}
@@ -43,12 +43,12 @@ module _ (allowed : Allowed) (ds : Decls) (t : Ty) (value : Expr → Run Value) 
   abbrev JudgedOf : Judged Value → Type 0
   JudgedOf judged = EndsIn allowed (IsHeldOf true ds t) judged
 
-  abbrev Reduces : Term → Type 0
+  abbrev Reduces : DefaultTerm → Type 0
   Reduces one =
       AllHave ConditionEnds (conditions_in one) → AllHave ConsequenceEnds (consequences_in one)
       → JudgedOf (reduced value target one)
 
-  each_ends : (exceptions : List Term) → Each Reduces exceptions
+  each_ends : (exceptions : List DefaultTerm) → Each Reduces exceptions
       → AllHave (λ e. AllHave ConditionEnds (conditions_in e)) exceptions
       → AllHave (λ e. AllHave ConsequenceEnds (consequences_in e)) exceptions
       → AllHave JudgedOf (map (reduced value target) exceptions)
@@ -64,7 +64,7 @@ module _ (allowed : Allowed) (ds : Decls) (t : Ty) (value : Expr → Run Value) 
       ends_then allowed (IsOf ds flat_ty.Boolean) (IsHeldOf true ds t) (value e) _ h.0
       (λ c hc. ends_choose allowed (IsHeldOf true ds t) ds c consequence (gives None) hc is (tt, refl))
 
-  on_default : (exceptions : List Term) (j : Justification) (consequence : Term) → Each Reduces exceptions
+  on_default : (exceptions : List DefaultTerm) (j : Justification) (consequence : DefaultTerm) → Each Reduces exceptions
       → Reduces consequence → Reduces (term.Default exceptions j consequence)
   on_default exceptions j consequence each is h g =
       let conditions = subst (λ (es : List Expr). AllHave ConditionEnds es)
@@ -100,7 +100,7 @@ module _ (allowed : Allowed) (ds : Decls) (t : Ty) (value : Expr → Run Value) 
       (reduced_Consequence value target number p e)
       (ends_then allowed (IsOf ds t) (IsHeldOf true ds t) (value e) _ ends.0 (λ v hv. (tt, hv)))
 
-  pub reduced-ends : (one : Term) → Reduces one
+  pub reduced-ends : (one : DefaultTerm) → Reduces one
   reduced-ends =
       induction Reduces
       (λ h g. ends_as allowed (IsHeldOf true ds t) (reduced value target leaf.Empty) (gives None)

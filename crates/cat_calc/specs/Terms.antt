@@ -5,9 +5,9 @@ use Rattle.cat_scope.specs.Judging.{Held}
 use Rattle.cat_scope.specs.Mentions.{joined}
 use Rattle.cat_calc.specs.declared.term.Justification.{Justification}
 use Rattle.cat_calc.specs.declared.term.Justification.TheVariants as justification
-use Rattle.cat_calc.specs.declared.term.Term.{Term}
-use Rattle.cat_calc.specs.declared.term.Term.TheOpen.{Term-F}
-use Rattle.cat_calc.specs.declared.term.Term.TheFolds.{fold-Term}
+use Rattle.cat_calc.specs.declared.term.DefaultTerm.{DefaultTerm}
+use Rattle.cat_calc.specs.declared.term.DefaultTerm.TheOpen.{DefaultTerm-F}
+use Rattle.cat_calc.specs.declared.term.DefaultTerm.TheFolds.{fold-DefaultTerm}
 
 -- some lists, one behind another
 abbrev pub all_in : {A : Type 0} → List (List A) → List A
@@ -21,31 +21,31 @@ condition_in justification.Always = []
 condition_in (justification.Where e) = e ∷ []
 
 -- conditions, as the parts of a term have them
-abbrev pub conditions_by : Term-F (List Expr) → List Expr
-conditions_by Term-F.Empty = []
-conditions_by (Term-F.Consequence number p e) = []
-conditions_by (Term-F.Default exceptions justification consequence) =
+abbrev pub conditions_by : DefaultTerm-F (List Expr) → List Expr
+conditions_by DefaultTerm-F.Empty = []
+conditions_by (DefaultTerm-F.Consequence number p e) = []
+conditions_by (DefaultTerm-F.Default exceptions justification consequence) =
     all_in exceptions ++ condition_in justification ++ consequence
 
 -- the conditions of a term
-unfoldable pub conditions_in : Term → List Expr
-conditions_in = fold-Term (List Expr) conditions_by
+unfoldable pub conditions_in : DefaultTerm → List Expr
+conditions_in = fold-DefaultTerm (List Expr) conditions_by
 
 -- consequences, as the parts of a term have them
-abbrev pub consequences_by : Term-F (List (Held Expr)) → List (Held Expr)
-consequences_by Term-F.Empty = []
-consequences_by (Term-F.Consequence number p e) = record { number = number; pos = p; value = e } ∷ []
-consequences_by (Term-F.Default exceptions justification consequence) = all_in exceptions ++ consequence
+abbrev pub consequences_by : DefaultTerm-F (List (Held Expr)) → List (Held Expr)
+consequences_by DefaultTerm-F.Empty = []
+consequences_by (DefaultTerm-F.Consequence number p e) = record { number = number; pos = p; value = e } ∷ []
+consequences_by (DefaultTerm-F.Default exceptions justification consequence) = all_in exceptions ++ consequence
 
 -- the consequences of a term, each with the number and the position of its definition
-unfoldable pub consequences_in : Term → List (Held Expr)
-consequences_in = fold-Term (List (Held Expr)) consequences_by
+unfoldable pub consequences_in : DefaultTerm → List (Held Expr)
+consequences_in = fold-DefaultTerm (List (Held Expr)) consequences_by
 
 -- what the expressions of a term name
-abbrev pub named_in : (Expr → List ℕ) → Term → List ℕ
+abbrev pub named_in : (Expr → List ℕ) → DefaultTerm → List ℕ
 named_in named term =
     joined (map named (conditions_in term)) ++ joined (map (λ h. named h.value) (consequences_in term))
 
 -- the numbers of its definitions
-abbrev pub numbers_in : Term → List ℕ
+abbrev pub numbers_in : DefaultTerm → List ℕ
 numbers_in term = map (λ h. h.number) (consequences_in term)

@@ -15,23 +15,23 @@ use Rattle.cat_scope.specs.HasType.{HasType}
 use Rattle.cat_scope.specs.Mentions.{items_named, joined, scopes_named}
 use Rattle.cat_scope.specs.Orders.{called_by_items}
 use Rattle.cat_scope.specs.WellFormed.{AssertionTyped, is_placed}
-use Rattle.cat_calc.specs.declared.term.Term.{Term}
+use Rattle.cat_calc.specs.declared.term.DefaultTerm.{DefaultTerm}
 use Rattle.cat_calc.specs.declared.calcs.ItemTerms.{ItemTerms}
 use Rattle.cat_calc.specs.declared.calcs.CalcScope.{CalcScope}
 use Rattle.cat_calc.specs.Terms.{conditions_in, consequences_in, named_in, numbers_in}
 use Rattle.cat_calc.specs.Reducing.{term_of}
 
 -- a term of a target with these parameters and this type: its conditions are boolean, its consequences of the type
-pub record TermTyped (names : Names) (params : List Ty) (ty : Ty) (term : Term) : Type 0 where
+pub record TermTyped (names : Names) (params : List Ty) (ty : Ty) (term : DefaultTerm) : Type 0 where
   pub conditions : AllHave (λ e. HasType names params e Boolean) (conditions_in term)
   pub consequences : AllHave (λ h. HasType names params h.value ty) (consequences_in term)
 
 -- all terms of an item
-abbrev pub all_terms : ItemTerms → List Term
+abbrev pub all_terms : ItemTerms → List DefaultTerm
 all_terms terms = terms.own ∷ terms.inner
 
 -- what some terms name
-abbrev pub named_in_all : (Expr → List ℕ) → List Term → List ℕ
+abbrev pub named_in_all : (Expr → List ℕ) → List DefaultTerm → List ℕ
 named_in_all named [] = []
 named_in_all named (term ∷ terms) = named_in named term ++ named_in_all named terms
 
@@ -57,7 +57,7 @@ scopes_called items (Some scope) =
     ++ joined (map (λ a. scopes_named a.condition) scope.assertions)
 
 -- the numbers of the definitions of some terms
-abbrev pub numbers_in_all : List Term → List ℕ
+abbrev pub numbers_in_all : List DefaultTerm → List ℕ
 numbers_in_all [] = []
 numbers_in_all (term ∷ terms) = numbers_in term ++ numbers_in_all terms
 

@@ -2,7 +2,7 @@
 ghost use Rattle.std.specs.Prelude.{◌≡◌};
 ghost use Rattle.cat_calc.specs.WellFormed.{IsCalc};
 
-use crate::{Term, Terms};
+use crate::{DefaultTerm, DefaultTerms};
 use cat_date::Rounding;
 use cat_pos::{List, Numbers};
 use cat_scope::Assertions;
@@ -12,9 +12,9 @@ use cat_value::Decls;
 #[derive(Debug, Drop)]
 pub struct ItemTerms {
     /// Of the item, where it is a variable.
-    pub own: Term,
+    pub own: DefaultTerm,
     /// Of the items of the scope that it calls, where it is a called scope.
-    pub inner: Terms,
+    pub inner: DefaultTerms,
 }
 
 pub type TermsOfItems = List<ItemTerms>;

@@ -14,14 +14,14 @@ pub enum Justification {
 /// A term of the default calculus, over the expressions of a scope.
 #[cycle(term)]
 #[derive(Debug, Drop)]
-pub enum Term {
+pub enum DefaultTerm {
     /// Nothing holds.
     Empty,
     /// The consequence of a definition: the definition's number among those of its scope, its position, and what it
     /// gives.
     Consequence(u32, Pos, Shared<Expr>),
     /// `⟨exceptions | justification :- consequence⟩`.
-    Default(Terms, Justification, Boxed<Term>),
+    Default(DefaultTerms, Justification, Boxed<DefaultTerm>),
 }
 
-pub type Terms = List<Term>;
+pub type DefaultTerms = List<DefaultTerm>;

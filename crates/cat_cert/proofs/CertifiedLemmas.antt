@@ -7,14 +7,14 @@ use Rattle.cat_guard.specs.declared.tree.CitedNode.{CitedNode}
 use Rattle.cat_guard.specs.Trees.{expanded}
 use Rattle.cat_walk.specs.LeafPlaces.{lists_of}
 use Rattle.cat_walk.specs.Sizes.{is_small}
-use Rattle.cat_cert_text.specs.declared.certificate.Version.{Version}
-use Rattle.cat_cert_text.specs.declared.certificate.CertTree.{CertTree}
-use Rattle.cat_cert_text.specs.declared.certificate.Certificate.{Certificate}
-use Rattle.cat_cert_text.specs.declared.refusal.CertRefusal.{CertRefusal}
-use Rattle.cat_cert_text.specs.declared.refusal.CertRefusal.TheVariants as refusal
-use Rattle.cat_cert_text.specs.Lines.{Due, ScopeDue, TargetDue, dues_of}
-use Rattle.cat_cert_text.specs.Causes.{IsRead, IsRefused}
-use Rattle.cat_cert_text.specs.ReadTrees.{AreWithin, AreReadTrees}
+use Rattle.cat_cert.specs.declared.certificate.Version.{Version}
+use Rattle.cat_cert.specs.declared.certificate.CertTree.{CertTree}
+use Rattle.cat_cert.specs.declared.certificate.Certificate.{Certificate}
+use Rattle.cat_cert.specs.declared.refusal.CertRefusal.{CertRefusal}
+use Rattle.cat_cert.specs.declared.refusal.CertRefusal.TheVariants as refusal
+use Rattle.cat_cert.specs.Lines.{Due, ScopeDue, TargetDue, dues_of}
+use Rattle.cat_cert.specs.Causes.{IsRead, IsRefused}
+use Rattle.cat_cert.specs.ReadTrees.{AreWithin, AreReadTrees}
 use Rattle.cat_cert.specs.Uncovered.{uncovered}
 use Rattle.cat_cert.specs.Checked.{HasCause}
 use Rattle.cat_cert.specs.inside.Checkable.{last_line, AreOfTables, NamesFirst}

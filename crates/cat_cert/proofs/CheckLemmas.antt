@@ -17,9 +17,9 @@ use Rattle.cat_walk.specs.declared.size.TheConstants.{PAST_MOST}
 use Rattle.cat_walk.specs.Coverage.{is_uncovered, first_place, AnswersOf, IsWalked, leaf_regions}
 use Rattle.cat_walk.specs.LeafPlaces.{elements, leaf_places}
 use Rattle.cat_walk.specs.Sizes.{is_small, size_of}
-use Rattle.cat_cert_text.specs.declared.certificate.CertTree.{CertTree}
-use Rattle.cat_cert_text.specs.declared.refusal.CertRefusal.TheVariants as refusal
-use Rattle.cat_cert_text.specs.ReadTrees.{AreWithin}
+use Rattle.cat_cert.specs.declared.certificate.CertTree.{CertTree}
+use Rattle.cat_cert.specs.declared.refusal.CertRefusal.TheVariants as refusal
+use Rattle.cat_cert.specs.ReadTrees.{AreWithin}
 use Rattle.cat_cert.specs.Uncovered.{IsCovered, line_of, lines_passing, regions_of}
 use Rattle.cat_cert.specs.Uncovered.{tree_uncovered}
 use Rattle.cat_cert.specs.inside.Checkable.{IsLow, NamesFirst}

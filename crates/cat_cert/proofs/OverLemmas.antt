@@ -9,24 +9,24 @@ use Rattle.cat_guard.specs.declared.table.Table.{Table}
 use Rattle.cat_guard.specs.declared.tree.CaseTree.{CaseTree}
 use Rattle.cat_guard.specs.declared.tree.CitedTree.{CitedTree}
 use Rattle.cat_guard.specs.Trees.{Tree, expanded, tree_of, is_whole, leaves}
-use Rattle.cat_share.specs.Sharing.{is_whole_tree}
+use Rattle.cat_walk.specs.Sharing.{is_whole_tree}
 use Rattle.cat_walk.specs.LeafPlaces.{lists_of}
 use Rattle.cat_walk.specs.Sizes.{is_small}
 use Rattle.cat_walk.specs.Walkable.{nodes_pass, splits_pass}
-use Rattle.cat_cert_text.specs.declared.certificate.Version.{Version}
-use Rattle.cat_cert_text.specs.declared.certificate.Version.TheVariants as version
-use Rattle.cat_cert_text.specs.declared.certificate.TheConstants.{MOST_LEAVES}
-use Rattle.cat_cert_text.specs.declared.certificate.CertTree.{CertTree}
-use Rattle.cat_cert_text.specs.declared.certificate.Certificate.{Certificate}
-use Rattle.cat_cert_text.specs.Lines.{Due, ScopeDue, TargetDue, dues_of, certificate_lines}
-use Rattle.cat_cert_text.specs.Certified.{is_atom_of}
-use Rattle.cat_cert_text.specs.Certifiable.{shared_tree, IsCertifiable, AreCertifiable}
-use Rattle.cat_cert_text.specs.Texts.{certificate_text, names_are_lines}
-use Rattle.cat_cert_text.specs.Fronts.{IsCertificate}
-use Rattle.cat_cert_text.specs.declared.refusal.CertRefusal.{CertRefusal}
-use Rattle.cat_cert_text.specs.declared.refusal.CertRefusal.TheVariants as refusal
-use Rattle.cat_cert_text.specs.Causes.{IsRead, IsRefused}
-use Rattle.cat_cert_text.specs.ReadTrees.{AreReadTrees, IsReadAs}
+use Rattle.cat_cert.specs.declared.certificate.Version.{Version}
+use Rattle.cat_cert.specs.declared.certificate.Version.TheVariants as version
+use Rattle.cat_cert.specs.declared.certificate.TheConstants.{MOST_LEAVES}
+use Rattle.cat_cert.specs.declared.certificate.CertTree.{CertTree}
+use Rattle.cat_cert.specs.declared.certificate.Certificate.{Certificate}
+use Rattle.cat_cert.specs.Lines.{Due, ScopeDue, TargetDue, dues_of, certificate_lines}
+use Rattle.cat_cert.specs.Certified.{is_atom_of}
+use Rattle.cat_cert.specs.Certifiable.{shared_tree, IsCertifiable, AreCertifiable}
+use Rattle.cat_cert.specs.Texts.{certificate_text, names_are_lines}
+use Rattle.cat_cert.specs.Fronts.{IsCertificate}
+use Rattle.cat_cert.specs.declared.refusal.CertRefusal.{CertRefusal}
+use Rattle.cat_cert.specs.declared.refusal.CertRefusal.TheVariants as refusal
+use Rattle.cat_cert.specs.Causes.{IsRead, IsRefused}
+use Rattle.cat_cert.specs.ReadTrees.{AreReadTrees, IsReadAs}
 use Rattle.cat_cert.specs.Uncovered.{AllCovered, uncovered}
 use Rattle.cat_cert.specs.Checked.{IsChecked, IsCertified, HasCause, text_over}
 use Rattle.cat_cert.specs.inside.Checkable.{found_in}

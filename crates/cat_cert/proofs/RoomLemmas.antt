@@ -15,7 +15,7 @@ use Rattle.cat_guard.specs.Verdicts.{verdict_of}
 use Rattle.cat_walk.specs.declared.place.NodePlace.{NodePlace}
 use Rattle.cat_walk.specs.Coverage.{is_uncovered, leaf_regions}
 use Rattle.cat_walk.specs.LeafPlaces.{leaf_places}
-use Rattle.cat_cert_text.specs.declared.certificate.CertTree.{CertTree}
+use Rattle.cat_cert.specs.declared.certificate.CertTree.{CertTree}
 use Rattle.cat_cert.specs.Uncovered.{IsCovered, line_of, lines_passing, regions_of}
 use Rattle.cat_cert.specs.Uncovered.{tree_uncovered}
 

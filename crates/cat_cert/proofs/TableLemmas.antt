@@ -18,13 +18,13 @@ use Rattle.cat_guard.proofs.Exported.{both_true}
 use Rattle.cat_cert.specs.Uncovered.{everything}
 use Rattle.cat_walk.specs.Walkable.{IsWalkable, nodes_pass, splits_pass}
 use Rattle.cat_walk.specs.LeafPlaces.{lists_of}
-use Rattle.cat_cert_text.specs.declared.certificate.Version.{Version}
-use Rattle.cat_cert_text.specs.declared.certificate.CertTree.{CertTree}
-use Rattle.cat_cert_text.specs.declared.refusal.CertRefusal.{CertRefusal}
-use Rattle.cat_cert_text.specs.declared.refusal.CertRefusal.TheVariants as refusal
-use Rattle.cat_cert_text.specs.Lines.{Due, TargetDue, dues_of, targets_of}
-use Rattle.cat_cert_text.specs.Certified.{is_atom_of}
-use Rattle.cat_cert_text.specs.ReadTrees.{AreReadTrees}
+use Rattle.cat_cert.specs.declared.certificate.Version.{Version}
+use Rattle.cat_cert.specs.declared.certificate.CertTree.{CertTree}
+use Rattle.cat_cert.specs.declared.refusal.CertRefusal.{CertRefusal}
+use Rattle.cat_cert.specs.declared.refusal.CertRefusal.TheVariants as refusal
+use Rattle.cat_cert.specs.Lines.{Due, TargetDue, dues_of, targets_of}
+use Rattle.cat_cert.specs.Certified.{is_atom_of}
+use Rattle.cat_cert.specs.ReadTrees.{AreReadTrees}
 use Rattle.cat_cert.specs.Uncovered.{IsCovered, AreCovered, AllCovered, tree_uncovered, targets_uncovered}
 use Rattle.cat_cert.specs.Uncovered.{uncovered}
 use Rattle.cat_cert.specs.Checked.{HasClosedTree}

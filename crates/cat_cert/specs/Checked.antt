@@ -6,14 +6,14 @@ use Rattle.cat_guard.specs.declared.table.TableTarget.{TableTarget}
 use Rattle.cat_guard.specs.declared.tree.CitedTree.{CitedTree}
 use Rattle.cat_guard.specs.Trees.{IsCitedClosed, expanded}
 use Rattle.cat_cert.specs.Uncovered.{everything}
-use Rattle.cat_cert_text.specs.declared.certificate.Version.TheVariants as version
-use Rattle.cat_cert_text.specs.declared.certificate.CertTree.{CertTree}
-use Rattle.cat_cert_text.specs.declared.certificate.Certificate.{Certificate}
-use Rattle.cat_cert_text.specs.declared.refusal.CertRefusal.{CertRefusal}
-use Rattle.cat_cert_text.specs.declared.refusal.CertRefusal.TheVariants as refusal
-use Rattle.cat_cert_text.specs.Certifiable.{shared_tree}
-use Rattle.cat_cert_text.specs.Texts.{certificate_text}
-use Rattle.cat_cert_text.specs.Causes.{IsRead, IsRefused}
+use Rattle.cat_cert.specs.declared.certificate.Version.TheVariants as version
+use Rattle.cat_cert.specs.declared.certificate.CertTree.{CertTree}
+use Rattle.cat_cert.specs.declared.certificate.Certificate.{Certificate}
+use Rattle.cat_cert.specs.declared.refusal.CertRefusal.{CertRefusal}
+use Rattle.cat_cert.specs.declared.refusal.CertRefusal.TheVariants as refusal
+use Rattle.cat_cert.specs.Certifiable.{shared_tree}
+use Rattle.cat_cert.specs.Texts.{certificate_text}
+use Rattle.cat_cert.specs.Causes.{IsRead, IsRefused}
 use Rattle.cat_cert.specs.Uncovered.{AllCovered, uncovered}
 
 -- ---- what a yes says

@@ -13,7 +13,7 @@ use Rattle.cat_guard.specs.Valuations.{dims_of}
 use Rattle.cat_walk.specs.declared.place.NodePlace.{NodePlace}
 use Rattle.cat_walk.specs.Coverage.{is_uncovered, leaf_regions}
 use Rattle.cat_walk.specs.LeafPlaces.{leaf_places}
-use Rattle.cat_cert_text.specs.declared.certificate.CertTree.{CertTree}
+use Rattle.cat_cert.specs.declared.certificate.CertTree.{CertTree}
 
 -- the region that admits every valuation of some terms
 abbrev pub everything : List Term → Constraints

@@ -11,9 +11,8 @@ ghost use Rattle.cat_cert.specs.inside.Checkable.{IsCheckable, AreOfTable, AreOf
 
 use crate::heights::highest;
 use crate::lines::line_of;
-use cat_cert_text::{CertRefusal, CertTree, atoms_of_targets_are_there};
-use cat_guard::Table;
-use cat_judge::{room_closes_no_tree, whole_region};
+use crate::{CertRefusal, CertTree, atoms_of_targets_are_there};
+use cat_guard::{Table, room_closes_no_tree, whole_region};
 use cat_region::Region;
 use cat_walk::{WalkRefusal, trees_split_as_they_are_written, walk};
 use std::alloc::Global;

@@ -5,7 +5,7 @@ ghost use Rattle.cat_guard.specs.Trees.{expanded};
 ghost use Rattle.cat_walk.specs.Sizes.{is_small};
 ghost use Rattle.cat_cert.specs.inside.Checkable.{IsUpTo};
 
-use cat_cert_text::CertTree;
+use crate::CertTree;
 use cat_walk::{cited_trees_are_whole, tree_size};
 use std::alloc::{AllocError, Global};
 

@@ -3,17 +3,17 @@ ghost use Rattle.std.specs.Prelude.{◌≡◌, ◌<◌, ◌≤◌, ◌^◌, ℕ,
 ghost use Rattle.cat_scope.specs.Names.{AllHave};
 ghost use Rattle.cat_guard.specs.declared.table.Table.{Table as TableSeen};
 ghost use Rattle.cat_guard.specs.Trees.{Tree};
-ghost use Rattle.cat_cert_text.specs.declared.certificate.Version.TheVariants.{Two};
-ghost use Rattle.cat_cert_text.specs.declared.certificate.Certificate.{Certificate as CertificateSeen};
-ghost use Rattle.cat_cert_text.specs.declared.refusal.CertRefusal.{CertRefusal as RefusalSeen};
-ghost use Rattle.cat_cert_text.specs.declared.refusal.CertRefusal.TheVariants.{Memory};
-ghost use Rattle.cat_cert_text.specs.Lines.{dues_of};
-ghost use Rattle.cat_cert_text.specs.Certifiable.{shared_tree, AreCertifiable};
-ghost use Rattle.cat_cert_text.specs.Texts.{certificate_text, names_are_lines};
+ghost use Rattle.cat_cert.specs.declared.certificate.Version.TheVariants.{Two};
+ghost use Rattle.cat_cert.specs.declared.certificate.Certificate.{Certificate as CertificateSeen};
+ghost use Rattle.cat_cert.specs.declared.refusal.CertRefusal.{CertRefusal as RefusalSeen};
+ghost use Rattle.cat_cert.specs.declared.refusal.CertRefusal.TheVariants.{Memory};
+ghost use Rattle.cat_cert.specs.Lines.{dues_of};
+ghost use Rattle.cat_cert.specs.Certifiable.{shared_tree, AreCertifiable};
+ghost use Rattle.cat_cert.specs.Texts.{certificate_text, names_are_lines};
 ghost use Rattle.cat_cert.specs.Uncovered.{AllCovered};
 ghost use Rattle.cat_cert.specs.Checked.{HasCause, IsChecked, IsCertified, text_over};
 
-use cat_cert_text::{
+use crate::{
     read_texts_are_not_refused, read_trees_are_those_of_targets, shared_trees_are_certificates,
     texts_are_read_in_one_way, written_certificates_are_read,
 };

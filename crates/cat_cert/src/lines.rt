@@ -2,7 +2,7 @@
 ghost use Rattle.std.specs.Prelude.{◌≡◌, ◌<◌, ◌^◌, length};
 ghost use Rattle.cat_cert.specs.Uncovered.{line_of};
 
-use cat_cert_text::LineNumbers;
+use crate::LineNumbers;
 use cat_walk::NodePlace;
 
 /// The line of a node, by the line before each list.

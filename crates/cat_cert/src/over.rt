@@ -7,8 +7,8 @@ ghost use Rattle.cat_walk.specs.Sizes.{is_small};
 ghost use Rattle.cat_cert.specs.Checked.{HaveClosedTrees, HasCause, IsOver, text_over};
 ghost use Rattle.cat_cert.specs.inside.Checkable.{AreOfTables};
 
-use crate::certified::certified;
-use cat_cert_text::{CertRefusal, CertTree, Version, write_cert};
+use crate::text_check::certified;
+use crate::{CertRefusal, CertTree, Version, write_cert};
 use cat_guard::{CaseTree, Table};
 use cat_pos::List;
 use cat_walk::{cited_trees_are_whole, expand};

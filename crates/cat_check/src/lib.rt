@@ -3,18 +3,33 @@
 
 ghost use Rattle.std.specs.Prelude.{IfOk, IfErr};
 ghost use Rattle.cat_names.specs.Accepted.{IsParsed, IsProgramOf, IsRefused};
-ghost use Rattle.cat_arrange.specs.Cause.{Because};
+ghost use Rattle.cat_check.specs.Cause.{Because};
 
+mod arranging;
+mod blocks;
+mod body;
+mod by_scope;
+mod chains;
+mod declared;
+mod items;
 mod meaning;
+mod naming;
+mod outline;
 mod required;
+mod rounds;
+mod scope_order;
+mod scopes;
 mod tables;
+mod words;
 
 use crate::meaning::meaning_of;
-use cat_arrange::{Outline, arranged};
+pub use arranging::arranged;
 use cat_declare::declared;
 use cat_names::Refusal;
 use cat_scope::Program;
 use cat_tree::Tree;
+pub use outline::{BlockOutline, Outline};
+pub use scopes::bodies;
 use std::alloc::Global;
 
 /// The program of a tree. Its blocks are dropped as they are read, since together they would take as much memory as the

@@ -1,12 +1,12 @@
 // What a tree says of its scopes, by tables of what it declares.
 ghost use Rattle.std.specs.Prelude.{IfOk, IfErr};
 ghost use Rattle.cat_names.specs.Accepted.{IsMeant, IsNamed, IsRefused, parts_of};
-ghost use Rattle.cat_arrange.specs.Cause.{Because};
+ghost use Rattle.cat_check.specs.Cause.{Because};
 ghost use Rattle.cat_check.specs.inside.Tabling.{AreTables};
 
-use crate::tables::Tables;
-use cat_body::bodies;
-use cat_form::Here;
+use crate::bodies;
+use crate::tables::DeclarationTables;
+use cat_check_forms::Here;
 use cat_names::Refusal;
 use cat_scope::Bodies;
 use cat_tree::Tree;
@@ -14,7 +14,12 @@ use cat_value::Decls;
 use std::alloc::Global;
 
 /// What a tree says of each scope that it declares, by tables of its declarations.
-fn meaning_by(alloc: Global, tree: Tree, decls: &Decls, tables: &Tables) -> Result<Bodies, Refusal>
+fn meaning_by(
+    alloc: Global,
+    tree: Tree,
+    decls: &Decls,
+    tables: &DeclarationTables,
+) -> Result<Bodies, Refusal>
     requires named { IsNamed tree (parts_of decls.now) }
     requires tables { AreTables decls.now tables.now }
     ensures meant { IfOk result (IsMeant tree decls.now) }
@@ -46,6 +51,6 @@ pub fn meaning_of(alloc: Global, tree: Tree, decls: &Decls) -> Result<Bodies, Re
     ensures meant { IfOk result (IsMeant tree decls.now) }
     ensures cause { IfErr result (Because (IsRefused tree)) }
 {
-    let tables = Tables::of(alloc, decls)?;
+    let tables = DeclarationTables::of(alloc, decls)?;
     meaning_by(alloc, tree, decls, &tables)
 }

@@ -2,7 +2,7 @@
 ghost use Rattle.std.specs.Prelude.{◌≡◌, ◌&&◌, ◌<◌, not, IfOk, length, map};
 ghost use Rattle.cat_pos.specs.declared.limits.TheConstants.{ENTRIES_BOUND};
 ghost use Rattle.cat_value.specs.Inputs.{must_be_given};
-ghost use Rattle.cat_form.specs.Tabled.{required_from};
+ghost use Rattle.cat_check_forms.specs.Tabled.{required_from};
 
 use cat_pos::{List, Numbers};
 use cat_value::{Decls, ItemDecl, Kind, declarations_are_sound};

@@ -12,8 +12,8 @@ use Rattle.cat_tree.specs.declared.program.Variable.{Variable}
 use Rattle.cat_tree.specs.declared.program.Block.{Block}
 use Rattle.cat_tree.specs.declared.program.Item.{Item}
 use Rattle.cat_tree.specs.declared.program.Item.TheVariants as item
-use Rattle.cat_lookup.specs.Table.{Table, IsTableOf, number_in, number_named}
-use Rattle.cat_naming.proofs.Knowing.{known_name, ids}
+use Rattle.cat_check_names.specs.Table.{Table, IsTableOf, number_in, number_named}
+use Rattle.cat_check_names.proofs.Knowing.{known_name, ids}
 use Rattle.cat_names.proofs.Exported.{Apart, first_is, names_apart, scopes_apart}
 use Rattle.cat_names.specs.declared.fault.Fault.TheVariants.{NameUnknown}
 use Rattle.cat_names.specs.DeclarationFaults.{declared_name}

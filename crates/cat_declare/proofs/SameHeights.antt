@@ -13,7 +13,7 @@ use Rattle.cat_value.specs.declared.declaration.Enumeration.{Enumeration}
 use Rattle.cat_value.specs.Declarations.{highest}
 use Rattle.cat_value.specs.Heights.{height_to, highest_field, content_height, highest_content, structure_parts}
 use Rattle.cat_value.specs.Heights.{enumeration_parts, highest_part}
-use Rattle.cat_heights.proofs.Exported.{height_bounded, height_step, height_zero, list_height}
+use Rattle.cat_value.proofs.Exported.{height_bounded, height_step, height_zero, list_height}
 use Rattle.cat_tree.specs.declared.name.Name.{Name}
 use Rattle.cat_tree.specs.declared.name.Type as written
 use Rattle.cat_tree.specs.declared.program.FieldItem.{FieldItem}

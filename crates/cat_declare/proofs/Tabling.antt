@@ -6,7 +6,7 @@ use Rattle.std.proofs.lemmas.List.{length-map}
 use Rattle.cat_tree.specs.declared.name.Name.{Name}
 use Rattle.cat_tree.specs.declared.program.Item.{Item}
 use Rattle.cat_tree.specs.declared.program.Item.TheVariants as item
-use Rattle.cat_lookup.specs.Table.{Table, IsTableOf}
+use Rattle.cat_check_names.specs.Table.{Table, IsTableOf}
 use Rattle.cat_names.specs.Written.{texts, names_of, structures_in, enumerations_in, scopes_in}
 use Rattle.cat_declare.specs.declared.written.Declaration.{Declaration}
 use Rattle.cat_declare.specs.inside.Writings.{as_pair}

@@ -6,17 +6,16 @@ ghost use Rattle.cat_names.specs.NameFaults.{definition_position, definition_pos
 ghost use Rattle.cat_declare.specs.inside.Naming.{AreFew, AreItemTables, block_faults};
 ghost use Rattle.cat_declare.specs.inside.Tabling.{tree_at};
 
-use crate::tables::Tables;
-use crate::written::Scopes;
-use cat_lookup::{NameTable, table_of};
+use crate::tables::TreeTables;
+use crate::written::ScopeDeclarations;
+use cat_check_names::{Faults, NameTable, NamingContext, add_block, table_of};
 use cat_names::{Fault, MOST_DEFINITIONS};
-use cat_naming::{Faults, Here, add_block};
 use cat_pos::{List, Positions};
 use cat_tree::{Block, Item, Use};
 use std::alloc::{AllocError, Global};
 
 /// The variables of each scope, in tables.
-pub fn item_tables(alloc: Global, scopes: &Scopes) -> Result<List<NameTable>, AllocError>
+pub fn item_tables(alloc: Global, scopes: &ScopeDeclarations) -> Result<List<NameTable>, AllocError>
     requires { AreFew scopes.now }
     ensures { IfOk result (AreItemTables scopes.now) }
 {
@@ -31,7 +30,7 @@ pub fn item_tables(alloc: Global, scopes: &Scopes) -> Result<List<NameTable>, Al
 #[derive(Drop)]
 pub struct Scoped<'a> {
     pub alloc: Global,
-    pub tables: &'a Tables<'a>,
+    pub tables: &'a TreeTables<'a>,
     /// One for each scope.
     pub items: List<NameTable>,
 }
@@ -49,7 +48,7 @@ impl<'a> Scoped<'a> {
         let Some(number) = tables.scopes.number(&block.name.text) else {
             return faults.push(Fault::NameUnknown(block.name.pos));
         };
-        let here = Here {
+        let here = NamingContext {
             alloc: self.alloc,
             tree: tables.declarations.tree,
             variables: tables.declarations.scopes.at(number as usize).parts,
@@ -58,7 +57,7 @@ impl<'a> Scoped<'a> {
             items: self.items.at(number as usize),
         };
         let added = add_block(&here, block, faults);
-        let Here {
+        let NamingContext {
             alloc: _,
             tree: _,
             variables: _,

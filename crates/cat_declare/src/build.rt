@@ -6,11 +6,11 @@ ghost use Rattle.cat_declare.specs.inside.Tabling.{AreTables, tree_at, types_at,
 ghost use Rattle.cat_declare.specs.inside.Parted.{IsMadeOf};
 ghost use Rattle.cat_declare.specs.inside.Writings.{as_pair};
 
-use crate::tables::Tables;
+use crate::tables::TreeTables;
 use crate::types::{content_of, params_of, type_of, variable_type_of};
 use crate::written;
+use cat_check_names::Faults;
 use cat_names::Fault;
-use cat_naming::Faults;
 use cat_pos::List;
 use cat_tree::{CaseItem, FieldItem, Name, Variable};
 use cat_value::{
@@ -29,7 +29,7 @@ pub struct Parts {
 
 impl Parts {
     /// What a tree declares, with the names in it that name nothing.
-    pub fn of(alloc: Global, tables: &Tables, faults: &mut Faults) -> Result<Parts, AllocError>
+    pub fn of(alloc: Global, tables: &TreeTables, faults: &mut Faults) -> Result<Parts, AllocError>
         requires { AreTables tables.now }
         ensures made { IfOk result (IsMadeOf (tree_at tables.now)) }
         ensures faults { OnOk result (faults.new
@@ -46,7 +46,7 @@ impl Parts {
 
 fn fields_of(
     alloc: Global,
-    tables: &Tables,
+    tables: &TreeTables,
     fields: &[FieldItem],
     faults: &mut Faults,
 ) -> Result<Fields, AllocError>
@@ -66,8 +66,8 @@ fn fields_of(
 
 fn structures_of(
     alloc: Global,
-    tables: &Tables,
-    structures: &written::Structures,
+    tables: &TreeTables,
+    structures: &written::StructureDeclarations,
     faults: &mut Faults,
 ) -> Result<Structures, AllocError>
     requires { AreTables tables.now }
@@ -87,7 +87,7 @@ fn structures_of(
 
 fn cases_of(
     alloc: Global,
-    tables: &Tables,
+    tables: &TreeTables,
     cases: &[CaseItem],
     faults: &mut Faults,
 ) -> Result<Cases, AllocError>
@@ -107,8 +107,8 @@ fn cases_of(
 
 fn enumerations_of(
     alloc: Global,
-    tables: &Tables,
-    enumerations: &written::Enumerations,
+    tables: &TreeTables,
+    enumerations: &written::EnumerationDeclarations,
     faults: &mut Faults,
 ) -> Result<Enumerations, AllocError>
     requires { AreTables tables.now }
@@ -140,7 +140,7 @@ fn kind_of(kind: cat_tree::Kind) -> Kind
 }
 
 /// The number of a scope; where its name names nothing, that is a fault, and the first one comes in its place.
-fn scope_number(tables: &Tables, name: &Name, faults: &mut Faults) -> Result<u32, AllocError>
+fn scope_number(tables: &TreeTables, name: &Name, faults: &mut Faults) -> Result<u32, AllocError>
     requires { AreTables tables.now }
     ensures number { IfOk result (λ number. number
         ≡ words.scope_number (scopes_at tables.now) name.now) }
@@ -158,7 +158,7 @@ fn scope_number(tables: &Tables, name: &Name, faults: &mut Faults) -> Result<u32
 
 fn own_item(
     alloc: Global,
-    tables: &Tables,
+    tables: &TreeTables,
     kind: cat_tree::Kind,
     name: &Name,
     ty: &Option<cat_tree::Type>,
@@ -187,7 +187,7 @@ fn own_item(
 
 fn called_item(
     alloc: Global,
-    tables: &Tables,
+    tables: &TreeTables,
     name: &Name,
     scope: &Name,
     faults: &mut Faults,
@@ -211,7 +211,7 @@ fn called_item(
 
 fn item_of(
     alloc: Global,
-    tables: &Tables,
+    tables: &TreeTables,
     variable: &Variable,
     faults: &mut Faults,
 ) -> Result<ItemDecl, AllocError>
@@ -231,7 +231,7 @@ fn item_of(
 
 fn items_of(
     alloc: Global,
-    tables: &Tables,
+    tables: &TreeTables,
     variables: &[Variable],
     faults: &mut Faults,
 ) -> Result<ItemDecls, AllocError>
@@ -250,8 +250,8 @@ fn items_of(
 
 fn scopes_of(
     alloc: Global,
-    tables: &Tables,
-    scopes: &written::Scopes,
+    tables: &TreeTables,
+    scopes: &written::ScopeDeclarations,
     faults: &mut Faults,
 ) -> Result<Scopes, AllocError>
     requires { AreTables tables.now }

@@ -3,8 +3,8 @@ ghost use Rattle.std.specs.Prelude.{◌≡◌, ◌++◌, OnOk, map, flat_map};
 ghost use Rattle.cat_names.specs.DeclarationFaults.{past, param_faults, declaration_faults};
 ghost use Rattle.cat_names.specs.Written.{positions};
 
+use cat_check_names::{Faults, Written, add_repeated};
 use cat_names::{Fault, MOST_CASES, MOST_ITEMS, MOST_PARAMETERS};
-use cat_naming::{Faults, Written, add_repeated};
 use cat_pos::List;
 use cat_tree::{Item, Variable};
 use std::alloc::{AllocError, Global};

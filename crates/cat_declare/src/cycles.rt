@@ -16,7 +16,7 @@ ghost use Rattle.cat_declare.specs.inside.Tabling.{AreTables, tree_at};
 ghost use Rattle.cat_declare.specs.inside.Writings.{AreDeclarations};
 
 use crate::build::Parts;
-use crate::tables::Tables;
+use crate::tables::TreeTables;
 use crate::written::Declarations;
 use cat_names::{Fault, Refusal};
 use cat_order::{OrderRefusal, order};
@@ -172,7 +172,7 @@ fn position_of(declarations: &Declarations, number: usize) -> Pos
 }
 
 /// A structure or an enumeration that is a part of itself.
-fn check_order(alloc: Global, tables: &Tables, parts: &Parts) -> Result<(), Refusal>
+fn check_order(alloc: Global, tables: &TreeTables, parts: &Parts) -> Result<(), Refusal>
     requires tables { AreTables tables.now }
     requires made { IsMadeOf (tree_at tables.now) parts.now }
     requires there { AreThere parts.now.structures parts.now.enumerations }
@@ -191,7 +191,7 @@ fn check_order(alloc: Global, tables: &Tables, parts: &Parts) -> Result<(), Refu
 }
 
 /// Refuses where a structure or an enumeration is a part of itself.
-pub fn refuse_cycles(alloc: Global, tables: &Tables, parts: &Parts) -> Result<(), Refusal>
+pub fn refuse_cycles(alloc: Global, tables: &TreeTables, parts: &Parts) -> Result<(), Refusal>
     requires tables { AreTables tables.now }
     requires parsed { IsParsed (tree_at tables.now) }
     requires made { IsMadeOf (tree_at tables.now) parts.now }

@@ -17,22 +17,21 @@ ghost use Rattle.cat_declare.specs.inside.Tabling.{AreTables, tree_at};
 
 use crate::build::Parts;
 use crate::reply::clear;
-use crate::tables::Tables;
+use crate::tables::TreeTables;
 use crate::types::base_of;
 use crate::written::Declaration;
-use cat_heights::{HIGHEST, TypeHeights};
+use cat_check_names::Faults;
 use cat_names::{Fault, Refusal};
-use cat_naming::Faults;
 use cat_order::a_cycle_leaves_no_order;
 use cat_pos::{ENTRIES_BOUND, List};
 use cat_tree::{CaseItem, FieldItem, Item, Type, Variable};
-use cat_value::{Case, Field, Ty};
+use cat_value::{Case, Field, HIGHEST, Ty, TypeHeights};
 use std::alloc::{AllocError, Global};
 
 /// The heights of what was made of a tree.
 #[derive(Drop)]
 pub struct Measures<'a> {
-    pub tables: &'a Tables<'a>,
+    pub tables: &'a TreeTables<'a>,
     pub parts: &'a Parts,
     pub heights: TypeHeights,
 }
@@ -273,7 +272,7 @@ impl<'a> Measures<'a> {
 }
 
 /// The declared types that are too high.
-fn high_types(alloc: Global, tables: &Tables, parts: &Parts) -> Result<Faults, AllocError>
+fn high_types(alloc: Global, tables: &TreeTables, parts: &Parts) -> Result<Faults, AllocError>
     requires tables { AreTables tables.now }
     requires few { length (tree_at tables.now).items < ENTRIES_BOUND }
     ensures { IfOk result (λ faults. faults ≡ words.height_faults (tree_at tables.now) (declared_by parts.now)) }
@@ -294,7 +293,7 @@ fn high_types(alloc: Global, tables: &Tables, parts: &Parts) -> Result<Faults, A
 }
 
 /// Refuses where a declared type is too high.
-pub fn refuse_high(alloc: Global, tables: &Tables, parts: &Parts) -> Result<(), Refusal>
+pub fn refuse_high(alloc: Global, tables: &TreeTables, parts: &Parts) -> Result<(), Refusal>
     requires tables { AreTables tables.now }
     requires parsed { IsParsed (tree_at tables.now) }
     requires made { IsMadeOf (tree_at tables.now) parts.now }

@@ -20,7 +20,7 @@ use crate::build::Parts;
 use crate::cycles::refuse_cycles;
 use crate::heights::refuse_high;
 use crate::named::{refuse_repeated, resolved};
-use crate::tables::Tables;
+use crate::tables::TreeTables;
 use crate::written::Declarations;
 use cat_names::Refusal;
 use cat_tree::Tree;
@@ -36,7 +36,7 @@ pub fn declared(alloc: Global, tree: &Tree) -> Result<Decls, Refusal>
 {
     refuse_repeated(alloc, tree)?;
     let declarations = Declarations::of(alloc, tree)?;
-    let tables = Tables::of(alloc, declarations)?;
+    let tables = TreeTables::of(alloc, declarations)?;
     let parts = resolved(alloc, &tables)?;
     refuse_cycles(alloc, &tables, &parts)?;
     refuse_high(alloc, &tables, &parts)?;

@@ -11,9 +11,9 @@ use crate::blocks::{Scoped, add_past_definitions, item_tables};
 use crate::build::Parts;
 use crate::counts::add_declarations;
 use crate::reply::clear;
-use crate::tables::Tables;
+use crate::tables::TreeTables;
+use cat_check_names::{Faults, Written, add_repeated};
 use cat_names::Refusal;
-use cat_naming::{Faults, Written, add_repeated};
 use cat_pos::List;
 use cat_tree::{Item, Name, Tree};
 use std::alloc::{AllocError, Global};
@@ -63,7 +63,7 @@ pub fn refuse_repeated(alloc: Global, tree: &Tree) -> Result<(), Refusal>
 }
 
 /// What a tree declares, with the names in it that name nothing and the first definition past the most.
-fn looked_up(alloc: Global, tables: &Tables) -> Result<(Parts, Faults), AllocError>
+fn looked_up(alloc: Global, tables: &TreeTables) -> Result<(Parts, Faults), AllocError>
     requires tables { AreTables tables.now }
     requires apart { repeated (tree_at tables.now).items ≡ [] }
     ensures made { IfOk result (λ found. IsMadeOf (tree_at tables.now) found.0) }
@@ -85,7 +85,7 @@ fn looked_up(alloc: Global, tables: &Tables) -> Result<(Parts, Faults), AllocErr
 }
 
 /// What a tree declares, where no name or count is at fault.
-pub fn resolved(alloc: Global, tables: &Tables) -> Result<Parts, Refusal>
+pub fn resolved(alloc: Global, tables: &TreeTables) -> Result<Parts, Refusal>
     requires tables { AreTables tables.now }
     requires apart { repeated (tree_at tables.now).items ≡ [] }
     ensures made { IfOk result (IsMadeOf (tree_at tables.now)) }

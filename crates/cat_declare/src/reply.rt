@@ -2,8 +2,8 @@
 ghost use Rattle.std.specs.Prelude.{◌≡◌};
 ghost use Rattle.cat_declare.specs.inside.Clearing.{Clears};
 
+use cat_check_names::Faults;
 use cat_names::Refusal;
-use cat_naming::Faults;
 
 /// Refuses where there is a fault.
 pub fn clear(faults: &Faults) -> Result<(), Refusal>

@@ -4,20 +4,20 @@ ghost use Rattle.cat_declare.specs.inside.Tabling.{AreTables, tree_at};
 ghost use Rattle.cat_declare.specs.inside.Writings.{AreDeclarations};
 
 use crate::written::Declarations;
-use cat_lookup::{NameTable, TypeTable, table_of};
+use cat_check_names::{NameTable, TypeTable, table_of};
 use cat_pos::ENTRIES_BOUND;
 use std::alloc::{AllocError, Global};
 
 /// The names of a tree's types and scopes, with their numbers.
 #[derive(Drop)]
-pub struct Tables<'a> {
+pub struct TreeTables<'a> {
     pub declarations: Declarations<'a>,
     pub types: TypeTable,
     pub scopes: NameTable,
 }
 
-impl<'a> Tables<'a> {
-    pub fn of(alloc: Global, declarations: Declarations<'a>) -> Result<Tables<'a>, AllocError>
+impl<'a> TreeTables<'a> {
+    pub fn of(alloc: Global, declarations: Declarations<'a>) -> Result<TreeTables<'a>, AllocError>
         requires declarations { AreDeclarations declarations }
         requires few { length declarations.tree.now.items < ENTRIES_BOUND }
         ensures tables { IfOk result AreTables }
@@ -30,7 +30,7 @@ impl<'a> Tables<'a> {
             structures,
             enumerations,
         };
-        Ok(Tables {
+        Ok(TreeTables {
             declarations,
             types,
             scopes,

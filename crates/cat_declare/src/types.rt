@@ -5,17 +5,16 @@ ghost use Rattle.cat_names.specs.Lookup.{base_type, nested_list};
 ghost use Rattle.cat_declare.specs.inside.Made as words;
 ghost use Rattle.cat_declare.specs.inside.Tabling.{AreTables, types_at};
 
-use crate::tables::Tables;
-use cat_heights::HIGHEST;
+use crate::tables::TreeTables;
+use cat_check_names::Faults;
 use cat_names::Fault;
-use cat_naming::Faults;
 use cat_pos::{Boxed, List};
 use cat_tree::{Base, FieldItem, Type};
-use cat_value::{Ty, Tys};
+use cat_value::{HIGHEST, Ty, Tys};
 use std::alloc::{AllocError, Global};
 
 /// The type of a base.
-pub fn base_of(tables: &Tables, base: &Base) -> Option<Ty>
+pub fn base_of(tables: &TreeTables, base: &Base) -> Option<Ty>
     requires { AreTables tables.now }
     ensures { result ≡ base_type (types_at tables.now) base.now }
 {
@@ -55,7 +54,7 @@ fn nested(alloc: Global, lists: usize, base: Ty) -> Result<Ty, AllocError>
 /// A written type; where its name names nothing, that is a fault, and some other type comes in its place.
 pub fn type_of(
     alloc: Global,
-    tables: &Tables,
+    tables: &TreeTables,
     ty: &Type,
     faults: &mut Faults,
 ) -> Result<Ty, AllocError>
@@ -73,7 +72,7 @@ pub fn type_of(
 /// The content of a case, where it has one.
 pub fn content_of(
     alloc: Global,
-    tables: &Tables,
+    tables: &TreeTables,
     content: &Option<Type>,
     faults: &mut Faults,
 ) -> Result<Option<Ty>, AllocError>
@@ -92,7 +91,7 @@ pub fn content_of(
 /// The type of a variable: a condition is a boolean.
 pub fn variable_type_of(
     alloc: Global,
-    tables: &Tables,
+    tables: &TreeTables,
     ty: &Option<Type>,
     faults: &mut Faults,
 ) -> Result<Ty, AllocError>
@@ -110,7 +109,7 @@ pub fn variable_type_of(
 /// The types of parameters.
 pub fn params_of(
     alloc: Global,
-    tables: &Tables,
+    tables: &TreeTables,
     params: &[FieldItem],
     faults: &mut Faults,
 ) -> Result<Tys, AllocError>

@@ -3,7 +3,7 @@ ghost use Rattle.std.specs.Prelude.{◌≡◌, ◌≤◌, IfOk, length, map};
 ghost use Rattle.cat_names.specs.Written.{structures_in, enumerations_in, scopes_in};
 ghost use Rattle.cat_declare.specs.inside.Writings.{as_pair, AreDeclarations};
 
-use cat_lookup::Named;
+use cat_check_names::Named;
 use cat_pos::{List, Text};
 use cat_tree::{CaseItem, FieldItem, Item, Name, Tree, Variable};
 use std::alloc::{AllocError, Global};
@@ -23,19 +23,19 @@ impl<'a, T> Named for Declaration<'a, T> {
     }
 }
 
-pub type Structures<'a> = List<Declaration<'a, FieldItem>>;
+pub type StructureDeclarations<'a> = List<Declaration<'a, FieldItem>>;
 
-pub type Enumerations<'a> = List<Declaration<'a, CaseItem>>;
+pub type EnumerationDeclarations<'a> = List<Declaration<'a, CaseItem>>;
 
-pub type Scopes<'a> = List<Declaration<'a, Variable>>;
+pub type ScopeDeclarations<'a> = List<Declaration<'a, Variable>>;
 
 /// All declarations of a tree, in source order.
 #[derive(Drop)]
 pub struct Declarations<'a> {
     pub tree: &'a Tree,
-    pub structures: Structures<'a>,
-    pub enumerations: Enumerations<'a>,
-    pub scopes: Scopes<'a>,
+    pub structures: StructureDeclarations<'a>,
+    pub enumerations: EnumerationDeclarations<'a>,
+    pub scopes: ScopeDeclarations<'a>,
 }
 
 impl<'a> Declarations<'a> {
@@ -53,7 +53,10 @@ impl<'a> Declarations<'a> {
     }
 }
 
-fn structures_of<'a>(alloc: Global, items: &'a [Item]) -> Result<Structures<'a>, AllocError>
+fn structures_of<'a>(
+    alloc: Global,
+    items: &'a [Item],
+) -> Result<StructureDeclarations<'a>, AllocError>
     ensures { IfOk result (λ structures. map as_pair structures ≡ structures_in items.now) }
 {
     let mut structures = List::new(alloc);
@@ -66,7 +69,10 @@ fn structures_of<'a>(alloc: Global, items: &'a [Item]) -> Result<Structures<'a>,
     Ok(structures)
 }
 
-fn enumerations_of<'a>(alloc: Global, items: &'a [Item]) -> Result<Enumerations<'a>, AllocError>
+fn enumerations_of<'a>(
+    alloc: Global,
+    items: &'a [Item],
+) -> Result<EnumerationDeclarations<'a>, AllocError>
     ensures { IfOk result (λ enumerations. map as_pair enumerations ≡ enumerations_in items.now) }
 {
     let mut enumerations = List::new(alloc);
@@ -79,7 +85,7 @@ fn enumerations_of<'a>(alloc: Global, items: &'a [Item]) -> Result<Enumerations<
     Ok(enumerations)
 }
 
-fn scopes_of<'a>(alloc: Global, items: &'a [Item]) -> Result<Scopes<'a>, AllocError>
+fn scopes_of<'a>(alloc: Global, items: &'a [Item]) -> Result<ScopeDeclarations<'a>, AllocError>
     ensures { IfOk result (λ scopes. map as_pair scopes ≡ scopes_in items.now) }
 {
     let mut scopes = List::new(alloc);

@@ -6,3 +6,9 @@ pub mod Measured
 pub mod Subsets
 pub mod Once
 pub mod Searching
+pub mod Members
+pub mod Orderly
+pub mod Marking
+pub mod Turns
+pub mod Reaching
+pub mod Exported

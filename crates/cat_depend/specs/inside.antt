@@ -1,3 +1,4 @@
-pub mod Wanted
 pub mod Chains
+pub mod Marks
 pub mod Searching
+pub mod Wanted

@@ -16,7 +16,7 @@ use Rattle.cat_scope.specs.Running.{asserted, backwards, no_values, outputs_of, 
 use Rattle.cat_calc.specs.declared.calcs.Calc.{Calc}
 use Rattle.cat_calc.specs.declared.calcs.CalcScope.{CalcScope}
 use Rattle.cat_calc.specs.Calculus.{calc_scoped, run_terms}
-use Rattle.cat_shared.specs.declared.failure.Failure.TheVariants as failure
+use Rattle.cat_operate.specs.declared.failure.Failure.TheVariants as failure
 use Rattle.cat_evaluate_step.specs.Scenes.{runs_before}
 use Rattle.cat_evaluate_call.specs.Placed.{run_at}
 use Rattle.cat_evaluate_scope.specs.ScopeEnds.{Outputs, asserted_end, items_end}

@@ -15,8 +15,8 @@ use Rattle.cat_scope.specs.Running.{backwards, run_by}
 use Rattle.cat_sound.specs.Endings.{IsOutcomeOf}
 use Rattle.cat_calc.specs.declared.calcs.Calc.{Calc}
 use Rattle.cat_calc.specs.Calculus.{calc_run, run_of_terms}
-use Rattle.cat_shared.specs.declared.failure.Failure.{Failure}
-use Rattle.cat_shared.specs.declared.failure.Failure.TheVariants as failure
+use Rattle.cat_operate.specs.declared.failure.Failure.{Failure}
+use Rattle.cat_operate.specs.declared.failure.Failure.TheVariants as failure
 use Rattle.cat_evaluate_step.specs.Scenes.{runs_before}
 use Rattle.cat_evaluate_scope.specs.declared.tasks.ScopeRun.{ScopeRun}
 use Rattle.cat_evaluate_scope.specs.declared.tasks.ScopeTask.TheVariants as scope_task

@@ -7,8 +7,8 @@ use Rattle.cat_scope.specs.declared.stop.Stop.{Stop}
 use Rattle.cat_scope.specs.Names.{AllHave}
 use Rattle.cat_scope.specs.Calls.{Items}
 use Rattle.cat_calc.specs.declared.calcs.Calc.{Calc}
-use Rattle.cat_shared.specs.declared.failure.Failure.{Failure}
-use Rattle.cat_shared.specs.declared.failure.Failure.TheVariants as failure
+use Rattle.cat_operate.specs.declared.failure.Failure.{Failure}
+use Rattle.cat_operate.specs.declared.failure.Failure.TheVariants as failure
 use Rattle.cat_evaluate_step.specs.declared.scene.Scene.{Scene}
 use Rattle.cat_evaluate_step.specs.Scenes.{runs_before, scoped_at}
 use Rattle.cat_evaluate_call.specs.Placed.{AreAllPlaces, ArePlacesOf}

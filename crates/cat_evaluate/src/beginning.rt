@@ -9,9 +9,9 @@ use cat_calc::Calc;
 use cat_evaluate_call::Places;
 use cat_evaluate_scope::{Entries, ScopeRun};
 use cat_evaluate_step::Scene;
+use cat_operate::Failure;
 use cat_pos::List;
 use cat_scope::Stop;
-use cat_shared::Failure;
 use cat_value::ItemDecls;
 use std::alloc::{AllocError, Global};
 

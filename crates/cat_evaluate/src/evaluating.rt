@@ -14,9 +14,9 @@ use cat_calc::{Calc, calculi_go_on};
 use cat_evaluate_call::{AllPlaces, Places, places_of, scope_places};
 use cat_evaluate_scope::{Entries, ScopeRun, ScopeTask};
 use cat_evaluate_step::Stack;
+use cat_operate::{Failure, SharedValue, shared_of, values_of};
 use cat_pos::List;
 use cat_scope::Stop;
-use cat_shared::{Failure, SharedValue, shared_of, values_of};
 use cat_value::{Input, Outcome};
 use std::alloc::{AllocError, Global};
 

@@ -10,7 +10,7 @@ use Rattle.cat_scope.specs.Replies.{on_one}
 use Rattle.cat_scope.specs.Eval.{Env, eval}
 use Rattle.cat_scope.specs.Calls.{Items, Scoped}
 use Rattle.cat_calc.specs.declared.calcs.ItemTerms.{ItemTerms}
-use Rattle.cat_calc.specs.declared.term.Term.{Term}
+use Rattle.cat_calc.specs.declared.term.DefaultTerm.{DefaultTerm}
 use Rattle.cat_calc.specs.Reducing.{judged_by, reduced, reduced_or, term_of}
 use Rattle.cat_evaluate_step.specs.declared.frames.Frame.{Frame}
 use Rattle.cat_evaluate_step.specs.declared.frames.Task.TheVariants as task
@@ -34,17 +34,17 @@ on_found target value (Ok found) = refl
 on_found target value (Err stop) = refl
 
 module _ (terms : List ItemTerms) (target : Target) (value : Valued) where
-  pub reduces : (t : Bor Term) → term_of terms target ≡ Some t.now
+  pub reduces : (t : Bor DefaultTerm) → term_of terms target ≡ Some t.now
       → term_ending target value [] (term_task.Reduce t) ≡ (judged_by terms value target).end
   unfolding term_ending
   reduces t is =
       on_found target value (reduced value target t.now).end
-      ∙ ap (λ (o : Option Term). (reduced_or value target o).end) (sym is)
+      ∙ ap (λ (o : Option DefaultTerm). (reduced_or value target o).end) (sym is)
 
   pub finds_none : term_of terms target ≡ None
       → term_ending target value [] (term_task.Found None) ≡ (judged_by terms value target).end
   unfolding term_ending found_into
-  finds_none is = ap (λ (o : Option Term). (reduced_or value target o).end) (sym is)
+  finds_none is = ap (λ (o : Option DefaultTerm). (reduced_or value target o).end) (sym is)
 
 -- a judging that begins where nothing waits
 abbrev pub fresh : Target → ℕ → List Value → List OnExceptions → List Frame → List Value → Activation

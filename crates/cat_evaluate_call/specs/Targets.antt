@@ -1,8 +1,8 @@
 -- Where the judging of a target comes to.
 use Rattle.std.specs.Prelude.{◌≡◌, ℕ, List, [], Result, Ok, Err}
 use Rattle.cat_scope.specs.Calls.{Items, Scoped}
-use Rattle.cat_shared.specs.declared.failure.Failure.{Failure}
-use Rattle.cat_shared.specs.declared.failure.Failure.TheVariants as failure
+use Rattle.cat_operate.specs.declared.failure.Failure.{Failure}
+use Rattle.cat_operate.specs.declared.failure.Failure.TheVariants as failure
 use Rattle.cat_evaluate_step.specs.declared.frames.Task.TheVariants as task
 use Rattle.cat_evaluate_step.specs.declared.scene.Scene.{Scene}
 use Rattle.cat_evaluate_term.specs.declared.judging.JudgeTask.TheVariants as judge_task

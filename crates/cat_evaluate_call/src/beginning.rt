@@ -11,17 +11,17 @@ ghost use Rattle.cat_evaluate_term.specs.Verdicts.{Valued, found_as};
 ghost use Rattle.cat_evaluate_call.specs.Answers.{activation_ending, env_before, given_by, held_alone, judged_before};
 
 use crate::callers::Activation;
-use cat_calc::{Term, TermsOfItems};
+use cat_calc::{DefaultTerm, TermsOfItems};
 use cat_evaluate_step::{Scene, Stack, Task};
 use cat_evaluate_term::{Definition, JudgeTask, OnValue, TermTask};
+use cat_operate::SharedValue;
 use cat_pos::{List, Pos};
 use cat_scope::{Expr, Stop};
-use cat_shared::SharedValue;
 use cat_value::{ItemDecls, Target};
 use std::alloc::Global;
 
 /// The term of a target.
-fn term_at<'a>(terms: &'a TermsOfItems, target: Target) -> Option<&'a Term>
+fn term_at<'a>(terms: &'a TermsOfItems, target: Target) -> Option<&'a DefaultTerm>
     ensures { option_copied result ≡ term_of terms.now target }
 {
     let of_item = terms.get(target.item as usize)?;

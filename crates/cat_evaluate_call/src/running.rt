@@ -14,9 +14,9 @@ use crate::callers::{Activation, Caller, Callers, TargetPause};
 use crate::places::Places;
 use cat_evaluate_step::{Scene, Task};
 use cat_evaluate_term::{Definition, JudgePause, JudgeTask, judge};
+use cat_operate::{Failure, SharedValue};
 use cat_pos::List;
 use cat_scope::Stop;
-use cat_shared::{Failure, SharedValue};
 use cat_value::Target;
 use std::alloc::Global;
 

@@ -14,8 +14,8 @@ use Rattle.cat_scope.specs.Projections.{truth}
 use Rattle.cat_scope.specs.Eval.{eval}
 use Rattle.cat_scope.specs.Calls.{Items, Scoped}
 use Rattle.cat_scope.specs.Running.{asserted, outputs_of}
-use Rattle.cat_shared.specs.declared.failure.Failure.{Failure}
-use Rattle.cat_shared.specs.declared.failure.Failure.TheVariants as failure
+use Rattle.cat_operate.specs.declared.failure.Failure.{Failure}
+use Rattle.cat_operate.specs.declared.failure.Failure.TheVariants as failure
 use Rattle.cat_evaluate_step.specs.Scenes.{scoped_at}
 use Rattle.cat_evaluate_term.specs.declared.judging.JudgeTask.{JudgeTask}
 use Rattle.cat_evaluate_call.specs.declared.callers.Activation.{Activation}

@@ -5,7 +5,7 @@ use Rattle.cat_value.specs.declared.value.Value.TheViews as value
 use Rattle.cat_scope.specs.declared.stop.Stop.{Stop}
 use Rattle.cat_scope.specs.declared.stop.Stop.TheVariants.{Stuck}
 use Rattle.cat_scope.specs.Replies.{known, on_one}
-use Rattle.cat_shared.specs.declared.failure.Failure.TheVariants as failure
+use Rattle.cat_operate.specs.declared.failure.Failure.TheVariants as failure
 use Rattle.cat_evaluate_step.specs.declared.frames.Task.TheVariants as task
 use Rattle.cat_evaluate_step.specs.Scenes.{scoped_at}
 use Rattle.cat_evaluate_term.specs.declared.judging.JudgeTask.TheVariants as judge_task

@@ -5,8 +5,8 @@ use Rattle.cat_value.specs.declared.value.Value.{Value}
 use Rattle.cat_value.specs.declared.declaration.ItemDecl.{ItemDecl}
 use Rattle.cat_value.specs.Inputs.{may_be_given}
 use Rattle.cat_scope.specs.Calls.{Items, items_of, variable_of_called}
-use Rattle.cat_shared.specs.declared.failure.Failure.{Failure}
-use Rattle.cat_shared.specs.declared.failure.Failure.TheVariants as failure
+use Rattle.cat_operate.specs.declared.failure.Failure.{Failure}
+use Rattle.cat_operate.specs.declared.failure.Failure.TheVariants as failure
 use Rattle.cat_evaluate_step.specs.Scenes.{scoped_at}
 use Rattle.cat_evaluate_term.specs.declared.judging.JudgeTask.{JudgeTask}
 use Rattle.cat_evaluate_call.specs.declared.callers.Activation.{Activation}

@@ -15,7 +15,7 @@ use Rattle.cat_scope.specs.Names.{is_output, items_in}
 use Rattle.cat_scope.specs.Replies.{known, on_one, with_front}
 use Rattle.cat_scope.specs.Running.{entry_at, outputs_of, with_entry}
 use Rattle.cat_scope.proofs.Exported.{append_append}
-use Rattle.cat_shared.specs.declared.failure.Failure.TheVariants as failure
+use Rattle.cat_operate.specs.declared.failure.Failure.TheVariants as failure
 use Rattle.cat_evaluate_scope.specs.inside.Steps.{IsTold}
 use Rattle.cat_evaluate_scope.proofs.Fronts.{at_next, none_left}
 use Rattle.cat_evaluate_scope.specs.inside.Outputs.{outputs_from}

@@ -14,8 +14,8 @@ use Rattle.cat_scope.specs.Projections.{truth}
 use Rattle.cat_scope.specs.Judging.{Held}
 use Rattle.cat_scope.specs.ItemValues.{passed}
 use Rattle.cat_scope.specs.Calls.{Items, items_of, variable, variable_of_called}
-use Rattle.cat_shared.specs.declared.failure.Failure.{Failure}
-use Rattle.cat_shared.specs.declared.failure.Failure.TheVariants as failure
+use Rattle.cat_operate.specs.declared.failure.Failure.{Failure}
+use Rattle.cat_operate.specs.declared.failure.Failure.TheVariants as failure
 use Rattle.cat_evaluate_step.specs.Scenes.{scoped_at}
 use Rattle.cat_evaluate_term.specs.declared.frames.Definition.{Definition}
 use Rattle.cat_evaluate_term.specs.Verdicts.{found_as}

@@ -9,8 +9,8 @@ use Rattle.cat_scope.specs.declared.stop.Stop.TheVariants.{Stuck}
 use Rattle.cat_scope.specs.Replies.{on_one}
 use Rattle.cat_scope.specs.Calls.{Items, variable}
 use Rattle.cat_scope.specs.Running.{entry_at, with_entry}
-use Rattle.cat_shared.specs.declared.failure.Failure.{Failure}
-use Rattle.cat_shared.specs.declared.failure.Failure.TheVariants as failure
+use Rattle.cat_operate.specs.declared.failure.Failure.{Failure}
+use Rattle.cat_operate.specs.declared.failure.Failure.TheVariants as failure
 use Rattle.cat_evaluate_step.specs.Scenes.{scoped_at}
 use Rattle.cat_evaluate_term.specs.declared.judging.JudgeTask.{JudgeTask}
 use Rattle.cat_evaluate_term.specs.Verdicts.{Verdict}

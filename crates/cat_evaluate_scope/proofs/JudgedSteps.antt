@@ -4,8 +4,8 @@ use Rattle.cat_value.specs.declared.value.Value.{Value}
 use Rattle.cat_scope.specs.Replies.{Reply, known, on_one}
 use Rattle.cat_scope.specs.Runs.{plain}
 use Rattle.cat_scope.specs.Calls.{Items, Scoped, call_input, items_of, scope_call}
-use Rattle.cat_shared.specs.declared.failure.Failure.{Failure}
-use Rattle.cat_shared.specs.declared.failure.Failure.TheVariants as failure
+use Rattle.cat_operate.specs.declared.failure.Failure.{Failure}
+use Rattle.cat_operate.specs.declared.failure.Failure.TheVariants as failure
 use Rattle.cat_evaluate_step.specs.declared.frames.Task.TheVariants as task
 use Rattle.cat_evaluate_step.specs.declared.scene.Scene.{Scene}
 use Rattle.cat_evaluate_step.specs.Scenes.{scoped_at}

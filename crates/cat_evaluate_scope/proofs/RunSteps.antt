@@ -1,7 +1,7 @@
 -- A task of a scope leads to the next one, up to its outputs or a scope that it calls.
 use Rattle.std.proofs.Common.{◌≡◌, ℕ, List, Result, Ok, Err, refl, ap, sym, ◌∙◌, subst}
-use Rattle.cat_shared.specs.declared.failure.Failure.{Failure}
-use Rattle.cat_shared.specs.declared.failure.Failure.TheVariants as failure
+use Rattle.cat_operate.specs.declared.failure.Failure.{Failure}
+use Rattle.cat_operate.specs.declared.failure.Failure.TheVariants as failure
 use Rattle.cat_evaluate_step.specs.declared.scene.Scene.{Scene}
 use Rattle.cat_evaluate_call.specs.Placed.{ArePlacesOf}
 use Rattle.cat_evaluate_scope.specs.declared.tasks.ScopePause.{ScopePause}

@@ -9,7 +9,7 @@ use crate::entries::outputs_of;
 use crate::tasks::{Purpose, ScopePause, ScopeRun, ScopeStep, ScopeTask};
 use cat_evaluate_call::begun_alone;
 use cat_evaluate_step::Stack;
-use cat_shared::Failure;
+use cat_operate::Failure;
 use cat_value::Target;
 use std::alloc::Global;
 

@@ -16,8 +16,8 @@ use crate::tasks::{
 use cat_calc::Calc;
 use cat_evaluate_call::begun;
 use cat_evaluate_step::Stack;
+use cat_operate::Failure;
 use cat_pos::List;
-use cat_shared::Failure;
 use cat_value::{ItemDecl, Kind, Target};
 use std::alloc::Global;
 

@@ -14,9 +14,9 @@ use crate::tasks::{Entries, OnOutputs, ScopeTask};
 use cat_calc::Calc;
 use cat_evaluate_step::Task;
 use cat_evaluate_term::JudgeTask;
+use cat_operate::{Failure, SharedValue};
 use cat_pos::List;
 use cat_scope::Stop;
-use cat_shared::{Failure, SharedValue};
 use cat_value::ItemDecls;
 use std::alloc::{AllocError, Global};
 

@@ -5,9 +5,9 @@ ghost use Rattle.cat_scope.specs.Running.{entry_at, outputs_of, with_entry};
 ghost use Rattle.cat_evaluate_scope.specs.inside.Steps.{IsTold};
 
 use crate::tasks::Entries;
+use cat_operate::{Failure, SharedValue};
 use cat_pos::List;
 use cat_scope::Stop;
-use cat_shared::{Failure, SharedValue};
 use cat_value::{ItemDecls, Kind};
 use std::alloc::{AllocError, Global};
 

@@ -15,9 +15,9 @@ use crate::tasks::{CalledItem, Entries, Purpose, ScopeRun, ScopeTask};
 use cat_calc::Calc;
 use cat_evaluate_call::given;
 use cat_evaluate_term::Definition;
+use cat_operate::{Failure, SharedValue};
 use cat_pos::Pos;
 use cat_scope::Stop;
-use cat_shared::{Failure, SharedValue};
 use cat_value::{FaultKind, ItemDecl, Kind, Target};
 
 /// A variable has come to what holds of it.

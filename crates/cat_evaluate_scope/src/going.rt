@@ -2,7 +2,7 @@
 ghost use Rattle.cat_evaluate_scope.specs.inside.Steps.{IsStepOf};
 
 use crate::tasks::{ScopeStep, ScopeTask};
-use cat_shared::Failure;
+use cat_operate::Failure;
 
 /// The next task, or a stop.
 pub(crate) fn stepped<'a>(next: Result<ScopeTask<'a>, Failure>) -> Result<ScopeStep<'a>, Failure>

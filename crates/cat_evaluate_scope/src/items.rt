@@ -10,9 +10,9 @@ use crate::entries::{entry_at, put_entry};
 use crate::tasks::{CalledItem, Purpose, ScopeRun, ScopeTask};
 use cat_evaluate_call::begun;
 use cat_evaluate_step::Stack;
+use cat_operate::{Failure, SharedValue};
 use cat_pos::List;
 use cat_scope::Stop;
-use cat_shared::{Failure, SharedValue};
 use cat_value::{ItemDecl, Kind, Target};
 use std::alloc::Global;
 

@@ -8,7 +8,7 @@ use crate::calls::call_input;
 use crate::tasks::{OnOutputs, Purpose, ScopePause, ScopeRun, ScopeStep, ScopeTask};
 use cat_evaluate_call::{Activation, Callers, Places, TargetPause, run_target};
 use cat_evaluate_term::JudgeTask;
-use cat_shared::Failure;
+use cat_operate::Failure;
 use std::alloc::Global;
 
 /// A target is judged up to what holds of it, or to the next scope call.

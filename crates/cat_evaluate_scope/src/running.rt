@@ -12,7 +12,7 @@ use crate::items::{item_done, item_next};
 use crate::judged::on_judged;
 use crate::tasks::{ScopePause, ScopeRun, ScopeStep, ScopeTask};
 use cat_evaluate_call::Places;
-use cat_shared::Failure;
+use cat_operate::Failure;
 use std::alloc::Global;
 
 /// A task leads to the next one, or to where the scope comes to.

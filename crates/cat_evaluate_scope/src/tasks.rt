@@ -2,8 +2,8 @@
 use cat_evaluate_call::{Activation, Caller, Callers};
 use cat_evaluate_step::Scene;
 use cat_evaluate_term::{Definition, JudgeTask};
+use cat_operate::SharedValue;
 use cat_pos::{List, Pos};
-use cat_shared::SharedValue;
 
 /// Values of items: none for one that is not done, not given, or a function.
 pub type Entries = List<Option<SharedValue>>;

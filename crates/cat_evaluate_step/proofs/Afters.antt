@@ -8,8 +8,8 @@ use Rattle.cat_scope.specs.declared.stop.Stop.{Stop}
 use Rattle.cat_scope.specs.declared.stop.Stop.TheVariants.{Stuck}
 use Rattle.cat_scope.specs.Projections.{truth}
 use Rattle.cat_scope.specs.Runs.{either, gives}
-use Rattle.cat_shared.specs.declared.failure.Failure.{Failure}
-use Rattle.cat_shared.specs.declared.failure.Failure.TheVariants as failure
+use Rattle.cat_operate.specs.declared.failure.Failure.{Failure}
+use Rattle.cat_operate.specs.declared.failure.Failure.TheVariants as failure
 use Rattle.cat_evaluate_step.specs.declared.frames.Frame.{Frame}
 use Rattle.cat_evaluate_step.specs.declared.frames.ListForm.TheVariants as form
 use Rattle.cat_evaluate_step.specs.declared.frames.Task.{Task}

@@ -5,7 +5,7 @@ use Rattle.cat_value.specs.declared.value.Value.TheViews as value
 use Rattle.cat_scope.specs.declared.expr.Expr.{Expr}
 use Rattle.cat_scope.specs.Runs.{gives}
 use Rattle.cat_scope.specs.Eval.{Env, eval}
-use Rattle.cat_shared.specs.declared.failure.Failure.{Failure}
+use Rattle.cat_operate.specs.declared.failure.Failure.{Failure}
 use Rattle.cat_evaluate_step.specs.declared.frames.Frame.{Frame}
 use Rattle.cat_evaluate_step.specs.declared.frames.Frame.TheVariants as frame
 use Rattle.cat_evaluate_step.specs.declared.frames.OnOperand.TheVariants as operand

@@ -35,7 +35,7 @@ use Rattle.cat_evaluate_step.specs.declared.frames.ExprsUse.TheVariants as exprs
 use Rattle.cat_evaluate_step.specs.declared.frames.FieldsUse.TheVariants as fields_use
 use Rattle.cat_evaluate_step.specs.declared.frames.Task.{Task}
 use Rattle.cat_evaluate_step.specs.declared.frames.Task.TheVariants as task
-use Rattle.cat_shared.specs.declared.failure.Failure.{Failure}
+use Rattle.cat_operate.specs.declared.failure.Failure.{Failure}
 use Rattle.cat_evaluate_step.specs.declared.scene.Scene.{Scene}
 use Rattle.cat_evaluate_step.specs.Scenes.{env_at}
 use Rattle.cat_evaluate_step.specs.Waiting.{exprs_run, fields_run, into, operand_run, resumed}

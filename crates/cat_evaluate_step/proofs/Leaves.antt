@@ -1,9 +1,9 @@
 -- What calls tell, as facts of their own.
 use Rattle.std.proofs.Common.{◌≡◌, Result, Ok, Err}
 use Rattle.cat_scope.specs.declared.stop.Stop.{Stop}
-use Rattle.cat_shared.specs.Telling.{Tells}
-use Rattle.cat_shared.specs.declared.failure.Failure.{Failure}
-use Rattle.cat_shared.specs.declared.failure.Failure.TheVariants as failure
+use Rattle.cat_operate.specs.Telling.{Tells}
+use Rattle.cat_operate.specs.declared.failure.Failure.{Failure}
+use Rattle.cat_operate.specs.declared.failure.Failure.TheVariants as failure
 use Rattle.cat_evaluate_step.specs.inside.Steps.{IsTold}
 
 pub told_is : {A : Type 0} (told : Result A Failure) (reply : Result A Stop) → Tells told reply → IsTold told reply

@@ -17,8 +17,8 @@ use Rattle.cat_scope.specs.Runs.{Run, and_then, plain, stops}
 use Rattle.cat_scope.specs.Composed.{Meaning, arm_locals, arm_value}
 use Rattle.cat_scope.specs.Eval.{Env, eval}
 use Rattle.cat_scope.specs.inside.EvalParts.{eval_arms}
-use Rattle.cat_shared.specs.declared.failure.Failure.{Failure}
-use Rattle.cat_shared.specs.declared.failure.Failure.TheVariants as failure
+use Rattle.cat_operate.specs.declared.failure.Failure.{Failure}
+use Rattle.cat_operate.specs.declared.failure.Failure.TheVariants as failure
 use Rattle.cat_evaluate_step.specs.declared.frames.Frame.{Frame}
 use Rattle.cat_evaluate_step.specs.declared.frames.Frame.TheVariants as frame
 use Rattle.cat_evaluate_step.specs.declared.frames.OnOperand.TheVariants as operand

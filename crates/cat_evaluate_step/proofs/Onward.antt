@@ -6,8 +6,8 @@ use Rattle.cat_scope.specs.declared.stop.Stop.{Stop}
 use Rattle.cat_scope.specs.Replies.{Reply}
 use Rattle.cat_scope.specs.Runs.{Run, either, gives, stops}
 use Rattle.cat_scope.specs.Eval.{Env, eval}
-use Rattle.cat_shared.specs.declared.failure.Failure.{Failure}
-use Rattle.cat_shared.specs.declared.failure.Failure.TheVariants as failure
+use Rattle.cat_operate.specs.declared.failure.Failure.{Failure}
+use Rattle.cat_operate.specs.declared.failure.Failure.TheVariants as failure
 use Rattle.cat_evaluate_step.specs.declared.frames.Frame.{Frame}
 use Rattle.cat_evaluate_step.specs.declared.frames.Task.{Task}
 use Rattle.cat_evaluate_step.specs.declared.frames.Task.TheVariants as task

@@ -16,7 +16,7 @@ use Rattle.cat_scope.specs.Replies.{Reply, on_one}
 use Rattle.cat_scope.specs.Runs.{gives, plain}
 use Rattle.cat_scope.specs.Composed.{part}
 use Rattle.cat_scope.specs.Eval.{Env, eval}
-use Rattle.cat_shared.specs.declared.failure.Failure.{Failure}
+use Rattle.cat_operate.specs.declared.failure.Failure.{Failure}
 use Rattle.cat_evaluate_step.specs.declared.frames.Frame.{Frame}
 use Rattle.cat_evaluate_step.specs.declared.frames.Frame.TheVariants as frame
 use Rattle.cat_evaluate_step.specs.declared.frames.OnOperand.TheVariants as operand

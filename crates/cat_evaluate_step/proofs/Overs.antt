@@ -14,7 +14,7 @@ use Rattle.cat_scope.specs.Runs.{and_then, choose, either, gives, in_front}
 use Rattle.cat_scope.specs.Lists.{filtered, mapped}
 use Rattle.cat_scope.specs.Eval.{Env, eval}
 use Rattle.cat_scope.proofs.Exported.{and_then_and_then, and_then_same, append_append}
-use Rattle.cat_shared.specs.declared.failure.Failure.{Failure}
+use Rattle.cat_operate.specs.declared.failure.Failure.{Failure}
 use Rattle.cat_evaluate_step.specs.declared.frames.Frame.{Frame}
 use Rattle.cat_evaluate_step.specs.declared.frames.Frame.TheVariants as frame
 use Rattle.cat_evaluate_step.specs.declared.frames.ListForm.{ListForm}

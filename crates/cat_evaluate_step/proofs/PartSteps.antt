@@ -14,8 +14,8 @@ use Rattle.cat_scope.specs.Composed.{structured}
 use Rattle.cat_scope.specs.Eval.{Env, eval}
 use Rattle.cat_scope.specs.inside.EvalParts.{eval_all, eval_fields}
 use Rattle.cat_scope.proofs.Exported.{and_then_and_then}
-use Rattle.cat_shared.specs.declared.failure.Failure.{Failure}
-use Rattle.cat_shared.specs.declared.failure.Failure.TheVariants as failure
+use Rattle.cat_operate.specs.declared.failure.Failure.{Failure}
+use Rattle.cat_operate.specs.declared.failure.Failure.TheVariants as failure
 use Rattle.cat_evaluate_step.specs.declared.frames.ExprsUse.{ExprsUse}
 use Rattle.cat_evaluate_step.specs.declared.frames.ExprsUse.TheVariants as exprs_use
 use Rattle.cat_evaluate_step.specs.declared.frames.FieldsUse.{FieldsUse}

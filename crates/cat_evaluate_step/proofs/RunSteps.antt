@@ -5,8 +5,8 @@ use Rattle.cat_scope.specs.Replies.{Reply}
 use Rattle.cat_scope.specs.Eval.{Env}
 use denote.Ref.{Bor}
 use Rattle.cat_scope.specs.declared.expr.Expr.{Expr}
-use Rattle.cat_shared.specs.declared.failure.Failure.{Failure}
-use Rattle.cat_shared.specs.declared.failure.Failure.TheVariants as failure
+use Rattle.cat_operate.specs.declared.failure.Failure.{Failure}
+use Rattle.cat_operate.specs.declared.failure.Failure.TheVariants as failure
 use Rattle.cat_evaluate_step.specs.declared.frames.Frame.{Frame}
 use Rattle.cat_evaluate_step.specs.declared.frames.Frame.TheVariants as frame
 use Rattle.cat_evaluate_step.specs.declared.frames.OnList.{OnList}

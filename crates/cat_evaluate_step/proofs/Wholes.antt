@@ -14,8 +14,8 @@ use Rattle.cat_scope.specs.Replies.{Reply}
 use Rattle.cat_scope.specs.Runs.{and_then, plain}
 use Rattle.cat_scope.specs.Lists.{contained, summed, zero_of}
 use Rattle.cat_scope.specs.Eval.{Env, eval}
-use Rattle.cat_shared.specs.declared.failure.Failure.{Failure}
-use Rattle.cat_shared.specs.declared.failure.Failure.TheVariants as failure
+use Rattle.cat_operate.specs.declared.failure.Failure.{Failure}
+use Rattle.cat_operate.specs.declared.failure.Failure.TheVariants as failure
 use Rattle.cat_evaluate_step.specs.declared.frames.Frame.{Frame}
 use Rattle.cat_evaluate_step.specs.declared.frames.Frame.TheVariants as frame
 use Rattle.cat_evaluate_step.specs.declared.frames.ListForm.{ListForm}

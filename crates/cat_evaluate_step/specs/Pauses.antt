@@ -3,8 +3,8 @@ use Rattle.std.specs.Prelude.{◌≡◌, List, [], Result, Ok, Err}
 use Rattle.cat_value.specs.declared.value.Value.{Value}
 use Rattle.cat_scope.specs.Replies.{Reply}
 use Rattle.cat_scope.specs.Eval.{Env, eval}
-use Rattle.cat_shared.specs.declared.failure.Failure.{Failure}
-use Rattle.cat_shared.specs.declared.failure.Failure.TheVariants as failure
+use Rattle.cat_operate.specs.declared.failure.Failure.{Failure}
+use Rattle.cat_operate.specs.declared.failure.Failure.TheVariants as failure
 use Rattle.cat_evaluate_step.specs.declared.frames.Frame.{Frame}
 use Rattle.cat_evaluate_step.specs.declared.frames.Pause.{Pause}
 use Rattle.cat_evaluate_step.specs.declared.frames.Pause.TheVariants as pause

@@ -6,9 +6,8 @@ use crate::frames::{Frames, OnElement, Task};
 use crate::going::give_reply;
 use crate::lists::{after, combine_next};
 use crate::locals::unbind;
-use cat_operate::contained;
+use cat_operate::{Failure, SharedValue, contained};
 use cat_pos::List;
-use cat_shared::{Failure, SharedValue};
 use std::alloc::Global;
 
 /// What came of an element is there, or a total, or the value that a list is to have.

@@ -11,10 +11,9 @@ use crate::going::{give, list, operand};
 use crate::made::made_case;
 use crate::parts::{exprs_first, fields_first};
 use crate::scene::Scene;
-use cat_operate::literal_value;
+use cat_operate::{Failure, SharedValue, literal_value};
 use cat_pos::{Boxed, List};
 use cat_scope::{Expr, Stop};
-use cat_shared::{Failure, SharedValue};
 use std::alloc::Global;
 
 /// The value of an item that is done.

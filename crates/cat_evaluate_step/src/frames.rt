@@ -1,8 +1,8 @@
 // What waits for the value of a part of an expression.
 use crate::stack::Stack;
+use cat_operate::{Elements, SharedValue};
 use cat_pos::{Boxed, List, Pos};
 use cat_scope::{Arms, BinaryOp, Expr, Exprs, FieldValues, SumKind, UnaryOp};
-use cat_shared::{Elements, SharedValue};
 
 /// A form that goes over a list, with one local name.
 #[derive(Clone, Copy)]

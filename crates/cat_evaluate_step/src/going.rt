@@ -3,9 +3,9 @@ ghost use Rattle.cat_evaluate_step.specs.declared.frames.Frame.TheVariants as fr
 ghost use Rattle.cat_evaluate_step.specs.inside.Steps.{IsEither, IsGiven, IsNext, IsReplied, IsWaiting};
 
 use crate::frames::{Frame, Frames, OnElement, OnList, OnOperand, OnPart, Task};
+use cat_operate::{Failure, SharedValue};
 use cat_pos::Boxed;
 use cat_scope::{Expr, Stop};
-use cat_shared::{Failure, SharedValue};
 
 /// An expression is next.
 pub(crate) fn eval<'a>(e: &'a Expr) -> Task<'a>

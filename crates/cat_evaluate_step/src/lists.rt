@@ -10,10 +10,9 @@ use crate::going::{element, give, give_reply};
 use crate::locals::bind_element;
 use crate::made::made_list;
 use cat_num::Whole;
-use cat_operate::summed;
+use cat_operate::{Elements, Failure, SharedValue, summed};
 use cat_pos::{Boxed, List};
 use cat_scope::{Expr, Stop};
-use cat_shared::{Elements, Failure, SharedValue};
 use std::alloc::Global;
 
 /// What a form comes to, where no element is left.

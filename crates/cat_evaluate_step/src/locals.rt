@@ -3,8 +3,8 @@ ghost use Rattle.std.specs.Prelude.{◌≡◌, ◌<◌, length, IfOk};
 ghost use Rattle.cat_evaluate_step.specs.OverLists.{last_of, without_last};
 ghost use Rattle.cat_evaluate_step.specs.inside.Listing.{IsBound};
 
+use cat_operate::{Elements, SharedValue};
 use cat_pos::List;
-use cat_shared::{Elements, SharedValue};
 use std::alloc::AllocError;
 
 /// The element at an index has a local name.

@@ -3,8 +3,8 @@ ghost use Rattle.std.specs.Prelude.{Ok};
 ghost use Rattle.cat_value.specs.declared.value.Value.TheViews as value;
 ghost use Rattle.cat_evaluate_step.specs.inside.Steps.{IsTold};
 
+use cat_operate::{Failure, SharedValue};
 use cat_pos::List;
-use cat_shared::{Failure, SharedValue};
 use std::alloc::Global;
 
 #[tactic(auto, using(crate::proofs::Leaves::leaves))]

@@ -6,9 +6,9 @@ ghost use Rattle.cat_evaluate_step.specs.inside.Steps.{Binds};
 
 use crate::frames::{Frame, Frames, OnOperand, Task};
 use crate::going::{eval, wait};
+use cat_operate::{Failure, SharedValue};
 use cat_pos::List;
 use cat_scope::{Arm, ArmPattern, Arms, Stop};
-use cat_shared::{Failure, SharedValue};
 
 fn is_for(pattern: ArmPattern, case: u32) -> bool
     ensures { result ≡ is_for case pattern }

@@ -16,9 +16,8 @@ use crate::locals::unbind;
 use crate::made::made_case;
 use crate::matching::on_match;
 use crate::scene::Scene;
-use cat_operate::{convert, operate};
+use cat_operate::{Failure, SharedValue, convert, operate};
 use cat_pos::List;
-use cat_shared::{Failure, SharedValue};
 use std::alloc::Global;
 
 /// Field k of a structure.

@@ -7,9 +7,9 @@ use crate::frames::{ExprsUse, FieldsUse, Frames, OnPart, Task};
 use crate::going::{give, part};
 use crate::made::made_list;
 use crate::structures::structured;
+use cat_operate::{Failure, SharedValue};
 use cat_pos::List;
 use cat_scope::{Exprs, FieldValues};
-use cat_shared::{Failure, SharedValue};
 use std::alloc::Global;
 
 /// The expression at an index is next, behind the values of those before it.

@@ -14,8 +14,8 @@ use crate::lists::on_list;
 use crate::operands::on_operand;
 use crate::parts::on_part;
 use crate::scene::Scene;
+use cat_operate::{Failure, SharedValue};
 use cat_pos::List;
-use cat_shared::{Failure, SharedValue};
 use std::alloc::Global;
 
 /// What a task leads to.

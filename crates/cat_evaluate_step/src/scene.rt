@@ -1,7 +1,7 @@
 // Where expressions stand: the scope that is run, how far it is, and the values of its items that are done.
 use cat_calc::{Calc, CalcScope};
+use cat_operate::SharedValue;
 use cat_pos::List;
-use cat_shared::SharedValue;
 use cat_value::ItemDecls;
 
 /// A scope that is run. The counts are places in the two orders of the calculus.

@@ -4,9 +4,9 @@ ghost use Rattle.std.specs.Option.{option_copied};
 ghost use Rattle.cat_scope.specs.Composed.{structured, value_given};
 ghost use Rattle.cat_evaluate_step.specs.inside.Steps.{IsTold};
 
+use cat_operate::{Failure, SharedValue};
 use cat_pos::List;
 use cat_scope::Stop;
-use cat_shared::{Failure, SharedValue};
 use std::alloc::Global;
 
 /// What is given for a field.

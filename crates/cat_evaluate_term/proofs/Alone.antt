@@ -3,8 +3,8 @@ use Rattle.std.proofs.Common.{◌≡◌, ◌<◌, ◌≤◌, length, List, [], �
 use Rattle.std.proofs.Common.{◌∙◌, MatchOption, arith}
 use Rattle.cat_value.specs.declared.outcome.Target.{Target}
 use Rattle.cat_scope.specs.Judging.{alone}
-use Rattle.cat_shared.specs.declared.failure.Failure.{Failure}
-use Rattle.cat_shared.specs.declared.failure.Failure.TheVariants as failure
+use Rattle.cat_operate.specs.declared.failure.Failure.{Failure}
+use Rattle.cat_operate.specs.declared.failure.Failure.TheVariants as failure
 use Rattle.cat_scope.specs.declared.stop.Stop.TheVariants.{Conflict}
 use Rattle.cat_scope.specs.Judging.{in_source_order, positions_in}
 use Rattle.cat_evaluate_term.specs.declared.frames.Definition.{Definition}

@@ -4,8 +4,8 @@ use Rattle.std.proofs.Common.{append-nil, subst}
 use Rattle.cat_value.specs.declared.value.Value.{Value}
 use Rattle.cat_value.specs.declared.outcome.Target.{Target}
 use Rattle.cat_scope.specs.Judging.{Held, with_held}
-use Rattle.cat_shared.specs.declared.failure.Failure.{Failure}
-use Rattle.cat_shared.specs.declared.failure.Failure.TheVariants as failure
+use Rattle.cat_operate.specs.declared.failure.Failure.{Failure}
+use Rattle.cat_operate.specs.declared.failure.Failure.TheVariants as failure
 use Rattle.cat_evaluate_term.specs.declared.frames.Definition.{Definition}
 use Rattle.cat_evaluate_term.specs.declared.frames.OnExceptions.{OnExceptions}
 use Rattle.cat_evaluate_term.specs.declared.frames.TermTask.{TermTask}

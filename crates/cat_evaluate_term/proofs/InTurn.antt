@@ -11,10 +11,10 @@ use Rattle.cat_scope.specs.Runs.{Run, and_then, gives, plain}
 use Rattle.cat_scope.specs.Judging.{Held, Judged, alone, found_or, holding, with_held}
 use Rattle.cat_scope.proofs.Exported.{and_then_and_then, and_then_same, append_append}
 use Rattle.cat_calc.specs.declared.term.Justification.{Justification}
-use Rattle.cat_calc.specs.declared.term.Term.{Term}
+use Rattle.cat_calc.specs.declared.term.DefaultTerm.{DefaultTerm}
 use Rattle.cat_calc.specs.Reducing.{reduced}
-use Rattle.cat_shared.specs.declared.failure.Failure.{Failure}
-use Rattle.cat_shared.specs.declared.failure.Failure.TheVariants as failure
+use Rattle.cat_operate.specs.declared.failure.Failure.{Failure}
+use Rattle.cat_operate.specs.declared.failure.Failure.TheVariants as failure
 use Rattle.cat_evaluate_term.specs.declared.frames.Definition.{Definition}
 use Rattle.cat_evaluate_term.specs.declared.frames.OnExceptions.{OnExceptions}
 use Rattle.cat_evaluate_term.specs.declared.frames.TermTask.{TermTask}
@@ -45,8 +45,8 @@ one_first judged rest target held =
     (λ more. plain (alone target ((held ++ with_held one []) ++ more)))
     (λ more. ap (λ (hs : List (Held Value)). plain (alone target hs)) (kept_held held more one)))
 
-module _ (target : Target) (j : Justification) (consequence : Term) where
-  left_first : (t : Term) (ts : List Term) (held : List (Held Value)) (value : Valued)
+module _ (target : Target) (j : Justification) (consequence : DefaultTerm) where
+  left_first : (t : DefaultTerm) (ts : List DefaultTerm) (held : List (Held Value)) (value : Valued)
       → left_run (t ∷ ts) held j consequence target value
       ≡ and_then (reduced value target t)
       (λ one. left_run ts (held ++ with_held one []) j consequence target value)
@@ -67,28 +67,28 @@ at_next : {A : Type 0} (xs : List A) (i : ℕ) (x : A) → slice_get xs i ≡ So
 at_next xs i x is = rw add-one (drop-cons xs i x (slice_get_within xs i x is)
     ∙ ap (λ y. y ∷ drop (suc i) xs) (get_or_from_slice_get xs i x x is))
 
-pub exceptions_done : (result : Result TermTask Failure) (target : Target) (terms : List Term) (next : ℕ)
-    (held : List Definition) (j : Justification) (consequence : Term) (frames : List OnExceptions)
+pub exceptions_done : (result : Result TermTask Failure) (target : Target) (terms : List DefaultTerm) (next : ℕ)
+    (held : List Definition) (j : Justification) (consequence : DefaultTerm) (frames : List OnExceptions)
     → Settles result (settled_run (all_held held) j consequence) target → length terms ≤ next
     → Leads result (left_run (drop next terms) (all_held held) j consequence) target frames frames
 exceptions_done result target terms next held j consequence frames settles past = record {
   leads = λ value. subst (λ (judged : Judged Value). Onward result
       (judged_into judged (found_into target value frames)) target value frames)
-      (sym (ap (λ (ts : List Term). left_run ts (all_held held) j consequence target value)
+      (sym (ap (λ (ts : List DefaultTerm). left_run ts (all_held held) j consequence target value)
       (drop_all next terms past) ∙ left_none target j consequence (all_held held) value))
       ((settles.settles frames).leads value);
 }
 
-next_into : (target : Target) (one : OnExceptions) (terms : List Term) (i : ℕ) (t : Term) (value : Valued)
+next_into : (target : Target) (one : OnExceptions) (terms : List DefaultTerm) (i : ℕ) (t : DefaultTerm) (value : Valued)
     (before : List OnExceptions) → one.exceptions.now ≡ terms → one.next ≡ i + 1 → slice_get terms i ≡ Some t
     → judged_into (left_run (drop i terms) (all_held one.held) one.justification.now one.consequence.now target value)
     (found_into target value before) ≡ judged_into (reduced value target t) (found_into target value (one ∷ before))
 unfolding found_into
 next_into target one terms i t value before same at is =
     ap (λ (judged : Judged Value). judged_into judged (found_into target value before))
-    (ap (λ (ts : List Term). left_run ts (all_held one.held) one.justification.now one.consequence.now target value)
+    (ap (λ (ts : List DefaultTerm). left_run ts (all_held one.held) one.justification.now one.consequence.now target value)
     (at_next terms i t is ∙ ap (λ (k : ℕ). t ∷ drop k terms) (sym at)
-    ∙ ap (λ (ts : List Term). t ∷ drop one.next ts) (sym same))
+    ∙ ap (λ (ts : List DefaultTerm). t ∷ drop one.next ts) (sym same))
     ∙ left_first target one.justification.now one.consequence.now t (drop one.next one.exceptions.now)
     (all_held one.held) value)
     ∙ judged_then (reduced value target t)
@@ -97,14 +97,14 @@ next_into target one terms i t value before same at is =
 
 -- an exception is next, and its default waits
 taken_leads : (result : Result TermTask Failure) (target : Target) (judged : Target → Valued → Judged Value)
-    (one : OnExceptions) (t : Term) (before after : List OnExceptions) → IsTaken result before after one t
+    (one : OnExceptions) (t : DefaultTerm) (before after : List OnExceptions) → IsTaken result before after one t
     → ((value : Valued) → judged_into (judged target value) (found_into target value before)
     ≡ judged_into (reduced value target t) (found_into target value (one ∷ before)))
     → Leads result judged target before after
 unfolding term_ending
 taken_leads (Ok (task.Reduce r)) target judged one t before after taken is = record {
   leads = λ value. is value
-      ∙ ap (λ (u : Term). judged_into (reduced value target u) (found_into target value (one ∷ before)))
+      ∙ ap (λ (u : DefaultTerm). judged_into (reduced value target u) (found_into target value (one ∷ before)))
       (sym taken.takes.1)
       ∙ ap (λ (fs : List OnExceptions). judged_into (reduced value target r.now) (found_into target value fs))
       (sym taken.takes.0);
@@ -115,8 +115,8 @@ taken_leads (Ok (task.Give use_of v)) target judged one t before after taken is 
 taken_leads (Err (failure.Stop stop)) target judged one t before after taken is = elim taken.takes [ ]
 taken_leads (Err failure.Memory) target judged one t before after taken is = record { leads = λ value. tt }
 
-pub exceptions_on : (result : Result TermTask Failure) (target : Target) (terms : Bor (List Term)) (i : ℕ) (t : Term)
-    (held : List Definition) (j : Bor Justification) (consequence : Bor Term) (before after : List OnExceptions)
+pub exceptions_on : (result : Result TermTask Failure) (target : Target) (terms : Bor (List DefaultTerm)) (i : ℕ) (t : DefaultTerm)
+    (held : List Definition) (j : Bor Justification) (consequence : Bor DefaultTerm) (before after : List OnExceptions)
     → IsTaken result before after (record {
       exceptions = terms;
       next = i + 1;

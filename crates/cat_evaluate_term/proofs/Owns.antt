@@ -12,9 +12,9 @@ use Rattle.cat_scope.specs.Runs.{Decider, Run, and_then, behind, choose, either,
 use Rattle.cat_scope.specs.Judging.{Held, Judged}
 use Rattle.cat_calc.specs.declared.term.Justification.{Justification}
 use Rattle.cat_calc.specs.declared.term.Justification.TheVariants as justification
-use Rattle.cat_calc.specs.declared.term.Term.{Term}
+use Rattle.cat_calc.specs.declared.term.DefaultTerm.{DefaultTerm}
 use Rattle.cat_calc.specs.Reducing.{reduced}
-use Rattle.cat_shared.specs.declared.failure.Failure.TheVariants as failure
+use Rattle.cat_operate.specs.declared.failure.Failure.TheVariants as failure
 use Rattle.cat_evaluate_term.specs.declared.frames.OnExceptions.{OnExceptions}
 use Rattle.cat_evaluate_term.specs.declared.frames.OnValue.TheVariants as on_value
 use Rattle.cat_evaluate_term.specs.declared.frames.TermTask.TheVariants as task
@@ -32,7 +32,7 @@ pub judged_then : {A : Type 0} (run : Run A) (f : A → Judged Value) (next : Op
     → judged_into (and_then run f) next ≡ on_one run.end (λ a. judged_into (f a) next)
 judged_then run f next = judged_behind run.log run.end f next
 
-pub own_never : (j : Justification) (consequence : Term) → j ≡ justification.Never
+pub own_never : (j : Justification) (consequence : DefaultTerm) → j ≡ justification.Never
     → Stays (task.Found None) (own_run j consequence)
 unfolding term_ending
 own_never j consequence is = record {
@@ -40,16 +40,16 @@ own_never j consequence is = record {
       (found_into target value frames)) is;
 }
 
-pub own_always : (j : Justification) (consequence : Term) (t : Bor Term) → j ≡ justification.Always
+pub own_always : (j : Justification) (consequence : DefaultTerm) (t : Bor DefaultTerm) → j ≡ justification.Always
     → t.now ≡ consequence → Stays (task.Reduce t) (own_run j consequence)
 unfolding term_ending
 own_always j consequence t is same = record {
   stays = λ target value frames. ap (λ (k : Justification). judged_into (own_run k consequence target value)
       (found_into target value frames)) is
-      ∙ sym (ap (λ (u : Term). judged_into (reduced value target u) (found_into target value frames)) same);
+      ∙ sym (ap (λ (u : DefaultTerm). judged_into (reduced value target u) (found_into target value frames)) same);
 }
 
-pub own_where : (j : Justification) (consequence : Bor Term) (e : Bor Expr) → j ≡ justification.Where e.now
+pub own_where : (j : Justification) (consequence : Bor DefaultTerm) (e : Bor Expr) → j ≡ justification.Where e.now
     → Stays (task.Evaluate e (on_value.Under consequence)) (own_run j consequence.now)
 unfolding term_ending
 own_where j consequence e is = record {
@@ -61,21 +61,21 @@ own_where j consequence e is = record {
 
 pub ruleset owns = (own_never, own_always, own_where)
 
-unfoldable chosen : Result Bool Stop → Bor Term → Target → Valued → List OnExceptions → Verdict
+unfoldable chosen : Result Bool Stop → Bor DefaultTerm → Target → Valued → List OnExceptions → Verdict
 chosen t consequence target value frames =
     judged_into (either t (reduced value target consequence.now) (gives None)) (found_into target value frames)
 
-pub under_true : (target : Target) (consequence t : Bor Term) (v : Value) → truth v ≡ Ok true
+pub under_true : (target : Target) (consequence t : Bor DefaultTerm) (v : Value) → truth v ≡ Ok true
     → t.now ≡ consequence.now → Settles (Ok (task.Reduce t)) (used_run (on_value.Under consequence) v) target
 unfolding term_ending chosen
 under_true target consequence t v is same = record {
   settles = λ frames. record {
     leads = λ value. ap (λ (r : Result Bool Stop). chosen r consequence target value frames) is
-        ∙ sym (ap (λ (u : Term). judged_into (reduced value target u) (found_into target value frames)) same);
+        ∙ sym (ap (λ (u : DefaultTerm). judged_into (reduced value target u) (found_into target value frames)) same);
   };
 }
 
-pub under_false : (target : Target) (consequence : Bor Term) (v : Value) → truth v ≡ Ok false
+pub under_false : (target : Target) (consequence : Bor DefaultTerm) (v : Value) → truth v ≡ Ok false
     → Settles (Ok (task.Found None)) (used_run (on_value.Under consequence) v) target
 unfolding term_ending chosen
 under_false target consequence v is = record {
@@ -84,7 +84,7 @@ under_false target consequence v is = record {
   };
 }
 
-pub under_stop : (target : Target) (consequence : Bor Term) (v : Value) (stop : Stop) → truth v ≡ Err stop
+pub under_stop : (target : Target) (consequence : Bor DefaultTerm) (v : Value) (stop : Stop) → truth v ≡ Err stop
     → Settles (Err (failure.Stop stop)) (used_run (on_value.Under consequence) v) target
 unfolding chosen
 under_stop target consequence v stop is = record {

@@ -4,9 +4,9 @@ use denote.Ref.{Bor}
 use Rattle.cat_value.specs.declared.value.Value.{Value}
 use Rattle.cat_value.specs.declared.outcome.Target.{Target}
 use Rattle.cat_scope.specs.declared.expr.Expr.{Expr}
-use Rattle.cat_calc.specs.declared.term.Term.{Term}
-use Rattle.cat_shared.specs.declared.failure.Failure.{Failure}
-use Rattle.cat_shared.specs.declared.failure.Failure.TheVariants as failure
+use Rattle.cat_calc.specs.declared.term.DefaultTerm.{DefaultTerm}
+use Rattle.cat_operate.specs.declared.failure.Failure.{Failure}
+use Rattle.cat_operate.specs.declared.failure.Failure.TheVariants as failure
 use Rattle.cat_evaluate_term.specs.declared.frames.Definition.{Definition}
 use Rattle.cat_evaluate_term.specs.declared.frames.OnExceptions.{OnExceptions}
 use Rattle.cat_evaluate_term.specs.declared.frames.OnValue.{OnValue}
@@ -30,7 +30,7 @@ module _ (from : Verdict) (target : Target) (value : Valued) (frames : List OnEx
   steps_as result (Err failure.Memory) is goes =
       subst (λ (r : Result TermStep Failure). StepsTo r from target value frames) (sym is.is) tt
 
-pub reduce_steps : (result : Result TermStep Failure) (next : Result TermTask Failure) (target : Target) (t : Bor Term)
+pub reduce_steps : (result : Result TermStep Failure) (next : Result TermTask Failure) (target : Target) (t : Bor DefaultTerm)
     (before after : List OnExceptions) → IsStepOf result next → Leads next (reduced_run t.now) target before after
     → StepsFrom result target before (task.Reduce t) after
 unfolding term_ending

@@ -6,8 +6,8 @@ use Rattle.cat_scope.specs.declared.stop.Stop.{Stop}
 use Rattle.cat_scope.specs.Runs.{plain}
 use Rattle.cat_scope.specs.Judging.{Held, alone, or_else}
 use Rattle.cat_calc.specs.declared.term.Justification.{Justification}
-use Rattle.cat_calc.specs.declared.term.Term.{Term}
-use Rattle.cat_shared.specs.declared.failure.Failure.TheVariants as failure
+use Rattle.cat_calc.specs.declared.term.DefaultTerm.{DefaultTerm}
+use Rattle.cat_operate.specs.declared.failure.Failure.TheVariants as failure
 use Rattle.cat_evaluate_term.specs.declared.frames.Definition.{Definition}
 use Rattle.cat_evaluate_term.specs.declared.frames.OnExceptions.{OnExceptions}
 use Rattle.cat_evaluate_term.specs.declared.frames.TermTask.{TermTask}
@@ -17,7 +17,7 @@ use Rattle.cat_evaluate_term.specs.Reductions.{term_ending}
 use Rattle.cat_evaluate_term.specs.inside.Putting.{IsFound}
 use Rattle.cat_evaluate_term.specs.inside.Steps.{Settles, Stays, own_run, settled_run}
 
-module _ (target : Target) (held : List (Held Value)) (j : Justification) (consequence : Term) where
+module _ (target : Target) (held : List (Held Value)) (j : Justification) (consequence : DefaultTerm) where
   ends_as : (v : Verdict) → alone target held ≡ v → (value : Valued) (frames : List OnExceptions)
       → judged_into (settled_run held j consequence target value) (found_into target value frames)
       ≡ judged_into (or_else (plain v) (own_run j consequence target value)) (found_into target value frames)

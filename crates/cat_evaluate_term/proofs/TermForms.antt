@@ -8,12 +8,12 @@ use Rattle.cat_scope.specs.declared.expr.Expr.{Expr}
 use Rattle.cat_scope.specs.Judging.{Judged}
 use Rattle.cat_scope.specs.Runs.{gives}
 use Rattle.cat_calc.specs.declared.term.Justification.{Justification}
-use Rattle.cat_calc.specs.declared.term.Term.{Term}
-use Rattle.cat_calc.specs.declared.term.Term.TheVariants as leaf
-use Rattle.cat_calc.specs.declared.term.Term.TheViews as term
+use Rattle.cat_calc.specs.declared.term.DefaultTerm.{DefaultTerm}
+use Rattle.cat_calc.specs.declared.term.DefaultTerm.TheVariants as leaf
+use Rattle.cat_calc.specs.declared.term.DefaultTerm.TheViews as term
 use Rattle.cat_calc.specs.Reducing.{reduced}
 use Rattle.cat_calc.proofs.Exported.{reduced_Empty, reduced_Consequence, reduced_Default}
-use Rattle.cat_shared.specs.declared.failure.Failure.{Failure}
+use Rattle.cat_operate.specs.declared.failure.Failure.{Failure}
 use Rattle.cat_evaluate_term.specs.declared.frames.Definition.{Definition}
 use Rattle.cat_evaluate_term.specs.declared.frames.OnExceptions.{OnExceptions}
 use Rattle.cat_evaluate_term.specs.declared.frames.OnValue.TheVariants as on_value
@@ -24,7 +24,7 @@ use Rattle.cat_evaluate_term.specs.Reductions.{term_ending}
 use Rattle.cat_evaluate_term.specs.inside.Steps.{Leads, Onward, reduced_run}
 use Rattle.cat_evaluate_term.proofs.Owns.{judged_then}
 
-pub form_Empty : (target : Target) (t : Term) (frames : List OnExceptions) → t ≡ leaf.Empty
+pub form_Empty : (target : Target) (t : DefaultTerm) (frames : List OnExceptions) → t ≡ leaf.Empty
     → Leads (Ok (task.Found None)) (reduced_run t) target frames frames
 unfolding term_ending
 form_Empty target t frames is = record {
@@ -32,7 +32,7 @@ form_Empty target t frames is = record {
       (ap (reduced value target) is ∙ reduced_Empty value target);
 }
 
-pub form_Consequence : (target : Target) (t : Term) (frames : List OnExceptions) (number : ℕ) (p : Pos) (e : Bor Expr)
+pub form_Consequence : (target : Target) (t : DefaultTerm) (frames : List OnExceptions) (number : ℕ) (p : Pos) (e : Bor Expr)
     → t ≡ leaf.Consequence number p e.now
     → Leads (Ok (task.Evaluate e (on_value.Holds number p))) (reduced_run t) target frames frames
 unfolding term_ending
@@ -43,8 +43,8 @@ form_Consequence target t frames number p e is = record {
       (found_into target value frames);
 }
 
-pub form_Default : (result : Result TermTask Failure) (target : Target) (t : Term) (before after : List OnExceptions)
-    (terms : List Term) (held : List Definition) (j : Justification) (consequence : Term)
+pub form_Default : (result : Result TermTask Failure) (target : Target) (t : DefaultTerm) (before after : List OnExceptions)
+    (terms : List DefaultTerm) (held : List Definition) (j : Justification) (consequence : DefaultTerm)
     → t ≡ term.Default terms j consequence → held ≡ []
     → Leads result (left_run (drop 0 terms) (all_held held) j consequence) target before after
     → Leads result (reduced_run t) target before after

@@ -8,7 +8,7 @@ use Rattle.cat_scope.specs.Replies.{on_one}
 use Rattle.cat_scope.specs.Runs.{Run, gives, giving, choose}
 use Rattle.cat_scope.specs.Judging.{Held, Judged, alone, holding, or_else, with_held}
 use Rattle.cat_calc.specs.declared.term.Justification.{Justification}
-use Rattle.cat_calc.specs.declared.term.Term.{Term}
+use Rattle.cat_calc.specs.declared.term.DefaultTerm.{DefaultTerm}
 use Rattle.cat_calc.specs.Reducing.{justified, reduced}
 use Rattle.cat_evaluate_term.specs.declared.frames.Definition.{Definition}
 use Rattle.cat_evaluate_term.specs.declared.frames.OnExceptions.{OnExceptions}
@@ -43,7 +43,7 @@ used_run (on_value.Under consequence) v target value = choose v (reduced value t
 used_run (on_value.Holds number p) v target value = gives (Some (record { number = number; pos = p; value = v }))
 
 -- exceptions that are left, behind those that hold, and what they except
-abbrev pub left_run : List Term → List (Held Value) → Justification → Term → Target → Valued → Judged Value
+abbrev pub left_run : List DefaultTerm → List (Held Value) → Justification → DefaultTerm → Target → Valued → Judged Value
 left_run terms held justification consequence target value =
     or_else (giving (holding (map (reduced value target) terms)) (λ more. alone target (held ++ more)))
     (justified value justification (reduced value target consequence))

@@ -6,9 +6,9 @@ ghost use Rattle.cat_evaluate_term.specs.inside.Putting.{IsConflict, IsFound, pu
 
 use crate::frames::Definition;
 use cat_evaluate_step::Stack;
+use cat_operate::Failure;
 use cat_pos::{List, Positions};
 use cat_scope::Stop;
-use cat_shared::Failure;
 use cat_value::Target;
 use std::alloc::{AllocError, Global};
 

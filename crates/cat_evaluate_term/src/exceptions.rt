@@ -8,16 +8,16 @@ ghost use Rattle.cat_evaluate_term.specs.inside.Steps.{Stays};
 use crate::conflicts::alone;
 use crate::frames::{Definition, ExceptionFrames, OnExceptions, OnValue, TermTask};
 use crate::going::wait;
-use cat_calc::{Justification, Term, Terms};
+use cat_calc::{DefaultTerm, DefaultTerms, Justification};
+use cat_operate::{Failure, SharedValue};
 use cat_pos::{Boxed, List};
 use cat_scope::Stop;
-use cat_shared::{Failure, SharedValue};
 use cat_value::Target;
 use std::alloc::{AllocError, Global};
 
 /// None of the exceptions holds.
 #[tactic(auto, using(crate::proofs::Owns::owns))]
-fn own<'a>(justification: &'a Justification, consequence: &'a Boxed<Term>) -> TermTask<'a>
+fn own<'a>(justification: &'a Justification, consequence: &'a Boxed<DefaultTerm>) -> TermTask<'a>
     ensures { Stays result (own_run justification.now consequence.now) }
 {
     match justification {
@@ -34,7 +34,7 @@ fn settled<'a>(
     target: Target,
     held: List<Definition>,
     justification: &'a Justification,
-    consequence: &'a Boxed<Term>,
+    consequence: &'a Boxed<DefaultTerm>,
 ) -> Result<TermTask<'a>, Failure>
     ensures { Settles result (settled_run (all_held held) justification.now consequence.now) target }
 {
@@ -52,11 +52,11 @@ fn exceptions_next<'a>(
     alloc: Global,
     target: Target,
     frames: &mut ExceptionFrames<'a>,
-    exceptions: &'a Terms,
+    exceptions: &'a DefaultTerms,
     next: usize,
     held: List<Definition>,
     justification: &'a Justification,
-    consequence: &'a Boxed<Term>,
+    consequence: &'a Boxed<DefaultTerm>,
 ) -> Result<TermTask<'a>, Failure>
     ensures { Leads result (left_run (drop next exceptions.now) (all_held held) justification.now consequence.now)
         target frames.old frames.new }
@@ -80,17 +80,17 @@ pub(crate) fn on_term<'a>(
     alloc: Global,
     target: Target,
     frames: &mut ExceptionFrames<'a>,
-    term: &'a Term,
+    term: &'a DefaultTerm,
 ) -> Result<TermTask<'a>, Failure>
     ensures { Leads result (reduced_run term.now) target frames.old frames.new }
 {
     match term {
-        Term::Empty => Ok(TermTask::Found(None)),
-        Term::Consequence(number, p, e) => Ok(TermTask::Evaluate(
+        DefaultTerm::Empty => Ok(TermTask::Found(None)),
+        DefaultTerm::Consequence(number, p, e) => Ok(TermTask::Evaluate(
             e.get(),
             OnValue::Holds(*number, *p),
         )),
-        Term::Default(exceptions, justification, consequence) => {
+        DefaultTerm::Default(exceptions, justification, consequence) => {
             let held = List::new(alloc);
             exceptions_next(
                 alloc,

@@ -1,9 +1,9 @@
 // What waits for what a term comes to.
-use cat_calc::{Justification, Term, Terms};
+use cat_calc::{DefaultTerm, DefaultTerms, Justification};
 use cat_evaluate_step::Stack;
+use cat_operate::SharedValue;
 use cat_pos::{Boxed, List, Pos};
 use cat_scope::Expr;
-use cat_shared::SharedValue;
 
 /// A definition that holds: its number, its position, and what it gives.
 #[derive(Drop)]
@@ -17,7 +17,7 @@ pub struct Definition {
 #[derive(Drop)]
 pub enum OnValue<'a> {
     /// What stands under this condition.
-    Under(&'a Boxed<Term>),
+    Under(&'a Boxed<DefaultTerm>),
     /// The definition of this number at this position, which gives it.
     Holds(u32, Pos),
 }
@@ -25,13 +25,13 @@ pub enum OnValue<'a> {
 /// The exceptions of a default, and what they except.
 #[derive(Drop)]
 pub struct OnExceptions<'a> {
-    pub exceptions: &'a Terms,
+    pub exceptions: &'a DefaultTerms,
     /// The index of the next exception.
     pub next: usize,
     /// What holds of those before the one that is reduced.
     pub held: List<Definition>,
     pub justification: &'a Justification,
-    pub consequence: &'a Boxed<Term>,
+    pub consequence: &'a Boxed<DefaultTerm>,
 }
 
 pub type ExceptionFrames<'a> = Stack<OnExceptions<'a>>;
@@ -39,7 +39,7 @@ pub type ExceptionFrames<'a> = Stack<OnExceptions<'a>>;
 /// What is next.
 #[derive(Drop)]
 pub enum TermTask<'a> {
-    Reduce(&'a Term),
+    Reduce(&'a DefaultTerm),
     /// A term has come to what holds, or to nothing.
     Found(Option<Definition>),
     /// An expression is to be evaluated.

@@ -7,8 +7,8 @@ ghost use Rattle.cat_evaluate_term.specs.inside.Judged.{ExprSteps, TakesStep, Te
 use crate::frames::{Definition, ExceptionFrames, OnValue, TermPause, TermTask};
 use crate::reducing::reduce;
 use cat_evaluate_step::{Frames, Pause, Scene, Task, advance};
+use cat_operate::{Failure, SharedValue};
 use cat_pos::List;
-use cat_shared::{Failure, SharedValue};
 use cat_value::Target;
 use std::alloc::{AllocError, Global};
 

@@ -4,7 +4,7 @@ ghost use Rattle.cat_evaluate_term.specs.inside.Steps.{StepsFrom, IsStepOf};
 
 use crate::exceptions::{on_found, on_term, on_value};
 use crate::frames::{ExceptionFrames, TermPause, TermTask};
-use cat_shared::Failure;
+use cat_operate::Failure;
 use cat_value::Target;
 use std::alloc::Global;
 

@@ -11,7 +11,7 @@ use cat_scope::{Def, Except};
 
 /// Which fault is looked for.
 #[derive(Clone, Copy)]
-pub enum FaultKind {
+pub enum ExceptionFault {
     UnknownLabel,
     SplitLabel,
     AmbiguousException,
@@ -62,7 +62,13 @@ fn split_label(first: &Except, def: &Def) -> Option<Pos>
     }
 }
 
-fn fault_at(kind: FaultKind, defs: &[Def], groups: &Groups, list: &[u32], def: &Def) -> Option<Pos>
+fn fault_at(
+    kind: ExceptionFault,
+    defs: &[Def],
+    groups: &Groups,
+    list: &[u32],
+    def: &Def,
+) -> Option<Pos>
     requires groups { AreGroups defs.now groups.now }
     requires some { 0 < length list.now }
     requires numbers { All (λ n. n < length defs.now) list.now }
@@ -70,13 +76,13 @@ fn fault_at(kind: FaultKind, defs: &[Def], groups: &Groups, list: &[u32], def: &
         (group_by (defs_at defs.now list.now)) def.now }
 {
     match kind {
-        FaultKind::UnknownLabel => unknown_label(defs, groups, &def.except),
-        FaultKind::SplitLabel => split_label(group_except(defs, list), def),
-        FaultKind::AmbiguousException => ambiguous_exception(defs, groups, &def.except),
+        ExceptionFault::UnknownLabel => unknown_label(defs, groups, &def.except),
+        ExceptionFault::SplitLabel => split_label(group_except(defs, list), def),
+        ExceptionFault::AmbiguousException => ambiguous_exception(defs, groups, &def.except),
     }
 }
 
-fn fault_in_group(kind: FaultKind, defs: &[Def], groups: &Groups, list: &[u32]) -> Option<Pos>
+fn fault_in_group(kind: ExceptionFault, defs: &[Def], groups: &Groups, list: &[u32]) -> Option<Pos>
     requires groups { AreGroups defs.now groups.now }
     requires some { 0 < length list.now }
     requires numbers { All (λ n. n < length defs.now) list.now }
@@ -91,7 +97,7 @@ fn fault_in_group(kind: FaultKind, defs: &[Def], groups: &Groups, list: &[u32]) 
     None
 }
 
-fn fault_in_target(kind: FaultKind, defs: &[Def], groups: &Groups) -> Option<Pos>
+fn fault_in_target(kind: ExceptionFault, defs: &[Def], groups: &Groups) -> Option<Pos>
     requires { AreGroups defs.now groups.now }
     ensures { result ≡ first_of (in_groups (kind_of kind) (groups_at defs.now groups.now.lists.items)
         (groups_at defs.now groups.now.lists.items)) }
@@ -105,7 +111,7 @@ fn fault_in_target(kind: FaultKind, defs: &[Def], groups: &Groups) -> Option<Pos
 }
 
 /// A fault of this kind, where there is one at a definition of some target.
-pub fn fault_in(kind: FaultKind, defs: &[Def], targets: &[Groups]) -> Option<Pos>
+pub fn fault_in(kind: ExceptionFault, defs: &[Def], targets: &[Groups]) -> Option<Pos>
     requires { AreGroupsOfEach defs.now targets.now }
     ensures { result ≡ first_of (in_targets (kind_of kind) (groups_at_each defs.now targets.now)) }
 {

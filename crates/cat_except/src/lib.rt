@@ -20,7 +20,7 @@ mod lists;
 mod refusal;
 mod targets;
 
-use crate::faults::{FaultKind, fault_in};
+use crate::faults::{ExceptionFault, fault_in};
 use crate::groups::Groups;
 use crate::linked::{check_chains, forest_targets, link_each};
 use crate::targets::targets_of;
@@ -57,13 +57,13 @@ fn check_labels(defs: &[Def], targets: &[Groups]) -> Result<(), ExceptRefusal>
     ensures resolved { OnOk result (AreResolved (groups_at_each defs.now targets.now)) }
     ensures cause { IfErr result (HasCause (groups_at_each defs.now targets.now)) }
 {
-    if let Some(pos) = fault_in(FaultKind::UnknownLabel, defs, targets) {
+    if let Some(pos) = fault_in(ExceptionFault::UnknownLabel, defs, targets) {
         return Err(ExceptRefusal::LabelUnknown(pos));
     }
-    if let Some(pos) = fault_in(FaultKind::SplitLabel, defs, targets) {
+    if let Some(pos) = fault_in(ExceptionFault::SplitLabel, defs, targets) {
         return Err(ExceptRefusal::LabelSplit(pos));
     }
-    match fault_in(FaultKind::AmbiguousException, defs, targets) {
+    match fault_in(ExceptionFault::AmbiguousException, defs, targets) {
         Some(pos) => Err(ExceptRefusal::ExceptionAmbiguous(pos)),
         None => Ok(()),
     }

@@ -1,4 +1,4 @@
--- What crates above may cite by path: laws in the form in which proofs apply them, and rewriting.
+-- What crates above may cite by path: rewriting, which no clause of a call can give.
 pub use Rattle.cat_guard.proofs.FormulaLaws.{same_bool, known_so, known_kept, truth_renamed, truth_same}
 pub use Rattle.cat_guard.proofs.GuardLevels.{guarded, guard_at, formulas, formula_of_guard_tree}
 pub use Rattle.cat_guard.proofs.Ends.{then_end, one_more, holding_end, settle_end, else_end, or_else_end}

@@ -3,4 +3,15 @@ pub mod GuardLevels
 pub mod Ends
 pub mod VerdictLaws
 pub mod TableLaws
+pub mod TreeLaws
+pub mod RegionLaws
+pub mod FurtherLaws
+pub mod TellLaws
+pub mod GroupLaws
+pub mod GuardLaws
+pub mod CountLaws
+pub mod Examples
+pub mod OwnAtoms
+pub mod LiveLaws
+pub mod WholeLaws
 pub mod Exported

@@ -12,3 +12,7 @@ pub mod Terms
 pub mod Tables
 pub mod Judged
 pub mod Trees
+pub mod Judgements
+pub mod Live
+-- what the code keeps on its way: no public clause cites it
+pub mod inside

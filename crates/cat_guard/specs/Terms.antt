@@ -19,7 +19,7 @@ use Rattle.cat_scope.specs.declared.expr.Expr.TheOpen.{Expr-F}
 use Rattle.cat_scope.specs.declared.expr.Expr.TheViews.{out-Expr}
 use Rattle.cat_scope.specs.declared.expr.Expr.TheFolds.{fold-Expr}
 use Rattle.cat_scope.specs.SameTree.{same_tree}
-use Rattle.cat_guard.specs.declared.table.Path.{Path}
+use Rattle.cat_guard.specs.declared.table.InputPath.{InputPath}
 use Rattle.cat_guard.specs.declared.table.Term.{Term}
 use Rattle.cat_guard.specs.declared.table.Atom.{Atom}
 use Rattle.cat_guard.specs.Questions.{Question}
@@ -60,24 +60,24 @@ abbrev pub same_question : Question → Question → Bool
 same_question q r = same_term q r && same_cut q.cut r.cut
 
 -- an input variable
-abbrev pub input_path : ℕ → Option ItemDecl → Option Path
+abbrev pub input_path : ℕ → Option ItemDecl → Option InputPath
 input_path item None = None
 input_path item (Some decl) = if must_be_given decl.kind then Some (record { item = item; fields = [] }) else None
 
 -- a field further
-abbrev pub field_path : ℕ → Option Path → Option Path
+abbrev pub field_path : ℕ → Option InputPath → Option InputPath
 field_path k None = None
 field_path k (Some path) = Some (record { item = path.item; fields = path.fields ++ k ∷ [] })
 
 -- the path that an expression is, by its form
-abbrev pub path_in : List ItemDecl → Expr-F (Option Path) (Unit {0}) (Unit {0}) → Option Path
+abbrev pub path_in : List ItemDecl → Expr-F (Option InputPath) (Unit {0}) (Unit {0}) → Option InputPath
 path_in items (Expr-F.Item p item) = input_path item (slice_get items item)
 path_in items (Expr-F.Field p e k) = field_path k e
 path_in items _ = None
 
 -- the path that an expression is: an input variable of the scope, or a path of fields from one
-unfoldable pub path_of : List ItemDecl → Expr → Option Path
-path_of items = fold-Expr (Option Path) (Unit {0}) (Unit {0}) (path_in items) (λ a. tt) (λ f. tt)
+unfoldable pub path_of : List ItemDecl → Expr → Option InputPath
+path_of items = fold-Expr (Option InputPath) (Unit {0}) (Unit {0}) (path_in items) (λ a. tt) (λ f. tt)
 
 -- the position of the first token, by the form
 abbrev pub token_in : Expr-F Expr Arm FieldValue → Pos

@@ -10,7 +10,7 @@ use cat_value::Target;
 
 /// An input variable, or a part of one: the item, and the numbers of the fields that lead to the part.
 #[derive(Debug, Drop)]
-pub struct Path {
+pub struct InputPath {
     pub item: u32,
     pub fields: Numbers,
 }
@@ -24,7 +24,7 @@ pub struct Term {
     pub function: u32,
     pub params: u32,
     /// Where the term is free: the input that it is, or the part of one.
-    pub path: Option<Path>,
+    pub path: Option<InputPath>,
     pub dim: Dim,
     /// The position of the first token of its first appearance.
     pub pos: Pos,
@@ -75,6 +75,9 @@ pub struct Table {
     pub targets: TableTargets,
     pub ghost sound: { IsTrue (is_sound terms atoms targets) },
 }
+
+/// Tables of scopes, of which one calls those before it alone.
+pub type ScopeTables = List<Table>;
 
 impl Table {
     pub fn from_parts(

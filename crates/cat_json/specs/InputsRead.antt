@@ -13,7 +13,7 @@ use Rattle.cat_value.specs.declared.decls.Decls.{Decls}
 use Rattle.cat_value.specs.Inputs.{must_be_given, may_be_given, IsWellTyped}
 use Rattle.cat_json.specs.declared.refusal.Reason.{Reason}
 use Rattle.cat_json.specs.declared.refusal.Reason.TheVariants as reason
-use Rattle.cat_json.specs.declared.refusal.Refusal.{Refusal}
+use Rattle.cat_json.specs.declared.refusal.PartRefusal.{PartRefusal}
 use Rattle.cat_json.specs.declared.refusal.InputRefusal.{InputRefusal}
 use Rattle.cat_json.specs.declared.refusal.InputRefusal.TheVariants.{NotJson, Missing, Extra, WrongForm, OutOfRange}
 use Rattle.cat_json.specs.Paths.{Reading, refused, made_of, ahead, path_text}
@@ -78,7 +78,7 @@ refusal_of reason.WrongForm path = WrongForm path
 refusal_of reason.OutOfRange path = OutOfRange path
 
 -- a refusal, with its path as text
-abbrev pub refusal_told : Refusal → InputRefusal
+abbrev pub refusal_told : PartRefusal → InputRefusal
 refusal_told refusal = refusal_of refusal.reason (path_text refusal.path)
 
 -- what is read, or the refusal with its path as text

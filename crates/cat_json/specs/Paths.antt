@@ -3,11 +3,11 @@ use Rattle.std.specs.Prelude.{ℕ, List, [], ◌∷◌, ◌++◌, Result, Ok, Er
 use Rattle.cat_json.specs.declared.step.Step.{Step}
 use Rattle.cat_json.specs.declared.step.Step.TheVariants.{Name, Element}
 use Rattle.cat_json.specs.declared.refusal.Reason.{Reason}
-use Rattle.cat_json.specs.declared.refusal.Refusal.{Refusal}
+use Rattle.cat_json.specs.declared.refusal.PartRefusal.{PartRefusal}
 
 -- what a part of JSON is read as, or the first part of it that is refused
 abbrev pub Reading : Type 0 → Type 0
-Reading A = Result A Refusal
+Reading A = Result A PartRefusal
 
 -- the whole is refused
 abbrev pub refused : {A : Type 0} → Reason → Reading A

@@ -10,7 +10,7 @@ ghost use Rattle.cat_json.specs.Spans.{part_in, days_and_months, span_in};
 
 use crate::known::extra;
 use crate::scalar::whole_in;
-use crate::{Reason, Refusal, Step};
+use crate::{PartRefusal, Reason, Step};
 use cat_date::Span;
 use cat_num::Whole;
 use cat_pos::Text;
@@ -18,11 +18,14 @@ use cat_value::Value;
 use serde_json::{Map, Value as Json};
 use std::alloc::{AllocError, Global};
 
-pub(crate) fn duration_in(alloc: Global, value: &Json) -> Result<Result<Value, Refusal>, AllocError>
+pub(crate) fn duration_in(
+    alloc: Global,
+    value: &Json,
+) -> Result<Result<Value, PartRefusal>, AllocError>
     ensures { IfOk result (λ read. read ≡ made_of variant.Duration (span_in (view value.now))) }
 {
     let Some(members) = value.as_object() else {
-        return Ok(Err(Refusal::new(alloc, Reason::WrongForm)));
+        return Ok(Err(PartRefusal::new(alloc, Reason::WrongForm)));
     };
     match days_and_months(alloc, value)? {
         Ok(span) => match other_part(members) {
@@ -33,7 +36,7 @@ pub(crate) fn duration_in(alloc: Global, value: &Json) -> Result<Result<Value, R
     }
 }
 
-fn days_and_months(alloc: Global, value: &Json) -> Result<Result<Span, Refusal>, AllocError>
+fn days_and_months(alloc: Global, value: &Json) -> Result<Result<Span, PartRefusal>, AllocError>
     ensures { IfOk result (λ read. read ≡ days_and_months (part_in (codes "days") (view value.now))
         (part_in (codes "months") (view value.now))) }
 {
@@ -47,7 +50,11 @@ fn days_and_months(alloc: Global, value: &Json) -> Result<Result<Span, Refusal>,
     }
 }
 
-fn part_in(alloc: Global, value: &Json, name: &str) -> Result<Result<Whole, Refusal>, AllocError>
+fn part_in(
+    alloc: Global,
+    value: &Json,
+    name: &str,
+) -> Result<Result<Whole, PartRefusal>, AllocError>
     ensures { IfOk result (λ read. read ≡ part_in name.now (view value.now)) }
 {
     let read = match value.get(name) {
@@ -58,7 +65,7 @@ fn part_in(alloc: Global, value: &Json, name: &str) -> Result<Result<Whole, Refu
         Ok(part) => Ok(Ok(part)),
         Err(reason) => {
             let step = Step::Name(Text::from_str(alloc, name)?);
-            Ok(Err(Refusal::new(alloc, reason).under(step)?))
+            Ok(Err(PartRefusal::new(alloc, reason).under(step)?))
         }
     }
 }

@@ -13,7 +13,7 @@ ghost use Rattle.cat_json.specs.InputsRead as inputs;
 
 use crate::known::{extra, unknown_variable};
 use crate::reading::{member_in, read_at};
-use crate::{InputRefusal, Reason, Refusal};
+use crate::{InputRefusal, PartRefusal, Reason};
 use cat_pos::{List, Text};
 use cat_value::{Decls, Input, ItemDecl, ItemDecls, Kind, Ty, Value};
 use serde_json::Value as Json;
@@ -83,7 +83,7 @@ pub fn read_inputs(
     let json = json_of(alloc, bytes)?;
     let items = &decls.scopes.at(scope as usize).items;
     let Some(elements) = json.as_array() else {
-        return Err(told(alloc, Refusal::new(alloc, Reason::WrongForm))?);
+        return Err(told(alloc, PartRefusal::new(alloc, Reason::WrongForm))?);
     };
     Ok(each_input(alloc, elements.as_slice(), items, decls)?)
 }
@@ -104,10 +104,10 @@ fn json_of(alloc: Global, bytes: &[u8]) -> Result<Json, InputRefusal>
 }
 
 /// A refusal with its path as text.
-fn told(alloc: Global, refusal: Refusal) -> Result<InputRefusal, AllocError>
+fn told(alloc: Global, refusal: PartRefusal) -> Result<InputRefusal, AllocError>
     ensures { IfOk result (λ told. told ≡ inputs.refusal_told refusal) }
 {
-    let Refusal { reason, path } = refusal;
+    let PartRefusal { reason, path } = refusal;
     let path = Text::from_string(alloc, path.text(alloc)?)?;
     Ok(match reason {
         Reason::Missing => InputRefusal::Missing(path),
@@ -142,12 +142,12 @@ fn input_in(
     json: &Json,
     items: &ItemDecls,
     decls: &Decls,
-) -> Result<Result<Input, Refusal>, AllocError>
+) -> Result<Result<Input, PartRefusal>, AllocError>
     requires { nesting (view json.now) ≤ 127 }
     ensures { IfOk result (λ read. read ≡ inputs.input_in decls.now items.now (view json.now)) }
 {
     let Some(members) = json.as_object() else {
-        return Ok(Err(Refusal::new(alloc, Reason::WrongForm)));
+        return Ok(Err(PartRefusal::new(alloc, Reason::WrongForm)));
     };
     match items_in(alloc, json, items, decls)? {
         Ok(input) => match unknown_variable(alloc, members, items)? {
@@ -163,7 +163,7 @@ fn items_in(
     json: &Json,
     items: &ItemDecls,
     decls: &Decls,
-) -> Result<Result<Input, Refusal>, AllocError>
+) -> Result<Result<Input, PartRefusal>, AllocError>
     requires { nesting (view json.now) ≤ 127 }
     ensures { IfOk result (λ read. read ≡ inputs.items_in (data_members decls.now (view json.now)) items.now) }
 {
@@ -183,7 +183,7 @@ fn item_in(
     json: &Json,
     item: &ItemDecl,
     decls: &Decls,
-) -> Result<Result<Option<Value>, Refusal>, AllocError>
+) -> Result<Result<Option<Value>, PartRefusal>, AllocError>
     requires { nesting (view json.now) ≤ 127 }
     ensures { IfOk result (λ read. read ≡ inputs.item_in (data_members decls.now (view json.now)) item.now) }
 {
@@ -200,7 +200,7 @@ fn optional_in(
     json: &Json,
     item: &ItemDecl,
     decls: &Decls,
-) -> Result<Result<Option<Value>, Refusal>, AllocError>
+) -> Result<Result<Option<Value>, PartRefusal>, AllocError>
     requires { nesting (view json.now) ≤ 127 }
     ensures { IfOk result (λ read. read ≡ inputs.optional_in (data_members decls.now (view json.now)) item.now) }
 {
@@ -215,7 +215,7 @@ fn given_in(
     json: &Json,
     item: &ItemDecl,
     decls: &Decls,
-) -> Result<Result<Option<Value>, Refusal>, AllocError>
+) -> Result<Result<Option<Value>, PartRefusal>, AllocError>
     requires { nesting (view json.now) ≤ 127 }
     ensures { IfOk result (λ read. read ≡ inputs.given_in (data_members decls.now (view json.now)) item.now) }
 {

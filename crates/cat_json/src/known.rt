@@ -11,7 +11,7 @@ ghost use Rattle.cat_value.specs.Inputs.{may_be_given};
 ghost use Rattle.cat_json.specs.InputsRead.{given_names};
 ghost use Rattle.cat_json.specs.Keys.{is_among, unknown_key, field_names};
 
-use crate::{Reason, Refusal, Step};
+use crate::{PartRefusal, Reason, Step};
 use cat_pos::Text;
 use cat_value::{Fields, ItemDecls, Kind};
 use serde_json::{Map, Value as Json};
@@ -96,8 +96,8 @@ fn unknown_key<'a>(members: &'a Map<String, Json>, known: &Known<'_>) -> Option<
 }
 
 /// The refusal of a key that is not known.
-pub(crate) fn extra(alloc: Global, key: &str) -> Result<Refusal, AllocError>
+pub(crate) fn extra(alloc: Global, key: &str) -> Result<PartRefusal, AllocError>
     ensures { IfOk result (λ refusal. refusal ≡ record { reason = Extra; path = Name key.now ∷ [] }) }
 {
-    Refusal::new(alloc, Reason::Extra).under(Step::Name(Text::from_str(alloc, key)?))
+    PartRefusal::new(alloc, Reason::Extra).under(Step::Name(Text::from_str(alloc, key)?))
 }

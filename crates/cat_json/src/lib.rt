@@ -14,5 +14,5 @@ mod step;
 
 pub use input::{ReadInputs, read_input, read_inputs, read_value};
 pub use path::Path;
-pub use refusal::{InputRefusal, Reason, Refusal};
+pub use refusal::{InputRefusal, PartRefusal, Reason};
 pub use step::Step;

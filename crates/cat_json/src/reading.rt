@@ -12,7 +12,7 @@ ghost use Rattle.cat_json.specs.Reads.{read_as, elements_of, data_elements, data
 use crate::duration::duration_in;
 use crate::known::{extra, unknown_field};
 use crate::scalar::{boolean_in, date_in, decimal_in, integer_in, money_in};
-use crate::{Reason, Refusal, Step};
+use crate::{PartRefusal, Reason, Step};
 use cat_pos::{Boxed, ENTRIES_BOUND, List, Text};
 use cat_value::{Case, Cases, Decls, Fields, Ty, Value, Values, declarations_are_sound};
 use serde_json::Value as Json;
@@ -30,7 +30,7 @@ pub(crate) fn read_at(
     ty: &Ty,
     decls: &Decls,
     depth: u32,
-) -> Result<Result<Value, Refusal>, AllocError>
+) -> Result<Result<Value, PartRefusal>, AllocError>
     requires { nesting (view value.now) ≤ depth }
     ensures { IfOk result (λ read. read ≡ read_as decls.now (view value.now) ty.now) }
 {
@@ -48,12 +48,12 @@ pub(crate) fn read_at(
 }
 
 /// What is read, where each refusal is one of the whole.
-fn whole_read(alloc: Global, read: Result<Value, Reason>) -> Result<Value, Refusal>
+fn whole_read(alloc: Global, read: Result<Value, Reason>) -> Result<Value, PartRefusal>
     ensures { result ≡ of_whole read }
 {
     match read {
         Ok(value) => Ok(value),
-        Err(reason) => Err(Refusal::new(alloc, reason)),
+        Err(reason) => Err(PartRefusal::new(alloc, reason)),
     }
 }
 
@@ -65,16 +65,16 @@ fn list_in(
     element: &Ty,
     decls: &Decls,
     depth: u32,
-) -> Result<Result<Value, Refusal>, AllocError>
+) -> Result<Result<Value, PartRefusal>, AllocError>
     requires { nesting (view value.now) ≤ depth }
     ensures { IfOk result (λ read. read ≡ reads.list_in (as_array (view value.now))
         (data_elements decls.now (view value.now)) element.now) }
 {
     let Some(elements) = value.as_array() else {
-        return Ok(Err(Refusal::new(alloc, Reason::WrongForm)));
+        return Ok(Err(PartRefusal::new(alloc, Reason::WrongForm)));
     };
     if elements.len() > MOST_ELEMENTS {
-        return Ok(Err(Refusal::new(alloc, Reason::OutOfRange)));
+        return Ok(Err(PartRefusal::new(alloc, Reason::OutOfRange)));
     }
     match elements_in(alloc, elements.as_slice(), element, decls, depth - 1)? {
         Ok(values) => Ok(Ok(Value::List(values))),
@@ -90,7 +90,7 @@ fn elements_in(
     ty: &Ty,
     decls: &Decls,
     depth: u32,
-) -> Result<Result<Values, Refusal>, AllocError>
+) -> Result<Result<Values, PartRefusal>, AllocError>
     requires { items_depth (items_view elements.now) ≤ depth }
     ensures { IfOk result (λ read. read ≡ reads.elements_in 0 (elements_of decls.now (items_view elements.now))
         ty.now) }
@@ -113,16 +113,16 @@ fn structure_in(
     structure: u32,
     decls: &Decls,
     depth: u32,
-) -> Result<Result<Value, Refusal>, AllocError>
+) -> Result<Result<Value, PartRefusal>, AllocError>
     requires { nesting (view value.now) ≤ depth }
     ensures { IfOk result (λ read. read ≡ reads.structure_in (fields_of decls.now structure)
         (as_object (view value.now)) (data_members decls.now (view value.now))) }
 {
     let Some(structure) = decls.structures.get(structure as usize) else {
-        return Ok(Err(Refusal::new(alloc, Reason::WrongForm)));
+        return Ok(Err(PartRefusal::new(alloc, Reason::WrongForm)));
     };
     let Some(members) = value.as_object() else {
-        return Ok(Err(Refusal::new(alloc, Reason::WrongForm)));
+        return Ok(Err(PartRefusal::new(alloc, Reason::WrongForm)));
     };
     match field_values(alloc, value, &structure.fields, decls, depth)? {
         Ok(values) => match unknown_field(alloc, members, &structure.fields)? {
@@ -140,7 +140,7 @@ fn field_values(
     fields: &Fields,
     decls: &Decls,
     depth: u32,
-) -> Result<Result<Values, Refusal>, AllocError>
+) -> Result<Result<Values, PartRefusal>, AllocError>
     requires { nesting (view value.now) ≤ depth }
     ensures { IfOk result (λ read. read ≡ reads.field_values (data_members decls.now (view value.now)) fields.now) }
 {
@@ -164,13 +164,13 @@ pub(crate) fn member_in(
     ty: &Ty,
     decls: &Decls,
     depth: u32,
-) -> Result<Result<Value, Refusal>, AllocError>
+) -> Result<Result<Value, PartRefusal>, AllocError>
     requires { nesting (view value.now) ≤ depth }
     ensures { IfOk result (λ read. read ≡ reads.member_in (data_members decls.now (view value.now)) name.now ty.now) }
 {
     let read = match value.get(name) {
         Some(member) => read_at(alloc, member, ty, decls, depth - 1)?,
-        None => Err(Refusal::new(alloc, Reason::Missing)),
+        None => Err(PartRefusal::new(alloc, Reason::Missing)),
     };
     match read {
         Ok(value) => Ok(Ok(value)),
@@ -188,14 +188,14 @@ fn enumeration_in(
     enumeration: u32,
     decls: &Decls,
     depth: u32,
-) -> Result<Result<Value, Refusal>, AllocError>
+) -> Result<Result<Value, PartRefusal>, AllocError>
     requires { nesting (view value.now) ≤ depth }
     ensures { IfOk result (λ read. read ≡ reads.enumeration_in (slice_get decls.now.enumerations enumeration)
         (as_str (view value.now)) (as_object (view value.now)) (data_members decls.now (view value.now))) }
 {
     declarations_are_sound(decls);
     let Some(enumeration) = decls.enumerations.get(enumeration as usize) else {
-        return Ok(Err(Refusal::new(alloc, Reason::WrongForm)));
+        return Ok(Err(PartRefusal::new(alloc, Reason::WrongForm)));
     };
     match value.as_str() {
         Some(name) => Ok(whole_read(alloc, bare_case(&enumeration.cases, name))),
@@ -225,21 +225,21 @@ fn only_case(
     cases: &Cases,
     decls: &Decls,
     depth: u32,
-) -> Result<Result<Value, Refusal>, AllocError>
+) -> Result<Result<Value, PartRefusal>, AllocError>
     requires nests { nesting (view value.now) ≤ depth }
     requires counted { length cases.now < ENTRIES_BOUND }
     ensures { IfOk result (λ read. read ≡ reads.only_case (data_members decls.now (view value.now)) cases.now
         (only_key (as_object (view value.now)))) }
 {
     let Some(name) = only_key(value) else {
-        return Ok(Err(Refusal::new(alloc, Reason::WrongForm)));
+        return Ok(Err(PartRefusal::new(alloc, Reason::WrongForm)));
     };
     let Some((number, case)) = case_named(cases, name) else {
-        return Ok(Err(Refusal::new(alloc, Reason::WrongForm)));
+        return Ok(Err(PartRefusal::new(alloc, Reason::WrongForm)));
     };
     match &case.content {
         Some(content) => full_case(alloc, value, name, number, content, decls, depth),
-        None => Ok(Err(Refusal::new(alloc, Reason::WrongForm))),
+        None => Ok(Err(PartRefusal::new(alloc, Reason::WrongForm))),
     }
 }
 
@@ -253,7 +253,7 @@ fn full_case(
     content: &Ty,
     decls: &Decls,
     depth: u32,
-) -> Result<Result<Value, Refusal>, AllocError>
+) -> Result<Result<Value, PartRefusal>, AllocError>
     requires { nesting (view value.now) ≤ depth }
     ensures { IfOk result (λ read. read ≡ reads.full_case (data_members decls.now (view value.now)) name.now
         (Some (number, Some content.now))) }

@@ -20,28 +20,28 @@ pub enum Reason {
 
 /// The part that is refused, and why.
 #[derive(Debug, Drop)]
-pub struct Refusal {
+pub struct PartRefusal {
     pub reason: Reason,
     pub path: Path,
 }
 
-impl Refusal {
+impl PartRefusal {
     /// A refusal of the whole.
-    pub fn new(alloc: Global, reason: Reason) -> Refusal
+    pub fn new(alloc: Global, reason: Reason) -> PartRefusal
         ensures { result ≡ record { reason = reason; path = [] } }
     {
-        Refusal {
+        PartRefusal {
             reason,
             path: Path::new(alloc),
         }
     }
 
     /// The refusal, seen from what the part is a part of.
-    pub fn under(self, step: Step) -> Result<Refusal, AllocError>
+    pub fn under(self, step: Step) -> Result<PartRefusal, AllocError>
         ensures { IfOk result (λ refusal. refusal ≡ record { reason = self.reason; path = step ∷ self.path }) }
     {
-        let Refusal { reason, path } = self;
-        Ok(Refusal {
+        let PartRefusal { reason, path } = self;
+        Ok(PartRefusal {
             reason,
             path: path.under(step)?,
         })

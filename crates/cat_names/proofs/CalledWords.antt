@@ -17,7 +17,8 @@ use Rattle.cat_scope.specs.declared.expr.Expr.TheViews as expr
 use Rattle.cat_scope.specs.Names.{IsOneOf}
 use Rattle.cat_scope.specs.Mentions.{own_scope, scopes_named}
 use Rattle.cat_scope.proofs.Exported.{names_by_level}
-use Rattle.cat_names.proofs.ListLaws.{all_join, behind, in_front}
+use Rattle.cat_names.proofs.ListLaws.{behind, in_front}
+use Rattle.cat_scope.proofs.Exported.{all_append}
 use Rattle.cat_names.specs.declared.fault.Fault.TheVariants.{TypeMismatch}
 use Rattle.cat_names.specs.declared.typed.Typed.{Typed}
 use Rattle.cat_names.specs.Found.{Found, and_then, or_fault}
@@ -52,7 +53,7 @@ right_words ds ws vs ns = more_words ds vs (ws ++ vs) (λ w. behind w ws vs) ns
 pub both_words : (ds : Decls) (ws vs : List Name) (ns ms : List ℕ) → AreWordsOf ds ws ns → AreWordsOf ds vs ms
     → AreWordsOf ds (ws ++ vs) (ns ++ ms)
 both_words ds ws vs ns ms h i =
-    all_join (IsWordOf ds (ws ++ vs)) ns ms (left_words ds ws vs ns h) (right_words ds ws vs ms i)
+    all_append (IsWordOf ds (ws ++ vs)) ns ms (left_words ds ws vs ns h) (right_words ds ws vs ms i)
 
 -- what an expression calls is named by these words
 abbrev pub Calls : Decls → List Name → Typed → Type 0

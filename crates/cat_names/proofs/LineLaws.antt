@@ -18,7 +18,7 @@ use Rattle.cat_scope.specs.Names.{Names, AllHave}
 use Rattle.cat_scope.specs.Expected.{defs_placed, assertions_placed, parts_placed, lists_placed}
 use Rattle.cat_scope.specs.HasType.{HasType}
 use Rattle.cat_scope.specs.WellFormed.{DefTyped, AssertionTyped, PartTyped, IsWhole}
-use Rattle.cat_names.proofs.ListLaws.{all_join}
+use Rattle.cat_scope.proofs.Exported.{all_append}
 use Rattle.cat_names.specs.declared.typed.Typed.{Typed}
 use Rattle.cat_names.specs.Found.{Found}
 use Rattle.cat_names.specs.Written.{names_of, scopes_in}
@@ -87,7 +87,7 @@ module _ (ds : Decls) (sound : AreSound ds) (conditions : AreConditions ds) (sco
 
   in_block_join : (xs ys : List Line) → InBlock xs → InBlock ys → InBlock (xs ++ ys)
   in_block_join xs ys h i = record {
-    stand = all_join LineStands xs ys h.stand i.stand;
+    stand = all_append LineStands xs ys h.stand i.stand;
     none = declarations_join xs ys ∙ omega (arith, h.none, i.none);
   }
 
@@ -163,7 +163,7 @@ module _ (ds : Decls) (sound : AreSound ds) (conditions : AreConditions ds) (sco
   with_block m count b true more h = on_both InBlock (InSource m count) (InSource m count) (block_lines ns scope b)
       (all_lines (item_lines ns scope) more) _ (block_stands b) h
       (λ lines rest i j. record {
-        stand = all_join LineStands lines rest i.stand j.stand;
+        stand = all_append LineStands lines rest i.stand j.stand;
         before = λ less. declarations_join lines rest ∙ omega (arith, i.none, j.before less);
         declared = λ low high. declarations_join lines rest ∙ omega (arith, i.none, j.declared low high);
       })

@@ -2,6 +2,7 @@
 use Rattle.std.proofs.Common.{◌≡◌, ℕ, ◌+◌, List, [], ◌∷◌, ◌++◌, arith, inl, inr}
 use Rattle.cat_order.specs.Order.{times}
 use Rattle.cat_scope.specs.Names.{AllHave, IsOneOf}
+use Rattle.cat_scope.proofs.Exported.{all_append}
 
 -- one of a list is one of a longer list
 pub in_front : {A : Type 0} (x : A) (xs ys : List A) → IsOneOf x xs → IsOneOf x (xs ++ ys)
@@ -12,10 +13,6 @@ in_front x (y ∷ xs) ys (inr h) = inr (in_front x xs ys h)
 pub behind : {A : Type 0} (x : A) (xs ys : List A) → IsOneOf x ys → IsOneOf x (xs ++ ys)
 behind x [] ys h = h
 behind x (y ∷ xs) ys h = inr (behind x xs ys h)
-
-pub all_join : {A : Type 0} (P : A → Type 0) (xs ys : List A) → AllHave P xs → AllHave P ys → AllHave P (xs ++ ys)
-all_join P [] ys h i = i
-all_join P (x ∷ xs) ys h i = (h.0, all_join P xs ys h.1 i)
 
 pub all_left : {A : Type 0} (P : A → Type 0) (xs ys : List A) → AllHave P (xs ++ ys) → AllHave P xs
 all_left P [] ys h = tt

@@ -30,7 +30,8 @@ use Rattle.cat_scope.specs.Names.{Names, AllHave, IsOneOf, is_in}
 use Rattle.cat_scope.specs.Mentions.{own_scope, scopes_named}
 use Rattle.cat_scope.specs.Orders.{in_condition, in_def, called_by_kind, called_by_items, called_in, once}
 use Rattle.cat_scope.proofs.Exported.{names_by_level}
-use Rattle.cat_names.proofs.ListLaws.{all_join, behind, each_of, in_front}
+use Rattle.cat_names.proofs.ListLaws.{behind, each_of, in_front}
+use Rattle.cat_scope.proofs.Exported.{all_append}
 use Rattle.cat_names.specs.declared.typed.Typed.{Typed}
 use Rattle.cat_names.specs.declared.typed.Local.{Local}
 use Rattle.cat_names.specs.Meaning.{meant}
@@ -118,7 +119,7 @@ module _ (ns : Names) (scope : ℕ) where
   lines_more ws vs more (line ∷ lines) h = (line_more ws vs more line h.0, lines_more ws vs more lines h.1)
 
   both_lines : (ws vs : List Name) (xs ys : List Line) → LinesBy ws xs → LinesBy vs ys → LinesBy (ws ++ vs) (xs ++ ys)
-  both_lines ws vs xs ys h i = all_join (LineBy (ws ++ vs)) xs ys
+  both_lines ws vs xs ys h i = all_append (LineBy (ws ++ vs)) xs ys
       (lines_more ws (ws ++ vs) (λ w. in_front w ws vs) xs h) (lines_more vs (ws ++ vs) (λ w. behind w ws vs) ys i)
 
   definition_calls : (block : Option Node) (l : Lead) (p : Pos) (t : TargetName) (c : Option Node) (e : Node)
@@ -146,7 +147,7 @@ module _ (ns : Names) (scope : ℕ) where
       on_both (λ own. Unit {0}) (λ k. By front (in_condition scopes_named k))
       (λ (d : Def). By front (in_def scopes_named d)) _ (whole_condition ns block c t.params aim.params) _
       (on_any _) (whole_calls block c t.params aim.params)
-      (λ own k j h. all_join (IsWordOf ns.decls front) (in_condition scopes_named k)
+      (λ own k j h. all_append (IsWordOf ns.decls front) (in_condition scopes_named k)
       (scopes_named (leaf.Literal p (literal.Boolean (is_fulfilled f)))) h
       (rw (
         names_by_level own_scope (leaf.Literal p (literal.Boolean (is_fulfilled f))),
@@ -196,7 +197,7 @@ module _ (ns : Names) (scope : ℕ) where
       let all = front ++ (use_words u ++ rest) in
       on_both (LinesBy (front ++ use_words u)) (LinesBy (front ++ rest)) (LinesBy all) (use_lines ns scope block u)
       (all_lines (use_lines ns scope block) us) _ (use_calls block u) (uses_calls block us)
-      (λ xs ys h i. all_join (LineBy all) xs ys
+      (λ xs ys h i. all_append (LineBy all) xs ys
       (lines_more (front ++ use_words u) all (here front (use_words u) rest) xs h)
       (lines_more (front ++ rest) all (there front (use_words u) rest) ys i))
 
@@ -211,7 +212,7 @@ module _ (ns : Names) (scope : ℕ) where
       on_both (ConditionBy front) (LinesBy all) (LinesBy all) (condition_meant ns b.condition [])
       (all_lines (use_lines ns scope b.condition) b.uses) _ (condition_calls b.condition [])
       (uses_calls b.condition b.uses)
-      (λ c lines h i. all_join (LineBy all) (condition_lines c) lines
+      (λ c lines h i. all_append (LineBy all) (condition_lines c) lines
       (lines_more front all (λ w. in_front w front (flat_map use_words b.uses)) (condition_lines c)
       (condition_by front c h)) i)
 
@@ -247,7 +248,7 @@ module _ (ns : Names) (scope : ℕ) where
       (called_by_items items)
   by_items all ws [] among = tt
   by_items all ws (i ∷ items) among =
-      all_join (IsCalledBy ns.decls all ws) (called_by_kind i.kind) (called_by_items items)
+      all_append (IsCalledBy ns.decls all ws) (called_by_kind i.kind) (called_by_items items)
       (each_of (λ n. i.kind ≡ kind.Called n) (IsCalledBy ns.decls all ws) (λ n is. inl (i, among i (inl refl), is))
       (called_by_kind i.kind) (kind_called i.kind))
       (by_items all ws items (λ j h. among j (inr h)))
@@ -259,13 +260,13 @@ module _ (ns : Names) (scope : ℕ) where
       → AllHave (IsCalledBy ns.decls all ws) (called_in all (map source_part lines) (defs_in lines)
       (assertions_in lines))
   lines_called all ws [] h = tt
-  lines_called all ws (Declaration ∷ lines) h = all_join (IsCalledBy ns.decls all ws) (called_by_items all) _
+  lines_called all ws (Declaration ∷ lines) h = all_append (IsCalledBy ns.decls all ws) (called_by_items all) _
       (by_items all ws all (λ i is. is)) (lines_called all ws lines h.1)
-  lines_called all ws (Condition e ∷ lines) h = all_join (IsCalledBy ns.decls all ws) (scopes_named e) _
+  lines_called all ws (Condition e ∷ lines) h = all_append (IsCalledBy ns.decls all ws) (scopes_named e) _
       (by_words all ws (scopes_named e) h.0) (lines_called all ws lines h.1)
-  lines_called all ws (Definition d ∷ lines) h = all_join (IsCalledBy ns.decls all ws) (in_def scopes_named d) _
+  lines_called all ws (Definition d ∷ lines) h = all_append (IsCalledBy ns.decls all ws) (in_def scopes_named d) _
       (by_words all ws (in_def scopes_named d) h.0) (lines_called all ws lines h.1)
-  lines_called all ws (Assertion a ∷ lines) h = all_join (IsCalledBy ns.decls all ws) (scopes_named a.condition) _
+  lines_called all ws (Assertion a ∷ lines) h = all_append (IsCalledBy ns.decls all ws) (scopes_named a.condition) _
       (by_words all ws (scopes_named a.condition) h.0) (lines_called all ws lines h.1)
 
   once_all : (P : ℕ → Type 0) (seen ms : List ℕ) → AllHave P ms → AllHave P (once seen ms)

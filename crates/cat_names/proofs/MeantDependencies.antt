@@ -24,7 +24,8 @@ use Rattle.cat_scope.specs.Mentions.{items_named}
 use Rattle.cat_scope.specs.WellFormed.{DefTyped, ConditionTyped}
 use Rattle.cat_scope.specs.Orders.{in_condition, in_def, in_defs_of, dependencies_from, item_dependencies, calls_in}
 use Rattle.cat_scope.specs.Orders.{once, scope_dependencies}
-use Rattle.cat_names.proofs.ListLaws.{all_join, each_of}
+use Rattle.cat_names.proofs.ListLaws.{each_of}
+use Rattle.cat_scope.proofs.Exported.{all_append}
 use Rattle.cat_names.specs.Found.{each_found}
 use Rattle.cat_names.specs.Bodies.{UnorderedBody, body_found}
 use Rattle.cat_names.specs.ScopeWords.{words_in}
@@ -60,14 +61,14 @@ module _ (ns : Names) (n : ℕ) where
   condition_items params (Some e) h = (named h).0
 
   def_items : (d : Def) → DefTyped ns n d → AllHave IsItem_ (in_def items_named d)
-  def_items d is = all_join IsItem_ (in_condition items_named d.condition) (items_named d.consequence)
+  def_items d is = all_append IsItem_ (in_condition items_named d.condition) (items_named d.consequence)
       (condition_items is.params d.condition is.condition) (named is.consequence).0
 
   defs_items : (item : ℕ) (defs : List Def) → AllHave (DefTyped ns n) defs
       → AllHave IsItem_ (in_defs_of items_named item defs)
   defs_items item [] all = tt
   defs_items item (d ∷ defs) all =
-      by (nat_eq d.target.item item) (all_join IsItem_ (in_def items_named d) _ (def_items d all.0)
+      by (nat_eq d.target.item item) (all_append IsItem_ (in_def items_named d) _ (def_items d all.0)
       (defs_items item defs all.1)) (defs_items item defs all.1)
     where
       by : (b : Bool) → AllHave IsItem_ (in_def items_named d ++ in_defs_of items_named item defs)

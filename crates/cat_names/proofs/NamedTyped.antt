@@ -1,5 +1,5 @@
 -- What a typed expression names is there: its items, and the scopes that it calls.
-use Rattle.cat_names.proofs.ListLaws.{all_join}
+use Rattle.cat_scope.proofs.Exported.{all_append}
 use Rattle.std.proofs.Common.{◌≡◌, ◌<◌, ℕ, List, [], ◌∷◌, ◌++◌, length, map, Option, Some, None, slice_get, refl, sym}
 use Rattle.std.proofs.Common.{ap, ◌∙◌, subst}
 use Rattle.cat_value.specs.declared.ty.Ty.{Ty}
@@ -66,7 +66,7 @@ module _ (ns : Names) where
   Named e = Both (items_named e) (scopes_named e)
 
   join : (xs ys us vs : List ℕ) → Both xs us → Both ys vs → Both (xs ++ ys) (us ++ vs)
-  join xs ys us vs h i = (all_join IsItem_ xs ys h.0 i.0, all_join IsScope_ us vs h.1 i.1)
+  join xs ys us vs h i = (all_append IsItem_ xs ys h.0 i.0, all_append IsScope_ us vs h.1 i.1)
 
   two : (a b : Expr) → Named a → Named b → Both (items_named a ++ items_named b) (scopes_named a ++ scopes_named b)
   two a b h i = join (items_named a) (items_named b) (scopes_named a) (scopes_named b) h i

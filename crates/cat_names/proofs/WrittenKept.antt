@@ -17,7 +17,7 @@ use Rattle.cat_tree.specs.declared.program.Variable.TheVariants as variable
 use Rattle.cat_tree.specs.declared.program.Item.{Item}
 use Rattle.cat_tree.specs.declared.program.Item.TheVariants as item
 use Rattle.cat_scope.specs.Names.{AllHave}
-use Rattle.cat_names.proofs.ListLaws.{all_join}
+use Rattle.cat_scope.proofs.Exported.{all_append}
 use Rattle.cat_names.specs.declared.fault.Fault.TheVariants.{NameUnknown}
 use Rattle.cat_names.specs.Found.{Found, or_fault, each_found}
 use Rattle.cat_names.specs.Lookup.{TypeNames, type_written, type_found}
@@ -137,7 +137,7 @@ module _ (names : TypeNames) (Low : Ty → Type 0) where
         condition = is_none t;
         params = found.1;
       } ≡ i = cc found.4 in
-      all_join IsLowWritten (option_to_list t) (map (λ f. f.ty) params)
+      all_append IsLowWritten (option_to_list t) (map (λ f. f.ty) params)
       (variable_back t found.0 found.2 (subst Low (sym (ap (λ (x : ItemDecl). x.ty) is)) low.type))
       (params_map params (each_back (λ f. type_found names f.ty) (λ f. IsLowWritten f.ty) Low
       (λ f u e l. type_back f.ty u e l) params found.1 found.3
@@ -164,22 +164,22 @@ module _ (names : TypeNames) (Low : Ty → Type 0) where
   cases_all : (cs : List CaseItem) → AllHave (λ c. IsLowContent c.content) cs
       → AllHave IsLowWritten (flat_map (λ c. option_to_list c.content) cs)
   cases_all [] all = tt
-  cases_all (c ∷ cs) all = all_join IsLowWritten (option_to_list c.content) _ all.0 (cases_all cs all.1)
+  cases_all (c ∷ cs) all = all_append IsLowWritten (option_to_list c.content) _ all.0 (cases_all cs all.1)
 
   variables_all : (vs : List Variable) → AllHave IsLowVariable vs → AllHave IsLowWritten (flat_map variable_types vs)
   variables_all [] all = tt
-  variables_all (v ∷ vs) all = all_join IsLowWritten (variable_types v) _ all.0 (variables_all vs all.1)
+  variables_all (v ∷ vs) all = all_append IsLowWritten (variable_types v) _ all.0 (variables_all vs all.1)
 
   pub all_written : (items : List Item) → AllHave HasLowFields (structures_in items)
       → AllHave HasLowCases (enumerations_in items)
       → AllHave HasLowVariables (scopes_in items) → AllHave IsLowWritten (flat_map types_written items)
   all_written [] s e v = tt
   all_written (item.Structure p u fields ∷ more) s e v =
-      all_join IsLowWritten (map (λ f. f.ty) fields) _ (params_map fields s.0) (all_written more s.1 e v)
+      all_append IsLowWritten (map (λ f. f.ty) fields) _ (params_map fields s.0) (all_written more s.1 e v)
   all_written (item.Enumeration p u cases ∷ more) s e v =
-      all_join IsLowWritten (flat_map (λ c. option_to_list c.content) cases) _ (cases_all cases e.0)
+      all_append IsLowWritten (flat_map (λ c. option_to_list c.content) cases) _ (cases_all cases e.0)
       (all_written more s e.1 v)
   all_written (item.Scope p u variables ∷ more) s e v =
-      all_join IsLowWritten (flat_map variable_types variables) _ (variables_all variables v.0)
+      all_append IsLowWritten (flat_map variable_types variables) _ (variables_all variables v.0)
       (all_written more s e v.1)
   all_written (item.Block b ∷ more) s e v = all_written more s e v

@@ -13,11 +13,11 @@ use Rattle.cat_scope.specs.declared.stop.Stop.TheVariants.{Stuck}
 use Rattle.cat_scope.specs.Replies.{on_one, dated}
 use Rattle.cat_scope.specs.Projections.{truth, integer, decimal, money, date, duration}
 use Rattle.cat_scope.specs.Comparing.{compared_in, compared, differ, equal_in, equal, is_equal}
-use Rattle.cat_shared.specs.declared.shared.Scalar.{Scalar}
-use Rattle.cat_shared.specs.declared.shared.Scalar.TheVariants as scalar
-use Rattle.cat_shared.specs.Scalars.{scalar_in, scalar_of}
+use Rattle.cat_operate.specs.declared.shared.PrimitiveValue.{PrimitiveValue}
+use Rattle.cat_operate.specs.declared.shared.PrimitiveValue.TheVariants as scalar
+use Rattle.cat_operate.specs.Scalars.{scalar_in, scalar_of}
 
-abbrev pub compared_scalar : Pos → Scalar → Value → Result Ordering Stop
+abbrev pub compared_scalar : Pos → PrimitiveValue → Value → Result Ordering Stop
 compared_scalar p (scalar.Integer a) w = on_one (integer w) (λ b. Ok (int_cmp a b))
 compared_scalar p (scalar.Decimal f) w = on_one (decimal w) (λ g. Ok (frac_order f g))
 compared_scalar p (scalar.Money a) w = on_one (money w) (λ b. Ok (int_cmp a b))
@@ -36,7 +36,7 @@ compared_at p _ w = refl
 pub compared_is : (p : Pos) (v w : Value) → compared p v w ≡ compared_scalar p (scalar_of v) w
 compared_is p v w = compared_at p (out-Value v) w
 
-abbrev pub equal_scalar : Pos → Scalar → Value → Value → Result Bool Stop
+abbrev pub equal_scalar : Pos → PrimitiveValue → Value → Value → Result Bool Stop
 equal_scalar p (scalar.Boolean a) v w = on_one (truth w) (λ b. Ok (not (differ a b)))
 equal_scalar p _ v w = on_one (compared p v w) (λ o. Ok (is_equal o))
 

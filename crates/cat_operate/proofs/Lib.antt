@@ -1,3 +1,5 @@
 pub mod Comparisons
-pub mod Elements
+pub mod ElementLemmas
 pub mod Ratios
+pub mod Telling
+pub mod Lower

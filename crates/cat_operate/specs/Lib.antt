@@ -1,0 +1,4 @@
+pub mod Nodes
+pub mod Falls
+pub mod Telling
+pub mod Scalars

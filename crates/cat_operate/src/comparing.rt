@@ -3,10 +3,10 @@ ghost use Rattle.std.specs.Prelude.{◌≡◌};
 ghost use Rattle.cat_scope.specs.Comparing.{compared, equal};
 
 use crate::faults::date_stop;
+use crate::{PrimitiveValue, SharedValue};
 use cat_date::{cmp_day, cmp_span};
 use cat_pos::Pos;
 use cat_scope::Stop;
-use cat_shared::{Scalar, SharedValue};
 use std::cmp::Ordering;
 
 /// The order of two values; booleans and values with parts have none.
@@ -15,16 +15,16 @@ pub(crate) fn compared(pos: Pos, left: &SharedValue, right: &SharedValue) -> Res
     ensures { result ≡ compared pos left.now right.now }
 {
     match left.scalar() {
-        Scalar::Integer(whole) => Ok(whole.cmp(right.integer()?)),
-        Scalar::Decimal(frac) => Ok(frac.cmp(right.decimal()?)),
-        Scalar::Money(money) => Ok(money.cmp(right.money()?)),
-        Scalar::Date(day) => Ok(cmp_day(day, right.date()?)),
-        Scalar::Duration(span) => match cmp_span(span, right.duration()?) {
+        PrimitiveValue::Integer(whole) => Ok(whole.cmp(right.integer()?)),
+        PrimitiveValue::Decimal(frac) => Ok(frac.cmp(right.decimal()?)),
+        PrimitiveValue::Money(money) => Ok(money.cmp(right.money()?)),
+        PrimitiveValue::Date(day) => Ok(cmp_day(day, right.date()?)),
+        PrimitiveValue::Duration(span) => match cmp_span(span, right.duration()?) {
             Ok(order) => Ok(order),
             Err(fault) => Err(date_stop(pos, fault)),
         },
-        Scalar::Boolean(_) => Err(Stop::Stuck),
-        Scalar::Compound => Err(Stop::Stuck),
+        PrimitiveValue::Boolean(_) => Err(Stop::Stuck),
+        PrimitiveValue::Compound => Err(Stop::Stuck),
     }
 }
 
@@ -34,7 +34,7 @@ pub(crate) fn equal(pos: Pos, left: &SharedValue, right: &SharedValue) -> Result
     ensures { result ≡ equal pos left.now right.now }
 {
     match left.scalar() {
-        Scalar::Boolean(truth) => Ok(truth == right.truth()?),
+        PrimitiveValue::Boolean(truth) => Ok(truth == right.truth()?),
         _ => Ok(compared(pos, left, right)? == Ordering::Equal),
     }
 }

@@ -3,11 +3,11 @@ ghost use Rattle.std.specs.Prelude.{◌≡◌};
 ghost use Rattle.cat_value.specs.declared.value.Value.TheVariants as flat;
 ghost use Rattle.cat_scope.specs.Replies.{num_stop, date_stop, exact, dated};
 
+use crate::SharedValue;
 use cat_date::{DateFault, Day, Span};
 use cat_num::{Frac, Money, NumFault, Whole};
 use cat_pos::Pos;
 use cat_scope::Stop;
-use cat_shared::SharedValue;
 use cat_value::FaultKind;
 
 fn num_stop(pos: Pos, fault: NumFault) -> Stop

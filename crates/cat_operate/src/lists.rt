@@ -5,14 +5,14 @@ ghost use Rattle.cat_scope.specs.Lists.{contained, summed, zero_of, adding};
 use crate::comparing::equal;
 use crate::numbers::over_one;
 use crate::operating::operate;
+use crate::{Elements, SharedValue};
 use cat_date::{Rounding, Span};
 use cat_num::{Money, Whole};
 use cat_pos::Pos;
 use cat_scope::{BinaryOp, Stop, SumKind};
-use cat_shared::{Elements, SharedValue};
 
 /// Whether a list has a value: true at the first element that is equal to it.
-#[tactic(auto, using(crate::proofs::Elements::containing))]
+#[tactic(auto, using(crate::proofs::ElementLemmas::containing))]
 pub fn contained(pos: Pos, value: &SharedValue, elements: &Elements) -> Result<SharedValue, Stop>
     ensures { result ≡ contained pos value.now elements.now }
 {
@@ -47,7 +47,7 @@ fn adding(kind: SumKind) -> BinaryOp
 }
 
 /// The sum of a list, from zero on in its order.
-#[tactic(auto, using(crate::proofs::Elements::summing))]
+#[tactic(auto, using(crate::proofs::ElementLemmas::summing))]
 pub fn summed(kind: SumKind, pos: Pos, elements: &Elements) -> Result<SharedValue, Stop>
     ensures { result ≡ summed kind pos elements.now (zero_of kind) }
 {

@@ -3,6 +3,7 @@ ghost use Rattle.std.specs.Prelude.{◌≡◌};
 ghost use Rattle.cat_scope.specs.Composed.{literal_value};
 ghost use Rattle.cat_scope.specs.Operators.{convert, operate};
 
+use crate::SharedValue;
 use crate::comparing::{compared, equal};
 use crate::faults::{day_at, frac_at, money_at, span_at, whole_at};
 use crate::numbers::{
@@ -12,7 +13,6 @@ use cat_date::{Rounding, add_span, days_between, span_add, span_neg, span_sub, s
 use cat_num::{frac_of_decimal, money_over, money_times, round_half_away, round_units, truncate};
 use cat_pos::Pos;
 use cat_scope::{BinaryOp, Literal, Stop, UnaryOp};
-use cat_shared::SharedValue;
 use std::cmp::Ordering;
 
 pub fn literal_value(literal: &Literal) -> SharedValue

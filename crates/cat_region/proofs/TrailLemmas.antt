@@ -19,7 +19,7 @@ use Rattle.cat_region.specs.declared.extent.Extent.{Extent}
 use Rattle.cat_region.specs.declared.extent.Extent.TheVariants.{Ranks, Cases}
 use Rattle.cat_region.specs.declared.extent.Range.{Range}
 use Rattle.cat_region.specs.declared.narrowing.Narrowing.{Narrowing}
-use Rattle.cat_region.specs.declared.region.Step.{Step}
+use Rattle.cat_region.specs.declared.region.NarrowingStep.{NarrowingStep}
 use Rattle.cat_region.specs.Regions.{is_dim, is_cut_at, last_narrowing}
 use Rattle.cat_region.specs.inside.Trails.{narrowings_of, IsKept, AreKept, IsTrail, decided_by}
 use Rattle.cat_region.specs.Extents.{start, after_one, after, narrowed, limit, is_under, narrowed_range, narrowed_set}
@@ -134,12 +134,12 @@ set-back [] k old new at = absurd (cc)
 set-back (e ∷ es) zero old new at = ap (λ x. x ∷ es) (sym (same_extent e old at))
 set-back (e ∷ es) (suc k) old new at = ap (λ xs. e ∷ xs) (set-back es k old new at)
 
-narrowings-more : (ss : List Step) (s : Step) → narrowings_of (ss ++ s ∷ []) ≡ narrowings_of ss ++ s.narrowing ∷ []
+narrowings-more : (ss : List NarrowingStep) (s : NarrowingStep) → narrowings_of (ss ++ s ∷ []) ≡ narrowings_of ss ++ s.narrowing ∷ []
 narrowings-more [] s = refl
 narrowings-more (t ∷ ss) s = ap (λ ns. t.narrowing ∷ ns) (narrowings-more ss s)
 
 -- the steps are kept with one more, and with one less
-kept-more : (dims : List Dim) (made : List Narrowing) (ss : List Step) (s : Step) → AreKept dims made ss
+kept-more : (dims : List Dim) (made : List Narrowing) (ss : List NarrowingStep) (s : NarrowingStep) → AreKept dims made ss
     → IsKept dims (made ++ narrowings_of ss) s
     → AreKept dims made (ss ++ s ∷ [])
 kept-more dims made [] s kept last = (subst (λ (ns : List Narrowing). IsKept dims ns s) (append-nil made) last, tt)
@@ -150,7 +150,7 @@ kept-more dims made (t ∷ ss) s kept last = (
       (sym (append_assoc made (t.narrowing ∷ []) (narrowings_of ss))) last),
 )
 
-kept-less : (dims : List Dim) (made : List Narrowing) (ss : List Step) (s : Step) → AreKept dims made (ss ++ s ∷ [])
+kept-less : (dims : List Dim) (made : List Narrowing) (ss : List NarrowingStep) (s : NarrowingStep) → AreKept dims made (ss ++ s ∷ [])
     → AreKept dims made ss × IsKept dims (made ++ narrowings_of ss) s
 kept-less dims made [] s kept = (tt, subst (λ (ns : List Narrowing). IsKept dims ns s) (sym (append-nil made)) kept.0)
 kept-less dims made (t ∷ ss) s kept =
@@ -160,7 +160,7 @@ kept-less dims made (t ∷ ss) s kept =
           (append_assoc made (t.narrowing ∷ []) (narrowings_of ss)) rest.1,
     )
 
-take-more : (ss : List Step) (i : ℕ) (s : Step) → slice_get ss i ≡ Some s → take (i + 1) ss ≡ take i ss ++ s ∷ []
+take-more : (ss : List NarrowingStep) (i : ℕ) (s : NarrowingStep) → slice_get ss i ≡ Some s → take (i + 1) ss ≡ take i ss ++ s ∷ []
 take-more ss i s at = take_more ss i s (slice_get_within ss i s at)
     ∙ ap (λ x. take i ss ++ x ∷ []) (get_or_from_slice_get ss i s s at)
 
@@ -169,13 +169,13 @@ all-more : (dims : List Dim) (ns : List Narrowing) (n : Narrowing)
     → IsTrue (list_all (λ m. is_cut_at dims m.dim m.cut) (ns ++ n ∷ []))
 all-more dims ns n h k = grind (arith, list_all-append)
 
-pub narrowings-made : (trail : List Step) (made : ℕ) (s : Step) → made < length trail
+pub narrowings-made : (trail : List NarrowingStep) (made : ℕ) (s : NarrowingStep) → made < length trail
     → narrowings_of (take (made + 1) (slice_set trail made s)) ≡ narrowings_of (take made trail) ++ s.narrowing ∷ []
 narrowings-made trail made s room = ap narrowings_of (take_more_set trail made s room)
     ∙ narrowings-more (take made trail) s
 
 -- a step more
-pub IsTrail-more : {dims : List Dim} {left : List Extent} {empty : Bool} {trail : List Step} {made : ℕ} (s : Step)
+pub IsTrail-more : {dims : List Dim} {left : List Extent} {empty : Bool} {trail : List NarrowingStep} {made : ℕ} (s : NarrowingStep)
     → IsTrail dims left empty trail made
     → made < length trail → IsTrue (is_cut_at dims s.narrowing.dim s.narrowing.cut)
     → slice_get left s.narrowing.dim ≡ Some s.left → s.empty ≡ empty
@@ -200,20 +200,20 @@ IsTrail-more {dims} {left} {empty} {trail} {made} s is room kind at none =
       none = ap (λ b. b || is_none new) is.none
           ∙ sym (some_none-set left s.narrowing.dim s.left new at
           (narrowed-none s.left s.narrowing.cut s.narrowing.yes));
-      kept = subst (λ (ss : List Step). AreKept dims [] ss) (sym (take_more_set trail made s room))
+      kept = subst (λ (ss : List NarrowingStep). AreKept dims [] ss) (sym (take_more_set trail made s room))
           (kept-more dims [] (take made trail) s is.kept
           (record { left = here; empty = none ∙ is.none ∙ ap (list_any is_none) is.leaves }));
     }
 
 -- what the last step of some kept
-last-kept : {dims : List Dim} {left : List Extent} {empty : Bool} {trail : List Step} (made : ℕ) (s : Step)
+last-kept : {dims : List Dim} {left : List Extent} {empty : Bool} {trail : List NarrowingStep} (made : ℕ) (s : NarrowingStep)
     → IsTrail dims left empty trail (made + 1) → slice_get trail made ≡ Some s
     → AreKept dims [] (take made trail) × IsKept dims (narrowings_of (take made trail)) s
 last-kept {dims} {left} {empty} {trail} made s is at =
-    kept-less dims [] (take made trail) s (subst (λ (ss : List Step). AreKept dims [] ss) (take-more trail made s at)
+    kept-less dims [] (take made trail) s (subst (λ (ss : List NarrowingStep). AreKept dims [] ss) (take-more trail made s at)
     is.kept)
 
-pub narrowings-last : (trail : List Step) (made : ℕ) (s : Step) → slice_get trail made ≡ Some s
+pub narrowings-last : (trail : List NarrowingStep) (made : ℕ) (s : NarrowingStep) → slice_get trail made ≡ Some s
     → narrowings_of (take (made + 1) trail) ≡ narrowings_of (take made trail) ++ s.narrowing ∷ []
 narrowings-last trail made s at = ap narrowings_of (take-more trail made s at) ∙ narrowings-more (take made trail) s
 
@@ -223,7 +223,7 @@ all-less : (dims : List Dim) (ns : List Narrowing) (n : Narrowing)
 all-less dims ns n h = grind (arith, list_all-append)
 
 -- a step less
-pub IsTrail-less : {dims : List Dim} {left : List Extent} {empty : Bool} {trail : List Step} (made : ℕ) (s : Step)
+pub IsTrail-less : {dims : List Dim} {left : List Extent} {empty : Bool} {trail : List NarrowingStep} (made : ℕ) (s : NarrowingStep)
     → IsTrail dims left empty trail (made + 1) → slice_get trail made ≡ Some s
     → IsTrail dims (slice_set left s.narrowing.dim s.left) s.empty trail made
 IsTrail-less {dims} {left} {empty} {trail} made s is at =
@@ -250,7 +250,7 @@ IsTrail-less {dims} {left} {empty} {trail} made s is at =
     }
 
 -- the dimension of the last after_one is there
-pub last-within : {dims : List Dim} {left : List Extent} {empty : Bool} {trail : List Step} (made : ℕ) (s : Step)
+pub last-within : {dims : List Dim} {left : List Extent} {empty : Bool} {trail : List NarrowingStep} (made : ℕ) (s : NarrowingStep)
     → IsTrail dims left empty trail (made + 1) → slice_get trail made ≡ Some s → s.narrowing.dim < length left
 last-within {dims} {left} {empty} {trail} made s is at =
     let last = last-kept made s is at in
@@ -259,12 +259,12 @@ last-within {dims} {left} {empty} {trail} made s is at =
     let now = ap length is.leaves ∙ length-lefts 0 dims (narrowings_of (take (made + 1) trail)) in
     omega arith
 
-length-narrowings : (ss : List Step) → length (narrowings_of ss) ≡ length ss
+length-narrowings : (ss : List NarrowingStep) → length (narrowings_of ss) ≡ length ss
 length-narrowings [] = refl
 length-narrowings (t ∷ ss) = ap suc (length-narrowings ss)
 
 -- how many narrowings stand in a trail
-pub length-made : (trail : List Step) (made : ℕ) → made ≤ length trail → length (narrowings_of (take made trail)) ≡ made
+pub length-made : (trail : List NarrowingStep) (made : ℕ) → made ≤ length trail → length (narrowings_of (take made trail)) ≡ made
 length-made trail made fits = length-narrowings (take made trail) ∙ length-take-le made trail fits
 
 -- a narrowing that is undone leaves those before it
@@ -272,7 +272,7 @@ pub narrowings-undone : (ns : List Narrowing) (n : Narrowing) → take (length (
 narrowings-undone ns n = take_at ns (n ∷ []) (length (ns ++ n ∷ []) - 1) (omega (arith, length-append ns (n ∷ [])))
 
 -- the narrowings without the last
-pub narrowings-less : (trail : List Step) (made : ℕ) (s : Step) → slice_get trail made ≡ Some s
+pub narrowings-less : (trail : List NarrowingStep) (made : ℕ) (s : NarrowingStep) → slice_get trail made ≡ Some s
     → narrowings_of (take made trail) ≡ take (length (narrowings_of (take (made + 1) trail)) - 1)
     (narrowings_of (take (made + 1) trail))
 narrowings-less trail made s at =
@@ -307,7 +307,7 @@ excludes-more dims ns room i c so e at =
     ∙ some_none-set (lefts 0 dims ns) i e (narrowed e c so) at (narrowed-none e c so)
 
 -- something is kept of a cut's dimension
-pub cut-kept : {dims : List Dim} {left : List Extent} {empty : Bool} {trail : List Step} {made : ℕ}
+pub cut-kept : {dims : List Dim} {left : List Extent} {empty : Bool} {trail : List NarrowingStep} {made : ℕ}
     → IsTrail dims left empty trail made
     → (i : ℕ) (c : Cut) → IsTrue (is_cut_at dims i c) → i < length left
 cut-kept {dims} {left} {empty} {trail} {made} is i c kind =
@@ -316,13 +316,13 @@ cut-kept {dims} {left} {empty} {trail} {made} is i c kind =
     omega arith
 
 -- whether nothing is left of some dimension is whether nothing is admitted
-pub none-kept : {dims : List Dim} {left : List Extent} {empty : Bool} {trail : List Step} {made : ℕ} (room : ℕ)
+pub none-kept : {dims : List Dim} {left : List Extent} {empty : Bool} {trail : List NarrowingStep} {made : ℕ} (room : ℕ)
     → IsTrail dims left empty trail made
     → empty ≡ admits_none (record { dims = dims; narrowings = narrowings_of (take made trail); room = room })
 unfolding admits_none
 none-kept room is = is.none ∙ ap (list_any is_none) is.leaves
 
-pub excludes-kept : {dims : List Dim} {left : List Extent} {empty : Bool} {trail : List Step} {made : ℕ} (room i : ℕ)
+pub excludes-kept : {dims : List Dim} {left : List Extent} {empty : Bool} {trail : List NarrowingStep} {made : ℕ} (room i : ℕ)
     (c : Cut) (so : Bool) (e : Extent)
     → IsTrail dims left empty trail made → slice_get left i ≡ Some e → empty ≡ false
     → is_none (narrowed e c so) ≡ excludes (record
@@ -333,7 +333,7 @@ excludes-kept {dims} {left} {empty} {trail} {made} room i c so e is at some =
     ∙ sym (excludes-more dims ns room i c so e (ap (λ (es : List Extent). slice_get es i) (sym is.leaves) ∙ at))
 
 -- what is decided, by what is kept
-pub decided-kept : {dims : List Dim} {left : List Extent} {empty : Bool} {trail : List Step} {made : ℕ} (room i : ℕ)
+pub decided-kept : {dims : List Dim} {left : List Extent} {empty : Bool} {trail : List NarrowingStep} {made : ℕ} (room i : ℕ)
     (c : Cut) (e : Extent)
     → IsTrail dims left empty trail made → slice_get left i ≡ Some e
     → decided_by empty e c ≡ decided_at (record
@@ -361,7 +361,7 @@ unfolding after
 lefts-none i [] = refl
 lefts-none i (d ∷ dims) = ap (λ es. start d ∷ es) (lefts-none (suc i) dims)
 
-pub IsTrail-none : (dims : List Dim) (left : List Extent) (empty : Bool) (trail : List Step)
+pub IsTrail-none : (dims : List Dim) (left : List Extent) (empty : Bool) (trail : List NarrowingStep)
     → IsTrue (list_all is_dim dims) → left ≡ map start dims
     → empty ≡ list_any is_none left → IsTrail dims left empty trail 0
 IsTrail-none dims left empty trail kinds is none =
@@ -370,14 +370,14 @@ IsTrail-none dims left empty trail kinds is none =
       sound = record {
         dims = kinds;
         narrowings =
-            subst (λ (ss : List Step). IsTrue (list_all (λ m. is_cut_at dims m.dim m.cut) (narrowings_of ss)))
+            subst (λ (ss : List NarrowingStep). IsTrue (list_all (λ m. is_cut_at dims m.dim m.cut) (narrowings_of ss)))
             (take-none trail) refl;
       };
-      leaves = is ∙ lefts-none 0 dims ∙ ap (λ (ss : List Step). lefts 0 dims (narrowings_of ss)) (take-none trail);
+      leaves = is ∙ lefts-none 0 dims ∙ ap (λ (ss : List NarrowingStep). lefts 0 dims (narrowings_of ss)) (take-none trail);
       none = none;
-      kept = subst (λ (ss : List Step). AreKept dims [] ss) (take-none trail) tt;
+      kept = subst (λ (ss : List NarrowingStep). AreKept dims [] ss) (take-none trail) tt;
     }
   where
-    take-none : (ss : List Step) → [] ≡ take 0 ss
+    take-none : (ss : List NarrowingStep) → [] ≡ take 0 ss
     take-none [] = refl
     take-none (s ∷ ss) = refl

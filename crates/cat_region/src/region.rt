@@ -22,7 +22,7 @@ use std::marker::Model;
 
 /// A narrowing, with what was left of its dimension before it, and whether nothing was admitted then.
 #[derive(Clone, Copy, PartialEq, Eq, Debug)]
-pub struct Step {
+pub struct NarrowingStep {
     pub narrowing: Narrowing,
     pub left: Extent,
     pub empty: bool,
@@ -36,7 +36,7 @@ pub struct Region {
     dims: List<Dim>,
     left: List<Extent>,
     empty: bool,
-    trail: List<Step>,
+    trail: List<NarrowingStep>,
     made: usize,
 }
 
@@ -92,7 +92,7 @@ impl Region {
         ensures { IfOk result (λ region. region ≡ record { dims = dims.now; narrowings = []; room = depth }) }
     {
         let left = all_of(alloc, dims)?;
-        let unmade = Step {
+        let unmade = NarrowingStep {
             narrowing: Narrowing {
                 dim: 0,
                 cut: Cut::IsTrue,
@@ -126,7 +126,7 @@ impl Region {
             cut: *cut,
             yes,
         };
-        let step = Step {
+        let step = NarrowingStep {
             narrowing,
             left,
             empty: self.empty,

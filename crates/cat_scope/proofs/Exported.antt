@@ -17,3 +17,4 @@ pub use Rattle.cat_scope.proofs.Equations.{eval_Binary, eval_And, eval_Or, eval_
 pub use Rattle.cat_scope.proofs.Equations.{eval_Case_None, eval_Case_Some, eval_Structure, eval_List, eval_ForAll}
 pub use Rattle.cat_scope.proofs.Equations.{eval_Exists, eval_Map, eval_Filter, eval_Combine, eval_Contains}
 pub use Rattle.cat_scope.proofs.Equations.{eval_Length, eval_Sum, eval_Call, eval_ScopeCall}
+pub use Rattle.cat_scope.proofs.ListLemmas.{all_append, map_append}

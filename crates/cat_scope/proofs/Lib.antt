@@ -17,3 +17,4 @@ mod Forms
 mod FunctionSamples
 mod OperatorSamples
 pub mod Exported
+mod ListLemmas

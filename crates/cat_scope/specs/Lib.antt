@@ -28,6 +28,7 @@ pub mod Orders
 pub mod WellFormed
 pub mod Named
 pub mod Forests
+pub mod AllForests
 pub mod Same
 pub mod OperatorNumbers
 pub mod SameTree

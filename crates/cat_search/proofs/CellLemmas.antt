@@ -34,7 +34,7 @@ use Rattle.cat_guard.specs.Trees.{Tree, with_answer, leaves}
 use Rattle.cat_guard.specs.Trees as tree
 use Rattle.cat_guard.specs.Valuations.{dims_of}
 use Rattle.cat_guard.proofs.Exported.{both_true, all_more, targets_sound, sound_parts}
-use Rattle.cat_judge.specs.Judgements.{atoms_in}
+use Rattle.cat_guard.specs.Judgements.{atoms_in}
 use Rattle.cat_search.specs.Cells.{cut_before, cuts_of, distinct_cuts, parted, cells_from, cells}
 use Rattle.cat_search.specs.Searched.{everything, IsSearched, rests}
 use Rattle.cat_search.proofs.SampleLemmas.{weight, weight_most, weight_split, weight_other, weight_some, CutsIn}

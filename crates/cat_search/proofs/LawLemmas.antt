@@ -16,7 +16,7 @@ use Rattle.cat_guard.specs.Trees.{Tree, with_answer, answering, Closed, AreClose
 use Rattle.cat_guard.specs.Trees as tree
 use Rattle.cat_guard.specs.Valuations.{dims_of}
 use Rattle.cat_guard.proofs.Exported.{both_true, all_more, targets_sound, sound_parts}
-use Rattle.cat_judge.specs.Judgements.{atoms_in}
+use Rattle.cat_guard.specs.Judgements.{atoms_in}
 use Rattle.cat_search.specs.declared.bad.BadLeaf.{BadLeaf}
 use Rattle.cat_search.specs.Parted.{ends, IsInOne}
 use Rattle.cat_search.specs.Searched.{everything, IsFound, IsSearched, bad_among, leaves_from, size}

@@ -18,8 +18,8 @@ use Rattle.cat_guard.specs.Judged.{answers_in}
 use Rattle.cat_guard.specs.Soundness.{is_sound}
 use Rattle.cat_guard.specs.Trees.{with_answer, answering}
 use Rattle.cat_guard.specs.Valuations.{dims_of}
-use Rattle.cat_judge.specs.declared.live.LiveGroup.{LiveGroup}
-use Rattle.cat_judge.specs.Live.{IsLiveOf}
+use Rattle.cat_guard.specs.declared.live.LiveGroup.{LiveGroup}
+use Rattle.cat_guard.specs.Live.{IsLiveOf}
 use Rattle.cat_search.specs.declared.levels.Level.{Level}
 use Rattle.cat_search.specs.declared.levels.Levels.{Levels}
 use Rattle.cat_search.specs.declared.searching.Searching.{Searching}

@@ -11,3 +11,7 @@ mod UnderwayLemmas
 mod ValueLemmas
 mod LevelLemmas
 mod StackLemmas
+mod WayAskedLemmas
+mod WayExamples
+mod FollowingLemmas
+mod OnWayLemmas

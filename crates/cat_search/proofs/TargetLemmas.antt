@@ -15,7 +15,7 @@ use Rattle.cat_guard.specs.Formulas.{asked}
 use Rattle.cat_guard.specs.GuardFormulas.{formula_of}
 use Rattle.cat_guard.specs.Soundness.{are_below, def_is_sound, target_is_sound, is_sound}
 use Rattle.cat_guard.proofs.Exported.{both_true, targets_sound, sound_parts}
-use Rattle.cat_judge.specs.Judgements.{asked_in, atoms_in}
+use Rattle.cat_guard.specs.Judgements.{asked_in, atoms_in}
 
 pub on_ok : {A E : Type 0} {P Q : Type 0} (r : Result A E) → OnOk r P → (P → Q) → OnOk r Q
 on_ok (Ok a) p go = go p

@@ -10,7 +10,7 @@ use Rattle.cat_guard.specs.declared.table.TableTarget.{TableTarget}
 use Rattle.cat_guard.specs.Numbering.{firsts}
 use Rattle.cat_guard.specs.Terms.{same_cut}
 use Rattle.cat_guard.specs.Valuations.{dims_of}
-use Rattle.cat_judge.specs.Judgements.{atoms_in}
+use Rattle.cat_guard.specs.Judgements.{atoms_in}
 use Rattle.cat_search.specs.declared.found.Search.{Search}
 use Rattle.cat_search.specs.declared.found.Search.TheVariants as search
 

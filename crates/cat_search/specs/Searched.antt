@@ -14,7 +14,7 @@ use Rattle.cat_guard.specs.Trees.{Tree, tree_of, answering, is_whole, leaves, Ar
 use Rattle.cat_guard.specs.Trees as tree
 use Rattle.cat_guard.specs.Valuations.{dims_of}
 use Rattle.cat_guard.specs.Verdicts.{Verdict, Conflict, Open}
-use Rattle.cat_judge.specs.Judgements.{atoms_in}
+use Rattle.cat_guard.specs.Judgements.{atoms_in}
 use Rattle.cat_search.specs.declared.bad.BadLeaf.{BadLeaf}
 use Rattle.cat_search.specs.declared.bad.Flaw.{Flaw}
 use Rattle.cat_search.specs.declared.bad.Flaw.TheVariants as flaw

@@ -1,4 +1,5 @@
+pub mod Following
+pub mod Levels
 pub mod Sides
 pub mod ToCome
 pub mod Underway
-pub mod Levels

@@ -4,7 +4,7 @@ ghost use Rattle.cat_num.specs.Whole.{Fits};
 ghost use Rattle.cat_scope.specs.Names.{IsOneOf};
 ghost use Rattle.cat_guard.specs.Formulas.{asked};
 ghost use Rattle.cat_guard.specs.GuardFormulas.{formula_of};
-ghost use Rattle.cat_judge.specs.Judgements.{asked_in, atoms_in};
+ghost use Rattle.cat_guard.specs.Judgements.{asked_in, atoms_in};
 
 use cat_date::number;
 use cat_guard::{Atom, Guard, GuardDef, Table};

@@ -3,7 +3,7 @@ ghost use Rattle.std.specs.Prelude.{◌≡◌, ◌<◌, ◌≤◌, Bool, None, A
 ghost use Rattle.cat_scope.specs.Names.{IsOneOf};
 ghost use Rattle.cat_guard.specs.Judged.{answers_in};
 ghost use Rattle.cat_guard.specs.Valuations.{dims_of};
-ghost use Rattle.cat_judge.specs.Judgements.{atoms_in};
+ghost use Rattle.cat_guard.specs.Judgements.{atoms_in};
 ghost use Rattle.cat_search.specs.Searched.{IsSplit};
 
 use cat_guard::{Atom, Table};

@@ -10,8 +10,7 @@ ghost use Rattle.cat_search.specs.Cells.{cells};
 ghost use Rattle.cat_search.specs.Parted.{ends, IsInOne};
 ghost use Rattle.cat_search.specs.Searched.{everything, has_value, IsSearched, bad_among, leaves_from, rests};
 
-use cat_guard::Table;
-use cat_judge::covered_leaves_are_closed;
+use cat_guard::{Table, covered_leaves_are_closed};
 
 /// Something is admitted before any narrowing where each term has a value.
 #[tactic(auto, using(crate::proofs::ValueLemmas::whole))]

@@ -7,8 +7,7 @@ ghost use Rattle.cat_guard.specs.declared.table.TableTarget.{TableTarget as Targ
 ghost use Rattle.cat_search.specs.inside.Levels.{IsLiveAt, IsLiveAbove, AreLiveOn, IsWayBack, is_past};
 
 use crate::stack::Stack;
-use cat_guard::Table;
-use cat_judge::{LiveGroups, all_live, live_size};
+use cat_guard::{LiveGroups, Table, all_live, live_size};
 use std::alloc::{AllocError, Global};
 
 /// What is live in a region on the way.

@@ -1,9 +1,10 @@
-//! Looks for the leaves of a decision tree of one target: the regions in which its rules come to something.
+//! The search for the decision tree of a target, and the regions of its leaves.
 #![tactic(auto)]
 
 mod asked;
 mod bad;
 mod choice;
+mod following;
 mod found;
 mod laws;
 mod levels;
@@ -12,6 +13,8 @@ mod searched;
 mod searching;
 mod sides;
 mod stack;
+mod way;
+mod way_laws;
 
 pub use bad::{BadLeaf, Flaw, Leaves};
 pub use found::Search;
@@ -20,3 +23,5 @@ pub use laws::{
     terms_with_values_admit_something, trees_without_bad_leaves_are_closed,
 };
 pub use searched::search;
+pub use way::{Answer, Way};
+pub use way_laws::{leaves_are_where_their_ways_lead, searched_trees_ask_atoms_of_the_table};

@@ -3,15 +3,14 @@ ghost use Rattle.std.specs.Prelude.{◌≡◌, ◌<◌, Some, None, All, IfSome,
 ghost use Rattle.cat_scope.specs.Names.{IsOneOf};
 ghost use Rattle.cat_guard.specs.Valuations.{dims_of};
 ghost use Rattle.cat_guard.specs.Judged.{answers_in};
-ghost use Rattle.cat_judge.specs.Judgements.{atoms_in};
-ghost use Rattle.cat_judge.specs.Live.{IsLiveOf};
+ghost use Rattle.cat_guard.specs.Judgements.{atoms_in};
+ghost use Rattle.cat_guard.specs.Live.{IsLiveOf};
 ghost use Rattle.cat_search.specs.declared.bad.Flaw.TheVariants.{NoValue as NoValueSeen};
 ghost use Rattle.cat_search.specs.inside.Underway.{IsMadeOf};
 
 use crate::bad::Flaw;
 use crate::choice::split_atom;
-use cat_guard::Table;
-use cat_judge::{Judgement, LiveGroups, judge_live};
+use cat_guard::{Judgement, LiveGroups, Table, judge_live};
 use cat_region::Region;
 
 /// A split on the atom of that number, or a leaf, maybe one that isn't covered.

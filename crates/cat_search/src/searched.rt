@@ -9,8 +9,7 @@ use crate::found::Search;
 use crate::laws::{searched_trees_stay_within_the_cells, trees_without_bad_leaves_are_closed};
 use crate::levels::Levels;
 use crate::searching::Searching;
-use cat_guard::{Table, TreeNode};
-use cat_judge::empty_regions_close_each_tree;
+use cat_guard::{Table, TreeNode, empty_regions_close_each_tree};
 use std::alloc::{AllocError, Global};
 
 /// Looks for the leaves of a target.

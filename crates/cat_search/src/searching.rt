@@ -10,8 +10,8 @@ ghost use Rattle.cat_guard.specs.declared.tree.TreeNode.TheVariants.{Rest as Res
 ghost use Rattle.cat_guard.specs.Trees.{is_tree, answering};
 ghost use Rattle.cat_guard.specs.Valuations.{dims_of};
 ghost use Rattle.cat_guard.specs.Judged.{answers_in};
-ghost use Rattle.cat_judge.specs.Judgements.{atoms_in};
-ghost use Rattle.cat_judge.specs.Live.{IsLiveOf};
+ghost use Rattle.cat_guard.specs.Judgements.{atoms_in};
+ghost use Rattle.cat_guard.specs.Live.{IsLiveOf};
 ghost use Rattle.cat_search.specs.declared.node.NextNode.TheVariants.{Leaf as LeafMade};
 ghost use Rattle.cat_search.specs.Searched.{IsSplit};
 ghost use Rattle.cat_search.specs.inside.Levels.{AreLiveOn, IsWayBack};
@@ -23,8 +23,10 @@ use crate::bad::{BadLeaf, Flaw, Leaves};
 use crate::levels::Levels;
 use crate::node::{NextNode, next_node};
 use crate::sides::to_false_side;
-use cat_guard::{CaseTree, Table, TreeNode, TreeNodes};
-use cat_judge::{LiveGroups, answer_atom, narrowing_keeps_what_is_live, still_live, whole_region};
+use cat_guard::{
+    CaseTree, LiveGroups, Table, TreeNode, TreeNodes, answer_atom, narrowing_keeps_what_is_live,
+    still_live, whole_region,
+};
 use cat_pos::List;
 use cat_region::Region;
 use std::alloc::{AllocError, Global};

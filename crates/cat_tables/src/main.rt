@@ -2,19 +2,15 @@
 #![tactic(auto)]
 
 use cat_rows::{Arguments, Problem};
-use cat_rows_except::{forest_answer, forest_chain_answer};
-use cat_rows_json::{
-    read_input_answer, read_inputs_answer, read_value_answer, write_answer, write_input_answer,
-    write_value_answer,
+use cat_rows_data::{
+    day_answer, forest_answer, forest_chain_answer, frac_answer, money_answer, order_answer,
+    read_input_answer, read_inputs_answer, read_value_answer, region_answer, span_answer,
+    whole_answer, write_answer, write_input_answer, write_value_answer,
 };
-use cat_rows_number::{day_answer, frac_answer, money_answer, span_answer, whole_answer};
-use cat_rows_order::order_answer;
-use cat_rows_program::{program_answer, program_cuts_answer, program_swaps_answer};
-use cat_rows_region::region_answer;
-use cat_rows_source::{chain_answer, gather_answer, weave_answer};
-use cat_rows_token::{token_positions_answer, tokens_answer};
-use cat_rows_tree::{
-    cuts_answer, node_positions_answer, tower_height_answer, tower_tree_answer, tree_answer,
+use cat_rows_text::{
+    chain_answer, cuts_answer, gather_answer, node_positions_answer, program_answer,
+    program_cuts_answer, program_swaps_answer, token_positions_answer, tokens_answer,
+    tower_height_answer, tower_tree_answer, tree_answer, weave_answer,
 };
 use std::alloc::Global;
 use std::io::{self, BufRead, BufReader, BufWriter, ErrorKind, Write};

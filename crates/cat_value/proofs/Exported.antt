@@ -1,4 +1,5 @@
--- What crates above may cite by path: rewriting and induction, which no clause of a law can give.
+-- What crates above may cite by path: rewriting, which no clause of a call can give.
+pub use Rattle.cat_value.proofs.Levels.{height_bounded, height_step, height_zero, level_cut, list_height}
 pub use Rattle.cat_value.proofs.Induction.{Each, Within, value_induction}
 pub use Rattle.cat_value.proofs.DependencyEquations.{naming}
 pub use Rattle.cat_value.proofs.Descending.{content_declared, enumeration_low, enumeration_there, fields_declared}

@@ -8,4 +8,7 @@ pub mod DefaultsTyped
 pub mod HeightLaws
 pub mod SoundLaws
 pub mod Examples
+mod Levels
+mod Rounds
+mod Highest
 pub mod Exported

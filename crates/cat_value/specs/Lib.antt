@@ -1,4 +1,3 @@
--- what public clauses cite
 pub mod Typing
 pub mod Defaults
 pub mod Inputs
@@ -6,6 +5,6 @@ pub mod Declarations
 pub mod Heights
 pub mod Dependencies
 pub mod Laws
--- what those are made of
 pub mod Entries
 pub mod Flat
+pub mod Table

@@ -1,4 +1,5 @@
-//! Types, values, declarations and outcomes: what a program computes with, and which values are of which type.
+//! Types, values, declarations and outcomes: what a program computes with, which values are of which type, and how high
+//! types are.
 #![tactic(auto)]
 
 mod declaration;
@@ -6,6 +7,7 @@ mod decls;
 mod laws;
 mod least;
 mod outcome;
+mod table;
 mod ty;
 mod typing;
 mod value;
@@ -21,6 +23,7 @@ pub use laws::{
 };
 pub use least::least_value;
 pub use outcome::{FaultKind, Input, Inputs, Outcome, Target};
+pub use table::{HIGHEST, TypeHeights};
 pub use ty::{Ty, Tys, copy_ty, same_ty};
 pub use typing::{is_declared, well_typed};
 pub use value::{Value, Values, copy, copy_all};

@@ -8,3 +8,10 @@ pub mod SizeLemmas
 pub mod Examples
 pub mod WholeLemmas
 pub mod ExpandLemmas
+pub mod SharedLaws
+pub mod SharingExamples
+pub mod ClassLemmas
+pub mod NumberingLemmas
+pub mod WritingLemmas
+pub mod BodyLemmas
+pub mod ShareLemmas

@@ -1,5 +1,8 @@
+pub mod Classes
 pub mod Meetings
-pub mod Sides
-pub mod Walking
-pub mod Sizing
 pub mod Nodes
+pub mod Numbering
+pub mod Sides
+pub mod Sizing
+pub mod Walking
+pub mod Writing

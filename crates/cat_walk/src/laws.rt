@@ -10,8 +10,7 @@ ghost use Rattle.cat_walk.specs.Coverage.{is_uncovered, leaf_regions};
 ghost use Rattle.cat_walk.specs.Walkable.{splits_pass, nodes_pass};
 ghost use Rattle.cat_walk.specs.LeafPlaces.{lists_of};
 
-use cat_guard::Table;
-use cat_judge::covered_leaves_are_closed;
+use cat_guard::{Table, covered_leaves_are_closed};
 
 /// A whole tree is closed in a region where none of its leaves is uncovered.
 pub fn covered_trees_are_closed(table: &Table)

@@ -12,8 +12,7 @@ use crate::laws::covered_trees_are_closed;
 use crate::meeting::{Met, next, start};
 use crate::refusal::WalkRefusal;
 use crate::sides::{to_false_side, undo_all};
-use cat_guard::{CitedTree, Table};
-use cat_judge::{Judgement, answer_atom, judge_box};
+use cat_guard::{CitedTree, Judgement, Table, answer_atom, judge_box};
 use cat_region::Region;
 use std::alloc::Global;
 

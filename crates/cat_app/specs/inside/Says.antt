@@ -12,15 +12,15 @@ use Rattle.cat_audit.specs.Complete.{AreClosedTrees, targets_in}
 use Rattle.cat_audit.specs.Reports.{last_verdict}
 use Rattle.cat_json.specs.declared.refusal.InputRefusal.{InputRefusal}
 use Rattle.cat_answer.specs.Answer.{answer_of}
-use Rattle.cat_gather.specs.declared.source.Source.{Source}
-use Rattle.cat_gather.specs.declared.source.GatherRefusal.{GatherRefusal}
-use Rattle.cat_gather.specs.declared.source.GatherRefusal.TheVariants as gathering
-use Rattle.cat_gather.specs.Gathered.{Whole}
-use Rattle.cat_gather.specs.Causes.{HasEnding}
+use Rattle.cat_weave.specs.declared.source.Source.{Source}
+use Rattle.cat_weave.specs.declared.source.GatherRefusal.{GatherRefusal}
+use Rattle.cat_weave.specs.declared.source.GatherRefusal.TheVariants as gathering
+use Rattle.cat_weave.specs.Gathered.{Whole}
+use Rattle.cat_weave.specs.Causes.{HasEnding}
 use Rattle.cat_words.specs.Asked.{IsCases}
 use Rattle.cat_app.specs.Words.{Ask, OfBands, OfScope, Request, ask_of, cases_in, request}
 use Rattle.cat_app.specs.Answers.{line, status_of, gathering_line, input_line}
-use Rattle.cat_cert_text.specs.declared.refusal.CertRefusal.{CertRefusal}
+use Rattle.cat_cert.specs.declared.refusal.CertRefusal.{CertRefusal}
 use Rattle.cat_app.specs.Checks.{HasCertificate, HasNoCertificate, certificate_line}
 use Rattle.cat_app.specs.Audits.{HasReport, audit_text, status_at}
 use Rattle.cat_app.specs.Table.{MayAnswer}

@@ -2,11 +2,11 @@
 use Rattle.std.specs.Prelude.{◌≡◌, ℕ, List, Option, Some, Result, Ok, Err, string_bytes}
 use Rattle.cat_io.specs.Shelf.{Shelved}
 use Rattle.cat_scope.specs.declared.programs.Program.{Program}
-use Rattle.cat_gather.specs.declared.source.Source.{Source}
-use Rattle.cat_gather.specs.declared.source.GatherRefusal.{GatherRefusal}
-use Rattle.cat_gather.specs.declared.source.GatherRefusal.TheVariants as gathering
-use Rattle.cat_gather.specs.Gathered.{Refused, Whole}
-use Rattle.cat_gather.specs.Causes.{AreReadableTogether, HasEnding}
+use Rattle.cat_weave.specs.declared.source.Source.{Source}
+use Rattle.cat_weave.specs.declared.source.GatherRefusal.{GatherRefusal}
+use Rattle.cat_weave.specs.declared.source.GatherRefusal.TheVariants as gathering
+use Rattle.cat_weave.specs.Gathered.{Refused, Whole}
+use Rattle.cat_weave.specs.Causes.{AreReadableTogether, HasEnding}
 use Rattle.cat_app.specs.Drills.{HasLine, bands_request, bands_shelf}
 use Rattle.cat_app.specs.Table.{MayAnswerTo, MayDrill}
 use Rattle.cat_app.specs.inside.Says.{HasCases, ask_in}

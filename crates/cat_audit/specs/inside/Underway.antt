@@ -3,7 +3,7 @@ use Rattle.std.specs.Prelude.{◌≡◌, ℕ, List, ◌++◌, map, slice_get, un
 use Rattle.cat_scope.specs.declared.programs.Program.{Program}
 use Rattle.cat_guard.specs.declared.table.Table.{Table}
 use Rattle.cat_guard.specs.declared.tree.CaseTree.{CaseTree}
-use Rattle.cat_finding.specs.declared.finding.TargetLine.{TargetLine}
+use Rattle.cat_audit.specs.declared.finding.TargetLine.{TargetLine}
 use Rattle.cat_audit.specs.declared.report.Verdict.{Verdict}
 use Rattle.cat_audit.specs.declared.report.Verdict.TheVariants as verdict
 use Rattle.cat_audit.specs.declared.report.NamedLine.{NamedLine}

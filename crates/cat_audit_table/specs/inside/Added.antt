@@ -14,31 +14,31 @@ use Rattle.cat_guard.specs.Formulas.{asked}
 use Rattle.cat_guard.specs.Questions.{Question}
 use Rattle.cat_guard.specs.Terms.{terms_of, atoms_of}
 use Rattle.cat_guard.specs.Tables.{def_formula, defs_questions, questions_of, guard_def, target_of}
-use Rattle.cat_numbering.specs.declared.numbering.Numbering.{Numbering}
-use Rattle.cat_numbering.specs.Numbered.{Grows, IsMade}
-use Rattle.cat_audit_table.specs.declared.scene.Scene.{Scene}
+use Rattle.cat_audit_table.specs.declared.numbering.Numbering.{Numbering}
+use Rattle.cat_audit_table.specs.Numbered.{Grows, IsMade}
+use Rattle.cat_audit_table.specs.declared.scene.TabledScope.{TabledScope}
 
 -- a definition more
-pub record AddsDef (scene : Scene) (d : Numbered) (before after : Numbering) (made : GuardDef) : Type 0 where
+pub record AddsDef (scene : TabledScope) (d : Numbered) (before after : Numbering) (made : GuardDef) : Type 0 where
   pub grown : Grows scene.items.now (asked (def_formula scene.decls.now d.1)) before after
   pub made_is : IsMade scene.items.now (asked (def_formula scene.decls.now d.1))
       (λ qs. guard_def scene.decls.now qs d) before made
 
 -- some definitions more
-pub record AddsDefs (scene : Scene) (ds : List Numbered) (before after : Numbering) (made : List GuardDef)
+pub record AddsDefs (scene : TabledScope) (ds : List Numbered) (before after : Numbering) (made : List GuardDef)
     : Type 0 where
   pub grown : Grows scene.items.now (defs_questions scene.decls.now ds) before after
   pub made_is : IsMade scene.items.now (defs_questions scene.decls.now ds)
       (λ qs. map (guard_def scene.decls.now qs) ds) before made
 
 -- a target more
-pub record AddsTarget (scene : Scene) (t : Target) (before after : Numbering) (made : TableTarget) : Type 0 where
+pub record AddsTarget (scene : TabledScope) (t : Target) (before after : Numbering) (made : TableTarget) : Type 0 where
   pub grown : Grows scene.items.now (defs_questions scene.decls.now (defs_from t 0 scene.defs.now)) before after
   pub made_is : IsMade scene.items.now (defs_questions scene.decls.now (defs_from t 0 scene.defs.now))
       (λ qs. target_of scene.decls.now scene.items.now scene.defs.now qs t) before made
 
 -- some targets more
-pub record AddsTargets (scene : Scene) (ts : List Target) (before after : Numbering) (made : List TableTarget)
+pub record AddsTargets (scene : TabledScope) (ts : List Target) (before after : Numbering) (made : List TableTarget)
     : Type 0 where
   pub grown : Grows scene.items.now (questions_of scene.decls.now scene.defs.now ts) before after
   pub made_is : IsMade scene.items.now (questions_of scene.decls.now scene.defs.now ts)
@@ -54,11 +54,11 @@ targets_in [] = []
 targets_in (f ∷ forest) = f.target ∷ targets_in forest
 
 -- all questions of some targets
-abbrev pub scene_questions : Scene → List Target → List Question
+abbrev pub scene_questions : TabledScope → List Target → List Question
 scene_questions scene ts = questions_of scene.decls.now scene.defs.now ts
 
 -- targets with the terms and the atoms of all their questions
-pub record IsSceneTable (scene : Scene) (ts : List Target) (targets : List TableTarget) (terms : List Term)
+pub record IsSceneTable (scene : TabledScope) (ts : List Target) (targets : List TableTarget) (terms : List Term)
     (atoms : List Atom) : Type 0 where
   pub targets_are : targets
       ≡ map (target_of scene.decls.now scene.items.now scene.defs.now (scene_questions scene ts)) ts

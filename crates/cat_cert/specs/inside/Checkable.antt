@@ -4,12 +4,12 @@ use Rattle.cat_guard.specs.declared.table.Table.{Table}
 use Rattle.cat_guard.specs.Trees.{Tree, expanded, height}
 use Rattle.cat_walk.specs.LeafPlaces.{lists_of}
 use Rattle.cat_walk.specs.Walkable.{IsWalkable}
-use Rattle.cat_cert_text.specs.declared.certificate.Version.{Version}
-use Rattle.cat_cert_text.specs.declared.certificate.CertTree.{CertTree}
-use Rattle.cat_cert_text.specs.declared.refusal.CertRefusal.{CertRefusal}
-use Rattle.cat_cert_text.specs.declared.refusal.CertRefusal.TheVariants as refusal
-use Rattle.cat_cert_text.specs.Lines.{TargetDue, dues_of}
-use Rattle.cat_cert_text.specs.ReadTrees.{AreWithin, AreReadTrees}
+use Rattle.cat_cert.specs.declared.certificate.Version.{Version}
+use Rattle.cat_cert.specs.declared.certificate.CertTree.{CertTree}
+use Rattle.cat_cert.specs.declared.refusal.CertRefusal.{CertRefusal}
+use Rattle.cat_cert.specs.declared.refusal.CertRefusal.TheVariants as refusal
+use Rattle.cat_cert.specs.Lines.{TargetDue, dues_of}
+use Rattle.cat_cert.specs.ReadTrees.{AreWithin, AreReadTrees}
 
 -- the greatest number that a line can have
 abbrev pub last_line : ℕ

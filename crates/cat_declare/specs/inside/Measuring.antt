@@ -1,5 +1,5 @@
 -- The heights of what was made of a tree.
-use Rattle.cat_heights.specs.Table.{AreHeights}
+use Rattle.cat_value.specs.Table.{AreHeights}
 use Rattle.cat_names.specs.Declarations.{Declared}
 use Rattle.cat_names.specs.Lookup.{TypeNames}
 use Rattle.cat_declare.specs.declared.heights.Measures.{Measures}

@@ -5,7 +5,7 @@ use Rattle.cat_tree.specs.declared.program.Item.{Item}
 use Rattle.cat_tree.specs.declared.program.Item.TheVariants as item
 use Rattle.cat_tree.specs.declared.program.Variable.{Variable}
 use Rattle.cat_scope.specs.Names.{AllHave}
-use Rattle.cat_lookup.specs.Table.{Table, IsTableOf}
+use Rattle.cat_check_names.specs.Table.{Table, IsTableOf}
 use Rattle.cat_names.specs.declared.fault.Fault.{Fault}
 use Rattle.cat_names.specs.declared.limits.TheConstants.{MOST_ITEMS, MOST_DEFINITIONS}
 use Rattle.cat_names.specs.DeclarationFaults.{declared_name, declaration_faults, past, variable_name}

@@ -3,9 +3,9 @@ use Rattle.std.specs.Prelude.{◌≡◌, List, Some, Result, Ok, Err, slice_get}
 use Rattle.cat_scope.specs.declared.stop.Stop.{Stop}
 use Rattle.cat_scope.specs.Names.{AllHave}
 use Rattle.cat_calc.specs.declared.calcs.Calc.{Calc}
-use Rattle.cat_shared.specs.declared.failure.Failure.{Failure}
-use Rattle.cat_shared.specs.declared.failure.Failure.TheVariants as failure
-use Rattle.cat_shared.specs.Telling.{Tells}
+use Rattle.cat_operate.specs.declared.failure.Failure.{Failure}
+use Rattle.cat_operate.specs.declared.failure.Failure.TheVariants as failure
+use Rattle.cat_operate.specs.Telling.{Tells}
 use Rattle.cat_evaluate_step.specs.declared.scene.Scene.{Scene}
 use Rattle.cat_evaluate_scope.specs.declared.tasks.ScopeRun.{ScopeRun}
 use Rattle.cat_evaluate_scope.specs.declared.tasks.ScopeTask.TheVariants as scope_task

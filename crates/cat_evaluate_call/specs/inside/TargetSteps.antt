@@ -1,8 +1,8 @@
 -- What a task of the last of some judgings leads to.
 use Rattle.std.specs.Prelude.{◌≡◌, List, Result, Ok, Err}
 use Rattle.cat_scope.specs.Calls.{Items, Scoped}
-use Rattle.cat_shared.specs.declared.failure.Failure.{Failure}
-use Rattle.cat_shared.specs.declared.failure.Failure.TheVariants as failure
+use Rattle.cat_operate.specs.declared.failure.Failure.{Failure}
+use Rattle.cat_operate.specs.declared.failure.Failure.TheVariants as failure
 use Rattle.cat_evaluate_step.specs.declared.frames.Task.TheVariants as task
 use Rattle.cat_evaluate_term.specs.declared.judging.JudgePause.{JudgePause}
 use Rattle.cat_evaluate_term.specs.declared.judging.JudgePause.TheVariants as judge_pause

@@ -1,9 +1,9 @@
 -- What a task of a scope leads to.
 use Rattle.std.specs.Prelude.{◌≡◌, Result, Ok, Err}
 use Rattle.cat_scope.specs.declared.stop.Stop.{Stop}
-use Rattle.cat_shared.specs.declared.failure.Failure.{Failure}
-use Rattle.cat_shared.specs.declared.failure.Failure.TheVariants as failure
-use Rattle.cat_shared.specs.Telling.{Tells}
+use Rattle.cat_operate.specs.declared.failure.Failure.{Failure}
+use Rattle.cat_operate.specs.declared.failure.Failure.TheVariants as failure
+use Rattle.cat_operate.specs.Telling.{Tells}
 use Rattle.cat_evaluate_scope.specs.declared.tasks.ScopeRun.{ScopeRun}
 use Rattle.cat_evaluate_scope.specs.declared.tasks.ScopeStep.{ScopeStep}
 use Rattle.cat_evaluate_scope.specs.declared.tasks.ScopeStep.TheVariants as step

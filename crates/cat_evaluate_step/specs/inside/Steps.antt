@@ -8,9 +8,9 @@ use Rattle.cat_scope.specs.Projections.{truth}
 use Rattle.cat_scope.specs.Replies.{Reply, on_one}
 use Rattle.cat_scope.specs.Runs.{Run, and_then, gives}
 use Rattle.cat_scope.specs.Eval.{Env, eval}
-use Rattle.cat_shared.specs.Telling.{Tells}
-use Rattle.cat_shared.specs.declared.failure.Failure.{Failure}
-use Rattle.cat_shared.specs.declared.failure.Failure.TheVariants as failure
+use Rattle.cat_operate.specs.Telling.{Tells}
+use Rattle.cat_operate.specs.declared.failure.Failure.{Failure}
+use Rattle.cat_operate.specs.declared.failure.Failure.TheVariants as failure
 use Rattle.cat_evaluate_step.specs.declared.frames.Frame.{Frame}
 use Rattle.cat_evaluate_step.specs.declared.frames.Task.{Task}
 use Rattle.cat_evaluate_step.specs.declared.frames.Task.TheVariants as task

@@ -5,10 +5,10 @@ use Rattle.cat_value.specs.declared.outcome.Target.{Target}
 use Rattle.cat_scope.specs.Runs.{plain}
 use Rattle.cat_scope.specs.Judging.{Held, Judged, alone, or_else}
 use Rattle.cat_calc.specs.declared.term.Justification.{Justification}
-use Rattle.cat_calc.specs.declared.term.Term.{Term}
+use Rattle.cat_calc.specs.declared.term.DefaultTerm.{DefaultTerm}
 use Rattle.cat_calc.specs.Reducing.{justified, reduced}
-use Rattle.cat_shared.specs.declared.failure.Failure.{Failure}
-use Rattle.cat_shared.specs.declared.failure.Failure.TheVariants as failure
+use Rattle.cat_operate.specs.declared.failure.Failure.{Failure}
+use Rattle.cat_operate.specs.declared.failure.Failure.TheVariants as failure
 use Rattle.cat_evaluate_term.specs.declared.frames.OnExceptions.{OnExceptions}
 use Rattle.cat_evaluate_term.specs.declared.frames.TermTask.{TermTask}
 use Rattle.cat_evaluate_term.specs.declared.frames.TermTask.TheVariants as task
@@ -19,7 +19,7 @@ use Rattle.cat_evaluate_term.specs.Verdicts.{Valued, Verdict, all_held, found_in
 use Rattle.cat_evaluate_term.specs.Reductions.{StandsAt, term_ending}
 
 -- where there is memory, a term is next, and a frame waits for what it comes to
-abbrev pub Takes : Result TermTask Failure → List OnExceptions → List OnExceptions → OnExceptions → Term → Type 0
+abbrev pub Takes : Result TermTask Failure → List OnExceptions → List OnExceptions → OnExceptions → DefaultTerm → Type 0
 Takes (Ok (task.Reduce t)) before after frame exception = (after ≡ frame ∷ before) × (t.now ≡ exception)
 Takes (Ok _) before after frame exception = ⊥
 Takes (Err (failure.Stop stop)) before after frame exception = ⊥
@@ -27,7 +27,7 @@ Takes (Err failure.Memory) before after frame exception = Unit {0}
 
 -- the same as a fact of its own
 pub record IsTaken (result : Result TermTask Failure) (before after : List OnExceptions) (frame : OnExceptions)
-    (exception : Term) : Type 0 where
+    (exception : DefaultTerm) : Type 0 where
   pub takes : Takes result before after frame exception
 
 -- a step leads from an ending to a task that ends so, or to the stop that it is; want of memory tells nothing
@@ -48,16 +48,16 @@ pub record Settles (result : Result TermTask Failure) (judged : Target → Value
   pub settles : (frames : List OnExceptions) → Leads result judged target frames frames
 
 -- what stands behind the exceptions, where these hold nothing
-abbrev pub own_run : Justification → Term → Target → Valued → Judged Value
+abbrev pub own_run : Justification → DefaultTerm → Target → Valued → Judged Value
 own_run justification consequence target value = justified value justification (reduced value target consequence)
 
 -- what holds of all exceptions, and what they except
-abbrev pub settled_run : List (Held Value) → Justification → Term → Target → Valued → Judged Value
+abbrev pub settled_run : List (Held Value) → Justification → DefaultTerm → Target → Valued → Judged Value
 settled_run held justification consequence target value =
     or_else (plain (alone target held)) (own_run justification consequence target value)
 
 -- a term
-abbrev pub reduced_run : Term → Target → Valued → Judged Value
+abbrev pub reduced_run : DefaultTerm → Target → Valued → Judged Value
 reduced_run term target value = reduced value target term
 
 -- a task that ends as a judging does, whatever waits

@@ -4,14 +4,14 @@ use Rattle.cat_pos.specs.declared.pos.Pos.{Pos}
 use Rattle.cat_scope.specs.declared.defs.Def.{Def}
 use Rattle.cat_scope.specs.Names.{AllHave}
 use Rattle.cat_scope.specs.Groups.{Group}
-use Rattle.cat_except.specs.declared.faults.FaultKind.{FaultKind}
-use Rattle.cat_except.specs.declared.faults.FaultKind.TheVariants.{UnknownLabel, SplitLabel, AmbiguousException}
+use Rattle.cat_except.specs.declared.faults.ExceptionFault.{ExceptionFault}
+use Rattle.cat_except.specs.declared.faults.ExceptionFault.TheVariants.{UnknownLabel, SplitLabel, AmbiguousException}
 use Rattle.cat_except.specs.declared.groups.Groups.{Groups}
 use Rattle.cat_except.specs.Faults.{Kind, unknown_label, split_label, ambiguous_exception}
 use Rattle.cat_except.specs.inside.Grouping.{groups_at, AreGroups}
 
 -- the kind of fault that is looked for
-abbrev pub kind_of : FaultKind → Kind
+abbrev pub kind_of : ExceptionFault → Kind
 kind_of UnknownLabel groups g d = unknown_label groups d.except
 kind_of SplitLabel groups g d = split_label g.except d.label d.except
 kind_of AmbiguousException groups g d = ambiguous_exception groups d.except

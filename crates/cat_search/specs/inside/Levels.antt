@@ -5,8 +5,8 @@ use Rattle.cat_region.specs.declared.narrowing.Narrowing.{Narrowing}
 use Rattle.cat_guard.specs.declared.table.Atom.{Atom}
 use Rattle.cat_guard.specs.declared.table.TableTarget.{TableTarget}
 use Rattle.cat_guard.specs.Judged.{answers_in}
-use Rattle.cat_judge.specs.declared.live.LiveGroup.{LiveGroup}
-use Rattle.cat_judge.specs.Live.{IsLiveOf}
+use Rattle.cat_guard.specs.declared.live.LiveGroup.{LiveGroup}
+use Rattle.cat_guard.specs.Live.{IsLiveOf}
 use Rattle.cat_search.specs.declared.levels.Level.{Level}
 use Rattle.cat_search.specs.declared.levels.Levels.{Levels}
 

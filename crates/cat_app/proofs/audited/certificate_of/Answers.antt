@@ -2,7 +2,7 @@ use Rattle.std.proofs.Common.{◌≡◌, List, length, subst, sym}
 use Rattle.std.specs.Prelude.{Some}
 use Rattle.cat_guard.specs.declared.table.Table.{Table}
 use Rattle.cat_audit.specs.Complete.{targets_in}
-use Rattle.cat_cert_text.specs.Lines.{targets_of}
+use Rattle.cat_cert.specs.Lines.{targets_of}
 use Rattle.cat_app.proofs.Audits.{trees_counted, trees_whole}
 use Rattle.cat_app.proofs.audited.certificate_of.Goals as goal
 

@@ -1,6 +1,6 @@
 use Rattle.std.proofs.Common.{rules, ◌≡◌, ℕ, FitsSigned, of_z, refl, subst, sym, to_z, to_z-of_z, w64}
 use Rattle.cat_audit.specs.Reports.{IsReport}
-use Rattle.cat_drill.specs.Leaves.{HasLeaves}
+use Rattle.cat_app.specs.Leaves.{HasLeaves}
 use Rattle.cat_app.proofs.DrillReplies.{line_is}
 use Rattle.cat_app.proofs.drilled.audit_bands.Goals as goal
 

@@ -1,7 +1,7 @@
 use Rattle.std.proofs.Common.{rules, ◌≡◌, ◌<◌, ℤ, FitsSigned, length, of_z, refl, sym, subst, to_z, to_z-of_z, w64}
 use Rattle.cat_value.specs.declared.decls.Decls.{Decls}
-use Rattle.cat_drill.specs.Runs.{AreRunsOf, HaveSum}
-use Rattle.cat_drill.specs.declared.runs.Ran.{Ran}
+use Rattle.cat_app.specs.Runs.{AreRunsOf, HaveSum}
+use Rattle.cat_app.specs.declared.runs.Ran.{Ran}
 use Rattle.cat_app.specs.Drills.{bands_request}
 use Rattle.cat_app.specs.inside.Says.{SaysOutcome}
 use Rattle.cat_app.proofs.DrillReplies.{a_line, a_refused_run, a_stop}

@@ -3,8 +3,8 @@ use Rattle.std.proofs.Common.{take, length, refl, sym, ap, ◌∙◌, subst}
 use Rattle.std.proofs.lemmas.Option.{slice_get_read}
 use Rattle.cat_guard.specs.declared.table.TableTarget.{TableTarget}
 use Rattle.cat_guard.specs.declared.tree.CaseTree.{CaseTree}
-use Rattle.cat_finding.specs.Causes.{HasCause}
-use Rattle.cat_finding.specs.Lines.{IsLineOf}
+use Rattle.cat_audit.specs.Causes.{HasCause}
+use Rattle.cat_audit.specs.Lines.{IsLineOf}
 use Rattle.cat_audit.specs.declared.report.NamedLine.{NamedLine}
 use Rattle.cat_audit.proofs.LineLemmas.{AreLinesTo, one_line, take_next}
 use Rattle.cat_audit.proofs.section.target_lines.Goals as goal

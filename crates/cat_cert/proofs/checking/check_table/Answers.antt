@@ -6,7 +6,7 @@ use Rattle.cat_region.specs.Regions.{Constraints}
 use Rattle.cat_guard.specs.declared.table.TableTarget.{TableTarget}
 use Rattle.cat_guard.specs.Trees.{IsCitedClosed, expanded}
 use Rattle.cat_guard.proofs.Exported.{entry}
-use Rattle.cat_cert_text.specs.Lines.{TargetDue}
+use Rattle.cat_cert.specs.Lines.{TargetDue}
 use Rattle.cat_cert.specs.Uncovered.{IsCovered, tree_uncovered}
 use Rattle.cat_cert.specs.inside.Checkable.{last_line, NamesFirst}
 use Rattle.cat_cert.proofs.Lists.{some_at}

@@ -2,7 +2,7 @@ use Rattle.std.proofs.Common.{◌≤◌, IsTrue, ◌≡◌, Some, slice_get, len
 use Rattle.std.proofs.lemmas.Option.{slice_get_read}
 use Rattle.cat_guard.specs.Trees.{expanded}
 use Rattle.cat_walk.specs.Sizes.{is_small}
-use Rattle.cat_cert_text.specs.declared.certificate.CertTree.{CertTree}
+use Rattle.cat_cert.specs.declared.certificate.CertTree.{CertTree}
 use Rattle.cat_cert.specs.inside.Checkable.{IsUpTo}
 use Rattle.cat_cert.proofs.Lists.{have_each, taken_more, left_more}
 use Rattle.cat_cert.proofs.CheckLemmas.{low_further}

@@ -1,6 +1,6 @@
 use Rattle.std.proofs.Common.{sym, subst}
 use Rattle.std.specs.Prelude.{List}
-use Rattle.cat_cert_text.specs.declared.certificate.CertTree.{CertTree}
+use Rattle.cat_cert.specs.declared.certificate.CertTree.{CertTree}
 use Rattle.cat_cert.specs.inside.Checkable.{AreOfTables}
 use Rattle.cat_cert.proofs.over.check_over.Goals as goal
 

@@ -2,11 +2,11 @@ use Rattle.std.proofs.Common.{◌∙◌, ap, sym, subst, length, map, string_byt
 use Rattle.cat_scope.specs.Names.{AllHave}
 use Rattle.cat_guard.specs.declared.tree.CaseTree.{CaseTree}
 use Rattle.cat_guard.specs.Trees.{tree_of}
-use Rattle.cat_share.specs.Sharing.{is_whole_tree}
-use Rattle.cat_cert_text.specs.declared.certificate.Version.TheVariants as version
-use Rattle.cat_cert_text.specs.Certifiable.{shared_tree}
-use Rattle.cat_cert_text.specs.Lines.{dues_of}
-use Rattle.cat_cert_text.specs.Texts.{certificate_text}
+use Rattle.cat_walk.specs.Sharing.{is_whole_tree}
+use Rattle.cat_cert.specs.declared.certificate.Version.TheVariants as version
+use Rattle.cat_cert.specs.Certifiable.{shared_tree}
+use Rattle.cat_cert.specs.Lines.{dues_of}
+use Rattle.cat_cert.specs.Texts.{certificate_text}
 use Rattle.cat_cert.specs.Checked.{text_over}
 use Rattle.cat_cert.specs.inside.Checkable.{last_line}
 use Rattle.cat_cert.proofs.Lists.{if_moved}

@@ -8,8 +8,8 @@ use Rattle.cat_names.specs.Found.{Tells}
 use Rattle.cat_names.specs.Bodies.{bodies_meant}
 use Rattle.cat_names.specs.Accepted.{IsMeant, IsNamed, IsRefused, parts_of}
 use Rattle.cat_names.specs.Accepted as refused
-use Rattle.cat_arrange.specs.Cause.{Because}
-use Rattle.cat_body.specs.Unordered.{without_orders}
+use Rattle.cat_check.specs.Cause.{Because}
+use Rattle.cat_check.specs.Unordered.{without_orders}
 use Rattle.cat_check.proofs.meaning.meaning_by.Goals as goal
 
 module _ (tree : Tree) (ds : Decls) (named : IsNamed tree (parts_of ds)) where

@@ -1,5 +1,5 @@
 use Rattle.std.proofs.Common.{◌≡◌, ◌++◌, drop}
-use Rattle.cat_form.specs.Tabled.{required_from}
+use Rattle.cat_check_forms.specs.Tabled.{required_from}
 use Rattle.cat_check.proofs.required.required.Given as goal
 
 abbrev pub invariant-loop-number : goal.invariant-loop-number

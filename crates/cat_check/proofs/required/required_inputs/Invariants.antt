@@ -1,5 +1,5 @@
 use Rattle.std.proofs.Common.{◌≡◌, map, take}
-use Rattle.cat_form.specs.Tabled.{required_from}
+use Rattle.cat_check_forms.specs.Tabled.{required_from}
 use Rattle.cat_check.proofs.required.required_inputs.Given as goal
 
 abbrev pub invariant-loop-scope : goal.invariant-loop-scope

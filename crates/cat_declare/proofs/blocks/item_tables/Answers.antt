@@ -1,7 +1,7 @@
 use Rattle.std.proofs.Common.{rules, ◌+◌, take, ◌∙◌, ◌<◌, get_or, length, sym, ap, subst}
 use Rattle.cat_names.specs.DeclarationFaults.{variable_name}
-use Rattle.cat_lookup.specs.Table.{IsTableOf}
-use Rattle.cat_lookup.proofs.Rows.{zip_more}
+use Rattle.cat_check_names.specs.Table.{IsTableOf}
+use Rattle.cat_check_names.proofs.Rows.{zip_more}
 use Rattle.cat_declare.specs.inside.Naming.{AreItemTables}
 use Rattle.cat_declare.proofs.blocks.item_tables.Goals as goal
 

@@ -1,5 +1,5 @@
 use Rattle.std.proofs.Common.{◌≡◌, ◌++◌, drop}
-use Rattle.cat_judge.specs.Judgements.{asked_in}
+use Rattle.cat_guard.specs.Judgements.{asked_in}
 use Rattle.cat_search.proofs.asked.asked_atoms.Given as goal
 
 abbrev pub invariant-loop-def : goal.invariant-loop-def

@@ -2,7 +2,7 @@ use Rattle.std.proofs.Common.{◌≡◌, ◌∙◌, ℕ, List, subst, sym, ap}
 use Rattle.std.specs.Prelude.{All, IfSome}
 use Rattle.std.proofs.lemmas.List.Sorted.{All-permutation}
 use Rattle.cat_scope.specs.Names.{IsOneOf}
-use Rattle.cat_judge.specs.Judgements.{asked_in, atoms_in}
+use Rattle.cat_guard.specs.Judgements.{asked_in, atoms_in}
 use Rattle.cat_search.proofs.AskedLemmas.{among_itself}
 use Rattle.cat_search.proofs.asked.atoms_in_order.Goals as goal
 

@@ -1,7 +1,7 @@
 use Rattle.std.proofs.Common.{◌≡◌, ◌<◌, ℕ, List, length, get_or, slice_get, sym, subst, rules}
 use Rattle.std.specs.Prelude.{All, IfSome}
 use Rattle.cat_scope.specs.Names.{IsOneOf}
-use Rattle.cat_judge.specs.Judgements.{atoms_in}
+use Rattle.cat_guard.specs.Judgements.{atoms_in}
 use Rattle.cat_search.specs.Searched.{IsSplit}
 use Rattle.cat_search.proofs.TargetLemmas.{if_some, target_at, asked_below}
 use Rattle.cat_search.proofs.choice.split_atom.Goals as goal

@@ -1,7 +1,7 @@
 use Rattle.std.proofs.Common.{◌∙◌, ◌++◌, ◌∷◌, [], slice_get, subst, sym, ap, arith, rules}
 use Rattle.std.specs.Prelude.{ℕ, ◌+◌, List, All, IfSome, false, true}
 use Rattle.cat_scope.specs.Names.{IsOneOf}
-use Rattle.cat_judge.specs.Judgements.{atoms_in}
+use Rattle.cat_guard.specs.Judgements.{atoms_in}
 use Rattle.cat_guard.specs.declared.table.TableTarget.{TableTarget}
 use Rattle.cat_guard.specs.declared.tree.TreeNode.TheVariants as node
 use Rattle.cat_guard.specs.Trees as tree

@@ -1,6 +1,6 @@
 use Rattle.std.proofs.Common.{◌≡◌, ◌∙◌, ◌++◌, Some, None, OnOk, rules, subst, sym, arith}
-use Rattle.cat_lookup.specs.Table.{IsTableOf}
-use Rattle.cat_lookup.proofs.Rows.{row_at}
+use Rattle.cat_check_names.specs.Table.{IsTableOf}
+use Rattle.cat_check_names.proofs.Rows.{row_at}
 use Rattle.cat_names.specs.DeclarationFaults.{variable_name}
 use Rattle.cat_names.specs.Written.{scopes_in, scope_names_in}
 use Rattle.cat_declare.specs.inside.Tabling.{tree_at}

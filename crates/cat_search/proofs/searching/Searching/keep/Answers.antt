@@ -1,7 +1,7 @@
 use Rattle.std.proofs.Common.{true, slice_get, arith}
 use Rattle.cat_guard.specs.Valuations.{dims_of}
 use Rattle.cat_guard.specs.Judged.{answers_in}
-use Rattle.cat_judge.specs.Live.{IsLiveOf}
+use Rattle.cat_guard.specs.Live.{IsLiveOf}
 use Rattle.cat_search.specs.inside.Levels.{AreLiveOn}
 use Rattle.cat_search.specs.inside.Underway.{IsUnderway}
 use Rattle.cat_search.proofs.LevelLemmas.{depth_is, live_at}

@@ -1,8 +1,0 @@
-use Rattle.std.proofs.Common.{◌≡◌, ◌++◌, take}
-use Rattle.std.specs.Prelude.{flat_map}
-use Rattle.cat_arrange.specs.inside.Calling.{called_about}
-use Rattle.cat_arrange.proofs.scopes.add_called.Given as goal
-
-abbrev pub invariant-loop-block : goal.invariant-loop-block
-invariant-loop-block l =
-    l.positions ≡ l.fn.positions ++ flat_map (called_about l.table l.caller l.called) (take l.block-index l.blocks)

@@ -1,0 +1,100 @@
+// The line of a target.
+ghost use Rattle.std.specs.Prelude.{◌≡◌, ◌<◌, IfOk, IfSome, length, slice_get};
+ghost use Rattle.cat_calc.specs.Desugared.{KeepsOutcomes};
+ghost use Rattle.cat_guard.specs.Tables.{TablesScope};
+ghost use Rattle.cat_audit.specs.Causes.{HasCause};
+ghost use Rattle.cat_audit.specs.Lines.{IsLineOf, line_by, tree_in};
+ghost use Rattle.cat_audit.specs.inside.Tried.{leaves_bad, line_or};
+
+use crate::finding::{Finding, Line, TargetLine};
+use crate::finding_laws::tables_admit_something;
+use crate::tried::tried;
+use cat_audit_sound::inputs_of_valuations_are_well_typed;
+use cat_calc::Calc;
+use cat_guard::{Table, TreeNode};
+use cat_region::points_are_admitted;
+use cat_scope::Program;
+use cat_search::{
+    BadLeaf, Search, leaves_are_where_their_ways_lead, search,
+    searched_trees_ask_atoms_of_the_table,
+};
+use std::alloc::{AllocError, Global};
+
+/// The nodes of the tree that a search made.
+fn nodes_of(search: &Search) -> &[TreeNode]
+    ensures { result.now ≡ (tree_in search.now).nodes }
+{
+    match search {
+        Search::Closed { tree, bad: _ } => tree.nodes.as_slice(),
+        Search::Spent { tree, bad: _ } => tree.nodes.as_slice(),
+    }
+}
+
+/// The bad leaves of that tree.
+fn bad_of(search: &Search) -> &[BadLeaf]
+    ensures { result.now ≡ leaves_bad search.now }
+{
+    match search {
+        Search::Closed { tree: _, bad } => bad.as_slice(),
+        Search::Spent { tree: _, bad } => bad.as_slice(),
+    }
+}
+
+/// The line of a finding, or another one where there is none.
+fn line_or(found: Option<Finding>, good: Line) -> Line
+    ensures { result ≡ line_or found good }
+{
+    match found {
+        Some(found) => Line::Bad(found),
+        None => good,
+    }
+}
+
+/// The line by the finding that counts, with the tree.
+fn line_by(found: Option<Finding>, search: Search) -> TargetLine
+    ensures line { result.line ≡ line_by found search }
+    ensures tree { result.tree ≡ tree_in search }
+{
+    match search {
+        Search::Closed { tree, bad: _ } => TargetLine {
+            line: line_or(found, Line::Covered),
+            tree,
+        },
+        Search::Spent { tree, bad: _ } => TargetLine {
+            line: line_or(found, Line::Budget),
+            tree,
+        },
+    }
+}
+
+/// Searches for the leaves of a target, of which it makes at most `budget`, and runs the scope on the input of each
+/// that isn't covered, up to the first whose run shows a conflict or a gap.
+pub fn target_line(
+    alloc: Global,
+    program: &Program,
+    calc: &Calc,
+    table: &Table,
+    target: u32,
+    budget: u64,
+) -> Result<TargetLine, AllocError>
+    requires tabled { TablesScope program.now table.now.scope table.now }
+    requires declared { calc.now.decls ≡ program.now.decls }
+    requires outcomes { KeepsOutcomes program.now calc.now }
+    requires target { target < length table.now.targets }
+    requires budget { 0 < budget }
+    ensures line { IfSome (slice_get table.now.targets target)
+        (λ t. IfOk result (IsLineOf program.now table.now t budget)) }
+    ensures cause { IfSome (slice_get table.now.targets target)
+        (λ t. IfOk result (λ made. HasCause program.now table.now t budget made.tree.nodes made.line)) }
+{
+    tables_admit_something(program);
+    inputs_of_valuations_are_well_typed(program);
+    points_are_admitted();
+    leaves_are_where_their_ways_lead();
+    searched_trees_ask_atoms_of_the_table(table);
+    let search = search(alloc, table, target, budget)?;
+    let nodes = nodes_of(&search);
+    let bad = bad_of(&search);
+    let found = tried(alloc, program, calc, table, target, nodes, bad)?;
+    Ok(line_by(found, search))
+}

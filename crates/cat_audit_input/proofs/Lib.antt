@@ -1,4 +1,0 @@
-pub mod PartEquations
-pub mod TypedLaws
-pub mod Examples
-pub mod Exported

@@ -1,0 +1,92 @@
+// The input of a region.
+ghost use Rattle.std.specs.Prelude.{◌≡◌, ◌<◌, ℕ, Some, length, slice_get, IfOk};
+ghost use Rattle.cat_pos.specs.declared.limits.TheConstants.{ENTRIES_BOUND};
+ghost use Rattle.cat_value.specs.declared.declaration.ItemDecl.{ItemDecl as Declared};
+ghost use Rattle.cat_value.specs.Inputs.{IsWellTyped};
+ghost use Rattle.cat_value.specs.Laws.{IsItem};
+ghost use Rattle.cat_region.specs.Chosen.{point_at};
+ghost use Rattle.cat_region.specs.Regions.{IsInhabited};
+ghost use Rattle.cat_guard.specs.Valuations.{dims_of};
+ghost use Rattle.cat_audit_sound.specs.PointInputs.{given_for, given_from, point_from, input_at};
+ghost use Rattle.cat_audit_sound.specs.inside.TypedParts.{IsGiven, AreGiven};
+
+use crate::part::part;
+use cat_guard::{InputPath, Table, Term};
+use cat_pos::List;
+use cat_region::Region;
+use cat_value::{Decls, Input, ItemDecl, Kind, Value, declarations_are_sound};
+use std::alloc::{AllocError, Global};
+
+/// No declared type is higher.
+const HIGHEST: u32 = 64;
+
+/// What an item is given: a value where it must be given, and else none.
+fn given_for(
+    alloc: Global,
+    decls: &Decls,
+    terms: &[Term],
+    region: &Region,
+    number: u32,
+    item: &ItemDecl,
+) -> Result<Option<Value>, AllocError>
+    requires dims { region.now.dims ≡ dims_of terms.now }
+    requires inhabited { IsInhabited region.now }
+    requires item { IsItem decls.now item.now }
+    ensures { IfOk result (λ given. IsGiven decls.now item.now
+        (given_for decls.now (point_from (point_at region.now) 0 terms.now) number item.now) given) }
+{
+    match item.kind {
+        Kind::Input | Kind::InputOutput => {
+            let path = InputPath {
+                item: number,
+                fields: List::new(alloc),
+            };
+            let value = part(alloc, decls, terms, region, &path, &item.ty, HIGHEST)?;
+            Ok(Some(value))
+        }
+        _ => Ok(None),
+    }
+}
+
+/// What items are given, in their order.
+fn given(
+    alloc: Global,
+    decls: &Decls,
+    terms: &[Term],
+    region: &Region,
+    items: &[ItemDecl],
+) -> Result<Input, AllocError>
+    requires dims { region.now.dims ≡ dims_of terms.now }
+    requires inhabited { IsInhabited region.now }
+    requires few { length items.now < ENTRIES_BOUND }
+    requires items { (k : ℕ) (item : Declared) → slice_get items.now k ≡ Some item → IsItem decls.now item }
+    ensures { IfOk result (λ input. AreGiven decls.now items.now
+        (given_from decls.now (point_from (point_at region.now) 0 terms.now) 0 items.now) input) }
+{
+    let mut input = List::new(alloc);
+    for (number, item) in items.iter().enumerate() {
+        input.push(given_for(alloc, decls, terms, region, number as u32, item)?)?;
+    }
+    Ok(input)
+}
+
+/// The input of the scope of a table in which each free term has its point of the region, and all else that must be
+/// given its default. No context is given. It takes a look at each term for each part of an input.
+pub fn input_of(
+    alloc: Global,
+    table: &Table,
+    decls: &Decls,
+    region: &Region,
+) -> Result<Input, AllocError>
+    requires scope { table.now.scope < length decls.now.scopes }
+    requires dims { region.now.dims ≡ dims_of table.now.terms }
+    requires inhabited { IsInhabited region.now }
+    ensures value { IfOk result (λ input. input ≡ input_at decls.now table.now (point_at region.now)) }
+    ensures typed { IfOk result (λ input. IsWellTyped decls.now table.now.scope input) }
+{
+    declarations_are_sound(decls);
+    let terms = table.terms.as_slice();
+    let items = decls.scopes.at(table.scope as usize).items.as_slice();
+    let input = given(alloc, decls, terms, region, items)?;
+    Ok(input)
+}

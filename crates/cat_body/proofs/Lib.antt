@@ -1,4 +1,0 @@
-pub mod Picked
-pub mod Listed
-pub mod Agreeing
-pub mod Whole

@@ -1,4 +1,0 @@
--- bodies without the orders of their items
-pub mod Unordered
--- what the code keeps on its way: no public clause cites it
-pub mod inside

@@ -1,2 +1,0 @@
-pub mod ByScope
-pub mod Differing

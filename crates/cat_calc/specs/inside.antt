@@ -1,0 +1,4 @@
+pub mod Items
+pub mod Numbered
+pub mod Tabled
+pub mod Terms

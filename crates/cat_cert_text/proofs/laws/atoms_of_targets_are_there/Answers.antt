@@ -1,5 +1,0 @@
-use Rattle.cat_cert_text.proofs.AtomLemmas.{atoms_below}
-use Rattle.cat_cert_text.proofs.laws.atoms_of_targets_are_there.Goals as goal
-
-pub returns : goal.returns
-returns c = λ table. atoms_below table

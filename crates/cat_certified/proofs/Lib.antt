@@ -1,4 +1,0 @@
-pub mod OneTables
-pub mod ClosedTables
-pub mod NameLemmas
-pub mod ScopeLemmas

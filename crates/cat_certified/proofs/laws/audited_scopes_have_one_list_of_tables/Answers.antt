@@ -1,5 +1,0 @@
-use Rattle.cat_certified.proofs.OneTables.{one_tables}
-use Rattle.cat_certified.proofs.laws.audited_scopes_have_one_list_of_tables.Goals as goal
-
-pub returns : goal.returns
-returns c scope tables others are also = one_tables c.args.program.now scope tables others are also

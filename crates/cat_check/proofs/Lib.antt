@@ -1,0 +1,10 @@
+pub mod Picked
+pub mod Listed
+pub mod Agreeing
+pub mod Whole
+pub mod WordLemmas
+pub mod Sourced
+pub mod Scoped
+pub mod Ordering
+pub mod Chaining
+pub mod ArrangingLemmas

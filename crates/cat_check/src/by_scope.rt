@@ -1,0 +1,60 @@
+// The declaration and the blocks of each scope.
+ghost use Rattle.std.specs.Prelude.{◌≡◌, [], IfOk, OnOk, length, replicate};
+ghost use Rattle.cat_check_forms.specs.Tabled.{IsTabled};
+ghost use Rattle.cat_check.specs.inside.ByScope.{AreByScope, scope_about, with_item};
+
+use cat_check_forms::Here;
+use cat_pos::List;
+use cat_tree::Item;
+use std::alloc::{AllocError, Global};
+
+/// Declarations and blocks of a tree.
+pub type Items = List<Item>;
+
+/// So many empty lists.
+fn empty_lists(alloc: Global, count: usize) -> Result<Vec<Items>, AllocError>
+    ensures { IfOk result (λ lists. lists.items ≡ replicate count []) }
+{
+    let mut lists = Vec::with_capacity(alloc, count)?;
+    for _ in 0..count {
+        lists.push(List::new(alloc))?;
+    }
+    Ok(lists)
+}
+
+/// The scope that an item declares, or that it is a block of.
+fn scope_about(here: &Here, item: &Item) -> Option<u32>
+    requires { IsTabled here.now }
+    ensures { result ≡ scope_about here.now.decls.now item.now }
+{
+    match item {
+        Item::Scope(_, name, _) => here.tables.scope_named(here.decls, &name.text),
+        Item::Block(block) => here.tables.scope_named(here.decls, &block.name.text),
+        Item::Structure(_, _, _) | Item::Enumeration(_, _, _) => None,
+    }
+}
+
+/// Adds an item to the list of the scope that it is about.
+fn add_item(here: &Here, item: Item, lists: &mut Vec<Items>) -> Result<(), AllocError>
+    requires tabled { IsTabled here.now }
+    requires counted { length lists.old.items ≡ length here.now.decls.now.scopes }
+    ensures { OnOk result (lists.new.items
+        ≡ with_item (scope_about here.now.decls.now item) item lists.old.items) }
+{
+    match scope_about(here, &item) {
+        None => Ok(()),
+        Some(scope) => lists[scope as usize].push(item),
+    }
+}
+
+/// For each scope its declaration and its blocks among the items of a tree, in one pass over them.
+pub fn by_scope(here: &Here, items: Items) -> Result<Vec<Items>, AllocError>
+    requires { IsTabled here.now }
+    ensures { IfOk result (λ lists. AreByScope here.now.decls.now items lists.items) }
+{
+    let mut lists = empty_lists(here.alloc, here.decls.scopes.len())?;
+    for item in items.into_vec() {
+        add_item(here, item, &mut lists)?;
+    }
+    Ok(lists)
+}

@@ -1,0 +1,8 @@
+pub mod Chains
+pub mod Popping
+pub mod Gathered
+pub mod Exits
+pub mod Views
+pub mod LineExits
+pub mod LinesGathered
+pub mod Exported

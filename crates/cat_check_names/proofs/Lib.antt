@@ -1,0 +1,11 @@
+pub mod Finding
+pub mod Tabled
+pub mod Cases
+pub mod Rows
+pub mod FirstOutputs
+pub mod Examples
+pub mod Added
+pub mod Knowing
+pub mod Names
+pub mod Twice
+pub mod Popping

@@ -1,3 +1,0 @@
-pub mod Desugared
--- what the code keeps on its way: no public clause cites it
-pub mod inside

@@ -1,4 +1,0 @@
-pub mod Numbered
-pub mod Terms
-pub mod Items
-pub mod Tabled

@@ -1,4 +1,0 @@
-pub mod Growing
-pub mod Numbered
-pub mod RunLemmas
-pub mod TreeLemmas

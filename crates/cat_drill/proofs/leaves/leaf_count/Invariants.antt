@@ -1,6 +1,0 @@
-use Rattle.std.proofs.Common.{◌≡◌, ◌+◌, drop}
-use Rattle.cat_drill.specs.Leaves.{leaf_count}
-use Rattle.cat_drill.proofs.leaves.leaf_count.Given as goal
-
-abbrev pub invariant-loop-tree : goal.invariant-loop-tree
-invariant-loop-tree l = l.count + leaf_count (drop l.tree-index l.tree-items) ≡ leaf_count l.tree-items

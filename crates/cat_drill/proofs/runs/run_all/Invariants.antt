@@ -1,5 +1,0 @@
-use Rattle.cat_drill.specs.Runs.{HaveSum}
-use Rattle.cat_drill.proofs.runs.run_all.Given as goal
-
-abbrev pub invariant-loop-run : goal.invariant-loop-run
-invariant-loop-run l = HaveSum l.program l.scope l.bands l.run l.sum

@@ -1,8 +1,0 @@
-use Rattle.std.proofs.Common.{rules, string_bytes}
-use Rattle.cat_drill.proofs.Growing.{grown}
-use Rattle.cat_drill.proofs.source.add_definitions.Goals as goal
-
-pub loop-band-preserved : goal.loop-band-preserved
-loop-band-preserved c =
-    grown c.args.bands c.loop-band.band (string_bytes c.args.text.now) (string_bytes c.loop-band.text) _
-    c.loop-band.invariant (search rules)

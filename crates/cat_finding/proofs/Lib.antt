@@ -1,9 +1,0 @@
-mod CauseLemmas
-mod Examples
-mod FindingLemmas
-mod LeastLemmas
-mod LineLemmas
-mod SearchedLemmas
-mod Targets
-mod TriedLemmas
-mod Values

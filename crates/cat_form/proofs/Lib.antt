@@ -1,4 +1,0 @@
-pub mod Views
-pub mod Durations
-pub mod Innermost
-pub mod AllThere

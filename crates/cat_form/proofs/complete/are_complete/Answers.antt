@@ -1,8 +1,0 @@
-use Rattle.std.proofs.Common.{rules, ◌∙◌}
-use Rattle.cat_form.proofs.AllThere.{arms_are}
-use Rattle.cat_form.proofs.complete.are_complete.Goals as goal
-
-pub returns : goal.returns
-returns c = arms_are c.args.here.now.decls.now c.args.enumeration c.args.arms.now c.as_slice.result.now
-    c.in_ok-cases.cases c.in_ok-has_all_cases.field-0 (c.as_slice.ensures ∙ c.in_ok-numbers.ensures)
-    c.in_ok-cases.ensures.same (search rules) (search rules) (search rules) (search rules)

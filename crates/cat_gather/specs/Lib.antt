@@ -1,4 +1,0 @@
-pub mod Gathered
-pub mod Causes
--- what the code keeps on its way: no public clause cites it
-pub mod inside

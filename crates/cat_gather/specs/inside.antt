@@ -1,2 +1,0 @@
-pub mod Worklist
-pub mod UnderWay

@@ -1,0 +1,5 @@
+pub mod Counting
+pub mod Found
+pub mod Pruned
+pub mod Telling
+pub mod Whole

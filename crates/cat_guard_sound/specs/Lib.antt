@@ -1,3 +1,0 @@
-pub mod Evaluations
-pub mod Follows
-pub mod Audited

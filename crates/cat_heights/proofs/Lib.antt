@@ -1,4 +1,0 @@
-mod Levels
-mod Rounds
-mod Highest
-pub mod Exported

@@ -1,4 +1,0 @@
-pub mod Chains
-pub mod Popping
-pub mod Gathered
-pub mod Exits

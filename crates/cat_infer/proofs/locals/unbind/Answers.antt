@@ -1,5 +1,0 @@
-use Rattle.cat_infer.proofs.Popping.{popped}
-use Rattle.cat_infer.proofs.locals.unbind.Goals as goal
-
-pub returns : goal.returns
-returns c = popped c.args.locals.now c.pop.new.self c.pop.result c.pop.ensures

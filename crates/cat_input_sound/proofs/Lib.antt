@@ -1,4 +1,0 @@
-pub mod PointedValues
-pub mod FreeValues
-pub mod Apart
-pub mod Shows

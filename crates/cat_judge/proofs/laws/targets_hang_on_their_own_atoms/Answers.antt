@@ -1,5 +1,0 @@
-use Rattle.cat_judge.proofs.OwnAtoms.{decided_same}
-use Rattle.cat_judge.proofs.laws.targets_hang_on_their_own_atoms.Goals as goal
-
-pub returns : goal.returns
-returns c t holds other same = decided_same holds other t same

@@ -1,4 +1,0 @@
-use Rattle.cat_judge.proofs.truth.+known.Given as goal
-
-abbrev pub decreases-known : goal.decreases-known
-decreases-known l = goal.size-known l

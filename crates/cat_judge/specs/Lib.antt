@@ -1,4 +1,0 @@
-pub mod Judgements
-pub mod Live
--- what the code keeps on its way: no public clause cites it
-pub mod inside

@@ -1,5 +1,0 @@
-pub mod Telling
-pub mod Found
-pub mod Counting
-pub mod Pruned
-pub mod Whole

@@ -1,0 +1,26 @@
+pub mod WordBytes
+pub mod TokenNames
+pub mod TreeNames
+pub mod DeclaredNames
+pub mod TreeCover
+pub mod ClosedTrees
+pub mod TableNames
+pub mod PassedLines
+pub mod ReportLines
+pub mod ReadBehind
+pub mod Written
+pub mod Answered
+pub mod Told
+pub mod Rooms
+pub mod Lexed
+pub mod Includes
+pub mod Names
+pub mod Faults
+pub mod Places
+pub mod Exceptions
+pub mod Trees
+pub mod Sources
+pub mod Endings
+pub mod Runs
+pub mod Replies
+mod Samples

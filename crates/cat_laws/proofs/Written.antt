@@ -1,0 +1,100 @@
+-- What an audit writes of a complete scope is a certificate for the scope.
+use Rattle.std.proofs.Common.{◌≡◌, ◌≤◌, ℕ, IsTrue, List, [], ◌∷◌, ◌++◌, map, Option, None, Some, refl, sym}
+use Rattle.std.proofs.Common.{ap, ◌∙◌, subst}
+use Rattle.cat_scope.specs.declared.programs.Program.{Program}
+use Rattle.cat_scope.specs.Names.{AllHave}
+use Rattle.cat_guard.specs.declared.table.Table.{Table}
+use Rattle.cat_guard.specs.declared.tree.CaseTree.{CaseTree}
+use Rattle.cat_guard.specs.declared.tree.CitedTree.{CitedTree}
+use Rattle.cat_guard.specs.Trees.{Tree, expanded, tree_of}
+use Rattle.cat_cert.specs.declared.certificate.Version.{Version}
+use Rattle.cat_cert.specs.declared.certificate.Version.TheVariants as version
+use Rattle.cat_cert.specs.declared.certificate.CertTree.{CertTree}
+use Rattle.cat_cert.specs.declared.certificate.TheConstants.{MOST_LEAVES}
+use Rattle.cat_cert.specs.Certifiable.{AreCertifiable, shared_tree}
+use Rattle.cat_cert.specs.Fronts.{IsCertificate}
+use Rattle.cat_cert.specs.Lines.{certificate_lines, dues_of}
+use Rattle.cat_cert.specs.ReadTrees.{IsReadAs}
+use Rattle.cat_cert.specs.Texts.{certificate_text, names_are_lines}
+use Rattle.cat_cert.specs.Checked.{IsOver}
+use Rattle.cat_cert.specs.Uncovered.{AllCovered}
+use Rattle.cat_audit.specs.declared.report.Report.{Report}
+use Rattle.cat_audit.specs.declared.report.Verdict.{Verdict}
+use Rattle.cat_audit.specs.declared.report.Verdict.TheVariants as verdict
+use Rattle.cat_audit.specs.Called.{verdict_in}
+use Rattle.cat_audit.specs.Complete.{AreClosedTrees, targets_in}
+use Rattle.cat_audit.specs.Reports.{IsReport, trees_at}
+use Rattle.cat_audit.specs.ReportTexts.{report_text}
+use Rattle.cat_cert.specs.ScopeTables.{IsOverScope}
+use Rattle.cat_laws.specs.Unbroken.{AreUnbroken}
+use Rattle.cat_laws.proofs.ClosedTrees.{are_certifiable, are_covered, found_of}
+use Rattle.cat_laws.proofs.PassedLines.{IsPassed}
+use Rattle.cat_laws.proofs.ReadBehind.{read_as_behind}
+use Rattle.cat_laws.proofs.ReportLines.{report_passed}
+use Rattle.cat_laws.proofs.TableNames.{tables_in_lines}
+
+-- what the laws of certificates say
+abbrev pub SharedOnes : Type 0
+SharedOnes = (tables : List Table) (found : List (Option Tree)) → AreCertifiable (dues_of tables) found
+    → IsCertificate tables (certificate_lines version.Two tables (map shared_tree found)) version.Two
+    (map shared_tree found)
+
+abbrev pub StandAgain : Type 0
+StandAgain = (tables : List Table) (found : List (Option Tree)) → AreCertifiable (dues_of tables) found
+    → map expanded (map shared_tree found) ≡ found
+
+abbrev pub WrittenOnes : Type 0
+WrittenOnes = (v : Version) (tables : List Table) (trees : List CitedTree) → IsTrue (names_are_lines tables)
+    → IsCertificate tables (certificate_lines v tables trees) v trees
+    → IsReadAs tables (certificate_text v tables trees) v trees
+
+map_twice : {A B C : Type 0} (f : A → B) (g : B → C) (xs : List A) → map g (map f xs) ≡ map (λ x. g (f x)) xs
+map_twice f g [] = refl
+map_twice f g (x ∷ xs) = ap (λ ys. g (f x) ∷ ys) (map_twice f g xs)
+
+module _ (shares : SharedOnes) (stands : StandAgain) (writes : WrittenOnes) where
+  -- covered trees are written as a certificate of version 2, also behind lines with which none begins
+  covered_behind : (tables : List Table) (found : List (Option Tree)) (front : List ℕ)
+      → IsTrue (names_are_lines tables) → AreCertifiable (dues_of tables) found → AllCovered tables found
+      → IsPassed front → IsOver tables (front ++ certificate_text version.Two tables (map shared_tree found)) None
+  covered_behind tables found front named are covered passes =
+      let trees = map shared_tree found in
+      let read = writes version.Two tables trees named (shares tables found are) in
+      let behind =
+      read_as_behind tables version.Two trees front (certificate_text version.Two tables trees) passes read in
+      let same : map (λ (t : CertTree). expanded t.tree) behind.c.trees ≡ found =
+      sym (map_twice (λ (t : CertTree). t.tree) expanded behind.c.trees) ∙ ap (map expanded) behind.trees_are
+      ∙ stands tables found are in
+      (behind.c, (behind.is, subst (AllCovered tables) (sym same) covered), behind.version_is)
+
+  module _ (program : Program) (named : AreUnbroken program.decls.scopes) (scope most : ℕ) (few : most ≤ MOST_LEAVES)
+      (files : List (List ℕ)) (report : Report) (is : IsReport program scope most report)
+      (complete : AllHave (λ s. s.verdict ≡ verdict.Complete) report.sections) where
+    abbrev written : List CaseTree → List ℕ
+    written trees = report_text program.decls files most report.sections
+        ++ certificate_text version.Two report.tables (map (λ t. shared_tree (tree_of t.nodes)) trees)
+
+    trees_certified : (trees : List CaseTree) → AreClosedTrees most (targets_in report.tables) trees
+        → IsOver report.tables (written trees) None
+    trees_certified trees closed =
+        let tables = report.tables in
+        let found = found_of trees in
+        let front = report_text program.decls files most report.sections in
+        subst (λ (ts : List CitedTree). IsOver tables (front ++ certificate_text version.Two tables ts) None)
+        (map_twice (λ (t : CaseTree). tree_of t.nodes) shared_tree trees)
+        (covered_behind tables found front (tables_in_lines program named tables is.tables_are.tables_are)
+        (are_certifiable most few tables trees closed) (are_covered most tables trees closed)
+        (report_passed program files most named (verdict_in report.sections) tables is.made report.sections
+        is.tables_are.tables_are is.sections_are complete))
+
+    -- what is written of its trees is a certificate
+    pub report_certified : (trees : List CaseTree) → AreClosedTrees most (targets_in report.tables) trees
+        → IsOverScope program scope (written trees) None
+    report_certified trees closed = (report.tables, is.tables_are, trees_certified trees closed)
+
+-- a report has trees where its last verdict is complete
+pub last_complete : (v : Verdict) (made trees : List CaseTree) → trees_at v made ≡ Some trees → v ≡ verdict.Complete
+last_complete verdict.Complete made trees e = refl
+last_complete verdict.Found made trees e = absurd (cc)
+last_complete verdict.Masked made trees e = absurd (cc)
+last_complete verdict.Undecided made trees e = absurd (cc)

@@ -1,0 +1,4 @@
+pub mod Unbroken
+pub mod Rechecks
+pub mod CheckedAudits
+pub mod Told

@@ -1,7 +1,0 @@
-use Rattle.cat_leaf_sound.proofs.TypedInputs.{inputs_typed}
-use Rattle.cat_leaf_sound.proofs.laws.inputs_of_valuations_are_well_typed.Goals as goal
-
-pub returns : goal.returns
-returns c scope table v tabled valid =
-    inputs_typed c.args.program.now.decls c.declarations_are_sound.ensures scope tabled.0 table v tabled.2
-    tabled.4.scope_is valid

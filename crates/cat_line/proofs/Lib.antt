@@ -1,4 +1,0 @@
-pub mod Views
-pub mod Exits
-pub mod Gathered
-pub mod Exported

@@ -1,5 +1,0 @@
-use Rattle.cat_lookup.proofs.FirstOutputs.{AreFirstOutputs}
-use Rattle.cat_lookup.proofs.building.outputs_of.Given as goal
-
-abbrev pub invariant-loop-item : goal.invariant-loop-item
-invariant-loop-item l = AreFirstOutputs l.items l.item l.names l.numbers

@@ -1,6 +1,0 @@
-pub mod Table
-pub mod CaseTable
-pub mod Tables
-pub mod Shown
--- what the code keeps on its way: no public clause cites it
-pub mod inside

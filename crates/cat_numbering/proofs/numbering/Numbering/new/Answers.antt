@@ -1,4 +1,0 @@
-use Rattle.cat_numbering.proofs.numbering.Numbering.new.Goals as goal
-
-pub returns : goal.returns
-returns c = λ items. record { terms = c.new.ensures items; atoms = c.new-2.ensures }

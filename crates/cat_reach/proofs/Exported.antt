@@ -1,3 +1,0 @@
--- What crates above may cite by path: which numbers stand in a list.
-pub use Rattle.cat_reach.proofs.Members.{all_have, apart, differ_first, differ_rest, in_both, in_cons, in_front}
-pub use Rattle.cat_reach.proofs.Members.{in_here, in_later, in_of_listed, one_or_other}

@@ -1,7 +1,0 @@
-use Rattle.std.proofs.Common.{drop}
-use Rattle.cat_reach.specs.Reached.{calls_in}
-use Rattle.cat_reach.proofs.Marking.{IsUnderWay}
-use Rattle.cat_reach.proofs.reached.marks_of.Given as goal
-
-abbrev pub invariant-loop-at : goal.invariant-loop-at
-invariant-loop-at l = IsUnderWay (calls_in l.program) l.scope (drop l.at l.program.scope_order) l.marks.items

@@ -1,0 +1,2 @@
+pub mod DeclaredSound
+pub mod PlainProgram

@@ -1,9 +1,0 @@
-use Rattle.std.proofs.Common.{◌≡◌, ◌≤◌, ◌++◌, drop}
-use Rattle.cat_share.specs.inside.Writing.{numbers_from}
-use Rattle.cat_share.proofs.writing.name_numbers.Given as goal
-
-abbrev pub invariant-loop-again : goal.invariant-loop-again
-invariant-loop-again l = record {
-  made : l.numbers ++ numbers_from l.next (drop l.again-index l.recurs) ≡ numbers_from 0 l.recurs;
-  few : l.next ≤ l.again-index;
-}

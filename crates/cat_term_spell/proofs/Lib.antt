@@ -1,3 +1,0 @@
-pub mod KeyEquations
-pub mod CutLaws
-pub mod Exported

@@ -1,6 +1,0 @@
-use Rattle.std.proofs.Common.{◌≡◌, ◌++◌, drop}
-use Rattle.cat_term_spell.specs.inside.Fronts.{patterns_in}
-use Rattle.cat_term_spell.proofs.spell.patterns_in.Given as goal
-
-abbrev pub invariant-loop-arm : goal.invariant-loop-arm
-invariant-loop-arm l = l.numbers ++ patterns_in (drop l.arm-index l.arms) ≡ patterns_in l.arms

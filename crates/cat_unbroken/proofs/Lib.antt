@@ -1,4 +1,0 @@
-pub mod WordBytes
-pub mod TokenNames
-pub mod TreeNames
-pub mod DeclaredNames

@@ -1,4 +1,0 @@
-mod AskedLemmas
-mod Examples
-mod FollowingLemmas
-mod WayLemmas

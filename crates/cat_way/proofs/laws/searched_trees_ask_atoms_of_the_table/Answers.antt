@@ -1,7 +1,0 @@
-use Rattle.std.proofs.Common.{rules}
-use Rattle.cat_way.proofs.AskedLemmas.{asks_of_table}
-use Rattle.cat_way.proofs.laws.searched_trees_ask_atoms_of_the_table.Goals as goal
-
-pub returns : goal.returns
-returns c =
-    asks_of_table c.args.table.now.terms c.args.table.now.atoms c.args.table.now.targets (search rules)

@@ -1,4 +1,0 @@
-pub mod Ways
-pub mod OnWays
--- what the code keeps on its way: no public clause cites it
-pub mod inside
