@@ -36,13 +36,21 @@ cut_of_term [] i atom h = absurd (true≢false (sym h))
 cut_of_term (t ∷ ts) zero atom h = h
 cut_of_term (t ∷ ts) (suc i) atom h = cut_of_term ts i atom h
 
-sound_atoms : (terms : List Term) (atoms : List Atom) (targets : List TableTarget)
+pub sound_atoms : (terms : List Term) (atoms : List Atom) (targets : List TableTarget)
     → IsTrue (is_sound terms atoms targets) → IsTrue (list_all (atom_is_sound terms) atoms)
 unfolding is_sound
 sound_atoms terms atoms targets h =
     (both_true (list_all term_is_sound terms) (list_all (atom_is_sound terms) atoms)
     (both_true (list_all term_is_sound terms && list_all (atom_is_sound terms) atoms)
     (list_all (target_is_sound (length atoms)) targets) h).0).1
+
+-- the atoms of a table are cuts of its terms
+pub atom_cut : (terms : List Term) (atoms : List Atom) (targets : List TableTarget)
+    → IsTrue (is_sound terms atoms targets) → (a : ℕ) (atom : Atom) → slice_get atoms a ≡ Some atom
+    → IsTrue (is_cut_at (dims_of terms) atom.term atom.cut)
+atom_cut terms atoms targets sound a atom at =
+    cut_of_term terms atom.term atom
+    (list_all_at (atom_is_sound terms) atoms a atom (sound_atoms terms atoms targets sound) at)
 
 module _ (terms : List Term) (atoms : List Atom) where
   -- a leaf is closed in a region that is judged covered
@@ -57,7 +65,7 @@ module _ (terms : List Term) (atoms : List Atom) where
       → Closed atoms t region w
 
 module _ (terms : List Term) (atoms : List Atom) (sound : IsTrue (list_all (atom_is_sound terms) atoms)) where
-  answered : (region : Constraints) (a : ℕ) (b : Bool) (o : Option Atom) → slice_get atoms a ≡ o → IsRegion region
+  pub answered : (region : Constraints) (a : ℕ) (b : Bool) (o : Option Atom) → slice_get atoms a ≡ o → IsRegion region
       → region.dims ≡ dims_of terms → IsRegion (with_answer region o b)
   answered region a b None at is dims = is
   answered region a b (Some atom) at is dims =
@@ -65,7 +73,7 @@ module _ (terms : List Term) (atoms : List Atom) (sound : IsTrue (list_all (atom
       IsRegion-with_narrowing region (record { dim = atom.term; cut = atom.cut; yes = b }) is
       (subst (λ (ds : List Dim). is_cut_at ds atom.term atom.cut ≡ true) (sym dims) cut)
 
-  answered_dims : (region : Constraints) (o : Option Atom) (b : Bool) → (with_answer region o b).dims ≡ region.dims
+  pub answered_dims : (region : Constraints) (o : Option Atom) (b : Bool) → (with_answer region o b).dims ≡ region.dims
   answered_dims region None b = refl
   answered_dims region (Some atom) b = refl
 

@@ -23,7 +23,8 @@ trees_of-nodes_met : (ms : List Met) → trees_of (nodes_met ms) ≡ trees_met m
 trees_of-nodes_met [] = refl
 trees_of-nodes_met (met.Split a ∷ ms) = ap (node_before (node.Split a)) (trees_of-nodes_met ms)
 trees_of-nodes_met (met.Leaf place ∷ ms) = ap (node_before node.Leaf) (trees_of-nodes_met ms)
-trees_of-nodes_met (met.Passed ∷ ms) = trees_of-nodes_met ms
+trees_of-nodes_met (met.Cite i ∷ ms) = trees_of-nodes_met ms
+trees_of-nodes_met (met.End ∷ ms) = trees_of-nodes_met ms
 
 -- a small tree is there
 pub record IsSmall (c : CitedTree) : Type 0 where

@@ -3,7 +3,10 @@ pub mod MeetingLemmas
 pub mod StandLemmas
 pub mod SideLemmas
 pub mod WalkLemmas
+pub mod StackLemmas
+pub mod LevelLemmas
 pub mod ClosedLaws
+pub mod SkipLemmas
 pub mod SizeLemmas
 pub mod Examples
 pub mod WholeLemmas

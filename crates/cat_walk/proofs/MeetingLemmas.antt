@@ -12,7 +12,7 @@ use Rattle.cat_walk.specs.declared.place.NodePlace.{NodePlace}
 use Rattle.cat_walk.specs.declared.meeting.Met.{Met}
 use Rattle.cat_walk.specs.declared.meeting.Met.TheVariants as met
 use Rattle.cat_walk.specs.LeafPlaces.{elements, list_at, node_at}
-use Rattle.cat_walk.specs.inside.Meetings.{cites_below, are_earlier, met_from, met_in, met_behind, to_come}
+use Rattle.cat_walk.specs.inside.Meetings.{cites_below, are_earlier, met_from, met_in, met_in_list, met_behind, to_come}
 use Rattle.cat_walk.proofs.Lists.{drop-at, drop-past, front-slice_get, last-slice_get, there}
 
 -- ---- what is met in a list doesn't change
@@ -39,8 +39,8 @@ same_met named other n same list node (cited.Split a ∷ ns) h =
 same_met named other n same list node (cited.Cite i ∷ ns) h =
     let two = both_true (nat_lt i n) (cites_below n ns) h in
     let below : i < n = grind (arith, nat_tests, two.0) in
-    ap (λ o. met.Passed ∷ elements o ++ met_from named list (suc node) ns) (same i below)
-    ∙ ap (λ ms. met.Passed ∷ elements (slice_get other i) ++ ms) (same_met named other n same list (suc node) ns two.1)
+    ap (λ o. met.Cite i ∷ elements o ++ met_from named list (suc node) ns) (same i below)
+    ∙ ap (λ ms. met.Cite i ∷ elements (slice_get other i) ++ ms) (same_met named other n same list (suc node) ns two.1)
 
 -- what is met in a list is what its nodes meet where all lists are known
 pub met_at_list : (named : List (List Met)) (more : List (List CitedNode)) → are_earlier (length named) more ≡ true
@@ -102,7 +102,7 @@ list_earlier n (first ∷ more) k (suc i) at nodes h is =
 
 module _ (lists : List (List CitedNode)) (earlier : are_earlier 0 lists ≡ true) where
   -- a list that is cited somewhere is there
-  cited_there : (list node i : ℕ) (o : Option (List CitedNode)) → slice_get lists list ≡ o
+  pub cited_there : (list node i : ℕ) (o : Option (List CitedNode)) → slice_get lists list ≡ o
       → slice_get (elements o) node ≡ Some (cited.Cite i) → i < length lists
   cited_there list node i None at is = absurd (cc)
   cited_there list node i (Some nodes) at is =
@@ -141,7 +141,7 @@ module _ (lists : List (List CitedNode)) (earlier : are_earlier 0 lists ≡ true
       ap (λ k. met_from (met_in [] lists) place.list k (drop k (list_at lists place.list))) (sym (add-one place.node))
 
   pub comes_end : (place : NodePlace) (places : List NodePlace) → node_at lists place ≡ None
-      → to_come lists (place ∷ places) ≡ met.Passed ∷ to_come lists places
+      → to_come lists (place ∷ places) ≡ met.End ∷ to_come lists places
   comes_end place places is =
       ap (λ ns. met_from (met_in [] lists) place.list place.node ns ++ to_come lists places)
       (drop-past (list_at lists place.list) place.node is)
@@ -162,14 +162,14 @@ module _ (lists : List (List CitedNode)) (earlier : are_earlier 0 lists ≡ true
   pub comes_cite : (place : NodePlace) (places : List NodePlace) (i : ℕ)
       → node_at lists place ≡ Some (cited.Cite i)
       → to_come lists (place ∷ places)
-      ≡ met.Passed ∷ to_come lists (record { list = i; node = 0 } ∷ behind place ∷ places)
+      ≡ met.Cite i ∷ met_in_list lists i ++ to_come lists (behind place ∷ places)
   comes_cite place places i is =
-      let within = cited_there place.list place.node i (slice_get lists place.list) refl is in
-      let inner : NodePlace = record { list = i; node = 0 } in
-      let rest = drop (suc place.node) (list_at lists place.list) in
-      let further = met_from (met_in [] lists) place.list (suc place.node) rest in
       ap (λ ms. ms ++ to_come lists places) (at_node place (cited.Cite i) is)
-      ∙ ap (λ ms. met.Passed ∷ ms ++ further ++ to_come lists places) (named_met i within)
-      ∙ ap (λ ms. met.Passed ∷ met_behind lists inner ++ ms ++ to_come lists places) (next_node place)
-      ∙ ap (λ ms. met.Passed ∷ ms)
-      (append_assoc (met_behind lists inner) (met_behind lists (behind place)) (to_come lists places))
+      ∙ ap (λ ms. met.Cite i ∷ met_in_list lists i ++ ms ++ to_come lists places) (next_node place)
+      ∙ ap (λ ms. met.Cite i ∷ ms)
+      (append_assoc (met_in_list lists i) (met_behind lists (behind place)) (to_come lists places))
+
+  -- what comes in a named tree
+  pub comes_in : (places : List NodePlace) (i : ℕ) → i < length lists
+      → to_come lists (record { list = i; node = 0 } ∷ places) ≡ met_in_list lists i ++ to_come lists places
+  comes_in places i within = ap (λ ms. ms ++ to_come lists places) (sym (named_met i within))

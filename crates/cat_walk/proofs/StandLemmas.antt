@@ -17,9 +17,9 @@ use Rattle.cat_walk.specs.declared.place.NodePlace.{NodePlace}
 use Rattle.cat_walk.specs.declared.meeting.Met.{Met}
 use Rattle.cat_walk.specs.declared.meeting.Met.TheVariants as met
 use Rattle.cat_walk.specs.LeafPlaces.{elements, lists_of, leaves_from, named_leaves, leaf_places}
-use Rattle.cat_walk.specs.inside.Meetings.{cites_below, are_earlier, met_from, met_in, start_of, to_come}
+use Rattle.cat_walk.specs.inside.Meetings.{cites_below, are_earlier, met_from, met_in, met_in_list, start_of, to_come}
 use Rattle.cat_walk.specs.inside.Walking.{trees_met, leaves_met}
-use Rattle.cat_walk.proofs.Lists.{last-slice_get}
+use Rattle.cat_walk.proofs.Lists.{last-slice_get, there}
 use Rattle.cat_walk.proofs.MeetingLemmas.{met_at_list}
 
 -- ---- what makes trees
@@ -204,11 +204,12 @@ earlier_named names (nodes ∷ more) out h =
 
 -- ---- the leaves that are met
 
-leaves_met-append : (ms ns : List Met) → leaves_met (ms ++ ns) ≡ leaves_met ms ++ leaves_met ns
+pub leaves_met-append : (ms ns : List Met) → leaves_met (ms ++ ns) ≡ leaves_met ms ++ leaves_met ns
 leaves_met-append [] ns = refl
 leaves_met-append (met.Split a ∷ ms) ns = leaves_met-append ms ns
 leaves_met-append (met.Leaf p ∷ ms) ns = ap (λ ps. p ∷ ps) (leaves_met-append ms ns)
-leaves_met-append (met.Passed ∷ ms) ns = leaves_met-append ms ns
+leaves_met-append (met.Cite i ∷ ms) ns = leaves_met-append ms ns
+leaves_met-append (met.End ∷ ms) ns = leaves_met-append ms ns
 
 elements-map : {A B : Type 0} (f : List A → List B) → f [] ≡ [] → (xs : List (List A)) (i : ℕ)
     → elements (slice_get (map f xs) i) ≡ f (elements (slice_get xs i))
@@ -275,8 +276,13 @@ length-named_from names (nodes ∷ more) out h =
       length-append names (first.tree ∷ []),
     )
 
--- a walk through the lists of a tree meets this tree
+-- what is met in a list makes a tree
+abbrev pub MakesSome : List Met → Type 0
+MakesSome ms = (t : Tree) × Makes ms t
+
+-- a walk through the lists of a tree meets this tree, and in each list a tree
 pub record Stands (cited : CitedTree) (t : Tree) : Type 0 where
+  pub each : (i : ℕ) → i < length (lists_of cited) → MakesSome (met_in_list (lists_of cited) i)
   pub earlier : are_earlier 0 (lists_of cited) ≡ true
   pub makes : trees_met (to_come (lists_of cited) (start_of cited ∷ [])) ≡ Some (t ∷ [])
   pub leaves : leaves_met (to_come (lists_of cited) (start_of cited ∷ [])) ≡ leaf_places cited
@@ -329,8 +335,16 @@ module _ (c : CitedTree) (t : Tree) (names : List Tree) (named : named_from (Som
       ∙ ap (λ n. Some (leaves_from front n 0 c.main)) length_front in
       cc
 
+  each_makes : (i : ℕ) → i < length (lists_of c) → MakesSome (met_in_list (lists_of c) i)
+  each_makes i within =
+      let all = all_make [] [] tt (lists_of c) (names ++ t ∷ []) whole in
+      let long = length-named_from [] (lists_of c) (names ++ t ∷ []) whole in
+      let one = there (names ++ t ∷ []) i (omega (arith, within, long)) in
+      (one.value, makes_at all_met (names ++ t ∷ []) all i one.value one.is)
+
   stands_of : Stands c t
   stands_of = record {
+    each = each_makes;
     earlier = early;
     makes = ap trees_met all_come ∙ last_makes.before [] [] refl;
     leaves = ap leaves_met all_come ∙ leaves_met-append last_met [] ∙ append-nil (leaves_met last_met) ∙ last_leaves;

@@ -31,13 +31,13 @@ use Rattle.cat_walk.specs.inside.Walking.{uncovered_at, trees_met, leaves_met, r
 use Rattle.cat_guard.specs.declared.tree.CitedTree.{CitedTree}
 use Rattle.cat_guard.specs.Trees.{expanded}
 use Rattle.cat_walk.specs.LeafPlaces.{lists_of, leaf_places}
-use Rattle.cat_walk.specs.inside.Meetings.{are_earlier, start_of, to_come}
-use Rattle.cat_walk.proofs.StandLemmas.{stands}
+use Rattle.cat_walk.specs.inside.Meetings.{are_earlier, start_of, met_in_list, to_come}
+use Rattle.cat_walk.proofs.StandLemmas.{MakesSome, stands}
 use Rattle.cat_walk.proofs.Lists.{there}
 
 -- ---- what is covered doesn't hang on the room
 
-none_alike : (region other : Constraints) → region.dims ≡ other.dims → region.narrowings ≡ other.narrowings
+pub none_alike : (region other : Constraints) → region.dims ≡ other.dims → region.narrowings ≡ other.narrowings
     → admits_none region ≡ admits_none other
 unfolding admits_none
 none_alike region other dims narrowings =
@@ -52,7 +52,7 @@ decided_alike region other i c dims narrowings =
     λ n. none_alike (with_narrowing region n) (with_narrowing other n) dims (ap (λ ns. ns ++ n ∷ []) narrowings) in
     rw (none_alike region other dims narrowings, same (narrowed_to i c false), same (narrowed_to i c true)) refl
 
-answers_alike : (atoms : List Atom) (region other : Constraints) → region.dims ≡ other.dims
+pub answers_alike : (atoms : List Atom) (region other : Constraints) → region.dims ≡ other.dims
     → region.narrowings ≡ other.narrowings → answers_in atoms region ≡ answers_in atoms other
 answers_alike atoms region other dims narrowings = fun_ext (λ a. by (slice_get atoms a))
   where
@@ -72,7 +72,7 @@ uncovered_alike atoms (Some t) region other dims narrowings =
 
 -- ---- the dimensions stay
 
-along_dims : (base : Constraints) (path : List Narrowing) → (along base path).dims ≡ base.dims
+pub along_dims : (base : Constraints) (path : List Narrowing) → (along base path).dims ≡ base.dims
 along_dims base [] = refl
 along_dims base (n ∷ path) = along_dims base path
 
@@ -87,28 +87,37 @@ told_of atoms (Some target) region places t answer told = told
 
 -- ---- trees of what is met
 
-record IsSplit (a : ℕ) (o : Option (List Tree)) (trees : List Tree) : Type 0 where
+pub record IsSplit (a : ℕ) (o : Option (List Tree)) (trees : List Tree) : Type 0 where
   pub left : Tree
   pub right : Tree
   pub rest : List Tree
   pub is : o ≡ Some (left ∷ right ∷ rest)
   pub same : trees ≡ tree.Split a left right ∷ rest
 
-split_there : (a : ℕ) (o : Option (List Tree)) (trees : List Tree) → node_before (node.Split a) o ≡ Some trees
+pub split_there : (a : ℕ) (o : Option (List Tree)) (trees : List Tree) → node_before (node.Split a) o ≡ Some trees
     → IsSplit a o trees
 split_there a None trees h = absurd (cc)
 split_there a (Some []) trees h = absurd (cc)
 split_there a (Some (l ∷ [])) trees h = absurd (cc)
 split_there a (Some (l ∷ r ∷ rest)) trees h = record { left = l; right = r; rest = rest; is = refl; same = cc }
 
-record IsLeaf (o : Option (List Tree)) (trees : List Tree) : Type 0 where
+pub record IsLeaf (o : Option (List Tree)) (trees : List Tree) : Type 0 where
   pub rest : List Tree
   pub is : o ≡ Some rest
   pub same : trees ≡ tree.Leaf ∷ rest
 
-leaf_there : (o : Option (List Tree)) (trees : List Tree) → node_before node.Leaf o ≡ Some trees → IsLeaf o trees
+pub leaf_there : (o : Option (List Tree)) (trees : List Tree) → node_before node.Leaf o ≡ Some trees → IsLeaf o trees
 leaf_there None trees h = absurd (cc)
 leaf_there (Some rest) trees h = record { rest = rest; is = refl; same = cc }
+
+-- the tree at the end of a path is passed: whatever answers for the leaves of the others is told of all
+pub record IsPassed (atoms : List Atom) (test : Constraints → Bool) (base : Constraints)
+    (Told : Result (Unit {0}) WalkRefusal → Type 0) (path : List Narrowing) (ms : List Met) : Type 0 where
+  pub rest : List Tree
+  pub made : trees_met ms ≡ Some rest
+  pub fit : AreFit (length atoms) base.room (turns path) rest
+  pub told : (answer : Result (Unit {0}) WalkRefusal)
+      → Answers test (leaves_met ms) (regions_along atoms base (turns path) rest) answer → Told answer
 
 -- ---- the steps of a walk
 
@@ -135,7 +144,11 @@ module _ (atoms : List Atom) (o : Option TableTarget) (base : Constraints)
         (append-nil (leaf_regions atoms base t)) all);
   }
 
-  pub goes_past : (region : Constraints) (ms : List Met) → GoesOn region (met.Passed ∷ ms) → GoesOn region ms
+  -- a tree is passed in a region at the end of a path
+  abbrev pub Passes : List Narrowing → List Met → Type 0
+  Passes path ms = IsPassed atoms test base Told path ms
+
+  pub goes_past : (region : Constraints) (ms : List Met) → GoesOn region (met.End ∷ ms) → GoesOn region ms
   goes_past region ms walk = record {
     path = walk.path;
     trees = walk.trees;
@@ -144,6 +157,34 @@ module _ (atoms : List Atom) (o : Option TableTarget) (base : Constraints)
     fit = walk.fit;
     rest = walk.rest;
   }
+
+  pub goes_in : (region : Constraints) (i : ℕ) (ms : List Met) → GoesOn region (met.Cite i ∷ ms) → GoesOn region ms
+  goes_in region i ms walk = record {
+    path = walk.path;
+    trees = walk.trees;
+    here = walk.here;
+    made = walk.made;
+    fit = walk.fit;
+    rest = walk.rest;
+  }
+
+  -- behind a tree that is passed
+  module _ (path : List Narrowing) (ms : List Met) (passed : Passes path ms) where
+    pub all_covered : turns path ≡ [] → Told (Ok tt)
+    all_covered none =
+        passed.told (Ok tt) (ap (λ ps. list_any test (regions_along atoms base ps passed.rest)) none)
+
+    pub goes_over : (after : Constraints) → Turns base path true after → GoesOn after ms
+    goes_over after turned = record {
+      path = turned.0;
+      trees = passed.rest;
+      here = turned.2;
+      made = passed.made;
+      fit = subst (λ ps. AreFit (length atoms) base.room ps passed.rest) turned.1 passed.fit;
+      rest = λ answer told. passed.told answer
+          (subst (λ (ps : List (List Narrowing)). Answers test (leaves_met ms)
+          (regions_along atoms base ps passed.rest) answer) (sym turned.1) told);
+    }
 
   -- a split
   module _ (region : Constraints) (a : ℕ) (ms : List Met) (walk : GoesOn region (met.Split a ∷ ms)) where
@@ -281,24 +322,11 @@ module _ (atoms : List Atom) (o : Option TableTarget) (base : Constraints)
             ap (λ b. if b then Some place else first_place test (leaves_met ms) left_regions) (sym tested ∙ is) ∙ told
         by (Err why.Memory) told = tt
 
-    pub all_covered : test region ≡ false → turns walk.path ≡ [] → Told (Ok tt)
-    all_covered is none =
-        covered_told is (Ok tt) (ap (λ ps. list_any test (regions_along atoms base ps leaf.rest)) none)
-
-    pub goes_over : test region ≡ false → (after : Constraints) → Turns base walk.path true after → GoesOn after ms
-    goes_over is after turned =
+    pub leaf_passed : test region ≡ false → Passes walk.path ms
+    leaf_passed is =
         let fits : AreFit (length atoms) base.room (walk.path ∷ turns walk.path) (tree.Leaf ∷ leaf.rest) =
         subst (AreFit (length atoms) base.room (walk.path ∷ turns walk.path)) leaf.same walk.fit in
-        record {
-          path = turned.0;
-          trees = leaf.rest;
-          here = turned.2;
-          made = leaf.is;
-          fit = subst (λ ps. AreFit (length atoms) base.room ps leaf.rest) turned.1 fits.1;
-          rest = λ answer told. covered_told is answer
-              (subst (λ (ps : List (List Narrowing)). Answers test (leaves_met ms)
-              (regions_along atoms base ps leaf.rest) answer) (sym turned.1) told);
-        }
+        record { rest = leaf.rest; made = leaf.is; fit = fits.1; told = covered_told is }
 
   -- nothing is to come where no walk is under way
   pub ends : (region : Constraints) → GoesOn region [] → ⊥
@@ -321,6 +349,16 @@ module _ (c : CitedTree) (count room : ℕ) where
       by : (o : Option Tree) → expanded c ≡ o → IsWalkable count room o → are_earlier 0 (lists_of c) ≡ true
       by None at walkable = absurd (walkable)
       by (Some t) at walkable = (stands c t at).earlier
+
+  -- what is met in a list of a tree that can be walked makes a tree
+  pub walkable_makes : IsWalkable count room (expanded c) → (i : ℕ) → i < length (lists_of c)
+      → MakesSome (met_in_list (lists_of c) i)
+  walkable_makes walkable = by (expanded c) refl walkable
+    where
+      by : (o : Option Tree) → expanded c ≡ o → IsWalkable count room o → (i : ℕ) → i < length (lists_of c)
+          → MakesSome (met_in_list (lists_of c) i)
+      by None at walkable = absurd (walkable)
+      by (Some t) at walkable = (stands c t at).each
 
 pub tree_begins : (atoms : List Atom) (o : Option TableTarget) (base : Constraints) (c : CitedTree)
     → IsWalkable (length atoms) base.room (expanded c)

@@ -1,4 +1,5 @@
 pub mod Classes
+pub mod Levels
 pub mod Meetings
 pub mod Nodes
 pub mod Numbering

@@ -6,7 +6,7 @@ ghost use Rattle.cat_walk.specs.Sizes.{is_small};
 ghost use Rattle.cat_walk.specs.inside.Meetings.{are_earlier, start_of, to_come};
 ghost use Rattle.cat_walk.specs.inside.Nodes.{nodes_met};
 
-use crate::meeting::{Met, next, start};
+use crate::meeting::{Met, enter, next, start};
 use crate::size::tree_size;
 use cat_guard::{CaseTree, CitedTree, TreeNode, TreeNodes};
 use cat_pos::List;
@@ -23,7 +23,8 @@ fn nodes_of(alloc: Global, tree: &CitedTree) -> Result<TreeNodes, AllocError>
         match met {
             Met::Split(atom) => nodes.push(TreeNode::Split(atom))?,
             Met::Leaf(_) => nodes.push(TreeNode::Leaf)?,
-            Met::Passed => {}
+            Met::Cite(name) => enter(tree, &mut places, name)?,
+            Met::End => {}
         }
     }
     Ok(nodes)

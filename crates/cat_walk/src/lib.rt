@@ -5,6 +5,7 @@
 mod classes;
 mod expanding;
 mod laws;
+mod levels;
 mod meeting;
 mod numbering;
 mod place;

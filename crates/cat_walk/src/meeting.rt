@@ -1,21 +1,22 @@
 // What a walk through the lists of a tree with citations meets.
-ghost use Rattle.std.specs.Prelude.{◌≡◌, ◌+◌, ◌<◌, ◌^◌, [], ◌∷◌, IsTrue, IfOk, OnSome};
+ghost use Rattle.std.specs.Prelude.{◌≡◌, ◌+◌, ◌<◌, ◌^◌, ◌++◌, [], ◌∷◌, IsTrue, IfOk, OnOk, OnSome, length};
 ghost use Rattle.std.specs.Option.{option_copied};
 ghost use Rattle.cat_walk.specs.LeafPlaces.{lists_of, node_at};
-ghost use Rattle.cat_walk.specs.inside.Meetings.{are_earlier, start_of, to_come, Meets, IsWritten};
+ghost use Rattle.cat_walk.specs.inside.Meetings.{are_earlier, start_of, met_in_list, to_come, Meets, IsWritten};
 
 use crate::place::NodePlace;
 use crate::stack::Stack;
 use cat_guard::{CitedNode, CitedTree};
 use std::alloc::{AllocError, Global};
 
-/// What a walk comes to: a split on the atom of that number, a leaf, or a citation or the end of a list, which it goes
-/// past.
+/// What a walk comes to: a split on the atom of that number, a leaf, a citation of the named tree of that number, which
+/// isn't gone into, or the end of a list.
 #[derive(Clone, Copy, PartialEq, Eq, Debug)]
 pub enum Met {
     Split(usize),
     Leaf(NodePlace),
-    Passed,
+    Cite(usize),
+    End,
 }
 
 /// The node that is written there.
@@ -45,14 +46,13 @@ pub(crate) fn start(alloc: Global, tree: &CitedTree) -> Result<Stack<NodePlace>,
     Ok(places)
 }
 
-/// What comes next. Behind a citation this is what the named tree begins with, and behind the end of a list it is what
-/// follows the citation that led there.
+/// What comes next. Behind the end of a list this is what follows the citation that led there.
 pub(crate) fn next(
     tree: &CitedTree,
     places: &mut Stack<NodePlace>,
 ) -> Result<Option<Met>, AllocError>
     requires { IsTrue (are_earlier 0 (lists_of tree.now)) }
-    ensures next { IfOk result (λ met. Meets (to_come (lists_of tree.now) places.old) met
+    ensures next { IfOk result (λ met. Meets (lists_of tree.now) (to_come (lists_of tree.now) places.old) met
         (to_come (lists_of tree.now) places.new)) }
     ensures leaf { IfOk result (IsWritten (lists_of tree.now)) }
 {
@@ -60,7 +60,7 @@ pub(crate) fn next(
         return Ok(None);
     };
     let Some(node) = node_at(tree, place) else {
-        return Ok(Some(Met::Passed));
+        return Ok(Some(Met::End));
     };
     let NodePlace { list, node: index } = place;
     places.push(NodePlace {
@@ -70,12 +70,23 @@ pub(crate) fn next(
     match node {
         CitedNode::Split(atom) => Ok(Some(Met::Split(atom))),
         CitedNode::Leaf => Ok(Some(Met::Leaf(place))),
-        CitedNode::Cite(name) => {
-            places.push(NodePlace {
-                list: name,
-                node: 0,
-            })?;
-            Ok(Some(Met::Passed))
-        }
+        CitedNode::Cite(name) => Ok(Some(Met::Cite(name))),
     }
+}
+
+/// Goes into a named tree that is cited.
+pub(crate) fn enter(
+    tree: &CitedTree,
+    places: &mut Stack<NodePlace>,
+    name: usize,
+) -> Result<(), AllocError>
+    requires earlier { IsTrue (are_earlier 0 (lists_of tree.now)) }
+    requires name { name < length (lists_of tree.now) }
+    ensures { OnOk result (to_come (lists_of tree.now) places.new ≡ met_in_list (lists_of tree.now) name
+        ++ to_come (lists_of tree.now) places.old) }
+{
+    places.push(NodePlace {
+        list: name,
+        node: 0,
+    })
 }

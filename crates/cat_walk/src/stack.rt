@@ -1,5 +1,6 @@
 // A stack that contracts see as its entries, the last one first.
-ghost use Rattle.std.specs.Prelude.{◌≡◌, [], ◌∷◌, MatchOption, OnOk};
+ghost use Rattle.std.specs.Prelude.{◌≡◌, [], ◌∷◌, MatchOption, OnOk, slice_get};
+ghost use Rattle.std.specs.Option.{option_copied};
 
 use cat_pos::List;
 use std::alloc::{AllocError, Global};
@@ -7,7 +8,7 @@ use std::marker::Model;
 
 /// A stack on the heap.
 #[derive(Drop)]
-pub(crate) struct Stack<T> {
+pub struct Stack<T> {
     entries: List<T>,
 }
 
@@ -41,5 +42,12 @@ impl<T: Drop> Stack<T> {
         ensures { MatchOption result ((self.old ≡ []) × (self.new ≡ [])) (λ top. self.old ≡ top ∷ self.new) }
     {
         self.entries.pop()
+    }
+
+    /// The last entry that was put on.
+    pub(crate) fn top(&self) -> Option<&T>
+        ensures { option_copied result ≡ slice_get self.now 0 }
+    {
+        self.entries.as_slice().last()
     }
 }

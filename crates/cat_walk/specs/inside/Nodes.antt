@@ -10,4 +10,5 @@ abbrev pub nodes_met : List Met → List TreeNode
 nodes_met [] = []
 nodes_met (met.Split a ∷ ms) = node.Split a ∷ nodes_met ms
 nodes_met (met.Leaf place ∷ ms) = node.Leaf ∷ nodes_met ms
-nodes_met (met.Passed ∷ ms) = nodes_met ms
+nodes_met (met.Cite i ∷ ms) = nodes_met ms
+nodes_met (met.End ∷ ms) = nodes_met ms

@@ -20,14 +20,16 @@ abbrev pub trees_met : List Met → Option (List Tree)
 trees_met [] = Some []
 trees_met (met.Split a ∷ ms) = node_before (node.Split a) (trees_met ms)
 trees_met (met.Leaf place ∷ ms) = node_before node.Leaf (trees_met ms)
-trees_met (met.Passed ∷ ms) = trees_met ms
+trees_met (met.Cite i ∷ ms) = trees_met ms
+trees_met (met.End ∷ ms) = trees_met ms
 
 -- the leaves that are met
 abbrev pub leaves_met : List Met → List NodePlace
 leaves_met [] = []
 leaves_met (met.Split a ∷ ms) = leaves_met ms
 leaves_met (met.Leaf place ∷ ms) = place ∷ leaves_met ms
-leaves_met (met.Passed ∷ ms) = leaves_met ms
+leaves_met (met.Cite i ∷ ms) = leaves_met ms
+leaves_met (met.End ∷ ms) = leaves_met ms
 
 -- the regions of the leaves of trees, each at the end of its path
 abbrev pub regions_along : List Atom → Constraints → List (List Narrowing) → List Tree → List Constraints

@@ -1,0 +1,18 @@
+use Rattle.std.proofs.Common.{◌≡◌, ◌∙◌, false, sym, subst}
+use Rattle.cat_walk.specs.inside.Levels.{is_past}
+use Rattle.cat_walk.proofs.LevelLemmas.{turned}
+use Rattle.cat_walk.proofs.levels.Levels.back_to.Goals as goal
+
+pub loop-self-preserved : goal.loop-self-preserved
+loop-self-preserved c atoms t region are =
+    c.drop_last.ensures.kept atoms t region (c.loop-self.invariant atoms t region are)
+
+pub returns : goal.returns
+returns c atoms t base before after path at turn room are =
+    let now = c.loop-self.invariant atoms t before are in
+    record {
+      whole = now.whole;
+      levels = turned atoms t base before after path c.loop-self.self.levels at turn
+          (subst (λ n. is_past n c.loop-self.self.levels ≡ false) (sym room)
+          (sym c.is_past.ensures.past ∙ c.loop-self-test.false)) now.levels;
+    }
