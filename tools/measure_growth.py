@@ -1,0 +1,111 @@
+"""Work whose cost may grow no faster than a source and an input do, each of a size, for tools/measure and tests/growth.
+
+Each makes the files of a call of a size, its words and what it is given, and begins the reply that is due."""
+import json, math, subprocess, sys
+
+from measure_audits import bands, source
+from measure_runs import measured
+from measure_sources import HEAD, block, definitions, items, law, scopes
+
+
+class Call:
+    """A call of the program over files of its own, after a call whose reply becomes one of the files where there is one."""
+
+    def __init__(self, words, files, given=b'', reply=b'', first=None):
+        self.words, self.files, self.given, self.reply, self.first = words, files, given, reply, first
+
+
+def run(text, given, reply):
+    return Call(['run', 'S', 'a.md'], {'a.md': text}, json.dumps(given).encode(), reply)
+
+
+def audit(scope, text):
+    covered = b'audit %s\n%s: Covered' % (scope.encode(), b'rate' if scope == 'Bands' else b'x')
+    return Call(['audit', scope, 'a.md'], {'a.md': text}, reply=covered)
+
+
+def check(scope, text):
+    return Call(['check', scope, 'a.md', 'certificate'], {'a.md': text}, reply=b'Yes\n', first=['audit', scope, 'a.md'])
+
+
+def grid(count):
+    """A rule for each cell of a square of two amounts; so many rules or a few less."""
+    side = int(count ** 0.5)
+    lines = ['declaration scope S:', '  input a content money', '  input b content money', '  output x content integer', 'scope S:']
+    def part(name, k):
+        asked = (['%s >= $%d' % (name, 10 * k)] if k else []) + (['%s < $%d' % (name, 10 * (k + 1))] if k + 1 < side else [])
+        return ' and '.join(asked)
+    return block(lines + ['  definition x under condition %s and %s consequence equals %d' % (part('a', j), part('b', k), j * side + k)
+                          for j in range(side) for k in range(side)])
+
+
+def shared_condition(count):
+    """A block under a condition of a few parts, with so many definitions."""
+    parts = ' and '.join('n != %d' % (1000000 + k) for k in range(4))
+    return block(HEAD[:3] + ['scope S under condition %s:' % parts] +
+                 ['  definition x under condition n = %d consequence equals n' % k for k in range(count)])
+
+
+def literal(count):
+    """A structure of so many fields, which a literal gives in their order."""
+    return block(['declaration structure T:', *('  data f%d content integer' % k for k in range(count)), 'declaration scope S:',
+                  '  input n content integer', '  output x content integer', 'scope S:',
+                  '  definition x equals T { %s } . f0' % ' '.join('-- f%d : n' % k for k in range(count))])
+
+
+def unknown_keys(count):
+    """An input with so many keys that name nothing."""
+    return {'n': 1, **{'k%d' % k: 0 for k in range(count)}}
+
+
+def persons(count):
+    """A list of so many structures."""
+    text = block(['declaration structure P:', '  data income content integer', 'declaration scope S:', '  input l content list of P',
+                  '  output x content integer', 'scope S:', '  definition x equals sum integer of map each p among l to p.income'])
+    return run(text, {'l': [{'income': 1} for _ in range(count)]}, b'{"x":%d}\n' % count)
+
+
+def lay(folder, program, call):
+    """Lays the files of a call down."""
+    for name, text in call.files.items():
+        (folder / name).write_text(text)
+    if call.first:
+        made = subprocess.run([program, *call.first], cwd=folder, stdout=subprocess.PIPE)
+        (folder / 'certificate').write_bytes(made.stdout)
+
+
+# What grows, the call of a size, and the greatest size that tools/measure takes.
+WORK = [
+    ('definitions of one variable', lambda n: run(definitions(n), {'n': 1}, b'{"x":1}\n'), 64_000),
+    ('variables of a scope', lambda n: run(items(n), {'n': 1}, b'{"x0":1,'), 4_000),
+    ('scopes', lambda n: run(scopes(n), {'n': 1}, b'{"x":1}\n'), 32_000),
+    ('lines of law', lambda n: run(law(n), {'n': 1}, b'{"x":1}\n'), 64_000),
+    ('definitions under the condition of a block', lambda n: run(shared_condition(n), {'n': 1}, b'{"x":1}\n'), 16_000),
+    ('fields of a structure literal', lambda n: run(literal(n), {'n': 1}, b'{"x":1}\n'), 64_000),
+    ('keys of an input that name nothing', lambda n: run(definitions(2), unknown_keys(n), b'input refused '), 640_000),
+    ('structures in a list', persons, 640_000),
+    ('an audit of bands', lambda n: audit('Bands', source(bands(n, 'in order'))), 32_000),
+    ('an audit of bands in any order', lambda n: audit('Bands', source(bands(n, 'shuffled'))), 32_000),
+    ('a check of bands', lambda n: check('Bands', source(bands(n, 'in order'))), 32_000),
+    ('an audit of a grid', lambda n: audit('S', grid(n)), 32_400),
+    ('a check of a grid', lambda n: check('S', grid(n)), 32_400),
+    ('a drill', lambda n: Call(['drill', str(n), 'none'], {}, reply=b'bands %d ' % n), 1_000),
+]
+
+
+def growth(folder, program):
+    """Times of three sizes, each four times the one before, and the exponent of the last step."""
+    print('\n| What grows | sizes | time | memory | exponent |\n|---|---|---|---|---|')
+    for told, make, most in WORK:
+        sizes = most // 16, most // 4, most
+        took = []
+        for size in sizes:
+            call = make(size)
+            lay(folder, program, call)
+            took.append(measured(folder, [program, *call.words], call.given))
+            if not took[-1][2].startswith(call.reply):
+                print('%s, %d: %r' % (told, size, took[-1][2][:80]), file=sys.stderr)
+        exponent = math.log(took[2][0] / max(took[1][0], 0.001)) / math.log(4)
+        print('| %s | %s | %s | %s | %.2f |' % (told, ', '.join(format(size, ',') for size in sizes),
+                                              ', '.join('%.2f s' % each[0] for each in took),
+                                              ', '.join('%.0f MiB' % each[1] for each in took), exponent), flush=True)
