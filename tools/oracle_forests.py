@@ -2,7 +2,7 @@
 from collections import namedtuple
 
 from reference.grammar import Reader
-from reference.programs import forest_of
+from reference.programs import forests_of
 from reference.tokens import Refused, tokens_of
 
 KINDS = {'E12': 'LabelUnknown', 'E13': 'LabelSplit', 'E14': 'ExceptionAmbiguous', 'E15': 'ExceptionCycle',
@@ -20,7 +20,7 @@ def forest(runs, text):
     reader = Reader(tokens_of([(''.join(lines), 0, 1)]))
     uses = [reader.use() for _ in lines]
     try:
-        made = forest_of(Scope([use._replace(target=use.target.name.text) for use in uses]))
+        made, = forests_of([Scope([use._replace(target=use.target.name.text) for use in uses])])
     except Refused as refused:
         return {'%s %d:%d:%d' % (KINDS[code], *pos) for code, pos in refused.faults}
     return {' | '.join('%s: %s' % (variable, shown(runs, made[variable][0]) if variable in made else '-')

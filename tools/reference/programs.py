@@ -161,8 +161,7 @@ def program_of(tree):
     refuse(faults + [('E20', names.scopes[n].name.pos) for n in range(len(found)) if lengths[n] == LONGEST + 1])
     scopes = [ScopeOf(names.scopes[b.number].name.text, names.scopes[b.number].name.pos, b.items, b.definitions,
                       b.assertions, b.rounding, order, calls[b.number]) for b, order in zip(found, orders)]
-    forests = [forest_of(scope) for scope in scopes]
-    return types, scopes, forests
+    return types, scopes, forests_of(scopes)
 
 
 def called_places(body):
@@ -180,17 +179,21 @@ def key_of(number, d):
     return ('alone', number) if d.exception else ('base',)
 
 
-def forest_of(scope):
+def forests_of(scopes):
+    """The forest of each scope; refused at a fault of the first kind that stands in any."""
+    kinds = {'E12': [], 'E13': [], 'E14': [], 'E15': [], 'E20': []}
+    forests = [forest_of(scope, kinds) for scope in scopes]
+    for code, positions in kinds.items():
+        refuse([(code, pos) for pos in positions])
+    return forests
+
+
+def forest_of(scope, kinds):
     """For each target its groups, by their first definitions: (definitions, groups that except it); and the roots."""
-    targets, kinds = {}, {'E12': [], 'E13': [], 'E14': [], 'E15': [], 'E20': []}
+    targets = {}
     for number, d in enumerate(scope.definitions):
         targets.setdefault(d.target, {}).setdefault(key_of(number, d), []).append(number)
-    forest = {}
-    for target, groups in targets.items():
-        forest[target] = linked(scope.definitions, groups, kinds)
-    for code in ('E12', 'E13', 'E14', 'E15', 'E20'):
-        refuse([(code, pos) for pos in kinds[code]])
-    return forest
+    return {target: linked(scope.definitions, groups, kinds) for target, groups in targets.items()}
 
 
 def linked(definitions, groups, kinds):

@@ -9,18 +9,20 @@ use Rattle.cat_lex.specs.Lexes.{Lexes, BeginsNoToken, PassesBound, FailsAt}
 use Rattle.cat_tree.specs.declared.program.Tree.{Tree}
 use Rattle.cat_parse.specs.Causes.{IsUnexpected, IsTooDeep}
 use Rattle.cat_scope.specs.declared.programs.Program.{Program}
+use Rattle.cat_scope.specs.Groups.{Group}
 use Rattle.cat_names.specs.declared.fault.Fault.{Fault}
 use Rattle.cat_names.specs.declared.fault.Fault.TheVariants as fault
 use Rattle.cat_names.specs.Accepted.{IsRefused}
 use Rattle.cat_except.specs.declared.refusal.ExceptRefusal.{ExceptRefusal}
 use Rattle.cat_except.specs.declared.refusal.ExceptRefusal.TheVariants as exception
 use Rattle.cat_except.specs.Causes as exceptions
-use Rattle.cat_except.specs.Faults.{groups_in}
+use Rattle.cat_except.specs.Causes.{AreResolved, HaveNoCycle}
+use Rattle.cat_except.specs.Faults.{groups_in, unknown_labels, split_labels}
 use Rattle.cat_build.specs.declared.code.Code.{Code}
 use Rattle.cat_build.specs.declared.code.Code.TheVariants as code
 use Rattle.cat_build.specs.declared.code.BuildRefusal.{BuildRefusal}
 use Rattle.cat_build.specs.declared.code.BuildRefusal.TheVariants.{Refused, Memory}
-use Rattle.cat_build.specs.Accepted.{IsTreeOf, IsProgramIn, MakeForestsTo}
+use Rattle.cat_build.specs.Accepted.{IsTreeOf, IsProgramIn}
 
 -- ---- tokens
 
@@ -51,14 +53,24 @@ pub record IsRefusedTree (pieces : List Piece) (found : Fault) : Type 0 where
   pub spelled : IsTreeOf pieces tree
   pub refused : IsRefused tree found
 
--- a fault stands against the exceptions of a scope, where those of the scopes in front of it have none
+-- no fault of an earlier kind than this one's stands against exceptions. The kinds are, in this order: labels unknown,
+-- labels split, bare exceptions without one root, cycles, and chains that are too long
+abbrev pub HasNoEarlier : ExceptRefusal → List (List Group) → Type 0
+HasNoEarlier (exception.LabelUnknown p) targets = Unit {0}
+HasNoEarlier (exception.LabelSplit p) targets = unknown_labels targets ≡ []
+HasNoEarlier (exception.ExceptionAmbiguous p) targets = (unknown_labels targets ≡ []) × (split_labels targets ≡ [])
+HasNoEarlier (exception.ExceptionCycle p) targets = AreResolved targets
+HasNoEarlier (exception.TooMany p) targets = AreResolved targets × HaveNoCycle targets
+HasNoEarlier exception.Memory targets = Unit {0}
+
+-- a fault stands against the exceptions of a scope, and none of an earlier kind against those of any scope
 pub record IsRefusedForest (pieces : List Piece) (refusal : ExceptRefusal) : Type 0 where
   pub program : Program
   pub scope : ℕ
   pub program_is : IsProgramIn pieces program
   pub within : scope < length program.bodies
-  pub earlier : MakeForestsTo scope program
   pub refused : exceptions.HasCause (groups_in program scope) refusal
+  pub first : (other : ℕ) → other < length program.bodies → HasNoEarlier refusal (groups_in program other)
 
 -- ---- codes
 

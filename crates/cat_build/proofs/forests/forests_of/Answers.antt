@@ -1,8 +1,10 @@
-use Rattle.std.proofs.Common.{rules}
-use Rattle.cat_build.proofs.ForestSteps.{one_more}
+use Rattle.std.proofs.Common.{sym, subst}
+use Rattle.cat_build.specs.Causes.{HasCause}
+use Rattle.cat_build.proofs.ForestSteps.{forest_cause}
 use Rattle.cat_build.proofs.forests.forests_of.Goals as goal
 
-pub loop-scope-preserved : goal.loop-scope-preserved
-loop-scope-preserved c =
-    one_more c.loop-scope.scope c.args.program.now c.loop-scope.forests c.push.new.self c.in_ok-forest_of.field-0
-    c.loop-scope.invariant c.in_ok-forest_of.ensures.stands c.in_ok-forest_of.ensures.makes (search rules)
+pub returns-in-Err-clause-cause : goal.returns-in-Err-clause-cause
+returns-in-Err-clause-cause c =
+    subst (HasCause c.args.pieces.now) (sym c.refusal_of.ensures)
+    (forest_cause c.args.pieces.now c.args.program.now c.in-Err.refusal c.requires.program
+    c.in-Err.ensures.cause)
