@@ -282,7 +282,7 @@ class Expressions:
             x = self.meant(arm.body, bound, expected)
             return None, x.expr, x.type
         case = self.case_named(arm.case)
-        fault_unless(case[0] == enumeration, 'E11', node.pos)
+        fault_unless(case[0] == enumeration, 'E10', node.pos)
         if arm.name:
             fault_unless(self.content(case) is not None, 'E10', node.pos)
             bound = bound + [Local(arm.name.text, self.content(case))]

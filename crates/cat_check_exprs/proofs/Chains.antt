@@ -208,10 +208,10 @@ pattern_is : {A : Type 0} (ns : Names) (p : Pos) (n : ℕ) (q : Pattern) (ls : L
     ≡ and_then (pattern_bound ns p n q) (λ b. go (b.0, with_local ls b.1))
 pattern_is ns p n patterns.Anything ls go = refl
 pattern_is ns p n (patterns.Case c w) ls go = found_on (case_found ns c)
-    (λ k. where_true (nat_eq k.0 n) (MatchCases p) (names_of p w (content_of ns.decls n k.1) ls k.1))
-    (λ k. where_true (nat_eq k.0 n) (MatchCases p) (name_of p w (content_of ns.decls n k.1) k.1))
+    (λ k. where_true (nat_eq k.0 n) (TypeMismatch p) (names_of p w (content_of ns.decls n k.1) ls k.1))
+    (λ k. where_true (nat_eq k.0 n) (TypeMismatch p) (name_of p w (content_of ns.decls n k.1) k.1))
     go (λ b. go (b.0, with_local ls b.1))
-    (λ k. tested_on (nat_eq k.0 n) (MatchCases p) (names_of p w (content_of ns.decls n k.1) ls k.1)
+    (λ k. tested_on (nat_eq k.0 n) (TypeMismatch p) (names_of p w (content_of ns.decls n k.1) ls k.1)
     (name_of p w (content_of ns.decls n k.1) k.1) go (λ b. go (b.0, with_local ls b.1))
     (bound_on p (resolved.Case k.1 (is_some w)) w (content_of ns.decls n k.1) ls go))
 

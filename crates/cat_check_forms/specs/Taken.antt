@@ -17,7 +17,7 @@ use Rattle.cat_scope.specs.declared.expr.Expr.TheViews as expr
 use Rattle.cat_scope.specs.declared.expr.ArmPattern.{ArmPattern}
 use Rattle.cat_scope.specs.declared.expr.ArmPattern.TheVariants as pattern
 use Rattle.cat_scope.specs.Names.{Names}
-use Rattle.cat_names.specs.declared.fault.Fault.TheVariants.{TypeMismatch, MatchCases}
+use Rattle.cat_names.specs.declared.fault.Fault.TheVariants.{TypeMismatch}
 use Rattle.cat_names.specs.declared.fault.Refusal.{Refusal}
 use Rattle.cat_names.specs.declared.typed.Typed.{Typed}
 use Rattle.cat_names.specs.declared.typed.Local.{Local}
@@ -63,7 +63,7 @@ content_bound p (Some w) _ = faulty (TypeMismatch p)
 abbrev pub pattern_bound : Names → Pos → ℕ → Pattern → Found (ArmPattern × Option Local)
 pattern_bound ns p n written.Anything = Ok (pattern.Anything, None)
 pattern_bound ns p n (written.Case c w) =
-    and_then (case_found ns c) (λ k. where_true (nat_eq k.0 n) (MatchCases p)
+    and_then (case_found ns c) (λ k. where_true (nat_eq k.0 n) (TypeMismatch p)
     (and_then (content_bound p w (content_of ns.decls n k.1)) (λ local.
     Ok (pattern.Case k.1 (is_some w), local))))
 

@@ -91,7 +91,7 @@ fn case_pattern(
 {
     let found = case_named(here, case)?;
     if found.0 != enumeration {
-        return Err(Refusal::Refused(Fault::MatchCases(place)));
+        return Err(Refusal::Refused(Fault::TypeMismatch(place)));
     }
     let local = bound_content(here, place, name, found)?;
     Ok((ArmPattern::Case(found.1, name.is_some()), local))

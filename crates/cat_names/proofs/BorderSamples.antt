@@ -31,7 +31,7 @@ use Rattle.cat_scope.specs.declared.expr.Expr.TheViews as expr
 use Rattle.cat_scope.specs.declared.defs.Except.TheVariants as except
 use Rattle.cat_scope.specs.declared.defs.Def.{Def}
 use Rattle.cat_scope.specs.Names.{Names}
-use Rattle.cat_names.specs.declared.fault.Fault.TheVariants.{NameTwice, NameUnknown, TypeMismatch, MatchCases}
+use Rattle.cat_names.specs.declared.fault.Fault.TheVariants.{NameTwice, NameUnknown, TypeMismatch}
 use Rattle.cat_names.specs.Found.{faulty}
 use Rattle.cat_names.specs.Naming.{typed}
 use Rattle.cat_names.specs.Meaning.{meant}
@@ -159,10 +159,10 @@ module _ (sound : IsTrue (are_sound [] enumerations scopes)) where
   an_expected_type_is_that_of_arms = search (rules, forms, views, low_integers)
 
   -- `match e with pattern -- C : 1 -- anything : 2`, and `e with pattern C`, where C is a case of F
-  an_arm_for_another_enumeration_is_refused :
+  an_arm_for_another_enumeration_is_a_mismatch :
       meant names (match (arm_for 67 (whole 1 p) ∷ otherwise (whole 2 p) ∷ [])) [] None
-      ≡ faulty (MatchCases (at 20 5))
-  an_arm_for_another_enumeration_is_refused = search (rules, forms, views)
+      ≡ faulty (TypeMismatch (at 20 5))
+  an_arm_for_another_enumeration_is_a_mismatch = search (rules, forms, views)
 
   a_test_for_another_enumeration_is_a_mismatch :
       meant names (node.Test (local e p) (at 20 25) (case.Bare (name 67 (at 20 38)))) [] None

@@ -29,7 +29,7 @@ use Rattle.cat_scope.specs.declared.expr.ArmPattern.TheVariants as resolved
 use Rattle.cat_scope.specs.Names.{Names, IsOneOf}
 use Rattle.cat_scope.proofs.Exported.{Each}
 use Rattle.cat_names.specs.declared.fault.Fault.{Fault}
-use Rattle.cat_names.specs.declared.fault.Fault.TheVariants.{NameUnknown, TypeMismatch, MatchCases}
+use Rattle.cat_names.specs.declared.fault.Fault.TheVariants.{NameUnknown, TypeMismatch}
 use Rattle.cat_names.specs.declared.typed.Typed.{Typed}
 use Rattle.cat_names.specs.declared.typed.Local.{Local}
 use Rattle.cat_names.specs.Found.{Found, and_then, both, or_fault, where_true}
@@ -212,7 +212,7 @@ module _ (ns : Names) (known : Known) (agree : Agrees ns known) where
       next resolved.Anything ls (sym (append_none (names_of_locals ls))) free_none
   pattern_where F p n (pattern.Case c w) ls go next =
       nested F (Free (in_case known c)) (case_found ns c) _ go (case_where c) (λ h k.
-      nested_test F (nat_eq k.0 n) (MatchCases p) _ go
+      nested_test F (nat_eq k.0 n) (TypeMismatch p) _ go
       (bound_where F p w (content_of ns.decls n k.1) ls (λ inside. (resolved.Case k.1 (is_some w), inside)) go
       (λ inside texts. next (resolved.Case k.1 (is_some w)) inside texts h)))
 

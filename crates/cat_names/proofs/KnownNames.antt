@@ -283,7 +283,7 @@ module _ (ns : Names) (known : Known) (agree : Agrees ns known) where
       next resolved.Anything ls (covers_same texts ls covers)
   pattern_only ps p n (pattern.Case c w) texts ls covers is there go next =
       only_nested ps (case_found ns c) _ go (case_only ps c is (there (case_position c) (inl refl))) (λ k.
-      only_nested_where ps (nat_eq k.0 n) (MatchCases p) _ go (λ q e. cc e)
+      only_nested_where ps (nat_eq k.0 n) (TypeMismatch p) _ go (λ q e. cc e)
       (bound_only ps p w (content_of ns.decls n k.1) texts ls covers
       (λ inside. (resolved.Case k.1 (is_some w), inside)) go
       (λ inside c_. next (resolved.Case k.1 (is_some w)) inside c_)))

@@ -87,7 +87,7 @@ abbrev pub pattern_of : Names → Pos → ℕ → Pattern → List Local → Fou
 pattern_of ns p n written.Anything locals = Ok (pattern.Anything, locals)
 pattern_of ns p n (written.Case c w) locals =
     and_then (case_found ns c) (λ k.
-    where_true (nat_eq k.0 n) (MatchCases p)
+    where_true (nat_eq k.0 n) (TypeMismatch p)
     (and_then (with_content p w (content_of ns.decls n k.1) locals) (λ inside.
     Ok (pattern.Case k.1 (is_some w), inside))))
 
