@@ -34,8 +34,8 @@ fn shelf_of(alloc: Global, bands: u32) -> Result<PureShelf, AllocError>
     Ok(PureShelf::new(alloc, files))
 }
 
-/// Gathers the source of so many bands. It includes no file and is short, so that no other file can be missing, and
-/// none be too large.
+/// Gathers the source of so many bands. It includes no file and is short, so that none is missing, fails or is too large:
+/// in the place of such a refusal want of memory is passed on.
 fn gather_bands(alloc: Global, bands: u32) -> Result<Source, GatherRefusal>
     requires some { 1 ≤ bands }
     requires most { bands ≤ 1000 }
@@ -47,7 +47,12 @@ fn gather_bands(alloc: Global, bands: u32) -> Result<Source, GatherRefusal>
         Err(GatherRefusal::NotUtf8(name, pos)) => Err(GatherRefusal::NotUtf8(name, pos)),
         Err(GatherRefusal::FenceOpen(name, pos)) => Err(GatherRefusal::FenceOpen(name, pos)),
         Err(GatherRefusal::IncludeTwice(name, pos)) => Err(GatherRefusal::IncludeTwice(name, pos)),
-        Err(_) => Err(GatherRefusal::Memory),
+        Err(
+            GatherRefusal::Missing(_)
+            | GatherRefusal::ReadFault(_)
+            | GatherRefusal::TooLarge(_)
+            | GatherRefusal::Memory,
+        ) => Err(GatherRefusal::Memory),
     }
 }
 
