@@ -9,7 +9,7 @@ use Rattle.cat_scope.specs.declared.defs.Body.{Body}
 use Rattle.cat_scope.specs.Names.{AllHave}
 use Rattle.cat_names.specs.declared.fault.Fault.{Fault}
 use Rattle.cat_names.specs.declared.fault.Fault.TheVariants as fault
-use Rattle.cat_names.specs.declared.limits.TheConstants.{MOST_DEFINITIONS}
+use Rattle.cat_names.specs.Limits.{most_definitions}
 use Rattle.cat_names.specs.Accepted.{IsRefused}
 use Rattle.cat_build.specs.Accepted.{IsTreeOf}
 use Rattle.cat_build.specs.Causes.{HasCause, IsRefusedTree, end_of}
@@ -25,7 +25,7 @@ end_is (p ∷ q ∷ more) piece is =
     let last : length (p ∷ q ∷ more) - 1 ≡ suc (length (q ∷ more) - 1) = omega arith in
     end_is (q ∷ more) piece (is ∙ ap (λ n. slice_get (p ∷ q ∷ more) n) last)
 
-pub few_all : (bodies : List Body) → AllHave (λ body. length body.defs ≤ MOST_DEFINITIONS) bodies
+pub few_all : (bodies : List Body) → AllHave (λ body. length body.defs ≤ most_definitions) bodies
     → AllHave (λ body. length body.defs < ENTRIES_BOUND) bodies
 few_all [] all = tt
 few_all (body ∷ bodies) all = (omega (arith, all.0), few_all bodies all.1)

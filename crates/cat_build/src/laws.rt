@@ -4,7 +4,7 @@ ghost use Rattle.cat_pos.specs.declared.limits.TheConstants.{ENTRIES_BOUND};
 ghost use Rattle.cat_pos.specs.declared.pos.Piece.{Piece};
 ghost use Rattle.cat_scope.specs.declared.programs.Program.{Program};
 ghost use Rattle.cat_scope.specs.Names.{AllHave};
-ghost use Rattle.cat_names.specs.declared.limits.TheConstants.{MOST_CASES};
+ghost use Rattle.cat_names.specs.Limits.{most_cases};
 ghost use Rattle.cat_build.specs.Accepted.{IsAccepted};
 ghost use Rattle.cat_build.specs.Causes.{HasCause};
 ghost use Rattle.cat_build.specs.declared.code.BuildRefusal.{BuildRefusal};
@@ -47,7 +47,7 @@ pub fn accepted_programs_are_counted()
     ensures definitions { (pieces : List Piece) (program : Program) → IsAccepted pieces program
         → AllHave (λ body. length body.defs < ENTRIES_BOUND) program.bodies }
     ensures cases { (pieces : List Piece) (program : Program) → IsAccepted pieces program
-        → AllHave (λ e. length e.cases ≤ MOST_CASES) program.decls.enumerations }
+        → AllHave (λ e. length e.cases ≤ most_cases) program.decls.enumerations }
 {
     definitions_are_counted();
     cases_are_counted();

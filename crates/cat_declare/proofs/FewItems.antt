@@ -8,7 +8,7 @@ use Rattle.cat_tree.specs.declared.name.Name.{Name}
 use Rattle.cat_tree.specs.declared.program.Variable.{Variable}
 use Rattle.cat_tree.specs.declared.program.Item.{Item}
 use Rattle.cat_tree.specs.declared.program.Item.TheVariants as item
-use Rattle.cat_names.specs.declared.limits.TheConstants.{MOST_ITEMS}
+use Rattle.cat_names.specs.Limits.{most_items}
 use Rattle.cat_names.specs.DeclarationFaults.{too_many, past, variable_name, param_faults, declaration_faults}
 use Rattle.cat_names.specs.Unknown.{twice}
 use Rattle.cat_names.specs.Written.{positions, scopes_in}
@@ -34,7 +34,7 @@ positions_counted f [] = refl
 positions_counted f (x ∷ xs) = omega (arith, positions_counted f xs)
 
 scopes_few : (items : List Item) → flat_map declaration_faults items ≡ []
-    → AllHave (λ s. length s.1 ≤ MOST_ITEMS) (scopes_in items)
+    → AllHave (λ s. length s.1 ≤ most_items) (scopes_in items)
 scopes_few [] none = tt
 scopes_few (item.Structure p u fields ∷ more) none =
     scopes_few more (nothing_behind (declaration_faults (item.Structure p u fields)) _ none)
@@ -42,23 +42,23 @@ scopes_few (item.Enumeration p u cases ∷ more) none =
     scopes_few more (nothing_behind (declaration_faults (item.Enumeration p u cases)) _ none)
 scopes_few (item.Scope p u variables ∷ more) none =
     let later = twice (map variable_name variables) in
-    let over = past MOST_ITEMS (positions (map variable_name variables)) in
+    let over = past most_items (positions (map variable_name variables)) in
     let here = nothing_in (declaration_faults (item.Scope p u variables)) _ none in
-    let few = none_past MOST_ITEMS (positions (map variable_name variables))
+    let few = none_past most_items (positions (map variable_name variables))
     (nothing_behind later over (nothing_in (later ++ over) (flat_map param_faults variables) here)) in (
       omega (arith, few, positions_counted variable_name variables),
       scopes_few more (nothing_behind (declaration_faults (item.Scope p u variables)) _ none),
     )
 scopes_few (item.Block b ∷ more) none = scopes_few more none
 
-all_pairs : (ds : List (Declaration Variable)) → AllHave (λ s. length s.1 ≤ MOST_ITEMS) (map as_pair ds) → AreFew ds
+all_pairs : (ds : List (Declaration Variable)) → AllHave (λ s. length s.1 ≤ most_items) (map as_pair ds) → AreFew ds
 all_pairs [] all = tt
 all_pairs (d ∷ ds) all = (all.0, all_pairs ds all.1)
 
 pub declared_few : (items : List Item) (ds : List (Declaration Variable)) → map as_pair ds ≡ scopes_in items
     → flat_map declaration_faults items ≡ [] → AreFew ds
 declared_few items ds is none =
-    all_pairs ds (subst (AllHave (λ s. length s.1 ≤ MOST_ITEMS)) (sym is) (scopes_few items none))
+    all_pairs ds (subst (AllHave (λ s. length s.1 ≤ most_items)) (sym is) (scopes_few items none))
 
 -- what holds of each holds of the one at an index
 pub all_index : {A : Type 0} (P : A → Type 0) (xs : List A) (i : ℕ) (x : A) → AllHave P xs → i < length xs

@@ -7,7 +7,7 @@ use Rattle.cat_tree.specs.declared.program.Item.TheVariants as item
 use Rattle.cat_tree.specs.declared.program.Tree.{Tree}
 use Rattle.cat_names.proofs.Exported.{in_front, behind}
 use Rattle.cat_names.specs.declared.fault.Fault.{Fault}
-use Rattle.cat_names.specs.declared.limits.TheConstants.{MOST_DEFINITIONS}
+use Rattle.cat_names.specs.Limits.{most_definitions}
 use Rattle.cat_names.specs.Found.{faults_of}
 use Rattle.cat_names.specs.Declarations.{declared_of}
 use Rattle.cat_names.specs.DeclarationFaults.{declared_name, declaration_faults, past}
@@ -85,7 +85,7 @@ module _ (tree : Tree) where
   inner = flat_map (item_faults tree.items) tree.items
 
   abbrev last : List Fault
-  last = past MOST_DEFINITIONS (flat_map definition_positions tree.items)
+  last = past most_definitions (flat_map definition_positions tree.items)
 
   inner_among : AreAmong inner (name_faults tree)
   inner_among f h = in_front f (later ++ unknown ++ inner) last (behind f (later ++ unknown) inner h)

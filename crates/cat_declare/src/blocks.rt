@@ -2,6 +2,7 @@
 ghost use Rattle.std.specs.Prelude.{◌≡◌, ◌++◌, IfOk, OnOk, flat_map};
 ghost use Rattle.cat_tree.specs.declared.program.Item.TheVariants.{Block as BlockItem};
 ghost use Rattle.cat_names.specs.DeclarationFaults.{past};
+ghost use Rattle.cat_names.specs.Limits.{most_definitions};
 ghost use Rattle.cat_names.specs.NameFaults.{definition_position, definition_positions};
 ghost use Rattle.cat_declare.specs.inside.Naming.{AreFew, AreItemTables, block_faults};
 ghost use Rattle.cat_declare.specs.inside.Tabling.{tree_at};
@@ -116,7 +117,7 @@ pub fn add_past_definitions(
     items: &[Item],
     faults: &mut Faults,
 ) -> Result<(), AllocError>
-    ensures { OnOk result (faults.new ≡ faults.old ++ past MOST_DEFINITIONS (flat_map definition_positions items.now)) }
+    ensures { OnOk result (faults.new ≡ faults.old ++ past most_definitions (flat_map definition_positions items.now)) }
 {
     let positions = positions_of(alloc, items)?;
     match positions.get(MOST_DEFINITIONS) {

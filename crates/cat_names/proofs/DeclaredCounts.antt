@@ -27,7 +27,7 @@ use Rattle.cat_tree.specs.declared.program.Tree.{Tree}
 use Rattle.cat_tree.specs.Programs.{has_some, are_filled}
 use Rattle.cat_scope.specs.Names.{AllHave}
 use Rattle.cat_names.proofs.ListLaws.{each_of}
-use Rattle.cat_names.specs.declared.limits.TheConstants.{MOST_ITEMS, MOST_CASES, MOST_PARAMETERS}
+use Rattle.cat_names.specs.Limits.{most_items, most_cases, most_parameters}
 use Rattle.cat_names.specs.declared.fault.Fault.TheVariants.{NameUnknown}
 use Rattle.cat_names.specs.Found.{each_found, or_fault, faults_of}
 use Rattle.cat_names.specs.Lookup.{TypeNames, type_found, first_named}
@@ -108,7 +108,7 @@ enumerations_few all [] filled fine = tt
 enumerations_few all (item.Structure p u fields ∷ more) filled fine =
     enumerations_few all more (filled_rest (has_some fields) (are_filled more) filled) fine.1
 enumerations_few all (item.Enumeration p u cases ∷ more) filled fine =
-    let few = none_past MOST_CASES (positions (map (λ c. c.name) cases))
+    let few = none_past most_cases (positions (map (λ c. c.name) cases))
     (nothing_behind (twice (map (λ c. c.name) cases)) _ fine.0) in (
       (
         some_positive cases (filled_first (has_some cases) (are_filled more) filled),
@@ -126,7 +126,7 @@ HasFewParams (variable.Called w u) = Unit {0}
 
 params_few : (v : Variable) → param_faults v ≡ [] → HasFewParams v
 params_few (variable.Own k p w t params) none =
-    let few = none_past MOST_PARAMETERS (positions (map (λ f. f.name) params))
+    let few = none_past most_parameters (positions (map (λ f. f.name) params))
     (nothing_behind (twice (map (λ f. f.name) params)) _ none) in
     omega (arith, few, positions_counted (λ (f : FieldItem). f.name) params)
 params_few (variable.Called w u) none = tt
@@ -141,8 +141,8 @@ scopes_few all (item.Structure p u fields ∷ more) fine = scopes_few all more f
 scopes_few all (item.Enumeration p u cases ∷ more) fine = scopes_few all more fine.1
 scopes_few all (item.Scope p u variables ∷ more) fine =
     let later = twice (map variable_name variables) in
-    let front = later ++ past MOST_ITEMS (positions (map variable_name variables)) in
-    let few = none_past MOST_ITEMS (positions (map variable_name variables))
+    let front = later ++ past most_items (positions (map variable_name variables)) in
+    let few = none_past most_items (positions (map variable_name variables))
     (nothing_behind later _ (nothing_in front _ fine.0)) in (
       (
         omega (arith, few, positions_counted variable_name variables),

@@ -14,7 +14,7 @@ use Rattle.cat_tree.specs.declared.program.Item.TheVariants as item
 use Rattle.cat_tree.specs.declared.program.Tree.{Tree}
 use Rattle.cat_scope.specs.declared.defs.Body.{Body}
 use Rattle.cat_scope.specs.Names.{Names, AllHave}
-use Rattle.cat_names.specs.declared.limits.TheConstants.{MOST_DEFINITIONS}
+use Rattle.cat_names.specs.Limits.{most_definitions}
 use Rattle.cat_names.specs.declared.typed.Typed.{Typed}
 use Rattle.cat_names.specs.Found.{Found, and_then, each_found}
 use Rattle.cat_names.specs.Lists.{numbered}
@@ -141,16 +141,16 @@ body_few ds items scope u h =
 -- ---- counts
 
 unordered_few : (most : ℕ) (bodies : List Body) → AllHave (λ u. length u.defs ≤ most) (map unordered bodies)
-    → most ≤ MOST_DEFINITIONS → AllHave (λ body. length body.defs ≤ MOST_DEFINITIONS) bodies
+    → most ≤ most_definitions → AllHave (λ body. length body.defs ≤ most_definitions) bodies
 unordered_few most [] all within = tt
 unordered_few most (body ∷ bodies) all within =
     (omega (arith, all.0, within), unordered_few most bodies all.1 within)
 
 -- a scope has no more definitions than a tree may have
 pub few_definitions : (tree : Tree) (decls : Decls) (bodies : List Body) → IsMeant tree decls bodies
-    → AllHave (λ body. length body.defs ≤ MOST_DEFINITIONS) bodies
+    → AllHave (λ body. length body.defs ≤ most_definitions) bodies
 few_definitions tree decls bodies meant =
-    let counted = none_past MOST_DEFINITIONS (flat_map definition_positions tree.items)
+    let counted = none_past most_definitions (flat_map definition_positions tree.items)
     (nothing_behind (twice (flat_map declared_name tree.items) ++ faults_of (declared_of tree.items)
     ++ flat_map (item_faults tree.items) tree.items) _ meant.named.names) in
     let all = each_has (body_found decls tree.items)

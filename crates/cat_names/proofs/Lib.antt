@@ -66,4 +66,5 @@ mod BorderSamples
 mod AcceptedSamples
 mod RefusalSamples
 mod DeclarationSamples
+mod LimitSamples
 pub mod Exported

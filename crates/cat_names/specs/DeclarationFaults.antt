@@ -6,7 +6,7 @@ use Rattle.cat_tree.specs.declared.program.Variable.{Variable}
 use Rattle.cat_tree.specs.declared.program.Variable.TheVariants as variable
 use Rattle.cat_tree.specs.declared.program.Item.{Item}
 use Rattle.cat_tree.specs.declared.program.Item.TheVariants as item
-use Rattle.cat_names.specs.declared.limits.TheConstants.{MOST_ITEMS, MOST_CASES, MOST_PARAMETERS}
+use Rattle.cat_names.specs.Limits.{most_items, most_cases, most_parameters}
 use Rattle.cat_names.specs.declared.fault.Fault.{Fault}
 use Rattle.cat_names.specs.declared.fault.Fault.TheVariants.{TooMany}
 use Rattle.cat_names.specs.Written.{positions}
@@ -29,16 +29,16 @@ variable_name (variable.Called w u) = w
 -- parameters: no name twice, and past the most of them stands the name of the next
 abbrev pub param_faults : Variable → List Fault
 param_faults (variable.Own k p w t params) =
-    twice (map (λ f. f.name) params) ++ past MOST_PARAMETERS (positions (map (λ f. f.name) params))
+    twice (map (λ f. f.name) params) ++ past most_parameters (positions (map (λ f. f.name) params))
 param_faults (variable.Called w u) = []
 
 -- a declaration: in it no name stands twice; past the most cases or items stands the name of the next
 abbrev pub declaration_faults : Item → List Fault
 declaration_faults (item.Structure p u fields) = twice (map (λ f. f.name) fields)
 declaration_faults (item.Enumeration p u cases) =
-    twice (map (λ c. c.name) cases) ++ past MOST_CASES (positions (map (λ c. c.name) cases))
+    twice (map (λ c. c.name) cases) ++ past most_cases (positions (map (λ c. c.name) cases))
 declaration_faults (item.Scope p u variables) = twice (map variable_name variables)
-    ++ past MOST_ITEMS (positions (map variable_name variables)) ++ flat_map param_faults variables
+    ++ past most_items (positions (map variable_name variables)) ++ flat_map param_faults variables
 declaration_faults (item.Block b) = []
 
 -- the name that a declaration declares: types and scopes share their names

@@ -21,6 +21,7 @@ pub mod Definitions
 pub mod Lines
 pub mod Bodies
 -- what stands against a tree beside expressions
+pub mod Limits
 pub mod Unknown
 pub mod DeclarationFaults
 pub mod NameFaults

@@ -11,7 +11,7 @@ use Rattle.cat_tree.specs.declared.program.Block.{Block}
 use Rattle.cat_tree.specs.declared.program.Item.{Item}
 use Rattle.cat_tree.specs.declared.program.Item.TheVariants as item
 use Rattle.cat_tree.specs.declared.program.Tree.{Tree}
-use Rattle.cat_names.specs.declared.limits.TheConstants.{MOST_DEFINITIONS}
+use Rattle.cat_names.specs.Limits.{most_definitions}
 use Rattle.cat_names.specs.declared.fault.Fault.{Fault}
 use Rattle.cat_names.specs.declared.fault.Fault.TheVariants.{NameUnknown}
 use Rattle.cat_names.specs.Found.{faults_of}
@@ -77,4 +77,4 @@ definition_positions _ = []
 abbrev pub name_faults : Tree → List Fault
 name_faults tree = twice (flat_map declared_name tree.items) ++ faults_of (declared_of tree.items)
     ++ flat_map (item_faults tree.items) tree.items
-    ++ past MOST_DEFINITIONS (flat_map definition_positions tree.items)
+    ++ past most_definitions (flat_map definition_positions tree.items)

@@ -26,6 +26,8 @@ ghost use Rattle.cat_names.specs.Rows.{sum_for};
 ghost use Rattle.cat_names.specs.Symbols.{StandsBetween, StandsBefore, IsFlat};
 ghost use Rattle.cat_names.specs.Accepted.{IsMeant, IsNamed, IsParsed, IsProgramOf, IsRefused, parts_of};
 ghost use Rattle.cat_names.specs.declared.limits.TheConstants.{MOST_CASES, MOST_DEFINITIONS};
+ghost use Rattle.cat_names.specs.declared.limits.TheConstants.{MOST_ITEMS, MOST_PARAMETERS};
+ghost use Rattle.cat_names.specs.Limits.{most_cases, most_definitions, most_items, most_parameters};
 ghost use Rattle.cat_names.specs.Decided.{IsDecided};
 ghost use Rattle.cat_names.specs.ScopeWords.{scope_words, AreWordsOf};
 ghost use Rattle.cat_names.specs.Naming.{names_in_scope};
@@ -81,16 +83,24 @@ pub fn trees_have_one_program()
     the_order_is_one();
 }
 
+/// The limits by which code counts are those of the definitions.
+pub fn limits_are_as_stated()
+    ensures items { MOST_ITEMS ≡ most_items }
+    ensures definitions { MOST_DEFINITIONS ≡ most_definitions }
+    ensures cases { MOST_CASES ≡ most_cases }
+    ensures parameters { MOST_PARAMETERS ≡ most_parameters }
+{}
+
 /// A scope of a tree has no more definitions than a tree may have in all.
 pub fn definitions_are_counted()
     ensures { (tree : Tree) (decls : Decls) (bodies : List Body) → IsMeant tree decls bodies
-        → AllHave (λ body. length body.defs ≤ MOST_DEFINITIONS) bodies }
+        → AllHave (λ body. length body.defs ≤ most_definitions) bodies }
 {}
 
 /// An enumeration of a tree has no more cases than one may have.
 pub fn cases_are_counted()
     ensures { (tree : Tree) (decls : Decls) (bodies : List Body) → IsMeant tree decls bodies
-        → AllHave (λ e. length e.cases ≤ MOST_CASES) decls.enumerations }
+        → AllHave (λ e. length e.cases ≤ most_cases) decls.enumerations }
 {}
 
 /// The walk that looks for unknown names and the one that resolves expressions bind the same names. Where no name of a

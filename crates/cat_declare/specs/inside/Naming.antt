@@ -7,7 +7,7 @@ use Rattle.cat_tree.specs.declared.program.Variable.{Variable}
 use Rattle.cat_scope.specs.Names.{AllHave}
 use Rattle.cat_check_names.specs.Table.{Table, IsTableOf}
 use Rattle.cat_names.specs.declared.fault.Fault.{Fault}
-use Rattle.cat_names.specs.declared.limits.TheConstants.{MOST_ITEMS, MOST_DEFINITIONS}
+use Rattle.cat_names.specs.Limits.{most_items, most_definitions}
 use Rattle.cat_names.specs.DeclarationFaults.{declared_name, declaration_faults, past, variable_name}
 use Rattle.cat_names.specs.NameFaults.{item_faults, definition_positions}
 use Rattle.cat_names.specs.Unknown.{twice}
@@ -26,11 +26,11 @@ block_faults items _ = []
 -- names that name nothing, and the first definition past the most
 abbrev pub unresolved : List Item → List Fault
 unresolved items = unknown_declared items ++ flat_map (block_faults items) items
-    ++ past MOST_DEFINITIONS (flat_map definition_positions items)
+    ++ past most_definitions (flat_map definition_positions items)
 
 -- each scope has so many variables at most
 abbrev pub AreFew : List (Declaration Variable) → Type 0
-AreFew scopes = AllHave (λ s. length s.parts.now ≤ MOST_ITEMS) scopes
+AreFew scopes = AllHave (λ s. length s.parts.now ≤ most_items) scopes
 
 -- a table of the variables of each scope
 abbrev pub AreItemTables : List (Declaration Variable) → List Table → Type 0
