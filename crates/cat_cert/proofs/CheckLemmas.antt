@@ -13,7 +13,7 @@ use Rattle.cat_guard.specs.Trees.{Tree, expanded, height, leaves}
 use Rattle.cat_walk.specs.declared.place.NodePlace.{NodePlace}
 use Rattle.cat_walk.specs.declared.refusal.WalkRefusal.TheVariants as why
 use Rattle.cat_walk.specs.declared.size.TreeSize.{TreeSize}
-use Rattle.cat_walk.specs.declared.size.TheConstants.{PAST_MOST}
+use Rattle.cat_walk.specs.Sizes.{past_most}
 use Rattle.cat_walk.specs.Coverage.{is_uncovered, first_place, AnswersOf, IsWalked, leaf_regions}
 use Rattle.cat_walk.specs.LeafPlaces.{elements, leaf_places}
 use Rattle.cat_walk.specs.Sizes.{is_small, size_of}
@@ -119,8 +119,8 @@ pub low_enough : (o : Option Tree) → ((t : Tree) → o ≡ Some t → height t
 low_enough None lower small size is = tt
 low_enough (Some t) lower small size is =
     let low = lower t refl in
-    let few : leaves t < PAST_MOST = grind (arith, nat_tests, small) in
-    let same : size.height ≡ min (height t) PAST_MOST = ap (λ (s : TreeSize). s.height) is in
+    let few : leaves t < past_most = grind (arith, nat_tests, small) in
+    let same : size.height ≡ min (height t) past_most = ap (λ (s : TreeSize). s.height) is in
     omega (arith, low, few, same)
 
 pub low_further : (most more : ℕ) → most ≤ more → (o : Option Tree) → IsLow most o → IsLow more o

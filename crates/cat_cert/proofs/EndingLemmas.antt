@@ -14,7 +14,7 @@ use Rattle.cat_cert.specs.declared.certificate.CertTree.{CertTree}
 use Rattle.cat_cert.specs.declared.certificate.Certificate.{Certificate}
 use Rattle.cat_cert.specs.declared.certificate.Version.{Version}
 use Rattle.cat_cert.specs.declared.certificate.Version.TheVariants as version
-use Rattle.cat_cert.specs.declared.certificate.TheConstants.{MOST_LEAVES}
+use Rattle.cat_walk.specs.Sizes.{most_leaves}
 use Rattle.cat_cert.specs.declared.refusal.CertRefusal.{CertRefusal}
 use Rattle.cat_cert.specs.declared.refusal.CertRefusal.TheVariants as refusal
 use Rattle.cat_cert.specs.Lines.{Due, heading_word, due_name, heading_line, first_line}
@@ -41,11 +41,11 @@ module _ (s : State) (bytes : List ℕ) (old new : Place) (line : List ℕ) (nex
       ∙ ap (λ (n : ℕ). met s n line (step s n (item_in s line))
       (λ to. outcome (lines_at bytes new) to n (rest_at bytes new))) (sym next.2)
 
-  pub line_goes : (to : Stepped) → step s new.line (item_in s line) ≡ Some to → to.width ≤ MOST_LEAVES
+  pub line_goes : (to : Stepped) → step s new.line (item_in s line) ≡ Some to → to.width ≤ most_leaves
       → ending s bytes old ≡ ending to.state bytes new
   unfolding ending
   line_goes to goes small =
-      let fits : nat_le to.width MOST_LEAVES ≡ true = grind (arith, nat_tests) in
+      let fits : nat_le to.width most_leaves ≡ true = grind (arith, nat_tests) in
       one_line ∙ ap (λ (o : Option Stepped). met s new.line line o
       (λ to. outcome (lines_at bytes new) to new.line (rest_at bytes new))) goes ∙ rw fits refl
 
@@ -54,10 +54,10 @@ module _ (s : State) (bytes : List ℕ) (old new : Place) (line : List ℕ) (nex
       one_line ∙ ap (λ (o : Option Stepped). met s new.line line o
       (λ to. outcome (lines_at bytes new) to new.line (rest_at bytes new))) none
 
-  pub line_wide : (to : Stepped) → step s new.line (item_in s line) ≡ Some to → MOST_LEAVES < to.width
+  pub line_wide : (to : Stepped) → step s new.line (item_in s line) ≡ Some to → most_leaves < to.width
       → ending s bytes old ≡ Err (refusal.TooWide new.line)
   line_wide to goes large =
-      let fits : nat_le to.width MOST_LEAVES ≡ false = grind (arith, nat_tests) in
+      let fits : nat_le to.width most_leaves ≡ false = grind (arith, nat_tests) in
       one_line ∙ ap (λ (o : Option Stepped). met s new.line line o
       (λ to. outcome (lines_at bytes new) to new.line (rest_at bytes new))) goes ∙ rw fits refl
 
@@ -102,10 +102,10 @@ module _ (v : Version) (main : Bool) (p : Growing) (nodes : List CitedNode) (pen
     })
     taken = ap (step here new.line) (node_at n is) ∙ takes_node v main p nodes pending count new.line n leaves there
 
-    pub node_wide : MOST_LEAVES < count + leaves → ending here bytes old ≡ Err (refusal.TooWide new.line)
+    pub node_wide : most_leaves < count + leaves → ending here bytes old ≡ Err (refusal.TooWide new.line)
     node_wide large = line_wide here bytes old new line next _ taken large
 
-    pub node_goes : count + leaves ≤ MOST_LEAVES
+    pub node_goes : count + leaves ≤ most_leaves
         → ending here bytes old ≡ ending (after_node v main p (nodes ++ n ∷ []) pending (count + leaves) n) bytes new
     node_goes small = line_goes here bytes old new line next _ taken small
 

@@ -1,9 +1,15 @@
 -- Worked examples: the lines of a certificate, where its trees stand, and how a text is parted.
-use Rattle.std.proofs.Common.{◌≡◌, [], ◌∷◌, codes, refl}
+use Rattle.std.proofs.Common.{◌≡◌, ℕ, nat_le, List, [], ◌∷◌, Some, Result, Err, codes, refl, ap, if◌then◌else◌}
 use Rattle.std.specs.Fmt.{digits}
 use Rattle.cat_guard.specs.declared.tree.CitedNode.TheVariants as cited
 use Rattle.cat_guard.specs.declared.tree.CitedTree.{CitedTree}
+use Rattle.cat_walk.specs.Sizes.{most_leaves}
 use Rattle.cat_cert.specs.declared.certificate.Version.TheVariants as version
+use Rattle.cat_cert.specs.declared.certificate.Certificate.{Certificate}
+use Rattle.cat_cert.specs.declared.refusal.CertRefusal.{CertRefusal}
+use Rattle.cat_cert.specs.declared.refusal.CertRefusal.TheVariants as refusal
+use Rattle.cat_cert.specs.inside.States.{State, Stepped}
+use Rattle.cat_cert.specs.inside.Steps.{met}
 use Rattle.cat_cert.specs.Lines.{first_line, tree_lines, tree_heads}
 use Rattle.cat_cert.specs.Certified.{tree_widths}
 use Rattle.cat_cert.specs.Texts.{parted, passed_over}
@@ -52,3 +58,16 @@ rest_only = refl
 -- lines before the first that begins a certificate are passed over
 passed_two : passed_over (codes "a" ∷ [] ∷ codes "catala-certificate x" ∷ codes "catala-certificate 2" ∷ []) ≡ 2
 passed_two = refl
+
+-- a line with which a tree has as many leaves as one may have, and one with which it has one more
+as_many_leaves_as_may_be : (s : State) (n : ℕ) (line : List ℕ) (to : Stepped)
+    (further : State → Result Certificate CertRefusal) → to.width ≡ 16777216
+    → met s n line (Some to) further ≡ further to.state
+as_many_leaves_as_may_be s n line to further is =
+    ap (λ (w : ℕ). if nat_le w most_leaves then further to.state else Err (refusal.TooWide n)) is
+
+one_leaf_too_many : (s : State) (n : ℕ) (line : List ℕ) (to : Stepped)
+    (further : State → Result Certificate CertRefusal) → to.width ≡ 16777217
+    → met s n line (Some to) further ≡ Err (refusal.TooWide n)
+one_leaf_too_many s n line to further is =
+    ap (λ (w : ℕ). if nat_le w most_leaves then further to.state else Err (refusal.TooWide n)) is

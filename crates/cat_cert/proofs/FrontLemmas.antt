@@ -7,7 +7,7 @@ use Rattle.cat_guard.specs.declared.table.Table.{Table}
 use Rattle.cat_guard.specs.declared.tree.CitedTree.{CitedTree}
 use Rattle.cat_cert.specs.declared.certificate.CertTree.{CertTree}
 use Rattle.cat_cert.specs.declared.certificate.Version.{Version}
-use Rattle.cat_cert.specs.declared.certificate.TheConstants.{MOST_LEAVES}
+use Rattle.cat_walk.specs.Sizes.{most_leaves}
 use Rattle.cat_cert.specs.Lines.{dues_of, first_line, due_heads, certificate_lines}
 use Rattle.cat_cert.specs.Certified.{AreTreesOf, due_widths}
 use Rattle.cat_cert.specs.Fronts.{IsFrontOf, IsSmallFront, IsCertificate}
@@ -25,19 +25,19 @@ use Rattle.cat_cert.proofs.GoesLemmas.{stands_along, finished}
 
 -- none of these passes the most leaves
 abbrev pub AllSmall : List ℕ → Type 0
-AllSmall ws = All (λ n. n ≤ MOST_LEAVES) ws
+AllSmall ws = All (λ n. n ≤ most_leaves) ws
 
 pub none_small : AllSmall []
 none_small k d within = absurd (omega (arith, within))
 
-pub small_last : (ws : List ℕ) (w : ℕ) → AllSmall ws → w ≤ MOST_LEAVES → AllSmall (ws ++ w ∷ [])
+pub small_last : (ws : List ℕ) (w : ℕ) → AllSmall ws → w ≤ most_leaves → AllSmall (ws ++ w ∷ [])
 small_last [] w all one zero d within = one
 small_last [] w all one (suc k) d within = absurd (omega (arith, within))
 small_last (x ∷ ws) w all one zero d within = all zero d (omega arith)
 small_last (x ∷ ws) w all one (suc k) d within =
     small_last ws w (λ j e inside. all (suc j) e (omega (arith, inside))) one k d (omega (arith, within))
 
-pub last_small : (ws : List ℕ) (w : ℕ) → AllSmall (ws ++ w ∷ []) → w ≤ MOST_LEAVES
+pub last_small : (ws : List ℕ) (w : ℕ) → AllSmall (ws ++ w ∷ []) → w ≤ most_leaves
 last_small [] w all = all zero 0 (omega arith)
 last_small (x ∷ ws) w all = last_small ws w (λ j e inside. all (suc j) e (omega (arith, inside)))
 
@@ -119,7 +119,7 @@ module _ (tables : List Table) (low : AreLow (dues_of tables)) (passed : ℕ) wh
       stray none front = let n = front_next front.0 front.1 front.2 in let h = n.goes in absurd (cc)
 
       pub wide : (st : Stepped) → step s (suc (passed + length lines)) (item_in s line) ≡ Some st
-          → MOST_LEAVES < st.width → IsSmallFront tables (lines ++ line ∷ []) → ⊥
+          → most_leaves < st.width → IsSmallFront tables (lines ++ line ∷ []) → ⊥
       wide st goes large front =
           let n = front_next front.0 front.1 front.2 in
           let same : n.next ≡ st = let h = n.goes in cc in

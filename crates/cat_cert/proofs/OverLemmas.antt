@@ -15,7 +15,7 @@ use Rattle.cat_walk.specs.Sizes.{is_small}
 use Rattle.cat_walk.specs.Walkable.{nodes_pass, splits_pass}
 use Rattle.cat_cert.specs.declared.certificate.Version.{Version}
 use Rattle.cat_cert.specs.declared.certificate.Version.TheVariants as version
-use Rattle.cat_cert.specs.declared.certificate.TheConstants.{MOST_LEAVES}
+use Rattle.cat_walk.specs.Sizes.{most_leaves}
 use Rattle.cat_cert.specs.declared.certificate.CertTree.{CertTree}
 use Rattle.cat_cert.specs.declared.certificate.Certificate.{Certificate}
 use Rattle.cat_cert.specs.Lines.{Due, ScopeDue, TargetDue, dues_of, certificate_lines}
@@ -78,11 +78,11 @@ abbrev pub SplitAsWritten : Type 0
 SplitAsWritten = (pass : ℕ → Bool) (c : CitedTree) (t : Tree) → expanded c ≡ Some t
     → IsTrue (list_all (nodes_pass pass) (lists_of c)) → IsTrue (splits_pass pass t)
 
-few_leaves : (o : Option Tree) (t : Tree) → o ≡ Some t → IsTrue (is_small o) → leaves t ≤ MOST_LEAVES
+few_leaves : (o : Option Tree) (t : Tree) → o ≡ Some t → IsTrue (is_small o) → leaves t ≤ most_leaves
 few_leaves None t is few = absurd (cc)
 few_leaves (Some u) t is few =
     let same : u ≡ t = cc in
-    subst (λ x. leaves x ≤ MOST_LEAVES) same (grind (arith, nat_tests, few))
+    subst (λ x. leaves x ≤ most_leaves) same (grind (arith, nat_tests, few))
 
 certifiable : AreWhole → SplitAsWritten → (most : ℕ) (v : Version) (dues : List Due) (cs : List CertTree)
     → AreReadTrees most v dues cs → AreCertifiable dues (found_in cs)

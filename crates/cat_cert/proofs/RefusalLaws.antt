@@ -13,7 +13,7 @@ use Rattle.cat_guard.specs.declared.tree.CitedTree.{CitedTree}
 use Rattle.cat_guard.proofs.Exported.{both_true}
 use Rattle.cat_cert.specs.declared.certificate.Version.{Version}
 use Rattle.cat_cert.specs.declared.certificate.Version.TheVariants as version
-use Rattle.cat_cert.specs.declared.certificate.TheConstants.{MOST_LEAVES}
+use Rattle.cat_walk.specs.Sizes.{most_leaves}
 use Rattle.cat_cert.specs.declared.certificate.Certificate.{Certificate}
 use Rattle.cat_cert.specs.declared.refusal.CertRefusal.{CertRefusal}
 use Rattle.cat_cert.specs.declared.refusal.CertRefusal.TheVariants as refusal
@@ -59,8 +59,8 @@ small_on : (tables : List Table) (lines : List (List ℕ)) (v : Version) (trees 
     → IsCertificate tables lines v trees → (n : ℕ) → IsSmallFront tables (take n lines)
 small_on tables lines v trees is n =
     let widths = 0 ∷ due_widths v (dues_of tables) trees in
-    let up : AreUpTo MOST_LEAVES widths =
-    All-cons (λ m. m ≤ MOST_LEAVES) 0 (due_widths v (dues_of tables) trees) (omega arith)
+    let up : AreUpTo most_leaves widths =
+    All-cons (λ m. m ≤ most_leaves) 0 (due_widths v (dues_of tables) trees) (omega arith)
     (certificate_widths v tables lines trees is) in (
       v,
       trees,
@@ -69,7 +69,7 @@ small_on tables lines v trees is n =
         trees_are = is.trees_are;
         lines_are = sym is.lines_are ∙ sym (take-append-drop n lines);
       },
-      up_taken MOST_LEAVES (length (take n lines)) widths up,
+      up_taken most_leaves (length (take n lines)) widths up,
     )
 
 -- ---- a certificate ends with its last line

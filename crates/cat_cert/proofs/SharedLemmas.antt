@@ -20,7 +20,7 @@ use Rattle.cat_walk.specs.Sharing.{is_among, number_in, subtrees, with_tree, wit
 use Rattle.cat_walk.specs.Sharing.{written, body, shared}
 use Rattle.cat_cert.specs.declared.certificate.Version.{Version}
 use Rattle.cat_cert.specs.declared.certificate.Version.TheVariants as version
-use Rattle.cat_cert.specs.declared.certificate.TheConstants.{MOST_LEAVES}
+use Rattle.cat_walk.specs.Sizes.{most_leaves}
 use Rattle.cat_cert.specs.Lines.{Due, ScopeDue, TargetDue, dues_of, certificate_lines}
 use Rattle.cat_cert.specs.Certified.{is_atom_of, MayName, AreTreesOf, nodes_leaves, widths_from}
 use Rattle.cat_cert.specs.Certified.{named_widths, named_leaves, tree_widths, due_widths}
@@ -177,14 +177,14 @@ due_widths_up most v (TargetDue t ∷ dues) (c ∷ cs) all =
 
 widths_certifiable : NamesSubtrees → StandForTrees → (dues : List Due) (found : List (Option Tree))
     → AreCertifiable dues found
-    → AllHave (λ c. AreUpTo MOST_LEAVES (tree_widths version.Two c)) (map shared_tree found)
+    → AllHave (λ c. AreUpTo most_leaves (tree_widths version.Two c)) (map shared_tree found)
 widths_certifiable named stands [] [] are = tt
 widths_certifiable named stands [] (o ∷ found) are = absurd (are)
 widths_certifiable named stands (ScopeDue name ∷ dues) found are = widths_certifiable named stands dues found are
 widths_certifiable named stands (TargetDue t ∷ dues) [] are = absurd (are)
 widths_certifiable named stands (TargetDue t ∷ dues) (None ∷ found) are = absurd (are.0)
 widths_certifiable named stands (TargetDue t ∷ dues) (Some tree ∷ found) are = (
-  shared_widths named stands MOST_LEAVES tree are.0.whole are.0.few,
+  shared_widths named stands most_leaves tree are.0.whole are.0.few,
   widths_certifiable named stands dues found are.1,
 )
 
@@ -222,22 +222,22 @@ certificate_length : (v : Version) (tables : List Table) (cs : List CitedTree)
 certificate_length v tables cs = let more = length-due_widths v (dues_of tables) cs in omega (arith, more)
 
 pub small_certificate : (v : Version) (tables : List Table) (cs : List CitedTree)
-    → AreUpTo MOST_LEAVES (due_widths v (dues_of tables) cs)
+    → AreUpTo most_leaves (due_widths v (dues_of tables) cs)
     → AreSmall tables (length (certificate_lines v tables cs)) v cs
 small_certificate v tables cs up =
     let widths = 0 ∷ due_widths v (dues_of tables) cs in
     let all : take (length (certificate_lines v tables cs)) widths ≡ widths =
     ap (λ n. take n widths) (certificate_length v tables cs) ∙ take-length widths in
-    subst (AreUpTo MOST_LEAVES) (sym all)
-    (All-cons (λ n. n ≤ MOST_LEAVES) 0 (due_widths v (dues_of tables) cs) (omega arith) up)
+    subst (AreUpTo most_leaves) (sym all)
+    (All-cons (λ n. n ≤ most_leaves) 0 (due_widths v (dues_of tables) cs) (omega arith) up)
 
 pub certificate_widths : (v : Version) (tables : List Table) (lines : List (List ℕ)) (cs : List CitedTree)
-    → IsCertificate tables lines v cs → AreUpTo MOST_LEAVES (due_widths v (dues_of tables) cs)
+    → IsCertificate tables lines v cs → AreUpTo most_leaves (due_widths v (dues_of tables) cs)
 certificate_widths v tables lines cs is =
     let widths = 0 ∷ due_widths v (dues_of tables) cs in
     let all : take (length lines) widths ≡ widths =
     ap (λ n. take n widths) (ap length is.lines_are ∙ certificate_length v tables cs) ∙ take-length widths in
-    All-tail (λ n. n ≤ MOST_LEAVES) 0 (due_widths v (dues_of tables) cs) (subst (AreUpTo MOST_LEAVES) all is.small)
+    All-tail (λ n. n ≤ most_leaves) 0 (due_widths v (dues_of tables) cs) (subst (AreUpTo most_leaves) all is.small)
 
 pub shared_certificate : NamesSubtrees → StandForTrees → (tables : List Table) (found : List (Option Tree))
     → AreCertifiable (dues_of tables) found
@@ -247,7 +247,7 @@ shared_certificate named stands tables found are = record {
   trees_are = trees_certifiable stands (dues_of tables) found are;
   lines_are = refl;
   small = small_certificate version.Two tables (map shared_tree found)
-      (due_widths_up MOST_LEAVES version.Two (dues_of tables) (map shared_tree found)
+      (due_widths_up most_leaves version.Two (dues_of tables) (map shared_tree found)
       (widths_certifiable named stands (dues_of tables) found are));
 }
 
@@ -290,22 +290,22 @@ tree_few most version.Two c t none is up =
     named_few most c.names c.main t (named_from (Some []) c.names) refl is
     (All-tail (λ n. n ≤ most) 0 widths (up_behind most (named_widths [] c.names) (0 ∷ widths) up))
 
-small_there : (o : Option Tree) (t : Tree) → o ≡ Some t → leaves t ≤ MOST_LEAVES → is_small o ≡ true
+small_there : (o : Option Tree) (t : Tree) → o ≡ Some t → leaves t ≤ most_leaves → is_small o ≡ true
 small_there o t is few = rw is (grind (arith, nat_tests, few))
 
 trees_small : (v : Version) (dues : List Due) (cs : List CitedTree) → AreTreesOf v dues cs
-    → AreUpTo MOST_LEAVES (due_widths v dues cs) → AllHave (λ c. is_small (expanded c) ≡ true) cs
+    → AreUpTo most_leaves (due_widths v dues cs) → AllHave (λ c. is_small (expanded c) ≡ true) cs
 trees_small v [] [] are up = tt
 trees_small v [] (c ∷ cs) are up = absurd (are)
 trees_small v (ScopeDue name ∷ dues) cs are up =
-    trees_small v dues cs are (All-tail (λ n. n ≤ MOST_LEAVES) 0 (due_widths v dues cs) up)
+    trees_small v dues cs are (All-tail (λ n. n ≤ most_leaves) 0 (due_widths v dues cs) up)
 trees_small v (TargetDue t ∷ dues) [] are up = absurd (are)
 trees_small v (TargetDue t ∷ dues) (c ∷ cs) are up =
-    let rest = All-tail (λ n. n ≤ MOST_LEAVES) 0 (tree_widths v c ++ due_widths v dues cs) up in
-    let few = tree_few MOST_LEAVES v c are.0.whole are.0.names are.0.stands
-    (up_front MOST_LEAVES (tree_widths v c) (due_widths v dues cs) rest) in (
+    let rest = All-tail (λ n. n ≤ most_leaves) 0 (tree_widths v c ++ due_widths v dues cs) up in
+    let few = tree_few most_leaves v c are.0.whole are.0.names are.0.stands
+    (up_front most_leaves (tree_widths v c) (due_widths v dues cs) rest) in (
       small_there (expanded c) are.0.whole are.0.stands few,
-      trees_small v dues cs are.1 (up_behind MOST_LEAVES (tree_widths v c) (due_widths v dues cs) rest),
+      trees_small v dues cs are.1 (up_behind most_leaves (tree_widths v c) (due_widths v dues cs) rest),
     )
 
 pub certified_small : (v : Version) (tables : List Table) (lines : List (List ℕ)) (cs : List CitedTree)

@@ -17,7 +17,7 @@ use Rattle.cat_guard.specs.declared.tree.CitedNode.TheVariants as cited
 use Rattle.cat_cert.specs.declared.certificate.CertTree.{CertTree}
 use Rattle.cat_cert.specs.declared.certificate.Certificate.{Certificate}
 use Rattle.cat_cert.specs.declared.certificate.Version.{Version}
-use Rattle.cat_cert.specs.declared.certificate.TheConstants.{MOST_LEAVES}
+use Rattle.cat_walk.specs.Sizes.{most_leaves}
 use Rattle.cat_cert.specs.declared.refusal.CertRefusal.{CertRefusal}
 use Rattle.cat_cert.specs.declared.refusal.CertRefusal.TheVariants as refusal
 use Rattle.cat_cert.specs.Lines.{Due, ScopeDue, TargetDue, dues_of, heading_word, due_name, heading_line}
@@ -313,7 +313,7 @@ module _ (tables : List Table) (low : AreLow (dues_of tables)) (passed : ℕ) (r
 
     wide_here : (ws : List ℕ) (s : State) → LineLeads before (start tables low passed) passed ws s → AllSmall ws
         → passed + suc (length before) ≤ 2 ^ 64 → (st : Stepped)
-        → step s (suc (passed + length before)) (item_in s line) ≡ Some st → MOST_LEAVES < st.width → (n : ℕ)
+        → step s (suc (passed + length before)) (item_in s line) ≡ Some st → most_leaves < st.width → (n : ℕ)
         → n ≡ suc (passed + length before) → RefusedBehind tables passed all rest (refusal.TooWide n)
     wide_here ws s way small bound st goes large n number =
         let size : suc (length before) ≡ length before + 1 = omega arith in
@@ -334,16 +334,16 @@ module _ (tables : List Table) (low : AreLow (dues_of tables)) (passed : ℕ) (r
 
     one_met : (ws : List ℕ) (s : State) → LineLeads before (start tables low passed) passed ws s → AllSmall ws → (n : ℕ)
         → n ≡ passed + length before → n + suc (length lines) ≤ 2 ^ 64
-        → ((st : Stepped) → step s (suc n) (item_in s line) ≡ Some st → st.width ≤ MOST_LEAVES
+        → ((st : Stepped) → step s (suc n) (item_in s line) ≡ Some st → st.width ≤ most_leaves
         → Explains tables passed all rest (outcome lines st.state (suc n) rest))
         → (o : Option Stepped) → step s (suc n) (item_in s line) ≡ o
         → Explains tables passed all rest (met s (suc n) line o (λ next. outcome lines next (suc n) rest))
     one_met ws s way small n count bound further None at =
         refused ws s way small (omega (arith, bound, count))
         (subst (λ (k : ℕ). step s (suc k) (item_in s line) ≡ None) count at) (suc n) (ap suc count)
-    one_met ws s way small n count bound further (Some st) at = by (nat_le st.width MOST_LEAVES) refl
+    one_met ws s way small n count bound further (Some st) at = by (nat_le st.width most_leaves) refl
       where
-        by : (fits : Bool) → nat_le st.width MOST_LEAVES ≡ fits
+        by : (fits : Bool) → nat_le st.width most_leaves ≡ fits
             → Explains tables passed all rest
             (if fits then outcome lines st.state (suc n) rest else Err (refusal.TooWide (suc n)))
         by true fits = further st at (grind (arith, nat_tests))

@@ -5,7 +5,7 @@ use Rattle.cat_guard.specs.declared.tree.CitedTree.{CitedTree}
 use Rattle.cat_guard.specs.Trees.{Tree, is_whole, leaves}
 use Rattle.cat_walk.specs.Walkable.{splits_pass}
 use Rattle.cat_walk.specs.Sharing.{shared}
-use Rattle.cat_cert.specs.declared.certificate.TheConstants.{MOST_LEAVES}
+use Rattle.cat_walk.specs.Sizes.{most_leaves}
 use Rattle.cat_cert.specs.Lines.{Due, ScopeDue, TargetDue}
 use Rattle.cat_cert.specs.Certified.{is_atom_of}
 
@@ -18,7 +18,7 @@ shared_tree (Some t) = shared t
 pub record IsWholeFor (t : TableTarget) (tree : Tree) : Type 0 where
   pub whole : IsTrue (is_whole tree)
   pub splits : IsTrue (splits_pass (is_atom_of t) tree)
-  pub few : leaves tree ≤ MOST_LEAVES
+  pub few : leaves tree ≤ most_leaves
 
 -- there is such a tree
 abbrev pub IsCertifiable : TableTarget → Option Tree → Type 0

@@ -3,7 +3,7 @@ use Rattle.std.specs.Prelude.{◌≡◌, ℕ, ◌≤◌, List, ◌∷◌, ◌++�
 use Rattle.cat_guard.specs.declared.table.Table.{Table}
 use Rattle.cat_guard.specs.declared.tree.CitedTree.{CitedTree}
 use Rattle.cat_cert.specs.declared.certificate.Version.{Version}
-use Rattle.cat_cert.specs.declared.certificate.TheConstants.{MOST_LEAVES}
+use Rattle.cat_walk.specs.Sizes.{most_leaves}
 use Rattle.cat_cert.specs.Lines.{dues_of, certificate_lines}
 use Rattle.cat_cert.specs.Certified.{AreTreesOf, due_widths}
 
@@ -15,7 +15,7 @@ pub record IsFrontOf (tables : List Table) (lines : List (List ℕ)) (v : Versio
 
 -- no tree passes the most leaves in the first lines, of that number
 abbrev pub AreSmall : List Table → ℕ → Version → List CitedTree → Type 0
-AreSmall tables count v trees = All (λ n. n ≤ MOST_LEAVES) (take count (0 ∷ due_widths v (dues_of tables) trees))
+AreSmall tables count v trees = All (λ n. n ≤ most_leaves) (take count (0 ∷ due_widths v (dues_of tables) trees))
 
 -- lines with which some certificate goes on, whatever the number of leaves
 abbrev pub IsFront : List Table → List (List ℕ) → Type 0

@@ -3,6 +3,8 @@ ghost use Rattle.std.specs.Prelude.{◌≡◌, ◌<◌, ◌≤◌, ◌^◌, ℕ,
 ghost use Rattle.cat_scope.specs.Names.{AllHave};
 ghost use Rattle.cat_guard.specs.declared.table.Table.{Table as TableSeen};
 ghost use Rattle.cat_guard.specs.Trees.{Tree};
+ghost use Rattle.cat_walk.specs.Sizes.{most_leaves};
+ghost use Rattle.cat_cert.specs.declared.certificate.TheConstants.{MOST_LEAVES};
 ghost use Rattle.cat_cert.specs.declared.certificate.Version.TheVariants.{Two};
 ghost use Rattle.cat_cert.specs.declared.certificate.Certificate.{Certificate as CertificateSeen};
 ghost use Rattle.cat_cert.specs.declared.refusal.CertRefusal.{CertRefusal as RefusalSeen};
@@ -18,6 +20,11 @@ use crate::{
     texts_are_read_in_one_way, written_certificates_are_read,
 };
 use cat_walk::{cited_trees_are_whole, trees_split_as_they_are_written};
+
+/// The most leaves by which code counts are those of the definitions.
+pub fn limit_is_as_stated()
+    ensures { MOST_LEAVES ≡ most_leaves }
+{}
 
 /// What is written over of a certificate whose leaves are covered is such a certificate again, where no name holds a
 /// line

@@ -1,9 +1,9 @@
 // Reads the nodes of one list of a tree.
 ghost use Rattle.std.specs.Prelude.{◌≡◌, ◌+◌, ◌^◌, ◌<◌, ◌≤◌, [], Bool, IfOk, MatchOption};
 ghost use Rattle.cat_cert.specs.declared.certificate.Version.{Version as Versions};
-ghost use Rattle.cat_cert.specs.declared.certificate.TheConstants.{MOST_LEAVES};
 ghost use Rattle.cat_cert.specs.Certified.{is_atom_of};
 ghost use Rattle.cat_guard.specs.declared.table.TableTarget.{TableTarget};
+ghost use Rattle.cat_walk.specs.Sizes.{most_leaves};
 ghost use Rattle.cat_cert.specs.inside.Atoms.{HasAtoms};
 ghost use Rattle.cat_cert.specs.inside.States.{Growing, AtNode, after_list, leaves_there, pending_after};
 ghost use Rattle.cat_cert.specs.inside.Outcomes.{IsWithin, ending, Passes};
@@ -35,7 +35,7 @@ fn leaves_there(atoms: &BTreeSet<usize>, named: &[u32], node: CitedNode) -> Opti
 
 /// The sum, where it doesn't pass the most leaves.
 fn sum(count: u32, leaves: u32) -> Option<u32>
-    ensures { MatchOption result (MOST_LEAVES < count + leaves) (λ s. (s ≡ count + leaves) × (s ≤ MOST_LEAVES)) }
+    ensures { MatchOption result (most_leaves < count + leaves) (λ s. (s ≡ count + leaves) × (s ≤ most_leaves)) }
 {
     let sum = count.checked_add(leaves)?;
     if sum > MOST_LEAVES { None } else { Some(sum) }

@@ -8,7 +8,7 @@ use Rattle.cat_guard.specs.declared.table.TableTarget.{TableTarget}
 use Rattle.cat_guard.specs.declared.tree.CaseTree.{CaseTree}
 use Rattle.cat_guard.specs.Trees.{Tree, tree_of}
 use Rattle.cat_guard.proofs.RegionLaws.{cover_nothing, sound_atoms, sound_dims}
-use Rattle.cat_cert.specs.declared.certificate.TheConstants.{MOST_LEAVES}
+use Rattle.cat_walk.specs.Sizes.{most_leaves}
 use Rattle.cat_cert.specs.Certifiable.{AreCertifiable, IsCertifiable}
 use Rattle.cat_cert.specs.Lines.{Due, TargetDue, dues_of}
 use Rattle.cat_cert.specs.Uncovered.{AllCovered, AreCovered, IsCovered, everything}
@@ -23,7 +23,7 @@ found_of trees = map (λ c. tree_of c.nodes) trees
 abbrev with_table : Table → List TableTarget → List (Table × TableTarget)
 with_table table targets = map (λ t. (table, t)) targets
 
-module _ (most : ℕ) (few : most ≤ MOST_LEAVES) where
+module _ (most : ℕ) (few : most ≤ most_leaves) where
   one_certifiable : (table : Table) (t : TableTarget) (c : CaseTree) → IsClosedTree table t most c.nodes
       → IsCertifiable t (tree_of c.nodes)
   one_certifiable table t c is =

@@ -10,7 +10,7 @@ use Rattle.cat_guard.specs.Trees.{Tree, expanded, tree_of}
 use Rattle.cat_cert.specs.declared.certificate.Version.{Version}
 use Rattle.cat_cert.specs.declared.certificate.Version.TheVariants as version
 use Rattle.cat_cert.specs.declared.certificate.CertTree.{CertTree}
-use Rattle.cat_cert.specs.declared.certificate.TheConstants.{MOST_LEAVES}
+use Rattle.cat_walk.specs.Sizes.{most_leaves}
 use Rattle.cat_cert.specs.Certifiable.{AreCertifiable, shared_tree}
 use Rattle.cat_cert.specs.Fronts.{IsCertificate}
 use Rattle.cat_cert.specs.Lines.{certificate_lines, dues_of}
@@ -67,7 +67,7 @@ module _ (shares : SharedOnes) (stands : StandAgain) (writes : WrittenOnes) wher
       ∙ stands tables found are in
       (behind.c, (behind.is, subst (AllCovered tables) (sym same) covered), behind.version_is)
 
-  module _ (program : Program) (named : AreUnbroken program.decls.scopes) (scope most : ℕ) (few : most ≤ MOST_LEAVES)
+  module _ (program : Program) (named : AreUnbroken program.decls.scopes) (scope most : ℕ) (few : most ≤ most_leaves)
       (files : List (List ℕ)) (report : Report) (is : IsReport program scope most report)
       (complete : AllHave (λ s. s.verdict ≡ verdict.Complete) report.sections) where
     abbrev written : List CaseTree → List ℕ

@@ -4,7 +4,7 @@ use Rattle.std.specs.Io.KnownBytes.{Appends}
 use Rattle.cat_io.specs.Sink.{Sunk}
 use Rattle.cat_scope.specs.declared.programs.Program.{Program}
 use Rattle.cat_weave.specs.declared.source.Source.{Source}
-use Rattle.cat_cert.specs.declared.certificate.TheConstants.{MOST_LEAVES}
+use Rattle.cat_walk.specs.Sizes.{most_leaves}
 use Rattle.cat_audit.specs.declared.report.Report.{Report}
 use Rattle.cat_audit.specs.declared.report.Verdict.TheVariants.{Complete}
 use Rattle.cat_audit.specs.Reports.{last_verdict}
@@ -21,7 +21,7 @@ pub record IsCompleteAudit (request : Request) (source : Source) (program : Prog
   pub most : ℕ
   pub report : Report
   pub most_is : IsMost request.cases most
-  pub few : most ≤ MOST_LEAVES
+  pub few : most ≤ most_leaves
   pub report_is : HasReport program scope most report
   pub complete : last_verdict report.sections ≡ Complete
   pub text_is : text ≡ audit_text program.decls source.files most report

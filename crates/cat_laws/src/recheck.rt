@@ -1,7 +1,7 @@
 // What a check says of what an audit or a check wrote.
 ghost use Rattle.std.specs.Prelude.{◌≡◌, ◌<◌, ◌≤◌, ◌^◌, ℕ, List, Some, None, length};
 ghost use Rattle.cat_guard.specs.declared.tree.CaseTree.{CaseTree as TreeSeen};
-ghost use Rattle.cat_cert.specs.declared.certificate.TheConstants.{MOST_LEAVES};
+ghost use Rattle.cat_walk.specs.Sizes.{most_leaves};
 ghost use Rattle.cat_audit.specs.declared.report.Report.{Report as ReportSeen};
 ghost use Rattle.cat_audit.specs.Reports.{IsReport};
 ghost use Rattle.cat_cert.specs.ScopeTables.{IsOverScope};
@@ -20,7 +20,7 @@ use cat_scope::Program;
 /// 2.
 pub fn what_an_audit_writes_is_certified(program: &Program)
     ensures { (scope : ℕ) (most : ℕ) (files : List (List ℕ)) (report : ReportSeen) (trees : List TreeSeen)
-        → AreUnbroken program.now.decls.scopes → scope < length program.now.bodies → most ≤ MOST_LEAVES
+        → AreUnbroken program.now.decls.scopes → scope < length program.now.bodies → most ≤ most_leaves
         → IsReport program.now scope most report → report.trees ≡ Some trees
         → IsOverScope program.now scope (written_text program.now files most report trees) None }
 {

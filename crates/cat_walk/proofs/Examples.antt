@@ -1,5 +1,5 @@
 -- Worked examples: the leaves of a tree with citations, by where they are written and by their regions.
-use Rattle.std.proofs.Common.{◌≡◌, ℕ, true, false, List, [], ◌∷◌, Some, None, refl}
+use Rattle.std.proofs.Common.{◌≡◌, ℕ, true, false, List, [], ◌∷◌, Some, None, nat_lt, refl, ap}
 use Rattle.cat_region.specs.declared.narrowing.Narrowing.{Narrowing}
 use Rattle.cat_region.specs.declared.cut.Cut.TheVariants as cut
 use Rattle.cat_region.specs.declared.dim.Dim.TheVariants as dim
@@ -12,6 +12,7 @@ use Rattle.cat_guard.specs.Trees as tree
 use Rattle.cat_walk.specs.declared.place.NodePlace.{NodePlace}
 use Rattle.cat_walk.specs.LeafPlaces.{leaf_places}
 use Rattle.cat_walk.specs.Coverage.{leaf_regions, first_place}
+use Rattle.cat_walk.specs.Sizes.{past_most, is_small}
 
 -- name 0 splits on atom 1, and the tree on atom 0, with name 0 on its true side and a leaf on its false side
 abbrev cited_once : CitedTree
@@ -72,3 +73,10 @@ first_of_two = refl
 
 none_passes : first_place (λ r. false) (at 0 1 ∷ at 0 2 ∷ []) (with [] ∷ with [] ∷ []) ≡ None
 none_passes = refl
+
+-- a tree of as many leaves as one may have, and one of one more
+as_many_leaves_as_may_be : (t : tree.Tree) → tree.leaves t ≡ 16777216 → is_small (Some t) ≡ true
+as_many_leaves_as_may_be t is = ap (λ (n : ℕ). nat_lt n past_most) is
+
+one_leaf_too_many : (t : tree.Tree) → tree.leaves t ≡ 16777217 → is_small (Some t) ≡ false
+one_leaf_too_many t is = ap (λ (n : ℕ). nat_lt n past_most) is

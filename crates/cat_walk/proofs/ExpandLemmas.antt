@@ -8,7 +8,7 @@ use Rattle.cat_guard.specs.declared.tree.CitedTree.{CitedTree}
 use Rattle.cat_guard.specs.Trees.{Tree, node_before, trees_of, tree_of, one_tree, has_height, is_tree, height, leaves}
 use Rattle.cat_guard.specs.Trees.{expanded}
 use Rattle.cat_walk.specs.declared.size.TreeSize.{TreeSize}
-use Rattle.cat_walk.specs.declared.size.TheConstants.{PAST_MOST}
+use Rattle.cat_walk.specs.Sizes.{past_most}
 use Rattle.cat_walk.specs.declared.meeting.Met.{Met}
 use Rattle.cat_walk.specs.declared.meeting.Met.TheVariants as met
 use Rattle.cat_walk.specs.LeafPlaces.{lists_of}
@@ -30,7 +30,7 @@ trees_of-nodes_met (met.End ∷ ms) = trees_of-nodes_met ms
 pub record IsSmall (c : CitedTree) : Type 0 where
   pub tree : Tree
   pub is : expanded c ≡ Some tree
-  pub few : leaves tree < PAST_MOST
+  pub few : leaves tree < past_most
 
 pub small : (c : CitedTree) → is_small (expanded c) ≡ true → IsSmall c
 small c h = by (expanded c) refl h
@@ -56,11 +56,11 @@ module _ (c : CitedTree) (h : is_small (expanded c) ≡ true) where
       ∙ ap one_tree (trees_of-nodes_met all ∙ (stands c (small c h).tree (small c h).is).makes)
       ∙ sym (small c h).is
 
-  low : (t : Tree) → expanded c ≡ Some t → leaves t < PAST_MOST → (size : TreeSize) → size ≡ size_of t
+  low : (t : Tree) → expanded c ≡ Some t → leaves t < past_most → (size : TreeSize) → size ≡ size_of t
       → height t ≡ size.height
   low t is few size same =
       let below = height-below t (expanded_whole c t is) in
-      let high : size.height ≡ min (height t) PAST_MOST = ap (λ s. s.height) same in
+      let high : size.height ≡ min (height t) past_most = ap (λ s. s.height) same in
       omega (arith, below, few, high)
 
   pub small_is_tree : (nodes : List TreeNode) → nodes ≡ nodes_met all → (size : TreeSize)

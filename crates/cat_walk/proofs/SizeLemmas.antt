@@ -13,16 +13,16 @@ use Rattle.cat_guard.specs.Trees.{cited_tree_of}
 use Rattle.cat_guard.specs.Trees.{name_behind, named_from, main_of, expanded}
 use Rattle.cat_guard.specs.Trees as tree
 use Rattle.cat_walk.specs.declared.size.TreeSize.{TreeSize}
-use Rattle.cat_walk.specs.declared.size.TheConstants.{PAST_MOST}
+use Rattle.cat_walk.specs.Sizes.{past_most}
 use Rattle.cat_walk.specs.Sizes.{size_of, is_there}
 use Rattle.cat_walk.specs.inside.Sizing.{split_size, Sizable, Sizes, HasSizes}
 use Rattle.cat_walk.proofs.Lists.{drop-at}
 use Rattle.cat_walk.proofs.StandLemmas.{rest_there, cited_within, one_alone, none_named}
 
-many : (l r : ℕ) → min (min l PAST_MOST + min r PAST_MOST) PAST_MOST ≡ min (l + r) PAST_MOST
+many : (l r : ℕ) → min (min l past_most + min r past_most) past_most ≡ min (l + r) past_most
 many l r = omega arith
 
-high : (l r : ℕ) → min (1 + max (min l PAST_MOST) (min r PAST_MOST)) PAST_MOST ≡ min (1 + max l r) PAST_MOST
+high : (l r : ℕ) → min (1 + max (min l past_most) (min r past_most)) past_most ≡ min (1 + max l r) past_most
 high l r = omega arith
 
 split_size-of : (a : ℕ) (l r : Tree) → split_size (size_of l) (size_of r) ≡ size_of (tree.Split a l r)

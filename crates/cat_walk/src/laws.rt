@@ -6,11 +6,18 @@ ghost use Rattle.cat_scope.specs.Names.{AllHave};
 ghost use Rattle.cat_guard.specs.declared.tree.CitedTree.{CitedTree as CitedSeen};
 ghost use Rattle.cat_guard.specs.Trees.{Tree, Closed, expanded, is_whole, height, leaves};
 ghost use Rattle.cat_guard.specs.Valuations.{dims_of};
+ghost use Rattle.cat_walk.specs.declared.size.TheConstants.{PAST_MOST};
+ghost use Rattle.cat_walk.specs.Sizes.{past_most};
 ghost use Rattle.cat_walk.specs.Coverage.{is_uncovered, leaf_regions};
 ghost use Rattle.cat_walk.specs.Walkable.{splits_pass, nodes_pass};
 ghost use Rattle.cat_walk.specs.LeafPlaces.{lists_of};
 
 use cat_guard::{Table, covered_leaves_are_closed};
+
+/// The number at which code stops counting leaves is one more than the most of the definitions.
+pub fn limit_is_as_stated()
+    ensures { PAST_MOST ≡ past_most }
+{}
 
 /// A whole tree is closed in a region where none of its leaves is uncovered.
 pub fn covered_trees_are_closed(table: &Table)

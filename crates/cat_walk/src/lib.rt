@@ -20,7 +20,10 @@ mod walking;
 mod writing;
 
 pub use expanding::expand;
-pub use laws::{cited_trees_are_whole, covered_trees_are_closed, trees_split_as_they_are_written};
+pub use laws::{
+    cited_trees_are_whole, covered_trees_are_closed, limit_is_as_stated,
+    trees_split_as_they_are_written,
+};
 pub use place::NodePlace;
 pub use refusal::WalkRefusal;
 pub use sharing::share;

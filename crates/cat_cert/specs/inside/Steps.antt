@@ -10,7 +10,7 @@ use Rattle.cat_cert.specs.declared.certificate.CertTree.{CertTree}
 use Rattle.cat_cert.specs.declared.certificate.Certificate.{Certificate}
 use Rattle.cat_cert.specs.declared.certificate.Version.{Version}
 use Rattle.cat_cert.specs.declared.certificate.Version.TheVariants as version
-use Rattle.cat_cert.specs.declared.certificate.TheConstants.{MOST_LEAVES}
+use Rattle.cat_walk.specs.Sizes.{most_leaves}
 use Rattle.cat_cert.specs.declared.refusal.CertRefusal.{CertRefusal}
 use Rattle.cat_cert.specs.declared.refusal.CertRefusal.TheVariants as refusal
 use Rattle.cat_cert.specs.Lines.{Due, ScopeDue, TargetDue, heading_word, heading_line, first_line}
@@ -112,7 +112,7 @@ ended_in (Done v trees) n (byte ∷ rest) = Err (refusal.Trailing (suc n))
 abbrev pub met : State → ℕ → List ℕ → Option Stepped → (State → Result Certificate CertRefusal)
     → Result Certificate CertRefusal
 met s n line None further = Err (refusal_at s n line)
-met s n line (Some to) further = if nat_le to.width MOST_LEAVES then further to.state else Err (refusal.TooWide n)
+met s n line (Some to) further = if nat_le to.width most_leaves then further to.state else Err (refusal.TooWide n)
 
 -- how reading ends, from a state behind so many lines
 abbrev pub outcome : List (List ℕ) → State → ℕ → List ℕ → Result Certificate CertRefusal

@@ -4,14 +4,14 @@ use Rattle.cat_guard.specs.declared.tree.CitedNode.{CitedNode}
 use Rattle.cat_guard.specs.declared.tree.CitedNode.TheVariants as cited
 use Rattle.cat_guard.specs.Trees.{Tree, cited_tree_of}
 use Rattle.cat_walk.specs.declared.size.TreeSize.{TreeSize}
-use Rattle.cat_walk.specs.declared.size.TheConstants.{PAST_MOST}
+use Rattle.cat_walk.specs.Sizes.{past_most}
 use Rattle.cat_walk.specs.Sizes.{size_of}
 
 -- a split over two trees of these sizes
 abbrev pub split_size : TreeSize → TreeSize → TreeSize
 split_size left right = record {
-  leaves = min (left.leaves + right.leaves) PAST_MOST;
-  height = min (1 + max left.height right.height) PAST_MOST;
+  leaves = min (left.leaves + right.leaves) past_most;
+  height = min (1 + max left.height right.height) past_most;
 }
 
 -- there are trees that a node needs: that of its name, or two sides
