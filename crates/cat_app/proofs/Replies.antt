@@ -2,7 +2,7 @@
 use Rattle.std.proofs.Common.{◌≡◌, ◌≢◌, ◌∙◌, ◌<◌, ◌+◌, ℕ, Bool, true, false, List, [], ◌∷◌, refl}
 use Rattle.std.proofs.Common.{sym, subst, inl, inr, arith}
 use Rattle.std.specs.Prelude.{Option, Some, None, Result, Ok, Err, IfOk, codes, length, string_bytes, if◌then◌else◌}
-use Rattle.std.specs.Prelude.{bytes_eq, IsTrue}
+use Rattle.std.specs.Prelude.{bytes_eq, IsTrue, max}
 use Rattle.cat_pos.specs.declared.limits.TheConstants.{MOST_INPUT_BYTES}
 use Rattle.cat_pos.specs.declared.pos.Pos.{Pos}
 use Rattle.cat_io.specs.Shelf.{Shelved, Reads, Keeps, GrowsBy}
@@ -33,6 +33,8 @@ use Rattle.cat_build.specs.Accepted.{IsAccepted}
 use Rattle.cat_build.specs.Built.{IsBuiltOf}
 use Rattle.cat_build.specs.Causes.{StandsAt}
 use Rattle.cat_build.specs.Codes.{number_of}
+use Rattle.cat_words.specs.Asked.{IsCases}
+use Rattle.cat_words.proofs.Exported.{cases_within}
 use Rattle.cat_app.specs.Words.{Ask, Request, IsMost, ask_of, reads_extra}
 use Rattle.cat_app.specs.Asked.{IsSource, IsExtra, IsAsked, IsReadNow}
 use Rattle.cat_app.specs.declared.request.Mode.TheVariants.{Run, Audit, Check}
@@ -263,6 +265,15 @@ report_answers request old new verdict.Found text is = is
 report_answers request old new verdict.Masked text is = is
 report_answers request old new verdict.Undecided text is = is
 report_answers request old new verdict.Complete text is = inr (inl is)
+
+-- the number of cases is the most leaves
+pub most_is : (cases : Option (List ℕ)) (number most : ℕ) → IsCases cases number → most ≡ max number 1
+    → IsMost cases most
+most_is cases number most is same =
+    let within = cases_within cases number is in
+    let equal : most ≡ number = same ∙ omega (arith, within.0) in
+    subst (λ n. IsMost cases n) (sym equal)
+    (record { number_is = is; some = within.0; few = within.1 })
 
 -- an audit says this of the scope
 pub a_report : (request : Request) (old new : Shelved) (source : Source) (program : Program) (scope most : ℕ)

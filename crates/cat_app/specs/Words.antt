@@ -1,5 +1,5 @@
 -- What the words ask for.
-use Rattle.std.specs.Prelude.{◌≡◌, ℕ, max, Bool, true, false, List, Option, Some, None, ◌&&◌, not, ◌==◌, bytes_eq}
+use Rattle.std.specs.Prelude.{◌≡◌, ◌≤◌, ℕ, Bool, true, false, List, Option, Some, None, ◌&&◌, not, ◌==◌, bytes_eq}
 use Rattle.std.specs.Prelude.{codes, if◌then◌else◌, is_some, option_and_then, option_map, unwrap_or}
 use Rattle.std.specs.List.{list_any}
 use Rattle.clap.specs.Words.{matches_of, one_of}
@@ -93,8 +93,8 @@ request_of words = request_in (ask_of words)
 abbrev pub bands_of : List (List ℕ) → Option ℕ
 bands_of words = bands_asked (ask_of words)
 
--- the most leaves that an audit makes of a target: the number of cases, and one at least
+-- the most leaves that an audit makes of a target: the number of cases, which is from 1 to 1,000,000
 pub record IsMost (cases : Option (List ℕ)) (most : ℕ) : Type 0 where
-  pub number : ℕ
-  pub number_is : IsCases cases number
-  pub most_is : most ≡ max number 1
+  pub number_is : IsCases cases most
+  pub some : 1 ≤ most
+  pub few : most ≤ 1000000

@@ -1,10 +1,9 @@
 -- What an audit of a complete scope writes, and how a check of it ends.
-use Rattle.std.specs.Prelude.{◌≡◌, ◌≤◌, ℕ, List, [], ⊤, codes}
+use Rattle.std.specs.Prelude.{◌≡◌, ℕ, List, [], ⊤, codes}
 use Rattle.std.specs.Io.KnownBytes.{Appends}
 use Rattle.cat_io.specs.Sink.{Sunk}
 use Rattle.cat_scope.specs.declared.programs.Program.{Program}
 use Rattle.cat_weave.specs.declared.source.Source.{Source}
-use Rattle.cat_walk.specs.Sizes.{most_leaves}
 use Rattle.cat_audit.specs.declared.report.Report.{Report}
 use Rattle.cat_audit.specs.declared.report.Verdict.TheVariants.{Complete}
 use Rattle.cat_audit.specs.Reports.{last_verdict}
@@ -14,14 +13,12 @@ use Rattle.cat_app.specs.Audits.{HasReport, audit_text}
 use Rattle.cat_app.specs.declared.status.Status.{Status}
 use Rattle.cat_app.specs.declared.status.Status.TheVariants.{Fine, Memory, ReadFault, WriteFault}
 
--- a text is what an audit of a scope writes whose report is complete, where no target has more leaves than a tree may
--- have
+-- a text is what an audit of a scope writes whose report is complete
 pub record IsCompleteAudit (request : Request) (source : Source) (program : Program) (scope : ℕ) (text : List ℕ)
     : Type 0 where
   pub most : ℕ
   pub report : Report
   pub most_is : IsMost request.cases most
-  pub few : most ≤ most_leaves
   pub report_is : HasReport program scope most report
   pub complete : last_verdict report.sections ≡ Complete
   pub text_is : text ≡ audit_text program.decls source.files most report

@@ -44,6 +44,11 @@ no_cases_are_too_few : asked_by (first ++ codes "a.md" ∷ codes "--cases=0" ∷
 unfolding clap_on_literals the_command
 no_cases_are_too_few = refl
 
+a_million_cases_are_taken : asked_by (first ++ codes "a.md" ∷ codes "--cases=1000000" ∷ [])
+    ≡ asks (codes "run") (codes "S") (codes "a.md") None
+unfolding clap_on_literals the_command
+a_million_cases_are_taken = refl
+
 a_million_and_one_cases_are_too_many : asked_by (first ++ codes "a.md" ∷ codes "--cases=1000001" ∷ []) ≡ None
 unfolding clap_on_literals the_command
 a_million_and_one_cases_are_too_many = refl

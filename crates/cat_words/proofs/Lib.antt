@@ -1,3 +1,4 @@
-pub mod CaseReads
+pub mod Exported
+pub mod CasesRead
 pub mod Refusing
 pub mod Examples

@@ -1,5 +1,5 @@
 -- What words ask for.
-use Rattle.std.specs.Prelude.{◌≡◌, ◌<◌, ◌^◌, ℕ, List, [], ◌∷◌, Option, Some, None, option_map, codes}
+use Rattle.std.specs.Prelude.{◌≡◌, ◌≤◌, ℕ, List, [], ◌∷◌, Option, Some, None, option_map, codes}
 use Rattle.std.specs.Borrow.{Bor}
 use Rattle.std.specs.Str.Parse.{IsNumeral, digits_value, without_leading_plus}
 use Rattle.clap.specs.Words.{Kinds, Row, Text, fault_of, first_of, matches_of}
@@ -48,9 +48,13 @@ where_faultless (kind ∷ kinds) found = None
 abbrev pub asked_by : List Text → Option Asked
 asked_by words = where_faultless (fault_of the_command words) (found_in (matches_of the_command words))
 
--- the number of cases: the number that the text of the option spells, and 100,000 where it isn't given. `clap` takes no
--- text there but a number from 1 to 1,000,000
+-- a text that spells a number from 1 to 1,000,000
+abbrev pub SpellsCases : Text → Type 0
+SpellsCases text = IsNumeral 10 (without_leading_plus text) × (1 ≤ digits_value 10 (without_leading_plus text))
+    × (digits_value 10 (without_leading_plus text) ≤ 1000000)
+
+-- the number of cases: the number from 1 to 1,000,000 that the text of the option spells, and 100,000 where it isn't
+-- given
 abbrev pub IsCases : Option Text → ℕ → Type 0
 IsCases None n = n ≡ 100000
-IsCases (Some text) n = IsNumeral 10 (without_leading_plus text) → digits_value 10 (without_leading_plus text) < 2 ^ 32
-    → n ≡ digits_value 10 (without_leading_plus text)
+IsCases (Some text) n = SpellsCases text × (n ≡ digits_value 10 (without_leading_plus text))

@@ -17,7 +17,7 @@ returns c audit source scope text words old check sink sunk ended is told ends =
     let made = is.report_is.report_is in
     let there = made.trees_are ∙ ap (λ v. trees_at v (trees_of made.made)) is.complete in
     let written = c.what_an_audit_writes_is_certified.ensures scope is.most source.files report (trees_of made.made)
-    named within is.few made there in
+    named within (omega (arith, is.most_is.few)) made there in
     let certified = subst (λ (t : List ℕ). IsOverScope program scope t None) (sym is.text_is)
     (subst (λ (o : Option (List CaseTree)). IsOverScope program scope
     (report_text program.decls source.files is.most report.sections ++ certificate_of report.tables o) None)

@@ -6,8 +6,13 @@ use Rattle.clap.specs.Words.{matches_of, one_of, rows_of}
 use Rattle.clap.specs.declared.error.kind.ErrorKind.TheVariants.{OutOfMemory}
 use Rattle.cat_words.specs.Asked.{IsCases, found_in, where_faultless}
 use Rattle.cat_words.specs.TheCommand.{the_command, the_command-is_free, the_command-is_simple}
+use Rattle.cat_words.proofs.CasesRead.{option_read}
 use Rattle.cat_words.proofs.Refusing.{none_left, refused}
 use Rattle.cat_words.proofs.command_line.read_words.Goals as goal
+
+pub found-requires : goal.found-requires
+found-requires c =
+    option_read c.in_ok-command.command c.in-Ok.matches c.in_ok-command.ensures c.in-Ok.ensures.parsed
 
 pub returns-in-Ok-clause-asked : goal.returns-in-Ok-clause-asked
 returns-in-Ok-clause-asked c =

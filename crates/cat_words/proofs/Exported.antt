@@ -1,0 +1,2 @@
+-- What crates above may cite by path.
+pub use Rattle.cat_words.proofs.CasesRead.{cases_within}
