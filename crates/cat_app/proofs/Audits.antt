@@ -81,9 +81,12 @@ pub trees_counted : (most : ℕ) (tables : List Table) (trees : List CaseTree)
     → AreClosedTrees most (targets_in tables) trees → length trees ≡ length (targets_of tables)
 trees_counted most tables trees are = as_many_trees most (targets_in tables) trees are ∙ as_many_targets tables
 
+abbrev pub AreWholeTrees : List CaseTree → Type 0
+AreWholeTrees trees = AllHave (λ t. IsTrue (is_whole_tree (tree_of t.nodes))) trees
+
 -- and they are whole
 pub trees_whole : (most : ℕ) (targets : List (Table × TableTarget)) (trees : List CaseTree)
-    → AreClosedTrees most targets trees → AllHave (λ t. IsTrue (is_whole_tree (tree_of t.nodes))) trees
+    → AreClosedTrees most targets trees → AreWholeTrees trees
 trees_whole most [] [] are = tt
 trees_whole most [] (c ∷ trees) are = absurd are
 trees_whole most (t ∷ targets) [] are = absurd are

@@ -1,5 +1,5 @@
 -- The answer to one who asked for an audit.
-use Rattle.std.specs.Prelude.{◌≡◌, ℕ, List, [], ◌++◌, map, Option, Some, None}
+use Rattle.std.specs.Prelude.{◌≡◌, ℕ, List, [], ◌++◌, map}
 use Rattle.cat_io.specs.Shelf.{Shelved}
 use Rattle.cat_value.specs.declared.decls.Decls.{Decls}
 use Rattle.cat_scope.specs.declared.programs.Program.{Program}
@@ -32,24 +32,25 @@ status_at verdict.Masked = status.Unsettled
 status_at verdict.Undecided = status.Unsettled
 status_at verdict.Complete = status.Fine
 
--- the certificate of trees with their equal parts written once, where there are trees
-abbrev pub certificate_of : List Table → Option (List CaseTree) → List ℕ
-certificate_of tables None = []
-certificate_of tables (Some trees) =
+-- the certificate of trees with their equal parts written once, where the last verdict is Complete
+abbrev pub certificate_of : Verdict → List Table → List CaseTree → List ℕ
+certificate_of verdict.Complete tables trees =
     certificate_text version.Two tables (map (λ t. shared_tree (tree_of t.nodes)) trees)
+certificate_of v tables trees = []
 
--- what is written of a report, which has trees where its last verdict is Complete: its text, and their certificate
+-- what is written of a report: its text, and the certificate of its trees where its last verdict is Complete
 abbrev pub audit_text : Decls → List (List ℕ) → ℕ → Report → List ℕ
 audit_text ds files most report =
-    report_text ds files most report.sections ++ certificate_of report.tables report.trees
+    report_text ds files most report.sections
+    ++ certificate_of (last_verdict report.sections) report.tables report.trees
 
 -- the report of a scope; where its last verdict is Complete, no well-typed input of the scope ends in a conflict or a
 -- gap, and the trees are closed ones, one for each target. A plain scope whose targets have no more cells is decided
 pub record HasReport (program : Program) (scope most : ℕ) (report : Report) : Type 0 where
   pub report_is : IsReport program scope most report
   pub no_gap : last_verdict report.sections ≡ verdict.Complete → HasNoGap program scope
-  pub closed : (trees : List CaseTree) → report.trees ≡ Some trees
-      → AreClosedTrees most (targets_in report.tables) trees
+  pub closed : last_verdict report.sections ≡ verdict.Complete
+      → AreClosedTrees most (targets_in report.tables) report.trees
   pub decided : IsPlain program scope → HasCellsWithin program scope most → IsDecided scope report
   pub whole : IsPlain program scope → HasCellsWithin program scope most → EndsInNoFault program scope
       → IsWholeVerdict program scope (last_verdict report.sections)

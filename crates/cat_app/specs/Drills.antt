@@ -12,7 +12,7 @@ use Rattle.cat_audit.specs.Reports.{last_verdict}
 use Rattle.cat_audit.specs.ReportLines.{verdict_text}
 use Rattle.cat_app.specs.Texts.{drill_text}
 use Rattle.cat_app.specs.Runs.{HaveSum, IsFirstRefused, IsFirstStop}
-use Rattle.cat_app.specs.Leaves.{HasLeaves}
+use Rattle.cat_app.specs.Leaves.{leaf_count}
 use Rattle.cat_weave.specs.Gathered.{Contents}
 use Rattle.cat_weave.specs.declared.source.Source.{Source}
 use Rattle.cat_app.specs.Words.{Request, request}
@@ -54,15 +54,13 @@ drill_line bands sum leaves verdict =
     ++ (codes " leaves " ++ (decimal leaves ++ (codes " " ++ (verdict_text verdict ++ 10 ∷ [])))))))
 
 -- each of the thousand runs has a value, and the line has the sum of their rates; the scope has a report of at most as
--- many leaves a target as there are bands, and the line has the leaves of its trees and its verdict
+-- many leaves a target as there are bands, and the line has the leaves of its trees, whatever its verdict, and that
 pub record HasLine (bands : ℕ) (source : Source) (program : Program) (scope : ℕ) (text : List ℕ) : Type 0 where
   pub sum : ℤ
   pub report : Report
-  pub leaves : ℕ
   pub sum_is : HaveSum program scope bands 1000 sum
   pub report_is : HasReport program scope bands report
-  pub leaves_are : HasLeaves bands report leaves
-  pub text_is : text ≡ drill_line bands sum leaves (last_verdict report.sections)
+  pub text_is : text ≡ drill_line bands sum (leaf_count report.trees) (last_verdict report.sections)
 
 -- a run is the first without a value: its reply, with its status
 pub record HasStop (bands : ℕ) (ended : Status) (source : Source) (program : Program) (scope : ℕ) (text : List ℕ)

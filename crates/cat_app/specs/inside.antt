@@ -1,4 +1,3 @@
-pub mod Making
 pub mod Once
 pub mod Says
 pub mod SaysOfBands

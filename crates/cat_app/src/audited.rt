@@ -77,14 +77,20 @@ pub(crate) fn report_of(
     )
 }
 
-/// The certificate of a report, empty where it has none.
-fn certificate_of(alloc: Global, report: &Report) -> Result<String, AllocError>
-    requires { HasClosedTrees report.now }
-    ensures { IfOk result (λ text. string_bytes text ≡ certificate_of report.now.tables report.now.trees) }
+/// The certificate of a report whose last verdict is this one, empty where that isn't Complete.
+fn certificate_of(
+    alloc: Global,
+    report: &Report,
+    verdict: Verdict,
+) -> Result<String, AllocError>
+    requires { HasClosedTrees verdict report.now }
+    ensures { IfOk result (λ text. string_bytes text ≡ certificate_of verdict report.now.tables report.now.trees) }
 {
-    match &report.trees {
-        Some(trees) => write_cert(alloc, report.tables.as_slice(), trees.as_slice()),
-        None => Ok(String::new(alloc)),
+    match verdict {
+        Verdict::Complete => {
+            write_cert(alloc, report.tables.as_slice(), report.trees.as_slice())
+        }
+        Verdict::Found | Verdict::Masked | Verdict::Undecided => Ok(String::new(alloc)),
     }
 }
 
@@ -106,8 +112,9 @@ pub fn audited(
     let decls = built.program.decls();
     let sections = report.sections.as_slice();
     let mut text = report_text(alloc, sections, decls, &source.files, u64::from(most))?;
-    let certificate = certificate_of(alloc, &report)?;
+    let verdict = last_verdict(sections);
+    let certificate = certificate_of(alloc, &report, verdict)?;
     text.push_str(certificate.as_str())?;
-    let status = status_at(last_verdict(report.sections.as_slice()));
+    let status = status_at(verdict);
     Ok(Reply { status, text })
 }

@@ -14,7 +14,7 @@ use crate::audited::{last_verdict, report_of};
 use crate::reply::Reply;
 use crate::run::tell;
 use crate::texts::{no_scope, refuse_gathering, refuse_input, refuse_source};
-use crate::{Ran, Status, drill_source, report_leaves, run_all};
+use crate::{Ran, Status, drill_source, leaf_count, run_all};
 use cat_audit::Verdict;
 use cat_build::{BuildRefusal, Built, build};
 use cat_io::PureShelf;
@@ -84,8 +84,7 @@ fn audit_bands(
     ensures { IfOk result (SaysLine bands source.now built.now.program scope) }
 {
     let report = report_of(alloc, source, built, scope, bands)?;
-    let most = u64::from(bands);
-    let leaves = report_leaves(alloc, &built.program, &report, most)?;
+    let leaves = leaf_count(&report.trees)?;
     let verdict = verdict_text(last_verdict(report.sections.as_slice()));
     let text = format!(in alloc; "bands {bands} runs 1000 sum {sum} leaves {leaves} {verdict}\n")?;
     Ok(Reply {

@@ -16,7 +16,7 @@ mod status;
 mod texts;
 mod top;
 
-pub use leaves::report_leaves;
+pub use leaves::leaf_count;
 pub use number::{MOST_BANDS, bands_in};
 pub use request::Mode;
 pub use runs::{RUNS, Ran, run_all};

@@ -27,7 +27,7 @@ use Rattle.cat_audit.specs.declared.report.Verdict.TheVariants as verdict
 use Rattle.cat_audit.specs.Called.{called_lines, verdict_in}
 use Rattle.cat_audit.specs.Complete.{AreClosedTrees, HasNoGapWhereComplete, targets_in}
 use Rattle.cat_audit_sound.specs.Audited.{HasNoGap}
-use Rattle.cat_audit.specs.Reports.{AreSections, IsReport, last_verdict, trees_at, trees_of}
+use Rattle.cat_audit.specs.Reports.{AreSections, IsReport, last_verdict, trees_of}
 use Rattle.cat_audit_table.specs.AuditedTables.{scopes_of}
 use Rattle.cat_audit.specs.Sections.{IsSection, named_lines}
 use Rattle.cat_audit.proofs.CalledLemmas.{IsComplete, all_as, all_complete}
@@ -228,24 +228,13 @@ all_trees program budget f (t ∷ tables) (m ∷ made) (s ∷ sections) are comp
     (covered_lines program budget f t m s are.0 complete.0) (targets_in tables) (trees_of made)
     (all_trees program budget f tables made sections are.1 complete.1)
 
--- trees are there where a verdict is Complete
-pub trees_there : (v : Verdict) (made trees : List CaseTree) → trees_at v made ≡ Some trees
-    → (v ≡ verdict.Complete) × (made ≡ trees)
-trees_there verdict.Complete made trees e = (refl, same_some made trees e)
-trees_there verdict.Found made trees e = absurd (cc)
-trees_there verdict.Masked made trees e = absurd (cc)
-trees_there verdict.Undecided made trees e = absurd (cc)
-
-pub report_trees : (program : Program) (scope budget : ℕ) (report : Report) (trees : List CaseTree)
-    → IsReport program scope budget report → report.trees ≡ Some trees
-    → (last_verdict report.sections ≡ verdict.Complete
-    → AllHave (λ s. s.verdict ≡ verdict.Complete) report.sections)
-    → AreClosedTrees budget (targets_in report.tables) trees
-report_trees program scope budget report trees is there complete =
-    let both = trees_there (last_verdict report.sections) (trees_of is.made) trees (sym is.trees_are ∙ there) in
-    subst (AreClosedTrees budget (targets_in report.tables)) both.1
+pub report_trees : (program : Program) (scope budget : ℕ) (report : Report) → IsReport program scope budget report
+    → AllHave (λ s. s.verdict ≡ verdict.Complete) report.sections
+    → AreClosedTrees budget (targets_in report.tables) report.trees
+report_trees program scope budget report is complete =
+    subst (AreClosedTrees budget (targets_in report.tables)) (sym is.trees_are)
     (all_trees program budget (verdict_in report.sections) report.tables is.made report.sections is.sections_are
-    (complete both.0))
+    complete)
 
 -- ---- which scopes sections are of
 

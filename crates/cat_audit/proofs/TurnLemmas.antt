@@ -12,7 +12,7 @@ use Rattle.cat_depend.specs.Reached.{AreReachedFrom, StandBehind, calls_in}
 use Rattle.cat_audit.specs.declared.report.Report.{Report}
 use Rattle.cat_audit.specs.declared.report.Section.{Section}
 use Rattle.cat_audit.specs.declared.report.Verdict.{Verdict}
-use Rattle.cat_audit.specs.Reports.{IsReport, last_verdict, trees_at}
+use Rattle.cat_audit.specs.Reports.{IsReport}
 use Rattle.cat_audit_table.specs.AuditedTables.{AreTablesOf, scopes_of}
 use Rattle.cat_audit.specs.inside.Underway.{MakesSection}
 use Rattle.cat_audit.proofs.LineLemmas.{have_front, split_get, take_next}
@@ -34,34 +34,27 @@ module _ (program : Program) (scope : ℕ) (tables listed : List Table) (are : A
   module _ (formed : ∥ IsWellFormed program.decls program.bodies program.scope_order ∥₁) (budget : ℕ)
       (behind : (scopes : List ℕ) → AreReachedFrom program scope scopes → StandBehind (calls_in program) scopes)
       (once : (scopes : List ℕ) → AreReachedFrom program scope scopes → IsTrue (all_differ scopes))
-      (verdicts : List Verdict) (last : Verdict) (sections : List Section) (old : List CaseTree)
-      (way : IsUnderWay program budget (take i listed) verdicts last sections old) where
+      (verdicts : List Verdict) (sections : List Section) (old : List CaseTree)
+      (way : IsUnderWay program budget (take i listed) verdicts sections old) where
     pub below_verdicts : t.scope < length verdicts
     below_verdicts = let w = scope_within in let n = way.counted in omega (arith, w, n)
 
     pub turn : (new : List CaseTree) (s : Section) → MakesSection program budget verdicts t old new s
-        → IsUnderWay program budget (take (i + 1) listed) (set verdicts t.scope s.verdict) s.verdict
-        (sections ++ s ∷ []) new
+        → IsUnderWay program budget (take (i + 1) listed) (set verdicts t.scope s.verdict) (sections ++ s ∷ []) new
     turn new s makes =
-        subst (λ (front : List Table). IsUnderWay program budget front (set verdicts t.scope s.verdict) s.verdict
+        subst (λ (front : List Table). IsUnderWay program budget front (set verdicts t.scope s.verdict)
         (sections ++ s ∷ []) new)
         (sym (ap (λ (ts : List Table). take (i + 1) ts) same ∙ ap (λ (k : ℕ). take k tables) (add-one i)
         ∙ take_next tables i t at))
         (one_more program formed budget tables (take i tables) (drop (suc i) tables) t (split_get tables i t at)
         (have_front (λ (x : Table). TablesScope program x.scope x) i tables are.tables_are) here
-        (behind (scopes_of tables) are.scopes_are) (once (scopes_of tables) are.scopes_are) verdicts last sections old
-        (subst (λ (ts : List Table). IsUnderWay program budget (take i ts) verdicts last sections old) same way) new s
+        (behind (scopes_of tables) are.scopes_are) (once (scopes_of tables) are.scopes_are) verdicts sections old
+        (subst (λ (ts : List Table). IsUnderWay program budget (take i ts) verdicts sections old) same way) new s
         makes)
 
 -- the whole
 pub reported : (program : Program) (scope budget : ℕ) (report : Report) → AreTablesOf program scope report.tables
-    → (verdicts : List Verdict) (last : Verdict) (trees : List CaseTree)
-    → IsUnderWay program budget report.tables verdicts last report.sections trees
-    → report.trees ≡ trees_at last trees → IsReport program scope budget report
-reported program scope budget report are verdicts last trees way trees_are = record {
-  tables_are = are;
-  made = way.made;
-  sections_are = way.sections_are;
-  trees_are = trees_are ∙ ap (λ (v : Verdict). trees_at v trees) way.last_is
-      ∙ ap (λ (cs : List CaseTree). trees_at (last_verdict report.sections) cs) way.trees_are;
-}
+    → (verdicts : List Verdict) → IsUnderWay program budget report.tables verdicts report.sections report.trees
+    → IsReport program scope budget report
+reported program scope budget report are verdicts way =
+    record { tables_are = are; made = way.made; sections_are = way.sections_are; trees_are = way.trees_are }

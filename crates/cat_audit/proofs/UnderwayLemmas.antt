@@ -22,7 +22,7 @@ use Rattle.cat_audit.specs.declared.report.Verdict.{Verdict}
 use Rattle.cat_audit.specs.declared.report.Verdict.TheVariants as verdict
 use Rattle.cat_audit.specs.declared.report.Section.{Section}
 use Rattle.cat_audit.specs.Called.{verdict_in}
-use Rattle.cat_audit.specs.Reports.{AreSections, last_verdict, trees_of}
+use Rattle.cat_audit.specs.Reports.{AreSections, trees_of}
 use Rattle.cat_audit_table.specs.AuditedTables.{scopes_of}
 use Rattle.cat_audit.specs.Sections.{IsSection}
 use Rattle.cat_audit.specs.inside.Underway.{MakesSection, verdict_at}
@@ -31,11 +31,6 @@ use Rattle.cat_audit.proofs.SectionLemmas.{scopes_are, section_scopes, verdict_p
 use Rattle.cat_scope.proofs.Exported.{map_append}
 
 -- ---- lists that grow
-
-last_push : (sections : List Section) (s : Section) → last_verdict (sections ++ s ∷ []) ≡ s.verdict
-last_push [] s = refl
-last_push (t ∷ []) s = refl
-last_push (t ∷ u ∷ sections) s = last_push (u ∷ sections) s
 
 trees_push : (made : List (List TargetLine)) (m : List TargetLine)
     → trees_of (made ++ m ∷ []) ≡ trees_of made ++ map (λ l. l.tree) m
@@ -104,26 +99,24 @@ none_yet (suc count) (suc n) = none_yet count n
 -- ---- sections on the way
 
 pub record IsUnderWay (program : Program) (budget : ℕ) (front : List Table) (verdicts : List Verdict)
-    (last : Verdict) (sections : List Section) (trees : List CaseTree) : Type 0 where
+    (sections : List Section) (trees : List CaseTree) : Type 0 where
   pub made : List (List TargetLine)
   pub sections_are : AreSections program budget (verdict_in sections) front made sections
   pub counted : length verdicts ≡ length program.bodies
   pub verdicts_are : (n : ℕ) → verdict_at verdicts n ≡ verdict_in sections n
   pub closed : (k : ℕ) → is_in k (section_scopes sections) ≡ true
       → AllHave (λ m. IsTrue (is_in m (section_scopes sections))) (dependencies_of (calls_in program) k)
-  pub last_is : last ≡ last_verdict sections
   pub trees_are : trees ≡ trees_of made
 
 pub begins : (program : Program) (budget : ℕ) (verdicts : List Verdict)
     → verdicts ≡ replicate (length program.bodies) verdict.Undecided
-    → IsUnderWay program budget [] verdicts verdict.Undecided [] []
+    → IsUnderWay program budget [] verdicts [] []
 begins program budget verdicts are = record {
   made = [];
   sections_are = tt;
   counted = ap length are ∙ length-replicate (length program.bodies) verdict.Undecided;
   verdicts_are = λ n. ap (λ (vs : List Verdict). verdict_at vs n) are ∙ none_yet (length program.bodies) n;
   closed = λ k h. absurd (true≢false (sym h));
-  last_is = refl;
   trees_are = refl;
 }
 
@@ -176,8 +169,8 @@ module _ (program : Program) (formed : ∥ IsWellFormed program.decls program.bo
     (budget : ℕ) (tables front rest : List Table) (t : Table) (is : tables ≡ front ++ t ∷ rest)
     (tabled : AllHave (λ t. TablesScope program t.scope t) front) (here : TablesScope program t.scope t)
     (behind : StandBehind (calls_in program) (scopes_of tables)) (once : all_differ (scopes_of tables) ≡ true)
-    (verdicts : List Verdict) (last : Verdict) (sections : List Section) (old : List CaseTree)
-    (way : IsUnderWay program budget front verdicts last sections old) (new : List CaseTree) (s : Section)
+    (verdicts : List Verdict) (sections : List Section) (old : List CaseTree)
+    (way : IsUnderWay program budget front verdicts sections old) (new : List CaseTree) (s : Section)
     (makes : MakesSection program budget verdicts t old new s) where
   scopes_split : scopes_of tables ≡ scopes_of front ++ t.scope ∷ scopes_of rest
   scopes_split = ap scopes_of is ∙ map_append (λ (x : Table). x.scope) front (t ∷ rest)
@@ -274,15 +267,14 @@ module _ (program : Program) (formed : ∥ IsWellFormed program.decls program.bo
       (dependencies_of (calls_in program) j)) (sym (same ∙ makes.section_is.scope_is)) deps_there))
       (λ none. absurd (true≢false (sym none))))
 
-  pub one_more : IsUnderWay program budget (front ++ t ∷ []) (set verdicts t.scope s.verdict) s.verdict
-      (sections ++ s ∷ []) new
+  pub one_more : IsUnderWay program budget (front ++ t ∷ []) (set verdicts t.scope s.verdict) (sections ++ s ∷ [])
+      new
   one_more = record {
     made = way.made ++ makes.made ∷ [];
     sections_are = sections_push program budget g front way.made sections t makes.made s old_sections new_section;
     counted = length-set verdicts t.scope s.verdict ∙ way.counted;
     verdicts_are = verdicts_on;
     closed = closed_on;
-    last_is = sym (last_push sections s);
     trees_are = makes.trees_are ∙ ap (λ (cs : List CaseTree). cs ++ map (λ l. l.tree) makes.made) way.trees_are
         ∙ sym (trees_push way.made makes.made);
   }

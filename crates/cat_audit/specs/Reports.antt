@@ -1,5 +1,5 @@
 -- The report of an audit.
-use Rattle.std.specs.Prelude.{◌≡◌, ◌<◌, ◌≤◌, ℕ, List, [], ◌∷◌, ◌++◌, map, length, Option, None, Some}
+use Rattle.std.specs.Prelude.{◌≡◌, ◌<◌, ◌≤◌, ℕ, List, [], ◌∷◌, ◌++◌, map, length}
 use Rattle.cat_pos.specs.declared.limits.TheConstants.{ENTRIES_BOUND}
 use Rattle.cat_scope.specs.declared.programs.Program.{Program}
 use Rattle.cat_scope.specs.Names.{AllHave}
@@ -46,15 +46,10 @@ abbrev pub trees_of : List (List TargetLine) → List CaseTree
 trees_of [] = []
 trees_of (m ∷ made) = map (λ l. l.tree) m ++ trees_of made
 
--- trees, where a verdict is Complete
-abbrev pub trees_at : Verdict → List CaseTree → Option (List CaseTree)
-trees_at verdict.Complete trees = Some trees
-trees_at v trees = None
-
 -- what an audit says of a scope: a section for each of its tables, in which a called scope has the verdict of its own
--- section, and the trees of all targets where the last verdict is Complete
+-- section; and the trees of all targets, by which the lines are told
 pub record IsReport (program : Program) (scope budget : ℕ) (report : Report) : Type 0 where
   pub tables_are : AreTablesOf program scope report.tables
   pub made : List (List TargetLine)
   pub sections_are : AreSections program budget (verdict_in report.sections) report.tables made report.sections
-  pub trees_are : report.trees ≡ trees_at (last_verdict report.sections) (trees_of made)
+  pub trees_are : report.trees ≡ trees_of made

@@ -1,10 +1,10 @@
 // The audit of a scope.
-ghost use Rattle.std.specs.Prelude.{◌≡◌, ◌<◌, IfOk, length};
+ghost use Rattle.std.specs.Prelude.{◌<◌, IfOk, length};
 ghost use Rattle.cat_scope.specs.AllForests.{AreForestsOf};
-ghost use Rattle.cat_audit.specs.Reports.{IsCalcOf, IsReport, trees_at};
+ghost use Rattle.cat_audit.specs.Reports.{IsCalcOf, IsReport};
 ghost use Rattle.cat_audit_table.specs.AuditedTables.{AreTablesOf, IsCounted};
 
-use crate::report::{CaseTrees, Report, Section, Verdict};
+use crate::report::{Report, Section, Verdict};
 use crate::section::section_of;
 use cat_audit_table::audited_tables;
 use cat_calc::Calc;
@@ -13,16 +13,6 @@ use cat_guard::ScopeTables;
 use cat_pos::List;
 use cat_scope::{Forest, Program, programs_are_well_formed};
 use std::alloc::{AllocError, Global};
-
-/// Trees, where a verdict is Complete.
-fn trees_at(verdict: Verdict, trees: CaseTrees) -> Option<CaseTrees>
-    ensures { result ≡ trees_at verdict trees }
-{
-    match verdict {
-        Verdict::Complete => Some(trees),
-        _ => None,
-    }
-}
 
 /// The report over the tables of an audit. A table of verdicts has that of each scope that has its section.
 fn report_over(
@@ -41,16 +31,13 @@ fn report_over(
     programs_are_well_formed(program);
     audited_scopes_have_what_they_call(program);
     let mut verdicts = vec![in alloc; Verdict::Undecided; program.bodies.len()]?;
-    let mut last = Verdict::Undecided;
     let mut sections = List::new(alloc);
     let mut trees = List::new(alloc);
     for table in tables.as_slice() {
         let section = section_of(alloc, program, calc, table, budget, &verdicts, &mut trees)?;
-        last = section.verdict;
-        verdicts[table.scope as usize] = last;
+        verdicts[table.scope as usize] = section.verdict;
         sections.push(section)?;
     }
-    let trees = trees_at(last, trees);
     Ok(Report {
         tables,
         sections,

@@ -1,6 +1,5 @@
 // What a complete report says: each law is the contract of a function.
-ghost use Rattle.std.specs.Prelude.{◌≡◌, ◌<◌, ℕ, List, Some, length};
-ghost use Rattle.cat_guard.specs.declared.tree.CaseTree.{CaseTree as TreeSeen};
+ghost use Rattle.std.specs.Prelude.{◌≡◌, ◌<◌, ℕ, length};
 ghost use Rattle.cat_scope.specs.Names.{AllHave};
 ghost use Rattle.cat_audit.specs.declared.report.Report.{Report as ReportSeen};
 ghost use Rattle.cat_audit.specs.Complete.{AreClosedTrees, HasNoGapWhereComplete, targets_in};
@@ -39,11 +38,11 @@ pub fn complete_audits_leave_no_gap(program: &Program)
     audited_programs_have_no_gap(program);
 }
 
-/// The trees of a report are closed ones, one for each target of its tables.
+/// Where the last verdict is Complete, the trees of a report are closed ones, one for each target of its tables.
 pub fn complete_audits_have_closed_trees(program: &Program)
-    ensures { (scope : ℕ) (budget : ℕ) (report : ReportSeen) (trees : List TreeSeen)
-        → scope < length program.now.bodies → IsReport program.now scope budget report → report.trees ≡ Some trees
-        → AreClosedTrees budget (targets_in report.tables) trees }
+    ensures { (scope : ℕ) (budget : ℕ) (report : ReportSeen) → scope < length program.now.bodies
+        → IsReport program.now scope budget report → last_verdict report.sections ≡ Verdict.Complete
+        → AreClosedTrees budget (targets_in report.tables) report.trees }
 {
     complete_audits_leave_no_gap(program);
 }

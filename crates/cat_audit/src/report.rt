@@ -50,11 +50,11 @@ pub type Sections = List<Section>;
 
 pub type CaseTrees = List<CaseTree>;
 
-/// What an audit says: a section for each table, the last of them that of the audited scope. It has trees where the
-/// last verdict is Complete: one for each target of each table, in their order.
+/// What an audit says: a section for each table, the last of them that of the audited scope; and the trees that were
+/// searched for it, one for each target of each table, in their order.
 #[derive(Debug, Drop)]
 pub struct Report {
     pub tables: ScopeTables,
     pub sections: Sections,
-    pub trees: Option<CaseTrees>,
+    pub trees: CaseTrees,
 }

@@ -19,13 +19,13 @@ use Rattle.cat_cert.specs.Texts.{certificate_text, names_are_lines}
 use Rattle.cat_cert.specs.Checked.{IsOver}
 use Rattle.cat_cert.specs.Uncovered.{AllCovered}
 use Rattle.cat_audit.specs.declared.report.Report.{Report}
-use Rattle.cat_audit.specs.declared.report.Verdict.{Verdict}
 use Rattle.cat_audit.specs.declared.report.Verdict.TheVariants as verdict
 use Rattle.cat_audit.specs.Called.{verdict_in}
 use Rattle.cat_audit.specs.Complete.{AreClosedTrees, targets_in}
-use Rattle.cat_audit.specs.Reports.{IsReport, trees_at}
+use Rattle.cat_audit.specs.Reports.{IsReport}
 use Rattle.cat_audit.specs.ReportTexts.{report_text}
 use Rattle.cat_cert.specs.ScopeTables.{IsOverScope}
+use Rattle.cat_laws.specs.Rechecks.{written_text}
 use Rattle.cat_laws.specs.Unbroken.{AreUnbroken}
 use Rattle.cat_laws.proofs.ClosedTrees.{are_certifiable, are_covered, found_of}
 use Rattle.cat_laws.proofs.PassedLines.{IsPassed}
@@ -70,14 +70,11 @@ module _ (shares : SharedOnes) (stands : StandAgain) (writes : WrittenOnes) wher
   module _ (program : Program) (named : AreUnbroken program.decls.scopes) (scope most : ℕ) (few : most ≤ most_leaves)
       (files : List (List ℕ)) (report : Report) (is : IsReport program scope most report)
       (complete : AllHave (λ s. s.verdict ≡ verdict.Complete) report.sections) where
-    abbrev written : List CaseTree → List ℕ
-    written trees = report_text program.decls files most report.sections
-        ++ certificate_text version.Two report.tables (map (λ t. shared_tree (tree_of t.nodes)) trees)
-
-    trees_certified : (trees : List CaseTree) → AreClosedTrees most (targets_in report.tables) trees
-        → IsOver report.tables (written trees) None
-    trees_certified trees closed =
+    trees_certified : AreClosedTrees most (targets_in report.tables) report.trees
+        → IsOver report.tables (written_text program files most report) None
+    trees_certified closed =
         let tables = report.tables in
+        let trees = report.trees in
         let found = found_of trees in
         let front = report_text program.decls files most report.sections in
         subst (λ (ts : List CitedTree). IsOver tables (front ++ certificate_text version.Two tables ts) None)
@@ -88,13 +85,6 @@ module _ (shares : SharedOnes) (stands : StandAgain) (writes : WrittenOnes) wher
         is.tables_are.tables_are is.sections_are complete))
 
     -- what is written of its trees is a certificate
-    pub report_certified : (trees : List CaseTree) → AreClosedTrees most (targets_in report.tables) trees
-        → IsOverScope program scope (written trees) None
-    report_certified trees closed = (report.tables, is.tables_are, trees_certified trees closed)
-
--- a report has trees where its last verdict is complete
-pub last_complete : (v : Verdict) (made trees : List CaseTree) → trees_at v made ≡ Some trees → v ≡ verdict.Complete
-last_complete verdict.Complete made trees e = refl
-last_complete verdict.Found made trees e = absurd (cc)
-last_complete verdict.Masked made trees e = absurd (cc)
-last_complete verdict.Undecided made trees e = absurd (cc)
+    pub report_certified : AreClosedTrees most (targets_in report.tables) report.trees
+        → IsOverScope program scope (written_text program files most report) None
+    report_certified closed = (report.tables, is.tables_are, trees_certified closed)

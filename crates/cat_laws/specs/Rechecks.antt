@@ -1,7 +1,6 @@
 -- What a check says of a certificate of version 2.
 use Rattle.std.specs.Prelude.{◌≡◌, ◌++◌, ℕ, List, map, Option, None}
 use Rattle.cat_scope.specs.declared.programs.Program.{Program}
-use Rattle.cat_guard.specs.declared.tree.CaseTree.{CaseTree}
 use Rattle.cat_guard.specs.Trees.{tree_of}
 use Rattle.cat_cert.specs.declared.certificate.Version.TheVariants as version
 use Rattle.cat_cert.specs.declared.refusal.CertRefusal.{CertRefusal}
@@ -12,11 +11,11 @@ use Rattle.cat_audit.specs.declared.report.Report.{Report}
 use Rattle.cat_audit.specs.ReportTexts.{report_text}
 use Rattle.cat_cert.specs.ScopeTables.{HasScopeCause, IsOverScope}
 
--- what is written of a report with these trees: its lines, and their certificate
-abbrev pub written_text : Program → List (List ℕ) → ℕ → Report → List CaseTree → List ℕ
-written_text program files most report trees =
+-- what is written of a complete report: its lines, and the certificate of its trees
+abbrev pub written_text : Program → List (List ℕ) → ℕ → Report → List ℕ
+written_text program files most report =
     report_text program.decls files most report.sections
-    ++ certificate_text version.Two report.tables (map (λ t. shared_tree (tree_of t.nodes)) trees)
+    ++ certificate_text version.Two report.tables (map (λ t. shared_tree (tree_of t.nodes)) report.trees)
 
 -- some bytes are a certificate for a scope, and no check answers otherwise: it writes nothing over, and refuses them at
 -- most for want of memory

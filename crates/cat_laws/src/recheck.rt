@@ -1,9 +1,9 @@
 // What a check says of what an audit or a check wrote.
 ghost use Rattle.std.specs.Prelude.{◌≡◌, ◌<◌, ◌≤◌, ◌^◌, ℕ, List, Some, None, length};
-ghost use Rattle.cat_guard.specs.declared.tree.CaseTree.{CaseTree as TreeSeen};
 ghost use Rattle.cat_walk.specs.Sizes.{most_leaves};
 ghost use Rattle.cat_audit.specs.declared.report.Report.{Report as ReportSeen};
-ghost use Rattle.cat_audit.specs.Reports.{IsReport};
+ghost use Rattle.cat_audit.specs.declared.report.Verdict.TheVariants.{Complete};
+ghost use Rattle.cat_audit.specs.Reports.{IsReport, last_verdict};
 ghost use Rattle.cat_cert.specs.ScopeTables.{IsOverScope};
 ghost use Rattle.cat_laws.specs.Unbroken.{AreUnbroken};
 ghost use Rattle.cat_laws.specs.Rechecks.{IsAnsweredYes, written_text};
@@ -16,13 +16,13 @@ use cat_cert::{
 };
 use cat_scope::Program;
 
-/// What an audit writes that has trees is a certificate for the scope, behind the lines of the report. It is of version
-/// 2.
+/// What an audit writes of a complete scope is a certificate for the scope, behind the lines of the report. It is of
+/// version 2.
 pub fn what_an_audit_writes_is_certified(program: &Program)
-    ensures { (scope : ℕ) (most : ℕ) (files : List (List ℕ)) (report : ReportSeen) (trees : List TreeSeen)
+    ensures { (scope : ℕ) (most : ℕ) (files : List (List ℕ)) (report : ReportSeen)
         → AreUnbroken program.now.decls.scopes → scope < length program.now.bodies → most ≤ most_leaves
-        → IsReport program.now scope most report → report.trees ≡ Some trees
-        → IsOverScope program.now scope (written_text program.now files most report trees) None }
+        → IsReport program.now scope most report → last_verdict report.sections ≡ Complete
+        → IsOverScope program.now scope (written_text program.now files most report) None }
 {
     complete_audits_leave_no_gap(program);
     complete_audits_have_closed_trees(program);

@@ -7,7 +7,8 @@ use Rattle.cat_value.specs.declared.decls.Decls.{Decls}
 use Rattle.cat_value.specs.declared.outcome.Outcome.{Outcome}
 use Rattle.cat_scope.specs.declared.programs.Program.{Program}
 use Rattle.cat_audit.specs.declared.report.Report.{Report}
-use Rattle.cat_guard.specs.declared.tree.CaseTree.{CaseTree}
+use Rattle.cat_audit.specs.declared.report.Verdict.{Verdict}
+use Rattle.cat_audit.specs.declared.report.Verdict.TheVariants as verdict
 use Rattle.cat_audit.specs.Complete.{AreClosedTrees, targets_in}
 use Rattle.cat_audit.specs.Reports.{last_verdict}
 use Rattle.cat_json.specs.declared.refusal.InputRefusal.{InputRefusal}
@@ -108,10 +109,9 @@ abbrev pub MayTell : AskedWords → Shelved → Shelved → Reply → Type 0
 MayTell asked old new reply =
     (cases : Option (List ℕ)) → IsCases cases asked.cases → MaySay (asked_of cases asked) old new reply
 
--- the trees of a report, where it has any, are closed ones
-abbrev pub HasClosedTrees : Report → Type 0
-HasClosedTrees report = (trees : List CaseTree) → report.trees ≡ Some trees
-    → (most : ℕ) × AreClosedTrees most (targets_in report.tables) trees
+-- where the last verdict is this one and Complete, the trees of a report are closed ones
+abbrev pub HasClosedTrees : Verdict → Report → Type 0
+HasClosedTrees v report = v ≡ verdict.Complete → (most : ℕ) × AreClosedTrees most (targets_in report.tables) report.trees
 
 -- a reply tells why a certificate is refused
 abbrev pub SaysCertificate : CertRefusal → Reply → Type 0

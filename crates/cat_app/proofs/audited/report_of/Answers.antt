@@ -31,8 +31,7 @@ returns c =
     record {
       report_is = is;
       no_gap = c.complete_audits_leave_no_gap.ensures.no_gap c.args.scope c.args.most report within is;
-      closed = λ trees there.
-          c.complete_audits_have_closed_trees.ensures c.args.scope c.args.most report trees within is there;
+      closed = c.complete_audits_have_closed_trees.ensures c.args.scope c.args.most report within is;
       decided = λ plain cells.
           c.plain_scopes_are_decided.ensures.lines c.args.scope c.args.most report plain cells is;
       whole = λ plain cells none.
