@@ -3,17 +3,18 @@ use Rattle.std.specs.Prelude.{◌≡◌, ℕ, List, [], ◌++◌, map}
 use Rattle.cat_io.specs.Shelf.{Shelved}
 use Rattle.cat_value.specs.declared.decls.Decls.{Decls}
 use Rattle.cat_scope.specs.declared.programs.Program.{Program}
+use Rattle.cat_scope.specs.Names.{AllHave}
 use Rattle.cat_guard.specs.declared.table.Table.{Table}
 use Rattle.cat_guard.specs.declared.tree.CaseTree.{CaseTree}
 use Rattle.cat_guard.specs.Trees.{tree_of}
 use Rattle.cat_audit.specs.declared.report.Report.{Report}
 use Rattle.cat_audit.specs.declared.report.Verdict.{Verdict}
 use Rattle.cat_audit.specs.declared.report.Verdict.TheVariants as verdict
-use Rattle.cat_audit.specs.Complete.{AreClosedTrees, targets_in}
+use Rattle.cat_audit.specs.Complete.{AreClosedTrees, HasNoGapWhereComplete, targets_in}
 use Rattle.cat_audit_sound.specs.Audited.{HasNoGap}
 use Rattle.cat_audit.specs.Reports.{IsReport, last_verdict}
 use Rattle.cat_audit.specs.ReportTexts.{report_text}
-use Rattle.cat_audit.specs.Decided.{EndsInNoFault, HasCellsWithin, IsDecided, IsWholeVerdict}
+use Rattle.cat_audit.specs.Decided.{EndsInNoFault, HasCellsWithin, IsDecided, IsUnderived, IsWholeVerdict}
 use Rattle.cat_audit.specs.Plain.{IsPlain}
 use Rattle.cat_cert.specs.declared.certificate.Version.TheVariants as version
 use Rattle.cat_cert.specs.Certifiable.{shared_tree}
@@ -44,13 +45,16 @@ audit_text ds files most report =
     report_text ds files most report.sections
     ++ certificate_of (last_verdict report.sections) report.tables report.trees
 
--- the report of a scope; where its last verdict is Complete, no well-typed input of the scope ends in a conflict or a
--- gap, and the trees are closed ones, one for each target. A plain scope whose targets have no more cells is decided
+-- the report of a scope; where a section is Complete, no well-typed input of its scope ends in a conflict or a gap;
+-- where the last one is, so is it of the scope that is audited, and the trees are closed ones, one for each target. No
+-- line of a plain scope is Derived, and one whose targets have no more cells is decided
 pub record HasReport (program : Program) (scope most : ℕ) (report : Report) : Type 0 where
   pub report_is : IsReport program scope most report
+  pub no_gaps : AllHave (HasNoGapWhereComplete program) report.sections
   pub no_gap : last_verdict report.sections ≡ verdict.Complete → HasNoGap program scope
   pub closed : last_verdict report.sections ≡ verdict.Complete
       → AreClosedTrees most (targets_in report.tables) report.trees
+  pub underived : IsPlain program scope → IsUnderived scope report
   pub decided : IsPlain program scope → HasCellsWithin program scope most → IsDecided scope report
   pub whole : IsPlain program scope → HasCellsWithin program scope most → EndsInNoFault program scope
       → IsWholeVerdict program scope (last_verdict report.sections)

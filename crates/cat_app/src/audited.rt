@@ -9,8 +9,8 @@ use crate::Status;
 use crate::reply::Reply;
 use cat_audit::{
     Report, Section, Verdict, audit, complete_audits_have_closed_trees,
-    complete_audits_leave_no_gap, plain_scopes_are_decided, report_text,
-    reports_are_of_declared_scopes,
+    complete_audits_leave_no_gap, complete_scopes_leave_no_gap, plain_scopes_are_decided,
+    report_text, reports_are_of_declared_scopes,
 };
 use cat_build::{Built, accepted_programs_are_counted};
 use cat_cert::write_cert;
@@ -63,6 +63,7 @@ pub(crate) fn report_of(
 {
     accepted_programs_are_counted();
     programs_are_well_formed(&built.program);
+    complete_scopes_leave_no_gap(&built.program);
     complete_audits_leave_no_gap(&built.program);
     complete_audits_have_closed_trees(&built.program);
     plain_scopes_are_decided(&built.program);

@@ -20,7 +20,7 @@ use Rattle.cat_audit.specs.Causes.{HasCause}
 use Rattle.cat_audit.specs.Findings.{derived_in, is_derived, is_no_path, least, position_in, undecided_at}
 use Rattle.cat_audit.specs.declared.report.NamedLine.{NamedLine}
 use Rattle.cat_audit.specs.Sections.{AreLinesOf, is_found, is_masked, named_lines}
-use Rattle.cat_audit.specs.Decided.{EndsInNoFault, HasGap, IsDecidedLine, IsNoFault}
+use Rattle.cat_audit.specs.Decided.{EndsInNoFault, HasGap, IsDecidedLine, IsNoFault, IsUnderivedLine}
 
 -- ---- nothing is derived
 
@@ -46,6 +46,16 @@ on_inputs terms free t no_function region =
 -- ---- one line
 
 module _ (program : Program) (table : Table) (budget : ℕ) (free : AllHave IsFree table.terms) where
+  underived_line : (t : TableTarget) (nodes : List TreeNode) (l : Line) → t.function ≡ false
+      → HasCause program table t budget nodes l → IsUnderivedLine l
+  underived_line t nodes line.Covered no_function cause = tt
+  underived_line t nodes line.Budget no_function cause = tt
+  underived_line t nodes (line.Bad (finding.Found o input)) no_function cause = tt
+  underived_line t nodes (line.Bad (finding.Masked kind pos input)) no_function cause = tt
+  underived_line t nodes (line.Bad (finding.Derived at input o)) no_function cause =
+      let none : None ≡ Some at = sym (on_inputs table.terms free t no_function cause.1.0) ∙ cause.1.2 in
+      absurd (cc)
+
   decided_line : (t : TableTarget) (nodes : List TreeNode) (l : Line) → t.function ≡ false
       → cells table.terms table.atoms t ≤ budget → HasCause program table t budget nodes l → IsDecidedLine l
   decided_line t nodes line.Covered no_function within cause = tt
@@ -55,10 +65,19 @@ module _ (program : Program) (table : Table) (budget : ℕ) (free : AllHave IsFr
   decided_line t nodes (line.Bad (finding.Found o input)) no_function within cause = tt
   decided_line t nodes (line.Bad (finding.Masked kind pos input)) no_function within cause = tt
   decided_line t nodes (line.Bad (finding.Derived at input o)) no_function within cause =
-      let none : None ≡ Some at = sym (on_inputs table.terms free t no_function cause.1.0) ∙ cause.1.2 in
-      absurd (cc)
+      underived_line t nodes (line.Bad (finding.Derived at input o)) no_function cause
 
   -- the lines of targets
+  pub underived_lines : (targets : List TableTarget) (made : List TargetLine)
+      → AllHave (λ (t : TableTarget). t.function ≡ false) targets → AreLinesOf program table budget targets made
+      → AllHave (λ (l : NamedLine). IsUnderivedLine l.line) (named_lines targets made)
+  underived_lines [] made no_function are = tt
+  underived_lines (t ∷ targets) [] no_function are = tt
+  underived_lines (t ∷ targets) (m ∷ made) no_function are = (
+    underived_line t m.tree.nodes m.line no_function.0 are.1,
+    underived_lines targets made no_function.1 are.2,
+  )
+
   pub decided_lines : (targets : List TableTarget) (made : List TargetLine)
       → AllHave (λ (t : TableTarget). t.function ≡ false) targets
       → AllHave (λ (t : TableTarget). cells table.terms table.atoms t ≤ budget) targets

@@ -17,12 +17,13 @@ use Rattle.cat_audit_sound.specs.Audited.{HasNoGap}
 use Rattle.cat_audit.specs.Reports.{AreSections, IsReport, last_verdict}
 use Rattle.cat_audit_table.specs.AuditedTables.{scopes_of}
 use Rattle.cat_audit.specs.Sections.{IsSection, named_lines, verdict_of}
-use Rattle.cat_audit.specs.Decided.{EndsInNoFault, HasCellsWithin, IsDecided, IsDecidedLine, IsWholeVerdict}
+use Rattle.cat_audit.specs.Decided.{EndsInNoFault, HasCellsWithin, IsDecided, IsDecidedLine, IsUnderived}
+use Rattle.cat_audit.specs.Decided.{IsUnderivedLine, IsWholeVerdict}
 use Rattle.cat_audit.specs.Plain.{IsPlain}
 use Rattle.cat_audit.proofs.Lists.{all_as}
 use Rattle.cat_audit.proofs.Alone.{itself_alone, no_line, one_alone}
 use Rattle.cat_audit.proofs.FreeTables.{free_terms, no_function_targets}
-use Rattle.cat_audit.proofs.PlainLines.{ShowsOf, decided_lines, lines_show}
+use Rattle.cat_audit.proofs.PlainLines.{ShowsOf, decided_lines, lines_show, underived_lines}
 use Rattle.cat_audit.proofs.Verdicts.{whole_verdict}
 
 -- sections of one table of a scope
@@ -58,7 +59,7 @@ only program budget scope f (t ∷ []) (m ∷ []) (s ∷ []) one tabled are =
     }
 
 module _ (program : Program) (scope budget : ℕ) (report : Report) (plain : IsPlain program scope)
-    (within : HasCellsWithin program scope budget) (is : IsReport program scope budget report)
+    (is : IsReport program scope budget report)
     (once : (scopes : List ℕ) → AreReachedFrom program scope scopes → all_differ scopes ≡ true)
     (reached : (scopes : List ℕ) → AreReachedFrom program scope scopes
     → AllHave (IsReached (calls_in program) scope) scopes)
@@ -85,8 +86,13 @@ module _ (program : Program) (scope budget : ℕ) (report : Report) (plain : IsP
   none_called = o.told.called_are
       ∙ subst (λ (n : ℕ). called_lines program f n ≡ []) (sym o.scope_is) (no_line program scope plain f)
 
-  decides : AllHave (λ (l : NamedLine). IsDecidedLine l.line) o.section.lines
-  decides = subst (AllHave (λ (l : NamedLine). IsDecidedLine l.line)) (sym o.told.lines_are)
+  underives : AllHave (λ (l : NamedLine). IsUnderivedLine l.line) o.section.lines
+  underives = subst (AllHave (λ (l : NamedLine). IsUnderivedLine l.line)) (sym o.told.lines_are)
+      (underived_lines program o.table budget (free_terms program scope plain o.table o.tabled) o.table.targets o.made
+      (no_function_targets program scope plain o.table o.tabled) o.told.made_are)
+
+  decides : HasCellsWithin program scope budget → AllHave (λ (l : NamedLine). IsDecidedLine l.line) o.section.lines
+  decides within = subst (AllHave (λ (l : NamedLine). IsDecidedLine l.line)) (sym o.told.lines_are)
       (decided_lines program o.table budget (free_terms program scope plain o.table o.tabled) o.table.targets o.made
       (no_function_targets program scope plain o.table o.tabled) (within o.table o.tabled) o.told.made_are)
 
@@ -95,20 +101,29 @@ module _ (program : Program) (scope budget : ℕ) (report : Report) (plain : IsP
       (subst (λ (n : ℕ). AllHave (λ (l : NamedLine). ShowsOf program n l.line) (named_lines o.table.targets o.made))
       o.scope_is (lines_show program o.table budget o.table.targets o.made o.told.made_are))
 
-  pub all_decided : IsDecided scope report
-  all_decided = record {
+  pub all_underived : IsUnderived scope report
+  all_underived = record {
     section = o.section;
     sections_are = o.sections_are;
     scope_is = o.told.scope_is ∙ o.scope_is;
-    lines = decides;
+    lines = underives;
+    called = none_called;
+  }
+
+  pub all_decided : HasCellsWithin program scope budget → IsDecided scope report
+  all_decided within = record {
+    section = o.section;
+    sections_are = o.sections_are;
+    scope_is = o.told.scope_is ∙ o.scope_is;
+    lines = decides within;
     called = none_called;
   }
 
   last_is : last_verdict report.sections ≡ verdict_of o.section.lines []
   last_is = ap last_verdict o.sections_are ∙ o.told.verdict_is ∙ ap (verdict_of o.section.lines) none_called
 
-  pub all_told : EndsInNoFault program scope
+  pub all_told : HasCellsWithin program scope budget → EndsInNoFault program scope
       → (last_verdict report.sections ≡ verdict.Complete → HasNoGap program scope)
       → IsWholeVerdict program scope (last_verdict report.sections)
-  all_told none complete = subst (IsWholeVerdict program scope) (sym last_is)
-      (whole_verdict program scope o.section.lines decides shows none (λ e. complete (last_is ∙ e)))
+  all_told within none complete = subst (IsWholeVerdict program scope) (sym last_is)
+      (whole_verdict program scope o.section.lines (decides within) shows none (λ e. complete (last_is ∙ e)))

@@ -50,6 +50,22 @@ IsDecidedLine (line.Bad (finding.Found o input)) = Unit {0}
 IsDecidedLine (line.Bad (finding.Masked kind pos input)) = Unit {0}
 IsDecidedLine (line.Bad (finding.Derived at input o)) = ⊥
 
+-- a line isn't Derived
+abbrev pub IsUnderivedLine : Line → Type 0
+IsUnderivedLine line.Covered = Unit {0}
+IsUnderivedLine line.Budget = Unit {0}
+IsUnderivedLine (line.Bad (finding.Found o input)) = Unit {0}
+IsUnderivedLine (line.Bad (finding.Masked kind pos input)) = Unit {0}
+IsUnderivedLine (line.Bad (finding.Derived at input o)) = ⊥
+
+-- a report is of one scope alone, and no line of it is Derived: of a called scope there is none
+pub record IsUnderived (scope : ℕ) (report : Report) : Type 0 where
+  pub section : Section
+  pub sections_are : report.sections ≡ section ∷ []
+  pub scope_is : section.scope ≡ scope
+  pub lines : AllHave (λ l. IsUnderivedLine l.line) section.lines
+  pub called : section.called ≡ []
+
 -- a report is of one scope alone, and each line of it is Covered, Found or Masked: of a called scope there is none
 pub record IsDecided (scope : ℕ) (report : Report) : Type 0 where
   pub section : Section

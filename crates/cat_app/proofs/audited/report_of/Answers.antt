@@ -30,8 +30,11 @@ returns c =
     subst (λ n. IsReport program c.args.scope n report) same made in
     record {
       report_is = is;
+      no_gaps = c.complete_scopes_leave_no_gap.ensures c.args.scope c.args.most report is;
       no_gap = c.complete_audits_leave_no_gap.ensures.no_gap c.args.scope c.args.most report within is;
       closed = c.complete_audits_have_closed_trees.ensures c.args.scope c.args.most report within is;
+      underived = λ plain.
+          c.plain_scopes_are_decided.ensures.underived c.args.scope c.args.most report plain is;
       decided = λ plain cells.
           c.plain_scopes_are_decided.ensures.lines c.args.scope c.args.most report plain cells is;
       whole = λ plain cells none.
