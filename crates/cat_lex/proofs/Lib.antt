@@ -6,6 +6,8 @@ pub mod Goes
 pub mod NumberForms
 pub mod AmountForms
 pub mod Listed
+pub mod Lengths
+pub mod Named
 pub mod MarkForms
 pub mod Characters
 pub mod WordForms

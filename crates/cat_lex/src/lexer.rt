@@ -57,7 +57,7 @@ fn tail<'a>(text: &'a str, rest: &[u8]) -> &'a str
 /// The token in front of the text, which stands at this position, and what follows it.
 fn first_token<'a>(
     alloc: Global,
-    names: &mut Names,
+    names: &mut Names<'a>,
     text: &'a str,
     position: Pos,
 ) -> Result<(Token, &'a str), LexRefusal>
@@ -93,10 +93,10 @@ fn after_gap(text: &str, pos: Pos) -> (&str, Pos)
 }
 
 /// Adds the tokens of the piece. After a refusal, those that stand in front of the fault are added.
-fn add_piece(
+fn add_piece<'a>(
     alloc: Global,
-    names: &mut Names,
-    piece: &Piece,
+    names: &mut Names<'a>,
+    piece: &'a Piece,
     tokens: &mut Tokens,
 ) -> Result<(), LexRefusal>
     requires { IsReadable piece.now }

@@ -3,32 +3,41 @@ ghost use Rattle.std.specs.Prelude.{◌≡◌, IfOk};
 
 use cat_pos::Text;
 use std::alloc::{AllocError, Global};
-use std::collections::HashSet;
+use std::collections::HashMap;
+use std::marker::Model;
 
-/// The texts of the names that were met.
+/// The names that were met, where they stand in the source, with the text of each.
 #[derive(Drop)]
-pub(crate) struct Names {
-    met: HashSet<Text>,
+pub(crate) struct Names<'a> {
+    met: HashMap<&'a str, Text>,
 }
 
-impl Names {
-    pub(crate) fn new(alloc: Global) -> Names {
+impl<'a> Model for Names<'a> {
+    ghost use Rattle.cat_lex.specs.inside.Tables.{TellsNames};
+
+    ghost Value = { Unit {0} };
+
+    ghost view = { λ names. record {} };
+
+    ghost invariant = { λ names. TellsNames names.met };
+}
+
+impl<'a> Names<'a> {
+    pub(crate) fn new(alloc: Global) -> Names<'a> {
         Names {
-            met: HashSet::new(alloc),
+            met: HashMap::new(alloc),
         }
     }
 
     /// The text of a name, which shares its bytes with an equal one that was met before.
-    pub(crate) fn text(&mut self, alloc: Global, name: &str) -> Result<Text, AllocError>
+    pub(crate) fn text(&mut self, alloc: Global, name: &'a str) -> Result<Text, AllocError>
         ensures { IfOk result (λ text. text ≡ name.now) }
     {
-        let text = Text::from_str(alloc, name)?;
-        match self.met.get(&text) {
-            Some(met) => met.copy(),
-            None => {
-                self.met.insert(text.copy()?)?;
-                Ok(text)
-            }
+        if let Some(met) = self.met.get(name) {
+            return met.copy();
         }
+        let text = Text::from_str(alloc, name)?;
+        self.met.insert(name, text.copy()?)?;
+        Ok(text)
     }
 }

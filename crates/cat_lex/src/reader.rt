@@ -11,7 +11,7 @@ use crate::Form;
 use crate::skip::{
     after_white_space, after_word, first_char, is_white_space, skip_blanks, skip_digits,
 };
-use crate::tables::{double_keyword, symbol};
+use crate::tables::{begins_pair, double_keyword, symbol};
 use unicode_ident::is_xid_start;
 
 /// The form of a date, with 0 for each digit.
@@ -162,9 +162,13 @@ fn pair<'a>(text: &'a str, rest: &'a str) -> (Form, &'a str)
     if !begins_with_blank(rest) {
         return (Form::Word, rest);
     }
+    let first = front_of(text, rest);
+    if !begins_pair(first) {
+        return (Form::Word, rest);
+    }
     let second = after_white_space(rest);
     let end = after_word(second);
-    match double_keyword(front_of(text, rest), front_of(second, end)) {
+    match double_keyword(first, front_of(second, end)) {
         Some(keyword) => (Form::Pair(keyword), end),
         None => (Form::Word, rest),
     }

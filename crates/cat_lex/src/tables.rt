@@ -1,64 +1,91 @@
 //! The spellings of keywords, double keywords and symbols, and their look-up.
 ghost use Rattle.std.specs.Prelude.{◌≡◌};
-ghost use Rattle.cat_lex.specs.Words.{look_up, look_up_pair, keyword_of, double_keyword_of, symbol_of};
-ghost use Rattle.cat_lex.specs.inside.Tables.{spelled, spelled_pairs};
+ghost use Rattle.cat_lex.specs.Words.{look_up, look_up_pair, double_keywords, keyword_of, double_keyword_of, symbol_of};
+ghost use Rattle.cat_lex.specs.inside.Tables.{spelled, spelled_pairs, begins_pair};
 
 use crate::{DoubleKeyword, Keyword, Symbol};
 
-const KEYWORDS: [(&str, Keyword); 53] = [
-    ("declaration", Keyword::Declaration),
-    ("scope", Keyword::Scope),
-    ("structure", Keyword::Structure),
-    ("enumeration", Keyword::Enumeration),
-    ("data", Keyword::Data),
-    ("content", Keyword::Content),
-    ("input", Keyword::Input),
-    ("output", Keyword::Output),
-    ("internal", Keyword::Internal),
-    ("context", Keyword::Context),
-    ("condition", Keyword::Condition),
-    ("definition", Keyword::Definition),
-    ("rule", Keyword::Rule),
-    ("equals", Keyword::Equals),
-    ("consequence", Keyword::Consequence),
-    ("fulfilled", Keyword::Fulfilled),
-    ("not", Keyword::Not),
-    ("assertion", Keyword::Assertion),
-    ("label", Keyword::Label),
-    ("exception", Keyword::Exception),
+const OF_TWO_LETTERS: [(&str, Keyword); 5] = [
     ("of", Keyword::Of),
     ("if", Keyword::If),
+    ("or", Keyword::Or),
+    ("to", Keyword::To),
+    ("in", Keyword::In),
+];
+
+const OF_THREE_LETTERS: [(&str, Keyword); 5] = [
+    ("not", Keyword::Not),
+    ("and", Keyword::And),
+    ("xor", Keyword::Xor),
+    ("day", Keyword::Day),
+    ("sum", Keyword::Sum),
+];
+
+const OF_FOUR_LETTERS: [(&str, Keyword); 8] = [
+    ("data", Keyword::Data),
+    ("rule", Keyword::Rule),
     ("then", Keyword::Then),
     ("else", Keyword::Else),
-    ("match", Keyword::Match),
     ("with", Keyword::With),
-    ("anything", Keyword::Anything),
-    ("and", Keyword::And),
-    ("or", Keyword::Or),
-    ("xor", Keyword::Xor),
     ("true", Keyword::True),
+    ("date", Keyword::Date),
+    ("year", Keyword::Year),
+];
+
+const OF_FIVE_LETTERS: [(&str, Keyword); 8] = [
+    ("scope", Keyword::Scope),
+    ("input", Keyword::Input),
+    ("label", Keyword::Label),
+    ("match", Keyword::Match),
     ("false", Keyword::False),
+    ("money", Keyword::Money),
+    ("month", Keyword::Month),
+    ("among", Keyword::Among),
+];
+
+const OF_SIX_LETTERS: [(&str, Keyword); 3] = [
+    ("output", Keyword::Output),
+    ("equals", Keyword::Equals),
+    ("exists", Keyword::Exists),
+];
+
+const OF_SEVEN_LETTERS: [(&str, Keyword); 6] = [
+    ("content", Keyword::Content),
+    ("context", Keyword::Context),
     ("boolean", Keyword::Boolean),
     ("integer", Keyword::Integer),
     ("decimal", Keyword::Decimal),
-    ("money", Keyword::Money),
-    ("date", Keyword::Date),
+    ("get_day", Keyword::GetDay),
+];
+
+const OF_EIGHT_LETTERS: [(&str, Keyword); 5] = [
+    ("internal", Keyword::Internal),
+    ("anything", Keyword::Anything),
     ("duration", Keyword::Duration),
-    ("year", Keyword::Year),
-    ("month", Keyword::Month),
-    ("day", Keyword::Day),
-    ("increasing", Keyword::Increasing),
-    ("decreasing", Keyword::Decreasing),
-    ("among", Keyword::Among),
-    ("exists", Keyword::Exists),
-    ("sum", Keyword::Sum),
-    ("to", Keyword::To),
-    ("in", Keyword::In),
-    ("initially", Keyword::Initially),
     ("contains", Keyword::Contains),
     ("get_year", Keyword::GetYear),
+];
+
+const OF_NINE_LETTERS: [(&str, Keyword); 7] = [
+    ("structure", Keyword::Structure),
+    ("condition", Keyword::Condition),
+    ("fulfilled", Keyword::Fulfilled),
+    ("assertion", Keyword::Assertion),
+    ("exception", Keyword::Exception),
+    ("initially", Keyword::Initially),
     ("get_month", Keyword::GetMonth),
-    ("get_day", Keyword::GetDay),
+];
+
+const OF_TEN_LETTERS: [(&str, Keyword); 3] = [
+    ("definition", Keyword::Definition),
+    ("increasing", Keyword::Increasing),
+    ("decreasing", Keyword::Decreasing),
+];
+
+const OF_ELEVEN_LETTERS: [(&str, Keyword); 3] = [
+    ("declaration", Keyword::Declaration),
+    ("enumeration", Keyword::Enumeration),
+    ("consequence", Keyword::Consequence),
 ];
 
 const DOUBLE_KEYWORDS: [(&str, &str, DoubleKeyword); 13] = [
@@ -124,11 +151,42 @@ fn look_up_pair<K: Copy>(table: &[(&str, &str, K)], first: &str, second: &str) -
     None
 }
 
-/// The keyword of this spelling.
+/// The keyword of this spelling, which is sought among those of its length.
 pub(crate) fn keyword(word: &str) -> Option<Keyword>
     ensures { result ≡ keyword_of word.now }
 {
-    look_up(&KEYWORDS, word.as_bytes())
+    let letters = word.as_bytes();
+    match letters.len() {
+        2 => look_up(&OF_TWO_LETTERS, letters),
+        3 => look_up(&OF_THREE_LETTERS, letters),
+        4 => look_up(&OF_FOUR_LETTERS, letters),
+        5 => look_up(&OF_FIVE_LETTERS, letters),
+        6 => look_up(&OF_SIX_LETTERS, letters),
+        7 => look_up(&OF_SEVEN_LETTERS, letters),
+        8 => look_up(&OF_EIGHT_LETTERS, letters),
+        9 => look_up(&OF_NINE_LETTERS, letters),
+        10 => look_up(&OF_TEN_LETTERS, letters),
+        11 => look_up(&OF_ELEVEN_LETTERS, letters),
+        _ => None,
+    }
+}
+
+fn has_first<K: Copy>(table: &[(&str, &str, K)], word: &str) -> bool
+    ensures { result ≡ begins_pair (spelled_pairs table.now) word.now }
+{
+    for &(one, _, _) in table {
+        if word == one {
+            return true;
+        }
+    }
+    false
+}
+
+/// Whether a double keyword begins with this word.
+pub(crate) fn begins_pair(word: &str) -> bool
+    ensures { result ≡ begins_pair double_keywords word.now }
+{
+    has_first(&DOUBLE_KEYWORDS, word)
 }
 
 /// The double keyword of these two words.

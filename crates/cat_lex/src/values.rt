@@ -133,11 +133,11 @@ fn date(word: &[u8]) -> Option<TokenKind>
 }
 
 /// The token that a spelling of this form is; `None` where it passes a bound.
-pub(crate) fn token_kind(
+pub(crate) fn token_kind<'a>(
     alloc: Global,
-    names: &mut Names,
+    names: &mut Names<'a>,
     form: Form,
-    word: &str,
+    word: &'a str,
 ) -> Result<Option<TokenKind>, AllocError>
     ensures { IfOk result (λ kind. kind ≡ token_of form word.now) }
 {
