@@ -202,7 +202,8 @@ fn positions_text(alloc: Global, positions: &[Pos], files: &Files) -> Result<Str
     Ok(text)
 }
 
-fn fault_text(kind: FaultKind) -> &'static str
+/// The name of what stops a run.
+pub fn fault_text(kind: FaultKind) -> &'static str
     ensures { result.now ≡ fault_text kind }
 {
     match kind {

@@ -79,11 +79,7 @@ pub(crate) fn report_of(
 }
 
 /// The certificate of a report whose last verdict is this one, empty where that isn't Complete.
-fn certificate_of(
-    alloc: Global,
-    report: &Report,
-    verdict: Verdict,
-) -> Result<String, AllocError>
+fn certificate_of(alloc: Global, report: &Report, verdict: Verdict) -> Result<String, AllocError>
     requires { HasClosedTrees verdict report.now }
     ensures { IfOk result (λ text. string_bytes text ≡ certificate_of verdict report.now.tables report.now.trees) }
 {

@@ -6,7 +6,6 @@ ghost use Rattle.cat_weave.specs.Causes.{AreReadableTogether, HasEnding};
 ghost use Rattle.cat_weave.specs.Gathered.{Whole};
 ghost use Rattle.cat_build.specs.Built.{IsBuiltOf};
 ghost use Rattle.cat_app.specs.Runs.{HaveSum};
-ghost use Rattle.cat_audit.specs.ReportLines.{verdict_text};
 ghost use Rattle.cat_app.specs.Drills.{HasLine, bands_request, bands_shelf};
 ghost use Rattle.cat_app.specs.inside.SaysOfBands.{GathersBands, MaySayOfBands, SaysLine};
 
@@ -15,7 +14,7 @@ use crate::reply::Reply;
 use crate::run::tell;
 use crate::texts::{no_scope, refuse_gathering, refuse_input, refuse_source};
 use crate::{Ran, Status, drill_source, leaf_count, run_all};
-use cat_audit::Verdict;
+use cat_audit::verdict_text;
 use cat_build::{BuildRefusal, Built, build};
 use cat_io::PureShelf;
 use cat_weave::{GatherRefusal, Source, gather};
@@ -53,18 +52,6 @@ fn gather_bands(alloc: Global, bands: u32) -> Result<Source, GatherRefusal>
             | GatherRefusal::TooLarge(_)
             | GatherRefusal::Memory,
         ) => Err(GatherRefusal::Memory),
-    }
-}
-
-/// The word of a verdict.
-fn verdict_text(verdict: Verdict) -> &'static str
-    ensures { result.now ≡ verdict_text verdict }
-{
-    match verdict {
-        Verdict::Found => "Found",
-        Verdict::Masked => "Masked",
-        Verdict::Undecided => "Undecided",
-        Verdict::Complete => "Complete",
     }
 }
 

@@ -21,11 +21,12 @@ use Rattle.cat_guard.specs.Numbering.{firsts}
 use Rattle.cat_guard.specs.Questions.{Question}
 use Rattle.cat_guard.specs.Tables.{TablesScope, def_formula, defs_questions, is_function, questions_of, target_of}
 use Rattle.cat_guard.specs.Terms.{same_term, term_of, terms_of}
-use Rattle.cat_audit_sound.proofs.Exported.{all_at, firsts_all}
+use Rattle.cat_audit_sound.proofs.Exported.{all_at}
 use Rattle.cat_audit_sound.specs.Shown.{IsFree}
 use Rattle.cat_audit.specs.Plain.{HasFreeTerms, IsPlain, IsPlainBody}
 use Rattle.cat_audit.proofs.Lists.{all_as, all_mapped, all_so}
 use Rattle.cat_scope.proofs.Exported.{all_append}
+use Rattle.cat_guard.proofs.Exported.{firsts_all}
 
 -- ---- terms
 

@@ -7,6 +7,7 @@ use Rattle.cat_region.specs.declared.narrowing.Narrowing.{Narrowing}
 use Rattle.cat_region.specs.Regions.{narrowed_to, last_narrowing}
 use Rattle.cat_region.proofs.Exported.{narrowings-undone}
 use Rattle.cat_guard.specs.declared.table.Term.{Term}
+use Rattle.cat_search.proofs.Exported.{ends}
 use Rattle.cat_audit.specs.Findings.{is_derived, at_most, least, derived_in}
 use Rattle.cat_audit.specs.inside.Least.{lesser, lesser_of}
 
@@ -41,25 +42,6 @@ derived_more terms (m ∷ ns) n =
         ≡ (if b then m.dim ∷ derived_in terms ns else derived_in terms ns) ++ derived_in terms (n ∷ [])
     by true = refl
     by false = refl
-
--- narrowings, as those before the last with the last
-record Ends (ns : List Narrowing) (n : Narrowing) : Type 0 where
-  pub before : List Narrowing
-  pub is : ns ≡ before ++ n ∷ []
-
-ends : (ns : List Narrowing) (last : ℕ × Cut × Bool) → last_narrowing ns ≡ Some last
-    → Ends ns (narrowed_to last.0 last.1 last.2)
-ends [] last is = absurd (cc)
-ends (n ∷ []) last is = record { before = []; is = one }
-  where
-    part : Option (ℕ × Cut × Bool) → Narrowing
-    part None = n
-    part (Some l) = narrowed_to l.0 l.1 l.2
-
-    one : n ∷ [] ≡ narrowed_to last.0 last.1 last.2 ∷ []
-    one = ap (λ m. m ∷ []) (ap part is)
-ends (n ∷ m ∷ ns) last is =
-    let rest = ends (m ∷ ns) last is in record { before = n ∷ rest.before; is = ap (λ ms. n ∷ ms) rest.is }
 
 pub none_left : (ns : List Narrowing) → last_narrowing ns ≡ None → ns ≡ []
 none_left [] is = refl

@@ -1,15 +1,9 @@
 -- The bad leaves of a searched tree: where their ways lead, and what holds of their regions.
-use Rattle.std.proofs.Common.{◌≡◌, ℕ, zero, suc, ◌+◌, Bool, true, false, not, ◌&&◌, IsTrue, if◌then◌else◌, List}
-use Rattle.std.proofs.Common.{[], ◌∷◌, ◌++◌, length, map, Option, Some, None, slice_get, refl, sym, ap, ◌∙◌, subst}
+use Rattle.std.proofs.Common.{◌≡◌, ℕ, suc, ◌+◌, Bool, true, false, not, IsTrue, if◌then◌else◌, List}
+use Rattle.std.proofs.Common.{[], ◌∷◌, ◌++◌, map, Some, refl, sym, ap, ◌∙◌, subst}
 use Rattle.std.proofs.Common.{arith}
 use Rattle.std.proofs.Common.{true≢false}
-use Rattle.std.specs.List.{list_all}
-use Rattle.std.proofs.lemmas.List.Folds.{list_all-map}
-use Rattle.cat_value.proofs.Exported.{list_all_at}
-use Rattle.cat_region.specs.declared.dim.Dim.{Dim}
-use Rattle.cat_region.specs.Regions.{Constraints, IsRegion, IsInhabited, is_dim, is_cut_at}
-use Rattle.cat_region.specs.Regions.{is_cut_of as is_dim_cut}
-use Rattle.cat_region.proofs.Exported.{IsRegion-with_narrowing}
+use Rattle.cat_region.specs.Regions.{Constraints, IsRegion, IsInhabited}
 use Rattle.cat_scope.specs.Names.{AllHave}
 use Rattle.cat_guard.specs.declared.table.Atom.{Atom}
 use Rattle.cat_guard.specs.declared.table.Term.{Term}
@@ -17,12 +11,12 @@ use Rattle.cat_guard.specs.declared.table.Table.{Table}
 use Rattle.cat_guard.specs.declared.table.TableTarget.{TableTarget}
 use Rattle.cat_guard.specs.declared.tree.TreeNode.{TreeNode}
 use Rattle.cat_guard.specs.Judged.{judged_in, covers}
-use Rattle.cat_guard.specs.Soundness.{is_cut_of, term_is_sound, atom_is_sound, target_is_sound, is_sound}
-use Rattle.cat_guard.specs.Trees.{Tree, tree_of, with_answer, answering}
+use Rattle.cat_guard.specs.Soundness.{is_sound}
+use Rattle.cat_guard.specs.Trees.{Tree, tree_of, answering}
 use Rattle.cat_guard.specs.Trees as tree
 use Rattle.cat_guard.specs.Valuations.{dims_of}
 use Rattle.cat_guard.specs.Verdicts.{Verdict, Holds, Empty, Conflict, Open}
-use Rattle.cat_guard.proofs.Exported.{both_true}
+use Rattle.cat_guard.proofs.Exported.{sound_dims}
 use Rattle.cat_guard.specs.Judgements.{is_bad}
 use Rattle.cat_search.specs.declared.bad.BadLeaf.{BadLeaf}
 use Rattle.cat_search.specs.Searched.{everything, Reached, leaves_from, size, is_known, bad_among, flaw_of, IsSearched}
@@ -31,46 +25,17 @@ use Rattle.cat_audit.specs.Lines.{bad_regions, leaves_in, bad_in}
 use Rattle.cat_audit.specs.inside.Tried.{region_at, IsBadAt, AreBadFrom}
 use Rattle.cat_audit.proofs.TriedLemmas.{earlier}
 use Rattle.cat_scope.proofs.Exported.{all_append}
+use Rattle.cat_search.proofs.Exported.{sides_are, same_dims}
 
 -- ---- regions of a sound table
 
-cut_of_term : (terms : List Term) (i : ℕ) (atom : Atom) → IsTrue (is_cut_of (slice_get terms i) atom)
-    → IsTrue (is_dim_cut (slice_get (dims_of terms) i) atom.cut)
-cut_of_term [] i atom h = absurd (true≢false (sym h))
-cut_of_term (t ∷ ts) zero atom h = h
-cut_of_term (t ∷ ts) (suc i) atom h = cut_of_term ts i atom h
-
 module _ (terms : List Term) (atoms : List Atom) (targets : List TableTarget)
     (sound : IsTrue (is_sound terms atoms targets)) where
-  parts : IsTrue (list_all term_is_sound terms && list_all (atom_is_sound terms) atoms)
-  unfolding is_sound
-  parts = (both_true _ (list_all (target_is_sound (length atoms)) targets) sound).0
-
   pub whole_is : IsRegion (everything terms)
   whole_is = record {
-    dims = list_all-map is_dim (λ (term : Term). term.dim) terms
-        ∙ (both_true (list_all term_is_sound terms) (list_all (atom_is_sound terms) atoms) parts).0;
+    dims = sound_dims terms atoms targets sound;
     narrowings = refl;
   }
-
-  pub side_is : (region : Constraints) (a : ℕ) (b : Bool) → IsRegion region → region.dims ≡ dims_of terms
-      → IsRegion (answering atoms region a b)
-  side_is region a b is dims = by (slice_get atoms a) refl
-    where
-      by : (o : Option Atom) → slice_get atoms a ≡ o → IsRegion (with_answer region o b)
-      by None e = is
-      by (Some atom) e = IsRegion-with_narrowing region _ is
-          (subst (λ (ds : List Dim). IsTrue (is_cut_at ds atom.term atom.cut)) (sym dims)
-          (cut_of_term terms atom.term atom (list_all_at (atom_is_sound terms) atoms a atom
-          (both_true (list_all term_is_sound terms) (list_all (atom_is_sound terms) atoms) parts).1 e)))
-
-  pub side_dims : (region : Constraints) (a : ℕ) (b : Bool) → region.dims ≡ dims_of terms
-      → (answering atoms region a b).dims ≡ dims_of terms
-  side_dims region a b dims = by (slice_get atoms a)
-    where
-      by : (o : Option Atom) → (with_answer region o b).dims ≡ dims_of terms
-      by None = dims
-      by (Some atom) = dims
 
 -- ---- the leaves of a searched tree
 
@@ -97,11 +62,11 @@ module _ (terms : List Term) (atoms : List Atom) (targets : List TableTarget)
       all_append Good (leaves_from atoms (place + 1) (answering atoms region a true) left)
       (leaves_from atoms (place + 1 + size left) (answering atoms region a false) right)
       (leaves_good (place + 1) (answering atoms region a true) left
-      (side_is terms atoms targets sound region a true is dims)
-      (side_dims terms atoms targets sound region a true dims) searched.1)
+      (sides_are terms atoms targets sound region a true is dims)
+      (same_dims terms atoms targets sound region a true dims) searched.1)
       (leaves_good (place + 1 + size left) (answering atoms region a false) right
-      (side_is terms atoms targets sound region a false is dims)
-      (side_dims terms atoms targets sound region a false dims) searched.2)
+      (sides_are terms atoms targets sound region a false is dims)
+      (same_dims terms atoms targets sound region a false dims) searched.2)
 
   pub tree_good : (found : Tree) → IsSearched atoms t (everything terms) found
       → AllHave Good (leaves_from atoms 0 (everything terms) found)

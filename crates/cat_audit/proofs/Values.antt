@@ -9,7 +9,7 @@ use Rattle.cat_value.specs.declared.declaration.Scope.{Scope}
 use Rattle.cat_value.specs.declared.outcome.Target.{Target}
 use Rattle.cat_region.specs.declared.dim.Dim.{Dim}
 use Rattle.cat_region.specs.declared.dim.Dim.TheVariants as dim
-use Rattle.cat_region.specs.Points.{is_point}
+use Rattle.cat_region.specs.Points.{is_point, default_point}
 use Rattle.cat_scope.specs.declared.defs.Body.{Body}
 use Rattle.cat_scope.specs.Forests.{targets_of}
 use Rattle.cat_scope.specs.Names.{Names, AllHave}
@@ -17,12 +17,12 @@ use Rattle.cat_scope.specs.WellFormed.{DefTyped, IsWellFormed}
 use Rattle.cat_guard.specs.declared.table.Table.{Table}
 use Rattle.cat_guard.specs.declared.table.Term.{Term}
 use Rattle.cat_guard.specs.Numbering.{firsts}
-use Rattle.cat_guard.specs.PointValues.{default_point}
 use Rattle.cat_guard.specs.Questions.{Question}
 use Rattle.cat_guard.specs.Tables.{IsTableOf, questions_of}
 use Rattle.cat_guard.specs.Terms.{same_term, term_of, terms_of}
 use Rattle.cat_guard.specs.Valuations.{dims_of}
-use Rattle.cat_audit_sound.proofs.Exported.{IsOfDef, targets_all, firsts_all, body_is}
+use Rattle.cat_guard.proofs.Exported.{firsts_all}
+use Rattle.cat_audit_sound.proofs.Exported.{IsOfDef, targets_all, body_is}
 use Rattle.cat_search.specs.Searched.{has_value}
 
 abbrev names : Decls → Scope → Names

@@ -25,6 +25,7 @@ pub use laws::{
     reports_are_of_declared_scopes,
 };
 pub use line::target_line;
+pub use lines::verdict_text;
 pub use plain_laws::plain_scopes_are_decided;
 pub use report::{
     CalledLine, CalledLines, CaseTrees, NamedLine, NamedLines, Report, Section, Sections, Verdict,

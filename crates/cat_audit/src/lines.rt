@@ -1,16 +1,16 @@
 // The lines of a report.
 ghost use Rattle.std.specs.Prelude.{◌≡◌, ◌<◌, IfOk, length, slice_get, string_bytes};
-ghost use Rattle.cat_answer.specs.Answer.{fault_text};
 ghost use Rattle.cat_audit.specs.Called.{scope_name};
 ghost use Rattle.cat_audit.specs.ReportLines.{called_line, finding_text, said, target_line, verdict_text};
 
 use crate::{CalledLine, Finding, Line, NamedLine, Verdict};
-use cat_answer::{answer_text, input_text, position_text};
+use cat_answer::{answer_text, fault_text, input_text, position_text};
 use cat_pos::Files;
-use cat_value::{Decls, FaultKind};
+use cat_value::Decls;
 use std::alloc::{AllocError, Global};
 
-pub(crate) fn verdict_text(verdict: Verdict) -> &'static str
+/// The word of a verdict.
+pub fn verdict_text(verdict: Verdict) -> &'static str
     ensures { result.now ≡ verdict_text verdict }
 {
     match verdict {
@@ -18,18 +18,6 @@ pub(crate) fn verdict_text(verdict: Verdict) -> &'static str
         Verdict::Masked => "Masked",
         Verdict::Undecided => "Undecided",
         Verdict::Complete => "Complete",
-    }
-}
-
-fn fault_text(kind: FaultKind) -> &'static str
-    ensures { result.now ≡ fault_text kind }
-{
-    match kind {
-        FaultKind::Overflow => "Overflow",
-        FaultKind::DivisionByZero => "DivisionByZero",
-        FaultKind::AmbiguousDate => "AmbiguousDate",
-        FaultKind::Uncomparable => "Uncomparable",
-        FaultKind::AssertionFailed => "AssertionFailed",
     }
 }
 

@@ -1,5 +1,5 @@
 -- Two cuts have the same numbers exactly where they are one.
-use Rattle.std.proofs.Common.{◌≡◌, ◌↔◌, ℕ, zero, suc, nat_eq, ℤ, pos, negsuc, Bool, true, false, ◌&&◌, IsTrue, List, []}
+use Rattle.std.proofs.Common.{◌≡◌, ◌↔◌, ℕ, zero, suc, nat_eq, ℤ, pos, negsuc, true, IsTrue, List, []}
 use Rattle.std.proofs.Common.{◌∷◌, refl, sym, ap, ◌∙◌, arith, true≢false}
 use Rattle.std.specs.Prelude.{unsigned_abs}
 use Rattle.std.specs.Ordering.{int_eq}
@@ -8,6 +8,7 @@ use Rattle.cat_region.specs.declared.cut.Scalar.{Scalar}
 use Rattle.cat_region.specs.declared.cut.Scalar.TheVariants as scalar
 use Rattle.cat_region.specs.declared.cut.Cut.{Cut}
 use Rattle.cat_region.specs.declared.cut.Cut.TheVariants as cut
+use Rattle.cat_region.proofs.Exported.{and-parts}
 use Rattle.cat_guard.specs.Terms.{same_scalar, same_cut}
 use Rattle.cat_audit_keys.specs.Keys.{sign_number}
 use Rattle.cat_audit_keys.specs.Atoms.{scalar_numbers, cut_numbers}
@@ -27,11 +28,6 @@ one_number n m e = grind (arith, nat_tests)
 
 same_number : (n m : ℕ) → nat_eq n m ≡ true → n ≡ m
 same_number n m h = grind (arith, nat_tests)
-
-both : (a b : Bool) → (a && b) ≡ true → (a ≡ true) × (b ≡ true)
-both true true h = (refl, refl)
-both true false h = absurd (true≢false (sym h))
-both false b h = absurd (true≢false (sym h))
 
 one_integer : (a b : ℤ) → sign_number a ≡ sign_number b → unsigned_abs a ≡ unsigned_abs b → int_eq a b ≡ true
 one_integer a b s n = (Decides-int_eq a b).1 (by a b s n)
@@ -66,7 +62,7 @@ constant_numbers (scalar.Money n) (scalar.Money m) h =
 constant_numbers (scalar.Day n) (scalar.Day m) h =
     ap (λ (k : ℤ). scalar_numbers (scalar.Day k)) ((Decides-int_eq n m).0 h)
 constant_numbers (scalar.Decimal f) (scalar.Decimal g) h =
-    let two = both (int_eq f.num g.num) (nat_eq f.den g.den) h in
+    let two = and-parts (int_eq f.num g.num) (nat_eq f.den g.den) h in
     ap (λ (k : ℤ). 3 ∷ sign_number k ∷ unsigned_abs k ∷ f.den ∷ []) ((Decides-int_eq f.num g.num).0 two.0)
     ∙ ap (λ (d : ℕ). 3 ∷ sign_number g.num ∷ unsigned_abs g.num ∷ d ∷ []) (same_number f.den g.den two.1)
 constant_numbers _ _ h = absurd (true≢false (sym h))

@@ -12,9 +12,10 @@ use Rattle.cat_scope.specs.OperatorNumbers.{unary_number, binary_number, sum_num
 use Rattle.cat_scope.specs.Same.{Standing}
 use Rattle.cat_scope.specs.SameTree.{same_pattern, each_same, same_in, same_arm, same_field, same_tree}
 use Rattle.cat_sound.proofs.Exported.{parts_of, bodies_of, values_of}
+use Rattle.cat_region.proofs.Exported.{and-both}
 use Rattle.cat_audit_keys.specs.Keys.{Branch, Slot, form_number, own_numbers, parts, bodies, values, key_in, arm_key}
 use Rattle.cat_audit_keys.specs.Keys.{field_key, key_of, pattern_numbers, patterns_numbers, field_numbers}
-use Rattle.cat_audit_keys.proofs.KeyNumbers.{number_at, behind, one_number, and_both, one_front, literal_told}
+use Rattle.cat_audit_keys.proofs.KeyNumbers.{number_at, behind, one_number, one_front, literal_told}
 use Rattle.cat_audit_keys.proofs.KeyNumbers.{pattern_told, local_told, pattern_length}
 
 abbrev pub Form : Type 0
@@ -107,7 +108,7 @@ module _ (g h : Standing) where
   all_same [] [] s = refl
   all_same [] (f ∷ fs) s = elim s [ ]
   all_same (e ∷ es) [] s = elim s [ ]
-  all_same (e ∷ es) (f ∷ fs) s = and_both _ _ s.0 (all_same es fs s.1)
+  all_same (e ∷ es) (f ∷ fs) s = and-both _ _ s.0 (all_same es fs s.1)
 
   arms_same : (xs ys : List Arm) → patterns_numbers (map (arm_of g) xs) ≡ patterns_numbers (map (arm_of h) ys)
       → EachSame (bodies_of xs) (bodies_of ys) → each_same (map arm_test xs) ys ≡ true
@@ -120,7 +121,7 @@ module _ (g h : Standing) where
       (pattern_length a.pattern ∙ sym (pattern_length b.pattern))
       (sym (ap (λ (x : Branch (List ℕ)). pattern_numbers x.0 ++ patterns_numbers (map (arm_of g) xs)) (arm_is g a)) ∙ n
       ∙ ap (λ (x : Branch (List ℕ)). pattern_numbers x.0 ++ patterns_numbers (map (arm_of h) ys)) (arm_is h b)) in
-      and_both _ _ (arm_test_is a b ∙ and_both _ _ (pattern_told a.pattern b.pattern two.0) s.0)
+      and-both _ _ (arm_test_is a b ∙ and-both _ _ (pattern_told a.pattern b.pattern two.0) s.0)
       (arms_same xs ys two.1 s.1)
 
   fields_same : (xs ys : List FieldValue) → field_numbers (map (field_of g) xs) ≡ field_numbers (map (field_of h) ys)
@@ -132,7 +133,7 @@ module _ (g h : Standing) where
       let number : a.field ≡ b.field =
       sym (ap (λ (x : Slot (List ℕ)). x.0) (field_is g a)) ∙ ap (number_at 0) n
       ∙ ap (λ (x : Slot (List ℕ)). x.0) (field_is h b) in
-      and_both _ _ (field_test_is a b ∙ and_both _ _ (one_number a.field b.field number) s.0)
+      and-both _ _ (field_test_is a b ∙ and-both _ _ (one_number a.field b.field number) s.0)
       (fields_same xs ys (ap behind n) s.1)
 
   -- forms of one number that have the same numbers and the same parts are the same
@@ -142,45 +143,45 @@ module _ (g h : Standing) where
   same_form (Expr-F.Literal p l) (Expr-F.Literal q m) t n s = literal_told l m n
   same_form (Expr-F.Item p i) (Expr-F.Item q j) t n s = one_number i j (ap (number_at 0) n)
   same_form (Expr-F.Output p i k) (Expr-F.Output q j m) t n s =
-      and_both _ _ (one_number i j (ap (number_at 0) n)) (one_number k m (ap (number_at 1) n))
+      and-both _ _ (one_number i j (ap (number_at 0) n)) (one_number k m (ap (number_at 1) n))
   same_form (Expr-F.Local p k) (Expr-F.Local q m) t n s = local_told g h k m n
   same_form (Expr-F.Field p e k) (Expr-F.Field q f m) t n s =
-      and_both _ _ (one_number k m (ap (number_at 0) n)) s.0
+      and-both _ _ (one_number k m (ap (number_at 0) n)) s.0
   same_form (Expr-F.Unary p o e) (Expr-F.Unary q u f) t n s =
-      and_both _ _ (one_number (unary_number o) (unary_number u) (ap (number_at 0) n)) s.0
+      and-both _ _ (one_number (unary_number o) (unary_number u) (ap (number_at 0) n)) s.0
   same_form (Expr-F.Binary p o r a b) (Expr-F.Binary q u v c d) t n s =
-      and_both _ _ (one_number (binary_number o) (binary_number u) (ap (number_at 0) n)) (and_both _ _ s.0 s.1.0)
-  same_form (Expr-F.And p a b) (Expr-F.And q c d) t n s = and_both _ _ s.0 s.1.0
-  same_form (Expr-F.Or p a b) (Expr-F.Or q c d) t n s = and_both _ _ s.0 s.1.0
-  same_form (Expr-F.If p x a b) (Expr-F.If q y c d) t n s = and_both _ _ s.0 (and_both _ _ s.1.0 s.1.1.0)
+      and-both _ _ (one_number (binary_number o) (binary_number u) (ap (number_at 0) n)) (and-both _ _ s.0 s.1.0)
+  same_form (Expr-F.And p a b) (Expr-F.And q c d) t n s = and-both _ _ s.0 s.1.0
+  same_form (Expr-F.Or p a b) (Expr-F.Or q c d) t n s = and-both _ _ s.0 s.1.0
+  same_form (Expr-F.If p x a b) (Expr-F.If q y c d) t n s = and-both _ _ s.0 (and-both _ _ s.1.0 s.1.1.0)
   same_form (Expr-F.Match p e arms) (Expr-F.Match q f others) t n s =
-      and_both _ _ s.0 (arms_same arms others n s.1)
+      and-both _ _ s.0 (arms_same arms others n s.1)
   same_form (Expr-F.IsCase p e i k) (Expr-F.IsCase q f j m) t n s =
-      and_both _ _ (one_number i j (ap (number_at 0) n))
-      (and_both _ _ (one_number k m (ap (number_at 1) n)) s.0)
+      and-both _ _ (one_number i j (ap (number_at 0) n))
+      (and-both _ _ (one_number k m (ap (number_at 1) n)) s.0)
   same_form (Expr-F.Case p i k None) (Expr-F.Case q j m None) t n s =
-      and_both _ _ (one_number i j (ap (number_at 0) n)) (one_number k m (ap (number_at 1) n))
+      and-both _ _ (one_number i j (ap (number_at 0) n)) (one_number k m (ap (number_at 1) n))
   same_form (Expr-F.Case p i k (Some e)) (Expr-F.Case q j m (Some f)) t n s =
-      and_both _ _ (one_number i j (ap (number_at 0) n))
-      (and_both _ _ (one_number k m (ap (number_at 1) n)) s.0)
+      and-both _ _ (one_number i j (ap (number_at 0) n))
+      (and-both _ _ (one_number k m (ap (number_at 1) n)) s.0)
   same_form (Expr-F.Case p i k None) (Expr-F.Case q j m (Some f)) t n s = elim s [ ]
   same_form (Expr-F.Case p i k (Some e)) (Expr-F.Case q j m None) t n s = elim s [ ]
   same_form (Expr-F.Structure p i fields) (Expr-F.Structure q j others) t n s =
-      and_both _ _ (one_number i j (ap (number_at 0) n)) (fields_same fields others (ap behind n) s)
+      and-both _ _ (one_number i j (ap (number_at 0) n)) (fields_same fields others (ap behind n) s)
   same_form (Expr-F.List p es) (Expr-F.List q fs) t n s = all_same es fs s
-  same_form (Expr-F.ForAll p l e) (Expr-F.ForAll q m f) t n s = and_both _ _ s.0 s.1.0
-  same_form (Expr-F.Exists p l e) (Expr-F.Exists q m f) t n s = and_both _ _ s.0 s.1.0
-  same_form (Expr-F.Map p l e) (Expr-F.Map q m f) t n s = and_both _ _ s.0 s.1.0
-  same_form (Expr-F.Filter p l e) (Expr-F.Filter q m f) t n s = and_both _ _ s.0 s.1.0
+  same_form (Expr-F.ForAll p l e) (Expr-F.ForAll q m f) t n s = and-both _ _ s.0 s.1.0
+  same_form (Expr-F.Exists p l e) (Expr-F.Exists q m f) t n s = and-both _ _ s.0 s.1.0
+  same_form (Expr-F.Map p l e) (Expr-F.Map q m f) t n s = and-both _ _ s.0 s.1.0
+  same_form (Expr-F.Filter p l e) (Expr-F.Filter q m f) t n s = and-both _ _ s.0 s.1.0
   same_form (Expr-F.Combine p l x e) (Expr-F.Combine q m y f) t n s =
-      and_both _ _ s.0 (and_both _ _ s.1.0 s.1.1.0)
-  same_form (Expr-F.Contains p r l e) (Expr-F.Contains q v m f) t n s = and_both _ _ s.0 s.1.0
+      and-both _ _ s.0 (and-both _ _ s.1.0 s.1.1.0)
+  same_form (Expr-F.Contains p r l e) (Expr-F.Contains q v m f) t n s = and-both _ _ s.0 s.1.0
   same_form (Expr-F.Length p l) (Expr-F.Length q m) t n s = s.0
   same_form (Expr-F.Sum p kind l) (Expr-F.Sum q other m) t n s =
-      and_both _ _ (one_number (sum_number kind) (sum_number other) (ap (number_at 0) n)) s.0
+      and-both _ _ (one_number (sum_number kind) (sum_number other) (ap (number_at 0) n)) s.0
   same_form (Expr-F.Call p i es) (Expr-F.Call q j fs) t n s =
-      and_both _ _ (one_number i j (ap (number_at 0) n)) (all_same es fs s)
+      and-both _ _ (one_number i j (ap (number_at 0) n)) (all_same es fs s)
   same_form (Expr-F.ScopeCall p i fields k) (Expr-F.ScopeCall q j others m) t n s =
-      and_both _ _ (one_number i j (ap (number_at 0) n))
-      (and_both _ _ (one_number k m (ap (number_at 1) n)) (fields_same fields others (ap behind (ap behind n)) s))
+      and-both _ _ (one_number i j (ap (number_at 0) n))
+      (and-both _ _ (one_number k m (ap (number_at 1) n)) (fields_same fields others (ap behind (ap behind n)) s))
   same_form _ _ t n s = absurd (true≢false (sym t))

@@ -12,6 +12,7 @@ use Rattle.cat_scope.specs.declared.expr.ArmPattern.TheVariants as pattern
 use Rattle.cat_scope.specs.Same.{Standing}
 use Rattle.cat_scope.specs.SameTree.{same_literal, same_pattern, same_local}
 use Rattle.cat_scope.specs.Comparing.{differ}
+use Rattle.cat_region.proofs.Exported.{and-both}
 use Rattle.cat_audit_keys.specs.Keys.{truth_number, sign_number, literal_numbers, local_numbers, pattern_numbers}
 use Rattle.cat_audit_keys.specs.Keys.{joined}
 use Rattle.cat_audit_keys.specs.Keys.{spelled}
@@ -30,14 +31,6 @@ behind (x ∷ xs) = xs
 
 pub one_number : (n m : ℕ) → n ≡ m → nat_eq n m ≡ true
 one_number n m e = grind (arith, nat_tests)
-
-pub and_both : (a b : Bool) → a ≡ true → b ≡ true → (a && b) ≡ true
-and_both a b e f = rw (e, f) refl
-
-pub both : (a b : Bool) → (a && b) ≡ true → (a ≡ true) × (b ≡ true)
-both true true h = (refl, refl)
-both true false h = absurd (true≢false (sym h))
-both false b h = absurd (true≢false (sym h))
 
 -- lists of one length with something behind them
 pub one_front : (xs ys us vs : List ℕ) → length xs ≡ length ys → xs ++ us ≡ ys ++ vs → (xs ≡ ys) × (us ≡ vs)
@@ -101,19 +94,19 @@ literal_told l m e = by l m e (one_number (number_at 0 (literal_numbers l)) (num
     by (literal.Boolean a) (literal.Boolean b) e k = one_truth a b (ap (number_at 1) e)
     by (literal.Integer a) (literal.Integer b) e k = one_integer a b (ap (number_at 1) e) (ap (number_at 2) e)
     by (literal.Decimal a) (literal.Decimal b) e k =
-        and_both (nat_eq a.digits b.digits) (nat_eq a.places b.places)
+        and-both (nat_eq a.digits b.digits) (nat_eq a.places b.places)
         (one_number a.digits b.digits (ap (number_at 1) e)) (one_number a.places b.places (ap (number_at 2) e))
     by (literal.Money a) (literal.Money b) e k = one_integer a b (ap (number_at 1) e) (ap (number_at 2) e)
     by (literal.Date a) (literal.Date b) e k = one_integer a b (ap (number_at 1) e) (ap (number_at 2) e)
     by (literal.Duration a) (literal.Duration b) e k =
-        and_both (int_eq a.months b.months) (int_eq a.days b.days)
+        and-both (int_eq a.months b.months) (int_eq a.days b.days)
         (one_integer a.months b.months (ap (number_at 1) e) (ap (number_at 2) e))
         (one_integer a.days b.days (ap (number_at 3) e) (ap (number_at 4) e))
     by _ _ e k = absurd (true≢false (sym k))
 
 pub pattern_told : (p q : ArmPattern) → pattern_numbers p ≡ pattern_numbers q → same_pattern p q ≡ true
 pattern_told (pattern.Case k bound) (pattern.Case m other) e =
-    and_both (nat_eq k m) (not (differ bound other)) (one_number k m (ap (number_at 1) e))
+    and-both (nat_eq k m) (not (differ bound other)) (one_number k m (ap (number_at 1) e))
     (one_truth bound other (less (truth_number bound) (truth_number other) (ap (number_at 0) e)))
   where
     less : (a b : ℕ) → suc a ≡ suc b → a ≡ b
@@ -143,9 +136,9 @@ local_told g h k m e = by (nat_lt k g.params) (nat_lt m h.params) refl refl e
         ≡ (if d then 0 ∷ h.function ∷ m ∷ [] else 1 ∷ 0 ∷ (m - h.params) ∷ [])
         → (if nat_lt k g.params then nat_eq g.function h.function && (nat_eq k m && nat_lt k h.params)
         else nat_le h.params m && nat_eq (k + h.params) (m + g.params)) ≡ true
-    by true true l n e = rw l (and_both (nat_eq g.function h.function) (nat_eq k m && nat_lt k h.params)
+    by true true l n e = rw l (and-both (nat_eq g.function h.function) (nat_eq k m && nat_lt k h.params)
         (one_number g.function h.function (ap (number_at 1) e))
-        (and_both (nat_eq k m) (nat_lt k h.params) (one_number k m (ap (number_at 2) e))
+        (and-both (nat_eq k m) (nat_lt k h.params) (one_number k m (ap (number_at 2) e))
         (inside g.params h.params k m (ap (number_at 2) e) n)))
     by false false l n e = rw l (outside g.params h.params k m l n (ap (number_at 2) e))
     by true false l n e = absurd (omega (arith, ap (number_at 0) e))

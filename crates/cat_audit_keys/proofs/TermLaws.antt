@@ -6,10 +6,11 @@ use Rattle.cat_region.specs.declared.dim.Dim.{Dim}
 use Rattle.cat_region.specs.declared.dim.Dim.TheVariants as dim
 use Rattle.cat_scope.specs.SameTree.{same_tree}
 use Rattle.cat_sound.proofs.Exported.{test_sound}
+use Rattle.cat_region.proofs.Exported.{and-parts, and-both}
 use Rattle.cat_guard.specs.Questions.{Question}
 use Rattle.cat_guard.specs.Terms.{same_dim, same_term}
 use Rattle.cat_audit_keys.specs.Keys.{dim_numbers, key_of, term_key}
-use Rattle.cat_audit_keys.proofs.KeyNumbers.{number_at, one_number, and_both, both, one_front}
+use Rattle.cat_audit_keys.proofs.KeyNumbers.{number_at, one_number, one_front}
 use Rattle.cat_audit_keys.proofs.KeyLaws.{tells, one_key}
 
 dim_length : (d : Dim) → length (dim_numbers d) ≡ 2
@@ -47,7 +48,7 @@ dim_key _ _ h = absurd (true≢false (sym h))
 
 has_key : (q r : Question) → IsTrue (same_term q r) → term_key q ≡ term_key r
 has_key q r h =
-    let two = both (same_tree q.standing r.standing q.expr r.expr) (same_dim q.dim r.dim) h in
+    let two = and-parts (same_tree q.standing r.standing q.expr r.expr) (same_dim q.dim r.dim) h in
     ap (λ (ns : List ℕ). ns ++ key_of q.standing q.expr) (dim_key q.dim r.dim two.1)
     ∙ ap (λ (ns : List ℕ). dim_numbers r.dim ++ ns)
     (one_key q.standing r.standing (test_sound q.standing r.standing q.expr r.expr two.0))
@@ -57,7 +58,7 @@ has_term q r e =
     let two = one_front (dim_numbers q.dim) (dim_numbers r.dim) (key_of q.standing q.expr) (key_of r.standing r.expr)
     (dim_length q.dim ∙ sym (dim_length r.dim)) e in
     let told = tells q.standing r.standing q.expr r.expr [] [] (ap (λ (k : List ℕ). k ++ []) two.1) in
-    and_both (same_tree q.standing r.standing q.expr r.expr) (same_dim q.dim r.dim) told.0
+    and-both (same_tree q.standing r.standing q.expr r.expr) (same_dim q.dim r.dim) told.0
     (dim_told q.dim r.dim two.0)
 
 pub one_term : (q r : Question) → IsTrue (same_term q r) ↔ (term_key q ≡ term_key r)

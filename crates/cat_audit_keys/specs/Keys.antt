@@ -164,10 +164,11 @@ spelled form own inner = form ∷ length own ∷ own ++ (length inner ∷ joined
 abbrev pub key_in : Standing → Expr-F (List ℕ) (Branch (List ℕ)) (Slot (List ℕ)) → List ℕ
 key_in g y = spelled (form_number y) (own_numbers g y) (parts y)
 
--- an arm, and a field, with the key of what is in it
+-- an arm, with the key of what is in it
 abbrev pub arm_key : Arm-F (List ℕ) (Branch (List ℕ)) (Slot (List ℕ)) → Branch (List ℕ)
 arm_key a = (a.pattern, a.body)
 
+-- a field, with the key of what is in it
 abbrev pub field_key : FieldValue-F (List ℕ) (Branch (List ℕ)) (Slot (List ℕ)) → Slot (List ℕ)
 field_key f = (f.field, f.value)
 

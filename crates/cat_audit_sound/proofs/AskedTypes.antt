@@ -16,7 +16,7 @@ use Rattle.cat_region.specs.declared.cut.Scalar.{Scalar}
 use Rattle.cat_region.specs.declared.cut.Scalar.TheVariants as scalar
 use Rattle.cat_region.specs.declared.cut.Cut.{Cut}
 use Rattle.cat_region.specs.declared.cut.Cut.TheVariants as cut
-use Rattle.cat_region.specs.Points.{is_point}
+use Rattle.cat_region.specs.Points.{is_point, default_point}
 use Rattle.cat_scope.specs.declared.stop.Stop.TheVariants.{Stuck}
 use Rattle.cat_scope.specs.declared.expr.Literal.{Literal}
 use Rattle.cat_scope.specs.declared.expr.Literal.TheVariants as literal
@@ -38,13 +38,11 @@ use Rattle.cat_scope.specs.Eval.{Env}
 use Rattle.cat_sound.specs.Parts.{PartsTyped}
 use Rattle.cat_sound.proofs.Exported.{by_parts, parts_of}
 use Rattle.cat_guard.specs.Formulas.{Formula, asked}
-use Rattle.cat_guard.specs.Formulas as formula
-use Rattle.cat_guard.specs.Comparisons.{Comparison, comparison_of, turned, parted, scalar_dim, constant_of}
-use Rattle.cat_guard.specs.Comparisons as comparison
+use Rattle.cat_guard.specs.Comparisons.{Comparison, comparison_of, turned, scalar_dim, constant_of}
 use Rattle.cat_guard.specs.Questions.{Question, ask_truth, against, compared, operated, literal_guard, unary_guard}
 use Rattle.cat_guard.specs.Questions.{binary_guard, guard_of, condition_guard}
-use Rattle.cat_guard.specs.PointValues.{dim_of, dim_in, default_point}
-use Rattle.cat_guard.proofs.Exported.{guard_at}
+use Rattle.cat_guard.specs.PointValues.{dim_of, dim_in}
+use Rattle.cat_guard.proofs.Exported.{guard_at, parted_all}
 use Rattle.cat_audit_sound.proofs.Constants.{Form, typed_at, scalar_type, constant_is}
 use Rattle.cat_audit_sound.proofs.GuardTells.{compared_alike, xor_signature}
 use Rattle.cat_scope.proofs.Exported.{all_append}
@@ -92,15 +90,6 @@ cases_inhabited ds n k h = by (slice_get ds.enumerations n) h
         → IsTrue (nat_lt 0 (cases_in o))
     by None h = absurd (true≢false (sym h))
     by (Some e) h = some e.cases h
-
-parted_all : (P : Question → Type 0) (c : Comparison) (q r : Question) → P q → P r
-    → AllHave P (asked (parted c (formula.Atom q) (formula.Atom r)))
-parted_all P comparison.Less q r h k = (h, tt)
-parted_all P comparison.AtMost q r h k = (k, tt)
-parted_all P comparison.Greater q r h k = (k, tt)
-parted_all P comparison.AtLeast q r h k = (h, tt)
-parted_all P comparison.Equal q r h k = (k, (h, tt))
-parted_all P comparison.Unequal q r h k = (k, (h, tt))
 
 module _ (ns : Names) (ps : List Ty) (g : Standing) where
   abbrev AreAsked : Formula Question → Type 0

@@ -35,7 +35,8 @@ use Rattle.cat_guard.specs.PointValues.{point_at}
 use Rattle.cat_audit_sound.specs.Evaluations.{any_values, term_point, valuation_of}
 use Rattle.cat_audit_sound.proofs.AskedTypes.{IsAskedOf, condition_asked}
 use Rattle.cat_scope.proofs.Exported.{all_append}
-use Rattle.cat_audit_sound.proofs.Numbered.{numbered, firsts_all, all_at, get_map, all_are}
+use Rattle.cat_guard.proofs.Exported.{firsts_all}
+use Rattle.cat_audit_sound.proofs.Numbered.{numbered, all_at, get_map, all_are}
 use Rattle.cat_audit_sound.proofs.SameSelf.{term_self, question_self, IsOneTerm, one_term, one_question}
 
 -- ---- parameters of targets of one item

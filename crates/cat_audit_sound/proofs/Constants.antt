@@ -22,7 +22,7 @@ use Rattle.cat_region.specs.declared.cut.Scalar.{Scalar}
 use Rattle.cat_region.specs.declared.cut.Scalar.TheVariants as scalar
 use Rattle.cat_region.specs.declared.point.Point.{Point}
 use Rattle.cat_region.specs.declared.point.Point.TheVariants as point
-use Rattle.cat_region.specs.Points.{is_point, point_order}
+use Rattle.cat_region.specs.Points.{is_point, point_order, default_point}
 use Rattle.cat_scope.specs.declared.stop.Stop.{Stop}
 use Rattle.cat_scope.specs.declared.expr.Literal.{Literal}
 use Rattle.cat_scope.specs.declared.expr.Literal.TheVariants as literal
@@ -56,7 +56,7 @@ use Rattle.cat_guard.specs.Formulas as formula
 use Rattle.cat_guard.specs.Comparisons.{Comparison, comparison_of, reads, turned, parted, scalar_dim, constant_of}
 use Rattle.cat_guard.specs.Comparisons.{constant_in, constant_under, literal_constant, negated_constant}
 use Rattle.cat_guard.specs.Comparisons as comparison
-use Rattle.cat_guard.specs.PointValues.{point_in, point_of, point_or, point_at, default_point}
+use Rattle.cat_guard.specs.PointValues.{point_in, point_of, point_or, point_at}
 use Rattle.cat_guard.proofs.Exported.{then_end}
 use Rattle.cat_audit_sound.proofs.Tells.{Tells, tells_as, tells_Boolean}
 

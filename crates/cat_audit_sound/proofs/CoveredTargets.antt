@@ -15,7 +15,7 @@ use Rattle.cat_value.specs.declared.outcome.Target.{Target}
 use Rattle.cat_value.specs.Inputs.{must_be_given, may_be_given, are_given_for}
 use Rattle.cat_region.specs.declared.dim.Dim.{Dim}
 use Rattle.cat_region.specs.declared.point.Point.{Point}
-use Rattle.cat_region.specs.Points.{is_point, answer}
+use Rattle.cat_region.specs.Points.{is_point, answer, default_point}
 use Rattle.cat_region.specs.Regions.{Valuation, IsValuation, is_point_of}
 use Rattle.cat_scope.specs.declared.defs.Body.{Body}
 use Rattle.cat_scope.specs.Replies.{Reply}
@@ -37,7 +37,7 @@ use Rattle.cat_sound.proofs.Exported.{Ahead, AllIn, all_more, anything, each_jud
 use Rattle.cat_guard.specs.declared.table.Atom.{Atom}
 use Rattle.cat_guard.specs.declared.table.Term.{Term}
 use Rattle.cat_guard.specs.declared.table.TableTarget.{TableTarget}
-use Rattle.cat_guard.specs.PointValues.{point_of, point_or, point_at, default_point}
+use Rattle.cat_guard.specs.PointValues.{point_of, point_or, point_at}
 use Rattle.cat_guard.specs.Questions.{Question}
 use Rattle.cat_guard.specs.Soundness.{target_is_sound}
 use Rattle.cat_guard.specs.Terms.{same_term, terms_of, atoms_of}

@@ -19,7 +19,7 @@ use Rattle.cat_region.specs.declared.cut.Scalar.{Scalar}
 use Rattle.cat_region.specs.declared.dim.Dim.TheVariants as dim
 use Rattle.cat_region.specs.declared.cut.Cut.TheVariants as cut
 use Rattle.cat_region.specs.declared.point.Point.TheVariants as point
-use Rattle.cat_region.specs.Points.{is_point, answer}
+use Rattle.cat_region.specs.Points.{is_point, answer, default_point}
 use Rattle.cat_scope.specs.declared.expr.Literal.{Literal}
 use Rattle.cat_scope.specs.declared.expr.Literal.TheVariants as literal
 use Rattle.cat_scope.specs.declared.expr.Expr.{Expr}
@@ -47,7 +47,7 @@ use Rattle.cat_guard.specs.Formulas.{Formula, truth}
 use Rattle.cat_guard.specs.Comparisons.{Comparison, comparison_of, turned, constant_of}
 use Rattle.cat_guard.specs.Questions.{Question, ask_truth, against, compared, operated, literal_guard, unary_guard}
 use Rattle.cat_guard.specs.Questions.{binary_guard, guard_in, guard_of}
-use Rattle.cat_guard.specs.PointValues.{point_in, point_of, point_or, point_at, default_point}
+use Rattle.cat_guard.specs.PointValues.{point_in, point_of, point_or, point_at}
 use Rattle.cat_guard.proofs.Exported.{guarded, guard_at, then_end}
 use Rattle.cat_audit_sound.specs.Evaluations.{says, answered}
 use Rattle.cat_audit_sound.proofs.Tells.{Tells, tells_as, tells_Boolean, tells_and, tells_or, tells_if, tells_not}

@@ -85,18 +85,6 @@ module _ {A : Type 0} (same : A → A → Bool) (self : (a : A) → same a a ≡
       by (inl h) = absurd (true≢false (sym h))
       by (inr h) = found a (firsts same [] xs) h
 
--- what holds of all holds of the first ones
-pub firsts_all : {A : Type 0} (P : A → Type 0) (same : A → A → Bool) (seen xs : List A) → AllHave P xs
-    → AllHave P (firsts same seen xs)
-firsts_all P same seen [] h = tt
-firsts_all P same seen (x ∷ xs) h =
-    by (is_seen same x seen) (firsts_all P same seen xs h.1) (firsts_all P same (x ∷ seen) xs h.1)
-  where
-    by : (c : Bool) → AllHave P (firsts same seen xs) → AllHave P (firsts same (x ∷ seen) xs)
-        → AllHave P (if c then firsts same seen xs else x ∷ firsts same (x ∷ seen) xs)
-    by true old new = old
-    by false old new = (h.0, new)
-
 pub all_at : {A : Type 0} (P : A → Type 0) (xs : List A) (n : ℕ) (x : A) → AllHave P xs → slice_get xs n ≡ Some x → P x
 all_at P [] n x h e = absurd (cc)
 all_at {A = A} P (y ∷ xs) zero x h e = subst P (ap (or_this y) e) h.0

@@ -6,7 +6,7 @@ use Rattle.cat_value.specs.declared.outcome.Target.{Target}
 use Rattle.cat_region.specs.declared.dim.Dim.{Dim}
 use Rattle.cat_region.specs.declared.point.Point.{Point}
 use Rattle.cat_region.specs.declared.point.Point.TheVariants.{Truth}
-use Rattle.cat_region.specs.Points.{is_point, answer}
+use Rattle.cat_region.specs.Points.{is_point, answer, default_point}
 use Rattle.cat_region.specs.Regions.{Valuation, IsValuation, is_point_of}
 use Rattle.cat_scope.specs.declared.defs.Def.{Def}
 use Rattle.cat_scope.specs.Replies.{Reply}
@@ -23,10 +23,11 @@ use Rattle.cat_guard.specs.Terms.{same_term, same_question, term_of, terms_of, t
 use Rattle.cat_guard.specs.Terms.{atom_number}
 use Rattle.cat_guard.specs.Tables.{questions_of}
 use Rattle.cat_guard.specs.Valuations.{dims_of, atom_answer, holds_at}
-use Rattle.cat_guard.specs.PointValues.{point_of, point_or, point_at, default_point}
+use Rattle.cat_guard.specs.PointValues.{point_of, point_or, point_at}
+use Rattle.cat_guard.proofs.Exported.{firsts_all}
 use Rattle.cat_audit_sound.specs.Evaluations.{any_values}
 use Rattle.cat_audit_sound.proofs.AtomAnswers.{IsOfDef, targets_all}
-use Rattle.cat_audit_sound.proofs.Numbered.{firsts_all, all_at}
+use Rattle.cat_audit_sound.proofs.Numbered.{all_at}
 use Rattle.cat_audit_sound.proofs.Lists.{all_mapped}
 use Rattle.cat_audit_sound.proofs.Numbered.{numbered, get_map, all_are}
 use Rattle.cat_audit_sound.proofs.SameSelf.{question_of_term, IsOneTerm, one_term, one_question}

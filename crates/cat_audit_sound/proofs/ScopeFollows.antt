@@ -11,7 +11,7 @@ use Rattle.cat_value.specs.declared.decls.Decls.{Decls}
 use Rattle.cat_value.specs.declared.outcome.Target.{Target}
 use Rattle.cat_region.specs.declared.dim.Dim.{Dim}
 use Rattle.cat_region.specs.declared.point.Point.{Point}
-use Rattle.cat_region.specs.Points.{is_point, answer}
+use Rattle.cat_region.specs.Points.{is_point, answer, default_point}
 use Rattle.cat_region.specs.Regions.{Valuation, IsValuation, is_point_of}
 use Rattle.cat_scope.specs.declared.expr.Expr.{Expr}
 use Rattle.cat_scope.specs.declared.defs.Def.{Def}
@@ -37,16 +37,17 @@ use Rattle.cat_guard.specs.Questions.{Question, condition_guard}
 use Rattle.cat_guard.specs.Terms.{same_term, term_of, terms_of, atoms_of, atom_number}
 use Rattle.cat_guard.specs.Tables.{standing_of, def_formula, defs_questions, questions_of, guard_def}
 use Rattle.cat_guard.specs.Tables.{target_of}
-use Rattle.cat_guard.specs.PointValues.{point_of, point_or, point_at, default_point}
+use Rattle.cat_guard.specs.PointValues.{point_of, point_or, point_at}
 use Rattle.cat_guard.specs.TableJudging.{decided}
 use Rattle.cat_guard.specs.Valuations.{dims_of, holds_at}
 use Rattle.cat_guard.proofs.Exported.{truth_renamed, truth_same, formula_of_guard_tree, all_and, IsSoundTarget}
+use Rattle.cat_guard.proofs.Exported.{firsts_all}
 use Rattle.cat_audit_sound.specs.Evaluations.{answered, any_values, term_point, arguments_for, valuation_of}
 use Rattle.cat_audit_sound.specs.Follows.{Follows}
 use Rattle.cat_audit_sound.proofs.Tells.{Tells, tells_as, tells_Boolean}
 use Rattle.cat_audit_sound.proofs.GuardTells.{guard_told}
 use Rattle.cat_audit_sound.proofs.AskedTypes.{IsAskedOf, condition_asked}
-use Rattle.cat_audit_sound.proofs.Numbered.{firsts_all, one_front, one_back, all_are}
+use Rattle.cat_audit_sound.proofs.Numbered.{one_front, one_back, all_are}
 use Rattle.cat_audit_sound.proofs.AtomAnswers.{IsOfDef, targets_all, atom_is}
 use Rattle.cat_audit_sound.proofs.DefFollows.{def_goes}
 use Rattle.cat_audit_sound.proofs.TargetFollows.{DefGoes, target_goes}

@@ -1,5 +1,5 @@
 -- In the input of a region each free term evaluates to the region's point.
-use Rattle.std.proofs.Common.{◌≡◌, ℕ, zero, suc, ◌+◌, ◌<◌, ◌≤◌, Bool, true, ◌&&◌, IsTrue, List, [], ◌∷◌, map}
+use Rattle.std.proofs.Common.{◌≡◌, ℕ, zero, suc, ◌+◌, ◌<◌, ◌≤◌, true, IsTrue, List, [], ◌∷◌, map}
 use Rattle.std.proofs.Common.{Option, Some, Ok, slice_get, refl, sym, ap, ◌∙◌, subst, arith, true≢false, length}
 use Rattle.std.proofs.Math.Logic.{∥∥₁_elim}
 use Rattle.std.proofs.Props.{props}
@@ -19,7 +19,7 @@ use Rattle.cat_region.specs.declared.point.Point.{Point}
 use Rattle.cat_region.specs.Chosen.{point_at}
 use Rattle.cat_region.specs.Points.{is_point}
 use Rattle.cat_region.specs.Regions.{Constraints, IsRegion, IsInhabited, IsValuation, is_point_of}
-use Rattle.cat_region.proofs.Exported.{Admits-point_at}
+use Rattle.cat_region.proofs.Exported.{Admits-point_at, and-both}
 use Rattle.cat_scope.specs.declared.expr.Expr.{Expr}
 use Rattle.cat_scope.specs.declared.defs.Def.{Def}
 use Rattle.cat_scope.specs.declared.defs.Body.{Body}
@@ -38,8 +38,9 @@ use Rattle.cat_guard.specs.Questions.{Question}
 use Rattle.cat_guard.specs.Tables.{questions_of, IsTableOf}
 use Rattle.cat_guard.specs.Terms.{path_of, same_term, same_dim, term_of, terms_of}
 use Rattle.cat_guard.specs.Valuations.{dims_of}
+use Rattle.cat_guard.proofs.Exported.{firsts_all}
 use Rattle.cat_audit_sound.proofs.AtomAnswers.{IsOfDef, targets_all}
-use Rattle.cat_audit_sound.proofs.Numbered.{firsts_all, all_at}
+use Rattle.cat_audit_sound.proofs.Numbered.{all_at}
 use Rattle.cat_audit_sound.proofs.AuditLaws.{body_is}
 use Rattle.cat_audit_sound.specs.PointInputs.{part_to, point_from, with_point, or_default, given_from}
 use Rattle.cat_audit_sound.specs.PointInputs.{input_at}
@@ -55,9 +56,6 @@ image_at : {A B : Type 0} (f : A → B) (xs : List A) (i : ℕ) (b : B) → slic
 image_at f [] i b at = none_some b at
 image_at f (x ∷ xs) zero b at = (x, (refl, same_some (f x) b at))
 image_at f (x ∷ xs) (suc i) b at = image_at f xs i b at
-
-both_are : (a b : Bool) → a ≡ true → b ≡ true → (a && b) ≡ true
-both_are a b e f = rw (e, f) refl
 
 point_of_dim : (terms : List Term) (i : ℕ) (term : Term) (x : Point) → slice_get terms i ≡ Some term
     → IsTrue (is_point_of (slice_get (dims_of terms) i) x) → IsTrue (is_point term.dim x)
@@ -123,7 +121,7 @@ module _ (ds : Decls) (scope : ℕ) (items : List ItemDecl) (defs : List Def)
       let dims : a.dim ≡ b.dim = same_some a.dim b.dim
       (sym x.asked_of.dim_is ∙ ap (dim_of ds) one.types ∙ y.asked_of.dim_is) in
       let same : same_term a b ≡ true =
-      both_are (same_tree a.standing b.standing a.expr b.expr) (same_dim a.dim b.dim)
+      and-both (same_tree a.standing b.standing a.expr b.expr) (same_dim a.dim b.dim)
       (test_whole a.standing b.standing one.trees)
       (ap (same_dim a.dim) (sym dims) ∙ dim_self a.dim) in
       true≢false (sym same ∙ apart same_term [] qs i j a b below at also)

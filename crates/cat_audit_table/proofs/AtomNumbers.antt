@@ -1,5 +1,5 @@
 -- One question more, by the key of its atom.
-use Rattle.std.proofs.Common.{◌≡◌, ℕ, ◌+◌, Bool, true, false, not, ◌&&◌, List, [], ◌∷◌, ◌++◌, map}
+use Rattle.std.proofs.Common.{◌≡◌, ℕ, ◌+◌, Bool, true, false, not, List, [], ◌∷◌, ◌++◌, map}
 use Rattle.std.proofs.Common.{refl, sym, ap, ◌∙◌, arith, true≢false, if◌then◌else◌}
 use Rattle.std.specs.List.{list_any, position_or_len}
 use Rattle.std.specs.Str.{bytes_eq}
@@ -8,28 +8,22 @@ use Rattle.std.proofs.lemmas.List.{append_assoc}
 use Rattle.indexmap.specs.IndexSet.{insert_key}
 use Rattle.cat_region.specs.declared.cut.Cut.{Cut}
 use Rattle.cat_scope.specs.Names.{AllHave}
+use Rattle.cat_region.proofs.Exported.{and-parts, and-both}
 use Rattle.cat_guard.specs.declared.table.Atom.{Atom}
 use Rattle.cat_guard.specs.Questions.{Question}
 use Rattle.cat_guard.specs.Numbering.{is_seen, firsts, number_of}
 use Rattle.cat_guard.specs.Terms.{same_term, same_cut, same_question, term_number, atom_of, atom_number}
+use Rattle.cat_guard.proofs.Exported.{firsts_all}
 use Rattle.cat_audit_keys.specs.Keys.{term_key}
 use Rattle.cat_audit_keys.proofs.Exported.{one_term}
 use Rattle.cat_audit_keys.specs.Atoms.{atom_key}
 use Rattle.cat_audit_keys.proofs.Exported.{one_cut}
 use Rattle.cat_audit_table.specs.declared.atom_table.AtomTable.{AtomTable}
 use Rattle.cat_audit_table.specs.Numbered.{key_in, AreAtomsOf, AddsAtom}
-use Rattle.cat_audit_table.proofs.Firsts.{number_kept, seen_kept, seen_push, all_seen, all_firsts}
+use Rattle.cat_audit_table.proofs.Firsts.{number_kept, seen_kept, seen_push, all_seen}
 use Rattle.cat_audit_table.proofs.Keyed.{same_truth, not_true, not_false, keys_pushed, number_pushed, old_made}
 use Rattle.cat_audit_table.proofs.Keyed.{new_made}
 use Rattle.cat_audit_table.proofs.TermNumbers.{term_told, term_self}
-
-both : (a b : Bool) → (a && b) ≡ true → (a ≡ true) × (b ≡ true)
-both true true h = (refl, refl)
-both true false h = absurd (true≢false (sym h))
-both false b h = absurd (true≢false (sym h))
-
-and_both : (a b : Bool) → a ≡ true → b ≡ true → (a && b) ≡ true
-and_both a b e f = rw (e, f) refl
 
 abbrev first_number : List ℕ → ℕ
 first_number [] = 0
@@ -82,7 +76,7 @@ atom_told qs a b has also = same_truth (same_question b a) (bytes_eq (key_in qs 
   where
     there : same_question b a ≡ true → bytes_eq (key_in qs a) (key_in qs b) ≡ true
     there h =
-        let two = both (same_term b a) (same_cut b.cut a.cut) h in
+        let two = and-parts (same_term b a) (same_cut b.cut a.cut) h in
         (bytes_eq-Decides (key_in qs a) (key_in qs b)).1
         (ap (λ (n : ℕ). atom_key n a.cut)
         (one_number a b (firsts same_term [] qs) (sym ((one_term b a).0 two.0)))
@@ -92,12 +86,12 @@ atom_told qs a b has also = same_truth (same_question b a) (bytes_eq (key_in qs 
     back h =
         let keys : key_in qs a ≡ key_in qs b = (bytes_eq-Decides (key_in qs a) (key_in qs b)).0 h in
         let one = common same_term a b (firsts same_term [] qs) has also (ap first_number keys) in
-        and_both (same_term b a) (same_cut b.cut a.cut)
+        and-both (same_term b a) (same_cut b.cut a.cut)
         ((one_term b a).1 (sym ((one_term one.value b).0 one.right) ∙ (one_term one.value a).0 one.left))
         ((one_cut b.cut a.cut).1 (sym (ap behind keys)))
 
 pub question_self : (q : Question) → same_question q q ≡ true
-question_self q = and_both (same_term q q) (same_cut q.cut q.cut) (term_self q) ((one_cut q.cut q.cut).1 refl)
+question_self q = and-both (same_term q q) (same_cut q.cut q.cut) (term_self q) ((one_cut q.cut q.cut).1 refl)
 
 -- ---- with one question more
 
@@ -114,7 +108,7 @@ the_atom n c = record { term = n; cut = c }
 
 -- each of the atoms has its term
 all_have : (qs : List Question) → AllHave (HasTerm qs) (firsts same_question [] qs)
-all_have qs = all_firsts (HasTerm qs) same_question [] qs (all_seen same_term term_self qs)
+all_have qs = firsts_all (HasTerm qs) same_question [] qs (all_seen same_term term_self qs)
 
 module _ (qs more : List Question) where
   number_same : (r : Question) → HasTerm qs r → term_number qs r ≡ term_number (qs ++ more) r

@@ -3,44 +3,15 @@ use Rattle.std.proofs.Common.{◌≡◌, ℕ, zero, suc, ◌+◌, ◌-◌, ◌*�
 use Rattle.std.proofs.Common.{pos, negsuc, Bool, true}
 use Rattle.std.proofs.Common.{IsTrue, refl, sym, ap, ◌∙◌, arith, unsigned_abs}
 use Rattle.std.specs.Prelude.{◌&&◌, nat_le, nat_lt, neg_ℤ}
-use Rattle.std.specs.Int.{IsGcd}
 use Rattle.std.proofs.lemmas.Bool.Decides.{nat_tests}
 use Rattle.std.proofs.lemmas.Nat.{pow-add}
-use Rattle.std.proofs.lemmas.Nat.Gcd.{IsGcd-from_zero, IsGcd-from_mod}
 use Rattle.std.proofs.Math.Nat.{mul-div_cancel', mul-mod_right, lt_of_mul-lt-mul_left, mul_assoc, mul_comm}
-use Rattle.cat_num.specs.Whole.{largest, fits}
-use Rattle.cat_num.specs.Frac.{Fraction, IsReduced, gcd, gcd_to, is_reduced, frac_negation}
+use Rattle.cat_num.specs.Whole.{largest}
+use Rattle.cat_num.specs.Frac.{Fraction, gcd, is_reduced, frac_negation}
 use Rattle.cat_num.specs.Numerals.{Numeral, is_numeral, numeral_value}
 use Rattle.cat_num.proofs.Exported.{lowest_parts, value_reduced}
 use Rattle.cat_region.specs.Points.{is_bound}
-
-and_both : (a b : Bool) → a ≡ true → b ≡ true → (a && b) ≡ true
-and_both a b e f = rw (e, f) refl
-
-le_is : (a b : ℕ) → a ≤ b → nat_le a b ≡ true
-le_is a b h = grind (arith, nat_tests)
-
-lt_is : (a b : ℕ) → a < b → nat_lt a b ≡ true
-lt_is a b h = grind (arith, nat_tests)
-
-eq_is : (a b : ℕ) → a ≡ b → (a == b) ≡ true
-eq_is a b h = grind (arith, nat_tests)
-
-gcd_to_is : (k a b : ℕ) → b < k → IsGcd a b (gcd_to k a b)
-gcd_to_is zero a b h = absurd (omega arith)
-gcd_to_is (suc k) a zero h = IsGcd-from_zero a 0 refl
-gcd_to_is (suc k) a (suc b) h = IsGcd-from_mod a (suc b) _ (gcd_to_is k (suc b) (a % suc b) (omega arith))
-
-gcd_is : (a b : ℕ) → IsGcd a b (gcd a b)
-unfolding gcd
-gcd_is a b = gcd_to_is (b + 1) a b (omega arith)
-
-reduced_test : (f : Fraction) → IsReduced f.num f.den → is_reduced f ≡ true
-reduced_test f r =
-    and_both (nat_lt 0 f.den && nat_le f.den largest && fits f.num) (gcd (unsigned_abs f.num) f.den == 1)
-    (and_both (nat_lt 0 f.den && nat_le f.den largest) (fits f.num)
-    (and_both (nat_lt 0 f.den) (nat_le f.den largest) (lt_is 0 f.den r.positive) (le_is f.den largest r.den_fits))
-    (le_is (unsigned_abs f.num) largest r.num_fits)) (eq_is (gcd (unsigned_abs f.num) f.den) 1 r.lowest_terms)
+use Rattle.cat_region.proofs.Exported.{le_is, eq_is, and-both, gcd_is, reduced_test}
 
 -- what has at most nine places and nine digits in front of them, in lowest terms
 divides : (places g den : ℕ) → places ≤ 9 → g * den ≡ 10 ^ places → 1_000_000_000 % den ≡ 0
@@ -73,8 +44,8 @@ small digits places g num den few e f = less (lt_of_mul-lt-mul_left g (scaled fe
 
 pub numeral_bound : (n : Numeral) → IsTrue (is_numeral n) → is_bound (numeral_value n) ≡ true
 numeral_bound n h =
-    and_both (is_reduced f && 1_000_000_000 % f.den == 0) (nat_le (unsigned_abs f.num) (1_000_000_000 * f.den))
-    (and_both (is_reduced f) (1_000_000_000 % f.den == 0) (reduced_test f (value_reduced n h))
+    and-both (is_reduced f && 1_000_000_000 % f.den == 0) (nat_le (unsigned_abs f.num) (1_000_000_000 * f.den))
+    (and-both (is_reduced f) (1_000_000_000 % f.den == 0) (reduced_test f (value_reduced n h))
     (eq_is (1_000_000_000 % f.den) 0 (ap (λ (x : Fraction). 1_000_000_000 % x.den) parts
     ∙ divides n.places g (10 ^ n.places / g) few.0 right)))
     (ap (λ (x : Fraction). nat_le (unsigned_abs x.num) (1_000_000_000 * x.den)) parts

@@ -171,15 +171,3 @@ module _ {A : Type 0} (same : A → A → Bool) where
     -- each of some is among their first ones
     pub all_seen : (xs : List A) → AllHave (λ a. is_seen same a (firsts same [] xs) ≡ true) xs
     all_seen xs = all_kept [] xs
-
--- what holds of all holds of the first ones
-pub all_firsts : {A : Type 0} (P : A → Type 0) (same : A → A → Bool) (seen xs : List A) → AllHave P xs
-    → AllHave P (firsts same seen xs)
-all_firsts P same seen [] h = tt
-all_firsts P same seen (x ∷ xs) h =
-    by (is_seen same x seen) (all_firsts P same seen xs h.1) (all_firsts P same (x ∷ seen) xs h.1)
-  where
-    by : (c : Bool) → AllHave P (firsts same seen xs) → AllHave P (firsts same (x ∷ seen) xs)
-        → AllHave P (if c then firsts same seen xs else x ∷ firsts same (x ∷ seen) xs)
-    by true old new = old
-    by false old new = (h.0, new)

@@ -32,13 +32,11 @@ use Rattle.cat_scope.specs.Same.{Standing}
 use Rattle.cat_sound.specs.Parts.{PartsTyped}
 use Rattle.cat_sound.proofs.Exported.{by_parts, parts_of, parts_typed}
 use Rattle.cat_guard.specs.Formulas.{Formula, asked}
-use Rattle.cat_guard.specs.Formulas as formula
-use Rattle.cat_guard.specs.Comparisons.{Comparison, comparison_of, turned, parted, scalar_dim, constant_of, constant_in}
+use Rattle.cat_guard.specs.Comparisons.{Comparison, comparison_of, turned, scalar_dim, constant_of, constant_in}
 use Rattle.cat_guard.specs.Comparisons.{constant_under, literal_constant, negated_constant}
-use Rattle.cat_guard.specs.Comparisons as comparison
 use Rattle.cat_guard.specs.Questions.{Question, ask_truth, against, compared, operated, literal_guard, unary_guard}
 use Rattle.cat_guard.specs.Questions.{binary_guard, guard_of, condition_guard}
-use Rattle.cat_guard.proofs.Exported.{guard_at}
+use Rattle.cat_guard.proofs.Exported.{guard_at, parted_all}
 use Rattle.cat_audit_table.proofs.Bounds.{numeral_bound, negated_bound}
 use Rattle.cat_scope.proofs.Exported.{all_append}
 
@@ -49,15 +47,6 @@ Form = Expr-F Expr Arm FieldValue
 pub record IsFit (q : Question) : Type 0 where
   pub dim : is_dim q.dim ≡ true
   pub cut : is_cut q.dim q.cut ≡ true
-
-parted_all : (P : Question → Type 0) (c : Comparison) (q r : Question) → P q → P r
-    → AllHave P (asked (parted c (formula.Atom q) (formula.Atom r)))
-parted_all P comparison.Less q r h k = (h, tt)
-parted_all P comparison.AtMost q r h k = (k, tt)
-parted_all P comparison.Greater q r h k = (k, tt)
-parted_all P comparison.AtLeast q r h k = (h, tt)
-parted_all P comparison.Equal q r h k = (k, (h, tt))
-parted_all P comparison.Unequal q r h k = (k, (h, tt))
 
 -- ---- constants
 

@@ -16,4 +16,3 @@ pub mod Tokens
 pub mod Paths
 pub mod Constants
 pub mod TableLemmas
-pub mod Exported

@@ -1,24 +1,10 @@
 -- What is numbered by first appearance is found by its number.
-use Rattle.std.proofs.Common.{◌≡◌, ℕ, suc, ◌+◌, ◌<◌, nat_lt, Bool, true, false, ◌&&◌, List, [], ◌∷◌, map, length}
+use Rattle.std.proofs.Common.{◌≡◌, ℕ, suc, ◌+◌, ◌<◌, Bool, true, false, List, [], ◌∷◌, map, length}
 use Rattle.std.proofs.Common.{Some, slice_get, refl, sym, ap, ◌∙◌, arith, true≢false, if◌then◌else◌}
-use Rattle.std.proofs.lemmas.Bool.Decides.{nat_tests}
 use Rattle.std.specs.List.{list_all}
 use Rattle.cat_scope.specs.Names.{AllHave}
+use Rattle.cat_region.proofs.Exported.{and-both}
 use Rattle.cat_guard.specs.Numbering.{is_seen, number_of}
-
-pub and_both : (a b : Bool) → a ≡ true → b ≡ true → (a && b) ≡ true
-and_both a b e f = rw (e, f) refl
-
-pub both : (a b : Bool) → (a && b) ≡ true → (a ≡ true) × (b ≡ true)
-both true true h = (refl, refl)
-both true false h = absurd (true≢false (sym h))
-both false b h = absurd (true≢false (sym h))
-
-pub lt_is : (a b : ℕ) → a < b → nat_lt a b ≡ true
-lt_is a b h = grind (arith, nat_tests)
-
-pub is_lt : (a b : ℕ) → nat_lt a b ≡ true → a < b
-is_lt a b h = grind (arith, nat_tests)
 
 pub all_each : {A : Type 0} {P Q : A → Type 0} (xs : List A) → ((a : A) → P a → Q a) → AllHave P xs → AllHave Q xs
 all_each [] go h = tt
@@ -33,7 +19,7 @@ all_both (x ∷ xs) go h k = (go x h.0 k.0, all_both xs go h.1 k.1)
 pub all_pass : {A B : Type 0} (f : A → B) (test : B → Bool) (xs : List A) → AllHave (λ x. test (f x) ≡ true) xs
     → list_all test (map f xs) ≡ true
 all_pass f test [] h = refl
-all_pass f test (x ∷ xs) h = and_both (test (f x)) (list_all test (map f xs)) h.0 (all_pass f test xs h.1)
+all_pass f test (x ∷ xs) h = and-both (test (f x)) (list_all test (map f xs)) h.0 (all_pass f test xs h.1)
 
 -- an element at the number of one that is the same
 pub record Found {A B : Type 0} (same : A → A → Bool) (f : A → B) (a : A) (xs : List A) : Type 0 where

@@ -34,14 +34,15 @@ use Rattle.cat_guard.specs.Tables.{def_formula, defs_questions, questions_of, gu
 use Rattle.cat_guard.specs.Tables.{guard_groups, target_of as table_target}
 use Rattle.cat_guard.specs.Soundness.{are_below, is_cut_of, atom_is_sound, def_is_sound, group_is_sound, above}
 use Rattle.cat_guard.specs.Soundness.{target_is_sound, term_is_sound, is_sound}
-use Rattle.cat_guard.proofs.Exported.{formula_of_guard_tree}
-use Rattle.cat_audit_table.proofs.Firsts.{all_seen, all_firsts}
+use Rattle.cat_guard.proofs.Exported.{formula_of_guard_tree, firsts_all}
+use Rattle.cat_audit_table.proofs.Firsts.{all_seen}
 use Rattle.cat_audit_table.proofs.TermNumbers.{term_self}
 use Rattle.cat_audit_table.proofs.AtomNumbers.{question_self}
-use Rattle.cat_audit_table.proofs.Numbers.{and_both, both, lt_is, all_each, all_both, all_pass, found, number_below}
+use Rattle.cat_audit_table.proofs.Numbers.{all_each, all_both, all_pass, found, number_below}
 use Rattle.cat_audit_table.proofs.Fit.{IsFit}
 use Rattle.cat_audit_table.proofs.Rooted.{forest_length}
 use Rattle.cat_scope.proofs.Exported.{map_append}
+use Rattle.cat_region.proofs.Exported.{lt_is, and-parts, and-both}
 
 -- ---- terms and atoms
 
@@ -60,7 +61,7 @@ same_dim_is _ _ h = absurd (true≢false (sym h))
 module _ (items : List ItemDecl) (qs : List Question) (fit : AllHave IsFit qs) where
   terms_sound : list_all term_is_sound (terms_of items qs) ≡ true
   terms_sound = all_pass (term_of items) term_is_sound (firsts same_term [] qs)
-      (all_each (firsts same_term [] qs) (λ q f. f.dim) (all_firsts IsFit same_term [] qs fit))
+      (all_each (firsts same_term [] qs) (λ q f. f.dim) (firsts_all IsFit same_term [] qs fit))
 
   -- the term of a question is there, and has its dimension
   atom_sound : (q : Question) → IsFit q → is_seen same_term q (firsts same_term [] qs) ≡ true
@@ -69,13 +70,13 @@ module _ (items : List ItemDecl) (qs : List Question) (fit : AllHave IsFit qs) w
       let v = found same_term (term_of items) q (firsts same_term [] qs) seen in
       let one : v.value.dim ≡ q.dim =
       same_dim_is v.value.dim q.dim
-      (both (same_tree v.value.standing q.standing v.value.expr q.expr) (same_dim v.value.dim q.dim) v.is).1 in
+      (and-parts (same_tree v.value.standing q.standing v.value.expr q.expr) (same_dim v.value.dim q.dim) v.is).1 in
       ap (λ (o : Option Term). is_cut_of o (atom_of qs q)) v.there ∙ ap (λ (d : Dim). is_cut d q.cut) one ∙ f.cut
 
   atoms_sound : list_all (atom_is_sound (terms_of items qs)) (atoms_of qs) ≡ true
   atoms_sound = all_pass (atom_of qs) (atom_is_sound (terms_of items qs)) (firsts same_question [] qs)
-      (all_both (firsts same_question [] qs) atom_sound (all_firsts IsFit same_question [] qs fit)
-      (all_firsts (λ q. is_seen same_term q (firsts same_term [] qs) ≡ true) same_question [] qs
+      (all_both (firsts same_question [] qs) atom_sound (firsts_all IsFit same_question [] qs fit)
+      (firsts_all (λ q. is_seen same_term q (firsts same_term [] qs) ≡ true) same_question [] qs
       (all_seen same_term term_self qs)))
 
 -- ---- guards
@@ -122,7 +123,7 @@ module _ (ds : Decls) (qs : List Question) where
       → list_all (def_is_sound (length (atoms_of qs))) (map (guard_def ds qs) all) ≡ true
   guards_sound [] has = refl
   guards_sound (d ∷ all) has =
-      and_both (def_is_sound (length (atoms_of qs)) (guard_def ds qs d))
+      and-both (def_is_sound (length (atoms_of qs)) (guard_def ds qs d))
       (list_all (def_is_sound (length (atoms_of qs))) (map (guard_def ds qs) all))
       (guard_sound d (all_front (HasAtom qs) (asked (def_formula ds d.1)) (defs_questions ds all) has))
       (guards_sound all (all_back (HasAtom qs) (asked (def_formula ds d.1)) (defs_questions ds all) has))
@@ -174,7 +175,7 @@ excepting_below (pair ∷ pairs) n bound h = by (nat_eq pair.1 n) (excepting_bel
   where
     by : (b : Bool) → are_below bound (excepting pairs n) ≡ true
         → are_below bound (if b then pair.0 ∷ excepting pairs n else excepting pairs n) ≡ true
-    by true rest = and_both (nat_lt pair.0 bound) (are_below bound (excepting pairs n)) h.0 rest
+    by true rest = and-both (nat_lt pair.0 bound) (are_below bound (excepting pairs n)) h.0 rest
     by false rest = rest
 
 roots_below : (test : Group → Bool) (n : ℕ) (gs : List Group) (bound : ℕ) → n + length gs ≤ bound
@@ -187,7 +188,7 @@ roots_below test n (g ∷ gs) bound h = by (test g) (roots_below test (n + 1) gs
 
     by : (b : Bool) → are_below bound (group_numbers test (n + 1) gs) ≡ true
         → are_below bound (if b then n ∷ group_numbers test (n + 1) gs else group_numbers test (n + 1) gs) ≡ true
-    by true rest = and_both (nat_lt n bound) (are_below bound (group_numbers test (n + 1) gs)) (first h) rest
+    by true rest = and-both (nat_lt n bound) (are_below bound (group_numbers test (n + 1) gs)) (first h) rest
     by false rest = rest
 
 groups_length : (all : List Numbered) (pairs : List (ℕ × ℕ)) (n : ℕ) (gs : List Group)
@@ -206,10 +207,10 @@ groups_sound : (all : List Numbered) (defs : ℕ) → defs ≡ length all → (p
     → list_all (group_is_sound defs bound) (guard_groups all pairs n gs) ≡ true
 groups_sound all defs same pairs bound below n [] placed = refl
 groups_sound all defs same pairs bound below n (g ∷ gs) placed =
-    and_both
+    and-both
     (are_below defs (map (λ d. place_of d.0 all) g.defs) && are_below bound (excepting pairs n))
     (list_all (group_is_sound defs bound) (guard_groups all pairs (n + 1) gs))
-    (and_both (are_below defs (map (λ d. place_of d.0 all) g.defs)) (are_below bound (excepting pairs n))
+    (and-both (are_below defs (map (λ d. place_of d.0 all) g.defs)) (are_below bound (excepting pairs n))
     (all_pass (λ (d : Numbered). place_of d.0 all) (λ k. nat_lt k defs) g.defs
     (all_each g.defs (λ d h. ap (nat_lt (place_of d.0 all)) same ∙ h) placed.0))
     (excepting_below pairs n bound below))
@@ -222,10 +223,10 @@ module _ (ds : Decls) (items : List ItemDecl) (defs : List Def) (qs : List Quest
       → is_low (record { target = t; groups = forest_of_groups (groups_of (defs_from t 0 defs)) }) ≡ true
       → target_is_sound (length (atoms_of qs)) (table_target ds items defs qs t) ≡ true
   target_sound t has low =
-      and_both (guards && inner && below)
+      and-both (guards && inner && below)
       (are_within (above groups) longest_chain (length groups))
-      (and_both (guards && inner) below
-      (and_both guards inner (guards_sound ds qs all has)
+      (and-both (guards && inner) below
+      (and-both guards inner (guards_sound ds qs all has)
       (groups_sound all (length (map (guard_def ds qs) all)) (length-map all (guard_def ds qs)) pairs (length groups)
       (pairs_below gs 0 gs (length groups) (omega (arith, groups_length all pairs 0 gs))) 0 gs
       (groups-all (IsPlaced all) all [] all (all_placed all))))
@@ -260,7 +261,7 @@ module _ (ds : Decls) (items : List ItemDecl) (defs : List Def) (qs : List Quest
       × (are_low (forest_of defs ts) ≡ true)
   unfolding are_low
   low_first t ts h =
-      both (is_low (record { target = t; groups = forest_of_groups (groups_of (defs_from t 0 defs)) }))
+      and-parts (is_low (record { target = t; groups = forest_of_groups (groups_of (defs_from t 0 defs)) }))
       (are_low (forest_of defs ts)) h
 
   targets_sound : (ts : List Target) → AllHave (HasAtom qs) (questions_of ds defs ts)
@@ -268,7 +269,7 @@ module _ (ds : Decls) (items : List ItemDecl) (defs : List Def) (qs : List Quest
       → list_all (target_is_sound (length (atoms_of qs))) (map (table_target ds items defs qs) ts) ≡ true
   targets_sound [] has low = refl
   targets_sound (t ∷ ts) has low =
-      and_both (target_is_sound (length (atoms_of qs)) (table_target ds items defs qs t))
+      and-both (target_is_sound (length (atoms_of qs)) (table_target ds items defs qs t))
       (list_all (target_is_sound (length (atoms_of qs))) (map (table_target ds items defs qs) ts))
       (target_sound t (all_front (HasAtom qs) (defs_questions ds (defs_from t 0 defs)) (questions_of ds defs ts) has)
       (low_first t ts low).0)
@@ -283,10 +284,10 @@ pub table_sound : (ds : Decls) (items : List ItemDecl) (defs : List Def) (ts : L
 unfolding is_sound
 table_sound ds items defs ts fit low =
     let qs = questions_of ds defs ts in
-    and_both
+    and-both
     (list_all term_is_sound (terms_of items qs) && list_all (atom_is_sound (terms_of items qs)) (atoms_of qs))
     (list_all (target_is_sound (length (atoms_of qs))) (map (table_target ds items defs qs) ts))
-    (and_both (list_all term_is_sound (terms_of items qs))
+    (and-both (list_all term_is_sound (terms_of items qs))
     (list_all (atom_is_sound (terms_of items qs)) (atoms_of qs)) (terms_sound items qs fit)
     (atoms_sound items qs fit))
     (targets_sound ds items defs qs ts (all_seen same_question question_self qs) low)

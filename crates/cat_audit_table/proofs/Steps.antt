@@ -1,6 +1,6 @@
 -- What one definition, one target more adds, and all of them.
 use Rattle.std.proofs.Common.{◌≡◌, ℕ, ◌+◌, ◌<◌, Bool, List, [], ◌∷◌, ◌++◌, map, length, take, get_or}
-use Rattle.std.proofs.Common.{Option, Some, None, slice_get, refl, sym, ap, ◌∙◌, subst}
+use Rattle.std.proofs.Common.{Some, slice_get, refl, sym, ap, ◌∙◌, subst}
 use Rattle.std.proofs.lemmas.List.{append_assoc, append-nil, take_more}
 use Rattle.cat_pos.specs.declared.pos.Pos.{Pos}
 use Rattle.cat_value.specs.declared.decls.Decls.{Decls}
@@ -17,7 +17,7 @@ use Rattle.cat_guard.specs.Formulas.{asked}
 use Rattle.cat_guard.specs.Questions.{Question}
 use Rattle.cat_guard.specs.Tables.{def_formula, defs_questions, questions_of, guard_def, guard_groups, target_of}
 use Rattle.cat_guard.specs.Tables.{target_name, is_function, may_be_empty, item_pos}
-use Rattle.cat_except.specs.inside.Grouping.{numbered, defs_at}
+use Rattle.cat_except.specs.inside.Grouping.{defs_at}
 use Rattle.cat_audit_table.specs.declared.numbering.Numbering.{Numbering}
 use Rattle.cat_audit_table.specs.Numbered.{IsNumberingOf, AddsGuard, Grows, IsMade}
 use Rattle.cat_audit_table.proofs.Adding.{grows_none, grows_then, made_front, made_back}
@@ -25,6 +25,7 @@ use Rattle.cat_audit_table.specs.declared.scene.TabledScope.{TabledScope}
 use Rattle.cat_audit_table.specs.inside.Added.{AddsDef, AddsDefs, AddsTarget, AddsTargets, IsSceneTable, targets_in}
 use Rattle.cat_audit_table.specs.inside.Added.{scene_questions}
 use Rattle.cat_scope.proofs.Exported.{map_append}
+use Rattle.cat_except.proofs.Exported.{defs_at_push}
 
 -- ---- definitions
 
@@ -79,17 +80,6 @@ one_def scene xs d before middle after made new is also = record {
     whole : List Question → List Question → List Question
     whole qs rest = qs ++ ((front ++ more) ++ rest)
 
-numbers_push : (defs : List Def) (n : ℕ) (d : Def) → slice_get defs n ≡ Some d → (ns : List ℕ)
-    → defs_at defs (ns ++ n ∷ []) ≡ defs_at defs ns ++ (n, d) ∷ []
-numbers_push defs n d there [] = ap (λ (o : Option Def). numbered n o []) there
-numbers_push defs n d there (m ∷ ns) =
-    ap (numbered m (slice_get defs m)) (numbers_push defs n d there ns) ∙ by (slice_get defs m)
-  where
-    by : (o : Option Def) → numbered m o (defs_at defs ns ++ (n, d) ∷ []) ≡ numbered m o (defs_at defs ns)
-        ++ (n, d) ∷ []
-    by None = refl
-    by (Some e) = refl
-
 pub one_def_more : (scene : TabledScope) (numbers : List ℕ) (i n : ℕ) (d : Def) (before middle after : Numbering)
     (made now : List GuardDef) (new : GuardDef) → i < length numbers → get_or numbers i n ≡ n
     → slice_get scene.defs.now n ≡ Some d
@@ -100,7 +90,7 @@ one_def_more scene numbers i n d before middle after made now new within at ther
     subst (λ (gs : List GuardDef). AddsDefs scene (defs_at scene.defs.now (take (i + 1) numbers)) before after gs)
     (sym pushed)
     (subst (λ (xs : List Numbered). AddsDefs scene xs before after (made ++ new ∷ []))
-    (sym (numbers_push scene.defs.now n d there (take i numbers))
+    (sym (defs_at_push scene.defs.now n d there (take i numbers))
     ∙ ap (defs_at scene.defs.now)
     (ap (λ (k : ℕ). take i numbers ++ k ∷ []) (sym at) ∙ sym (take_more numbers i n within)))
     (one_def scene (defs_at scene.defs.now (take i numbers)) (n, d) before middle after made new is also))

@@ -3,3 +3,4 @@ pub mod FrontSteps
 pub mod ForestSteps
 mod Examples
 pub mod OneProgram
+pub mod Exported

@@ -38,10 +38,10 @@ abbrev IsOneReading : Type 0
 IsOneReading = (pieces : List Piece) (tokens others : List Token) → Lexes pieces tokens → Lexes pieces others
     → tokens ≡ others
 
-abbrev IsOneTree : Type 0
+abbrev pub IsOneTree : Type 0
 IsOneTree = (t u : Tree) (tokens : List Token) → SpellsProgram t tokens → SpellsProgram u tokens → t ≡ u
 
-abbrev IsOneProgram : Type 0
+abbrev pub IsOneProgram : Type 0
 IsOneProgram = (tree : Tree) (decls other : Decls) (bodies more : List Body) (scope_order order : List ℕ)
     → IsProgramOf tree decls bodies scope_order → IsProgramOf tree other more order
     → (decls ≡ other) × (bodies ≡ more) × (scope_order ≡ order)
@@ -50,7 +50,7 @@ abbrev HaveNoReading : Type 0
 HaveNoReading = (pieces : List Piece) (refusal : LexRefusal) (tokens : List Token) → refusal ≢ lexing.Memory
     → lexed.HasCause pieces refusal → Lexes pieces tokens → ⊥
 
-abbrev HaveNoProgram : Type 0
+abbrev pub HaveNoProgram : Type 0
 HaveNoProgram = (tree : Tree) (decls : Decls) (bodies : List Body) (scope_order : List ℕ) (fault : Fault)
     → IsProgramOf tree decls bodies scope_order → ¬ IsRefused tree fault
 

@@ -58,12 +58,7 @@ fn first_named(one: ExceptRefusal, other: ExceptRefusal) -> ExceptRefusal
 }
 
 /// A refusal that is named first of all scopes up to one, where this one is of those in front of it.
-fn with_scope(
-    alloc: Global,
-    program: &Program,
-    scope: u32,
-    refusal: ExceptRefusal,
-) -> ExceptRefusal
+fn with_scope(alloc: Global, program: &Program, scope: u32, refusal: ExceptRefusal) -> ExceptRefusal
     requires few { AllHave (λ body. length body.defs < ENTRIES_BOUND) program.now.bodies }
     requires within { scope < length program.now.bodies }
     requires first { StandsFirst scope program.now refusal }

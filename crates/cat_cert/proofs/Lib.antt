@@ -14,7 +14,6 @@ pub mod RefusalLaws
 pub mod ReadingLemmas
 pub mod OnceLemmas
 pub mod Examples
-pub mod ResultLemmas
 pub mod LineLemmas
 pub mod StepLemmas
 pub mod DigitLemmas
@@ -35,3 +34,4 @@ pub mod OneTables
 pub mod ClosedTables
 pub mod NameLemmas
 pub mod ScopeLemmas
+pub mod Exported

@@ -60,7 +60,7 @@ same_count cases cs same =
     sym (length-map cases (λ (t : CaseTree). tree_of t.nodes)) ∙ ap length same
     ∙ length-map cs (λ (c : CertTree). expanded c.tree)
 
-map_twice : {A B C : Type 0} (f : A → B) (g : B → C) (xs : List A) → map g (map f xs) ≡ map (λ x. g (f x)) xs
+pub map_twice : {A B C : Type 0} (f : A → B) (g : B → C) (xs : List A) → map g (map f xs) ≡ map (λ x. g (f x)) xs
 map_twice f g [] = refl
 map_twice f g (x ∷ xs) = ap (λ ys. g (f x) ∷ ys) (map_twice f g xs)
 

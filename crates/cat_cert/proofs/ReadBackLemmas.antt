@@ -120,14 +120,14 @@ certificate_is_lines v tables trees named =
 -- ---- the certificate that is read
 
 -- trees with where they are written, where the first line of what is due is that one
-abbrev placed : Version → ℕ → List Due → List CitedTree → List CertTree
+abbrev pub placed : Version → ℕ → List Due → List CitedTree → List CertTree
 placed v n [] trees = []
 placed v n (ScopeDue name ∷ dues) trees = placed v (suc n) dues trees
 placed v n (TargetDue t ∷ dues) [] = []
 placed v n (TargetDue t ∷ dues) (tree ∷ trees) =
     record { tree = tree; heads = tree_heads v n tree } ∷ placed v (suc n + length (tree_lines v tree)) dues trees
 
-placed_trees : (v : Version) (n : ℕ) (dues : List Due) (trees : List CitedTree) → AreTreesOf v dues trees
+pub placed_trees : (v : Version) (n : ℕ) (dues : List Due) (trees : List CitedTree) → AreTreesOf v dues trees
     → map (λ c. c.tree) (placed v n dues trees) ≡ trees
 placed_trees v n [] [] are = refl
 placed_trees v n [] (tree ∷ trees) are = absurd (are)
@@ -136,7 +136,7 @@ placed_trees v n (TargetDue t ∷ dues) [] are = absurd (are)
 placed_trees v n (TargetDue t ∷ dues) (tree ∷ trees) are =
     ap (λ ts. tree ∷ ts) (placed_trees v (suc n + length (tree_lines v tree)) dues trees are.1)
 
-placed_heads : (v : Version) (n : ℕ) (dues : List Due) (trees : List CitedTree)
+pub placed_heads : (v : Version) (n : ℕ) (dues : List Due) (trees : List CitedTree)
     → map (λ c. c.heads) (placed v n dues trees) ≡ due_heads v n dues trees
 placed_heads v n [] trees = refl
 placed_heads v n (ScopeDue name ∷ dues) trees = placed_heads v (suc n) dues trees

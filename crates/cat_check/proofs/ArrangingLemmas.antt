@@ -11,10 +11,10 @@ use Rattle.cat_names.specs.declared.fault.Refusal.{Refusal}
 use Rattle.cat_names.specs.Accepted.{unordered, IsMeant, IsProgramOf, IsRefused}
 use Rattle.cat_names.specs.Accepted as refused
 use Rattle.cat_names.specs.Cycles.{IsScopeCycle, IsItemCycle, past_functions}
+use Rattle.cat_names.proofs.Exported.{in_front}
 use Rattle.cat_check.specs.Cause.{Because}
 use Rattle.cat_check.specs.inside.Ordered.{AreInOrder, AreItemized}
 use Rattle.cat_check.specs.inside.Chained.{AreShort, IsChainFault, IsFunctionFault}
-use Rattle.cat_check.proofs.Sourced.{one_left}
 use Rattle.cat_check.proofs.Ordering.{all_itemized, because}
 use Rattle.cat_check.proofs.Chaining.{CyclesLeaveNone, no_cycle, no_cycles, made_meant, dependencies_kept, program}
 
@@ -47,7 +47,7 @@ module _ (none : CyclesLeaveNone) (ds : Decls) (sound : AreSound ds) (tree : Tre
 
       pub function_refused : (r : Refusal) → Because (IsFunctionFault ds.scopes made) r → Because (IsRefused tree) r
       function_refused r h = chain_refused r (because (IsFunctionFault ds.scopes made) (IsChainFault tree ds made)
-          (λ fault there. one_left fault (past_functions ds.scopes made) _ there) r h)
+          (λ fault there. in_front fault (past_functions ds.scopes made) _ there) r h)
 
       pub arranged_program : AreShort ds.scopes made → HasShortChains (scope_dependencies ds.scopes made)
           → IsProgramOf tree ds made order

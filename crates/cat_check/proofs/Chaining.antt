@@ -32,12 +32,12 @@ use Rattle.cat_names.specs.Declarations.{scope_declared}
 use Rattle.cat_names.specs.Accepted.{unordered, parts_of, IsMeant, AreOrdered, HaveNoCycles, IsProgramOf}
 use Rattle.cat_names.specs.Bodies.{UnorderedBody}
 use Rattle.cat_names.specs.Cycles.{is_first_past, past_chains, past_functions, chain_faults}
-use Rattle.cat_names.proofs.Exported.{as_many, declared_parts, meant_calls, meant_counted}
+use Rattle.cat_names.proofs.Exported.{as_many, declared_parts, meant_calls, meant_counted, in_front, behind}
 use Rattle.cat_depend.specs.Listed.{listed_calls}
 use Rattle.cat_depend.specs.Past.{IsPast, TellsPast}
 use Rattle.cat_check.specs.inside.Ordered.{AreInOrder}
 use Rattle.cat_check.specs.inside.Chained.{AreShort, IsFunctionFault, IsLongFunction}
-use Rattle.cat_check.proofs.Sourced.{one_left, one_right, in_flat}
+use Rattle.cat_check.proofs.Sourced.{in_flat}
 
 -- ---- a number past the longest chain
 
@@ -100,13 +100,13 @@ functions_at [] bodies k s b fault at is h = cc at
 functions_at (t ∷ scopes) [] k s b fault at is h = cc is
 functions_at (t ∷ scopes) (c ∷ bodies) zero s b fault at is h =
     let first : s ≡ t = cc at in let second : b ≡ c = cc is in
-    one_left fault (past_chains (function_calls t.items c.defs) (map (λ i. i.pos) t.items))
+    in_front fault (past_chains (function_calls t.items c.defs) (map (λ i. i.pos) t.items))
     (past_functions scopes bodies)
     (subst (λ (x : Body). IsOneOf fault (past_chains (function_calls t.items x.defs) (map (λ i. i.pos) t.items))) second
     (subst (λ (x : Scope). IsOneOf fault (past_chains (function_calls x.items b.defs) (map (λ i. i.pos) x.items))) first
     h))
 functions_at (t ∷ scopes) (c ∷ bodies) (suc k) s b fault at is h =
-    one_right fault (past_chains (function_calls t.items c.defs) (map (λ i. i.pos) t.items))
+    behind fault (past_chains (function_calls t.items c.defs) (map (λ i. i.pos) t.items))
     (past_functions scopes bodies)
     (functions_at scopes bodies k s b fault at is h)
 
@@ -169,7 +169,7 @@ module _ (ds : Decls) (sound : AreSound ds) (tree : Tree) (bodies : List Body) (
   pub scope_is_fault : (n : ℕ) (p : Pos) → IsPast (listed_calls bodies) n
       → slice_get (positions (names_of (scopes_in tree.items))) n ≡ Some p
       → IsOneOf (TooMany p) (chain_faults tree ds bodies)
-  scope_is_fault n p past at = one_right (TooMany p) (past_functions ds.scopes bodies) _
+  scope_is_fault n p past at = behind (TooMany p) (past_functions ds.scopes bodies) _
       (past_is_fault (scope_dependencies ds.scopes bodies) (positions (names_of (scopes_in tree.items))) n p
       (subst (λ deps. IsPast deps n) (meant_calls ds sound tree bodies meant) past) at)
 

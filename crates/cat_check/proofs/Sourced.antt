@@ -18,6 +18,7 @@ use Rattle.cat_scope.specs.Names.{IsOneOf, items_in, scope_items}
 use Rattle.cat_names.specs.Lines.{is_about, is_number, is_scope_name}
 use Rattle.cat_names.specs.Lookup.{scope_named}
 use Rattle.cat_names.specs.ScopeWords.{item_words, words_in}
+use Rattle.cat_names.proofs.Exported.{one_of_two, in_front, behind}
 use Rattle.cat_check_names.specs.Table.{Table, IsTableOf}
 use Rattle.cat_check.specs.Outlined.{item_outline}
 use Rattle.cat_check.specs.inside.Calling.{is_it, is_for, of_word, called_about, called_by_item, declared_at}
@@ -25,29 +26,11 @@ use Rattle.cat_check.specs.inside.Calls.{IsCall, IsCallAt}
 
 -- ---- members of lists
 
-pub one_left : {A : Type 0} (x : A) (xs ys : List A) → IsOneOf x xs → IsOneOf x (xs ++ ys)
-one_left x [] ys h = elim h [ ]
-one_left x (y ∷ xs) ys (inl is) = inl is
-one_left x (y ∷ xs) ys (inr h) = inr (one_left x xs ys h)
-
-pub one_right : {A : Type 0} (x : A) (xs ys : List A) → IsOneOf x ys → IsOneOf x (xs ++ ys)
-one_right x [] ys h = h
-one_right x (y ∷ xs) ys h = inr (one_right x xs ys h)
-
-one_of_two : {A : Type 0} (x : A) (xs ys : List A) → IsOneOf x (xs ++ ys) → IsOneOf x xs ⊎ IsOneOf x ys
-one_of_two x [] ys h = inr h
-one_of_two x (y ∷ xs) ys (inl is) = inl (inl is)
-one_of_two {A} x (y ∷ xs) ys (inr h) = by (one_of_two x xs ys h)
-  where
-    by : IsOneOf x xs ⊎ IsOneOf x ys → IsOneOf x (y ∷ xs) ⊎ IsOneOf x ys
-    by (inl i) = inl (inr i)
-    by (inr i) = inr i
-
 pub in_flat : {A B : Type 0} (f : A → List B) (xs : List A) (x : A) (y : B) → IsOneOf x xs → IsOneOf y (f x)
     → IsOneOf y (flat_map f xs)
 in_flat f [] x y h i = elim h [ ]
-in_flat f (z ∷ xs) x y (inl is) i = one_left y (f z) (flat_map f xs) (subst (λ w. IsOneOf y (f w)) is i)
-in_flat f (z ∷ xs) x y (inr h) i = one_right y (f z) (flat_map f xs) (in_flat f xs x y h i)
+in_flat f (z ∷ xs) x y (inl is) i = in_front y (f z) (flat_map f xs) (subst (λ w. IsOneOf y (f w)) is i)
+in_flat f (z ∷ xs) x y (inr h) i = behind y (f z) (flat_map f xs) (in_flat f xs x y h i)
 
 out_flat : {A B : Type 0} (f : A → List B) (xs : List A) (y : B) → IsOneOf y (flat_map f xs)
     → (x : A) × IsOneOf x xs × IsOneOf y (f x)
@@ -153,14 +136,14 @@ module _ (ds : Decls) (t : Table) (is_table : IsTableOf (λ s. s.name) ds.scopes
 
     pub call_there : IsCall tree ds caller called → 0 < length (places caller called s.items tree.items)
     call_there (inl (i, among, is)) = some_there i.pos (places caller called s.items tree.items)
-        (one_left i.pos _ _ (in_flat (declared_at called) s.items i i.pos
+        (in_front i.pos _ _ (in_flat (declared_at called) s.items i i.pos
         (subst (λ (items : List ItemDecl). IsOneOf i items) items_are among)
         (passes (called_by_item i.kind called) i.pos (of_kind i.kind called is))))
     call_there (inr word) =
         let for_it : is_for t called word.word ≡ true = is_for_scope called word.word
         ∙ numbered called (scope_named word.word.text ds.scopes) word.found word.found_is word.number in
         some_there word.word.pos (places caller called s.items tree.items)
-        (one_right word.word.pos (flat_map (declared_at called) s.items) _
+        (behind word.word.pos (flat_map (declared_at called) s.items) _
         (subst (λ ps. IsOneOf word.word.pos ps) (sym (about_is caller called tree.items))
         (in_flat (of_word t called) (words_in ds caller tree.items) word.word word.word.pos word.there
         (passes (is_for t called word.word) word.word.pos for_it))))

@@ -1,5 +1,4 @@
 pub mod Chains
-pub mod Popping
 pub mod Gathered
 pub mod Exits
 pub mod Views

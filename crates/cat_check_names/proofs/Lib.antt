@@ -9,3 +9,4 @@ pub mod Knowing
 pub mod Names
 pub mod Twice
 pub mod Popping
+pub mod Exported

@@ -9,7 +9,7 @@ take_front : {A : Type 0} (xs ys : List A) → take (length xs) (xs ++ ys) ≡ x
 take_front [] ys = refl
 take_front (x ∷ xs) ys = ap (λ zs. x ∷ zs) (take_front xs ys)
 
-popped : {A : Type 0} (old new : List A) (last : Option A)
+pub popped : {A : Type 0} (old new : List A) (last : Option A)
     → MatchOption last ((old ≡ []) × (new ≡ [])) (λ x. old ≡ new ++ x ∷ []) → new ≡ take (length old - 1) old
 popped old new None h = h.1 ∙ sym (ap (λ xs. take (length xs - 1) xs) h.0)
 popped old new (Some x) h =
@@ -29,10 +29,3 @@ one_less names old new last count k front pop =
     ∙ ap (λ (m : ℕ). take (m - 1) (take (length names - k) names)) long
     ∙ take-take (length names - k - 1) (length names - k) names (omega arith)
     ∙ ap (λ (m : ℕ). take m names) less
-
--- the outer names are left
-pub outer_left : {A : Type 0} (outer inner : List A) (n : ℕ) → n ≡ length inner
-    → take (length (outer ++ inner) - n) (outer ++ inner) ≡ outer
-outer_left outer inner n same =
-    let long : length (outer ++ inner) - n ≡ length outer = omega (arith, same, length-append outer inner) in
-    ap (λ (m : ℕ). take m (outer ++ inner)) long ∙ take_front outer inner

@@ -1,37 +1,20 @@
 -- Where no count is passed, scopes have few variables.
-use Rattle.std.proofs.Common.{◌≡◌, ℕ, zero, suc, ◌<◌, ◌≤◌, ◌++◌, List, [], ◌∷◌, length, map, get_or, Option, None, Some}
-use Rattle.std.proofs.Common.{slice_get, refl, sym, subst, arith}
+use Rattle.std.proofs.Common.{◌≡◌, ℕ, zero, suc, ◌<◌, ◌≤◌, ◌++◌, List, [], ◌∷◌, length, map, get_or}
+use Rattle.std.proofs.Common.{sym, subst, arith}
 use Rattle.std.specs.Prelude.{flat_map}
-use Rattle.cat_pos.specs.declared.pos.Pos.{Pos}
 use Rattle.cat_scope.specs.Names.{AllHave}
-use Rattle.cat_tree.specs.declared.name.Name.{Name}
 use Rattle.cat_tree.specs.declared.program.Variable.{Variable}
 use Rattle.cat_tree.specs.declared.program.Item.{Item}
 use Rattle.cat_tree.specs.declared.program.Item.TheVariants as item
 use Rattle.cat_names.specs.Limits.{most_items}
-use Rattle.cat_names.specs.DeclarationFaults.{too_many, past, variable_name, param_faults, declaration_faults}
+use Rattle.cat_names.specs.DeclarationFaults.{past, variable_name, param_faults, declaration_faults}
 use Rattle.cat_names.specs.Unknown.{twice}
 use Rattle.cat_names.specs.Written.{positions, scopes_in}
+use Rattle.cat_names.proofs.Exported.{none_past, positions_counted}
 use Rattle.cat_declare.specs.declared.written.Declaration.{Declaration}
 use Rattle.cat_declare.specs.inside.Naming.{AreFew}
 use Rattle.cat_declare.specs.inside.Writings.{as_pair}
 use Rattle.cat_declare.proofs.Founds.{nothing_in, nothing_behind}
-
-few_of_none : {A : Type 0} (xs : List A) (n : ℕ) → slice_get xs n ≡ None → length xs ≤ n
-few_of_none [] n h = omega arith
-few_of_none (x ∷ xs) zero h = cc h
-few_of_none (x ∷ xs) (suc n) h = omega (arith, few_of_none xs n h)
-
-none_past : (limit : ℕ) (ps : List Pos) → past limit ps ≡ [] → length ps ≤ limit
-none_past limit ps h = few_of_none ps limit (by (slice_get ps limit) h)
-  where
-    by : (o : Option Pos) → too_many o ≡ [] → o ≡ None
-    by None e = refl
-    by (Some p) e = cc e
-
-positions_counted : {A : Type 0} (f : A → Name) (xs : List A) → length (positions (map f xs)) ≡ length xs
-positions_counted f [] = refl
-positions_counted f (x ∷ xs) = omega (arith, positions_counted f xs)
 
 scopes_few : (items : List Item) → flat_map declaration_faults items ≡ []
     → AllHave (λ s. length s.1 ≤ most_items) (scopes_in items)

@@ -25,6 +25,8 @@ use Rattle.cat_guard.specs.Verdicts as v
 use Rattle.cat_guard.proofs.FormulaLaws.{known_kept}
 use Rattle.cat_guard.specs.inside.Telling.{are_cuts_of}
 use Rattle.cat_guard.proofs.RegionLaws.{cuts_of, sound_atoms}
+use Rattle.cat_guard.specs.declared.live.LiveGroup.{LiveGroup}
+use Rattle.cat_guard.specs.Live.{IsLiveOf}
 
 same_further : (w x : Verdict) → w ≡ x → IsFurther w x
 same_further (v.Holds d) x e = e
@@ -160,3 +162,10 @@ judged_further terms atoms targets sound = all_have _ targets (λ t region n is 
     verdict_further t (answers_in atoms region) (answers_in atoms (with_narrowing region n))
     (answers_kept atoms region n is (cuts_of region.dims terms atoms dims (sound_atoms terms atoms targets sound)) kind
     some))
+
+-- what is live stays so where a region is narrowed
+abbrev pub KeepsLive : List Term → List Atom → Type 0
+KeepsLive terms atoms = (t : TableTarget) (region : Constraints) (n : Narrowing) (live : List LiveGroup)
+    → IsRegion region → region.dims ≡ dims_of terms → IsTrue (is_cut_at region.dims n.dim n.cut)
+    → IsInhabited (with_narrowing region n) → IsLiveOf t (answers_in atoms region) live
+    → IsLiveOf t (answers_in atoms (with_narrowing region n)) live

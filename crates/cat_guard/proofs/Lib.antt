@@ -14,4 +14,8 @@ pub mod Examples
 pub mod OwnAtoms
 pub mod LiveLaws
 pub mod WholeLaws
+pub mod SameCuts
+pub mod FirstLaws
+pub mod ResultLemmas
+pub mod AskedLemmas
 pub mod Exported

@@ -33,7 +33,7 @@ use Rattle.cat_guard.specs.inside.Telling.{are_cuts_of}
 
 -- ---- the atoms of a table are cuts of its terms
 
-cut_of_term : (terms : List Term) (i : ℕ) (atom : Atom) → IsTrue (is_cut_of (slice_get terms i) atom)
+pub cut_of_term : (terms : List Term) (i : ℕ) (atom : Atom) → IsTrue (is_cut_of (slice_get terms i) atom)
     → IsTrue (is_dim_cut (slice_get (dims_of terms) i) atom.cut)
 cut_of_term [] i atom h = absurd (true≢false (sym h))
 cut_of_term (t ∷ ts) zero atom h = h

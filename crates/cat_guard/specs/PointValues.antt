@@ -1,7 +1,6 @@
 -- What cuts see of values, and the point of a term.
-use Rattle.std.specs.Prelude.{pos, false, Option, Some, None, Ok, Err, slice_get}
+use Rattle.std.specs.Prelude.{Option, Some, None, Ok, Err, slice_get}
 use Rattle.std.specs.Prelude.{if◌then◌else◌}
-use Rattle.cat_date.specs.Calendar.{first_day}
 use Rattle.cat_value.specs.declared.decls.Decls.{Decls}
 use Rattle.cat_value.specs.declared.ty.Ty.{Ty}
 use Rattle.cat_value.specs.declared.ty.Ty.TheOpen.{Ty-F}
@@ -13,7 +12,7 @@ use Rattle.cat_region.specs.declared.dim.Dim.{Dim}
 use Rattle.cat_region.specs.declared.dim.Dim.TheVariants as dim
 use Rattle.cat_region.specs.declared.point.Point.{Point}
 use Rattle.cat_region.specs.declared.point.Point.TheVariants as point
-use Rattle.cat_region.specs.Points.{is_point}
+use Rattle.cat_region.specs.Points.{is_point, default_point}
 use Rattle.cat_scope.specs.Fitting.{cases_in}
 use Rattle.cat_scope.specs.Replies.{Reply}
 
@@ -44,15 +43,6 @@ point_in _ = None
 -- what cuts see of a value, if anything
 abbrev pub point_of : Value → Option Point
 point_of value = point_in (out-Value value)
-
--- what they see of the default of a type
-abbrev pub default_point : Dim → Point
-default_point dim.Whole = point.Whole (pos 0)
-default_point dim.Money = point.Money (pos 0)
-default_point dim.Day = point.Day first_day
-default_point dim.Decimal = point.Decimal (record { num = pos 0; den = 1 })
-default_point dim.Truth = point.Truth false
-default_point (dim.Cases n) = point.Case 0
 
 -- a point of a dimension, or the default where there is none
 abbrev pub point_or : Dim → Option Point → Point

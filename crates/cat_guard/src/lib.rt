@@ -1,6 +1,7 @@
 //! The guards of a scope's definitions: the table of what they ask, and how its targets are judged in regions.
 #![tactic(auto)]
 
+mod asked;
 mod guard;
 mod judge;
 mod judgement;
@@ -16,6 +17,7 @@ mod tree;
 mod truth;
 mod whole;
 
+pub use asked::asked_atoms;
 pub use guard::{Guard, GuardDef, GuardDefs, GuardGroup, GuardGroups};
 pub use judge::{judge_box, winner};
 pub use judgement::Judgement;

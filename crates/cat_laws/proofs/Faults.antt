@@ -1,7 +1,6 @@
 -- Of a tree, the faults that may stand against it stand at few positions.
-use Rattle.std.proofs.Common.{◌≡◌, ◌⊎◌, ℕ, ◌+◌, Bool, true, false, cond, IsTrue, List, [], ◌∷◌, ◌++◌, map}
+use Rattle.std.proofs.Common.{◌≡◌, ◌⊎◌, ℕ, ◌+◌, Bool, true, false, cond, List, [], ◌∷◌, ◌++◌, map}
 use Rattle.std.proofs.Common.{◌≤◌, arith, ⊎_elim, flat_map, filter, Ok, Err, refl, sym, ap, subst, inl, inr}
-use Rattle.std.proofs.Math.Bool.{Bool-set}
 use Rattle.std.specs.List.{enumerate_from}
 use Rattle.cat_pos.specs.declared.pos.Pos.{Pos}
 use Rattle.cat_value.specs.declared.decls.Decls.{Decls}
@@ -28,6 +27,7 @@ use Rattle.cat_names.specs.Cycles.{type_positions, IsTypeCycle, IsScopeCycle, Is
 use Rattle.cat_names.specs.Cycles.{past_functions, chain_faults}
 use Rattle.cat_names.specs.Accepted.{IsNamed, parts_of, IsRefused}
 use Rattle.cat_names.specs.Accepted as tree
+use Rattle.cat_names.proofs.Exported.{IsSound, with_parts, parts_same}
 use Rattle.cat_laws.proofs.Rooms.{Room, room_none, room_less, room_listed, one_of_at}
 
 -- where a fault stands
@@ -136,21 +136,6 @@ functions_there (scope ∷ scopes) (body ∷ bodies) f h =
     (one_apart f (past_chains deps here) (past_functions scopes bodies) h)
 
 -- ---- declarations of a tree
-
-abbrev IsSound : Declared → Type 0
-IsSound d = IsTrue (are_sound d.structures d.enumerations d.scopes)
-
-abbrev with_parts : (d : Declared) → IsSound d → Decls
-with_parts d sound =
-    record { structures = d.structures; enumerations = d.enumerations; scopes = d.scopes; sound = sound }
-
-sound_once : (d : Declared) → IsProp (IsSound d)
-sound_once d = hlevel Bool-set
-
-parts_same : (d e : Declared) → d ≡ e → (sound : IsSound d) (other : IsSound e)
-    → with_parts d sound ≡ with_parts e other
-parts_same d e is sound = subst (λ (x : Declared). (other : IsSound x) → with_parts d sound ≡ with_parts x other) is
-    (λ other. ap (with_parts d) (sound_once d sound other))
 
 module _ (size : Pos → ℕ) (t : Tree) where
   -- how large the text is of where a fault stands

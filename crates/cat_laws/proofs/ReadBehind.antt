@@ -1,6 +1,6 @@
 -- A certificate is read behind lines with which none begins; and its version is that of its first line.
 use Rattle.std.proofs.Common.{◌≡◌, ◌==◌, ℕ, suc, ◌+◌, Bool, true, false, not, cond, if◌then◌else◌}
-use Rattle.std.proofs.Common.{List, [], ◌∷◌, ◌++◌, drop, map, length, refl, sym, ap}
+use Rattle.std.proofs.Common.{List, [], ◌∷◌, ◌++◌, drop, map, refl, sym, ap}
 use Rattle.std.proofs.Common.{◌∙◌, subst, append_assoc, true≢false, arith}
 use Rattle.std.specs.Prelude.{bytes_eq}
 use Rattle.std.specs.List.{list_all}
@@ -9,16 +9,15 @@ use Rattle.cat_guard.specs.declared.table.Table.{Table}
 use Rattle.cat_guard.specs.declared.tree.CitedTree.{CitedTree}
 use Rattle.cat_cert.specs.declared.certificate.Version.{Version}
 use Rattle.cat_cert.specs.declared.certificate.Version.TheVariants as version
-use Rattle.cat_cert.specs.declared.certificate.CertTree.{CertTree}
 use Rattle.cat_cert.specs.declared.certificate.Certificate.{Certificate}
-use Rattle.cat_cert.specs.Lines.{Due, ScopeDue, TargetDue, due_heads, due_lines, dues_of}
-use Rattle.cat_cert.specs.Lines.{first_line, tree_heads, tree_lines}
-use Rattle.cat_cert.specs.Certified.{AreTreesOf}
+use Rattle.cat_cert.specs.Lines.{due_lines, dues_of}
+use Rattle.cat_cert.specs.Lines.{first_line}
 use Rattle.cat_cert.specs.Texts.{Parted, byte_before, certificate_text, is_first, is_line, lines_read, parted}
 use Rattle.cat_cert.specs.Texts.{passed_over, text_of}
 use Rattle.cat_cert.specs.Fronts.{IsCertificate}
 use Rattle.cat_cert.specs.Causes.{IsRead, IsReadBehind, IsReadOf}
 use Rattle.cat_cert.specs.ReadTrees.{IsReadAs}
+use Rattle.cat_cert.proofs.Exported.{placed, placed_trees, placed_heads}
 use Rattle.cat_laws.proofs.TableNames.{first_of, second_of}
 use Rattle.cat_laws.proofs.PassedLines.{IsPassed, is_passed}
 
@@ -72,31 +71,6 @@ read_behind (line ∷ lines) more is =
     ∙ read_behind lines more (second_of (is_passed line) (list_all is_passed lines) is)
 
 -- ---- the certificate that is read
-
--- trees with where they are written, where the first line of what is due is that one
-abbrev placed : Version → ℕ → List Due → List CitedTree → List CertTree
-placed v n [] trees = []
-placed v n (ScopeDue name ∷ dues) trees = placed v (suc n) dues trees
-placed v n (TargetDue t ∷ dues) [] = []
-placed v n (TargetDue t ∷ dues) (tree ∷ trees) =
-    record { tree = tree; heads = tree_heads v n tree } ∷ placed v (suc n + length (tree_lines v tree)) dues trees
-
-placed_trees : (v : Version) (n : ℕ) (dues : List Due) (trees : List CitedTree) → AreTreesOf v dues trees
-    → map (λ c. c.tree) (placed v n dues trees) ≡ trees
-placed_trees v n [] [] are = refl
-placed_trees v n [] (tree ∷ trees) are = absurd (are)
-placed_trees v n (ScopeDue name ∷ dues) trees are = placed_trees v (suc n) dues trees are
-placed_trees v n (TargetDue t ∷ dues) [] are = absurd (are)
-placed_trees v n (TargetDue t ∷ dues) (tree ∷ trees) are =
-    ap (λ ts. tree ∷ ts) (placed_trees v (suc n + length (tree_lines v tree)) dues trees are.1)
-
-placed_heads : (v : Version) (n : ℕ) (dues : List Due) (trees : List CitedTree)
-    → map (λ c. c.heads) (placed v n dues trees) ≡ due_heads v n dues trees
-placed_heads v n [] trees = refl
-placed_heads v n (ScopeDue name ∷ dues) trees = placed_heads v (suc n) dues trees
-placed_heads v n (TargetDue t ∷ dues) [] = refl
-placed_heads v n (TargetDue t ∷ dues) (tree ∷ trees) =
-    ap (λ hs. tree_heads v n tree ∷ hs) (placed_heads v (suc n + length (tree_lines v tree)) dues trees)
 
 module _ (tables : List Table) (v : Version) (trees : List CitedTree) where
   -- a certificate of those trees, whose lines stand behind that many

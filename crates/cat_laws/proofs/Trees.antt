@@ -1,7 +1,6 @@
 -- What pieces are is decided: whether they are a tree, and whether that has a program.
-use Rattle.std.proofs.Common.{◌≡◌, ◌∙◌, ℕ, true, false, List, [], ◌∷◌, ◌++◌, sym, ap, subst, inl, inr, append_assoc}
+use Rattle.std.proofs.Common.{◌≡◌, ◌∙◌, true, false, List, [], ◌∷◌, ◌++◌, sym, ap, subst, inl, inr, append_assoc}
 use Rattle.cat_pos.specs.declared.pos.Piece.{Piece}
-use Rattle.cat_value.specs.declared.decls.Decls.{Decls}
 use Rattle.cat_lex.specs.declared.token.Token.{Token}
 use Rattle.cat_lex.specs.Lexes.{Lexes}
 use Rattle.cat_lex.proofs.Sequences.{once}
@@ -13,12 +12,11 @@ use Rattle.cat_parse_row.specs.Exactly.{ReadsExpressions, Exactly}
 use Rattle.cat_parse_row.specs.Programs.{program}
 use Rattle.cat_parse_reach.specs.Reach.{expression}
 use Rattle.cat_weave.specs.Causes.{AreReadableTogether}
-use Rattle.cat_scope.specs.declared.defs.Body.{Body}
-use Rattle.cat_names.specs.declared.fault.Fault.{Fault}
-use Rattle.cat_names.specs.Accepted.{IsParsed, IsProgramOf, IsRefused}
+use Rattle.cat_names.specs.Accepted.{IsParsed, IsRefused}
 use Rattle.cat_names.specs.Decided.{HasProgram, IsDecided}
 use Rattle.cat_build.specs.Accepted.{IsTreeOf}
 use Rattle.cat_build.proofs.Counted.{parsed}
+use Rattle.cat_build.proofs.Exported.{IsOneTree, IsOneProgram, HaveNoProgram}
 use Rattle.cat_laws.proofs.Rooms.{Decided}
 use Rattle.cat_laws.proofs.Lexed.{AreLexed, lexed_decided}
 
@@ -27,28 +25,16 @@ use Rattle.cat_laws.proofs.Lexed.{AreLexed, lexed_decided}
 abbrev pub AreReadExactly : Type 0
 AreReadExactly = (ex : Reader Node) → ReadsExpressions ex → (tokens : List Token) → Exactly tokens (program ex tokens)
 
-abbrev pub SpellOneTree : Type 0
-SpellOneTree = (t u : Tree) (tokens : List Token) → SpellsProgram t tokens → SpellsProgram u tokens → t ≡ u
-
 abbrev pub AreTreesDecided : Type 0
 AreTreesDecided = (tree : Tree) → IsParsed tree → IsDecided tree
-
-abbrev pub HaveNoProgram : Type 0
-HaveNoProgram = (tree : Tree) (decls : Decls) (bodies : List Body) (scope_order : List ℕ) (fault : Fault)
-    → IsProgramOf tree decls bodies scope_order → ¬ IsRefused tree fault
-
-abbrev pub HaveOneProgram : Type 0
-HaveOneProgram = (tree : Tree) (decls other : Decls) (bodies more : List Body) (scope_order order : List ℕ)
-    → IsProgramOf tree decls bodies scope_order → IsProgramOf tree other more order
-    → (decls ≡ other) × (bodies ≡ more) × (scope_order ≡ order)
 
 pub record Laws : Type 0 where
   pub exactly : AreReadExactly
   pub rightly : ReadsExpressions expression
-  pub one_tree : SpellOneTree
+  pub one_tree : IsOneTree
   pub decided : AreTreesDecided
   pub no_program : HaveNoProgram
-  pub one_program : HaveOneProgram
+  pub one_program : IsOneProgram
 
 -- ---- trees
 

@@ -1,5 +1,5 @@
 -- What an audit writes of a complete scope is a certificate for the scope.
-use Rattle.std.proofs.Common.{◌≡◌, ◌≤◌, ℕ, IsTrue, List, [], ◌∷◌, ◌++◌, map, Option, None, Some, refl, sym}
+use Rattle.std.proofs.Common.{◌≡◌, ◌≤◌, ℕ, IsTrue, List, [], ◌++◌, map, Option, None, Some, sym}
 use Rattle.std.proofs.Common.{ap, ◌∙◌, subst}
 use Rattle.cat_scope.specs.declared.programs.Program.{Program}
 use Rattle.cat_scope.specs.Names.{AllHave}
@@ -7,14 +7,11 @@ use Rattle.cat_guard.specs.declared.table.Table.{Table}
 use Rattle.cat_guard.specs.declared.tree.CaseTree.{CaseTree}
 use Rattle.cat_guard.specs.declared.tree.CitedTree.{CitedTree}
 use Rattle.cat_guard.specs.Trees.{Tree, expanded, tree_of}
-use Rattle.cat_cert.specs.declared.certificate.Version.{Version}
 use Rattle.cat_cert.specs.declared.certificate.Version.TheVariants as version
 use Rattle.cat_cert.specs.declared.certificate.CertTree.{CertTree}
 use Rattle.cat_walk.specs.Sizes.{most_leaves}
 use Rattle.cat_cert.specs.Certifiable.{AreCertifiable, shared_tree}
-use Rattle.cat_cert.specs.Fronts.{IsCertificate}
-use Rattle.cat_cert.specs.Lines.{certificate_lines, dues_of}
-use Rattle.cat_cert.specs.ReadTrees.{IsReadAs}
+use Rattle.cat_cert.specs.Lines.{dues_of}
 use Rattle.cat_cert.specs.Texts.{certificate_text, names_are_lines}
 use Rattle.cat_cert.specs.Checked.{IsOver}
 use Rattle.cat_cert.specs.Uncovered.{AllCovered}
@@ -25,6 +22,7 @@ use Rattle.cat_audit.specs.Complete.{AreClosedTrees, targets_in}
 use Rattle.cat_audit.specs.Reports.{IsReport}
 use Rattle.cat_audit.specs.ReportTexts.{report_text}
 use Rattle.cat_cert.specs.ScopeTables.{IsOverScope}
+use Rattle.cat_cert.proofs.Exported.{map_twice, SharedOnes, StandAgain, WrittenOnes}
 use Rattle.cat_laws.specs.Rechecks.{written_text}
 use Rattle.cat_laws.specs.Unbroken.{AreUnbroken}
 use Rattle.cat_laws.proofs.ClosedTrees.{are_certifiable, are_covered, found_of}
@@ -32,25 +30,6 @@ use Rattle.cat_laws.proofs.PassedLines.{IsPassed}
 use Rattle.cat_laws.proofs.ReadBehind.{read_as_behind}
 use Rattle.cat_laws.proofs.ReportLines.{report_passed}
 use Rattle.cat_laws.proofs.TableNames.{tables_in_lines}
-
--- what the laws of certificates say
-abbrev pub SharedOnes : Type 0
-SharedOnes = (tables : List Table) (found : List (Option Tree)) → AreCertifiable (dues_of tables) found
-    → IsCertificate tables (certificate_lines version.Two tables (map shared_tree found)) version.Two
-    (map shared_tree found)
-
-abbrev pub StandAgain : Type 0
-StandAgain = (tables : List Table) (found : List (Option Tree)) → AreCertifiable (dues_of tables) found
-    → map expanded (map shared_tree found) ≡ found
-
-abbrev pub WrittenOnes : Type 0
-WrittenOnes = (v : Version) (tables : List Table) (trees : List CitedTree) → IsTrue (names_are_lines tables)
-    → IsCertificate tables (certificate_lines v tables trees) v trees
-    → IsReadAs tables (certificate_text v tables trees) v trees
-
-map_twice : {A B C : Type 0} (f : A → B) (g : B → C) (xs : List A) → map g (map f xs) ≡ map (λ x. g (f x)) xs
-map_twice f g [] = refl
-map_twice f g (x ∷ xs) = ap (λ ys. g (f x) ∷ ys) (map_twice f g xs)
 
 module _ (shares : SharedOnes) (stands : StandAgain) (writes : WrittenOnes) where
   -- covered trees are written as a certificate of version 2, also behind lines with which none begins

@@ -11,9 +11,10 @@ pub use Rattle.cat_names.proofs.UnknownEquations.{unknown_Field, unknown_If, unk
 pub use Rattle.cat_names.proofs.UnknownEquations.{unknown_Match, unknown_Name, unknown_Parens, unknown_Prefixed}
 pub use Rattle.cat_names.proofs.UnknownEquations.{unknown_ScopeCall, unknown_Structure, unknown_Sum, unknown_Test}
 pub use Rattle.cat_names.proofs.WordEquations.{words}
-pub use Rattle.cat_names.proofs.Steps.{beside_stands, behind, found_stands, in_front, left_stands, left_tells}
+pub use Rattle.cat_names.proofs.ListLaws.{behind, in_front}
+pub use Rattle.cat_names.proofs.Steps.{beside_stands, found_stands, left_stands, left_tells}
 pub use Rattle.cat_names.proofs.Steps.{right_stands, right_tells, then_stands, then_tells}
-pub use Rattle.cat_names.proofs.Lookups.{first_is, inner_is, numbered_is}
+pub use Rattle.cat_names.proofs.Lookups.{first_is, inner_is, numbered_is, one_of_two}
 pub use Rattle.cat_names.proofs.DistinctNames.{Apart, names_apart, scopes_apart, first_at}
 pub use Rattle.cat_names.proofs.CycleFound.{Cyclic, Ordered, ordered_or_cyclic}
 pub use Rattle.cat_names.proofs.DeclaredForward.{each_on, as_many}
@@ -21,7 +22,7 @@ pub use Rattle.cat_names.proofs.MadeTypes.{AreMade, IsMade, types_are_items}
 pub use Rattle.cat_names.proofs.DeclaredMade.{DeclaredParts, declared_parts, all_made, are_made}
 pub use Rattle.cat_names.proofs.LowDeclared.{AreLow, declared_low}
 pub use Rattle.cat_names.proofs.SoundDeclared.{declared_sound}
-pub use Rattle.cat_names.proofs.DeclaredCounts.{fine_items}
+pub use Rattle.cat_names.proofs.DeclaredCounts.{fine_items, none_past, positions_counted}
 pub use Rattle.cat_names.proofs.ByOrder.{by_order}
 pub use Rattle.cat_names.proofs.WholeLaws.{IsTypedBody}
 pub use Rattle.cat_names.proofs.MeantCalls.{IsCalledBy}
@@ -29,3 +30,4 @@ pub use Rattle.cat_names.proofs.MeantDependencies.{CallOf, meant_body, meant_cal
 pub use Rattle.cat_names.proofs.MeantDependencies.{meant_items, meant_scopes, meant_targets}
 pub use Rattle.cat_names.proofs.ShortChains.{chains_short, functions_short, functions_are_items}
 pub use Rattle.cat_names.proofs.SoundDeclared.{declared_are_sound}
+pub use Rattle.cat_names.proofs.RefusedLaws.{IsSound, with_parts, parts_same}

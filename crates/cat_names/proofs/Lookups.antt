@@ -27,7 +27,7 @@ found_in {A} test (x ∷ xs) f h = by (λ e. found_in test xs f e) (test x) h
     by rest true g = let is : x ≡ f = cc g in inl (sym is)
     by rest false g = inr (rest g)
 
-one_of_two : {A : Type 0} (x : A) (xs ys : List A) → IsOneOf x (xs ++ ys) → IsOneOf x xs ⊎ IsOneOf x ys
+pub one_of_two : {A : Type 0} (x : A) (xs ys : List A) → IsOneOf x (xs ++ ys) → IsOneOf x xs ⊎ IsOneOf x ys
 one_of_two x [] ys h = inr h
 one_of_two x (y ∷ xs) ys (inl is) = inl (inl is)
 one_of_two {A} x (y ∷ xs) ys (inr h) = by (one_of_two x xs ys h)

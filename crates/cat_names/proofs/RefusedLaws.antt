@@ -42,18 +42,18 @@ answers_stand : {A : Type 0} (fault : Fault) (found : Found A) (a : A) → found
 answers_stand fault found a is h = subst (λ f. Stands fault f) is h
 
 -- declarations with the same parts are the same
-abbrev IsSound : Declared → Type 0
+abbrev pub IsSound : Declared → Type 0
 IsSound d = IsTrue (are_sound d.structures d.enumerations d.scopes)
 
-abbrev with_parts : (d : Declared) → IsSound d → Decls
+abbrev pub with_parts : (d : Declared) → IsSound d → Decls
 with_parts d sound =
     record { structures = d.structures; enumerations = d.enumerations; scopes = d.scopes; sound = sound }
 
 sound_once : (d : Declared) → IsProp (IsSound d)
 sound_once d = hlevel Bool-set
 
-parts_same : (d e : Declared) → d ≡ e → (sound : IsSound d) (other : IsSound e) → with_parts d sound ≡ with_parts e
-    other
+pub parts_same : (d e : Declared) → d ≡ e → (sound : IsSound d) (other : IsSound e)
+    → with_parts d sound ≡ with_parts e other
 parts_same d e is sound = subst (λ (x : Declared). (other : IsSound x) → with_parts d sound ≡ with_parts x other) is
     (λ other. ap (with_parts d) (sound_once d sound other))
 

@@ -1,20 +1,12 @@
 -- What stands in a part stands in the whole.
-use Rattle.std.proofs.Common.{◌≡◌, Bool, false, List, [], ◌∷◌, ◌++◌, inl, inr, Ok, Err, refl}
+use Rattle.std.proofs.Common.{◌≡◌, Bool, false, List, [], ◌∷◌, Ok, Err, refl}
 use Rattle.std.specs.Prelude.{flat_map}
 use Rattle.cat_scope.specs.Names.{IsOneOf}
 use Rattle.cat_names.specs.declared.fault.Fault.{Fault}
 use Rattle.cat_names.specs.declared.fault.Refusal.{Refusal}
 use Rattle.cat_names.specs.declared.fault.Refusal.TheVariants.{Memory, Refused}
 use Rattle.cat_names.specs.Found.{Found, and_then, both, where_none, fault_if, Stands, Tells}
-
-pub in_front : (f : Fault) (fs gs : List Fault) → IsOneOf f fs → IsOneOf f (fs ++ gs)
-in_front f [] gs h = elim h [ ]
-in_front f (g ∷ fs) gs (inl is) = inl is
-in_front f (g ∷ fs) gs (inr h) = inr (in_front f fs gs h)
-
-pub behind : (f : Fault) (fs gs : List Fault) → IsOneOf f gs → IsOneOf f (fs ++ gs)
-behind f [] gs h = h
-behind f (g ∷ fs) gs h = inr (behind f fs gs h)
+use Rattle.cat_names.proofs.ListLaws.{behind, in_front}
 
 -- where no test passes, there is no fault
 pub no_fault : {A : Type 0} (test : A → Bool) (fault : A → Fault) (xs : List A) → ((x : A) → test x ≡ false)

@@ -47,11 +47,11 @@ is_kind (dim.Cases n) (Cases set) = true
 is_kind d (Ranks r) = true
 is_kind d (Cases set) = false
 
-beq-true : (b : Bool) → beq b true ≡ b
+pub beq-true : (b : Bool) → beq b true ≡ b
 beq-true true = refl
 beq-true false = refl
 
-beq-false : (b : Bool) → beq b false ≡ not b
+pub beq-false : (b : Bool) → beq b false ≡ not b
 beq-false true = refl
 beq-false false = refl
 

@@ -90,7 +90,7 @@ rank-halves s j k p =
     ∙ ap (size_of (j * 1_000_000_000 * k)) (omega arith)
     ∙ size-scaled (j * 1_000_000_000) k 2 (omega arith) (omega arith) ∙ size-two k)
 
-reduced_test : (f : Fraction) → IsReduced f.num f.den → is_reduced f ≡ true
+pub reduced_test : (f : Fraction) → IsReduced f.num f.den → is_reduced f ≡ true
 reduced_test f r =
     and-both (nat_lt 0 f.den && nat_le f.den largest && fits f.num) (gcd (unsigned_abs f.num) f.den == 1)
     (and-both (nat_lt 0 f.den && nat_le f.den largest) (fits f.num)

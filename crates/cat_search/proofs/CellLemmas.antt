@@ -2,20 +2,17 @@
 use Rattle.std.proofs.Common.{◌≡◌, ◌⊎◌, inl, inr, ℕ, zero, suc, ◌+◌, ◌*◌, ◌<◌, ◌≤◌, ◌==◌, nat_eq, Bool, true, false}
 use Rattle.std.proofs.Common.{IsTrue, if◌then◌else◌, List, [], ◌∷◌, ◌++◌, length, Option, Some, None, slice_get, refl}
 use Rattle.std.proofs.Common.{sym, ap}
-use Rattle.std.proofs.Common.{◌∙◌, subst, true≢false, arith, ℤ}
-use Rattle.std.specs.Prelude.{◌||◌, ◌&&◌}
+use Rattle.std.proofs.Common.{◌∙◌, subst, true≢false, arith}
+use Rattle.std.specs.Prelude.{◌||◌}
 use Rattle.std.specs.List.{list_any}
-use Rattle.std.specs.Ordering.{int_eq}
 use Rattle.std.proofs.Math.Logic.{∥∥₁_elim}
 use Rattle.std.proofs.Math.Nat.{le_trans, mul-le-mul_left, mul-le-mul_right, one-le-mul}
 use Rattle.std.proofs.Math.Bridge.{le_prop}
-use Rattle.std.proofs.lemmas.Bool.Decides.{nat_tests, Decides-int_eq}
+use Rattle.std.proofs.lemmas.Bool.Decides.{nat_tests}
 use Rattle.std.proofs.lemmas.Option.{slice_get_within}
 use Rattle.cat_region.specs.declared.dim.Dim.{Dim}
 use Rattle.cat_region.specs.declared.cut.Cut.{Cut}
 use Rattle.cat_region.specs.declared.cut.Cut.TheVariants as cut
-use Rattle.cat_region.specs.declared.cut.Scalar.{Scalar}
-use Rattle.cat_region.specs.declared.cut.Scalar.TheVariants as scalar
 use Rattle.cat_region.specs.declared.narrowing.Narrowing.{Narrowing}
 use Rattle.cat_region.specs.Decided.{lefts, admits_none}
 use Rattle.cat_region.specs.Extents.{start, after, is_none}
@@ -29,11 +26,11 @@ use Rattle.cat_guard.specs.declared.table.Atom.{Atom}
 use Rattle.cat_guard.specs.declared.table.TableTarget.{TableTarget}
 use Rattle.cat_guard.specs.Numbering.{firsts, is_seen}
 use Rattle.cat_guard.specs.Soundness.{target_is_sound, is_sound}
-use Rattle.cat_guard.specs.Terms.{same_cut, same_scalar}
+use Rattle.cat_guard.specs.Terms.{same_cut}
 use Rattle.cat_guard.specs.Trees.{Tree, with_answer, leaves}
 use Rattle.cat_guard.specs.Trees as tree
 use Rattle.cat_guard.specs.Valuations.{dims_of}
-use Rattle.cat_guard.proofs.Exported.{both_true, all_more, targets_sound, sound_parts}
+use Rattle.cat_guard.proofs.Exported.{both_true, all_more, targets_sound, sound_parts, nat_self, cut_same}
 use Rattle.cat_guard.specs.Judgements.{atoms_in}
 use Rattle.cat_search.specs.Cells.{cut_before, cuts_of, distinct_cuts, parted, cells_from, cells}
 use Rattle.cat_search.specs.Searched.{everything, IsSearched, rests}
@@ -41,53 +38,6 @@ use Rattle.cat_search.proofs.SampleLemmas.{weight, weight_most, weight_split, we
 use Rattle.cat_search.proofs.UnderwayLemmas.{answering_with}
 use Rattle.cat_search.proofs.TargetLemmas.{atom_at, def_below}
 use Rattle.cat_search.proofs.WayLemmas.{cut_is, region_is}
-
--- ---- equal cuts
-
-both_are : (a b : Bool) → a ≡ true → b ≡ true → (a && b) ≡ true
-both_are true b h k = k
-both_are false b h k = h
-
-nat_self : (n : ℕ) → nat_eq n n ≡ true
-nat_self n = grind (arith, nat_tests)
-
-int_self : (n : ℤ) → int_eq n n ≡ true
-int_self n = (Decides-int_eq n n).1 refl
-
-scalar_self : (s : Scalar) → same_scalar s s ≡ true
-scalar_self (scalar.Whole n) = int_self n
-scalar_self (scalar.Money n) = int_self n
-scalar_self (scalar.Day n) = int_self n
-scalar_self (scalar.Decimal f) = both_are (int_eq f.num f.num) (nat_eq f.den f.den) (int_self f.num) (nat_self f.den)
-
-cut_self : (c : Cut) → same_cut c c ≡ true
-cut_self (cut.Below s) = scalar_self s
-cut_self (cut.AtMost s) = scalar_self s
-cut_self cut.IsTrue = refl
-cut_self (cut.IsCase k) = nat_self k
-
-nat_same : (n m : ℕ) → nat_eq n m ≡ true → n ≡ m
-nat_same n m h = grind (arith, nat_tests)
-
-int_same : (n m : ℤ) → int_eq n m ≡ true → n ≡ m
-int_same n m h = (Decides-int_eq n m).0 h
-
-scalar_same : (s r : Scalar) → same_scalar s r ≡ true → s ≡ r
-scalar_same (scalar.Whole n) (scalar.Whole m) h = ap scalar.Whole (int_same n m h)
-scalar_same (scalar.Money n) (scalar.Money m) h = ap scalar.Money (int_same n m h)
-scalar_same (scalar.Day n) (scalar.Day m) h = ap scalar.Day (int_same n m h)
-scalar_same (scalar.Decimal f) (scalar.Decimal g) h =
-    let two = both_true (int_eq f.num g.num) (nat_eq f.den g.den) h in
-    ap (λ (n : ℤ). scalar.Decimal (record { num = n; den = f.den })) (int_same f.num g.num two.0)
-    ∙ ap (λ (d : ℕ). scalar.Decimal (record { num = g.num; den = d })) (nat_same f.den g.den two.1)
-scalar_same _ _ h = absurd (cc)
-
-cut_same : (c d : Cut) → same_cut c d ≡ true → c ≡ d
-cut_same (cut.Below s) (cut.Below r) h = ap cut.Below (scalar_same s r h)
-cut_same (cut.AtMost s) (cut.AtMost r) h = ap cut.AtMost (scalar_same s r h)
-cut_same cut.IsTrue cut.IsTrue h = refl
-cut_same (cut.IsCase k) (cut.IsCase m) h = ap cut.IsCase (nat_same k m h)
-cut_same _ _ h = absurd (cc)
 
 -- ---- the distinct cuts are all of them
 

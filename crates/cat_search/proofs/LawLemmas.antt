@@ -37,7 +37,7 @@ none_bad t leaf false bad is = absurd (cc)
 
 module _ (terms : List Term) (atoms : List Atom) (targets : List TableTarget)
     (sound : IsTrue (is_sound terms atoms targets)) where
-  sides_are : (region : Constraints) (a : ℕ) (b : Bool) → IsRegion region → region.dims ≡ dims_of terms
+  pub sides_are : (region : Constraints) (a : ℕ) (b : Bool) → IsRegion region → region.dims ≡ dims_of terms
       → IsRegion (answering atoms region a b)
   sides_are region a b is dims = by (slice_get atoms a) refl
     where
@@ -47,7 +47,7 @@ module _ (terms : List Term) (atoms : List Atom) (targets : List TableTarget)
           (subst (λ (ds : List Dim). IsTrue (is_cut_at ds atom.term atom.cut)) (sym dims)
           (cut_is terms atoms targets sound a atom e))
 
-  same_dims : (region : Constraints) (a : ℕ) (b : Bool) → region.dims ≡ dims_of terms
+  pub same_dims : (region : Constraints) (a : ℕ) (b : Bool) → region.dims ≡ dims_of terms
       → (answering atoms region a b).dims ≡ dims_of terms
   same_dims region a b dims = by (slice_get atoms a)
     where

@@ -1,5 +1,5 @@
 -- What is live on the way down, and what of it is still so after the way back.
-use Rattle.std.proofs.Common.{◌≡◌, ℕ, zero, suc, ◌+◌, ◌≤◌, ◌<◌, nat_lt, nat_le, ◌-◌, Bool, true, false, IsTrue}
+use Rattle.std.proofs.Common.{◌≡◌, ℕ, zero, suc, ◌+◌, ◌≤◌, ◌<◌, nat_lt, nat_le, Bool, true, false, IsTrue}
 use Rattle.std.proofs.Common.{List, []}
 use Rattle.std.proofs.Common.{if◌then◌else◌}
 use Rattle.std.proofs.Common.{◌∷◌, ◌++◌, length, take, Option, Some, None, slice_get, refl, sym, ap, ◌∙◌, subst, arith}
@@ -10,7 +10,7 @@ use Rattle.std.specs.Prelude.{MatchOption}
 use mathlib.Core.Path.{fun_ext}
 use Rattle.cat_region.specs.declared.dim.Dim.{Dim}
 use Rattle.cat_region.specs.declared.narrowing.Narrowing.{Narrowing}
-use Rattle.cat_region.specs.Regions.{Constraints, IsRegion, IsInhabited, with_narrowing, is_cut_at}
+use Rattle.cat_region.specs.Regions.{Constraints, IsInhabited}
 use Rattle.cat_guard.specs.declared.table.Term.{Term}
 use Rattle.cat_guard.specs.declared.table.Atom.{Atom}
 use Rattle.cat_guard.specs.declared.table.TableTarget.{TableTarget}
@@ -20,6 +20,7 @@ use Rattle.cat_guard.specs.Trees.{with_answer, answering}
 use Rattle.cat_guard.specs.Valuations.{dims_of}
 use Rattle.cat_guard.specs.declared.live.LiveGroup.{LiveGroup}
 use Rattle.cat_guard.specs.Live.{IsLiveOf}
+use Rattle.cat_guard.proofs.Exported.{KeepsLive}
 use Rattle.cat_search.specs.declared.levels.Level.{Level}
 use Rattle.cat_search.specs.declared.levels.Levels.{Levels}
 use Rattle.cat_search.specs.declared.searching.Searching.{Searching}
@@ -166,20 +167,11 @@ module _ (atoms : List Atom) (t : TableTarget) (dims : List Dim) where
       → IsLiveAbove atoms t dims ns live
   live_anyway ns live whole = record { depth = 0; within = omega arith; live_there = whole _ }
 
-pub pop_fewer : (old new : List Level) (r : Option Level)
-    → MatchOption r ((old ≡ []) × (new ≡ [])) (λ top. old ≡ top ∷ new) → length new ≡ length old - 1
-pop_fewer old new None is = ap length is.1 ∙ sym (ap (λ ls. length ls - 1) is.0)
-pop_fewer old new (Some l) is = let long = ap length is in omega (arith, long)
-
 -- whether the last level is past
 pub past_top : (depth : ℕ) (ls : List Level) (l : Level) → slice_get ls 0 ≡ Some l
     → nat_le depth l.depth ≡ is_past depth ls
 past_top depth [] l at = absurd (cc)
 past_top depth (m ∷ ms) l at = let same : l ≡ m = cc in ap (λ k. nat_le depth k.depth) same
-
-pub top_some : (ls : List Level) (l : Level) → slice_get ls 0 ≡ Some l → 0 < length ls
-top_some [] l at = absurd (cc)
-top_some (m ∷ ms) l at = omega arith
 
 -- what is live in a region is so behind its narrowings
 pub live_at : (atoms : List Atom) (t : TableTarget) (dims : List Dim) (region : Constraints) (live : List LiveGroup)
@@ -190,13 +182,6 @@ live_at atoms t dims region live same is =
     is
 
 -- ---- down to a region
-
--- a narrowing keeps what is live
-abbrev pub KeepsLive : List Term → List Atom → Type 0
-KeepsLive terms atoms = (t : TableTarget) (region : Constraints) (n : Narrowing) (live : List LiveGroup)
-    → IsRegion region → region.dims ≡ dims_of terms → IsTrue (is_cut_at region.dims n.dim n.cut)
-    → IsInhabited (with_narrowing region n) → IsLiveOf t (answers_in atoms region) live
-    → IsLiveOf t (answers_in atoms (with_narrowing region n)) live
 
 module _ (terms : List Term) (atoms : List Atom) (targets : List TableTarget)
     (sound : IsTrue (is_sound terms atoms targets)) (keeps : KeepsLive terms atoms) (t : TableTarget) where

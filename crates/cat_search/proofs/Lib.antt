@@ -10,8 +10,8 @@ mod TreeLemmas
 mod UnderwayLemmas
 mod ValueLemmas
 mod LevelLemmas
-mod StackLemmas
 mod WayAskedLemmas
 mod WayExamples
 mod FollowingLemmas
 mod OnWayLemmas
+pub mod Exported

@@ -21,6 +21,7 @@ use Rattle.cat_region.specs.Extents.{start, after, after_one, limit, is_under, n
 use Rattle.cat_region.specs.Points.{answer, is_point, is_cut}
 use Rattle.cat_region.specs.Regions.{agrees, all_agree}
 use Rattle.cat_scope.specs.Names.{IsOneOf, AllHave}
+use Rattle.cat_region.proofs.Exported.{beq-true, beq-false}
 use Rattle.cat_search.specs.Cells.{parted}
 
 -- ---- counting
@@ -75,14 +76,6 @@ lies x r = not (int_lt x r.low) && not (int_lt r.high x)
 abbrev in_extent : ℤ → Extent → Bool
 in_extent x (Ranks r) = lies x r
 in_extent x (Cases set) = false
-
-beq-true : (b : Bool) → beq b true ≡ b
-beq-true true = refl
-beq-true false = refl
-
-beq-false : (b : Bool) → beq b false ≡ not b
-beq-false true = refl
-beq-false false = refl
 
 lies-narrowed : (x m : ℤ) (r : Range) (under : Bool)
     → lies x (narrowed_range r m under) ≡ (lies x r && beq (int_lt x m) under)

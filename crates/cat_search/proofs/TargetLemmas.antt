@@ -1,8 +1,8 @@
 -- Targets of a table and their atoms.
 use Rattle.std.proofs.Common.{◌≡◌, ℕ, zero, suc, ◌<◌, IsTrue, List, []}
 use Rattle.std.proofs.Common.{◌∷◌, ◌++◌, length, Option, Some, None, slice_get, refl, sym, subst, arith}
-use Rattle.std.proofs.Common.{◌⊎◌, inl, inr, nat_lt, Result, Ok, Err}
-use Rattle.std.specs.Prelude.{IfSome, OnOk}
+use Rattle.std.proofs.Common.{◌⊎◌, inl, inr, nat_lt}
+use Rattle.std.specs.Prelude.{IfSome}
 use Rattle.std.specs.List.{list_all}
 use Rattle.std.proofs.lemmas.Bool.Decides.{nat_tests}
 use Rattle.cat_value.proofs.Exported.{found}
@@ -16,10 +16,6 @@ use Rattle.cat_guard.specs.GuardFormulas.{formula_of}
 use Rattle.cat_guard.specs.Soundness.{are_below, def_is_sound, target_is_sound, is_sound}
 use Rattle.cat_guard.proofs.Exported.{both_true, targets_sound, sound_parts}
 use Rattle.cat_guard.specs.Judgements.{asked_in, atoms_in}
-
-pub on_ok : {A E : Type 0} {P Q : Type 0} (r : Result A E) → OnOk r P → (P → Q) → OnOk r Q
-on_ok (Ok a) p go = go p
-on_ok (Err e) p go = tt
 
 pub atom_at : (atoms : List Atom) (a : ℕ) → a < length atoms → (atom : Atom) × (slice_get atoms a ≡ Some atom)
 atom_at atoms a within = found atoms a within
@@ -83,15 +79,3 @@ asked_below terms atoms targets sound n t is a among =
 pub some_target : {P : TableTarget → Type 0} (o : Option TableTarget) → ((t : TableTarget) → P t) → IfSome o P
 some_target None all = tt
 some_target (Some t) all = all t
-
--- two facts of a target
-pub both_some : {A : Type 0} (P Q : A → Type 0) (o : Option A) → IfSome o P → IfSome o Q → IfSome o (λ a. P a × Q a)
-both_some P Q None p q = tt
-both_some P Q (Some a) p q = (p, q)
-
--- a fact of a target, of what a call leaves
-pub on_ok_some : {A E B : Type 0} (P Q : B → Type 0) (r : Result A E) (o : Option B) → IfSome o P
-    → ((b : B) → P b → OnOk r (Q b)) → OnOk r (IfSome o Q)
-on_ok_some P Q (Ok a) None p go = tt
-on_ok_some P Q (Ok a) (Some b) p go = go b p
-on_ok_some P Q (Err e) o p go = tt

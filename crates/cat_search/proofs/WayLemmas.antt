@@ -1,21 +1,20 @@
 -- The way down: what is admitted at its end, what is decided there, and that it answers no atom twice.
-use Rattle.std.proofs.Common.{◌≡◌, inl, inr, ℕ, zero, suc, ◌<◌, ◌≤◌, Bool, true, false, ◌||◌, IsTrue, List, [], ◌∷◌}
+use Rattle.std.proofs.Common.{◌≡◌, inl, inr, ℕ, suc, ◌<◌, ◌≤◌, Bool, true, false, ◌||◌, IsTrue, List, [], ◌∷◌}
 use Rattle.std.proofs.Common.{length, Option, Some, None, slice_get, refl, sym, ap, ◌∙◌, subst, true≢false, arith}
 use Rattle.std.proofs.Math.Bool.{beq}
 use Rattle.std.proofs.Math.Dec.{eqb}
 use Rattle.std.proofs.Math.Logic.{∥∥₁_elim}
 use Rattle.std.proofs.Props.{props}
-use Rattle.std.specs.List.{list_all, list_any, IsDistinct, AllByRecursion}
+use Rattle.std.specs.List.{list_any, IsDistinct, AllByRecursion}
 use Rattle.std.proofs.lemmas.Bool.{eqb-true}
-use Rattle.std.proofs.lemmas.List.Folds.{list_all-map}
 use Rattle.std.proofs.lemmas.Map.Steps.{length-le_from_distinct_below}
 use Rattle.std.proofs.lemmas.Option.{slice_get_within}
 use Rattle.cat_value.proofs.Exported.{list_all_at}
 use Rattle.cat_region.specs.declared.narrowing.Narrowing.{Narrowing}
 use Rattle.cat_region.specs.declared.point.Point.{Point}
 use Rattle.cat_region.specs.Points.{answer}
-use Rattle.cat_region.specs.Regions.{Constraints, Valuation, Admits, IsRegion, IsDecision, is_dim, is_cut_at}
-use Rattle.cat_region.specs.Regions.{is_cut_of as is_dim_cut, with_narrowing, agrees, IsInhabited}
+use Rattle.cat_region.specs.Regions.{Constraints, Valuation, Admits, IsRegion, IsDecision, is_cut_at}
+use Rattle.cat_region.specs.Regions.{with_narrowing, agrees, IsInhabited}
 use Rattle.cat_region.specs.Decided.{decided_at}
 use Rattle.cat_region.proofs.Exported.{IsDecision-decided_at, IsRegion-with_narrowing, Admits-with_narrowing}
 use Rattle.cat_region.proofs.Exported.{decided_at-narrowed}
@@ -23,34 +22,11 @@ use Rattle.cat_guard.specs.declared.table.Term.{Term}
 use Rattle.cat_guard.specs.declared.table.Atom.{Atom}
 use Rattle.cat_guard.specs.declared.table.TableTarget.{TableTarget}
 use Rattle.cat_guard.specs.Judged.{atom_decided, answers_in}
-use Rattle.cat_guard.specs.Soundness.{is_cut_of, term_is_sound, atom_is_sound, target_is_sound, is_sound}
+use Rattle.cat_guard.specs.Soundness.{atom_is_sound, is_sound}
 use Rattle.cat_guard.specs.Valuations.{dims_of}
-use Rattle.cat_guard.proofs.Exported.{both_true}
+use Rattle.cat_guard.proofs.Exported.{cut_of_term, sound_dims, sound_atoms}
 use Rattle.cat_search.specs.inside.Sides.{along}
 use Rattle.cat_search.specs.inside.Underway.{IsAsked, AreAsked}
-
--- ---- the atoms of a table are cuts of its terms
-
-cut_of_term : (terms : List Term) (i : ℕ) (atom : Atom) → IsTrue (is_cut_of (slice_get terms i) atom)
-    → IsTrue (is_dim_cut (slice_get (dims_of terms) i) atom.cut)
-cut_of_term [] i atom h = absurd (true≢false (sym h))
-cut_of_term (t ∷ ts) zero atom h = h
-cut_of_term (t ∷ ts) (suc i) atom h = cut_of_term ts i atom h
-
-sound_dims : (terms : List Term) (atoms : List Atom) (targets : List TableTarget)
-    → IsTrue (is_sound terms atoms targets) → IsTrue (list_all is_dim (dims_of terms))
-unfolding is_sound
-sound_dims terms atoms targets h =
-    list_all-map is_dim (λ (term : Term). term.dim) terms
-    ∙ (both_true (list_all term_is_sound terms) (list_all (atom_is_sound terms) atoms)
-    (both_true _ (list_all (target_is_sound (length atoms)) targets) h).0).0
-
-sound_atoms : (terms : List Term) (atoms : List Atom) (targets : List TableTarget)
-    → IsTrue (is_sound terms atoms targets) → IsTrue (list_all (atom_is_sound terms) atoms)
-unfolding is_sound
-sound_atoms terms atoms targets h =
-    (both_true _ (list_all (atom_is_sound terms) atoms)
-    (both_true _ (list_all (target_is_sound (length atoms)) targets) h).0).1
 
 -- ---- one narrowing
 

@@ -1,55 +1,14 @@
 // The atoms that a target asks, in an order in which those that a region leaves open stand together.
-ghost use Rattle.std.specs.Prelude.{◌≡◌, ◌≤◌, ◌<◌, ◌^◌, ◌++◌, All, IfOk, OnOk, IfSome, length, slice_get, unsigned_abs};
+ghost use Rattle.std.specs.Prelude.{◌≤◌, ◌<◌, ◌^◌, All, IfOk, IfSome, length, slice_get, unsigned_abs};
 ghost use Rattle.cat_num.specs.Whole.{Fits};
 ghost use Rattle.cat_scope.specs.Names.{IsOneOf};
-ghost use Rattle.cat_guard.specs.Formulas.{asked};
-ghost use Rattle.cat_guard.specs.GuardFormulas.{formula_of};
-ghost use Rattle.cat_guard.specs.Judgements.{asked_in, atoms_in};
+ghost use Rattle.cat_guard.specs.Judgements.{atoms_in};
 
 use cat_date::number;
-use cat_guard::{Atom, Guard, GuardDef, Table};
+use cat_guard::{Atom, Table, asked_atoms};
 use cat_pos::List;
 use cat_region::{Cut, Scalar};
 use std::alloc::{AllocError, Global};
-
-/// Adds the atoms that a guard asks.
-fn add_asked(guard: &Guard, atoms: &mut List<usize>) -> Result<(), AllocError>
-    ensures { OnOk result (atoms.new ≡ atoms.old ++ asked (formula_of guard.now)) }
-{
-    match guard {
-        Guard::Constant(_) => Ok(()),
-        Guard::Atom(number) => atoms.push(*number),
-        Guard::Not(of) => add_asked(of.get(), atoms),
-        Guard::Both(left, right) => {
-            add_asked(left.get(), atoms)?;
-            add_asked(right.get(), atoms)
-        }
-        Guard::Either(left, right) => {
-            add_asked(left.get(), atoms)?;
-            add_asked(right.get(), atoms)
-        }
-        Guard::Differ(left, right) => {
-            add_asked(left.get(), atoms)?;
-            add_asked(right.get(), atoms)
-        }
-        Guard::Choice(test, first, second) => {
-            add_asked(test.get(), atoms)?;
-            add_asked(first.get(), atoms)?;
-            add_asked(second.get(), atoms)
-        }
-    }
-}
-
-/// The atoms that definitions ask.
-fn asked_atoms(alloc: Global, defs: &[GuardDef]) -> Result<List<usize>, AllocError>
-    ensures { IfOk result (λ atoms. atoms ≡ asked_in defs.now) }
-{
-    let mut atoms = List::new(alloc);
-    for def in defs {
-        add_asked(&def.guard, &mut atoms)?;
-    }
-    Ok(atoms)
-}
 
 /// The number times a factor.
 fn scaled(n: i64, factor: u64) -> i128

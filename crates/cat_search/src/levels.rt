@@ -6,8 +6,8 @@ ghost use Rattle.cat_guard.specs.declared.table.Atom.{Atom as AtomSeen};
 ghost use Rattle.cat_guard.specs.declared.table.TableTarget.{TableTarget as TargetSeen};
 ghost use Rattle.cat_search.specs.inside.Levels.{IsLiveAt, IsLiveAbove, AreLiveOn, IsWayBack, is_past};
 
-use crate::stack::Stack;
 use cat_guard::{LiveGroups, Table, all_live, live_size};
+use cat_region::Stack;
 use std::alloc::{AllocError, Global};
 
 /// What is live in a region on the way.

@@ -12,7 +12,6 @@ mod node;
 mod searched;
 mod searching;
 mod sides;
-mod stack;
 mod way;
 mod way_laws;
 

@@ -1,6 +1,6 @@
 -- A tree is closed where none of its leaves is uncovered.
-use Rattle.std.proofs.Common.{◌≡◌, ℕ, zero, suc, Bool, true, false, not, ◌&&◌, ◌||◌, IsTrue, List, [], ◌∷◌}
-use Rattle.std.proofs.Common.{length, Option, Some, None, Result, Ok, Err, slice_get, IfOk, IfSome, refl, sym, ◌∙◌}
+use Rattle.std.proofs.Common.{◌≡◌, ℕ, zero, suc, Bool, true, false, not, ◌||◌, IsTrue, List, [], ◌∷◌}
+use Rattle.std.proofs.Common.{Option, Some, None, Result, Ok, Err, slice_get, IfOk, IfSome, refl, sym, ◌∙◌}
 use Rattle.std.proofs.Common.{subst}
 use Rattle.std.proofs.Common.{true≢false}
 use Rattle.std.proofs.lemmas.List.Folds.{list_any-append}
@@ -9,7 +9,6 @@ use Rattle.std.specs.List.{list_any, list_all}
 use Rattle.cat_value.proofs.Exported.{list_all_at}
 use Rattle.cat_region.specs.declared.dim.Dim.{Dim}
 use Rattle.cat_region.specs.Regions.{Constraints, IsRegion, is_cut_at}
-use Rattle.cat_region.specs.Regions.{is_cut_of as is_dim_cut}
 use Rattle.cat_region.specs.Decided.{admits_none}
 use Rattle.cat_region.proofs.Exported.{IsRegion-with_narrowing, IsEmpty-of_admits_none}
 use Rattle.cat_scope.specs.Names.{AllHave}
@@ -18,31 +17,17 @@ use Rattle.cat_guard.specs.declared.table.Atom.{Atom}
 use Rattle.cat_guard.specs.declared.table.TableTarget.{TableTarget}
 use Rattle.cat_guard.specs.declared.tree.CitedTree.{CitedTree}
 use Rattle.cat_guard.specs.Judged.{judged_in, covers}
-use Rattle.cat_guard.specs.Soundness.{is_cut_of, atom_is_sound, target_is_sound, term_is_sound, is_sound}
+use Rattle.cat_guard.specs.Soundness.{atom_is_sound, is_sound}
 use Rattle.cat_guard.specs.Trees.{Tree, Closed, is_whole, with_answer, answering, IsCitedClosed, expanded}
 use Rattle.cat_guard.specs.Trees as tree
 use Rattle.cat_guard.specs.Valuations.{dims_of}
-use Rattle.cat_guard.proofs.Exported.{both_true, all_more}
+use Rattle.cat_guard.proofs.Exported.{both_true, all_more, cut_of_term, sound_atoms}
 use Rattle.cat_walk.specs.declared.refusal.WalkRefusal.{WalkRefusal}
 use Rattle.cat_walk.specs.Coverage.{is_uncovered, leaf_regions, AnswersOf, IsWalked}
 use Rattle.cat_walk.specs.LeafPlaces.{leaf_places}
 use Rattle.cat_walk.proofs.WholeLemmas.{expanded_whole}
 
 -- ---- narrowing by an atom of a table leaves a region
-
-cut_of_term : (terms : List Term) (i : ℕ) (atom : Atom) → is_cut_of (slice_get terms i) atom ≡ true
-    → is_dim_cut (slice_get (dims_of terms) i) atom.cut ≡ true
-cut_of_term [] i atom h = absurd (true≢false (sym h))
-cut_of_term (t ∷ ts) zero atom h = h
-cut_of_term (t ∷ ts) (suc i) atom h = cut_of_term ts i atom h
-
-pub sound_atoms : (terms : List Term) (atoms : List Atom) (targets : List TableTarget)
-    → IsTrue (is_sound terms atoms targets) → IsTrue (list_all (atom_is_sound terms) atoms)
-unfolding is_sound
-sound_atoms terms atoms targets h =
-    (both_true (list_all term_is_sound terms) (list_all (atom_is_sound terms) atoms)
-    (both_true (list_all term_is_sound terms && list_all (atom_is_sound terms) atoms)
-    (list_all (target_is_sound (length atoms)) targets) h).0).1
 
 -- the atoms of a table are cuts of its terms
 pub atom_cut : (terms : List Term) (atoms : List Atom) (targets : List TableTarget)

@@ -1,13 +1,13 @@
 -- What is live on the way down, and what of it is still so after the way back.
 use Rattle.std.proofs.Common.{◌≡◌, ℕ, suc, ◌+◌, ◌≤◌, ◌<◌, nat_le, ◌-◌, Bool, true, false, IsTrue, List, []}
-use Rattle.std.proofs.Common.{if◌then◌else◌, ◌∷◌, ◌++◌, length, take, Option, Some, None, Result, Ok, Err, slice_get}
+use Rattle.std.proofs.Common.{if◌then◌else◌, ◌∷◌, ◌++◌, length, take, Option, Some, None, slice_get}
 use Rattle.std.proofs.Common.{refl, sym, ap, ◌∙◌, subst, arith, length-append}
 use Rattle.std.proofs.Math.Logic.{∥∥₁_elim}
 use Rattle.std.proofs.Props.{props}
 use Rattle.std.proofs.lemmas.Bool.Decides.{nat_tests}
 use Rattle.std.proofs.lemmas.List.Folds.{list_all-append}
 use Rattle.std.proofs.lemmas.Bool.{and_parts}
-use Rattle.std.specs.Prelude.{MatchOption, IfSome, OnOk}
+use Rattle.std.specs.Prelude.{MatchOption, IfSome}
 use Rattle.std.specs.List.{list_all}
 use Rattle.cat_region.specs.declared.dim.Dim.{Dim}
 use Rattle.cat_region.specs.declared.narrowing.Narrowing.{Narrowing}
@@ -20,7 +20,7 @@ use Rattle.cat_guard.specs.declared.table.TableTarget.{TableTarget}
 use Rattle.cat_guard.specs.Judged.{answers_in}
 use Rattle.cat_guard.specs.Trees.{with_answer, answering}
 use Rattle.cat_guard.specs.Valuations.{dims_of}
-use Rattle.cat_guard.proofs.Exported.{both_true}
+use Rattle.cat_guard.proofs.Exported.{both_true, KeepsLive}
 use Rattle.cat_guard.specs.declared.live.LiveGroup.{LiveGroup}
 use Rattle.cat_guard.specs.Live.{IsLiveOf}
 use Rattle.cat_walk.specs.declared.levels.Level.{Level}
@@ -32,24 +32,9 @@ use Rattle.cat_walk.proofs.WalkLemmas.{answers_alike, along_dims}
 
 -- ---- facts of a target
 
-pub on_ok : {A E : Type 0} {P Q : Type 0} (r : Result A E) → OnOk r P → (P → Q) → OnOk r Q
-on_ok (Ok a) p go = go p
-on_ok (Err e) p go = tt
-
 pub if_some : {A : Type 0} {P Q : A → Type 0} (o : Option A) → IfSome o P → ((t : A) → P t → Q t) → IfSome o Q
 if_some None p go = tt
 if_some (Some t) p go = go t p
-
-pub both_some : {A : Type 0} (P Q : A → Type 0) (o : Option A) → IfSome o P → IfSome o Q → IfSome o (λ a. P a × Q a)
-both_some P Q None p q = tt
-both_some P Q (Some a) p q = (p, q)
-
--- a fact of a target, of what a call leaves
-pub on_ok_some : {A E B : Type 0} (P Q : B → Type 0) (r : Result A E) (o : Option B) → IfSome o P
-    → ((b : B) → P b → OnOk r (Q b)) → OnOk r (IfSome o Q)
-on_ok_some P Q (Ok a) None p go = tt
-on_ok_some P Q (Ok a) (Some b) p go = go b p
-on_ok_some P Q (Err e) o p go = tt
 
 -- ---- paths
 
@@ -255,19 +240,10 @@ module _ (atoms : List Atom) (t : TableTarget) where
       narrowings ∙ ap (λ o. (with_answer region o true).narrowings) one.is in
       record { whole = are.whole; levels = further region after n levels.levels dims made room are.levels }
 
-pub pop_fewer : (old new : List Level) (r : Option Level)
-    → MatchOption r ((old ≡ []) × (new ≡ [])) (λ top. old ≡ top ∷ new) → length new ≡ length old - 1
-pop_fewer old new None is = ap length is.1 ∙ sym (ap (λ ls. length ls - 1) is.0)
-pop_fewer old new (Some l) is = let long = ap length is in omega (arith, long)
-
 -- whether the last level is past
 pub past_top : (room : ℕ) (ls : List Level) (l : Level) → slice_get ls 0 ≡ Some l → nat_le l.room room ≡ is_past room ls
 past_top room [] l at = absurd (cc)
 past_top room (m ∷ ms) l at = let same : l ≡ m = cc in ap (λ k. nat_le k.room room) same
-
-pub top_some : (ls : List Level) (l : Level) → slice_get ls 0 ≡ Some l → 0 < length ls
-top_some [] l at = absurd (cc)
-top_some (m ∷ ms) l at = omega arith
 
 -- ---- down to a region
 
@@ -304,13 +280,6 @@ region_before region n is =
 pub some_before : (region : Constraints) (n : Narrowing) → IsInhabited (with_narrowing region n) → IsInhabited region
 some_before region n some = ∥∥₁_elim some (hlevel props) (λ found.
     ∣ (found.0, ((Admits-with_narrowing region n found.0).0 found.1).0) ∣₁)
-
--- a narrowing keeps what is live
-abbrev pub KeepsLive : List Term → List Atom → Type 0
-KeepsLive terms atoms = (t : TableTarget) (region : Constraints) (n : Narrowing) (live : List LiveGroup)
-    → IsRegion region → region.dims ≡ dims_of terms → IsTrue (is_cut_at region.dims n.dim n.cut)
-    → IsInhabited (with_narrowing region n) → IsLiveOf t (answers_in atoms region) live
-    → IsLiveOf t (answers_in atoms (with_narrowing region n)) live
 
 module _ (terms : List Term) (atoms : List Atom) (keeps : KeepsLive terms atoms) (t : TableTarget) where
   live_along : (above : Constraints) (path : List Narrowing) (live : List LiveGroup) → IsRegion (along above path)

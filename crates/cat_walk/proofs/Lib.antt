@@ -3,7 +3,6 @@ pub mod MeetingLemmas
 pub mod StandLemmas
 pub mod SideLemmas
 pub mod WalkLemmas
-pub mod StackLemmas
 pub mod LevelLemmas
 pub mod ClosedLaws
 pub mod SkipLemmas

@@ -9,8 +9,8 @@ ghost use Rattle.cat_guard.specs.Live.{IsLiveOf};
 ghost use Rattle.cat_walk.specs.inside.Levels.{IsLiveAbove, AreLiveTo, is_past};
 ghost use Rattle.cat_walk.specs.inside.Sides.{IsAt, Turns};
 
-use crate::stack::Stack;
 use cat_guard::{LiveGroups, Table, all_live, live_size};
+use cat_region::Stack;
 use std::alloc::{AllocError, Global};
 
 /// What is live in a region on the way.

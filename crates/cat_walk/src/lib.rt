@@ -12,10 +12,8 @@ mod place;
 mod refusal;
 mod sharing;
 mod sharing_laws;
-mod sharing_stack;
 mod sides;
 mod size;
-mod stack;
 mod walking;
 mod writing;
 

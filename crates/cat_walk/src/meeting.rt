@@ -5,8 +5,8 @@ ghost use Rattle.cat_walk.specs.LeafPlaces.{lists_of, node_at};
 ghost use Rattle.cat_walk.specs.inside.Meetings.{are_earlier, start_of, met_in_list, to_come, Meets, IsWritten};
 
 use crate::place::NodePlace;
-use crate::stack::Stack;
 use cat_guard::{CitedNode, CitedTree};
+use cat_region::Stack;
 use std::alloc::{AllocError, Global};
 
 /// What a walk comes to: a split on the atom of that number, a leaf, a citation of the named tree of that number, which

@@ -6,8 +6,8 @@ ghost use Rattle.cat_walk.specs.inside.Classes.{AreClasses, HasRoom};
 ghost use Rattle.cat_walk.specs.inside.Numbering.{Arrives, Closes, IsDone, IsNumbered};
 
 use crate::classes::{Classes, LEAF};
-use crate::sharing_stack::Stack;
 use cat_guard::TreeNode;
+use cat_region::Stack;
 use std::alloc::{AllocError, Global};
 
 /// A split one of whose sides is still to be met: its atom, and the class of its true side where that was met.

@@ -4,9 +4,9 @@ ghost use Rattle.cat_guard.specs.Trees.{Tree, expanded, cited_tree_of};
 ghost use Rattle.cat_walk.specs.Sizes.{size_of, is_there};
 ghost use Rattle.cat_walk.specs.inside.Sizing.{split_size, Sizable, Sizes, HasSizes};
 
-use crate::stack::Stack;
 use cat_guard::{CitedNode, CitedTree};
 use cat_pos::List;
+use cat_region::Stack;
 use std::alloc::{AllocError, Global};
 
 /// One more than the most leaves that a tree may have.

@@ -8,9 +8,9 @@ ghost use Rattle.cat_walk.specs.inside.Classes.{class_in};
 ghost use Rattle.cat_walk.specs.inside.Writing.{numbers_from, picked, CanWrite, Knows, Writes};
 
 use crate::classes::{Classes, LEAF};
-use crate::sharing_stack::Stack;
 use cat_guard::{CitedNames, CitedNode, CitedNodes};
 use cat_pos::List;
+use cat_region::Stack;
 use std::alloc::{AllocError, Global};
 
 /// The number where a flag is set.

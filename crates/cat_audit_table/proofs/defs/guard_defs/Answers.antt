@@ -1,7 +1,7 @@
 use Rattle.std.proofs.Common.{◌≡◌, ℕ, length, get_or, rules}
 use Rattle.std.proofs.lemmas.List.{get_or_default}
+use Rattle.cat_region.proofs.Exported.{lt_is}
 use Rattle.cat_guard.proofs.Exported.{entry}
-use Rattle.cat_audit_table.proofs.Numbers.{lt_is}
 use Rattle.cat_audit_table.proofs.Steps.{one_def_more}
 use Rattle.cat_audit_table.proofs.defs.guard_defs.Goals as goal
 

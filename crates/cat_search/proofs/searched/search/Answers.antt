@@ -12,9 +12,10 @@ use Rattle.cat_search.specs.inside.Underway.{IsUnderway, IsTurned, IsComplete}
 use Rattle.cat_search.specs.inside.ToCome.{in_front, leaf_nodes, rest_nodes}
 use Rattle.cat_search.proofs.TreeLemmas.{is_tree_of, leaves_made, rests_made, whole_of, part_of}
 use Rattle.cat_guard.specs.Valuations.{dims_of}
+use Rattle.cat_guard.proofs.Exported.{both_some}
 use Rattle.cat_search.specs.inside.Levels.{AreLiveOn}
 use Rattle.cat_search.proofs.LevelLemmas.{depth_is}
-use Rattle.cat_search.proofs.TargetLemmas.{both_some, if_some, target_at}
+use Rattle.cat_search.proofs.TargetLemmas.{if_some, target_at}
 use Rattle.cat_search.proofs.UnderwayLemmas.{begins, complete_is_tree, complete_found}
 use Rattle.cat_search.proofs.TargetLemmas.{all_at, some_target}
 use Rattle.cat_search.proofs.UnderwayLemmas.{nothing_begins}

@@ -1,7 +1,7 @@
 use Rattle.std.proofs.Common.{ap, ◌∙◌}
+use Rattle.cat_guard.proofs.Exported.{on_ok}
 use Rattle.cat_walk.specs.LeafPlaces.{lists_of}
 use Rattle.cat_walk.specs.inside.Meetings.{to_come}
-use Rattle.cat_walk.proofs.LevelLemmas.{on_ok}
 use Rattle.cat_walk.proofs.MeetingLemmas.{comes_in}
 use Rattle.cat_walk.proofs.meeting.enter.Goals as goal
 

@@ -1,8 +1,9 @@
 use Rattle.std.proofs.Common.{sym, slice_get, rules}
 use Rattle.cat_guard.specs.Live.{IsLiveOf}
 use Rattle.cat_guard.specs.Judged.{answers_in}
+use Rattle.cat_guard.proofs.Exported.{both_some, on_ok_some}
 use Rattle.cat_walk.specs.inside.Levels.{AreLiveTo}
-use Rattle.cat_walk.proofs.LevelLemmas.{if_some, both_some, on_ok_some, live_here}
+use Rattle.cat_walk.proofs.LevelLemmas.{if_some, live_here}
 use Rattle.cat_walk.proofs.walking.keep_live.Goals as goal
 
 pub still_live-requires-clause-live : goal.still_live-requires-clause-live

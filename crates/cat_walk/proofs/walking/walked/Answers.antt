@@ -2,10 +2,10 @@ use Rattle.std.proofs.Common.{◌≡◌, ◌∷◌, ◌++◌, ◌<◌, ◌∙◌
 use Rattle.cat_walk.specs.declared.meeting.Met.{Met}
 use Rattle.cat_walk.specs.declared.meeting.Met.TheVariants as met
 use Rattle.cat_guard.specs.Trees.{expanded}
+use Rattle.cat_guard.proofs.Exported.{sound_atoms}
 use Rattle.cat_walk.specs.LeafPlaces.{lists_of, leaf_places}
 use Rattle.cat_walk.specs.inside.Meetings.{met_in_list, to_come}
 use Rattle.cat_walk.specs.inside.Sides.{Turns}
-use Rattle.cat_walk.proofs.ClosedLaws.{sound_atoms}
 use Rattle.cat_walk.proofs.LevelLemmas.{if_some, live_split}
 use Rattle.cat_walk.proofs.SkipLemmas.{named_passed}
 use Rattle.cat_walk.proofs.WalkLemmas.{ToldOf, GoesOn, walkable_earlier, walkable_makes, tree_begins, flag_is, told_of}

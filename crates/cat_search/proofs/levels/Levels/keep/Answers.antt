@@ -1,6 +1,6 @@
 use Rattle.std.proofs.Common.{sym, subst}
+use Rattle.cat_guard.proofs.Exported.{on_ok}
 use Rattle.cat_search.specs.inside.Levels.{AreLevels}
-use Rattle.cat_search.proofs.TargetLemmas.{on_ok}
 use Rattle.cat_search.proofs.LevelLemmas.{put_on}
 use Rattle.cat_search.proofs.levels.Levels.keep.Goals as goal
 

@@ -2,10 +2,10 @@ use Rattle.std.proofs.Common.{true, slice_get, arith}
 use Rattle.cat_guard.specs.Valuations.{dims_of}
 use Rattle.cat_guard.specs.Judged.{answers_in}
 use Rattle.cat_guard.specs.Live.{IsLiveOf}
+use Rattle.cat_guard.proofs.Exported.{both_some, on_ok_some}
 use Rattle.cat_search.specs.inside.Levels.{AreLiveOn}
 use Rattle.cat_search.specs.inside.Underway.{IsUnderway}
 use Rattle.cat_search.proofs.LevelLemmas.{depth_is, live_at}
-use Rattle.cat_search.proofs.TargetLemmas.{both_some, on_ok_some}
 use Rattle.cat_search.proofs.searching.Searching.keep.Goals as goal
 
 pub returns : goal.returns

@@ -1,10 +1,10 @@
 use Rattle.std.proofs.Common.{◌++◌, ◌∙◌, ap, arith, rules}
 use Rattle.cat_guard.specs.declared.tree.TreeNode.TheVariants as node
+use Rattle.cat_guard.proofs.Exported.{on_ok}
 use Rattle.cat_search.specs.inside.ToCome.{leaf_nodes, rest_nodes}
 use Rattle.cat_search.specs.inside.Underway.{bad_one}
 use Rattle.cat_search.proofs.TreeLemmas.{leaf_more, rest_more}
 use Rattle.cat_search.proofs.UnderwayLemmas.{leaf_step}
-use Rattle.cat_search.proofs.TargetLemmas.{on_ok}
 use Rattle.cat_search.proofs.searching.Searching.leaf.Goals as goal
 
 pub returns-clause-underway : goal.returns-clause-underway

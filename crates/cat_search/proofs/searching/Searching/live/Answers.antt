@@ -2,8 +2,9 @@ use Rattle.std.proofs.Common.{true, slice_get, rules}
 use Rattle.cat_search.specs.inside.Levels.{AreLiveOn}
 use Rattle.cat_search.specs.inside.Underway.{IsUnderway}
 use Rattle.cat_guard.specs.Valuations.{dims_of}
+use Rattle.cat_guard.proofs.Exported.{both_some}
 use Rattle.cat_search.proofs.LevelLemmas.{live_here}
-use Rattle.cat_search.proofs.TargetLemmas.{both_some, if_some, target_at}
+use Rattle.cat_search.proofs.TargetLemmas.{if_some, target_at}
 use Rattle.cat_search.proofs.searching.Searching.live.Goals as goal
 
 pub still_live-requires-clause-dims : goal.still_live-requires-clause-dims

@@ -3,9 +3,10 @@ use Rattle.cat_guard.specs.Valuations.{dims_of}
 use Rattle.cat_search.specs.inside.Levels.{AreLiveOn}
 use Rattle.cat_search.proofs.LevelLemmas.{live_split}
 use Rattle.std.specs.Prelude.{true, IfSome}
+use Rattle.cat_guard.proofs.Exported.{on_ok, both_some}
 use Rattle.cat_search.specs.Searched.{IsSplit}
 use Rattle.cat_search.specs.inside.Underway.{IsUnderway}
-use Rattle.cat_search.proofs.TargetLemmas.{on_ok, both_some, if_some, target_at, asked_below, atom_at}
+use Rattle.cat_search.proofs.TargetLemmas.{if_some, target_at, asked_below, atom_at}
 use Rattle.cat_search.proofs.UnderwayLemmas.{room_within, split_room}
 use Rattle.cat_search.proofs.searching.Searching.to_leaf.Goals as goal
 

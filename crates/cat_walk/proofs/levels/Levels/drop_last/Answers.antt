@@ -1,4 +1,5 @@
-use Rattle.cat_walk.proofs.LevelLemmas.{pop_keeps, pop_fewer}
+use Rattle.cat_region.proofs.Exported.{pop_fewer}
+use Rattle.cat_walk.proofs.LevelLemmas.{pop_keeps}
 use Rattle.cat_walk.proofs.levels.Levels.drop_last.Goals as goal
 
 pub returns-clause-kept : goal.returns-clause-kept

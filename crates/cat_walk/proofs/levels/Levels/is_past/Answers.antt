@@ -1,5 +1,6 @@
 use Rattle.std.proofs.Common.{◌≡◌, Some, slice_get, rules}
-use Rattle.cat_walk.proofs.LevelLemmas.{past_top, top_some}
+use Rattle.cat_region.proofs.Exported.{top_some}
+use Rattle.cat_walk.proofs.LevelLemmas.{past_top}
 use Rattle.cat_walk.proofs.levels.Levels.is_past.Goals as goal
 
 pub returns-in-Some-clause-past : goal.returns-in-Some-clause-past

@@ -1,6 +1,7 @@
 use Rattle.std.proofs.Common.{sym, subst}
+use Rattle.cat_guard.proofs.Exported.{on_ok}
 use Rattle.cat_walk.specs.inside.Levels.{AreLevels}
-use Rattle.cat_walk.proofs.LevelLemmas.{on_ok, put_on}
+use Rattle.cat_walk.proofs.LevelLemmas.{put_on}
 use Rattle.cat_walk.proofs.levels.Levels.keep.Goals as goal
 
 pub returns : goal.returns

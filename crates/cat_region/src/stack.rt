@@ -24,7 +24,7 @@ impl<T> Model for Stack<T> {
 }
 
 impl<T: Drop> Stack<T> {
-    pub(crate) fn new(alloc: Global) -> Stack<T>
+    pub fn new(alloc: Global) -> Stack<T>
         ensures { result ≡ [] }
     {
         Stack {
@@ -32,20 +32,20 @@ impl<T: Drop> Stack<T> {
         }
     }
 
-    pub(crate) fn push(&mut self, entry: T) -> Result<(), AllocError>
+    pub fn push(&mut self, entry: T) -> Result<(), AllocError>
         ensures { OnOk result (self.new ≡ entry ∷ self.old) }
     {
         self.entries.push(entry)
     }
 
-    pub(crate) fn pop(&mut self) -> Option<T>
+    pub fn pop(&mut self) -> Option<T>
         ensures { MatchOption result ((self.old ≡ []) × (self.new ≡ [])) (λ top. self.old ≡ top ∷ self.new) }
     {
         self.entries.pop()
     }
 
     /// The last entry that was put on.
-    pub(crate) fn top(&self) -> Option<&T>
+    pub fn top(&self) -> Option<&T>
         ensures { option_copied result ≡ slice_get self.now 0 }
     {
         self.entries.as_slice().last()

@@ -1,9 +1,9 @@
 use Rattle.std.proofs.Common.{◌∙◌, ◌++◌, ap, sym}
 use Rattle.std.proofs.lemmas.List.{append-nil}
-use Rattle.cat_cert.proofs.AtomReadLemmas.{asked_by, asked_Constant, asked_Atom, asked_Not, asked_Both, asked_Either}
-use Rattle.cat_cert.proofs.AtomReadLemmas.{asked_Differ, asked_Choice, adds, adds_two, adds_three}
-use Rattle.cat_cert.proofs.ResultLemmas.{on_ok}
-use Rattle.cat_cert.proofs.asked.+add_asked.Goals as goal
+use Rattle.cat_guard.proofs.AskedLemmas.{asked_by, asked_Constant, asked_Atom, asked_Not, asked_Both, asked_Either}
+use Rattle.cat_guard.proofs.AskedLemmas.{asked_Differ, asked_Choice, adds, adds_two, adds_three}
+use Rattle.cat_guard.proofs.ResultLemmas.{on_ok}
+use Rattle.cat_guard.proofs.asked.+add_asked.Goals as goal
 
 pub returns-in-Constant : goal.returns-in-Constant
 returns-in-Constant t c =

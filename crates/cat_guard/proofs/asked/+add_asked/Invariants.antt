@@ -1,4 +1,4 @@
-use Rattle.cat_search.proofs.asked.+add_asked.Given as goal
+use Rattle.cat_guard.proofs.asked.+add_asked.Given as goal
 
 abbrev pub decreases-add_asked : goal.decreases-add_asked
 decreases-add_asked l = goal.size-add_asked l
