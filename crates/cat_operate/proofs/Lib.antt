@@ -3,3 +3,4 @@ pub mod ElementLemmas
 pub mod Ratios
 pub mod Telling
 pub mod Lower
+pub mod Counting

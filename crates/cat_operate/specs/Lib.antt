@@ -2,3 +2,4 @@ pub mod Nodes
 pub mod Falls
 pub mod Telling
 pub mod Scalars
+pub mod Parts

@@ -8,6 +8,7 @@ mod faults;
 mod lists;
 mod numbers;
 mod operating;
+mod parts;
 mod shared;
 mod values;
 
@@ -15,5 +16,6 @@ pub use elements::Elements;
 pub use failure::Failure;
 pub use lists::{contained, summed};
 pub use operating::{convert, literal_value, operate};
+pub use parts::MOST_PARTS;
 pub use shared::{PrimitiveValue, SharedValue};
 pub use values::{shared_of, value_of, values_of};

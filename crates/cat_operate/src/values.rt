@@ -1,7 +1,10 @@
 // Between values and shared ones.
-ghost use Rattle.std.specs.Prelude.{◌≡◌, IfOk};
+ghost use Rattle.std.specs.Prelude.{◌≡◌, ◌≤◌, IfOk};
+ghost use Rattle.cat_operate.specs.Parts.{parts_of_all};
+ghost use Rattle.cat_operate.specs.declared.parts.TheConstants.{MOST_PARTS};
 
 use crate::SharedValue;
+use crate::parts::have_few_parts;
 use crate::shared::Node;
 use cat_pos::{Boxed, List};
 use cat_value::{Value, Values};
@@ -60,11 +63,11 @@ pub fn value_of(alloc: Global, shared: &SharedValue) -> Result<Value, AllocError
         Node::Date(day) => Ok(Value::Date(*day)),
         Node::Duration(span) => Ok(Value::Duration(*span)),
         Node::List(elements) => {
-            let elements = values_of(alloc, elements)?;
+            let elements = all_of(alloc, elements)?;
             Ok(Value::List(elements))
         }
         Node::Structure(fields) => {
-            let fields = values_of(alloc, fields)?;
+            let fields = all_of(alloc, fields)?;
             Ok(Value::Structure(fields))
         }
         Node::Case(case, None) => Ok(Value::Case(*case, None)),
@@ -76,10 +79,9 @@ pub fn value_of(alloc: Global, shared: &SharedValue) -> Result<Value, AllocError
     }
 }
 
-/// SharedValue values, each in memory of its own.
 #[cycle(unsharing)]
 #[tactic(auto, using(crate::proofs::Lower::heights))]
-pub fn values_of(alloc: Global, shared: &List<SharedValue>) -> Result<Values, AllocError>
+fn all_of(alloc: Global, shared: &List<SharedValue>) -> Result<Values, AllocError>
     ensures { IfOk result (λ values. values ≡ shared.now) }
 {
     let mut values = List::new(alloc);
@@ -87,4 +89,16 @@ pub fn values_of(alloc: Global, shared: &List<SharedValue>) -> Result<Values, Al
         values.push(value_of(alloc, one)?)?;
     }
     Ok(values)
+}
+
+/// Shared values, each in memory of its own. Where they have too many parts, it is as if memory had run out, before any
+/// is made.
+pub fn values_of(alloc: Global, shared: &List<SharedValue>) -> Result<Values, AllocError>
+    ensures same { IfOk result (λ values. values ≡ shared.now) }
+    ensures few { IfOk result (λ values. parts_of_all values ≤ MOST_PARTS) }
+{
+    if !have_few_parts(shared) {
+        return Err(AllocError);
+    }
+    all_of(alloc, shared)
 }
