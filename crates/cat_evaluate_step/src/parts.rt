@@ -51,7 +51,7 @@ pub(crate) fn fields_next<'a>(
         return part(frames, one, &field.value);
     }
     match purpose {
-        FieldsUse::Structure => give(structured(alloc, &values)),
+        FieldsUse::Structure => give(structured(alloc, values)),
         FieldsUse::ScopeCall(scope, output) => Ok(Task::ScopeCall(scope, values, output)),
     }
 }
