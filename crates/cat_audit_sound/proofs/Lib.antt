@@ -13,6 +13,7 @@ pub mod TargetsListed
 pub mod ScopeFollows
 pub mod AuditLaws
 pub mod PartEquations
+pub mod Counting
 pub mod TypedLaws
 pub mod Examples
 pub mod PointedValues

@@ -1,24 +1,25 @@
 // The input of a region.
-ghost use Rattle.std.specs.Prelude.{◌≡◌, ◌<◌, ℕ, Some, length, slice_get, IfOk};
+ghost use Rattle.std.specs.Prelude.{◌≡◌, ◌<◌, ◌≤◌, ℕ, Some, length, slice_get, IfOk};
 ghost use Rattle.cat_pos.specs.declared.limits.TheConstants.{ENTRIES_BOUND};
 ghost use Rattle.cat_value.specs.declared.declaration.ItemDecl.{ItemDecl as Declared};
 ghost use Rattle.cat_value.specs.Inputs.{IsWellTyped};
 ghost use Rattle.cat_value.specs.Laws.{IsItem};
 ghost use Rattle.cat_region.specs.Chosen.{point_at};
 ghost use Rattle.cat_region.specs.Regions.{IsInhabited};
+ghost use Rattle.cat_scope.specs.Names.{scope_items};
 ghost use Rattle.cat_guard.specs.Valuations.{dims_of};
+ghost use Rattle.cat_audit_sound.specs.Parts.{parts_given};
+ghost use Rattle.cat_audit_sound.specs.declared.parts.TheConstants.{MOST_PARTS};
 ghost use Rattle.cat_audit_sound.specs.PointInputs.{given_for, given_from, point_from, input_at};
 ghost use Rattle.cat_audit_sound.specs.inside.TypedParts.{IsGiven, AreGiven};
 
 use crate::part::part;
+use crate::parts::have_few_parts;
 use cat_guard::{InputPath, Table, Term};
 use cat_pos::List;
 use cat_region::Region;
-use cat_value::{Decls, Input, ItemDecl, Kind, Value, declarations_are_sound};
+use cat_value::{Decls, HIGHEST, Input, ItemDecl, Kind, Value, declarations_are_sound};
 use std::alloc::{AllocError, Global};
-
-/// No declared type is higher.
-const HIGHEST: u32 = 64;
 
 /// What an item is given: a value where it must be given, and else none.
 fn given_for(
@@ -71,7 +72,8 @@ fn given(
 }
 
 /// The input of the scope of a table in which each free term has its point of the region, and all else that must be
-/// given its default. No context is given. It takes a look at each term for each part of an input.
+/// given its default. No context is given. It takes a look at each term for each part of an input, and where there would
+/// be too many parts, it is as if memory had run out, before any is made.
 pub fn input_of(
     alloc: Global,
     table: &Table,
@@ -83,10 +85,14 @@ pub fn input_of(
     requires inhabited { IsInhabited region.now }
     ensures value { IfOk result (λ input. input ≡ input_at decls.now table.now (point_at region.now)) }
     ensures typed { IfOk result (λ input. IsWellTyped decls.now table.now.scope input) }
+    ensures few { IfOk result (λ input. parts_given decls.now (scope_items decls.now table.now.scope) ≤ MOST_PARTS) }
 {
     declarations_are_sound(decls);
     let terms = table.terms.as_slice();
     let items = decls.scopes.at(table.scope as usize).items.as_slice();
+    if !have_few_parts(items, decls) {
+        return Err(AllocError);
+    }
     let input = given(alloc, decls, terms, region, items)?;
     Ok(input)
 }

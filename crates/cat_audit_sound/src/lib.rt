@@ -8,6 +8,7 @@ mod input;
 mod input_laws;
 mod leaf_laws;
 mod part;
+mod parts;
 mod place;
 mod pointed;
 
@@ -19,3 +20,4 @@ pub use leaf_laws::{
     bad_regions_of_free_terms_fail, inputs_of_valuations_are_well_typed,
     values_come_of_covered_targets,
 };
+pub use parts::MOST_PARTS;
