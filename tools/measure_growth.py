@@ -19,9 +19,8 @@ def run(text, given, reply):
     return Call(['run', 'S', 'a.md'], {'a.md': text}, json.dumps(given).encode(), reply)
 
 
-def audit(scope, text):
-    covered = b'audit %s\n%s: Covered' % (scope.encode(), b'rate' if scope == 'Bands' else b'x')
-    return Call(['audit', scope, 'a.md'], {'a.md': text}, reply=covered)
+def audit(scope, text, said):
+    return Call(['audit', scope, 'a.md'], {'a.md': text}, reply=b'audit %s\n%s' % (scope.encode(), said))
 
 
 def check(scope, text):
@@ -37,6 +36,50 @@ def grid(count):
         return ' and '.join(asked)
     return block(lines + ['  definition x under condition %s and %s consequence equals %d' % (part('a', j), part('b', k), j * side + k)
                           for j in range(side) for k in range(side)])
+
+
+def both(parts):
+    """Parts joined by `and`, half by half, since nothing nests deeper than 256."""
+    if len(parts) == 1:
+        return parts[0]
+    half = len(parts) // 2
+    return '(%s and %s)' % (both(parts[:half]), both(parts[half:]))
+
+
+def ladder(count):
+    """A definition for each of some truth values where it is the first that holds, and one where none does: so many parts in all."""
+    values = round((2 * count) ** 0.5)
+    asked = [['not b%d' % j for j in range(k)] + ['b%d' % k] * (k + 1 < values) for k in range(values)]
+    return block(['declaration scope S:', *('  input b%d content boolean' % k for k in range(values)), '  output x content integer',
+                  'scope S:', *('  definition x under condition %s consequence equals %d' % (both(parts), k)
+                                for k, parts in enumerate(asked))])
+
+
+def chains(count):
+    """Variables with a base and four exceptions, each to the one before and over a term of its own: so many definitions."""
+    variables = count // 5
+    lines = ['declaration scope S:', '  input n content integer', *('  output x%d content integer' % k for k in range(variables)), 'scope S:']
+    for k in range(variables):
+        lines.append('  label a%d_0 definition x%d equals 0' % (k, k))
+        lines += ['  label a%d_%d exception a%d_%d definition x%d under condition n * %d > 5 consequence equals %d'
+                  % (k, j, k, j - 1, k, 4 * k + j + 1, j) for j in range(1, 5)]
+    return block(lines)
+
+
+def derived_gaps(count):
+    """So many bands of what a scope computes, between each two of which a number is missing."""
+    lines = ['declaration scope Derived:', '  input n content integer', '  internal y content integer', '  output x content integer',
+             'scope Derived:', '  definition y equals n * 2']
+    return block(lines + ['  definition x under condition y >= %d and y < %d consequence equals %d' % (10 * k, 10 * k + 9, k)
+                          for k in range(count)])
+
+
+def findings(count):
+    """Variables with a gap each, whose inputs all have a value in each finding: so many values in all."""
+    side = round(count ** 0.5)
+    return block(['declaration scope S:', *('  input b%d content boolean' % k for k in range(side)),
+                  *('  output x%d content integer' % k for k in range(side)), 'scope S:',
+                  *('  definition x%d under condition b%d consequence equals 0' % (k, k) for k in range(side))])
 
 
 def shared_condition(count):
@@ -84,11 +127,16 @@ WORK = [
     ('fields of a structure literal', lambda n: run(literal(n), {'n': 1}, b'{"x":1}\n'), 64_000),
     ('keys of an input that name nothing', lambda n: run(definitions(2), unknown_keys(n), b'input refused '), 640_000),
     ('structures in a list', persons, 640_000),
-    ('an audit of bands', lambda n: audit('Bands', source(bands(n, 'in order'))), 32_000),
-    ('an audit of bands in any order', lambda n: audit('Bands', source(bands(n, 'shuffled'))), 32_000),
+    ('an audit of bands', lambda n: audit('Bands', source(bands(n, 'in order')), b'rate: Covered'), 32_000),
+    ('an audit of bands in any order', lambda n: audit('Bands', source(bands(n, 'shuffled')), b'rate: Covered'), 32_000),
     ('a check of bands', lambda n: check('Bands', source(bands(n, 'in order'))), 32_000),
-    ('an audit of a grid', lambda n: audit('S', grid(n)), 32_400),
+    ('an audit of a grid', lambda n: audit('S', grid(n), b'x: Covered'), 32_400),
     ('a check of a grid', lambda n: check('S', grid(n)), 32_400),
+    ('an audit of a ladder of truth values, by its parts', lambda n: audit('S', ladder(n), b'x: Covered'), 60_000),
+    ('an audit of chains of exceptions over terms of their own', lambda n: audit('S', chains(n), b'x0: Covered'), 16_000),
+    ('an audit of bands of a computed number with gaps',
+     lambda n: audit('Derived', derived_gaps(n), b'y: Covered\nx: Undecided derived at '), 16_000),
+    ('an audit whose findings write all inputs, by the values written', lambda n: audit('S', findings(n), b'x0: Found no value '), 640_000),
     ('a drill', lambda n: Call(['drill', str(n), 'none'], {}, reply=b'bands %d ' % n), 1_000),
 ]
 

@@ -47,7 +47,7 @@ says (Some p) input (outcome.Value outputs) fails = refl
 
 -- ---- regions of free terms
 
-position_there : (terms : List Term) (i : ℕ) → is_derived (slice_get terms i) ≡ true
+pub position_there : (terms : List Term) (i : ℕ) → is_derived (slice_get terms i) ≡ true
     → position_in terms (Some i) ≡ None → ⊥
 position_there terms i derived none = by (slice_get terms i) derived none
   where
@@ -56,7 +56,7 @@ position_there terms i derived none = by (slice_get terms i) derived none
     by (Some term) derived none = absurd (cc)
 
 -- the least of them is a derived term
-least_derived : (terms : List Term) (ns : List Narrowing) (i : ℕ) → least (derived_in terms ns) ≡ Some i
+pub least_derived : (terms : List Term) (ns : List Narrowing) (i : ℕ) → least (derived_in terms ns) ≡ Some i
     → is_derived (slice_get terms i) ≡ true
 least_derived terms [] i is = absurd (cc)
 least_derived terms (n ∷ ns) i is = by (is_derived (slice_get terms n.dim)) refl is (least_derived terms ns)

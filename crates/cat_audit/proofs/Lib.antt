@@ -9,6 +9,7 @@ pub mod CompleteLemmas
 mod CauseLemmas
 mod FindingExamples
 mod FindingLemmas
+mod HangingLemmas
 mod LeastLemmas
 mod TargetLineLemmas
 mod SearchedLemmas

@@ -21,7 +21,7 @@ use Rattle.cat_search.specs.Ways.{led_to, passed, way_from}
 use Rattle.cat_audit.specs.declared.finding.Finding.{Finding}
 use Rattle.cat_audit.specs.declared.finding.Finding.TheVariants as finding
 use Rattle.cat_audit.specs.Findings.{finding_in}
-use Rattle.cat_audit.specs.Lines.{findings, found_before, is_found, is_masked, counting}
+use Rattle.cat_audit.specs.Lines.{findings, found_before, is_found, is_masked, is_hanging, counting}
 use Rattle.cat_audit.specs.inside.Tried.{kept, region_at, IsBadAt, AreBadFrom}
 use Rattle.cat_audit.proofs.Targets.{at_some}
 
@@ -78,6 +78,22 @@ kept_some (Some b) f none = by (is_masked b || not (is_masked f)) none
     by : (c : Bool) → (if c then Some b else Some f) ≡ None → ⊥
     by true h = absurd (cc)
     by false h = absurd (cc)
+
+-- one that hangs on what a run computes counts behind no other
+kept_hanging : (best : Option Finding) (f : Finding) → (best ≡ None → ⊥) → is_hanging f ≡ true → kept best f ≡ best
+kept_hanging None f some hanging = absurd (some refl)
+kept_hanging (Some b) (finding.Found o i) some hanging = absurd (true≢false (sym hanging))
+kept_hanging (Some b) (finding.Masked k p i) some hanging = absurd (true≢false (sym hanging))
+kept_hanging (Some b) (finding.Derived p i o) some hanging = by (is_masked b)
+  where
+    by : (c : Bool) → (if c || true then Some b else Some (finding.Derived p i o)) ≡ Some b
+    by true = refl
+    by false = refl
+
+hanging_unfound : (f : Finding) → is_hanging f ≡ true → is_found f ≡ false
+hanging_unfound (finding.Found o i) hanging = absurd (true≢false (sym hanging))
+hanging_unfound (finding.Masked k p i) hanging = refl
+hanging_unfound (finding.Derived p i o) hanging = refl
 
 -- ---- the way to the next one
 
@@ -177,6 +193,14 @@ module _ (program : Program) (table : Table) (t : TableTarget) (nodes : List Tre
         sym (kept_counts best f (said (drop (i + 1) all)) unfound hidden)
         ∙ ap (λ fs. counting (as_list best ++ fs)) (sym (said_next i b all f is says)) ∙ trying.counts;
   }
+
+  pub goes_over : (at : ℕ) (best : Option Finding) (i : ℕ) (b : BadLeaf) (all : List BadLeaf) (f : Finding)
+      → slice_get all i ≡ Some b → finding_in program table t (region_at table nodes b) ≡ Some f
+      → one_found best ≡ false → (best ≡ None → ⊥) → is_hanging f ≡ true → Trying at best (drop i all) all
+      → Trying b.leaf best (drop (i + 1) all) all
+  goes_over at best i b all f is says unfound some hanging trying =
+      subst (λ o. Trying b.leaf o (drop (i + 1) all) all) (kept_hanging best f some hanging)
+      (goes_on at best i b all f is says unfound (hanging_unfound f hanging) trying)
 
   pub ends_found : (at : ℕ) (best : Option Finding) (i : ℕ) (b : BadLeaf) (all : List BadLeaf) (f : Finding)
       → slice_get all i ≡ Some b → finding_in program table t (region_at table nodes b) ≡ Some f

@@ -1,3 +1,4 @@
+pub mod Hanging
 pub mod Least
 pub mod Tried
 pub mod Underway

@@ -8,7 +8,7 @@ use cat_pos::Pos;
 use cat_region::Region;
 
 /// Whether the term of that number is derived.
-fn is_derived(terms: &[Term], number: usize) -> bool
+pub(crate) fn is_derived(terms: &[Term], number: usize) -> bool
     ensures { result ≡ is_derived (slice_get terms.now number) }
 {
     match terms.get(number) {

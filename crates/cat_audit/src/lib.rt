@@ -7,6 +7,7 @@ mod called;
 mod cause;
 mod finding;
 mod finding_laws;
+mod hanging;
 mod laws;
 mod leaf;
 mod line;

@@ -2,6 +2,7 @@
 ghost use Rattle.std.specs.Prelude.{◌≡◌, ◌<◌, IfOk, IfSome, length, slice_get};
 ghost use Rattle.cat_calc.specs.Desugared.{KeepsOutcomes};
 ghost use Rattle.cat_guard.specs.Tables.{TablesScope};
+ghost use Rattle.cat_search.specs.Searched.{roomy};
 ghost use Rattle.cat_audit.specs.Causes.{HasCause};
 ghost use Rattle.cat_audit.specs.Lines.{IsLineOf, line_by, tree_in};
 ghost use Rattle.cat_audit.specs.inside.Tried.{leaves_bad, line_or};
@@ -12,10 +13,10 @@ use crate::tried::tried;
 use cat_audit_sound::inputs_of_valuations_are_well_typed;
 use cat_calc::Calc;
 use cat_guard::{Table, TreeNode};
-use cat_region::points_are_admitted;
+use cat_region::{Region, points_are_admitted};
 use cat_scope::Program;
 use cat_search::{
-    BadLeaf, Search, leaves_are_where_their_ways_lead, search,
+    BadLeaf, Search, leaves_are_where_their_ways_lead, search_in,
     searched_trees_ask_atoms_of_the_table,
 };
 use std::alloc::{AllocError, Global};
@@ -68,7 +69,7 @@ fn line_by(found: Option<Finding>, search: Search) -> TargetLine
 }
 
 /// Searches for the leaves of a target, of which it makes at most `budget`, and runs the scope on the input of each
-/// that isn't covered, up to the first whose run shows a conflict or a gap.
+/// that isn't covered, up to the first whose run shows a conflict or a gap. It gives the region back that it began in.
 pub fn target_line(
     alloc: Global,
     program: &Program,
@@ -76,25 +77,28 @@ pub fn target_line(
     table: &Table,
     target: u32,
     budget: u64,
-) -> Result<TargetLine, AllocError>
+    whole: Region,
+) -> Result<(TargetLine, Region), AllocError>
     requires tabled { TablesScope program.now table.now.scope table.now }
     requires declared { calc.now.decls ≡ program.now.decls }
     requires outcomes { KeepsOutcomes program.now calc.now }
     requires target { target < length table.now.targets }
     requires budget { 0 < budget }
+    requires whole { whole ≡ roomy table.now.terms table.now.atoms }
     ensures line { IfSome (slice_get table.now.targets target)
-        (λ t. IfOk result (IsLineOf program.now table.now t budget)) }
+        (λ t. IfOk result (λ made. IsLineOf program.now table.now t budget made.0)) }
     ensures cause { IfSome (slice_get table.now.targets target)
-        (λ t. IfOk result (λ made. HasCause program.now table.now t budget made.tree.nodes made.line)) }
+        (λ t. IfOk result (λ made. HasCause program.now table.now t budget made.0.tree.nodes made.0.line)) }
+    ensures back { IfOk result (λ made. made.1 ≡ whole) }
 {
     tables_admit_something(program);
     inputs_of_valuations_are_well_typed(program);
     points_are_admitted();
     leaves_are_where_their_ways_lead();
     searched_trees_ask_atoms_of_the_table(table);
-    let search = search(alloc, table, target, budget)?;
+    let (search, whole) = search_in(alloc, table, target, budget, whole)?;
     let nodes = nodes_of(&search);
     let bad = bad_of(&search);
     let found = tried(alloc, program, calc, table, target, nodes, bad)?;
-    Ok(line_by(found, search))
+    Ok((line_by(found, search), whole))
 }

@@ -9,7 +9,7 @@ use crate::called::called_lines;
 use crate::report::{CalledLine, CaseTrees, NamedLine, NamedLines, Section, Verdict};
 use crate::{Finding, Line, TargetLine, target_line};
 use cat_calc::Calc;
-use cat_guard::Table;
+use cat_guard::{Table, whole_region};
 use cat_pos::List;
 use cat_scope::Program;
 use std::alloc::{AllocError, Global};
@@ -84,11 +84,13 @@ fn target_lines(
     ensures { IfOk result (HasLines program.now table.now budget trees.old trees.new) }
 {
     let mut lines = List::new(alloc);
+    let mut whole = whole_region(alloc, table, table.atoms.len())?;
     for (number, target) in table.targets.as_slice().iter().enumerate() {
         let Ok(number) = u32::try_from(number) else {
             return Err(AllocError);
         };
-        let made = target_line(alloc, program, calc, table, number, budget)?;
+        let (made, back) = target_line(alloc, program, calc, table, number, budget, whole)?;
+        whole = back;
         let TargetLine { line, tree } = made;
         let name = target.name.copy()?;
         lines.push(NamedLine { name, line })?;

@@ -9,6 +9,7 @@ ghost use Rattle.cat_audit.specs.Lines.{is_found, is_masked, findings, counting}
 ghost use Rattle.cat_audit.specs.inside.Tried.{kept, region_at, AreBadFrom};
 
 use crate::finding::Finding;
+use crate::hanging::hang_alone;
 use crate::leaf::finding_in;
 use cat_calc::Calc;
 use cat_guard::{Table, TreeNode};
@@ -52,7 +53,7 @@ fn go_to(way: &mut Way, nodes: &[TreeNode], from: usize, to: usize) -> Result<()
 }
 
 /// The finding that counts of those of the bad leaves of a tree, which it goes through once. It ends at the first one
-/// that is Found.
+/// that is Found. Of the leaves that hang on what a run computes alone, which all have one input, it runs the first.
 pub(crate) fn tried(
     alloc: Global,
     program: &Program,
@@ -75,9 +76,15 @@ pub(crate) fn tried(
     let mut way = Way::new(alloc);
     let mut at = 0;
     let mut best = None;
+    let mut default_is_run = false;
     for &BadLeaf { leaf, flaw: _ } in bad {
         go_to(&mut way, nodes, at, leaf)?;
         at = leaf;
+        let hangs = hang_alone(table, way.answers());
+        if hangs && default_is_run {
+            continue;
+        }
+        default_is_run |= hangs;
         let region = way.region(alloc, table)?;
         let next = finding_in(alloc, program, calc, table, target, region)?;
         if is_found(&next) {

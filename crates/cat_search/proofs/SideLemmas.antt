@@ -149,7 +149,7 @@ module _ (dims : List Dim) (most : ℕ) (path : List Narrowing) (after : Constra
 module _ (dims : List Dim) (most : ℕ) (path : List Narrowing) (after : Constraints) where
   at_end : (left : List Narrowing) → turns path ≡ turns left → Undoes dims most left None after
       → Turns dims most path false after
-  at_end [] same undoes = same
+  at_end [] same undoes = (same, undoes)
   at_end (n ∷ left) same undoes = absurd (undoes)
 
   pub no_turn : (region : Constraints) → IsBack dims most path region

@@ -29,7 +29,7 @@ use Rattle.cat_search.specs.declared.bad.Flaw.{Flaw}
 use Rattle.cat_search.specs.declared.node.NextNode.TheVariants as next
 use Rattle.cat_search.specs.declared.searching.Searching.{Searching}
 use Rattle.cat_search.specs.Searched.{everything, IsSplit, IsSearched, leaves_from, bad_among, size, is_known}
-use Rattle.cat_search.specs.Searched.{IsFound}
+use Rattle.cat_search.specs.Searched.{IsFound, roomy}
 use Rattle.cat_search.specs.inside.Sides.{along, IsAt, turns, false_side, Turns}
 use Rattle.cat_search.specs.inside.Underway.{flaw_at, bad_one, IsMadeOf, AreAsked}
 use Rattle.cat_search.specs.inside.ToCome.{in_front, AreSearched}
@@ -315,10 +315,13 @@ module _ (terms : List Term) (atoms : List Atom) (t : TableTarget) where
         (subst (λ ps. Completes atoms t Dims s ps trees) is.1
         (u.rest trees (subst (λ ps. AreSearched atoms t Dims ps trees) (sym is.1) searched)));
   }
-  turn_step s region false u is =
-      moved s region [] []
-      (subst (λ ps. Completes atoms t Dims s ps []) is
-      (u.rest [] (subst (λ ps. AreSearched atoms t Dims ps []) (sym is) tt)))
+  turn_step s region false u is = record {
+    written =
+        moved s region [] []
+        (subst (λ ps. Completes atoms t Dims s ps []) is.0
+        (u.rest [] (subst (λ ps. AreSearched atoms t Dims ps []) (sym is.0) tt)));
+    back = is.1;
+  }
 
 pub room_within : (terms : List Term) (atoms : List Atom) (t : TableTarget) (here : Bool) (s : Searching)
     → IsUnderway terms atoms t here s → s.region.room ≤ length atoms
@@ -365,12 +368,20 @@ module _ (terms : List Term) (atoms : List Atom) (t : TableTarget) where
       (record { valuation = admits.valuation; agreeing = admits.agreeing })
 
   pub complete_is_tree : (s : Searching) → IsComplete terms atoms t s → IsTrue (is_tree s.nodes s.depth)
-  complete_is_tree s c = is_tree_of s.nodes s.depth c.tree c.tree_is c.height_is
+  complete_is_tree s c = is_tree_of s.nodes s.depth c.written.tree c.written.tree_is c.written.height_is
 
   pub complete_found : (s : Searching) (c : IsComplete terms atoms t s) (nodes : List TreeNode) (bad : List BadLeaf)
-      → nodes ≡ s.nodes → bad ≡ s.bad → IsFound terms atoms t nodes bad c.tree
+      → nodes ≡ s.nodes → bad ≡ s.bad → IsFound terms atoms t nodes bad c.written.tree
   complete_found s c nodes bad nodes_same bad_same = record {
-    nodes_are = ap tree_of nodes_same ∙ tree_made s.nodes c.tree c.tree_is;
-    searched = c.searched;
-    bad_are = bad_same ∙ sym (c.bad_are ∙ append-nil s.bad);
+    nodes_are = ap tree_of nodes_same ∙ tree_made s.nodes c.written.tree c.written.tree_is;
+    searched = c.written.searched;
+    bad_are = bad_same ∙ sym (c.written.bad_are ∙ append-nil s.bad);
   }
+
+  pub complete_is_back : (s : Searching) → IsComplete terms atoms t s → s.region ≡ roomy terms atoms
+  complete_is_back s c =
+      let room : s.region.room ≡ length atoms =
+      let all : s.region.room + 0 ≡ length atoms = c.back.room in omega (arith, all) in
+      ap (λ ds. record { dims = ds; narrowings = s.region.narrowings; room = s.region.room }) c.back.dims_are
+      ∙ ap (λ ns. record { dims = dims_of terms; narrowings = ns; room = s.region.room }) c.back.narrowings
+      ∙ ap (λ n. record { dims = dims_of terms; narrowings = []; room = n }) room

@@ -1,6 +1,6 @@
 -- Which trees a search makes of a target, and which of their leaves aren't covered.
 use Rattle.std.specs.Prelude.{nat_lt, ◌≡◌, ℕ, ◌+◌, ◌≤◌, Bool, true, false, IsTrue, if◌then◌else◌, List, [], ◌∷◌, ◌++◌}
-use Rattle.std.specs.Prelude.{Some, None}
+use Rattle.std.specs.Prelude.{Some, None, length}
 use Rattle.cat_region.specs.declared.dim.Dim.{Dim}
 use Rattle.cat_region.specs.declared.dim.Dim.TheVariants as dim
 use Rattle.cat_region.specs.Regions.{Constraints, IsInhabited}
@@ -24,6 +24,10 @@ use Rattle.cat_search.specs.declared.found.Search.TheVariants as search
 -- the region that admits every valuation of some terms
 abbrev pub everything : List Term → Constraints
 everything terms = record { dims = dims_of terms; narrowings = []; room = 0 }
+
+-- the same, with room for an answer to each atom
+abbrev pub roomy : List Term → List Atom → Constraints
+roomy terms atoms = record { dims = dims_of terms; narrowings = []; room = length atoms }
 
 -- whether a dimension has a value: all do but that of no cases
 abbrev pub has_value : Dim → Bool

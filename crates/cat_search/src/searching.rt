@@ -15,7 +15,7 @@ ghost use Rattle.cat_guard.specs.Live.{IsLiveOf};
 ghost use Rattle.cat_search.specs.declared.node.NextNode.TheVariants.{Leaf as LeafMade};
 ghost use Rattle.cat_search.specs.Searched.{IsSplit};
 ghost use Rattle.cat_search.specs.inside.Levels.{AreLiveOn, IsWayBack};
-ghost use Rattle.cat_search.specs.inside.Underway.{IsMadeOf, IsUnderway, IsComplete, IsTurned, bad_one, start, ended};
+ghost use Rattle.cat_search.specs.inside.Underway.{IsMadeOf, IsUnderway, IsComplete, IsTurned, bad_one, begun, ended};
 ghost use Rattle.cat_search.specs.inside.ToCome.{leaf_nodes, rest_nodes};
 ghost use Rattle.cat_search.specs.inside.Sides.{true_sides};
 
@@ -25,7 +25,7 @@ use crate::node::{NextNode, next_node};
 use crate::sides::to_false_side;
 use cat_guard::{
     CaseTree, LiveGroups, Table, TreeNode, TreeNodes, answer_atom, narrowing_keeps_what_is_live,
-    still_live, whole_region,
+    still_live,
 };
 use cat_pos::List;
 use cat_region::Region;
@@ -54,16 +54,16 @@ fn add_bad(bad: &mut Leaves, leaf: usize, flaw: Option<Flaw>) -> Result<(), Allo
 }
 
 impl Searching {
-    /// A search that begins with everything.
-    pub(crate) fn new(alloc: Global, table: &Table) -> Result<Searching, AllocError>
-        ensures { IfOk result (λ search. search ≡ start table.now.terms table.now.atoms) }
+    /// A search that begins in a region.
+    pub(crate) fn new(alloc: Global, region: Region) -> Searching
+        ensures { result ≡ begun region }
     {
-        Ok(Searching {
-            region: whole_region(alloc, table, table.atoms.len())?,
+        Searching {
+            region,
             nodes: List::new(alloc),
             depth: 0,
             bad: List::new(alloc),
-        })
+        }
     }
 
     /// Writes a node without sides for the region where it is.
@@ -215,18 +215,19 @@ impl Searching {
         Ok(())
     }
 
-    /// The tree that is written, and its bad leaves.
-    pub(crate) fn into_parts(self) -> (CaseTree, Leaves)
+    /// The tree that is written, its bad leaves, and the region.
+    pub(crate) fn into_parts(self) -> (CaseTree, Leaves, Region)
         requires { IsTrue (is_tree self.nodes self.depth) }
         ensures tree { result.0.nodes ≡ self.nodes }
         ensures bad { result.1 ≡ self.bad }
+        ensures region { result.2 ≡ self.region }
     {
         let Searching {
+            region,
             nodes,
             depth,
             bad,
-            ..
         } = self;
-        (CaseTree::from_parts(nodes, depth), bad)
+        (CaseTree::from_parts(nodes, depth), bad, region)
     }
 }

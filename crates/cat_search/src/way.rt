@@ -1,5 +1,5 @@
 // The answers that lead to a node.
-ghost use Rattle.std.specs.Prelude.{◌≡◌, ◌∷◌, [], IsTrue, IfOk, OnOk, MatchOption, length};
+ghost use Rattle.std.specs.Prelude.{◌≡◌, ◌∷◌, [], IsTrue, IfOk, OnOk, MatchOption, length, reverse};
 ghost use Rattle.cat_search.specs.Searched.{everything};
 ghost use Rattle.cat_search.specs.Ways.{ask_below, led_to, turned, passed, way_from};
 
@@ -84,6 +84,13 @@ impl Way {
             self.pass(node)?;
         }
         Ok(())
+    }
+
+    /// The answers, from the first one on.
+    pub fn answers(&self) -> &[Answer]
+        ensures { self.now ≡ reverse result.now }
+    {
+        self.answers.as_slice()
     }
 
     /// What the answers leave of all valuations of a table's terms. It costs the number of terms and of answers.

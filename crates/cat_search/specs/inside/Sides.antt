@@ -37,9 +37,9 @@ Undoes dims most [] (Some last) region = ⊥
 Undoes dims most (n ∷ path) None region = ⊥
 Undoes dims most (n ∷ path) (Some last) region = (last ≡ (n.dim, n.cut, n.yes)) × IsAt dims most path region
 
--- a region comes from a path to the first of its turns, if there is one
+-- a region comes from a path to the first of its turns, if there is one, and else back to where all paths begin
 abbrev pub Turns : List Dim → ℕ → List Narrowing → Bool → Constraints → Type 0
-Turns dims most path false region = turns path ≡ []
+Turns dims most path false region = (turns path ≡ []) × IsAt dims most [] region
 Turns dims most path true region =
     (next : List Narrowing) × (turns path ≡ next ∷ turns next) × IsAt dims most next region
 

@@ -18,7 +18,7 @@ use Rattle.cat_search.specs.declared.bad.Flaw.{Flaw}
 use Rattle.cat_search.specs.declared.node.NextNode.{NextNode}
 use Rattle.cat_search.specs.declared.node.NextNode.TheVariants as next
 use Rattle.cat_search.specs.declared.searching.Searching.{Searching}
-use Rattle.cat_search.specs.Searched.{everything, IsSplit, IsSearched, is_known, flaw_of, leaves_from, bad_among}
+use Rattle.cat_search.specs.Searched.{everything, roomy, IsSplit, IsSearched, is_known, flaw_of, leaves_from, bad_among}
 use Rattle.cat_search.specs.inside.ToCome.{in_front, AreSearched, highest, leaves_along}
 use Rattle.cat_search.specs.inside.Sides.{along, IsAt, turns}
 
@@ -79,23 +79,23 @@ pub record IsUnderway (terms : List Term) (atoms : List Atom) (t : TableTarget) 
     pub rest : (trees : List Tree) → AreSearched atoms t (dims_of terms) (to_come here path) trees
         → Completes atoms t (dims_of terms) s (to_come here path) trees
 
--- a search is at its end: what is written is a tree, which is searched
-abbrev pub IsComplete : List Term → List Atom → TableTarget → Searching → Type 0
-IsComplete terms atoms t s = Completes atoms t (dims_of terms) s [] []
+-- a search is at its end: what is written is a tree, which is searched, and it is back in the region where it began
+pub record IsComplete (terms : List Term) (atoms : List Atom) (t : TableTarget) (s : Searching) : Type 0 where
+  pub written : Completes atoms t (dims_of terms) s [] []
+  pub back : IsAt (dims_of terms) (length atoms) [] s.region
 
 -- after the way back: under way in another region, or at the end
 abbrev pub IsTurned : List Term → List Atom → TableTarget → Bool → Searching → Type 0
 IsTurned terms atoms t true s = IsUnderway terms atoms t true s
 IsTurned terms atoms t false s = IsComplete terms atoms t s
 
--- the state of a search that begins, and that after a node without sides
+-- the state of a search that begins in a region
+abbrev pub begun : Constraints → Searching
+begun region = record { region = region; nodes = []; depth = 0; bad = [] }
+
+-- of one that begins with everything
 abbrev pub start : List Term → List Atom → Searching
-start terms atoms = record {
-  region = record { dims = dims_of terms; narrowings = []; room = length atoms };
-  nodes = [];
-  depth = 0;
-  bad = [];
-}
+start terms atoms = begun (roomy terms atoms)
 
 -- a region ends in that node
 abbrev pub ended : TreeNode → ℕ → Searching → Searching

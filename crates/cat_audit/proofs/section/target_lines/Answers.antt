@@ -33,10 +33,11 @@ loop-number-preserved c =
     let lines_are : c.push.new.self ≡ c.loop-number.lines ++ record { name = t.name; line = m.line } ∷ [] =
     c.in_ok-push.ensures.ok ∙ ap (λ (l : NamedLine). c.loop-number.lines ++ l ∷ []) named in
     let next = one_line program table budget (take i table.targets) c.args.trees.now c.loop-number.trees
-    c.loop-number.lines c.loop-number.invariant t m line cause in
-    subst (λ (ts : List TableTarget). AreLinesTo program table budget ts c.args.trees.now c.push-in-loop-number.new.self
+    c.loop-number.lines c.loop-number.invariant.lines t m line cause in
+    let lines = subst (λ (ts : List TableTarget). AreLinesTo program table budget ts c.args.trees.now c.push-in-loop-number.new.self
     c.push.new.self) (sym (ap (λ (k : ℕ). take k table.targets) (add-one i) ∙ take_next table.targets i t at))
     (subst (λ (cs : List CaseTree). AreLinesTo program table budget (take i table.targets ++ t ∷ []) c.args.trees.now cs
     c.push.new.self) (sym c.in_ok-push-2.ensures.ok)
     (subst (λ (ls : List NamedLine). AreLinesTo program table budget (take i table.targets ++ t ∷ []) c.args.trees.now
-    (c.loop-number.trees ++ m.tree ∷ []) ls) (sym lines_are) next))
+    (c.loop-number.trees ++ m.tree ∷ []) ls) (sym lines_are) next)) in
+    record { lines = lines; whole = c.in_ok-made.ensures.back ∙ c.loop-number.invariant.whole }

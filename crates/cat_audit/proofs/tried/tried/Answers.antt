@@ -1,4 +1,5 @@
 use Rattle.std.proofs.Common.{◌≡◌, ◌+◌, ◌<◌, Some, slice_get, drop, length, sym, ap, ◌∙◌, subst, arith, IsTrue}
+use Rattle.cat_value.proofs.Exported.{found}
 use Rattle.cat_region.specs.Regions.{IsInhabited}
 use Rattle.cat_guard.specs.Judged.{judged_in}
 use Rattle.cat_guard.specs.Judgements.{is_bad}
@@ -6,7 +7,8 @@ use Rattle.cat_search.specs.Ways.{ask_below}
 use Rattle.cat_audit.specs.Findings.{finding_in}
 use Rattle.cat_audit.proofs.Targets.{at_some, if_some}
 use Rattle.cat_audit.proofs.TriedLemmas.{IsTrying, item, at_item, next_is, next_of, reached, leads_there, goes_on}
-use Rattle.cat_audit.proofs.TriedLemmas.{ends_found, kept_unfound, kept_some, one_found}
+use Rattle.cat_audit.proofs.TriedLemmas.{ends_found, goes_over, kept_unfound, kept_some, one_found}
+use Rattle.cat_audit.proofs.HangingLemmas.{quiet_on, quiet_by, hangs_there}
 use Rattle.cat_audit.proofs.tried.tried.Goals as goal
 
 pub go_to-requires-clause-order : goal.go_to-requires-clause-order
@@ -133,4 +135,44 @@ loop-leaf-preserved c =
           trying));
       unfound = ap one_found c.kept-best.ensures ∙ kept_unfound best next c.loop-leaf.invariant.unfound hidden;
       none = λ e. absurd (kept_some best next (sym c.kept-best.ensures ∙ e));
+      quiet = λ run. (
+        quiet_on c.loop-leaf.default_is_run c.hang_alone-hangs.result run (λ before.
+            (c.loop-leaf.invariant.quiet before).0)
+            (λ alone. let one = found table.targets c.args.target c.requires.target in
+            quiet_by program table nodes b c.answers.result.now c.go_to.new.way c.answers.ensures here
+            (sym c.hang_alone-hangs.ensures ∙ alone) ahead.dims one.0 next
+            (sym (ap (finding_in program table one.0) same)
+            ∙ at_some (λ t. finding_in program table t c.in_ok-region.region ≡ Some next)
+            (slice_get table.targets c.args.target) one.0 one.1 c.in_ok-next.ensures) hidden),
+        λ e. kept_some best next (sym c.kept-best.ensures ∙ e),
+      );
+    }
+
+pub loop-leaf-preserved-then-default_is_run : goal.loop-leaf-preserved-then-default_is_run
+loop-leaf-preserved-then-default_is_run c =
+    let program = c.args.program.now in
+    let table = c.args.table.now in
+    let nodes = c.args.nodes.now in
+    let all = c.args.bad.now in
+    let i = c.loop-leaf.leaf-index in
+    let b = item all i in
+    let less : i < length all = omega (arith, c.loop-leaf-test.true) in
+    let slot = at_item all i less in
+    let ahead = next_of program table c.args.target c.requires.target nodes c.loop-leaf.at c.loop-leaf.best i all less
+    c.loop-leaf.invariant.trying in
+    let here = reached nodes c.loop-leaf.at b.leaf c.loop-leaf.way c.go_to.new.way c.loop-leaf.invariant.way_is
+    ahead.order c.in_ok-go_to.ensures in
+    let run = c.loop-leaf.invariant.quiet c.if-default_is_run.true in
+    record {
+      way_is = here;
+      trying = if_some (slice_get table.targets c.args.target) (λ t is.
+          let trying = at_some (λ t. IsTrying program table t nodes c.loop-leaf.at c.loop-leaf.best (drop i all) all)
+          (slice_get table.targets c.args.target) t is c.loop-leaf.invariant.trying in
+          let says = hangs_there program table nodes b c.answers.result.now c.go_to.new.way c.answers.ensures here
+          (sym c.hang_alone-hangs.ensures ∙ c.if-hangs.true) ahead.dims t run.0 in
+          goes_over program table t nodes c.loop-leaf.at c.loop-leaf.best i b all says.found slot says.is
+          c.loop-leaf.invariant.unfound run.1 says.hanging trying);
+      unfound = c.loop-leaf.invariant.unfound;
+      none = λ e. absurd (run.1 e);
+      quiet = λ before. run;
     }

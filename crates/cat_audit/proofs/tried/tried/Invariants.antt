@@ -1,6 +1,7 @@
-use Rattle.std.proofs.Common.{◌≡◌, [], None, false, drop, take, slice_get}
+use Rattle.std.proofs.Common.{◌≡◌, [], None, true, false, drop, take, slice_get}
 use Rattle.std.specs.Prelude.{IfSome}
 use Rattle.cat_search.specs.Ways.{way_from}
+use Rattle.cat_audit.specs.inside.Hanging.{IsQuiet}
 use Rattle.cat_audit.proofs.TriedLemmas.{IsTrying, one_found}
 use Rattle.cat_audit.proofs.tried.tried.Given as goal
 
@@ -12,4 +13,5 @@ invariant-loop-leaf l = record {
       (λ t. IsTrying l.program l.table t l.nodes l.at l.best (drop l.leaf-index l.bad) l.bad);
   unfound : one_found l.best ≡ false;
   none : l.best ≡ None → l.leaf-index ≡ 0;
+  quiet : l.default_is_run ≡ true → IsQuiet l.program l.table × (l.best ≡ None → ⊥);
 }

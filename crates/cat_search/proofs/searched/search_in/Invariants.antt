@@ -4,7 +4,7 @@ use Rattle.cat_guard.specs.Valuations.{dims_of}
 use Rattle.cat_search.specs.inside.Levels.{AreLiveOn}
 use Rattle.cat_search.specs.inside.Underway.{IsUnderway}
 use Rattle.cat_search.specs.inside.ToCome.{leaf_nodes, rest_nodes}
-use Rattle.cat_search.proofs.searched.search.Given as goal
+use Rattle.cat_search.proofs.searched.search_in.Given as goal
 
 -- the leaves so far
 abbrev pub invariant-loop : goal.invariant-loop

@@ -8,7 +8,7 @@ use Rattle.cat_guard.specs.Trees as tree
 use Rattle.cat_guard.specs.Trees.{tree_of}
 use Rattle.cat_search.specs.Searched.{everything}
 use Rattle.cat_search.proofs.LawLemmas.{closed_found}
-use Rattle.cat_search.specs.inside.Underway.{IsUnderway, IsTurned, IsComplete}
+use Rattle.cat_search.specs.inside.Underway.{IsUnderway, IsTurned, IsComplete, begun}
 use Rattle.cat_search.specs.inside.ToCome.{in_front, leaf_nodes, rest_nodes}
 use Rattle.cat_search.proofs.TreeLemmas.{is_tree_of, leaves_made, rests_made, whole_of, part_of}
 use Rattle.cat_guard.specs.Valuations.{dims_of}
@@ -16,31 +16,31 @@ use Rattle.cat_guard.proofs.Exported.{both_some}
 use Rattle.cat_search.specs.inside.Levels.{AreLiveOn}
 use Rattle.cat_search.proofs.LevelLemmas.{depth_is}
 use Rattle.cat_search.proofs.TargetLemmas.{if_some, target_at}
-use Rattle.cat_search.proofs.UnderwayLemmas.{begins, complete_is_tree, complete_found}
+use Rattle.cat_search.proofs.UnderwayLemmas.{begins, complete_is_tree, complete_found, complete_is_back}
 use Rattle.cat_search.proofs.TargetLemmas.{all_at, some_target}
 use Rattle.cat_search.proofs.UnderwayLemmas.{nothing_begins}
 use Rattle.cat_search.proofs.CellLemmas.{StaysWithin}
-use Rattle.cat_search.proofs.searched.search.Goals as goal
+use Rattle.cat_search.proofs.searched.search_in.Goals as goal
 
 -- a tree of one leaf
 pub into_parts-tree-requires : goal.into_parts-tree-requires
 into_parts-tree-requires c =
-    let begun = c.in_ok-searching.ensures in
-    let nodes = c.in_ok-push.ensures.ok ∙ ap (λ s. s.nodes ++ node.Leaf ∷ []) begun in
-    is_tree_of c.push.new.self c.in_ok-searching.searching.depth tree.Leaf (ap (λ ns. in_front ns []) nodes)
-    (sym (ap (λ s. s.depth) begun))
+    let begins_so = c.new-searching.ensures ∙ ap begun c.requires.whole in
+    let nodes = c.in_ok-push.ensures.ok ∙ ap (λ s. s.nodes ++ node.Leaf ∷ []) begins_so in
+    is_tree_of c.push.new.self c.new-searching.result.depth tree.Leaf (ap (λ ns. in_front ns []) nodes)
+    (sym (ap (λ s. s.depth) begins_so))
 
 pub loop-init : goal.loop-init
 loop-init c =
     let table = c.args.table.now in
-    let begun = c.in_ok-searching.ensures in
+    let begins_so = c.new-searching.ensures ∙ ap begun c.requires.whole in
     record {
       underway = some_target (slice_get table.targets c.args.target) (λ t. begins table.terms table.atoms t
-          c.in_ok-searching.searching begun (c.is_empty.ensures.inhabited c.if-is_empty.false));
+          c.new-searching.result begins_so (c.is_empty.ensures.inhabited c.if-is_empty.false));
       live = if_some (slice_get table.targets c.args.target) c.in_ok-levels.ensures (λ t is are.
-          are table.atoms (dims_of table.terms) c.in_ok-searching.searching.region.narrowings);
-      leaves = ap (λ s. leaf_nodes s.nodes) begun;
-      rests = ap (λ s. rest_nodes s.nodes) begun;
+          are table.atoms (dims_of table.terms) c.new-searching.result.region.narrowings);
+      leaves = ap (λ s. leaf_nodes s.nodes) begins_so;
+      rests = ap (λ s. rest_nodes s.nodes) begins_so;
     }
 
 pub into_parts-tree-requires-then-not-turn : goal.into_parts-tree-requires-then-not-turn
@@ -65,11 +65,11 @@ returns-then-not-turn-clause-found c some =
     let complete : IsComplete table.terms table.atoms t s =
     subst (λ b. IsTurned table.terms table.atoms t b s) c.if-not-turn.true
     (c.turn.ensures.turned table.terms table.atoms t u) in
-    let made = leaves_made s.nodes complete.tree complete.tree_is in (
-      complete.tree,
+    let made = leaves_made s.nodes complete.written.tree complete.written.tree_is in (
+      complete.written.tree,
       complete_found table.terms table.atoms t s complete parts.result.0.nodes parts.result.1 parts.ensures.tree
           parts.ensures.bad,
-      whole_of complete.tree (rests_made s.nodes complete.tree complete.tree_is ∙ rests),
+      whole_of complete.written.tree (rests_made s.nodes complete.written.tree complete.written.tree_is ∙ rests),
       omega (arith, made, leaves, before, within),
     ))
 
@@ -91,12 +91,12 @@ returns-clause-found c some =
     let before = c.loop.invariant.leaves in
     let rests = c.in_ok-rests.ensures.rests in
     if_some (slice_get table.targets c.args.target) c.in_ok-rests.ensures.complete (λ t is complete.
-    let made = leaves_made s.nodes complete.tree complete.tree_is in
-    let left = rests_made s.nodes complete.tree complete.tree_is in (
-      complete.tree,
+    let made = leaves_made s.nodes complete.written.tree complete.written.tree_is in
+    let left = rests_made s.nodes complete.written.tree complete.written.tree_is in (
+      complete.written.tree,
       complete_found table.terms table.atoms t s complete parts.result.0.nodes parts.result.1 parts.ensures.tree
           parts.ensures.bad,
-      part_of complete.tree (omega (arith, left, rests)),
+      part_of complete.written.tree (omega (arith, left, rests)),
       omega (arith, made, leaves, before, within, past),
     ))
 
@@ -119,20 +119,20 @@ returns-then-not-turn-clause-closed c =
     let found = complete_found table.terms table.atoms t s complete parts.result.0.nodes parts.result.1
     parts.ensures.tree parts.ensures.bad in
     closed_found table.terms table.atoms table.targets (search rules) c.trees_without_bad_leaves_are_closed.ensures
-    c.args.target t is parts.result.0.nodes parts.result.1 complete.tree found
-    (whole_of complete.tree (rests_made s.nodes complete.tree complete.tree_is ∙ rests)))
+    c.args.target t is parts.result.0.nodes parts.result.1 complete.written.tree found
+    (whole_of complete.written.tree (rests_made s.nodes complete.written.tree complete.written.tree_is ∙ rests)))
 
 pub returns-then-is_empty-clause-closed : goal.returns-then-is_empty-clause-closed
 returns-then-is_empty-clause-closed c =
     let table = c.args.table.now in
-    let begun = c.in_ok-searching.ensures in
+    let begins_so = c.new-searching.ensures ∙ ap begun c.requires.whole in
     let parts = c.into_parts-tree in
-    let nodes = parts.ensures.tree ∙ c.in_ok-push.ensures.ok ∙ ap (λ s. s.nodes ++ node.Leaf ∷ []) begun in
+    let nodes = parts.ensures.tree ∙ c.in_ok-push.ensures.ok ∙ ap (λ s. s.nodes ++ node.Leaf ∷ []) begins_so in
     some_target (slice_get table.targets c.args.target) (λ (t : TableTarget). λ none. (
       tree.Leaf,
       ap tree_of nodes,
       c.empty_regions_close_each_tree.ensures table.atoms t (everything table.terms) tree.Leaf
-          (nothing_begins table.terms table.atoms t c.in_ok-searching.searching begun
+          (nothing_begins table.terms table.atoms t c.new-searching.result begins_so
           (c.is_empty.ensures.empty c.if-is_empty.true)),
     ))
 
@@ -146,10 +146,10 @@ returns-clause-spent c =
     let before = c.loop.invariant.leaves in
     let rests = c.in_ok-rests.ensures.rests in
     if_some (slice_get table.targets c.args.target) c.in_ok-rests.ensures.complete (λ t is complete.
-    let made = leaves_made s.nodes complete.tree complete.tree_is in
-    let left = rests_made s.nodes complete.tree complete.tree_is in
+    let made = leaves_made s.nodes complete.written.tree complete.written.tree_is in
+    let left = rests_made s.nodes complete.written.tree complete.written.tree_is in
     let most = all_at (StaysWithin table.terms table.atoms) table.targets c.args.target t
-    c.searched_trees_stay_within_the_cells.ensures is complete.tree complete.searched in
+    c.searched_trees_stay_within_the_cells.ensures is complete.written.tree complete.written.searched in
     omega (arith, made, left, most, leaves, before, within, past, rests))
 
 pub loop-preserved : goal.loop-preserved
@@ -178,3 +178,26 @@ loop-preserved c =
           ∙ ap (λ n. n + 1) c.loop.invariant.leaves;
       rests = ap rest_nodes c.turn.ensures.nodes ∙ c.in_ok-to_leaf.ensures.rests ∙ c.loop.invariant.rests;
     }
+
+pub returns-then-is_empty-clause-back : goal.returns-then-is_empty-clause-back
+returns-then-is_empty-clause-back c =
+    c.into_parts-tree.ensures.region ∙ ap (λ s. s.region) c.new-searching.ensures
+
+pub returns-then-not-turn-clause-back : goal.returns-then-not-turn-clause-back
+returns-then-not-turn-clause-back c =
+    let table = c.args.table.now in
+    let one = target_at (λ t. IsUnderway table.terms table.atoms t false c.to_leaf.new.self) table.targets c.args.target
+    c.requires.target c.in_ok-to_leaf.ensures.underway in
+    c.into_parts-tree-then-not-turn.ensures.region
+    ∙ complete_is_back table.terms table.atoms one.0 c.turn.new.self
+    (subst (λ b. IsTurned table.terms table.atoms one.0 b c.turn.new.self) c.if-not-turn.true
+    (c.turn.ensures.turned table.terms table.atoms one.0 one.2))
+    ∙ sym c.requires.whole
+
+pub returns-clause-back : goal.returns-clause-back
+returns-clause-back c =
+    let table = c.args.table.now in
+    let one = target_at (λ t. IsComplete table.terms table.atoms t c.rests.new.self) table.targets c.args.target
+    c.requires.target c.in_ok-rests.ensures.complete in
+    c.into_parts-tree-2.ensures.region ∙ complete_is_back table.terms table.atoms one.0 c.rests.new.self one.2
+    ∙ sym c.requires.whole
