@@ -8,6 +8,7 @@ use Rattle.cat_io.specs.Sink.{Sunk, Took}
 use Rattle.cat_value.specs.declared.value.Value.{Value}
 use Rattle.cat_scope.specs.declared.programs.Program.{Program}
 use Rattle.cat_scope.specs.Named.{number_named}
+use Rattle.cat_scope.specs.Names.{AllHave}
 use Rattle.cat_scope.specs.Outcomes.{scope_outcome}
 use Rattle.cat_json.specs.InputsRead.{input_read}
 use Rattle.cat_answer.specs.Answer.{answer_of}
@@ -15,6 +16,7 @@ use Rattle.cat_audit.specs.declared.report.Report.{Report}
 use Rattle.cat_audit.specs.declared.report.Verdict.{Verdict}
 use Rattle.cat_audit.specs.declared.report.Verdict.TheVariants as verdict
 use Rattle.cat_audit.specs.Reports.{last_verdict}
+use Rattle.cat_audit.specs.RunsAgain.{RunAgain}
 use Rattle.cat_weave.specs.declared.source.Source.{Source}
 use Rattle.cat_weave.specs.Gathered.{Contents, Whole, gathered, limit_after}
 use Rattle.cat_weave.specs.Causes.{ComesTo}
@@ -29,7 +31,8 @@ use Rattle.cat_app.specs.declared.request.Mode.TheVariants.{Run, Audit, Check}
 use Rattle.cat_app.proofs.ToldSources.{AreNotAccepted, EndingsAreTold, IsOneProgram, no_refused_file, no_refused_source}
 use Rattle.cat_app.proofs.ToldSources.{scope_is_there, told_program, told_scope, told_source}
 use Rattle.cat_app.specs.Complete.{IsToldScope, IsToldRun, WritesOutcome, EndsRun}
-use Rattle.cat_app.specs.Complete.{WritesReport, EndsAudit, EndsCheck, IsComplete, IsToldCheck}
+use Rattle.cat_app.specs.Complete.{EndsCheck, IsToldCheck}
+use Rattle.cat_app.specs.AuditEnds.{WritesReport, EndsAudit, IsComplete}
 use Rattle.cat_app.specs.Checks.{HasCertificate, HasNoCertificate, IsChecked}
 use Rattle.cat_app.specs.declared.status.Status.{Status}
 use Rattle.cat_app.specs.declared.status.Status.TheVariants as status
@@ -143,6 +146,7 @@ module _ (one_program : IsOneProgram) (not_accepted : AreNotAccepted) (endings :
         report = a.report;
         most_is = a.most_is;
         report_is = report_is;
+        again = subst (λ (p : Program). AllHave (RunAgain p) a.report.sections) (sym programs) a.again;
         status = a.status;
         written = subst (λ (t : List ℕ). Appends sink.taken sunk.taken t) text_is took.taken;
         complete = λ fine. complete_of a.report report_is (sym a.status ∙ fine);

@@ -292,6 +292,7 @@ a_report request old new source program scope most reply same says asked mode mo
       asked = asked;
       most_is = most_is;
       report_is = says.report_is;
+      again = says.again;
       untouched = same;
       status = refl;
       reply = says.says.1;

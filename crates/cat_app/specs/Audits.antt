@@ -14,6 +14,7 @@ use Rattle.cat_audit.specs.Complete.{AreClosedTrees, HasNoGapWhereComplete, targ
 use Rattle.cat_audit_sound.specs.Audited.{HasNoGap}
 use Rattle.cat_audit.specs.Reports.{IsReport, last_verdict}
 use Rattle.cat_audit.specs.ReportTexts.{report_text}
+use Rattle.cat_audit.specs.RunsAgain.{RunAgain}
 use Rattle.cat_audit.specs.Decided.{EndsInNoFault, HasCellsWithin, IsDecided, IsUnderived, IsWholeVerdict}
 use Rattle.cat_audit.specs.Plain.{IsPlain}
 use Rattle.cat_cert.specs.declared.certificate.Version.TheVariants as version
@@ -59,7 +60,8 @@ pub record HasReport (program : Program) (scope most : ℕ) (report : Report) : 
   pub whole : IsPlain program scope → HasCellsWithin program scope most → EndsInNoFault program scope
       → IsWholeVerdict program scope (last_verdict report.sections)
 
--- of an audit: what it says of the scope
+-- of an audit: what it says of the scope. The text of each input that it shows is read as that input, which is well
+-- typed, and a run on it comes to the outcome that stands beside it
 pub record IsAudited (request : Request) (old new : Shelved) (ended : Status) (text : List ℕ) : Type 0 where
   pub source : Source
   pub program : Program
@@ -70,6 +72,7 @@ pub record IsAudited (request : Request) (old new : Shelved) (ended : Status) (t
   pub asked : IsAsked request old source program scope
   pub most_is : IsMost request.cases most
   pub report_is : HasReport program scope most report
+  pub again : AllHave (RunAgain program) report.sections
   pub untouched : new ≡ old
   pub status : ended ≡ status_at (last_verdict report.sections)
   pub reply : text ≡ audit_text program.decls source.files most report

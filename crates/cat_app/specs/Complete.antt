@@ -11,20 +11,15 @@ use Rattle.cat_scope.specs.Named.{number_named}
 use Rattle.cat_scope.specs.Outcomes.{scope_outcome}
 use Rattle.cat_json.specs.InputsRead.{input_read}
 use Rattle.cat_answer.specs.Answer.{answer_of}
-use Rattle.cat_audit.specs.declared.report.Report.{Report}
-use Rattle.cat_audit.specs.declared.report.Verdict.TheVariants.{Complete}
-use Rattle.cat_audit_sound.specs.Audited.{HasNoGap}
-use Rattle.cat_audit.specs.Reports.{last_verdict}
 use Rattle.cat_weave.specs.declared.source.Source.{Source}
 use Rattle.cat_weave.specs.Gathered.{Whole, gathered}
 use Rattle.cat_build.specs.Accepted.{IsAccepted}
-use Rattle.cat_app.specs.Words.{Request, IsMost, request_of}
+use Rattle.cat_app.specs.Words.{Request, request_of}
 use Rattle.cat_app.specs.Asked.{IsReadNow}
 use Rattle.cat_app.specs.Answers.{line, status_of}
-use Rattle.cat_app.specs.Audits.{HasReport, audit_text, status_at}
 use Rattle.cat_app.specs.Checks.{HasCertificate, HasNoCertificate}
 use Rattle.cat_app.specs.Table.{MayReply}
-use Rattle.cat_app.specs.declared.request.Mode.TheVariants.{Run, Audit, Check}
+use Rattle.cat_app.specs.declared.request.Mode.TheVariants.{Run, Check}
 use Rattle.cat_app.specs.declared.status.Status.{Status}
 use Rattle.cat_app.specs.declared.status.Status.TheVariants.{Certificate, Fine, Missing, ReadFault, WriteFault, Memory}
 use Rattle.cat_app.specs.declared.status.Status.TheVariants.{TooLarge}
@@ -93,34 +88,6 @@ EndsRun sink sunk source program scope input ReadFault = ⊤
 EndsRun sink sunk source program scope input WriteFault = ⊤
 EndsRun sink sunk source program scope input Memory = ⊤
 EndsRun sink sunk source program scope input status = WritesOutcome sink sunk source program scope input status
-
--- the words ask for an audit of a scope of a source that is accepted, over contents that the shelf tells
-pub record IsToldAudit (words : List (List ℕ)) (old : Shelved) (request : Request) (source : Source) (program : Program)
-    (scope : ℕ) : Type 0 where
-  pub told : IsToldScope words old request source program scope
-  pub mode : request.mode ≡ Audit
-
--- the verdict of a report is Complete, and no well-typed input of the scope ends in a conflict or a gap
-abbrev pub IsComplete : Program → ℕ → Report → Type 0
-IsComplete program scope report = (last_verdict report.sections ≡ Complete) × HasNoGap program scope
-
--- a report of the scope is written whole, with its status; `Fine` comes of a complete one alone
-pub record WritesReport (sink sunk : Sunk) (request : Request) (source : Source) (program : Program) (scope : ℕ)
-    (ended : Status) : Type 0 where
-  pub most : ℕ
-  pub report : Report
-  pub most_is : IsMost request.cases most
-  pub report_is : HasReport program scope most report
-  pub status : ended ≡ status_at (last_verdict report.sections)
-  pub written : Appends sink.taken sunk.taken (audit_text program.decls source.files most report)
-  pub complete : ended ≡ Fine → IsComplete program scope report
-
--- a report is written; else the shelf or the sink failed, or memory ran out
-abbrev pub EndsAudit : Sunk → Sunk → Request → Source → Program → ℕ → Status → Type 0
-EndsAudit sink sunk request source program scope ReadFault = ⊤
-EndsAudit sink sunk request source program scope WriteFault = ⊤
-EndsAudit sink sunk request source program scope Memory = ⊤
-EndsAudit sink sunk request source program scope status = WritesReport sink sunk request source program scope status
 
 -- the words ask for a check of a scope of a source that is accepted, with bytes that are to be a certificate, over
 -- contents that the shelf tells

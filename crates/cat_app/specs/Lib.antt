@@ -7,6 +7,7 @@ pub mod Asked
 pub mod Words
 pub mod Status
 pub mod Complete
+pub mod AuditEnds
 pub mod DrillEnds
 pub mod Texts
 pub mod Numbers

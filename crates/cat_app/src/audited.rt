@@ -1,7 +1,10 @@
 // An audit of a scope: its report, and where it is complete, the certificate.
-ghost use Rattle.std.specs.Prelude.{◌≡◌, ◌<◌, ◌≤◌, IfOk, length, max, string_bytes};
+ghost use Rattle.std.specs.Prelude.{◌≡◌, ◌<◌, ◌≤◌, ℕ, IfOk, length, max, string_bytes};
+ghost use Rattle.cat_scope.specs.Names.{AllHave};
 ghost use Rattle.cat_build.specs.Built.{IsBuiltOf};
-ghost use Rattle.cat_audit.specs.Reports.{last_verdict};
+ghost use Rattle.cat_audit.specs.Reports.{IsReport, last_verdict};
+ghost use Rattle.cat_audit.specs.ReportTexts.{report_text};
+ghost use Rattle.cat_audit.specs.RunsAgain.{RunAgain};
 ghost use Rattle.cat_app.specs.Audits.{HasReport, certificate_of, status_at};
 ghost use Rattle.cat_app.specs.inside.Says.{HasClosedTrees, SaysReport};
 
@@ -9,10 +12,10 @@ use crate::Status;
 use crate::reply::Reply;
 use cat_audit::{
     Report, Section, Verdict, audit, complete_audits_have_closed_trees,
-    complete_audits_leave_no_gap, complete_scopes_leave_no_gap, plain_scopes_are_decided,
-    report_text, reports_are_of_declared_scopes,
+    complete_audits_leave_no_gap, complete_scopes_leave_no_gap, inputs_in_reports_run_again,
+    plain_scopes_are_decided, report_text, reports_are_of_declared_scopes,
 };
-use cat_build::{Built, accepted_programs_are_counted};
+use cat_build::{Built, accepted_programs_are_counted, accepted_programs_have_distinct_names};
 use cat_cert::write_cert;
 use cat_scope::programs_are_well_formed;
 use cat_weave::Source;
@@ -91,6 +94,28 @@ fn certificate_of(alloc: Global, report: &Report, verdict: Verdict) -> Result<St
     }
 }
 
+/// The text of a report. What it prints of an input is read as that input.
+fn text_of(
+    alloc: Global,
+    source: &Source,
+    built: &Built,
+    report: &Report,
+    most: u32,
+) -> Result<String, AllocError>
+    requires built { IsBuiltOf source.now.pieces built.now }
+    requires report { (scope : ℕ) × IsReport built.now.program scope most report.now }
+    ensures text { IfOk result (λ text. string_bytes text
+        ≡ report_text built.now.program.decls source.now.files most report.now.sections) }
+    ensures again { IfOk result (λ text. AllHave (RunAgain built.now.program) report.now.sections) }
+{
+    accepted_programs_have_distinct_names();
+    reports_are_of_declared_scopes(&built.program);
+    inputs_in_reports_run_again(&built.program);
+    let decls = built.program.decls();
+    let sections = report.sections.as_slice();
+    report_text(alloc, sections, decls, &source.files, u64::from(most))
+}
+
 /// What an audit of the scope says.
 pub fn audited(
     alloc: Global,
@@ -105,11 +130,8 @@ pub fn audited(
     ensures { IfOk result (SaysReport built.now.program scope most source.now.files) }
 {
     let report = report_of(alloc, source, built, scope, most)?;
-    reports_are_of_declared_scopes(&built.program);
-    let decls = built.program.decls();
-    let sections = report.sections.as_slice();
-    let mut text = report_text(alloc, sections, decls, &source.files, u64::from(most))?;
-    let verdict = last_verdict(sections);
+    let mut text = text_of(alloc, source, built, &report, most)?;
+    let verdict = last_verdict(report.sections.as_slice());
     let certificate = certificate_of(alloc, &report, verdict)?;
     text.push_str(certificate.as_str())?;
     let status = status_at(verdict);

@@ -7,8 +7,9 @@ ghost use Rattle.cat_scope.specs.declared.programs.Program.{Program};
 ghost use Rattle.cat_weave.specs.declared.source.Source.{Source};
 ghost use Rattle.cat_app.specs.Words.{Request};
 ghost use Rattle.cat_app.specs.Table.{Answers};
-ghost use Rattle.cat_app.specs.Complete.{NoFileRose, RepliesFit, IsToldAudit, IsToldCheck, IsToldRun, EndsAudit};
-ghost use Rattle.cat_app.specs.Complete.{EndsCheck, EndsRun, is_fault, is_reply};
+ghost use Rattle.cat_app.specs.Complete.{NoFileRose, RepliesFit, IsToldCheck, IsToldRun, EndsCheck, EndsRun};
+ghost use Rattle.cat_app.specs.Complete.{is_fault, is_reply};
+ghost use Rattle.cat_app.specs.AuditEnds.{IsToldAudit, EndsAudit};
 ghost use Rattle.cat_app.specs.DrillEnds.{EndsDrill, IsToldDrill};
 
 use crate::Status;
@@ -61,7 +62,8 @@ pub fn catala<S: Shelf, K: Sink>(
         → EndsRun (K.state sink.old) (K.state sink.new) source program scope input result }
 
     // Over told contents the report of the scope is written. Where it is complete, no well-typed input of the scope
-    // ends in a Conflict or a NoValue.
+    // ends in a Conflict or a NoValue. The text of each input in it is read as that input, and a run on it comes to the
+    // outcome that stands beside it.
     ensures an_audit_writes_the_report { (request : Request) (source : Source) (program : Program) (scope : ℕ)
         → IsToldAudit (texts_of words.now) (S.state shelf.old) request source program scope
         → EndsAudit (K.state sink.old) (K.state sink.new) request source program scope result }

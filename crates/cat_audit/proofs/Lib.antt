@@ -17,6 +17,7 @@ mod Targets
 mod TriedLemmas
 mod Values
 pub mod Lists
+pub mod BackLemmas
 pub mod Alone
 pub mod FreeTables
 pub mod PlainLines

@@ -7,6 +7,7 @@ pub mod Lines
 pub mod Causes
 pub mod ReportLines
 pub mod ReportTexts
+pub mod RunsAgain
 pub mod Plain
 pub mod Decided
 -- what the code keeps on its way: no public clause cites it

@@ -1,10 +1,12 @@
 // What a complete report says: each law is the contract of a function.
-ghost use Rattle.std.specs.Prelude.{◌≡◌, ◌<◌, ℕ, length};
+ghost use Rattle.std.specs.Prelude.{◌≡◌, ◌<◌, ℕ, IsTrue, length};
 ghost use Rattle.cat_scope.specs.Names.{AllHave};
+ghost use Rattle.cat_json.specs.Names.{names_are_distinct};
 ghost use Rattle.cat_audit.specs.declared.report.Report.{Report as ReportSeen};
 ghost use Rattle.cat_audit.specs.Complete.{AreClosedTrees, HasNoGapWhereComplete, targets_in};
 ghost use Rattle.cat_audit_sound.specs.Audited.{HasNoGap};
 ghost use Rattle.cat_audit.specs.Reports.{IsReport, last_verdict};
+ghost use Rattle.cat_audit.specs.RunsAgain.{AreReadBack, RunAgain};
 
 use crate::report::Verdict;
 use cat_audit_sound::audited_programs_have_no_gap;
@@ -51,4 +53,12 @@ pub fn complete_audits_have_closed_trees(program: &Program)
 pub fn reports_are_of_declared_scopes(program: &Program)
     ensures { (scope : ℕ) (budget : ℕ) (report : ReportSeen) → IsReport program.now scope budget report
         → AllHave (λ s. s.scope < length program.now.decls.scopes) report.sections }
+{}
+
+/// The text of each input in a report is read as that input, which is well typed, and on which the scope comes to the
+/// outcome that stands beside it, where each name stands for one thing and each text is read back.
+pub fn inputs_in_reports_run_again(program: &Program)
+    ensures { (scope : ℕ) (budget : ℕ) (report : ReportSeen) → IsTrue (names_are_distinct program.now.decls)
+        → IsReport program.now scope budget report → AllHave (AreReadBack program.now.decls) report.sections
+        → AllHave (RunAgain program.now) report.sections }
 {}

@@ -23,7 +23,7 @@ pub use finding::{Finding, Line, TargetLine};
 pub use finding_laws::tables_admit_something;
 pub use laws::{
     complete_audits_have_closed_trees, complete_audits_leave_no_gap, complete_scopes_leave_no_gap,
-    reports_are_of_declared_scopes,
+    inputs_in_reports_run_again, reports_are_of_declared_scopes,
 };
 pub use line::target_line;
 pub use lines::verdict_text;

@@ -1,12 +1,14 @@
 // The lines of a report.
 ghost use Rattle.std.specs.Prelude.{◌≡◌, ◌<◌, IfOk, length, slice_get, string_bytes};
+ghost use Rattle.cat_value.specs.declared.outcome.Outcome.{Outcome};
 ghost use Rattle.cat_audit.specs.Called.{scope_name};
-ghost use Rattle.cat_audit.specs.ReportLines.{called_line, finding_text, said, target_line, verdict_text};
+ghost use Rattle.cat_audit.specs.ReportLines.{called_line, finding_text, input_of, said, target_line, verdict_text};
+ghost use Rattle.cat_audit.specs.RunsAgain.{IsReadBack, OfFinding, OfLine};
 
 use crate::{CalledLine, Finding, Line, NamedLine, Verdict};
 use cat_answer::{answer_text, fault_text, input_text, position_text};
 use cat_pos::Files;
-use cat_value::Decls;
+use cat_value::{Decls, Input};
 use std::alloc::{AllocError, Global};
 
 /// The word of a verdict.
@@ -31,6 +33,15 @@ pub(crate) fn scope_name(decls: &Decls, scope: u32) -> &str
     }
 }
 
+/// The text of an input.
+fn shown(alloc: Global, input: &Input, decls: &Decls, scope: u32) -> Result<String, AllocError>
+    requires { scope < length decls.now.scopes }
+    ensures text { IfOk result (λ text. string_bytes text ≡ input_of decls.now scope input.now) }
+    ensures back { (o : Outcome) → IfOk result (λ text. IsReadBack decls.now scope input.now o) }
+{
+    input_text(alloc, input, decls, scope)
+}
+
 fn finding_text(
     alloc: Global,
     finding: &Finding,
@@ -39,23 +50,24 @@ fn finding_text(
     files: &Files,
 ) -> Result<String, AllocError>
     requires { scope < length decls.now.scopes }
-    ensures { IfOk result (λ text. string_bytes text ≡ finding_text decls.now scope files.now finding.now) }
+    ensures text { IfOk result (λ text. string_bytes text ≡ finding_text decls.now scope files.now finding.now) }
+    ensures back { IfOk result (λ text. OfFinding (IsReadBack decls.now scope) finding.now) }
 {
     match finding {
         Finding::Found(outcome, input) => {
             let outcome = answer_text(alloc, outcome, decls, scope, files)?;
-            let input = input_text(alloc, input, decls, scope)?;
+            let input = shown(alloc, input, decls, scope)?;
             format!(in alloc; "Found {outcome} with {input}")
         }
         Finding::Masked(kind, pos, input) => {
             let kind = fault_text(*kind);
             let pos = position_text(alloc, files, *pos)?;
-            let input = input_text(alloc, input, decls, scope)?;
+            let input = shown(alloc, input, decls, scope)?;
             format!(in alloc; "Masked {kind} at {pos} with {input}")
         }
         Finding::Derived(pos, input, outcome) => {
             let pos = position_text(alloc, files, *pos)?;
-            let input = input_text(alloc, input, decls, scope)?;
+            let input = shown(alloc, input, decls, scope)?;
             let outcome = answer_text(alloc, outcome, decls, scope, files)?;
             format!(in alloc; "Undecided derived at {pos} with {input} giving {outcome}")
         }
@@ -71,7 +83,8 @@ fn said(
     budget: u64,
 ) -> Result<String, AllocError>
     requires { scope < length decls.now.scopes }
-    ensures { IfOk result (λ text. string_bytes text ≡ said decls.now scope files.now budget line.now) }
+    ensures text { IfOk result (λ text. string_bytes text ≡ said decls.now scope files.now budget line.now) }
+    ensures back { IfOk result (λ text. OfLine (IsReadBack decls.now scope) line.now) }
 {
     match line {
         Line::Covered => String::from_str(alloc, "Covered"),
@@ -90,7 +103,8 @@ pub(crate) fn target_line(
     budget: u64,
 ) -> Result<String, AllocError>
     requires { scope < length decls.now.scopes }
-    ensures { IfOk result (λ text. string_bytes text ≡ target_line decls.now scope files.now budget line.now) }
+    ensures text { IfOk result (λ text. string_bytes text ≡ target_line decls.now scope files.now budget line.now) }
+    ensures back { IfOk result (λ text. OfLine (IsReadBack decls.now scope) line.now.line) }
 {
     let name = line.name.as_str();
     let said = said(alloc, &line.line, decls, scope, files, budget)?;

@@ -2,6 +2,7 @@
 ghost use Rattle.std.specs.Prelude.{◌≡◌, ◌<◌, ◌++◌, ◌∷◌, [], IfOk, OnOk, length, string_bytes};
 ghost use Rattle.cat_scope.specs.Names.{AllHave};
 ghost use Rattle.cat_audit.specs.ReportTexts.{called_lines, line_before, report_text, section_text, target_lines};
+ghost use Rattle.cat_audit.specs.RunsAgain.{AreReadBack, IsReadBack, OfLines};
 
 use crate::lines::{called_line, scope_name, target_line, verdict_text};
 use crate::{CalledLine, NamedLine, Section};
@@ -28,8 +29,9 @@ fn push_targets(
     budget: u64,
 ) -> Result<(), AllocError>
     requires { scope < length decls.now.scopes }
-    ensures { OnOk result (string_bytes text.new
+    ensures text { OnOk result (string_bytes text.new
         ≡ string_bytes text.old ++ target_lines decls.now scope files.now budget lines.now) }
+    ensures back { OnOk result (OfLines (IsReadBack decls.now scope) lines.now) }
 {
     for line in lines {
         let line = target_line(alloc, line, decls, scope, files, budget)?;
@@ -64,8 +66,9 @@ fn push_section(
     budget: u64,
 ) -> Result<(), AllocError>
     requires { section.now.scope < length decls.now.scopes }
-    ensures { OnOk result (string_bytes text.new
+    ensures text { OnOk result (string_bytes text.new
         ≡ string_bytes text.old ++ section_text decls.now files.now budget section.now) }
+    ensures back { OnOk result (AreReadBack decls.now section.now) }
 {
     let name = scope_name(decls, section.scope);
     let first = format!(in alloc; "audit {name}")?;
@@ -79,7 +82,7 @@ fn push_section(
 }
 
 /// The text of an audit's sections, in which the search for a target made at most `budget` leaves. Each line ends with
-/// a line feed. An outcome is told as a run tells it, and an input is told so that it is read back.
+/// a line feed. An outcome is told as a run tells it.
 pub fn report_text(
     alloc: Global,
     sections: &[Section],
@@ -88,7 +91,8 @@ pub fn report_text(
     budget: u64,
 ) -> Result<String, AllocError>
     requires { AllHave (λ s. s.scope < length decls.now.scopes) sections.now }
-    ensures { IfOk result (λ text. string_bytes text ≡ report_text decls.now files.now budget sections.now) }
+    ensures text { IfOk result (λ text. string_bytes text ≡ report_text decls.now files.now budget sections.now) }
+    ensures back { IfOk result (λ text. AllHave (AreReadBack decls.now) sections.now) }
 {
     let mut text = String::new(alloc);
     for section in sections {

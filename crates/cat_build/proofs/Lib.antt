@@ -1,4 +1,5 @@
 pub mod Counted
+pub mod Distinct
 pub mod FrontSteps
 pub mod ForestSteps
 mod Examples

@@ -1,10 +1,11 @@
 // What holds of sources that are accepted.
-ghost use Rattle.std.specs.Prelude.{◌≡◌, ◌≢◌, ◌≤◌, ◌<◌, List, length};
+ghost use Rattle.std.specs.Prelude.{◌≡◌, ◌≢◌, ◌≤◌, ◌<◌, IsTrue, List, length};
 ghost use Rattle.cat_pos.specs.declared.limits.TheConstants.{ENTRIES_BOUND};
 ghost use Rattle.cat_pos.specs.declared.pos.Piece.{Piece};
 ghost use Rattle.cat_scope.specs.declared.programs.Program.{Program};
 ghost use Rattle.cat_scope.specs.Names.{AllHave};
 ghost use Rattle.cat_names.specs.Limits.{most_cases};
+ghost use Rattle.cat_json.specs.Names.{names_are_distinct};
 ghost use Rattle.cat_build.specs.Accepted.{IsAccepted};
 ghost use Rattle.cat_build.specs.Causes.{HasCause};
 ghost use Rattle.cat_build.specs.declared.code.BuildRefusal.{BuildRefusal};
@@ -52,3 +53,10 @@ pub fn accepted_programs_are_counted()
     definitions_are_counted();
     cases_are_counted();
 }
+
+/// No two fields of a structure, no two cases of an enumeration and no two inputs of a scope of an accepted program have
+/// one name.
+pub fn accepted_programs_have_distinct_names()
+    ensures { (pieces : List Piece) (program : Program) → IsAccepted pieces program
+        → IsTrue (names_are_distinct program.decls) }
+{}

@@ -20,7 +20,8 @@ use cat_scope::Program;
 use cat_weave::Source;
 pub use code::{BuildRefusal, Code};
 pub use laws::{
-    accepted_programs_are_counted, pieces_have_one_program, refused_pieces_are_not_accepted,
+    accepted_programs_are_counted, accepted_programs_have_distinct_names, pieces_have_one_program,
+    refused_pieces_are_not_accepted,
 };
 use std::alloc::Global;
 

@@ -6,11 +6,13 @@ use Rattle.cat_io.specs.declared.shelf.ShelfFault.TheVariants as shelf
 use Rattle.cat_value.specs.declared.decls.Decls.{Decls}
 use Rattle.cat_value.specs.declared.outcome.Outcome.{Outcome}
 use Rattle.cat_scope.specs.declared.programs.Program.{Program}
+use Rattle.cat_scope.specs.Names.{AllHave}
 use Rattle.cat_audit.specs.declared.report.Report.{Report}
 use Rattle.cat_audit.specs.declared.report.Verdict.{Verdict}
 use Rattle.cat_audit.specs.declared.report.Verdict.TheVariants as verdict
 use Rattle.cat_audit.specs.Complete.{AreClosedTrees, targets_in}
 use Rattle.cat_audit.specs.Reports.{last_verdict}
+use Rattle.cat_audit.specs.RunsAgain.{RunAgain}
 use Rattle.cat_json.specs.declared.refusal.InputRefusal.{InputRefusal}
 use Rattle.cat_answer.specs.Answer.{answer_of}
 use Rattle.cat_weave.specs.declared.source.Source.{Source}
@@ -127,6 +129,7 @@ SaysChecked program scope extra reply =
 pub record SaysReport (program : Program) (scope most : ℕ) (files : List (List ℕ)) (reply : Reply) : Type 0 where
   pub report : Report
   pub report_is : HasReport program scope most report
+  pub again : AllHave (RunAgain program) report.sections
   pub says : Says (status_at (last_verdict report.sections)) (audit_text program.decls files most report) reply
 
 -- a reply tells of an outcome, where there is one

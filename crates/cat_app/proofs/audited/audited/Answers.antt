@@ -1,13 +1,12 @@
-use Rattle.std.proofs.Common.{◌<◌, List, length, subst, sym}
-use Rattle.cat_value.specs.declared.decls.Decls.{Decls}
-use Rattle.cat_scope.specs.Names.{AllHave}
-use Rattle.cat_audit.specs.declared.report.Section.{Section}
+use Rattle.std.proofs.Common.{◌≡◌, rules}
+use Rattle.cat_audit.specs.declared.report.Verdict.TheVariants.{Complete}
+use Rattle.cat_audit.specs.Reports.{last_verdict}
 use Rattle.cat_app.proofs.audited.audited.Goals as goal
 
-pub report_text-requires : goal.report_text-requires
-report_text-requires c =
-    let report = c.in_ok-report.report in
-    subst (λ (ss : List Section). AllHave (λ s. s.scope < length c.decls-decls.result.now.scopes) ss)
-    (sym c.as_slice-sections.ensures)
-    (subst (λ (ds : Decls). AllHave (λ s. s.scope < length ds.scopes) report.sections) (sym c.decls-decls.ensures)
-    (c.reports_are_of_declared_scopes.ensures c.args.scope c.args.most report c.in_ok-report.ensures.report_is))
+pub text_of-requires-clause-report : goal.text_of-requires-clause-report
+text_of-requires-clause-report c = (c.args.scope, c.in_ok-report.ensures.report_is)
+
+pub certificate_of-requires : goal.certificate_of-requires
+certificate_of-requires c complete =
+    let last : last_verdict c.in_ok-report.report.sections ≡ Complete = search rules in
+    (c.args.most, c.in_ok-report.ensures.closed last)

@@ -10,9 +10,9 @@ pub write_cert-requires-clause-count : goal.write_cert-requires-clause-count
 write_cert-requires-clause-count c =
     let report = c.args.report.now in
     let closed = c.requires c.in-Complete.is in
-    subst (λ (ts : List Table). length c.as_slice-in-Complete.result.now ≡ length (targets_of ts))
-    (sym c.as_slice.ensures)
-    (subst (λ (cs : List CaseTree). length cs ≡ length (targets_of report.tables)) (sym c.as_slice-in-Complete.ensures)
+    let trees = c.as_slice-in-Complete in
+    subst (λ (ts : List Table). length trees.result.now ≡ length (targets_of ts)) (sym c.as_slice.ensures)
+    (subst (λ (cs : List CaseTree). length cs ≡ length (targets_of report.tables)) (sym trees.ensures)
     (trees_counted closed.0 report.tables report.trees closed.1))
 
 pub write_cert-requires-clause-whole : goal.write_cert-requires-clause-whole
