@@ -4,4 +4,5 @@ pub mod Exits
 pub mod Views
 pub mod LineExits
 pub mod LinesGathered
+pub mod Sharing
 pub mod Exported

@@ -23,6 +23,6 @@ abbrev pub behind : Said → Found (List Line) → Found Said
 behind said found = and_then found (λ lines. Ok (with_lines said lines))
 
 -- what is said after a call that adds to it
-abbrev pub added : Result (Unit {0}) Refusal → Said → Result Said Refusal
+abbrev pub added : {A : Type 0} → Result A Refusal → Said → Result Said Refusal
 added (Ok _) said = Ok said
 added (Err e) said = Err e

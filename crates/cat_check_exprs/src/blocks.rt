@@ -1,30 +1,43 @@
 // Blocks and declarations of scopes, line by line.
+ghost use Rattle.std.specs.Prelude.{◌≡◌, Ok, IfOk};
 ghost use Rattle.cat_names.specs.Found.{Tells};
 ghost use Rattle.cat_names.specs.Lines as words;
 ghost use Rattle.cat_check_forms.specs.Tabled.{IsTabled, names_at};
 ghost use Rattle.cat_check_exprs.specs.Saying.{added, behind};
+ghost use Rattle.cat_check_exprs.specs.Sharing.{bare_condition};
 ghost use Rattle.cat_check_exprs.specs.inside.Conditions.{condition_found};
 
+use crate::conditions::shared_condition;
 use crate::{Said, assertion, condition, definition, rule};
 use cat_check_forms::Here;
 use cat_names::Refusal;
-use cat_pos::List;
+use cat_pos::{List, Shared};
+use cat_scope::Expr;
 use cat_tree::{Block, Item, Node, Use};
 
-/// Adds what a line says, in a block with a condition or none.
-fn add_use(here: &Here, block: &Option<Node>, line: &Use, said: &mut Said) -> Result<(), Refusal>
-    requires { IsTabled here.now }
+/// Adds what a line says, in a block with a condition or none, which its bare definitions share.
+fn add_use(
+    here: &Here,
+    block: &Option<Node>,
+    shared: &Option<Shared<Expr>>,
+    line: &Use,
+    said: &mut Said,
+) -> Result<(), Refusal>
+    requires tabled { IsTabled here.now }
+    requires shared { bare_condition (names_at here.now) block.now ≡ Ok shared.now }
     ensures { Tells (added result said.new) (behind said.old
         (words.use_lines (names_at here.now) here.now.scope block.now line.now)) }
 {
     match line {
         Use::Definition(lead, place, target, condition, value) => {
-            let def = definition(here, block, lead, *place, target, condition, value)?;
+            let def = definition(here, block, shared, lead, *place, target, condition, value)?;
             said.define(def)?;
             Ok(())
         }
         Use::Rule(lead, place, target, condition, fulfilled) => {
-            let def = rule(here, block, lead, *place, target, condition, *fulfilled)?;
+            let def = rule(
+                here, block, shared, lead, *place, target, condition, *fulfilled,
+            )?;
             said.define(def)?;
             Ok(())
         }
@@ -40,15 +53,17 @@ fn add_use(here: &Here, block: &Option<Node>, line: &Use, said: &mut Said) -> Re
 fn add_uses(
     here: &Here,
     block: &Option<Node>,
+    shared: &Option<Shared<Expr>>,
     lines: &[Use],
     said: &mut Said,
 ) -> Result<(), Refusal>
-    requires { IsTabled here.now }
+    requires tabled { IsTabled here.now }
+    requires shared { bare_condition (names_at here.now) block.now ≡ Ok shared.now }
     ensures { Tells (added result said.new) (behind said.old
         (words.all_lines (words.use_lines (names_at here.now) here.now.scope block.now) lines.now)) }
 {
     for line in lines {
-        add_use(here, block, line, said)?;
+        add_use(here, block, shared, line, said)?;
     }
     Ok(())
 }
@@ -69,14 +84,30 @@ fn add_condition(here: &Here, block: &Option<Node>, said: &mut Said) -> Result<(
     }
 }
 
+/// Adds the condition of a block, where it has one, and gives it for the bare definitions of the block to share.
+fn add_shared(
+    here: &Here,
+    block: &Option<Node>,
+    said: &mut Said,
+) -> Result<Option<Shared<Expr>>, Refusal>
+    requires { IsTabled here.now }
+    ensures added { Tells (added result said.new) (behind said.old
+        (condition_found (names_at here.now) block.now)) }
+    ensures shared { IfOk result (λ shared. bare_condition (names_at here.now) block.now ≡ Ok shared) }
+{
+    add_condition(here, block, said)?;
+    let shared = shared_condition(here, block)?;
+    Ok(shared)
+}
+
 /// Adds what a block says of its scope.
 pub fn add_block(here: &Here, block: &Block, said: &mut Said) -> Result<(), Refusal>
     requires { IsTabled here.now }
     ensures told { Tells (added result said.new) (behind said.old
         (words.block_lines (names_at here.now) here.now.scope block.now)) }
 {
-    add_condition(here, &block.condition, said)?;
-    add_uses(here, &block.condition, block.uses.as_slice(), said)
+    let shared = add_shared(here, &block.condition, said)?;
+    add_uses(here, &block.condition, &shared, block.uses.as_slice(), said)
 }
 
 /// Adds what a declaration or a block says of its scope.

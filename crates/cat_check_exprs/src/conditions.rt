@@ -1,16 +1,17 @@
 // Conditions, of blocks and of definitions.
-ghost use Rattle.std.specs.Prelude.{◌≡◌, IfOk, OnOk};
+ghost use Rattle.std.specs.Prelude.{◌≡◌, None, Ok, IfOk, OnOk};
 ghost use Rattle.std.specs.Option.{option_copied};
 ghost use Rattle.cat_names.specs.Definitions as words;
 ghost use Rattle.cat_names.specs.Found.{Tells};
 ghost use Rattle.cat_names.specs.Meaning.{meant};
 ghost use Rattle.cat_check_forms.specs.Tabled.{IsTabled, names_at};
+ghost use Rattle.cat_check_exprs.specs.Sharing.{bare_condition, is_bare};
 
 use crate::inferred;
 use cat_check_forms::Here;
 use cat_check_operators::{Resolved, as_expected};
 use cat_names::{Local, Locals, Refusal, Typed};
-use cat_pos::{List, Text};
+use cat_pos::{List, Shared, Text};
 use cat_scope::Expr;
 use cat_tree::{Name, Node};
 use cat_value::{Ty, copy_ty};
@@ -145,4 +146,66 @@ pub fn whole_condition(
     let mut named = named_params(here.alloc, params, types)?;
     let own = condition(here, own, &mut named)?;
     Ok(conjunction(block, own))
+}
+
+/// Whether a definition is bare: it has no condition of its own, and no parameters.
+fn is_bare(own: &Option<Node>, types: &[Ty]) -> bool
+    ensures { result ≡ is_bare own.now types.now }
+{
+    match own {
+        Some(_) => false,
+        None => types.is_empty(),
+    }
+}
+
+/// A condition that is shared, once more.
+fn lent(shared: &Option<Shared<Expr>>) -> Result<Option<Shared<Expr>>, AllocError>
+    ensures { IfOk result (λ condition. condition ≡ shared.now) }
+{
+    match shared {
+        None => Ok(None),
+        Some(condition) => Ok(Some(condition.copy()?)),
+    }
+}
+
+/// A condition that nothing else holds.
+fn held(alloc: Global, condition: Option<Expr>) -> Result<Option<Shared<Expr>>, AllocError>
+    ensures { IfOk result (λ held. held ≡ condition) }
+{
+    match condition {
+        None => Ok(None),
+        Some(condition) => Ok(Some(Shared::new(alloc, condition)?)),
+    }
+}
+
+/// The condition of the bare definitions of a block, which they share.
+pub fn shared_condition(here: &Here, block: &Option<Node>) -> Result<Option<Shared<Expr>>, Refusal>
+    requires { IsTabled here.now }
+    ensures { Tells result (bare_condition (names_at here.now) block.now) }
+{
+    let mut none = List::new(here.alloc);
+    let block = condition(here, block, &mut none)?;
+    Ok(held(here.alloc, conjunction(block, None))?)
+}
+
+/// The condition of a definition with these parameters, in a block whose bare definitions share one.
+#[tactic(auto, using(crate::proofs::Sharing::sharing))]
+pub fn definition_condition(
+    here: &Here,
+    block: &Option<Node>,
+    shared: &Option<Shared<Expr>>,
+    own: &Option<Node>,
+    params: &[Name],
+    types: &[Ty],
+) -> Result<Option<Shared<Expr>>, Refusal>
+    requires tabled { IsTabled here.now }
+    requires shared { bare_condition (names_at here.now) block.now ≡ Ok shared.now }
+    ensures { Tells result
+        (words.whole_condition (names_at here.now) block.now own.now params.now types.now) }
+{
+    if is_bare(own, types) {
+        return Ok(lent(shared)?);
+    }
+    let condition = whole_condition(here, block, own, params, types)?;
+    Ok(held(here.alloc, condition)?)
 }

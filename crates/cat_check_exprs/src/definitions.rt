@@ -1,11 +1,12 @@
 // Definitions, rules and assertions.
-ghost use Rattle.std.specs.Prelude.{◌≡◌, Some};
+ghost use Rattle.std.specs.Prelude.{◌≡◌, Some, Ok};
 ghost use Rattle.cat_names.specs.Definitions as words;
 ghost use Rattle.cat_names.specs.Found.{Tells};
 ghost use Rattle.cat_names.specs.Meaning.{meant};
 ghost use Rattle.cat_check_forms.specs.Tabled.{IsTabled, names_at};
+ghost use Rattle.cat_check_exprs.specs.Sharing.{bare_condition};
 
-use crate::conditions::{boolean, named_params, resolved, whole_condition};
+use crate::conditions::{boolean, definition_condition, named_params, resolved};
 use crate::heads::Head;
 use crate::{Aim, aim_of};
 use cat_check_forms::Here;
@@ -25,17 +26,19 @@ fn consequence(here: &Here, value: &Node, params: &[Name], aim: &Aim) -> Result<
     resolved(here, value, &mut locals, Some(aim.ty))
 }
 
-/// A definition: the type of its target is expected of its value.
+/// A definition in a block whose bare definitions share a condition: the type of its target is expected of its value.
 pub fn definition(
     here: &Here,
     block: &Option<Node>,
+    shared: &Option<Shared<Expr>>,
     lead: &Lead,
     place: Pos,
     target: &TargetName,
     condition: &Option<Node>,
     value: &Node,
 ) -> Result<Def, Refusal>
-    requires { IsTabled here.now }
+    requires tabled { IsTabled here.now }
+    requires shared { bare_condition (names_at here.now) block.now ≡ Ok shared.now }
     ensures told { Tells result (words.definition_meant (names_at here.now) here.now.scope block.now lead.now place
         target.now condition.now value.now) }
 {
@@ -43,21 +46,23 @@ pub fn definition(
     let aim = aim_of(here, target)?;
     let head = Head::of(here.alloc, lead, place, &aim)?;
     let value = consequence(here, value, params, &aim)?;
-    let condition = whole_condition(here, block, condition, params, aim.params)?;
+    let condition = definition_condition(here, block, shared, condition, params, aim.params)?;
     Ok(head.define(here.alloc, condition, value.into_expr().into_inner())?)
 }
 
-/// A rule: a definition of a condition variable as true or false.
+/// A rule in a block whose bare definitions share a condition: a definition of a condition variable as true or false.
 pub fn rule(
     here: &Here,
     block: &Option<Node>,
+    shared: &Option<Shared<Expr>>,
     lead: &Lead,
     place: Pos,
     target: &TargetName,
     condition: &Option<Node>,
     fulfilled: Fulfilled,
 ) -> Result<Def, Refusal>
-    requires { IsTabled here.now }
+    requires tabled { IsTabled here.now }
+    requires shared { bare_condition (names_at here.now) block.now ≡ Ok shared.now }
     ensures told { Tells result (words.rule_meant (names_at here.now) here.now.scope block.now lead.now place target.now
         condition.now fulfilled) }
 {
@@ -67,7 +72,7 @@ pub fn rule(
     }
     let head = Head::of(here.alloc, lead, place, &aim)?;
     let params = target.params.as_slice();
-    let condition = whole_condition(here, block, condition, params, aim.params)?;
+    let condition = definition_condition(here, block, shared, condition, params, aim.params)?;
     let holds = Literal::Boolean(is_fulfilled(fulfilled));
     Ok(head.define(here.alloc, condition, Expr::Literal(place, holds))?)
 }

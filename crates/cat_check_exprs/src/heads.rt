@@ -54,15 +54,11 @@ impl Head {
     pub fn define(
         self,
         alloc: Global,
-        condition: Option<Expr>,
+        condition: Option<Shared<Expr>>,
         consequence: Expr,
     ) -> Result<Def, AllocError>
         ensures { IfOk result (λ def. def ≡ defined self condition consequence) }
     {
-        let condition = match condition {
-            Some(condition) => Some(Shared::new(alloc, condition)?),
-            None => None,
-        };
         let consequence = Shared::new(alloc, consequence)?;
         let Head {
             target,
