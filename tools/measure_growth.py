@@ -96,6 +96,13 @@ def literal(count):
                   '  definition x equals T { %s } . f0' % ' '.join('-- f%d : n' % k for k in range(count))])
 
 
+def turned(count):
+    """The same, which the literal gives from the last to the first."""
+    head, body = literal(count).split('T {')
+    given, rest = body.split(' }', 1)
+    return head + 'T {' + ''.join(' --' + part for part in reversed(given.split(' --')[1:])) + ' }' + rest
+
+
 def unknown_keys(count):
     """An input with so many keys that name nothing."""
     return {'n': 1, **{'k%d' % k: 0 for k in range(count)}}
@@ -125,6 +132,7 @@ WORK = [
     ('lines of law', lambda n: run(law(n), {'n': 1}, b'{"x":1}\n'), 64_000),
     ('definitions under the condition of a block', lambda n: run(shared_condition(n), {'n': 1}, b'{"x":1}\n'), 16_000),
     ('fields of a structure literal', lambda n: run(literal(n), {'n': 1}, b'{"x":1}\n'), 64_000),
+    ('fields of a structure literal, the last one first', lambda n: run(turned(n), {'n': 1}, b'{"x":1}\n'), 64_000),
     ('keys of an input that name nothing', lambda n: run(definitions(2), unknown_keys(n), b'input refused '), 640_000),
     ('structures in a list', persons, 640_000),
     ('an audit of bands', lambda n: audit('Bands', source(bands(n, 'in order')), b'rate: Covered'), 32_000),
@@ -157,3 +165,33 @@ def growth(folder, program):
         print('| %s | %s | %s | %s | %.2f |' % (told, ', '.join(format(size, ',') for size in sizes),
                                               ', '.join('%.2f s' % each[0] for each in took),
                                               ', '.join('%.0f MiB' % each[1] for each in took), exponent), flush=True)
+
+
+def doubled_types(count):
+    """Structure types, each with the one before twice."""
+    return [line for k in range(1, count + 1) for line in
+            ('declaration structure T%d:' % k, *('  data %s content %s' % (name, 'T%d' % (k - 1) if k > 1 else 'integer')
+                                                 for name in 'ab'))]
+
+
+def doubled_output(count):
+    values = ['n', *('v%d' % k for k in range(1, count)), 'x']
+    return block([*doubled_types(count), *HEAD[:2], *('  internal v%d content T%d' % (k, k) for k in range(1, count)),
+                  '  output x content T%d' % count, 'scope S:',
+                  *('  definition %s equals T%d { -- a : %s -- b : %s }' % (values[k], k, values[k - 1], values[k - 1])
+                    for k in range(1, count + 1))])
+
+
+def doubled_input(count):
+    return block([*doubled_types(count), *HEAD[:3], '  input t content T%d' % count, 'scope S:',
+                  '  definition x under condition n > 3 consequence equals n'])
+
+
+def doubled(folder, program):
+    """What would be made of types that double: what is too much is known before it is made."""
+    print('\n| Structure types, each with the one before twice | number | time | memory | bytes written |\n|---|---|---|---|---|')
+    for told, mode, made in (('as an output', 'run', doubled_output), ("as an audit's input", 'audit', doubled_input)):
+        for count in (8, 13, 18, 24, 60):
+            (folder / 'a.md').write_text(made(count))
+            took, memory, reply = measured(folder, [program, mode, 'S', 'a.md'], b'{"n":1}')
+            print('| %s | %d | %.2f s | %.0f MiB | %s |' % (told, count, took, memory, format(len(reply), ',')), flush=True)
