@@ -55,6 +55,25 @@ def files(size, words):
     return texts
 
 
+# Forms that stand in themselves, each some 256 deep.
+NESTED = [('(%s)', 250), ('if true then %s else n', 250), ('%s + n', 250), ('n + (%s)', 125), ('[%s]', 250), ('f of %s', 1)]
+
+
+def deep_files(size):
+    """Files of this many bytes together, each of at most 4 MiB: definitions whose expressions are as deep as they may be."""
+    deep = []
+    for form, times in NESTED:
+        text = 'n'
+        for _ in range(times):
+            text = form % text
+        deep.append('  definition x equals %s' % text)
+    part, left, texts = block(['scope S:', *deep]), size, []
+    while left > 0:
+        texts.append(block(HEAD) + part * max(1, (min(FILE, left) - 4096) // len(part)))
+        left -= FILE
+    return texts
+
+
 # Where a source that is read to its end is refused in the stage behind: what stands in its last block.
 ENDS = [
     ('woven', '```catala\nscope S:\n'),

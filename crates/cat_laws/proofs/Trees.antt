@@ -7,10 +7,10 @@ use Rattle.cat_lex.proofs.Sequences.{once}
 use Rattle.cat_tree.specs.declared.expression.Node.{Node}
 use Rattle.cat_tree.specs.declared.program.Tree.{Tree}
 use Rattle.cat_tree.specs.Programs.{SpellsProgram}
-use Rattle.cat_parse_row.specs.Reader.{Parsed, Reader, Fails, Reads}
-use Rattle.cat_parse_row.specs.Exactly.{ReadsExpressions, Exactly}
-use Rattle.cat_parse_row.specs.Programs.{program}
-use Rattle.cat_parse_reach.specs.Reach.{expression}
+use Rattle.cat_parse_expr.specs.Reader.{Parsed, Reader, Fails, Reads}
+use Rattle.cat_parse.specs.Exactly.{ReadsExpressions, Exactly}
+use Rattle.cat_parse.specs.Programs.{program}
+use Rattle.cat_parse.specs.Expression.{expression}
 use Rattle.cat_weave.specs.Causes.{AreReadableTogether}
 use Rattle.cat_names.specs.Accepted.{IsParsed, IsRefused}
 use Rattle.cat_names.specs.Decided.{HasProgram, IsDecided}
@@ -54,9 +54,9 @@ by_parse : (pieces : List Piece) (tokens : List Token) → Lexes pieces tokens �
     → Decided (HasTree pieces)
 by_parse pieces tokens lexed (Reads t left) is =
     inl (record { tree = t; spelled = record { tokens = tokens; lexed = lexed; spelled = is.0 } })
-by_parse pieces tokens lexed (Fails left false) is =
+by_parse pieces tokens lexed (Fails left false whole) is =
     inr (λ has. is.1.none has.tree (spelled_by pieces tokens lexed has))
-by_parse pieces tokens lexed (Fails left true) is =
+by_parse pieces tokens lexed (Fails left true whole) is =
     let high = is.1 in
     let parts : tokens ≡ (is.0 ++ high.next ∷ []) ++ high.after =
     high.text ∙ (ap (λ (ts : List Token). is.0 ++ ts) high.at ∙ sym (append_assoc is.0 (high.next ∷ []) high.after)) in

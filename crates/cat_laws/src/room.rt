@@ -7,8 +7,9 @@ ghost use Rattle.cat_laws.specs.Told.{HasRoom, IsRun, TellsAll, TellsRun, WhereA
 use cat_names::{
     each_tree_is_accepted_or_refused, refused_trees_have_no_program, trees_have_one_program,
 };
-use cat_parse_reach::{expressions_are_read_rightly, tokens_spell_one_program};
-use cat_parse_row::programs_are_read_exactly;
+use cat_parse::{
+    expressions_are_read_rightly, programs_are_read_exactly, tokens_spell_one_program,
+};
 
 /// Over a shelf that tells what a run reads, some room is enough for each reply that may come to one who asks for a
 /// run, with every status: also where the source is refused or a read fails. The room hangs on the words and the shelf

@@ -1,18 +1,21 @@
 -- What reading all items of a program says of the tokens.
 use Rattle.std.proofs.Common.{◌≡◌, ℕ, suc, ◌<◌, ◌≤◌, true, false, List, [], ◌∷◌, ◌++◌, length, drop, take, Ok, Err}
-use Rattle.std.proofs.Common.{sym, ap, subst, ◌∙◌, arith}
+use Rattle.std.proofs.Common.{Bool, Option, None, cond, refl, sym, ap, subst, ◌∙◌, arith}
 use Rattle.std.proofs.lemmas.List.{drop_all}
 use Rattle.cat_lex.specs.declared.token.Token.{Token}
 use Rattle.cat_tree.specs.declared.expression.Node.{Node}
 use Rattle.cat_tree.specs.declared.program.Item.{Item}
 use Rattle.cat_tree.specs.declared.program.Tree.{Tree}
 use Rattle.cat_tree.specs.Programs.{highest_in, SpellsProgram, SpellsLowProgram, BeginsProgram}
-use Rattle.cat_parse_expr.specs.declared.refusal.ParseRefusal.{ParseRefusal}
-use Rattle.cat_parse_expr.specs.declared.refusal.ParseRefusal.TheVariants.{Unexpected, TooDeep, Memory}
-use Rattle.cat_parse_row.specs.Reader.{Parsed, Reader, Fails, Reads, after}
-use Rattle.cat_parse_row.specs.Programs.{items, to_end, program}
-use Rattle.cat_parse_row.specs.Exactly.{Exactly}
-use Rattle.cat_parse_reach.specs.Places.{Gives}
+use Rattle.cat_parse_expr.specs.declared.miss.Break.{Break}
+use Rattle.cat_parse_expr.specs.declared.miss.Miss.{Miss}
+use Rattle.cat_parse_expr.specs.declared.miss.Miss.TheVariants.{Broken, Memory}
+use Rattle.cat_parse_expr.specs.declared.refusal.ParseRefusal.TheVariants.{Unexpected, TooDeep}
+use Rattle.cat_parse_expr.specs.Refusals.{refusal_of}
+use Rattle.cat_parse_expr.specs.Reader.{Parsed, Reader, Fails, Reads, after}
+use Rattle.cat_parse.specs.Programs.{items, to_end, program}
+use Rattle.cat_parse.specs.Exactly.{Exactly}
+use Rattle.cat_parse_expr.specs.Places.{Gives, left_behind}
 use Rattle.cat_parse.specs.Causes.{IsUnexpected, IsTooDeep, HasProgramCause}
 use Rattle.cat_parse.proofs.Places.{front_is, one_more, token_at}
 
@@ -20,9 +23,9 @@ abbrev tree_of : List Item → Tree
 tree_of is = record { items = is }
 
 -- where reading stops, by its index
-unexpected : (tokens : List Token) (at : ℕ) → at ≤ length tokens → Exactly tokens (Fails (drop at tokens) false)
-    → IsUnexpected tokens at
-unexpected tokens at le x =
+unexpected : (tokens : List Token) (at : ℕ) → at ≤ length tokens → (whole : Option (List Token))
+    → Exactly tokens (Fails (drop at tokens) false whole) → IsUnexpected tokens at
+unexpected tokens at le whole x =
     let before = front_is tokens x.0 at x.1.text in
     record {
       within = le;
@@ -38,8 +41,9 @@ unexpected tokens at le x =
         x.1.dead t.0 t.1 t.2
         (subst BeginsProgram (m.1 ∙ ap (λ (u : List Token). u ++ t.0 ∷ []) (sym before)) b)
 
-too_deep : (tokens : List Token) (at : ℕ) → Exactly tokens (Fails (drop at tokens) true) → IsTooDeep tokens at
-too_deep tokens at x =
+too_deep : (tokens : List Token) (at : ℕ) (whole : Option (List Token)) → Exactly tokens (Fails (drop at tokens) true whole)
+    → IsTooDeep tokens at
+too_deep tokens at whole x =
     let m = one_more at tokens x.1.next x.1.after x.1.at in
     let same = ap (λ (u : List Token). u ++ x.1.next ∷ []) (front_is tokens x.0 at x.1.text) ∙ sym m.1 in
     record {
@@ -74,11 +78,11 @@ module _ (ex : Reader Node) (exactly : (tokens : List Token) → Exactly tokens 
   pub left_over : (is : List Item) (place : ℕ) → Gives (items ex) tokens 0 (Ok (is, place)) → place < length tokens
       → IsUnexpected tokens place
   left_over is place g more =
-      unexpected tokens place (omega (arith, more))
+      unexpected tokens place (omega (arith, more)) None
       (by (drop place tokens) (token_at place tokens more) (come_to (Reads is (drop place tokens)) g.0))
     where
       by : (left : List Token) → (p : Token) × (rest : List Token) × (left ≡ p ∷ rest)
-          → Exactly tokens (after (Reads is left) to_end) → Exactly tokens (Fails left false)
+          → Exactly tokens (after (Reads is left) to_end) → Exactly tokens (Fails left false None)
       by [] t x = absurd (nothing t.0 t.1 t.2)
         where
           nothing : (p : Token) (rest : List Token) → [] ≡ p ∷ rest → ⊥
@@ -86,7 +90,16 @@ module _ (ex : Reader Node) (exactly : (tokens : List Token) → Exactly tokens 
       by (p ∷ rest) t x = x
 
   -- an item is refused
-  pub cause : (refusal : ParseRefusal) → Gives (items ex) tokens 0 (Err refusal) → HasProgramCause tokens refusal
-  cause (Unexpected at) g = unexpected tokens at g.1 (come_to (Fails (drop at tokens) false) g.0)
-  cause (TooDeep at) g = too_deep tokens at (come_to (Fails (drop at tokens) true) g.0)
+  pub cause : (miss : Miss) → Gives (items ex) tokens 0 (Err miss) → HasProgramCause tokens (refusal_of miss)
+  cause (Broken b) g = by b.deep refl
+    where
+      by : (deep : Bool) → b.deep ≡ deep → HasProgramCause tokens (cond deep (TooDeep b.at) (Unexpected b.at))
+      by true e =
+          too_deep tokens b.at (left_behind tokens b.whole)
+          (come_to (Fails (drop b.at tokens) true (left_behind tokens b.whole))
+          (g.0 ∙ ap (λ (d : Bool). Fails (drop b.at tokens) d (left_behind tokens b.whole)) e))
+      by false e =
+          unexpected tokens b.at g.1 (left_behind tokens b.whole)
+          (come_to (Fails (drop b.at tokens) false (left_behind tokens b.whole))
+          (g.0 ∙ ap (λ (d : Bool). Fails (drop b.at tokens) d (left_behind tokens b.whole)) e))
   cause Memory g = tt

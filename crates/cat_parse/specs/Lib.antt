@@ -1,1 +1,11 @@
+pub mod Many
+pub mod Declarations
+pub mod Leads
+pub mod Tails
+pub mod Uses
+pub mod Programs
+pub mod Right
+pub mod Exactly
+pub mod Expression
+pub mod Ends
 pub mod Causes

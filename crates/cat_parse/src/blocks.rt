@@ -1,28 +1,24 @@
 // Scope blocks.
 ghost use Rattle.std.specs.Prelude.{◌≡◌, ◌≤◌, length, drop};
-ghost use Rattle.cat_parse_row.specs.Programs as programs;
-ghost use Rattle.cat_parse_row.specs.Reader.{heads, many, optional};
-ghost use Rattle.cat_parse_row.specs.Tails as tails;
-ghost use Rattle.cat_parse_row.specs.Uses as uses;
-ghost use Rattle.cat_parse_reach.specs.Places.{Gives};
-ghost use Rattle.cat_parse_reach.specs.Reach.{expression};
+ghost use Rattle.cat_parse.specs.Programs as programs;
+ghost use Rattle.cat_parse_expr.specs.Reader.{heads};
+ghost use Rattle.cat_parse.specs.Many.{many, optional};
+ghost use Rattle.cat_parse.specs.Tails as tails;
+ghost use Rattle.cat_parse.specs.Uses as uses;
+ghost use Rattle.cat_parse_expr.specs.Places.{Gives};
+ghost use Rattle.cat_parse.specs.Expression.{expression};
 
+use crate::expression::expression;
+use crate::laws::expressions_are_read_rightly;
 use crate::lines::line;
-use crate::rows::{upper, word};
 use cat_lex::{DoubleKeyword, Keyword, Symbol, Token, TokenKind};
-use cat_parse_expr::ParseRefusal;
-use cat_parse_reach::{expression, expressions_are_read_rightly};
-use cat_parse_row::{Cue, is_next};
+use cat_parse_expr::{Cue, Read, is_next, upper, word};
 use cat_pos::List;
 use cat_tree::{Block, Node, Use};
 use std::alloc::Global;
 
 /// The condition of a scope block, where it has one.
-fn condition_if(
-    alloc: Global,
-    tokens: &[Token],
-    at: usize,
-) -> Result<(Option<Node>, usize), ParseRefusal>
+fn condition_if(alloc: Global, tokens: &[Token], at: usize) -> Read<Option<Node>>
     requires { at ≤ length tokens.now }
     ensures { Gives (optional tails.is_under (tails.condition expression)) tokens.now at result }
 {
@@ -53,7 +49,7 @@ fn is_line(tokens: &[Token], at: usize) -> bool
 }
 
 /// The lines of a scope block.
-fn lines(alloc: Global, tokens: &[Token], at: usize) -> Result<(List<Use>, usize), ParseRefusal>
+fn lines(alloc: Global, tokens: &[Token], at: usize) -> Read<List<Use>>
     requires { at ≤ length tokens.now }
     ensures { Gives (many uses.is_use (uses.a_use expression)) tokens.now at result }
 {
@@ -69,11 +65,7 @@ fn lines(alloc: Global, tokens: &[Token], at: usize) -> Result<(List<Use>, usize
 }
 
 /// A scope block.
-pub(crate) fn block(
-    alloc: Global,
-    tokens: &[Token],
-    at: usize,
-) -> Result<(Block, usize), ParseRefusal>
+pub(crate) fn block(alloc: Global, tokens: &[Token], at: usize) -> Read<Block>
     requires { at ≤ length tokens.now }
     ensures { Gives (programs.block expression) tokens.now at result }
 {

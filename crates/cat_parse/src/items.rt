@@ -1,23 +1,22 @@
 // Declarations and scope blocks.
 ghost use Rattle.std.specs.Prelude.{◌≡◌, ◌≤◌, length, drop};
-ghost use Rattle.cat_parse_row.specs.Programs as programs;
-ghost use Rattle.cat_parse_row.specs.Reader.{heads};
-ghost use Rattle.cat_parse_row.specs.Uses as uses;
-ghost use Rattle.cat_parse_reach.specs.Places.{Gives};
-ghost use Rattle.cat_parse_reach.specs.Reach.{expression};
+ghost use Rattle.cat_parse.specs.Programs as programs;
+ghost use Rattle.cat_parse_expr.specs.Reader.{heads};
+ghost use Rattle.cat_parse.specs.Uses as uses;
+ghost use Rattle.cat_parse_expr.specs.Places.{Gives};
+ghost use Rattle.cat_parse.specs.Expression.{expression};
 
 use crate::blocks::block;
-use crate::rows::declaration;
+use crate::declaring::declaration;
+use crate::laws::expressions_are_read_rightly;
 use cat_lex::{Keyword, Token, TokenKind};
-use cat_parse_expr::ParseRefusal;
-use cat_parse_reach::expressions_are_read_rightly;
-use cat_parse_row::{Cue, is_next};
+use cat_parse_expr::{Cue, Read, is_next};
 use cat_pos::List;
 use cat_tree::Item;
 use std::alloc::Global;
 
 /// A declaration or a scope block.
-fn item(alloc: Global, tokens: &[Token], at: usize) -> Result<(Item, usize), ParseRefusal>
+fn item(alloc: Global, tokens: &[Token], at: usize) -> Read<Item>
     requires { at ≤ length tokens.now }
     ensures { Gives (programs.an_item expression) tokens.now at result }
 {
@@ -43,11 +42,7 @@ fn is_item(tokens: &[Token], at: usize) -> bool
 }
 
 /// The declarations and scope blocks of a program.
-pub(crate) fn items(
-    alloc: Global,
-    tokens: &[Token],
-    at: usize,
-) -> Result<(List<Item>, usize), ParseRefusal>
+pub(crate) fn items(alloc: Global, tokens: &[Token], at: usize) -> Read<List<Item>>
     requires { at ≤ length tokens.now }
     ensures { Gives (programs.items expression) tokens.now at result }
 {

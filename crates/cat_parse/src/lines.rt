@@ -1,30 +1,26 @@
 // Lines of scope blocks: definitions, rules, assertions and roundings.
 ghost use Rattle.std.specs.Prelude.{◌≡◌, ◌≤◌, length};
 ghost use Rattle.cat_lex.specs.declared.words.Keyword.TheVariants as key;
-ghost use Rattle.cat_parse_row.specs.Declarations.{key_word};
-ghost use Rattle.cat_parse_row.specs.Leads as leads;
-ghost use Rattle.cat_parse_row.specs.Reader.{◌⨟◌, both, optional, pure};
-ghost use Rattle.cat_parse_row.specs.Tails as tails;
-ghost use Rattle.cat_parse_row.specs.Uses as spec;
+ghost use Rattle.cat_parse.specs.Declarations.{key_word};
+ghost use Rattle.cat_parse.specs.Leads as leads;
+ghost use Rattle.cat_parse_expr.specs.Reader.{◌⨟◌, pure};
+ghost use Rattle.cat_parse.specs.Many.{both, optional};
+ghost use Rattle.cat_parse.specs.Tails as tails;
+ghost use Rattle.cat_parse.specs.Uses as spec;
 ghost use Rattle.cat_tree.specs.declared.program.Use.TheVariants as uses;
-ghost use Rattle.cat_parse_reach.specs.Places.{Gives};
-ghost use Rattle.cat_parse_reach.specs.Reach.{expression};
+ghost use Rattle.cat_parse_expr.specs.Places.{Gives};
+ghost use Rattle.cat_parse.specs.Expression.{expression};
 
-use crate::rows::{lead, target, word};
+use crate::expression::expression;
+use crate::heading::{lead, target};
 use cat_lex::{DoubleKeyword, Keyword, Token};
-use cat_parse_expr::ParseRefusal;
-use cat_parse_reach::expression;
-use cat_parse_row::{Cue, is_next};
+use cat_parse_expr::{Cue, Read, is_next, word};
 use cat_pos::Pos;
 use cat_tree::{Fulfilled, Node, TargetName, Use};
 use std::alloc::Global;
 
 /// The condition of a definition or a rule, with the word behind it, where it is there.
-fn guard_if(
-    alloc: Global,
-    tokens: &[Token],
-    at: usize,
-) -> Result<(Option<Node>, usize), ParseRefusal>
+fn guard_if(alloc: Global, tokens: &[Token], at: usize) -> Read<Option<Node>>
     requires { at ≤ length tokens.now }
     ensures { Gives (optional tails.is_under (tails.guard expression)) tokens.now at result }
 {
@@ -38,7 +34,7 @@ fn guard_if(
 }
 
 /// Whether a rule says yes or no.
-fn fulfilled(tokens: &[Token], at: usize) -> Result<(Fulfilled, usize), ParseRefusal>
+fn fulfilled(tokens: &[Token], at: usize) -> Read<Fulfilled>
     requires { at ≤ length tokens.now }
     ensures { Gives tails.whether_fulfilled tokens.now at result }
 {
@@ -52,7 +48,7 @@ fn fulfilled(tokens: &[Token], at: usize) -> Result<(Fulfilled, usize), ParseRef
 }
 
 /// The value of a definition, behind its word.
-fn value(alloc: Global, tokens: &[Token], at: usize) -> Result<(Node, usize), ParseRefusal>
+fn value(alloc: Global, tokens: &[Token], at: usize) -> Read<Node>
     requires { at ≤ length tokens.now }
     ensures { Gives (key_word key.Equals ⨟ λ q. expression) tokens.now at result }
 {
@@ -65,7 +61,7 @@ fn defined(
     alloc: Global,
     tokens: &[Token],
     at: usize,
-) -> Result<((Pos, TargetName, Option<Node>, Node), usize), ParseRefusal>
+) -> Read<(Pos, TargetName, Option<Node>, Node)>
     requires { at ≤ length tokens.now }
     ensures { Gives (tails.defined expression) tokens.now at result }
 {
@@ -81,7 +77,7 @@ fn ruled(
     alloc: Global,
     tokens: &[Token],
     at: usize,
-) -> Result<((Pos, TargetName, Option<Node>, Fulfilled), usize), ParseRefusal>
+) -> Read<(Pos, TargetName, Option<Node>, Fulfilled)>
     requires { at ≤ length tokens.now }
     ensures { Gives (tails.ruled expression) tokens.now at result }
 {
@@ -93,7 +89,7 @@ fn ruled(
 }
 
 /// A definition or a rule.
-fn led(alloc: Global, tokens: &[Token], at: usize) -> Result<(Use, usize), ParseRefusal>
+fn led(alloc: Global, tokens: &[Token], at: usize) -> Read<Use>
     requires { at ≤ length tokens.now }
     ensures { Gives (both leads.lead (tails.tail expression) ⨟ λ x. pure (tails.use_of x)) tokens.now at result }
 {
@@ -106,7 +102,7 @@ fn led(alloc: Global, tokens: &[Token], at: usize) -> Result<(Use, usize), Parse
     Ok((Use::Definition(lead, pos, target, condition, value), at))
 }
 
-fn assertion(alloc: Global, tokens: &[Token], at: usize) -> Result<(Use, usize), ParseRefusal>
+fn assertion(alloc: Global, tokens: &[Token], at: usize) -> Read<Use>
     requires { at ≤ length tokens.now }
     ensures { Gives (spec.asserted expression ⨟ λ x. pure (uses.Assertion x.0 x.1)) tokens.now at result }
 {
@@ -116,7 +112,7 @@ fn assertion(alloc: Global, tokens: &[Token], at: usize) -> Result<(Use, usize),
 }
 
 /// Whether dates are rounded up.
-fn rounds_up(tokens: &[Token], at: usize) -> Result<(bool, usize), ParseRefusal>
+fn rounds_up(tokens: &[Token], at: usize) -> Read<bool>
     requires { at ≤ length tokens.now }
     ensures { Gives spec.direction tokens.now at result }
 {
@@ -128,7 +124,7 @@ fn rounds_up(tokens: &[Token], at: usize) -> Result<(bool, usize), ParseRefusal>
     Ok((false, at))
 }
 
-fn rounding(tokens: &[Token], at: usize) -> Result<(Use, usize), ParseRefusal>
+fn rounding(tokens: &[Token], at: usize) -> Read<Use>
     requires { at ≤ length tokens.now }
     ensures { Gives (spec.rounded ⨟ λ x. pure (uses.DateRound x.0 x.1)) tokens.now at result }
 {
@@ -138,7 +134,7 @@ fn rounding(tokens: &[Token], at: usize) -> Result<(Use, usize), ParseRefusal>
 }
 
 /// A line of a scope block.
-pub(crate) fn line(alloc: Global, tokens: &[Token], at: usize) -> Result<(Use, usize), ParseRefusal>
+pub(crate) fn line(alloc: Global, tokens: &[Token], at: usize) -> Read<Use>
     requires { at ≤ length tokens.now }
     ensures { Gives (spec.a_use expression) tokens.now at result }
 {

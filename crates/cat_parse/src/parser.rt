@@ -4,10 +4,9 @@ ghost use Rattle.cat_tree.specs.Programs.{SpellsLowProgram};
 ghost use Rattle.cat_parse.specs.Causes.{HasProgramCause};
 
 use crate::items::items;
+use crate::laws::{expressions_are_read_rightly, programs_are_read_exactly};
 use cat_lex::Token;
 use cat_parse_expr::ParseRefusal;
-use cat_parse_reach::expressions_are_read_rightly;
-use cat_parse_row::programs_are_read_exactly;
 use cat_tree::Tree;
 use std::alloc::Global;
 

@@ -1,687 +1,438 @@
--- Each word leads to a state that says what was read.
-use Rattle.std.proofs.Common.{inl, inr, ◌⊎◌, cond, ◌≡◌, ℕ, zero, suc, ◌≤◌, Bool, true, false, List, [], ◌∷◌, ◌++◌, map}
-use Rattle.std.proofs.Common.{Option, Some, None, refl, sym, ap, subst, ◌∙◌, arith}
+-- The steps behind a whole expression.
+use Rattle.std.proofs.Common.{◌≡◌, ℕ, zero, suc, ◌≤◌, ◌<◌, max, Bool, true, false, not, nat_eq, nat_le, nat_lt, ◌&&◌, ◌||◌, cond}
+use Rattle.std.proofs.Common.{if◌then◌else◌, List, [], ◌∷◌, ◌++◌, length, Option, None, Some, refl, sym, ap, subst, ◌∙◌, arith}
+use Rattle.std.proofs.Common.{inl, inr, ◌⊎◌}
+use Rattle.std.proofs.lemmas.Bool.Decides.{nat_tests}
 use Rattle.cat_pos.specs.declared.pos.Pos.{Pos}
 use Rattle.cat_lex.specs.declared.token.Token.{Token}
+use Rattle.cat_lex.specs.declared.token.TokenKind.{TokenKind}
 use Rattle.cat_lex.specs.declared.token.TokenKind.TheVariants as kind
 use Rattle.cat_lex.specs.declared.words.Keyword.TheVariants as key
 use Rattle.cat_lex.specs.declared.words.DoubleKeyword.TheVariants as pair
 use Rattle.cat_lex.specs.declared.symbol.Symbol.TheVariants as symbol
 use Rattle.cat_tree.specs.declared.name.Name.{Name}
+use Rattle.cat_tree.specs.declared.name.CaseName.{CaseName}
 use Rattle.cat_tree.specs.declared.name.CaseName.TheVariants.{Bare, Qualified}
-use Rattle.cat_tree.specs.declared.expression.Prefix.TheVariants as prefix
-use Rattle.cat_tree.specs.declared.expression.Literal.{Literal}
-use Rattle.cat_tree.specs.declared.expression.Literal.TheVariants as literal
-use Rattle.cat_tree.specs.declared.expression.Each.TheVariants as each
-use Rattle.cat_tree.specs.declared.expression.Pattern.TheVariants as pattern
+use Rattle.cat_tree.specs.declared.expression.Operator.{Operator}
+use Rattle.cat_tree.specs.declared.expression.Operator.TheVariants as op
 use Rattle.cat_tree.specs.declared.expression.Node.{Node}
-use Rattle.cat_tree.specs.declared.expression.Node.TheVariants as leaf
 use Rattle.cat_tree.specs.declared.expression.Node.TheViews as node
-use Rattle.cat_tree.specs.Phrase.{Phrase, Row, Parts, End, Word, right_strength, IsAt, At, Anywhere}
-use Rattle.cat_tree.specs.Wording.{◌▹◌, first, «word», sign, lower, upper, left, of_level}
-use Rattle.cat_tree.specs.Literals.{lists_of, literal_parts, literal_rank, span_bound, unit_word}
+use Rattle.cat_tree.specs.Literals.{case_parts}
+use Rattle.cat_tree.specs.Operators.{operator_kind, operator_level, left_level}
+use Rattle.cat_tree.specs.Phrase.{Phrase, Parts, End, Word, At, AreLevelled, AreSpelled}
+use Rattle.cat_tree.specs.Wording as wording
+use Rattle.cat_tree.specs.Wording.{◌▹◌, part, first, pair_at}
 use Rattle.cat_tree.specs.Grammar.{phrase}
-use Rattle.cat_tree.proofs.Exported.{arm_row, phrase_Literal, phrase_Case, phrase_Parens, phrase_Field, phrase_Test}
-use Rattle.cat_tree.proofs.Exported.{phrase_List, phrase_Structure, phrase_ScopeCall, phrase_Match}
-use Rattle.cat_parse_state.specs.declared.state.State.{State}
-use Rattle.cat_parse_state.specs.declared.state.State.TheVariants as state
-use Rattle.cat_parse_state.specs.declared.state.Owner.TheVariants as owner
-use Rattle.std.proofs.lemmas.List.{append-nil}
-use Rattle.cat_lex.specs.declared.token.TokenKind.{TokenKind}
-use Rattle.cat_parse_expr.proofs.Rows.{match_parts, so_far, room, IsRow, Begun, ReachedAt}
-use Rattle.cat_parse_expr.proofs.WordsAre.{on_of_is, on_then_is, on_else_is, on_among_is, on_in_is, on_initially_is}
-use Rattle.cat_parse_expr.proofs.WordsAre.{on_with_is, on_to_is, on_anything_is, on_content_is, on_with_pattern_is}
-use Rattle.cat_parse_expr.proofs.WordsAre.{on_we_have_is, on_such_that_is, on_close_is, on_bracket_is, on_semicolon_is}
-use Rattle.cat_parse_expr.proofs.WordsAre.{on_comma_is, on_colon_is, on_dot_is, on_dashes_is, on_brace_is}
-use Rattle.cat_parse_expr.proofs.WordsAre.{on_end_brace_is, lower_of_is, upper_of_is, some_same}
-use Rattle.cat_parse_step.specs.Words.{Move, Onward, Grown, on_of, on_anything, on_content, lower_of, upper_of, unit_of}
-use Rattle.cat_parse_step.specs.Marks.{on_bracket, on_colon, on_brace, on_end_brace}
-use Rattle.cat_parse_step.specs.Machine.{step, some, strength_of}
-use Rattle.std.specs.Prelude.{ℤ, int_lt, not}
-use Rattle.cat_tree.specs.declared.expression.Unit.{Unit as TimeUnit}
-use Rattle.cat_tree.specs.declared.expression.Unit.TheVariants as unit
-use Rattle.cat_tree.specs.declared.name.Base.TheVariants as base
-use Rattle.cat_parse_step.specs.Starts.{if_at, start_step}
-use Rattle.cat_parse_step.specs.Steps.{whole_step, type_step}
-use Rattle.cat_parse_expr.proofs.Reaching.{push, MoveReached, first_of_two, nothing_more, lands}
-use Rattle.cat_parse_expr.proofs.Behind.{begun, ended, name_at, type_at, if_at_is, goes, done_reached, match_level}
+use Rattle.cat_parse_expr.specs.declared.behind.Behind.{Behind}
+use Rattle.cat_parse_expr.specs.declared.behind.Behind.TheVariants.{Other, Field, Pattern as Tested}
+use Rattle.cat_parse_expr.specs.declared.cue.Cue.{Cue}
+use Rattle.cat_parse_expr.specs.declared.cue.Cue.TheVariants as cue
+use Rattle.cat_parse_expr.specs.declared.follow.Follow.{Follow}
+use Rattle.cat_parse_expr.specs.declared.follow.Follow.TheVariants as follow
+use Rattle.cat_parse_expr.specs.declared.measured.Measured.{Measured}
+use Rattle.cat_parse_expr.specs.Climbing as climbing
+use Rattle.cat_parse_expr.specs.Climbing.{ends_test, goes_so, goes_on, room_beside, nothing_at}
+use Rattle.cat_parse_expr.specs.Cues as cues
+use Rattle.cat_parse_expr.specs.Cues.{kind_of, cue_is, word_of, «word», lower_of, upper_of}
+use Rattle.cat_parse_expr.specs.Followers.{is_taken, is_asked, is_below, may_stand, MayFollow, looks_of}
+use Rattle.cat_parse_expr.specs.Longest.{KeepsWhole}
+use Rattle.cat_parse_expr.specs.Measures.{closed, ending}
+use Rattle.cat_parse_expr.specs.Openings.{follow_of, follow_at}
+use Rattle.cat_parse_expr.specs.Parts.{Lower, is_sign, case_from, pair_word, sign}
+use Rattle.cat_parse_expr.specs.Reader.{Parsed, Fails, Reads, Reader, ◌⨟◌, pure, nothing, after, heads, behind_whole, with_room}
+use Rattle.cat_parse_expr.specs.Right.{Is, Begun, IsRight}
+use Rattle.cat_parse_expr.specs.Rightly.{measured_of, IsMeasured, IsLow, operand_row, AreRight}
+use Rattle.cat_parse_expr.proofs.Chains.{Step, Operates, Selects, TestsFor, put, step_parts}
+use Rattle.cat_parse_expr.proofs.Choices.{Recast}
+use Rattle.cat_parse_expr.proofs.Firsts.{is_bare}
+use Rattle.cat_parse_expr.proofs.Follows.{operator_ends, one_level, tall_enough}
+use Rattle.cat_parse_expr.proofs.Leaves.{cue_found, cue_self}
+use Rattle.cat_parse_expr.proofs.NoRoom.{nothing_read}
+use Rattle.cat_parse_expr.proofs.Operands.{Next, goes_past, goes_then, ending_next, end_read}
+use Rattle.cat_parse_expr.proofs.Patterns.{case_first, case_rest, NoDot, whole_case_read}
+use Rattle.cat_parse_expr.proofs.Read.{IsRead, pure_read}
+use Rattle.cat_parse_expr.proofs.Sequels.{last_read}
+use Rattle.cat_parse_expr.proofs.Shaping.{recast_read, reshape_read}
+use Rattle.cat_parse_expr.proofs.Tuples.{two, both}
+use Rattle.cat_parse_expr.proofs.Worded.{word_read, word_at_read, lower_room_read, upper_room_read}
 
--- ---- at the start
+-- ---- the words of operators
 
--- a first word
-opened : (k high level : ℕ) (q : State) (b c : Bool) (kd : TokenKind) (pos : Pos) (front : List Token) (m : Move)
-    → Begun k state.Start high b c front → if_at k level q ≡ Some m → level ≤ room q
-    → ((ps : Parts) → so_far q ps ≡ Word (At kd pos) ps)
-    → (Begun k q high false false (front ++ record { kind = kd; pos = pos } ∷ []) → MoveReached k (Onward q) high
-    (record { kind = kd; pos = pos }) front) → MoveReached k m high (record { kind = kd; pos = pos }) front
-opened k high level q b c kd pos front m r h le is onto =
-    let x = if_at_is k level q m h in
-    goes k high (record { kind = kd; pos = pos }) front (Onward q) m x.1
-    (onto (record {
-      front_is = push (so_far state.Start) (so_far q) high b c (At kd pos)
-          (record { kind = kd; pos = pos }) front r.front_is refl is;
-      fits = omega (arith, x.0);
-      low = r.low;
-    }))
+abbrev pub cue_of : Operator → Cue
+cue_of op.Or = cue.Word key.Or
+cue_of op.Xor = cue.Word key.Xor
+cue_of op.And = cue.Word key.And
+cue_of op.Less = cue.Sign symbol.Less
+cue_of op.LessEqual = cue.Sign symbol.LessEqual
+cue_of op.Greater = cue.Sign symbol.Greater
+cue_of op.GreaterEqual = cue.Sign symbol.GreaterEqual
+cue_of op.Equal = cue.Sign symbol.Equal
+cue_of op.NotEqual = cue.Sign symbol.NotEqual
+cue_of op.Contains = cue.Word key.Contains
+cue_of op.Plus = cue.Sign symbol.Plus
+cue_of op.Minus = cue.Sign symbol.Minus
+cue_of op.Times = cue.Sign symbol.Star
+cue_of op.Divide = cue.Sign symbol.Slash
 
-literal_on : (k high : ℕ) (l : Literal) (b c : Bool) (kd : TokenKind) (pos : Pos) (front : List Token) (m : Move)
-    → Begun k state.Start high b c front → some (state.Complete (leaf.Literal l pos) 9) ≡ Some m
-    → Row (literal_rank l) (literal_parts l pos) ≡ Row (of_level 9) (Word (At kd pos) End)
-    → MoveReached k m high (record { kind = kd; pos = pos }) front
-literal_on k high l b c kd pos front m r h e =
-    goes k high (record { kind = kd; pos = pos }) front (Onward (state.Complete (leaf.Literal l pos) 9)) m
-    (some_same (Onward (state.Complete (leaf.Literal l pos) 9)) m h)
-    (ended k high 9 state.Start (leaf.Literal l pos) (λ ps. Word (At kd pos) ps) b c (At kd pos)
-    (record { kind = kd; pos = pos }) front r refl (λ ps. refl) (phrase_Literal l pos ∙ e) (omega arith))
+pub operator_word : (o : Operator) → (kind_of (cue_of o) ≡ operator_kind o) × (follow_of (operator_kind o) ≡ follow.Operated o)
+operator_word op.Or = (refl, refl)
+operator_word op.Xor = (refl, refl)
+operator_word op.And = (refl, refl)
+operator_word op.Less = (refl, refl)
+operator_word op.LessEqual = (refl, refl)
+operator_word op.Greater = (refl, refl)
+operator_word op.GreaterEqual = (refl, refl)
+operator_word op.Equal = (refl, refl)
+operator_word op.NotEqual = (refl, refl)
+operator_word op.Contains = (refl, refl)
+operator_word op.Plus = (refl, refl)
+operator_word op.Minus = (refl, refl)
+operator_word op.Times = (refl, refl)
+operator_word op.Divide = (refl, refl)
 
-start_reached : (k high : ℕ) (b c : Bool) (kd : TokenKind) (pos : Pos) (front : List Token) (m : Move)
-    → Begun k state.Start high b c front → start_step k pos kd ≡ Some m
-    → MoveReached k m high (record { kind = kd; pos = pos }) front
-start_reached k high b c (kind.Int n) pos front m r h = goes k high (record { kind = kind.Int n; pos = pos }) front
-    (Onward (state.Int n pos)) m (some_same (Onward (state.Int n pos)) m h)
-    (begun k high state.Start (state.Int n pos) b c (At (kind.Int n) pos) (record { kind = kind.Int n; pos = pos })
-    front
-    r refl (omega arith) (λ ps. refl))
-start_reached k high b c (kind.Lower w) pos front m r h = goes k high (record { kind = kind.Lower w; pos = pos }) front
-    (Onward (state.Name (record { text = w; pos = pos }))) m
-    (some_same (Onward (state.Name (record { text = w; pos = pos }))) m h)
-    (begun k high state.Start (state.Name (record { text = w; pos = pos })) b c (At (kind.Lower w) pos)
-    (record { kind = kind.Lower w; pos = pos }) front r refl (omega arith) (λ ps. refl))
-start_reached k high b c (kind.Upper u) pos front m r h = goes k high (record { kind = kind.Upper u; pos = pos }) front
-    (Onward (state.Upper (record { text = u; pos = pos }))) m
-    (some_same (Onward (state.Upper (record { text = u; pos = pos }))) m h)
-    (begun k high state.Start (state.Upper (record { text = u; pos = pos })) b c (At (kind.Upper u) pos)
-    (record { kind = kind.Upper u; pos = pos }) front r refl (omega arith) (λ ps. refl))
-start_reached k high b c (kind.Symbol symbol.LeftParen) pos front m r h =
-    goes k high (record { kind = kind.Symbol symbol.LeftParen; pos = pos }) front (Onward (state.Open pos)) m
-    (some_same (Onward (state.Open pos)) m h)
-    (begun k high state.Start (state.Open pos) b c (At (kind.Symbol symbol.LeftParen) pos)
-    (record { kind = kind.Symbol symbol.LeftParen; pos = pos }) front r refl (omega arith) (λ ps. refl))
-start_reached k high b c (kind.Symbol symbol.LeftBracket) pos front m r h =
-    goes k high (record { kind = kind.Symbol symbol.LeftBracket; pos = pos }) front (Onward (state.Element pos [])) m
-    (some_same (Onward (state.Element pos [])) m h) (begun k high state.Start (state.Element pos []) b c
-    (At (kind.Symbol symbol.LeftBracket) pos) (record { kind = kind.Symbol symbol.LeftBracket; pos = pos }) front r refl
-    (omega arith) (λ ps. refl))
-start_reached k high b c (kind.Pair pair.OutputOf) pos front m r h =
-    goes k high (record { kind = kind.Pair pair.OutputOf; pos = pos }) front (Onward (state.CallScope pos)) m
-    (some_same (Onward (state.CallScope pos)) m h)
-    (begun k high state.Start (state.CallScope pos) b c (At (kind.Pair pair.OutputOf) pos)
-    (record { kind = kind.Pair pair.OutputOf; pos = pos }) front r refl (omega arith) (λ ps. refl))
-start_reached k high b c (kind.Dec d) pos front m r h =
-    literal_on k high (literal.Dec d) b c (kind.Dec d) pos front m r h refl
-start_reached k high b c (kind.Pct d) pos front m r h =
-    literal_on k high (literal.Pct d) b c (kind.Pct d) pos front m r h refl
-start_reached k high b c (kind.Money n) pos front m r h =
-    literal_on k high (literal.Money n) b c (kind.Money n) pos front m r h refl
-start_reached k high b c (kind.Date d) pos front m r h =
-    literal_on k high (literal.Date d) b c (kind.Date d) pos front m r h refl
-start_reached k high b c (kind.Word key.True) pos front m r h =
-    literal_on k high (literal.Boolean true) b c (kind.Word key.True) pos front m r h refl
-start_reached k high b c (kind.Word key.False) pos front m r h =
-    literal_on k high (literal.Boolean false) b c (kind.Word key.False) pos front m r h refl
-start_reached k high b c (kind.Word key.Not) pos front m r h = opened k high 3 (state.Prefixed prefix.Not pos) b c
-    (kind.Word key.Not) pos front m r h (omega arith) (λ ps. refl) (λ z. z)
-start_reached k high b c (kind.Symbol symbol.Minus) pos front m r h = opened k high 7 (state.Prefixed prefix.Negate pos)
-    b c (kind.Symbol symbol.Minus) pos front m r h (omega arith) (λ ps. refl) (λ z. z)
-start_reached k high b c (kind.Word key.Integer) pos front m r h = opened k high 8 (state.PrefixOf prefix.IntegerOf pos)
-    b c (kind.Word key.Integer) pos front m r h (omega arith) (λ ps. refl) (λ z. z)
-start_reached k high b c (kind.Word key.Decimal) pos front m r h = opened k high 8 (state.PrefixOf prefix.DecimalOf pos)
-    b c (kind.Word key.Decimal) pos front m r h (omega arith) (λ ps. refl) (λ z. z)
-start_reached k high b c (kind.Word key.Money) pos front m r h = opened k high 8 (state.PrefixOf prefix.MoneyOf pos) b c
-    (kind.Word key.Money) pos front m r h (omega arith) (λ ps. refl) (λ z. z)
-start_reached k high b c (kind.Word key.GetYear) pos front m r h = opened k high 8 (state.PrefixOf prefix.GetYear pos) b
-    c (kind.Word key.GetYear) pos front m r h (omega arith) (λ ps. refl) (λ z. z)
-start_reached k high b c (kind.Word key.GetMonth) pos front m r h = opened k high 8 (state.PrefixOf prefix.GetMonth pos)
-    b c (kind.Word key.GetMonth) pos front m r h (omega arith) (λ ps. refl) (λ z. z)
-start_reached k high b c (kind.Word key.GetDay) pos front m r h = opened k high 8 (state.PrefixOf prefix.GetDay pos) b c
-    (kind.Word key.GetDay) pos front m r h (omega arith) (λ ps. refl) (λ z. z)
-start_reached k high b c (kind.Pair pair.RoundOf) pos front m r h = opened k high 8 (state.Prefixed prefix.RoundOf pos)
-    b c (kind.Pair pair.RoundOf) pos front m r h (omega arith) (λ ps. refl) (λ z. z)
-start_reached k high b c (kind.Pair pair.NumberOf) pos front m r h =
-    opened k high 8 (state.Prefixed prefix.NumberOf pos) b c (kind.Pair pair.NumberOf) pos front m r h (omega arith)
-    (λ ps. refl) (λ z. z)
-start_reached k high b c (kind.Word key.Sum) pos front m r h =
-    opened k high 8 (state.SumType pos 0) b c (kind.Word key.Sum) pos front m r h (omega arith) (λ ps. refl) (λ z. z)
-start_reached k high b c (kind.Word key.If) pos front m r h =
-    opened k high 8 (state.If pos) b c (kind.Word key.If) pos front m r h (omega arith) (λ ps. refl) (λ z. z)
-start_reached k high b c (kind.Word key.Match) pos front m r h =
-    opened k high 8 (state.Match pos) b c (kind.Word key.Match) pos front m r h (omega arith) (λ ps. refl) (λ z. z)
-start_reached k high b c (kind.Pair pair.ForAll) pos front m r h = opened k high 8 (state.Each each.ForAll pos) b c
-    (kind.Pair pair.ForAll) pos front m r h (omega arith) (λ ps. refl) (λ z. z)
-start_reached k high b c (kind.Word key.Exists) pos front m r h = opened k high 8 (state.Each each.Exists pos) b c
-    (kind.Word key.Exists) pos front m r h (omega arith) (λ ps. refl) (λ z. z)
-start_reached k high b c (kind.Pair pair.MapEach) pos front m r h = opened k high 8 (state.Each each.MapEach pos) b c
-    (kind.Pair pair.MapEach) pos front m r h (omega arith) (λ ps. refl) (λ z. z)
-start_reached k high b c (kind.Pair pair.ListOf) pos front m r h = opened k high 8 (state.Each each.ListOf pos) b c
-    (kind.Pair pair.ListOf) pos front m r h (omega arith) (λ ps. refl) (λ z. z)
-start_reached k high b c (kind.Pair pair.CombineAll) pos front m r h = opened k high 8 (state.Combine pos) b c
-    (kind.Pair pair.CombineAll) pos front m r h (omega arith) (λ ps. refl) (λ z. z)
-start_reached k high b c _ pos front m r h = absurd cc
+abbrev operator_in : TokenKind → Follow → TokenKind
+operator_in q (follow.Operated o) = operator_kind o
+operator_in q f = q
 
--- ---- one word
+abbrev or_that : Operator → Follow → Operator
+or_that o (follow.Operated x) = x
+or_that o f = o
 
-word_on : (k high : ℕ) (q next : State) (b c : Bool) (p : Token) (front : List Token) (m : Move) (kd : TokenKind)
-    → ((p.kind ≡ kd) × (some next ≡ Some m)) ⊎ (None ≡ Some m) → Begun k q high b c front → room q ≤ room next
-    → ((ps : Parts) → so_far next ps ≡ so_far q (Word (Anywhere kd) ps))
-    → (Begun k next high false false (front ++ p ∷ []) → MoveReached k (Onward next) high p front)
-    → MoveReached k m high p front
-word_on k high q next b c p front m kd (inl x) r le is onto = goes k high p front (Onward next) m
-    (some_same (Onward next) m x.1) (onto (begun k high q next b c (Anywhere kd) p front r x.0 le is))
-word_on k high q next b c p front m kd (inr x) r le is onto = absurd cc
+pub operator_is : (q : TokenKind) (o : Operator) → follow_of q ≡ follow.Operated o → q ≡ operator_kind o
+operator_is (kind.Word key.Or) o e = ap (operator_in (kind.Word key.Or)) e
+operator_is (kind.Word key.Xor) o e = ap (operator_in (kind.Word key.Xor)) e
+operator_is (kind.Word key.And) o e = ap (operator_in (kind.Word key.And)) e
+operator_is (kind.Word key.Contains) o e = ap (operator_in (kind.Word key.Contains)) e
+operator_is (kind.Symbol symbol.Less) o e = ap (operator_in (kind.Symbol symbol.Less)) e
+operator_is (kind.Symbol symbol.LessEqual) o e = ap (operator_in (kind.Symbol symbol.LessEqual)) e
+operator_is (kind.Symbol symbol.Greater) o e = ap (operator_in (kind.Symbol symbol.Greater)) e
+operator_is (kind.Symbol symbol.GreaterEqual) o e = ap (operator_in (kind.Symbol symbol.GreaterEqual)) e
+operator_is (kind.Symbol symbol.Equal) o e = ap (operator_in (kind.Symbol symbol.Equal)) e
+operator_is (kind.Symbol symbol.NotEqual) o e = ap (operator_in (kind.Symbol symbol.NotEqual)) e
+operator_is (kind.Symbol symbol.Plus) o e = ap (operator_in (kind.Symbol symbol.Plus)) e
+operator_is (kind.Symbol symbol.Minus) o e = ap (operator_in (kind.Symbol symbol.Minus)) e
+operator_is (kind.Symbol symbol.Star) o e = ap (operator_in (kind.Symbol symbol.Star)) e
+operator_is (kind.Symbol symbol.Slash) o e = ap (operator_in (kind.Symbol symbol.Slash)) e
+operator_is (kind.Pair pair.WithPattern) o e = absurd cc
+operator_is _ o e = absurd cc
 
-end_on : (k high level : ℕ) (q : State) (n : Node) (f : Parts → Parts) (b c : Bool) (p : Token) (front : List Token)
-    (m : Move) (kd : TokenKind) → ((p.kind ≡ kd) × (some (state.Complete n level) ≡ Some m)) ⊎ (None ≡ Some m)
-    → Begun k q high b c front → ((ps : Parts) → f ps ≡ so_far q (Word (Anywhere kd) ps))
-    → phrase n ≡ Row (of_level level) (f End) → room q ≤ level → MoveReached k m high p front
-end_on k high level q n f b c p front m kd (inl x) r is e le = goes k high p front (Onward (state.Complete n level)) m
-    (some_same (Onward (state.Complete n level)) m x.1) (ended k high level q n f b c (Anywhere kd) p front r x.0 is e
-    le)
-end_on k high level q n f b c p front m kd (inr x) r is e le = absurd cc
+-- what each step is, by its first word
+abbrev pub follow_in : Step → Follow
+follow_in (Operates o p e) = follow.Operated o
+follow_in (Selects w) = follow.Dotted
+follow_in (TestsFor p c) = follow.Tests
 
-name_on : (k high : ℕ) (q : State) (next : Name → State) (b c : Bool) (p : Token) (front : List Token) (m : Move)
-    → lower_of (λ w. Onward (next w)) p.pos p.kind ≡ Some m → Begun k q high b c front
-    → ((w : Name) → room q ≤ room (next w))
-    → ((w : Name) (ps : Parts) → so_far (next w) ps ≡ so_far q (Word (At (kind.Lower w.text) w.pos) ps))
-    → ((w : Name) → Begun k (next w) high false false (front ++ p ∷ []) → ReachedAt k (next w) high false false
-    (front ++ p ∷ [])) → MoveReached k m high p front
-name_on k high q next b c p front m h r le is onto =
-    let x = lower_of_is (λ w. Onward (next w)) p.pos p.kind m h in
-    goes k high p front (Onward (next x.0)) m x.3
-    (onto x.0 (begun k high q (next x.0) b c (At (kind.Lower x.0.text) x.0.pos) p front r (name_at x.0 p x.1 x.2)
-    (le x.0) (is x.0)))
+-- ---- what steps ask for
 
-end_name_on : (k high : ℕ) (q : State) (n : Name → Node) (f : Name → Parts → Parts) (b c : Bool) (p : Token)
-    (front : List Token) (m : Move) → lower_of (λ w. Onward (state.Complete (n w) 9)) p.pos p.kind ≡ Some m
-    → Begun k q high b c front → ((w : Name) (ps : Parts) → f w ps ≡ so_far q (Word (At (kind.Lower w.text) w.pos) ps))
-    → ((w : Name) → phrase (n w) ≡ Row (of_level 9) (f w End)) → room q ≤ 9 → MoveReached k m high p front
-end_name_on k high q n f b c p front m h r is e le =
-    let x = lower_of_is (λ w. Onward (state.Complete (n w) 9)) p.pos p.kind m h in
-    goes k high p front (Onward (state.Complete (n x.0) 9)) m x.3
-    (ended k high 9 q (n x.0) (f x.0) b c (At (kind.Lower x.0.text) x.0.pos) p front r (name_at x.0 p x.1 x.2)
-    (is x.0) (e x.0) le)
+-- the step may stand behind the expression
+abbrev pub FitsOne : (k : ℕ) → Measured → Step → Type 0
+FitsOne k s (Operates o p e) = (k ≤ operator_level o) × (left_level o ≤ s.strength) × IsMeasured e
+FitsOne k s (Selects w) = (9 ≤ s.strength) × (is_bare (phrase s.node) ≡ false)
+FitsOne k s (TestsFor p c) = (k ≤ 4) × (5 ≤ s.strength)
 
-type_on : (k high : ℕ) (q : State) (next : Name → State) (o : Option Move) (b c : Bool) (p : Token) (front : List Token)
-    (m : Move) → upper_of (λ w. Onward (next w)) o p.pos p.kind ≡ Some m → Begun k q high b c front
-    → ((w : Name) → room q ≤ room (next w))
-    → ((w : Name) (ps : Parts) → so_far (next w) ps ≡ so_far q (Word (At (kind.Upper w.text) w.pos) ps))
-    → ((w : Name) → Begun k (next w) high false false (front ++ p ∷ []) → ReachedAt k (next w) high false false
-    (front ++ p ∷ [])) → (o ≡ Some m → MoveReached k m high p front) → MoveReached k m high p front
-type_on k high q next o b c p front m h r le is onto otherwise =
-    by (upper_of_is (λ w. Onward (next w)) o p.pos p.kind m h)
+-- ---- no dot behind a test
+
+asked_dot : (b : Behind) (ts : List Token) → is_asked b (kind.Symbol symbol.Dot) ts ≡ false
+asked_dot Other ts = refl
+asked_dot Field ts = refl
+asked_dot Tested ts = refl
+
+none_of : (a d e g h : Bool) → a ≡ true → d ≡ false → e ≡ false → g ≡ false → h ≡ false
+    → (not a || (d || (e || (g || h)))) ≡ true → ⊥
+none_of false d e g h p q r s t x = absurd cc
+none_of true true e g h p q r s t x = absurd cc
+none_of true false true g h p q r s t x = absurd cc
+none_of true false false true h p q r s t x = absurd cc
+none_of true false false false true p q r s t x = absurd cc
+none_of true false false false false p q r s t x = absurd cc
+
+second : (a c : Bool) → c ≡ false → (a && c) ≡ false
+second true c h = h
+second false c h = refl
+
+pub dot_refused : (b : Behind) (k s : ℕ) (m : Bool) (ts : List Token) → k ≤ 9
+    → may_stand b k s m (kind.Symbol symbol.Dot) ts ≡ true → ⊥
+dot_refused b k s m ts le h =
+    none_of true (is_asked b (kind.Symbol symbol.Dot) ts) (nat_eq k 9 && is_sign symbol.Comma (kind.Symbol symbol.Dot))
+    (not m && is_sign symbol.MinusMinus (kind.Symbol symbol.Dot)) (not (nat_eq s 0) && is_below k follow.Dotted) refl
+    (asked_dot b ts) (second (nat_eq k 9) (is_sign symbol.Comma (kind.Symbol symbol.Dot)) refl)
+    (second (not m) (is_sign symbol.MinusMinus (kind.Symbol symbol.Dot)) refl)
+    (second (not (nat_eq s 0)) (is_below k follow.Dotted) not_above) h
   where
-    by : ((w : Name) × (p.kind ≡ kind.Upper w.text) × (w.pos ≡ p.pos) × (Onward (next w) ≡ m)) ⊎ (o ≡ Some m)
-        → MoveReached k m high p front
-    by (inl x) = goes k high p front (Onward (next x.0)) m x.3
-        (onto x.0 (begun k high q (next x.0) b c (At (kind.Upper x.0.text) x.0.pos) p front r (type_at x.0 p x.1 x.2)
-        (le x.0) (is x.0)))
-    by (inr x) = otherwise x
+    not_above : nat_lt 9 k ≡ false
+    not_above = grind (arith, nat_tests, le)
 
-lists_more : (n : ℕ) (ps : Parts) → lists_of (suc n) ps ≡ lists_of n (Word (Anywhere (kind.Pair pair.ListOf)) ps)
-lists_more zero ps = refl
-lists_more (suc n) ps = ap (Word (Anywhere (kind.Pair pair.ListOf))) (lists_more n ps)
+-- behind what is no left operand of a dot stands none
+pub dot_not : (b : Behind) (k : ℕ) (y : Measured) (v : List Token) → k ≤ 9 → y.strength ≤ 8 → Next b k y v
+    → heads (is_sign symbol.Dot) v ≡ false
+dot_not b k y [] le weak o = refl
+dot_not b k y (p ∷ ts) le weak o = by (is_sign symbol.Dot p.kind) refl (goes_then b k y (p ∷ ts) o)
+  where
+    by : (z : Bool) → is_sign symbol.Dot p.kind ≡ z → MayFollow b k y (p ∷ ts) ⊎ (goes_on b k y (p ∷ ts) ≡ true)
+        → is_sign symbol.Dot p.kind ≡ false
+    by false e o = e
+    by true e (inl h) =
+        absurd (dot_refused b k y.strength y.in_match ts le
+        (ap (λ (q : TokenKind). may_stand b k y.strength y.in_match q ts) (sym (cue_found (cue.Sign symbol.Dot) p.kind e)) ∙ h))
+    by true e (inr h) =
+        absurd (weak_not (ap (λ (q : TokenKind). goes_so b k y.strength (follow_of q) (p ∷ ts))
+        (sym (cue_found (cue.Sign symbol.Dot) p.kind e)) ∙ h))
+      where
+        weak_not : nat_le 9 y.strength ≡ true → ⊥
+        weak_not h = grind (arith, nat_tests, h, weak)
 
-types_reached : (k high : ℕ) (at : Pos) (n : ℕ) (b c : Bool) (kd : TokenKind) (pos : Pos) (front : List Token)
-    (m : Move) → Begun k (state.SumType at n) high b c front → type_step at n pos kd ≡ Some m
-    → MoveReached k m high (record { kind = kd; pos = pos }) front
-types_reached k high at n b c (kind.Pair pair.ListOf) pos front m r h =
-    goes k high (record { kind = kind.Pair pair.ListOf; pos = pos }) front (Onward (state.SumType at (suc n))) m
-    (some_same (Onward (state.SumType at (suc n))) m h) (begun k high (state.SumType at n) (state.SumType at (suc n)) b
-    c
-    (Anywhere (kind.Pair pair.ListOf)) (record { kind = kind.Pair pair.ListOf; pos = pos }) front r refl (omega arith)
-    (λ ps. ap (Word (At (kind.Word key.Sum) at)) (lists_more n ps)))
-types_reached k high at n b c (kind.Word key.Boolean) pos front m r h =
-    goes k high (record { kind = kind.Word key.Boolean; pos = pos }) front
-    (Onward (state.SumOf at (record { lists = n; base = base.Boolean; pos = pos }))) m
-    (some_same (Onward (state.SumOf at (record { lists = n; base = base.Boolean; pos = pos }))) m h)
-    (begun k high (state.SumType at n) (state.SumOf at (record { lists = n; base = base.Boolean; pos = pos })) b c
-    (At (kind.Word key.Boolean) pos) (record { kind = kind.Word key.Boolean; pos = pos }) front r refl (omega arith)
-    (λ ps. refl))
-types_reached k high at n b c (kind.Word key.Integer) pos front m r h =
-    goes k high (record { kind = kind.Word key.Integer; pos = pos }) front
-    (Onward (state.SumOf at (record { lists = n; base = base.Integer; pos = pos }))) m
-    (some_same (Onward (state.SumOf at (record { lists = n; base = base.Integer; pos = pos }))) m h)
-    (begun k high (state.SumType at n) (state.SumOf at (record { lists = n; base = base.Integer; pos = pos })) b c
-    (At (kind.Word key.Integer) pos) (record { kind = kind.Word key.Integer; pos = pos }) front r refl (omega arith)
-    (λ ps. refl))
-types_reached k high at n b c (kind.Word key.Decimal) pos front m r h =
-    goes k high (record { kind = kind.Word key.Decimal; pos = pos }) front
-    (Onward (state.SumOf at (record { lists = n; base = base.Decimal; pos = pos }))) m
-    (some_same (Onward (state.SumOf at (record { lists = n; base = base.Decimal; pos = pos }))) m h)
-    (begun k high (state.SumType at n) (state.SumOf at (record { lists = n; base = base.Decimal; pos = pos })) b c
-    (At (kind.Word key.Decimal) pos) (record { kind = kind.Word key.Decimal; pos = pos }) front r refl (omega arith)
-    (λ ps. refl))
-types_reached k high at n b c (kind.Word key.Money) pos front m r h =
-    goes k high (record { kind = kind.Word key.Money; pos = pos }) front
-    (Onward (state.SumOf at (record { lists = n; base = base.Money; pos = pos }))) m
-    (some_same (Onward (state.SumOf at (record { lists = n; base = base.Money; pos = pos }))) m h)
-    (begun k high (state.SumType at n) (state.SumOf at (record { lists = n; base = base.Money; pos = pos })) b c
-    (At (kind.Word key.Money) pos) (record { kind = kind.Word key.Money; pos = pos }) front r refl (omega arith)
-    (λ ps. refl))
-types_reached k high at n b c (kind.Word key.Date) pos front m r h =
-    goes k high (record { kind = kind.Word key.Date; pos = pos }) front
-    (Onward (state.SumOf at (record { lists = n; base = base.Date; pos = pos }))) m
-    (some_same (Onward (state.SumOf at (record { lists = n; base = base.Date; pos = pos }))) m h)
-    (begun k high (state.SumType at n) (state.SumOf at (record { lists = n; base = base.Date; pos = pos })) b c
-    (At (kind.Word key.Date) pos) (record { kind = kind.Word key.Date; pos = pos }) front r refl (omega arith)
-    (λ ps. refl))
-types_reached k high at n b c (kind.Word key.Duration) pos front m r h =
-    goes k high (record { kind = kind.Word key.Duration; pos = pos }) front
-    (Onward (state.SumOf at (record { lists = n; base = base.Duration; pos = pos }))) m
-    (some_same (Onward (state.SumOf at (record { lists = n; base = base.Duration; pos = pos }))) m h)
-    (begun k high (state.SumType at n) (state.SumOf at (record { lists = n; base = base.Duration; pos = pos })) b c
-    (At (kind.Word key.Duration) pos) (record { kind = kind.Word key.Duration; pos = pos }) front r refl (omega arith)
-    (λ ps. refl))
-types_reached k high at n b c (kind.Upper u) pos front m r h = goes k high (record { kind = kind.Upper u; pos = pos })
-    front (Onward (state.SumOf at (record { lists = n; base = base.Named u; pos = pos }))) m
-    (some_same (Onward (state.SumOf at (record { lists = n; base = base.Named u; pos = pos }))) m h)
-    (begun k high (state.SumType at n) (state.SumOf at (record { lists = n; base = base.Named u; pos = pos })) b c
-    (At (kind.Upper u) pos) (record { kind = kind.Upper u; pos = pos }) front r refl (omega arith) (λ ps. refl))
-types_reached k high at n b c _ pos front m r h = absurd cc
+no_dot : (b : Behind) (k : ℕ) (y : Measured) (c : CaseName) (v : List Token) → k ≤ 9 → y.strength ≡ 4 → Next b k y v
+    → NoDot c v
+no_dot b k y (Bare u) v le is o = dot_not b k y v le (omega (arith, is)) o
+no_dot b k y (Qualified d u) v le is o = tt
 
--- ---- a few states of their own
+-- ---- the readers of steps
 
--- a case's own word was read, and then a field of it
-field_of_case : (k high : ℕ) (u w : Name) (b c : Bool) (p : Token) (front : List Token) → Begun k (state.UpperDot u)
-    high b c front → IsAt (At (kind.Lower w.text) w.pos) p
-    → ReachedAt k (state.Complete (node.Field (leaf.Case (Bare u)) w) 9) (suc high) false false (front ++ p ∷ [])
-field_of_case k high u w b c p front r at =
-    let x = r.front_is.spelled End [] refl in
-    let flat : high ≡ 0 = omega (arith, r.front_is.tall End) in
-    let word = phrase_Case (Bare u) in
-    let row : Phrase = Row (of_level 9) (upper u ▹ End) in
-    let e : phrase (node.Field (leaf.Case (Bare u)) w) ≡ Row (of_level 9)
-    (left 9 row ▹ sign symbol.Dot ▹ lower w ▹ End) = phrase_Field (leaf.Case (Bare u)) w
-    ∙ ap (λ (y : Phrase). Row (of_level 9) (left 9 y ▹ sign symbol.Dot ▹ lower w ▹ End)) word in
-    let text : front ++ p ∷ [] ≡ (x.0 ∷ []) ++ (x.4.0 ∷ p ∷ []) = ap (λ (ts : List Token). ts ++ p ∷ [])
-    (sym (append-nil front) ∙ x.2 ∙ ap (λ (ts : List Token). x.0 ∷ ts)
-    (x.4.2 ∙ ap (λ (ts : List Token). x.4.0 ∷ ts) x.4.4)) in (
-      subst (λ (y : Phrase). IsRow k y (suc (suc high)) false false (front ++ p ∷ [])) (sym e) (record {
-        levels = (refl, (omega arith, (refl, tt), tt));
-        spelled = (
-          x.0 ∷ [],
-          x.4.0 ∷ p ∷ [],
-          text,
-          (x.0, [], refl, x.3, refl),
-          (x.4.0, p ∷ [], refl, x.4.3, (p, [], refl, at, refl)),
-        );
-        stands = r.fits;
-        low = r.low;
-        tall_is = omega (arith, flat);
-        form_is = refl;
-        match_is = refl;
-      }),
-      sym (ap right_strength e),
-    )
+module _ (ex : Lower) (room : ℕ) (right : AreRight room ex)
+    (kept : (b : Behind) (j bound : ℕ) → j ≤ 9 → KeepsWhole (IsLow room) bound IsMeasured (operand_row j) (ex b j))
+    (b : Behind) (k : ℕ) (le : k ≤ 9) (s : Measured) where
+  abbrev pub Low : Measured → Type 0
+  Low m = m.height ≤ suc room
 
-tested_reached : (k high : ℕ) (e : Node) (at : Pos) (u : Name) (b c : Bool) (p : Token) (front : List Token) (m : Move)
-    → Begun k (state.TestedDot e at u) high b c front → ((w : Name) × (p.kind ≡ kind.Upper w.text) × (w.pos ≡ p.pos)
-    × (Onward (state.Complete (node.Test e at (Qualified u w)) 4) ≡ m)) ⊎ (None ≡ Some m) → MoveReached k m high p front
-tested_reached k high e at u b c p front m r (inl x) =
-    goes k high p front (Onward (state.Complete (node.Test e at (Qualified u x.0)) 4)) m x.3
-    (ended k high 4 (state.TestedDot e at u) (node.Test e at (Qualified u x.0))
-    (λ ps. so_far (state.TestedDot e at u) (Word (At (kind.Upper x.0.text) x.0.pos) ps)) b c
-    (At (kind.Upper x.0.text) x.0.pos) p front r (type_at x.0 p x.1 x.2) (λ ps. refl)
-    (phrase_Test e at (Qualified u x.0)) (omega arith))
-tested_reached k high e at u b c p front m r (inr x) = absurd cc
+  abbrev pub Low_step : Step → Type 0
+  Low_step x = Low (put s x)
 
-span_on : (k high : ℕ) (n : ℤ) (at : Pos) (u : TimeUnit) (b c : Bool) (kd : TokenKind) (pos : Pos) (front : List Token)
-    (m : Move) → Begun k (state.Int n at) high b c front → kd ≡ kind.Word (unit_word u) → (d : Bool)
-    → int_lt span_bound n ≡ d → cond d None (some (state.Complete (leaf.Literal (literal.Span n u) at) 9)) ≡ Some m
-    → MoveReached k m high (record { kind = kd; pos = pos }) front
-span_on k high n at u b c kd pos front m r is true e h = absurd cc
-span_on k high n at u b c kd pos front m r is false e h =
-    goes k high (record { kind = kd; pos = pos }) front (Onward (state.Complete (leaf.Literal (literal.Span n u) at) 9))
-    m (some_same (Onward (state.Complete (leaf.Literal (literal.Span n u) at) 9)) m h)
-    (ended k high 9 (state.Int n at) (leaf.Literal (literal.Span n u) at)
-    (λ ps. so_far (state.Int n at) (Word (Anywhere (kind.Word (unit_word u))) ps)) b c
-    (Anywhere (kind.Word (unit_word u))) (record { kind = kd; pos = pos }) front r is (λ ps. refl)
-    (phrase_Literal (literal.Span n u) at
-    ∙ ap (λ (x : Bool). Row (record { level = 9; form = false; is_match = false; fits = not x })
-    (first (kind.Int n) at ▹ «word» (unit_word u) ▹ End)) e) (omega arith))
+  abbrev pub Next_step : Step → List Token → Type 0
+  Next_step x v = Next b k (put s x) v
 
-unit_reached : (k high : ℕ) (n : ℤ) (at : Pos) (b c : Bool) (kd : TokenKind) (pos : Pos) (front : List Token) (m : Move)
-    → Begun k (state.Int n at) high b c front
-    → unit_of (λ u. cond (int_lt span_bound n) None (some (state.Complete (leaf.Literal (literal.Span n u) at) 9)))
-    (whole_step k (cond b 0 9) (leaf.Literal (literal.Int n) at) (record { kind = kd; pos = pos })) kd ≡ Some m
-    → MoveReached k m high (record { kind = kd; pos = pos }) front
-unit_reached k high n at b c (kind.Word key.Year) pos front m r h =
-    span_on k high n at unit.Year b c (kind.Word key.Year) pos front m r refl (int_lt span_bound n) refl h
-unit_reached k high n at b c (kind.Word key.Month) pos front m r h =
-    span_on k high n at unit.Month b c (kind.Word key.Month) pos front m r refl (int_lt span_bound n) refl h
-unit_reached k high n at b c (kind.Word key.Day) pos front m r h =
-    span_on k high n at unit.Day b c (kind.Word key.Day) pos front m r refl (int_lt span_bound n) refl h
-unit_reached k high n at b c kd pos front m r h = done_reached k (state.Int n at) high b c
-    (leaf.Literal (literal.Int n) at) (record { kind = kd; pos = pos }) front m r refl h
+  abbrev pub Of_follow : Follow → Step → Type 0
+  Of_follow f x = FitsOne k s x × (follow_in x ≡ f)
 
--- ---- each state
+  abbrev pub ReadsStep : (K F : Type 0) → (Step → Type 0) → Reader Measured → Type 0
+  ReadsStep K F fits r = IsRead (put s) K F (Low s) Low_step Next_step (looks_of b) fits step_parts r
 
-pub step_reached : (k high : ℕ) (q : State) (b c : Bool) (p : Token) (front : List Token) (m : Move)
-    → ReachedAt k q high b c front → step k (cond b 0 (strength_of q)) q p ≡ Some m → MoveReached k m high p front
-step_reached k high state.Start b c p front m r h = start_reached k high b c p.kind p.pos front m r h
-step_reached k high (state.Complete n own) b c p front m r h =
-    done_reached k (state.Complete n own) high b c n p front m r refl h
-step_reached k high (state.PrefixOf prefix.IntegerOf at) b c p front m r h =
-    word_on k high (state.PrefixOf prefix.IntegerOf at) (state.Prefixed prefix.IntegerOf at) b c p front m
-    (kind.Word key.Of) (on_of_is (some (state.Prefixed prefix.IntegerOf at)) None p.kind m h) r (omega arith)
-    (λ ps. refl)
-    (λ x. x)
-step_reached k high (state.PrefixOf prefix.DecimalOf at) b c p front m r h =
-    word_on k high (state.PrefixOf prefix.DecimalOf at) (state.Prefixed prefix.DecimalOf at) b c p front m
-    (kind.Word key.Of) (on_of_is (some (state.Prefixed prefix.DecimalOf at)) None p.kind m h) r (omega arith)
-    (λ ps. refl)
-    (λ x. x)
-step_reached k high (state.PrefixOf prefix.MoneyOf at) b c p front m r h =
-    word_on k high (state.PrefixOf prefix.MoneyOf at) (state.Prefixed prefix.MoneyOf at) b c p front m
-    (kind.Word key.Of)
-    (on_of_is (some (state.Prefixed prefix.MoneyOf at)) None p.kind m h) r (omega arith) (λ ps. refl) (λ x. x)
-step_reached k high (state.PrefixOf prefix.GetYear at) b c p front m r h =
-    word_on k high (state.PrefixOf prefix.GetYear at) (state.Prefixed prefix.GetYear at) b c p front m
-    (kind.Word key.Of)
-    (on_of_is (some (state.Prefixed prefix.GetYear at)) None p.kind m h) r (omega arith) (λ ps. refl) (λ x. x)
-step_reached k high (state.PrefixOf prefix.GetMonth at) b c p front m r h =
-    word_on k high (state.PrefixOf prefix.GetMonth at) (state.Prefixed prefix.GetMonth at) b c p front m
-    (kind.Word key.Of) (on_of_is (some (state.Prefixed prefix.GetMonth at)) None p.kind m h) r (omega arith)
-    (λ ps. refl)
-    (λ x. x)
-step_reached k high (state.PrefixOf prefix.GetDay at) b c p front m r h =
-    word_on k high (state.PrefixOf prefix.GetDay at) (state.Prefixed prefix.GetDay at) b c p front m (kind.Word key.Of)
-    (on_of_is (some (state.Prefixed prefix.GetDay at)) None p.kind m h) r (omega arith) (λ ps. refl) (λ x. x)
-step_reached k high (state.PrefixOf prefix.Not at) b c p front m r h = absurd r
-step_reached k high (state.PrefixOf prefix.Negate at) b c p front m r h = absurd r
-step_reached k high (state.PrefixOf prefix.RoundOf at) b c p front m r h = absurd r
-step_reached k high (state.PrefixOf prefix.NumberOf at) b c p front m r h = absurd r
-step_reached k high (state.SumType at n) b c p front m r h = types_reached k high at n b c p.kind p.pos front m r h
-step_reached k high (state.SumOf at ty) b c p front m r h = word_on k high (state.SumOf at ty) (state.Sum at ty) b c p
-    front m (kind.Word key.Of) (on_of_is (some (state.Sum at ty)) None p.kind m h) r (omega arith) (λ ps. refl) (λ x. x)
-step_reached k high (state.Close at e) b c p front m r h = end_on k high 9 (state.Close at e) (node.Parens at e)
-    (λ ps. so_far (state.Close at e) (Word (Anywhere (kind.Symbol symbol.RightParen)) ps)) b c p front m
-    (kind.Symbol symbol.RightParen) (on_close_is (some (state.Complete (node.Parens at e) 9)) None p.kind m h) r
-    (λ ps. refl) (phrase_Parens at e) (omega arith)
-step_reached k high (state.Element at []) b c p front m r h = end_on k high 9 (state.Element at []) (node.List at [])
-    (λ ps. so_far (state.Element at []) (Word (Anywhere (kind.Symbol symbol.RightBracket)) ps)) b c p front m
-    (kind.Symbol symbol.RightBracket) (on_bracket_is (some (state.Complete (node.List at []) 9)) None p.kind m h) r
-    (λ ps. refl) (phrase_List at []) (omega arith)
-step_reached k high (state.Elements at []) b c p front m r h = absurd r
-step_reached k high (state.Elements at (e ∷ es)) b c p front m r h =
-    first_of_two k high p front (kind.Symbol symbol.Semicolon) (some (state.Element at (e ∷ es)))
-    (on_bracket (some (state.Complete (node.List at (e ∷ es)) 9)) None p.kind) m
-    (on_semicolon_is (some (state.Element at (e ∷ es))) (on_bracket (some (state.Complete (node.List at (e ∷ es)) 9))
-    None p.kind) p.kind m h)
-    (λ kd a. lands k high p front m (Onward (state.Element at (e ∷ es))) a
-    (begun k high (state.Elements at (e ∷ es)) (state.Element at (e ∷ es)) b c
-    (Anywhere (kind.Symbol symbol.Semicolon)) p front r kd (omega arith) (λ ps. refl)))
-    (λ a. end_on k high 9 (state.Elements at (e ∷ es)) (node.List at (e ∷ es))
-    (λ ps. so_far (state.Elements at (e ∷ es)) (Word (Anywhere (kind.Symbol symbol.RightBracket)) ps)) b c p front m
-    (kind.Symbol symbol.RightBracket) (on_bracket_is (some (state.Complete (node.List at (e ∷ es)) 9)) None p.kind m
-    a) r (λ ps. refl) (phrase_List at (e ∷ es)) (omega arith))
-step_reached k high (state.Fields (owner.Literal u) []) b c p front m r h =
-    first_of_two k high p front (kind.Symbol symbol.MinusMinus) (some (state.FieldName (owner.Literal u) []))
-    (on_end_brace (None) None p.kind) m (on_dashes_is (some (state.FieldName (owner.Literal u) []))
-    (on_end_brace (None) None p.kind) p.kind m h)
-    (λ kd x. lands k high p front m (Onward (state.FieldName (owner.Literal u) [])) x
-    (begun k high (state.Fields (owner.Literal u) []) (state.FieldName (owner.Literal u) []) b c
-    (Anywhere (kind.Symbol symbol.MinusMinus)) p front r kd (omega arith) (λ ps. refl)))
-    (λ x. first_of_two k high p front (kind.Symbol symbol.RightBrace) None None m (on_end_brace_is None None p.kind m x)
-    (λ kd y. nothing_more k high p front m y) (λ y. nothing_more k high p front m y))
-step_reached k high (state.Fields (owner.Literal u) (f ∷ fs)) b c p front m r h =
-    first_of_two k high p front (kind.Symbol symbol.MinusMinus) (some (state.FieldName (owner.Literal u) (f ∷ fs)))
-    (on_end_brace (some (state.Complete (node.Structure u (f ∷ fs)) 9)) None p.kind) m
-    (on_dashes_is (some (state.FieldName (owner.Literal u) (f ∷ fs)))
-    (on_end_brace (some (state.Complete (node.Structure u (f ∷ fs)) 9)) None p.kind) p.kind m h)
-    (λ kd x. lands k high p front m (Onward (state.FieldName (owner.Literal u) (f ∷ fs))) x
-    (begun k high (state.Fields (owner.Literal u) (f ∷ fs)) (state.FieldName (owner.Literal u) (f ∷ fs)) b c
-    (Anywhere (kind.Symbol symbol.MinusMinus)) p front r kd (omega arith) (λ ps. refl)))
-    (λ x. end_on k high 9 (state.Fields (owner.Literal u) (f ∷ fs)) (node.Structure u (f ∷ fs))
-    (λ ps. so_far (state.Fields (owner.Literal u) (f ∷ fs)) (Word (Anywhere (kind.Symbol symbol.RightBrace)) ps)) b c
-    p front m (kind.Symbol symbol.RightBrace) (on_end_brace_is (some (state.Complete (node.Structure u (f ∷ fs)) 9))
-    None p.kind m x) r (λ ps. refl) (phrase_Structure u (f ∷ fs)) (omega arith))
-step_reached k high (state.Fields (owner.Call at u) fs) b c p front m r h =
-    first_of_two k high p front (kind.Symbol symbol.MinusMinus) (some (state.FieldName (owner.Call at u) fs))
-    (on_end_brace (some (state.CallDot at u fs)) None p.kind) m
-    (on_dashes_is (some (state.FieldName (owner.Call at u) fs))
-    (on_end_brace (some (state.CallDot at u fs)) None p.kind) p.kind m h)
-    (λ kd x. lands k high p front m (Onward (state.FieldName (owner.Call at u) fs)) x
-    (begun k high (state.Fields (owner.Call at u) fs) (state.FieldName (owner.Call at u) fs) b c
-    (Anywhere (kind.Symbol symbol.MinusMinus)) p front r kd (omega arith) (λ ps. refl)))
-    (λ x. word_on k high (state.Fields (owner.Call at u) fs) (state.CallDot at u fs) b c p front m
-    (kind.Symbol symbol.RightBrace) (on_end_brace_is (some (state.CallDot at u fs)) None p.kind m x) r (omega arith)
-    (λ ps. refl) (λ z. z))
-step_reached k high (state.FieldName o fs) b c p front m r h = name_on k high (state.FieldName o fs)
-    (λ w. state.FieldColon o fs w) b c p front m h r (λ w. omega arith) (λ w ps. refl) (λ w x. x)
-step_reached k high (state.FieldColon o fs w) b c p front m r h = word_on k high (state.FieldColon o fs w)
-    (state.FieldValue o fs w) b c p front m (kind.Symbol symbol.Colon)
-    (on_colon_is (some (state.FieldValue o fs w)) None p.kind m h) r (omega arith) (λ ps. refl) (λ x. x)
-step_reached k high (state.CallScope at) b c p front m r h = type_on k high (state.CallScope at)
-    (λ w. state.CallWith at w) None b c p front m h r (λ w. omega arith) (λ w ps. refl) (λ w x. x) (λ x. absurd cc)
-step_reached k high (state.CallWith at u) b c p front m r h = word_on k high (state.CallWith at u)
-    (state.CallBrace at u) b c p front m (kind.Word key.With) (on_with_is (some (state.CallBrace at u)) None p.kind m h)
-    r
-    (omega arith) (λ ps. refl) (λ x. x)
-step_reached k high (state.CallBrace at u) b c p front m r h = word_on k high (state.CallBrace at u)
-    (state.Fields (owner.Call at u) []) b c p front m (kind.Symbol symbol.LeftBrace)
-    (on_brace_is (some (state.Fields (owner.Call at u) [])) None p.kind m h) r (omega arith) (λ ps. refl) (λ x. x)
-step_reached k high (state.CallDot at u fs) b c p front m r h = word_on k high (state.CallDot at u fs)
-    (state.CallOutput at u fs) b c p front m (kind.Symbol symbol.Dot)
-    (on_dot_is (some (state.CallOutput at u fs)) None p.kind m h) r (omega arith) (λ ps. refl) (λ x. x)
-step_reached k high (state.CallOutput at u fs) b c p front m r h = end_name_on k high (state.CallOutput at u fs)
-    (λ w. node.ScopeCall at u fs w) (λ w ps. so_far (state.CallOutput at u fs) (Word (At (kind.Lower w.text) w.pos) ps))
-    b
-    c p front m h r (λ w ps. refl) (λ w. phrase_ScopeCall at u fs w) (omega arith)
-step_reached k high (state.IfThen at e) b c p front m r h = word_on k high (state.IfThen at e) (state.Then at e) b c p
-    front m (kind.Word key.Then) (on_then_is (some (state.Then at e)) None p.kind m h) r (omega arith) (λ ps. refl)
-    (λ x. x)
-step_reached k high (state.ThenElse at e t) b c p front m r h = word_on k high (state.ThenElse at e t)
-    (state.Else at e t) b c p front m (kind.Word key.Else) (on_else_is (some (state.Else at e t)) None p.kind m h) r
-    (omega arith) (λ ps. refl) (λ x. x)
-step_reached k high (state.MatchWith at e) b c p front m r h = word_on k high (state.MatchWith at e)
-    (state.FirstArm at e) b c p front m (kind.Pair pair.WithPattern)
-    (on_with_pattern_is (some (state.FirstArm at e)) None
-    p.kind m h) r (omega arith) (λ ps. refl) (λ x. x)
-step_reached k high (state.FirstArm at e) b c p front m r h = word_on k high (state.FirstArm at e)
-    (state.ArmPattern (record { pos = at; tested = e; arms = [] })) b c p front m (kind.Symbol symbol.MinusMinus)
-    (on_dashes_is (some (state.ArmPattern (record { pos = at; tested = e; arms = [] }))) None p.kind m h) r
-    (omega arith)
-    (λ ps. refl) (λ x. x)
-step_reached k high (state.ArmPattern x) b c p front m r h = type_on k high (state.ArmPattern x)
-    (λ w. state.ArmCase x (Bare w)) (on_anything (some (state.ArmColon x pattern.Anything)) None p.kind) b c p front m h
-    r
-    (λ w. omega arith) (λ w ps. refl) (λ w z. z)
-    (λ a. word_on k high (state.ArmPattern x) (state.ArmColon x pattern.Anything) b c p front m (kind.Word key.Anything)
-    (on_anything_is (some (state.ArmColon x pattern.Anything)) None p.kind m a) r (omega arith) (λ ps. refl) (λ z. z))
-step_reached k high (state.ArmCase x (Bare u)) b c p front m r h =
-    first_of_two k high p front (kind.Symbol symbol.Dot) (some (state.ArmDot x u))
-    (on_of (some (state.ArmOf x (Bare u))) (on_colon (some (state.ArmBody x (pattern.Case (Bare u) None))) None
-    p.kind) p.kind) m
-    (on_dot_is (some (state.ArmDot x u))
-    (on_of (some (state.ArmOf x (Bare u))) (on_colon (some (state.ArmBody x (pattern.Case (Bare u) None))) None
-    p.kind) p.kind) p.kind m h)
-    (λ kd a. lands k high p front m (Onward (state.ArmDot x u)) a
-    (begun k high (state.ArmCase x (Bare u)) (state.ArmDot x u) b c (Anywhere (kind.Symbol symbol.Dot)) p front r kd
-    (omega arith) (λ ps. refl)))
-    (λ y. first_of_two k high p front (kind.Word key.Of) (some (state.ArmOf x (Bare u)))
-    (on_colon (some (state.ArmBody x (pattern.Case (Bare u) None))) None p.kind) m
-    (on_of_is (some (state.ArmOf x (Bare u))) (on_colon (some (state.ArmBody x (pattern.Case (Bare u) None))) None
-    p.kind) p.kind m y)
-    (λ kd a. lands k high p front m (Onward (state.ArmOf x (Bare u))) a
-    (begun k high (state.ArmCase x (Bare u)) (state.ArmOf x (Bare u)) b c (Anywhere (kind.Word key.Of)) p front r kd
-    (omega arith) (λ ps. refl)))
-    (λ z. word_on k high (state.ArmCase x (Bare u)) (state.ArmBody x (pattern.Case (Bare u) None)) b c p front m
-    (kind.Symbol symbol.Colon) (on_colon_is (some (state.ArmBody x (pattern.Case (Bare u) None))) None p.kind m z) r
-    (omega arith) (λ ps. refl) (λ w. w)))
-step_reached k high (state.ArmCase x (Qualified u v)) b c p front m r h =
-    first_of_two k high p front (kind.Symbol symbol.Dot) (None)
-    (on_of (some (state.ArmOf x (Qualified u v)))
-    (on_colon (some (state.ArmBody x (pattern.Case (Qualified u v) None))) None p.kind) p.kind) m
-    (on_dot_is (None)
-    (on_of (some (state.ArmOf x (Qualified u v)))
-    (on_colon (some (state.ArmBody x (pattern.Case (Qualified u v) None))) None p.kind) p.kind) p.kind m h)
-    (λ kd a. nothing_more k high p front m a)
-    (λ y. first_of_two k high p front (kind.Word key.Of) (some (state.ArmOf x (Qualified u v)))
-    (on_colon (some (state.ArmBody x (pattern.Case (Qualified u v) None))) None p.kind) m
-    (on_of_is (some (state.ArmOf x (Qualified u v)))
-    (on_colon (some (state.ArmBody x (pattern.Case (Qualified u v) None))) None p.kind) p.kind m y)
-    (λ kd a. lands k high p front m (Onward (state.ArmOf x (Qualified u v))) a
-    (begun k high (state.ArmCase x (Qualified u v)) (state.ArmOf x (Qualified u v)) b c (Anywhere (kind.Word key.Of))
-    p front r kd (omega arith) (λ ps. refl)))
-    (λ z. word_on k high (state.ArmCase x (Qualified u v)) (state.ArmBody x (pattern.Case (Qualified u v) None)) b c p
-    front m (kind.Symbol symbol.Colon) (on_colon_is (some (state.ArmBody x (pattern.Case (Qualified u v) None))) None
-    p.kind m z) r (omega arith) (λ ps. refl) (λ w. w)))
-step_reached k high (state.ArmDot x u) b c p front m r h = type_on k high (state.ArmDot x u)
-    (λ w. state.ArmCase x (Qualified u w)) None b c p front m h r (λ w. omega arith) (λ w ps. refl) (λ w x. x)
-    (λ x. absurd cc)
-step_reached k high (state.ArmOf x d) b c p front m r h = name_on k high (state.ArmOf x d)
-    (λ w. state.ArmColon x (pattern.Case d (Some w))) b c p front m h r (λ w. omega arith) (λ w ps. refl) (λ w x. x)
-step_reached k high (state.ArmColon x pattern.Anything) b c p front m r h =
-    word_on k high (state.ArmColon x pattern.Anything) (state.ArmBody x pattern.Anything) b c p front m
-    (kind.Symbol symbol.Colon) (on_colon_is (some (state.ArmBody x pattern.Anything)) None p.kind m h) r (omega arith)
-    (λ ps. refl) (λ x. x)
-step_reached k high (state.ArmColon x (pattern.Case d None)) b c p front m r h =
-    word_on k high (state.ArmColon x (pattern.Case d None)) (state.ArmBody x (pattern.Case d None)) b c p front m
-    (kind.Symbol symbol.Colon) (on_colon_is (some (state.ArmBody x (pattern.Case d None))) None p.kind m h) r
-    (omega arith) (λ ps. refl) (λ x. x)
-step_reached k high (state.ArmColon x (pattern.Case d (Some w))) b c p front m r h =
-    word_on k high (state.ArmColon x (pattern.Case d (Some w))) (state.ArmBody x (pattern.Case d (Some w))) b c p front
-    m
-    (kind.Symbol symbol.Colon) (on_colon_is (some (state.ArmBody x (pattern.Case d (Some w)))) None p.kind m h) r
-    (omega arith) (λ ps. refl) (λ x. x)
-step_reached k high (state.Each e at) b c p front m r h = name_on k high (state.Each e at) (λ w. state.EachAmong e at w)
-    b c p front m h r (λ w. omega arith) (λ w ps. refl) (λ w x. x)
-step_reached k high (state.EachAmong e at w) b c p front m r h = word_on k high (state.EachAmong e at w)
-    (state.EachList e at w) b c p front m (kind.Word key.Among) (on_among_is (some (state.EachList e at w)) None p.kind
-    m
-    h) r (omega arith) (λ ps. refl) (λ x. x)
-step_reached k high (state.EachThen each.ForAll at w l) b c p front m r h =
-    word_on k high (state.EachThen each.ForAll at w l) (state.EachBody each.ForAll at w l) b c p front m
-    (kind.Pair pair.WeHave) (on_we_have_is (some (state.EachBody each.ForAll at w l)) None p.kind m h) r (omega arith)
-    (λ ps. refl) (λ x. x)
-step_reached k high (state.EachThen each.Exists at w l) b c p front m r h =
-    word_on k high (state.EachThen each.Exists at w l) (state.EachBody each.Exists at w l) b c p front m
-    (kind.Pair pair.SuchThat) (on_such_that_is (some (state.EachBody each.Exists at w l)) None p.kind m h) r
-    (omega arith)
-    (λ ps. refl) (λ x. x)
-step_reached k high (state.EachThen each.MapEach at w l) b c p front m r h =
-    word_on k high (state.EachThen each.MapEach at w l) (state.EachBody each.MapEach at w l) b c p front m
-    (kind.Word key.To) (on_to_is (some (state.EachBody each.MapEach at w l)) None p.kind m h) r (omega arith)
-    (λ ps. refl)
-    (λ x. x)
-step_reached k high (state.EachThen each.ListOf at w l) b c p front m r h =
-    word_on k high (state.EachThen each.ListOf at w l) (state.EachBody each.ListOf at w l) b c p front m
-    (kind.Pair pair.SuchThat) (on_such_that_is (some (state.EachBody each.ListOf at w l)) None p.kind m h) r
-    (omega arith)
-    (λ ps. refl) (λ x. x)
-step_reached k high (state.Combine at) b c p front m r h = name_on k high (state.Combine at)
-    (λ w. state.CombineAmong at w) b c p front m h r (λ w. omega arith) (λ w ps. refl) (λ w x. x)
-step_reached k high (state.CombineAmong at w) b c p front m r h = word_on k high (state.CombineAmong at w)
-    (state.CombineList at w) b c p front m (kind.Word key.Among)
-    (on_among_is (some (state.CombineList at w)) None p.kind
-    m h) r (omega arith) (λ ps. refl) (λ x. x)
-step_reached k high (state.CombineIn d) b c p front m r h = word_on k high (state.CombineIn d) (state.CombineResult d) b
-    c p front m (kind.Word key.In) (on_in_is (some (state.CombineResult d)) None p.kind m h) r (omega arith)
-    (λ ps. refl)
-    (λ x. x)
-step_reached k high (state.CombineResult d) b c p front m r h = name_on k high (state.CombineResult d)
-    (λ w. state.CombineInitially d w) b c p front m h r (λ w. omega arith) (λ w ps. refl) (λ w x. x)
-step_reached k high (state.CombineInitially d w) b c p front m r h = word_on k high (state.CombineInitially d w)
-    (state.CombineStart d w) b c p front m (kind.Word key.Initially)
-    (on_initially_is (some (state.CombineStart d w)) None
-    p.kind m h) r (omega arith) (λ ps. refl) (λ x. x)
-step_reached k high (state.CombineWith d w e) b c p front m r h = word_on k high (state.CombineWith d w e)
-    (state.CombineBody d w e) b c p front m (kind.Word key.With)
-    (on_with_is (some (state.CombineBody d w e)) None p.kind
-    m h) r (omega arith) (λ ps. refl) (λ x. x)
-step_reached k high (state.Int n at) b c p front m r h = unit_reached k high n at b c p.kind p.pos front m r h
-step_reached k high (state.Name w) b c p front m r h =
-    first_of_two k high p front (kind.Word key.Of) (if_at k 8 (state.Argument w []))
-    (whole_step k (cond b 0 9) (leaf.Name w) p) m
-    (on_of_is (if_at k 8 (state.Argument w [])) (whole_step k (cond b 0 9) (leaf.Name w) p) p.kind m h)
-    (λ kd a. let x = if_at_is k 8 (state.Argument w []) m a in goes k high p front (Onward (state.Argument w [])) m x.1
-    (record {
-      front_is = push (so_far (state.Name w)) (so_far (state.Argument w [])) high b c
-          (Anywhere (kind.Word key.Of)) p front r.front_is kd (λ ps. refl);
-      fits = x.0;
-      low = r.low;
-    }))
-    (λ a. done_reached k (state.Name w) high b c (leaf.Name w) p front m r refl a)
-step_reached k high (state.Upper u) b c p front m r h =
-    let o3 = whole_step k (cond b 0 9) (leaf.Case (Bare u)) p in
-    let o2 = on_content (if_at k 8 (state.Content (Bare u))) o3 p.kind in
-    let o1 = on_brace (some (state.Fields (owner.Literal u) [])) o2 p.kind in
-    first_of_two k high p front (kind.Symbol symbol.Dot) (some (state.UpperDot u)) o1 m
-    (on_dot_is (some (state.UpperDot u)) o1 p.kind m h)
-    (λ kd a. lands k high p front m (Onward (state.UpperDot u)) a (begun k high (state.Upper u) (state.UpperDot u) b c
-    (Anywhere (kind.Symbol symbol.Dot)) p front r kd (omega arith) (λ ps. refl)))
-    (λ y. first_of_two k high p front (kind.Symbol symbol.LeftBrace) (some (state.Fields (owner.Literal u) [])) o2 m
-    (on_brace_is (some (state.Fields (owner.Literal u) [])) o2 p.kind m y)
-    (λ kd a. lands k high p front m (Onward (state.Fields (owner.Literal u) [])) a
-    (begun k high (state.Upper u) (state.Fields (owner.Literal u) []) b c (Anywhere (kind.Symbol symbol.LeftBrace)) p
-    front r kd (omega arith) (λ ps. refl)))
-    (λ z. first_of_two k high p front (kind.Word key.Content) (if_at k 8 (state.Content (Bare u))) o3 m
-    (on_content_is (if_at k 8 (state.Content (Bare u))) o3 p.kind m z)
-    (λ kd a. let x = if_at_is k 8 (state.Content (Bare u)) m a in goes k high p front (Onward (state.Content (Bare u)))
-    m x.1 (record {
-      front_is = push (so_far (state.Upper u)) (so_far (state.Content (Bare u))) high b c
-          (Anywhere (kind.Word key.Content)) p front r.front_is kd (λ ps. refl);
-      fits = x.0;
-      low = r.low;
-    }))
-    (λ a. done_reached k (state.Upper u) high b c (leaf.Case (Bare u)) p front m r refl a)))
-step_reached k high (state.Qualified u v) b c p front m r h =
-    let o3 = whole_step k (cond b 0 9) (leaf.Case (Qualified u v)) p in
-    first_of_two k high p front (kind.Word key.Content) (if_at k 8 (state.Content (Qualified u v))) o3 m
-    (on_content_is (if_at k 8 (state.Content (Qualified u v))) o3 p.kind m h)
-    (λ kd a. let x = if_at_is k 8 (state.Content (Qualified u v)) m a in
-    goes k high p front (Onward (state.Content (Qualified u v))) m x.1
-    (record {
-      front_is = push (so_far (state.Qualified u v)) (so_far (state.Content (Qualified u v))) high b c
-          (Anywhere (kind.Word key.Content)) p front r.front_is kd (λ ps. refl);
-      fits = x.0;
-      low = r.low;
-    }))
-    (λ a. done_reached k (state.Qualified u v) high b c (leaf.Case (Qualified u v)) p front m r refl a)
-step_reached k high (state.Called f []) b c p front m r h = absurd r
-step_reached k high (state.Called f (a ∷ more)) b c p front m r h =
-    let o3 = whole_step k (cond b 0 8) (node.Call f (a ∷ more)) p in
-    first_of_two k high p front (kind.Symbol symbol.Comma) (some (state.Argument f (a ∷ more))) o3 m
-    (on_comma_is (some (state.Argument f (a ∷ more))) o3 p.kind m h)
-    (λ kd x. lands k high p front m (Onward (state.Argument f (a ∷ more))) x
-    (begun k high (state.Called f (a ∷ more)) (state.Argument f (a ∷ more)) b c (Anywhere (kind.Symbol symbol.Comma))
-    p front r kd (omega arith) (λ ps. refl)))
-    (λ x. done_reached k (state.Called f (a ∷ more)) high b c (node.Call f (a ∷ more)) p front m r refl x)
-step_reached k high (state.Tested e at u) b c p front m r h =
-    let o3 = whole_step k (cond b 0 4) (node.Test e at (Bare u)) p in
-    first_of_two k high p front (kind.Symbol symbol.Dot) (some (state.TestedDot e at u)) o3 m
-    (on_dot_is (some (state.TestedDot e at u)) o3 p.kind m h)
-    (λ kd x. lands k high p front m (Onward (state.TestedDot e at u)) x
-    (begun k high (state.Tested e at u) (state.TestedDot e at u) b c (Anywhere (kind.Symbol symbol.Dot)) p front r kd
-    (omega arith) (λ ps. refl)))
-    (λ x. done_reached k (state.Tested e at u) high b c (node.Test e at (Bare u)) p front m r refl x)
-step_reached k high (state.Matched x true) b c p front m r h = first_of_two k high p front
-    (kind.Symbol symbol.MinusMinus) None None m (on_dashes_is None None p.kind m h)
-    (λ kd a. nothing_more k high p front m a) (λ a. nothing_more k high p front m a)
-step_reached k high (state.Matched x false) b c p front m r h =
-    let e8 = ap right_strength (phrase_Match x.pos x.tested x.arms) ∙ match_level (map arm_row x.arms) in
-    first_of_two k high p front (kind.Symbol symbol.MinusMinus) (some (state.ArmPattern x)) None m
-    (on_dashes_is (some (state.ArmPattern x)) None p.kind m h)
-    (λ kd a. lands k high p front m (Onward (state.ArmPattern x)) a
-    (record {
-      front_is = push (match_parts x) (so_far (state.ArmPattern x)) high (r.1 refl).0 (r.1 refl).1
-          (Anywhere (kind.Symbol symbol.MinusMinus)) p front (r.1 refl).2 kd (λ ps. refl);
-      fits =
-          omega (arith, r.0.stands, e8);
-      low = r.0.low;
-    }))
-    (λ a. nothing_more k high p front m a)
-step_reached k high (state.Dot n) b c p front m r h = end_name_on k high (state.Dot n) (λ w. node.Field n w)
-    (λ w ps. so_far (state.Dot n) (Word (At (kind.Lower w.text) w.pos) ps)) b c p front m h r (λ w ps. refl)
-    (λ w. phrase_Field n w) (omega arith)
-step_reached k high (state.UpperDot u) b c p front m r h = type_on k high (state.UpperDot u) (λ w. state.Qualified u w)
-    (lower_of (λ w. Grown (state.Complete (node.Field (leaf.Case (Bare u)) w) 9)) p.pos p.kind) b c p front m h r
-    (λ w. omega arith) (λ w ps. refl) (λ w z. z)
-    (λ a. let x = lower_of_is (λ w. Grown (state.Complete (node.Field (leaf.Case (Bare u)) w) 9)) p.pos p.kind m a in
-    goes k high p front (Grown (state.Complete (node.Field (leaf.Case (Bare u)) x.0) 9)) m x.3
-    (field_of_case k high u x.0 b c p front r (name_at x.0 p x.1 x.2)))
-step_reached k high (state.TestedDot e at u) b c p front m r h = tested_reached k high e at u b c p front m r
-    (upper_of_is (λ v. Onward (state.Complete (node.Test e at (Qualified u v)) 4)) None p.pos p.kind m h)
-step_reached k high (state.WithPattern n at) b c p front m r h = type_on k high (state.WithPattern n at)
-    (λ w. state.Tested n at w) None b c p front m h r (λ w. omega arith) (λ w ps. refl) (λ w z. z) (λ x. absurd cc)
-step_reached k high _ b c p front m r h = absurd cc
+  -- ---- o E
+
+  beside_low : (j : ℕ) → j ≤ 9 → {K : Type 0}
+      → IsRead (λ (y : Measured). y) K (Unit {0}) (Unit {0}) (λ e. max s.height e.height ≤ room) (MayFollow b j)
+      (looks_of b) IsMeasured (operand_row j) (climbing.beside ex room s b j)
+  beside_low j high = by (nat_le s.height room) refl
+    where
+      by : {K : Type 0} (c : Bool) → nat_le s.height room ≡ c
+          → IsRead (λ (y : Measured). y) K (Unit {0}) (Unit {0}) (λ e. max s.height e.height ≤ room) (MayFollow b j)
+          (looks_of b) IsMeasured (operand_row j) (if c then ex b j else nothing_at j)
+      by false e =
+          nothing_read (λ y. max s.height y.height ≤ room) (MayFollow b j) (looks_of b) j high
+          (λ y m low. above (omega (arith, low)))
+        where
+          above : s.height ≤ room → ⊥
+          above h = grind (arith, nat_tests, e, h)
+      by true e =
+          recast_read _ _ _ _ (λ y. y) (λ y. refl) (λ f. f) (λ f c. c) (λ f x w i. i)
+          (λ f c. record {
+            to = λ x w i. i;
+            from = λ y w i. (y, refl, i);
+            lows = λ x fit l. omega (arith, l, below);
+            back = λ x fit l. omega (arith, l);
+            outside = λ x v fit o. o;
+          })
+          (end_read ex room right b j high (λ bound. kept b j bound high))
+        where
+          below : s.height ≤ room
+          below = grind (arith, nat_tests, e)
+
+  abbrev operating : Operator → Reader Measured
+  operating o =
+      «word» (cue_of o) ⨟ λ p. climbing.beside ex room s b (suc (operator_level o)) ⨟ λ e. pure (put s (Operates o p e))
+
+  operation_row : (o : Operator) (t : Pos × Measured)
+      → Word (At (kind_of (cue_of o)) t.0) (part (suc (operator_level o)) (phrase t.1.node) ▹ End)
+      ≡ step_parts (Operates o t.0 t.1)
+  operation_row o t =
+      ap (λ (q : TokenKind). Word (At q t.0) (part (suc (operator_level o)) (phrase t.1.node) ▹ End)) (operator_word o).0
+
+  operation_cast : (o : Operator) → k ≤ operator_level o → left_level o ≤ s.strength
+      → Recast (λ (t : Pos × Measured). Low_step (Operates o t.0 t.1)) Low_step
+      (λ t v. Next_step (Operates o t.0 t.1) v) Next_step (λ t. IsMeasured t.1) (Of_follow (follow.Operated o))
+      (λ t. Word (At (kind_of (cue_of o)) t.0) (part (suc (operator_level o)) (phrase t.1.node) ▹ End)) step_parts
+      (λ t. Operates o t.0 t.1)
+  operation_cast o low strong = record {
+    to =
+        λ t w i. record {
+          fit = ((low, strong, i.fit), refl);
+          levels = subst AreLevelled (operation_row o t) i.levels;
+          spelled = subst (λ (ps : Parts). AreSpelled ps w) (operation_row o t) i.spelled;
+        };
+    from = from;
+    lows = λ t fit l. l;
+    back = λ t fit l. l;
+    outside = λ t v fit o. o;
+  }
+    where
+      from : (y : Step) (w : List Token) → Is (Of_follow (follow.Operated o)) step_parts y w → (t : Pos × Measured)
+          × (y ≡ Operates o t.0 t.1)
+          × Is (λ (t : Pos × Measured). IsMeasured t.1)
+          (λ t. Word (At (kind_of (cue_of o)) t.0) (part (suc (operator_level o)) (phrase t.1.node) ▹ End)) t w
+      from (Operates x p e) w i =
+          let same : x ≡ o = ap (or_that x) i.fit.1 in (
+            (p, e),
+            ap (λ (z : Operator). Operates z p e) same,
+            record {
+              fit = i.fit.0.2;
+              levels =
+                  subst AreLevelled (sym (operation_row o (p, e)))
+                  (subst (λ (z : Operator). AreLevelled (step_parts (Operates z p e))) same i.levels);
+              spelled =
+                  subst (λ (ps : Parts). AreSpelled ps w) (sym (operation_row o (p, e)))
+                  (subst (λ (z : Operator). AreSpelled (step_parts (Operates z p e)) w) same i.spelled);
+            },
+          )
+      from (Selects x) w i = absurd (no_operator i.fit.1)
+        where
+          no_operator : follow.Dotted ≡ follow.Operated o → ⊥
+          no_operator h = absurd cc
+      from (TestsFor p c) w i = absurd (no_operator i.fit.1)
+        where
+          no_operator : follow.Tests ≡ follow.Operated o → ⊥
+          no_operator h = absurd cc
+
+  pub operated_read : {K F : Type 0} (o : Operator) → k ≤ operator_level o → left_level o ≤ s.strength
+      → ReadsStep K F (Of_follow (follow.Operated o)) (operating o)
+  operated_read o low strong =
+      recast_read _ _ _ _ (λ t. Operates o t.0 t.1) (λ t. refl) (λ f. f) (λ f c. c) (λ f. (operation_cast o low strong).to)
+      (λ f c. operation_cast o low strong)
+      (word_at_read (cue_of o) (λ t. t.0) _ _
+      (λ p. last_read (λ t. t.1) (λ e. (p, e)) _
+      (beside_low (suc (operator_level o)) (omega (arith, (one_level o).3))) (λ x ts. refl)
+      (record {
+        fit = λ y f. f.0;
+        built = λ f x m. (m, refl);
+        has = λ x. refl;
+        only = λ f y h. two y p h.1;
+        lows = λ f c x m l. omega (arith, l);
+        part = λ f x m l. omega (arith, l);
+        outside =
+            λ f x v m n. ending_next b k (put s (Operates o p x)) (operator_level o) (suc (operator_level o)) x v
+            (operator_ends k o low) refl refl n;
+      })))
+
+  -- ---- . w
+
+  beside_small : 1 ≤ room_beside room s → s.height ≤ room
+  beside_small = by (nat_le s.height room) refl
+    where
+      by : (c : Bool) → nat_le s.height room ≡ c → 1 ≤ (if c then room else 0) → s.height ≤ room
+      by true e h = grind (arith, nat_tests, e)
+      by false e h = absurd (omega (arith, h))
+
+  beside_none : 1 ≤ s.height → room_beside room s ≡ 0 → s.height ≤ room → ⊥
+  beside_none tall = by (nat_le s.height room) refl
+    where
+      by : (c : Bool) → nat_le s.height room ≡ c → (if c then room else 0) ≡ 0 → s.height ≤ room → ⊥
+      by true e h l = omega (arith, h, l, tall)
+      by false e h l = grind (arith, nat_tests, e, l)
+
+  selection_cast : 9 ≤ s.strength → is_bare (phrase s.node) ≡ false
+      → Recast (λ (w : Name). Low_step (Selects w)) Low_step (λ w v. Next_step (Selects w) v) Next_step (λ w. Unit {0})
+      (Of_follow follow.Dotted) (λ w. wording.sign symbol.Dot ▹ wording.lower w ▹ End) step_parts Selects
+  selection_cast strong plain = record {
+    to = λ t w i. record { fit = ((strong, plain), refl); levels = i.levels; spelled = i.spelled };
+    from = from;
+    lows = λ t fit l. l;
+    back = λ t fit l. l;
+    outside = λ t v fit o. o;
+  }
+    where
+      from : (y : Step) (w : List Token) → Is (Of_follow follow.Dotted) step_parts y w → (t : Name) × (y ≡ Selects t)
+          × Is (λ (t : Name). Unit {0}) (λ t. wording.sign symbol.Dot ▹ wording.lower t ▹ End) t w
+      from (Selects x) w i = (x, refl, record { fit = tt; levels = i.levels; spelled = i.spelled })
+      from (Operates x p e) w i = absurd (no_dot i.fit.1)
+        where
+          no_dot : follow.Operated x ≡ follow.Dotted → ⊥
+          no_dot h = absurd cc
+      from (TestsFor p c) w i = absurd (no_dot i.fit.1)
+        where
+          no_dot : follow.Tests ≡ follow.Dotted → ⊥
+          no_dot h = absurd cc
+
+  pub selected_read : {K F : Type 0} → (F → 1 ≤ s.height) → 9 ≤ s.strength → is_bare (phrase s.node) ≡ false
+      → ReadsStep K F (Of_follow follow.Dotted) (climbing.selected ex room s)
+  selected_read tall strong plain =
+      recast_read _ _ _ _ Selects (λ t. refl) (λ f. f) (λ f c. c) (λ f. (selection_cast strong plain).to)
+      (λ f c. selection_cast strong plain)
+      (word_read (cue.Sign symbol.Dot) _ _
+      (λ p. lower_room_read (room_beside room s) (λ w. w) _ _
+      (λ none f c y m low. beside_none (tall f) none (omega (arith, low)))
+      (λ w. pure_read w (λ f. (tt, refl)) (λ f c. small (beside_small c.1)) (λ y f h. h.1))))
+    where
+      small : s.height ≤ room → suc s.height ≤ suc room
+      small h = omega (arith, h)
+
+  -- ---- with pattern C
+
+  case_row : (c : CaseName) → Word (At (kind.Upper (case_first c).text) (case_first c).pos) (case_rest c)
+      ≡ case_parts c End
+  case_row (Bare u) = refl
+  case_row (Qualified d u) = refl
+
+  abbrev test_row : Pos × CaseName → Parts
+  test_row t =
+      pair_at pair.WithPattern t.0
+      ▹ Word (At (kind.Upper (case_first t.1).text) (case_first t.1).pos) (case_rest t.1)
+
+  test_row_is : (t : Pos × CaseName) → test_row t ≡ step_parts (TestsFor t.0 t.1)
+  test_row_is t = ap (λ (ps : Parts). pair_at pair.WithPattern t.0 ps) (case_row t.1)
+
+  test_cast : k ≤ 4 → 5 ≤ s.strength
+      → Recast (λ (t : Pos × CaseName). Low_step (TestsFor t.0 t.1)) Low_step
+      (λ t v. Next_step (TestsFor t.0 t.1) v) Next_step (λ t. Unit {0}) (Of_follow follow.Tests) test_row step_parts
+      (λ t. TestsFor t.0 t.1)
+  test_cast low strong = record {
+    to =
+        λ t w i. record {
+          fit = ((low, strong), refl);
+          levels = subst AreLevelled (test_row_is t) i.levels;
+          spelled = subst (λ (ps : Parts). AreSpelled ps w) (test_row_is t) i.spelled;
+        };
+    from = from;
+    lows = λ t fit l. l;
+    back = λ t fit l. l;
+    outside = λ t v fit o. o;
+  }
+    where
+      from : (y : Step) (w : List Token) → Is (Of_follow follow.Tests) step_parts y w → (t : Pos × CaseName)
+          × (y ≡ TestsFor t.0 t.1) × Is (λ (t : Pos × CaseName). Unit {0}) test_row t w
+      from (TestsFor p c) w i = (
+        (p, c),
+        refl,
+        record {
+          fit = tt;
+          levels = subst AreLevelled (sym (test_row_is (p, c))) i.levels;
+          spelled = subst (λ (ps : Parts). AreSpelled ps w) (sym (test_row_is (p, c))) i.spelled;
+        },
+      )
+      from (Operates x p e) w i = absurd (no_test i.fit.1)
+        where
+          no_test : follow.Operated x ≡ follow.Tests → ⊥
+          no_test h = absurd cc
+      from (Selects x) w i = absurd (no_test i.fit.1)
+        where
+          no_test : follow.Dotted ≡ follow.Tests → ⊥
+          no_test h = absurd cc
+
+  pub tested_read : {K F : Type 0} → (F → 1 ≤ s.height) → k ≤ 4 → 5 ≤ s.strength
+      → ReadsStep K F (Of_follow follow.Tests) (climbing.tested ex room s)
+  tested_read tall low strong =
+      recast_read _ _ _ _ (λ t. TestsFor t.0 t.1) (λ t. refl) (λ f. f) (λ f c. c) (λ f. (test_cast low strong).to)
+      (λ f c. test_cast low strong)
+      (word_at_read (cue.Pair pair.WithPattern) (λ t. t.0) _ _
+      (λ p. upper_room_read (room_beside room s) (λ t. case_first t.1) (λ t. case_rest t.1) _
+      (λ none f c y m low. beside_none (tall f) none (omega (arith, low)))
+      (λ u. last_read (λ t. t.1) (λ c. (p, c)) _ (whole_case_read u) (λ x ts. refl)
+      (record {
+        fit = λ y f. f.1;
+        built = λ f x m. ((tt, refl), m);
+        has = λ x. refl;
+        only = λ f y h. two y p h.0.1;
+        lows = λ f c x m l. small (beside_small c.1);
+        part = λ f x m l. tt;
+        outside = λ f x v m n. no_dot b k (put s (TestsFor p x)) x v le refl n;
+      }))))
+    where
+      small : s.height ≤ room → suc s.height ≤ suc room
+      small h = omega (arith, h)

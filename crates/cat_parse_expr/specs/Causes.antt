@@ -3,7 +3,7 @@ use Rattle.std.specs.Prelude.{ℕ, List, ⊤}
 use Rattle.cat_lex.specs.declared.token.Token.{Token}
 use Rattle.cat_tree.specs.declared.expression.Node.{Node}
 use Rattle.cat_tree.specs.Spells.{IsFront}
-use Rattle.cat_parse_expr.specs.Places.{IsSpelled, GoesUpTo, IsTooHigh}
+use Rattle.cat_parse_expr.specs.Fronts.{IsSpelled, GoesUpTo, IsTooHigh}
 use Rattle.cat_parse_expr.specs.declared.refusal.ParseRefusal.{ParseRefusal}
 use Rattle.cat_parse_expr.specs.declared.refusal.ParseRefusal.TheVariants.{Unexpected, TooDeep, Memory}
 

@@ -1,7 +1,17 @@
-pub mod Results
 pub mod Reader
+pub mod Right
 pub mod Places
+pub mod Cues
+pub mod Types
+pub mod Openings
+pub mod Measures
+pub mod Parts
+pub mod Forms
+pub mod Climbing
+pub mod Followers
+pub mod Rightly
+pub mod Longest
+pub mod Fronts
 pub mod Causes
 pub mod Reach
--- what the code keeps on its way: no public clause cites it
-pub mod inside
+pub mod Refusals

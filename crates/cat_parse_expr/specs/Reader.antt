@@ -1,111 +1,103 @@
--- Reading, with how far the tokens went on as an expression.
-use Rattle.std.specs.Prelude.{if◌then◌else◌, ℕ, zero, suc, Bool, false, not, ◌&&◌, ◌||◌, nat_eq, nat_le, List, [], ◌∷◌}
-use Rattle.std.specs.Prelude.{length, Option, Some, None}
+-- Readers of lists of tokens, and how they are put together.
+use Rattle.std.specs.Prelude.{Bool, true, false, if◌then◌else◌, ℕ, zero, suc, List, [], ◌∷◌, Option, Some, None}
 use Rattle.cat_lex.specs.declared.token.Token.{Token}
-use Rattle.cat_tree.specs.declared.expression.Node.{Node}
-use Rattle.cat_parse_state.specs.declared.state.Measured.{Measured}
-use Rattle.cat_parse_state.specs.declared.state.Reading.{Reading}
-use Rattle.cat_parse_state.specs.Readings.{start, feed, node_in}
-use Rattle.cat_parse_step.specs.Machine.{shift}
-use Rattle.std.specs.Option.{is_some}
-use Rattle.cat_parse_state.specs.Operands.{takes, needs_part}
-use Rattle.cat_parse_expr.specs.Results.{Stop, ParseResult, Fails, Reads, Reader, here, too_deep}
+use Rattle.cat_lex.specs.declared.token.TokenKind.{TokenKind}
 
--- the last whole expression on the way, and what follows it
-pub record Best : Type 0 where
-  pub expression : Measured
-  pub rest : List Token
+-- What reading comes to: where it broke off, whether for a height alone, and what is left behind the last whole front,
+-- if there is one; or what was read and what is left.
+pub data Parsed (A : Type 0) : Type 0 where
+  Fails : List Token → Bool → Option (List Token) → Parsed A
+  Reads : A → List Token → Parsed A
 
--- what is whole here, with its height and what it ends in
-abbrev pub whole : Reading → Node → Measured
-whole r n = record { node = n; height = suc r.tallest; in_form = r.in_form; in_match = r.in_match }
+-- what a list of tokens begins with
+abbrev pub Reader : Type 0 → Type 0
+Reader A = List Token → Parsed A
 
--- what is whole here, or else the last whole expression before
-abbrev pub best_of : Option Node → Option Best → Reading → List Token → Option Best
-best_of None best r ts = best
-best_of (Some n) best r ts = Some (record { expression = whole r n; rest = ts })
+-- what is left where reading ended
+abbrev pub left_of : {A : Type 0} → Parsed A → List Token
+left_of (Fails left deep front) = left
+left_of (Reads x left) = left
 
--- what is read where a stop was met
-abbrev pub stopped : Option Best → Stop → ParseResult
-stopped None s = Fails s
-stopped (Some b) s = Reads b.expression b.rest (Some s)
+-- a reading, then another
+abbrev pub after : {A B : Type 0} → Parsed A → (A → Reader B) → Parsed B
+after (Fails left deep front) next = Fails left deep front
+after (Reads x left) next = next x left
 
--- what is read where nothing can follow
-abbrev pub ended : Option Node → Option Best → Reading → List Token → ParseResult
-ended None best r ts = stopped best (here ts)
-ended (Some n) best r ts = Reads (whole r n) ts None
+-- one reader, then another that may depend on what was read
+infixr 15 ◌⨟◌
+abbrev pub ◌⨟◌ : {A B : Type 0} → Reader A → (A → Reader B) → Reader B
+(r ⨟ next) ts = after (r ts) next
 
--- what comes next: a word is taken, an operand is asked for, or neither
-pub data Next : Type 0 where
-  Shifted : Reading → List Token → Next
-  Asks : ℕ → Next
-  Ends : Next
+-- nothing more is read
+abbrev pub pure : {A : Type 0} → A → Reader A
+pure x ts = Reads x ts
 
--- what comes next where no word does
-abbrev pub asked : Option ℕ → Next
-asked (Some j) = Asks j
-asked None = Ends
+-- no front is read
+abbrev pub nothing : {A : Type 0} → Reader A
+nothing ts = Fails ts false None
 
--- what comes next where a word may
-abbrev pub shifted : Reading → List Token → Option Reading → Next
-shifted r ts (Some more) = Shifted more ts
-shifted r ts None = asked (takes r.state)
+-- one token, and what is made of it
+abbrev pub made_of : {A : Type 0} → Option A → List Token → List Token → Parsed A
+made_of None ts rest = Fails ts false None
+made_of (Some x) ts rest = Reads x rest
 
--- what comes next at these tokens
-abbrev pub next : ℕ → Reading → List Token → Next
-next k r [] = asked (takes r.state)
-next k r (p ∷ ts) = shifted r ts (shift k r p)
+-- one token
+abbrev pub one : {A : Type 0} → (Token → Option A) → Reader A
+one take [] = Fails [] false None
+one take (p ∷ ts) = made_of (take p) (p ∷ ts) ts
 
--- whether the tree is higher than it may be: the one that is whole here, or one that has to have a part
-abbrev pub is_high : ℕ → Reading → Bool
-is_high limit r = (is_some (node_in r.state) && nat_le limit r.tallest) || (needs_part r.state && nat_le limit 1)
+-- whether the next token passes a test
+abbrev pub heads : (TokenKind → Bool) → List Token → Bool
+heads test [] = false
+heads test (p ∷ ts) = test p.kind
 
--- how reading goes on
-abbrev pub Going : Type 0
-Going = Option Best → Reading → List Token → ParseResult
+-- whether the token behind the next one does
+abbrev pub heads_second : (TokenKind → Bool) → List Token → Bool
+heads_second test [] = false
+heads_second test (p ∷ ts) = heads test ts
 
--- where the operand broke off further on, the words that are wanted here may still reach that index
-abbrev pub reaches : (limit : ℕ) → Next → Stop → Bool
-reaches limit (Shifted more ts) s = not s.deep && not (is_high limit more) && nat_eq (length ts) (length s.left)
-reaches limit (Asks j) s = false
-reaches limit Ends s = false
+-- by the next word one reader or another
+abbrev pub by_word : {A : Type 0} → (TokenKind → Bool) → Reader A → Reader A → Reader A
+by_word test a b ts = if heads test ts then a ts else b ts
 
--- how reading goes on with an operand that was read, or stops where it broke off
-abbrev pub fed : (k limit : ℕ) → Going → Option Best → Reading → ParseResult → ParseResult
-fed k limit go best r (Fails s) = stopped best s
-fed k limit go best r (Reads e ts None) = go best (feed r e) ts
-fed k limit go best r (Reads e ts (Some s)) =
-    if reaches limit (next k (feed r e) ts) s then go best (feed r e) ts else stopped
-    (best_of (node_in (feed r e).state) best (feed r e) ts) s
+-- one turn after another, from what was read so far, for as long as the tokens go on
+abbrev pub turns : {A : Type 0} → (A → List Token → Bool) → (A → Reader A) → (fuel : ℕ) → A → Reader A
+turns goes turn zero x ts = Reads x ts
+turns goes turn (suc fuel) x ts = if goes x ts then after (turn x ts) (turns goes turn fuel) else Reads x ts
 
--- one word or one operand of reading
-abbrev pub turn : (operand : Bool → ℕ → Reader) (k limit : ℕ) → Going → Option Best → Reading → List Token → Next
-    → ParseResult
-turn operand k limit go best r ts (Shifted more rest) =
-    if is_high limit more then stopped (best_of (node_in r.state) best r ts) (too_deep ts) else go
-    (best_of (node_in r.state) best r ts) more rest
-turn operand k limit go best r ts (Asks j) = fed k limit go best r (operand (nat_le limit r.tallest) j ts)
-turn operand k limit go best r ts Ends = ended (node_in r.state) best r ts
+-- ---- what stood whole where reading broke off
 
--- reading from a state on
-unfoldable pub run : (operand : Bool → ℕ → Reader) (k limit fuel : ℕ) → Going
-run operand k limit zero best r ts = stopped best (here ts)
-run operand k limit (suc fuel) best r ts = turn operand k limit (run operand k limit fuel) best r ts (next k r ts)
+-- a break within a part that words follow leaves nothing whole
+abbrev pub hidden_in : {A : Type 0} → Parsed A → Parsed A
+hidden_in (Fails left deep front) = Fails left deep None
+hidden_in (Reads x left) = Reads x left
 
--- whether the first token begins a part at level k
-abbrev pub starts : ℕ → List Token → Bool
-starts k [] = false
-starts k (p ∷ ts) = is_some (shift k start p)
+-- the same of a reader
+abbrev pub hidden : {A : Type 0} → Reader A → Reader A
+hidden r ts = hidden_in (r ts)
 
--- nothing is read for the height, where a part would begin
-abbrev pub nothing_at : ℕ → Reader
-nothing_at k ts = Fails (record { left = ts; deep = starts k ts })
+-- a break falls back on what stood whole at its latest
+abbrev pub latest : Option (List Token) → List Token → Option (List Token)
+latest None ts = Some ts
+latest (Some front) ts = Some front
 
--- an operand, or none where the whole is too high already
-abbrev pub operand_of : (ℕ → Reader) → Bool → ℕ → Reader
-operand_of reader high k ts = if high then nothing_at k ts else reader k ts
+-- what stood whole before these tokens stands whole where reading them breaks off
+abbrev pub fallen : {A : Type 0} → List Token → Parsed A → Parsed A
+fallen ts (Fails left deep front) = Fails left deep (latest front ts)
+fallen ts (Reads x left) = Reads x left
 
--- read limit k: the longest expression of that height that stands at level k
-unfoldable pub read : (limit k : ℕ) → Reader
-read zero k ts = nothing_at k ts
-read (suc limit) k ts = run (operand_of (read limit)) k (suc limit) (suc (length ts)) None start ts
+-- a reader that stands behind something whole
+abbrev pub behind_whole : {A : Type 0} → Reader A → Reader A
+behind_whole r ts = fallen ts (r ts)
+
+-- ---- height
+
+-- what would be read breaks off for its height
+abbrev pub too_high : {A : Type 0} → List Token → Parsed A → Parsed A
+too_high ts (Fails left deep front) = Fails left deep front
+too_high ts (Reads x left) = Fails ts true None
+
+-- a word that nothing can follow where there is no room for a part
+abbrev pub with_room : {A : Type 0} → (room : ℕ) → Reader A → Reader A
+with_room zero r ts = too_high ts (r ts)
+with_room (suc room) r ts = r ts

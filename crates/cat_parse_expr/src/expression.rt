@@ -1,26 +1,53 @@
 // Expressions at an index of a list of tokens.
-ghost use Rattle.std.specs.Prelude.{◌≡◌, ◌≤◌, ℕ, List, length, drop, cond, IfOk, IfErr};
+ghost use Rattle.std.specs.Prelude.{◌≡◌, ◌≤◌, ℕ, List, length, take, drop, IfOk, IfErr, Some, Ok, Err};
 ghost use Rattle.cat_lex.specs.declared.token.Token.{Token};
 ghost use Rattle.cat_tree.specs.declared.expression.Node.{Node};
 ghost use Rattle.cat_tree.specs.Spells.{Spells, IsFront};
-ghost use Rattle.cat_parse_expr.specs.Places.{GoesUpTo};
+ghost use Rattle.cat_parse_expr.specs.declared.behind.Behind.TheVariants.{Other};
 ghost use Rattle.cat_parse_expr.specs.Causes.{HasCause, HasReachCause};
-ghost use Rattle.cat_parse_expr.specs.Reach.{expression_reach, GivesReach};
+ghost use Rattle.cat_parse_expr.specs.Climbing as climbing;
+ghost use Rattle.cat_parse_expr.specs.Fronts.{GoesUpTo};
+ghost use Rattle.cat_parse_expr.specs.Places.{Gives};
+ghost use Rattle.cat_parse_expr.specs.Reach.{Found, front_found, before, expression_reach, GivesReach};
 
-use crate::reached::{Halt, Reached};
-use crate::reader::read;
-use crate::refusal::ParseRefusal;
+use crate::behind::Behind;
+use crate::climbing::operand;
+use crate::measured::Measured;
+use crate::miss::{Break, Miss, Read};
+use crate::refusal::{ParseRefusal, refusal_at};
 use cat_lex::Token;
 use cat_tree::Node;
 use std::alloc::Global;
 
-fn refusal_at(halt: Halt) -> ParseRefusal
-    ensures { result ≡ cond halt.deep (ParseRefusal.TooDeep halt.at) (ParseRefusal.Unexpected halt.at) }
+/// What the tokens before the index read as, alone.
+fn front(alloc: Global, tokens: &[Token], at: usize, end: usize) -> Read<Measured>
+    requires order { at ≤ end }
+    requires within { end ≤ length tokens.now }
+    ensures { Gives (climbing.operand 256 Other 0) (take end tokens.now) at result }
 {
-    if halt.deep {
-        ParseRefusal::TooDeep(halt.at)
-    } else {
-        ParseRefusal::Unexpected(halt.at)
+    operand(alloc, &tokens[..end], at, 256, Behind::Other, 0)
+}
+
+/// The whole expression before the index, behind which something longer broke off: it is read once more.
+fn whole(
+    alloc: Global,
+    tokens: &[Token],
+    at: usize,
+    broken: Break,
+    end: usize,
+) -> Result<Node, ParseRefusal>
+    requires place { at ≤ length tokens.now }
+    requires broken { Gives (climbing.operand 256 Other 0) tokens.now at (Err (Miss.Broken broken)) }
+    requires whole { broken.whole ≡ Some end }
+    ensures found { IfOk result (λ e. IsFront tokens.now at end e) }
+    ensures read { IfOk result (λ e. (left : List Token) → front_found (climbing.operand 256 Other 0
+        (before (drop end tokens.now) (drop at tokens.now))) (drop end tokens.now) left ≡ Found e (drop end tokens.now) left) }
+    ensures memory { IfErr result (λ refusal. refusal ≡ ParseRefusal.Memory) }
+{
+    match front(alloc, tokens, at, end) {
+        Ok((read, _)) => Ok(read.node.into_inner()),
+        Err(Miss::Memory) => Err(ParseRefusal::Memory),
+        Err(Miss::Broken(_)) => unreachable!(),
     }
 }
 
@@ -32,9 +59,13 @@ pub fn expr(alloc: Global, tokens: &[Token], at: usize) -> Result<(Node, usize),
     ensures longest { IfOk result (λ read. (e : Node) (next : ℕ) → IsFront tokens.now at next e → next ≤ read.1) }
     ensures cause { IfErr result (HasCause tokens.now at) }
 {
-    match read(alloc, tokens, at, 256, 0)? {
-        Reached::Reads(expression, next, _) => Ok((expression.node, next)),
-        Reached::Fails(halt) => Err(refusal_at(halt)),
+    match operand(alloc, tokens, at, 256, Behind::Other, 0) {
+        Ok((read, next)) => Ok((read.node.into_inner(), next)),
+        Err(Miss::Memory) => Err(ParseRefusal::Memory),
+        Err(Miss::Broken(broken)) => match broken.whole {
+            Some(end) => Ok((whole(alloc, tokens, at, broken, end)?, end)),
+            None => Err(refusal_at(broken)),
+        },
     }
 }
 
@@ -52,17 +83,18 @@ pub fn expr_reach(
     ensures cause { IfErr result (HasReachCause tokens.now at) }
     ensures gives { GivesReach (expression_reach 256 (drop at tokens.now)) tokens.now result }
 {
-    match read(alloc, tokens, at, 256, 0)? {
-        Reached::Reads(expression, next, tried) => match tried {
-            None => Ok((expression.node, next, next)),
-            Some(halt) => {
-                if halt.deep {
-                    return Err(ParseRefusal::TooDeep(halt.at));
-                }
-                Ok((expression.node, next, halt.at))
+    match operand(alloc, tokens, at, 256, Behind::Other, 0) {
+        Ok((read, next)) => Ok((read.node.into_inner(), next, next)),
+        Err(Miss::Memory) => Err(ParseRefusal::Memory),
+        Err(Miss::Broken(broken)) => {
+            if broken.deep {
+                return Err(ParseRefusal::TooDeep(broken.at));
             }
-        },
-        Reached::Fails(halt) => Err(refusal_at(halt)),
+            match broken.whole {
+                Some(end) => Ok((whole(alloc, tokens, at, broken, end)?, end, broken.at)),
+                None => Err(ParseRefusal::Unexpected(broken.at)),
+            }
+        }
     }
 }
 

@@ -1,11 +1,12 @@
 use Rattle.std.proofs.Common.{◌≡◌, List, [], rules, sym, subst, ◌∙◌}
 use Rattle.std.proofs.lemmas.Result.{err_from_is_err_and}
 use Rattle.cat_tree.specs.declared.program.Use.{Use}
-use Rattle.cat_parse_row.specs.Reader.{Reader, many}
-use Rattle.cat_parse_row.specs.Uses.{is_use, a_use}
-use Rattle.cat_parse_row.proofs.Exported.{Stands, at_none, further, smaller, last, use_shrinks}
-use Rattle.cat_parse_reach.specs.Reach.{expression}
-use Rattle.cat_parse.proofs.Turns.{refused}
+use Rattle.cat_parse_expr.specs.Reader.{Reader}
+use Rattle.cat_parse.specs.Many.{many}
+use Rattle.cat_parse.specs.Uses.{is_use, a_use}
+use Rattle.cat_parse.proofs.Turns.{Stands, at_none, further, smaller, last, refused}
+use Rattle.cat_parse.proofs.Shorter.{use_shrinks}
+use Rattle.cat_parse.specs.Expression.{expression}
 use Rattle.cat_parse.proofs.blocks.lines.Goals as goal
 
 abbrev a_line : Reader Use

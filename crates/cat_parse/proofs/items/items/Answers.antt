@@ -1,12 +1,13 @@
 use Rattle.std.proofs.Common.{◌≡◌, List, [], rules, sym, subst, ◌∙◌}
 use Rattle.std.proofs.lemmas.Result.{err_from_is_err_and}
 use Rattle.cat_tree.specs.declared.program.Item.{Item}
-use Rattle.cat_parse_row.specs.Reader.{Reader, many}
-use Rattle.cat_parse_row.specs.Uses.{is_item}
-use Rattle.cat_parse_row.specs.Programs.{an_item}
-use Rattle.cat_parse_row.proofs.Exported.{Stands, at_none, further, smaller, last, item_shrinks}
-use Rattle.cat_parse_reach.specs.Reach.{expression}
-use Rattle.cat_parse.proofs.Turns.{refused}
+use Rattle.cat_parse_expr.specs.Reader.{Reader}
+use Rattle.cat_parse.specs.Many.{many}
+use Rattle.cat_parse.specs.Uses.{is_item}
+use Rattle.cat_parse.specs.Programs.{an_item}
+use Rattle.cat_parse.proofs.Turns.{Stands, at_none, further, smaller, last, refused}
+use Rattle.cat_parse.proofs.Shorter.{item_shrinks}
+use Rattle.cat_parse.specs.Expression.{expression}
 use Rattle.cat_parse.proofs.items.items.Goals as goal
 
 abbrev one_item : Reader Item

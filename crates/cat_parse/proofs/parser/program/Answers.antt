@@ -1,6 +1,6 @@
 use Rattle.std.proofs.Common.{arith}
 use Rattle.std.proofs.lemmas.Result.{err_from_is_err_and}
-use Rattle.cat_parse_reach.specs.Reach.{expression}
+use Rattle.cat_parse.specs.Expression.{expression}
 use Rattle.cat_parse.proofs.Whole.{whole, left_over, cause}
 use Rattle.cat_parse.proofs.parser.program.Goals as goal
 

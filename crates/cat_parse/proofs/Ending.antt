@@ -1,0 +1,45 @@
+-- An expression ends before a token that may follow it in a program.
+use Rattle.std.proofs.Common.{◌≡◌, ℕ, ◌≤◌, max, true, List, [], ◌∷◌, ◌++◌, length, refl, sym, ap, subst, ◌∙◌, append_assoc, arith}
+use Rattle.std.proofs.lemmas.List.{append-nil, length-append}
+use Rattle.cat_lex.specs.declared.token.Token.{Token}
+use Rattle.cat_tree.specs.declared.expression.Node.{Node}
+use Rattle.cat_tree.specs.Spells.{height_of}
+use Rattle.cat_parse_expr.specs.declared.behind.Behind.TheVariants.{Other}
+use Rattle.cat_parse_expr.specs.declared.measured.Measured.{Measured}
+use Rattle.cat_parse_expr.specs.Climbing.{operand}
+use Rattle.cat_parse_expr.specs.Followers.{MayFollow, looks_of}
+use Rattle.cat_parse_expr.specs.Reader.{Parsed, Reads, left_of}
+use Rattle.cat_parse_expr.specs.Right.{Seen, Says, IsRight}
+use Rattle.cat_parse_expr.specs.Rightly.{IsMeasured, IsLow, operand_row, measured_of}
+use Rattle.cat_parse_expr.proofs.Exported.{rightly, read_whole, as_row}
+use Rattle.cat_parse.specs.Ends.{EndsBefore}
+use Rattle.cat_parse.proofs.Reading.{may_follow}
+
+right : (room bound : ℕ)
+    → IsRight (IsLow room) bound (MayFollow Other 0) (looks_of Other) IsMeasured (operand_row 0) (operand room Other 0)
+right room bound = rightly room Other 0 bound (omega arith)
+
+pub ends_before : (e : Node) (front : List Token) (p : Token) → EndsBefore e front p
+ends_before e front p s b begins =
+    let room = max (height_of e) (height_of begins.tree) in
+    let ts = (front ++ p ∷ []) ++ begins.rest in
+    let is : operand room Other 0 ts ≡ Reads (measured_of begins.tree) [] =
+    read_whole room (operand room Other 0) (right room) ts begins.tree begins.spells (omega arith) in
+    let says : Says (IsLow room) (Reads (measured_of begins.tree) []) (measured_of e) front ts =
+    subst (λ (o : Parsed Measured). Says (IsLow room) o (measured_of e) front ts) is
+    ((right room (length ts)).says ts ts (measured_of e) front (omega arith)
+    (sym (append-nil ts) ∙ ap (λ (o : Parsed Measured). ts ++ left_of o) (sym is))
+    (record {
+      others = [];
+      behind = p ∷ begins.rest;
+      seen = subst (λ (o : Parsed Measured). Seen (looks_of Other) o []) (sym is) tt;
+      is = as_row e front s;
+      outside = may_follow (measured_of e) (p ∷ begins.rest) b;
+      text = sym (append_assoc front (p ∷ []) begins.rest) ∙ sym (append-nil ts);
+    })) in
+    omega (
+      arith,
+      ap length says.1,
+      length-append (front ++ p ∷ []) begins.rest,
+      length-append front (p ∷ []),
+    )

@@ -1,0 +1,354 @@
+-- Cases, alone, with content, as structures and with a field.
+use Rattle.std.proofs.Common.{◌≡◌, ℕ, zero, suc, ◌≤◌, max, Bool, true, false, List, [], ◌∷◌, ◌++◌, Option, None, Some, refl, sym, ap}
+use Rattle.std.proofs.Common.{subst, ◌∙◌, arith, inl, inr, ◌⊎◌}
+use Rattle.cat_pos.specs.declared.pos.Pos.{Pos}
+use Rattle.cat_lex.specs.declared.token.Token.{Token}
+use Rattle.cat_lex.specs.declared.token.TokenKind.{TokenKind}
+use Rattle.cat_lex.specs.declared.token.TokenKind.TheVariants as kind
+use Rattle.cat_lex.specs.declared.words.Keyword.{Keyword}
+use Rattle.cat_lex.specs.declared.words.Keyword.TheVariants as key
+use Rattle.cat_lex.specs.declared.words.DoubleKeyword.TheVariants as pair
+use Rattle.cat_lex.specs.declared.symbol.Symbol.TheVariants as symbol
+use Rattle.cat_tree.specs.Accumulation.{accumulation}
+use Rattle.cat_tree.specs.declared.name.Name.{Name}
+use Rattle.cat_tree.specs.declared.name.Type as types
+use Rattle.cat_tree.specs.declared.expression.Each.{Each}
+use Rattle.cat_tree.specs.declared.expression.Each.TheVariants as each
+use Rattle.cat_tree.specs.declared.expression.Node.{Node}
+use Rattle.cat_tree.specs.declared.expression.Node.TheViews as node
+use Rattle.cat_tree.specs.Literals.{type_parts}
+use Rattle.cat_tree.specs.Phrase.{Phrase, Row, Rank, Parts, End, Word, Part, At, Anywhere, Operand, height}
+use Rattle.cat_tree.specs.Rows.{each_parts}
+use Rattle.cat_tree.specs.Wording as wording
+use Rattle.cat_tree.specs.Wording.{◌▹◌, symbol_at, key_at, pair_at, first, then_, lower, sign, part, of_level, words}
+use Rattle.cat_tree.specs.Grammar.{phrase}
+use Rattle.cat_tree.proofs.Exported.{phrase_Case, phrase_Content, phrase_Structure, phrase_Field}
+use Rattle.cat_parse_expr.specs.declared.behind.Behind.{Behind}
+use Rattle.cat_parse_expr.specs.declared.behind.Behind.TheVariants.{Other, Field, Pattern as Tested}
+use Rattle.cat_parse_expr.specs.declared.cue.Cue.{Cue}
+use Rattle.cat_parse_expr.specs.declared.cue.Cue.TheVariants as cue
+use Rattle.cat_parse_expr.specs.declared.measured.Measured.{Measured}
+use Rattle.cat_parse_expr.specs.declared.opening.Opening.TheVariants as opening
+use Rattle.cat_parse_expr.specs.Cues.{kind_of}
+use Rattle.cat_parse_expr.specs.Measures.{closed, ending, form}
+use Rattle.cat_parse_expr.specs.Reader.{Reader, hidden, ◌⨟◌, pure, Reads}
+use Rattle.cat_parse_expr.specs.Parts.{Lower, key_word, pair_word}
+use Rattle.cat_parse_expr.specs.Forms as forms
+use Rattle.cat_parse_expr.specs.Followers.{MayFollow, looks_of, is_taken}
+use Rattle.cat_parse_expr.specs.Longest.{KeepsWhole}
+use Rattle.cat_parse_expr.specs.Rightly.{measured_of, IsMeasured, IsLow, operand_row, AreRight}
+use Rattle.cat_parse_expr.proofs.Firsts.{Shape, class_of, class_Case, class_Content, class_Structure, class_Selected}
+use Rattle.cat_parse_expr.proofs.Follows.{word_follows, tall_enough}
+use Rattle.cat_parse_expr.proofs.Positive.{positive}
+use Rattle.cat_parse_expr.proofs.Operands.{Next, form_next, OfClass, Form, form_read, measured_by, height_is, match_is}
+use Rattle.cat_parse_expr.proofs.Operands.{strength_by, inner_read, end_read}
+use Rattle.cat_parse_expr.proofs.Read.{IsRead, pure_read}
+use Rattle.cat_parse_expr.proofs.Worded.{word_read, word_at_read, lower_read, opened_at_read}
+use Rattle.cat_parse_expr.proofs.Sequels.{part_read, last_read, hidden_shut, past_none, IsShut, shut_after, one_shut, shut_turns, no_longer}
+use Rattle.cat_parse_expr.proofs.Tuples.{both, two}
+use Rattle.std.proofs.Common.{map, length, if◌then◌else◌}
+use Rattle.cat_tree.specs.Joined.{◌▸◌, all}
+use Rattle.cat_tree.specs.Rows.{elements}
+use Rattle.std.proofs.Common.{append_assoc}
+use Rattle.cat_tree.specs.Phrase.{AreLevelled, AreSpelled, tallest}
+use Rattle.cat_parse_expr.proofs.Loops as loops
+use Rattle.cat_parse_expr.specs.declared.measured.Elements.{Elements}
+use Rattle.cat_parse_expr.specs.Measures.{with_element, no_elements}
+use Rattle.cat_parse_expr.specs.Parts as parts
+use Rattle.cat_parse_expr.specs.Parts.{has_element, next_element, as_many, is_sign, inner, sign as a_sign}
+use Rattle.cat_parse_expr.specs.Reader.{Parsed, Fails, after, left_of, heads, hidden_in, by_word}
+use Rattle.cat_parse_expr.specs.Cues.{cue_is, word_of, «word»}
+use Rattle.cat_parse_expr.specs.Right.{Is}
+use Rattle.cat_parse_expr.proofs.Chaining as chaining
+use Rattle.cat_parse_expr.proofs.Choices.{Decides, Recast}
+use Rattle.cat_parse_expr.proofs.Chosen.{inner_choice_read}
+use Rattle.cat_parse_expr.proofs.Lists as lists
+use Rattle.cat_parse_expr.proofs.Looping as looping
+use Rattle.cat_parse_expr.proofs.Nodes.{nodes_of, phrases_of, tallest_of, AreMeasured, measures_of, measures_are, nodes_back}
+use Rattle.cat_parse_expr.proofs.Nodes.{elements_from, nodes_are, tallest_is, row_behind, chain_elements, elements_behind}
+use Rattle.cat_parse_expr.proofs.Nodes.{elements_height, elements_last, behind_end}
+use Rattle.cat_parse_expr.proofs.Shaping.{narrow_read, recast_read, reshape_read}
+use Rattle.cat_parse_expr.proofs.Turnings.{heads_begin, heads_other, heads_follow, heads_seen, shrinks_after, shrinks_one, takes_one}
+use Rattle.cat_parse_expr.proofs.Turnings as turnings
+use Rattle.std.proofs.Common.{append-nil, ◌<◌, not, nat_eq, nat_le, nat_lt, ◌&&◌, ◌||◌, cond}
+use Rattle.std.proofs.lemmas.Bool.Decides.{nat_tests}
+use Rattle.cat_tree.specs.Phrase.{right_strength, left_strength, ends_in_form, ends_in_match, last_in_form, last_in_match}
+use Rattle.cat_tree.specs.Phrase.{IsLevelled}
+use Rattle.cat_tree.specs.Wording.{if_some}
+use Rattle.cat_tree.specs.declared.expression.Node.TheVariants as leaves
+use Rattle.cat_parse_expr.specs.declared.follow.Follow.TheVariants as follow
+use Rattle.cat_parse_expr.specs.Followers.{is_asked, is_below, is_with_pattern, may_stand}
+use Rattle.cat_parse_expr.specs.Measures.{leaf}
+use Rattle.cat_parse_expr.specs.Openings.{follow_of}
+use Rattle.cat_parse_expr.specs.Parts.{has_field, next_field, field_value}
+use Rattle.cat_parse_expr.specs.Reader.{behind_whole}
+use Rattle.cat_parse_expr.proofs.Bracketed.{part_shrinks, hidden_left}
+use Rattle.cat_parse_expr.proofs.Chosen.{choice_read}
+use Rattle.cat_parse_expr.proofs.Follows.{argument_ends, IsOwn}
+use Rattle.cat_parse_expr.proofs.Operands.{ending_next, goes_then}
+use Rattle.cat_parse_expr.proofs.Positive.{ends_in_word, nine_strength}
+use Rattle.cat_parse_expr.proofs.Shaping.{made_read, look_read}
+use Rattle.cat_parse_expr.proofs.Turnings.{own_heads}
+use Rattle.cat_tree.specs.declared.expression.FieldValue.{FieldValue}
+use Rattle.cat_tree.specs.Rows.{fields}
+use Rattle.cat_tree.proofs.Exported.{field_row}
+use Rattle.cat_parse_expr.specs.declared.measured.Fields.{Fields}
+use Rattle.cat_parse_expr.specs.Measures.{with_field, no_fields}
+use Rattle.cat_parse_expr.specs.Parts.{is_lower}
+use Rattle.cat_parse_expr.specs.Cues as cues
+use Rattle.cat_parse_expr.specs.Cues.{lower_of, upper_of}
+use Rattle.cat_parse_expr.proofs.Leaves.{cue_found, cue_self}
+use Rattle.cat_parse_expr.proofs.Shaping.{unlook_read}
+use Rattle.cat_tree.specs.Wording.{upper}
+use Rattle.cat_parse_expr.proofs.Chosen.{same_read}
+use Rattle.cat_parse_expr.proofs.Operands.{whole_same}
+use Rattle.cat_parse_expr.proofs.Positive.{fields_form, fields_match}
+use Rattle.cat_parse_expr.proofs.Tuples.{three}
+use Rattle.cat_parse_expr.proofs.Worded.{upper_read}
+use Rattle.cat_parse_expr.proofs.Valued.{Valued, values_of, field_rows, highest_of, AreValued, valued_of, valued_are}
+use Rattle.cat_parse_expr.proofs.Valued.{values_back, rows_are, fields_from, values_are, highest_is, field_parts}
+use Rattle.cat_parse_expr.proofs.Valued.{fields_are, fields_height, fields_read, fields_shut, some_fields_read}
+use Rattle.cat_parse_expr.proofs.Valued.{some_fields_shut}
+use Rattle.cat_tree.specs.declared.name.CaseName.{CaseName}
+use Rattle.cat_tree.specs.declared.name.CaseName.TheVariants.{Bare, Qualified}
+use Rattle.cat_parse_expr.proofs.Follows.{call_ends, own_not}
+use Rattle.cat_tree.specs.Literals.{case_parts}
+use Rattle.cat_tree.specs.Wording.{left}
+use Rattle.cat_tree.specs.Phrase.{Left, Stands, IsSpelling}
+use Rattle.cat_parse_expr.specs.Climbing.{goes_on}
+use Rattle.cat_parse_expr.specs.Openings.{follow_at}
+use Rattle.cat_parse_expr.specs.Right.{IsRight}
+use Rattle.cat_parse_expr.proofs.Braces.{structure_read}
+use Rattle.cat_parse_expr.proofs.Chosen.{sharp_choice_read}
+use Rattle.cat_parse_expr.proofs.Held.{Held, held_of, held_row, held_fits, held_read, content_of}
+use Rattle.cat_parse_expr.proofs.Held.{Nothing as Without, Content as With}
+use Rattle.cat_parse_expr.proofs.Operands.{goes_past, height_is}
+use Rattle.cat_parse_expr.proofs.Worded.{lower_room_read}
+
+abbrev pub built : Valued → List Valued → Fields
+built f fs = fields_from no_fields (f ∷ fs)
+
+pub data Cased : Type 0 where
+  Plain : Name → Cased
+  Dotted : Name → Name → Cased
+  Holds : Name → Measured → Cased
+  DottedHolds : Name → Name → Measured → Cased
+  Builds : Name → Valued → List Valued → Cased
+  Selects : Name → Name → Cased
+
+abbrev pub first_in : Cased → Name
+first_in (Plain u) = u
+first_in (Dotted d u) = d
+first_in (Holds u e) = u
+first_in (DottedHolds d u e) = d
+first_in (Builds u f fs) = u
+first_in (Selects u w) = u
+
+abbrev pub second_in : Cased → Name
+second_in (Plain u) = u
+second_in (Dotted d u) = u
+second_in (Holds u e) = u
+second_in (DottedHolds d u e) = u
+second_in (Builds u f fs) = u
+second_in (Selects u w) = w
+
+abbrev pub selected_of : Name → Name → Measured
+selected_of u w = closed 9 1 (node.Field (leaves.Case (Bare u)) w)
+
+abbrev pub cased_of : Cased → Measured
+cased_of (Plain u) = leaf (leaves.Case (Bare u))
+cased_of (Dotted d u) = leaf (leaves.Case (Qualified d u))
+cased_of (Holds u e) = content_of (Bare u) e
+cased_of (DottedHolds d u e) = content_of (Qualified d u) e
+cased_of (Builds u f fs) = closed 9 (built f fs).tallest (node.Structure u (built f fs).values)
+cased_of (Selects u w) = selected_of u w
+
+-- behind a dot
+abbrev pub after_dot : Cased → Parts
+after_dot (Plain u) = End
+after_dot (Dotted d u) = upper u ▹ End
+after_dot (Holds u e) = End
+after_dot (DottedHolds d u e) = upper u ▹ wording.«word» key.Content ▹ part 8 (phrase e.node) ▹ End
+after_dot (Builds u f fs) = End
+after_dot (Selects u w) = lower w ▹ End
+
+-- behind the second name
+abbrev pub after_second : Cased → Parts
+after_second (DottedHolds d u e) = wording.«word» key.Content ▹ part 8 (phrase e.node) ▹ End
+after_second y = End
+
+abbrev pub cased_rest : Cased → Parts
+cased_rest (Plain u) = End
+cased_rest (Dotted d u) = sign symbol.Dot ▹ upper u ▹ End
+cased_rest (Holds u e) = wording.«word» key.Content ▹ part 8 (phrase e.node) ▹ End
+cased_rest (DottedHolds d u e) = sign symbol.Dot ▹ upper u ▹ wording.«word» key.Content ▹ part 8 (phrase e.node) ▹ End
+cased_rest (Builds u f fs) = sign symbol.LeftBrace ▹ fields (field_rows (f ∷ fs)) (sign symbol.RightBrace ▹ End)
+cased_rest (Selects u w) = sign symbol.Dot ▹ lower w ▹ End
+
+abbrev pub cased_flat : Cased → Parts
+cased_flat y = Word (At (kind.Upper (first_in y).text) (first_in y).pos) (cased_rest y)
+
+abbrev pub cased_fits : (k : ℕ) → Cased → Type 0
+cased_fits k (Holds u e) = IsMeasured e × (k ≤ 8)
+cased_fits k (DottedHolds d u e) = IsMeasured e × (k ≤ 8)
+cased_fits k (Builds u f fs) = IsMeasured f.1 × AreValued fs
+cased_fits k y = Unit {0}
+
+abbrev pub cased_rank : Cased → Rank
+cased_rank (Holds u e) = of_level 8
+cased_rank (DottedHolds d u e) = of_level 8
+cased_rank y = of_level 9
+
+-- as it is spelled in parts
+abbrev pub cased_row : Cased → Parts
+cased_row (Selects u w) = left 9 (phrase (leaves.Case (Bare u))) ▹ sign symbol.Dot ▹ lower w ▹ End
+cased_row y = cased_flat y
+
+-- ---- as operands
+
+bare_levels : (u : Name) → (9 ≤ left_strength (phrase (leaves.Case (Bare u)))) × IsLevelled (phrase (leaves.Case (Bare u)))
+bare_levels u =
+    subst (λ (f : Phrase). (9 ≤ left_strength f) × IsLevelled f) (sym (phrase_Case (Bare u))) (omega arith, (refl, tt))
+
+pub to_parts : (y : Cased) (w : List Token) → AreLevelled (cased_flat y) → AreSpelled (cased_flat y) w
+    → AreLevelled (cased_row y) × AreSpelled (cased_row y) w
+to_parts (Plain u) w l s = (l, s)
+to_parts (Dotted d u) w l s = (l, s)
+to_parts (Holds u e) w l s = (l, s)
+to_parts (DottedHolds d u e) w l s = (l, s)
+to_parts (Builds u f fs) w l s = (l, s)
+to_parts (Selects u x) w l s =
+    let b = bare_levels u in (
+      (b.0, b.1, tt),
+      (
+        s.0 ∷ [],
+        s.1,
+        s.2,
+        subst (λ (f : Phrase). IsSpelling f (s.0 ∷ [])) (sym (phrase_Case (Bare u))) (s.0, [], refl, s.3, refl),
+        s.4,
+      ),
+    )
+
+pub from_parts : (y : Cased) (w : List Token) → AreLevelled (cased_row y) → AreSpelled (cased_row y) w
+    → AreLevelled (cased_flat y) × AreSpelled (cased_flat y) w
+from_parts (Plain u) w l s = (l, s)
+from_parts (Dotted d u) w l s = (l, s)
+from_parts (Holds u e) w l s = (l, s)
+from_parts (DottedHolds d u e) w l s = (l, s)
+from_parts (Builds u f fs) w l s = (l, s)
+from_parts (Selects u x) w l s =
+    let t = subst (λ (f : Phrase). IsSpelling f s.0) (phrase_Case (Bare u)) s.3 in (
+      tt,
+      (
+        t.0,
+        s.1,
+        s.2 ∙ ap (λ (z : List Token). z ++ s.1) (t.2 ∙ ap (λ (z : List Token). t.0 ∷ z) t.4),
+        t.3,
+        s.4,
+      ),
+    )
+
+cased_is : (y : Cased) → phrase (cased_of y).node ≡ Row (cased_rank y) (cased_row y)
+cased_is (Plain u) = phrase_Case (Bare u)
+cased_is (Dotted d u) = phrase_Case (Qualified d u)
+cased_is (Holds u e) = phrase_Content (Bare u) e.node
+cased_is (DottedHolds d u e) = phrase_Content (Qualified d u) e.node
+cased_is (Builds u f fs) =
+    phrase_Structure u (built f fs).values
+    ∙ ap (λ (vs : List FieldValue). Row (if_some 9 (map field_row vs)) (upper u ▹ sign symbol.LeftBrace
+    ▹ fields (map field_row vs) (sign symbol.RightBrace ▹ End))) (values_are (with_field no_fields f.0 f.1) fs)
+    ∙ ap (λ (rs : List (Name × Phrase)). Row (of_level 9) (upper u ▹ sign symbol.LeftBrace
+    ▹ fields ((f.0, phrase f.1.node) ∷ rs) (sign symbol.RightBrace ▹ End))) (rows_are fs)
+cased_is (Selects u w) = phrase_Field (leaves.Case (Bare u)) w
+
+bare_height : (u : Name) → height (phrase (leaves.Case (Bare u))) ≡ 1
+bare_height u = ap height (phrase_Case (Bare u))
+
+cased_measured : (k : ℕ) (y : Cased) → cased_fits k y → IsMeasured (cased_of y)
+cased_measured k (Plain u) m = measured_by (leaves.Case (Bare u)) _ _ _ _ (cased_is (Plain u)) (omega arith) refl refl
+cased_measured k (Dotted d u) m =
+    measured_by (leaves.Case (Qualified d u)) _ _ _ _ (cased_is (Dotted d u)) (omega arith) refl refl
+cased_measured k (Holds u e) m =
+    measured_by (content_of (Bare u) e).node _ _ _ _ (cased_is (Holds u e)) (omega (arith, height_is e m.0))
+    (strength_by e 8 m.0 (positive e.node)) (match_is e m.0)
+cased_measured k (DottedHolds d u e) m =
+    measured_by (content_of (Qualified d u) e).node _ _ _ _ (cased_is (DottedHolds d u e))
+    (omega (arith, height_is e m.0)) (strength_by e 8 m.0 (positive e.node)) (match_is e m.0)
+cased_measured k (Builds u f fs) m =
+    measured_by (cased_of (Builds u f fs)).node _ _ _ _ (cased_is (Builds u f fs))
+    (omega (
+      arith,
+      highest_is (with_field no_fields f.0 f.1) fs,
+      fields_height (f ∷ fs) (sign symbol.RightBrace ▹ End) (m.0, m.1),
+    ))
+    (ap (λ (c : Bool). if c then 0 else 9)
+    (sym (fields_form (field_rows (f ∷ fs)) (Anywhere (kind.Symbol symbol.RightBrace)) End false)))
+    (sym (fields_match (field_rows (f ∷ fs)) (Anywhere (kind.Symbol symbol.RightBrace)) End false))
+cased_measured k (Selects u w) m =
+    measured_by (selected_of u w).node _ _ _ _ (cased_is (Selects u w)) (omega (arith, bare_height u)) refl refl
+
+cased_class : (y : Cased) → class_of (cased_of y).node ≡ opening.Case
+cased_class (Plain u) = class_Case (Bare u)
+cased_class (Dotted d u) = class_Case (Qualified d u)
+cased_class (Holds u e) = class_Content (Bare u) e.node
+cased_class (DottedHolds d u e) = class_Content (Qualified d u) e.node
+cased_class (Builds u f fs) = class_Structure u (built f fs).values
+cased_class (Selects u w) = class_Selected u w
+
+cased_shape : (y : Cased) → Shape opening.Case (cased_of y).node
+cased_shape (Plain u) = inl (Bare u, refl)
+cased_shape (Dotted d u) = inl (Qualified d u, refl)
+cased_shape (Holds u e) = inr (inl (Bare u, e.node, refl))
+cased_shape (DottedHolds d u e) = inr (inl (Qualified d u, e.node, refl))
+cased_shape (Builds u f fs) = inr (inr (inl (u, (built f fs).values, refl)))
+cased_shape (Selects u w) = inr (inr (inr (u, w, refl)))
+
+cased_split : (k : ℕ) (n : Node) → Shape opening.Case n → IsLevelled (phrase n) → k ≤ right_strength (phrase n)
+    → (y : Cased) × (n ≡ (cased_of y).node) × cased_fits k y
+cased_split k n (inl (Bare u, e)) l low = (Plain u, e, tt)
+cased_split k n (inl (Qualified d u, e)) l low = (Dotted d u, e, tt)
+cased_split k n (inr (inl (Bare u, e, is))) l low =
+    (Holds u (measured_of e), is, (refl, subst (λ (f : Phrase). k ≤ right_strength f) (ap phrase is ∙ phrase_Content (Bare u) e) low))
+cased_split k n (inr (inl (Qualified d u, e, is))) l low =
+    (DottedHolds d u (measured_of e), is, (refl, subst (λ (f : Phrase). k ≤ right_strength f) (ap phrase is ∙ phrase_Content (Qualified d u) e) low))
+cased_split k n (inr (inr (inl (u, [], is)))) l low =
+    absurd (clash (subst IsLevelled (ap phrase is ∙ phrase_Structure u []) l).0)
+  where
+    clash : false ≡ true → ⊥
+    clash h = absurd cc
+cased_split k n (inr (inr (inl (u, f ∷ fs, is)))) l low = (
+  Builds u (f.name, measured_of f.value) (valued_of fs),
+  is ∙ ap (λ (vs : List FieldValue). node.Structure u vs)
+      (sym (values_are (with_field no_fields f.name (measured_of f.value)) (valued_of fs)
+      ∙ ap (λ (vs : List FieldValue). f ∷ vs) (values_back fs))),
+  (refl, valued_are fs),
+)
+cased_split k n (inr (inr (inr (u, w, is)))) l low = (Selects u w, is, tt)
+
+pub cased_form : (k : ℕ) → k ≤ 9 → Form k opening.Case (cased_fits k) cased_row cased_of
+cased_form k le = record {
+  rank = cased_rank;
+  is = cased_is;
+  measured = cased_measured k;
+  level = level;
+  bounded = bounded;
+  class = cased_class;
+  shape = cased_shape;
+  split = cased_split k;
+}
+  where
+    level : (y : Cased) → cased_fits k y → k ≤ (cased_rank y).level
+    level (Plain u) m = le
+    level (Dotted d u) m = le
+    level (Holds u e) m = m.1
+    level (DottedHolds d u e) m = m.1
+    level (Builds u f fs) m = le
+    level (Selects u w) m = le
+
+    bounded : (y : Cased) → cased_fits k y → (cased_rank y).fits ≡ true
+    bounded (Plain u) m = refl
+    bounded (Dotted d u) m = refl
+    bounded (Holds u e) m = refl
+    bounded (DottedHolds d u e) m = refl
+    bounded (Builds u f fs) m = refl
+    bounded (Selects u w) m = refl

@@ -1,0 +1,279 @@
+-- The content of a case.
+use Rattle.std.proofs.Common.{◌≡◌, ℕ, zero, suc, ◌≤◌, max, Bool, true, false, List, [], ◌∷◌, ◌++◌, Option, None, Some, refl, sym, ap}
+use Rattle.std.proofs.Common.{subst, ◌∙◌, arith, inl, inr, ◌⊎◌}
+use Rattle.cat_pos.specs.declared.pos.Pos.{Pos}
+use Rattle.cat_lex.specs.declared.token.Token.{Token}
+use Rattle.cat_lex.specs.declared.token.TokenKind.{TokenKind}
+use Rattle.cat_lex.specs.declared.token.TokenKind.TheVariants as kind
+use Rattle.cat_lex.specs.declared.words.Keyword.{Keyword}
+use Rattle.cat_lex.specs.declared.words.Keyword.TheVariants as key
+use Rattle.cat_lex.specs.declared.words.DoubleKeyword.TheVariants as pair
+use Rattle.cat_lex.specs.declared.symbol.Symbol.TheVariants as symbol
+use Rattle.cat_tree.specs.Accumulation.{accumulation}
+use Rattle.cat_tree.specs.declared.name.Name.{Name}
+use Rattle.cat_tree.specs.declared.name.Type as types
+use Rattle.cat_tree.specs.declared.expression.Each.{Each}
+use Rattle.cat_tree.specs.declared.expression.Each.TheVariants as each
+use Rattle.cat_tree.specs.declared.expression.Node.{Node}
+use Rattle.cat_tree.specs.declared.expression.Node.TheViews as node
+use Rattle.cat_tree.specs.Literals.{type_parts}
+use Rattle.cat_tree.specs.Phrase.{Phrase, Row, Rank, Parts, End, Word, Part, At, Anywhere, Operand, height}
+use Rattle.cat_tree.specs.Rows.{each_parts}
+use Rattle.cat_tree.specs.Wording as wording
+use Rattle.cat_tree.specs.Wording.{◌▹◌, symbol_at, key_at, pair_at, first, then_, lower, sign, part, of_level, words}
+use Rattle.cat_tree.specs.Grammar.{phrase}
+use Rattle.cat_tree.proofs.Exported.{phrase_Case, phrase_Content, phrase_Structure, phrase_Field}
+use Rattle.cat_parse_expr.specs.declared.behind.Behind.{Behind}
+use Rattle.cat_parse_expr.specs.declared.behind.Behind.TheVariants.{Other, Field, Pattern as Tested}
+use Rattle.cat_parse_expr.specs.declared.cue.Cue.{Cue}
+use Rattle.cat_parse_expr.specs.declared.cue.Cue.TheVariants as cue
+use Rattle.cat_parse_expr.specs.declared.measured.Measured.{Measured}
+use Rattle.cat_parse_expr.specs.declared.opening.Opening.TheVariants as opening
+use Rattle.cat_parse_expr.specs.Cues.{kind_of}
+use Rattle.cat_parse_expr.specs.Measures.{closed, ending, form}
+use Rattle.cat_parse_expr.specs.Reader.{Reader, hidden, ◌⨟◌, pure, Reads}
+use Rattle.cat_parse_expr.specs.Parts.{Lower, key_word, pair_word}
+use Rattle.cat_parse_expr.specs.Forms as forms
+use Rattle.cat_parse_expr.specs.Followers.{MayFollow, looks_of, is_taken}
+use Rattle.cat_parse_expr.specs.Longest.{KeepsWhole}
+use Rattle.cat_parse_expr.specs.Rightly.{measured_of, IsMeasured, IsLow, operand_row, AreRight}
+use Rattle.cat_parse_expr.proofs.Firsts.{Shape, class_of, class_Case, class_Content, class_Structure, class_Selected}
+use Rattle.cat_parse_expr.proofs.Follows.{word_follows, tall_enough}
+use Rattle.cat_parse_expr.proofs.Positive.{positive}
+use Rattle.cat_parse_expr.proofs.Operands.{Next, form_next, OfClass, Form, form_read, measured_by, height_is, match_is}
+use Rattle.cat_parse_expr.proofs.Operands.{strength_by, inner_read, end_read}
+use Rattle.cat_parse_expr.proofs.Read.{IsRead, pure_read}
+use Rattle.cat_parse_expr.proofs.Worded.{word_read, word_at_read, lower_read, opened_at_read}
+use Rattle.cat_parse_expr.proofs.Sequels.{part_read, last_read, hidden_shut, past_none, IsShut, shut_after, one_shut, shut_turns, no_longer}
+use Rattle.cat_parse_expr.proofs.Tuples.{both, two}
+use Rattle.std.proofs.Common.{map, length, if◌then◌else◌}
+use Rattle.cat_tree.specs.Joined.{◌▸◌, all}
+use Rattle.cat_tree.specs.Rows.{elements}
+use Rattle.std.proofs.Common.{append_assoc}
+use Rattle.cat_tree.specs.Phrase.{AreLevelled, AreSpelled, tallest}
+use Rattle.cat_parse_expr.proofs.Loops as loops
+use Rattle.cat_parse_expr.specs.declared.measured.Elements.{Elements}
+use Rattle.cat_parse_expr.specs.Measures.{with_element, no_elements}
+use Rattle.cat_parse_expr.specs.Parts as parts
+use Rattle.cat_parse_expr.specs.Parts.{has_element, next_element, as_many, is_sign, inner, sign as a_sign}
+use Rattle.cat_parse_expr.specs.Reader.{Parsed, Fails, after, left_of, heads, hidden_in, by_word}
+use Rattle.cat_parse_expr.specs.Cues.{cue_is, word_of, «word»}
+use Rattle.cat_parse_expr.specs.Right.{Is}
+use Rattle.cat_parse_expr.proofs.Chaining as chaining
+use Rattle.cat_parse_expr.proofs.Choices.{Decides, Recast}
+use Rattle.cat_parse_expr.proofs.Chosen.{inner_choice_read}
+use Rattle.cat_parse_expr.proofs.Lists as lists
+use Rattle.cat_parse_expr.proofs.Looping as looping
+use Rattle.cat_parse_expr.proofs.Nodes.{nodes_of, phrases_of, tallest_of, AreMeasured, measures_of, measures_are, nodes_back}
+use Rattle.cat_parse_expr.proofs.Nodes.{elements_from, nodes_are, tallest_is, row_behind, chain_elements, elements_behind}
+use Rattle.cat_parse_expr.proofs.Nodes.{elements_height, elements_last, behind_end}
+use Rattle.cat_parse_expr.proofs.Shaping.{narrow_read, recast_read, reshape_read}
+use Rattle.cat_parse_expr.proofs.Turnings.{heads_begin, heads_other, heads_follow, heads_seen, shrinks_after, shrinks_one, takes_one}
+use Rattle.cat_parse_expr.proofs.Turnings as turnings
+use Rattle.std.proofs.Common.{append-nil, ◌<◌, not, nat_eq, nat_le, nat_lt, ◌&&◌, ◌||◌, cond}
+use Rattle.std.proofs.lemmas.Bool.Decides.{nat_tests}
+use Rattle.cat_tree.specs.Phrase.{right_strength, left_strength, ends_in_form, ends_in_match, last_in_form, last_in_match}
+use Rattle.cat_tree.specs.Phrase.{IsLevelled}
+use Rattle.cat_tree.specs.Wording.{if_some}
+use Rattle.cat_tree.specs.declared.expression.Node.TheVariants as leaves
+use Rattle.cat_parse_expr.specs.declared.follow.Follow.TheVariants as follow
+use Rattle.cat_parse_expr.specs.Followers.{is_asked, is_below, is_with_pattern, may_stand}
+use Rattle.cat_parse_expr.specs.Measures.{leaf}
+use Rattle.cat_parse_expr.specs.Openings.{follow_of}
+use Rattle.cat_parse_expr.specs.Parts.{has_field, next_field, field_value}
+use Rattle.cat_parse_expr.specs.Reader.{behind_whole}
+use Rattle.cat_parse_expr.proofs.Bracketed.{part_shrinks, hidden_left}
+use Rattle.cat_parse_expr.proofs.Chosen.{choice_read}
+use Rattle.cat_parse_expr.proofs.Follows.{argument_ends, IsOwn}
+use Rattle.cat_parse_expr.proofs.Operands.{ending_next, goes_then}
+use Rattle.cat_parse_expr.proofs.Positive.{ends_in_word, nine_strength}
+use Rattle.cat_parse_expr.proofs.Shaping.{made_read, look_read}
+use Rattle.cat_parse_expr.proofs.Turnings.{own_heads}
+use Rattle.cat_tree.specs.declared.expression.FieldValue.{FieldValue}
+use Rattle.cat_tree.specs.Rows.{fields}
+use Rattle.cat_tree.proofs.Exported.{field_row}
+use Rattle.cat_parse_expr.specs.declared.measured.Fields.{Fields}
+use Rattle.cat_parse_expr.specs.Measures.{with_field, no_fields}
+use Rattle.cat_parse_expr.specs.Parts.{is_lower}
+use Rattle.cat_parse_expr.specs.Cues as cues
+use Rattle.cat_parse_expr.specs.Cues.{lower_of, upper_of}
+use Rattle.cat_parse_expr.proofs.Leaves.{cue_found, cue_self}
+use Rattle.cat_parse_expr.proofs.Shaping.{unlook_read}
+use Rattle.cat_tree.specs.Wording.{upper}
+use Rattle.cat_parse_expr.proofs.Chosen.{same_read}
+use Rattle.cat_parse_expr.proofs.Operands.{whole_same}
+use Rattle.cat_parse_expr.proofs.Positive.{fields_form, fields_match}
+use Rattle.cat_parse_expr.proofs.Tuples.{three}
+use Rattle.cat_parse_expr.proofs.Worded.{upper_read}
+use Rattle.cat_parse_expr.proofs.Valued.{Valued, values_of, field_rows, highest_of, AreValued, valued_of, valued_are}
+use Rattle.cat_parse_expr.proofs.Valued.{values_back, rows_are, fields_from, values_are, highest_is, field_parts}
+use Rattle.cat_parse_expr.proofs.Valued.{fields_are, fields_height, fields_read, fields_shut, some_fields_read}
+use Rattle.cat_parse_expr.proofs.Valued.{some_fields_shut}
+use Rattle.cat_tree.specs.declared.name.CaseName.{CaseName}
+use Rattle.cat_tree.specs.declared.name.CaseName.TheVariants.{Bare, Qualified}
+use Rattle.cat_parse_expr.proofs.Follows.{call_ends, own_not}
+
+-- ---- [content E]
+
+pub data Held : Type 0 where
+  Nothing : Held
+  Content : Measured → Held
+
+abbrev pub content_of : CaseName → Measured → Measured
+content_of c e = ending 8 e.height e.strength e.in_match (node.Content c e.node)
+
+abbrev pub held_of : CaseName → Held → Measured
+held_of c Nothing = leaf (leaves.Case c)
+held_of c (Content e) = content_of c e
+
+abbrev pub held_row : Held → Parts
+held_row Nothing = End
+held_row (Content e) = wording.«word» key.Content ▹ part 8 (phrase e.node) ▹ End
+
+abbrev pub held_fits : (k : ℕ) → Held → Type 0
+held_fits k Nothing = Unit {0}
+held_fits k (Content e) = IsMeasured e × (k ≤ 8)
+
+abbrev IsNothing : Held → Type 0
+IsNothing Nothing = Unit {0}
+IsNothing (Content e) = ⊥
+
+abbrev IsContent : (k : ℕ) → Held → Type 0
+IsContent k Nothing = ⊥
+IsContent k (Content e) = IsMeasured e × (k ≤ 8)
+
+content_own : IsOwn (kind_of (cue.Word key.Content))
+content_own = (refl, refl, refl, λ b ts. by b ts)
+  where
+    by : (b : Behind) (ts : List Token) → is_asked b (kind.Word key.Content) ts ≡ false
+    by Other ts = refl
+    by Field ts = refl
+    by Tested ts = refl
+
+no_comma : (z : Bool) → (z && false) ≡ false
+no_comma true = refl
+no_comma false = refl
+
+module _ (ex : Lower) (room : ℕ) (right : AreRight room ex)
+    (kept : (b : Behind) (j bound : ℕ) → j ≤ 9 → KeepsWhole (IsLow room) bound IsMeasured (operand_row j) (ex b j))
+    (b : Behind) (k : ℕ) (c : CaseName) where
+  content_read : {K : Type 0} → k ≤ 8
+      → IsRead (content_of c) K (Unit {0}) (Unit {0}) (λ e. (content_of c e).height ≤ suc room)
+      (λ e v. Next b k (content_of c e) v) (looks_of b) IsMeasured
+      (λ e. wording.«word» key.Content ▹ part 8 (phrase e.node) ▹ End) (forms.content ex room b c)
+  content_read le =
+      word_read (cue.Word key.Content) _ _
+      (λ p. last_read (λ e. e) (λ e. e) _
+      (end_read ex room right b 8 (omega arith) (λ bound. kept b 8 bound (omega arith))) (λ x ts. refl)
+      (record {
+        fit = λ y f. f;
+        built = λ f x m. m;
+        has = λ x. refl;
+        only = λ f y h. refl;
+        lows = λ f c x m low. omega (arith, low);
+        part = λ f x m low. omega (arith, low);
+        outside = λ f x v m o. ending_next b k (content_of c x) 8 8 x v (call_ends k le) refl refl o;
+      }))
+
+  abbrev low : Held → Type 0
+  low y = (held_of c y).height ≤ suc room
+
+  abbrev out : Held → List Token → Type 0
+  out y v = Next b k (held_of c y) v
+
+  begins : (y : Held) (u v : List Token) → IsContent k y → AreSpelled (held_row y) u
+      → heads (cue_is (cue.Word key.Content)) (u ++ v) ≡ true
+  begins Nothing u v f s = absurd f
+  begins (Content e) u v f s = heads_begin (cue.Word key.Content) u v s
+
+  decides : Decides out (cue_is (cue.Word key.Content)) (held_fits k) (IsContent k) IsNothing held_row
+  decides = record {
+    either = either;
+    from_yes = from_yes;
+    from_no = from_no;
+    on = λ y u v f s o. begins y u v f s;
+    off = off;
+  }
+    where
+      either : (y : Held) → held_fits k y → IsContent k y ⊎ IsNothing y
+      either Nothing f = inr tt
+      either (Content e) f = inl f
+
+      from_yes : (y : Held) → IsContent k y → held_fits k y
+      from_yes Nothing f = tt
+      from_yes (Content e) f = f
+
+      from_no : (y : Held) → IsNothing y → held_fits k y
+      from_no Nothing f = tt
+      from_no (Content e) f = absurd f
+
+      off : (y : Held) (u v : List Token) → IsNothing y → AreSpelled (held_row y) u → out y v
+          → heads (cue_is (cue.Word key.Content)) (u ++ v) ≡ false
+      off Nothing u v f s o =
+          ap (λ (z : List Token). heads (cue_is (cue.Word key.Content)) (z ++ v)) s
+          ∙ own_heads b k (held_of c Nothing) (cue.Word key.Content) v content_own (no_comma (nat_eq k 9))
+          (goes_then b k (held_of c Nothing) v o)
+      off (Content e) u v f s o = absurd f
+
+  spent : (y : Held) (u v : List Token) → IsNothing y → AreSpelled (held_row y) u
+      → heads (cue_is (cue.Word key.Content)) (u ++ v) ≡ true → u ≡ []
+  spent Nothing u v f s h = s
+  spent (Content e) u v f s h = absurd f
+
+  cast : k ≤ 8 → Recast (λ e. (content_of c e).height ≤ suc room) low (λ e v. Next b k (content_of c e) v) out IsMeasured
+      (IsContent k) (λ e. wording.«word» key.Content ▹ part 8 (phrase e.node) ▹ End) held_row Content
+  cast le = record {
+    to = λ e u i. record { fit = (i.fit, le); levels = i.levels; spelled = i.spelled };
+    from = from;
+    lows = λ e fit l. l;
+    back = λ e fit l. l;
+    outside = λ e v fit o. o;
+  }
+    where
+      from : (y : Held) (u : List Token) → Is (IsContent k) held_row y u → (e : Measured) × (y ≡ Content e)
+          × Is IsMeasured (λ e. wording.«word» key.Content ▹ part 8 (phrase e.node) ▹ End) e u
+      from Nothing u i = absurd i.fit
+      from (Content e) u i = (e, refl, record { fit = i.fit.0; levels = i.levels; spelled = i.spelled })
+
+  nothing_is : (y : Held) → IsNothing y → y ≡ Nothing
+  nothing_is Nothing f = refl
+  nothing_is (Content e) f = absurd f
+
+  plain_read : {K : Type 0}
+      → IsRead (held_of c) K (Unit {0}) (Unit {0}) low out (looks_of b) IsNothing held_row (pure (leaf (leaves.Case c)))
+  plain_read =
+      reshape_read IsNothing IsNothing (λ y. End) held_row (pure (leaf (leaves.Case c)))
+      (record { to = λ y f. f; from = λ y f. f; rows = λ y f. sym (ap held_row (nothing_is y f)) })
+      (pure_read Nothing (λ f. tt) (λ f c. omega arith) (λ y f h. nothing_is y h))
+
+  body_read : {K : Type 0} (z : Bool) → nat_le k 8 ≡ z
+      → IsRead (held_of c) K (Unit {0}) (Unit {0}) low out (looks_of b) (held_fits k) held_row
+      (if z then by_word (cue_is (cue.Word key.Content)) (behind_whole (forms.content ex room b c))
+      (pure (leaf (leaves.Case c))) else pure (leaf (leaves.Case c)))
+  body_read true e =
+      choice_read (cue_is (cue.Word key.Content)) (IsContent k) IsNothing decides begins spent Nothing
+      (λ f. record { fit = tt; levels = tt; spelled = refl }) (λ f c. omega arith)
+      (recast_read _ _ _ _ Content (λ c. refl) (λ f. f) (λ f c. c) (λ f. (cast below).to) (λ f c. cast below)
+      (content_read below)) plain_read
+    where
+      below : k ≤ 8
+      below = grind (arith, nat_tests, e)
+  body_read false e =
+      reshape_read IsNothing (held_fits k) held_row held_row (pure (leaf (leaves.Case c)))
+      (record { to = to; from = from; rows = λ y f. refl }) plain_read
+    where
+      above : k ≤ 8 → ⊥
+      above le = grind (arith, nat_tests, e, le)
+
+      to : (y : Held) → IsNothing y → held_fits k y
+      to Nothing f = tt
+      to (Content d) f = absurd f
+
+      from : (y : Held) → held_fits k y → IsNothing y
+      from Nothing f = tt
+      from (Content d) f = absurd (above f.1)
+
+  pub held_read : {K : Type 0}
+      → IsRead (held_of c) K (Unit {0}) (Unit {0}) low out (looks_of b) (held_fits k) held_row
+      (forms.case_content ex room b k c)
+  held_read = body_read (nat_le k 8) refl

@@ -1,0 +1,217 @@
+-- Literals.
+use Rattle.std.proofs.Common.{◌≡◌, ℕ, zero, suc, ◌≤◌, Bool, true, false, not, if◌then◌else◌, int_lt, List, [], ◌∷◌, ◌++◌}
+use Rattle.std.proofs.Common.{ℤ, Option, None, Some, refl, sym, ap, subst, ◌∙◌, arith, inl, inr, ◌⊎◌, nat_eq, ◌&&◌, length}
+use Rattle.cat_pos.specs.declared.pos.Pos.{Pos}
+use Rattle.cat_lex.specs.declared.token.Token.{Token}
+use Rattle.cat_lex.specs.declared.token.TokenKind.{TokenKind}
+use Rattle.cat_lex.specs.declared.token.TokenKind.TheVariants as kind
+use Rattle.cat_lex.specs.declared.words.Keyword.TheVariants as key
+use Rattle.cat_tree.specs.declared.expression.Literal.{Literal}
+use Rattle.cat_tree.specs.declared.expression.Literal.TheVariants as literal
+use Rattle.cat_tree.specs.declared.expression.Unit.{Unit as TimeUnit}
+use Rattle.cat_tree.specs.declared.expression.Unit.TheVariants as unit
+use Rattle.cat_tree.specs.declared.expression.Node.{Node}
+use Rattle.cat_tree.specs.declared.expression.Node.TheVariants as leaves
+use Rattle.cat_tree.specs.Literals.{literal_parts, literal_rank, span_bound, unit_word, truth_word}
+use Rattle.cat_tree.specs.Phrase.{Phrase, Row, Rank, Parts, End, Word, Terminal, At, Anywhere, IsAt, IsLevelled, AreSpelled}
+use Rattle.cat_tree.specs.Phrase.{right_strength, left_strength, ends_in_match, height}
+use Rattle.cat_tree.specs.Wording as wording
+use Rattle.cat_tree.specs.Wording.{◌▹◌}
+use Rattle.cat_tree.specs.Grammar.{phrase}
+use Rattle.cat_tree.proofs.Exported.{phrase_Literal}
+use Rattle.cat_parse_expr.specs.declared.behind.Behind.{Behind}
+use Rattle.cat_parse_expr.specs.declared.behind.Behind.TheVariants.{Other, Field, Pattern as Tested}
+use Rattle.cat_parse_expr.specs.declared.follow.Follow.TheVariants as follow
+use Rattle.cat_parse_expr.specs.declared.measured.Measured.{Measured}
+use Rattle.cat_parse_expr.specs.declared.opening.Opening.TheVariants as opening
+use Rattle.cat_parse_expr.specs.Followers.{looks_of, is_asked, MayFollow}
+use Rattle.cat_parse_expr.specs.Forms as forms
+use Rattle.cat_parse_expr.specs.Forms.{literal_kind, placed, literal_of, unit_kind, is_unit, spanned}
+use Rattle.cat_parse_expr.specs.Measures.{leaf}
+use Rattle.cat_parse_expr.specs.Openings.{follow_of}
+use Rattle.cat_parse_expr.specs.Parts.{is_sign}
+use Rattle.cat_parse_expr.specs.Reader.{Parsed, Fails, Reads, Reader, ◌⨟◌, pure, after, one, made_of, heads, by_word, behind_whole}
+use Rattle.cat_parse_expr.specs.Reader.{fallen}
+use Rattle.cat_parse_expr.specs.Rightly.{IsMeasured, IsLow, operand_row}
+use Rattle.cat_parse_expr.proofs.Choices.{Decides}
+use Rattle.cat_parse_expr.proofs.Chosen.{choice_read, same_read}
+use Rattle.cat_parse_expr.proofs.Firsts.{Shape, class_Literal}
+use Rattle.cat_parse_expr.proofs.Follows.{IsOwn, own_not}
+use Rattle.cat_parse_expr.proofs.Leaves.{some_one, not_both, token_is, anywhere}
+use Rattle.cat_parse_expr.proofs.Operands.{Next, goes_then, OfClass, Form, form_read, measured_by}
+use Rattle.cat_parse_expr.proofs.Read.{IsRead, pure_read, token_read}
+use Rattle.cat_parse_expr.proofs.Shaping.{reshape_read}
+use Rattle.cat_parse_expr.proofs.Token.{Terminals}
+
+abbrev pub Placed : Type 0
+Placed = Literal × Pos
+
+abbrev pub literal_node : Placed → Measured
+literal_node t = leaf (leaves.Literal t.0 t.1)
+
+-- the literal that its first word is
+abbrev pub shortened : Literal → Literal
+shortened (literal.Span n u) = literal.Int n
+shortened l = l
+
+-- that word
+abbrev pub literal_word : Literal → TokenKind
+literal_word (literal.Int n) = kind.Int n
+literal_word (literal.Dec d) = kind.Dec d
+literal_word (literal.Pct d) = kind.Pct d
+literal_word (literal.Money m) = kind.Money m
+literal_word (literal.Date d) = kind.Date d
+literal_word (literal.Boolean b) = kind.Word (truth_word b)
+literal_word (literal.Span n u) = kind.Int n
+
+-- the words behind it
+abbrev pub literal_rest : Literal → Parts
+literal_rest (literal.Span n u) = wording.«word» (unit_word u) ▹ End
+literal_rest l = End
+
+pub literal_row_is : (l : Literal) (p : Pos) → Word (At (literal_word l) p) (literal_rest l) ≡ literal_parts l p
+literal_row_is (literal.Int n) p = refl
+literal_row_is (literal.Dec d) p = refl
+literal_row_is (literal.Pct d) p = refl
+literal_row_is (literal.Money m) p = refl
+literal_row_is (literal.Date d) p = refl
+literal_row_is (literal.Boolean b) p = refl
+literal_row_is (literal.Span n u) p = refl
+
+abbrev pub Bounded : Literal → Type 0
+Bounded (literal.Span n u) = int_lt span_bound n ≡ false
+Bounded l = Unit {0}
+
+-- ---- as an operand
+
+literal_measured : (t : Placed) → IsMeasured (literal_node t)
+literal_measured (l, p) =
+    measured_by (leaves.Literal l p) _ _ _ _ (phrase_Literal l p) (tall l) (strong l) (plain l)
+  where
+    tall : (l : Literal) → 1 ≡ height (Row (literal_rank l) (literal_parts l p))
+    tall (literal.Span n u) = refl
+    tall (literal.Int n) = refl
+    tall (literal.Dec d) = refl
+    tall (literal.Pct d) = refl
+    tall (literal.Money m) = refl
+    tall (literal.Date d) = refl
+    tall (literal.Boolean b) = refl
+
+    strong : (l : Literal) → 9 ≡ left_strength (Row (literal_rank l) (literal_parts l p))
+    strong (literal.Span n u) = refl
+    strong (literal.Int n) = refl
+    strong (literal.Dec d) = refl
+    strong (literal.Pct d) = refl
+    strong (literal.Money m) = refl
+    strong (literal.Date d) = refl
+    strong (literal.Boolean b) = refl
+
+    plain : (l : Literal) → false ≡ ends_in_match (Row (literal_rank l) (literal_parts l p))
+    plain (literal.Span n u) = refl
+    plain (literal.Int n) = refl
+    plain (literal.Dec d) = refl
+    plain (literal.Pct d) = refl
+    plain (literal.Money m) = refl
+    plain (literal.Date d) = refl
+    plain (literal.Boolean b) = refl
+
+pub literal_form : (k : ℕ) → k ≤ 9 → Form k opening.Literal (λ t. Bounded t.0) (λ t. literal_parts t.0 t.1) literal_node
+literal_form k le = record {
+  rank = λ t. literal_rank t.0;
+  is = λ t. phrase_Literal t.0 t.1;
+  measured = λ t m. literal_measured t;
+  level = λ t m. level t.0;
+  bounded = λ t m. bounded t.0 m;
+  class = λ t. class_Literal t.0 t.1;
+  shape = λ t. (t.0, t.1, refl);
+  split =
+      λ n s levels low. (
+        (s.0, s.1),
+        s.2,
+        within s.0 (subst IsLevelled (ap phrase s.2 ∙ phrase_Literal s.0 s.1) levels).0,
+      );
+}
+  where
+    level : (l : Literal) → k ≤ (literal_rank l).level
+    level (literal.Span n u) = le
+    level _ = le
+
+    bounded : (l : Literal) → Bounded l → (literal_rank l).fits ≡ true
+    bounded (literal.Span n u) m = ap not m
+    bounded (literal.Int n) m = refl
+    bounded (literal.Dec d) m = refl
+    bounded (literal.Pct d) m = refl
+    bounded (literal.Money d) m = refl
+    bounded (literal.Date d) m = refl
+    bounded (literal.Boolean b) m = refl
+
+    unnot : (b : Bool) → not b ≡ true → b ≡ false
+    unnot true h = absurd cc
+    unnot false h = refl
+
+    within : (l : Literal) → (literal_rank l).fits ≡ true → Bounded l
+    within (literal.Span n u) h = unnot (int_lt span_bound n) h
+    within (literal.Int n) h = tt
+    within (literal.Dec d) h = tt
+    within (literal.Pct d) h = tt
+    within (literal.Money d) h = tt
+    within (literal.Date d) h = tt
+    within (literal.Boolean b) h = tt
+
+-- ---- the first word
+
+literal_found : (k : TokenKind) (l : Literal) → literal_kind k ≡ Some l → k ≡ literal_word l
+literal_found (kind.Int n) l e = ap literal_word (some_one (literal.Int n) l e)
+literal_found (kind.Dec d) l e = ap literal_word (some_one (literal.Dec d) l e)
+literal_found (kind.Pct d) l e = ap literal_word (some_one (literal.Pct d) l e)
+literal_found (kind.Money m) l e = ap literal_word (some_one (literal.Money m) l e)
+literal_found (kind.Date d) l e = ap literal_word (some_one (literal.Date d) l e)
+literal_found (kind.Word key.True) l e = ap literal_word (some_one (literal.Boolean true) l e)
+literal_found (kind.Word key.False) l e = ap literal_word (some_one (literal.Boolean false) l e)
+literal_found _ l e = absurd cc
+
+literal_self : (l : Literal) → literal_kind (literal_word l) ≡ Some (shortened l)
+literal_self (literal.Int n) = refl
+literal_self (literal.Dec d) = refl
+literal_self (literal.Pct d) = refl
+literal_self (literal.Money m) = refl
+literal_self (literal.Date d) = refl
+literal_self (literal.Boolean true) = refl
+literal_self (literal.Boolean false) = refl
+literal_self (literal.Span n u) = refl
+
+word_shortened : (l : Literal) → literal_word (shortened l) ≡ literal_word l
+word_shortened (literal.Span n u) = refl
+word_shortened (literal.Int n) = refl
+word_shortened (literal.Dec d) = refl
+word_shortened (literal.Pct d) = refl
+word_shortened (literal.Money m) = refl
+word_shortened (literal.Date d) = refl
+word_shortened (literal.Boolean b) = refl
+
+placed_found : (o : Option Literal) (p : Pos) (x : Placed) → placed o p ≡ Some x → (o ≡ Some x.0) × (p ≡ x.1)
+placed_found None p x e = absurd cc
+placed_found (Some l) p x e =
+    let same = some_one (l, p) x e in
+    (ap (λ (t : Placed). Some t.0) same, ap (λ (t : Placed). t.1) same)
+
+abbrev pub head_of : Placed → Placed
+head_of t = (shortened t.0, t.1)
+
+pub literal_marks : (fits : Placed → Type 0)
+    → Terminals fits (λ y. At (literal_word y.0) y.1) literal_of (λ x y. head_of y ≡ x)
+literal_marks fits = record {
+  gives = λ p x y e f i. some_one (head_of y) x (sym (made p y i) ∙ e);
+  is =
+      λ p x y e f i. let w = placed_found (literal_kind p.kind) p.pos x e in
+      token_is p (literal_word y.0) y.1
+      (literal_found p.kind x.0 w.0 ∙ ap (λ (t : Placed). literal_word t.0) (sym i) ∙ word_shortened y.0)
+      (w.1 ∙ ap (λ (t : Placed). t.1) (sym i));
+  none = λ p y e f i. not_both (literal_of p) (head_of y) e (made p y i);
+  token = record { kind = kind.Word key.True; pos = anywhere };
+  made = (literal.Boolean true, anywhere);
+  sample = refl;
+}
+  where
+    made : (p : Token) (y : Placed) → IsAt (At (literal_word y.0) y.1) p → literal_of p ≡ Some (head_of y)
+    made p y i = ap literal_of i ∙ ap (λ (o : Option Literal). placed o y.1) (literal_self y.0)

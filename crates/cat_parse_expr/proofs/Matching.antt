@@ -1,0 +1,335 @@
+-- Matches.
+use Rattle.std.proofs.Common.{◌≡◌, ℕ, zero, suc, ◌≤◌, max, Bool, true, false, List, [], ◌∷◌, ◌++◌, Option, None, Some, refl, sym, ap}
+use Rattle.std.proofs.Common.{subst, ◌∙◌, arith, inl, inr, ◌⊎◌}
+use Rattle.cat_pos.specs.declared.pos.Pos.{Pos}
+use Rattle.cat_lex.specs.declared.token.Token.{Token}
+use Rattle.cat_lex.specs.declared.token.TokenKind.{TokenKind}
+use Rattle.cat_lex.specs.declared.token.TokenKind.TheVariants as kind
+use Rattle.cat_lex.specs.declared.words.Keyword.{Keyword}
+use Rattle.cat_lex.specs.declared.words.Keyword.TheVariants as key
+use Rattle.cat_lex.specs.declared.words.DoubleKeyword.TheVariants as pair
+use Rattle.cat_lex.specs.declared.symbol.Symbol.TheVariants as symbol
+use Rattle.cat_tree.specs.Accumulation.{accumulation}
+use Rattle.cat_tree.specs.declared.name.Name.{Name}
+use Rattle.cat_tree.specs.declared.name.Type as types
+use Rattle.cat_tree.specs.declared.expression.Each.{Each}
+use Rattle.cat_tree.specs.declared.expression.Each.TheVariants as each
+use Rattle.cat_tree.specs.declared.expression.Node.{Node}
+use Rattle.cat_tree.specs.declared.expression.Node.TheViews as node
+use Rattle.cat_tree.specs.Literals.{type_parts}
+use Rattle.cat_tree.specs.Phrase.{Phrase, Row, Rank, Parts, End, Word, Part, At, Anywhere, Operand, height}
+use Rattle.cat_tree.specs.Rows.{each_parts}
+use Rattle.cat_tree.specs.Wording as wording
+use Rattle.cat_tree.specs.Wording.{◌▹◌, symbol_at, key_at, pair_at, first, then_, lower, sign, part, of_level, words}
+use Rattle.cat_tree.specs.Grammar.{phrase}
+use Rattle.cat_tree.proofs.Exported.{phrase_Match, arm_row}
+use Rattle.cat_parse_expr.specs.declared.behind.Behind.{Behind}
+use Rattle.cat_parse_expr.specs.declared.behind.Behind.TheVariants.{Other, Field, Pattern as Tested}
+use Rattle.cat_parse_expr.specs.declared.cue.Cue.{Cue}
+use Rattle.cat_parse_expr.specs.declared.cue.Cue.TheVariants as cue
+use Rattle.cat_parse_expr.specs.declared.measured.Measured.{Measured}
+use Rattle.cat_parse_expr.specs.declared.opening.Opening.TheVariants as opening
+use Rattle.cat_parse_expr.specs.Cues.{kind_of}
+use Rattle.cat_parse_expr.specs.Measures.{closed, ending, form}
+use Rattle.cat_parse_expr.specs.Reader.{Reader, hidden, ◌⨟◌, pure, Reads}
+use Rattle.cat_parse_expr.specs.Parts.{Lower}
+use Rattle.cat_parse_expr.specs.Forms as forms
+use Rattle.cat_parse_expr.specs.Followers.{MayFollow, looks_of, is_taken}
+use Rattle.cat_parse_expr.specs.Longest.{KeepsWhole}
+use Rattle.cat_parse_expr.specs.Rightly.{measured_of, IsMeasured, IsLow, operand_row, AreRight}
+use Rattle.cat_parse_expr.proofs.Firsts.{Shape, class_Match}
+use Rattle.cat_parse_expr.proofs.Follows.{word_follows, tall_enough}
+use Rattle.cat_parse_expr.proofs.Positive.{positive}
+use Rattle.cat_parse_expr.proofs.Operands.{Next, form_next, OfClass, Form, form_read, measured_by, height_is, match_is}
+use Rattle.cat_parse_expr.proofs.Operands.{strength_by, inner_read, end_read}
+use Rattle.cat_parse_expr.proofs.Read.{IsRead, pure_read}
+use Rattle.cat_parse_expr.proofs.Worded.{word_read, word_at_read, lower_read, opened_at_read}
+use Rattle.cat_parse_expr.proofs.Sequels.{part_read, last_read, hidden_shut, past_none, IsShut, shut_after, one_shut, shut_turns, no_longer}
+use Rattle.cat_parse_expr.proofs.Tuples.{both, two}
+use Rattle.std.proofs.Common.{map, length, if◌then◌else◌}
+use Rattle.cat_tree.specs.Joined.{◌▸◌, all}
+use Rattle.cat_tree.specs.Rows.{elements}
+use Rattle.std.proofs.Common.{append_assoc}
+use Rattle.cat_tree.specs.Phrase.{AreLevelled, AreSpelled, tallest}
+use Rattle.cat_parse_expr.proofs.Loops as loops
+use Rattle.cat_parse_expr.specs.declared.measured.Elements.{Elements}
+use Rattle.cat_parse_expr.specs.Measures.{with_element, no_elements}
+use Rattle.cat_parse_expr.specs.Parts as parts
+use Rattle.cat_parse_expr.specs.Parts.{has_element, next_element, as_many, is_sign, inner, sign as a_sign}
+use Rattle.cat_parse_expr.specs.Reader.{Parsed, Fails, after, left_of, heads, hidden_in, by_word}
+use Rattle.cat_parse_expr.specs.Cues.{cue_is, word_of, «word»}
+use Rattle.cat_parse_expr.specs.Right.{Is}
+use Rattle.cat_parse_expr.proofs.Chaining as chaining
+use Rattle.cat_parse_expr.proofs.Choices.{Decides, Recast}
+use Rattle.cat_parse_expr.proofs.Chosen.{inner_choice_read}
+use Rattle.cat_parse_expr.proofs.Lists as lists
+use Rattle.cat_parse_expr.proofs.Looping as looping
+use Rattle.cat_parse_expr.proofs.Nodes.{nodes_of, phrases_of, tallest_of, AreMeasured, measures_of, measures_are, nodes_back}
+use Rattle.cat_parse_expr.proofs.Nodes.{elements_from, nodes_are, tallest_is, row_behind, chain_elements, elements_behind}
+use Rattle.cat_parse_expr.proofs.Nodes.{elements_height, elements_last, behind_end}
+use Rattle.cat_parse_expr.proofs.Shaping.{narrow_read, recast_read, reshape_read}
+use Rattle.cat_parse_expr.proofs.Turnings.{heads_begin, heads_other, heads_follow, heads_seen, shrinks_after, shrinks_one, takes_one}
+use Rattle.cat_parse_expr.proofs.Turnings as turnings
+use Rattle.std.proofs.Common.{append-nil, ◌<◌, not, nat_eq, nat_le, nat_lt, ◌&&◌, ◌||◌, cond}
+use Rattle.std.proofs.lemmas.Bool.Decides.{nat_tests}
+use Rattle.cat_tree.specs.Phrase.{right_strength, left_strength, ends_in_form, ends_in_match, last_in_form, last_in_match}
+use Rattle.cat_tree.specs.Phrase.{IsLevelled}
+use Rattle.cat_tree.specs.Wording.{if_some}
+use Rattle.cat_tree.specs.declared.expression.Node.TheVariants as leaves
+use Rattle.cat_parse_expr.specs.declared.follow.Follow.TheVariants as follow
+use Rattle.cat_parse_expr.specs.Followers.{is_asked, is_below, is_with_pattern, may_stand}
+use Rattle.cat_parse_expr.specs.Measures.{leaf}
+use Rattle.cat_parse_expr.specs.Openings.{follow_of}
+use Rattle.cat_parse_expr.specs.Parts.{has_field, next_field, field_value}
+use Rattle.cat_parse_expr.specs.Reader.{behind_whole}
+use Rattle.cat_parse_expr.proofs.Bracketed.{part_shrinks, hidden_left}
+use Rattle.cat_parse_expr.proofs.Chosen.{choice_read}
+use Rattle.cat_parse_expr.proofs.Follows.{argument_ends, IsOwn}
+use Rattle.cat_parse_expr.proofs.Operands.{ending_next, goes_then}
+use Rattle.cat_parse_expr.proofs.Positive.{ends_in_word, nine_strength}
+use Rattle.cat_parse_expr.proofs.Shaping.{made_read, look_read}
+use Rattle.cat_parse_expr.proofs.Turnings.{own_heads}
+use Rattle.cat_tree.specs.declared.expression.Arm.{Arm}
+use Rattle.cat_tree.specs.Rows.{arms, pattern_parts}
+use Rattle.cat_parse_expr.specs.declared.measured.MatchArms.{MatchArms}
+use Rattle.cat_parse_expr.specs.Measures.{with_arm, no_arms}
+use Rattle.cat_parse_expr.specs.Parts.{is_lower}
+use Rattle.cat_parse_expr.specs.Cues as cues
+use Rattle.cat_parse_expr.specs.Cues.{lower_of}
+use Rattle.cat_parse_expr.proofs.Leaves.{cue_found, cue_self}
+use Rattle.cat_parse_expr.proofs.Shaping.{unlook_read}
+use Rattle.cat_tree.specs.declared.expression.Pattern.{Pattern}
+use Rattle.cat_tree.specs.declared.expression.Pattern.TheVariants as pattern
+use Rattle.cat_tree.specs.declared.name.CaseName.TheVariants.{Bare, Qualified}
+use Rattle.cat_parse_expr.specs.Right.{Agree, AgreePast}
+use Rattle.cat_tree.specs.Phrase.{Inner, Stand, Stands, Terminal, IsSpelling}
+use Rattle.cat_tree.specs.Wording.{match_of}
+use Rattle.cat_parse_expr.specs.Parts.{a_pattern, arm_head, next_arm, further_arm, has_arm, has_arm_behind, ends_arms, matched_value}
+use Rattle.cat_parse_expr.specs.Reader.{heads_second, fallen}
+use Rattle.cat_parse_expr.proofs.Chosen.{same_read, fallen_mapped}
+use Rattle.cat_parse_expr.proofs.Patterns.{pattern_row, pattern_behind, pattern_read, pattern_shut}
+use Rattle.cat_parse_expr.specs.Climbing.{goes_so}
+use Rattle.cat_parse_expr.proofs.Arming.{Armed, arms_of, arm_rows, highest_of, armed_of, arms_back, rows_are, arms_from}
+use Rattle.cat_parse_expr.proofs.Arming.{arms_are, highest_is, AreArmed, armed_first, arms_row_of, levelled_armed, arms_read}
+use Rattle.cat_parse_expr.proofs.Follows.{no_going, not_taken}
+use Rattle.cat_parse_expr.proofs.Turnings.{past_word, read_shrinks}
+use Rattle.cat_parse_expr.proofs.Tuples.{three}
+use Rattle.cat_tree.specs.declared.expression.Pattern.TheVariants as pattern
+use Rattle.cat_tree.specs.declared.name.CaseName.TheVariants.{Bare, Qualified}
+
+-- ---- how high arms are
+
+pattern_height : (a : Pattern) (ps : Parts) → tallest (pattern_parts a ps) ≡ tallest ps
+pattern_height pattern.Anything ps = refl
+pattern_height (pattern.Case (Bare u) None) ps = refl
+pattern_height (pattern.Case (Qualified d u) None) ps = refl
+pattern_height (pattern.Case (Bare u) (Some w)) ps = refl
+pattern_height (pattern.Case (Qualified d u) (Some w)) ps = refl
+
+arms_height : (x : Armed) (xs : List Armed) → AreArmed x xs → tallest (arms_row_of x xs) ≡ highest_of (x ∷ xs)
+arms_height x [] m =
+    omega (
+      arith,
+      pattern_height x.0 (sign symbol.Colon ▹ part 0 (phrase x.1.node) ▹ End),
+      height_is x.1 m,
+    )
+arms_height x (y ∷ ys) m =
+    omega (
+      arith,
+      pattern_height x.0 (sign symbol.Colon ▹ Part Inner (phrase x.1.node) (arms_row_of y ys)),
+      height_is x.1 m.0,
+      arms_height y ys m.2,
+    )
+
+arms_first : (x : Armed) (xs : List Armed) (w v : List Token) → AreSpelled (arms_row_of x xs) w
+    → heads (is_sign symbol.MinusMinus) (w ++ v) ≡ true
+arms_first x [] w v s = heads_begin (cue.Sign symbol.MinusMinus) w v s
+arms_first x (y ∷ ys) w v s = heads_begin (cue.Sign symbol.MinusMinus) w v s
+
+-- ---- what follows a match
+
+second_is_true : (a b c d e : Bool) → b ≡ true → (not a || (b || (c || (d || e)))) ≡ true
+second_is_true false b c d e h = refl
+second_is_true true true c d e h = refl
+second_is_true true false c d e h = absurd cc
+
+-- the words before its arms may follow what is matched
+pub matched_follows : (y : Measured) (w v : List Token) (x : Armed) (xs : List Armed)
+    → AreSpelled (words pair.WithPattern ▹ arms_row_of x xs) w → MayFollow Tested 0 y (w ++ v)
+matched_follows y w v x xs s =
+    subst (λ (z : List Token). MayFollow Tested 0 y (z ++ v)) (sym s.2)
+    (second_is_true (is_taken s.0.kind) (is_asked Tested s.0.kind (s.1 ++ v))
+    (nat_eq 0 9 && is_sign symbol.Comma s.0.kind) (not y.in_match && is_sign symbol.MinusMinus s.0.kind)
+    (not (nat_eq y.strength 0) && is_below 0 (follow_of s.0.kind))
+    (ap (λ (z : TokenKind). is_with_pattern z && heads (is_sign symbol.MinusMinus) (s.1 ++ v)) s.3
+    ∙ arms_first x xs s.1 v s.4))
+
+either_of : (a b c d e : Bool) → c ≡ false → d ≡ false → e ≡ false → (not a || (b || (c || (d || e)))) ≡ true
+    → (a ≡ false) ⊎ (b ≡ true)
+either_of false b c d e p q r h = inl refl
+either_of true true c d e p q r h = inr refl
+either_of true false true d e p q r h = absurd cc
+either_of true false false true e p q r h = absurd cc
+either_of true false false false true p q r h = absurd cc
+either_of true false false false false p q r h = absurd cc
+
+first_false : (a b : Bool) → a ≡ false → (a && b) ≡ false
+first_false true b h = absurd cc
+first_false false b h = refl
+
+second_false : (a b : Bool) → b ≡ false → (a && b) ≡ false
+second_false true b h = h
+second_false false b h = refl
+
+both_are : (a b : Bool) → (a && b) ≡ true → (a ≡ true) × (b ≡ true)
+both_are true b h = (refl, h)
+both_are false b h = absurd cc
+
+minus_taken : (p : TokenKind) → is_taken p ≡ false → is_sign symbol.MinusMinus p ≡ false
+minus_taken p h = by (is_sign symbol.MinusMinus p) refl
+  where
+    clash : (c : Bool) → c ≡ true → c ≡ false → ⊥
+    clash c x y = absurd cc
+
+    by : (c : Bool) → is_sign symbol.MinusMinus p ≡ c → is_sign symbol.MinusMinus p ≡ false
+    by true e = absurd (clash (is_taken p) (ap is_taken (cue_found (cue.Sign symbol.MinusMinus) p e)) h)
+    by false e = e
+
+pattern_no_sign : (p : TokenKind) → is_with_pattern p ≡ true → is_sign symbol.MinusMinus p ≡ false
+pattern_no_sign (kind.Pair pair.WithPattern) h = refl
+pattern_no_sign _ h = absurd cc
+
+pattern_cue : (p : TokenKind) → is_with_pattern p ≡ true → cue_is (cue.Pair pair.WithPattern) p ≡ true
+pattern_cue (kind.Pair pair.WithPattern) h = cue_self (cue.Pair pair.WithPattern)
+pattern_cue _ h = absurd cc
+
+abbrev NoArm : Behind → List Token → Type 0
+NoArm b v = (heads (is_sign symbol.MinusMinus) v && not (ends_arms b v)) ≡ false
+
+no_arm : (b : Behind) (p : Token) (ts : List Token) → is_asked b p.kind ts ≡ true → NoArm b (p ∷ ts)
+no_arm Other p ts h = absurd cc
+no_arm Tested p ts h =
+    first_false (is_sign symbol.MinusMinus p.kind) _ (pattern_no_sign p.kind (both_are _ _ h).0)
+no_arm Field p ts h = second_false (is_sign symbol.MinusMinus p.kind) _ (ap not (both_are _ _ h).1)
+
+-- behind a match stands no arm of it
+pub match_next : (b : Behind) (k : ℕ) (y : Measured) (v : List Token) → k ≤ 8 → y.strength ≡ 0 → y.in_match ≡ true
+    → Next b k y v → ((x : Measured) → MayFollow b 0 x v) × NoArm b v
+match_next b k y [] le s i o = (λ x. tt, refl)
+match_next b k y (p ∷ ts) le s i o = elim (goes_then b k y (p ∷ ts) o) [
+  | inr h ↦ absurd (no_going b k (follow_of p.kind) (p ∷ ts)
+      (ap (λ (z : ℕ). goes_so b k z (follow_of p.kind) (p ∷ ts)) (sym s) ∙ h))
+  | inl h ↦ by (either_of (is_taken p.kind) (is_asked b p.kind ts) (nat_eq k 9 && is_sign symbol.Comma p.kind)
+      (not y.in_match && is_sign symbol.MinusMinus p.kind)
+      (not (nat_eq y.strength 0) && is_below k (follow_of p.kind))
+      (first_false (nat_eq k 9) (is_sign symbol.Comma p.kind) not_nine)
+      (first_false (not y.in_match) (is_sign symbol.MinusMinus p.kind) (ap not i))
+      (first_false (not (nat_eq y.strength 0)) (is_below k (follow_of p.kind))
+      (ap (λ (z : ℕ). not (nat_eq z 0)) s)) h)
+]
+  where
+    not_nine : nat_eq k 9 ≡ false
+    not_nine = grind (arith, nat_tests, le)
+
+    by : (is_taken p.kind ≡ false) ⊎ (is_asked b p.kind ts ≡ true)
+        → ((x : Measured) → MayFollow b 0 x (p ∷ ts)) × NoArm b (p ∷ ts)
+    by (inl h) = (
+      λ x. not_taken b 0 x.strength x.in_match p.kind ts h,
+      first_false (is_sign symbol.MinusMinus p.kind) _ (minus_taken p.kind h),
+    )
+    by (inr h) = (
+      λ x. second_is_true (is_taken p.kind) (is_asked b p.kind ts) (nat_eq 0 9 && is_sign symbol.Comma p.kind)
+          (not x.in_match && is_sign symbol.MinusMinus p.kind)
+          (not (nat_eq x.strength 0) && is_below 0 (follow_of p.kind)) h,
+      no_arm b p ts h,
+    )
+
+module _ (ex : Lower) (room : ℕ) (right : AreRight room ex)
+    (kept : (b : Behind) (j bound : ℕ) → j ≤ 9 → KeepsWhole (IsLow room) bound IsMeasured (operand_row j) (ex b j))
+    (b : Behind) (k : ℕ) where
+  abbrev Matched : Type 0
+  Matched = Pos × Measured × (Armed × List Armed)
+
+  abbrev made : Armed × List Armed → MatchArms
+  made c = arms_from no_arms (c.0 ∷ c.1)
+
+  abbrev matched_of : Matched → Measured
+  matched_of t = form (max t.1.height (made t.2).tallest) true (node.Match t.0 t.1.node (made t.2).arms)
+
+  abbrev matched_row : Matched → Parts
+  matched_row t =
+      key_at key.Match t.0 ▹ part 0 (phrase t.1.node) ▹ words pair.WithPattern ▹ arms_row_of t.2.0 t.2.1
+
+  abbrev matched_fits : Matched → Type 0
+  matched_fits t = IsMeasured t.1 × AreArmed t.2.0 t.2.1
+
+  matched_is : (t : Matched) → phrase (matched_of t).node ≡ Row (match_of (arm_rows (t.2.0 ∷ t.2.1))) (matched_row t)
+  matched_is t =
+      phrase_Match t.0 t.1.node (made t.2).arms
+      ∙ ap (λ (xs : List Arm). Row (match_of (map arm_row xs)) (key_at key.Match t.0 ▹ part 0 (phrase t.1.node)
+      ▹ words pair.WithPattern ▹ arms (map arm_row xs))) (arms_are (with_arm no_arms t.2.0.0 t.2.0.1) t.2.1)
+      ∙ ap (λ (rs : List (Pattern × Phrase)). Row (match_of ((t.2.0.0, phrase t.2.0.1.node) ∷ rs))
+      (key_at key.Match t.0 ▹ part 0 (phrase t.1.node) ▹ words pair.WithPattern
+      ▹ arms ((t.2.0.0, phrase t.2.0.1.node) ∷ rs))) (rows_are t.2.1)
+
+  matched_form : k ≤ 8 → Form k opening.Match matched_fits matched_row matched_of
+  matched_form le = record {
+    rank = λ t. match_of (arm_rows (t.2.0 ∷ t.2.1));
+    is = matched_is;
+    measured =
+        λ t m. measured_by (matched_of t).node _ _ _ _ (matched_is t)
+        (omega (
+          arith,
+          height_is t.1 m.0,
+          highest_is (with_arm no_arms t.2.0.0 t.2.0.1) t.2.1,
+          arms_height t.2.0 t.2.1 m.1,
+        )) refl refl;
+    level = λ t m. le;
+    bounded = λ t m. refl;
+    class = λ t. class_Match t.0 t.1.node (made t.2).arms;
+    shape = λ t. (t.0, t.1.node, (made t.2).arms, refl);
+    split = λ n s levels low. split n s.0 s.1 s.2 s.3 levels;
+  }
+    where
+      split : (n : Node) (p : Pos) (e : Node) (more : List Arm) → n ≡ node.Match p e more → IsLevelled (phrase n)
+          → (t : Matched) × (n ≡ (matched_of t).node) × matched_fits t
+      split n p e [] is l = absurd (clash (subst IsLevelled (ap phrase is ∙ phrase_Match p e []) l).0)
+        where
+          clash : false ≡ true → ⊥
+          clash h = absurd cc
+      split n p e (a ∷ more) is l = (
+        (p, measured_of e, ((a.pattern, measured_of a.body), armed_of more)),
+        is ∙ ap (λ (xs : List Arm). node.Match p e xs)
+            (sym (arms_are (with_arm no_arms a.pattern (measured_of a.body)) (armed_of more)
+            ∙ ap (λ (xs : List Arm). a ∷ xs) (arms_back more))),
+        (refl, levelled_armed a more (subst IsLevelled (ap phrase is ∙ phrase_Match p e (a ∷ more)) l).1.2),
+      )
+
+  pub matched_read : {K : Type 0} → k ≤ 8
+      → IsRead (λ y. y) K (Unit {0}) (Unit {0}) (IsLow (suc room)) (Next b k) (looks_of b) (OfClass k opening.Match)
+      (operand_row k) (forms.matched ex room b)
+  matched_read le =
+      form_read k (suc room) (Next b k) opening.Match matched_fits matched_row matched_of (forms.matched ex room b)
+      (matched_form le)
+      (opened_at_read room (cue.Word key.Match) (λ t. t.0) _ _
+      (λ none f c y m low. omega (arith, none, low, tall_enough y.1 m.0))
+      (λ p. part_read (λ t. t.1) _ _ (inner_read ex room right Tested) (λ ts. hidden_shut (ex Tested 0 ts))
+      (λ x ts. past_word (cue.Pair pair.WithPattern) (looks_of Tested) (looks_of b) _ pattern_cue
+      (λ q us. shrinks_after (parts.arms ex b us) _ (length us)
+      (read_shrinks (arms_read ex room right kept b {K = Unit {0}}) tt tt us) (λ l vs. omega arith)) ts)
+      (record {
+        fit = λ y f. f.0.0;
+        behind = λ y w v f s. matched_follows y.1 w v y.2.0 y.2.1 s;
+        part = λ y f low. omega (arith, low);
+      })
+      (λ e. word_read (cue.Pair pair.WithPattern) _ _
+      (λ q. last_read (λ t. t.2) (λ c. (p, e, c)) _ (arms_read ex room right kept b) (λ x ts. refl)
+      (record {
+        fit = λ y f. f.0.0.1;
+        built = λ f x m. (((f.1, m), refl), refl);
+        has = λ x. refl;
+        only = λ f y h. three y p e h.0.1 h.1;
+        lows = λ f c x m low. omega (arith, c.1, low);
+        part = λ f x m low. omega (arith, low);
+        outside = λ f x v m o. match_next b k (matched_of (p, e, x)) v le refl refl o;
+      })))))

@@ -1,0 +1,110 @@
+-- Each expression begins with a word that begins some form, which stands at its level.
+use Rattle.std.proofs.Common.{◌≡◌, ℕ, zero, suc, ◌≤◌, Bool, true, false, nat_le, List, [], ◌∷◌, ◌++◌, map, Option, Some, None}
+use Rattle.std.proofs.Common.{refl, sym, ap, subst, ◌∙◌, arith, inl, inr, ◌⊎◌}
+use Rattle.std.proofs.lemmas.Bool.Decides.{nat_tests}
+use Rattle.cat_pos.specs.declared.pos.Pos.{Pos}
+use Rattle.cat_lex.specs.declared.token.Token.{Token}
+use Rattle.cat_lex.specs.declared.token.TokenKind.{TokenKind}
+use Rattle.cat_lex.specs.declared.token.TokenKind.TheVariants as kind
+use Rattle.cat_lex.specs.declared.symbol.Symbol.TheVariants as symbol
+use Rattle.cat_tree.specs.Accumulation.{accumulation}
+use Rattle.cat_tree.specs.declared.name.Name.{Name}
+use Rattle.cat_tree.specs.declared.name.CaseName.{CaseName}
+use Rattle.cat_tree.specs.declared.name.CaseName.TheVariants.{Bare, Qualified}
+use Rattle.cat_tree.specs.declared.name.Type as types
+use Rattle.cat_tree.specs.declared.expression.Literal.{Literal}
+use Rattle.cat_tree.specs.declared.expression.Literal.TheVariants as literal
+use Rattle.cat_tree.specs.declared.expression.Prefix.{Prefix}
+use Rattle.cat_tree.specs.declared.expression.Prefix.TheVariants as prefix
+use Rattle.cat_tree.specs.declared.expression.Operator.{Operator}
+use Rattle.cat_tree.specs.declared.expression.Each.{Each}
+use Rattle.cat_tree.specs.declared.expression.Each.TheVariants as each
+use Rattle.cat_tree.specs.declared.expression.Arm.{Arm}
+use Rattle.cat_tree.specs.declared.expression.FieldValue.{FieldValue}
+use Rattle.cat_tree.specs.declared.expression.Node.{Node}
+use Rattle.cat_tree.specs.declared.expression.Node.TheVariants as leaves
+use Rattle.cat_tree.specs.declared.expression.Node.TheViews as node
+use Rattle.cat_tree.specs.Literals.{literal_parts}
+use Rattle.cat_tree.specs.Operators.{prefix_level, prefix_parts}
+use Rattle.cat_tree.specs.Rows.{each_parts}
+use Rattle.cat_tree.specs.Phrase.{Phrase, Row, Parts, End, Word, Part, Operand, Terminal, At, Anywhere, IsAt, IsSpelling, AreSpelled}
+use Rattle.cat_tree.specs.Grammar.{phrase}
+use Rattle.cat_tree.proofs.Exported.{phrase_Binary, phrase_Call, phrase_Case, phrase_Combine}
+use Rattle.cat_tree.proofs.Exported.{phrase_Content, phrase_Each, phrase_Field, phrase_If, phrase_List}
+use Rattle.cat_tree.proofs.Exported.{phrase_Literal, phrase_Match, phrase_Name, phrase_Parens, phrase_Prefixed}
+use Rattle.cat_tree.proofs.Exported.{phrase_ScopeCall, phrase_Structure, phrase_Sum, phrase_Test}
+use Rattle.cat_parse_expr.specs.declared.opening.Opening.{Opening}
+use Rattle.cat_parse_expr.specs.declared.opening.Opening.TheVariants as opening
+use Rattle.cat_parse_expr.specs.Openings.{opening_of, opening_at}
+use Rattle.cat_parse_expr.proofs.Follows.{kind_at, kind_is}
+use Rattle.cat_tree.specs.Phrase.{right_strength, left_strength, ends_in_form, IsLevelled}
+use Rattle.cat_tree.specs.Operators.{operator_level, left_level}
+use Rattle.cat_tree.specs.Wording.{if_some, match_of}
+use Rattle.cat_tree.specs.Literals.{literal_rank}
+use Rattle.cat_tree.proofs.Exported.{field_row, arm_row}
+use Rattle.cat_parse_expr.specs.declared.cue.Cue.{Cue}
+use Rattle.cat_parse_expr.specs.Cues.{kind_of, cue_is}
+use Rattle.cat_parse_expr.specs.Openings.{stands}
+use Rattle.cat_parse_expr.specs.Reader.{heads}
+use Rattle.cat_parse_expr.proofs.Firsts.{first_of, opening_with, class_of, class_by, opens, Shape, IsPrimary, primary_by, is_bare}
+use Rattle.cat_parse_expr.proofs.Firsts.{class_Literal, class_Name, class_Call, class_Case, class_Content, class_Structure}
+use Rattle.cat_parse_expr.proofs.Firsts.{class_Selected, class_Parens, class_List, class_ScopeCall, class_Prefixed, class_Sum}
+use Rattle.cat_parse_expr.proofs.Firsts.{class_If, class_Match, class_Each, class_Combine}
+use Rattle.cat_parse_expr.proofs.Follows.{one_level}
+use Rattle.cat_parse_expr.proofs.Induction as forms
+use Rattle.cat_parse_expr.proofs.Leaves.{cue_found}
+
+-- ---- some form
+
+class_differs : (n : Node) (c : Opening) → class_of n ≡ c → (c ≡ opening.Nothing → ⊥) → class_of n ≡ opening.Nothing → ⊥
+class_differs n c e not h = not (sym e ∙ h)
+
+pub class_Binary : (o : Operator) (p : Pos) (a b : Node) → class_of (node.Binary o p a b) ≡ class_of a
+class_Binary o p a b = class_by (node.Binary o p a b) _ (class_of a) (phrase_Binary o p a b) refl
+
+pub class_Test : (e : Node) (p : Pos) (c : CaseName) → class_of (node.Test e p c) ≡ class_of e
+class_Test e p c = class_by (node.Test e p c) _ (class_of e) (phrase_Test e p c) refl
+
+pub class_Field : (e : Node) (w : Name) → class_of (node.Field e w) ≡ class_of e
+class_Field e w = class_by (node.Field e w) _ (class_of e) (phrase_Field e w) refl
+
+-- each expression begins some form
+pub some_class : (n : Node) → class_of n ≡ opening.Nothing → ⊥
+some_class =
+    forms.induction (λ n. class_of n ≡ opening.Nothing → ⊥)
+    (λ l p. class_differs (leaves.Literal l p) _ (class_Literal l p) (λ h. absurd cc))
+    (λ w. class_differs (leaves.Name w) _ (class_Name w) (λ h. absurd cc))
+    (λ c. class_differs (leaves.Case c) _ (class_Case c) (λ h. absurd cc))
+    (λ p e h. class_differs (node.Parens p e) _ (class_Parens p e) (λ h. absurd cc))
+    (λ e w h. class_differs (node.Field e w) _ (class_Field e w) h)
+    (λ o p e h. class_differs (node.Prefixed o p e) _ (class_Prefixed o p e) (λ h. absurd cc))
+    (λ p t e h. class_differs (node.Sum p t e) _ (class_Sum p t e) (λ h. absurd cc))
+    (λ c e h. class_differs (node.Content c e) _ (class_Content c e) (λ h. absurd cc))
+    (λ f args h. class_differs (node.Call f args) _ (class_Call f args) (λ h. absurd cc))
+    (λ o p a b x y. class_differs (node.Binary o p a b) _ (class_Binary o p a b) x)
+    (λ e p c h. class_differs (node.Test e p c) _ (class_Test e p c) h)
+    (λ p es h. class_differs (node.List p es) _ (class_List p es) (λ h. absurd cc))
+    (λ u fs h. class_differs (node.Structure u fs) _ (class_Structure u fs) (λ h. absurd cc))
+    (λ p u fs w h. class_differs (node.ScopeCall p u fs w) _ (class_ScopeCall p u fs w) (λ h. absurd cc))
+    (λ p c t e x y z. class_differs (node.If p c t e) _ (class_If p c t e) (λ h. absurd cc))
+    (λ p e more x h. class_differs (node.Match p e more) _ (class_Match p e more) (λ h. absurd cc))
+    (λ k p w l e x y. class_differs (node.Each k p w l e) _ (class_Each k p w l e) (λ h. absurd cc))
+    (λ p w l acc s e x y z. class_differs (node.Combine (accumulation p w acc) l s e) _ (class_Combine p w l acc s e)
+    (λ h. absurd cc))
+
+-- the next word is that of its form
+pub opens_with : (n : Node) (w v : List Token) → IsSpelling (phrase n) w → opening_at (w ++ v) ≡ class_of n
+opens_with n w v s = opens (phrase n) w v s (some_class n)
+
+-- a word that begins nothing begins no expression
+pub begins_not : (c : Cue) (n : Node) (w v : List Token) → opening_of (kind_of c) ≡ opening.Nothing
+    → IsSpelling (phrase n) w → heads (cue_is c) (w ++ v) ≡ false
+begins_not c n w v none s = by (heads (cue_is c) (w ++ v)) refl
+  where
+    at : (ts : List Token) → heads (cue_is c) ts ≡ true → opening_at ts ≡ opening.Nothing
+    at [] h = refl
+    at (p ∷ ts) h = ap opening_of (cue_found c p.kind h) ∙ none
+
+    by : (b : Bool) → heads (cue_is c) (w ++ v) ≡ b → heads (cue_is c) (w ++ v) ≡ false
+    by true e = absurd (some_class n (sym (opens_with n w v s) ∙ at (w ++ v) e))
+    by false e = e

@@ -1,0 +1,157 @@
+-- Forms over a list.
+use Rattle.std.proofs.Common.{◌≡◌, ℕ, zero, suc, ◌≤◌, max, Bool, true, false, List, [], ◌∷◌, ◌++◌, Option, None, Some, refl, sym, ap}
+use Rattle.std.proofs.Common.{subst, ◌∙◌, arith, inl, inr, ◌⊎◌}
+use Rattle.cat_pos.specs.declared.pos.Pos.{Pos}
+use Rattle.cat_lex.specs.declared.token.Token.{Token}
+use Rattle.cat_lex.specs.declared.token.TokenKind.{TokenKind}
+use Rattle.cat_lex.specs.declared.token.TokenKind.TheVariants as kind
+use Rattle.cat_lex.specs.declared.words.Keyword.{Keyword}
+use Rattle.cat_lex.specs.declared.words.Keyword.TheVariants as key
+use Rattle.cat_lex.specs.declared.words.DoubleKeyword.TheVariants as pair
+use Rattle.cat_lex.specs.declared.symbol.Symbol.TheVariants as symbol
+use Rattle.cat_tree.specs.Accumulation.{accumulation}
+use Rattle.cat_tree.specs.declared.name.Name.{Name}
+use Rattle.cat_tree.specs.declared.name.Type as types
+use Rattle.cat_tree.specs.declared.expression.Each.{Each}
+use Rattle.cat_tree.specs.declared.expression.Each.TheVariants as each
+use Rattle.cat_tree.specs.declared.expression.Node.{Node}
+use Rattle.cat_tree.specs.declared.expression.Node.TheViews as node
+use Rattle.cat_tree.specs.Literals.{type_parts}
+use Rattle.cat_tree.specs.Phrase.{Phrase, Row, Rank, Parts, End, Word, Part, At, Anywhere, Operand, height}
+use Rattle.cat_tree.specs.Rows.{each_parts}
+use Rattle.cat_tree.specs.Wording as wording
+use Rattle.cat_tree.specs.Wording.{◌▹◌, symbol_at, key_at, pair_at, first, then_, lower, sign, part, of_level, words}
+use Rattle.cat_tree.specs.Grammar.{phrase}
+use Rattle.cat_tree.proofs.Exported.{phrase_Combine, phrase_Each, phrase_If, phrase_Parens, phrase_Sum}
+use Rattle.cat_parse_expr.specs.declared.behind.Behind.{Behind}
+use Rattle.cat_parse_expr.specs.declared.behind.Behind.TheVariants.{Other, Field, Pattern as Tested}
+use Rattle.cat_parse_expr.specs.declared.cue.Cue.{Cue}
+use Rattle.cat_parse_expr.specs.declared.cue.Cue.TheVariants as cue
+use Rattle.cat_parse_expr.specs.declared.measured.Measured.{Measured}
+use Rattle.cat_parse_expr.specs.declared.opening.Opening.TheVariants as opening
+use Rattle.cat_parse_expr.specs.Cues as cues
+use Rattle.cat_parse_expr.specs.Cues.{kind_of, lower_of, word_of}
+use Rattle.cat_parse_expr.specs.Measures.{closed, ending, form}
+use Rattle.cat_parse_expr.specs.Reader.{Reader, hidden, ◌⨟◌, pure, Reads}
+use Rattle.cat_parse_expr.specs.Parts.{Lower, key_word}
+use Rattle.cat_parse_expr.specs.Forms as forms
+use Rattle.cat_parse_expr.specs.Followers.{MayFollow, looks_of, is_taken}
+use Rattle.cat_parse_expr.specs.Longest.{KeepsWhole}
+use Rattle.cat_parse_expr.specs.Rightly.{measured_of, IsMeasured, IsLow, operand_row, AreRight}
+use Rattle.cat_parse_expr.proofs.Firsts.{Shape, class_Parens, class_If, class_Each, class_Combine, class_Sum}
+use Rattle.cat_parse_expr.proofs.Follows.{word_follows, tall_enough}
+use Rattle.cat_parse_expr.proofs.Positive.{positive}
+use Rattle.cat_parse_expr.proofs.Operands.{Next, form_next, OfClass, Form, form_read, measured_by, height_is, match_is}
+use Rattle.cat_parse_expr.proofs.Operands.{strength_by, inner_read, end_read}
+use Rattle.cat_parse_expr.proofs.Read.{IsRead, pure_read}
+use Rattle.cat_parse_expr.proofs.Worded.{word_read, word_at_read, lower_read, opened_at_read}
+use Rattle.cat_parse_expr.proofs.Sequels.{part_read, last_read, hidden_shut, past_none, IsShut, shut_after, one_shut}
+use Rattle.cat_parse_expr.proofs.Tuples.{both, two, three, four, five}
+
+-- ---- w among E
+
+module _ (ex : Lower) (room : ℕ) (right : AreRight room ex) where
+  abbrev pub among_row : Name × Measured → Parts
+  among_row t = lower t.0 ▹ wording.«word» key.Among ▹ part 0 (phrase t.1.node) ▹ End
+
+  -- it is followed by a word that nothing takes
+  abbrev pub Untaken : List Token → Type 0
+  Untaken v = (e : Measured) → MayFollow Other 0 e v
+
+  pub among_read : IsRead (λ y. y) ⊥ (Unit {0}) (Unit {0}) (λ t. t.1.height ≤ room) (λ t v. MayFollow Other 0 t.1 v)
+      (λ k. false) (λ t. IsMeasured t.1) among_row (forms.among ex room)
+  among_read =
+      lower_read (λ t. t.0) _ _
+      (λ w. word_read (cue.Word key.Among) _ _
+      (λ p. last_read (λ t. t.1) (λ l. (w, l)) _ (inner_read ex room right Other) (λ x ts. refl)
+      (record {
+        fit = λ y f. f.0;
+        built = λ f x m. (m, refl);
+        has = λ x. refl;
+        only = λ f y h. two y w h.1;
+        lows = λ f c x m low. low;
+        part = λ f x m low. low;
+        outside = λ f x v m o. o;
+      })))
+
+  pub among_shut : (ts : List Token) → IsShut (forms.among ex room ts)
+  among_shut ts =
+      shut_after (cues.lower ts) _ (one_shut lower_of ts)
+      (λ w ts. shut_after (key_word key.Among ts) _ (one_shut (word_of (cue.Word key.Among)) ts)
+      (λ p ts. shut_after (hidden (ex Other 0) ts) _ (hidden_shut (ex Other 0 ts)) (λ l ts. tt)))
+
+module _ (ex : Lower) (room : ℕ) (right : AreRight room ex)
+    (kept : (b : Behind) (j bound : ℕ) → j ≤ 9 → KeepsWhole (IsLow room) bound IsMeasured (operand_row j) (ex b j))
+    (b : Behind) (k : ℕ) where
+  -- ---- for all w among E we have E
+
+  abbrev Over : Type 0
+  Over = Pos × (Name × Measured) × Measured
+
+  abbrev over_of : Each → Over → Measured
+  over_of c t = form (max t.1.1.height t.2.height) t.2.in_match (node.Each c t.0 t.1.0 t.1.1.node t.2.node)
+
+  abbrev over_row : Each → Over → Parts
+  over_row c t =
+      first (kind_of (forms.each_cue c)) t.0 ▹ lower t.1.0 ▹ wording.«word» key.Among ▹ part 0 (phrase t.1.1.node)
+      ▹ then_ (kind_of (forms.body_cue c)) ▹ part 0 (phrase t.2.node) ▹ End
+
+  over_row_is : (c : Each) (t : Over) → each_parts c t.0 t.1.0 (phrase t.1.1.node) (phrase t.2.node) ≡ over_row c t
+  over_row_is each.ForAll t = refl
+  over_row_is each.Exists t = refl
+  over_row_is each.MapEach t = refl
+  over_row_is each.ListOf t = refl
+
+  body_not_taken : (c : Each) → is_taken (kind_of (forms.body_cue c)) ≡ false
+  body_not_taken each.ForAll = refl
+  body_not_taken each.Exists = refl
+  body_not_taken each.MapEach = refl
+  body_not_taken each.ListOf = refl
+
+  abbrev over_fits : Over → Type 0
+  over_fits t = IsMeasured t.1.1 × IsMeasured t.2
+
+  over_is : (c : Each) (t : Over) → phrase (over_of c t).node ≡ Row wording.form (over_row c t)
+  over_is c t =
+      phrase_Each c t.0 t.1.0 t.1.1.node t.2.node ∙ ap (λ (ps : Parts). Row wording.form ps) (over_row_is c t)
+
+  over_form : (c : Each) → k ≤ 8 → Form k (opening.Each c) over_fits (over_row c) (over_of c)
+  over_form c le = record {
+    rank = λ t. wording.form;
+    is = λ t. over_is c t;
+    measured =
+        λ t m. measured_by (over_of c t).node _ _ _ _ (over_is c t)
+        (omega (arith, height_is t.1.1 m.0, height_is t.2 m.1)) refl (match_is t.2 m.1);
+    level = λ t m. le;
+    bounded = λ t m. refl;
+    class = λ t. class_Each c t.0 t.1.0 t.1.1.node t.2.node;
+    shape = λ t. (t.0, t.1.0, t.1.1.node, t.2.node, refl);
+    split = λ n s levels low. ((s.0, (s.1, measured_of s.2), measured_of s.3), s.4, (refl, refl));
+  }
+
+  pub over_read : {K : Type 0} (c : Each) → k ≤ 8
+      → IsRead (λ y. y) K (Unit {0}) (Unit {0}) (IsLow (suc room)) (Next b k) (looks_of b) (OfClass k (opening.Each c))
+      (operand_row k) (forms.over_each ex room b c)
+  over_read c le =
+      form_read k (suc room) (Next b k) (opening.Each c) over_fits (over_row c) (over_of c) (forms.over_each ex room b c)
+      (over_form c le)
+      (word_at_read (forms.each_cue c) (λ t. t.0) _ _
+      (λ p. part_read (λ t. t.1) _ _ (among_read ex room right) (λ ts. among_shut ex room right ts)
+      (λ x ts. past_none (looks_of b) _ ts)
+      (record {
+        fit = λ y f. f.0.0;
+        behind = λ y w v f s. word_follows Other 0 y.1.1 (kind_of (forms.body_cue c)) w v (body_not_taken c) s;
+        part = λ y f low. omega (arith, low);
+      })
+      (λ l. word_read (forms.body_cue c) _ _
+      (λ q. last_read (λ y. y.2) (λ e. (p, l, e)) _
+      (end_read ex room right b 0 (omega arith) (λ bound. kept b 0 bound (omega arith))) (λ x ts. refl)
+      (record {
+        fit = λ y f. f.0.0.1;
+        built = λ f x m. (((f.1, m), refl), refl);
+        has = λ x. refl;
+        only = λ f y h. three y p l h.0.1 h.1;
+        lows = λ f c x m low. omega (arith, c.1, low);
+        part = λ f x m low. omega (arith, low);
+        outside = λ f x v m o. form_next b k (over_of c (p, l, x)) 0 x v le refl refl o;
+      })))))

@@ -1,2 +1,0 @@
-pub mod Fallback
-pub mod Loop

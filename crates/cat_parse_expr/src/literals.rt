@@ -1,0 +1,92 @@
+// Literals.
+ghost use Rattle.std.specs.Prelude.{◌≡◌, ◌≤◌, length, drop};
+ghost use Rattle.cat_parse_expr.specs.Forms as forms;
+ghost use Rattle.cat_parse_expr.specs.Places.{Gives};
+ghost use Rattle.cat_parse_expr.specs.Reader.{one, heads};
+
+use crate::measured::{Measured, leaf};
+use crate::miss::{Read, broken_at};
+use cat_lex::{Keyword, Token, TokenKind};
+use cat_num::Whole;
+use cat_pos::Pos;
+use cat_tree::{Literal, Node, Unit};
+use std::alloc::Global;
+
+/// The greatest number of years, months or days that a literal gives.
+const SPAN_BOUND: i64 = 999_999_999;
+
+fn literal_of(kind: &TokenKind) -> Option<Literal>
+    ensures { result ≡ forms.literal_kind kind.now }
+{
+    match kind {
+        TokenKind::Int(number) => Some(Literal::Int(*number)),
+        TokenKind::Dec(decimal) => Some(Literal::Dec(*decimal)),
+        TokenKind::Pct(decimal) => Some(Literal::Pct(*decimal)),
+        TokenKind::Money(amount) => Some(Literal::Money(*amount)),
+        TokenKind::Date(day) => Some(Literal::Date(*day)),
+        TokenKind::Word(Keyword::True) => Some(Literal::Boolean(true)),
+        TokenKind::Word(Keyword::False) => Some(Literal::Boolean(false)),
+        _ => None,
+    }
+}
+
+fn literal_at(tokens: &[Token], at: usize) -> Read<(Literal, Pos)>
+    requires { at ≤ length tokens.now }
+    ensures { Gives (one forms.literal_of) tokens.now at result }
+{
+    match tokens.get(at) {
+        Some(token) => match literal_of(&token.kind) {
+            Some(literal) => Ok(((literal, token.pos), at + 1)),
+            None => Err(broken_at(at)),
+        },
+        None => Err(broken_at(at)),
+    }
+}
+
+fn unit_of(kind: &TokenKind) -> Option<Unit>
+    ensures { result ≡ forms.unit_kind kind.now }
+{
+    match kind {
+        TokenKind::Word(Keyword::Year) => Some(Unit::Year),
+        TokenKind::Word(Keyword::Month) => Some(Unit::Month),
+        TokenKind::Word(Keyword::Day) => Some(Unit::Day),
+        _ => None,
+    }
+}
+
+/// The number, or the duration where a unit follows.
+fn numbered(tokens: &[Token], at: usize, number: Whole) -> Read<Literal>
+    requires { at ≤ length tokens.now }
+    ensures { Gives (forms.spanned (Literal.Int number)) tokens.now at result }
+{
+    if number.get() > SPAN_BOUND {
+        return Ok((Literal::Int(number), at));
+    }
+    match tokens.get(at) {
+        Some(token) => match unit_of(&token.kind) {
+            Some(unit) => Ok((Literal::Span(number, unit), at + 1)),
+            None => Ok((Literal::Int(number), at)),
+        },
+        None => Ok((Literal::Int(number), at)),
+    }
+}
+
+fn spanned(tokens: &[Token], at: usize, literal: Literal) -> Read<Literal>
+    requires { at ≤ length tokens.now }
+    ensures { Gives (forms.spanned literal) tokens.now at result }
+{
+    match literal {
+        Literal::Int(number) => numbered(tokens, at, number),
+        other => Ok((other, at)),
+    }
+}
+
+/// A literal, with a unit where one follows.
+pub(crate) fn a_literal(alloc: Global, tokens: &[Token], at: usize) -> Read<Measured>
+    requires { at ≤ length tokens.now }
+    ensures { Gives forms.a_literal tokens.now at result }
+{
+    let ((literal, pos), at) = literal_at(tokens, at)?;
+    let (literal, at) = spanned(tokens, at, literal)?;
+    Ok((leaf(alloc, Node::Literal(literal, pos))?, at))
+}

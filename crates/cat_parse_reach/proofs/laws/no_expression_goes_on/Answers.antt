@@ -1,5 +1,0 @@
-use Rattle.cat_parse_reach.proofs.Ending.{ends_before}
-use Rattle.cat_parse_reach.proofs.laws.no_expression_goes_on.Goals as goal
-
-pub returns : goal.returns
-returns c = ends_before
