@@ -1,6 +1,6 @@
 -- The reader of expressions is right before the words that may follow one in a program.
-use Rattle.std.proofs.Common.{◌≡◌, ℕ, ◌≤◌, max, Bool, true, false, List, [], ◌∷◌, ◌++◌, length, drop, Option, Ok, Err}
-use Rattle.std.proofs.Common.{refl, sym, ap, subst, ◌∙◌, arith}
+use Rattle.std.proofs.Common.{◌≡◌, ℕ, true, false, List, [], ◌∷◌, ◌++◌}
+use Rattle.std.proofs.Common.{refl, ap, ◌∙◌, arith}
 use Rattle.cat_lex.specs.declared.token.Token.{Token}
 use Rattle.cat_lex.specs.declared.token.TokenKind.{TokenKind}
 use Rattle.cat_lex.specs.declared.token.TokenKind.TheVariants as kind
@@ -8,7 +8,6 @@ use Rattle.cat_lex.specs.declared.words.Keyword.TheVariants as key
 use Rattle.cat_lex.specs.declared.words.DoubleKeyword.TheVariants as pair
 use Rattle.cat_lex.specs.declared.symbol.Symbol.TheVariants as symbol
 use Rattle.cat_tree.specs.declared.expression.Node.{Node}
-use Rattle.cat_tree.specs.Phrase.{tallest}
 use Rattle.cat_parse_expr.specs.declared.behind.Behind.TheVariants.{Other}
 use Rattle.cat_parse_expr.specs.declared.measured.Measured.{Measured}
 use Rattle.cat_parse_expr.specs.Climbing.{operand}
@@ -16,7 +15,7 @@ use Rattle.cat_parse_expr.specs.Followers.{MayFollow, looks_of, may_stand}
 use Rattle.cat_parse_expr.specs.Reader.{Parsed, Fails, Reads, left_of, after, pure}
 use Rattle.cat_parse_expr.specs.Right as over
 use Rattle.cat_parse_expr.specs.Rightly.{IsMeasured, IsLow, operand_row, measured_of}
-use Rattle.cat_parse.specs.Right.{Agree, Outside, Is, Begun, Further, Taken, Says, Alike, IsRight}
+use Rattle.cat_parse.specs.Right.{Agree, Outside, Is, Begun, Taken, Says, Alike}
 use Rattle.cat_parse.specs.Uses.{behind_expression}
 use Rattle.cat_parse.specs.Exactly.{expression_row, ReadsExpressionsTo}
 use Rattle.cat_parse.specs.Expression.{expression_to}

@@ -7,7 +7,6 @@ use Rattle.cat_tree.specs.declared.expression.Node.{Node}
 use Rattle.cat_tree.specs.declared.program.Item.{Item}
 use Rattle.cat_tree.specs.declared.program.Tree.{Tree}
 use Rattle.cat_tree.specs.Programs.{highest_in, SpellsProgram, SpellsLowProgram, BeginsProgram}
-use Rattle.cat_parse_expr.specs.declared.miss.Break.{Break}
 use Rattle.cat_parse_expr.specs.declared.miss.Miss.{Miss}
 use Rattle.cat_parse_expr.specs.declared.miss.Miss.TheVariants.{Broken, Memory}
 use Rattle.cat_parse_expr.specs.declared.refusal.ParseRefusal.TheVariants.{Unexpected, TooDeep}

@@ -1,7 +1,6 @@
 -- What is read of an expression, and what is refused, by the indices of a list of tokens.
-use Rattle.std.proofs.Common.{◌≡◌, ℕ, ◌<◌, ◌≤◌, max, Bool, true, false, cond, List, length, take, drop, Option, Some, None, Ok, Err}
+use Rattle.std.proofs.Common.{◌≡◌, ℕ, ◌≤◌, max, Bool, true, false, cond, List, length, take, drop, Option, Some, None, Ok, Err}
 use Rattle.std.proofs.Common.{refl, sym, ap, subst, ◌∙◌, arith}
-use Rattle.std.specs.Prelude.{slice_range}
 use Rattle.cat_lex.specs.declared.token.Token.{Token}
 use Rattle.cat_tree.specs.declared.expression.Node.{Node}
 use Rattle.cat_tree.specs.Spells.{Spells, IsFront, height_of}
@@ -16,11 +15,11 @@ use Rattle.cat_parse_expr.specs.Climbing.{operand}
 use Rattle.cat_parse_expr.specs.Fronts.{GoesUpTo, IsTooHigh}
 use Rattle.cat_parse_expr.specs.Longest.{KeepsWhole}
 use Rattle.cat_parse_expr.specs.Places.{Gives, left_behind, IsWithin}
-use Rattle.cat_parse_expr.specs.Reach.{Reach, Refused, Found, front_found, before, reach_of, expression_reach, GivesReach}
+use Rattle.cat_parse_expr.specs.Reach.{Found, front_found, before, reach_of, expression_reach}
 use Rattle.cat_parse_expr.specs.Reader.{Parsed, Fails, Reads}
 use Rattle.cat_parse_expr.specs.Right.{IsRight}
 use Rattle.cat_parse_expr.specs.Followers.{MayFollow, looks_of}
-use Rattle.cat_parse_expr.specs.Rightly.{IsMeasured, IsLow, measured_of, operand_row}
+use Rattle.cat_parse_expr.specs.Rightly.{IsMeasured, IsLow, operand_row}
 use Rattle.cat_parse_expr.proofs.Indexed.{was_read, ends_read, goes_up_to, is_too_high, one}
 use Rattle.cat_parse_expr.proofs.Kept.{before_place, longest_read, longest_whole, none_spelled, none_low, Whole}
 use Rattle.cat_parse_expr.proofs.Kept.{stood_whole, found_again}

@@ -1,99 +1,55 @@
 -- The arguments of a call.
-use Rattle.std.proofs.Common.{◌≡◌, ℕ, zero, suc, ◌≤◌, max, Bool, true, false, List, [], ◌∷◌, ◌++◌, Option, None, Some, refl, sym, ap}
+use Rattle.std.proofs.Common.{◌≡◌, ℕ, ◌≤◌, Bool, true, false, List, [], ◌∷◌, refl, sym, ap}
 use Rattle.std.proofs.Common.{subst, ◌∙◌, arith, inl, inr, ◌⊎◌}
 use Rattle.cat_pos.specs.declared.pos.Pos.{Pos}
 use Rattle.cat_lex.specs.declared.token.Token.{Token}
 use Rattle.cat_lex.specs.declared.token.TokenKind.{TokenKind}
-use Rattle.cat_lex.specs.declared.token.TokenKind.TheVariants as kind
-use Rattle.cat_lex.specs.declared.words.Keyword.{Keyword}
-use Rattle.cat_lex.specs.declared.words.Keyword.TheVariants as key
-use Rattle.cat_lex.specs.declared.words.DoubleKeyword.TheVariants as pair
 use Rattle.cat_lex.specs.declared.symbol.Symbol.TheVariants as symbol
-use Rattle.cat_tree.specs.Accumulation.{accumulation}
-use Rattle.cat_tree.specs.declared.name.Name.{Name}
-use Rattle.cat_tree.specs.declared.name.Type as types
-use Rattle.cat_tree.specs.declared.expression.Each.{Each}
-use Rattle.cat_tree.specs.declared.expression.Each.TheVariants as each
-use Rattle.cat_tree.specs.declared.expression.Node.{Node}
-use Rattle.cat_tree.specs.declared.expression.Node.TheViews as node
-use Rattle.cat_tree.specs.Literals.{type_parts}
-use Rattle.cat_tree.specs.Phrase.{Phrase, Row, Rank, Parts, End, Word, Part, At, Anywhere, Operand, height}
-use Rattle.cat_tree.specs.Rows.{each_parts}
-use Rattle.cat_tree.specs.Wording as wording
-use Rattle.cat_tree.specs.Wording.{◌▹◌, symbol_at, key_at, pair_at, first, then_, lower, sign, part, of_level, words}
+use Rattle.cat_tree.specs.Phrase.{Parts, End}
+use Rattle.cat_tree.specs.Wording.{part}
 use Rattle.cat_tree.specs.Grammar.{phrase}
-use Rattle.cat_tree.proofs.Exported.{phrase_Name, phrase_Call}
 use Rattle.cat_parse_expr.specs.declared.behind.Behind.{Behind}
-use Rattle.cat_parse_expr.specs.declared.behind.Behind.TheVariants.{Other, Field, Pattern as Tested}
-use Rattle.cat_parse_expr.specs.declared.cue.Cue.{Cue}
+use Rattle.cat_parse_expr.specs.declared.behind.Behind.TheVariants.{Other}
 use Rattle.cat_parse_expr.specs.declared.cue.Cue.TheVariants as cue
 use Rattle.cat_parse_expr.specs.declared.measured.Measured.{Measured}
-use Rattle.cat_parse_expr.specs.declared.opening.Opening.TheVariants as opening
-use Rattle.cat_parse_expr.specs.Cues.{kind_of}
-use Rattle.cat_parse_expr.specs.Measures.{closed, ending, form}
-use Rattle.cat_parse_expr.specs.Reader.{Reader, hidden, ◌⨟◌, pure, Reads}
+use Rattle.cat_parse_expr.specs.Reader.{Reader, ◌⨟◌, pure}
 use Rattle.cat_parse_expr.specs.Parts.{Lower}
-use Rattle.cat_parse_expr.specs.Forms as forms
-use Rattle.cat_parse_expr.specs.Followers.{MayFollow, looks_of, is_taken}
+use Rattle.cat_parse_expr.specs.Followers.{MayFollow}
 use Rattle.cat_parse_expr.specs.Longest.{KeepsWhole}
-use Rattle.cat_parse_expr.specs.Rightly.{measured_of, IsMeasured, IsLow, operand_row, AreRight}
-use Rattle.cat_parse_expr.proofs.Firsts.{Shape, class_Name, class_Call}
-use Rattle.cat_parse_expr.proofs.Follows.{word_follows, tall_enough}
-use Rattle.cat_parse_expr.proofs.Positive.{positive}
-use Rattle.cat_parse_expr.proofs.Operands.{Next, form_next, OfClass, Form, form_read, measured_by, height_is, match_is}
-use Rattle.cat_parse_expr.proofs.Operands.{strength_by, inner_read, end_read}
-use Rattle.cat_parse_expr.proofs.Read.{IsRead, pure_read}
-use Rattle.cat_parse_expr.proofs.Worded.{word_read, word_at_read, lower_read, opened_at_read}
-use Rattle.cat_parse_expr.proofs.Sequels.{part_read, last_read, hidden_shut, past_none, IsShut, shut_after, one_shut, shut_turns, no_longer}
-use Rattle.cat_parse_expr.proofs.Tuples.{both}
-use Rattle.std.proofs.Common.{map, length, if◌then◌else◌}
+use Rattle.cat_parse_expr.specs.Rightly.{IsMeasured, IsLow, operand_row, AreRight}
+use Rattle.cat_parse_expr.proofs.Operands.{end_read}
+use Rattle.cat_parse_expr.proofs.Read.{IsRead}
+use Rattle.cat_parse_expr.proofs.Worded.{word_read}
+use Rattle.cat_parse_expr.proofs.Sequels.{last_read}
+use Rattle.std.proofs.Common.{length}
 use Rattle.cat_tree.specs.Joined.{◌▸◌, all}
 use Rattle.cat_tree.specs.Rows.{elements}
-use Rattle.std.proofs.Common.{append_assoc}
-use Rattle.cat_tree.specs.Phrase.{AreLevelled, AreSpelled, tallest}
+use Rattle.cat_tree.specs.Phrase.{AreLevelled, AreSpelled}
 use Rattle.cat_parse_expr.proofs.Loops as loops
 use Rattle.cat_parse_expr.specs.declared.measured.Elements.{Elements}
 use Rattle.cat_parse_expr.specs.Measures.{with_element, no_elements}
-use Rattle.cat_parse_expr.specs.Parts as parts
-use Rattle.cat_parse_expr.specs.Parts.{has_element, next_element, as_many, is_sign, inner, sign as a_sign}
-use Rattle.cat_parse_expr.specs.Reader.{Parsed, Fails, after, left_of, heads, hidden_in, by_word}
-use Rattle.cat_parse_expr.specs.Cues.{cue_is, word_of, «word»}
-use Rattle.cat_parse_expr.specs.Right.{Is}
+use Rattle.cat_parse_expr.specs.Parts.{is_sign}
+use Rattle.cat_parse_expr.specs.Reader.{heads}
 use Rattle.cat_parse_expr.proofs.Chaining as chaining
-use Rattle.cat_parse_expr.proofs.Choices.{Decides, Recast}
-use Rattle.cat_parse_expr.proofs.Chosen.{inner_choice_read}
+use Rattle.cat_parse_expr.proofs.Choices.{Recast}
 use Rattle.cat_parse_expr.proofs.Lists as lists
 use Rattle.cat_parse_expr.proofs.Looping as looping
-use Rattle.cat_parse_expr.proofs.Nodes.{nodes_of, phrases_of, tallest_of, AreMeasured, measures_of, measures_are, nodes_back}
-use Rattle.cat_parse_expr.proofs.Nodes.{elements_from, nodes_are, tallest_is, row_behind, chain_elements, elements_behind}
-use Rattle.cat_parse_expr.proofs.Nodes.{elements_height, elements_last, behind_end}
-use Rattle.cat_parse_expr.proofs.Openers.{begins_not}
-use Rattle.cat_parse_expr.proofs.Shaping.{narrow_read, recast_read, reshape_read}
+use Rattle.cat_parse_expr.proofs.Nodes.{phrases_of}
+use Rattle.cat_parse_expr.proofs.Nodes.{elements_from, row_behind, chain_elements}
+use Rattle.cat_parse_expr.proofs.Nodes.{behind_end}
+use Rattle.cat_parse_expr.proofs.Shaping.{narrow_read, recast_read}
 use Rattle.cat_parse_expr.proofs.Turnings.{heads_begin, heads_other, heads_follow, heads_seen, shrinks_after}
 use Rattle.cat_parse_expr.proofs.Turnings as turnings
-use Rattle.std.proofs.Common.{not, nat_eq, nat_le, nat_lt, ◌&&◌, ◌||◌, cond}
-use Rattle.std.proofs.lemmas.Bool.Decides.{nat_tests}
-use Rattle.cat_tree.specs.Phrase.{right_strength, left_strength, ends_in_form, ends_in_match, last_in_form, last_in_match}
-use Rattle.cat_tree.specs.Phrase.{IsLevelled}
-use Rattle.cat_tree.specs.Wording.{if_some}
-use Rattle.cat_tree.specs.declared.expression.Node.TheVariants as leaves
-use Rattle.cat_parse_expr.specs.declared.follow.Follow.TheVariants as follow
-use Rattle.cat_parse_expr.specs.Followers.{is_asked, is_below, is_with_pattern, may_stand}
-use Rattle.cat_parse_expr.specs.Measures.{leaf}
-use Rattle.cat_parse_expr.specs.Openings.{follow_of}
 use Rattle.cat_parse_expr.specs.Parts.{has_argument, next_argument, behind_comma, arguments}
 use Rattle.cat_parse_expr.specs.Reader.{behind_whole}
-use Rattle.cat_parse_expr.proofs.Bracketed.{part_shrinks}
-use Rattle.cat_parse_expr.proofs.Chosen.{choice_read}
-use Rattle.cat_parse_expr.proofs.Follows.{argument_ends, IsOwn}
-use Rattle.cat_parse_expr.proofs.Operands.{ending_next, goes_then}
-use Rattle.cat_parse_expr.proofs.Positive.{ends_in_word, nine_strength}
-use Rattle.cat_parse_expr.proofs.Shaping.{made_read, look_read}
+use Rattle.cat_parse_expr.proofs.Operands.{part_shrinks}
+use Rattle.cat_parse_expr.proofs.Shaping.{made_read}
 use Rattle.cat_parse_expr.proofs.Turnings.{own_heads}
 use Rattle.cat_parse_expr.proofs.Called.{Nine, AreNine, comma_follows}
 
 module _ (ex : Lower) (room : ℕ) (right : AreRight room ex)
-    (kept : (b : Behind) (j bound : ℕ) → j ≤ 9 → KeepsWhole (IsLow room) bound IsMeasured (operand_row j) (ex b j)) where
+    (kept : (b : Behind) (j bound : ℕ) → j ≤ 9 → KeepsWhole (IsLow room) bound IsMeasured (operand_row j)
+    (ex b j)) where
   nine_cast : Recast (IsLow room) (IsLow room) (MayFollow Other 9) (MayFollow Other 9) IsMeasured Nine (operand_row 9)
       (operand_row 9) (λ y. y)
   nine_cast = record {
@@ -104,7 +60,8 @@ module _ (ex : Lower) (room : ℕ) (right : AreRight room ex)
     outside = λ x v fit o. o;
   }
 
-  pub nine_read : {K : Type 0} → IsRead (λ y. y) K (Unit {0}) (Unit {0}) (IsLow room) (MayFollow Other 9) (λ k. false) Nine
+  pub nine_read : {K : Type 0} → IsRead (λ y. y) K (Unit {0}) (Unit {0}) (IsLow room) (MayFollow Other 9)
+      (λ k. false) Nine
       (operand_row 9) (ex Other 9)
   nine_read =
       made_read (IsLow room) (MayFollow Other 9) IsMeasured (operand_row 9) (λ f. f) (λ f c. c) (λ f. nine_cast.to)
@@ -163,7 +120,8 @@ module _ (ex : Lower) (room : ℕ) (right : AreRight room ex)
       (λ x v. Out (with_element s x) v ⊎ More (with_element s x) v) none (Fits s) row_one (behind_comma ex s)
   read_turn s = turn_read s
 
-  worded : turnings.Worded {K = Unit {0}} has_argument with_element Good Low Out More none Fits row_one (cue.Sign symbol.Comma)
+  worded : turnings.Worded {K = Unit {0}} has_argument with_element Good Low Out More none Fits row_one
+      (cue.Sign symbol.Comma)
       rest read_turn
   worded = record {
     starts = λ s ts h. h;
@@ -208,11 +166,21 @@ module _ (ex : Lower) (room : ℕ) (right : AreRight room ex)
   abbrev Chained : Type 0
   Chained = Measured × List Measured
 
-  chain_read : {K : Type 0} → IsRead (chaining.chain_of has_argument one with_element Good Low Out More none Fits row_one turning (next_argument ex) same (λ e. e) (IsLow room) Nine (operand_row 9) begin) K (Unit {0}) (Unit {0})
-      (chaining.Low_chain has_argument one with_element Good Low Out More none Fits row_one turning (next_argument ex) same (λ e. e) (IsLow room) Nine (operand_row 9) begin) (chaining.Out_chain has_argument one with_element Good Low Out More none Fits row_one turning (next_argument ex) same (λ e. e) (IsLow room) Nine (operand_row 9) begin) none (chaining.fits_chain has_argument one with_element Good Low Out More none Fits row_one turning (next_argument ex) same (λ e. e) (IsLow room) Nine (operand_row 9) begin) (chaining.row_chain has_argument one with_element Good Low Out More none Fits row_one turning (next_argument ex) same (λ e. e) (IsLow room) Nine (operand_row 9) begin)
+  chain_read : {K : Type 0} → IsRead
+      (chaining.chain_of has_argument one with_element Good Low Out More none Fits row_one turning
+      (next_argument ex) same (λ e. e) (IsLow room) Nine (operand_row 9) begin) K (Unit {0}) (Unit {0})
+      (chaining.Low_chain has_argument one with_element Good Low Out More none Fits row_one turning
+      (next_argument ex) same (λ e. e) (IsLow room) Nine (operand_row 9) begin)
+      (chaining.Out_chain has_argument one with_element Good Low Out More none Fits row_one turning
+      (next_argument ex) same (λ e. e) (IsLow room) Nine (operand_row 9) begin) none
+      (chaining.fits_chain has_argument one with_element Good Low Out More none Fits row_one turning
+      (next_argument ex) same (λ e. e) (IsLow room) Nine (operand_row 9) begin)
+      (chaining.row_chain has_argument one with_element Good Low Out More none Fits row_one turning
+      (next_argument ex) same (λ e. e) (IsLow room) Nine (operand_row 9) begin)
       (arguments ex)
   chain_read =
-      chaining.chain_read has_argument one with_element Good Low Out More none Fits row_one turning (next_argument ex) same (λ e. e) (IsLow room) Nine (operand_row 9) begin
+      chaining.chain_read has_argument one with_element Good Low Out More none Fits row_one turning
+      (next_argument ex) same (λ e. e) (IsLow room) Nine (operand_row 9) begin
       (record {
         good = λ a f. tt;
         low = λ a f low. omega (arith, low);
@@ -220,14 +188,18 @@ module _ (ex : Lower) (room : ℕ) (right : AreRight room ex)
       })
       (ex Other 9)
       (narrow_read (MayFollow Other 9) (λ y v f o. next_follows (begin y) y v f o) nine_read)
-      (λ k. looping.loop_keeps has_argument one with_element Good Low Out More none Fits row_one turning (λ s. (read_turn s).reader) (λ s ts. refl) inner_kept)
-      (λ k. looping.loop_far has_argument one with_element Good Low Out More none Fits row_one turning (λ s. (read_turn s).reader) (λ s ts. refl) inner_kept)
+      (λ k. looping.loop_keeps has_argument one with_element Good Low Out More none Fits row_one turning
+      (λ s. (read_turn s).reader) (λ s ts. refl) inner_kept)
+      (λ k. looping.loop_far has_argument one with_element Good Low Out More none Fits row_one turning
+      (λ s. (read_turn s).reader) (λ s ts. refl) inner_kept)
 
-  fits_all : (s : Elements) (xs : List Measured) → AreNine xs → looping.FitsFrom has_argument one with_element Good Low Out More none Fits row_one turning s xs
+  fits_all : (s : Elements) (xs : List Measured) → AreNine xs
+      → looping.FitsFrom has_argument one with_element Good Low Out More none Fits row_one turning s xs
   fits_all s [] m = tt
   fits_all s (x ∷ xs) m = (m.0, fits_all (with_element s x) xs m.1)
 
-  all_fits : (s : Elements) (xs : List Measured) → looping.FitsFrom has_argument one with_element Good Low Out More none Fits row_one turning s xs → AreNine xs
+  all_fits : (s : Elements) (xs : List Measured)
+      → looping.FitsFrom has_argument one with_element Good Low Out More none Fits row_one turning s xs → AreNine xs
   all_fits s [] m = tt
   all_fits s (x ∷ xs) m = (m.0, all_fits (with_element s x) xs m.1)
 
@@ -242,8 +214,15 @@ module _ (ex : Lower) (room : ℕ) (right : AreRight room ex)
       ap (λ (ps : Parts). part 9 (phrase y.0.node) ps) (sym (behind_end (all row_one y.1)))
       ∙ sym (chain_elements 9 symbol.Comma y.0 y.1 End)
 
-  chain_cast : Recast (chaining.Low_chain has_argument one with_element Good Low Out More none Fits row_one turning (next_argument ex) same (λ e. e) (IsLow room) Nine (operand_row 9) begin) (λ c. (made c).tallest ≤ room) (chaining.Out_chain has_argument one with_element Good Low Out More none Fits row_one turning (next_argument ex) same (λ e. e) (IsLow room) Nine (operand_row 9) begin)
-      (λ c v. Out no_elements v) (chaining.fits_chain has_argument one with_element Good Low Out More none Fits row_one turning (next_argument ex) same (λ e. e) (IsLow room) Nine (operand_row 9) begin) (λ c. Nine c.0 × AreNine c.1) (chaining.row_chain has_argument one with_element Good Low Out More none Fits row_one turning (next_argument ex) same (λ e. e) (IsLow room) Nine (operand_row 9) begin)
+  chain_cast : Recast (chaining.Low_chain has_argument one with_element Good Low Out More none Fits row_one turning
+      (next_argument ex) same (λ e. e) (IsLow room) Nine (operand_row 9) begin) (λ c. (made c).tallest ≤ room)
+      (chaining.Out_chain has_argument one with_element Good Low Out More none Fits row_one turning
+      (next_argument ex) same (λ e. e) (IsLow room) Nine (operand_row 9) begin)
+      (λ c v. Out no_elements v)
+      (chaining.fits_chain has_argument one with_element Good Low Out More none Fits row_one turning
+      (next_argument ex) same (λ e. e) (IsLow room) Nine (operand_row 9) begin) (λ c. Nine c.0 × AreNine c.1)
+      (chaining.row_chain has_argument one with_element Good Low Out More none Fits row_one turning
+      (next_argument ex) same (λ e. e) (IsLow room) Nine (operand_row 9) begin)
       chained_row (λ c. c)
   chain_cast = record {
     to =

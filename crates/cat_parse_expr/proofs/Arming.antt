@@ -1,177 +1,76 @@
 -- The arms of a match.
-use Rattle.std.proofs.Common.{◌≡◌, ℕ, zero, suc, ◌≤◌, max, Bool, true, false, List, [], ◌∷◌, ◌++◌, Option, None, Some, refl, sym, ap}
+use Rattle.std.proofs.Common.{◌≡◌, ℕ, ◌≤◌, Bool, true, false, List, [], ◌∷◌, ◌++◌, None, Some, refl, sym, ap}
 use Rattle.std.proofs.Common.{subst, ◌∙◌, arith, inl, inr, ◌⊎◌}
 use Rattle.cat_pos.specs.declared.pos.Pos.{Pos}
 use Rattle.cat_lex.specs.declared.token.Token.{Token}
 use Rattle.cat_lex.specs.declared.token.TokenKind.{TokenKind}
-use Rattle.cat_lex.specs.declared.token.TokenKind.TheVariants as kind
-use Rattle.cat_lex.specs.declared.words.Keyword.{Keyword}
-use Rattle.cat_lex.specs.declared.words.Keyword.TheVariants as key
-use Rattle.cat_lex.specs.declared.words.DoubleKeyword.TheVariants as pair
 use Rattle.cat_lex.specs.declared.symbol.Symbol.TheVariants as symbol
-use Rattle.cat_tree.specs.Accumulation.{accumulation}
-use Rattle.cat_tree.specs.declared.name.Name.{Name}
-use Rattle.cat_tree.specs.declared.name.Type as types
-use Rattle.cat_tree.specs.declared.expression.Each.{Each}
-use Rattle.cat_tree.specs.declared.expression.Each.TheVariants as each
-use Rattle.cat_tree.specs.declared.expression.Node.{Node}
-use Rattle.cat_tree.specs.declared.expression.Node.TheViews as node
-use Rattle.cat_tree.specs.Literals.{type_parts}
-use Rattle.cat_tree.specs.Phrase.{Phrase, Row, Rank, Parts, End, Word, Part, At, Anywhere, Operand, height}
-use Rattle.cat_tree.specs.Rows.{each_parts}
-use Rattle.cat_tree.specs.Wording as wording
-use Rattle.cat_tree.specs.Wording.{◌▹◌, symbol_at, key_at, pair_at, first, then_, lower, sign, part, of_level, words}
+use Rattle.cat_tree.specs.Phrase.{Parts, End}
+use Rattle.cat_tree.specs.Wording.{◌▹◌, sign, part}
 use Rattle.cat_tree.specs.Grammar.{phrase}
-use Rattle.cat_tree.proofs.Exported.{phrase_Match, arm_row}
 use Rattle.cat_parse_expr.specs.declared.behind.Behind.{Behind}
 use Rattle.cat_parse_expr.specs.declared.behind.Behind.TheVariants.{Other, Field, Pattern as Tested}
-use Rattle.cat_parse_expr.specs.declared.cue.Cue.{Cue}
 use Rattle.cat_parse_expr.specs.declared.cue.Cue.TheVariants as cue
 use Rattle.cat_parse_expr.specs.declared.measured.Measured.{Measured}
-use Rattle.cat_parse_expr.specs.declared.opening.Opening.TheVariants as opening
-use Rattle.cat_parse_expr.specs.Cues.{kind_of}
-use Rattle.cat_parse_expr.specs.Measures.{closed, ending, form}
-use Rattle.cat_parse_expr.specs.Reader.{Reader, hidden, ◌⨟◌, pure, Reads}
+use Rattle.cat_parse_expr.specs.Reader.{Reader, ◌⨟◌, pure, Reads}
 use Rattle.cat_parse_expr.specs.Parts.{Lower}
-use Rattle.cat_parse_expr.specs.Forms as forms
 use Rattle.cat_parse_expr.specs.Followers.{MayFollow, looks_of, is_taken}
 use Rattle.cat_parse_expr.specs.Longest.{KeepsWhole}
-use Rattle.cat_parse_expr.specs.Rightly.{measured_of, IsMeasured, IsLow, operand_row, AreRight}
-use Rattle.cat_parse_expr.proofs.Firsts.{Shape, class_Match}
-use Rattle.cat_parse_expr.proofs.Follows.{word_follows, tall_enough}
-use Rattle.cat_parse_expr.proofs.Positive.{positive}
-use Rattle.cat_parse_expr.proofs.Operands.{Next, form_next, OfClass, Form, form_read, measured_by, height_is, match_is}
-use Rattle.cat_parse_expr.proofs.Operands.{strength_by, inner_read, end_read}
-use Rattle.cat_parse_expr.proofs.Read.{IsRead, pure_read}
-use Rattle.cat_parse_expr.proofs.Worded.{word_read, word_at_read, lower_read, opened_at_read}
-use Rattle.cat_parse_expr.proofs.Sequels.{part_read, last_read, hidden_shut, past_none, IsShut, shut_after, one_shut, shut_turns, no_longer}
-use Rattle.cat_parse_expr.proofs.Tuples.{both, two}
-use Rattle.std.proofs.Common.{map, length, if◌then◌else◌}
-use Rattle.cat_tree.specs.Joined.{◌▸◌, all}
-use Rattle.cat_tree.specs.Rows.{elements}
-use Rattle.std.proofs.Common.{append_assoc}
-use Rattle.cat_tree.specs.Phrase.{AreLevelled, AreSpelled, tallest}
+use Rattle.cat_parse_expr.specs.Rightly.{IsMeasured, IsLow, operand_row, AreRight}
+use Rattle.cat_parse_expr.proofs.Operands.{end_read}
+use Rattle.cat_parse_expr.proofs.Read.{IsRead}
+use Rattle.cat_parse_expr.proofs.Worded.{word_read}
+use Rattle.cat_parse_expr.proofs.Sequels.{part_read, last_read, past_none, no_longer}
+use Rattle.cat_parse_expr.proofs.Tuples.{two}
+use Rattle.std.proofs.Common.{length}
+use Rattle.cat_tree.specs.Joined.{◌▸◌}
+use Rattle.cat_tree.specs.Phrase.{AreSpelled}
 use Rattle.cat_parse_expr.proofs.Loops as loops
-use Rattle.cat_parse_expr.specs.declared.measured.Elements.{Elements}
-use Rattle.cat_parse_expr.specs.Measures.{with_element, no_elements}
 use Rattle.cat_parse_expr.specs.Parts as parts
 use Rattle.cat_parse_expr.specs.Parts.{has_element, next_element, as_many, is_sign, inner, sign as a_sign}
-use Rattle.cat_parse_expr.specs.Reader.{Parsed, Fails, after, left_of, heads, hidden_in, by_word}
-use Rattle.cat_parse_expr.specs.Cues.{cue_is, word_of, «word»}
-use Rattle.cat_parse_expr.specs.Right.{Is}
+use Rattle.cat_parse_expr.specs.Reader.{Parsed, Fails, after, left_of, heads}
+use Rattle.cat_parse_expr.specs.Cues.{word_of}
 use Rattle.cat_parse_expr.proofs.Chaining as chaining
-use Rattle.cat_parse_expr.proofs.Choices.{Decides, Recast}
-use Rattle.cat_parse_expr.proofs.Chosen.{inner_choice_read}
+use Rattle.cat_parse_expr.proofs.Choices.{Recast}
 use Rattle.cat_parse_expr.proofs.Lists as lists
 use Rattle.cat_parse_expr.proofs.Looping as looping
-use Rattle.cat_parse_expr.proofs.Nodes.{nodes_of, phrases_of, tallest_of, AreMeasured, measures_of, measures_are, nodes_back}
-use Rattle.cat_parse_expr.proofs.Nodes.{elements_from, nodes_are, tallest_is, row_behind, chain_elements, elements_behind}
-use Rattle.cat_parse_expr.proofs.Nodes.{elements_height, elements_last, behind_end}
-use Rattle.cat_parse_expr.proofs.Shaping.{narrow_read, recast_read, reshape_read}
-use Rattle.cat_parse_expr.proofs.Turnings.{heads_begin, heads_other, heads_follow, heads_seen, shrinks_after, shrinks_one, takes_one}
+use Rattle.cat_parse_expr.proofs.Shaping.{recast_read, reshape_read}
+use Rattle.cat_parse_expr.proofs.Turnings.{heads_begin, heads_other, heads_follow, heads_seen, shrinks_after}
+use Rattle.cat_parse_expr.proofs.Turnings.{shrinks_one, takes_one}
 use Rattle.cat_parse_expr.proofs.Turnings as turnings
-use Rattle.std.proofs.Common.{append-nil, ◌<◌, not, nat_eq, nat_le, nat_lt, ◌&&◌, ◌||◌, cond}
-use Rattle.std.proofs.lemmas.Bool.Decides.{nat_tests}
-use Rattle.cat_tree.specs.Phrase.{right_strength, left_strength, ends_in_form, ends_in_match, last_in_form, last_in_match}
-use Rattle.cat_tree.specs.Phrase.{IsLevelled}
-use Rattle.cat_tree.specs.Wording.{if_some}
-use Rattle.cat_tree.specs.declared.expression.Node.TheVariants as leaves
-use Rattle.cat_parse_expr.specs.declared.follow.Follow.TheVariants as follow
-use Rattle.cat_parse_expr.specs.Followers.{is_asked, is_below, is_with_pattern, may_stand}
-use Rattle.cat_parse_expr.specs.Measures.{leaf}
+use Rattle.std.proofs.Common.{not, nat_eq, ◌&&◌}
+use Rattle.cat_parse_expr.specs.Followers.{is_asked, is_below}
 use Rattle.cat_parse_expr.specs.Openings.{follow_of}
 use Rattle.cat_parse_expr.specs.Parts.{has_field, next_field, field_value}
 use Rattle.cat_parse_expr.specs.Reader.{behind_whole}
-use Rattle.cat_parse_expr.proofs.Bracketed.{part_shrinks, hidden_left}
-use Rattle.cat_parse_expr.proofs.Chosen.{choice_read}
-use Rattle.cat_parse_expr.proofs.Follows.{argument_ends, IsOwn}
-use Rattle.cat_parse_expr.proofs.Operands.{ending_next, goes_then}
-use Rattle.cat_parse_expr.proofs.Positive.{ends_in_word, nine_strength}
-use Rattle.cat_parse_expr.proofs.Shaping.{made_read, look_read}
+use Rattle.cat_parse_expr.proofs.Operands.{part_shrinks}
 use Rattle.cat_parse_expr.proofs.Turnings.{own_heads}
-use Rattle.cat_tree.specs.declared.expression.Arm.{Arm}
-use Rattle.cat_tree.specs.Rows.{arms, pattern_parts}
+use Rattle.cat_tree.specs.Rows.{pattern_parts}
 use Rattle.cat_parse_expr.specs.declared.measured.MatchArms.{MatchArms}
 use Rattle.cat_parse_expr.specs.Measures.{with_arm, no_arms}
 use Rattle.cat_parse_expr.specs.Parts.{is_lower}
-use Rattle.cat_parse_expr.specs.Cues as cues
-use Rattle.cat_parse_expr.specs.Cues.{lower_of}
-use Rattle.cat_parse_expr.proofs.Leaves.{cue_found, cue_self}
-use Rattle.cat_parse_expr.proofs.Shaping.{unlook_read}
+use Rattle.cat_parse_expr.proofs.Leaves.{cue_self}
 use Rattle.cat_tree.specs.declared.expression.Pattern.{Pattern}
 use Rattle.cat_tree.specs.declared.expression.Pattern.TheVariants as pattern
 use Rattle.cat_tree.specs.declared.name.CaseName.TheVariants.{Bare, Qualified}
 use Rattle.cat_parse_expr.specs.Right.{Agree, AgreePast}
-use Rattle.cat_tree.specs.Phrase.{Inner, Stand, Stands, Terminal, IsSpelling}
-use Rattle.cat_tree.specs.Wording.{match_of}
-use Rattle.cat_parse_expr.specs.Parts.{a_pattern, arm_head, next_arm, further_arm, has_arm, has_arm_behind, ends_arms, matched_value}
-use Rattle.cat_parse_expr.specs.Reader.{heads_second, fallen}
-use Rattle.cat_parse_expr.proofs.Chosen.{same_read, fallen_mapped}
+use Rattle.cat_parse_expr.specs.Parts.{a_pattern, arm_head, next_arm, further_arm, has_arm, has_arm_behind}
+use Rattle.cat_parse_expr.specs.Parts.{ends_arms, matched_value}
+use Rattle.cat_parse_expr.specs.Reader.{fallen}
+use Rattle.cat_parse_expr.proofs.Chosen.{same_read}
 use Rattle.cat_parse_expr.proofs.Patterns.{pattern_row, pattern_behind, pattern_read, pattern_shut}
-
--- ---- lists of arms
-
-abbrev pub Armed : Type 0
-Armed = Pattern × Measured
-
-abbrev pub arms_of : List Armed → List Arm
-arms_of [] = []
-arms_of (x ∷ xs) = record { pattern = x.0; body = x.1.node } ∷ arms_of xs
-
-abbrev pub arm_rows : List Armed → List (Pattern × Phrase)
-arm_rows [] = []
-arm_rows (x ∷ xs) = (x.0, phrase x.1.node) ∷ arm_rows xs
-
-abbrev pub highest_of : List Armed → ℕ
-highest_of [] = 0
-highest_of (x ∷ xs) = max x.1.height (highest_of xs)
-
-abbrev pub armed_of : List Arm → List Armed
-armed_of [] = []
-armed_of (a ∷ more) = (a.pattern, measured_of a.body) ∷ armed_of more
-
-pub arms_back : (xs : List Arm) → arms_of (armed_of xs) ≡ xs
-arms_back [] = refl
-arms_back (a ∷ more) = ap (λ (z : List Arm). a ∷ z) (arms_back more)
-
-pub rows_are : (xs : List Armed) → map arm_row (arms_of xs) ≡ arm_rows xs
-rows_are [] = refl
-rows_are (x ∷ xs) = ap (λ (z : List (Pattern × Phrase)). (x.0, phrase x.1.node) ∷ z) (rows_are xs)
-
-abbrev pub arms_from : MatchArms → List Armed → MatchArms
-arms_from l [] = l
-arms_from l (x ∷ xs) = arms_from (with_arm l x.0 x.1) xs
-
-pub arms_are : (l : MatchArms) (xs : List Armed) → (arms_from l xs).arms ≡ l.arms ++ arms_of xs
-arms_are l [] = sym (append-nil l.arms)
-arms_are l (x ∷ xs) =
-    arms_are (with_arm l x.0 x.1) xs
-    ∙ append_assoc l.arms (record { pattern = x.0; body = x.1.node } ∷ []) (arms_of xs)
-
-pub highest_is : (l : MatchArms) (xs : List Armed) → (arms_from l xs).tallest ≡ max l.tallest (highest_of xs)
-highest_is l [] = omega arith
-highest_is l (x ∷ xs) = omega (arith, highest_is (with_arm l x.0 x.1) xs)
-
--- one arm
-abbrev pub arm_parts : Armed → Parts
-arm_parts x = sign symbol.MinusMinus ▹ pattern_parts x.0 (sign symbol.Colon ▹ part 0 (phrase x.1.node) ▹ End)
+use Rattle.cat_parse_expr.proofs.Armed.{Armed, arms_from}
+use Rattle.cat_parse_expr.proofs.Armed.{arm_parts, AreArmed, armed_first}
+use Rattle.cat_parse_expr.proofs.Armed.{arms_row_of, to_arms_spelled, from_arms_spelled}
+use Rattle.cat_parse_expr.proofs.Armed.{to_arms_levels, from_arms_levels}
+use Rattle.cat_parse_expr.proofs.Truth.{first_true, fourth_true, second_false, second_true}
+use Rattle.cat_parse_expr.proofs.Armed.{head_regrouped}
 
 -- ---- where an arm may begin
 
 -- an arm that isn't the field of an outer form
 abbrev pub ArmAt : Behind → List Token → Type 0
 ArmAt b v = (heads (is_sign symbol.MinusMinus) v && not (ends_arms b v)) ≡ true
-
-fourth_true : (a b c d e : Bool) → d ≡ true → (not a || (b || (c || (d || e)))) ≡ true
-fourth_true false b c d e h = refl
-fourth_true true true c d e h = refl
-fourth_true true false true d e h = refl
-fourth_true true false false true e h = refl
-fourth_true true false false false e h = absurd cc
-
-pub first_true : (a b : Bool) → (a && b) ≡ true → a ≡ true
-first_true true b h = refl
-first_true false b h = absurd cc
 
 -- a further arm may follow a body that doesn't end in a match
 pub arm_follows : (b : Behind) (x : Measured) (v : List Token) → x.in_match ≡ false
@@ -182,19 +81,6 @@ arm_follows b x (p ∷ ts) i h =
     (not x.in_match && is_sign symbol.MinusMinus p.kind)
     (not (nat_eq x.strength 0) && is_below 0 (follow_of p.kind))
     (ap (λ (z : Bool). not z && is_sign symbol.MinusMinus p.kind) i ∙ h)
-
-head_regrouped : {A B C D : Type 0} (o : Parsed A) (second : Reader B) (third : Reader C) (g : B → Reader D)
-    → after (after o (λ p. second ⨟ λ a. third ⨟ λ q. pure a)) g ≡ after o (λ p. second ⨟ λ a. third ⨟ λ q. g a)
-head_regrouped (Fails left deep whole) second third g = refl
-head_regrouped {B = B} {C = C} {D = D} (Reads p left) second third g = by (second left)
-  where
-    inner : (a : B) (o : Parsed C) → after {B = D} (after {B = B} o (λ q. pure a)) g ≡ after o (λ q. g a)
-    inner a (Fails l d f) = refl
-    inner a (Reads q l) = refl
-
-    by : (o : Parsed B) → after {B = D} (after {B = B} o (λ a. third ⨟ λ q. pure a)) g ≡ after o (λ a. third ⨟ λ q. g a)
-    by (Fails l d f) = refl
-    by (Reads a l) = inner a (third l)
 
 -- a pattern begins with no name
 pattern_begins : (a : Pattern) (rest : Parts) (w v : List Token) → AreSpelled (pattern_parts a rest) w
@@ -248,120 +134,9 @@ arm_seen Field (p ∷ ps) (q ∷ qs) g =
     by false e =
         ap (λ (z : Bool). z && not (heads is_lower ps)) e ∙ ap (λ (z : Bool). z && not (heads is_lower qs)) (sym e)
 
-second_of : (a c : Bool) → (a && c) ≡ true → c ≡ true
-second_of true c h = h
-second_of false c h = absurd cc
-
 not_first : (a c : Bool) → (not a && c) ≡ true → a ≡ false
 not_first true c h = absurd cc
 not_first false c h = refl
-
-both_second : (a c : Bool) → c ≡ false → (a && c) ≡ false
-both_second true c h = h
-both_second false c h = refl
-
--- ---- one row of them all
-
--- arms, of which none but the last ends in a match
-abbrev pub AreArmed : Armed → List Armed → Type 0
-AreArmed x [] = IsMeasured x.1
-AreArmed x (y ∷ ys) = IsMeasured x.1 × (x.1.in_match ≡ false) × AreArmed y ys
-
-pub armed_first : (x : Armed) (xs : List Armed) → AreArmed x xs → IsMeasured x.1
-armed_first x [] m = m
-armed_first x (y ∷ ys) m = m.0
-
-abbrev arm_stand : Stand → Armed → Parts → Parts
-arm_stand st x rest =
-    sign symbol.MinusMinus ▹ pattern_parts x.0 (sign symbol.Colon ▹ Part st (phrase x.1.node) rest)
-
-pattern_push : (a : Pattern) (ps rest : Parts) → pattern_parts a ps ▸ rest ≡ pattern_parts a (ps ▸ rest)
-pattern_push pattern.Anything ps rest = refl
-pattern_push (pattern.Case (Bare u) None) ps rest = refl
-pattern_push (pattern.Case (Qualified d u) None) ps rest = refl
-pattern_push (pattern.Case (Bare u) (Some w)) ps rest = refl
-pattern_push (pattern.Case (Qualified d u) (Some w)) ps rest = refl
-
-pattern_levels : (a : Pattern) (ps : Parts) → AreLevelled (pattern_parts a ps) ≡ AreLevelled ps
-pattern_levels pattern.Anything ps = refl
-pattern_levels (pattern.Case (Bare u) None) ps = refl
-pattern_levels (pattern.Case (Qualified d u) None) ps = refl
-pattern_levels (pattern.Case (Bare u) (Some w)) ps = refl
-pattern_levels (pattern.Case (Qualified d u) (Some w)) ps = refl
-
-record Respells (ps qs : Parts) : Type 0 where
-  pub to : (w : List Token) → AreSpelled ps w → AreSpelled qs w
-
-word_respelled : {m : Terminal} {ps qs : Parts} → Respells ps qs → Respells (Word m ps) (Word m qs)
-word_respelled f = record { to = λ w s. (s.0, s.1, s.2, s.3, f.to s.1 s.4) }
-
-pattern_respelled : (a : Pattern) (ps qs : Parts) → Respells ps qs → Respells (pattern_parts a ps) (pattern_parts a qs)
-pattern_respelled pattern.Anything ps qs f = word_respelled f
-pattern_respelled (pattern.Case (Bare u) None) ps qs f = word_respelled f
-pattern_respelled (pattern.Case (Qualified d u) None) ps qs f = word_respelled (word_respelled (word_respelled f))
-pattern_respelled (pattern.Case (Bare u) (Some w)) ps qs f = word_respelled (word_respelled (word_respelled f))
-pattern_respelled (pattern.Case (Qualified d u) (Some w)) ps qs f =
-    word_respelled (word_respelled (word_respelled (word_respelled (word_respelled f))))
-
-restood : (st st2 : Stand) (x : Armed) (rest rest2 : Parts) → Respells rest rest2
-    → Respells (arm_stand st x rest) (arm_stand st2 x rest2)
-restood st st2 x rest rest2 f =
-    word_respelled (pattern_respelled x.0 (sign symbol.Colon ▹ Part st (phrase x.1.node) rest)
-    (sign symbol.Colon ▹ Part st2 (phrase x.1.node) rest2)
-    (word_respelled (record { to = λ w s. (s.0, s.1, s.2, s.3, f.to s.1 s.4) })))
-
-stand_levels : (st : Stand) (x : Armed) (rest : Parts) → AreLevelled (arm_stand st x rest)
-    ≡ (Stands st (phrase x.1.node) × IsLevelled (phrase x.1.node) × AreLevelled rest)
-stand_levels st x rest = pattern_levels x.0 (sign symbol.Colon ▹ Part st (phrase x.1.node) rest)
-
-abbrev pub chain_row_of : Armed → List Armed → Parts
-chain_row_of x xs = arm_parts x ▸ all arm_parts xs
-
-abbrev pub arms_row_of : Armed → List Armed → Parts
-arms_row_of x xs = arms (arm_rows (x ∷ xs))
-
-chain_stand : (x : Armed) (xs : List Armed) → chain_row_of x xs ≡ arm_stand (Operand 0) x (all arm_parts xs)
-chain_stand x xs =
-    ap (λ (ps : Parts). sign symbol.MinusMinus ps)
-    (pattern_push x.0 (sign symbol.Colon ▹ part 0 (phrase x.1.node) ▹ End) (all arm_parts xs))
-
-to_arms_spelled : (x : Armed) (xs : List Armed) → Respells (chain_row_of x xs) (arms_row_of x xs)
-to_arms_spelled x [] = record { to = λ w s. subst (λ (ps : Parts). AreSpelled ps w) (chain_stand x []) s }
-to_arms_spelled x (y ∷ ys) =
-    let f = restood (Operand 0) Inner x (chain_row_of y ys) (arms_row_of y ys) (to_arms_spelled y ys) in
-    record { to = λ w s. f.to w (subst (λ (ps : Parts). AreSpelled ps w) (chain_stand x (y ∷ ys)) s) }
-
-from_arms_spelled : (x : Armed) (xs : List Armed) → Respells (arms_row_of x xs) (chain_row_of x xs)
-from_arms_spelled x [] = record { to = λ w s. subst (λ (ps : Parts). AreSpelled ps w) (sym (chain_stand x [])) s }
-from_arms_spelled x (y ∷ ys) =
-    let f = restood Inner (Operand 0) x (arms_row_of y ys) (chain_row_of y ys) (from_arms_spelled y ys) in
-    record { to = λ w s. subst (λ (ps : Parts). AreSpelled ps w) (sym (chain_stand x (y ∷ ys))) (f.to w s) }
-
-cast_type : {A B : Type 0} → A ≡ B → A → B
-cast_type e a = subst (λ (X : Type 0). X) e a
-
-to_arms_levels : (x : Armed) (xs : List Armed) → AreArmed x xs → AreLevelled (chain_row_of x xs)
-    → AreLevelled (arms_row_of x xs)
-to_arms_levels x [] m l = subst AreLevelled (chain_stand x []) l
-to_arms_levels x (y ∷ ys) m l =
-    let s = cast_type (stand_levels (Operand 0) x (chain_row_of y ys)) (subst AreLevelled (chain_stand x (y ∷ ys)) l) in
-    cast_type (sym (stand_levels Inner x (arms_row_of y ys)))
-    (sym (match_is x.1 m.0) ∙ m.1, s.1, to_arms_levels y ys m.2 s.2)
-
-from_arms_levels : (x : Armed) (xs : List Armed) → AreLevelled (arms_row_of x xs) → AreLevelled (chain_row_of x xs)
-from_arms_levels x [] l = subst AreLevelled (sym (chain_stand x [])) l
-from_arms_levels x (y ∷ ys) l =
-    let s = cast_type (stand_levels Inner x (arms_row_of y ys)) l in
-    subst AreLevelled (sym (chain_stand x (y ∷ ys)))
-    (cast_type (sym (stand_levels (Operand 0) x (chain_row_of y ys))) (omega arith, s.1, from_arms_levels y ys s.2))
-
--- arms that stand where they may are such
-pub levelled_armed : (a : Arm) (more : List Arm) → AreLevelled (arms (map arm_row (a ∷ more)))
-    → AreArmed (a.pattern, measured_of a.body) (armed_of more)
-levelled_armed a [] l = refl
-levelled_armed a (c ∷ more) l =
-    let s = cast_type (pattern_levels a.pattern (sign symbol.Colon ▹ Part Inner (phrase a.body) (arms (map arm_row (c ∷ more))))) l in
-    (refl, s.0, levelled_armed c more s.2)
 
 module _ (ex : Lower) (room : ℕ) (right : AreRight room ex)
     (kept : (b : Behind) (j bound : ℕ) → j ≤ 9 → KeepsWhole (IsLow room) bound IsMeasured (operand_row j) (ex b j))
@@ -398,7 +173,8 @@ module _ (ex : Lower) (room : ℕ) (right : AreRight room ex)
   next_follows s x v (inr o) = arm_follows b x.1 v o.0 (first_true _ _ o.1)
 
   turn_read : {K F : Type 0} (s : MatchArms) → (F → s.in_match ≡ false)
-      → IsRead (put s) K F (Low s) (λ x. Low (put s x)) (λ x v. Out (put s x) v ⊎ More (put s x) v) (looks_of b) (Fits s)
+      → IsRead (put s) K F (Low s) (λ x. Low (put s x)) (λ x v. Out (put s x) v ⊎ More (put s x) v) (looks_of b)
+      (Fits s)
       arm_parts (whole_arm s)
   turn_read s none =
       word_read (cue.Sign symbol.MinusMinus) _ _
@@ -463,21 +239,22 @@ module _ (ex : Lower) (room : ℕ) (right : AreRight room ex)
       by Other = refl
       by Tested = refl
       by Field =
-          ap (λ (z : Bool). not s.in_match && (is_sign symbol.MinusMinus p.kind && not z)) (heads_agree is_lower ps qs g)
+          ap (λ (z : Bool). not s.in_match && (is_sign symbol.MinusMinus p.kind && not z))
+          (heads_agree is_lower ps qs g)
 
   none_left : (s : MatchArms) → has_arm b s [] ≡ false
-  none_left s = both_second (not s.in_match) _ refl
+  none_left s = second_false (not s.in_match) _ refl
 
   worded : turnings.Worded {K = Unit {0}} (has_arm b) put Good Low Out More (looks_of b) Fits arm_parts
       (cue.Sign symbol.MinusMinus) rest read_turn
   worded = record {
-    starts = λ s ts h. first_true _ _ (second_of (not s.in_match) _ h);
+    starts = λ s ts h. first_true _ _ (second_true (not s.in_match) _ h);
     shrinks = rest_shrinks;
     begins =
         λ s x w v f sp. (f.0, arm_at b x.0 (sign symbol.Colon ▹ part 0 (phrase x.1.node) ▹ End) w v sp);
     leads =
         λ s v h. ap (λ (z : Bool). not z && (heads (is_sign symbol.MinusMinus) v && not (ends_arms b v))) h.0 ∙ h.1;
-    stops = λ s v o. both_second (not s.in_match) _ o.1;
+    stops = λ s v o. second_false (not s.in_match) _ o.1;
     ends = none_left;
     sees = sees;
     sees_past = λ s ls others g. ap (λ (z : Bool). not s.in_match && z) (arm_seen b ls others g);
@@ -527,19 +304,31 @@ module _ (ex : Lower) (room : ℕ) (right : AreRight room ex)
       }) (turn_read {F = Unit {0}} no_arms (λ f. refl)))
 
   -- the arms of a match, with all words of theirs
-  chain_read : {K : Type 0} → IsRead (chaining.chain_of (has_arm b) one put Good Low Out More (looks_of b) Fits arm_parts turning (further_arm ex b) same (put no_arms) (λ x. Low (put no_arms x)) (Fits no_arms) arm_parts (λ z. z)) K (Unit {0}) (Unit {0})
-      (chaining.Low_chain (has_arm b) one put Good Low Out More (looks_of b) Fits arm_parts turning (further_arm ex b) same (put no_arms) (λ x. Low (put no_arms x)) (Fits no_arms) arm_parts (λ z. z)) (chaining.Out_chain (has_arm b) one put Good Low Out More (looks_of b) Fits arm_parts turning (further_arm ex b) same (put no_arms) (λ x. Low (put no_arms x)) (Fits no_arms) arm_parts (λ z. z)) (looks_of b) (chaining.fits_chain (has_arm b) one put Good Low Out More (looks_of b) Fits arm_parts turning (further_arm ex b) same (put no_arms) (λ x. Low (put no_arms x)) (Fits no_arms) arm_parts (λ z. z)) (chaining.row_chain (has_arm b) one put Good Low Out More (looks_of b) Fits arm_parts turning (further_arm ex b) same (put no_arms) (λ x. Low (put no_arms x)) (Fits no_arms) arm_parts (λ z. z))
+  chain_read : {K : Type 0} → IsRead (chaining.chain_of (has_arm b) one put Good Low Out More
+      (looks_of b) Fits arm_parts turning (further_arm ex b) same (put no_arms) (λ x. Low (put no_arms x))
+      (Fits no_arms) arm_parts (λ z. z)) K (Unit {0}) (Unit {0})
+      (chaining.Low_chain (has_arm b) one put Good Low Out More (looks_of b) Fits arm_parts turning
+      (further_arm ex b) same (put no_arms) (λ x. Low (put no_arms x)) (Fits no_arms) arm_parts (λ z. z))
+      (chaining.Out_chain (has_arm b) one put Good Low Out More (looks_of b) Fits arm_parts turning
+      (further_arm ex b) same (put no_arms) (λ x. Low (put no_arms x)) (Fits no_arms) arm_parts (λ z. z)) (looks_of b)
+      (chaining.fits_chain (has_arm b) one put Good Low Out More (looks_of b) Fits arm_parts turning
+      (further_arm ex b) same (put no_arms) (λ x. Low (put no_arms x)) (Fits no_arms) arm_parts (λ z. z))
+      (chaining.row_chain (has_arm b) one put Good Low Out More (looks_of b) Fits arm_parts turning
+      (further_arm ex b) same (put no_arms) (λ x. Low (put no_arms x)) (Fits no_arms) arm_parts (λ z. z))
       (parts.arms ex b)
   chain_read =
-      chaining.chain_read (has_arm b) one put Good Low Out More (looks_of b) Fits arm_parts turning (further_arm ex b) same (put no_arms) (λ x. Low (put no_arms x)) (Fits no_arms) arm_parts (λ z. z)
+      chaining.chain_read (has_arm b) one put Good Low Out More (looks_of b) Fits arm_parts turning
+      (further_arm ex b) same (put no_arms) (λ x. Low (put no_arms x)) (Fits no_arms) arm_parts (λ z. z)
       (record {
         good = λ a f. tt;
         low = λ a f low. low;
         back = λ a f low. low;
       })
       (next_arm ex b no_arms) first_read
-      (λ k. looping.loop_keeps (has_arm b) one put Good Low Out More (looks_of b) Fits arm_parts turning (λ s. (read_turn s).reader) (λ s ts. refl) inner_kept)
-      (λ k. looping.loop_far (has_arm b) one put Good Low Out More (looks_of b) Fits arm_parts turning (λ s. (read_turn s).reader) (λ s ts. refl) inner_kept)
+      (λ k. looping.loop_keeps (has_arm b) one put Good Low Out More (looks_of b) Fits arm_parts turning
+      (λ s. (read_turn s).reader) (λ s ts. refl) inner_kept)
+      (λ k. looping.loop_far (has_arm b) one put Good Low Out More (looks_of b) Fits arm_parts turning
+      (λ s. (read_turn s).reader) (λ s ts. refl) inner_kept)
 
   from_armed : (s : MatchArms) (x : Armed) (xs : List Armed) → AreArmed x xs
       → looping.FitsFrom (has_arm b) one put Good Low Out More (looks_of b) Fits arm_parts turning (put s x) xs
@@ -547,7 +336,8 @@ module _ (ex : Lower) (room : ℕ) (right : AreRight room ex)
   from_armed s x (y ∷ ys) m = ((m.1, armed_first y ys m.2), from_armed (put s x) y ys m.2)
 
   to_armed : (s : MatchArms) (x : Armed) (xs : List Armed) → IsMeasured x.1
-      → looping.FitsFrom (has_arm b) one put Good Low Out More (looks_of b) Fits arm_parts turning (put s x) xs → AreArmed x xs
+      → looping.FitsFrom (has_arm b) one put Good Low Out More (looks_of b) Fits arm_parts turning (put s x) xs
+      → AreArmed x xs
   to_armed s x [] m f = m
   to_armed s x (y ∷ ys) m f = (m, f.0.0, to_armed (put s x) y ys f.0.1 f.1)
 
@@ -557,8 +347,16 @@ module _ (ex : Lower) (room : ℕ) (right : AreRight room ex)
   abbrev pub made : Arms → MatchArms
   made c = arms_from no_arms (c.0 ∷ c.1)
 
-  arms_cast : Recast (chaining.Low_chain (has_arm b) one put Good Low Out More (looks_of b) Fits arm_parts turning (further_arm ex b) same (put no_arms) (λ x. Low (put no_arms x)) (Fits no_arms) arm_parts (λ z. z)) (λ c. (made c).tallest ≤ room) (chaining.Out_chain (has_arm b) one put Good Low Out More (looks_of b) Fits arm_parts turning (further_arm ex b) same (put no_arms) (λ x. Low (put no_arms x)) (Fits no_arms) arm_parts (λ z. z))
-      (λ c v. Out no_arms v) (chaining.fits_chain (has_arm b) one put Good Low Out More (looks_of b) Fits arm_parts turning (further_arm ex b) same (put no_arms) (λ x. Low (put no_arms x)) (Fits no_arms) arm_parts (λ z. z)) (λ c. AreArmed c.0 c.1) (chaining.row_chain (has_arm b) one put Good Low Out More (looks_of b) Fits arm_parts turning (further_arm ex b) same (put no_arms) (λ x. Low (put no_arms x)) (Fits no_arms) arm_parts (λ z. z))
+  arms_cast : Recast (chaining.Low_chain (has_arm b) one put Good Low Out More (looks_of b) Fits arm_parts turning
+      (further_arm ex b) same (put no_arms) (λ x. Low (put no_arms x)) (Fits no_arms) arm_parts (λ z. z))
+      (λ c. (made c).tallest ≤ room) (chaining.Out_chain (has_arm b) one put Good Low Out More
+      (looks_of b) Fits arm_parts turning (further_arm ex b) same (put no_arms) (λ x. Low (put no_arms x))
+      (Fits no_arms) arm_parts (λ z. z))
+      (λ c v. Out no_arms v) (chaining.fits_chain (has_arm b) one put Good Low Out More
+      (looks_of b) Fits arm_parts turning (further_arm ex b) same (put no_arms) (λ x. Low (put no_arms x))
+      (Fits no_arms) arm_parts (λ z. z)) (λ c. AreArmed c.0 c.1)
+      (chaining.row_chain (has_arm b) one put Good Low Out More (looks_of b) Fits arm_parts turning
+      (further_arm ex b) same (put no_arms) (λ x. Low (put no_arms x)) (Fits no_arms) arm_parts (λ z. z))
       (λ c. arms_row_of c.0 c.1) (λ c. c)
   arms_cast = record {
     to =

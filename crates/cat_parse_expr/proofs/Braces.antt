@@ -1,111 +1,62 @@
 -- Literals of structures, and scope calls.
-use Rattle.std.proofs.Common.{◌≡◌, ℕ, zero, suc, ◌≤◌, max, Bool, true, false, List, [], ◌∷◌, ◌++◌, Option, None, Some, refl, sym, ap}
-use Rattle.std.proofs.Common.{subst, ◌∙◌, arith, inl, inr, ◌⊎◌}
+use Rattle.std.proofs.Common.{◌≡◌, ℕ, suc, ◌≤◌, Bool, false, List, ◌∷◌, refl, sym, ap}
+use Rattle.std.proofs.Common.{◌∙◌, arith}
 use Rattle.cat_pos.specs.declared.pos.Pos.{Pos}
 use Rattle.cat_lex.specs.declared.token.Token.{Token}
-use Rattle.cat_lex.specs.declared.token.TokenKind.{TokenKind}
 use Rattle.cat_lex.specs.declared.token.TokenKind.TheVariants as kind
-use Rattle.cat_lex.specs.declared.words.Keyword.{Keyword}
 use Rattle.cat_lex.specs.declared.words.Keyword.TheVariants as key
 use Rattle.cat_lex.specs.declared.words.DoubleKeyword.TheVariants as pair
 use Rattle.cat_lex.specs.declared.symbol.Symbol.TheVariants as symbol
-use Rattle.cat_tree.specs.Accumulation.{accumulation}
 use Rattle.cat_tree.specs.declared.name.Name.{Name}
-use Rattle.cat_tree.specs.declared.name.Type as types
-use Rattle.cat_tree.specs.declared.expression.Each.{Each}
-use Rattle.cat_tree.specs.declared.expression.Each.TheVariants as each
-use Rattle.cat_tree.specs.declared.expression.Node.{Node}
 use Rattle.cat_tree.specs.declared.expression.Node.TheViews as node
-use Rattle.cat_tree.specs.Literals.{type_parts}
-use Rattle.cat_tree.specs.Phrase.{Phrase, Row, Rank, Parts, End, Word, Part, At, Anywhere, Operand, height}
-use Rattle.cat_tree.specs.Rows.{each_parts}
+use Rattle.cat_tree.specs.Phrase.{Phrase, Row, Parts, End, Anywhere}
 use Rattle.cat_tree.specs.Wording as wording
 use Rattle.cat_tree.specs.Wording.{◌▹◌, symbol_at, key_at, pair_at, first, then_, lower, sign, part, of_level, words}
 use Rattle.cat_tree.specs.Grammar.{phrase}
-use Rattle.cat_tree.proofs.Exported.{phrase_ScopeCall, phrase_Structure}
+use Rattle.cat_tree.proofs.Exported.{phrase_ScopeCall}
 use Rattle.cat_parse_expr.specs.declared.behind.Behind.{Behind}
-use Rattle.cat_parse_expr.specs.declared.behind.Behind.TheVariants.{Other, Field, Pattern as Tested}
-use Rattle.cat_parse_expr.specs.declared.cue.Cue.{Cue}
 use Rattle.cat_parse_expr.specs.declared.cue.Cue.TheVariants as cue
 use Rattle.cat_parse_expr.specs.declared.measured.Measured.{Measured}
 use Rattle.cat_parse_expr.specs.declared.opening.Opening.TheVariants as opening
 use Rattle.cat_parse_expr.specs.Cues.{kind_of}
-use Rattle.cat_parse_expr.specs.Measures.{closed, ending, form}
-use Rattle.cat_parse_expr.specs.Reader.{Reader, hidden, ◌⨟◌, pure, Reads}
+use Rattle.cat_parse_expr.specs.Measures.{closed}
+use Rattle.cat_parse_expr.specs.Reader.{Reader, ◌⨟◌, pure, Reads}
 use Rattle.cat_parse_expr.specs.Parts.{Lower, key_word, pair_word}
 use Rattle.cat_parse_expr.specs.Forms as forms
-use Rattle.cat_parse_expr.specs.Followers.{MayFollow, looks_of, is_taken}
-use Rattle.cat_parse_expr.specs.Longest.{KeepsWhole}
-use Rattle.cat_parse_expr.specs.Rightly.{measured_of, IsMeasured, IsLow, operand_row, AreRight}
-use Rattle.cat_parse_expr.proofs.Firsts.{Shape, class_ScopeCall, class_Structure}
-use Rattle.cat_parse_expr.proofs.Follows.{word_follows, tall_enough}
-use Rattle.cat_parse_expr.proofs.Positive.{positive}
-use Rattle.cat_parse_expr.proofs.Operands.{Next, form_next, OfClass, Form, form_read, measured_by, height_is, match_is}
-use Rattle.cat_parse_expr.proofs.Operands.{strength_by, inner_read, end_read}
+use Rattle.cat_parse_expr.specs.Followers.{looks_of}
+use Rattle.cat_parse_expr.specs.Rightly.{IsMeasured, IsLow, operand_row, AreRight}
+use Rattle.cat_parse_expr.proofs.Firsts.{class_ScopeCall}
+use Rattle.cat_parse_expr.proofs.Operands.{Next, OfClass, Form, form_read, measured_by}
 use Rattle.cat_parse_expr.proofs.Read.{IsRead, pure_read}
-use Rattle.cat_parse_expr.proofs.Worded.{word_read, word_at_read, lower_read, opened_at_read}
-use Rattle.cat_parse_expr.proofs.Sequels.{part_read, last_read, hidden_shut, past_none, IsShut, shut_after, one_shut, shut_turns, no_longer}
-use Rattle.cat_parse_expr.proofs.Tuples.{both, two}
-use Rattle.std.proofs.Common.{map, length, if◌then◌else◌}
+use Rattle.cat_parse_expr.proofs.Worded.{word_read, word_at_read, lower_read}
+use Rattle.cat_parse_expr.proofs.Shut.{IsShut, shut_after, one_shut}
+use Rattle.cat_parse_expr.proofs.Sequels.{part_read, last_read, past_none}
+use Rattle.cat_parse_expr.proofs.Tuples.{both}
+use Rattle.std.proofs.Common.{map, if◌then◌else◌}
 use Rattle.cat_tree.specs.Joined.{◌▸◌, all}
-use Rattle.cat_tree.specs.Rows.{elements}
-use Rattle.std.proofs.Common.{append_assoc}
-use Rattle.cat_tree.specs.Phrase.{AreLevelled, AreSpelled, tallest}
-use Rattle.cat_parse_expr.proofs.Loops as loops
-use Rattle.cat_parse_expr.specs.declared.measured.Elements.{Elements}
-use Rattle.cat_parse_expr.specs.Measures.{with_element, no_elements}
 use Rattle.cat_parse_expr.specs.Parts as parts
 use Rattle.cat_parse_expr.specs.Parts.{has_element, next_element, as_many, is_sign, inner, sign as a_sign}
-use Rattle.cat_parse_expr.specs.Reader.{Parsed, Fails, after, left_of, heads, hidden_in, by_word}
+use Rattle.cat_parse_expr.specs.Reader.{Parsed, Fails, after}
 use Rattle.cat_parse_expr.specs.Cues.{cue_is, word_of, «word»}
-use Rattle.cat_parse_expr.specs.Right.{Is}
-use Rattle.cat_parse_expr.proofs.Chaining as chaining
-use Rattle.cat_parse_expr.proofs.Choices.{Decides, Recast}
-use Rattle.cat_parse_expr.proofs.Chosen.{inner_choice_read}
-use Rattle.cat_parse_expr.proofs.Lists as lists
-use Rattle.cat_parse_expr.proofs.Looping as looping
-use Rattle.cat_parse_expr.proofs.Nodes.{nodes_of, phrases_of, tallest_of, AreMeasured, measures_of, measures_are, nodes_back}
-use Rattle.cat_parse_expr.proofs.Nodes.{elements_from, nodes_are, tallest_is, row_behind, chain_elements, elements_behind}
-use Rattle.cat_parse_expr.proofs.Nodes.{elements_height, elements_last, behind_end}
-use Rattle.cat_parse_expr.proofs.Shaping.{narrow_read, recast_read, reshape_read}
-use Rattle.cat_parse_expr.proofs.Turnings.{heads_begin, heads_other, heads_follow, heads_seen, shrinks_after, shrinks_one, takes_one}
-use Rattle.cat_parse_expr.proofs.Turnings as turnings
-use Rattle.std.proofs.Common.{append-nil, ◌<◌, not, nat_eq, nat_le, nat_lt, ◌&&◌, ◌||◌, cond}
-use Rattle.std.proofs.lemmas.Bool.Decides.{nat_tests}
-use Rattle.cat_tree.specs.Phrase.{right_strength, left_strength, ends_in_form, ends_in_match, last_in_form, last_in_match}
-use Rattle.cat_tree.specs.Phrase.{IsLevelled}
+use Rattle.cat_parse_expr.proofs.Shaping.{reshape_read}
+use Rattle.cat_parse_expr.proofs.Turnings.{heads_begin}
 use Rattle.cat_tree.specs.Wording.{if_some}
-use Rattle.cat_tree.specs.declared.expression.Node.TheVariants as leaves
-use Rattle.cat_parse_expr.specs.declared.follow.Follow.TheVariants as follow
-use Rattle.cat_parse_expr.specs.Followers.{is_asked, is_below, is_with_pattern, may_stand}
-use Rattle.cat_parse_expr.specs.Measures.{leaf}
-use Rattle.cat_parse_expr.specs.Openings.{follow_of}
 use Rattle.cat_parse_expr.specs.Parts.{has_field, next_field, field_value}
-use Rattle.cat_parse_expr.specs.Reader.{behind_whole}
-use Rattle.cat_parse_expr.proofs.Bracketed.{part_shrinks, hidden_left}
-use Rattle.cat_parse_expr.proofs.Chosen.{choice_read}
-use Rattle.cat_parse_expr.proofs.Follows.{argument_ends, IsOwn}
-use Rattle.cat_parse_expr.proofs.Operands.{ending_next, goes_then}
-use Rattle.cat_parse_expr.proofs.Positive.{ends_in_word, nine_strength}
-use Rattle.cat_parse_expr.proofs.Shaping.{made_read, look_read}
-use Rattle.cat_parse_expr.proofs.Turnings.{own_heads}
+use Rattle.cat_parse_expr.proofs.Shaping.{look_read}
 use Rattle.cat_tree.specs.declared.expression.FieldValue.{FieldValue}
 use Rattle.cat_tree.specs.Rows.{fields}
 use Rattle.cat_tree.proofs.Exported.{field_row}
 use Rattle.cat_parse_expr.specs.declared.measured.Fields.{Fields}
-use Rattle.cat_parse_expr.specs.Measures.{with_field, no_fields}
+use Rattle.cat_parse_expr.specs.Measures.{no_fields}
 use Rattle.cat_parse_expr.specs.Parts.{is_lower}
 use Rattle.cat_parse_expr.specs.Cues as cues
 use Rattle.cat_parse_expr.specs.Cues.{lower_of, upper_of}
-use Rattle.cat_parse_expr.proofs.Leaves.{cue_found, cue_self}
-use Rattle.cat_parse_expr.proofs.Shaping.{unlook_read}
 use Rattle.cat_tree.specs.Wording.{upper}
 use Rattle.cat_parse_expr.proofs.Chosen.{same_read}
-use Rattle.cat_parse_expr.proofs.Operands.{whole_same}
 use Rattle.cat_parse_expr.proofs.Positive.{fields_form, fields_match}
 use Rattle.cat_parse_expr.proofs.Tuples.{three}
 use Rattle.cat_parse_expr.proofs.Worded.{upper_read}
-use Rattle.cat_parse_expr.proofs.Valued.{Valued, values_of, field_rows, highest_of, AreValued, valued_of, valued_are}
+use Rattle.cat_parse_expr.proofs.Valued.{Valued, field_rows, AreValued, valued_of, valued_are}
 use Rattle.cat_parse_expr.proofs.Valued.{values_back, rows_are, fields_from, values_are, highest_is, field_parts}
 use Rattle.cat_parse_expr.proofs.Valued.{fields_are, fields_height, fields_read, fields_shut, some_fields_read}
 use Rattle.cat_parse_expr.proofs.Valued.{some_fields_shut}
@@ -181,8 +132,10 @@ module _ (ex : Lower) (room : ℕ) (right : AreRight room ex) (b : Behind) (k : 
           fields_height t.1 (sign symbol.RightBrace ▹ sign symbol.Dot ▹ lower t.2 ▹ End) m,
         ))
         (ap (λ (c : Bool). if c then 0 else 9)
-        (sym (fields_form (field_rows t.1) (Anywhere (kind.Symbol symbol.RightBrace)) (sign symbol.Dot ▹ lower t.2 ▹ End) false)))
-        (sym (fields_match (field_rows t.1) (Anywhere (kind.Symbol symbol.RightBrace)) (sign symbol.Dot ▹ lower t.2 ▹ End) false));
+        (sym (fields_form (field_rows t.1) (Anywhere (kind.Symbol symbol.RightBrace))
+        (sign symbol.Dot ▹ lower t.2 ▹ End) false)))
+        (sym (fields_match (field_rows t.1) (Anywhere (kind.Symbol symbol.RightBrace))
+        (sign symbol.Dot ▹ lower t.2 ▹ End) false));
     level = λ t m. le;
     bounded = λ t m. refl;
     class = λ t. class_ScopeCall t.0.0 t.0.1 (made t.1).values t.2;

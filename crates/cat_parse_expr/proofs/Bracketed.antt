@@ -1,87 +1,64 @@
 -- Lists in brackets.
-use Rattle.std.proofs.Common.{◌≡◌, ℕ, zero, suc, ◌≤◌, max, Bool, true, false, List, [], ◌∷◌, ◌++◌, Option, None, Some, refl, sym, ap}
+use Rattle.std.proofs.Common.{◌≡◌, ℕ, suc, ◌≤◌, Bool, true, false, List, [], ◌∷◌, ◌++◌, refl, sym, ap}
 use Rattle.std.proofs.Common.{subst, ◌∙◌, arith, inl, inr, ◌⊎◌}
 use Rattle.cat_pos.specs.declared.pos.Pos.{Pos}
 use Rattle.cat_lex.specs.declared.token.Token.{Token}
 use Rattle.cat_lex.specs.declared.token.TokenKind.{TokenKind}
 use Rattle.cat_lex.specs.declared.token.TokenKind.TheVariants as kind
-use Rattle.cat_lex.specs.declared.words.Keyword.{Keyword}
-use Rattle.cat_lex.specs.declared.words.Keyword.TheVariants as key
-use Rattle.cat_lex.specs.declared.words.DoubleKeyword.TheVariants as pair
 use Rattle.cat_lex.specs.declared.symbol.Symbol.TheVariants as symbol
-use Rattle.cat_tree.specs.Accumulation.{accumulation}
-use Rattle.cat_tree.specs.declared.name.Name.{Name}
-use Rattle.cat_tree.specs.declared.name.Type as types
-use Rattle.cat_tree.specs.declared.expression.Each.{Each}
-use Rattle.cat_tree.specs.declared.expression.Each.TheVariants as each
 use Rattle.cat_tree.specs.declared.expression.Node.{Node}
 use Rattle.cat_tree.specs.declared.expression.Node.TheViews as node
-use Rattle.cat_tree.specs.Literals.{type_parts}
-use Rattle.cat_tree.specs.Phrase.{Phrase, Row, Rank, Parts, End, Word, Part, At, Anywhere, Operand, height}
-use Rattle.cat_tree.specs.Rows.{each_parts}
-use Rattle.cat_tree.specs.Wording as wording
-use Rattle.cat_tree.specs.Wording.{◌▹◌, symbol_at, key_at, pair_at, first, then_, lower, sign, part, of_level, words}
+use Rattle.cat_tree.specs.Phrase.{Row, Parts, End, Anywhere}
+use Rattle.cat_tree.specs.Wording.{◌▹◌, symbol_at, sign, part, of_level}
 use Rattle.cat_tree.specs.Grammar.{phrase}
 use Rattle.cat_tree.proofs.Exported.{phrase_List}
 use Rattle.cat_parse_expr.specs.declared.behind.Behind.{Behind}
-use Rattle.cat_parse_expr.specs.declared.behind.Behind.TheVariants.{Other, Field, Pattern as Tested}
-use Rattle.cat_parse_expr.specs.declared.cue.Cue.{Cue}
+use Rattle.cat_parse_expr.specs.declared.behind.Behind.TheVariants.{Other}
 use Rattle.cat_parse_expr.specs.declared.cue.Cue.TheVariants as cue
 use Rattle.cat_parse_expr.specs.declared.measured.Measured.{Measured}
 use Rattle.cat_parse_expr.specs.declared.opening.Opening.TheVariants as opening
-use Rattle.cat_parse_expr.specs.Cues.{kind_of}
-use Rattle.cat_parse_expr.specs.Measures.{closed, ending, form}
-use Rattle.cat_parse_expr.specs.Reader.{Reader, hidden, ◌⨟◌, pure, Reads}
+use Rattle.cat_parse_expr.specs.Measures.{closed}
+use Rattle.cat_parse_expr.specs.Reader.{Reader, ◌⨟◌, pure}
 use Rattle.cat_parse_expr.specs.Parts.{Lower}
 use Rattle.cat_parse_expr.specs.Forms as forms
-use Rattle.cat_parse_expr.specs.Followers.{MayFollow, looks_of, is_taken}
-use Rattle.cat_parse_expr.specs.Longest.{KeepsWhole}
-use Rattle.cat_parse_expr.specs.Rightly.{measured_of, IsMeasured, IsLow, operand_row, AreRight}
-use Rattle.cat_parse_expr.proofs.Firsts.{Shape, class_List}
-use Rattle.cat_parse_expr.proofs.Follows.{word_follows, tall_enough}
-use Rattle.cat_parse_expr.proofs.Positive.{positive}
-use Rattle.cat_parse_expr.proofs.Operands.{Next, form_next, OfClass, Form, form_read, measured_by, height_is, match_is}
-use Rattle.cat_parse_expr.proofs.Operands.{strength_by, inner_read, end_read}
+use Rattle.cat_parse_expr.specs.Followers.{MayFollow, looks_of}
+use Rattle.cat_parse_expr.specs.Rightly.{IsMeasured, IsLow, operand_row, AreRight}
+use Rattle.cat_parse_expr.proofs.Firsts.{class_List}
+use Rattle.cat_parse_expr.proofs.Operands.{Next, OfClass, Form, form_read, measured_by}
+use Rattle.cat_parse_expr.proofs.Operands.{inner_read}
 use Rattle.cat_parse_expr.proofs.Read.{IsRead, pure_read}
-use Rattle.cat_parse_expr.proofs.Worded.{word_read, word_at_read, lower_read, opened_at_read}
-use Rattle.cat_parse_expr.proofs.Sequels.{part_read, last_read, hidden_shut, past_none, IsShut, shut_after, one_shut, shut_turns, no_longer}
+use Rattle.cat_parse_expr.proofs.Worded.{word_read, word_at_read}
+use Rattle.cat_parse_expr.proofs.Shut.{hidden_shut, IsShut, shut_after, one_shut}
+use Rattle.cat_parse_expr.proofs.Sequels.{part_read, last_read, past_none}
+use Rattle.cat_parse_expr.proofs.Shut.{shut_turns}
 use Rattle.cat_parse_expr.proofs.Tuples.{both}
 use Rattle.std.proofs.Common.{map, length, if◌then◌else◌}
 use Rattle.cat_tree.specs.Joined.{◌▸◌, all}
 use Rattle.cat_tree.specs.Rows.{elements}
 use Rattle.std.proofs.Common.{append_assoc}
-use Rattle.cat_tree.specs.Phrase.{AreLevelled, AreSpelled, tallest}
+use Rattle.cat_tree.specs.Phrase.{AreLevelled, AreSpelled}
 use Rattle.cat_parse_expr.proofs.Loops as loops
 use Rattle.cat_parse_expr.specs.declared.measured.Elements.{Elements}
 use Rattle.cat_parse_expr.specs.Measures.{with_element, no_elements}
 use Rattle.cat_parse_expr.specs.Parts as parts
 use Rattle.cat_parse_expr.specs.Parts.{has_element, next_element, as_many, is_sign, inner, sign as a_sign}
-use Rattle.cat_parse_expr.specs.Reader.{Parsed, Fails, after, left_of, heads, hidden_in, by_word}
-use Rattle.cat_parse_expr.specs.Cues.{cue_is, word_of, «word»}
+use Rattle.cat_parse_expr.specs.Reader.{heads}
+use Rattle.cat_parse_expr.specs.Cues.{word_of}
 use Rattle.cat_parse_expr.specs.Right.{Is}
 use Rattle.cat_parse_expr.proofs.Chaining as chaining
 use Rattle.cat_parse_expr.proofs.Choices.{Decides, Recast}
 use Rattle.cat_parse_expr.proofs.Chosen.{inner_choice_read}
 use Rattle.cat_parse_expr.proofs.Lists as lists
 use Rattle.cat_parse_expr.proofs.Looping as looping
-use Rattle.cat_parse_expr.proofs.Nodes.{nodes_of, phrases_of, tallest_of, AreMeasured, measures_of, measures_are, nodes_back}
-use Rattle.cat_parse_expr.proofs.Nodes.{elements_from, nodes_are, tallest_is, row_behind, chain_elements, elements_behind}
+use Rattle.cat_parse_expr.proofs.Nodes.{phrases_of, AreMeasured, measures_of, measures_are, nodes_back}
+use Rattle.cat_parse_expr.proofs.Nodes.{elements_from, nodes_are, tallest_is, row_behind, chain_elements}
+use Rattle.cat_parse_expr.proofs.Nodes.{elements_behind}
 use Rattle.cat_parse_expr.proofs.Nodes.{elements_height, elements_last, behind_end}
 use Rattle.cat_parse_expr.proofs.Openers.{begins_not}
 use Rattle.cat_parse_expr.proofs.Shaping.{narrow_read, recast_read, reshape_read}
 use Rattle.cat_parse_expr.proofs.Turnings.{heads_begin, heads_other, heads_follow, heads_seen, shrinks_after}
 use Rattle.cat_parse_expr.proofs.Turnings as turnings
-
--- what is left of a part
-pub part_shrinks : (ex : Lower) (room : ℕ) → AreRight room ex → (b : Behind) (j : ℕ) → j ≤ 9 → (ts : List Token)
-    → length (left_of (ex b j ts)) ≤ length ts
-part_shrinks ex room right b j le ts =
-    no_longer (IsLow room) IsMeasured (operand_row j) (ex b j ts) ts
-    ((right b j (length ts) le).taken ts (omega arith))
-
-pub hidden_left : {A : Type 0} (o : Parsed A) → left_of (hidden_in o) ≡ left_of o
-hidden_left (Fails left deep whole) = refl
-hidden_left (Reads x left) = refl
+use Rattle.cat_parse_expr.proofs.Operands.{part_shrinks, hidden_left}
 
 module _ (ex : Lower) (room : ℕ) (right : AreRight room ex) where
   abbrev Out : Elements → List Token → Type 0
@@ -136,7 +113,8 @@ module _ (ex : Lower) (room : ℕ) (right : AreRight room ex) where
       (λ x v. Out (with_element s x) v ⊎ More (with_element s x) v) none (Fits s) row_one (next_element ex s)
   read_turn s = turn_read s
 
-  worded : turnings.Worded has_element with_element Good Low Out More none Fits row_one (cue.Sign symbol.Semicolon) rest read_turn
+  worded : turnings.Worded has_element with_element Good Low Out More none Fits row_one
+      (cue.Sign symbol.Semicolon) rest read_turn
   worded = record {
     starts = λ s ts h. h;
     shrinks =
@@ -166,11 +144,13 @@ module _ (ex : Lower) (room : ℕ) (right : AreRight room ex) where
 
   turning : loops.Turning has_element one with_element Good Low Out More none Fits row_one
   turning =
-      turnings.plain_turning has_element with_element Good Low Out More none Fits row_one (cue.Sign symbol.Semicolon) rest
+      turnings.plain_turning has_element with_element Good Low Out More none Fits row_one
+      (cue.Sign symbol.Semicolon) rest
       read_turn worded
 
   same : (s : Elements) (ts : List Token) → next_element ex s ts ≡ lists.turn has_element one with_element s ts
-  same = turnings.plain_same has_element with_element Good Low Out More none Fits row_one (cue.Sign symbol.Semicolon) rest
+  same = turnings.plain_same has_element with_element Good Low Out More none Fits row_one
+      (cue.Sign symbol.Semicolon) rest
       read_turn worded
 
   -- ---- E ; E
@@ -205,7 +185,8 @@ module _ (ex : Lower) (room : ℕ) (right : AreRight room ex) where
   all_fits s (x ∷ xs) m = (m.0, all_fits (with_element s x) xs m.1)
 
   chain_low : (y : Chained)
-      → chaining.Low_chain has_element one with_element Good Low Out More none Fits row_one turning (next_element ex) same (λ e. e)
+      → chaining.Low_chain has_element one with_element Good Low Out More none Fits row_one turning
+      (next_element ex) same (λ e. e)
       (IsLow room) IsMeasured (operand_row 0) begin y
       ≡ all_low (y.0 ∷ y.1)
   chain_low y = ap (λ (s : Elements). s.tallest ≤ room) (chain_is (begin y.0) y.1)
@@ -218,8 +199,10 @@ module _ (ex : Lower) (room : ℕ) (right : AreRight room ex) where
   some_read : IsRead (elements_from no_elements) ⊥ (Unit {0}) (Unit {0}) all_low all_out none Some_of all_row
       (inner ex ⨟ λ e. as_many has_element (next_element ex) (with_element no_elements e))
   some_read =
-      recast_read _ _ _ _ (λ y. y.0 ∷ y.1) (λ y. chain_is (begin y.0) y.1) (λ f. f) (λ f c. c) (λ f. cast.to) (λ f c. cast)
-      (chaining.inner_chain_read has_element one with_element Good Low Out More none Fits row_one turning (next_element ex) same
+      recast_read _ _ _ _ (λ y. y.0 ∷ y.1) (λ y. chain_is (begin y.0) y.1) (λ f. f) (λ f c. c) (λ f. cast.to)
+      (λ f c. cast)
+      (chaining.inner_chain_read has_element one with_element Good Low Out More none Fits row_one turning
+      (next_element ex) same
       (λ e. e) (IsLow room) IsMeasured (operand_row 0) begin
       (record {
         good = λ a f. tt;
@@ -230,7 +213,8 @@ module _ (ex : Lower) (room : ℕ) (right : AreRight room ex) where
       (narrow_read (MayFollow Other 0) (λ y v f o. next_follows no_elements y v o) (inner_read ex room right Other)))
     where
       to : (y : Chained) (w : List Token)
-          → Is (chaining.fits_chain has_element one with_element Good Low Out More none Fits row_one turning (next_element ex) same
+          → Is (chaining.fits_chain has_element one with_element Good Low Out More none Fits row_one turning
+          (next_element ex) same
           (λ e. e) (IsLow room) IsMeasured (operand_row 0) begin) (λ y. operand_row 0 y.0 ▸ all row_one y.1) y w
           → Is Some_of all_row (y.0 ∷ y.1) w
       to y w i = record {
@@ -240,7 +224,8 @@ module _ (ex : Lower) (room : ℕ) (right : AreRight room ex) where
       }
 
       from : (xs : List Measured) (w : List Token) → Is Some_of all_row xs w → (y : Chained) × (xs ≡ y.0 ∷ y.1)
-          × Is (chaining.fits_chain has_element one with_element Good Low Out More none Fits row_one turning (next_element ex) same
+          × Is (chaining.fits_chain has_element one with_element Good Low Out More none Fits row_one turning
+          (next_element ex) same
           (λ e. e) (IsLow room) IsMeasured (operand_row 0) begin) (λ y. operand_row 0 y.0 ▸ all row_one y.1) y w
       from [] w i = absurd i.fit
       from (x ∷ xs) w i = (
@@ -253,12 +238,16 @@ module _ (ex : Lower) (room : ℕ) (right : AreRight room ex) where
         },
       )
 
-      cast : Recast (chaining.Low_chain has_element one with_element Good Low Out More none Fits row_one turning (next_element ex) same
+      cast : Recast (chaining.Low_chain has_element one with_element Good Low Out More none Fits row_one turning
+          (next_element ex) same
           (λ e. e) (IsLow room) IsMeasured (operand_row 0) begin) all_low
-          (chaining.Out_chain has_element one with_element Good Low Out More none Fits row_one turning (next_element ex) same
+          (chaining.Out_chain has_element one with_element Good Low Out More none Fits row_one turning
+          (next_element ex) same
           (λ e. e) (IsLow room) IsMeasured (operand_row 0) begin) all_out
-          (chaining.fits_chain has_element one with_element Good Low Out More none Fits row_one turning (next_element ex) same
-          (λ e. e) (IsLow room) IsMeasured (operand_row 0) begin) Some_of (λ y. operand_row 0 y.0 ▸ all row_one y.1) all_row
+          (chaining.fits_chain has_element one with_element Good Low Out More none Fits row_one turning
+          (next_element ex) same
+          (λ e. e) (IsLow room) IsMeasured (operand_row 0) begin) Some_of
+          (λ y. operand_row 0 y.0 ▸ all row_one y.1) all_row
           (λ y. y.0 ∷ y.1)
       cast = record {
         to = to;
@@ -302,7 +291,8 @@ module _ (ex : Lower) (room : ℕ) (right : AreRight room ex) where
           ∙ ap (heads (is_sign symbol.RightBracket)) (append_assoc p.0 p.1 v)
           ∙ begins_not (cue.Sign symbol.RightBracket) x.node p.0 (p.1 ++ v) refl p.3
 
-  pub elements_read : IsRead (elements_from no_elements) ⊥ (Unit {0}) (Unit {0}) all_low all_out none AreMeasured all_row
+  pub elements_read : IsRead (elements_from no_elements) ⊥ (Unit {0})
+      (Unit {0}) all_low all_out none AreMeasured all_row
       (parts.elements ex)
   elements_read =
       inner_choice_read (is_sign symbol.RightBracket) (λ xs. xs ≡ []) Some_of decides
@@ -353,7 +343,8 @@ module _ (ex : Lower) (room : ℕ) (right : AreRight room ex) (b : Behind) (k : 
     rank = λ t. of_level 9;
     is = λ t. listed_is t;
     measured =
-        λ t m. let l = elements_last 0 symbol.Semicolon (phrases_of t.1) (Anywhere (kind.Symbol symbol.RightBracket)) false in
+        λ t m. let l = elements_last 0 symbol.Semicolon (phrases_of t.1)
+        (Anywhere (kind.Symbol symbol.RightBracket)) false in
         measured_by (listed_of t).node _ _ _ _ (listed_is t)
         (omega (
           arith,
@@ -397,4 +388,5 @@ module _ (ex : Lower) (room : ℕ) (right : AreRight room ex) (b : Behind) (k : 
         part = λ y f low. omega (arith, low);
       })
       (λ xs. word_read (cue.Sign symbol.RightBracket) _ _
-      (λ q. pure_read (p, xs) (λ f. ((f.1, refl), refl)) (λ f c. omega (arith, c.1)) (λ y f h. both y p xs h.0.1 h.1))))))
+      (λ q. pure_read (p, xs) (λ f. ((f.1, refl), refl)) (λ f c. omega (arith, c.1))
+      (λ y f h. both y p xs h.0.1 h.1))))))

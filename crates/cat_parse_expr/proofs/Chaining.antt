@@ -1,23 +1,23 @@
 -- Something that is whole, and then a loop over what goes on behind it.
-use Rattle.std.proofs.Common.{◌≡◌, ℕ, zero, suc, ◌≤◌, ◌<◌, Bool, true, false, if◌then◌else◌, List, [], ◌∷◌, ◌++◌, length}
-use Rattle.std.proofs.Common.{Option, Some, None, refl, sym, ap, subst, ◌∙◌, append_assoc, arith, inl, inr, ◌⊎◌}
-use Rattle.std.proofs.lemmas.List.{length-append, append-nil, append_cancel_left}
+use Rattle.std.proofs.Common.{◌≡◌, ℕ, ◌≤◌, Bool, true, false, List, [], ◌∷◌, ◌++◌, length}
+use Rattle.std.proofs.Common.{Some, None, refl, sym, ap, subst, ◌∙◌, append_assoc, arith, inr, ◌⊎◌}
+use Rattle.std.proofs.lemmas.List.{append-nil, append_cancel_left}
 use Rattle.cat_lex.specs.declared.token.Token.{Token}
 use Rattle.cat_lex.specs.declared.token.TokenKind.{TokenKind}
-use Rattle.cat_tree.specs.Phrase.{Parts, End, AreLevelled, AreSpelled}
+use Rattle.cat_tree.specs.Phrase.{Parts, End, AreSpelled}
 use Rattle.cat_tree.specs.Joined.{◌▸◌, all}
-use Rattle.cat_parse_expr.specs.Reader.{Parsed, Fails, Reads, Reader, ◌⨟◌, pure, after, left_of, heads, turns, fallen}
+use Rattle.cat_parse_expr.specs.Reader.{Parsed, Fails, Reads, Reader, ◌⨟◌, pure, after, left_of}
 use Rattle.cat_parse_expr.specs.Parts.{as_many}
-use Rattle.cat_parse_expr.specs.Right.{Agree, AgreePast, Seen, Is, Begun, Took, Taken, Says, Alike, IsRight}
+use Rattle.cat_parse_expr.specs.Right.{Is, Begun, Taken, Says, IsRight}
 use Rattle.cat_parse_expr.specs.Longest.{ReadsAsFar, Stood, KeepsWhole}
-use Rattle.cat_parse_expr.proofs.Joining.{Splits, spelled_split, spelled_join, levels_join, levels_split}
+use Rattle.cat_parse_expr.proofs.Joining.{spelled_split, spelled_join, levels_join, levels_split}
 use Rattle.cat_parse_expr.proofs.Choices.{Recast, recast}
 use Rattle.cat_parse_expr.proofs.Sequel.{Past, part_right}
 use Rattle.cat_parse_expr.proofs.Sequels.{seen_self, no_longer, mapped_part}
 use Rattle.cat_parse_expr.proofs.Lists as lists
 use Rattle.cat_parse_expr.proofs.Loops as loops
 use Rattle.cat_parse_expr.proofs.Looping as looping
-use Rattle.cat_parse_expr.proofs.Looping.{IsFar, far_reads}
+use Rattle.cat_parse_expr.proofs.Nearly.{IsFar, far_reads}
 use Rattle.cat_parse_expr.proofs.Read.{IsRead}
 
 past_after : {A B : Type 0} (looks : TokenKind → Bool) (f : A → B) (o : Parsed A) (ts : List Token)
@@ -103,7 +103,8 @@ module _ {A A2 S X : Type 0} (goes : S → List Token → Bool) (one : S → Rea
         (record {
           fit = λ y fit. fit.0;
           behind =
-              λ y w v fit spelled o. loops.next_is goes one put Good Low Out More looks FitsOne row_one t (start y.0) y.1 w v
+              λ y w v fit spelled o. loops.next_is goes one put Good Low Out More looks FitsOne row_one t
+              (start y.0) y.1 w v
               fit.1 spelled o;
           shrinks =
               λ ts x left le e. omega (
@@ -164,7 +165,8 @@ module _ {A A2 S X : Type 0} (goes : S → List Token → Bool) (one : S → Rea
     inner_chain_read one_a first = record {
       reader = first.reader ⨟ rest;
       maps =
-          λ ts. mapped_part g1 chain_of (one_a ts) (first.reader ts) rest (λ z. as_many goes turn (begin z)) (first.maps ts)
+          λ ts. mapped_part g1 chain_of (one_a ts) (first.reader ts) rest (λ z. as_many goes turn (begin z))
+          (first.maps ts)
           rest_maps;
       alive = λ u. begun_chain (first.alive u);
       right = λ u c bound. chain_right first.reader bound (first.right u c bound);
@@ -322,10 +324,12 @@ module _ {A A2 S X : Type 0} (goes : S → List Token → Bool) (one : S → Rea
     chain_read one_a first kept far = record {
       reader = first.reader ⨟ rest;
       maps =
-          λ ts. mapped_part g1 chain_of (one_a ts) (first.reader ts) rest (λ z. as_many goes turn (begin z)) (first.maps ts)
+          λ ts. mapped_part g1 chain_of (one_a ts) (first.reader ts) rest (λ z. as_many goes turn (begin z))
+          (first.maps ts)
           rest_maps;
       alive = λ u. begun_chain (first.alive u);
       right = λ u c bound. chain_right first.reader bound (first.right u c bound);
       keeps =
-          λ k u c bound. chain_keeps (kept k) (far k) first.reader bound (first.right u c bound) (first.keeps k u c bound);
+          λ k u c bound. chain_keeps (kept k) (far k) first.reader bound (first.right u c bound)
+          (first.keeps k u c bound);
     }

@@ -1,5 +1,5 @@
 -- An expression as what stands in front of all its operators, and the steps behind that.
-use Rattle.std.proofs.Common.{◌≡◌, ℕ, zero, suc, ◌≤◌, max, Bool, true, false, if◌then◌else◌, List, [], ◌∷◌, ◌++◌, length}
+use Rattle.std.proofs.Common.{suc, max, List, [], ◌∷◌, ◌++◌}
 use Rattle.std.proofs.Common.{refl, sym, ap, subst, ◌∙◌, append_assoc}
 use Rattle.std.proofs.lemmas.List.{append-nil}
 use Rattle.cat_pos.specs.declared.pos.Pos.{Pos}
@@ -9,18 +9,17 @@ use Rattle.cat_lex.specs.declared.symbol.Symbol.TheVariants as symbol
 use Rattle.cat_tree.specs.declared.name.Name.{Name}
 use Rattle.cat_tree.specs.declared.name.CaseName.{CaseName}
 use Rattle.cat_tree.specs.declared.expression.Operator.{Operator}
-use Rattle.cat_tree.specs.declared.expression.Node.{Node}
 use Rattle.cat_tree.specs.declared.expression.Node.TheViews as node
 use Rattle.cat_tree.specs.Phrase.{Phrase, Parts, End, AreSpelled, IsSpelling}
 use Rattle.cat_tree.specs.Wording.{◌▹◌, first, pair_at, sign, lower, part}
 use Rattle.cat_tree.specs.Literals.{case_parts}
-use Rattle.cat_tree.specs.Operators.{operator_kind, operator_level, left_level}
+use Rattle.cat_tree.specs.Operators.{operator_kind, operator_level}
 use Rattle.cat_tree.specs.Grammar.{phrase}
-use Rattle.cat_tree.specs.Joined.{◌▸◌, all}
+use Rattle.cat_tree.specs.Joined.{all}
 use Rattle.cat_tree.proofs.Exported.{phrase_Binary, phrase_Field, phrase_Test}
 use Rattle.cat_parse_expr.specs.declared.measured.Measured.{Measured}
 use Rattle.cat_parse_expr.specs.Measures.{closed, ending}
-use Rattle.cat_parse_expr.proofs.Joining.{Splits, spelled_split}
+use Rattle.cat_parse_expr.proofs.Joining.{spelled_split}
 
 -- what goes on behind a whole expression
 pub data Step : Type 0 where

@@ -1,6 +1,6 @@
 -- A choice by the next word, and what is made of what was read.
-use Rattle.std.proofs.Common.{◌≡◌, ℕ, ◌≤◌, Bool, true, false, if◌then◌else◌, List, [], ◌∷◌, ◌++◌, length, Option, Some}
-use Rattle.std.proofs.Common.{None, refl, sym, ap, subst, ◌∙◌, arith, inl, inr, ◌⊎◌}
+use Rattle.std.proofs.Common.{◌≡◌, ℕ, ◌≤◌, Bool, true, false, if◌then◌else◌, List, [], ◌∷◌, ◌++◌, length}
+use Rattle.std.proofs.Common.{refl, sym, ap, subst, ◌∙◌, inl, inr, ◌⊎◌}
 use Rattle.cat_lex.specs.declared.token.Token.{Token}
 use Rattle.cat_lex.specs.declared.token.TokenKind.{TokenKind}
 use Rattle.cat_tree.specs.Phrase.{Parts, AreLevelled, AreSpelled}
@@ -14,7 +14,8 @@ pub record Same {B : Type 0} (fits fits2 : B → Type 0) (row row2 : B → Parts
   pub from : (y : B) → fits2 y → fits y
   pub rows : (y : B) → fits y → row y ≡ row2 y
 
-module _ {B : Type 0} (low : B → Type 0) (bound : ℕ) (out : B → List Token → Type 0) (looks : TokenKind → Bool) (fits fits2 : B → Type 0) (row row2 : B → Parts)
+module _ {B : Type 0} (low : B → Type 0) (bound : ℕ) (out : B → List Token → Type 0) (looks : TokenKind → Bool)
+    (fits fits2 : B → Type 0) (row row2 : B → Parts)
     (r : Reader B) (s : Same fits fits2 row row2) (right : IsRight low bound out looks fits row r) where
   to_second : (y : B) (w : List Token) → Is fits row y w → Is fits2 row2 y w
   to_second y w i = record {
@@ -172,7 +173,8 @@ pub record Decides {B : Type 0} (out : B → List Token → Type 0) (test : Toke
   pub off : (y : B) (w v : List Token) → no_fits y → AreSpelled (row y) w → out y v
       → heads test (w ++ v) ≡ false
 
-pub refit : {B : Type 0} (fits fits2 : B → Type 0) (row : B → Parts) (y : B) (w : List Token) → fits2 y → Is fits row y w
+pub refit : {B : Type 0} (fits fits2 : B → Type 0) (row : B → Parts) (y : B) (w : List Token) → fits2 y
+    → Is fits row y w
     → Is fits2 row y w
 refit fits fits2 row y w fit i = record { fit = fit; levels = i.levels; spelled = i.spelled }
 

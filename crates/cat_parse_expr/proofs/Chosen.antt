@@ -1,16 +1,18 @@
 -- A choice by the next word.
-use Rattle.std.proofs.Common.{◌≡◌, ℕ, zero, suc, ◌≤◌, Bool, true, false, if◌then◌else◌, List, [], ◌∷◌, ◌++◌, length, Option}
-use Rattle.std.proofs.Common.{Some, None, refl, sym, ap, subst, ◌∙◌, arith, inl, inr, ◌⊎◌}
+use Rattle.std.proofs.Common.{◌≡◌, ℕ, ◌≤◌, Bool, true, false, if◌then◌else◌, List, [], ◌++◌, length}
+use Rattle.std.proofs.Common.{Some, None, refl, sym, ap, ◌∙◌, arith, inl, inr, ◌⊎◌}
 use Rattle.std.proofs.lemmas.List.{length-append}
 use Rattle.cat_lex.specs.declared.token.Token.{Token}
 use Rattle.cat_lex.specs.declared.token.TokenKind.{TokenKind}
 use Rattle.cat_tree.specs.Phrase.{Parts, AreSpelled}
-use Rattle.cat_parse_expr.specs.Reader.{Parsed, Reader, Fails, Reads, left_of, after, pure, heads, by_word, fallen, behind_whole}
-use Rattle.cat_parse_expr.specs.Right.{Is, Begun, Took, Taken, IsRight}
+use Rattle.cat_parse_expr.specs.Reader.{Parsed, Reader, Fails, Reads, after, pure, heads, by_word, fallen}
+use Rattle.cat_parse_expr.specs.Reader.{behind_whole}
+use Rattle.cat_parse_expr.specs.Right.{Is, Taken}
 use Rattle.cat_parse_expr.specs.Longest.{ReadsAsFar, Stood, KeepsWhole}
 use Rattle.cat_parse_expr.proofs.Choices.{Decides, choice_right, refit}
 use Rattle.cat_parse_expr.proofs.Wholes.{behind_right}
 use Rattle.cat_parse_expr.proofs.Read.{IsRead}
+use Rattle.cat_parse_expr.proofs.Truth.{clash}
 
 -- the same reader, written otherwise
 pub same_read : {T D : Type 0} {g : T → D} {K F C : Type 0} {low : T → Type 0} {out : T → List Token → Type 0}
@@ -55,7 +57,8 @@ stood_fallen low fits row (Fails left deep None) ts x i fine s = (x, [], refl, i
 stood_fallen low fits row (Fails left deep (Some front)) ts x i fine s = s
 stood_fallen low fits row (Reads y left) ts x i fine s = tt
 
-pub fallen_mapped : {T D : Type 0} (g : T → D) (ts : List Token) (o : Parsed T) (d : Parsed D) → d ≡ after o (λ x. pure (g x))
+pub fallen_mapped : {T D : Type 0} (g : T → D) (ts : List Token) (o : Parsed T) (d : Parsed D) → d ≡ after o
+    (λ x. pure (g x))
     → fallen ts d ≡ after (fallen ts o) (λ x. pure (g x))
 fallen_mapped {D = D} g ts (Fails left deep whole) d e = ap (λ (z : Parsed D). fallen ts z) e
 fallen_mapped {D = D} g ts (Reads x left) d e = ap (λ (z : Parsed D). fallen ts z) e
@@ -75,11 +78,9 @@ stood_as low fits fits2 row (Fails left deep (Some front)) ts f s =
     (s.0, s.1, s.2, refit fits fits2 row s.0 s.1 (f s.0 s.3.fit) s.3, s.4)
 stood_as low fits fits2 row (Reads y left) ts f s = tt
 
-clash : (c : Bool) → c ≡ true → c ≡ false → ⊥
-clash c x y = absurd cc
-
 module _ {T : Type 0} (low : T → Type 0) (out : T → List Token → Type 0) (test : TokenKind → Bool)
-    (fits yes_fits no_fits : T → Type 0) (row : T → Parts) (a b : Reader T) (bound : ℕ) (d : Decides out test fits yes_fits no_fits row)
+    (fits yes_fits no_fits : T → Type 0) (row : T → Parts) (a b : Reader T) (bound : ℕ)
+    (d : Decides out test fits yes_fits no_fits row)
     (begins : (y : T) (w v : List Token) → yes_fits y → AreSpelled (row y) w → heads test (w ++ v) ≡ true)
     (spent : (y : T) (w v : List Token) → no_fits y → AreSpelled (row y) w → heads test (w ++ v) ≡ true → w ≡ [])
     (taken : (ts : List Token) → length ts ≤ bound → Taken low yes_fits row (a ts) ts)
@@ -102,7 +103,8 @@ module _ {T : Type 0} (low : T → Type 0) (out : T → List Token → Type 0) (
     | inr f ↦ kb.longest ts y w v le text (refit fits no_fits row y w f i)
   ]
 
-  stood_by : (ts : List Token) → length ts ≤ bound → (c : Bool) → Stood low fits row (if c then fallen ts (a ts) else b ts) ts
+  stood_by : (ts : List Token) → length ts ≤ bound → (c : Bool) → Stood low fits row
+      (if c then fallen ts (a ts) else b ts) ts
   stood_by ts le true =
       stood_fallen low fits row (a ts) ts x (refit no_fits fits row x [] (d.from_no x blank.fit) blank) fine
       (stood_as low yes_fits fits row (a ts) ts d.from_yes (ka.stood ts le))
@@ -132,13 +134,20 @@ choice_read {g = g} {low = low} {out = out} {looks = looks} {fits = fits} {row =
           (fallen_mapped g ts (ra.reader ts) (a ts) (ra.maps ts)) (rb.maps ts);
       alive =
           λ f. let z = rb.alive f in
-          record { value = z.value; more = z.more; is = refit no_fits fits row z.value z.more (d.from_no z.value z.is.fit) z.is };
+          record {
+            value = z.value;
+            more = z.more;
+            is = refit no_fits fits row z.value z.more
+                (d.from_no z.value z.is.fit) z.is;
+          };
       right =
-          λ f c bound. choice_right low bound out looks test fits yes_fits no_fits row (behind_whole ra.reader) rb.reader d
+          λ f c bound. choice_right low bound out looks test fits yes_fits no_fits row
+          (behind_whole ra.reader) rb.reader d
           (behind_right low out looks yes_fits row bound ra.reader (ra.right f c bound)) (rb.right f c bound);
       keeps =
           λ k f c bound. choice_keeps low out test fits yes_fits no_fits row ra.reader rb.reader bound d begins spent
-          (λ ts le. (ra.right f c bound).taken ts le) (ra.keeps k f c bound) (rb.keeps k f c bound) x (blank f) (fine f c);
+          (λ ts le. (ra.right f c bound).taken ts le) (ra.keeps k f c bound) (rb.keeps k f c bound) x (blank f)
+          (fine f c);
     }
 
 -- a choice in a part that words follow
@@ -151,10 +160,16 @@ pub inner_choice_read : {T D : Type 0} {g : T → D} {F C : Type 0} {low : T →
 inner_choice_read {g = g} {low = low} {out = out} {looks = looks} {fits = fits} {row = row} {a = a} {b = b} test yes_fits no_fits d ra rb =
     record {
       reader = by_word test ra.reader rb.reader;
-      maps = λ ts. chosen_mapped g (heads test ts) (ra.reader ts) (rb.reader ts) (a ts) (b ts) (ra.maps ts) (rb.maps ts);
+      maps = λ ts. chosen_mapped g (heads test ts) (ra.reader ts) (rb.reader ts) (a ts) (b ts) (ra.maps ts)
+          (rb.maps ts);
       alive =
           λ f. let z = rb.alive f in
-          record { value = z.value; more = z.more; is = refit no_fits fits row z.value z.more (d.from_no z.value z.is.fit) z.is };
+          record {
+            value = z.value;
+            more = z.more;
+            is = refit no_fits fits row z.value z.more
+                (d.from_no z.value z.is.fit) z.is;
+          };
       right =
           λ f c bound. choice_right low bound out looks test fits yes_fits no_fits row ra.reader rb.reader d
           (ra.right f c bound) (rb.right f c bound);
@@ -173,10 +188,16 @@ pub sharp_choice_read : {T D : Type 0} {g : T → D} {K F C : Type 0} {low : T �
 sharp_choice_read {T = T} {g = g} {F = F} {C = C} {low = low} {out = out} {looks = looks} {fits = fits} {row = row} {a = a} {b = b} test yes_fits no_fits either from_yes from_no on off ra rb =
     record {
       reader = by_word test ra.reader rb.reader;
-      maps = λ ts. chosen_mapped g (heads test ts) (ra.reader ts) (rb.reader ts) (a ts) (b ts) (ra.maps ts) (rb.maps ts);
+      maps = λ ts. chosen_mapped g (heads test ts) (ra.reader ts) (rb.reader ts) (a ts) (b ts) (ra.maps ts)
+          (rb.maps ts);
       alive =
           λ f. let z = rb.alive f in
-          record { value = z.value; more = z.more; is = refit no_fits fits row z.value z.more (from_no z.value z.is.fit) z.is };
+          record {
+            value = z.value;
+            more = z.more;
+            is = refit no_fits fits row z.value z.more
+                (from_no z.value z.is.fit) z.is;
+          };
       right =
           λ f c bound. choice_right low bound out looks test fits yes_fits no_fits row ra.reader rb.reader
           (record {

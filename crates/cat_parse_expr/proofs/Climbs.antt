@@ -1,6 +1,6 @@
 -- Turns of climbing: a step behind what was read so far.
-use Rattle.std.proofs.Common.{◌≡◌, ℕ, zero, suc, ◌≤◌, ◌<◌, max, Bool, true, false, not, nat_eq, nat_le, nat_lt, ◌&&◌, ◌||◌, cond}
-use Rattle.std.proofs.Common.{if◌then◌else◌, List, [], ◌∷◌, ◌++◌, length, Option, None, Some, refl, sym, ap, subst, ◌∙◌, arith}
+use Rattle.std.proofs.Common.{◌≡◌, ℕ, zero, suc, ◌≤◌, Bool, true, false, not, nat_eq, nat_le, nat_lt, ◌&&◌, ◌||◌}
+use Rattle.std.proofs.Common.{List, [], ◌∷◌, ◌++◌, length, Option, refl, sym, ap, ◌∙◌, arith}
 use Rattle.std.proofs.Common.{inl, inr, ◌⊎◌}
 use Rattle.std.proofs.lemmas.Bool.Decides.{nat_tests}
 use Rattle.cat_pos.specs.declared.pos.Pos.{Pos}
@@ -10,87 +10,35 @@ use Rattle.cat_lex.specs.declared.token.TokenKind.TheVariants as kind
 use Rattle.cat_lex.specs.declared.words.Keyword.TheVariants as key
 use Rattle.cat_lex.specs.declared.words.DoubleKeyword.TheVariants as pair
 use Rattle.cat_lex.specs.declared.symbol.Symbol.TheVariants as symbol
-use Rattle.cat_tree.specs.declared.name.Name.{Name}
 use Rattle.cat_tree.specs.declared.name.CaseName.{CaseName}
 use Rattle.cat_tree.specs.declared.name.CaseName.TheVariants.{Bare, Qualified}
 use Rattle.cat_tree.specs.declared.expression.Operator.{Operator}
 use Rattle.cat_tree.specs.declared.expression.Operator.TheVariants as op
-use Rattle.cat_tree.specs.declared.expression.Node.{Node}
-use Rattle.cat_tree.specs.declared.expression.Node.TheViews as node
 use Rattle.cat_tree.specs.Literals.{case_parts}
 use Rattle.cat_tree.specs.Operators.{operator_kind, operator_level, left_level}
-use Rattle.cat_tree.specs.Phrase.{Phrase, Parts, End, Word, At, AreLevelled, AreSpelled}
-use Rattle.cat_tree.specs.Wording as wording
-use Rattle.cat_tree.specs.Wording.{◌▹◌, part, first, pair_at}
+use Rattle.cat_tree.specs.Phrase.{End, AreSpelled}
 use Rattle.cat_tree.specs.Grammar.{phrase}
 use Rattle.cat_parse_expr.specs.declared.behind.Behind.{Behind}
 use Rattle.cat_parse_expr.specs.declared.behind.Behind.TheVariants.{Other, Field, Pattern as Tested}
-use Rattle.cat_parse_expr.specs.declared.cue.Cue.{Cue}
 use Rattle.cat_parse_expr.specs.declared.cue.Cue.TheVariants as cue
 use Rattle.cat_parse_expr.specs.declared.follow.Follow.{Follow}
 use Rattle.cat_parse_expr.specs.declared.follow.Follow.TheVariants as follow
 use Rattle.cat_parse_expr.specs.declared.measured.Measured.{Measured}
-use Rattle.cat_parse_expr.specs.Climbing as climbing
-use Rattle.cat_parse_expr.specs.Climbing.{ends_test, goes_so, goes_on, room_beside, nothing_at}
-use Rattle.cat_parse_expr.specs.Cues as cues
-use Rattle.cat_parse_expr.specs.Cues.{kind_of, cue_is, word_of, «word», lower_of, upper_of}
+use Rattle.cat_parse_expr.specs.Climbing.{ends_test, goes_so, goes_on}
 use Rattle.cat_parse_expr.specs.Followers.{is_taken, is_asked, is_below, may_stand, MayFollow, looks_of}
-use Rattle.cat_parse_expr.specs.Longest.{KeepsWhole}
-use Rattle.cat_parse_expr.specs.Measures.{closed, ending}
 use Rattle.cat_parse_expr.specs.Openings.{follow_of, follow_at}
-use Rattle.cat_parse_expr.specs.Parts.{Lower, is_sign, case_from, pair_word, sign}
-use Rattle.cat_parse_expr.specs.Reader.{Parsed, Fails, Reads, Reader, ◌⨟◌, pure, nothing, after, heads, behind_whole, with_room}
-use Rattle.cat_parse_expr.specs.Right.{Is, Begun, IsRight}
-use Rattle.cat_parse_expr.specs.Rightly.{measured_of, IsMeasured, IsLow, operand_row, AreRight}
-use Rattle.cat_parse_expr.proofs.Chains.{Step, Operates, Selects, TestsFor, put, step_parts}
-use Rattle.cat_parse_expr.proofs.Choices.{Recast}
+use Rattle.cat_parse_expr.specs.Parts.{is_sign}
+use Rattle.cat_parse_expr.specs.Reader.{Parsed, Fails, Reads, heads, with_room}
+use Rattle.cat_parse_expr.proofs.Chains.{Step, Operates, Selects, TestsFor, step_parts}
 use Rattle.cat_parse_expr.proofs.Firsts.{is_bare}
-use Rattle.cat_parse_expr.proofs.Follows.{operator_ends, one_level, tall_enough}
-use Rattle.cat_parse_expr.proofs.Leaves.{cue_found, cue_self}
-use Rattle.cat_parse_expr.proofs.NoRoom.{nothing_read}
-use Rattle.cat_parse_expr.proofs.Operands.{Next, goes_past, goes_then, ending_next, end_read}
-use Rattle.cat_parse_expr.proofs.Patterns.{case_first, case_rest, NoDot, whole_case_read}
-use Rattle.cat_parse_expr.proofs.Read.{IsRead, pure_read}
-use Rattle.cat_parse_expr.proofs.Sequels.{last_read}
-use Rattle.cat_parse_expr.proofs.Shaping.{recast_read, reshape_read}
-use Rattle.cat_parse_expr.proofs.Worded.{word_read, word_at_read, lower_room_read, upper_room_read}
-use Rattle.std.proofs.lemmas.List.{append-nil}
-use Rattle.cat_parse_expr.specs.Reader.{left_of, fallen, heads_second, one, made_of, turns, too_high}
+use Rattle.cat_parse_expr.proofs.Leaves.{cue_found}
+use Rattle.cat_parse_expr.proofs.Operands.{goes_past}
+use Rattle.cat_parse_expr.specs.Reader.{left_of, one, too_high}
 use Rattle.cat_parse_expr.specs.Right.{Agree, AgreePast}
 use Rattle.cat_parse_expr.specs.Followers.{is_with_pattern}
-use Rattle.cat_parse_expr.specs.Parts.{is_lower, as_many}
-use Rattle.cat_parse_expr.proofs.Bracketed.{part_shrinks}
-use Rattle.cat_parse_expr.proofs.Chosen.{fallen_mapped}
-use Rattle.cat_parse_expr.proofs.Heading as heading
-use Rattle.cat_parse_expr.proofs.Lists as lists
-use Rattle.cat_parse_expr.proofs.Loops as loops
-use Rattle.cat_parse_expr.proofs.Operands.{Next as NextAt}
-use Rattle.cat_parse_expr.proofs.Stepping.{cue_of, operator_word, operator_is, follow_in, FitsOne, dot_refused}
-use Rattle.cat_parse_expr.proofs.Stepping.{Low, Low_step, Next_step, Of_follow, ReadsStep, operated_read, selected_read}
-use Rattle.cat_parse_expr.proofs.Stepping.{tested_read}
-use Rattle.cat_parse_expr.proofs.Turnings.{left_mapped, left_fallen, moves_one, takes_one, word_there, shrinks_after, shrinks_one}
-use Rattle.cat_parse_expr.proofs.Wholes.{behind_right}
-
-pub clash : (c : Bool) → c ≡ true → c ≡ false → ⊥
-clash c x y = absurd cc
-
-pub both_are : (a c : Bool) → (a && c) ≡ true → (a ≡ true) × (c ≡ true)
-both_are true c h = (refl, h)
-both_are false c h = absurd cc
-
-pub both_true : (a c : Bool) → a ≡ true → c ≡ true → (a && c) ≡ true
-both_true true c p q = q
-both_true false c p q = absurd cc
-
-pub second : (a c : Bool) → c ≡ false → (a && c) ≡ false
-second true c h = h
-second false c h = refl
-
-pub le_true : (k j : ℕ) → k ≤ j → nat_le k j ≡ true
-le_true k j le = grind (arith, nat_tests, le)
-
-pub le_of : (k j : ℕ) → nat_le k j ≡ true → k ≤ j
-le_of k j h = grind (arith, nat_tests, h)
+use Rattle.cat_parse_expr.proofs.StepWords.{operator_word, operator_is, follow_in, FitsOne, dot_refused}
+use Rattle.cat_parse_expr.proofs.Turnings.{shrinks_one}
+use Rattle.cat_parse_expr.proofs.Truth.{both_are, both_true, first_false, last_of, le_true, second_false}
 
 -- ---- the next word of a step
 
@@ -143,13 +91,14 @@ step_goes b k s x w v f i = by x f i (step_follows k s x w v i)
 
     plain : heads (is_sign symbol.Dot) (w ++ v) ≡ false
         → not (is_bare (phrase s.node) && heads (is_sign symbol.Dot) (w ++ v)) ≡ true
-    plain h = ap not (second (is_bare (phrase s.node)) _ h)
+    plain h = ap not (second_false (is_bare (phrase s.node)) _ h)
 
     by : (x : Step) → FitsOne k s x → AreSpelled (step_parts x) w → follow_at (w ++ v) ≡ follow_in x
         → goes_past b k s (w ++ v) ≡ true
     by (Operates o p e) f i a =
         both_true _ _ (plain (follow_differs (follow.Operated o) not_dot (w ++ v) a))
-        (so (follow.Operated o) a (both_true _ _ (le_true k (operator_level o) f.0) (le_true (left_level o) s.strength f.1)))
+        (so (follow.Operated o) a (both_true _ _ (le_true k (operator_level o) f.0)
+        (le_true (left_level o) s.strength f.1)))
       where
         not_dot : follow.Operated o ≡ follow.Dotted → ⊥
         not_dot h = absurd cc
@@ -178,7 +127,8 @@ seen_past b k s (p ∷ ps) [] g = absurd g
 seen_past b k s (p ∷ ps) (q ∷ qs) g =
     ends_same b g ∙ ap (λ (t : Token). goes_past b k s (t ∷ qs)) g.0
   where
-    agreed : (ps qs : List Token) → Agree ps qs → heads (is_sign symbol.MinusMinus) ps ≡ heads (is_sign symbol.MinusMinus) qs
+    agreed : (ps qs : List Token) → Agree ps qs → heads (is_sign symbol.MinusMinus) ps ≡ heads
+        (is_sign symbol.MinusMinus) qs
     agreed [] [] g = refl
     agreed [] (q ∷ qs) g = absurd g
     agreed (p ∷ ps) [] g = absurd g
@@ -226,7 +176,8 @@ seen_past b k s (p ∷ ps) (q ∷ qs) g =
     ends_same : (b : Behind) → AgreePast (looks_of b) (p ∷ ps) (q ∷ qs)
         → goes_past b k s (p ∷ ps) ≡ goes_past b k s (p ∷ qs)
     ends_same Tested g =
-        ap (λ (z : Bool). not (is_bare (phrase s.node) && is_sign symbol.Dot p.kind) && z) (by (follow_of p.kind) refl g)
+        ap (λ (z : Bool). not (is_bare (phrase s.node) && is_sign symbol.Dot p.kind) && z)
+        (by (follow_of p.kind) refl g)
     ends_same Other g =
         ap (λ (z : Bool). not (is_bare (phrase s.node) && is_sign symbol.Dot p.kind) && z) (other (follow_of p.kind))
     ends_same Field g =
@@ -240,36 +191,12 @@ agree_past looks p ps qs g = (refl, λ h. g)
 pub operator_facts : (o : Operator) → (is_taken (operator_kind o) ≡ true) × (is_with_pattern (operator_kind o) ≡ false)
     × (is_sign symbol.Comma (operator_kind o) ≡ false) × (is_sign symbol.MinusMinus (operator_kind o) ≡ false)
 operator_facts op.Or = (refl, refl, refl, refl)
-operator_facts op.Xor = (refl, refl, refl, refl)
-operator_facts op.And = (refl, refl, refl, refl)
-operator_facts op.Less = (refl, refl, refl, refl)
-operator_facts op.LessEqual = (refl, refl, refl, refl)
-operator_facts op.Greater = (refl, refl, refl, refl)
-operator_facts op.GreaterEqual = (refl, refl, refl, refl)
-operator_facts op.Equal = (refl, refl, refl, refl)
-operator_facts op.NotEqual = (refl, refl, refl, refl)
-operator_facts op.Contains = (refl, refl, refl, refl)
-operator_facts op.Plus = (refl, refl, refl, refl)
-operator_facts op.Minus = (refl, refl, refl, refl)
-operator_facts op.Times = (refl, refl, refl, refl)
-operator_facts op.Divide = (refl, refl, refl, refl)
-
-pub first_false : (a c : Bool) → a ≡ false → (a && c) ≡ false
-first_false true c h = absurd cc
-first_false false c h = refl
+operator_facts _ = (refl, refl, refl, refl)
 
 operator_asked : (b : Behind) (o : Operator) (ts : List Token) → is_asked b (operator_kind o) ts ≡ false
 operator_asked Other o ts = refl
 operator_asked Tested o ts = first_false _ _ (operator_facts o).1
 operator_asked Field o ts = first_false _ _ (operator_facts o).3
-
-last_of : (a d e g h : Bool) → a ≡ true → d ≡ false → e ≡ false → g ≡ false
-    → (not a || (d || (e || (g || h)))) ≡ true → h ≡ true
-last_of false d e g h p q r t x = absurd cc
-last_of true true e g h p q r t x = absurd cc
-last_of true false true g h p q r t x = absurd cc
-last_of true false false true h p q r t x = absurd cc
-last_of true false false false h p q r t x = x
 
 either_of : (a d e g h : Bool) → a ≡ true → e ≡ false → g ≡ false → (not a || (d || (e || (g || h)))) ≡ true
     → (d ≡ true) ⊎ (h ≡ true)
@@ -320,8 +247,8 @@ dotted_is _ e = absurd cc
 -- what may follow isn't gone on with
 pub stops_at : (b : Behind) (k : ℕ) (s : Measured) (v : List Token) → k ≤ 9 → MayFollow b k s v
     → goes_past b k s v ≡ false
-stops_at b k s [] le o = second _ _ refl
-stops_at b k s (p ∷ ts) le o = second _ _ (by (follow_of p.kind) refl)
+stops_at b k s [] le o = second_false _ _ refl
+stops_at b k s (p ∷ ts) le o = second_false _ _ (by (follow_of p.kind) refl)
   where
     at : (q : TokenKind) → p.kind ≡ q → may_stand b k s.strength s.in_match q ts ≡ true
     at q e = ap (λ (z : TokenKind). may_stand b k s.strength s.in_match z ts) (sym e) ∙ o
@@ -330,7 +257,7 @@ stops_at b k s (p ∷ ts) le o = second _ _ (by (follow_of p.kind) refl)
         → (nat_le k 4 && (nat_le 5 s.strength && not (ends_test b (p ∷ ts)))) ≡ false
     asked_tests Other h = absurd cc
     asked_tests Field h = absurd cc
-    asked_tests Tested h = second _ _ (second _ _ (ap not h))
+    asked_tests Tested h = second_false _ _ (second_false _ _ (ap not h))
 
     by : (f : Follow) → follow_of p.kind ≡ f → goes_so b k s.strength (follow_of p.kind) (p ∷ ts) ≡ false
     by follow.Other e = ap (λ (g : Follow). goes_so b k s.strength g (p ∷ ts)) e
@@ -342,7 +269,7 @@ stops_at b k s (p ∷ ts) le o = second _ _ (by (follow_of p.kind) refl)
         (nat_eq k 9 && is_sign symbol.Comma (operator_kind x))
         (not s.in_match && is_sign symbol.MinusMinus (operator_kind x))
         (not (nat_eq s.strength 0) && is_below k (follow_of (operator_kind x))) f.0 (operator_asked b x ts)
-        (second (nat_eq k 9) _ f.2) (second (not s.in_match) _ f.3) (at (operator_kind x) q) in
+        (second_false (nat_eq k 9) _ f.2) (second_false (not s.in_match) _ f.3) (at (operator_kind x) q) in
         ap (λ (g : Follow). goes_so b k s.strength g (p ∷ ts)) e
         ∙ first_false (nat_le k (operator_level x)) _
         (loose (ap (is_below k) (sym (operator_word x).1) ∙ (both_are _ _ below).1))
@@ -357,7 +284,8 @@ stops_at b k s (p ∷ ts) le o = second _ _ (by (follow_of p.kind) refl)
         (nat_eq k 9 && is_sign symbol.Comma (kind.Pair pair.WithPattern))
         (not s.in_match && is_sign symbol.MinusMinus (kind.Pair pair.WithPattern))
         (not (nat_eq s.strength 0) && nat_lt 4 k) refl
-        (second (nat_eq k 9) _ refl) (second (not s.in_match) _ refl) (at (kind.Pair pair.WithPattern) (tests_is p.kind e)))
+        (second_false (nat_eq k 9) _ refl) (second_false (not s.in_match) _ refl)
+        (at (kind.Pair pair.WithPattern) (tests_is p.kind e)))
       where
         loose : nat_lt 4 k ≡ true → nat_le k 4 ≡ false
         loose h = grind (arith, nat_tests, h)

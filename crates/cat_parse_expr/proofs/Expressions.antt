@@ -1,186 +1,69 @@
 -- Expressions are read rightly, and the longest front that is whole is kept.
-use Rattle.std.proofs.Common.{◌≡◌, ℕ, zero, suc, ◌≤◌, ◌<◌, max, Bool, true, false, not, nat_eq, nat_le, nat_lt, ◌&&◌, ◌||◌, cond}
-use Rattle.std.proofs.Common.{if◌then◌else◌, List, [], ◌∷◌, ◌++◌, length, Option, None, Some, refl, sym, ap, subst, ◌∙◌, arith}
-use Rattle.std.proofs.Common.{inl, inr, ◌⊎◌}
-use Rattle.std.proofs.lemmas.Bool.Decides.{nat_tests}
-use Rattle.cat_pos.specs.declared.pos.Pos.{Pos}
+use Rattle.std.proofs.Common.{◌≡◌, ℕ, zero, suc, ◌≤◌, Bool, true, false, not, ◌&&◌}
+use Rattle.std.proofs.Common.{if◌then◌else◌, List, [], ◌∷◌, ◌++◌, length, None, Some, refl, sym, ap, subst, ◌∙◌, arith}
 use Rattle.cat_lex.specs.declared.token.Token.{Token}
-use Rattle.cat_lex.specs.declared.token.TokenKind.{TokenKind}
-use Rattle.cat_lex.specs.declared.token.TokenKind.TheVariants as kind
-use Rattle.cat_lex.specs.declared.words.Keyword.TheVariants as key
-use Rattle.cat_lex.specs.declared.words.DoubleKeyword.TheVariants as pair
 use Rattle.cat_lex.specs.declared.symbol.Symbol.TheVariants as symbol
-use Rattle.cat_tree.specs.declared.name.Name.{Name}
-use Rattle.cat_tree.specs.declared.name.CaseName.{CaseName}
-use Rattle.cat_tree.specs.declared.name.CaseName.TheVariants.{Bare, Qualified}
-use Rattle.cat_tree.specs.declared.expression.Operator.{Operator}
-use Rattle.cat_tree.specs.declared.expression.Operator.TheVariants as op
-use Rattle.cat_tree.specs.declared.expression.Node.{Node}
-use Rattle.cat_tree.specs.declared.expression.Node.TheViews as node
-use Rattle.cat_tree.specs.Literals.{case_parts}
-use Rattle.cat_tree.specs.Operators.{operator_kind, operator_level, left_level}
-use Rattle.cat_tree.specs.Phrase.{Phrase, Parts, End, Word, At, AreLevelled, AreSpelled}
-use Rattle.cat_tree.specs.Wording as wording
-use Rattle.cat_tree.specs.Wording.{◌▹◌, part, first, pair_at}
+use Rattle.cat_tree.specs.Operators.{operator_level}
 use Rattle.cat_tree.specs.Grammar.{phrase}
 use Rattle.cat_parse_expr.specs.declared.behind.Behind.{Behind}
-use Rattle.cat_parse_expr.specs.declared.behind.Behind.TheVariants.{Other, Field, Pattern as Tested}
-use Rattle.cat_parse_expr.specs.declared.cue.Cue.{Cue}
-use Rattle.cat_parse_expr.specs.declared.cue.Cue.TheVariants as cue
 use Rattle.cat_parse_expr.specs.declared.follow.Follow.{Follow}
 use Rattle.cat_parse_expr.specs.declared.follow.Follow.TheVariants as follow
 use Rattle.cat_parse_expr.specs.declared.measured.Measured.{Measured}
 use Rattle.cat_parse_expr.specs.Climbing as climbing
 use Rattle.cat_parse_expr.specs.Climbing.{ends_test, goes_so, goes_on, room_beside, nothing_at}
-use Rattle.cat_parse_expr.specs.Cues as cues
-use Rattle.cat_parse_expr.specs.Cues.{kind_of, cue_is, word_of, «word», lower_of, upper_of}
-use Rattle.cat_parse_expr.specs.Followers.{is_taken, is_asked, is_below, may_stand, MayFollow, looks_of}
+use Rattle.cat_parse_expr.specs.Cues.{cue_is}
+use Rattle.cat_parse_expr.specs.Followers.{MayFollow, looks_of}
 use Rattle.cat_parse_expr.specs.Longest.{KeepsWhole}
-use Rattle.cat_parse_expr.specs.Measures.{closed, ending}
-use Rattle.cat_parse_expr.specs.Openings.{follow_of, follow_at}
-use Rattle.cat_parse_expr.specs.Parts.{Lower, is_sign, case_from, pair_word, sign}
-use Rattle.cat_parse_expr.specs.Reader.{Parsed, Fails, Reads, Reader, ◌⨟◌, pure, nothing, after, heads, behind_whole, with_room}
-use Rattle.cat_parse_expr.specs.Right.{Is, Begun, IsRight}
-use Rattle.cat_parse_expr.specs.Rightly.{measured_of, IsMeasured, IsLow, operand_row, AreRight}
-use Rattle.cat_parse_expr.proofs.Chains.{Step, Operates, Selects, TestsFor, put, step_parts}
+use Rattle.cat_parse_expr.specs.Openings.{follow_at}
+use Rattle.cat_parse_expr.specs.Parts.{Lower, is_sign}
+use Rattle.cat_parse_expr.specs.Reader.{Parsed, Fails, Reads, Reader, ◌⨟◌, pure, nothing, after, heads}
+use Rattle.cat_parse_expr.specs.Right.{Is, IsRight}
+use Rattle.cat_parse_expr.specs.Rightly.{IsMeasured, IsLow, operand_row, AreRight}
+use Rattle.cat_parse_expr.proofs.Chains.{Step, Operates, put, step_parts}
 use Rattle.cat_parse_expr.proofs.Choices.{Recast}
 use Rattle.cat_parse_expr.proofs.Firsts.{is_bare}
-use Rattle.cat_parse_expr.proofs.Follows.{operator_ends, one_level, tall_enough}
-use Rattle.cat_parse_expr.proofs.Leaves.{cue_found, cue_self}
+use Rattle.cat_parse_expr.proofs.Follows.{tall_enough}
+use Rattle.cat_parse_expr.proofs.Leaves.{cue_self}
 use Rattle.cat_parse_expr.proofs.NoRoom.{nothing_read}
-use Rattle.cat_parse_expr.proofs.Operands.{Next, goes_past, goes_then, ending_next, end_read}
-use Rattle.cat_parse_expr.proofs.Patterns.{case_first, case_rest, NoDot, whole_case_read}
-use Rattle.cat_parse_expr.proofs.Read.{IsRead, pure_read}
-use Rattle.cat_parse_expr.proofs.Sequels.{last_read}
-use Rattle.cat_parse_expr.proofs.Shaping.{recast_read, reshape_read}
-use Rattle.cat_parse_expr.proofs.Worded.{word_read, word_at_read, lower_room_read, upper_room_read}
+use Rattle.cat_parse_expr.proofs.Operands.{goes_past}
+use Rattle.cat_parse_expr.proofs.Read.{IsRead}
 use Rattle.std.proofs.lemmas.List.{append-nil}
-use Rattle.cat_parse_expr.specs.Reader.{left_of, fallen, heads_second, made_of, turns, too_high}
-use Rattle.cat_parse_expr.specs.Right.{Agree, AgreePast}
-use Rattle.cat_parse_expr.specs.Followers.{is_with_pattern}
-use Rattle.cat_parse_expr.specs.Parts.{is_lower, as_many}
-use Rattle.cat_parse_expr.proofs.Bracketed.{part_shrinks}
-use Rattle.cat_parse_expr.proofs.Chosen.{fallen_mapped}
-use Rattle.cat_parse_expr.proofs.Heading as heading
+use Rattle.cat_parse_expr.specs.Reader.{fallen, made_of, turns}
+use Rattle.cat_parse_expr.specs.Parts.{as_many}
 use Rattle.cat_parse_expr.proofs.Lists as lists
-use Rattle.cat_parse_expr.proofs.Loops as loops
-use Rattle.cat_parse_expr.proofs.Operands.{Next as NextAt}
-use Rattle.cat_parse_expr.proofs.Stepping.{cue_of, operator_word, operator_is, follow_in, FitsOne, dot_refused}
-use Rattle.cat_parse_expr.proofs.Stepping.{Low, Low_step, Next_step, Of_follow, ReadsStep, operated_read, selected_read}
-use Rattle.cat_parse_expr.proofs.Stepping.{tested_read}
-use Rattle.cat_parse_expr.proofs.Turnings.{left_mapped, left_fallen, moves_one, takes_one, word_there, shrinks_after, shrinks_one}
-use Rattle.cat_parse_expr.proofs.Wholes.{behind_right}
-use Rattle.cat_tree.proofs.Exported.{phrase_Binary, phrase_Field, phrase_Test}
-use Rattle.cat_tree.specs.Phrase.{IsSpelling, Row, IsLevelled, right_strength}
-use Rattle.cat_parse_expr.specs.Forms as forms
-use Rattle.cat_parse_expr.specs.Reader.{by_word}
-use Rattle.cat_parse_expr.proofs.Climbs.{clash, both_are, both_true, second, le_true, le_of, dot_at, seen_past, agree_past}
-use Rattle.cat_parse_expr.proofs.Climbs.{first_false, stops_at, tests_is, dotted_is, room_shrinks, step_follows, step_goes}
-use Rattle.cat_parse_expr.proofs.Leaves.{anywhere}
-use Rattle.cat_parse_expr.proofs.Sampling.{a_name, a_node, a_token, lower_token, node_levels, node_spelled}
-use Rattle.cat_parse_expr.proofs.Turnings.{read_shrinks}
-use Rattle.std.proofs.Common.{append_assoc}
-use Rattle.cat_tree.specs.Joined.{◌▸◌, all}
-use Rattle.cat_tree.specs.Phrase.{Part, Operand}
-use Rattle.cat_tree.proofs.Exported.{phrase_Case}
+use Rattle.cat_parse_expr.proofs.StepWords.{cue_of, operator_word, operator_is, FitsOne}
+use Rattle.cat_tree.specs.Phrase.{IsSpelling}
 use Rattle.cat_parse_expr.specs.Climbing.{operand}
-use Rattle.cat_parse_expr.specs.Right.{Taken}
 use Rattle.cat_parse_expr.proofs.Chains.{put_all, steps_spelled}
 use Rattle.cat_parse_expr.proofs.Chaining as chaining
 use Rattle.cat_parse_expr.proofs.Chosen.{same_read}
 use Rattle.cat_parse_expr.proofs.Climbed as climbed
+use Rattle.cat_parse_expr.proofs.Climber as climber
 use Rattle.cat_parse_expr.proofs.Climbed.{step_not_bare}
-use Rattle.cat_parse_expr.proofs.Held.{held_read}
 use Rattle.cat_parse_expr.proofs.Looping as looping
-use Rattle.cat_parse_expr.proofs.Looping.{near_right, near_keeps}
-use Rattle.cat_parse_expr.proofs.Operands.{Placed, whole_same}
+use Rattle.cat_parse_expr.proofs.Nearly.{near_right, near_keeps}
+use Rattle.cat_parse_expr.proofs.Operands.{Placed}
 use Rattle.cat_parse_expr.proofs.Primary.{primary_read}
 use Rattle.cat_parse_expr.proofs.Shaping.{made_read}
-use Rattle.cat_parse_expr.proofs.Spines.{FitsAll, all_measured, all_stood, spine, bare_case}
+use Rattle.cat_parse_expr.proofs.Spines.{FitsAll, all_measured, all_stood, spine}
+use Rattle.cat_parse_expr.proofs.Truth.{first_false}
+use Rattle.cat_parse_expr.proofs.Bared.{AreKept, bare_stops}
 
--- the longest front is kept by readers of operands
-abbrev pub AreKept : (room : ℕ) → Lower → Type 0
-AreKept room ex =
-    (b : Behind) (j bound : ℕ) → j ≤ 9 → KeepsWhole (IsLow room) bound IsMeasured (operand_row j) (ex b j)
-
-module _ (ex : Lower) (room : ℕ) (right : AreRight room ex) (kept : AreKept room ex) (b : Behind) (k : ℕ) (le : k ≤ 9) where
+module _ (ex : Lower) (room : ℕ) (right : AreRight room ex) (kept : AreKept room ex) (b : Behind) (k : ℕ)
+    (le : k ≤ 9) where
   abbrev one : Measured → Reader Step
-  one = climbed.one_step ex room right kept b k le
+  one = climber.one_step ex room right kept b k le
 
   abbrev turn : Measured → Reader Measured
-  turn = climbed.turn ex room right kept b k le
+  turn = climber.turn ex room right kept b k le
 
   abbrev prim : Reader Measured
   prim = climbing.primary ex room b k
 
-  -- ---- no dot is left behind a bare case
-
-  fallen_reads : {A : Type 0} (ts : List Token) (o : Parsed A) (x : A) (left : List Token) → fallen ts o ≡ Reads x left
-      → o ≡ Reads x left
-  fallen_reads ts (Fails l deep whole) x left e = absurd cc
-  fallen_reads ts (Reads y l) x left e = e
-
-  dotted_takes : (u : Name) (ts left : List Token) (a : Measured) → forms.dotted ex room b k u ts ≡ Reads a left
-      → length left < length ts
-  dotted_takes u ts left a e =
-      takes_one (word_of (cue.Sign symbol.Dot)) _ ts left a (λ p us. by (heads is_lower us) us) e
-    where
-      by : (c : Bool) (us : List Token)
-          → length (left_of (if c then forms.case_field ex room u us
-          else (cues.upper ⨟ λ v. forms.case_content ex room b k (Qualified u v)) us)) ≤ length us
-      by true us =
-          shrinks_after (with_room room cues.lower us) _ (length us) (room_shrinks room lower_of us) (λ x vs. omega arith)
-      by false us =
-          shrinks_after (cues.upper us) _ (length us) (shrinks_one upper_of us)
-          (λ v vs. read_shrinks (held_read ex room right kept b k (Qualified u v) {K = Unit {0}}) tt tt vs)
-
-  taken_prim : (ts : List Token) → Taken (IsLow (suc room)) (Placed k) (operand_row k) (prim ts) ts
-  taken_prim ts =
-      let h = primary_read ex room right kept b k le {K = Unit {0}} in
-      subst (λ (o : Parsed Measured). Taken (IsLow (suc room)) (Placed k) (operand_row k) o ts)
-      (whole_same ex room right (h.reader ts) ∙ sym (h.maps ts))
-      ((h.right tt tt (length ts)).taken ts (omega arith))
-
-  bare_ends : (u : Name) (left : List Token) (a : Measured)
-      → prim (record { kind = kind.Upper u.text; pos = u.pos } ∷ left) ≡ Reads a left
-      → heads (is_sign symbol.Dot) left ≡ false
-  bare_ends u left a e = by (heads (is_sign symbol.Dot) left) refl
-    where
-      none : (n : ℕ) → n < n → ⊥
-      none n lt = omega (arith, lt)
-
-      by : (c : Bool) → heads (is_sign symbol.Dot) left ≡ c → heads (is_sign symbol.Dot) left ≡ false
-      by false h = h
-      by true h =
-          absurd (none (length left) (dotted_takes (record { text = u.text; pos = u.pos }) left left a
-          (fallen_reads left (forms.dotted ex room b k (record { text = u.text; pos = u.pos }) left) a left
-          (sym (ap (λ (c : Bool). if c then fallen left (forms.dotted ex room b k (record { text = u.text; pos = u.pos }) left)
-          else by_word (is_sign symbol.LeftBrace)
-          (behind_whole (forms.structure ex room (record { text = u.text; pos = u.pos })))
-          (forms.case_content ex room b k (Bare (record { text = u.text; pos = u.pos }))) left) h) ∙ e))))
-
-  bare_stops : (ts left : List Token) (a : Measured) → prim ts ≡ Reads a left
-      → (is_bare (phrase a.node) && heads (is_sign symbol.Dot) left) ≡ false
-  bare_stops ts left a e = by (is_bare (phrase a.node)) refl
-    where
-      by : (c : Bool) → is_bare (phrase a.node) ≡ c
-          → (is_bare (phrase a.node) && heads (is_sign symbol.Dot) left) ≡ false
-      by false h = first_false (is_bare (phrase a.node)) (heads (is_sign symbol.Dot) left) h
-      by true h =
-          let t = subst (λ (o : Parsed Measured). Taken (IsLow (suc room)) (Placed k) (operand_row k) o ts) e (taken_prim ts) in
-          let u = bare_case a.node h in
-          let s = t.took.0.spelled in
-          let i = subst (λ (f : Phrase). IsSpelling f s.0) (ap phrase u.1 ∙ phrase_Case (Bare u.0)) s.3 in
-          let front : t.front ≡ record { kind = kind.Upper u.0.text; pos = u.0.pos } ∷ [] =
-          s.2 ∙ ap (λ (z : List Token). s.0 ++ z) s.4 ∙ append-nil s.0 ∙ i.2 ∙ ap (λ (z : List Token). i.0 ∷ z) i.4
-          ∙ ap (λ (z : Token). z ∷ []) i.3 in
-          second (is_bare (phrase a.node)) (heads (is_sign symbol.Dot) left)
-          (bare_ends u.0 left a
-          (sym (ap prim (t.text ∙ ap (λ (z : List Token). z ++ left) front)) ∙ e))
-
   -- ---- climbing goes by steps that fit
 
-  step_is : (s : Measured) (ts : List Token) (f : Follow) → follow_at ts ≡ f → climbed.allowed ex room right kept b k le s f ≡ true
+  step_is : (s : Measured) (ts : List Token) (f : Follow) → follow_at ts ≡ f
+      → climbed.allowed ex room right kept b k le s f ≡ true
       → climbing.step_by ex room b s f ts ≡ climbed.pick ex room right kept b k le s f ts
   step_is s ts f e h =
       by ts f e
@@ -197,7 +80,8 @@ module _ (ex : Lower) (room : ℕ) (right : AreRight room ex) (kept : AreKept ro
       by ts follow.Tests e = refl
       by ts follow.Other e = refl
 
-  turns_climb : (n : ℕ) (s : Measured) (ts : List Token) → (is_bare (phrase s.node) && heads (is_sign symbol.Dot) ts) ≡ false
+  turns_climb : (n : ℕ) (s : Measured) (ts : List Token) → (is_bare (phrase s.node) && heads (is_sign symbol.Dot) ts)
+      ≡ false
       → turns (goes_on b k) (climbing.step ex room b) n s ts ≡ turns (goes_past b k) turn n s ts
   turns_climb zero s ts c = refl
   turns_climb (suc n) s ts c =
@@ -213,28 +97,34 @@ module _ (ex : Lower) (room : ℕ) (right : AreRight room ex) (kept : AreKept ro
           ≡ after (after o (λ x. pure (put s x))) (turns (goes_past b k) turn n)
       rests rest (Fails l d w) = refl
       rests rest (Reads x l) =
-          rest (put s x) l (first_false (is_bare (phrase (put s x).node)) (heads (is_sign symbol.Dot) l) (step_not_bare s x))
+          rest (put s x) l (first_false (is_bare (phrase (put s x).node)) (heads (is_sign symbol.Dot) l)
+          (step_not_bare s x))
 
       by : ((z : Measured) (us : List Token) → (is_bare (phrase z.node) && heads (is_sign symbol.Dot) us) ≡ false
           → turns (goes_on b k) (climbing.step ex room b) n z us ≡ turns (goes_past b k) turn n z us)
           → (d : Bool) → goes_on b k s ts ≡ d
-          → (if goes_on b k s ts then after (climbing.step ex room b s ts) (turns (goes_on b k) (climbing.step ex room b) n)
+          → (if goes_on b k s ts then after (climbing.step ex room b s ts)
+          (turns (goes_on b k) (climbing.step ex room b) n)
           else Reads s ts)
           ≡ (if goes_past b k s ts then after (turn s ts) (turns (goes_past b k) turn n) else Reads s ts)
       by rest false e =
-          ap (λ (d : Bool). if d then after (climbing.step ex room b s ts) (turns (goes_on b k) (climbing.step ex room b) n)
+          ap (λ (d : Bool). if d then after (climbing.step ex room b s ts)
+          (turns (goes_on b k) (climbing.step ex room b) n)
           else Reads s ts) e
           ∙ sym (ap (λ (d : Bool). if d then after (turn s ts) (turns (goes_past b k) turn n) else Reads s ts)
           (past_on ∙ e))
       by rest true e =
-          ap (λ (d : Bool). if d then after (climbing.step ex room b s ts) (turns (goes_on b k) (climbing.step ex room b) n)
+          ap (λ (d : Bool). if d then after (climbing.step ex room b s ts)
+          (turns (goes_on b k) (climbing.step ex room b) n)
           else Reads s ts) e
           ∙ ap (λ (o : Parsed Measured). after (fallen ts o) (turns (goes_on b k) (climbing.step ex room b) n))
-          (step_is s ts (follow_at ts) refl (climbed.goes_allowed ex room right kept b k le s ts (past_on ∙ e) (follow_at ts) refl))
+          (step_is s ts (follow_at ts) refl (climber.goes_allowed ex room right kept b k le s ts (past_on ∙ e)
+          (follow_at ts) refl))
           ∙ ap (λ (o : Parsed Measured). after o (turns (goes_on b k) (climbing.step ex room b) n))
-          (climbed.same ex room right kept b k le s ts)
+          (climber.same ex room right kept b k le s ts)
           ∙ rests rest (one s ts)
-          ∙ ap (λ (o : Parsed Measured). after o (turns (goes_past b k) turn n)) (sym (climbed.same ex room right kept b k le s ts))
+          ∙ ap (λ (o : Parsed Measured). after o (turns (goes_past b k) turn n))
+          (sym (climber.same ex room right kept b k le s ts))
           ∙ sym (ap (λ (d : Bool). if d then after (turn s ts) (turns (goes_past b k) turn n) else Reads s ts)
           (past_on ∙ e))
 
@@ -245,7 +135,7 @@ module _ (ex : Lower) (room : ℕ) (right : AreRight room ex) (kept : AreKept ro
       by : (o : Parsed Measured) → prim ts ≡ o
           → after o (as_many (goes_on b k) (climbing.step ex room b)) ≡ after o (λ z. as_many (goes_past b k) turn z)
       by (Fails l d w) e = refl
-      by (Reads a left) e = turns_climb (length left) a left (bare_stops ts left a e)
+      by (Reads a left) e = turns_climb (length left) a left (bare_stops ex room right kept b k le ts left a e)
 
   -- ---- as expressions
 
@@ -256,15 +146,33 @@ module _ (ex : Lower) (room : ℕ) (right : AreRight room ex) (kept : AreKept ro
   chain_is s [] = refl
   chain_is s (x ∷ xs) = chain_is (put s x) xs
 
-  to_all : (s : Measured) (xs : List Step) → looping.FitsFrom (goes_past b k) (climbed.one_step ex room right kept b k le) put (climbed.Good ex room right kept b k le) (climbed.LowAs ex room right kept b k le) (climbed.Out ex room right kept b k le) (climbed.More ex room right kept b k le) (looks_of b) (FitsOne k) step_parts (climbed.turning ex room right kept b k le) s xs → FitsAll k s xs
+  to_all : (s : Measured) (xs : List Step) → looping.FitsFrom (goes_past b k)
+      (climber.one_step ex room right kept b k le) put (climbed.Good ex room right kept b k le)
+      (climbed.LowAs ex room right kept b k le) (climber.Out ex room right kept b k le)
+      (climber.More ex room right kept b k le) (looks_of b) (FitsOne k) step_parts
+      (climber.turning ex room right kept b k le) s xs → FitsAll k s xs
   to_all s [] f = tt
   to_all s (x ∷ xs) f = (f.0, to_all (put s x) xs f.1)
 
-  from_all : (s : Measured) (xs : List Step) → FitsAll k s xs → looping.FitsFrom (goes_past b k) (climbed.one_step ex room right kept b k le) put (climbed.Good ex room right kept b k le) (climbed.LowAs ex room right kept b k le) (climbed.Out ex room right kept b k le) (climbed.More ex room right kept b k le) (looks_of b) (FitsOne k) step_parts (climbed.turning ex room right kept b k le) s xs
+  from_all : (s : Measured) (xs : List Step) → FitsAll k s xs → looping.FitsFrom (goes_past b k)
+      (climber.one_step ex room right kept b k le) put (climbed.Good ex room right kept b k le)
+      (climbed.LowAs ex room right kept b k le) (climber.Out ex room right kept b k le)
+      (climber.More ex room right kept b k le) (looks_of b) (FitsOne k) step_parts
+      (climber.turning ex room right kept b k le) s xs
   from_all s [] f = tt
   from_all s (x ∷ xs) f = (f.0, from_all (put s x) xs f.1)
 
-  to_operand : (y : Chain) (w : List Token) → Is (chaining.fits_chain (goes_past b k) (climbed.one_step ex room right kept b k le) put (climbed.Good ex room right kept b k le) (climbed.LowAs ex room right kept b k le) (climbed.Out ex room right kept b k le) (climbed.More ex room right kept b k le) (looks_of b) (FitsOne k) step_parts (climbed.turning ex room right kept b k le) (climbed.turn ex room right kept b k le) (climbed.same ex room right kept b k le) (λ a. a) (IsLow (suc room)) (Placed k) (operand_row k) (λ z. z)) (chaining.row_chain (goes_past b k) (climbed.one_step ex room right kept b k le) put (climbed.Good ex room right kept b k le) (climbed.LowAs ex room right kept b k le) (climbed.Out ex room right kept b k le) (climbed.More ex room right kept b k le) (looks_of b) (FitsOne k) step_parts (climbed.turning ex room right kept b k le) (climbed.turn ex room right kept b k le) (climbed.same ex room right kept b k le) (λ a. a) (IsLow (suc room)) (Placed k) (operand_row k) (λ z. z)) y w
+  to_operand : (y : Chain) (w : List Token) → Is
+      (chaining.fits_chain (goes_past b k) (climber.one_step ex room right kept b k le) put
+      (climbed.Good ex room right kept b k le) (climbed.LowAs ex room right kept b k le)
+      (climber.Out ex room right kept b k le) (climber.More ex room right kept b k le) (looks_of b)
+      (FitsOne k) step_parts (climber.turning ex room right kept b k le) (climber.turn ex room right kept b k le)
+      (climber.same ex room right kept b k le) (λ a. a) (IsLow (suc room)) (Placed k) (operand_row k) (λ z. z))
+      (chaining.row_chain (goes_past b k) (climber.one_step ex room right kept b k le) put
+      (climbed.Good ex room right kept b k le) (climbed.LowAs ex room right kept b k le)
+      (climber.Out ex room right kept b k le) (climber.More ex room right kept b k le) (looks_of b)
+      (FitsOne k) step_parts (climber.turning ex room right kept b k le) (climber.turn ex room right kept b k le)
+      (climber.same ex room right kept b k le) (λ a. a) (IsLow (suc room)) (Placed k) (operand_row k) (λ z. z)) y w
       → Is IsMeasured (operand_row k) (put_all y.0 y.1) w
   to_operand y w i =
       let f = to_all y.0 y.1 i.fit.1 in
@@ -284,7 +192,21 @@ module _ (ex : Lower) (room : ℕ) (right : AreRight room ex) (kept : AreKept ro
       }
 
   from_operand : (y : Measured) (w : List Token) → Is IsMeasured (operand_row k) y w
-      → (c : Chain) × (y ≡ chaining.chain_of (goes_past b k) (climbed.one_step ex room right kept b k le) put (climbed.Good ex room right kept b k le) (climbed.LowAs ex room right kept b k le) (climbed.Out ex room right kept b k le) (climbed.More ex room right kept b k le) (looks_of b) (FitsOne k) step_parts (climbed.turning ex room right kept b k le) (climbed.turn ex room right kept b k le) (climbed.same ex room right kept b k le) (λ a. a) (IsLow (suc room)) (Placed k) (operand_row k) (λ z. z) c) × Is (chaining.fits_chain (goes_past b k) (climbed.one_step ex room right kept b k le) put (climbed.Good ex room right kept b k le) (climbed.LowAs ex room right kept b k le) (climbed.Out ex room right kept b k le) (climbed.More ex room right kept b k le) (looks_of b) (FitsOne k) step_parts (climbed.turning ex room right kept b k le) (climbed.turn ex room right kept b k le) (climbed.same ex room right kept b k le) (λ a. a) (IsLow (suc room)) (Placed k) (operand_row k) (λ z. z)) (chaining.row_chain (goes_past b k) (climbed.one_step ex room right kept b k le) put (climbed.Good ex room right kept b k le) (climbed.LowAs ex room right kept b k le) (climbed.Out ex room right kept b k le) (climbed.More ex room right kept b k le) (looks_of b) (FitsOne k) step_parts (climbed.turning ex room right kept b k le) (climbed.turn ex room right kept b k le) (climbed.same ex room right kept b k le) (λ a. a) (IsLow (suc room)) (Placed k) (operand_row k) (λ z. z)) c w
+      → (c : Chain) × (y ≡ chaining.chain_of (goes_past b k) (climber.one_step ex room right kept b k le) put
+      (climbed.Good ex room right kept b k le) (climbed.LowAs ex room right kept b k le)
+      (climber.Out ex room right kept b k le) (climber.More ex room right kept b k le) (looks_of b)
+      (FitsOne k) step_parts (climber.turning ex room right kept b k le) (climber.turn ex room right kept b k le)
+      (climber.same ex room right kept b k le) (λ a. a) (IsLow (suc room)) (Placed k) (operand_row k) (λ z. z) c) × Is
+      (chaining.fits_chain (goes_past b k) (climber.one_step ex room right kept b k le) put
+      (climbed.Good ex room right kept b k le) (climbed.LowAs ex room right kept b k le)
+      (climber.Out ex room right kept b k le) (climber.More ex room right kept b k le) (looks_of b)
+      (FitsOne k) step_parts (climber.turning ex room right kept b k le) (climber.turn ex room right kept b k le)
+      (climber.same ex room right kept b k le) (λ a. a) (IsLow (suc room)) (Placed k) (operand_row k) (λ z. z))
+      (chaining.row_chain (goes_past b k) (climber.one_step ex room right kept b k le) put
+      (climbed.Good ex room right kept b k le) (climbed.LowAs ex room right kept b k le)
+      (climber.Out ex room right kept b k le) (climber.More ex room right kept b k le) (looks_of b)
+      (FitsOne k) step_parts (climber.turning ex room right kept b k le) (climber.turn ex room right kept b k le)
+      (climber.same ex room right kept b k le) (λ a. a) (IsLow (suc room)) (Placed k) (operand_row k) (λ z. z)) c w
   from_operand y w i =
       let s = i.spelled in
       let sp = spine y.node k s.0 le i.levels.1 i.levels.0 s.3 in (
@@ -303,13 +225,52 @@ module _ (ex : Lower) (room : ℕ) (right : AreRight room ex) (kept : AreKept ro
         },
       )
 
-  to_chain : (y : Chain) (w : List Token) → Is (chaining.fits_chain (goes_past b k) (climbed.one_step ex room right kept b k le) put (climbed.Good ex room right kept b k le) (climbed.LowAs ex room right kept b k le) (climbed.Out ex room right kept b k le) (climbed.More ex room right kept b k le) (looks_of b) (FitsOne k) step_parts (climbed.turning ex room right kept b k le) (climbed.turn ex room right kept b k le) (climbed.same ex room right kept b k le) (λ a. a) (IsLow (suc room)) (Placed k) (operand_row k) (λ z. z)) (chaining.row_chain (goes_past b k) (climbed.one_step ex room right kept b k le) put (climbed.Good ex room right kept b k le) (climbed.LowAs ex room right kept b k le) (climbed.Out ex room right kept b k le) (climbed.More ex room right kept b k le) (looks_of b) (FitsOne k) step_parts (climbed.turning ex room right kept b k le) (climbed.turn ex room right kept b k le) (climbed.same ex room right kept b k le) (λ a. a) (IsLow (suc room)) (Placed k) (operand_row k) (λ z. z)) y w
-      → Is IsMeasured (operand_row k) (chaining.chain_of (goes_past b k) (climbed.one_step ex room right kept b k le) put (climbed.Good ex room right kept b k le) (climbed.LowAs ex room right kept b k le) (climbed.Out ex room right kept b k le) (climbed.More ex room right kept b k le) (looks_of b) (FitsOne k) step_parts (climbed.turning ex room right kept b k le) (climbed.turn ex room right kept b k le) (climbed.same ex room right kept b k le) (λ a. a) (IsLow (suc room)) (Placed k) (operand_row k) (λ z. z) y) w
+  to_chain : (y : Chain) (w : List Token) → Is
+      (chaining.fits_chain (goes_past b k) (climber.one_step ex room right kept b k le) put
+      (climbed.Good ex room right kept b k le) (climbed.LowAs ex room right kept b k le)
+      (climber.Out ex room right kept b k le) (climber.More ex room right kept b k le) (looks_of b)
+      (FitsOne k) step_parts (climber.turning ex room right kept b k le) (climber.turn ex room right kept b k le)
+      (climber.same ex room right kept b k le) (λ a. a) (IsLow (suc room)) (Placed k) (operand_row k) (λ z. z))
+      (chaining.row_chain (goes_past b k) (climber.one_step ex room right kept b k le) put
+      (climbed.Good ex room right kept b k le) (climbed.LowAs ex room right kept b k le)
+      (climber.Out ex room right kept b k le) (climber.More ex room right kept b k le) (looks_of b)
+      (FitsOne k) step_parts (climber.turning ex room right kept b k le) (climber.turn ex room right kept b k le)
+      (climber.same ex room right kept b k le) (λ a. a) (IsLow (suc room)) (Placed k) (operand_row k) (λ z. z)) y w
+      → Is IsMeasured (operand_row k) (chaining.chain_of (goes_past b k)
+      (climber.one_step ex room right kept b k le) put (climbed.Good ex room right kept b k le)
+      (climbed.LowAs ex room right kept b k le) (climber.Out ex room right kept b k le)
+      (climber.More ex room right kept b k le) (looks_of b) (FitsOne k) step_parts
+      (climber.turning ex room right kept b k le) (climber.turn ex room right kept b k le)
+      (climber.same ex room right kept b k le) (λ a. a) (IsLow (suc room)) (Placed k) (operand_row k) (λ z. z) y) w
   to_chain y w i =
       subst (λ (z : Measured). Is IsMeasured (operand_row k) z w) (sym (chain_is y.0 y.1)) (to_operand y w i)
 
-  cast : Recast (chaining.Low_chain (goes_past b k) (climbed.one_step ex room right kept b k le) put (climbed.Good ex room right kept b k le) (climbed.LowAs ex room right kept b k le) (climbed.Out ex room right kept b k le) (climbed.More ex room right kept b k le) (looks_of b) (FitsOne k) step_parts (climbed.turning ex room right kept b k le) (climbed.turn ex room right kept b k le) (climbed.same ex room right kept b k le) (λ a. a) (IsLow (suc room)) (Placed k) (operand_row k) (λ z. z)) (IsLow (suc room)) (chaining.Out_chain (goes_past b k) (climbed.one_step ex room right kept b k le) put (climbed.Good ex room right kept b k le) (climbed.LowAs ex room right kept b k le) (climbed.Out ex room right kept b k le) (climbed.More ex room right kept b k le) (looks_of b) (FitsOne k) step_parts (climbed.turning ex room right kept b k le) (climbed.turn ex room right kept b k le) (climbed.same ex room right kept b k le) (λ a. a) (IsLow (suc room)) (Placed k) (operand_row k) (λ z. z)) (MayFollow b k)
-      (chaining.fits_chain (goes_past b k) (climbed.one_step ex room right kept b k le) put (climbed.Good ex room right kept b k le) (climbed.LowAs ex room right kept b k le) (climbed.Out ex room right kept b k le) (climbed.More ex room right kept b k le) (looks_of b) (FitsOne k) step_parts (climbed.turning ex room right kept b k le) (climbed.turn ex room right kept b k le) (climbed.same ex room right kept b k le) (λ a. a) (IsLow (suc room)) (Placed k) (operand_row k) (λ z. z)) IsMeasured (chaining.row_chain (goes_past b k) (climbed.one_step ex room right kept b k le) put (climbed.Good ex room right kept b k le) (climbed.LowAs ex room right kept b k le) (climbed.Out ex room right kept b k le) (climbed.More ex room right kept b k le) (looks_of b) (FitsOne k) step_parts (climbed.turning ex room right kept b k le) (climbed.turn ex room right kept b k le) (climbed.same ex room right kept b k le) (λ a. a) (IsLow (suc room)) (Placed k) (operand_row k) (λ z. z)) (operand_row k) (chaining.chain_of (goes_past b k) (climbed.one_step ex room right kept b k le) put (climbed.Good ex room right kept b k le) (climbed.LowAs ex room right kept b k le) (climbed.Out ex room right kept b k le) (climbed.More ex room right kept b k le) (looks_of b) (FitsOne k) step_parts (climbed.turning ex room right kept b k le) (climbed.turn ex room right kept b k le) (climbed.same ex room right kept b k le) (λ a. a) (IsLow (suc room)) (Placed k) (operand_row k) (λ z. z))
+  cast : Recast (chaining.Low_chain (goes_past b k) (climber.one_step ex room right kept b k le) put
+      (climbed.Good ex room right kept b k le) (climbed.LowAs ex room right kept b k le)
+      (climber.Out ex room right kept b k le) (climber.More ex room right kept b k le) (looks_of b)
+      (FitsOne k) step_parts (climber.turning ex room right kept b k le) (climber.turn ex room right kept b k le)
+      (climber.same ex room right kept b k le) (λ a. a) (IsLow (suc room)) (Placed k) (operand_row k) (λ z. z))
+      (IsLow (suc room)) (chaining.Out_chain (goes_past b k) (climber.one_step ex room right kept b k le) put
+      (climbed.Good ex room right kept b k le) (climbed.LowAs ex room right kept b k le)
+      (climber.Out ex room right kept b k le) (climber.More ex room right kept b k le) (looks_of b)
+      (FitsOne k) step_parts (climber.turning ex room right kept b k le) (climber.turn ex room right kept b k le)
+      (climber.same ex room right kept b k le) (λ a. a) (IsLow (suc room)) (Placed k) (operand_row k) (λ z. z))
+      (MayFollow b k)
+      (chaining.fits_chain (goes_past b k) (climber.one_step ex room right kept b k le) put
+      (climbed.Good ex room right kept b k le) (climbed.LowAs ex room right kept b k le)
+      (climber.Out ex room right kept b k le) (climber.More ex room right kept b k le) (looks_of b)
+      (FitsOne k) step_parts (climber.turning ex room right kept b k le) (climber.turn ex room right kept b k le)
+      (climber.same ex room right kept b k le) (λ a. a) (IsLow (suc room)) (Placed k) (operand_row k)
+      (λ z. z)) IsMeasured (chaining.row_chain (goes_past b k) (climber.one_step ex room right kept b k le) put
+      (climbed.Good ex room right kept b k le) (climbed.LowAs ex room right kept b k le)
+      (climber.Out ex room right kept b k le) (climber.More ex room right kept b k le) (looks_of b)
+      (FitsOne k) step_parts (climber.turning ex room right kept b k le) (climber.turn ex room right kept b k le)
+      (climber.same ex room right kept b k le) (λ a. a) (IsLow (suc room)) (Placed k) (operand_row k) (λ z. z))
+      (operand_row k) (chaining.chain_of (goes_past b k) (climber.one_step ex room right kept b k le) put
+      (climbed.Good ex room right kept b k le) (climbed.LowAs ex room right kept b k le)
+      (climber.Out ex room right kept b k le) (climber.More ex room right kept b k le) (looks_of b)
+      (FitsOne k) step_parts (climber.turning ex room right kept b k le) (climber.turn ex room right kept b k le)
+      (climber.same ex room right kept b k le) (λ a. a) (IsLow (suc room)) (Placed k) (operand_row k) (λ z. z))
   cast = record {
     to = to_chain;
     from = from_operand;
@@ -319,25 +280,39 @@ module _ (ex : Lower) (room : ℕ) (right : AreRight room ex) (kept : AreKept ro
   }
 
   -- an operand, and the operators behind it
-  pub climb_read : {K : Type 0} → IsRead (λ y. y) K (Unit {0}) (Unit {0}) (IsLow (suc room)) (MayFollow b k) (looks_of b)
+  pub climb_read : {K : Type 0} → IsRead (λ y. y) K (Unit {0}) (Unit {0}) (IsLow (suc room)) (MayFollow b k)
+      (looks_of b)
       IsMeasured (operand_row k) (climbing.climb ex room b k)
   climb_read =
       same_read (prim ⨟ λ z. as_many (goes_past b k) turn z) (climbing.climb ex room b k) climb_same
       (made_read _ _ _ _ (λ f. f) (λ f c. c) (λ f. to_chain) (λ f c. cast)
-      (chaining.chain_read (goes_past b k) (climbed.one_step ex room right kept b k le) put (climbed.Good ex room right kept b k le) (climbed.LowAs ex room right kept b k le) (climbed.Out ex room right kept b k le) (climbed.More ex room right kept b k le) (looks_of b) (FitsOne k) step_parts (climbed.turning ex room right kept b k le) (climbed.turn ex room right kept b k le) (climbed.same ex room right kept b k le) (λ a. a) (IsLow (suc room)) (Placed k) (operand_row k) (λ z. z)
+      (chaining.chain_read (goes_past b k) (climber.one_step ex room right kept b k le) put
+      (climbed.Good ex room right kept b k le) (climbed.LowAs ex room right kept b k le)
+      (climber.Out ex room right kept b k le) (climber.More ex room right kept b k le) (looks_of b)
+      (FitsOne k) step_parts (climber.turning ex room right kept b k le) (climber.turn ex room right kept b k le)
+      (climber.same ex room right kept b k le) (λ a. a) (IsLow (suc room)) (Placed k) (operand_row k) (λ z. z)
       (record {
         good = λ a f. tall_enough a f.measured;
         low = λ a f l. l;
         back = λ a f l. l;
       })
       prim (primary_read ex room right kept b k le)
-      (λ q. looping.loop_keeps (goes_past b k) (climbed.one_step ex room right kept b k le) put (climbed.Good ex room right kept b k le) (climbed.LowAs ex room right kept b k le) (climbed.Out ex room right kept b k le) (climbed.More ex room right kept b k le) (looks_of b) (FitsOne k) step_parts (climbed.turning ex room right kept b k le) (climbed.inner_step ex room right kept b k le) (λ s ts. refl) (climbed.inner_kept ex room right kept b k le))
-      (λ q. looping.loop_far (goes_past b k) (climbed.one_step ex room right kept b k le) put (climbed.Good ex room right kept b k le) (climbed.LowAs ex room right kept b k le) (climbed.Out ex room right kept b k le) (climbed.More ex room right kept b k le) (looks_of b) (FitsOne k) step_parts (climbed.turning ex room right kept b k le) (climbed.inner_step ex room right kept b k le) (λ s ts. refl) (climbed.inner_kept ex room right kept b k le))))
+      (λ q. looping.loop_keeps (goes_past b k) (climber.one_step ex room right kept b k le) put
+      (climbed.Good ex room right kept b k le) (climbed.LowAs ex room right kept b k le)
+      (climber.Out ex room right kept b k le) (climber.More ex room right kept b k le) (looks_of b)
+      (FitsOne k) step_parts (climber.turning ex room right kept b k le) (climber.inner_step ex room right kept b k le)
+      (λ s ts. refl) (climber.inner_kept ex room right kept b k le))
+      (λ q. looping.loop_far (goes_past b k) (climber.one_step ex room right kept b k le) put
+      (climbed.Good ex room right kept b k le) (climbed.LowAs ex room right kept b k le)
+      (climber.Out ex room right kept b k le) (climber.More ex room right kept b k le) (looks_of b)
+      (FitsOne k) step_parts (climber.turning ex room right kept b k le) (climber.inner_step ex room right kept b k le)
+      (λ s ts. refl) (climber.inner_kept ex room right kept b k le))))
 
 -- ---- by the room that is left
 
 plain_right : (room bound : ℕ) (b : Behind) (k : ℕ) (s : Reader Measured)
-    → IsRead (λ y. y) (Unit {0}) (Unit {0}) (Unit {0}) (IsLow room) (MayFollow b k) (looks_of b) IsMeasured (operand_row k) s
+    → IsRead (λ y. y) (Unit {0}) (Unit {0}) (Unit {0}) (IsLow room) (MayFollow b k) (looks_of b) IsMeasured
+    (operand_row k) s
     → IsRight (IsLow room) bound (MayFollow b k) (looks_of b) IsMeasured (operand_row k) s
 plain_right room bound b k s h =
     near_right (IsLow room) bound (MayFollow b k) (looks_of b) IsMeasured (operand_row k) h.reader s
@@ -348,7 +323,8 @@ plain_right room bound b k s h =
     by (Reads x l) = refl
 
 plain_keeps : (room bound : ℕ) (b : Behind) (k : ℕ) (s : Reader Measured)
-    → IsRead (λ y. y) (Unit {0}) (Unit {0}) (Unit {0}) (IsLow room) (MayFollow b k) (looks_of b) IsMeasured (operand_row k) s
+    → IsRead (λ y. y) (Unit {0}) (Unit {0}) (Unit {0}) (IsLow room) (MayFollow b k) (looks_of b) IsMeasured
+    (operand_row k) s
     → KeepsWhole (IsLow room) bound IsMeasured (operand_row k) s
 plain_keeps room bound b k s h =
     near_keeps (IsLow room) bound IsMeasured (operand_row k) h.reader s
@@ -362,8 +338,10 @@ plain_keeps room bound b k s h =
 pub operands_read : (room : ℕ) → AreRight room (operand room) × AreKept room (operand room)
 unfolding operand
 operands_read zero = (
-  λ b k bound le. plain_right 0 bound b k (nothing_at k) (nothing_read (IsLow 0) (MayFollow b k) (looks_of b) k le high),
-  λ b k bound le. plain_keeps 0 bound b k (nothing_at k) (nothing_read (IsLow 0) (MayFollow b k) (looks_of b) k le high),
+  λ b k bound le. plain_right 0 bound b k (nothing_at k)
+      (nothing_read (IsLow 0) (MayFollow b k) (looks_of b) k le high),
+  λ b k bound le. plain_keeps 0 bound b k (nothing_at k)
+      (nothing_read (IsLow 0) (MayFollow b k) (looks_of b) k le high),
 )
   where
     high : (y : Measured) → IsMeasured y → IsLow 0 y → ⊥

@@ -1,12 +1,10 @@
 -- How an expression begins: its first word, and the form that it is by that.
-use Rattle.std.proofs.Common.{◌≡◌, ℕ, zero, suc, ◌≤◌, Bool, true, false, nat_le, List, [], ◌∷◌, ◌++◌, map, Option, Some, None}
-use Rattle.std.proofs.Common.{refl, sym, ap, subst, ◌∙◌, arith, inl, inr, ◌⊎◌}
-use Rattle.std.proofs.lemmas.Bool.Decides.{nat_tests}
+use Rattle.std.proofs.Common.{◌≡◌, Bool, true, false, List, ◌∷◌, ◌++◌, Option, Some, None}
+use Rattle.std.proofs.Common.{refl, sym, ap, subst, ◌∙◌, ◌⊎◌}
 use Rattle.cat_pos.specs.declared.pos.Pos.{Pos}
 use Rattle.cat_lex.specs.declared.token.Token.{Token}
 use Rattle.cat_lex.specs.declared.token.TokenKind.{TokenKind}
 use Rattle.cat_lex.specs.declared.token.TokenKind.TheVariants as kind
-use Rattle.cat_lex.specs.declared.symbol.Symbol.TheVariants as symbol
 use Rattle.cat_tree.specs.Accumulation.{accumulation}
 use Rattle.cat_tree.specs.declared.name.Name.{Name}
 use Rattle.cat_tree.specs.declared.name.CaseName.{CaseName}
@@ -16,7 +14,6 @@ use Rattle.cat_tree.specs.declared.expression.Literal.{Literal}
 use Rattle.cat_tree.specs.declared.expression.Literal.TheVariants as literal
 use Rattle.cat_tree.specs.declared.expression.Prefix.{Prefix}
 use Rattle.cat_tree.specs.declared.expression.Prefix.TheVariants as prefix
-use Rattle.cat_tree.specs.declared.expression.Operator.{Operator}
 use Rattle.cat_tree.specs.declared.expression.Each.{Each}
 use Rattle.cat_tree.specs.declared.expression.Each.TheVariants as each
 use Rattle.cat_tree.specs.declared.expression.Arm.{Arm}
@@ -27,12 +24,12 @@ use Rattle.cat_tree.specs.declared.expression.Node.TheViews as node
 use Rattle.cat_tree.specs.Literals.{literal_parts}
 use Rattle.cat_tree.specs.Operators.{prefix_level, prefix_parts}
 use Rattle.cat_tree.specs.Rows.{each_parts}
-use Rattle.cat_tree.specs.Phrase.{Phrase, Row, Parts, End, Word, Part, Operand, Terminal, At, Anywhere, IsAt, IsSpelling, AreSpelled}
+use Rattle.cat_tree.specs.Phrase.{Phrase, Row, Parts, End, Word, Part, Operand, At, IsSpelling, AreSpelled}
 use Rattle.cat_tree.specs.Grammar.{phrase}
-use Rattle.cat_tree.proofs.Exported.{phrase_Binary, phrase_Call, phrase_Case, phrase_Combine}
+use Rattle.cat_tree.proofs.Exported.{phrase_Call, phrase_Case, phrase_Combine}
 use Rattle.cat_tree.proofs.Exported.{phrase_Content, phrase_Each, phrase_Field, phrase_If, phrase_List}
 use Rattle.cat_tree.proofs.Exported.{phrase_Literal, phrase_Match, phrase_Name, phrase_Parens, phrase_Prefixed}
-use Rattle.cat_tree.proofs.Exported.{phrase_ScopeCall, phrase_Structure, phrase_Sum, phrase_Test}
+use Rattle.cat_tree.proofs.Exported.{phrase_ScopeCall, phrase_Structure, phrase_Sum}
 use Rattle.cat_parse_expr.specs.declared.opening.Opening.{Opening}
 use Rattle.cat_parse_expr.specs.declared.opening.Opening.TheVariants as opening
 use Rattle.cat_parse_expr.specs.Openings.{opening_of, opening_at}

@@ -1,32 +1,27 @@
 -- What may follow a part, where it is followed by a word, or where it ends an expression.
-use Rattle.std.proofs.Common.{◌≡◌, ℕ, zero, suc, ◌≤◌, ◌<◌, max, Bool, true, false, not, nat_eq, nat_le, nat_lt, ◌&&◌, ◌||◌, cond}
+use Rattle.std.proofs.Common.{◌≡◌, ℕ, zero, suc, ◌≤◌, ◌<◌, Bool, true, false, not, nat_eq, ◌&&◌, ◌||◌, cond}
 use Rattle.std.proofs.Common.{List, [], ◌∷◌, ◌++◌, refl, sym, ap, subst, ◌∙◌, arith, inl, inr, ◌⊎◌}
 use Rattle.std.proofs.lemmas.Bool.Decides.{nat_tests}
 use Rattle.cat_lex.specs.declared.token.Token.{Token}
 use Rattle.cat_lex.specs.declared.token.TokenKind.{TokenKind}
-use Rattle.cat_lex.specs.declared.token.TokenKind.TheVariants as kind
-use Rattle.cat_lex.specs.declared.words.Keyword.TheVariants as key
-use Rattle.cat_lex.specs.declared.words.DoubleKeyword.TheVariants as pair
 use Rattle.cat_lex.specs.declared.symbol.Symbol.TheVariants as symbol
 use Rattle.cat_tree.specs.declared.expression.Operator.{Operator}
 use Rattle.cat_tree.specs.declared.expression.Operator.TheVariants as op
 use Rattle.cat_tree.specs.declared.expression.Prefix.{Prefix}
 use Rattle.cat_tree.specs.declared.expression.Prefix.TheVariants as prefix
-use Rattle.cat_tree.specs.declared.expression.Node.{Node}
 use Rattle.cat_tree.specs.Operators.{operator_level, left_level, prefix_level}
-use Rattle.cat_tree.specs.Phrase.{Phrase, Row, Parts, Word, Terminal, At, Anywhere, IsAt, AreSpelled, height}
+use Rattle.cat_tree.specs.Phrase.{Phrase, Row, Terminal, At, Anywhere, IsAt, height}
 use Rattle.cat_tree.specs.Grammar.{phrase}
 use Rattle.cat_parse_expr.specs.declared.behind.Behind.{Behind}
-use Rattle.cat_parse_expr.specs.declared.behind.Behind.TheVariants.{Other, Field, Pattern as Tested}
 use Rattle.cat_parse_expr.specs.declared.follow.Follow.{Follow}
 use Rattle.cat_parse_expr.specs.declared.follow.Follow.TheVariants as follow
 use Rattle.cat_parse_expr.specs.declared.measured.Measured.{Measured}
-use Rattle.cat_parse_expr.specs.Openings.{follow_of, follow_at}
-use Rattle.cat_parse_expr.specs.Reader.{heads}
-use Rattle.cat_parse_expr.specs.Climbing.{ends_test, goes_so, goes_on}
-use Rattle.cat_parse_expr.specs.Parts.{is_sign, is_lower}
+use Rattle.cat_parse_expr.specs.Openings.{follow_of}
+use Rattle.cat_parse_expr.specs.Climbing.{goes_so, goes_on}
+use Rattle.cat_parse_expr.specs.Parts.{is_sign}
 use Rattle.cat_parse_expr.specs.Followers.{is_taken, is_asked, is_below, may_stand, MayFollow}
 use Rattle.cat_parse_expr.specs.Rightly.{IsMeasured}
+use Rattle.cat_parse_expr.proofs.Truth.{first_false, last_true, none_of, second_false}
 
 -- ---- heights
 
@@ -80,17 +75,6 @@ widened true false false true d e e2 none f h = refl
 widened true false false false true e e2 none f h = refl
 widened true false false false false e e2 none f h = f h
 
-last_true : (a b c d e : Bool) → e ≡ true → (not a || (b || (c || (d || e)))) ≡ true
-last_true false b c d e h = refl
-last_true true true c d e h = refl
-last_true true false true d e h = refl
-last_true true false false true e h = refl
-last_true true false false false e h = h
-
-both_false : (a b : Bool) → a ≡ false → (a && b) ≡ false
-both_false true b h = absurd cc
-both_false false b h = refl
-
 -- what may follow the whole, or goes on with it, may follow its last part
 pub handed : (b : Behind) (k : ℕ) (y : Measured) (j : ℕ) (e : Measured) (v : List Token) → Hands k y j e
     → MayFollow b k y v ⊎ (goes_on b k y v ≡ true) → MayFollow b j e v
@@ -100,7 +84,7 @@ handed b k y j e (p ∷ ts) h (inl o) =
     (nat_eq j 9 && is_sign symbol.Comma p.kind) (not e.in_match && is_sign symbol.MinusMinus p.kind)
     (not (nat_eq y.strength 0) && is_below k (follow_of p.kind))
     (not (nat_eq e.strength 0) && is_below j (follow_of p.kind))
-    (both_false (nat_eq k 9) (is_sign symbol.Comma p.kind) h.comma) (h.below (follow_of p.kind))
+    (first_false (nat_eq k 9) (is_sign symbol.Comma p.kind) h.comma) (h.below (follow_of p.kind))
     (ap (λ (m : Bool). not (is_taken p.kind) || (is_asked b p.kind ts || ((nat_eq k 9 && is_sign symbol.Comma p.kind)
     || ((not m && is_sign symbol.MinusMinus p.kind)
     || (not (nat_eq y.strength 0) && is_below k (follow_of p.kind)))))) (sym h.in_match) ∙ o)
@@ -114,19 +98,7 @@ handed b k y j e (p ∷ ts) h (inr o) =
 pub one_level : (o : Operator) → (1 ≤ left_level o) × (operator_level o ≤ left_level o) × (1 ≤ operator_level o)
     × (operator_level o ≤ 6)
 one_level op.Or = (omega arith, omega arith, omega arith, omega arith)
-one_level op.Xor = (omega arith, omega arith, omega arith, omega arith)
-one_level op.And = (omega arith, omega arith, omega arith, omega arith)
-one_level op.Less = (omega arith, omega arith, omega arith, omega arith)
-one_level op.LessEqual = (omega arith, omega arith, omega arith, omega arith)
-one_level op.Greater = (omega arith, omega arith, omega arith, omega arith)
-one_level op.GreaterEqual = (omega arith, omega arith, omega arith, omega arith)
-one_level op.Equal = (omega arith, omega arith, omega arith, omega arith)
-one_level op.NotEqual = (omega arith, omega arith, omega arith, omega arith)
-one_level op.Contains = (omega arith, omega arith, omega arith, omega arith)
-one_level op.Plus = (omega arith, omega arith, omega arith, omega arith)
-one_level op.Minus = (omega arith, omega arith, omega arith, omega arith)
-one_level op.Times = (omega arith, omega arith, omega arith, omega arith)
-one_level op.Divide = (omega arith, omega arith, omega arith, omega arith)
+one_level _ = (omega arith, omega arith, omega arith, omega arith)
 
 -- what a part of level j says where it ends something of level t
 pub record Ends (k t j : ℕ) : Type 0 where
@@ -135,9 +107,6 @@ pub record Ends (k t j : ℕ) : Type 0 where
   pub above : t ≤ j
   pub operators : (o : Operator) → left_level o ≤ t → operator_level o < j
   pub tests : 5 ≤ t → 4 < j
-
-le_by : (a b : ℕ) → nat_le a b ≡ true → a ≤ b
-le_by a b h = grind (arith, nat_tests, h)
 
 module _ (k t j : ℕ) (c : Ends k t j) where
   below_by : (s : ℕ) (f : Follow) → (not (nat_eq (cond (nat_eq s 0) 0 t) 0) && is_below k f) ≡ true
@@ -166,7 +135,8 @@ module _ (k t j : ℕ) (c : Ends k t j) where
   going_by b (suc s) follow.Other ts h = absurd cc
 
   -- something that ends in an operand
-  pub ending_hands : (y e : Measured) → y.strength ≡ cond (nat_eq e.strength 0) 0 t → y.in_match ≡ e.in_match → Hands k y j e
+  pub ending_hands : (y e : Measured) → y.strength ≡ cond (nat_eq e.strength 0) 0 t → y.in_match ≡ e.in_match
+      → Hands k y j e
   ending_hands y e is same = record {
     in_match = same;
     comma = grind (arith, nat_tests, c.low, c.high);
@@ -207,17 +177,7 @@ prefix_ends k o le = record {
     three op.Or h = omega arith
     three op.Xor h = omega arith
     three op.And h = omega arith
-    three op.Plus h = absurd (omega (arith, h))
-    three op.Minus h = absurd (omega (arith, h))
-    three op.Times h = absurd (omega (arith, h))
-    three op.Divide h = absurd (omega (arith, h))
-    three op.Less h = absurd (omega (arith, h))
-    three op.LessEqual h = absurd (omega (arith, h))
-    three op.Greater h = absurd (omega (arith, h))
-    three op.GreaterEqual h = absurd (omega (arith, h))
-    three op.Equal h = absurd (omega (arith, h))
-    three op.NotEqual h = absurd (omega (arith, h))
-    three op.Contains h = absurd (omega (arith, h))
+    three _ h = absurd (omega (arith, h))
 
     levels : (o : Prefix) → (prefix_level o ≤ 8) × ((p : Operator) → left_level p ≤ prefix_level o
         → operator_level p < prefix_level o)
@@ -254,24 +214,11 @@ argument_ends k le = record {
 
 -- ---- words that something would have taken
 
-none_of : (a b c d e : Bool) → a ≡ true → b ≡ false → c ≡ false → d ≡ false → e ≡ false
-    → (not a || (b || (c || (d || e)))) ≡ true → ⊥
-none_of false b c d e p q r s t h = absurd cc
-none_of true true c d e p q r s t h = absurd cc
-none_of true false true d e p q r s t h = absurd cc
-none_of true false false true e p q r s t h = absurd cc
-none_of true false false false true p q r s t h = absurd cc
-none_of true false false false false p q r s t h = absurd cc
-
 -- a word that is taken, but by no operator, and that no form asks for
 abbrev pub IsOwn : TokenKind → Type 0
 IsOwn p =
     (is_taken p ≡ true) × (follow_of p ≡ follow.Other) × (is_sign symbol.MinusMinus p ≡ false)
     × ((b : Behind) (ts : List Token) → is_asked b p ts ≡ false)
-
-both_second : (a b : Bool) → b ≡ false → (a && b) ≡ false
-both_second true b h = h
-both_second false b h = refl
 
 -- it doesn't follow
 pub own_not : (b : Behind) (k : ℕ) (y : Measured) (p : Token) (ts : List Token) → IsOwn p.kind
@@ -281,8 +228,8 @@ own_not b k y p ts own comma (inl h) =
     none_of (is_taken p.kind) (is_asked b p.kind ts) (nat_eq k 9 && is_sign symbol.Comma p.kind)
     (not y.in_match && is_sign symbol.MinusMinus p.kind)
     (not (nat_eq y.strength 0) && is_below k (follow_of p.kind)) own.0 (own.3 b ts) comma
-    (both_second (not y.in_match) (is_sign symbol.MinusMinus p.kind) own.2)
-    (both_second (not (nat_eq y.strength 0)) (is_below k (follow_of p.kind)) (ap (is_below k) own.1)) h
+    (second_false (not y.in_match) (is_sign symbol.MinusMinus p.kind) own.2)
+    (second_false (not (nat_eq y.strength 0)) (is_below k (follow_of p.kind)) (ap (is_below k) own.1)) h
 own_not b k y p ts own comma (inr h) =
     not_both (goes_so b k y.strength (follow_of p.kind) (p ∷ ts)) h
     (ap (λ (f : Follow). goes_so b k y.strength f (p ∷ ts)) own.1)

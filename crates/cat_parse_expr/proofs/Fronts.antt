@@ -1,19 +1,15 @@
 -- Accumulations, sums and prefixes.
-use Rattle.std.proofs.Common.{◌≡◌, ℕ, zero, suc, ◌≤◌, max, Bool, true, false, List, [], ◌∷◌, ◌++◌, Option, None, Some, refl, sym, ap}
-use Rattle.std.proofs.Common.{if◌then◌else◌, subst, ◌∙◌, arith, inl, inr, ◌⊎◌}
+use Rattle.std.proofs.Common.{◌≡◌, ℕ, zero, suc, ◌≤◌, Bool, false, List, refl, sym, ap}
+use Rattle.std.proofs.Common.{if◌then◌else◌, ◌∙◌, arith}
 use Rattle.cat_pos.specs.declared.pos.Pos.{Pos}
 use Rattle.cat_lex.specs.declared.token.Token.{Token}
-use Rattle.cat_lex.specs.declared.token.TokenKind.{TokenKind}
 use Rattle.cat_lex.specs.declared.token.TokenKind.TheVariants as kind
 use Rattle.cat_lex.specs.declared.words.Keyword.{Keyword}
 use Rattle.cat_lex.specs.declared.words.Keyword.TheVariants as key
 use Rattle.cat_lex.specs.declared.words.DoubleKeyword.TheVariants as pair
 use Rattle.cat_lex.specs.declared.symbol.Symbol.TheVariants as symbol
-use Rattle.cat_tree.specs.Accumulation.{accumulation}
 use Rattle.cat_tree.specs.declared.name.Name.{Name}
 use Rattle.cat_tree.specs.declared.name.Type as types
-use Rattle.cat_tree.specs.declared.expression.Each.{Each}
-use Rattle.cat_tree.specs.declared.expression.Each.TheVariants as each
 use Rattle.cat_tree.specs.declared.expression.Node.{Node}
 use Rattle.cat_tree.specs.declared.expression.Node.TheViews as node
 use Rattle.cat_tree.specs.Literals.{type_parts, lists_of, base_kind}
@@ -21,41 +17,42 @@ use Rattle.cat_tree.specs.Joined.{◌▸◌}
 use Rattle.cat_tree.specs.Operators.{prefix_parts, prefix_level}
 use Rattle.cat_tree.specs.declared.expression.Prefix.{Prefix}
 use Rattle.cat_tree.specs.declared.expression.Prefix.TheVariants as prefix
-use Rattle.cat_tree.specs.Phrase.{Phrase, Row, Rank, Parts, End, Word, Part, Terminal, At, Anywhere, Operand, height}
+use Rattle.cat_tree.specs.Phrase.{Parts, End, Word, Terminal, At, height}
 use Rattle.cat_tree.specs.Phrase.{tallest, last_in_form, last_in_match, ends_in_form, ends_in_match}
-use Rattle.cat_tree.specs.Rows.{each_parts}
 use Rattle.cat_tree.specs.Wording as wording
 use Rattle.cat_tree.specs.Wording.{◌▹◌, symbol_at, key_at, pair_at, first, then_, lower, sign, part, of_level, words}
 use Rattle.cat_tree.specs.Grammar.{phrase}
 use Rattle.cat_tree.proofs.Exported.{phrase_Combine, phrase_Prefixed, phrase_Sum}
 use Rattle.cat_parse_expr.specs.declared.behind.Behind.{Behind}
-use Rattle.cat_parse_expr.specs.declared.behind.Behind.TheVariants.{Other, Field, Pattern as Tested}
+use Rattle.cat_parse_expr.specs.declared.behind.Behind.TheVariants.{Other}
 use Rattle.cat_parse_expr.specs.declared.cue.Cue.{Cue}
 use Rattle.cat_parse_expr.specs.declared.cue.Cue.TheVariants as cue
 use Rattle.cat_parse_expr.specs.declared.measured.Measured.{Measured}
 use Rattle.cat_parse_expr.specs.declared.opening.Opening.TheVariants as opening
 use Rattle.cat_parse_expr.specs.Cues as cues
 use Rattle.cat_parse_expr.specs.Cues.{kind_of, lower_of, word_of}
-use Rattle.cat_parse_expr.specs.Measures.{closed, ending, form}
+use Rattle.cat_parse_expr.specs.Measures.{ending}
 use Rattle.cat_parse_expr.specs.Reader.{Parsed, Reader, Fails, Reads, hidden, ◌⨟◌, pure, after}
 use Rattle.cat_parse_expr.specs.Parts.{Lower, key_word}
 use Rattle.cat_parse_expr.specs.Forms as forms
-use Rattle.cat_parse_expr.specs.Followers.{MayFollow, looks_of, is_taken}
+use Rattle.cat_parse_expr.specs.Followers.{MayFollow, looks_of}
 use Rattle.cat_parse_expr.specs.Longest.{KeepsWhole}
 use Rattle.cat_parse_expr.specs.Rightly.{measured_of, IsMeasured, IsLow, operand_row, AreRight}
-use Rattle.cat_parse_expr.proofs.Firsts.{Shape, class_Combine, class_Sum, class_Prefixed}
+use Rattle.cat_parse_expr.proofs.Firsts.{class_Combine, class_Sum, class_Prefixed}
 use Rattle.cat_parse_expr.proofs.Follows.{word_follows, tall_enough, call_ends, prefix_ends}
 use Rattle.cat_parse_expr.proofs.Positive.{positive, prefix_low}
-use Rattle.cat_parse_expr.proofs.Overs.{among_row, among_read, among_shut}
+use Rattle.cat_parse_expr.proofs.Overs.{among_read, among_shut}
 use Rattle.cat_parse_expr.proofs.Chosen.{same_read}
 use Rattle.cat_parse_expr.proofs.Shaping.{reshape_read}
 use Rattle.cat_parse_expr.proofs.Types.{type_read, type_shut}
-use Rattle.cat_parse_expr.proofs.Operands.{Next, form_next, ending_next, OfClass, Form, form_read, measured_by, height_is, match_is}
+use Rattle.cat_parse_expr.proofs.Operands.{Next, form_next, ending_next, OfClass, Form, form_read, measured_by}
+use Rattle.cat_parse_expr.proofs.Operands.{height_is, match_is}
 use Rattle.cat_parse_expr.proofs.Operands.{strength_by, inner_read, end_read}
-use Rattle.cat_parse_expr.proofs.Read.{IsRead, pure_read}
+use Rattle.cat_parse_expr.proofs.Read.{IsRead}
 use Rattle.cat_parse_expr.proofs.Worded.{word_read, word_at_read, lower_read, opened_at_read, opened_read}
-use Rattle.cat_parse_expr.proofs.Sequels.{part_read, last_read, hidden_shut, past_none, IsShut, shut_after, one_shut}
-use Rattle.cat_parse_expr.proofs.Tuples.{both, two, three, four, five}
+use Rattle.cat_parse_expr.proofs.Shut.{hidden_shut, IsShut, shut_after, one_shut}
+use Rattle.cat_parse_expr.proofs.Sequels.{part_read, last_read, past_none}
+use Rattle.cat_parse_expr.proofs.Tuples.{two, three, four}
 
 -- ---- in w initially E
 
@@ -130,14 +127,19 @@ module _ (ex : Lower) (room : ℕ) (right : AreRight room ex)
     class = λ t. class_Combine t.0 t.1.0 t.1.1.node t.2.0 t.2.1.node t.3.node;
     shape = λ t. (t.0, t.1.0, t.1.1.node, t.2.0, t.2.1.node, t.3.node, refl);
     split =
-        λ n s levels low. ((s.0, (s.1, measured_of s.2), (s.3, measured_of s.4), measured_of s.5), s.6, (refl, refl, refl));
+        λ n s levels low. (
+          (s.0, (s.1, measured_of s.2), (s.3, measured_of s.4), measured_of s.5),
+          s.6,
+          (refl, refl, refl),
+        );
   }
 
   pub combined_read : {K : Type 0} → k ≤ 8
       → IsRead (λ y. y) K (Unit {0}) (Unit {0}) (IsLow (suc room)) (Next b k) (looks_of b) (OfClass k opening.Combine)
       (operand_row k) (forms.combined ex room b)
   combined_read le =
-      form_read k (suc room) (Next b k) opening.Combine combined_fits combined_row combined_of (forms.combined ex room b)
+      form_read k (suc room) (Next b k) opening.Combine combined_fits combined_row combined_of
+      (forms.combined ex room b)
       (combined_form le)
       (word_at_read (cue.Pair pair.CombineAll) (λ t. t.0) _ _
       (λ p. part_read (λ t. t.1) _ _ (among_read ex room right) (λ ts. among_shut ex room right ts)
@@ -186,11 +188,13 @@ module _ (ex : Lower) (room : ℕ) (right : AreRight room ex)
   summed_height zero ps = refl
   summed_height (suc n) ps = summed_height n ps
 
-  summed_last : (n : ℕ) (m : Terminal) (ps : Parts) → last_in_form false (lists_of n (Word m ps)) ≡ last_in_form false ps
+  summed_last : (n : ℕ) (m : Terminal) (ps : Parts) → last_in_form false (lists_of n (Word m ps))
+      ≡ last_in_form false ps
   summed_last zero m ps = refl
   summed_last (suc n) m ps = summed_last n m ps
 
-  summed_match : (n : ℕ) (m : Terminal) (ps : Parts) → last_in_match false (lists_of n (Word m ps)) ≡ last_in_match false ps
+  summed_match : (n : ℕ) (m : Terminal) (ps : Parts) → last_in_match false (lists_of n (Word m ps))
+      ≡ last_in_match false ps
   summed_match zero m ps = refl
   summed_match (suc n) m ps = summed_match n m ps
 
@@ -202,7 +206,8 @@ module _ (ex : Lower) (room : ℕ) (right : AreRight room ex)
         λ t m. measured_by (summed_of t).node _ _ _ _ (phrase_Sum t.0 t.1 t.2.node)
         (omega (arith, height_is t.2 m, summed_height t.1.lists (first (base_kind t.1.base) t.1.pos (ending_of t))))
         (strength_by t.2 8 m (positive t.2.node)
-        ∙ ap (λ (c : Bool). if c then 0 else 8) (sym (summed_last t.1.lists (At (base_kind t.1.base) t.1.pos) (ending_of t))))
+        ∙ ap (λ (c : Bool). if c then 0 else 8) (sym
+        (summed_last t.1.lists (At (base_kind t.1.base) t.1.pos) (ending_of t))))
         (match_is t.2 m ∙ sym (summed_match t.1.lists (At (base_kind t.1.base) t.1.pos) (ending_of t)));
     level = λ t m. le;
     bounded = λ t m. refl;
@@ -261,15 +266,7 @@ module _ (ex : Lower) (room : ℕ) (right : AreRight room ex)
       × (last_in_form false (prefix_parts o p (part (prefix_level o) (phrase e) ▹ End)) ≡ ends_in_form (phrase e))
       × (last_in_match false (prefix_parts o p (part (prefix_level o) (phrase e) ▹ End)) ≡ ends_in_match (phrase e))
   prefix_counts prefix.Not p e = (omega arith, refl, refl)
-  prefix_counts prefix.Negate p e = (omega arith, refl, refl)
-  prefix_counts prefix.IntegerOf p e = (omega arith, refl, refl)
-  prefix_counts prefix.DecimalOf p e = (omega arith, refl, refl)
-  prefix_counts prefix.MoneyOf p e = (omega arith, refl, refl)
-  prefix_counts prefix.RoundOf p e = (omega arith, refl, refl)
-  prefix_counts prefix.GetYear p e = (omega arith, refl, refl)
-  prefix_counts prefix.GetMonth p e = (omega arith, refl, refl)
-  prefix_counts prefix.GetDay p e = (omega arith, refl, refl)
-  prefix_counts prefix.NumberOf p e = (omega arith, refl, refl)
+  prefix_counts _ p e = (omega arith, refl, refl)
 
   prefixed_form : (o : Prefix) → k ≤ prefix_level o
       → Form k (opening.Prefixed o) (λ t. IsMeasured t.1) (prefixed_row o) (prefixed_of o)
@@ -317,7 +314,8 @@ module _ (ex : Lower) (room : ℕ) (right : AreRight room ex)
         lows = λ f c x m low. omega (arith, low);
         part = λ f x m low. omega (arith, low);
         outside =
-            λ f x v m o2. ending_next b k (prefixed_of o (p, x)) (prefix_level o) (prefix_level o) x v (prefix_ends k o le)
+            λ f x v m o2. ending_next b k (prefixed_of o (p, x)) (prefix_level o) (prefix_level o) x v
+            (prefix_ends k o le)
             refl refl o2;
       })
 
@@ -353,7 +351,8 @@ module _ (ex : Lower) (room : ℕ) (right : AreRight room ex)
   words_read prefix.NumberOf le = one_word prefix.NumberOf (cue.Pair pair.NumberOf) le
 
   pub prefixed_read : {K : Type 0} (o : Prefix) → k ≤ prefix_level o
-      → IsRead (λ y. y) K (Unit {0}) (Unit {0}) (IsLow (suc room)) (Next b k) (looks_of b) (OfClass k (opening.Prefixed o))
+      → IsRead (λ y. y) K (Unit {0}) (Unit {0}) (IsLow (suc room)) (Next b k) (looks_of b)
+      (OfClass k (opening.Prefixed o))
       (operand_row k) (forms.prefixed ex room b o)
   prefixed_read o le =
       form_read k (suc room) (Next b k) (opening.Prefixed o) (λ t. IsMeasured t.1) (prefixed_row o) (prefixed_of o)

@@ -1,25 +1,21 @@
 -- What a reader of expressions comes to, by the indices of a list of tokens, where it is right and keeps whole fronts.
 use Rattle.std.proofs.Common.{◌≡◌, ℕ, zero, suc, ◌+◌, ◌-◌, ◌<◌, ◌≤◌, Bool, true, false, List, [], ◌∷◌, ◌++◌, length, take, drop}
-use Rattle.std.proofs.Common.{Option, Some, None, Ok, Err, refl, sym, ap, subst, ◌∙◌, append_assoc, append-nil, arith}
+use Rattle.std.proofs.Common.{Option, Some, None, Ok, refl, sym, ap, subst, ◌∙◌, append_assoc, append-nil, arith}
 use Rattle.std.specs.Prelude.{slice_range}
-use Rattle.std.proofs.lemmas.List.{take_at, take-append-drop, length-append, length-drop, drop-take}
-use Rattle.std.proofs.lemmas.List.Folds.{drop_split}
+use Rattle.std.proofs.lemmas.List.{take_at, length-append, length-drop}
 use Rattle.cat_lex.specs.declared.token.Token.{Token}
 use Rattle.cat_lex.specs.declared.token.TokenKind.{TokenKind}
 use Rattle.cat_tree.specs.declared.expression.Node.{Node}
 use Rattle.cat_tree.specs.Grammar.{phrase}
 use Rattle.cat_tree.specs.Phrase.{IsSpelling}
-use Rattle.cat_tree.specs.Spells.{Spells, Begins, IsFront, height_of}
+use Rattle.cat_tree.specs.Spells.{Spells, Begins, height_of}
 use Rattle.cat_parse_expr.specs.declared.behind.Behind.TheVariants.{Other}
 use Rattle.cat_parse_expr.specs.declared.measured.Measured.{Measured}
-use Rattle.cat_parse_expr.specs.declared.miss.Break.{Break}
-use Rattle.cat_parse_expr.specs.declared.miss.Miss.TheVariants.{Broken}
 use Rattle.cat_parse_expr.specs.Followers.{MayFollow, looks_of}
-use Rattle.cat_parse_expr.specs.Fronts.{IsSpelled, GoesUpTo, IsTooHigh}
-use Rattle.cat_parse_expr.specs.Longest.{ReadsAsFar, Stood, KeepsWhole}
-use Rattle.cat_parse_expr.specs.Places.{Gives, left_behind}
+use Rattle.cat_parse_expr.specs.Fronts.{GoesUpTo, IsTooHigh}
+use Rattle.cat_parse_expr.specs.Places.{Gives}
 use Rattle.cat_parse_expr.specs.Reader.{Parsed, Reader, Fails, Reads, left_of}
-use Rattle.cat_parse_expr.specs.Right.{Agree, AgreePast, Seen, Is, Begun, Taken, Alike, Says, IsRight}
+use Rattle.cat_parse_expr.specs.Right.{Agree, AgreePast, Seen, Is, Taken, Says, IsRight}
 use Rattle.cat_parse_expr.specs.Rightly.{measured_of, IsMeasured, IsLow, operand_row}
 
 -- ---- tokens by their indices

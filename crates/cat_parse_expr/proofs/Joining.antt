@@ -1,10 +1,10 @@
 -- Readers that are put together from right ones are right.
-use Rattle.std.proofs.Common.{◌≡◌, ℕ, max, Bool, List, [], ◌∷◌, ◌++◌, length, refl, sym, ap, subst, ◌∙◌, append_assoc}
+use Rattle.std.proofs.Common.{◌≡◌, ℕ, Bool, List, [], ◌∷◌, ◌++◌, length, refl, sym, ap, subst, ◌∙◌, append_assoc}
 use Rattle.std.proofs.Common.{arith}
 use Rattle.std.proofs.lemmas.List.{append_cancel_right}
 use Rattle.cat_lex.specs.declared.token.Token.{Token}
 use Rattle.cat_lex.specs.declared.token.TokenKind.{TokenKind}
-use Rattle.cat_tree.specs.Phrase.{Parts, End, Word, Part, tallest, AreLevelled, AreSpelled}
+use Rattle.cat_tree.specs.Phrase.{Parts, End, Word, Part, AreLevelled, AreSpelled}
 use Rattle.cat_tree.specs.Joined.{◌▸◌}
 use Rattle.cat_parse_expr.specs.Reader.{pure}
 use Rattle.cat_parse_expr.specs.Right.{Agree, IsRight}
@@ -20,11 +20,6 @@ pub levels_split : (ps qs : Parts) → AreLevelled (ps ▸ qs) → AreLevelled p
 levels_split End qs a = (tt, a)
 levels_split (Word m ps) qs a = levels_split ps qs a
 levels_split (Part s e ps) qs a = let more = levels_split ps qs a.2 in ((a.0, a.1, more.0), more.1)
-
-pub tallest_join : (ps qs : Parts) → tallest (ps ▸ qs) ≡ max (tallest ps) (tallest qs)
-tallest_join End qs = omega arith
-tallest_join (Word m ps) qs = tallest_join ps qs
-tallest_join (Part s e ps) qs = omega (arith, tallest_join ps qs)
 
 pub spelled_join : (ps qs : Parts) (a b : List Token) → AreSpelled ps a → AreSpelled qs b
     → AreSpelled (ps ▸ qs) (a ++ b)
@@ -73,7 +68,8 @@ agree_same (p ∷ ts) us a e = absurd (omega (arith, e))
 pub no_front : (front ts : List Token) → ts ≡ front ++ ts → front ≡ []
 no_front front ts e = append_cancel_right front [] ts (sym e)
 
-pub pure_right : {B : Type 0} → (low : B → Type 0) (bound : ℕ) (out : B → List Token → Type 0) (looks : TokenKind → Bool)
+pub pure_right : {B : Type 0} → (low : B → Type 0) (bound : ℕ) (out : B → List Token → Type 0)
+    (looks : TokenKind → Bool)
     (fits : B → Type 0) (x : B) → fits x → low x → ((y : B) → fits y → y ≡ x)
     → IsRight low bound out looks fits (λ y. End) (pure x)
 pure_right low bound out looks fits x fit fine only = record {

@@ -1,8 +1,8 @@
 -- The longest front of a list of tokens, by indices, where a reader of expressions keeps whole fronts.
-use Rattle.std.proofs.Common.{◌≡◌, ℕ, suc, ◌+◌, ◌-◌, ◌<◌, ◌≤◌, Bool, true, false, List, [], ◌∷◌, ◌++◌, length, take, drop}
-use Rattle.std.proofs.Common.{Option, Some, None, Ok, Err, refl, sym, ap, subst, ◌∙◌, arith}
+use Rattle.std.proofs.Common.{◌≡◌, ℕ, ◌+◌, ◌-◌, ◌≤◌, Bool, true, false, List, [], length, take, drop}
+use Rattle.std.proofs.Common.{Option, Some, None, Ok, sym, ap, subst, ◌∙◌, arith}
 use Rattle.std.specs.Prelude.{slice_range}
-use Rattle.std.proofs.lemmas.List.{take-append-drop, length-append, length-drop, drop-take}
+use Rattle.std.proofs.lemmas.List.{take-append-drop, length-drop, drop-take}
 use Rattle.cat_lex.specs.declared.token.Token.{Token}
 use Rattle.cat_tree.specs.declared.expression.Node.{Node}
 use Rattle.cat_tree.specs.Spells.{Spells, IsFront, height_of}
@@ -12,9 +12,9 @@ use Rattle.cat_parse_expr.specs.Fronts.{IsSpelled}
 use Rattle.cat_parse_expr.specs.Followers.{MayFollow, looks_of}
 use Rattle.cat_parse_expr.specs.Longest.{ReadsAsFar, Stood, KeepsWhole}
 use Rattle.cat_parse_expr.specs.Places.{Gives}
-use Rattle.cat_parse_expr.specs.Reach.{Reach, Found, front_found, before}
+use Rattle.cat_parse_expr.specs.Reach.{before}
 use Rattle.cat_parse_expr.specs.Reader.{Parsed, Reader, Fails, Reads}
-use Rattle.cat_parse_expr.specs.Right.{Is, IsRight}
+use Rattle.cat_parse_expr.specs.Right.{IsRight}
 use Rattle.cat_parse_expr.specs.Rightly.{measured_of, IsMeasured, IsLow, operand_row}
 use Rattle.cat_parse_expr.proofs.Indexed.{before_is, order_is, as_row, spells_row, read_whole}
 

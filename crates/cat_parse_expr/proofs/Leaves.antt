@@ -1,5 +1,6 @@
 -- The readers of one word are right.
-use Rattle.std.proofs.Common.{◌≡◌, ℕ, suc, Bool, true, false, if◌then◌else◌, List, [], Option, Some, None, refl, sym, ap, ◌∙◌}
+use Rattle.std.proofs.Common.{◌≡◌, ℕ, suc, Bool, true, false, if◌then◌else◌, List, [], Option, Some, None, refl, sym}
+use Rattle.std.proofs.Common.{ap, ◌∙◌}
 use Rattle.std.proofs.Common.{arith, rules}
 use denote.Enum.Bare.{same_true, true_same}
 use Rattle.cat_pos.specs.Position.{pos_of}
@@ -17,7 +18,6 @@ use Rattle.cat_parse_expr.specs.declared.cue.Cue.TheVariants as cue
 use Rattle.cat_parse_expr.specs.Reader.{Reader, ◌⨟◌}
 use Rattle.cat_parse_expr.specs.Right.{IsRight}
 use Rattle.cat_parse_expr.specs.Cues.{kind_of, cue_is, word_of, lower_kind, upper_kind, lower_of, upper_of, «word»}
-use Rattle.cat_parse_expr.specs.Cues.{lower, upper}
 use Rattle.cat_parse_expr.proofs.Token.{Terminals, token_right}
 use Rattle.cat_parse_expr.proofs.Choices.{reshaped}
 
@@ -32,7 +32,8 @@ cue_self (cue.Word w) = true_same keywords w w refl
 cue_self (cue.Pair w) = true_same pairs w w refl
 cue_self (cue.Sign w) = true_same symbols w w refl
 
-pub lowered : {B : Type 0} (low : B → Type 0) (bound : ℕ) (out : B → List Token → Type 0) (looks : TokenKind → Bool) (fits : B → Type 0) (row : B → Parts)
+pub lowered : {B : Type 0} (low : B → Type 0) (bound : ℕ) (out : B → List Token → Type 0) (looks : TokenKind → Bool)
+    (fits : B → Type 0) (row : B → Parts)
     (r : Reader B)
     → IsRight low (suc bound) out looks fits row r → IsRight low bound out looks fits row r
 lowered low bound out looks fits row r h = record {
@@ -80,7 +81,8 @@ word_marks c fits = record {
   sample = ap (λ (b : Bool). if b then Some anywhere else None) (cue_self c);
 }
 
-pub word_behind : {B : Type 0} (low : B → Type 0) (bound : ℕ) (out : B → List Token → Type 0) (looks : TokenKind → Bool) (c : Cue) (fits : B → Type 0)
+pub word_behind : {B : Type 0} (low : B → Type 0) (bound : ℕ) (out : B → List Token → Type 0)
+    (looks : TokenKind → Bool) (c : Cue) (fits : B → Type 0)
     (rest : B → Parts)
     (r : Pos → Reader B) → ((p : Pos) → IsRight low bound out looks fits rest (r p))
     → IsRight low (suc bound) out looks fits (λ y. Word (Anywhere (kind_of c)) (rest y)) («word» c ⨟ r)
@@ -89,14 +91,6 @@ word_behind low bound out looks c fits rest r right =
     (word_marks c fits)
     (λ p. reshaped low bound out looks fits (λ y. fits y × Unit {0}) rest rest (r p)
     (record { to = λ y f. (f, tt); from = λ y f. f.0; rows = λ y f. refl }) (right p))
-
-pub word_right : {B : Type 0} (low : B → Type 0) (bound : ℕ) (out : B → List Token → Type 0) (looks : TokenKind → Bool) (c : Cue) (fits : B → Type 0)
-    (rest : B → Parts)
-    (r : Pos → Reader B) → ((p : Pos) → IsRight low bound out looks fits rest (r p))
-    → IsRight low bound out looks fits (λ y. Word (Anywhere (kind_of c)) (rest y)) («word» c ⨟ r)
-word_right low bound out looks c fits rest r right =
-    lowered low bound out looks fits (λ y. Word (Anywhere (kind_of c)) (rest y)) («word» c ⨟ r)
-    (word_behind low bound out looks c fits rest r right)
 
 pub token_is : (p : Token) (k : TokenKind) (at : Pos) → p.kind ≡ k → p.pos ≡ at → p ≡ record { kind = k; pos = at }
 token_is p k at e f =
@@ -115,15 +109,6 @@ word_at_marks c fits at = record {
   made = anywhere;
   sample = ap (λ (b : Bool). if b then Some anywhere else None) (cue_self c);
 }
-
-pub word_at_right : {B : Type 0} (low : B → Type 0) (bound : ℕ) (out : B → List Token → Type 0) (looks : TokenKind → Bool) (c : Cue) (fits : B → Type 0) (at : B → Pos)
-    (rest : B → Parts) (r : Pos → Reader B)
-    → ((p : Pos) → IsRight low bound out looks (λ y. fits y × (at y ≡ p)) rest (r p))
-    → IsRight low bound out looks fits (λ y. Word (At (kind_of c) (at y)) (rest y)) («word» c ⨟ r)
-word_at_right low bound out looks c fits at rest r right =
-    lowered low bound out looks fits (λ y. Word (At (kind_of c) (at y)) (rest y)) («word» c ⨟ r)
-    (token_right low bound out looks fits (λ y. At (kind_of c) (at y)) rest (word_of c) (λ x y. at y ≡ x) r
-    (word_at_marks c fits at) right)
 
 -- ---- names
 
@@ -171,23 +156,3 @@ upper_marks fits name = record {
   made = record { text = []; pos = anywhere };
   sample = refl;
 }
-
-pub lower_right : {B : Type 0} (low : B → Type 0) (bound : ℕ) (out : B → List Token → Type 0) (looks : TokenKind → Bool) (fits : B → Type 0) (name : B → Name)
-    (rest : B → Parts) (r : Name → Reader B)
-    → ((x : Name) → IsRight low bound out looks (λ y. fits y × (name y ≡ x)) rest (r x))
-    → IsRight low bound out looks fits (λ y. Word (At (kind.Lower (name y).text) (name y).pos) (rest y)) (lower ⨟ r)
-lower_right low bound out looks fits name rest r right =
-    lowered low bound out looks fits (λ y. Word (At (kind.Lower (name y).text) (name y).pos) (rest y)) (lower ⨟ r)
-    (token_right low bound out looks fits (λ y. At (kind.Lower (name y).text) (name y).pos) rest lower_of
-    (λ x y. name y ≡ x) r
-    (lower_marks fits name) right)
-
-pub upper_right : {B : Type 0} (low : B → Type 0) (bound : ℕ) (out : B → List Token → Type 0) (looks : TokenKind → Bool) (fits : B → Type 0) (name : B → Name)
-    (rest : B → Parts) (r : Name → Reader B)
-    → ((x : Name) → IsRight low bound out looks (λ y. fits y × (name y ≡ x)) rest (r x))
-    → IsRight low bound out looks fits (λ y. Word (At (kind.Upper (name y).text) (name y).pos) (rest y)) (upper ⨟ r)
-upper_right low bound out looks fits name rest r right =
-    lowered low bound out looks fits (λ y. Word (At (kind.Upper (name y).text) (name y).pos) (rest y)) (upper ⨟ r)
-    (token_right low bound out looks fits (λ y. At (kind.Upper (name y).text) (name y).pos) rest upper_of
-    (λ x y. name y ≡ x) r
-    (upper_marks fits name) right)

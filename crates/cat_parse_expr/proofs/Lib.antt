@@ -62,3 +62,12 @@ pub mod Uppers
 pub mod Valued
 pub mod Wholes
 pub mod Worded
+pub mod Shut
+pub mod Nearly
+pub mod Truth
+pub mod StepWords
+pub mod Climber
+pub mod Armed
+pub mod Casing
+pub mod Bared
+pub mod Sampled

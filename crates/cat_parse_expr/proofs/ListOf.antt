@@ -1,5 +1,5 @@
 -- A further `list of` of a type.
-use Rattle.std.proofs.Common.{◌≡◌, ℕ, zero, suc, ◌<◌, ◌+◌, Bool, true, false, if◌then◌else◌, List, [], ◌∷◌, length, drop}
+use Rattle.std.proofs.Common.{◌≡◌, ℕ, zero, suc, ◌<◌, ◌+◌, Bool, true, if◌then◌else◌, List, [], ◌∷◌, length, drop}
 use Rattle.std.proofs.Common.{refl, sym, ap, ◌∙◌, arith}
 use Rattle.cat_lex.specs.declared.token.Token.{Token}
 use Rattle.cat_parse_expr.specs.Reader.{made_of, after, pure, heads}

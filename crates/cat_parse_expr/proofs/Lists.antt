@@ -1,8 +1,7 @@
 -- A loop over turns, as a reader of the list of all that its turns read.
-use Rattle.std.proofs.Common.{◌≡◌, ℕ, zero, suc, ◌≤◌, ◌<◌, Bool, true, false, if◌then◌else◌, List, [], ◌∷◌, ◌++◌, length}
-use Rattle.std.proofs.Common.{Option, refl, sym, ap, subst, ◌∙◌, arith, inl, inr, ◌⊎◌}
+use Rattle.std.proofs.Common.{◌≡◌, ℕ, zero, suc, Bool, true, false, if◌then◌else◌, List, [], ◌∷◌}
+use Rattle.std.proofs.Common.{refl, sym, ◌∙◌}
 use Rattle.cat_lex.specs.declared.token.Token.{Token}
-use Rattle.cat_lex.specs.declared.token.TokenKind.{TokenKind}
 use Rattle.cat_parse_expr.specs.Reader.{Parsed, Fails, Reads, Reader, ◌⨟◌, pure, after, turns}
 
 module _ {S X : Type 0} (goes : S → List Token → Bool) (one : S → Reader X) (put : S → X → S) where
@@ -36,7 +35,8 @@ module _ {S X : Type 0} (goes : S → List Token → Bool) (one : S → Reader X
   turns_are zero s ts = refl
   turns_are (suc n) s ts = by (λ x left. turns_are n (put s x) left) (goes s ts) (one s ts)
     where
-      taken : ((x : X) (left : List Token) → turns goes turn n (put s x) left ≡ made (put s x) (listed n (put s x) left))
+      taken : ((x : X) (left : List Token) → turns goes turn n (put s x) left ≡ made (put s x)
+          (listed n (put s x) left))
           → (o : Parsed X) → after (after o (λ x. pure (put s x))) (turns goes turn n)
           ≡ made s (after o (λ x left. with_first x (listed n (put s x) left)))
       taken rest (Fails left deep whole) = refl

@@ -1,6 +1,6 @@
 -- Literals.
-use Rattle.std.proofs.Common.{◌≡◌, ℕ, zero, suc, ◌≤◌, Bool, true, false, not, if◌then◌else◌, int_lt, List, [], ◌∷◌, ◌++◌}
-use Rattle.std.proofs.Common.{ℤ, Option, None, Some, refl, sym, ap, subst, ◌∙◌, arith, inl, inr, ◌⊎◌, nat_eq, ◌&&◌, length}
+use Rattle.std.proofs.Common.{◌≡◌, ℕ, ◌≤◌, Bool, true, false, not, int_lt}
+use Rattle.std.proofs.Common.{Option, None, Some, refl, sym, ap, subst, ◌∙◌}
 use Rattle.cat_pos.specs.declared.pos.Pos.{Pos}
 use Rattle.cat_lex.specs.declared.token.Token.{Token}
 use Rattle.cat_lex.specs.declared.token.TokenKind.{TokenKind}
@@ -8,39 +8,22 @@ use Rattle.cat_lex.specs.declared.token.TokenKind.TheVariants as kind
 use Rattle.cat_lex.specs.declared.words.Keyword.TheVariants as key
 use Rattle.cat_tree.specs.declared.expression.Literal.{Literal}
 use Rattle.cat_tree.specs.declared.expression.Literal.TheVariants as literal
-use Rattle.cat_tree.specs.declared.expression.Unit.{Unit as TimeUnit}
-use Rattle.cat_tree.specs.declared.expression.Unit.TheVariants as unit
-use Rattle.cat_tree.specs.declared.expression.Node.{Node}
 use Rattle.cat_tree.specs.declared.expression.Node.TheVariants as leaves
 use Rattle.cat_tree.specs.Literals.{literal_parts, literal_rank, span_bound, unit_word, truth_word}
-use Rattle.cat_tree.specs.Phrase.{Phrase, Row, Rank, Parts, End, Word, Terminal, At, Anywhere, IsAt, IsLevelled, AreSpelled}
-use Rattle.cat_tree.specs.Phrase.{right_strength, left_strength, ends_in_match, height}
+use Rattle.cat_tree.specs.Phrase.{Row, Parts, End, Word, At, IsAt, IsLevelled}
+use Rattle.cat_tree.specs.Phrase.{left_strength, ends_in_match, height}
 use Rattle.cat_tree.specs.Wording as wording
 use Rattle.cat_tree.specs.Wording.{◌▹◌}
 use Rattle.cat_tree.specs.Grammar.{phrase}
 use Rattle.cat_tree.proofs.Exported.{phrase_Literal}
-use Rattle.cat_parse_expr.specs.declared.behind.Behind.{Behind}
-use Rattle.cat_parse_expr.specs.declared.behind.Behind.TheVariants.{Other, Field, Pattern as Tested}
-use Rattle.cat_parse_expr.specs.declared.follow.Follow.TheVariants as follow
 use Rattle.cat_parse_expr.specs.declared.measured.Measured.{Measured}
 use Rattle.cat_parse_expr.specs.declared.opening.Opening.TheVariants as opening
-use Rattle.cat_parse_expr.specs.Followers.{looks_of, is_asked, MayFollow}
-use Rattle.cat_parse_expr.specs.Forms as forms
-use Rattle.cat_parse_expr.specs.Forms.{literal_kind, placed, literal_of, unit_kind, is_unit, spanned}
+use Rattle.cat_parse_expr.specs.Forms.{literal_kind, placed, literal_of}
 use Rattle.cat_parse_expr.specs.Measures.{leaf}
-use Rattle.cat_parse_expr.specs.Openings.{follow_of}
-use Rattle.cat_parse_expr.specs.Parts.{is_sign}
-use Rattle.cat_parse_expr.specs.Reader.{Parsed, Fails, Reads, Reader, ◌⨟◌, pure, after, one, made_of, heads, by_word, behind_whole}
-use Rattle.cat_parse_expr.specs.Reader.{fallen}
-use Rattle.cat_parse_expr.specs.Rightly.{IsMeasured, IsLow, operand_row}
-use Rattle.cat_parse_expr.proofs.Choices.{Decides}
-use Rattle.cat_parse_expr.proofs.Chosen.{choice_read, same_read}
-use Rattle.cat_parse_expr.proofs.Firsts.{Shape, class_Literal}
-use Rattle.cat_parse_expr.proofs.Follows.{IsOwn, own_not}
+use Rattle.cat_parse_expr.specs.Rightly.{IsMeasured}
+use Rattle.cat_parse_expr.proofs.Firsts.{class_Literal}
 use Rattle.cat_parse_expr.proofs.Leaves.{some_one, not_both, token_is, anywhere}
-use Rattle.cat_parse_expr.proofs.Operands.{Next, goes_then, OfClass, Form, form_read, measured_by}
-use Rattle.cat_parse_expr.proofs.Read.{IsRead, pure_read, token_read}
-use Rattle.cat_parse_expr.proofs.Shaping.{reshape_read}
+use Rattle.cat_parse_expr.proofs.Operands.{Form, measured_by}
 use Rattle.cat_parse_expr.proofs.Token.{Terminals}
 
 abbrev pub Placed : Type 0
@@ -71,12 +54,7 @@ literal_rest l = End
 
 pub literal_row_is : (l : Literal) (p : Pos) → Word (At (literal_word l) p) (literal_rest l) ≡ literal_parts l p
 literal_row_is (literal.Int n) p = refl
-literal_row_is (literal.Dec d) p = refl
-literal_row_is (literal.Pct d) p = refl
-literal_row_is (literal.Money m) p = refl
-literal_row_is (literal.Date d) p = refl
-literal_row_is (literal.Boolean b) p = refl
-literal_row_is (literal.Span n u) p = refl
+literal_row_is _ p = refl
 
 abbrev pub Bounded : Literal → Type 0
 Bounded (literal.Span n u) = int_lt span_bound n ≡ false
@@ -99,21 +77,11 @@ literal_measured (l, p) =
 
     strong : (l : Literal) → 9 ≡ left_strength (Row (literal_rank l) (literal_parts l p))
     strong (literal.Span n u) = refl
-    strong (literal.Int n) = refl
-    strong (literal.Dec d) = refl
-    strong (literal.Pct d) = refl
-    strong (literal.Money m) = refl
-    strong (literal.Date d) = refl
-    strong (literal.Boolean b) = refl
+    strong _ = refl
 
     plain : (l : Literal) → false ≡ ends_in_match (Row (literal_rank l) (literal_parts l p))
     plain (literal.Span n u) = refl
-    plain (literal.Int n) = refl
-    plain (literal.Dec d) = refl
-    plain (literal.Pct d) = refl
-    plain (literal.Money m) = refl
-    plain (literal.Date d) = refl
-    plain (literal.Boolean b) = refl
+    plain _ = refl
 
 pub literal_form : (k : ℕ) → k ≤ 9 → Form k opening.Literal (λ t. Bounded t.0) (λ t. literal_parts t.0 t.1) literal_node
 literal_form k le = record {
@@ -138,12 +106,7 @@ literal_form k le = record {
 
     bounded : (l : Literal) → Bounded l → (literal_rank l).fits ≡ true
     bounded (literal.Span n u) m = ap not m
-    bounded (literal.Int n) m = refl
-    bounded (literal.Dec d) m = refl
-    bounded (literal.Pct d) m = refl
-    bounded (literal.Money d) m = refl
-    bounded (literal.Date d) m = refl
-    bounded (literal.Boolean b) m = refl
+    bounded _ m = refl
 
     unnot : (b : Bool) → not b ≡ true → b ≡ false
     unnot true h = absurd cc
@@ -151,12 +114,7 @@ literal_form k le = record {
 
     within : (l : Literal) → (literal_rank l).fits ≡ true → Bounded l
     within (literal.Span n u) h = unnot (int_lt span_bound n) h
-    within (literal.Int n) h = tt
-    within (literal.Dec d) h = tt
-    within (literal.Pct d) h = tt
-    within (literal.Money d) h = tt
-    within (literal.Date d) h = tt
-    within (literal.Boolean b) h = tt
+    within _ h = tt
 
 -- ---- the first word
 
@@ -172,22 +130,13 @@ literal_found _ l e = absurd cc
 
 literal_self : (l : Literal) → literal_kind (literal_word l) ≡ Some (shortened l)
 literal_self (literal.Int n) = refl
-literal_self (literal.Dec d) = refl
-literal_self (literal.Pct d) = refl
-literal_self (literal.Money m) = refl
-literal_self (literal.Date d) = refl
 literal_self (literal.Boolean true) = refl
 literal_self (literal.Boolean false) = refl
-literal_self (literal.Span n u) = refl
+literal_self _ = refl
 
 word_shortened : (l : Literal) → literal_word (shortened l) ≡ literal_word l
 word_shortened (literal.Span n u) = refl
-word_shortened (literal.Int n) = refl
-word_shortened (literal.Dec d) = refl
-word_shortened (literal.Pct d) = refl
-word_shortened (literal.Money m) = refl
-word_shortened (literal.Date d) = refl
-word_shortened (literal.Boolean b) = refl
+word_shortened _ = refl
 
 placed_found : (o : Option Literal) (p : Pos) (x : Placed) → placed o p ≡ Some x → (o ≡ Some x.0) × (p ≡ x.1)
 placed_found None p x e = absurd cc

@@ -1,56 +1,22 @@
 -- Loops over turns that readers of parts give.
-use Rattle.std.proofs.Common.{◌≡◌, ℕ, zero, suc, ◌≤◌, ◌<◌, Bool, true, false, if◌then◌else◌, List, [], ◌∷◌, ◌++◌, length}
-use Rattle.std.proofs.Common.{Option, Some, None, refl, sym, ap, subst, ◌∙◌, append_assoc, arith, inl, inr, ◌⊎◌}
+use Rattle.std.proofs.Common.{◌≡◌, ℕ, zero, suc, ◌≤◌, ◌<◌, Bool, true, false, if◌then◌else◌, List, [], ◌∷◌, ◌++◌}
+use Rattle.std.proofs.Common.{length}
+use Rattle.std.proofs.Common.{Some, None, refl, sym, ap, subst, ◌∙◌, append_assoc, arith, inr, ◌⊎◌}
 use Rattle.std.proofs.lemmas.List.{length-append, append-nil, append_cancel_left}
 use Rattle.cat_lex.specs.declared.token.Token.{Token}
 use Rattle.cat_lex.specs.declared.token.TokenKind.{TokenKind}
 use Rattle.cat_tree.specs.Phrase.{Parts, End, AreLevelled, AreSpelled}
 use Rattle.cat_tree.specs.Joined.{◌▸◌, all}
-use Rattle.cat_parse_expr.specs.Reader.{Parsed, Fails, Reads, Reader, ◌⨟◌, pure, after, left_of, heads, turns, fallen}
+use Rattle.cat_parse_expr.specs.Reader.{Parsed, Fails, Reads, Reader, pure, after, left_of, turns, fallen}
 use Rattle.cat_parse_expr.specs.Parts.{as_many}
-use Rattle.cat_parse_expr.specs.Right.{Agree, AgreePast, Seen, Is, Begun, Took, Taken, Says, Alike, IsRight}
+use Rattle.cat_parse_expr.specs.Right.{Is, Taken, Says, IsRight}
 use Rattle.cat_parse_expr.specs.Longest.{ReadsAsFar, Stood, KeepsWhole}
-use Rattle.cat_parse_expr.proofs.Joining.{Splits, spelled_split, spelled_join, levels_join, levels_split}
-use Rattle.cat_parse_expr.proofs.Chosen.{longest_fallen}
-use Rattle.cat_parse_expr.proofs.Sequels.{seen_self, no_longer}
+use Rattle.cat_parse_expr.proofs.Joining.{spelled_split, spelled_join, levels_join, levels_split}
+use Rattle.cat_parse_expr.proofs.Sequels.{seen_self}
 use Rattle.cat_parse_expr.proofs.Lists as lists
 use Rattle.cat_parse_expr.proofs.Loops as loops
+use Rattle.cat_parse_expr.proofs.Nearly.{near_right, IsFar, far_reads}
 use Rattle.cat_parse_expr.proofs.Read.{IsRead}
-
--- a parse that reads as far as the rest of the tokens, or leaves as much whole
-abbrev pub IsFar : {A : Type 0} → Parsed A → List Token → Type 0
-IsFar (Reads x left) rest = length left ≤ length rest
-IsFar (Fails left deep None) rest = ⊥
-IsFar (Fails left deep (Some front)) rest = length front ≤ length rest
-
-pub far_reads : {A : Type 0} (low : A → Type 0) (o : Parsed A) (y : A) (v : List Token) → IsFar o v → ReadsAsFar low o y v
-far_reads low (Reads x left) y v h = h
-far_reads low (Fails left false None) y v h = h
-far_reads low (Fails left true None) y v h = absurd h
-far_reads low (Fails left false (Some front)) y v h = h
-far_reads low (Fails left true (Some front)) y v h = λ fine. h
-
--- ---- equal readers of short lists
-
-pub near_right : {B : Type 0} (low : B → Type 0) (bound : ℕ) (out : B → List Token → Type 0) (looks : TokenKind → Bool)
-    (fits : B → Type 0) (row : B → Parts) (r s : Reader B) → ((ts : List Token) → length ts ≤ bound → r ts ≡ s ts)
-    → IsRight low bound out looks fits row r → IsRight low bound out looks fits row s
-near_right {B = B} low bound out looks fits row r s e h = record {
-  alive = h.alive;
-  taken = λ ts le. subst (λ (o : Parsed B). Taken low fits row o ts) (e ts le) (h.taken ts le);
-  says =
-      λ ts front y w le. subst (λ (o : Parsed B). ts ≡ front ++ left_of o
-      → Alike out looks fits row o front y w → Says low o y w front) (e ts le) (h.says ts front y w le);
-}
-
-pub near_keeps : {B : Type 0} (low : B → Type 0) (bound : ℕ) (fits : B → Type 0) (row : B → Parts) (r s : Reader B)
-    → ((ts : List Token) → length ts ≤ bound → r ts ≡ s ts) → KeepsWhole low bound fits row r
-    → KeepsWhole low bound fits row s
-near_keeps {B = B} low bound fits row r s e h = record {
-  longest =
-      λ ts y w v le text i. subst (λ (o : Parsed B). ReadsAsFar low o y v) (e ts le) (h.longest ts y w v le text i);
-  stood = λ ts le. subst (λ (o : Parsed B). Stood low fits row o ts) (e ts le) (h.stood ts le);
-}
 
 module _ {S X : Type 0} (goes : S → List Token → Bool) (one : S → Reader X) (put : S → X → S) (Good Low : S → Type 0)
     (Out More : S → List Token → Type 0) (looks : TokenKind → Bool) (FitsOne : S → X → Type 0) (row_one : X → Parts)
@@ -82,7 +48,8 @@ module _ {S X : Type 0} (goes : S → List Token → Bool) (one : S → Reader X
   nothing_more : (n : ℕ) (s : S) (ts : List Token) → length ts ≤ 0 → read_from n s ts ≡ Reads [] ts
   nothing_more zero s ts le = refl
   nothing_more (suc n) s ts le =
-      ap (λ (c : Bool). if c then after (one s ts) (λ x left. first_with x (read_from n (put s x) left)) else Reads [] ts)
+      ap (λ (c : Bool). if c then after (one s ts)
+      (λ x left. first_with x (read_from n (put s x) left)) else Reads [] ts)
       (at_none s ts le)
 
   pub enough : (n m : ℕ) (s : S) (ts : List Token) → length ts ≤ n → length ts ≤ m → read_from n s ts ≡ read_from m s ts
@@ -140,7 +107,8 @@ module _ {S X : Type 0} (goes : S → List Token → Bool) (one : S → Reader X
       turns_same turn same (length ts) s ts ∙ lists.turns_are goes one put (length ts) s ts
 
   pub loop_read : (turn : S → Reader S) → ((s : S) (ts : List Token) → turn s ts ≡ lists.turn goes one put s ts)
-      → (s : S) → IsRead (lists.put_all goes one put s) ⊥ (Good s) (Low s) (LowFrom s) (OutFrom s) looks (FitsFrom s) rows
+      → (s : S) → IsRead (lists.put_all goes one put s) ⊥ (Good s) (Low s) (LowFrom s) (OutFrom s) looks
+      (FitsFrom s) rows
       (as_many goes turn s)
   loop_read turn same s = record {
     reader = loop_of s;
@@ -327,7 +295,8 @@ module _ {S X : Type 0} (goes : S → List Token → Bool) (one : S → Reader X
               → (tk : Taken (One_low s) (FitsOne s) row_one (fallen ts (inner s ts)) ts)
               → Says (One_low s) (fallen ts (inner s ts)) x a tk.front
           said e x a c i all outside tk =
-              subst (λ (o : Parsed X). (tk : Taken (One_low s) (FitsOne s) row_one o ts) → Says (One_low s) o x a tk.front)
+              subst (λ (o : Parsed X). (tk : Taken (One_low s) (FitsOne s) row_one o ts) → Says
+              (One_low s) o x a tk.front)
               (is_behind s ts)
               (λ tk. (t.right s (length ts) good low ts e).says ts tk.front x a (omega arith) tk.text (record {
                 others = left_of (one s ts);
@@ -347,7 +316,8 @@ module _ {S X : Type 0} (goes : S → List Token → Bool) (one : S → Reader X
         clash : (c : Bool) → c ≡ true → c ≡ false → ⊥
         clash c x y = absurd cc
     longest (suc n) s ts good low le xs w v text i =
-        by_turns n s ts good low le (λ x left good low le xs w v text i. longest n (put s x) left good low le xs w v text i)
+        by_turns n s ts good low le (λ x left good low le xs w v text i. longest n
+        (put s x) left good low le xs w v text i)
         xs w v text i
 
     -- ---- what stood

@@ -1,21 +1,22 @@
 -- A loop over turns is read rightly, where each turn is.
-use Rattle.std.proofs.Common.{◌≡◌, ℕ, zero, suc, ◌≤◌, ◌<◌, Bool, true, false, if◌then◌else◌, List, [], ◌∷◌, ◌++◌, length}
-use Rattle.std.proofs.Common.{Option, refl, sym, ap, subst, ◌∙◌, append_assoc, arith, inl, inr, ◌⊎◌}
-use Rattle.std.proofs.lemmas.List.{length-append}
+use Rattle.std.proofs.Common.{◌≡◌, ℕ, zero, suc, ◌≤◌, ◌<◌, Bool, true, false, if◌then◌else◌, List, [], ◌∷◌, ◌++◌}
+use Rattle.std.proofs.Common.{length}
+use Rattle.std.proofs.Common.{refl, sym, ap, subst, ◌∙◌, append_assoc, arith, inl, inr, ◌⊎◌}
 use Rattle.cat_lex.specs.declared.token.Token.{Token}
 use Rattle.cat_lex.specs.declared.token.TokenKind.{TokenKind}
-use Rattle.cat_tree.specs.Phrase.{Parts, End, AreLevelled, AreSpelled}
+use Rattle.cat_tree.specs.Phrase.{Parts, AreSpelled}
 use Rattle.cat_tree.specs.Joined.{◌▸◌, all}
-use Rattle.cat_parse_expr.specs.Reader.{Parsed, Fails, Reads, Reader, ◌⨟◌, pure, after, left_of, heads}
-use Rattle.cat_parse_expr.specs.Right.{Agree, AgreePast, Seen, Is, Begun, Took, Taken, Says, Alike, IsRight}
-use Rattle.cat_parse_expr.proofs.Joining.{no_front, spelled_split, pure_right}
-use Rattle.cat_parse_expr.proofs.Sequel.{Past, Follows, part_right}
+use Rattle.cat_parse_expr.specs.Reader.{Parsed, Fails, Reads, Reader, ◌⨟◌, pure, after, left_of}
+use Rattle.cat_parse_expr.specs.Right.{Agree, AgreePast, Is, Taken, Says, Alike, IsRight}
+use Rattle.cat_parse_expr.proofs.Joining.{no_front, spelled_split}
+use Rattle.cat_parse_expr.proofs.Sequel.{Past, part_right}
 use Rattle.cat_parse_expr.proofs.Choices.{next_seen, refit, widened, Recast, recast}
 use Rattle.cat_parse_expr.proofs.Wholes.{SameBut, same_right}
 use Rattle.cat_parse_expr.proofs.Lists as lists
 
 module _ {S X : Type 0} (goes : S → List Token → Bool) (one : S → Reader X) (put : S → X → S) (Good Low : S → Type 0)
-    (Out More : S → List Token → Type 0) (looks : TokenKind → Bool) (FitsOne : S → X → Type 0) (row_one : X → Parts) where
+    (Out More : S → List Token → Type 0) (looks : TokenKind → Bool) (FitsOne : S → X → Type 0)
+    (row_one : X → Parts) where
   abbrev pub made_of : S → List X → S
   made_of = lists.put_all goes one put
 
@@ -51,7 +52,8 @@ module _ {S X : Type 0} (goes : S → List Token → Bool) (one : S → Reader X
     pub sees : (s : S) (p : Token) (ps qs : List Token) → Agree ps qs → goes s (p ∷ ps) ≡ goes s (p ∷ qs)
     pub sees_past : (s : S) (ls others : List Token) → AgreePast looks ls others → goes s ls ≡ goes s others
     pub moves : (s : S) (ts : List Token) → goes s ts ≡ true → length (left_of (one s ts)) < length ts
-    pub takes : (s : S) (ts : List Token) (x : X) (left : List Token) → one s ts ≡ Reads x left → length left < length ts
+    pub takes : (s : S) (ts : List Token) (x : X) (left : List Token) → one s ts ≡ Reads x left
+        → length left < length ts
     pub grows : (s : S) (x : X) → Low (put s x) → Low s
     pub stays : (s : S) (x : X) → FitsOne s x → Good s → Good (put s x)
 
@@ -75,7 +77,8 @@ module _ {S X : Type 0} (goes : S → List Token → Bool) (one : S → Reader X
       where
         by : ((x : X) (left : List Token) → length (left_of (read_from n (put s x) left)) ≤ length left)
             → (c : Bool) → goes s ts ≡ c → (o : Parsed X) → one s ts ≡ o
-            → length (left_of (if c then after o (λ x left. lists.with_first goes one put x (read_from n (put s x) left))
+            → length (left_of (if c then after o (λ x left. lists.with_first goes one put x
+            (read_from n (put s x) left))
             else Reads [] ts)) ≤ length ts
         by rest false e o i = omega arith
         by rest true e (Fails left deep whole) i =
@@ -89,8 +92,14 @@ module _ {S X : Type 0} (goes : S → List Token → Bool) (one : S → Reader X
             )
 
     moved : (n : ℕ) (s : S) (ts : List Token) → goes s ts ≡ true → (o : Parsed X) → one s ts ≡ o
-        → length (left_of (after o (λ x left. lists.with_first goes one put x (read_from n (put s x) left)))) < length ts
-    moved n s ts e (Fails left deep whole) i = omega (arith, t.moves s ts e, ap (λ (z : Parsed X). length (left_of z)) i)
+        → length (left_of (after o (λ x left. lists.with_first goes one put x
+        (read_from n (put s x) left)))) < length ts
+    moved n s ts e (Fails left deep whole) i = omega (
+      arith,
+      t.moves s ts e,
+      ap
+          (λ (z : Parsed X). length (left_of z)) i,
+    )
     moved n s ts e (Reads x left) i =
         omega (
           arith,
@@ -208,7 +217,8 @@ module _ {S X : Type 0} (goes : S → List Token → Bool) (one : S → Reader X
           more = [];
           is = record { fit = ((fit, tt), refl); levels = tt; spelled = refl };
         })
-        (λ x fit fine. recast n (LowFrom (put s x)) (pair_low s) (OutFrom (put s x)) (pair_out s) looks (FitsFrom (put s x))
+        (λ x fit fine. recast n (LowFrom (put s x)) (pair_low s) (OutFrom (put s x)) (pair_out s) looks
+        (FitsFrom (put s x))
         (λ y. pair_fits s y × (y.0 ≡ x)) rows pair_rest (λ xs. (x, xs)) (read_from n (put s x)) (others_behind s x fit)
         (others x fit fine))
 
@@ -278,7 +288,8 @@ module _ {S X : Type 0} (goes : S → List Token → Bool) (one : S → Reader X
         let q = spelled_split (row_one x) (rows xs) w a.is.spelled in
         let begun : goes s (w ++ a.behind) ≡ true =
         ap (goes s) (ap (λ (u : List Token). u ++ a.behind) q.text ∙ append_assoc q.first q.second a.behind)
-        ∙ t.leads s (q.first ++ (q.second ++ a.behind)) (t.begins s x q.first (q.second ++ a.behind) a.is.fit.0 q.one) in
+        ∙ t.leads s (q.first ++ (q.second ++ a.behind)) (t.begins s x q.first (q.second ++ a.behind) a.is.fit.0 q.one)
+        in
         let there : w ++ a.behind ≡ a.others =
         a.text ∙ ap (λ (u : List Token). u ++ a.others) (no_front front ts text) in
         absurd (clash (goes s (w ++ a.behind)) begun
@@ -326,7 +337,8 @@ module _ {S X : Type 0} (goes : S → List Token → Bool) (one : S → Reader X
           ∙ ap (goes s) (sym text) ∙ e
 
       says_going : (ts front : List Token) (y : List X) (w : List Token) → length ts ≤ bound → goes s ts ≡ true
-          → ts ≡ front ++ left_of (going n s ts) → Likely (going n s ts) front y w → Says (LowFrom s) (going n s ts) y w front
+          → ts ≡ front ++ left_of (going n s ts) → Likely (going n s ts) front y w → Says (LowFrom s)
+          (going n s ts) y w front
       says_going ts front [] w le e text a =
           absurd (clash (goes s (w ++ a.behind)) (goes_there ts front [] w e text a)
           (ap (λ (u : List Token). goes s (u ++ a.behind)) a.is.spelled ∙ t.stops s a.behind a.outside))

@@ -1,121 +1,75 @@
 -- Matches.
-use Rattle.std.proofs.Common.{◌≡◌, ℕ, zero, suc, ◌≤◌, max, Bool, true, false, List, [], ◌∷◌, ◌++◌, Option, None, Some, refl, sym, ap}
+use Rattle.std.proofs.Common.{◌≡◌, ℕ, suc, ◌≤◌, max, Bool, true, false, List, [], ◌∷◌, ◌++◌, None, Some, refl, sym, ap}
 use Rattle.std.proofs.Common.{subst, ◌∙◌, arith, inl, inr, ◌⊎◌}
 use Rattle.cat_pos.specs.declared.pos.Pos.{Pos}
 use Rattle.cat_lex.specs.declared.token.Token.{Token}
 use Rattle.cat_lex.specs.declared.token.TokenKind.{TokenKind}
 use Rattle.cat_lex.specs.declared.token.TokenKind.TheVariants as kind
-use Rattle.cat_lex.specs.declared.words.Keyword.{Keyword}
 use Rattle.cat_lex.specs.declared.words.Keyword.TheVariants as key
 use Rattle.cat_lex.specs.declared.words.DoubleKeyword.TheVariants as pair
 use Rattle.cat_lex.specs.declared.symbol.Symbol.TheVariants as symbol
-use Rattle.cat_tree.specs.Accumulation.{accumulation}
-use Rattle.cat_tree.specs.declared.name.Name.{Name}
-use Rattle.cat_tree.specs.declared.name.Type as types
-use Rattle.cat_tree.specs.declared.expression.Each.{Each}
-use Rattle.cat_tree.specs.declared.expression.Each.TheVariants as each
 use Rattle.cat_tree.specs.declared.expression.Node.{Node}
 use Rattle.cat_tree.specs.declared.expression.Node.TheViews as node
-use Rattle.cat_tree.specs.Literals.{type_parts}
-use Rattle.cat_tree.specs.Phrase.{Phrase, Row, Rank, Parts, End, Word, Part, At, Anywhere, Operand, height}
-use Rattle.cat_tree.specs.Rows.{each_parts}
-use Rattle.cat_tree.specs.Wording as wording
-use Rattle.cat_tree.specs.Wording.{◌▹◌, symbol_at, key_at, pair_at, first, then_, lower, sign, part, of_level, words}
+use Rattle.cat_tree.specs.Phrase.{Phrase, Row, Parts, End, Part}
+use Rattle.cat_tree.specs.Wording.{◌▹◌, key_at, sign, part, words}
 use Rattle.cat_tree.specs.Grammar.{phrase}
 use Rattle.cat_tree.proofs.Exported.{phrase_Match, arm_row}
 use Rattle.cat_parse_expr.specs.declared.behind.Behind.{Behind}
 use Rattle.cat_parse_expr.specs.declared.behind.Behind.TheVariants.{Other, Field, Pattern as Tested}
-use Rattle.cat_parse_expr.specs.declared.cue.Cue.{Cue}
 use Rattle.cat_parse_expr.specs.declared.cue.Cue.TheVariants as cue
 use Rattle.cat_parse_expr.specs.declared.measured.Measured.{Measured}
 use Rattle.cat_parse_expr.specs.declared.opening.Opening.TheVariants as opening
-use Rattle.cat_parse_expr.specs.Cues.{kind_of}
-use Rattle.cat_parse_expr.specs.Measures.{closed, ending, form}
-use Rattle.cat_parse_expr.specs.Reader.{Reader, hidden, ◌⨟◌, pure, Reads}
+use Rattle.cat_parse_expr.specs.Measures.{form}
 use Rattle.cat_parse_expr.specs.Parts.{Lower}
 use Rattle.cat_parse_expr.specs.Forms as forms
 use Rattle.cat_parse_expr.specs.Followers.{MayFollow, looks_of, is_taken}
 use Rattle.cat_parse_expr.specs.Longest.{KeepsWhole}
 use Rattle.cat_parse_expr.specs.Rightly.{measured_of, IsMeasured, IsLow, operand_row, AreRight}
-use Rattle.cat_parse_expr.proofs.Firsts.{Shape, class_Match}
-use Rattle.cat_parse_expr.proofs.Follows.{word_follows, tall_enough}
-use Rattle.cat_parse_expr.proofs.Positive.{positive}
-use Rattle.cat_parse_expr.proofs.Operands.{Next, form_next, OfClass, Form, form_read, measured_by, height_is, match_is}
-use Rattle.cat_parse_expr.proofs.Operands.{strength_by, inner_read, end_read}
-use Rattle.cat_parse_expr.proofs.Read.{IsRead, pure_read}
-use Rattle.cat_parse_expr.proofs.Worded.{word_read, word_at_read, lower_read, opened_at_read}
-use Rattle.cat_parse_expr.proofs.Sequels.{part_read, last_read, hidden_shut, past_none, IsShut, shut_after, one_shut, shut_turns, no_longer}
-use Rattle.cat_parse_expr.proofs.Tuples.{both, two}
-use Rattle.std.proofs.Common.{map, length, if◌then◌else◌}
-use Rattle.cat_tree.specs.Joined.{◌▸◌, all}
-use Rattle.cat_tree.specs.Rows.{elements}
-use Rattle.std.proofs.Common.{append_assoc}
-use Rattle.cat_tree.specs.Phrase.{AreLevelled, AreSpelled, tallest}
-use Rattle.cat_parse_expr.proofs.Loops as loops
-use Rattle.cat_parse_expr.specs.declared.measured.Elements.{Elements}
-use Rattle.cat_parse_expr.specs.Measures.{with_element, no_elements}
+use Rattle.cat_parse_expr.proofs.Firsts.{class_Match}
+use Rattle.cat_parse_expr.proofs.Follows.{tall_enough}
+use Rattle.cat_parse_expr.proofs.Operands.{Next, OfClass, Form, form_read, measured_by, height_is}
+use Rattle.cat_parse_expr.proofs.Operands.{inner_read}
+use Rattle.cat_parse_expr.proofs.Read.{IsRead}
+use Rattle.cat_parse_expr.proofs.Worded.{word_read, opened_at_read}
+use Rattle.cat_parse_expr.proofs.Shut.{hidden_shut}
+use Rattle.cat_parse_expr.proofs.Sequels.{part_read, last_read}
+use Rattle.std.proofs.Common.{map, length}
+use Rattle.cat_tree.specs.Phrase.{AreSpelled, tallest}
 use Rattle.cat_parse_expr.specs.Parts as parts
 use Rattle.cat_parse_expr.specs.Parts.{has_element, next_element, as_many, is_sign, inner, sign as a_sign}
-use Rattle.cat_parse_expr.specs.Reader.{Parsed, Fails, after, left_of, heads, hidden_in, by_word}
-use Rattle.cat_parse_expr.specs.Cues.{cue_is, word_of, «word»}
-use Rattle.cat_parse_expr.specs.Right.{Is}
-use Rattle.cat_parse_expr.proofs.Chaining as chaining
-use Rattle.cat_parse_expr.proofs.Choices.{Decides, Recast}
-use Rattle.cat_parse_expr.proofs.Chosen.{inner_choice_read}
-use Rattle.cat_parse_expr.proofs.Lists as lists
-use Rattle.cat_parse_expr.proofs.Looping as looping
-use Rattle.cat_parse_expr.proofs.Nodes.{nodes_of, phrases_of, tallest_of, AreMeasured, measures_of, measures_are, nodes_back}
-use Rattle.cat_parse_expr.proofs.Nodes.{elements_from, nodes_are, tallest_is, row_behind, chain_elements, elements_behind}
-use Rattle.cat_parse_expr.proofs.Nodes.{elements_height, elements_last, behind_end}
-use Rattle.cat_parse_expr.proofs.Shaping.{narrow_read, recast_read, reshape_read}
-use Rattle.cat_parse_expr.proofs.Turnings.{heads_begin, heads_other, heads_follow, heads_seen, shrinks_after, shrinks_one, takes_one}
-use Rattle.cat_parse_expr.proofs.Turnings as turnings
-use Rattle.std.proofs.Common.{append-nil, ◌<◌, not, nat_eq, nat_le, nat_lt, ◌&&◌, ◌||◌, cond}
+use Rattle.cat_parse_expr.specs.Reader.{heads}
+use Rattle.cat_parse_expr.specs.Cues.{cue_is}
+use Rattle.cat_parse_expr.proofs.Turnings.{heads_begin, shrinks_after}
+use Rattle.std.proofs.Common.{not, nat_eq, ◌&&◌, ◌||◌}
 use Rattle.std.proofs.lemmas.Bool.Decides.{nat_tests}
-use Rattle.cat_tree.specs.Phrase.{right_strength, left_strength, ends_in_form, ends_in_match, last_in_form, last_in_match}
 use Rattle.cat_tree.specs.Phrase.{IsLevelled}
-use Rattle.cat_tree.specs.Wording.{if_some}
-use Rattle.cat_tree.specs.declared.expression.Node.TheVariants as leaves
-use Rattle.cat_parse_expr.specs.declared.follow.Follow.TheVariants as follow
-use Rattle.cat_parse_expr.specs.Followers.{is_asked, is_below, is_with_pattern, may_stand}
-use Rattle.cat_parse_expr.specs.Measures.{leaf}
+use Rattle.cat_parse_expr.specs.Followers.{is_asked, is_below, is_with_pattern}
 use Rattle.cat_parse_expr.specs.Openings.{follow_of}
 use Rattle.cat_parse_expr.specs.Parts.{has_field, next_field, field_value}
-use Rattle.cat_parse_expr.specs.Reader.{behind_whole}
-use Rattle.cat_parse_expr.proofs.Bracketed.{part_shrinks, hidden_left}
-use Rattle.cat_parse_expr.proofs.Chosen.{choice_read}
-use Rattle.cat_parse_expr.proofs.Follows.{argument_ends, IsOwn}
-use Rattle.cat_parse_expr.proofs.Operands.{ending_next, goes_then}
-use Rattle.cat_parse_expr.proofs.Positive.{ends_in_word, nine_strength}
-use Rattle.cat_parse_expr.proofs.Shaping.{made_read, look_read}
-use Rattle.cat_parse_expr.proofs.Turnings.{own_heads}
+use Rattle.cat_parse_expr.proofs.Operands.{goes_then}
 use Rattle.cat_tree.specs.declared.expression.Arm.{Arm}
 use Rattle.cat_tree.specs.Rows.{arms, pattern_parts}
 use Rattle.cat_parse_expr.specs.declared.measured.MatchArms.{MatchArms}
 use Rattle.cat_parse_expr.specs.Measures.{with_arm, no_arms}
 use Rattle.cat_parse_expr.specs.Parts.{is_lower}
-use Rattle.cat_parse_expr.specs.Cues as cues
-use Rattle.cat_parse_expr.specs.Cues.{lower_of}
 use Rattle.cat_parse_expr.proofs.Leaves.{cue_found, cue_self}
-use Rattle.cat_parse_expr.proofs.Shaping.{unlook_read}
 use Rattle.cat_tree.specs.declared.expression.Pattern.{Pattern}
 use Rattle.cat_tree.specs.declared.expression.Pattern.TheVariants as pattern
 use Rattle.cat_tree.specs.declared.name.CaseName.TheVariants.{Bare, Qualified}
-use Rattle.cat_parse_expr.specs.Right.{Agree, AgreePast}
-use Rattle.cat_tree.specs.Phrase.{Inner, Stand, Stands, Terminal, IsSpelling}
+use Rattle.cat_tree.specs.Phrase.{Inner}
 use Rattle.cat_tree.specs.Wording.{match_of}
-use Rattle.cat_parse_expr.specs.Parts.{a_pattern, arm_head, next_arm, further_arm, has_arm, has_arm_behind, ends_arms, matched_value}
-use Rattle.cat_parse_expr.specs.Reader.{heads_second, fallen}
-use Rattle.cat_parse_expr.proofs.Chosen.{same_read, fallen_mapped}
-use Rattle.cat_parse_expr.proofs.Patterns.{pattern_row, pattern_behind, pattern_read, pattern_shut}
+use Rattle.cat_parse_expr.specs.Parts.{a_pattern, arm_head, next_arm, further_arm, has_arm, has_arm_behind}
+use Rattle.cat_parse_expr.specs.Parts.{ends_arms, matched_value}
 use Rattle.cat_parse_expr.specs.Climbing.{goes_so}
-use Rattle.cat_parse_expr.proofs.Arming.{Armed, arms_of, arm_rows, highest_of, armed_of, arms_back, rows_are, arms_from}
-use Rattle.cat_parse_expr.proofs.Arming.{arms_are, highest_is, AreArmed, armed_first, arms_row_of, levelled_armed, arms_read}
+use Rattle.cat_parse_expr.proofs.Armed.{Armed, arm_rows, highest_of, armed_of, arms_back, rows_are, arms_from}
+use Rattle.cat_parse_expr.proofs.Armed.{arms_are, highest_is, AreArmed, arms_row_of, levelled_armed}
+use Rattle.cat_parse_expr.proofs.Arming.{arms_read}
 use Rattle.cat_parse_expr.proofs.Follows.{no_going, not_taken}
 use Rattle.cat_parse_expr.proofs.Turnings.{past_word, read_shrinks}
 use Rattle.cat_parse_expr.proofs.Tuples.{three}
 use Rattle.cat_tree.specs.declared.expression.Pattern.TheVariants as pattern
 use Rattle.cat_tree.specs.declared.name.CaseName.TheVariants.{Bare, Qualified}
+use Rattle.cat_parse_expr.proofs.Truth.{both_are, first_false, second_false, second_is_true}
 
 -- ---- how high arms are
 
@@ -148,11 +102,6 @@ arms_first x (y ∷ ys) w v s = heads_begin (cue.Sign symbol.MinusMinus) w v s
 
 -- ---- what follows a match
 
-second_is_true : (a b c d e : Bool) → b ≡ true → (not a || (b || (c || (d || e)))) ≡ true
-second_is_true false b c d e h = refl
-second_is_true true true c d e h = refl
-second_is_true true false c d e h = absurd cc
-
 -- the words before its arms may follow what is matched
 pub matched_follows : (y : Measured) (w v : List Token) (x : Armed) (xs : List Armed)
     → AreSpelled (words pair.WithPattern ▹ arms_row_of x xs) w → MayFollow Tested 0 y (w ++ v)
@@ -172,18 +121,6 @@ either_of true false true d e p q r h = absurd cc
 either_of true false false true e p q r h = absurd cc
 either_of true false false false true p q r h = absurd cc
 either_of true false false false false p q r h = absurd cc
-
-first_false : (a b : Bool) → a ≡ false → (a && b) ≡ false
-first_false true b h = absurd cc
-first_false false b h = refl
-
-second_false : (a b : Bool) → b ≡ false → (a && b) ≡ false
-second_false true b h = h
-second_false false b h = refl
-
-both_are : (a b : Bool) → (a && b) ≡ true → (a ≡ true) × (b ≡ true)
-both_are true b h = (refl, h)
-both_are false b h = absurd cc
 
 minus_taken : (p : TokenKind) → is_taken p ≡ false → is_sign symbol.MinusMinus p ≡ false
 minus_taken p h = by (is_sign symbol.MinusMinus p) refl

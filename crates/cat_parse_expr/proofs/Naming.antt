@@ -1,95 +1,65 @@
 -- Names, and calls of functions.
-use Rattle.std.proofs.Common.{◌≡◌, ℕ, zero, suc, ◌≤◌, max, Bool, true, false, List, [], ◌∷◌, ◌++◌, Option, None, Some, refl, sym, ap}
+use Rattle.std.proofs.Common.{◌≡◌, ℕ, suc, ◌≤◌, Bool, true, false, List, [], ◌∷◌, ◌++◌, refl, sym, ap}
 use Rattle.std.proofs.Common.{subst, ◌∙◌, arith, inl, inr, ◌⊎◌}
-use Rattle.cat_pos.specs.declared.pos.Pos.{Pos}
 use Rattle.cat_lex.specs.declared.token.Token.{Token}
-use Rattle.cat_lex.specs.declared.token.TokenKind.{TokenKind}
 use Rattle.cat_lex.specs.declared.token.TokenKind.TheVariants as kind
-use Rattle.cat_lex.specs.declared.words.Keyword.{Keyword}
 use Rattle.cat_lex.specs.declared.words.Keyword.TheVariants as key
-use Rattle.cat_lex.specs.declared.words.DoubleKeyword.TheVariants as pair
 use Rattle.cat_lex.specs.declared.symbol.Symbol.TheVariants as symbol
-use Rattle.cat_tree.specs.Accumulation.{accumulation}
 use Rattle.cat_tree.specs.declared.name.Name.{Name}
-use Rattle.cat_tree.specs.declared.name.Type as types
-use Rattle.cat_tree.specs.declared.expression.Each.{Each}
-use Rattle.cat_tree.specs.declared.expression.Each.TheVariants as each
 use Rattle.cat_tree.specs.declared.expression.Node.{Node}
 use Rattle.cat_tree.specs.declared.expression.Node.TheViews as node
-use Rattle.cat_tree.specs.Literals.{type_parts}
-use Rattle.cat_tree.specs.Phrase.{Phrase, Row, Rank, Parts, End, Word, Part, At, Anywhere, Operand, height}
-use Rattle.cat_tree.specs.Rows.{each_parts}
+use Rattle.cat_tree.specs.Phrase.{Row, Rank, Parts, End, Word, At}
 use Rattle.cat_tree.specs.Wording as wording
 use Rattle.cat_tree.specs.Wording.{◌▹◌, symbol_at, key_at, pair_at, first, then_, lower, sign, part, of_level, words}
 use Rattle.cat_tree.specs.Grammar.{phrase}
 use Rattle.cat_tree.proofs.Exported.{phrase_Name, phrase_Call}
 use Rattle.cat_parse_expr.specs.declared.behind.Behind.{Behind}
 use Rattle.cat_parse_expr.specs.declared.behind.Behind.TheVariants.{Other, Field, Pattern as Tested}
-use Rattle.cat_parse_expr.specs.declared.cue.Cue.{Cue}
 use Rattle.cat_parse_expr.specs.declared.cue.Cue.TheVariants as cue
 use Rattle.cat_parse_expr.specs.declared.measured.Measured.{Measured}
 use Rattle.cat_parse_expr.specs.declared.opening.Opening.TheVariants as opening
 use Rattle.cat_parse_expr.specs.Cues.{kind_of}
-use Rattle.cat_parse_expr.specs.Measures.{closed, ending, form}
-use Rattle.cat_parse_expr.specs.Reader.{Reader, hidden, ◌⨟◌, pure, Reads}
+use Rattle.cat_parse_expr.specs.Measures.{closed}
+use Rattle.cat_parse_expr.specs.Reader.{pure}
 use Rattle.cat_parse_expr.specs.Parts.{Lower}
 use Rattle.cat_parse_expr.specs.Forms as forms
-use Rattle.cat_parse_expr.specs.Followers.{MayFollow, looks_of, is_taken}
+use Rattle.cat_parse_expr.specs.Followers.{looks_of}
 use Rattle.cat_parse_expr.specs.Longest.{KeepsWhole}
 use Rattle.cat_parse_expr.specs.Rightly.{measured_of, IsMeasured, IsLow, operand_row, AreRight}
 use Rattle.cat_parse_expr.proofs.Firsts.{Shape, class_Name, class_Call}
-use Rattle.cat_parse_expr.proofs.Follows.{word_follows, tall_enough}
-use Rattle.cat_parse_expr.proofs.Positive.{positive}
-use Rattle.cat_parse_expr.proofs.Operands.{Next, form_next, OfClass, Form, form_read, measured_by, height_is, match_is}
-use Rattle.cat_parse_expr.proofs.Operands.{strength_by, inner_read, end_read}
+use Rattle.cat_parse_expr.proofs.Operands.{Next, OfClass, Form, form_read, measured_by}
 use Rattle.cat_parse_expr.proofs.Read.{IsRead, pure_read}
-use Rattle.cat_parse_expr.proofs.Worded.{word_read, word_at_read, lower_read, opened_at_read}
-use Rattle.cat_parse_expr.proofs.Sequels.{part_read, last_read, hidden_shut, past_none, IsShut, shut_after, one_shut, shut_turns, no_longer}
-use Rattle.cat_parse_expr.proofs.Tuples.{both}
-use Rattle.std.proofs.Common.{map, length, if◌then◌else◌}
-use Rattle.cat_tree.specs.Joined.{◌▸◌, all}
+use Rattle.cat_parse_expr.proofs.Worded.{word_read, lower_read}
+use Rattle.cat_parse_expr.proofs.Sequels.{last_read}
+use Rattle.std.proofs.Common.{map, if◌then◌else◌}
 use Rattle.cat_tree.specs.Rows.{elements}
-use Rattle.std.proofs.Common.{append_assoc}
-use Rattle.cat_tree.specs.Phrase.{AreLevelled, AreSpelled, tallest}
-use Rattle.cat_parse_expr.proofs.Loops as loops
+use Rattle.cat_tree.specs.Phrase.{AreLevelled, AreSpelled}
 use Rattle.cat_parse_expr.specs.declared.measured.Elements.{Elements}
 use Rattle.cat_parse_expr.specs.Measures.{with_element, no_elements}
-use Rattle.cat_parse_expr.specs.Parts as parts
-use Rattle.cat_parse_expr.specs.Parts.{has_element, next_element, as_many, is_sign, inner, sign as a_sign}
-use Rattle.cat_parse_expr.specs.Reader.{Parsed, Fails, after, left_of, heads, hidden_in, by_word}
-use Rattle.cat_parse_expr.specs.Cues.{cue_is, word_of, «word»}
+use Rattle.cat_parse_expr.specs.Parts.{is_sign}
+use Rattle.cat_parse_expr.specs.Reader.{heads, by_word}
+use Rattle.cat_parse_expr.specs.Cues.{cue_is}
 use Rattle.cat_parse_expr.specs.Right.{Is}
-use Rattle.cat_parse_expr.proofs.Chaining as chaining
 use Rattle.cat_parse_expr.proofs.Choices.{Decides, Recast}
-use Rattle.cat_parse_expr.proofs.Chosen.{inner_choice_read}
-use Rattle.cat_parse_expr.proofs.Lists as lists
-use Rattle.cat_parse_expr.proofs.Looping as looping
-use Rattle.cat_parse_expr.proofs.Nodes.{nodes_of, phrases_of, tallest_of, AreMeasured, measures_of, measures_are, nodes_back}
-use Rattle.cat_parse_expr.proofs.Nodes.{elements_from, nodes_are, tallest_is, row_behind, chain_elements, elements_behind}
-use Rattle.cat_parse_expr.proofs.Nodes.{elements_height, elements_last, behind_end}
-use Rattle.cat_parse_expr.proofs.Openers.{begins_not}
-use Rattle.cat_parse_expr.proofs.Shaping.{narrow_read, recast_read, reshape_read}
-use Rattle.cat_parse_expr.proofs.Turnings.{heads_begin, heads_other, heads_follow, heads_seen, shrinks_after}
-use Rattle.cat_parse_expr.proofs.Turnings as turnings
-use Rattle.std.proofs.Common.{not, nat_eq, nat_le, nat_lt, ◌&&◌, ◌||◌, cond}
+use Rattle.cat_parse_expr.proofs.Nodes.{phrases_of, measures_of, nodes_back}
+use Rattle.cat_parse_expr.proofs.Nodes.{elements_from, nodes_are, tallest_is}
+use Rattle.cat_parse_expr.proofs.Nodes.{elements_height}
+use Rattle.cat_parse_expr.proofs.Shaping.{recast_read, reshape_read}
+use Rattle.cat_parse_expr.proofs.Turnings.{heads_begin}
+use Rattle.std.proofs.Common.{nat_eq, nat_le, ◌&&◌}
 use Rattle.std.proofs.lemmas.Bool.Decides.{nat_tests}
 use Rattle.cat_parse_expr.proofs.Firsts.{class_of}
-use Rattle.cat_tree.specs.Phrase.{right_strength, left_strength, ends_in_form, ends_in_match, last_in_form, last_in_match}
+use Rattle.cat_tree.specs.Phrase.{right_strength}
 use Rattle.cat_tree.specs.Phrase.{IsLevelled}
 use Rattle.cat_tree.specs.Wording.{if_some}
 use Rattle.cat_tree.specs.declared.expression.Node.TheVariants as leaves
-use Rattle.cat_parse_expr.specs.declared.follow.Follow.TheVariants as follow
-use Rattle.cat_parse_expr.specs.Followers.{is_asked, is_below, is_with_pattern, may_stand}
+use Rattle.cat_parse_expr.specs.Followers.{is_asked}
 use Rattle.cat_parse_expr.specs.Measures.{leaf}
-use Rattle.cat_parse_expr.specs.Openings.{follow_of}
-use Rattle.cat_parse_expr.specs.Parts.{has_argument, next_argument, behind_comma, arguments}
 use Rattle.cat_parse_expr.specs.Reader.{behind_whole}
-use Rattle.cat_parse_expr.proofs.Bracketed.{part_shrinks}
 use Rattle.cat_parse_expr.proofs.Chosen.{choice_read}
-use Rattle.cat_parse_expr.proofs.Follows.{argument_ends, IsOwn}
-use Rattle.cat_parse_expr.proofs.Operands.{ending_next, goes_then}
-use Rattle.cat_parse_expr.proofs.Positive.{ends_in_word, nine_strength}
-use Rattle.cat_parse_expr.proofs.Shaping.{made_read, look_read}
+use Rattle.cat_parse_expr.proofs.Follows.{IsOwn}
+use Rattle.cat_parse_expr.proofs.Operands.{goes_then}
+use Rattle.cat_parse_expr.proofs.Shaping.{look_read}
 use Rattle.cat_parse_expr.proofs.Turnings.{own_heads}
 use Rattle.cat_parse_expr.proofs.Called.{Nine, AreNine, nine_measured, nine_last, argument_follows}
 use Rattle.cat_parse_expr.proofs.Arguments.{arguments_read}
@@ -187,7 +157,17 @@ split_call k n f args e l low = by args e (subst IsLevelled (ap phrase e ∙ phr
           e ∙ ap (λ (ns : List Node). node.Call f ns)
               (sym (nodes_are (with_element no_elements (measured_of a)) (measures_of args)
               ∙ ap (λ (ns : List Node). a ∷ ns) (nodes_back args))),
-          (m.0, m.1, omega (arith, low, ap (λ (n : Node). right_strength (phrase n)) e, ap right_strength (phrase_Call f (a ∷ args)))),
+          (
+            m.0,
+            m.1,
+            omega (
+              arith,
+              low,
+              ap (λ (n : Node). right_strength (phrase n)) e,
+              ap right_strength
+                  (phrase_Call f (a ∷ args)),
+            ),
+          ),
         )
 
 named_form : (k : ℕ) → k ≤ 9 → Form k opening.Name (named_fits k) named_row named_of
@@ -232,7 +212,8 @@ module _ (ex : Lower) (room : ℕ) (right : AreRight room ex)
     (b : Behind) (k : ℕ) where
   -- of E, E
   call_read : {K : Type 0} (w : Name) → k ≤ 8
-      → IsRead (call_of w) K (Unit {0}) (Unit {0}) (λ c. (call_of w c).height ≤ suc room) (λ c v. Next b k (call_of w c) v)
+      → IsRead (call_of w) K (Unit {0}) (Unit {0}) (λ c. (call_of w c).height ≤ suc room)
+      (λ c v. Next b k (call_of w c) v)
       (looks_of b) Call_fits (λ c. wording.«word» key.Of ▹ elements 9 symbol.Comma (phrases_of (c.0 ∷ c.1)) End)
       (forms.called ex room w)
   call_read w le =
@@ -248,7 +229,8 @@ module _ (ex : Lower) (room : ℕ) (right : AreRight room ex)
         outside =
             λ f x v m o. (
               λ y n. argument_follows b k (call_of w x) y v le refl refl n o,
-              own_heads b k (call_of w x) (cue.Sign symbol.Comma) v comma_own (not_nine le) (goes_then b k (call_of w x) v o),
+              own_heads b k (call_of w x) (cue.Sign symbol.Comma) v comma_own (not_nine le)
+                  (goes_then b k (call_of w x) v o),
             );
       }))
     where
@@ -324,7 +306,8 @@ module _ (ex : Lower) (room : ℕ) (right : AreRight room ex)
   spent_name w (Alone x) u v f s h = s
   spent_name w (Calls x e xs) u v f s h = absurd f.1
 
-  call_cast : (w : Name) → k ≤ 8 → Recast (λ c. (call_of w c).height ≤ suc room) low (λ c v. Next b k (call_of w c) v) out
+  call_cast : (w : Name) → k ≤ 8 → Recast (λ c. (call_of w c).height ≤ suc room) low
+      (λ c v. Next b k (call_of w c) v) out
       Call_fits (Yes w) (λ c. wording.«word» key.Of ▹ elements 9 symbol.Comma (phrases_of (c.0 ∷ c.1)) End) named_rest
       (λ c. Calls w c.0 c.1)
   call_cast w le = record {
@@ -358,9 +341,6 @@ module _ (ex : Lower) (room : ℕ) (right : AreRight room ex)
   alone_rows w (Alone x) f = refl
   alone_rows w (Calls x e xs) f = absurd f.1
 
-  one_low : (F : Type 0) → 1 ≤ suc room
-  one_low F = omega arith
-
   plain_read : {K : Type 0} (w : Name)
       → IsRead named_of K (Unit {0}) (Unit {0}) low out (looks_of b) (No w) named_rest (pure (leaf (leaves.Name w)))
   plain_read w =
@@ -370,7 +350,8 @@ module _ (ex : Lower) (room : ℕ) (right : AreRight room ex)
 
   body_read : {K : Type 0} (w : Name) (c : Bool) → nat_le k 8 ≡ c
       → IsRead named_of K (Unit {0}) (Unit {0}) low out (looks_of b) (At_name w) named_rest
-      (if c then by_word (cue_is (cue.Word key.Of)) (behind_whole (forms.called ex room w)) (pure (leaf (leaves.Name w)))
+      (if c then by_word (cue_is (cue.Word key.Of)) (behind_whole (forms.called ex room w))
+      (pure (leaf (leaves.Name w)))
       else pure (leaf (leaves.Name w)))
   body_read w true e =
       choice_read (cue_is (cue.Word key.Of)) (Yes w) (No w) (decides w) (begins_call w) (spent_name w) (Alone w)

@@ -1,28 +1,23 @@
 -- The reader that reads nothing for want of room.
-use Rattle.std.proofs.Common.{◌≡◌, ℕ, zero, suc, ◌≤◌, Bool, true, false, List, [], ◌∷◌, ◌++◌, length, Option, Some, None, refl, sym}
-use Rattle.std.proofs.Common.{ap, subst, ◌∙◌, append_assoc, arith}
+use Rattle.std.proofs.Common.{◌≡◌, ℕ, ◌≤◌, Bool, true, false, List, [], ◌∷◌, ◌++◌, None, refl, sym}
+use Rattle.std.proofs.Common.{ap, ◌∙◌, append_assoc}
 use Rattle.cat_lex.specs.declared.token.Token.{Token}
 use Rattle.cat_lex.specs.declared.token.TokenKind.{TokenKind}
-use Rattle.cat_tree.specs.Phrase.{Parts, IsSpelling}
-use Rattle.cat_tree.specs.Grammar.{phrase}
 use Rattle.cat_parse_expr.specs.declared.measured.Measured.{Measured}
-use Rattle.cat_parse_expr.specs.declared.opening.Opening.{Opening}
 use Rattle.cat_parse_expr.specs.Climbing.{nothing_at}
-use Rattle.cat_parse_expr.specs.Longest.{ReadsAsFar, KeepsWhole}
+use Rattle.cat_parse_expr.specs.Longest.{ReadsAsFar}
 use Rattle.cat_parse_expr.specs.Openings.{opening_of, opening_at, stands}
-use Rattle.cat_parse_expr.specs.Reader.{Parsed, Fails, Reads, left_of, after, pure}
-use Rattle.cat_parse_expr.specs.Right.{Agree, Is, Begun, Taken, Says, Alike, IsRight}
-use Rattle.cat_parse_expr.specs.Rightly.{measured_of, IsMeasured, operand_row}
+use Rattle.cat_parse_expr.specs.Reader.{Fails}
+use Rattle.cat_parse_expr.specs.Right.{Agree, Is, Taken, Says, Alike}
+use Rattle.cat_parse_expr.specs.Rightly.{IsMeasured, operand_row}
 use Rattle.cat_parse_expr.proofs.Firsts.{class_of}
 use Rattle.cat_parse_expr.proofs.Joining.{no_front}
 use Rattle.cat_parse_expr.proofs.Openers.{opens_with}
-use Rattle.cat_parse_expr.proofs.Operands.{whole_same}
 use Rattle.cat_parse_expr.proofs.Read.{IsRead}
-use Rattle.cat_parse_expr.proofs.Sampling.{name_sample, sampled}
+use Rattle.cat_parse_expr.proofs.Sampled.{sampled}
+use Rattle.cat_parse_expr.proofs.Sampling.{name_sample}
 use Rattle.cat_parse_expr.proofs.Standing.{stands_all}
-
-clash : (c : Bool) → c ≡ true → c ≡ false → ⊥
-clash c x y = absurd cc
+use Rattle.cat_parse_expr.proofs.Truth.{clash}
 
 -- the next word of an operand
 pub operand_opens : (k : ℕ) (y : Measured) (w v : List Token) → Is IsMeasured (operand_row k) y w
@@ -43,7 +38,8 @@ agree_opens [] (q ∷ qs) g = absurd g
 agree_opens (p ∷ ps) [] g = absurd g
 agree_opens (p ∷ ps) (q ∷ qs) g = ap (λ (t : Token). opening_of t.kind) g
 
-module _ (low : Measured → Type 0) (out : Measured → List Token → Type 0) (looks : TokenKind → Bool) (k : ℕ) (le : k ≤ 9)
+module _ (low : Measured → Type 0) (out : Measured → List Token → Type 0) (looks : TokenKind → Bool) (k : ℕ)
+    (le : k ≤ 9)
     (high : (y : Measured) → IsMeasured y → low y → ⊥) where
   taken_by : (ts : List Token) (c : Bool) → stands k (opening_at ts) ≡ c
       → Taken low IsMeasured (operand_row k) (Fails ts c None) ts
@@ -70,7 +66,8 @@ module _ (low : Measured → Type 0) (out : Measured → List Token → Type 0) 
       → (c : Bool) → stands k (opening_at ts) ≡ c → ReadsAsFar low (Fails ts c None) y v
   longest_by ts y w v text i true e = high y i.fit
   longest_by ts y w v text i false e =
-      clash (stands k (opening_at ts)) (ap (λ (u : List Token). stands k (opening_at u)) text ∙ operand_stands k y w v i) e
+      clash (stands k (opening_at ts)) (ap (λ (u : List Token). stands k (opening_at u)) text
+      ∙ operand_stands k y w v i) e
 
   pub nothing_read : {K : Type 0} → IsRead (λ y. y) K (Unit {0}) (Unit {0}) low out looks IsMeasured (operand_row k)
       (nothing_at k)

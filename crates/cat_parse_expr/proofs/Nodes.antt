@@ -1,17 +1,17 @@
 -- Lists of expressions with what counts of them, as rows of elements.
-use Rattle.std.proofs.Common.{◌≡◌, ℕ, zero, suc, ◌≤◌, max, Bool, true, false, List, [], ◌∷◌, ◌++◌, map, refl, sym, ap, subst}
+use Rattle.std.proofs.Common.{◌≡◌, ℕ, max, Bool, false, List, [], ◌∷◌, ◌++◌, map, refl, sym, ap}
 use Rattle.std.proofs.Common.{◌∙◌, append_assoc, arith}
 use Rattle.std.proofs.lemmas.List.{append-nil}
 use Rattle.cat_lex.specs.declared.symbol.Symbol.{Symbol}
 use Rattle.cat_tree.specs.declared.expression.Node.{Node}
 use Rattle.cat_tree.specs.Joined.{◌▸◌, all}
-use Rattle.cat_tree.specs.Phrase.{Phrase, Parts, End, Word, Part, Terminal, tallest, height, last_in_form, last_in_match}
+use Rattle.cat_tree.specs.Phrase.{Phrase, Parts, End, Word, Part, Terminal, tallest, last_in_form, last_in_match}
 use Rattle.cat_tree.specs.Grammar.{phrase}
 use Rattle.cat_tree.specs.Rows.{elements}
 use Rattle.cat_tree.specs.Wording.{◌▹◌, sign, part}
 use Rattle.cat_parse_expr.specs.declared.measured.Measured.{Measured}
 use Rattle.cat_parse_expr.specs.declared.measured.Elements.{Elements}
-use Rattle.cat_parse_expr.specs.Measures.{with_element, no_elements}
+use Rattle.cat_parse_expr.specs.Measures.{with_element}
 use Rattle.cat_parse_expr.specs.Rightly.{measured_of, IsMeasured}
 use Rattle.cat_parse_expr.proofs.Operands.{height_is}
 

@@ -1,56 +1,31 @@
 -- Each expression begins with a word that begins some form, which stands at its level.
-use Rattle.std.proofs.Common.{◌≡◌, ℕ, zero, suc, ◌≤◌, Bool, true, false, nat_le, List, [], ◌∷◌, ◌++◌, map, Option, Some, None}
-use Rattle.std.proofs.Common.{refl, sym, ap, subst, ◌∙◌, arith, inl, inr, ◌⊎◌}
-use Rattle.std.proofs.lemmas.Bool.Decides.{nat_tests}
+use Rattle.std.proofs.Common.{◌≡◌, Bool, true, false, List, [], ◌∷◌, ◌++◌}
+use Rattle.std.proofs.Common.{refl, sym, ap, ◌∙◌}
 use Rattle.cat_pos.specs.declared.pos.Pos.{Pos}
 use Rattle.cat_lex.specs.declared.token.Token.{Token}
-use Rattle.cat_lex.specs.declared.token.TokenKind.{TokenKind}
-use Rattle.cat_lex.specs.declared.token.TokenKind.TheVariants as kind
-use Rattle.cat_lex.specs.declared.symbol.Symbol.TheVariants as symbol
 use Rattle.cat_tree.specs.Accumulation.{accumulation}
 use Rattle.cat_tree.specs.declared.name.Name.{Name}
 use Rattle.cat_tree.specs.declared.name.CaseName.{CaseName}
-use Rattle.cat_tree.specs.declared.name.CaseName.TheVariants.{Bare, Qualified}
-use Rattle.cat_tree.specs.declared.name.Type as types
-use Rattle.cat_tree.specs.declared.expression.Literal.{Literal}
-use Rattle.cat_tree.specs.declared.expression.Literal.TheVariants as literal
-use Rattle.cat_tree.specs.declared.expression.Prefix.{Prefix}
-use Rattle.cat_tree.specs.declared.expression.Prefix.TheVariants as prefix
 use Rattle.cat_tree.specs.declared.expression.Operator.{Operator}
-use Rattle.cat_tree.specs.declared.expression.Each.{Each}
-use Rattle.cat_tree.specs.declared.expression.Each.TheVariants as each
-use Rattle.cat_tree.specs.declared.expression.Arm.{Arm}
-use Rattle.cat_tree.specs.declared.expression.FieldValue.{FieldValue}
 use Rattle.cat_tree.specs.declared.expression.Node.{Node}
 use Rattle.cat_tree.specs.declared.expression.Node.TheVariants as leaves
 use Rattle.cat_tree.specs.declared.expression.Node.TheViews as node
-use Rattle.cat_tree.specs.Literals.{literal_parts}
-use Rattle.cat_tree.specs.Operators.{prefix_level, prefix_parts}
-use Rattle.cat_tree.specs.Rows.{each_parts}
-use Rattle.cat_tree.specs.Phrase.{Phrase, Row, Parts, End, Word, Part, Operand, Terminal, At, Anywhere, IsAt, IsSpelling, AreSpelled}
+use Rattle.cat_tree.specs.Phrase.{IsSpelling}
 use Rattle.cat_tree.specs.Grammar.{phrase}
-use Rattle.cat_tree.proofs.Exported.{phrase_Binary, phrase_Call, phrase_Case, phrase_Combine}
-use Rattle.cat_tree.proofs.Exported.{phrase_Content, phrase_Each, phrase_Field, phrase_If, phrase_List}
-use Rattle.cat_tree.proofs.Exported.{phrase_Literal, phrase_Match, phrase_Name, phrase_Parens, phrase_Prefixed}
-use Rattle.cat_tree.proofs.Exported.{phrase_ScopeCall, phrase_Structure, phrase_Sum, phrase_Test}
+use Rattle.cat_tree.proofs.Exported.{phrase_Binary}
+use Rattle.cat_tree.proofs.Exported.{phrase_Field}
+use Rattle.cat_tree.proofs.Exported.{phrase_Test}
 use Rattle.cat_parse_expr.specs.declared.opening.Opening.{Opening}
 use Rattle.cat_parse_expr.specs.declared.opening.Opening.TheVariants as opening
 use Rattle.cat_parse_expr.specs.Openings.{opening_of, opening_at}
-use Rattle.cat_parse_expr.proofs.Follows.{kind_at, kind_is}
-use Rattle.cat_tree.specs.Phrase.{right_strength, left_strength, ends_in_form, IsLevelled}
-use Rattle.cat_tree.specs.Operators.{operator_level, left_level}
-use Rattle.cat_tree.specs.Wording.{if_some, match_of}
-use Rattle.cat_tree.specs.Literals.{literal_rank}
-use Rattle.cat_tree.proofs.Exported.{field_row, arm_row}
 use Rattle.cat_parse_expr.specs.declared.cue.Cue.{Cue}
 use Rattle.cat_parse_expr.specs.Cues.{kind_of, cue_is}
-use Rattle.cat_parse_expr.specs.Openings.{stands}
 use Rattle.cat_parse_expr.specs.Reader.{heads}
-use Rattle.cat_parse_expr.proofs.Firsts.{first_of, opening_with, class_of, class_by, opens, Shape, IsPrimary, primary_by, is_bare}
-use Rattle.cat_parse_expr.proofs.Firsts.{class_Literal, class_Name, class_Call, class_Case, class_Content, class_Structure}
-use Rattle.cat_parse_expr.proofs.Firsts.{class_Selected, class_Parens, class_List, class_ScopeCall, class_Prefixed, class_Sum}
+use Rattle.cat_parse_expr.proofs.Firsts.{class_of, class_by, opens}
+use Rattle.cat_parse_expr.proofs.Firsts.{class_Literal, class_Name, class_Call, class_Case, class_Content}
+use Rattle.cat_parse_expr.proofs.Firsts.{class_Structure}
+use Rattle.cat_parse_expr.proofs.Firsts.{class_Parens, class_List, class_ScopeCall, class_Prefixed, class_Sum}
 use Rattle.cat_parse_expr.proofs.Firsts.{class_If, class_Match, class_Each, class_Combine}
-use Rattle.cat_parse_expr.proofs.Follows.{one_level}
 use Rattle.cat_parse_expr.proofs.Induction as forms
 use Rattle.cat_parse_expr.proofs.Leaves.{cue_found}
 

@@ -1,25 +1,23 @@
 -- Forms as operands.
-use Rattle.std.proofs.Common.{◌≡◌, ℕ, zero, suc, ◌≤◌, max, Bool, true, false, not, ◌&&◌, if◌then◌else◌, cond, nat_eq, List, []}
-use Rattle.std.proofs.Common.{◌∷◌, ◌++◌, refl, sym, ap, subst, ◌∙◌, arith, inl, inr, ◌⊎◌}
+use Rattle.std.proofs.Common.{◌≡◌, ℕ, ◌≤◌, Bool, true, not, ◌&&◌, if◌then◌else◌, cond, nat_eq, List, []}
+use Rattle.std.proofs.Common.{◌++◌, refl, sym, ap, subst, ◌∙◌, arith, inl, inr, ◌⊎◌}
 use Rattle.std.proofs.lemmas.List.{append-nil}
 use Rattle.cat_lex.specs.declared.token.Token.{Token}
 use Rattle.cat_lex.specs.declared.token.TokenKind.{TokenKind}
 use Rattle.cat_lex.specs.declared.symbol.Symbol.TheVariants as symbol
 use Rattle.cat_tree.specs.declared.expression.Node.{Node}
-use Rattle.cat_tree.specs.Phrase.{Phrase, Row, Rank, Parts, Part, End, Operand, Stands, IsLevelled, AreLevelled, IsSpelling}
+use Rattle.cat_tree.specs.Phrase.{Phrase, Row, Rank, Parts, Part, End, Operand, IsLevelled, AreLevelled}
 use Rattle.cat_tree.specs.Phrase.{AreSpelled, height, right_strength, left_strength, ends_in_form, ends_in_match}
 use Rattle.cat_tree.specs.Grammar.{phrase}
 use Rattle.cat_parse_expr.specs.declared.behind.Behind.{Behind}
-use Rattle.cat_parse_expr.specs.declared.behind.Behind.TheVariants.{Other}
 use Rattle.cat_parse_expr.specs.declared.measured.Measured.{Measured}
 use Rattle.cat_parse_expr.specs.declared.opening.Opening.{Opening}
-use Rattle.cat_parse_expr.specs.Measures.{closed, ending, form}
 use Rattle.cat_parse_expr.specs.Reader.{Parsed, Fails, Reads, Reader, heads, hidden, after, pure}
 use Rattle.cat_parse_expr.specs.Climbing.{goes_on}
 use Rattle.cat_parse_expr.specs.Followers.{MayFollow, looks_of}
 use Rattle.cat_parse_expr.specs.Longest.{KeepsWhole}
 use Rattle.cat_parse_expr.specs.Parts.{Lower, is_sign}
-use Rattle.cat_parse_expr.specs.Right.{Is, IsRight}
+use Rattle.cat_parse_expr.specs.Right.{Is}
 use Rattle.cat_parse_expr.specs.Rightly.{measured_of, IsMeasured, IsLow, operand_row, AreRight}
 use Rattle.cat_parse_expr.proofs.Choices.{Recast}
 use Rattle.cat_parse_expr.proofs.Firsts.{class_of, Shape, IsPrimary, primary_by, is_bare}
@@ -28,6 +26,10 @@ use Rattle.cat_parse_expr.proofs.Measuring.{in_form_is}
 use Rattle.cat_parse_expr.proofs.Read.{IsRead}
 use Rattle.cat_parse_expr.proofs.Shaping.{made_read}
 use Rattle.cat_parse_expr.proofs.Wholes.{hidden_right}
+use Rattle.cat_parse_expr.proofs.Truth.{second_true}
+use Rattle.cat_parse_expr.proofs.Sequels.{no_longer}
+use Rattle.std.proofs.Common.{length}
+use Rattle.cat_parse_expr.specs.Reader.{left_of, hidden_in}
 
 -- ---- what follows something that stands in front of all operators
 
@@ -38,10 +40,6 @@ goes_past b k a ts = not (is_bare (phrase a.node) && heads (is_sign symbol.Dot) 
 -- something ends here, or goes on
 abbrev pub Next : Behind → (k : ℕ) → Measured → List Token → Type 0
 Next b k a v = MayFollow b k a v ⊎ (goes_past b k a v ≡ true)
-
-second_true : (a b : Bool) → (a && b) ≡ true → b ≡ true
-second_true true b h = h
-second_true false b h = absurd cc
 
 pub goes_then : (b : Behind) (k : ℕ) (a : Measured) (v : List Token) → Next b k a v
     → MayFollow b k a v ⊎ (goes_on b k a v ≡ true)
@@ -80,7 +78,8 @@ pub record Form {T : Type 0} (k : ℕ) (c : Opening) (fits : T → Type 0) (row 
   pub bounded : (t : T) → fits t → (rank t).fits ≡ true
   pub class : (t : T) → class_of (f t).node ≡ c
   pub shape : (t : T) → Shape c (f t).node
-  pub split : (n : Node) → Shape c n → IsLevelled (phrase n) → k ≤ right_strength (phrase n) → (t : T) × (n ≡ (f t).node) × fits t
+  pub split : (n : Node) → Shape c n → IsLevelled (phrase n) → k ≤ right_strength (phrase n) → (t : T)
+      × (n ≡ (f t).node) × fits t
 
 -- the same tokens spell it as an operand
 pub operand_is : (k : ℕ) (n : Node) (r : Rank) (ps : Parts) (w : List Token) → phrase n ≡ Row r ps → k ≤ r.level
@@ -105,11 +104,13 @@ operand_parts k n r ps w e levels spelled =
 pub same_measured : (y z : Measured) → IsMeasured y → IsMeasured z → y.node ≡ z.node → y ≡ z
 same_measured y z a b e = a ∙ ap measured_of e ∙ sym b
 
-module _ {T : Type 0} (k high : ℕ) (out : Measured → List Token → Type 0) (c : Opening) (fits : T → Type 0) (row : T → Parts)
+module _ {T : Type 0} (k high : ℕ) (out : Measured → List Token → Type 0) (c : Opening) (fits : T → Type 0)
+    (row : T → Parts)
     (f : T → Measured) (m : Form k c fits row f) where
   to_operand : (t : T) (w : List Token) → Is fits row t w → Is (OfClass k c) (operand_row k) (f t) w
   to_operand t w i =
-      let o = operand_is k (f t).node (m.rank t) (row t) w (m.is t) (m.level t i.fit) (m.bounded t i.fit) i.levels i.spelled in
+      let o = operand_is k (f t).node (m.rank t) (row t) w (m.is t) (m.level t i.fit)
+      (m.bounded t i.fit) i.levels i.spelled in
       record {
         fit = (
           record {
@@ -133,7 +134,8 @@ module _ {T : Type 0} (k high : ℕ) (out : Measured → List Token → Type 0) 
         record { fit = s.2; levels = p.0; spelled = p.1 },
       )
 
-  pub form_cast : Recast (λ t. (f t).height ≤ high) (λ y. y.height ≤ high) (λ t v. out (f t) v) out fits (OfClass k c) row
+  pub form_cast : Recast (λ t. (f t).height ≤ high) (λ y. y.height ≤ high) (λ t v. out (f t) v) out fits
+      (OfClass k c) row
       (operand_row k) f
   form_cast = record {
     to = to_operand;
@@ -150,7 +152,8 @@ pub form_read : {T : Type 0} {K : Type 0} {looks : TokenKind → Bool} (k high :
     → IsRead (λ y. y) K (Unit {0}) (Unit {0}) (IsLow high) out looks (OfClass k c) (operand_row k) s
 form_read k high out c fits row f s m h =
     let cast = form_cast k high out c fits row f m in
-    made_read (λ t. (f t).height ≤ high) (λ t v. out (f t) v) fits row (λ u. u) (λ u c. c) (λ u. cast.to) (λ u c. cast) h
+    made_read (λ t. (f t).height ≤ high) (λ t v. out (f t) v) fits row (λ u. u) (λ u c. c) (λ u. cast.to)
+    (λ u c. cast) h
 
 -- ---- what counts of a form
 
@@ -185,7 +188,8 @@ module _ (ex : Lower) (room : ℕ) (right : AreRight room ex) where
   whole_same (Reads x left) = refl
 
   -- a part that words follow
-  pub inner_read : (b : Behind) → IsRead (λ (y : Measured). y) ⊥ (Unit {0}) (Unit {0}) (IsLow room) (MayFollow b 0) (looks_of b)
+  pub inner_read : (b : Behind) → IsRead (λ (y : Measured). y) ⊥ (Unit {0}) (Unit {0}) (IsLow room) (MayFollow b 0)
+      (looks_of b)
       IsMeasured (operand_row 0) (hidden (ex b 0))
   inner_read b = record {
     reader = hidden (ex b 0);
@@ -209,3 +213,16 @@ module _ (ex : Lower) (room : ℕ) (right : AreRight room ex) where
     right = λ f c bound. right b j bound le;
     keeps = λ k f c bound. keeps bound;
   }
+
+-- ---- how far parts are read
+
+-- what is left of a part
+pub part_shrinks : (ex : Lower) (room : ℕ) → AreRight room ex → (b : Behind) (j : ℕ) → j ≤ 9 → (ts : List Token)
+    → length (left_of (ex b j ts)) ≤ length ts
+part_shrinks ex room right b j le ts =
+    no_longer (IsLow room) IsMeasured (operand_row j) (ex b j ts) ts
+    ((right b j (length ts) le).taken ts (omega arith))
+
+pub hidden_left : {A : Type 0} (o : Parsed A) → left_of (hidden_in o) ≡ left_of o
+hidden_left (Fails left deep whole) = refl
+hidden_left (Reads x left) = refl

@@ -1,62 +1,49 @@
 -- Forms over a list.
-use Rattle.std.proofs.Common.{◌≡◌, ℕ, zero, suc, ◌≤◌, max, Bool, true, false, List, [], ◌∷◌, ◌++◌, Option, None, Some, refl, sym, ap}
-use Rattle.std.proofs.Common.{subst, ◌∙◌, arith, inl, inr, ◌⊎◌}
+use Rattle.std.proofs.Common.{◌≡◌, ℕ, suc, ◌≤◌, max, false, List, refl, ap}
+use Rattle.std.proofs.Common.{◌∙◌, arith}
 use Rattle.cat_pos.specs.declared.pos.Pos.{Pos}
 use Rattle.cat_lex.specs.declared.token.Token.{Token}
-use Rattle.cat_lex.specs.declared.token.TokenKind.{TokenKind}
-use Rattle.cat_lex.specs.declared.token.TokenKind.TheVariants as kind
-use Rattle.cat_lex.specs.declared.words.Keyword.{Keyword}
 use Rattle.cat_lex.specs.declared.words.Keyword.TheVariants as key
-use Rattle.cat_lex.specs.declared.words.DoubleKeyword.TheVariants as pair
-use Rattle.cat_lex.specs.declared.symbol.Symbol.TheVariants as symbol
-use Rattle.cat_tree.specs.Accumulation.{accumulation}
 use Rattle.cat_tree.specs.declared.name.Name.{Name}
-use Rattle.cat_tree.specs.declared.name.Type as types
 use Rattle.cat_tree.specs.declared.expression.Each.{Each}
 use Rattle.cat_tree.specs.declared.expression.Each.TheVariants as each
-use Rattle.cat_tree.specs.declared.expression.Node.{Node}
 use Rattle.cat_tree.specs.declared.expression.Node.TheViews as node
-use Rattle.cat_tree.specs.Literals.{type_parts}
-use Rattle.cat_tree.specs.Phrase.{Phrase, Row, Rank, Parts, End, Word, Part, At, Anywhere, Operand, height}
+use Rattle.cat_tree.specs.Phrase.{Row, Parts, End}
 use Rattle.cat_tree.specs.Rows.{each_parts}
 use Rattle.cat_tree.specs.Wording as wording
 use Rattle.cat_tree.specs.Wording.{◌▹◌, symbol_at, key_at, pair_at, first, then_, lower, sign, part, of_level, words}
 use Rattle.cat_tree.specs.Grammar.{phrase}
-use Rattle.cat_tree.proofs.Exported.{phrase_Combine, phrase_Each, phrase_If, phrase_Parens, phrase_Sum}
+use Rattle.cat_tree.proofs.Exported.{phrase_Each}
 use Rattle.cat_parse_expr.specs.declared.behind.Behind.{Behind}
-use Rattle.cat_parse_expr.specs.declared.behind.Behind.TheVariants.{Other, Field, Pattern as Tested}
-use Rattle.cat_parse_expr.specs.declared.cue.Cue.{Cue}
+use Rattle.cat_parse_expr.specs.declared.behind.Behind.TheVariants.{Other}
 use Rattle.cat_parse_expr.specs.declared.cue.Cue.TheVariants as cue
 use Rattle.cat_parse_expr.specs.declared.measured.Measured.{Measured}
 use Rattle.cat_parse_expr.specs.declared.opening.Opening.TheVariants as opening
 use Rattle.cat_parse_expr.specs.Cues as cues
 use Rattle.cat_parse_expr.specs.Cues.{kind_of, lower_of, word_of}
-use Rattle.cat_parse_expr.specs.Measures.{closed, ending, form}
-use Rattle.cat_parse_expr.specs.Reader.{Reader, hidden, ◌⨟◌, pure, Reads}
+use Rattle.cat_parse_expr.specs.Measures.{form}
+use Rattle.cat_parse_expr.specs.Reader.{hidden}
 use Rattle.cat_parse_expr.specs.Parts.{Lower, key_word}
 use Rattle.cat_parse_expr.specs.Forms as forms
 use Rattle.cat_parse_expr.specs.Followers.{MayFollow, looks_of, is_taken}
 use Rattle.cat_parse_expr.specs.Longest.{KeepsWhole}
 use Rattle.cat_parse_expr.specs.Rightly.{measured_of, IsMeasured, IsLow, operand_row, AreRight}
-use Rattle.cat_parse_expr.proofs.Firsts.{Shape, class_Parens, class_If, class_Each, class_Combine, class_Sum}
-use Rattle.cat_parse_expr.proofs.Follows.{word_follows, tall_enough}
-use Rattle.cat_parse_expr.proofs.Positive.{positive}
-use Rattle.cat_parse_expr.proofs.Operands.{Next, form_next, OfClass, Form, form_read, measured_by, height_is, match_is}
-use Rattle.cat_parse_expr.proofs.Operands.{strength_by, inner_read, end_read}
-use Rattle.cat_parse_expr.proofs.Read.{IsRead, pure_read}
-use Rattle.cat_parse_expr.proofs.Worded.{word_read, word_at_read, lower_read, opened_at_read}
-use Rattle.cat_parse_expr.proofs.Sequels.{part_read, last_read, hidden_shut, past_none, IsShut, shut_after, one_shut}
-use Rattle.cat_parse_expr.proofs.Tuples.{both, two, three, four, five}
+use Rattle.cat_parse_expr.proofs.Firsts.{class_Each}
+use Rattle.cat_parse_expr.proofs.Follows.{word_follows}
+use Rattle.cat_parse_expr.proofs.Operands.{Next, form_next, OfClass, Form, form_read, measured_by, height_is}
+use Rattle.cat_parse_expr.proofs.Operands.{match_is}
+use Rattle.cat_parse_expr.proofs.Operands.{inner_read, end_read}
+use Rattle.cat_parse_expr.proofs.Read.{IsRead}
+use Rattle.cat_parse_expr.proofs.Worded.{word_read, word_at_read, lower_read}
+use Rattle.cat_parse_expr.proofs.Shut.{hidden_shut, IsShut, shut_after, one_shut}
+use Rattle.cat_parse_expr.proofs.Sequels.{part_read, last_read, past_none}
+use Rattle.cat_parse_expr.proofs.Tuples.{two, three}
 
 -- ---- w among E
 
 module _ (ex : Lower) (room : ℕ) (right : AreRight room ex) where
   abbrev pub among_row : Name × Measured → Parts
   among_row t = lower t.0 ▹ wording.«word» key.Among ▹ part 0 (phrase t.1.node) ▹ End
-
-  -- it is followed by a word that nothing takes
-  abbrev pub Untaken : List Token → Type 0
-  Untaken v = (e : Measured) → MayFollow Other 0 e v
 
   pub among_read : IsRead (λ y. y) ⊥ (Unit {0}) (Unit {0}) (λ t. t.1.height ≤ room) (λ t v. MayFollow Other 0 t.1 v)
       (λ k. false) (λ t. IsMeasured t.1) among_row (forms.among ex room)
@@ -98,15 +85,11 @@ module _ (ex : Lower) (room : ℕ) (right : AreRight room ex)
 
   over_row_is : (c : Each) (t : Over) → each_parts c t.0 t.1.0 (phrase t.1.1.node) (phrase t.2.node) ≡ over_row c t
   over_row_is each.ForAll t = refl
-  over_row_is each.Exists t = refl
-  over_row_is each.MapEach t = refl
-  over_row_is each.ListOf t = refl
+  over_row_is _ t = refl
 
   body_not_taken : (c : Each) → is_taken (kind_of (forms.body_cue c)) ≡ false
   body_not_taken each.ForAll = refl
-  body_not_taken each.Exists = refl
-  body_not_taken each.MapEach = refl
-  body_not_taken each.ListOf = refl
+  body_not_taken _ = refl
 
   abbrev over_fits : Over → Type 0
   over_fits t = IsMeasured t.1.1 × IsMeasured t.2
@@ -133,7 +116,8 @@ module _ (ex : Lower) (room : ℕ) (right : AreRight room ex)
       → IsRead (λ y. y) K (Unit {0}) (Unit {0}) (IsLow (suc room)) (Next b k) (looks_of b) (OfClass k (opening.Each c))
       (operand_row k) (forms.over_each ex room b c)
   over_read c le =
-      form_read k (suc room) (Next b k) (opening.Each c) over_fits (over_row c) (over_of c) (forms.over_each ex room b c)
+      form_read k (suc room) (Next b k) (opening.Each c) over_fits (over_row c) (over_of c)
+      (forms.over_each ex room b c)
       (over_form c le)
       (word_at_read (forms.each_cue c) (λ t. t.0) _ _
       (λ p. part_read (λ t. t.1) _ _ (among_read ex room right) (λ ts. among_shut ex room right ts)

@@ -1,7 +1,6 @@
 -- Names of cases, and patterns.
-use Rattle.std.proofs.Common.{◌≡◌, ℕ, zero, suc, ◌≤◌, Bool, true, false, not, if◌then◌else◌, List, [], ◌∷◌, ◌++◌, Option, None, Some}
-use Rattle.std.proofs.Common.{refl, sym, ap, subst, ◌∙◌, arith, inl, inr, ◌⊎◌}
-use Rattle.cat_pos.specs.declared.pos.Pos.{Pos}
+use Rattle.std.proofs.Common.{◌≡◌, Bool, true, false, if◌then◌else◌, List, [], ◌++◌, None, Some}
+use Rattle.std.proofs.Common.{refl, sym, ap, subst, ◌∙◌, inl, inr, ◌⊎◌}
 use Rattle.cat_lex.specs.declared.token.Token.{Token}
 use Rattle.cat_lex.specs.declared.token.TokenKind.{TokenKind}
 use Rattle.cat_lex.specs.declared.token.TokenKind.TheVariants as kind
@@ -13,8 +12,7 @@ use Rattle.cat_tree.specs.declared.name.CaseName.TheVariants.{Bare, Qualified}
 use Rattle.cat_tree.specs.declared.expression.Pattern.{Pattern}
 use Rattle.cat_tree.specs.declared.expression.Pattern.TheVariants as pattern
 use Rattle.cat_tree.specs.Joined.{◌▸◌}
-use Rattle.cat_tree.specs.Literals.{case_parts}
-use Rattle.cat_tree.specs.Phrase.{Parts, End, Word, At, Anywhere, AreSpelled}
+use Rattle.cat_tree.specs.Phrase.{Parts, End, Word, At, AreSpelled}
 use Rattle.cat_tree.specs.Rows.{pattern_parts}
 use Rattle.cat_tree.specs.Wording as wording
 use Rattle.cat_tree.specs.Wording.{◌▹◌, sign, upper, lower}
@@ -22,12 +20,13 @@ use Rattle.cat_parse_expr.specs.declared.cue.Cue.TheVariants as cue
 use Rattle.cat_parse_expr.specs.Cues as cues
 use Rattle.cat_parse_expr.specs.Cues.{kind_of, cue_is, word_of, upper_of, lower_of}
 use Rattle.cat_parse_expr.specs.Parts.{case_from, case_pattern, a_pattern, is_sign, key_word, sign as a_sign}
-use Rattle.cat_parse_expr.specs.Reader.{Parsed, Fails, Reads, Reader, ◌⨟◌, pure, after, heads, by_word, behind_whole, fallen}
+use Rattle.cat_parse_expr.specs.Reader.{Reader, ◌⨟◌, pure, heads, by_word, behind_whole, fallen}
 use Rattle.cat_parse_expr.proofs.Choices.{Decides}
 use Rattle.cat_parse_expr.proofs.Chosen.{inner_choice_read, choice_read, same_read}
 use Rattle.cat_parse_expr.proofs.Leaves.{anywhere}
 use Rattle.cat_parse_expr.proofs.Read.{IsRead, pure_read}
-use Rattle.cat_parse_expr.proofs.Sequels.{IsShut, shut_after, one_shut, past_none, open_part_read}
+use Rattle.cat_parse_expr.proofs.Shut.{IsShut, shut_after, one_shut}
+use Rattle.cat_parse_expr.proofs.Sequels.{past_none, open_part_read}
 use Rattle.cat_parse_expr.proofs.Shaping.{reshape_read}
 use Rattle.cat_parse_expr.proofs.Turnings.{heads_begin, heads_other}
 use Rattle.cat_parse_expr.proofs.Worded.{word_read, upper_read, lower_read}
@@ -41,11 +40,6 @@ case_first (Qualified d u) = d
 abbrev pub case_rest : CaseName → Parts
 case_rest (Bare u) = End
 case_rest (Qualified d u) = sign symbol.Dot ▹ upper u ▹ End
-
-pub case_row_is : (c : CaseName) (rest : Parts)
-    → Word (At (kind.Upper (case_first c).text) (case_first c).pos) (case_rest c ▸ rest) ≡ case_parts c rest
-case_row_is (Bare u) rest = refl
-case_row_is (Qualified d u) rest = refl
 
 -- behind a bare one stands no dot
 abbrev pub NoDot : CaseName → List Token → Type 0

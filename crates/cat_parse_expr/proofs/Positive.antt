@@ -1,10 +1,9 @@
 -- Of what level expressions are.
-use Rattle.std.proofs.Common.{◌≡◌, ℕ, zero, suc, ◌≤◌, Bool, true, false, List, [], ◌∷◌, map, refl, sym, ap, subst, ◌∙◌, arith}
+use Rattle.std.proofs.Common.{◌≡◌, ℕ, ◌≤◌, Bool, false, List, [], ◌∷◌, map, refl, sym, ap, subst, arith}
 use Rattle.cat_pos.specs.declared.pos.Pos.{Pos}
 use Rattle.cat_tree.specs.declared.name.Name.{Name}
 use Rattle.cat_tree.specs.declared.expression.Literal.{Literal}
 use Rattle.cat_tree.specs.declared.expression.Literal.TheVariants as literal
-use Rattle.cat_tree.specs.declared.expression.Operator.{Operator}
 use Rattle.cat_tree.specs.declared.expression.Prefix.{Prefix}
 use Rattle.cat_tree.specs.declared.expression.Prefix.TheVariants as prefix
 use Rattle.cat_tree.specs.declared.expression.Node.{Node}
@@ -22,7 +21,8 @@ use Rattle.cat_tree.specs.Operators.{operator_level}
 use Rattle.cat_tree.specs.Rows.{fields}
 use Rattle.cat_tree.specs.Wording.{◌▹◌, of_level, upper, lower, sign}
 use Rattle.cat_parse_expr.proofs.Nodes.{elements_last}
-use Rattle.cat_tree.specs.Phrase.{Phrase, Row, Parts, End, Word, Terminal, Anywhere, Rank, right_strength, left_strength}
+use Rattle.cat_tree.specs.Phrase.{Phrase, Row, Parts, End, Word, Terminal, Anywhere, Rank, right_strength}
+use Rattle.cat_tree.specs.Phrase.{left_strength}
 use Rattle.cat_tree.specs.Phrase.{ends_in_form, ends_in_match, last_in_form, last_in_match}
 use Rattle.cat_tree.specs.Grammar.{phrase}
 use Rattle.cat_tree.proofs.Exported.{phrase_Binary, phrase_Call, phrase_Case, phrase_Combine}
@@ -71,12 +71,15 @@ positive =
     (λ o p a b x y. level_by (node.Binary o p a b) _ _ (phrase_Binary o p a b) (omega (arith, (one_level o).2)))
     (λ e p c h. level_by (node.Test e p c) _ _ (phrase_Test e p c) (omega arith))
     (λ p es h. level_by (node.List p es) _ _ (phrase_List p es) (omega arith))
-    (λ u fs h. level_by (node.Structure u fs) _ _ (phrase_Structure u fs) (omega (arith, some_level 9 (map field_row fs))))
+    (λ u fs h. level_by (node.Structure u fs) _ _ (phrase_Structure u fs)
+    (omega (arith, some_level 9 (map field_row fs))))
     (λ p u fs w h. level_by (node.ScopeCall p u fs w) _ _ (phrase_ScopeCall p u fs w) (omega arith))
     (λ p c t e x y z. level_by (node.If p c t e) _ _ (phrase_If p c t e) (omega arith))
-    (λ p e more x h. level_by (node.Match p e more) _ _ (phrase_Match p e more) (omega (arith, match_level (map arm_row more))))
+    (λ p e more x h. level_by (node.Match p e more) _ _ (phrase_Match p e more)
+    (omega (arith, match_level (map arm_row more))))
     (λ k p w l e x y. level_by (node.Each k p w l e) _ _ (phrase_Each k p w l e) (omega arith))
-    (λ p w l acc s e x y z. level_by (node.Combine (accumulation p w acc) l s e) _ _ (phrase_Combine p w l acc s e) (omega arith))
+    (λ p w l acc s e x y z. level_by (node.Combine (accumulation p w acc) l s e) _ _ (phrase_Combine p w l acc s e)
+    (omega arith))
 
 -- ---- what ends in no part
 
@@ -102,12 +105,7 @@ too_low k le h = absurd (omega (arith, le, h))
 
 literal_ends : (l : Literal) (p : Pos) → EndsInWord (Row (literal_rank l) (literal_parts l p))
 literal_ends (literal.Int n) p h = (refl, refl)
-literal_ends (literal.Dec d) p h = (refl, refl)
-literal_ends (literal.Pct d) p h = (refl, refl)
-literal_ends (literal.Money m) p h = (refl, refl)
-literal_ends (literal.Date d) p h = (refl, refl)
-literal_ends (literal.Boolean b) p h = (refl, refl)
-literal_ends (literal.Span n u) p h = (refl, refl)
+literal_ends _ p h = (refl, refl)
 
 case_ends : (c : CaseName) → EndsInWord (Row (of_level 9) (case_parts c End))
 case_ends (Bare u) h = (refl, refl)
@@ -129,7 +127,8 @@ ends_in_word =
     (λ c. word_by (leaves.Case c) _ (phrase_Case c) (case_ends c))
     (λ p e h. word_by (node.Parens p e) _ (phrase_Parens p e) (λ h. (refl, refl)))
     (λ e w h. word_by (node.Field e w) _ (phrase_Field e w) (λ h. (refl, refl)))
-    (λ o p e h. word_by (node.Prefixed o p e) _ (phrase_Prefixed o p e) (λ h. too_low (prefix_level o) (prefix_low o).1 h))
+    (λ o p e h. word_by (node.Prefixed o p e) _ (phrase_Prefixed o p e)
+    (λ h. too_low (prefix_level o) (prefix_low o).1 h))
     (λ p t e h. word_by (node.Sum p t e) _ (phrase_Sum p t e) (λ h. too_low 8 (omega arith) h))
     (λ c e h. word_by (node.Content c e) _ (phrase_Content c e) (λ h. too_low 8 (omega arith) h))
     (λ f args h. word_by (node.Call f args) _ (phrase_Call f args)
@@ -143,7 +142,8 @@ ends_in_word =
     (λ p u fs w h. word_by (node.ScopeCall p u fs w) _ (phrase_ScopeCall p u fs w)
     (λ h. (
       fields_form (map field_row fs) (Anywhere (kind.Symbol symbol.RightBrace)) (sign symbol.Dot ▹ lower w ▹ End) false,
-      fields_match (map field_row fs) (Anywhere (kind.Symbol symbol.RightBrace)) (sign symbol.Dot ▹ lower w ▹ End) false,
+      fields_match (map field_row fs) (Anywhere (kind.Symbol symbol.RightBrace))
+          (sign symbol.Dot ▹ lower w ▹ End) false,
     )))
     (λ p c t e x y z. word_by (node.If p c t e) _ (phrase_If p c t e) (λ h. too_low 8 (omega arith) h))
     (λ p e more x h. word_by (node.Match p e more) _ (phrase_Match p e more)

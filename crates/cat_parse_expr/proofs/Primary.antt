@@ -1,48 +1,30 @@
 -- What stands in front of all operators is read rightly.
-use Rattle.std.proofs.Common.{◌≡◌, ℕ, zero, suc, ◌≤◌, ◌<◌, Bool, true, false, not, ◌&&◌, nat_le, if◌then◌else◌, List, [], ◌∷◌, ◌++◌}
-use Rattle.std.proofs.Common.{length, Option, Some, None, refl, sym, ap, subst, ◌∙◌, append_assoc, arith, inl, inr, ◌⊎◌}
-use Rattle.std.proofs.lemmas.Bool.Decides.{nat_tests}
-use Rattle.std.proofs.lemmas.List.{append-nil}
+use Rattle.std.proofs.Common.{◌≡◌, ℕ, suc, ◌≤◌, Bool, true, false, if◌then◌else◌, List, [], ◌∷◌, ◌++◌}
+use Rattle.std.proofs.Common.{None, refl, sym, ap, subst, ◌∙◌, append_assoc, arith, inl, inr, ◌⊎◌}
 use Rattle.cat_lex.specs.declared.token.Token.{Token}
-use Rattle.cat_lex.specs.declared.token.TokenKind.{TokenKind}
-use Rattle.cat_lex.specs.declared.token.TokenKind.TheVariants as kind
-use Rattle.cat_lex.specs.declared.symbol.Symbol.TheVariants as symbol
-use Rattle.cat_pos.specs.declared.pos.Pos.{Pos}
-use Rattle.cat_tree.specs.Accumulation.{accumulation}
-use Rattle.cat_tree.specs.declared.name.Name.{Name}
-use Rattle.cat_tree.specs.declared.name.CaseName.TheVariants.{Bare, Qualified}
-use Rattle.cat_tree.specs.declared.expression.Each.TheVariants as each
-use Rattle.cat_tree.specs.declared.expression.Prefix.TheVariants as prefix
 use Rattle.cat_tree.specs.declared.expression.Node.{Node}
-use Rattle.cat_tree.specs.declared.expression.Node.TheVariants as leaves
-use Rattle.cat_tree.specs.declared.expression.Node.TheViews as node
 use Rattle.cat_tree.specs.Operators.{prefix_level}
-use Rattle.cat_tree.specs.Phrase.{Phrase, Row, Rank, Parts, End, Word, Part, At, Anywhere, right_strength, IsSpelling, AreSpelled}
-use Rattle.cat_tree.specs.Phrase.{IsLevelled}
+use Rattle.cat_tree.specs.Phrase.{Phrase, right_strength, AreSpelled}
 use Rattle.cat_tree.specs.Grammar.{phrase}
-use Rattle.cat_tree.proofs.Exported.{phrase_Case, phrase_Combine, phrase_Each, phrase_If, phrase_Match, phrase_Name}
+use Rattle.cat_tree.proofs.Exported.{phrase_Combine, phrase_Each, phrase_If, phrase_Match, phrase_Name}
 use Rattle.cat_tree.proofs.Exported.{phrase_Prefixed, phrase_Sum, arm_row}
-use Rattle.cat_tree.specs.Wording.{match_of}
 use Rattle.std.proofs.Common.{map}
 use Rattle.cat_parse_expr.specs.declared.behind.Behind.{Behind}
-use Rattle.cat_parse_expr.specs.declared.cue.Cue.TheVariants as cue
 use Rattle.cat_parse_expr.specs.declared.measured.Measured.{Measured}
 use Rattle.cat_parse_expr.specs.declared.opening.Opening.{Opening}
 use Rattle.cat_parse_expr.specs.declared.opening.Opening.TheVariants as opening
 use Rattle.cat_parse_expr.specs.Climbing as climbing
-use Rattle.cat_parse_expr.specs.Cues.{word_of}
 use Rattle.cat_parse_expr.specs.Followers.{looks_of}
-use Rattle.cat_parse_expr.specs.Forms as forms
 use Rattle.cat_parse_expr.specs.Longest.{KeepsWhole}
-use Rattle.cat_parse_expr.specs.Openings.{opening_of, opening_at, stands}
-use Rattle.cat_parse_expr.specs.Parts.{Lower, is_sign}
-use Rattle.cat_parse_expr.specs.Reader.{Parsed, Fails, Reads, Reader, after, pure, left_of, heads, by_word, fallen, behind_whole}
-use Rattle.cat_parse_expr.specs.Right.{Is, Begun, Taken, IsRight}
+use Rattle.cat_parse_expr.specs.Openings.{opening_at, stands}
+use Rattle.cat_parse_expr.specs.Parts.{Lower}
+use Rattle.cat_parse_expr.specs.Reader.{Fails, Reader}
+use Rattle.cat_parse_expr.specs.Right.{Begun}
 use Rattle.cat_parse_expr.specs.Rightly.{measured_of, IsMeasured, IsLow, operand_row, AreRight}
 use Rattle.cat_parse_expr.proofs.Braces.{scoped_read}
 use Rattle.cat_parse_expr.proofs.Bracketed.{listed_read}
 use Rattle.cat_parse_expr.proofs.Ending.{parens_read, choice_read}
-use Rattle.cat_parse_expr.proofs.Firsts.{class_of, Shape, primary_by, is_bare, class_Name}
+use Rattle.cat_parse_expr.proofs.Firsts.{class_of, Shape, primary_by, class_Name}
 use Rattle.cat_parse_expr.proofs.Fronts.{combined_read, summed_read, prefixed_read}
 use Rattle.cat_parse_expr.proofs.Heading as heading
 use Rattle.cat_parse_expr.proofs.Matching.{matched_read}
@@ -52,17 +34,10 @@ use Rattle.cat_parse_expr.proofs.Operands.{Next, Placed, OfClass}
 use Rattle.cat_parse_expr.proofs.Overs.{over_read}
 use Rattle.cat_parse_expr.proofs.Positive.{match_level}
 use Rattle.cat_parse_expr.proofs.Read.{IsRead}
-use Rattle.cat_parse_expr.proofs.Climbs.{le_true}
 use Rattle.cat_parse_expr.proofs.Sampling.{a_name, a_node, lower_token, name_sample, node_levels, node_spelled}
 use Rattle.cat_parse_expr.proofs.Spanned.{literal_read}
-use Rattle.cat_parse_expr.proofs.Turnings.{takes_one, shrinks_after, shrinks_one}
 use Rattle.cat_parse_expr.proofs.Uppers.{case_read}
-
-le_of : (k j : ℕ) → nat_le k j ≡ true → k ≤ j
-le_of k j h = grind (arith, nat_tests, h)
-
-not_le : (k j : ℕ) → nat_le k j ≡ false → k ≤ j → ⊥
-not_le k j h le = grind (arith, nat_tests, h, le)
+use Rattle.cat_parse_expr.proofs.Truth.{clash, le_of, le_true}
 
 level_in : (k : ℕ) (n : Node) (f : Phrase) → phrase n ≡ f → k ≤ right_strength (phrase n) → k ≤ right_strength f
 level_in k n f e le = subst (λ (g : Phrase). k ≤ right_strength g) e le
@@ -97,9 +72,6 @@ placed_opens : (k : ℕ) (y : Measured) (w v : List Token) → AreSpelled (opera
 placed_opens k y w v s =
     ap (λ (u : List Token). opening_at (u ++ v)) (s.2 ∙ ap (λ (u : List Token). s.0 ++ u) s.4)
     ∙ ap opening_at (append_assoc s.0 [] v) ∙ opens_with y.node s.0 v s.3
-
-clash : (c : Bool) → c ≡ true → c ≡ false → ⊥
-clash c x y = absurd cc
 
 module _ (ex : Lower) (room : ℕ) (right : AreRight room ex)
     (kept : (b : Behind) (j bound : ℕ) → j ≤ 9 → KeepsWhole (IsLow room) bound IsMeasured (operand_row j) (ex b j))

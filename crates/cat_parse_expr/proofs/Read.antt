@@ -1,12 +1,12 @@
 -- Readers of values that are made of what was read: they are right, and keep the longest front that is whole.
-use Rattle.std.proofs.Common.{◌≡◌, ℕ, zero, suc, ◌≤◌, Bool, true, false, List, [], ◌∷◌, ◌++◌, length, Option, Some, None, refl}
-use Rattle.std.proofs.Common.{sym, ap, subst, ◌∙◌, append_assoc, arith}
-use Rattle.std.proofs.lemmas.List.{append-nil, length-append, append_cancel_left}
+use Rattle.std.proofs.Common.{◌≡◌, ℕ, ◌≤◌, Bool, List, [], ◌∷◌, ◌++◌, length, Option, Some, None, refl}
+use Rattle.std.proofs.Common.{sym, ap, subst, ◌∙◌, arith}
+use Rattle.std.proofs.lemmas.List.{length-append}
 use Rattle.cat_lex.specs.declared.token.Token.{Token}
 use Rattle.cat_lex.specs.declared.token.TokenKind.{TokenKind}
-use Rattle.cat_tree.specs.Phrase.{Parts, End, Word, Terminal, IsAt, AreLevelled, AreSpelled}
-use Rattle.cat_parse_expr.specs.Reader.{Parsed, Reader, Fails, Reads, left_of, after, ◌⨟◌, pure, made_of, one}
-use Rattle.cat_parse_expr.specs.Right.{Agree, AgreePast, Seen, Is, Begun, Took, Taken, Says, Alike, IsRight}
+use Rattle.cat_tree.specs.Phrase.{Parts, End, Word, Terminal, IsAt, AreSpelled}
+use Rattle.cat_parse_expr.specs.Reader.{Parsed, Reader, Fails, Reads, after, ◌⨟◌, pure, made_of, one}
+use Rattle.cat_parse_expr.specs.Right.{Is, Begun, IsRight}
 use Rattle.cat_parse_expr.specs.Longest.{ReadsAsFar, Stood, KeepsWhole}
 use Rattle.cat_parse_expr.proofs.Joining.{pure_right}
 use Rattle.cat_parse_expr.proofs.Token.{Terminals, heads_same, tails_same, token_right}

@@ -1,5 +1,5 @@
 -- What a call gives, by another reader; and an operand by its room.
-use Rattle.std.proofs.Common.{◌≡◌, ◌<◌, ◌-◌, ℕ, zero, suc, List, Result, Ok, Err, drop, refl, ap, sym, ◌∙◌, arith}
+use Rattle.std.proofs.Common.{◌≡◌, ◌<◌, ◌-◌, ℕ, zero, suc, List, Result, Ok, Err, drop, refl, ap, ◌∙◌, arith}
 use Rattle.cat_lex.specs.declared.token.Token.{Token}
 use Rattle.cat_parse_expr.specs.declared.behind.Behind.{Behind}
 use Rattle.cat_parse_expr.specs.declared.measured.Measured.{Measured}

@@ -81,7 +81,8 @@ module _ {B : Type 0} (looks further : TokenKind → Bool) where
 
 -- what is asked of a part and of what follows it
 pub record Follows {A B : Type 0} (bound inner : ℕ) (low low_rest : B → Type 0) (low_part : A → Type 0)
-    (out : B → List Token → Type 0) (next : A → List Token → Type 0) (looks further : TokenKind → Bool) (fits : B → Type 0)
+    (out : B → List Token → Type 0) (next : A → List Token → Type 0) (looks further : TokenKind → Bool)
+    (fits : B → Type 0)
     (fits_part : A → Type 0) (sub : B → A) (rest : B → Parts) (r : Reader A) (s : A → Reader B) : Type 0 where
   pub fit : (y : B) → fits y → fits_part (sub y)
   pub behind : (y : B) (w v : List Token) → fits y → AreSpelled (rest y) w → out y v → next (sub y) (w ++ v)
@@ -93,7 +94,8 @@ pub record Follows {A B : Type 0} (bound inner : ℕ) (low low_rest : B → Type
   pub others : (y : B) → fits y → low y → low_rest y
 
 module _ {A B : Type 0} (bound inner : ℕ) (low low_rest : B → Type 0) (low_part : A → Type 0)
-    (out : B → List Token → Type 0) (next : A → List Token → Type 0) (looks further : TokenKind → Bool) (fits : B → Type 0)
+    (out : B → List Token → Type 0) (next : A → List Token → Type 0) (looks further : TokenKind → Bool)
+    (fits : B → Type 0)
     (fits_part : A → Type 0) (sub : B → A) (row : A → Parts) (rest : B → Parts) (one : Reader A) (r : A → Reader B)
     (f : Follows bound inner low low_rest low_part out next looks further fits fits_part sub rest one r)
     (first : IsRight low_part bound next looks fits_part row one)
@@ -158,7 +160,8 @@ module _ {A B : Type 0} (bound inner : ℕ) (low low_rest : B → Type 0) (low_p
 
   taken_of : (ts : List Token) → length ts ≤ bound → (o : Parsed A) → one ts ≡ o → Taken low_part fits_part row o ts
       → Taken low fits whole_row (after o r) ts
-  taken_of ts le (Fails left false whole) e t = record { front = t.front; text = t.text; took = begun_first t.front t.took }
+  taken_of ts le (Fails left false whole) e t =
+      record { front = t.front; text = t.text; took = begun_first t.front t.took }
   taken_of ts le (Fails left true whole) e t =
       record {
         front = t.front;
@@ -239,7 +242,8 @@ module _ {A B : Type 0} (bound inner : ℕ) (low low_rest : B → Type 0) (low_p
         seen =
             subst (λ (z : List Token). AgreePast looks z (u.front ++ a.others)) (sym u.text)
             (seen_behind looks further (r x left) u.front a.others
-            (subst (λ (z : List Token). Past looks further (r x left) z) u.text (f.past x left t.took.0.fit le2)) a.seen);
+            (subst (λ (z : List Token). Past looks further (r x left) z) u.text
+            (f.past x left t.took.0.fit le2)) a.seen);
         is = part_of y w a.is s;
         outside = f.behind y s.second a.behind a.is.fit s.two a.outside;
         text = all;

@@ -1,53 +1,21 @@
 -- A part that words follow, and a part that is the last one.
-use Rattle.std.proofs.Common.{◌≡◌, ℕ, zero, suc, ◌≤◌, ◌<◌, Bool, true, false, List, [], ◌∷◌, ◌++◌, length, Option, Some, None}
-use Rattle.std.proofs.Common.{if◌then◌else◌, refl, sym, ap, subst, ◌∙◌, append_assoc, arith, inl, inr, ◌⊎◌}
+use Rattle.std.proofs.Common.{◌≡◌, ℕ, ◌≤◌, Bool, true, false, List, [], ◌∷◌, ◌++◌, length, Some}
+use Rattle.std.proofs.Common.{None}
+use Rattle.std.proofs.Common.{refl, sym, ap, subst, ◌∙◌, append_assoc, arith}
 use Rattle.std.proofs.lemmas.List.{append_cancel_left, length-append}
 use Rattle.cat_lex.specs.declared.token.Token.{Token}
 use Rattle.cat_lex.specs.declared.token.TokenKind.{TokenKind}
-use Rattle.cat_tree.specs.Phrase.{Parts, End, AreLevelled, AreSpelled}
+use Rattle.cat_tree.specs.Phrase.{Parts, AreLevelled, AreSpelled}
 use Rattle.cat_tree.specs.Joined.{◌▸◌}
-use Rattle.cat_parse_expr.specs.Reader.{Parsed, Reader, Fails, Reads, left_of, after, ◌⨟◌, pure, heads, hidden_in, hidden, one, made_of, turns}
-use Rattle.cat_parse_expr.specs.Right.{Agree, AgreePast, Seen, Is, Begun, Took, Taken, Says, Alike, IsRight}
+use Rattle.cat_parse_expr.specs.Reader.{Parsed, Reader, Fails, Reads, left_of, after, ◌⨟◌, pure, one}
+use Rattle.cat_parse_expr.specs.Right.{Agree, AgreePast, Seen, Is, Begun, Taken, Says, Alike, IsRight}
 use Rattle.cat_parse_expr.specs.Longest.{ReadsAsFar, Stood, KeepsWhole}
 use Rattle.cat_parse_expr.proofs.Joining.{levels_join, levels_split, spelled_join, Splits, spelled_split}
 use Rattle.cat_parse_expr.proofs.Choices.{Recast, recast}
 use Rattle.cat_parse_expr.proofs.Sequel.{Past, part_right}
 use Rattle.cat_parse_expr.proofs.Shaping.{keeps_made}
-use Rattle.cat_parse_expr.proofs.Wholes.{hidden_right}
 use Rattle.cat_parse_expr.proofs.Read.{IsRead}
-
--- a break leaves nothing whole
-abbrev pub IsShut : {A : Type 0} → Parsed A → Type 0
-IsShut (Fails left deep whole) = whole ≡ None
-IsShut (Reads x left) = Unit {0}
-
-pub hidden_shut : {A : Type 0} (o : Parsed A) → IsShut (hidden_in o)
-hidden_shut (Fails left deep whole) = refl
-hidden_shut (Reads x left) = tt
-
-pub shut_after : {A B : Type 0} (o : Parsed A) (r : A → Reader B) → IsShut o → ((x : A) (ts : List Token) → IsShut (r x ts))
-    → IsShut (after o r)
-shut_after (Fails left deep whole) r h next = h
-shut_after (Reads x left) r h next = next x left
-
-pub one_shut : {A : Type 0} (take : Token → Option A) (ts : List Token) → IsShut (one take ts)
-one_shut take [] = refl
-one_shut {A = A} take (p ∷ ts) = by (take p)
-  where
-    by : (o : Option A) → IsShut (made_of o (p ∷ ts) ts)
-    by None = refl
-    by (Some x) = tt
-
-pub shut_turns : {A : Type 0} (goes : A → List Token → Bool) (turn : A → Reader A)
-    → ((x : A) (ts : List Token) → IsShut (turn x ts)) → (n : ℕ) (x : A) (ts : List Token)
-    → IsShut (turns goes turn n x ts)
-shut_turns goes turn shut zero x ts = tt
-shut_turns {A = A} goes turn shut (suc n) x ts = by (goes x ts) (λ y us. shut_turns goes turn shut n y us)
-  where
-    by : (c : Bool) → ((y : A) (us : List Token) → IsShut (turns goes turn n y us))
-        → IsShut (if c then after (turn x ts) (turns goes turn n) else Reads x ts)
-    by true rest = shut_after (turn x ts) (turns goes turn n) (shut x ts) rest
-    by false rest = tt
+use Rattle.cat_parse_expr.proofs.Shut.{IsShut}
 
 -- what one saw is seen again in the same tokens
 pub agree_self : (ts : List Token) → Agree ts ts
@@ -76,13 +44,15 @@ pub mapped_part : {A A2 T D : Type 0} (g1 : A → A2) (g : T → D) (o : Parsed 
 mapped_part {A2 = A2} {D = D} g1 g o (Fails left deep whole) r s e h = ap (λ (z : Parsed A2). after z s) e
 mapped_part {A2 = A2} {D = D} g1 g o (Reads x left) r s e h = ap (λ (z : Parsed A2). after z s) e ∙ h x left
 
-past_mapped : {T D : Type 0} (g : T → D) (looks further : TokenKind → Bool) (ts : List Token) (o : Parsed T) (d : Parsed D)
+past_mapped : {T D : Type 0} (g : T → D) (looks further : TokenKind → Bool) (ts : List Token) (o : Parsed T)
+    (d : Parsed D)
     → d ≡ after o (λ y. pure (g y)) → Past looks further d ts → Past looks further o ts
 past_mapped {D = D} g looks further ts (Fails left deep whole) d e h =
     subst (λ (z : Parsed D). Past looks further z ts) e h
 past_mapped {D = D} g looks further ts (Reads x left) d e h = subst (λ (z : Parsed D). Past looks further z ts) e h
 
-shut_mapped : {T D : Type 0} (g : T → D) (o : Parsed T) (d : Parsed D) → d ≡ after o (λ y. pure (g y)) → IsShut d → IsShut o
+shut_mapped : {T D : Type 0} (g : T → D) (o : Parsed T) (d : Parsed D) → d ≡ after o (λ y. pure (g y)) → IsShut d
+    → IsShut o
 shut_mapped {D = D} g (Fails left deep whole) d e h = subst (λ (z : Parsed D). IsShut z) e h
 shut_mapped g (Reads x left) d e h = tt
 
@@ -238,14 +208,16 @@ sequel_alive {A = A} fits fits_part sub row rest b lives =
     }
 
 -- a part, and then words
-pub part_read : {A A2 T D : Type 0} {g1 : A → A2} {g : T → D} {K1 K F C : Type 0} {low : T → Type 0} {low_part : A → Type 0}
+pub part_read : {A A2 T D : Type 0} {g1 : A → A2} {g : T → D} {K1 K F C : Type 0} {low : T → Type 0} {low_part : A
+    → Type 0}
     {next : A → List Token → Type 0} {out : T → List Token → Type 0} {near looks : TokenKind → Bool} {fits : T → Type 0}
     {fits_part : A → Type 0} {row : A → Parts} {one : Reader A2} (sub : T → A) (rest : T → Parts) (s : A2 → Reader D)
     → IsRead g1 K1 (Unit {0}) (Unit {0}) low_part next near fits_part row one
     → ((ts : List Token) → IsShut (one ts))
     → ((x : A) (ts : List Token) → Past near looks (s (g1 x) ts) ts)
     → Between low low_part next fits fits_part sub rest
-    → ((x : A) → IsRead g K (F × fits_part x) (C × low_part x) low out looks (λ y. fits y × (sub y ≡ x)) rest (s (g1 x)))
+    → ((x : A) → IsRead g K (F × fits_part x) (C × low_part x) low out looks (λ y. fits y × (sub y ≡ x)) rest
+    (s (g1 x)))
     → IsRead g K F C low out looks fits (λ y. row (sub y) ▸ rest y) (one ⨟ s)
 part_read {g1 = g1} {g = g} {low = low} {low_part = low_part} {next = next} {out = out} {near = near} {looks = looks} {fits = fits} {fits_part = fits_part} {row = row} {one = one} sub rest s first shut past b second =
     record {
@@ -277,7 +249,8 @@ pub record Open {A T : Type 0} (low : T → Type 0) (low_part : A → Type 0) (n
 open_right : {A T : Type 0} (low : T → Type 0) (low_part : A → Type 0) (next : A → List Token → Type 0)
     (out : T → List Token → Type 0) (near looks : TokenKind → Bool) (fits : T → Type 0) (fits_part : A → Type 0)
     (sub : T → A) (row : A → Parts) (rest : T → Parts) (one : Reader A) (r : A → Reader T)
-    → Open low low_part next out fits fits_part sub rest → (bound : ℕ) → IsRight low_part bound next near fits_part row one
+    → Open low low_part next out fits fits_part sub rest → (bound : ℕ)
+    → IsRight low_part bound next near fits_part row one
     → ((x : A) (ts : List Token) → Past near looks (r x ts) ts)
     → ((x : A) → fits_part x → Begun (λ y. fits y × (sub y ≡ x)) rest [])
     → ((x : A) → fits_part x → low_part x → IsRight low bound out looks (λ y. fits y × (sub y ≡ x)) rest (r x))
@@ -305,13 +278,15 @@ open_right {A = A} low low_part next out near looks fits fits_part sub row rest 
         )
 
 pub open_part_read : {A A2 T D : Type 0} {g1 : A → A2} {g : T → D} {K1 F C : Type 0} {low : T → Type 0}
-    {low_part : A → Type 0} {next : A → List Token → Type 0} {out : T → List Token → Type 0} {near looks : TokenKind → Bool}
+    {low_part : A → Type 0} {next : A → List Token → Type 0} {out : T → List Token → Type 0} {near looks : TokenKind
+    → Bool}
     {fits : T → Type 0} {fits_part : A → Type 0} {row : A → Parts} {one : Reader A2} (sub : T → A) (rest : T → Parts)
     (s : A2 → Reader D)
     → IsRead g1 K1 (Unit {0}) (Unit {0}) low_part next near fits_part row one
     → ((x : A) (ts : List Token) → Past near looks (s (g1 x) ts) ts)
     → Open low low_part next out fits fits_part sub rest
-    → ((x : A) → IsRead g ⊥ (F × fits_part x) (C × low_part x) low out looks (λ y. fits y × (sub y ≡ x)) rest (s (g1 x)))
+    → ((x : A) → IsRead g ⊥ (F × fits_part x) (C × low_part x) low out looks (λ y. fits y × (sub y ≡ x)) rest
+    (s (g1 x)))
     → IsRead g ⊥ F C low out looks fits (λ y. row (sub y) ▸ rest y) (one ⨟ s)
 open_part_read {g1 = g1} {g = g} {low = low} {low_part = low_part} {next = next} {out = out} {near = near} {looks = looks} {fits = fits} {fits_part = fits_part} {row = row} {one = one} sub rest s first past b second =
     record {
@@ -332,7 +307,8 @@ open_part_read {g1 = g1} {g = g} {low = low} {low_part = low_part} {next = next}
 -- ---- the last part
 
 -- what is asked of it
-pub record Last {A T : Type 0} (F C : Type 0) (low : T → Type 0) (low_part : A → Type 0) (next : A → List Token → Type 0)
+pub record Last {A T : Type 0} (F C : Type 0) (low : T → Type 0) (low_part : A → Type 0)
+    (next : A → List Token → Type 0)
     (out : T → List Token → Type 0) (fits : T → Type 0) (fits_part : A → Type 0) (sub : T → A) (build : A → T) : Type 0 where
   pub fit : (y : T) → fits y → fits_part (sub y)
   pub built : F → (x : A) → fits_part x → fits (build x)
@@ -365,7 +341,8 @@ last_cast {A = A} {fits_part = fits_part} row {sub = sub} {build = build} l f c 
   outside = λ x v fit o. l.outside f x v fit o;
 }
 
-pub last_read : {A A2 T D : Type 0} {g1 : A → A2} {g : T → D} {K F C : Type 0} {low : T → Type 0} {low_part : A → Type 0}
+pub last_read : {A A2 T D : Type 0} {g1 : A → A2} {g : T → D} {K F C : Type 0} {low : T → Type 0} {low_part : A
+    → Type 0}
     {next : A → List Token → Type 0} {out : T → List Token → Type 0} {looks : TokenKind → Bool} {fits : T → Type 0}
     {fits_part : A → Type 0} {row : A → Parts} {one : Reader A2} (sub : T → A) (build : A → T) (s : A2 → Reader D)
     → IsRead g1 K (Unit {0}) (Unit {0}) low_part next looks fits_part row one

@@ -1,11 +1,11 @@
 -- The same readers, of values that are written otherwise.
-use Rattle.std.proofs.Common.{◌≡◌, ℕ, ◌≤◌, Bool, true, false, List, [], ◌∷◌, ◌++◌, length, Option, Some, None, refl, sym, ap}
-use Rattle.std.proofs.Common.{subst, ◌∙◌, arith}
+use Rattle.std.proofs.Common.{◌≡◌, ℕ, Bool, true, false, List, [], ◌∷◌, ◌++◌, Some, None, refl, sym, ap}
+use Rattle.std.proofs.Common.{subst, ◌∙◌}
 use Rattle.cat_lex.specs.declared.token.Token.{Token}
 use Rattle.cat_lex.specs.declared.token.TokenKind.{TokenKind}
 use Rattle.cat_tree.specs.Phrase.{Parts, AreLevelled, AreSpelled}
 use Rattle.cat_parse_expr.specs.Reader.{Parsed, Reader, Fails, Reads, after, ◌⨟◌, pure, heads}
-use Rattle.cat_parse_expr.specs.Right.{AgreePast, Seen, Alike, Is, Begun, IsRight}
+use Rattle.cat_parse_expr.specs.Right.{AgreePast, Seen, Is, Begun, IsRight}
 use Rattle.cat_parse_expr.specs.Longest.{ReadsAsFar, Stood, KeepsWhole}
 use Rattle.cat_parse_expr.proofs.Choices.{Same, reshaped, Recast, recast}
 use Rattle.cat_parse_expr.proofs.Read.{IsRead}

@@ -1,6 +1,6 @@
 -- A literal, which may be a number of years, months or days.
-use Rattle.std.proofs.Common.{◌≡◌, ℕ, zero, suc, ◌≤◌, Bool, true, false, not, if◌then◌else◌, int_lt, List, [], ◌∷◌, ◌++◌}
-use Rattle.std.proofs.Common.{ℤ, Option, None, Some, refl, sym, ap, subst, ◌∙◌, arith, inl, inr, ◌⊎◌, nat_eq, ◌&&◌, length}
+use Rattle.std.proofs.Common.{◌≡◌, ℕ, suc, ◌≤◌, Bool, true, false, if◌then◌else◌, int_lt, List, [], ◌∷◌, ◌++◌}
+use Rattle.std.proofs.Common.{ℤ, Option, None, Some, refl, sym, ap, subst, ◌∙◌, arith, inl, inr, ◌⊎◌, nat_eq, ◌&&◌}
 use Rattle.cat_pos.specs.declared.pos.Pos.{Pos}
 use Rattle.cat_lex.specs.declared.token.Token.{Token}
 use Rattle.cat_lex.specs.declared.token.TokenKind.{TokenKind}
@@ -11,39 +11,31 @@ use Rattle.cat_tree.specs.declared.expression.Literal.{Literal}
 use Rattle.cat_tree.specs.declared.expression.Literal.TheVariants as literal
 use Rattle.cat_tree.specs.declared.expression.Unit.{Unit as TimeUnit}
 use Rattle.cat_tree.specs.declared.expression.Unit.TheVariants as unit
-use Rattle.cat_tree.specs.declared.expression.Node.{Node}
 use Rattle.cat_tree.specs.declared.expression.Node.TheVariants as leaves
-use Rattle.cat_tree.specs.Literals.{literal_parts, literal_rank, span_bound, unit_word, truth_word}
-use Rattle.cat_tree.specs.Phrase.{Phrase, Row, Rank, Parts, End, Word, Terminal, At, Anywhere, IsAt, IsLevelled, AreSpelled}
-use Rattle.cat_tree.specs.Phrase.{right_strength, left_strength, ends_in_match, height}
-use Rattle.cat_tree.specs.Wording as wording
-use Rattle.cat_tree.specs.Wording.{◌▹◌}
-use Rattle.cat_tree.specs.Grammar.{phrase}
-use Rattle.cat_tree.proofs.Exported.{phrase_Literal}
+use Rattle.cat_tree.specs.Literals.{literal_parts, span_bound, unit_word}
+use Rattle.cat_tree.specs.Phrase.{Parts, End, Word, At, Anywhere, AreSpelled}
 use Rattle.cat_parse_expr.specs.declared.behind.Behind.{Behind}
 use Rattle.cat_parse_expr.specs.declared.behind.Behind.TheVariants.{Other, Field, Pattern as Tested}
-use Rattle.cat_parse_expr.specs.declared.follow.Follow.TheVariants as follow
 use Rattle.cat_parse_expr.specs.declared.measured.Measured.{Measured}
 use Rattle.cat_parse_expr.specs.declared.opening.Opening.TheVariants as opening
-use Rattle.cat_parse_expr.specs.Followers.{looks_of, is_asked, MayFollow}
+use Rattle.cat_parse_expr.specs.Followers.{looks_of, is_asked}
 use Rattle.cat_parse_expr.specs.Forms as forms
 use Rattle.cat_parse_expr.specs.Forms.{literal_kind, placed, literal_of, unit_kind, is_unit, spanned}
 use Rattle.cat_parse_expr.specs.Measures.{leaf}
-use Rattle.cat_parse_expr.specs.Openings.{follow_of}
 use Rattle.cat_parse_expr.specs.Parts.{is_sign}
-use Rattle.cat_parse_expr.specs.Reader.{Parsed, Fails, Reads, Reader, ◌⨟◌, pure, after, one, made_of, heads, by_word, behind_whole}
+use Rattle.cat_parse_expr.specs.Reader.{Reader, ◌⨟◌, pure, after, one, made_of, heads, by_word, behind_whole}
 use Rattle.cat_parse_expr.specs.Reader.{fallen}
-use Rattle.cat_parse_expr.specs.Rightly.{IsMeasured, IsLow, operand_row}
+use Rattle.cat_parse_expr.specs.Rightly.{IsLow, operand_row}
 use Rattle.cat_parse_expr.proofs.Choices.{Decides}
 use Rattle.cat_parse_expr.proofs.Chosen.{choice_read, same_read}
-use Rattle.cat_parse_expr.proofs.Firsts.{Shape, class_Literal}
 use Rattle.cat_parse_expr.proofs.Follows.{IsOwn, own_not}
-use Rattle.cat_parse_expr.proofs.Leaves.{some_one, not_both, token_is, anywhere}
-use Rattle.cat_parse_expr.proofs.Operands.{Next, goes_then, OfClass, Form, form_read, measured_by}
+use Rattle.cat_parse_expr.proofs.Leaves.{some_one, not_both, anywhere}
+use Rattle.cat_parse_expr.proofs.Operands.{Next, goes_then, OfClass, form_read}
 use Rattle.cat_parse_expr.proofs.Read.{IsRead, pure_read, token_read}
 use Rattle.cat_parse_expr.proofs.Shaping.{reshape_read}
 use Rattle.cat_parse_expr.proofs.Token.{Terminals}
-use Rattle.cat_parse_expr.proofs.Literate.{Placed as PlacedLiteral, literal_node, shortened, literal_word, literal_rest}
+use Rattle.cat_parse_expr.proofs.Literate.{Placed as PlacedLiteral, literal_node, shortened, literal_word}
+use Rattle.cat_parse_expr.proofs.Literate.{literal_rest}
 use Rattle.cat_parse_expr.proofs.Literate.{literal_row_is, Bounded, head_of, literal_form, literal_marks}
 
 -- ---- units
@@ -64,8 +56,7 @@ unit_found _ u e = absurd cc
 
 unit_self : (u : TimeUnit) → (unit_kind (kind.Word (unit_word u)) ≡ Some u) × (is_unit (kind.Word (unit_word u)) ≡ true)
 unit_self unit.Year = (refl, refl)
-unit_self unit.Month = (refl, refl)
-unit_self unit.Day = (refl, refl)
+unit_self _ = (refl, refl)
 
 unit_marks : (fits : PlacedLiteral → Type 0)
     → Terminals fits (λ y. Anywhere (kind.Word (unit_word (unit_in y.0)))) (λ t. unit_kind t.kind)
@@ -256,7 +247,8 @@ module _ (room : ℕ) (b : Behind) (k : ℕ) where
 
   number_alone : (n : ℤ) → int_lt span_bound n ≡ true → (y : Literal) → Bounded y → shortened y ≡ literal.Int n
       → y ≡ literal.Int n
-  number_alone n h (literal.Span m u) f e = absurd (clash (int_lt span_bound n) h (ap (λ (z : ℤ). int_lt span_bound z) (sym (ap number e)) ∙ f))
+  number_alone n h (literal.Span m u) f e = absurd (clash (int_lt span_bound n) h
+      (ap (λ (z : ℤ). int_lt span_bound z) (sym (ap number e)) ∙ f))
     where
       number : Literal → ℤ
       number (literal.Int z) = z
@@ -265,11 +257,7 @@ module _ (room : ℕ) (b : Behind) (k : ℕ) where
       clash : (c : Bool) → c ≡ true → c ≡ false → ⊥
       clash c x y = absurd cc
   number_alone n h (literal.Int m) f e = e
-  number_alone n h (literal.Dec d) f e = e
-  number_alone n h (literal.Pct d) f e = e
-  number_alone n h (literal.Money d) f e = e
-  number_alone n h (literal.Date d) f e = e
-  number_alone n h (literal.Boolean d) f e = e
+  number_alone n h _ f e = e
 
   abbrev IsNumber : Literal → Type 0
   IsNumber (literal.Int n) = Unit {0}
@@ -277,12 +265,7 @@ module _ (room : ℕ) (b : Behind) (k : ℕ) where
 
   other_alone : (x : Literal) → (IsNumber x → ⊥) → (y : Literal) → shortened y ≡ x → y ≡ x
   other_alone x never (literal.Span m u) e = absurd (never (subst IsNumber e tt))
-  other_alone x never (literal.Int m) e = e
-  other_alone x never (literal.Dec d) e = e
-  other_alone x never (literal.Pct d) e = e
-  other_alone x never (literal.Money d) e = e
-  other_alone x never (literal.Date d) e = e
-  other_alone x never (literal.Boolean d) e = e
+  other_alone x never _ e = e
 
   behind_read : {K : Type 0} (x : PlacedLiteral) → (IsSpan x.0 → ⊥)
       → ReadAs K (At_word x) (λ y. literal_rest y.0) (behind x)

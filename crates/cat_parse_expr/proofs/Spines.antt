@@ -1,10 +1,9 @@
 -- Each expression is something in front of all operators, and steps behind it.
-use Rattle.std.proofs.Common.{◌≡◌, ℕ, zero, suc, ◌≤◌, max, Bool, true, false, not, if◌then◌else◌, cond, nat_eq, List, [], ◌∷◌}
-use Rattle.std.proofs.Common.{◌++◌, refl, sym, ap, subst, ◌∙◌, append_assoc, arith, inl, inr, ◌⊎◌}
+use Rattle.std.proofs.Common.{◌≡◌, ℕ, ◌≤◌, Bool, true, false, List, [], ◌∷◌}
+use Rattle.std.proofs.Common.{◌++◌, refl, sym, ap, subst, ◌∙◌, append_assoc, arith, inl, inr}
 use Rattle.std.proofs.lemmas.List.{append-nil}
 use Rattle.cat_pos.specs.declared.pos.Pos.{Pos}
 use Rattle.cat_lex.specs.declared.token.Token.{Token}
-use Rattle.cat_lex.specs.declared.token.TokenKind.TheVariants as kind
 use Rattle.cat_tree.specs.Accumulation.{accumulation}
 use Rattle.cat_tree.specs.declared.name.Name.{Name}
 use Rattle.cat_tree.specs.declared.name.CaseName.{CaseName}
@@ -16,8 +15,8 @@ use Rattle.cat_tree.specs.declared.expression.Node.TheViews as node
 use Rattle.cat_tree.specs.Joined.{◌▸◌, all}
 use Rattle.cat_tree.specs.Literals.{case_parts}
 use Rattle.cat_tree.specs.Operators.{operator_level, left_level, prefix_level}
-use Rattle.cat_tree.specs.Phrase.{Phrase, Row, Parts, End, Word, Part, Operand, IsLevelled, AreLevelled, IsSpelling, AreSpelled}
-use Rattle.cat_tree.specs.Phrase.{Rank, Terminal, tallest, last_in_form, last_in_match, height, right_strength, left_strength, ends_in_form, ends_in_match}
+use Rattle.cat_tree.specs.Phrase.{Phrase, Row, Parts, End, Word, IsLevelled, AreLevelled, IsSpelling, AreSpelled}
+use Rattle.cat_tree.specs.Phrase.{Rank, Terminal, right_strength, left_strength}
 use Rattle.cat_tree.specs.Grammar.{phrase}
 use Rattle.cat_tree.proofs.Exported.{phrase_Binary, phrase_Call, phrase_Case, phrase_Combine}
 use Rattle.cat_tree.proofs.Exported.{phrase_Content, phrase_Each, phrase_Field, phrase_If, phrase_List}
@@ -36,28 +35,30 @@ use Rattle.cat_tree.specs.Rows.{each_parts}
 use Rattle.cat_tree.specs.Wording.{◌▹◌, of_level, form, left, sign, lower}
 use Rattle.cat_parse_expr.specs.declared.opening.Opening.TheVariants as opening
 use Rattle.cat_parse_expr.specs.declared.measured.Measured.{Measured}
-use Rattle.cat_parse_expr.specs.Measures.{closed, ending}
-use Rattle.cat_parse_expr.specs.Rightly.{measured_of, IsMeasured, operand_row}
-use Rattle.cat_parse_expr.proofs.Chains.{Step, Operates, Selects, TestsFor, put, put_all, step_parts, steps_spelled}
+use Rattle.cat_parse_expr.specs.Rightly.{measured_of, IsMeasured}
+use Rattle.cat_parse_expr.proofs.Chains.{Step, Operates, Selects, TestsFor, put, put_all, step_parts}
 use Rattle.cat_parse_expr.proofs.Firsts.{class_of, is_bare, Shape, IsPrimary, primary_by}
-use Rattle.cat_parse_expr.proofs.Firsts.{class_Literal, class_Name, class_Call, class_Case, class_Content, class_Structure}
-use Rattle.cat_parse_expr.proofs.Firsts.{class_Selected, class_Parens, class_List, class_ScopeCall, class_Prefixed, class_Sum}
+use Rattle.cat_parse_expr.proofs.Firsts.{class_Literal, class_Name, class_Call, class_Case, class_Content}
+use Rattle.cat_parse_expr.proofs.Firsts.{class_Structure}
+use Rattle.cat_parse_expr.proofs.Firsts.{class_Selected, class_Parens, class_List, class_ScopeCall, class_Prefixed}
+use Rattle.cat_parse_expr.proofs.Firsts.{class_Sum}
 use Rattle.cat_parse_expr.proofs.Firsts.{class_If, class_Match, class_Each, class_Combine}
 use Rattle.cat_parse_expr.specs.declared.opening.Opening.{Opening}
 use Rattle.cat_parse_expr.proofs.Follows.{one_level}
 use Rattle.cat_parse_expr.proofs.Induction as forms
 use Rattle.cat_parse_expr.proofs.Joining.{spelled_join, levels_join, spelled_split, levels_split}
 use Rattle.cat_parse_expr.proofs.Measuring.{binary_measured, field_measured}
-use Rattle.cat_parse_expr.proofs.Operands.{Placed, measured_by, height_is, same_measured}
+use Rattle.cat_parse_expr.proofs.Operands.{Placed, measured_by, height_is}
 use Rattle.cat_parse_expr.proofs.Positive.{positive}
 use Rattle.cat_parse_expr.proofs.Standing.{left_low}
-use Rattle.cat_parse_expr.proofs.Stepping.{FitsOne}
+use Rattle.cat_parse_expr.proofs.StepWords.{FitsOne}
 
 -- ---- what counts of an expression with a step more
 
 test_measured : (s : Measured) (p : Pos) (c : CaseName) → IsMeasured s → IsMeasured (put s (TestsFor p c))
 test_measured s p (Bare u) m =
-    measured_by (node.Test s.node p (Bare u)) _ _ _ _ (phrase_Test s.node p (Bare u)) (omega (arith, height_is s m)) refl refl
+    measured_by (node.Test s.node p (Bare u)) _ _ _ _ (phrase_Test s.node p (Bare u))
+    (omega (arith, height_is s m)) refl refl
 test_measured s p (Qualified d u) m =
     measured_by (node.Test s.node p (Qualified d u)) _ _ _ _ (phrase_Test s.node p (Qualified d u))
     (omega (arith, height_is s m)) refl refl
@@ -229,32 +230,19 @@ not_bare n f e h b = absurd (clash (is_bare f) (ap is_bare (sym e) ∙ b) h)
 
 literal_not_bare : (l : Literal) (p : Pos) → is_bare (Row (literal_rank l) (literal_parts l p)) ≡ false
 literal_not_bare (literal.Int n) p = refl
-literal_not_bare (literal.Dec n) p = refl
-literal_not_bare (literal.Pct n) p = refl
-literal_not_bare (literal.Money n) p = refl
-literal_not_bare (literal.Date n) p = refl
-literal_not_bare (literal.Boolean n) p = refl
-literal_not_bare (literal.Span n u) p = refl
+literal_not_bare _ p = refl
 
 prefix_not_bare : (o : Prefix) (p : Pos) (ps : Parts) (r : Rank) → is_bare (Row r (prefix_parts o p ps)) ≡ false
 prefix_not_bare prefix.Not p ps r = refl
-prefix_not_bare prefix.Negate p ps r = refl
-prefix_not_bare prefix.IntegerOf p ps r = refl
-prefix_not_bare prefix.DecimalOf p ps r = refl
-prefix_not_bare prefix.MoneyOf p ps r = refl
-prefix_not_bare prefix.RoundOf p ps r = refl
-prefix_not_bare prefix.GetYear p ps r = refl
-prefix_not_bare prefix.GetMonth p ps r = refl
-prefix_not_bare prefix.GetDay p ps r = refl
-prefix_not_bare prefix.NumberOf p ps r = refl
+prefix_not_bare _ p ps r = refl
 
-each_not_bare : (q : Each) (p : Pos) (w : Name) (l e : Phrase) (r : Rank) → is_bare (Row r (each_parts q p w l e)) ≡ false
+each_not_bare : (q : Each) (p : Pos) (w : Name) (l e : Phrase) (r : Rank) → is_bare (Row r (each_parts q p w l e))
+    ≡ false
 each_not_bare each.ForAll p w l e r = refl
-each_not_bare each.Exists p w l e r = refl
-each_not_bare each.MapEach p w l e r = refl
-each_not_bare each.ListOf p w l e r = refl
+each_not_bare _ p w l e r = refl
 
-content_not_bare : (c : CaseName) (ps : Parts) (m : Terminal) (r : Rank) → is_bare (Row r (case_parts c (Word m ps))) ≡ false
+content_not_bare : (c : CaseName) (ps : Parts) (m : Terminal) (r : Rank) → is_bare (Row r (case_parts c (Word m ps)))
+    ≡ false
 content_not_bare (Bare u) ps m r = refl
 content_not_bare (Qualified d u) ps m r = refl
 
@@ -270,7 +258,8 @@ bare_case =
     case_bare
     (λ p e h. not_bare (node.Parens p e) _ (phrase_Parens p e) refl)
     (λ e w h. not_bare (node.Field e w) _ (phrase_Field e w) refl)
-    (λ o p e h. not_bare (node.Prefixed o p e) _ (phrase_Prefixed o p e) (prefix_not_bare o p _ (of_level (prefix_level o))))
+    (λ o p e h. not_bare (node.Prefixed o p e) _ (phrase_Prefixed o p e)
+    (prefix_not_bare o p _ (of_level (prefix_level o))))
     (λ p t e h. not_bare (node.Sum p t e) _ (phrase_Sum p t e) refl)
     (λ c e h. not_bare (node.Content c e) _ (phrase_Content c e) (content_not_bare c _ _ (of_level 8)))
     (λ f args h. not_bare (node.Call f args) _ (phrase_Call f args) refl)

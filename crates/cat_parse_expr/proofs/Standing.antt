@@ -1,68 +1,36 @@
 -- Where no room is left, nothing is read that stands at the level.
-use Rattle.std.proofs.Common.{◌≡◌, ℕ, zero, suc, ◌≤◌, Bool, true, false, nat_le, List, [], ◌∷◌, ◌++◌, map, Option, Some, None}
-use Rattle.std.proofs.Common.{refl, sym, ap, subst, ◌∙◌, arith, inl, inr, ◌⊎◌}
-use Rattle.std.proofs.lemmas.Bool.Decides.{nat_tests}
-use Rattle.cat_pos.specs.declared.pos.Pos.{Pos}
-use Rattle.cat_lex.specs.declared.token.Token.{Token}
-use Rattle.cat_lex.specs.declared.token.TokenKind.{TokenKind}
-use Rattle.cat_lex.specs.declared.token.TokenKind.TheVariants as kind
-use Rattle.cat_lex.specs.declared.symbol.Symbol.TheVariants as symbol
+use Rattle.std.proofs.Common.{◌≡◌, ℕ, ◌≤◌, Bool, true, false, map}
+use Rattle.std.proofs.Common.{refl, ap, subst, ◌∙◌, arith}
 use Rattle.cat_tree.specs.Accumulation.{accumulation}
-use Rattle.cat_tree.specs.declared.name.Name.{Name}
-use Rattle.cat_tree.specs.declared.name.CaseName.{CaseName}
-use Rattle.cat_tree.specs.declared.name.CaseName.TheVariants.{Bare, Qualified}
-use Rattle.cat_tree.specs.declared.name.Type as types
-use Rattle.cat_tree.specs.declared.expression.Literal.{Literal}
-use Rattle.cat_tree.specs.declared.expression.Literal.TheVariants as literal
-use Rattle.cat_tree.specs.declared.expression.Prefix.{Prefix}
-use Rattle.cat_tree.specs.declared.expression.Prefix.TheVariants as prefix
-use Rattle.cat_tree.specs.declared.expression.Operator.{Operator}
-use Rattle.cat_tree.specs.declared.expression.Each.{Each}
-use Rattle.cat_tree.specs.declared.expression.Each.TheVariants as each
-use Rattle.cat_tree.specs.declared.expression.Arm.{Arm}
-use Rattle.cat_tree.specs.declared.expression.FieldValue.{FieldValue}
 use Rattle.cat_tree.specs.declared.expression.Node.{Node}
 use Rattle.cat_tree.specs.declared.expression.Node.TheVariants as leaves
 use Rattle.cat_tree.specs.declared.expression.Node.TheViews as node
-use Rattle.cat_tree.specs.Literals.{literal_parts}
-use Rattle.cat_tree.specs.Operators.{prefix_level, prefix_parts}
-use Rattle.cat_tree.specs.Rows.{each_parts}
-use Rattle.cat_tree.specs.Phrase.{Phrase, Row, Parts, End, Word, Part, Operand, Terminal, At, Anywhere, IsAt, IsSpelling, AreSpelled}
+use Rattle.cat_tree.specs.Operators.{prefix_level}
+use Rattle.cat_tree.specs.Phrase.{Phrase, Row, Parts}
 use Rattle.cat_tree.specs.Grammar.{phrase}
 use Rattle.cat_tree.proofs.Exported.{phrase_Binary, phrase_Call, phrase_Case, phrase_Combine}
 use Rattle.cat_tree.proofs.Exported.{phrase_Content, phrase_Each, phrase_Field, phrase_If, phrase_List}
 use Rattle.cat_tree.proofs.Exported.{phrase_Literal, phrase_Match, phrase_Name, phrase_Parens, phrase_Prefixed}
 use Rattle.cat_tree.proofs.Exported.{phrase_ScopeCall, phrase_Structure, phrase_Sum, phrase_Test}
 use Rattle.cat_parse_expr.specs.declared.opening.Opening.{Opening}
-use Rattle.cat_parse_expr.specs.declared.opening.Opening.TheVariants as opening
-use Rattle.cat_parse_expr.specs.Openings.{opening_of, opening_at}
-use Rattle.cat_parse_expr.proofs.Follows.{kind_at, kind_is}
 use Rattle.cat_tree.specs.Phrase.{right_strength, left_strength, ends_in_form, IsLevelled}
 use Rattle.cat_tree.specs.Operators.{operator_level, left_level}
-use Rattle.cat_tree.specs.Wording.{if_some, match_of}
-use Rattle.cat_tree.specs.Literals.{literal_rank}
-use Rattle.cat_tree.proofs.Exported.{field_row, arm_row}
-use Rattle.cat_parse_expr.specs.declared.cue.Cue.{Cue}
-use Rattle.cat_parse_expr.specs.Cues.{kind_of, cue_is}
+use Rattle.cat_tree.proofs.Exported.{arm_row}
 use Rattle.cat_parse_expr.specs.Openings.{stands}
-use Rattle.cat_parse_expr.specs.Reader.{heads}
-use Rattle.cat_parse_expr.proofs.Firsts.{first_of, opening_with, class_of, class_by, opens, Shape, IsPrimary, primary_by, is_bare}
-use Rattle.cat_parse_expr.proofs.Firsts.{class_Literal, class_Name, class_Call, class_Case, class_Content, class_Structure}
-use Rattle.cat_parse_expr.proofs.Firsts.{class_Selected, class_Parens, class_List, class_ScopeCall, class_Prefixed, class_Sum}
+use Rattle.cat_parse_expr.proofs.Firsts.{class_of}
+use Rattle.cat_parse_expr.proofs.Firsts.{class_Literal, class_Name, class_Call, class_Case, class_Content}
+use Rattle.cat_parse_expr.proofs.Firsts.{class_Structure}
+use Rattle.cat_parse_expr.proofs.Firsts.{class_Parens, class_List, class_ScopeCall, class_Prefixed, class_Sum}
 use Rattle.cat_parse_expr.proofs.Firsts.{class_If, class_Match, class_Each, class_Combine}
 use Rattle.cat_parse_expr.proofs.Follows.{one_level}
 use Rattle.cat_parse_expr.proofs.Induction as forms
-use Rattle.cat_parse_expr.proofs.Leaves.{cue_found}
 use Rattle.std.proofs.Common.{if◌then◌else◌}
 use Rattle.cat_tree.specs.Phrase.{Rank}
-use Rattle.cat_parse_expr.proofs.Openers.{class_Binary, class_Test, class_Field, opens_with}
-use Rattle.cat_parse_expr.proofs.Positive.{some_level, match_level}
+use Rattle.cat_parse_expr.proofs.Openers.{class_Binary, class_Test, class_Field}
+use Rattle.cat_parse_expr.proofs.Positive.{match_level}
+use Rattle.cat_parse_expr.proofs.Truth.{le_true}
 
 -- ---- each stands at its level
-
-stands_by : (k : ℕ) (n : Node) (c : Opening) (r : Rank) (ps : Parts) → class_of n ≡ c → phrase n ≡ Row r ps
-    → (k ≤ r.level → stands k c ≡ true) → k ≤ right_strength (phrase n) → stands k c ≡ true
-stands_by k n c r ps e is h le = h (subst (λ (f : Phrase). k ≤ right_strength f) is le)
 
 abbrev StandsAt : Node → Type 0
 StandsAt n = (k : ℕ) → IsLevelled (phrase n) → k ≤ right_strength (phrase n) → stands k (class_of n) ≡ true
@@ -71,9 +39,6 @@ stood_by : (n : Node) (c : Opening) (r : Rank) (ps : Parts) → class_of n ≡ c
     → ((k : ℕ) → k ≤ r.level → stands k c ≡ true) → StandsAt n
 stood_by n c r ps e is h k l le =
     ap (stands k) e ∙ h k (subst (λ (f : Phrase). k ≤ right_strength f) is le)
-
-le_true : (k j : ℕ) → k ≤ j → nat_le k j ≡ true
-le_true k j le = grind (arith, nat_tests, le)
 
 -- a left operand is of its level at the least
 pub left_low : (f : Phrase) (j k : ℕ) → j ≤ left_strength f → k ≤ j → k ≤ right_strength f

@@ -1,192 +1,50 @@
--- The steps behind a whole expression.
-use Rattle.std.proofs.Common.{◌≡◌, ℕ, zero, suc, ◌≤◌, ◌<◌, max, Bool, true, false, not, nat_eq, nat_le, nat_lt, ◌&&◌, ◌||◌, cond}
-use Rattle.std.proofs.Common.{if◌then◌else◌, List, [], ◌∷◌, ◌++◌, length, Option, None, Some, refl, sym, ap, subst, ◌∙◌, arith}
-use Rattle.std.proofs.Common.{inl, inr, ◌⊎◌}
+-- The readers of the steps behind a whole expression.
+use Rattle.std.proofs.Common.{◌≡◌, ℕ, suc, ◌≤◌, max, Bool, true, false, nat_le}
+use Rattle.std.proofs.Common.{if◌then◌else◌, List, refl, sym, ap, subst, arith}
 use Rattle.std.proofs.lemmas.Bool.Decides.{nat_tests}
 use Rattle.cat_pos.specs.declared.pos.Pos.{Pos}
 use Rattle.cat_lex.specs.declared.token.Token.{Token}
 use Rattle.cat_lex.specs.declared.token.TokenKind.{TokenKind}
 use Rattle.cat_lex.specs.declared.token.TokenKind.TheVariants as kind
-use Rattle.cat_lex.specs.declared.words.Keyword.TheVariants as key
 use Rattle.cat_lex.specs.declared.words.DoubleKeyword.TheVariants as pair
 use Rattle.cat_lex.specs.declared.symbol.Symbol.TheVariants as symbol
 use Rattle.cat_tree.specs.declared.name.Name.{Name}
 use Rattle.cat_tree.specs.declared.name.CaseName.{CaseName}
 use Rattle.cat_tree.specs.declared.name.CaseName.TheVariants.{Bare, Qualified}
 use Rattle.cat_tree.specs.declared.expression.Operator.{Operator}
-use Rattle.cat_tree.specs.declared.expression.Operator.TheVariants as op
-use Rattle.cat_tree.specs.declared.expression.Node.{Node}
-use Rattle.cat_tree.specs.declared.expression.Node.TheViews as node
 use Rattle.cat_tree.specs.Literals.{case_parts}
-use Rattle.cat_tree.specs.Operators.{operator_kind, operator_level, left_level}
-use Rattle.cat_tree.specs.Phrase.{Phrase, Parts, End, Word, At, AreLevelled, AreSpelled}
+use Rattle.cat_tree.specs.Operators.{operator_level, left_level}
+use Rattle.cat_tree.specs.Phrase.{Parts, End, Word, At, AreLevelled, AreSpelled}
 use Rattle.cat_tree.specs.Wording as wording
 use Rattle.cat_tree.specs.Wording.{◌▹◌, part, first, pair_at}
 use Rattle.cat_tree.specs.Grammar.{phrase}
 use Rattle.cat_parse_expr.specs.declared.behind.Behind.{Behind}
-use Rattle.cat_parse_expr.specs.declared.behind.Behind.TheVariants.{Other, Field, Pattern as Tested}
-use Rattle.cat_parse_expr.specs.declared.cue.Cue.{Cue}
 use Rattle.cat_parse_expr.specs.declared.cue.Cue.TheVariants as cue
 use Rattle.cat_parse_expr.specs.declared.follow.Follow.{Follow}
 use Rattle.cat_parse_expr.specs.declared.follow.Follow.TheVariants as follow
 use Rattle.cat_parse_expr.specs.declared.measured.Measured.{Measured}
 use Rattle.cat_parse_expr.specs.Climbing as climbing
 use Rattle.cat_parse_expr.specs.Climbing.{ends_test, goes_so, goes_on, room_beside, nothing_at}
-use Rattle.cat_parse_expr.specs.Cues as cues
-use Rattle.cat_parse_expr.specs.Cues.{kind_of, cue_is, word_of, «word», lower_of, upper_of}
-use Rattle.cat_parse_expr.specs.Followers.{is_taken, is_asked, is_below, may_stand, MayFollow, looks_of}
+use Rattle.cat_parse_expr.specs.Cues.{kind_of, «word»}
+use Rattle.cat_parse_expr.specs.Followers.{MayFollow, looks_of}
 use Rattle.cat_parse_expr.specs.Longest.{KeepsWhole}
-use Rattle.cat_parse_expr.specs.Measures.{closed, ending}
-use Rattle.cat_parse_expr.specs.Openings.{follow_of, follow_at}
-use Rattle.cat_parse_expr.specs.Parts.{Lower, is_sign, case_from, pair_word, sign}
-use Rattle.cat_parse_expr.specs.Reader.{Parsed, Fails, Reads, Reader, ◌⨟◌, pure, nothing, after, heads, behind_whole, with_room}
-use Rattle.cat_parse_expr.specs.Right.{Is, Begun, IsRight}
-use Rattle.cat_parse_expr.specs.Rightly.{measured_of, IsMeasured, IsLow, operand_row, AreRight}
+use Rattle.cat_parse_expr.specs.Parts.{Lower}
+use Rattle.cat_parse_expr.specs.Reader.{Reader, ◌⨟◌, pure}
+use Rattle.cat_parse_expr.specs.Right.{Is}
+use Rattle.cat_parse_expr.specs.Rightly.{IsMeasured, IsLow, operand_row, AreRight}
 use Rattle.cat_parse_expr.proofs.Chains.{Step, Operates, Selects, TestsFor, put, step_parts}
 use Rattle.cat_parse_expr.proofs.Choices.{Recast}
 use Rattle.cat_parse_expr.proofs.Firsts.{is_bare}
-use Rattle.cat_parse_expr.proofs.Follows.{operator_ends, one_level, tall_enough}
-use Rattle.cat_parse_expr.proofs.Leaves.{cue_found, cue_self}
+use Rattle.cat_parse_expr.proofs.Follows.{operator_ends, one_level}
 use Rattle.cat_parse_expr.proofs.NoRoom.{nothing_read}
-use Rattle.cat_parse_expr.proofs.Operands.{Next, goes_past, goes_then, ending_next, end_read}
-use Rattle.cat_parse_expr.proofs.Patterns.{case_first, case_rest, NoDot, whole_case_read}
+use Rattle.cat_parse_expr.proofs.Operands.{Next, ending_next, end_read}
+use Rattle.cat_parse_expr.proofs.Patterns.{case_first, case_rest, whole_case_read}
 use Rattle.cat_parse_expr.proofs.Read.{IsRead, pure_read}
 use Rattle.cat_parse_expr.proofs.Sequels.{last_read}
-use Rattle.cat_parse_expr.proofs.Shaping.{recast_read, reshape_read}
-use Rattle.cat_parse_expr.proofs.Tuples.{two, both}
+use Rattle.cat_parse_expr.proofs.Shaping.{recast_read}
+use Rattle.cat_parse_expr.proofs.Tuples.{two}
 use Rattle.cat_parse_expr.proofs.Worded.{word_read, word_at_read, lower_room_read, upper_room_read}
-
--- ---- the words of operators
-
-abbrev pub cue_of : Operator → Cue
-cue_of op.Or = cue.Word key.Or
-cue_of op.Xor = cue.Word key.Xor
-cue_of op.And = cue.Word key.And
-cue_of op.Less = cue.Sign symbol.Less
-cue_of op.LessEqual = cue.Sign symbol.LessEqual
-cue_of op.Greater = cue.Sign symbol.Greater
-cue_of op.GreaterEqual = cue.Sign symbol.GreaterEqual
-cue_of op.Equal = cue.Sign symbol.Equal
-cue_of op.NotEqual = cue.Sign symbol.NotEqual
-cue_of op.Contains = cue.Word key.Contains
-cue_of op.Plus = cue.Sign symbol.Plus
-cue_of op.Minus = cue.Sign symbol.Minus
-cue_of op.Times = cue.Sign symbol.Star
-cue_of op.Divide = cue.Sign symbol.Slash
-
-pub operator_word : (o : Operator) → (kind_of (cue_of o) ≡ operator_kind o) × (follow_of (operator_kind o) ≡ follow.Operated o)
-operator_word op.Or = (refl, refl)
-operator_word op.Xor = (refl, refl)
-operator_word op.And = (refl, refl)
-operator_word op.Less = (refl, refl)
-operator_word op.LessEqual = (refl, refl)
-operator_word op.Greater = (refl, refl)
-operator_word op.GreaterEqual = (refl, refl)
-operator_word op.Equal = (refl, refl)
-operator_word op.NotEqual = (refl, refl)
-operator_word op.Contains = (refl, refl)
-operator_word op.Plus = (refl, refl)
-operator_word op.Minus = (refl, refl)
-operator_word op.Times = (refl, refl)
-operator_word op.Divide = (refl, refl)
-
-abbrev operator_in : TokenKind → Follow → TokenKind
-operator_in q (follow.Operated o) = operator_kind o
-operator_in q f = q
-
-abbrev or_that : Operator → Follow → Operator
-or_that o (follow.Operated x) = x
-or_that o f = o
-
-pub operator_is : (q : TokenKind) (o : Operator) → follow_of q ≡ follow.Operated o → q ≡ operator_kind o
-operator_is (kind.Word key.Or) o e = ap (operator_in (kind.Word key.Or)) e
-operator_is (kind.Word key.Xor) o e = ap (operator_in (kind.Word key.Xor)) e
-operator_is (kind.Word key.And) o e = ap (operator_in (kind.Word key.And)) e
-operator_is (kind.Word key.Contains) o e = ap (operator_in (kind.Word key.Contains)) e
-operator_is (kind.Symbol symbol.Less) o e = ap (operator_in (kind.Symbol symbol.Less)) e
-operator_is (kind.Symbol symbol.LessEqual) o e = ap (operator_in (kind.Symbol symbol.LessEqual)) e
-operator_is (kind.Symbol symbol.Greater) o e = ap (operator_in (kind.Symbol symbol.Greater)) e
-operator_is (kind.Symbol symbol.GreaterEqual) o e = ap (operator_in (kind.Symbol symbol.GreaterEqual)) e
-operator_is (kind.Symbol symbol.Equal) o e = ap (operator_in (kind.Symbol symbol.Equal)) e
-operator_is (kind.Symbol symbol.NotEqual) o e = ap (operator_in (kind.Symbol symbol.NotEqual)) e
-operator_is (kind.Symbol symbol.Plus) o e = ap (operator_in (kind.Symbol symbol.Plus)) e
-operator_is (kind.Symbol symbol.Minus) o e = ap (operator_in (kind.Symbol symbol.Minus)) e
-operator_is (kind.Symbol symbol.Star) o e = ap (operator_in (kind.Symbol symbol.Star)) e
-operator_is (kind.Symbol symbol.Slash) o e = ap (operator_in (kind.Symbol symbol.Slash)) e
-operator_is (kind.Pair pair.WithPattern) o e = absurd cc
-operator_is _ o e = absurd cc
-
--- what each step is, by its first word
-abbrev pub follow_in : Step → Follow
-follow_in (Operates o p e) = follow.Operated o
-follow_in (Selects w) = follow.Dotted
-follow_in (TestsFor p c) = follow.Tests
-
--- ---- what steps ask for
-
--- the step may stand behind the expression
-abbrev pub FitsOne : (k : ℕ) → Measured → Step → Type 0
-FitsOne k s (Operates o p e) = (k ≤ operator_level o) × (left_level o ≤ s.strength) × IsMeasured e
-FitsOne k s (Selects w) = (9 ≤ s.strength) × (is_bare (phrase s.node) ≡ false)
-FitsOne k s (TestsFor p c) = (k ≤ 4) × (5 ≤ s.strength)
-
--- ---- no dot behind a test
-
-asked_dot : (b : Behind) (ts : List Token) → is_asked b (kind.Symbol symbol.Dot) ts ≡ false
-asked_dot Other ts = refl
-asked_dot Field ts = refl
-asked_dot Tested ts = refl
-
-none_of : (a d e g h : Bool) → a ≡ true → d ≡ false → e ≡ false → g ≡ false → h ≡ false
-    → (not a || (d || (e || (g || h)))) ≡ true → ⊥
-none_of false d e g h p q r s t x = absurd cc
-none_of true true e g h p q r s t x = absurd cc
-none_of true false true g h p q r s t x = absurd cc
-none_of true false false true h p q r s t x = absurd cc
-none_of true false false false true p q r s t x = absurd cc
-none_of true false false false false p q r s t x = absurd cc
-
-second : (a c : Bool) → c ≡ false → (a && c) ≡ false
-second true c h = h
-second false c h = refl
-
-pub dot_refused : (b : Behind) (k s : ℕ) (m : Bool) (ts : List Token) → k ≤ 9
-    → may_stand b k s m (kind.Symbol symbol.Dot) ts ≡ true → ⊥
-dot_refused b k s m ts le h =
-    none_of true (is_asked b (kind.Symbol symbol.Dot) ts) (nat_eq k 9 && is_sign symbol.Comma (kind.Symbol symbol.Dot))
-    (not m && is_sign symbol.MinusMinus (kind.Symbol symbol.Dot)) (not (nat_eq s 0) && is_below k follow.Dotted) refl
-    (asked_dot b ts) (second (nat_eq k 9) (is_sign symbol.Comma (kind.Symbol symbol.Dot)) refl)
-    (second (not m) (is_sign symbol.MinusMinus (kind.Symbol symbol.Dot)) refl)
-    (second (not (nat_eq s 0)) (is_below k follow.Dotted) not_above) h
-  where
-    not_above : nat_lt 9 k ≡ false
-    not_above = grind (arith, nat_tests, le)
-
--- behind what is no left operand of a dot stands none
-pub dot_not : (b : Behind) (k : ℕ) (y : Measured) (v : List Token) → k ≤ 9 → y.strength ≤ 8 → Next b k y v
-    → heads (is_sign symbol.Dot) v ≡ false
-dot_not b k y [] le weak o = refl
-dot_not b k y (p ∷ ts) le weak o = by (is_sign symbol.Dot p.kind) refl (goes_then b k y (p ∷ ts) o)
-  where
-    by : (z : Bool) → is_sign symbol.Dot p.kind ≡ z → MayFollow b k y (p ∷ ts) ⊎ (goes_on b k y (p ∷ ts) ≡ true)
-        → is_sign symbol.Dot p.kind ≡ false
-    by false e o = e
-    by true e (inl h) =
-        absurd (dot_refused b k y.strength y.in_match ts le
-        (ap (λ (q : TokenKind). may_stand b k y.strength y.in_match q ts) (sym (cue_found (cue.Sign symbol.Dot) p.kind e)) ∙ h))
-    by true e (inr h) =
-        absurd (weak_not (ap (λ (q : TokenKind). goes_so b k y.strength (follow_of q) (p ∷ ts))
-        (sym (cue_found (cue.Sign symbol.Dot) p.kind e)) ∙ h))
-      where
-        weak_not : nat_le 9 y.strength ≡ true → ⊥
-        weak_not h = grind (arith, nat_tests, h, weak)
-
-no_dot : (b : Behind) (k : ℕ) (y : Measured) (c : CaseName) (v : List Token) → k ≤ 9 → y.strength ≡ 4 → Next b k y v
-    → NoDot c v
-no_dot b k y (Bare u) v le is o = dot_not b k y v le (omega (arith, is)) o
-no_dot b k y (Qualified d u) v le is o = tt
-
--- ---- the readers of steps
+use Rattle.cat_parse_expr.proofs.StepWords.{cue_of, operator_word, or_that, follow_in, FitsOne, no_dot}
 
 module _ (ex : Lower) (room : ℕ) (right : AreRight room ex)
     (kept : (b : Behind) (j bound : ℕ) → j ≤ 9 → KeepsWhole (IsLow room) bound IsMeasured (operand_row j) (ex b j))
@@ -244,7 +102,8 @@ module _ (ex : Lower) (room : ℕ) (right : AreRight room ex)
       → Word (At (kind_of (cue_of o)) t.0) (part (suc (operator_level o)) (phrase t.1.node) ▹ End)
       ≡ step_parts (Operates o t.0 t.1)
   operation_row o t =
-      ap (λ (q : TokenKind). Word (At q t.0) (part (suc (operator_level o)) (phrase t.1.node) ▹ End)) (operator_word o).0
+      ap (λ (q : TokenKind). Word (At q t.0) (part (suc (operator_level o)) (phrase t.1.node) ▹ End))
+      (operator_word o).0
 
   operation_cast : (o : Operator) → k ≤ operator_level o → left_level o ≤ s.strength
       → Recast (λ (t : Pos × Measured). Low_step (Operates o t.0 t.1)) Low_step
@@ -294,7 +153,8 @@ module _ (ex : Lower) (room : ℕ) (right : AreRight room ex)
   pub operated_read : {K F : Type 0} (o : Operator) → k ≤ operator_level o → left_level o ≤ s.strength
       → ReadsStep K F (Of_follow (follow.Operated o)) (operating o)
   operated_read o low strong =
-      recast_read _ _ _ _ (λ t. Operates o t.0 t.1) (λ t. refl) (λ f. f) (λ f c. c) (λ f. (operation_cast o low strong).to)
+      recast_read _ _ _ _ (λ t. Operates o t.0 t.1) (λ t. refl) (λ f. f) (λ f c. c)
+      (λ f. (operation_cast o low strong).to)
       (λ f c. operation_cast o low strong)
       (word_at_read (cue_of o) (λ t. t.0) _ _
       (λ p. last_read (λ t. t.1) (λ e. (p, e)) _

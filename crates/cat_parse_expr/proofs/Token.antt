@@ -6,7 +6,7 @@ use Rattle.cat_lex.specs.declared.token.Token.{Token}
 use Rattle.cat_lex.specs.declared.token.TokenKind.{TokenKind}
 use Rattle.cat_tree.specs.Phrase.{Parts, Word, Terminal, IsAt}
 use Rattle.cat_parse_expr.specs.Reader.{Parsed, Reader, Fails, Reads, left_of, after, ◌⨟◌, made_of, one}
-use Rattle.cat_parse_expr.specs.Right.{Agree, Seen, Is, Begun, Took, Taken, Says, Alike, IsRight}
+use Rattle.cat_parse_expr.specs.Right.{Agree, Is, Begun, Took, Taken, Says, Alike, IsRight}
 use Rattle.cat_parse_expr.proofs.Joining.{no_front}
 
 -- what is made of a token tells which terminal it is
@@ -83,7 +83,8 @@ module _ {A B : Type 0} (low : B → Type 0) (bound : ℕ) (out : B → List Tok
   says_behind p (Fails left true whole) y w u s = s
   says_behind p (Reads x left) y w u s = (s.0, ap (λ (v : List Token). p ∷ v) s.1)
 
-  nothing_spelled : (front : List Token) (y : B) (w : List Token) → [] ≡ front ++ [] → Alike out looks fits row (Fails [] false None) front y w
+  nothing_spelled : (front : List Token) (y : B) (w : List Token) → [] ≡ front ++ [] → Alike out looks fits row
+      (Fails [] false None) front y w
       → ⊥
   nothing_spelled front y w text a = by a.others a.seen a.text
     where

@@ -1,5 +1,5 @@
 -- What was read is the tuple of its parts.
-use Rattle.std.proofs.Common.{◌≡◌, refl, sym, ap, ◌∙◌}
+use Rattle.std.proofs.Common.{◌≡◌, ap, ◌∙◌}
 
 pub two : {A B : Type 0} (y : A × B) (a : A) → y.0 ≡ a → y ≡ (a, y.1)
 two {A = A} {B = B} y a e = ap (λ (z : A). (z, y.1)) e
@@ -14,9 +14,3 @@ pub four : {A B C D : Type 0} (y : A × B × C × D) (a : A) (b : B) (c : C) →
     → y ≡ (a, b, c, y.3)
 four {A = A} {B = B} {C = C} y a b c e f g =
     ap (λ (z : A). (z, y.1, y.2, y.3)) e ∙ ap (λ (z : B). (a, z, y.2, y.3)) f ∙ ap (λ (z : C). (a, b, z, y.3)) g
-
-pub five : {A B C D E : Type 0} (y : A × B × C × D × E) (a : A) (b : B) (c : C) (d : D) → y.0 ≡ a → y.1 ≡ b → y.2 ≡ c
-    → y.3 ≡ d → y ≡ (a, b, c, d, y.4)
-five {A = A} {B = B} {C = C} {D = D} y a b c d e f g h =
-    ap (λ (z : A). (z, y.1, y.2, y.3, y.4)) e ∙ ap (λ (z : B). (a, z, y.2, y.3, y.4)) f
-    ∙ ap (λ (z : C). (a, b, z, y.3, y.4)) g ∙ ap (λ (z : D). (a, b, c, z, y.4)) h

@@ -1,6 +1,6 @@
 -- Turns that begin with one word.
-use Rattle.std.proofs.Common.{◌≡◌, ℕ, zero, suc, ◌≤◌, ◌<◌, Bool, true, false, if◌then◌else◌, List, [], ◌∷◌, ◌++◌, length}
-use Rattle.std.proofs.Common.{Option, Some, None, refl, sym, ap, subst, ◌∙◌, arith, inl, inr, ◌⊎◌}
+use Rattle.std.proofs.Common.{◌≡◌, ℕ, ◌≤◌, ◌<◌, Bool, true, false, if◌then◌else◌, List, [], ◌∷◌, ◌++◌, length}
+use Rattle.std.proofs.Common.{Option, Some, None, refl, sym, ap, subst, ◌∙◌, arith, inl, ◌⊎◌}
 use Rattle.cat_pos.specs.declared.pos.Pos.{Pos}
 use Rattle.cat_lex.specs.declared.token.Token.{Token}
 use Rattle.cat_lex.specs.declared.token.TokenKind.{TokenKind}
@@ -8,7 +8,8 @@ use Rattle.cat_tree.specs.Phrase.{Parts, AreSpelled}
 use Rattle.cat_parse_expr.specs.declared.behind.Behind.{Behind}
 use Rattle.cat_parse_expr.specs.declared.cue.Cue.{Cue}
 use Rattle.cat_parse_expr.specs.declared.measured.Measured.{Measured}
-use Rattle.cat_parse_expr.specs.Reader.{Parsed, Fails, Reads, Reader, ◌⨟◌, pure, after, left_of, heads, one, made_of, fallen}
+use Rattle.cat_parse_expr.specs.Reader.{Parsed, Fails, Reads, Reader, ◌⨟◌, pure, after, left_of, heads, one, made_of}
+use Rattle.cat_parse_expr.specs.Reader.{fallen}
 use Rattle.cat_parse_expr.specs.Reader.{behind_whole}
 use Rattle.cat_parse_expr.specs.Cues.{kind_of, cue_is, word_of, «word»}
 use Rattle.cat_parse_expr.specs.Followers.{is_taken, MayFollow}
@@ -94,7 +95,8 @@ shrinks_one {A = A} take (p ∷ ts) = by (take p)
 
 -- a token that is there is taken
 pub moves_one : {A B : Type 0} (take : Token → Option A) (r : A → Reader B) (ts : List Token)
-    → ((x : A) (us : List Token) → length (left_of (r x us)) ≤ length us) → (heads_some : one take ts ≡ Fails ts false None → ⊥)
+    → ((x : A) (us : List Token) → length (left_of (r x us)) ≤ length us)
+    → (heads_some : one take ts ≡ Fails ts false None → ⊥)
     → length (left_of ((one take ⨟ r) ts)) < length ts
 moves_one take r [] h some = absurd (some refl)
 moves_one {A = A} take r (p ∷ ts) h some = by (take p) refl
@@ -210,7 +212,8 @@ module _ {S X : Type 0} {K : Type 0} (goes : S → List Token → Bool) (put : S
     abbrev pub outer : S → Reader X
     outer s = behind_whole (inner s)
 
-    fallen_reads : {A : Type 0} (ts : List Token) (o : Parsed A) (x : A) (left : List Token) → fallen ts o ≡ Reads x left
+    fallen_reads : {A : Type 0} (ts : List Token) (o : Parsed A) (x : A) (left : List Token) → fallen ts o
+        ≡ Reads x left
         → o ≡ Reads x left
     fallen_reads ts (Fails l deep whole) x left e = absurd cc
     fallen_reads ts (Reads y l) x left e = e

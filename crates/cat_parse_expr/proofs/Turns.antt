@@ -1,10 +1,10 @@
 -- A loop over turns, by indices of a list of tokens.
 use Rattle.std.proofs.Common.{◌≡◌, ◌≤◌, ◌<◌, ◌-◌, ℕ, zero, suc, Bool, true, false, if◌then◌else◌, List, [], ◌∷◌, length}
-use Rattle.std.proofs.Common.{drop, Ok, Err, Option, refl, sym, ap, ◌∙◌, arith, length-drop}
+use Rattle.std.proofs.Common.{drop, Ok, Err, refl, sym, ap, ◌∙◌, arith, length-drop}
 use Rattle.cat_lex.specs.declared.token.Token.{Token}
 use Rattle.cat_parse_expr.specs.declared.miss.Miss.{Miss}
 use Rattle.cat_parse_expr.specs.declared.miss.Miss.TheVariants.{Broken, Memory}
-use Rattle.cat_parse_expr.specs.Reader.{Parsed, Fails, Reads, Reader, after, turns}
+use Rattle.cat_parse_expr.specs.Reader.{Parsed, Reads, Reader, after, turns}
 use Rattle.cat_parse_expr.specs.declared.behind.Behind.{Behind}
 use Rattle.cat_parse_expr.specs.declared.measured.MatchArms.{MatchArms}
 use Rattle.cat_parse_expr.specs.Parts.{as_many, has_arm, has_arm_behind}

@@ -15,14 +15,15 @@ use Rattle.cat_tree.specs.declared.name.Type as types
 use Rattle.cat_tree.specs.Phrase.{Parts, End, Word, At, Anywhere, IsAt, AreSpelled}
 use Rattle.cat_tree.specs.Literals.{base_kind, lists_of, type_parts}
 use Rattle.cat_parse_expr.specs.declared.cue.Cue.TheVariants as cue
-use Rattle.cat_parse_expr.specs.Reader.{Parsed, Reader, Fails, Reads, left_of, ◌⨟◌, pure, one, made_of, after, by_word, heads}
+use Rattle.cat_parse_expr.specs.Reader.{Parsed, Reader, Fails, Reads, left_of, ◌⨟◌, pure, one, made_of, after}
+use Rattle.cat_parse_expr.specs.Reader.{by_word, heads}
 use Rattle.cat_parse_expr.specs.Right.{Begun, Taken, Says, Alike, IsRight}
 use Rattle.cat_parse_expr.specs.Cues.{kind_of, base_of, «word»}
 use Rattle.cat_parse_expr.specs.Types.{placed, typed, base_at, is_list_of, type_after, a_type}
 use Rattle.cat_parse_expr.proofs.Joining.{pure_right, no_front, agree_same}
 use Rattle.cat_parse_expr.proofs.Token.{Terminals, token_right}
 use Rattle.cat_parse_expr.proofs.Read.{IsRead}
-use Rattle.cat_parse_expr.proofs.Sequels.{IsShut}
+use Rattle.cat_parse_expr.proofs.Shut.{IsShut}
 use Rattle.cat_parse_expr.proofs.Choices.{reshaped, Decides, choice_right}
 use Rattle.cat_parse_expr.proofs.Leaves.{cue_self, word_behind, lowered, some_one, not_both, token_is, anywhere}
 
@@ -160,7 +161,8 @@ type_is n x y f = ap (λ (m : ℕ). typed m (y.base, y.pos)) f.0 ∙ ap (typed n
 base_right : (bound n : ℕ)
     → IsRight Low bound Out looks (λ y. y.lists ≡ n) (row n) (one base_at ⨟ λ b. pure (typed n b))
 base_right bound n =
-    reshaped Low bound Out looks (λ y. y.lists ≡ n) (λ y. y.lists ≡ n) (λ y. Word (At (base_kind y.base) y.pos) End) (row n)
+    reshaped Low bound Out looks (λ y. y.lists ≡ n) (λ y. y.lists ≡ n) (λ y. Word (At (base_kind y.base) y.pos) End)
+    (row n)
     (one base_at ⨟ λ b. pure (typed n b))
     (record {
       to = λ y f. f;

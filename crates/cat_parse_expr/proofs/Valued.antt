@@ -1,93 +1,51 @@
 -- Fields of literals and of scope calls.
-use Rattle.std.proofs.Common.{◌≡◌, ℕ, zero, suc, ◌≤◌, max, Bool, true, false, List, [], ◌∷◌, ◌++◌, Option, None, Some, refl, sym, ap}
+use Rattle.std.proofs.Common.{◌≡◌, ℕ, ◌≤◌, max, Bool, true, false, List, [], ◌∷◌, ◌++◌, refl, sym, ap}
 use Rattle.std.proofs.Common.{subst, ◌∙◌, arith, inl, inr, ◌⊎◌}
 use Rattle.cat_pos.specs.declared.pos.Pos.{Pos}
 use Rattle.cat_lex.specs.declared.token.Token.{Token}
 use Rattle.cat_lex.specs.declared.token.TokenKind.{TokenKind}
-use Rattle.cat_lex.specs.declared.token.TokenKind.TheVariants as kind
-use Rattle.cat_lex.specs.declared.words.Keyword.{Keyword}
-use Rattle.cat_lex.specs.declared.words.Keyword.TheVariants as key
-use Rattle.cat_lex.specs.declared.words.DoubleKeyword.TheVariants as pair
 use Rattle.cat_lex.specs.declared.symbol.Symbol.TheVariants as symbol
-use Rattle.cat_tree.specs.Accumulation.{accumulation}
 use Rattle.cat_tree.specs.declared.name.Name.{Name}
-use Rattle.cat_tree.specs.declared.name.Type as types
-use Rattle.cat_tree.specs.declared.expression.Each.{Each}
-use Rattle.cat_tree.specs.declared.expression.Each.TheVariants as each
-use Rattle.cat_tree.specs.declared.expression.Node.{Node}
-use Rattle.cat_tree.specs.declared.expression.Node.TheViews as node
-use Rattle.cat_tree.specs.Literals.{type_parts}
-use Rattle.cat_tree.specs.Phrase.{Phrase, Row, Rank, Parts, End, Word, Part, At, Anywhere, Operand, height}
-use Rattle.cat_tree.specs.Rows.{each_parts}
-use Rattle.cat_tree.specs.Wording as wording
-use Rattle.cat_tree.specs.Wording.{◌▹◌, symbol_at, key_at, pair_at, first, then_, lower, sign, part, of_level, words}
+use Rattle.cat_tree.specs.Phrase.{Phrase, Parts, End}
+use Rattle.cat_tree.specs.Wording.{◌▹◌, lower, sign, part}
 use Rattle.cat_tree.specs.Grammar.{phrase}
-use Rattle.cat_tree.proofs.Exported.{phrase_Name, phrase_Call}
-use Rattle.cat_parse_expr.specs.declared.behind.Behind.{Behind}
-use Rattle.cat_parse_expr.specs.declared.behind.Behind.TheVariants.{Other, Field, Pattern as Tested}
-use Rattle.cat_parse_expr.specs.declared.cue.Cue.{Cue}
+use Rattle.cat_parse_expr.specs.declared.behind.Behind.TheVariants.{Field}
 use Rattle.cat_parse_expr.specs.declared.cue.Cue.TheVariants as cue
 use Rattle.cat_parse_expr.specs.declared.measured.Measured.{Measured}
-use Rattle.cat_parse_expr.specs.declared.opening.Opening.TheVariants as opening
 use Rattle.cat_parse_expr.specs.Cues.{kind_of}
-use Rattle.cat_parse_expr.specs.Measures.{closed, ending, form}
-use Rattle.cat_parse_expr.specs.Reader.{Reader, hidden, ◌⨟◌, pure, Reads}
+use Rattle.cat_parse_expr.specs.Reader.{Reader, ◌⨟◌, pure, Reads}
 use Rattle.cat_parse_expr.specs.Parts.{Lower}
-use Rattle.cat_parse_expr.specs.Forms as forms
-use Rattle.cat_parse_expr.specs.Followers.{MayFollow, looks_of, is_taken}
-use Rattle.cat_parse_expr.specs.Longest.{KeepsWhole}
-use Rattle.cat_parse_expr.specs.Rightly.{measured_of, IsMeasured, IsLow, operand_row, AreRight}
-use Rattle.cat_parse_expr.proofs.Firsts.{Shape, class_Name, class_Call}
-use Rattle.cat_parse_expr.proofs.Follows.{word_follows, tall_enough}
-use Rattle.cat_parse_expr.proofs.Positive.{positive}
-use Rattle.cat_parse_expr.proofs.Operands.{Next, form_next, OfClass, Form, form_read, measured_by, height_is, match_is}
-use Rattle.cat_parse_expr.proofs.Operands.{strength_by, inner_read, end_read}
-use Rattle.cat_parse_expr.proofs.Read.{IsRead, pure_read}
-use Rattle.cat_parse_expr.proofs.Worded.{word_read, word_at_read, lower_read, opened_at_read}
-use Rattle.cat_parse_expr.proofs.Sequels.{part_read, last_read, hidden_shut, past_none, IsShut, shut_after, one_shut, shut_turns, no_longer}
-use Rattle.cat_parse_expr.proofs.Tuples.{both, two}
-use Rattle.std.proofs.Common.{map, length, if◌then◌else◌}
+use Rattle.cat_parse_expr.specs.Followers.{MayFollow, is_taken}
+use Rattle.cat_parse_expr.specs.Rightly.{measured_of, IsMeasured, AreRight}
+use Rattle.cat_parse_expr.proofs.Operands.{height_is}
+use Rattle.cat_parse_expr.proofs.Operands.{inner_read}
+use Rattle.cat_parse_expr.proofs.Read.{IsRead}
+use Rattle.cat_parse_expr.proofs.Worded.{word_read, lower_read}
+use Rattle.cat_parse_expr.proofs.Shut.{hidden_shut, IsShut, shut_after, one_shut, shut_turns}
+use Rattle.cat_parse_expr.proofs.Sequels.{last_read}
+use Rattle.cat_parse_expr.proofs.Tuples.{two}
+use Rattle.std.proofs.Common.{map, length}
 use Rattle.cat_tree.specs.Joined.{◌▸◌, all}
-use Rattle.cat_tree.specs.Rows.{elements}
 use Rattle.std.proofs.Common.{append_assoc}
-use Rattle.cat_tree.specs.Phrase.{AreLevelled, AreSpelled, tallest}
+use Rattle.cat_tree.specs.Phrase.{AreSpelled, tallest}
 use Rattle.cat_parse_expr.proofs.Loops as loops
-use Rattle.cat_parse_expr.specs.declared.measured.Elements.{Elements}
-use Rattle.cat_parse_expr.specs.Measures.{with_element, no_elements}
 use Rattle.cat_parse_expr.specs.Parts as parts
 use Rattle.cat_parse_expr.specs.Parts.{has_element, next_element, as_many, is_sign, inner, sign as a_sign}
-use Rattle.cat_parse_expr.specs.Reader.{Parsed, Fails, after, left_of, heads, hidden_in, by_word}
+use Rattle.cat_parse_expr.specs.Reader.{Parsed, Fails, after, left_of, heads}
 use Rattle.cat_parse_expr.specs.Cues.{cue_is, word_of, «word»}
-use Rattle.cat_parse_expr.specs.Right.{Is}
 use Rattle.cat_parse_expr.proofs.Chaining as chaining
-use Rattle.cat_parse_expr.proofs.Choices.{Decides, Recast}
-use Rattle.cat_parse_expr.proofs.Chosen.{inner_choice_read}
+use Rattle.cat_parse_expr.proofs.Choices.{Recast}
 use Rattle.cat_parse_expr.proofs.Lists as lists
 use Rattle.cat_parse_expr.proofs.Looping as looping
-use Rattle.cat_parse_expr.proofs.Nodes.{nodes_of, phrases_of, tallest_of, AreMeasured, measures_of, measures_are, nodes_back}
-use Rattle.cat_parse_expr.proofs.Nodes.{elements_from, nodes_are, tallest_is, row_behind, chain_elements, elements_behind}
-use Rattle.cat_parse_expr.proofs.Nodes.{elements_height, elements_last, behind_end}
-use Rattle.cat_parse_expr.proofs.Shaping.{narrow_read, recast_read, reshape_read}
-use Rattle.cat_parse_expr.proofs.Turnings.{heads_begin, heads_other, heads_follow, heads_seen, shrinks_after, shrinks_one, takes_one}
+use Rattle.cat_parse_expr.proofs.Shaping.{recast_read}
+use Rattle.cat_parse_expr.proofs.Turnings.{heads_begin, heads_other, heads_follow, heads_seen, shrinks_after}
+use Rattle.cat_parse_expr.proofs.Turnings.{shrinks_one, takes_one}
 use Rattle.cat_parse_expr.proofs.Turnings as turnings
-use Rattle.std.proofs.Common.{append-nil, ◌<◌, not, nat_eq, nat_le, nat_lt, ◌&&◌, ◌||◌, cond}
-use Rattle.std.proofs.lemmas.Bool.Decides.{nat_tests}
-use Rattle.cat_tree.specs.Phrase.{right_strength, left_strength, ends_in_form, ends_in_match, last_in_form, last_in_match}
-use Rattle.cat_tree.specs.Phrase.{IsLevelled}
-use Rattle.cat_tree.specs.Wording.{if_some}
-use Rattle.cat_tree.specs.declared.expression.Node.TheVariants as leaves
-use Rattle.cat_parse_expr.specs.declared.follow.Follow.TheVariants as follow
-use Rattle.cat_parse_expr.specs.Followers.{is_asked, is_below, is_with_pattern, may_stand}
-use Rattle.cat_parse_expr.specs.Measures.{leaf}
+use Rattle.std.proofs.Common.{append-nil, ◌<◌, not, nat_eq, ◌&&◌}
+use Rattle.cat_parse_expr.specs.Followers.{is_asked, is_below}
 use Rattle.cat_parse_expr.specs.Openings.{follow_of}
 use Rattle.cat_parse_expr.specs.Parts.{has_field, next_field, field_value}
-use Rattle.cat_parse_expr.specs.Reader.{behind_whole}
-use Rattle.cat_parse_expr.proofs.Bracketed.{part_shrinks, hidden_left}
-use Rattle.cat_parse_expr.proofs.Chosen.{choice_read}
-use Rattle.cat_parse_expr.proofs.Follows.{argument_ends, IsOwn}
-use Rattle.cat_parse_expr.proofs.Operands.{ending_next, goes_then}
-use Rattle.cat_parse_expr.proofs.Positive.{ends_in_word, nine_strength}
-use Rattle.cat_parse_expr.proofs.Shaping.{made_read, look_read}
+use Rattle.cat_parse_expr.proofs.Operands.{part_shrinks, hidden_left}
 use Rattle.cat_parse_expr.proofs.Turnings.{own_heads}
 use Rattle.cat_tree.specs.declared.expression.FieldValue.{FieldValue}
 use Rattle.cat_tree.specs.Rows.{fields}
@@ -97,8 +55,9 @@ use Rattle.cat_parse_expr.specs.Measures.{with_field, no_fields}
 use Rattle.cat_parse_expr.specs.Parts.{is_lower}
 use Rattle.cat_parse_expr.specs.Cues as cues
 use Rattle.cat_parse_expr.specs.Cues.{lower_of}
-use Rattle.cat_parse_expr.proofs.Leaves.{cue_found, cue_self}
+use Rattle.cat_parse_expr.proofs.Leaves.{cue_self}
 use Rattle.cat_parse_expr.proofs.Shaping.{unlook_read}
+use Rattle.cat_parse_expr.proofs.Truth.{second_is_true}
 
 -- ---- lists of fields
 
@@ -172,11 +131,6 @@ fields_height (x ∷ xs) rest m = omega (arith, height_is x.1 m.0, fields_height
 abbrev pub FieldAt : List Token → Type 0
 FieldAt [] = ⊥
 FieldAt (p ∷ ts) = (is_sign symbol.MinusMinus p.kind ≡ true) × (heads is_lower ts ≡ true)
-
-second_is_true : (a b c d e : Bool) → b ≡ true → (not a || (b || (c || (d || e)))) ≡ true
-second_is_true false b c d e h = refl
-second_is_true true true c d e h = refl
-second_is_true true false c d e h = absurd cc
 
 pub field_follows : (x : Measured) (v : List Token) → FieldAt v → MayFollow Field 0 x v
 field_follows x [] h = absurd h
@@ -261,7 +215,8 @@ module _ (ex : Lower) (room : ℕ) (right : AreRight room ex) where
       (λ x v. Out (put s x) v ⊎ More (put s x) v) near (Fits s) field_parts (next_field ex s)
   read_turn s = turn_read s
 
-  worded : turnings.Worded has_field put Good Low Out More near Fits field_parts (cue.Sign symbol.MinusMinus) rest read_turn
+  worded : turnings.Worded has_field put Good Low Out More near Fits field_parts
+      (cue.Sign symbol.MinusMinus) rest read_turn
   worded = record {
     starts = λ s ts h. h;
     shrinks = rest_shrinks;
@@ -298,7 +253,8 @@ module _ (ex : Lower) (room : ℕ) (right : AreRight room ex) where
 
   fields_end : (s z : Fields) (ts left : List Token) → parts.fields ex s ts ≡ Reads z left → heads near left ≡ false
   fields_end s z ts left e =
-      looping.turns_end has_field one put Good Low Out More near Fits field_parts turning (next_field ex) takes (length ts)
+      looping.turns_end has_field one put Good Low Out More near Fits field_parts turning (next_field ex) takes
+      (length ts)
       s z ts left (omega arith) e
 
   fits_all : (s : Fields) (xs : List Valued) → AreValued xs
@@ -332,7 +288,8 @@ module _ (ex : Lower) (room : ℕ) (right : AreRight room ex) where
         back = λ x fit low. omega (arith, low, ap (λ (l : Fields). l.tallest) (chain_is no_fields x));
         outside = λ x v fit o. o;
       })
-      (looping.loop_read has_field one put Good Low Out More near Fits field_parts turning (next_field ex) same no_fields))
+      (looping.loop_read has_field one put Good Low Out More near Fits field_parts turning
+      (next_field ex) same no_fields))
 
   turn_shut : (s : Fields) (ts : List Token) → IsShut (next_field ex s ts)
   turn_shut s ts =
@@ -364,8 +321,10 @@ module _ (ex : Lower) (room : ℕ) (right : AreRight room ex) where
       (λ c. all field_parts (c.0 ∷ c.1)) (next_field ex no_fields ⨟ λ first. parts.fields ex first)
   some_fields_read =
       unlook_read near (λ ts left z e. some_end ts left z e)
-      (recast_read _ _ _ _ (λ c. c) (λ c. chain_is (put no_fields c.0) c.1) (λ f. f) (λ f c. c) (λ f. cast.to) (λ f c. cast)
-      (chaining.inner_chain_read has_field one put Good Low Out More near Fits field_parts turning (next_field ex) same (put no_fields) (λ x. Low (put no_fields x)) (Fits no_fields) field_parts (λ z. z)
+      (recast_read _ _ _ _ (λ c. c) (λ c. chain_is (put no_fields c.0) c.1) (λ f. f) (λ f c. c) (λ f. cast.to)
+      (λ f c. cast)
+      (chaining.inner_chain_read has_field one put Good Low Out More near Fits field_parts turning (next_field ex) same
+      (put no_fields) (λ x. Low (put no_fields x)) (Fits no_fields) field_parts (λ z. z)
       (record {
         good = λ a f. tt;
         low = λ a f low. low;
@@ -386,9 +345,17 @@ module _ (ex : Lower) (room : ℕ) (right : AreRight room ex) where
             outside = λ x v fit o. o;
           }) (turn_read {F = Unit {0}} no_fields)
 
-      cast : Recast (chaining.Low_chain has_field one put Good Low Out More near Fits field_parts turning (next_field ex) same (put no_fields) (λ x. Low (put no_fields x)) (Fits no_fields) field_parts (λ z. z)) some_low (chaining.Out_chain has_field one put Good Low Out More near Fits field_parts turning (next_field ex) same (put no_fields) (λ x. Low (put no_fields x)) (Fits no_fields) field_parts (λ z. z))
-          (λ c v. heads (is_sign symbol.RightBrace) v ≡ true) (chaining.fits_chain has_field one put Good Low Out More near Fits field_parts turning (next_field ex) same (put no_fields) (λ x. Low (put no_fields x)) (Fits no_fields) field_parts (λ z. z))
-          (λ c. IsMeasured c.0.1 × AreValued c.1) (chaining.row_chain has_field one put Good Low Out More near Fits field_parts turning (next_field ex) same (put no_fields) (λ x. Low (put no_fields x)) (Fits no_fields) field_parts (λ z. z)) (λ c. all field_parts (c.0 ∷ c.1)) (λ c. c)
+      cast : Recast (chaining.Low_chain has_field one put Good Low Out More near Fits field_parts turning
+          (next_field ex) same (put no_fields) (λ x. Low (put no_fields x)) (Fits no_fields) field_parts
+          (λ z. z)) some_low (chaining.Out_chain has_field one put Good Low Out More near Fits field_parts turning
+          (next_field ex) same (put no_fields) (λ x. Low (put no_fields x)) (Fits no_fields) field_parts (λ z. z))
+          (λ c v. heads (is_sign symbol.RightBrace) v ≡ true)
+          (chaining.fits_chain has_field one put Good Low Out More near Fits field_parts turning (next_field ex) same
+          (put no_fields) (λ x. Low (put no_fields x)) (Fits no_fields) field_parts (λ z. z))
+          (λ c. IsMeasured c.0.1 × AreValued c.1)
+          (chaining.row_chain has_field one put Good Low Out More near Fits field_parts turning (next_field ex) same
+          (put no_fields) (λ x. Low (put no_fields x)) (Fits no_fields) field_parts (λ z. z))
+          (λ c. all field_parts (c.0 ∷ c.1)) (λ c. c)
       cast = record {
         to =
             λ y w i. record {

@@ -1,5 +1,5 @@
 -- Readers that begin with a word.
-use Rattle.std.proofs.Common.{◌≡◌, ℕ, zero, suc, ◌≤◌, Bool, true, false, List, [], ◌∷◌, ◌++◌, length, Option, Some, None, refl}
+use Rattle.std.proofs.Common.{◌≡◌, ℕ, zero, suc, ◌≤◌, Bool, false, List, [], ◌∷◌, ◌++◌, Option, Some, None, refl}
 use Rattle.std.proofs.Common.{sym, ap, subst, ◌∙◌, arith}
 use Rattle.cat_pos.specs.declared.pos.Pos.{Pos}
 use Rattle.cat_lex.specs.declared.token.Token.{Token}
@@ -8,8 +8,9 @@ use Rattle.cat_lex.specs.declared.token.TokenKind.TheVariants as kind
 use Rattle.cat_tree.specs.declared.name.Name.{Name}
 use Rattle.cat_tree.specs.Phrase.{Parts, Word, Terminal, At, Anywhere}
 use Rattle.cat_parse_expr.specs.declared.cue.Cue.{Cue}
-use Rattle.cat_parse_expr.specs.Reader.{Parsed, Reader, Fails, Reads, left_of, after, ◌⨟◌, pure, made_of, one, too_high, with_room}
-use Rattle.cat_parse_expr.specs.Right.{Agree, Begun, Further, Is, Took, Taken, Says, Alike, IsRight}
+use Rattle.cat_parse_expr.specs.Reader.{Parsed, Reader, Fails, Reads, left_of, after, ◌⨟◌, made_of, one, too_high}
+use Rattle.cat_parse_expr.specs.Reader.{with_room}
+use Rattle.cat_parse_expr.specs.Right.{Agree, Begun, Is, Taken, Says, Alike, IsRight}
 use Rattle.cat_parse_expr.specs.Longest.{ReadsAsFar, Stood, KeepsWhole}
 use Rattle.cat_parse_expr.specs.Cues.{kind_of, word_of, lower_of, upper_of, «word», lower, upper}
 use Rattle.cat_parse_expr.proofs.Joining.{no_front}
@@ -49,7 +50,8 @@ one_fails {A = A} take (p ∷ ts) left deep whole e = by (take p) refl e
     )
     by (Some x) e h = absurd cc
 
-module _ {A T : Type 0} (low : T → Type 0) (out : T → List Token → Type 0) (looks : TokenKind → Bool) (fits : T → Type 0)
+module _ {A T : Type 0} (low : T → Type 0) (out : T → List Token → Type 0) (looks : TokenKind → Bool)
+    (fits : T → Type 0)
     (terminal : T → Terminal) (rest : T → Parts) (take : Token → Option A) (at : A → T → Type 0) (r : A → Reader T)
     (m : Terminals fits terminal take at)
     (begun : (ts left : List Token) (x : A) → one take ts ≡ Reads x left
@@ -186,12 +188,14 @@ room_read {g = g} {low = low} {out = out} {looks = looks} {fits = fits} zero ter
       right =
           λ f c bound. blocked_right low out looks fits terminal rest take at (λ x. (next x).reader) m
           (first_begun fits terminal rest take at m (λ x. (next x).alive f))
-          (token_alive low 0 fits terminal rest take at (λ x. (next x).reader) m ((next m.made).alive f)) (high refl f c)
+          (token_alive low 0 fits terminal rest take at (λ x. (next x).reader) m ((next m.made).alive f))
+          (high refl f c)
           bound;
       keeps =
           λ k f c bound. blocked_keeps low out looks fits terminal rest take at (λ x. (next x).reader) m
           (first_begun fits terminal rest take at m (λ x. (next x).alive f))
-          (token_alive low 0 fits terminal rest take at (λ x. (next x).reader) m ((next m.made).alive f)) (high refl f c)
+          (token_alive low 0 fits terminal rest take at (λ x. (next x).reader) m ((next m.made).alive f))
+          (high refl f c)
           bound;
     }
 

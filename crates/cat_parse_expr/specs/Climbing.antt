@@ -1,23 +1,23 @@
 -- The reader of expressions, by precedence climbing.
-use Rattle.std.specs.Prelude.{if◌then◌else◌, ℕ, zero, suc, max, Bool, true, false, not, nat_le, ◌&&◌, List, [], ◌∷◌, length}
-use Rattle.std.specs.Prelude.{Option, Some, None}
+use Rattle.std.specs.Prelude.{if◌then◌else◌, ℕ, zero, suc, max, Bool, false, not, nat_le, ◌&&◌, List}
+use Rattle.std.specs.Prelude.{None}
 use Rattle.cat_lex.specs.declared.token.Token.{Token}
 use Rattle.cat_lex.specs.declared.words.DoubleKeyword.TheVariants as pair
 use Rattle.cat_lex.specs.declared.symbol.Symbol.TheVariants as symbol
-use Rattle.cat_tree.specs.Operators.{operator_kind, operator_level, left_level}
+use Rattle.cat_tree.specs.Operators.{operator_level, left_level}
 use Rattle.cat_pos.specs.declared.pos.Pos.{Pos}
 use Rattle.cat_tree.specs.declared.name.CaseName.{CaseName}
 use Rattle.cat_tree.specs.declared.expression.Operator.{Operator}
 use Rattle.cat_tree.specs.declared.expression.Node.TheViews as node
 use Rattle.cat_parse_expr.specs.declared.behind.Behind.{Behind}
-use Rattle.cat_parse_expr.specs.declared.behind.Behind.TheVariants.{Other, Field, Pattern as Tested}
+use Rattle.cat_parse_expr.specs.declared.behind.Behind.TheVariants.{Pattern as Tested}
 use Rattle.cat_parse_expr.specs.declared.follow.Follow.{Follow}
 use Rattle.cat_parse_expr.specs.declared.follow.Follow.TheVariants as follow
 use Rattle.cat_parse_expr.specs.declared.measured.Measured.{Measured}
 use Rattle.cat_parse_expr.specs.declared.opening.Opening.{Opening}
 use Rattle.cat_parse_expr.specs.declared.opening.Opening.TheVariants as opening
 use Rattle.cat_parse_expr.specs.Measures.{closed, ending}
-use Rattle.cat_parse_expr.specs.Reader.{Parsed, Fails, Reader, ◌⨟◌, pure, nothing, after, heads_second, behind_whole, with_room}
+use Rattle.cat_parse_expr.specs.Reader.{Fails, Reader, ◌⨟◌, pure, nothing, heads_second, behind_whole, with_room}
 use Rattle.cat_parse_expr.specs.Cues.{lower, upper, any_pos}
 use Rattle.cat_parse_expr.specs.Openings.{opening_at, stands, follow_at}
 use Rattle.cat_parse_expr.specs.Parts.{Lower, is_sign, sign, pair_word, case_from, as_many}

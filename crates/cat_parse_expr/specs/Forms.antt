@@ -1,5 +1,5 @@
 -- The readers of the forms of expressions, each beside its row, over a reader of parts that are one lower.
-use Rattle.std.specs.Prelude.{if◌then◌else◌, ℕ, max, Bool, true, false, nat_le, int_lt, ◌&&◌, List, [], ◌∷◌, Option, Some, None}
+use Rattle.std.specs.Prelude.{if◌then◌else◌, ℕ, max, Bool, true, false, nat_le, int_lt, Option, Some, None}
 use Rattle.cat_lex.specs.declared.token.Token.{Token}
 use Rattle.cat_lex.specs.declared.token.TokenKind.{TokenKind}
 use Rattle.cat_lex.specs.declared.token.TokenKind.TheVariants as kind
@@ -27,10 +27,9 @@ use Rattle.cat_tree.specs.declared.expression.Node.TheViews as node
 use Rattle.cat_parse_expr.specs.declared.cue.Cue.{Cue}
 use Rattle.cat_parse_expr.specs.declared.cue.Cue.TheVariants as cue
 use Rattle.cat_parse_expr.specs.declared.behind.Behind.{Behind}
-use Rattle.cat_parse_expr.specs.declared.behind.Behind.TheVariants.{Other, Pattern as Tested}
 use Rattle.cat_parse_expr.specs.declared.measured.Measured.{Measured}
 use Rattle.cat_parse_expr.specs.Measures.{leaf, closed, ending, form, no_fields}
-use Rattle.cat_parse_expr.specs.Reader.{Reader, ◌⨟◌, pure, one, by_word, hidden, behind_whole, with_room}
+use Rattle.cat_parse_expr.specs.Reader.{Reader, ◌⨟◌, pure, one, by_word, behind_whole, with_room}
 use Rattle.cat_parse_expr.specs.Cues.{cue_is, «word», lower, upper}
 use Rattle.cat_parse_expr.specs.Types.{a_type}
 use Rattle.cat_parse_expr.specs.Parts.{Lower, key_word, pair_word, sign, is_sign, inner, elements, next_field, fields}

@@ -1,5 +1,5 @@
 -- Expressions with what counts of them: how high they are, how they stand as left operands, whether they end in a match.
-use Rattle.std.specs.Prelude.{ℕ, suc, max, nat_eq, cond, Bool, true, false, List, [], ◌∷◌, ◌++◌}
+use Rattle.std.specs.Prelude.{ℕ, suc, max, nat_eq, cond, Bool, false, [], ◌∷◌, ◌++◌}
 use Rattle.cat_tree.specs.declared.name.Name.{Name}
 use Rattle.cat_tree.specs.declared.expression.Pattern.{Pattern}
 use Rattle.cat_tree.specs.declared.expression.Node.{Node}

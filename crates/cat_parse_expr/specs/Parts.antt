@@ -1,5 +1,5 @@
 -- The readers of the parts of forms: elements, arguments, fields and arms.
-use Rattle.std.specs.Prelude.{if◌then◌else◌, ℕ, Bool, true, false, not, ◌&&◌, int_lt, List, length, Option, Some, None}
+use Rattle.std.specs.Prelude.{ℕ, Bool, true, false, not, ◌&&◌, List, length, Some, None}
 use Rattle.cat_lex.specs.declared.token.Token.{Token}
 use Rattle.cat_lex.specs.declared.token.TokenKind.{TokenKind}
 use Rattle.cat_lex.specs.declared.token.TokenKind.TheVariants as kind
@@ -21,7 +21,7 @@ use Rattle.cat_parse_expr.specs.declared.measured.Measured.{Measured}
 use Rattle.cat_parse_expr.specs.declared.measured.Elements.{Elements}
 use Rattle.cat_parse_expr.specs.declared.measured.Fields.{Fields}
 use Rattle.cat_parse_expr.specs.declared.measured.MatchArms.{MatchArms}
-use Rattle.cat_parse_expr.specs.Measures.{with_element, with_field, with_arm, no_elements, no_fields, no_arms}
+use Rattle.cat_parse_expr.specs.Measures.{with_element, with_field, with_arm, no_elements, no_arms}
 use Rattle.cat_parse_expr.specs.Reader.{Reader, ◌⨟◌, pure, by_word, turns, heads, heads_second, hidden, behind_whole}
 use Rattle.cat_parse_expr.specs.Cues.{cue_is, «word», lower, upper}
 

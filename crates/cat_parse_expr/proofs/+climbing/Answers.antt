@@ -1,4 +1,4 @@
-use Rattle.std.proofs.Common.{◌≡◌, ◌∙◌, Err, drop, sym, ap, rules, refl, suc, zero, arith}
+use Rattle.std.proofs.Common.{◌∙◌, Err, drop, sym, ap, rules, refl, arith}
 use Rattle.std.proofs.lemmas.Result.{err_from_is_err_and}
 use Rattle.cat_parse_expr.specs.Climbing.{goes_on, step, operand, step_by, operated, selected, tested}
 use Rattle.cat_parse_expr.specs.Forms as forms

@@ -1,5 +1,4 @@
-use Rattle.std.proofs.Common.{List, drop, subst, sym, ap, ◌∙◌}
-use Rattle.cat_lex.specs.declared.token.Token.{Token}
+use Rattle.std.proofs.Common.{drop, subst, sym, ap, ◌∙◌}
 use Rattle.cat_tree.specs.declared.expression.Node.{Node}
 use Rattle.cat_tree.specs.Spells.{IsFront}
 use Rattle.cat_parse_expr.specs.Reach.{Found}

@@ -1,5 +1,4 @@
 use Rattle.std.proofs.Common.{rules}
-use Rattle.std.proofs.lemmas.Result.{err_from_is_err_and}
 use Rattle.cat_parse_expr.specs.Parts.{case_from}
 use Rattle.cat_parse_expr.specs.Places.{Gives}
 use Rattle.cat_parse_expr.specs.Reader.{behind_whole}

@@ -1,4 +1,4 @@
-use Rattle.std.proofs.Common.{◌≡◌, ◌+◌, suc, drop, sym, ap, ◌∙◌, arith}
+use Rattle.std.proofs.Common.{sym, ◌∙◌}
 use Rattle.cat_parse_expr.proofs.Seconds.{second_is}
 use Rattle.cat_parse_expr.proofs.words.is_second.Goals as goal
 
