@@ -12,7 +12,8 @@ use Rattle.cat_value.specs.declared.value.Value.{Value}
 use Rattle.cat_value.specs.declared.declaration.ItemDecl.{ItemDecl}
 use Rattle.cat_value.specs.declared.decls.Decls.{Decls}
 use Rattle.cat_answer.specs.Writes.{data_of, inputs_data}
-use Rattle.cat_answer.specs.Answer.{is_output, outputs_of, outputs_data}
+use Rattle.cat_answer.specs.Answer.{outputs_data}
+use Rattle.cat_value.specs.Inputs.{is_output, outputs_in}
 use Rattle.cat_answer.proofs.WriteEquations.{drop-get, drop-past}
 
 -- a variable that is given
@@ -60,8 +61,8 @@ pub outputs_data-next : (ds : Decls) (entries new : List Entry) (is : List ItemD
     (i : ItemDecl) (v : Value) (key : String Global) (written : Json)
     → n < length is → i ≡ get_or is n i → is_output i.kind ≡ true → slice_get vs m ≡ Some v
     → string_bytes key ≡ i.name → view written ≡ data_of ds v i.ty → new ≡ insert_entry string_cmp entries key written
-    → outputs_data ds (outputs_of (drop (n + 1) is)) (drop (m + 1) vs) (members_view new) ≡ outputs_data ds
-    (outputs_of (drop n is)) (drop m vs) (members_view entries)
+    → outputs_data ds (outputs_in (drop (n + 1) is)) (drop (m + 1) vs) (members_view new) ≡ outputs_data ds
+    (outputs_in (drop n is)) (drop m vs) (members_view entries)
 outputs_data-next ds entries new is vs n m i v key written within at output holds name seen inserted =
     rw (
       inserted,
@@ -86,5 +87,5 @@ pub outputs_data-past : (ds : Decls) (is : List ItemDecl) (vs : List Value) (m :
 outputs_data-past ds is vs m others e = rw (drop-past vs m e) (outputs_data-none ds is others)
 
 pub outputs_data-end : (ds : Decls) (is : List ItemDecl) (vs : List Value) (n m : ℕ) (others : Members) → length is ≤ n
-    → outputs_data ds (outputs_of (drop n is)) (drop m vs) others ≡ others
+    → outputs_data ds (outputs_in (drop n is)) (drop m vs) others ≡ others
 outputs_data-end ds is vs n m others h = rw (drop_all n is h) refl

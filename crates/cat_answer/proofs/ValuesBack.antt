@@ -4,7 +4,7 @@ use Rattle.std.proofs.Common.{◌∷◌}
 use Rattle.std.proofs.Common.{length, Option, Some, None, Ok, codes, nat_le, slice_get}
 use Rattle.std.proofs.Common.{bytes_eq, refl, sym, ap, subst, ◌∙◌, arith}
 use Rattle.std.specs.Option.{option_map}
-use Rattle.serde_json.specs.Data.{Data, boolean, string, array, object, Members, no_members, member, put}
+use Rattle.serde_json.specs.Data.{boolean, string, array, object, Members, no_members, member, put}
 use Rattle.serde_json.specs.Find.{get_member}
 use Rattle.serde_json.proofs.Views.{get_member-put, get_member-put_other}
 use Rattle.cat_num.specs.Whole.{fits}
@@ -58,11 +58,6 @@ IsReadBack ds v = (t : Ty) → IsTrue (has_type ds v t) → read_as ds (data_of 
 -- that the texts of days are read as these days
 abbrev pub DaysAreRead : Type 0
 DaysAreRead = (n : ℤ) → IsDay n → day_of_text (day_text n) ≡ Ok n
-
--- what is written is read so
-by_data : (ds : Decls) (v : Value) (t : Ty) (y : Ty-F Ty) (d : Data) → out-Ty t ≡ y → data_of ds v t ≡ d
-    → read_as ds d t ≡ Ok v → read_as ds (data_of ds v t) t ≡ Ok v
-by_data ds v t y d q e h = ap (λ x. read_as ds x t) e ∙ h
 
 boolean_back : (ds : Decls) (b : Bool) → IsReadBack ds (flat.Boolean b)
 boolean_back ds b t h = by (out-Ty t) refl (rw (has_type_Boolean ds b t) at h)

@@ -20,7 +20,8 @@ use Rattle.cat_value.proofs.Exported.{Each, Within, value_induction}
 use Rattle.cat_answer.specs.Writes.{data_of, integer_data, input_data, inputs_data}
 use Rattle.cat_answer.specs.WrittenParts.{items_data, members_data, list_written, fields_written, structure_written}
 use Rattle.cat_answer.specs.WrittenParts.{content_written, case_written, numbered_written, enumeration_written}
-use Rattle.cat_answer.specs.Answer.{outputs_of, outputs_data, outputs_object}
+use Rattle.cat_answer.specs.Answer.{outputs_data, outputs_object}
+use Rattle.cat_value.specs.Inputs.{outputs_in}
 use Rattle.cat_answer.proofs.WriteEquations.{data_of_Boolean, data_of_Integer, data_of_Decimal, data_of_Money}
 use Rattle.cat_answer.proofs.WriteEquations.{data_of_Date, data_of_Duration, data_of_List, data_of_Structure}
 use Rattle.cat_answer.proofs.WriteEquations.{data_of_Case}
@@ -139,6 +140,6 @@ no_float-outputs ds (i ∷ is) (v ∷ vs) others none =
     (no_float-put i.name (data_of ds v i.ty) others (no_float ds v i.ty) none)
 
 pub no_float-object : (ds : Decls) (is : List ItemDecl) (vs : List Value) → has_float (outputs_object ds is vs) ≡ false
-no_float-object ds is vs = no_float-outputs ds (outputs_of is) vs no_members refl
+no_float-object ds is vs = no_float-outputs ds (outputs_in is) vs no_members refl
 
 pub ruleset shape = (no_float, no_float-input, no_float-object)

@@ -1,5 +1,5 @@
 -- The line that tells an outcome. Where a number names no entry, its name is empty.
-use Rattle.std.specs.Prelude.{ℕ, Bool, true, false, List, [], ◌∷◌, ◌++◌, slice_get, if◌then◌else◌, Option, Some, None}
+use Rattle.std.specs.Prelude.{ℕ, List, [], ◌∷◌, ◌++◌, slice_get, Option, Some, None}
 use Rattle.std.specs.Prelude.{codes, decimal, option_map, unwrap_or}
 use Rattle.serde_json.specs.Data.{Data, Members, no_members, object, put}
 use Rattle.serde_json.specs.Written.{compact_text}
@@ -7,10 +7,11 @@ use Rattle.cat_pos.specs.Position.{pos_file, pos_column}
 use Rattle.cat_pos.specs.declared.pos.Pos.{Pos}
 use Rattle.cat_value.specs.declared.value.Value.{Value}
 use Rattle.cat_value.specs.declared.declaration.Kind.{Kind}
-use Rattle.cat_value.specs.declared.declaration.Kind.TheVariants.{Output, InputOutput, ContextOutput, Called}
+use Rattle.cat_value.specs.declared.declaration.Kind.TheVariants.{Called}
 use Rattle.cat_value.specs.declared.declaration.ItemDecl.{ItemDecl}
 use Rattle.cat_value.specs.declared.declaration.Scope.{Scope}
 use Rattle.cat_value.specs.declared.decls.Decls.{Decls}
+use Rattle.cat_value.specs.Inputs.{outputs_in}
 use Rattle.cat_value.specs.declared.outcome.Target.{Target}
 use Rattle.cat_value.specs.declared.outcome.FaultKind.{FaultKind}
 use Rattle.cat_value.specs.declared.outcome.FaultKind.TheVariants as fault
@@ -18,18 +19,6 @@ use Rattle.cat_value.specs.declared.outcome.Outcome.{Outcome}
 use Rattle.cat_value.specs.declared.outcome.Outcome.TheVariants as outcome
 use Rattle.cat_json.specs.InputsRead.{items_of}
 use Rattle.cat_answer.specs.Writes.{data_of}
-
--- whether an item is an output of its scope
-abbrev pub is_output : Kind → Bool
-is_output Output = true
-is_output InputOutput = true
-is_output ContextOutput = true
-is_output kind = false
-
--- the outputs of a scope that has these items
-abbrev pub outputs_of : List ItemDecl → List ItemDecl
-outputs_of [] = []
-outputs_of (i ∷ is) = if is_output i.kind then i ∷ outputs_of is else outputs_of is
 
 -- a member for each output and its value, besides some others
 abbrev pub outputs_data : Decls → List ItemDecl → List Value → Members → Members
@@ -39,7 +28,7 @@ outputs_data ds (i ∷ is) (v ∷ vs) others = outputs_data ds is vs (put i.name
 
 -- the object of the outputs of a scope that has these items
 abbrev pub outputs_object : Decls → List ItemDecl → List Value → Data
-outputs_object ds is vs = object (outputs_data ds (outputs_of is) vs no_members)
+outputs_object ds is vs = object (outputs_data ds (outputs_in is) vs no_members)
 
 -- a text, or nothing where there is none
 abbrev pub text_or_nothing : Option (List ℕ) → List ℕ

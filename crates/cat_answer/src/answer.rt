@@ -102,7 +102,7 @@ fn outputs_text(
 }
 
 /// `S.x`, or `S.t.x` for an item of a called scope.
-fn target_text(alloc: Global, target: Target, decls: &Decls) -> Result<String, AllocError>
+pub fn target_text(alloc: Global, target: Target, decls: &Decls) -> Result<String, AllocError>
     ensures { IfOk result (λ text. string_bytes text ≡ answers.target_text decls.now target) }
 {
     match decls.scopes.get(target.scope as usize) {

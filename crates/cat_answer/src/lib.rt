@@ -5,7 +5,9 @@ mod answer;
 mod members;
 mod writing;
 
-pub use answer::{answer_text, fault_text, input_text, named_position, position_text, value_text};
+pub use answer::{
+    answer_text, fault_text, input_text, named_position, position_text, target_text, value_text,
+};
 
 #[cfg(test)]
 mod tests;

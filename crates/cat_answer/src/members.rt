@@ -3,10 +3,11 @@ ghost use Rattle.std.specs.Prelude.{◌≡◌, IfOk};
 ghost use Rattle.serde_json.specs.Data.{object, no_members};
 ghost use Rattle.serde_json.specs.View.{view};
 ghost use Rattle.cat_answer.specs.Writes.{input_data};
-ghost use Rattle.cat_answer.specs.Answer.{is_output, outputs_of, outputs_data, outputs_object};
+ghost use Rattle.cat_answer.specs.Answer.{outputs_data, outputs_object};
+ghost use Rattle.cat_value.specs.Inputs.{outputs_in};
 
 use crate::writing::value_json;
-use cat_value::{Decls, Input, ItemDecl, ItemDecls, Kind, Value, Values};
+use cat_value::{Decls, Input, ItemDecl, ItemDecls, Value, Values};
 use serde_json::{Map, Value as Json};
 use std::alloc::{AllocError, Global};
 
@@ -47,7 +48,7 @@ pub(crate) fn outputs_json(
     let mut members = Map::new(alloc);
     let mut number = 0;
     for item in items.as_slice() {
-        if !is_output(item.kind) {
+        if !item.kind.is_output() {
             continue;
         }
         let value = match values.get(number) {
@@ -59,13 +60,4 @@ pub(crate) fn outputs_json(
         number += 1;
     }
     Ok(Json::Object(members))
-}
-
-fn is_output(kind: Kind) -> bool
-    ensures { result ≡ is_output kind }
-{
-    match kind {
-        Kind::Output | Kind::InputOutput | Kind::ContextOutput => true,
-        Kind::Input | Kind::Internal | Kind::Context | Kind::Called(_) => false,
-    }
 }

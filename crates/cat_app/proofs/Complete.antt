@@ -2,7 +2,7 @@
 use Rattle.std.proofs.Common.{◌≡◌, ◌∙◌, ◌≤◌, ◌<◌, ℕ, List, [], refl, sym, ap, subst, inl, inr, arith, ⊎_elim}
 use Rattle.std.specs.Prelude.{◌⊎◌, Option, Some, None, Ok, IsSomeAnd, IfSome, IsNone, IsTrue, length}
 use Rattle.std.specs.Io.KnownBytes.{Appends}
-use Rattle.cat_pos.specs.declared.limits.TheConstants.{MOST_INPUT_BYTES}
+use Rattle.cat_pos.specs.Limits.{most_input_bytes}
 use Rattle.cat_io.specs.Shelf.{Shelved}
 use Rattle.cat_io.specs.Sink.{Sunk, Took}
 use Rattle.cat_value.specs.declared.value.Value.{Value}
@@ -210,7 +210,7 @@ module _ (one_program : IsOneProgram) (not_accepted : AreNotAccepted) (endings :
   -- ---- where the file that EXTRA names is told
 
   module _ (extra : List ℕ) (extra_told : old.content request.extra ≡ Some extra)
-      (extra_short : length extra ≤ MOST_INPUT_BYTES) where
+      (extra_short : length extra ≤ most_input_bytes) where
     extra_is : (other : List ℕ) → IsExtra request old other → other ≡ extra
     extra_is other read =
         of_told (λ content. other ≡ content) (old.content request.extra) extra extra_told read.content

@@ -1,59 +1,36 @@
 -- Which replies the steps of a drill lead to.
 use Rattle.std.proofs.Common.{◌≡◌, ◌∙◌, ℕ, ℤ, List, [], ◌∷◌, ◌++◌, refl, sym, ap, subst}
-use Rattle.std.specs.Prelude.{None, Some, Ok, Err, String, Vec, codes, string_bytes}
+use Rattle.std.specs.Prelude.{None, Some, Ok, Err, codes, string_bytes}
 use Rattle.std.specs.Fmt.{decimal, signed_decimal}
-use Rattle.std.specs.declared.alloc.Global.{Global}
 use Rattle.cat_io.specs.Shelf.{Shelved}
-use Rattle.cat_io.specs.Stored.{content_of}
 use Rattle.cat_pos.specs.declared.pos.Pos.{Pos}
 use Rattle.cat_value.specs.declared.outcome.Outcome.{Outcome}
 use Rattle.cat_value.specs.declared.outcome.Outcome.TheVariants as outcome
 use Rattle.cat_scope.specs.declared.programs.Program.{Program}
 use Rattle.cat_scope.specs.Named.{number_named}
-use Rattle.cat_answer.specs.Answer.{position_text}
 use Rattle.cat_json.specs.declared.refusal.InputRefusal.{InputRefusal}
 use Rattle.cat_weave.specs.declared.source.Source.{Source}
 use Rattle.cat_weave.specs.declared.source.GatherRefusal.{GatherRefusal}
 use Rattle.cat_weave.specs.declared.source.GatherRefusal.TheVariants as gathering
-use Rattle.cat_weave.specs.Gathered.{Contents}
 use Rattle.cat_weave.specs.Causes.{AreReadableTogether, HasCause}
 use Rattle.cat_build.specs.declared.Built.{Built}
-use Rattle.cat_build.specs.declared.code.Code.{Code}
 use Rattle.cat_build.specs.Accepted.{IsAccepted}
 use Rattle.cat_build.specs.Built.{IsBuiltOf}
-use Rattle.cat_build.specs.Causes.{StandsAt}
-use Rattle.cat_build.specs.Codes.{number_of}
 use Rattle.cat_audit.specs.declared.report.Section.{Section}
 use Rattle.cat_audit.specs.declared.report.Verdict.{Verdict}
 use Rattle.cat_audit.specs.Reports.{last_verdict}
 use Rattle.cat_audit.specs.ReportLines.{verdict_text}
-use Rattle.cat_app.specs.Texts.{drill_text}
 use Rattle.cat_app.specs.Runs.{IsFirstRefused, IsFirstStop, IsValue}
 use Rattle.cat_app.specs.Asked.{IsAsked, IsSource}
-use Rattle.cat_app.specs.Answers.{line, refusal_line, status_of}
+use Rattle.cat_app.specs.Answers.{line, status_of}
 use Rattle.cat_app.specs.Drills.{HasLine, HasRefusedRun, HasStop, IsOfBands, bands_request, bands_shelf, drill_line}
-use Rattle.cat_app.specs.Drills.{one_file}
 use Rattle.cat_app.specs.Table.{MayAnswer, MayDrill}
 use Rattle.cat_app.specs.inside.Says.{MaySay, Says, SaysGathering, SaysInput, SaysOutcome}
 use Rattle.cat_app.specs.inside.SaysOfBands.{GathersBands, MaySayOfBands, RefusesBands, SaysLine}
 use Rattle.cat_app.specs.declared.reply.Reply.{Reply}
 use Rattle.cat_app.specs.declared.status.Status.{Status}
 use Rattle.cat_app.specs.declared.status.Status.TheVariants.{Source as SourceStatus, Usage}
-use Rattle.cat_app.proofs.Replies.{asked_for, no_program, no_scope, no_source}
-
--- ---- the shelf
-
--- a shelf of these contents, of which no name was listed
-abbrev pub unlisted : Contents → Shelved
-unlisted content = record { content = content; misses = []; faults = []; longs = [] }
-
-pub one_stored : (bands : ℕ) (shelf : Shelved) (files : List (String Global × Vec ℕ Global)) (name : String Global)
-    (bytes : Vec ℕ Global) → shelf ≡ unlisted (content_of files) → files ≡ (name, bytes) ∷ []
-    → string_bytes name ≡ codes "none" → bytes.items ≡ drill_text bands → shelf ≡ bands_shelf bands
-one_stored bands shelf files name bytes is files_are name_is text_is =
-    is ∙ (ap (λ (fs : List (String Global × Vec ℕ Global)). unlisted (content_of fs)) files_are
-    ∙ (ap (λ (n : List ℕ). unlisted (one_file n bytes.items)) name_is
-    ∙ ap (λ (t : List ℕ). unlisted (one_file (codes "none") t)) text_is))
+use Rattle.cat_app.proofs.Replies.{asked_for, no_scope, no_source}
 
 -- ---- gathering
 
@@ -97,13 +74,6 @@ pub scope_refused : (bands : ℕ) (reply : Reply) → reply.status ≡ Usage
 scope_refused bands reply is may = subst (λ (st : Status). MayDrill bands st (string_bytes reply.text)) (sym is)
     (subst (λ (st : Status).
     MayAnswer bands_request (bands_shelf bands) (bands_shelf bands) st (string_bytes reply.text)) is may)
-
-pub no_bands_program : (bands : ℕ) (source : Source) (found : Code) (pos : Pos) (reply : Reply)
-    → IsSource bands_request (bands_shelf bands) source → StandsAt source.pieces found pos
-    → Says SourceStatus (refusal_line (number_of found) (position_text source.files pos)) reply
-    → MaySayOfBands bands reply
-no_bands_program bands source found pos reply read stands says = source_refused bands reply says.0
-    (no_program bands_request (bands_shelf bands) (bands_shelf bands) source found pos reply read stands refl says)
 
 pub no_bands_scope : (bands : ℕ) (source : Source) (program : Program) (reply : Reply)
     → IsSource bands_request (bands_shelf bands) source → IsAccepted source.pieces program

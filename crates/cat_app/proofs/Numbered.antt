@@ -57,3 +57,17 @@ pub unnamed : {E : Type 0} (text : List ℕ) (r : Result ℕ E) → ParsesUnsign
 unfolding bands_in
 unnamed text r parses none = finds_none 1000 text (λ n some within is.
     none n (parse-decimal 32 n text r (omega (arith, within)) (omega (arith, within)) is parses) some within is)
+
+-- ---- worked examples
+
+as_many_bands_as_may_be : bands_in (decimal 1000) ≡ Some 1000
+as_many_bands_as_may_be = named (decimal 1000) 1000 (omega arith) (omega arith) refl
+
+one_band_too_many : bands_in (decimal 1001) ≡ None
+unfolding bands_in
+one_band_too_many = finds_none 1000 (decimal 1001) none
+  where
+    none : (n : ℕ) → 0 < n → n ≤ 1000 → decimal 1001 ≡ decimal n → ⊥
+    none n some within is =
+        let same : 1001 ≡ n = decimal_injective 1001 n (omega arith) (omega (arith, within)) is in
+        omega (arith, same, within)

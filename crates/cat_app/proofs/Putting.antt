@@ -2,32 +2,12 @@
 use Rattle.std.proofs.Common.{◌≡◌, ℕ, true, List, ⊎_elim}
 use Rattle.std.specs.Prelude.{Option, None, Some}
 use Rattle.cat_io.specs.Shelf.{Shelved}
-use Rattle.cat_io.specs.Sink.{Sunk, Took}
+use Rattle.cat_io.specs.Sink.{Sunk}
 use Rattle.cat_app.specs.Words.{Ask, OfBands, OfScope, Request, ask_of}
-use Rattle.cat_app.specs.Table.{Answers, MayAnswer, MayAnswerTo, MayReply}
+use Rattle.cat_app.specs.Table.{Answers, MayAnswer, MayAnswerTo}
 use Rattle.cat_app.specs.Complete.{is_reply}
 use Rattle.cat_app.specs.declared.status.Status.{Status}
 use Rattle.cat_app.specs.declared.status.Status.TheVariants as status
-
--- no text comes with want of memory or with a fault of the sink
-no_fault_text : (o : Option Ask) (old new : Shelved) (text : List ℕ) → MayAnswerTo o old new status.WriteFault text → ⊥
-no_fault_text None old new text may = cc may.ended_is
-no_fault_text (Some (OfScope request)) old new text may = may
-no_fault_text (Some (OfBands bands)) old new text may = may.1
-
-no_memory_text : (o : Option Ask) (old new : Shelved) (text : List ℕ) → MayAnswerTo o old new status.Memory text → ⊥
-no_memory_text None old new text may = cc may.ended_is
-no_memory_text (Some (OfScope request)) old new text may = may
-no_memory_text (Some (OfBands bands)) old new text may = may.1
-
--- a text that may come and was taken is an answer
-pub taken_answers : (words : List (List ℕ)) (old new : Shelved) (sink sunk : Sunk) (ended : Status) (text : List ℕ)
-    → MayReply words old new ended text → Took sink sunk text → Answers words old new sink sunk ended
-taken_answers words old new sink sunk status.WriteFault text may took =
-    absurd (no_fault_text (ask_of words) old new text may)
-taken_answers words old new sink sunk status.Memory text may took =
-    absurd (no_memory_text (ask_of words) old new text may)
-taken_answers words old new sink sunk _ text may took = (text, may, took)
 
 -- ---- where the shelf is as it was
 

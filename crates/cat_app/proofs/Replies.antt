@@ -3,9 +3,8 @@ use Rattle.std.proofs.Common.{◌≡◌, ◌≢◌, ◌∙◌, ◌<◌, ◌+◌,
 use Rattle.std.proofs.Common.{sym, subst, inl, inr, arith}
 use Rattle.std.specs.Prelude.{Option, Some, None, Result, Ok, Err, IfOk, codes, length, string_bytes, if◌then◌else◌}
 use Rattle.std.specs.Prelude.{bytes_eq, IsTrue, max}
-use Rattle.cat_pos.specs.declared.limits.TheConstants.{MOST_INPUT_BYTES}
-use Rattle.cat_pos.specs.declared.pos.Pos.{Pos}
-use Rattle.cat_io.specs.Shelf.{Shelved, Reads, Keeps, GrowsBy}
+use Rattle.cat_pos.specs.Limits.{most_input_bytes}
+use Rattle.cat_io.specs.Shelf.{Shelved, Reads}
 use Rattle.cat_io.specs.declared.shelf.ShelfFault.{ShelfFault}
 use Rattle.cat_io.specs.declared.shelf.ShelfFault.TheVariants as shelf
 use Rattle.cat_value.specs.declared.value.Value.{Value}
@@ -21,90 +20,32 @@ use Rattle.cat_audit.specs.Reports.{last_verdict}
 use Rattle.cat_json.specs.declared.refusal.InputRefusal.{InputRefusal}
 use Rattle.cat_json.specs.declared.refusal.InputRefusal.TheVariants as refused
 use Rattle.cat_json.specs.InputsRead.{input_read}
-use Rattle.cat_answer.specs.Answer.{position_text}
 use Rattle.cat_weave.specs.declared.source.Source.{Source}
 use Rattle.cat_weave.specs.declared.source.GatherRefusal.{GatherRefusal}
 use Rattle.cat_weave.specs.declared.source.GatherRefusal.TheVariants as gathering
 use Rattle.cat_weave.specs.Gathered.{limit_after}
 use Rattle.cat_weave.specs.Causes.{HasCause}
 use Rattle.cat_build.specs.declared.Built.{Built}
-use Rattle.cat_build.specs.declared.code.Code.{Code}
 use Rattle.cat_build.specs.Accepted.{IsAccepted}
 use Rattle.cat_build.specs.Built.{IsBuiltOf}
-use Rattle.cat_build.specs.Causes.{StandsAt}
-use Rattle.cat_build.specs.Codes.{number_of}
 use Rattle.cat_words.specs.Asked.{IsCases}
 use Rattle.cat_words.proofs.Exported.{cases_within}
-use Rattle.cat_app.specs.Words.{Ask, Request, IsMost, ask_of, reads_extra}
+use Rattle.cat_app.specs.Words.{Request, IsMost, reads_extra}
 use Rattle.cat_app.specs.Asked.{IsSource, IsExtra, IsAsked, IsReadNow}
 use Rattle.cat_app.specs.declared.request.Mode.TheVariants.{Run, Audit, Check}
 use Rattle.cat_app.specs.Audits.{IsAudited, status_at}
 use Rattle.cat_app.specs.Checks.{HasCertificate, HasNoCertificate, IsChecked}
-use Rattle.cat_app.specs.Answers.{IsOutcome, input_line, refusal_line, line, status_of}
-use Rattle.cat_app.specs.Table.{MayAnswer, MayAnswerTo, MayReply, ListsOne}
+use Rattle.cat_app.specs.Answers.{IsOutcome, input_line, line, status_of}
+use Rattle.cat_app.specs.Table.{MayAnswer}
 use Rattle.cat_app.specs.inside.Says.{Says, SaysChecked, SaysFault, SaysGathering}
 use Rattle.cat_app.specs.inside.Says.{SaysInput, SaysOf, SaysReport, MaySay}
 use Rattle.cat_app.specs.declared.reply.Reply.{Reply}
-use Rattle.cat_app.specs.declared.status.Status.{Status}
-use Rattle.cat_app.specs.declared.status.Status.TheVariants.{Source as SourceStatus, Usage}
+use Rattle.cat_app.specs.declared.status.Status.TheVariants.{Usage}
 
 -- of a result, what a fact leads to
 pub if_ok : {A E : Type 0} {P Q : A → Type 0} (r : Result A E) → IfOk r P → ((a : A) → P a → Q a) → IfOk r Q
 if_ok (Ok a) p step = step a p
 if_ok (Err e) p step = tt
-
--- what may answer what is asked may reply to its words
-pub answered : (words : List (List ℕ)) (o : Option Ask) (old new : Shelved) (ended : Status) (text : List ℕ)
-    → o ≡ ask_of words → MayAnswerTo o old new ended text → MayReply words old new ended text
-answered words o old new ended text is may = subst (λ (a : Option Ask). MayAnswerTo a old new ended text) is may
-
--- ---- what is listed
-
-none_more : (name : List ℕ) (names : List (List ℕ)) → GrowsBy name names names
-none_more name names = record { no_fewer = λ n. omega arith; no_other = λ n other. refl }
-
--- where the shelf is as it was, no name was listed
-pub lists_none : (old new : Shelved) → new ≡ old → ListsOne old new
-lists_none old new same = subst (λ (s : Shelved). ListsOne old s) (sym same) (record {
-  name = [];
-  keeps = record {
-    told = refl;
-    lists = record {
-      misses = none_more [] old.misses;
-      faults = none_more [] old.faults;
-      longs = none_more [] old.longs;
-    };
-  };
-})
-
-pub lists_one : (name : List ℕ) (old new : Shelved) → Keeps name old new → ListsOne old new
-lists_one name old new keeps = record { name = name; keeps = keeps }
-
--- a refused read lists its own name
-pub read_lists : (name : List ℕ) (limit : ℕ) (old new : Shelved) (fault : ShelfFault)
-    → Reads name limit old new (Err fault) → ListsOne old new
-read_lists name limit old new shelf.Missing reads = lists_one name old new reads.0
-read_lists name limit old new shelf.Failed reads = lists_one name old new reads.0
-read_lists name limit old new shelf.Long reads = lists_one name old new reads.0
-read_lists name limit old new shelf.Memory reads = lists_one name old new reads
-
--- and so does refused gathering
-pub gather_lists : (old new : Shelved) (main : List ℕ) (refusal : GatherRefusal) → HasCause old new main (Err refusal)
-    → ListsOne old new
-gather_lists old new main (gathering.NotUtf8 name pos) cause = lists_none old new cause.0
-gather_lists old new main (gathering.FenceOpen name pos) cause = lists_none old new cause.0
-gather_lists old new main (gathering.IncludeTwice name pos) cause = lists_none old new cause.0
-gather_lists old new main (gathering.Missing name) cause =
-    read_lists name (limit_after cause.0) old new shelf.Missing cause.2
-gather_lists old new main (gathering.ReadFault name) cause =
-    read_lists name (limit_after cause.0) old new shelf.Failed cause.2
-gather_lists old new main (gathering.TooLarge name) cause =
-    read_lists name (limit_after cause.0) old new shelf.Long cause.2
-gather_lists old new main gathering.Memory cause = lists_one cause.0 old new cause.1
-
--- what is told stays
-pub lists_told : (old new : Shelved) → ListsOne old new → new.content ≡ old.content
-lists_told old new lists = lists.keeps.told
 
 -- ---- replies
 
@@ -154,21 +95,6 @@ no_source request old new (gathering.TooLarge name) reply cause says =
     refused_now request old new name (limit_after cause.0) shelf.Long reply (inl (cause.0, cause.1, refl)) cause.2 says
 no_source request old new gathering.Memory reply cause says = absurd says
 
--- this stands in the source
-pub no_program : (request : Request) (old new : Shelved) (source : Source) (found : Code) (pos : Pos) (reply : Reply)
-    → IsSource request old source → StandsAt source.pieces found pos → new ≡ old
-    → Says SourceStatus (refusal_line (number_of found) (position_text source.files pos)) reply
-    → MaySay request old new reply
-no_program request old new source found pos reply read stands same says = rw says.0 (inr (record {
-  source = source;
-  code = found;
-  pos = pos;
-  source_read = read;
-  stands = stands;
-  untouched = same;
-  reply = says.1;
-}))
-
 -- the source declares no such scope
 pub no_scope : (request : Request) (old new : Shelved) (source : Source) (program : Program) (reply : Reply)
     → IsSource request old source → IsAccepted source.pieces program
@@ -194,11 +120,11 @@ asked_for request old source built scope read is named =
 
 -- the input can't be read
 pub no_extra : (request : Request) (old new : Shelved) (source : Source) (program : Program) (scope : ℕ)
-    (fault : ShelfFault) (reply : Reply) → Reads request.extra MOST_INPUT_BYTES old new (Err fault)
+    (fault : ShelfFault) (reply : Reply) → Reads request.extra most_input_bytes old new (Err fault)
     → SaysFault request.extra fault reply → IsAsked request old source program scope
     → IsTrue (reads_extra request.mode) → MaySay request old new reply
 no_extra request old new source program scope fault reply read says asked mode =
-    refused_now request old new request.extra MOST_INPUT_BYTES fault reply
+    refused_now request old new request.extra most_input_bytes fault reply
     (inr (refl, refl, mode, (source, program, scope, asked))) read says
 
 -- the input is none of the scope's

@@ -1,14 +1,13 @@
 -- The runs of a drill, one after the other.
-use Rattle.std.proofs.Common.{◌≡◌, ◌∙◌, ◌+◌, ◌*◌, ◌<◌, ℕ, ℤ, ◌+ℤ◌, sym, ap, subst}
-use Rattle.std.specs.Prelude.{None, Some, Err}
+use Rattle.std.proofs.Common.{◌≡◌, ◌∙◌, ◌+◌, ◌*◌, ℕ, ℤ, ◌+ℤ◌, sym, ap, subst}
+use Rattle.std.specs.Prelude.{Some}
 use Rattle.cat_value.specs.declared.outcome.Outcome.{Outcome}
 use Rattle.cat_value.specs.declared.outcome.Outcome.TheVariants as outcome
 use Rattle.cat_scope.specs.declared.programs.Program.{Program}
 use Rattle.cat_sound.proofs.Exported.{same_some}
-use Rattle.cat_json.specs.declared.refusal.InputRefusal.{InputRefusal}
-use Rattle.cat_app.specs.Runs.{ComesTo, HaveSum, IsFirstRefused, IsFirstStop, IsValue, rate_of}
+use Rattle.cat_app.specs.Runs.{ComesTo, HaveSum, rate_of}
 use Rattle.cat_app.specs.Runs as runs
-use Rattle.cat_app.specs.inside.Once.{RunsOnce, rate_in}
+use Rattle.cat_app.specs.inside.Once.{rate_in}
 
 module _ (program : Program) (scope bands j : ℕ) (sum : ℤ) (before : HaveSum program scope bands j sum) where
   pub one_run_more : (o : Outcome) (rate more : ℤ) → ComesTo program scope (j * bands) o → Some rate ≡ rate_in o
@@ -20,31 +19,3 @@ module _ (program : Program) (scope bands j : ℕ) (sum : ℤ) (before : HaveSum
   one_run_more (outcome.Conflict target positions) rate more comes is added = cc is
   one_run_more (outcome.NoValue target pos) rate more comes is added = cc is
   one_run_more (outcome.Fault kind pos) rate more comes is added = cc is
-
-  no_value : (o : Outcome) → None ≡ rate_in o → IsValue o → ⊥
-  no_value (outcome.Value outputs) is value = cc is
-  no_value (outcome.Conflict target positions) is value = value
-  no_value (outcome.NoValue target pos) is value = value
-  no_value (outcome.Fault kind pos) is value = value
-
-  pub first_stop : (o : Outcome) → j < 1000 → ComesTo program scope (j * bands) o → None ≡ rate_in o
-      → IsFirstStop program scope bands o
-  first_stop o within comes is = record {
-    run = j;
-    sum = sum;
-    within = within;
-    before = before;
-    comes_to = comes;
-    stops = no_value o is;
-  }
-
-  pub first_refused : (refusal : InputRefusal) → j < 1000 → RunsOnce program scope (j * bands) (Err refusal)
-      → IsFirstRefused program scope bands refusal
-  first_refused refusal within refused = record {
-    run = j;
-    sum = sum;
-    within = within;
-    before = before;
-    refused = refused.0;
-    real = refused.1;
-  }

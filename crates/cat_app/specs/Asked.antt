@@ -1,6 +1,6 @@
 -- What is asked for: the source that is gathered, the scope of its program, and the input; and which file is read when.
 use Rattle.std.specs.Prelude.{◌≡◌, ◌⊎◌, ℕ, IsTrue, List, Some}
-use Rattle.cat_pos.specs.declared.limits.TheConstants.{MOST_INPUT_BYTES}
+use Rattle.cat_pos.specs.Limits.{most_input_bytes}
 use Rattle.cat_io.specs.Shelf.{Shelved, Gives}
 use Rattle.cat_scope.specs.declared.programs.Program.{Program}
 use Rattle.cat_scope.specs.Named.{number_named}
@@ -16,7 +16,7 @@ IsSource request shelf source = HasEnding shelf.content request.file (Whole sour
 
 -- these bytes may be what the input or the certificate has
 abbrev pub IsExtra : Request → Shelved → List ℕ → Type 0
-IsExtra request shelf extra = Gives (shelf.content request.extra) MOST_INPUT_BYTES extra
+IsExtra request shelf extra = Gives (shelf.content request.extra) most_input_bytes extra
 
 -- the source is accepted as a program, of which the scope that is asked for has this number
 pub record IsAsked (request : Request) (shelf : Shelved) (source : Source) (program : Program) (scope : ℕ) : Type 0
@@ -30,5 +30,5 @@ pub record IsAsked (request : Request) (shelf : Shelved) (source : Source) (prog
 abbrev pub IsReadNow : Request → Shelved → List ℕ → ℕ → Type 0
 IsReadNow request shelf name limit =
     ((bytes : ℕ) × ComesTo shelf.content request.file name bytes × (limit ≡ limit_after bytes))
-    ⊎ ((name ≡ request.extra) × (limit ≡ MOST_INPUT_BYTES) × IsTrue (reads_extra request.mode)
+    ⊎ ((name ≡ request.extra) × (limit ≡ most_input_bytes) × IsTrue (reads_extra request.mode)
     × ((source : Source) × (program : Program) × (scope : ℕ) × IsAsked request shelf source program scope))

@@ -1,7 +1,7 @@
 -- What follows from the answers: when a reply comes, and when a fault can't.
 use Rattle.std.specs.Prelude.{◌≡◌, ◌⊎◌, ℕ, ◌≤◌, Bool, true, false, List, [], length, Option, Some, Ok, IfSome, ⊤}
 use Rattle.std.specs.Io.KnownBytes.{Appends}
-use Rattle.cat_pos.specs.declared.limits.TheConstants.{MOST_INPUT_BYTES}
+use Rattle.cat_pos.specs.Limits.{most_input_bytes}
 use Rattle.cat_io.specs.Shelf.{Shelved, Rose}
 use Rattle.cat_io.specs.Sink.{Sunk}
 use Rattle.cat_value.specs.declared.value.Value.{Value}
@@ -71,7 +71,7 @@ pub record IsToldRun (words : List (List ℕ)) (old : Shelved) (request : Reques
   pub told : IsToldScope words old request source program scope
   pub mode : request.mode ≡ Run
   pub extra_told : old.content request.extra ≡ Some extra
-  pub extra_short : length extra ≤ MOST_INPUT_BYTES
+  pub extra_short : length extra ≤ most_input_bytes
   pub input_is : input_read program.decls scope extra ≡ Ok input
 
 -- the scope's outcome on the input is written whole, with its status
@@ -96,7 +96,7 @@ pub record IsToldCheck (words : List (List ℕ)) (old : Shelved) (request : Requ
   pub told : IsToldScope words old request source program scope
   pub mode : request.mode ≡ Check
   pub extra_told : old.content request.extra ≡ Some extra
-  pub extra_short : length extra ≤ MOST_INPUT_BYTES
+  pub extra_short : length extra ≤ most_input_bytes
 
 -- a text of this kind is written whole
 abbrev pub WritesText : Sunk → Sunk → (List ℕ → Type 0) → Type 0

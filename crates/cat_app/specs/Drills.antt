@@ -10,6 +10,7 @@ use Rattle.cat_audit.specs.declared.report.Report.{Report}
 use Rattle.cat_audit.specs.declared.report.Verdict.{Verdict}
 use Rattle.cat_audit.specs.Reports.{last_verdict}
 use Rattle.cat_audit.specs.ReportLines.{verdict_text}
+use Rattle.cat_app.specs.Limits.{runs}
 use Rattle.cat_app.specs.Texts.{drill_text}
 use Rattle.cat_app.specs.Runs.{HaveSum, IsFirstRefused, IsFirstStop}
 use Rattle.cat_app.specs.Leaves.{leaf_count}
@@ -58,7 +59,7 @@ drill_line bands sum leaves verdict =
 pub record HasLine (bands : ℕ) (source : Source) (program : Program) (scope : ℕ) (text : List ℕ) : Type 0 where
   pub sum : ℤ
   pub report : Report
-  pub sum_is : HaveSum program scope bands 1000 sum
+  pub sum_is : HaveSum program scope bands runs sum
   pub report_is : HasReport program scope bands report
   pub text_is : text ≡ drill_line bands sum (leaf_count report.trees) (last_verdict report.sections)
 

@@ -9,6 +9,7 @@ pub mod Status
 pub mod Complete
 pub mod AuditEnds
 pub mod DrillEnds
+pub mod Limits
 pub mod Texts
 pub mod Numbers
 pub mod Runs

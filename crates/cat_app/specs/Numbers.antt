@@ -1,6 +1,7 @@
 -- The number of bands, as a word.
 use Rattle.std.specs.Prelude.{◌≡◌, ℕ, zero, suc, List, Option, None, Some, bytes_eq, if◌then◌else◌, codes, refl}
 use Rattle.std.specs.Fmt.{decimal, digits}
+use Rattle.cat_app.specs.Limits.{most_bands}
 
 -- the number from 1 up to this one whose decimals a text is
 unfoldable pub number_up_to : ℕ → List ℕ → Option ℕ
@@ -9,7 +10,7 @@ number_up_to (suc n) text = if bytes_eq text (decimal (suc n)) then Some (suc n)
 
 -- the number of bands that a text names
 unfoldable pub bands_in : List ℕ → Option ℕ
-bands_in text = number_up_to 1000 text
+bands_in text = number_up_to most_bands text
 
 -- ---- worked examples
 

@@ -9,6 +9,7 @@ use Rattle.cat_scope.specs.Outcomes.{scope_outcome}
 use Rattle.cat_json.specs.declared.refusal.InputRefusal.{InputRefusal}
 use Rattle.cat_json.specs.declared.refusal.InputRefusal.TheVariants.{Memory}
 use Rattle.cat_json.specs.InputsRead.{input_read}
+use Rattle.cat_app.specs.Limits.{runs}
 use Rattle.cat_app.specs.Texts.{income_text}
 use Rattle.cat_app.specs.declared.runs.Ran.{Ran}
 use Rattle.cat_app.specs.declared.runs.Ran.TheVariants as ran
@@ -41,7 +42,7 @@ IsValue o = ⊥
 pub record IsFirstStop (program : Program) (scope bands : ℕ) (o : Outcome) : Type 0 where
   pub run : ℕ
   pub sum : ℤ
-  pub within : run < 1000
+  pub within : run < runs
   pub before : HaveSum program scope bands run sum
   pub comes_to : ComesTo program scope (run * bands) o
   pub stops : IsValue o → ⊥
@@ -50,13 +51,13 @@ pub record IsFirstStop (program : Program) (scope bands : ℕ) (o : Outcome) : T
 pub record IsFirstRefused (program : Program) (scope bands : ℕ) (refusal : InputRefusal) : Type 0 where
   pub run : ℕ
   pub sum : ℤ
-  pub within : run < 1000
+  pub within : run < runs
   pub before : HaveSum program scope bands run sum
   pub refused : input_read program.decls scope (income_text (run * bands)) ≡ Err refusal
   pub real : refusal ≢ Memory
 
 -- what the thousand runs come to
 abbrev pub AreRunsOf : Program → ℕ → ℕ → Ran → Type 0
-AreRunsOf program scope bands (ran.Sum sum) = HaveSum program scope bands 1000 sum
+AreRunsOf program scope bands (ran.Sum sum) = HaveSum program scope bands runs sum
 AreRunsOf program scope bands (ran.Stopped o) = IsFirstStop program scope bands o
 AreRunsOf program scope bands (ran.Refused refusal) = IsFirstRefused program scope bands refusal

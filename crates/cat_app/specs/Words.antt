@@ -3,7 +3,7 @@ use Rattle.std.specs.Prelude.{◌≡◌, ◌≤◌, ℕ, Bool, true, false, List
 use Rattle.std.specs.Prelude.{codes, if◌then◌else◌, is_some, option_and_then, option_map, unwrap_or}
 use Rattle.std.specs.List.{list_any}
 use Rattle.clap.specs.Words.{matches_of, one_of}
-use Rattle.cat_words.specs.Asked.{Asked, IsCases, asked_by}
+use Rattle.cat_words.specs.Asked.{Asked, IsCases, asked_by, most_asked}
 use Rattle.cat_words.specs.TheCommand.{the_command}
 use Rattle.cat_app.specs.Numbers.{bands_in}
 use Rattle.cat_app.specs.declared.request.Mode.{Mode}
@@ -97,4 +97,4 @@ bands_of words = bands_asked (ask_of words)
 pub record IsMost (cases : Option (List ℕ)) (most : ℕ) : Type 0 where
   pub number_is : IsCases cases most
   pub some : 1 ≤ most
-  pub few : most ≤ 1000000
+  pub few : most ≤ most_asked

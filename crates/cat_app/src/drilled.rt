@@ -5,6 +5,7 @@ ghost use Rattle.cat_scope.specs.Named.{number_named};
 ghost use Rattle.cat_weave.specs.Causes.{AreReadableTogether, HasEnding};
 ghost use Rattle.cat_weave.specs.Gathered.{Whole};
 ghost use Rattle.cat_build.specs.Built.{IsBuiltOf};
+ghost use Rattle.cat_app.specs.Limits.{most_bands, runs};
 ghost use Rattle.cat_app.specs.Runs.{HaveSum};
 ghost use Rattle.cat_app.specs.Drills.{HasLine, bands_request, bands_shelf};
 ghost use Rattle.cat_app.specs.inside.SaysOfBands.{GathersBands, MaySayOfBands, SaysLine};
@@ -23,7 +24,7 @@ use std::alloc::{AllocError, Global};
 /// The shelf that has the source of so many bands alone.
 fn shelf_of(alloc: Global, bands: u32) -> Result<PureShelf, AllocError>
     requires some { 1 ≤ bands }
-    requires most { bands ≤ 1000 }
+    requires most { bands ≤ most_bands }
     ensures { IfOk result (λ shelf. shelved_of shelf ≡ bands_shelf bands) }
 {
     let text = drill_source(alloc, bands)?;
@@ -37,7 +38,7 @@ fn shelf_of(alloc: Global, bands: u32) -> Result<PureShelf, AllocError>
 /// in the place of such a refusal want of memory is passed on.
 fn gather_bands(alloc: Global, bands: u32) -> Result<Source, GatherRefusal>
     requires some { 1 ≤ bands }
-    requires most { bands ≤ 1000 }
+    requires most { bands ≤ most_bands }
     ensures { GathersBands bands result }
 {
     let mut shelf = shelf_of(alloc, bands)?;
@@ -67,7 +68,7 @@ fn audit_bands(
     requires some { 1 ≤ bands }
     requires built { IsBuiltOf source.now.pieces built.now }
     requires scope { scope < length built.now.program.decls.scopes }
-    requires sum { HaveSum built.now.program scope bands 1000 sum }
+    requires sum { HaveSum built.now.program scope bands runs sum }
     ensures { IfOk result (SaysLine bands source.now built.now.program scope) }
 {
     let report = report_of(alloc, source, built, scope, bands)?;
@@ -89,7 +90,7 @@ fn drill_scope(
     scope: u32,
 ) -> Result<Reply, AllocError>
     requires some { 1 ≤ bands }
-    requires most { bands ≤ 1000 }
+    requires most { bands ≤ most_bands }
     requires gathered { HasEnding (bands_shelf bands).content bands_request.file (Whole source.now) }
     requires built { IsBuiltOf source.now.pieces built.now }
     requires named { number_named bands_request.scope 0 built.now.program.decls.scopes ≡ Some scope }
@@ -108,7 +109,7 @@ fn drill_scope(
 /// Builds the source of the bands, and looks for its scope.
 fn drill_source_of(alloc: Global, bands: u32, source: &Source) -> Result<Reply, AllocError>
     requires some { 1 ≤ bands }
-    requires most { bands ≤ 1000 }
+    requires most { bands ≤ most_bands }
     requires gathered { HasEnding (bands_shelf bands).content bands_request.file (Whole source.now) }
     requires readable { AreReadableTogether source.now.pieces }
     ensures { IfOk result (MaySayOfBands bands) }
@@ -130,7 +131,7 @@ fn drill_source_of(alloc: Global, bands: u32, source: &Source) -> Result<Reply, 
 /// file is read.
 pub fn drilled(alloc: Global, bands: u32) -> Result<Reply, AllocError>
     requires some { 1 ≤ bands }
-    requires most { bands ≤ 1000 }
+    requires most { bands ≤ most_bands }
     ensures { IfOk result (MaySayOfBands bands) }
 {
     match gather_bands(alloc, bands) {

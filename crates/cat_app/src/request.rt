@@ -2,6 +2,7 @@
 ghost use Rattle.std.specs.Prelude.{◌≡◌, ◌≤◌, ℕ, List, Option, IfOk, IfSome, option_map};
 ghost use Rattle.cat_io.specs.Stored.{texts_of};
 ghost use Rattle.cat_words.specs.Asked.{asked_of as words_of};
+ghost use Rattle.cat_app.specs.Limits.{most_bands};
 ghost use Rattle.cat_app.specs.Words.{ask_by, bands_by, bands_from, mode_by, request_by};
 ghost use Rattle.cat_app.specs.inside.Says.{ask_in, asked_of, AsksFor, HasBands, HasNumber};
 
@@ -76,7 +77,7 @@ fn bands_from(
     has_extra: bool,
 ) -> Result<Option<u32>, AllocError>
     ensures named { IfOk result (λ bands. bands ≡ bands_from scope.now file.now has_extra) }
-    ensures range { IfOk result (λ bands. IfSome bands (λ n. (1 ≤ n) × (n ≤ 1000))) }
+    ensures range { IfOk result (λ bands. IfSome bands (λ n. (1 ≤ n) × (n ≤ most_bands))) }
 {
     if file == "none" && !has_extra {
         return bands_in(alloc, scope);
@@ -87,7 +88,7 @@ fn bands_from(
 /// How many bands a command line names that asks for a drill.
 fn asked_bands(alloc: Global, line: CommandLine<'_>) -> Result<Option<u32>, AllocError>
     ensures named { IfOk result (λ bands. bands ≡ bands_by (words_of line.entry)) }
-    ensures range { IfOk result (λ bands. IfSome bands (λ n. (1 ≤ n) × (n ≤ 1000))) }
+    ensures range { IfOk result (λ bands. IfSome bands (λ n. (1 ≤ n) × (n ≤ most_bands))) }
 {
     bands_from(alloc, line.scope, line.file, line.extra.is_some())
 }

@@ -2,6 +2,7 @@
 ghost use Rattle.std.specs.Prelude.{◌≡◌, ◌≢◌, ◌<◌, ◌≤◌, IfOk, Some, Ok as OkSeen, length, option_map};
 ghost use Rattle.cat_value.specs.declared.outcome.Outcome.TheVariants.{Value as ValueSeen};
 ghost use Rattle.cat_audit.specs.Reports.{IsCalcOf};
+ghost use Rattle.cat_app.specs.Limits.{most_bands};
 ghost use Rattle.cat_app.specs.Runs.{AreRunsOf, rate_of};
 ghost use Rattle.cat_app.specs.inside.Once.{RunsOnce, rate_in};
 
@@ -78,7 +79,7 @@ pub fn run_all(
 ) -> Result<Ran, AllocError>
     requires calc { IsCalcOf program.now calc.now }
     requires scope { scope < length program.now.decls.scopes }
-    requires bands { bands ≤ 1000 }
+    requires bands { bands ≤ most_bands }
     ensures { IfOk result (AreRunsOf program.now scope bands) }
 {
     let mut sum = 0i64;

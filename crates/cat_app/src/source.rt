@@ -1,12 +1,13 @@
 // The source of a drill, and the inputs of its runs.
 ghost use Rattle.std.specs.Prelude.{◌≡◌, ◌<◌, ◌≤◌, ◌++◌, IfOk, OnOk, string_bytes};
+ghost use Rattle.cat_app.specs.Limits.{most_bands};
 ghost use Rattle.cat_app.specs.Texts.{condition_of, definition_of, definitions_to, drill_text, income_text};
 
 use std::alloc::{AllocError, Global};
 
 /// What a band's definition stands under, in a source of several.
 fn condition(alloc: Global, bands: u32, band: u32) -> Result<String, AllocError>
-    requires bands { bands ≤ 1000 }
+    requires bands { bands ≤ most_bands }
     requires band { band < bands }
     ensures { IfOk result (λ text. string_bytes text ≡ condition_of bands band) }
 {
@@ -23,7 +24,7 @@ fn condition(alloc: Global, bands: u32, band: u32) -> Result<String, AllocError>
 
 /// The line of a band's definition.
 fn definition(alloc: Global, bands: u32, band: u32) -> Result<String, AllocError>
-    requires bands { bands ≤ 1000 }
+    requires bands { bands ≤ most_bands }
     requires band { band < bands }
     ensures { IfOk result (λ text. string_bytes text ≡ definition_of bands band) }
 {
@@ -36,7 +37,7 @@ fn definition(alloc: Global, bands: u32, band: u32) -> Result<String, AllocError
 
 /// Adds the definitions of all bands.
 fn add_definitions(alloc: Global, text: &mut String, bands: u32) -> Result<(), AllocError>
-    requires { bands ≤ 1000 }
+    requires { bands ≤ most_bands }
     ensures { OnOk result (string_bytes text.new ≡ string_bytes text.old ++ definitions_to bands bands) }
 {
     for band in 0..bands {
@@ -51,7 +52,7 @@ fn add_definitions(alloc: Global, text: &mut String, bands: u32) -> Result<(), A
 #[tactic(auto, unfolding(crate::specs::Texts::drill_text))]
 pub fn drill_source(alloc: Global, bands: u32) -> Result<String, AllocError>
     requires some { 1 ≤ bands }
-    requires most { bands ≤ 1000 }
+    requires most { bands ≤ most_bands }
     ensures { IfOk result (λ text. string_bytes text ≡ drill_text bands) }
 {
     let mut text = String::from_str(

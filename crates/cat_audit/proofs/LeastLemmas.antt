@@ -1,6 +1,6 @@
 -- The least number of a derived term, where the narrowings are met from the last one on.
-use Rattle.std.proofs.Common.{◌≡◌, ℕ, ◌-◌, ◌<◌, Bool, true, false, if◌then◌else◌, List, [], ◌∷◌, ◌++◌, length, take}
-use Rattle.std.proofs.Common.{Option, Some, None, slice_get, refl, sym, ap, ◌∙◌, arith, length-append}
+use Rattle.std.proofs.Common.{◌≡◌, ℕ, ◌-◌, Bool, true, false, if◌then◌else◌, List, [], ◌∷◌, ◌++◌, length, take}
+use Rattle.std.proofs.Common.{Option, Some, None, slice_get, refl, sym, ap, ◌∙◌, arith}
 use Rattle.std.proofs.lemmas.List.{append-nil}
 use Rattle.cat_region.specs.declared.cut.Cut.{Cut}
 use Rattle.cat_region.specs.declared.narrowing.Narrowing.{Narrowing}
@@ -57,9 +57,6 @@ module _ (terms : List Term) (ns after : List Narrowing) (last : ℕ × Cut × B
       e.is ∙ ap (λ ms. ms ++ narrowed_to last.0 last.1 last.2 ∷ [])
       (sym (less ∙ ap (λ ms. take (length ms - 1) ms) e.is
       ∙ narrowings-undone e.before (narrowed_to last.0 last.1 last.2)))
-
-  pub shorter : length after < length ns
-  shorter = let e = ap length split in omega (arith, e, length-append after (narrowed_to last.0 last.1 last.2 ∷ []))
 
   parts : derived_in terms ns
       ≡ derived_in terms after ++ (if is_derived (slice_get terms last.0) then last.0 ∷ [] else [])

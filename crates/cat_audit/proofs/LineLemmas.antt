@@ -13,7 +13,6 @@ use Rattle.cat_audit.specs.Causes.{HasCause}
 use Rattle.cat_audit.specs.Lines.{IsLineOf}
 use Rattle.cat_audit.specs.declared.report.NamedLine.{NamedLine}
 use Rattle.cat_audit.specs.Sections.{AreLinesOf, named_lines}
-use Rattle.cat_audit.specs.inside.Underway.{HasLines}
 use Rattle.cat_scope.proofs.Exported.{map_append}
 
 -- the lines of the first targets of a table, whose trees go behind others
@@ -23,14 +22,6 @@ pub record AreLinesTo (program : Program) (table : Table) (budget : ℕ) (target
   pub made_are : AreLinesOf program table budget targets made
   pub lines_are : lines ≡ named_lines targets made
   pub trees_are : new ≡ old ++ map (λ l. l.tree) made
-
-pub no_lines : (program : Program) (table : Table) (budget : ℕ) (old : List CaseTree)
-    → AreLinesTo program table budget [] old old []
-no_lines program table budget old = record { made = []; made_are = tt; lines_are = refl; trees_are = none old }
-  where
-    none : (trees : List CaseTree) → trees ≡ trees ++ []
-    none [] = refl
-    none (c ∷ trees) = ap (λ cs. c ∷ cs) (none trees)
 
 module _ (program : Program) (table : Table) (budget : ℕ) where
   lines_push : (targets : List TableTarget) (made : List TargetLine) (t : TableTarget) (m : TargetLine)
@@ -66,15 +57,6 @@ module _ (program : Program) (table : Table) (budget : ℕ) where
     trees_are = ap (λ (cs : List CaseTree). cs ++ m.tree ∷ []) are.trees_are
         ∙ append_append old (map (λ l. l.tree) are.made) (m.tree ∷ [])
         ∙ ap (λ (cs : List CaseTree). old ++ cs) (sym (map_append (λ (l : TargetLine). l.tree) are.made (m ∷ [])));
-  }
-
-  pub all_lines : (old new : List CaseTree) (lines : List NamedLine)
-      → AreLinesTo program table budget table.targets old new lines → HasLines program table budget old new lines
-  all_lines old new lines are = record {
-    made = are.made;
-    made_are = are.made_are;
-    lines_are = are.lines_are;
-    trees_are = are.trees_are;
   }
 
 -- the front of a list with its next element

@@ -5,7 +5,6 @@ use Rattle.std.proofs.Common.{◌∷◌, ◌++◌, length, map, take, drop, Opti
 use Rattle.std.proofs.Common.{subst, arith, true≢false}
 use Rattle.std.specs.Prelude.{slice_index_or, IfSome}
 use Rattle.std.specs.List.{slice_range}
-use Rattle.std.proofs.lemmas.List.{append-nil}
 use Rattle.cat_value.proofs.Exported.{found}
 use Rattle.cat_region.specs.Regions.{Constraints, IsInhabited}
 use Rattle.cat_scope.specs.declared.programs.Program.{Program}
@@ -55,12 +54,6 @@ found_counts (Some b) (finding.Masked k p i) fs unfound is = absurd (true≢fals
 found_counts (Some b) (finding.Derived p i o) fs unfound is = absurd (true≢false (sym is))
 found_counts (Some (finding.Masked k p i)) (finding.Found o j) fs unfound is = refl
 found_counts (Some (finding.Derived p i o)) (finding.Found r j) fs unfound is = refl
-
-pub last_counts : (best : Option Finding) → counting (as_list best) ≡ best
-last_counts None = refl
-last_counts (Some (finding.Found o i)) = refl
-last_counts (Some (finding.Masked k p i)) = refl
-last_counts (Some (finding.Derived p i o)) = refl
 
 pub kept_unfound : (best : Option Finding) (f : Finding) → one_found best ≡ false → is_found f ≡ false
     → one_found (kept best f) ≡ false
@@ -209,14 +202,6 @@ module _ (program : Program) (table : Table) (t : TableTarget) (nodes : List Tre
   ends_found at best i b all f is says unfound found trying =
       sym (found_counts best f (said (drop (i + 1) all)) unfound found)
       ∙ ap (λ fs. counting (as_list best ++ fs)) (sym (said_next i b all f is says)) ∙ trying.counts
-
-  pub ends_kept : (at : ℕ) (best : Option Finding) (all : List BadLeaf) → Trying at best [] all
-      → best ≡ counting (said all)
-  ends_kept at best all trying =
-      sym (last_counts best) ∙ ap counting (sym (append-nil (as_list best))) ∙ trying.counts
-
-  pub begins : (all : List BadLeaf) → AreBadFrom table t nodes 0 all → Trying 0 None all all
-  begins all are = record { ahead = are; counts = refl }
 
 -- ---- the next leaf, whatever the target
 

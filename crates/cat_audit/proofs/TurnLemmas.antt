@@ -1,7 +1,7 @@
 -- One turn of the audit's loop.
 use Rattle.std.proofs.Common.{◌≡◌, ◌<◌, ◌+◌, ℕ, suc, IsTrue, List, [], ◌∷◌, ◌++◌, length, take, drop, set}
-use Rattle.std.proofs.Common.{Some, slice_get, get_or, refl, sym, ap, ◌∙◌, subst, arith, add-one}
-use Rattle.std.proofs.lemmas.Option.{slice_get_read, slice_get_within}
+use Rattle.std.proofs.Common.{Some, slice_get, get_or, refl, sym, ap, ◌∙◌, subst, add-one}
+use Rattle.std.proofs.lemmas.Option.{slice_get_read}
 use Rattle.cat_scope.specs.declared.programs.Program.{Program}
 use Rattle.cat_scope.specs.Names.{all_differ}
 use Rattle.cat_scope.specs.WellFormed.{IsWellFormed}
@@ -9,10 +9,8 @@ use Rattle.cat_guard.specs.declared.table.Table.{Table}
 use Rattle.cat_guard.specs.declared.tree.CaseTree.{CaseTree}
 use Rattle.cat_guard.specs.Tables.{TablesScope}
 use Rattle.cat_depend.specs.Reached.{AreReachedFrom, StandBehind, calls_in}
-use Rattle.cat_audit.specs.declared.report.Report.{Report}
 use Rattle.cat_audit.specs.declared.report.Section.{Section}
 use Rattle.cat_audit.specs.declared.report.Verdict.{Verdict}
-use Rattle.cat_audit.specs.Reports.{IsReport}
 use Rattle.cat_audit_table.specs.AuditedTables.{AreTablesOf, scopes_of}
 use Rattle.cat_audit.specs.inside.Underway.{MakesSection}
 use Rattle.cat_audit.proofs.LineLemmas.{have_front, split_get, take_next}
@@ -28,17 +26,11 @@ module _ (program : Program) (scope : ℕ) (tables listed : List Table) (are : A
   pub here : TablesScope program t.scope t
   here = have_at (λ (x : Table). TablesScope program x.scope x) tables are.tables_are i t at
 
-  pub scope_within : t.scope < length program.bodies
-  scope_within = slice_get_within program.bodies t.scope here.1 here.3
-
   module _ (formed : ∥ IsWellFormed program.decls program.bodies program.scope_order ∥₁) (budget : ℕ)
       (behind : (scopes : List ℕ) → AreReachedFrom program scope scopes → StandBehind (calls_in program) scopes)
       (once : (scopes : List ℕ) → AreReachedFrom program scope scopes → IsTrue (all_differ scopes))
       (verdicts : List Verdict) (sections : List Section) (old : List CaseTree)
       (way : IsUnderWay program budget (take i listed) verdicts sections old) where
-    pub below_verdicts : t.scope < length verdicts
-    below_verdicts = let w = scope_within in let n = way.counted in omega (arith, w, n)
-
     pub turn : (new : List CaseTree) (s : Section) → MakesSection program budget verdicts t old new s
         → IsUnderWay program budget (take (i + 1) listed) (set verdicts t.scope s.verdict) (sections ++ s ∷ []) new
     turn new s makes =
@@ -51,10 +43,3 @@ module _ (program : Program) (scope : ℕ) (tables listed : List Table) (are : A
         (behind (scopes_of tables) are.scopes_are) (once (scopes_of tables) are.scopes_are) verdicts sections old
         (subst (λ (ts : List Table). IsUnderWay program budget (take i ts) verdicts sections old) same way) new s
         makes)
-
--- the whole
-pub reported : (program : Program) (scope budget : ℕ) (report : Report) → AreTablesOf program scope report.tables
-    → (verdicts : List Verdict) → IsUnderWay program budget report.tables verdicts report.sections report.trees
-    → IsReport program scope budget report
-reported program scope budget report are verdicts way =
-    record { tables_are = are; made = way.made; sections_are = way.sections_are; trees_are = way.trees_are }

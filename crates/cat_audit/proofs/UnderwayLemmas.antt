@@ -1,10 +1,10 @@
 -- Sections that are made one after the other.
 use Rattle.std.proofs.Common.{◌≡◌, ◌<◌, ℕ, zero, suc, Bool, true, false, IsTrue, List, [], ◌∷◌, ◌++◌, map, length}
-use Rattle.std.proofs.Common.{set, replicate, refl, sym, ap, ◌∙◌, subst, arith, true≢false}
+use Rattle.std.proofs.Common.{set, refl, sym, ap, ◌∙◌, subst, arith, true≢false}
 use Rattle.std.proofs.Common.{if◌then◌else◌}
 use Rattle.std.specs.Prelude.{nat_eq}
 use Rattle.std.proofs.lemmas.Bool.Decides.{nat_tests}
-use Rattle.std.proofs.lemmas.List.{length-set, length-replicate}
+use Rattle.std.proofs.lemmas.List.{length-set}
 use Rattle.std.proofs.lemmas.Option.{slice_get_within}
 use Rattle.cat_order.specs.Order.{dependencies_of}
 use Rattle.cat_scope.specs.declared.programs.Program.{Program}
@@ -91,11 +91,6 @@ verdict_kept (w ∷ verdicts) zero (suc m) v other = refl
 verdict_kept (w ∷ verdicts) (suc n) zero v other = refl
 verdict_kept (w ∷ verdicts) (suc n) (suc m) v other = verdict_kept verdicts n m v (λ e. other (ap suc e))
 
-pub none_yet : (count n : ℕ) → verdict_at (replicate count verdict.Undecided) n ≡ verdict.Undecided
-none_yet zero n = refl
-none_yet (suc count) zero = refl
-none_yet (suc count) (suc n) = none_yet count n
-
 -- ---- sections on the way
 
 pub record IsUnderWay (program : Program) (budget : ℕ) (front : List Table) (verdicts : List Verdict)
@@ -107,18 +102,6 @@ pub record IsUnderWay (program : Program) (budget : ℕ) (front : List Table) (v
   pub closed : (k : ℕ) → is_in k (section_scopes sections) ≡ true
       → AllHave (λ m. IsTrue (is_in m (section_scopes sections))) (dependencies_of (calls_in program) k)
   pub trees_are : trees ≡ trees_of made
-
-pub begins : (program : Program) (budget : ℕ) (verdicts : List Verdict)
-    → verdicts ≡ replicate (length program.bodies) verdict.Undecided
-    → IsUnderWay program budget [] verdicts [] []
-begins program budget verdicts are = record {
-  made = [];
-  sections_are = tt;
-  counted = ap length are ∙ length-replicate (length program.bodies) verdict.Undecided;
-  verdicts_are = λ n. ap (λ (vs : List Verdict). verdict_at vs n) are ∙ none_yet (length program.bodies) n;
-  closed = λ k h. absurd (true≢false (sym h));
-  trees_are = refl;
-}
 
 sections_push : (program : Program) (budget : ℕ) (f : ℕ → Verdict) (tables : List Table)
     (made : List (List TargetLine)) (sections : List Section) (t : Table) (m : List TargetLine) (s : Section)

@@ -110,7 +110,8 @@ pub(crate) fn called_lines(
     ensures { IfOk result (λ lines. lines ≡ called_lines program.now (verdict_at verdicts.now) scope) }
 {
     programs_are_well_formed(program);
-    let decl = program.decls.scopes.at(scope as usize);
+    let decls = program.decls();
+    let decl = decls.scopes.at(scope as usize);
     let body = program.bodies.at(scope as usize);
     let no_items: List<ItemDecl> = List::new(alloc);
     let in_calls = calls_of(
@@ -122,7 +123,12 @@ pub(crate) fn called_lines(
     )?;
     let mut lines = List::new(alloc);
     add_items(&mut lines, decl.items.as_slice(), verdicts)?;
-    let scopes = program.decls.scopes.as_slice();
-    add_scopes(alloc, &mut lines, scopes, in_calls.as_slice(), verdicts)?;
+    add_scopes(
+        alloc,
+        &mut lines,
+        decls.scopes.as_slice(),
+        in_calls.as_slice(),
+        verdicts,
+    )?;
     Ok(lines)
 }

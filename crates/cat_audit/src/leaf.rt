@@ -63,7 +63,8 @@ pub(crate) fn finding_in(
 {
     bad_regions_of_free_terms_fail(program, table);
     regions_are_sound(&region);
-    let input = input_of(alloc, table, &calc.decls, &region)?;
+    let decls = calc.decls();
+    let input = input_of(alloc, table, decls, &region)?;
     let outcome = evaluate(alloc, calc, table.scope, &input)?;
     let at = undecided_at(table, target, region);
     Ok(finding_of(at, input, outcome))

@@ -33,6 +33,7 @@ use Rattle.cat_sound.specs.Endings.{Allowed, IsEnd, Ended, EndsIn, IsOf, AreOf, 
 use Rattle.cat_sound.specs.Settled.{IsHeldOf, StandsIn, MayStand, AreSettled, IsClosed}
 use Rattle.cat_sound.specs.Settled.{may_be_empty as settled_empty}
 use Rattle.cat_sound.proofs.Exported.{settled_programs, EndsIn-prop, body_at}
+use Rattle.cat_sound.proofs.Exported.{target_listed}
 use Rattle.cat_guard.specs.declared.table.TableTarget.{TableTarget}
 use Rattle.cat_guard.specs.declared.table.Table.{Table}
 use Rattle.cat_guard.specs.Questions.{Question}
@@ -48,7 +49,7 @@ use Rattle.cat_audit_sound.specs.Audited.{MayDecide, IsTargetAudited, IsAudited,
 use Rattle.cat_audit_sound.specs.Audited.{IsValueOrFault}
 use Rattle.cat_audit_sound.proofs.Follow.{covered_follows}
 use Rattle.cat_audit_sound.proofs.ScopeFollows.{of_mapped, valuation_is, target_follows}
-use Rattle.cat_audit_sound.proofs.TargetsListed.{target_listed, same_empty, no_function}
+use Rattle.cat_audit_sound.proofs.SameTargets.{no_function, same_empty}
 
 -- ---- a target of a table
 

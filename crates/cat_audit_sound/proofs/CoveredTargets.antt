@@ -34,6 +34,7 @@ use Rattle.cat_sound.specs.Endings.{IsReady}
 use Rattle.cat_sound.specs.Given.{JudgedAt, values_at}
 use Rattle.cat_sound.specs.Settled.{StandsIn}
 use Rattle.cat_sound.proofs.Exported.{Ahead, AllIn, all_more, anything, each_judged, in_at, items_ahead, same_some}
+use Rattle.cat_sound.proofs.Exported.{DoneAt, ready}
 use Rattle.cat_guard.specs.declared.table.Atom.{Atom}
 use Rattle.cat_guard.specs.declared.table.Term.{Term}
 use Rattle.cat_guard.specs.declared.table.TableTarget.{TableTarget}
@@ -57,7 +58,6 @@ use Rattle.cat_audit_sound.proofs.Lists.{all_mapped}
 use Rattle.cat_audit_sound.proofs.Numbered.{all_are}
 use Rattle.cat_audit_sound.proofs.PointsOfTerms.{points_in, points_is, term_point}
 use Rattle.cat_audit_sound.proofs.PrefixRuns.{StandsAt, front_behind, front_stands, needed_before}
-use Rattle.cat_audit_sound.proofs.ReadyItems.{DoneAt, ready}
 use Rattle.cat_audit_sound.proofs.ScopeTargets.{targets_have}
 use Rattle.cat_audit_sound.proofs.StandingDefs as standing
 use Rattle.cat_audit_sound.proofs.StandingDefs.{defs_stand, def_callables, scope_sound, body_of}
@@ -188,7 +188,7 @@ module _ (ds : Decls) (bodies : List Body) (order : List ℕ) (formed : IsWellFo
           all_and (λ k. IsTrue (is_in k before)) (λ k. slice_get others k ≡ slice_get values k)
           (IsReady anything ns env) (needs item) needed same
           (λ k inside e. ready_as scoped calls values others ns k e
-          (ready ds scoped needs (scope_sound ds bodies order formed scope decl body at also) values before
+          (ready anything ds scoped needs (scope_sound ds bodies order formed scope decl body at also) values before
           (front_behind ds scoped needs (scope_sound ds bodies order formed scope decl body at also) input given index
           ahead)
           (all_more (StandsAt ns input values) (DoneAt ns values) before stand (λ m s. s.done)) k inside))

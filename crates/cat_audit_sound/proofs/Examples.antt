@@ -1,6 +1,5 @@
 -- Worked examples: values that have points, the points of paths, and what is given.
 use Rattle.std.proofs.Common.{◌≡◌, pos, true, false, [], ◌∷◌, Some, None, Option, refl}
-use Rattle.cat_value.specs.declared.decls.Decls.{Decls}
 use Rattle.cat_value.specs.declared.declaration.ItemDecl.{ItemDecl}
 use Rattle.cat_value.specs.declared.declaration.Kind.TheVariants.{Context}
 use Rattle.cat_value.specs.declared.ty.Ty.TheVariants as flat_ty
@@ -8,20 +7,11 @@ use Rattle.cat_value.specs.declared.ty.Ty.TheViews as ty
 use Rattle.cat_value.specs.declared.value.Value.TheVariants as flat
 use Rattle.cat_value.specs.declared.value.Value.TheViews as value
 use Rattle.cat_value.specs.Defaults.{default_of}
-use Rattle.cat_value.proofs.Exported.{pair, choice, pair_and_choice_are_sound}
+use Rattle.cat_value.proofs.Exported.{sample}
 use Rattle.cat_region.specs.declared.point.Point.{Point}
 use Rattle.cat_region.specs.declared.point.Point.TheVariants as point
 use Rattle.cat_guard.specs.declared.table.InputPath.{InputPath}
 use Rattle.cat_audit_sound.specs.PointInputs.{is_at, with_point, given_for, variable, field_of}
-
--- a structure of an integer and a list, and an enumeration whose first case holds a list and whose second holds nothing
-abbrev sample : Decls
-sample = record {
-  structures = pair [] [] [];
-  enumerations = choice [] [] [];
-  scopes = [];
-  sound = pair_and_choice_are_sound [] [] [] [] [] [];
-}
 
 integer_seven : with_point sample flat_ty.Integer (Some (point.Whole (pos 7))) ≡ flat.Integer (pos 7)
 integer_seven = rw ty.outs-Integer refl

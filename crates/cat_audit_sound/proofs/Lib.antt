@@ -9,7 +9,7 @@ pub mod AtomAnswers
 pub mod DefFollows
 pub mod TableGroups
 pub mod TargetFollows
-pub mod TargetsListed
+pub mod SameTargets
 pub mod ScopeFollows
 pub mod AuditLaws
 pub mod PartEquations

@@ -1,6 +1,5 @@
 -- What is numbered by first appearance is found by its number.
 use Rattle.std.proofs.Common.{◌≡◌, ◌⊎◌, inl, inr, ℕ, zero, suc, ◌+◌, Bool, true, false, List, [], ◌∷◌}
-use Rattle.std.proofs.Common.{◌++◌}
 use Rattle.std.proofs.Common.{Option, Some, None, slice_get, refl, sym, ap, ◌∙◌, subst, arith, true≢false}
 use Rattle.std.proofs.Common.{if◌then◌else◌, map}
 use Rattle.cat_scope.specs.Names.{AllHave, IsOneOf}
@@ -103,15 +102,6 @@ get_map {A = A} f (y ∷ xs) zero x e = ap (λ z. Some (f z)) (ap (or_this y) e)
     or_this a None = a
     or_this a (Some b) = b
 get_map f (y ∷ xs) (suc n) x e = get_map f xs n x e
-
-pub one_front : {A : Type 0} (x : A) (xs ys : List A) → IsOneOf x xs → IsOneOf x (xs ++ ys)
-one_front x [] ys h = elim h [ ]
-one_front x (z ∷ xs) ys (inl e) = inl e
-one_front x (z ∷ xs) ys (inr h) = inr (one_front x xs ys h)
-
-pub one_back : {A : Type 0} (x : A) (xs ys : List A) → IsOneOf x ys → IsOneOf x (xs ++ ys)
-one_back x [] ys h = h
-one_back x (z ∷ xs) ys h = inr (one_back x xs ys h)
 
 -- each element is one of the list
 pub all_are : {A : Type 0} (xs : List A) → AllHave (λ x. IsOneOf x xs) xs

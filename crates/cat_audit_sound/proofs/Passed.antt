@@ -1,6 +1,6 @@
 -- What is passed to a called scope, and what comes of judgings, are of their types.
-use Rattle.std.proofs.Common.{◌≡◌, ℕ, zero, suc, ◌+◌, Bool, true, false, ◌||◌, not, IsTrue, List, [], ◌∷◌, Option}
-use Rattle.std.proofs.Common.{Some, None, Result, Ok, Err, slice_get, refl, sym, ap, ◌∙◌, subst, arith, true≢false}
+use Rattle.std.proofs.Common.{◌≡◌, ℕ, suc, ◌+◌, Bool, true, false, ◌||◌, not, IsTrue, List, [], ◌∷◌, Option}
+use Rattle.std.proofs.Common.{Some, None, Result, Ok, Err, slice_get, refl, sym, ap, ◌∙◌, subst, arith}
 use Rattle.std.proofs.Common.{if◌then◌else◌}
 use Rattle.std.specs.Prelude.{IfOk}
 use Rattle.cat_pos.specs.declared.pos.Pos.{Pos}
@@ -12,23 +12,23 @@ use Rattle.cat_value.specs.declared.ty.Ty.TheViews as ty
 use Rattle.cat_value.specs.declared.value.Value.{Value}
 use Rattle.cat_value.specs.declared.value.Value.TheVariants.{Boolean}
 use Rattle.cat_value.specs.declared.decls.Decls.{Decls}
-use Rattle.cat_value.specs.declared.declaration.Kind.{Kind}
 use Rattle.cat_value.specs.declared.declaration.Kind.TheVariants as kind
 use Rattle.cat_value.specs.declared.declaration.ItemDecl.{ItemDecl}
 use Rattle.cat_value.specs.Declarations.{is_boolean}
 use Rattle.cat_value.specs.Inputs.{must_be_given, may_be_given, is_given_for, are_given_for}
 use Rattle.cat_value.proofs.Exported.{has_type_Boolean, whole}
 use Rattle.cat_scope.specs.declared.stop.Stop.{Stop}
-use Rattle.cat_scope.specs.Replies.{Reply, on_one, known}
+use Rattle.cat_scope.specs.Replies.{Reply, on_one}
 use Rattle.cat_scope.specs.Runs.{plain, gives, giving}
-use Rattle.cat_scope.specs.Names.{AllHave, has_none, outputs_in}
+use Rattle.cat_scope.specs.Names.{AllHave, has_none}
 use Rattle.cat_scope.specs.Judging.{Held, Judged, decided}
 use Rattle.cat_scope.specs.Targets.{absent, value_or}
 use Rattle.cat_scope.specs.ItemValues.{passed, passed_input}
 use Rattle.cat_scope.specs.WellFormed.{is_internal}
 use Rattle.cat_sound.specs.Settled.{IsHeldOf}
-use Rattle.cat_sound.specs.Endings.{Ended, ResultsIn, IsOf, AreOf, types_of, AreOutputsOf}
-use Rattle.cat_sound.proofs.Exported.{Placed, anything, same_some}
+use Rattle.cat_sound.specs.Endings.{Ended, IsOf}
+use Rattle.cat_sound.proofs.Exported.{Placed, anything}
+use Rattle.cat_sound.proofs.Exported.{not_given}
 use Rattle.cat_audit_sound.proofs.Gives.{both, and_both, not_true, IfGives, if_then}
 
 of_Boolean : (ds : Decls) (b : Bool) → IsOf ds flat_ty.Boolean (Boolean b)
@@ -87,15 +87,6 @@ passed_typed ds target pos decl None placed may h = by (must_be_given decl.kind)
     by true e = as_given (absent target pos decl.condition) (absent_ends ds target pos decl placed)
     by false e = ap not e
 
-not_given : (k : Kind) → may_be_given k ≡ false → must_be_given k ≡ false
-not_given kind.Input h = absurd (true≢false h)
-not_given kind.InputOutput h = absurd (true≢false h)
-not_given kind.Context h = refl
-not_given kind.ContextOutput h = refl
-not_given kind.Internal h = refl
-not_given kind.Output h = refl
-not_given (kind.Called scope) h = refl
-
 pub passed_input_typed : (ds : Decls) (judged_at : ℕ → Judged Value) (target_at : ℕ → Target) (pos : Pos) (n : ℕ)
     (decls : List ItemDecl) → AllHave Placed decls
     → ((j : ℕ) (i : ItemDecl) → slice_get decls j ≡ Some i → IsTrue (may_be_given i.kind)
@@ -123,25 +114,3 @@ passed_input_typed ds judged_at target_at pos n (decl ∷ decls) placed each =
         (subst (λ (m : ℕ). IfGives (judged_at m) (IsHeldOf true ds decl.ty)) (omega arith) (each 0 decl refl e)))
         (λ found is. passed_typed ds (target_at n) pos decl found placed.0 e is)
     by false e = ap not (not_given decl.kind e)
-
--- ---- an output of a called scope
-
-local_of : (ds : Decls) (ts : List Ty) (vs : List Value) (k : ℕ) (t : Ty) → AreOf ds ts vs → slice_get ts k ≡ Some t
-    → ResultsIn (IsOf ds t) (known (slice_get vs k))
-local_of ds [] [] k t are is = absurd (cc)
-local_of ds [] (v ∷ vs) k t are is = elim are [ ]
-local_of ds (u ∷ ts) [] k t are is = elim are [ ]
-local_of ds (u ∷ ts) (v ∷ vs) zero t are is = subst (λ x. IsOf ds x v) (same_some u t is) are.0
-local_of ds (u ∷ ts) (v ∷ vs) (suc k) t are is = local_of ds ts vs k t are.1 is
-
-types_at : (items : List ItemDecl) (k : ℕ) (o : ItemDecl) → slice_get items k ≡ Some o
-    → slice_get (types_of items) k ≡ Some o.ty
-types_at [] k o is = absurd (cc)
-types_at (item ∷ items) zero o is = ap (λ (i : ItemDecl). Some i.ty) (same_some item o is)
-types_at (item ∷ items) (suc k) o is = types_at items k o is
-
-pub output_typed : (ds : Decls) (items : List ItemDecl) (outputs : List Value) (k : ℕ) (o : ItemDecl)
-    → AreOutputsOf ds items outputs → slice_get (outputs_in items) k ≡ Some o
-    → ResultsIn (IsOf ds o.ty) (known (slice_get outputs k))
-output_typed ds items outputs k o are is =
-    local_of ds (types_of (outputs_in items)) outputs k o.ty are (types_at (outputs_in items) k o is)

@@ -1,60 +1,21 @@
 -- A run of a scope up to an index of its order has done the items before it.
 use Rattle.std.proofs.Common.{◌≡◌, ℕ, zero, suc, ◌<◌, Bool, true, false, IsTrue, List, [], ◌∷◌, length, take, Option}
-use Rattle.std.proofs.Common.{Some, None, slice_get, refl, sym, ap, ◌∙◌, subst, arith, true≢false}
+use Rattle.std.proofs.Common.{Some, None, slice_get, refl, sym, ap, ◌∙◌, subst, arith}
 use Rattle.std.specs.Prelude.{nat_eq}
-use Rattle.std.proofs.lemmas.Bool.Decides.{nat_tests}
 use Rattle.cat_value.specs.declared.value.Value.{Value}
 use Rattle.cat_value.specs.declared.decls.Decls.{Decls}
 use Rattle.cat_value.specs.declared.declaration.ItemDecl.{ItemDecl}
-use Rattle.cat_value.specs.Inputs.{is_given_for, are_given_for}
+use Rattle.cat_value.specs.Inputs.{are_given_for}
 use Rattle.cat_scope.specs.Names.{Names, AllHave}
 use Rattle.cat_scope.specs.Calls.{Items, Scoped}
 use Rattle.cat_scope.specs.Running.{entry_at, with_entry, run_items, no_values, moved, backwards}
 use Rattle.cat_scope.specs.ItemValues.{item_value}
 use Rattle.cat_sound.specs.Given.{values_at}
 use Rattle.cat_sound.proofs.Exported.{AllIn, Ahead, Behind, IsSound, all_more, anything, moved-behind, names_of}
+use Rattle.cat_sound.proofs.Exported.{DoneAt, IsDone, entry_given, no_values-length, with_entry-length, with_entry-other, with_entry-same}
 use Rattle.cat_sound.proofs.Exported.{same_some}
-use Rattle.cat_audit_sound.proofs.Gives.{both, not_true, same_number, found, IfGives, if_more, if_then}
-use Rattle.cat_audit_sound.proofs.ReadyItems.{IsDone, DoneAt}
+use Rattle.cat_audit_sound.proofs.Gives.{same_number, found, IfGives, if_more, if_then}
 use Rattle.cat_audit_sound.proofs.DoneItems.{item_done}
-
--- ---- entries
-
-with_entry_same : (item : ℕ) (v : Option Value) (values : Items) → item < length values
-    → slice_get (with_entry item v values) item ≡ Some v
-with_entry_same item v [] below = absurd (omega arith)
-with_entry_same zero v (w ∷ ws) below = refl
-with_entry_same (suc item) v (w ∷ ws) below = with_entry_same item v ws (omega arith)
-
-suc_other : (a b : ℕ) → nat_eq (suc a) (suc b) ≡ false → nat_eq a b ≡ false
-suc_other a b h = grind (arith, nat_tests)
-
-with_entry_other : (item k : ℕ) (v : Option Value) (values : Items) → nat_eq item k ≡ false
-    → slice_get (with_entry item v values) k ≡ slice_get values k
-with_entry_other item k v [] other = refl
-with_entry_other zero zero v (w ∷ ws) other = absurd (true≢false other)
-with_entry_other zero (suc k) v (w ∷ ws) other = refl
-with_entry_other (suc item) zero v (w ∷ ws) other = refl
-with_entry_other (suc item) (suc k) v (w ∷ ws) other = with_entry_other item k v ws (suc_other item k other)
-
-with_entry_length : (item : ℕ) (v : Option Value) (values : Items)
-    → length (with_entry item v values) ≡ length values
-with_entry_length item v [] = refl
-with_entry_length zero v (w ∷ ws) = refl
-with_entry_length (suc item) v (w ∷ ws) = ap suc (with_entry_length item v ws)
-
-no_values_length : (items : List ItemDecl) → length (no_values items) ≡ length items
-no_values_length [] = refl
-no_values_length (item ∷ items) = ap suc (no_values_length items)
-
-entry_given : (ds : Decls) (items : List ItemDecl) (input : Items) (k : ℕ) (decl : ItemDecl)
-    → IsTrue (are_given_for ds items input) → slice_get items k ≡ Some decl
-    → IsTrue (is_given_for ds decl (entry_at k input))
-entry_given ds [] input k decl h is = absurd (cc)
-entry_given ds (item ∷ items) [] k decl h is = not_true h
-entry_given ds (item ∷ items) (given ∷ input) zero decl h is =
-    subst (λ (i : ItemDecl). IsTrue (is_given_for ds i given)) (same_some item decl is) (both _ _ h).0
-entry_given ds (item ∷ items) (given ∷ input) (suc k) decl h is = entry_given ds items input k decl (both _ _ h).1 is
 
 -- ---- the front of an order
 
@@ -108,16 +69,16 @@ module _ (ds : Decls) (scoped : Scoped) (needs : ℕ → List ℕ) (sound : IsSo
       by : (b : Bool) → nat_eq item k ≡ b → Stands (with_entry item v values) k
       by true e =
           subst (Stands (with_entry item v values)) (same_number item k e) (record {
-            done = record { value = v; there = with_entry_same item v values below; is = is.0 };
-            given = λ w g. with_entry_same item v values below ∙ ap Some (is.1 w g);
+            done = record { value = v; there = with_entry-same item v values below; is = is.0 };
+            given = λ w g. with_entry-same item v values below ∙ ap Some (is.1 w g);
           })
       by false e = record {
         done = record {
           value = old.done.value;
-          there = with_entry_other item k v values e ∙ old.done.there;
+          there = with_entry-other item k v values e ∙ old.done.there;
           is = old.done.is;
         };
-        given = λ w g. with_entry_other item k v values e ∙ old.given w g;
+        given = λ w g. with_entry-other item k v values e ∙ old.given w g;
       }
 
   run_stands : (left before : List ℕ) (values : Items) → Ahead (length scoped.items) needs before left
@@ -139,15 +100,15 @@ module _ (ds : Decls) (scoped : Scoped) (needs : ℕ → List ℕ) (sound : IsSo
         (record {
           done = record {
             value = v;
-            there = with_entry_same item v values (below item values same ahead.0);
+            there = with_entry-same item v values (below item values same ahead.0);
             is = is.0;
           };
-          given = λ w g. with_entry_same item v values (below item values same ahead.0) ∙ ap Some (is.1 w g);
+          given = λ w g. with_entry-same item v values (below item values same ahead.0) ∙ ap Some (is.1 w g);
         }),
         all_more (Stands values) (Stands (with_entry item v values)) before h
             (still_stands values item v (below item values same ahead.0) is),
       )
-      (with_entry_length item v values ∙ same))
+      (with_entry-length item v values ∙ same))
     where
       below : (item : ℕ) (values : Items) → length values ≡ length scoped.items → item < length scoped.items
           → item < length values
@@ -158,7 +119,7 @@ module _ (ds : Decls) (scoped : Scoped) (needs : ℕ → List ℕ) (sound : IsSo
       → IfGives (values_at scoped input index) (λ values. AllHave (Stands values) (backwards (take index scoped.order)))
   front_stands index ahead =
       run_stands (take index scoped.order) [] (no_values scoped.items)
-      (ahead_front (length scoped.items) needs [] scoped.order index ahead) tt tt (no_values_length scoped.items)
+      (ahead_front (length scoped.items) needs [] scoped.order index ahead) tt tt (no_values-length scoped.items)
 
   pub front_behind : (index : ℕ) → Ahead (length scoped.items) needs [] scoped.order
       → Behind (length scoped.items) needs (backwards (take index scoped.order))

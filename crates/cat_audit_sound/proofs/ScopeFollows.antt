@@ -28,6 +28,7 @@ use Rattle.cat_scope.specs.Eval.{Env, eval}
 use Rattle.cat_sound.specs.Endings.{Allowed, IsEnd, IsOf, AreOf, IsEnvOf}
 use Rattle.cat_sound.specs.Settled.{InCondition, StandsIn}
 use Rattle.cat_sound.proofs.Exported.{defs-all, stands_end}
+use Rattle.cat_sound.proofs.Exported.{one_back, one_front}
 use Rattle.cat_guard.specs.declared.table.Term.{Term}
 use Rattle.cat_guard.specs.declared.table.Atom.{Atom}
 use Rattle.cat_guard.specs.Formulas.{truth, asked, renamed}
@@ -47,16 +48,12 @@ use Rattle.cat_audit_sound.specs.Follows.{Follows}
 use Rattle.cat_audit_sound.proofs.Tells.{Tells, tells_as, tells_Boolean}
 use Rattle.cat_audit_sound.proofs.GuardTells.{guard_told}
 use Rattle.cat_audit_sound.proofs.AskedTypes.{IsAskedOf, condition_asked}
-use Rattle.cat_audit_sound.proofs.Numbered.{one_front, one_back, all_are}
+use Rattle.cat_audit_sound.proofs.Numbered.{all_are}
 use Rattle.cat_audit_sound.proofs.AtomAnswers.{IsOfDef, targets_all, atom_is}
 use Rattle.cat_audit_sound.proofs.DefFollows.{def_goes}
 use Rattle.cat_audit_sound.proofs.TargetFollows.{DefGoes, target_goes}
 
 -- ---- the valuation of a judging is one
-
-or_term : {A : Type 0} → A → Option A → A
-or_term a None = a
-or_term a (Some b) = b
 
 point_is_of : (d : Dim) → IsTrue (is_point d (default_point d)) → (r : Reply) → IsTrue (is_point d (point_at d r))
 point_is_of d default (Err s) = default

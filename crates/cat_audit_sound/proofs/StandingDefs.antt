@@ -18,7 +18,7 @@ use Rattle.cat_scope.specs.Names.{Names, AllHave, is_in, items_in}
 use Rattle.cat_scope.specs.HasType.{HasType}
 use Rattle.cat_scope.specs.Targets.{same_inner, same_target, judge_target}
 use Rattle.cat_scope.specs.Eval.{Env, eval}
-use Rattle.cat_scope.specs.Orders.{in_condition, in_def, in_defs_of, calls_in, once, scope_dependencies}
+use Rattle.cat_scope.specs.Orders.{in_condition, in_def, in_defs_of, calls_in, scope_dependencies}
 use Rattle.cat_scope.specs.Mentions.{items_named, scopes_named}
 use Rattle.cat_scope.specs.WellFormed.{ConditionTyped, DefTyped, IsBodyOf, IsWellFormed}
 use Rattle.cat_scope.specs.Naming.{IsTargetAt}
@@ -28,6 +28,7 @@ use Rattle.cat_scope.specs.Running.{run_of, scoped_of}
 use Rattle.cat_sound.specs.Endings.{AreOf, AreOutputsOf, EndsIn, IsCallable, IsEnvOf, IsReady}
 use Rattle.cat_sound.specs.Settled.{InCondition, StandsIn}
 use Rattle.cat_sound.proofs.Exported.{Ahead, Callee, DefEnds, IsSound, JudgingEnds, Placed, ahead-of_IsOrder}
+use Rattle.cat_sound.proofs.Exported.{all_once}
 use Rattle.cat_sound.proofs.Exported.{all_back, all_front, all_more, any_stands, anything, body_at, callable}
 use Rattle.cat_sound.proofs.Exported.{called-all}
 use Rattle.cat_sound.proofs.Exported.{everywhere, in_at, judge_target-ends, names_of, all-of_IsOrder, same_some}
@@ -138,16 +139,6 @@ needs_below bound needs before (n ∷ left) below h k there =
         (all_more (λ m. IsTrue (is_in m before)) (λ m. m < bound) (needs n) h.1
         (λ m inside. in_at (λ x. x < bound) before m below inside))
     by false e g rest = rest g
-
-all_once : (P : ℕ → Type 0) (seen ns : List ℕ) → AllHave P seen → AllHave P (once seen ns) → AllHave P ns
-all_once P seen [] old h = tt
-all_once P seen (n ∷ ns) old h = by (is_in n seen) refl h (all_once P seen ns) (all_once P (n ∷ seen) ns)
-  where
-    by : (b : Bool) → is_in n seen ≡ b → AllHave P (if b then once seen ns else n ∷ once (n ∷ seen) ns)
-        → (AllHave P seen → AllHave P (once seen ns) → AllHave P ns)
-        → (AllHave P (n ∷ seen) → AllHave P (once (n ∷ seen) ns) → AllHave P ns) → AllHave P (n ∷ ns)
-    by true e g one other = (in_at P seen n old e, one old g)
-    by false e g one other = (g.0, other (g.0, old) g.1)
 
 pub given_typed : (ds : Decls) (s : ℕ) (scope : Scope) (input : Items) → slice_get ds.scopes s ≡ Some scope
     → IsTrue (are_given_for ds scope.items input) → IsWellTyped ds s input

@@ -24,6 +24,7 @@ use Rattle.cat_scope.specs.Eval.{Env, eval}
 use Rattle.cat_sound.specs.Endings.{Allowed, AreOf, IsEnvOf}
 use Rattle.cat_sound.specs.Settled.{InCondition, StandsIn}
 use Rattle.cat_sound.proofs.Exported.{anything, defs-all}
+use Rattle.cat_sound.proofs.Exported.{one_back, one_front}
 use Rattle.cat_guard.specs.Formulas.{truth, asked, renamed}
 use Rattle.cat_guard.specs.GuardFormulas.{formula_of}
 use Rattle.cat_guard.specs.PointValues.{point_at}
@@ -39,7 +40,7 @@ use Rattle.cat_audit_sound.proofs.AtomAnswers.{IsOfDef, targets_all}
 use Rattle.cat_audit_sound.proofs.Goes as ends
 use Rattle.cat_audit_sound.proofs.Goes.{def_goes}
 use Rattle.cat_audit_sound.proofs.Lists.{among_all}
-use Rattle.cat_audit_sound.proofs.Numbered.{all_are, one_back, one_front}
+use Rattle.cat_audit_sound.proofs.Numbered.{all_are}
 use Rattle.cat_audit_sound.proofs.OneQuestions.{condition_here}
 use Rattle.cat_audit_sound.proofs.PointsOfTerms.{points_in, atom_is}
 use Rattle.cat_audit_sound.proofs.StandingDefs.{target_of_def}

@@ -1,7 +1,7 @@
 -- The parts of an input are of their types.
 use Rattle.std.proofs.Common.{◌≡◌, ℕ, zero, suc, ◌+◌, ◌++◌, ◌-◌, ◌<◌, Bool, IsTrue, List, [], ◌∷◌, drop}
-use Rattle.std.proofs.Common.{Option, Some, None, slice_get, refl, sym, ap, ◌∙◌, subst, ℤ, arith, length, ◌≤◌}
-use Rattle.std.proofs.lemmas.List.{append_assoc, append-nil, drop_all}
+use Rattle.std.proofs.Common.{Option, Some, None, slice_get, refl, sym, ap, ◌∙◌, subst, ℤ, arith}
+use Rattle.std.proofs.lemmas.List.{append_assoc}
 use Rattle.cat_num.specs.Whole.{fits}
 use Rattle.cat_num.specs.Frac.{Fraction, is_reduced}
 use Rattle.cat_date.specs.Calendar.{is_day}
@@ -103,13 +103,6 @@ made_more ds points all input g items n item made at is =
     append_assoc input (g ∷ []) (given_from ds points (n + 1) (drop (n + 1) items))
     ∙ ap (λ h. input ++ (h ∷ given_from ds points (n + 1) (drop (n + 1) items))) is
     ∙ sym (ap (λ xs. input ++ given_from ds points n xs) (drop_at items n item at)) ∙ made
-
-pub given_all : (ds : Decls) (items : List ItemDecl) (input : List (Option Value)) (n : ℕ) → length items ≤ n
-    → ((rest : List (Option Value)) → IsTrue (are_given_for ds (drop n items) rest)
-    → IsTrue (are_given_for ds items (input ++ rest))) → IsTrue (are_given_for ds items input)
-given_all ds items input n past typed =
-    subst (λ (gs : List (Option Value)). IsTrue (are_given_for ds items gs)) (append-nil input)
-    (typed [] (rw (drop_all n items past) refl))
 
 pub well_typed_of : (ds : Decls) (scope : ℕ) (decl : Scope) (input : List (Option Value))
     → slice_get ds.scopes scope ≡ Some decl → IsTrue (are_given_for ds decl.items input) → IsWellTyped ds scope input

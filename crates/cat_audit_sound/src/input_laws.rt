@@ -25,5 +25,5 @@ pub fn free_terms_have_their_points(program: &Program)
         → ∥ IsSeenAs (eval env term.expr arguments).end (point_at region i) ∥₁ }
 {
     programs_are_well_formed(program);
-    declarations_are_sound(&program.decls);
+    declarations_are_sound(program.decls());
 }

@@ -31,7 +31,7 @@ pub fn inputs_of_valuations_are_well_typed(program: &Program)
         → IsValuation (dims_of table.terms) v
         → IsWellTyped program.now.decls scope (input_at program.now.decls table v) }
 {
-    declarations_are_sound(&program.decls);
+    declarations_are_sound(program.decls());
 }
 
 /// A run that ends in a value has covered each target of its scope that is no function and whose item isn't given, a

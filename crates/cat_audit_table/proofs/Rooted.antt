@@ -1,11 +1,9 @@
 -- The roots of a target are the groups whose first definitions are no exceptions.
-use Rattle.std.proofs.Common.{◌≡◌, ℕ, ◌+◌, ◌≤◌, Bool, List, [], ◌∷◌, ◌++◌, length, Some, slice_get, refl, ap}
-use Rattle.std.proofs.Common.{◌∙◌, sym, arith, true, false, if◌then◌else◌, drop, true≢false}
+use Rattle.std.proofs.Common.{◌≡◌, ℕ, ◌+◌, ◌≤◌, Bool, List, [], ◌∷◌, length, Some, slice_get, refl, ap}
+use Rattle.std.proofs.Common.{◌∙◌, sym, arith, true, false, if◌then◌else◌, true≢false}
 use Rattle.std.specs.Option.{is_some}
-use Rattle.std.proofs.lemmas.List.{append-nil, drop_all}
 use Rattle.cat_value.specs.declared.outcome.Target.{Target}
 use Rattle.cat_scope.specs.declared.defs.Def.{Def}
-use Rattle.cat_scope.specs.declared.forest.ForestGroup.{ForestGroup}
 use Rattle.cat_scope.specs.Names.{AllHave}
 use Rattle.cat_scope.specs.Groups.{Numbered, Key, Group, key_of, is_among, group_at, groups_from, groups_of, is_none}
 use Rattle.cat_scope.specs.Groups.{group_numbers, roots_of, excepts}
@@ -83,9 +81,3 @@ few_groups defs target =
       numbers_length ds,
       few_numbers target defs,
     )
-
-pub all_met : (defs : List Def) (groups : List ForestGroup) (n : ℕ) (made whole : List ℕ) → length groups ≤ n
-    → made ++ root_numbers defs n (drop n groups) ≡ whole → made ≡ whole
-all_met defs groups n made whole past is =
-    sym (append-nil made) ∙ ap (λ (gs : List ForestGroup). made ++ root_numbers defs n gs)
-    (sym (drop_all n groups past)) ∙ is

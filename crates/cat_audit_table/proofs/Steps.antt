@@ -9,7 +9,6 @@ use Rattle.cat_scope.specs.declared.defs.Def.{Def}
 use Rattle.cat_scope.specs.declared.forest.ForestTarget.{ForestTarget}
 use Rattle.cat_scope.specs.Groups.{Numbered, groups_of, excepts, roots_of}
 use Rattle.cat_scope.specs.Targets.{defs_from}
-use Rattle.cat_guard.specs.declared.guard.Guard.{Guard}
 use Rattle.cat_guard.specs.declared.guard.GuardDef.{GuardDef}
 use Rattle.cat_guard.specs.declared.guard.GuardGroup.{GuardGroup}
 use Rattle.cat_guard.specs.declared.table.TableTarget.{TableTarget}
@@ -19,8 +18,8 @@ use Rattle.cat_guard.specs.Tables.{def_formula, defs_questions, questions_of, gu
 use Rattle.cat_guard.specs.Tables.{target_name, is_function, may_be_empty, item_pos}
 use Rattle.cat_except.specs.inside.Grouping.{defs_at}
 use Rattle.cat_audit_table.specs.declared.numbering.Numbering.{Numbering}
-use Rattle.cat_audit_table.specs.Numbered.{IsNumberingOf, AddsGuard, Grows, IsMade}
-use Rattle.cat_audit_table.proofs.Adding.{grows_none, grows_then, made_front, made_back}
+use Rattle.cat_audit_table.specs.Numbered.{IsNumberingOf, Grows, IsMade}
+use Rattle.cat_audit_table.proofs.Adding.{grows_then, made_front, made_back}
 use Rattle.cat_audit_table.specs.declared.scene.TabledScope.{TabledScope}
 use Rattle.cat_audit_table.specs.inside.Added.{AddsDef, AddsDefs, AddsTarget, AddsTargets, IsSceneTable, targets_in}
 use Rattle.cat_audit_table.specs.inside.Added.{scene_questions}
@@ -28,20 +27,6 @@ use Rattle.cat_scope.proofs.Exported.{map_append}
 use Rattle.cat_except.proofs.Exported.{defs_at_push}
 
 -- ---- definitions
-
-abbrev the_def : ℕ → Guard → Pos → GuardDef
-the_def number guard pos = record { number = number; guard = guard; pos = pos }
-
-pub def_added : (scene : TabledScope) (n : ℕ) (d : Def) (before after : Numbering) (guard : Guard)
-    → AddsGuard scene.items.now (def_formula scene.decls.now d) before after guard
-    → AddsDef scene (n, d) before after (the_def n guard d.pos)
-def_added scene n d before after guard is = record {
-  grown = is.grown;
-  made_is = λ qs rest are. ap (λ (g : Guard). the_def n g d.pos) (is.guard_is qs rest are);
-}
-
-pub no_defs : (scene : TabledScope) (before : Numbering) → AddsDefs scene [] before before []
-no_defs scene before = record { grown = grows_none scene.items.now before; made_is = λ qs rest are. refl }
 
 questions_push : (ds : Decls) (xs : List Numbered) (d : Numbered)
     → defs_questions ds (xs ++ d ∷ []) ≡ defs_questions ds xs ++ asked (def_formula ds d.1)
@@ -155,9 +140,6 @@ target_added scene t before after name function empty pos defs groups roots name
     groups_in : List GuardGroup
     groups_in = guard_groups (defs_from t 0 scene.defs.now) (excepts (groups_of (defs_from t 0 scene.defs.now))) 0
         (groups_of (defs_from t 0 scene.defs.now))
-
-pub no_targets : (scene : TabledScope) (before : Numbering) → AddsTargets scene [] before before []
-no_targets scene before = record { grown = grows_none scene.items.now before; made_is = λ qs rest are. refl }
 
 all_questions_push : (ds : Decls) (defs : List Def) (ts : List Target) (t : Target)
     → questions_of ds defs (ts ++ t ∷ []) ≡ questions_of ds defs ts ++ defs_questions ds (defs_from t 0 defs)

@@ -1,6 +1,7 @@
 -- The tables of an audit.
 use Rattle.std.specs.Prelude.{◌<◌, ◌≤◌, ℕ, List, map, length}
 use Rattle.cat_pos.specs.declared.limits.TheConstants.{ENTRIES_BOUND}
+use Rattle.cat_value.specs.Declarations.{most_cases}
 use Rattle.cat_scope.specs.declared.programs.Program.{Program}
 use Rattle.cat_scope.specs.Names.{AllHave}
 use Rattle.cat_guard.specs.declared.table.Table.{Table}
@@ -10,7 +11,7 @@ use Rattle.cat_depend.specs.Reached.{AreReachedFrom}
 -- a program keeps the counts of definitions and of cases, as each accepted one does
 pub record IsCounted (program : Program) : Type 0 where
   pub definitions : AllHave (λ body. length body.defs < ENTRIES_BOUND) program.bodies
-  pub cases : AllHave (λ e. length e.cases ≤ 128) program.decls.enumerations
+  pub cases : AllHave (λ e. length e.cases ≤ most_cases) program.decls.enumerations
 
 -- the scopes of tables
 abbrev pub scopes_of : List Table → List ℕ

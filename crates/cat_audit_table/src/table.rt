@@ -1,6 +1,7 @@
 // The table of a scope.
 ghost use Rattle.std.specs.Prelude.{◌≡◌, ◌<◌, ◌≤◌, IfOk, IfSome, IsTrue, length, slice_get};
 ghost use Rattle.cat_pos.specs.declared.limits.TheConstants.{ENTRIES_BOUND};
+ghost use Rattle.cat_value.specs.Declarations.{most_cases};
 ghost use Rattle.cat_scope.specs.Names.{AllHave};
 ghost use Rattle.cat_scope.specs.Forests.{StandsFor};
 ghost use Rattle.cat_guard.specs.Tables.{TablesScope};
@@ -44,16 +45,17 @@ pub fn audit_table(
 ) -> Result<Table, AllocError>
     requires scope { scope < length program.now.bodies }
     requires few { IfSome (slice_get program.now.bodies scope) (λ body. length body.defs < ENTRIES_BOUND) }
-    requires cases { AllHave (λ e. length e.cases ≤ 128) program.now.decls.enumerations }
+    requires cases { AllHave (λ e. length e.cases ≤ most_cases) program.now.decls.enumerations }
     requires stands { StandsFor program.now scope forest.now.targets }
     ensures { IfOk result (λ table. TablesScope program.now scope table) }
 {
     programs_are_well_formed(program);
-    let decl = program.decls.scopes.at(scope as usize);
+    let decls = program.decls();
+    let decl = decls.scopes.at(scope as usize);
     let body = program.bodies.at(scope as usize);
     let scene = TabledScope {
         alloc,
-        decls: &program.decls,
+        decls,
         items: decl.items.as_slice(),
         defs: body.defs.as_slice(),
     };

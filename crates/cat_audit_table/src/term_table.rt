@@ -10,11 +10,10 @@ use crate::key_table::KeyTable;
 use crate::path::path_of;
 use crate::token::token_of;
 use cat_audit_keys::term_key;
-use cat_copy::copy_expr;
 use cat_guard::{Term, Terms};
 use cat_pos::List;
 use cat_region::Dim;
-use cat_scope::Expr;
+use cat_scope::{Expr, copy_expr};
 use std::alloc::{AllocError, Global};
 
 /// The terms of the questions so far, by first appearance, with their keys.

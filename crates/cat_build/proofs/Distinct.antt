@@ -1,7 +1,7 @@
 -- The names in each declaration of an accepted program are distinct: what stands twice is at fault.
-use Rattle.std.proofs.Common.{◌≡◌, ◌∙◌, ◌&&◌, not, ℕ, Bool, true, false, true≢false, IsTrue, List, [], ◌∷◌, ◌++◌, map}
-use Rattle.std.proofs.Common.{Ok, Err, if◌then◌else◌, refl, sym, ap, ap₂, subst}
-use Rattle.std.specs.Prelude.{bytes_eq, flat_map}
+use Rattle.std.proofs.Common.{◌≡◌, ◌∙◌, ℕ, Bool, true, false, true≢false, IsTrue, List, [], ◌∷◌, ◌++◌, map}
+use Rattle.std.proofs.Common.{Ok, if◌then◌else◌, refl, sym, ap, ap₂, subst}
+use Rattle.std.specs.Prelude.{bytes_eq}
 use Rattle.std.specs.List.{list_all}
 use Rattle.std.proofs.lemmas.Slice.Eq.{bytes_eq-Decides}
 use Rattle.cat_pos.specs.declared.pos.Piece.{Piece}
@@ -24,17 +24,15 @@ use Rattle.cat_tree.specs.declared.program.Variable.TheVariants as variable
 use Rattle.cat_scope.specs.declared.programs.Program.{Program}
 use Rattle.cat_scope.specs.Names.{AllHave}
 use Rattle.cat_names.specs.declared.fault.Fault.{Fault}
-use Rattle.cat_names.specs.declared.fault.Fault.TheVariants.{NameUnknown}
 use Rattle.cat_names.specs.Accepted.{IsNamed, parts_of}
 use Rattle.cat_names.specs.DeclarationFaults.{variable_name}
-use Rattle.cat_names.specs.Declarations.{called_item_of, case_declared, content_declared, enumeration_declared}
+use Rattle.cat_names.specs.Declarations.{case_declared, content_declared, enumeration_declared}
 use Rattle.cat_names.specs.Declarations.{field_declared, item_declared, scope_declared, structure_declared}
-use Rattle.cat_names.specs.Declarations.{variable_item, variable_type}
-use Rattle.cat_names.specs.Found.{Found, and_then, both, each_found, or_fault}
-use Rattle.cat_names.specs.Lookup.{TypeNames, first_named, type_found}
+use Rattle.cat_names.specs.Found.{Found, each_found}
+use Rattle.cat_names.specs.Lookup.{TypeNames, type_found}
 use Rattle.cat_names.specs.NameFaults.{item_faults}
 use Rattle.cat_names.specs.Written.{enumerations_in, scope_names_in, scopes_in, structures_in, texts, types_in}
-use Rattle.cat_names.proofs.Exported.{Apart, declared_parts, each_on, fine_items, names_apart}
+use Rattle.cat_names.proofs.Exported.{both_ok, item_name, then_ok, Apart, declared_parts, each_on, fine_items, names_apart}
 use Rattle.cat_json.specs.InputsRead.{given_names}
 use Rattle.cat_json.specs.Keys.{field_names, is_among}
 use Rattle.cat_json.specs.Names.{are_distinct, case_names, cases_are_distinct, fields_are_distinct}
@@ -60,24 +58,12 @@ distinct (t ∷ ts) h = rw (not_among ts t h.0) (distinct ts h.1)
 
 -- ---- names of parts, in the order in which they are written
 
-then_is : {A B : Type 0} (found : Found A) (go : A → Found B) (b : B) → and_then found go ≡ Ok b
-    → (a : A) × (found ≡ Ok a) × (go a ≡ Ok b)
-then_is (Ok a) go b h = (a, refl, h)
-then_is (Err faults) go b h = cc h
-
-both_are : {A B C : Type 0} (x : Found A) (y : Found B) (go : A → B → Found C) (c : C) → both x y go ≡ Ok c
-    → (a : A) × (b : B) × (x ≡ Ok a) × (y ≡ Ok b) × (go a b ≡ Ok c)
-both_are (Ok a) (Ok b) go c h = (a, b, refl, refl, h)
-both_are (Ok a) (Err faults) go c h = cc h
-both_are (Err faults) (Ok b) go c h = cc h
-both_are (Err faults) (Err more) go c h = cc h
-
 named_alike : {A B : Type 0} (f : A → Found B) (written : A → Name) (declared : B → List ℕ)
     → ((x : A) (y : B) → f x ≡ Ok y → declared y ≡ (written x).text) → (xs : List A) (ys : List B)
     → each_found f xs ≡ Ok ys → map declared ys ≡ texts (map written xs)
 named_alike f written declared one [] ys h = let is : [] ≡ ys = cc h in ap (map declared) (sym is)
 named_alike f written declared one (x ∷ xs) ys h =
-    let found = both_are (f x) (each_found f xs) _ ys h in
+    let found = both_ok (f x) (each_found f xs) _ ys h in
     let is : found.0 ∷ found.1 ≡ ys = cc found.4 in
     ap (map declared) (sym is)
     ∙ ap₂ (λ (t : List ℕ) (ts : List (List ℕ)). t ∷ ts) (one x found.0 found.2)
@@ -85,26 +71,15 @@ named_alike f written declared one (x ∷ xs) ys h =
 
 field_name : (names : TypeNames) (f : FieldItem) (g : Field) → field_declared names f ≡ Ok g → g.name ≡ f.name.text
 field_name names f g h =
-    let found = then_is (type_found names f.ty) _ g h in
+    let found = then_ok (type_found names f.ty) _ g h in
     let is : record { name = f.name.text; ty = found.0 } ≡ g = cc found.2 in
     ap (λ (x : Field). x.name) (sym is)
 
 case_name : (names : TypeNames) (c : CaseItem) (d : Case) → case_declared names c ≡ Ok d → d.name ≡ c.name.text
 case_name names c d h =
-    let found = then_is (content_declared names c.content) _ d h in
+    let found = then_ok (content_declared names c.content) _ d h in
     let is : record { name = c.name.text; content = found.0 } ≡ d = cc found.2 in
     ap (λ (x : Case). x.name) (sym is)
-
-item_name : (names : TypeNames) (scopes : List (List ℕ)) (v : Variable) (i : ItemDecl)
-    → item_declared names scopes v ≡ Ok i → i.name ≡ (variable_name v).text
-item_name names scopes (variable.Own k p w t params) i h =
-    let found = both_are (variable_type names t) (each_found (λ f. type_found names f.ty) params) _ i h in
-    let is : variable_item k w t found.0 found.1 ≡ i = cc found.4 in
-    ap (λ (x : ItemDecl). x.name) (sym is)
-item_name names scopes (variable.Called w u) i h =
-    let found = then_is (or_fault (NameUnknown u.pos) (first_named (λ name. name) u.text scopes)) _ i h in
-    let is : called_item_of w found.0.0 ≡ i = cc found.2 in
-    ap (λ (x : ItemDecl). x.name) (sym is)
 
 -- ---- declarations
 
@@ -141,7 +116,7 @@ module _ (names : TypeNames) where
   structure_distinct : (s : Name × List FieldItem) (d : Structure) → structure_declared names s ≡ Ok d
       → PartsApart (λ f. f.name) s → IsTrue (fields_are_distinct d)
   structure_distinct s d h apart =
-      let found = then_is (each_found (field_declared names) s.1) _ d h in
+      let found = then_ok (each_found (field_declared names) s.1) _ d h in
       let is : record { name = s.0.text; fields = found.0 } ≡ d = cc found.2 in
       let same = field_names_are found.0
       ∙ named_alike (field_declared names) (λ f. f.name) (λ g. g.name) (field_name names) s.1 found.0 found.1 in
@@ -151,7 +126,7 @@ module _ (names : TypeNames) where
   enumeration_distinct : (e : Name × List CaseItem) (d : Enumeration) → enumeration_declared names e ≡ Ok d
       → PartsApart (λ c. c.name) e → IsTrue (cases_are_distinct d)
   enumeration_distinct e d h apart =
-      let found = then_is (each_found (case_declared names) e.1) _ d h in
+      let found = then_ok (each_found (case_declared names) e.1) _ d h in
       let is : record { name = e.0.text; cases = found.0 } ≡ d = cc found.2 in
       let same = case_names_are found.0
       ∙ named_alike (case_declared names) (λ c. c.name) (λ c. c.name) (case_name names) e.1 found.0 found.1 in
@@ -161,7 +136,7 @@ module _ (names : TypeNames) where
   scope_distinct : (scopes : List (List ℕ)) (s : Name × List Variable) (d : Scope)
       → scope_declared names scopes s ≡ Ok d → PartsApart variable_name s → IsTrue (inputs_are_distinct d)
   scope_distinct scopes s d h apart =
-      let found = then_is (each_found (item_declared names scopes) s.1) _ d h in
+      let found = then_ok (each_found (item_declared names scopes) s.1) _ d h in
       let is : record { name = s.0.text; items = found.0 } ≡ d = cc found.2 in
       let same = named_alike (item_declared names scopes) variable_name (λ i. i.name) (item_name names scopes) s.1
       found.0 found.1 in

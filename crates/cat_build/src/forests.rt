@@ -121,7 +121,7 @@ pub fn forests_of(
     ensures forests { IfOk result (AreForestsTo (length program.now.bodies) program.now) }
     ensures cause { IfErr result (HasCause pieces.now) }
 {
-    declarations_are_sound(&program.decls);
+    declarations_are_sound(program.decls());
     match forests_in(alloc, program) {
         Ok(forests) => Ok(forests),
         Err(refusal) => Err(refusal_of(refusal)),

@@ -4,7 +4,7 @@ ghost use Rattle.cat_pos.specs.declared.limits.TheConstants.{ENTRIES_BOUND};
 ghost use Rattle.cat_pos.specs.declared.pos.Piece.{Piece};
 ghost use Rattle.cat_scope.specs.declared.programs.Program.{Program};
 ghost use Rattle.cat_scope.specs.Names.{AllHave};
-ghost use Rattle.cat_names.specs.Limits.{most_cases};
+ghost use Rattle.cat_value.specs.Declarations.{most_cases};
 ghost use Rattle.cat_json.specs.Names.{names_are_distinct};
 ghost use Rattle.cat_build.specs.Accepted.{IsAccepted};
 ghost use Rattle.cat_build.specs.Causes.{HasCause};

@@ -21,14 +21,16 @@ use Rattle.cat_scope.specs.Targets.{same_inner, same_target, defs_from}
 use Rattle.cat_scope.specs.Mentions.{items_named, joined, scopes_named}
 use Rattle.cat_scope.specs.Orders.{in_condition, in_def, in_defs_of, called_by_items, calls_in, once}
 use Rattle.cat_scope.specs.Orders.{scope_dependencies}
+use Rattle.cat_scope.specs.Expected.{lists_placed, condition_placed, def_placed, defs_placed, assertions_placed, parts_placed}
 use Rattle.cat_scope.specs.WellFormed.{ConditionTyped, DefTyped, IsBodyOf, AreBodiesOf, IsWellFormed}
 use Rattle.cat_sound.proofs.Exported.{Ahead, ahead_as, ahead-of_IsOrder, all_back, all_front, all_more}
-use Rattle.cat_sound.proofs.Exported.{called-all, defs-all, dependencies-length, groups-all, in_at, items_ahead}
+use Rattle.cat_sound.proofs.Exported.{all_once}
+use Rattle.cat_sound.proofs.Exported.{called-all, defs-all, dependencies-length, groups-all, items_ahead}
 use Rattle.cat_sound.proofs.Exported.{same_some, scopes-at, scopes-length, unique_target, body_at}
 use Rattle.cat_calc.specs.declared.term.DefaultTerm.{DefaultTerm}
 use Rattle.cat_calc.specs.Terms.{conditions_in, consequences_in, named_in}
 use Rattle.cat_calc.specs.Reducing.{term_of}
-use Rattle.cat_calc.specs.WellFormed.{AreCalcScopes, IsCalc, IsCalcScope, StandBehind, TermTyped, all_terms}
+use Rattle.cat_calc.specs.WellFormed.{AreCalcScopes, IsCalc, IsCalcScope, StandBehind, TermPlaced, TermTyped, all_terms}
 use Rattle.cat_calc.specs.WellFormed.{items_needed, named_by_items, named_by_terms, named_in_all, scopes_called}
 use Rattle.cat_calc.specs.inside.Numbered.{groups_in}
 use Rattle.cat_calc.specs.inside.Items.{target_at, term_at, inner_terms, inner_items, item_terms, terms_of_items}
@@ -95,6 +97,50 @@ found_typed ds scope items defs typed item inner ps t target found (there is) =
     (term_typed (record { decls = ds; items = items }) scope defs typed item inner ps t target)
 found_typed ds scope items defs typed item inner ps t target found (missing is none) =
     absurd (none (record { params = ps; ty = t; is = target }))
+
+-- ---- where empty lists stand
+
+both_hold : (a b : Bool) → IsTrue (a && b) → IsTrue a × IsTrue b
+both_hold true b h = (refl, h)
+both_hold false b h = absurd (true≢false (sym h))
+
+-- a definition whose empty lists stand where a type is expected
+abbrev Placed : Def → Type 0
+Placed d = IfSome d.condition (λ e. IsTrue (lists_placed e false)) × IsTrue (lists_placed d.consequence true)
+
+its_condition : (o : Option Expr) → IsTrue (condition_placed o) → IfSome o (λ e. IsTrue (lists_placed e false))
+its_condition None h = tt
+its_condition (Some e) h = h
+
+each_placed : (defs : List Def) → IsTrue (defs_placed defs) → AllHave Placed defs
+each_placed [] h = tt
+each_placed (d ∷ defs) h =
+    let parts = both_hold (def_placed d) (defs_placed defs) h in
+    let own = both_hold (condition_placed d.condition) (lists_placed d.consequence true) parts.0 in
+    ((its_condition d.condition own.0, own.1), each_placed defs parts.1)
+
+term_placed : (defs : List Def) → IsTrue (defs_placed defs) → (item : ℕ) (inner : Option ℕ) → TermPlaced (term_at defs item inner)
+term_placed defs placed item inner =
+    let has = has_at (λ e. IsTrue (lists_placed e false)) (λ e. IsTrue (lists_placed e true)) defs item inner
+    (all_more Placed (λ d. IsTrue (same_target d.target (target_at item inner)) → Placed d) defs (each_placed defs placed)
+    (λ d h same. h)) in
+    record { conditions = has.conditions; consequences = has.consequences }
+
+found_placed : (ds : Decls) (items : List ItemDecl) (defs : List Def) → IsTrue (defs_placed defs) → (item : ℕ)
+    (inner : Option ℕ) (ps : List Ty) (t : Ty)
+    → IsTargetAt (record { decls = ds; items = items }) item inner ps t → (found : Option DefaultTerm)
+    → IsTermAt ds defs items item inner found → IfSome found TermPlaced
+found_placed ds items defs placed item inner ps t target found (there is) =
+    subst (λ o. IfSome o TermPlaced) (sym is) (term_placed defs placed item inner)
+found_placed ds items defs placed item inner ps t target found (missing is none) =
+    absurd (none (record { params = ps; ty = t; is = target }))
+
+assertions_all : (all : List Assertion) → IsTrue (assertions_placed all)
+    → AllHave (λ a. IsTrue (lists_placed a.condition false)) all
+assertions_all [] h = tt
+assertions_all (a ∷ all) h =
+    let parts = both_hold (lists_placed a.condition false) (assertions_placed all) h in
+    (parts.0, assertions_all all parts.1)
 
 -- ---- what is named
 
@@ -210,6 +256,14 @@ is_calc_scope ds n scope body is = record {
       (term_of (terms_of_items ds body.defs 0 scope.items) target)
       (term_found ds body.defs scope.items target.item target.inner);
   assertions = is.assertions;
+  lists = λ target ps t at. found_placed ds scope.items body.defs
+      (both_hold (parts_placed body.source) (defs_placed body.defs)
+      (both_hold (parts_placed body.source && defs_placed body.defs) (assertions_placed body.assertions) is.lists).0).1
+      target.item target.inner ps t at
+      (term_of (terms_of_items ds body.defs 0 scope.items) target)
+      (term_found ds body.defs scope.items target.item target.inner);
+  assertion_lists = assertions_all body.assertions
+      (both_hold (parts_placed body.source && defs_placed body.defs) (assertions_placed body.assertions) is.lists).1;
   order = record {
     once = λ k below. is.order.once k
         (omega (arith, below, dependencies-length items_named body.defs 0 scope.items));
@@ -232,17 +286,6 @@ are_calc_scopes ds n (scope ∷ scopes) (body ∷ bodies) are =
     (is_calc_scope ds n scope body are.0, are_calc_scopes ds (n + 1) scopes bodies are.1)
 
 -- ---- the order of scopes
-
--- what holds of each number once holds of each
-all_once : (P : ℕ → Type 0) (seen ns : List ℕ) → AllHave P seen → AllHave P (once seen ns) → AllHave P ns
-all_once P seen [] old h = tt
-all_once P seen (n ∷ ns) old h = by (is_in n seen) refl h (all_once P seen ns) (all_once P (n ∷ seen) ns)
-  where
-    by : (b : Bool) → is_in n seen ≡ b → AllHave P (if b then once seen ns else n ∷ once (n ∷ seen) ns)
-        → (AllHave P seen → AllHave P (once seen ns) → AllHave P ns)
-        → (AllHave P (n ∷ seen) → AllHave P (once (n ∷ seen) ns) → AllHave P ns) → AllHave P (n ∷ ns)
-    by true e g one other = (in_at P seen n old e, one old g)
-    by false e g one other = (g.0, other (g.0, old) g.1)
 
 module _ (ds : Decls) (bodies : List Body) (order : List ℕ) (formed : IsWellFormed ds bodies order) where
   -- a scope with its body

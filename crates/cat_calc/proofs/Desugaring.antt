@@ -25,7 +25,7 @@ use Rattle.cat_scope.specs.WellFormed.{IsWellFormed}
 use Rattle.cat_scope.specs.Forests.{are_low, forest_of, targets_of, StandsFor}
 use Rattle.cat_scope.specs.Calls.{Items}
 use Rattle.cat_scope.specs.Running.{scope_run}
-use Rattle.cat_sound.proofs.Exported.{all_at, same_some}
+use Rattle.cat_sound.proofs.Exported.{all_at, same_some, target_listed}
 use Rattle.cat_calc.specs.declared.calcs.CalcScope.{CalcScope}
 use Rattle.cat_calc.specs.declared.calcs.Calc.{Calc}
 use Rattle.cat_calc.specs.Calculus.{calc_run, run_of_terms}
@@ -34,7 +34,7 @@ use Rattle.cat_scope.specs.AllForests.{AreForestsOf}
 use Rattle.cat_calc.specs.inside.Items.{target_at, calc_scope, calc_scope_at, calc_scopes}
 use Rattle.cat_calc.specs.inside.Tabled.{AreTargetsOf}
 use Rattle.cat_calc.proofs.CalcFormed.{is_body, is_calc}
-use Rattle.cat_calc.proofs.Listed.{IsTarget, target_or_none, target_listed}
+use Rattle.cat_calc.proofs.Listed.{IsTarget, target_or_none}
 use Rattle.cat_calc.proofs.Lows.{IsListed, are_targets, steady_at}
 use Rattle.cat_calc.proofs.SameRuns.{AreSteady, AllSteady, runs_same}
 use Rattle.cat_calc.proofs.TargetTerms.{there}
@@ -140,18 +140,6 @@ abbrev with_parts : (structures : List Structure) (enumerations : List Enumerati
     → IsTrue (are_sound structures enumerations scopes) → Decls
 with_parts structures enumerations scopes sound =
     record { structures = structures; enumerations = enumerations; scopes = scopes; sound = sound }
-
-pub decls_same : (a b : Decls) → a.structures ≡ b.structures → a.enumerations ≡ b.enumerations → a.scopes ≡ b.scopes
-    → a ≡ b
-decls_same a b structures enumerations scopes =
-    subst (λ (ss : List Structure). (sound : IsTrue (are_sound ss b.enumerations b.scopes)) → a ≡ with_parts ss
-    b.enumerations b.scopes sound) structures
-    (subst (λ (es : List Enumeration). (sound : IsTrue (are_sound a.structures es b.scopes)) → a ≡ with_parts
-    a.structures es b.scopes sound) enumerations
-    (subst (λ (xs : List Scope). (sound : IsTrue (are_sound a.structures a.enumerations xs)) → a ≡ with_parts
-    a.structures a.enumerations xs sound) scopes
-    (λ sound. ap (with_parts a.structures a.enumerations a.scopes)
-    (Bool-set (are_sound a.structures a.enumerations a.scopes) true a.sound sound)))) b.sound
 
 -- ---- the whole program
 

@@ -72,15 +72,6 @@ consequences_Default exceptions j consequence =
 
 pub ruleset reductions = (reduced_Empty, reduced_Consequence, reduced_Default)
 
-pub ruleset term_parts = (
-  conditions_Empty,
-  conditions_Consequence,
-  conditions_Default,
-  consequences_Empty,
-  consequences_Consequence,
-  consequences_Default,
-)
-
 held : {A : Type 0} (P : A → Type 0) (ys : List ((x : A) × P x)) → Each P (map (λ y. y.0) ys)
 held P [] = tt
 held P (y ∷ ys) = (y.1, held P ys)

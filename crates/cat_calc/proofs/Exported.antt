@@ -2,5 +2,6 @@
 pub use Rattle.cat_calc.proofs.Equations.{reduced_Empty, reduced_Consequence, reduced_Default, reductions}
 pub use Rattle.cat_calc.proofs.Equations.{conditions_Empty, conditions_Consequence, conditions_Default}
 pub use Rattle.cat_calc.proofs.Equations.{consequences_Empty, consequences_Consequence, consequences_Default}
-pub use Rattle.cat_calc.proofs.Equations.{term_parts, induction}
-pub use Rattle.cat_calc.proofs.ReducingLaws.{or_else_none, nothing_first}
+pub use Rattle.cat_calc.proofs.Equations.{induction}
+pub use Rattle.cat_calc.proofs.ReducingLaws.{or_else_none}
+pub use Rattle.cat_calc.proofs.CalcTypes.{calculi_end}

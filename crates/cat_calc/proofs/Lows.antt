@@ -1,10 +1,9 @@
 -- The groups of each target of a forest make no long chains, and are judged by their rule.
-use Rattle.std.proofs.Common.{◌≡◌, ◌∙◌, ℕ, zero, suc, ◌+◌, ◌<◌, ◌≤◌, nat_eq, Bool, true, false, ◌&&◌, ◌||◌, IsTrue}
+use Rattle.std.proofs.Common.{◌≡◌, ◌∙◌, ℕ, suc, ◌+◌, ◌<◌, ◌≤◌, nat_eq, Bool, true, false, ◌&&◌, ◌||◌, IsTrue}
 use Rattle.std.proofs.Common.{List, [], ◌∷◌, length, Option, Some, None, inl, inr, refl, sym, ap, subst, arith}
 use Rattle.std.proofs.Common.{true≢false}
 use Rattle.std.proofs.Common.{if◌then◌else◌}
 use Rattle.std.proofs.Math.Logic.{⊎_elim}
-use Rattle.std.proofs.lemmas.Bool.{cases_eq}
 use Rattle.std.proofs.lemmas.Bool.Decides.{nat_tests}
 use Rattle.cat_pos.specs.declared.limits.TheConstants.{ENTRIES_BOUND}
 use Rattle.cat_value.specs.declared.outcome.Target.{Target}
@@ -14,10 +13,11 @@ use Rattle.cat_scope.specs.Names.{AllHave, IsOneOf, has_none}
 use Rattle.cat_scope.specs.Groups.{Numbered, Key, Group, key_of, is_among, group_at, groups_from, groups_of, excepting}
 use Rattle.cat_scope.specs.Groups.{exceptions_from, exceptions_of}
 use Rattle.cat_scope.specs.Targets.{same_inner, same_target, defs_from}
-use Rattle.cat_scope.specs.Chains.{HasNoCycle, is_within, are_within, longest_chain}
+use Rattle.cat_scope.specs.Chains.{HasNoCycle, are_within, longest_chain}
 use Rattle.cat_scope.specs.Forests.{above, IsLow, is_low, are_low, forest_groups, forest_of_groups, forest_of}
 use Rattle.cat_sound.specs.Grouped.{AreJudgedByRule}
 use Rattle.cat_sound.proofs.Exported.{are_low_says, judging_rule}
+use Rattle.cat_sound.proofs.Exported.{within_below}
 use Rattle.cat_calc.specs.inside.Numbered.{groups_in}
 use Rattle.cat_calc.specs.inside.Terms.{HasLowGroups}
 use Rattle.cat_calc.specs.inside.Items.{target_at}
@@ -31,16 +31,6 @@ both true false is = absurd (true≢false (sym is))
 both false b is = absurd (true≢false (sym is))
 
 -- ---- chains
-
-within_below : (deps : List (List ℕ)) (k bound n : ℕ) → are_within deps k bound ≡ true → n < bound
-    → is_within deps k n ≡ true
-within_below deps k zero n all under = absurd (omega (arith, under))
-within_below deps k (suc bound) n all under = ⊎_elim
-    (λ same. subst (λ (m : ℕ). is_within deps k m ≡ true) (sym same)
-    (both (is_within deps k bound) (are_within deps k bound) all).0)
-    (λ other. within_below deps k bound n (both (is_within deps k bound) (are_within deps k bound) all).1
-    (omega (arith, under, other)))
-    (cases_eq n bound)
 
 above_is : (pairs : List (ℕ × ℕ)) (n : ℕ) (gs : List Group)
     → above (forest_groups pairs n gs) ≡ exceptions_from pairs n gs

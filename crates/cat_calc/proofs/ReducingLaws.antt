@@ -1,8 +1,7 @@
 -- Judgings of which a part is Empty.
 use Rattle.std.proofs.Common.{◌≡◌, [], Option, None, Some, refl, ◌∙◌}
-use Rattle.cat_value.specs.declared.outcome.Target.{Target}
 use Rattle.cat_scope.specs.Runs.{gives}
-use Rattle.cat_scope.specs.Judging.{Held, Judged, found_or, or_else, settle}
+use Rattle.cat_scope.specs.Judging.{Held, Judged, found_or, or_else}
 use Rattle.cat_scope.proofs.Exported.{and_then_gives, and_then_same}
 
 found_or_none : {A : Type 0} (found : Option (Held A)) → found_or found (gives None) ≡ gives found
@@ -13,7 +12,3 @@ found_or_none (Some h) = refl
 pub or_else_none : {A : Type 0} (judged : Judged A) → or_else judged (gives None) ≡ judged
 or_else_none judged =
     and_then_same judged (λ found. found_or found (gives None)) gives found_or_none ∙ and_then_gives judged
-
--- where nothing is excepted, what stands behind is judged
-pub nothing_first : {A : Type 0} (target : Target) (own : Judged A) → or_else (settle target []) own ≡ own
-nothing_first target own = refl

@@ -87,10 +87,6 @@ one_target_more targets i t table new within is before added item inner =
     (found_push (take i targets) t item inner (is_at t item inner) (get same_key table (item, inner)) refl
     (before item inner)))
 
-pub no_targets : {S : Type 0} (table : IndexMap TargetKey ℕ S) (item : ℕ) (inner : Option ℕ)
-    → get same_key table (item, inner) ≡ None → IsFound [] item inner (get same_key table (item, inner))
-no_targets table item inner none = subst (λ o. IsFound [] item inner o) (sym none) refl
-
 -- ---- which definitions a target has doesn't hang on the number of its scope
 
 scope_alone : (target : Target) (n : ℕ) (defs : List Def)

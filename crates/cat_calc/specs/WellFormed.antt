@@ -1,5 +1,5 @@
 -- What holds of every calculus: its terms are well typed, and name only what stands before.
-use Rattle.std.specs.Prelude.{◌≡◌, ℕ, ◌+◌, ◌<◌, IsTrue, IfSome, List, [], ◌∷◌, ◌++◌, length, map, Option, Some, None}
+use Rattle.std.specs.Prelude.{◌≡◌, ℕ, ◌+◌, ◌<◌, true, false, IsTrue, IfSome, List, [], ◌∷◌, ◌++◌, length, map, Option, Some, None}
 use Rattle.std.specs.Prelude.{slice_get}
 use Rattle.cat_order.specs.Order.{times}
 use Rattle.cat_value.specs.declared.ty.Ty.{Ty}
@@ -12,6 +12,7 @@ use Rattle.cat_scope.specs.declared.expr.Expr.{Expr}
 use Rattle.cat_scope.specs.Names.{AllHave, Names, all_differ, is_in, items_in}
 use Rattle.cat_scope.specs.Naming.{IsTargetAt}
 use Rattle.cat_scope.specs.HasType.{HasType}
+use Rattle.cat_scope.specs.Expected.{lists_placed}
 use Rattle.cat_scope.specs.Mentions.{items_named, joined, scopes_named}
 use Rattle.cat_scope.specs.Orders.{called_by_items}
 use Rattle.cat_scope.specs.WellFormed.{AssertionTyped, is_placed}
@@ -25,6 +26,11 @@ use Rattle.cat_calc.specs.Reducing.{term_of}
 pub record TermTyped (names : Names) (params : List Ty) (ty : Ty) (term : DefaultTerm) : Type 0 where
   pub conditions : AllHave (λ e. HasType names params e Boolean) (conditions_in term)
   pub consequences : AllHave (λ h. HasType names params h.value ty) (consequences_in term)
+
+-- empty lists of a term stand where a type is expected: of a consequence one is, and of a condition none
+pub record TermPlaced (term : DefaultTerm) : Type 0 where
+  pub conditions : AllHave (λ e. IsTrue (lists_placed e false)) (conditions_in term)
+  pub consequences : AllHave (λ h. IsTrue (lists_placed h.value true)) (consequences_in term)
 
 -- all terms of an item
 abbrev pub all_terms : ItemTerms → List DefaultTerm
@@ -78,8 +84,8 @@ pub record IsOrderOf (bound : ℕ) (needs : ℕ → List ℕ) (order : List ℕ)
   pub once : (n : ℕ) → n < bound → times order n ≡ 1
   pub behind : StandBehind bound needs [] order
 
--- a scope with its terms: they are typed as their targets are, an item's terms name only items that stand before it,
--- and no two definitions have one number
+-- a scope with its terms: they are typed as their targets are, empty lists stand where a type is expected, an item's
+-- terms name only items that stand before it, and no two definitions have one number
 pub record IsCalcScope (decls : Decls) (scope : Scope) (terms : CalcScope) : Type 0 where
   pub placed : AllHave (λ item. IsTrue (is_placed item)) scope.items
   pub counted : length terms.terms ≡ length scope.items
@@ -87,6 +93,10 @@ pub record IsCalcScope (decls : Decls) (scope : Scope) (terms : CalcScope) : Typ
       → IsTargetAt (record { decls = decls; items = scope.items }) target.item target.inner params ty
       → IfSome (term_of terms.terms target) (TermTyped (record { decls = decls; items = scope.items }) params ty)
   pub assertions : AllHave (AssertionTyped (record { decls = decls; items = scope.items })) terms.assertions
+  pub lists : (target : Target) (params : List Ty) (ty : Ty)
+      → IsTargetAt (record { decls = decls; items = scope.items }) target.item target.inner params ty
+      → IfSome (term_of terms.terms target) TermPlaced
+  pub assertion_lists : AllHave (λ a. IsTrue (lists_placed a.condition false)) terms.assertions
   pub order : IsOrderOf (length scope.items) (items_needed terms) terms.order
   pub numbers : IsTrue (all_differ (definition_numbers terms.terms))
 

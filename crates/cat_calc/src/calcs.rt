@@ -4,7 +4,7 @@ ghost use Rattle.cat_calc.specs.WellFormed.{IsCalc};
 
 use crate::{DefaultTerm, DefaultTerms};
 use cat_date::Rounding;
-use cat_pos::{List, Numbers};
+use cat_pos::{List, Numbers, Shared};
 use cat_scope::Assertions;
 use cat_value::Decls;
 
@@ -38,14 +38,14 @@ pub type CalcScopes = List<CalcScope>;
 /// Its terms are well typed.
 #[derive(Debug, Drop)]
 pub struct Calc {
-    pub decls: Decls,
+    pub decls: Shared<Decls>,
     pub scopes: CalcScopes,
     pub scope_order: Numbers,
     pub ghost well_formed: { ∥ IsCalc decls scopes scope_order ∥₁ },
 }
 
 impl Calc {
-    pub fn from_parts(decls: Decls, scopes: CalcScopes, scope_order: Numbers) -> Calc
+    pub fn from_parts(decls: Shared<Decls>, scopes: CalcScopes, scope_order: Numbers) -> Calc
         requires { ∥ IsCalc decls scopes scope_order ∥₁ }
         ensures decls { result.decls ≡ decls }
         ensures scopes { result.scopes ≡ scopes }
@@ -56,6 +56,12 @@ impl Calc {
             scopes,
             scope_order,
         }
+    }
+
+    pub fn decls(&self) -> &Decls
+        ensures { result.now ≡ self.now.decls }
+    {
+        self.decls.get()
     }
 }
 

@@ -7,12 +7,11 @@ ghost use Rattle.cat_scope.specs.AllForests.{AreForestsOf};
 
 use crate::Calc;
 use crate::scopes::calc_scopes;
-use cat_copy::copy_decls;
 use cat_pos::List;
 use cat_scope::{Forest, Program, programs_are_well_formed};
 use std::alloc::{AllocError, Global};
 
-/// The default terms of a program. Expressions are shared, and declarations copied. It takes time in proportion to the program.
+/// The default terms of a program, which share its declarations and expressions. It takes time in proportion to the program.
 pub fn desugar(alloc: Global, program: &Program, forests: &[Forest]) -> Result<Calc, AllocError>
     requires few { AllHave (λ body. length body.defs < ENTRIES_BOUND) program.now.bodies }
     requires stand { AreForestsOf program.now forests.now }
@@ -21,7 +20,7 @@ pub fn desugar(alloc: Global, program: &Program, forests: &[Forest]) -> Result<C
     ensures deciders { IfOk result (KeepsDeciders program.now) }
 {
     programs_are_well_formed(program);
-    let decls = copy_decls(alloc, &program.decls)?;
+    let decls = program.decls.copy()?;
     let scopes = calc_scopes(alloc, program, forests)?;
     let scope_order = List::from_slice(alloc, program.scope_order())?;
     Ok(Calc::from_parts(decls, scopes, scope_order))

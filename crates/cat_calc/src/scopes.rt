@@ -43,17 +43,12 @@ fn calc_scope(
         (slice_get program.now.bodies scope)) }
 {
     programs_are_well_formed(program);
-    declarations_are_sound(&program.decls);
-    let items = program.decls.scopes.at(scope).items.as_slice();
+    let decls = program.decls();
+    declarations_are_sound(decls);
+    let items = decls.scopes.at(scope).items.as_slice();
     let body = program.bodies.at(scope);
     let defs = body.defs.as_slice();
-    let terms = terms_of_items(
-        alloc,
-        &program.decls,
-        items,
-        defs,
-        forest.targets.as_slice(),
-    )?;
+    let terms = terms_of_items(alloc, decls, items, defs, forest.targets.as_slice())?;
     let order = List::from_slice(alloc, body.order.as_slice())?;
     let assertions = copy_assertions(alloc, &body.assertions)?;
     Ok(CalcScope {

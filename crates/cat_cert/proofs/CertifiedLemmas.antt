@@ -10,14 +10,9 @@ use Rattle.cat_walk.specs.Sizes.{is_small}
 use Rattle.cat_cert.specs.declared.certificate.Version.{Version}
 use Rattle.cat_cert.specs.declared.certificate.CertTree.{CertTree}
 use Rattle.cat_cert.specs.declared.certificate.Certificate.{Certificate}
-use Rattle.cat_cert.specs.declared.refusal.CertRefusal.{CertRefusal}
-use Rattle.cat_cert.specs.declared.refusal.CertRefusal.TheVariants as refusal
 use Rattle.cat_cert.specs.Lines.{Due, ScopeDue, TargetDue, dues_of}
-use Rattle.cat_cert.specs.Causes.{IsRead, IsRefused}
 use Rattle.cat_cert.specs.ReadTrees.{AreWithin, AreReadTrees}
-use Rattle.cat_cert.specs.Uncovered.{uncovered}
-use Rattle.cat_cert.specs.Checked.{HasCause}
-use Rattle.cat_cert.specs.inside.Checkable.{last_line, AreOfTables, NamesFirst}
+use Rattle.cat_cert.specs.inside.Checkable.{last_line, AreOfTables}
 
 -- ---- further lines
 
@@ -50,28 +45,6 @@ pub can_be_checked : (tables : List Table) (bytes : List ℕ) (c : Certificate)
     → AreOfTables tables c.trees
 can_be_checked tables bytes c are few =
     (c.version, trees_further (length bytes) last_line few c.version (dues_of tables) c.trees are)
-
--- ---- causes
-
-pub read_cause : (tables : List Table) (bytes : List ℕ) (why : CertRefusal) → IsRefused tables bytes why
-    → HasCause tables bytes why
-read_cause tables bytes (refusal.BadLine n) is = is
-read_cause tables bytes (refusal.WrongName n) is = is
-read_cause tables bytes (refusal.NotCovered n) is = absurd (is)
-read_cause tables bytes refusal.Short is = is
-read_cause tables bytes (refusal.Trailing n) is = is
-read_cause tables bytes (refusal.TooWide n) is = is
-read_cause tables bytes refusal.Memory is = tt
-
-pub trees_cause : (tables : List Table) (bytes : List ℕ) (c : Certificate) → IsRead tables bytes c
-    → (why : CertRefusal) → NamesFirst (uncovered tables c.trees) why → HasCause tables bytes why
-trees_cause tables bytes c read (refusal.BadLine n) is = absurd (is)
-trees_cause tables bytes c read (refusal.WrongName n) is = absurd (is)
-trees_cause tables bytes c read (refusal.NotCovered n) is = (c, read, is)
-trees_cause tables bytes c read refusal.Short is = absurd (is)
-trees_cause tables bytes c read (refusal.Trailing n) is = absurd (is)
-trees_cause tables bytes c read (refusal.TooWide n) is = absurd (is)
-trees_cause tables bytes c read refusal.Memory is = tt
 
 -- ---- what is expected of trees
 

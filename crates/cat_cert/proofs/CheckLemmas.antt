@@ -1,22 +1,18 @@
 -- What a walk says of the lines of a tree, and the lines of its nodes.
-use Rattle.std.proofs.Common.{◌≡◌, ℕ, zero, suc, ◌+◌, ◌<◌, ◌≤◌, min, Bool, true, false, if◌then◌else◌}
-use Rattle.std.proofs.Common.{List, [], ◌∷◌, length, Option, None, Some, slice_get, unwrap_or, Ok, Err}
+use Rattle.std.proofs.Common.{◌≡◌, ℕ, zero, suc, ◌+◌, ◌<◌, ◌≤◌, Bool, true, false, if◌then◌else◌}
+use Rattle.std.proofs.Common.{List, [], ◌∷◌, length, Option, None, Some, slice_get, unwrap_or, Err}
 use Rattle.std.proofs.Common.{refl, sym, ap, ◌∙◌, arith, IfSome}
 use Rattle.std.specs.List.{list_any}
 use Rattle.std.proofs.lemmas.Bool.{or_parts}
-use Rattle.std.proofs.lemmas.Bool.Decides.{nat_tests}
 use Rattle.cat_region.specs.Regions.{Constraints}
 use Rattle.cat_guard.specs.declared.table.Atom.{Atom}
 use Rattle.cat_guard.specs.declared.table.TableTarget.{TableTarget}
 use Rattle.cat_guard.specs.declared.tree.CitedNode.{CitedNode}
-use Rattle.cat_guard.specs.Trees.{Tree, expanded, height, leaves}
+use Rattle.cat_guard.specs.Trees.{Tree, expanded}
 use Rattle.cat_walk.specs.declared.place.NodePlace.{NodePlace}
 use Rattle.cat_walk.specs.declared.refusal.WalkRefusal.TheVariants as why
-use Rattle.cat_walk.specs.declared.size.TreeSize.{TreeSize}
-use Rattle.cat_walk.specs.Sizes.{past_most}
 use Rattle.cat_walk.specs.Coverage.{is_uncovered, first_place, AnswersOf, IsWalked, leaf_regions}
 use Rattle.cat_walk.specs.LeafPlaces.{elements, leaf_places}
-use Rattle.cat_walk.specs.Sizes.{is_small, size_of}
 use Rattle.cat_cert.specs.declared.certificate.CertTree.{CertTree}
 use Rattle.cat_cert.specs.declared.refusal.CertRefusal.TheVariants as refusal
 use Rattle.cat_cert.specs.ReadTrees.{AreWithin}
@@ -81,15 +77,6 @@ pub lines_none : (atoms : List Atom) (t : TableTarget) (region : Constraints) (c
 lines_none atoms t region c is =
     none_pass (is_uncovered atoms t) c.heads (leaf_places c.tree) (regions_of atoms region (expanded c.tree)) is
 
-pub walked_yes : (atoms : List Atom) (t : TableTarget) (region : Constraints) (c : CertTree) (u : Unit {0})
-    → IsWalked atoms t region c.tree (Ok u) → IsCovered atoms region t (expanded c.tree)
-walked_yes atoms t region c u is = by (expanded c.tree) is
-  where
-    by : (o : Option Tree) → AnswersOf (is_uncovered atoms t) atoms region (leaf_places c.tree) o (Ok u)
-        → IsCovered atoms region t o
-    by None is = absurd (is)
-    by (Some tree) is = is
-
 pub walked_no : (atoms : List Atom) (t : TableTarget) (region : Constraints) (c : CertTree) (place : NodePlace)
     → IsWalked atoms t region c.tree (Err (why.NotCovered place))
     → (more : List ℕ) × (tree_uncovered atoms region t c ≡ line_of c.heads place ∷ more)
@@ -113,15 +100,6 @@ first_named (Some t) atoms region c place n line is =
     (first.0, first.1 ∙ ap (λ m. m ∷ first.0) (sym line))
 
 -- ---- heights
-
-pub low_enough : (o : Option Tree) → ((t : Tree) → o ≡ Some t → height t < leaves t) → is_small o ≡ true
-    → (size : TreeSize) → IfSome o (λ t. size ≡ size_of t) → IsLow size.height o
-low_enough None lower small size is = tt
-low_enough (Some t) lower small size is =
-    let low = lower t refl in
-    let few : leaves t < past_most = grind (arith, nat_tests, small) in
-    let same : size.height ≡ min (height t) past_most = ap (λ (s : TreeSize). s.height) is in
-    omega (arith, low, few, same)
 
 pub low_further : (most more : ℕ) → most ≤ more → (o : Option Tree) → IsLow most o → IsLow more o
 low_further most more up None low = tt

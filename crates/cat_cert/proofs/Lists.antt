@@ -1,18 +1,12 @@
 -- Elements of lists by their numbers.
-use Rattle.std.proofs.Common.{◌≡◌, ℕ, zero, suc, ◌+◌, ◌<◌, ◌≤◌, List, [], ◌∷◌, length, take, drop, Option, None, Some}
-use Rattle.std.proofs.Common.{slice_get, refl, ◌∙◌, subst, arith, add-one, IfSome, IfOk, Result, Ok, Err}
+use Rattle.std.proofs.Common.{◌≡◌, ℕ, zero, suc, ◌+◌, ◌<◌, List, [], ◌∷◌, length, take, drop, Option, None, Some}
+use Rattle.std.proofs.Common.{slice_get, ◌∙◌, subst, arith, add-one, IfSome, IfOk, Result, Ok, Err}
 use Rattle.cat_scope.specs.Names.{AllHave}
 
 pub drop_at : {A : Type 0} (xs : List A) (k : ℕ) (x : A) → slice_get xs k ≡ Some x → drop k xs ≡ x ∷ drop (suc k) xs
 drop_at [] k x h = absurd (cc)
 drop_at (y ∷ ys) zero x h = cc
 drop_at (y ∷ ys) (suc k) x h = drop_at ys k x h
-
-pub drop_past : {A : Type 0} (xs : List A) (k : ℕ) → length xs ≤ k → drop k xs ≡ []
-drop_past [] zero h = refl
-drop_past [] (suc k) h = refl
-drop_past (y ∷ ys) zero h = absurd (omega arith)
-drop_past (y ∷ ys) (suc k) h = drop_past ys k (omega arith)
 
 pub below_length : {A : Type 0} (xs : List A) (k : ℕ) (x : A) → slice_get xs k ≡ Some x → k < length xs
 below_length [] k x h = absurd (cc)
@@ -31,21 +25,10 @@ have_taken Has [] k x at is all = absurd (cc)
 have_taken Has (y ∷ ys) zero x at is all = let same : x ≡ y = cc in (subst Has same is, tt)
 have_taken Has (y ∷ ys) (suc k) x at is all = (all.0, have_taken Has ys k x at is all.1)
 
-pub have_all : {A : Type 0} (Has : A → Type 0) (xs : List A) (k : ℕ) → length xs ≤ k → AllHave Has (take k xs)
-    → AllHave Has xs
-have_all Has [] k few all = tt
-have_all Has (y ∷ ys) zero few all = absurd (omega arith)
-have_all Has (y ∷ ys) (suc k) few all = (all.0, have_all Has ys k (omega arith) all.1)
-
 pub have_each : {A : Type 0} (Has Is : A → Type 0) → ((x : A) → Has x → Is x) → (xs : List A) → AllHave Has xs
     → AllHave Is xs
 have_each Has Is each [] all = tt
 have_each Has Is each (x ∷ xs) all = (each x all.0, have_each Has Is each xs all.1)
-
--- what holds of a value holds further
-pub if_some : {A : Type 0} (o : Option A) (Has Is : A → Type 0) → ((x : A) → Has x → Is x) → IfSome o Has → IfSome o Is
-if_some None Has Is each h = h
-if_some (Some x) Has Is each h = each x h
 
 pub some_at : {A : Type 0} (o : Option A) (x : A) (Has : A → Type 0) → o ≡ Some x → IfSome o Has → Has x
 some_at None x Has is h = absurd (cc)

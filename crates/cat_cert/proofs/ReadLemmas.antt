@@ -13,17 +13,12 @@ use Rattle.cat_cert.specs.Causes.{IsRead, IsRefused}
 use Rattle.cat_cert.specs.declared.place.Place.{Place}
 use Rattle.cat_cert.specs.inside.States.{First}
 use Rattle.cat_cert.specs.inside.Steps.{outcome}
-use Rattle.cat_cert.specs.inside.Outcomes.{IsStart, HasNoStart, ending, Passes, whole_ending}
+use Rattle.cat_cert.specs.inside.Outcomes.{IsStart, ending, Passes, whole_ending}
 use Rattle.cat_cert.proofs.AtomReadLemmas.{tables_low}
 use Rattle.cat_cert.proofs.FrontLemmas.{none_small, start}
 use Rattle.cat_cert.proofs.WhyLemmas.{Explains, explained}
 
 -- ---- where reading begins
-
-pub whole_none : (dues : List Due) (bytes : List ℕ) → HasNoStart bytes
-    → whole_ending dues bytes ≡ Err refusal.Short
-whole_none dues bytes none =
-    ap (λ (ls : List (List ℕ)). outcome ls (First dues) (passed_over (parted bytes).ended) (parted bytes).rest) none
 
 pub whole_start : (dues : List Due) (bytes : List ℕ) (place : Place) → IsStart bytes place
     → whole_ending dues bytes ≡ ending (First dues) bytes place

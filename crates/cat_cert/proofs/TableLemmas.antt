@@ -1,5 +1,5 @@
 -- How far the trees of a table were checked, and those of all tables.
-use Rattle.std.proofs.Common.{◌≡◌, ℕ, zero, suc, ◌+◌, ◌-◌, ◌<◌, ◌≤◌, nat_lt, Bool, true, IsTrue}
+use Rattle.std.proofs.Common.{◌≡◌, ℕ, zero, suc, ◌+◌, ◌-◌, ◌<◌, nat_lt, Bool, true, IsTrue}
 use Rattle.std.proofs.Common.{List, [], ◌∷◌, ◌++◌, map, take, drop, length, Some, slice_get}
 use Rattle.std.proofs.Common.{refl, sym, ap, ◌∙◌, subst, arith, length-append}
 use Rattle.std.specs.List.{list_all, slice_range}
@@ -30,7 +30,7 @@ use Rattle.cat_cert.specs.Uncovered.{uncovered}
 use Rattle.cat_cert.specs.Checked.{HasClosedTree}
 use Rattle.cat_cert.specs.inside.Checkable.{last_line, AreOfTable, AreOfTables, IsLow, IsUpTo, IsCheckable, NamesFirst}
 use Rattle.cat_cert.specs.inside.Checkable.{found_in}
-use Rattle.cat_cert.proofs.Lists.{drop_at, drop_past, have_at, have_taken, have_all}
+use Rattle.cat_cert.proofs.Lists.{drop_at, have_at, have_taken}
 use Rattle.cat_cert.proofs.RoomLemmas.{with_room, lines_same, covered_same}
 use Rattle.cat_cert.proofs.CheckLemmas.{lines_none}
 
@@ -268,18 +268,6 @@ module _ (table : Table) (cs : List CertTree) (at : ℕ) (region : Constraints) 
       (targets_uncovered table.atoms (everything table.terms) (drop (suc at) table.targets) (drop (suc at) cs)) why
       (subst (λ ns. NamesFirst ns why) here_same is))
 
--- all of them were checked
-pub table_done : (table : Table) (cs : List CertTree) (at : ℕ) (region : Constraints) → IsUnderWay table cs at region
-    → length cs ≤ at → AreCovered table.atoms (everything table.terms) table.targets (found_in cs)
-    × AllHave (HasClosedTree table) table.targets
-table_done table cs at region on past =
-    let count = on.count in
-    let far : length table.targets ≤ at = omega (arith, count, past) in (
-      on.covered (subst (λ ts. AreCovered table.atoms (everything table.terms) ts (found_in (drop at cs)))
-          (sym (drop_past table.targets at far)) tt),
-      have_all (HasClosedTree table) table.targets at far on.closed,
-    )
-
 -- ---- the trees of all tables
 
 -- so far the first of the tables, of that number, were checked, with the first trees
@@ -372,10 +360,3 @@ module _ (tables : List Table) (cs : List CertTree) (k at : ℕ) (on : IsOnWay t
       subst (λ ns. NamesFirst ns why) next_lines
       (first_front (targets_uncovered table.atoms (everything table.terms) table.targets (slice_range cs at end))
       (uncovered (drop (suc k) tables) (drop end cs)) why is)
-
-pub tables_done : (tables : List Table) (cs : List CertTree) (k at : ℕ) → IsOnWay tables cs k at → length tables ≤ k
-    → AllCovered tables (found_in cs) × AllHave (λ table. AllHave (HasClosedTree table) table.targets) tables
-tables_done tables cs k at on past = (
-  on.covered (subst (λ ts. AllCovered ts (found_in (drop at cs))) (sym (drop_past tables k past)) tt),
-  have_all (λ table. AllHave (HasClosedTree table) table.targets) tables k past on.closed,
-)

@@ -124,9 +124,6 @@ abbrev pub AreShortBelow : ℕ → List Scope → List Body → Type 0
 AreShortBelow n scopes bodies = (k : ℕ) (s : Scope) (b : Body) → k < n → slice_get scopes k ≡ Some s
     → slice_get bodies k ≡ Some b → HasShortChains (function_calls s.items b.defs)
 
-pub none_below : (scopes : List Scope) (bodies : List Body) → AreShortBelow 0 scopes bodies
-none_below scopes bodies k s b less at is = absurd (omega (arith, less))
-
 pub one_below : (n : ℕ) (scopes : List Scope) (bodies : List Body) (s : Scope) (b : Body)
     → AreShortBelow n scopes bodies → slice_get scopes n ≡ Some s → slice_get bodies n ≡ Some b
     → HasShortChains (function_calls s.items b.defs) → AreShortBelow (n + 1) scopes bodies

@@ -1,9 +1,9 @@
 -- The lists of items by scopes, one item after another.
 use Rattle.std.proofs.Common.{◌≡◌, ◌∙◌, ℕ, ◌+◌, ◌≤◌, ◌<◌, Bool, true, false, List, [], ◌∷◌, ◌++◌, Option, Some, None}
-use Rattle.std.proofs.Common.{length, get_or, nat_eq, refl, ap, sym, replicate, subst, arith}
+use Rattle.std.proofs.Common.{length, get_or, nat_eq, refl, ap, sym, subst, arith}
 use Rattle.std.specs.Prelude.{cond, option_map, set}
 use Rattle.std.proofs.lemmas.List.{get_or-set_same, get_or-set_other, length-set, append-nil}
-use Rattle.std.proofs.lemmas.List.{get_or-replicate, get_or_default, length-replicate}
+use Rattle.std.proofs.lemmas.List.{get_or_default}
 use Rattle.std.proofs.lemmas.Bool.{eqb-false, eqb-true}
 use Rattle.std.proofs.lemmas.Option.{slice_get_within}
 use Rattle.cat_value.specs.declared.declaration.Scope.{Scope}
@@ -108,23 +108,12 @@ listed_more ds items lists x h = by (scope_about ds x) refl
     by None none = no_scope ds items lists x none h
     by (Some k) some = one_scope ds items lists k x some h
 
--- before the first item
-pub listed_none : (ds : Decls) → AreByScope ds [] (replicate (length ds.scopes) [])
-listed_none ds = record {
-  count = length-replicate (length ds.scopes) [];
-  each = λ n few. get_or-replicate (length ds.scopes) n [] [] few;
-}
-
 -- ---- one list after another
 
 -- the lists of a number and behind it are still those of the scopes
 pub record AreLeft (ds : Decls) (items : List Item) (number : ℕ) (lists : List (List Item)) : Type 0 where
   pub count : length lists ≡ length ds.scopes
   pub each : (n : ℕ) → number ≤ n → n < length ds.scopes → get_or lists n [] ≡ items_about ds n items
-
-pub left_all : (ds : Decls) (items : List Item) (lists : List (List Item)) → AreByScope ds items lists
-    → AreLeft ds items 0 lists
-left_all ds items lists h = record { count = h.count; each = λ n from few. h.each n few }
 
 -- the list of the number, whatever were read where there is none
 pub left_at : (ds : Decls) (items : List Item) (number : ℕ) (lists : List (List Item)) (x : List Item)

@@ -81,9 +81,6 @@ counted made front same = omega (
   ap (λ (us : List UnorderedBody). length us) same,
 )
 
-pub none_yet : (scopes : List Scope) → AreSoFar scopes [] []
-none_yet scopes = record { kept = refl; order = λ k s b at is. cc is }
-
 order_kept : (items : List ItemDecl) (b new : Body) (order : List ℕ) → IsWithOrder b order new
     → IsOrder (item_dependencies items b.defs) order → IsOrder (item_dependencies items new.defs) new.order
 order_kept items b new order with_it is =

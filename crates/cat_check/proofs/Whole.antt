@@ -1,25 +1,21 @@
 -- What a tree says of a scope, and of all, from what its parts say.
 use Rattle.std.proofs.Common.{◌≡◌, ◌∙◌, ℕ, ◌+◌, ◌<◌, List, [], ◌∷◌, ◌++◌, Some, Ok, Err, length, drop, get_or, refl, ap}
-use Rattle.std.proofs.Common.{slice_get, sym, subst, map, true, false, inl}
-use Rattle.std.specs.Prelude.{◌||◌, flat_map}
+use Rattle.std.proofs.Common.{slice_get, sym, subst, map}
 use Rattle.std.specs.List.{enumerate_from}
-use Rattle.std.proofs.Common.{◌≤◌}
-use Rattle.std.proofs.lemmas.List.{append_assoc, append-nil, drop_all}
+use Rattle.std.proofs.lemmas.List.{append_assoc}
 use Rattle.cat_date.specs.declared.rounding.Rounding.{Rounding}
 use Rattle.cat_value.specs.declared.declaration.ItemDecl.{ItemDecl}
 use Rattle.cat_value.specs.declared.declaration.Scope.{Scope}
 use Rattle.cat_value.specs.declared.decls.Decls.{Decls}
 use Rattle.cat_tree.specs.declared.program.Item.{Item}
 use Rattle.cat_scope.specs.declared.defs.Body.{Body}
-use Rattle.cat_scope.specs.Names.{IsOneOf, has_none, items_in}
+use Rattle.cat_scope.specs.Names.{IsOneOf, items_in}
 use Rattle.cat_scope.specs.Orders.{called_in, once}
-use Rattle.cat_scope.specs.WellFormed.{is_internal}
 use Rattle.cat_names.specs.declared.fault.Fault.{Fault}
-use Rattle.cat_names.specs.declared.fault.Fault.TheVariants.{Misplaced}
 use Rattle.cat_names.specs.declared.fault.Refusal.{Refusal}
 use Rattle.cat_names.specs.declared.fault.Refusal.TheVariants.{Memory, Refused}
 use Rattle.cat_names.specs.Accepted.{unordered}
-use Rattle.cat_names.specs.Bodies.{UnorderedBody, body_of, outward_function}
+use Rattle.cat_names.specs.Bodies.{UnorderedBody, body_of}
 use Rattle.cat_names.specs.Found.{Found, Stands, Tells, and_then, both, each_found, where_none}
 use Rattle.cat_names.specs.Lines.{Line, all_lines, item_lines, items_about, lines_found}
 use Rattle.cat_names.specs.Naming.{names_in_scope}
@@ -28,26 +24,6 @@ use Rattle.cat_check_exprs.specs.declared.said.Said.{Said}
 use Rattle.cat_check_exprs.specs.Saying as saying
 use Rattle.cat_check_exprs.proofs.Exported.{gather_off, gather_on}
 use Rattle.cat_check.proofs.Picked.{dropped}
-
--- ---- functions that are not internal
-
-pub inward_on : (items : List ItemDecl) (i : ℕ) (x : ItemDecl) → i < length items → get_or items i x ≡ x
-    → (has_none x.params || is_internal x.kind) ≡ true
-    → flat_map outward_function (drop i items) ≡ flat_map outward_function (drop (i + 1) items)
-inward_on items i x within is inward =
-    ap (flat_map outward_function) (dropped items i x within is) ∙ rw inward refl
-
-pub outward_at : (items : List ItemDecl) (i : ℕ) (x : ItemDecl) → i < length items → get_or items i x ≡ x
-    → (has_none x.params || is_internal x.kind) ≡ false
-    → flat_map outward_function items ≡ flat_map outward_function (drop i items)
-    → Tells {A = Unit {0}} (Err (Refused (Misplaced x.pos))) (where_none (flat_map outward_function items) (Ok tt))
-outward_at items i x within is outward before =
-    let here : outward_function x ≡ Misplaced x.pos ∷ [] = rw outward refl in
-    let all : flat_map outward_function items ≡ Misplaced x.pos ∷ flat_map outward_function (drop (i + 1) items) =
-    before ∙ ap (flat_map outward_function) (dropped items i x within is)
-    ∙ ap (λ faults. faults ++ flat_map outward_function (drop (i + 1) items)) here in
-    beside_stands (Misplaced x.pos) (flat_map outward_function items) (Ok tt)
-    (subst (IsOneOf (Misplaced x.pos)) (sym all) (inl refl))
 
 -- ---- one scope
 
@@ -178,17 +154,6 @@ each_off {A} {B} f xs i x made whole e within is h before =
     (ap (front made) (sym (each_at f xs i x within is)) ∙ before)
     (then_tells e (both (f (i, x)) rest (λ y ys. Ok (y ∷ ys))) (λ xs. Ok (made ++ xs))
     (left_tells e (f (i, x)) rest (λ y ys. Ok (y ∷ ys)) h))
-
--- behind the last one
-pub each_end : {A : Type 0} (made : List A) (whole : Found (List A)) → front made (Ok []) ≡ whole → whole ≡ Ok made
-each_end made whole before = sym before ∙ ap Ok (append-nil made)
-
--- where none is left
-pub each_last : {A B : Type 0} (f : ℕ × A → Found B) (xs : List A) (i : ℕ) (made : List B) (whole : Found (List B))
-    → length xs ≤ i → front made (each_found f (enumerate_from i (drop i xs))) ≡ whole → whole ≡ Ok made
-each_last f xs i made whole past before =
-    each_end made whole (ap (λ from. front made (each_found f (enumerate_from i from))) (sym (drop_all i xs past))
-    ∙ before)
 
 -- one body more
 pub unordered_more : (bodies : List Body) (body : Body)

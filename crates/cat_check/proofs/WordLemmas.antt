@@ -7,13 +7,13 @@ use Rattle.cat_tree.specs.Accumulation.{accumulation}
 use Rattle.cat_tree.specs.declared.name.Name.{Name}
 use Rattle.cat_tree.specs.declared.name.CaseName.{CaseName}
 use Rattle.cat_tree.specs.declared.name.Type as types
-use Rattle.cat_tree.specs.declared.expression.Literal as tree
+use Rattle.cat_tree.specs.declared.expression.SurfaceLiteral as tree
 use Rattle.cat_tree.specs.declared.expression.Prefix.{Prefix}
 use Rattle.cat_tree.specs.declared.expression.Operator.{Operator}
 use Rattle.cat_tree.specs.declared.expression.Each.{Each}
 use Rattle.cat_tree.specs.declared.expression.Node.{Node}
-use Rattle.cat_tree.specs.declared.expression.FieldValue.{FieldValue}
-use Rattle.cat_tree.specs.declared.expression.Arm.{Arm}
+use Rattle.cat_tree.specs.declared.expression.SurfaceField.{SurfaceField}
+use Rattle.cat_tree.specs.declared.expression.SurfaceArm.{SurfaceArm}
 use Rattle.cat_tree.specs.declared.expression.Node.TheVariants as leaf
 use Rattle.cat_tree.specs.declared.expression.Node.TheViews as node
 use Rattle.cat_names.specs.ScopeWords.{all_words, scope_words}
@@ -45,7 +45,7 @@ many : {A : Type 0} (part : A → Node) (e : Node) (xs : List A)
     → f ++ scope_words e ≡ f ++ flat_map (λ x. scope_words (part x)) xs
 many part e xs is f = ap (λ ws. f ++ ws) (is ∙ each part xs)
 
-pub added_Literal : (l : tree.Literal) (p : Pos) (f : List Name)
+pub added_Literal : (l : tree.SurfaceLiteral) (p : Pos) (f : List Name)
     → f ++ scope_words (leaf.Literal l p) ≡ f
 added_Literal l p f = none (leaf.Literal l p) (search words) f
 
@@ -104,26 +104,27 @@ pub added_List : (p : Pos) (es : List Node) (f : List Name)
     → f ++ scope_words (node.List p es) ≡ f ++ flat_map (scope_words) es
 added_List p es f = many (λ e. e) (node.List p es) es (search words) f
 
-pub added_Structure : (u : Name) (fs : List FieldValue) (f : List Name)
+pub added_Structure : (u : Name) (fs : List SurfaceField) (f : List Name)
     → f ++ scope_words (node.Structure u fs) ≡ f ++ flat_map (λ x. scope_words x.value) fs
-added_Structure u fs f = many (λ (x : FieldValue). x.value) (node.Structure u fs) fs (search words) f
+added_Structure u fs f = many (λ (x : SurfaceField). x.value) (node.Structure u fs) fs (search words) f
 
-pub added_ScopeCall : (p : Pos) (u : Name) (fs : List FieldValue) (w : Name) (f : List Name)
+pub added_ScopeCall : (p : Pos) (u : Name) (fs : List SurfaceField) (w : Name) (f : List Name)
     → f ++ scope_words (node.ScopeCall p u fs w) ≡ f ++ u ∷ [] ++ flat_map (λ x. scope_words x.value) fs
 added_ScopeCall p u fs w f =
-    let is : scope_words (node.ScopeCall p u fs w) ≡ u ∷ all_words (map (λ (x : FieldValue). scope_words x.value) fs) =
+    let is : scope_words (node.ScopeCall p u fs w)
+    ≡ u ∷ all_words (map (λ (x : SurfaceField). scope_words x.value) fs) =
     search words in
-    ap (λ ws. f ++ ws) (is ∙ ap (λ ws. u ∷ ws) (each (λ (x : FieldValue). x.value) fs))
-    ∙ sym (append_assoc f (u ∷ []) (flat_map (λ (x : FieldValue). scope_words x.value) fs))
+    ap (λ ws. f ++ ws) (is ∙ ap (λ ws. u ∷ ws) (each (λ (x : SurfaceField). x.value) fs))
+    ∙ sym (append_assoc f (u ∷ []) (flat_map (λ (x : SurfaceField). scope_words x.value) fs))
 
-pub added_Match : (p : Pos) (e : Node) (arms : List Arm) (f : List Name)
+pub added_Match : (p : Pos) (e : Node) (arms : List SurfaceArm) (f : List Name)
     → f ++ scope_words (node.Match p e arms) ≡ f ++ scope_words e ++ flat_map (λ x. scope_words x.body) arms
 added_Match p e arms f =
     let is : scope_words (node.Match p e arms)
-    ≡ scope_words e ++ all_words (map (λ (x : Arm). scope_words x.body) arms) =
+    ≡ scope_words e ++ all_words (map (λ (x : SurfaceArm). scope_words x.body) arms) =
     search words in
-    ap (λ ws. f ++ ws) (is ∙ ap (λ ws. scope_words e ++ ws) (each (λ (x : Arm). x.body) arms))
-    ∙ sym (append_assoc f (scope_words e) (flat_map (λ (x : Arm). scope_words x.body) arms))
+    ap (λ ws. f ++ ws) (is ∙ ap (λ ws. scope_words e ++ ws) (each (λ (x : SurfaceArm). x.body) arms))
+    ∙ sym (append_assoc f (scope_words e) (flat_map (λ (x : SurfaceArm). scope_words x.body) arms))
 
 pub ruleset adding = (
   added_Literal,

@@ -11,6 +11,7 @@ use crate::outline::Outline;
 use crate::scope_order::scopes_in_order;
 use cat_names::{Refusal, programs_of_trees_are_well_formed};
 use cat_order::a_cycle_leaves_no_order;
+use cat_pos::Shared;
 use cat_scope::{Bodies, Program};
 use cat_value::{Decls, declarations_are_sound};
 use std::alloc::Global;
@@ -38,5 +39,6 @@ pub fn arranged(
     let bodies = items_in_order(alloc, &decls, bodies)?;
     refuse_long_functions(alloc, &decls, &bodies)?;
     refuse_long_calls(alloc, outline, &decls, &bodies, &scope_order)?;
-    Ok(Program::from_parts(decls, bodies, scope_order))
+    let shared = Shared::new(alloc, decls)?;
+    Ok(Program::from_parts(shared, bodies, scope_order))
 }

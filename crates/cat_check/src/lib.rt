@@ -29,7 +29,6 @@ use cat_names::Refusal;
 use cat_scope::Program;
 use cat_tree::Tree;
 pub use outline::{BlockOutline, Outline};
-pub use scopes::bodies;
 use std::alloc::Global;
 
 /// The program of a tree. Its blocks are dropped as they are read, since together they would take as much memory as the

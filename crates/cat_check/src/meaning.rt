@@ -4,9 +4,8 @@ ghost use Rattle.cat_names.specs.Accepted.{IsMeant, IsNamed, IsRefused, parts_of
 ghost use Rattle.cat_check.specs.Cause.{Because};
 ghost use Rattle.cat_check.specs.inside.Tabling.{AreTables};
 
-use crate::bodies;
+use crate::scopes::bodies;
 use crate::tables::DeclarationTables;
-use cat_check_forms::Here;
 use cat_names::Refusal;
 use cat_scope::Bodies;
 use cat_tree::Tree;
@@ -25,24 +24,7 @@ fn meaning_by(
     ensures meant { IfOk result (IsMeant tree decls.now) }
     ensures cause { IfErr result (Because (IsRefused tree)) }
 {
-    let here = Here {
-        alloc,
-        decls,
-        tables: &tables.names,
-        inputs: &tables.inputs,
-        heights: &tables.heights,
-        scope: 0,
-    };
-    let found = bodies(&here, tree);
-    let Here {
-        alloc: _,
-        decls: _,
-        tables: _,
-        inputs: _,
-        heights: _,
-        scope: _,
-    } = here;
-    found
+    bodies(alloc, decls, tables, tree)
 }
 
 /// What a tree says of each scope that it declares. Its blocks are dropped one after another.

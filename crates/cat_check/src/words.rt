@@ -2,7 +2,7 @@
 ghost use Rattle.std.specs.Prelude.{◌≡◌, ◌++◌, OnOk, flat_map};
 ghost use Rattle.cat_names.specs.ScopeWords.{scope_words};
 
-use cat_tree::{Arms, FieldValues, Names, Node, Nodes};
+use cat_tree::{Names, Node, Nodes, SurfaceArms, SurfaceFields};
 use std::alloc::AllocError;
 
 /// Adds the names of the scopes that an expression calls, from the left. Calls nest in proportion to the expression's
@@ -65,7 +65,7 @@ fn add_all(parts: &Nodes, words: &mut Names) -> Result<(), AllocError>
 }
 
 #[cycle(words)]
-fn add_fields(fields: &FieldValues, words: &mut Names) -> Result<(), AllocError>
+fn add_fields(fields: &SurfaceFields, words: &mut Names) -> Result<(), AllocError>
     ensures { OnOk result (words.new ≡ words.old ++ flat_map (λ f. scope_words f.value) fields.now) }
 {
     for field in fields.as_slice() {
@@ -75,7 +75,7 @@ fn add_fields(fields: &FieldValues, words: &mut Names) -> Result<(), AllocError>
 }
 
 #[cycle(words)]
-fn add_arms(arms: &Arms, words: &mut Names) -> Result<(), AllocError>
+fn add_arms(arms: &SurfaceArms, words: &mut Names) -> Result<(), AllocError>
     ensures { OnOk result (words.new ≡ words.old ++ flat_map (λ a. scope_words a.body) arms.now) }
 {
     for arm in arms.as_slice() {

@@ -16,7 +16,7 @@ use Rattle.cat_tree.specs.declared.expression.Operator.{Operator}
 use Rattle.cat_tree.specs.declared.expression.Each.{Each}
 use Rattle.cat_tree.specs.declared.expression.Pattern.{Pattern}
 use Rattle.cat_tree.specs.declared.expression.Pattern.TheVariants as patterns
-use Rattle.cat_tree.specs.declared.expression.Arm.{Arm}
+use Rattle.cat_tree.specs.declared.expression.SurfaceArm.{SurfaceArm}
 use Rattle.cat_tree.specs.declared.expression.Node.{Node}
 use Rattle.cat_tree.specs.declared.expression.Node.TheViews as node
 use Rattle.cat_tree.specs.declared.expression.Node.TheViews.{out-Node}
@@ -215,7 +215,7 @@ pattern_is ns p n (patterns.Case c w) ls go = found_on (case_found ns c)
     (name_of p w (content_of ns.decls n k.1) k.1) go (λ b. go (b.0, with_local ls b.1))
     (bound_on p (resolved.Case k.1 (is_some w)) w (content_of ns.decls n k.1) ls go))
 
-pub chain_arm : (ns : Names) (p : Pos) (n : ℕ) (a : Arm) (ls : List Local) (ex : Option Ty)
+pub chain_arm : (ns : Names) (p : Pos) (n : ℕ) (a : SurfaceArm) (ls : List Local) (ex : Option Ty)
     → parts.arm_of ns p n (arm_meant ns a) ls ex ≡ and_then (pattern_bound ns p n a.pattern)
     (λ b. and_then (meant ns a.body (with_local ls b.1) ex)
     (λ x. Ok (record { pattern = b.0; body = x.expr }, x.ty)))
@@ -231,7 +231,8 @@ led_by : {A B : Type 0} (x : A) (t : B) (found : Found (List A))
 led_by x t (Ok xs) = refl
 led_by x t (Err fs) = refl
 
-pub chain_arms : (ns : Names) (p : Pos) (n : ℕ) (all : List Arm) (a : Arm) (rest : List Arm) (ls : List Local)
+pub chain_arms : (ns : Names) (p : Pos) (n : ℕ) (all : List SurfaceArm) (a : SurfaceArm) (rest : List SurfaceArm)
+    (ls : List Local)
     (ex : Option Ty) → all ≡ a ∷ rest → parts.arms_of (arm_meant ns) ns p n all ls ex
     ≡ and_then (parts.arm_of ns p n (arm_meant ns a) ls ex) (λ x.
     and_then (behind (x.0 ∷ []) (parts.all_arms (arm_meant ns) ns p n rest ls x.1)) (λ xs. Ok (xs, x.1)))
@@ -243,7 +244,7 @@ chain_arms ns p n all a rest ls ex is = ap (λ arms. parts.arms_of (arm_meant ns
     (λ xs. Ok (xs, x.1)))
     (λ x. led_by x.0 x.1 (parts.all_arms (arm_meant ns) ns p n rest ls x.1))
 
-pub no_arms : (ns : Names) (p : Pos) (n : ℕ) (all : List Arm) (ls : List Local) (ex : Option Ty) → all ≡ []
+pub no_arms : (ns : Names) (p : Pos) (n : ℕ) (all : List SurfaceArm) (ls : List Local) (ex : Option Ty) → all ≡ []
     → parts.arms_of (arm_meant ns) ns p n all ls ex ≡ faulty (MatchCases p)
 no_arms ns p n all ls ex is = ap (λ arms. parts.arms_of (arm_meant ns) ns p n arms ls ex) is
 

@@ -1,9 +1,7 @@
 -- What stands in a part of a form stands in the form.
-use Rattle.std.proofs.Common.{Bool, true, false, Option, Ok, Err}
+use Rattle.std.proofs.Common.{Option, Ok, Err}
 use Rattle.cat_value.specs.declared.ty.Ty.{Ty}
-use Rattle.cat_names.specs.declared.fault.Fault.{Fault}
 use Rattle.cat_names.specs.declared.fault.Refusal.{Refusal}
-use Rattle.cat_names.specs.declared.fault.Refusal.TheVariants.{Memory, Refused}
 use Rattle.cat_names.specs.declared.fault.Fault.TheVariants.{TypeMismatch}
 use Rattle.cat_names.specs.declared.typed.Typed.{Typed}
 use Rattle.cat_names.specs.Found.{Found, Tells, both, where_true}
@@ -24,10 +22,3 @@ first_exit ex e a b go h = expecting ex e (both a b go) (left_tells e a b go h)
 pub second_exit : {A B : Type 0} (ex : Option Ty) (e : Refusal) (a : Found A) (b : Found B)
     (go : A → B → Found Typed) → Tells {A = B} (Err e) b → Tells {A = Typed} (Err e) (as_expected ex (both a b go))
 second_exit ex e a b go h = expecting ex e (both a b go) (right_tells e a b go h)
-
--- a test that fails, whatever is found where it passes
-pub tested_exit : {A B : Type 0} (e : Refusal) (test : Bool) (fault : Fault) (a : A) (b : B)
-    → Tells {A = A} (Err e) (where_true test fault (Ok a)) → Tells {A = B} (Err e) (where_true test fault (Ok b))
-tested_exit Memory test fault a b h = tt
-tested_exit (Refused f) true fault a b h = elim h [ ]
-tested_exit (Refused f) false fault a b h = h

@@ -1,7 +1,7 @@
 -- Lines that are found one after another, behind what was said before.
 use Rattle.std.proofs.Common.{◌≡◌, ◌∙◌, ℕ, ◌+◌, ◌<◌, List, [], ◌∷◌, ◌++◌, Option, Ok, Err, length, drop, map}
 use Rattle.std.proofs.Common.{get_or, refl, ap, sym, subst}
-use Rattle.std.proofs.lemmas.List.{append_assoc, append-nil, drop_more}
+use Rattle.std.proofs.lemmas.List.{append_assoc, drop_more}
 use Rattle.cat_scope.specs.declared.defs.Def.{Def}
 use Rattle.cat_scope.specs.declared.defs.Assertion as asserted
 use Rattle.cat_scope.specs.declared.defs.SourcePart.{SourcePart}
@@ -50,10 +50,6 @@ with_more said xs ys = said_is ((said.defs ++ defs_in xs) ++ defs_in ys) (said.d
     ∙ ap (λ more. said.assertions ++ more) (sym (assertions_append xs ys)))
     (append_assoc said.source (map source_part xs) (map source_part ys)
     ∙ ap (λ more. said.source ++ more) (sym (parts_append xs ys)))
-
-pub with_none : (said : Said) → with_lines said [] ≡ said
-with_none said = said_is (said.defs ++ []) said.defs (said.assertions ++ []) said.assertions (said.source ++ [])
-    said.source (append-nil said.defs) (append-nil said.assertions) (append-nil said.source)
 
 -- ---- lines that are found in two parts
 
@@ -113,7 +109,3 @@ pub turn_off : {A : Type 0} (f : A → Found (List Line)) (xs : List A) (i : ℕ
 turn_off f xs i x said whole e within is h before = subst (λ found. Tells {A = Said} (Err e) found)
     (ap (λ from. behind said (all_lines f from)) (sym (dropped xs i x within is)) ∙ before)
     (gather_off said (f x) (all_lines f (drop (i + 1) xs)) e h)
-
--- behind the last thing
-pub end_on : (said : Said) (whole : Found Said) → behind said (Ok []) ≡ whole → whole ≡ Ok said
-end_on said whole before = sym before ∙ ap Ok (with_none said)

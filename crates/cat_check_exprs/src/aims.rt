@@ -1,6 +1,5 @@
 // What definitions are for.
 ghost use Rattle.std.specs.Prelude.{◌≡◌};
-ghost use Rattle.cat_value.specs.Inputs.{may_be_given};
 ghost use Rattle.cat_scope.specs.Naming as naming;
 ghost use Rattle.cat_names.specs.Aims as words;
 ghost use Rattle.cat_names.specs.Found.{Tells};
@@ -141,7 +140,7 @@ fn inner_aim<'a>(
     if let Kind::Called(_) = item.kind {
         return Err(Refusal::Refused(Fault::NameUnknown(inner.pos)));
     }
-    if !may_be_given(item.kind) {
+    if !item.kind.may_be_given() {
         return Err(Refusal::Refused(Fault::Misplaced(called.0)));
     }
     Ok(Aim {
@@ -154,13 +153,4 @@ fn inner_aim<'a>(
         ty: &item.ty,
         condition: item.condition,
     })
-}
-
-fn may_be_given(kind: Kind) -> bool
-    ensures { result ≡ may_be_given kind }
-{
-    match kind {
-        Kind::Input | Kind::InputOutput | Kind::Context | Kind::ContextOutput => true,
-        Kind::Output | Kind::Internal | Kind::Called(_) => false,
-    }
 }

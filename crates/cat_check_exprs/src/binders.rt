@@ -21,7 +21,7 @@ use cat_check_operators::{Resolved, as_expected};
 use cat_names::{Fault, Local, Locals, Refusal};
 use cat_pos::Pos;
 use cat_scope::{Arm as Body, Arms as Bodies};
-use cat_tree::{Accumulation, Arm, Arms, Each, Name, Node};
+use cat_tree::{Accumulation, Each, Name, Node, SurfaceArm, SurfaceArms};
 use cat_value::Ty;
 
 /// An expression under one more bound name.
@@ -49,7 +49,7 @@ pub fn infer_match(
     here: &Here,
     place: Pos,
     tested: &Node,
-    arms: &Arms,
+    arms: &SurfaceArms,
     locals: &mut Locals,
     expected: Option<&Ty>,
 ) -> Result<Resolved, Refusal>
@@ -72,7 +72,7 @@ pub fn infer_arms(
     here: &Here,
     place: Pos,
     enumeration: u32,
-    arms: &Arms,
+    arms: &SurfaceArms,
     locals: &mut Locals,
     expected: Option<&Ty>,
 ) -> Result<(Bodies, Ty), Refusal>
@@ -97,7 +97,7 @@ pub fn infer_more_arms(
     here: &Here,
     place: Pos,
     enumeration: u32,
-    arms: &[Arm],
+    arms: &[SurfaceArm],
     locals: &mut Locals,
     ty: &Ty,
     made: Bodies,
@@ -122,7 +122,7 @@ pub fn infer_arm(
     here: &Here,
     place: Pos,
     enumeration: u32,
-    arm: &Arm,
+    arm: &SurfaceArm,
     locals: &mut Locals,
     expected: Option<&Ty>,
 ) -> Result<(Body, Ty), Refusal>

@@ -7,7 +7,7 @@ ghost use Rattle.cat_check_exprs.specs.inside.Heads.{defined, head_of};
 use crate::Aim;
 use cat_pos::{Pos, Shared};
 use cat_scope::{Def, Except, Expr, Label};
-use cat_tree::{Exception, Label as Written, Lead};
+use cat_tree::{Exception, Lead, SurfaceLabel as Written};
 use cat_value::Target;
 use std::alloc::{AllocError, Global};
 

@@ -12,12 +12,12 @@ use cat_check_forms::{Here, case, name};
 use cat_check_operators::{Resolved, as_expected, literal};
 use cat_names::{Locals, Refusal};
 use cat_pos::Pos;
-use cat_tree::{CaseName, Literal, Name};
+use cat_tree::{CaseName, Name, SurfaceLiteral};
 use cat_value::Ty;
 
 pub fn infer_literal(
     here: &Here,
-    written: Literal,
+    written: SurfaceLiteral,
     place: Pos,
     expected: Option<&Ty>,
 ) -> Result<Resolved, Refusal>

@@ -22,7 +22,7 @@ use cat_check_operators::{Resolved, as_expected, expected_element};
 use cat_names::{Locals, Refusal};
 use cat_pos::{List, Pos};
 use cat_scope::{Exprs, FieldValue as Value, FieldValues as Values};
-use cat_tree::{FieldValue, FieldValues, Name, Node, Nodes};
+use cat_tree::{Name, Node, Nodes, SurfaceField, SurfaceFields};
 use cat_value::{Ty, Tys};
 
 #[cycle(walk)]
@@ -144,7 +144,7 @@ pub fn infer_all(
 pub fn infer_values(
     here: &Here,
     owner: Owner,
-    fields: &FieldValues,
+    fields: &SurfaceFields,
     locals: &mut Locals,
 ) -> Result<Values, Refusal>
     requires { IsTabled here.now }
@@ -163,7 +163,7 @@ pub fn infer_values(
 pub fn infer_value(
     here: &Here,
     owner: Owner,
-    field: &FieldValue,
+    field: &SurfaceField,
     locals: &mut Locals,
 ) -> Result<Value, Refusal>
     requires { IsTabled here.now }
@@ -183,7 +183,7 @@ pub fn infer_value(
 pub fn infer_structure(
     here: &Here,
     name: &Name,
-    fields: &FieldValues,
+    fields: &SurfaceFields,
     locals: &mut Locals,
     expected: Option<&Ty>,
 ) -> Result<Resolved, Refusal>
@@ -204,7 +204,7 @@ pub fn infer_scope_call(
     here: &Here,
     place: Pos,
     name: &Name,
-    fields: &FieldValues,
+    fields: &SurfaceFields,
     output: &Name,
     locals: &mut Locals,
     expected: Option<&Ty>,

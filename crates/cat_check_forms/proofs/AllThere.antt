@@ -109,19 +109,6 @@ required_is n (item ∷ items) fields =
     by true = refl
     by false = refl
 
--- `anything` behind which nothing stands
-pub last_anything : (a : Arm) (arms : List Arm) (last : Bool) → is_anything a.pattern ≡ true
-    → (last ≡ true → length arms ≡ 0) → (last ≡ false → 0 < length arms) → last ≡ anything_is_last (a ∷ arms)
-last_anything a [] true is none some = refl
-last_anything a [] false is none some = absurd (omega (arith, some refl))
-last_anything a (b ∷ arms) true is none some = absurd (omega (arith, none refl))
-last_anything a (b ∷ arms) false is none some = rw is refl
-
-pub not_anything : (a : Arm) (arms : List Arm) → is_anything a.pattern ≡ false
-    → anything_is_last arms ≡ anything_is_last (a ∷ arms)
-not_anything a [] is = refl
-not_anything a (b ∷ arms) is = rw is refl
-
 -- the last of some arms
 pub last_ends : (arms : List Arm) (n : ℕ) (a : Arm) → n + 1 ≡ length arms → slice_get arms n ≡ Some a
     → is_anything a.pattern ≡ ends_in_anything arms

@@ -25,9 +25,6 @@ reversed ls x =
     ap reverse (numbers_more 0 ls x) ∙ reverse-append (enumerate_from 0 ls) ((0 + length ls, x) ∷ [])
     ∙ ap (λ (k : ℕ). (k, x) ∷ reverse (enumerate_from 0 ls)) same
 
-named : List ℕ → List (ℕ × Local) → Option (ℕ × Ty)
-named w ls = option_map (λ l. (l.0, l.1.ty)) (find (λ l. bytes_eq l.1.name w) ls)
-
 hit : (w : List ℕ) (ls : List Local) (x : Local) → bytes_eq x.name w ≡ true
     → innermost w (ls ++ x ∷ []) ≡ Some (length ls, x.ty)
 hit w ls x is = ap (λ zs. option_map (λ l. (l.0, l.1.ty)) (find (λ l. bytes_eq l.1.name w) zs)) (reversed ls x)

@@ -1,7 +1,6 @@
 // Fields and arms by their names.
 ghost use Rattle.std.specs.Prelude.{◌≡◌};
 ghost use Rattle.cat_value.specs.Entries.{content_of};
-ghost use Rattle.cat_value.specs.Inputs.{may_be_given};
 ghost use Rattle.cat_tree.specs.declared.expression.Pattern.TheVariants as pattern;
 ghost use Rattle.cat_names.specs.declared.fault.Fault.TheVariants as faults;
 ghost use Rattle.cat_names.specs.Found.{Tells, or_fault};
@@ -17,7 +16,7 @@ use cat_names::{Fault, Local, Refusal};
 use cat_pos::Pos;
 use cat_scope::ArmPattern;
 use cat_tree::{CaseName, Name, Pattern};
-use cat_value::{Kind, Ty, copy_ty};
+use cat_value::{Ty, copy_ty};
 
 /// What fields are given to: a structure, or a scope that is called.
 #[derive(Clone, Copy, PartialEq, Eq, Debug)]
@@ -48,19 +47,10 @@ fn input_named<'a>(here: &Here<'a>, scope: u32, name: &Name) -> Option<(u32, &'a
     ensures { shown result ≡ words.input_named here.now.decls.now scope name.now.text }
 {
     let (number, item) = here.tables.item(here.decls, scope, &name.text)?;
-    if !may_be_given(item.kind) {
+    if !item.kind.may_be_given() {
         return None;
     }
     Some((number, &item.ty))
-}
-
-fn may_be_given(kind: Kind) -> bool
-    ensures { result ≡ may_be_given kind }
-{
-    match kind {
-        Kind::Input | Kind::InputOutput | Kind::Context | Kind::ContextOutput => true,
-        Kind::Output | Kind::Internal | Kind::Called(_) => false,
-    }
 }
 
 /// The pattern of an arm of a match for an enumeration, and the name that it binds.

@@ -9,14 +9,14 @@ use Rattle.cat_tree.specs.Accumulation.{accumulation}
 use Rattle.cat_tree.specs.declared.name.Name.{Name}
 use Rattle.cat_tree.specs.declared.name.CaseName.{CaseName}
 use Rattle.cat_tree.specs.declared.name.Type as types
-use Rattle.cat_tree.specs.declared.expression.Literal as tree
+use Rattle.cat_tree.specs.declared.expression.SurfaceLiteral as tree
 use Rattle.cat_tree.specs.declared.expression.Prefix.{Prefix}
 use Rattle.cat_tree.specs.declared.expression.Operator.{Operator}
 use Rattle.cat_tree.specs.declared.expression.Each.{Each}
 use Rattle.cat_tree.specs.declared.expression.Pattern.{Pattern}
 use Rattle.cat_tree.specs.declared.expression.Node.{Node}
-use Rattle.cat_tree.specs.declared.expression.FieldValue.{FieldValue}
-use Rattle.cat_tree.specs.declared.expression.Arm.{Arm}
+use Rattle.cat_tree.specs.declared.expression.SurfaceField.{SurfaceField}
+use Rattle.cat_tree.specs.declared.expression.SurfaceArm.{SurfaceArm}
 use Rattle.cat_tree.specs.declared.expression.Node.TheVariants as leaf
 use Rattle.cat_tree.specs.declared.expression.Node.TheViews as node
 use Rattle.cat_names.specs.declared.fault.Fault.{Fault}
@@ -33,14 +33,14 @@ use Rattle.cat_names.proofs.Exported.{unknown_ScopeCall, unknown_Structure, unkn
 abbrev pub of_nodes : Known → List (List ℕ) → List Node → List Fault
 of_nodes known bound es = flat_map (λ e. unknown_in known e bound) es
 
-abbrev pub of_fields : Known → List (List ℕ) → List FieldValue → List Fault
+abbrev pub of_fields : Known → List (List ℕ) → List SurfaceField → List Fault
 of_fields known bound fs = flat_map (λ f. unknown_in known f.value bound) fs
 
-abbrev pub of_arms : Known → List (List ℕ) → List Arm → List Fault
+abbrev pub of_arms : Known → List (List ℕ) → List SurfaceArm → List Fault
 of_arms known bound arms =
     flat_map (λ a. in_pattern known a.pattern ++ unknown_in known a.body (bound ++ bound_by a.pattern)) arms
 
-pub added_Literal : (known : Known) (l : tree.Literal) (p : Pos) (bound : List (List ℕ)) (f : List Fault)
+pub added_Literal : (known : Known) (l : tree.SurfaceLiteral) (p : Pos) (bound : List (List ℕ)) (f : List Fault)
     → f ++ unknown_in known (leaf.Literal l p) bound
     ≡ f
 added_Literal known l p bound f = ap (λ fs. f ++ fs) (unknown_Literal known l p bound) ∙ append-nil f
@@ -106,19 +106,19 @@ pub added_List : (known : Known) (p : Pos) (es : List Node) (bound : List (List 
 added_List known p es bound f = ap (λ fs. f ++ fs) (unknown_List known p es bound
     ∙ flat_map-map (λ e. e bound) (unknown_in known) es)
 
-fields_are : (known : Known) (fields : List FieldValue) (bound : List (List ℕ))
+fields_are : (known : Known) (fields : List SurfaceField) (bound : List (List ℕ))
     → in_fields (map (field_row known) fields) bound ≡ twice (map (λ x. x.name) fields) ++ of_fields known bound fields
 fields_are known fields bound =
     ap (λ fs. fs ++ flat_map (λ x. x.1 bound) (map (field_row known) fields))
     (ap twice (map-map (λ x. x.0) (field_row known) fields))
     ∙ ap (λ fs. twice (map (λ x. x.name) fields) ++ fs) (flat_map-map (λ x. x.1 bound) (field_row known) fields)
 
-arms_are : (known : Known) (arms : List Arm) (bound : List (List ℕ))
+arms_are : (known : Known) (arms : List SurfaceArm) (bound : List (List ℕ))
     → in_arms known (map (arm_row known) arms) bound ≡ of_arms known bound arms
 arms_are known arms bound =
     flat_map-map (λ (a : Pattern × Unknown). in_pattern known a.0 ++ a.1 (bound ++ bound_by a.0)) (arm_row known) arms
 
-pub added_Structure : (known : Known) (u : Name) (fields : List FieldValue) (bound : List (List ℕ)) (f : List Fault)
+pub added_Structure : (known : Known) (u : Name) (fields : List SurfaceField) (bound : List (List ℕ)) (f : List Fault)
     → f ++ unknown_in known (node.Structure u fields) bound
     ≡ f ++ of_type known u ++ twice (map (λ x. x.name) fields) ++ of_fields known bound fields
 added_Structure known u fields bound f = ap (λ fs. f ++ fs)
@@ -126,7 +126,7 @@ added_Structure known u fields bound f = ap (λ fs. f ++ fs)
     ∙ sym (append_assoc f (of_type known u) (twice (map (λ x. x.name) fields) ++ of_fields known bound fields))
     ∙ sym (append_assoc (f ++ of_type known u) (twice (map (λ x. x.name) fields)) (of_fields known bound fields))
 
-pub added_ScopeCall : (known : Known) (p : Pos) (u : Name) (fields : List FieldValue) (w : Name)
+pub added_ScopeCall : (known : Known) (p : Pos) (u : Name) (fields : List SurfaceField) (w : Name)
     (bound : List (List ℕ)) (f : List Fault)
     → f ++ unknown_in known (node.ScopeCall p u fields w) bound
     ≡ f ++ unless (is_name u.text known.scopes) u ++ twice (map (λ x. x.name) fields) ++ of_fields known bound fields
@@ -146,7 +146,7 @@ added_If known p c a b bound f = ap (λ fs. f ++ fs) (unknown_If known p c a b b
     ∙ ap (λ fs. fs ++ unknown_in known b bound) (sym
     (append_assoc f (unknown_in known c bound) (unknown_in known a bound)))
 
-pub added_Match : (known : Known) (p : Pos) (e : Node) (arms : List Arm) (bound : List (List ℕ)) (f : List Fault)
+pub added_Match : (known : Known) (p : Pos) (e : Node) (arms : List SurfaceArm) (bound : List (List ℕ)) (f : List Fault)
     → f ++ unknown_in known (node.Match p e arms) bound
     ≡ f ++ unknown_in known e bound ++ of_arms known bound arms
 added_Match known p e arms bound f = ap (λ fs. f ++ fs)

@@ -1,6 +1,6 @@
 -- What is found by a name, with its number.
 use Rattle.std.proofs.Common.{◌≡◌, ◌∙◌, ℕ, suc, ◌+◌, ◌<◌, Bool, true, false, cond, List, [], ◌∷◌, ◌++◌, length}
-use Rattle.std.proofs.Common.{Option, Some, None, option_map, slice_get, find, bytes_eq, refl, ap, subst, arith}
+use Rattle.std.proofs.Common.{Option, Some, option_map, slice_get, find, bytes_eq, refl, ap, subst, arith}
 use Rattle.std.proofs.Common.{rules}
 use Rattle.std.specs.List.{enumerate_from}
 use Rattle.std.specs.Option.{unwrap_or}
@@ -64,8 +64,3 @@ named_at name_of w xs k at =
       within = subst (λ (i : ℕ). i < length xs) here seen.within;
       named = λ x stands. seen.found x (ap (slice_get xs) here ∙ stands);
     }
-
--- nothing has the name where it has no number
-pub none_named : {A : Type 0} (found : Option (ℕ × A)) → option_map (λ x. x.0) found ≡ None → found ≡ None
-none_named None none = refl
-none_named (Some x) none = absurd (search (rules, none))

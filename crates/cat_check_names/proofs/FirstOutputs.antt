@@ -6,7 +6,7 @@ use Rattle.std.proofs.Common.{◌⊎◌, inl, inr, rules, option_map}
 use Rattle.std.proofs.lemmas.Option.{slice_get_read, slice_get-map, slice_get_cases, slice_get_within}
 use Rattle.std.specs.Option.{unwrap_or}
 use Rattle.cat_value.specs.declared.declaration.ItemDecl.{ItemDecl}
-use Rattle.cat_scope.specs.Names.{is_output, outputs_in}
+use Rattle.cat_value.specs.Inputs.{is_output, outputs_in}
 use Rattle.cat_check_names.specs.Table.{Table, with_name, IsTableOf}
 use Rattle.cat_check_names.proofs.Tabled.{one_behind}
 

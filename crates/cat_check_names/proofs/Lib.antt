@@ -9,4 +9,3 @@ pub mod Knowing
 pub mod Names
 pub mod Twice
 pub mod Popping
-pub mod Exported

@@ -1,20 +1,9 @@
 -- Bound names that are taken off.
-use Rattle.std.proofs.Common.{◌≡◌, ◌∙◌, ℕ, ◌+◌, ◌-◌, List, [], ◌∷◌, ◌++◌, length, take, Option, Some}
-use Rattle.std.proofs.Common.{None}
-use Rattle.std.proofs.Common.{refl, sym, ap, arith}
-use Rattle.std.proofs.lemmas.List.{length-append, length-take, take-take, length-take-le}
+use Rattle.std.proofs.Common.{◌≡◌, ◌∙◌, ℕ, ◌+◌, ◌-◌, List, [], ◌∷◌, ◌++◌, length, take, Option}
+use Rattle.std.proofs.Common.{ap, arith}
+use Rattle.std.proofs.lemmas.List.{take-take, length-take-le}
 use Rattle.std.specs.Option.{MatchOption}
-
-take_front : {A : Type 0} (xs ys : List A) → take (length xs) (xs ++ ys) ≡ xs
-take_front [] ys = refl
-take_front (x ∷ xs) ys = ap (λ zs. x ∷ zs) (take_front xs ys)
-
-pub popped : {A : Type 0} (old new : List A) (last : Option A)
-    → MatchOption last ((old ≡ []) × (new ≡ [])) (λ x. old ≡ new ++ x ∷ []) → new ≡ take (length old - 1) old
-popped old new None h = h.1 ∙ sym (ap (λ xs. take (length xs - 1) xs) h.0)
-popped old new (Some x) h =
-    let long : length (new ++ x ∷ []) - 1 ≡ length new = omega (arith, length-append new (x ∷ [])) in
-    sym (ap (λ xs. take (length xs - 1) xs) h ∙ ap (λ (n : ℕ). take n (new ++ x ∷ [])) long ∙ take_front new (x ∷ []))
+use Rattle.cat_pos.proofs.Popping.{popped}
 
 -- one name less
 pub one_less : {A : Type 0} (names old new : List A) (last : Option A) (count k : ℕ)

@@ -6,7 +6,7 @@ use Rattle.cat_value.specs.declared.ty.Ty.{Ty}
 use Rattle.cat_value.specs.declared.ty.Ty.TheVariants as flat
 use Rattle.cat_value.specs.declared.declaration.ItemDecl.{ItemDecl}
 use Rattle.cat_value.specs.declared.decls.Decls.{Decls}
-use Rattle.cat_scope.specs.Names.{outputs_in}
+use Rattle.cat_value.specs.Inputs.{outputs_in}
 use Rattle.cat_names.specs.Lookup.{TypeNames, type_names}
 use Rattle.cat_check_names.specs.declared.types.TypeTable.{TypeTable}
 use Rattle.cat_check_names.specs.declared.outputs.Outputs.{Outputs}

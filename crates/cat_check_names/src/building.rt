@@ -3,7 +3,7 @@ ghost use Rattle.std.specs.Prelude.{◌≡◌, ◌<◌, [], List as Listed, IfOk
 ghost use Rattle.cat_value.specs.declared.declaration.Enumeration.{Enumeration as Enumerated};
 ghost use Rattle.std.specs.List.{AllZip};
 ghost use Rattle.cat_value.specs.Laws.{AreSound};
-ghost use Rattle.cat_scope.specs.Names.{is_output, outputs_in};
+ghost use Rattle.cat_value.specs.Inputs.{outputs_in};
 ghost use Rattle.cat_names.specs.Lookup.{type_names};
 ghost use Rattle.cat_check_names.specs.Tables as words;
 ghost use Rattle.cat_check_names.specs.Table.{IsTableOf};
@@ -12,7 +12,7 @@ ghost use Rattle.cat_check_names.specs.inside.Counting.{AreCounted};
 
 use crate::{NameTable, NameTables, OnlyCases, Outputs, TypeTable, table_of};
 use cat_pos::{ENTRIES_BOUND, List};
-use cat_value::{Case, Decls, ItemDecl, Kind, declarations_are_sound};
+use cat_value::{Case, Decls, ItemDecl, declarations_are_sound};
 use std::alloc::{AllocError, Global};
 
 impl NameTables {
@@ -130,7 +130,7 @@ fn outputs_of(alloc: Global, items: &[ItemDecl]) -> Result<Outputs, AllocError>
     let mut names = NameTable::new(alloc);
     let mut numbers = List::new(alloc);
     for (item, decl) in items.iter().enumerate() {
-        if !is_output(decl.kind) {
+        if !decl.kind.is_output() {
             continue;
         }
         names.add(alloc, &decl.name, numbers.len() as u32)?;
@@ -140,13 +140,4 @@ fn outputs_of(alloc: Global, items: &[ItemDecl]) -> Result<Outputs, AllocError>
         names,
         items: numbers,
     })
-}
-
-fn is_output(kind: Kind) -> bool
-    ensures { result ≡ is_output kind }
-{
-    match kind {
-        Kind::Output | Kind::InputOutput | Kind::ContextOutput => true,
-        Kind::Input | Kind::Internal | Kind::Context | Kind::Called(_) => false,
-    }
 }

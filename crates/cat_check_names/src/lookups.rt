@@ -1,6 +1,7 @@
 // What names name in declarations.
 ghost use Rattle.std.specs.Prelude.{◌≡◌, slice_get, option_map, option_and_then};
-ghost use Rattle.cat_scope.specs.Names.{outputs_in, scope_items};
+ghost use Rattle.cat_scope.specs.Names.{scope_items};
+ghost use Rattle.cat_value.specs.Inputs.{outputs_in};
 ghost use Rattle.cat_names.specs.declared.fault.Fault.TheVariants.{NameUnknown};
 ghost use Rattle.cat_names.specs.Found.{or_fault};
 ghost use Rattle.cat_names.specs.Lookup.{type_named, type_names, scope_named, item_named, case_named, cases_named};

@@ -10,7 +10,9 @@ use crate::leaves::{
     add_case, add_out_of_reach, add_pattern, add_scope_name, add_type, add_type_name,
 };
 use crate::{Faults, NamingContext, Texts, add_repeated};
-use cat_tree::{Arm, Arms, CaseName, FieldValues, Name, Node, Nodes, Pattern, Type};
+use cat_tree::{
+    CaseName, Name, Node, Nodes, Pattern, SurfaceArm, SurfaceArms, SurfaceFields, Type,
+};
 use std::alloc::AllocError;
 
 /// The names of an expression that name nothing, and the fields in it that are given twice, under these bound names.
@@ -190,7 +192,7 @@ fn add_under(
 #[cycle(unknown)]
 fn add_fields(
     here: &NamingContext,
-    fields: &FieldValues,
+    fields: &SurfaceFields,
     bound: &mut Texts,
     faults: &mut Faults,
 ) -> Result<(), AllocError>
@@ -211,7 +213,7 @@ fn add_fields(
 #[tactic(auto, using(crate::proofs::Added::joining))]
 fn add_arm(
     here: &NamingContext,
-    arm: &Arm,
+    arm: &SurfaceArm,
     bound: &mut Texts,
     faults: &mut Faults,
 ) -> Result<(), AllocError>
@@ -232,7 +234,7 @@ fn add_arm(
 #[cycle(unknown)]
 fn add_arms(
     here: &NamingContext,
-    arms: &Arms,
+    arms: &SurfaceArms,
     bound: &mut Texts,
     faults: &mut Faults,
 ) -> Result<(), AllocError>

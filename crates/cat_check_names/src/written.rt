@@ -2,7 +2,7 @@
 ghost use Rattle.std.specs.Prelude.{◌≡◌};
 ghost use Rattle.cat_tree.specs.declared.name.Name.{Name as Word};
 
-use cat_tree::{CaseItem, FieldItem, FieldValue, Name, Variable};
+use cat_tree::{CaseItem, FieldItem, Name, SurfaceField, Variable};
 
 /// What has a name with its position.
 pub trait Written {
@@ -36,7 +36,7 @@ impl Written for CaseItem {
     }
 }
 
-impl Written for FieldValue {
+impl Written for SurfaceField {
     ghost written = { λ field. field.name };
 
     fn written(&self) -> &Name {

@@ -1,37 +1,39 @@
 // Literals with their types.
 ghost use Rattle.std.specs.Prelude.{◌≡◌, Some, None, if◌then◌else◌};
-ghost use Rattle.cat_num.specs.Whole.{fits};
 ghost use Rattle.cat_num.specs.Numerals.{is_numeral};
-ghost use Rattle.cat_date.specs.Calendar.{is_day};
 ghost use Rattle.cat_date.specs.Span.{is_span};
-ghost use Rattle.cat_tree.specs.declared.expression.Literal.TheVariants as written;
+ghost use Rattle.cat_tree.specs.declared.expression.SurfaceLiteral.TheVariants as written;
 ghost use Rattle.cat_scope.specs.Literals.{literal_fits, literal_type};
 ghost use Rattle.cat_names.specs.Found.{Tells};
 ghost use Rattle.cat_names.specs.Operations.{literal_of, literal_written, span_written};
 ghost use Rattle.cat_check_operators.specs.inside.Years.{years_of};
 
 use crate::Resolved;
-use cat_date::{Day, Span, number, span_times};
+use cat_date::{Span, span_times};
 use cat_names::{Fault, Refusal};
-use cat_num::{DecimalLiteral, Money, Whole};
+use cat_num::{DecimalLiteral, Whole};
 use cat_pos::Pos;
 use cat_scope::{Expr, Literal};
 use cat_tree::Unit;
-use cat_value::Ty;
+use cat_value::{Ty, day_is_in_range, money_fits, span_fits, whole_fits};
 use std::alloc::Global;
 
 /// A literal, within its bound.
-pub fn literal(alloc: Global, written: cat_tree::Literal, place: Pos) -> Result<Resolved, Refusal>
+pub fn literal(
+    alloc: Global,
+    written: cat_tree::SurfaceLiteral,
+    place: Pos,
+) -> Result<Resolved, Refusal>
     ensures { Tells result (literal_of place (literal_written written)) }
 {
     match written {
-        cat_tree::Literal::Int(whole) => fitting(alloc, place, Literal::Integer(whole)),
-        cat_tree::Literal::Dec(decimal) => fitting(alloc, place, Literal::Decimal(decimal)),
-        cat_tree::Literal::Pct(decimal) => fitting(alloc, place, Literal::Decimal(decimal)),
-        cat_tree::Literal::Money(money) => fitting(alloc, place, Literal::Money(money)),
-        cat_tree::Literal::Date(day) => fitting(alloc, place, Literal::Date(day)),
-        cat_tree::Literal::Boolean(truth) => fitting(alloc, place, Literal::Boolean(truth)),
-        cat_tree::Literal::Span(number, unit) => duration(alloc, place, number, unit),
+        cat_tree::SurfaceLiteral::Int(whole) => fitting(alloc, place, Literal::Integer(whole)),
+        cat_tree::SurfaceLiteral::Dec(decimal) => fitting(alloc, place, Literal::Decimal(decimal)),
+        cat_tree::SurfaceLiteral::Pct(decimal) => fitting(alloc, place, Literal::Decimal(decimal)),
+        cat_tree::SurfaceLiteral::Money(money) => fitting(alloc, place, Literal::Money(money)),
+        cat_tree::SurfaceLiteral::Date(day) => fitting(alloc, place, Literal::Date(day)),
+        cat_tree::SurfaceLiteral::Boolean(truth) => fitting(alloc, place, Literal::Boolean(truth)),
+        cat_tree::SurfaceLiteral::Span(number, unit) => duration(alloc, place, number, unit),
     }
 }
 
@@ -73,36 +75,11 @@ fn keeps_bound(literal: &Literal) -> bool
     }
 }
 
-fn whole_fits(whole: Whole) -> bool
-    ensures { result ≡ fits whole }
-{
-    whole.get() != i64::MIN
-}
-
 fn decimal_fits(decimal: DecimalLiteral) -> bool
     ensures { result ≡ is_numeral decimal }
 {
     let _digits = decimal.digits();
     true
-}
-
-fn money_fits(money: Money) -> bool
-    ensures { result ≡ fits money }
-{
-    money.get() != i64::MIN
-}
-
-fn day_is_in_range(day: Day) -> bool
-    ensures { result ≡ is_day day }
-{
-    let _number = number(day);
-    true
-}
-
-fn span_fits(span: Span) -> bool
-    ensures { result ≡ is_span span }
-{
-    span.months() != i64::MIN && span.days() != i64::MIN
 }
 
 /// So many years, months or days.

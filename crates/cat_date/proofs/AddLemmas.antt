@@ -1,6 +1,5 @@
 -- A day in its month, and what stands in its place where the month is too short.
 use Rattle.std.proofs.Common.{◌≡◌, ℕ, ◌+◌, ◌<◌, ◌≤◌, Ok, refl, arith, ℤ, pos, ◌+ℤ◌, ◌≤ℤ◌}
-use Rattle.std.proofs.lemmas.Bool.Decides.{nat_tests}
 use Rattle.jiff_core.specs.Calendar.{days_in_month}
 use Rattle.jiff_core.proofs.DateLemmas.{days_from_civil-next_month}
 use Rattle.jiff_core.proofs.CalendarLemmas.{days_in_month_bounds}
@@ -18,10 +17,6 @@ pub day_of_month-past : (r : Rounding) (y : ℤ) (m n : ℕ) → days_in_month y
     r (day_number y m (days_in_month y m))
 unfolding day_of_month
 day_of_month-past r y m n h = rw (nat_le-false h) refl
-
--- a month that lacks a day is not the last of the year
-pub short_month : (y : ℤ) (m n : ℕ) → days_in_month y m < n → n ≤ 31 → m ≤ 12 → m ≤ 11
-short_month y m n h top last = grind (arith, nat_tests)
 
 pub day_number-next_month : (y : ℤ) (m : ℕ) → pos 1 ≤ℤ y → 1 ≤ m → day_number y (m + 1) 1 ≡ day_number y m
     (days_in_month y m) +ℤ pos 1

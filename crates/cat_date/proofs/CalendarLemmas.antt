@@ -7,7 +7,7 @@ use Rattle.std.proofs.lemmas.Bool.Decides.{nat_tests}
 use Rattle.std.proofs.lemmas.Int.{ints, by_lt_z}
 use Rattle.jiff_core.specs.declared.civil.date.Date.{Date}
 use Rattle.jiff_core.specs.Calendar.{day_of_year, days_in_month, days_in_year, days_of_months, day_count}
-use Rattle.jiff_core.specs.Calendar.{days_from_civil, IsCivilDate, IsEpochDay}
+use Rattle.jiff_core.specs.Calendar.{days_from_civil, IsCivilDate}
 use Rattle.jiff_core.specs.Date.{epoch_day}
 use Rattle.jiff_core.specs.March.{march_days}
 use Rattle.jiff_core.proofs.SignedLemmas.{signed_arith, one_part}
@@ -219,9 +219,6 @@ in_range-date d z e low =
 pub in_range-early : (d : Date) (z : ℤ) → epoch_day d ≡ z → d.year <ℤ pos 1 → in_range z ≡ Err Overflow
 in_range-early d z e early =
     in_range-false z (λ day. let low = year-IsDay d (subst IsDay (sym e) day) in omega (arith, signed_arith))
-
-pub in_range-far : (z : ℤ) → ¬ (IsEpochDay z) → in_range z ≡ Err Overflow
-in_range-far z h = in_range-false z (λ day. let range = bounds-IsDay z day in h (omega (arith, signed_arith)))
 
 -- each count of days falls in the year that is then not over
 days_of_years-bounds : (k : ℕ) → (400 * days_of_years k ≤ 146_097 * k + 396)

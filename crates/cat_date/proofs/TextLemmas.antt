@@ -44,14 +44,6 @@ bytes_eq-length text h = no (bytes_eq (form_of text) (codes "0000-00-00")) (λ e
     no true h = absurd (h refl)
     no false h = refl
 
-pub year_digits : (text : List ℕ) → form_of text ≡ codes "0000-00-00" → all_ascii_digits (take 4 text) ≡ true
-year_digits text e = all_ascii_digits-zeros 4 (take 4 text) (form_of-take 4 text ∙ ap (take 4) e)
-
-pub month_digits : (text : List ℕ) → form_of text ≡ codes "0000-00-00" → all_ascii_digits (take 2 (drop 5 text)) ≡ true
-month_digits text e =
-    all_ascii_digits-zeros 2 (take 2 (drop 5 text)) (form_of-take 2 (drop 5 text)
-    ∙ ap (take 2) (form_of-drop 5 text ∙ ap (drop 5) e))
-
 pub day_digits : (text : List ℕ) → form_of text ≡ codes "0000-00-00" → all_ascii_digits (take 2 (drop 8 text)) ≡ true
 day_digits text e =
     all_ascii_digits-zeros 2 (take 2 (drop 8 text)) (form_of-take 2 (drop 8 text)

@@ -1,5 +1,5 @@
 -- Where no count is passed, scopes have few variables.
-use Rattle.std.proofs.Common.{◌≡◌, ℕ, zero, suc, ◌<◌, ◌≤◌, ◌++◌, List, [], ◌∷◌, length, map, get_or}
+use Rattle.std.proofs.Common.{◌≡◌, ◌≤◌, ◌++◌, List, [], ◌∷◌, length, map}
 use Rattle.std.proofs.Common.{sym, subst, arith}
 use Rattle.std.specs.Prelude.{flat_map}
 use Rattle.cat_scope.specs.Names.{AllHave}
@@ -42,10 +42,3 @@ pub declared_few : (items : List Item) (ds : List (Declaration Variable)) → ma
     → flat_map declaration_faults items ≡ [] → AreFew ds
 declared_few items ds is none =
     all_pairs ds (subst (AllHave (λ s. length s.1 ≤ most_items)) (sym is) (scopes_few items none))
-
--- what holds of each holds of the one at an index
-pub all_index : {A : Type 0} (P : A → Type 0) (xs : List A) (i : ℕ) (x : A) → AllHave P xs → i < length xs
-    → get_or xs i x ≡ x → P x
-all_index P [] i x all within is = absurd (omega (arith, within))
-all_index P (y ∷ ys) zero x all within is = subst P is all.0
-all_index P (y ∷ ys) (suc i) x all within is = all_index P ys i x all.1 (omega (arith, within)) is

@@ -126,16 +126,16 @@ fn enumerations_of(
     Ok(made)
 }
 
-fn kind_of(kind: cat_tree::Kind) -> Kind
+fn kind_of(kind: cat_tree::VariableKind) -> Kind
     ensures { result ≡ declared.kind_declared kind }
 {
     match kind {
-        cat_tree::Kind::Input => Kind::Input,
-        cat_tree::Kind::InputOutput => Kind::InputOutput,
-        cat_tree::Kind::Output => Kind::Output,
-        cat_tree::Kind::Internal => Kind::Internal,
-        cat_tree::Kind::Context => Kind::Context,
-        cat_tree::Kind::ContextOutput => Kind::ContextOutput,
+        cat_tree::VariableKind::Input => Kind::Input,
+        cat_tree::VariableKind::InputOutput => Kind::InputOutput,
+        cat_tree::VariableKind::Output => Kind::Output,
+        cat_tree::VariableKind::Internal => Kind::Internal,
+        cat_tree::VariableKind::Context => Kind::Context,
+        cat_tree::VariableKind::ContextOutput => Kind::ContextOutput,
     }
 }
 
@@ -159,7 +159,7 @@ fn scope_number(tables: &TreeTables, name: &Name, faults: &mut Faults) -> Result
 fn own_item(
     alloc: Global,
     tables: &TreeTables,
-    kind: cat_tree::Kind,
+    kind: cat_tree::VariableKind,
     name: &Name,
     ty: &Option<cat_tree::Type>,
     params: &[FieldItem],

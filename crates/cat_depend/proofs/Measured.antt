@@ -33,9 +33,6 @@ IsTopological-of_IsOrder deps calls order counted fewer is items first = record 
 
 -- ---- chains
 
-IsMeasured : List (List ℕ) → List ℕ → ℕ → Type 0
-IsMeasured deps lengths n = (k : ℕ) → is_within deps k n ≡ nat_le (get_or lengths n 0) k
-
 both_within : (a b k : ℕ) → (nat_le a k && nat_le b k) ≡ nat_le (max a b) k
 both_within a b k = grind (arith, nat_tests)
 

@@ -38,9 +38,6 @@ both xs xs' ys ys' f g m h = by (is_listed xs m) refl
     by false e = let there : IsTrue (is_listed ys' m) = g m (grind (arith, nat_tests, times_both xs ys m)) in
         grind (arith, nat_tests, times_both xs' ys' m)
 
-by_equations : (xs xs' ys ys' : List ℕ) → xs ≡ xs' → ys ≡ ys' → Sub xs' ys' → Sub xs ys
-by_equations xs xs' ys ys' e f h = rw (e, f) h
-
 abbrev AreAmong : Expr → Type 0
 AreAmong e = Sub (named Functions e) (named Items e)
 

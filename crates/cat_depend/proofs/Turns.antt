@@ -1,5 +1,5 @@
 -- One turn of a loop over the order of scopes.
-use Rattle.std.proofs.Common.{◌≡◌, ◌<◌, ◌≤◌, ◌+◌, ◌-◌, ℕ, zero, suc, Bool, true, false, IfSome, List, [], ◌∷◌}
+use Rattle.std.proofs.Common.{◌≡◌, ◌<◌, ◌≤◌, ◌+◌, ◌-◌, ℕ, zero, suc, Bool, true, IfSome, List, [], ◌∷◌}
 use Rattle.std.proofs.Common.{◌++◌, All, take, drop, drop-cons, length, get_or, Some, slice_get, refl, sym, ap, ◌∙◌}
 use Rattle.std.proofs.Common.{subst, arith, append_assoc, add-one}
 use Rattle.std.specs.Prelude.{filter}
@@ -11,7 +11,7 @@ use Rattle.cat_scope.specs.Names.{is_in}
 use Rattle.cat_scope.specs.WellFormed.{IsWellFormed}
 use Rattle.cat_depend.specs.Reached.{calls_in}
 use Rattle.cat_depend.specs.inside.Marks.{is_marked, marked}
-use Rattle.cat_depend.proofs.Marking.{IsUnderWay, need_below, passed, spread_on}
+use Rattle.cat_depend.proofs.Marking.{IsUnderWay, need_below, spread_on}
 use Rattle.cat_depend.proofs.Members.{all_have, all_of_have, in_back, in_here}
 use Rattle.cat_depend.proofs.Orderly.{IsOrderly, called_as, counted, orderly}
 
@@ -75,13 +75,6 @@ module _ (program : Program) (formed : ∥ IsWellFormed program.decls program.bo
 
     pub below_bodies : n < length program.bodies
     below_bodies = listed_below k k_within
-
-    pub not_marked : is_marked marks n ≡ false
-        → IsUnderWay (calls_in program) from (drop k program.scope_order) marks
-    not_marked out = subst (λ (rest : List ℕ). IsUnderWay (calls_in program) from rest marks)
-        (sym (drop-cons program.scope_order k 0 k_within))
-        (passed (calls_in program) program.scope_order is from front back n (here program.scope_order k k_within) marks
-        way_here out)
 
     module _ (called : List ℕ) (told : IfSome (slice_get program.bodies n) (λ body. called ≡ body.calls)) where
       pub all_within : All (λ m. m < length marks) called

@@ -1,5 +1,5 @@
 // What items depend on, and the functions that functions call.
-ghost use Rattle.std.specs.Prelude.{◌≡◌, ◌<◌, [], length, replicate, All, IfOk, IfErr};
+ghost use Rattle.std.specs.Prelude.{◌≡◌, ◌<◌, length, All, IfOk, IfErr};
 ghost use Rattle.cat_order.specs.Order.{AreItems, IsOrder};
 ghost use Rattle.cat_scope.specs.Names.{is_function};
 ghost use Rattle.cat_scope.specs.Orders.{item_dependencies, function_calls};
@@ -9,22 +9,13 @@ ghost use Rattle.cat_depend.specs.inside.Wanted.{wants, lists_from};
 
 use crate::chains::past_longest;
 use crate::naming::{Wanted, add_definition};
-use cat_order::{OrderRefusal, order, the_order_lists_items, the_order_puts_dependencies_first};
-use cat_pos::{ENTRIES_BOUND, List, Numbers};
+use cat_order::{
+    OrderRefusal, empty_lists, order, the_order_lists_items, the_order_puts_dependencies_first,
+};
+use cat_pos::{ENTRIES_BOUND, Numbers};
 use cat_scope::Def;
 use cat_value::{ItemDecl, Kind};
 use std::alloc::{AllocError, Global};
-
-/// So many empty lists.
-fn empty_lists(alloc: Global, count: usize) -> Result<Vec<Numbers>, AllocError>
-    ensures { IfOk result (λ lists. lists.items ≡ replicate count []) }
-{
-    let mut lists = Vec::with_capacity(alloc, count)?;
-    for _ in 0..count {
-        lists.push(List::new(alloc))?;
-    }
-    Ok(lists)
-}
 
 fn is_function(item: &ItemDecl) -> bool
     ensures { result ≡ is_function item.now }

@@ -43,7 +43,7 @@ pub(crate) fn begin_scope<'a>(
         Some(place) => place,
         None => return Err(Failure::Stop(Stop::Stuck)),
     };
-    let scope = match calc.decls.scopes.get(number as usize) {
+    let scope = match calc.decls().scopes.get(number as usize) {
         Some(scope) => scope,
         None => return Err(Failure::Stop(Stop::Stuck)),
     };

@@ -11,9 +11,8 @@ use crate::beginning::begin_scope;
 use cat_calc::Calc;
 use cat_evaluate_call::{AllPlaces, Places};
 use cat_evaluate_scope::{Entries, OnOutputs, ScopePause, ScopeRun, ScopeTask, run_scope};
-use cat_evaluate_step::Stack;
 use cat_operate::{Failure, SharedValue};
-use cat_pos::List;
+use cat_pos::{List, Stack};
 use std::alloc::Global;
 
 /// A scope that waits for the outputs of one that it calls.

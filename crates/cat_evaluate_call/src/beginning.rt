@@ -12,10 +12,10 @@ ghost use Rattle.cat_evaluate_call.specs.Answers.{activation_ending, env_before,
 
 use crate::callers::Activation;
 use cat_calc::{DefaultTerm, TermsOfItems};
-use cat_evaluate_step::{Scene, Stack, Task};
+use cat_evaluate_step::{Scene, Task};
 use cat_evaluate_term::{Definition, JudgeTask, OnValue, TermTask};
 use cat_operate::SharedValue;
-use cat_pos::{List, Pos};
+use cat_pos::{List, Pos, Stack};
 use cat_scope::{Expr, Stop};
 use cat_value::{ItemDecls, Target};
 use std::alloc::Global;

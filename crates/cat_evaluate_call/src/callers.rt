@@ -1,8 +1,8 @@
 // A target that is judged, and what waits for the values of functions.
-use cat_evaluate_step::{Frames, Stack};
+use cat_evaluate_step::Frames;
 use cat_evaluate_term::{Definition, ExceptionFrames, OnValue};
 use cat_operate::SharedValue;
-use cat_pos::List;
+use cat_pos::{List, Stack};
 use cat_value::Target;
 
 /// A target that is judged for some arguments.

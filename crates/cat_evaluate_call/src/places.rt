@@ -97,5 +97,5 @@ pub fn scope_places(alloc: Global, calc: &Calc) -> Result<Places, AllocError>
     ensures { IfOk result (λ places. ArePlacesOf places calc.now.scope_order) }
 {
     calculi_are_well_formed(calc);
-    Places::of(alloc, &calc.scope_order, calc.decls.scopes.len())
+    Places::of(alloc, &calc.scope_order, calc.decls().scopes.len())
 }

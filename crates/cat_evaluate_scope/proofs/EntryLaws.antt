@@ -11,7 +11,8 @@ use Rattle.cat_value.specs.declared.declaration.Scope.{Scope}
 use Rattle.cat_scope.specs.declared.stop.Stop.{Stop}
 use Rattle.cat_scope.specs.declared.stop.Stop.TheVariants.{Stuck}
 use Rattle.cat_scope.specs.Calls.{Items}
-use Rattle.cat_scope.specs.Names.{is_output, items_in}
+use Rattle.cat_scope.specs.Names.{items_in}
+use Rattle.cat_value.specs.Inputs.{is_output}
 use Rattle.cat_scope.specs.Replies.{known, on_one, with_front}
 use Rattle.cat_scope.specs.Running.{entry_at, outputs_of, with_entry}
 use Rattle.cat_scope.proofs.Exported.{append_append}

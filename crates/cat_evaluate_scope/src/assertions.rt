@@ -8,8 +8,8 @@ ghost use Rattle.cat_evaluate_scope.specs.inside.Steps.{LeadsTo};
 use crate::entries::outputs_of;
 use crate::tasks::{Purpose, ScopePause, ScopeRun, ScopeStep, ScopeTask};
 use cat_evaluate_call::begun_alone;
-use cat_evaluate_step::Stack;
 use cat_operate::Failure;
+use cat_pos::Stack;
 use cat_value::Target;
 use std::alloc::Global;
 

@@ -1,7 +1,6 @@
 // The inputs and contexts of a called scope are judged, one by one.
 ghost use Rattle.std.specs.Prelude.{◌≡◌, slice_get};
 ghost use Rattle.std.specs.Option.{option_copied};
-ghost use Rattle.cat_value.specs.Inputs.{may_be_given};
 ghost use Rattle.cat_scope.specs.Names.{items_in};
 ghost use Rattle.cat_evaluate_step.specs.Scenes.{scoped_at};
 ghost use Rattle.cat_evaluate_scope.specs.declared.tasks.ScopeRun.{ScopeRun};
@@ -15,28 +14,17 @@ use crate::tasks::{
 };
 use cat_calc::Calc;
 use cat_evaluate_call::begun;
-use cat_evaluate_step::Stack;
 use cat_operate::Failure;
-use cat_pos::List;
-use cat_value::{ItemDecl, Kind, Target};
+use cat_pos::{List, Stack};
+use cat_value::{ItemDecl, Target};
 use std::alloc::Global;
-
-/// Whether an item may be given.
-fn may_be_given(kind: Kind) -> bool
-    ensures { result ≡ may_be_given kind }
-{
-    matches!(
-        kind,
-        Kind::Input | Kind::InputOutput | Kind::Context | Kind::ContextOutput
-    )
-}
 
 /// An item of a scope, where it is declared.
 #[tactic(auto, using(crate::proofs::EntryLaws::items))]
 pub(crate) fn item_of<'a>(calc: &'a Calc, scope: u32, at: usize) -> Option<&'a ItemDecl>
     ensures { option_copied result ≡ slice_get (items_in (slice_get calc.now.decls.scopes scope)) at }
 {
-    match calc.decls.scopes.get(scope as usize) {
+    match calc.decls().scopes.get(scope as usize) {
         Some(scope) => scope.items.get(at),
         None => None,
     }
@@ -93,7 +81,7 @@ pub(crate) fn inner_next<'a>(
 {
     match item_of(run.scene.calc, one.scope, given.len()) {
         Some(decl) => {
-            if may_be_given(decl.kind) {
+            if decl.kind.may_be_given() {
                 stepped(inner_judged(alloc, run, one, given))
             } else {
                 stepped(inner_passed(one, given))

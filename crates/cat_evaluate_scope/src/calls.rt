@@ -45,7 +45,7 @@ pub(crate) fn call_input(
         ≡ call_input 0 fields (items_in (slice_get calc.now.decls.scopes scope))) }
 {
     let mut fields = fields;
-    let mut input = match calc.decls.scopes.get(scope as usize) {
+    let mut input = match calc.decls().scopes.get(scope as usize) {
         Some(scope) => ungiven_input(alloc, &scope.items)?,
         None => return Ok(List::new(alloc)),
     };

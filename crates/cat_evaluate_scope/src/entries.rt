@@ -1,6 +1,5 @@
 // Values of items are looked up and put down.
 ghost use Rattle.std.specs.Prelude.{◌≡◌, IfOk};
-ghost use Rattle.cat_scope.specs.Names.{is_output};
 ghost use Rattle.cat_scope.specs.Running.{entry_at, outputs_of, with_entry};
 ghost use Rattle.cat_evaluate_scope.specs.inside.Steps.{IsTold};
 
@@ -8,7 +7,7 @@ use crate::tasks::Entries;
 use cat_operate::{Failure, SharedValue};
 use cat_pos::List;
 use cat_scope::Stop;
-use cat_value::{ItemDecls, Kind};
+use cat_value::ItemDecls;
 use std::alloc::{AllocError, Global};
 
 /// What is given at an item.
@@ -35,13 +34,6 @@ pub(crate) fn put_entry(entries: &mut Entries, item: u32, entry: Option<SharedVa
     entries.set(at, entry);
 }
 
-/// Whether an item is an output of its scope.
-fn is_output(kind: Kind) -> bool
-    ensures { result ≡ is_output kind }
-{
-    matches!(kind, Kind::Output | Kind::InputOutput | Kind::ContextOutput)
-}
-
 /// The values of the outputs, in the order of their declarations.
 #[tactic(auto, using(crate::proofs::EntryLaws::outputs))]
 pub(crate) fn outputs_of(
@@ -57,7 +49,7 @@ pub(crate) fn outputs_of(
             Some(value) => value,
             None => return Err(Failure::Stop(Stop::Stuck)),
         };
-        if !is_output(item.kind) {
+        if !item.kind.is_output() {
             continue;
         }
         match value {

@@ -9,9 +9,8 @@ ghost use Rattle.cat_evaluate_scope.specs.inside.ItemForms.{scope_called, ungive
 use crate::entries::{entry_at, put_entry};
 use crate::tasks::{CalledItem, Purpose, ScopeRun, ScopeTask};
 use cat_evaluate_call::begun;
-use cat_evaluate_step::Stack;
 use cat_operate::{Failure, SharedValue};
-use cat_pos::List;
+use cat_pos::{List, Stack};
 use cat_scope::Stop;
 use cat_value::{ItemDecl, Kind, Target};
 use std::alloc::Global;

@@ -1,7 +1,6 @@
 // What waits for the value of a part of an expression.
-use crate::stack::Stack;
 use cat_operate::{Elements, SharedValue};
-use cat_pos::{Boxed, List, Pos};
+use cat_pos::{Boxed, List, Pos, Stack};
 use cat_scope::{Arms, BinaryOp, Expr, Exprs, FieldValues, SumKind, UnaryOp};
 
 /// A form that goes over a list, with one local name.

@@ -14,7 +14,6 @@ mod operands;
 mod parts;
 mod running;
 mod scene;
-mod stack;
 mod structures;
 
 pub use frames::{
@@ -22,4 +21,3 @@ pub use frames::{
 };
 pub use running::advance;
 pub use scene::Scene;
-pub use stack::Stack;

@@ -5,9 +5,8 @@ ghost use Rattle.cat_evaluate_term.specs.Verdicts.{all_held, held_as};
 ghost use Rattle.cat_evaluate_term.specs.inside.Putting.{IsConflict, IsFound, put_back};
 
 use crate::frames::Definition;
-use cat_evaluate_step::Stack;
 use cat_operate::Failure;
-use cat_pos::{List, Positions};
+use cat_pos::{List, Positions, Stack};
 use cat_scope::Stop;
 use cat_value::Target;
 use std::alloc::{AllocError, Global};

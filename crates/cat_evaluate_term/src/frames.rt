@@ -1,8 +1,7 @@
 // What waits for what a term comes to.
 use cat_calc::{DefaultTerm, DefaultTerms, Justification};
-use cat_evaluate_step::Stack;
 use cat_operate::SharedValue;
-use cat_pos::{Boxed, List, Pos};
+use cat_pos::{Boxed, List, Pos, Stack};
 use cat_scope::Expr;
 
 /// A definition that holds: its number, its position, and what it gives.

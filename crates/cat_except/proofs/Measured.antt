@@ -1,12 +1,12 @@
 -- Chains that are measured in the order of exceptions.
 use Rattle.std.proofs.Common.{◌≡◌, ◌∙◌, ℕ, zero, suc, ◌<◌, ◌≤◌, ◌+◌, max, nat_lt, ◌==◌, ◌&&◌, not, Bool, true, false}
 use Rattle.std.proofs.Common.{IfSome, cond, List, [], ◌∷◌, ◌++◌}
-use Rattle.std.proofs.Common.{length, Option, Some, None, get_or, set, replicate, refl, sym, ap, subst, arith}
+use Rattle.std.proofs.Common.{length, Option, Some, None, get_or, set, refl, sym, ap, subst, arith}
 use Rattle.std.proofs.Common.{rules, true≢false}
 use Rattle.std.proofs.Math.Logic.{⊎_elim}
 use Rattle.std.proofs.lemmas.Bool.{cases_eq}
 use Rattle.std.proofs.lemmas.Bool.Decides.{nat_tests}
-use Rattle.std.proofs.lemmas.List.{get_or-set_same, get_or-set_other, length-set, length-replicate}
+use Rattle.std.proofs.lemmas.List.{get_or-set_same, get_or-set_other, length-set}
 use Rattle.cat_order.specs.Order.{dependencies_of, is_listed, times, is_ready, IsOrder, AreItems}
 use Rattle.std.specs.List.{list_all}
 use Rattle.cat_order.specs.Cycle.{DependsOn}
@@ -202,20 +202,6 @@ module _ (excepted : List (Option ℕ)) (front : List ℕ) (chains : List Chain)
       let most : c.length ≤ longest_chain + 1 = subst (λ (d : Chain). d.length ≤ longest_chain + 1) (sym is)
       (one_more_at_most (target_at excepted g)) in
       (g ∷ whole.0, whole.1, omega (arith, whole.2, long, most), whole.3)
-
--- where nothing is listed nothing is known
-pub none_measured : (excepted : List (Option ℕ)) (chains : List Chain) → chains ≡ replicate (length excepted) none
-    → AreMeasured excepted [] chains
-none_measured excepted chains is = subst (λ (cs : List Chain). AreMeasured excepted [] cs) (sym is) (record {
-  counted = search (rules, length-replicate);
-  known = λ h there. absurd (omega (arith, there, zero_at (length excepted) h));
-  listed = λ h. sym (ap (nat_lt 0) (zero_at (length excepted) h));
-  short = λ h. omega (arith, zero_at (length excepted) h);
-}) where
-  zero_at : (n h : ℕ) → (chain_at (replicate n none) h).length ≡ 0
-  zero_at zero h = refl
-  zero_at (suc n) zero = refl
-  zero_at (suc n) (suc h) = zero_at n h
 
 -- a group that excepts another one is a group
 target_within : (excepted : List (Option ℕ)) (g h : ℕ) → target_at excepted g ≡ Some h → g < length excepted

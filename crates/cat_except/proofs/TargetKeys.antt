@@ -10,7 +10,6 @@ use Rattle.std.specs.Option.{option_eq, unwrap_or}
 use Rattle.indexmap.specs.IndexSet.{insert_key}
 use Rattle.cat_value.specs.declared.outcome.Target.{Target}
 use Rattle.cat_scope.specs.declared.defs.Def.{Def}
-use Rattle.cat_scope.specs.Groups.{Numbered}
 use Rattle.cat_scope.specs.Targets.{same_inner, same_target, defs_from}
 use Rattle.cat_scope.specs.Forests.{definition_numbers}
 use Rattle.cat_except.specs.Parted.{TargetKey, is_at, list_at, ArePartedBy}
@@ -120,12 +119,6 @@ as_many eq key n (k ∷ ks) (list ∷ lists) same =
       by true there rest = same
       by false true rest = ap suc rest
       by false false rest = ap suc rest
-
--- one definition more
-numbers_push : (ds : List Numbered) (d : Numbered) → definition_numbers (ds ++ d ∷ []) ≡ definition_numbers ds
-    ++ d.0 ∷ []
-numbers_push [] d = refl
-numbers_push (e ∷ ds) d = ap (λ ns. e.0 ∷ ns) (numbers_push ds d)
 
 grown_behind : (b : Bool) (m n : ℕ) (list : List ℕ) → m ∷ grown b list n ≡ grown b (m ∷ list) n
 grown_behind true m n list = refl

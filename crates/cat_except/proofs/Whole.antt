@@ -16,13 +16,12 @@ use Rattle.cat_except.specs.declared.refusal.ExceptRefusal.TheVariants as refusa
 use Rattle.cat_except.specs.declared.groups.Groups.{Groups}
 use Rattle.cat_except.specs.declared.linked.Linked.{Linked}
 use Rattle.cat_except.specs.Faults.{groups_of_each, unknown_labels, split_labels, ambiguous_exceptions}
-use Rattle.cat_except.specs.Excepted.{excepted_of, StandsOnCycle, StandsPastLimit}
+use Rattle.cat_except.specs.Excepted.{excepted_of, StandsPastLimit}
 use Rattle.cat_except.specs.Causes.{AreResolved, HaveNoCycle, MakeForest, StandsIn, HasCause}
 use Rattle.cat_except.specs.inside.Grouping.{groups_at, AreGroups}
 use Rattle.cat_except.specs.inside.Linking.{lists_of}
 use Rattle.cat_except.specs.inside.Finding.{first_of, groups_at_each, AreGroupsOfEach}
 use Rattle.cat_except.specs.inside.Linked.{IsLinked, linked_groups, linked_targets, group_targets, forest_at, AreShort}
-use Rattle.cat_except.specs.inside.Linked.{IsCycleIn}
 use Rattle.cat_except.specs.inside.Linked.{IsLimitIn}
 use Rattle.cat_except.proofs.Linking.{lists_excepted}
 use Rattle.cat_except.proofs.Grouped.{all_push}
@@ -73,16 +72,6 @@ pub known_more : (defs : List Def) (made new : List Groups) (t : Groups) → new
     → AreGroupsOfEach defs made → AreGroups defs t → AreGroupsOfEach defs new
 known_more defs made new t more before here =
     subst (λ (ts : List Groups). AreGroupsOfEach defs ts) (sym more) (all_push (AreGroups defs) made t before here)
-
--- causes
-pub cycle_cause : (targets : List (List Group)) (e : ExceptRefusal) → AreResolved targets
-    → IsCycleIn (StandsIn StandsOnCycle targets) e → HasCause targets e
-cycle_cause targets (refusal.ExceptionCycle p) resolved stands = (stands, resolved)
-cycle_cause targets refusal.Memory resolved stands = tt
-cycle_cause targets (refusal.LabelUnknown p) resolved stands = elim stands [ ]
-cycle_cause targets (refusal.LabelSplit p) resolved stands = elim stands [ ]
-cycle_cause targets (refusal.ExceptionAmbiguous p) resolved stands = elim stands [ ]
-cycle_cause targets (refusal.TooMany p) resolved stands = elim stands [ ]
 
 pub limit_cause : (targets : List (List Group)) (e : ExceptRefusal) → AreResolved targets → HaveNoCycle targets
     → IsLimitIn (StandsIn StandsPastLimit targets) e → HasCause targets e

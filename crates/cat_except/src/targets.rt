@@ -1,6 +1,5 @@
 // The targets of a scope.
 ghost use Rattle.std.specs.Prelude.{◌≡◌, ◌<◌, ◌++◌, length, All, IfOk, OnOk, IsTrue};
-ghost use Rattle.cat_value.specs.Inputs.{may_be_given};
 ghost use Rattle.cat_scope.specs.Names.{scope_items};
 ghost use Rattle.cat_scope.specs.Forests.{called_targets, targets_at, targets_of};
 
@@ -9,15 +8,6 @@ use cat_value::{Decls, ItemDecl, Kind, Target, declarations_are_sound};
 use std::alloc::{AllocError, Global};
 
 pub type Targets = List<Target>;
-
-fn may_be_given(kind: Kind) -> bool
-    ensures { result ≡ may_be_given kind }
-{
-    match kind {
-        Kind::Input | Kind::InputOutput | Kind::Context | Kind::ContextOutput => true,
-        Kind::Output | Kind::Internal | Kind::Called(_) => false,
-    }
-}
 
 /// The inputs and contexts of the scope that an item calls.
 fn add_called(
@@ -30,7 +20,7 @@ fn add_called(
     ensures { OnOk result (targets.new ≡ targets.old ++ called_targets scope item 0 inner.now) }
 {
     for (number, decl) in inner.iter().enumerate() {
-        if !may_be_given(decl.kind) {
+        if !decl.kind.may_be_given() {
             continue;
         }
         targets.push(Target {

@@ -1,6 +1,6 @@
 -- What is found of a formula by what is found of its parts.
 use Rattle.std.proofs.Common.{◌≡◌, ◌⊎◌, inl, inr, ℕ, Bool, true, false, not, List, [], ◌∷◌, ◌++◌, Option, Some, None}
-use Rattle.std.proofs.Common.{refl, sym, ap, ◌∙◌}
+use Rattle.std.proofs.Common.{refl, ap, ◌∙◌}
 use Rattle.cat_scope.specs.Comparing.{differ}
 use Rattle.cat_scope.specs.Names.{IsOneOf}
 use Rattle.cat_guard.specs.Formulas.{Formula, both, any, choice, of_one, of_two, of_three, known, asked}
@@ -57,10 +57,6 @@ parted_open true false h = refl
 parted_open false true h = refl
 parted_open false false h = absurd (h refl)
 
-agreeing : (a : Bool) → of_three choice None (Some a) (Some a) ≡ Some a
-agreeing true = refl
-agreeing false = refl
-
 first_known : (b : Bool) (z : Option Bool) → of_three choice (Some true) (Some b) z ≡ Some b
 first_known true None = refl
 first_known false None = refl
@@ -85,14 +81,6 @@ module _ (answers : ℕ → Option Bool) where
   found_is f (truth.Known b) h = h
   found_is f (truth.Open a) h = h.0
 
-  pub negated : (f : Formula ℕ) (x : Truth) (b : Bool) → Tells answers f x → x ≡ truth.Known b
-      → Tells answers (formula.Not f) (truth.Known (not b))
-  negated f x b h is = ap (of_one not) (found_is f x h ∙ ap said is)
-
-  pub negated_open : (f : Formula ℕ) (a : ℕ) → Tells answers f (truth.Open a)
-      → Tells answers (formula.Not f) (truth.Open a)
-  negated_open f a h = (ap (of_one not) h.0, h.1, h.2)
-
   module _ (c f g : Formula ℕ) where
     test_open : (a : ℕ) (y z : Option Bool) → Tells answers c (truth.Open a) → known answers f ≡ y
         → known answers g ≡ z → of_three choice None y z ≡ None
@@ -115,12 +103,6 @@ module _ (answers : ℕ → Option Bool) where
         → Tells answers f (truth.Known y) → Tells answers g (truth.Known z)
         → Tells answers (formula.Choice c f g) (truth.Open a)
     agreed_not a y z differ h i j = test_open a (Some y) (Some z) h i j (parted_open y z differ)
-
-    pub agreed_both : (a : ℕ) (y z : Bool) → y ≡ z → Tells answers c (truth.Open a) → Tells answers f (truth.Known y)
-        → Tells answers g (truth.Known z) → Tells answers (formula.Choice c f g) (truth.Known y)
-    agreed_both a y z same h i j =
-        three_same (known answers c) (known answers f) (known answers g) None (Some y) (Some y) h.0 i
-        (j ∙ ap Some (sym same)) ∙ agreeing y
 
     pub chosen_first : (y z : Truth) → Tells answers c (truth.Known true) → Tells answers f y → Tells answers g z
         → Tells answers (formula.Choice c f g) y

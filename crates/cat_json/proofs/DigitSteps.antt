@@ -1,11 +1,11 @@
 -- Numbers of digits, and texts that are split, a byte at a time.
-use Rattle.std.proofs.Common.{◌≡◌, ℕ, ◌+◌, ◌-◌, ◌*◌, ◌^◌, ◌<◌, ◌≤◌, true, List, [], ◌∷◌, ◌++◌, drop, length, get_or}
-use Rattle.std.proofs.Common.{drop-cons, add-one, Some, None, refl, sym, ap, ◌∙◌, subst, arith, append_assoc}
+use Rattle.std.proofs.Common.{◌≡◌, ℕ, ◌+◌, ◌-◌, ◌*◌, ◌^◌, ◌<◌, ◌≤◌, true, List, [], ◌++◌, drop, length, get_or}
+use Rattle.std.proofs.Common.{drop-cons, add-one, Some, None, sym, ap, ◌∙◌, subst, arith}
 use Rattle.std.proofs.lemmas.Bool.Decides.{nat_tests}
 use Rattle.std.proofs.Math.Nat.{pow-suc, pow-le-pow_right, le_trans, mul-le-mul_left, mul-le-mul_right}
 use Rattle.std.proofs.lemmas.List.{drop_all}
 use Rattle.std.specs.Str.{all_ascii_digits}
-use Rattle.cat_num.specs.Reading.{Parts, in_front, number_after}
+use Rattle.cat_num.specs.Reading.{Parts, number_after}
 
 -- one digit more
 pub number_room : (n k d i : ℕ) → n < k * 10 ^ i → d < 10 → 10 * n + d < k * 10 ^ (i + 1)
@@ -33,11 +33,6 @@ pub ruleset digits = (number_room, number_fits, digit_here)
 abbrev pub with_front : List ℕ → Parts → Parts
 with_front front None = None
 with_front front (Some parts) = Some (front ++ parts.0, parts.1)
-
-pub with_front-next : (front : List ℕ) (x : ℕ) (parts : Parts) → with_front front (in_front x parts) ≡ with_front
-    (front ++ x ∷ []) parts
-with_front-next front x None = refl
-with_front-next front x (Some parts) = ap (λ xs. Some (xs, parts.1)) (sym (append_assoc front (x ∷ []) parts.0))
 
 pub number_after-step : (n : ℕ) (xs : List ℕ) (i : ℕ) → i < length xs → number_after (10 * n + (get_or xs i 0 - 48))
     (drop (i + 1) xs) ≡ number_after n (drop i xs)

@@ -58,11 +58,6 @@ data_members-typed ds (string s) = none_typed ds
 data_members-typed ds (array items) = none_typed ds
 data_members-typed ds (object ms) = members_of-typed ds ms
 
--- what is given of a variable that may be given
-abbrev pub IsValueOf : Decls → ItemDecl → Option Value → Type 0
-IsValueOf ds i None = Unit {0}
-IsValueOf ds i (Some v) = IsTrue (has_type ds v i.ty)
-
 -- a variable is given
 abbrev pub IsGiven : Decls → ItemDecl → Option Value → Type 0
 IsGiven ds i given = (v : Value) × (given ≡ Some v) × IsTrue (has_type ds v i.ty)

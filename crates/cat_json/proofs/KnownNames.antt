@@ -48,8 +48,3 @@ pub given_names-next : (is : List ItemDecl) (i : ℕ) (it : ItemDecl) (key name 
     → cond (bytes_eq key name) true (is_among (given_names (drop (i + 1) is)) name) ≡ is_among (given_names (drop i is))
     name
 given_names-next is i it key name h at given same = rw (drop-cons is i it, ← at, add-one, same, given) refl
-
-pub given_names-skip : (is : List ItemDecl) (i : ℕ) (it : ItemDecl) (name : List ℕ) → i < length is
-    → it ≡ get_or is i it → may_be_given it.kind ≡ false
-    → is_among (given_names (drop (i + 1) is)) name ≡ is_among (given_names (drop i is)) name
-given_names-skip is i it name h at given = rw (drop-cons is i it, ← at, add-one, given) refl

@@ -1,17 +1,15 @@
 -- The texts of fractions and amounts are read as what they were written of.
-use Rattle.std.proofs.Common.{◌≡◌, ◌≤◌, ℕ, zero, suc, ◌+◌, ◌-◌, ◌*◌, ◌/◌, ◌%◌, ◌^◌, ◌<◌, ℤ, pos, negsuc, ◌*ℤ◌}
+use Rattle.std.proofs.Common.{◌≡◌, ◌≤◌, ℕ, zero, suc, ◌+◌, ◌-◌, ◌*◌, ◌/◌, ◌%◌, ◌^◌, ◌<◌, ℤ, pos, negsuc}
 use Rattle.std.proofs.Common.{unsigned_abs, Bool, true, false, IsTrue, Option, Some, None, Ok}
 use Rattle.std.proofs.Common.{List, []}
 use Rattle.std.proofs.Common.{◌∷◌, ◌++◌, length, replicate, refl, sym, ap, ◌∙◌, subst, arith, rules, append_assoc}
 use Rattle.std.proofs.Common.{append-nil}
-use Rattle.std.proofs.Common.{length-append}
 use Rattle.std.specs.Fmt.{decimal, signed_decimal}
 use Rattle.std.specs.Str.{all_ascii_digits}
 use Rattle.std.proofs.lemmas.Bool.Decides.{nat_tests}
 use Rattle.std.proofs.lemmas.Str.Parse.{IsNumeralModel, numerals_by_fold, tells_all_ascii_digits}
 use Rattle.std.proofs.lemmas.Fmt.{digits_decimal, digits_value-decimal, length-decimal-le, decimal_nonempty}
-use Rattle.std.proofs.lemmas.List.{length-replicate}
-use Rattle.std.proofs.Math.Nat.{pow-suc, div-add-mod', mod-lt, mul-lt-mul_of_pos_right, mul-div_cancel_left}
+use Rattle.std.proofs.Math.Nat.{pow-suc, mod-lt, mul-lt-mul_of_pos_right}
 use Rattle.std.proofs.Math.Nat.{lt_of_lt_of_le, lt_of_le_of_lt, le_trans, pow-le-pow_right, div-lt_iff_lt-mul, mul_comm}
 use Rattle.std.proofs.Math.Nat.{div-le_self, one-le-pow}
 use Rattle.cat_num.specs.Whole.{fits}
@@ -19,7 +17,8 @@ use Rattle.cat_num.specs.Frac.{Fraction, IsReduced, is_reduced, is_negative, sig
 use Rattle.cat_num.specs.Text.{decimal_places, places_from, filled, sign, point_and_digits, with_places, text_with}
 use Rattle.cat_num.specs.Text.{decimal_bytes, money_bytes}
 use Rattle.cat_num.specs.Reading.{split_at, number_after}
-use Rattle.cat_num.proofs.Exported.{lowest_is, number_after-append, signed-product}
+use Rattle.cat_num.proofs.Exported.{exact_quotient, length-filled, number_after-append, places_from-start}
+use Rattle.cat_num.proofs.Exported.{ratio_is, signed_decimal_is, signed_parts, units_are, units_equal}
 use Rattle.cat_json.specs.Numerals.{are_digits, are_few, has_minus, without_minus, Numeral, quotient, pointed, plain}
 use Rattle.cat_json.specs.Numerals.{numeral_of, numeral_with, pointed_or_plain, has_decimal_form}
 use Rattle.cat_json.specs.Numerals.{has_few_digits, cents_of, fraction_of, numeral_fraction}
@@ -43,14 +42,6 @@ digits-zeros (suc k) = digits-zeros k
 digits-filled : (p v : ℕ) → v < 2 ^ 64 → AreDigits (filled p v)
 digits-filled p v h = digits-append (replicate (p - length (decimal v)) 48) (decimal v)
     (digits-zeros (p - length (decimal v))) (digits_decimal numerals v h)
-
-length-filled : (p v : ℕ) → 0 < p → v < 10 ^ p → v < 2 ^ 64 → length (filled p v) ≡ p
-length-filled p v q h k = omega (
-  arith,
-  length-append (replicate (p - length (decimal v)) 48) (decimal v),
-  length-replicate {A = ℕ} (p - length (decimal v)) 48,
-  length-decimal-le p v q h k,
-)
 
 -- the number whose digits are those of m and then some is m at their weight, and theirs
 number_after-weighed : (m : ℕ) (ds : List ℕ) → number_after m ds ≡ m * 10 ^ length ds + number_after 0 ds
@@ -158,46 +149,6 @@ value_of s (suc p) w v h k l =
     ap (λ n. ratio (signed s n) (10 ^ length (filled (suc p) v))) (number_after-parts w (suc p) v h (omega arith) k l)
     ∙ ap (λ n. ratio (signed s (w * 10 ^ suc p + v)) (10 ^ n)) (length-filled (suc p) v (omega arith) k l)
 
--- in units of 10 ^ -p, n / d is n * (10 ^ p / d)
-exact_quotient : (t d : ℕ) → t % d ≡ 0 → t ≡ d * (t / d)
-exact_quotient t d e = let f = div-add-mod' t d in omega arith
-
-units_are : (n d p : ℕ) → 0 < d → 10 ^ p % d ≡ 0 → (n / d) * 10 ^ p + n % d * 10 ^ p / d ≡ n * (10 ^ p / d)
-units_are n d p h e = by (n / d) (n % d) (10 ^ p / d) (10 ^ p) n (exact_quotient (10 ^ p) d e) (div-add-mod' n d)
-  where
-    turn : (a d r k : ℕ) → a * (d * k) + r * k ≡ (a * d + r) * k
-    turn a d r k = omega arith
-
-    by : (a r k t n : ℕ) → t ≡ d * k → a * d + r ≡ n → a * t + r * t / d ≡ n * k
-    by a r k t n e f =
-        let product : r * t ≡ d * (r * k) = ap (λ x. r * x) e ∙ omega arith in
-        ap (λ x. a * t + x / d) product ∙ ap (λ x. a * t + x) (mul-div_cancel_left (r * k) h)
-        ∙ ap (λ x. a * x + r * k) e ∙ turn a d r k ∙ ap (λ x. x * k) f
-
-signed_parts : (n : ℤ) → signed (is_negative n) (unsigned_abs n) ≡ n
-signed_parts (pos n) = refl
-signed_parts (negsuc n) = refl
-
-units_equal : (n : ℤ) (d t : ℕ) → t ≡ d * (t / d)
-    → n *ℤ pos t ≡ signed (is_negative n) (unsigned_abs n * (t / d)) *ℤ pos d
-units_equal n d t e =
-    ap (λ x. n *ℤ pos x) e ∙ ap (λ m. m *ℤ pos (d * (t / d))) (sym (signed_parts n))
-    ∙ signed-product (is_negative n) (unsigned_abs n) (d * (t / d))
-    ∙ ap (signed (is_negative n)) (regroup (unsigned_abs n) d (t / d))
-    ∙ sym (signed-product (is_negative n) (unsigned_abs n * (t / d)) d)
-  where
-    regroup : (n d k : ℕ) → n * (d * k) ≡ n * k * d
-    regroup n d k = omega arith
-
-ratio_is : (f : Fraction) (n : ℤ) (d : ℕ) → 0 < d → IsReduced f.num f.den → f.num *ℤ pos d ≡ n *ℤ pos f.den
-    → ratio n d ≡ Ok f
-unfolding ratio
-ratio_is f n d h r e =
-    let same = lowest_is f n d h r e in
-    let num = r.num_fits in
-    let den = r.den_fits in
-    grind (arith, nat_tests)
-
 -- the places of a fraction are at most 9, and its denominator divides that power of ten
 place_found : (k p d q : ℕ) → places_from k p d ≡ Some q → (q < p + k) × (10 ^ q % d ≡ 0)
 place_found zero p d q e = absurd (cc)
@@ -245,10 +196,6 @@ text_fraction-places f p r b e =
     ∙ ratio_is f (signed (is_negative f.num) (size * (10 ^ p / f.den))) (10 ^ p) (one-le-pow p 10 (omega arith)) r
     (units_equal f.num f.den (10 ^ p) (exact_quotient (10 ^ p) f.den e))))
 
-signed_decimal_is : (z : ℤ) → signed_decimal z ≡ sign z ++ decimal (unsigned_abs z)
-signed_decimal_is (pos n) = refl
-signed_decimal_is (negsuc n) = refl
-
 -- a text with a `/` is read
 text_fraction-quotient : (f : Fraction) → IsReduced f.num f.den
     → text_fraction (signed_decimal f.num ++ 47 ∷ decimal f.den) ≡ Ok f
@@ -275,10 +222,6 @@ text_fraction-quotient f r =
     (digits_value-decimal numerals size wide)
     ∙ ap (ratio (signed (is_negative f.num) size)) (digits_value-decimal numerals f.den deep)
     ∙ ap (λ n. ratio n f.den) (signed_parts f.num) ∙ ratio_is f f.num f.den r.positive r refl))
-
-places_from-start : (d : ℕ) → places_from 10 0 d ≡ decimal_places d
-unfolding decimal_places
-places_from-start d = refl
 
 -- the text of a fraction is read as that fraction
 pub text_fraction-decimal_bytes : (f : Fraction) → IsTrue (is_reduced f) → text_fraction (decimal_bytes f) ≡ Ok f

@@ -7,13 +7,12 @@ ghost use Rattle.std.specs.BTreeMap.{get_by};
 ghost use Rattle.serde_json.specs.View.{members_view};
 ghost use Rattle.cat_json.specs.declared.refusal.Reason.TheVariants.{Extra};
 ghost use Rattle.cat_json.specs.declared.step.Step.TheVariants.{Name};
-ghost use Rattle.cat_value.specs.Inputs.{may_be_given};
 ghost use Rattle.cat_json.specs.InputsRead.{given_names};
 ghost use Rattle.cat_json.specs.Keys.{is_among, unknown_key, field_names};
 
 use crate::{PartRefusal, Reason, Step};
 use cat_pos::Text;
-use cat_value::{Fields, ItemDecls, Kind};
+use cat_value::{Fields, ItemDecls};
 use serde_json::{Map, Value as Json};
 use std::alloc::{AllocError, Global};
 use std::collections::BTreeMap;
@@ -64,21 +63,12 @@ fn given_names<'a>(alloc: Global, items: &'a ItemDecls) -> Result<Known<'a>, All
 {
     let mut known = BTreeMap::new(alloc);
     for item in items.as_slice() {
-        if !may_be_given(item.kind) {
+        if !item.kind.may_be_given() {
             continue;
         }
         known.insert(item.name.as_str(), ())?;
     }
     Ok(known)
-}
-
-fn may_be_given(kind: Kind) -> bool
-    ensures { result ≡ may_be_given kind }
-{
-    match kind {
-        Kind::Input | Kind::InputOutput | Kind::Context | Kind::ContextOutput => true,
-        Kind::Output | Kind::Internal | Kind::Called(_) => false,
-    }
 }
 
 /// The first key, in byte order, that is not known.

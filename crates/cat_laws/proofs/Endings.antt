@@ -1,6 +1,6 @@
 -- Where gathering ends over what is told; and of what is gathered and read, how long names and sources are.
 use Rattle.std.proofs.Common.{◌≡◌, ◌≤◌, ◌+◌, ◌∙◌, ℕ, List, length, sym, ap, subst, inl, inr, ⊎_elim, arith}
-use Rattle.cat_pos.specs.declared.limits.TheConstants.{MOST_FILE_BYTES}
+use Rattle.cat_pos.specs.Limits.{most_file_bytes}
 use Rattle.cat_io.specs.Shelf.{Shelved}
 use Rattle.cat_weave.specs.declared.source.Source.{Source}
 use Rattle.cat_weave.specs.Gathered.{Contents, Ending, Whole, Refused, StopsAt, gathered}
@@ -26,7 +26,7 @@ ending_is contents main end ending is told has =
 
 -- no name that is read is longer than this
 abbrev pub longest_name : Request → ℕ
-longest_name request = length request.file + (MOST_FILE_BYTES + length request.extra)
+longest_name request = length request.file + (most_file_bytes + length request.extra)
 
 leads_at : (contents : Contents) (request : Request)
     → Leads (longest_name request) (λ source. AreReadableTogether source.pieces) (gathered contents request.file)

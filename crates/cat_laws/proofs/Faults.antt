@@ -203,10 +203,6 @@ module _ (size : Pos → ℕ) (t : Tree) where
   meant_room = room_decls (λ ds f. Stands f (bodies_meant ds t))
       (λ ds. room_listed at_place (faults_of (bodies_meant ds t)))
 
-  -- what holds by some bodies
-  abbrev ByBodies : (Decls → List Body → Fault → Type 0) → Decls → Fault → Type 0
-  ByBodies Holds ds f = (bodies : List Body) × Holds ds bodies f
-
   -- where items, the words of scope calls and scopes stand
   abbrev late_places : Decls → List Pos
   late_places ds = item_places ds.scopes ++ (word_places t.items ++ positions (names_of (scopes_in t.items)))

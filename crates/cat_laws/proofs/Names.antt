@@ -3,7 +3,7 @@ use Rattle.std.proofs.Common.{◌≡◌, ◌≤◌, ◌<◌, ℕ, zero, suc, Boo
 use Rattle.std.proofs.Common.{Option, Some, None, Result, Ok, Err, arith}
 use Rattle.std.proofs.lemmas.Bool.{leb-true, leb-false}
 use Rattle.std.specs.Prelude.{IfOk}
-use Rattle.cat_pos.specs.declared.limits.TheConstants.{MOST_FILES, MOST_FILE_BYTES}
+use Rattle.cat_pos.specs.Limits.{most_files, most_file_bytes}
 use Rattle.cat_pos.specs.declared.pos.Pos.{Pos}
 use Rattle.cat_scope.specs.Names.{AllHave}
 use Rattle.cat_weave.specs.Woven.{woven}
@@ -36,7 +36,7 @@ leads_then most Has Also (Whole g) next here more = more g here
 leads_then most Has Also (Refused refusal) next here more = tt
 leads_then most Has Also (StopsAt name bytes) next here more = here
 
-module _ (most : ℕ) (large : MOST_FILE_BYTES ≤ most) (contents : Contents) where
+module _ (most : ℕ) (large : most_file_bytes ≤ most) (contents : Contents) where
   -- an include of a file with a short name keeps the bounds of what comes behind it
   abbrev KeepsBounds : Including → Type 0
   KeepsBounds include = (path : List ℕ) (pos : Pos) (g : Gathered) (behind : List Segment) → length path ≤ most
@@ -100,7 +100,7 @@ module _ (most : ℕ) (large : MOST_FILE_BYTES ≤ most) (contents : Contents) w
   unless_leads next keeps true taken path pos g behind full_is short bounded = tt
   unless_leads next keeps false true path pos g behind full_is short bounded = tt
   unless_leads next keeps false false path pos g behind full_is short bounded =
-      file_leads next keeps path g behind short (leb-false MOST_FILES (length g.files) full_is) bounded (contents path)
+      file_leads next keeps path g behind short (leb-false most_files (length g.files) full_is) bounded (contents path)
 
   included_leads : (deeper : ℕ) → KeepsBounds (included contents deeper)
   unfolding included

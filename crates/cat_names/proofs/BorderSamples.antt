@@ -14,10 +14,10 @@ use Rattle.cat_value.proofs.Exported.{height_List, height_Integer}
 use Rattle.cat_scope.specs.Fitting.{is_low_type}
 use Rattle.cat_tree.specs.Accumulation.{accumulation}
 use Rattle.cat_tree.specs.declared.name.CaseName.TheVariants as case
-use Rattle.cat_tree.specs.declared.expression.Literal.TheVariants as literal
+use Rattle.cat_tree.specs.declared.expression.SurfaceLiteral.TheVariants as literal
 use Rattle.cat_tree.specs.declared.expression.Operator.TheVariants as operator
 use Rattle.cat_tree.specs.declared.expression.Pattern.TheVariants as pattern
-use Rattle.cat_tree.specs.declared.expression.Arm.{Arm}
+use Rattle.cat_tree.specs.declared.expression.SurfaceArm.{SurfaceArm}
 use Rattle.cat_tree.specs.declared.expression.Node.{Node}
 use Rattle.cat_tree.specs.declared.expression.Node.TheVariants as leaf
 use Rattle.cat_tree.specs.declared.expression.Node.TheViews as node
@@ -103,13 +103,13 @@ abbrev truth : Node
 truth = leaf.Literal (literal.Boolean true) p
 
 -- arms
-abbrev arm_for : ℕ → Node → Arm
+abbrev arm_for : ℕ → Node → SurfaceArm
 arm_for letter body = record { pattern = pattern.Case (case.Bare (name letter p)) None; body = body }
 
-abbrev otherwise : Node → Arm
+abbrev otherwise : Node → SurfaceArm
 otherwise body = record { pattern = pattern.Anything; body = body }
 
-abbrev match : List Arm → Node
+abbrev match : List SurfaceArm → Node
 match arms = node.Match (at 20 5) (local e p) arms
 
 -- a list of integers is no type that is too high

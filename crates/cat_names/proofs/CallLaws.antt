@@ -13,12 +13,12 @@ use Rattle.cat_value.specs.declared.declaration.Structure.{Structure}
 use Rattle.cat_value.specs.declared.declaration.ItemDecl.{ItemDecl}
 use Rattle.cat_value.specs.declared.decls.Decls.{Decls}
 use Rattle.cat_value.specs.Typing.{is_type}
-use Rattle.cat_value.specs.Inputs.{may_be_given}
+use Rattle.cat_value.specs.Inputs.{may_be_given, outputs_in}
 use Rattle.cat_value.specs.Entries.{some_passes, fields_in, content_of}
 use Rattle.cat_value.specs.Laws.{AreSound}
 use Rattle.cat_value.proofs.Exported.{is_declared_Structure, within}
 use Rattle.cat_tree.specs.declared.name.Name.{Name}
-use Rattle.cat_scope.specs.Names.{Names, AllHave, is_function, are_all_in, outputs_in, scope_items}
+use Rattle.cat_scope.specs.Names.{Names, AllHave, is_function, are_all_in, scope_items}
 use Rattle.cat_scope.specs.HasType as typed
 use Rattle.cat_scope.proofs.Exported.{placed_Case_Some, placed_Structure, placed_Call, placed_ScopeCall, Each}
 use Rattle.cat_names.specs.declared.fault.Fault.TheVariants.{NameUnknown, TypeMismatch}

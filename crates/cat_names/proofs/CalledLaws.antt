@@ -14,14 +14,14 @@ use Rattle.cat_tree.specs.Accumulation.{accumulation}
 use Rattle.cat_tree.specs.declared.name.Name.{Name}
 use Rattle.cat_tree.specs.declared.name.CaseName.{CaseName}
 use Rattle.cat_tree.specs.declared.name.Type as types
-use Rattle.cat_tree.specs.declared.expression.Literal as tree
+use Rattle.cat_tree.specs.declared.expression.SurfaceLiteral as tree
 use Rattle.cat_tree.specs.declared.expression.Prefix.{Prefix}
 use Rattle.cat_tree.specs.declared.expression.Operator.{Operator}
 use Rattle.cat_tree.specs.declared.expression.Each as eaches
 use Rattle.cat_tree.specs.declared.expression.Each.TheVariants as each
 use Rattle.cat_tree.specs.declared.expression.Node.{Node}
-use Rattle.cat_tree.specs.declared.expression.FieldValue.{FieldValue}
-use Rattle.cat_tree.specs.declared.expression.Arm.{Arm}
+use Rattle.cat_tree.specs.declared.expression.SurfaceField.{SurfaceField}
+use Rattle.cat_tree.specs.declared.expression.SurfaceArm.{SurfaceArm}
 use Rattle.cat_tree.specs.declared.expression.Node.TheVariants as leaf_node
 use Rattle.cat_tree.specs.declared.expression.Node.TheViews as node
 use Rattle.cat_tree.specs.declared.expression.Node.TheViews.{out-Node}
@@ -147,7 +147,7 @@ module _ (ns : Names) where
 
   -- ---- each form
 
-  on_literal : (l : tree.Literal) (p : Pos) → Called_ (leaf_node.Literal l p)
+  on_literal : (l : tree.SurfaceLiteral) (p : Pos) → Called_ (leaf_node.Literal l p)
   on_literal l p ls ex = rw (written.words_Literal l p, equation.meant_Literal ns l p ls ex)
       (calls_fitting ns.decls _ ex _ (on_where (By []) (literal_fits (literal_written l)) (TypeMismatch p) _
       (λ is. calls_literal ns.decls p (literal_written l))))
@@ -220,7 +220,7 @@ module _ (ns : Names) where
       (λ few. on_where (By (all_words (map scope_words es))) (is_low_type ns.decls (ty.List row.1)) _ _ (λ low.
       rw (names_by_level own_scope (expr.List p row.0), expr.outs-List p row.0) hrow)))))
 
-  on_structure : (u : Name) (fs : List FieldValue) → Each (λ f. Called_ f.value) fs → Called_ (node.Structure u fs)
+  on_structure : (u : Name) (fs : List SurfaceField) → Each (λ f. Called_ f.value) fs → Called_ (node.Structure u fs)
   on_structure u fs he ls ex = rw (written.words_Structure u fs, equation.meant_Structure ns u fs ls ex)
       (calls_fitting ns.decls _ ex _ (on_then (λ n. Unit {0}) (By (all_words (map value_words fs)))
       (structure_found ns u) _ (on_any (structure_found ns u)) (λ n i.
@@ -231,7 +231,7 @@ module _ (ns : Names) where
       rw (names_by_level own_scope (expr.Structure u.pos n xs), expr.outs-Structure u.pos n xs)
       (subst (AreWordsOf ns.decls (all_words (map value_words fs))) (sym (values_are xs)) hxs))))))
 
-  on_scope_call : (p : Pos) (u : Name) (fs : List FieldValue) (w : Name) → Each (λ f. Called_ f.value) fs
+  on_scope_call : (p : Pos) (u : Name) (fs : List SurfaceField) (w : Name) → Each (λ f. Called_ f.value) fs
       → Called_ (node.ScopeCall p u fs w)
   on_scope_call p u fs w he ls ex = rw (written.words_ScopeCall p u fs w, equation.meant_ScopeCall ns p u fs w ls ex)
       (calls_fitting ns.decls _ ex _
@@ -258,7 +258,7 @@ module _ (ns : Names) where
       (meant ns b ls (Some x.ty)) _ (hb ls (Some x.ty)) (λ y hy. (hx, hy))))
       (λ x xs hx hxs. if_calls p (scope_words c) (scope_words a) (scope_words b) x xs hx hxs.0 hxs.1))
 
-  on_match : (p : Pos) (e : Node) (more : List Arm) → Called_ e → Each (λ a. Called_ a.body) more
+  on_match : (p : Pos) (e : Node) (more : List SurfaceArm) → Called_ e → Each (λ a. Called_ a.body) more
       → Called_ (node.Match p e more)
   on_match p e more he each_ ls ex = rw (written.words_Match p e more, equation.meant_Match ns p e more ls ex)
       (on_then (By (scope_words e)) (By (scope_words e ++ all_words (map body_words more))) (meant ns e ls None) _

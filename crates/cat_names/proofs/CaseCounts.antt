@@ -9,7 +9,7 @@ use Rattle.cat_tree.specs.declared.program.Item.TheVariants as item
 use Rattle.cat_tree.specs.declared.program.Tree.{Tree}
 use Rattle.cat_scope.specs.declared.defs.Body.{Body}
 use Rattle.cat_scope.specs.Names.{AllHave}
-use Rattle.cat_names.specs.Limits.{most_cases}
+use Rattle.cat_value.specs.Declarations.{most_cases}
 use Rattle.cat_names.specs.Found.{each_found}
 use Rattle.cat_names.specs.Lookup.{TypeNames}
 use Rattle.cat_names.specs.Written.{positions, enumerations_in, types_in}

@@ -4,13 +4,13 @@ use Rattle.std.proofs.Common.{[], ◌∷◌, ◌++◌, length, Option, Some, Non
 use Rattle.std.proofs.Common.{if◌then◌else◌, All}
 use Rattle.std.specs.Prelude.{option_and_then, eqb}
 use Rattle.std.specs.Option.{option_or}
-use Rattle.std.specs.List.{list_all, list_any, IsDistinct, AllByRecursion}
+use Rattle.std.specs.List.{list_all, list_any, IsDistinct}
 use Rattle.std.proofs.lemmas.Bool.Decides.{nat_tests}
 use Rattle.std.proofs.lemmas.Map.Steps.{length-le_from_distinct_below, le-length_from_below}
 use Rattle.cat_order.specs.Order.{AreItems, IsOrder, dependencies_of, is_listed, is_ready, times}
 use Rattle.cat_order.specs.Computed.{first_below, order_from, order_of}
 use Rattle.cat_order.specs.Cycle.{DependsOn, IsPath, IsOnCycle}
-use Rattle.cat_order.proofs.Exported.{order_of-iff_IsOrder}
+use Rattle.cat_order.proofs.Exported.{apart_push, order_of-iff_IsOrder}
 use Rattle.cat_names.proofs.ChainLaws.{failing}
 
 -- ---- numbers in lists
@@ -169,21 +169,6 @@ below_push n i trail less below q h = by (eqb q i) refl h
     by : (b : Bool) → eqb q i ≡ b → (b || list_any (eqb q) trail) ≡ true → q < n
     by true e g = let same : i ≡ q = grind (arith, nat_tests, e) in subst (λ k. k < n) same less
     by false e g = below q g
-
-apart_push : (i : ℕ) (trail : List ℕ) → list_any (eqb i) trail ≡ false → IsDistinct eqb trail
-    → IsDistinct eqb (i ∷ trail)
-unfolding IsDistinct
-apart_push i trail out apart = (each trail out, apart)
-  where
-    each : (ys : List ℕ) → list_any (eqb i) ys ≡ false → AllByRecursion (λ y. eqb i y ≡ false) ys
-    each [] h = tt
-    each (y ∷ ys) h = pick (eqb i y) refl h (λ g. each ys g)
-      where
-        pick : (b : Bool) → eqb i y ≡ b → (b || list_any (eqb i) ys) ≡ false
-            → (list_any (eqb i) ys ≡ false → AllByRecursion (λ y. eqb i y ≡ false) ys)
-            → AllByRecursion (λ y. eqb i y ≡ false) (y ∷ ys)
-        pick true e g rest = cc g
-        pick false e g rest = (e, rest g)
 
 -- an item on a cycle
 pub record Cyclic (deps : List (List ℕ)) : Type 0 where

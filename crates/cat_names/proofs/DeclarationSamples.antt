@@ -14,7 +14,7 @@ use Rattle.cat_value.specs.Declarations.{are_sound}
 use Rattle.cat_value.specs.Dependencies.{named_by, names_at}
 use Rattle.cat_tree.specs.declared.name.Base.TheVariants as base
 use Rattle.cat_tree.specs.declared.program.FieldItem.{FieldItem}
-use Rattle.cat_tree.specs.declared.program.Kind.TheVariants as written
+use Rattle.cat_tree.specs.declared.program.VariableKind.TheVariants as written
 use Rattle.cat_tree.specs.declared.program.Variable.TheVariants as variable
 use Rattle.cat_tree.specs.declared.program.Item.TheVariants as item
 use Rattle.cat_tree.specs.declared.program.Tree.{Tree}

@@ -12,13 +12,13 @@ use Rattle.cat_value.specs.declared.declaration.Structure.{Structure}
 use Rattle.cat_value.specs.declared.declaration.Enumeration.{Enumeration}
 use Rattle.cat_value.specs.declared.declaration.ItemDecl.{ItemDecl}
 use Rattle.cat_value.specs.declared.declaration.Scope.{Scope}
-use Rattle.cat_value.specs.Declarations.{kind_is_sound, is_boolean}
+use Rattle.cat_value.specs.Declarations.{kind_is_sound, is_boolean, most_cases}
 use Rattle.cat_value.proofs.Exported.{within}
 use Rattle.cat_tree.specs.declared.name.Name.{Name}
 use Rattle.cat_tree.specs.declared.program.FieldItem.{FieldItem}
 use Rattle.cat_tree.specs.declared.program.CaseItem.{CaseItem}
-use Rattle.cat_tree.specs.declared.program.Kind as kinds
-use Rattle.cat_tree.specs.declared.program.Kind.TheVariants as kind
+use Rattle.cat_tree.specs.declared.program.VariableKind as kinds
+use Rattle.cat_tree.specs.declared.program.VariableKind.TheVariants as kind
 use Rattle.cat_tree.specs.declared.program.Variable.{Variable}
 use Rattle.cat_tree.specs.declared.program.Variable.TheVariants as variable
 use Rattle.cat_tree.specs.declared.program.Item.{Item}
@@ -27,7 +27,7 @@ use Rattle.cat_tree.specs.declared.program.Tree.{Tree}
 use Rattle.cat_tree.specs.Programs.{has_some, are_filled}
 use Rattle.cat_scope.specs.Names.{AllHave}
 use Rattle.cat_names.proofs.ListLaws.{each_of}
-use Rattle.cat_names.specs.Limits.{most_items, most_cases, most_parameters}
+use Rattle.cat_names.specs.Limits.{most_items, most_parameters}
 use Rattle.cat_names.specs.declared.fault.Fault.TheVariants.{NameUnknown}
 use Rattle.cat_names.specs.Found.{each_found, or_fault, faults_of}
 use Rattle.cat_names.specs.Lookup.{TypeNames, type_found, first_named}
@@ -186,7 +186,7 @@ pub record IsFineItem (count : ℕ) (i : ItemDecl) : Type 0 where
   pub kind : IsTrue (kind_is_sound count i.ty i.condition i.kind)
   pub params : length i.params < ENTRIES_BOUND
 
-own_kind : (count : ℕ) (t : Ty) (c : Bool) (k : kinds.Kind) → kind_is_sound count t c (kind_declared k) ≡ true
+own_kind : (count : ℕ) (t : Ty) (c : Bool) (k : kinds.VariableKind) → kind_is_sound count t c (kind_declared k) ≡ true
 own_kind count t c kind.Input = refl
 own_kind count t c kind.InputOutput = refl
 own_kind count t c kind.Output = refl

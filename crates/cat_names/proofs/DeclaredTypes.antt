@@ -16,7 +16,8 @@ use Rattle.cat_value.specs.Typing.{is_type}
 use Rattle.cat_value.specs.Entries.{fields_in, content_in, case_in, content_of}
 use Rattle.cat_value.specs.Laws.{AreSound}
 use Rattle.cat_value.proofs.Exported.{is_declared_List, is_declared_Enumeration, within}
-use Rattle.cat_scope.specs.Names.{items_in, outputs_in, scope_items, is_output}
+use Rattle.cat_scope.specs.Names.{items_in, scope_items}
+use Rattle.cat_value.specs.Inputs.{is_output, outputs_in}
 use Rattle.cat_scope.specs.Fitting.{field_at, type_in, field_type}
 
 lt_true : (a b : ℕ) → a < b → IsTrue (nat_lt a b)

@@ -7,19 +7,20 @@ use Rattle.cat_tree.specs.Accumulation.{accumulation}
 use Rattle.cat_tree.specs.declared.name.Name.{Name}
 use Rattle.cat_tree.specs.declared.name.CaseName.{CaseName}
 use Rattle.cat_tree.specs.declared.name.Type as types
-use Rattle.cat_tree.specs.declared.expression.Literal as tree
+use Rattle.cat_tree.specs.declared.expression.SurfaceLiteral as tree
 use Rattle.cat_tree.specs.declared.expression.Prefix.{Prefix}
 use Rattle.cat_tree.specs.declared.expression.Operator.{Operator}
 use Rattle.cat_tree.specs.declared.expression.Each.{Each}
 use Rattle.cat_tree.specs.declared.expression.Node.{Node}
-use Rattle.cat_tree.specs.declared.expression.FieldValue.{FieldValue}
-use Rattle.cat_tree.specs.declared.expression.Arm.{Arm}
+use Rattle.cat_tree.specs.declared.expression.SurfaceField.{SurfaceField}
+use Rattle.cat_tree.specs.declared.expression.SurfaceArm.{SurfaceArm}
 use Rattle.cat_tree.specs.declared.expression.Node.TheOpen.{Node-F}
 use Rattle.cat_tree.specs.declared.expression.Node.TheVariants as leaf
 use Rattle.cat_tree.specs.declared.expression.Node.TheViews as node
 use Rattle.cat_tree.specs.declared.expression.Node.TheViews.{out-Node}
-use Rattle.cat_tree.specs.declared.expression.Node.TheFolds.{fold_out-Node, fold_out-Arm, fold_out-FieldValue, map-Node}
-use Rattle.cat_tree.specs.declared.expression.Node.TheFolds.{fold-FieldValue, fold-Arm}
+use Rattle.cat_tree.specs.declared.expression.Node.TheFolds.{fold_out-Node, fold_out-SurfaceArm}
+use Rattle.cat_tree.specs.declared.expression.Node.TheFolds.{fold_out-SurfaceField, map-Node}
+use Rattle.cat_tree.specs.declared.expression.Node.TheFolds.{fold-SurfaceField, fold-SurfaceArm}
 use Rattle.cat_scope.specs.Names.{Names}
 use Rattle.cat_names.specs.declared.typed.Local.{Local}
 use Rattle.cat_names.specs.Found.{and_then, both}
@@ -37,16 +38,16 @@ use Rattle.cat_names.specs.Meaning.{field_meant, arm_meant}
 use Rattle.cat_names.specs.Lookup.{type_names, type_found}
 use Rattle.cat_names.proofs.ListEquations.{elements_along, call_along, structure_along, scope_call_along, match_along}
 
-abbrev field : Names → FieldValue → FieldMeaning
-field ns = fold-FieldValue NamedMeaning ArmMeaning FieldMeaning (named_meaning_of ns) arm_meaning field_meaning
+abbrev field : Names → SurfaceField → FieldMeaning
+field ns = fold-SurfaceField NamedMeaning ArmMeaning FieldMeaning (named_meaning_of ns) arm_meaning field_meaning
 
-abbrev arm : Names → Arm → ArmMeaning
-arm ns = fold-Arm NamedMeaning ArmMeaning FieldMeaning (named_meaning_of ns) arm_meaning field_meaning
+abbrev arm : Names → SurfaceArm → ArmMeaning
+arm ns = fold-SurfaceArm NamedMeaning ArmMeaning FieldMeaning (named_meaning_of ns) arm_meaning field_meaning
 
 -- an expression as a part, by its level
 levels : (ns : Names) (e : Node)
     → named_meaning ns e ≡ named_meaning_of ns
-    (map-Node Node Arm FieldValue NamedMeaning ArmMeaning FieldMeaning (named_meaning ns) (arm ns)
+    (map-Node Node SurfaceArm SurfaceField NamedMeaning ArmMeaning FieldMeaning (named_meaning ns) (arm ns)
     (field ns) (out-Node e))
 unfolding named_meaning
 levels ns e = fold_out-Node NamedMeaning ArmMeaning FieldMeaning (named_meaning_of ns) arm_meaning field_meaning e
@@ -54,25 +55,27 @@ levels ns e = fold_out-Node NamedMeaning ArmMeaning FieldMeaning (named_meaning_
 -- what it means, by its level
 at_level : (ns : Names) (e : Node) (ls : List Local) (ex : Option Ty) → meant ns e ls ex
     ≡ meaning_of ns
-    (map-Node Node Arm FieldValue NamedMeaning ArmMeaning FieldMeaning (named_meaning ns) (arm ns) (field ns)
+    (map-Node Node SurfaceArm SurfaceField NamedMeaning ArmMeaning FieldMeaning (named_meaning ns) (arm ns) (field ns)
     (out-Node e)) ls ex
 unfolding meant
 at_level ns e ls ex = ap (λ (part : NamedMeaning). part.means ls ex) (levels ns e)
 
-field_is : (ns : Names) (f : FieldValue) → beside (field ns f) ≡ field_meant ns f
+field_is : (ns : Names) (f : SurfaceField) → beside (field ns f) ≡ field_meant ns f
 unfolding named_meaning meant
 field_is ns f =
-    rw (fold_out-FieldValue NamedMeaning ArmMeaning FieldMeaning (named_meaning_of ns) arm_meaning field_meaning f) refl
+    rw (fold_out-SurfaceField NamedMeaning ArmMeaning FieldMeaning (named_meaning_of ns) arm_meaning field_meaning f)
+    refl
 
-arm_is : (ns : Names) (a : Arm) → beside (arm ns a) ≡ arm_meant ns a
+arm_is : (ns : Names) (a : SurfaceArm) → beside (arm ns a) ≡ arm_meant ns a
 unfolding named_meaning meant
 arm_is ns a =
-    rw (fold_out-Arm NamedMeaning ArmMeaning FieldMeaning (named_meaning_of ns) arm_meaning field_meaning a) refl
+    rw (fold_out-SurfaceArm NamedMeaning ArmMeaning FieldMeaning (named_meaning_of ns) arm_meaning field_meaning a) refl
 
 -- the name that a part is
-name_of_level : (ns : Names) (y : Node-F Node Arm FieldValue)
+name_of_level : (ns : Names) (y : Node-F Node SurfaceArm SurfaceField)
     → name_alone
-    (map-Node Node Arm FieldValue NamedMeaning ArmMeaning FieldMeaning (named_meaning ns) (arm ns) (field ns) y)
+    (map-Node Node SurfaceArm SurfaceField NamedMeaning ArmMeaning FieldMeaning (named_meaning ns) (arm ns)
+    (field ns) y)
     ≡ name_alone y
 name_of_level ns (Node-F.Literal l p) = refl
 name_of_level ns (Node-F.Name w) = refl
@@ -96,7 +99,7 @@ name_of_level ns (Node-F.Combine c l s e) = refl
 pub alone : (ns : Names) (e : Node) → (named_meaning ns e).name ≡ name_alone (out-Node e)
 alone ns e = ap (λ (part : NamedMeaning). part.name) (levels ns e) ∙ name_of_level ns (out-Node e)
 
-pub meant_Literal : (ns : Names) (l : tree.Literal) (p : Pos) (ls : List Local) (ex : Option Ty)
+pub meant_Literal : (ns : Names) (l : tree.SurfaceLiteral) (p : Pos) (ls : List Local) (ex : Option Ty)
     → meant ns (leaf.Literal l p) ls ex ≡ as_expected ex (literal_of p (literal_written l))
 unfolding meant
 meant_Literal ns l p ls ex = at_level ns (leaf.Literal l p) ls ex ∙ rw (node.outs-Literal l p) refl
@@ -167,7 +170,7 @@ meant_List ns p es ls ex = at_level ns (node.List p es) ls ex ∙ rw (node.outs-
     (ap (λ found. as_expected ex (and_then found (list_of ns p)))
     (elements_along (λ e. e.means) (meant ns) (named_meaning ns) (λ e. refl) p es ls (expected_element ex)))
 
-pub meant_Structure : (ns : Names) (u : Name) (fs : List FieldValue) (ls : List Local) (ex : Option Ty)
+pub meant_Structure : (ns : Names) (u : Name) (fs : List SurfaceField) (ls : List Local) (ex : Option Ty)
     → meant ns (node.Structure u fs) ls ex ≡ as_expected ex
     (and_then (structure_found ns u) (structure_of_fields (field_meant ns) ns u fs ls))
 unfolding meant
@@ -175,7 +178,7 @@ meant_Structure ns u fs ls ex = at_level ns (node.Structure u fs) ls ex ∙ rw (
     (ap (as_expected ex) (structure_along beside (field_meant ns) (field ns) (field_is ns) ns u fs ls
     (structure_found ns u)))
 
-pub meant_ScopeCall : (ns : Names) (p : Pos) (u : Name) (fs : List FieldValue) (w : Name) (ls : List Local)
+pub meant_ScopeCall : (ns : Names) (p : Pos) (u : Name) (fs : List SurfaceField) (w : Name) (ls : List Local)
     (ex : Option Ty)
     → meant ns (node.ScopeCall p u fs w) ls ex ≡ as_expected ex
     (and_then (scope_found ns u) (scope_call_of (field_meant ns) ns p u fs w ls))
@@ -190,7 +193,7 @@ pub meant_If : (ns : Names) (p : Pos) (c a b : Node) (ls : List Local) (ex : Opt
 unfolding meant
 meant_If ns p c a b ls ex = at_level ns (node.If p c a b) ls ex ∙ rw (node.outs-If p c a b) refl
 
-pub meant_Match : (ns : Names) (p : Pos) (e : Node) (arms : List Arm) (ls : List Local) (ex : Option Ty)
+pub meant_Match : (ns : Names) (p : Pos) (e : Node) (arms : List SurfaceArm) (ls : List Local) (ex : Option Ty)
     → meant ns (node.Match p e arms) ls ex ≡ and_then (meant ns e ls None) (match_over (arm_meant ns) ns p arms ls ex)
 unfolding meant
 meant_Match ns p e arms ls ex = at_level ns (node.Match p e arms) ls ex ∙ rw (node.outs-Match p e arms)

@@ -14,7 +14,7 @@ use Rattle.cat_tree.specs.declared.expression.Operator.TheVariants as operator
 use Rattle.cat_tree.specs.declared.expression.Each.TheVariants as each
 use Rattle.cat_tree.specs.declared.expression.Prefix.TheVariants as prefix
 use Rattle.cat_tree.specs.declared.expression.Pattern.TheVariants as pattern
-use Rattle.cat_tree.specs.declared.expression.Arm.{Arm}
+use Rattle.cat_tree.specs.declared.expression.SurfaceArm.{SurfaceArm}
 use Rattle.cat_tree.specs.declared.expression.Node.{Node}
 use Rattle.cat_tree.specs.declared.expression.Node.TheViews as node
 use Rattle.cat_scope.specs.declared.operators.BinaryOp.TheVariants.{Greater}
@@ -73,17 +73,17 @@ abbrev p : Pos
 p = at 11 23
 
 -- `-- A : k`, `-- B of n : n`, and `-- anything : k`
-abbrev on_a : ℕ → Arm
+abbrev on_a : ℕ → SurfaceArm
 on_a k = record { pattern = pattern.Case (case.Bare (name 65 p)) None; body = whole k p }
 
-abbrev on_b : Arm
+abbrev on_b : SurfaceArm
 on_b = record { pattern = pattern.Case (case.Bare (name 66 p)) (Some (name n p)); body = local n p }
 
-abbrev on_anything : ℕ → Arm
+abbrev on_anything : ℕ → SurfaceArm
 on_anything k = record { pattern = pattern.Anything; body = whole k p }
 
 -- `match e with pattern` and arms
-abbrev match : List Arm → Node
+abbrev match : List SurfaceArm → Node
 match arms = node.Match (at 11 5) (local e p) arms
 
 -- `[]`

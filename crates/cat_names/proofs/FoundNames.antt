@@ -21,8 +21,8 @@ use Rattle.cat_tree.specs.declared.expression.Node.TheOpen.{Node-F}
 use Rattle.cat_tree.specs.declared.expression.Node.TheVariants as leaf
 use Rattle.cat_tree.specs.declared.expression.Node.TheViews as node
 use Rattle.cat_tree.specs.declared.expression.Node.TheViews.{out-Node, roll-Node}
-use Rattle.cat_tree.specs.declared.expression.FieldValue.{FieldValue}
-use Rattle.cat_tree.specs.declared.expression.Arm.{Arm}
+use Rattle.cat_tree.specs.declared.expression.SurfaceField.{SurfaceField}
+use Rattle.cat_tree.specs.declared.expression.SurfaceArm.{SurfaceArm}
 use Rattle.cat_scope.specs.declared.expr.Expr.TheViews as expr
 use Rattle.cat_scope.specs.declared.expr.ArmPattern.{ArmPattern}
 use Rattle.cat_scope.specs.declared.expr.ArmPattern.TheVariants as resolved
@@ -152,16 +152,16 @@ module _ (ns : Names) (known : Known) (agree : Agrees ns known) where
       (each.0 ls (Some t)) (arguments_where es each.1 ls ts (omega (arith, many)))
       (λ h i. free_join (unknown_in known e (names_of_locals ls)) _ h i)
 
-  abbrev FieldFrees : List FieldValue → List Local → Type 0
+  abbrev FieldFrees : List SurfaceField → List Local → Type 0
   FieldFrees fs ls = Free (flat_map (λ f. f.1 (names_of_locals ls)) (map (field_row known) fs))
 
-  value_where : (field : List ℕ → Option (ℕ × Ty)) (f : FieldValue) → Clear f.value → (ls : List Local)
+  value_where : (field : List ℕ → Option (ℕ × Ty)) (f : SurfaceField) → Clear f.value → (ls : List Local)
       → Where (Free (unknown_in known f.value (names_of_locals ls))) (value_of field (field_meant ns f) ls)
   value_where field f h ls =
       where_or _ (NameUnknown f.name.pos) (field f.name.text) _ (λ there k.
       where_then _ _ (meant ns f.value ls (Some k.1)) _ (h ls (Some k.1)) (λ i. i))
 
-  values_where : (field : List ℕ → Option (ℕ × Ty)) (fs : List FieldValue) → Each (λ f. Clear f.value) fs
+  values_where : (field : List ℕ → Option (ℕ × Ty)) (fs : List SurfaceField) → Each (λ f. Clear f.value) fs
       → (ls : List Local) → Where (FieldFrees fs ls) (values_of (field_meant ns) field fs ls)
   values_where field [] each ls = where_ok _ (Ok []) free_none
   values_where field (f ∷ fs) each ls =
@@ -169,7 +169,7 @@ module _ (ns : Names) (known : Known) (agree : Agrees ns known) where
       (values_of (field_meant ns) field fs ls) _ (value_where field f each.0 ls) (values_where field fs each.1 ls)
       (λ h i. free_join (unknown_in known f.value (names_of_locals ls)) _ h i)
 
-  fields_free : (fs : List FieldValue) (ls : List Local) → FieldFrees fs ls
+  fields_free : (fs : List SurfaceField) (ls : List Local) → FieldFrees fs ls
       → Free (in_fields (map (field_row known) fs) (names_of_locals ls))
   fields_free fs ls h = free_join (twice (map (λ f. f.0) (map (field_row known) fs))) _ (free_later _) h
 
@@ -217,20 +217,20 @@ module _ (ns : Names) (known : Known) (agree : Agrees ns known) where
       (λ inside texts. next (resolved.Case k.1 (is_some w)) inside texts h)))
 
   -- the faults of an arm, and of some arms
-  abbrev arm_faults : Arm → List Local → List Fault
+  abbrev arm_faults : SurfaceArm → List Local → List Fault
   arm_faults a ls = in_pattern known a.pattern ++ unknown_in known a.body (names_of_locals ls ++ bound_by a.pattern)
 
-  abbrev ArmFrees : List Arm → List Local → Type 0
+  abbrev ArmFrees : List SurfaceArm → List Local → Type 0
   ArmFrees arms ls = Free (in_arms known (map (arm_row known) arms) (names_of_locals ls))
 
-  arm_where : (p : Pos) (n : ℕ) (a : Arm) → Clear a.body → (ls : List Local) (ex : Option Ty)
+  arm_where : (p : Pos) (n : ℕ) (a : SurfaceArm) → Clear a.body → (ls : List Local) (ex : Option Ty)
       → Where (Free (arm_faults a ls)) (arm_of ns p n (arm_meant ns a) ls ex)
   arm_where p n a h ls ex = pattern_where (Free (arm_faults a ls)) p n a.pattern ls _ (λ arm inside texts i.
       where_then (Free (arm_faults a ls)) (Free (unknown_in known a.body (names_of_locals inside)))
       (meant ns a.body inside ex) _ (h inside ex) (λ j. free_join (in_pattern known a.pattern) _ i
       (subst (λ ts. Free (unknown_in known a.body ts)) texts j)))
 
-  later_where : (p : Pos) (n : ℕ) (arms : List Arm) → Each (λ a. Clear a.body) arms → (ls : List Local) (t : Ty)
+  later_where : (p : Pos) (n : ℕ) (arms : List SurfaceArm) → Each (λ a. Clear a.body) arms → (ls : List Local) (t : Ty)
       → Where (ArmFrees arms ls) (all_arms (arm_meant ns) ns p n arms ls t)
   later_where p n [] each ls t = where_ok _ (Ok []) free_none
   later_where p n (a ∷ arms) each ls t =
@@ -239,7 +239,8 @@ module _ (ns : Names) (known : Known) (agree : Agrees ns known) where
       (arm_where p n a each.0 ls (Some t)) (later_where p n arms each.1 ls t)
       (λ h i. free_join (arm_faults a ls) _ h i)
 
-  arms_where : (p : Pos) (n : ℕ) (arms : List Arm) → Each (λ a. Clear a.body) arms → (ls : List Local) (ex : Option Ty)
+  arms_where : (p : Pos) (n : ℕ) (arms : List SurfaceArm) → Each (λ a. Clear a.body) arms
+      → (ls : List Local) (ex : Option Ty)
       → Where (ArmFrees arms ls) (arms_of (arm_meant ns) ns p n arms ls ex)
   arms_where p n [] each ls ex = where_no _ _
   arms_where p n (a ∷ arms) each ls ex =
@@ -254,7 +255,7 @@ module _ (ns : Names) (known : Known) (agree : Agrees ns known) where
   alone_is : (e : Node) (t : Name) → name_alone (out-Node e) ≡ Some t → leaf.Name t ≡ e
   alone_is e t h = by (out-Node e) h ∙ node.roll-out-Node e
     where
-      by : (y : Node-F Node Arm FieldValue) → name_alone y ≡ Some t → leaf.Name t ≡ roll-Node y
+      by : (y : Node-F Node SurfaceArm SurfaceField) → name_alone y ≡ Some t → leaf.Name t ≡ roll-Node y
       by (Node-F.Name w) g = let same : w ≡ t = cc g in
           subst (λ v. leaf.Name v ≡ roll-Node (Node-F.Name w)) same (sym (node.rolls-Name w))
       by _ g = cc g
@@ -325,7 +326,7 @@ module _ (ns : Names) (known : Known) (agree : Agrees ns known) where
       → Free (unknown_in known a (names_of_locals ls) ++ unknown_in known b (names_of_locals ls))
   two a b ls h i = free_join (unknown_in known a (names_of_locals ls)) _ h i
 
-  on_structure : (u : Name) (fs : List FieldValue) → Each (λ f. Clear f.value) fs → Clear (node.Structure u fs)
+  on_structure : (u : Name) (fs : List SurfaceField) → Each (λ f. Clear f.value) fs → Clear (node.Structure u fs)
   on_structure u fs each ls ex =
       let texts = names_of_locals ls in let values = in_fields (map (field_row known) fs) texts in
       let F = Free (of_type known u ++ values) in
@@ -338,7 +339,7 @@ module _ (ns : Names) (known : Known) (agree : Agrees ns known) where
       (values_where (field_named ns.decls n) fs each ls)
       (λ i. free_join (of_type known u) values h (fields_free fs ls i)))))
 
-  on_scope_call : (p : Pos) (u : Name) (fs : List FieldValue) (w : Name) → Each (λ f. Clear f.value) fs
+  on_scope_call : (p : Pos) (u : Name) (fs : List SurfaceField) (w : Name) → Each (λ f. Clear f.value) fs
       → Clear (node.ScopeCall p u fs w)
   on_scope_call p u fs w each ls ex =
       let texts = names_of_locals ls in let values = in_fields (map (field_row known) fs) texts in
@@ -368,7 +369,7 @@ module _ (ns : Names) (known : Known) (agree : Agrees ns known) where
       where_then G (Free of_b) (meant ns b ls (Some x.ty)) _ (hb ls (Some x.ty)) (λ i. (h, i))))
       (λ h g. free_join (of_c ++ of_a) of_b (free_join of_c of_a h g.0) g.1))
 
-  on_match : (p : Pos) (e : Node) (arms : List Arm) → Clear e → Each (λ a. Clear a.body) arms
+  on_match : (p : Pos) (e : Node) (arms : List SurfaceArm) → Clear e → Each (λ a. Clear a.body) arms
       → Clear (node.Match p e arms)
   on_match p e arms he each ls ex =
       let texts = names_of_locals ls in let of_e = unknown_in known e texts in

@@ -7,7 +7,7 @@ use Rattle.cat_tree.specs.declared.name.Name.{Name}
 use Rattle.cat_scope.specs.Names.{IsOneOf}
 use Rattle.cat_names.specs.declared.fault.Fault.{Fault}
 use Rattle.cat_names.specs.declared.fault.Fault.TheVariants.{NameTwice, NameUnknown}
-use Rattle.cat_names.specs.Found.{Found, and_then, both, or_fault, where_true, fault_if}
+use Rattle.cat_names.specs.Found.{Found, and_then, both, or_fault, fault_if}
 use Rattle.cat_names.specs.Unknown.{unless}
 use Rattle.cat_names.proofs.OnlyLaws.{split}
 
@@ -52,11 +52,6 @@ where_both_next F G H (Ok a) (Ok b) go h i next = next (h.holds tt) (i.holds tt)
 where_both_next F G H (Ok a) (Err faults) go h i next = where_no F faults
 where_both_next F G H (Err faults) (Ok b) go h i next = where_no F faults
 where_both_next F G H (Err faults) (Err others) go h i next = where_no F (faults ++ others)
-
-pub where_test : (F : Type 0) {A : Type 0} (test : Bool) (fault : Fault) (found : Found A) → Where F found
-    → Where F (where_true test fault found)
-where_test F true fault found h = h
-where_test F false fault found h = where_no F (fault ∷ [])
 
 pub where_or : (F : Type 0) {A B : Type 0} (fault : Fault) (o : Option A) (go : A → Found B)
     → (is_some o ≡ true → (a : A) → Where F (go a)) → Where F (and_then (or_fault fault o) go)

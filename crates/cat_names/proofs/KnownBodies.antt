@@ -263,7 +263,7 @@ all_named tree ds parts =
     }
 
 -- the items of a scope have the names of its variables
-item_name : (names : TypeNames) (scopes : List (List ℕ)) (v : Variable) (i : ItemDecl)
+pub item_name : (names : TypeNames) (scopes : List (List ℕ)) (v : Variable) (i : ItemDecl)
     → item_declared names scopes v ≡ Ok i → i.name ≡ (variable_name v).text
 item_name names scopes (variable.Own k p w t params) i h =
     let found = both_ok (variable_type names t) (each_found (λ f. type_found names f.ty) params) _ i h in

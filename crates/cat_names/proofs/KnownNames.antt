@@ -27,8 +27,8 @@ use Rattle.cat_tree.specs.declared.expression.Node.{Node}
 use Rattle.cat_tree.specs.declared.expression.Node.TheVariants as leaf
 use Rattle.cat_tree.specs.declared.expression.Node.TheViews as node
 use Rattle.cat_tree.specs.declared.expression.Node.TheViews.{out-Node}
-use Rattle.cat_tree.specs.declared.expression.FieldValue.{FieldValue}
-use Rattle.cat_tree.specs.declared.expression.Arm.{Arm}
+use Rattle.cat_tree.specs.declared.expression.SurfaceField.{SurfaceField}
+use Rattle.cat_tree.specs.declared.expression.SurfaceArm.{SurfaceArm}
 use Rattle.cat_scope.specs.declared.expr.Expr.TheViews as expr
 use Rattle.cat_scope.specs.declared.expr.ArmPattern.{ArmPattern}
 use Rattle.cat_scope.specs.declared.expr.ArmPattern.TheVariants as resolved
@@ -246,10 +246,10 @@ module _ (ns : Names) (known : Known) (agree : Agrees ns known) where
       (arguments_only ps es ls each.1 ts) (λ x xs. only_ok ps _)
 
   -- a field whose name and value may be at fault at these positions
-  abbrev FieldOnly : List Pos → List Local → FieldValue → Type 0
+  abbrev FieldOnly : List Pos → List Local → SurfaceField → Type 0
   FieldOnly ps ls f = IsOneOf f.name.pos ps × MeansOnly ps (meant ns f.value) ls
 
-  values_only : (ps : List Pos) (field : List ℕ → Option (ℕ × Ty)) (fs : List FieldValue) (ls : List Local)
+  values_only : (ps : List Pos) (field : List ℕ → Option (ℕ × Ty)) (fs : List SurfaceField) (ls : List Local)
       → Each (FieldOnly ps ls) fs → Only ps (values_of (field_meant ns) field fs ls)
   values_only ps field [] ls each = only_ok ps []
   values_only ps field (f ∷ fs) ls each =
@@ -259,7 +259,7 @@ module _ (ns : Names) (known : Known) (agree : Agrees ns known) where
       (values_only ps field fs ls each.1) (λ x xs. only_ok ps _)
 
   -- an arm whose case and body may be at fault there, under bound names that cover these texts
-  record ArmOnly (ps : List Pos) (texts : List (List ℕ)) (a : Arm) : Type 0 where
+  record ArmOnly (ps : List Pos) (texts : List (List ℕ)) (a : SurfaceArm) : Type 0 where
     case_is : in_pattern known a.pattern ≡ []
     there : (p : Pos) → IsOneOf p (pattern_positions a.pattern) → IsOneOf p ps
     body : (inside : List Local) → Covers (texts ++ bound_by a.pattern) inside → MeansOnly ps (meant ns a.body) inside
@@ -288,12 +288,13 @@ module _ (ns : Names) (known : Known) (agree : Agrees ns known) where
       (λ inside. (resolved.Case k.1 (is_some w), inside)) go
       (λ inside c_. next (resolved.Case k.1 (is_some w)) inside c_)))
 
-  arm_only : (ps : List Pos) (p : Pos) (n : ℕ) (a : Arm) (texts : List (List ℕ)) (ls : List Local) → Covers texts ls
+  arm_only : (ps : List Pos) (p : Pos) (n : ℕ) (a : SurfaceArm) (texts : List (List ℕ)) (ls : List Local)
+      → Covers texts ls
       → ArmOnly ps texts a → (ex : Option Ty) → Only ps (arm_of ns p n (arm_meant ns a) ls ex)
   arm_only ps p n a texts ls covers h ex = pattern_only ps p n a.pattern texts ls covers h.case_is h.there _
       (λ arm inside c. only_then ps (meant ns a.body inside ex) _ (h.body inside c ex) (λ x. only_ok ps _))
 
-  later_only : (ps : List Pos) (p : Pos) (n : ℕ) (arms : List Arm) (texts : List (List ℕ)) (ls : List Local)
+  later_only : (ps : List Pos) (p : Pos) (n : ℕ) (arms : List SurfaceArm) (texts : List (List ℕ)) (ls : List Local)
       → Covers texts ls → Each (ArmOnly ps texts) arms → (t : Ty) → Only ps (all_arms (arm_meant ns) ns p n arms ls t)
   later_only ps p n [] texts ls covers each t = only_ok ps []
   later_only ps p n (a ∷ arms) texts ls covers each t =
@@ -301,7 +302,7 @@ module _ (ns : Names) (known : Known) (agree : Agrees ns known) where
       (arm_only ps p n a texts ls covers each.0 (Some t)) (later_only ps p n arms texts ls covers each.1 t)
       (λ x xs. only_ok ps _)
 
-  arms_only : (ps : List Pos) (p : Pos) (n : ℕ) (arms : List Arm) (texts : List (List ℕ)) (ls : List Local)
+  arms_only : (ps : List Pos) (p : Pos) (n : ℕ) (arms : List SurfaceArm) (texts : List (List ℕ)) (ls : List Local)
       → Covers texts ls → Each (ArmOnly ps texts) arms → (ex : Option Ty)
       → Only ps (arms_of (arm_meant ns) ns p n arms ls ex)
   arms_only ps p n [] texts ls covers each ex = only_other ps (MatchCases p) (λ q e. cc e)
@@ -334,7 +335,7 @@ module _ (ns : Names) (known : Known) (agree : Agrees ns known) where
         listed es each.1 texts ls covers (nothing_behind here _ h) ps (λ p i. more p (behind p (typed_names e) rest i)),
       )
 
-  fielded : (fs : List FieldValue) → Each (λ f. Fine f.value) fs → (texts : List (List ℕ)) (ls : List Local)
+  fielded : (fs : List SurfaceField) → Each (λ f. Fine f.value) fs → (texts : List (List ℕ)) (ls : List Local)
       → Covers texts ls → flat_map (λ f. f.1 texts) (map (field_row known) fs) ≡ [] → (ps : List Pos)
       → ((p : Pos) → IsOneOf p (all_positions (map value_positions fs)) → IsOneOf p ps) → Each (FieldOnly ps ls) fs
   fielded [] each texts ls covers h ps more = tt
@@ -349,7 +350,7 @@ module _ (ns : Names) (known : Known) (agree : Agrees ns known) where
             (λ p i. more p (behind p (value_positions f) rest i)),
       )
 
-  armed : (arms : List Arm) → Each (λ a. Fine a.body) arms → (texts : List (List ℕ))
+  armed : (arms : List SurfaceArm) → Each (λ a. Fine a.body) arms → (texts : List (List ℕ))
       → in_arms known (map (arm_row known) arms) texts ≡ [] → (ps : List Pos)
       → ((p : Pos) → IsOneOf p (all_positions (map body_positions arms)) → IsOneOf p ps)
       → Each (ArmOnly ps texts) arms
@@ -456,7 +457,7 @@ module _ (ns : Names) (known : Known) (agree : Agrees ns known) where
       (λ q e_. cc e_)
       (only_where ps (is_low_type ns.decls (ty.List row.1)) (TooMany p) _ (λ q e_. cc e_) (only_ok ps _)))))
 
-  on_structure : (u : Name) (fs : List FieldValue) → Each (λ f. Fine f.value) fs → Fine (node.Structure u fs)
+  on_structure : (u : Name) (fs : List SurfaceField) → Each (λ f. Fine f.value) fs → Fine (node.Structure u fs)
   on_structure u fs each texts ls covers h ex =
       let ps = all_positions (map value_positions fs) in
       let none = sym (unknown.unknown_Structure known u fs texts) ∙ h in
@@ -471,7 +472,7 @@ module _ (ns : Names) (known : Known) (agree : Agrees ns known) where
       (values_only ps (field_named ns.decls n) fs ls (fielded fs each texts ls covers values ps (λ p i. i)))
       (λ vs. only_where ps _ (TypeMismatch u.pos) _ (λ q e_. cc e_) (only_ok ps _)))))
 
-  on_scope_call : (p : Pos) (u : Name) (fs : List FieldValue) (w : Name) → Each (λ f. Fine f.value) fs
+  on_scope_call : (p : Pos) (u : Name) (fs : List SurfaceField) (w : Name) → Each (λ f. Fine f.value) fs
       → Fine (node.ScopeCall p u fs w)
   on_scope_call p u fs w each texts ls covers h ex =
       let ps = w.pos ∷ all_positions (map value_positions fs) in
@@ -506,7 +507,7 @@ module _ (ns : Names) (known : Known) (agree : Agrees ns known) where
       only_then ps (meant ns b ls (Some x.ty)) _ (of_b (Some x.ty)) (λ y. only_ok ps _)))
       (λ x xs. only_where ps _ (TypeMismatch p) _ (λ q e_. cc e_) (only_ok ps _)))
 
-  on_match : (p : Pos) (e : Node) (arms : List Arm) → Fine e → Each (λ a. Fine a.body) arms
+  on_match : (p : Pos) (e : Node) (arms : List SurfaceArm) → Fine e → Each (λ a. Fine a.body) arms
       → Fine (node.Match p e arms)
   on_match p e arms he each texts ls covers h ex =
       let rest = all_positions (map body_positions arms) in let ps = typed_names e ++ rest in

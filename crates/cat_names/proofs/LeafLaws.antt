@@ -17,7 +17,8 @@ use Rattle.cat_value.proofs.Exported.{is_declared_Date, is_declared_Duration}
 use Rattle.cat_tree.specs.declared.name.Name.{Name}
 use Rattle.cat_scope.specs.declared.expr.Literal.{Literal}
 use Rattle.cat_scope.specs.declared.expr.Literal.TheVariants as literal
-use Rattle.cat_scope.specs.Names.{Names, is_plain, outputs_in, scope_items}
+use Rattle.cat_scope.specs.Names.{Names, is_plain, scope_items}
+use Rattle.cat_value.specs.Inputs.{outputs_in}
 use Rattle.cat_scope.specs.Literals.{literal_type, literal_fits}
 use Rattle.cat_scope.specs.Fitting.{field_at, type_in, field_type}
 use Rattle.cat_scope.specs.HasType.{HasType}

@@ -5,7 +5,8 @@ use Rattle.std.proofs.lemmas.Option.{slice_get_past, slice_get_read}
 use Rattle.cat_pos.specs.declared.pos.Pos.{Pos}
 use Rattle.cat_names.specs.declared.fault.Fault.TheVariants.{TooMany}
 use Rattle.cat_names.specs.DeclarationFaults.{past, too_many}
-use Rattle.cat_names.specs.Limits.{most_items, most_definitions, most_cases, most_parameters}
+use Rattle.cat_names.specs.Limits.{most_items, most_definitions, most_parameters}
+use Rattle.cat_value.specs.Declarations.{most_cases}
 
 none_past : (p : Pos) (n : ℕ) → slice_get (replicate n p) n ≡ None
 none_past p n = slice_get_past (replicate n p) n (omega (arith, length-replicate n p))

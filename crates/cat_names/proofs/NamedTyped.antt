@@ -14,7 +14,8 @@ use Rattle.cat_scope.specs.declared.expr.Expr.TheOpen.{Expr-F}
 use Rattle.cat_scope.specs.declared.expr.Expr.TheFolds.{map-Expr}
 use Rattle.cat_scope.specs.declared.expr.Arm.{Arm}
 use Rattle.cat_scope.specs.declared.expr.FieldValue.{FieldValue}
-use Rattle.cat_scope.specs.Names.{Names, AllHave, outputs_in, items_in, output_at}
+use Rattle.cat_scope.specs.Names.{Names, AllHave, items_in, output_at}
+use Rattle.cat_value.specs.Inputs.{outputs_in}
 use Rattle.cat_scope.specs.Mentions.{own_item, own_scope, named_by, items_named, scopes_named, joined}
 use Rattle.cat_scope.specs.HasType.{HasType, AllHaveType, EachHasType, FieldsHaveType, ArmsHaveType}
 use Rattle.cat_scope.specs.HasType as typed

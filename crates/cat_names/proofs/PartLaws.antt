@@ -1,5 +1,5 @@
 -- Elements, arguments, fields and arms have their types.
-use Rattle.std.proofs.Common.{◌≡◌, ℕ, nat_eq, Bool, true, IsTrue, is_some, List, [], ◌∷◌, ◌++◌, length, map, Option}
+use Rattle.std.proofs.Common.{◌≡◌, ℕ, Bool, true, IsTrue, is_some, List, [], ◌∷◌, ◌++◌, length, map, Option}
 use Rattle.std.proofs.Common.{Some, None, refl, sym, ap, subst, arith}
 use Rattle.cat_pos.specs.declared.pos.Pos.{Pos}
 use Rattle.cat_value.specs.declared.ty.Ty.{Ty}
@@ -35,10 +35,6 @@ pub declared_join : (ds : Decls) (locals : List Local) (l : Local) → AreDeclar
     → AreDeclared ds (locals ++ l ∷ [])
 declared_join ds [] l all h = (h, tt)
 declared_join ds (k ∷ locals) l all h = (all.0, declared_join ds locals l all.1 h)
-
--- a number that is equal
-equal_numbers : (a b : ℕ) → IsTrue (nat_eq a b) → a ≡ b
-equal_numbers a b h = grind (arith, h)
 
 module _ (ds : Decls) (sound : AreSound ds) (scope : ℕ) where
   abbrev ns : Names

@@ -15,7 +15,7 @@ use Rattle.cat_tree.specs.declared.expression.Operator.TheVariants as operator
 use Rattle.cat_tree.specs.declared.expression.Node.TheVariants as leaf
 use Rattle.cat_tree.specs.declared.expression.Node.TheViews as node
 use Rattle.cat_tree.specs.declared.program.Fulfilled.TheVariants as fulfilled
-use Rattle.cat_tree.specs.declared.program.Kind.TheVariants as written
+use Rattle.cat_tree.specs.declared.program.VariableKind.TheVariants as written
 use Rattle.cat_tree.specs.declared.program.Item.TheVariants as item
 use Rattle.cat_scope.specs.Names.{Names}
 use Rattle.cat_names.specs.declared.fault.Fault.TheVariants.{NameTwice, NameUnknown, TypeMismatch, Misplaced}

@@ -2,7 +2,7 @@
 use Rattle.std.proofs.Common.{◌≡◌, pos, true, [], ◌∷◌, None, Ok, rules}
 use Rattle.cat_value.specs.declared.ty.Ty.TheVariants as flat_ty
 use Rattle.cat_tree.specs.declared.name.Base.TheVariants as base
-use Rattle.cat_tree.specs.declared.expression.Literal.TheVariants as literal
+use Rattle.cat_tree.specs.declared.expression.SurfaceLiteral.TheVariants as literal
 use Rattle.cat_tree.specs.declared.expression.Operator.TheVariants as operator
 use Rattle.cat_tree.specs.declared.expression.Unit.TheVariants as unit
 use Rattle.cat_tree.specs.declared.expression.Node.{Node}

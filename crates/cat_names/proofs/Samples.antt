@@ -13,11 +13,11 @@ use Rattle.cat_value.specs.Declarations.{are_sound}
 use Rattle.cat_tree.specs.declared.name.Name.{Name}
 use Rattle.cat_tree.specs.declared.name.Base.{Base}
 use Rattle.cat_tree.specs.declared.name.Base.TheVariants as base
-use Rattle.cat_tree.specs.declared.expression.Literal.TheVariants as literal
+use Rattle.cat_tree.specs.declared.expression.SurfaceLiteral.TheVariants as literal
 use Rattle.cat_tree.specs.declared.expression.Node.{Node}
 use Rattle.cat_tree.specs.declared.expression.Node.TheVariants as leaf
-use Rattle.cat_tree.specs.declared.program.Kind as kinds
-use Rattle.cat_tree.specs.declared.program.Kind.TheVariants as written
+use Rattle.cat_tree.specs.declared.program.VariableKind as kinds
+use Rattle.cat_tree.specs.declared.program.VariableKind.TheVariants as written
 use Rattle.cat_tree.specs.declared.program.Exception.TheVariants as exception
 use Rattle.cat_tree.specs.declared.program.Lead.{Lead}
 use Rattle.cat_tree.specs.declared.program.TargetName.{TargetName}
@@ -68,7 +68,7 @@ abbrev pub whole : ℕ → Pos → Node
 whole k p = leaf.Literal (literal.Int (pos k)) p
 
 -- `K w content T`
-abbrev pub own : kinds.Kind → Pos → Name → Base → Pos → Variable
+abbrev pub own : kinds.VariableKind → Pos → Name → Base → Pos → Variable
 own k p w t at_type = variable.Own k p w (Some (record { lists = 0; base = t; pos = at_type })) []
 
 -- `definition w equals e`, without a label

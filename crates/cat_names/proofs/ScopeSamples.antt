@@ -11,9 +11,9 @@ use Rattle.cat_value.specs.declared.decls.Decls.{Decls}
 use Rattle.cat_value.specs.Declarations.{are_sound}
 use Rattle.cat_tree.specs.declared.name.Base.TheVariants as base
 use Rattle.cat_tree.specs.declared.expression.Operator.TheVariants as operator
-use Rattle.cat_tree.specs.declared.expression.FieldValue.{FieldValue}
+use Rattle.cat_tree.specs.declared.expression.SurfaceField.{SurfaceField}
 use Rattle.cat_tree.specs.declared.expression.Node.TheViews as node
-use Rattle.cat_tree.specs.declared.program.Kind.TheVariants as written
+use Rattle.cat_tree.specs.declared.program.VariableKind.TheVariants as written
 use Rattle.cat_tree.specs.declared.program.Use.{Use}
 use Rattle.cat_tree.specs.declared.program.Use.TheVariants as uses
 use Rattle.cat_tree.specs.declared.program.Item.TheVariants as item
@@ -71,14 +71,14 @@ b_above_zero = uses.Definition plain (at 9 3) (target (name b (at 9 14)))
     (node.Binary operator.Times (at 9 59) (local a (at 9 57)) (whole 2 (at 9 61)))
 
 -- `definition x equals output of T with { fields } . b`
-abbrev x_calls_t : List FieldValue → Pos → Use
+abbrev x_calls_t : List SurfaceField → Pos → Use
 x_calls_t fields output = definition (at 11 3) (name x (at 11 14))
     (node.ScopeCall (at 11 23) (name T (at 11 33)) fields (name b output))
 
-abbrev a_is_n : FieldValue
+abbrev a_is_n : SurfaceField
 a_is_n = record { name = name a (at 11 45); value = local n (at 11 49) }
 
-abbrev q_is_n : FieldValue
+abbrev q_is_n : SurfaceField
 q_is_n = record { name = name q (at 11 54); value = local n (at 11 58) }
 
 -- `definition b equals output of T with { -- a : a } . b`

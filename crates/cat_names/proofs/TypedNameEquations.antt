@@ -5,51 +5,53 @@ use Rattle.cat_tree.specs.Accumulation.{accumulation}
 use Rattle.cat_tree.specs.declared.name.Name.{Name}
 use Rattle.cat_tree.specs.declared.name.CaseName.{CaseName}
 use Rattle.cat_tree.specs.declared.name.Type as types
-use Rattle.cat_tree.specs.declared.expression.Literal as tree
+use Rattle.cat_tree.specs.declared.expression.SurfaceLiteral as tree
 use Rattle.cat_tree.specs.declared.expression.Prefix.{Prefix}
 use Rattle.cat_tree.specs.declared.expression.Operator.{Operator}
 use Rattle.cat_tree.specs.declared.expression.Each.{Each}
 use Rattle.cat_tree.specs.declared.expression.Node.{Node}
-use Rattle.cat_tree.specs.declared.expression.FieldValue.{FieldValue}
-use Rattle.cat_tree.specs.declared.expression.Arm.{Arm}
+use Rattle.cat_tree.specs.declared.expression.SurfaceField.{SurfaceField}
+use Rattle.cat_tree.specs.declared.expression.SurfaceArm.{SurfaceArm}
 use Rattle.cat_tree.specs.declared.expression.Node.TheVariants as leaf
 use Rattle.cat_tree.specs.declared.expression.Node.TheViews as node
 use Rattle.cat_tree.specs.declared.expression.Node.TheViews.{out-Node}
-use Rattle.cat_tree.specs.declared.expression.Node.TheFolds.{fold_out-Node, fold_out-Arm, fold_out-FieldValue, map-Node}
-use Rattle.cat_tree.specs.declared.expression.Node.TheFolds.{fold-FieldValue, fold-Arm}
+use Rattle.cat_tree.specs.declared.expression.Node.TheFolds.{fold_out-Node, fold_out-SurfaceArm}
+use Rattle.cat_tree.specs.declared.expression.Node.TheFolds.{fold_out-SurfaceField, map-Node}
+use Rattle.cat_tree.specs.declared.expression.Node.TheFolds.{fold-SurfaceField, fold-SurfaceArm}
 use Rattle.cat_names.specs.TypedNames.{case_position, pattern_positions, arm_positions, field_positions, all_positions}
 use Rattle.cat_names.specs.TypedNames.{typed_names_of, typed_names}
 use Rattle.cat_names.proofs.UnknownEquations.{map_same}
 
-abbrev pub value_positions : FieldValue → List Pos
+abbrev pub value_positions : SurfaceField → List Pos
 value_positions f = f.name.pos ∷ typed_names f.value
 
-abbrev pub body_positions : Arm → List Pos
+abbrev pub body_positions : SurfaceArm → List Pos
 body_positions a = pattern_positions a.pattern ++ typed_names a.body
 
-abbrev field : FieldValue → List Pos
-field = fold-FieldValue (List Pos) (List Pos) (List Pos) typed_names_of arm_positions field_positions
+abbrev field : SurfaceField → List Pos
+field = fold-SurfaceField (List Pos) (List Pos) (List Pos) typed_names_of arm_positions field_positions
 
-abbrev arm : Arm → List Pos
-arm = fold-Arm (List Pos) (List Pos) (List Pos) typed_names_of arm_positions field_positions
+abbrev arm : SurfaceArm → List Pos
+arm = fold-SurfaceArm (List Pos) (List Pos) (List Pos) typed_names_of arm_positions field_positions
 
 levels : (e : Node) → typed_names e
-    ≡ typed_names_of (map-Node Node Arm FieldValue (List Pos) (List Pos) (List Pos) typed_names arm field (out-Node e))
+    ≡ typed_names_of
+    (map-Node Node SurfaceArm SurfaceField (List Pos) (List Pos) (List Pos) typed_names arm field (out-Node e))
 unfolding typed_names
 levels e = fold_out-Node (List Pos) (List Pos) (List Pos) typed_names_of arm_positions field_positions e
 
-field_is : (f : FieldValue) → field f ≡ value_positions f
+field_is : (f : SurfaceField) → field f ≡ value_positions f
 unfolding typed_names
 field_is f =
-    rw (fold_out-FieldValue (List Pos) (List Pos) (List Pos) typed_names_of arm_positions field_positions f)
+    rw (fold_out-SurfaceField (List Pos) (List Pos) (List Pos) typed_names_of arm_positions field_positions f)
     refl
 
-arm_is : (a : Arm) → arm a ≡ body_positions a
+arm_is : (a : SurfaceArm) → arm a ≡ body_positions a
 unfolding typed_names
-arm_is a = rw (fold_out-Arm (List Pos) (List Pos) (List Pos) typed_names_of arm_positions field_positions a)
+arm_is a = rw (fold_out-SurfaceArm (List Pos) (List Pos) (List Pos) typed_names_of arm_positions field_positions a)
     refl
 
-pub positions_Literal : (l : tree.Literal) (p : Pos) → typed_names (leaf.Literal l p) ≡ []
+pub positions_Literal : (l : tree.SurfaceLiteral) (p : Pos) → typed_names (leaf.Literal l p) ≡ []
 positions_Literal l p = rw (levels (leaf.Literal l p), node.outs-Literal l p) refl
 
 pub positions_Name : (w : Name) → typed_names (leaf.Name w) ≡ []
@@ -88,12 +90,12 @@ positions_Test e p c = rw (levels (node.Test e p c), node.outs-Test e p c) refl
 pub positions_List : (p : Pos) (es : List Node) → typed_names (node.List p es) ≡ all_positions (map typed_names es)
 positions_List p es = rw (levels (node.List p es), node.outs-List p es) refl
 
-pub positions_Structure : (u : Name) (fs : List FieldValue) → typed_names (node.Structure u fs) ≡ all_positions
+pub positions_Structure : (u : Name) (fs : List SurfaceField) → typed_names (node.Structure u fs) ≡ all_positions
     (map value_positions fs)
 positions_Structure u fs =
     rw (levels (node.Structure u fs), node.outs-Structure u fs, map_same field value_positions field_is fs) refl
 
-pub positions_ScopeCall : (p : Pos) (u : Name) (fs : List FieldValue) (w : Name) → typed_names
+pub positions_ScopeCall : (p : Pos) (u : Name) (fs : List SurfaceField) (w : Name) → typed_names
     (node.ScopeCall p u fs w) ≡ w.pos
     ∷ all_positions (map value_positions fs)
 positions_ScopeCall p u fs w =
@@ -103,7 +105,7 @@ pub positions_If : (p : Pos) (c a b : Node) → typed_names (node.If p c a b) �
     ++ typed_names b
 positions_If p c a b = rw (levels (node.If p c a b), node.outs-If p c a b) refl
 
-pub positions_Match : (p : Pos) (e : Node) (arms : List Arm) → typed_names (node.Match p e arms) ≡ typed_names e
+pub positions_Match : (p : Pos) (e : Node) (arms : List SurfaceArm) → typed_names (node.Match p e arms) ≡ typed_names e
     ++ all_positions (map body_positions arms)
 positions_Match p e arms =
     rw (levels (node.Match p e arms), node.outs-Match p e arms, map_same arm body_positions arm_is arms)
@@ -118,25 +120,3 @@ pub positions_Combine : (p : Pos) (w : Name) (l : Node) (acc : Name) (s e : Node
     ≡ typed_names l ++ typed_names s ++ typed_names e
 positions_Combine p w l acc s e =
     rw (levels (node.Combine (accumulation p w acc) l s e), node.outs-Combine (accumulation p w acc) l s e) refl
-
--- each form's equation
-pub ruleset positions = (
-  positions_Literal,
-  positions_Name,
-  positions_Case,
-  positions_Parens,
-  positions_Field,
-  positions_Prefixed,
-  positions_Sum,
-  positions_Content,
-  positions_Call,
-  positions_Binary,
-  positions_Test,
-  positions_List,
-  positions_Structure,
-  positions_ScopeCall,
-  positions_If,
-  positions_Match,
-  positions_Each,
-  positions_Combine,
-)

@@ -8,13 +8,13 @@ use Rattle.cat_tree.specs.Accumulation.{accumulation}
 use Rattle.cat_tree.specs.declared.name.Name.{Name}
 use Rattle.cat_tree.specs.declared.name.CaseName.{CaseName}
 use Rattle.cat_tree.specs.declared.name.Type as types
-use Rattle.cat_tree.specs.declared.expression.Literal as tree
+use Rattle.cat_tree.specs.declared.expression.SurfaceLiteral as tree
 use Rattle.cat_tree.specs.declared.expression.Prefix.{Prefix}
 use Rattle.cat_tree.specs.declared.expression.Operator.{Operator}
 use Rattle.cat_tree.specs.declared.expression.Each as eaches
 use Rattle.cat_tree.specs.declared.expression.Node.{Node}
-use Rattle.cat_tree.specs.declared.expression.FieldValue.{FieldValue}
-use Rattle.cat_tree.specs.declared.expression.Arm.{Arm}
+use Rattle.cat_tree.specs.declared.expression.SurfaceField.{SurfaceField}
+use Rattle.cat_tree.specs.declared.expression.SurfaceArm.{SurfaceArm}
 use Rattle.cat_tree.specs.declared.expression.Node.TheVariants as leaf
 use Rattle.cat_tree.specs.declared.expression.Node.TheViews as node
 use Rattle.cat_tree.specs.declared.expression.Node.TheViews.{out-Node}
@@ -54,7 +54,7 @@ module _ (ds : Decls) (sound : AreSound ds) (scope : ℕ) where
   abbrev Operand : List Local → Typed → Type 0
   Operand ls = IsTyped ns ls None
 
-  on_literal : (l : tree.Literal) (p : Pos) → Sound (leaf.Literal l p)
+  on_literal : (l : tree.SurfaceLiteral) (p : Pos) → Sound (leaf.Literal l p)
   on_literal l p ls ex all h = rw (equation.meant_Literal ns l p ls ex)
       (on_as_expected ds sound scope ls ex _ (literal_has ds sound scope ls ex p (literal_written l)))
 
@@ -114,13 +114,13 @@ module _ (ds : Decls) (sound : AreSound ds) (scope : ℕ) where
   on_list p es each ls ex all h =
       rw (equation.meant_List ns p es ls ex) (list_has ds sound scope ls (meant ns) p es each ex all h)
 
-  on_structure : (u : Name) (fs : List FieldValue) → Each (λ f. Sound f.value) fs → Sound (node.Structure u fs)
+  on_structure : (u : Name) (fs : List SurfaceField) → Each (λ f. Sound f.value) fs → Sound (node.Structure u fs)
   on_structure u fs each ls ex all h =
       rw (equation.meant_Structure ns u fs ls ex) (on_as_expected ds sound scope ls ex _
       (on_then (λ n. Unit {0}) (Has ls ex) (structure_found ns u) _ (on_any (structure_found ns u))
       (λ n i. structure_has ds sound scope ls ex (field_meant ns) u fs each all n)))
 
-  on_scope_call : (p : Pos) (u : Name) (fs : List FieldValue) (w : Name) → Each (λ f. Sound f.value) fs
+  on_scope_call : (p : Pos) (u : Name) (fs : List SurfaceField) (w : Name) → Each (λ f. Sound f.value) fs
       → Sound (node.ScopeCall p u fs w)
   on_scope_call p u fs w each ls ex all h =
       rw (equation.meant_ScopeCall ns p u fs w ls ex) (on_as_expected ds sound scope ls ex _
@@ -134,7 +134,7 @@ module _ (ds : Decls) (sound : AreSound ds) (scope : ℕ) where
       (hc ls None all tt) (branches_have ds sound scope ls (meant ns a) (meant ns b) ha hb ex all h)
       (λ x xs hx hxs. if_has ds sound scope ls p ex x xs hx hxs))
 
-  on_match : (p : Pos) (e : Node) (arms : List Arm) → Sound e → Each (λ a. Sound a.body) arms
+  on_match : (p : Pos) (e : Node) (arms : List SurfaceArm) → Sound e → Each (λ a. Sound a.body) arms
       → Sound (node.Match p e arms)
   on_match p e arms he each ls ex all h = rw (equation.meant_Match ns p e arms ls ex)
       (on_then (Operand ls) (IsTyped ns ls ex) (meant ns e ls None) _ (he ls None all tt)

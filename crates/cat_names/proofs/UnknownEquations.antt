@@ -6,56 +6,60 @@ use Rattle.cat_tree.specs.Accumulation.{accumulation}
 use Rattle.cat_tree.specs.declared.name.Name.{Name}
 use Rattle.cat_tree.specs.declared.name.CaseName.{CaseName}
 use Rattle.cat_tree.specs.declared.name.Type as types
-use Rattle.cat_tree.specs.declared.expression.Literal as tree
+use Rattle.cat_tree.specs.declared.expression.SurfaceLiteral as tree
 use Rattle.cat_tree.specs.declared.expression.Prefix.{Prefix}
 use Rattle.cat_tree.specs.declared.expression.Operator.{Operator}
 use Rattle.cat_tree.specs.declared.expression.Each.{Each}
 use Rattle.cat_tree.specs.declared.expression.Pattern.{Pattern}
 use Rattle.cat_tree.specs.declared.expression.Node.{Node}
-use Rattle.cat_tree.specs.declared.expression.FieldValue.{FieldValue}
-use Rattle.cat_tree.specs.declared.expression.Arm.{Arm}
+use Rattle.cat_tree.specs.declared.expression.SurfaceField.{SurfaceField}
+use Rattle.cat_tree.specs.declared.expression.SurfaceArm.{SurfaceArm}
 use Rattle.cat_tree.specs.declared.expression.Node.TheVariants as leaf
 use Rattle.cat_tree.specs.declared.expression.Node.TheViews as node
 use Rattle.cat_tree.specs.declared.expression.Node.TheViews.{out-Node}
-use Rattle.cat_tree.specs.declared.expression.Node.TheFolds.{fold_out-Node, fold_out-Arm, fold_out-FieldValue, map-Node}
-use Rattle.cat_tree.specs.declared.expression.Node.TheFolds.{fold-FieldValue, fold-Arm}
+use Rattle.cat_tree.specs.declared.expression.Node.TheFolds.{fold_out-Node, fold_out-SurfaceArm}
+use Rattle.cat_tree.specs.declared.expression.Node.TheFolds.{fold_out-SurfaceField, map-Node}
+use Rattle.cat_tree.specs.declared.expression.Node.TheFolds.{fold-SurfaceField, fold-SurfaceArm}
 use Rattle.cat_names.specs.Unknown.{Known, Unknown, is_name, unless, in_reach, of_type, in_type, in_case, in_fields}
 use Rattle.cat_names.specs.Unknown.{in_arms, unknown_of, arm_unknown, field_unknown, unknown_in}
 
-abbrev pub field_row : Known → FieldValue → Name × Unknown
+abbrev pub field_row : Known → SurfaceField → Name × Unknown
 field_row known f = (f.name, unknown_in known f.value)
 
-abbrev pub arm_row : Known → Arm → Pattern × Unknown
+abbrev pub arm_row : Known → SurfaceArm → Pattern × Unknown
 arm_row known a = (a.pattern, unknown_in known a.body)
 
-abbrev field : Known → FieldValue → Name × Unknown
-field known = fold-FieldValue Unknown (Pattern × Unknown) (Name × Unknown) (unknown_of known) arm_unknown field_unknown
+abbrev field : Known → SurfaceField → Name × Unknown
+field known = fold-SurfaceField Unknown (Pattern × Unknown) (Name × Unknown)
+    (unknown_of known) arm_unknown field_unknown
 
-abbrev arm : Known → Arm → Pattern × Unknown
-arm known = fold-Arm Unknown (Pattern × Unknown) (Name × Unknown) (unknown_of known) arm_unknown field_unknown
+abbrev arm : Known → SurfaceArm → Pattern × Unknown
+arm known = fold-SurfaceArm Unknown (Pattern × Unknown) (Name × Unknown) (unknown_of known) arm_unknown field_unknown
 
 levels : (known : Known) (e : Node) → unknown_in known e
-    ≡ unknown_of known (map-Node Node Arm FieldValue Unknown (Pattern × Unknown) (Name × Unknown) (unknown_in known)
+    ≡ unknown_of known
+    (map-Node Node SurfaceArm SurfaceField Unknown (Pattern × Unknown) (Name × Unknown) (unknown_in known)
     (arm known) (field known) (out-Node e))
 unfolding unknown_in
 levels known e = fold_out-Node Unknown (Pattern × Unknown) (Name × Unknown) (unknown_of known) arm_unknown field_unknown
     e
 
-field_is : (known : Known) (f : FieldValue) → field known f ≡ field_row known f
+field_is : (known : Known) (f : SurfaceField) → field known f ≡ field_row known f
 unfolding unknown_in
-field_is known f = rw (fold_out-FieldValue Unknown (Pattern × Unknown) (Name × Unknown) (unknown_of known) arm_unknown
+field_is known f = rw (fold_out-SurfaceField Unknown (Pattern × Unknown) (Name × Unknown) (unknown_of known) arm_unknown
     field_unknown f) refl
 
-arm_is : (known : Known) (a : Arm) → arm known a ≡ arm_row known a
+arm_is : (known : Known) (a : SurfaceArm) → arm known a ≡ arm_row known a
 unfolding unknown_in
 arm_is known a =
-    rw (fold_out-Arm Unknown (Pattern × Unknown) (Name × Unknown) (unknown_of known) arm_unknown field_unknown a) refl
+    rw (fold_out-SurfaceArm Unknown (Pattern × Unknown) (Name × Unknown) (unknown_of known) arm_unknown field_unknown a)
+    refl
 
 pub map_same : {A B : Type 0} (f g : A → B) → ((a : A) → f a ≡ g a) → (xs : List A) → map f xs ≡ map g xs
 map_same f g are [] = refl
 map_same f g are (x ∷ xs) = ap (λ y. y ∷ map f xs) (are x) ∙ ap (λ ys. g x ∷ ys) (map_same f g are xs)
 
-pub unknown_Literal : (known : Known) (l : tree.Literal) (p : Pos) (bound : List (List ℕ))
+pub unknown_Literal : (known : Known) (l : tree.SurfaceLiteral) (p : Pos) (bound : List (List ℕ))
     → unknown_in known (leaf.Literal l p) bound ≡ []
 unknown_Literal known l p bound = rw (levels known (leaf.Literal l p), node.outs-Literal l p) refl
 
@@ -104,7 +108,7 @@ pub unknown_List : (known : Known) (p : Pos) (es : List Node) (bound : List (Lis
     → unknown_in known (node.List p es) bound ≡ flat_map (λ e. e bound) (map (unknown_in known) es)
 unknown_List known p es bound = rw (levels known (node.List p es), node.outs-List p es) refl
 
-pub unknown_Structure : (known : Known) (u : Name) (fs : List FieldValue) (bound : List (List ℕ))
+pub unknown_Structure : (known : Known) (u : Name) (fs : List SurfaceField) (bound : List (List ℕ))
     → unknown_in known (node.Structure u fs) bound ≡ of_type known u ++ in_fields (map (field_row known) fs) bound
 unknown_Structure known u fs bound = rw (
   levels known (node.Structure u fs),
@@ -112,7 +116,7 @@ unknown_Structure known u fs bound = rw (
   map_same (field known) (field_row known) (field_is known) fs,
 ) refl
 
-pub unknown_ScopeCall : (known : Known) (p : Pos) (u : Name) (fs : List FieldValue) (w : Name) (bound : List (List ℕ))
+pub unknown_ScopeCall : (known : Known) (p : Pos) (u : Name) (fs : List SurfaceField) (w : Name) (bound : List (List ℕ))
     → unknown_in known (node.ScopeCall p u fs w) bound ≡ unless (is_name u.text known.scopes) u
     ++ in_fields (map (field_row known) fs) bound
 unknown_ScopeCall known p u fs w bound = rw (
@@ -126,7 +130,7 @@ pub unknown_If : (known : Known) (p : Pos) (c a b : Node) (bound : List (List �
     ++ unknown_in known b bound
 unknown_If known p c a b bound = rw (levels known (node.If p c a b), node.outs-If p c a b) refl
 
-pub unknown_Match : (known : Known) (p : Pos) (e : Node) (arms : List Arm) (bound : List (List ℕ))
+pub unknown_Match : (known : Known) (p : Pos) (e : Node) (arms : List SurfaceArm) (bound : List (List ℕ))
     → unknown_in known (node.Match p e arms) bound ≡ unknown_in known e bound
     ++ in_arms known (map (arm_row known) arms) bound
 unknown_Match known p e arms bound = rw (

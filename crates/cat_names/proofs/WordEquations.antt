@@ -5,50 +5,53 @@ use Rattle.cat_tree.specs.Accumulation.{accumulation}
 use Rattle.cat_tree.specs.declared.name.Name.{Name}
 use Rattle.cat_tree.specs.declared.name.CaseName.{CaseName}
 use Rattle.cat_tree.specs.declared.name.Type as types
-use Rattle.cat_tree.specs.declared.expression.Literal as tree
+use Rattle.cat_tree.specs.declared.expression.SurfaceLiteral as tree
 use Rattle.cat_tree.specs.declared.expression.Prefix.{Prefix}
 use Rattle.cat_tree.specs.declared.expression.Operator.{Operator}
 use Rattle.cat_tree.specs.declared.expression.Each.{Each}
 use Rattle.cat_tree.specs.declared.expression.Node.{Node}
-use Rattle.cat_tree.specs.declared.expression.FieldValue.{FieldValue}
-use Rattle.cat_tree.specs.declared.expression.Arm.{Arm}
+use Rattle.cat_tree.specs.declared.expression.SurfaceField.{SurfaceField}
+use Rattle.cat_tree.specs.declared.expression.SurfaceArm.{SurfaceArm}
 use Rattle.cat_tree.specs.declared.expression.Node.TheVariants as leaf
 use Rattle.cat_tree.specs.declared.expression.Node.TheViews as node
 use Rattle.cat_tree.specs.declared.expression.Node.TheViews.{out-Node}
-use Rattle.cat_tree.specs.declared.expression.Node.TheFolds.{fold_out-Node, fold_out-Arm, fold_out-FieldValue, map-Node}
-use Rattle.cat_tree.specs.declared.expression.Node.TheFolds.{fold-FieldValue, fold-Arm}
+use Rattle.cat_tree.specs.declared.expression.Node.TheFolds.{fold_out-Node, fold_out-SurfaceArm}
+use Rattle.cat_tree.specs.declared.expression.Node.TheFolds.{fold_out-SurfaceField, map-Node}
+use Rattle.cat_tree.specs.declared.expression.Node.TheFolds.{fold-SurfaceField, fold-SurfaceArm}
 use Rattle.cat_names.specs.ScopeWords.{all_words, words_of, scope_words}
 use Rattle.cat_names.proofs.UnknownEquations.{map_same}
 
-abbrev pub value_words : FieldValue → List Name
+abbrev pub value_words : SurfaceField → List Name
 value_words f = scope_words f.value
 
-abbrev pub body_words : Arm → List Name
+abbrev pub body_words : SurfaceArm → List Name
 body_words a = scope_words a.body
 
-abbrev field : FieldValue → List Name
-field = fold-FieldValue (List Name) (List Name) (List Name) words_of (λ arm. arm.body) (λ field. field.value)
+abbrev field : SurfaceField → List Name
+field = fold-SurfaceField (List Name) (List Name) (List Name) words_of (λ arm. arm.body) (λ field. field.value)
 
-abbrev arm : Arm → List Name
-arm = fold-Arm (List Name) (List Name) (List Name) words_of (λ arm. arm.body) (λ field. field.value)
+abbrev arm : SurfaceArm → List Name
+arm = fold-SurfaceArm (List Name) (List Name) (List Name) words_of (λ arm. arm.body) (λ field. field.value)
 
 levels : (e : Node) → scope_words e
-    ≡ words_of (map-Node Node Arm FieldValue (List Name) (List Name) (List Name) scope_words arm field (out-Node e))
+    ≡ words_of
+    (map-Node Node SurfaceArm SurfaceField (List Name) (List Name) (List Name) scope_words arm field (out-Node e))
 unfolding scope_words
 levels e = fold_out-Node (List Name) (List Name) (List Name) words_of (λ arm. arm.body) (λ field. field.value) e
 
-field_is : (f : FieldValue) → field f ≡ value_words f
+field_is : (f : SurfaceField) → field f ≡ value_words f
 unfolding scope_words
 field_is f =
-    rw (fold_out-FieldValue (List Name) (List Name) (List Name) words_of (λ arm. arm.body) (λ field. field.value) f)
+    rw (fold_out-SurfaceField (List Name) (List Name) (List Name) words_of (λ arm. arm.body) (λ field. field.value) f)
     refl
 
-arm_is : (a : Arm) → arm a ≡ body_words a
+arm_is : (a : SurfaceArm) → arm a ≡ body_words a
 unfolding scope_words
-arm_is a = rw (fold_out-Arm (List Name) (List Name) (List Name) words_of (λ arm. arm.body) (λ field. field.value) a)
+arm_is a = rw
+    (fold_out-SurfaceArm (List Name) (List Name) (List Name) words_of (λ arm. arm.body) (λ field. field.value) a)
     refl
 
-pub words_Literal : (l : tree.Literal) (p : Pos) → scope_words (leaf.Literal l p) ≡ []
+pub words_Literal : (l : tree.SurfaceLiteral) (p : Pos) → scope_words (leaf.Literal l p) ≡ []
 words_Literal l p = rw (levels (leaf.Literal l p), node.outs-Literal l p) refl
 
 pub words_Name : (w : Name) → scope_words (leaf.Name w) ≡ []
@@ -85,12 +88,13 @@ words_Test e p c = rw (levels (node.Test e p c), node.outs-Test e p c) refl
 pub words_List : (p : Pos) (es : List Node) → scope_words (node.List p es) ≡ all_words (map scope_words es)
 words_List p es = rw (levels (node.List p es), node.outs-List p es) refl
 
-pub words_Structure : (u : Name) (fs : List FieldValue) → scope_words (node.Structure u fs) ≡ all_words
+pub words_Structure : (u : Name) (fs : List SurfaceField) → scope_words (node.Structure u fs) ≡ all_words
     (map value_words fs)
 words_Structure u fs =
     rw (levels (node.Structure u fs), node.outs-Structure u fs, map_same field value_words field_is fs) refl
 
-pub words_ScopeCall : (p : Pos) (u : Name) (fs : List FieldValue) (w : Name) → scope_words (node.ScopeCall p u fs w) ≡ u
+pub words_ScopeCall : (p : Pos) (u : Name) (fs : List SurfaceField) (w : Name) → scope_words (node.ScopeCall p u fs w)
+    ≡ u
     ∷ all_words (map value_words fs)
 words_ScopeCall p u fs w =
     rw (levels (node.ScopeCall p u fs w), node.outs-ScopeCall p u fs w, map_same field value_words field_is fs) refl
@@ -99,7 +103,7 @@ pub words_If : (p : Pos) (c a b : Node) → scope_words (node.If p c a b) ≡ sc
     ++ scope_words b
 words_If p c a b = rw (levels (node.If p c a b), node.outs-If p c a b) refl
 
-pub words_Match : (p : Pos) (e : Node) (arms : List Arm) → scope_words (node.Match p e arms) ≡ scope_words e
+pub words_Match : (p : Pos) (e : Node) (arms : List SurfaceArm) → scope_words (node.Match p e arms) ≡ scope_words e
     ++ all_words (map body_words arms)
 words_Match p e arms = rw (levels (node.Match p e arms), node.outs-Match p e arms, map_same arm body_words arm_is arms)
     refl

@@ -6,7 +6,8 @@ use Rattle.cat_tree.specs.declared.program.Variable.{Variable}
 use Rattle.cat_tree.specs.declared.program.Variable.TheVariants as variable
 use Rattle.cat_tree.specs.declared.program.Item.{Item}
 use Rattle.cat_tree.specs.declared.program.Item.TheVariants as item
-use Rattle.cat_names.specs.Limits.{most_items, most_cases, most_parameters}
+use Rattle.cat_names.specs.Limits.{most_items, most_parameters}
+use Rattle.cat_value.specs.Declarations.{most_cases}
 use Rattle.cat_names.specs.declared.fault.Fault.{Fault}
 use Rattle.cat_names.specs.declared.fault.Fault.TheVariants.{TooMany}
 use Rattle.cat_names.specs.Written.{positions}

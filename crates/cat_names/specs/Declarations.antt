@@ -14,8 +14,8 @@ use Rattle.cat_tree.specs.declared.name.Name.{Name}
 use Rattle.cat_tree.specs.declared.name.Type as written
 use Rattle.cat_tree.specs.declared.program.FieldItem.{FieldItem}
 use Rattle.cat_tree.specs.declared.program.CaseItem.{CaseItem}
-use Rattle.cat_tree.specs.declared.program.Kind as kinds
-use Rattle.cat_tree.specs.declared.program.Kind.TheVariants as tree
+use Rattle.cat_tree.specs.declared.program.VariableKind as kinds
+use Rattle.cat_tree.specs.declared.program.VariableKind.TheVariants as tree
 use Rattle.cat_tree.specs.declared.program.Variable.{Variable}
 use Rattle.cat_tree.specs.declared.program.Variable.TheVariants as variable
 use Rattle.cat_tree.specs.declared.program.Item.{Item}
@@ -49,7 +49,7 @@ enumeration_declared names e =
     and_then (each_found (case_declared names) e.1) (λ cases. Ok (record { name = e.0.text; cases = cases }))
 
 -- where an item's value comes from
-abbrev pub kind_declared : kinds.Kind → Kind
+abbrev pub kind_declared : kinds.VariableKind → Kind
 kind_declared tree.Input = kind.Input
 kind_declared tree.InputOutput = kind.InputOutput
 kind_declared tree.Output = kind.Output
@@ -63,7 +63,7 @@ variable_type names None = Ok flat.Boolean
 variable_type names (Some t) = type_found names t
 
 -- a variable of that type, with parameters of these types
-abbrev pub variable_item : kinds.Kind → Name → Option written.Type → Ty → List Ty → ItemDecl
+abbrev pub variable_item : kinds.VariableKind → Name → Option written.Type → Ty → List Ty → ItemDecl
 variable_item k w t ty params = record {
   name = w.text;
   pos = w.pos;

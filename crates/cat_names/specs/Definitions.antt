@@ -7,7 +7,7 @@ use Rattle.cat_tree.specs.declared.name.Name.{Name}
 use Rattle.cat_tree.specs.declared.expression.Node.{Node}
 use Rattle.cat_tree.specs.declared.program.Exception.{Exception}
 use Rattle.cat_tree.specs.declared.program.Exception.TheVariants as exception
-use Rattle.cat_tree.specs.declared.program.Label as written
+use Rattle.cat_tree.specs.declared.program.SurfaceLabel as written
 use Rattle.cat_tree.specs.declared.program.Lead.{Lead}
 use Rattle.cat_tree.specs.declared.program.TargetName.{TargetName}
 use Rattle.cat_tree.specs.declared.program.Fulfilled.{Fulfilled}
@@ -68,7 +68,7 @@ whole_condition ns block c params types =
 -- ---- definitions, rules and assertions
 
 -- a label, where there is one
-abbrev pub label_of : Option written.Label → Option Label
+abbrev pub label_of : Option written.SurfaceLabel → Option Label
 label_of None = None
 label_of (Some l) = Some (record { text = l.name.text; pos = l.name.pos })
 

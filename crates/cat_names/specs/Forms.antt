@@ -14,7 +14,8 @@ use Rattle.cat_tree.specs.declared.expression.Each.TheVariants as each
 use Rattle.cat_scope.specs.declared.expr.Expr.{Expr}
 use Rattle.cat_scope.specs.declared.expr.Expr.TheVariants as leaf
 use Rattle.cat_scope.specs.declared.expr.Expr.TheViews as expr
-use Rattle.cat_scope.specs.Names.{Names, outputs_in, scope_items}
+use Rattle.cat_scope.specs.Names.{Names, scope_items}
+use Rattle.cat_value.specs.Inputs.{outputs_in}
 use Rattle.cat_scope.specs.Fitting.{is_low_type, given_type}
 use Rattle.cat_names.specs.declared.fault.Fault.TheVariants.{NameUnknown, TypeMismatch, TooMany}
 use Rattle.cat_names.specs.declared.typed.Typed.{Typed}

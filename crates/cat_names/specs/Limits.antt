@@ -9,10 +9,6 @@ most_items = 4096
 abbrev pub most_definitions : ℕ
 most_definitions = 65536
 
--- the cases of an enumeration
-abbrev pub most_cases : ℕ
-most_cases = 128
-
 -- the parameters of a function
 abbrev pub most_parameters : ℕ
 most_parameters = 8

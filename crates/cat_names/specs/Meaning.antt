@@ -5,9 +5,9 @@ use Rattle.cat_value.specs.Entries.{content_of}
 use Rattle.cat_tree.specs.declared.name.Name.{Name}
 use Rattle.cat_tree.specs.declared.expression.Pattern.{Pattern}
 use Rattle.cat_tree.specs.declared.expression.Node.{Node}
-use Rattle.cat_tree.specs.declared.expression.Arm.{Arm}
-use Rattle.cat_tree.specs.declared.expression.FieldValue.{FieldValue}
-use Rattle.cat_tree.specs.declared.expression.Node.TheOpen.{Node-F, Arm-F, FieldValue-F}
+use Rattle.cat_tree.specs.declared.expression.SurfaceArm.{SurfaceArm}
+use Rattle.cat_tree.specs.declared.expression.SurfaceField.{SurfaceField}
+use Rattle.cat_tree.specs.declared.expression.Node.TheOpen.{Node-F, SurfaceArm-F, SurfaceField-F}
 use Rattle.cat_tree.specs.declared.expression.Node.TheFolds.{fold-Node}
 use Rattle.cat_scope.specs.Names.{Names}
 use Rattle.cat_names.specs.declared.typed.Typed.{Typed}
@@ -83,11 +83,11 @@ abbrev pub named_meaning_of : Names → Node-F NamedMeaning ArmMeaning FieldMean
 named_meaning_of ns e = record { name = name_alone e; means = meaning_of ns e }
 
 -- an arm, with what its body means
-abbrev pub arm_meaning : Arm-F NamedMeaning ArmMeaning FieldMeaning → ArmMeaning
+abbrev pub arm_meaning : SurfaceArm-F NamedMeaning ArmMeaning FieldMeaning → ArmMeaning
 arm_meaning a = (a.pattern, a.body)
 
 -- a field, with what its value means
-abbrev pub field_meaning : FieldValue-F NamedMeaning ArmMeaning FieldMeaning → FieldMeaning
+abbrev pub field_meaning : SurfaceField-F NamedMeaning ArmMeaning FieldMeaning → FieldMeaning
 field_meaning f = (f.name, f.value)
 
 -- an expression as a part
@@ -101,9 +101,9 @@ unfoldable pub meant : Names → Node → Meaning
 meant ns e = (named_meaning ns e).means
 
 -- a field with what its value means
-abbrev pub field_meant : Names → FieldValue → Name × Meaning
+abbrev pub field_meant : Names → SurfaceField → Name × Meaning
 field_meant ns f = (f.name, meant ns f.value)
 
 -- an arm with what its body means
-abbrev pub arm_meant : Names → Arm → Pattern × Meaning
+abbrev pub arm_meant : Names → SurfaceArm → Pattern × Meaning
 arm_meant ns a = (a.pattern, meant ns a.body)

@@ -7,8 +7,8 @@ use Rattle.cat_value.specs.declared.ty.Ty.TheVariants as flat_ty
 use Rattle.cat_value.specs.declared.ty.Ty.TheViews as ty
 use Rattle.cat_tree.specs.declared.expression.Unit.{Unit as TimeUnit}
 use Rattle.cat_tree.specs.declared.expression.Unit.TheVariants as unit
-use Rattle.cat_tree.specs.declared.expression.Literal as tree
-use Rattle.cat_tree.specs.declared.expression.Literal.TheVariants as written
+use Rattle.cat_tree.specs.declared.expression.SurfaceLiteral as tree
+use Rattle.cat_tree.specs.declared.expression.SurfaceLiteral.TheVariants as written
 use Rattle.cat_tree.specs.declared.expression.Operator.{Operator}
 use Rattle.cat_tree.specs.declared.expression.Operator.TheVariants as operator
 use Rattle.cat_tree.specs.declared.expression.Prefix.{Prefix}
@@ -42,7 +42,7 @@ span_written n unit.Month = record { months = n; days = pos 0 }
 span_written n unit.Day = record { months = pos 0; days = n }
 
 -- the literal that is written; a percentage is a decimal
-abbrev pub literal_written : tree.Literal → Literal
+abbrev pub literal_written : tree.SurfaceLiteral → Literal
 literal_written (written.Int n) = literal.Integer n
 literal_written (written.Dec d) = literal.Decimal d
 literal_written (written.Pct d) = literal.Decimal d

@@ -7,7 +7,7 @@ use Rattle.cat_tree.specs.declared.name.CaseName.TheVariants as case
 use Rattle.cat_tree.specs.declared.expression.Pattern.{Pattern}
 use Rattle.cat_tree.specs.declared.expression.Pattern.TheVariants as pattern
 use Rattle.cat_tree.specs.declared.expression.Node.{Node}
-use Rattle.cat_tree.specs.declared.expression.Node.TheOpen.{Node-F, Arm-F, FieldValue-F}
+use Rattle.cat_tree.specs.declared.expression.Node.TheOpen.{Node-F, SurfaceArm-F, SurfaceField-F}
 use Rattle.cat_tree.specs.declared.expression.Node.TheFolds.{fold-Node}
 use Rattle.cat_tree.specs.declared.program.TargetName.{TargetName}
 use Rattle.cat_tree.specs.declared.program.Use.{Use}
@@ -63,11 +63,11 @@ typed_names_of (Node-F.Each k p w l e) = l ++ e
 typed_names_of (Node-F.Combine c l s e) = l ++ s ++ e
 
 -- an arm: the case of its pattern, and its body
-abbrev pub arm_positions : Arm-F (List Pos) (List Pos) (List Pos) → List Pos
+abbrev pub arm_positions : SurfaceArm-F (List Pos) (List Pos) (List Pos) → List Pos
 arm_positions a = pattern_positions a.pattern ++ a.body
 
 -- a field of a literal or of a scope call: its name, and its value
-abbrev pub field_positions : FieldValue-F (List Pos) (List Pos) (List Pos) → List Pos
+abbrev pub field_positions : SurfaceField-F (List Pos) (List Pos) (List Pos) → List Pos
 field_positions f = f.name.pos ∷ f.value
 
 -- the positions of the names in an expression that need a type

@@ -9,7 +9,7 @@ use Rattle.cat_tree.specs.declared.name.Type as written
 use Rattle.cat_tree.specs.declared.expression.Pattern.{Pattern}
 use Rattle.cat_tree.specs.declared.expression.Pattern.TheVariants as pattern
 use Rattle.cat_tree.specs.declared.expression.Node.{Node}
-use Rattle.cat_tree.specs.declared.expression.Node.TheOpen.{Node-F, Arm-F, FieldValue-F}
+use Rattle.cat_tree.specs.declared.expression.Node.TheOpen.{Node-F, SurfaceArm-F, SurfaceField-F}
 use Rattle.cat_tree.specs.declared.expression.Node.TheFolds.{fold-Node}
 use Rattle.cat_names.specs.declared.fault.Fault.{Fault}
 use Rattle.cat_names.specs.declared.fault.Fault.TheVariants.{NameTwice, NameUnknown}
@@ -103,11 +103,11 @@ unknown_of known (Node-F.Each k p w l e) bound = l bound ++ e (bound ++ w.text �
 unknown_of known (Node-F.Combine c l s e) bound = l bound ++ s bound ++ e (bound ++ c.element.text ∷ c.sum.text ∷ [])
 
 -- an arm, with the faults of its body
-abbrev pub arm_unknown : Arm-F Unknown (Pattern × Unknown) (Name × Unknown) → Pattern × Unknown
+abbrev pub arm_unknown : SurfaceArm-F Unknown (Pattern × Unknown) (Name × Unknown) → Pattern × Unknown
 arm_unknown a = (a.pattern, a.body)
 
 -- a field, with the faults of its value
-abbrev pub field_unknown : FieldValue-F Unknown (Pattern × Unknown) (Name × Unknown) → Name × Unknown
+abbrev pub field_unknown : SurfaceField-F Unknown (Pattern × Unknown) (Name × Unknown) → Name × Unknown
 field_unknown f = (f.name, f.value)
 
 -- the names of an expression that name nothing, and the fields in it that are given twice, under these bound names

@@ -31,9 +31,6 @@ pub number_after-append : (n : ℕ) (xs ys : List ℕ) → number_after n (xs ++
 number_after-append n [] ys = refl
 number_after-append n (x ∷ xs) ys = number_after-append (10 * n + (x - 48)) xs ys
 
-one_digit : (n k : ℕ) → 10 * n + ((48 + k) - 48) ≡ 10 * n + k
-one_digit n k = omega arith
-
 pub number_after-decimal : (n : ℕ) → n < 2 ^ 64 → number_after 0 (decimal n) ≡ n
 number_after-decimal n h = decimal_by_steps (λ n ds. number_after 0 ds ≡ n)
     (λ n p. omega arith)

@@ -64,15 +64,15 @@ read_unsigned-quotient s n d h k =
     ∙ ap (λ m. ratio (signed s m) (number_after 0 (decimal d))) (number_after-decimal n h)
     ∙ ap (ratio (signed s n)) (number_after-decimal d k)
 
-signed_decimal_is : (z : ℤ) → signed_decimal z ≡ sign z ++ decimal (unsigned_abs z)
+pub signed_decimal_is : (z : ℤ) → signed_decimal z ≡ sign z ++ decimal (unsigned_abs z)
 signed_decimal_is (pos n) = refl
 signed_decimal_is (negsuc n) = refl
 
-exact_quotient : (t d : ℕ) → t % d ≡ 0 → t ≡ d * (t / d)
+pub exact_quotient : (t d : ℕ) → t % d ≡ 0 → t ≡ d * (t / d)
 exact_quotient t d e = let f = div-add-mod' t d in omega arith
 
 -- in units of 10 ^ -p, n / d is n * (10 ^ p / d)
-units_are : (n d p : ℕ) → 0 < d → 10 ^ p % d ≡ 0 → (n / d) * 10 ^ p + n % d * 10 ^ p / d ≡ n * (10 ^ p / d)
+pub units_are : (n d p : ℕ) → 0 < d → 10 ^ p % d ≡ 0 → (n / d) * 10 ^ p + n % d * 10 ^ p / d ≡ n * (10 ^ p / d)
 units_are n d p h e =
     let whole : 10 ^ p ≡ d * (10 ^ p / d) = exact_quotient (10 ^ p) d e in
     by (n / d) (n % d) (10 ^ p / d) (10 ^ p) n whole (div-add-mod' n d)
@@ -108,7 +108,7 @@ read_fraction-with_places p n d h k b e =
     no_sign zero v l = tt
     no_sign (suc p) v l = (λ e. omega arith, Without-filled 45 (suc p) v (omega arith) l)
 
-ratio_is : (f : Fraction) (n : ℤ) (d : ℕ) → 0 < d → IsReduced f.num f.den → f.num *ℤ pos d ≡ n *ℤ pos f.den
+pub ratio_is : (f : Fraction) (n : ℤ) (d : ℕ) → 0 < d → IsReduced f.num f.den → f.num *ℤ pos d ≡ n *ℤ pos f.den
     → ratio n d ≡ Ok f
 unfolding ratio
 ratio_is f n d h r e =
@@ -118,7 +118,7 @@ ratio_is f n d h r e =
     grind (arith, nat_tests)
 
 -- in lowest terms f, |f| * 10 ^ p units of 10 ^ -p are f again
-units_equal : (n : ℤ) (d t : ℕ) → t ≡ d * (t / d) → n *ℤ pos t ≡ signed (is_negative n) (unsigned_abs n * (t / d)) *ℤ
+pub units_equal : (n : ℤ) (d t : ℕ) → t ≡ d * (t / d) → n *ℤ pos t ≡ signed (is_negative n) (unsigned_abs n * (t / d)) *ℤ
     pos d
 units_equal n d t e =
     ap (λ x. n *ℤ pos x) e ∙ ap (λ m. m *ℤ pos (d * (t / d))) (sym (signed_parts n))

@@ -4,5 +4,6 @@ pub mod Theorems
 pub mod Trails
 pub mod Stages
 pub mod Endings
+pub mod Apart
 mod Examples
 pub mod Exported

@@ -6,7 +6,8 @@ ghost use Rattle.cat_order.specs.inside.Steps.{AddsDependent, AreDependents};
 use cat_pos::{ENTRIES_BOUND, List, Numbers};
 use std::alloc::{AllocError, Global};
 
-fn empty_lists(alloc: Global, count: usize) -> Result<Vec<Numbers>, AllocError>
+/// So many empty lists.
+pub fn empty_lists(alloc: Global, count: usize) -> Result<Vec<Numbers>, AllocError>
     ensures { IfOk result (λ lists. lists.items ≡ replicate count []) }
 {
     let mut lists = Vec::with_capacity(alloc, count)?;

@@ -10,7 +10,7 @@ use Rattle.cat_lex.specs.declared.words.DoubleKeyword.TheVariants as pair
 use Rattle.cat_lex.specs.declared.symbol.Symbol.TheVariants as symbol
 use Rattle.cat_tree.specs.declared.name.Name.{Name}
 use Rattle.cat_tree.specs.declared.expression.Node.{Node}
-use Rattle.cat_tree.specs.declared.program.Label.{Label}
+use Rattle.cat_tree.specs.declared.program.SurfaceLabel.{SurfaceLabel}
 use Rattle.cat_tree.specs.declared.program.Exception.{Exception}
 use Rattle.cat_tree.specs.declared.program.Exception.TheVariants as exception
 use Rattle.cat_tree.specs.declared.program.Lead.{Lead}
@@ -104,7 +104,8 @@ lead_head : (test : TokenKind → Bool) (b : Bool) → test (kind.Word key.Label
     → (l : Lead) (x : Tail) (w v : List Token) → AreSpelled (lead_parts l ▸ tail_row x) w → heads test (w ++ v) ≡ b
 lead_head test b el ee ed er l x w v s = by l.label l.exception x s
   where
-    by : (o : Option Label) (e : Exception) (x : Tail) → AreSpelled ((label_parts o ▸ exception_parts e) ▸ tail_row x) w
+    by : (o : Option SurfaceLabel) (e : Exception) (x : Tail)
+        → AreSpelled ((label_parts o ▸ exception_parts e) ▸ tail_row x) w
         → heads test (w ++ v) ≡ b
     by (Some l) e x s = ap (λ (u : List Token). heads test (u ++ v)) s.2 ∙ ap (λ (t : Token). test t.kind) s.3 ∙ el
     by None (exception.OnlyRoot p) x s =

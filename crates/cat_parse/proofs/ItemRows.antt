@@ -11,8 +11,8 @@ use Rattle.cat_tree.specs.declared.name.Name.{Name}
 use Rattle.cat_tree.specs.declared.expression.Node.{Node}
 use Rattle.cat_tree.specs.declared.program.FieldItem.{FieldItem}
 use Rattle.cat_tree.specs.declared.program.CaseItem.{CaseItem}
-use Rattle.cat_tree.specs.declared.program.Kind.TheVariants.{Input, InputOutput, Output, Internal, Context}
-use Rattle.cat_tree.specs.declared.program.Kind.TheVariants.{ContextOutput}
+use Rattle.cat_tree.specs.declared.program.VariableKind.TheVariants.{Input, InputOutput, Output, Internal, Context}
+use Rattle.cat_tree.specs.declared.program.VariableKind.TheVariants.{ContextOutput}
 use Rattle.cat_tree.specs.declared.program.Variable.{Variable}
 use Rattle.cat_tree.specs.declared.program.Variable.TheVariants as variable
 use Rattle.cat_tree.specs.declared.program.Block.{Block}

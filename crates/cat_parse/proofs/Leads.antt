@@ -7,7 +7,7 @@ use Rattle.cat_lex.specs.declared.token.TokenKind.{TokenKind}
 use Rattle.cat_lex.specs.declared.token.TokenKind.TheVariants as kind
 use Rattle.cat_lex.specs.declared.words.Keyword.TheVariants as key
 use Rattle.cat_tree.specs.declared.name.Name.{Name}
-use Rattle.cat_tree.specs.declared.program.Label.{Label}
+use Rattle.cat_tree.specs.declared.program.SurfaceLabel.{SurfaceLabel}
 use Rattle.cat_tree.specs.declared.program.Exception.{Exception}
 use Rattle.cat_tree.specs.declared.program.Exception.TheVariants as exception
 use Rattle.cat_tree.specs.Phrase.{Parts, End, Word, At, AreSpelled}
@@ -177,7 +177,7 @@ lead_right limit bound out off off2 off3 =
       to = λ e f. (tt, refl);
       from = λ y f. tt;
       back = λ e. refl;
-      only = λ y f. ap (λ (o : Option Label). record { label = o; exception = y.exception }) f.1;
+      only = λ y f. ap (λ (o : Option SurfaceLabel). record { label = o; exception = y.exception }) f.1;
     })
     (exception_right limit bound out off off2))
   where

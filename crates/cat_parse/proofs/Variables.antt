@@ -11,9 +11,9 @@ use Rattle.cat_lex.specs.declared.words.DoubleKeyword.TheVariants as pair
 use Rattle.cat_tree.specs.declared.name.Name.{Name}
 use Rattle.cat_tree.specs.declared.name.Type as types
 use Rattle.cat_tree.specs.declared.program.FieldItem.{FieldItem}
-use Rattle.cat_tree.specs.declared.program.Kind.{Kind}
-use Rattle.cat_tree.specs.declared.program.Kind.TheVariants.{Input, InputOutput, Output, Internal, Context}
-use Rattle.cat_tree.specs.declared.program.Kind.TheVariants.{ContextOutput}
+use Rattle.cat_tree.specs.declared.program.VariableKind.{VariableKind}
+use Rattle.cat_tree.specs.declared.program.VariableKind.TheVariants.{Input, InputOutput, Output, Internal, Context}
+use Rattle.cat_tree.specs.declared.program.VariableKind.TheVariants.{ContextOutput}
 use Rattle.cat_tree.specs.declared.program.Variable.{Variable}
 use Rattle.cat_tree.specs.declared.program.Variable.TheVariants as variable
 use Rattle.cat_tree.specs.Phrase.{Parts, End, Word, At, Anywhere, AreSpelled}
@@ -84,23 +84,28 @@ variable_type_right limit bound =
 
 -- ---- kinds
 
-abbrev kind_row : Kind × Pos → Parts
+abbrev kind_row : VariableKind × Pos → Parts
 kind_row k = kind_parts k.0 k.1
 
-abbrev IsKind : Kind → Kind × Pos → Type 0
+abbrev IsKind : VariableKind → VariableKind × Pos → Type 0
 IsKind k x = x.0 ≡ k
 
-one_kind : (limit bound : ℕ) (out : TokenKind → Bool) (c : Keyword) (k : Kind)
+one_kind : (limit bound : ℕ) (out : TokenKind → Bool) (c : Keyword) (k : VariableKind)
     → ((p : Pos) → Word (At (kind.Word c) p) End ≡ kind_parts k p)
     → IsRight limit bound out (IsKind k) kind_row (kind_of_one c k)
 one_kind limit bound out c k rows =
     reshaped limit bound out (IsKind k) (IsKind k) (λ x. Word (At (kind.Word c) x.1) End) kind_row (kind_of_one c k)
-    (record { to = λ x f. f; from = λ x f. f; rows = λ x f. rows x.1 ∙ ap (λ (z : Kind). kind_parts z x.1) (sym f) })
+    (record {
+      to = λ x f. f;
+      from = λ x f. f;
+      rows = λ x f. rows x.1
+          ∙ ap (λ (z : VariableKind). kind_parts z x.1) (sym f);
+    })
     (word_at_right limit bound out (cue.Word c) (IsKind k) (λ x. x.1) (λ x. End) (λ p. pure (k, p))
     (λ p. pure_right limit bound out (λ x. IsKind k x × (x.1 ≡ p)) (k, p) (refl, refl)
-    (λ x f. ap (λ (z : Kind). (z, x.1)) f.0 ∙ ap (λ (q : Pos). (k, q)) f.1)))
+    (λ x f. ap (λ (z : VariableKind). (z, x.1)) f.0 ∙ ap (λ (q : Pos). (k, q)) f.1)))
 
-abbrev second_word : Kind → Parts
+abbrev second_word : VariableKind → Parts
 second_word InputOutput = Word (Anywhere (kind.Word key.Output)) End
 second_word ContextOutput = Word (Anywhere (kind.Word key.Output)) End
 second_word k = End
@@ -109,14 +114,15 @@ output_off : (k : TokenKind) → is_lower k ≡ true → is_word key.Output k �
 output_off (kind.Lower w) e = refl
 output_off k e = absurd cc
 
-abbrev one_of : Kind → Kind → Kind × Pos → Type 0
+abbrev one_of : VariableKind → VariableKind → VariableKind × Pos → Type 0
 one_of a b x = (x.0 ≡ a) ⊎ (x.0 ≡ b)
 
 heads_outside : (v : List Token) → Outside is_lower v → heads (is_word key.Output) v ≡ false
 heads_outside [] o = refl
 heads_outside (p ∷ v) o = output_off p.kind o
 
-two_kinds : (limit bound : ℕ) (c : Keyword) (a b : Kind) → ((p : Pos) → Word (At (kind.Word c) p) End ≡ kind_parts a p)
+two_kinds : (limit bound : ℕ) (c : Keyword) (a b : VariableKind)
+    → ((p : Pos) → Word (At (kind.Word c) p) End ≡ kind_parts a p)
     → ((p : Pos) → Word (At (kind.Word c) p) (Word (Anywhere (kind.Word key.Output)) End) ≡ kind_parts b p)
     → second_word a ≡ End → second_word b ≡ Word (Anywhere (kind.Word key.Output)) End
     → IsRight limit bound is_lower (one_of a b) kind_row (kind_or c a b)
@@ -144,7 +150,8 @@ two_kinds limit bound c a b rows_a rows_b sa sb =
     (λ x. Word (Anywhere (kind.Word key.Output)) End) (λ x. second_word x.0)
     (key_word key.Output ⨟ λ q. pure (b, p))
     (record { to = λ x f. f; from = λ x f. f; rows = λ x f. sym (ap second_word f.0 ∙ sb) })
-    (word_right limit bound is_lower (cue.Word key.Output) (λ (x : Kind × Pos). (x.0 ≡ b) × (x.1 ≡ p)) (λ x. End)
+    (word_right limit bound is_lower (cue.Word key.Output) (λ (x : VariableKind × Pos). (x.0 ≡ b) × (x.1 ≡ p))
+    (λ x. End)
     (λ q. pure (b, p)) (λ q. pure_right limit bound is_lower (λ x. (x.0 ≡ b) × (x.1 ≡ p)) (b, p) (refl, refl)
     (pair_is b p))))
     (reshaped limit bound is_lower (λ x. (x.0 ≡ a) × (x.1 ≡ p)) (λ x. (x.0 ≡ a) × (x.1 ≡ p)) (λ x. End)
@@ -153,23 +160,24 @@ two_kinds limit bound c a b rows_a rows_b sa sb =
     (record { to = λ x f. f; from = λ x f. f; rows = λ x f. sym (ap second_word f.0 ∙ sa) })
     (pure_right limit bound is_lower (λ x. (x.0 ≡ a) × (x.1 ≡ p)) (a, p) (refl, refl) (pair_is a p))))
   where
-    pair_is : (k : Kind) (p : Pos) (x : Kind × Pos) → (x.0 ≡ k) × (x.1 ≡ p) → x ≡ (k, p)
-    pair_is k p x f = ap (λ (z : Kind). (z, x.1)) f.0 ∙ ap (λ (q : Pos). (k, q)) f.1
+    pair_is : (k : VariableKind) (p : Pos) (x : VariableKind × Pos) → (x.0 ≡ k) × (x.1 ≡ p) → x ≡ (k, p)
+    pair_is k p x f = ap (λ (z : VariableKind). (z, x.1)) f.0 ∙ ap (λ (q : Pos). (k, q)) f.1
 
-    either : (x : Kind × Pos) (p : Pos) → one_of a b x → x.1 ≡ p → ((x.0 ≡ b) × (x.1 ≡ p)) ⊎ ((x.0 ≡ a) × (x.1 ≡ p))
+    either : (x : VariableKind × Pos) (p : Pos) → one_of a b x → x.1 ≡ p
+        → ((x.0 ≡ b) × (x.1 ≡ p)) ⊎ ((x.0 ≡ a) × (x.1 ≡ p))
     either x p (inl e) g = inr (e, g)
     either x p (inr e) g = inl (e, g)
 
-    rows : (x : Kind × Pos) → one_of a b x → Word (At (kind.Word c) x.1) (second_word x.0) ≡ kind_row x
+    rows : (x : VariableKind × Pos) → one_of a b x → Word (At (kind.Word c) x.1) (second_word x.0) ≡ kind_row x
     rows x (inl e) =
         ap (Word (At (kind.Word c) x.1)) (ap second_word e ∙ sa) ∙ rows_a x.1
-        ∙ ap (λ (z : Kind). kind_parts z x.1) (sym e)
+        ∙ ap (λ (z : VariableKind). kind_parts z x.1) (sym e)
     rows x (inr e) =
         ap (Word (At (kind.Word c) x.1)) (ap second_word e ∙ sb) ∙ rows_b x.1
-        ∙ ap (λ (z : Kind). kind_parts z x.1) (sym e)
+        ∙ ap (λ (z : VariableKind). kind_parts z x.1) (sym e)
 
 -- the first word of a kind
-abbrev first_word : Kind → Keyword
+abbrev first_word : VariableKind → Keyword
 first_word Input = key.Input
 first_word InputOutput = key.Input
 first_word Output = key.Output
@@ -177,11 +185,11 @@ first_word Internal = key.Internal
 first_word Context = key.Context
 first_word ContextOutput = key.Context
 
-kind_head : (test : TokenKind → Bool) (x : Kind × Pos) (w v : List Token) → AreSpelled (kind_row x) w
+kind_head : (test : TokenKind → Bool) (x : VariableKind × Pos) (w v : List Token) → AreSpelled (kind_row x) w
     → heads test (w ++ v) ≡ test (kind.Word (first_word x.0))
 kind_head test x w v s = by x.0 s
   where
-    by : (k : Kind) → AreSpelled (kind_parts k x.1) w → heads test (w ++ v) ≡ test (kind.Word (first_word k))
+    by : (k : VariableKind) → AreSpelled (kind_parts k x.1) w → heads test (w ++ v) ≡ test (kind.Word (first_word k))
     by Input s = ap (λ (u : List Token). heads test (u ++ v)) s.2 ∙ ap (λ (t : Token). test t.kind) s.3
     by InputOutput s = ap (λ (u : List Token). heads test (u ++ v)) s.2 ∙ ap (λ (t : Token). test t.kind) s.3
     by Output s = ap (λ (u : List Token). heads test (u ++ v)) s.2 ∙ ap (λ (t : Token). test t.kind) s.3
@@ -189,15 +197,16 @@ kind_head test x w v s = by x.0 s
     by Context s = ap (λ (u : List Token). heads test (u ++ v)) s.2 ∙ ap (λ (t : Token). test t.kind) s.3
     by ContextOutput s = ap (λ (u : List Token). heads test (u ++ v)) s.2 ∙ ap (λ (t : Token). test t.kind) s.3
 
-abbrev Third : Kind × Pos → Type 0
+abbrev Third : VariableKind × Pos → Type 0
 Third x = IsKind Internal x ⊎ one_of Context ContextOutput x
 
-abbrev Second : Kind × Pos → Type 0
+abbrev Second : VariableKind × Pos → Type 0
 Second x = IsKind Output x ⊎ Third x
 
-heads_of : (test : TokenKind → Bool) (x : Kind × Pos) (k : Kind) (b : Bool) (w v : List Token) → x.0 ≡ k
+heads_of : (test : TokenKind → Bool) (x : VariableKind × Pos) (k : VariableKind) (b : Bool) (w v : List Token) → x.0 ≡ k
     → test (kind.Word (first_word k)) ≡ b → AreSpelled (kind_row x) w → heads test (w ++ v) ≡ b
-heads_of test x k b w v e f s = kind_head test x w v s ∙ ap (λ (z : Kind). test (kind.Word (first_word z))) e ∙ f
+heads_of test x k b w v e f s = kind_head test x w v s ∙ ap (λ (z : VariableKind). test (kind.Word (first_word z))) e
+    ∙ f
 
 third_right : (limit bound : ℕ)
     → IsRight limit bound is_lower Third kind_row
@@ -216,7 +225,7 @@ third_right limit bound =
     (one_kind limit bound is_lower key.Internal Internal (λ p. refl))
     (two_kinds limit bound key.Context Context ContextOutput (λ p. refl) (λ p. refl) refl refl)
   where
-    off : (x : Kind × Pos) (w v : List Token) → one_of Context ContextOutput x → AreSpelled (kind_row x) w
+    off : (x : VariableKind × Pos) (w v : List Token) → one_of Context ContextOutput x → AreSpelled (kind_row x) w
         → heads (is_word key.Internal) (w ++ v) ≡ false
     off x w v (inl e) s = heads_of (is_word key.Internal) x Context false w v e refl s
     off x w v (inr e) s = heads_of (is_word key.Internal) x ContextOutput false w v e refl s
@@ -239,7 +248,7 @@ second_right limit bound =
     (one_kind limit bound is_lower key.Output Output (λ p. refl))
     (third_right limit bound)
   where
-    off : (x : Kind × Pos) (w v : List Token) → Third x → AreSpelled (kind_row x) w
+    off : (x : VariableKind × Pos) (w v : List Token) → Third x → AreSpelled (kind_row x) w
         → heads (is_word key.Output) (w ++ v) ≡ false
     off x w v (inl e) s = heads_of (is_word key.Output) x Internal false w v e refl s
     off x w v (inr (inl e)) s = heads_of (is_word key.Output) x Context false w v e refl s
@@ -262,7 +271,7 @@ kind_right limit bound =
     (two_kinds limit bound key.Input Input InputOutput (λ p. refl) (λ p. refl) refl refl)
     (second_right limit bound)
   where
-    either : (k : Kind) → ((k ≡ Input) ⊎ (k ≡ InputOutput))
+    either : (k : VariableKind) → ((k ≡ Input) ⊎ (k ≡ InputOutput))
         ⊎ ((k ≡ Output) ⊎ ((k ≡ Internal) ⊎ ((k ≡ Context) ⊎ (k ≡ ContextOutput))))
     either Input = inl (inl refl)
     either InputOutput = inl (inr refl)
@@ -271,12 +280,12 @@ kind_right limit bound =
     either Context = inr (inr (inr (inl refl)))
     either ContextOutput = inr (inr (inr (inr refl)))
 
-    on : (x : Kind × Pos) (w v : List Token) → one_of Input InputOutput x → AreSpelled (kind_row x) w
+    on : (x : VariableKind × Pos) (w v : List Token) → one_of Input InputOutput x → AreSpelled (kind_row x) w
         → heads (is_word key.Input) (w ++ v) ≡ true
     on x w v (inl e) s = heads_of (is_word key.Input) x Input true w v e refl s
     on x w v (inr e) s = heads_of (is_word key.Input) x InputOutput true w v e refl s
 
-    off : (x : Kind × Pos) (w v : List Token) → Second x → AreSpelled (kind_row x) w
+    off : (x : VariableKind × Pos) (w v : List Token) → Second x → AreSpelled (kind_row x) w
         → heads (is_word key.Input) (w ++ v) ≡ false
     off x w v (inl e) s = heads_of (is_word key.Input) x Output false w v e refl s
     off x w v (inr (inl e)) s = heads_of (is_word key.Input) x Internal false w v e refl s
@@ -306,7 +315,7 @@ params_right limit bound =
     (cue.Pair pair.DependsOn) params_parts refl (λ x xs. refl) no_depends bound
 
 abbrev Own : Type 0
-Own = (Kind × Pos) × Name × Option types.Type × List FieldItem
+Own = (VariableKind × Pos) × Name × Option types.Type × List FieldItem
 
 abbrev own_row : Own → Parts
 own_row x = kind_row x.0 ▸ Word (At (kind.Lower x.1.text) x.1.pos) (variable_type_parts x.2 ▸ params_parts x.3)
@@ -343,7 +352,7 @@ own_right limit bound =
       from = λ x f. any_list x.3;
       back = λ ps. refl;
       only =
-          λ x f. ap (λ (z : Kind × Pos). (z, x.1, x.2, x.3)) f.0.0.1 ∙ ap (λ (z : Name). (k, z, x.2, x.3)) f.0.1
+          λ x f. ap (λ (z : VariableKind × Pos). (z, x.1, x.2, x.3)) f.0.0.1 ∙ ap (λ (z : Name). (k, z, x.2, x.3)) f.0.1
           ∙ ap (λ (z : Option types.Type). (k, w, z, x.3)) f.1;
     })
     (params_right limit bound)
@@ -388,7 +397,7 @@ variable_decides = record {
     own_head : (x : Own) (w v : List Token) → AreSpelled (own_row x) w → heads is_lower (w ++ v) ≡ false
     own_head x w v s = by x.0.0 s
       where
-        by : (k : Kind) → AreSpelled (kind_parts k x.0.1 ▸ Word (At (kind.Lower x.1.text) x.1.pos)
+        by : (k : VariableKind) → AreSpelled (kind_parts k x.0.1 ▸ Word (At (kind.Lower x.1.text) x.1.pos)
             (variable_type_parts x.2 ▸ params_parts x.3)) w → heads is_lower (w ++ v) ≡ false
         by Input s = ap (λ (u : List Token). heads is_lower (u ++ v)) s.2 ∙ ap (λ (t : Token). is_lower t.kind) s.3
         by InputOutput s =

@@ -1,6 +1,7 @@
 -- Why a list of tokens is no program, and where.
 use Rattle.std.specs.Prelude.{ℕ, suc, ◌≤◌, ◌<◌, List, length, take, ⊤}
 use Rattle.cat_lex.specs.declared.token.Token.{Token}
+use Rattle.cat_tree.specs.Limits.{most_height}
 use Rattle.cat_tree.specs.declared.program.Tree.{Tree}
 use Rattle.cat_tree.specs.Programs.{highest_in, SpellsProgram, BeginsProgram}
 use Rattle.cat_parse_expr.specs.declared.refusal.ParseRefusal.{ParseRefusal}
@@ -18,7 +19,7 @@ pub record IsUnexpected (tokens : List Token) (at : ℕ) : Type 0 where
 pub record IsTooDeep (tokens : List Token) (at : ℕ) : Type 0 where
   pub within : at < length tokens
   pub begins : BeginsProgram (take (suc at) tokens)
-  pub none_low : (b : BeginsProgram (take (suc at) tokens)) → highest_in b.tree ≤ 256 → ⊥
+  pub none_low : (b : BeginsProgram (take (suc at) tokens)) → highest_in b.tree ≤ most_height → ⊥
 
 -- why no program was read
 abbrev pub HasProgramCause : List Token → ParseRefusal → Type 0

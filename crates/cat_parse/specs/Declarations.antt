@@ -11,9 +11,9 @@ use Rattle.cat_tree.specs.declared.name.Name.{Name}
 use Rattle.cat_tree.specs.declared.name.Type as types
 use Rattle.cat_tree.specs.declared.program.FieldItem.{FieldItem}
 use Rattle.cat_tree.specs.declared.program.CaseItem.{CaseItem}
-use Rattle.cat_tree.specs.declared.program.Kind.{Kind}
-use Rattle.cat_tree.specs.declared.program.Kind.TheVariants.{Input, InputOutput, Output, Internal, Context}
-use Rattle.cat_tree.specs.declared.program.Kind.TheVariants.{ContextOutput}
+use Rattle.cat_tree.specs.declared.program.VariableKind.{VariableKind}
+use Rattle.cat_tree.specs.declared.program.VariableKind.TheVariants.{Input, InputOutput, Output, Internal, Context}
+use Rattle.cat_tree.specs.declared.program.VariableKind.TheVariants.{ContextOutput}
 use Rattle.cat_tree.specs.declared.program.Variable.{Variable}
 use Rattle.cat_tree.specs.declared.program.Variable.TheVariants as variable
 use Rattle.cat_parse_expr.specs.declared.cue.Cue.{Cue}
@@ -74,16 +74,16 @@ abbrev pub is_word : Keyword → TokenKind → Bool
 is_word k = cue_is (cue.Word k)
 
 -- a kind of one word, or of two
-abbrev pub kind_or : Keyword → Kind → Kind → Reader (Kind × Pos)
+abbrev pub kind_or : Keyword → VariableKind → VariableKind → Reader (VariableKind × Pos)
 kind_or k alone with_output =
     key_word k ⨟ λ p. by_word (is_word key.Output) (key_word key.Output ⨟ λ q. pure (with_output, p)) (pure (alone, p))
 
 -- a kind of one word
-abbrev pub kind_of_one : Keyword → Kind → Reader (Kind × Pos)
+abbrev pub kind_of_one : Keyword → VariableKind → Reader (VariableKind × Pos)
 kind_of_one k alone = key_word k ⨟ λ p. pure (alone, p)
 
 -- input [output], output, internal, or context [output]
-abbrev pub a_kind : Reader (Kind × Pos)
+abbrev pub a_kind : Reader (VariableKind × Pos)
 a_kind = by_word (is_word key.Input) (kind_or key.Input Input InputOutput)
     (by_word (is_word key.Output) (kind_of_one key.Output Output)
     (by_word (is_word key.Internal) (kind_of_one key.Internal Internal) (kind_or key.Context Context ContextOutput)))
@@ -106,7 +106,7 @@ abbrev pub called : Reader (Name × Name)
 called = lower ⨟ λ w. key_word key.Scope ⨟ λ p. upper ⨟ λ u. pure (w, u)
 
 -- a kind, a name, what it is, and its parameters
-abbrev pub own : Reader ((Kind × Pos) × Name × Option types.Type × List FieldItem)
+abbrev pub own : Reader ((VariableKind × Pos) × Name × Option types.Type × List FieldItem)
 own = a_kind ⨟ λ k. lower ⨟ λ w. variable_type ⨟ λ t. params ⨟ λ ps. pure (k, w, t, ps)
 
 -- a variable of the scope, or one for a scope that is called

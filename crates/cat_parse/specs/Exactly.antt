@@ -1,6 +1,7 @@
 -- What reading a program comes to, exactly.
 use Rattle.std.specs.Prelude.{ℕ, ◌≡◌, ◌≤◌, true, false, List, [], ◌∷◌, ◌++◌}
 use Rattle.cat_lex.specs.declared.token.Token.{Token}
+use Rattle.cat_tree.specs.Limits.{most_height}
 use Rattle.cat_tree.specs.declared.expression.Node.{Node}
 use Rattle.cat_tree.specs.declared.program.Tree.{Tree}
 use Rattle.cat_tree.specs.Phrase.{Parts, End, Part, Operand}
@@ -21,7 +22,7 @@ ReadsExpressionsTo limit ex =
 
 -- the same up to the height that an expression may have
 abbrev pub ReadsExpressions : Reader Node → Type 0
-ReadsExpressions = ReadsExpressionsTo 256
+ReadsExpressions = ReadsExpressionsTo most_height
 
 -- tokens that spell a program whose expressions are that low spell no other
 abbrev pub SpellOneProgram : (limit : ℕ) → Type 0
@@ -42,7 +43,7 @@ pub record IsTooHigh (tokens front left : List Token) : Type 0 where
   pub after : List Token
   pub at : left ≡ next ∷ after
   pub begins : BeginsProgram (front ++ next ∷ [])
-  pub too_high : (b : BeginsProgram (front ++ next ∷ [])) → highest_in b.tree ≤ 256 → ⊥
+  pub too_high : (b : BeginsProgram (front ++ next ∷ [])) → highest_in b.tree ≤ most_height → ⊥
 
 -- what a parse says of the tokens
 abbrev pub Exactly : List Token → Parsed Tree → Type 0

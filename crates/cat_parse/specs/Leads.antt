@@ -5,7 +5,7 @@ use Rattle.cat_lex.specs.declared.token.TokenKind.{TokenKind}
 use Rattle.cat_lex.specs.declared.words.Keyword.TheVariants as key
 use Rattle.cat_lex.specs.declared.symbol.Symbol.TheVariants as symbol
 use Rattle.cat_tree.specs.declared.name.Name.{Name}
-use Rattle.cat_tree.specs.declared.program.Label.{Label}
+use Rattle.cat_tree.specs.declared.program.SurfaceLabel.{SurfaceLabel}
 use Rattle.cat_tree.specs.declared.program.Exception.{Exception}
 use Rattle.cat_tree.specs.declared.program.Exception.TheVariants as exception
 use Rattle.cat_tree.specs.declared.program.Lead.{Lead}
@@ -17,7 +17,7 @@ use Rattle.cat_parse_expr.specs.Cues.{cue_is, «word», lower}
 use Rattle.cat_parse.specs.Declarations.{key_word, is_word, is_lower, led}
 
 -- label w
-abbrev pub label : Reader Label
+abbrev pub label : Reader SurfaceLabel
 label = key_word key.Label ⨟ λ p. lower ⨟ λ w. pure (record { pos = p; name = w })
 
 -- exception [w]

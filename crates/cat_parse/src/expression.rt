@@ -5,7 +5,7 @@ ghost use Rattle.cat_parse_expr.specs.Places.{Gives};
 
 use cat_lex::Token;
 use cat_parse_expr::{Behind, Read, operand};
-use cat_tree::Node;
+use cat_tree::{MOST_HEIGHT, Node};
 use std::alloc::Global;
 
 /// The expression at the index with the index after it, where no longer one has begun. It is refused where the
@@ -15,6 +15,6 @@ pub fn expression(alloc: Global, tokens: &[Token], at: usize) -> Read<Node>
     requires { at ≤ length tokens.now }
     ensures { Gives expression tokens.now at result }
 {
-    let (read, at) = operand(alloc, tokens, at, 256, Behind::Other, 0)?;
+    let (read, at) = operand(alloc, tokens, at, MOST_HEIGHT, Behind::Other, 0)?;
     Ok((read.node.into_inner(), at))
 }

@@ -7,7 +7,7 @@ ghost use Rattle.cat_parse.specs.Many.{optional};
 use cat_lex::{Keyword, Symbol, Token};
 use cat_parse_expr::{Cue, Read, a_type, is_next, lower, upper, word};
 use cat_pos::Pos;
-use cat_tree::{CaseItem, FieldItem, Kind, Name, Type};
+use cat_tree::{CaseItem, FieldItem, Name, Type, VariableKind};
 use std::alloc::Global;
 
 /// A name with its type.
@@ -90,9 +90,9 @@ fn kind_or(
     tokens: &[Token],
     at: usize,
     first: Keyword,
-    alone: Kind,
-    with_output: Kind,
-) -> Read<(Kind, Pos)>
+    alone: VariableKind,
+    with_output: VariableKind,
+) -> Read<(VariableKind, Pos)>
     requires { at ≤ length tokens.now }
     ensures { Gives (spec.kind_or first alone with_output) tokens.now at result }
 {
@@ -105,7 +105,12 @@ fn kind_or(
 }
 
 /// A kind of one word.
-fn kind_of_one(tokens: &[Token], at: usize, first: Keyword, alone: Kind) -> Read<(Kind, Pos)>
+fn kind_of_one(
+    tokens: &[Token],
+    at: usize,
+    first: Keyword,
+    alone: VariableKind,
+) -> Read<(VariableKind, Pos)>
     requires { at ≤ length tokens.now }
     ensures { Gives (spec.kind_of_one first alone) tokens.now at result }
 {
@@ -114,24 +119,30 @@ fn kind_of_one(tokens: &[Token], at: usize, first: Keyword, alone: Kind) -> Read
 }
 
 /// The kind of a variable, with its position.
-pub fn kind(tokens: &[Token], at: usize) -> Read<(Kind, Pos)>
+pub fn kind(tokens: &[Token], at: usize) -> Read<(VariableKind, Pos)>
     requires { at ≤ length tokens.now }
     ensures { Gives spec.a_kind tokens.now at result }
 {
     if is_next(tokens, at, Cue::Word(Keyword::Input)) {
-        return kind_or(tokens, at, Keyword::Input, Kind::Input, Kind::InputOutput);
+        return kind_or(
+            tokens,
+            at,
+            Keyword::Input,
+            VariableKind::Input,
+            VariableKind::InputOutput,
+        );
     }
     if is_next(tokens, at, Cue::Word(Keyword::Output)) {
-        return kind_of_one(tokens, at, Keyword::Output, Kind::Output);
+        return kind_of_one(tokens, at, Keyword::Output, VariableKind::Output);
     }
     if is_next(tokens, at, Cue::Word(Keyword::Internal)) {
-        return kind_of_one(tokens, at, Keyword::Internal, Kind::Internal);
+        return kind_of_one(tokens, at, Keyword::Internal, VariableKind::Internal);
     }
     kind_or(
         tokens,
         at,
         Keyword::Context,
-        Kind::Context,
-        Kind::ContextOutput,
+        VariableKind::Context,
+        VariableKind::ContextOutput,
     )
 }

@@ -9,19 +9,19 @@ ghost use Rattle.cat_parse.specs.Many.{optional};
 use crate::parts::names;
 use cat_lex::{Keyword, Symbol, Token};
 use cat_parse_expr::{Cue, Read, is_lower, is_next, lower, word};
-use cat_tree::{Exception, Label, Lead, Name, TargetName};
+use cat_tree::{Exception, Lead, Name, SurfaceLabel, TargetName};
 use std::alloc::Global;
 
-fn label(alloc: Global, tokens: &[Token], at: usize) -> Read<Label>
+fn label(alloc: Global, tokens: &[Token], at: usize) -> Read<SurfaceLabel>
     requires { at ≤ length tokens.now }
     ensures { Gives spec.label tokens.now at result }
 {
     let (pos, at) = word(tokens, at, Cue::Word(Keyword::Label))?;
     let (name, at) = lower(alloc, tokens, at)?;
-    Ok((Label { pos, name }, at))
+    Ok((SurfaceLabel { pos, name }, at))
 }
 
-fn label_if(alloc: Global, tokens: &[Token], at: usize) -> Read<Option<Label>>
+fn label_if(alloc: Global, tokens: &[Token], at: usize) -> Read<Option<SurfaceLabel>>
     requires { at ≤ length tokens.now }
     ensures { Gives (optional (is_word key.Label) spec.label) tokens.now at result }
 {

@@ -16,7 +16,7 @@ use Rattle.std.proofs.Common.{append_assoc}
 use Rattle.cat_tree.specs.Phrase.{AreLevelled, AreSpelled}
 use Rattle.std.proofs.Common.{append-nil}
 use Rattle.cat_tree.specs.Phrase.{IsLevelled}
-use Rattle.cat_tree.specs.declared.expression.Arm.{Arm}
+use Rattle.cat_tree.specs.declared.expression.SurfaceArm.{SurfaceArm}
 use Rattle.cat_tree.specs.Rows.{arms, pattern_parts}
 use Rattle.cat_parse_expr.specs.declared.measured.MatchArms.{MatchArms}
 use Rattle.cat_parse_expr.specs.Measures.{with_arm}
@@ -31,7 +31,7 @@ use Rattle.cat_parse_expr.specs.Reader.{Parsed, Reader, Fails, Reads, after, pur
 abbrev pub Armed : Type 0
 Armed = Pattern × Measured
 
-abbrev pub arms_of : List Armed → List Arm
+abbrev pub arms_of : List Armed → List SurfaceArm
 arms_of [] = []
 arms_of (x ∷ xs) = record { pattern = x.0; body = x.1.node } ∷ arms_of xs
 
@@ -43,13 +43,13 @@ abbrev pub highest_of : List Armed → ℕ
 highest_of [] = 0
 highest_of (x ∷ xs) = max x.1.height (highest_of xs)
 
-abbrev pub armed_of : List Arm → List Armed
+abbrev pub armed_of : List SurfaceArm → List Armed
 armed_of [] = []
 armed_of (a ∷ more) = (a.pattern, measured_of a.body) ∷ armed_of more
 
-pub arms_back : (xs : List Arm) → arms_of (armed_of xs) ≡ xs
+pub arms_back : (xs : List SurfaceArm) → arms_of (armed_of xs) ≡ xs
 arms_back [] = refl
-arms_back (a ∷ more) = ap (λ (z : List Arm). a ∷ z) (arms_back more)
+arms_back (a ∷ more) = ap (λ (z : List SurfaceArm). a ∷ z) (arms_back more)
 
 pub rows_are : (xs : List Armed) → map arm_row (arms_of xs) ≡ arm_rows xs
 rows_are [] = refl
@@ -169,7 +169,7 @@ from_arms_levels x (y ∷ ys) l =
     (cast_type (sym (stand_levels (Operand 0) x (chain_row_of y ys))) (omega arith, s.1, from_arms_levels y ys s.2))
 
 -- arms that stand where they may are such
-pub levelled_armed : (a : Arm) (more : List Arm) → AreLevelled (arms (map arm_row (a ∷ more)))
+pub levelled_armed : (a : SurfaceArm) (more : List SurfaceArm) → AreLevelled (arms (map arm_row (a ∷ more)))
     → AreArmed (a.pattern, measured_of a.body) (armed_of more)
 levelled_armed a [] l = refl
 levelled_armed a (c ∷ more) l =

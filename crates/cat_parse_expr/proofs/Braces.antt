@@ -43,7 +43,7 @@ use Rattle.cat_parse_expr.proofs.Turnings.{heads_begin}
 use Rattle.cat_tree.specs.Wording.{if_some}
 use Rattle.cat_parse_expr.specs.Parts.{has_field, next_field, field_value}
 use Rattle.cat_parse_expr.proofs.Shaping.{look_read}
-use Rattle.cat_tree.specs.declared.expression.FieldValue.{FieldValue}
+use Rattle.cat_tree.specs.declared.expression.SurfaceField.{SurfaceField}
 use Rattle.cat_tree.specs.Rows.{fields}
 use Rattle.cat_tree.proofs.Exported.{field_row}
 use Rattle.cat_parse_expr.specs.declared.measured.Fields.{Fields}
@@ -143,7 +143,7 @@ module _ (ex : Lower) (room : ℕ) (right : AreRight room ex) (b : Behind) (k : 
     split =
         λ n s levels low. (
           ((s.0, s.1), valued_of s.2, s.3),
-          s.4 ∙ ap (λ (fs : List FieldValue). node.ScopeCall s.0 s.1 fs s.3)
+          s.4 ∙ ap (λ (fs : List SurfaceField). node.ScopeCall s.0 s.1 fs s.3)
               (sym (values_are no_fields (valued_of s.2) ∙ values_back s.2)),
           valued_are s.2,
         );

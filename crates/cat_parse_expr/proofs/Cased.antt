@@ -28,7 +28,7 @@ use Rattle.cat_tree.specs.Phrase.{IsLevelled}
 use Rattle.cat_tree.specs.Wording.{if_some}
 use Rattle.cat_tree.specs.declared.expression.Node.TheVariants as leaves
 use Rattle.cat_parse_expr.specs.Measures.{leaf}
-use Rattle.cat_tree.specs.declared.expression.FieldValue.{FieldValue}
+use Rattle.cat_tree.specs.declared.expression.SurfaceField.{SurfaceField}
 use Rattle.cat_tree.specs.Rows.{fields}
 use Rattle.cat_tree.proofs.Exported.{field_row}
 use Rattle.cat_parse_expr.specs.declared.measured.Fields.{Fields}
@@ -175,7 +175,7 @@ cased_is (Holds u e) = phrase_Content (Bare u) e.node
 cased_is (DottedHolds d u e) = phrase_Content (Qualified d u) e.node
 cased_is (Builds u f fs) =
     phrase_Structure u (built f fs).values
-    ∙ ap (λ (vs : List FieldValue). Row (if_some 9 (map field_row vs)) (upper u ▹ sign symbol.LeftBrace
+    ∙ ap (λ (vs : List SurfaceField). Row (if_some 9 (map field_row vs)) (upper u ▹ sign symbol.LeftBrace
     ▹ fields (map field_row vs) (sign symbol.RightBrace ▹ End))) (values_are (with_field no_fields f.0 f.1) fs)
     ∙ ap (λ (rs : List (Name × Phrase)). Row (of_level 9) (upper u ▹ sign symbol.LeftBrace
     ▹ fields ((f.0, phrase f.1.node) ∷ rs) (sign symbol.RightBrace ▹ End))) (rows_are fs)
@@ -252,9 +252,9 @@ cased_split k n (inr (inr (inl (u, [], is)))) l low =
     clash h = absurd cc
 cased_split k n (inr (inr (inl (u, f ∷ fs, is)))) l low = (
   Builds u (f.name, measured_of f.value) (valued_of fs),
-  is ∙ ap (λ (vs : List FieldValue). node.Structure u vs)
+  is ∙ ap (λ (vs : List SurfaceField). node.Structure u vs)
       (sym (values_are (with_field no_fields f.name (measured_of f.value)) (valued_of fs)
-      ∙ ap (λ (vs : List FieldValue). f ∷ vs) (values_back fs))),
+      ∙ ap (λ (vs : List SurfaceField). f ∷ vs) (values_back fs))),
   (refl, valued_are fs),
 )
 cased_split k n (inr (inr (inr (u, w, is)))) l low = (Selects u w, is, tt)

@@ -10,14 +10,14 @@ use Rattle.cat_tree.specs.declared.name.Name.{Name}
 use Rattle.cat_tree.specs.declared.name.CaseName.{CaseName}
 use Rattle.cat_tree.specs.declared.name.CaseName.TheVariants.{Bare, Qualified}
 use Rattle.cat_tree.specs.declared.name.Type as types
-use Rattle.cat_tree.specs.declared.expression.Literal.{Literal}
-use Rattle.cat_tree.specs.declared.expression.Literal.TheVariants as literal
+use Rattle.cat_tree.specs.declared.expression.SurfaceLiteral.{SurfaceLiteral}
+use Rattle.cat_tree.specs.declared.expression.SurfaceLiteral.TheVariants as literal
 use Rattle.cat_tree.specs.declared.expression.Prefix.{Prefix}
 use Rattle.cat_tree.specs.declared.expression.Prefix.TheVariants as prefix
 use Rattle.cat_tree.specs.declared.expression.Each.{Each}
 use Rattle.cat_tree.specs.declared.expression.Each.TheVariants as each
-use Rattle.cat_tree.specs.declared.expression.Arm.{Arm}
-use Rattle.cat_tree.specs.declared.expression.FieldValue.{FieldValue}
+use Rattle.cat_tree.specs.declared.expression.SurfaceArm.{SurfaceArm}
+use Rattle.cat_tree.specs.declared.expression.SurfaceField.{SurfaceField}
 use Rattle.cat_tree.specs.declared.expression.Node.{Node}
 use Rattle.cat_tree.specs.declared.expression.Node.TheVariants as leaves
 use Rattle.cat_tree.specs.declared.expression.Node.TheViews as node
@@ -90,19 +90,20 @@ is_bare f = false
 
 -- What an expression is, that is no step behind another one. A field of a bare case is read with the case.
 abbrev pub Shape : Opening → Node → Type 0
-Shape opening.Literal n = (l : Literal) × (p : Pos) × (n ≡ leaves.Literal l p)
+Shape opening.Literal n = (l : SurfaceLiteral) × (p : Pos) × (n ≡ leaves.Literal l p)
 Shape opening.Name n = ((w : Name) × (n ≡ leaves.Name w)) ⊎ ((f : Name) × (args : List Node) × (n ≡ node.Call f args))
 Shape opening.Case n =
     ((c : CaseName) × (n ≡ leaves.Case c)) ⊎ (((c : CaseName) × (e : Node) × (n ≡ node.Content c e))
-    ⊎ (((u : Name) × (fs : List FieldValue) × (n ≡ node.Structure u fs))
+    ⊎ (((u : Name) × (fs : List SurfaceField) × (n ≡ node.Structure u fs))
     ⊎ ((u w : Name) × (n ≡ node.Field (leaves.Case (Bare u)) w))))
 Shape opening.Parens n = (p : Pos) × (e : Node) × (n ≡ node.Parens p e)
 Shape opening.List n = (p : Pos) × (es : List Node) × (n ≡ node.List p es)
-Shape opening.ScopeCall n = (p : Pos) × (u : Name) × (fs : List FieldValue) × (w : Name) × (n ≡ node.ScopeCall p u fs w)
+Shape opening.ScopeCall n = (p : Pos) × (u : Name) × (fs : List SurfaceField) × (w : Name)
+    × (n ≡ node.ScopeCall p u fs w)
 Shape (opening.Prefixed o) n = (p : Pos) × (e : Node) × (n ≡ node.Prefixed o p e)
 Shape opening.Sum n = (p : Pos) × (t : types.Type) × (e : Node) × (n ≡ node.Sum p t e)
 Shape opening.If n = (p : Pos) × (c t e : Node) × (n ≡ node.If p c t e)
-Shape opening.Match n = (p : Pos) × (e : Node) × (more : List Arm) × (n ≡ node.Match p e more)
+Shape opening.Match n = (p : Pos) × (e : Node) × (more : List SurfaceArm) × (n ≡ node.Match p e more)
 Shape (opening.Each k) n = (p : Pos) × (w : Name) × (l e : Node) × (n ≡ node.Each k p w l e)
 Shape opening.Combine n =
     (p : Pos) × (w : Name) × (l : Node) × (acc : Name) × (s e : Node)
@@ -121,10 +122,10 @@ primary_by n c e s = subst (λ (d : Opening). Shape d n) (sym e) s
 
 -- ---- the class of each form
 
-pub class_Literal : (l : Literal) (p : Pos) → class_of (leaves.Literal l p) ≡ opening.Literal
+pub class_Literal : (l : SurfaceLiteral) (p : Pos) → class_of (leaves.Literal l p) ≡ opening.Literal
 class_Literal l p = ap (λ (g : Phrase). opening_with (first_of g)) (phrase_Literal l p) ∙ by l
   where
-    by : (l : Literal) → opening_with (firsts (literal_parts l p)) ≡ opening.Literal
+    by : (l : SurfaceLiteral) → opening_with (firsts (literal_parts l p)) ≡ opening.Literal
     by (literal.Int n) = refl
     by (literal.Dec d) = refl
     by (literal.Pct d) = refl
@@ -149,7 +150,7 @@ class_Content (Bare u) e = class_by (node.Content (Bare u) e) _ opening.Case (ph
 class_Content (Qualified d u) e =
     class_by (node.Content (Qualified d u) e) _ opening.Case (phrase_Content (Qualified d u) e) refl
 
-pub class_Structure : (u : Name) (fs : List FieldValue) → class_of (node.Structure u fs) ≡ opening.Case
+pub class_Structure : (u : Name) (fs : List SurfaceField) → class_of (node.Structure u fs) ≡ opening.Case
 class_Structure u fs = class_by (node.Structure u fs) _ opening.Case (phrase_Structure u fs) refl
 
 pub class_Selected : (u w : Name) → class_of (node.Field (leaves.Case (Bare u)) w) ≡ opening.Case
@@ -163,7 +164,7 @@ class_Parens p e = class_by (node.Parens p e) _ opening.Parens (phrase_Parens p 
 pub class_List : (p : Pos) (es : List Node) → class_of (node.List p es) ≡ opening.List
 class_List p es = class_by (node.List p es) _ opening.List (phrase_List p es) refl
 
-pub class_ScopeCall : (p : Pos) (u : Name) (fs : List FieldValue) (w : Name)
+pub class_ScopeCall : (p : Pos) (u : Name) (fs : List SurfaceField) (w : Name)
     → class_of (node.ScopeCall p u fs w) ≡ opening.ScopeCall
 class_ScopeCall p u fs w = class_by (node.ScopeCall p u fs w) _ opening.ScopeCall (phrase_ScopeCall p u fs w) refl
 
@@ -189,7 +190,7 @@ class_Sum p t e = class_by (node.Sum p t e) _ opening.Sum (phrase_Sum p t e) ref
 pub class_If : (p : Pos) (c t e : Node) → class_of (node.If p c t e) ≡ opening.If
 class_If p c t e = class_by (node.If p c t e) _ opening.If (phrase_If p c t e) refl
 
-pub class_Match : (p : Pos) (e : Node) (more : List Arm) → class_of (node.Match p e more) ≡ opening.Match
+pub class_Match : (p : Pos) (e : Node) (more : List SurfaceArm) → class_of (node.Match p e more) ≡ opening.Match
 class_Match p e more = class_by (node.Match p e more) _ opening.Match (phrase_Match p e more) refl
 
 pub class_Each : (k : Each) (p : Pos) (w : Name) (l e : Node) → class_of (node.Each k p w l e) ≡ opening.Each k

@@ -6,18 +6,18 @@ use Rattle.cat_tree.specs.Accumulation.{accumulation}
 use Rattle.cat_tree.specs.declared.name.Name.{Name}
 use Rattle.cat_tree.specs.declared.name.CaseName.{CaseName}
 use Rattle.cat_tree.specs.declared.name.Type as types
-use Rattle.cat_tree.specs.declared.expression.Literal.{Literal}
+use Rattle.cat_tree.specs.declared.expression.SurfaceLiteral.{SurfaceLiteral}
 use Rattle.cat_tree.specs.declared.expression.Prefix.{Prefix}
 use Rattle.cat_tree.specs.declared.expression.Operator.{Operator}
 use Rattle.cat_tree.specs.declared.expression.Each.{Each}
 use Rattle.cat_tree.specs.declared.expression.Node.{Node}
-use Rattle.cat_tree.specs.declared.expression.Node.TheOpen.{Node-F, Arm-F, FieldValue-F}
+use Rattle.cat_tree.specs.declared.expression.Node.TheOpen.{Node-F, SurfaceArm-F, SurfaceField-F}
 use Rattle.cat_tree.specs.declared.expression.Node.TheVariants as leaf
 use Rattle.cat_tree.specs.declared.expression.Node.TheViews as node
-use Rattle.cat_tree.specs.declared.expression.Node.TheViews.{roll-Node, roll-Arm, roll-FieldValue}
-use Rattle.cat_tree.specs.declared.expression.Node.TheFolds.{ind-Node, map-Node, map-Arm, map-FieldValue}
-use Rattle.cat_tree.specs.declared.expression.FieldValue.{FieldValue}
-use Rattle.cat_tree.specs.declared.expression.Arm.{Arm}
+use Rattle.cat_tree.specs.declared.expression.Node.TheViews.{roll-Node, roll-SurfaceArm, roll-SurfaceField}
+use Rattle.cat_tree.specs.declared.expression.Node.TheFolds.{ind-Node, map-Node, map-SurfaceArm, map-SurfaceField}
+use Rattle.cat_tree.specs.declared.expression.SurfaceField.{SurfaceField}
+use Rattle.cat_tree.specs.declared.expression.SurfaceArm.{SurfaceArm}
 
 -- what holds of each element
 abbrev pub AllHold : {A : Type 0} → (A → Type 0) → List A → Type 0
@@ -30,7 +30,7 @@ held P (y ∷ ys) = (y.1, held P ys)
 
 module _
     (P : Node → Type 0)
-    (literal : (l : Literal) (p : Pos) → P (leaf.Literal l p))
+    (literal : (l : SurfaceLiteral) (p : Pos) → P (leaf.Literal l p))
     (name : (w : Name) → P (leaf.Name w))
     (case : (c : CaseName) → P (leaf.Case c))
     (parens : (p : Pos) (e : Node) → P e → P (node.Parens p e))
@@ -42,11 +42,12 @@ module _
     (binary : (o : Operator) (p : Pos) (a b : Node) → P a → P b → P (node.Binary o p a b))
     (test : (e : Node) (p : Pos) (c : CaseName) → P e → P (node.Test e p c))
     (list : (p : Pos) (es : List Node) → AllHold P es → P (node.List p es))
-    (structure : (u : Name) (fs : List FieldValue) → AllHold (λ f. P f.value) fs → P (node.Structure u fs))
-    (scope_call : (p : Pos) (u : Name) (fs : List FieldValue) (w : Name) → AllHold (λ f. P f.value) fs
+    (structure : (u : Name) (fs : List SurfaceField) → AllHold (λ f. P f.value) fs → P (node.Structure u fs))
+    (scope_call : (p : Pos) (u : Name) (fs : List SurfaceField) (w : Name) → AllHold (λ f. P f.value) fs
     → P (node.ScopeCall p u fs w))
     (choice : (p : Pos) (c t e : Node) → P c → P t → P e → P (node.If p c t e))
-    (matching : (p : Pos) (e : Node) (more : List Arm) → P e → AllHold (λ a. P a.body) more → P (node.Match p e more))
+    (matching : (p : Pos) (e : Node) (more : List SurfaceArm) → P e → AllHold (λ a. P a.body) more
+    → P (node.Match p e more))
     (each : (k : Each) (p : Pos) (w : Name) (l e : Node) → P l → P e → P (node.Each k p w l e))
     (combine : (p : Pos) (w : Name) (l : Node) (acc : Name) (s e : Node) → P l → P s → P e
     → P (node.Combine (accumulation p w acc) l s e)) where
@@ -54,12 +55,13 @@ module _
   H = (e : Node) × P e
 
   abbrev HA : Type 0
-  HA = (a : Arm) × P a.body
+  HA = (a : SurfaceArm) × P a.body
 
   abbrev HF : Type 0
-  HF = (f : FieldValue) × P f.value
+  HF = (f : SurfaceField) × P f.value
 
-  at : (y : Node-F H HA HF) → P (roll-Node (map-Node H HA HF Node Arm FieldValue (λ e. e.0) (λ a. a.0) (λ f. f.0) y))
+  at : (y : Node-F H HA HF)
+      → P (roll-Node (map-Node H HA HF Node SurfaceArm SurfaceField (λ e. e.0) (λ a. a.0) (λ f. f.0) y))
   unfolding roll-Node roll
   at (Node-F.Literal l p) = literal l p
   at (Node-F.Name w) = name w
@@ -80,15 +82,18 @@ module _
   at (Node-F.Each k p w l e) = each k p w l.0 e.0 l.1 e.1
   at (Node-F.Combine c l s e) = combine c.pos c.element l.0 c.sum s.0 e.0 l.1 s.1 e.1
 
-  at_arm : (y : Arm-F H HA HF)
-      → P (roll-Arm (map-Arm H HA HF Node Arm FieldValue (λ e. e.0) (λ a. a.0) (λ f. f.0) y)).body
+  at_arm : (y : SurfaceArm-F H HA HF)
+      → P (roll-SurfaceArm
+      (map-SurfaceArm H HA HF Node SurfaceArm SurfaceField (λ e. e.0) (λ a. a.0) (λ f. f.0) y)).body
   at_arm y = y.body.1
 
-  at_field : (y : FieldValue-F H HA HF)
-      → P (roll-FieldValue (map-FieldValue H HA HF Node Arm FieldValue (λ e. e.0) (λ a. a.0) (λ f. f.0) y)).value
+  at_field : (y : SurfaceField-F H HA HF)
+      → P (roll-SurfaceField
+      (map-SurfaceField H HA HF Node SurfaceArm SurfaceField (λ e. e.0) (λ a. a.0) (λ f. f.0) y)).value
   at_field y = y.value.1
 
   pub induction : (e : Node) → P e
   induction = ind-Node P (λ a. P a.body) (λ f. P f.value) (λ x y is. subst (λ z. P (roll-Node z)) is (at y))
-      (λ x y is. subst (λ z. P (roll-Arm z).body) is (at_arm y)) (λ x y is. subst (λ z. P (roll-FieldValue z).value) is
+      (λ x y is. subst (λ z. P (roll-SurfaceArm z).body) is (at_arm y))
+      (λ x y is. subst (λ z. P (roll-SurfaceField z).value) is
       (at_field y))

@@ -6,8 +6,8 @@ use Rattle.cat_lex.specs.declared.token.Token.{Token}
 use Rattle.cat_lex.specs.declared.token.TokenKind.{TokenKind}
 use Rattle.cat_lex.specs.declared.token.TokenKind.TheVariants as kind
 use Rattle.cat_lex.specs.declared.words.Keyword.TheVariants as key
-use Rattle.cat_tree.specs.declared.expression.Literal.{Literal}
-use Rattle.cat_tree.specs.declared.expression.Literal.TheVariants as literal
+use Rattle.cat_tree.specs.declared.expression.SurfaceLiteral.{SurfaceLiteral}
+use Rattle.cat_tree.specs.declared.expression.SurfaceLiteral.TheVariants as literal
 use Rattle.cat_tree.specs.declared.expression.Node.TheVariants as leaves
 use Rattle.cat_tree.specs.Literals.{literal_parts, literal_rank, span_bound, unit_word, truth_word}
 use Rattle.cat_tree.specs.Phrase.{Row, Parts, End, Word, At, IsAt, IsLevelled}
@@ -27,18 +27,18 @@ use Rattle.cat_parse_expr.proofs.Operands.{Form, measured_by}
 use Rattle.cat_parse_expr.proofs.Token.{Terminals}
 
 abbrev pub Placed : Type 0
-Placed = Literal × Pos
+Placed = SurfaceLiteral × Pos
 
 abbrev pub literal_node : Placed → Measured
 literal_node t = leaf (leaves.Literal t.0 t.1)
 
 -- the literal that its first word is
-abbrev pub shortened : Literal → Literal
+abbrev pub shortened : SurfaceLiteral → SurfaceLiteral
 shortened (literal.Span n u) = literal.Int n
 shortened l = l
 
 -- that word
-abbrev pub literal_word : Literal → TokenKind
+abbrev pub literal_word : SurfaceLiteral → TokenKind
 literal_word (literal.Int n) = kind.Int n
 literal_word (literal.Dec d) = kind.Dec d
 literal_word (literal.Pct d) = kind.Pct d
@@ -48,15 +48,15 @@ literal_word (literal.Boolean b) = kind.Word (truth_word b)
 literal_word (literal.Span n u) = kind.Int n
 
 -- the words behind it
-abbrev pub literal_rest : Literal → Parts
+abbrev pub literal_rest : SurfaceLiteral → Parts
 literal_rest (literal.Span n u) = wording.«word» (unit_word u) ▹ End
 literal_rest l = End
 
-pub literal_row_is : (l : Literal) (p : Pos) → Word (At (literal_word l) p) (literal_rest l) ≡ literal_parts l p
+pub literal_row_is : (l : SurfaceLiteral) (p : Pos) → Word (At (literal_word l) p) (literal_rest l) ≡ literal_parts l p
 literal_row_is (literal.Int n) p = refl
 literal_row_is _ p = refl
 
-abbrev pub Bounded : Literal → Type 0
+abbrev pub Bounded : SurfaceLiteral → Type 0
 Bounded (literal.Span n u) = int_lt span_bound n ≡ false
 Bounded l = Unit {0}
 
@@ -66,7 +66,7 @@ literal_measured : (t : Placed) → IsMeasured (literal_node t)
 literal_measured (l, p) =
     measured_by (leaves.Literal l p) _ _ _ _ (phrase_Literal l p) (tall l) (strong l) (plain l)
   where
-    tall : (l : Literal) → 1 ≡ height (Row (literal_rank l) (literal_parts l p))
+    tall : (l : SurfaceLiteral) → 1 ≡ height (Row (literal_rank l) (literal_parts l p))
     tall (literal.Span n u) = refl
     tall (literal.Int n) = refl
     tall (literal.Dec d) = refl
@@ -75,11 +75,11 @@ literal_measured (l, p) =
     tall (literal.Date d) = refl
     tall (literal.Boolean b) = refl
 
-    strong : (l : Literal) → 9 ≡ left_strength (Row (literal_rank l) (literal_parts l p))
+    strong : (l : SurfaceLiteral) → 9 ≡ left_strength (Row (literal_rank l) (literal_parts l p))
     strong (literal.Span n u) = refl
     strong _ = refl
 
-    plain : (l : Literal) → false ≡ ends_in_match (Row (literal_rank l) (literal_parts l p))
+    plain : (l : SurfaceLiteral) → false ≡ ends_in_match (Row (literal_rank l) (literal_parts l p))
     plain (literal.Span n u) = refl
     plain _ = refl
 
@@ -100,11 +100,11 @@ literal_form k le = record {
       );
 }
   where
-    level : (l : Literal) → k ≤ (literal_rank l).level
+    level : (l : SurfaceLiteral) → k ≤ (literal_rank l).level
     level (literal.Span n u) = le
     level _ = le
 
-    bounded : (l : Literal) → Bounded l → (literal_rank l).fits ≡ true
+    bounded : (l : SurfaceLiteral) → Bounded l → (literal_rank l).fits ≡ true
     bounded (literal.Span n u) m = ap not m
     bounded _ m = refl
 
@@ -112,13 +112,13 @@ literal_form k le = record {
     unnot true h = absurd cc
     unnot false h = refl
 
-    within : (l : Literal) → (literal_rank l).fits ≡ true → Bounded l
+    within : (l : SurfaceLiteral) → (literal_rank l).fits ≡ true → Bounded l
     within (literal.Span n u) h = unnot (int_lt span_bound n) h
     within _ h = tt
 
 -- ---- the first word
 
-literal_found : (k : TokenKind) (l : Literal) → literal_kind k ≡ Some l → k ≡ literal_word l
+literal_found : (k : TokenKind) (l : SurfaceLiteral) → literal_kind k ≡ Some l → k ≡ literal_word l
 literal_found (kind.Int n) l e = ap literal_word (some_one (literal.Int n) l e)
 literal_found (kind.Dec d) l e = ap literal_word (some_one (literal.Dec d) l e)
 literal_found (kind.Pct d) l e = ap literal_word (some_one (literal.Pct d) l e)
@@ -128,17 +128,17 @@ literal_found (kind.Word key.True) l e = ap literal_word (some_one (literal.Bool
 literal_found (kind.Word key.False) l e = ap literal_word (some_one (literal.Boolean false) l e)
 literal_found _ l e = absurd cc
 
-literal_self : (l : Literal) → literal_kind (literal_word l) ≡ Some (shortened l)
+literal_self : (l : SurfaceLiteral) → literal_kind (literal_word l) ≡ Some (shortened l)
 literal_self (literal.Int n) = refl
 literal_self (literal.Boolean true) = refl
 literal_self (literal.Boolean false) = refl
 literal_self _ = refl
 
-word_shortened : (l : Literal) → literal_word (shortened l) ≡ literal_word l
+word_shortened : (l : SurfaceLiteral) → literal_word (shortened l) ≡ literal_word l
 word_shortened (literal.Span n u) = refl
 word_shortened _ = refl
 
-placed_found : (o : Option Literal) (p : Pos) (x : Placed) → placed o p ≡ Some x → (o ≡ Some x.0) × (p ≡ x.1)
+placed_found : (o : Option SurfaceLiteral) (p : Pos) (x : Placed) → placed o p ≡ Some x → (o ≡ Some x.0) × (p ≡ x.1)
 placed_found None p x e = absurd cc
 placed_found (Some l) p x e =
     let same = some_one (l, p) x e in
@@ -163,4 +163,4 @@ literal_marks fits = record {
 }
   where
     made : (p : Token) (y : Placed) → IsAt (At (literal_word y.0) y.1) p → literal_of p ≡ Some (head_of y)
-    made p y i = ap literal_of i ∙ ap (λ (o : Option Literal). placed o y.1) (literal_self y.0)
+    made p y i = ap literal_of i ∙ ap (λ (o : Option SurfaceLiteral). placed o y.1) (literal_self y.0)

@@ -47,7 +47,7 @@ use Rattle.cat_parse_expr.specs.Followers.{is_asked, is_below, is_with_pattern}
 use Rattle.cat_parse_expr.specs.Openings.{follow_of}
 use Rattle.cat_parse_expr.specs.Parts.{has_field, next_field, field_value}
 use Rattle.cat_parse_expr.proofs.Operands.{goes_then}
-use Rattle.cat_tree.specs.declared.expression.Arm.{Arm}
+use Rattle.cat_tree.specs.declared.expression.SurfaceArm.{SurfaceArm}
 use Rattle.cat_tree.specs.Rows.{arms, pattern_parts}
 use Rattle.cat_parse_expr.specs.declared.measured.MatchArms.{MatchArms}
 use Rattle.cat_parse_expr.specs.Measures.{with_arm, no_arms}
@@ -203,7 +203,7 @@ module _ (ex : Lower) (room : ℕ) (right : AreRight room ex)
   matched_is : (t : Matched) → phrase (matched_of t).node ≡ Row (match_of (arm_rows (t.2.0 ∷ t.2.1))) (matched_row t)
   matched_is t =
       phrase_Match t.0 t.1.node (made t.2).arms
-      ∙ ap (λ (xs : List Arm). Row (match_of (map arm_row xs)) (key_at key.Match t.0 ▹ part 0 (phrase t.1.node)
+      ∙ ap (λ (xs : List SurfaceArm). Row (match_of (map arm_row xs)) (key_at key.Match t.0 ▹ part 0 (phrase t.1.node)
       ▹ words pair.WithPattern ▹ arms (map arm_row xs))) (arms_are (with_arm no_arms t.2.0.0 t.2.0.1) t.2.1)
       ∙ ap (λ (rs : List (Pattern × Phrase)). Row (match_of ((t.2.0.0, phrase t.2.0.1.node) ∷ rs))
       (key_at key.Match t.0 ▹ part 0 (phrase t.1.node) ▹ words pair.WithPattern
@@ -228,7 +228,7 @@ module _ (ex : Lower) (room : ℕ) (right : AreRight room ex)
     split = λ n s levels low. split n s.0 s.1 s.2 s.3 levels;
   }
     where
-      split : (n : Node) (p : Pos) (e : Node) (more : List Arm) → n ≡ node.Match p e more → IsLevelled (phrase n)
+      split : (n : Node) (p : Pos) (e : Node) (more : List SurfaceArm) → n ≡ node.Match p e more → IsLevelled (phrase n)
           → (t : Matched) × (n ≡ (matched_of t).node) × matched_fits t
       split n p e [] is l = absurd (clash (subst IsLevelled (ap phrase is ∙ phrase_Match p e []) l).0)
         where
@@ -236,9 +236,9 @@ module _ (ex : Lower) (room : ℕ) (right : AreRight room ex)
           clash h = absurd cc
       split n p e (a ∷ more) is l = (
         (p, measured_of e, ((a.pattern, measured_of a.body), armed_of more)),
-        is ∙ ap (λ (xs : List Arm). node.Match p e xs)
+        is ∙ ap (λ (xs : List SurfaceArm). node.Match p e xs)
             (sym (arms_are (with_arm no_arms a.pattern (measured_of a.body)) (armed_of more)
-            ∙ ap (λ (xs : List Arm). a ∷ xs) (arms_back more))),
+            ∙ ap (λ (xs : List SurfaceArm). a ∷ xs) (arms_back more))),
         (refl, levelled_armed a more (subst IsLevelled (ap phrase is ∙ phrase_Match p e (a ∷ more)) l).1.2),
       )
 

@@ -2,8 +2,8 @@
 use Rattle.std.proofs.Common.{◌≡◌, ℕ, ◌≤◌, Bool, false, List, [], ◌∷◌, map, refl, sym, ap, subst, arith}
 use Rattle.cat_pos.specs.declared.pos.Pos.{Pos}
 use Rattle.cat_tree.specs.declared.name.Name.{Name}
-use Rattle.cat_tree.specs.declared.expression.Literal.{Literal}
-use Rattle.cat_tree.specs.declared.expression.Literal.TheVariants as literal
+use Rattle.cat_tree.specs.declared.expression.SurfaceLiteral.{SurfaceLiteral}
+use Rattle.cat_tree.specs.declared.expression.SurfaceLiteral.TheVariants as literal
 use Rattle.cat_tree.specs.declared.expression.Prefix.{Prefix}
 use Rattle.cat_tree.specs.declared.expression.Prefix.TheVariants as prefix
 use Rattle.cat_tree.specs.declared.expression.Node.{Node}
@@ -48,7 +48,7 @@ prefix_low prefix.Not = (omega arith, omega arith)
 prefix_low prefix.Negate = (omega arith, omega arith)
 prefix_low _ = (omega arith, omega arith)
 
-literal_level : (l : Literal) → (literal_rank l).level ≡ 9
+literal_level : (l : SurfaceLiteral) → (literal_rank l).level ≡ 9
 literal_level (literal.Span n u) = refl
 literal_level _ = refl
 
@@ -103,7 +103,7 @@ word_by n f e h = subst EndsInWord (sym e) h
 too_low : {A : Type 0} (k : ℕ) → k ≤ 8 → 9 ≤ k → A
 too_low k le h = absurd (omega (arith, le, h))
 
-literal_ends : (l : Literal) (p : Pos) → EndsInWord (Row (literal_rank l) (literal_parts l p))
+literal_ends : (l : SurfaceLiteral) (p : Pos) → EndsInWord (Row (literal_rank l) (literal_parts l p))
 literal_ends (literal.Int n) p h = (refl, refl)
 literal_ends _ p h = (refl, refl)
 

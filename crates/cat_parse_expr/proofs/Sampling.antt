@@ -8,8 +8,8 @@ use Rattle.cat_lex.specs.declared.symbol.Symbol.TheVariants as symbol
 use Rattle.cat_tree.specs.Accumulation.{accumulation}
 use Rattle.cat_tree.specs.declared.name.Name.{Name}
 use Rattle.cat_tree.specs.declared.name.Type as types
-use Rattle.cat_tree.specs.declared.expression.Literal.{Literal}
-use Rattle.cat_tree.specs.declared.expression.Arm.{Arm}
+use Rattle.cat_tree.specs.declared.expression.SurfaceLiteral.{SurfaceLiteral}
+use Rattle.cat_tree.specs.declared.expression.SurfaceArm.{SurfaceArm}
 use Rattle.cat_tree.specs.declared.expression.Node.{Node}
 use Rattle.cat_tree.specs.declared.expression.Node.TheVariants as leaves
 use Rattle.cat_tree.specs.declared.expression.Node.TheViews as node
@@ -139,7 +139,7 @@ over_words k p n q b le e is =
       ),
     )
 
-pub literal_sample : (k : ℕ) (p : Token) (l : Literal) (q : TokenKind) → k ≤ 9 → p.kind ≡ q
+pub literal_sample : (k : ℕ) (p : Token) (l : SurfaceLiteral) (q : TokenKind) → k ≤ 9 → p.kind ≡ q
     → phrase (leaves.Literal l p.pos) ≡ Row (of_level 9) (Word (At q p.pos) End) → Sample k p
 literal_sample k p l q le e is =
     sample_of k p (leaves.Literal l p.pos) _ _ [] is le refl tt (p, [], refl, token_is p q p.pos e refl, refl)
@@ -176,7 +176,7 @@ if_sample k p le e =
       ),
     )
 
-an_arm : Arm
+an_arm : SurfaceArm
 an_arm = record { pattern = pattern.Anything; body = a_node }
 
 pub match_sample : (k : ℕ) (p : Token) → k ≤ 8 → p.kind ≡ kind.Word key.Match → Sample k p

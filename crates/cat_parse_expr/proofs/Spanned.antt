@@ -7,8 +7,8 @@ use Rattle.cat_lex.specs.declared.token.TokenKind.{TokenKind}
 use Rattle.cat_lex.specs.declared.token.TokenKind.TheVariants as kind
 use Rattle.cat_lex.specs.declared.words.Keyword.TheVariants as key
 use Rattle.cat_lex.specs.declared.symbol.Symbol.TheVariants as symbol
-use Rattle.cat_tree.specs.declared.expression.Literal.{Literal}
-use Rattle.cat_tree.specs.declared.expression.Literal.TheVariants as literal
+use Rattle.cat_tree.specs.declared.expression.SurfaceLiteral.{SurfaceLiteral}
+use Rattle.cat_tree.specs.declared.expression.SurfaceLiteral.TheVariants as literal
 use Rattle.cat_tree.specs.declared.expression.Unit.{Unit as TimeUnit}
 use Rattle.cat_tree.specs.declared.expression.Unit.TheVariants as unit
 use Rattle.cat_tree.specs.declared.expression.Node.TheVariants as leaves
@@ -40,11 +40,11 @@ use Rattle.cat_parse_expr.proofs.Literate.{literal_row_is, Bounded, head_of, lit
 
 -- ---- units
 
-abbrev unit_in : Literal → TimeUnit
+abbrev unit_in : SurfaceLiteral → TimeUnit
 unit_in (literal.Span n u) = u
 unit_in l = unit.Year
 
-abbrev IsSpan : Literal → Type 0
+abbrev IsSpan : SurfaceLiteral → Type 0
 IsSpan (literal.Span n u) = Unit {0}
 IsSpan l = ⊥
 
@@ -124,7 +124,7 @@ module _ (room : ℕ) (b : Behind) (k : ℕ) where
 
   -- what is no number takes nothing more
   alone : {K : Type 0} (x : PlacedLiteral) → Bounded x.0 → shortened x.0 ≡ x.0 → literal_rest x.0 ≡ End
-      → ((y : Literal) → Bounded y → shortened y ≡ x.0 → y ≡ x.0)
+      → ((y : SurfaceLiteral) → Bounded y → shortened y ≡ x.0 → y ≡ x.0)
       → ReadAs K (At_word x) (λ y. literal_rest y.0) (pure (literal_node x))
   alone x bounded same none only =
       reshape_read (At_word x) (At_word x) (λ y. End) (λ y. literal_rest y.0) (pure (literal_node x))
@@ -133,8 +133,8 @@ module _ (room : ℕ) (b : Behind) (k : ℕ) where
         from = λ y f. f;
         rows = λ y f. sym (ap literal_rest (only y.0 f.0 (ap (λ (t : PlacedLiteral). t.0) f.1)) ∙ none);
       })
-      (pure_read x (λ f. (bounded, ap (λ (l : Literal). (l, x.1)) same)) (λ f c. omega arith)
-      (λ y f h. ap (λ (l : Literal). (l, y.1)) (only y.0 h.0 (ap (λ (t : PlacedLiteral). t.0) h.1))
+      (pure_read x (λ f. (bounded, ap (λ (l : SurfaceLiteral). (l, x.1)) same)) (λ f c. omega arith)
+      (λ y f h. ap (λ (l : SurfaceLiteral). (l, y.1)) (only y.0 h.0 (ap (λ (t : PlacedLiteral). t.0) h.1))
       ∙ ap (λ (p : Pos). (x.0, p)) (ap (λ (t : PlacedLiteral). t.1) h.1)))
 
   module _ (n : ℤ) (p : Pos) (within : int_lt span_bound n ≡ false) where
@@ -149,7 +149,7 @@ module _ (room : ℕ) (b : Behind) (k : ℕ) where
         ap (λ (t : PlacedLiteral). (literal.Span (number t.0) v, t.1)) f.0.1
         ∙ ap (λ (w : TimeUnit). (literal.Span n w, p)) e
       where
-        number : Literal → ℤ
+        number : SurfaceLiteral → ℤ
         number (literal.Int z) = z
         number l = m
     span_is (literal.Int m, q) u f e = absurd f.1
@@ -245,12 +245,12 @@ module _ (room : ℕ) (b : Behind) (k : ℕ) where
   abbrev behind : PlacedLiteral → Reader Measured
   behind x = spanned x.0 ⨟ λ l. pure (leaf (leaves.Literal l x.1))
 
-  number_alone : (n : ℤ) → int_lt span_bound n ≡ true → (y : Literal) → Bounded y → shortened y ≡ literal.Int n
+  number_alone : (n : ℤ) → int_lt span_bound n ≡ true → (y : SurfaceLiteral) → Bounded y → shortened y ≡ literal.Int n
       → y ≡ literal.Int n
   number_alone n h (literal.Span m u) f e = absurd (clash (int_lt span_bound n) h
       (ap (λ (z : ℤ). int_lt span_bound z) (sym (ap number e)) ∙ f))
     where
-      number : Literal → ℤ
+      number : SurfaceLiteral → ℤ
       number (literal.Int z) = z
       number l = m
 
@@ -259,11 +259,11 @@ module _ (room : ℕ) (b : Behind) (k : ℕ) where
   number_alone n h (literal.Int m) f e = e
   number_alone n h _ f e = e
 
-  abbrev IsNumber : Literal → Type 0
+  abbrev IsNumber : SurfaceLiteral → Type 0
   IsNumber (literal.Int n) = Unit {0}
   IsNumber l = ⊥
 
-  other_alone : (x : Literal) → (IsNumber x → ⊥) → (y : Literal) → shortened y ≡ x → y ≡ x
+  other_alone : (x : SurfaceLiteral) → (IsNumber x → ⊥) → (y : SurfaceLiteral) → shortened y ≡ x → y ≡ x
   other_alone x never (literal.Span m u) e = absurd (never (subst IsNumber e tt))
   other_alone x never _ e = e
 

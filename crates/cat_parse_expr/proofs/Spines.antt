@@ -23,8 +23,8 @@ use Rattle.cat_tree.proofs.Exported.{phrase_Content, phrase_Each, phrase_Field, 
 use Rattle.cat_tree.proofs.Exported.{phrase_Literal, phrase_Match, phrase_Name, phrase_Parens, phrase_Prefixed}
 use Rattle.cat_tree.proofs.Exported.{phrase_ScopeCall, phrase_Structure, phrase_Sum, phrase_Test}
 use Rattle.cat_lex.specs.declared.symbol.Symbol.TheVariants as symbol
-use Rattle.cat_tree.specs.declared.expression.Literal.{Literal}
-use Rattle.cat_tree.specs.declared.expression.Literal.TheVariants as literal
+use Rattle.cat_tree.specs.declared.expression.SurfaceLiteral.{SurfaceLiteral}
+use Rattle.cat_tree.specs.declared.expression.SurfaceLiteral.TheVariants as literal
 use Rattle.cat_tree.specs.declared.expression.Prefix.{Prefix}
 use Rattle.cat_tree.specs.declared.expression.Prefix.TheVariants as prefix
 use Rattle.cat_tree.specs.declared.expression.Each.{Each}
@@ -228,7 +228,7 @@ not_bare n f e h b = absurd (clash (is_bare f) (ap is_bare (sym e) ∙ b) h)
     clash : (c : Bool) → c ≡ true → c ≡ false → ⊥
     clash c x y = absurd cc
 
-literal_not_bare : (l : Literal) (p : Pos) → is_bare (Row (literal_rank l) (literal_parts l p)) ≡ false
+literal_not_bare : (l : SurfaceLiteral) (p : Pos) → is_bare (Row (literal_rank l) (literal_parts l p)) ≡ false
 literal_not_bare (literal.Int n) p = refl
 literal_not_bare _ p = refl
 

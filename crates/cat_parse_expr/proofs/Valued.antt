@@ -47,7 +47,7 @@ use Rattle.cat_parse_expr.specs.Openings.{follow_of}
 use Rattle.cat_parse_expr.specs.Parts.{has_field, next_field, field_value}
 use Rattle.cat_parse_expr.proofs.Operands.{part_shrinks, hidden_left}
 use Rattle.cat_parse_expr.proofs.Turnings.{own_heads}
-use Rattle.cat_tree.specs.declared.expression.FieldValue.{FieldValue}
+use Rattle.cat_tree.specs.declared.expression.SurfaceField.{SurfaceField}
 use Rattle.cat_tree.specs.Rows.{fields}
 use Rattle.cat_tree.proofs.Exported.{field_row}
 use Rattle.cat_parse_expr.specs.declared.measured.Fields.{Fields}
@@ -64,7 +64,7 @@ use Rattle.cat_parse_expr.proofs.Truth.{second_is_true}
 abbrev pub Valued : Type 0
 Valued = Name × Measured
 
-abbrev pub values_of : List Valued → List FieldValue
+abbrev pub values_of : List Valued → List SurfaceField
 values_of [] = []
 values_of (x ∷ xs) = record { name = x.0; value = x.1.node } ∷ values_of xs
 
@@ -80,17 +80,17 @@ abbrev pub AreValued : List Valued → Type 0
 AreValued [] = Unit {0}
 AreValued (x ∷ xs) = IsMeasured x.1 × AreValued xs
 
-abbrev pub valued_of : List FieldValue → List Valued
+abbrev pub valued_of : List SurfaceField → List Valued
 valued_of [] = []
 valued_of (f ∷ fs) = (f.name, measured_of f.value) ∷ valued_of fs
 
-pub valued_are : (fs : List FieldValue) → AreValued (valued_of fs)
+pub valued_are : (fs : List SurfaceField) → AreValued (valued_of fs)
 valued_are [] = tt
 valued_are (f ∷ fs) = (refl, valued_are fs)
 
-pub values_back : (fs : List FieldValue) → values_of (valued_of fs) ≡ fs
+pub values_back : (fs : List SurfaceField) → values_of (valued_of fs) ≡ fs
 values_back [] = refl
-values_back (f ∷ fs) = ap (λ (z : List FieldValue). f ∷ z) (values_back fs)
+values_back (f ∷ fs) = ap (λ (z : List SurfaceField). f ∷ z) (values_back fs)
 
 pub rows_are : (xs : List Valued) → map field_row (values_of xs) ≡ field_rows xs
 rows_are [] = refl

@@ -16,8 +16,8 @@ use Rattle.cat_tree.specs.declared.name.CaseName.TheVariants.{Bare, Qualified}
 use Rattle.cat_tree.specs.declared.name.Name.{Name}
 use Rattle.cat_tree.specs.declared.expression.Each.{Each}
 use Rattle.cat_tree.specs.declared.expression.Each.TheVariants as each
-use Rattle.cat_tree.specs.declared.expression.Literal.{Literal}
-use Rattle.cat_tree.specs.declared.expression.Literal.TheVariants as literal
+use Rattle.cat_tree.specs.declared.expression.SurfaceLiteral.{SurfaceLiteral}
+use Rattle.cat_tree.specs.declared.expression.SurfaceLiteral.TheVariants as literal
 use Rattle.cat_tree.specs.declared.expression.Prefix.{Prefix}
 use Rattle.cat_tree.specs.declared.expression.Prefix.TheVariants as prefix
 use Rattle.cat_tree.specs.declared.expression.Unit.{Unit as TimeUnit}
@@ -38,7 +38,7 @@ use Rattle.cat_parse_expr.specs.Parts.{arguments, arms, matched_value, is_lower}
 -- ---- literals
 
 -- the literal that a token is
-abbrev pub literal_kind : TokenKind → Option Literal
+abbrev pub literal_kind : TokenKind → Option SurfaceLiteral
 literal_kind (kind.Int n) = Some (literal.Int n)
 literal_kind (kind.Dec d) = Some (literal.Dec d)
 literal_kind (kind.Pct d) = Some (literal.Pct d)
@@ -49,12 +49,12 @@ literal_kind (kind.Word key.False) = Some (literal.Boolean false)
 literal_kind _ = None
 
 -- a literal with its position
-abbrev pub placed : Option Literal → Pos → Option (Literal × Pos)
+abbrev pub placed : Option SurfaceLiteral → Pos → Option (SurfaceLiteral × Pos)
 placed None p = None
 placed (Some l) p = Some (l, p)
 
 -- the token as a literal with its position
-abbrev pub literal_of : Token → Option (Literal × Pos)
+abbrev pub literal_of : Token → Option (SurfaceLiteral × Pos)
 literal_of t = placed (literal_kind t.kind) t.pos
 
 -- the unit that a token is
@@ -72,7 +72,7 @@ is_unit (kind.Word key.Day) = true
 is_unit _ = false
 
 -- a number of years, months or days, within its bound
-abbrev pub spanned : Literal → Reader Literal
+abbrev pub spanned : SurfaceLiteral → Reader SurfaceLiteral
 spanned (literal.Int n) =
     if int_lt span_bound n then pure (literal.Int n) else by_word is_unit
     (one (λ t. unit_kind t.kind) ⨟ λ u. pure (literal.Span n u)) (pure (literal.Int n))

@@ -1,6 +1,7 @@
 -- Where a list of tokens can no longer be an expression.
 use Rattle.std.specs.Prelude.{ℕ, suc, ◌≤◌, ◌<◌, List, length, slice_range}
 use Rattle.cat_lex.specs.declared.token.Token.{Token}
+use Rattle.cat_tree.specs.Limits.{most_height}
 use Rattle.cat_tree.specs.declared.expression.Node.{Node}
 use Rattle.cat_tree.specs.Spells.{Spells, Begins, height_of}
 
@@ -18,4 +19,4 @@ pub record GoesUpTo (tokens : List Token) (at place : ℕ) : Type 0 where
 pub record IsTooHigh (tokens : List Token) (at place : ℕ) : Type 0 where
   pub within : place < length tokens
   pub begins : Begins (slice_range tokens at (suc place))
-  pub none_low : (b : Begins (slice_range tokens at (suc place))) → height_of b.tree ≤ 256 → ⊥
+  pub none_low : (b : Begins (slice_range tokens at (suc place))) → height_of b.tree ≤ most_height → ⊥

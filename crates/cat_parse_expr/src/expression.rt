@@ -2,6 +2,7 @@
 ghost use Rattle.std.specs.Prelude.{◌≡◌, ◌≤◌, ℕ, List, length, take, drop, IfOk, IfErr, Some, Ok, Err};
 ghost use Rattle.cat_lex.specs.declared.token.Token.{Token};
 ghost use Rattle.cat_tree.specs.declared.expression.Node.{Node};
+ghost use Rattle.cat_tree.specs.Limits.{most_height};
 ghost use Rattle.cat_tree.specs.Spells.{Spells, IsFront};
 ghost use Rattle.cat_parse_expr.specs.declared.behind.Behind.TheVariants.{Other};
 ghost use Rattle.cat_parse_expr.specs.Causes.{HasCause, HasReachCause};
@@ -16,16 +17,16 @@ use crate::measured::Measured;
 use crate::miss::{Break, Miss, Read};
 use crate::refusal::{ParseRefusal, refusal_at};
 use cat_lex::Token;
-use cat_tree::Node;
+use cat_tree::{MOST_HEIGHT, Node};
 use std::alloc::Global;
 
 /// What the tokens before the index read as, alone.
 fn front(alloc: Global, tokens: &[Token], at: usize, end: usize) -> Read<Measured>
     requires order { at ≤ end }
     requires within { end ≤ length tokens.now }
-    ensures { Gives (climbing.operand 256 Other 0) (take end tokens.now) at result }
+    ensures { Gives (climbing.operand most_height Other 0) (take end tokens.now) at result }
 {
-    operand(alloc, &tokens[..end], at, 256, Behind::Other, 0)
+    operand(alloc, &tokens[..end], at, MOST_HEIGHT, Behind::Other, 0)
 }
 
 /// The whole expression before the index, behind which something longer broke off: it is read once more.
@@ -37,10 +38,10 @@ fn whole(
     end: usize,
 ) -> Result<Node, ParseRefusal>
     requires place { at ≤ length tokens.now }
-    requires broken { Gives (climbing.operand 256 Other 0) tokens.now at (Err (Miss.Broken broken)) }
+    requires broken { Gives (climbing.operand most_height Other 0) tokens.now at (Err (Miss.Broken broken)) }
     requires whole { broken.whole ≡ Some end }
     ensures found { IfOk result (λ e. IsFront tokens.now at end e) }
-    ensures read { IfOk result (λ e. (left : List Token) → front_found (climbing.operand 256 Other 0
+    ensures read { IfOk result (λ e. (left : List Token) → front_found (climbing.operand most_height Other 0
         (before (drop end tokens.now) (drop at tokens.now))) (drop end tokens.now) left ≡ Found e (drop end tokens.now) left) }
     ensures memory { IfErr result (λ refusal. refusal ≡ ParseRefusal.Memory) }
 {
@@ -59,7 +60,7 @@ pub fn expr(alloc: Global, tokens: &[Token], at: usize) -> Result<(Node, usize),
     ensures longest { IfOk result (λ read. (e : Node) (next : ℕ) → IsFront tokens.now at next e → next ≤ read.1) }
     ensures cause { IfErr result (HasCause tokens.now at) }
 {
-    match operand(alloc, tokens, at, 256, Behind::Other, 0) {
+    match operand(alloc, tokens, at, MOST_HEIGHT, Behind::Other, 0) {
         Ok((read, next)) => Ok((read.node.into_inner(), next)),
         Err(Miss::Memory) => Err(ParseRefusal::Memory),
         Err(Miss::Broken(broken)) => match broken.whole {
@@ -81,9 +82,9 @@ pub fn expr_reach(
     ensures longest { IfOk result (λ read. (e : Node) (next : ℕ) → IsFront tokens.now at next e → next ≤ read.1) }
     ensures reach { IfOk result (λ read. GoesUpTo tokens.now at read.2) }
     ensures cause { IfErr result (HasReachCause tokens.now at) }
-    ensures gives { GivesReach (expression_reach 256 (drop at tokens.now)) tokens.now result }
+    ensures gives { GivesReach (expression_reach most_height (drop at tokens.now)) tokens.now result }
 {
-    match operand(alloc, tokens, at, 256, Behind::Other, 0) {
+    match operand(alloc, tokens, at, MOST_HEIGHT, Behind::Other, 0) {
         Ok((read, next)) => Ok((read.node.into_inner(), next, next)),
         Err(Miss::Memory) => Err(ParseRefusal::Memory),
         Err(Miss::Broken(broken)) => {

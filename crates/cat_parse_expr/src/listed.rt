@@ -15,7 +15,7 @@ use crate::miss::{Read, behind_whole, hidden};
 use crate::words::{is_next, lower, word};
 use cat_lex::{Symbol, Token};
 use cat_pos::List;
-use cat_tree::{FieldValue, Name};
+use cat_tree::{Name, SurfaceField};
 use std::alloc::{AllocError, Global};
 
 /// A part that a word follows, at any level.
@@ -191,7 +191,7 @@ fn with_field(fields: Fields, name: Name, value: Measured) -> Result<Fields, All
         tallest,
     } = fields;
     let tallest = tallest.max(value.height);
-    values.push(FieldValue {
+    values.push(SurfaceField {
         name,
         value: value.node.into_inner(),
     })?;

@@ -9,28 +9,28 @@ use crate::miss::{Read, broken_at};
 use cat_lex::{Keyword, Token, TokenKind};
 use cat_num::Whole;
 use cat_pos::Pos;
-use cat_tree::{Literal, Node, Unit};
+use cat_tree::{Node, SurfaceLiteral, Unit};
 use std::alloc::Global;
 
 /// The greatest number of years, months or days that a literal gives.
 const SPAN_BOUND: i64 = 999_999_999;
 
-fn literal_of(kind: &TokenKind) -> Option<Literal>
+fn literal_of(kind: &TokenKind) -> Option<SurfaceLiteral>
     ensures { result ≡ forms.literal_kind kind.now }
 {
     match kind {
-        TokenKind::Int(number) => Some(Literal::Int(*number)),
-        TokenKind::Dec(decimal) => Some(Literal::Dec(*decimal)),
-        TokenKind::Pct(decimal) => Some(Literal::Pct(*decimal)),
-        TokenKind::Money(amount) => Some(Literal::Money(*amount)),
-        TokenKind::Date(day) => Some(Literal::Date(*day)),
-        TokenKind::Word(Keyword::True) => Some(Literal::Boolean(true)),
-        TokenKind::Word(Keyword::False) => Some(Literal::Boolean(false)),
+        TokenKind::Int(number) => Some(SurfaceLiteral::Int(*number)),
+        TokenKind::Dec(decimal) => Some(SurfaceLiteral::Dec(*decimal)),
+        TokenKind::Pct(decimal) => Some(SurfaceLiteral::Pct(*decimal)),
+        TokenKind::Money(amount) => Some(SurfaceLiteral::Money(*amount)),
+        TokenKind::Date(day) => Some(SurfaceLiteral::Date(*day)),
+        TokenKind::Word(Keyword::True) => Some(SurfaceLiteral::Boolean(true)),
+        TokenKind::Word(Keyword::False) => Some(SurfaceLiteral::Boolean(false)),
         _ => None,
     }
 }
 
-fn literal_at(tokens: &[Token], at: usize) -> Read<(Literal, Pos)>
+fn literal_at(tokens: &[Token], at: usize) -> Read<(SurfaceLiteral, Pos)>
     requires { at ≤ length tokens.now }
     ensures { Gives (one forms.literal_of) tokens.now at result }
 {
@@ -55,28 +55,28 @@ fn unit_of(kind: &TokenKind) -> Option<Unit>
 }
 
 /// The number, or the duration where a unit follows.
-fn numbered(tokens: &[Token], at: usize, number: Whole) -> Read<Literal>
+fn numbered(tokens: &[Token], at: usize, number: Whole) -> Read<SurfaceLiteral>
     requires { at ≤ length tokens.now }
-    ensures { Gives (forms.spanned (Literal.Int number)) tokens.now at result }
+    ensures { Gives (forms.spanned (SurfaceLiteral.Int number)) tokens.now at result }
 {
     if number.get() > SPAN_BOUND {
-        return Ok((Literal::Int(number), at));
+        return Ok((SurfaceLiteral::Int(number), at));
     }
     match tokens.get(at) {
         Some(token) => match unit_of(&token.kind) {
-            Some(unit) => Ok((Literal::Span(number, unit), at + 1)),
-            None => Ok((Literal::Int(number), at)),
+            Some(unit) => Ok((SurfaceLiteral::Span(number, unit), at + 1)),
+            None => Ok((SurfaceLiteral::Int(number), at)),
         },
-        None => Ok((Literal::Int(number), at)),
+        None => Ok((SurfaceLiteral::Int(number), at)),
     }
 }
 
-fn spanned(tokens: &[Token], at: usize, literal: Literal) -> Read<Literal>
+fn spanned(tokens: &[Token], at: usize, literal: SurfaceLiteral) -> Read<SurfaceLiteral>
     requires { at ≤ length tokens.now }
     ensures { Gives (forms.spanned literal) tokens.now at result }
 {
     match literal {
-        Literal::Int(number) => numbered(tokens, at, number),
+        SurfaceLiteral::Int(number) => numbered(tokens, at, number),
         other => Ok((other, at)),
     }
 }

@@ -18,7 +18,7 @@ use crate::miss::{Read, behind_whole};
 use crate::words::{is_next, is_second_lower, lower, upper, word, word_with_room};
 use cat_lex::{DoubleKeyword, Keyword, Symbol, Token};
 use cat_pos::{Boxed, List};
-use cat_tree::{Arm, Node, Pattern};
+use cat_tree::{Node, Pattern, SurfaceArm};
 use std::alloc::{AllocError, Global};
 
 /// A case, with the name of its content where it has one.
@@ -70,7 +70,7 @@ fn with_arm(arms: MatchArms, pattern: Pattern, body: Measured) -> Result<MatchAr
     } = arms;
     let tallest = tallest.max(body.height);
     let in_match = body.in_match;
-    arms.push(Arm {
+    arms.push(SurfaceArm {
         pattern,
         body: body.node.into_inner(),
     })?;

@@ -3,7 +3,7 @@ ghost use Rattle.std.specs.Prelude.{◌≡◌, ◌<◌, IfOk};
 ghost use Rattle.cat_parse_expr.specs.Measures as spec;
 
 use cat_pos::Boxed;
-use cat_tree::{Arms, FieldValues, Node, Nodes};
+use cat_tree::{Node, Nodes, SurfaceArms, SurfaceFields};
 use std::alloc::{AllocError, Global};
 
 /// An expression, with what counts of it.
@@ -26,14 +26,14 @@ pub struct Elements {
 /// The fields of a structure or of a scope call, with the height of the highest value.
 #[derive(Drop)]
 pub struct Fields {
-    pub values: FieldValues,
+    pub values: SurfaceFields,
     pub tallest: u32,
 }
 
 /// The arms of a match, with the height of the highest body, and whether the last one ends in a match.
 #[derive(Drop)]
 pub struct MatchArms {
-    pub arms: Arms,
+    pub arms: SurfaceArms,
     pub tallest: u32,
     pub in_match: bool,
 }

@@ -1,18 +1,18 @@
 -- The limits, and positions in the text of the lines `ab`, an empty one and `cd`.
 use Rattle.std.proofs.Common.{◌≡◌, List, ℕ, [], ◌∷◌, refl}
-use Rattle.std.specs.Prelude.{◌^◌, codes, Some, None}
+use Rattle.std.specs.Prelude.{◌^◌, ◌*◌, codes, Some, None}
 use Rattle.std.specs.Fmt.{digits}
-use Rattle.cat_pos.specs.declared.limits.TheConstants.{MOST_FILE_BYTES, MOST_SOURCE_BYTES, MOST_INPUT_BYTES}
 use Rattle.cat_pos.specs.declared.limits.TheConstants.{ENTRIES_BOUND}
+use Rattle.cat_pos.specs.Limits.{most_file_bytes, most_source_bytes, most_input_bytes}
 use Rattle.cat_pos.specs.Position.{pos_of, line_of, column_of, position_of, shown}
 
-a_file_has_at_most_4_MiB : MOST_FILE_BYTES ≡ 4194304
+a_file_has_at_most_4_MiB : most_file_bytes ≡ 4 * 2 ^ 20
 a_file_has_at_most_4_MiB = refl
 
-a_source_has_at_most_16_MiB : MOST_SOURCE_BYTES ≡ 16777216
+a_source_has_at_most_16_MiB : most_source_bytes ≡ 16 * 2 ^ 20
 a_source_has_at_most_16_MiB = refl
 
-an_input_has_at_most_64_MiB : MOST_INPUT_BYTES ≡ 67108864
+an_input_has_at_most_64_MiB : most_input_bytes ≡ 64 * 2 ^ 20
 an_input_has_at_most_64_MiB = refl
 
 a_u32_numbers_each_entry : ENTRIES_BOUND ≡ 2 ^ 32

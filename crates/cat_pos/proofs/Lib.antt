@@ -1,3 +1,5 @@
 pub mod Walking
 pub mod Packing
+pub mod StackLemmas
+pub mod Popping
 mod Examples

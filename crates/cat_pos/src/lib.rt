@@ -8,6 +8,7 @@ mod limits;
 mod list;
 mod pos;
 mod shared;
+mod stack;
 mod text;
 
 pub use boxed::Boxed;
@@ -15,11 +16,12 @@ pub use bytes::is_blank;
 pub use files::{Files, show_pos};
 pub use limits::{
     COLUMNS_BOUND, ENTRIES_BOUND, LAST_LINE, MOST_FILE_BYTES, MOST_FILES, MOST_INPUT_BYTES,
-    MOST_SOURCE_BYTES,
+    MOST_SOURCE_BYTES, limits_are_as_stated,
 };
 pub use list::List;
 pub use pos::{Piece, Pieces, Pos, Positions, pos_at};
 pub use shared::Shared;
+pub use stack::Stack;
 pub use text::Text;
 
 /// Numbers of scopes, items, definitions and the like.

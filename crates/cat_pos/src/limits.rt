@@ -1,4 +1,6 @@
 // What sources, inputs and numbered lists are limited to.
+ghost use Rattle.std.specs.Prelude.{◌≡◌};
+ghost use Rattle.cat_pos.specs.Limits.{most_file_bytes, most_files, most_input_bytes, most_source_bytes};
 
 /// The bytes of one source file: 4 MiB.
 pub const MOST_FILE_BYTES: usize = 4 * 1024 * 1024;
@@ -20,3 +22,11 @@ pub const COLUMNS_BOUND: u32 = 64 * 1024 * 1024;
 
 /// A list that a `u32` numbers has fewer entries.
 pub const ENTRIES_BOUND: u64 = 1 << 32;
+
+/// The limits by which code counts are those of the definitions.
+pub fn limits_are_as_stated()
+    ensures file_bytes { MOST_FILE_BYTES ≡ most_file_bytes }
+    ensures files { MOST_FILES ≡ most_files }
+    ensures source_bytes { MOST_SOURCE_BYTES ≡ most_source_bytes }
+    ensures input_bytes { MOST_INPUT_BYTES ≡ most_input_bytes }
+{}

@@ -8,16 +8,16 @@ ghost use Rattle.std.specs.Cmp.Lexicographic.{nat_list_eq_equiv, nat_list_cmp_to
 ghost use Rattle.std.specs.Ordering.{nat_cmp};
 ghost use Rattle.std.specs.Str.{bytes_eq};
 
+use crate::Shared;
 use std::alloc::{AllocError, Global};
 use std::cmp::Ordering;
 use std::hash::{Hash, Hasher};
 use std::marker::Model;
-use std::rc::Rc;
 
 /// A text that contracts see as the list of its bytes. Copies share the bytes.
 #[derive(Debug, Drop)]
 pub struct Text {
-    text: Rc<String>,
+    text: Shared<String>,
 }
 
 impl Model for Text {
@@ -25,14 +25,14 @@ impl Model for Text {
 
     ghost Value = { List ℕ };
 
-    ghost view = { λ t. string_bytes t.text.value };
+    ghost view = { λ t. string_bytes t.text };
 }
 
 impl Text {
     pub fn from_string(alloc: Global, text: String) -> Result<Text, AllocError>
         ensures { IfOk result (λ t. t ≡ string_bytes text) }
     {
-        let text = Rc::new(alloc, text)?;
+        let text = Shared::new(alloc, text)?;
         Ok(Text { text })
     }
 
@@ -46,14 +46,14 @@ impl Text {
     pub fn as_str(&self) -> &str
         ensures { result.now ≡ self.now }
     {
-        self.text.as_ref().as_str()
+        self.text.get().as_str()
     }
 
     /// A text that shares the bytes of this one.
     pub fn copy(&self) -> Result<Text, AllocError>
         ensures { IfOk result (λ t. t ≡ self.now) }
     {
-        let text = self.text.clone()?;
+        let text = self.text.copy()?;
         Ok(Text { text })
     }
 

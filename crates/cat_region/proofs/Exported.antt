@@ -8,8 +8,7 @@ pub use Rattle.cat_region.proofs.DecisionLaws.{IsRegion-with_narrowing, IsInhabi
 pub use Rattle.cat_region.proofs.DecisionLaws.{Admits-point_at}
 pub use Rattle.cat_region.proofs.AdmitLemmas.{Admits-by_dimensions, IsEmpty-of_admits_none}
 pub use Rattle.cat_region.proofs.ChoiceLaws.{IsPointOf-point_at}
-pub use Rattle.cat_region.proofs.TrailLemmas.{narrowings-undone, last_narrowing-more, some-last}
-pub use Rattle.cat_region.proofs.StackLemmas.{pop_fewer, top_some}
+pub use Rattle.cat_region.proofs.TrailLemmas.{narrowings-undone, last_narrowing-more}
 pub use Rattle.cat_region.proofs.Tests.{le_is, lt_is, eq_is, and-parts, and-both}
 pub use Rattle.cat_region.proofs.LowestLemmas.{gcd_is, reduced_test}
 pub use Rattle.cat_region.proofs.ExtentLemmas.{beq-true, beq-false}

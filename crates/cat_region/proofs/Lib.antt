@@ -14,6 +14,5 @@ pub mod NearestLemmas
 pub mod BetweenLemmas
 pub mod ChoiceLaws
 pub mod KeptLemmas
-pub mod StackLemmas
 pub mod Exported
 pub mod Examples

@@ -285,11 +285,6 @@ last_narrowing-more [] n = refl
 last_narrowing-more (m ∷ []) n = refl
 last_narrowing-more (m ∷ k ∷ ns) n = last_narrowing-more (k ∷ ns) n
 
--- where there is a last narrowing, there is one to undo
-pub some-last : (ns : List Narrowing) (last : ℕ × Cut × Bool) → last_narrowing ns ≡ Some last → 0 < length ns
-some-last [] last h = absurd (cc)
-some-last (n ∷ ns) last h = omega arith
-
 -- a cut's dimension is there
 pub cut-within : (dims : List Dim) (i : ℕ) (c : Cut) → IsTrue (is_cut_at dims i c) → i < length dims
 cut-within [] i c h = absurd (cc)

@@ -1,5 +1,4 @@
 //! Regions: which values of some dimensions agree with the cuts that were made in them, and what is decided of a cut.
-//! And the stack on which a walk over regions keeps what it goes back to.
 #![tactic(auto)]
 
 mod choice;
@@ -10,7 +9,6 @@ mod laws;
 mod narrowing;
 mod point;
 mod region;
-mod stack;
 
 pub use cut::{Cut, Scalar};
 pub use dim::Dim;
@@ -22,4 +20,3 @@ pub use laws::{
 pub use narrowing::Narrowing;
 pub use point::Point;
 pub use region::Region;
-pub use stack::Stack;

@@ -5,7 +5,7 @@ ghost use Rattle.cat_scope.specs.declared.defs.SourcePart.TheVariants.{Declarati
 ghost use Rattle.cat_rows_data.specs.inside.Plain.{IsPlain, scope, variable, body_of};
 
 use cat_date::Rounding;
-use cat_pos::{List, Pos, Text};
+use cat_pos::{List, Pos, Shared, Text};
 use cat_scope::{Bodies, Body, Defs, Program, SourcePart, SourceParts};
 use cat_value::{Decls, ItemDecl, ItemDecls, Kind, Scope, Ty};
 use std::alloc::{AllocError, Global};
@@ -79,5 +79,7 @@ pub(crate) fn program_of(alloc: Global, defs: Defs) -> Result<Program, AllocErro
     ensures { IfOk result (λ program. program.bodies ≡ body_of defs ∷ []) }
 {
     let scope_order = List::from_slice(alloc, &[0])?;
-    Ok(Program::from_parts(decls(alloc)?, bodies(alloc, defs)?, scope_order))
+    let decls = decls(alloc)?;
+    let shared = Shared::new(alloc, decls)?;
+    Ok(Program::from_parts(shared, bodies(alloc, defs)?, scope_order))
 }

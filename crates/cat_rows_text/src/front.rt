@@ -4,7 +4,7 @@ use crate::writer::{WriteResult, Writer};
 use cat_date::number;
 use cat_num::DecimalLiteral;
 use cat_pos::Pos;
-use cat_tree::{Accumulation, Base, CaseName, Literal, Name, Node, Pattern, Type};
+use cat_tree::{Accumulation, Base, CaseName, Name, Node, Pattern, SurfaceLiteral, Type};
 use std::fmt::Debug;
 
 pub fn front(out: &mut Writer, node: &Node) -> WriteResult {
@@ -87,7 +87,7 @@ fn sum_front(out: &mut Writer, pos: Pos, ty: &Type) -> WriteResult {
     out.at(pos)
 }
 
-fn literal_front(out: &mut Writer, literal: &Literal, pos: Pos) -> WriteResult {
+fn literal_front(out: &mut Writer, literal: &SurfaceLiteral, pos: Pos) -> WriteResult {
     out.word("(")?;
     write_literal(out, literal)?;
     out.at(pos)
@@ -138,15 +138,15 @@ fn write_base(out: &mut Writer, base: &Base) -> WriteResult {
     }
 }
 
-fn write_literal(out: &mut Writer, literal: &Literal) -> WriteResult {
+fn write_literal(out: &mut Writer, literal: &SurfaceLiteral) -> WriteResult {
     match literal {
-        Literal::Int(whole) => write_value(out, "Int(", &whole.get()),
-        Literal::Dec(decimal) => write_decimal(out, "Dec(", *decimal),
-        Literal::Pct(decimal) => write_decimal(out, "Pct(", *decimal),
-        Literal::Money(money) => write_value(out, "Money(", &money.get()),
-        Literal::Date(day) => write_value(out, "Date(", &number(*day)),
-        Literal::Boolean(truth) => write_value(out, "Boolean(", truth),
-        Literal::Span(count, unit) => write_values(out, "Span(", &count.get(), unit),
+        SurfaceLiteral::Int(whole) => write_value(out, "Int(", &whole.get()),
+        SurfaceLiteral::Dec(decimal) => write_decimal(out, "Dec(", *decimal),
+        SurfaceLiteral::Pct(decimal) => write_decimal(out, "Pct(", *decimal),
+        SurfaceLiteral::Money(money) => write_value(out, "Money(", &money.get()),
+        SurfaceLiteral::Date(day) => write_value(out, "Date(", &number(*day)),
+        SurfaceLiteral::Boolean(truth) => write_value(out, "Boolean(", truth),
+        SurfaceLiteral::Span(count, unit) => write_values(out, "Span(", &count.get(), unit),
     }
 }
 

@@ -4,7 +4,7 @@
 use crate::front::{front, write_name, write_pattern};
 use crate::writer::{WriteResult, Writer};
 use cat_pos::Boxed;
-use cat_tree::{Arms, FieldValues, Node, Nodes};
+use cat_tree::{Node, Nodes, SurfaceArms, SurfaceFields};
 use std::alloc::{AllocError, Global};
 
 /// The tree as a text.
@@ -63,7 +63,7 @@ fn write_nodes(out: &mut Writer, nodes: &Nodes) -> WriteResult {
 }
 
 #[cycle(write)]
-fn write_fields(out: &mut Writer, fields: &FieldValues) -> WriteResult {
+fn write_fields(out: &mut Writer, fields: &SurfaceFields) -> WriteResult {
     out.word("[")?;
     for field in fields.as_slice() {
         write_name(out, &field.name)?;
@@ -75,7 +75,7 @@ fn write_fields(out: &mut Writer, fields: &FieldValues) -> WriteResult {
 }
 
 #[cycle(write)]
-fn write_arms(out: &mut Writer, arms: &Arms) -> WriteResult {
+fn write_arms(out: &mut Writer, arms: &SurfaceArms) -> WriteResult {
     out.word("[")?;
     for arm in arms.as_slice() {
         write_pattern(out, &arm.pattern)?;

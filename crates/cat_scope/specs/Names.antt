@@ -6,19 +6,12 @@ use Rattle.cat_value.specs.declared.declaration.Kind.{Kind}
 use Rattle.cat_value.specs.declared.declaration.Kind.TheVariants as kind
 use Rattle.cat_value.specs.declared.declaration.ItemDecl.{ItemDecl}
 use Rattle.cat_value.specs.declared.declaration.Scope.{Scope}
-use Rattle.cat_value.specs.Inputs.{must_be_given}
+use Rattle.cat_value.specs.Inputs.{must_be_given, outputs_in}
 
 -- the items of a scope
 abbrev pub items_in : Option Scope → List ItemDecl
 items_in None = []
 items_in (Some scope) = scope.items
-
--- a variable that is an output of its scope
-abbrev pub is_output : Kind → Bool
-is_output kind.Output = true
-is_output kind.InputOutput = true
-is_output kind.ContextOutput = true
-is_output _ = false
 
 -- each element has a property
 abbrev pub AllHave : {A : Type 0} → (A → Type 0) → List A → Type 0
@@ -52,11 +45,6 @@ is_plain item = not (is_called item.kind) && has_none item.params
 -- a function
 abbrev pub is_function : ItemDecl → Bool
 is_function item = not (is_called item.kind) && not (has_none item.params)
-
--- the outputs of a scope
-abbrev pub outputs_in : List ItemDecl → List ItemDecl
-outputs_in [] = []
-outputs_in (item ∷ items) = if is_output item.kind then item ∷ outputs_in items else outputs_in items
 
 -- the items of the scope of that number
 abbrev pub scope_items : Decls → ℕ → List ItemDecl

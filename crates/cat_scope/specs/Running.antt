@@ -13,7 +13,7 @@ use Rattle.cat_scope.specs.declared.defs.Body.{Body}
 use Rattle.cat_scope.specs.declared.programs.Program.{Program}
 use Rattle.cat_scope.specs.Replies.{known, with_front}
 use Rattle.cat_scope.specs.Runs.{Run, plain, gives, stops, and_then, choose}
-use Rattle.cat_scope.specs.Names.{is_output}
+use Rattle.cat_value.specs.Inputs.{is_output}
 use Rattle.cat_scope.specs.Targets.{judge_target}
 use Rattle.cat_scope.specs.Eval.{eval}
 use Rattle.cat_scope.specs.Calls.{Items, Runs, Scoped, env_of, call}

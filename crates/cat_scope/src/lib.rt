@@ -1,6 +1,7 @@
 //! Programs of scopes, and what they mean: the outcome that each input of a scope has.
 #![tactic(auto)]
 
+mod copying;
 mod defs;
 mod expr;
 mod forest;
@@ -8,6 +9,7 @@ mod operators;
 mod programs;
 mod stop;
 
+pub use copying::copy_expr;
 pub use defs::{
     Assertion, Assertions, Bodies, Body, Def, Defs, Except, Label, SourcePart, SourceParts,
 };

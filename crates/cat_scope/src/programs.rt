@@ -5,21 +5,21 @@ ghost use Rattle.std.specs.Prelude.{◌≡◌, ◌<◌, length, slice_get, IfSom
 
 use crate::{Assertion, Bodies, Def};
 use cat_date::Rounding;
-use cat_pos::Numbers;
+use cat_pos::{Numbers, Shared};
 use cat_value::{Decls, declarations_are_sound};
 
 /// A program: its declarations, a body for each scope, and the scopes' numbers, each behind the scopes that it calls.
 /// It is well typed, its orders are the ones that its dependencies give, and no chain of calls is longer than 256.
 #[derive(Debug, Drop)]
 pub struct Program {
-    pub decls: Decls,
+    pub decls: Shared<Decls>,
     pub bodies: Bodies,
     pub scope_order: Numbers,
     pub ghost well_formed: { ∥ IsWellFormed decls bodies scope_order ∥₁ },
 }
 
 impl Program {
-    pub fn from_parts(decls: Decls, bodies: Bodies, scope_order: Numbers) -> Program
+    pub fn from_parts(decls: Shared<Decls>, bodies: Bodies, scope_order: Numbers) -> Program
         requires { ∥ IsWellFormed decls bodies scope_order ∥₁ }
         ensures decls { result.decls ≡ decls }
         ensures bodies { result.bodies ≡ bodies }
@@ -35,7 +35,7 @@ impl Program {
     pub fn decls(&self) -> &Decls
         ensures { result.now ≡ self.now.decls }
     {
-        &self.decls
+        self.decls.get()
     }
 
     /// The scopes, each behind those that it calls.
@@ -89,8 +89,8 @@ impl Program {
     pub fn scope_named(&self, name: &str) -> Option<u32>
         ensures { result ≡ number_named name.now 0 self.now.decls.scopes }
     {
-        declarations_are_sound(&self.decls);
-        for (number, scope) in self.decls.scopes.as_slice().iter().enumerate() {
+        declarations_are_sound(self.decls());
+        for (number, scope) in self.decls().scopes.as_slice().iter().enumerate() {
             if scope.name.as_str() == name {
                 return Some(number as u32);
             }

@@ -5,7 +5,7 @@ ghost use Rattle.cat_scope.specs.declared.defs.SourcePart.TheVariants.{Declarati
 
 use crate::{Bodies, Body, Forest, ForestGroup, ForestTarget, Program, SourcePart};
 use cat_date::Rounding;
-use cat_pos::{List, Numbers, Text};
+use cat_pos::{List, Numbers, Shared, Text};
 use cat_value::{Decls, Scope, Target};
 use std::alloc::{AllocError, Global};
 use std::process::Abort;
@@ -47,7 +47,9 @@ fn decls(alloc: Global, name: &str) -> Result<Decls, AllocError>
 fn program(alloc: Global, name: &str) -> Result<Program, AllocError> {
     let mut scope_order = List::new(alloc);
     scope_order.push(0)?;
-    Ok(Program::from_parts(decls(alloc, name)?, bodies(alloc)?, scope_order))
+    let decls = decls(alloc, name)?;
+    let shared = Shared::new(alloc, decls)?;
+    Ok(Program::from_parts(shared, bodies(alloc)?, scope_order))
 }
 
 #[test]

@@ -1,6 +1,6 @@
 -- The way back up from a leaf.
-use Rattle.std.proofs.Common.{◌≡◌, ℕ, suc, ◌+◌, ◌-◌, ◌<◌, Bool, true, false, if◌then◌else◌, List, [], ◌∷◌, ◌++◌, length}
-use Rattle.std.proofs.Common.{take, Option, Some, None, IsTrue, sym, ap, ◌∙◌, subst, arith, length-append}
+use Rattle.std.proofs.Common.{◌≡◌, ℕ, suc, ◌+◌, ◌-◌, Bool, true, false, if◌then◌else◌, List, [], ◌∷◌, ◌++◌, length}
+use Rattle.std.proofs.Common.{take, Option, Some, None, IsTrue, sym, ap, ◌∙◌, subst, arith}
 use Rattle.std.specs.List.{list_all}
 use Rattle.std.proofs.lemmas.List.Folds.{list_all-append}
 use Rattle.cat_region.specs.declared.dim.Dim.{Dim}
@@ -51,9 +51,6 @@ module _ (ns after : List Narrowing) (last : ℕ × Cut × Bool) (is : last_narr
 
   pub sides_less : true_sides ns ≡ true_sides after + (if last.2 then 1 else 0)
   sides_less = ap true_sides split ∙ sides_more after (narrowed_to last.0 last.1 last.2)
-
-  pub shorter : length after < length ns
-  shorter = let e = ap length split in omega (arith, e, length-append after (narrowed_to last.0 last.1 last.2 ∷ []))
 
   pub last_cut : (dims : List Dim) → IsTrue (list_all (λ n. is_cut_at dims n.dim n.cut) ns)
       → IsTrue (is_cut_at dims last.0 last.1)

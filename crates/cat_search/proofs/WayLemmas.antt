@@ -5,10 +5,11 @@ use Rattle.std.proofs.Math.Bool.{beq}
 use Rattle.std.proofs.Math.Dec.{eqb}
 use Rattle.std.proofs.Math.Logic.{∥∥₁_elim}
 use Rattle.std.proofs.Props.{props}
-use Rattle.std.specs.List.{list_any, IsDistinct, AllByRecursion}
+use Rattle.std.specs.List.{list_any, IsDistinct}
 use Rattle.std.proofs.lemmas.Bool.{eqb-true}
 use Rattle.std.proofs.lemmas.Map.Steps.{length-le_from_distinct_below}
 use Rattle.std.proofs.lemmas.Option.{slice_get_within}
+use Rattle.cat_order.proofs.Exported.{apart_push}
 use Rattle.cat_value.proofs.Exported.{list_all_at}
 use Rattle.cat_region.specs.declared.narrowing.Narrowing.{Narrowing}
 use Rattle.cat_region.specs.declared.point.Point.{Point}
@@ -148,21 +149,6 @@ module _ (terms : List Term) (atoms : List Atom) (targets : List TableTarget)
           → (list_any (eqb q) (numbers path asked.1) ≡ true → IsKnown path q) → IsKnown (n ∷ path) q
       by true e g before = subst (IsKnown (n ∷ path)) (sym (eqb-true q asked.0.number e)) here
       by false e g before = kept path n asked some q (slice_get atoms q) refl (before g)
-
-  apart_push : (i : ℕ) (trail : List ℕ) → list_any (eqb i) trail ≡ false → IsDistinct eqb trail
-      → IsDistinct eqb (i ∷ trail)
-  unfolding IsDistinct
-  apart_push i trail out apart = (each trail out, apart)
-    where
-      each : (ys : List ℕ) → list_any (eqb i) ys ≡ false → AllByRecursion (λ y. eqb i y ≡ false) ys
-      each [] h = tt
-      each (y ∷ ys) h = pick (eqb i y) refl h (λ g. each ys g)
-        where
-          pick : (b : Bool) → eqb i y ≡ b → (b || list_any (eqb i) ys) ≡ false
-              → (list_any (eqb i) ys ≡ false → AllByRecursion (λ y. eqb i y ≡ false) ys)
-              → AllByRecursion (λ y. eqb i y ≡ false) (y ∷ ys)
-          pick true e g rest = cc g
-          pick false e g rest = (e, rest g)
 
   -- an atom that is asked wasn't asked before
   fresh : (path : List Narrowing) (n : Narrowing) (asked : Asked (n ∷ path)) → IsInhabited (Way [])

@@ -7,7 +7,7 @@ ghost use Rattle.cat_guard.specs.declared.table.TableTarget.{TableTarget as Targ
 ghost use Rattle.cat_search.specs.inside.Levels.{IsLiveAt, IsLiveAbove, AreLiveOn, IsWayBack, is_past};
 
 use cat_guard::{LiveGroups, Table, all_live, live_size};
-use cat_region::Stack;
+use cat_pos::Stack;
 use std::alloc::{AllocError, Global};
 
 /// What is live in a region on the way.

@@ -8,10 +8,16 @@ pub use Rattle.cat_sound.proofs.Endings.{ends_as, ends_choose, ends_then}
 pub use Rattle.cat_sound.proofs.FormTypes.{same_some}
 pub use Rattle.cat_sound.proofs.TargetTypes.{DefEnds, groups-all, defs-all, judge_target-ends}
 pub use Rattle.cat_sound.proofs.TargetTypes.{all_at, all_more, or_else-ends, settle-ends}
-pub use Rattle.cat_sound.proofs.ScopeParts.{IsSound, JudgingEnds, callable, names_of, stands_end}
+pub use Rattle.cat_sound.proofs.ScopeParts.{DoneAt, IsDone, IsSound, JudgingEnds, callable, called_is, names_of, not_both}
+pub use Rattle.cat_sound.proofs.ScopeParts.{same_called, stands_end}
 pub use Rattle.cat_sound.proofs.ScopeParts.{target_of, unique_target}
-pub use Rattle.cat_sound.proofs.InputTypes.{Callee, Placed}
-pub use Rattle.cat_sound.proofs.OrderFacts.{AllIn, Ahead, Behind, ahead_as, ahead-of_IsOrder}
+pub use Rattle.cat_sound.proofs.InputTypes.{Callee, Placed, function_defined, not_given}
+pub use Rattle.cat_sound.proofs.JudgedTypes.{ready}
+pub use Rattle.cat_sound.proofs.ScopeTypes.{evaluated-called, evaluated-function, evaluated-variable}
+pub use Rattle.cat_sound.proofs.RunEntries.{callee_at, entry_given, free_of_may, no_values-length, with_entry-length}
+pub use Rattle.cat_sound.proofs.RunEntries.{with_entry-other, with_entry-same}
+pub use Rattle.cat_sound.proofs.TargetsListed.{in_order, one_back, one_front, target_listed}
+pub use Rattle.cat_sound.proofs.OrderFacts.{AllIn, Ahead, Behind, ahead_as, ahead-of_IsOrder, all_once}
 pub use Rattle.cat_sound.proofs.OrderFacts.{all-of_IsOrder, behind_first}
 pub use Rattle.cat_sound.proofs.OrderFacts.{dependencies-at, dependencies-length, in_at, items_ahead, items_listed}
 pub use Rattle.cat_sound.proofs.OrderFacts.{listed_in}
@@ -31,4 +37,4 @@ pub use Rattle.cat_sound.proofs.JudgingSame.{DefSame, target_same}
 pub use Rattle.cat_sound.proofs.ScopeLaws.{scopes_by_rule}
 pub use Rattle.cat_sound.proofs.Alike.{same_gives}
 pub use Rattle.cat_sound.proofs.Trees.{test_sound, test_whole}
-pub use Rattle.cat_sound.proofs.ForestLaws.{are_low_says, within_step, within_none}
+pub use Rattle.cat_sound.proofs.ForestLaws.{are_low_says, within_below, within_step, within_none}

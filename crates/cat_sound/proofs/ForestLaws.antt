@@ -95,7 +95,7 @@ are_within_of deps k (suc n) short =
     ap (λ b. b && are_within deps k n) (within_at deps k n short (is_within deps k n) refl) ∙ are_within_of deps k n
     short
 
-within_below : (deps : List (List ℕ)) (k bound n : ℕ) → are_within deps k bound ≡ true → n < bound
+pub within_below : (deps : List (List ℕ)) (k bound n : ℕ) → are_within deps k bound ≡ true → n < bound
     → is_within deps k n ≡ true
 within_below deps k zero n all under = absurd (omega (arith, under))
 within_below deps k (suc bound) n all under = ⊎_elim

@@ -22,7 +22,8 @@ use Rattle.cat_scope.specs.declared.defs.Assertion.{Assertion}
 use Rattle.cat_scope.specs.Replies.{known, with_front}
 use Rattle.cat_scope.specs.Projections.{truth}
 use Rattle.cat_scope.specs.Runs.{Decider, Run, plain, stops, behind, and_then, either}
-use Rattle.cat_scope.specs.Names.{is_in, is_output, items_in, scope_items, outputs_in}
+use Rattle.cat_scope.specs.Names.{is_in, items_in, scope_items}
+use Rattle.cat_value.specs.Inputs.{is_output, outputs_in}
 use Rattle.cat_scope.specs.Eval.{eval}
 use Rattle.cat_scope.specs.Orders.{item_dependencies}
 use Rattle.cat_scope.specs.Mentions.{items_named}

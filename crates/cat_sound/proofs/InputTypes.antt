@@ -17,11 +17,13 @@ use Rattle.cat_value.specs.declared.declaration.Kind.TheVariants as kind
 use Rattle.cat_value.specs.declared.declaration.ItemDecl.{ItemDecl}
 use Rattle.cat_value.specs.declared.declaration.Scope.{Scope}
 use Rattle.cat_value.specs.Declarations.{is_boolean}
-use Rattle.cat_value.specs.Inputs.{must_be_given, may_be_given, is_given_for, are_given_for}
+use Rattle.cat_value.specs.Inputs.{must_be_given, may_be_given, is_given_for, are_given_for, outputs_in}
 use Rattle.cat_value.proofs.Exported.{whole}
 use Rattle.cat_scope.specs.Replies.{Reply, on_one, known}
 use Rattle.cat_scope.specs.Runs.{Run, plain, gives, giving}
-use Rattle.cat_scope.specs.Names.{Names, AllHave, is_in, inputs_given, items_in, scope_items, outputs_in, has_none}
+use Rattle.cat_scope.specs.Names.{Names, AllHave, is_in, inputs_given, items_in, scope_items, has_none, is_called}
+use Rattle.cat_scope.specs.Names.{is_function}
+use Rattle.cat_scope.specs.Naming.{is_defined}
 use Rattle.cat_scope.specs.Fitting.{given_type, input_type}
 use Rattle.cat_scope.specs.Judging.{Held, Judged, decided}
 use Rattle.cat_scope.specs.Targets.{absent}
@@ -202,7 +204,7 @@ passed-ends allowed ds target pos decl None placed may h = by (must_be_given dec
     by false e g = ap not e
 passed-ends allowed ds target pos decl (Some held) placed may h = and_both _ _ may h
 
-not_given : (k : Kind) → may_be_given k ≡ false → must_be_given k ≡ false
+pub not_given : (k : Kind) → may_be_given k ≡ false → must_be_given k ≡ false
 not_given kind.Input h = absurd (true≢false h)
 not_given kind.InputOutput h = absurd (true≢false h)
 not_given kind.Context h = refl
@@ -248,3 +250,26 @@ passed_input-ends allowed ds judged_at target_at pos n (decl ∷ decls) placed e
         (omega arith) (each 0 decl refl e))
         (λ found is. (tt, passed-ends allowed ds (target_at n) pos decl found placed.0 e is))
     by false e = (tt, ap not (not_given decl.kind e))
+
+-- ---- functions
+
+internal_defined : (k : Kind) → IsTrue (is_internal k) → IsTrue (not (is_called k)) × IsTrue (not (must_be_given k))
+internal_defined kind.Internal h = (refl, refl)
+internal_defined kind.Input h = not_true h
+internal_defined kind.InputOutput h = not_true h
+internal_defined kind.Context h = not_true h
+internal_defined kind.ContextOutput h = not_true h
+internal_defined kind.Output h = not_true h
+internal_defined (kind.Called s) h = not_true h
+
+function_internal : (none internal : Bool) → IsTrue (none || internal) → IsTrue (not none) → IsTrue internal
+function_internal true internal h g = not_true g
+function_internal false internal h g = h
+
+pub function_defined : (i : ItemDecl) → Placed i → IsTrue (is_function i) → IsTrue (is_defined i)
+function_defined i placed is =
+    let two = both (not (is_called i.kind)) (not (has_none i.params)) is in
+    let internal = function_internal (has_none i.params) (is_internal i.kind)
+    (both (has_none i.params || is_internal i.kind) _ placed).0 two.1 in
+    let free = internal_defined i.kind internal in
+    and_both _ _ free.0 free.1

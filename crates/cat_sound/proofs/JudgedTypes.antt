@@ -1,24 +1,20 @@
 -- Variables and functions of a scope end in values of their types, where the scopes that it calls do.
-use Rattle.std.proofs.Common.{◌≡◌, ℕ, Bool, true, false, ◌||◌, not, IsTrue, List, [], ◌∷◌, length}
+use Rattle.std.proofs.Common.{◌≡◌, ℕ, Bool, true, false, ◌||◌, IsTrue, List, [], ◌∷◌, length}
 use Rattle.std.proofs.Common.{Some, None, slice_get, refl, sym, ap, ◌∙◌, subst, if◌then◌else◌}
 use Rattle.std.specs.Prelude.{nat_eq}
 use Rattle.cat_value.specs.declared.ty.Ty.{Ty}
 use Rattle.cat_value.specs.declared.value.Value.{Value}
 use Rattle.cat_value.specs.declared.decls.Decls.{Decls}
-use Rattle.cat_value.specs.declared.declaration.Kind.{Kind}
 use Rattle.cat_value.specs.declared.declaration.Kind.TheVariants as kind
 use Rattle.cat_value.specs.declared.declaration.ItemDecl.{ItemDecl}
-use Rattle.cat_value.specs.Inputs.{must_be_given}
 use Rattle.cat_scope.specs.Replies.{on_one, known, evaluated}
 use Rattle.cat_scope.specs.Runs.{Run, plain}
-use Rattle.cat_scope.specs.Names.{Names, AllHave, is_in, is_called}
-use Rattle.cat_scope.specs.Names.{has_none, is_function}
+use Rattle.cat_scope.specs.Names.{Names, AllHave, is_in}
 use Rattle.cat_scope.specs.Naming.{IsFunction}
 use Rattle.cat_scope.specs.Judging.{Judged}
 use Rattle.cat_scope.specs.Targets.{absent, value_or}
 use Rattle.cat_scope.specs.Eval.{Env}
 use Rattle.cat_scope.specs.Composed.{part}
-use Rattle.cat_scope.specs.WellFormed.{is_internal}
 use Rattle.cat_scope.specs.Naming.{is_defined}
 use Rattle.cat_scope.specs.Calls.{Items, Scoped, variable, env_of, judging_of}
 use Rattle.cat_scope.specs.Calls.{variable_value}
@@ -26,12 +22,12 @@ use Rattle.cat_scope.specs.Calls.{call}
 use Rattle.cat_sound.specs.Endings.{Allowed, EndsIn, IsOf, AreOf, IsReady}
 use Rattle.cat_sound.specs.Settled.{IsHeldOf, empty_variable}
 use Rattle.cat_sound.specs.Settled.{may_be_empty}
-use Rattle.cat_sound.proofs.Results.{both, and_both, result_as}
+use Rattle.cat_sound.proofs.Results.{result_as}
 use Rattle.cat_sound.proofs.Endings.{ends_as, ends_then}
 use Rattle.cat_sound.proofs.FormTypes.{same_number, not_true}
 use Rattle.cat_sound.proofs.TargetTypes.{all_more, all_at, absent-ends, value_or-ends}
 use Rattle.cat_sound.proofs.OrderFacts.{in_at, behind_first, Behind}
-use Rattle.cat_sound.proofs.InputTypes.{Placed, condition_type}
+use Rattle.cat_sound.proofs.InputTypes.{Placed, condition_type, function_defined}
 use Rattle.cat_sound.proofs.ScopeParts.{DoneAt, IsSound, JudgingEnds, names_of}
 
 module _ (allowed : Allowed) (ds : Decls) (scoped : Scoped) (needs : ℕ → List ℕ)
@@ -75,27 +71,6 @@ module _ (allowed : Allowed) (ds : Decls) (scoped : Scoped) (needs : ℕ → Lis
         (record { decl = decl; decl_is = is; defined = defined; params_are = refl; ty_is = refl }) are ready
 
   -- ---- functions
-
-  internal_defined : (k : Kind) → IsTrue (is_internal k) → IsTrue (not (is_called k)) × IsTrue (not (must_be_given k))
-  internal_defined kind.Internal h = (refl, refl)
-  internal_defined kind.Input h = not_true h
-  internal_defined kind.InputOutput h = not_true h
-  internal_defined kind.Context h = not_true h
-  internal_defined kind.ContextOutput h = not_true h
-  internal_defined kind.Output h = not_true h
-  internal_defined (kind.Called s) h = not_true h
-
-  function_internal : (none internal : Bool) → IsTrue (none || internal) → IsTrue (not none) → IsTrue internal
-  function_internal true internal h g = not_true g
-  function_internal false internal h g = h
-
-  function_defined : (i : ItemDecl) → Placed i → IsTrue (is_function i) → IsTrue (is_defined i)
-  function_defined i placed is =
-      let two = both (not (is_called i.kind)) (not (has_none i.params)) is in
-      let internal = function_internal (has_none i.params) (is_internal i.kind)
-      (both (has_none i.params || is_internal i.kind) _ placed).0 two.1 in
-      let free = internal_defined i.kind internal in
-      and_both _ _ free.0 free.1
 
   abbrev FunctionEnds : Items → List ℕ → ℕ → Type 0
   FunctionEnds values before f =

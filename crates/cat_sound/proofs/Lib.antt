@@ -30,6 +30,7 @@ pub mod DefsJudged
 pub mod PlacedRuns
 pub mod ScopeTypes
 pub mod RunEntries
+pub mod TargetsListed
 pub mod ScopeRuns
 pub mod RunTypes
 pub mod OutcomeTypes

@@ -36,7 +36,8 @@ use Rattle.cat_scope.specs.declared.operators.BinaryOp.{BinaryOp}
 use Rattle.cat_scope.specs.declared.operators.BinaryOp.TheVariants as binary
 use Rattle.cat_scope.specs.declared.operators.SumKind.{SumKind}
 use Rattle.cat_scope.specs.declared.operators.SumKind.TheVariants as sum
-use Rattle.cat_scope.specs.Names.{AllHave, IsOneOf, is_output, outputs_in, items_in, scope_items, output_at, are_all_in}
+use Rattle.cat_scope.specs.Names.{AllHave, IsOneOf, items_in, scope_items, output_at, are_all_in}
+use Rattle.cat_value.specs.Inputs.{is_output, outputs_in}
 use Rattle.cat_scope.specs.Literals.{literal_type}
 use Rattle.cat_scope.specs.Signatures.{Signature, signatures_of, given_by, summed_type}
 use Rattle.cat_scope.specs.Fitting.{are_complete, cases_in, ArmLocals, field_at, type_in, field_type}

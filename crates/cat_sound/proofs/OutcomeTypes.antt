@@ -10,11 +10,11 @@ use Rattle.cat_value.specs.declared.outcome.Outcome.TheVariants as outcome
 use Rattle.cat_value.specs.declared.decls.Decls.{Decls}
 use Rattle.cat_value.specs.declared.declaration.ItemDecl.{ItemDecl}
 use Rattle.cat_value.specs.Typing.{has_type}
-use Rattle.cat_value.specs.Inputs.{IsWellTyped}
+use Rattle.cat_value.specs.Inputs.{IsWellTyped, outputs_in}
 use Rattle.cat_scope.specs.declared.stop.Stop.{Stop}
 use Rattle.cat_scope.specs.declared.stop.Stop.TheVariants as stop
 use Rattle.cat_scope.specs.declared.defs.Body.{Body}
-use Rattle.cat_scope.specs.Names.{scope_items, outputs_in}
+use Rattle.cat_scope.specs.Names.{scope_items}
 use Rattle.cat_scope.specs.WellFormed.{IsWellFormed}
 use Rattle.cat_scope.specs.Calls.{Items}
 use Rattle.cat_scope.specs.Running.{run_of}

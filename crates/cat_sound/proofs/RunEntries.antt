@@ -11,14 +11,14 @@ use Rattle.cat_value.specs.declared.outcome.FaultKind.TheVariants.{AssertionFail
 use Rattle.cat_value.specs.declared.declaration.Kind.{Kind}
 use Rattle.cat_value.specs.declared.declaration.Kind.TheVariants as kind
 use Rattle.cat_value.specs.declared.declaration.ItemDecl.{ItemDecl}
-use Rattle.cat_value.specs.Inputs.{may_be_given, is_given_for, are_given_for}
+use Rattle.cat_value.specs.Inputs.{may_be_given, is_given_for, are_given_for, is_output, outputs_in}
 use Rattle.cat_scope.specs.declared.stop.Stop.TheVariants.{Fault}
 use Rattle.cat_scope.specs.declared.expr.Expr.{Expr}
 use Rattle.cat_scope.specs.declared.defs.Assertion.{Assertion}
 use Rattle.cat_scope.specs.Replies.{known, with_front}
 use Rattle.cat_scope.specs.Runs.{Run, stops}
-use Rattle.cat_scope.specs.Names.{AllHave, is_output, is_called, has_none}
-use Rattle.cat_scope.specs.Names.{is_plain, outputs_in}
+use Rattle.cat_scope.specs.Names.{AllHave, is_called, has_none}
+use Rattle.cat_scope.specs.Names.{is_plain}
 use Rattle.cat_scope.specs.Orders.{called_by_kind, called_by_items}
 use Rattle.cat_scope.specs.WellFormed.{is_internal}
 use Rattle.cat_scope.specs.Calls.{Items}

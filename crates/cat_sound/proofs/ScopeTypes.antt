@@ -7,11 +7,11 @@ use Rattle.cat_value.specs.declared.value.Value.TheViews as value
 use Rattle.cat_value.specs.declared.decls.Decls.{Decls}
 use Rattle.cat_value.specs.declared.declaration.Kind.TheVariants as kind
 use Rattle.cat_value.specs.declared.declaration.ItemDecl.{ItemDecl}
-use Rattle.cat_value.specs.Inputs.{must_be_given, may_be_given, are_given_for}
+use Rattle.cat_value.specs.Inputs.{must_be_given, may_be_given, are_given_for, outputs_in}
 use Rattle.cat_scope.specs.Replies.{on_one, known}
 use Rattle.cat_scope.specs.Runs.{gives, and_then}
 use Rattle.cat_scope.specs.Projections.{parts_in}
-use Rattle.cat_scope.specs.Names.{Names, AllHave, is_in, items_in, scope_items, outputs_in, output_at, is_called}
+use Rattle.cat_scope.specs.Names.{Names, AllHave, is_in, items_in, scope_items, output_at, is_called}
 use Rattle.cat_scope.specs.Names.{has_none}
 use Rattle.cat_scope.specs.Naming.{IsCalledOutput}
 use Rattle.cat_scope.specs.Judging.{Judged, decided}
@@ -56,7 +56,7 @@ module _ (allowed : Allowed) (ds : Decls) (scoped : Scoped) (needs : ℕ → Lis
       output = λ k t is. no_output free k t is;
     }
 
-    evaluated-function : (o : Option Value) → is_called decl.kind ≡ false → has_none decl.params ≡ false
+    pub evaluated-function : (o : Option Value) → is_called decl.kind ≡ false → has_none decl.params ≡ false
         → IsDone ns item o
     evaluated-function o free some = record {
       variable =
@@ -66,7 +66,7 @@ module _ (allowed : Allowed) (ds : Decls) (scoped : Scoped) (needs : ℕ → Lis
       output = λ k t is. no_output free k t is;
     }
 
-    evaluated-called : (s : ℕ) (outputs : List Value) (callee : Callee allowed ds scoped.runs s)
+    pub evaluated-called : (s : ℕ) (outputs : List Value) (callee : Callee allowed ds scoped.runs s)
         → decl.kind ≡ kind.Called s
         → AreOutputsOf ds callee.scope.items outputs → IsDone ns item (Some (value.Structure outputs))
     evaluated-called s outputs callee is_kind are = record {

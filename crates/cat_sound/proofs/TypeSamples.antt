@@ -3,12 +3,11 @@ use Rattle.std.proofs.Common.{◌≡◌, nat_le, false, IsTrue, [], ◌∷◌, S
 use Rattle.cat_value.specs.declared.ty.Ty.{Ty}
 use Rattle.cat_value.specs.declared.ty.Ty.TheVariants as flat
 use Rattle.cat_value.specs.declared.ty.Ty.TheViews as ty
-use Rattle.cat_value.specs.declared.decls.Decls.{Decls}
 use Rattle.cat_value.specs.Declarations.{highest}
 use Rattle.cat_value.specs.Laws.{height_of}
 use Rattle.cat_value.specs.Typing.{is_type}
 use Rattle.cat_value.specs.Entries.{content_of}
-use Rattle.cat_value.proofs.Exported.{declared, height_List, height_Integer, pair, choice, pair_and_choice_are_sound}
+use Rattle.cat_value.proofs.Exported.{declared, height_List, height_Integer, pair, choice, sample}
 use Rattle.cat_scope.specs.declared.expr.Expr.{Expr}
 use Rattle.cat_scope.specs.declared.expr.Expr.TheVariants as leaf
 use Rattle.cat_scope.specs.declared.expr.Expr.TheViews as expr
@@ -44,16 +43,7 @@ nothing_stands_not_alone = search (rules, placings)
 
 -- ---- low types
 
--- declarations of an enumeration whose first case holds a list of integers
-abbrev declarations : Decls
-declarations = record {
-  structures = pair [] [] [];
-  enumerations = choice [] [] [];
-  scopes = [];
-  sound = pair_and_choice_are_sound [] [] [] [] [] [];
-}
-
-integers_are_two_high : height_of declarations (ty.List flat.Integer) ≡ 2
+integers_are_two_high : height_of sample (ty.List flat.Integer) ≡ 2
 integers_are_two_high =
     omega (
       arith,
@@ -62,21 +52,21 @@ integers_are_two_high =
           (choice [] [] []) 62,
     )
 
-integers_are_low : IsLow declarations (ty.List flat.Integer)
+integers_are_low : IsLow sample (ty.List flat.Integer)
 integers_are_low = record {
   declared = search (rules, declared);
   low = ap (λ height. nat_le height highest) integers_are_two_high;
 }
 
 -- the first case with a local name of that type
-a_case_of_integers : HasType (names_at declarations 0) (ty.List flat.Integer ∷ [])
+a_case_of_integers : HasType (names_at sample 0) (ty.List flat.Integer ∷ [])
     (expr.Case (at 1 1) 0 0 (Some (leaf.Local (at 1 2) 0))) (flat.Enumeration 0)
 a_case_of_integers = typed.case_with (ty.List flat.Integer) refl (typed.local refl)
 
-its_local_is_low : AllHave (IsLow declarations) (ty.List flat.Integer ∷ [])
+its_local_is_low : AllHave (IsLow sample) (ty.List flat.Integer ∷ [])
 its_local_is_low = (integers_are_low, tt)
 
-its_content : content_of declarations 0 0 ≡ Some (Some (ty.List flat.Integer))
+its_content : content_of sample 0 0 ≡ Some (Some (ty.List flat.Integer))
 its_content = refl
 
 -- the context of the called scope

@@ -14,7 +14,8 @@ use Rattle.cat_scope.specs.declared.stop.Stop.TheVariants.{Conflict, NoValue, Fa
 use Rattle.cat_scope.specs.declared.expr.Expr.{Expr}
 use Rattle.cat_scope.specs.Replies.{on_one, evaluated}
 use Rattle.cat_scope.specs.Runs.{Decider, Run}
-use Rattle.cat_scope.specs.Names.{Names, AllHave, is_plain, outputs_in}
+use Rattle.cat_scope.specs.Names.{Names, AllHave, is_plain}
+use Rattle.cat_value.specs.Inputs.{outputs_in}
 use Rattle.cat_scope.specs.Fitting.{are_call_fields, input_type}
 use Rattle.cat_scope.specs.Naming.{IsItem, IsCalledOutput, IsFunction, IsOutput}
 use Rattle.cat_scope.specs.Mentions.{items_named, scopes_named}

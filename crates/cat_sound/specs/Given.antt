@@ -5,7 +5,8 @@ use Rattle.cat_value.specs.declared.declaration.ItemDecl.{ItemDecl}
 use Rattle.cat_pos.specs.declared.pos.Pos.{Pos}
 use Rattle.cat_value.specs.declared.outcome.Target.{Target}
 use Rattle.cat_scope.specs.Runs.{Decider, Run}
-use Rattle.cat_scope.specs.Names.{IsOneOf, outputs_in}
+use Rattle.cat_scope.specs.Names.{IsOneOf}
+use Rattle.cat_value.specs.Inputs.{outputs_in}
 use Rattle.cat_scope.specs.Calls.{Scoped, Items}
 use Rattle.cat_scope.specs.Running.{backwards, entry_at, run_items, no_values}
 use Rattle.cat_scope.specs.ItemValues.{item_value}

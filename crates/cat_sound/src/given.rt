@@ -1,6 +1,7 @@
 // What holds of values that are given.
 ghost use Rattle.cat_value.specs.declared.outcome.Outcome.TheVariants as outcome;
-ghost use Rattle.cat_scope.specs.Names.{is_in, is_output, is_plain, scope_items};
+ghost use Rattle.cat_scope.specs.Names.{is_in, is_plain, scope_items};
+ghost use Rattle.cat_value.specs.Inputs.{is_output};
 ghost use Rattle.std.specs.Prelude.{◌≡◌, ◌<◌, ℕ, IsTrue, IfOk, List, [], length, take, drop, slice_get};
 ghost use Rattle.std.specs.Prelude.{Option, None, Some, Ok};
 ghost use Rattle.cat_value.specs.declared.value.Value.{Value};

@@ -8,7 +8,7 @@ use Rattle.cat_tree.specs.Accumulation.{accumulation}
 use Rattle.cat_tree.specs.declared.name.Name.{Name}
 use Rattle.cat_tree.specs.declared.name.CaseName.{CaseName}
 use Rattle.cat_tree.specs.declared.name.Type as types
-use Rattle.cat_tree.specs.declared.expression.Literal.{Literal}
+use Rattle.cat_tree.specs.declared.expression.SurfaceLiteral.{SurfaceLiteral}
 use Rattle.cat_tree.specs.declared.expression.Prefix.{Prefix}
 use Rattle.cat_tree.specs.declared.expression.Operator.{Operator}
 use Rattle.cat_tree.specs.declared.expression.Each.{Each}
@@ -16,10 +16,11 @@ use Rattle.cat_tree.specs.declared.expression.Pattern.{Pattern}
 use Rattle.cat_tree.specs.declared.expression.Node.{Node}
 use Rattle.cat_tree.specs.declared.expression.Node.TheVariants as leaf
 use Rattle.cat_tree.specs.declared.expression.Node.TheViews as node
-use Rattle.cat_tree.specs.declared.expression.Node.TheFolds.{fold-Arm, fold-FieldValue, fold_out-Node, fold_out-Arm}
-use Rattle.cat_tree.specs.declared.expression.Node.TheFolds.{fold_out-FieldValue}
-use Rattle.cat_tree.specs.declared.expression.FieldValue.{FieldValue}
-use Rattle.cat_tree.specs.declared.expression.Arm.{Arm}
+use Rattle.cat_tree.specs.declared.expression.Node.TheFolds.{fold-SurfaceArm, fold-SurfaceField}
+use Rattle.cat_tree.specs.declared.expression.Node.TheFolds.{fold_out-Node, fold_out-SurfaceArm}
+use Rattle.cat_tree.specs.declared.expression.Node.TheFolds.{fold_out-SurfaceField}
+use Rattle.cat_tree.specs.declared.expression.SurfaceField.{SurfaceField}
+use Rattle.cat_tree.specs.declared.expression.SurfaceArm.{SurfaceArm}
 use Rattle.cat_tree.specs.Phrase.{Phrase, Row, End}
 use Rattle.cat_tree.specs.Wording.{◌▹◌, first, key_at, pair_at, symbol_at, «word», words, sign, lower, upper, part}
 use Rattle.cat_tree.specs.Wording.{left, of_level, form, if_some, match_of}
@@ -28,47 +29,48 @@ use Rattle.cat_tree.specs.Operators.{prefix_parts, prefix_level, operator_kind, 
 use Rattle.cat_tree.specs.Rows.{fields, arms, elements, each_parts}
 use Rattle.cat_tree.specs.Grammar.{phrase, phrase_step, field_step, arm_step}
 
-abbrev pub field_row : FieldValue → Name × Phrase
+abbrev pub field_row : SurfaceField → Name × Phrase
 field_row f = (f.name, phrase f.value)
 
-abbrev pub arm_row : Arm → Pattern × Phrase
+abbrev pub arm_row : SurfaceArm → Pattern × Phrase
 arm_row a = (a.pattern, phrase a.body)
 
-abbrev field : FieldValue → Name × Phrase
-field = fold-FieldValue Phrase (Pattern × Phrase) (Name × Phrase) phrase_step arm_step field_step
+abbrev field : SurfaceField → Name × Phrase
+field = fold-SurfaceField Phrase (Pattern × Phrase) (Name × Phrase) phrase_step arm_step field_step
 
-abbrev arm : Arm → Pattern × Phrase
-arm = fold-Arm Phrase (Pattern × Phrase) (Name × Phrase) phrase_step arm_step field_step
+abbrev arm : SurfaceArm → Pattern × Phrase
+arm = fold-SurfaceArm Phrase (Pattern × Phrase) (Name × Phrase) phrase_step arm_step field_step
 
-field_is : (f : FieldValue) → field f ≡ field_row f
+field_is : (f : SurfaceField) → field f ≡ field_row f
 unfolding phrase
 field_is f = search (
   rules,
   node.the_lemmas,
-  fold_out-FieldValue Phrase (Pattern × Phrase) (Name × Phrase) phrase_step
+  fold_out-SurfaceField Phrase (Pattern × Phrase) (Name × Phrase) phrase_step
       arm_step field_step,
 )
 
-arm_is : (a : Arm) → arm a ≡ arm_row a
+arm_is : (a : SurfaceArm) → arm a ≡ arm_row a
 unfolding phrase
 arm_is a = search (
   rules,
   node.the_lemmas,
-  fold_out-Arm Phrase (Pattern × Phrase) (Name × Phrase) phrase_step arm_step
+  fold_out-SurfaceArm Phrase (Pattern × Phrase) (Name × Phrase) phrase_step arm_step
       field_step,
 )
 
-fields_are : (fs : List FieldValue) → map field fs ≡ map field_row fs
+fields_are : (fs : List SurfaceField) → map field fs ≡ map field_row fs
 fields_are [] = refl
 fields_are (f ∷ fs) = ap (λ (x : Name × Phrase). x ∷ map field fs) (field_is f)
     ∙ ap (λ (xs : List (Name × Phrase)). field_row f ∷ xs) (fields_are fs)
 
-arms_are : (xs : List Arm) → map arm xs ≡ map arm_row xs
+arms_are : (xs : List SurfaceArm) → map arm xs ≡ map arm_row xs
 arms_are [] = refl
 arms_are (a ∷ more) = ap (λ (x : Pattern × Phrase). x ∷ map arm more) (arm_is a)
     ∙ ap (λ (ys : List (Pattern × Phrase)). arm_row a ∷ ys) (arms_are more)
 
-pub phrase_Literal : (l : Literal) (p : Pos) → phrase (leaf.Literal l p) ≡ Row (literal_rank l) (literal_parts l p)
+pub phrase_Literal : (l : SurfaceLiteral) (p : Pos) → phrase (leaf.Literal l p)
+    ≡ Row (literal_rank l) (literal_parts l p)
 unfolding phrase
 phrase_Literal l p = search (
   rules,
@@ -186,7 +188,7 @@ phrase_List p es = search (
       arm_step field_step,
 )
 
-folded_Structure : (u : Name) (fs : List FieldValue) → phrase (node.Structure u fs) ≡ Row (if_some 9 (map field fs))
+folded_Structure : (u : Name) (fs : List SurfaceField) → phrase (node.Structure u fs) ≡ Row (if_some 9 (map field fs))
     (upper u ▹ sign symbol.LeftBrace ▹ fields (map field fs) (sign symbol.RightBrace ▹ End))
 unfolding phrase
 folded_Structure u fs = search (
@@ -196,14 +198,14 @@ folded_Structure u fs = search (
       phrase_step arm_step field_step,
 )
 
-pub phrase_Structure : (u : Name) (fs : List FieldValue) → phrase (node.Structure u fs) ≡ Row
+pub phrase_Structure : (u : Name) (fs : List SurfaceField) → phrase (node.Structure u fs) ≡ Row
     (if_some 9 (map field_row fs)) (upper u ▹ sign symbol.LeftBrace ▹ fields (map field_row fs)
     (sign symbol.RightBrace ▹ End))
 phrase_Structure u fs = folded_Structure u fs
     ∙ ap (λ (xs : List (Name × Phrase)). Row (if_some 9 (xs))
     (upper u ▹ sign symbol.LeftBrace ▹ fields (xs) (sign symbol.RightBrace ▹ End))) (fields_are fs)
 
-folded_ScopeCall : (p : Pos) (u : Name) (fs : List FieldValue) (w : Name) → phrase (node.ScopeCall p u fs w) ≡ Row
+folded_ScopeCall : (p : Pos) (u : Name) (fs : List SurfaceField) (w : Name) → phrase (node.ScopeCall p u fs w) ≡ Row
     (of_level 9) (pair_at pair.OutputOf p ▹ upper u ▹ «word» key.With ▹ sign symbol.LeftBrace ▹ fields (map field fs)
     (sign symbol.RightBrace ▹ sign symbol.Dot ▹ lower w ▹ End))
 unfolding phrase
@@ -214,7 +216,7 @@ folded_ScopeCall p u fs w = search (
       phrase_step arm_step field_step,
 )
 
-pub phrase_ScopeCall : (p : Pos) (u : Name) (fs : List FieldValue) (w : Name) → phrase (node.ScopeCall p u fs w) ≡ Row
+pub phrase_ScopeCall : (p : Pos) (u : Name) (fs : List SurfaceField) (w : Name) → phrase (node.ScopeCall p u fs w) ≡ Row
     (of_level 9) (pair_at pair.OutputOf p ▹ upper u ▹ «word» key.With ▹ sign symbol.LeftBrace ▹ fields
     (map field_row fs)
     (sign symbol.RightBrace ▹ sign symbol.Dot ▹ lower w ▹ End))
@@ -233,7 +235,8 @@ phrase_If p c t e = search (
       arm_step field_step,
 )
 
-folded_Match : (p : Pos) (e : Node) (more : List Arm) → phrase (node.Match p e more) ≡ Row (match_of (map arm more))
+folded_Match : (p : Pos) (e : Node) (more : List SurfaceArm) → phrase (node.Match p e more)
+    ≡ Row (match_of (map arm more))
     (key_at key.Match p ▹ part 0 (phrase e) ▹ words pair.WithPattern ▹ arms (map arm more))
 unfolding phrase
 folded_Match p e more = search (
@@ -243,7 +246,7 @@ folded_Match p e more = search (
       phrase_step arm_step field_step,
 )
 
-pub phrase_Match : (p : Pos) (e : Node) (more : List Arm) → phrase (node.Match p e more) ≡ Row
+pub phrase_Match : (p : Pos) (e : Node) (more : List SurfaceArm) → phrase (node.Match p e more) ≡ Row
     (match_of (map arm_row more)) (key_at key.Match p ▹ part 0 (phrase e) ▹ words pair.WithPattern ▹ arms
     (map arm_row more))
 phrase_Match p e more = folded_Match p e more

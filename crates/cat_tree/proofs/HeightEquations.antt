@@ -9,8 +9,8 @@ use Rattle.cat_tree.specs.declared.name.Name.{Name}
 use Rattle.cat_tree.specs.declared.name.CaseName.{CaseName}
 use Rattle.cat_tree.specs.declared.name.CaseName.TheVariants.{Bare, Qualified}
 use Rattle.cat_tree.specs.declared.name.Type as types
-use Rattle.cat_tree.specs.declared.expression.Literal.{Literal}
-use Rattle.cat_tree.specs.declared.expression.Literal.TheVariants as literal
+use Rattle.cat_tree.specs.declared.expression.SurfaceLiteral.{SurfaceLiteral}
+use Rattle.cat_tree.specs.declared.expression.SurfaceLiteral.TheVariants as literal
 use Rattle.cat_tree.specs.declared.expression.Prefix.{Prefix}
 use Rattle.cat_tree.specs.declared.expression.Prefix.TheVariants as prefix
 use Rattle.cat_tree.specs.declared.expression.Operator.{Operator}
@@ -21,8 +21,8 @@ use Rattle.cat_tree.specs.declared.expression.Pattern.TheVariants as pattern
 use Rattle.cat_tree.specs.declared.expression.Node.{Node}
 use Rattle.cat_tree.specs.declared.expression.Node.TheVariants as leaf
 use Rattle.cat_tree.specs.declared.expression.Node.TheViews as node
-use Rattle.cat_tree.specs.declared.expression.FieldValue.{FieldValue}
-use Rattle.cat_tree.specs.declared.expression.Arm.{Arm}
+use Rattle.cat_tree.specs.declared.expression.SurfaceField.{SurfaceField}
+use Rattle.cat_tree.specs.declared.expression.SurfaceArm.{SurfaceArm}
 use Rattle.cat_tree.specs.Phrase.{Phrase, Row, Parts, End, tallest}
 use Rattle.cat_tree.specs.Phrase as Phrase
 use Rattle.cat_tree.specs.Grammar.{phrase}
@@ -44,7 +44,7 @@ height_of_is e = one_above (phrase e)
 
 -- ---- what words add nothing to
 
-literal_low : (l : Literal) (p : Pos) → tallest (literal_parts l p) ≡ 0
+literal_low : (l : SurfaceLiteral) (p : Pos) → tallest (literal_parts l p) ≡ 0
 literal_low (literal.Int n) p = refl
 literal_low (literal.Dec d) p = refl
 literal_low (literal.Pct d) p = refl
@@ -86,19 +86,20 @@ elements_high k s [] rest = omega arith
 elements_high k s (e ∷ []) rest = omega arith
 elements_high k s (e ∷ d ∷ es) rest = omega (arith, elements_high k s (d ∷ es) rest)
 
-fields_high : (fs : List FieldValue) (rest : Parts) → tallest (fields (map field_row fs) rest) ≡ max (highest_value fs)
+fields_high : (fs : List SurfaceField) (rest : Parts) → tallest (fields (map field_row fs) rest)
+    ≡ max (highest_value fs)
     (tallest rest)
 fields_high [] rest = omega arith
 fields_high (f ∷ fs) rest = omega (arith, fields_high fs rest)
 
-arms_high : (xs : List Arm) → tallest (arms (map arm_row xs)) ≡ highest_body xs
+arms_high : (xs : List SurfaceArm) → tallest (arms (map arm_row xs)) ≡ highest_body xs
 arms_high [] = refl
 arms_high (a ∷ []) = pattern_low a.pattern _
 arms_high (a ∷ b ∷ more) = pattern_low a.pattern _ ∙ omega (arith, arms_high (b ∷ more))
 
 -- ---- the forms
 
-pub part_Literal : (l : Literal) (p : Pos) → highest_part (leaf.Literal l p) ≡ 0
+pub part_Literal : (l : SurfaceLiteral) (p : Pos) → highest_part (leaf.Literal l p) ≡ 0
 part_Literal l p = rw (phrase_Literal l p) (literal_low l p)
 
 pub part_Name : (w : Name) → highest_part (leaf.Name w) ≡ 0
@@ -135,10 +136,10 @@ part_Test e p c = rw (phrase_Test e p c) (omega (arith, case_low c End))
 pub part_List : (p : Pos) (es : List Node) → highest_part (node.List p es) ≡ highest_node es
 part_List p es = rw (phrase_List p es) (elements_high 0 symbol.Semicolon es _ ∙ max-zero (highest_node es))
 
-pub part_Structure : (u : Name) (fs : List FieldValue) → highest_part (node.Structure u fs) ≡ highest_value fs
+pub part_Structure : (u : Name) (fs : List SurfaceField) → highest_part (node.Structure u fs) ≡ highest_value fs
 part_Structure u fs = rw (phrase_Structure u fs) (fields_high fs _ ∙ max-zero (highest_value fs))
 
-pub part_ScopeCall : (p : Pos) (u : Name) (fs : List FieldValue) (w : Name) → highest_part (node.ScopeCall p u fs w)
+pub part_ScopeCall : (p : Pos) (u : Name) (fs : List SurfaceField) (w : Name) → highest_part (node.ScopeCall p u fs w)
     ≡ highest_value fs
 part_ScopeCall p u fs w = rw (phrase_ScopeCall p u fs w) (fields_high fs _ ∙ max-zero (highest_value fs))
 
@@ -146,7 +147,7 @@ pub part_If : (p : Pos) (c t e : Node) → highest_part (node.If p c t e) ≡ ma
     (max (height_of t) (height_of e))
 part_If p c t e = rw (phrase_If p c t e) (omega arith)
 
-pub part_Match : (p : Pos) (e : Node) (more : List Arm) → highest_part (node.Match p e more) ≡ max (height_of e)
+pub part_Match : (p : Pos) (e : Node) (more : List SurfaceArm) → highest_part (node.Match p e more) ≡ max (height_of e)
     (highest_body more)
 part_Match p e more = rw (phrase_Match p e more) (omega (arith, arms_high more))
 

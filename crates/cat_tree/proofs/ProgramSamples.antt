@@ -9,7 +9,7 @@ use Rattle.cat_tree.specs.declared.name.Name.{Name}
 use Rattle.cat_tree.specs.declared.name.Base.TheVariants as base
 use Rattle.cat_tree.specs.declared.expression.Operator.TheVariants as op
 use Rattle.cat_tree.specs.declared.expression.Node.TheViews as node
-use Rattle.cat_tree.specs.declared.program.Kind.TheVariants as kinds
+use Rattle.cat_tree.specs.declared.program.VariableKind.TheVariants as kinds
 use Rattle.cat_tree.specs.declared.program.Exception.TheVariants as exception
 use Rattle.cat_tree.specs.declared.program.Lead.{Lead}
 use Rattle.cat_tree.specs.declared.program.TargetName.{TargetName}

@@ -1,5 +1,5 @@
 -- Worked examples: tokens with the tree that they spell, and trees that no tokens spell.
-use Rattle.std.proofs.Common.{◌≡◌, pos, List, [], ◌∷◌, None, rules}
+use Rattle.std.proofs.Common.{◌≡◌, ◌≤◌, ◌∙◌, ℕ, zero, suc, pos, List, [], ◌∷◌, None, ap, arith, rules}
 use Rattle.cat_pos.specs.declared.pos.Pos.{Pos}
 use Rattle.cat_lex.specs.declared.token.Token.{Token}
 use Rattle.cat_lex.specs.declared.token.TokenKind.TheVariants as kind
@@ -13,7 +13,7 @@ use Rattle.cat_tree.specs.declared.name.Name.{Name}
 use Rattle.cat_tree.specs.declared.name.CaseName.TheVariants.{Bare}
 use Rattle.cat_tree.specs.declared.name.Base.TheVariants as base
 use Rattle.cat_tree.specs.declared.expression.Unit.TheVariants as unit
-use Rattle.cat_tree.specs.declared.expression.Literal.TheVariants as literal
+use Rattle.cat_tree.specs.declared.expression.SurfaceLiteral.TheVariants as literal
 use Rattle.cat_tree.specs.declared.expression.Prefix.TheVariants as prefix
 use Rattle.cat_tree.specs.declared.expression.Operator.TheVariants as op
 use Rattle.cat_tree.specs.declared.expression.Each.TheVariants as each
@@ -21,10 +21,12 @@ use Rattle.cat_tree.specs.declared.expression.Pattern.TheVariants as pattern
 use Rattle.cat_tree.specs.declared.expression.Node.{Node}
 use Rattle.cat_tree.specs.declared.expression.Node.TheVariants as leaf
 use Rattle.cat_tree.specs.declared.expression.Node.TheViews as node
-use Rattle.cat_tree.specs.declared.expression.Arm.{Arm}
+use Rattle.cat_tree.specs.declared.expression.SurfaceArm.{SurfaceArm}
+use Rattle.cat_tree.specs.Limits.{most_height}
 use Rattle.cat_tree.specs.Spells.{Spells, height_of}
 use Rattle.cat_tree.proofs.Along.{spells}
 use Rattle.cat_tree.proofs.Equations.{phrases}
+use Rattle.cat_tree.proofs.HeightEquations.{height_of_is, part_Parens}
 
 abbrev pub name : Name → Token
 name w = record { kind = kind.Lower w.text; pos = w.pos }
@@ -44,7 +46,7 @@ sign s p = record { kind = kind.Symbol s; pos = p }
 abbrev pub local : Name → Node
 local w = leaf.Name w
 
-abbrev arm : Name → Node → Arm
+abbrev arm : Name → Node → SurfaceArm
 arm u e = record { pattern = pattern.Case (Bare u) None; body = e }
 
 -- a - b - c
@@ -116,6 +118,24 @@ a_scope_is_called s a b c p p1 p2 p3 p4 p5 p6 = spells _ _ (search (rules, phras
 -- ( ( a ) )
 parentheses_count : (a : Name) (p q : Pos) → height_of (node.Parens p (node.Parens q (local a))) ≡ 3
 parentheses_count a p q = search (rules, phrases)
+
+-- so many parentheses about a name
+abbrev enclosed : ℕ → Name → Pos → Node
+enclosed zero a p = local a
+enclosed (suc n) a p = node.Parens p (enclosed n a p)
+
+each_pair_counts : (n : ℕ) (a : Name) (p : Pos) → height_of (enclosed n a p) ≡ suc n
+each_pair_counts zero a p = search (rules, phrases)
+each_pair_counts (suc n) a p =
+    height_of_is (node.Parens p (enclosed n a p))
+    ∙ ap suc (part_Parens p (enclosed n a p) ∙ each_pair_counts n a p)
+
+-- 255 pairs keep the limit, and one more doesn't
+as_high_as_may_be : (a : Name) (p : Pos) → height_of (enclosed 255 a p) ≤ most_height
+as_high_as_may_be a p = let high = each_pair_counts 255 a p in omega (arith, high)
+
+one_too_high : (a : Name) (p : Pos) → height_of (enclosed 256 a p) ≤ most_height → ⊥
+one_too_high a p low = let high = each_pair_counts 256 a p in omega (arith, high, low)
 
 -- [ a ; b + c ]
 the_highest_element_counts : (a b c : Name) (p q : Pos)

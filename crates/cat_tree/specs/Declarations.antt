@@ -7,9 +7,9 @@ use Rattle.cat_lex.specs.declared.symbol.Symbol.TheVariants as symbol
 use Rattle.cat_tree.specs.declared.name.Type as types
 use Rattle.cat_tree.specs.declared.program.FieldItem.{FieldItem}
 use Rattle.cat_tree.specs.declared.program.CaseItem.{CaseItem}
-use Rattle.cat_tree.specs.declared.program.Kind.{Kind}
-use Rattle.cat_tree.specs.declared.program.Kind.TheVariants.{Input, InputOutput, Output, Internal, Context}
-use Rattle.cat_tree.specs.declared.program.Kind.TheVariants.{ContextOutput}
+use Rattle.cat_tree.specs.declared.program.VariableKind.{VariableKind}
+use Rattle.cat_tree.specs.declared.program.VariableKind.TheVariants.{Input, InputOutput, Output, Internal, Context}
+use Rattle.cat_tree.specs.declared.program.VariableKind.TheVariants.{ContextOutput}
 use Rattle.cat_tree.specs.declared.program.Variable.{Variable}
 use Rattle.cat_tree.specs.declared.program.Variable.TheVariants as variable
 use Rattle.cat_tree.specs.Phrase.{Parts, End}
@@ -35,7 +35,7 @@ abbrev pub case_parts : CaseItem → Parts
 case_parts c = sign symbol.MinusMinus ▹ upper c.name ▹ content_parts c.content
 
 -- the words of a kind
-abbrev pub kind_parts : Kind → Pos → Parts
+abbrev pub kind_parts : VariableKind → Pos → Parts
 kind_parts Input p = key_at key.Input p ▹ End
 kind_parts InputOutput p = key_at key.Input p ▹ «word» key.Output ▹ End
 kind_parts Output p = key_at key.Output p ▹ End

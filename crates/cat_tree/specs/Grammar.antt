@@ -6,7 +6,7 @@ use Rattle.cat_lex.specs.declared.symbol.Symbol.TheVariants as symbol
 use Rattle.cat_tree.specs.declared.name.Name.{Name}
 use Rattle.cat_tree.specs.declared.expression.Pattern.{Pattern}
 use Rattle.cat_tree.specs.declared.expression.Node.{Node}
-use Rattle.cat_tree.specs.declared.expression.Node.TheOpen.{Node-F, FieldValue-F, Arm-F}
+use Rattle.cat_tree.specs.declared.expression.Node.TheOpen.{Node-F, SurfaceField-F, SurfaceArm-F}
 use Rattle.cat_tree.specs.declared.expression.Node.TheFolds.{fold-Node}
 use Rattle.cat_tree.specs.Phrase.{Phrase, Row, End}
 use Rattle.cat_tree.specs.Wording.{◌▹◌, first, key_at, pair_at, symbol_at, «word», words, sign, lower, upper, part}
@@ -46,11 +46,11 @@ phrase_step (Node-F.Combine c l start e) =
     ▹ lower c.sum ▹ «word» key.Initially ▹ part 0 start ▹ «word» key.With ▹ part 0 e ▹ End)
 
 -- a field, with how its value is spelled
-abbrev pub field_step : FieldValue-F Phrase (Pattern × Phrase) (Name × Phrase) → Name × Phrase
+abbrev pub field_step : SurfaceField-F Phrase (Pattern × Phrase) (Name × Phrase) → Name × Phrase
 field_step f = (f.name, f.value)
 
 -- an arm, with how its body is spelled
-abbrev pub arm_step : Arm-F Phrase (Pattern × Phrase) (Name × Phrase) → Pattern × Phrase
+abbrev pub arm_step : SurfaceArm-F Phrase (Pattern × Phrase) (Name × Phrase) → Pattern × Phrase
 arm_step a = (a.pattern, a.body)
 
 -- an expression as the words and parts that spell it

@@ -1,4 +1,5 @@
 pub mod Accumulation
+pub mod Limits
 pub mod Spells
 pub mod Grammar
 pub mod Rows

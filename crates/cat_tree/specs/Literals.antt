@@ -14,8 +14,8 @@ use Rattle.cat_tree.specs.declared.name.Base.TheVariants as base
 use Rattle.cat_tree.specs.declared.name.Type as types
 use Rattle.cat_tree.specs.declared.expression.Unit.{Unit as TimeUnit}
 use Rattle.cat_tree.specs.declared.expression.Unit.TheVariants as unit
-use Rattle.cat_tree.specs.declared.expression.Literal.{Literal}
-use Rattle.cat_tree.specs.declared.expression.Literal.TheVariants as literal
+use Rattle.cat_tree.specs.declared.expression.SurfaceLiteral.{SurfaceLiteral}
+use Rattle.cat_tree.specs.declared.expression.SurfaceLiteral.TheVariants as literal
 use Rattle.cat_tree.specs.Phrase.{Parts, End, Rank}
 use Rattle.cat_tree.specs.Wording.{◌▹◌, first, key_at, «word», words, sign, upper, of_level}
 
@@ -31,7 +31,7 @@ truth_word true = key.True
 truth_word false = key.False
 
 -- how a literal is spelled
-abbrev pub literal_parts : Literal → Pos → Parts
+abbrev pub literal_parts : SurfaceLiteral → Pos → Parts
 literal_parts (literal.Int n) p = first (kind.Int n) p ▹ End
 literal_parts (literal.Dec d) p = first (kind.Dec d) p ▹ End
 literal_parts (literal.Pct d) p = first (kind.Pct d) p ▹ End
@@ -45,7 +45,7 @@ abbrev pub span_bound : ℤ
 span_bound = pos 999999999
 
 -- a literal has the highest level; a duration fits within its bound
-abbrev pub literal_rank : Literal → Rank
+abbrev pub literal_rank : SurfaceLiteral → Rank
 literal_rank (literal.Span n u) = record { level = 9; form = false; is_match = false; fits = not (int_lt span_bound n) }
 literal_rank _ = of_level 9
 

@@ -4,6 +4,7 @@ use Rattle.cat_lex.specs.declared.token.Token.{Token}
 use Rattle.cat_lex.specs.declared.words.Keyword.TheVariants as key
 use Rattle.cat_lex.specs.declared.words.DoubleKeyword.TheVariants as pair
 use Rattle.cat_lex.specs.declared.symbol.Symbol.TheVariants as symbol
+use Rattle.cat_tree.specs.Limits.{most_height}
 use Rattle.cat_tree.specs.declared.expression.Node.{Node}
 use Rattle.cat_tree.specs.declared.program.Block.{Block}
 use Rattle.cat_tree.specs.declared.program.Item.{Item}
@@ -70,7 +71,7 @@ pub record SpellsProgram (t : Tree) (tokens : List Token) : Type 0 where
 -- the same, where none of its expressions is too high
 pub record SpellsLowProgram (t : Tree) (tokens : List Token) : Type 0 where
   pub spells : SpellsProgram t tokens
-  pub low : highest_in t ≤ 256
+  pub low : highest_in t ≤ most_height
 
 -- the tokens begin the spelling of a program, with expressions of any height
 pub record BeginsProgram (front : List Token) : Type 0 where

@@ -1,6 +1,7 @@
 -- Which tokens spell an expression.
 use Rattle.std.specs.Prelude.{ℕ, ◌≤◌, List, ◌++◌, length, slice_range}
 use Rattle.cat_lex.specs.declared.token.Token.{Token}
+use Rattle.cat_tree.specs.Limits.{most_height}
 use Rattle.cat_tree.specs.declared.expression.Node.{Node}
 use Rattle.cat_tree.specs.Phrase.{IsLevelled, IsSpelling}
 use Rattle.cat_tree.specs.Phrase as Phrase
@@ -20,7 +21,7 @@ pub record IsFront (tokens : List Token) (at next : ℕ) (e : Node) : Type 0 whe
   pub order : at ≤ next
   pub within : next ≤ length tokens
   pub spells : Spells e (slice_range tokens at next)
-  pub low : height_of e ≤ 256
+  pub low : height_of e ≤ most_height
 
 -- the tokens begin the spelling of an expression, of any height
 pub record Begins (front : List Token) : Type 0 where

@@ -6,7 +6,7 @@ use Rattle.cat_lex.specs.declared.words.DoubleKeyword.TheVariants as pair
 use Rattle.cat_lex.specs.declared.symbol.Symbol.TheVariants as symbol
 use Rattle.cat_tree.specs.declared.name.Name.{Name}
 use Rattle.cat_tree.specs.declared.expression.Node.{Node}
-use Rattle.cat_tree.specs.declared.program.Label.{Label}
+use Rattle.cat_tree.specs.declared.program.SurfaceLabel.{SurfaceLabel}
 use Rattle.cat_tree.specs.declared.program.Exception.{Exception}
 use Rattle.cat_tree.specs.declared.program.Exception.TheVariants as exception
 use Rattle.cat_tree.specs.declared.program.Lead.{Lead}
@@ -21,7 +21,7 @@ use Rattle.cat_tree.specs.Grammar.{phrase}
 use Rattle.cat_tree.specs.Joined.{◌▸◌, with_commas}
 
 -- a label: label w
-abbrev pub label_parts : Option Label → Parts
+abbrev pub label_parts : Option SurfaceLabel → Parts
 label_parts None = End
 label_parts (Some l) = key_at key.Label l.pos ▹ lower l.name ▹ End
 

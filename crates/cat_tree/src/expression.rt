@@ -14,7 +14,7 @@ pub enum Unit {
 }
 
 #[derive(Clone, Copy, Debug, PartialEq, Eq)]
-pub enum Literal {
+pub enum SurfaceLiteral {
     Int(Whole),
     Dec(DecimalLiteral),
     /// A percentage, as the decimal with two more places.
@@ -85,7 +85,7 @@ pub enum Pattern {
 #[cycle(node)]
 #[derive(Debug, Drop)]
 pub enum Node {
-    Literal(Literal, Pos),
+    Literal(SurfaceLiteral, Pos),
     Name(Name),
     Case(CaseName),
     Parens(Pos, Boxed<Node>),
@@ -104,11 +104,11 @@ pub enum Node {
     /// `[ a ; b ]`
     List(Pos, Nodes),
     /// `U { -- w : e }`
-    Structure(Boxed<Name>, FieldValues),
+    Structure(Boxed<Name>, SurfaceFields),
     /// `output of U with { -- w : e } . w`
-    ScopeCall(Pos, Boxed<Name>, Boxed<FieldValues>, Boxed<Name>),
+    ScopeCall(Pos, Boxed<Name>, Boxed<SurfaceFields>, Boxed<Name>),
     If(Pos, Boxed<Node>, Boxed<Node>, Boxed<Node>),
-    Match(Pos, Boxed<Node>, Boxed<Arms>),
+    Match(Pos, Boxed<Node>, Boxed<SurfaceArms>),
     Each(Each, Pos, Boxed<Name>, Boxed<Node>, Boxed<Node>),
     /// `combine all w among E in w initially E with E`
     Combine(Boxed<Accumulation>, Boxed<Node>, Boxed<Node>, Boxed<Node>),
@@ -125,7 +125,7 @@ pub struct Accumulation {
 /// A field of a literal or of a scope call.
 #[cycle(node)]
 #[derive(Debug, Drop)]
-pub struct FieldValue {
+pub struct SurfaceField {
     pub name: Name,
     pub value: Node,
 }
@@ -133,13 +133,13 @@ pub struct FieldValue {
 /// An arm of a match.
 #[cycle(node)]
 #[derive(Debug, Drop)]
-pub struct Arm {
+pub struct SurfaceArm {
     pub pattern: Pattern,
     pub body: Node,
 }
 
 pub type Nodes = List<Node>;
 
-pub type Arms = List<Arm>;
+pub type SurfaceArms = List<SurfaceArm>;
 
-pub type FieldValues = List<FieldValue>;
+pub type SurfaceFields = List<SurfaceField>;

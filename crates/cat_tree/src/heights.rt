@@ -3,7 +3,7 @@ ghost use Rattle.std.specs.Prelude.{◌≡◌, ◌<◌, max};
 ghost use Rattle.cat_tree.specs.Spells.{height_of};
 ghost use Rattle.cat_tree.specs.inside.Highest.{highest_part, highest_node, highest_value, highest_body};
 
-use crate::{Arms, FieldValues, Node, Nodes};
+use crate::{Node, Nodes, SurfaceArms, SurfaceFields};
 use cat_pos::{Boxed, ENTRIES_BOUND};
 
 /// How high an expression is: 1 where it has no parts, else one more than its highest part. Parentheses count.
@@ -71,7 +71,7 @@ fn highest_node(nodes: &Nodes) -> u32
 }
 
 #[cycle(height)]
-fn highest_value(fields: &FieldValues) -> u32
+fn highest_value(fields: &SurfaceFields) -> u32
     requires { highest_value fields.now < ENTRIES_BOUND }
     ensures { result ≡ highest_value fields.now }
 {
@@ -83,7 +83,7 @@ fn highest_value(fields: &FieldValues) -> u32
 }
 
 #[cycle(height)]
-fn highest_body(arms: &Arms) -> u32
+fn highest_body(arms: &SurfaceArms) -> u32
     requires { highest_body arms.now < ENTRIES_BOUND }
     ensures { result ≡ highest_body arms.now }
 {

@@ -20,7 +20,7 @@ pub struct CaseItem {
 }
 
 #[derive(Clone, Copy, Debug, PartialEq, Eq)]
-pub enum Kind {
+pub enum VariableKind {
     Input,
     InputOutput,
     Output,
@@ -33,7 +33,7 @@ pub enum Kind {
 #[derive(Debug, Drop)]
 pub enum Variable {
     /// A kind with the position of its first word, a name, the type where it is no condition, and the parameters.
-    Own(Kind, Pos, Name, Option<Type>, FieldItems),
+    Own(VariableKind, Pos, Name, Option<Type>, FieldItems),
     /// A name for a called scope, and that scope's.
     Called(Name, Name),
 }
@@ -50,7 +50,7 @@ pub enum Exception {
 
 /// The label of a group, and the position of the word `label`.
 #[derive(Debug, Drop)]
-pub struct Label {
+pub struct SurfaceLabel {
     pub pos: Pos,
     pub name: Name,
 }
@@ -58,7 +58,7 @@ pub struct Label {
 /// What stands before `definition` or `rule`.
 #[derive(Debug, Drop)]
 pub struct Lead {
-    pub label: Option<Label>,
+    pub label: Option<SurfaceLabel>,
     pub exception: Exception,
 }
 

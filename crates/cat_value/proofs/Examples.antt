@@ -67,7 +67,7 @@ pub pair_and_choice_are_sound : (s a b e c d : List ℕ) → IsTrue (are_sound (
 unfolding are_sound
 pair_and_choice_are_sound s a b e c d = search (rules, declared, pair_height, choice_height, pair_and_choice_ordered)
 
-abbrev sample : Decls
+abbrev pub sample : Decls
 sample = record {
   structures = pair [] [] [];
   enumerations = choice [] [] [];

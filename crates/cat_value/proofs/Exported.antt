@@ -14,7 +14,7 @@ pub use Rattle.cat_value.proofs.Equations.{is_declared_Date, is_declared_Decimal
 pub use Rattle.cat_value.proofs.Equations.{is_declared_Enumeration, is_declared_Integer, is_declared_List}
 pub use Rattle.cat_value.proofs.Equations.{is_declared_Money, is_declared_Structure, list_is, structure_is, tested}
 pub use Rattle.cat_value.proofs.Equations.{tested_Case, typing}
-pub use Rattle.cat_value.proofs.Examples.{choice, pair, pair_and_choice_are_sound}
+pub use Rattle.cat_value.proofs.Examples.{choice, pair, pair_and_choice_are_sound, sample}
 pub use Rattle.cat_value.proofs.Inversions.{boolean_value, case_value, date_value, decimal_value, duration_value}
 pub use Rattle.cat_value.proofs.Inversions.{integer_value, list_value, money_value, structure_value, whole}
 pub use Rattle.cat_value.proofs.HeightLaws.{height_of_is}

@@ -8,6 +8,7 @@ pub mod DefaultsTyped
 pub mod HeightLaws
 pub mod SoundLaws
 pub mod Examples
+pub mod HeightExamples
 mod Levels
 mod Rounds
 mod Highest

@@ -23,6 +23,10 @@ use Rattle.cat_value.specs.Dependencies.{are_ordered}
 abbrev pub highest : ℕ
 highest = 64
 
+-- the cases of an enumeration of an accepted program
+abbrev pub most_cases : ℕ
+most_cases = 128
+
 -- whether a u32 numbers the entries of a list
 abbrev pub is_counted : {A : Type 0} → List A → Bool
 is_counted xs = nat_lt (length xs) ENTRIES_BOUND

@@ -1,8 +1,8 @@
--- Which inputs a scope takes.
-use Rattle.std.specs.Prelude.{ℕ, Bool, true, false, ◌&&◌, not, IsTrue, List, [], ◌∷◌, Option, None, Some, slice_get}
+-- Which inputs a scope takes, and which outputs it has.
+use Rattle.std.specs.Prelude.{ℕ, Bool, true, false, ◌&&◌, not, IsTrue, List, [], ◌∷◌, Option, None, Some, slice_get, if◌then◌else◌}
 use Rattle.cat_value.specs.declared.value.Value.{Value}
 use Rattle.cat_value.specs.declared.declaration.Kind.{Kind}
-use Rattle.cat_value.specs.declared.declaration.Kind.TheVariants.{Input, InputOutput, Context, ContextOutput}
+use Rattle.cat_value.specs.declared.declaration.Kind.TheVariants.{Input, Output, InputOutput, Context, ContextOutput}
 use Rattle.cat_value.specs.declared.declaration.ItemDecl.{ItemDecl}
 use Rattle.cat_value.specs.declared.declaration.Scope.{Scope}
 use Rattle.cat_value.specs.declared.decls.Decls.{Decls}
@@ -19,6 +19,18 @@ abbrev pub may_be_given : Kind → Bool
 may_be_given Context = true
 may_be_given ContextOutput = true
 may_be_given kind = must_be_given kind
+
+-- a variable that is an output of its scope
+abbrev pub is_output : Kind → Bool
+is_output Output = true
+is_output InputOutput = true
+is_output ContextOutput = true
+is_output _ = false
+
+-- the outputs of a scope that has these items
+abbrev pub outputs_in : List ItemDecl → List ItemDecl
+outputs_in [] = []
+outputs_in (item ∷ items) = if is_output item.kind then item ∷ outputs_in items else outputs_in items
 
 -- whether an item may have this value, or none, in an input
 abbrev pub is_given_for : Decls → ItemDecl → Option Value → Bool

@@ -1,4 +1,7 @@
 // What a program declares: structures, enumerations, and scopes with their items.
+ghost use Rattle.std.specs.Prelude.{◌≡◌};
+ghost use Rattle.cat_value.specs.Inputs.{is_output, may_be_given};
+
 use crate::{Ty, Tys};
 use cat_pos::{List, Pos, Text};
 
@@ -52,6 +55,26 @@ pub enum Kind {
     ContextOutput,
     /// No variable, but the called scope of that number.
     Called(u32),
+}
+
+impl Kind {
+    pub fn may_be_given(self) -> bool
+        ensures { result ≡ may_be_given self }
+    {
+        match self {
+            Kind::Input | Kind::InputOutput | Kind::Context | Kind::ContextOutput => true,
+            Kind::Output | Kind::Internal | Kind::Called(_) => false,
+        }
+    }
+
+    pub fn is_output(self) -> bool
+        ensures { result ≡ is_output self }
+    {
+        match self {
+            Kind::Output | Kind::InputOutput | Kind::ContextOutput => true,
+            Kind::Input | Kind::Internal | Kind::Context | Kind::Called(_) => false,
+        }
+    }
 }
 
 /// A variable or a called scope of a scope. Only a function has parameters. A called scope is no condition, and its

@@ -25,7 +25,7 @@ pub use least::least_value;
 pub use outcome::{FaultKind, Input, Inputs, Outcome, Target};
 pub use table::{HIGHEST, TypeHeights};
 pub use ty::{Ty, Tys, copy_ty, same_ty};
-pub use typing::{is_declared, well_typed};
+pub use typing::{day_is_in_range, is_declared, money_fits, span_fits, well_typed, whole_fits};
 pub use value::{Value, Values, copy, copy_all};
 
 #[cfg(test)]

@@ -122,13 +122,13 @@ pub fn is_declared(ty: &Ty, decls: &Decls) -> bool
 }
 
 /// What the types of numbers, days and durations keep: this and the four tests below pass each of their values.
-fn whole_fits(whole: Whole) -> bool
+pub fn whole_fits(whole: Whole) -> bool
     ensures { result ≡ fits whole }
 {
     whole.get() != i64::MIN
 }
 
-fn money_fits(money: Money) -> bool
+pub fn money_fits(money: Money) -> bool
     ensures { result ≡ fits money }
 {
     money.get() != i64::MIN
@@ -140,14 +140,14 @@ fn frac_fits(frac: Frac) -> bool
     frac.den() > 0
 }
 
-fn day_is_in_range(day: Day) -> bool
+pub fn day_is_in_range(day: Day) -> bool
     ensures { result ≡ is_day day }
 {
     let _number = number(day);
     true
 }
 
-fn span_fits(span: Span) -> bool
+pub fn span_fits(span: Span) -> bool
     ensures { result ≡ is_span span }
 {
     span.months() != i64::MIN && span.days() != i64::MIN

@@ -203,17 +203,6 @@ module _ (eq : Key → Key → Bool) (test : IsKeyTest eq) where
           let next : suc m ≡ n = cc in
           ap (λ x. 1 + x) (rest m refl) ∙ omega (arith, next)
 
-  keys_past : (known : List Tree) (k : Key) (t : Tree) → IsKey known k t → (ks : List Key) (ts : List Tree)
-      → AreKeys known ks ts → is_among ts t ≡ false → position_or_len (eq k) ks ≡ length ts
-  keys_past known k t is [] [] keys new = refl
-  keys_past known k t is [] (u ∷ ts) keys new = absurd (keys)
-  keys_past known k t is (j ∷ ks) [] keys new = absurd (keys)
-  keys_past known k t is (j ∷ ks) (u ∷ ts) keys new =
-      let parts = or_parts (same_tree t u) (is_among ts t) new in
-      let other : eq k j ≡ false = key_test known k j t u is keys.0 ∙ parts.0 in
-      let rest = keys_past known k t is ks ts keys.1 parts.1 in
-      ap (λ b. cond (not b) (1 + position_or_len (eq k) ks) 0) other ∙ omega (arith, rest)
-
 key_more : (known us : List Tree) (k : Key) (t : Tree) → IsKey known k t → IsKey (known ++ us) k t
 key_more known us k tree.Leaf is = absurd (is)
 key_more known us k tree.Rest is = absurd (is)

@@ -12,7 +12,7 @@ use Rattle.cat_walk.specs.Sizes.{past_most}
 use Rattle.cat_walk.specs.declared.meeting.Met.{Met}
 use Rattle.cat_walk.specs.declared.meeting.Met.TheVariants as met
 use Rattle.cat_walk.specs.LeafPlaces.{lists_of}
-use Rattle.cat_walk.specs.Sizes.{size_of, is_there, is_small}
+use Rattle.cat_walk.specs.Sizes.{size_of, is_small}
 use Rattle.cat_walk.specs.inside.Meetings.{are_earlier, start_of, to_come}
 use Rattle.cat_walk.specs.inside.Walking.{trees_met}
 use Rattle.cat_walk.specs.inside.Nodes.{nodes_met}
@@ -38,10 +38,6 @@ small c h = by (expanded c) refl h
     by : (o : Option Tree) → expanded c ≡ o → is_small o ≡ true → IsSmall c
     by None at h = absurd (cc)
     by (Some t) at h = record { tree = t; is = at; few = grind (arith, nat_tests, h) }
-
-pub small_there : (o : Option Tree) → is_small o ≡ true → is_there o ≡ true
-small_there None h = absurd (cc)
-small_there (Some t) h = refl
 
 module _ (c : CitedTree) (h : is_small (expanded c) ≡ true) where
   abbrev all : List Met

@@ -3,7 +3,7 @@ use Rattle.std.proofs.Common.{◌≡◌, ◌⊎◌, inl, inr, ℕ, Bool, true, f
 use Rattle.std.proofs.Common.{◌++◌, Option, Some, None, refl, sym, ap, ◌∙◌, subst, append_assoc, append-nil, true≢false}
 use Rattle.cat_guard.specs.declared.tree.TreeNode.{TreeNode}
 use Rattle.cat_guard.specs.declared.tree.TreeNode.TheVariants as node
-use Rattle.cat_guard.specs.Trees.{Tree, node_before, trees_of, tree_of, one_tree, is_whole}
+use Rattle.cat_guard.specs.Trees.{Tree, node_before, trees_of, is_whole}
 use Rattle.cat_guard.specs.Trees as tree
 use Rattle.cat_guard.proofs.Exported.{both_true}
 use Rattle.cat_walk.specs.declared.numbering.Open.{Open}
@@ -119,32 +119,6 @@ module _ (keys : List Key) (recurs : List Bool) (os : List Open) (trees : List T
             }
 
 -- ---- node by node
-
-one_alone : (o : Option (List Tree)) (t : Tree) → one_tree o ≡ Some t → o ≡ Some (t ∷ [])
-one_alone None t h = absurd (cc)
-one_alone (Some []) t h = absurd (cc)
-one_alone (Some (u ∷ [])) t h = cc
-one_alone (Some (u ∷ w ∷ us)) t h = absurd (cc)
-
-pub begins : (keys : List Key) (recurs : List Bool) (ns : List TreeNode) (root : ℕ) (t : Tree) → tree_of ns ≡ Some t
-    → is_whole t ≡ true → AreClasses keys recurs [] → IsNumbered keys recurs [] ns root t
-begins keys recurs ns root t is whole classes = record {
-  trees = t ∷ [];
-  made = one_alone (trees_of ns) t is;
-  whole = (whole, tt);
-  state = inl (record {
-    met = [];
-    frames = [];
-    rest = [];
-    first = t;
-    others = [];
-    classes = classes;
-    are_open = tt;
-    trees_are = refl;
-    finishes = (refl, (refl, refl));
-    all = append-nil (subtrees t);
-  });
-}
 
 record IsSplit (a : ℕ) (o : Option (List Tree)) (trees : List Tree) : Type 0 where
   pub left : Tree
@@ -271,17 +245,6 @@ module _ (keys : List Key) (recurs : List Bool) (os : List Open) (ns : List Tree
 
   pub no_rest_node : IsNumbered keys recurs os (node.Rest ∷ ns) root t → ⊥
   no_rest_node at = no_rest (trees_of ns) at.trees at.made at.whole
-
-pub ends : (keys : List Key) (recurs : List Bool) (os : List Open) (root : ℕ) (t : Tree)
-    → IsNumbered keys recurs os [] root t → IsDone keys recurs [] root t
-ends keys recurs os root t at = by at.state
-  where
-    none : [] ≡ at.trees
-    none = let made = at.made in cc
-
-    by : GoesOn keys recurs os at.trees t ⊎ IsDone keys recurs at.trees root t → IsDone keys recurs [] root t
-    by (inl goes) = let some = goes.trees_are in let empty = none in absurd (cc)
-    by (inr ended) = subst (λ ts. IsDone keys recurs ts root t) (sym none) ended
 
 -- the class that is told, or one that was told before
 abbrev pub told_or : Option ℕ → ℕ → ℕ

@@ -14,12 +14,6 @@ use Rattle.cat_walk.specs.inside.Sides.{along, IsAt, false_side, turns, Undoes, 
 -- ---- one narrowing is undone
 
 module _ (base : Constraints) (region : Constraints) (room : ℕ) (whole : base.room ≡ room) where
-  pub none_made : (path : List Narrowing) → region.room ≡ room → IsAt base path region → Undoes base path None region
-  none_made [] same at = at
-  none_made (n ∷ path) same at =
-      let left : region.room + suc (length path) ≡ base.room = at.room in
-      absurd (omega (arith, left, whole, same))
-
   pub none_last : (path : List Narrowing) → last_narrowing region.narrowings ≡ None → IsAt base path region
       → Undoes base path None region
   none_last [] none at = at
@@ -59,22 +53,6 @@ pub record IsBack (base : Constraints) (path : List Narrowing) (region : Constra
 
 -- a narrowing is on the true side or on the false one
 module _ (base : Constraints) (path : List Narrowing) (after : Constraints) (last : ℕ × Cut × Bool) where
-  passed : (left : List Narrowing) → turns path ≡ turns left → Undoes base left (Some last) after → last.2 ≡ false
-      → IsBack base path after
-  passed [] same undoes is = absurd (undoes)
-  passed (n ∷ left) same undoes is =
-      let other : n.yes ≡ false = sym (ap (λ l. l.2) undoes.0) ∙ is in
-      record {
-        left = left;
-        same = same ∙ ap (λ b. if b then (false_side n ∷ left) ∷ turns left else turns left) other;
-        at = undoes.1;
-      }
-
-  pub passes_back : (region : Constraints) → IsBack base path region
-      → ((left : List Narrowing) → IsAt base left region → Undoes base left (Some last) after) → last.2 ≡ false
-      → IsBack base path after
-  passes_back region back undoes is = passed back.left back.same (undoes back.left back.at) is
-
   over : (left : List Narrowing) (turned : Constraints) → turns path ≡ turns left
       → Undoes base left (Some last) after → last.2 ≡ true → turned.dims ≡ after.dims
       → turned.narrowings ≡ after.narrowings ++ narrowed_to last.0 last.1 false ∷ []
@@ -103,15 +81,6 @@ module _ (base : Constraints) (path : List Narrowing) (after : Constraints) (las
   turns_over region turned back undoes is dims narrowings room =
       over back.left turned back.same (undoes back.left back.at) is dims narrowings room
 
-module _ (base : Constraints) (path : List Narrowing) (after : Constraints) where
-  at_end : (left : List Narrowing) → turns path ≡ turns left → Undoes base left None after → Turns base path false after
-  at_end [] same undoes = (same, undoes)
-  at_end (n ∷ left) same undoes = absurd (undoes)
-
-  pub no_turn : (region : Constraints) → IsBack base path region
-      → ((left : List Narrowing) → IsAt base left region → Undoes base left None after) → Turns base path false after
-  no_turn region back undoes = at_end back.left back.same (undoes back.left back.at)
-
 -- what is at no path is the whole
 pub at_base : (base region : Constraints) → IsAt base [] region → region ≡ base
 at_base base region at =
@@ -125,21 +94,9 @@ abbrev pub IsOnWay : Constraints → Constraints → Type 0
 IsOnWay base region = (left : List Narrowing) × IsAt base left region
 
 module _ (base : Constraints) (after : Constraints) where
-  further : (last : ℕ × Cut × Bool) (left : List Narrowing) → Undoes base left (Some last) after → IsOnWay base after
-  further last [] undoes = absurd (undoes)
-  further last (n ∷ left) undoes = (left, undoes.1)
-
-  pub further_back : (region : Constraints) (last : ℕ × Cut × Bool) → IsOnWay base region
-      → ((left : List Narrowing) → IsAt base left region → Undoes base left (Some last) after) → IsOnWay base after
-  further_back region last way undoes = further last way.0 (undoes way.0 way.1)
-
   back : (left : List Narrowing) → Undoes base left None after → after ≡ base
   back [] undoes = at_base base after undoes
   back (n ∷ left) undoes = absurd (undoes)
-
-  pub all_back : (region : Constraints) → IsOnWay base region
-      → ((left : List Narrowing) → IsAt base left region → Undoes base left None after) → after ≡ base
-  all_back region way undoes = back way.0 (undoes way.0 way.1)
 
 -- the last of some narrowings is one of them
 pub last_cut : (dims : List Dim) (ns : List Narrowing) (last : ℕ × Cut × Bool) → last_narrowing ns ≡ Some last

@@ -53,12 +53,6 @@ one_more [] (u ∷ ts) all ms t makes = absurd (all)
 one_more (first ∷ named) [] all ms t makes = absurd (all)
 one_more (first ∷ named) (u ∷ ts) all ms t makes = (all.0, one_more named ts all.1 ms t makes)
 
-same_count : (named : List (List Met)) (ts : List Tree) → AllMake named ts → length named ≡ length ts
-same_count [] [] all = refl
-same_count [] (u ∷ ts) all = absurd (all)
-same_count (first ∷ named) [] all = absurd (all)
-same_count (first ∷ named) (u ∷ ts) all = ap suc (same_count named ts all.1)
-
 -- what is met makes these trees, in front of some trees, wherever they are there
 abbrev Follows : List Tree → Option (List Tree) → Option (List Tree) → Type 0
 Follows trees made met = (ts : List Tree) → made ≡ Some ts → met ≡ Some (ts ++ trees)

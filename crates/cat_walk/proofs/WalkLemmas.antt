@@ -148,16 +148,6 @@ module _ (atoms : List Atom) (o : Option TableTarget) (base : Constraints)
   abbrev pub Passes : List Narrowing → List Met → Type 0
   Passes path ms = IsPassed atoms test base Told path ms
 
-  pub goes_past : (region : Constraints) (ms : List Met) → GoesOn region (met.End ∷ ms) → GoesOn region ms
-  goes_past region ms walk = record {
-    path = walk.path;
-    trees = walk.trees;
-    here = walk.here;
-    made = walk.made;
-    fit = walk.fit;
-    rest = walk.rest;
-  }
-
   pub goes_in : (region : Constraints) (i : ℕ) (ms : List Met) → GoesOn region (met.Cite i ∷ ms) → GoesOn region ms
   goes_in region i ms walk = record {
     path = walk.path;
@@ -327,14 +317,6 @@ module _ (atoms : List Atom) (o : Option TableTarget) (base : Constraints)
         let fits : AreFit (length atoms) base.room (walk.path ∷ turns walk.path) (tree.Leaf ∷ leaf.rest) =
         subst (AreFit (length atoms) base.room (walk.path ∷ turns walk.path)) leaf.same walk.fit in
         record { rest = leaf.rest; made = leaf.is; fit = fits.1; told = covered_told is }
-
-  -- nothing is to come where no walk is under way
-  pub ends : (region : Constraints) → GoesOn region [] → ⊥
-  ends region walk = by walk.trees walk.made walk.fit
-    where
-      by : (ts : List Tree) → Some [] ≡ Some ts → AreFit (length atoms) base.room (walk.path ∷ turns walk.path) ts → ⊥
-      by [] is fit = fit
-      by (t ∷ ts) is fit = absurd (cc)
 
 -- ---- a walk through a tree with citations
 

@@ -56,9 +56,6 @@ module _ (keys : List Key) (numbers : List (Option ℕ)) (c : ℕ) (cs : List �
         let count = can.count in
         omega (arith, most, count, some)
 
-    pub key_there : c - 1 < length keys
-    key_there = let most = can.there.0 in omega (arith, most, some)
-
     module _ (k : Key) (at : slice_get keys (c - 1) ≡ Some k) where
       low : (k.1 ≤ 0 + (c - 1)) × (k.2 ≤ 0 + (c - 1))
       low = low_at 0 keys (c - 1) k can.low at

@@ -10,7 +10,7 @@ ghost use Rattle.cat_walk.specs.inside.Levels.{IsLiveAbove, AreLiveTo, is_past};
 ghost use Rattle.cat_walk.specs.inside.Sides.{IsAt, Turns};
 
 use cat_guard::{LiveGroups, Table, all_live, live_size};
-use cat_region::Stack;
+use cat_pos::Stack;
 use std::alloc::{AllocError, Global};
 
 /// What is live in a region on the way.

@@ -6,7 +6,7 @@ ghost use Rattle.cat_walk.specs.inside.Meetings.{are_earlier, start_of, met_in_l
 
 use crate::place::NodePlace;
 use cat_guard::{CitedNode, CitedTree};
-use cat_region::Stack;
+use cat_pos::Stack;
 use std::alloc::{AllocError, Global};
 
 /// What a walk comes to: a split on the atom of that number, a leaf, a citation of the named tree of that number, which

@@ -7,7 +7,7 @@ ghost use Rattle.cat_walk.specs.inside.Numbering.{Arrives, Closes, IsDone, IsNum
 
 use crate::classes::{Classes, LEAF};
 use cat_guard::TreeNode;
-use cat_region::Stack;
+use cat_pos::Stack;
 use std::alloc::{AllocError, Global};
 
 /// A split one of whose sides is still to be met: its atom, and the class of its true side where that was met.

@@ -5,8 +5,7 @@ ghost use Rattle.cat_walk.specs.Sizes.{size_of, is_there};
 ghost use Rattle.cat_walk.specs.inside.Sizing.{split_size, Sizable, Sizes, HasSizes};
 
 use cat_guard::{CitedNode, CitedTree};
-use cat_pos::List;
-use cat_region::Stack;
+use cat_pos::{List, Stack};
 use std::alloc::{AllocError, Global};
 
 /// One more than the most leaves that a tree may have.

@@ -9,8 +9,7 @@ ghost use Rattle.cat_walk.specs.inside.Writing.{numbers_from, picked, CanWrite, 
 
 use crate::classes::{Classes, LEAF};
 use cat_guard::{CitedNames, CitedNode, CitedNodes};
-use cat_pos::List;
-use cat_region::Stack;
+use cat_pos::{List, Stack};
 use std::alloc::{AllocError, Global};
 
 /// The number where a flag is set.

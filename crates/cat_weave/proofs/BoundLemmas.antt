@@ -12,7 +12,7 @@ use Rattle.cat_weave.specs.declared.segment.Segment.{Segment}
 use Rattle.cat_weave.specs.declared.segment.Segment.TheVariants.{Code}
 use Rattle.cat_weave.specs.Gathered.{Gathered, gathered_none, with_file, limit_after}
 use Rattle.cat_pos.specs.Readable.{IsReadable}
-use Rattle.cat_pos.specs.declared.limits.TheConstants.{MOST_FILES, MOST_FILE_BYTES}
+use Rattle.cat_pos.specs.Limits.{most_files, most_file_bytes}
 use Rattle.cat_weave.specs.Causes.{pieces_total, AreReadableTogether}
 use Rattle.cat_weave.specs.inside.UnderWay.{IsInFiles, AreBounded}
 
@@ -84,7 +84,7 @@ bounded_heading g headings segment segments bounded =
     record { few = rest.few; all = rest.all; short = rest.short; code = rest.code; starts = rest.starts }
 
 -- segments of one file more
-in_file : (size file : ℕ) (segments : List Segment) → size ≤ MOST_FILE_BYTES → file < MOST_FILES
+in_file : (size file : ℕ) (segments : List Segment) → size ≤ most_file_bytes → file < most_files
     → AreWithin size file segments → All (IsInFiles (file + 1)) segments
 in_file size file segments small known within =
     let sizes = size_in_total segments in

@@ -1,5 +1,5 @@
 -- Small trees of files, and what is gathered of them.
-use Rattle.std.proofs.Common.{◌≡◌, ℕ, List, [], ◌∷◌, ◌++◌, refl, cond}
+use Rattle.std.proofs.Common.{◌≡◌, ℕ, List, [], ◌∷◌, ◌++◌, true, false, nat_le, replicate, refl, cond}
 use Rattle.std.specs.Prelude.{codes, bytes_eq, Some, None}
 use Rattle.std.specs.Str.{is_utf8, chars}
 use lib.Utf8.{encode}
@@ -7,6 +7,7 @@ use Rattle.cat_weave.specs.Lines.{lines_of, without_end, without_last, without_l
 use Rattle.cat_weave.specs.Kinds.{level_of, law_kind, kind_of, kinds_of}
 use Rattle.cat_weave.specs.Woven.{line_position, code_text, segments_from, closes, unclosed, woven}
 use Rattle.cat_weave.specs.Gathered.{Contents, Whole, Refused, StopsAt, segments_gathered, included, gathered}
+use Rattle.cat_weave.specs.Gathered.{gathered_none, limit_after, is_full}
 use Rattle.cat_weave.specs.declared.source.GatherRefusal.TheVariants.{IncludeTwice, FenceOpen}
 
 abbrev line : List ℕ → List ℕ
@@ -92,3 +93,23 @@ gathering_stops_at_a_file_without_content : gathered (files (include (codes "c")
 unfolding gathered included segments_gathered woven lines_of kinds_of kind_of law_kind level_of without_end without_last
     without_last_blanks without_first_blanks code_text segments_from closes unclosed is_utf8 chars encode
 gathering_stops_at_a_file_without_content = refl
+
+-- ---- limits
+
+a_file_of_4_MiB_may_be_the_first : nat_le 4194304 (limit_after 0) ≡ true
+a_file_of_4_MiB_may_be_the_first = refl
+
+a_file_of_one_byte_more_may_not : nat_le 4194305 (limit_after 0) ≡ false
+a_file_of_one_byte_more_may_not = refl
+
+one_byte_may_follow_16_MiB_but_one : limit_after 16777215 ≡ 1
+one_byte_may_follow_16_MiB_but_one = refl
+
+none_may_follow_16_MiB : limit_after 16777216 ≡ 0
+none_may_follow_16_MiB = refl
+
+a_file_may_follow_63 : is_full (record gathered_none { files = replicate 63 (codes "a") }) ≡ false
+a_file_may_follow_63 = refl
+
+none_may_follow_64 : is_full (record gathered_none { files = replicate 64 (codes "a") }) ≡ true
+none_may_follow_64 = refl

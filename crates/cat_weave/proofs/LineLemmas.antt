@@ -1,23 +1,18 @@
 -- Lines, their lengths and where they may be cut.
-use Rattle.std.proofs.Common.{◌≡◌, ◌∙◌, sym, subst, ℕ, zero, suc, ◌+◌, ◌-◌, ◌<◌, ◌≤◌, true, false, cond, ◌&&◌, eqb}
+use Rattle.std.proofs.Common.{◌≡◌, ◌∙◌, subst, ℕ, zero, suc, ◌+◌, ◌-◌, ◌<◌, ◌≤◌, true, false, cond, ◌&&◌, eqb}
 use Rattle.std.proofs.Common.{leb, List, [], ◌∷◌, length, take, drop, get_or, refl, arith, inl, inr, ◌⊎◌, ⊎_elim}
-use Rattle.std.proofs.Common.{add-one, Bor, Some, None, Option, MatchOption}
+use Rattle.std.proofs.Common.{add-one}
 use Rattle.std.proofs.lemmas.Bool.{eqb-true, leb-true, false≢true, or_cases, and_parts, cases_lt}
 use Rattle.std.proofs.lemmas.List.{drop_more}
 use Rattle.std.proofs.lemmas.List.Sums.{prefix_len-drop_yes, prefix_len-drop_no, prefix_len-drop_all}
 use Rattle.std.proofs.lemmas.List.Sums.{suffix_len-take_yes, suffix_len-take_no}
-use Rattle.std.proofs.lemmas.Bool.Decides.{Decides-eqb}
-use Rattle.std.proofs.lemmas.Slice.Eq.{starts_is}
 use Rattle.std.proofs.lemmas.Str.{IsCharBoundary-end, IsCharBoundary-after_ascii}
-use Rattle.std.proofs.lemmas.Str.Pattern.{starts_text}
 use Rattle.std.specs.List.{prefix_len, suffix_len}
-use Rattle.std.specs.Prelude.{codes}
 use Rattle.std.specs.Str.{IsUtf8, IsCharBoundary}
-use Rattle.std.specs.Str.Pattern.{FindsTextPrefix, StripsPrefix}
 use Rattle.cat_pos.specs.Position.{is_line_feed}
 use Rattle.cat_pos.specs.Bytes.{is_blank}
 use Rattle.cat_weave.specs.Lines.{lines_of, in_front}
-use Rattle.cat_weave.specs.Kinds.{is_hash, is_include}
+use Rattle.cat_weave.specs.Kinds.{is_hash}
 use Rattle.cat_weave.specs.inside.Reading.{line_length}
 
 -- how long the first line is, by its bytes
@@ -188,14 +183,3 @@ pub heading_low : (line : List ℕ) (level : ℕ) →
     (leb 1 level && (leb level 6 && is_blank (get_or line level 0))) ≡ true → level ≤ 6
 heading_low line level test =
     leb-true level 6 ((and_parts (leb level 6) (is_blank (get_or line level 0)) (and_parts (leb 1 level) _ test).1).0)
-
--- includes
-abbrev include : List ℕ
-include = codes "> Include: "
-
-pub strip_include : (line : List ℕ) (r : Option (Bor (List ℕ))) →
-    MatchOption r (FindsTextPrefix include line None) (λ x. StripsPrefix (FindsTextPrefix include) line x.now)
-    → MatchOption r (is_include line ≡ false) (λ x. (is_include line ≡ true) × (x.now ≡ drop 11 line))
-strip_include line None lacks = sym (starts_text false include line lacks)
-strip_include line (Some x) strips =
-    ((starts_is Decides-eqb line include _ refl).1 _ strips.1.1, rw strips.1.0 at strips.2)

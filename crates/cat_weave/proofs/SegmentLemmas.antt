@@ -136,9 +136,6 @@ concat_push [] line = append-nil line
 concat_push (text ∷ texts) line =
     ap (λ more. text ++ more) (concat_push texts line) ∙ sym (append_assoc text (concat texts) line)
 
-pub code_before_none : (lines : List Kind) → IsCodeBefore lines [] 0 lines
-code_before_none lines = record { texts = []; many = refl; joined = refl; whole = refl }
-
 pub code_before_more : (lines rest after : List Kind) (code line more : List ℕ) (count : ℕ) →
     IsCodeBefore lines code count rest → rest ≡ CodeLine line ∷ after → more ≡ code ++ line →
     IsCodeBefore lines more (count + 1) after
@@ -213,18 +210,6 @@ include_step file n path lines rest first = record { segments = rw first refl; o
 -- what is woven with these segments in front
 abbrev pub woven_after : List Segment → ℕ → ℕ → List Kind → Result Woven WeaveRefusal
 woven_after made file n lines = woven_unless file (unclosed n lines) (made ++ segments_from file false n lines)
-
-pub woven_more : (made more : List Segment) (segment : Option Segment) (file n count m : ℕ) (lines rest : List Kind) →
-    IsStep file n lines segment count rest → more ≡ made ++ option_to_list segment → m ≡ n + count
-    → woven_after more file m rest ≡ woven_after made file n lines
-woven_more made more segment file n count m lines rest step is at =
-    rw (is, at, step.opened, step.segments, append_assoc) refl
-
-pub woven_open : (made : List Segment) (file n : ℕ) (lines : List Kind) (refusal : WeaveRefusal) →
-    IsOpen file n lines refusal → refusal ≢ Memory → woven_after made file n lines ≡ Err refusal
-woven_open made file n lines refusal is_open other =
-    let is = is_open other in
-    rw (is.1, is.0) refl
 
 pub woven_all : (made : List Segment) (file n : ℕ) (text : List ℕ) → length text ≡ 0 →
     woven_after made file n (law_kinds text) ≡ Ok (record { segments = made })

@@ -144,5 +144,3 @@ pub files_are_told : (told : Contents) (main name : List ℕ) (source : Source) 
     → IsSomeAnd (told name) (λ content. length content ≤ limit_after bytes)
 files_are_told told main name source bytes is comes =
     told_content told comes.0 main name source bytes is comes.1 comes.2 (told name) refl
-
-pub ruleset telling = (endings_are_told, files_are_told)

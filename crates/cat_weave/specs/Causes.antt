@@ -3,7 +3,7 @@ use Rattle.std.specs.Prelude.{◌≡◌, ◌≢◌, ℕ, ◌+◌, ◌≤◌, Boo
 use Rattle.std.specs.Prelude.{Result, Ok, Err, ⊤}
 use Rattle.cat_io.specs.Shelf.{Shelved, Keeps, Reads}
 use Rattle.cat_io.specs.declared.shelf.ShelfFault.TheVariants as fault
-use Rattle.cat_pos.specs.declared.limits.TheConstants.{MOST_SOURCE_BYTES}
+use Rattle.cat_pos.specs.Limits.{most_source_bytes}
 use Rattle.cat_pos.specs.declared.pos.Piece.{Piece}
 use Rattle.cat_pos.specs.Readable.{AreReadable}
 use Rattle.cat_weave.specs.Gathered.{Contents, Ending, Whole, Refused, StopsAt, gathered, limit_after}
@@ -72,4 +72,4 @@ pieces_total (piece ∷ pieces) = length piece.text + pieces_total pieces
 -- pieces each of which can be read as tokens, and that have at most 16 MiB together
 pub record AreReadableTogether (pieces : List Piece) : Type 0 where
   pub each : AreReadable pieces
-  pub together : pieces_total pieces ≤ MOST_SOURCE_BYTES
+  pub together : pieces_total pieces ≤ most_source_bytes

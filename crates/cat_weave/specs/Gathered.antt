@@ -2,7 +2,7 @@
 use Rattle.std.specs.Prelude.{ℕ, zero, suc, ◌+◌, ◌-◌, nat_le, min, Bool, true, false, ◌||◌, List, [], ◌∷◌, ◌++◌, length}
 use Rattle.std.specs.Prelude.{slice_index_or, bytes_eq, Option, Some, None, Result, Ok, Err}
 use Rattle.cat_pos.specs.Position.{pos_file}
-use Rattle.cat_pos.specs.declared.limits.TheConstants.{MOST_FILES, MOST_FILE_BYTES, MOST_SOURCE_BYTES}
+use Rattle.cat_pos.specs.Limits.{most_files, most_file_bytes, most_source_bytes}
 use Rattle.cat_pos.specs.declared.pos.Pos.{Pos}
 use Rattle.cat_pos.specs.declared.pos.Piece.{Piece}
 use Rattle.cat_weave.specs.Woven.{woven}
@@ -89,7 +89,7 @@ woven_gathered include name size g (Err refusal) = Refused refusal
 
 -- a file has at most 4 MiB, and at most what the files in front of it leave of 16 MiB
 abbrev pub limit_after : ℕ → ℕ
-limit_after bytes = min MOST_FILE_BYTES (MOST_SOURCE_BYTES - bytes)
+limit_after bytes = min most_file_bytes (most_source_bytes - bytes)
 
 -- a file within its limit is woven, as the next in number
 abbrev pub bytes_gathered : Including → List ℕ → Gathered → List ℕ → Bool → Ending Gathered
@@ -110,7 +110,7 @@ is_among name (n ∷ names) = bytes_eq n name || is_among name names
 
 -- no further file may be taken
 abbrev pub is_full : Gathered → Bool
-is_full g = nat_le MOST_FILES (length g.files)
+is_full g = nat_le most_files (length g.files)
 
 -- an include that can't be taken is refused in the file in which it stands
 abbrev pub twice : {T : Type 0} → Pos → Gathered → Ending T

@@ -48,13 +48,16 @@ where_faultless (kind ∷ kinds) found = None
 abbrev pub asked_by : List Text → Option Asked
 asked_by words = where_faultless (fault_of the_command words) (found_in (matches_of the_command words))
 
--- a text that spells a number from 1 to 1,000,000
+-- the most leaves that an audit may be asked to make of a target
+abbrev pub most_asked : ℕ
+most_asked = 1000000
+
+-- a text that spells a number from 1 to that
 abbrev pub SpellsCases : Text → Type 0
 SpellsCases text = IsNumeral 10 (without_leading_plus text) × (1 ≤ digits_value 10 (without_leading_plus text))
-    × (digits_value 10 (without_leading_plus text) ≤ 1000000)
+    × (digits_value 10 (without_leading_plus text) ≤ most_asked)
 
--- the number of cases: the number from 1 to 1,000,000 that the text of the option spells, and 100,000 where it isn't
--- given
+-- the number of cases: the number that the text of the option spells, and 100,000 where it isn't given
 abbrev pub IsCases : Option Text → ℕ → Type 0
 IsCases None n = n ≡ 100000
 IsCases (Some text) n = SpellsCases text × (n ≡ digits_value 10 (without_leading_plus text))

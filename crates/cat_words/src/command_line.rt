@@ -1,7 +1,7 @@
 // What the words of the command line ask for.
 ghost use Rattle.std.specs.Prelude.{◌≡◌, ◌≤◌, IfOk, IfSome, map, option_map, string_bytes, codes};
 ghost use Rattle.clap.specs.Words.{found_of, matches_of, one_of, rows_of};
-ghost use Rattle.cat_words.specs.Asked.{all_found, asked_of, asked_by, found_in, text_in, IsCases, SpellsCases};
+ghost use Rattle.cat_words.specs.Asked.{all_found, asked_of, asked_by, found_in, most_asked, text_in, IsCases, SpellsCases};
 ghost use Rattle.cat_words.specs.TheCommand.{the_command};
 
 use crate::command::command;
@@ -76,7 +76,7 @@ pub fn read_words<'a>(
     ensures asked { IfOk result (λ line. option_map asked_of line ≡ asked_by (map string_bytes words.entry.now)) }
     ensures cases { IfOk result (λ line. IfSome line (λ l.
         IsCases (one_of (codes "cases") (matches_of the_command (map string_bytes words.entry.now))) l.cases)) }
-    ensures range { IfOk result (λ line. IfSome line (λ l. (1 ≤ l.cases) × (l.cases ≤ 1000000))) }
+    ensures range { IfOk result (λ line. IfSome line (λ l. (1 ≤ l.cases) × (l.cases ≤ most_asked))) }
 {
     let command = command(alloc)?;
     match command.try_get_matches_from(words) {

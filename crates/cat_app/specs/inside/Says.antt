@@ -21,6 +21,7 @@ use Rattle.cat_weave.specs.declared.source.GatherRefusal.TheVariants as gatherin
 use Rattle.cat_weave.specs.Gathered.{Whole}
 use Rattle.cat_weave.specs.Causes.{HasEnding}
 use Rattle.cat_words.specs.Asked.{IsCases}
+use Rattle.cat_app.specs.Limits.{most_bands}
 use Rattle.cat_app.specs.Words.{Ask, OfBands, OfScope, Request, ask_of, cases_in, request}
 use Rattle.cat_app.specs.Answers.{line, status_of, gathering_line, input_line}
 use Rattle.cat_cert.specs.declared.refusal.CertRefusal.{CertRefusal}
@@ -61,7 +62,7 @@ HasNumber number (asking.Drill bands) = Unit {0}
 -- a drill may have so many bands, where one is asked for
 abbrev pub HasBands : AskedFor → Type 0
 HasBands (asking.Scope asked) = Unit {0}
-HasBands (asking.Drill bands) = (1 ≤ bands) × (bands ≤ 1000)
+HasBands (asking.Drill bands) = (1 ≤ bands) × (bands ≤ most_bands)
 
 -- words ask for this
 pub record AsksFor (words : List (List ℕ)) (asked : Option AskedFor) : Type 0 where

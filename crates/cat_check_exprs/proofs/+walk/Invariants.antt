@@ -1,7 +1,7 @@
 use Rattle.std.proofs.Common.{◌≡◌, ◌+◌, ◌*◌, max, drop}
 use Rattle.cat_tree.specs.declared.expression.Node.{size-Node}
-use Rattle.cat_tree.specs.declared.expression.Arm.{size-Arm}
-use Rattle.cat_tree.specs.declared.expression.FieldValue.{size-FieldValue}
+use Rattle.cat_tree.specs.declared.expression.SurfaceArm.{size-SurfaceArm}
+use Rattle.cat_tree.specs.declared.expression.SurfaceField.{size-SurfaceField}
 use denote.Param.Weighed.{most}
 use Rattle.cat_names.specs.Meaning.{arm_meant, field_meant, meant}
 use Rattle.cat_names.specs.Parts.{all_arms, all_of_type, arguments_of, values_of}
@@ -59,16 +59,16 @@ abbrev pub decreases-lists::infer_call : goal.decreases-lists::infer_call
 decreases-lists::infer_call l = 8 * (most size-Node l.args.now) + 2
 
 abbrev pub decreases-lists::infer_value : goal.decreases-lists::infer_value
-decreases-lists::infer_value l = 8 * size-FieldValue l.field.now + 1
+decreases-lists::infer_value l = 8 * size-SurfaceField l.field.now + 1
 
 abbrev pub decreases-lists::infer_values : goal.decreases-lists::infer_values
-decreases-lists::infer_values l = 8 * (most size-FieldValue l.fields.now) + 2
+decreases-lists::infer_values l = 8 * (most size-SurfaceField l.fields.now) + 2
 
 abbrev pub decreases-lists::infer_structure : goal.decreases-lists::infer_structure
-decreases-lists::infer_structure l = 8 * (most size-FieldValue l.fields.now) + 3
+decreases-lists::infer_structure l = 8 * (most size-SurfaceField l.fields.now) + 3
 
 abbrev pub decreases-lists::infer_scope_call : goal.decreases-lists::infer_scope_call
-decreases-lists::infer_scope_call l = 8 * (most size-FieldValue l.fields.now) + 3
+decreases-lists::infer_scope_call l = 8 * (most size-SurfaceField l.fields.now) + 3
 
 abbrev pub decreases-binders::infer_under : goal.decreases-binders::infer_under
 decreases-binders::infer_under l = 8 * size-Node l.body.now + 1
@@ -80,16 +80,16 @@ abbrev pub decreases-binders::infer_body : goal.decreases-binders::infer_body
 decreases-binders::infer_body l = 8 * size-Node l.body.now + 2
 
 abbrev pub decreases-binders::infer_arm : goal.decreases-binders::infer_arm
-decreases-binders::infer_arm l = 8 * size-Arm l.arm.now + 3
+decreases-binders::infer_arm l = 8 * size-SurfaceArm l.arm.now + 3
 
 abbrev pub decreases-binders::infer_more_arms : goal.decreases-binders::infer_more_arms
-decreases-binders::infer_more_arms l = 8 * (most size-Arm l.arms.now) + 4
+decreases-binders::infer_more_arms l = 8 * (most size-SurfaceArm l.arms.now) + 4
 
 abbrev pub decreases-binders::infer_arms : goal.decreases-binders::infer_arms
-decreases-binders::infer_arms l = 8 * (most size-Arm l.arms.now) + 5
+decreases-binders::infer_arms l = 8 * (most size-SurfaceArm l.arms.now) + 5
 
 abbrev pub decreases-binders::infer_match : goal.decreases-binders::infer_match
-decreases-binders::infer_match l = 8 * (max (size-Node l.tested.now) (most size-Arm l.arms.now)) + 7
+decreases-binders::infer_match l = 8 * (max (size-Node l.tested.now) (most size-SurfaceArm l.arms.now)) + 7
 
 abbrev pub decreases-binders::infer_each : goal.decreases-binders::infer_each
 decreases-binders::infer_each l = 8 * (max (size-Node l.list.now) (size-Node l.body.now)) + 2

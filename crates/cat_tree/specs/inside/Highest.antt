@@ -1,8 +1,8 @@
 -- How high the parts of an expression are.
 use Rattle.std.specs.Prelude.{ℕ, max, List, [], ◌∷◌}
 use Rattle.cat_tree.specs.declared.expression.Node.{Node}
-use Rattle.cat_tree.specs.declared.expression.FieldValue.{FieldValue}
-use Rattle.cat_tree.specs.declared.expression.Arm.{Arm}
+use Rattle.cat_tree.specs.declared.expression.SurfaceField.{SurfaceField}
+use Rattle.cat_tree.specs.declared.expression.SurfaceArm.{SurfaceArm}
 use Rattle.cat_tree.specs.Phrase.{Phrase, Row, tallest}
 use Rattle.cat_tree.specs.Grammar.{phrase}
 use Rattle.cat_tree.specs.Spells.{height_of}
@@ -21,11 +21,11 @@ highest_node [] = 0
 highest_node (e ∷ es) = max (height_of e) (highest_node es)
 
 -- the height of the highest of some fields' values
-abbrev pub highest_value : List FieldValue → ℕ
+abbrev pub highest_value : List SurfaceField → ℕ
 highest_value [] = 0
 highest_value (f ∷ fs) = max (height_of f.value) (highest_value fs)
 
 -- the height of the highest of some arms' bodies
-abbrev pub highest_body : List Arm → ℕ
+abbrev pub highest_body : List SurfaceArm → ℕ
 highest_body [] = 0
 highest_body (a ∷ more) = max (height_of a.body) (highest_body more)

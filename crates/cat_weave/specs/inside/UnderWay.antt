@@ -3,7 +3,7 @@ use Rattle.std.specs.Prelude.{◌≡◌, ℕ, ◌+◌, ◌-◌, ◌<◌, ◌≤�
 use Rattle.std.specs.declared.alloc.Global.{Global}
 use Rattle.cat_pos.specs.Position.{pos_file, pos_column}
 use Rattle.cat_pos.specs.Readable.{AreReadable}
-use Rattle.cat_pos.specs.declared.limits.TheConstants.{MOST_FILES, MOST_FILE_BYTES, MOST_SOURCE_BYTES}
+use Rattle.cat_pos.specs.Limits.{most_files, most_file_bytes, most_source_bytes}
 use Rattle.cat_io.specs.Shelf.{Shelved, Gives, Keeps, Reads}
 use Rattle.cat_io.specs.declared.shelf.ShelfFault.TheVariants as fault
 use Rattle.cat_weave.specs.Woven.{woven, code_size, code_total, segment_position}
@@ -24,14 +24,14 @@ gathered_of g = record { files = g.files; bytes = g.bytes; pieces = g.pieces; he
 -- a segment that stands in a file taken, at the beginning of a line
 pub record IsInFiles (files : ℕ) (segment : Segment) : Type 0 where
   pub file : pos_file (segment_position segment) < files
-  pub line : (segment_position segment).line ≤ MOST_FILE_BYTES
+  pub line : (segment_position segment).line ≤ most_file_bytes
   pub column : pos_column (segment_position segment) ≡ 1
-  pub size : code_size segment ≤ MOST_FILE_BYTES
+  pub size : code_size segment ≤ most_file_bytes
 
 -- the bounds of what is gathered and of these segments to come
 pub record AreBounded (g : Gathered) (segments : List Segment) : Type 0 where
-  pub few : length g.files ≤ MOST_FILES
-  pub all : g.bytes ≤ MOST_SOURCE_BYTES
+  pub few : length g.files ≤ most_files
+  pub all : g.bytes ≤ most_source_bytes
   pub short : AreReadable g.pieces
   pub code : pieces_total g.pieces + code_total segments ≤ g.bytes
   pub starts : All (IsInFiles (length g.files)) segments
@@ -68,7 +68,7 @@ pub record Takes (told : Contents) (name : List ℕ) (old : Gathered) (segments 
 
 -- what is left to take: bytes of further files, and segments
 abbrev pub left_to_take : Gathered → List Segment → ℕ
-left_to_take g segments = (MOST_SOURCE_BYTES - g.bytes) + length segments
+left_to_take g segments = (most_source_bytes - g.bytes) + length segments
 
 -- a file was taken, the shelf is as it was, and no more is left to take than there was
 pub record IsTaken (old new : Shelved) (name : List ℕ) (g : Gathered) (segments : List Segment) (h : Gathered)

@@ -2,7 +2,7 @@ use Rattle.std.proofs.Common.{◌∙◌, sym, ap, arith, rules, length, drop}
 use Rattle.serde_json.specs.Data.{object}
 use Rattle.serde_json.specs.View.{members_view}
 use Rattle.serde_json.proofs.Views.{view-Object}
-use Rattle.cat_answer.specs.Answer.{outputs_of}
+use Rattle.cat_value.specs.Inputs.{outputs_in}
 use Rattle.cat_answer.proofs.ObjectSteps.{outputs_data-next, outputs_data-past, outputs_data-end}
 use Rattle.cat_answer.proofs.members.outputs_json.Goals as goal
 
@@ -11,7 +11,7 @@ returns-in-None c =
     let l = c.loop-item in
     view-Object l.members ∙ ap object
     (sym (outputs_data-past c.args.decls.now
-    (outputs_of (drop l.item-index c.args.items.now)) c.args.values.now l.number (members_view l.members.entries)
+    (outputs_in (drop l.item-index c.args.items.now)) c.args.values.now l.number (members_view l.members.entries)
     (search rules)) ∙ l.invariant.made)
 
 pub loop-item-preserved : goal.loop-item-preserved

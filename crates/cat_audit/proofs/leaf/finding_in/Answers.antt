@@ -22,7 +22,7 @@ finding_of-requires c =
     let bad = at_some (λ t. IsTrue (is_bad t.may_be_empty (judged_in table.atoms region t)))
     (slice_get table.targets c.args.target) one.0 one.1 c.requires.bad in
     let shown : c.in_ok-input.input ≡ shown_input program table region = c.in_ok-input.ensures.value
-    ∙ ap (λ ds. input_at ds table (point_at region)) c.requires.declared in
+    ∙ ap (λ ds. input_at ds table (point_at region)) (c.decls-decls.ensures ∙ c.requires.declared) in
     let comes : scope_outcome program table.scope (shown_input program table region) ≡ Some c.in_ok-outcome.outcome =
     ap (scope_outcome program table.scope) (sym shown)
     ∙ sym (c.requires.outcomes table.scope c.in_ok-input.input) ∙ c.in_ok-outcome.ensures in
@@ -38,7 +38,7 @@ returns c =
     let table = c.args.table.now in
     let region = c.args.region in
     let shown : c.in_ok-input.input ≡ shown_input program table region = c.in_ok-input.ensures.value
-    ∙ ap (λ ds. input_at ds table (point_at region)) c.requires.declared in
+    ∙ ap (λ ds. input_at ds table (point_at region)) (c.decls-decls.ensures ∙ c.requires.declared) in
     let comes : scope_outcome program table.scope c.in_ok-input.input ≡ Some c.in_ok-outcome.outcome =
     sym (c.requires.outcomes table.scope c.in_ok-input.input) ∙ c.in_ok-outcome.ensures in
     if_some (slice_get table.targets c.args.target) (λ t is.

@@ -5,22 +5,17 @@ use Rattle.cat_scope.specs.Runs.{Run}
 use Rattle.cat_scope.specs.Running.{scope_run}
 use Rattle.cat_scope.specs.Outcomes.{outcome_of}
 use Rattle.cat_calc.specs.Calculus.{calc_run}
-use Rattle.cat_calc.proofs.Desugaring.{calc_formed, decls_same, program_runs}
+use Rattle.cat_calc.proofs.Desugaring.{calc_formed, program_runs}
 use Rattle.cat_calc.proofs.programs.desugar.Goals as goal
 
 pub from_parts-requires : goal.from_parts-requires
 from_parts-requires c =
     calc_formed c.args.program.now.decls c.in_ok-decls.decls c.args.program.now.bodies c.args.program.now.scope_order
     c.in_ok-scope_order.scope_order c.in_ok-scopes.scopes c.programs_are_well_formed.ensures
-    (decls_same c.in_ok-decls.decls c.args.program.now.decls c.in_ok-decls.ensures.structures
-    c.in_ok-decls.ensures.enumerations c.in_ok-decls.ensures.scopes)
-    (c.in_ok-scope_order.ensures ∙ c.scope_order.ensures) c.in_ok-scopes.ensures
+    c.in_ok-decls.ensures (c.in_ok-scope_order.ensures ∙ c.scope_order.ensures) c.in_ok-scopes.ensures
 
 pub returns-clause-decls : goal.returns-clause-decls
-returns-clause-decls c =
-    c.from_parts.ensures.decls
-    ∙ decls_same c.in_ok-decls.decls c.args.program.now.decls c.in_ok-decls.ensures.structures
-    c.in_ok-decls.ensures.enumerations c.in_ok-decls.ensures.scopes
+returns-clause-decls c = c.from_parts.ensures.decls ∙ c.in_ok-decls.ensures
 
 same_runs : (c : goal.After-from_parts) (scope : ℕ) (input : Items)
     → calc_run c.from_parts.result scope input ≡ scope_run c.args.program.now scope input

@@ -1,6 +1,8 @@
-use Rattle.std.proofs.Common.{List, ℕ, sym, subst}
+use Rattle.std.proofs.Common.{List, ℕ, sym, subst, ◌∙◌}
 use Rattle.std.proofs.lemmas.Result.{err_from_is_err_and}
+use Rattle.cat_value.specs.declared.decls.Decls.{Decls}
 use Rattle.cat_scope.specs.declared.defs.Body.{Body}
+use Rattle.cat_scope.specs.WellFormed.{IsWellFormed}
 use Rattle.cat_names.specs.Accepted.{IsProgramOf}
 use Rattle.cat_check.proofs.ArrangingLemmas.{scope_refused, item_refused, itemized_still, order_still}
 use Rattle.cat_check.proofs.ArrangingLemmas.{chain_refused, function_refused, arranged_program}
@@ -64,11 +66,17 @@ returns-in_err-refuse_long_calls-clause-cause c =
 
 pub from_parts-requires : goal.from_parts-requires
 from_parts-requires c =
-    ∣ c.programs_of_trees_are_well_formed.ensures c.requires.0 c.in_ok-bodies.bodies c.in_ok-scope_order.scope_order
+    let made = c.in_ok-bodies.bodies in
+    let order = c.in_ok-scope_order.scope_order in
+    subst (λ (ds : Decls). ∥ IsWellFormed ds made order ∥₁) (sym c.in_ok-shared.ensures)
+    ∣ c.programs_of_trees_are_well_formed.ensures c.requires.0 made order
     (arranged_program c.a_cycle_leaves_no_order.ensures c.args.decls c.declarations_are_sound.ensures
-    c.requires.0 c.args.bodies c.requires.2 c.in_ok-scope_order.scope_order c.in_ok-scope_order.ensures.order
-    c.in_ok-bodies.bodies c.in_ok-bodies.ensures.kept c.in_ok-bodies.ensures.order
+    c.requires.0 c.args.bodies c.requires.2 order c.in_ok-scope_order.ensures.order
+    made c.in_ok-bodies.ensures.kept c.in_ok-bodies.ensures.order
     c.in_ok-refuse_long_functions.ensures.short c.in_ok-refuse_long_calls.ensures.short) ∣₁
+
+pub returns-clause-decls : goal.returns-clause-decls
+returns-clause-decls c = c.from_parts.ensures.decls ∙ c.in_ok-shared.ensures
 
 pub returns-clause-program : goal.returns-clause-program
 returns-clause-program c = λ tree is meant.

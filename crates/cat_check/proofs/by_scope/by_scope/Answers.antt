@@ -9,7 +9,7 @@ use Rattle.cat_check.proofs.by_scope.by_scope.Goals as goal
 pub loop-item-preserved : goal.loop-item-preserved
 loop-item-preserved c =
     let l = c.loop-item in
-    let ds = c.args.here.now.decls.now in (
+    let ds = c.args.decls.now in (
       subst (λ (lists : List (List Item)). AreByScope ds (l.yielded ++ c.in-Some.item ∷ []) lists)
           (sym c.in_ok-add_item.ensures)
           (listed_more ds l.yielded l.lists.items c.in-Some.item l.invariant.0),

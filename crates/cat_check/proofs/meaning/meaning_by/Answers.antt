@@ -26,8 +26,8 @@ module _ (tree : Tree) (ds : Decls) (named : IsNamed tree (parts_of ds)) where
 
 pub returns-clause-meant : goal.returns-clause-meant
 returns-clause-meant c =
-    meant c.args.tree c.args.decls.now c.requires.named c.bodies-found.result c.bodies-found.ensures.told
+    meant c.args.tree c.args.decls.now c.requires.named c.bodies.result c.bodies.ensures.told
 
 pub returns-clause-cause : goal.returns-clause-cause
 returns-clause-cause c =
-    cause c.args.tree c.args.decls.now c.requires.named c.bodies-found.result c.bodies-found.ensures.told
+    cause c.args.tree c.args.decls.now c.requires.named c.bodies.result c.bodies.ensures.told

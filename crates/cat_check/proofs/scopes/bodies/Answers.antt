@@ -14,7 +14,7 @@ use Rattle.cat_check.proofs.scopes.bodies.Goals as goal
 pub returns-in_err-body : goal.returns-in_err-body
 returns-in_err-body c =
     let p = err_from_is_err_and c.from_residual-in_err-body.result c.from_residual-in_err-body.ensures.1 in
-    let ds = c.args.here.now.decls.now in
+    let ds = c.args.decls.now in
     let f = body_found ds c.args.tree.items in
     let l = c.loop-number in
     let scope : Scope = c.scope-item.result in
@@ -31,7 +31,7 @@ returns-in_err-body c =
 
 pub loop-number-preserved : goal.loop-number-preserved
 loop-number-preserved c =
-    let ds = c.args.here.now.decls.now in
+    let ds = c.args.decls.now in
     let f = body_found ds c.args.tree.items in
     let l = c.loop-number in
     let scope : Scope = c.scope-item.result in

@@ -10,7 +10,7 @@ use Rattle.cat_check.proofs.scopes.bodies.Given as goal
 -- the bodies so far, and behind them those that are left, with the items about them
 abbrev pub invariant-loop-number : goal.invariant-loop-number
 invariant-loop-number l = record {
-  told : front (map unordered l.bodies) (each_found (body_found l.here.decls.now l.fn.tree.items)
-      (enumerate_from l.number (drop l.number l.here.decls.now.scopes))) ≡ bodies_meant l.here.decls.now l.fn.tree;
-  left : AreLeft l.here.decls.now l.fn.tree.items l.number l.lists.items;
+  told : front (map unordered l.bodies) (each_found (body_found l.decls l.fn.tree.items)
+      (enumerate_from l.number (drop l.number l.decls.scopes))) ≡ bodies_meant l.decls l.fn.tree;
+  left : AreLeft l.decls l.fn.tree.items l.number l.lists.items;
 }

@@ -1,4 +1,4 @@
-use Rattle.cat_check_names.proofs.Exported.{popped}
+use Rattle.cat_pos.proofs.Popping.{popped}
 use Rattle.cat_check_exprs.proofs.locals.unbind.Goals as goal
 
 pub returns : goal.returns

@@ -1,5 +1,5 @@
 use Rattle.std.proofs.Common.{rules, ◌≡◌, sym, true, false}
-use Rattle.cat_scope.specs.Names.{is_output}
+use Rattle.cat_value.specs.Inputs.{is_output}
 use Rattle.cat_check_names.proofs.FirstOutputs.{no_output, one_output}
 use Rattle.cat_check_names.proofs.building.outputs_of.Goals as goal
 

@@ -1,5 +1,5 @@
 use Rattle.std.proofs.Common.{◌∙◌, sym}
-use Rattle.cat_scope.specs.Names.{outputs_in}
+use Rattle.cat_value.specs.Inputs.{outputs_in}
 use Rattle.cat_check_names.proofs.Finding.{named_at}
 use Rattle.cat_check_names.proofs.FirstOutputs.{numbers_within, output_at, item_within}
 use Rattle.cat_check_names.proofs.lookups.output_in.Goals as goal

@@ -8,5 +8,5 @@ use Rattle.cat_walk.proofs.meeting.enter.Goals as goal
 pub returns : goal.returns
 returns c =
     let lists = lists_of c.args.tree.now in
-    on_ok c.push.result c.push.ensures (λ same. ap (to_come lists) same
+    on_ok c.push.result c.push.ensures.ok (λ same. ap (to_come lists) same
     ∙ comes_in lists c.requires.earlier c.args.places.now c.args.name c.requires.name)

@@ -18,7 +18,7 @@ returns-in-Split-clause-next c =
     let found : node_at lists c.in-Some.place ≡ Some (cited.Split c.in-Split.atom) = search rules in
     ap (to_come lists) c.in-Some.ensures
     ∙ comes_split lists c.requires c.in-Some.place c.pop.new.self c.in-Split.atom found
-    ∙ ap (λ ps. met.Split c.in-Split.atom ∷ to_come lists ps) (sym c.in_ok-push.ensures)
+    ∙ ap (λ ps. met.Split c.in-Split.atom ∷ to_come lists ps) (sym c.in_ok-push.ensures.ok)
 
 pub returns-in-Leaf-clause-next : goal.returns-in-Leaf-clause-next
 returns-in-Leaf-clause-next c =
@@ -26,7 +26,7 @@ returns-in-Leaf-clause-next c =
     let found : node_at lists c.in-Some.place ≡ Some cited.Leaf = search rules in
     ap (to_come lists) c.in-Some.ensures
     ∙ comes_leaf lists c.requires c.in-Some.place c.pop.new.self found
-    ∙ ap (λ ps. met.Leaf c.in-Some.place ∷ to_come lists ps) (sym c.in_ok-push.ensures)
+    ∙ ap (λ ps. met.Leaf c.in-Some.place ∷ to_come lists ps) (sym c.in_ok-push.ensures.ok)
 
 pub returns-in-Cite-clause-next : goal.returns-in-Cite-clause-next
 returns-in-Cite-clause-next c =
@@ -35,7 +35,7 @@ returns-in-Cite-clause-next c =
     ap (to_come lists) c.in-Some.ensures
     ∙ comes_cite lists c.requires c.in-Some.place c.pop.new.self c.in-Cite.name found
     ∙ ap (λ ps. met.Cite c.in-Cite.name ∷ met_in_list lists c.in-Cite.name ++ to_come lists ps)
-    (sym c.in_ok-push.ensures)
+    (sym c.in_ok-push.ensures.ok)
 
 pub returns-in-Cite-clause-leaf : goal.returns-in-Cite-clause-leaf
 returns-in-Cite-clause-leaf c =

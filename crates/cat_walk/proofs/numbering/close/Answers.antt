@@ -10,7 +10,7 @@ returns-in_default-left-clause-closes c = λ trees t at.
     let none : c.in-Some.split.left ≡ None = search rules in
     let here = subst (λ (os : List Open). Arrives l.classes.splits.keys l.classes.recurs os trees l.class t)
     c.in-Some.ensures (l.invariant.arrives trees t at) in
-    subst (λ (os : List Open). GoesOn l.classes.splits.keys l.classes.recurs os trees t) (sym c.in_ok-push.ensures)
+    subst (λ (os : List Open). GoesOn l.classes.splits.keys l.classes.recurs os trees t) (sym c.in_ok-push.ensures.ok)
     (other_side l.classes.splits.keys l.classes.recurs c.pop.new.self trees l.class t c.in-Some.split here none)
 
 pub loop-split-preserved : goal.loop-split-preserved

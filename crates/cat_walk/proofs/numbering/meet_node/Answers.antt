@@ -10,7 +10,7 @@ returns-in-Split-clause-numbered c = λ ns t at.
     let s = c.args.classes.now in
     let here = subst (λ (n : TreeNode). IsNumbered s.splits.keys s.recurs c.args.waiting.now (n ∷ ns) c.args.root t)
     c.in-Split.is at in
-    subst (λ (os : List Open). IsNumbered s.splits.keys s.recurs os ns c.args.root t) (sym c.in_ok-push.ensures)
+    subst (λ (os : List Open). IsNumbered s.splits.keys s.recurs os ns c.args.root t) (sym c.in_ok-push.ensures.ok)
     (opens s.splits.keys s.recurs c.args.waiting.now ns c.args.root t c.in-Split.atom here)
 
 pub returns-in-Some : goal.returns-in-Some

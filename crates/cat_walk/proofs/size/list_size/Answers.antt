@@ -29,7 +29,7 @@ loop-at-preserved c = λ names t sizes is.
     record {
       trees = front.made;
       made = front.all;
-      sizes_are = c.in_ok-push.ensures
+      sizes_are = c.in_ok-push.ensures.ok
           ∙ sized c.args.named.now names sizes n front.rest front.made c.loop-at.sizes c.node_size-size.result
           c.node_size-size.new.behind front.is front.sizes_are c.node_size-size.ensures;
     }

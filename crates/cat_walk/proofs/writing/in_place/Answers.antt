@@ -9,7 +9,7 @@ returns c = λ known names t knows is.
     let keys = c.args.classes.now.splits.keys in
     let numbers = c.args.numbers.now in
     let pushed : c.push.new.self ≡ c.args.class ∷ [] =
-    c.in_ok-push.ensures ∙ ap (λ (os : List ℕ). c.args.class ∷ os) c.new-left_over.ensures in
+    c.in_ok-push.ensures.ok ∙ ap (λ (os : List ℕ). c.args.class ∷ os) c.new-left_over.ensures in
     let written = subst (λ (os : List ℕ). Writes keys numbers os [] c.write.new.nodes) pushed
     (subst (λ (ns : List CitedNode). Writes keys numbers c.push.new.self ns c.write.new.nodes) c.new-nodes.ensures
     (λ a b d e f. c.in_ok-write.ensures a b d e f)) in

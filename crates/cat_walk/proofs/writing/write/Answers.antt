@@ -60,7 +60,7 @@ loop-class-smaller c =
     let cs = c.pop.new.self in
     let can = subst (λ (os : List ℕ). CanWrite keys numbers os) c.in-Some.ensures l.invariant.can in
     let pushed : c.push-in-Some-3.new.self ≡ c.split-atom.result.1 ∷ c.split-atom.result.2 ∷ cs =
-    c.in_ok-push-5.ensures ∙ ap (λ (os : List ℕ). c.split-atom.result.1 ∷ os) c.in_ok-push-4.ensures in
+    c.in_ok-push-5.ensures.ok ∙ ap (λ (os : List ℕ). c.split-atom.result.1 ∷ os) c.in_ok-push-4.ensures.ok in
     subst (λ (os : List ℕ). work_of os < work_of l.left_over) (sym pushed)
     (subst (λ (os : List ℕ). work_of (c.split-atom.result.1 ∷ c.split-atom.result.2 ∷ cs) < work_of os)
     (sym c.in-Some.ensures)
@@ -83,7 +83,7 @@ loop-class-preserved c =
     read_at numbers (class - 1) _ None (number_there keys numbers class cs can some) c.in_default-numbers.is in
     let k = c.split-atom.result in
     let pushed : c.push-in-Some-3.new.self ≡ k.1 ∷ k.2 ∷ cs =
-    c.in_ok-push-5.ensures ∙ ap (λ (os : List ℕ). k.1 ∷ os) c.in_ok-push-4.ensures in
+    c.in_ok-push-5.ensures.ok ∙ ap (λ (os : List ℕ). k.1 ∷ os) c.in_ok-push-4.ensures.ok in
     record {
       can = subst (λ (os : List ℕ). CanWrite keys numbers os) (sym pushed)
           (can_more keys numbers class cs can some k c.split-atom.ensures);

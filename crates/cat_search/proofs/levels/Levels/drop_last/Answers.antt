@@ -1,4 +1,4 @@
-use Rattle.cat_region.proofs.Exported.{pop_fewer}
+use Rattle.cat_pos.proofs.StackLemmas.{pop_fewer}
 use Rattle.cat_search.proofs.LevelLemmas.{pop_keeps}
 use Rattle.cat_search.proofs.levels.Levels.drop_last.Goals as goal
 

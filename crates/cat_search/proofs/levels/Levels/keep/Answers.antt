@@ -6,7 +6,7 @@ use Rattle.cat_search.proofs.levels.Levels.keep.Goals as goal
 
 pub returns : goal.returns
 returns c atoms t dims ns deep live are =
-    on_ok c.push.result c.push.ensures (λ same. record {
+    on_ok c.push.result c.push.ensures.ok (λ same. record {
       whole = are.whole;
       levels = subst (λ ls. AreLevels atoms t dims ns ls) (sym same)
           (put_on atoms t dims ns (record { depth = c.args.depth; live = c.args.live; size = c.live_size-size.result })

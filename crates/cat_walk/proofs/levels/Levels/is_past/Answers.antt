@@ -1,5 +1,5 @@
 use Rattle.std.proofs.Common.{◌≡◌, Some, slice_get, rules}
-use Rattle.cat_region.proofs.Exported.{top_some}
+use Rattle.cat_pos.proofs.StackLemmas.{top_some}
 use Rattle.cat_walk.proofs.LevelLemmas.{past_top}
 use Rattle.cat_walk.proofs.levels.Levels.is_past.Goals as goal
 

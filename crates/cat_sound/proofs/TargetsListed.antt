@@ -1,9 +1,8 @@
--- Each target of a scope is listed among its targets, and which of them may be empty.
-use Rattle.std.proofs.Common.{◌≡◌, inl, inr, ℕ, zero, suc, ◌+◌, ◌<◌, nat_eq, Bool, true, false, not, ◌&&◌}
-use Rattle.std.proofs.Common.{IsTrue}
-use Rattle.std.proofs.Common.{List, [], ◌∷◌, length, Option, Some, None, slice_get, refl, sym, ap, ◌∙◌}
-use Rattle.std.proofs.Common.{subst, arith}
+-- The targets of definitions are among those of their scope.
+use Rattle.std.proofs.Common.{◌≡◌, ◌⊎◌, inl, inr, ℕ, zero, suc, ◌+◌, ◌<◌, nat_eq, Bool, true, false, not, ◌&&◌, IsTrue}
+use Rattle.std.proofs.Common.{List, [], ◌∷◌, ◌++◌, length, Option, Some, None, slice_get, refl, sym, ap, subst, arith}
 use Rattle.std.proofs.Common.{true≢false, if◌then◌else◌}
+use Rattle.std.proofs.Math.Logic.{⊎_elim}
 use Rattle.std.proofs.lemmas.Bool.Decides.{nat_tests}
 use Rattle.std.proofs.lemmas.Option.{slice_get_within}
 use Rattle.cat_order.specs.Order.{IsOrder, times}
@@ -14,18 +13,21 @@ use Rattle.cat_value.specs.declared.declaration.Kind.TheVariants as kind
 use Rattle.cat_value.specs.declared.declaration.ItemDecl.{ItemDecl}
 use Rattle.cat_value.specs.declared.outcome.Target.{Target}
 use Rattle.cat_value.specs.Inputs.{must_be_given, may_be_given}
-use Rattle.cat_scope.specs.declared.expr.Expr.{Expr}
 use Rattle.cat_scope.specs.declared.defs.Def.{Def}
-use Rattle.cat_scope.specs.Names.{Names, IsOneOf, is_called, scope_items, has_none}
+use Rattle.cat_scope.specs.Names.{Names, IsOneOf, is_called, scope_items}
 use Rattle.cat_scope.specs.Naming.{IsTargetAt}
 use Rattle.cat_scope.specs.Forests.{called_targets, targets_at, item_targets, targets_of}
 use Rattle.cat_scope.specs.Mentions.{items_named}
-use Rattle.cat_scope.specs.Orders.{dependencies_from, item_dependencies}
-use Rattle.cat_sound.specs.Settled.{empty_variable, empty_input, items_of_kind, items_called}
-use Rattle.cat_sound.specs.Settled.{may_be_empty as settled_empty}
-use Rattle.cat_guard.specs.Tables.{inner_items, inner_item, is_condition, condition_or_context, may_be_empty}
-use Rattle.cat_guard.specs.Tables.{is_function}
-use Rattle.cat_audit_sound.proofs.Numbered.{one_front, one_back}
+use Rattle.cat_scope.specs.Orders.{item_dependencies}
+use Rattle.cat_sound.proofs.OrderFacts.{dependencies-length}
+
+pub one_front : {A : Type 0} (x : A) (xs ys : List A) → IsOneOf x xs → IsOneOf x (xs ++ ys)
+one_front x [] ys among = elim among [ ]
+one_front x (y ∷ xs) ys among = ⊎_elim (λ same. inl same) (λ more. inr (one_front x xs ys more)) among
+
+pub one_back : {A : Type 0} (x : A) (xs ys : List A) → IsOneOf x ys → IsOneOf x (xs ++ ys)
+one_back x [] ys among = among
+one_back x (y ∷ xs) ys among = inr (one_back x xs ys among)
 
 -- ---- the order has each item
 
@@ -37,16 +39,11 @@ listed (y ∷ ys) x h = by (nat_eq y x) refl (listed ys x)
     by true e rest = inl (grind (arith, nat_tests))
     by false e rest = inr (rest (grind (arith, nat_tests)))
 
-as_many : (named : Expr → List ℕ) (defs : List Def) (n : ℕ) (items : List ItemDecl)
-    → length (dependencies_from named defs n items) ≡ length items
-as_many named defs n [] = refl
-as_many named defs n (item ∷ items) = ap suc (as_many named defs (n + 1) items)
-
 pub in_order : (items : List ItemDecl) (defs : List Def) (order : List ℕ) → IsOrder (item_dependencies items defs) order
     → (item : ℕ) (decl : ItemDecl) → slice_get items item ≡ Some decl → IsOneOf item order
 in_order items defs order is item decl at =
     let within : item < length items = slice_get_within items item decl at in
-    let many = as_many items_named defs 0 items in
+    let many = dependencies-length items_named defs 0 items in
     let once = is.once item (omega (arith, many)) in
     listed order item (omega (arith, once))
 
@@ -136,40 +133,3 @@ target_listed ns scope defs order is item inner ps t h =
     let there = item_there ns item inner ps t h in
     in_targets ns.decls scope ns.items order item (record { scope = scope; item = item; inner = inner })
     (in_order ns.items defs order is item there.0 there.1) (at_item ns scope item inner ps t h)
-
--- ---- which may be empty
-
-kind_items : (ds : Decls) (k : Kind) → inner_items ds k ≡ items_of_kind ds k
-kind_items ds (kind.Called scope) = refl
-kind_items ds _ = refl
-
-pub same_empty : (ns : Names) (item : ℕ) (inner : Option ℕ)
-    → may_be_empty ns.decls (slice_get ns.items item) inner ≡ settled_empty ns item inner
-same_empty ns item None = by (slice_get ns.items item)
-  where
-    by : (o : Option ItemDecl) → is_condition o ≡ empty_variable o
-    by None = refl
-    by (Some decl) = refl
-same_empty ns item (Some n) = by (slice_get ns.items item)
-  where
-    inside : (o : Option ItemDecl) → condition_or_context o ≡ empty_input o
-    inside None = refl
-    inside (Some decl) = refl
-
-    by : (o : Option ItemDecl)
-        → condition_or_context (inner_item ns.decls o n) ≡ empty_input (slice_get (items_called ns.decls o) n)
-    by None = refl
-    by (Some decl) =
-        ap (λ items. condition_or_context (slice_get items n)) (kind_items ns.decls decl.kind)
-        ∙ inside (slice_get (items_of_kind ns.decls decl.kind) n)
-
--- a target with parameters is a function
-pub no_function : (ns : Names) (item : ℕ) (inner : Option ℕ) (ps : List Ty) (t : Ty) → IsTargetAt ns item inner ps t
-    → ps ≡ [] → is_function (slice_get ns.items item) inner ≡ false
-no_function ns item None ps t h none =
-    ap (λ o. is_function o None) h.decl_is ∙ ap (λ ts. not (has_none ts)) (sym h.params_are ∙ none)
-no_function ns item (Some n) ps t h none = by (slice_get ns.items item)
-  where
-    by : (o : Option ItemDecl) → is_function o (Some n) ≡ false
-    by None = refl
-    by (Some decl) = refl

@@ -2,8 +2,8 @@
 ghost use Rattle.std.specs.Prelude.{◌≡◌, Some, IfOk};
 ghost use Rattle.cat_scope.specs.declared.expr.Expr.TheViews as expr;
 
+use crate::{Arm, Arms, BinaryOp, Expr, Exprs, FieldValue, FieldValues};
 use cat_pos::{Boxed, List, Pos};
-use cat_scope::{Arm, Arms, BinaryOp, Expr, Exprs, FieldValue, FieldValues};
 use std::alloc::{AllocError, Global};
 
 /// The same expression.

@@ -1,6 +1,6 @@
 use Rattle.std.proofs.Common.{◌≡◌, reverse, slice_get, sym, ap, ◌∙◌, rules}
-use Rattle.cat_region.proofs.StackLemmas.{top_is}
-use Rattle.cat_region.proofs.stack.Stack.top.Goals as goal
+use Rattle.cat_pos.proofs.StackLemmas.{top_is}
+use Rattle.cat_pos.proofs.stack.Stack.top.Goals as goal
 
 pub returns : goal.returns
 returns g c =

@@ -1,8 +1,8 @@
 // A stack that contracts see as its entries, the last one first.
-ghost use Rattle.std.specs.Prelude.{◌≡◌, [], ◌∷◌, MatchOption, OnOk, slice_get};
+ghost use Rattle.std.specs.Prelude.{◌≡◌, [], ◌∷◌, MatchOption, OnErr, OnOk, slice_get};
 ghost use Rattle.std.specs.Option.{option_copied};
 
-use cat_pos::List;
+use crate::List;
 use std::alloc::{AllocError, Global};
 use std::marker::Model;
 
@@ -33,7 +33,8 @@ impl<T: Drop> Stack<T> {
     }
 
     pub fn push(&mut self, entry: T) -> Result<(), AllocError>
-        ensures { OnOk result (self.new ≡ entry ∷ self.old) }
+        ensures ok { OnOk result (self.new ≡ entry ∷ self.old) }
+        ensures err { OnErr result (self.new ≡ self.old) }
     {
         self.entries.push(entry)
     }

@@ -3,7 +3,7 @@ use Rattle.cat_scope.specs.declared.expr.Expr.{size-Expr}
 use Rattle.cat_scope.specs.declared.expr.Arm.{size-Arm}
 use Rattle.cat_scope.specs.declared.expr.FieldValue.{size-FieldValue}
 use denote.Param.Weighed.{most}
-use Rattle.cat_copy.proofs.expr.+copy.Given as goal
+use Rattle.cat_scope.proofs.copying.+copy.Given as goal
 
 abbrev pub decreases-copy_expr : goal.decreases-copy_expr
 decreases-copy_expr l = 3 * size-Expr l.expr.now
