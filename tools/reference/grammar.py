@@ -1,7 +1,8 @@
-"""Programs as trees, read from tokens by descent. Where a list of tokens is no program, only that is told."""
+"""Programs as trees, read from tokens by descent. Where a list of tokens is no program, the token is told with which it begins none any
+more; at the end of the text, and where an expression is too deep, only that."""
 from collections import namedtuple
 
-from .tokens import Refused
+from .tokens import Fault, Refused
 
 FORMS = ('if', 'match', 'for all', 'exists', 'map each', 'list of', 'combine all')
 PREFIXES = ('integer', 'decimal', 'money', 'round of', 'get_year', 'get_month', 'get_day', 'number of')
@@ -12,7 +13,7 @@ DEEPEST = 256
 Name = namedtuple('Name', 'text pos')
 Type = namedtuple('Type', 'lists base pos')  # base: the keyword, or the Name of a type; pos of the base
 Case = namedtuple('Case', 'type name')  # type: a Name or None
-Node = namedtuple('Node', 'form pos height parts')  # pos of the first token; parts by form
+Node = namedtuple('Node', 'form pos height parts end')  # pos of the first token, end of the last one; parts by form
 Variable = namedtuple('Variable', 'kind name type params called')
 Structure = namedtuple('Structure', 'name fields')
 Enumeration = namedtuple('Enumeration', 'name cases')
@@ -33,9 +34,15 @@ class Reader:
     def take(self, *kinds):
         """The next token, which has one of these kinds."""
         if self.kind() not in kinds:
-            raise Refused([('E6', None)])
+            raise self.unexpected()
         self.at += 1
         return self.tokens[self.at - 1]
+
+    def unexpected(self):
+        """Where `with pattern` begins no match, it may have begun a test that breaks off behind it."""
+        last = self.at + (self.kind() == 'with pattern' and self.kind(1) == '--')
+        positions = [token.pos for token in self.tokens[self.at:last + 1]]
+        return Refused([Fault('E6', pos) for pos in positions or [None]])
 
     def taken(self, *kinds):
         return self.take(*kinds) if self.kind() in kinds else None
@@ -142,8 +149,8 @@ class Reader:
     def node(self, form, pos, *parts, below=()):
         height = 1 + max([part.height for part in below], default=0)
         if height > DEEPEST:
-            raise Refused([('E7', None)])
-        return Node(form, pos, height, parts)
+            raise Refused([Fault('E7', None)])
+        return Node(form, pos, height, parts, self.tokens[self.at - 1].end)
 
     def expression(self):
         return self.level(1)
@@ -180,7 +187,7 @@ class Reader:
             operator = self.take(*COMPARED)
             right = self.level(5)
             return self.node('binary', left.pos, operator.kind, operator.pos, left, right, below=(left, right))
-        if self.kind() == 'with pattern' and self.kind(1) == 'U':
+        if self.kind() == 'with pattern' and self.kind(1) != '--':
             pos = self.take('with pattern').pos
             return self.node('test', left.pos, left, pos, self.case(), below=(left,))
         return left
@@ -246,9 +253,10 @@ class Reader:
             return self.scope_call()
         if kind == 'U' and self.kind(1) == '{':
             name = self.name('U')
+            if self.kind(1) == '}':
+                self.take('{')
+                raise self.unexpected()
             fields = self.fields()
-            if not fields:
-                raise Refused([('E6', None)])
             return self.node('structure', name.pos, name, fields, below=[value for _, value in fields])
         if kind == 'U':
             case = self.case()

@@ -1,7 +1,7 @@
 """The tokens of woven code, each with what it spells and where it begins."""
 import datetime, re
 from fractions import Fraction
-from typing import NamedTuple
+from typing import NamedTuple, Optional
 
 MOST = 2**63 - 1
 KEYWORDS = frozenset('''
@@ -26,10 +26,20 @@ class Pos(NamedTuple):
 
 
 class Token(NamedTuple):
-    """`kind` is 'U', 'w', 'INT', 'DEC', 'MONEY' or 'DATE', and else the word or symbol itself."""
+    """`kind` is 'U', 'w', 'INT', 'DEC', 'MONEY' or 'DATE', and else the word or symbol itself; it ends in front of `end`."""
     kind: str
     value: object
     pos: Pos
+    end: Optional[Pos] = None
+
+
+class Fault(tuple):
+    """A pair of a code and a position; `told` is what else is known of it, for whom an explanation helps."""
+
+    def __new__(cls, code, pos, **told):
+        made = super().__new__(cls, (code, pos))
+        made.told = told
+        return made
 
 
 class Refused(Exception):
@@ -42,7 +52,7 @@ class Refused(Exception):
 
 def within(condition, value, pos):
     if not condition:
-        raise Refused([('E5', pos)])
+        raise Refused([Fault('E5', pos)])
     return value
 
 
@@ -67,7 +77,7 @@ def date(found, pos):
     try:
         return Token('DATE', datetime.date(*map(int, found.groups())), pos)
     except ValueError:
-        raise Refused([('E5', pos)])
+        raise Refused([Fault('E5', pos)])
 
 
 def name_end(text, at):
@@ -90,25 +100,45 @@ def token_at(text, at, pos):
         return Token(kind, word, pos), at + len(word)
     if found := SYMBOL.match(text, at):
         return Token(found[0], None, pos), found.end()
-    raise Refused([('E4', pos)])
+    raise Refused([Fault('E4', pos, text=text[at:].split('\n')[0])])
 
 
-def tokens_of(pieces):
-    """The tokens of some pieces of code, each a text with the file and the line at which it begins."""
-    tokens = []
-    for text, file, line in pieces:
-        at, start = 0, 0
-        while at < len(text):
-            pos = Pos(file, line, len(text[start:at].encode()) + 1)
-            if text[at] == '\n':
-                line, start = line + 1, at + 1
-            if text[at] in ' \t\r\n':
-                at += 1
-            elif text[at] == '#' and text[at + 1:at + 2] != '[':
-                at = text.find('\n', at) if '\n' in text[at:] else len(text)
-            else:
-                token, end = token_at(text, at, pos)
-                tokens.append(token)
-                line, start = line + text.count('\n', at, end), max(start, text.rfind('\n', at, end) + 1)
-                at = end
-    return tokens
+def passed(text, at):
+    """Where to go on behind what is no token: at the end of a literal, or of one character."""
+    found = NUMBER.match(text, at) or MONEY.match(text, at) or DATE.match(text, at)
+    return found.end() if found else at + 1
+
+
+def taken(text, at, pos, faults):
+    """The token that begins there, and where to go on; none where that is told among the faults, which are passed over."""
+    try:
+        return token_at(text, at, pos)
+    except Refused as refused:
+        if faults is None:
+            raise
+        faults += refused.faults
+        return None, passed(text, at)
+
+
+def tokens_in(text, file, line, faults):
+    at, start = 0, 0
+    while at < len(text):
+        pos = Pos(file, line, len(text[start:at].encode()) + 1)
+        if text[at] == '\n':
+            line, start = line + 1, at + 1
+        if text[at] in ' \t\r\n':
+            at += 1
+        elif text[at] == '#' and text[at + 1:at + 2] != '[':
+            at = text.find('\n', at) if '\n' in text[at:] else len(text)
+        else:
+            token, end = taken(text, at, pos, faults)
+            line, start = line + text.count('\n', at, end), max(start, text.rfind('\n', at, end) + 1)
+            at = end
+            if token:
+                yield token._replace(end=Pos(file, line, len(text[start:at].encode()) + 1))
+
+
+def tokens_of(pieces, faults=None):
+    """The tokens of some pieces of code, each a text with the file and the line at which it begins. Where a list of faults is given,
+    what is no token is told there and passed over."""
+    return [token for piece in pieces for token in tokens_in(*piece, faults)]
