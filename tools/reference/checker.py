@@ -2,7 +2,7 @@
 from collections import namedtuple
 
 from .grammar import Block, Enumeration, Name, Scope, Structure
-from .tokens import Refused
+from .tokens import Fault, Refused
 
 MOST_ITEMS, MOST_DEFINITIONS, MOST_CASES, MOST_PARAMETERS, HIGHEST, LONGEST = 4096, 65536, 128, 8, 64, 256
 
@@ -39,23 +39,23 @@ class Names:
             self.scope_numbers.setdefault(declared.name.text, number)
 
     def once(self, names):
-        seen = set()
+        seen = {}
         for name in names:
             if name.text in seen:
-                self.faults.append(('E8', name.pos))
-            seen.add(name.text)
+                self.faults.append(Fault('E8', name.pos, first=seen[name.text]))
+            seen.setdefault(name.text, name.pos)
 
     def count(self, most, positions):
         if len(positions) > most:
-            self.faults.append(('E20', positions[most]))
+            self.faults.append(Fault('E20', positions[most]))
 
-    def known(self, is_known, name):
-        if not is_known:
-            self.faults.append(('E9', name.pos))
+    def known(self, name, *known):
+        if not any(name.text in names for names in known):
+            self.faults.append(Fault('E9', name.pos, text=name.text, among=[text for names in known for text in names]))
 
     def type(self, written):
         if isinstance(written.base, Name):
-            self.known(written.base.text in self.types, written.base)
+            self.known(written.base, self.types)
             return list_of(written.lists, self.types.get(written.base.text))
         return list_of(written.lists, written.base)
 
@@ -79,7 +79,7 @@ class Names:
 
     def item(self, variable):
         if variable.called:
-            self.known(variable.called.text in self.scope_numbers, variable.called)
+            self.known(variable.called, self.scope_numbers)
             called = self.scope_numbers.get(variable.called.text)
             return Item(variable.name.text, variable.name.pos, 'called', 'boolean', False, [], called)
         self.once([name for name, _ in variable.params])
@@ -94,10 +94,10 @@ class Names:
         definitions = []
         for block in self.tree:
             if isinstance(block, Block):
-                self.known(block.name.text in self.scope_numbers, block.name)
+                self.known(block.name, self.scope_numbers)
                 if block.name.text in self.scope_numbers:
-                    self.block(block, {v.name.text for s in self.scopes if s.name.text == block.name.text
-                                       for v in s.variables})
+                    self.block(block, dict.fromkeys(v.name.text for s in self.scopes if s.name.text == block.name.text
+                                                    for v in s.variables))
                 definitions += [use.pos for use in block.uses if use.target]
         self.count(MOST_DEFINITIONS, definitions)
 
@@ -107,7 +107,7 @@ class Names:
         for use in block.uses:
             bound = []
             if use.target:
-                self.known(use.target.name.text in items, use.target.name)
+                self.known(use.target.name, items)
                 self.once(use.target.params)
                 bound = [name.text for name in use.target.params]
             if use.condition:
@@ -119,15 +119,15 @@ class Names:
         """Names that name nothing whatever the types are, and fields that are given twice."""
         form, parts = node.form, node.parts
         if form in ('name', 'call'):
-            self.known(parts[0].text in items or parts[0].text in bound, parts[0])
+            self.known(parts[0], items, bound)
         if form in ('case', 'content', 'test'):
             self.case(parts[2] if form == 'test' else parts[0])
         if form == 'sum':
             self.type(parts[0])
         if form == 'structure':
-            self.known(parts[0].text in self.types, parts[0])
+            self.known(parts[0], self.types)
         if form == 'scope call':
-            self.known(parts[0].text in self.scope_numbers, parts[0])
+            self.known(parts[0], self.scope_numbers)
         if form in ('structure', 'scope call'):
             self.once([name for name, _ in parts[1]])
         for part, more in bodies(node):
@@ -139,7 +139,7 @@ class Names:
 
     def case(self, case):
         if case.type:
-            self.known(case.type.text in self.types, case.type)
+            self.known(case.type, self.types)
 
 
 def bodies(node):
@@ -232,14 +232,14 @@ class Types:
         return lists + (self.heights[self.number(t)] if isinstance(t, tuple) else 1)
 
     def check(self, tree):
-        refuse([('E18', self.all[n].pos) for n in on_cycle(self.graph)])
+        refuse([Fault('E18', self.all[n].pos) for n in on_cycle(self.graph)])
         self.heights = {}
         faults = []
         for n in ordered(self.graph):
             parts = [self.height(t) for _, t in self.all[n].parts if t]
             self.heights[n] = 1 + max(parts, default=0)
             if self.heights[n] > HIGHEST and max(parts, default=0) <= HIGHEST:
-                faults.append(('E20', self.all[n].pos))
+                faults.append(Fault('E20', self.all[n].pos))
         return faults
 
 
@@ -250,7 +250,7 @@ def high_lists(types, names):
         base = names.types.get(written.base.text) if isinstance(written.base, Name) else written.base
         inside = types.height(base)
         if inside <= HIGHEST < inside + written.lists:
-            faults.append(('E20', written.pos))
+            faults.append(Fault('E20', written.pos))
     return faults
 
 

@@ -3,6 +3,7 @@ from collections import namedtuple
 
 from .checker import HIGHEST, Local, list_of
 from .grammar import Name
+from .tokens import Fault
 
 Typed = namedtuple('Typed', 'first operator expr type')
 Each = {'for all': 'boolean', 'exists': 'boolean', 'list of': None, 'map each': None}
@@ -50,9 +51,13 @@ def together(*parts):
     return answers
 
 
-def fault_unless(test, code, pos):
+def fault_unless(test, code, pos, **told):
     if not test:
-        raise Faulty((code, pos))
+        raise Faulty(Fault(code, pos, **told))
+
+
+def named_in(parts):
+    return [name for name, _ in parts]
 
 
 def is_list(t):
@@ -72,11 +77,15 @@ class Expressions:
         """The expression; where a type is expected and another one stands, that is a mismatch at its operator."""
         x = getattr(self, node.form.replace(' ', '_') + '_of')(node, bound, expected, *node.parts)
         if node.form not in ('parentheses', 'if', 'match') and expected is not None:
-            fault_unless(x.type == expected, 'E10', x.operator)
+            fault_unless(x.type == expected, 'E10', x.operator, nodes=[node], types=[x.type], expected=expected)
         return x
 
     def found(self, node, expr, t, operator=None):
         return Typed(node.pos, operator or node.pos, expr, t)
+
+    def known_item(self, name, bound):
+        fault_unless(name.text in self.numbers, 'E9', name.pos, text=name.text,
+                     among=[*self.numbers, *[local.name for local in bound if local.name]])
 
     def innermost(self, name, bound):
         return next((k for k in reversed(range(len(bound))) if bound[k].name == name.text), None)
@@ -90,10 +99,11 @@ class Expressions:
         k = self.innermost(name, bound)
         if k is not None:
             return self.found(node, ('local', node.pos, k), bound[k].type)
-        fault_unless(name.text in self.numbers, 'E9', name.pos)
+        self.known_item(name, bound)
         number = self.numbers[name.text]
         item = self.items[number]
-        fault_unless(item.kind != 'called' and not item.params, 'E10', name.pos)
+        fault_unless(item.kind != 'called', 'E10', name.pos, why='a called scope without the name of its output')
+        fault_unless(not item.params, 'E10', name.pos, why='a function without its arguments')
         return self.found(node, ('item', node.pos, number), item.type)
 
     def case_named(self, case):
@@ -101,13 +111,15 @@ class Expressions:
             found = [(e, k) for e, of in enumerate(self.types.enumerations)
                      for k in [next((k for k, (name, _) in enumerate(of.parts) if name == case.name.text), None)]
                      if k is not None]
-            fault_unless(len(found) == 1, 'E9', case.name.pos)
+            fault_unless(len(found) == 1, 'E9', case.name.pos, text=case.name.text,
+                         among=[name for of in self.types.enumerations for name in named_in(of.parts)],
+                         enumerations=[self.types.enumerations[e].name for e, _ in found])
             return found[0]
         t = self.names.types.get(case.type.text)
-        fault_unless(t is not None, 'E9', case.type.pos)
+        fault_unless(t is not None, 'E9', case.type.pos, text=case.type.text, among=[*self.names.types])
         cases = self.types.enumerations[t[1]].parts if t[0] == 'enumeration' else []
         k = next((k for k, (name, _) in enumerate(cases) if name == case.name.text), None)
-        fault_unless(k is not None, 'E9', case.name.pos)
+        fault_unless(k is not None, 'E9', case.name.pos, text=case.name.text, among=named_in(cases))
         return t[1], k
 
     def content(self, case):
@@ -115,14 +127,15 @@ class Expressions:
 
     def case_of(self, node, bound, expected, case):
         found = self.case_named(case)
-        fault_unless(self.content(found) is None, 'E10', node.pos)
+        fault_unless(self.content(found) is None, 'E10', node.pos, why='a case without its content',
+                     types=[self.content(found)])
         return self.found(node, ('case', node.pos, found, None), ('enumeration', found[0]))
 
     def content_of(self, node, bound, expected, case, part):
         found = self.case_named(case)
         content = self.content(found)
         x = self.meant(part, bound, content)
-        fault_unless(content is not None, 'E10', node.pos)
+        fault_unless(content is not None, 'E10', node.pos, why='a content of a case that has none')
         return self.found(node, ('case', node.pos, found, x.expr), ('enumeration', found[0]))
 
     def parentheses_of(self, node, bound, expected, part):
@@ -133,33 +146,35 @@ class Expressions:
     def binary_of(self, node, bound, expected, operator, pos, left, right):
         a, b = together(lambda: self.meant(left, bound, None), lambda: self.meant(right, bound, None))
         if operator == 'contains':
-            fault_unless(is_list(a.type) and a.type[1] == b.type and ('=', b.type, b.type) in BINARY, 'E10', pos)
+            fault_unless(is_list(a.type) and a.type[1] == b.type and ('=', b.type, b.type) in BINARY, 'E10', pos,
+                         operator=operator, nodes=[left, right], types=[a.type, b.type])
             return Typed(a.first, pos, ('contains', node.pos, pos, a.expr, b.expr), 'boolean')
         row = (operator, a.type, b.type)
-        fault_unless(row in BINARY, 'E10', pos)
+        fault_unless(row in BINARY, 'E10', pos, operator=operator, nodes=[left, right], types=[a.type, b.type])
         return Typed(a.first, pos, ('binary', a.first, pos, row, a.expr, b.expr), BINARY[row])
 
     def prefix_of(self, node, bound, expected, word, part):
         x = self.meant(part, bound, None)
         if word == 'number of':
-            fault_unless(is_list(x.type), 'E10', node.pos)
+            fault_unless(is_list(x.type), 'E10', node.pos, operator=word, nodes=[part], types=[x.type])
             return self.found(node, ('number of', node.pos, x.expr), 'integer')
-        fault_unless((word, x.type) in PREFIX, 'E10', node.pos)
+        fault_unless((word, x.type) in PREFIX, 'E10', node.pos, operator=word, nodes=[part], types=[x.type])
         return self.found(node, ('prefix', node.pos, (word, x.type), x.expr), PREFIX[(word, x.type)])
 
     def type_of(self, written):
         base = self.names.types.get(written.base.text) if isinstance(written.base, Name) else written.base
-        fault_unless(base is not None, 'E9', written.pos)
+        fault_unless(base is not None, 'E9', written.pos, text=getattr(written.base, 'text', ''), among=[*self.names.types])
         return list_of(written.lists, base)
 
     def sum_of(self, node, bound, expected, written, part):
         t, x = together(lambda: self.type_of(written), lambda: self.meant(part, bound, None))
-        fault_unless(t in SUMMED and x.type == ('list', t), 'E10', node.pos)
+        fault_unless(t in SUMMED and x.type == ('list', t), 'E10', node.pos, nodes=[part], types=[x.type], expected=('list', t),
+                     why=None if t in SUMMED else 'a sum of what has none')
         return self.found(node, ('sum', node.pos, t, x.expr), t)
 
     def test_of(self, node, bound, expected, part, pos, case):
         x, k = together(lambda: self.meant(part, bound, None), lambda: self.case_named(case))
-        fault_unless(x.type == ('enumeration', k[0]), 'E10', pos)
+        fault_unless(x.type == ('enumeration', k[0]), 'E10', pos, nodes=[part], types=[x.type], expected=('enumeration', k[0]))
         return Typed(x.first, pos, ('test', node.pos, x.expr, k), 'boolean')
 
     # ---- fields, calls and literals of structures
@@ -171,26 +186,27 @@ class Expressions:
                 k, t = self.output(self.items[number].called, name)
                 return self.found(node, ('output', node.pos, number, k), t)
         x = self.meant(base, bound, None)
-        fault_unless(isinstance(x.type, tuple) and x.type[0] == 'structure', 'E10', x.first)
+        fault_unless(isinstance(x.type, tuple) and x.type[0] == 'structure', 'E10', x.first, why='a field of what is no structure',
+                     nodes=[base], types=[x.type])
         k, t = self.part(self.types.structures[x.type[1]].parts, name)
         return Typed(x.first, x.first, ('field', x.first, x.expr, k), t)
 
     def part(self, parts, name):
         k = next((k for k, (text, _) in enumerate(parts) if text == name.text), None)
-        fault_unless(k is not None, 'E9', name.pos)
+        fault_unless(k is not None, 'E9', name.pos, text=name.text, among=named_in(parts))
         return k, parts[k][1]
 
     def output(self, scope, name):
         return self.part([(i.name, i.type) for i in self.all_items[scope] if i.kind.endswith('output')], name)
 
     def call_of(self, node, bound, expected, name, args):
-        fault_unless(self.innermost(name, bound) is None, 'E10', name.pos)
-        fault_unless(name.text in self.numbers, 'E9', name.pos)
+        fault_unless(self.innermost(name, bound) is None, 'E10', name.pos, why='arguments of what is no function')
+        self.known_item(name, [])
         number = self.numbers[name.text]
         item = self.items[number]
-        fault_unless(item.params, 'E10', name.pos)
+        fault_unless(item.params, 'E10', name.pos, why='arguments of what is no function')
         parts = [lambda a=a, t=t: self.meant(a, bound, t).expr for a, t in zip(args, item.params)]
-        count = lambda: fault_unless(len(args) == len(item.params), 'E10', name.pos)
+        count = lambda: fault_unless(len(args) == len(item.params), 'E10', name.pos, why='another number of arguments')
         _, *values = together(count, *parts)
         return self.found(node, ('call', node.pos, number, values), item.type)
 
@@ -202,27 +218,30 @@ class Expressions:
 
     def structure_of(self, node, bound, expected, name, fields):
         t = self.names.types.get(name.text)
-        fault_unless(t is not None, 'E9', name.pos)
-        fault_unless(t[0] == 'structure', 'E10', name.pos)
+        fault_unless(t is not None, 'E9', name.pos, text=name.text, among=[*self.names.types])
+        fault_unless(t[0] == 'structure', 'E10', name.pos, why='fields of what is no structure')
         parts = self.types.structures[t[1]].parts
         values = self.values(fields, lambda w: self.part(parts, w), bound)
-        fault_unless(sorted(k for k, _ in values) == list(range(len(parts))), 'E10', name.pos)
+        given = {k for k, _ in values}
+        fault_unless(len(values) == len(given) == len(parts), 'E10', name.pos, why='a structure without some of its fields',
+                     lacks=[text for k, (text, _) in enumerate(parts) if k not in given])
         return self.found(node, ('structure', node.pos, t[1], values), t)
 
     def scope_call_of(self, node, bound, expected, scope, fields, name):
-        fault_unless(scope.text in self.names.scope_numbers, 'E9', scope.pos)
+        fault_unless(scope.text in self.names.scope_numbers, 'E9', scope.pos, text=scope.text, among=[*self.names.scope_numbers])
         number = self.names.scope_numbers[scope.text]
         items = self.all_items[number]
         given = {i.name: (k, i.type) for k, i in reversed(list(enumerate(items)))
                  if i.kind.split()[0] in ('input', 'context')}
 
         def part(w):
-            fault_unless(w.text in given, 'E9', w.pos)
+            fault_unless(w.text in given, 'E9', w.pos, text=w.text, among=[*given])
             return given[w.text]
         values, (k, t) = together(lambda: self.values(fields, part, bound), lambda: self.output(number, name))
         needed = {k for k, i in enumerate(items) if i.kind.startswith('input') and not i.condition}
         numbers = [k for k, _ in values]
-        fault_unless(needed <= set(numbers) and len(set(numbers)) == len(numbers), 'E10', scope.pos)
+        fault_unless(needed <= set(numbers) and len(set(numbers)) == len(numbers), 'E10', scope.pos,
+                     why='a scope without some of its inputs', lacks=[items[k].name for k in sorted(needed - set(numbers))])
         return self.found(node, ('scope call', node.pos, number, values, k), t)
 
     # ---- lists
@@ -234,25 +253,26 @@ class Expressions:
     def list_of(self, node, bound, expected, parts):
         element = expected[1] if is_list(expected) else None
         if not parts:
-            fault_unless(element is not None, 'E10', node.pos)
+            fault_unless(element is not None, 'E10', node.pos, why='an empty list of no known type')
             return self.low_list(node, ('list', node.pos, []), element)
         first = self.meant(parts[0], bound, element)
         rest = together(*[lambda p=p: self.meant(p, bound, first.type).expr for p in parts[1:]])
         return self.low_list(node, ('list', node.pos, [first.expr] + rest), first.type)
 
     def each_of(self, node, bound, expected, word, name, over, body):
-        over = self.meant(over, bound, None)
-        fault_unless(is_list(over.type), 'E10', node.pos)
-        x = self.meant(body, bound + [Local(name.text, over.type[1])], None)
+        whole, over = over, self.meant(over, bound, None)
+        fault_unless(is_list(over.type), 'E10', node.pos, nodes=[whole], types=[over.type], why='elements of what is no list')
+        where, x = body, self.meant(body, bound + [Local(name.text, over.type[1])], None)
         expr = (word, node.pos, over.expr, x.expr)
         if word == 'map each':
             return self.low_list(node, expr, x.type)
-        fault_unless(x.type == 'boolean', 'E10', node.pos)
+        fault_unless(x.type == 'boolean', 'E10', node.pos, nodes=[where], types=[x.type], expected='boolean')
         return self.found(node, expr, over.type if word == 'list of' else 'boolean')
 
     def combine_of(self, node, bound, expected, name, over, total, start, body):
+        whole = over
         over, start = together(lambda: self.meant(over, bound, None), lambda: self.meant(start, bound, None))
-        fault_unless(is_list(over.type), 'E10', node.pos)
+        fault_unless(is_list(over.type), 'E10', node.pos, nodes=[whole], types=[over.type], why='elements of what is no list')
         inner = bound + [Local(name.text, over.type[1]), Local(total.text, start.type)]
         x = self.meant(body, inner, start.type)
         return self.found(node, ('combine', node.pos, over.expr, start.expr, x.expr), start.type)
@@ -263,17 +283,19 @@ class Expressions:
         def branches():
             a = self.meant(yes, bound, expected)
             return a, self.meant(no, bound, a.type)
-        test, (a, b) = together(lambda: self.meant(test, bound, None), branches)
-        fault_unless(test.type == 'boolean', 'E10', node.pos)
+        asked = test
+        test, (a, b) = together(lambda: self.meant(asked, bound, None), branches)
+        fault_unless(test.type == 'boolean', 'E10', node.pos, nodes=[asked], types=[test.type], expected='boolean')
         return self.found(node, ('if', node.pos, test.expr, a.expr, b.expr), a.type)
 
     def match_of(self, node, bound, expected, subject, arms):
         x = self.meant(subject, bound, None)
-        fault_unless(isinstance(x.type, tuple) and x.type[0] == 'enumeration', 'E10', node.pos)
+        fault_unless(isinstance(x.type, tuple) and x.type[0] == 'enumeration', 'E10', node.pos, nodes=[subject], types=[x.type],
+                     why='a match of what is no enumeration')
         first = self.arm(node, x.type[1], arms[0], bound, expected)
         rest = together(*[lambda a=a: self.arm(node, x.type[1], a, bound, first[2]) for a in arms[1:]])
         arms = [(case, body) for case, body, _ in [first] + rest]
-        fault_unless(self.is_complete([case for case, _ in arms], x.type[1]), 'E11', node.pos)
+        self.fault_unless_complete(node, [case for case, _ in arms], x.type[1])
         return self.found(node, ('match', node.pos, x.expr, arms), first[2])
 
     def arm(self, node, enumeration, arm, bound, expected):
@@ -282,17 +304,18 @@ class Expressions:
             x = self.meant(arm.body, bound, expected)
             return None, x.expr, x.type
         case = self.case_named(arm.case)
-        fault_unless(case[0] == enumeration, 'E10', node.pos)
+        fault_unless(case[0] == enumeration, 'E10', node.pos, why='an arm for a case of another enumeration')
         if arm.name:
-            fault_unless(self.content(case) is not None, 'E10', node.pos)
+            fault_unless(self.content(case) is not None, 'E10', node.pos, why='a name for the content of a case that has none')
             bound = bound + [Local(arm.name.text, self.content(case))]
         x = self.meant(arm.body, bound, expected)
         return (case[1], arm.name is not None), x.expr, x.type
 
-    def is_complete(self, cases, enumeration):
+    def fault_unless_complete(self, node, cases, enumeration):
         """Each case once, or `anything` last in the place of some."""
         named = [case[0] for case in cases if case]
-        all_cases = set(range(len(self.types.enumerations[enumeration].parts)))
-        if None in cases:
-            return cases.index(None) == len(cases) - 1 and len(set(named)) == len(named)
-        return len(set(named)) == len(named) and set(named) == all_cases
+        declared = named_in(self.types.enumerations[enumeration].parts)
+        lacks = [name for k, name in enumerate(declared) if k not in named and None not in cases]
+        twice = [declared[k] for k in sorted(set(named)) if named.count(k) > 1]
+        is_last = None not in cases or cases.index(None) == len(cases) - 1
+        fault_unless(not lacks and not twice and is_last, 'E11', node.pos, lacks=lacks, twice=twice)

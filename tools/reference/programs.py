@@ -3,6 +3,7 @@ from .checker import LONGEST, Definition, Local, ScopeOf, bodies, declarations_o
 from .checker import longest, on_cycle, ordered, reachable, refuse
 from .expressions import Expressions, Faulty, together
 from .grammar import Block
+from .tokens import Fault
 
 
 def walk(expr):
@@ -38,9 +39,10 @@ class Body:
         self.definitions, self.assertions, self.conditions = [], [], []
 
     def faults(self):
-        found = [('E19', i.pos) for i in self.items if i.params and i.kind != 'internal']
+        found = [Fault('E19', i.pos, why='a function that is not internal') for i in self.items if i.params and i.kind != 'internal']
         rounds = [(use.pos, use.body) for b in self.blocks for use in b.uses if use.form == 'date round']
-        found += [('E19', pos) for k, (pos, way) in enumerate(rounds) if any(way != other for _, other in rounds[:k])]
+        found += [Fault('E19', pos, why='a second rounding of dates') for k, (pos, way) in enumerate(rounds)
+                  if any(way != other for _, other in rounds[:k])]
         self.rounding = rounds[0][1] if rounds else None
         for block in self.blocks:
             parts = [lambda: self.boolean(block.condition, [])] if block.condition else []
@@ -55,7 +57,7 @@ class Body:
         """A condition or an assertion: no type is expected of it beforehand."""
         x = self.expressions.meant(node, bound, None)
         if x.type != 'boolean':
-            raise Faulty(('E10', x.operator))
+            raise Faulty(Fault('E10', x.operator, nodes=[node], types=[x.type], expected='boolean'))
         return x
 
     def use(self, block, use):
@@ -67,7 +69,7 @@ class Body:
     def define(self, block, use):
         target, params, t, condition = self.aim(use.target)
         if use.form == 'rule' and not condition:
-            raise Faulty(('E19', use.pos))
+            raise Faulty(Fault('E19', use.pos, why='a rule on what is no condition'))
         named = [Local(name.text, p) for name, p in zip(use.target.params, params)]
         hidden = [Local(None, p) for p in params]
         parts = []
@@ -88,28 +90,31 @@ class Body:
         name = target.name
         number = self.expressions.numbers.get(name.text)
         if number is None:
-            raise Faulty(('E9', name.pos))
+            raise Faulty(Fault('E9', name.pos, text=name.text, among=[*self.expressions.numbers]))
         item = self.items[number]
         if target.inner is None:
             if item.kind in ('input', 'input output', 'called'):
-                raise Faulty(('E19', name.pos))
+                raise Faulty(Fault('E19', name.pos, why='a definition of a called scope' if item.called is not None else 'a definition of an input'))
             found = (number, None), item.params, item.type, item.condition
         else:
             found = self.called_aim(target, number, item)
         if len(target.params) != len(found[1]):
-            raise Faulty(('E10', name.pos))
+            raise Faulty(Fault('E10', name.pos, why='a definition of a function without its parameters' if found[1]
+                               else 'parameters of what is no function'))
         return found
 
     def called_aim(self, target, number, item):
         if item.kind != 'called':
             fields = dict(self.types.structures[item.type[1]].parts) if item.type[0] == 'structure' else {}
-            raise Faulty(('E19', target.name.pos) if target.inner.text in fields else ('E9', target.inner.pos))
+            raise Faulty(Fault('E19', target.name.pos, why='a definition of a field') if target.inner.text in fields
+                         else Fault('E9', target.inner.pos, text=target.inner.text, among=[*fields]))
         items = self.all_items[item.called]
         k = next((k for k, i in enumerate(items) if i.name == target.inner.text and i.kind != 'called'), None)
         if k is None:
-            raise Faulty(('E9', target.inner.pos))
+            raise Faulty(Fault('E9', target.inner.pos, text=target.inner.text,
+                               among=[i.name for i in items if i.kind.split()[0] in ('input', 'context')]))
         if items[k].kind.split()[0] not in ('input', 'context'):
-            raise Faulty(('E19', target.name.pos))
+            raise Faulty(Fault('E19', target.name.pos, why='a definition of what a called scope computes'))
         return (number, k), [], items[k].type, items[k].condition
 
     # ---- what depends on what
@@ -148,17 +153,17 @@ def program_of(tree):
     found = [Body(tree, names, types, all_items, n) for n in range(len(all_items))]
     refuse([fault for body in found for fault in body.faults()])
     calls = [body.calls(tree) for body in found]
-    refuse([('E17', pos) for body in found for pos, n in called_places(body) if n == body.number
+    refuse([Fault('E17', pos) for body in found for pos, n in called_places(body) if n == body.number
             or body.number in reachable(calls, n)])
-    refuse([('E16', body.items[n].pos) for body in found for n in on_cycle(body.item_graph())])
+    refuse([Fault('E16', body.items[n].pos) for body in found for n in on_cycle(body.item_graph())])
     orders = [ordered(body.item_graph()) for body in found]
     faults = []
     for body, order in zip(found, orders):
         lengths = longest(body.function_graph(), order)
-        faults += [('E20', item.pos) for n, item in enumerate(body.items) if lengths[n] == LONGEST + 1]
+        faults += [Fault('E20', item.pos) for n, item in enumerate(body.items) if lengths[n] == LONGEST + 1]
     scope_order = ordered(calls)
     lengths = longest(calls, scope_order)
-    refuse(faults + [('E20', names.scopes[n].name.pos) for n in range(len(found)) if lengths[n] == LONGEST + 1])
+    refuse(faults + [Fault('E20', names.scopes[n].name.pos) for n in range(len(found)) if lengths[n] == LONGEST + 1])
     scopes = [ScopeOf(names.scopes[b.number].name.text, names.scopes[b.number].name.pos, b.items, b.definitions,
                       b.assertions, b.rounding, order, calls[b.number]) for b, order in zip(found, orders)]
     return types, scopes, forests_of(scopes)
@@ -184,7 +189,7 @@ def forests_of(scopes):
     kinds = {'E12': [], 'E13': [], 'E14': [], 'E15': [], 'E20': []}
     forests = [forest_of(scope, kinds) for scope in scopes]
     for code, positions in kinds.items():
-        refuse([(code, pos) for pos in positions])
+        refuse([Fault(code, pos, **told) for pos, told in positions])
     return forests
 
 
@@ -207,11 +212,11 @@ def linked(definitions, groups, kinds):
         for number in groups[key]:
             d = definitions[number]
             if d.exception and d.exception[1] and d.exception[1].text not in groups:
-                kinds['E12'].append(d.exception[1].pos)
+                kinds['E12'].append((d.exception[1].pos, {'text': d.exception[1].text, 'among': [k for k in keys if isinstance(k, str)]}))
             if d.label and written(d) != written(first):
-                kinds['E13'].append(d.label.pos)
+                kinds['E13'].append((d.label.pos, {'first': first.pos}))
             if d.exception and not d.exception[1] and len(roots) != 1:
-                kinds['E14'].append(d.exception[0])
+                kinds['E14'].append((d.exception[0], {'bases': [definitions[groups[k][0]].pos for k in roots]}))
         if first.exception:
             on = first.exception[1].text if first.exception[1] else roots[0] if len(roots) == 1 else None
             if on in groups:
@@ -222,9 +227,9 @@ def linked(definitions, groups, kinds):
         while at in excepts and length <= len(keys):
             length, at = length + 1, excepts[at]
         if length > len(keys) and is_on_cycle(excepts, key):
-            kinds['E15'] += [definitions[n].exception[0] for n in groups[key]]
+            kinds['E15'] += [(definitions[n].exception[0], {}) for n in groups[key]]
         elif length == LONGEST + 1:
-            kinds['E20'].append(definitions[groups[key][0]].exception[0])
+            kinds['E20'].append((definitions[groups[key][0]].exception[0], {}))
     numbers = {k: n for n, k in enumerate(keys)}
     return [(groups[k], [numbers[e] for e in above[k]]) for k in keys], [numbers[k] for k in roots]
 
