@@ -32,15 +32,15 @@ def woven(data, file):
         raise Refused('NotUtf8', '%d:%d:%d' % (file, len(front), len(front[-1]) + 1))
     *ended, last = data.split(b'\n')
     lines = [(line, True) for line in ended] + ([(last, False)] if last else [])
-    parts, opening, code = [], None, b''
+    parts, opening, code = [], None, bytearray()
     for number, (line, has_end) in enumerate(lines, 1):
         at, text = '%d:%d:1' % (file, number), bare(line, has_end)
         heading = re.match(rb'(#{1,6})[ \t]', text)
         include = re.match(rb'> Include: [ \t]*', text)
         if opening is not None and text == b'```':
             if code:
-                parts.append(('code', '%d:%d:1' % (file, opening + 1), code))
-            opening, code = None, b''
+                parts.append(('code', '%d:%d:1' % (file, opening + 1), bytes(code)))
+            opening, code = None, bytearray()
         elif opening is not None:
             code += line + b'\n'
         elif text in (b'```catala', b'```catala-metadata'):

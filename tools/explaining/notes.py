@@ -1,0 +1,72 @@
+"""What is told of a call: notes with places in texts, as text for a person and as data for an editor."""
+import json
+from typing import Dict, List, NamedTuple, Optional, Set
+
+
+class Place(NamedTuple):
+    """A piece of a line of a file, from a column to the one behind it, which count bytes from 1; `label` says what stands there."""
+    file: str
+    line: int
+    column: int
+    end: int
+    label: str = ''
+
+
+class Note(NamedTuple):
+    """One thing that is told. `kind` is 'reply', 'further' or 'warning'; `says` are sentences, and `helps` what to do."""
+    kind: str
+    code: str
+    name: str
+    places: List[Place] = []
+    says: List[str] = []
+    helps: List[str] = []
+
+
+def shown(line: str) -> str:
+    """A line as it is shown: without its end, each tab one blank."""
+    return line.rstrip('\r\n').replace('\t', ' ')
+
+
+def width(line: str, column: int) -> int:
+    """How many characters stand in front of a column of bytes."""
+    return len(line.encode('utf-8', 'surrogateescape')[:column - 1].decode('utf-8', 'replace'))
+
+
+def excerpt(place: Place, lines: Optional[List[str]], is_first: bool, digits: int) -> List[str]:
+    """The line of a place with the piece underlined that is meant, and what stands there."""
+    margin = ' ' * digits
+    head = '%s %s %s:%d:%d' % (margin, '-->' if is_first else ':::', place.file, place.line, place.column)
+    if lines is None or place.line > len(lines):
+        return [head]
+    line = lines[place.line - 1]
+    start, end = width(line, place.column), width(line, place.end)
+    marks = ('^' if is_first else '-') * max(1, end - start)
+    return [head, margin + '  |', '%*d  | %s' % (digits, place.line, shown(line)),
+            ('%s  | %s%s %s' % (margin, ' ' * start, marks, place.label)).rstrip()]
+
+
+def title(note: Note) -> str:
+    front = {'reply': '', 'further': 'further: ', 'warning': 'warning: '}[note.kind]
+    return front + ' '.join(word for word in (note.code, note.name) if word)
+
+
+def text_of(notes: List[Note], texts: Dict[str, List[str]]) -> str:
+    """The notes for a person, each sentence once; `texts` has the lines of the files that are known."""
+    out: List[str] = []
+    said: Set[str] = set()
+    for note in notes:
+        out += ['', title(note)]
+        digits = max([len(str(place.line)) for place in note.places], default=1)
+        for at, place in enumerate(note.places):
+            out += excerpt(place, texts.get(place.file), at == 0, digits)
+        out += ['  ' + sentence for sentence in note.says if sentence not in said]
+        said.update(note.says)
+        out += ['  help: ' + sentence for sentence in note.helps]
+    return '\n'.join(out[1:] + ['']) if out else ''
+
+
+def data_of(notes: List[Note], reply: str, status: int) -> str:
+    """The same as JSON."""
+    listed = [{'kind': note.kind, 'code': note.code, 'name': note.name, 'says': note.says, 'helps': note.helps,
+               'places': [place._asdict() for place in note.places]} for note in notes]
+    return json.dumps({'status': status, 'reply': reply, 'notes': listed}, ensure_ascii=False, indent=1) + '\n'

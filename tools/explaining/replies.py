@@ -1,0 +1,92 @@
+"""What explains a reply: by its status and its form."""
+import re
+from typing import List
+
+from reference.answers import Program
+
+from . import audits, inputs, outcomes, refusals, warnings
+from .notes import Note, Place
+from .pages import Pages
+from .program import Ended, Words, reply_on
+from .sources import Source
+
+PLACE = re.compile(r' ?(.*?):(\d+):(\d+)(?= |$)')
+STOPPED = re.compile(r'(conflict|no value|fault) (\S+) at (.*)')
+REFUSED = re.compile(r'source refused (E\d+) at (.*)')
+INPUT = re.compile(r'input refused (I\d)(?: (.*))?', re.S)
+CERTIFICATE = re.compile(r'certificate refused (C\d)(?: at line (\d+))?')
+ACCEPTED = (0, 1, 2, 3, 5, 6, 7, 8)
+FILES = {9: 'no such scope ', 10: 'missing file ', 11: 'read fault ', 14: 'too large '}
+
+
+def places_in(text: str) -> List[Place]:
+    """The places that a reply names, one behind the other."""
+    return [Place(name, int(line), int(column), int(column) + 1) for name, line, column in PLACE.findall(text)]
+
+
+class Reply:
+    """The reply of a call, and what was called."""
+
+    def __init__(self, path: str, words: Words, ended: Ended, source: Source, pages: Pages):
+        self.path, self.words, self.status, self.source, self.pages = path, words, ended.status, source, pages
+        self.text = ended.reply.decode('utf-8', 'surrogateescape').rstrip('\n')
+
+    def program(self) -> Program:
+        return Program(self.source.files, self.source.main)
+
+    def notes(self) -> List[Note]:
+        explained = {1: self.stopped, 2: self.stopped, 3: self.stopped, 4: self.refused, 5: self.input, 6: self.audit, 7: self.audit,
+                     8: self.certificate, 9: self.named, 10: self.named, 11: self.named, 14: self.named}
+        notes = explained[self.status]() if self.status in explained and self.words.mode != 'drill' else []
+        is_built = self.source.is_small and self.status in ACCEPTED
+        return notes + (warnings.warnings_of(self.source, self.pages, self.program()) if is_built else
+                        warnings.of_files(self.source, self.pages))
+
+    def run(self, scope: str, given: str) -> str:
+        """The program's reply of a scope on another input."""
+        return reply_on(self.path, scope, self.words.file, given, self.source.files.read['-'])
+
+    # ---- by status
+
+    def stopped(self) -> List[Note]:
+        what, name, rest = STOPPED.fullmatch(self.text).groups()
+        places = places_in(rest)
+        if what == 'conflict':
+            return [outcomes.conflict(self.source, self.pages, places)]
+        code, label = (name, '') if what == 'fault' else (what, 'has no value')
+        return [outcomes.stopped(self.source, self.pages, code, places[0], label)]
+
+    def refused(self) -> List[Note]:
+        code, rest = REFUSED.fullmatch(self.text).groups()
+        return refusals.notes_of(self.source, self.pages, code, places_in(rest)[0])
+
+    def input(self) -> List[Note]:
+        code, path = INPUT.fullmatch(self.text).groups()
+        name = self.words.extra or '-'
+        data = self.source.files.content(name)
+        if data is None or not self.source.is_small:
+            part = self.pages.of_code(code)
+            return [Note('reply', code, part.title.partition(' ')[2], [], [part.sentence], [part.mend])]
+        return [inputs.note_of(inputs.Input(name, data, self.program(), self.words.scope), self.pages, code, path)]
+
+    def audit(self) -> List[Note]:
+        program = self.program() if self.source.is_small else None
+        return audits.notes_of(self.text, self.source, self.pages, program, self.run)
+
+    def certificate(self) -> List[Note]:
+        code, line = CERTIFICATE.fullmatch(self.text).groups()
+        part, = self.pages.certificate(code)
+        name = self.words.extra or '-'
+        lines = self.source.files.lines(name) if self.source.files.content(name) is not None and line else []
+        shown = lines[int(line) - 1] if line and int(line) <= len(lines) else ''
+        places = [Place(name, int(line), 1, len(shown.encode('utf-8', 'surrogateescape')) + 1)] if line else []
+        return [Note('reply', code, '', places, [part.sentence])]
+
+    def named(self) -> List[Note]:
+        code = FILES[self.status].strip()
+        if not self.text.startswith(code):
+            return [Note('reply', 'usage', '', [], [], self.pages.calls())]
+        name = self.text[len(code) + 1:]
+        if self.status == 9:
+            return [outcomes.no_scope(self.source, self.pages, name)]
+        return [outcomes.no_file(self.source, self.pages, code, name)]
