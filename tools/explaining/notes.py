@@ -1,10 +1,12 @@
 """What is told of a call: notes with places in texts, as text for a person and as data for an editor."""
 import json
-from typing import Dict, List, NamedTuple, Optional, Set
+from typing import Dict, List, NamedTuple, Optional, Set, Tuple
+
+LONG, AROUND = 140, 60
 
 
 class Place(NamedTuple):
-    """A piece of a line of a file, from a column to the one behind it, which count bytes from 1; `label` says what stands there."""
+    """A part of a line of a file, from a column to the one behind it, which count bytes from 1; `label` says what stands there."""
     file: str
     line: int
     column: int
@@ -32,8 +34,16 @@ def width(line: str, column: int) -> int:
     return len(line.encode('utf-8', 'surrogateescape')[:column - 1].decode('utf-8', 'replace'))
 
 
+def windowed(line: str, start: int, end: int) -> Tuple[str, int]:
+    """A line around a part of it, and where the part begins in that; a short one is whole."""
+    if len(line) <= LONG:
+        return line, start
+    front, behind = max(0, start - AROUND), min(len(line), max(end, start + AROUND))
+    return '..' * (front > 0) + line[front:behind] + '..' * (behind < len(line)), start - front + 2 * (front > 0)
+
+
 def excerpt(place: Place, lines: Optional[List[str]], is_first: bool, digits: int) -> List[str]:
-    """The line of a place with the piece underlined that is meant, and what stands there."""
+    """The line of a place with the part underlined that is meant, and what stands there."""
     margin = ' ' * digits
     head = '%s %s %s:%d:%d' % (margin, '-->' if is_first else ':::', place.file, place.line, place.column)
     if lines is None or place.line > len(lines):
@@ -41,7 +51,8 @@ def excerpt(place: Place, lines: Optional[List[str]], is_first: bool, digits: in
     line = lines[place.line - 1]
     start, end = width(line, place.column), width(line, place.end)
     marks = ('^' if is_first else '-') * max(1, end - start)
-    return [head, margin + '  |', '%*d  | %s' % (digits, place.line, shown(line)),
+    text, start = windowed(shown(line), start, end)
+    return [head, margin + '  |', '%*d  | %s' % (digits, place.line, text),
             ('%s  | %s%s %s' % (margin, ' ' * start, marks, place.label)).rstrip()]
 
 

@@ -12,6 +12,7 @@ from .slips import ENDS, character_slip, described, here_of, slip_of
 from .sources import Source
 
 MOST_FURTHER = 10
+CYCLES = ('E15', 'E16', 'E17', 'E18')
 Told = Tuple[str, List[Place], List[str], List[str]]
 WORDS_OF_OTHERS = {'a least or a greatest': ('min', 'max', 'minimum', 'maximum', 'abs'), 'a rounding': ('round', 'floor', 'ceil', 'ceiling', 'int'),
                    'a count': ('count', 'len', 'length', 'size'), 'a day that passes': ('today', 'now', 'current_date'),
@@ -56,7 +57,7 @@ class Refusal:
     def unexpected(self) -> Told:
         if 'front' not in self.told:
             return '', [], [], []
-        here = here_of(self.told['front'], self.source.behind(self.fault[1]))
+        here = here_of(self.told['front'], self.source.behind(self.fault[1]), self.source.tokens)
         may_stand = 'here may stand: %s' % ', '.join(described(here.words))
         last = here.front[-1] if here.front else None
         behind = [self.source.place(last.pos, label='behind this')] if last and here.kind in ENDS and last.end.line != self.pos.line else []
@@ -78,7 +79,14 @@ class Refusal:
             return 'a variable of ' + named(others), [], [], rows(self.part, 'a variable of another scope')
         return '', [], [], helps + ([] if row else [self.part.mend])
 
+    def is_compared(self) -> bool:
+        """Whether a sign that compares stands in front."""
+        at = self.source.numbers.get(self.pos, 0)
+        return at > 0 and self.source.tokens[at - 1].kind in ('=', '!=')
+
     def mismatch(self) -> Told:
+        if self.told.get('why') == 'a case without its content' and self.is_compared():
+            return self.told['why'], [], [], rows(self.part, 'an enumeration that is compared')
         label = mismatches.label(self.told, self.told['declared']) if 'declared' in self.told else ''
         return label or self.told.get('why') or '', [], [], mismatches.helps(self.part, self.told)
 
@@ -86,6 +94,11 @@ class Refusal:
         lacks, twice = self.told.get('lacks', []), self.told.get('twice', [])
         says = ['without an arm: ' + named(lacks)] * bool(lacks) + ['twice: ' + named(twice)] * bool(twice)
         return '', [], says, []
+
+    def cycle(self) -> Told:
+        names = self.told.get('cycle', [])
+        says = ', which needs '.join('`%s`' % name for name in [*names, *names[:1]]).replace(', which needs', ' needs', 1)
+        return '', [], [says] if names else [], []
 
     def label_unknown(self) -> Told:
         among = self.told.get('among', [])
@@ -104,7 +117,7 @@ class Refusal:
 EXPLAINED: Dict[str, Callable[[Refusal], Told]] = {
     'E4': Refusal.no_token, 'E6': Refusal.unexpected, 'E8': Refusal.name_twice, 'E9': Refusal.name_unknown,
     'E10': Refusal.mismatch, 'E11': Refusal.match_cases, 'E12': Refusal.label_unknown, 'E13': Refusal.name_twice,
-    'E14': Refusal.ambiguous, 'E19': Refusal.misplaced}
+    'E14': Refusal.ambiguous, 'E16': Refusal.cycle, 'E17': Refusal.cycle, 'E18': Refusal.cycle, 'E19': Refusal.misplaced}
 
 
 def notes_of(source: Source, pages: Pages, code: str, place: Place) -> List[Note]:
@@ -121,7 +134,9 @@ def notes_of(source: Source, pages: Pages, code: str, place: Place) -> List[Note
 
 
 def apart(faults: List[Fault], own: Fault) -> List[Fault]:
-    """Without those that the one in front may have caused: of characters that begin no token, the first one of each line is told."""
+    """Without those that the one in front may have caused: of characters that begin no token, the first one of each line is told, and
+    of cycles the first one."""
+    faults = [fault for fault in faults if fault[0] not in CYCLES]
     lines = {own[1].line} if own[0] == 'E4' else set()
     left = []
     for fault in faults:

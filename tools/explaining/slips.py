@@ -18,10 +18,12 @@ BY_CHARACTER = {'a quotation mark': '"\'“”„«»‘’', 'a bar': '|', 'the
 
 
 class Here(NamedTuple):
-    """Where a source breaks off: the tokens in front that count, those from there on, and the kinds that may stand there."""
+    """Where a source breaks off: the tokens in front that count, those from there on, the kinds that may stand there, and all names with
+    capitals, in small letters."""
     front: List[Token]
     behind: List[Token]
     words: FrozenSet[str]
+    capitals: FrozenSet[str]
 
     @property
     def kind(self) -> str:
@@ -86,6 +88,7 @@ SLIPS: List[Tuple[str, Callable[[Here], bool]]] = [
     ('a label behind `exception`', lambda h: h.kind == 'label' and h.has('exception')),
     ('`condition` behind `content`', lambda h: (h.last, h.kind) == ('content', 'condition')),
     ('a list\'s type', lambda h: h.begins('declaration') and (h.spelled in LISTS or h.front[-1].value in LISTS)),
+    ('a scope, type or case without a capital', lambda h: h.kind == 'w' and h.may('U') and h.spelled in h.capitals),
     ('a type of another language', lambda h: h.last in ('content', 'list of', 'sum') and h.kind == 'w'),
     ('a variable without `content`', lambda h: h.may('content') and h.kind in (*TYPES, 'U', ':')),
     ('an item without its kind', lambda h: h.begins('declaration') and (h.words == {'scope'} or h.kind == 'data')),
@@ -128,8 +131,9 @@ def slip_of(here: Here) -> str:
     return next((row for row, is_it in SLIPS if is_it(here)), '')
 
 
-def here_of(front: List[Token], behind: List[Token]) -> Here:
-    return Here(front, behind, frozenset(words_behind(front)))
+def here_of(front: List[Token], behind: List[Token], tokens: List[Token]) -> Here:
+    capitals = frozenset(token.value.lower() for token in tokens if token.kind == 'U')
+    return Here(front, behind, frozenset(words_behind(front)), capitals)
 
 
 def character_slip(text: str) -> str:

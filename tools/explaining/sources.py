@@ -95,7 +95,7 @@ class Source:
         return self.tokens[self.numbers[pos]:] if pos in self.numbers else []
 
     def place(self, pos: Pos, end: Optional[Pos] = None, label: str = '') -> Place:
-        """The piece from a position to an end on its line, or to the end of its token, or of one place."""
+        """The place from a position to an end on its line, or to the end of its token, or of one place."""
         if end is None:
             token = self.token(pos)
             end = token.end if token else pos._replace(column=pos.column + 1)

@@ -189,6 +189,18 @@ def on_cycle(graph):
     return [n for n in range(len(graph)) if n in reachable(graph, n)]
 
 
+def cycle_of(graph, start):
+    """The shortest way from a number back to it, without its end."""
+    ways, seen = [[start]], {start}
+    for way in ways:
+        for n in graph[way[-1]]:
+            if n == start:
+                return way
+            if n not in seen:
+                seen.add(n)
+                ways.append([*way, n])
+
+
 def ordered(graph):
     """In each place the first number not yet listed of which all that it depends on is."""
     listed, left = [], list(range(len(graph)))
@@ -232,7 +244,7 @@ class Types:
         return lists + (self.heights[self.number(t)] if isinstance(t, tuple) else 1)
 
     def check(self, tree):
-        refuse([Fault('E18', self.all[n].pos) for n in on_cycle(self.graph)])
+        refuse([Fault('E18', self.all[n].pos, cycle=[self.all[k].name for k in cycle_of(self.graph, n)]) for n in on_cycle(self.graph)])
         self.heights = {}
         faults = []
         for n in ordered(self.graph):

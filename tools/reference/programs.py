@@ -1,6 +1,6 @@
 """Programs of trees: blocks, orders and exceptions; or where they are refused."""
 from .checker import LONGEST, Definition, Local, ScopeOf, bodies, declarations_of
-from .checker import longest, on_cycle, ordered, reachable, refuse
+from .checker import cycle_of, longest, on_cycle, ordered, reachable, refuse
 from .expressions import Expressions, Faulty, together
 from .grammar import Block
 from .tokens import Fault
@@ -153,9 +153,10 @@ def program_of(tree):
     found = [Body(tree, names, types, all_items, n) for n in range(len(all_items))]
     refuse([fault for body in found for fault in body.faults()])
     calls = [body.calls(tree) for body in found]
-    refuse([Fault('E17', pos) for body in found for pos, n in called_places(body) if n == body.number
-            or body.number in reachable(calls, n)])
-    refuse([Fault('E16', body.items[n].pos) for body in found for n in on_cycle(body.item_graph())])
+    refuse([Fault('E17', pos, cycle=[names.scopes[k].name.text for k in cycle_of(calls, body.number)])
+            for body in found for pos, n in called_places(body) if n == body.number or body.number in reachable(calls, n)])
+    refuse([Fault('E16', body.items[n].pos, cycle=[body.items[k].name for k in cycle_of(body.item_graph(), n)])
+            for body in found for n in on_cycle(body.item_graph())])
     orders = [ordered(body.item_graph()) for body in found]
     faults = []
     for body, order in zip(found, orders):
