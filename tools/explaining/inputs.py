@@ -3,13 +3,14 @@ import json, re
 from typing import Dict, List, NamedTuple, Optional, Tuple
 
 import oracle_json as forms
+from reference.answers import Given
 
 from .mismatches import kind_of, type_text
 from .near import near_help
 from .notes import Note, Place
 from .pages import Pages, help_in
 
-STEP = re.compile(r'\[(\d+)\]|\.?([^.\[\]]+)')
+MOST_FURTHER = 10
 
 
 class Span(NamedTuple):
@@ -48,13 +49,6 @@ class Spans:
             at = forms.blanks(self.text, self.value(at, path + (step,), key))
             at, number = forms.blanks(self.text, at + (self.text[at] == ',')), number + 1
         return at + 1
-
-
-def steps_of(path: str) -> tuple:
-    """The steps that a reply names; none for the whole input."""
-    if path == '(input)':
-        return ()
-    return tuple(int(number) if number else name for number, name in STEP.findall(path))
 
 
 class Input:
@@ -131,16 +125,36 @@ def wrong(given: Input, steps: tuple, spans: Spans) -> Tuple[Place, List[str], L
 EXPLAINED = {'I2': missing, 'I3': extra, 'I4': wrong, 'I5': wrong}
 
 
-def note_of(given: Input, pages: Pages, code: str, path: str) -> Note:
-    """The refusal of an input that the reply tells."""
+def faults_of(given: Input) -> List[Tuple[str, tuple]]:
+    """The first fault of each input by itself, and the keys that name none: codes, and the steps to what is meant."""
+    json, reader, faults = forms.parsed(given.text.encode('utf-8', 'surrogateescape')), Given(given.types), []
+    if not isinstance(json, dict):
+        return [('I4', ())]
+    for item in given.items:
+        if item.kind.startswith('input') or item.kind.startswith('context') and item.name in json:
+            try:
+                reader.member(json, item.name, item.type, [])
+            except forms.Refused as refused:
+                faults.append((refused.args[0], tuple(refused.args[1])))
+    return faults + [('I3', (key,)) for key in json if key not in given.fields(None)]
+
+
+def note_of(given: Input, pages: Pages, kind: str, code: str, steps: tuple) -> Note:
+    """What is told of a refused part."""
     part = pages.of_code(code)
-    name = part.title.partition(' ')[2]
-    if code == 'I1':
-        return Note('reply', code, name, not_json(given), [part.sentence], [part.mend])
-    try:
-        place, helps, kinds = EXPLAINED[code](given, steps_of(path), Spans(given.text))
-    except (KeyError, IndexError, AttributeError, TypeError):  # A key that the reply can't show, as one with a point in it.
-        return Note('reply', code, name, [], [part.sentence], [part.mend])
+    place, helps, kinds = EXPLAINED[code](given, steps, Spans(given.text))
     form = [said for kind in kinds for said in [help_in(pages.of_code('I4'), kind)] if said and code != 'I5']
     written = ['written in JSON: ' + said for said in form]
-    return Note('reply', code, name, [place], [part.sentence], [*helps, *written] + ([] if code == 'I4' and written else [part.mend]))
+    helps += written + ([] if code == 'I4' and written else [part.mend])
+    return Note(kind, code, part.title.partition(' ')[2], [place], [part.sentence], helps)
+
+
+def notes_of(given: Input, pages: Pages, code: str, path: str) -> List[Note]:
+    """The refusal of an input that the reply tells, and further ones of other inputs."""
+    part = pages.of_code(code)
+    if code == 'I1':
+        return [Note('reply', code, part.title.partition(' ')[2], not_json(given), [part.sentence], [part.mend])]
+    faults = faults_of(given)
+    own = next(fault for fault in faults if fault[0] == code and forms.path_text(list(fault[1])) == path)
+    further = [fault for fault in faults if fault != own][:MOST_FURTHER]
+    return [note_of(given, pages, 'reply', *own)] + [note_of(given, pages, 'further', *fault) for fault in further]

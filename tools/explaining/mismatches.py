@@ -42,20 +42,17 @@ def parts_row(operator: str, kinds: Tuple[str, ...]) -> str:
             ('/', ('decimal', 'money')): 'an amount that divides a number'}.get((operator, kinds), '')
 
 
-def is_literal(node) -> bool:
-    return node.form == 'literal' or node.form in ('prefix', 'parentheses') and is_literal(node.parts[-1])
-
-
-def conversions(part: Part, operator: str, nodes, kinds) -> List[str]:
-    """The rows that make the operands fit: of one that is a literal where there is one, else of the narrower one first."""
+def conversions(part: Part, operator: str, kinds: Tuple[str, ...], wanted) -> List[str]:
+    """The row that makes the operands fit: one that gives what is wanted first, then one that makes them alike, then of the narrower one."""
     found = []
-    for at, (node, kind) in enumerate(zip(nodes, kinds)):
+    for at, kind in enumerate(kinds):
         for other in WIDER + ('boolean',):
             row = (operator, *kinds[:at], other, *kinds[at + 1:])
-            if other != kind and (row in BINARY or row in PREFIX) and (said := help_in(part, kind, other)):
+            gives = BINARY.get(row) or PREFIX.get(row)
+            if other != kind and gives and (said := help_in(part, kind, other)):
                 rank = WIDER.index(kind) if kind in WIDER else len(WIDER)
-                found.append((not is_literal(node), rank, said))
-    return [said for _, _, said in sorted(found)[:1]]
+                found.append((wanted not in (None, gives), other not in kinds, rank, said))
+    return [min(found)[-1]] if found else []
 
 
 def helps(part: Part, told) -> List[str]:
@@ -66,7 +63,7 @@ def helps(part: Part, told) -> List[str]:
     kinds = tuple(kind_of(t) for t in told.get('types', []))
     if told.get('operator'):
         row = parts_row(told['operator'], kinds)
-        return [help_in(part, row)] if row else conversions(part, told['operator'], told['nodes'], kinds)
+        return [help_in(part, row)] if row else conversions(part, told['operator'], kinds, told.get('wanted'))
     said = help_in(part, kinds[0], kind_of(told['expected'])) if kinds and told.get('expected') else ''
     return [said] if said else []
 

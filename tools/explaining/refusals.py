@@ -12,6 +12,7 @@ from .slips import ENDS, character_slip, described, here_of, slip_of
 from .sources import Source
 
 MOST_FURTHER = 10
+OF_TOKENS = ('E4', 'E5', 'E6')
 CYCLES = ('E15', 'E16', 'E17', 'E18')
 Told = Tuple[str, List[Place], List[str], List[str]]
 WORDS_OF_OTHERS = {'a least or a greatest': ('min', 'max', 'minimum', 'maximum', 'abs'), 'a rounding': ('round', 'floor', 'ceil', 'ceiling', 'int'),
@@ -130,17 +131,15 @@ def notes_of(source: Source, pages: Pages, code: str, place: Place) -> List[Note
     own = next((fault for fault in faults if fault[0] == code and fault[1] in (pos, None)), Fault(code, pos))
     further = [fault for fault in faults if fault is not own and fault[1] not in (pos, None)]
     notes = [Refusal(source, pages, own, pos).note('reply')]
-    return notes + [Refusal(source, pages, fault, fault[1]).note('further') for fault in apart(further, own)[:MOST_FURTHER]]
+    return notes + [Refusal(source, pages, fault, fault[1]).note('further') for fault in apart(further, pos)[:MOST_FURTHER]]
 
 
-def apart(faults: List[Fault], own: Fault) -> List[Fault]:
-    """Without those that the one in front may have caused: of characters that begin no token, the first one of each line is told, and
-    of cycles the first one."""
-    faults = [fault for fault in faults if fault[0] not in CYCLES]
-    lines = {own[1].line} if own[0] == 'E4' else set()
-    left = []
+def apart(faults: List[Fault], own: Pos) -> List[Fault]:
+    """Without those that one in front may have caused: of tokens, the first one of each line is told, and of cycles the first one."""
+    lines, left = {own[:2]}, []
     for fault in faults:
-        if fault[0] != 'E4' or fault[1].line not in lines:
+        line = fault[1][:2]
+        if fault[0] not in CYCLES and not (fault[0] in OF_TOKENS and line in lines):
             left.append(fault)
-        lines.add(fault[1].line)
+        lines.add(line)
     return left

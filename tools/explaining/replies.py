@@ -67,7 +67,8 @@ class Reply:
         if data is None or not self.source.is_small:
             part = self.pages.of_code(code)
             return [Note('reply', code, part.title.partition(' ')[2], [], [part.sentence], [part.mend])]
-        return [inputs.note_of(inputs.Input(name, data, self.program(), self.words.scope), self.pages, code, path)]
+        given = inputs.Input(name, data, self.program(), self.words.scope)
+        return inputs.notes_of(given, self.pages, code, path)
 
     def audit(self) -> List[Note]:
         program = self.program() if self.source.is_small else None

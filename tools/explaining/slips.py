@@ -10,7 +10,7 @@ AROUND = ('consequence', 'equals', 'then', 'else', 'fulfilled', 'with', 'among',
 OPENED = {')': '(', ']': '[', '}': '{'}
 PLURALS = ('years', 'months', 'days', 'weeks', 'week')
 CURRENCIES = ('euro', 'euros', 'eur', 'dollar', 'dollars', 'usd', 'pound', 'pounds', 'gbp', 'francs', 'cents')
-SIGNS = ('is', 'equal', 'equals', 'plus', 'minus', 'times', 'mod', 'percent', 'divided', 'greater', 'less', 'below', 'above')
+SIGNS = ('equal', 'equals', 'plus', 'minus', 'times', 'mod', 'percent', 'divided', 'greater', 'less', 'below', 'above')
 LISTS = ('list', 'array', 'set', 'lists')
 CONDITIONS = ('if', 'under condition', 'when', 'where', 'unless', 'provided', 'then')
 BY_CHARACTER = {'a quotation mark': '"\'“”„«»‘’', 'a bar': '|', 'the sign of a currency': '€£¥¢₣', '`$`': '$', '`%`': '%', '`&`': '&',
@@ -84,6 +84,7 @@ SLIPS: List[Tuple[str, Callable[[Here], bool]]] = [
     ('a comma in a list', lambda h: h.kind == ',' and h.within() == '['),
     ('a comma between two fields', lambda h: h.within() == '{' and (h.kind == ',' or h.may('--') and h.kind == 'w')),
     ('a comma in a number', lambda h: h.kind == ',' and h.last in ('INT', 'DEC', 'MONEY')),
+    ('a point at the thousands of an amount', lambda h: h.last == 'MONEY' and h.kind == 'INT' and h.front[-1].end == h.behind[0].pos),
     ('`;` behind a definition', lambda h: h.kind == ';'),
     ('a label behind `exception`', lambda h: h.kind == 'label' and h.has('exception')),
     ('`condition` behind `content`', lambda h: (h.last, h.kind) == ('content', 'condition')),
@@ -91,7 +92,7 @@ SLIPS: List[Tuple[str, Callable[[Here], bool]]] = [
     ('a scope, type or case without a capital', lambda h: h.kind == 'w' and h.may('U') and h.spelled in h.capitals),
     ('a type of another language', lambda h: h.last in ('content', 'list of', 'sum') and h.kind == 'w'),
     ('a variable without `content`', lambda h: h.may('content') and h.kind in (*TYPES, 'U', ':')),
-    ('an item without its kind', lambda h: h.begins('declaration') and (h.words == {'scope'} or h.kind == 'data')),
+    ('an item without its kind', lambda h: h.begins('declaration', 'scope') and (h.words == {'scope'} or h.kind == 'data' and not h.may(':'))),
     ('an item outside of a declaration', lambda h: h.kind in ITEMS and not h.begins('declaration')),
     ('a definition in a declaration', lambda h: h.kind in USES and h.begins('declaration')),
     ('a value in a declaration', lambda h: h.kind in ('equals', '=') and h.begins('declaration')),
@@ -111,6 +112,8 @@ SLIPS: List[Tuple[str, Callable[[Here], bool]]] = [
     ('`=` where a value begins', lambda h: h.kind == '=' and h.may('equals')),
     ('`equals` in a condition', lambda h: h.kind == 'equals' and h.may('consequence') and h.follows('consequence')),
     ('`equals` without `consequence`', lambda h: h.kind == 'equals' and h.may('consequence')),
+    ('`is`', lambda h: h.spelled == 'is' and h.may('*')),
+    ('a test that names a content', lambda h: (h.last, h.kind) == ('U', 'of') and h.has('with pattern')),
     ('a word for a sign', lambda h: h.spelled in SIGNS and h.may('*')),
     ('an `if` without `then`', lambda h: h.may('then') and not h.follows('then')),
     ('an `if` without `else`', lambda h: h.may('else') and h.kind != 'else' and not h.follows('else')),

@@ -9,8 +9,8 @@ from reference.meaning import Stop
 from reference.tokens import MOST, Token
 
 TRIES = 500
-DAYS = [datetime.date(1960, 3, 10), datetime.date(1990, 6, 15), datetime.date(2000, 2, 29), datetime.date(2024, 1, 1),
-        datetime.date(2024, 6, 15)]
+DAYS = [datetime.date(2024, 1, 1), datetime.date(2024, 6, 15), datetime.date(2000, 2, 29), datetime.date(1990, 6, 15),
+        datetime.date(1960, 3, 10)]
 PLAIN = {'boolean': [False, True], 'integer': [0, 1, 2, 3], 'decimal': [Fraction(0), Fraction(1, 2), Fraction(1), Fraction(2)],
          'money': [0, 100, 100_000], 'date': DAYS, 'duration': [(0, 0), (0, 30), (12, 0)]}
 

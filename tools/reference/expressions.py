@@ -150,7 +150,7 @@ class Expressions:
                          operator=operator, nodes=[left, right], types=[a.type, b.type])
             return Typed(a.first, pos, ('contains', node.pos, pos, a.expr, b.expr), 'boolean')
         row = (operator, a.type, b.type)
-        fault_unless(row in BINARY, 'E10', pos, operator=operator, nodes=[left, right], types=[a.type, b.type])
+        fault_unless(row in BINARY, 'E10', pos, operator=operator, nodes=[left, right], types=[a.type, b.type], wanted=expected)
         return Typed(a.first, pos, ('binary', a.first, pos, row, a.expr, b.expr), BINARY[row])
 
     def prefix_of(self, node, bound, expected, word, part):

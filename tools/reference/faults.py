@@ -24,9 +24,12 @@ class Recovering(Reader):
 
     def tell(self, refused, start, kinds):
         """Notes the fault with the tokens in front of it that it hangs on, and goes to the next of these kinds behind the start."""
-        for fault in refused.faults[:1]:
-            fault.told['front'] = self.header + self.tokens[self.start:self.at]
-            self.faults.append(fault)
+        fault, *behind = refused.faults
+        front = self.header + self.tokens[self.start:self.at]
+        if behind and goes_on(front, 'with pattern'):  # A test has begun, and breaks off behind these words.
+            fault, front = behind[0], front + [self.tokens[self.at]]
+        fault.told['front'] = front
+        self.faults.append(fault)
         self.at = max(self.at, start + 1)
         while self.kind() not in kinds and not self.begins_item():
             self.at += 1
@@ -46,8 +49,15 @@ class Recovering(Reader):
         return items
 
     def block(self):
+        """A block, with the definitions behind what stands between two of them and belongs to none."""
         block = super().block()
-        return block._replace(uses=[use for use in block.uses if use])
+        uses = list(block.uses)
+        while self.kind() not in ('declaration', 'scope', None):
+            self.are_declarations_whole &= self.kind() not in ITEMS
+            self.tell(self.unexpected(), self.at, USES)
+            while self.kind() in USES:
+                uses.append(self.use())
+        return block._replace(uses=[use for use in uses if use])
 
     def use(self):
         self.header = self.header or self.tokens[self.start:self.at]
