@@ -123,7 +123,7 @@ class Explained:
         places = []
         for place in places_in(line.rest):
             pos = self.source.pos(place)
-            places.append(self.source.head(pos, 'holds') if is_conflict else self.source.place(pos, label='has no value'))
+            places.append(self.source.without_value(pos, 'holds') if is_conflict else self.source.place(pos, label='has no value'))
         return places, [], []
 
     def masked(self, line: Line):

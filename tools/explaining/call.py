@@ -38,7 +38,7 @@ def explained(words: List[str], path: str, is_json: bool) -> int:
         told = data_of(notes, reply.text, ended.status) if is_json else text_of(notes, texts)
     except Exception as error:  # Whatever goes wrong here, the reply and the status are those of the program.
         told = 'catala-explain: this reply is not explained: %s: %s\n' % (type(error).__name__, error)
-    sys.stderr.write(told.encode('utf-8', 'replace').decode('utf-8'))
+    program.written(sys.stderr, told.encode('utf-8', 'replace'))
     return ended.status
 
 

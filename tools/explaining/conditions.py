@@ -6,7 +6,7 @@ from reference.grammar import Block, Node
 from reference.tokens import Pos, Token
 
 from .notes import Place
-from .sources import HEAD_ENDS, Source
+from .sources import BEHIND_CONDITION, Source
 
 
 def nodes_in(node: Node) -> Iterator[Node]:
@@ -34,16 +34,16 @@ class Written:
     def condition(self, pos: Pos) -> List[Token]:
         """The tokens of the condition of the definition that begins there."""
         tokens = self.source.behind(pos)
-        ends = next((k for k, token in enumerate(tokens) if token.kind in HEAD_ENDS), len(tokens))
+        ends = next((k for k, token in enumerate(tokens) if token.kind in BEHIND_CONDITION), len(tokens))
         begins = next((k for k, token in enumerate(tokens[:ends]) if token.kind == 'under condition'), ends)
         return tokens[begins + 1:ends]
 
     def conditions(self, pos: Pos, label: str) -> List[Place]:
-        """The head of a definition, and the condition of its block."""
+        """The condition of a definition, or its name where it has none, and the condition of its block."""
         block = next((b for b in self.blocks if any(use.pos == pos for use in b.uses)), None)
         around = [self.source.place(block.condition.pos, block.condition.end, 'holds')] if block and block.condition else []
         tokens = self.condition(pos)
-        own = self.source.place(tokens[0].pos, tokens[-1].end, label) if tokens else self.source.head(pos, label)
+        own = self.source.place(tokens[0].pos, tokens[-1].end, label) if tokens else self.source.without_value(pos, label)
         return [own, *around]
 
     def comparison(self, expr) -> str:

@@ -14,7 +14,7 @@ OPENED = ('```catala', '```catala-metadata')
 def conflict(source: Source, pages: Pages, places: List[Place]) -> Note:
     part = pages.of_code('conflict')
     positions = [source.pos(place) for place in places]
-    shown = [source.head(pos, 'holds') if pos else place for place, pos in zip(places, positions)]
+    shown = [source.without_value(pos, 'holds') if pos else place for place, pos in zip(places, positions)]
     return Note('reply', 'conflict', '', shown, [part.sentence], [part.mend])
 
 

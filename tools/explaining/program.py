@@ -66,23 +66,31 @@ def hand_on(into, taken: List[bytes]) -> None:
             pass
 
 
+def written(stream, data: bytes) -> bool:
+    """Whether all of it was written to a standard stream, which may be closed."""
+    if stream is None:
+        return False
+    try:
+        stream.buffer.write(data)
+        stream.buffer.flush()
+    except OSError:
+        os.dup2(os.open(os.devnull, os.O_WRONLY), stream.fileno())  # What is left of it is not tried again at the end.
+        return False
+    return True
+
+
 def call(program: str, words: List[str]) -> Ended:
     """Runs the program, and writes its reply to standard output."""
     taken: List[bytes] = []
-    is_read = read_words(words).reads_input()
-    started = subprocess.Popen([program, *words], stdin=subprocess.PIPE if is_read else None, stdout=subprocess.PIPE)
+    is_read = read_words(words).reads_input() and sys.stdin is not None
+    # Names may be of files that the caller opened, as those of a shell's `<(..)`.
+    started = subprocess.Popen([program, *words], stdin=subprocess.PIPE if is_read else None, stdout=subprocess.PIPE, close_fds=False)
     if is_read:
         threading.Thread(target=hand_on, args=(started.stdin, taken), daemon=True).start()
     reply = started.stdout.read()
     status = started.wait()
     status = 128 - status if status < 0 else status
-    try:
-        sys.stdout.buffer.write(reply)
-        sys.stdout.buffer.flush()
-    except OSError:
-        os.dup2(os.open(os.devnull, os.O_WRONLY), 1)  # What is left of it is not tried again at the end.
-        status = OUTPUT_FAILED
-    return Ended(status, reply, b''.join(taken))
+    return Ended(status if written(sys.stdout, reply) else OUTPUT_FAILED, reply, b''.join(taken))
 
 
 def reply_on(program: str, scope: str, file: str, given: str, source: bytes) -> str:

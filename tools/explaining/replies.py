@@ -63,7 +63,7 @@ class Reply:
     def input(self) -> List[Note]:
         code, path = INPUT.fullmatch(self.text).groups()
         name = self.words.extra or '-'
-        data = self.source.files.content(name)
+        data = self.source.files.content(name) if name != self.words.file else None  # Behind a source nothing is left.
         if data is None or not self.source.is_small:
             part = self.pages.of_code(code)
             return [Note('reply', code, part.title.partition(' ')[2], [], [part.sentence], [part.mend])]

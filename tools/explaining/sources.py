@@ -9,7 +9,7 @@ from .notes import Place
 
 
 MOST_TEXT, MOST_OF_PROGRAM = 512 * 1024, 64 * 1024
-HEAD_ENDS = ('consequence', 'equals', 'fulfilled')
+BEHIND_CONDITION = ('consequence', 'equals', 'fulfilled')
 
 
 class Include(NamedTuple):
@@ -106,11 +106,11 @@ class Source:
         lines = self.files.lines(self.names[pos.file])
         return lines[pos.line - 1] if pos.line <= len(lines) else ''
 
-    def head(self, pos: Pos, label: str) -> Place:
-        """The head of the definition that begins there: up to its condition, or else its name."""
+    def without_value(self, pos: Pos, label: str) -> Place:
+        """The definition that begins there, up to its condition, or else to its name."""
         ended = None
         for token in self.behind(pos):
-            if token.kind in HEAD_ENDS:
+            if token.kind in BEHIND_CONDITION:
                 break
             ended = token.end
         return self.place(pos, ended, label)
