@@ -1,5 +1,5 @@
 """What is told of a call: notes with places in texts, as text for a person and as data for an editor."""
-import json
+import itertools, json
 from typing import Dict, List, NamedTuple, Optional, Set, Tuple
 
 LONG, AROUND = 140, 60
@@ -42,18 +42,32 @@ def windowed(line: str, start: int, end: int) -> Tuple[str, int]:
     return '..' * (front > 0) + line[front:behind] + '..' * (behind < len(line)), start - front + 2 * (front > 0)
 
 
-def excerpt(place: Place, lines: Optional[List[str]], is_first: bool, digits: int) -> List[str]:
-    """The line of a place with the part underlined that is meant, and what stands there."""
-    margin = ' ' * digits
+def by_lines(places: List[Place]) -> List[List[Place]]:
+    """The places, those of one line together where they follow each other."""
+    return [list(group) for _, group in itertools.groupby(places, lambda place: (place.file, place.line))]
+
+
+def marked(line: str, places: List[Place], is_first: bool) -> List[str]:
+    """The line with its places underlined, the one that the reply names by `^`, and below it what stands at the others."""
+    first, starts = places[0], [width(line, place.column) for place in places]
+    ends = [max(start + 1, width(line, place.end)) for start, place in zip(starts, places)]
+    window, start = windowed(shown(line), starts[0], ends[0])
+    marks = [' '] * max(len(window) + 1, *[end + start - starts[0] for end in ends])
+    for place, begins, end in reversed(list(zip(places, starts, ends))):
+        for at in range(max(0, begins + start - starts[0]), end + start - starts[0]):
+            marks[at] = '^' if is_first and place is first else '-'
+    below = ['%s%s' % (' ' * (begins + start - starts[0]), place.label) for place, begins in list(zip(places, starts))[1:] if place.label]
+    return [window, ('%s %s' % (''.join(marks).rstrip(), first.label)).rstrip(), *below]
+
+
+def excerpt(places: List[Place], lines: Optional[List[str]], is_first: bool, digits: int) -> List[str]:
+    """The line of some places with what is meant underlined."""
+    margin, place = ' ' * digits, places[0]
     head = '%s %s %s:%d:%d' % (margin, '-->' if is_first else ':::', place.file, place.line, place.column)
     if lines is None or place.line > len(lines):
         return [head]
-    line = lines[place.line - 1]
-    start, end = width(line, place.column), width(line, place.end)
-    marks = ('^' if is_first else '-') * max(1, end - start)
-    text, start = windowed(shown(line), start, end)
-    return [head, margin + '  |', '%*d  | %s' % (digits, place.line, text),
-            ('%s  | %s%s %s' % (margin, ' ' * start, marks, place.label)).rstrip()]
+    line, *marks = marked(lines[place.line - 1], places, is_first)
+    return [head, margin + '  |', '%*d  | %s' % (digits, place.line, line), *['%s  | %s' % (margin, text) for text in marks]]
 
 
 def title(note: Note) -> str:
@@ -68,8 +82,8 @@ def text_of(notes: List[Note], texts: Dict[str, List[str]]) -> str:
     for note in notes:
         out += ['', title(note)]
         digits = max([len(str(place.line)) for place in note.places], default=1)
-        for at, place in enumerate(note.places):
-            out += excerpt(place, texts.get(place.file), at == 0, digits)
+        for at, places in enumerate(by_lines(note.places)):
+            out += excerpt(places, texts.get(places[0].file), at == 0, digits)
         out += ['  ' + sentence for sentence in note.says if sentence not in said]
         said.update(note.says)
         out += ['  help: ' + sentence for sentence in note.helps]

@@ -89,7 +89,8 @@ class Refusal:
         if self.told.get('why') == 'a case without its content' and self.is_compared():
             return self.told['why'], [], [], rows(self.part, 'an enumeration that is compared')
         label = mismatches.label(self.told, self.told['declared']) if 'declared' in self.told else ''
-        return label or self.told.get('why') or '', [], [], mismatches.helps(self.part, self.told)
+        sides = [self.source.place(node.pos, node.end) for node in self.told.get('nodes', []) if node.pos != self.pos]
+        return label or self.told.get('why') or '', sides, [], mismatches.helps(self.part, self.told)
 
     def match_cases(self) -> Told:
         lacks, twice = self.told.get('lacks', []), self.told.get('twice', [])
