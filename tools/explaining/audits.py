@@ -20,7 +20,7 @@ PLACE = re.compile(r' ?(.*?):(\d+):(\d+)(?= |$)')
 OPPOSITE = {('<', '>='), ('<=', '>'), ('>', '<='), ('>=', '<'), ('=', '!='), ('!=', '=')}
 COMPARED = ('<', '<=', '>', '>=', '=', '!=')
 OF_LISTS = ('for all', 'exists', 'map each', 'list of', 'combine', 'number of', 'sum', 'contains')
-MOST_LEAVES = 2_000
+MOST_LEAVES, MOST_CONDITIONS = 2_000, 10
 
 
 class Line(NamedTuple):
@@ -145,12 +145,17 @@ class Explained:
         return first(at, self.open_places(opened)), self.beside(line), helps
 
     def open_places(self, opened: Open) -> List[Place]:
-        """The definitions that would contradict each other, with the conditions of their blocks, or the variable in a gap."""
-        held = opened.held() if opened.region else []
+        """The definitions that would contradict each other, with the conditions of their blocks; of a gap the variable, and all that would
+        not hold."""
+        if not opened.region:
+            return []
+        held = opened.held()
         if held:
             return [place for d in held for place in self.written.conditions(d.pos, 'would hold')]
         item = opened.scope.items[opened.target.number[0]]
-        return [self.source.place(item.pos, label='would have no value')] if opened.region else []
+        others = [opened.scope.definitions[n] for n in sorted(opened.target.definitions)][:MOST_CONDITIONS]
+        return [self.source.place(item.pos, label='would have no value'),
+                *[place for d in others for place in self.written.conditions(d.pos, 'would not hold')[:1]]]
 
     def beside(self, line: Line) -> List[str]:
         """An input that shows more, where the program's run on it ends so."""
