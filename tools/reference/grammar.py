@@ -301,7 +301,7 @@ class Reader:
             subject = self.expression()
             self.take('with pattern')
             arms = [self.arm()]
-            while self.kind() == '--':
+            while self.kind() == '--' and self.kind(1) in ('U', 'anything'):
                 arms.append(self.arm())
             return self.node('match', token.pos, subject, arms, below=[subject] + [arm.body for arm in arms])
         name = self.name('w')
