@@ -67,7 +67,7 @@ def cases():
 
 def pages():
     """Each example of the pages: its page and name, its source, input and reply as its case has them, and as it does."""
-    for page in ('LANGUAGE.md', 'REFUSALS.md', 'AUDIT.md'):
+    for page in ('LANGUAGE.md', 'REFERENCE.md', 'REFUSALS.md', 'AUDIT.md'):
         for name, source, line, text, reply, report in EXAMPLE.findall((TOP / 'docs' / page).read_text()):
             case, told = TOP / 'tests' / 'cases' / name, (source, line or text, reply or report)
             kept = [(case / file).read_bytes().decode(errors='replace').rstrip('\n') if is_told else ''
