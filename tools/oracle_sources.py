@@ -88,7 +88,7 @@ class Gathering:
 
     def add(self, name, what, at, part):
         if what == 'code':
-            self.pieces.append('code %s %s' % (at, shown(part)))
+            self.pieces.append((at, part))
         elif what != 'include':
             self.headings.append('behind %d %s %s %s' % (len(self.pieces), what, at, shown(part)))
         elif part.decode() in self.taken or len(self.taken) == MOST_FILES:
@@ -103,7 +103,8 @@ def gathered(files, main):
         gathering.take(main)
     except Refused as refused:
         return ' '.join(refused.args)
-    return ' | '.join(gathering.pieces + gathering.headings)
+    pieces = ['code %s %s' % (at, shown(part)) for at, part in gathering.pieces]
+    return ' | '.join(pieces + gathering.headings)
 
 
 def gather(text):

@@ -104,10 +104,9 @@ class Program:
         gathering.take(main)
         self.names = gathering.taken
         pieces = []
-        for piece in gathering.pieces:
-            _, at, text = piece.split(' ', 2)
+        for at, code in gathering.pieces:
             file, line, _ = map(int, at.split(':'))
-            pieces.append((text.replace('\\n', '\n').replace('\\r', '\r').replace('\\t', '\t'), file, line))
+            pieces.append((code.decode(), file, line))
         self.types, self.scopes, self.forests = program_of(tree_of(tokens_of(pieces)))
         self.runs = Runs(self.types, self.scopes, self.forests)
 

@@ -111,7 +111,10 @@ def read(program, number, data):
 
 def check(files, main, scope, data):
     """The reply, of a source that is accepted and has the scope."""
-    program = Program(files, main)
+    return checked(Program(files, main), scope, data)
+
+
+def checked(program, scope, data):
     try:
         scopes, version = read(program, program.runs.numbers[scope], data)
         for scoped, targets in scopes:
