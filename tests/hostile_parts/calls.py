@@ -1,0 +1,48 @@
+"""The calls whose memory and devices fail: of each mode one that does its work over a source with every form, and of each refusal one."""
+import pathlib
+from typing import NamedTuple
+
+from reference.report import audit
+
+SOURCE = pathlib.Path(__file__).resolve().parent / 'source'
+
+
+class Call(NamedTuple):
+    """A call by its name, its words, the status that is due, and the file that is its standard input."""
+    name: str
+    words: list
+    status: int
+    given: str = ''
+
+
+def call(name, words, status, given=''):
+    return Call(name, words.split(), status, given)
+
+
+CALLS = [
+    call('run', 'run All a.md input.json', 0),
+    call('run on standard input', 'run All a.md', 0, 'input.json'),
+    call('audit', 'audit All a.md', 6),
+    call('complete audit', 'audit Bands a.md', 0),
+    call('check', 'check Bands a.md certificate', 0),
+    call('check of the older form', 'check Bands a.md older', 0),
+    call('drill', 'drill 3 none', 0),
+    call('conflict', 'run Drafted b.md both.json', 1),
+    call('no value', 'run Drafted b.md none.json', 2),
+    call('fault', 'run All a.md failed.json', 3),
+    call('refused source', 'run All refused.md input.json', 4),
+    call('refused input', 'run All a.md refused.json', 5),
+    call('refused certificate', 'check Bands a.md input.json', 8),
+    call('no such scope', 'run None a.md input.json', 9),
+    call('missing file', 'run All a.md missing.json', 10),
+]
+
+
+def files():
+    """The files of the calls: those that are kept, the certificate that the second implementation writes, and what is made of them."""
+    kept = {file.name: file.read_bytes() for file in SOURCE.iterdir()}
+    certificate = audit(kept, 'a.md', 'Bands').encode() + b'\n'
+    given = kept['input.json']
+    return {**kept, 'certificate': certificate, 'both.json': b'{"income":10}', 'none.json': b'{"income":95}',
+            'failed.json': given.replace(b'"n":42', b'"n":7777'), 'refused.json': given.replace(b'"n":42', b'"n":4.2'),
+            'refused.md': kept['a.md'].replace(b'most equals 100', b'most equals true')}

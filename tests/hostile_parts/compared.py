@@ -1,0 +1,64 @@
+"""What the second implementation allows as a reply."""
+import signal
+
+from reference.answers import Program, replies
+from reference.certificate import check
+from reference.drill import drill
+from reference.report import audit
+from reference.tokens import Refused
+import oracle_sources as sources
+
+# Of the processor.
+SECONDS = 5
+
+
+class Late(Exception):
+    """It takes too long."""
+
+
+def in_time(answer, *words):
+    """An answer, or nothing where it isn't there in time, or nests deeper or has longer numbers than Python reads."""
+    def stop(*_):
+        raise Late
+    before = signal.signal(signal.SIGVTALRM, stop)
+    signal.setitimer(signal.ITIMER_VIRTUAL, SECONDS)
+    try:
+        return answer(*words)
+    except (Late, RecursionError, ValueError):
+        return None
+    finally:
+        signal.setitimer(signal.ITIMER_VIRTUAL, 0)
+        signal.signal(signal.SIGVTALRM, before)
+
+
+def allowed(files, words, given):
+    """The replies that the rules allow; nothing where they aren't known."""
+    mode, scope, main, *extra = words
+    if mode == 'drill':
+        return {drill(words[1:])}
+    name = extra[0] if extra and not extra[0].startswith('--') else '-'
+    data = {**files, '-': given}.get(name)
+    if mode == 'run' and data is not None:
+        return replies(files, main, scope, data)
+    found = replies(files, main, scope, b'')
+    if any(line.startswith(('source', 'no such scope', 'missing', 'too large', 'read')) for line in found):
+        return found
+    if data is None:
+        return {'missing file %s' % name}
+    return {audit(files, main, scope)} if mode == 'audit' else {check(files, main, scope, data)}
+
+
+def is_allowed(reply, found):
+    """Whether a reply is one of those. The place of a refused source may be left open there, and one with a part that is too deep
+    and one that is unexpected may be refused for either."""
+    is_deep = reply.startswith('source refused E7') and any(line.startswith('source refused E6') for line in found)
+    return reply in found or reply.split(' at ')[0] in found or is_deep
+
+
+def differs(files, words, given, ended):
+    """Whether the reply was compared, and what differs."""
+    found = in_time(allowed, files, words, given)
+    if found is None:
+        return False, ''
+    reply = ended.out.decode('utf-8', 'replace').removesuffix('\n')
+    return True, '' if is_allowed(reply, found) else 'allowed is %r, got %r' % (sorted(found)[:3], reply[:300])

@@ -1,0 +1,69 @@
+"""The table of answers: each status with the texts that may come with it."""
+import json, re
+
+PLACE = rb'[^\n]+:[1-9][0-9]*:[1-9][0-9]*'
+NAME = rb'[^\n]+'
+FAULTS = rb'(?:Overflow|DivisionByZero|AmbiguousDate|Uncomparable|AssertionFailed)'
+AUDITED = rb'audit %s\n(?:[^\n]+: [^\n]+\n)*verdict (Complete|Found|Masked|Undecided)\n' % NAME
+CERTIFICATE = (rb'catala-certificate 2\n(?:scope [^\n]+\n(?:var [^\n]+\n(?:name [0-9]+\n(?:split [0-9]+\n|cite [0-9]+\n|leaf\n)+)*'
+               rb'tree\n(?:split [0-9]+\n|cite [0-9]+\n|leaf\n)+)*)+end\n')
+USAGE = rb'usage: catala MODE SCOPE FILE \[EXTRA\] \[--cases N\]\n'
+DRILLED = rb'bands [0-9]+ runs 1000 sum [0-9]+ leaves [0-9]+ (?:Complete|Found|Masked|Undecided)\n'
+
+# What a mode writes with status 0, as far as its form goes.
+FINE = {
+    'run': rb'\{[^\n]*\}\n',
+    'audit': rb'(?:%s)+%s' % (AUDITED, CERTIFICATE),
+    'check': rb'Yes\n(?:%s)?' % CERTIFICATE,
+    'drill': DRILLED,
+}
+TEXTS = {
+    1: rb'conflict %s at %s(?: %s)+\n' % (NAME, PLACE, PLACE),
+    2: rb'no value %s at %s\n' % (NAME, PLACE),
+    3: rb'fault %s at %s\n' % (FAULTS, PLACE),
+    4: rb'source refused E(?:[1-9]|1[0-9]|20) at %s\n' % PLACE,
+    5: rb'input refused (?:I1|I[2-5] [^\n]*)\n',
+    6: rb'(?:%s)+' % AUDITED,
+    7: rb'(?:%s)+' % AUDITED,
+    8: rb'certificate refused (?:C4|C[1-6] at line [1-9][0-9]*)\n',
+    9: rb'(?:%s|no such scope %s\n|)' % (USAGE, NAME),
+    10: rb'missing file %s\n' % NAME,
+    11: rb'read fault %s\n' % NAME,
+    12: rb'',
+    13: rb'',
+    14: rb'too large %s\n' % NAME,
+}
+VERDICTS = {0: {b'Complete'}, 6: {b'Found'}, 7: {b'Masked', b'Undecided'}}
+
+
+def out_of_table(words, ended):
+    """What of a run's end stands outside the table; nothing where all of it may be."""
+    if ended.status is None:
+        return 'no answer in time'
+    if ended.status < 0:
+        return 'signal %d' % -ended.status
+    form = FINE.get(words[0] if words else '') if ended.status == 0 else TEXTS.get(ended.status)
+    if form is None or ended.err:
+        return 'status %d, %r on standard error' % (ended.status, ended.err[:80])
+    if not re.fullmatch(form, ended.out):
+        return 'status %d with %r' % (ended.status, ended.out[:80])
+    if words[:1] == ['run'] and ended.status == 0 and not is_json(ended.out):
+        return 'no JSON: %r' % ended.out[:80]
+    if words[:1] == ['audit'] and ended.status in VERDICTS:
+        if re.findall(rb'^verdict (\w+)$', ended.out, re.M)[-1] not in VERDICTS[ended.status]:
+            return 'status %d with %r' % (ended.status, ended.out[-80:])
+    return ''
+
+
+def is_json(text):
+    try:
+        json.loads(text)
+    except ValueError:
+        return False
+    return True
+
+
+def told(ended):
+    """An end in few words."""
+    how = 'no answer' if ended.status is None else 'signal %d' % -ended.status if ended.status < 0 else 'status %d' % ended.status
+    return '%s, %r' % (how, ended.out[:120])
