@@ -2,10 +2,10 @@
 allows where it reads the source in time."""
 from typing import NamedTuple
 
-from reference.answers import Program
+from reference.answers import Program, is_allowed
 from reference.certificate import checked
 
-from .compared import allowed, in_time, is_allowed
+from .compared import allowed, in_time
 from .odd_bytes import ODD_INPUTS, PLAIN, long_inputs, long_sources, random_texts, with_odd_bytes
 from .runs import Runs
 from .statutes import statutes

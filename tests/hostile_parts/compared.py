@@ -1,12 +1,10 @@
 """What the second implementation allows as a reply."""
 import signal
 
-from reference.answers import Program, replies
+from reference.answers import is_allowed, replies
 from reference.certificate import check
 from reference.drill import drill
 from reference.report import audit
-from reference.tokens import Refused
-import oracle_sources as sources
 
 # Of the processor.
 SECONDS = 5
@@ -46,13 +44,6 @@ def allowed(files, words, given):
     if data is None:
         return {'missing file %s' % name}
     return {audit(files, main, scope)} if mode == 'audit' else {check(files, main, scope, data)}
-
-
-def is_allowed(reply, found):
-    """Whether a reply is one of those. The place of a refused source may be left open there, and one with a part that is too deep
-    and one that is unexpected may be refused for either."""
-    is_deep = reply.startswith('source refused E7') and any(line.startswith('source refused E6') for line in found)
-    return reply in found or reply.split(' at ')[0] in found or is_deep
 
 
 def differs(files, words, given, ended):

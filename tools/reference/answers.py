@@ -155,6 +155,13 @@ def replies(files, main, scope, data):
         return {'source refused %s%s' % (code, place(pos, main, list(files))) for code, pos in refused.faults}
 
 
+def is_allowed(reply, allowed):
+    """Whether a reply is one of those. The place of a refused source may be left open there, and a source with a part that is too
+    deep and one that is unexpected may be refused for either."""
+    is_deep = reply.startswith('source refused E7') and any(line.startswith('source refused E6') for line in allowed)
+    return reply in allowed or reply.split(' at ')[0] in allowed or is_deep
+
+
 def place(pos, main, names):
     """Where a source is refused; nothing where that isn't known here."""
     return ' at %s:%d:%d' % (names[pos.file] if pos.file else main, *pos[1:]) if pos else ''
