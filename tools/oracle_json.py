@@ -214,7 +214,11 @@ def given(json, items):
 
 def path_text(path):
     text = ''.join('[%d]' % step if type(step) is int else '.' + step for step in path) or '(input)'
-    text = text[1:] if path and type(path[0]) is str else text
+    return text[1:] if path and type(path[0]) is str else text
+
+
+def shown(text):
+    """A text in the line of a table."""
     return text.replace('\n', '\\n').replace('\r', '\\r').replace('\t', '\\t')
 
 
@@ -224,7 +228,7 @@ def told(reading):
     except NotJson:
         return 'I1'
     except Refused as refused:
-        return '%s %s' % (refused.args[0], path_text(refused.args[1]))
+        return '%s %s' % (refused.args[0], shown(path_text(refused.args[1])))
 
 
 def all_given(json, items):
