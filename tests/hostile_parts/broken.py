@@ -5,7 +5,7 @@ from typing import NamedTuple
 from reference.answers import Program, is_allowed
 from reference.certificate import checked
 
-from .compared import allowed, in_time
+from .compared import allowed, in_time, text_of
 from .odd_bytes import ODD_INPUTS, PLAIN, long_inputs, long_sources, random_texts, with_odd_bytes
 from .runs import Runs
 from .statutes import statutes
@@ -25,9 +25,9 @@ class Changed(NamedTuple):
     is_compared: bool = True
 
 
-def cut(text):
-    """The proper prefixes."""
-    return ((len(front), front) for front in (text[:k] for k in range(len(text))))
+def cut(text, end=b''):
+    """The proper prefixes, each with an end."""
+    return ((k, text[:k] + end) for k in range(len(text)))
 
 
 def with_other_bytes(text):
@@ -53,6 +53,7 @@ def sources(is_sample):
         is_every = s.name == 'every form'
         text = s.files[s.main]
         for kind, changes, step, share in (('sources cut', cut(text), 211, 3),
+                                           ('sources cut, with the block closed', cut(text, b'\n```\n'), 131, 3),
                                            ('sources with a line changed', with_other_lines(text), 31, 1),
                                            ('sources with a byte changed', with_other_bytes(text) if is_every else (), 397, 12),
                                            ('sources with odd bytes', with_odd_bytes(text) if is_every else (), 7, 1)):
@@ -122,7 +123,7 @@ def wrong_change(known, change, ended):
     found = in_time(known.replies, change) if change.is_compared else None
     if wrong or found is None:
         return found is not None, wrong
-    reply = ended.out.decode('utf-8', 'replace').removesuffix('\n')
+    reply = text_of(ended)
     return True, '' if is_allowed(reply, found) else 'allowed is %r, got %s' % (sorted(found)[:3], told(ended))
 
 

@@ -46,10 +46,16 @@ def allowed(files, words, given):
     return {audit(files, main, scope)} if mode == 'audit' else {check(files, main, scope, data)}
 
 
+def text_of(ended):
+    """The reply without its last line feed."""
+    text = ended.out.decode('utf-8', 'replace')
+    return text[:-1] if text.endswith('\n') else text
+
+
 def differs(files, words, given, ended):
     """Whether the reply was compared, and what differs."""
     found = in_time(allowed, files, words, given)
     if found is None:
         return False, ''
-    reply = ended.out.decode('utf-8', 'replace').removesuffix('\n')
+    reply = text_of(ended)
     return True, '' if is_allowed(reply, found) else 'allowed is %r, got %r' % (sorted(found)[:3], reply[:300])

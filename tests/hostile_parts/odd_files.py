@@ -9,6 +9,7 @@ SCOPE = ['run', 'All', 'a.md']
 FAULT = 'read fault %s'
 INCLUDE = b'> Include: %s\n'
 LONG = 'n' * 5_000
+NOBODY = 65534
 LONGER = b'n' * 2**20
 
 
@@ -63,7 +64,7 @@ def odd_files(runs):
 
 def closed_files(runs):
     """A file that may not be read, by a user who may not read each."""
-    as_other = {'user': 'nobody', 'group': 'nogroup', 'extra_groups': []} if os.geteuid() == 0 else {}
+    as_other = {'preexec_fn': lambda: os.setuid(NOBODY)} if os.geteuid() == 0 else {}
     ended = runs.ended(SCOPE + ['closed'], **as_other)
     yield 'odd files', 'a file that may not be read', '' if ended == Ended(11, b'read fault closed\n', b'') else told(ended)
 

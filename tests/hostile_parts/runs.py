@@ -9,7 +9,7 @@ FAST = pathlib.Path('/dev/shm')
 
 class Ended(NamedTuple):
     """How a run ended: a status of less than 0 is a signal, and none is no end in time."""
-    status: int | None
+    status: int
     out: bytes
     err: bytes
 
