@@ -22,7 +22,8 @@ TEXTS = {
     2: rb'no value %s at %s\n' % (NAME, PLACE),
     3: rb'fault %s at %s\n' % (FAULTS, PLACE),
     4: rb'source refused E(?:[1-9]|1[0-9]|20) at %s\n' % PLACE,
-    5: rb'input refused (?:I1|I[2-5] [^\n]*)\n',
+    # A key that is named may have a line feed.
+    5: rb'input refused (?:I1|I[245] [^\n]*|I3 (?s:.*))\n',
     6: rb'(?:%s)+' % AUDITED,
     7: rb'(?:%s)+' % AUDITED,
     8: rb'certificate refused (?:C4|C[1-6] at line [1-9][0-9]*)\n',
