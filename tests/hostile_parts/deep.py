@@ -11,6 +11,7 @@ from .runs import Ended, Runs
 from .table import out_of_table, told
 
 STACKS = 1024, 8192
+# Of the processor.
 SECONDS = 20
 SMALL = 100_000
 RUNNER = '''

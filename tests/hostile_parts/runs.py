@@ -2,7 +2,8 @@
 import os, pathlib, shutil, subprocess, tempfile
 from typing import NamedTuple
 
-SECONDS = 20
+# By the clock, since the machine may be busy.
+SECONDS = 120
 # A folder in memory, where there is one.
 FAST = pathlib.Path('/dev/shm')
 
@@ -19,7 +20,7 @@ class Runs:
 
     def __init__(self, program):
         self.program = str(program)
-        self.folder = pathlib.Path(tempfile.mkdtemp(dir=FAST if FAST.is_dir() else None))
+        self.folder = pathlib.Path(tempfile.mkdtemp(prefix='hostile-', dir=FAST if FAST.is_dir() else None))
         self.folder.chmod(0o755)
         self.files = {}
 
