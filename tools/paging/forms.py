@@ -1,0 +1,46 @@
+"""The form of each scope's input and outputs as data, of which the page makes what a drafter fills in.
+
+Nothing is computed here: what stands in the form is read by the program."""
+from reference.answers import Program
+
+GIVEN, ASKED = ('input', 'context'), 'input'
+
+
+def type_of(t) -> object:
+    """A type: the name of a plain one, or its form with the number of what is declared."""
+    if isinstance(t, str):
+        return t
+    return {'form': 'list', 'of': type_of(t[1])} if t[0] == 'list' else {'form': t[0], 'number': t[1]}
+
+
+def declared(declarations) -> list:
+    """Structures with their fields, or enumerations with their cases, of which some have no content."""
+    return [{'name': d.name, 'parts': [{'name': name, 'type': None if t is None else type_of(t)} for name, t in d.parts]}
+            for d in declarations]
+
+
+def scope_of(program: Program, number: int) -> dict:
+    scope = program.scopes[number]
+    items = [(item.name, item.kind.split(), item.type) for item in scope.items if item.type is not None]
+    return {'name': scope.name, 'calls': [program.scopes[called].name for called in scope.calls],
+            'line': scope.pos.line if scope.pos.file == 0 else 0,
+            'inputs': [{'name': name, 'type': type_of(t), 'isAsked': kind[0] == ASKED} for name, kind, t in items if kind[0] in GIVEN],
+            'outputs': [{'name': name, 'type': type_of(t)} for name, kind, t in items if kind[-1] == 'output'],
+            'defined': defined(program, number)}
+
+
+def defined(program: Program, number: int) -> list:
+    """For each variable of a scope the lines at which the law's own file defines it, in their order."""
+    scope, lines = program.scopes[number], {}
+    for definition in scope.definitions:
+        item, inner = definition.target
+        of = scope.items[item]
+        name = of.name if inner is None else '%s.%s' % (of.name, program.scopes[of.called].items[inner].name)
+        if definition.pos.file == 0:
+            lines.setdefault(name, []).append(definition.pos.line)
+    return [{'name': name, 'lines': found} for name, found in lines.items()]
+
+
+def forms_of(program: Program) -> dict:
+    return {'scopes': [scope_of(program, number) for number in range(len(program.scopes))],
+            'structures': declared(program.types.structures), 'enumerations': declared(program.types.enumerations)}
