@@ -1,0 +1,1 @@
+"""What tests/page tries of the page, in a browser that is driven by its own protocol."""
