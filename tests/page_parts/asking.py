@@ -1,5 +1,6 @@
 """What the server answers and what it refuses, asked without a browser."""
 import json, os, socket, time
+from typing import Set
 
 from .served import SECONDS, Office
 
@@ -68,10 +69,19 @@ def nothing_but_the_pages_own_files_is_served(office: Office) -> None:
             assert served.answer('POST', served.path + 'save', {'Origin': 'http://' + served.host}, body)[0] == 400, body
 
 
+def own_addresses() -> Set[str]:
+    """Addresses of this machine: another one of its loop, and those of its name, where that has any."""
+    try:
+        named = socket.getaddrinfo(socket.gethostname(), None, socket.AF_INET)
+    except OSError:
+        named = []
+    return {'127.0.0.2', *(told[4][0] for told in named)}
+
+
 def it_binds_to_one_address(office: Office) -> None:
     with office.serves(office.folder(law_md=PLAIN)) as served:
         port = int(served.host.split(':')[1])
-        for address in {told[4][0] for told in socket.getaddrinfo(socket.gethostname(), None, socket.AF_INET)} | {'127.0.0.2'}:
+        for address in own_addresses():
             if address != '127.0.0.1':
                 try:
                     socket.create_connection((address, port), 2).close()
