@@ -18,3 +18,8 @@ def status_of(reply):
     if failed := re.fullmatch(r'\d+ passed, (\d+) failed', last):
         return int(failed[1] != '0')
     return next((status for start, status in STATUSES if last.startswith(start)), 0)
+
+
+def as_wanted(reply, wanted):
+    """A reply as it is held against the wanted one, which may leave out the places of a conflict, a gap, a fault or a refusal."""
+    return reply.split(' at ')[0] if status_of(wanted) and ' at ' not in wanted else reply

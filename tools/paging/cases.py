@@ -2,18 +2,12 @@
 import hashlib, os, subprocess, sys
 from typing import Dict, List, Optional, Tuple
 
+from page_commands import as_wanted
+
 from .law import NAME, Law, content
 from .program import Ended, Program, limited
 
-STOPS = ('conflict ', 'no value ', 'fault ', 'source refused ', 'input refused ')
 SECONDS, MOST_INPUT, MOST_CASES = 10, 1024 * 1024, 500
-
-
-def agrees(wanted: str, ended: Ended) -> bool:
-    """Whether a reply is the wanted one, which may leave out the places of a conflict, a gap, a fault or a refusal."""
-    if wanted.startswith(STOPS) and ' at ' not in wanted:
-        return ended.reply.split(' at ')[0] == wanted
-    return ended.reply == wanted
 
 
 class Cases:
@@ -55,7 +49,7 @@ class Cases:
         given = data.decode('utf-8', 'replace')
         ended = replied(self.program.call(['run', '--', scope, '-'], text, given))
         wanted = self.wanted(name, data)
-        how = 'unknown' if wanted is None else 'agrees' if agrees(wanted, ended) else 'differs'
+        how = 'unknown' if wanted is None else 'agrees' if as_wanted(ended.reply, wanted) == wanted else 'differs'
         return {'name': name, 'input': given, 'wanted': wanted, 'reply': ended.reply, 'status': ended.status, 'is': how}
 
     def wanted(self, name: str, data: bytes) -> Optional[str]:

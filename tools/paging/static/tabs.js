@@ -6,7 +6,6 @@ export class Tabs {
   constructor(list, panels, law) {
     Object.assign(this, { list, panels, law });
     this.byName = new Map();
-    this.onShown = () => {};
     list.addEventListener("keydown", (event) => this.pressed(event));
     this.add("law", "Law", law);
   }
@@ -45,7 +44,6 @@ export class Tabs {
       inside.classList.toggle("is-shown", isShown);
     }
     document.body.dataset.shown = name === "law" ? "law" : "panel";
-    this.onShown(name);
   }
 
   /** Whether the law is a panel like the others. */
