@@ -90,7 +90,7 @@ class Gathering:
         if what == 'code':
             self.pieces.append((at, part))
         elif what != 'include':
-            self.headings.append('behind %d %s %s %s' % (len(self.pieces), what, at, shown(part)))
+            self.headings.append((len(self.pieces), what, at, part))
         elif part.decode() in self.taken or len(self.taken) == MOST_FILES:
             raise Refused('IncludeTwice', name, at)
         else:
@@ -104,7 +104,8 @@ def gathered(files, main):
     except Refused as refused:
         return ' '.join(refused.args)
     pieces = ['code %s %s' % (at, shown(part)) for at, part in gathering.pieces]
-    return ' | '.join(pieces + gathering.headings)
+    headings = ['behind %d %s %s %s' % (before, what, at, shown(part)) for before, what, at, part in gathering.headings]
+    return ' | '.join(pieces + headings)
 
 
 def gather(text):

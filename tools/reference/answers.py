@@ -107,6 +107,8 @@ class Program:
         for at, code in gathering.pieces:
             file, line, _ = map(int, at.split(':'))
             pieces.append((code.decode(), file, line))
+        self.starts = [(file, line) for _, file, line in pieces]
+        self.headings = [(before, text.decode()) for before, _, _, text in gathering.headings]
         self.types, self.scopes, self.forests = program_of(tree_of(tokens_of(pieces)))
         self.runs = Runs(self.types, self.scopes, self.forests)
 
@@ -118,12 +120,17 @@ class Program:
         number = self.runs.numbers.get(scope)
         if number is None:
             return 'no such scope %s' % scope
-        given = Given(self.types)
-        items = self.scopes[number].items
         try:
-            values = self.runs.outputs(number, given.input(forms.parsed(data), items))
+            json = forms.parsed(data)
         except forms.NotJson:
             return 'input refused I1'
+        return self.run_on(number, json, self.runs)
+
+    def run_on(self, number, json, runs):
+        """The reply of `run` on what is read as JSON."""
+        given, items = Given(self.types), self.scopes[number].items
+        try:
+            values = runs.outputs(number, given.input(json, items))
         except forms.Refused as refused:
             return 'input refused %s %s' % (refused.args[0], forms.path_text(refused.args[1]))
         except Stop as stop:
@@ -142,8 +149,13 @@ class Program:
 
 def replies(files, main, scope, data):
     """Each reply that `run` may give: one, but where a source has several faults of one kind."""
+    return replies_of(files, main, lambda program: program.run(scope, data))
+
+
+def replies_of(files, main, reply):
+    """The reply of an accepted source's program, or each that may refuse the source."""
     try:
-        return {Program(files, main).run(scope, data)}
+        return {reply(Program(files, main))}
     except sources.Refused as refused:
         codes = {'NotUtf8': 'E1', 'FenceOpen': 'E2', 'IncludeTwice': 'E3'}
         what, name, *at = refused.args

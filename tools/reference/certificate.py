@@ -16,9 +16,9 @@ class Refused(Exception):
 class Reader:
     """The lines of a text from the first on that begins a certificate, taken one after another."""
 
-    def __init__(self, data):
+    def __init__(self, data, word=b'catala-certificate'):
         *self.lines, self.rest = data.split(b'\n')
-        begins = (n for n, line in enumerate(self.lines) if line.startswith(b'catala-certificate'))
+        begins = (n for n, line in enumerate(self.lines) if line.startswith(word))
         self.taken = next(begins, len(self.lines))
 
     def line(self):

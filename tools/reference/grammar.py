@@ -27,6 +27,7 @@ Arm = namedtuple('Arm', 'case name body')  # case None: anything
 class Reader:
     def __init__(self, tokens):
         self.tokens, self.at = tokens, 0
+        self.behind_arms = None  # where the last match ended at two dashes that begin no arm
 
     def kind(self, ahead=0):
         return self.tokens[self.at + ahead].kind if self.at + ahead < len(self.tokens) else None
@@ -39,9 +40,11 @@ class Reader:
         return self.tokens[self.at - 1]
 
     def unexpected(self):
-        """Where `with pattern` begins no match, it may have begun a test that breaks off behind it."""
-        last = self.at + (self.kind() == 'with pattern' and self.kind(1) == '--')
-        positions = [token.pos for token in self.tokens[self.at:last + 1]]
+        """Where `with pattern` begins no match, it may have begun a test that breaks off behind it. Two dashes behind the arms of a
+        match may begin one more, which breaks off behind them."""
+        first = self.at + (self.at == self.behind_arms)
+        last = first + (self.kind() == 'with pattern' and self.kind(1) == '--')
+        positions = [token.pos for token in self.tokens[first:last + 1]]
         return Refused([Fault('E6', pos) for pos in positions or [None]])
 
     def taken(self, *kinds):
@@ -303,6 +306,8 @@ class Reader:
             arms = [self.arm()]
             while self.kind() == '--' and self.kind(1) in ('U', 'anything'):
                 arms.append(self.arm())
+            if self.kind() == '--':
+                self.behind_arms = self.at
             return self.node('match', token.pos, subject, arms, below=[subject] + [arm.body for arm in arms])
         name = self.name('w')
         self.take('among')

@@ -118,6 +118,9 @@ class Runs:
         """The outputs of a scope, in order of declaration; `given` has for each item a value or None."""
         return Run(self, number, given).outputs()
 
+    def decided(self, number, target, definition):
+        """Told of each judging that ends, but for those of functions; the definition is None where none holds."""
+
 
 class Run:
     """One run of one scope."""
@@ -145,6 +148,8 @@ class Run:
 
     def judged(self, target, args, item, pos, may_be_empty=False):
         found = self.target(target, args)
+        if not item.params:
+            self.runs.decided(self.number, target, found and found[0])
         if found is not None:
             return found[1]
         if item.condition and not may_be_empty:

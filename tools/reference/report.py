@@ -310,7 +310,10 @@ def shared(tree):
 
 def audit(files, main, scope, budget=100_000):
     """The reply, of a source that is accepted and has the scope."""
-    program = Program(files, main)
+    return audited(Program(files, main), scope, budget)
+
+
+def audited(program, scope, budget):
     number = program.runs.numbers[scope]
     report, certificate, verdicts = [], ['catala-certificate 2'], {}
     for n in scopes_of(program, number):

@@ -1,0 +1,23 @@
+"""What the modes write of the statutes of the examples, which is kept beside each: the traces of its inputs, its tables, and what of it is
+dead."""
+from .answers import Program
+from .dead import dead
+from .listings import laws
+from .tables import table
+from .trace import trace
+
+
+def traces(program, scope, folder):
+    """For each input its name and what `trace` writes, with an empty line between."""
+    given = sorted(folder.glob('*.json'))
+    return '\n\n'.join('%s\n%s' % (file.stem, trace(program, scope, file.read_bytes())) for file in given)
+
+
+def statute_modes():
+    """The file that keeps what a mode writes of a statute, what that says, and what the mode writes."""
+    for folder, files, scope in laws():
+        program = Program(files, 'law.md')
+        written = {'trace': traces(program, scope, folder), 'table': table(program, scope)[0], 'dead': dead(program, scope)[0]}
+        for mode, text in written.items():
+            kept = folder / ('%s.txt' % mode)
+            yield kept, kept.read_text().rstrip('\n') if kept.exists() else '', text
