@@ -1,50 +1,29 @@
 -- The readers of scope blocks are right, where that of expressions is.
 use Rattle.std.proofs.Common.{◌≡◌, ℕ, Bool, true, false, List, [], ◌∷◌, ◌++◌, Option, Some, None, refl, sym, ap, subst}
 use Rattle.std.proofs.Common.{◌∙◌, inl, inr, ◌⊎◌}
-use Rattle.cat_pos.specs.declared.pos.Pos.{Pos}
-use Rattle.cat_lex.specs.declared.token.Token.{Token}
-use Rattle.cat_lex.specs.declared.token.TokenKind.{TokenKind}
 use Rattle.cat_lex.specs.declared.token.TokenKind.TheVariants as kind
 use Rattle.cat_lex.specs.declared.words.Keyword.TheVariants as key
 use Rattle.cat_lex.specs.declared.words.DoubleKeyword.TheVariants as pair
 use Rattle.cat_lex.specs.declared.symbol.Symbol.TheVariants as symbol
-use Rattle.cat_tree.specs.declared.name.Name.{Name}
-use Rattle.cat_tree.specs.declared.expression.Node.{Node}
-use Rattle.cat_tree.specs.declared.program.SurfaceLabel.{SurfaceLabel}
-use Rattle.cat_tree.specs.declared.program.Exception.{Exception}
 use Rattle.cat_tree.specs.declared.program.Exception.TheVariants as exception
-use Rattle.cat_tree.specs.declared.program.Lead.{Lead}
-use Rattle.cat_tree.specs.declared.program.Fulfilled.{Fulfilled}
-use Rattle.cat_tree.specs.declared.program.Use.{Use}
 use Rattle.cat_tree.specs.declared.program.Use.TheVariants as uses
-use Rattle.cat_tree.specs.Phrase.{Parts, End, Word, At, Anywhere, AreSpelled}
-use Rattle.cat_tree.specs.Joined.{◌▸◌, all}
-use Rattle.cat_tree.specs.Uses.{target_parts, use_condition_parts, fulfilled_parts, label_parts, exception_parts}
-use Rattle.cat_tree.specs.Uses.{lead_parts}
-use Rattle.cat_tree.specs.Uses.{rounding_word, use_parts}
-use Rattle.cat_tree.specs.Programs.{condition_parts, block_parts}
 use Rattle.cat_parse_expr.specs.declared.cue.Cue.TheVariants as cue
-use Rattle.cat_parse_expr.specs.Reader.{Reader, ◌⨟◌, pure, heads, by_word}
-use Rattle.cat_parse.specs.Many.{both, optional, many}
-use Rattle.cat_parse.specs.Right.{Outside, IsRight}
-use Rattle.cat_parse_expr.specs.Cues.{«word», upper}
-use Rattle.cat_parse.specs.Declarations.{key_word, is_word, is_lower}
-use Rattle.cat_parse.specs.Leads.{lead}
-use Rattle.cat_parse.specs.Uses.{is_use, is_item, behind_use, behind_expression}
-use Rattle.cat_parse.specs.Tails.{is_under, condition, Tail, Defined}
-use Rattle.cat_parse.specs.Uses.{asserted, direction, is_rounding, rounded}
-use Rattle.cat_parse.specs.Tails.{Ruled, defined, ruled, tail, use_of}
-use Rattle.cat_parse.specs.Uses.{a_use}
-use Rattle.cat_parse.specs.Programs.{block}
-use Rattle.cat_parse.specs.Exactly.{expression_row, ReadsExpressionsTo}
+use Rattle.cat_parse.proofs.Common.{Pos, Token, TokenKind, Name, Node, SurfaceLabel, Exception, Lead, Fulfilled, Use}
+use Rattle.cat_parse.proofs.Common.{Parts, End, Word, At, Anywhere, AreSpelled, ◌▸◌, all, target_parts}
+use Rattle.cat_parse.proofs.Common.{use_condition_parts, fulfilled_parts, label_parts, exception_parts, lead_parts}
+use Rattle.cat_parse.proofs.Common.{rounding_word, use_parts, condition_parts, block_parts, Reader, ◌⨟◌, pure, heads}
+use Rattle.cat_parse.proofs.Common.{both, optional, many, Outside, IsRightTo, is_word, is_lower, lead, is_use, is_item}
+use Rattle.cat_parse.proofs.Common.{behind_use, behind_expression, is_under, condition, Tail, Defined, asserted}
+use Rattle.cat_parse.proofs.Common.{direction, is_rounding, rounded, Ruled, tail, use_of, a_use, block, expression_row}
+use Rattle.cat_parse.proofs.Common.{ReadsExpressionsTo}
 use Rattle.cat_parse.proofs.Steps.{pure_right}
-use Rattle.cat_parse.proofs.Sequel.{part_right}
-use Rattle.cat_parse.proofs.Choices.{Opens, OptionFits, optional_right, reshaped, made_right, choice_right}
-use Rattle.cat_parse.proofs.Choices.{narrowed, opens_word}
+use Rattle.cat_parse.proofs.Sequel.{no_longer, part_right}
+use Rattle.cat_parse.proofs.Choices.{Opens, OptionFits, optional_right, reshaped, made_right, choice_right, narrowed}
+use Rattle.cat_parse.proofs.Choices.{opens_word}
 use Rattle.cat_parse.proofs.Leaves.{word_right, word_at_right, upper_right}
 use Rattle.cat_parse.proofs.Last.{last_right}
 use Rattle.cat_parse.proofs.Lists.{BothFit, both_rows, both_right, AllFit, many_right}
-use Rattle.cat_parse.proofs.Listed.{any_word, outside_any, no_longer}
+use Rattle.cat_parse.proofs.Listed.{any_word, outside_any}
 use Rattle.cat_parse.proofs.Declarations.{Any}
 use Rattle.cat_parse.proofs.Leads.{any_option, any_list, lead_right}
 use Rattle.cat_parse.proofs.Guards.{Meant, use_behind, ruled_row, ruled_right, defined_row, defined_right}
@@ -120,12 +99,9 @@ lead_head test b el ee ed er l x w v s = by l.label l.exception x s
 -- ---- roundings
 
 direction_right : (limit bound : ℕ)
-    → IsRight limit bound any_word Any (λ up. Word (Anywhere (kind.Word (rounding_word up))) End) direction
+    → IsRightTo limit bound any_word Any (λ up. Word (Anywhere (kind.Word (rounding_word up))) End) direction
 direction_right limit bound =
-    choice_right limit bound any_word (is_word key.Increasing) Any (λ up. up ≡ true) (λ up. up ≡ false)
-    (λ up. Word (Anywhere (kind.Word (rounding_word up))) End) (key_word key.Increasing ⨟ λ q. pure true)
-    (key_word key.Decreasing ⨟ λ q. pure false)
-    (record {
+    choice_right (λ up. up ≡ true) (λ up. up ≡ false) (record {
       either = either;
       from_yes = λ up f. tt;
       from_no = λ up f. tt;
@@ -135,27 +111,16 @@ direction_right limit bound =
       off =
           λ up w v f s o. head_any (is_word key.Increasing) (kind.Word (rounding_word up)) End w v s
           ∙ ap (λ (b : Bool). is_word key.Increasing (kind.Word (rounding_word b))) f;
-    })
-    (reshaped limit bound any_word (λ up. up ≡ true) (λ up. up ≡ true)
-    (λ up. Word (Anywhere (kind.Word key.Increasing)) End)
-    (λ up. Word (Anywhere (kind.Word (rounding_word up))) End) (key_word key.Increasing ⨟ λ q. pure true)
-    (record {
+    }) (reshaped (λ up. up ≡ true) (λ up. Word (Anywhere (kind.Word key.Increasing)) End) (record {
       to = λ up f. f;
       from = λ up f. f;
       rows = λ up f. ap (λ (b : Bool). Word (Anywhere (kind.Word (rounding_word b))) End) (sym f);
-    })
-    (word_right limit bound any_word (cue.Word key.Increasing) (λ (up : Bool). up ≡ true) (λ up. End) (λ q. pure true)
-    (λ q. pure_right limit bound any_word (λ up. up ≡ true) true refl (λ up f. f))))
-    (reshaped limit bound any_word (λ up. up ≡ false) (λ up. up ≡ false)
-    (λ up. Word (Anywhere (kind.Word key.Decreasing)) End)
-    (λ up. Word (Anywhere (kind.Word (rounding_word up))) End) (key_word key.Decreasing ⨟ λ q. pure false)
-    (record {
+    }) (word_right (cue.Word key.Increasing) (λ q. pure_right refl (λ up f. f))))
+    (reshaped (λ up. up ≡ false) (λ up. Word (Anywhere (kind.Word key.Decreasing)) End) (record {
       to = λ up f. f;
       from = λ up f. f;
       rows = λ up f. ap (λ (b : Bool). Word (Anywhere (kind.Word (rounding_word b))) End) (sym f);
-    })
-    (word_right limit bound any_word (cue.Word key.Decreasing) (λ (up : Bool). up ≡ false) (λ up. End) (λ q. pure false)
-    (λ q. pure_right limit bound any_word (λ up. up ≡ false) false refl (λ up f. f))))
+    }) (word_right (cue.Word key.Decreasing) (λ q. pure_right refl (λ up f. f))))
   where
     either : (up : Bool) → Any up → (up ≡ true) ⊎ (up ≡ false)
     either true f = inl refl
@@ -164,20 +129,16 @@ direction_right limit bound =
 abbrev rounded_row : Pos × Bool → Parts
 rounded_row x = Word (At (kind.Pair pair.DateRound) x.0) (Word (Anywhere (kind.Word (rounding_word x.1))) End)
 
-rounded_right : (limit bound : ℕ) → IsRight limit bound behind_use Any rounded_row rounded
+rounded_right : (limit bound : ℕ) → IsRightTo limit bound behind_use Any rounded_row rounded
 rounded_right limit bound =
-    word_at_right limit bound behind_use (cue.Pair pair.DateRound) Any (λ x. x.0)
-    (λ x. Word (Anywhere (kind.Word (rounding_word x.1))) End) (λ p. direction ⨟ λ up. pure (p, up)) λ p.
-    last_right limit bound behind_use Any (λ x. Any x × (x.0 ≡ p)) (λ x. x.1) (λ up. (p, up))
-    (λ up. Word (Anywhere (kind.Word (rounding_word up))) End) direction
-    (record {
+    word_at_right (cue.Pair pair.DateRound) λ p.
+    last_right (λ x. x.1) (λ up. Word (Anywhere (kind.Word (rounding_word up))) End)
+    (narrowed any_word (λ v o. outside_any v) (direction_right limit bound)) (record {
       to = λ up f. (tt, refl);
       from = λ x f. tt;
       back = λ up. refl;
       only = λ x f. ap (λ (q : Pos). (q, x.1)) f.1;
     })
-    (narrowed limit bound any_word behind_use Any (λ up. Word (Anywhere (kind.Word (rounding_word up))) End) direction
-    (λ v o. outside_any v) (direction_right limit bound))
 
 -- ---- a line of a scope block
 
@@ -272,12 +233,10 @@ use_opens = record { at = λ y w v f s. by y w v (either_use y) s }
     by y w v (inr (inr f)) s = led_head is_use true refl refl refl refl y w v f s
 
 module _ (limit : ℕ) (ex : Reader Node) (right : ReadsExpressionsTo limit ex) where
-  tail_right : (bound : ℕ) → IsRight limit bound behind_use Any tail_row (tail ex)
+  tail_right : (bound : ℕ) → IsRightTo limit bound behind_use Any tail_row (tail ex)
   tail_right bound =
-      choice_right limit bound behind_use (is_word key.Rule) Any (λ y. (x : Meant Fulfilled) × Any x × (y ≡ Ruled x))
-      (λ y. (x : Meant Node) × Any x × (y ≡ Defined x)) tail_row (ruled ex ⨟ λ x. pure (Ruled x))
-      (defined ex ⨟ λ x. pure (Defined x))
-      (record {
+      choice_right (λ y. (x : Meant Fulfilled) × Any x × (y ≡ Ruled x))
+      (λ y. (x : Meant Node) × Any x × (y ≡ Defined x)) (record {
         either = either;
         from_yes = λ y f. tt;
         from_no = λ y f. tt;
@@ -290,71 +249,53 @@ module _ (limit : ℕ) (ex : Reader Node) (right : ReadsExpressionsTo limit ex) 
             (target_parts f.0.1 ▸ use_condition_parts f.0.2 ▸ Word (Anywhere (kind.Word key.Equals))
             (expression_row f.0.3)) w v
             (subst (λ (z : Tail). AreSpelled (tail_row z) w) f.2 s);
-      })
-      (made_right limit bound behind_use Any ruled_row tail_row (λ x. Ruled x) (ruled ex) (λ x. refl)
-      (ruled_right limit ex right bound))
-      (made_right limit bound behind_use Any defined_row tail_row (λ x. Defined x) (defined ex) (λ x. refl)
-      (defined_right limit ex right bound))
+      }) (made_right Any ruled_row (λ x. refl) (ruled_right limit ex right bound))
+      (made_right Any defined_row (λ x. refl) (defined_right limit ex right bound))
     where
       either : (y : Tail) → Any y → ((x : Meant Fulfilled) × Any x × (y ≡ Ruled x))
           ⊎ ((x : Meant Node) × Any x × (y ≡ Defined x))
       either (Ruled x) f = inl (x, tt, refl)
       either (Defined x) f = inr (x, tt, refl)
 
-  led_right : (bound : ℕ) → IsRight limit bound behind_use IsLed use_parts (both lead (tail ex) ⨟ λ x. pure (use_of x))
+  led_right : (bound : ℕ)
+      → IsRightTo limit bound behind_use IsLed use_parts (both lead (tail ex) ⨟ λ x. pure (use_of x))
   led_right bound =
-      made_right limit bound behind_use (BothFit Any Any) (both_rows lead_parts tail_row) use_parts use_of
-      (both lead (tail ex)) use_rows
+      made_right (BothFit Any Any) (both_rows lead_parts tail_row) use_rows
       (both_right limit bound bound behind_use behind_lead Any Any lead_parts tail_row lead (tail ex)
-      (λ y w v f s o. tail_behind y w v s) (no_longer limit bound behind_lead Any lead_parts lead (leads bound))
+      (λ y w v f s o. tail_behind y w v s) (no_longer (leads bound))
       (leads bound) (tail_right bound))
     where
-      leads : (bound : ℕ) → IsRight limit bound behind_lead Any lead_parts lead
+      leads : (bound : ℕ) → IsRightTo limit bound behind_lead Any lead_parts lead
       leads bound = lead_right limit bound behind_lead lead_no_lower lead_no_exception lead_no_label
 
   asserted_right : (bound : ℕ)
-      → IsRight limit bound behind_use Any (λ x. Word (At (kind.Word key.Assertion) x.0) (expression_row x.1))
+      → IsRightTo limit bound behind_use Any (λ x. Word (At (kind.Word key.Assertion) x.0) (expression_row x.1))
       (asserted ex)
   asserted_right bound =
-      word_at_right limit bound behind_use (cue.Word key.Assertion) Any (λ x. x.0) (λ x. expression_row x.1)
-      (λ p. ex ⨟ λ e. pure (p, e)) λ p.
-      last_right limit bound behind_use Any (λ x. Any x × (x.0 ≡ p)) (λ x. x.1) (λ e. (p, e)) expression_row ex
-      (record {
+      word_at_right (cue.Word key.Assertion) λ p.
+      last_right (λ x. x.1) expression_row (narrowed behind_expression use_behind (right bound)) (record {
         to = λ e f. (tt, refl);
         from = λ x f. tt;
         back = λ e. refl;
         only = λ x f. ap (λ (q : Pos). (q, x.1)) f.1;
       })
-      (narrowed limit bound behind_expression behind_use Any expression_row ex use_behind (right bound))
 
-  pub use_right : (bound : ℕ) → IsRight limit bound behind_use Any use_parts (a_use ex)
+  pub use_right : (bound : ℕ) → IsRightTo limit bound behind_use Any use_parts (a_use ex)
   use_right bound =
-      choice_right limit bound behind_use (is_word key.Assertion) Any IsAsserted IsOther use_parts
-      (asserted ex ⨟ λ x. pure (uses.Assertion x.0 x.1))
-      (by_word is_rounding (rounded ⨟ λ x. pure (uses.DateRound x.0 x.1))
-      (both lead (tail ex) ⨟ λ x. pure (use_of x)))
-      (record {
+      choice_right IsAsserted IsOther (record {
         either = λ y f. either_use y;
         from_yes = λ y f. tt;
         from_no = λ y f. tt;
         on = λ y w v f s o. asserted_head (is_word key.Assertion) y w v f s;
         off = λ y w v f s o. other_off y w v f s;
-      })
-      (made_right limit bound behind_use Any (λ x. Word (At (kind.Word key.Assertion) x.0) (expression_row x.1))
-      use_parts
-      (λ x. uses.Assertion x.0 x.1) (asserted ex) (λ x. refl) (asserted_right bound))
-      (choice_right limit bound behind_use is_rounding IsOther IsRounded IsLed use_parts
-      (rounded ⨟ λ x. pure (uses.DateRound x.0 x.1)) (both lead (tail ex) ⨟ λ x. pure (use_of x))
-      (record {
+      }) (made_right Any (λ x. Word (At (kind.Word key.Assertion) x.0) (expression_row x.1)) (λ x. refl)
+      (asserted_right bound)) (choice_right IsRounded IsLed (record {
         either = λ y f. f;
         from_yes = λ y f. inl f;
         from_no = λ y f. inr f;
         on = λ y w v f s o. rounded_head is_rounding y w v f s;
         off = λ y w v f s o. led_head is_rounding false refl refl refl refl y w v f s;
-      })
-      (made_right limit bound behind_use Any rounded_row use_parts (λ x. uses.DateRound x.0 x.1) rounded (λ x. refl)
-      (rounded_right limit bound))
-      (led_right bound))
+      }) (made_right Any rounded_row (λ x. refl) (rounded_right limit bound)) (led_right bound))
     where
       other_off : (y : Use) (w v : List Token) → IsOther y → AreSpelled (use_parts y) w
           → heads (is_word key.Assertion) (w ++ v) ≡ false
@@ -363,57 +304,29 @@ module _ (limit : ℕ) (ex : Reader Node) (right : ReadsExpressionsTo limit ex) 
 
   -- ---- a scope block
 
-  condition_right : (bound : ℕ) → IsRight limit bound is_colon Any expression_after (condition ex)
+  condition_right : (bound : ℕ) → IsRightTo limit bound is_colon Any expression_after (condition ex)
   condition_right bound =
-      word_right limit bound is_colon (cue.Pair pair.UnderCondition) Any expression_row (λ p. ex)
-      (λ p. narrowed limit bound behind_expression is_colon Any expression_row ex colon_behind (right bound))
+      word_right (cue.Pair pair.UnderCondition) (λ p. narrowed behind_expression colon_behind (right bound))
 
-  conditions : (bound : ℕ) → IsRight limit bound is_colon (OptionFits Any) condition_parts
+  conditions : (bound : ℕ) → IsRightTo limit bound is_colon (OptionFits Any) condition_parts
       (optional is_under (condition ex))
   conditions bound =
-      optional_right limit bound is_colon is_under Any expression_after condition_parts (condition ex)
-      (opens_word is_under (kind.Pair pair.UnderCondition) Any expression_row refl) colon_off refl (λ e. refl)
-      (condition_right bound)
+      optional_right Any expression_after (opens_word refl) colon_off refl (λ e. refl) (condition_right bound)
 
-  uses_right : (bound : ℕ) → IsRight limit bound is_item (AllFit Any) (all use_parts) (many is_use (a_use ex))
+  uses_right : (bound : ℕ) → IsRightTo limit bound is_item (AllFit Any) (all use_parts) (many is_use (a_use ex))
   uses_right bound =
       many_right limit is_item behind_use is_use Any use_parts
       (a_use ex) use_opens item_no_use use_behind_use item_behind_use use_right bound
 
-  pub block_right : (bound : ℕ) → IsRight limit bound is_item Any block_parts (block ex)
+  pub block_right : (bound : ℕ) → IsRightTo limit bound is_item Any block_parts (block ex)
   block_right bound =
-      word_at_right limit bound is_item (cue.Word key.Scope) Any (λ b. b.pos)
-      (λ b. Word (At (kind.Upper b.name.text) b.name.pos)
-      (condition_parts b.condition ▸ Word (Anywhere (kind.Symbol symbol.Colon)) (all use_parts b.uses)))
-      (λ p. upper ⨟ λ u. optional is_under (condition ex) ⨟ λ c. «word» (cue.Sign symbol.Colon)
-      ⨟ λ q. many is_use (a_use ex) ⨟ λ us. pure (record { pos = p; name = u; condition = c; uses = us })) λ p.
-      upper_right limit bound is_item (λ b. Any b × (b.pos ≡ p)) (λ b. b.name)
-      (λ b. condition_parts b.condition ▸ Word (Anywhere (kind.Symbol symbol.Colon)) (all use_parts b.uses))
-      (λ u. optional is_under (condition ex) ⨟ λ c. «word» (cue.Sign symbol.Colon) ⨟ λ q. many is_use (a_use ex)
-      ⨟ λ us. pure (record { pos = p; name = u; condition = c; uses = us })) λ u.
-      part_right limit bound bound is_item is_colon (λ b. (Any b × (b.pos ≡ p)) × (b.name ≡ u)) (OptionFits Any)
-      (λ b. b.condition) condition_parts (λ b. Word (Anywhere (kind.Symbol symbol.Colon)) (all use_parts b.uses))
-      (optional is_under (condition ex))
-      (λ c. «word» (cue.Sign symbol.Colon) ⨟ λ q. many is_use (a_use ex)
-      ⨟ λ us. pure (record { pos = p; name = u; condition = c; uses = us }))
-      (record {
-        fit = λ b f. any_option b.condition;
-        behind =
-            λ b w v f s o. outside_heads is_colon (w ++ v)
-            (head_any is_colon (kind.Symbol symbol.Colon) (all use_parts b.uses) w v s);
-        shrinks =
-            no_longer limit bound is_colon (OptionFits Any) condition_parts (optional is_under (condition ex))
-            (conditions bound);
-      })
-      (conditions bound) λ c g.
-      word_right limit bound is_item (cue.Sign symbol.Colon) (λ b. ((Any b × (b.pos ≡ p)) × (b.name ≡ u))
-      × (b.condition ≡ c))
-      (λ b. all use_parts b.uses)
-      (λ q. many is_use (a_use ex) ⨟ λ us. pure (record { pos = p; name = u; condition = c; uses = us })) λ q.
-      last_right limit bound is_item (AllFit Any) (λ b. ((Any b × (b.pos ≡ p)) × (b.name ≡ u)) × (b.condition ≡ c))
-      (λ b. b.uses) (λ us. record { pos = p; name = u; condition = c; uses = us }) (all use_parts)
-      (many is_use (a_use ex))
-      (record {
+      word_at_right (cue.Word key.Scope) λ p.
+      upper_right (λ b. b.name) λ u.
+      part_right (λ b. b.condition) condition_parts (conditions bound) (λ b f. any_option b.condition)
+      (λ b w v f s o. outside_heads is_colon (w ++ v)
+      (head_any is_colon (kind.Symbol symbol.Colon) (all use_parts b.uses) w v s)) λ c g.
+      word_right (cue.Sign symbol.Colon) λ q.
+      last_right (λ b. b.uses) (all use_parts) (uses_right bound) (record {
         to = λ us f. (((tt, refl), refl), refl);
         from = λ b f. any_list b.uses;
         back = λ us. refl;
@@ -422,4 +335,3 @@ module _ (limit : ℕ) (ex : Reader Node) (right : ReadsExpressionsTo limit ex) 
             ∙ ap (λ (z : Name). record { pos = p; name = z; condition = b.condition; uses = b.uses }) f.0.1
             ∙ ap (λ (z : Option Node). record { pos = p; name = u; condition = z; uses = b.uses }) f.1;
       })
-      (uses_right bound)

@@ -1,18 +1,11 @@
 -- An expression ends before a token that may follow it in a program.
 use Rattle.std.proofs.Common.{◌≡◌, ℕ, max, List, [], ◌∷◌, ◌++◌, length, sym, ap, subst, ◌∙◌, append_assoc, arith}
 use Rattle.std.proofs.lemmas.List.{append-nil, length-append}
-use Rattle.cat_lex.specs.declared.token.Token.{Token}
-use Rattle.cat_tree.specs.declared.expression.Node.{Node}
-use Rattle.cat_tree.specs.Spells.{height_of}
-use Rattle.cat_parse_expr.specs.declared.behind.Behind.TheVariants.{Other}
-use Rattle.cat_parse_expr.specs.declared.measured.Measured.{Measured}
 use Rattle.cat_parse_expr.specs.Climbing.{operand}
-use Rattle.cat_parse_expr.specs.Followers.{MayFollow, looks_of}
-use Rattle.cat_parse_expr.specs.Reader.{Parsed, Reads, left_of}
-use Rattle.cat_parse_expr.specs.Right.{Seen, Says, IsRight}
-use Rattle.cat_parse_expr.specs.Rightly.{IsMeasured, IsLow, operand_row, measured_of}
-use Rattle.cat_parse_expr.proofs.Exported.{rightly, read_whole, as_row}
-use Rattle.cat_parse.specs.Ends.{EndsBefore}
+use Rattle.cat_parse_expr.specs.Rightly.{IsLow}
+use Rattle.cat_parse.proofs.Common.{Token, Node, height_of, Other, Measured, MayFollow, looks_of, Parsed, Reads}
+use Rattle.cat_parse.proofs.Common.{left_of, Seen, Says, IsRight, IsMeasured, operand_row, measured_of, rightly}
+use Rattle.cat_parse.proofs.Common.{read_whole, as_row, EndsBefore}
 use Rattle.cat_parse.proofs.Reading.{may_follow}
 
 right : (room bound : ℕ)

@@ -1,49 +1,31 @@
 -- The readers of conditions, definitions and rules are right, where that of expressions is.
 use Rattle.std.proofs.Common.{◌≡◌, ℕ, Bool, true, false, List, [], ◌∷◌, ◌++◌, Option, Some, None, refl, sym, ap, subst}
 use Rattle.std.proofs.Common.{◌∙◌, inl, inr, ◌⊎◌}
-use Rattle.cat_pos.specs.declared.pos.Pos.{Pos}
-use Rattle.cat_lex.specs.declared.token.Token.{Token}
-use Rattle.cat_lex.specs.declared.token.TokenKind.{TokenKind}
 use Rattle.cat_lex.specs.declared.token.TokenKind.TheVariants as kind
 use Rattle.cat_lex.specs.declared.words.Keyword.TheVariants as key
 use Rattle.cat_lex.specs.declared.words.DoubleKeyword.TheVariants as pair
 use Rattle.cat_lex.specs.declared.symbol.Symbol.TheVariants as symbol
-use Rattle.cat_tree.specs.declared.expression.Node.{Node}
-use Rattle.cat_tree.specs.declared.program.TargetName.{TargetName}
-use Rattle.cat_tree.specs.declared.program.Fulfilled.{Fulfilled}
 use Rattle.cat_tree.specs.declared.program.Fulfilled.TheVariants as fulfilled
-use Rattle.cat_tree.specs.Phrase.{Parts, End, Word, Part, Operand, At, Anywhere, AreSpelled}
-use Rattle.cat_tree.specs.Grammar.{phrase}
-use Rattle.cat_tree.specs.Joined.{◌▸◌}
-use Rattle.cat_tree.specs.Uses.{target_parts, use_condition_parts, fulfilled_parts}
 use Rattle.cat_parse_expr.specs.declared.cue.Cue.TheVariants as cue
-use Rattle.cat_parse_expr.specs.Reader.{Reader, ◌⨟◌, pure, heads}
-use Rattle.cat_parse.specs.Many.{optional}
-use Rattle.cat_parse.specs.Right.{Outside, IsRight}
-use Rattle.cat_parse.specs.Declarations.{key_word, is_word}
-use Rattle.cat_parse.specs.Leads.{target}
-use Rattle.cat_parse.specs.Uses.{behind_use, behind_expression}
-use Rattle.cat_parse.specs.Tails.{is_under, guard, whether_fulfilled, defined, ruled}
-use Rattle.cat_parse.specs.Exactly.{expression_row, ReadsExpressionsTo}
+use Rattle.cat_parse.proofs.Common.{Pos, Token, TokenKind, Node, TargetName, Fulfilled, Parts, End, Word, At, Anywhere}
+use Rattle.cat_parse.proofs.Common.{AreSpelled, ◌▸◌, target_parts, use_condition_parts, fulfilled_parts, Reader, heads}
+use Rattle.cat_parse.proofs.Common.{optional, Outside, IsRightTo, is_word, behind_use, behind_expression, is_under}
+use Rattle.cat_parse.proofs.Common.{guard, whether_fulfilled, defined, ruled, expression_row, ReadsExpressionsTo}
 use Rattle.cat_parse.proofs.Steps.{pure_right}
 use Rattle.cat_parse.proofs.Sequel.{part_right}
 use Rattle.cat_parse.proofs.Choices.{OptionFits, optional_right, reshaped, choice_right, narrowed, opens_word}
 use Rattle.cat_parse.proofs.Leaves.{word_right, word_at_right}
 use Rattle.cat_parse.proofs.Last.{last_right}
-use Rattle.cat_parse.proofs.Listed.{any_word, outside_any, no_longer}
+use Rattle.cat_parse.proofs.Listed.{any_word, outside_any}
 use Rattle.cat_parse.proofs.Declarations.{Any}
 use Rattle.cat_parse.proofs.Leads.{any_option}
 use Rattle.cat_parse.proofs.Targets.{behind_target, target_right}
 
 -- ---- whether a rule is fulfilled
 
-fulfilled_right : (limit bound : ℕ) → IsRight limit bound any_word Any fulfilled_parts whether_fulfilled
+fulfilled_right : (limit bound : ℕ) → IsRightTo limit bound any_word Any fulfilled_parts whether_fulfilled
 fulfilled_right limit bound =
-    choice_right limit bound any_word (is_word key.Not) Any (λ f. f ≡ fulfilled.No) (λ f. f ≡ fulfilled.Yes)
-    fulfilled_parts
-    (key_word key.Not ⨟ λ p. key_word key.Fulfilled ⨟ λ q. pure fulfilled.No)
-    (key_word key.Fulfilled ⨟ λ p. pure fulfilled.Yes)
-    (record {
+    choice_right (λ f. f ≡ fulfilled.No) (λ f. f ≡ fulfilled.Yes) (record {
       either = either;
       from_yes = λ f e. tt;
       from_no = λ f e. tt;
@@ -53,23 +35,16 @@ fulfilled_right limit bound =
       off =
           λ f w v e s o. let t = subst (λ (z : Fulfilled). AreSpelled (fulfilled_parts z) w) e s in
           ap (λ (u : List Token). heads (is_word key.Not) (u ++ v)) t.2 ∙ ap (is_word key.Not) t.3;
-    })
-    (reshaped limit bound any_word (λ f. f ≡ fulfilled.No) (λ f. f ≡ fulfilled.No)
-    (λ f. Word (Anywhere (kind.Word key.Not)) (Word (Anywhere (kind.Word key.Fulfilled)) End)) fulfilled_parts
-    (key_word key.Not ⨟ λ p. key_word key.Fulfilled ⨟ λ q. pure fulfilled.No)
+    }) (reshaped (λ f. f ≡ fulfilled.No)
+    (λ f. Word (Anywhere (kind.Word key.Not)) (Word (Anywhere (kind.Word key.Fulfilled)) End))
     (record { to = λ f e. e; from = λ f e. e; rows = λ f e. ap fulfilled_parts (sym e) })
-    (word_right limit bound any_word (cue.Word key.Not) (λ (f : Fulfilled). f ≡ fulfilled.No)
-    (λ f. Word (Anywhere (kind.Word key.Fulfilled)) End) (λ p. key_word key.Fulfilled ⨟ λ q. pure fulfilled.No) λ p.
-    word_right limit bound any_word (cue.Word key.Fulfilled) (λ (f : Fulfilled). f ≡ fulfilled.No) (λ f. End)
-    (λ q. pure fulfilled.No) λ q.
-    pure_right limit bound any_word (λ f. f ≡ fulfilled.No) fulfilled.No refl (λ f e. e)))
-    (reshaped limit bound any_word (λ f. f ≡ fulfilled.Yes) (λ f. f ≡ fulfilled.Yes)
-    (λ f. Word (Anywhere (kind.Word key.Fulfilled)) End) fulfilled_parts
-    (key_word key.Fulfilled ⨟ λ p. pure fulfilled.Yes)
+    (word_right (cue.Word key.Not) λ p.
+    word_right (cue.Word key.Fulfilled) λ q.
+    pure_right refl (λ f e. e)))
+    (reshaped (λ f. f ≡ fulfilled.Yes) (λ f. Word (Anywhere (kind.Word key.Fulfilled)) End)
     (record { to = λ f e. e; from = λ f e. e; rows = λ f e. ap fulfilled_parts (sym e) })
-    (word_right limit bound any_word (cue.Word key.Fulfilled) (λ (f : Fulfilled). f ≡ fulfilled.Yes) (λ f. End)
-    (λ q. pure fulfilled.Yes) λ q.
-    pure_right limit bound any_word (λ f. f ≡ fulfilled.Yes) fulfilled.Yes refl (λ f e. e)))
+    (word_right (cue.Word key.Fulfilled) λ q.
+    pure_right refl (λ f e. e)))
   where
     either : (f : Fulfilled) → Any f → (f ≡ fulfilled.No) ⊎ (f ≡ fulfilled.Yes)
     either fulfilled.No e = inl refl
@@ -115,33 +90,20 @@ defined_row x =
     (target_parts x.1 ▸ use_condition_parts x.2 ▸ Word (Anywhere (kind.Word key.Equals)) (expression_row x.3))
 
 module _ (limit : ℕ) (ex : Reader Node) (right : ReadsExpressionsTo limit ex) where
-  guard_right : (bound : ℕ) → IsRight limit bound behind_guard Any (λ e. use_condition_parts (Some e)) (guard ex)
+  guard_right : (bound : ℕ) → IsRightTo limit bound behind_guard Any (λ e. use_condition_parts (Some e)) (guard ex)
   guard_right bound =
-      word_right limit bound behind_guard (cue.Pair pair.UnderCondition) Any
-      (λ e. Part (Operand 0) (phrase e) (Word (Anywhere (kind.Word key.Consequence)) End))
-      (λ p. ex ⨟ λ e. key_word key.Consequence ⨟ λ q. pure e) λ p.
-      part_right limit bound bound behind_guard behind_expression Any Any (λ e. e) expression_row
-      (λ e. Word (Anywhere (kind.Word key.Consequence)) End) ex (λ e. key_word key.Consequence ⨟ λ q. pure e)
-      (record {
-        fit = λ e f. tt;
-        behind =
-            λ e w v f s o. subst (λ (u : List Token). Outside behind_expression (u ++ v)) (sym s.2)
-            (ap behind_expression s.3);
-        shrinks = no_longer limit bound behind_expression Any expression_row ex (right bound);
-      })
-      (right bound) λ e g.
-      word_right limit bound behind_guard (cue.Word key.Consequence) (λ (y : Node). Any y × (y ≡ e)) (λ y. End)
-      (λ q. pure e) λ q.
-      pure_right limit bound behind_guard (λ y. Any y × (y ≡ e)) e (tt, refl) (λ y f. f.1)
+      word_right (cue.Pair pair.UnderCondition) λ p.
+      part_right (λ e. e) expression_row (right bound) (λ e f. tt)
+      (λ e w v f s o. subst (λ (u : List Token). Outside behind_expression (u ++ v)) (sym s.2)
+      (ap behind_expression s.3)) λ e g.
+      word_right (cue.Word key.Consequence) λ q.
+      pure_right (tt, refl) (λ y f. f.1)
 
-  guards : (bound : ℕ) → IsRight limit bound behind_guard (OptionFits Any) use_condition_parts
+  guards : (bound : ℕ) → IsRightTo limit bound behind_guard (OptionFits Any) use_condition_parts
       (optional is_under (guard ex))
-  guards bound = optional_right limit bound behind_guard is_under Any (λ e. use_condition_parts (Some e))
-      use_condition_parts
-      (guard ex)
-      (opens_word is_under (kind.Pair pair.UnderCondition) Any
-      (λ e. Part (Operand 0) (phrase e) (Word (Anywhere (kind.Word key.Consequence)) End)) refl)
-      guard_off refl (λ e. refl) (guard_right bound)
+  guards bound =
+      optional_right Any (λ e. use_condition_parts (Some e)) (opens_word refl) guard_off refl (λ e. refl)
+      (guard_right bound)
 
   -- a condition, or a word that may stand behind it
   guard_behind : (c : Option Node) (k : TokenKind) (rest : Parts) (w v : List Token)
@@ -165,33 +127,14 @@ module _ (limit : ℕ) (ex : Reader Node) (right : ReadsExpressionsTo limit ex) 
   fulfilled_guard fulfilled.No w v s =
       subst (λ (u : List Token). Outside behind_guard (u ++ v)) (sym s.2) (ap behind_guard s.3)
 
-  pub ruled_right : (bound : ℕ) → IsRight limit bound behind_use Any ruled_row (ruled ex)
+  pub ruled_right : (bound : ℕ) → IsRightTo limit bound behind_use Any ruled_row (ruled ex)
   ruled_right bound =
-      word_at_right limit bound behind_use (cue.Word key.Rule) Any (λ x. x.0)
-      (λ x. target_parts x.1 ▸ use_condition_parts x.2 ▸ fulfilled_parts x.3)
-      (λ p. target ⨟ λ t. optional is_under (guard ex) ⨟ λ c. whether_fulfilled ⨟ λ f. pure (p, t, c, f)) λ p.
-      part_right limit bound bound behind_use behind_target (λ x. Any x × (x.0 ≡ p)) Any (λ x. x.1) target_parts
-      (λ x. use_condition_parts x.2 ▸ fulfilled_parts x.3) target
-      (λ t. optional is_under (guard ex) ⨟ λ c. whether_fulfilled ⨟ λ f. pure (p, t, c, f))
-      (record {
-        fit = λ x f. tt;
-        behind = λ x w v f s o. fulfilled_behind x.2 x.3 w v s;
-        shrinks = no_longer limit bound behind_target Any target_parts target (target_right limit bound);
-      })
-      (target_right limit bound) λ t g.
-      part_right limit bound bound behind_use behind_guard (λ x. (Any x × (x.0 ≡ p)) × (x.1 ≡ t)) (OptionFits Any)
-      (λ x. x.2) use_condition_parts (λ x. fulfilled_parts x.3) (optional is_under (guard ex))
-      (λ c. whether_fulfilled ⨟ λ f. pure (p, t, c, f))
-      (record {
-        fit = λ x f. any_option x.2;
-        behind = λ x w v f s o. fulfilled_guard x.3 w v s;
-        shrinks =
-            no_longer limit bound behind_guard (OptionFits Any) use_condition_parts (optional is_under (guard ex))
-            (guards bound);
-      })
-      (guards bound) λ c g.
-      last_right limit bound behind_use Any (λ x. ((Any x × (x.0 ≡ p)) × (x.1 ≡ t)) × (x.2 ≡ c)) (λ x. x.3)
-      (λ f. (p, t, c, f)) fulfilled_parts whether_fulfilled
+      word_at_right (cue.Word key.Rule) λ p.
+      part_right (λ x. x.1) target_parts (target_right limit bound) (λ x f. tt)
+      (λ x w v f s o. fulfilled_behind x.2 x.3 w v s) λ t g.
+      part_right (λ x. x.2) use_condition_parts (guards bound) (λ x f. any_option x.2)
+      (λ x w v f s o. fulfilled_guard x.3 w v s) λ c g.
+      last_right (λ x. x.3) fulfilled_parts (narrowed any_word (λ v o. outside_any v) (fulfilled_right limit bound))
       (record {
         to = λ f e. (((tt, refl), refl), refl);
         from = λ x f. tt;
@@ -200,43 +143,16 @@ module _ (limit : ℕ) (ex : Reader Node) (right : ReadsExpressionsTo limit ex) 
             λ x f. ap (λ (z : Pos). (z, x.1, x.2, x.3)) f.0.0.1 ∙ ap (λ (z : TargetName). (p, z, x.2, x.3)) f.0.1
             ∙ ap (λ (z : Option Node). (p, t, z, x.3)) f.1;
       })
-      (narrowed limit bound any_word behind_use Any fulfilled_parts whether_fulfilled (λ v o. outside_any v)
-      (fulfilled_right limit bound))
 
-  pub defined_right : (bound : ℕ) → IsRight limit bound behind_use Any defined_row (defined ex)
+  pub defined_right : (bound : ℕ) → IsRightTo limit bound behind_use Any defined_row (defined ex)
   defined_right bound =
-      word_at_right limit bound behind_use (cue.Word key.Definition) Any (λ x. x.0)
-      (λ x. target_parts x.1 ▸ use_condition_parts x.2 ▸ Word (Anywhere (kind.Word key.Equals)) (expression_row x.3))
-      (λ p. target ⨟ λ t. optional is_under (guard ex) ⨟ λ c. key_word key.Equals ⨟ λ q. ex
-      ⨟ λ e. pure (p, t, c, e)) λ p.
-      part_right limit bound bound behind_use behind_target (λ x. Any x × (x.0 ≡ p)) Any (λ x. x.1) target_parts
-      (λ x. use_condition_parts x.2 ▸ Word (Anywhere (kind.Word key.Equals)) (expression_row x.3)) target
-      (λ t. optional is_under (guard ex) ⨟ λ c. key_word key.Equals ⨟ λ q. ex ⨟ λ e. pure (p, t, c, e))
-      (record {
-        fit = λ x f. tt;
-        behind =
-            λ x w v f s o. guard_behind x.2 (kind.Word key.Equals) (expression_row x.3) w v s refl;
-        shrinks =
-            no_longer limit bound behind_target Any target_parts target (target_right limit bound);
-      })
-      (target_right limit bound) λ t g.
-      part_right limit bound bound behind_use behind_guard (λ x. (Any x × (x.0 ≡ p)) × (x.1 ≡ t)) (OptionFits Any)
-      (λ x. x.2) use_condition_parts (λ x. Word (Anywhere (kind.Word key.Equals)) (expression_row x.3))
-      (optional is_under (guard ex)) (λ c. key_word key.Equals ⨟ λ q. ex ⨟ λ e. pure (p, t, c, e))
-      (record {
-        fit = λ x f. any_option x.2;
-        behind =
-            λ x w v f s o. subst (λ (u : List Token). Outside behind_guard (u ++ v)) (sym s.2) (ap behind_guard s.3);
-        shrinks =
-            no_longer limit bound behind_guard (OptionFits Any) use_condition_parts (optional is_under (guard ex))
-            (guards bound);
-      })
-      (guards bound) λ c g.
-      word_right limit bound behind_use (cue.Word key.Equals) (λ x. ((Any x × (x.0 ≡ p)) × (x.1 ≡ t)) × (x.2 ≡ c))
-      (λ x. expression_row x.3) (λ q. ex ⨟ λ e. pure (p, t, c, e)) λ q.
-      last_right limit bound behind_use Any (λ x. ((Any x × (x.0 ≡ p)) × (x.1 ≡ t)) × (x.2 ≡ c)) (λ x. x.3)
-      (λ e. (p, t, c, e)) expression_row ex
-      (record {
+      word_at_right (cue.Word key.Definition) λ p.
+      part_right (λ x. x.1) target_parts (target_right limit bound) (λ x f. tt)
+      (λ x w v f s o. guard_behind x.2 (kind.Word key.Equals) (expression_row x.3) w v s refl) λ t g.
+      part_right (λ x. x.2) use_condition_parts (guards bound) (λ x f. any_option x.2)
+      (λ x w v f s o. subst (λ (u : List Token). Outside behind_guard (u ++ v)) (sym s.2) (ap behind_guard s.3)) λ c g.
+      word_right (cue.Word key.Equals) λ q.
+      last_right (λ x. x.3) expression_row (narrowed behind_expression use_behind (right bound)) (record {
         to = λ f e. (((tt, refl), refl), refl);
         from = λ x f. tt;
         back = λ f. refl;
@@ -244,4 +160,3 @@ module _ (limit : ℕ) (ex : Reader Node) (right : ReadsExpressionsTo limit ex) 
             λ x f. ap (λ (z : Pos). (z, x.1, x.2, x.3)) f.0.0.1 ∙ ap (λ (z : TargetName). (p, z, x.2, x.3)) f.0.1
             ∙ ap (λ (z : Option Node). (p, t, z, x.3)) f.1;
       })
-      (narrowed limit bound behind_expression behind_use Any expression_row ex use_behind (right bound))

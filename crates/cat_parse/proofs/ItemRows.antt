@@ -1,46 +1,26 @@
 -- The reader of declarations and scope blocks is right, where that of expressions is.
 use Rattle.std.proofs.Common.{◌≡◌, ℕ, Bool, true, false, List, [], ◌∷◌, ◌++◌, refl, sym, ap, subst, ◌∙◌, inl, inr, ◌⊎◌}
-use Rattle.cat_pos.specs.declared.pos.Pos.{Pos}
-use Rattle.cat_lex.specs.declared.token.Token.{Token}
-use Rattle.cat_lex.specs.declared.token.TokenKind.{TokenKind}
 use Rattle.cat_lex.specs.declared.token.TokenKind.TheVariants as kind
-use Rattle.cat_lex.specs.declared.words.Keyword.{Keyword}
 use Rattle.cat_lex.specs.declared.words.Keyword.TheVariants as key
 use Rattle.cat_lex.specs.declared.symbol.Symbol.TheVariants as symbol
-use Rattle.cat_tree.specs.declared.name.Name.{Name}
-use Rattle.cat_tree.specs.declared.expression.Node.{Node}
-use Rattle.cat_tree.specs.declared.program.FieldItem.{FieldItem}
-use Rattle.cat_tree.specs.declared.program.CaseItem.{CaseItem}
-use Rattle.cat_tree.specs.declared.program.VariableKind.TheVariants.{Input, InputOutput, Output, Internal, Context}
-use Rattle.cat_tree.specs.declared.program.VariableKind.TheVariants.{ContextOutput}
-use Rattle.cat_tree.specs.declared.program.Variable.{Variable}
 use Rattle.cat_tree.specs.declared.program.Variable.TheVariants as variable
-use Rattle.cat_tree.specs.declared.program.Block.{Block}
-use Rattle.cat_tree.specs.declared.program.Item.{Item}
 use Rattle.cat_tree.specs.declared.program.Item.TheVariants as item
-use Rattle.cat_tree.specs.Phrase.{Parts, Word, At, Anywhere, AreSpelled}
-use Rattle.cat_tree.specs.Joined.{◌▸◌, all}
-use Rattle.cat_tree.specs.Declarations.{typed_parts, field_parts, content_parts, case_parts, variable_parts}
-use Rattle.cat_tree.specs.Programs.{block_parts, item_parts, is_filled, condition_parts}
-use Rattle.cat_tree.specs.Uses.{use_parts}
 use Rattle.cat_parse_expr.specs.declared.cue.Cue.TheVariants as cue
-use Rattle.cat_parse_expr.specs.Reader.{Reader, ◌⨟◌, pure, heads, by_word}
-use Rattle.cat_parse.specs.Many.{many, some}
-use Rattle.cat_parse.specs.Right.{IsRight}
-use Rattle.cat_parse_expr.specs.Cues.{«word», upper}
-use Rattle.cat_parse.specs.Declarations.{is_word, is_content, field, a_case, a_variable}
-use Rattle.cat_parse.specs.Uses.{is_item}
-use Rattle.cat_parse.specs.Programs.{named, is_variable, is_dashes, Declared, Structures, Enumerations, Scopes}
-use Rattle.cat_parse.specs.Programs.{declared, item_of, declaration, block, an_item}
+use Rattle.cat_parse.proofs.Common.{Pos, Token, TokenKind, Keyword, Name, Node, FieldItem, CaseItem, Input, InputOutput}
+use Rattle.cat_parse.proofs.Common.{Output, Internal, Context, ContextOutput, Variable, Block, Item, Parts, Word, At}
+use Rattle.cat_parse.proofs.Common.{Anywhere, AreSpelled, ◌▸◌, all, field_parts, case_parts, variable_parts}
+use Rattle.cat_parse.proofs.Common.{block_parts, item_parts, is_filled, condition_parts, use_parts, Reader, ◌⨟◌, pure}
+use Rattle.cat_parse.proofs.Common.{heads, cue_self, many, some, IsRightTo, is_word, is_content, field, a_case}
+use Rattle.cat_parse.proofs.Common.{a_variable, is_item, named, is_variable, is_dashes, Declared, Structures}
+use Rattle.cat_parse.proofs.Common.{Enumerations, Scopes, declared, item_of, declaration, an_item, ReadsExpressionsTo}
 use Rattle.cat_parse.proofs.Choices.{Opens, made_right, choice_right, opens_word}
-use Rattle.cat_parse.proofs.Leaves.{cue_self, word_right, word_at_right, upper_right}
+use Rattle.cat_parse.proofs.Leaves.{word_right, word_at_right, upper_right}
 use Rattle.cat_parse.proofs.Last.{last_right}
 use Rattle.cat_parse.proofs.Lists.{AllFit, many_right}
 use Rattle.cat_parse.proofs.Listed.{any_word, SomeFit, some_right}
 use Rattle.cat_parse.proofs.Declarations.{Any, field_right, case_right}
 use Rattle.cat_parse.proofs.Variables.{behind_variable, variable_right}
 use Rattle.cat_parse.proofs.Leads.{any_list}
-use Rattle.cat_parse.specs.Exactly.{ReadsExpressionsTo}
 use Rattle.cat_parse.proofs.BlockRows.{head_at, block_right}
 
 -- ---- what is declared
@@ -50,11 +30,11 @@ item_no_data (kind.Word key.Declaration) e = refl
 item_no_data (kind.Word key.Scope) e = refl
 item_no_data _ e = absurd cc
 
-fields_right : (limit bound : ℕ) → IsRight limit bound is_item (SomeFit Any) (all field_parts)
+fields_right : (limit bound : ℕ) → IsRightTo limit bound is_item (SomeFit Any) (all field_parts)
     (some (is_word key.Data) field)
 fields_right limit bound =
     some_right limit is_item any_word (is_word key.Data) Any field_parts field
-    (opens_word (is_word key.Data) (kind.Word key.Data) Any typed_parts refl) item_no_data (λ k e. refl) (λ k e. refl)
+    (opens_word refl) item_no_data (λ k e. refl) (λ k e. refl)
     (λ b. field_right limit b any_word) bound
 
 -- what may follow a case
@@ -84,12 +64,10 @@ item_case (kind.Word key.Declaration) e = refl
 item_case (kind.Word key.Scope) e = refl
 item_case _ e = absurd cc
 
-cases_right : (limit bound : ℕ) → IsRight limit bound is_item (SomeFit Any) (all case_parts) (some is_dashes a_case)
+cases_right : (limit bound : ℕ) → IsRightTo limit bound is_item (SomeFit Any) (all case_parts) (some is_dashes a_case)
 cases_right limit bound =
     some_right limit is_item behind_case is_dashes Any case_parts a_case
-    (opens_word is_dashes (kind.Symbol symbol.MinusMinus) Any
-    (λ c. Word (At (kind.Upper c.name.text) c.name.pos) (content_parts c.content))
-    (cue_self (cue.Sign symbol.MinusMinus))) item_no_dashes dashes_case item_case
+    (opens_word (cue_self (cue.Sign symbol.MinusMinus))) item_no_dashes dashes_case item_case
     (λ b. case_right limit b behind_case case_no_content) bound
 
 pub variable_opens : Opens is_variable Any variable_parts
@@ -126,7 +104,7 @@ item_variable (kind.Symbol s) e = absurd cc
 item_variable (kind.Pair d) e = absurd cc
 item_variable _ e = refl
 
-variables_right : (limit bound : ℕ) → IsRight limit bound is_item (AllFit Any) (all variable_parts)
+variables_right : (limit bound : ℕ) → IsRightTo limit bound is_item (AllFit Any) (all variable_parts)
     (many is_variable a_variable)
 variables_right limit bound =
     many_right limit is_item behind_variable is_variable Any variable_parts a_variable variable_opens
@@ -141,25 +119,18 @@ named_row k row x =
 
 named_right : {A : Type 0} (limit bound : ℕ) (out : TokenKind → Bool) (k : Keyword) (fits : A → Type 0)
     (row : A → Parts)
-    (r : Reader A) → IsRight limit bound out fits row r → IsRight limit bound out (λ x. fits x.1) (named_row k row)
+    (r : Reader A) → IsRightTo limit bound out fits row r → IsRightTo limit bound out (λ x. fits x.1) (named_row k row)
     (named k r)
 named_right {A = A} limit bound out k fits row r right =
-    word_right limit bound out (cue.Word k) (λ (x : Name × A). fits x.1)
-    (λ x. Word (At (kind.Upper x.0.text) x.0.pos) (Word (Anywhere (kind.Symbol symbol.Colon)) (row x.1)))
-    (λ p. upper ⨟ λ u. «word» (cue.Sign symbol.Colon) ⨟ λ q. r ⨟ λ x. pure (u, x)) λ p.
-    upper_right limit bound out (λ (x : Name × A). fits x.1) (λ x. x.0)
-    (λ x. Word (Anywhere (kind.Symbol symbol.Colon)) (row x.1))
-    (λ u. «word» (cue.Sign symbol.Colon) ⨟ λ q. r ⨟ λ x. pure (u, x)) λ u.
-    word_right limit bound out (cue.Sign symbol.Colon) (λ (x : Name × A). fits x.1 × (x.0 ≡ u)) (λ x. row x.1)
-    (λ q. r ⨟ λ x. pure (u, x)) λ q.
-    last_right limit bound out fits (λ (x : Name × A). fits x.1 × (x.0 ≡ u)) (λ x. x.1) (λ x. (u, x)) row r
-    (record {
+    word_right (cue.Word k) λ p.
+    upper_right (λ x. x.0) λ u.
+    word_right (cue.Sign symbol.Colon) λ q.
+    last_right (λ x. x.1) row right (record {
       to = λ x f. (f, refl);
       from = λ x f. f.0;
       back = λ x. refl;
       only = λ x f. ap (λ (n : Name). (n, x.1)) f.1;
     })
-    right
 
 abbrev IsStructure : Declared → Type 0
 IsStructure d = (x : Name × List FieldItem) × SomeFit Any x.1 × (d ≡ Structures x)
@@ -211,36 +182,26 @@ enumerations = named key.Enumeration (some is_dashes a_case) ⨟ λ x. pure (Enu
 abbrev scopes : Reader Declared
 scopes = named key.Scope (many is_variable a_variable) ⨟ λ x. pure (Scopes x)
 
-declared_right : (limit bound : ℕ) → IsRight limit bound is_item IsDeclared declared_row declared
+declared_right : (limit bound : ℕ) → IsRightTo limit bound is_item IsDeclared declared_row declared
 declared_right limit bound =
-    choice_right limit bound is_item (is_word key.Structure) IsDeclared IsStructure NoStructure declared_row structures
-    (by_word (is_word key.Enumeration) enumerations scopes)
-    (record {
+    choice_right IsStructure NoStructure (record {
       either = λ d f. f;
       from_yes = λ d f. inl f;
       from_no = λ d f. inr f;
       on = λ d w v f s o. structure_head (is_word key.Structure) d w v f s;
       off = λ d w v f s o. off d w v f s;
-    })
-    (made_right limit bound is_item (λ x. SomeFit Any x.1) (named_row key.Structure (all field_parts)) declared_row
-    (λ x. Structures x) (named key.Structure (some (is_word key.Data) field)) (λ x. refl)
+    }) (made_right (λ x. SomeFit Any x.1) (named_row key.Structure (all field_parts)) (λ x. refl)
     (named_right limit bound is_item key.Structure (SomeFit Any) (all field_parts) (some (is_word key.Data) field)
-    (fields_right limit bound)))
-    (choice_right limit bound is_item
-    (is_word key.Enumeration) NoStructure IsEnumeration IsScope declared_row enumerations scopes
-    (record {
+    (fields_right limit bound))) (choice_right IsEnumeration IsScope (record {
       either = λ d f. f;
       from_yes = λ d f. inl f;
       from_no = λ d f. inr f;
       on = λ d w v f s o. enumeration_head (is_word key.Enumeration) d w v f s;
       off = λ d w v f s o. scope_head (is_word key.Enumeration) d w v f s;
-    })
-    (made_right limit bound is_item (λ x. SomeFit Any x.1) (named_row key.Enumeration (all case_parts)) declared_row
-    (λ x. Enumerations x) (named key.Enumeration (some is_dashes a_case)) (λ x. refl)
+    }) (made_right (λ x. SomeFit Any x.1) (named_row key.Enumeration (all case_parts)) (λ x. refl)
     (named_right limit bound is_item key.Enumeration (SomeFit Any) (all case_parts) (some is_dashes a_case)
     (cases_right limit bound)))
-    (made_right limit bound is_item (λ x. AllFit Any x.1) (named_row key.Scope (all variable_parts)) declared_row
-    (λ x. Scopes x) (named key.Scope (many is_variable a_variable)) (λ x. refl)
+    (made_right (λ x. AllFit Any x.1) (named_row key.Scope (all variable_parts)) (λ x. refl)
     (named_right limit bound is_item key.Scope (AllFit Any) (all variable_parts) (many is_variable a_variable)
     (variables_right limit bound))))
   where
@@ -252,19 +213,15 @@ declared_right limit bound =
 abbrev declaration_row : Pos × Declared → Parts
 declaration_row x = Word (At (kind.Word key.Declaration) x.0) (declared_row x.1)
 
-declaration_right : (limit bound : ℕ) → IsRight limit bound is_item (λ x. IsDeclared x.1) declaration_row declaration
+declaration_right : (limit bound : ℕ) → IsRightTo limit bound is_item (λ x. IsDeclared x.1) declaration_row declaration
 declaration_right limit bound =
-    word_at_right limit bound is_item (cue.Word key.Declaration) (λ (x : Pos × Declared). IsDeclared x.1) (λ x. x.0)
-    (λ x. declared_row x.1) (λ p. declared ⨟ λ x. pure (p, x)) λ p.
-    last_right limit bound is_item IsDeclared (λ (x : Pos × Declared). IsDeclared x.1 × (x.0 ≡ p)) (λ x. x.1)
-    (λ x. (p, x)) declared_row declared
-    (record {
+    word_at_right (cue.Word key.Declaration) λ p.
+    last_right (λ x. x.1) declared_row (declared_right limit bound) (record {
       to = λ x f. (f, refl);
       from = λ x f. f.0;
       back = λ x. refl;
       only = λ x f. ap (λ (q : Pos). (q, x.1)) f.1;
     })
-    (declared_right limit bound)
 
 -- ---- an item
 
@@ -326,18 +283,13 @@ item_opens = record { at = λ i w v f s. by i w v (either_item i f) s }
     by i w v (inr f) s = block_head is_item i w v f s
 
 pub item_right : (limit : ℕ) (ex : Reader Node) → ReadsExpressionsTo limit ex → (bound : ℕ)
-    → IsRight limit bound is_item Filled item_parts (an_item ex)
+    → IsRightTo limit bound is_item Filled item_parts (an_item ex)
 item_right limit ex right bound =
-    choice_right limit bound is_item (is_word key.Declaration) Filled IsDeclaration IsBlock item_parts
-    (declaration ⨟ λ x. pure (item_of x)) (block ex ⨟ λ b. pure (item.Block b))
-    (record {
+    choice_right IsDeclaration IsBlock (record {
       either = λ i f. either_item i f;
       from_yes = λ i f. subst Filled (sym f.2) (filled_declared f.0.1 f.0.0 f.1);
       from_no = λ i f. subst Filled (sym f.2) refl;
       on = λ i w v f s o. declaration_head (is_word key.Declaration) i w v f s;
       off = λ i w v f s o. block_head (is_word key.Declaration) i w v f s;
-    })
-    (made_right limit bound is_item (λ x. IsDeclared x.1) declaration_row item_parts item_of declaration item_rows
-    (declaration_right limit bound))
-    (made_right limit bound is_item Any block_parts item_parts (λ b. item.Block b) (block ex) (λ b. refl)
-    (block_right limit ex right bound))
+    }) (made_right (λ x. IsDeclared x.1) declaration_row item_rows (declaration_right limit bound))
+    (made_right Any block_parts (λ b. refl) (block_right limit ex right bound))

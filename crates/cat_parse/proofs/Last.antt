@@ -1,16 +1,8 @@
 -- The last part of a row.
-use Rattle.std.proofs.Common.{◌≡◌, ℕ, Bool, refl, sym, ap, subst}
-use Rattle.cat_lex.specs.declared.token.TokenKind.{TokenKind}
-use Rattle.cat_tree.specs.Phrase.{Parts, End, Word, Part}
-use Rattle.cat_tree.specs.Joined.{◌▸◌}
-use Rattle.cat_parse_expr.specs.Reader.{Reader, ◌⨟◌, pure}
-use Rattle.cat_parse.specs.Right.{IsRight}
-use Rattle.cat_parse.proofs.Choices.{reshaped, made_right}
-
-pub join_end : (ps : Parts) → ps ▸ End ≡ ps
-join_end End = refl
-join_end (Word m ps) = ap (Word m) (join_end ps)
-join_end (Part s e ps) = ap (Part s e) (join_end ps)
+use Rattle.std.proofs.Common.{◌≡◌, ℕ, Bool, ap}
+use Rattle.cat_parse_expr.proofs.Exported as over
+use Rattle.cat_parse.proofs.Common.{TokenKind, Parts, Reader, ◌⨟◌, pure, Before, IsLow, none_past, IsRightTo}
+use Rattle.cat_parse.proofs.Choices.{recast_rows}
 
 -- the value of a row is known once its last part is
 pub record Ends {A B : Type 0} (fits_part : A → Type 0) (fits : B → Type 0) (sub : B → A) (f : A → B) : Type 0 where
@@ -19,15 +11,15 @@ pub record Ends {A B : Type 0} (fits_part : A → Type 0) (fits : B → Type 0) 
   pub back : (x : A) → sub (f x) ≡ x
   pub only : (y : B) → fits y → y ≡ f (sub y)
 
-pub last_right : {A B : Type 0} (limit bound : ℕ) (out : TokenKind → Bool) (fits_part : A → Type 0) (fits : B → Type 0)
-    (sub : B → A) (f : A → B) (row : A → Parts) (r : Reader A) → Ends fits_part fits sub f
-    → IsRight limit bound out fits_part row r → IsRight limit bound out fits (λ y. row (sub y)) (r ⨟ λ x. pure (f x))
-last_right {A = A} limit bound out fits_part fits sub f row r e right =
-    reshaped limit bound out (λ y. (x : A) × fits_part x × (y ≡ f x)) fits (λ y. row (sub y)) (λ y. row (sub y))
-    (r ⨟ λ x. pure (f x))
-    (record {
-      to = λ y g. subst fits (sym g.2) (e.to g.0 g.1);
-      from = λ y g. (sub y, e.from y g, e.only y g);
-      rows = λ y g. refl;
-    })
-    (made_right limit bound out fits_part row (λ y. row (sub y)) f r (λ x. ap row (e.back x)) right)
+module _ {A B : Type 0} {limit bound : ℕ} {out : TokenKind → Bool} {fits_part : A → Type 0} {fits : B → Type 0} where
+  pub last_right : (sub : B → A) {f : A → B} (row : A → Parts) {r : Reader A}
+      → IsRightTo limit bound out fits_part row r → Ends fits_part fits sub f
+      → IsRightTo limit bound out fits (λ y. row (sub y)) (r ⨟ λ x. pure (f x))
+  last_right sub {f = f} row {r = r} h e =
+      record {
+        right =
+            over.recast bound (IsLow limit row) (IsLow limit (λ y. row (sub y))) (Before out) (Before out) none_past
+            fits_part fits row (λ y. row (sub y)) f r
+            (recast_rows limit out fits_part fits row (λ y. row (sub y)) f e.to
+            (λ y fit. (sub y, e.from y fit, e.only y fit)) (λ x fit. ap row (e.back x))) h.right;
+      }

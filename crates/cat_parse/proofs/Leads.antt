@@ -1,32 +1,21 @@
 -- The readers of what stands before a definition's expressions are right.
 use Rattle.std.proofs.Common.{◌≡◌, ℕ, Bool, true, false, List, [], ◌∷◌, ◌++◌, Option, Some, None, refl, sym, ap, subst}
 use Rattle.std.proofs.Common.{◌∙◌}
-use Rattle.cat_pos.specs.declared.pos.Pos.{Pos}
-use Rattle.cat_lex.specs.declared.token.Token.{Token}
-use Rattle.cat_lex.specs.declared.token.TokenKind.{TokenKind}
 use Rattle.cat_lex.specs.declared.token.TokenKind.TheVariants as kind
 use Rattle.cat_lex.specs.declared.words.Keyword.TheVariants as key
-use Rattle.cat_tree.specs.declared.name.Name.{Name}
-use Rattle.cat_tree.specs.declared.program.SurfaceLabel.{SurfaceLabel}
-use Rattle.cat_tree.specs.declared.program.Exception.{Exception}
 use Rattle.cat_tree.specs.declared.program.Exception.TheVariants as exception
-use Rattle.cat_tree.specs.Phrase.{Parts, End, Word, At, AreSpelled}
-use Rattle.cat_tree.specs.Uses.{label_parts, exception_parts, lead_parts, name_parts}
 use Rattle.cat_parse_expr.specs.declared.cue.Cue.TheVariants as cue
-use Rattle.cat_parse_expr.specs.Reader.{◌⨟◌, after, made_of, pure, heads}
-use Rattle.cat_parse.specs.Many.{optional}
-use Rattle.cat_parse.specs.Right.{Outside, IsRight}
-use Rattle.cat_parse_expr.specs.Cues.{lower_of, lower}
-use Rattle.cat_parse.specs.Declarations.{is_word, is_lower}
-use Rattle.cat_parse.specs.Leads.{label, exception_at, exception_of, an_exception, lead}
+use Rattle.cat_parse.proofs.Common.{Pos, Token, TokenKind, Name, SurfaceLabel, Exception, Parts, End, Word, At}
+use Rattle.cat_parse.proofs.Common.{AreSpelled, label_parts, exception_parts, lead_parts, name_parts, ◌⨟◌, after}
+use Rattle.cat_parse.proofs.Common.{made_of, pure, heads, optional, Outside, Before, IsLow, none_past, IsRightTo}
+use Rattle.cat_parse.proofs.Common.{lower_of, lower, is_word, is_lower, label, exception_at, exception_of, an_exception}
+use Rattle.cat_parse.proofs.Common.{lead, same_reader}
 use Rattle.cat_parse.proofs.Steps.{pure_right}
 use Rattle.cat_parse.proofs.Sequel.{part_right}
 use Rattle.cat_parse.proofs.Choices.{Opens, OptionFits, optional_right, reshaped, made_right}
 use Rattle.cat_parse.proofs.Leaves.{word_at_right, lower_right}
-use Rattle.cat_parse.proofs.Types.{same_reader}
 use Rattle.cat_parse.proofs.Last.{last_right}
 use Rattle.cat_parse.proofs.Lists.{AllFit}
-use Rattle.cat_parse.proofs.Listed.{no_longer}
 use Rattle.cat_parse.proofs.Declarations.{Any}
 
 pub any_option : {A : Type 0} (o : Option A) → OptionFits Any o
@@ -47,11 +36,16 @@ name_pure (t ∷ ts) = by (lower_of t)
     by None = refl
     by (Some w) = refl
 
-pub name_right : (limit bound : ℕ) (out : TokenKind → Bool) → IsRight limit bound out Any name_parts lower
+pub name_right : (limit bound : ℕ) (out : TokenKind → Bool) → IsRightTo limit bound out Any name_parts lower
 name_right limit bound out =
-    same_reader limit bound out Any name_parts (lower ⨟ λ w. pure w) lower name_pure
-    (lower_right limit bound out Any (λ w. w) (λ w. End) (λ w. pure w)
-    (λ x. pure_right limit bound out (λ w. Any w × (w ≡ x)) x (tt, refl) (λ w f. f.1)))
+    record {
+      right =
+          same_reader (IsLow limit name_parts) bound (Before out) none_past Any name_parts (lower ⨟ λ w. pure w) lower
+          name_pure (by_name.right);
+    }
+  where
+    by_name : IsRightTo limit bound out Any name_parts (lower ⨟ λ w. pure w)
+    by_name = lower_right (λ w. w) (λ x. pure_right (tt, refl) (λ w f. f.1))
 
 pub opens_at : {A : Type 0} (start : TokenKind → Bool) (k : A → TokenKind) (at : A → Pos) (fits : A → Type 0)
     (rest : A → Parts) → ((x : A) → start (k x) ≡ true) → Opens start fits (λ x. Word (At (k x) (at x)) (rest x))
@@ -63,41 +57,33 @@ opens_at start k at fits rest e =
 
 -- ---- labels and exceptions
 
-pub label_right : (limit bound : ℕ) (out : TokenKind → Bool) → IsRight limit bound out Any (λ l. label_parts (Some l))
+pub label_right : (limit bound : ℕ) (out : TokenKind → Bool) → IsRightTo limit bound out Any (λ l. label_parts (Some l))
     label
 label_right limit bound out =
-    word_at_right limit bound out (cue.Word key.Label) Any (λ l. l.pos) (λ l. name_parts l.name)
-    (λ p. lower ⨟ λ w. pure (record { pos = p; name = w })) λ p.
-    last_right limit bound out Any (λ l. Any l × (l.pos ≡ p)) (λ l. l.name)
-    (λ w. record { pos = p; name = w }) name_parts lower
-    (record {
+    word_at_right (cue.Word key.Label) λ p.
+    last_right (λ l. l.name) name_parts (name_right limit bound out) (record {
       to = λ w f. (tt, refl);
       from = λ l f. tt;
       back = λ w. refl;
       only = λ l f. ap (λ (q : Pos). record { pos = q; name = l.name }) f.1;
     })
-    (name_right limit bound out)
 
 abbrev inner_name : Option Name → Parts
 inner_name None = End
 inner_name (Some w) = name_parts w
 
 exception_at_right : (limit bound : ℕ) (out : TokenKind → Bool) → ((k : TokenKind) → out k ≡ true → is_lower k ≡ false)
-    → IsRight limit bound out Any (λ x. Word (At (kind.Word key.Exception) x.0) (inner_name x.1)) exception_at
+    → IsRightTo limit bound out Any (λ x. Word (At (kind.Word key.Exception) x.0) (inner_name x.1)) exception_at
 exception_at_right limit bound out off =
-    word_at_right limit bound out (cue.Word key.Exception) Any (λ x. x.0) (λ x. inner_name x.1)
-    (λ p. optional is_lower lower ⨟ λ w. pure (p, w)) λ p.
-    last_right limit bound out (OptionFits Any) (λ x. Any x × (x.0 ≡ p)) (λ x. x.1) (λ w. (p, w)) inner_name
-    (optional is_lower lower)
-    (record {
+    word_at_right (cue.Word key.Exception) λ p.
+    last_right (λ x. x.1) inner_name
+    (optional_right Any name_parts (opens_at is_lower (λ w. kind.Lower w.text) (λ w. w.pos) Any (λ w. End) (λ w. refl))
+    off refl (λ w. refl) (name_right limit bound out)) (record {
       to = λ w f. (tt, refl);
       from = λ x f. any_option x.1;
       back = λ w. refl;
       only = λ x f. ap (λ (q : Pos). (q, x.1)) f.1;
     })
-    (optional_right limit bound out is_lower Any name_parts inner_name lower
-    (opens_at is_lower (λ w. kind.Lower w.text) (λ w. w.pos) Any (λ w. End) (λ w. refl)) off refl (λ w. refl)
-    (name_right limit bound out))
 
 abbrev exception_option : Option (Pos × Option Name) → Parts
 exception_option None = End
@@ -115,15 +101,13 @@ exception_from (exception.Labelled p w) = (Some (p, Some w), tt, refl)
 
 pub exception_right : (limit bound : ℕ) (out : TokenKind → Bool) → ((k : TokenKind) → out k ≡ true → is_lower k ≡ false)
     → ((k : TokenKind) → out k ≡ true → is_word key.Exception k ≡ false)
-    → IsRight limit bound out Any exception_parts an_exception
+    → IsRightTo limit bound out Any exception_parts an_exception
 exception_right limit bound out off off2 =
-    reshaped limit bound out (λ e. (o : Option (Pos × Option Name)) × OptionFits Any o ×
-    (e ≡ exception_of o)) Any exception_parts exception_parts an_exception
+    reshaped (λ e. (o : Option (Pos × Option Name)) × OptionFits Any o ×
+    (e ≡ exception_of o)) exception_parts
     (record { to = λ e f. tt; from = λ e f. exception_from e; rows = λ e f. refl })
-    (made_right limit bound out (OptionFits Any) exception_option exception_parts exception_of
-    (optional (is_word key.Exception) exception_at) exception_rows
-    (optional_right limit bound out (is_word key.Exception) Any
-    (λ x. Word (At (kind.Word key.Exception) x.0) (inner_name x.1)) exception_option exception_at
+    (made_right (OptionFits Any) exception_option exception_rows
+    (optional_right Any (λ x. Word (At (kind.Word key.Exception) x.0) (inner_name x.1))
     (opens_at (is_word key.Exception) (λ x. kind.Word key.Exception) (λ x. x.0) Any (λ x. inner_name x.1)
     (λ x. refl)) off2 refl (λ x. refl) (exception_at_right limit bound out off)))
 
@@ -158,32 +142,19 @@ label_off out _ e = refl
 
 pub lead_right : (limit bound : ℕ) (out : TokenKind → Bool) → ((k : TokenKind) → out k ≡ true → is_lower k ≡ false)
     → ((k : TokenKind) → out k ≡ true → is_word key.Exception k ≡ false)
-    → ((k : TokenKind) → out k ≡ true → is_word key.Label k ≡ false) → IsRight limit bound out Any lead_parts lead
+    → ((k : TokenKind) → out k ≡ true → is_word key.Label k ≡ false) → IsRightTo limit bound out Any lead_parts lead
 lead_right limit bound out off off2 off3 =
-    part_right limit bound bound out (behind_label out) Any (OptionFits Any) (λ l. l.label) label_parts
-    (λ l. exception_parts l.exception) (optional (is_word key.Label) label)
-    (λ l. an_exception ⨟ λ e. pure (record { label = l; exception = e }))
-    (record {
-      fit = λ l f. any_option l.label;
-      behind = λ l w v f s o. exception_behind l.exception w v s out off3 o;
-      shrinks =
-          no_longer limit bound (behind_label out) (OptionFits Any) label_parts (optional (is_word key.Label) label)
-          labels;
-    })
-    labels
-    (λ l f. last_right limit bound out Any (λ y. Any y × (y.label ≡ l)) (λ y. y.exception)
-    (λ e. record { label = l; exception = e }) exception_parts an_exception
-    (record {
+    part_right (λ l. l.label) label_parts labels (λ l f. any_option l.label)
+    (λ l w v f s o. exception_behind l.exception w v s out off3 o)
+    (λ l f. last_right (λ y. y.exception) exception_parts (exception_right limit bound out off off2) (record {
       to = λ e f. (tt, refl);
       from = λ y f. tt;
       back = λ e. refl;
       only = λ y f. ap (λ (o : Option SurfaceLabel). record { label = o; exception = y.exception }) f.1;
-    })
-    (exception_right limit bound out off off2))
+    }))
   where
-    labels : IsRight limit bound (behind_label out) (OptionFits Any) label_parts (optional (is_word key.Label) label)
+    labels : IsRightTo limit bound (behind_label out) (OptionFits Any) label_parts (optional (is_word key.Label) label)
     labels =
-        optional_right limit bound (behind_label out) (is_word key.Label) Any (λ l. label_parts (Some l)) label_parts
-        label
+        optional_right Any (λ l. label_parts (Some l))
         (opens_at (is_word key.Label) (λ l. kind.Word key.Label) (λ l. l.pos) Any (λ l. name_parts l.name) (λ l. refl))
         (label_off out) refl (λ l. refl) (label_right limit bound (behind_label out))

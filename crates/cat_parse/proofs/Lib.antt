@@ -3,7 +3,6 @@ pub mod Choices
 pub mod Declarations
 pub mod Ending
 pub mod Exact
-pub mod Exported
 pub mod Guards
 pub mod ItemRows
 pub mod Last
@@ -11,7 +10,6 @@ pub mod Leads
 pub mod Leaves
 pub mod Listed
 pub mod Lists
-pub mod Loops
 pub mod Places
 pub mod Reading
 pub mod Repeats
@@ -19,8 +17,8 @@ pub mod Sequel
 pub mod Shorter
 pub mod Steps
 pub mod Targets
-pub mod Token
 pub mod Turns
 pub mod Types
 pub mod Variables
 pub mod Whole
+pub mod Common

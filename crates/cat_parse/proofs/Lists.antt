@@ -1,15 +1,10 @@
 -- One part and another, and as many as there are.
 use Rattle.std.proofs.Common.{◌≡◌, ℕ, zero, suc, ◌≤◌, Bool, true, false, List, [], ◌∷◌, ◌++◌, length, refl, sym, ap}
 use Rattle.std.proofs.Common.{subst, ◌∙◌, arith, inl, inr, ◌⊎◌}
-use Rattle.cat_lex.specs.declared.token.Token.{Token}
-use Rattle.cat_lex.specs.declared.token.TokenKind.{TokenKind}
-use Rattle.cat_tree.specs.Phrase.{Parts, AreSpelled}
-use Rattle.cat_tree.specs.Joined.{◌▸◌, all}
-use Rattle.cat_parse_expr.specs.Reader.{Reader, Reads, ◌⨟◌, pure, heads}
-use Rattle.cat_parse.specs.Many.{both, at_most, many}
-use Rattle.cat_parse.specs.Right.{Agree, Outside, IsRight}
-use Rattle.cat_parse.proofs.Steps.{no_front, agree_same, spelled_split}
-use Rattle.cat_parse.proofs.Sequel.{part_right}
+use Rattle.cat_parse.proofs.Common.{Token, TokenKind, Parts, AreSpelled, ◌▸◌, all, Reader, Reads, ◌⨟◌, pure, heads}
+use Rattle.cat_parse.proofs.Common.{both, at_most, many, Agree, no_front, agree_same, spelled_split, next_seen, Outside}
+use Rattle.cat_parse.proofs.Common.{none_past, IsRightTo, tallest}
+use Rattle.cat_parse.proofs.Sequel.{part_within}
 use Rattle.cat_parse.proofs.Choices.{reshaped, made_right, Decides, choice_right, none_right, Opens, outside_off}
 use Rattle.cat_parse.proofs.Repeats.{shrinks as less}
 
@@ -26,23 +21,18 @@ pub both_right : {A B : Type 0}
     (row2 : B → Parts) (r : Reader A) (s : Reader B)
     → ((y : B) (w v : List Token) → fits2 y → AreSpelled (row2 y) w → Outside out v → Outside next (w ++ v))
     → ((ts : List Token) (x : A) (left : List Token) → length ts ≤ bound → r ts ≡ Reads x left → length left ≤ inner)
-    → IsRight limit bound next fits row r → IsRight limit inner out fits2 row2 s
-    → IsRight limit bound out (BothFit fits fits2) (both_rows row row2) (both r s)
+    → IsRightTo limit bound next fits row r → IsRightTo limit inner out fits2 row2 s
+    → IsRightTo limit bound out (BothFit fits fits2) (both_rows row row2) (both r s)
 both_right {A = A} {B = B} limit bound inner out next fits fits2 row row2 r s behind shrinks first second =
-    part_right limit bound inner out next (BothFit fits fits2) fits (λ p. p.0) row (λ p. row2 p.1) r
-    (λ x. s ⨟ λ y. pure (x, y))
-    (record { fit = λ p f. f.0; behind = λ p w v f. behind p.1 w v f.1; shrinks = shrinks })
-    first
-    (λ x fit. reshaped limit inner out (λ p. (y : B) × fits2 y × (p ≡ (x, y))) (λ p. BothFit fits fits2 p × (p.0 ≡ x))
-    (λ p. row2 p.1) (λ p. row2 p.1) (s ⨟ λ y. pure (x, y))
-    (record {
+    part_within limit bound inner out next (BothFit fits fits2) fits (λ p. p.0) row (λ p. row2 p.1) r
+    (λ x. s ⨟ λ y. pure (x, y)) shrinks first (λ p f. f.0) (λ p w v f. behind p.1 w v f.1)
+    (λ x fit. reshaped (λ p. (y : B) × fits2 y × (p ≡ (x, y))) (λ p. row2 p.1) (record {
       to =
           λ p f. let e0 : p.0 ≡ x = ap (λ (q : A × B). q.0) f.2 in
           ((subst fits (sym e0) fit, subst fits2 (sym (ap (λ (q : A × B). q.1) f.2)) f.1), e0);
       from = λ p f. (p.1, f.0.1, ap (λ (z : A). (z, p.1)) f.1);
       rows = λ p f. refl;
-    })
-    (made_right limit inner out fits2 row2 (λ p. row2 p.1) (λ y. (x, y)) s (λ y. refl) second))
+    }) (made_right fits2 row2 (λ y. refl) second))
 
 -- ---- as many as there are
 
@@ -54,7 +44,7 @@ module _ {A : Type 0} (limit : ℕ) (out next start : TokenKind → Bool) (fits 
     (r : Reader A)
     (opens : Opens start fits row) (off : (k : TokenKind) → out k ≡ true → start k ≡ false)
     (on : (k : TokenKind) → start k ≡ true → next k ≡ true) (wide : (k : TokenKind) → out k ≡ true → next k ≡ true)
-    (right : (bound : ℕ) → IsRight limit bound next fits row r) where
+    (right : (bound : ℕ) → IsRightTo limit bound next fits row r) where
   no_head : (w : List Token) → heads start w ≡ true → w ≡ [] → ⊥
   no_head [] h e = absurd cc
   no_head (p ∷ w) h e = absurd (omega (arith, ap length e))
@@ -70,19 +60,26 @@ module _ {A : Type 0} (limit : ℕ) (out next start : TokenKind → Bool) (fits 
       heads_assoc [] b c = refl
       heads_assoc (q ∷ a) b c = refl
 
-  zero_right : IsRight limit 0 out (AllFit fits) (all row) (pure [])
+  zero_right : IsRightTo limit 0 out (AllFit fits) (all row) (pure [])
   zero_right = record {
-    alive = record { value = []; more = []; is = record { fit = tt; levels = tt; spelled = refl } };
-    taken =
-        λ ts le. record {
-          front = [];
-          text = refl;
-          took =
-              (record { fit = tt; levels = tt; spelled = refl }, omega arith);
-        };
-    says = λ ts front y w le text a. by front w a.behind ts le text y a.is.fit a.is.spelled a.others a.agree a.text;
+    right = record {
+      alive = record { value = []; more = []; is = record { fit = tt; levels = tt; spelled = refl } };
+      taken =
+          λ ts le. record {
+            front = [];
+            text = refl;
+            took =
+                (record { fit = tt; levels = tt; spelled = refl }, none_low);
+          };
+      says =
+          λ ts front y w le text a. by front w a.behind ts le text y a.is.fit a.is.spelled a.others
+          (next_seen {B = List A} none_past (Reads [] ts) a.others a.seen) a.text;
+    };
   }
     where
+      none_low : tallest (all row []) ≤ limit
+      none_low = omega arith
+
       by : (front w behind ts : List Token) → length ts ≤ 0 → ts ≡ front ++ ts → (y : List A) → AllFit fits y
           → AreSpelled (all row y) w → (others : List Token) → Agree ts others → w ++ behind ≡ front ++ others
           → (y ≡ []) × (w ≡ front)
@@ -126,21 +123,19 @@ module _ {A : Type 0} (limit : ℕ) (out next start : TokenKind → Bool) (fits 
       by [] h = tt
       by (p ∷ u) h = on p.kind h
 
-  pub at_most_right : (n : ℕ) → IsRight limit n out (AllFit fits) (all row) (at_most n start r)
+  pub at_most_right : (n : ℕ) → IsRightTo limit n out (AllFit fits) (all row) (at_most n start r)
   at_most_right zero = zero_right
   at_most_right (suc n) =
-      choice_right limit (suc n) out start (AllFit fits)
-      (λ ys. (p : A × List A) × BothFit fits (AllFit fits) p × (ys ≡ p.0 ∷ p.1)) (λ ys. ys ≡ []) (all row)
-      (both r (at_most n start r) ⨟ λ p. pure (p.0 ∷ p.1)) (pure []) decides
-      (made_right limit (suc n) out (BothFit fits (AllFit fits)) (both_rows row (all row)) (all row) (λ p. p.0 ∷ p.1)
-      (both r (at_most n start r)) (λ p. refl)
+      choice_right (λ ys. (p : A × List A) × BothFit fits (AllFit fits) p × (ys ≡ p.0 ∷ p.1)) (λ ys. ys ≡ []) decides
+      (made_right (BothFit fits (AllFit fits)) (both_rows row (all row)) (λ p. refl)
       (both_right limit (suc n) n out next fits (AllFit fits) row (all row) r (at_most n start r) all_behind (shrinks n)
-      (right (suc n)) (at_most_right n)))
-      (none_right limit (suc n) out (all row) [] refl)
+      (right (suc n)) (at_most_right n))) (none_right refl)
 
-  pub many_right : (bound : ℕ) → IsRight limit bound out (AllFit fits) (all row) (many start r)
+  pub many_right : (bound : ℕ) → IsRightTo limit bound out (AllFit fits) (all row) (many start r)
   many_right bound = record {
-    alive = zero_right.alive;
-    taken = λ ts le. (at_most_right (length ts)).taken ts (omega arith);
-    says = λ ts front y w le text a. (at_most_right (length ts)).says ts front y w (omega arith) text a;
+    right = record {
+      alive = zero_right.right.alive;
+      taken = λ ts le. (at_most_right (length ts)).right.taken ts (omega arith);
+      says = λ ts front y w le text a. (at_most_right (length ts)).right.says ts front y w (omega arith) text a;
+    };
   }

@@ -2,8 +2,7 @@
 use Rattle.std.proofs.Common.{◌≡◌, ℕ, zero, suc, ◌<◌, ◌≤◌, List, [], ◌∷◌, ◌++◌, length, take, drop, refl, sym, ap}
 use Rattle.std.proofs.Common.{subst, ◌∙◌, append_assoc, arith}
 use Rattle.std.proofs.lemmas.List.{take-append-drop, append_cancel_right, take-take}
-use Rattle.cat_lex.specs.declared.token.Token.{Token}
-use Rattle.cat_tree.specs.Programs.{SpellsProgram, BeginsProgram}
+use Rattle.cat_parse.proofs.Common.{Token, SpellsProgram, BeginsProgram}
 
 -- the tokens before an index, and those up to and with it
 pub front_is : (tokens front : List Token) (at : ℕ) → tokens ≡ front ++ drop at tokens → front ≡ take at tokens

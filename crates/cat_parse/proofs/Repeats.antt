@@ -1,14 +1,9 @@
 -- What one more part makes of the rest of a repetition.
-use Rattle.std.proofs.Common.{Option, ◌≡◌, ◌≤◌, ◌<◌, ℕ, zero, suc, Bool, true, false, if◌then◌else◌, List, [], ◌∷◌, ◌++◌}
-use Rattle.std.proofs.Common.{Option, length}
-use Rattle.std.proofs.Common.{Option, refl, sym, ap, subst, ◌∙◌, append_assoc, arith}
+use Rattle.std.proofs.Common.{Option, ◌≡◌, ◌≤◌, ◌<◌, ℕ, zero, suc, Bool, true, false, if◌then◌else◌, List, [], ◌∷◌}
+use Rattle.std.proofs.Common.{◌++◌, length, refl, sym, ap, subst, ◌∙◌, append_assoc, arith}
 use Rattle.std.proofs.lemmas.List.{append-nil, length-append}
-use Rattle.cat_lex.specs.declared.token.Token.{Token}
-use Rattle.cat_lex.specs.declared.token.TokenKind.{TokenKind}
-use Rattle.cat_tree.specs.Phrase.{Parts}
-use Rattle.cat_parse_expr.specs.Reader.{Parsed, Reader, Fails, Reads, after, pure, heads}
-use Rattle.cat_parse.specs.Many.{both, at_most, many}
-use Rattle.cat_parse.specs.Right.{Taken, IsRight}
+use Rattle.cat_parse.proofs.Common.{Token, TokenKind, Parts, Parsed, Reader, Fails, Reads, after, pure, heads, both}
+use Rattle.cat_parse.proofs.Common.{at_most, many, Taken, IsLow, IsRightTo}
 use Rattle.cat_parse.proofs.Choices.{Opens}
 
 -- a part takes a token at least
@@ -17,9 +12,10 @@ Shrinks {A = A} r = (ts : List Token) (x : A) (left : List Token) → r ts ≡ R
 
 pub shrinks : {A : Type 0} (limit : ℕ) (out start : TokenKind → Bool) (fits : A → Type 0) (row : A → Parts)
     (r : Reader A)
-    → Opens start fits row → ((bound : ℕ) → IsRight limit bound out fits row r) → Shrinks r
+    → Opens start fits row → ((bound : ℕ) → IsRightTo limit bound out fits row r) → Shrinks r
 shrinks {A = A} limit out start fits row r opens right ts x left e =
-    let t = subst (λ (o : Parsed A). Taken limit fits row o ts) e ((right (length ts)).taken ts (omega arith)) in
+    let t = subst (λ (o : Parsed A). Taken (IsLow limit row) fits row o ts) e
+    ((right (length ts)).right.taken ts (omega arith)) in
     by t.front t.text (opens.at x t.front [] t.took.0.fit t.took.0.spelled)
   where
     by : (front : List Token) → ts ≡ front ++ left → heads start (front ++ []) ≡ true → length left < length ts
@@ -110,7 +106,8 @@ module _ {A : Type 0} (start : TokenKind → Bool) (r : Reader A) where
           else pure [] ts) (λ more. pure (made ++ more))) h ∙ stop
 
   -- a part is refused
-  pub breaks : (whole : Parsed (List A)) (made : List A) (ts left : List Token) (deep : Bool) (kept : Option (List Token)) → heads start ts ≡ true
+  pub breaks : (whole : Parsed (List A)) (made : List A) (ts left : List Token) (deep : Bool)
+      (kept : Option (List Token)) → heads start ts ≡ true
       → r ts ≡ Fails left deep kept → Going start r whole made ts → whole ≡ Fails left deep kept
   breaks whole made ts left deep kept h e g = by g.fuel g.enough g.same
     where

@@ -1,23 +1,14 @@
 -- Each part of a repetition takes a token at least.
 use Rattle.std.proofs.Common.{refl}
-use Rattle.cat_lex.specs.declared.token.TokenKind.TheVariants as kind
 use Rattle.cat_lex.specs.declared.words.Keyword.TheVariants as key
 use Rattle.cat_lex.specs.declared.symbol.Symbol.TheVariants as symbol
-use Rattle.cat_tree.specs.declared.expression.Node.{Node}
-use Rattle.cat_tree.specs.Phrase.{Word, At}
-use Rattle.cat_tree.specs.Joined.{behind_comma}
-use Rattle.cat_tree.specs.Declarations.{typed_parts, field_parts, content_parts, case_parts, variable_parts}
-use Rattle.cat_tree.specs.Uses.{name_parts, use_parts}
-use Rattle.cat_tree.specs.Programs.{item_parts}
 use Rattle.cat_parse_expr.specs.declared.cue.Cue.TheVariants as cue
-use Rattle.cat_parse_expr.specs.Reader.{Reader}
-use Rattle.cat_parse_expr.specs.Cues.{lower}
-use Rattle.cat_parse.specs.Declarations.{is_word, typed_name, field, a_case, a_variable, is_comma, comma}
-use Rattle.cat_parse.specs.Uses.{is_use, is_item, behind_use, a_use}
-use Rattle.cat_parse.specs.Programs.{is_variable, is_dashes, an_item}
-use Rattle.cat_parse.specs.Exactly.{ReadsExpressions}
+use Rattle.cat_parse.proofs.Common.{Node, behind_comma, typed_parts, field_parts, case_parts, variable_parts}
+use Rattle.cat_parse.proofs.Common.{name_parts, use_parts, item_parts, Reader, lower, cue_self, is_word, typed_name}
+use Rattle.cat_parse.proofs.Common.{field, a_case, a_variable, is_comma, comma, is_use, is_item, behind_use, a_use}
+use Rattle.cat_parse.proofs.Common.{is_variable, is_dashes, an_item, ReadsExpressions}
 use Rattle.cat_parse.proofs.Choices.{opens_word}
-use Rattle.cat_parse.proofs.Leaves.{cue_self, word_right}
+use Rattle.cat_parse.proofs.Leaves.{word_right}
 use Rattle.cat_parse.proofs.Declarations.{Any, typed_right, field_right, case_right}
 use Rattle.cat_parse.proofs.Leads.{name_right}
 use Rattle.cat_parse.proofs.Listed.{any_word}
@@ -29,29 +20,25 @@ use Rattle.cat_parse.proofs.Repeats.{Shrinks, shrinks}
 pub field_shrinks : Shrinks field
 field_shrinks =
     shrinks 256 any_word (is_word key.Data) Any field_parts field
-    (opens_word (is_word key.Data) (kind.Word key.Data) Any typed_parts refl) (λ b. field_right 256 b any_word)
+    (opens_word refl) (λ b. field_right 256 b any_word)
 
 pub case_shrinks : Shrinks a_case
 case_shrinks =
     shrinks 256 behind_case is_dashes Any case_parts a_case
-    (opens_word is_dashes (kind.Symbol symbol.MinusMinus) Any
-    (λ c. Word (At (kind.Upper c.name.text) c.name.pos) (content_parts c.content))
-    (cue_self (cue.Sign symbol.MinusMinus)))
+    (opens_word (cue_self (cue.Sign symbol.MinusMinus)))
     (λ b. case_right 256 b behind_case case_no_content)
 
 pub param_shrinks : Shrinks (comma typed_name)
 param_shrinks =
     shrinks 256 any_word is_comma Any (behind_comma typed_parts) (comma typed_name)
-    (opens_word is_comma (kind.Symbol symbol.Comma) Any typed_parts (cue_self (cue.Sign symbol.Comma)))
-    (λ b. word_right 256 b any_word (cue.Sign symbol.Comma) Any typed_parts (λ p. typed_name)
-    (λ p. typed_right 256 b any_word))
+    (opens_word (cue_self (cue.Sign symbol.Comma)))
+    (λ b. word_right (cue.Sign symbol.Comma) (λ p. typed_right 256 b any_word))
 
 pub name_shrinks : Shrinks (comma lower)
 name_shrinks =
     shrinks 256 any_word is_comma Any (behind_comma name_parts) (comma lower)
-    (opens_word is_comma (kind.Symbol symbol.Comma) Any name_parts (cue_self (cue.Sign symbol.Comma)))
-    (λ b. word_right 256 b any_word (cue.Sign symbol.Comma) Any name_parts (λ p. lower)
-    (λ p. name_right 256 b any_word))
+    (opens_word (cue_self (cue.Sign symbol.Comma)))
+    (λ b. word_right (cue.Sign symbol.Comma) (λ p. name_right 256 b any_word))
 
 pub variable_shrinks : Shrinks a_variable
 variable_shrinks = shrinks 256 behind_variable is_variable Any variable_parts a_variable variable_opens

@@ -1,27 +1,18 @@
 -- The reader of targets is right.
 use Rattle.std.proofs.Common.{◌≡◌, ℕ, Bool, true, false, List, [], ◌∷◌, ◌++◌, Option, refl, sym, ap, subst, ◌∙◌}
-use Rattle.cat_lex.specs.declared.token.Token.{Token}
-use Rattle.cat_lex.specs.declared.token.TokenKind.{TokenKind}
 use Rattle.cat_lex.specs.declared.token.TokenKind.TheVariants as kind
 use Rattle.cat_lex.specs.declared.words.Keyword.TheVariants as key
 use Rattle.cat_lex.specs.declared.symbol.Symbol.TheVariants as symbol
-use Rattle.cat_tree.specs.declared.name.Name.{Name}
-use Rattle.cat_tree.specs.Phrase.{Word, Anywhere, AreSpelled}
-use Rattle.cat_tree.specs.Joined.{◌▸◌}
-use Rattle.cat_tree.specs.Uses.{name_parts, inner_parts, names_parts, target_parts}
 use Rattle.cat_parse_expr.specs.declared.cue.Cue.TheVariants as cue
-use Rattle.cat_parse_expr.specs.Reader.{◌⨟◌, pure}
-use Rattle.cat_parse.specs.Many.{optional}
-use Rattle.cat_parse.specs.Right.{Outside, IsRight}
-use Rattle.cat_parse_expr.specs.Cues.{lower}
-use Rattle.cat_parse.specs.Declarations.{is_comma, is_word}
-use Rattle.cat_parse.specs.Leads.{is_dot, inner, names, target}
+use Rattle.cat_parse.proofs.Common.{Token, TokenKind, Name, Word, Anywhere, AreSpelled, name_parts, inner_parts}
+use Rattle.cat_parse.proofs.Common.{names_parts, target_parts, optional, Outside, IsRightTo, lower, is_comma, is_word}
+use Rattle.cat_parse.proofs.Common.{is_dot, inner, names, target}
 use Rattle.cat_parse.proofs.Sequel.{part_right}
 use Rattle.cat_parse.proofs.Choices.{OptionFits, optional_right, opens_word}
 use Rattle.cat_parse.proofs.Leaves.{word_right, lower_right}
 use Rattle.cat_parse.proofs.Last.{last_right}
 use Rattle.cat_parse.proofs.Lists.{AllFit}
-use Rattle.cat_parse.proofs.Listed.{any_word, no_longer, led_right}
+use Rattle.cat_parse.proofs.Listed.{any_word, led_right}
 use Rattle.cat_parse.proofs.Declarations.{Any}
 use Rattle.cat_parse.proofs.Leads.{any_option, any_list, name_right}
 
@@ -52,7 +43,7 @@ target_no_dot : (k : TokenKind) → behind_target k ≡ true → no_dot k ≡ tr
 target_no_dot (kind.Symbol symbol.Dot) e = let t : false ≡ true = e in absurd cc
 target_no_dot _ e = refl
 
-names_right : (limit bound : ℕ) → IsRight limit bound behind_target (AllFit Any) names_parts names
+names_right : (limit bound : ℕ) → IsRightTo limit bound behind_target (AllFit Any) names_parts names
 names_right limit bound =
     led_right limit behind_target Any name_parts lower comma_off (λ b. name_right limit b any_word)
     (cue.Word key.Of) names_parts refl (λ x xs. refl) of_off bound
@@ -66,32 +57,17 @@ names_behind [] w v s o = subst (λ (u : List Token). Outside no_dot (u ++ v)) (
     by (p ∷ v) o = target_no_dot p.kind o
 names_behind (n ∷ ns) w v s o = subst (λ (u : List Token). Outside no_dot (u ++ v)) (sym s.2) (ap no_dot s.3)
 
-inner_right : (limit bound : ℕ) → IsRight limit bound no_dot (OptionFits Any) inner_parts (optional is_dot inner)
+inner_right : (limit bound : ℕ) → IsRightTo limit bound no_dot (OptionFits Any) inner_parts (optional is_dot inner)
 inner_right limit bound =
-    optional_right limit bound no_dot is_dot Any
-    (λ w. Word (Anywhere (kind.Symbol symbol.Dot)) (name_parts w)) inner_parts inner
-    (opens_word is_dot (kind.Symbol symbol.Dot) Any name_parts refl) dot_off refl (λ w. refl)
-    (word_right limit bound no_dot (cue.Sign symbol.Dot) Any name_parts (λ p. lower)
-    (λ p. name_right limit bound no_dot))
+    optional_right Any (λ w. Word (Anywhere (kind.Symbol symbol.Dot)) (name_parts w)) (opens_word refl) dot_off refl
+    (λ w. refl) (word_right (cue.Sign symbol.Dot) (λ p. name_right limit bound no_dot))
 
-pub target_right : (limit bound : ℕ) → IsRight limit bound behind_target Any target_parts target
+pub target_right : (limit bound : ℕ) → IsRightTo limit bound behind_target Any target_parts target
 target_right limit bound =
-    lower_right limit bound behind_target Any (λ t. t.name) (λ t. inner_parts t.inner ▸ names_parts t.params)
-    (λ w. optional is_dot inner ⨟ λ i. names ⨟ λ ps. pure (record { name = w; inner = i; params = ps })) λ w.
-    part_right limit bound bound behind_target no_dot (λ t. Any t × (t.name ≡ w)) (OptionFits Any) (λ t. t.inner)
-    inner_parts
-    (λ t. names_parts t.params) (optional is_dot inner)
-    (λ i. names ⨟ λ ps. pure (record { name = w; inner = i; params = ps }))
-    (record {
-      fit = λ t f. any_option t.inner;
-      behind = λ t w v f s o. names_behind t.params w v s o;
-      shrinks = no_longer limit bound no_dot (OptionFits Any) inner_parts (optional is_dot inner)
-          (inner_right limit bound);
-    })
-    (inner_right limit bound) λ i g.
-    last_right limit bound behind_target (AllFit Any) (λ t. (Any t × (t.name ≡ w)) × (t.inner ≡ i)) (λ t. t.params)
-    (λ ps. record { name = w; inner = i; params = ps }) names_parts names
-    (record {
+    lower_right (λ t. t.name) λ w.
+    part_right (λ t. t.inner) inner_parts (inner_right limit bound) (λ t f. any_option t.inner)
+    (λ t w v f s o. names_behind t.params w v s o) λ i g.
+    last_right (λ t. t.params) names_parts (names_right limit bound) (record {
       to = λ ps f. ((tt, refl), refl);
       from = λ t f. any_list t.params;
       back = λ ps. refl;
@@ -99,4 +75,3 @@ target_right limit bound =
           λ t f. ap (λ (n : Name). record { name = n; inner = t.inner; params = t.params }) f.0.1
           ∙ ap (λ (o : Option Name). record { name = w; inner = o; params = t.params }) f.1;
     })
-    (names_right limit bound)

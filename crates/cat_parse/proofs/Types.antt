@@ -1,237 +1,34 @@
 -- The reader of types is right.
-use Rattle.std.proofs.Common.{◌≡◌, ℕ, zero, suc, ◌≤◌, ◌-◌, Bool, true, false, if◌then◌else◌, List, [], ◌∷◌, ◌++◌}
-use Rattle.std.proofs.Common.{length, Option, Some, None, refl, sym, ap, subst, ◌∙◌, arith, inl, inr, ◌⊎◌}
-use Rattle.std.proofs.lemmas.Bool.{cases_lt}
-use Rattle.std.proofs.lemmas.List.{length-append}
-use Rattle.cat_pos.specs.declared.pos.Pos.{Pos}
-use Rattle.cat_lex.specs.declared.token.Token.{Token}
-use Rattle.cat_lex.specs.declared.token.TokenKind.{TokenKind}
-use Rattle.cat_lex.specs.declared.token.TokenKind.TheVariants as kind
-use Rattle.cat_lex.specs.declared.words.Keyword.TheVariants as key
-use Rattle.cat_lex.specs.declared.words.DoubleKeyword.TheVariants as pair
-use Rattle.cat_tree.specs.declared.name.Base.{Base}
-use Rattle.cat_tree.specs.declared.name.Base.TheVariants as base
+use Rattle.std.proofs.Common.{◌≡◌, ℕ, zero, suc, ◌≤◌, Bool, refl, sym, subst, arith}
 use Rattle.cat_tree.specs.declared.name.Type as types
-use Rattle.cat_tree.specs.Phrase.{Parts, End, Word, At, Anywhere, IsAt, AreSpelled}
-use Rattle.cat_tree.specs.Literals.{base_kind, lists_of, type_parts}
-use Rattle.cat_parse_expr.specs.declared.cue.Cue.TheVariants as cue
-use Rattle.cat_parse_expr.specs.Reader.{Parsed, Reader, left_of, ◌⨟◌, pure, one, made_of, after, by_word, heads}
-use Rattle.cat_parse.specs.Right.{Begun, Taken, Says, Alike, IsRight}
-use Rattle.cat_parse_expr.specs.Cues.{kind_of, base_of, «word»}
-use Rattle.cat_parse_expr.specs.Types.{placed, typed, base_at, is_list_of, type_after, a_type}
-use Rattle.cat_parse.proofs.Steps.{pure_right, no_front, agree_same}
-use Rattle.cat_parse.proofs.Token.{Terminals, token_right}
-use Rattle.cat_parse.proofs.Choices.{reshaped, Decides, choice_right}
-use Rattle.cat_parse.proofs.Leaves.{cue_self, word_behind, lowered, some_one, not_both, token_is, anywhere}
+use Rattle.cat_parse_expr.proofs.Exported as over
+use Rattle.cat_parse.proofs.Common.{TokenKind, Parts, End, Word, At, tallest, base_kind, lists_of, type_parts, a_type}
+use Rattle.cat_parse.proofs.Common.{Before, IsLow, none_past, IsRightTo}
 
--- ---- the word of a base
+-- a type has no expression in it
+lists_low : (n : ℕ) (ps : Parts) → tallest (lists_of n ps) ≡ tallest ps
+lists_low zero ps = refl
+lists_low (suc n) ps = lists_low n ps
 
-base_found : (k : TokenKind) (b : Base) → base_of k ≡ Some b → k ≡ base_kind b
-base_found (kind.Upper u) b e = ap base_kind (some_one (base.Named u) b e)
-base_found (kind.Word key.Boolean) b e = ap base_kind (some_one base.Boolean b e)
-base_found (kind.Word key.Integer) b e = ap base_kind (some_one base.Integer b e)
-base_found (kind.Word key.Decimal) b e = ap base_kind (some_one base.Decimal b e)
-base_found (kind.Word key.Money) b e = ap base_kind (some_one base.Money b e)
-base_found (kind.Word key.Date) b e = ap base_kind (some_one base.Date b e)
-base_found (kind.Word key.Duration) b e = ap base_kind (some_one base.Duration b e)
-base_found _ b e = absurd cc
-
-base_self : (b : Base) → base_of (base_kind b) ≡ Some b
-base_self base.Boolean = refl
-base_self base.Integer = refl
-base_self base.Decimal = refl
-base_self base.Money = refl
-base_self base.Date = refl
-base_self base.Duration = refl
-base_self (base.Named u) = refl
-
-base_not_list : (b : Base) → is_list_of (base_kind b) ≡ false
-base_not_list base.Boolean = refl
-base_not_list base.Integer = refl
-base_not_list base.Decimal = refl
-base_not_list base.Money = refl
-base_not_list base.Date = refl
-base_not_list base.Duration = refl
-base_not_list (base.Named u) = refl
-
-placed_found : (o : Option Base) (p : Pos) (x : Base × Pos) → placed o p ≡ Some x → (o ≡ Some x.0) × (p ≡ x.1)
-placed_found None p x e = absurd cc
-placed_found (Some b) p x e =
-    let same = some_one (b, p) x e in
-    (ap (λ (t : Base × Pos). Some t.0) same, ap (λ (t : Base × Pos). t.1) same)
-
-base_marks : (n : ℕ)
-    → Terminals (λ (y : types.Type). y.lists ≡ n) (λ y. At (base_kind y.base) y.pos) base_at
-    (λ x y. (y.base, y.pos) ≡ x)
-base_marks n = record {
-  gives = λ p x y e f i. some_one (y.base, y.pos) x (sym (made p y i) ∙ e);
-  is =
-      λ p x y e f i. let w = placed_found (base_of p.kind) p.pos x e in
-      token_is p (base_kind y.base) y.pos (base_found p.kind x.0 w.0 ∙ ap (λ (t : Base × Pos). base_kind t.0) (sym i))
-      (w.1 ∙ ap (λ (t : Base × Pos). t.1) (sym i));
-  none = λ p y e f i. not_both (base_at p) (y.base, y.pos) e (made p y i);
-  token = record { kind = kind.Word key.Boolean; pos = anywhere };
-  made = (base.Boolean, anywhere);
-  sample = refl;
-}
-  where
-    made : (p : Token) (y : types.Type) → IsAt (At (base_kind y.base) y.pos) p → base_at p ≡ Some (y.base, y.pos)
-    made p y i = ap base_at i ∙ ap (λ (o : Option Base). placed o y.pos) (base_self y.base)
-
--- ---- with the `list of` before it
-
-abbrev from : ℕ → types.Type → Type 0
-from n y = n ≤ y.lists
-
-abbrev row : ℕ → types.Type → Parts
-row n y = lists_of (y.lists - n) (Word (At (base_kind y.base) y.pos) End)
-
-pub same_reader : {B : Type 0} (limit bound : ℕ) (out : TokenKind → Bool) (fits : B → Type 0) (row : B → Parts)
-    (r s : Reader B) → ((ts : List Token) → r ts ≡ s ts) → IsRight limit bound out fits row r → IsRight limit bound out
-    fits row s
-same_reader {B = B} limit bound out fits row r s e h = record {
-  alive = h.alive;
-  taken = λ ts le. subst (λ (o : Parsed B). Taken limit fits row o ts) (e ts) (h.taken ts le);
-  says =
-      λ ts. subst (λ (o : Parsed B). (front : List Token) (y : B) (w : List Token) → length ts ≤ bound → ts ≡ front
-      ++ left_of o → Alike out fits row (left_of o) front y w → Says limit row o y w front) (e ts) (h.says ts);
-}
-
-pub as_choice : (n : ℕ) (ts : List Token)
-    → by_word is_list_of («word» (cue.Pair pair.ListOf) ⨟ λ p. type_after (suc n))
-    (one base_at ⨟ λ b. pure (typed n b)) ts ≡ type_after n ts
-as_choice n [] = refl
-as_choice n (t ∷ ts) = by (is_list_of t.kind)
-  where
-    by : (c : Bool) → (if c then after (made_of (if c then Some t.pos else None) (t ∷ ts) ts) (λ p. type_after (suc n))
-        else after (made_of (base_at t) (t ∷ ts) ts) (λ b. pure (typed n b)))
-        ≡ (if c then type_after (suc n) ts else after (made_of (base_at t) (t ∷ ts) ts) (λ b. pure (typed n b)))
-    by true = refl
-    by false = refl
-
-abbrev some_lists : ℕ → Bool
-some_lists zero = false
-some_lists (suc m) = true
-
-opens : (m : ℕ) (b : Base) (p : Pos) (w v : List Token) → AreSpelled (lists_of m (Word (At (base_kind b) p) End)) w
-    → (t : Token) × (u : List Token) × (w ++ v ≡ t ∷ u) × (is_list_of t.kind ≡ some_lists m)
-opens zero b p w v s =
-    (s.0, s.1 ++ v, ap (λ (u : List Token). u ++ v) s.2, ap (λ (t : Token). is_list_of t.kind) s.3 ∙ base_not_list b)
-opens (suc m) b p w v s =
-    (s.0, s.1 ++ v, ap (λ (u : List Token). u ++ v) s.2, ap is_list_of s.3 ∙ cue_self (cue.Pair pair.ListOf))
-
-heads_list : (n : ℕ) (y : types.Type) (w v : List Token) (m : ℕ) → y.lists - n ≡ m → AreSpelled (row n y) w
-    → heads is_list_of (w ++ v) ≡ some_lists m
-heads_list n y w v m e s =
-    let o =
-    opens m y.base y.pos w v
-    (subst (λ (k : ℕ). AreSpelled (lists_of k (Word (At (base_kind y.base) y.pos) End)) w) e s) in
-    ap (heads is_list_of) o.2 ∙ o.3
-
-decides : (n : ℕ) (out : TokenKind → Bool) → Decides out is_list_of (from n) (from (suc n)) (λ y. y.lists ≡ n) (row n)
-decides n out = record {
-  either = either;
-  from_yes = λ y f. omega (arith, f);
-  from_no = λ y f. omega (arith, f);
-  on = λ y w v f s o. heads_list n y w v (suc (y.lists - suc n)) (omega (arith, f)) s;
-  off = λ y w v f s o. heads_list n y w v zero (omega (arith, f)) s;
-}
-  where
-    either : (y : types.Type) → n ≤ y.lists → (suc n ≤ y.lists) ⊎ (y.lists ≡ n)
-    either y f = elim (cases_lt n y.lists) [
-      | inl more ↦ inl (omega (arith, more))
-      | inr less ↦ inr (omega (arith, less, f))
-    ]
-
-type_is : (n : ℕ) (x : Base × Pos) (y : types.Type) → (y.lists ≡ n) × ((y.base, y.pos) ≡ x) → y ≡ typed n x
-type_is n x y f = ap (λ (m : ℕ). typed m (y.base, y.pos)) f.0 ∙ ap (typed n) f.1
-
-base_right : (limit bound n : ℕ) (out : TokenKind → Bool)
-    → IsRight limit bound out (λ y. y.lists ≡ n) (row n) (one base_at ⨟ λ b. pure (typed n b))
-base_right limit bound n out =
-    reshaped limit bound out (λ y. y.lists ≡ n) (λ y. y.lists ≡ n) (λ y. Word (At (base_kind y.base) y.pos) End) (row n)
-    (one base_at ⨟ λ b. pure (typed n b))
-    (record {
-      to = λ y f. f;
-      from = λ y f. f;
-      rows = λ y f. ap (λ (m : ℕ). lists_of m (Word (At (base_kind y.base) y.pos) End)) (none_left y f);
-    })
-    (lowered limit bound out (λ y. y.lists ≡ n) (λ y. Word (At (base_kind y.base) y.pos) End)
-    (one base_at ⨟ λ b. pure (typed n b))
-    (token_right limit bound out (λ y. y.lists ≡ n) (λ y. At (base_kind y.base) y.pos) (λ y. End) base_at
-    (λ x y. (y.base, y.pos) ≡ x) (λ b. pure (typed n b)) (base_marks n)
-    (λ x. pure_right limit bound out (λ y. (y.lists ≡ n) × ((y.base, y.pos) ≡ x)) (typed n x) (refl, refl)
-    (type_is n x))))
-  where
-    none_left : (y : types.Type) → y.lists ≡ n → 0 ≡ y.lists - n
-    none_left y f = omega (arith, f)
-
-type_alive : (n : ℕ) (out : TokenKind → Bool) → Begun (from n) (row n) []
-type_alive n out =
-    let b =
-    (base_right 0 0 n out).alive in
-    record {
-      value = b.value;
-      more = b.more;
-      is = record { fit = omega (arith, b.is.fit); levels = b.is.levels; spelled = b.is.spelled };
-    }
-
-list_row : (n : ℕ) (y : types.Type) → suc n ≤ y.lists → Word (Anywhere (kind_of (cue.Pair pair.ListOf))) (row (suc n) y)
-    ≡ row n y
-list_row n y f = ap (λ (m : ℕ). lists_of m (Word (At (base_kind y.base) y.pos) End)) (one_more y f)
-  where
-    one_more : (y : types.Type) → suc n ≤ y.lists → suc (y.lists - suc n) ≡ y.lists - n
-    one_more y f = omega (arith, f)
-
-no_words : (w v front others : List Token) (n : ℕ) (y : types.Type) → AreSpelled (row n y) w → w ++ v ≡ front ++ others
-    → front ≡ [] → others ≡ [] → ⊥
-no_words w v front others n y s t a b =
-    let o = opens (y.lists - n) y.base y.pos w v s in
-    omega (arith, ap length (sym o.2), ap length t, length-append front others, ap length a, ap length b)
-
-pub type_right : (limit bound n : ℕ) (out : TokenKind → Bool) → IsRight limit bound out (from n) (row n) (type_after n)
-type_right limit zero n out = record {
-  alive = type_alive n out;
-  taken = taken;
-  says = says;
-}
-  where
-    taken : (ts : List Token) → length ts ≤ 0 → Taken limit (from n) (row n) (type_after n ts) ts
-    taken [] le = record { front = []; text = refl; took = type_alive n out }
-    taken (t ∷ ts) le = absurd (omega (arith, le))
-
-    says : (ts front : List Token) (y : types.Type) (w : List Token) → length ts ≤ 0 → ts ≡ front
-        ++ left_of (type_after n ts) → Alike out (from n) (row n) (left_of (type_after n ts)) front y w
-        → Says limit (row n) (type_after n ts) y w front
-    says [] front y w le text a =
-        absurd (no_words w a.behind front a.others n y a.is.spelled a.text (no_front front [] text)
-        (agree_same [] a.others a.agree refl))
-    says (t ∷ ts) front y w le text a = absurd (omega (arith, le))
-type_right limit (suc bound) n out =
-    same_reader limit (suc bound) out (from n) (row n)
-    (by_word is_list_of («word» (cue.Pair pair.ListOf) ⨟ λ p. type_after (suc n))
-    (one base_at ⨟ λ b. pure (typed n b))) (type_after n) (as_choice n)
-    (choice_right limit (suc bound) out is_list_of (from n) (from (suc n)) (λ y. y.lists ≡ n) (row n)
-    («word» (cue.Pair pair.ListOf) ⨟ λ p. type_after (suc n)) (one base_at ⨟ λ b. pure (typed n b)) (decides n out)
-    (reshaped limit (suc bound) out (from (suc n)) (from (suc n))
-    (λ y. Word (Anywhere (kind_of (cue.Pair pair.ListOf))) (row (suc n) y)) (row n)
-    («word» (cue.Pair pair.ListOf) ⨟ λ p. type_after (suc n))
-    (record { to = λ y f. f; from = λ y f. f; rows = list_row n })
-    (word_behind limit bound out (cue.Pair pair.ListOf) (from (suc n)) (row (suc n)) (λ p. type_after (suc n))
-    (λ p. type_right limit bound (suc n) out)))
-    (base_right limit (suc bound) n out))
+type_low : (limit : ℕ) (y : types.Type) → tallest (type_parts y End) ≤ limit
+type_low limit y =
+    subst (λ (m : ℕ). m ≤ limit) (sym (lists_low y.lists (Word (At (base_kind y.base) y.pos) End))) (omega arith)
 
 -- a type, with all of its `list of`
 pub a_type_right : (limit bound : ℕ) (out : TokenKind → Bool)
-    → IsRight limit bound out (λ y. Unit {0}) (λ y. type_parts y End) a_type
+    → IsRightTo limit bound out (λ y. Unit {0}) (λ y. type_parts y End) a_type
 a_type_right limit bound out =
-    reshaped limit bound out (from 0) (λ y. Unit {0}) (row 0) (λ y. type_parts y End) a_type
-    (record {
-      to = λ y f. tt;
-      from = λ y f. omega arith;
-      rows = λ y f. ap (λ (m : ℕ). lists_of m (Word (At (base_kind y.base) y.pos) End)) (all_left y);
-    })
-    (type_right limit bound 0 out)
-  where
-    all_left : (y : types.Type) → y.lists - 0 ≡ y.lists
-    all_left y = omega arith
+    record {
+      right =
+          over.recast_self bound (λ y. Unit {0}) (IsLow limit (λ y. type_parts y End)) (λ y v. Unit {0})
+          (Before out) none_past
+          (λ y. Unit {0}) (λ y. Unit {0}) (λ y. type_parts y End) (λ y. type_parts y End) a_type
+          (record {
+            to = λ y w i. i;
+            from = λ y w i. (y, refl, i);
+            lows = λ y fit l. type_low limit y;
+            back = λ y fit l. tt;
+            outside = λ y v fit o. tt;
+          })
+          (over.a_type_right bound);
+    }

@@ -1,39 +1,25 @@
 -- The reader of variables is right.
 use Rattle.std.proofs.Common.{◌≡◌, ℕ, Bool, true, false, List, [], ◌∷◌, ◌++◌, Option, Some, None, refl, sym, ap, subst}
 use Rattle.std.proofs.Common.{◌∙◌, inl, inr, ◌⊎◌}
-use Rattle.cat_pos.specs.declared.pos.Pos.{Pos}
-use Rattle.cat_lex.specs.declared.token.Token.{Token}
-use Rattle.cat_lex.specs.declared.token.TokenKind.{TokenKind}
 use Rattle.cat_lex.specs.declared.token.TokenKind.TheVariants as kind
-use Rattle.cat_lex.specs.declared.words.Keyword.{Keyword}
 use Rattle.cat_lex.specs.declared.words.Keyword.TheVariants as key
 use Rattle.cat_lex.specs.declared.words.DoubleKeyword.TheVariants as pair
-use Rattle.cat_tree.specs.declared.name.Name.{Name}
 use Rattle.cat_tree.specs.declared.name.Type as types
-use Rattle.cat_tree.specs.declared.program.FieldItem.{FieldItem}
-use Rattle.cat_tree.specs.declared.program.VariableKind.{VariableKind}
-use Rattle.cat_tree.specs.declared.program.VariableKind.TheVariants.{Input, InputOutput, Output, Internal, Context}
-use Rattle.cat_tree.specs.declared.program.VariableKind.TheVariants.{ContextOutput}
-use Rattle.cat_tree.specs.declared.program.Variable.{Variable}
 use Rattle.cat_tree.specs.declared.program.Variable.TheVariants as variable
-use Rattle.cat_tree.specs.Phrase.{Parts, End, Word, At, Anywhere, AreSpelled}
-use Rattle.cat_tree.specs.Joined.{◌▸◌}
-use Rattle.cat_tree.specs.Literals.{type_parts}
-use Rattle.cat_tree.specs.Declarations.{typed_parts, kind_parts, variable_type_parts, params_parts, variable_parts}
 use Rattle.cat_parse_expr.specs.declared.cue.Cue.TheVariants as cue
-use Rattle.cat_parse_expr.specs.Reader.{◌⨟◌, pure, heads, by_word}
-use Rattle.cat_parse.specs.Right.{Outside, IsRight}
-use Rattle.cat_parse_expr.specs.Cues.{cue_is, lower, upper}
-use Rattle.cat_parse.specs.Declarations.{key_word, typed_name, content, is_content, is_comma, is_word, kind_or}
-use Rattle.cat_parse.specs.Declarations.{kind_of_one, a_kind, variable_type, params, is_lower, called, own}
-use Rattle.cat_parse.specs.Declarations.{a_variable}
+use Rattle.cat_parse.proofs.Common.{Pos, Token, TokenKind, Keyword, Name, FieldItem, VariableKind, Input, InputOutput}
+use Rattle.cat_parse.proofs.Common.{Output, Internal, Context, ContextOutput, Variable, Parts, End, Word, At, Anywhere}
+use Rattle.cat_parse.proofs.Common.{AreSpelled, ◌▸◌, type_parts, typed_parts, kind_parts, variable_type_parts}
+use Rattle.cat_parse.proofs.Common.{params_parts, variable_parts, heads, by_word, Outside, IsRightTo, cue_is}
+use Rattle.cat_parse.proofs.Common.{typed_name, is_content, is_comma, is_word, kind_or, kind_of_one, a_kind}
+use Rattle.cat_parse.proofs.Common.{variable_type, params, is_lower, called, own, a_variable}
 use Rattle.cat_parse.proofs.Steps.{pure_right}
 use Rattle.cat_parse.proofs.Sequel.{part_right}
 use Rattle.cat_parse.proofs.Choices.{reshaped, made_right, Decides, choice_right}
 use Rattle.cat_parse.proofs.Leaves.{word_right, word_at_right, lower_right, upper_right}
 use Rattle.cat_parse.proofs.Last.{last_right}
 use Rattle.cat_parse.proofs.Lists.{AllFit}
-use Rattle.cat_parse.proofs.Listed.{any_word, outside_any, no_longer, led_right}
+use Rattle.cat_parse.proofs.Listed.{any_word, outside_any, led_right}
 use Rattle.cat_parse.proofs.Declarations.{Any, typed_right, content_right}
 use Rattle.cat_parse.proofs.Leads.{any_list}
 
@@ -68,19 +54,14 @@ variable_type_decides = record {
         subst (λ (z : Option types.Type). AreSpelled (variable_type_parts z) w) e s in
         ap (λ (u : List Token). heads is_content (u ++ v)) x.2 ∙ ap is_content x.3
 
-pub variable_type_right : (limit bound : ℕ) → IsRight limit bound any_word Any variable_type_parts variable_type
+pub variable_type_right : (limit bound : ℕ) → IsRightTo limit bound any_word Any variable_type_parts variable_type
 variable_type_right limit bound =
-    choice_right limit bound any_word is_content Any (λ o. (t : types.Type) × Any t × (o ≡ Some t)) (λ o. o ≡ None)
-    variable_type_parts
-    (content ⨟ λ t. pure (Some t)) (key_word key.Condition ⨟ λ p. pure None) variable_type_decides
-    (made_right limit bound any_word Any (λ t. Word (Anywhere (kind.Word key.Content)) (type_parts t End))
-    variable_type_parts
-    (λ t. Some t) content (λ t. refl) (content_right limit bound any_word))
-    (reshaped limit bound any_word (λ o. o ≡ None) (λ o. o ≡ None)
-    (λ o. Word (Anywhere (kind.Word key.Condition)) End) variable_type_parts (key_word key.Condition ⨟ λ p. pure None)
+    choice_right (λ o. (t : types.Type) × Any t × (o ≡ Some t)) (λ o. o ≡ None) variable_type_decides
+    (made_right Any (λ t. Word (Anywhere (kind.Word key.Content)) (type_parts t End)) (λ t. refl)
+    (content_right limit bound any_word))
+    (reshaped (λ o. o ≡ None) (λ o. Word (Anywhere (kind.Word key.Condition)) End)
     (record { to = λ o f. f; from = λ o f. f; rows = λ o f. ap variable_type_parts (sym f) })
-    (word_right limit bound any_word (cue.Word key.Condition) (λ (o : Option types.Type). o ≡ None) (λ o. End)
-    (λ p. pure None) (λ p. pure_right limit bound any_word (λ o. o ≡ None) None refl (λ o f. f))))
+    (word_right (cue.Word key.Condition) (λ p. pure_right refl (λ o f. f))))
 
 -- ---- kinds
 
@@ -92,18 +73,15 @@ IsKind k x = x.0 ≡ k
 
 one_kind : (limit bound : ℕ) (out : TokenKind → Bool) (c : Keyword) (k : VariableKind)
     → ((p : Pos) → Word (At (kind.Word c) p) End ≡ kind_parts k p)
-    → IsRight limit bound out (IsKind k) kind_row (kind_of_one c k)
+    → IsRightTo limit bound out (IsKind k) kind_row (kind_of_one c k)
 one_kind limit bound out c k rows =
-    reshaped limit bound out (IsKind k) (IsKind k) (λ x. Word (At (kind.Word c) x.1) End) kind_row (kind_of_one c k)
-    (record {
+    reshaped (IsKind k) (λ x. Word (At (kind.Word c) x.1) End) (record {
       to = λ x f. f;
       from = λ x f. f;
       rows = λ x f. rows x.1
           ∙ ap (λ (z : VariableKind). kind_parts z x.1) (sym f);
-    })
-    (word_at_right limit bound out (cue.Word c) (IsKind k) (λ x. x.1) (λ x. End) (λ p. pure (k, p))
-    (λ p. pure_right limit bound out (λ x. IsKind k x × (x.1 ≡ p)) (k, p) (refl, refl)
-    (λ x f. ap (λ (z : VariableKind). (z, x.1)) f.0 ∙ ap (λ (q : Pos). (k, q)) f.1)))
+    }) (word_at_right (cue.Word c)
+    (λ p. pure_right (refl, refl) (λ x f. ap (λ (z : VariableKind). (z, x.1)) f.0 ∙ ap (λ (q : Pos). (k, q)) f.1)))
 
 abbrev second_word : VariableKind → Parts
 second_word InputOutput = Word (Anywhere (kind.Word key.Output)) End
@@ -125,17 +103,11 @@ two_kinds : (limit bound : ℕ) (c : Keyword) (a b : VariableKind)
     → ((p : Pos) → Word (At (kind.Word c) p) End ≡ kind_parts a p)
     → ((p : Pos) → Word (At (kind.Word c) p) (Word (Anywhere (kind.Word key.Output)) End) ≡ kind_parts b p)
     → second_word a ≡ End → second_word b ≡ Word (Anywhere (kind.Word key.Output)) End
-    → IsRight limit bound is_lower (one_of a b) kind_row (kind_or c a b)
+    → IsRightTo limit bound is_lower (one_of a b) kind_row (kind_or c a b)
 two_kinds limit bound c a b rows_a rows_b sa sb =
-    reshaped limit bound is_lower (one_of a b) (one_of a b) (λ x. Word (At (kind.Word c) x.1) (second_word x.0))
-    kind_row
-    (kind_or c a b)
-    (record { to = λ x f. f; from = λ x f. f; rows = rows })
-    (word_at_right limit bound is_lower (cue.Word c) (one_of a b) (λ x. x.1) (λ x. second_word x.0)
-    (λ p. by_word (is_word key.Output) (key_word key.Output ⨟ λ q. pure (b, p)) (pure (a, p))) λ p.
-    choice_right limit bound is_lower (is_word key.Output) (λ x. one_of a b x × (x.1 ≡ p)) (λ x. (x.0 ≡ b) × (x.1 ≡ p))
-    (λ x. (x.0 ≡ a) × (x.1 ≡ p)) (λ x. second_word x.0) (key_word key.Output ⨟ λ q. pure (b, p)) (pure (a, p))
-    (record {
+    reshaped (one_of a b) (λ x. Word (At (kind.Word c) x.1) (second_word x.0))
+    (record { to = λ x f. f; from = λ x f. f; rows = rows }) (word_at_right (cue.Word c) λ p.
+    choice_right (λ x. (x.0 ≡ b) × (x.1 ≡ p)) (λ x. (x.0 ≡ a) × (x.1 ≡ p)) (record {
       either = λ x f. either x p f.0 f.1;
       from_yes = λ x f. (inr f.0, f.1);
       from_no = λ x f. (inl f.0, f.1);
@@ -145,20 +117,12 @@ two_kinds limit bound c a b rows_a rows_b sa sb =
       off =
           λ x w v f s o. ap (λ (u : List Token). heads (is_word key.Output) (u ++ v))
           (subst (λ (ps : Parts). AreSpelled ps w) (ap second_word f.0 ∙ sa) s) ∙ heads_outside v o;
-    })
-    (reshaped limit bound is_lower (λ x. (x.0 ≡ b) × (x.1 ≡ p)) (λ x. (x.0 ≡ b) × (x.1 ≡ p))
-    (λ x. Word (Anywhere (kind.Word key.Output)) End) (λ x. second_word x.0)
-    (key_word key.Output ⨟ λ q. pure (b, p))
+    }) (reshaped (λ x. (x.0 ≡ b) × (x.1 ≡ p)) (λ x. Word (Anywhere (kind.Word key.Output)) End)
     (record { to = λ x f. f; from = λ x f. f; rows = λ x f. sym (ap second_word f.0 ∙ sb) })
-    (word_right limit bound is_lower (cue.Word key.Output) (λ (x : VariableKind × Pos). (x.0 ≡ b) × (x.1 ≡ p))
-    (λ x. End)
-    (λ q. pure (b, p)) (λ q. pure_right limit bound is_lower (λ x. (x.0 ≡ b) × (x.1 ≡ p)) (b, p) (refl, refl)
-    (pair_is b p))))
-    (reshaped limit bound is_lower (λ x. (x.0 ≡ a) × (x.1 ≡ p)) (λ x. (x.0 ≡ a) × (x.1 ≡ p)) (λ x. End)
-    (λ x. second_word x.0)
-    (pure (a, p))
+    (word_right (cue.Word key.Output) (λ q. pure_right (refl, refl) (pair_is b p))))
+    (reshaped (λ x. (x.0 ≡ a) × (x.1 ≡ p)) (λ x. End)
     (record { to = λ x f. f; from = λ x f. f; rows = λ x f. sym (ap second_word f.0 ∙ sa) })
-    (pure_right limit bound is_lower (λ x. (x.0 ≡ a) × (x.1 ≡ p)) (a, p) (refl, refl) (pair_is a p))))
+    (pure_right (refl, refl) (pair_is a p))))
   where
     pair_is : (k : VariableKind) (p : Pos) (x : VariableKind × Pos) → (x.0 ≡ k) × (x.1 ≡ p) → x ≡ (k, p)
     pair_is k p x f = ap (λ (z : VariableKind). (z, x.1)) f.0 ∙ ap (λ (q : Pos). (k, q)) f.1
@@ -209,20 +173,16 @@ heads_of test x k b w v e f s = kind_head test x w v s ∙ ap (λ (z : VariableK
     ∙ f
 
 third_right : (limit bound : ℕ)
-    → IsRight limit bound is_lower Third kind_row
+    → IsRightTo limit bound is_lower Third kind_row
     (by_word (is_word key.Internal) (kind_of_one key.Internal Internal) (kind_or key.Context Context ContextOutput))
 third_right limit bound =
-    choice_right limit bound is_lower (is_word key.Internal) Third (IsKind Internal) (one_of Context ContextOutput)
-    kind_row
-    (kind_of_one key.Internal Internal) (kind_or key.Context Context ContextOutput)
-    (record {
+    choice_right (IsKind Internal) (one_of Context ContextOutput) (record {
       either = λ x f. f;
       from_yes = λ x f. inl f;
       from_no = λ x f. inr f;
       on = λ x w v f s o. heads_of (is_word key.Internal) x Internal true w v f refl s;
       off = λ x w v f s o. off x w v f s;
-    })
-    (one_kind limit bound is_lower key.Internal Internal (λ p. refl))
+    }) (one_kind limit bound is_lower key.Internal Internal (λ p. refl))
     (two_kinds limit bound key.Context Context ContextOutput (λ p. refl) (λ p. refl) refl refl)
   where
     off : (x : VariableKind × Pos) (w v : List Token) → one_of Context ContextOutput x → AreSpelled (kind_row x) w
@@ -231,22 +191,17 @@ third_right limit bound =
     off x w v (inr e) s = heads_of (is_word key.Internal) x ContextOutput false w v e refl s
 
 second_right : (limit bound : ℕ)
-    → IsRight limit bound is_lower Second kind_row
+    → IsRightTo limit bound is_lower Second kind_row
     (by_word (is_word key.Output) (kind_of_one key.Output Output)
     (by_word (is_word key.Internal) (kind_of_one key.Internal Internal) (kind_or key.Context Context ContextOutput)))
 second_right limit bound =
-    choice_right limit bound is_lower (is_word key.Output) Second (IsKind Output) Third kind_row
-    (kind_of_one key.Output Output)
-    (by_word (is_word key.Internal) (kind_of_one key.Internal Internal) (kind_or key.Context Context ContextOutput))
-    (record {
+    choice_right (IsKind Output) Third (record {
       either = λ x f. f;
       from_yes = λ x f. inl f;
       from_no = λ x f. inr f;
       on = λ x w v f s o. heads_of (is_word key.Output) x Output true w v f refl s;
       off = λ x w v f s o. off x w v f s;
-    })
-    (one_kind limit bound is_lower key.Output Output (λ p. refl))
-    (third_right limit bound)
+    }) (one_kind limit bound is_lower key.Output Output (λ p. refl)) (third_right limit bound)
   where
     off : (x : VariableKind × Pos) (w v : List Token) → Third x → AreSpelled (kind_row x) w
         → heads (is_word key.Output) (w ++ v) ≡ false
@@ -254,22 +209,15 @@ second_right limit bound =
     off x w v (inr (inl e)) s = heads_of (is_word key.Output) x Context false w v e refl s
     off x w v (inr (inr e)) s = heads_of (is_word key.Output) x ContextOutput false w v e refl s
 
-pub kind_right : (limit bound : ℕ) → IsRight limit bound is_lower Any kind_row a_kind
+pub kind_right : (limit bound : ℕ) → IsRightTo limit bound is_lower Any kind_row a_kind
 kind_right limit bound =
-    choice_right limit bound is_lower (is_word key.Input) Any (one_of Input InputOutput) Second kind_row
-    (kind_or key.Input Input InputOutput)
-    (by_word (is_word key.Output) (kind_of_one key.Output Output)
-    (by_word (is_word key.Internal) (kind_of_one key.Internal Internal)
-    (kind_or key.Context Context ContextOutput)))
-    (record {
+    choice_right (one_of Input InputOutput) Second (record {
       either = λ x f. either x.0;
       from_yes = λ x f. tt;
       from_no = λ x f. tt;
       on = λ x w v f s o. on x w v f s;
       off = λ x w v f s o. off x w v f s;
-    })
-    (two_kinds limit bound key.Input Input InputOutput (λ p. refl) (λ p. refl) refl refl)
-    (second_right limit bound)
+    }) (two_kinds limit bound key.Input Input InputOutput (λ p. refl) (λ p. refl) refl refl) (second_right limit bound)
   where
     either : (k : VariableKind) → ((k ≡ Input) ⊎ (k ≡ InputOutput))
         ⊎ ((k ≡ Output) ⊎ ((k ≡ Internal) ⊎ ((k ≡ Context) ⊎ (k ≡ ContextOutput))))
@@ -309,7 +257,7 @@ no_depends : (k : TokenKind) → behind_variable k ≡ true → cue_is (cue.Pair
 no_depends (kind.Pair d) e = let t : false ≡ true = e in absurd cc
 no_depends _ e = refl
 
-params_right : (limit bound : ℕ) → IsRight limit bound behind_variable (AllFit Any) params_parts params
+params_right : (limit bound : ℕ) → IsRightTo limit bound behind_variable (AllFit Any) params_parts params
 params_right limit bound =
     led_right limit behind_variable Any typed_parts typed_name no_comma (λ b. typed_right limit b any_word)
     (cue.Pair pair.DependsOn) params_parts refl (λ x xs. refl) no_depends bound
@@ -320,34 +268,15 @@ Own = (VariableKind × Pos) × Name × Option types.Type × List FieldItem
 abbrev own_row : Own → Parts
 own_row x = kind_row x.0 ▸ Word (At (kind.Lower x.1.text) x.1.pos) (variable_type_parts x.2 ▸ params_parts x.3)
 
-own_right : (limit bound : ℕ) → IsRight limit bound behind_variable Any own_row own
+own_right : (limit bound : ℕ) → IsRightTo limit bound behind_variable Any own_row own
 own_right limit bound =
-    part_right limit bound bound behind_variable is_lower Any Any (λ x. x.0) kind_row
-    (λ x. Word (At (kind.Lower x.1.text) x.1.pos) (variable_type_parts x.2 ▸ params_parts x.3)) a_kind
-    (λ k. lower ⨟ λ w. variable_type ⨟ λ t. params ⨟ λ ps. pure (k, w, t, ps))
-    (record {
-      fit = λ x f. tt;
-      behind =
-          λ x w v f s o. subst (λ (u : List Token). Outside is_lower (u ++ v)) (sym s.2)
-          (ap (λ (t : Token). is_lower t.kind) s.3);
-      shrinks = no_longer limit bound is_lower Any kind_row a_kind (kind_right limit bound);
-    })
-    (kind_right limit bound) λ k g.
-    lower_right limit bound behind_variable (λ x. Any x × (x.0 ≡ k)) (λ x. x.1)
-    (λ x. variable_type_parts x.2 ▸ params_parts x.3)
-    (λ w. variable_type ⨟ λ t. params ⨟ λ ps. pure (k, w, t, ps)) λ w.
-    part_right limit bound bound behind_variable any_word (λ x. (Any x × (x.0 ≡ k)) × (x.1 ≡ w)) Any (λ x. x.2)
-    variable_type_parts
-    (λ x. params_parts x.3) variable_type (λ t. params ⨟ λ ps. pure (k, w, t, ps))
-    (record {
-      fit = λ x f. tt;
-      behind = λ x w v f s o. outside_any (w ++ v);
-      shrinks = no_longer limit bound any_word Any variable_type_parts variable_type (variable_type_right limit bound);
-    })
-    (variable_type_right limit bound) λ t g.
-    last_right limit bound behind_variable (AllFit Any) (λ x. ((Any x × (x.0 ≡ k)) × (x.1 ≡ w)) × (x.2 ≡ t)) (λ x. x.3)
-    (λ ps. (k, w, t, ps)) params_parts params
-    (record {
+    part_right (λ x. x.0) kind_row (kind_right limit bound) (λ x f. tt)
+    (λ x w v f s o. subst (λ (u : List Token). Outside is_lower (u ++ v)) (sym s.2)
+    (ap (λ (t : Token). is_lower t.kind) s.3)) λ k g.
+    lower_right (λ x. x.1) λ w.
+    part_right (λ x. x.2) variable_type_parts (variable_type_right limit bound) (λ x f. tt)
+    (λ x w v f s o. outside_any (w ++ v)) λ t g.
+    last_right (λ x. x.3) params_parts (params_right limit bound) (record {
       to = λ ps f. (((tt, refl), refl), refl);
       from = λ x f. any_list x.3;
       back = λ ps. refl;
@@ -355,23 +284,18 @@ own_right limit bound =
           λ x f. ap (λ (z : VariableKind × Pos). (z, x.1, x.2, x.3)) f.0.0.1 ∙ ap (λ (z : Name). (k, z, x.2, x.3)) f.0.1
           ∙ ap (λ (z : Option types.Type). (k, w, z, x.3)) f.1;
     })
-    (params_right limit bound)
 
 abbrev called_row : Name × Name → Parts
 called_row x =
     Word (At (kind.Lower x.0.text) x.0.pos)
     (Word (Anywhere (kind.Word key.Scope)) (Word (At (kind.Upper x.1.text) x.1.pos) End))
 
-called_right : (limit bound : ℕ) → IsRight limit bound behind_variable Any called_row called
+called_right : (limit bound : ℕ) → IsRightTo limit bound behind_variable Any called_row called
 called_right limit bound =
-    lower_right limit bound behind_variable Any (λ x. x.0)
-    (λ x. Word (Anywhere (kind.Word key.Scope)) (Word (At (kind.Upper x.1.text) x.1.pos) End))
-    (λ w. key_word key.Scope ⨟ λ p. upper ⨟ λ u. pure (w, u)) λ w.
-    word_right limit bound behind_variable (cue.Word key.Scope) (λ x. Any x × (x.0 ≡ w))
-    (λ x. Word (At (kind.Upper x.1.text) x.1.pos) End) (λ p. upper ⨟ λ u. pure (w, u)) λ p.
-    upper_right limit bound behind_variable (λ x. Any x × (x.0 ≡ w)) (λ x. x.1) (λ x. End) (λ u. pure (w, u)) λ u.
-    pure_right limit bound behind_variable (λ x. (Any x × (x.0 ≡ w)) × (x.1 ≡ u)) (w, u) ((tt, refl), refl)
-    (λ x f. ap (λ (z : Name). (z, x.1)) f.0.1 ∙ ap (λ (z : Name). (w, z)) f.1)
+    lower_right (λ x. x.0) λ w.
+    word_right (cue.Word key.Scope) λ p.
+    upper_right (λ x. x.1) λ u.
+    pure_right ((tt, refl), refl) (λ x f. ap (λ (z : Name). (z, x.1)) f.0.1 ∙ ap (λ (z : Name). (w, z)) f.1)
 
 abbrev IsCalled : Variable → Type 0
 IsCalled y = (x : Name × Name) × Any x × (y ≡ variable.Called x.0 x.1)
@@ -408,13 +332,7 @@ variable_decides = record {
         by ContextOutput s =
             ap (λ (u : List Token). heads is_lower (u ++ v)) s.2 ∙ ap (λ (t : Token). is_lower t.kind) s.3
 
-pub variable_right : (limit bound : ℕ) → IsRight limit bound behind_variable Any variable_parts a_variable
+pub variable_right : (limit bound : ℕ) → IsRightTo limit bound behind_variable Any variable_parts a_variable
 variable_right limit bound =
-    choice_right limit bound behind_variable is_lower Any IsCalled IsOwn variable_parts
-    (called ⨟ λ x. pure (variable.Called x.0 x.1))
-    (own ⨟ λ x. pure (variable.Own x.0.0 x.0.1 x.1 x.2 x.3)) variable_decides
-    (made_right limit bound behind_variable Any called_row variable_parts (λ x. variable.Called x.0 x.1) called
-    (λ x. refl)
-    (called_right limit bound))
-    (made_right limit bound behind_variable Any own_row variable_parts (λ x. variable.Own x.0.0 x.0.1 x.1 x.2 x.3) own
-    (λ x. refl) (own_right limit bound))
+    choice_right IsCalled IsOwn variable_decides (made_right Any called_row (λ x. refl) (called_right limit bound))
+    (made_right Any own_row (λ x. refl) (own_right limit bound))

@@ -2,20 +2,11 @@
 use Rattle.std.proofs.Common.{◌≡◌, ℕ, suc, ◌<◌, ◌≤◌, true, false, List, [], ◌∷◌, ◌++◌, length, drop, take, Ok, Err}
 use Rattle.std.proofs.Common.{Bool, Option, None, cond, refl, sym, ap, subst, ◌∙◌, arith}
 use Rattle.std.proofs.lemmas.List.{drop_all}
-use Rattle.cat_lex.specs.declared.token.Token.{Token}
-use Rattle.cat_tree.specs.declared.expression.Node.{Node}
-use Rattle.cat_tree.specs.declared.program.Item.{Item}
-use Rattle.cat_tree.specs.declared.program.Tree.{Tree}
-use Rattle.cat_tree.specs.Programs.{highest_in, SpellsProgram, SpellsLowProgram, BeginsProgram}
-use Rattle.cat_parse_expr.specs.declared.miss.Miss.{Miss}
-use Rattle.cat_parse_expr.specs.declared.miss.Miss.TheVariants.{Broken, Memory}
-use Rattle.cat_parse_expr.specs.declared.refusal.ParseRefusal.TheVariants.{Unexpected, TooDeep}
-use Rattle.cat_parse_expr.specs.Refusals.{refusal_of}
-use Rattle.cat_parse_expr.specs.Reader.{Parsed, Reader, Fails, Reads, after}
-use Rattle.cat_parse.specs.Programs.{items, to_end, program}
-use Rattle.cat_parse.specs.Exactly.{Exactly}
-use Rattle.cat_parse_expr.specs.Places.{Gives, left_behind}
-use Rattle.cat_parse.specs.Causes.{IsUnexpected, IsTooDeep, HasProgramCause}
+use Rattle.cat_parse.specs.Programs.{items}
+use Rattle.cat_parse.proofs.Common.{Token, Node, Item, Tree, highest_in, SpellsProgram, SpellsLowProgram, BeginsProgram}
+use Rattle.cat_parse.proofs.Common.{Miss, Broken, Memory, Unexpected, TooDeep, refusal_of, Parsed, Reader, Fails, Reads}
+use Rattle.cat_parse.proofs.Common.{after, to_end, program, Exactly, Gives, left_behind, IsUnexpected, IsTooDeep}
+use Rattle.cat_parse.proofs.Common.{HasProgramCause}
 use Rattle.cat_parse.proofs.Places.{front_is, one_more, token_at}
 
 abbrev tree_of : List Item → Tree
@@ -40,7 +31,8 @@ unexpected tokens at le whole x =
         x.1.dead t.0 t.1 t.2
         (subst BeginsProgram (m.1 ∙ ap (λ (u : List Token). u ++ t.0 ∷ []) (sym before)) b)
 
-too_deep : (tokens : List Token) (at : ℕ) (whole : Option (List Token)) → Exactly tokens (Fails (drop at tokens) true whole)
+too_deep : (tokens : List Token) (at : ℕ) (whole : Option (List Token))
+    → Exactly tokens (Fails (drop at tokens) true whole)
     → IsTooDeep tokens at
 too_deep tokens at whole x =
     let m = one_more at tokens x.1.next x.1.after x.1.at in

@@ -8,7 +8,7 @@ use Rattle.cat_tree.specs.Phrase.{Parts, End, Part, Operand}
 use Rattle.cat_tree.specs.Grammar.{phrase}
 use Rattle.cat_tree.specs.Programs.{highest_in, SpellsProgram, SpellsLowProgram, BeginsProgram}
 use Rattle.cat_parse_expr.specs.Reader.{Parsed, Reader, Fails, Reads}
-use Rattle.cat_parse.specs.Right.{IsRight}
+use Rattle.cat_parse.specs.Right.{IsRightTo}
 use Rattle.cat_parse.specs.Uses.{behind_expression}
 
 -- an expression alone, at any level
@@ -18,7 +18,7 @@ expression_row e = Part (Operand 0) (phrase e) End
 -- a reader of expressions up to a height is right before the words that may follow one in a program
 abbrev pub ReadsExpressionsTo : (limit : ℕ) → Reader Node → Type 0
 ReadsExpressionsTo limit ex =
-    (bound : ℕ) → IsRight limit bound behind_expression (λ e. Unit {0}) expression_row ex
+    (bound : ℕ) → IsRightTo limit bound behind_expression (λ e. Unit {0}) expression_row ex
 
 -- the same up to the height that an expression may have
 abbrev pub ReadsExpressions : Reader Node → Type 0

@@ -1,30 +1,15 @@
 -- Lists of arms, and their one row.
-use Rattle.std.proofs.Common.{◌≡◌, ℕ, max, false, List, [], ◌∷◌, ◌++◌, None, Some, refl, sym, ap}
-use Rattle.std.proofs.Common.{subst, ◌∙◌, arith}
-use Rattle.cat_lex.specs.declared.token.Token.{Token}
+use Rattle.std.proofs.Common.{◌≡◌, ℕ, max, false, List, [], ◌∷◌, ◌++◌, None, Some, refl, sym, ap, subst, ◌∙◌, arith}
+use Rattle.std.proofs.Common.{map, append_assoc, append-nil}
 use Rattle.cat_lex.specs.declared.symbol.Symbol.TheVariants as symbol
-use Rattle.cat_tree.specs.Phrase.{Phrase, Parts, End, Word, Part, Operand}
-use Rattle.cat_tree.specs.Wording.{◌▹◌, sign, part}
-use Rattle.cat_tree.specs.Grammar.{phrase}
-use Rattle.cat_tree.proofs.Exported.{arm_row}
-use Rattle.cat_parse_expr.specs.declared.measured.Measured.{Measured}
-use Rattle.cat_parse_expr.specs.Rightly.{measured_of, IsMeasured}
-use Rattle.cat_parse_expr.proofs.Operands.{match_is}
-use Rattle.std.proofs.Common.{map}
-use Rattle.cat_tree.specs.Joined.{◌▸◌, all}
-use Rattle.std.proofs.Common.{append_assoc}
-use Rattle.cat_tree.specs.Phrase.{AreLevelled, AreSpelled}
-use Rattle.std.proofs.Common.{append-nil}
-use Rattle.cat_tree.specs.Phrase.{IsLevelled}
-use Rattle.cat_tree.specs.declared.expression.SurfaceArm.{SurfaceArm}
-use Rattle.cat_tree.specs.Rows.{arms, pattern_parts}
-use Rattle.cat_parse_expr.specs.declared.measured.MatchArms.{MatchArms}
-use Rattle.cat_parse_expr.specs.Measures.{with_arm}
-use Rattle.cat_tree.specs.declared.expression.Pattern.{Pattern}
 use Rattle.cat_tree.specs.declared.expression.Pattern.TheVariants as pattern
-use Rattle.cat_tree.specs.declared.name.CaseName.TheVariants.{Bare, Qualified}
-use Rattle.cat_tree.specs.Phrase.{Inner, Stand, Stands, Terminal}
-use Rattle.cat_parse_expr.specs.Reader.{Parsed, Reader, Fails, Reads, after, pure, ◌⨟◌}
+use Rattle.cat_parse_expr.proofs.Common.{Token, Phrase, Parts, End, Word, Part, Operand, ◌▹◌, sign, part, phrase}
+use Rattle.cat_parse_expr.proofs.Common.{arm_row, Measured, measured_of, IsMeasured, ◌▸◌, all, AreLevelled, AreSpelled}
+use Rattle.cat_parse_expr.proofs.Common.{IsLevelled, SurfaceArm, arms, pattern_parts, MatchArms, with_arm, Pattern}
+use Rattle.cat_parse_expr.proofs.Common.{Bare, Qualified, Inner, Stand, Stands, Terminal, Parsed, Reader, Fails, Reads}
+use Rattle.cat_parse_expr.proofs.Common.{after, pure, ◌⨟◌}
+use Rattle.cat_parse_expr.proofs.Lists.{put_all}
+use Rattle.cat_parse_expr.proofs.Operands.{match_is}
 
 -- ---- lists of arms
 
@@ -55,9 +40,11 @@ pub rows_are : (xs : List Armed) → map arm_row (arms_of xs) ≡ arm_rows xs
 rows_are [] = refl
 rows_are (x ∷ xs) = ap (λ (z : List (Pattern × Phrase)). (x.0, phrase x.1.node) ∷ z) (rows_are xs)
 
+abbrev pub put_arm : MatchArms → Armed → MatchArms
+put_arm l x = with_arm l x.0 x.1
+
 abbrev pub arms_from : MatchArms → List Armed → MatchArms
-arms_from l [] = l
-arms_from l (x ∷ xs) = arms_from (with_arm l x.0 x.1) xs
+arms_from = put_all put_arm
 
 pub arms_are : (l : MatchArms) (xs : List Armed) → (arms_from l xs).arms ≡ l.arms ++ arms_of xs
 arms_are l [] = sym (append-nil l.arms)

@@ -1,70 +1,39 @@
 -- The arms of a match.
-use Rattle.std.proofs.Common.{◌≡◌, ℕ, ◌≤◌, Bool, true, false, List, [], ◌∷◌, ◌++◌, None, Some, refl, sym, ap}
-use Rattle.std.proofs.Common.{subst, ◌∙◌, arith, inl, inr, ◌⊎◌}
-use Rattle.cat_pos.specs.declared.pos.Pos.{Pos}
-use Rattle.cat_lex.specs.declared.token.Token.{Token}
-use Rattle.cat_lex.specs.declared.token.TokenKind.{TokenKind}
+use Rattle.std.proofs.Common.{◌≡◌, ℕ, ◌≤◌, Bool, true, false, List, [], ◌∷◌, ◌++◌, None, Some, refl, sym, ap, subst}
+use Rattle.std.proofs.Common.{◌∙◌, arith, inl, inr, ◌⊎◌, length, not, nat_eq, ◌&&◌}
 use Rattle.cat_lex.specs.declared.symbol.Symbol.TheVariants as symbol
-use Rattle.cat_tree.specs.Phrase.{Parts, End}
-use Rattle.cat_tree.specs.Wording.{◌▹◌, sign, part}
-use Rattle.cat_tree.specs.Grammar.{phrase}
-use Rattle.cat_parse_expr.specs.declared.behind.Behind.{Behind}
 use Rattle.cat_parse_expr.specs.declared.behind.Behind.TheVariants.{Other, Field, Pattern as Tested}
 use Rattle.cat_parse_expr.specs.declared.cue.Cue.TheVariants as cue
-use Rattle.cat_parse_expr.specs.declared.measured.Measured.{Measured}
-use Rattle.cat_parse_expr.specs.Reader.{Reader, ◌⨟◌, pure, Reads}
-use Rattle.cat_parse_expr.specs.Parts.{Lower}
-use Rattle.cat_parse_expr.specs.Followers.{MayFollow, looks_of, is_taken}
-use Rattle.cat_parse_expr.specs.Longest.{KeepsWhole}
-use Rattle.cat_parse_expr.specs.Rightly.{IsMeasured, IsLow, operand_row, AreRight}
-use Rattle.cat_parse_expr.proofs.Operands.{end_read}
+use Rattle.cat_parse_expr.specs.Arms as arms
+use Rattle.cat_parse_expr.specs.Parts.{is_sign, sign as a_sign}
+use Rattle.cat_tree.specs.declared.expression.Pattern.TheVariants as pattern
+use Rattle.cat_parse_expr.proofs.Common.{Pos, Token, TokenKind, Parts, End, ◌▹◌, sign, part, phrase, Behind, Measured}
+use Rattle.cat_parse_expr.proofs.Common.{Reader, ◌⨟◌, pure, Reads, Lower, MayFollow, looks_of, is_taken, KeepsWhole}
+use Rattle.cat_parse_expr.proofs.Common.{IsMeasured, IsLow, operand_row, AreRight, ◌▸◌, AreSpelled, Parsed, Fails}
+use Rattle.cat_parse_expr.proofs.Common.{after, left_of, heads, word_of, is_asked, is_below, follow_of, behind_whole}
+use Rattle.cat_parse_expr.proofs.Common.{pattern_parts, MatchArms, with_arm, no_arms, is_lower, Pattern, Bare}
+use Rattle.cat_parse_expr.proofs.Common.{Qualified, Agree, AgreePast, a_pattern, next_arm, further_arm, has_arm}
+use Rattle.cat_parse_expr.proofs.Common.{ends_arms, fallen}
+use Rattle.cat_parse_expr.proofs.Operands.{end_read, part_shrinks}
 use Rattle.cat_parse_expr.proofs.Read.{IsRead}
 use Rattle.cat_parse_expr.proofs.Worded.{word_read}
 use Rattle.cat_parse_expr.proofs.Sequels.{part_read, last_read, past_none, no_longer}
 use Rattle.cat_parse_expr.proofs.Tuples.{two}
-use Rattle.std.proofs.Common.{length}
-use Rattle.cat_tree.specs.Joined.{◌▸◌}
-use Rattle.cat_tree.specs.Phrase.{AreSpelled}
-use Rattle.cat_parse_expr.proofs.Loops as loops
-use Rattle.cat_parse_expr.specs.Parts as parts
-use Rattle.cat_parse_expr.specs.Parts.{has_element, next_element, as_many, is_sign, inner, sign as a_sign}
-use Rattle.cat_parse_expr.specs.Reader.{Parsed, Fails, after, left_of, heads}
-use Rattle.cat_parse_expr.specs.Cues.{word_of}
-use Rattle.cat_parse_expr.proofs.Chaining as chaining
 use Rattle.cat_parse_expr.proofs.Choices.{Recast}
-use Rattle.cat_parse_expr.proofs.Lists as lists
-use Rattle.cat_parse_expr.proofs.Looping as looping
 use Rattle.cat_parse_expr.proofs.Shaping.{recast_read, reshape_read}
-use Rattle.cat_parse_expr.proofs.Turnings.{heads_begin, heads_other, heads_follow, heads_seen, shrinks_after}
-use Rattle.cat_parse_expr.proofs.Turnings.{shrinks_one, takes_one}
-use Rattle.cat_parse_expr.proofs.Turnings as turnings
-use Rattle.std.proofs.Common.{not, nat_eq, ◌&&◌}
-use Rattle.cat_parse_expr.specs.Followers.{is_asked, is_below}
-use Rattle.cat_parse_expr.specs.Openings.{follow_of}
-use Rattle.cat_parse_expr.specs.Parts.{has_field, next_field, field_value}
-use Rattle.cat_parse_expr.specs.Reader.{behind_whole}
-use Rattle.cat_parse_expr.proofs.Operands.{part_shrinks}
-use Rattle.cat_parse_expr.proofs.Turnings.{own_heads}
-use Rattle.cat_tree.specs.Rows.{pattern_parts}
-use Rattle.cat_parse_expr.specs.declared.measured.MatchArms.{MatchArms}
-use Rattle.cat_parse_expr.specs.Measures.{with_arm, no_arms}
-use Rattle.cat_parse_expr.specs.Parts.{is_lower}
+use Rattle.cat_parse_expr.proofs.Turnings.{heads_begin, shrinks_after, shrinks_one}
 use Rattle.cat_parse_expr.proofs.Leaves.{cue_self}
-use Rattle.cat_tree.specs.declared.expression.Pattern.{Pattern}
-use Rattle.cat_tree.specs.declared.expression.Pattern.TheVariants as pattern
-use Rattle.cat_tree.specs.declared.name.CaseName.TheVariants.{Bare, Qualified}
-use Rattle.cat_parse_expr.specs.Right.{Agree, AgreePast}
-use Rattle.cat_parse_expr.specs.Parts.{a_pattern, arm_head, next_arm, further_arm, has_arm, has_arm_behind}
-use Rattle.cat_parse_expr.specs.Parts.{ends_arms, matched_value}
-use Rattle.cat_parse_expr.specs.Reader.{fallen}
 use Rattle.cat_parse_expr.proofs.Chosen.{same_read}
 use Rattle.cat_parse_expr.proofs.Patterns.{pattern_row, pattern_behind, pattern_read, pattern_shut}
-use Rattle.cat_parse_expr.proofs.Armed.{Armed, arms_from}
-use Rattle.cat_parse_expr.proofs.Armed.{arm_parts, AreArmed, armed_first}
-use Rattle.cat_parse_expr.proofs.Armed.{arms_row_of, to_arms_spelled, from_arms_spelled}
-use Rattle.cat_parse_expr.proofs.Armed.{to_arms_levels, from_arms_levels}
-use Rattle.cat_parse_expr.proofs.Truth.{first_true, fourth_true, second_false, second_true}
+use Rattle.cat_parse_expr.proofs.Armed.{put_arm, Armed, arms_from, arm_parts, AreArmed, armed_first, arms_row_of}
+use Rattle.cat_parse_expr.proofs.Armed.{to_arms_spelled, from_arms_spelled, to_arms_levels, from_arms_levels}
 use Rattle.cat_parse_expr.proofs.Armed.{head_regrouped}
+use Rattle.cat_parse_expr.proofs.Truth.{first_true, fourth_true, second_false, second_true}
+use Rattle.cat_parse_expr.proofs.Loops as loops
+use Rattle.cat_parse_expr.proofs.Chaining as chaining
+use Rattle.cat_parse_expr.proofs.Lists as lists
+use Rattle.cat_parse_expr.proofs.Looping as looping
+use Rattle.cat_parse_expr.proofs.Turnings as turnings
 
 -- ---- where an arm may begin
 
@@ -146,20 +115,18 @@ module _ (ex : Lower) (room : ℕ) (right : AreRight room ex)
       ((x : Measured) → MayFollow b 0 x v)
       × ((heads (is_sign symbol.MinusMinus) v && not (ends_arms b v)) ≡ false)
 
-  abbrev More : MatchArms → List Token → Type 0
-  More s v = (s.in_match ≡ false) × ArmAt b v
-
-  abbrev Low : MatchArms → Type 0
-  Low s = s.tallest ≤ room
-
-  abbrev Good : MatchArms → Type 0
-  Good s = Unit {0}
-
-  abbrev Fits : MatchArms → Armed → Type 0
-  Fits s x = (s.in_match ≡ false) × IsMeasured x.1
-
-  abbrev put : MatchArms → Armed → MatchArms
-  put s x = with_arm s x.0 x.1
+  abbrev loop : loops.Loop MatchArms Armed
+  loop = record {
+    goes = has_arm b;
+    put = put_arm;
+    Good = λ s. Unit {0};
+    Low = λ s. s.tallest ≤ room;
+    Out = Out;
+    More = λ s v. (s.in_match ≡ false) × ArmAt b v;
+    looks = looks_of b;
+    FitsOne = λ s x. (s.in_match ≡ false) × IsMeasured x.1;
+    row_one = arm_parts;
+  }
 
   abbrev rest : MatchArms → Pos → Reader MatchArms
   rest s p = a_pattern ⨟ λ a. a_sign symbol.Colon ⨟ λ q. ex b 0 ⨟ λ e. pure (with_arm s a e)
@@ -167,18 +134,17 @@ module _ (ex : Lower) (room : ℕ) (right : AreRight room ex)
   abbrev whole_arm : MatchArms → Reader MatchArms
   whole_arm s = a_sign symbol.MinusMinus ⨟ rest s
 
-  next_follows : (s : MatchArms) (x : Armed) (v : List Token) → Out (put s x) v ⊎ More (put s x) v
+  next_follows : (s : MatchArms) (x : Armed) (v : List Token) → Out (put_arm s x) v ⊎ loop.More (put_arm s x) v
       → MayFollow b 0 x.1 v
   next_follows s x v (inl o) = o.0 x.1
   next_follows s x v (inr o) = arm_follows b x.1 v o.0 (first_true _ _ o.1)
 
   turn_read : {K F : Type 0} (s : MatchArms) → (F → s.in_match ≡ false)
-      → IsRead (put s) K F (Low s) (λ x. Low (put s x)) (λ x v. Out (put s x) v ⊎ More (put s x) v) (looks_of b)
-      (Fits s)
-      arm_parts (whole_arm s)
+      → IsRead (put_arm s) K F (loop.Low s) (λ x. loop.Low (put_arm s x))
+      (λ x v. Out (put_arm s x) v ⊎ loop.More (put_arm s x) v) (looks_of b) (loop.FitsOne s) arm_parts (whole_arm s)
   turn_read s none =
       word_read (cue.Sign symbol.MinusMinus) _ _
-      (λ p. reshape_read (Fits s) (Fits s)
+      (λ p. reshape_read (loop.FitsOne s) (loop.FitsOne s)
       (λ x. pattern_row x.0 ▸ (sign symbol.Colon ▹ part 0 (phrase x.1.node) ▹ End))
       (λ x. pattern_parts x.0 (sign symbol.Colon ▹ part 0 (phrase x.1.node) ▹ End)) _
       (record {
@@ -225,11 +191,9 @@ module _ (ex : Lower) (room : ℕ) (right : AreRight room ex)
             ap length (whole_same (pattern_read.reader ts)),
           )
 
-  abbrev Ready : MatchArms → Type 0
-  Ready s = Good s × ((us : List Token) × (has_arm b s us ≡ true))
-
-  read_turn : (s : MatchArms) → IsRead (put s) (Unit {0}) (Ready s) (Low s) (λ x. Low (put s x))
-      (λ x v. Out (put s x) v ⊎ More (put s x) v) (looks_of b) (Fits s) arm_parts (whole_arm s)
+  read_turn : (s : MatchArms) → IsRead (put_arm s) (Unit {0}) (Unit {0} × ((us : List Token) × (has_arm b s us ≡ true)))
+      (loop.Low s) (λ x. loop.Low (put_arm s x)) (λ x v. Out (put_arm s x) v ⊎ loop.More (put_arm s x) v)
+      (looks_of b) (loop.FitsOne s) arm_parts (whole_arm s)
   read_turn s = turn_read s (λ f. not_first s.in_match _ f.1.1)
 
   sees : (s : MatchArms) (p : Token) (ps qs : List Token) → Agree ps qs → has_arm b s (p ∷ ps) ≡ has_arm b s (p ∷ qs)
@@ -245,8 +209,7 @@ module _ (ex : Lower) (room : ℕ) (right : AreRight room ex)
   none_left : (s : MatchArms) → has_arm b s [] ≡ false
   none_left s = second_false (not s.in_match) _ refl
 
-  worded : turnings.Worded {K = Unit {0}} (has_arm b) put Good Low Out More (looks_of b) Fits arm_parts
-      (cue.Sign symbol.MinusMinus) rest read_turn
+  worded : turnings.Worded loop (cue.Sign symbol.MinusMinus) rest read_turn
   worded = record {
     starts = λ s ts h. first_true _ _ (second_true (not s.in_match) _ h);
     shrinks = rest_shrinks;
@@ -265,32 +228,34 @@ module _ (ex : Lower) (room : ℕ) (right : AreRight room ex)
   abbrev one : MatchArms → Reader Armed
   one s = behind_whole (read_turn s).reader
 
-  turning : loops.Turning (has_arm b) one put Good Low Out More (looks_of b) Fits arm_parts
-  turning =
-      turnings.behind_turning {K = Unit {0}} (has_arm b) put Good Low Out More (looks_of b) Fits arm_parts
-      (cue.Sign symbol.MinusMinus) rest read_turn worded
+  turning : loops.Turning loop one
+  turning = turnings.behind_turning loop (cue.Sign symbol.MinusMinus) rest read_turn worded
 
   arm_same : (s : MatchArms) (ts : List Token) → next_arm ex b s ts ≡ whole_arm s ts
   arm_same s ts =
       head_regrouped (a_sign symbol.MinusMinus ts) a_pattern (a_sign symbol.Colon) (λ a. ex b 0
       ⨟ λ e. pure (with_arm s a e))
 
-  same : (s : MatchArms) (ts : List Token) → further_arm ex b s ts ≡ lists.turn (has_arm b) one put s ts
+  same : (s : MatchArms) (ts : List Token) → further_arm ex b s ts ≡ lists.turn (has_arm b) one put_arm s ts
   same s ts =
       ap (λ (o : Parsed MatchArms). fallen ts o) (arm_same s ts)
-      ∙ turnings.behind_same {K = Unit {0}} (has_arm b) put Good Low Out More (looks_of b) Fits arm_parts
-      (cue.Sign symbol.MinusMinus) rest read_turn worded s ts
+      ∙ turnings.behind_same loop (cue.Sign symbol.MinusMinus) rest read_turn worded s ts
 
-  chain_is : (s : MatchArms) (xs : List Armed) → lists.put_all (has_arm b) one put s xs ≡ arms_from s xs
-  chain_is s [] = refl
-  chain_is s (x ∷ xs) = chain_is (put s x) xs
-
-  inner_kept : (s : MatchArms) (bound : ℕ) → Good s → Low s → (us : List Token) → has_arm b s us ≡ true
-      → KeepsWhole (λ x. Low (put s x)) bound (Fits s) arm_parts (read_turn s).reader
+  inner_kept : (s : MatchArms) (bound : ℕ) → loop.Good s → loop.Low s → (us : List Token) → has_arm b s us ≡ true
+      → KeepsWhole (λ x. loop.Low (put_arm s x)) bound (loop.FitsOne s) arm_parts (read_turn s).reader
   inner_kept s bound good low us e = (read_turn s).keeps tt (good, (us, e)) low bound
 
-  first_read : {K : Type 0} → IsRead (put no_arms) K (Unit {0}) (Unit {0}) (λ x. Low (put no_arms x))
-      (λ x v. Out (put no_arms x) v ⊎ More (put no_arms x) v) (looks_of b) (Fits no_arms) arm_parts
+  abbrev head : chaining.Head Armed MatchArms MatchArms
+  head = record {
+    made = put_arm no_arms;
+    Low = λ x. loop.Low (put_arm no_arms x);
+    Fits = loop.FitsOne no_arms;
+    row = arm_parts;
+    begin = λ z. z;
+  }
+
+  first_read : {K : Type 0} → IsRead (put_arm no_arms) K (Unit {0}) (Unit {0}) head.Low
+      (λ x v. Out (put_arm no_arms x) v ⊎ loop.More (put_arm no_arms x) v) (looks_of b) head.Fits arm_parts
       (next_arm ex b no_arms)
   first_read =
       same_read (whole_arm no_arms) (next_arm ex b no_arms) (arm_same no_arms)
@@ -304,42 +269,27 @@ module _ (ex : Lower) (room : ℕ) (right : AreRight room ex)
       }) (turn_read {F = Unit {0}} no_arms (λ f. refl)))
 
   -- the arms of a match, with all words of theirs
-  chain_read : {K : Type 0} → IsRead (chaining.chain_of (has_arm b) one put Good Low Out More
-      (looks_of b) Fits arm_parts turning (further_arm ex b) same (put no_arms) (λ x. Low (put no_arms x))
-      (Fits no_arms) arm_parts (λ z. z)) K (Unit {0}) (Unit {0})
-      (chaining.Low_chain (has_arm b) one put Good Low Out More (looks_of b) Fits arm_parts turning
-      (further_arm ex b) same (put no_arms) (λ x. Low (put no_arms x)) (Fits no_arms) arm_parts (λ z. z))
-      (chaining.Out_chain (has_arm b) one put Good Low Out More (looks_of b) Fits arm_parts turning
-      (further_arm ex b) same (put no_arms) (λ x. Low (put no_arms x)) (Fits no_arms) arm_parts (λ z. z)) (looks_of b)
-      (chaining.fits_chain (has_arm b) one put Good Low Out More (looks_of b) Fits arm_parts turning
-      (further_arm ex b) same (put no_arms) (λ x. Low (put no_arms x)) (Fits no_arms) arm_parts (λ z. z))
-      (chaining.row_chain (has_arm b) one put Good Low Out More (looks_of b) Fits arm_parts turning
-      (further_arm ex b) same (put no_arms) (λ x. Low (put no_arms x)) (Fits no_arms) arm_parts (λ z. z))
-      (parts.arms ex b)
+  chain_read : {K : Type 0} → chaining.IsChain loop one head K (arms.arms ex b)
   chain_read =
-      chaining.chain_read (has_arm b) one put Good Low Out More (looks_of b) Fits arm_parts turning
-      (further_arm ex b) same (put no_arms) (λ x. Low (put no_arms x)) (Fits no_arms) arm_parts (λ z. z)
+      chaining.chain_read loop one head turning (further_arm ex b) same
       (record {
         good = λ a f. tt;
         low = λ a f low. low;
         back = λ a f low. low;
       })
       (next_arm ex b no_arms) first_read
-      (λ k. looping.loop_keeps (has_arm b) one put Good Low Out More (looks_of b) Fits arm_parts turning
-      (λ s. (read_turn s).reader) (λ s ts. refl) inner_kept)
-      (λ k. looping.loop_far (has_arm b) one put Good Low Out More (looks_of b) Fits arm_parts turning
-      (λ s. (read_turn s).reader) (λ s ts. refl) inner_kept)
+      (λ k. looping.loop_keeps loop one turning (λ s. (read_turn s).reader) (λ s ts. refl) inner_kept)
+      (λ k. looping.loop_far loop one turning (λ s. (read_turn s).reader) (λ s ts. refl) inner_kept)
 
   from_armed : (s : MatchArms) (x : Armed) (xs : List Armed) → AreArmed x xs
-      → looping.FitsFrom (has_arm b) one put Good Low Out More (looks_of b) Fits arm_parts turning (put s x) xs
+      → loops.FitsFrom loop one (put_arm s x) xs
   from_armed s x [] m = tt
-  from_armed s x (y ∷ ys) m = ((m.1, armed_first y ys m.2), from_armed (put s x) y ys m.2)
+  from_armed s x (y ∷ ys) m = ((m.1, armed_first y ys m.2), from_armed (put_arm s x) y ys m.2)
 
   to_armed : (s : MatchArms) (x : Armed) (xs : List Armed) → IsMeasured x.1
-      → looping.FitsFrom (has_arm b) one put Good Low Out More (looks_of b) Fits arm_parts turning (put s x) xs
-      → AreArmed x xs
+      → loops.FitsFrom loop one (put_arm s x) xs → AreArmed x xs
   to_armed s x [] m f = m
-  to_armed s x (y ∷ ys) m f = (m, f.0.0, to_armed (put s x) y ys f.0.1 f.1)
+  to_armed s x (y ∷ ys) m f = (m, f.0.0, to_armed (put_arm s x) y ys f.0.1 f.1)
 
   abbrev pub Arms : Type 0
   Arms = Armed × List Armed
@@ -347,17 +297,9 @@ module _ (ex : Lower) (room : ℕ) (right : AreRight room ex)
   abbrev pub made : Arms → MatchArms
   made c = arms_from no_arms (c.0 ∷ c.1)
 
-  arms_cast : Recast (chaining.Low_chain (has_arm b) one put Good Low Out More (looks_of b) Fits arm_parts turning
-      (further_arm ex b) same (put no_arms) (λ x. Low (put no_arms x)) (Fits no_arms) arm_parts (λ z. z))
-      (λ c. (made c).tallest ≤ room) (chaining.Out_chain (has_arm b) one put Good Low Out More
-      (looks_of b) Fits arm_parts turning (further_arm ex b) same (put no_arms) (λ x. Low (put no_arms x))
-      (Fits no_arms) arm_parts (λ z. z))
-      (λ c v. Out no_arms v) (chaining.fits_chain (has_arm b) one put Good Low Out More
-      (looks_of b) Fits arm_parts turning (further_arm ex b) same (put no_arms) (λ x. Low (put no_arms x))
-      (Fits no_arms) arm_parts (λ z. z)) (λ c. AreArmed c.0 c.1)
-      (chaining.row_chain (has_arm b) one put Good Low Out More (looks_of b) Fits arm_parts turning
-      (further_arm ex b) same (put no_arms) (λ x. Low (put no_arms x)) (Fits no_arms) arm_parts (λ z. z))
-      (λ c. arms_row_of c.0 c.1) (λ c. c)
+  arms_cast : Recast (chaining.Low_chain loop one head) (λ c. (made c).tallest ≤ room)
+      (chaining.Out_chain loop one head) (λ c v. Out no_arms v) (chaining.fits_chain loop one head)
+      (λ c. AreArmed c.0 c.1) (chaining.row_chain loop one head) (λ c. arms_row_of c.0 c.1) (λ c. c)
   arms_cast = record {
     to =
         λ y w i. let m = to_armed no_arms y.0 y.1 i.fit.0.1 i.fit.1 in
@@ -376,14 +318,13 @@ module _ (ex : Lower) (room : ℕ) (right : AreRight room ex)
             spelled = (from_arms_spelled y.0 y.1).to w i.spelled;
           },
         );
-    lows = λ y fit low. omega (arith, low, ap (λ (l : MatchArms). l.tallest) (chain_is (put no_arms y.0) y.1));
-    back = λ y fit low. omega (arith, low, ap (λ (l : MatchArms). l.tallest) (chain_is (put no_arms y.0) y.1));
+    lows = λ y fit low. low;
+    back = λ y fit low. low;
     outside = λ y v fit o. o;
   }
 
   -- [-- P : E]*, one at least
   pub arms_read : {K : Type 0} → IsRead made K (Unit {0}) (Unit {0}) (λ c. (made c).tallest ≤ room)
-      (λ c v. Out no_arms v) (looks_of b) (λ c. AreArmed c.0 c.1) (λ c. arms_row_of c.0 c.1) (parts.arms ex b)
+      (λ c v. Out no_arms v) (looks_of b) (λ c. AreArmed c.0 c.1) (λ c. arms_row_of c.0 c.1) (arms.arms ex b)
   arms_read =
-      recast_read _ _ _ _ (λ c. c) (λ y. chain_is (put no_arms y.0) y.1) (λ f. f) (λ f c. c) (λ f. arms_cast.to)
-      (λ f c. arms_cast) chain_read
+      recast_read _ _ _ _ (λ c. c) (λ y. refl) (λ f. f) (λ f c. c) (λ f. arms_cast.to) (λ f c. arms_cast) chain_read

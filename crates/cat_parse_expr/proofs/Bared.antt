@@ -1,38 +1,20 @@
 -- No dot is left behind a bare case.
-use Rattle.std.proofs.Common.{◌≡◌, ℕ, suc, ◌≤◌, ◌<◌, Bool, true, false, ◌&&◌}
-use Rattle.std.proofs.Common.{if◌then◌else◌, List, [], ◌∷◌, ◌++◌, length, refl, sym, ap, subst, ◌∙◌, arith}
-use Rattle.cat_lex.specs.declared.token.Token.{Token}
+use Rattle.std.proofs.Common.{◌≡◌, ℕ, suc, ◌≤◌, ◌<◌, Bool, true, false, ◌&&◌, if◌then◌else◌, List, [], ◌∷◌, ◌++◌}
+use Rattle.std.proofs.Common.{length, refl, sym, ap, subst, ◌∙◌, arith}
+use Rattle.std.proofs.lemmas.List.{append-nil}
 use Rattle.cat_lex.specs.declared.token.TokenKind.TheVariants as kind
 use Rattle.cat_lex.specs.declared.symbol.Symbol.TheVariants as symbol
-use Rattle.cat_tree.specs.declared.name.Name.{Name}
-use Rattle.cat_tree.specs.declared.name.CaseName.TheVariants.{Bare, Qualified}
-use Rattle.cat_tree.specs.Phrase.{Phrase}
-use Rattle.cat_tree.specs.Grammar.{phrase}
-use Rattle.cat_parse_expr.specs.declared.behind.Behind.{Behind}
 use Rattle.cat_parse_expr.specs.declared.cue.Cue.TheVariants as cue
-use Rattle.cat_parse_expr.specs.declared.measured.Measured.{Measured}
 use Rattle.cat_parse_expr.specs.Climbing as climbing
-use Rattle.cat_parse_expr.specs.Climbing.{ends_test, goes_so, goes_on, room_beside, nothing_at}
 use Rattle.cat_parse_expr.specs.Cues as cues
-use Rattle.cat_parse_expr.specs.Cues.{kind_of, cue_is, word_of, «word», lower_of, upper_of}
-use Rattle.cat_parse_expr.specs.Longest.{KeepsWhole}
-use Rattle.cat_parse_expr.specs.Parts.{Lower, is_sign}
-use Rattle.cat_parse_expr.specs.Reader.{Parsed, Fails, Reads, Reader, ◌⨟◌, heads, behind_whole}
-use Rattle.cat_parse_expr.specs.Reader.{with_room}
-use Rattle.cat_parse_expr.specs.Rightly.{IsMeasured, IsLow, operand_row, AreRight}
+use Rattle.cat_parse_expr.specs.Cases as cased
+use Rattle.cat_parse_expr.proofs.Common.{Token, Name, Bare, Qualified, Phrase, phrase, Behind, Measured, word_of}
+use Rattle.cat_parse_expr.proofs.Common.{lower_of, upper_of, KeepsWhole, Lower, is_sign, Parsed, Fails, Reads, Reader}
+use Rattle.cat_parse_expr.proofs.Common.{◌⨟◌, heads, behind_whole, with_room, IsMeasured, IsLow, operand_row, AreRight}
+use Rattle.cat_parse_expr.proofs.Common.{left_of, fallen, is_lower, IsSpelling, by_word, phrase_Case, Taken}
 use Rattle.cat_parse_expr.proofs.Firsts.{is_bare}
-use Rattle.std.proofs.lemmas.List.{append-nil}
-use Rattle.cat_parse_expr.specs.Reader.{left_of, fallen}
-use Rattle.cat_parse_expr.specs.Parts.{is_lower}
-use Rattle.cat_parse_expr.proofs.Turnings.{takes_one, shrinks_after, shrinks_one}
-use Rattle.cat_tree.specs.Phrase.{IsSpelling}
-use Rattle.cat_parse_expr.specs.Forms as forms
-use Rattle.cat_parse_expr.specs.Reader.{by_word}
+use Rattle.cat_parse_expr.proofs.Turnings.{takes_one, shrinks_after, shrinks_one, read_shrinks}
 use Rattle.cat_parse_expr.proofs.Climbs.{room_shrinks}
-use Rattle.cat_parse_expr.proofs.Turnings.{read_shrinks}
-use Rattle.cat_tree.proofs.Exported.{phrase_Case}
-use Rattle.cat_parse_expr.specs.Climbing.{operand}
-use Rattle.cat_parse_expr.specs.Right.{Taken}
 use Rattle.cat_parse_expr.proofs.Held.{held_read}
 use Rattle.cat_parse_expr.proofs.Operands.{Placed, whole_same}
 use Rattle.cat_parse_expr.proofs.Primary.{primary_read}
@@ -54,14 +36,14 @@ module _ (ex : Lower) (room : ℕ) (right : AreRight room ex) (kept : AreKept ro
   fallen_reads ts (Fails l deep whole) x left e = absurd cc
   fallen_reads ts (Reads y l) x left e = e
 
-  dotted_takes : (u : Name) (ts left : List Token) (a : Measured) → forms.dotted ex room b k u ts ≡ Reads a left
+  dotted_takes : (u : Name) (ts left : List Token) (a : Measured) → cased.dotted ex room b k u ts ≡ Reads a left
       → length left < length ts
   dotted_takes u ts left a e =
       takes_one (word_of (cue.Sign symbol.Dot)) _ ts left a (λ p us. by (heads is_lower us) us) e
     where
       by : (c : Bool) (us : List Token)
-          → length (left_of (if c then forms.case_field ex room u us
-          else (cues.upper ⨟ λ v. forms.case_content ex room b k (Qualified u v)) us)) ≤ length us
+          → length (left_of (if c then cased.case_field ex room u us
+          else (cues.upper ⨟ λ v. cased.case_content ex room b k (Qualified u v)) us)) ≤ length us
       by true us =
           shrinks_after (with_room room cues.lower us) _ (length us) (room_shrinks room lower_of us)
           (λ x vs. omega arith)
@@ -88,12 +70,12 @@ module _ (ex : Lower) (room : ℕ) (right : AreRight room ex) (kept : AreKept ro
       by false h = h
       by true h =
           absurd (none (length left) (dotted_takes (record { text = u.text; pos = u.pos }) left left a
-          (fallen_reads left (forms.dotted ex room b k (record { text = u.text; pos = u.pos }) left) a left
+          (fallen_reads left (cased.dotted ex room b k (record { text = u.text; pos = u.pos }) left) a left
           (sym (ap (λ (c : Bool). if c then fallen left
-          (forms.dotted ex room b k (record { text = u.text; pos = u.pos }) left)
+          (cased.dotted ex room b k (record { text = u.text; pos = u.pos }) left)
           else by_word (is_sign symbol.LeftBrace)
-          (behind_whole (forms.structure ex room (record { text = u.text; pos = u.pos })))
-          (forms.case_content ex room b k (Bare (record { text = u.text; pos = u.pos }))) left) h) ∙ e))))
+          (behind_whole (cased.structure ex room (record { text = u.text; pos = u.pos })))
+          (cased.case_content ex room b k (Bare (record { text = u.text; pos = u.pos }))) left) h) ∙ e))))
 
   pub bare_stops : (ts left : List Token) (a : Measured) → prim ts ≡ Reads a left
       → (is_bare (phrase a.node) && heads (is_sign symbol.Dot) left) ≡ false

@@ -1,71 +1,45 @@
 -- Literals of structures, and scope calls.
-use Rattle.std.proofs.Common.{◌≡◌, ℕ, suc, ◌≤◌, Bool, false, List, ◌∷◌, refl, sym, ap}
-use Rattle.std.proofs.Common.{◌∙◌, arith}
-use Rattle.cat_pos.specs.declared.pos.Pos.{Pos}
-use Rattle.cat_lex.specs.declared.token.Token.{Token}
+use Rattle.std.proofs.Common.{◌≡◌, ℕ, suc, ◌≤◌, Bool, false, List, ◌∷◌, refl, sym, ap, ◌∙◌, arith, map, if◌then◌else◌}
 use Rattle.cat_lex.specs.declared.token.TokenKind.TheVariants as kind
 use Rattle.cat_lex.specs.declared.words.Keyword.TheVariants as key
 use Rattle.cat_lex.specs.declared.words.DoubleKeyword.TheVariants as pair
 use Rattle.cat_lex.specs.declared.symbol.Symbol.TheVariants as symbol
-use Rattle.cat_tree.specs.declared.name.Name.{Name}
 use Rattle.cat_tree.specs.declared.expression.Node.TheViews as node
-use Rattle.cat_tree.specs.Phrase.{Phrase, Row, Parts, End, Anywhere}
 use Rattle.cat_tree.specs.Wording as wording
-use Rattle.cat_tree.specs.Wording.{◌▹◌, symbol_at, key_at, pair_at, first, then_, lower, sign, part, of_level, words}
-use Rattle.cat_tree.specs.Grammar.{phrase}
-use Rattle.cat_tree.proofs.Exported.{phrase_ScopeCall}
-use Rattle.cat_parse_expr.specs.declared.behind.Behind.{Behind}
 use Rattle.cat_parse_expr.specs.declared.cue.Cue.TheVariants as cue
-use Rattle.cat_parse_expr.specs.declared.measured.Measured.{Measured}
 use Rattle.cat_parse_expr.specs.declared.opening.Opening.TheVariants as opening
-use Rattle.cat_parse_expr.specs.Cues.{kind_of}
-use Rattle.cat_parse_expr.specs.Measures.{closed}
-use Rattle.cat_parse_expr.specs.Reader.{Reader, ◌⨟◌, pure, Reads}
-use Rattle.cat_parse_expr.specs.Parts.{Lower, key_word, pair_word}
-use Rattle.cat_parse_expr.specs.Forms as forms
-use Rattle.cat_parse_expr.specs.Followers.{looks_of}
-use Rattle.cat_parse_expr.specs.Rightly.{IsMeasured, IsLow, operand_row, AreRight}
+use Rattle.cat_parse_expr.specs.Cases as cased
+use Rattle.cat_parse_expr.specs.Brackets as brackets
+use Rattle.cat_parse_expr.specs.Parts as parts
+use Rattle.cat_parse_expr.specs.Parts.{sign as a_sign}
+use Rattle.cat_parse_expr.specs.Cues as cues
+use Rattle.cat_parse_expr.proofs.Common.{Pos, Token, Name, Phrase, Row, Parts, End, Anywhere, ◌▹◌, pair_at, first}
+use Rattle.cat_parse_expr.proofs.Common.{lower, sign, of_level, phrase, phrase_ScopeCall, Behind, Measured}
+use Rattle.cat_parse_expr.proofs.Common.{closed, Reader, ◌⨟◌, pure, Reads, Lower, key_word, pair_word, looks_of}
+use Rattle.cat_parse_expr.proofs.Common.{IsMeasured, IsLow, operand_row, AreRight, ◌▸◌, all, Parsed, Fails, after}
+use Rattle.cat_parse_expr.proofs.Common.{word_of, next_field, SurfaceField, fields, field_row}
+use Rattle.cat_parse_expr.proofs.Common.{MeasuredFields, no_fields}
+use Rattle.cat_parse_expr.proofs.Common.{upper_of, upper}
 use Rattle.cat_parse_expr.proofs.Firsts.{class_ScopeCall}
 use Rattle.cat_parse_expr.proofs.Operands.{Next, OfClass, Form, form_read, measured_by}
 use Rattle.cat_parse_expr.proofs.Read.{IsRead, pure_read}
-use Rattle.cat_parse_expr.proofs.Worded.{word_read, word_at_read, lower_read}
+use Rattle.cat_parse_expr.proofs.Worded.{word_read, word_at_read, lower_read, upper_read}
 use Rattle.cat_parse_expr.proofs.Shut.{IsShut, shut_after, one_shut}
 use Rattle.cat_parse_expr.proofs.Sequels.{part_read, last_read, past_none}
-use Rattle.cat_parse_expr.proofs.Tuples.{both}
-use Rattle.std.proofs.Common.{map, if◌then◌else◌}
-use Rattle.cat_tree.specs.Joined.{◌▸◌, all}
-use Rattle.cat_parse_expr.specs.Parts as parts
-use Rattle.cat_parse_expr.specs.Parts.{has_element, next_element, as_many, is_sign, inner, sign as a_sign}
-use Rattle.cat_parse_expr.specs.Reader.{Parsed, Fails, after}
-use Rattle.cat_parse_expr.specs.Cues.{cue_is, word_of, «word»}
-use Rattle.cat_parse_expr.proofs.Shaping.{reshape_read}
+use Rattle.cat_parse_expr.proofs.Tuples.{both, three}
+use Rattle.cat_parse_expr.proofs.Shaping.{reshape_read, look_read}
 use Rattle.cat_parse_expr.proofs.Turnings.{heads_begin}
-use Rattle.cat_tree.specs.Wording.{if_some}
-use Rattle.cat_parse_expr.specs.Parts.{has_field, next_field, field_value}
-use Rattle.cat_parse_expr.proofs.Shaping.{look_read}
-use Rattle.cat_tree.specs.declared.expression.SurfaceField.{SurfaceField}
-use Rattle.cat_tree.specs.Rows.{fields}
-use Rattle.cat_tree.proofs.Exported.{field_row}
-use Rattle.cat_parse_expr.specs.declared.measured.Fields.{Fields}
-use Rattle.cat_parse_expr.specs.Measures.{no_fields}
-use Rattle.cat_parse_expr.specs.Parts.{is_lower}
-use Rattle.cat_parse_expr.specs.Cues as cues
-use Rattle.cat_parse_expr.specs.Cues.{lower_of, upper_of}
-use Rattle.cat_tree.specs.Wording.{upper}
 use Rattle.cat_parse_expr.proofs.Chosen.{same_read}
 use Rattle.cat_parse_expr.proofs.Positive.{fields_form, fields_match}
-use Rattle.cat_parse_expr.proofs.Tuples.{three}
-use Rattle.cat_parse_expr.proofs.Worded.{upper_read}
-use Rattle.cat_parse_expr.proofs.Valued.{Valued, field_rows, AreValued, valued_of, valued_are}
-use Rattle.cat_parse_expr.proofs.Valued.{values_back, rows_are, fields_from, values_are, highest_is, field_parts}
-use Rattle.cat_parse_expr.proofs.Valued.{fields_are, fields_height, fields_read, fields_shut, some_fields_read}
-use Rattle.cat_parse_expr.proofs.Valued.{some_fields_shut}
+use Rattle.cat_parse_expr.proofs.Valued.{Valued, field_rows, AreValued, valued_of, valued_are, values_back, rows_are}
+use Rattle.cat_parse_expr.proofs.Valued.{fields_from, values_are, highest_is, field_parts, fields_are, fields_height}
+use Rattle.cat_parse_expr.proofs.Valued.{fields_read, fields_shut, some_fields_read, some_fields_shut}
 
 -- ---- output of U with { [-- w : E]* } . w
 
 callee_read : IsRead (λ (c : Pos × Name). c) ⊥ (Unit {0}) (Unit {0}) (λ c. Unit {0}) (λ c v. Unit {0}) (λ k. false)
     (λ c. Unit {0})
-    (λ c. pair_at pair.OutputOf c.0 ▹ upper c.1 ▹ wording.«word» key.With ▹ sign symbol.LeftBrace ▹ End) forms.callee
+    (λ c. pair_at pair.OutputOf c.0 ▹ upper c.1 ▹ wording.«word» key.With ▹ sign symbol.LeftBrace ▹ End) brackets.callee
 callee_read =
     word_at_read (cue.Pair pair.OutputOf) (λ c. c.0) _ _
     (λ p. upper_read (λ c. c.1) _ _
@@ -73,7 +47,7 @@ callee_read =
     (λ q. word_read (cue.Sign symbol.LeftBrace) _ _
     (λ r. pure_read (p, u) (λ f. ((tt, refl), refl)) (λ f c. tt) (λ y f h. both y p u h.0.1 h.1)))))
 
-callee_shut : (ts : List Token) → IsShut (forms.callee ts)
+callee_shut : (ts : List Token) → IsShut (brackets.callee ts)
 callee_shut ts =
     shut_after (pair_word pair.OutputOf ts) _ (one_shut (word_of (cue.Pair pair.OutputOf)) ts)
     (λ p ts. shut_after (cues.upper ts) _ (one_shut upper_of ts)
@@ -92,7 +66,7 @@ a_lower_read =
     by (Reads x left) = refl
 
 output_read : {K : Type 0} → IsRead (λ (w : Name). w) K (Unit {0}) (Unit {0}) (λ w. Unit {0}) (λ w v. Unit {0})
-    (λ k. false) (λ w. Unit {0}) (λ w. sign symbol.RightBrace ▹ sign symbol.Dot ▹ lower w ▹ End) forms.output
+    (λ k. false) (λ w. Unit {0}) (λ w. sign symbol.RightBrace ▹ sign symbol.Dot ▹ lower w ▹ End) brackets.output
 output_read =
     word_read (cue.Sign symbol.RightBrace) _ _ (λ p. word_read (cue.Sign symbol.Dot) _ _ (λ q. a_lower_read))
 
@@ -100,7 +74,7 @@ module _ (ex : Lower) (room : ℕ) (right : AreRight room ex) (b : Behind) (k : 
   abbrev Scoped : Type 0
   Scoped = (Pos × Name) × List Valued × Name
 
-  abbrev made : List Valued → Fields
+  abbrev made : List Valued → MeasuredFields
   made xs = fields_from no_fields xs
 
   abbrev scoped_of : Scoped → Measured
@@ -151,10 +125,10 @@ module _ (ex : Lower) (room : ℕ) (right : AreRight room ex) (b : Behind) (k : 
 
   pub scoped_read : {K : Type 0} → k ≤ 9
       → IsRead (λ y. y) K (Unit {0}) (Unit {0}) (IsLow (suc room)) (Next b k) (looks_of b) (OfClass k opening.ScopeCall)
-      (operand_row k) (forms.scope_call ex room)
+      (operand_row k) (brackets.scope_call ex room)
   scoped_read le =
       form_read k (suc room) (Next b k) opening.ScopeCall (λ t. AreValued t.1) scoped_row scoped_of
-      (forms.scope_call ex room) (scoped_form le)
+      (brackets.scope_call ex room) (scoped_form le)
       (part_read (λ t. t.0) _ _ callee_read callee_shut (λ x ts. past_none (looks_of b) _ ts)
       (record { fit = λ y f. tt; behind = λ y w v f s. tt; part = λ y f low. tt })
       (λ c. reshape_read (λ t. AreValued t.1 × (t.0 ≡ c)) (λ t. AreValued t.1 × (t.0 ≡ c))
@@ -194,7 +168,7 @@ module _ (ex : Lower) (room : ℕ) (right : AreRight room ex) (b : Behind) (k : 
   abbrev pub Built : Type 0
   Built = Valued × List Valued
 
-  abbrev pub built_fields : Built → Fields
+  abbrev pub built_fields : Built → MeasuredFields
   built_fields c = fields_from no_fields (c.0 ∷ c.1)
 
   abbrev pub built_of : Built → Measured
@@ -208,7 +182,7 @@ module _ (ex : Lower) (room : ℕ) (right : AreRight room ex) (b : Behind) (k : 
 
   pub structure_read : {K : Type 0}
       → IsRead built_of K (Unit {0}) (Unit {0}) (λ c. (built_of c).height ≤ suc room) (λ c v. Next b k (built_of c) v)
-      (looks_of b) built_fits built_rest (forms.structure ex room u)
+      (looks_of b) built_fits built_rest (cased.structure ex room u)
   structure_read =
       word_read (cue.Sign symbol.LeftBrace) _ _
       (λ p. same_read
@@ -233,5 +207,5 @@ module _ (ex : Lower) (room : ℕ) (right : AreRight room ex) (b : Behind) (k : 
       (λ c. word_read (cue.Sign symbol.RightBrace) _ _
       (λ q. pure_read c (λ f. (f.1, refl)) (λ f l. omega (arith, l.1)) (λ y f h. h.1))))))
     where
-      behind : Fields → Reader Measured
+      behind : MeasuredFields → Reader Measured
       behind l = a_sign symbol.RightBrace ⨟ λ q. pure (closed 9 l.tallest (node.Structure u l.values))

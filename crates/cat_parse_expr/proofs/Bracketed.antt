@@ -1,99 +1,70 @@
 -- Lists in brackets.
-use Rattle.std.proofs.Common.{◌≡◌, ℕ, suc, ◌≤◌, Bool, true, false, List, [], ◌∷◌, ◌++◌, refl, sym, ap}
-use Rattle.std.proofs.Common.{subst, ◌∙◌, arith, inl, inr, ◌⊎◌}
-use Rattle.cat_pos.specs.declared.pos.Pos.{Pos}
-use Rattle.cat_lex.specs.declared.token.Token.{Token}
-use Rattle.cat_lex.specs.declared.token.TokenKind.{TokenKind}
+use Rattle.std.proofs.Common.{◌≡◌, ℕ, suc, ◌≤◌, Bool, true, false, List, [], ◌∷◌, ◌++◌, refl, sym, ap, subst, ◌∙◌}
+use Rattle.std.proofs.Common.{arith, inl, inr, ◌⊎◌, map, length, if◌then◌else◌, append_assoc}
 use Rattle.cat_lex.specs.declared.token.TokenKind.TheVariants as kind
 use Rattle.cat_lex.specs.declared.symbol.Symbol.TheVariants as symbol
-use Rattle.cat_tree.specs.declared.expression.Node.{Node}
 use Rattle.cat_tree.specs.declared.expression.Node.TheViews as node
-use Rattle.cat_tree.specs.Phrase.{Row, Parts, End, Anywhere}
-use Rattle.cat_tree.specs.Wording.{◌▹◌, symbol_at, sign, part, of_level}
-use Rattle.cat_tree.specs.Grammar.{phrase}
-use Rattle.cat_tree.proofs.Exported.{phrase_List}
-use Rattle.cat_parse_expr.specs.declared.behind.Behind.{Behind}
-use Rattle.cat_parse_expr.specs.declared.behind.Behind.TheVariants.{Other}
 use Rattle.cat_parse_expr.specs.declared.cue.Cue.TheVariants as cue
-use Rattle.cat_parse_expr.specs.declared.measured.Measured.{Measured}
 use Rattle.cat_parse_expr.specs.declared.opening.Opening.TheVariants as opening
-use Rattle.cat_parse_expr.specs.Measures.{closed}
-use Rattle.cat_parse_expr.specs.Reader.{Reader, ◌⨟◌, pure}
-use Rattle.cat_parse_expr.specs.Parts.{Lower}
-use Rattle.cat_parse_expr.specs.Forms as forms
-use Rattle.cat_parse_expr.specs.Followers.{MayFollow, looks_of}
-use Rattle.cat_parse_expr.specs.Rightly.{IsMeasured, IsLow, operand_row, AreRight}
-use Rattle.cat_parse_expr.proofs.Firsts.{class_List}
-use Rattle.cat_parse_expr.proofs.Operands.{Next, OfClass, Form, form_read, measured_by}
-use Rattle.cat_parse_expr.proofs.Operands.{inner_read}
-use Rattle.cat_parse_expr.proofs.Read.{IsRead, pure_read}
-use Rattle.cat_parse_expr.proofs.Worded.{word_read, word_at_read}
-use Rattle.cat_parse_expr.proofs.Shut.{hidden_shut, IsShut, shut_after, one_shut}
-use Rattle.cat_parse_expr.proofs.Sequels.{part_read, last_read, past_none}
-use Rattle.cat_parse_expr.proofs.Shut.{shut_turns}
-use Rattle.cat_parse_expr.proofs.Tuples.{both}
-use Rattle.std.proofs.Common.{map, length, if◌then◌else◌}
-use Rattle.cat_tree.specs.Joined.{◌▸◌, all}
-use Rattle.cat_tree.specs.Rows.{elements}
-use Rattle.std.proofs.Common.{append_assoc}
-use Rattle.cat_tree.specs.Phrase.{AreLevelled, AreSpelled}
-use Rattle.cat_parse_expr.proofs.Loops as loops
-use Rattle.cat_parse_expr.specs.declared.measured.Elements.{Elements}
-use Rattle.cat_parse_expr.specs.Measures.{with_element, no_elements}
+use Rattle.cat_parse_expr.specs.Brackets as brackets
 use Rattle.cat_parse_expr.specs.Parts as parts
 use Rattle.cat_parse_expr.specs.Parts.{has_element, next_element, as_many, is_sign, inner, sign as a_sign}
-use Rattle.cat_parse_expr.specs.Reader.{heads}
-use Rattle.cat_parse_expr.specs.Cues.{word_of}
-use Rattle.cat_parse_expr.specs.Right.{Is}
-use Rattle.cat_parse_expr.proofs.Chaining as chaining
+use Rattle.cat_parse_expr.proofs.Common.{Pos, Token, Node, Row, Parts, End, Anywhere, ◌▹◌, symbol_at, sign}
+use Rattle.cat_parse_expr.proofs.Common.{part, of_level, phrase, phrase_List, Behind, Other, Measured, closed, Reader}
+use Rattle.cat_parse_expr.proofs.Common.{◌⨟◌, pure, Lower, MayFollow, looks_of, IsMeasured, IsLow, operand_row}
+use Rattle.cat_parse_expr.proofs.Common.{AreRight, ◌▸◌, all, elements, AreLevelled, AreSpelled}
+use Rattle.cat_parse_expr.proofs.Common.{MeasuredNodes, with_element}
+use Rattle.cat_parse_expr.proofs.Common.{no_elements, heads, word_of, Is}
+use Rattle.cat_parse_expr.proofs.Firsts.{class_List}
+use Rattle.cat_parse_expr.proofs.Operands.{Next, OfClass, Form, form_read, measured_by, inner_read, part_shrinks}
+use Rattle.cat_parse_expr.proofs.Operands.{hidden_left}
+use Rattle.cat_parse_expr.proofs.Read.{IsRead, pure_read}
+use Rattle.cat_parse_expr.proofs.Worded.{word_read, word_at_read}
+use Rattle.cat_parse_expr.proofs.Shut.{hidden_shut, IsShut, shut_after, one_shut, shut_turns}
+use Rattle.cat_parse_expr.proofs.Sequels.{part_read, last_read, past_none}
+use Rattle.cat_parse_expr.proofs.Tuples.{both}
 use Rattle.cat_parse_expr.proofs.Choices.{Decides, Recast}
 use Rattle.cat_parse_expr.proofs.Chosen.{inner_choice_read}
-use Rattle.cat_parse_expr.proofs.Lists as lists
-use Rattle.cat_parse_expr.proofs.Looping as looping
-use Rattle.cat_parse_expr.proofs.Nodes.{phrases_of, AreMeasured, measures_of, measures_are, nodes_back}
-use Rattle.cat_parse_expr.proofs.Nodes.{elements_from, nodes_are, tallest_is, row_behind, chain_elements}
-use Rattle.cat_parse_expr.proofs.Nodes.{elements_behind}
+use Rattle.cat_parse_expr.proofs.Nodes.{phrases_of, AreMeasured, measures_of, measures_are, nodes_back, elements_from}
+use Rattle.cat_parse_expr.proofs.Nodes.{nodes_are, tallest_is, row_behind, chain_elements, elements_behind}
 use Rattle.cat_parse_expr.proofs.Nodes.{elements_height, elements_last, behind_end}
 use Rattle.cat_parse_expr.proofs.Openers.{begins_not}
 use Rattle.cat_parse_expr.proofs.Shaping.{narrow_read, recast_read, reshape_read}
 use Rattle.cat_parse_expr.proofs.Turnings.{heads_begin, heads_other, heads_follow, heads_seen, shrinks_after}
+use Rattle.cat_parse_expr.proofs.Loops as loops
+use Rattle.cat_parse_expr.proofs.Chaining as chaining
 use Rattle.cat_parse_expr.proofs.Turnings as turnings
-use Rattle.cat_parse_expr.proofs.Operands.{part_shrinks, hidden_left}
 
 module _ (ex : Lower) (room : ℕ) (right : AreRight room ex) where
-  abbrev Out : Elements → List Token → Type 0
+  abbrev Out : MeasuredNodes → List Token → Type 0
   Out s v = heads (is_sign symbol.RightBracket) v ≡ true
 
-  abbrev More : Elements → List Token → Type 0
-  More s v = has_element s v ≡ true
+  abbrev loop : loops.Loop MeasuredNodes Measured
+  loop = record {
+    goes = has_element;
+    put = with_element;
+    Good = λ s. Unit {0};
+    Low = λ s. s.tallest ≤ room;
+    Out = Out;
+    More = λ s v. has_element s v ≡ true;
+    looks = λ k. false;
+    FitsOne = λ s x. IsMeasured x;
+    row_one = row_behind 0 symbol.Semicolon;
+  }
 
-  abbrev Low : Elements → Type 0
-  Low s = s.tallest ≤ room
-
-  abbrev Good : Elements → Type 0
-  Good s = Unit {0}
-
-  abbrev Fits : Elements → Measured → Type 0
-  Fits s x = IsMeasured x
-
-  abbrev none : TokenKind → Bool
-  none k = false
-
-  abbrev row_one : Measured → Parts
-  row_one = row_behind 0 symbol.Semicolon
-
-  abbrev rest : Elements → Pos → Reader Elements
+  abbrev rest : MeasuredNodes → Pos → Reader MeasuredNodes
   rest s p = inner ex ⨟ λ e. pure (with_element s e)
 
-  next_follows : (s : Elements) (x : Measured) (v : List Token)
+  next_follows : (s : MeasuredNodes) (x : Measured) (v : List Token)
       → Out s v ⊎ (has_element s v ≡ true) → MayFollow Other 0 x v
   next_follows s x v (inl o) = heads_follow Other 0 x (cue.Sign symbol.RightBracket) v refl o
   next_follows s x v (inr o) = heads_follow Other 0 x (cue.Sign symbol.Semicolon) v refl o
 
-  turn_read : {F : Type 0} (s : Elements) → IsRead (with_element s) ⊥ F (Low s) (λ x. Low (with_element s x))
-      (λ x v. Out (with_element s x) v ⊎ (has_element (with_element s x) v ≡ true)) none (Fits s) row_one
+  read_turn : (s : MeasuredNodes) → IsRead (with_element s) ⊥
+      (Unit {0} × ((us : List Token) × (has_element s us ≡ true))) (loop.Low s) (λ x. loop.Low (with_element s x))
+      (λ x v. Out (with_element s x) v ⊎ (has_element (with_element s x) v ≡ true)) loop.looks IsMeasured loop.row_one
       (next_element ex s)
-  turn_read s =
+  read_turn s =
       word_read (cue.Sign symbol.Semicolon) _ _
       (λ p. last_read (λ x. x) (λ x. x) _ (inner_read ex room right Other) (λ x ts. refl)
       (record {
@@ -106,15 +77,7 @@ module _ (ex : Lower) (room : ℕ) (right : AreRight room ex) where
         outside = λ f x v m o. next_follows s x v o;
       }))
 
-  abbrev Ready : Elements → Type 0
-  Ready s = Good s × ((us : List Token) × (has_element s us ≡ true))
-
-  read_turn : (s : Elements) → IsRead (with_element s) ⊥ (Ready s) (Low s) (λ x. Low (with_element s x))
-      (λ x v. Out (with_element s x) v ⊎ More (with_element s x) v) none (Fits s) row_one (next_element ex s)
-  read_turn s = turn_read s
-
-  worded : turnings.Worded has_element with_element Good Low Out More none Fits row_one
-      (cue.Sign symbol.Semicolon) rest read_turn
+  worded : turnings.Worded loop (cue.Sign symbol.Semicolon) rest read_turn
   worded = record {
     starts = λ s ts h. h;
     shrinks =
@@ -129,29 +92,16 @@ module _ (ex : Lower) (room : ℕ) (right : AreRight room ex) where
     stops = λ s v o. heads_other (cue.Sign symbol.RightBracket) (cue.Sign symbol.Semicolon) v refl o;
     ends = λ s. refl;
     sees = λ s p ps qs g. refl;
-    sees_past = λ s ls others g. heads_seen none (is_sign symbol.Semicolon) ls others g;
+    sees_past = λ s ls others g. heads_seen loop.looks (is_sign symbol.Semicolon) ls others g;
     grows = λ s x low. omega (arith, low);
     stays = λ s x f g. tt;
   }
 
-  abbrev one : Elements → Reader Measured
+  abbrev one : MeasuredNodes → Reader Measured
   one s = (read_turn s).reader
 
-  chain_is : (s : Elements) (xs : List Measured)
-      → lists.put_all has_element one with_element s xs ≡ elements_from s xs
-  chain_is s [] = refl
-  chain_is s (x ∷ xs) = chain_is (with_element s x) xs
-
-  turning : loops.Turning has_element one with_element Good Low Out More none Fits row_one
-  turning =
-      turnings.plain_turning has_element with_element Good Low Out More none Fits row_one
-      (cue.Sign symbol.Semicolon) rest
-      read_turn worded
-
-  same : (s : Elements) (ts : List Token) → next_element ex s ts ≡ lists.turn has_element one with_element s ts
-  same = turnings.plain_same has_element with_element Good Low Out More none Fits row_one
-      (cue.Sign symbol.Semicolon) rest
-      read_turn worded
+  turning : loops.Turning loop one
+  turning = turnings.plain_turning loop (cue.Sign symbol.Semicolon) rest read_turn worded
 
   -- ---- E ; E
 
@@ -168,42 +118,34 @@ module _ (ex : Lower) (room : ℕ) (right : AreRight room ex) where
   abbrev all_out : List Measured → List Token → Type 0
   all_out xs v = heads (is_sign symbol.RightBracket) v ≡ true
 
-  abbrev begin : Measured → Elements
+  abbrev begin : Measured → MeasuredNodes
   begin e = with_element no_elements e
 
   abbrev Chained : Type 0
   Chained = Measured × List Measured
 
-  fits_all : (s : Elements) (xs : List Measured) → AreMeasured xs
-      → looping.FitsFrom has_element one with_element Good Low Out More none Fits row_one turning s xs
+  abbrev head : chaining.Head Measured Measured MeasuredNodes
+  head = record { made = λ e. e; Low = IsLow room; Fits = IsMeasured; row = operand_row 0; begin = begin }
+
+  fits_all : (s : MeasuredNodes) (xs : List Measured) → AreMeasured xs → loops.FitsFrom loop one s xs
   fits_all s [] m = tt
   fits_all s (x ∷ xs) m = (m.0, fits_all (with_element s x) xs m.1)
 
-  all_fits : (s : Elements) (xs : List Measured)
-      → looping.FitsFrom has_element one with_element Good Low Out More none Fits row_one turning s xs → AreMeasured xs
+  all_fits : (s : MeasuredNodes) (xs : List Measured) → loops.FitsFrom loop one s xs → AreMeasured xs
   all_fits s [] m = tt
   all_fits s (x ∷ xs) m = (m.0, all_fits (with_element s x) xs m.1)
 
-  chain_low : (y : Chained)
-      → chaining.Low_chain has_element one with_element Good Low Out More none Fits row_one turning
-      (next_element ex) same (λ e. e)
-      (IsLow room) IsMeasured (operand_row 0) begin y
-      ≡ all_low (y.0 ∷ y.1)
-  chain_low y = ap (λ (s : Elements). s.tallest ≤ room) (chain_is (begin y.0) y.1)
-
-  row_is : (y : Chained) → operand_row 0 y.0 ▸ all row_one y.1 ≡ all_row (y.0 ∷ y.1)
+  row_is : (y : Chained) → operand_row 0 y.0 ▸ all loop.row_one y.1 ≡ all_row (y.0 ∷ y.1)
   row_is y =
-      ap (λ (ps : Parts). part 0 (phrase y.0.node) ps) (sym (behind_end (all row_one y.1)))
+      ap (λ (ps : Parts). part 0 (phrase y.0.node) ps) (sym (behind_end (all loop.row_one y.1)))
       ∙ sym (chain_elements 0 symbol.Semicolon y.0 y.1 End)
 
-  some_read : IsRead (elements_from no_elements) ⊥ (Unit {0}) (Unit {0}) all_low all_out none Some_of all_row
+  some_read : IsRead (elements_from no_elements) ⊥ (Unit {0}) (Unit {0}) all_low all_out loop.looks Some_of all_row
       (inner ex ⨟ λ e. as_many has_element (next_element ex) (with_element no_elements e))
   some_read =
-      recast_read _ _ _ _ (λ y. y.0 ∷ y.1) (λ y. chain_is (begin y.0) y.1) (λ f. f) (λ f c. c) (λ f. cast.to)
-      (λ f c. cast)
-      (chaining.inner_chain_read has_element one with_element Good Low Out More none Fits row_one turning
-      (next_element ex) same
-      (λ e. e) (IsLow room) IsMeasured (operand_row 0) begin
+      recast_read _ _ _ _ (λ y. y.0 ∷ y.1) (λ y. refl) (λ f. f) (λ f c. c) (λ f. cast.to) (λ f c. cast)
+      (chaining.inner_chain_read loop one head turning (next_element ex)
+      (turnings.plain_same loop (cue.Sign symbol.Semicolon) rest read_turn worded)
       (record {
         good = λ a f. tt;
         low = λ a f low. omega (arith, low);
@@ -213,9 +155,7 @@ module _ (ex : Lower) (room : ℕ) (right : AreRight room ex) where
       (narrow_read (MayFollow Other 0) (λ y v f o. next_follows no_elements y v o) (inner_read ex room right Other)))
     where
       to : (y : Chained) (w : List Token)
-          → Is (chaining.fits_chain has_element one with_element Good Low Out More none Fits row_one turning
-          (next_element ex) same
-          (λ e. e) (IsLow room) IsMeasured (operand_row 0) begin) (λ y. operand_row 0 y.0 ▸ all row_one y.1) y w
+          → Is (chaining.fits_chain loop one head) (chaining.row_chain loop one head) y w
           → Is Some_of all_row (y.0 ∷ y.1) w
       to y w i = record {
         fit = (i.fit.0, all_fits (begin y.0) y.1 i.fit.1);
@@ -224,9 +164,7 @@ module _ (ex : Lower) (room : ℕ) (right : AreRight room ex) where
       }
 
       from : (xs : List Measured) (w : List Token) → Is Some_of all_row xs w → (y : Chained) × (xs ≡ y.0 ∷ y.1)
-          × Is (chaining.fits_chain has_element one with_element Good Low Out More none Fits row_one turning
-          (next_element ex) same
-          (λ e. e) (IsLow room) IsMeasured (operand_row 0) begin) (λ y. operand_row 0 y.0 ▸ all row_one y.1) y w
+          × Is (chaining.fits_chain loop one head) (chaining.row_chain loop one head) y w
       from [] w i = absurd i.fit
       from (x ∷ xs) w i = (
         (x, xs),
@@ -238,22 +176,13 @@ module _ (ex : Lower) (room : ℕ) (right : AreRight room ex) where
         },
       )
 
-      cast : Recast (chaining.Low_chain has_element one with_element Good Low Out More none Fits row_one turning
-          (next_element ex) same
-          (λ e. e) (IsLow room) IsMeasured (operand_row 0) begin) all_low
-          (chaining.Out_chain has_element one with_element Good Low Out More none Fits row_one turning
-          (next_element ex) same
-          (λ e. e) (IsLow room) IsMeasured (operand_row 0) begin) all_out
-          (chaining.fits_chain has_element one with_element Good Low Out More none Fits row_one turning
-          (next_element ex) same
-          (λ e. e) (IsLow room) IsMeasured (operand_row 0) begin) Some_of
-          (λ y. operand_row 0 y.0 ▸ all row_one y.1) all_row
-          (λ y. y.0 ∷ y.1)
+      cast : Recast (chaining.Low_chain loop one head) all_low (chaining.Out_chain loop one head) all_out
+          (chaining.fits_chain loop one head) Some_of (chaining.row_chain loop one head) all_row (λ y. y.0 ∷ y.1)
       cast = record {
         to = to;
         from = from;
-        lows = λ y fit low. subst (λ (A : Type 0). A) (chain_low y) low;
-        back = λ y fit low. subst (λ (A : Type 0). A) (sym (chain_low y)) low;
+        lows = λ y fit low. low;
+        back = λ y fit low. low;
         outside = λ y v fit o. o;
       }
 
@@ -292,8 +221,7 @@ module _ (ex : Lower) (room : ℕ) (right : AreRight room ex) where
           ∙ begins_not (cue.Sign symbol.RightBracket) x.node p.0 (p.1 ++ v) refl p.3
 
   pub elements_read : IsRead (elements_from no_elements) ⊥ (Unit {0})
-      (Unit {0}) all_low all_out none AreMeasured all_row
-      (parts.elements ex)
+      (Unit {0}) all_low all_out loop.looks AreMeasured all_row (parts.elements ex)
   elements_read =
       inner_choice_read (is_sign symbol.RightBracket) (λ xs. xs ≡ []) Some_of decides
       (reshape_read (λ xs. xs ≡ []) (λ xs. xs ≡ []) (λ xs. End) all_row _
@@ -301,7 +229,7 @@ module _ (ex : Lower) (room : ℕ) (right : AreRight room ex) where
       (pure_read [] (λ f. refl) (λ f c. omega arith) (λ y f h. h)))
       some_read
 
-  turn_shut : (s : Elements) (ts : List Token) → IsShut (next_element ex s ts)
+  turn_shut : (s : MeasuredNodes) (ts : List Token) → IsShut (next_element ex s ts)
   turn_shut s ts =
       shut_after (a_sign symbol.Semicolon ts) _ (one_shut (word_of (cue.Sign symbol.Semicolon)) ts)
       (λ p ts. shut_after (inner ex ts) _ (hidden_shut (ex Other 0 ts)) (λ e ts. tt))
@@ -322,7 +250,7 @@ module _ (ex : Lower) (room : ℕ) (right : AreRight room ex) (b : Behind) (k : 
   abbrev Listed : Type 0
   Listed = Pos × List Measured
 
-  abbrev made : List Measured → Elements
+  abbrev made : List Measured → MeasuredNodes
   made xs = elements_from no_elements xs
 
   abbrev listed_of : Listed → Measured
@@ -367,9 +295,9 @@ module _ (ex : Lower) (room : ℕ) (right : AreRight room ex) (b : Behind) (k : 
 
   pub listed_read : {K : Type 0} → k ≤ 9
       → IsRead (λ y. y) K (Unit {0}) (Unit {0}) (IsLow (suc room)) (Next b k) (looks_of b) (OfClass k opening.List)
-      (operand_row k) (forms.list ex room)
+      (operand_row k) (brackets.list ex room)
   listed_read le =
-      form_read k (suc room) (Next b k) opening.List (λ t. AreMeasured t.1) listed_row listed_of (forms.list ex room)
+      form_read k (suc room) (Next b k) opening.List (λ t. AreMeasured t.1) listed_row listed_of (brackets.list ex room)
       (listed_form le)
       (word_at_read (cue.Sign symbol.LeftBracket) (λ t. t.0) _ _
       (λ p. reshape_read (λ t. AreMeasured t.1 × (t.0 ≡ p)) (λ t. AreMeasured t.1 × (t.0 ≡ p))

@@ -1,30 +1,17 @@
 -- Names and calls.
-use Rattle.std.proofs.Common.{◌≡◌, ℕ, ◌≤◌, Bool, true, false, List, [], ◌∷◌, refl, sym, ap}
-use Rattle.std.proofs.Common.{◌∙◌, arith, inl, inr, ◌⊎◌}
-use Rattle.cat_lex.specs.declared.token.Token.{Token}
-use Rattle.cat_lex.specs.declared.token.TokenKind.{TokenKind}
+use Rattle.std.proofs.Common.{◌≡◌, ℕ, ◌≤◌, Bool, true, false, List, [], ◌∷◌, refl, sym, ap, ◌∙◌, arith, inl, inr, ◌⊎◌}
+use Rattle.std.proofs.Common.{not, nat_eq, ◌&&◌, ◌||◌, cond}
+use Rattle.std.proofs.lemmas.Bool.Decides.{nat_tests}
 use Rattle.cat_lex.specs.declared.token.TokenKind.TheVariants as kind
 use Rattle.cat_lex.specs.declared.words.DoubleKeyword.TheVariants as pair
 use Rattle.cat_lex.specs.declared.symbol.Symbol.TheVariants as symbol
-use Rattle.cat_tree.specs.Phrase.{End}
-use Rattle.cat_tree.specs.Grammar.{phrase}
-use Rattle.cat_parse_expr.specs.declared.behind.Behind.{Behind}
 use Rattle.cat_parse_expr.specs.declared.behind.Behind.TheVariants.{Other, Field, Pattern as Tested}
-use Rattle.cat_parse_expr.specs.declared.measured.Measured.{Measured}
-use Rattle.cat_parse_expr.specs.Followers.{MayFollow, is_taken}
-use Rattle.cat_parse_expr.specs.Rightly.{IsMeasured}
-use Rattle.cat_parse_expr.proofs.Operands.{Next, match_is}
-use Rattle.cat_tree.specs.Rows.{elements}
-use Rattle.cat_parse_expr.specs.Parts.{is_sign}
-use Rattle.cat_parse_expr.specs.Reader.{heads}
+use Rattle.cat_parse_expr.proofs.Common.{Token, TokenKind, End, phrase, Behind, Measured, MayFollow, is_taken}
+use Rattle.cat_parse_expr.proofs.Common.{IsMeasured, elements, is_sign, heads, right_strength, last_in_form}
+use Rattle.cat_parse_expr.proofs.Common.{last_in_match, is_asked, is_below, is_with_pattern, follow_of}
+use Rattle.cat_parse_expr.proofs.Operands.{Next, match_is, ending_next}
 use Rattle.cat_parse_expr.proofs.Nodes.{phrases_of, AreMeasured}
-use Rattle.std.proofs.Common.{not, nat_eq, ◌&&◌, ◌||◌, cond}
-use Rattle.std.proofs.lemmas.Bool.Decides.{nat_tests}
-use Rattle.cat_tree.specs.Phrase.{right_strength, last_in_form, last_in_match}
-use Rattle.cat_parse_expr.specs.Followers.{is_asked, is_below, is_with_pattern}
-use Rattle.cat_parse_expr.specs.Openings.{follow_of}
 use Rattle.cat_parse_expr.proofs.Follows.{argument_ends}
-use Rattle.cat_parse_expr.proofs.Operands.{ending_next}
 use Rattle.cat_parse_expr.proofs.Positive.{ends_in_word, nine_strength}
 use Rattle.cat_parse_expr.proofs.Truth.{first_true, third_true}
 

@@ -1,50 +1,28 @@
 -- Cases, alone, with content, as structures and with a field.
-use Rattle.std.proofs.Common.{◌≡◌, ℕ, ◌≤◌, Bool, true, false, List, [], ◌∷◌, ◌++◌, refl, sym, ap}
-use Rattle.std.proofs.Common.{subst, ◌∙◌, arith, inl, inr}
-use Rattle.cat_lex.specs.declared.token.Token.{Token}
+use Rattle.std.proofs.Common.{◌≡◌, ℕ, ◌≤◌, Bool, true, false, List, [], ◌∷◌, ◌++◌, refl, sym, ap, subst, ◌∙◌, arith}
+use Rattle.std.proofs.Common.{inl, inr, map, if◌then◌else◌}
 use Rattle.cat_lex.specs.declared.token.TokenKind.TheVariants as kind
 use Rattle.cat_lex.specs.declared.words.Keyword.TheVariants as key
 use Rattle.cat_lex.specs.declared.symbol.Symbol.TheVariants as symbol
-use Rattle.cat_tree.specs.declared.name.Name.{Name}
-use Rattle.cat_tree.specs.declared.expression.Node.{Node}
 use Rattle.cat_tree.specs.declared.expression.Node.TheViews as node
-use Rattle.cat_tree.specs.Phrase.{Phrase, Row, Rank, Parts, End, Word, At, Anywhere, height}
 use Rattle.cat_tree.specs.Wording as wording
-use Rattle.cat_tree.specs.Wording.{◌▹◌, symbol_at, key_at, pair_at, first, then_, lower, sign, part, of_level, words}
-use Rattle.cat_tree.specs.Grammar.{phrase}
-use Rattle.cat_tree.proofs.Exported.{phrase_Case, phrase_Content, phrase_Structure, phrase_Field}
-use Rattle.cat_parse_expr.specs.declared.measured.Measured.{Measured}
 use Rattle.cat_parse_expr.specs.declared.opening.Opening.TheVariants as opening
-use Rattle.cat_parse_expr.specs.Measures.{closed}
-use Rattle.cat_parse_expr.specs.Rightly.{measured_of, IsMeasured}
-use Rattle.cat_parse_expr.proofs.Firsts.{Shape, class_of, class_Case, class_Content, class_Structure, class_Selected}
-use Rattle.cat_parse_expr.proofs.Positive.{positive}
-use Rattle.cat_parse_expr.proofs.Operands.{Form, measured_by, height_is, match_is}
-use Rattle.cat_parse_expr.proofs.Operands.{strength_by}
-use Rattle.std.proofs.Common.{map, if◌then◌else◌}
-use Rattle.cat_tree.specs.Phrase.{AreLevelled, AreSpelled}
-use Rattle.cat_tree.specs.Phrase.{right_strength, left_strength}
-use Rattle.cat_tree.specs.Phrase.{IsLevelled}
-use Rattle.cat_tree.specs.Wording.{if_some}
 use Rattle.cat_tree.specs.declared.expression.Node.TheVariants as leaves
-use Rattle.cat_parse_expr.specs.Measures.{leaf}
-use Rattle.cat_tree.specs.declared.expression.SurfaceField.{SurfaceField}
-use Rattle.cat_tree.specs.Rows.{fields}
-use Rattle.cat_tree.proofs.Exported.{field_row}
-use Rattle.cat_parse_expr.specs.declared.measured.Fields.{Fields}
-use Rattle.cat_parse_expr.specs.Measures.{with_field, no_fields}
-use Rattle.cat_tree.specs.Wording.{upper}
-use Rattle.cat_parse_expr.proofs.Positive.{fields_form, fields_match}
-use Rattle.cat_parse_expr.proofs.Valued.{Valued, field_rows, AreValued, valued_of, valued_are}
-use Rattle.cat_parse_expr.proofs.Valued.{values_back, rows_are, fields_from, values_are, highest_is}
-use Rattle.cat_parse_expr.proofs.Valued.{fields_height}
-use Rattle.cat_tree.specs.declared.name.CaseName.TheVariants.{Bare, Qualified}
-use Rattle.cat_tree.specs.Wording.{left}
-use Rattle.cat_tree.specs.Phrase.{IsSpelling}
+use Rattle.cat_parse_expr.proofs.Common.{Token, Name, Node, Phrase, Row, Rank, Parts, End, Word, At, Anywhere, height}
+use Rattle.cat_parse_expr.proofs.Common.{◌▹◌, lower, sign, part, of_level, phrase, phrase_Case, phrase_Content}
+use Rattle.cat_parse_expr.proofs.Common.{phrase_Structure, phrase_Field, Measured, closed, measured_of, IsMeasured}
+use Rattle.cat_parse_expr.proofs.Common.{AreLevelled, AreSpelled, right_strength, left_strength, IsLevelled, if_some}
+use Rattle.cat_parse_expr.proofs.Common.{leaf, SurfaceField, fields, field_row, MeasuredFields, with_field}
+use Rattle.cat_parse_expr.proofs.Common.{no_fields, upper}
+use Rattle.cat_parse_expr.proofs.Common.{Bare, Qualified, left, IsSpelling}
+use Rattle.cat_parse_expr.proofs.Firsts.{Shape, class_of, class_Case, class_Content, class_Structure, class_Selected}
+use Rattle.cat_parse_expr.proofs.Positive.{positive, fields_form, fields_match}
+use Rattle.cat_parse_expr.proofs.Operands.{Form, measured_by, height_is, match_is, strength_by}
+use Rattle.cat_parse_expr.proofs.Valued.{Valued, field_rows, AreValued, valued_of, valued_are, values_back, rows_are}
+use Rattle.cat_parse_expr.proofs.Valued.{fields_from, values_are, highest_is, fields_height}
 use Rattle.cat_parse_expr.proofs.Held.{content_of}
-use Rattle.cat_parse_expr.proofs.Operands.{height_is}
 
-abbrev pub built : Valued → List Valued → Fields
+abbrev pub built : Valued → List Valued → MeasuredFields
 built f fs = fields_from no_fields (f ∷ fs)
 
 pub data Cased : Type 0 where

@@ -1,57 +1,32 @@
 -- What stands behind the dot of a case.
-use Rattle.std.proofs.Common.{◌≡◌, ℕ, suc, ◌≤◌, Bool, true, false, List, [], ◌∷◌, ◌++◌, refl, sym, ap}
-use Rattle.std.proofs.Common.{subst, ◌∙◌, arith, inl, inr, ◌⊎◌}
-use Rattle.cat_lex.specs.declared.token.Token.{Token}
-use Rattle.cat_lex.specs.declared.token.TokenKind.{TokenKind}
+use Rattle.std.proofs.Common.{◌≡◌, ℕ, suc, ◌≤◌, Bool, true, false, List, [], ◌∷◌, ◌++◌, refl, sym, ap, subst, ◌∙◌}
+use Rattle.std.proofs.Common.{arith, inl, inr, ◌⊎◌, not, nat_eq, nat_lt, ◌&&◌, ◌||◌}
+use Rattle.std.proofs.lemmas.Bool.Decides.{nat_tests}
 use Rattle.cat_lex.specs.declared.token.TokenKind.TheVariants as kind
 use Rattle.cat_lex.specs.declared.symbol.Symbol.TheVariants as symbol
-use Rattle.cat_tree.specs.declared.name.Name.{Name}
-use Rattle.cat_tree.specs.Phrase.{Parts, End, Word, At, Anywhere}
-use Rattle.cat_tree.specs.Grammar.{phrase}
-use Rattle.cat_tree.proofs.Exported.{phrase_Case}
-use Rattle.cat_parse_expr.specs.declared.behind.Behind.{Behind}
 use Rattle.cat_parse_expr.specs.declared.behind.Behind.TheVariants.{Other, Field, Pattern as Tested}
 use Rattle.cat_parse_expr.specs.declared.cue.Cue.TheVariants as cue
-use Rattle.cat_parse_expr.specs.declared.measured.Measured.{Measured}
-use Rattle.cat_parse_expr.specs.Cues.{kind_of}
-use Rattle.cat_parse_expr.specs.Reader.{Reader, ◌⨟◌}
-use Rattle.cat_parse_expr.specs.Parts.{Lower}
-use Rattle.cat_parse_expr.specs.Forms as forms
-use Rattle.cat_parse_expr.specs.Followers.{looks_of}
-use Rattle.cat_parse_expr.specs.Longest.{KeepsWhole}
-use Rattle.cat_parse_expr.specs.Rightly.{IsMeasured, IsLow, operand_row, AreRight}
-use Rattle.cat_parse_expr.proofs.Operands.{Next}
-use Rattle.cat_parse_expr.proofs.Read.{IsRead, pure_read}
-use Rattle.cat_parse_expr.proofs.Worded.{word_read}
-use Rattle.cat_tree.specs.Phrase.{AreLevelled, AreSpelled}
-use Rattle.cat_parse_expr.specs.Parts.{is_sign}
-use Rattle.cat_parse_expr.specs.Reader.{heads}
-use Rattle.cat_parse_expr.specs.Cues.{cue_is, word_of, «word»}
-use Rattle.cat_parse_expr.proofs.Choices.{Recast}
-use Rattle.cat_parse_expr.proofs.Shaping.{recast_read, reshape_read}
-use Rattle.std.proofs.Common.{not, nat_eq, nat_lt, ◌&&◌, ◌||◌}
-use Rattle.std.proofs.lemmas.Bool.Decides.{nat_tests}
+use Rattle.cat_parse_expr.specs.Cases as cased
 use Rattle.cat_tree.specs.declared.expression.Node.TheVariants as leaves
 use Rattle.cat_parse_expr.specs.declared.follow.Follow.TheVariants as follow
-use Rattle.cat_parse_expr.specs.Followers.{is_asked, is_below, may_stand}
-use Rattle.cat_parse_expr.proofs.Follows.{IsOwn}
-use Rattle.cat_parse_expr.specs.Parts.{is_lower}
 use Rattle.cat_parse_expr.specs.Cues as cues
-use Rattle.cat_parse_expr.specs.Cues.{lower_of, upper_of}
+use Rattle.cat_parse_expr.proofs.Common.{Token, TokenKind, Name, Parts, End, Word, At, Anywhere, phrase, phrase_Case}
+use Rattle.cat_parse_expr.proofs.Common.{Behind, Measured, kind_of, Reader, ◌⨟◌, Lower, looks_of, KeepsWhole}
+use Rattle.cat_parse_expr.proofs.Common.{IsMeasured, IsLow, operand_row, AreRight, AreLevelled, AreSpelled, is_sign}
+use Rattle.cat_parse_expr.proofs.Common.{heads, is_asked, is_below, may_stand, is_lower, CaseName, Bare, Qualified}
+use Rattle.cat_parse_expr.proofs.Common.{goes_on}
+use Rattle.cat_parse_expr.proofs.Operands.{Next}
+use Rattle.cat_parse_expr.proofs.Read.{IsRead, pure_read}
+use Rattle.cat_parse_expr.proofs.Worded.{word_read, upper_read, lower_room_read}
+use Rattle.cat_parse_expr.proofs.Choices.{Recast}
+use Rattle.cat_parse_expr.proofs.Shaping.{recast_read, reshape_read}
+use Rattle.cat_parse_expr.proofs.Follows.{IsOwn}
 use Rattle.cat_parse_expr.proofs.Leaves.{cue_found}
-use Rattle.cat_parse_expr.proofs.Worded.{upper_read}
-use Rattle.cat_tree.specs.declared.name.CaseName.{CaseName}
-use Rattle.cat_tree.specs.declared.name.CaseName.TheVariants.{Bare, Qualified}
 use Rattle.cat_parse_expr.proofs.Firsts.{is_bare}
-use Rattle.cat_parse_expr.proofs.Leaves.{cue_found}
-use Rattle.cat_parse_expr.specs.Parts.{is_lower}
-use Rattle.cat_parse_expr.specs.Climbing.{goes_on}
 use Rattle.cat_parse_expr.proofs.Chosen.{sharp_choice_read}
-use Rattle.cat_parse_expr.proofs.Held.{Held, held_of, held_row, held_fits, held_read}
-use Rattle.cat_parse_expr.proofs.Held.{Nothing as Without, Content as With}
-use Rattle.cat_parse_expr.proofs.Worded.{lower_room_read}
-use Rattle.cat_parse_expr.proofs.Cased.{Cased, Plain, Dotted, Holds, DottedHolds, Builds, Selects, first_in}
-use Rattle.cat_parse_expr.proofs.Cased.{second_in}
+use Rattle.cat_parse_expr.proofs.Held.{Held, held_of, held_row, held_fits, held_read, Nothing as Without}
+use Rattle.cat_parse_expr.proofs.Held.{Content as With}
+use Rattle.cat_parse_expr.proofs.Cased.{Cased, Plain, Dotted, Holds, DottedHolds, Builds, Selects, first_in, second_in}
 use Rattle.cat_parse_expr.proofs.Cased.{cased_of, after_dot, after_second, cased_rest, cased_fits}
 
 pub brace_own : IsOwn (kind_of (cue.Sign symbol.LeftBrace))
@@ -191,7 +166,7 @@ module _ (ex : Lower) (room : ℕ) (right : AreRight room ex)
   selects_high u none (Selects x z) f l = omega (arith, none, l)
   selects_high u none _ f l = absurd f.1
 
-  select_read : {K : Type 0} (u : Name) → ReadAs K (Chosen u) after_dot (forms.case_field ex room u)
+  select_read : {K : Type 0} (u : Name) → ReadAs K (Chosen u) after_dot (cased.case_field ex room u)
   select_read u =
       reshape_read (Chosen u) (Chosen u) (λ y. Word
       (At (kind.Lower (second_in y).text) (second_in y).pos) End) after_dot _
@@ -204,7 +179,7 @@ module _ (ex : Lower) (room : ℕ) (right : AreRight room ex)
   pub held_as : {K : Type 0} (c : CaseName) (Fits : Cased → Type 0) (row : Cased → Parts) (f : Held → Cased)
       → ((h : Held) → cased_of (f h) ≡ held_of c h) → ((h : Held) → row (f h) ≡ held_row h)
       → ((h : Held) → held_fits k h → Fits (f h)) → ((y : Cased) → Fits y → (h : Held) × (y ≡ f h) × held_fits k h)
-      → ReadAs K Fits row (forms.case_content ex room b k c)
+      → ReadAs K Fits row (cased.case_content ex room b k c)
   held_as c Fits row f same rows to from =
       recast_read _ _ _ _ f (λ h. sym (same h)) (λ z. z) (λ z c. c) (λ z. cast.to) (λ z c. cast)
       (held_read ex room right kept b k c)
@@ -245,7 +220,7 @@ module _ (ex : Lower) (room : ℕ) (right : AreRight room ex)
   At_second u v y = Named u y × (second_in y ≡ v)
 
   second_rest_read : {K : Type 0} (u v : Name)
-      → ReadAs K (At_second u v) after_second (forms.case_content ex room b k (Qualified u v))
+      → ReadAs K (At_second u v) after_second (cased.case_content ex room b k (Qualified u v))
   second_rest_read u v = held_as (Qualified u v) (At_second u v) after_second (qualified u v) same rows to from
     where
       same : (h : Held) → cased_of (qualified u v h) ≡ held_of (Qualified u v) h
@@ -274,7 +249,7 @@ module _ (ex : Lower) (room : ℕ) (right : AreRight room ex)
   named_row u _ f = absurd f.1
 
   named_read : {K : Type 0} (u : Name)
-      → ReadAs K (Named u) after_dot (cues.upper ⨟ λ v. forms.case_content ex room b k (Qualified u v))
+      → ReadAs K (Named u) after_dot (cues.upper ⨟ λ v. cased.case_content ex room b k (Qualified u v))
   named_read u =
       reshape_read (Named u) (Named u)
       (λ y. Word (At (kind.Upper (second_in y).text) (second_in y).pos) (after_second y)) after_dot _
@@ -317,7 +292,7 @@ module _ (ex : Lower) (room : ℕ) (right : AreRight room ex)
       (λ (t : Token). is_lower t.kind) s.3
   named_begins u _ w v f s = absurd f.1
 
-  pub dotted_read : {K : Type 0} (u : Name) → ReadAs K (InDot u) cased_rest (forms.dotted ex room b k u)
+  pub dotted_read : {K : Type 0} (u : Name) → ReadAs K (InDot u) cased_rest (cased.dotted ex room b k u)
   dotted_read u =
       reshape_read (InDot u) (InDot u) (λ y. Word (Anywhere (kind.Symbol symbol.Dot)) (after_dot y)) cased_rest _
       (record { to = λ y f. f; from = λ y f. f; rows = dot_row u })

@@ -1,25 +1,15 @@
 -- An expression as what stands in front of all its operators, and the steps behind that.
-use Rattle.std.proofs.Common.{suc, max, List, [], ◌∷◌, ◌++◌}
-use Rattle.std.proofs.Common.{refl, sym, ap, subst, ◌∙◌, append_assoc}
+use Rattle.std.proofs.Common.{suc, max, List, [], ◌∷◌, ◌++◌, refl, sym, ap, subst, ◌∙◌, append_assoc}
 use Rattle.std.proofs.lemmas.List.{append-nil}
-use Rattle.cat_pos.specs.declared.pos.Pos.{Pos}
-use Rattle.cat_lex.specs.declared.token.Token.{Token}
 use Rattle.cat_lex.specs.declared.words.DoubleKeyword.TheVariants as pair
 use Rattle.cat_lex.specs.declared.symbol.Symbol.TheVariants as symbol
-use Rattle.cat_tree.specs.declared.name.Name.{Name}
-use Rattle.cat_tree.specs.declared.name.CaseName.{CaseName}
-use Rattle.cat_tree.specs.declared.expression.Operator.{Operator}
 use Rattle.cat_tree.specs.declared.expression.Node.TheViews as node
-use Rattle.cat_tree.specs.Phrase.{Phrase, Parts, End, AreSpelled, IsSpelling}
-use Rattle.cat_tree.specs.Wording.{◌▹◌, first, pair_at, sign, lower, part}
-use Rattle.cat_tree.specs.Literals.{case_parts}
-use Rattle.cat_tree.specs.Operators.{operator_kind, operator_level}
-use Rattle.cat_tree.specs.Grammar.{phrase}
-use Rattle.cat_tree.specs.Joined.{all}
-use Rattle.cat_tree.proofs.Exported.{phrase_Binary, phrase_Field, phrase_Test}
-use Rattle.cat_parse_expr.specs.declared.measured.Measured.{Measured}
-use Rattle.cat_parse_expr.specs.Measures.{closed, ending}
+use Rattle.cat_parse_expr.proofs.Common.{Pos, Token, Name, CaseName, Operator, Phrase, Parts, End, AreSpelled}
+use Rattle.cat_parse_expr.proofs.Common.{IsSpelling, ◌▹◌, first, pair_at, sign, lower, part, case_parts, operator_kind}
+use Rattle.cat_parse_expr.proofs.Common.{operator_level, phrase, all, phrase_Binary, phrase_Field, phrase_Test}
+use Rattle.cat_parse_expr.proofs.Common.{Measured, closed, ending}
 use Rattle.cat_parse_expr.proofs.Joining.{spelled_split}
+use Rattle.cat_parse_expr.proofs.Lists as lists
 
 -- what goes on behind a whole expression
 pub data Step : Type 0 where
@@ -36,8 +26,7 @@ put a (TestsFor p c) = closed 4 a.height (node.Test a.node p c)
 
 -- with all of these
 abbrev pub put_all : Measured → List Step → Measured
-put_all a [] = a
-put_all a (s ∷ more) = put_all (put a s) more
+put_all = lists.put_all put
 
 -- how a step is spelled
 abbrev pub step_parts : Step → Parts

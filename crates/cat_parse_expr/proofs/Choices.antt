@@ -1,63 +1,9 @@
 -- A choice by the next word, and what is made of what was read.
-use Rattle.std.proofs.Common.{◌≡◌, ℕ, ◌≤◌, Bool, true, false, if◌then◌else◌, List, [], ◌∷◌, ◌++◌, length}
-use Rattle.std.proofs.Common.{refl, sym, ap, subst, ◌∙◌, inl, inr, ◌⊎◌}
-use Rattle.cat_lex.specs.declared.token.Token.{Token}
-use Rattle.cat_lex.specs.declared.token.TokenKind.{TokenKind}
-use Rattle.cat_tree.specs.Phrase.{Parts, AreLevelled, AreSpelled}
-use Rattle.cat_parse_expr.specs.Reader.{Parsed, Reader, Fails, Reads, left_of, after, ◌⨟◌, pure, heads, by_word}
-use Rattle.cat_parse_expr.specs.Right.{Agree, AgreePast, Seen, Is, Begun, Took, Taken, Says, Alike, IsRight}
-
--- ---- the same values and rows, written otherwise
-
-pub record Same {B : Type 0} (fits fits2 : B → Type 0) (row row2 : B → Parts) : Type 0 where
-  pub to : (y : B) → fits y → fits2 y
-  pub from : (y : B) → fits2 y → fits y
-  pub rows : (y : B) → fits y → row y ≡ row2 y
-
-module _ {B : Type 0} (low : B → Type 0) (bound : ℕ) (out : B → List Token → Type 0) (looks : TokenKind → Bool)
-    (fits fits2 : B → Type 0) (row row2 : B → Parts)
-    (r : Reader B) (s : Same fits fits2 row row2) (right : IsRight low bound out looks fits row r) where
-  to_second : (y : B) (w : List Token) → Is fits row y w → Is fits2 row2 y w
-  to_second y w i = record {
-    fit = s.to y i.fit;
-    levels = subst AreLevelled (s.rows y i.fit) i.levels;
-    spelled = subst (λ (ps : Parts). AreSpelled ps w) (s.rows y i.fit) i.spelled;
-  }
-
-  to_first : (y : B) (w : List Token) → Is fits2 row2 y w → Is fits row y w
-  to_first y w i =
-      let fit = s.from y i.fit in
-      record {
-        fit = fit;
-        levels = subst AreLevelled (sym (s.rows y fit)) i.levels;
-        spelled = subst (λ (ps : Parts). AreSpelled ps w) (sym (s.rows y fit)) i.spelled;
-      }
-
-  begun_same : (u : List Token) → Begun fits row u → Begun fits2 row2 u
-  begun_same u b = record { value = b.value; more = b.more; is = to_second b.value (u ++ b.more) b.is }
-
-  took_same : (o : Parsed B) (u : List Token) → Took low fits row o u → Took low fits2 row2 o u
-  took_same (Fails left false whole) u t = begun_same u t
-  took_same (Fails left true whole) u t =
-      record { next = t.next; after = t.after; text = t.text; begun = begun_same (u ++ t.next ∷ []) t.begun }
-  took_same (Reads y left) u t = (to_second y u t.0, t.1)
-
-  pub reshaped : IsRight low bound out looks fits2 row2 r
-  reshaped = record {
-    alive = begun_same [] right.alive;
-    taken =
-        λ ts le. let t = right.taken ts le in
-        record { front = t.front; text = t.text; took = took_same (r ts) t.front t.took };
-    says =
-        λ ts front y w le text a. right.says ts front y w le text (record {
-          others = a.others;
-          behind = a.behind;
-          seen = a.seen;
-          is = to_first y w a.is;
-          outside = a.outside;
-          text = a.text;
-        });
-  }
+use Rattle.std.proofs.Common.{◌≡◌, ℕ, ◌≤◌, Bool, true, false, if◌then◌else◌, List, [], ◌∷◌, ◌++◌, length, refl, sym, ap}
+use Rattle.std.proofs.Common.{subst, ◌∙◌, inl, inr, ◌⊎◌}
+use Rattle.cat_parse_expr.proofs.Common.{Token, TokenKind, Parts, AreLevelled, AreSpelled, Parsed, Reader, Fails, Reads}
+use Rattle.cat_parse_expr.proofs.Common.{left_of, after, ◌⨟◌, pure, heads, by_word, Agree, AgreePast, Seen, Is, Begun}
+use Rattle.cat_parse_expr.proofs.Common.{Took, Taken, Says, Alike, IsRight}
 
 -- ---- what is made of what was read
 
@@ -140,6 +86,67 @@ module _ {A B : Type 0} (bound : ℕ) (low : A → Type 0) (low2 : B → Type 0)
         λ ts front y w le text a. says_made ts (r ts)
         (λ front x w text a. right.says ts front x w le text a) front y w text a;
   }
+
+-- ---- the same of the same values
+
+-- a reader that reads the same
+pub same_reader : {B : Type 0} (low : B → Type 0) (bound : ℕ) (out : B → List Token → Type 0) (looks : TokenKind → Bool)
+    (fits : B → Type 0) (row : B → Parts) (r s : Reader B) → ((ts : List Token) → r ts ≡ s ts)
+    → IsRight low bound out looks fits row r → IsRight low bound out looks fits row s
+same_reader {B = B} low bound out looks fits row r s e h = record {
+  alive = h.alive;
+  taken = λ ts le. subst (λ (o : Parsed B). Taken low fits row o ts) (e ts) (h.taken ts le);
+  says =
+      λ ts. subst (λ (o : Parsed B). (front : List Token) (y : B) (w : List Token) → length ts ≤ bound → ts ≡ front
+      ++ left_of o → Alike out looks fits row o front y w → Says low o y w front) (e ts) (h.says ts);
+}
+
+-- other rows of the values, spelled by the same tokens
+pub recast_self : {B : Type 0} (bound : ℕ) (low low2 : B → Type 0) (out out2 : B → List Token → Type 0)
+    (looks : TokenKind → Bool) (fits fits2 : B → Type 0) (row row2 : B → Parts) (r : Reader B)
+    → Recast low low2 out out2 fits fits2 row row2 (λ y. y) → IsRight low bound out looks fits row r
+    → IsRight low2 bound out2 looks fits2 row2 r
+recast_self {B = B} bound low low2 out out2 looks fits fits2 row row2 r c right =
+    same_reader low2 bound out2 looks fits2 row2 (r ⨟ λ y. pure y) r (λ ts. by (r ts))
+    (recast bound low low2 out out2 looks fits fits2 row row2 (λ y. y) r c right)
+  where
+    by : (o : Parsed B) → after o (λ y. pure y) ≡ o
+    by (Fails left deep whole) = refl
+    by (Reads x left) = refl
+
+-- the same values and rows, written otherwise
+pub record Same {B : Type 0} (fits fits2 : B → Type 0) (row row2 : B → Parts) : Type 0 where
+  pub to : (y : B) → fits y → fits2 y
+  pub from : (y : B) → fits2 y → fits y
+  pub rows : (y : B) → fits y → row y ≡ row2 y
+
+pub same_recast : {B : Type 0} (low : B → Type 0) (out : B → List Token → Type 0) (fits fits2 : B → Type 0)
+    (row row2 : B → Parts) → Same fits fits2 row row2 → Recast low low out out fits fits2 row row2 (λ y. y)
+same_recast {B = B} low out fits fits2 row row2 s = record {
+  to =
+      λ y w i. record {
+        fit = s.to y i.fit;
+        levels = subst AreLevelled (s.rows y i.fit) i.levels;
+        spelled = subst (λ (ps : Parts). AreSpelled ps w) (s.rows y i.fit) i.spelled;
+      };
+  from = λ y w i. (y, refl, back y w i (s.from y i.fit));
+  lows = λ y fit l. l;
+  back = λ y fit l. l;
+  outside = λ y v fit o. o;
+}
+  where
+    back : (y : B) (w : List Token) → Is fits2 row2 y w → fits y → Is fits row y w
+    back y w i fit = record {
+      fit = fit;
+      levels = subst AreLevelled (sym (s.rows y fit)) i.levels;
+      spelled = subst (λ (ps : Parts). AreSpelled ps w) (sym (s.rows y fit)) i.spelled;
+    }
+
+pub reshaped : {B : Type 0} (low : B → Type 0) (bound : ℕ) (out : B → List Token → Type 0) (looks : TokenKind → Bool)
+    (fits fits2 : B → Type 0) (row row2 : B → Parts) (r : Reader B) → Same fits fits2 row row2
+    → IsRight low bound out looks fits row r → IsRight low bound out looks fits2 row2 r
+reshaped low bound out looks fits fits2 row row2 r s =
+    recast_self bound low low out out looks fits fits2 row row2 r (same_recast low out fits fits2 row row2 s)
 
 -- ---- by the next word
 

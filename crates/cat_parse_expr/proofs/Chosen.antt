@@ -1,14 +1,9 @@
 -- A choice by the next word.
-use Rattle.std.proofs.Common.{◌≡◌, ℕ, ◌≤◌, Bool, true, false, if◌then◌else◌, List, [], ◌++◌, length}
-use Rattle.std.proofs.Common.{Some, None, refl, sym, ap, ◌∙◌, arith, inl, inr, ◌⊎◌}
+use Rattle.std.proofs.Common.{◌≡◌, ℕ, ◌≤◌, Bool, true, false, if◌then◌else◌, List, [], ◌++◌, length, Some, None, refl}
+use Rattle.std.proofs.Common.{sym, ap, ◌∙◌, arith, inl, inr, ◌⊎◌}
 use Rattle.std.proofs.lemmas.List.{length-append}
-use Rattle.cat_lex.specs.declared.token.Token.{Token}
-use Rattle.cat_lex.specs.declared.token.TokenKind.{TokenKind}
-use Rattle.cat_tree.specs.Phrase.{Parts, AreSpelled}
-use Rattle.cat_parse_expr.specs.Reader.{Parsed, Reader, Fails, Reads, after, pure, heads, by_word, fallen}
-use Rattle.cat_parse_expr.specs.Reader.{behind_whole}
-use Rattle.cat_parse_expr.specs.Right.{Is, Taken}
-use Rattle.cat_parse_expr.specs.Longest.{ReadsAsFar, Stood, KeepsWhole}
+use Rattle.cat_parse_expr.proofs.Common.{Token, TokenKind, Parts, AreSpelled, Parsed, Reader, Fails, Reads, after, pure}
+use Rattle.cat_parse_expr.proofs.Common.{heads, by_word, fallen, behind_whole, Is, Taken, ReadsAsFar, Stood, KeepsWhole}
 use Rattle.cat_parse_expr.proofs.Choices.{Decides, choice_right, refit}
 use Rattle.cat_parse_expr.proofs.Wholes.{behind_right}
 use Rattle.cat_parse_expr.proofs.Read.{IsRead}
@@ -117,119 +112,123 @@ module _ {T : Type 0} (low : T → Type 0) (out : T → List Token → Type 0) (
   }
 
 -- a choice where something is whole already, if the word isn't there
-pub choice_read : {T D : Type 0} {g : T → D} {K F C : Type 0} {low : T → Type 0} {out : T → List Token → Type 0}
-    {looks : TokenKind → Bool} {fits : T → Type 0} {row : T → Parts} {a b : Reader D} (test : TokenKind → Bool)
-    (yes_fits no_fits : T → Type 0)
-    → Decides out test fits yes_fits no_fits row
-    → ((y : T) (w v : List Token) → yes_fits y → AreSpelled (row y) w → heads test (w ++ v) ≡ true)
-    → ((y : T) (w v : List Token) → no_fits y → AreSpelled (row y) w → heads test (w ++ v) ≡ true → w ≡ [])
-    → (x : T) → (F → Is no_fits row x []) → (F → C → low x)
-    → IsRead g K F C low out looks yes_fits row a → IsRead g K F C low out looks no_fits row b
-    → IsRead g K F C low out looks fits row (by_word test (behind_whole a) b)
-choice_read {g = g} {low = low} {out = out} {looks = looks} {fits = fits} {row = row} {a = a} {b = b} test yes_fits no_fits d begins spent x blank fine ra rb =
-    record {
-      reader = by_word test (behind_whole ra.reader) rb.reader;
-      maps =
-          λ ts. chosen_mapped g (heads test ts) (fallen ts (ra.reader ts)) (rb.reader ts) (fallen ts (a ts)) (b ts)
-          (fallen_mapped g ts (ra.reader ts) (a ts) (ra.maps ts)) (rb.maps ts);
-      alive =
-          λ f. let z = rb.alive f in
-          record {
-            value = z.value;
-            more = z.more;
-            is = refit no_fits fits row z.value z.more
-                (d.from_no z.value z.is.fit) z.is;
-          };
-      right =
-          λ f c bound. choice_right low bound out looks test fits yes_fits no_fits row
-          (behind_whole ra.reader) rb.reader d
-          (behind_right low out looks yes_fits row bound ra.reader (ra.right f c bound)) (rb.right f c bound);
-      keeps =
-          λ k f c bound. choice_keeps low out test fits yes_fits no_fits row ra.reader rb.reader bound d begins spent
-          (λ ts le. (ra.right f c bound).taken ts le) (ra.keeps k f c bound) (rb.keeps k f c bound) x (blank f)
-          (fine f c);
-    }
+module _ {T D : Type 0} {g : T → D} {K F C : Type 0} {low : T → Type 0} {out : T → List Token → Type 0}
+    {looks : TokenKind → Bool} {fits : T → Type 0} {row : T → Parts} {a b : Reader D} where
+  pub choice_read : (test : TokenKind → Bool)
+      (yes_fits no_fits : T → Type 0)
+      → Decides out test fits yes_fits no_fits row
+      → ((y : T) (w v : List Token) → yes_fits y → AreSpelled (row y) w → heads test (w ++ v) ≡ true)
+      → ((y : T) (w v : List Token) → no_fits y → AreSpelled (row y) w → heads test (w ++ v) ≡ true → w ≡ [])
+      → (x : T) → (F → Is no_fits row x []) → (F → C → low x)
+      → IsRead g K F C low out looks yes_fits row a → IsRead g K F C low out looks no_fits row b
+      → IsRead g K F C low out looks fits row (by_word test (behind_whole a) b)
+  choice_read test yes_fits no_fits d begins spent x blank fine ra rb =
+      record {
+        reader = by_word test (behind_whole ra.reader) rb.reader;
+        maps =
+            λ ts. chosen_mapped g (heads test ts) (fallen ts (ra.reader ts)) (rb.reader ts) (fallen ts (a ts)) (b ts)
+            (fallen_mapped g ts (ra.reader ts) (a ts) (ra.maps ts)) (rb.maps ts);
+        alive =
+            λ f. let z = rb.alive f in
+            record {
+              value = z.value;
+              more = z.more;
+              is = refit no_fits fits row z.value z.more
+                  (d.from_no z.value z.is.fit) z.is;
+            };
+        right =
+            λ f c bound. choice_right low bound out looks test fits yes_fits no_fits row
+            (behind_whole ra.reader) rb.reader d
+            (behind_right low out looks yes_fits row bound ra.reader (ra.right f c bound)) (rb.right f c bound);
+        keeps =
+            λ k f c bound. choice_keeps low out test fits yes_fits no_fits row ra.reader rb.reader bound d begins spent
+            (λ ts le. (ra.right f c bound).taken ts le) (ra.keeps k f c bound) (rb.keeps k f c bound) x (blank f)
+            (fine f c);
+      }
 
 -- a choice in a part that words follow
-pub inner_choice_read : {T D : Type 0} {g : T → D} {F C : Type 0} {low : T → Type 0} {out : T → List Token → Type 0}
-    {looks : TokenKind → Bool} {fits : T → Type 0} {row : T → Parts} {a b : Reader D} (test : TokenKind → Bool)
-    (yes_fits no_fits : T → Type 0)
-    → Decides out test fits yes_fits no_fits row
-    → IsRead g ⊥ F C low out looks yes_fits row a → IsRead g ⊥ F C low out looks no_fits row b
-    → IsRead g ⊥ F C low out looks fits row (by_word test a b)
-inner_choice_read {g = g} {low = low} {out = out} {looks = looks} {fits = fits} {row = row} {a = a} {b = b} test yes_fits no_fits d ra rb =
-    record {
-      reader = by_word test ra.reader rb.reader;
-      maps = λ ts. chosen_mapped g (heads test ts) (ra.reader ts) (rb.reader ts) (a ts) (b ts) (ra.maps ts)
-          (rb.maps ts);
-      alive =
-          λ f. let z = rb.alive f in
-          record {
-            value = z.value;
-            more = z.more;
-            is = refit no_fits fits row z.value z.more
-                (d.from_no z.value z.is.fit) z.is;
-          };
-      right =
-          λ f c bound. choice_right low bound out looks test fits yes_fits no_fits row ra.reader rb.reader d
-          (ra.right f c bound) (rb.right f c bound);
-      keeps = λ k f c bound. absurd k;
-    }
+module _ {T D : Type 0} {g : T → D} {F C : Type 0} {low : T → Type 0} {out : T → List Token → Type 0}
+    {looks : TokenKind → Bool} {fits : T → Type 0} {row : T → Parts} {a b : Reader D} where
+  pub inner_choice_read : (test : TokenKind → Bool)
+      (yes_fits no_fits : T → Type 0)
+      → Decides out test fits yes_fits no_fits row
+      → IsRead g ⊥ F C low out looks yes_fits row a → IsRead g ⊥ F C low out looks no_fits row b
+      → IsRead g ⊥ F C low out looks fits row (by_word test a b)
+  inner_choice_read test yes_fits no_fits d ra rb =
+      record {
+        reader = by_word test ra.reader rb.reader;
+        maps = λ ts. chosen_mapped g (heads test ts) (ra.reader ts) (rb.reader ts) (a ts) (b ts) (ra.maps ts)
+            (rb.maps ts);
+        alive =
+            λ f. let z = rb.alive f in
+            record {
+              value = z.value;
+              more = z.more;
+              is = refit no_fits fits row z.value z.more
+                  (d.from_no z.value z.is.fit) z.is;
+            };
+        right =
+            λ f c bound. choice_right low bound out looks test fits yes_fits no_fits row ra.reader rb.reader d
+            (ra.right f c bound) (rb.right f c bound);
+        keeps = λ k f c bound. absurd k;
+      }
 
 -- a choice by the next word of either
-pub sharp_choice_read : {T D : Type 0} {g : T → D} {K F C : Type 0} {low : T → Type 0} {out : T → List Token → Type 0}
-    {looks : TokenKind → Bool} {fits : T → Type 0} {row : T → Parts} {a b : Reader D} (test : TokenKind → Bool)
-    (yes_fits no_fits : T → Type 0)
-    → ((y : T) → fits y → yes_fits y ⊎ no_fits y) → ((y : T) → yes_fits y → fits y) → ((y : T) → no_fits y → fits y)
-    → ((y : T) (w v : List Token) → yes_fits y → AreSpelled (row y) w → heads test (w ++ v) ≡ true)
-    → ((y : T) (w v : List Token) → no_fits y → AreSpelled (row y) w → heads test (w ++ v) ≡ false)
-    → IsRead g K F C low out looks yes_fits row a → IsRead g K F C low out looks no_fits row b
-    → IsRead g K F C low out looks fits row (by_word test a b)
-sharp_choice_read {T = T} {g = g} {F = F} {C = C} {low = low} {out = out} {looks = looks} {fits = fits} {row = row} {a = a} {b = b} test yes_fits no_fits either from_yes from_no on off ra rb =
-    record {
-      reader = by_word test ra.reader rb.reader;
-      maps = λ ts. chosen_mapped g (heads test ts) (ra.reader ts) (rb.reader ts) (a ts) (b ts) (ra.maps ts)
-          (rb.maps ts);
-      alive =
-          λ f. let z = rb.alive f in
-          record {
-            value = z.value;
-            more = z.more;
-            is = refit no_fits fits row z.value z.more
-                (from_no z.value z.is.fit) z.is;
-          };
-      right =
-          λ f c bound. choice_right low bound out looks test fits yes_fits no_fits row ra.reader rb.reader
-          (record {
-            either = either;
-            from_yes = from_yes;
-            from_no = from_no;
-            on = λ y w v f s o. on y w v f s;
-            off = λ y w v f s o. off y w v f s;
-          })
-          (ra.right f c bound) (rb.right f c bound);
-      keeps =
-          λ k f c bound. record {
-            longest = λ ts y w v le text i. longest (ra.keeps k f c bound) (rb.keeps k f c bound) ts y w v le text i
-                (heads test ts) refl;
-            stood = λ ts le. stood (ra.keeps k f c bound) (rb.keeps k f c bound) ts le (heads test ts);
-          };
-    }
-  where
-    longest : {bound : ℕ} → KeepsWhole low bound yes_fits row ra.reader → KeepsWhole low bound no_fits row rb.reader
-        → (ts : List Token) (y : T) (w v : List Token) → length ts ≤ bound → ts ≡ w ++ v → Is fits row y w → (c : Bool)
-        → heads test ts ≡ c → ReadsAsFar low (if c then ra.reader ts else rb.reader ts) y v
-    longest ka kb ts y w v le text i true e = elim (either y i.fit) [
-      | inl f ↦ ka.longest ts y w v le text (refit fits yes_fits row y w f i)
-      | inr f ↦ absurd (clash (heads test ts) e (ap (heads test) text ∙ off y w v f i.spelled))
-    ]
-    longest ka kb ts y w v le text i false e = elim (either y i.fit) [
-      | inl f ↦ absurd (clash (heads test ts) (ap (heads test) text ∙ on y w v f i.spelled) e)
-      | inr f ↦ kb.longest ts y w v le text (refit fits no_fits row y w f i)
-    ]
+module _ {T D : Type 0} {g : T → D} {K F C : Type 0} {low : T → Type 0} {out : T → List Token → Type 0}
+    {looks : TokenKind → Bool} {fits : T → Type 0} {row : T → Parts} {a b : Reader D} where
+  pub sharp_choice_read : (test : TokenKind → Bool)
+      (yes_fits no_fits : T → Type 0)
+      → ((y : T) → fits y → yes_fits y ⊎ no_fits y) → ((y : T) → yes_fits y → fits y) → ((y : T) → no_fits y → fits y)
+      → ((y : T) (w v : List Token) → yes_fits y → AreSpelled (row y) w → heads test (w ++ v) ≡ true)
+      → ((y : T) (w v : List Token) → no_fits y → AreSpelled (row y) w → heads test (w ++ v) ≡ false)
+      → IsRead g K F C low out looks yes_fits row a → IsRead g K F C low out looks no_fits row b
+      → IsRead g K F C low out looks fits row (by_word test a b)
+  sharp_choice_read test yes_fits no_fits either from_yes from_no on off ra rb =
+      record {
+        reader = by_word test ra.reader rb.reader;
+        maps = λ ts. chosen_mapped g (heads test ts) (ra.reader ts) (rb.reader ts) (a ts) (b ts) (ra.maps ts)
+            (rb.maps ts);
+        alive =
+            λ f. let z = rb.alive f in
+            record {
+              value = z.value;
+              more = z.more;
+              is = refit no_fits fits row z.value z.more
+                  (from_no z.value z.is.fit) z.is;
+            };
+        right =
+            λ f c bound. choice_right low bound out looks test fits yes_fits no_fits row ra.reader rb.reader
+            (record {
+              either = either;
+              from_yes = from_yes;
+              from_no = from_no;
+              on = λ y w v f s o. on y w v f s;
+              off = λ y w v f s o. off y w v f s;
+            })
+            (ra.right f c bound) (rb.right f c bound);
+        keeps =
+            λ k f c bound. record {
+              longest = λ ts y w v le text i. longest (ra.keeps k f c bound) (rb.keeps k f c bound) ts y w v le text i
+                  (heads test ts) refl;
+              stood = λ ts le. stood (ra.keeps k f c bound) (rb.keeps k f c bound) ts le (heads test ts);
+            };
+      }
+    where
+      longest : {bound : ℕ} → KeepsWhole low bound yes_fits row ra.reader → KeepsWhole low bound no_fits row rb.reader
+          → (ts : List Token) (y : T) (w v : List Token) → length ts ≤ bound → ts ≡ w ++ v → Is fits row y w
+          → (c : Bool)
+          → heads test ts ≡ c → ReadsAsFar low (if c then ra.reader ts else rb.reader ts) y v
+      longest ka kb ts y w v le text i true e = elim (either y i.fit) [
+        | inl f ↦ ka.longest ts y w v le text (refit fits yes_fits row y w f i)
+        | inr f ↦ absurd (clash (heads test ts) e (ap (heads test) text ∙ off y w v f i.spelled))
+      ]
+      longest ka kb ts y w v le text i false e = elim (either y i.fit) [
+        | inl f ↦ absurd (clash (heads test ts) (ap (heads test) text ∙ on y w v f i.spelled) e)
+        | inr f ↦ kb.longest ts y w v le text (refit fits no_fits row y w f i)
+      ]
 
-    stood : {bound : ℕ} → KeepsWhole low bound yes_fits row ra.reader → KeepsWhole low bound no_fits row rb.reader
-        → (ts : List Token) → length ts ≤ bound → (c : Bool)
-        → Stood low fits row (if c then ra.reader ts else rb.reader ts) ts
-    stood ka kb ts le true = stood_as low yes_fits fits row (ra.reader ts) ts from_yes (ka.stood ts le)
-    stood ka kb ts le false = stood_as low no_fits fits row (rb.reader ts) ts from_no (kb.stood ts le)
+      stood : {bound : ℕ} → KeepsWhole low bound yes_fits row ra.reader → KeepsWhole low bound no_fits row rb.reader
+          → (ts : List Token) → length ts ≤ bound → (c : Bool)
+          → Stood low fits row (if c then ra.reader ts else rb.reader ts) ts
+      stood ka kb ts le true = stood_as low yes_fits fits row (ra.reader ts) ts from_yes (ka.stood ts le)
+      stood ka kb ts le false = stood_as low no_fits fits row (rb.reader ts) ts from_no (kb.stood ts le)

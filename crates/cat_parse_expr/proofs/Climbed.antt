@@ -1,46 +1,29 @@
 -- Climbing: a step behind what was read so far, for as long as one goes on.
-use Rattle.std.proofs.Common.{◌≡◌, ℕ, suc, ◌≤◌, Bool, true, false, not, nat_le, ◌&&◌}
-use Rattle.std.proofs.Common.{if◌then◌else◌, List, [], ◌∷◌, None, refl, sym, ap, ◌∙◌, arith}
-use Rattle.std.proofs.Common.{inl, inr, ◌⊎◌}
-use Rattle.cat_lex.specs.declared.token.Token.{Token}
+use Rattle.std.proofs.Common.{◌≡◌, ℕ, suc, ◌≤◌, Bool, true, false, not, nat_le, ◌&&◌, if◌then◌else◌, List, [], ◌∷◌}
+use Rattle.std.proofs.Common.{None, refl, sym, ap, ◌∙◌, arith, inl, inr, ◌⊎◌}
 use Rattle.cat_lex.specs.declared.token.TokenKind.TheVariants as kind
 use Rattle.cat_lex.specs.declared.words.DoubleKeyword.TheVariants as pair
 use Rattle.cat_lex.specs.declared.symbol.Symbol.TheVariants as symbol
-use Rattle.cat_tree.specs.declared.name.CaseName.TheVariants.{Bare}
-use Rattle.cat_tree.specs.declared.expression.Operator.{Operator}
-use Rattle.cat_tree.specs.Operators.{operator_kind, operator_level, left_level}
-use Rattle.cat_tree.specs.Grammar.{phrase}
-use Rattle.cat_parse_expr.specs.declared.behind.Behind.{Behind}
 use Rattle.cat_parse_expr.specs.declared.cue.Cue.TheVariants as cue
-use Rattle.cat_parse_expr.specs.declared.follow.Follow.{Follow}
 use Rattle.cat_parse_expr.specs.declared.follow.Follow.TheVariants as follow
-use Rattle.cat_parse_expr.specs.declared.measured.Measured.{Measured}
-use Rattle.cat_parse_expr.specs.Climbing as climbing
-use Rattle.cat_parse_expr.specs.Climbing.{ends_test, goes_so, goes_on, room_beside, nothing_at}
-use Rattle.cat_parse_expr.specs.Cues.{«word»}
-use Rattle.cat_parse_expr.specs.Followers.{looks_of}
-use Rattle.cat_parse_expr.specs.Longest.{KeepsWhole}
-use Rattle.cat_parse_expr.specs.Openings.{follow_at}
-use Rattle.cat_parse_expr.specs.Parts.{Lower, is_sign}
-use Rattle.cat_parse_expr.specs.Reader.{Fails, Reader, ◌⨟◌, pure, nothing, heads}
-use Rattle.cat_parse_expr.specs.Right.{Begun}
-use Rattle.cat_parse_expr.specs.Rightly.{measured_of, IsMeasured, IsLow, operand_row, AreRight}
+use Rattle.cat_parse_expr.specs.Steps as steps
+use Rattle.cat_parse_expr.proofs.Common.{Token, Bare, Operator, operator_kind, operator_level, left_level, phrase}
+use Rattle.cat_parse_expr.proofs.Common.{Behind, Follow, Measured, goes_so, «word», looks_of, KeepsWhole, follow_at}
+use Rattle.cat_parse_expr.proofs.Common.{Lower, is_sign, Fails, Reader, ◌⨟◌, pure, nothing, heads, Begun, measured_of}
+use Rattle.cat_parse_expr.proofs.Common.{IsMeasured, IsLow, operand_row, AreRight, phrase_Binary, phrase_Field}
+use Rattle.cat_parse_expr.proofs.Common.{phrase_Test}
 use Rattle.cat_parse_expr.proofs.Chains.{Step, Operates, Selects, TestsFor, put, step_parts}
 use Rattle.cat_parse_expr.proofs.Firsts.{is_bare}
 use Rattle.cat_parse_expr.proofs.Follows.{one_level}
-use Rattle.cat_parse_expr.proofs.Leaves.{cue_self}
-use Rattle.cat_parse_expr.proofs.Operands.{goes_past}
+use Rattle.cat_parse_expr.proofs.Leaves.{cue_self, anywhere}
+use Rattle.cat_parse_expr.proofs.Operands.{goes_past, Next as NextAt}
 use Rattle.cat_parse_expr.proofs.Read.{IsRead}
-use Rattle.cat_parse_expr.proofs.Heading as heading
-use Rattle.cat_parse_expr.proofs.Operands.{Next as NextAt}
 use Rattle.cat_parse_expr.proofs.StepWords.{cue_of, follow_in, FitsOne}
-use Rattle.cat_parse_expr.proofs.Stepping.{operated_read, selected_read}
-use Rattle.cat_parse_expr.proofs.Stepping.{tested_read}
-use Rattle.cat_tree.proofs.Exported.{phrase_Binary, phrase_Field, phrase_Test}
+use Rattle.cat_parse_expr.proofs.Stepping.{operated_read, selected_read, tested_read}
 use Rattle.cat_parse_expr.proofs.Climbs.{dotted_is, step_follows}
-use Rattle.cat_parse_expr.proofs.Leaves.{anywhere}
 use Rattle.cat_parse_expr.proofs.Sampling.{a_name, a_node, a_token, lower_token, node_levels, node_spelled}
 use Rattle.cat_parse_expr.proofs.Truth.{both_are, both_true, clash, le_of, le_true, unnot}
+use Rattle.cat_parse_expr.proofs.Heading as heading
 
 -- one with a step more is no bare case
 pub step_not_bare : (s : Measured) (x : Step) → is_bare (phrase (put s x).node) ≡ false
@@ -61,12 +44,12 @@ module _ (ex : Lower) (room : ℕ) (right : AreRight room ex)
 
   abbrev pub operating : Measured → Operator → Reader Measured
   operating s o =
-      «word» (cue_of o) ⨟ λ p. climbing.beside ex room s b (suc (operator_level o)) ⨟ λ e. pure (put s (Operates o p e))
+      «word» (cue_of o) ⨟ λ p. steps.beside ex room s b (suc (operator_level o)) ⨟ λ e. pure (put s (Operates o p e))
 
   abbrev pub reader_at : Measured → Follow → Reader Measured
   reader_at s (follow.Operated o) = operating s o
-  reader_at s follow.Dotted = climbing.selected ex room s
-  reader_at s follow.Tests = climbing.tested ex room s
+  reader_at s follow.Dotted = steps.selected ex room s
+  reader_at s follow.Tests = steps.tested ex room s
   reader_at s follow.Other = nothing
 
   abbrev pub pick : Measured → Follow → Reader Measured
@@ -136,7 +119,7 @@ module _ (ex : Lower) (room : ℕ) (right : AreRight room ex)
   picked s follow.Dotted = by (allowed s follow.Dotted) refl
     where
       by : {K : Type 0} (c : Bool) → allowed s follow.Dotted ≡ c
-          → Picked K s follow.Dotted (if c then climbing.selected ex room s else nothing)
+          → Picked K s follow.Dotted (if c then steps.selected ex room s else nothing)
       by true e =
           inl (selected_read ex room right kept b k le s (λ f. f.0) (le_of 9 s.strength (both_are _ _ e).0)
           (unnot (is_bare (phrase s.node)) (both_are _ _ e).1))
@@ -144,7 +127,7 @@ module _ (ex : Lower) (room : ℕ) (right : AreRight room ex)
   picked s follow.Tests = by (allowed s follow.Tests) refl
     where
       by : {K : Type 0} (c : Bool) → allowed s follow.Tests ≡ c
-          → Picked K s follow.Tests (if c then climbing.tested ex room s else nothing)
+          → Picked K s follow.Tests (if c then steps.tested ex room s else nothing)
       by true e =
           inl (tested_read ex room right kept b k le s (λ f. f.0) (le_of k 4 (both_are _ _ e).0)
           (le_of 5 s.strength (both_are _ _ e).1))

@@ -1,60 +1,41 @@
 -- The loop of climbing.
-use Rattle.std.proofs.Common.{◌≡◌, ℕ, suc, ◌≤◌, ◌<◌, Bool, true, false, not, nat_le, ◌&&◌}
-use Rattle.std.proofs.Common.{if◌then◌else◌, List, [], ◌∷◌, length, refl, sym, ap, subst, ◌∙◌, arith}
-use Rattle.cat_pos.specs.declared.pos.Pos.{Pos}
-use Rattle.cat_lex.specs.declared.token.Token.{Token}
+use Rattle.std.proofs.Common.{◌≡◌, ℕ, suc, ◌≤◌, ◌<◌, Bool, true, false, not, nat_le, ◌&&◌, if◌then◌else◌, List, [], ◌∷◌}
+use Rattle.std.proofs.Common.{length, refl, sym, ap, subst, ◌∙◌, arith}
 use Rattle.cat_lex.specs.declared.words.DoubleKeyword.TheVariants as pair
 use Rattle.cat_lex.specs.declared.symbol.Symbol.TheVariants as symbol
-use Rattle.cat_tree.specs.declared.expression.Operator.{Operator}
 use Rattle.cat_tree.specs.declared.expression.Node.TheViews as node
-use Rattle.cat_tree.specs.Operators.{operator_level}
-use Rattle.cat_tree.specs.Grammar.{phrase}
-use Rattle.cat_parse_expr.specs.declared.behind.Behind.{Behind}
 use Rattle.cat_parse_expr.specs.declared.cue.Cue.TheVariants as cue
-use Rattle.cat_parse_expr.specs.declared.follow.Follow.{Follow}
 use Rattle.cat_parse_expr.specs.declared.follow.Follow.TheVariants as follow
-use Rattle.cat_parse_expr.specs.declared.measured.Measured.{Measured}
-use Rattle.cat_parse_expr.specs.Climbing as climbing
-use Rattle.cat_parse_expr.specs.Climbing.{ends_test, goes_so, goes_on, room_beside, nothing_at}
+use Rattle.cat_parse_expr.specs.Steps as steps
 use Rattle.cat_parse_expr.specs.Cues as cues
-use Rattle.cat_parse_expr.specs.Cues.{kind_of, cue_is, word_of, «word», lower_of, upper_of}
-use Rattle.cat_parse_expr.specs.Followers.{MayFollow, looks_of}
-use Rattle.cat_parse_expr.specs.Longest.{KeepsWhole}
-use Rattle.cat_parse_expr.specs.Measures.{closed}
-use Rattle.cat_parse_expr.specs.Openings.{follow_at}
-use Rattle.cat_parse_expr.specs.Parts.{Lower, is_sign, case_from}
-use Rattle.cat_parse_expr.specs.Reader.{Parsed, Fails, Reads, Reader, ◌⨟◌, pure, nothing, after, heads, behind_whole}
-use Rattle.cat_parse_expr.specs.Reader.{with_room}
-use Rattle.cat_parse_expr.specs.Rightly.{IsMeasured, IsLow, operand_row, AreRight}
+use Rattle.cat_parse_expr.proofs.Common.{Pos, Token, Operator, operator_level, phrase, Behind, Follow, Measured}
+use Rattle.cat_parse_expr.proofs.Common.{ends_test, goes_so, goes_on, room_beside, nothing_at, cue_is, word_of}
+use Rattle.cat_parse_expr.proofs.Common.{lower_of, upper_of, MayFollow, looks_of, KeepsWhole, closed, follow_at, Lower}
+use Rattle.cat_parse_expr.proofs.Common.{is_sign, case_from, Parsed, Fails, Reads, Reader, ◌⨟◌, pure, nothing, after}
+use Rattle.cat_parse_expr.proofs.Common.{heads, behind_whole, with_room, IsMeasured, IsLow, operand_row, AreRight}
+use Rattle.cat_parse_expr.proofs.Common.{left_of, fallen}
 use Rattle.cat_parse_expr.proofs.Chains.{Step, Operates, Selects, TestsFor, put, step_parts}
 use Rattle.cat_parse_expr.proofs.Firsts.{is_bare}
 use Rattle.cat_parse_expr.proofs.Follows.{one_level}
 use Rattle.cat_parse_expr.proofs.Leaves.{cue_self}
-use Rattle.cat_parse_expr.proofs.Operands.{goes_past}
+use Rattle.cat_parse_expr.proofs.Operands.{goes_past, part_shrinks, Next as NextAt}
 use Rattle.cat_parse_expr.proofs.Patterns.{whole_case_read}
-use Rattle.cat_parse_expr.specs.Reader.{left_of, fallen}
-use Rattle.cat_parse_expr.proofs.Operands.{part_shrinks}
 use Rattle.cat_parse_expr.proofs.Chosen.{fallen_mapped}
-use Rattle.cat_parse_expr.proofs.Lists as lists
-use Rattle.cat_parse_expr.proofs.Loops as loops
-use Rattle.cat_parse_expr.proofs.Operands.{Next as NextAt}
 use Rattle.cat_parse_expr.proofs.StepWords.{cue_of, operator_word, operator_is, FitsOne}
 use Rattle.cat_parse_expr.proofs.Turnings.{left_mapped, left_fallen, moves_one, takes_one, word_there, shrinks_after}
-use Rattle.cat_parse_expr.proofs.Wholes.{behind_right}
-use Rattle.cat_parse_expr.proofs.Climbs.{seen_past, agree_past}
-use Rattle.cat_parse_expr.proofs.Climbs.{stops_at, tests_is, dotted_is, room_shrinks, step_goes}
 use Rattle.cat_parse_expr.proofs.Turnings.{read_shrinks}
-use Rattle.cat_parse_expr.proofs.Climbed as climbed
+use Rattle.cat_parse_expr.proofs.Wholes.{behind_right}
+use Rattle.cat_parse_expr.proofs.Climbs.{seen_past, agree_past, stops_at, tests_is, dotted_is, room_shrinks, step_goes}
 use Rattle.cat_parse_expr.proofs.Truth.{both_are, both_true, second_false}
+use Rattle.cat_parse_expr.proofs.Lists as lists
+use Rattle.cat_parse_expr.proofs.Loops as loops
+use Rattle.cat_parse_expr.proofs.Climbed as climbed
 
 module _ (ex : Lower) (room : ℕ) (right : AreRight room ex)
     (kept : (b : Behind) (j bound : ℕ) → j ≤ 9 → KeepsWhole (IsLow room) bound IsMeasured (operand_row j) (ex b j))
     (b : Behind) (k : ℕ) (le : k ≤ 9) where
   abbrev allowed : Measured → Follow → Bool
   allowed = climbed.allowed ex room right kept b k le
-
-  abbrev operating : Measured → Operator → Reader Measured
-  operating = climbed.operating ex room right kept b k le
 
   abbrev reader_at : Measured → Follow → Reader Measured
   reader_at = climbed.reader_at ex room right kept b k le
@@ -74,7 +55,7 @@ module _ (ex : Lower) (room : ℕ) (right : AreRight room ex)
   -- ---- how far a step reads
 
   beside_shrinks : (s : Measured) (j : ℕ) → j ≤ 9 → (ts : List Token)
-      → length (left_of (climbing.beside ex room s b j ts)) ≤ length ts
+      → length (left_of (steps.beside ex room s b j ts)) ≤ length ts
   beside_shrinks s j high ts = by (nat_le s.height room)
     where
       by : (c : Bool) → length (left_of ((if c then ex b j else nothing_at j) ts)) ≤ length ts
@@ -82,10 +63,10 @@ module _ (ex : Lower) (room : ℕ) (right : AreRight room ex)
       by false = omega arith
 
   operated_shrinks : (s : Measured) (o : Operator) (p : Pos) (ts : List Token)
-      → length (left_of ((climbing.beside ex room s b (suc (operator_level o))
+      → length (left_of ((steps.beside ex room s b (suc (operator_level o))
       ⨟ λ e. pure (put s (Operates o p e))) ts)) ≤ length ts
   operated_shrinks s o p ts =
-      shrinks_after (climbing.beside ex room s b (suc (operator_level o)) ts) _ (length ts)
+      shrinks_after (steps.beside ex room s b (suc (operator_level o)) ts) _ (length ts)
       (beside_shrinks s (suc (operator_level o)) (omega (arith, (one_level o).3)) ts) (λ x us. omega arith)
 
   selected_shrinks : (s : Measured) (ts : List Token)
@@ -189,8 +170,18 @@ module _ (ex : Lower) (room : ℕ) (right : AreRight room ex)
   abbrev pub Out : Measured → List Token → Type 0
   Out s v = MayFollow b k s v
 
-  abbrev pub More : Measured → List Token → Type 0
-  More s v = goes_past b k s v ≡ true
+  abbrev pub loop : loops.Loop Measured Step
+  loop = record {
+    goes = goes_past b k;
+    put = put;
+    Good = Good;
+    Low = LowAs;
+    Out = Out;
+    More = λ s v. goes_past b k s v ≡ true;
+    looks = looks_of b;
+    FitsOne = FitsOne k;
+    row_one = step_parts;
+  }
 
   abbrev pub inner_step : Measured → Reader Step
   inner_step s = (climbed.turn_read ex room right kept b k le {K = Unit {0}} s).reader
@@ -206,7 +197,7 @@ module _ (ex : Lower) (room : ℕ) (right : AreRight room ex)
   fallen_reads ts (Fails l deep whole) x left e = absurd cc
   fallen_reads ts (Reads y l) x left e = e
 
-  pub turning : loops.Turning (goes_past b k) one_step put Good LowAs Out More (looks_of b) (FitsOne k) step_parts
+  pub turning : loops.Turning loop one_step
   turning = record {
     right =
         λ s bound good low us e. behind_right (λ x. LowAs (put s x)) (λ x v. NextAt b k (put s x) v) (looks_of b)

@@ -1,41 +1,25 @@
 -- Turns of climbing: a step behind what was read so far.
-use Rattle.std.proofs.Common.{◌≡◌, ℕ, zero, suc, ◌≤◌, Bool, true, false, not, nat_eq, nat_le, nat_lt, ◌&&◌, ◌||◌}
-use Rattle.std.proofs.Common.{List, [], ◌∷◌, ◌++◌, length, Option, refl, sym, ap, ◌∙◌, arith}
-use Rattle.std.proofs.Common.{inl, inr, ◌⊎◌}
+use Rattle.std.proofs.Common.{◌≡◌, ℕ, zero, suc, ◌≤◌, Bool, true, false, not, nat_eq, nat_le, nat_lt, ◌&&◌, ◌||◌, List}
+use Rattle.std.proofs.Common.{[], ◌∷◌, ◌++◌, length, Option, refl, sym, ap, ◌∙◌, arith, inl, inr, ◌⊎◌}
 use Rattle.std.proofs.lemmas.Bool.Decides.{nat_tests}
-use Rattle.cat_pos.specs.declared.pos.Pos.{Pos}
-use Rattle.cat_lex.specs.declared.token.Token.{Token}
-use Rattle.cat_lex.specs.declared.token.TokenKind.{TokenKind}
 use Rattle.cat_lex.specs.declared.token.TokenKind.TheVariants as kind
 use Rattle.cat_lex.specs.declared.words.Keyword.TheVariants as key
 use Rattle.cat_lex.specs.declared.words.DoubleKeyword.TheVariants as pair
 use Rattle.cat_lex.specs.declared.symbol.Symbol.TheVariants as symbol
-use Rattle.cat_tree.specs.declared.name.CaseName.{CaseName}
-use Rattle.cat_tree.specs.declared.name.CaseName.TheVariants.{Bare, Qualified}
-use Rattle.cat_tree.specs.declared.expression.Operator.{Operator}
 use Rattle.cat_tree.specs.declared.expression.Operator.TheVariants as op
-use Rattle.cat_tree.specs.Literals.{case_parts}
-use Rattle.cat_tree.specs.Operators.{operator_kind, operator_level, left_level}
-use Rattle.cat_tree.specs.Phrase.{End, AreSpelled}
-use Rattle.cat_tree.specs.Grammar.{phrase}
-use Rattle.cat_parse_expr.specs.declared.behind.Behind.{Behind}
 use Rattle.cat_parse_expr.specs.declared.behind.Behind.TheVariants.{Other, Field, Pattern as Tested}
 use Rattle.cat_parse_expr.specs.declared.cue.Cue.TheVariants as cue
-use Rattle.cat_parse_expr.specs.declared.follow.Follow.{Follow}
 use Rattle.cat_parse_expr.specs.declared.follow.Follow.TheVariants as follow
-use Rattle.cat_parse_expr.specs.declared.measured.Measured.{Measured}
-use Rattle.cat_parse_expr.specs.Climbing.{ends_test, goes_so, goes_on}
-use Rattle.cat_parse_expr.specs.Followers.{is_taken, is_asked, is_below, may_stand, MayFollow, looks_of}
-use Rattle.cat_parse_expr.specs.Openings.{follow_of, follow_at}
-use Rattle.cat_parse_expr.specs.Parts.{is_sign}
-use Rattle.cat_parse_expr.specs.Reader.{Parsed, Fails, Reads, heads, with_room}
+use Rattle.cat_parse_expr.proofs.Common.{Pos, Token, TokenKind, CaseName, Bare, Qualified, Operator, case_parts}
+use Rattle.cat_parse_expr.proofs.Common.{operator_kind, operator_level, left_level, End, AreSpelled, phrase, Behind}
+use Rattle.cat_parse_expr.proofs.Common.{Follow, Measured, ends_test, goes_so, goes_on, is_taken, is_asked, is_below}
+use Rattle.cat_parse_expr.proofs.Common.{may_stand, MayFollow, looks_of, follow_of, follow_at, is_sign, Parsed, Fails}
+use Rattle.cat_parse_expr.proofs.Common.{Reads, heads, with_room, left_of, one, too_high, Agree, AgreePast}
+use Rattle.cat_parse_expr.proofs.Common.{is_with_pattern}
 use Rattle.cat_parse_expr.proofs.Chains.{Step, Operates, Selects, TestsFor, step_parts}
 use Rattle.cat_parse_expr.proofs.Firsts.{is_bare}
 use Rattle.cat_parse_expr.proofs.Leaves.{cue_found}
 use Rattle.cat_parse_expr.proofs.Operands.{goes_past}
-use Rattle.cat_parse_expr.specs.Reader.{left_of, one, too_high}
-use Rattle.cat_parse_expr.specs.Right.{Agree, AgreePast}
-use Rattle.cat_parse_expr.specs.Followers.{is_with_pattern}
 use Rattle.cat_parse_expr.proofs.StepWords.{operator_word, operator_is, follow_in, FitsOne, dot_refused}
 use Rattle.cat_parse_expr.proofs.Turnings.{shrinks_one}
 use Rattle.cat_parse_expr.proofs.Truth.{both_are, both_true, first_false, last_of, le_true, second_false}

@@ -1,31 +1,20 @@
 -- Forms that end in a part, and parentheses.
-use Rattle.std.proofs.Common.{ℕ, suc, ◌≤◌, max, refl}
-use Rattle.std.proofs.Common.{arith}
-use Rattle.cat_pos.specs.declared.pos.Pos.{Pos}
+use Rattle.std.proofs.Common.{ℕ, suc, ◌≤◌, max, refl, arith}
 use Rattle.cat_lex.specs.declared.token.TokenKind.TheVariants as kind
 use Rattle.cat_lex.specs.declared.words.Keyword.TheVariants as key
 use Rattle.cat_lex.specs.declared.symbol.Symbol.TheVariants as symbol
 use Rattle.cat_tree.specs.declared.expression.Node.TheViews as node
-use Rattle.cat_tree.specs.Phrase.{Parts, End}
 use Rattle.cat_tree.specs.Wording as wording
-use Rattle.cat_tree.specs.Wording.{◌▹◌, symbol_at, key_at, pair_at, first, then_, lower, sign, part, of_level, words}
-use Rattle.cat_tree.specs.Grammar.{phrase}
-use Rattle.cat_tree.proofs.Exported.{phrase_If, phrase_Parens}
-use Rattle.cat_parse_expr.specs.declared.behind.Behind.{Behind}
-use Rattle.cat_parse_expr.specs.declared.behind.Behind.TheVariants.{Other}
 use Rattle.cat_parse_expr.specs.declared.cue.Cue.TheVariants as cue
-use Rattle.cat_parse_expr.specs.declared.measured.Measured.{Measured}
 use Rattle.cat_parse_expr.specs.declared.opening.Opening.TheVariants as opening
-use Rattle.cat_parse_expr.specs.Measures.{closed, form}
-use Rattle.cat_parse_expr.specs.Parts.{Lower}
+use Rattle.cat_parse_expr.specs.Brackets as brackets
 use Rattle.cat_parse_expr.specs.Forms as forms
-use Rattle.cat_parse_expr.specs.Followers.{looks_of}
-use Rattle.cat_parse_expr.specs.Longest.{KeepsWhole}
-use Rattle.cat_parse_expr.specs.Rightly.{measured_of, IsMeasured, IsLow, operand_row, AreRight}
+use Rattle.cat_parse_expr.proofs.Common.{Pos, Parts, End, ◌▹◌, symbol_at, key_at, sign, part, of_level, phrase}
+use Rattle.cat_parse_expr.proofs.Common.{phrase_If, phrase_Parens, Behind, Other, Measured, closed, form, Lower}
+use Rattle.cat_parse_expr.proofs.Common.{looks_of, KeepsWhole, measured_of, IsMeasured, IsLow, operand_row, AreRight}
 use Rattle.cat_parse_expr.proofs.Firsts.{class_Parens, class_If}
 use Rattle.cat_parse_expr.proofs.Follows.{word_follows, tall_enough}
-use Rattle.cat_parse_expr.proofs.Operands.{Next, form_next, OfClass, Form, form_read, measured_by, height_is}
-use Rattle.cat_parse_expr.proofs.Operands.{match_is}
+use Rattle.cat_parse_expr.proofs.Operands.{Next, form_next, OfClass, Form, form_read, measured_by, height_is, match_is}
 use Rattle.cat_parse_expr.proofs.Operands.{inner_read, end_read}
 use Rattle.cat_parse_expr.proofs.Read.{IsRead, pure_read}
 use Rattle.cat_parse_expr.proofs.Worded.{word_read, opened_at_read}
@@ -60,9 +49,10 @@ module _ (ex : Lower) (room : ℕ) (right : AreRight room ex)
 
   pub parens_read : {K : Type 0} → k ≤ 9
       → IsRead (λ y. y) K (Unit {0}) (Unit {0}) (IsLow (suc room)) (Next b k) (looks_of b) (OfClass k opening.Parens)
-      (operand_row k) (forms.parens ex room)
+      (operand_row k) (brackets.parens ex room)
   parens_read le =
-      form_read k (suc room) (Next b k) opening.Parens (λ t. IsMeasured t.1) parens_row parens_of (forms.parens ex room)
+      form_read k (suc room) (Next b k) opening.Parens (λ t. IsMeasured t.1) parens_row parens_of
+      (brackets.parens ex room)
       (parens_form le)
       (opened_at_read room (cue.Sign symbol.LeftParen) (λ t. t.0) _ _
       (λ none f c y m low. omega (arith, none, low, tall_enough y.1 m))

@@ -1,53 +1,39 @@
 -- Expressions are read rightly, and the longest front that is whole is kept.
-use Rattle.std.proofs.Common.{◌≡◌, ℕ, zero, suc, ◌≤◌, Bool, true, false, not, ◌&&◌}
-use Rattle.std.proofs.Common.{if◌then◌else◌, List, [], ◌∷◌, ◌++◌, length, None, Some, refl, sym, ap, subst, ◌∙◌, arith}
-use Rattle.cat_lex.specs.declared.token.Token.{Token}
+use Rattle.std.proofs.Common.{◌≡◌, ℕ, zero, suc, ◌≤◌, Bool, true, false, not, ◌&&◌, if◌then◌else◌, List, [], ◌∷◌, ◌++◌}
+use Rattle.std.proofs.Common.{length, None, Some, refl, sym, ap, subst, ◌∙◌, arith}
+use Rattle.std.proofs.lemmas.List.{append-nil}
 use Rattle.cat_lex.specs.declared.symbol.Symbol.TheVariants as symbol
-use Rattle.cat_tree.specs.Operators.{operator_level}
-use Rattle.cat_tree.specs.Grammar.{phrase}
-use Rattle.cat_parse_expr.specs.declared.behind.Behind.{Behind}
-use Rattle.cat_parse_expr.specs.declared.follow.Follow.{Follow}
 use Rattle.cat_parse_expr.specs.declared.follow.Follow.TheVariants as follow
-use Rattle.cat_parse_expr.specs.declared.measured.Measured.{Measured}
 use Rattle.cat_parse_expr.specs.Climbing as climbing
-use Rattle.cat_parse_expr.specs.Climbing.{ends_test, goes_so, goes_on, room_beside, nothing_at}
-use Rattle.cat_parse_expr.specs.Cues.{cue_is}
-use Rattle.cat_parse_expr.specs.Followers.{MayFollow, looks_of}
-use Rattle.cat_parse_expr.specs.Longest.{KeepsWhole}
-use Rattle.cat_parse_expr.specs.Openings.{follow_at}
-use Rattle.cat_parse_expr.specs.Parts.{Lower, is_sign}
-use Rattle.cat_parse_expr.specs.Reader.{Parsed, Fails, Reads, Reader, ◌⨟◌, pure, nothing, after, heads}
-use Rattle.cat_parse_expr.specs.Right.{Is, IsRight}
-use Rattle.cat_parse_expr.specs.Rightly.{IsMeasured, IsLow, operand_row, AreRight}
-use Rattle.cat_parse_expr.proofs.Chains.{Step, Operates, put, step_parts}
+use Rattle.cat_parse_expr.specs.Steps as steps
+use Rattle.cat_parse_expr.specs.Climbing.{operand}
+use Rattle.cat_parse_expr.proofs.Common.{Parts, Token, operator_level, phrase, Behind, Follow, Measured, goes_on}
+use Rattle.cat_parse_expr.proofs.Common.{nothing_at, cue_is, MayFollow, looks_of, KeepsWhole, follow_at, Lower, is_sign}
+use Rattle.cat_parse_expr.proofs.Common.{Parsed, Fails, Reads, Reader, ◌⨟◌, pure, nothing, after, heads, Is, IsRight}
+use Rattle.cat_parse_expr.proofs.Common.{IsMeasured, IsLow, operand_row, AreRight, fallen, made_of, turns, as_many}
+use Rattle.cat_parse_expr.proofs.Common.{IsSpelling}
+use Rattle.cat_parse_expr.proofs.Chains.{Step, Operates, put, put_all, steps_spelled}
 use Rattle.cat_parse_expr.proofs.Choices.{Recast}
 use Rattle.cat_parse_expr.proofs.Firsts.{is_bare}
 use Rattle.cat_parse_expr.proofs.Follows.{tall_enough}
 use Rattle.cat_parse_expr.proofs.Leaves.{cue_self}
 use Rattle.cat_parse_expr.proofs.NoRoom.{nothing_read}
-use Rattle.cat_parse_expr.proofs.Operands.{goes_past}
+use Rattle.cat_parse_expr.proofs.Operands.{goes_past, Placed}
 use Rattle.cat_parse_expr.proofs.Read.{IsRead}
-use Rattle.std.proofs.lemmas.List.{append-nil}
-use Rattle.cat_parse_expr.specs.Reader.{fallen, made_of, turns}
-use Rattle.cat_parse_expr.specs.Parts.{as_many}
-use Rattle.cat_parse_expr.proofs.Lists as lists
-use Rattle.cat_parse_expr.proofs.StepWords.{cue_of, operator_word, operator_is, FitsOne}
-use Rattle.cat_tree.specs.Phrase.{IsSpelling}
-use Rattle.cat_parse_expr.specs.Climbing.{operand}
-use Rattle.cat_parse_expr.proofs.Chains.{put_all, steps_spelled}
-use Rattle.cat_parse_expr.proofs.Chaining as chaining
+use Rattle.cat_parse_expr.proofs.StepWords.{cue_of, operator_word, operator_is}
 use Rattle.cat_parse_expr.proofs.Chosen.{same_read}
-use Rattle.cat_parse_expr.proofs.Climbed as climbed
-use Rattle.cat_parse_expr.proofs.Climber as climber
 use Rattle.cat_parse_expr.proofs.Climbed.{step_not_bare}
-use Rattle.cat_parse_expr.proofs.Looping as looping
 use Rattle.cat_parse_expr.proofs.Nearly.{near_right, near_keeps}
-use Rattle.cat_parse_expr.proofs.Operands.{Placed}
 use Rattle.cat_parse_expr.proofs.Primary.{primary_read}
 use Rattle.cat_parse_expr.proofs.Shaping.{made_read}
 use Rattle.cat_parse_expr.proofs.Spines.{FitsAll, all_measured, all_stood, spine}
 use Rattle.cat_parse_expr.proofs.Truth.{first_false}
 use Rattle.cat_parse_expr.proofs.Bared.{AreKept, bare_stops}
+use Rattle.cat_parse_expr.proofs.Loops as loops
+use Rattle.cat_parse_expr.proofs.Chaining as chaining
+use Rattle.cat_parse_expr.proofs.Climbed as climbed
+use Rattle.cat_parse_expr.proofs.Climber as climber
+use Rattle.cat_parse_expr.proofs.Looping as looping
 
 module _ (ex : Lower) (room : ℕ) (right : AreRight room ex) (kept : AreKept room ex) (b : Behind) (k : ℕ)
     (le : k ≤ 9) where
@@ -64,17 +50,17 @@ module _ (ex : Lower) (room : ℕ) (right : AreRight room ex) (kept : AreKept ro
 
   step_is : (s : Measured) (ts : List Token) (f : Follow) → follow_at ts ≡ f
       → climbed.allowed ex room right kept b k le s f ≡ true
-      → climbing.step_by ex room b s f ts ≡ climbed.pick ex room right kept b k le s f ts
+      → steps.step_by ex room b s f ts ≡ climbed.pick ex room right kept b k le s f ts
   step_is s ts f e h =
       by ts f e
       ∙ sym (ap (λ (c : Bool). (if c then climbed.reader_at ex room right kept b k le s f else nothing) ts) h)
     where
       by : (ts : List Token) (f : Follow) → follow_at ts ≡ f
-          → climbing.step_by ex room b s f ts ≡ climbed.reader_at ex room right kept b k le s f ts
+          → steps.step_by ex room b s f ts ≡ climbed.reader_at ex room right kept b k le s f ts
       by [] (follow.Operated o) e = absurd cc
       by (p ∷ us) (follow.Operated o) e =
           ap (λ (c : Bool). after (made_of (if c then Some p.pos else None) (p ∷ us) us)
-          (λ q. climbing.beside ex room s b (suc (operator_level o)) ⨟ λ e. pure (put s (Operates o q e))))
+          (λ q. steps.beside ex room s b (suc (operator_level o)) ⨟ λ e. pure (put s (Operates o q e))))
           (sym (ap (cue_is (cue_of o)) (operator_is p.kind o e ∙ sym (operator_word o).0) ∙ cue_self (cue_of o)))
       by ts follow.Dotted e = refl
       by ts follow.Tests e = refl
@@ -82,7 +68,7 @@ module _ (ex : Lower) (room : ℕ) (right : AreRight room ex) (kept : AreKept ro
 
   turns_climb : (n : ℕ) (s : Measured) (ts : List Token) → (is_bare (phrase s.node) && heads (is_sign symbol.Dot) ts)
       ≡ false
-      → turns (goes_on b k) (climbing.step ex room b) n s ts ≡ turns (goes_past b k) turn n s ts
+      → turns (goes_on b k) (steps.step ex room b) n s ts ≡ turns (goes_past b k) turn n s ts
   turns_climb zero s ts c = refl
   turns_climb (suc n) s ts c =
       by (λ z us d. turns_climb n z us d) (goes_on b k s ts) refl
@@ -91,9 +77,9 @@ module _ (ex : Lower) (room : ℕ) (right : AreRight room ex) (kept : AreKept ro
       past_on = ap (λ (z : Bool). not z && goes_on b k s ts) c
 
       rests : ((z : Measured) (us : List Token) → (is_bare (phrase z.node) && heads (is_sign symbol.Dot) us) ≡ false
-          → turns (goes_on b k) (climbing.step ex room b) n z us ≡ turns (goes_past b k) turn n z us)
+          → turns (goes_on b k) (steps.step ex room b) n z us ≡ turns (goes_past b k) turn n z us)
           → (o : Parsed Step)
-          → after (after o (λ x. pure (put s x))) (turns (goes_on b k) (climbing.step ex room b) n)
+          → after (after o (λ x. pure (put s x))) (turns (goes_on b k) (steps.step ex room b) n)
           ≡ after (after o (λ x. pure (put s x))) (turns (goes_past b k) turn n)
       rests rest (Fails l d w) = refl
       rests rest (Reads x l) =
@@ -101,26 +87,26 @@ module _ (ex : Lower) (room : ℕ) (right : AreRight room ex) (kept : AreKept ro
           (step_not_bare s x))
 
       by : ((z : Measured) (us : List Token) → (is_bare (phrase z.node) && heads (is_sign symbol.Dot) us) ≡ false
-          → turns (goes_on b k) (climbing.step ex room b) n z us ≡ turns (goes_past b k) turn n z us)
+          → turns (goes_on b k) (steps.step ex room b) n z us ≡ turns (goes_past b k) turn n z us)
           → (d : Bool) → goes_on b k s ts ≡ d
-          → (if goes_on b k s ts then after (climbing.step ex room b s ts)
-          (turns (goes_on b k) (climbing.step ex room b) n)
+          → (if goes_on b k s ts then after (steps.step ex room b s ts)
+          (turns (goes_on b k) (steps.step ex room b) n)
           else Reads s ts)
           ≡ (if goes_past b k s ts then after (turn s ts) (turns (goes_past b k) turn n) else Reads s ts)
       by rest false e =
-          ap (λ (d : Bool). if d then after (climbing.step ex room b s ts)
-          (turns (goes_on b k) (climbing.step ex room b) n)
+          ap (λ (d : Bool). if d then after (steps.step ex room b s ts)
+          (turns (goes_on b k) (steps.step ex room b) n)
           else Reads s ts) e
           ∙ sym (ap (λ (d : Bool). if d then after (turn s ts) (turns (goes_past b k) turn n) else Reads s ts)
           (past_on ∙ e))
       by rest true e =
-          ap (λ (d : Bool). if d then after (climbing.step ex room b s ts)
-          (turns (goes_on b k) (climbing.step ex room b) n)
+          ap (λ (d : Bool). if d then after (steps.step ex room b s ts)
+          (turns (goes_on b k) (steps.step ex room b) n)
           else Reads s ts) e
-          ∙ ap (λ (o : Parsed Measured). after (fallen ts o) (turns (goes_on b k) (climbing.step ex room b) n))
+          ∙ ap (λ (o : Parsed Measured). after (fallen ts o) (turns (goes_on b k) (steps.step ex room b) n))
           (step_is s ts (follow_at ts) refl (climber.goes_allowed ex room right kept b k le s ts (past_on ∙ e)
           (follow_at ts) refl))
-          ∙ ap (λ (o : Parsed Measured). after o (turns (goes_on b k) (climbing.step ex room b) n))
+          ∙ ap (λ (o : Parsed Measured). after o (turns (goes_on b k) (steps.step ex room b) n))
           (climber.same ex room right kept b k le s ts)
           ∙ rests rest (one s ts)
           ∙ ap (λ (o : Parsed Measured). after o (turns (goes_past b k) turn n))
@@ -133,7 +119,7 @@ module _ (ex : Lower) (room : ℕ) (right : AreRight room ex) (kept : AreKept ro
   climb_same ts = by (prim ts) refl
     where
       by : (o : Parsed Measured) → prim ts ≡ o
-          → after o (as_many (goes_on b k) (climbing.step ex room b)) ≡ after o (λ z. as_many (goes_past b k) turn z)
+          → after o (as_many (goes_on b k) (steps.step ex room b)) ≡ after o (λ z. as_many (goes_past b k) turn z)
       by (Fails l d w) e = refl
       by (Reads a left) e = turns_climb (length left) a left (bare_stops ex room right kept b k le ts left a e)
 
@@ -142,37 +128,27 @@ module _ (ex : Lower) (room : ℕ) (right : AreRight room ex) (kept : AreKept ro
   abbrev Chain : Type 0
   Chain = Measured × List Step
 
-  chain_is : (s : Measured) (xs : List Step) → lists.put_all (goes_past b k) one put s xs ≡ put_all s xs
-  chain_is s [] = refl
-  chain_is s (x ∷ xs) = chain_is (put s x) xs
+  abbrev loop : loops.Loop Measured Step
+  loop = climber.loop ex room right kept b k le
 
-  to_all : (s : Measured) (xs : List Step) → looping.FitsFrom (goes_past b k)
-      (climber.one_step ex room right kept b k le) put (climbed.Good ex room right kept b k le)
-      (climbed.LowAs ex room right kept b k le) (climber.Out ex room right kept b k le)
-      (climber.More ex room right kept b k le) (looks_of b) (FitsOne k) step_parts
-      (climber.turning ex room right kept b k le) s xs → FitsAll k s xs
+  abbrev head : chaining.Head Measured Measured Measured
+  head = record { made = λ a. a; Low = IsLow (suc room); Fits = Placed k; row = operand_row k; begin = λ z. z }
+
+  abbrev fits_chain : Chain → Type 0
+  fits_chain = chaining.fits_chain loop one head
+
+  abbrev row_chain : Chain → Parts
+  row_chain = chaining.row_chain loop one head
+
+  to_all : (s : Measured) (xs : List Step) → loops.FitsFrom loop one s xs → FitsAll k s xs
   to_all s [] f = tt
   to_all s (x ∷ xs) f = (f.0, to_all (put s x) xs f.1)
 
-  from_all : (s : Measured) (xs : List Step) → FitsAll k s xs → looping.FitsFrom (goes_past b k)
-      (climber.one_step ex room right kept b k le) put (climbed.Good ex room right kept b k le)
-      (climbed.LowAs ex room right kept b k le) (climber.Out ex room right kept b k le)
-      (climber.More ex room right kept b k le) (looks_of b) (FitsOne k) step_parts
-      (climber.turning ex room right kept b k le) s xs
+  from_all : (s : Measured) (xs : List Step) → FitsAll k s xs → loops.FitsFrom loop one s xs
   from_all s [] f = tt
   from_all s (x ∷ xs) f = (f.0, from_all (put s x) xs f.1)
 
-  to_operand : (y : Chain) (w : List Token) → Is
-      (chaining.fits_chain (goes_past b k) (climber.one_step ex room right kept b k le) put
-      (climbed.Good ex room right kept b k le) (climbed.LowAs ex room right kept b k le)
-      (climber.Out ex room right kept b k le) (climber.More ex room right kept b k le) (looks_of b)
-      (FitsOne k) step_parts (climber.turning ex room right kept b k le) (climber.turn ex room right kept b k le)
-      (climber.same ex room right kept b k le) (λ a. a) (IsLow (suc room)) (Placed k) (operand_row k) (λ z. z))
-      (chaining.row_chain (goes_past b k) (climber.one_step ex room right kept b k le) put
-      (climbed.Good ex room right kept b k le) (climbed.LowAs ex room right kept b k le)
-      (climber.Out ex room right kept b k le) (climber.More ex room right kept b k le) (looks_of b)
-      (FitsOne k) step_parts (climber.turning ex room right kept b k le) (climber.turn ex room right kept b k le)
-      (climber.same ex room right kept b k le) (λ a. a) (IsLow (suc room)) (Placed k) (operand_row k) (λ z. z)) y w
+  to_operand : (y : Chain) (w : List Token) → Is fits_chain row_chain y w
       → Is IsMeasured (operand_row k) (put_all y.0 y.1) w
   to_operand y w i =
       let f = to_all y.0 y.1 i.fit.1 in
@@ -192,26 +168,12 @@ module _ (ex : Lower) (room : ℕ) (right : AreRight room ex) (kept : AreKept ro
       }
 
   from_operand : (y : Measured) (w : List Token) → Is IsMeasured (operand_row k) y w
-      → (c : Chain) × (y ≡ chaining.chain_of (goes_past b k) (climber.one_step ex room right kept b k le) put
-      (climbed.Good ex room right kept b k le) (climbed.LowAs ex room right kept b k le)
-      (climber.Out ex room right kept b k le) (climber.More ex room right kept b k le) (looks_of b)
-      (FitsOne k) step_parts (climber.turning ex room right kept b k le) (climber.turn ex room right kept b k le)
-      (climber.same ex room right kept b k le) (λ a. a) (IsLow (suc room)) (Placed k) (operand_row k) (λ z. z) c) × Is
-      (chaining.fits_chain (goes_past b k) (climber.one_step ex room right kept b k le) put
-      (climbed.Good ex room right kept b k le) (climbed.LowAs ex room right kept b k le)
-      (climber.Out ex room right kept b k le) (climber.More ex room right kept b k le) (looks_of b)
-      (FitsOne k) step_parts (climber.turning ex room right kept b k le) (climber.turn ex room right kept b k le)
-      (climber.same ex room right kept b k le) (λ a. a) (IsLow (suc room)) (Placed k) (operand_row k) (λ z. z))
-      (chaining.row_chain (goes_past b k) (climber.one_step ex room right kept b k le) put
-      (climbed.Good ex room right kept b k le) (climbed.LowAs ex room right kept b k le)
-      (climber.Out ex room right kept b k le) (climber.More ex room right kept b k le) (looks_of b)
-      (FitsOne k) step_parts (climber.turning ex room right kept b k le) (climber.turn ex room right kept b k le)
-      (climber.same ex room right kept b k le) (λ a. a) (IsLow (suc room)) (Placed k) (operand_row k) (λ z. z)) c w
+      → (c : Chain) × (y ≡ put_all c.0 c.1) × Is fits_chain row_chain c w
   from_operand y w i =
       let s = i.spelled in
       let sp = spine y.node k s.0 le i.levels.1 i.levels.0 s.3 in (
         (sp.first, sp.steps),
-        i.fit ∙ sp.is ∙ sym (chain_is sp.first sp.steps),
+        i.fit ∙ sp.is,
         record {
           fit = (sp.placed, from_all sp.first sp.steps sp.fits);
           levels = (sp.placed.level, sp.levels, sp.rows);
@@ -225,54 +187,10 @@ module _ (ex : Lower) (room : ℕ) (right : AreRight room ex) (kept : AreKept ro
         },
       )
 
-  to_chain : (y : Chain) (w : List Token) → Is
-      (chaining.fits_chain (goes_past b k) (climber.one_step ex room right kept b k le) put
-      (climbed.Good ex room right kept b k le) (climbed.LowAs ex room right kept b k le)
-      (climber.Out ex room right kept b k le) (climber.More ex room right kept b k le) (looks_of b)
-      (FitsOne k) step_parts (climber.turning ex room right kept b k le) (climber.turn ex room right kept b k le)
-      (climber.same ex room right kept b k le) (λ a. a) (IsLow (suc room)) (Placed k) (operand_row k) (λ z. z))
-      (chaining.row_chain (goes_past b k) (climber.one_step ex room right kept b k le) put
-      (climbed.Good ex room right kept b k le) (climbed.LowAs ex room right kept b k le)
-      (climber.Out ex room right kept b k le) (climber.More ex room right kept b k le) (looks_of b)
-      (FitsOne k) step_parts (climber.turning ex room right kept b k le) (climber.turn ex room right kept b k le)
-      (climber.same ex room right kept b k le) (λ a. a) (IsLow (suc room)) (Placed k) (operand_row k) (λ z. z)) y w
-      → Is IsMeasured (operand_row k) (chaining.chain_of (goes_past b k)
-      (climber.one_step ex room right kept b k le) put (climbed.Good ex room right kept b k le)
-      (climbed.LowAs ex room right kept b k le) (climber.Out ex room right kept b k le)
-      (climber.More ex room right kept b k le) (looks_of b) (FitsOne k) step_parts
-      (climber.turning ex room right kept b k le) (climber.turn ex room right kept b k le)
-      (climber.same ex room right kept b k le) (λ a. a) (IsLow (suc room)) (Placed k) (operand_row k) (λ z. z) y) w
-  to_chain y w i =
-      subst (λ (z : Measured). Is IsMeasured (operand_row k) z w) (sym (chain_is y.0 y.1)) (to_operand y w i)
-
-  cast : Recast (chaining.Low_chain (goes_past b k) (climber.one_step ex room right kept b k le) put
-      (climbed.Good ex room right kept b k le) (climbed.LowAs ex room right kept b k le)
-      (climber.Out ex room right kept b k le) (climber.More ex room right kept b k le) (looks_of b)
-      (FitsOne k) step_parts (climber.turning ex room right kept b k le) (climber.turn ex room right kept b k le)
-      (climber.same ex room right kept b k le) (λ a. a) (IsLow (suc room)) (Placed k) (operand_row k) (λ z. z))
-      (IsLow (suc room)) (chaining.Out_chain (goes_past b k) (climber.one_step ex room right kept b k le) put
-      (climbed.Good ex room right kept b k le) (climbed.LowAs ex room right kept b k le)
-      (climber.Out ex room right kept b k le) (climber.More ex room right kept b k le) (looks_of b)
-      (FitsOne k) step_parts (climber.turning ex room right kept b k le) (climber.turn ex room right kept b k le)
-      (climber.same ex room right kept b k le) (λ a. a) (IsLow (suc room)) (Placed k) (operand_row k) (λ z. z))
-      (MayFollow b k)
-      (chaining.fits_chain (goes_past b k) (climber.one_step ex room right kept b k le) put
-      (climbed.Good ex room right kept b k le) (climbed.LowAs ex room right kept b k le)
-      (climber.Out ex room right kept b k le) (climber.More ex room right kept b k le) (looks_of b)
-      (FitsOne k) step_parts (climber.turning ex room right kept b k le) (climber.turn ex room right kept b k le)
-      (climber.same ex room right kept b k le) (λ a. a) (IsLow (suc room)) (Placed k) (operand_row k)
-      (λ z. z)) IsMeasured (chaining.row_chain (goes_past b k) (climber.one_step ex room right kept b k le) put
-      (climbed.Good ex room right kept b k le) (climbed.LowAs ex room right kept b k le)
-      (climber.Out ex room right kept b k le) (climber.More ex room right kept b k le) (looks_of b)
-      (FitsOne k) step_parts (climber.turning ex room right kept b k le) (climber.turn ex room right kept b k le)
-      (climber.same ex room right kept b k le) (λ a. a) (IsLow (suc room)) (Placed k) (operand_row k) (λ z. z))
-      (operand_row k) (chaining.chain_of (goes_past b k) (climber.one_step ex room right kept b k le) put
-      (climbed.Good ex room right kept b k le) (climbed.LowAs ex room right kept b k le)
-      (climber.Out ex room right kept b k le) (climber.More ex room right kept b k le) (looks_of b)
-      (FitsOne k) step_parts (climber.turning ex room right kept b k le) (climber.turn ex room right kept b k le)
-      (climber.same ex room right kept b k le) (λ a. a) (IsLow (suc room)) (Placed k) (operand_row k) (λ z. z))
+  cast : Recast (chaining.Low_chain loop one head) (IsLow (suc room)) (chaining.Out_chain loop one head) (MayFollow b k)
+      fits_chain IsMeasured row_chain (operand_row k) (chaining.chain_of loop one head)
   cast = record {
-    to = to_chain;
+    to = to_operand;
     from = from_operand;
     lows = λ y fit l. l;
     back = λ y fit l. l;
@@ -285,28 +203,19 @@ module _ (ex : Lower) (room : ℕ) (right : AreRight room ex) (kept : AreKept ro
       IsMeasured (operand_row k) (climbing.climb ex room b k)
   climb_read =
       same_read (prim ⨟ λ z. as_many (goes_past b k) turn z) (climbing.climb ex room b k) climb_same
-      (made_read _ _ _ _ (λ f. f) (λ f c. c) (λ f. to_chain) (λ f c. cast)
-      (chaining.chain_read (goes_past b k) (climber.one_step ex room right kept b k le) put
-      (climbed.Good ex room right kept b k le) (climbed.LowAs ex room right kept b k le)
-      (climber.Out ex room right kept b k le) (climber.More ex room right kept b k le) (looks_of b)
-      (FitsOne k) step_parts (climber.turning ex room right kept b k le) (climber.turn ex room right kept b k le)
-      (climber.same ex room right kept b k le) (λ a. a) (IsLow (suc room)) (Placed k) (operand_row k) (λ z. z)
+      (made_read _ _ _ _ (λ f. f) (λ f c. c) (λ f. to_operand) (λ f c. cast)
+      (chaining.chain_read loop one head (climber.turning ex room right kept b k le) turn
+      (climber.same ex room right kept b k le)
       (record {
         good = λ a f. tall_enough a f.measured;
         low = λ a f l. l;
         back = λ a f l. l;
       })
       prim (primary_read ex room right kept b k le)
-      (λ q. looping.loop_keeps (goes_past b k) (climber.one_step ex room right kept b k le) put
-      (climbed.Good ex room right kept b k le) (climbed.LowAs ex room right kept b k le)
-      (climber.Out ex room right kept b k le) (climber.More ex room right kept b k le) (looks_of b)
-      (FitsOne k) step_parts (climber.turning ex room right kept b k le) (climber.inner_step ex room right kept b k le)
-      (λ s ts. refl) (climber.inner_kept ex room right kept b k le))
-      (λ q. looping.loop_far (goes_past b k) (climber.one_step ex room right kept b k le) put
-      (climbed.Good ex room right kept b k le) (climbed.LowAs ex room right kept b k le)
-      (climber.Out ex room right kept b k le) (climber.More ex room right kept b k le) (looks_of b)
-      (FitsOne k) step_parts (climber.turning ex room right kept b k le) (climber.inner_step ex room right kept b k le)
-      (λ s ts. refl) (climber.inner_kept ex room right kept b k le))))
+      (λ q. looping.loop_keeps loop one (climber.turning ex room right kept b k le)
+      (climber.inner_step ex room right kept b k le) (λ s ts. refl) (climber.inner_kept ex room right kept b k le))
+      (λ q. looping.loop_far loop one (climber.turning ex room right kept b k le)
+      (climber.inner_step ex room right kept b k le) (λ s ts. refl) (climber.inner_kept ex room right kept b k le))))
 
 -- ---- by the room that is left
 

@@ -1,38 +1,22 @@
 -- How an expression begins: its first word, and the form that it is by that.
-use Rattle.std.proofs.Common.{◌≡◌, Bool, true, false, List, ◌∷◌, ◌++◌, Option, Some, None}
-use Rattle.std.proofs.Common.{refl, sym, ap, subst, ◌∙◌, ◌⊎◌}
-use Rattle.cat_pos.specs.declared.pos.Pos.{Pos}
-use Rattle.cat_lex.specs.declared.token.Token.{Token}
-use Rattle.cat_lex.specs.declared.token.TokenKind.{TokenKind}
+use Rattle.std.proofs.Common.{◌≡◌, Bool, true, false, List, ◌∷◌, ◌++◌, Option, Some, None, refl, sym, ap, subst, ◌∙◌}
+use Rattle.std.proofs.Common.{◌⊎◌}
 use Rattle.cat_lex.specs.declared.token.TokenKind.TheVariants as kind
-use Rattle.cat_tree.specs.Accumulation.{accumulation}
-use Rattle.cat_tree.specs.declared.name.Name.{Name}
-use Rattle.cat_tree.specs.declared.name.CaseName.{CaseName}
-use Rattle.cat_tree.specs.declared.name.CaseName.TheVariants.{Bare, Qualified}
 use Rattle.cat_tree.specs.declared.name.Type as types
-use Rattle.cat_tree.specs.declared.expression.SurfaceLiteral.{SurfaceLiteral}
 use Rattle.cat_tree.specs.declared.expression.SurfaceLiteral.TheVariants as literal
-use Rattle.cat_tree.specs.declared.expression.Prefix.{Prefix}
 use Rattle.cat_tree.specs.declared.expression.Prefix.TheVariants as prefix
-use Rattle.cat_tree.specs.declared.expression.Each.{Each}
 use Rattle.cat_tree.specs.declared.expression.Each.TheVariants as each
-use Rattle.cat_tree.specs.declared.expression.SurfaceArm.{SurfaceArm}
-use Rattle.cat_tree.specs.declared.expression.SurfaceField.{SurfaceField}
-use Rattle.cat_tree.specs.declared.expression.Node.{Node}
 use Rattle.cat_tree.specs.declared.expression.Node.TheVariants as leaves
 use Rattle.cat_tree.specs.declared.expression.Node.TheViews as node
-use Rattle.cat_tree.specs.Literals.{literal_parts}
-use Rattle.cat_tree.specs.Operators.{prefix_level, prefix_parts}
-use Rattle.cat_tree.specs.Rows.{each_parts}
-use Rattle.cat_tree.specs.Phrase.{Phrase, Row, Parts, End, Word, Part, Operand, At, IsSpelling, AreSpelled}
-use Rattle.cat_tree.specs.Grammar.{phrase}
-use Rattle.cat_tree.proofs.Exported.{phrase_Call, phrase_Case, phrase_Combine}
-use Rattle.cat_tree.proofs.Exported.{phrase_Content, phrase_Each, phrase_Field, phrase_If, phrase_List}
-use Rattle.cat_tree.proofs.Exported.{phrase_Literal, phrase_Match, phrase_Name, phrase_Parens, phrase_Prefixed}
-use Rattle.cat_tree.proofs.Exported.{phrase_ScopeCall, phrase_Structure, phrase_Sum}
-use Rattle.cat_parse_expr.specs.declared.opening.Opening.{Opening}
 use Rattle.cat_parse_expr.specs.declared.opening.Opening.TheVariants as opening
-use Rattle.cat_parse_expr.specs.Openings.{opening_of, opening_at}
+use Rattle.cat_parse_expr.proofs.Common.{Pos, Token, TokenKind, accumulation, Name, CaseName, Bare, Qualified}
+use Rattle.cat_parse_expr.proofs.Common.{SurfaceLiteral, Prefix, Each, SurfaceArm, SurfaceField, Node, literal_parts}
+use Rattle.cat_parse_expr.proofs.Common.{prefix_level, prefix_parts, each_parts, Phrase, Row, Parts, End, Word, Part}
+use Rattle.cat_parse_expr.proofs.Common.{Operand, At, IsSpelling, AreSpelled, phrase, phrase_Call, phrase_Case}
+use Rattle.cat_parse_expr.proofs.Common.{phrase_Combine, phrase_Content, phrase_Each, phrase_Field, phrase_If}
+use Rattle.cat_parse_expr.proofs.Common.{phrase_List, phrase_Literal, phrase_Match, phrase_Name, phrase_Parens}
+use Rattle.cat_parse_expr.proofs.Common.{phrase_Prefixed, phrase_ScopeCall, phrase_Structure, phrase_Sum, Opening}
+use Rattle.cat_parse_expr.proofs.Common.{opening_of, opening_at}
 use Rattle.cat_parse_expr.proofs.Follows.{kind_at, kind_is}
 
 -- ---- the first word

@@ -1,26 +1,15 @@
 -- What may follow a part, where it is followed by a word, or where it ends an expression.
-use Rattle.std.proofs.Common.{◌≡◌, ℕ, zero, suc, ◌≤◌, ◌<◌, Bool, true, false, not, nat_eq, ◌&&◌, ◌||◌, cond}
-use Rattle.std.proofs.Common.{List, [], ◌∷◌, ◌++◌, refl, sym, ap, subst, ◌∙◌, arith, inl, inr, ◌⊎◌}
+use Rattle.std.proofs.Common.{◌≡◌, ℕ, zero, suc, ◌≤◌, ◌<◌, Bool, true, false, not, nat_eq, ◌&&◌, ◌||◌, cond, List, []}
+use Rattle.std.proofs.Common.{◌∷◌, ◌++◌, refl, sym, ap, subst, ◌∙◌, arith, inl, inr, ◌⊎◌}
 use Rattle.std.proofs.lemmas.Bool.Decides.{nat_tests}
-use Rattle.cat_lex.specs.declared.token.Token.{Token}
-use Rattle.cat_lex.specs.declared.token.TokenKind.{TokenKind}
 use Rattle.cat_lex.specs.declared.symbol.Symbol.TheVariants as symbol
-use Rattle.cat_tree.specs.declared.expression.Operator.{Operator}
 use Rattle.cat_tree.specs.declared.expression.Operator.TheVariants as op
-use Rattle.cat_tree.specs.declared.expression.Prefix.{Prefix}
 use Rattle.cat_tree.specs.declared.expression.Prefix.TheVariants as prefix
-use Rattle.cat_tree.specs.Operators.{operator_level, left_level, prefix_level}
-use Rattle.cat_tree.specs.Phrase.{Phrase, Row, Terminal, At, Anywhere, IsAt, height}
-use Rattle.cat_tree.specs.Grammar.{phrase}
-use Rattle.cat_parse_expr.specs.declared.behind.Behind.{Behind}
-use Rattle.cat_parse_expr.specs.declared.follow.Follow.{Follow}
 use Rattle.cat_parse_expr.specs.declared.follow.Follow.TheVariants as follow
-use Rattle.cat_parse_expr.specs.declared.measured.Measured.{Measured}
-use Rattle.cat_parse_expr.specs.Openings.{follow_of}
-use Rattle.cat_parse_expr.specs.Climbing.{goes_so, goes_on}
-use Rattle.cat_parse_expr.specs.Parts.{is_sign}
-use Rattle.cat_parse_expr.specs.Followers.{is_taken, is_asked, is_below, may_stand, MayFollow}
-use Rattle.cat_parse_expr.specs.Rightly.{IsMeasured}
+use Rattle.cat_parse_expr.proofs.Common.{Token, TokenKind, Operator, Prefix, operator_level, left_level, prefix_level}
+use Rattle.cat_parse_expr.proofs.Common.{Phrase, Row, Terminal, At, Anywhere, IsAt, height, phrase, Behind, Follow}
+use Rattle.cat_parse_expr.proofs.Common.{Measured, follow_of, goes_so, goes_on, is_sign, is_taken, is_asked, is_below}
+use Rattle.cat_parse_expr.proofs.Common.{may_stand, MayFollow, IsMeasured}
 use Rattle.cat_parse_expr.proofs.Truth.{first_false, last_true, none_of, second_false}
 
 -- ---- heights

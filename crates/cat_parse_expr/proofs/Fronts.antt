@@ -1,43 +1,27 @@
 -- Accumulations, sums and prefixes.
-use Rattle.std.proofs.Common.{◌≡◌, ℕ, zero, suc, ◌≤◌, Bool, false, List, refl, sym, ap}
-use Rattle.std.proofs.Common.{if◌then◌else◌, ◌∙◌, arith}
-use Rattle.cat_pos.specs.declared.pos.Pos.{Pos}
-use Rattle.cat_lex.specs.declared.token.Token.{Token}
+use Rattle.std.proofs.Common.{◌≡◌, ℕ, zero, suc, ◌≤◌, Bool, false, List, refl, sym, ap, if◌then◌else◌, ◌∙◌, arith}
 use Rattle.cat_lex.specs.declared.token.TokenKind.TheVariants as kind
-use Rattle.cat_lex.specs.declared.words.Keyword.{Keyword}
 use Rattle.cat_lex.specs.declared.words.Keyword.TheVariants as key
 use Rattle.cat_lex.specs.declared.words.DoubleKeyword.TheVariants as pair
 use Rattle.cat_lex.specs.declared.symbol.Symbol.TheVariants as symbol
-use Rattle.cat_tree.specs.declared.name.Name.{Name}
 use Rattle.cat_tree.specs.declared.name.Type as types
-use Rattle.cat_tree.specs.declared.expression.Node.{Node}
 use Rattle.cat_tree.specs.declared.expression.Node.TheViews as node
-use Rattle.cat_tree.specs.Literals.{type_parts, lists_of, base_kind}
-use Rattle.cat_tree.specs.Joined.{◌▸◌}
-use Rattle.cat_tree.specs.Operators.{prefix_parts, prefix_level}
-use Rattle.cat_tree.specs.declared.expression.Prefix.{Prefix}
 use Rattle.cat_tree.specs.declared.expression.Prefix.TheVariants as prefix
-use Rattle.cat_tree.specs.Phrase.{Parts, End, Word, Terminal, At, height}
-use Rattle.cat_tree.specs.Phrase.{tallest, last_in_form, last_in_match, ends_in_form, ends_in_match}
 use Rattle.cat_tree.specs.Wording as wording
-use Rattle.cat_tree.specs.Wording.{◌▹◌, symbol_at, key_at, pair_at, first, then_, lower, sign, part, of_level, words}
-use Rattle.cat_tree.specs.Grammar.{phrase}
-use Rattle.cat_tree.proofs.Exported.{phrase_Combine, phrase_Prefixed, phrase_Sum}
-use Rattle.cat_parse_expr.specs.declared.behind.Behind.{Behind}
-use Rattle.cat_parse_expr.specs.declared.behind.Behind.TheVariants.{Other}
-use Rattle.cat_parse_expr.specs.declared.cue.Cue.{Cue}
 use Rattle.cat_parse_expr.specs.declared.cue.Cue.TheVariants as cue
-use Rattle.cat_parse_expr.specs.declared.measured.Measured.{Measured}
 use Rattle.cat_parse_expr.specs.declared.opening.Opening.TheVariants as opening
 use Rattle.cat_parse_expr.specs.Cues as cues
-use Rattle.cat_parse_expr.specs.Cues.{kind_of, lower_of, word_of}
-use Rattle.cat_parse_expr.specs.Measures.{ending}
-use Rattle.cat_parse_expr.specs.Reader.{Parsed, Reader, Fails, Reads, hidden, ◌⨟◌, pure, after}
-use Rattle.cat_parse_expr.specs.Parts.{Lower, key_word}
+use Rattle.cat_parse_expr.specs.Prefixes as prefixes
 use Rattle.cat_parse_expr.specs.Forms as forms
-use Rattle.cat_parse_expr.specs.Followers.{MayFollow, looks_of}
-use Rattle.cat_parse_expr.specs.Longest.{KeepsWhole}
-use Rattle.cat_parse_expr.specs.Rightly.{measured_of, IsMeasured, IsLow, operand_row, AreRight}
+use Rattle.cat_tree.specs.Wording.{words}
+use Rattle.cat_parse_expr.proofs.Common.{Pos, Token, Keyword, Name, Node, type_parts, lists_of, base_kind, ◌▸◌}
+use Rattle.cat_parse_expr.proofs.Common.{prefix_parts, prefix_level, Prefix, Parts, End, Word, Terminal, At, height}
+use Rattle.cat_parse_expr.proofs.Common.{tallest, last_in_form, last_in_match, ends_in_form, ends_in_match, ◌▹◌, key_at}
+use Rattle.cat_parse_expr.proofs.Common.{pair_at, first, lower, part, of_level, phrase, phrase_Combine}
+use Rattle.cat_parse_expr.proofs.Common.{phrase_Prefixed, phrase_Sum, Behind, Other, Cue, Measured, kind_of, lower_of}
+use Rattle.cat_parse_expr.proofs.Common.{word_of, ending, Parsed, Reader, Fails, Reads, hidden, ◌⨟◌, pure, after, Lower}
+use Rattle.cat_parse_expr.proofs.Common.{key_word, MayFollow, looks_of, KeepsWhole, measured_of, IsMeasured, IsLow}
+use Rattle.cat_parse_expr.proofs.Common.{operand_row, AreRight}
 use Rattle.cat_parse_expr.proofs.Firsts.{class_Combine, class_Sum, class_Prefixed}
 use Rattle.cat_parse_expr.proofs.Follows.{word_follows, tall_enough, call_ends, prefix_ends}
 use Rattle.cat_parse_expr.proofs.Positive.{positive, prefix_low}
@@ -46,8 +30,7 @@ use Rattle.cat_parse_expr.proofs.Chosen.{same_read}
 use Rattle.cat_parse_expr.proofs.Shaping.{reshape_read}
 use Rattle.cat_parse_expr.proofs.Types.{type_read, type_shut}
 use Rattle.cat_parse_expr.proofs.Operands.{Next, form_next, ending_next, OfClass, Form, form_read, measured_by}
-use Rattle.cat_parse_expr.proofs.Operands.{height_is, match_is}
-use Rattle.cat_parse_expr.proofs.Operands.{strength_by, inner_read, end_read}
+use Rattle.cat_parse_expr.proofs.Operands.{height_is, match_is, strength_by, inner_read, end_read}
 use Rattle.cat_parse_expr.proofs.Read.{IsRead}
 use Rattle.cat_parse_expr.proofs.Worded.{word_read, word_at_read, lower_read, opened_at_read, opened_read}
 use Rattle.cat_parse_expr.proofs.Shut.{hidden_shut, IsShut, shut_after, one_shut}
@@ -221,9 +204,9 @@ module _ (ex : Lower) (room : ℕ) (right : AreRight room ex)
 
   pub summed_read : {K : Type 0} → k ≤ 8
       → IsRead (λ y. y) K (Unit {0}) (Unit {0}) (IsLow (suc room)) (Next b k) (looks_of b) (OfClass k opening.Sum)
-      (operand_row k) (forms.sum ex room b)
+      (operand_row k) (prefixes.sum ex room b)
   summed_read le =
-      form_read k (suc room) (Next b k) opening.Sum (λ t. IsMeasured t.2) summed_row summed_of (forms.sum ex room b)
+      form_read k (suc room) (Next b k) opening.Sum (λ t. IsMeasured t.2) summed_row summed_of (prefixes.sum ex room b)
       (summed_form le)
       (word_at_read (cue.Word key.Sum) (λ t. t.0) _ _
       (λ p. reshape_read (λ t. IsMeasured t.2 × (t.0 ≡ p)) (λ t. IsMeasured t.2 × (t.0 ≡ p))
@@ -321,24 +304,24 @@ module _ (ex : Lower) (room : ℕ) (right : AreRight room ex)
 
   one_word : {K : Type 0} (o : Prefix) (c : Cue) → k ≤ prefix_level o
       → ReadAs K o (λ t. Word (At (kind_of c) t.0) (part (prefix_level o) (phrase t.1.node) ▹ End))
-      (forms.opened ex room c ⨟ operand_reader o)
+      (prefixes.opened ex room c ⨟ operand_reader o)
   one_word o c le =
       opened_at_read room c (λ t. t.0) _ _
       (λ none f d y m low. omega (arith, none, low, tall_enough y.1 m)) (λ p. operand_read o le p)
 
   two_words : {K : Type 0} (o : Prefix) (w : Keyword) → k ≤ prefix_level o
       → ReadAs K o (λ t. key_at w t.0 ▹ wording.«word» key.Of ▹ part (prefix_level o) (phrase t.1.node) ▹ End)
-      (forms.word_of ex room w ⨟ operand_reader o)
+      (prefixes.word_of ex room w ⨟ operand_reader o)
   two_words o w le =
-      same_read (key_word w ⨟ λ p. forms.opened ex room (cue.Word key.Of) ⨟ λ q. operand_reader o p)
-      (forms.word_of ex room w ⨟ operand_reader o)
-      (λ ts. sym (regrouped (key_word w ts) (forms.opened ex room (cue.Word key.Of)) (operand_reader o)))
+      same_read (key_word w ⨟ λ p. prefixes.opened ex room (cue.Word key.Of) ⨟ λ q. operand_reader o p)
+      (prefixes.word_of ex room w ⨟ operand_reader o)
+      (λ ts. sym (regrouped (key_word w ts) (prefixes.opened ex room (cue.Word key.Of)) (operand_reader o)))
       (word_at_read (cue.Word w) (λ t. t.0) _ _
       (λ p. opened_read room (cue.Word key.Of) _ _
       (λ none f d y m low. omega (arith, none, low, tall_enough y.1 m.0)) (λ q. operand_read o le p)))
 
   words_read : {K : Type 0} (o : Prefix) → k ≤ prefix_level o
-      → ReadAs K o (prefixed_row o) (forms.prefixed ex room b o)
+      → ReadAs K o (prefixed_row o) (prefixes.prefixed ex room b o)
   words_read prefix.Not le = one_word prefix.Not (cue.Word key.Not) le
   words_read prefix.Negate le = one_word prefix.Negate (cue.Sign symbol.Minus) le
   words_read prefix.IntegerOf le = two_words prefix.IntegerOf key.Integer le
@@ -353,7 +336,7 @@ module _ (ex : Lower) (room : ℕ) (right : AreRight room ex)
   pub prefixed_read : {K : Type 0} (o : Prefix) → k ≤ prefix_level o
       → IsRead (λ y. y) K (Unit {0}) (Unit {0}) (IsLow (suc room)) (Next b k) (looks_of b)
       (OfClass k (opening.Prefixed o))
-      (operand_row k) (forms.prefixed ex room b o)
+      (operand_row k) (prefixes.prefixed ex room b o)
   prefixed_read o le =
       form_read k (suc room) (Next b k) (opening.Prefixed o) (λ t. IsMeasured t.1) (prefixed_row o) (prefixed_of o)
-      (forms.prefixed ex room b o) (prefixed_form o le) (words_read o le)
+      (prefixes.prefixed ex room b o) (prefixed_form o le) (words_read o le)

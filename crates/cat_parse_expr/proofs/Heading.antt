@@ -1,12 +1,8 @@
 -- Readers that go by the first word: they are right, and keep the longest front, where those that are picked do.
-use Rattle.std.proofs.Common.{◌≡◌, ℕ, ◌≤◌, Bool, false, List, [], ◌++◌, length, None, Some, refl, sym, ap}
-use Rattle.std.proofs.Common.{◌∙◌, ◌⊎◌, inl, inr}
-use Rattle.cat_lex.specs.declared.token.Token.{Token}
-use Rattle.cat_lex.specs.declared.token.TokenKind.{TokenKind}
-use Rattle.cat_tree.specs.Phrase.{Parts, AreSpelled}
-use Rattle.cat_parse_expr.specs.Reader.{Parsed, Reader, Fails, Reads, after, pure}
-use Rattle.cat_parse_expr.specs.Right.{Is, Begun, IsRight}
-use Rattle.cat_parse_expr.specs.Longest.{ReadsAsFar, Stood}
+use Rattle.std.proofs.Common.{◌≡◌, ℕ, ◌≤◌, Bool, false, List, [], ◌++◌, length, None, Some, refl, sym, ap, ◌∙◌, ◌⊎◌}
+use Rattle.std.proofs.Common.{inl, inr}
+use Rattle.cat_parse_expr.proofs.Common.{Token, TokenKind, Parts, AreSpelled, Parsed, Reader, Fails, Reads, after, pure}
+use Rattle.cat_parse_expr.proofs.Common.{Is, Begun, IsRight, ReadsAsFar, Stood}
 use Rattle.cat_parse_expr.proofs.Choices.{refit}
 use Rattle.cat_parse_expr.proofs.Heads.{IsByHead, headed_right}
 use Rattle.cat_parse_expr.proofs.Read.{IsRead}

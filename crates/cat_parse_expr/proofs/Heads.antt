@@ -1,11 +1,8 @@
 -- A reader that goes by the first word is right, where each of those that it picks is.
-use Rattle.std.proofs.Common.{◌≡◌, ℕ, ◌≤◌, Bool, false, List, [], ◌∷◌, ◌++◌, length, None, refl, sym, ap, subst}
-use Rattle.std.proofs.Common.{◌∙◌, ◌⊎◌, inl, inr}
-use Rattle.cat_lex.specs.declared.token.Token.{Token}
-use Rattle.cat_lex.specs.declared.token.TokenKind.{TokenKind}
-use Rattle.cat_tree.specs.Phrase.{Parts, AreSpelled}
-use Rattle.cat_parse_expr.specs.Reader.{Parsed, Reader, Fails, left_of}
-use Rattle.cat_parse_expr.specs.Right.{Agree, Begun, Taken, Says, Alike, IsRight}
+use Rattle.std.proofs.Common.{◌≡◌, ℕ, ◌≤◌, Bool, false, List, [], ◌∷◌, ◌++◌, length, None, refl, sym, ap, subst, ◌∙◌}
+use Rattle.std.proofs.Common.{◌⊎◌, inl, inr}
+use Rattle.cat_parse_expr.proofs.Common.{Token, TokenKind, Parts, AreSpelled, Parsed, Reader, Fails, left_of, Agree}
+use Rattle.cat_parse_expr.proofs.Common.{Begun, Taken, Says, Alike, IsRight}
 use Rattle.cat_parse_expr.proofs.Choices.{next_seen, refit, widened}
 
 -- what a list of tokens begins with, told by its first token alone

@@ -1,53 +1,27 @@
 -- The content of a case.
-use Rattle.std.proofs.Common.{◌≡◌, ℕ, suc, ◌≤◌, Bool, true, false, List, [], ◌++◌, refl, sym, ap}
-use Rattle.std.proofs.Common.{◌∙◌, arith, inl, inr, ◌⊎◌}
-use Rattle.cat_lex.specs.declared.token.Token.{Token}
+use Rattle.std.proofs.Common.{◌≡◌, ℕ, suc, ◌≤◌, Bool, true, false, List, [], ◌++◌, refl, sym, ap, ◌∙◌, arith, inl, inr}
+use Rattle.std.proofs.Common.{◌⊎◌, if◌then◌else◌, nat_eq, nat_le, ◌&&◌}
+use Rattle.std.proofs.lemmas.Bool.Decides.{nat_tests}
 use Rattle.cat_lex.specs.declared.token.TokenKind.TheVariants as kind
 use Rattle.cat_lex.specs.declared.words.Keyword.TheVariants as key
 use Rattle.cat_tree.specs.declared.expression.Node.TheViews as node
-use Rattle.cat_tree.specs.Phrase.{Parts, End}
 use Rattle.cat_tree.specs.Wording as wording
-use Rattle.cat_tree.specs.Wording.{◌▹◌, symbol_at, key_at, pair_at, first, then_, lower, sign, part, of_level, words}
-use Rattle.cat_tree.specs.Grammar.{phrase}
-use Rattle.cat_parse_expr.specs.declared.behind.Behind.{Behind}
 use Rattle.cat_parse_expr.specs.declared.behind.Behind.TheVariants.{Other, Field, Pattern as Tested}
 use Rattle.cat_parse_expr.specs.declared.cue.Cue.TheVariants as cue
-use Rattle.cat_parse_expr.specs.declared.measured.Measured.{Measured}
-use Rattle.cat_parse_expr.specs.Cues.{kind_of}
-use Rattle.cat_parse_expr.specs.Measures.{ending}
-use Rattle.cat_parse_expr.specs.Reader.{pure}
-use Rattle.cat_parse_expr.specs.Parts.{Lower}
-use Rattle.cat_parse_expr.specs.Forms as forms
-use Rattle.cat_parse_expr.specs.Followers.{looks_of}
-use Rattle.cat_parse_expr.specs.Longest.{KeepsWhole}
-use Rattle.cat_parse_expr.specs.Rightly.{IsMeasured, IsLow, operand_row, AreRight}
-use Rattle.cat_parse_expr.proofs.Operands.{Next}
-use Rattle.cat_parse_expr.proofs.Operands.{end_read}
+use Rattle.cat_parse_expr.specs.Cases as cased
+use Rattle.cat_tree.specs.declared.expression.Node.TheVariants as leaves
+use Rattle.cat_parse_expr.proofs.Common.{Token, Parts, End, ◌▹◌, part, phrase, Behind, Measured, kind_of, ending, pure}
+use Rattle.cat_parse_expr.proofs.Common.{Lower, looks_of, KeepsWhole, IsMeasured, IsLow, operand_row, AreRight}
+use Rattle.cat_parse_expr.proofs.Common.{AreSpelled, heads, by_word, cue_is, Is, is_asked, leaf, behind_whole, CaseName}
+use Rattle.cat_parse_expr.proofs.Operands.{Next, end_read, ending_next, goes_then}
 use Rattle.cat_parse_expr.proofs.Read.{IsRead, pure_read}
 use Rattle.cat_parse_expr.proofs.Worded.{word_read}
 use Rattle.cat_parse_expr.proofs.Sequels.{last_read}
-use Rattle.std.proofs.Common.{if◌then◌else◌}
-use Rattle.cat_tree.specs.Phrase.{AreSpelled}
-use Rattle.cat_parse_expr.specs.Reader.{heads, by_word}
-use Rattle.cat_parse_expr.specs.Cues.{cue_is}
-use Rattle.cat_parse_expr.specs.Right.{Is}
 use Rattle.cat_parse_expr.proofs.Choices.{Decides, Recast}
 use Rattle.cat_parse_expr.proofs.Shaping.{recast_read, reshape_read}
-use Rattle.cat_parse_expr.proofs.Turnings.{heads_begin}
-use Rattle.std.proofs.Common.{nat_eq, nat_le, ◌&&◌}
-use Rattle.std.proofs.lemmas.Bool.Decides.{nat_tests}
-use Rattle.cat_tree.specs.Wording.{if_some}
-use Rattle.cat_tree.specs.declared.expression.Node.TheVariants as leaves
-use Rattle.cat_parse_expr.specs.Followers.{is_asked}
-use Rattle.cat_parse_expr.specs.Measures.{leaf}
-use Rattle.cat_parse_expr.specs.Reader.{behind_whole}
+use Rattle.cat_parse_expr.proofs.Turnings.{heads_begin, own_heads}
 use Rattle.cat_parse_expr.proofs.Chosen.{choice_read}
-use Rattle.cat_parse_expr.proofs.Follows.{IsOwn}
-use Rattle.cat_parse_expr.proofs.Operands.{ending_next, goes_then}
-use Rattle.cat_parse_expr.proofs.Turnings.{own_heads}
-use Rattle.cat_tree.specs.Wording.{upper}
-use Rattle.cat_tree.specs.declared.name.CaseName.{CaseName}
-use Rattle.cat_parse_expr.proofs.Follows.{call_ends}
+use Rattle.cat_parse_expr.proofs.Follows.{IsOwn, call_ends}
 
 -- ---- [content E]
 
@@ -96,7 +70,7 @@ module _ (ex : Lower) (room : ℕ) (right : AreRight room ex)
   content_read : {K : Type 0} → k ≤ 8
       → IsRead (content_of c) K (Unit {0}) (Unit {0}) (λ e. (content_of c e).height ≤ suc room)
       (λ e v. Next b k (content_of c e) v) (looks_of b) IsMeasured
-      (λ e. wording.«word» key.Content ▹ part 8 (phrase e.node) ▹ End) (forms.content ex room b c)
+      (λ e. wording.«word» key.Content ▹ part 8 (phrase e.node) ▹ End) (cased.content ex room b c)
   content_read le =
       word_read (cue.Word key.Content) _ _
       (λ p. last_read (λ e. e) (λ e. e) _
@@ -185,7 +159,7 @@ module _ (ex : Lower) (room : ℕ) (right : AreRight room ex)
 
   body_read : {K : Type 0} (z : Bool) → nat_le k 8 ≡ z
       → IsRead (held_of c) K (Unit {0}) (Unit {0}) low out (looks_of b) (held_fits k) held_row
-      (if z then by_word (cue_is (cue.Word key.Content)) (behind_whole (forms.content ex room b c))
+      (if z then by_word (cue_is (cue.Word key.Content)) (behind_whole (cased.content ex room b c))
       (pure (leaf (leaves.Case c))) else pure (leaf (leaves.Case c)))
   body_read true e =
       choice_read (cue_is (cue.Word key.Content)) (IsContent k) IsNothing decides begins spent Nothing
@@ -212,5 +186,5 @@ module _ (ex : Lower) (room : ℕ) (right : AreRight room ex)
 
   pub held_read : {K : Type 0}
       → IsRead (held_of c) K (Unit {0}) (Unit {0}) low out (looks_of b) (held_fits k) held_row
-      (forms.case_content ex room b k c)
+      (cased.case_content ex room b k c)
   held_read = body_read (nat_le k 8) refl

@@ -1,22 +1,13 @@
 -- What a reader of expressions comes to, by the indices of a list of tokens, where it is right and keeps whole fronts.
-use Rattle.std.proofs.Common.{◌≡◌, ℕ, zero, suc, ◌+◌, ◌-◌, ◌<◌, ◌≤◌, Bool, true, false, List, [], ◌∷◌, ◌++◌, length, take, drop}
-use Rattle.std.proofs.Common.{Option, Some, None, Ok, refl, sym, ap, subst, ◌∙◌, append_assoc, append-nil, arith}
+use Rattle.std.proofs.Common.{◌≡◌, ℕ, zero, suc, ◌+◌, ◌-◌, ◌<◌, ◌≤◌, Bool, true, false, List, [], ◌∷◌, ◌++◌, length}
+use Rattle.std.proofs.Common.{take, drop, Option, Some, None, Ok, refl, sym, ap, subst, ◌∙◌, append_assoc, append-nil}
+use Rattle.std.proofs.Common.{arith}
 use Rattle.std.specs.Prelude.{slice_range}
 use Rattle.std.proofs.lemmas.List.{take_at, length-append, length-drop}
-use Rattle.cat_lex.specs.declared.token.Token.{Token}
-use Rattle.cat_lex.specs.declared.token.TokenKind.{TokenKind}
-use Rattle.cat_tree.specs.declared.expression.Node.{Node}
-use Rattle.cat_tree.specs.Grammar.{phrase}
-use Rattle.cat_tree.specs.Phrase.{IsSpelling}
-use Rattle.cat_tree.specs.Spells.{Spells, Begins, height_of}
-use Rattle.cat_parse_expr.specs.declared.behind.Behind.TheVariants.{Other}
-use Rattle.cat_parse_expr.specs.declared.measured.Measured.{Measured}
-use Rattle.cat_parse_expr.specs.Followers.{MayFollow, looks_of}
-use Rattle.cat_parse_expr.specs.Fronts.{GoesUpTo, IsTooHigh}
-use Rattle.cat_parse_expr.specs.Places.{Gives}
-use Rattle.cat_parse_expr.specs.Reader.{Parsed, Reader, Fails, Reads, left_of}
-use Rattle.cat_parse_expr.specs.Right.{Agree, AgreePast, Seen, Is, Taken, Says, IsRight}
-use Rattle.cat_parse_expr.specs.Rightly.{measured_of, IsMeasured, IsLow, operand_row}
+use Rattle.cat_parse_expr.proofs.Common.{Token, TokenKind, Node, phrase, IsSpelling, Spells, Begins, height_of, Other}
+use Rattle.cat_parse_expr.proofs.Common.{Measured, MayFollow, looks_of, GoesUpTo, IsTooHigh, Gives, Parsed, Reader}
+use Rattle.cat_parse_expr.proofs.Common.{Fails, Reads, left_of, Agree, AgreePast, Seen, Is, Taken, Says, IsRight}
+use Rattle.cat_parse_expr.proofs.Common.{measured_of, IsMeasured, IsLow, operand_row}
 
 -- ---- tokens by their indices
 
@@ -24,14 +15,16 @@ use Rattle.cat_parse_expr.specs.Rightly.{measured_of, IsMeasured, IsLow, operand
 pub before_is : (tokens front : List Token) (at place : ℕ) → at ≤ length tokens → place ≤ length tokens
     → drop at tokens ≡ front ++ drop place tokens → slice_range tokens at place ≡ front
 before_is tokens front at place le within text =
+    let both = length-append front (drop place tokens) in
     let len : length tokens - at ≡ length front + (length tokens - place) =
-    omega (arith, length-drop at tokens, ap length text, length-append front (drop place tokens), length-drop place tokens) in
+    omega (arith, length-drop at tokens, ap length text, both, length-drop place tokens) in
     ap (take (place - at)) text ∙ take_at front (drop place tokens) (place - at) (omega (arith, len))
 
 pub order_is : (tokens front : List Token) (at place : ℕ) → at ≤ length tokens → place ≤ length tokens
     → drop at tokens ≡ front ++ drop place tokens → at ≤ place
 order_is tokens front at place le within text =
-    omega (arith, length-drop at tokens, ap length text, length-append front (drop place tokens), length-drop place tokens)
+    let both = length-append front (drop place tokens) in
+    omega (arith, length-drop at tokens, ap length text, both, length-drop place tokens)
 
 -- the next token at a place
 pub record Next (tokens : List Token) (place : ℕ) : Type 0 where
@@ -71,7 +64,8 @@ spells_row y w is =
     record { levels = is.levels.1; words = subst (IsSpelling (phrase y.node)) (sym same) s.3 }
 
 module _ (limit : ℕ) (r : Reader Measured)
-    (right : (bound : ℕ) → IsRight (IsLow limit) bound (MayFollow Other 0) (looks_of Other) IsMeasured (operand_row 0) r) where
+    (right : (bound : ℕ) → IsRight (IsLow limit) bound (MayFollow Other 0) (looks_of Other) IsMeasured
+    (operand_row 0) r) where
   -- what a reader says of an expression that begins alike
   pub alike : (ts front others : List Token) (e : Node) (w : List Token) → ts ≡ front ++ left_of (r ts)
       → Seen (looks_of Other) (r ts) others → Spells e w → w ≡ front ++ others
@@ -123,7 +117,8 @@ module _ (limit : ℕ) (r : Reader Measured)
         → drop at tokens ≡ front ++ drop place tokens → slice_range tokens at (suc place) ≡ front ++ n.token ∷ []
     with_next front place n lt text =
         before_is tokens (front ++ n.token ∷ []) at (suc place) le (omega (arith, lt))
-        (text ∙ ap (λ (w : List Token). front ++ w) n.is ∙ sym (append_assoc front (n.token ∷ []) (drop (suc place) tokens)))
+        (text ∙ ap (λ (w : List Token). front ++ w) n.is
+        ∙ sym (append_assoc front (n.token ∷ []) (drop (suc place) tokens)))
 
     -- ---- what was read
 
@@ -160,8 +155,10 @@ module _ (limit : ℕ) (r : Reader Measured)
               λ lt b.
               let n = next_at tokens place lt in
               let next = with_next t.front place n lt t.text in
-              let says = says_read t.front (n.token ∷ b.rest) b.tree (slice_range tokens at (suc place) ++ b.rest) t.text
-              (subst (λ (l : List Token). AgreePast (looks_of Other) l (n.token ∷ b.rest)) (sym n.is) (refl, λ h. absurd cc)) b.spells
+              let says = says_read t.front (n.token ∷ b.rest) b.tree
+              (slice_range tokens at (suc place) ++ b.rest) t.text
+              (subst (λ (l : List Token). AgreePast (looks_of Other) l (n.token ∷ b.rest)) (sym n.is)
+              (refl, λ h. absurd cc)) b.spells
               (ap (λ (v : List Token). v ++ b.rest) next ∙ append_assoc t.front (n.token ∷ []) b.rest) in
               omega (
                 arith,
@@ -172,7 +169,8 @@ module _ (limit : ℕ) (r : Reader Measured)
               );
         }
       where
-        says_read : (front others : List Token) (a : Node) (w : List Token) → drop at tokens ≡ front ++ drop place tokens
+        says_read : (front others : List Token) (a : Node) (w : List Token)
+            → drop at tokens ≡ front ++ drop place tokens
             → AgreePast (looks_of Other) (drop place tokens) others → Spells a w → w ≡ front ++ others
             → (measured_of a ≡ e) × (w ≡ front)
         says_read front others a w text seen s is =
@@ -183,7 +181,8 @@ module _ (limit : ℕ) (r : Reader Measured)
 
     -- ---- where it broke off
 
-    broken : (place : ℕ) (deep : Bool) (whole : Option (List Token)) → r (drop at tokens) ≡ Fails (drop place tokens) deep whole
+    broken : (place : ℕ) (deep : Bool) (whole : Option (List Token))
+        → r (drop at tokens) ≡ Fails (drop place tokens) deep whole
         → Taken (IsLow limit) IsMeasured (operand_row 0) (Fails (drop place tokens) deep whole) (drop at tokens)
     broken place deep whole is = taken_as (drop at tokens) (Fails (drop place tokens) deep whole) is
 
@@ -192,7 +191,8 @@ module _ (limit : ℕ) (r : Reader Measured)
         → r (drop at tokens) ≡ Fails (drop place tokens) deep whole
         → drop at tokens ≡ front ++ drop place tokens → place < length tokens
         → (b : Begins (slice_range tokens at (suc place)))
-        → Says (IsLow limit) (Fails (drop place tokens) deep whole) (measured_of b.tree) (slice_range tokens at (suc place) ++ b.rest) front
+        → Says (IsLow limit) (Fails (drop place tokens) deep whole) (measured_of b.tree)
+        (slice_range tokens at (suc place) ++ b.rest) front
     says_next front place deep whole is text lt b =
         let n = next_at tokens place lt in
         let same = with_next front place n lt text in
@@ -205,7 +205,8 @@ module _ (limit : ℕ) (r : Reader Measured)
         b.spells
         (ap (λ (v : List Token). v ++ b.rest) same ∙ append_assoc front (n.token ∷ []) b.rest))
 
-    pub goes_up_to : (place : ℕ) (whole : Option (List Token)) → r (drop at tokens) ≡ Fails (drop place tokens) false whole
+    pub goes_up_to : (place : ℕ) (whole : Option (List Token))
+        → r (drop at tokens) ≡ Fails (drop place tokens) false whole
         → place ≤ length tokens → GoesUpTo tokens at place
     goes_up_to place whole is within =
         let t = broken place false whole is in
@@ -222,7 +223,8 @@ module _ (limit : ℕ) (r : Reader Measured)
           ends = λ lt b. says_next t.front place false whole is t.text lt b;
         }
 
-    pub is_too_high : (place : ℕ) (whole : Option (List Token)) → r (drop at tokens) ≡ Fails (drop place tokens) true whole
+    pub is_too_high : (place : ℕ) (whole : Option (List Token))
+        → r (drop at tokens) ≡ Fails (drop place tokens) true whole
         → place ≤ length tokens → limit ≡ 256 → IsTooHigh tokens at place
     is_too_high place whole is within most =
         let t = broken place true whole is in
@@ -243,12 +245,14 @@ module _ (limit : ℕ) (r : Reader Measured)
                 (ap (λ (p : Token). t.front ++ p ∷ []) (sym token) ∙ sym same)
                 (spells_row b.value ((t.front ++ t.took.next ∷ []) ++ b.more) b.is);
           };
-          none_low = λ x low. says_next t.front place true whole is t.text lt x (subst (λ (m : ℕ). height_of x.tree ≤ m) (sym most) low);
+          none_low = λ x low. says_next t.front place true whole is t.text lt x
+              (subst (λ (m : ℕ). height_of x.tree ≤ m) (sym most) low);
         }
 
   -- ---- one expression for each list of tokens
 
-  pub one : (a b : Node) (ts : List Token) → Spells a ts → Spells b ts → height_of a ≤ limit → height_of b ≤ limit → a ≡ b
+  pub one : (a b : Node) (ts : List Token) → Spells a ts → Spells b ts → height_of a ≤ limit → height_of b ≤ limit
+      → a ≡ b
   one a b ts sa sb la lb =
       let e = sym (read_whole ts a sa la) ∙ read_whole ts b sb lb in
       node_of e

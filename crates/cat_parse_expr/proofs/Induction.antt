@@ -1,23 +1,13 @@
 -- Induction over expressions, one case a form.
 use Rattle.std.proofs.Common.{List, [], ◌∷◌, map, subst}
 use denote.Hole.Carrier.{roll}
-use Rattle.cat_pos.specs.declared.pos.Pos.{Pos}
-use Rattle.cat_tree.specs.Accumulation.{accumulation}
-use Rattle.cat_tree.specs.declared.name.Name.{Name}
-use Rattle.cat_tree.specs.declared.name.CaseName.{CaseName}
 use Rattle.cat_tree.specs.declared.name.Type as types
-use Rattle.cat_tree.specs.declared.expression.SurfaceLiteral.{SurfaceLiteral}
-use Rattle.cat_tree.specs.declared.expression.Prefix.{Prefix}
-use Rattle.cat_tree.specs.declared.expression.Operator.{Operator}
-use Rattle.cat_tree.specs.declared.expression.Each.{Each}
-use Rattle.cat_tree.specs.declared.expression.Node.{Node}
-use Rattle.cat_tree.specs.declared.expression.Node.TheOpen.{Node-F, SurfaceArm-F, SurfaceField-F}
 use Rattle.cat_tree.specs.declared.expression.Node.TheVariants as leaf
 use Rattle.cat_tree.specs.declared.expression.Node.TheViews as node
-use Rattle.cat_tree.specs.declared.expression.Node.TheViews.{roll-Node, roll-SurfaceArm, roll-SurfaceField}
-use Rattle.cat_tree.specs.declared.expression.Node.TheFolds.{ind-Node, map-Node, map-SurfaceArm, map-SurfaceField}
-use Rattle.cat_tree.specs.declared.expression.SurfaceField.{SurfaceField}
-use Rattle.cat_tree.specs.declared.expression.SurfaceArm.{SurfaceArm}
+use Rattle.cat_tree.specs.declared.expression.Node.TheViews.{roll-Node}
+use Rattle.cat_parse_expr.proofs.Common.{Pos, accumulation, Name, CaseName, SurfaceLiteral, Prefix, Operator, Each}
+use Rattle.cat_parse_expr.proofs.Common.{Node, Node-F, SurfaceArm-F, SurfaceField-F, roll-SurfaceArm, roll-SurfaceField}
+use Rattle.cat_parse_expr.proofs.Common.{ind-Node, map-Node, map-SurfaceArm, map-SurfaceField, SurfaceField, SurfaceArm}
 
 -- what holds of each element
 abbrev pub AllHold : {A : Type 0} → (A → Type 0) → List A → Type 0

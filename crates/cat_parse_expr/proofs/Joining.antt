@@ -1,13 +1,8 @@
 -- Readers that are put together from right ones are right.
-use Rattle.std.proofs.Common.{◌≡◌, ℕ, Bool, List, [], ◌∷◌, ◌++◌, length, refl, sym, ap, subst, ◌∙◌, append_assoc}
-use Rattle.std.proofs.Common.{arith}
+use Rattle.std.proofs.Common.{◌≡◌, ℕ, Bool, List, [], ◌∷◌, ◌++◌, length, refl, sym, ap, subst, ◌∙◌, append_assoc, arith}
 use Rattle.std.proofs.lemmas.List.{append_cancel_right}
-use Rattle.cat_lex.specs.declared.token.Token.{Token}
-use Rattle.cat_lex.specs.declared.token.TokenKind.{TokenKind}
-use Rattle.cat_tree.specs.Phrase.{Parts, End, Word, Part, AreLevelled, AreSpelled}
-use Rattle.cat_tree.specs.Joined.{◌▸◌}
-use Rattle.cat_parse_expr.specs.Reader.{pure}
-use Rattle.cat_parse_expr.specs.Right.{Agree, IsRight}
+use Rattle.cat_parse_expr.proofs.Common.{Token, TokenKind, Parts, End, Word, Part, AreLevelled, AreSpelled, ◌▸◌, pure}
+use Rattle.cat_parse_expr.proofs.Common.{Agree, IsRight}
 
 -- ---- rows behind one another
 

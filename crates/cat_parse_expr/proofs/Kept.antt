@@ -1,21 +1,11 @@
 -- The longest front of a list of tokens, by indices, where a reader of expressions keeps whole fronts.
-use Rattle.std.proofs.Common.{◌≡◌, ℕ, ◌+◌, ◌-◌, ◌≤◌, Bool, true, false, List, [], length, take, drop}
-use Rattle.std.proofs.Common.{Option, Some, None, Ok, sym, ap, subst, ◌∙◌, arith}
+use Rattle.std.proofs.Common.{◌≡◌, ℕ, ◌+◌, ◌-◌, ◌≤◌, Bool, true, false, List, [], length, take, drop, Option, Some}
+use Rattle.std.proofs.Common.{None, Ok, sym, ap, subst, ◌∙◌, arith}
 use Rattle.std.specs.Prelude.{slice_range}
 use Rattle.std.proofs.lemmas.List.{take-append-drop, length-drop, drop-take}
-use Rattle.cat_lex.specs.declared.token.Token.{Token}
-use Rattle.cat_tree.specs.declared.expression.Node.{Node}
-use Rattle.cat_tree.specs.Spells.{Spells, IsFront, height_of}
-use Rattle.cat_parse_expr.specs.declared.behind.Behind.TheVariants.{Other}
-use Rattle.cat_parse_expr.specs.declared.measured.Measured.{Measured}
-use Rattle.cat_parse_expr.specs.Fronts.{IsSpelled}
-use Rattle.cat_parse_expr.specs.Followers.{MayFollow, looks_of}
-use Rattle.cat_parse_expr.specs.Longest.{ReadsAsFar, Stood, KeepsWhole}
-use Rattle.cat_parse_expr.specs.Places.{Gives}
-use Rattle.cat_parse_expr.specs.Reach.{before}
-use Rattle.cat_parse_expr.specs.Reader.{Parsed, Reader, Fails, Reads}
-use Rattle.cat_parse_expr.specs.Right.{IsRight}
-use Rattle.cat_parse_expr.specs.Rightly.{measured_of, IsMeasured, IsLow, operand_row}
+use Rattle.cat_parse_expr.proofs.Common.{Token, Node, Spells, IsFront, height_of, Other, Measured, IsSpelled, MayFollow}
+use Rattle.cat_parse_expr.proofs.Common.{looks_of, ReadsAsFar, Stood, KeepsWhole, Gives, before, Parsed, Reader, Fails}
+use Rattle.cat_parse_expr.proofs.Common.{Reads, IsRight, measured_of, IsMeasured, IsLow, operand_row}
 use Rattle.cat_parse_expr.proofs.Indexed.{before_is, order_is, as_row, spells_row, read_whole}
 
 -- the tokens up to a place are those before the rest
@@ -29,11 +19,13 @@ before_place tokens at place order within =
     ∙ ap (λ (n : ℕ). drop at (take n tokens)) (sym sum)
 
 module _ (limit : ℕ) (r : Reader Measured)
-    (right : (bound : ℕ) → IsRight (IsLow limit) bound (MayFollow Other 0) (looks_of Other) IsMeasured (operand_row 0) r)
+    (right : (bound : ℕ) → IsRight (IsLow limit) bound (MayFollow Other 0) (looks_of Other) IsMeasured
+    (operand_row 0) r)
     (keeps : (bound : ℕ) → KeepsWhole (IsLow limit) bound IsMeasured (operand_row 0) r)
     (tokens : List Token) (at : ℕ) (le : at ≤ length tokens) where
   -- an expression in front reaches no further than what was read, or than what stood whole
-  as_far : (o : Parsed Measured) → r (drop at tokens) ≡ o → (e : Node) (next : ℕ) → Spells e (slice_range tokens at next)
+  as_far : (o : Parsed Measured) → r (drop at tokens) ≡ o → (e : Node) (next : ℕ)
+      → Spells e (slice_range tokens at next)
       → ReadsAsFar (IsLow limit) o (measured_of e) (drop (next - at) (drop at tokens))
   as_far o is e next s =
       subst (λ (x : Parsed Measured). ReadsAsFar (IsLow limit) x (measured_of e) (drop (next - at) (drop at tokens))) is
@@ -47,13 +39,15 @@ module _ (limit : ℕ) (r : Reader Measured)
   rest_is next place order within fits h =
       omega (arith, h, length-drop place tokens, length-drop (next - at) (drop at tokens), length-drop at tokens)
 
-  pub longest_read : (x : Measured) (place : ℕ) → Gives r tokens at (Ok (x, place)) → limit ≡ 256 → (e : Node) (next : ℕ)
+  pub longest_read : (x : Measured) (place : ℕ) → Gives r tokens at (Ok (x, place)) → limit ≡ 256
+      → (e : Node) (next : ℕ)
       → IsFront tokens at next e → next ≤ place
   longest_read x place g most e next f =
       rest_is next place f.order f.within g.2 (as_far (Reads x (drop place tokens)) g.0 e next f.spells)
 
   pub longest_whole : (left : List Token) (deep : Bool) (place : ℕ)
-      → r (drop at tokens) ≡ Fails left deep (Some (drop place tokens)) → place ≤ length tokens → limit ≡ 256 → (e : Node) (next : ℕ)
+      → r (drop at tokens) ≡ Fails left deep (Some (drop place tokens)) → place ≤ length tokens → limit ≡ 256
+      → (e : Node) (next : ℕ)
       → IsFront tokens at next e → next ≤ place
   longest_whole left true place is within most e next f =
       rest_is next place f.order f.within within
@@ -63,7 +57,8 @@ module _ (limit : ℕ) (r : Reader Measured)
       rest_is next place f.order f.within within
       (as_far (Fails left false (Some (drop place tokens))) is e next f.spells)
 
-  pub none_spelled : (left : List Token) → r (drop at tokens) ≡ Fails left false None → (next : ℕ) → IsSpelled tokens at next → ⊥
+  pub none_spelled : (left : List Token) → r (drop at tokens) ≡ Fails left false None → (next : ℕ)
+      → IsSpelled tokens at next → ⊥
   none_spelled left is next f = as_far (Fails left false None) is f.0 next f.3
 
   pub none_low : (left : List Token) (deep : Bool) → r (drop at tokens) ≡ Fails left deep None → limit ≡ 256
@@ -84,7 +79,8 @@ module _ (limit : ℕ) (r : Reader Measured)
   pub stood_whole : (left : List Token) (deep : Bool) (place : ℕ)
       → r (drop at tokens) ≡ Fails left deep (Some (drop place tokens)) → place ≤ length tokens → Whole place
   stood_whole left deep place is within =
-      let s : Stood (IsLow limit) IsMeasured (operand_row 0) (Fails left deep (Some (drop place tokens))) (drop at tokens) =
+      let s : Stood (IsLow limit) IsMeasured (operand_row 0) (Fails left deep (Some (drop place tokens)))
+      (drop at tokens) =
       subst (λ (x : Parsed Measured). Stood (IsLow limit) IsMeasured (operand_row 0) x (drop at tokens)) is
       ((keeps (length (drop at tokens))).stood (drop at tokens) (omega arith)) in
       let order = order_is tokens s.1 at place le within s.2 in
@@ -106,10 +102,12 @@ module _ (limit : ℕ) (r : Reader Measured)
 
   -- reading it once more finds it
   pub found_again : (w : Measured) (place none : ℕ) → Whole place → place ≤ length tokens
-      → Gives r (take place tokens) at (Ok (w, none)) → Spells w.node (slice_range tokens at place) × (height_of w.node ≤ limit)
+      → Gives r (take place tokens) at (Ok (w, none))
+      → Spells w.node (slice_range tokens at place) × (height_of w.node ≤ limit)
   found_again w place none h within g =
       let same : Reads (measured_of h.tree) [] ≡ Reads w (drop none (take place tokens)) = sym h.again ∙ g.0 in
-      subst (λ (e : Node). Spells e (slice_range tokens at place) × (height_of e ≤ limit)) (node_of same) (h.spells, h.low)
+      subst (λ (e : Node). Spells e (slice_range tokens at place) × (height_of e ≤ limit)) (node_of same)
+      (h.spells, h.low)
     where
       node : Parsed Measured → Option Node
       node (Fails left deep front) = None

@@ -1,23 +1,15 @@
 -- The readers of one word are right.
 use Rattle.std.proofs.Common.{◌≡◌, ℕ, suc, Bool, true, false, if◌then◌else◌, List, [], Option, Some, None, refl, sym}
-use Rattle.std.proofs.Common.{ap, ◌∙◌}
-use Rattle.std.proofs.Common.{arith, rules}
+use Rattle.std.proofs.Common.{ap, ◌∙◌, arith, rules}
 use denote.Enum.Bare.{same_true, true_same}
-use Rattle.cat_pos.specs.Position.{pos_of}
-use Rattle.cat_pos.specs.declared.pos.Pos.{Pos}
 use Rattle.cat_lex.specs.contracts.words.Keyword.{the_type as keywords}
 use Rattle.cat_lex.specs.contracts.words.DoubleKeyword.{the_type as pairs}
 use Rattle.cat_lex.specs.contracts.symbol.Symbol.{the_type as symbols}
-use Rattle.cat_lex.specs.declared.token.Token.{Token}
-use Rattle.cat_lex.specs.declared.token.TokenKind.{TokenKind}
 use Rattle.cat_lex.specs.declared.token.TokenKind.TheVariants as kind
-use Rattle.cat_tree.specs.declared.name.Name.{Name}
-use Rattle.cat_tree.specs.Phrase.{Parts, Word, At, Anywhere}
-use Rattle.cat_parse_expr.specs.declared.cue.Cue.{Cue}
 use Rattle.cat_parse_expr.specs.declared.cue.Cue.TheVariants as cue
-use Rattle.cat_parse_expr.specs.Reader.{Reader, ◌⨟◌}
-use Rattle.cat_parse_expr.specs.Right.{IsRight}
-use Rattle.cat_parse_expr.specs.Cues.{kind_of, cue_is, word_of, lower_kind, upper_kind, lower_of, upper_of, «word»}
+use Rattle.cat_parse_expr.proofs.Common.{pos_of, Pos, Token, TokenKind, Name, Parts, Word, At, Anywhere, Cue, Reader}
+use Rattle.cat_parse_expr.proofs.Common.{◌⨟◌, IsRight, kind_of, cue_is, word_of, lower_kind, upper_kind, lower_of}
+use Rattle.cat_parse_expr.proofs.Common.{upper_of, «word»}
 use Rattle.cat_parse_expr.proofs.Token.{Terminals, token_right}
 use Rattle.cat_parse_expr.proofs.Choices.{reshaped}
 

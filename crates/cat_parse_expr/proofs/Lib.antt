@@ -71,3 +71,4 @@ pub mod Armed
 pub mod Casing
 pub mod Bared
 pub mod Sampled
+pub mod Common

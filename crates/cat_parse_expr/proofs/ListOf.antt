@@ -1,9 +1,7 @@
 -- A further `list of` of a type.
-use Rattle.std.proofs.Common.{◌≡◌, ℕ, zero, suc, ◌<◌, ◌+◌, Bool, true, if◌then◌else◌, List, [], ◌∷◌, length, drop}
-use Rattle.std.proofs.Common.{refl, sym, ap, ◌∙◌, arith}
-use Rattle.cat_lex.specs.declared.token.Token.{Token}
-use Rattle.cat_parse_expr.specs.Reader.{made_of, after, pure, heads}
-use Rattle.cat_parse_expr.specs.Types.{typed, base_at, is_list_of, type_after}
+use Rattle.std.proofs.Common.{◌≡◌, ℕ, zero, suc, ◌<◌, ◌+◌, Bool, true, if◌then◌else◌, List, [], ◌∷◌, length, drop, refl}
+use Rattle.std.proofs.Common.{sym, ap, ◌∙◌, arith}
+use Rattle.cat_parse_expr.proofs.Common.{Token, made_of, after, pure, heads, typed, base_at, is_list_of, type_after}
 
 drop_more : (place : ℕ) (tokens : List Token) (t : Token) (ts : List Token) → drop place tokens ≡ t ∷ ts
     → (drop (suc place) tokens ≡ ts) × (place < length tokens)
@@ -23,7 +21,8 @@ list_step n place tokens h = by (drop place tokens) refl h
     taken : (t : Token) (ts : List Token) → is_list_of t.kind ≡ true → type_after n (t ∷ ts) ≡ type_after (suc n) ts
     taken t ts e =
         ap
-        (λ (c : Bool). if c then type_after (suc n) ts else after (made_of (base_at t) (t ∷ ts) ts) (λ b. pure (typed n b))) e
+        (λ (c : Bool). if c then type_after (suc n) ts else after (made_of (base_at t) (t ∷ ts) ts)
+        (λ b. pure (typed n b))) e
 
     by : (l : List Token) → drop place tokens ≡ l → heads is_list_of l ≡ true → Listed n place tokens
     by [] e h = absurd cc

@@ -1,18 +1,16 @@
 -- A loop over turns, as a reader of the list of all that its turns read.
-use Rattle.std.proofs.Common.{◌≡◌, ℕ, zero, suc, Bool, true, false, if◌then◌else◌, List, [], ◌∷◌}
-use Rattle.std.proofs.Common.{refl, sym, ◌∙◌}
-use Rattle.cat_lex.specs.declared.token.Token.{Token}
-use Rattle.cat_parse_expr.specs.Reader.{Parsed, Fails, Reads, Reader, ◌⨟◌, pure, after, turns}
+use Rattle.std.proofs.Common.{◌≡◌, ℕ, zero, suc, Bool, true, false, if◌then◌else◌, List, [], ◌∷◌, refl, sym, ◌∙◌}
+use Rattle.cat_parse_expr.proofs.Common.{Token, Parsed, Fails, Reads, Reader, ◌⨟◌, pure, after, turns}
+
+-- what is made of a state by all of these
+abbrev pub put_all : {S X : Type 0} → (S → X → S) → S → List X → S
+put_all put s [] = s
+put_all put s (x ∷ xs) = put_all put (put s x) xs
+
+abbrev pub with_first : {X : Type 0} → X → Parsed (List X) → Parsed (List X)
+with_first x o = after o (λ more. pure (x ∷ more))
 
 module _ {S X : Type 0} (goes : S → List Token → Bool) (one : S → Reader X) (put : S → X → S) where
-  -- what is made of a state by all of these
-  abbrev pub put_all : S → List X → S
-  put_all s [] = s
-  put_all s (x ∷ xs) = put_all (put s x) xs
-
-  abbrev pub with_first : X → Parsed (List X) → Parsed (List X)
-  with_first x o = after o (λ more. pure (x ∷ more))
-
   -- all that is read from a state on
   abbrev pub listed : (fuel : ℕ) → S → Reader (List X)
   listed zero s ts = Reads [] ts
@@ -24,7 +22,7 @@ module _ {S X : Type 0} (goes : S → List Token → Bool) (one : S → Reader X
   turn s = one s ⨟ λ x. pure (put s x)
 
   abbrev made : S → Parsed (List X) → Parsed S
-  made s o = after o (λ xs. pure (put_all s xs))
+  made s o = after o (λ xs. pure (put_all put s xs))
 
   made_first : (s : S) (x : X) (o : Parsed (List X)) → made s (with_first x o) ≡ made (put s x) o
   made_first s x (Fails left deep whole) = refl

@@ -1,26 +1,16 @@
 -- Literals.
-use Rattle.std.proofs.Common.{◌≡◌, ℕ, ◌≤◌, Bool, true, false, not, int_lt}
-use Rattle.std.proofs.Common.{Option, None, Some, refl, sym, ap, subst, ◌∙◌}
-use Rattle.cat_pos.specs.declared.pos.Pos.{Pos}
-use Rattle.cat_lex.specs.declared.token.Token.{Token}
-use Rattle.cat_lex.specs.declared.token.TokenKind.{TokenKind}
+use Rattle.std.proofs.Common.{◌≡◌, ℕ, ◌≤◌, Bool, true, false, not, int_lt, Option, None, Some, refl, sym, ap, subst}
+use Rattle.std.proofs.Common.{◌∙◌}
 use Rattle.cat_lex.specs.declared.token.TokenKind.TheVariants as kind
 use Rattle.cat_lex.specs.declared.words.Keyword.TheVariants as key
-use Rattle.cat_tree.specs.declared.expression.SurfaceLiteral.{SurfaceLiteral}
 use Rattle.cat_tree.specs.declared.expression.SurfaceLiteral.TheVariants as literal
 use Rattle.cat_tree.specs.declared.expression.Node.TheVariants as leaves
-use Rattle.cat_tree.specs.Literals.{literal_parts, literal_rank, span_bound, unit_word, truth_word}
-use Rattle.cat_tree.specs.Phrase.{Row, Parts, End, Word, At, IsAt, IsLevelled}
-use Rattle.cat_tree.specs.Phrase.{left_strength, ends_in_match, height}
 use Rattle.cat_tree.specs.Wording as wording
-use Rattle.cat_tree.specs.Wording.{◌▹◌}
-use Rattle.cat_tree.specs.Grammar.{phrase}
-use Rattle.cat_tree.proofs.Exported.{phrase_Literal}
-use Rattle.cat_parse_expr.specs.declared.measured.Measured.{Measured}
 use Rattle.cat_parse_expr.specs.declared.opening.Opening.TheVariants as opening
-use Rattle.cat_parse_expr.specs.Forms.{literal_kind, placed, literal_of}
-use Rattle.cat_parse_expr.specs.Measures.{leaf}
-use Rattle.cat_parse_expr.specs.Rightly.{IsMeasured}
+use Rattle.cat_parse_expr.proofs.Common.{Pos, Token, TokenKind, SurfaceLiteral, literal_parts, literal_rank, span_bound}
+use Rattle.cat_parse_expr.proofs.Common.{unit_word, truth_word, Row, Parts, End, Word, At, IsAt, IsLevelled}
+use Rattle.cat_parse_expr.proofs.Common.{left_strength, ends_in_match, height, ◌▹◌, phrase, phrase_Literal, Measured}
+use Rattle.cat_parse_expr.proofs.Common.{literal_kind, placed, literal_of, leaf, IsMeasured}
 use Rattle.cat_parse_expr.proofs.Firsts.{class_Literal}
 use Rattle.cat_parse_expr.proofs.Leaves.{some_one, not_both, token_is, anywhere}
 use Rattle.cat_parse_expr.proofs.Operands.{Form, measured_by}

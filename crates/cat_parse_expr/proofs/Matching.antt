@@ -1,74 +1,41 @@
 -- Matches.
 use Rattle.std.proofs.Common.{◌≡◌, ℕ, suc, ◌≤◌, max, Bool, true, false, List, [], ◌∷◌, ◌++◌, None, Some, refl, sym, ap}
-use Rattle.std.proofs.Common.{subst, ◌∙◌, arith, inl, inr, ◌⊎◌}
-use Rattle.cat_pos.specs.declared.pos.Pos.{Pos}
-use Rattle.cat_lex.specs.declared.token.Token.{Token}
-use Rattle.cat_lex.specs.declared.token.TokenKind.{TokenKind}
+use Rattle.std.proofs.Common.{subst, ◌∙◌, arith, inl, inr, ◌⊎◌, map, length, not, nat_eq, ◌&&◌, ◌||◌}
+use Rattle.std.proofs.lemmas.Bool.Decides.{nat_tests}
 use Rattle.cat_lex.specs.declared.token.TokenKind.TheVariants as kind
 use Rattle.cat_lex.specs.declared.words.Keyword.TheVariants as key
 use Rattle.cat_lex.specs.declared.words.DoubleKeyword.TheVariants as pair
 use Rattle.cat_lex.specs.declared.symbol.Symbol.TheVariants as symbol
-use Rattle.cat_tree.specs.declared.expression.Node.{Node}
 use Rattle.cat_tree.specs.declared.expression.Node.TheViews as node
-use Rattle.cat_tree.specs.Phrase.{Phrase, Row, Parts, End, Part}
-use Rattle.cat_tree.specs.Wording.{◌▹◌, key_at, sign, part, words}
-use Rattle.cat_tree.specs.Grammar.{phrase}
-use Rattle.cat_tree.proofs.Exported.{phrase_Match, arm_row}
-use Rattle.cat_parse_expr.specs.declared.behind.Behind.{Behind}
 use Rattle.cat_parse_expr.specs.declared.behind.Behind.TheVariants.{Other, Field, Pattern as Tested}
 use Rattle.cat_parse_expr.specs.declared.cue.Cue.TheVariants as cue
-use Rattle.cat_parse_expr.specs.declared.measured.Measured.{Measured}
 use Rattle.cat_parse_expr.specs.declared.opening.Opening.TheVariants as opening
-use Rattle.cat_parse_expr.specs.Measures.{form}
-use Rattle.cat_parse_expr.specs.Parts.{Lower}
 use Rattle.cat_parse_expr.specs.Forms as forms
-use Rattle.cat_parse_expr.specs.Followers.{MayFollow, looks_of, is_taken}
-use Rattle.cat_parse_expr.specs.Longest.{KeepsWhole}
-use Rattle.cat_parse_expr.specs.Rightly.{measured_of, IsMeasured, IsLow, operand_row, AreRight}
+use Rattle.cat_parse_expr.specs.Arms as arms
+use Rattle.cat_tree.specs.Wording.{words}
+use Rattle.cat_parse_expr.specs.Parts.{is_sign}
+use Rattle.cat_tree.specs.declared.expression.Pattern.TheVariants as pattern
+use Rattle.cat_parse_expr.proofs.Common.{Pos, Token, TokenKind, Node, Phrase, Row, Parts, End, Part, ◌▹◌, key_at, sign}
+use Rattle.cat_parse_expr.proofs.Common.{part, phrase, phrase_Match, arm_row, Behind, Measured, form, Lower}
+use Rattle.cat_parse_expr.proofs.Common.{MayFollow, looks_of, is_taken, KeepsWhole, measured_of, IsMeasured, IsLow}
+use Rattle.cat_parse_expr.proofs.Common.{operand_row, AreRight, AreSpelled, tallest, heads, cue_is, IsLevelled}
+use Rattle.cat_parse_expr.proofs.Common.{is_asked, is_below, is_with_pattern, follow_of, SurfaceArm, arms}
+use Rattle.cat_parse_expr.proofs.Common.{pattern_parts, MatchArms, with_arm, no_arms, Pattern, Bare, Qualified, Inner}
+use Rattle.cat_parse_expr.proofs.Common.{match_of, ends_arms, goes_so}
 use Rattle.cat_parse_expr.proofs.Firsts.{class_Match}
-use Rattle.cat_parse_expr.proofs.Follows.{tall_enough}
-use Rattle.cat_parse_expr.proofs.Operands.{Next, OfClass, Form, form_read, measured_by, height_is}
-use Rattle.cat_parse_expr.proofs.Operands.{inner_read}
+use Rattle.cat_parse_expr.proofs.Follows.{tall_enough, no_going, not_taken}
+use Rattle.cat_parse_expr.proofs.Operands.{Next, OfClass, Form, form_read, measured_by, height_is, inner_read}
+use Rattle.cat_parse_expr.proofs.Operands.{goes_then}
 use Rattle.cat_parse_expr.proofs.Read.{IsRead}
 use Rattle.cat_parse_expr.proofs.Worded.{word_read, opened_at_read}
 use Rattle.cat_parse_expr.proofs.Shut.{hidden_shut}
 use Rattle.cat_parse_expr.proofs.Sequels.{part_read, last_read}
-use Rattle.std.proofs.Common.{map, length}
-use Rattle.cat_tree.specs.Phrase.{AreSpelled, tallest}
-use Rattle.cat_parse_expr.specs.Parts as parts
-use Rattle.cat_parse_expr.specs.Parts.{has_element, next_element, as_many, is_sign, inner, sign as a_sign}
-use Rattle.cat_parse_expr.specs.Reader.{heads}
-use Rattle.cat_parse_expr.specs.Cues.{cue_is}
-use Rattle.cat_parse_expr.proofs.Turnings.{heads_begin, shrinks_after}
-use Rattle.std.proofs.Common.{not, nat_eq, ◌&&◌, ◌||◌}
-use Rattle.std.proofs.lemmas.Bool.Decides.{nat_tests}
-use Rattle.cat_tree.specs.Phrase.{IsLevelled}
-use Rattle.cat_parse_expr.specs.Followers.{is_asked, is_below, is_with_pattern}
-use Rattle.cat_parse_expr.specs.Openings.{follow_of}
-use Rattle.cat_parse_expr.specs.Parts.{has_field, next_field, field_value}
-use Rattle.cat_parse_expr.proofs.Operands.{goes_then}
-use Rattle.cat_tree.specs.declared.expression.SurfaceArm.{SurfaceArm}
-use Rattle.cat_tree.specs.Rows.{arms, pattern_parts}
-use Rattle.cat_parse_expr.specs.declared.measured.MatchArms.{MatchArms}
-use Rattle.cat_parse_expr.specs.Measures.{with_arm, no_arms}
-use Rattle.cat_parse_expr.specs.Parts.{is_lower}
+use Rattle.cat_parse_expr.proofs.Turnings.{heads_begin, shrinks_after, past_word, read_shrinks}
 use Rattle.cat_parse_expr.proofs.Leaves.{cue_found, cue_self}
-use Rattle.cat_tree.specs.declared.expression.Pattern.{Pattern}
-use Rattle.cat_tree.specs.declared.expression.Pattern.TheVariants as pattern
-use Rattle.cat_tree.specs.declared.name.CaseName.TheVariants.{Bare, Qualified}
-use Rattle.cat_tree.specs.Phrase.{Inner}
-use Rattle.cat_tree.specs.Wording.{match_of}
-use Rattle.cat_parse_expr.specs.Parts.{a_pattern, arm_head, next_arm, further_arm, has_arm, has_arm_behind}
-use Rattle.cat_parse_expr.specs.Parts.{ends_arms, matched_value}
-use Rattle.cat_parse_expr.specs.Climbing.{goes_so}
-use Rattle.cat_parse_expr.proofs.Armed.{Armed, arm_rows, highest_of, armed_of, arms_back, rows_are, arms_from}
-use Rattle.cat_parse_expr.proofs.Armed.{arms_are, highest_is, AreArmed, arms_row_of, levelled_armed}
+use Rattle.cat_parse_expr.proofs.Armed.{Armed, arm_rows, highest_of, armed_of, arms_back, rows_are, arms_from, arms_are}
+use Rattle.cat_parse_expr.proofs.Armed.{highest_is, AreArmed, arms_row_of, levelled_armed}
 use Rattle.cat_parse_expr.proofs.Arming.{arms_read}
-use Rattle.cat_parse_expr.proofs.Follows.{no_going, not_taken}
-use Rattle.cat_parse_expr.proofs.Turnings.{past_word, read_shrinks}
 use Rattle.cat_parse_expr.proofs.Tuples.{three}
-use Rattle.cat_tree.specs.declared.expression.Pattern.TheVariants as pattern
-use Rattle.cat_tree.specs.declared.name.CaseName.TheVariants.{Bare, Qualified}
 use Rattle.cat_parse_expr.proofs.Truth.{both_are, first_false, second_false, second_is_true}
 
 -- ---- how high arms are
@@ -252,7 +219,7 @@ module _ (ex : Lower) (room : ℕ) (right : AreRight room ex)
       (λ none f c y m low. omega (arith, none, low, tall_enough y.1 m.0))
       (λ p. part_read (λ t. t.1) _ _ (inner_read ex room right Tested) (λ ts. hidden_shut (ex Tested 0 ts))
       (λ x ts. past_word (cue.Pair pair.WithPattern) (looks_of Tested) (looks_of b) _ pattern_cue
-      (λ q us. shrinks_after (parts.arms ex b us) _ (length us)
+      (λ q us. shrinks_after (arms.arms ex b us) _ (length us)
       (read_shrinks (arms_read ex room right kept b {K = Unit {0}}) tt tt us) (λ l vs. omega arith)) ts)
       (record {
         fit = λ y f. f.0.0;

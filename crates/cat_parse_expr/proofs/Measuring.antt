@@ -1,20 +1,11 @@
 -- What counts of an expression with one step more is told rightly, where it was of its parts.
 use Rattle.std.proofs.Common.{◌≡◌, ℕ, zero, suc, ◌≤◌, max, Bool, true, false, if◌then◌else◌, cond, nat_eq, refl, sym}
-use Rattle.std.proofs.Common.{ap}
-use Rattle.std.proofs.Common.{◌∙◌, arith}
+use Rattle.std.proofs.Common.{ap, ◌∙◌, arith}
 use Rattle.std.proofs.lemmas.Bool.Decides.{nat_tests}
-use Rattle.cat_pos.specs.declared.pos.Pos.{Pos}
-use Rattle.cat_tree.specs.declared.name.Name.{Name}
-use Rattle.cat_tree.specs.declared.expression.Operator.{Operator}
-use Rattle.cat_tree.specs.declared.expression.Node.{Node}
 use Rattle.cat_tree.specs.declared.expression.Node.TheViews as node
-use Rattle.cat_tree.specs.Phrase.{Phrase, height, left_strength, right_strength, ends_in_form, ends_in_match}
-use Rattle.cat_tree.specs.Grammar.{phrase}
-use Rattle.cat_tree.specs.Operators.{operator_level}
-use Rattle.cat_tree.proofs.Exported.{phrase_Binary, phrase_Field}
-use Rattle.cat_parse_expr.specs.declared.measured.Measured.{Measured}
-use Rattle.cat_parse_expr.specs.Measures.{closed, ending}
-use Rattle.cat_parse_expr.specs.Rightly.{measured_of, IsMeasured}
+use Rattle.cat_parse_expr.proofs.Common.{Pos, Name, Operator, Node, Phrase, height, left_strength, right_strength}
+use Rattle.cat_parse_expr.proofs.Common.{ends_in_form, ends_in_match, phrase, operator_level, phrase_Binary}
+use Rattle.cat_parse_expr.proofs.Common.{phrase_Field, Measured, closed, ending, measured_of, IsMeasured}
 
 -- what counts of a phrase
 abbrev of_phrase : Node → Phrase → Measured

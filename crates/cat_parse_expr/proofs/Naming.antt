@@ -1,66 +1,35 @@
 -- Names, and calls of functions.
-use Rattle.std.proofs.Common.{◌≡◌, ℕ, suc, ◌≤◌, Bool, true, false, List, [], ◌∷◌, ◌++◌, refl, sym, ap}
-use Rattle.std.proofs.Common.{subst, ◌∙◌, arith, inl, inr, ◌⊎◌}
-use Rattle.cat_lex.specs.declared.token.Token.{Token}
+use Rattle.std.proofs.Common.{◌≡◌, ℕ, suc, ◌≤◌, Bool, true, false, List, [], ◌∷◌, ◌++◌, refl, sym, ap, subst, ◌∙◌}
+use Rattle.std.proofs.Common.{arith, inl, inr, ◌⊎◌, map, if◌then◌else◌, nat_eq, nat_le, ◌&&◌}
+use Rattle.std.proofs.lemmas.Bool.Decides.{nat_tests}
 use Rattle.cat_lex.specs.declared.token.TokenKind.TheVariants as kind
 use Rattle.cat_lex.specs.declared.words.Keyword.TheVariants as key
 use Rattle.cat_lex.specs.declared.symbol.Symbol.TheVariants as symbol
-use Rattle.cat_tree.specs.declared.name.Name.{Name}
-use Rattle.cat_tree.specs.declared.expression.Node.{Node}
 use Rattle.cat_tree.specs.declared.expression.Node.TheViews as node
-use Rattle.cat_tree.specs.Phrase.{Row, Rank, Parts, End, Word, At}
 use Rattle.cat_tree.specs.Wording as wording
-use Rattle.cat_tree.specs.Wording.{◌▹◌, symbol_at, key_at, pair_at, first, then_, lower, sign, part, of_level, words}
-use Rattle.cat_tree.specs.Grammar.{phrase}
-use Rattle.cat_tree.proofs.Exported.{phrase_Name, phrase_Call}
-use Rattle.cat_parse_expr.specs.declared.behind.Behind.{Behind}
 use Rattle.cat_parse_expr.specs.declared.behind.Behind.TheVariants.{Other, Field, Pattern as Tested}
 use Rattle.cat_parse_expr.specs.declared.cue.Cue.TheVariants as cue
-use Rattle.cat_parse_expr.specs.declared.measured.Measured.{Measured}
 use Rattle.cat_parse_expr.specs.declared.opening.Opening.TheVariants as opening
-use Rattle.cat_parse_expr.specs.Cues.{kind_of}
-use Rattle.cat_parse_expr.specs.Measures.{closed}
-use Rattle.cat_parse_expr.specs.Reader.{pure}
-use Rattle.cat_parse_expr.specs.Parts.{Lower}
-use Rattle.cat_parse_expr.specs.Forms as forms
-use Rattle.cat_parse_expr.specs.Followers.{looks_of}
-use Rattle.cat_parse_expr.specs.Longest.{KeepsWhole}
-use Rattle.cat_parse_expr.specs.Rightly.{measured_of, IsMeasured, IsLow, operand_row, AreRight}
-use Rattle.cat_parse_expr.proofs.Firsts.{Shape, class_Name, class_Call}
-use Rattle.cat_parse_expr.proofs.Operands.{Next, OfClass, Form, form_read, measured_by}
+use Rattle.cat_parse_expr.specs.Cases as cased
+use Rattle.cat_tree.specs.declared.expression.Node.TheVariants as leaves
+use Rattle.cat_parse_expr.proofs.Common.{Token, Name, Node, Row, Rank, Parts, End, Word, At, ◌▹◌, lower, of_level}
+use Rattle.cat_parse_expr.proofs.Common.{phrase, phrase_Name, phrase_Call, Behind, Measured, kind_of, closed, pure}
+use Rattle.cat_parse_expr.proofs.Common.{Lower, looks_of, KeepsWhole, measured_of, IsMeasured, IsLow, operand_row}
+use Rattle.cat_parse_expr.proofs.Common.{AreRight, elements, AreLevelled, AreSpelled, MeasuredNodes, with_element}
+use Rattle.cat_parse_expr.proofs.Common.{no_elements, is_sign, heads, by_word, cue_is, Is, right_strength, IsLevelled}
+use Rattle.cat_parse_expr.proofs.Common.{if_some, is_asked, leaf, behind_whole}
+use Rattle.cat_parse_expr.proofs.Firsts.{Shape, class_Name, class_Call, class_of}
+use Rattle.cat_parse_expr.proofs.Operands.{Next, OfClass, Form, form_read, measured_by, goes_then}
 use Rattle.cat_parse_expr.proofs.Read.{IsRead, pure_read}
 use Rattle.cat_parse_expr.proofs.Worded.{word_read, lower_read}
 use Rattle.cat_parse_expr.proofs.Sequels.{last_read}
-use Rattle.std.proofs.Common.{map, if◌then◌else◌}
-use Rattle.cat_tree.specs.Rows.{elements}
-use Rattle.cat_tree.specs.Phrase.{AreLevelled, AreSpelled}
-use Rattle.cat_parse_expr.specs.declared.measured.Elements.{Elements}
-use Rattle.cat_parse_expr.specs.Measures.{with_element, no_elements}
-use Rattle.cat_parse_expr.specs.Parts.{is_sign}
-use Rattle.cat_parse_expr.specs.Reader.{heads, by_word}
-use Rattle.cat_parse_expr.specs.Cues.{cue_is}
-use Rattle.cat_parse_expr.specs.Right.{Is}
 use Rattle.cat_parse_expr.proofs.Choices.{Decides, Recast}
-use Rattle.cat_parse_expr.proofs.Nodes.{phrases_of, measures_of, nodes_back}
-use Rattle.cat_parse_expr.proofs.Nodes.{elements_from, nodes_are, tallest_is}
+use Rattle.cat_parse_expr.proofs.Nodes.{phrases_of, measures_of, nodes_back, elements_from, nodes_are, tallest_is}
 use Rattle.cat_parse_expr.proofs.Nodes.{elements_height}
-use Rattle.cat_parse_expr.proofs.Shaping.{recast_read, reshape_read}
-use Rattle.cat_parse_expr.proofs.Turnings.{heads_begin}
-use Rattle.std.proofs.Common.{nat_eq, nat_le, ◌&&◌}
-use Rattle.std.proofs.lemmas.Bool.Decides.{nat_tests}
-use Rattle.cat_parse_expr.proofs.Firsts.{class_of}
-use Rattle.cat_tree.specs.Phrase.{right_strength}
-use Rattle.cat_tree.specs.Phrase.{IsLevelled}
-use Rattle.cat_tree.specs.Wording.{if_some}
-use Rattle.cat_tree.specs.declared.expression.Node.TheVariants as leaves
-use Rattle.cat_parse_expr.specs.Followers.{is_asked}
-use Rattle.cat_parse_expr.specs.Measures.{leaf}
-use Rattle.cat_parse_expr.specs.Reader.{behind_whole}
+use Rattle.cat_parse_expr.proofs.Shaping.{recast_read, reshape_read, look_read}
+use Rattle.cat_parse_expr.proofs.Turnings.{heads_begin, own_heads}
 use Rattle.cat_parse_expr.proofs.Chosen.{choice_read}
 use Rattle.cat_parse_expr.proofs.Follows.{IsOwn}
-use Rattle.cat_parse_expr.proofs.Operands.{goes_then}
-use Rattle.cat_parse_expr.proofs.Shaping.{look_read}
-use Rattle.cat_parse_expr.proofs.Turnings.{own_heads}
 use Rattle.cat_parse_expr.proofs.Called.{Nine, AreNine, nine_measured, nine_last, argument_follows}
 use Rattle.cat_parse_expr.proofs.Arguments.{arguments_read}
 
@@ -74,7 +43,7 @@ abbrev name_in : Named → Name
 name_in (Alone w) = w
 name_in (Calls w e xs) = w
 
-abbrev made : Measured → List Measured → Elements
+abbrev made : Measured → List Measured → MeasuredNodes
 made e xs = elements_from no_elements (e ∷ xs)
 
 abbrev call_of : Name → Measured × List Measured → Measured
@@ -215,7 +184,7 @@ module _ (ex : Lower) (room : ℕ) (right : AreRight room ex)
       → IsRead (call_of w) K (Unit {0}) (Unit {0}) (λ c. (call_of w c).height ≤ suc room)
       (λ c v. Next b k (call_of w c) v)
       (looks_of b) Call_fits (λ c. wording.«word» key.Of ▹ elements 9 symbol.Comma (phrases_of (c.0 ∷ c.1)) End)
-      (forms.called ex room w)
+      (cased.called ex room w)
   call_read w le =
       word_read (cue.Word key.Of) _ _
       (λ p. last_read (λ c. c) (λ c. c) _ (look_read (arguments_read ex room right kept)) (λ x ts. refl)
@@ -350,7 +319,7 @@ module _ (ex : Lower) (room : ℕ) (right : AreRight room ex)
 
   body_read : {K : Type 0} (w : Name) (c : Bool) → nat_le k 8 ≡ c
       → IsRead named_of K (Unit {0}) (Unit {0}) low out (looks_of b) (At_name w) named_rest
-      (if c then by_word (cue_is (cue.Word key.Of)) (behind_whole (forms.called ex room w))
+      (if c then by_word (cue_is (cue.Word key.Of)) (behind_whole (cased.called ex room w))
       (pure (leaf (leaves.Name w)))
       else pure (leaf (leaves.Name w)))
   body_read w true e =
@@ -379,14 +348,14 @@ module _ (ex : Lower) (room : ℕ) (right : AreRight room ex)
 
   pub name_read : {K : Type 0} → k ≤ 9
       → IsRead (λ y. y) K (Unit {0}) (Unit {0}) (IsLow (suc room)) (Next b k) (looks_of b) (OfClass k opening.Name)
-      (operand_row k) (forms.name ex room k)
+      (operand_row k) (cased.name ex room k)
   name_read le =
-      form_read k (suc room) (Next b k) opening.Name (named_fits k) named_row named_of (forms.name ex room k)
+      form_read k (suc room) (Next b k) opening.Name (named_fits k) named_row named_of (cased.name ex room k)
       (named_form k le)
       (lower_read name_in named_rest _ (λ w. conditional w (nat_le k 8) refl))
     where
       conditional : {K : Type 0} (w : Name) (c : Bool) → nat_le k 8 ≡ c
           → IsRead named_of K (Unit {0}) (Unit {0}) low out (looks_of b) (At_name w) named_rest
-          (if nat_le k 8 then by_word (cue_is (cue.Word key.Of)) (behind_whole (forms.called ex room w))
+          (if nat_le k 8 then by_word (cue_is (cue.Word key.Of)) (behind_whole (cased.called ex room w))
           (pure (leaf (leaves.Name w))) else pure (leaf (leaves.Name w)))
       conditional w c e = body_read w (nat_le k 8) refl

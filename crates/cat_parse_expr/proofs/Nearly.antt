@@ -1,14 +1,7 @@
 -- Readers that are equal on short lists are right alike.
-use Rattle.std.proofs.Common.{◌≡◌, ℕ, ◌≤◌, Bool, List, ◌++◌}
-use Rattle.std.proofs.Common.{length}
-use Rattle.std.proofs.Common.{subst}
-use Rattle.cat_lex.specs.declared.token.Token.{Token}
-use Rattle.cat_lex.specs.declared.token.TokenKind.{TokenKind}
-use Rattle.cat_tree.specs.Phrase.{Parts}
-use Rattle.cat_parse_expr.specs.Reader.{Parsed, Reader, Fails, Reads, left_of}
-use Rattle.cat_parse_expr.specs.Right.{Taken, Says, Alike, IsRight}
-use Rattle.cat_parse_expr.specs.Longest.{ReadsAsFar, Stood, KeepsWhole}
-use Rattle.std.proofs.Common.{Some, None, true, false}
+use Rattle.std.proofs.Common.{◌≡◌, ℕ, ◌≤◌, Bool, List, ◌++◌, length, subst, Some, None, true, false}
+use Rattle.cat_parse_expr.proofs.Common.{Token, TokenKind, Parts, Parsed, Reader, Fails, Reads, left_of, Taken, Says}
+use Rattle.cat_parse_expr.proofs.Common.{Alike, IsRight, ReadsAsFar, Stood, KeepsWhole}
 
 pub near_right : {B : Type 0} (low : B → Type 0) (bound : ℕ) (out : B → List Token → Type 0) (looks : TokenKind → Bool)
     (fits : B → Type 0) (row : B → Parts) (r s : Reader B) → ((ts : List Token) → length ts ≤ bound → r ts ≡ s ts)

@@ -1,15 +1,8 @@
 -- The reader that reads nothing for want of room.
-use Rattle.std.proofs.Common.{◌≡◌, ℕ, ◌≤◌, Bool, true, false, List, [], ◌∷◌, ◌++◌, None, refl, sym}
-use Rattle.std.proofs.Common.{ap, ◌∙◌, append_assoc}
-use Rattle.cat_lex.specs.declared.token.Token.{Token}
-use Rattle.cat_lex.specs.declared.token.TokenKind.{TokenKind}
-use Rattle.cat_parse_expr.specs.declared.measured.Measured.{Measured}
-use Rattle.cat_parse_expr.specs.Climbing.{nothing_at}
-use Rattle.cat_parse_expr.specs.Longest.{ReadsAsFar}
-use Rattle.cat_parse_expr.specs.Openings.{opening_of, opening_at, stands}
-use Rattle.cat_parse_expr.specs.Reader.{Fails}
-use Rattle.cat_parse_expr.specs.Right.{Agree, Is, Taken, Says, Alike}
-use Rattle.cat_parse_expr.specs.Rightly.{IsMeasured, operand_row}
+use Rattle.std.proofs.Common.{◌≡◌, ℕ, ◌≤◌, Bool, true, false, List, [], ◌∷◌, ◌++◌, None, refl, sym, ap, ◌∙◌}
+use Rattle.std.proofs.Common.{append_assoc}
+use Rattle.cat_parse_expr.proofs.Common.{Token, TokenKind, Measured, nothing_at, ReadsAsFar, opening_of, opening_at}
+use Rattle.cat_parse_expr.proofs.Common.{stands, Fails, Agree, Is, Taken, Says, Alike, IsMeasured, operand_row}
 use Rattle.cat_parse_expr.proofs.Firsts.{class_of}
 use Rattle.cat_parse_expr.proofs.Joining.{no_front}
 use Rattle.cat_parse_expr.proofs.Openers.{opens_with}

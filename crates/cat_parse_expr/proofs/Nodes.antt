@@ -1,18 +1,11 @@
 -- Lists of expressions with what counts of them, as rows of elements.
-use Rattle.std.proofs.Common.{◌≡◌, ℕ, max, Bool, false, List, [], ◌∷◌, ◌++◌, map, refl, sym, ap}
-use Rattle.std.proofs.Common.{◌∙◌, append_assoc, arith}
+use Rattle.std.proofs.Common.{◌≡◌, ℕ, max, Bool, false, List, [], ◌∷◌, ◌++◌, map, refl, sym, ap, ◌∙◌, append_assoc}
+use Rattle.std.proofs.Common.{arith}
 use Rattle.std.proofs.lemmas.List.{append-nil}
-use Rattle.cat_lex.specs.declared.symbol.Symbol.{Symbol}
-use Rattle.cat_tree.specs.declared.expression.Node.{Node}
-use Rattle.cat_tree.specs.Joined.{◌▸◌, all}
-use Rattle.cat_tree.specs.Phrase.{Phrase, Parts, End, Word, Part, Terminal, tallest, last_in_form, last_in_match}
-use Rattle.cat_tree.specs.Grammar.{phrase}
-use Rattle.cat_tree.specs.Rows.{elements}
-use Rattle.cat_tree.specs.Wording.{◌▹◌, sign, part}
-use Rattle.cat_parse_expr.specs.declared.measured.Measured.{Measured}
-use Rattle.cat_parse_expr.specs.declared.measured.Elements.{Elements}
-use Rattle.cat_parse_expr.specs.Measures.{with_element}
-use Rattle.cat_parse_expr.specs.Rightly.{measured_of, IsMeasured}
+use Rattle.cat_parse_expr.proofs.Common.{Symbol, Node, ◌▸◌, all, Phrase, Parts, End, Word, Part, Terminal, tallest}
+use Rattle.cat_parse_expr.proofs.Common.{last_in_form, last_in_match, phrase, elements, ◌▹◌, sign, part, Measured}
+use Rattle.cat_parse_expr.proofs.Common.{MeasuredNodes, with_element, measured_of, IsMeasured}
+use Rattle.cat_parse_expr.proofs.Lists.{put_all}
 use Rattle.cat_parse_expr.proofs.Operands.{height_is}
 
 -- the expressions of a list
@@ -48,15 +41,14 @@ nodes_back [] = refl
 nodes_back (n ∷ ns) = ap (λ (z : List Node). n ∷ z) (nodes_back ns)
 
 -- one element after another
-abbrev pub elements_from : Elements → List Measured → Elements
-elements_from l [] = l
-elements_from l (x ∷ xs) = elements_from (with_element l x) xs
+abbrev pub elements_from : MeasuredNodes → List Measured → MeasuredNodes
+elements_from = put_all with_element
 
-pub nodes_are : (l : Elements) (xs : List Measured) → (elements_from l xs).nodes ≡ l.nodes ++ nodes_of xs
+pub nodes_are : (l : MeasuredNodes) (xs : List Measured) → (elements_from l xs).nodes ≡ l.nodes ++ nodes_of xs
 nodes_are l [] = sym (append-nil l.nodes)
 nodes_are l (x ∷ xs) = nodes_are (with_element l x) xs ∙ append_assoc l.nodes (x.node ∷ []) (nodes_of xs)
 
-pub tallest_is : (l : Elements) (xs : List Measured) → (elements_from l xs).tallest ≡ max l.tallest (tallest_of xs)
+pub tallest_is : (l : MeasuredNodes) (xs : List Measured) → (elements_from l xs).tallest ≡ max l.tallest (tallest_of xs)
 tallest_is l [] = omega arith
 tallest_is l (x ∷ xs) = omega (arith, tallest_is (with_element l x) xs)
 

@@ -1,33 +1,16 @@
 -- Each expression begins with a word that begins some form, which stands at its level.
-use Rattle.std.proofs.Common.{◌≡◌, Bool, true, false, List, [], ◌∷◌, ◌++◌}
-use Rattle.std.proofs.Common.{refl, sym, ap, ◌∙◌}
-use Rattle.cat_pos.specs.declared.pos.Pos.{Pos}
-use Rattle.cat_lex.specs.declared.token.Token.{Token}
-use Rattle.cat_tree.specs.Accumulation.{accumulation}
-use Rattle.cat_tree.specs.declared.name.Name.{Name}
-use Rattle.cat_tree.specs.declared.name.CaseName.{CaseName}
-use Rattle.cat_tree.specs.declared.expression.Operator.{Operator}
-use Rattle.cat_tree.specs.declared.expression.Node.{Node}
+use Rattle.std.proofs.Common.{◌≡◌, Bool, true, false, List, [], ◌∷◌, ◌++◌, refl, sym, ap, ◌∙◌}
 use Rattle.cat_tree.specs.declared.expression.Node.TheVariants as leaves
 use Rattle.cat_tree.specs.declared.expression.Node.TheViews as node
-use Rattle.cat_tree.specs.Phrase.{IsSpelling}
-use Rattle.cat_tree.specs.Grammar.{phrase}
-use Rattle.cat_tree.proofs.Exported.{phrase_Binary}
-use Rattle.cat_tree.proofs.Exported.{phrase_Field}
-use Rattle.cat_tree.proofs.Exported.{phrase_Test}
-use Rattle.cat_parse_expr.specs.declared.opening.Opening.{Opening}
 use Rattle.cat_parse_expr.specs.declared.opening.Opening.TheVariants as opening
-use Rattle.cat_parse_expr.specs.Openings.{opening_of, opening_at}
-use Rattle.cat_parse_expr.specs.declared.cue.Cue.{Cue}
-use Rattle.cat_parse_expr.specs.Cues.{kind_of, cue_is}
-use Rattle.cat_parse_expr.specs.Reader.{heads}
-use Rattle.cat_parse_expr.proofs.Firsts.{class_of, class_by, opens}
-use Rattle.cat_parse_expr.proofs.Firsts.{class_Literal, class_Name, class_Call, class_Case, class_Content}
-use Rattle.cat_parse_expr.proofs.Firsts.{class_Structure}
-use Rattle.cat_parse_expr.proofs.Firsts.{class_Parens, class_List, class_ScopeCall, class_Prefixed, class_Sum}
-use Rattle.cat_parse_expr.proofs.Firsts.{class_If, class_Match, class_Each, class_Combine}
-use Rattle.cat_parse_expr.proofs.Induction as forms
+use Rattle.cat_parse_expr.proofs.Common.{Pos, Token, accumulation, Name, CaseName, Operator, Node, IsSpelling, phrase}
+use Rattle.cat_parse_expr.proofs.Common.{phrase_Binary, phrase_Field, phrase_Test, Opening, opening_of, opening_at, Cue}
+use Rattle.cat_parse_expr.proofs.Common.{kind_of, cue_is, heads}
+use Rattle.cat_parse_expr.proofs.Firsts.{class_of, class_by, opens, class_Literal, class_Name, class_Call, class_Case}
+use Rattle.cat_parse_expr.proofs.Firsts.{class_Content, class_Structure, class_Parens, class_List, class_ScopeCall}
+use Rattle.cat_parse_expr.proofs.Firsts.{class_Prefixed, class_Sum, class_If, class_Match, class_Each, class_Combine}
 use Rattle.cat_parse_expr.proofs.Leaves.{cue_found}
+use Rattle.cat_parse_expr.proofs.Induction as forms
 
 -- ---- some form
 

@@ -1,24 +1,14 @@
 -- Forms as operands.
-use Rattle.std.proofs.Common.{◌≡◌, ℕ, ◌≤◌, Bool, true, not, ◌&&◌, if◌then◌else◌, cond, nat_eq, List, []}
-use Rattle.std.proofs.Common.{◌++◌, refl, sym, ap, subst, ◌∙◌, arith, inl, inr, ◌⊎◌}
+use Rattle.std.proofs.Common.{◌≡◌, ℕ, ◌≤◌, Bool, true, not, ◌&&◌, if◌then◌else◌, cond, nat_eq, List, [], ◌++◌, refl}
+use Rattle.std.proofs.Common.{sym, ap, subst, ◌∙◌, arith, inl, inr, ◌⊎◌, length}
 use Rattle.std.proofs.lemmas.List.{append-nil}
-use Rattle.cat_lex.specs.declared.token.Token.{Token}
-use Rattle.cat_lex.specs.declared.token.TokenKind.{TokenKind}
 use Rattle.cat_lex.specs.declared.symbol.Symbol.TheVariants as symbol
-use Rattle.cat_tree.specs.declared.expression.Node.{Node}
-use Rattle.cat_tree.specs.Phrase.{Phrase, Row, Rank, Parts, Part, End, Operand, IsLevelled, AreLevelled}
-use Rattle.cat_tree.specs.Phrase.{AreSpelled, height, right_strength, left_strength, ends_in_form, ends_in_match}
-use Rattle.cat_tree.specs.Grammar.{phrase}
-use Rattle.cat_parse_expr.specs.declared.behind.Behind.{Behind}
-use Rattle.cat_parse_expr.specs.declared.measured.Measured.{Measured}
-use Rattle.cat_parse_expr.specs.declared.opening.Opening.{Opening}
-use Rattle.cat_parse_expr.specs.Reader.{Parsed, Fails, Reads, Reader, heads, hidden, after, pure}
-use Rattle.cat_parse_expr.specs.Climbing.{goes_on}
-use Rattle.cat_parse_expr.specs.Followers.{MayFollow, looks_of}
-use Rattle.cat_parse_expr.specs.Longest.{KeepsWhole}
-use Rattle.cat_parse_expr.specs.Parts.{Lower, is_sign}
-use Rattle.cat_parse_expr.specs.Right.{Is}
-use Rattle.cat_parse_expr.specs.Rightly.{measured_of, IsMeasured, IsLow, operand_row, AreRight}
+use Rattle.cat_parse_expr.proofs.Common.{Token, TokenKind, Node, Phrase, Row, Rank, Parts, Part, End, Operand}
+use Rattle.cat_parse_expr.proofs.Common.{IsLevelled, AreLevelled, AreSpelled, height, right_strength, left_strength}
+use Rattle.cat_parse_expr.proofs.Common.{ends_in_form, ends_in_match, phrase, Behind, Measured, Opening, Parsed, Fails}
+use Rattle.cat_parse_expr.proofs.Common.{Reads, Reader, heads, hidden, after, pure, goes_on, MayFollow, looks_of}
+use Rattle.cat_parse_expr.proofs.Common.{KeepsWhole, Lower, is_sign, Is, measured_of, IsMeasured, IsLow, operand_row}
+use Rattle.cat_parse_expr.proofs.Common.{AreRight, left_of, hidden_in}
 use Rattle.cat_parse_expr.proofs.Choices.{Recast}
 use Rattle.cat_parse_expr.proofs.Firsts.{class_of, Shape, IsPrimary, primary_by, is_bare}
 use Rattle.cat_parse_expr.proofs.Follows.{Ends, handed, form_hands, ending_hands}
@@ -28,8 +18,6 @@ use Rattle.cat_parse_expr.proofs.Shaping.{made_read}
 use Rattle.cat_parse_expr.proofs.Wholes.{hidden_right}
 use Rattle.cat_parse_expr.proofs.Truth.{second_true}
 use Rattle.cat_parse_expr.proofs.Sequels.{no_longer}
-use Rattle.std.proofs.Common.{length}
-use Rattle.cat_parse_expr.specs.Reader.{left_of, hidden_in}
 
 -- ---- what follows something that stands in front of all operators
 
@@ -70,7 +58,8 @@ abbrev pub OfClass : (k : ℕ) → Opening → Measured → Type 0
 OfClass k c y = Placed k y × (class_of y.node ≡ c)
 
 -- how the values of a form are made of their parts
-pub record Form {T : Type 0} (k : ℕ) (c : Opening) (fits : T → Type 0) (row : T → Parts) (f : T → Measured) : Type 0 where
+pub record Form {T : Type 0} (k : ℕ) (c : Opening) (fits : T → Type 0) (row : T → Parts) (f : T → Measured) :
+    Type 0 where
   pub rank : T → Rank
   pub is : (t : T) → phrase (f t).node ≡ Row (rank t) (row t)
   pub measured : (t : T) → fits t → IsMeasured (f t)

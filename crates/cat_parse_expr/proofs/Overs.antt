@@ -1,37 +1,20 @@
 -- Forms over a list.
-use Rattle.std.proofs.Common.{◌≡◌, ℕ, suc, ◌≤◌, max, false, List, refl, ap}
-use Rattle.std.proofs.Common.{◌∙◌, arith}
-use Rattle.cat_pos.specs.declared.pos.Pos.{Pos}
-use Rattle.cat_lex.specs.declared.token.Token.{Token}
+use Rattle.std.proofs.Common.{◌≡◌, ℕ, suc, ◌≤◌, max, false, List, refl, ap, ◌∙◌, arith}
 use Rattle.cat_lex.specs.declared.words.Keyword.TheVariants as key
-use Rattle.cat_tree.specs.declared.name.Name.{Name}
-use Rattle.cat_tree.specs.declared.expression.Each.{Each}
 use Rattle.cat_tree.specs.declared.expression.Each.TheVariants as each
 use Rattle.cat_tree.specs.declared.expression.Node.TheViews as node
-use Rattle.cat_tree.specs.Phrase.{Row, Parts, End}
-use Rattle.cat_tree.specs.Rows.{each_parts}
 use Rattle.cat_tree.specs.Wording as wording
-use Rattle.cat_tree.specs.Wording.{◌▹◌, symbol_at, key_at, pair_at, first, then_, lower, sign, part, of_level, words}
-use Rattle.cat_tree.specs.Grammar.{phrase}
-use Rattle.cat_tree.proofs.Exported.{phrase_Each}
-use Rattle.cat_parse_expr.specs.declared.behind.Behind.{Behind}
-use Rattle.cat_parse_expr.specs.declared.behind.Behind.TheVariants.{Other}
 use Rattle.cat_parse_expr.specs.declared.cue.Cue.TheVariants as cue
-use Rattle.cat_parse_expr.specs.declared.measured.Measured.{Measured}
 use Rattle.cat_parse_expr.specs.declared.opening.Opening.TheVariants as opening
 use Rattle.cat_parse_expr.specs.Cues as cues
-use Rattle.cat_parse_expr.specs.Cues.{kind_of, lower_of, word_of}
-use Rattle.cat_parse_expr.specs.Measures.{form}
-use Rattle.cat_parse_expr.specs.Reader.{hidden}
-use Rattle.cat_parse_expr.specs.Parts.{Lower, key_word}
 use Rattle.cat_parse_expr.specs.Forms as forms
-use Rattle.cat_parse_expr.specs.Followers.{MayFollow, looks_of, is_taken}
-use Rattle.cat_parse_expr.specs.Longest.{KeepsWhole}
-use Rattle.cat_parse_expr.specs.Rightly.{measured_of, IsMeasured, IsLow, operand_row, AreRight}
+use Rattle.cat_parse_expr.proofs.Common.{Pos, Token, Name, Each, Row, Parts, End, each_parts, ◌▹◌, first, then_, lower}
+use Rattle.cat_parse_expr.proofs.Common.{part, phrase, phrase_Each, Behind, Other, Measured, kind_of, lower_of, word_of}
+use Rattle.cat_parse_expr.proofs.Common.{form, hidden, Lower, key_word, MayFollow, looks_of, is_taken, KeepsWhole}
+use Rattle.cat_parse_expr.proofs.Common.{measured_of, IsMeasured, IsLow, operand_row, AreRight}
 use Rattle.cat_parse_expr.proofs.Firsts.{class_Each}
 use Rattle.cat_parse_expr.proofs.Follows.{word_follows}
-use Rattle.cat_parse_expr.proofs.Operands.{Next, form_next, OfClass, Form, form_read, measured_by, height_is}
-use Rattle.cat_parse_expr.proofs.Operands.{match_is}
+use Rattle.cat_parse_expr.proofs.Operands.{Next, form_next, OfClass, Form, form_read, measured_by, height_is, match_is}
 use Rattle.cat_parse_expr.proofs.Operands.{inner_read, end_read}
 use Rattle.cat_parse_expr.proofs.Read.{IsRead}
 use Rattle.cat_parse_expr.proofs.Worded.{word_read, word_at_read, lower_read}

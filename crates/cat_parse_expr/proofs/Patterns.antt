@@ -1,26 +1,18 @@
 -- Names of cases, and patterns.
-use Rattle.std.proofs.Common.{◌≡◌, Bool, true, false, if◌then◌else◌, List, [], ◌++◌, None, Some}
-use Rattle.std.proofs.Common.{refl, sym, ap, subst, ◌∙◌, inl, inr, ◌⊎◌}
-use Rattle.cat_lex.specs.declared.token.Token.{Token}
-use Rattle.cat_lex.specs.declared.token.TokenKind.{TokenKind}
+use Rattle.std.proofs.Common.{◌≡◌, Bool, true, false, if◌then◌else◌, List, [], ◌++◌, None, Some, refl, sym, ap, subst}
+use Rattle.std.proofs.Common.{◌∙◌, inl, inr, ◌⊎◌}
 use Rattle.cat_lex.specs.declared.token.TokenKind.TheVariants as kind
 use Rattle.cat_lex.specs.declared.words.Keyword.TheVariants as key
 use Rattle.cat_lex.specs.declared.symbol.Symbol.TheVariants as symbol
-use Rattle.cat_tree.specs.declared.name.Name.{Name}
-use Rattle.cat_tree.specs.declared.name.CaseName.{CaseName}
-use Rattle.cat_tree.specs.declared.name.CaseName.TheVariants.{Bare, Qualified}
-use Rattle.cat_tree.specs.declared.expression.Pattern.{Pattern}
 use Rattle.cat_tree.specs.declared.expression.Pattern.TheVariants as pattern
-use Rattle.cat_tree.specs.Joined.{◌▸◌}
-use Rattle.cat_tree.specs.Phrase.{Parts, End, Word, At, AreSpelled}
-use Rattle.cat_tree.specs.Rows.{pattern_parts}
 use Rattle.cat_tree.specs.Wording as wording
-use Rattle.cat_tree.specs.Wording.{◌▹◌, sign, upper, lower}
 use Rattle.cat_parse_expr.specs.declared.cue.Cue.TheVariants as cue
 use Rattle.cat_parse_expr.specs.Cues as cues
-use Rattle.cat_parse_expr.specs.Cues.{kind_of, cue_is, word_of, upper_of, lower_of}
-use Rattle.cat_parse_expr.specs.Parts.{case_from, case_pattern, a_pattern, is_sign, key_word, sign as a_sign}
-use Rattle.cat_parse_expr.specs.Reader.{Reader, ◌⨟◌, pure, heads, by_word, behind_whole, fallen}
+use Rattle.cat_parse_expr.specs.Arms.{case_from, case_pattern, a_pattern}
+use Rattle.cat_parse_expr.specs.Parts.{is_sign, key_word, sign as a_sign}
+use Rattle.cat_parse_expr.proofs.Common.{Token, TokenKind, Name, CaseName, Bare, Qualified, Pattern, ◌▸◌, Parts, End}
+use Rattle.cat_parse_expr.proofs.Common.{Word, At, AreSpelled, pattern_parts, ◌▹◌, sign, upper, lower, cue_is, word_of}
+use Rattle.cat_parse_expr.proofs.Common.{upper_of, lower_of, Reader, ◌⨟◌, pure, heads, by_word, behind_whole, fallen}
 use Rattle.cat_parse_expr.proofs.Choices.{Decides}
 use Rattle.cat_parse_expr.proofs.Chosen.{inner_choice_read, choice_read, same_read}
 use Rattle.cat_parse_expr.proofs.Leaves.{anywhere}

@@ -1,37 +1,21 @@
 -- Of what level expressions are.
-use Rattle.std.proofs.Common.{◌≡◌, ℕ, ◌≤◌, Bool, false, List, [], ◌∷◌, map, refl, sym, ap, subst, arith}
-use Rattle.cat_pos.specs.declared.pos.Pos.{Pos}
-use Rattle.cat_tree.specs.declared.name.Name.{Name}
-use Rattle.cat_tree.specs.declared.expression.SurfaceLiteral.{SurfaceLiteral}
+use Rattle.std.proofs.Common.{◌≡◌, ℕ, ◌≤◌, Bool, false, List, [], ◌∷◌, map, refl, sym, ap, subst, arith, if◌then◌else◌}
 use Rattle.cat_tree.specs.declared.expression.SurfaceLiteral.TheVariants as literal
-use Rattle.cat_tree.specs.declared.expression.Prefix.{Prefix}
 use Rattle.cat_tree.specs.declared.expression.Prefix.TheVariants as prefix
-use Rattle.cat_tree.specs.declared.expression.Node.{Node}
 use Rattle.cat_tree.specs.declared.expression.Node.TheVariants as leaves
 use Rattle.cat_tree.specs.declared.expression.Node.TheViews as node
-use Rattle.cat_tree.specs.Literals.{literal_rank}
-use Rattle.cat_tree.specs.Operators.{prefix_level}
-use Rattle.std.proofs.Common.{if◌then◌else◌}
 use Rattle.cat_lex.specs.declared.token.TokenKind.TheVariants as kind
 use Rattle.cat_lex.specs.declared.symbol.Symbol.TheVariants as symbol
-use Rattle.cat_tree.specs.declared.name.CaseName.{CaseName}
-use Rattle.cat_tree.specs.declared.name.CaseName.TheVariants.{Bare, Qualified}
-use Rattle.cat_tree.specs.Literals.{literal_parts, case_parts}
-use Rattle.cat_tree.specs.Operators.{operator_level}
-use Rattle.cat_tree.specs.Rows.{fields}
-use Rattle.cat_tree.specs.Wording.{◌▹◌, of_level, upper, lower, sign}
+use Rattle.cat_parse_expr.proofs.Common.{Pos, Name, SurfaceLiteral, Prefix, Node, literal_rank, prefix_level, CaseName}
+use Rattle.cat_parse_expr.proofs.Common.{Bare, Qualified, literal_parts, case_parts, operator_level, fields, ◌▹◌}
+use Rattle.cat_parse_expr.proofs.Common.{of_level, upper, lower, sign, Phrase, Row, Parts, End, Word, Terminal}
+use Rattle.cat_parse_expr.proofs.Common.{Anywhere, Rank, right_strength, left_strength, ends_in_form, ends_in_match}
+use Rattle.cat_parse_expr.proofs.Common.{last_in_form, last_in_match, phrase, phrase_Binary, phrase_Call, phrase_Case}
+use Rattle.cat_parse_expr.proofs.Common.{phrase_Combine, phrase_Content, phrase_Each, phrase_Field, phrase_If}
+use Rattle.cat_parse_expr.proofs.Common.{phrase_List, phrase_Literal, phrase_Match, phrase_Name, phrase_Parens}
+use Rattle.cat_parse_expr.proofs.Common.{phrase_Prefixed, phrase_ScopeCall, phrase_Structure, phrase_Sum, phrase_Test}
+use Rattle.cat_parse_expr.proofs.Common.{field_row, arm_row, accumulation, if_some, match_of}
 use Rattle.cat_parse_expr.proofs.Nodes.{elements_last}
-use Rattle.cat_tree.specs.Phrase.{Phrase, Row, Parts, End, Word, Terminal, Anywhere, Rank, right_strength}
-use Rattle.cat_tree.specs.Phrase.{left_strength}
-use Rattle.cat_tree.specs.Phrase.{ends_in_form, ends_in_match, last_in_form, last_in_match}
-use Rattle.cat_tree.specs.Grammar.{phrase}
-use Rattle.cat_tree.proofs.Exported.{phrase_Binary, phrase_Call, phrase_Case, phrase_Combine}
-use Rattle.cat_tree.proofs.Exported.{phrase_Content, phrase_Each, phrase_Field, phrase_If, phrase_List}
-use Rattle.cat_tree.proofs.Exported.{phrase_Literal, phrase_Match, phrase_Name, phrase_Parens, phrase_Prefixed}
-use Rattle.cat_tree.proofs.Exported.{phrase_ScopeCall, phrase_Structure, phrase_Sum, phrase_Test}
-use Rattle.cat_tree.proofs.Exported.{field_row, arm_row}
-use Rattle.cat_tree.specs.Accumulation.{accumulation}
-use Rattle.cat_tree.specs.Wording.{if_some, match_of}
 use Rattle.cat_parse_expr.proofs.Follows.{one_level}
 use Rattle.cat_parse_expr.proofs.Induction as forms
 

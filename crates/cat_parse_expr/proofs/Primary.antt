@@ -1,32 +1,18 @@
 -- What stands in front of all operators is read rightly.
-use Rattle.std.proofs.Common.{◌≡◌, ℕ, suc, ◌≤◌, Bool, true, false, if◌then◌else◌, List, [], ◌∷◌, ◌++◌}
-use Rattle.std.proofs.Common.{None, refl, sym, ap, subst, ◌∙◌, append_assoc, arith, inl, inr, ◌⊎◌}
-use Rattle.cat_lex.specs.declared.token.Token.{Token}
-use Rattle.cat_tree.specs.declared.expression.Node.{Node}
-use Rattle.cat_tree.specs.Operators.{prefix_level}
-use Rattle.cat_tree.specs.Phrase.{Phrase, right_strength, AreSpelled}
-use Rattle.cat_tree.specs.Grammar.{phrase}
-use Rattle.cat_tree.proofs.Exported.{phrase_Combine, phrase_Each, phrase_If, phrase_Match, phrase_Name}
-use Rattle.cat_tree.proofs.Exported.{phrase_Prefixed, phrase_Sum, arm_row}
-use Rattle.std.proofs.Common.{map}
-use Rattle.cat_parse_expr.specs.declared.behind.Behind.{Behind}
-use Rattle.cat_parse_expr.specs.declared.measured.Measured.{Measured}
-use Rattle.cat_parse_expr.specs.declared.opening.Opening.{Opening}
+use Rattle.std.proofs.Common.{◌≡◌, ℕ, suc, ◌≤◌, Bool, true, false, if◌then◌else◌, List, [], ◌∷◌, ◌++◌, None, refl, sym}
+use Rattle.std.proofs.Common.{ap, subst, ◌∙◌, append_assoc, arith, inl, inr, ◌⊎◌, map}
 use Rattle.cat_parse_expr.specs.declared.opening.Opening.TheVariants as opening
 use Rattle.cat_parse_expr.specs.Climbing as climbing
-use Rattle.cat_parse_expr.specs.Followers.{looks_of}
-use Rattle.cat_parse_expr.specs.Longest.{KeepsWhole}
-use Rattle.cat_parse_expr.specs.Openings.{opening_at, stands}
-use Rattle.cat_parse_expr.specs.Parts.{Lower}
-use Rattle.cat_parse_expr.specs.Reader.{Fails, Reader}
-use Rattle.cat_parse_expr.specs.Right.{Begun}
-use Rattle.cat_parse_expr.specs.Rightly.{measured_of, IsMeasured, IsLow, operand_row, AreRight}
+use Rattle.cat_parse_expr.proofs.Common.{Token, Node, prefix_level, Phrase, right_strength, AreSpelled, phrase}
+use Rattle.cat_parse_expr.proofs.Common.{phrase_Combine, phrase_Each, phrase_If, phrase_Match, phrase_Name}
+use Rattle.cat_parse_expr.proofs.Common.{phrase_Prefixed, phrase_Sum, arm_row, Behind, Measured, Opening, looks_of}
+use Rattle.cat_parse_expr.proofs.Common.{KeepsWhole, opening_at, stands, Lower, Fails, Reader, Begun, measured_of}
+use Rattle.cat_parse_expr.proofs.Common.{IsMeasured, IsLow, operand_row, AreRight}
 use Rattle.cat_parse_expr.proofs.Braces.{scoped_read}
 use Rattle.cat_parse_expr.proofs.Bracketed.{listed_read}
 use Rattle.cat_parse_expr.proofs.Ending.{parens_read, choice_read}
 use Rattle.cat_parse_expr.proofs.Firsts.{class_of, Shape, primary_by, class_Name}
 use Rattle.cat_parse_expr.proofs.Fronts.{combined_read, summed_read, prefixed_read}
-use Rattle.cat_parse_expr.proofs.Heading as heading
 use Rattle.cat_parse_expr.proofs.Matching.{matched_read}
 use Rattle.cat_parse_expr.proofs.Naming.{name_read}
 use Rattle.cat_parse_expr.proofs.Openers.{opens_with}
@@ -38,6 +24,7 @@ use Rattle.cat_parse_expr.proofs.Sampling.{a_name, a_node, lower_token, name_sam
 use Rattle.cat_parse_expr.proofs.Spanned.{literal_read}
 use Rattle.cat_parse_expr.proofs.Uppers.{case_read}
 use Rattle.cat_parse_expr.proofs.Truth.{clash, le_of, le_true}
+use Rattle.cat_parse_expr.proofs.Heading as heading
 
 level_in : (k : ℕ) (n : Node) (f : Phrase) → phrase n ≡ f → k ≤ right_strength (phrase n) → k ≤ right_strength f
 level_in k n f e le = subst (λ (g : Phrase). k ≤ right_strength g) e le

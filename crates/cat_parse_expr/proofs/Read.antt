@@ -1,13 +1,10 @@
 -- Readers of values that are made of what was read: they are right, and keep the longest front that is whole.
-use Rattle.std.proofs.Common.{◌≡◌, ℕ, ◌≤◌, Bool, List, [], ◌∷◌, ◌++◌, length, Option, Some, None, refl}
-use Rattle.std.proofs.Common.{sym, ap, subst, ◌∙◌, arith}
+use Rattle.std.proofs.Common.{◌≡◌, ℕ, ◌≤◌, Bool, List, [], ◌∷◌, ◌++◌, length, Option, Some, None, refl, sym, ap, subst}
+use Rattle.std.proofs.Common.{◌∙◌, arith}
 use Rattle.std.proofs.lemmas.List.{length-append}
-use Rattle.cat_lex.specs.declared.token.Token.{Token}
-use Rattle.cat_lex.specs.declared.token.TokenKind.{TokenKind}
-use Rattle.cat_tree.specs.Phrase.{Parts, End, Word, Terminal, IsAt, AreSpelled}
-use Rattle.cat_parse_expr.specs.Reader.{Parsed, Reader, Fails, Reads, after, ◌⨟◌, pure, made_of, one}
-use Rattle.cat_parse_expr.specs.Right.{Is, Begun, IsRight}
-use Rattle.cat_parse_expr.specs.Longest.{ReadsAsFar, Stood, KeepsWhole}
+use Rattle.cat_parse_expr.proofs.Common.{Token, TokenKind, Parts, End, Word, Terminal, IsAt, AreSpelled, Parsed, Reader}
+use Rattle.cat_parse_expr.proofs.Common.{Fails, Reads, after, ◌⨟◌, pure, made_of, one, Is, Begun, IsRight, ReadsAsFar}
+use Rattle.cat_parse_expr.proofs.Common.{Stood, KeepsWhole}
 use Rattle.cat_parse_expr.proofs.Joining.{pure_right}
 use Rattle.cat_parse_expr.proofs.Token.{Terminals, heads_same, tails_same, token_right}
 use Rattle.cat_parse_expr.proofs.Leaves.{lowered}

@@ -1,9 +1,7 @@
 -- Expressions are read rightly, and the longest front that is whole is kept.
 use Rattle.std.proofs.Common.{ℕ, ◌≤◌}
-use Rattle.cat_parse_expr.specs.declared.behind.Behind.{Behind}
 use Rattle.cat_parse_expr.specs.Climbing.{operand}
-use Rattle.cat_parse_expr.specs.Rightly.{AreRight, IsLow, IsMeasured, operand_row}
-use Rattle.cat_parse_expr.specs.Longest.{KeepsWhole}
+use Rattle.cat_parse_expr.proofs.Common.{Behind, AreRight, IsLow, IsMeasured, operand_row, KeepsWhole}
 use Rattle.cat_parse_expr.proofs.Expressions.{operands_read}
 
 pub rightly : (room : ℕ) → AreRight room (operand room)

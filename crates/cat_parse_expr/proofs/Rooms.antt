@@ -1,14 +1,8 @@
 -- What a call gives, by another reader; and an operand by its room.
 use Rattle.std.proofs.Common.{◌≡◌, ◌<◌, ◌-◌, ℕ, zero, suc, List, Result, Ok, Err, drop, refl, ap, ◌∙◌, arith}
-use Rattle.cat_lex.specs.declared.token.Token.{Token}
-use Rattle.cat_parse_expr.specs.declared.behind.Behind.{Behind}
-use Rattle.cat_parse_expr.specs.declared.measured.Measured.{Measured}
-use Rattle.cat_parse_expr.specs.declared.miss.Miss.{Miss}
-use Rattle.cat_parse_expr.specs.declared.miss.Miss.TheVariants.{Broken, Memory}
-use Rattle.cat_parse_expr.specs.Climbing.{operand, nothing_at, primary, climb, goes_on, step}
-use Rattle.cat_parse_expr.specs.Parts.{as_many}
-use Rattle.cat_parse_expr.specs.Places.{Gives}
-use Rattle.cat_parse_expr.specs.Reader.{Parsed, Reader, after, ◌⨟◌}
+use Rattle.cat_parse_expr.specs.Climbing.{operand}
+use Rattle.cat_parse_expr.proofs.Common.{Token, Behind, Measured, Miss, Broken, Memory, nothing_at, primary, climb}
+use Rattle.cat_parse_expr.proofs.Common.{goes_on, step, as_many, Gives, Parsed, Reader, after, ◌⨟◌}
 
 -- a reader that comes to the same at the place
 pub same_given : {A : Type 0} (r s : Reader A) (tokens : List Token) (at : ℕ) (x : Result (A × ℕ) Miss)
@@ -27,7 +21,8 @@ broken_given r next tokens at Memory g = tt
 pub next_given : {A B : Type 0} (r : Reader A) (next : A → Reader B) (tokens : List Token) (at place : ℕ) (x : A)
     (o : Result (B × ℕ) Miss) → Gives r tokens at (Ok (x, place)) → Gives (next x) tokens place o
     → Gives (r ⨟ next) tokens at o
-next_given r next tokens at place x (Ok y) g h = (ap (λ (o : Parsed _). after o next) g.0 ∙ h.0, omega (arith, g.1, h.1), h.2)
+next_given r next tokens at place x (Ok y) g h =
+    (ap (λ (o : Parsed _). after o next) g.0 ∙ h.0, omega (arith, g.1, h.1), h.2)
 next_given r next tokens at place x (Err (Broken b)) g h = (ap (λ (o : Parsed _). after o next) g.0 ∙ h.0, h.1, h.2)
 next_given r next tokens at place x (Err Memory) g h = tt
 
@@ -51,7 +46,8 @@ module _ (room : ℕ) (b : Behind) (k : ℕ) (tokens : List Token) (at : ℕ) wh
       → Gives (operand room b k) tokens at x
   without_room h x = same_given (nothing_at k) (operand room b k) tokens at x (no_room room b k (drop at tokens) h)
 
-  with_room : 0 < room → (x : Result (Measured × ℕ) Miss) → Gives (climb (operand (room - 1)) (room - 1) b k) tokens at x
+  with_room : 0 < room → (x : Result (Measured × ℕ) Miss)
+      → Gives (climb (operand (room - 1)) (room - 1) b k) tokens at x
       → Gives (operand room b k) tokens at x
   with_room h x =
       same_given (climb (operand (room - 1)) (room - 1) b k) (operand room b k) tokens at x

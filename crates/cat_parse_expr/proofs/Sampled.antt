@@ -1,30 +1,22 @@
 -- Each word that begins an operand begins some expression.
-use Rattle.std.proofs.Common.{◌≡◌, ℕ, ◌≤◌, true, false, [], ◌∷◌}
-use Rattle.std.proofs.Common.{refl, arith}
-use Rattle.cat_lex.specs.declared.token.Token.{Token}
-use Rattle.cat_lex.specs.declared.token.TokenKind.{TokenKind}
+use Rattle.std.proofs.Common.{◌≡◌, ℕ, ◌≤◌, true, false, [], ◌∷◌, refl, arith}
 use Rattle.cat_lex.specs.declared.token.TokenKind.TheVariants as kind
 use Rattle.cat_lex.specs.declared.symbol.Symbol.TheVariants as symbol
-use Rattle.cat_tree.specs.declared.name.CaseName.TheVariants.{Bare}
 use Rattle.cat_tree.specs.declared.expression.SurfaceLiteral.TheVariants as literal
 use Rattle.cat_tree.specs.declared.expression.Prefix.TheVariants as prefix
 use Rattle.cat_tree.specs.declared.expression.Each.TheVariants as each
 use Rattle.cat_tree.specs.declared.expression.Node.TheVariants as leaves
 use Rattle.cat_tree.specs.declared.expression.Node.TheViews as node
-use Rattle.cat_tree.proofs.Exported.{phrase_Case}
-use Rattle.cat_tree.proofs.Exported.{phrase_Each, phrase_List}
-use Rattle.cat_tree.proofs.Exported.{phrase_Literal, phrase_Name, phrase_Parens, phrase_Prefixed}
-use Rattle.cat_parse_expr.specs.Openings.{opening_of}
-use Rattle.cat_parse_expr.specs.Openings.{stands}
 use Rattle.cat_lex.specs.declared.words.Keyword.TheVariants as key
 use Rattle.cat_lex.specs.declared.words.DoubleKeyword.TheVariants as pair
-use Rattle.cat_parse_expr.specs.Right.{Begun}
-use Rattle.cat_parse_expr.specs.Rightly.{IsMeasured, operand_row}
+use Rattle.cat_parse_expr.proofs.Common.{Token, TokenKind, Bare, phrase_Case, phrase_Each, phrase_List, phrase_Literal}
+use Rattle.cat_parse_expr.proofs.Common.{phrase_Name, phrase_Parens, phrase_Prefixed, opening_of, stands, Begun}
+use Rattle.cat_parse_expr.proofs.Common.{IsMeasured, operand_row}
 use Rattle.cat_parse_expr.proofs.Leaves.{token_is}
 use Rattle.cat_parse_expr.proofs.Truth.{le_of}
-use Rattle.cat_parse_expr.proofs.Sampling.{Sample, sample_of, literal_sample, one_word, two_words, over_words, if_sample, match_sample}
-use Rattle.cat_parse_expr.proofs.Sampling.{combine_sample, sum_sample, call_sample, a_name, a_node, a_token, lower_token, node_levels}
-use Rattle.cat_parse_expr.proofs.Sampling.{node_spelled}
+use Rattle.cat_parse_expr.proofs.Sampling.{Sample, sample_of, literal_sample, one_word, two_words, over_words}
+use Rattle.cat_parse_expr.proofs.Sampling.{if_sample, match_sample, combine_sample, sum_sample, call_sample, a_name}
+use Rattle.cat_parse_expr.proofs.Sampling.{a_node, a_token, lower_token, node_levels, node_spelled}
 
 sample_by : (k : ℕ) (p : Token) (q : TokenKind) → k ≤ 9 → p.kind ≡ q → stands k (opening_of q) ≡ true → Sample k p
 sample_by k p (kind.Int n) le e h = literal_sample k p (literal.Int n) _ le e (phrase_Literal (literal.Int n) p.pos)

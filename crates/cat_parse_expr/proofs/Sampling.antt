@@ -1,36 +1,20 @@
 -- Samples of expressions, by their forms.
-use Rattle.std.proofs.Common.{◌≡◌, ℕ, ◌≤◌, true, List, [], ◌∷◌}
-use Rattle.std.proofs.Common.{refl, sym, subst, arith}
-use Rattle.cat_lex.specs.declared.token.Token.{Token}
-use Rattle.cat_lex.specs.declared.token.TokenKind.{TokenKind}
+use Rattle.std.proofs.Common.{◌≡◌, ℕ, ◌≤◌, true, List, [], ◌∷◌, refl, sym, subst, arith}
 use Rattle.cat_lex.specs.declared.token.TokenKind.TheVariants as kind
 use Rattle.cat_lex.specs.declared.symbol.Symbol.TheVariants as symbol
-use Rattle.cat_tree.specs.Accumulation.{accumulation}
-use Rattle.cat_tree.specs.declared.name.Name.{Name}
 use Rattle.cat_tree.specs.declared.name.Type as types
-use Rattle.cat_tree.specs.declared.expression.SurfaceLiteral.{SurfaceLiteral}
-use Rattle.cat_tree.specs.declared.expression.SurfaceArm.{SurfaceArm}
-use Rattle.cat_tree.specs.declared.expression.Node.{Node}
 use Rattle.cat_tree.specs.declared.expression.Node.TheVariants as leaves
 use Rattle.cat_tree.specs.declared.expression.Node.TheViews as node
-use Rattle.cat_tree.specs.Phrase.{Phrase, Row, Parts, End, Word, Part, Operand, At, Anywhere, IsSpelling, AreSpelled}
-use Rattle.cat_tree.specs.Grammar.{phrase}
-use Rattle.cat_tree.proofs.Exported.{phrase_Combine}
-use Rattle.cat_tree.proofs.Exported.{phrase_If}
-use Rattle.cat_tree.proofs.Exported.{phrase_Match, phrase_Name}
-use Rattle.cat_tree.proofs.Exported.{phrase_ScopeCall, phrase_Sum}
-use Rattle.cat_tree.specs.Phrase.{right_strength, IsLevelled}
-use Rattle.cat_tree.specs.Wording.{if_some, match_of}
-use Rattle.cat_tree.specs.Phrase.{Rank}
 use Rattle.cat_tree.specs.Wording as wording
 use Rattle.cat_lex.specs.declared.words.Keyword.TheVariants as key
 use Rattle.cat_lex.specs.declared.words.DoubleKeyword.TheVariants as pair
 use Rattle.cat_tree.specs.declared.name.Base.TheVariants as base
 use Rattle.cat_tree.specs.declared.expression.Pattern.TheVariants as pattern
-use Rattle.cat_tree.specs.Wording.{◌▹◌, of_level, sign}
-use Rattle.cat_tree.specs.Phrase.{AreLevelled}
-use Rattle.cat_parse_expr.specs.Right.{Begun}
-use Rattle.cat_parse_expr.specs.Rightly.{measured_of, IsMeasured, operand_row}
+use Rattle.cat_parse_expr.proofs.Common.{Token, TokenKind, accumulation, Name, SurfaceLiteral, SurfaceArm, Node, Phrase}
+use Rattle.cat_parse_expr.proofs.Common.{Row, Parts, End, Word, Part, Operand, At, Anywhere, IsSpelling, AreSpelled}
+use Rattle.cat_parse_expr.proofs.Common.{phrase, phrase_Combine, phrase_If, phrase_Match, phrase_Name, phrase_ScopeCall}
+use Rattle.cat_parse_expr.proofs.Common.{phrase_Sum, right_strength, IsLevelled, Rank, of_level, AreLevelled, Begun}
+use Rattle.cat_parse_expr.proofs.Common.{measured_of, IsMeasured, operand_row}
 use Rattle.cat_parse_expr.proofs.Leaves.{token_is, anywhere}
 use Rattle.cat_parse_expr.proofs.Operands.{operand_is}
 
@@ -265,7 +249,13 @@ combine_sample k p le e =
                   n ∷ w ∷ n ∷ [],
                   refl,
                   refl,
-                  (n ∷ [], w ∷ n ∷ [], refl, node_spelled, (w, n ∷ [], refl, refl, (n ∷ [], [], refl, node_spelled, refl))),
+                  (
+                    n ∷ [],
+                    w ∷ n ∷ [],
+                    refl,
+                    node_spelled,
+                    (w, n ∷ [], refl, refl, (n ∷ [], [], refl, node_spelled, refl)),
+                  ),
                 ),
               ),
             ),

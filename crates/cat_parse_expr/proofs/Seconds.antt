@@ -1,8 +1,6 @@
 -- The word behind the next one is the next one behind that.
 use Rattle.std.proofs.Common.{◌≡◌, ◌+◌, ℕ, zero, suc, Bool, List, [], ◌∷◌, drop, refl, ap, ◌∙◌, arith}
-use Rattle.cat_lex.specs.declared.token.Token.{Token}
-use Rattle.cat_lex.specs.declared.token.TokenKind.{TokenKind}
-use Rattle.cat_parse_expr.specs.Reader.{heads, heads_second}
+use Rattle.cat_parse_expr.proofs.Common.{Token, TokenKind, heads, heads_second}
 
 behind_one : (test : TokenKind → Bool) (at : ℕ) (ts : List Token)
     → heads_second test (drop at ts) ≡ heads test (drop (suc at) ts)

@@ -2,12 +2,10 @@
 use Rattle.std.proofs.Common.{◌≡◌, ℕ, ◌≤◌, ◌<◌, Bool, true, false, List, [], ◌∷◌, ◌++◌, length, Option, refl, sym, ap}
 use Rattle.std.proofs.Common.{subst, ◌∙◌, append_assoc, arith, ◌⊎◌, inl, inr}
 use Rattle.std.proofs.lemmas.List.{append_cancel_left, append_cancel_right}
-use Rattle.cat_lex.specs.declared.token.Token.{Token}
-use Rattle.cat_lex.specs.declared.token.TokenKind.{TokenKind}
-use Rattle.cat_tree.specs.Phrase.{Parts, AreLevelled, AreSpelled}
-use Rattle.cat_tree.specs.Joined.{◌▸◌}
-use Rattle.cat_parse_expr.specs.Reader.{Parsed, Reader, Fails, Reads, left_of, after, heads, ◌⨟◌}
-use Rattle.cat_parse_expr.specs.Right.{Agree, AgreePast, Seen, Is, Begun, Took, Taken, Says, Alike, IsRight}
+use Rattle.cat_parse_expr.proofs.Common.{Token, TokenKind, Parts, AreLevelled, AreSpelled, ◌▸◌, Parsed, Reader, Fails}
+use Rattle.cat_parse_expr.proofs.Common.{Reads, left_of, after, heads, ◌⨟◌, Agree, AgreePast, Seen, Is, Begun, Took}
+use Rattle.cat_parse_expr.proofs.Common.{Taken, Says, Alike, IsRight}
+use Rattle.cat_parse_expr.proofs.Choices.{next_seen}
 use Rattle.cat_parse_expr.proofs.Joining.{levels_join, levels_split, spelled_join, Splits, spelled_split}
 
 -- what comes of the tokens behind a reader that looks past some: it takes such a token, or looks past it too
@@ -62,21 +60,11 @@ module _ {B : Type 0} (looks further : TokenKind → Bool) where
             ],
           )
 
-  next_seen : (o : Parsed B) (others : List Token) → Seen further o others → Agree (left_of o) others
-  next_seen (Fails l deep whole) others seen = seen
-  next_seen (Reads x l) others seen = by l others seen
-    where
-      by : (l others : List Token) → AgreePast further l others → Agree l others
-      by [] [] g = tt
-      by [] (q ∷ qs) g = g
-      by (p ∷ ps) [] g = g
-      by (p ∷ ps) (q ∷ qs) g = g.0
-
   -- what a second reader saw, behind the tokens that it took, is what a first one saw
   pub seen_behind : (o : Parsed B) (f others : List Token) → Past looks further o (f ++ left_of o)
       → Seen further o others → AgreePast looks (f ++ left_of o) (f ++ others)
   seen_behind o [] others past seen = no_tokens o (left_of o) others refl past seen
-  seen_behind o (p ∷ []) others past seen = (refl, λ h. next_seen o others seen)
+  seen_behind o (p ∷ []) others past seen = (refl, λ h. next_seen further o others seen)
   seen_behind o (p ∷ q ∷ f) others past seen = (refl, λ h. refl)
 
 -- what is asked of a part and of what follows it

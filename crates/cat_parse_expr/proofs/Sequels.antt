@@ -1,15 +1,10 @@
 -- A part that words follow, and a part that is the last one.
-use Rattle.std.proofs.Common.{◌≡◌, ℕ, ◌≤◌, Bool, true, false, List, [], ◌∷◌, ◌++◌, length, Some}
-use Rattle.std.proofs.Common.{None}
-use Rattle.std.proofs.Common.{refl, sym, ap, subst, ◌∙◌, append_assoc, arith}
+use Rattle.std.proofs.Common.{◌≡◌, ℕ, ◌≤◌, Bool, true, false, List, [], ◌∷◌, ◌++◌, length, Some, None, refl, sym, ap}
+use Rattle.std.proofs.Common.{subst, ◌∙◌, append_assoc, arith}
 use Rattle.std.proofs.lemmas.List.{append_cancel_left, length-append}
-use Rattle.cat_lex.specs.declared.token.Token.{Token}
-use Rattle.cat_lex.specs.declared.token.TokenKind.{TokenKind}
-use Rattle.cat_tree.specs.Phrase.{Parts, AreLevelled, AreSpelled}
-use Rattle.cat_tree.specs.Joined.{◌▸◌}
-use Rattle.cat_parse_expr.specs.Reader.{Parsed, Reader, Fails, Reads, left_of, after, ◌⨟◌, pure, one}
-use Rattle.cat_parse_expr.specs.Right.{Agree, AgreePast, Seen, Is, Begun, Taken, Says, Alike, IsRight}
-use Rattle.cat_parse_expr.specs.Longest.{ReadsAsFar, Stood, KeepsWhole}
+use Rattle.cat_parse_expr.proofs.Common.{Token, TokenKind, Parts, AreLevelled, AreSpelled, ◌▸◌, Parsed, Reader, Fails}
+use Rattle.cat_parse_expr.proofs.Common.{Reads, left_of, after, ◌⨟◌, pure, one, Agree, AgreePast, Seen, Is, Begun}
+use Rattle.cat_parse_expr.proofs.Common.{Taken, Says, Alike, IsRight, ReadsAsFar, Stood, KeepsWhole}
 use Rattle.cat_parse_expr.proofs.Joining.{levels_join, levels_split, spelled_join, Splits, spelled_split}
 use Rattle.cat_parse_expr.proofs.Choices.{Recast, recast}
 use Rattle.cat_parse_expr.proofs.Sequel.{Past, part_right}
@@ -208,40 +203,41 @@ sequel_alive {A = A} fits fits_part sub row rest b lives =
     }
 
 -- a part, and then words
-pub part_read : {A A2 T D : Type 0} {g1 : A → A2} {g : T → D} {K1 K F C : Type 0} {low : T → Type 0} {low_part : A
-    → Type 0}
-    {next : A → List Token → Type 0} {out : T → List Token → Type 0} {near looks : TokenKind → Bool} {fits : T → Type 0}
-    {fits_part : A → Type 0} {row : A → Parts} {one : Reader A2} (sub : T → A) (rest : T → Parts) (s : A2 → Reader D)
-    → IsRead g1 K1 (Unit {0}) (Unit {0}) low_part next near fits_part row one
-    → ((ts : List Token) → IsShut (one ts))
-    → ((x : A) (ts : List Token) → Past near looks (s (g1 x) ts) ts)
-    → Between low low_part next fits fits_part sub rest
-    → ((x : A) → IsRead g K (F × fits_part x) (C × low_part x) low out looks (λ y. fits y × (sub y ≡ x)) rest
-    (s (g1 x)))
-    → IsRead g K F C low out looks fits (λ y. row (sub y) ▸ rest y) (one ⨟ s)
-part_read {g1 = g1} {g = g} {low = low} {low_part = low_part} {next = next} {out = out} {near = near} {looks = looks} {fits = fits} {fits_part = fits_part} {row = row} {one = one} sub rest s first shut past b second =
-    record {
-      reader = first.reader ⨟ λ x. (second x).reader;
-      maps =
-          λ ts. mapped_part g1 g (one ts) (first.reader ts) (λ x. (second x).reader) s (first.maps ts)
-          (λ x ts. (second x).maps ts);
-      alive =
-          λ f. sequel_alive fits fits_part sub row rest (first.alive tt) (λ x fit. (second x).alive (f, fit));
-      right =
-          λ f c bound. sequel_right low low_part next out near looks fits fits_part sub row rest first.reader
-          (λ x. (second x).reader) b bound (first.right tt tt bound)
-          (λ x ts. past_mapped g near looks ts ((second x).reader ts) (s (g1 x) ts) ((second x).maps ts) (past x ts))
-          (λ x fit. (second x).alive (f, fit)) (λ x fit fine. (second x).right (f, fit) (c, fine) bound);
-      keeps =
-          λ k f c bound. sequel_keeps low low_part next out near looks fits fits_part sub row rest first.reader
-          (λ x. (second x).reader) b bound (first.right tt tt bound)
-          (λ ts. shut_mapped g1 (first.reader ts) (one ts) (first.maps ts) (shut ts))
-          (λ x fit fine. (second x).keeps k (f, fit) (c, fine) bound);
-    }
+module _ {A A2 T D : Type 0} {g1 : A → A2} {g : T → D} {K1 K F C : Type 0} {low : T → Type 0} {low_part : A → Type 0}
+    {next : A → List Token → Type 0} {out : T → List Token → Type 0} {near looks : TokenKind → Bool}
+    {fits : T → Type 0} {fits_part : A → Type 0} {row : A → Parts} {one : Reader A2} where
+  pub part_read : (sub : T → A) (rest : T → Parts) (s : A2 → Reader D)
+      → IsRead g1 K1 (Unit {0}) (Unit {0}) low_part next near fits_part row one
+      → ((ts : List Token) → IsShut (one ts))
+      → ((x : A) (ts : List Token) → Past near looks (s (g1 x) ts) ts)
+      → Between low low_part next fits fits_part sub rest
+      → ((x : A) → IsRead g K (F × fits_part x) (C × low_part x) low out looks (λ y. fits y × (sub y ≡ x)) rest
+      (s (g1 x)))
+      → IsRead g K F C low out looks fits (λ y. row (sub y) ▸ rest y) (one ⨟ s)
+  part_read sub rest s first shut past b second =
+      record {
+        reader = first.reader ⨟ λ x. (second x).reader;
+        maps =
+            λ ts. mapped_part g1 g (one ts) (first.reader ts) (λ x. (second x).reader) s (first.maps ts)
+            (λ x ts. (second x).maps ts);
+        alive =
+            λ f. sequel_alive fits fits_part sub row rest (first.alive tt) (λ x fit. (second x).alive (f, fit));
+        right =
+            λ f c bound. sequel_right low low_part next out near looks fits fits_part sub row rest first.reader
+            (λ x. (second x).reader) b bound (first.right tt tt bound)
+            (λ x ts. past_mapped g near looks ts ((second x).reader ts) (s (g1 x) ts) ((second x).maps ts) (past x ts))
+            (λ x fit. (second x).alive (f, fit)) (λ x fit fine. (second x).right (f, fit) (c, fine) bound);
+        keeps =
+            λ k f c bound. sequel_keeps low low_part next out near looks fits fits_part sub row rest first.reader
+            (λ x. (second x).reader) b bound (first.right tt tt bound)
+            (λ ts. shut_mapped g1 (first.reader ts) (one ts) (first.maps ts) (shut ts))
+            (λ x fit fine. (second x).keeps k (f, fit) (c, fine) bound);
+      }
 
 -- a part whose rest may be nothing, within a part that words follow
 pub record Open {A T : Type 0} (low : T → Type 0) (low_part : A → Type 0) (next : A → List Token → Type 0)
-    (out : T → List Token → Type 0) (fits : T → Type 0) (fits_part : A → Type 0) (sub : T → A) (rest : T → Parts) : Type 0 where
+    (out : T → List Token → Type 0) (fits : T → Type 0) (fits_part : A → Type 0) (sub : T → A) (rest : T → Parts) :
+    Type 0 where
   pub fit : (y : T) → fits y → fits_part (sub y)
   pub behind : (y : T) (w v : List Token) → fits y → AreSpelled (rest y) w → out y v → next (sub y) (w ++ v)
   pub part : (y : T) → fits y → low y → low_part (sub y)
@@ -277,39 +273,40 @@ open_right {A = A} low low_part next out near looks fits fits_part sub row rest 
           ap (λ (o : Parsed A). length (left_of o)) e,
         )
 
-pub open_part_read : {A A2 T D : Type 0} {g1 : A → A2} {g : T → D} {K1 F C : Type 0} {low : T → Type 0}
-    {low_part : A → Type 0} {next : A → List Token → Type 0} {out : T → List Token → Type 0} {near looks : TokenKind
-    → Bool}
-    {fits : T → Type 0} {fits_part : A → Type 0} {row : A → Parts} {one : Reader A2} (sub : T → A) (rest : T → Parts)
-    (s : A2 → Reader D)
-    → IsRead g1 K1 (Unit {0}) (Unit {0}) low_part next near fits_part row one
-    → ((x : A) (ts : List Token) → Past near looks (s (g1 x) ts) ts)
-    → Open low low_part next out fits fits_part sub rest
-    → ((x : A) → IsRead g ⊥ (F × fits_part x) (C × low_part x) low out looks (λ y. fits y × (sub y ≡ x)) rest
-    (s (g1 x)))
-    → IsRead g ⊥ F C low out looks fits (λ y. row (sub y) ▸ rest y) (one ⨟ s)
-open_part_read {g1 = g1} {g = g} {low = low} {low_part = low_part} {next = next} {out = out} {near = near} {looks = looks} {fits = fits} {fits_part = fits_part} {row = row} {one = one} sub rest s first past b second =
-    record {
-      reader = first.reader ⨟ λ x. (second x).reader;
-      maps =
-          λ ts. mapped_part g1 g (one ts) (first.reader ts) (λ x. (second x).reader) s (first.maps ts)
-          (λ x ts. (second x).maps ts);
-      alive =
-          λ f. sequel_alive fits fits_part sub row rest (first.alive tt) (λ x fit. (second x).alive (f, fit));
-      right =
-          λ f c bound. open_right low low_part next out near looks fits fits_part sub row rest first.reader
-          (λ x. (second x).reader) b bound (first.right tt tt bound)
-          (λ x ts. past_mapped g near looks ts ((second x).reader ts) (s (g1 x) ts) ((second x).maps ts) (past x ts))
-          (λ x fit. (second x).alive (f, fit)) (λ x fit fine. (second x).right (f, fit) (c, fine) bound);
-      keeps = λ k f c bound. absurd k;
-    }
+module _ {A A2 T D : Type 0} {g1 : A → A2} {g : T → D} {K1 F C : Type 0} {low : T → Type 0} {low_part : A → Type 0}
+    {next : A → List Token → Type 0} {out : T → List Token → Type 0} {near looks : TokenKind → Bool}
+    {fits : T → Type 0} {fits_part : A → Type 0} {row : A → Parts} {one : Reader A2} where
+  pub open_part_read : (sub : T → A) (rest : T → Parts)
+      (s : A2 → Reader D)
+      → IsRead g1 K1 (Unit {0}) (Unit {0}) low_part next near fits_part row one
+      → ((x : A) (ts : List Token) → Past near looks (s (g1 x) ts) ts)
+      → Open low low_part next out fits fits_part sub rest
+      → ((x : A) → IsRead g ⊥ (F × fits_part x) (C × low_part x) low out looks (λ y. fits y × (sub y ≡ x)) rest
+      (s (g1 x)))
+      → IsRead g ⊥ F C low out looks fits (λ y. row (sub y) ▸ rest y) (one ⨟ s)
+  open_part_read sub rest s first past b second =
+      record {
+        reader = first.reader ⨟ λ x. (second x).reader;
+        maps =
+            λ ts. mapped_part g1 g (one ts) (first.reader ts) (λ x. (second x).reader) s (first.maps ts)
+            (λ x ts. (second x).maps ts);
+        alive =
+            λ f. sequel_alive fits fits_part sub row rest (first.alive tt) (λ x fit. (second x).alive (f, fit));
+        right =
+            λ f c bound. open_right low low_part next out near looks fits fits_part sub row rest first.reader
+            (λ x. (second x).reader) b bound (first.right tt tt bound)
+            (λ x ts. past_mapped g near looks ts ((second x).reader ts) (s (g1 x) ts) ((second x).maps ts) (past x ts))
+            (λ x fit. (second x).alive (f, fit)) (λ x fit fine. (second x).right (f, fit) (c, fine) bound);
+        keeps = λ k f c bound. absurd k;
+      }
 
 -- ---- the last part
 
 -- what is asked of it
 pub record Last {A T : Type 0} (F C : Type 0) (low : T → Type 0) (low_part : A → Type 0)
     (next : A → List Token → Type 0)
-    (out : T → List Token → Type 0) (fits : T → Type 0) (fits_part : A → Type 0) (sub : T → A) (build : A → T) : Type 0 where
+    (out : T → List Token → Type 0) (fits : T → Type 0) (fits_part : A → Type 0) (sub : T → A) (build : A → T) :
+    Type 0 where
   pub fit : (y : T) → fits y → fits_part (sub y)
   pub built : F → (x : A) → fits_part x → fits (build x)
   pub has : (x : A) → sub (build x) ≡ x
@@ -341,35 +338,37 @@ last_cast {A = A} {fits_part = fits_part} row {sub = sub} {build = build} l f c 
   outside = λ x v fit o. l.outside f x v fit o;
 }
 
-pub last_read : {A A2 T D : Type 0} {g1 : A → A2} {g : T → D} {K F C : Type 0} {low : T → Type 0} {low_part : A
-    → Type 0}
+module _ {A A2 T D : Type 0} {g1 : A → A2} {g : T → D} {K F C : Type 0} {low : T → Type 0} {low_part : A → Type 0}
     {next : A → List Token → Type 0} {out : T → List Token → Type 0} {looks : TokenKind → Bool} {fits : T → Type 0}
-    {fits_part : A → Type 0} {row : A → Parts} {one : Reader A2} (sub : T → A) (build : A → T) (s : A2 → Reader D)
-    → IsRead g1 K (Unit {0}) (Unit {0}) low_part next looks fits_part row one
-    → ((x : A) (ts : List Token) → s (g1 x) ts ≡ Reads (g (build x)) ts)
-    → Last F C low low_part next out fits fits_part sub build
-    → IsRead g K F C low out looks fits (λ y. row (sub y)) (one ⨟ s)
-last_read {A = A} {g1 = g1} {g = g} {low = low} {low_part = low_part} {next = next} {out = out} {looks = looks} {fits = fits} {fits_part = fits_part} {row = row} {one = one} sub build s first ends l =
-    record {
-      reader = first.reader ⨟ λ x. pure (build x);
-      maps =
-          λ ts. mapped_part g1 g (one ts) (first.reader ts) (λ x. pure (build x)) s (first.maps ts) (λ x ts. ends x ts);
-      alive =
-          λ f. let b = first.alive tt in
-          record {
-            value = build b.value;
-            more = b.more;
-            is =
-                record {
-                  fit = l.built f b.value b.is.fit;
-                  levels = subst (λ (z : A). AreLevelled (row z)) (sym (l.has b.value)) b.is.levels;
-                  spelled = subst (λ (z : A). AreSpelled (row z) b.more) (sym (l.has b.value)) b.is.spelled;
-                };
-          };
-      right =
-          λ f c bound. recast bound low_part low next out looks fits_part fits row (λ y. row (sub y)) build first.reader
-          (last_cast row l f c) (first.right tt tt bound);
-      keeps =
-          λ k f c bound. keeps_made low_part low next out fits_part fits row (λ y. row (sub y)) build
-          (last_cast row l f c) bound first.reader (first.keeps k tt tt bound);
-    }
+    {fits_part : A → Type 0} {row : A → Parts} {one : Reader A2} where
+  pub last_read : (sub : T → A) (build : A → T) (s : A2 → Reader D)
+      → IsRead g1 K (Unit {0}) (Unit {0}) low_part next looks fits_part row one
+      → ((x : A) (ts : List Token) → s (g1 x) ts ≡ Reads (g (build x)) ts)
+      → Last F C low low_part next out fits fits_part sub build
+      → IsRead g K F C low out looks fits (λ y. row (sub y)) (one ⨟ s)
+  last_read sub build s first ends l =
+      record {
+        reader = first.reader ⨟ λ x. pure (build x);
+        maps =
+            λ ts. mapped_part g1 g (one ts) (first.reader ts) (λ x. pure (build x)) s (first.maps ts)
+            (λ x ts. ends x ts);
+        alive =
+            λ f. let b = first.alive tt in
+            record {
+              value = build b.value;
+              more = b.more;
+              is =
+                  record {
+                    fit = l.built f b.value b.is.fit;
+                    levels = subst (λ (z : A). AreLevelled (row z)) (sym (l.has b.value)) b.is.levels;
+                    spelled = subst (λ (z : A). AreSpelled (row z) b.more) (sym (l.has b.value)) b.is.spelled;
+                  };
+            };
+        right =
+            λ f c bound. recast bound low_part low next out looks fits_part fits row
+            (λ y. row (sub y)) build first.reader
+            (last_cast row l f c) (first.right tt tt bound);
+        keeps =
+            λ k f c bound. keeps_made low_part low next out fits_part fits row (λ y. row (sub y)) build
+            (last_cast row l f c) bound first.reader (first.keeps k tt tt bound);
+      }

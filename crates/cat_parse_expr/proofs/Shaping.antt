@@ -1,60 +1,11 @@
 -- The same readers, of values that are written otherwise.
-use Rattle.std.proofs.Common.{◌≡◌, ℕ, Bool, true, false, List, [], ◌∷◌, ◌++◌, Some, None, refl, sym, ap}
-use Rattle.std.proofs.Common.{subst, ◌∙◌}
-use Rattle.cat_lex.specs.declared.token.Token.{Token}
-use Rattle.cat_lex.specs.declared.token.TokenKind.{TokenKind}
-use Rattle.cat_tree.specs.Phrase.{Parts, AreLevelled, AreSpelled}
-use Rattle.cat_parse_expr.specs.Reader.{Parsed, Reader, Fails, Reads, after, ◌⨟◌, pure, heads}
-use Rattle.cat_parse_expr.specs.Right.{AgreePast, Seen, Is, Begun, IsRight}
-use Rattle.cat_parse_expr.specs.Longest.{ReadsAsFar, Stood, KeepsWhole}
-use Rattle.cat_parse_expr.proofs.Choices.{Same, reshaped, Recast, recast}
+use Rattle.std.proofs.Common.{◌≡◌, ℕ, Bool, true, false, List, [], ◌∷◌, Some, None, refl, sym, ap, subst, ◌∙◌}
+use Rattle.cat_parse_expr.proofs.Common.{Token, TokenKind, Parts, Parsed, Reader, Fails, Reads, after, ◌⨟◌, pure, heads}
+use Rattle.cat_parse_expr.proofs.Common.{AgreePast, Seen, Is, IsRight, ReadsAsFar, Stood, KeepsWhole}
+use Rattle.cat_parse_expr.proofs.Choices.{Same, same_recast, Recast, recast}
 use Rattle.cat_parse_expr.proofs.Read.{IsRead}
 
--- ---- the same values
-
-module _ {T : Type 0} (low fits fits2 : T → Type 0) (row row2 : T → Parts) (s : Same fits fits2 row row2) where
-  pub to_second : (y : T) (w : List Token) → Is fits row y w → Is fits2 row2 y w
-  to_second y w i = record {
-    fit = s.to y i.fit;
-    levels = subst AreLevelled (s.rows y i.fit) i.levels;
-    spelled = subst (λ (ps : Parts). AreSpelled ps w) (s.rows y i.fit) i.spelled;
-  }
-
-  pub to_first : (y : T) (w : List Token) → Is fits2 row2 y w → Is fits row y w
-  to_first y w i =
-      let fit = s.from y i.fit in
-      record {
-        fit = fit;
-        levels = subst AreLevelled (sym (s.rows y fit)) i.levels;
-        spelled = subst (λ (ps : Parts). AreSpelled ps w) (sym (s.rows y fit)) i.spelled;
-      }
-
-  pub begun_second : (u : List Token) → Begun fits row u → Begun fits2 row2 u
-  begun_second u b = record { value = b.value; more = b.more; is = to_second b.value (u ++ b.more) b.is }
-
-  stood_second : (o : Parsed T) (ts : List Token) → Stood low fits row o ts → Stood low fits2 row2 o ts
-  stood_second (Fails left deep None) ts t = tt
-  stood_second (Fails left deep (Some front)) ts t = (t.0, t.1, t.2, to_second t.0 t.1 t.3, t.4)
-  stood_second (Reads y left) ts t = tt
-
-  pub keeps_second : (bound : ℕ) (r : Reader T) → KeepsWhole low bound fits row r → KeepsWhole low bound fits2 row2 r
-  keeps_second bound r k = record {
-    longest = λ ts y w v le t i. k.longest ts y w v le t (to_first y w i);
-    stood = λ ts le. stood_second (r ts) ts (k.stood ts le);
-  }
-
-pub reshape_read : {T D : Type 0} {g : T → D} {K F C : Type 0} {low : T → Type 0} {out : T → List Token → Type 0}
-    {looks : TokenKind → Bool} (fits fits2 : T → Type 0) (row row2 : T → Parts) (s : Reader D)
-    → Same fits fits2 row row2 → IsRead g K F C low out looks fits row s → IsRead g K F C low out looks fits2 row2 s
-reshape_read {low = low} {out = out} {looks = looks} fits fits2 row row2 s same h = record {
-  reader = h.reader;
-  maps = h.maps;
-  alive = λ f. begun_second low fits fits2 row row2 same [] (h.alive f);
-  right = λ f c bound. reshaped low bound out looks fits fits2 row row2 h.reader same (h.right f c bound);
-  keeps = λ k f c bound. keeps_second low fits fits2 row row2 same bound h.reader (h.keeps k f c bound);
-}
-
--- ---- other values
+-- ---- other values and rows
 
 module _ {A B : Type 0} (low : A → Type 0) (low2 : B → Type 0) (out : A → List Token → Type 0)
     (out2 : B → List Token → Type 0) (fits : A → Type 0) (fits2 : B → Type 0) (row : A → Parts) (row2 : B → Parts)
@@ -84,57 +35,43 @@ module _ {A B : Type 0} (low : A → Type 0) (low2 : B → Type 0) (out : A → 
     stood = λ ts le. stood_made (r ts) ts (k.stood ts le);
   }
 
--- what a reader makes of its values, as values of their own
+-- what a reader makes of its values, as what is made of others
+module _ {A B D : Type 0} {g1 : A → D} {g : B → D} {K F C F1 C1 : Type 0} {low2 : B → Type 0}
+    {out2 : B → List Token → Type 0} {looks : TokenKind → Bool} {fits2 : B → Type 0} {row2 : B → Parts} {s : Reader D}
+  where
+    pub recast_read : (low : A → Type 0) (out : A → List Token → Type 0) (fits : A → Type 0) (row : A → Parts) (f : A
+        → B)
+        → ((x : A) → g1 x ≡ g (f x))
+        → (F → F1) → (F → C → C1) → (F → (x : A) (w : List Token) → Is fits row x w → Is fits2 row2 (f x) w)
+        → (F → C → Recast low low2 out out2 fits fits2 row row2 f) → IsRead g1 K F1 C1 low out looks fits row s
+        → IsRead g K F C low2 out2 looks fits2 row2 s
+    recast_read low out fits row f same ff cc to cast h =
+        record {
+          reader = h.reader ⨟ λ x. pure (f x);
+          maps = λ ts. h.maps ts ∙ by (h.reader ts);
+          alive =
+              λ k. let b = h.alive (ff k) in
+              record { value = f b.value; more = b.more; is = to k b.value b.more b.is };
+          right =
+              λ k c bound. recast bound low low2 out out2 looks fits fits2 row row2 f h.reader (cast k c)
+              (h.right (ff k) (cc k c) bound);
+          keeps =
+              λ n k c bound. keeps_made low low2 out out2 fits fits2 row row2 f (cast k c) bound h.reader
+              (h.keeps n (ff k) (cc k c) bound);
+        }
+      where
+        by : (o : Parsed A) → after o (λ x. pure (g1 x)) ≡ after {B = D} (after o (λ x. pure (f x))) (λ x. pure (g x))
+        by (Fails left deep whole) = refl
+        by (Reads x left) = ap (λ (z : D). Reads z left) (same x)
+
+-- the same, as values of their own
 pub made_read : {A B : Type 0} {f : A → B} {K F C F1 C1 : Type 0} {low2 : B → Type 0} {out2 : B → List Token → Type 0}
     {looks : TokenKind → Bool} {fits2 : B → Type 0} {row2 : B → Parts} {s : Reader B} (low : A → Type 0)
     (out : A → List Token → Type 0) (fits : A → Type 0) (row : A → Parts)
     → (F → F1) → (F → C → C1) → (F → (x : A) (w : List Token) → Is fits row x w → Is fits2 row2 (f x) w)
     → (F → C → Recast low low2 out out2 fits fits2 row row2 f) → IsRead f K F1 C1 low out looks fits row s
     → IsRead (λ y. y) K F C low2 out2 looks fits2 row2 s
-made_read {A = A} {B = B} {f = f} {low2 = low2} {out2 = out2} {looks = looks} {fits2 = fits2} {row2 = row2} {s = s} low out fits row ff cc to cast h = record {
-  reader = h.reader ⨟ λ x. pure (f x);
-  maps = λ ts. h.maps ts ∙ by (h.reader ts);
-  alive =
-      λ k. let b = h.alive (ff k) in
-      record { value = f b.value; more = b.more; is = to k b.value b.more b.is };
-  right =
-      λ k c bound. recast bound low low2 out out2 looks fits fits2 row row2 f h.reader (cast k c)
-      (h.right (ff k) (cc k c) bound);
-  keeps =
-      λ n k c bound. keeps_made low low2 out out2 fits fits2 row row2 f (cast k c) bound h.reader
-      (h.keeps n (ff k) (cc k c) bound);
-}
-  where
-    by : (o : Parsed A) → after o (λ x. pure (f x)) ≡ after {A = B} (after o (λ x. pure (f x))) pure
-    by (Fails left deep whole) = refl
-    by (Reads x left) = refl
-
--- the same of what is made of them once more
-pub recast_read : {A B D : Type 0} {g1 : A → D} {g : B → D} {K F C F1 C1 : Type 0} {low2 : B → Type 0}
-    {out2 : B → List Token → Type 0} {looks : TokenKind → Bool} {fits2 : B → Type 0} {row2 : B → Parts} {s : Reader D}
-    (low : A → Type 0) (out : A → List Token → Type 0) (fits : A → Type 0) (row : A → Parts) (f : A → B)
-    → ((x : A) → g1 x ≡ g (f x))
-    → (F → F1) → (F → C → C1) → (F → (x : A) (w : List Token) → Is fits row x w → Is fits2 row2 (f x) w)
-    → (F → C → Recast low low2 out out2 fits fits2 row row2 f) → IsRead g1 K F1 C1 low out looks fits row s
-    → IsRead g K F C low2 out2 looks fits2 row2 s
-recast_read {A = A} {B = B} {D = D} {g1 = g1} {g = g} {low2 = low2} {out2 = out2} {looks = looks} {fits2 = fits2} {row2 = row2} {s = s} low out fits row f same ff cc to cast h =
-    record {
-      reader = h.reader ⨟ λ x. pure (f x);
-      maps = λ ts. h.maps ts ∙ by (h.reader ts);
-      alive =
-          λ k. let b = h.alive (ff k) in
-          record { value = f b.value; more = b.more; is = to k b.value b.more b.is };
-      right =
-          λ k c bound. recast bound low low2 out out2 looks fits fits2 row row2 f h.reader (cast k c)
-          (h.right (ff k) (cc k c) bound);
-      keeps =
-          λ n k c bound. keeps_made low low2 out out2 fits fits2 row row2 f (cast k c) bound h.reader
-          (h.keeps n (ff k) (cc k c) bound);
-    }
-  where
-    by : (o : Parsed A) → after o (λ x. pure (g1 x)) ≡ after {B = D} (after o (λ x. pure (f x))) (λ x. pure (g x))
-    by (Fails left deep whole) = refl
-    by (Reads x left) = ap (λ (z : D). Reads z left) (same x)
+made_read {f = f} low out fits row = recast_read low out fits row f (λ x. refl)
 
 -- the same, before fewer tokens
 pub narrow_read : {B D : Type 0} {g : B → D} {K F C : Type 0} {low : B → Type 0} {out2 : B → List Token → Type 0}
@@ -150,6 +87,14 @@ narrow_read {low = low} {out2 = out2} {fits = fits} {row = row} out less h =
       back = λ x fit l. l;
       outside = λ x v fit o. less x v fit o;
     }) h
+
+-- the same values, in rows that are written otherwise
+pub reshape_read : {T D : Type 0} {g : T → D} {K F C : Type 0} {low : T → Type 0} {out : T → List Token → Type 0}
+    {looks : TokenKind → Bool} (fits fits2 : T → Type 0) (row row2 : T → Parts) (s : Reader D)
+    → Same fits fits2 row row2 → IsRead g K F C low out looks fits row s → IsRead g K F C low out looks fits2 row2 s
+reshape_read {low = low} {out = out} fits fits2 row row2 s same =
+    let c = same_recast low out fits fits2 row row2 same in
+    recast_read low out fits row (λ y. y) (λ y. refl) (λ f. f) (λ f c. c) (λ f x w i. c.to x w i) (λ f k. c)
 
 -- ---- one that looks past no token does no more where some may be looked past
 

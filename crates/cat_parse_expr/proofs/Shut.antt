@@ -1,10 +1,7 @@
 -- Readers whose breaks leave nothing whole.
-use Rattle.std.proofs.Common.{◌≡◌, ℕ, zero, suc, Bool, true, false, List, [], ◌∷◌, Option, Some}
-use Rattle.std.proofs.Common.{None}
-use Rattle.std.proofs.Common.{if◌then◌else◌, refl}
-use Rattle.cat_lex.specs.declared.token.Token.{Token}
-use Rattle.cat_parse_expr.specs.Reader.{Parsed, Reader, Fails, Reads, after, hidden_in, one}
-use Rattle.cat_parse_expr.specs.Reader.{made_of, turns}
+use Rattle.std.proofs.Common.{◌≡◌, ℕ, zero, suc, Bool, true, false, List, [], ◌∷◌, Option, Some, None, if◌then◌else◌}
+use Rattle.std.proofs.Common.{refl}
+use Rattle.cat_parse_expr.proofs.Common.{Token, Parsed, Reader, Fails, Reads, after, hidden_in, one, made_of, turns}
 
 -- a break leaves nothing whole
 abbrev pub IsShut : {A : Type 0} → Parsed A → Type 0

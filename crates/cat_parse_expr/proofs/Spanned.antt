@@ -1,31 +1,21 @@
 -- A literal, which may be a number of years, months or days.
-use Rattle.std.proofs.Common.{◌≡◌, ℕ, suc, ◌≤◌, Bool, true, false, if◌then◌else◌, int_lt, List, [], ◌∷◌, ◌++◌}
-use Rattle.std.proofs.Common.{ℤ, Option, None, Some, refl, sym, ap, subst, ◌∙◌, arith, inl, inr, ◌⊎◌, nat_eq, ◌&&◌}
-use Rattle.cat_pos.specs.declared.pos.Pos.{Pos}
-use Rattle.cat_lex.specs.declared.token.Token.{Token}
-use Rattle.cat_lex.specs.declared.token.TokenKind.{TokenKind}
+use Rattle.std.proofs.Common.{◌≡◌, ℕ, suc, ◌≤◌, Bool, true, false, if◌then◌else◌, int_lt, List, [], ◌∷◌, ◌++◌, ℤ}
+use Rattle.std.proofs.Common.{Option, None, Some, refl, sym, ap, subst, ◌∙◌, arith, inl, inr, ◌⊎◌, nat_eq, ◌&&◌}
 use Rattle.cat_lex.specs.declared.token.TokenKind.TheVariants as kind
 use Rattle.cat_lex.specs.declared.words.Keyword.TheVariants as key
 use Rattle.cat_lex.specs.declared.symbol.Symbol.TheVariants as symbol
-use Rattle.cat_tree.specs.declared.expression.SurfaceLiteral.{SurfaceLiteral}
 use Rattle.cat_tree.specs.declared.expression.SurfaceLiteral.TheVariants as literal
 use Rattle.cat_tree.specs.declared.expression.Unit.{Unit as TimeUnit}
 use Rattle.cat_tree.specs.declared.expression.Unit.TheVariants as unit
 use Rattle.cat_tree.specs.declared.expression.Node.TheVariants as leaves
-use Rattle.cat_tree.specs.Literals.{literal_parts, span_bound, unit_word}
-use Rattle.cat_tree.specs.Phrase.{Parts, End, Word, At, Anywhere, AreSpelled}
-use Rattle.cat_parse_expr.specs.declared.behind.Behind.{Behind}
 use Rattle.cat_parse_expr.specs.declared.behind.Behind.TheVariants.{Other, Field, Pattern as Tested}
-use Rattle.cat_parse_expr.specs.declared.measured.Measured.{Measured}
 use Rattle.cat_parse_expr.specs.declared.opening.Opening.TheVariants as opening
-use Rattle.cat_parse_expr.specs.Followers.{looks_of, is_asked}
-use Rattle.cat_parse_expr.specs.Forms as forms
-use Rattle.cat_parse_expr.specs.Forms.{literal_kind, placed, literal_of, unit_kind, is_unit, spanned}
-use Rattle.cat_parse_expr.specs.Measures.{leaf}
-use Rattle.cat_parse_expr.specs.Parts.{is_sign}
-use Rattle.cat_parse_expr.specs.Reader.{Reader, ◌⨟◌, pure, after, one, made_of, heads, by_word, behind_whole}
-use Rattle.cat_parse_expr.specs.Reader.{fallen}
-use Rattle.cat_parse_expr.specs.Rightly.{IsLow, operand_row}
+use Rattle.cat_parse_expr.specs.Literals as literals
+use Rattle.cat_parse_expr.proofs.Common.{Pos, Token, TokenKind, SurfaceLiteral, literal_parts, span_bound, unit_word}
+use Rattle.cat_parse_expr.proofs.Common.{Parts, End, Word, At, Anywhere, AreSpelled, Behind, Measured, looks_of}
+use Rattle.cat_parse_expr.proofs.Common.{is_asked, literal_kind, placed, literal_of, unit_kind, is_unit, spanned, leaf}
+use Rattle.cat_parse_expr.proofs.Common.{is_sign, Reader, ◌⨟◌, pure, after, one, made_of, heads, by_word, behind_whole}
+use Rattle.cat_parse_expr.proofs.Common.{fallen, IsLow, operand_row}
 use Rattle.cat_parse_expr.proofs.Choices.{Decides}
 use Rattle.cat_parse_expr.proofs.Chosen.{choice_read, same_read}
 use Rattle.cat_parse_expr.proofs.Follows.{IsOwn, own_not}
@@ -34,9 +24,8 @@ use Rattle.cat_parse_expr.proofs.Operands.{Next, goes_then, OfClass, form_read}
 use Rattle.cat_parse_expr.proofs.Read.{IsRead, pure_read, token_read}
 use Rattle.cat_parse_expr.proofs.Shaping.{reshape_read}
 use Rattle.cat_parse_expr.proofs.Token.{Terminals}
+use Rattle.cat_parse_expr.proofs.Literate.{literal_rest, literal_row_is, Bounded, head_of, literal_form, literal_marks}
 use Rattle.cat_parse_expr.proofs.Literate.{Placed as PlacedLiteral, literal_node, shortened, literal_word}
-use Rattle.cat_parse_expr.proofs.Literate.{literal_rest}
-use Rattle.cat_parse_expr.proofs.Literate.{literal_row_is, Bounded, head_of, literal_form, literal_marks}
 
 -- ---- units
 
@@ -353,11 +342,12 @@ module _ (room : ℕ) (b : Behind) (k : ℕ) where
 
   pub literal_read : {K : Type 0} → k ≤ 9
       → IsRead (λ y. y) K (Unit {0}) (Unit {0}) (IsLow (suc room)) (Next b k) (looks_of b) (OfClass k opening.Literal)
-      (operand_row k) forms.a_literal
+      (operand_row k) literals.a_literal
   literal_read le =
-      form_read k (suc room) (Next b k) opening.Literal fits (λ t. literal_parts t.0 t.1) literal_node forms.a_literal
+      form_read k (suc room) (Next b k) opening.Literal fits
+      (λ t. literal_parts t.0 t.1) literal_node literals.a_literal
       (literal_form k le)
-      (same_read (one a_word ⨟ λ a. behind a.0) forms.a_literal taken_same
+      (same_read (one a_word ⨟ λ a. behind a.0) literals.a_literal taken_same
       (reshape_read fits fits (λ t. Word (At (literal_word t.0) t.1) (literal_rest t.0)) (λ t. literal_parts t.0 t.1) _
       (record { to = λ y f. f; from = λ y f. f; rows = λ y f. literal_row_is y.0 y.1 })
       (token_read (λ y. At (literal_word y.0) y.1) _ a_word (λ a y. head_of y ≡ a.0) _ taken_marks

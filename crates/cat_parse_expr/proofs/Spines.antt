@@ -1,57 +1,38 @@
 -- Each expression is something in front of all operators, and steps behind it.
-use Rattle.std.proofs.Common.{◌≡◌, ℕ, ◌≤◌, Bool, true, false, List, [], ◌∷◌}
-use Rattle.std.proofs.Common.{◌++◌, refl, sym, ap, subst, ◌∙◌, append_assoc, arith, inl, inr}
+use Rattle.std.proofs.Common.{◌≡◌, ℕ, ◌≤◌, Bool, true, false, List, [], ◌∷◌, ◌++◌, refl, sym, ap, subst, ◌∙◌}
+use Rattle.std.proofs.Common.{append_assoc, arith, inl, inr}
 use Rattle.std.proofs.lemmas.List.{append-nil}
-use Rattle.cat_pos.specs.declared.pos.Pos.{Pos}
-use Rattle.cat_lex.specs.declared.token.Token.{Token}
-use Rattle.cat_tree.specs.Accumulation.{accumulation}
-use Rattle.cat_tree.specs.declared.name.Name.{Name}
-use Rattle.cat_tree.specs.declared.name.CaseName.{CaseName}
-use Rattle.cat_tree.specs.declared.name.CaseName.TheVariants.{Bare, Qualified}
-use Rattle.cat_tree.specs.declared.expression.Operator.{Operator}
-use Rattle.cat_tree.specs.declared.expression.Node.{Node}
 use Rattle.cat_tree.specs.declared.expression.Node.TheVariants as leaves
 use Rattle.cat_tree.specs.declared.expression.Node.TheViews as node
-use Rattle.cat_tree.specs.Joined.{◌▸◌, all}
-use Rattle.cat_tree.specs.Literals.{case_parts}
-use Rattle.cat_tree.specs.Operators.{operator_level, left_level, prefix_level}
-use Rattle.cat_tree.specs.Phrase.{Phrase, Row, Parts, End, Word, IsLevelled, AreLevelled, IsSpelling, AreSpelled}
-use Rattle.cat_tree.specs.Phrase.{Rank, Terminal, right_strength, left_strength}
-use Rattle.cat_tree.specs.Grammar.{phrase}
-use Rattle.cat_tree.proofs.Exported.{phrase_Binary, phrase_Call, phrase_Case, phrase_Combine}
-use Rattle.cat_tree.proofs.Exported.{phrase_Content, phrase_Each, phrase_Field, phrase_If, phrase_List}
-use Rattle.cat_tree.proofs.Exported.{phrase_Literal, phrase_Match, phrase_Name, phrase_Parens, phrase_Prefixed}
-use Rattle.cat_tree.proofs.Exported.{phrase_ScopeCall, phrase_Structure, phrase_Sum, phrase_Test}
 use Rattle.cat_lex.specs.declared.symbol.Symbol.TheVariants as symbol
-use Rattle.cat_tree.specs.declared.expression.SurfaceLiteral.{SurfaceLiteral}
 use Rattle.cat_tree.specs.declared.expression.SurfaceLiteral.TheVariants as literal
-use Rattle.cat_tree.specs.declared.expression.Prefix.{Prefix}
 use Rattle.cat_tree.specs.declared.expression.Prefix.TheVariants as prefix
-use Rattle.cat_tree.specs.declared.expression.Each.{Each}
 use Rattle.cat_tree.specs.declared.expression.Each.TheVariants as each
-use Rattle.cat_tree.specs.Literals.{literal_parts, literal_rank}
-use Rattle.cat_tree.specs.Operators.{prefix_parts}
-use Rattle.cat_tree.specs.Rows.{each_parts}
-use Rattle.cat_tree.specs.Wording.{◌▹◌, of_level, form, left, sign, lower}
 use Rattle.cat_parse_expr.specs.declared.opening.Opening.TheVariants as opening
-use Rattle.cat_parse_expr.specs.declared.measured.Measured.{Measured}
-use Rattle.cat_parse_expr.specs.Rightly.{measured_of, IsMeasured}
+use Rattle.cat_tree.specs.Wording.{form}
+use Rattle.cat_parse_expr.proofs.Common.{Pos, Token, accumulation, Name, CaseName, Bare, Qualified, Operator, Node, ◌▸◌}
+use Rattle.cat_parse_expr.proofs.Common.{all, case_parts, operator_level, left_level, prefix_level, Phrase, Row, Parts}
+use Rattle.cat_parse_expr.proofs.Common.{End, Word, IsLevelled, AreLevelled, IsSpelling, AreSpelled, Rank, Terminal}
+use Rattle.cat_parse_expr.proofs.Common.{right_strength, left_strength, phrase, phrase_Binary, phrase_Call, phrase_Case}
+use Rattle.cat_parse_expr.proofs.Common.{phrase_Combine, phrase_Content, phrase_Each, phrase_Field, phrase_If}
+use Rattle.cat_parse_expr.proofs.Common.{phrase_List, phrase_Literal, phrase_Match, phrase_Name, phrase_Parens}
+use Rattle.cat_parse_expr.proofs.Common.{phrase_Prefixed, phrase_ScopeCall, phrase_Structure, phrase_Sum, phrase_Test}
+use Rattle.cat_parse_expr.proofs.Common.{SurfaceLiteral, Prefix, Each, literal_parts, literal_rank, prefix_parts}
+use Rattle.cat_parse_expr.proofs.Common.{each_parts, ◌▹◌, of_level, left, sign, lower, Measured, measured_of}
+use Rattle.cat_parse_expr.proofs.Common.{IsMeasured, Opening}
 use Rattle.cat_parse_expr.proofs.Chains.{Step, Operates, Selects, TestsFor, put, put_all, step_parts}
-use Rattle.cat_parse_expr.proofs.Firsts.{class_of, is_bare, Shape, IsPrimary, primary_by}
-use Rattle.cat_parse_expr.proofs.Firsts.{class_Literal, class_Name, class_Call, class_Case, class_Content}
-use Rattle.cat_parse_expr.proofs.Firsts.{class_Structure}
-use Rattle.cat_parse_expr.proofs.Firsts.{class_Selected, class_Parens, class_List, class_ScopeCall, class_Prefixed}
-use Rattle.cat_parse_expr.proofs.Firsts.{class_Sum}
-use Rattle.cat_parse_expr.proofs.Firsts.{class_If, class_Match, class_Each, class_Combine}
-use Rattle.cat_parse_expr.specs.declared.opening.Opening.{Opening}
+use Rattle.cat_parse_expr.proofs.Firsts.{class_of, is_bare, Shape, IsPrimary, primary_by, class_Literal, class_Name}
+use Rattle.cat_parse_expr.proofs.Firsts.{class_Call, class_Case, class_Content, class_Structure, class_Selected}
+use Rattle.cat_parse_expr.proofs.Firsts.{class_Parens, class_List, class_ScopeCall, class_Prefixed, class_Sum, class_If}
+use Rattle.cat_parse_expr.proofs.Firsts.{class_Match, class_Each, class_Combine}
 use Rattle.cat_parse_expr.proofs.Follows.{one_level}
-use Rattle.cat_parse_expr.proofs.Induction as forms
 use Rattle.cat_parse_expr.proofs.Joining.{spelled_join, levels_join, spelled_split, levels_split}
 use Rattle.cat_parse_expr.proofs.Measuring.{binary_measured, field_measured}
 use Rattle.cat_parse_expr.proofs.Operands.{Placed, measured_by, height_is}
 use Rattle.cat_parse_expr.proofs.Positive.{positive}
 use Rattle.cat_parse_expr.proofs.Standing.{left_low}
 use Rattle.cat_parse_expr.proofs.StepWords.{FitsOne}
+use Rattle.cat_parse_expr.proofs.Induction as forms
 
 -- ---- what counts of an expression with a step more
 

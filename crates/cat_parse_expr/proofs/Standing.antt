@@ -1,34 +1,22 @@
 -- Where no room is left, nothing is read that stands at the level.
-use Rattle.std.proofs.Common.{◌≡◌, ℕ, ◌≤◌, Bool, true, false, map}
-use Rattle.std.proofs.Common.{refl, ap, subst, ◌∙◌, arith}
-use Rattle.cat_tree.specs.Accumulation.{accumulation}
-use Rattle.cat_tree.specs.declared.expression.Node.{Node}
+use Rattle.std.proofs.Common.{◌≡◌, ℕ, ◌≤◌, Bool, true, false, map, refl, ap, subst, ◌∙◌, arith, if◌then◌else◌}
 use Rattle.cat_tree.specs.declared.expression.Node.TheVariants as leaves
 use Rattle.cat_tree.specs.declared.expression.Node.TheViews as node
-use Rattle.cat_tree.specs.Operators.{prefix_level}
-use Rattle.cat_tree.specs.Phrase.{Phrase, Row, Parts}
-use Rattle.cat_tree.specs.Grammar.{phrase}
-use Rattle.cat_tree.proofs.Exported.{phrase_Binary, phrase_Call, phrase_Case, phrase_Combine}
-use Rattle.cat_tree.proofs.Exported.{phrase_Content, phrase_Each, phrase_Field, phrase_If, phrase_List}
-use Rattle.cat_tree.proofs.Exported.{phrase_Literal, phrase_Match, phrase_Name, phrase_Parens, phrase_Prefixed}
-use Rattle.cat_tree.proofs.Exported.{phrase_ScopeCall, phrase_Structure, phrase_Sum, phrase_Test}
-use Rattle.cat_parse_expr.specs.declared.opening.Opening.{Opening}
-use Rattle.cat_tree.specs.Phrase.{right_strength, left_strength, ends_in_form, IsLevelled}
-use Rattle.cat_tree.specs.Operators.{operator_level, left_level}
-use Rattle.cat_tree.proofs.Exported.{arm_row}
-use Rattle.cat_parse_expr.specs.Openings.{stands}
-use Rattle.cat_parse_expr.proofs.Firsts.{class_of}
-use Rattle.cat_parse_expr.proofs.Firsts.{class_Literal, class_Name, class_Call, class_Case, class_Content}
-use Rattle.cat_parse_expr.proofs.Firsts.{class_Structure}
-use Rattle.cat_parse_expr.proofs.Firsts.{class_Parens, class_List, class_ScopeCall, class_Prefixed, class_Sum}
-use Rattle.cat_parse_expr.proofs.Firsts.{class_If, class_Match, class_Each, class_Combine}
+use Rattle.cat_parse_expr.proofs.Common.{accumulation, Node, prefix_level, Phrase, Row, Parts, phrase, phrase_Binary}
+use Rattle.cat_parse_expr.proofs.Common.{phrase_Call, phrase_Case, phrase_Combine, phrase_Content, phrase_Each}
+use Rattle.cat_parse_expr.proofs.Common.{phrase_Field, phrase_If, phrase_List, phrase_Literal, phrase_Match}
+use Rattle.cat_parse_expr.proofs.Common.{phrase_Name, phrase_Parens, phrase_Prefixed, phrase_ScopeCall}
+use Rattle.cat_parse_expr.proofs.Common.{phrase_Structure, phrase_Sum, phrase_Test, Opening, right_strength}
+use Rattle.cat_parse_expr.proofs.Common.{left_strength, ends_in_form, IsLevelled, operator_level, left_level, arm_row}
+use Rattle.cat_parse_expr.proofs.Common.{stands, Rank}
+use Rattle.cat_parse_expr.proofs.Firsts.{class_of, class_Literal, class_Name, class_Call, class_Case, class_Content}
+use Rattle.cat_parse_expr.proofs.Firsts.{class_Structure, class_Parens, class_List, class_ScopeCall, class_Prefixed}
+use Rattle.cat_parse_expr.proofs.Firsts.{class_Sum, class_If, class_Match, class_Each, class_Combine}
 use Rattle.cat_parse_expr.proofs.Follows.{one_level}
-use Rattle.cat_parse_expr.proofs.Induction as forms
-use Rattle.std.proofs.Common.{if◌then◌else◌}
-use Rattle.cat_tree.specs.Phrase.{Rank}
 use Rattle.cat_parse_expr.proofs.Openers.{class_Binary, class_Test, class_Field}
 use Rattle.cat_parse_expr.proofs.Positive.{match_level}
 use Rattle.cat_parse_expr.proofs.Truth.{le_true}
+use Rattle.cat_parse_expr.proofs.Induction as forms
 
 -- ---- each stands at its level
 

@@ -1,34 +1,19 @@
 -- The words of steps, and where they stand.
-use Rattle.std.proofs.Common.{◌≡◌, ℕ, ◌≤◌, Bool, true, false, not, nat_eq, nat_le, nat_lt, ◌&&◌}
-use Rattle.std.proofs.Common.{List, [], ◌∷◌, refl, sym, ap, ◌∙◌, arith}
-use Rattle.std.proofs.Common.{inl, inr, ◌⊎◌}
+use Rattle.std.proofs.Common.{◌≡◌, ℕ, ◌≤◌, Bool, true, false, not, nat_eq, nat_le, nat_lt, ◌&&◌, List, [], ◌∷◌, refl}
+use Rattle.std.proofs.Common.{sym, ap, ◌∙◌, arith, inl, inr, ◌⊎◌}
 use Rattle.std.proofs.lemmas.Bool.Decides.{nat_tests}
-use Rattle.cat_lex.specs.declared.token.Token.{Token}
-use Rattle.cat_lex.specs.declared.token.TokenKind.{TokenKind}
 use Rattle.cat_lex.specs.declared.token.TokenKind.TheVariants as kind
 use Rattle.cat_lex.specs.declared.words.Keyword.TheVariants as key
 use Rattle.cat_lex.specs.declared.words.DoubleKeyword.TheVariants as pair
 use Rattle.cat_lex.specs.declared.symbol.Symbol.TheVariants as symbol
-use Rattle.cat_tree.specs.declared.name.CaseName.{CaseName}
-use Rattle.cat_tree.specs.declared.name.CaseName.TheVariants.{Bare, Qualified}
-use Rattle.cat_tree.specs.declared.expression.Operator.{Operator}
 use Rattle.cat_tree.specs.declared.expression.Operator.TheVariants as op
-use Rattle.cat_tree.specs.Operators.{operator_kind, operator_level, left_level}
-use Rattle.cat_tree.specs.Grammar.{phrase}
-use Rattle.cat_parse_expr.specs.declared.behind.Behind.{Behind}
 use Rattle.cat_parse_expr.specs.declared.behind.Behind.TheVariants.{Other, Field, Pattern as Tested}
-use Rattle.cat_parse_expr.specs.declared.cue.Cue.{Cue}
 use Rattle.cat_parse_expr.specs.declared.cue.Cue.TheVariants as cue
-use Rattle.cat_parse_expr.specs.declared.follow.Follow.{Follow}
 use Rattle.cat_parse_expr.specs.declared.follow.Follow.TheVariants as follow
-use Rattle.cat_parse_expr.specs.declared.measured.Measured.{Measured}
-use Rattle.cat_parse_expr.specs.Climbing.{goes_so, goes_on}
-use Rattle.cat_parse_expr.specs.Cues.{kind_of}
-use Rattle.cat_parse_expr.specs.Followers.{is_asked, is_below, may_stand, MayFollow}
-use Rattle.cat_parse_expr.specs.Openings.{follow_of}
-use Rattle.cat_parse_expr.specs.Parts.{is_sign}
-use Rattle.cat_parse_expr.specs.Reader.{heads}
-use Rattle.cat_parse_expr.specs.Rightly.{IsMeasured}
+use Rattle.cat_parse_expr.proofs.Common.{Token, TokenKind, CaseName, Bare, Qualified, Operator, operator_kind}
+use Rattle.cat_parse_expr.proofs.Common.{operator_level, left_level, phrase, Behind, Cue, Follow, Measured, goes_so}
+use Rattle.cat_parse_expr.proofs.Common.{goes_on, kind_of, is_asked, is_below, may_stand, MayFollow, follow_of, is_sign}
+use Rattle.cat_parse_expr.proofs.Common.{heads, IsMeasured}
 use Rattle.cat_parse_expr.proofs.Chains.{Step, Operates, Selects, TestsFor}
 use Rattle.cat_parse_expr.proofs.Firsts.{is_bare}
 use Rattle.cat_parse_expr.proofs.Leaves.{cue_found}

@@ -1,37 +1,19 @@
 -- The readers of the steps behind a whole expression.
-use Rattle.std.proofs.Common.{◌≡◌, ℕ, suc, ◌≤◌, max, Bool, true, false, nat_le}
-use Rattle.std.proofs.Common.{if◌then◌else◌, List, refl, sym, ap, subst, arith}
+use Rattle.std.proofs.Common.{◌≡◌, ℕ, suc, ◌≤◌, max, Bool, true, false, nat_le, if◌then◌else◌, List, refl, sym, ap}
+use Rattle.std.proofs.Common.{subst, arith}
 use Rattle.std.proofs.lemmas.Bool.Decides.{nat_tests}
-use Rattle.cat_pos.specs.declared.pos.Pos.{Pos}
-use Rattle.cat_lex.specs.declared.token.Token.{Token}
-use Rattle.cat_lex.specs.declared.token.TokenKind.{TokenKind}
 use Rattle.cat_lex.specs.declared.token.TokenKind.TheVariants as kind
 use Rattle.cat_lex.specs.declared.words.DoubleKeyword.TheVariants as pair
 use Rattle.cat_lex.specs.declared.symbol.Symbol.TheVariants as symbol
-use Rattle.cat_tree.specs.declared.name.Name.{Name}
-use Rattle.cat_tree.specs.declared.name.CaseName.{CaseName}
-use Rattle.cat_tree.specs.declared.name.CaseName.TheVariants.{Bare, Qualified}
-use Rattle.cat_tree.specs.declared.expression.Operator.{Operator}
-use Rattle.cat_tree.specs.Literals.{case_parts}
-use Rattle.cat_tree.specs.Operators.{operator_level, left_level}
-use Rattle.cat_tree.specs.Phrase.{Parts, End, Word, At, AreLevelled, AreSpelled}
 use Rattle.cat_tree.specs.Wording as wording
-use Rattle.cat_tree.specs.Wording.{◌▹◌, part, first, pair_at}
-use Rattle.cat_tree.specs.Grammar.{phrase}
-use Rattle.cat_parse_expr.specs.declared.behind.Behind.{Behind}
 use Rattle.cat_parse_expr.specs.declared.cue.Cue.TheVariants as cue
-use Rattle.cat_parse_expr.specs.declared.follow.Follow.{Follow}
 use Rattle.cat_parse_expr.specs.declared.follow.Follow.TheVariants as follow
-use Rattle.cat_parse_expr.specs.declared.measured.Measured.{Measured}
-use Rattle.cat_parse_expr.specs.Climbing as climbing
-use Rattle.cat_parse_expr.specs.Climbing.{ends_test, goes_so, goes_on, room_beside, nothing_at}
-use Rattle.cat_parse_expr.specs.Cues.{kind_of, «word»}
-use Rattle.cat_parse_expr.specs.Followers.{MayFollow, looks_of}
-use Rattle.cat_parse_expr.specs.Longest.{KeepsWhole}
-use Rattle.cat_parse_expr.specs.Parts.{Lower}
-use Rattle.cat_parse_expr.specs.Reader.{Reader, ◌⨟◌, pure}
-use Rattle.cat_parse_expr.specs.Right.{Is}
-use Rattle.cat_parse_expr.specs.Rightly.{IsMeasured, IsLow, operand_row, AreRight}
+use Rattle.cat_parse_expr.specs.Steps as steps
+use Rattle.cat_parse_expr.proofs.Common.{Pos, Token, TokenKind, Name, CaseName, Bare, Qualified, Operator, case_parts}
+use Rattle.cat_parse_expr.proofs.Common.{operator_level, left_level, Parts, End, Word, At, AreLevelled, AreSpelled, ◌▹◌}
+use Rattle.cat_parse_expr.proofs.Common.{part, pair_at, phrase, Behind, Follow, Measured, room_beside, nothing_at}
+use Rattle.cat_parse_expr.proofs.Common.{kind_of, «word», MayFollow, looks_of, KeepsWhole, Lower, Reader, ◌⨟◌, pure, Is}
+use Rattle.cat_parse_expr.proofs.Common.{IsMeasured, IsLow, operand_row, AreRight}
 use Rattle.cat_parse_expr.proofs.Chains.{Step, Operates, Selects, TestsFor, put, step_parts}
 use Rattle.cat_parse_expr.proofs.Choices.{Recast}
 use Rattle.cat_parse_expr.proofs.Firsts.{is_bare}
@@ -68,7 +50,7 @@ module _ (ex : Lower) (room : ℕ) (right : AreRight room ex)
 
   beside_low : (j : ℕ) → j ≤ 9 → {K : Type 0}
       → IsRead (λ (y : Measured). y) K (Unit {0}) (Unit {0}) (λ e. max s.height e.height ≤ room) (MayFollow b j)
-      (looks_of b) IsMeasured (operand_row j) (climbing.beside ex room s b j)
+      (looks_of b) IsMeasured (operand_row j) (steps.beside ex room s b j)
   beside_low j high = by (nat_le s.height room) refl
     where
       by : {K : Type 0} (c : Bool) → nat_le s.height room ≡ c
@@ -96,7 +78,7 @@ module _ (ex : Lower) (room : ℕ) (right : AreRight room ex)
 
   abbrev operating : Operator → Reader Measured
   operating o =
-      «word» (cue_of o) ⨟ λ p. climbing.beside ex room s b (suc (operator_level o)) ⨟ λ e. pure (put s (Operates o p e))
+      «word» (cue_of o) ⨟ λ p. steps.beside ex room s b (suc (operator_level o)) ⨟ λ e. pure (put s (Operates o p e))
 
   operation_row : (o : Operator) (t : Pos × Measured)
       → Word (At (kind_of (cue_of o)) t.0) (part (suc (operator_level o)) (phrase t.1.node) ▹ End)
@@ -211,7 +193,7 @@ module _ (ex : Lower) (room : ℕ) (right : AreRight room ex)
           no_dot h = absurd cc
 
   pub selected_read : {K F : Type 0} → (F → 1 ≤ s.height) → 9 ≤ s.strength → is_bare (phrase s.node) ≡ false
-      → ReadsStep K F (Of_follow follow.Dotted) (climbing.selected ex room s)
+      → ReadsStep K F (Of_follow follow.Dotted) (steps.selected ex room s)
   selected_read tall strong plain =
       recast_read _ _ _ _ Selects (λ t. refl) (λ f. f) (λ f c. c) (λ f. (selection_cast strong plain).to)
       (λ f c. selection_cast strong plain)
@@ -276,7 +258,7 @@ module _ (ex : Lower) (room : ℕ) (right : AreRight room ex)
           no_test h = absurd cc
 
   pub tested_read : {K F : Type 0} → (F → 1 ≤ s.height) → k ≤ 4 → 5 ≤ s.strength
-      → ReadsStep K F (Of_follow follow.Tests) (climbing.tested ex room s)
+      → ReadsStep K F (Of_follow follow.Tests) (steps.tested ex room s)
   tested_read tall low strong =
       recast_read _ _ _ _ (λ t. TestsFor t.0 t.1) (λ t. refl) (λ f. f) (λ f c. c) (λ f. (test_cast low strong).to)
       (λ f c. test_cast low strong)

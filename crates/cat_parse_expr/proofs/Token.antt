@@ -2,11 +2,9 @@
 use Rattle.std.proofs.Common.{◌≡◌, ℕ, suc, ◌≤◌, Bool, true, false, List, [], ◌∷◌, ◌++◌, length, Option, Some, None}
 use Rattle.std.proofs.Common.{refl, sym, ap, subst, ◌∙◌, arith}
 use Rattle.std.proofs.lemmas.List.{append-nil, length-append}
-use Rattle.cat_lex.specs.declared.token.Token.{Token}
-use Rattle.cat_lex.specs.declared.token.TokenKind.{TokenKind}
-use Rattle.cat_tree.specs.Phrase.{Parts, Word, Terminal, IsAt}
-use Rattle.cat_parse_expr.specs.Reader.{Parsed, Reader, Fails, Reads, left_of, after, ◌⨟◌, made_of, one}
-use Rattle.cat_parse_expr.specs.Right.{Agree, Is, Begun, Took, Taken, Says, Alike, IsRight}
+use Rattle.cat_parse_expr.proofs.Common.{Token, TokenKind, Parts, Word, Terminal, IsAt, Parsed, Reader, Fails, Reads}
+use Rattle.cat_parse_expr.proofs.Common.{left_of, after, ◌⨟◌, made_of, one, Agree, Is, Begun, Took, Taken, Says, Alike}
+use Rattle.cat_parse_expr.proofs.Common.{IsRight}
 use Rattle.cat_parse_expr.proofs.Joining.{no_front}
 
 -- what is made of a token tells which terminal it is

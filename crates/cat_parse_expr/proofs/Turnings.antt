@@ -1,33 +1,20 @@
 -- Turns that begin with one word.
-use Rattle.std.proofs.Common.{◌≡◌, ℕ, ◌≤◌, ◌<◌, Bool, true, false, if◌then◌else◌, List, [], ◌∷◌, ◌++◌, length}
-use Rattle.std.proofs.Common.{Option, Some, None, refl, sym, ap, subst, ◌∙◌, arith, inl, ◌⊎◌}
-use Rattle.cat_pos.specs.declared.pos.Pos.{Pos}
-use Rattle.cat_lex.specs.declared.token.Token.{Token}
-use Rattle.cat_lex.specs.declared.token.TokenKind.{TokenKind}
-use Rattle.cat_tree.specs.Phrase.{Parts, AreSpelled}
-use Rattle.cat_parse_expr.specs.declared.behind.Behind.{Behind}
-use Rattle.cat_parse_expr.specs.declared.cue.Cue.{Cue}
-use Rattle.cat_parse_expr.specs.declared.measured.Measured.{Measured}
-use Rattle.cat_parse_expr.specs.Reader.{Parsed, Fails, Reads, Reader, ◌⨟◌, pure, after, left_of, heads, one, made_of}
-use Rattle.cat_parse_expr.specs.Reader.{fallen}
-use Rattle.cat_parse_expr.specs.Reader.{behind_whole}
-use Rattle.cat_parse_expr.specs.Cues.{kind_of, cue_is, word_of, «word»}
-use Rattle.cat_parse_expr.specs.Followers.{is_taken, MayFollow}
-use Rattle.cat_parse_expr.specs.Longest.{KeepsWhole}
-use Rattle.cat_parse_expr.specs.Right.{Agree, AgreePast}
-use Rattle.cat_parse_expr.proofs.Chosen.{fallen_mapped}
-use Rattle.std.proofs.Common.{nat_eq, ◌&&◌}
+use Rattle.std.proofs.Common.{◌≡◌, ℕ, ◌≤◌, ◌<◌, Bool, true, false, if◌then◌else◌, List, [], ◌∷◌, ◌++◌, length, Option}
+use Rattle.std.proofs.Common.{Some, None, refl, sym, ap, subst, ◌∙◌, arith, inl, ◌⊎◌, nat_eq, ◌&&◌}
 use Rattle.cat_lex.specs.declared.symbol.Symbol.TheVariants as symbol
-use Rattle.cat_parse_expr.specs.Climbing.{goes_on}
-use Rattle.cat_parse_expr.specs.Parts.{is_sign}
+use Rattle.cat_parse_expr.proofs.Common.{Pos, Token, TokenKind, Parts, AreSpelled, Behind, Cue, Measured, Parsed, Fails}
+use Rattle.cat_parse_expr.proofs.Common.{Reads, Reader, ◌⨟◌, pure, after, left_of, heads, one, made_of, fallen}
+use Rattle.cat_parse_expr.proofs.Common.{behind_whole, kind_of, cue_is, word_of, «word», is_taken, MayFollow, Agree}
+use Rattle.cat_parse_expr.proofs.Common.{AgreePast, goes_on, is_sign}
+use Rattle.cat_parse_expr.proofs.Chosen.{fallen_mapped}
 use Rattle.cat_parse_expr.proofs.Follows.{not_taken, IsOwn, own_not}
 use Rattle.cat_parse_expr.proofs.Leaves.{cue_found, cue_self}
-use Rattle.cat_parse_expr.proofs.Lists as lists
 use Rattle.cat_parse_expr.proofs.Sequel.{Past}
 use Rattle.cat_parse_expr.proofs.Sequels.{no_longer}
-use Rattle.cat_parse_expr.proofs.Loops as loops
 use Rattle.cat_parse_expr.proofs.Wholes.{behind_right}
 use Rattle.cat_parse_expr.proofs.Read.{IsRead}
+use Rattle.cat_parse_expr.proofs.Lists as lists
+use Rattle.cat_parse_expr.proofs.Loops as loops
 
 -- ---- the next word
 
@@ -154,43 +141,42 @@ past_word c near looks r is shrinks ts =
 
 -- ---- turns
 
-module _ {S X : Type 0} {K : Type 0} (goes : S → List Token → Bool) (put : S → X → S) (Good Low : S → Type 0)
-    (Out More : S → List Token → Type 0) (looks : TokenKind → Bool) (FitsOne : S → X → Type 0) (row_one : X → Parts)
-    (c : Cue) (rest : S → Pos → Reader S)
-    (read : (s : S) → IsRead (put s) K (Good s × ((us : List Token) × (goes s us ≡ true))) (Low s) (λ x. Low (put s x))
-    (λ x v. Out (put s x) v ⊎ More (put s x) v) looks (FitsOne s) row_one («word» c ⨟ rest s)) where
+module _ {S X : Type 0} {K : Type 0} (l : loops.Loop S X) (c : Cue) (rest : S → Pos → Reader S)
+    (read : (s : S) → IsRead (l.put s) K (l.Good s × ((us : List Token) × (l.goes s us ≡ true))) (l.Low s)
+    (λ x. l.Low (l.put s x)) (λ x v. l.Out (l.put s x) v ⊎ l.More (l.put s x) v) l.looks (l.FitsOne s) l.row_one
+    («word» c ⨟ rest s)) where
   -- what is asked of turns that begin with that word
   pub record Worded : Type 0 where
-    pub starts : (s : S) (ts : List Token) → goes s ts ≡ true → heads (cue_is c) ts ≡ true
+    pub starts : (s : S) (ts : List Token) → l.goes s ts ≡ true → heads (cue_is c) ts ≡ true
     pub shrinks : (s : S) (p : Pos) (ts : List Token) → length (left_of (rest s p ts)) ≤ length ts
-    pub begins : (s : S) (x : X) (w v : List Token) → FitsOne s x → AreSpelled (row_one x) w → More s (w ++ v)
-    pub leads : (s : S) (v : List Token) → More s v → goes s v ≡ true
-    pub stops : (s : S) (v : List Token) → Out s v → goes s v ≡ false
-    pub ends : (s : S) → goes s [] ≡ false
-    pub sees : (s : S) (p : Token) (ps qs : List Token) → Agree ps qs → goes s (p ∷ ps) ≡ goes s (p ∷ qs)
-    pub sees_past : (s : S) (ls others : List Token) → AgreePast looks ls others → goes s ls ≡ goes s others
-    pub grows : (s : S) (x : X) → Low (put s x) → Low s
-    pub stays : (s : S) (x : X) → FitsOne s x → Good s → Good (put s x)
+    pub begins : (s : S) (x : X) (w v : List Token) → l.FitsOne s x → AreSpelled (l.row_one x) w → l.More s (w ++ v)
+    pub leads : (s : S) (v : List Token) → l.More s v → l.goes s v ≡ true
+    pub stops : (s : S) (v : List Token) → l.Out s v → l.goes s v ≡ false
+    pub ends : (s : S) → l.goes s [] ≡ false
+    pub sees : (s : S) (p : Token) (ps qs : List Token) → Agree ps qs → l.goes s (p ∷ ps) ≡ l.goes s (p ∷ qs)
+    pub sees_past : (s : S) (ls others : List Token) → AgreePast l.looks ls others → l.goes s ls ≡ l.goes s others
+    pub grows : (s : S) (x : X) → l.Low (l.put s x) → l.Low s
+    pub stays : (s : S) (x : X) → l.FitsOne s x → l.Good s → l.Good (l.put s x)
 
   module _ (w : Worded) where
-    moved : (s : S) (ts : List Token) → goes s ts ≡ true → length (left_of ((read s).reader ts)) < length ts
+    moved : (s : S) (ts : List Token) → l.goes s ts ≡ true → length (left_of ((read s).reader ts)) < length ts
     moved s ts h =
         omega (
           arith,
           moves_one (word_of c) (rest s) ts (w.shrinks s) (word_there c ts (w.starts s ts h)),
-          ap length (left_mapped (put s) ((read s).reader ts) ((«word» c ⨟ rest s) ts) ((read s).maps ts)),
+          ap length (left_mapped (l.put s) ((read s).reader ts) ((«word» c ⨟ rest s) ts) ((read s).maps ts)),
         )
 
     took : (s : S) (ts : List Token) (x : X) (left : List Token) → (read s).reader ts ≡ Reads x left
         → length left < length ts
     took s ts x left e =
-        takes_one (word_of c) (rest s) ts left (put s x) (w.shrinks s)
-        ((read s).maps ts ∙ ap (λ (o : Parsed X). after o (λ y. pure (put s y))) e)
+        takes_one (word_of c) (rest s) ts left (l.put s x) (w.shrinks s)
+        ((read s).maps ts ∙ ap (λ (o : Parsed X). after o (λ y. pure (l.put s y))) e)
 
     abbrev pub inner : S → Reader X
     inner s = (read s).reader
 
-    pub plain_turning : loops.Turning goes inner put Good Low Out More looks FitsOne row_one
+    pub plain_turning : loops.Turning l inner
     plain_turning = record {
       right = λ s bound good low us e. (read s).right (good, (us, e)) low bound;
       begins = w.begins;
@@ -205,7 +191,7 @@ module _ {S X : Type 0} {K : Type 0} (goes : S → List Token → Bool) (put : S
       stays = w.stays;
     }
 
-    pub plain_same : (s : S) (ts : List Token) → («word» c ⨟ rest s) ts ≡ lists.turn goes inner put s ts
+    pub plain_same : (s : S) (ts : List Token) → («word» c ⨟ rest s) ts ≡ lists.turn l.goes inner l.put s ts
     plain_same s ts = (read s).maps ts
 
     -- the same, each behind something whole
@@ -213,16 +199,16 @@ module _ {S X : Type 0} {K : Type 0} (goes : S → List Token → Bool) (put : S
     outer s = behind_whole (inner s)
 
     fallen_reads : {A : Type 0} (ts : List Token) (o : Parsed A) (x : A) (left : List Token) → fallen ts o
-        ≡ Reads x left
-        → o ≡ Reads x left
-    fallen_reads ts (Fails l deep whole) x left e = absurd cc
-    fallen_reads ts (Reads y l) x left e = e
+        ≡ Reads x left → o ≡ Reads x left
+    fallen_reads ts (Fails us deep whole) x left e = absurd cc
+    fallen_reads ts (Reads y us) x left e = e
 
-    pub behind_turning : loops.Turning goes outer put Good Low Out More looks FitsOne row_one
+    pub behind_turning : loops.Turning l outer
     behind_turning = record {
       right =
-          λ s bound good low us e. behind_right (λ x. Low (put s x)) (λ x v. Out (put s x) v ⊎ More (put s x) v) looks
-          (FitsOne s) row_one bound (inner s) ((read s).right (good, (us, e)) low bound);
+          λ s bound good low us e. behind_right (λ x. l.Low (l.put s x))
+          (λ x v. l.Out (l.put s x) v ⊎ l.More (l.put s x) v) l.looks (l.FitsOne s) l.row_one bound (inner s)
+          ((read s).right (good, (us, e)) low bound);
       begins = w.begins;
       leads = w.leads;
       stops = w.stops;
@@ -235,9 +221,6 @@ module _ {S X : Type 0} {K : Type 0} (goes : S → List Token → Bool) (put : S
       stays = w.stays;
     }
 
-    pub behind_same : (s : S) (ts : List Token) → behind_whole («word» c ⨟ rest s) ts ≡ lists.turn goes outer put s ts
-    behind_same s ts = fallen_mapped (put s) ts (inner s ts) ((«word» c ⨟ rest s) ts) ((read s).maps ts)
-
-    pub inner_keeps : K → (s : S) (bound : ℕ) → Good s → Low s → (us : List Token) → goes s us ≡ true
-        → KeepsWhole (λ x. Low (put s x)) bound (FitsOne s) row_one (inner s)
-    inner_keeps k s bound good low us e = (read s).keeps k (good, (us, e)) low bound
+    pub behind_same : (s : S) (ts : List Token)
+        → behind_whole («word» c ⨟ rest s) ts ≡ lists.turn l.goes outer l.put s ts
+    behind_same s ts = fallen_mapped (l.put s) ts (inner s ts) ((«word» c ⨟ rest s) ts) ((read s).maps ts)

@@ -3,28 +3,22 @@ use Rattle.std.proofs.Common.{◌≡◌, ℕ, zero, suc, ◌≤◌, ◌-◌, Boo
 use Rattle.std.proofs.Common.{length, Option, Some, None, refl, sym, ap, subst, ◌∙◌, arith, inl, inr, ◌⊎◌}
 use Rattle.std.proofs.lemmas.Bool.{cases_lt}
 use Rattle.std.proofs.lemmas.List.{length-append}
-use Rattle.cat_pos.specs.declared.pos.Pos.{Pos}
-use Rattle.cat_lex.specs.declared.token.Token.{Token}
-use Rattle.cat_lex.specs.declared.token.TokenKind.{TokenKind}
 use Rattle.cat_lex.specs.declared.token.TokenKind.TheVariants as kind
 use Rattle.cat_lex.specs.declared.words.Keyword.TheVariants as key
 use Rattle.cat_lex.specs.declared.words.DoubleKeyword.TheVariants as pair
-use Rattle.cat_tree.specs.declared.name.Base.{Base}
 use Rattle.cat_tree.specs.declared.name.Base.TheVariants as base
 use Rattle.cat_tree.specs.declared.name.Type as types
-use Rattle.cat_tree.specs.Phrase.{Parts, End, Word, At, Anywhere, IsAt, AreSpelled}
-use Rattle.cat_tree.specs.Literals.{base_kind, lists_of, type_parts}
 use Rattle.cat_parse_expr.specs.declared.cue.Cue.TheVariants as cue
-use Rattle.cat_parse_expr.specs.Reader.{Parsed, Reader, Fails, Reads, left_of, ◌⨟◌, pure, one, made_of, after}
-use Rattle.cat_parse_expr.specs.Reader.{by_word, heads}
-use Rattle.cat_parse_expr.specs.Right.{Begun, Taken, Says, Alike, IsRight}
-use Rattle.cat_parse_expr.specs.Cues.{kind_of, base_of, «word»}
-use Rattle.cat_parse_expr.specs.Types.{placed, typed, base_at, is_list_of, type_after, a_type}
+use Rattle.cat_parse_expr.specs.Types.{placed}
+use Rattle.cat_parse_expr.proofs.Common.{Pos, Token, TokenKind, Base, Parts, End, Word, At, Anywhere, IsAt, AreSpelled}
+use Rattle.cat_parse_expr.proofs.Common.{base_kind, lists_of, type_parts, Parsed, Fails, Reads, left_of, ◌⨟◌, pure, one}
+use Rattle.cat_parse_expr.proofs.Common.{made_of, after, by_word, heads, Begun, Taken, Says, Alike, IsRight, kind_of}
+use Rattle.cat_parse_expr.proofs.Common.{base_of, «word», typed, base_at, is_list_of, type_after, a_type}
 use Rattle.cat_parse_expr.proofs.Joining.{pure_right, no_front, agree_same}
 use Rattle.cat_parse_expr.proofs.Token.{Terminals, token_right}
 use Rattle.cat_parse_expr.proofs.Read.{IsRead}
 use Rattle.cat_parse_expr.proofs.Shut.{IsShut}
-use Rattle.cat_parse_expr.proofs.Choices.{reshaped, Decides, choice_right}
+use Rattle.cat_parse_expr.proofs.Choices.{same_reader, reshaped, Decides, choice_right}
 use Rattle.cat_parse_expr.proofs.Leaves.{cue_self, word_behind, lowered, some_one, not_both, token_is, anywhere}
 
 -- ---- the word of a base
@@ -97,17 +91,6 @@ Out y v = Unit {0}
 
 abbrev looks : TokenKind → Bool
 looks k = false
-
-pub same_reader : {B : Type 0} (low : B → Type 0) (bound : ℕ) (out : B → List Token → Type 0) (looks : TokenKind → Bool)
-    (fits : B → Type 0) (row : B → Parts) (r s : Reader B) → ((ts : List Token) → r ts ≡ s ts)
-    → IsRight low bound out looks fits row r → IsRight low bound out looks fits row s
-same_reader {B = B} low bound out looks fits row r s e h = record {
-  alive = h.alive;
-  taken = λ ts le. subst (λ (o : Parsed B). Taken low fits row o ts) (e ts) (h.taken ts le);
-  says =
-      λ ts. subst (λ (o : Parsed B). (front : List Token) (y : B) (w : List Token) → length ts ≤ bound → ts ≡ front
-      ++ left_of o → Alike out looks fits row o front y w → Says low o y w front) (e ts) (h.says ts);
-}
 
 pub as_choice : (n : ℕ) (ts : List Token)
     → by_word is_list_of («word» (cue.Pair pair.ListOf) ⨟ λ p. type_after (suc n))
@@ -237,7 +220,7 @@ type_right (suc bound) n =
 all_left : (y : types.Type) → y.lists - 0 ≡ y.lists
 all_left y = omega arith
 
-a_type_right : (bound : ℕ) → IsRight Low bound Out looks (λ y. Unit {0}) (λ y. type_parts y End) a_type
+pub a_type_right : (bound : ℕ) → IsRight Low bound Out looks (λ y. Unit {0}) (λ y. type_parts y End) a_type
 a_type_right bound =
     reshaped Low bound Out looks (from 0) (λ y. Unit {0}) (row 0) (λ y. type_parts y End) a_type
     (record {

@@ -1,47 +1,29 @@
 -- The reader of what begins with a case.
-use Rattle.std.proofs.Common.{◌≡◌, ℕ, suc, ◌≤◌, true, false, List, [], ◌++◌, refl, ap}
-use Rattle.std.proofs.Common.{◌∙◌, arith, inl, inr, ◌⊎◌}
-use Rattle.cat_lex.specs.declared.token.Token.{Token}
+use Rattle.std.proofs.Common.{◌≡◌, ℕ, suc, ◌≤◌, true, false, List, [], ◌++◌, refl, ap, ◌∙◌, arith, inl, inr, ◌⊎◌}
+use Rattle.std.proofs.Common.{nat_eq}
 use Rattle.cat_lex.specs.declared.words.Keyword.TheVariants as key
 use Rattle.cat_lex.specs.declared.symbol.Symbol.TheVariants as symbol
-use Rattle.cat_tree.specs.declared.name.Name.{Name}
-use Rattle.cat_tree.specs.Phrase.{Parts}
-use Rattle.cat_parse_expr.specs.declared.behind.Behind.{Behind}
 use Rattle.cat_parse_expr.specs.declared.cue.Cue.TheVariants as cue
-use Rattle.cat_parse_expr.specs.declared.measured.Measured.{Measured}
 use Rattle.cat_parse_expr.specs.declared.opening.Opening.TheVariants as opening
-use Rattle.cat_parse_expr.specs.Reader.{Reader}
-use Rattle.cat_parse_expr.specs.Parts.{Lower}
-use Rattle.cat_parse_expr.specs.Forms as forms
-use Rattle.cat_parse_expr.specs.Followers.{looks_of}
-use Rattle.cat_parse_expr.specs.Longest.{KeepsWhole}
-use Rattle.cat_parse_expr.specs.Rightly.{IsMeasured, IsLow, operand_row, AreRight}
-use Rattle.cat_parse_expr.proofs.Operands.{Next, OfClass, form_read}
+use Rattle.cat_parse_expr.specs.Cases as cased
+use Rattle.cat_parse_expr.proofs.Common.{Token, Name, Parts, Behind, Measured, Reader, Lower, looks_of, KeepsWhole}
+use Rattle.cat_parse_expr.proofs.Common.{IsMeasured, IsLow, operand_row, AreRight, AreSpelled, is_sign, heads, by_word}
+use Rattle.cat_parse_expr.proofs.Common.{Is, behind_whole, Bare}
+use Rattle.cat_parse_expr.proofs.Operands.{Next, OfClass, form_read, goes_then}
 use Rattle.cat_parse_expr.proofs.Read.{IsRead}
-use Rattle.cat_tree.specs.Phrase.{AreSpelled}
-use Rattle.cat_parse_expr.specs.Parts.{is_sign}
-use Rattle.cat_parse_expr.specs.Reader.{heads, by_word}
-use Rattle.cat_parse_expr.specs.Right.{Is}
 use Rattle.cat_parse_expr.proofs.Choices.{Recast}
 use Rattle.cat_parse_expr.proofs.Shaping.{recast_read}
-use Rattle.cat_parse_expr.proofs.Turnings.{heads_begin, heads_other}
-use Rattle.std.proofs.Common.{nat_eq}
-use Rattle.cat_parse_expr.specs.Reader.{behind_whole}
+use Rattle.cat_parse_expr.proofs.Turnings.{heads_begin, heads_other, own_heads}
 use Rattle.cat_parse_expr.proofs.Chosen.{choice_read}
-use Rattle.cat_parse_expr.proofs.Operands.{goes_then}
-use Rattle.cat_parse_expr.proofs.Turnings.{own_heads}
 use Rattle.cat_parse_expr.proofs.Worded.{upper_read}
 use Rattle.cat_parse_expr.proofs.Valued.{Valued, AreValued}
-use Rattle.cat_tree.specs.declared.name.CaseName.TheVariants.{Bare}
 use Rattle.cat_parse_expr.proofs.Braces.{structure_read}
-use Rattle.cat_parse_expr.proofs.Held.{Held, held_of, held_row, held_fits}
-use Rattle.cat_parse_expr.proofs.Held.{Nothing as Without, Content as With}
-use Rattle.cat_parse_expr.proofs.Cased.{Cased, Plain, Dotted, Holds, DottedHolds, Builds, Selects, first_in}
-use Rattle.cat_parse_expr.proofs.Cased.{cased_of, cased_rest, cased_flat, cased_fits}
-use Rattle.cat_parse_expr.proofs.Cased.{cased_row, to_parts, from_parts, cased_form}
-use Rattle.cat_parse_expr.proofs.Casing as casing
-use Rattle.cat_parse_expr.proofs.Casing.{brace_own, no_dot, no_comma, IsDotted, IsUndotted, IsBuilt, IsBare}
+use Rattle.cat_parse_expr.proofs.Held.{Held, held_of, held_row, held_fits, Nothing as Without, Content as With}
+use Rattle.cat_parse_expr.proofs.Cased.{Cased, Plain, Dotted, Holds, DottedHolds, Builds, Selects, first_in, cased_of}
+use Rattle.cat_parse_expr.proofs.Cased.{cased_rest, cased_flat, cased_fits, cased_row, to_parts, from_parts, cased_form}
+use Rattle.cat_parse_expr.proofs.Casing.{brace_own, no_dot, no_comma, IsUndotted, IsBuilt, IsBare}
 use Rattle.cat_parse_expr.proofs.Truth.{clash}
+use Rattle.cat_parse_expr.proofs.Casing as casing
 
 module _ (ex : Lower) (room : ℕ) (right : AreRight room ex)
     (kept : (b : Behind) (j bound : ℕ) → j ≤ 9 → KeepsWhole (IsLow room) bound IsMeasured (operand_row j) (ex b j))
@@ -75,7 +57,7 @@ module _ (ex : Lower) (room : ℕ) (right : AreRight room ex)
   abbrev Undotted : Name → Cased → Type 0
   Undotted u y = At_first u y × IsUndotted y
 
-  struct_read : {K : Type 0} (u : Name) → ReadAs K (Struct u) cased_rest (forms.structure ex room u)
+  struct_read : {K : Type 0} (u : Name) → ReadAs K (Struct u) cased_rest (cased.structure ex room u)
   struct_read u =
       recast_read _ _ _ _ (λ c. Builds u c.0 c.1) (λ c. refl) (λ z. z) (λ z c. c) (λ z. cast.to) (λ z c. cast)
       (structure_read ex room right b k u)
@@ -102,7 +84,7 @@ module _ (ex : Lower) (room : ℕ) (right : AreRight room ex)
           )
           from _ w i = absurd i.fit.1
 
-  bare_read : {K : Type 0} (u : Name) → ReadAs K (BareOnes u) cased_rest (forms.case_content ex room b k (Bare u))
+  bare_read : {K : Type 0} (u : Name) → ReadAs K (BareOnes u) cased_rest (cased.case_content ex room b k (Bare u))
   bare_read u = casing.held_as ex room right kept b k le (Bare u) (BareOnes u) cased_rest (bare u) same rows to from
     where
       same : (h : Held) → cased_of (bare u h) ≡ held_of (Bare u) h
@@ -160,8 +142,8 @@ module _ (ex : Lower) (room : ℕ) (right : AreRight room ex)
   bare_spent u _ w v f s h = absurd f.1
 
   undotted_read : {K : Type 0} (u : Name) → ReadAs K (Undotted u) cased_rest
-      (by_word (is_sign symbol.LeftBrace) (behind_whole (forms.structure ex room u))
-      (forms.case_content ex room b k (Bare u)))
+      (by_word (is_sign symbol.LeftBrace) (behind_whole (cased.structure ex room u))
+      (cased.case_content ex room b k (Bare u)))
   undotted_read u =
       choice_read (is_sign symbol.LeftBrace) (Struct u) (BareOnes u)
       (record {
@@ -214,9 +196,9 @@ module _ (ex : Lower) (room : ℕ) (right : AreRight room ex)
   undotted_spent u _ w v f s h = absurd f.1
 
   behind_read : {K : Type 0} (u : Name) → ReadAs K (At_first u) cased_rest
-      (by_word (is_sign symbol.Dot) (behind_whole (forms.dotted ex room b k u))
-      (by_word (is_sign symbol.LeftBrace) (behind_whole (forms.structure ex room u))
-      (forms.case_content ex room b k (Bare u))))
+      (by_word (is_sign symbol.Dot) (behind_whole (cased.dotted ex room b k u))
+      (by_word (is_sign symbol.LeftBrace) (behind_whole (cased.structure ex room u))
+      (cased.case_content ex room b k (Bare u))))
   behind_read u =
       choice_read (is_sign symbol.Dot) (InDot u) (Undotted u)
       (record {
@@ -246,9 +228,9 @@ module _ (ex : Lower) (room : ℕ) (right : AreRight room ex)
 
   pub case_read : {K : Type 0}
       → IsRead (λ y. y) K (Unit {0}) (Unit {0}) (IsLow (suc room)) (Next b k) (looks_of b) (OfClass k opening.Case)
-      (operand_row k) (forms.case ex room b k)
+      (operand_row k) (cased.case ex room b k)
   case_read =
-      form_read k (suc room) (Next b k) opening.Case (cased_fits k) cased_row cased_of (forms.case ex room b k)
+      form_read k (suc room) (Next b k) opening.Case (cased_fits k) cased_row cased_of (cased.case ex room b k)
       (cased_form k le)
       (recast_read _ _ _ _ (λ y. y) (λ y. refl) (λ f. f) (λ f c. c) (λ f. parts_cast.to) (λ f c. parts_cast)
       (upper_read first_in cased_rest _ (λ u. behind_read u)))

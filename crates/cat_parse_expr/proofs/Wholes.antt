@@ -1,12 +1,7 @@
--- What stood whole where reading broke off changes nothing of what is read, and a word that wants room is read or too high.
-use Rattle.std.proofs.Common.{◌≡◌, ℕ, Bool, true, false, List, ◌++◌, Option, None, refl, sym}
-use Rattle.std.proofs.Common.{subst}
-use Rattle.cat_lex.specs.declared.token.Token.{Token}
-use Rattle.cat_lex.specs.declared.token.TokenKind.{TokenKind}
-use Rattle.cat_tree.specs.Phrase.{Parts}
-use Rattle.cat_parse_expr.specs.Reader.{Parsed, Reader, Fails, Reads, left_of, hidden_in, hidden, fallen}
-use Rattle.cat_parse_expr.specs.Reader.{behind_whole, latest}
-use Rattle.cat_parse_expr.specs.Right.{Taken, Says, Alike, IsRight}
+-- What stood whole changes nothing of what is read, and a word that wants room is read or too high.
+use Rattle.std.proofs.Common.{◌≡◌, ℕ, Bool, true, false, List, ◌++◌, Option, None, refl, sym, subst}
+use Rattle.cat_parse_expr.proofs.Common.{Token, TokenKind, Parts, Parsed, Reader, Fails, Reads, left_of, hidden_in}
+use Rattle.cat_parse_expr.proofs.Common.{hidden, fallen, behind_whole, latest, Taken, Says, Alike, IsRight}
 
 -- a parse that differs at most in what stood whole
 abbrev pub SameBut : {A : Type 0} → Parsed A → Parsed A → Type 0

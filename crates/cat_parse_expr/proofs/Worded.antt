@@ -1,18 +1,12 @@
 -- Readers that begin with a word.
-use Rattle.std.proofs.Common.{◌≡◌, ℕ, zero, suc, ◌≤◌, Bool, false, List, [], ◌∷◌, ◌++◌, Option, Some, None, refl}
-use Rattle.std.proofs.Common.{sym, ap, subst, ◌∙◌, arith}
-use Rattle.cat_pos.specs.declared.pos.Pos.{Pos}
-use Rattle.cat_lex.specs.declared.token.Token.{Token}
-use Rattle.cat_lex.specs.declared.token.TokenKind.{TokenKind}
+use Rattle.std.proofs.Common.{◌≡◌, ℕ, zero, suc, ◌≤◌, Bool, false, List, [], ◌∷◌, ◌++◌, Option, Some, None, refl, sym}
+use Rattle.std.proofs.Common.{ap, subst, ◌∙◌, arith}
 use Rattle.cat_lex.specs.declared.token.TokenKind.TheVariants as kind
-use Rattle.cat_tree.specs.declared.name.Name.{Name}
-use Rattle.cat_tree.specs.Phrase.{Parts, Word, Terminal, At, Anywhere}
-use Rattle.cat_parse_expr.specs.declared.cue.Cue.{Cue}
-use Rattle.cat_parse_expr.specs.Reader.{Parsed, Reader, Fails, Reads, left_of, after, ◌⨟◌, made_of, one, too_high}
-use Rattle.cat_parse_expr.specs.Reader.{with_room}
-use Rattle.cat_parse_expr.specs.Right.{Agree, Begun, Is, Taken, Says, Alike, IsRight}
-use Rattle.cat_parse_expr.specs.Longest.{ReadsAsFar, Stood, KeepsWhole}
-use Rattle.cat_parse_expr.specs.Cues.{kind_of, word_of, lower_of, upper_of, «word», lower, upper}
+use Rattle.cat_parse_expr.specs.Cues.{lower, upper}
+use Rattle.cat_parse_expr.proofs.Common.{Pos, Token, TokenKind, Name, Parts, Word, Terminal, At, Anywhere, Cue, Parsed}
+use Rattle.cat_parse_expr.proofs.Common.{Reader, Fails, Reads, left_of, after, ◌⨟◌, made_of, one, too_high, with_room}
+use Rattle.cat_parse_expr.proofs.Common.{Agree, Begun, Is, Taken, Says, Alike, IsRight, ReadsAsFar, Stood, KeepsWhole}
+use Rattle.cat_parse_expr.proofs.Common.{kind_of, word_of, lower_of, upper_of, «word»}
 use Rattle.cat_parse_expr.proofs.Joining.{no_front}
 use Rattle.cat_parse_expr.proofs.Token.{Terminals, heads_same}
 use Rattle.cat_parse_expr.proofs.Leaves.{word_marks, word_at_marks, lower_marks, upper_marks}

@@ -6,7 +6,13 @@ pub mod Types
 pub mod Openings
 pub mod Measures
 pub mod Parts
+pub mod Arms
+pub mod Literals
+pub mod Cases
+pub mod Brackets
+pub mod Prefixes
 pub mod Forms
+pub mod Steps
 pub mod Climbing
 pub mod Followers
 pub mod Rightly

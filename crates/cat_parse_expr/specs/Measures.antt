@@ -1,11 +1,11 @@
--- Expressions with what counts of them: how high they are, how they stand as left operands, whether they end in a match.
+-- Expressions with what counts of them: their height, how they stand as left operands, whether they end in a match.
 use Rattle.std.specs.Prelude.{ℕ, suc, max, nat_eq, cond, Bool, false, [], ◌∷◌, ◌++◌}
 use Rattle.cat_tree.specs.declared.name.Name.{Name}
 use Rattle.cat_tree.specs.declared.expression.Pattern.{Pattern}
 use Rattle.cat_tree.specs.declared.expression.Node.{Node}
 use Rattle.cat_parse_expr.specs.declared.measured.Measured.{Measured}
-use Rattle.cat_parse_expr.specs.declared.measured.Elements.{Elements}
-use Rattle.cat_parse_expr.specs.declared.measured.Fields.{Fields}
+use Rattle.cat_parse_expr.specs.declared.measured.MeasuredNodes.{MeasuredNodes}
+use Rattle.cat_parse_expr.specs.declared.measured.MeasuredFields.{MeasuredFields}
 use Rattle.cat_parse_expr.specs.declared.measured.MatchArms.{MatchArms}
 
 -- an expression without parts
@@ -26,11 +26,11 @@ abbrev pub form : (tallest : ℕ) → Bool → Node → Measured
 form tallest in_match n = record { node = n; height = suc tallest; strength = 0; in_match = in_match }
 
 -- one element more
-abbrev pub with_element : Elements → Measured → Elements
+abbrev pub with_element : MeasuredNodes → Measured → MeasuredNodes
 with_element l e = record { nodes = l.nodes ++ e.node ∷ []; tallest = max l.tallest e.height }
 
 -- one field more
-abbrev pub with_field : Fields → Name → Measured → Fields
+abbrev pub with_field : MeasuredFields → Name → Measured → MeasuredFields
 with_field l w e =
     record { values = l.values ++ record { name = w; value = e.node } ∷ []; tallest = max l.tallest e.height }
 
@@ -42,12 +42,14 @@ with_arm l p e = record {
   in_match = e.in_match;
 }
 
--- none yet
-abbrev pub no_elements : Elements
+-- no element yet
+abbrev pub no_elements : MeasuredNodes
 no_elements = record { nodes = []; tallest = 0 }
 
-abbrev pub no_fields : Fields
+-- no field yet
+abbrev pub no_fields : MeasuredFields
 no_fields = record { values = []; tallest = 0 }
 
+-- no arm yet
 abbrev pub no_arms : MatchArms
 no_arms = record { arms = []; tallest = 0; in_match = false }

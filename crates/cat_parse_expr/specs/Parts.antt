@@ -1,29 +1,22 @@
--- The readers of the parts of forms: elements, arguments, fields and arms.
-use Rattle.std.specs.Prelude.{ℕ, Bool, true, false, not, ◌&&◌, List, length, Some, None}
+-- The readers of the parts of forms: elements, fields and arguments.
+use Rattle.std.specs.Prelude.{ℕ, Bool, true, false, List, length}
 use Rattle.cat_lex.specs.declared.token.Token.{Token}
 use Rattle.cat_lex.specs.declared.token.TokenKind.{TokenKind}
 use Rattle.cat_lex.specs.declared.token.TokenKind.TheVariants as kind
 use Rattle.cat_lex.specs.declared.words.Keyword.{Keyword}
-use Rattle.cat_lex.specs.declared.words.Keyword.TheVariants as key
 use Rattle.cat_lex.specs.declared.words.DoubleKeyword.{DoubleKeyword}
 use Rattle.cat_lex.specs.declared.symbol.Symbol.{Symbol}
 use Rattle.cat_lex.specs.declared.symbol.Symbol.TheVariants as symbol
 use Rattle.cat_pos.specs.declared.pos.Pos.{Pos}
-use Rattle.cat_tree.specs.declared.name.CaseName.{CaseName}
-use Rattle.cat_tree.specs.declared.name.CaseName.TheVariants.{Bare, Qualified}
-use Rattle.cat_tree.specs.declared.name.Name.{Name}
-use Rattle.cat_tree.specs.declared.expression.Pattern.{Pattern}
-use Rattle.cat_tree.specs.declared.expression.Pattern.TheVariants as pattern
 use Rattle.cat_parse_expr.specs.declared.cue.Cue.TheVariants as cue
 use Rattle.cat_parse_expr.specs.declared.behind.Behind.{Behind}
-use Rattle.cat_parse_expr.specs.declared.behind.Behind.TheVariants.{Other, Field, Pattern as Tested}
+use Rattle.cat_parse_expr.specs.declared.behind.Behind.TheVariants.{Other, Field}
 use Rattle.cat_parse_expr.specs.declared.measured.Measured.{Measured}
-use Rattle.cat_parse_expr.specs.declared.measured.Elements.{Elements}
-use Rattle.cat_parse_expr.specs.declared.measured.Fields.{Fields}
-use Rattle.cat_parse_expr.specs.declared.measured.MatchArms.{MatchArms}
-use Rattle.cat_parse_expr.specs.Measures.{with_element, with_field, with_arm, no_elements, no_arms}
-use Rattle.cat_parse_expr.specs.Reader.{Reader, ◌⨟◌, pure, by_word, turns, heads, heads_second, hidden, behind_whole}
-use Rattle.cat_parse_expr.specs.Cues.{cue_is, «word», lower, upper}
+use Rattle.cat_parse_expr.specs.declared.measured.MeasuredNodes.{MeasuredNodes}
+use Rattle.cat_parse_expr.specs.declared.measured.MeasuredFields.{MeasuredFields}
+use Rattle.cat_parse_expr.specs.Measures.{with_element, with_field, no_elements}
+use Rattle.cat_parse_expr.specs.Reader.{Reader, ◌⨟◌, pure, by_word, turns, heads, hidden, behind_whole}
+use Rattle.cat_parse_expr.specs.Cues.{cue_is, «word», lower}
 
 -- a reader of parts, by what may follow one and by its level
 abbrev pub Lower : Type 0
@@ -31,13 +24,15 @@ Lower = Behind → ℕ → Reader Measured
 
 -- ---- words
 
--- a keyword, two words, a symbol
+-- a keyword
 abbrev pub key_word : Keyword → Reader Pos
 key_word k = «word» (cue.Word k)
 
+-- two words
 abbrev pub pair_word : DoubleKeyword → Reader Pos
 pair_word d = «word» (cue.Pair d)
 
+-- a symbol
 abbrev pub sign : Symbol → Reader Pos
 sign s = «word» (cue.Sign s)
 
@@ -61,15 +56,15 @@ abbrev pub inner : Lower → Reader Measured
 inner ex = hidden (ex Other 0)
 
 -- ; E
-abbrev pub next_element : Lower → Elements → Reader Elements
+abbrev pub next_element : Lower → MeasuredNodes → Reader MeasuredNodes
 next_element ex l = sign symbol.Semicolon ⨟ λ p. inner ex ⨟ λ e. pure (with_element l e)
 
 -- whether an element follows
-abbrev pub has_element : Elements → List Token → Bool
+abbrev pub has_element : MeasuredNodes → List Token → Bool
 has_element l ts = heads (is_sign symbol.Semicolon) ts
 
 -- [E [; E]*]
-abbrev pub elements : Lower → Reader Elements
+abbrev pub elements : Lower → Reader MeasuredNodes
 elements ex =
     by_word (is_sign symbol.RightBracket) (pure no_elements)
     (inner ex ⨟ λ e. as_many has_element (next_element ex) (with_element no_elements e))
@@ -79,81 +74,32 @@ abbrev pub field_value : Lower → Reader Measured
 field_value ex = hidden (ex Field 0)
 
 -- -- w : E
-abbrev pub next_field : Lower → Fields → Reader Fields
+abbrev pub next_field : Lower → MeasuredFields → Reader MeasuredFields
 next_field ex l =
     sign symbol.MinusMinus ⨟ λ p. lower ⨟ λ w. sign symbol.Colon ⨟ λ q. field_value ex ⨟ λ e. pure (with_field l w e)
 
 -- whether a field follows
-abbrev pub has_field : Fields → List Token → Bool
+abbrev pub has_field : MeasuredFields → List Token → Bool
 has_field l ts = heads (is_sign symbol.MinusMinus) ts
 
 -- [-- w : E]*
-abbrev pub fields : Lower → Fields → Reader Fields
+abbrev pub fields : Lower → MeasuredFields → Reader MeasuredFields
 fields ex = as_many has_field (next_field ex)
 
 -- ---- parts that end a form
 
 -- , E
-abbrev pub behind_comma : Lower → Elements → Reader Elements
+abbrev pub behind_comma : Lower → MeasuredNodes → Reader MeasuredNodes
 behind_comma ex l = sign symbol.Comma ⨟ λ p. ex Other 9 ⨟ λ e. pure (with_element l e)
 
 -- the same behind a call that is whole
-abbrev pub next_argument : Lower → Elements → Reader Elements
+abbrev pub next_argument : Lower → MeasuredNodes → Reader MeasuredNodes
 next_argument ex l = behind_whole (behind_comma ex l)
 
 -- whether an argument follows
-abbrev pub has_argument : Elements → List Token → Bool
+abbrev pub has_argument : MeasuredNodes → List Token → Bool
 has_argument l ts = heads (is_sign symbol.Comma) ts
 
 -- E [, E]*
-abbrev pub arguments : Lower → Reader Elements
+abbrev pub arguments : Lower → Reader MeasuredNodes
 arguments ex = ex Other 9 ⨟ λ e. as_many has_argument (next_argument ex) (with_element no_elements e)
-
--- [. U]
-abbrev pub case_from : Name → Reader CaseName
-case_from u =
-    by_word (is_sign symbol.Dot) (sign symbol.Dot ⨟ λ p. upper ⨟ λ c. pure (Qualified u c)) (pure (Bare u))
-
--- C [of w]
-abbrev pub case_pattern : Reader Pattern
-case_pattern =
-    upper ⨟ λ u. case_from u ⨟ λ c. by_word (cue_is (cue.Word key.Of))
-    (key_word key.Of ⨟ λ p. lower ⨟ λ w. pure (pattern.Case c (Some w))) (pure (pattern.Case c None))
-
--- anything | C [of w]
-abbrev pub a_pattern : Reader Pattern
-a_pattern =
-    by_word (cue_is (cue.Word key.Anything)) (key_word key.Anything ⨟ λ p. pure pattern.Anything) case_pattern
-
--- -- P :
-abbrev pub arm_head : Reader Pattern
-arm_head = sign symbol.MinusMinus ⨟ λ p. a_pattern ⨟ λ a. sign symbol.Colon ⨟ λ q. pure a
-
--- -- P : E
-abbrev pub next_arm : Lower → Behind → MatchArms → Reader MatchArms
-next_arm ex b l = arm_head ⨟ λ a. ex b 0 ⨟ λ e. pure (with_arm l a e)
-
--- the same behind a match that is whole
-abbrev pub further_arm : Lower → Behind → MatchArms → Reader MatchArms
-further_arm ex b l = behind_whole (next_arm ex b l)
-
--- what follows is a field of an outer form, and no arm
-abbrev pub ends_arms : Behind → List Token → Bool
-ends_arms Field ts = heads_second is_lower ts
-ends_arms _ ts = false
-
--- Whether an arm follows. One that ends in a match leaves none over.
-abbrev pub has_arm_behind : Behind → (in_match : Bool) → List Token → Bool
-has_arm_behind b in_match ts = not in_match && (heads (is_sign symbol.MinusMinus) ts && not (ends_arms b ts))
-
--- whether one follows these
-abbrev pub has_arm : Behind → MatchArms → List Token → Bool
-has_arm b l ts = has_arm_behind b l.in_match ts
-
--- [-- P : E]*, one at least
-abbrev pub arms : Lower → Behind → Reader MatchArms
-arms ex b = next_arm ex b no_arms ⨟ as_many (has_arm b) (further_arm ex b)
-
--- what is matched
-abbrev pub matched_value : Lower → Reader Measured
-matched_value ex = hidden (ex Tested 0)

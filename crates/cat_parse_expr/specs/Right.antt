@@ -73,8 +73,8 @@ pub record Alike {B : Type 0} (out : B → List Token → Type 0) (looks : Token
 
 -- A reader is right for rows of low values: something has one; what was taken is what it was taken for; and another
 -- value whose row begins with the tokens that it saw is no other.
-pub record IsRight {B : Type 0} (low : B → Type 0) (bound : ℕ) (out : B → List Token → Type 0) (looks : TokenKind → Bool)
-    (fits : B → Type 0) (row : B → Parts) (r : Reader B) : Type 0 where
+pub record IsRight {B : Type 0} (low : B → Type 0) (bound : ℕ) (out : B → List Token → Type 0)
+    (looks : TokenKind → Bool) (fits : B → Type 0) (row : B → Parts) (r : Reader B) : Type 0 where
   pub alive : Begun fits row []
   pub taken : (ts : List Token) → length ts ≤ bound → Taken low fits row (r ts) ts
   pub says : (ts front : List Token) (y : B) (spelling : List Token) → length ts ≤ bound → ts ≡ front ++ left_of (r ts)

@@ -1,7 +1,7 @@
 // Parentheses, lists and calls of scopes.
 ghost use Rattle.std.specs.Prelude.{◌≡◌, ◌≤◌, ◌+◌, length, drop, IfOk};
 ghost use Rattle.cat_parse_expr.specs.Climbing.{operand as operand_to};
-ghost use Rattle.cat_parse_expr.specs.Forms as forms;
+ghost use Rattle.cat_parse_expr.specs.Brackets as brackets;
 ghost use Rattle.cat_parse_expr.specs.Places.{Gives};
 
 use crate::behind::Behind;
@@ -18,7 +18,7 @@ use std::alloc::Global;
 #[cycle(climbing)]
 pub(crate) fn parens(alloc: Global, tokens: &[Token], at: usize, below: u16) -> Read<Measured>
     requires { at ≤ length tokens.now }
-    ensures gives { Gives (forms.parens (operand_to below) below) tokens.now at result }
+    ensures gives { Gives (brackets.parens (operand_to below) below) tokens.now at result }
     ensures low { IfOk result (λ read. read.0.height ≤ below + 1) }
 {
     let (pos, at) = word_with_room(tokens, at, Cue::Sign(Symbol::LeftParen), below)?;
@@ -31,7 +31,7 @@ pub(crate) fn parens(alloc: Global, tokens: &[Token], at: usize, below: u16) -> 
 #[cycle(climbing)]
 pub(crate) fn list(alloc: Global, tokens: &[Token], at: usize, below: u16) -> Read<Measured>
     requires { at ≤ length tokens.now }
-    ensures gives { Gives (forms.list (operand_to below) below) tokens.now at result }
+    ensures gives { Gives (brackets.list (operand_to below) below) tokens.now at result }
     ensures low { IfOk result (λ read. read.0.height ≤ below + 1) }
 {
     let (pos, at) = word(tokens, at, Cue::Sign(Symbol::LeftBracket))?;
@@ -44,7 +44,7 @@ pub(crate) fn list(alloc: Global, tokens: &[Token], at: usize, below: u16) -> Re
 /// The scope that is called, and the brace before its input.
 fn callee(alloc: Global, tokens: &[Token], at: usize) -> Read<(Pos, Name)>
     requires { at ≤ length tokens.now }
-    ensures { Gives forms.callee tokens.now at result }
+    ensures { Gives brackets.callee tokens.now at result }
 {
     let (pos, at) = word(tokens, at, Cue::Pair(DoubleKeyword::OutputOf))?;
     let (scope, at) = upper(alloc, tokens, at)?;
@@ -56,7 +56,7 @@ fn callee(alloc: Global, tokens: &[Token], at: usize) -> Read<(Pos, Name)>
 /// The brace behind the input, and the output that is taken.
 fn output(alloc: Global, tokens: &[Token], at: usize) -> Read<Name>
     requires { at ≤ length tokens.now }
-    ensures { Gives forms.output tokens.now at result }
+    ensures { Gives brackets.output tokens.now at result }
 {
     let (_, at) = word(tokens, at, Cue::Sign(Symbol::RightBrace))?;
     let (_, at) = word(tokens, at, Cue::Sign(Symbol::Dot))?;
@@ -66,7 +66,7 @@ fn output(alloc: Global, tokens: &[Token], at: usize) -> Read<Name>
 #[cycle(climbing)]
 pub(crate) fn scope_call(alloc: Global, tokens: &[Token], at: usize, below: u16) -> Read<Measured>
     requires { at ≤ length tokens.now }
-    ensures gives { Gives (forms.scope_call (operand_to below) below) tokens.now at result }
+    ensures gives { Gives (brackets.scope_call (operand_to below) below) tokens.now at result }
     ensures low { IfOk result (λ read. read.0.height ≤ below + 1) }
 {
     let ((pos, scope), at) = callee(alloc, tokens, at)?;

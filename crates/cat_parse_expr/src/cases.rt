@@ -1,8 +1,8 @@
 // Names, calls, cases and structures.
 ghost use Rattle.std.specs.Prelude.{◌≡◌, ◌≤◌, ◌+◌, length, drop, IfOk};
 ghost use Rattle.cat_parse_expr.specs.Climbing.{operand as operand_to};
-ghost use Rattle.cat_parse_expr.specs.Forms as forms;
-ghost use Rattle.cat_parse_expr.specs.Parts as parts;
+ghost use Rattle.cat_parse_expr.specs.Cases as cased;
+ghost use Rattle.cat_parse_expr.specs.Arms as arms;
 ghost use Rattle.cat_parse_expr.specs.Places.{Gives};
 
 use crate::climbing::operand;
@@ -20,7 +20,7 @@ use std::alloc::Global;
 /// The case of an enumeration whose word was read, or that word alone.
 pub(crate) fn case_from(alloc: Global, tokens: &[Token], at: usize, first: Name) -> Read<CaseName>
     requires { at ≤ length tokens.now }
-    ensures { Gives (parts.case_from first) tokens.now at result }
+    ensures { Gives (arms.case_from first) tokens.now at result }
 {
     if !is_next(tokens, at, Cue::Sign(Symbol::Dot)) {
         return Ok((CaseName::Bare(first), at));
@@ -35,7 +35,7 @@ pub(crate) fn case_from(alloc: Global, tokens: &[Token], at: usize, first: Name)
 #[cycle(climbing)]
 fn called(alloc: Global, tokens: &[Token], at: usize, below: u16, function: Name) -> Read<Measured>
     requires { at ≤ length tokens.now }
-    ensures gives { Gives (forms.called (operand_to below) below function) tokens.now at result }
+    ensures gives { Gives (cased.called (operand_to below) below function) tokens.now at result }
     ensures low { IfOk result (λ read. read.0.height ≤ below + 1) }
 {
     let (_, at) = word(tokens, at, Cue::Word(Keyword::Of))?;
@@ -49,7 +49,7 @@ fn called(alloc: Global, tokens: &[Token], at: usize, below: u16, function: Name
 #[cycle(climbing)]
 pub(crate) fn name(alloc: Global, tokens: &[Token], at: usize, limits: Limits) -> Read<Measured>
     requires { at ≤ length tokens.now }
-    ensures gives { Gives (forms.name (operand_to limits.below) limits.below limits.level) tokens.now at result }
+    ensures gives { Gives (cased.name (operand_to limits.below) limits.below limits.level) tokens.now at result }
     ensures low { IfOk result (λ read. read.0.height ≤ limits.below + 1) }
 {
     let (name, at) = lower(alloc, tokens, at)?;
@@ -70,7 +70,8 @@ fn content(
     case: CaseName,
 ) -> Read<Measured>
     requires { at ≤ length tokens.now }
-    ensures gives { Gives (forms.content (operand_to limits.below) limits.below limits.behind case) tokens.now at result }
+    ensures gives { Gives (cased.content (operand_to limits.below) limits.below limits.behind case)
+        tokens.now at result }
     ensures low { IfOk result (λ read. read.0.height ≤ limits.below + 1) }
 {
     let (_, at) = word(tokens, at, Cue::Word(Keyword::Content))?;
@@ -92,7 +93,8 @@ fn case_content(
     case: CaseName,
 ) -> Read<Measured>
     requires { at ≤ length tokens.now }
-    ensures gives { Gives (forms.case_content (operand_to limits.below) limits.below limits.behind limits.level case) tokens.now at result }
+    ensures gives { Gives (cased.case_content (operand_to limits.below) limits.below limits.behind limits.level case)
+        tokens.now at result }
     ensures low { IfOk result (λ read. read.0.height ≤ limits.below + 1) }
 {
     if limits.level <= 8 {
@@ -106,7 +108,7 @@ fn case_content(
 #[cycle(climbing)]
 fn structure(alloc: Global, tokens: &[Token], at: usize, below: u16, owner: Name) -> Read<Measured>
     requires { at ≤ length tokens.now }
-    ensures gives { Gives (forms.structure (operand_to below) below owner) tokens.now at result }
+    ensures gives { Gives (cased.structure (operand_to below) below owner) tokens.now at result }
     ensures low { IfOk result (λ read. read.0.height ≤ below + 1) }
 {
     let (_, at) = word(tokens, at, Cue::Sign(Symbol::LeftBrace))?;
@@ -121,7 +123,7 @@ fn structure(alloc: Global, tokens: &[Token], at: usize, below: u16, owner: Name
 /// The field of a case, where there is room for it.
 fn case_field(alloc: Global, tokens: &[Token], at: usize, below: u16, owner: Name) -> Read<Measured>
     requires { at ≤ length tokens.now }
-    ensures gives { Gives (forms.case_field (operand_to below) below owner) tokens.now at result }
+    ensures gives { Gives (cased.case_field (operand_to below) below owner) tokens.now at result }
     ensures low { IfOk result (λ read. read.0.height ≤ below + 1) }
 {
     let (field, at) = lower_with_room(alloc, tokens, at, below)?;
@@ -132,7 +134,8 @@ fn case_field(alloc: Global, tokens: &[Token], at: usize, below: u16, owner: Nam
 #[cycle(climbing)]
 fn dotted(alloc: Global, tokens: &[Token], at: usize, limits: Limits, owner: Name) -> Read<Measured>
     requires { at ≤ length tokens.now }
-    ensures gives { Gives (forms.dotted (operand_to limits.below) limits.below limits.behind limits.level owner) tokens.now at result }
+    ensures gives { Gives (cased.dotted (operand_to limits.below) limits.below limits.behind limits.level owner)
+        tokens.now at result }
     ensures low { IfOk result (λ read. read.0.height ≤ limits.below + 1) }
 {
     let (_, at) = word(tokens, at, Cue::Sign(Symbol::Dot))?;
@@ -150,7 +153,8 @@ fn dotted(alloc: Global, tokens: &[Token], at: usize, limits: Limits, owner: Nam
 #[cycle(climbing)]
 pub(crate) fn case(alloc: Global, tokens: &[Token], at: usize, limits: Limits) -> Read<Measured>
     requires { at ≤ length tokens.now }
-    ensures gives { Gives (forms.case (operand_to limits.below) limits.below limits.behind limits.level) tokens.now at result }
+    ensures gives { Gives (cased.case (operand_to limits.below) limits.below limits.behind limits.level)
+        tokens.now at result }
     ensures low { IfOk result (λ read. read.0.height ≤ limits.below + 1) }
 {
     let (name, at) = upper(alloc, tokens, at)?;

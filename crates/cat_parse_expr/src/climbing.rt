@@ -1,6 +1,7 @@
 // Operands, and the operators behind them.
 ghost use Rattle.std.specs.Prelude.{◌≡◌, ◌≤◌, ◌+◌, length, drop, IfOk};
 ghost use Rattle.cat_parse_expr.specs.Climbing as spec;
+ghost use Rattle.cat_parse_expr.specs.Steps as steps;
 ghost use Rattle.cat_parse_expr.specs.Parts.{as_many};
 ghost use Rattle.cat_parse_expr.specs.Places.{Gives};
 
@@ -22,7 +23,7 @@ use std::alloc::Global;
 /// Nothing is read for the height, where an expression would begin.
 pub(crate) fn nothing_at(tokens: &[Token], at: usize, level: u32) -> Read<Measured>
     requires { at ≤ length tokens.now }
-    ensures { Gives (spec.nothing_at level) tokens.now at result }
+    ensures { Gives (steps.nothing_at level) tokens.now at result }
 {
     if stands(level, opening_at(tokens, at)) {
         return Err(too_high(at));
@@ -34,8 +35,8 @@ pub(crate) fn nothing_at(tokens: &[Token], at: usize, level: u32) -> Read<Measur
 #[cycle(climbing)]
 fn primary(alloc: Global, tokens: &[Token], at: usize, limits: Limits) -> Read<Measured>
     requires { at ≤ length tokens.now }
-    ensures gives { Gives (spec.primary (spec.operand limits.below) limits.below limits.behind limits.level) tokens.now at
-        result }
+    ensures gives { Gives (spec.primary (spec.operand limits.below) limits.below limits.behind limits.level)
+        tokens.now at result }
     ensures low { IfOk result (λ read. read.0.height ≤ limits.below + 1) }
 {
     let opening = opening_at(tokens, at);
@@ -70,8 +71,8 @@ fn climb(
 ) -> Read<Measured>
     requires place { at ≤ length tokens.now }
     requires first { first.height ≤ limits.below + 1 }
-    ensures gives { Gives (as_many (spec.goes_on limits.behind limits.level)
-        (spec.step (spec.operand limits.below) limits.below limits.behind) first) tokens.now at result }
+    ensures gives { Gives (as_many (steps.goes_on limits.behind limits.level)
+        (steps.step (spec.operand limits.below) limits.below limits.behind) first) tokens.now at result }
     ensures low { IfOk result (λ read. read.0.height ≤ limits.below + 1) }
 {
     let mut left = first;

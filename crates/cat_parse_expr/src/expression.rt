@@ -42,7 +42,8 @@ fn whole(
     requires whole { broken.whole ≡ Some end }
     ensures found { IfOk result (λ e. IsFront tokens.now at end e) }
     ensures read { IfOk result (λ e. (left : List Token) → front_found (climbing.operand most_height Other 0
-        (before (drop end tokens.now) (drop at tokens.now))) (drop end tokens.now) left ≡ Found e (drop end tokens.now) left) }
+        (before (drop end tokens.now) (drop at tokens.now))) (drop end tokens.now) left
+        ≡ Found e (drop end tokens.now) left) }
     ensures memory { IfErr result (λ refusal. refusal ≡ ParseRefusal.Memory) }
 {
     match front(alloc, tokens, at, end) {

@@ -78,7 +78,8 @@ pub(crate) fn over_each(
     each: Each,
 ) -> Read<Measured>
     requires { at ≤ length tokens.now }
-    ensures gives { Gives (forms.over_each (operand_to limits.below) limits.below limits.behind each) tokens.now at result }
+    ensures gives { Gives (forms.over_each (operand_to limits.below) limits.below limits.behind each)
+        tokens.now at result }
     ensures low { IfOk result (λ read. read.0.height ≤ limits.below + 1) }
 {
     let (pos, at) = word(tokens, at, each_cue(each))?;

@@ -30,7 +30,7 @@ pub use expression::{expr, expr_reach, tokens_spell_one_expression};
 pub use follow::Follow;
 pub use kinds::a_type;
 pub use limits::Limits;
-pub use measured::{Elements, Fields, MatchArms, Measured};
+pub use measured::{MatchArms, Measured, MeasuredFields, MeasuredNodes};
 pub use miss::{Break, Miss, Read};
 pub use opening::Opening;
 pub use refusal::ParseRefusal;

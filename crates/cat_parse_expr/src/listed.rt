@@ -10,7 +10,7 @@ ghost use Rattle.cat_parse_expr.specs.Reader.{hidden};
 use crate::behind::Behind;
 use crate::climbing::operand;
 use crate::cue::Cue;
-use crate::measured::{Elements, Fields, Measured};
+use crate::measured::{Measured, MeasuredFields, MeasuredNodes};
 use crate::miss::{Read, behind_whole, hidden};
 use crate::words::{is_next, lower, word};
 use cat_lex::{Symbol, Token};
@@ -35,19 +35,19 @@ pub(crate) fn inner(
 }
 
 /// The elements with one more.
-fn with_element(elements: Elements, element: Measured) -> Result<Elements, AllocError>
+fn with_element(elements: MeasuredNodes, element: Measured) -> Result<MeasuredNodes, AllocError>
     ensures { IfOk result (λ more. more ≡ measures.with_element elements element) }
 {
-    let Elements { mut nodes, tallest } = elements;
+    let MeasuredNodes { mut nodes, tallest } = elements;
     let tallest = tallest.max(element.height);
     nodes.push(element.node.into_inner())?;
-    Ok(Elements { nodes, tallest })
+    Ok(MeasuredNodes { nodes, tallest })
 }
 
-fn no_elements(alloc: Global) -> Elements
+fn no_elements(alloc: Global) -> MeasuredNodes
     ensures { result ≡ measures.no_elements }
 {
-    Elements {
+    MeasuredNodes {
         nodes: List::new(alloc),
         tallest: 0,
     }
@@ -59,8 +59,8 @@ fn next_element(
     tokens: &[Token],
     at: usize,
     below: u16,
-    before: Elements,
-) -> Read<Elements>
+    before: MeasuredNodes,
+) -> Read<MeasuredNodes>
     requires place { at ≤ length tokens.now }
     requires before { before.tallest ≤ below }
     ensures gives { Gives (parts.next_element (operand_to below) before) tokens.now at result }
@@ -78,11 +78,12 @@ fn next_elements(
     tokens: &[Token],
     at: usize,
     below: u16,
-    first: Elements,
-) -> Read<Elements>
+    first: MeasuredNodes,
+) -> Read<MeasuredNodes>
     requires place { at ≤ length tokens.now }
     requires first { first.tallest ≤ below }
-    ensures gives { Gives (as_many parts.has_element (parts.next_element (operand_to below)) first) tokens.now at result }
+    ensures gives { Gives (as_many parts.has_element (parts.next_element (operand_to below)) first)
+        tokens.now at result }
     ensures low { IfOk result (λ read. read.0.tallest ≤ below) }
 {
     let mut found = first;
@@ -97,7 +98,12 @@ fn next_elements(
 
 /// The elements of a list, of which there may be none.
 #[cycle(climbing)]
-pub(crate) fn elements(alloc: Global, tokens: &[Token], at: usize, below: u16) -> Read<Elements>
+pub(crate) fn elements(
+    alloc: Global,
+    tokens: &[Token],
+    at: usize,
+    below: u16,
+) -> Read<MeasuredNodes>
     requires { at ≤ length tokens.now }
     ensures gives { Gives (parts.elements (operand_to below)) tokens.now at result }
     ensures low { IfOk result (λ read. read.0.tallest ≤ below) }
@@ -116,8 +122,8 @@ fn behind_comma(
     tokens: &[Token],
     at: usize,
     below: u16,
-    before: Elements,
-) -> Read<Elements>
+    before: MeasuredNodes,
+) -> Read<MeasuredNodes>
     requires place { at ≤ length tokens.now }
     requires before { before.tallest ≤ below }
     ensures gives { Gives (parts.behind_comma (operand_to below) before) tokens.now at result }
@@ -135,8 +141,8 @@ fn next_argument(
     tokens: &[Token],
     at: usize,
     below: u16,
-    before: Elements,
-) -> Read<Elements>
+    before: MeasuredNodes,
+) -> Read<MeasuredNodes>
     requires place { at ≤ length tokens.now }
     requires before { before.tallest ≤ below }
     ensures gives { Gives (parts.next_argument (operand_to below) before) tokens.now at result }
@@ -152,8 +158,8 @@ fn next_arguments(
     tokens: &[Token],
     at: usize,
     below: u16,
-    first: Elements,
-) -> Read<Elements>
+    first: MeasuredNodes,
+) -> Read<MeasuredNodes>
     requires place { at ≤ length tokens.now }
     requires first { first.tallest ≤ below }
     ensures gives { Gives (as_many parts.has_argument (parts.next_argument (operand_to below)) first)
@@ -172,7 +178,12 @@ fn next_arguments(
 
 /// The arguments of a call, of which there is one at least.
 #[cycle(climbing)]
-pub(crate) fn arguments(alloc: Global, tokens: &[Token], at: usize, below: u16) -> Read<Elements>
+pub(crate) fn arguments(
+    alloc: Global,
+    tokens: &[Token],
+    at: usize,
+    below: u16,
+) -> Read<MeasuredNodes>
     requires { at ≤ length tokens.now }
     ensures gives { Gives (parts.arguments (operand_to below)) tokens.now at result }
     ensures low { IfOk result (λ read. read.0.tallest ≤ below) }
@@ -183,10 +194,14 @@ pub(crate) fn arguments(alloc: Global, tokens: &[Token], at: usize, below: u16) 
 }
 
 /// The fields with one more.
-fn with_field(fields: Fields, name: Name, value: Measured) -> Result<Fields, AllocError>
+fn with_field(
+    fields: MeasuredFields,
+    name: Name,
+    value: Measured,
+) -> Result<MeasuredFields, AllocError>
     ensures { IfOk result (λ more. more ≡ measures.with_field fields name value) }
 {
-    let Fields {
+    let MeasuredFields {
         mut values,
         tallest,
     } = fields;
@@ -195,14 +210,14 @@ fn with_field(fields: Fields, name: Name, value: Measured) -> Result<Fields, All
         name,
         value: value.node.into_inner(),
     })?;
-    Ok(Fields { values, tallest })
+    Ok(MeasuredFields { values, tallest })
 }
 
 /// No field yet.
-pub(crate) fn no_fields(alloc: Global) -> Fields
+pub(crate) fn no_fields(alloc: Global) -> MeasuredFields
     ensures { result ≡ measures.no_fields }
 {
-    Fields {
+    MeasuredFields {
         values: List::new(alloc),
         tallest: 0,
     }
@@ -215,8 +230,8 @@ pub(crate) fn next_field(
     tokens: &[Token],
     at: usize,
     below: u16,
-    before: Fields,
-) -> Read<Fields>
+    before: MeasuredFields,
+) -> Read<MeasuredFields>
     requires place { at ≤ length tokens.now }
     requires before { before.tallest ≤ below }
     ensures gives { Gives (parts.next_field (operand_to below) before) tokens.now at result }
@@ -237,8 +252,8 @@ pub(crate) fn fields(
     tokens: &[Token],
     at: usize,
     below: u16,
-    first: Fields,
-) -> Read<Fields>
+    first: MeasuredFields,
+) -> Read<MeasuredFields>
     requires place { at ≤ length tokens.now }
     requires first { first.tallest ≤ below }
     ensures gives { Gives (parts.fields (operand_to below) first) tokens.now at result }

@@ -1,6 +1,6 @@
 // Literals.
 ghost use Rattle.std.specs.Prelude.{◌≡◌, ◌≤◌, length, drop};
-ghost use Rattle.cat_parse_expr.specs.Forms as forms;
+ghost use Rattle.cat_parse_expr.specs.Literals as literals;
 ghost use Rattle.cat_parse_expr.specs.Places.{Gives};
 ghost use Rattle.cat_parse_expr.specs.Reader.{one, heads};
 
@@ -16,7 +16,7 @@ use std::alloc::Global;
 const SPAN_BOUND: i64 = 999_999_999;
 
 fn literal_of(kind: &TokenKind) -> Option<SurfaceLiteral>
-    ensures { result ≡ forms.literal_kind kind.now }
+    ensures { result ≡ literals.literal_kind kind.now }
 {
     match kind {
         TokenKind::Int(number) => Some(SurfaceLiteral::Int(*number)),
@@ -32,7 +32,7 @@ fn literal_of(kind: &TokenKind) -> Option<SurfaceLiteral>
 
 fn literal_at(tokens: &[Token], at: usize) -> Read<(SurfaceLiteral, Pos)>
     requires { at ≤ length tokens.now }
-    ensures { Gives (one forms.literal_of) tokens.now at result }
+    ensures { Gives (one literals.literal_of) tokens.now at result }
 {
     match tokens.get(at) {
         Some(token) => match literal_of(&token.kind) {
@@ -44,7 +44,7 @@ fn literal_at(tokens: &[Token], at: usize) -> Read<(SurfaceLiteral, Pos)>
 }
 
 fn unit_of(kind: &TokenKind) -> Option<Unit>
-    ensures { result ≡ forms.unit_kind kind.now }
+    ensures { result ≡ literals.unit_kind kind.now }
 {
     match kind {
         TokenKind::Word(Keyword::Year) => Some(Unit::Year),
@@ -57,7 +57,7 @@ fn unit_of(kind: &TokenKind) -> Option<Unit>
 /// The number, or the duration where a unit follows.
 fn numbered(tokens: &[Token], at: usize, number: Whole) -> Read<SurfaceLiteral>
     requires { at ≤ length tokens.now }
-    ensures { Gives (forms.spanned (SurfaceLiteral.Int number)) tokens.now at result }
+    ensures { Gives (literals.spanned (SurfaceLiteral.Int number)) tokens.now at result }
 {
     if number.get() > SPAN_BOUND {
         return Ok((SurfaceLiteral::Int(number), at));
@@ -73,7 +73,7 @@ fn numbered(tokens: &[Token], at: usize, number: Whole) -> Read<SurfaceLiteral>
 
 fn spanned(tokens: &[Token], at: usize, literal: SurfaceLiteral) -> Read<SurfaceLiteral>
     requires { at ≤ length tokens.now }
-    ensures { Gives (forms.spanned literal) tokens.now at result }
+    ensures { Gives (literals.spanned literal) tokens.now at result }
 {
     match literal {
         SurfaceLiteral::Int(number) => numbered(tokens, at, number),
@@ -84,7 +84,7 @@ fn spanned(tokens: &[Token], at: usize, literal: SurfaceLiteral) -> Read<Surface
 /// A literal, with a unit where one follows.
 pub(crate) fn a_literal(alloc: Global, tokens: &[Token], at: usize) -> Read<Measured>
     requires { at ≤ length tokens.now }
-    ensures { Gives forms.a_literal tokens.now at result }
+    ensures { Gives literals.a_literal tokens.now at result }
 {
     let ((literal, pos), at) = literal_at(tokens, at)?;
     let (literal, at) = spanned(tokens, at, literal)?;

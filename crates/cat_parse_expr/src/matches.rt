@@ -3,7 +3,7 @@ ghost use Rattle.std.specs.Prelude.{◌≡◌, ◌<◌, ◌≤◌, ◌+◌, leng
 ghost use Rattle.cat_parse_expr.specs.Climbing.{operand as operand_to};
 ghost use Rattle.cat_parse_expr.specs.Forms as forms;
 ghost use Rattle.cat_parse_expr.specs.Measures as measures;
-ghost use Rattle.cat_parse_expr.specs.Parts as parts;
+ghost use Rattle.cat_parse_expr.specs.Arms as spec;
 ghost use Rattle.cat_parse_expr.specs.Parts.{as_many};
 ghost use Rattle.cat_parse_expr.specs.Places.{Gives};
 
@@ -24,7 +24,7 @@ use std::alloc::{AllocError, Global};
 /// A case, with the name of its content where it has one.
 fn case_pattern(alloc: Global, tokens: &[Token], at: usize) -> Read<Pattern>
     requires { at ≤ length tokens.now }
-    ensures { Gives parts.case_pattern tokens.now at result }
+    ensures { Gives spec.case_pattern tokens.now at result }
 {
     let (name, at) = upper(alloc, tokens, at)?;
     let (case, at) = case_from(alloc, tokens, at, name)?;
@@ -38,7 +38,7 @@ fn case_pattern(alloc: Global, tokens: &[Token], at: usize) -> Read<Pattern>
 
 fn a_pattern(alloc: Global, tokens: &[Token], at: usize) -> Read<Pattern>
     requires { at ≤ length tokens.now }
-    ensures { Gives parts.a_pattern tokens.now at result }
+    ensures { Gives spec.a_pattern tokens.now at result }
 {
     if is_next(tokens, at, Cue::Word(Keyword::Anything)) {
         let (_, at) = word(tokens, at, Cue::Word(Keyword::Anything))?;
@@ -50,7 +50,7 @@ fn a_pattern(alloc: Global, tokens: &[Token], at: usize) -> Read<Pattern>
 /// What stands before the body of an arm.
 fn arm_head(alloc: Global, tokens: &[Token], at: usize) -> Read<Pattern>
     requires { at ≤ length tokens.now }
-    ensures gives { Gives parts.arm_head tokens.now at result }
+    ensures gives { Gives spec.arm_head tokens.now at result }
     ensures further { IfOk result (λ read. at < read.1) }
 {
     let (_, at) = word(tokens, at, Cue::Sign(Symbol::MinusMinus))?;
@@ -101,7 +101,7 @@ fn next_arm(
 ) -> Read<MatchArms>
     requires place { at ≤ length tokens.now }
     requires before { before.tallest ≤ limits.below }
-    ensures gives { Gives (parts.next_arm (operand_to limits.below) limits.behind before) tokens.now at result }
+    ensures gives { Gives (spec.next_arm (operand_to limits.below) limits.behind before) tokens.now at result }
     ensures low { IfOk result (λ read. read.0.tallest ≤ limits.below) }
     ensures further { IfOk result (λ read. at < read.1) }
 {
@@ -112,7 +112,7 @@ fn next_arm(
 
 /// Whether what follows is a field of an outer form, and no arm.
 fn ends_arms(tokens: &[Token], at: usize, behind: Behind) -> bool
-    ensures { result ≡ parts.ends_arms behind (drop at tokens.now) }
+    ensures { result ≡ spec.ends_arms behind (drop at tokens.now) }
 {
     match behind {
         Behind::Field => is_second_lower(tokens, at),
@@ -122,7 +122,7 @@ fn ends_arms(tokens: &[Token], at: usize, behind: Behind) -> bool
 
 /// Whether another arm follows arms of which the last one ends in a match or not.
 fn has_arm(tokens: &[Token], at: usize, behind: Behind, in_match: bool) -> bool
-    ensures { result ≡ parts.has_arm_behind behind in_match (drop at tokens.now) }
+    ensures { result ≡ spec.has_arm_behind behind in_match (drop at tokens.now) }
 {
     !in_match
         && (is_next(tokens, at, Cue::Sign(Symbol::MinusMinus)) && !ends_arms(tokens, at, behind))
@@ -139,7 +139,7 @@ fn further_arm(
 ) -> Read<MatchArms>
     requires place { at ≤ length tokens.now }
     requires before { before.tallest ≤ limits.below }
-    ensures gives { Gives (parts.further_arm (operand_to limits.below) limits.behind before) tokens.now at result }
+    ensures gives { Gives (spec.further_arm (operand_to limits.below) limits.behind before) tokens.now at result }
     ensures low { IfOk result (λ read. read.0.tallest ≤ limits.below) }
     ensures further { IfOk result (λ read. at < read.1) }
 {
@@ -157,8 +157,8 @@ fn further_arms(
 ) -> Read<MatchArms>
     requires place { at ≤ length tokens.now }
     requires first { first.tallest ≤ limits.below }
-    ensures gives { Gives (as_many (parts.has_arm limits.behind) (parts.further_arm (operand_to limits.below) limits.behind) first)
-        tokens.now at result }
+    ensures gives { Gives (as_many (spec.has_arm limits.behind)
+        (spec.further_arm (operand_to limits.below) limits.behind) first) tokens.now at result }
     ensures low { IfOk result (λ read. read.0.tallest ≤ limits.below) }
 {
     let mut found = first;
@@ -175,7 +175,7 @@ fn further_arms(
 #[cycle(climbing)]
 fn arms(alloc: Global, tokens: &[Token], at: usize, limits: Limits) -> Read<MatchArms>
     requires { at ≤ length tokens.now }
-    ensures gives { Gives (parts.arms (operand_to limits.below) limits.behind) tokens.now at result }
+    ensures gives { Gives (spec.arms (operand_to limits.below) limits.behind) tokens.now at result }
     ensures low { IfOk result (λ read. read.0.tallest ≤ limits.below) }
 {
     let (first, at) = next_arm(alloc, tokens, at, limits, no_arms(alloc))?;

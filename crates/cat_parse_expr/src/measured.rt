@@ -18,14 +18,14 @@ pub struct Measured {
 
 /// The elements of a list or of a call, with the height of the highest.
 #[derive(Drop)]
-pub struct Elements {
+pub struct MeasuredNodes {
     pub nodes: Nodes,
     pub tallest: u32,
 }
 
 /// The fields of a structure or of a scope call, with the height of the highest value.
 #[derive(Drop)]
-pub struct Fields {
+pub struct MeasuredFields {
     pub values: SurfaceFields,
     pub tallest: u32,
 }

@@ -1,7 +1,7 @@
 // Prefixes and sums.
 ghost use Rattle.std.specs.Prelude.{◌≡◌, ◌≤◌, ◌+◌, length, drop, IfOk};
 ghost use Rattle.cat_parse_expr.specs.Climbing.{operand as operand_to};
-ghost use Rattle.cat_parse_expr.specs.Forms as forms;
+ghost use Rattle.cat_parse_expr.specs.Prefixes as prefixes;
 ghost use Rattle.cat_parse_expr.specs.Places.{Gives};
 
 use crate::climbing::operand;
@@ -20,7 +20,7 @@ use std::alloc::Global;
 /// A word and `of`, behind which there is room for a part.
 fn word_of(tokens: &[Token], at: usize, first: Keyword, below: u16) -> Read<Pos>
     requires { at ≤ length tokens.now }
-    ensures { Gives (forms.word_of (operand_to below) below first) tokens.now at result }
+    ensures { Gives (prefixes.word_of (operand_to below) below first) tokens.now at result }
 {
     let (pos, at) = word(tokens, at, Cue::Word(first))?;
     let (_, at) = word_with_room(tokens, at, Cue::Word(Keyword::Of), below)?;
@@ -30,7 +30,7 @@ fn word_of(tokens: &[Token], at: usize, first: Keyword, below: u16) -> Read<Pos>
 /// The words of a prefix, behind which there is room for a part.
 fn prefix_words(tokens: &[Token], at: usize, prefix: Prefix, below: u16) -> Read<Pos>
     requires { at ≤ length tokens.now }
-    ensures { Gives (forms.prefix_words (operand_to below) below prefix) tokens.now at result }
+    ensures { Gives (prefixes.prefix_words (operand_to below) below prefix) tokens.now at result }
 {
     match prefix {
         Prefix::Not => word_with_room(tokens, at, Cue::Word(Keyword::Not), below),
@@ -55,7 +55,8 @@ pub(crate) fn prefixed(
     prefix: Prefix,
 ) -> Read<Measured>
     requires { at ≤ length tokens.now }
-    ensures gives { Gives (forms.prefixed (operand_to limits.below) limits.below limits.behind prefix) tokens.now at result }
+    ensures gives { Gives (prefixes.prefixed (operand_to limits.below) limits.below limits.behind prefix)
+        tokens.now at result }
     ensures low { IfOk result (λ read. read.0.height ≤ limits.below + 1) }
 {
     let level = prefix_level(prefix);
@@ -78,7 +79,7 @@ pub(crate) fn prefixed(
 #[cycle(climbing)]
 pub(crate) fn sum(alloc: Global, tokens: &[Token], at: usize, limits: Limits) -> Read<Measured>
     requires { at ≤ length tokens.now }
-    ensures gives { Gives (forms.sum (operand_to limits.below) limits.below limits.behind) tokens.now at result }
+    ensures gives { Gives (prefixes.sum (operand_to limits.below) limits.below limits.behind) tokens.now at result }
     ensures low { IfOk result (λ read. read.0.height ≤ limits.below + 1) }
 {
     let (pos, at) = word(tokens, at, Cue::Word(Keyword::Sum))?;

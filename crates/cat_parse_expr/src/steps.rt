@@ -1,6 +1,7 @@
 // What goes on behind a whole expression: an operator, a field, a test.
 ghost use Rattle.std.specs.Prelude.{◌≡◌, ◌<◌, ◌≤◌, ◌+◌, length, drop, IfOk};
-ghost use Rattle.cat_parse_expr.specs.Climbing as spec;
+ghost use Rattle.cat_parse_expr.specs.Climbing.{operand as operand_to};
+ghost use Rattle.cat_parse_expr.specs.Steps as spec;
 ghost use Rattle.cat_parse_expr.specs.Openings.{follow_at as next_follow};
 ghost use Rattle.cat_parse_expr.specs.Parts.{is_sign};
 ghost use Rattle.cat_parse_expr.specs.Places.{Gives};
@@ -72,8 +73,8 @@ fn beside(
     left: &Measured,
 ) -> Read<Measured>
     requires { at ≤ length tokens.now }
-    ensures gives { Gives (spec.beside (spec.operand limits.below) limits.below left.now limits.behind level) tokens.now at
-        result }
+    ensures gives { Gives (spec.beside (operand_to limits.below) limits.below left.now limits.behind level)
+        tokens.now at result }
     ensures low { IfOk result (λ read. (read.0.height ≤ limits.below) × (left.now.height ≤ limits.below)) }
 {
     if left.height <= u32::from(limits.below) {
@@ -92,8 +93,8 @@ fn operated(
     operator: Operator,
 ) -> Read<Measured>
     requires { at ≤ length tokens.now }
-    ensures gives { Gives (spec.operated (spec.operand limits.below) limits.below limits.behind left operator) tokens.now at
-        result }
+    ensures gives { Gives (spec.operated (operand_to limits.below) limits.below limits.behind left operator)
+        tokens.now at result }
     ensures low { IfOk result (λ read. read.0.height ≤ limits.below + 1) }
     ensures further { IfOk result (λ read. at < read.1) }
 {
@@ -116,7 +117,7 @@ fn selected(
     left: Measured,
 ) -> Read<Measured>
     requires { at ≤ length tokens.now }
-    ensures gives { Gives (spec.selected (spec.operand below) below left) tokens.now at result }
+    ensures gives { Gives (spec.selected (operand_to below) below left) tokens.now at result }
     ensures low { IfOk result (λ read. read.0.height ≤ below + 1) }
     ensures further { IfOk result (λ read. at < read.1) }
 {
@@ -141,7 +142,7 @@ fn tested_case(alloc: Global, tokens: &[Token], at: usize, room: u16) -> Read<(P
 
 fn tested(alloc: Global, tokens: &[Token], at: usize, below: u16, left: Measured) -> Read<Measured>
     requires { at ≤ length tokens.now }
-    ensures gives { Gives (spec.tested (spec.operand below) below left) tokens.now at result }
+    ensures gives { Gives (spec.tested (operand_to below) below left) tokens.now at result }
     ensures low { IfOk result (λ read. read.0.height ≤ below + 1) }
     ensures further { IfOk result (λ read. at < read.1) }
 {
@@ -161,7 +162,7 @@ pub(crate) fn step(
     left: Measured,
 ) -> Read<Measured>
     requires { at ≤ length tokens.now }
-    ensures gives { Gives (spec.step (spec.operand limits.below) limits.below limits.behind left) tokens.now at result }
+    ensures gives { Gives (spec.step (operand_to limits.below) limits.below limits.behind left) tokens.now at result }
     ensures low { IfOk result (λ read. read.0.height ≤ limits.below + 1) }
     ensures further { IfOk result (λ read. at < read.1) }
 {

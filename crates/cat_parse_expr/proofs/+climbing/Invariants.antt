@@ -1,6 +1,8 @@
 use Rattle.std.proofs.Common.{◌≤◌, ◌+◌, ◌*◌, ◌-◌, length}
-use Rattle.cat_parse_expr.specs.Climbing.{goes_on, step, operand}
+use Rattle.cat_parse_expr.specs.Arms as arms
 use Rattle.cat_parse_expr.specs.Parts as parts
+use Rattle.cat_parse_expr.specs.Climbing.{operand}
+use Rattle.cat_parse_expr.proofs.Common.{goes_on, step}
 use Rattle.cat_parse_expr.proofs.Turns.{Stands}
 use Rattle.cat_parse_expr.proofs.+climbing.Given as goal
 
@@ -120,7 +122,8 @@ decreases-matches::next_arm l = 8 * l.limits.below + 2
 
 abbrev pub invariant-climbing::climb-loop-alloc : goal.invariant-climbing::climb-loop-alloc
 invariant-climbing::climb-loop-alloc l = record {
-  stands : Stands (goes_on l.limits.behind l.limits.level) (step (operand l.limits.below) l.limits.below l.limits.behind) l.fn.first l.tokens l.at l.place l.left;
+  stands : Stands (goes_on l.limits.behind l.limits.level)
+      (step (operand l.limits.below) l.limits.below l.limits.behind) l.fn.first l.tokens l.at l.place l.left;
   low : l.left.height ≤ l.limits.below + 1;
 }
 
@@ -156,7 +159,8 @@ decreases-listed::fields-loop-alloc l = length l.tokens - l.place
 
 abbrev pub invariant-matches::further_arms-loop-alloc : goal.invariant-matches::further_arms-loop-alloc
 invariant-matches::further_arms-loop-alloc l = record {
-  stands : Stands (parts.has_arm l.limits.behind) (parts.further_arm (operand l.limits.below) l.limits.behind) l.fn.first l.tokens l.at l.place
+  stands : Stands (arms.has_arm l.limits.behind) (arms.further_arm (operand l.limits.below) l.limits.behind)
+      l.fn.first l.tokens l.at l.place
       l.found;
   low : l.found.tallest ≤ l.limits.below;
 }

@@ -1,8 +1,7 @@
 use Rattle.std.proofs.Common.{◌-◌, length}
-use Rattle.cat_parse.specs.Many.{many}
-use Rattle.cat_parse.specs.Uses.{is_use, a_use}
-use Rattle.cat_parse.proofs.Turns.{Stands}
 use Rattle.cat_parse.specs.Expression.{expression}
+use Rattle.cat_parse.proofs.Common.{many, is_use, a_use}
+use Rattle.cat_parse.proofs.Turns.{Stands}
 use Rattle.cat_parse.proofs.blocks.lines.Given as goal
 
 abbrev pub invariant-loop-alloc : goal.invariant-loop-alloc

@@ -1,6 +1,5 @@
 use Rattle.std.proofs.Common.{◌≡◌, ℕ, zero, suc, ◌<◌, List, refl, ap, arith}
-use Rattle.cat_lex.specs.declared.token.Token.{Token}
-use Rattle.cat_parse.specs.Causes.{IsUnexpected}
+use Rattle.cat_parse.proofs.Common.{Token, IsUnexpected}
 use Rattle.cat_parse.proofs.Places.{begins_before}
 use Rattle.cat_parse.proofs.laws.a_refusal_has_one_place.Goals as goal
 

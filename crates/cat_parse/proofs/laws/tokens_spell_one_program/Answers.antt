@@ -1,8 +1,6 @@
 use Rattle.std.proofs.Common.{List, arith}
-use Rattle.cat_lex.specs.declared.token.Token.{Token}
-use Rattle.cat_tree.specs.declared.program.Tree.{Tree}
-use Rattle.cat_tree.specs.Programs.{highest_in}
 use Rattle.cat_parse.specs.Expression.{expression_to}
+use Rattle.cat_parse.proofs.Common.{Token, Tree, highest_in}
 use Rattle.cat_parse.proofs.Exact.{one_program}
 use Rattle.cat_parse.proofs.Reading.{reads_expressions}
 use Rattle.cat_parse.proofs.laws.tokens_spell_one_program.Goals as goal

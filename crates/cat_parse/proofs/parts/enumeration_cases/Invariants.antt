@@ -1,6 +1,5 @@
 use Rattle.std.proofs.Common.{◌-◌, length}
-use Rattle.cat_parse.specs.Declarations.{a_case}
-use Rattle.cat_parse.specs.Programs.{is_dashes}
+use Rattle.cat_parse.proofs.Common.{a_case, is_dashes}
 use Rattle.cat_parse.proofs.Turns.{Stands, one_and_more}
 use Rattle.cat_parse.proofs.parts.enumeration_cases.Given as goal
 

@@ -1,6 +1,5 @@
 use Rattle.std.proofs.Common.{◌-◌, length}
-use Rattle.cat_parse_expr.specs.Cues.{lower}
-use Rattle.cat_parse.specs.Declarations.{is_comma, comma}
+use Rattle.cat_parse.proofs.Common.{lower, is_comma, comma}
 use Rattle.cat_parse.proofs.Turns.{Stands, one_and_more}
 use Rattle.cat_parse.proofs.parts.listed_names.Given as goal
 

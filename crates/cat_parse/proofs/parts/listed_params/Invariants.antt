@@ -1,5 +1,5 @@
 use Rattle.std.proofs.Common.{◌-◌, length}
-use Rattle.cat_parse.specs.Declarations.{is_comma, comma, typed_name}
+use Rattle.cat_parse.proofs.Common.{is_comma, comma, typed_name}
 use Rattle.cat_parse.proofs.Turns.{Stands, one_and_more}
 use Rattle.cat_parse.proofs.parts.listed_params.Given as goal
 

@@ -1,6 +1,6 @@
 use Rattle.std.proofs.Common.{◌-◌, length}
 use Rattle.cat_lex.specs.declared.words.Keyword.TheVariants as key
-use Rattle.cat_parse.specs.Declarations.{is_word, field}
+use Rattle.cat_parse.proofs.Common.{is_word, field}
 use Rattle.cat_parse.proofs.Turns.{Stands, one_and_more}
 use Rattle.cat_parse.proofs.parts.structure_fields.Given as goal
 

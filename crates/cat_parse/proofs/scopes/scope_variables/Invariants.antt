@@ -1,7 +1,5 @@
 use Rattle.std.proofs.Common.{◌-◌, length}
-use Rattle.cat_parse.specs.Declarations.{a_variable}
-use Rattle.cat_parse.specs.Programs.{is_variable}
-use Rattle.cat_parse.specs.Many.{many}
+use Rattle.cat_parse.proofs.Common.{a_variable, is_variable, many}
 use Rattle.cat_parse.proofs.Turns.{Stands}
 use Rattle.cat_parse.proofs.scopes.scope_variables.Given as goal
 

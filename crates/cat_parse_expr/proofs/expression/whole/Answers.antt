@@ -1,7 +1,5 @@
 use Rattle.std.proofs.Common.{drop, subst, sym, ap, ◌∙◌}
-use Rattle.cat_tree.specs.declared.expression.Node.{Node}
-use Rattle.cat_tree.specs.Spells.{IsFront}
-use Rattle.cat_parse_expr.specs.Reach.{Found}
+use Rattle.cat_parse_expr.proofs.Common.{Node, IsFront, Found}
 use Rattle.cat_parse_expr.proofs.Answered.{within_whole, behind_front, front_again, never_broken, again_found}
 use Rattle.cat_parse_expr.proofs.expression.whole.Goals as goal
 

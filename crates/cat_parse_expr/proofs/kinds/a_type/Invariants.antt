@@ -1,5 +1,5 @@
 use Rattle.std.proofs.Common.{◌≡◌, ◌≤◌, length, drop, ◌-◌}
-use Rattle.cat_parse_expr.specs.Types.{type_after}
+use Rattle.cat_parse_expr.proofs.Common.{type_after}
 use Rattle.cat_parse_expr.proofs.kinds.a_type.Given as goal
 
 abbrev pub invariant-loop-lists : goal.invariant-loop-lists
