@@ -1,7 +1,7 @@
 -- Regions that hang on what a run computes alone have one input, and its run says the same of each.
-use Rattle.std.proofs.Common.{◌≡◌, ℕ, zero, suc, ◌+◌, ◌<◌, Bool, true, false, not, ◌||◌, if◌then◌else◌, List, [], ◌∷◌}
-use Rattle.std.proofs.Common.{◌++◌, length, take, drop, Option, Some, None, slice_get, refl, sym, ap, ◌∙◌, subst, arith}
-use Rattle.std.proofs.Common.{true≢false, IsTrue}
+use Rattle.std.proofs.Common.{◌≡◌, ℕ, suc, ◌+◌, Bool, true, false, not, ◌||◌, if◌then◌else◌, List, [], ◌∷◌}
+use Rattle.std.proofs.Common.{◌++◌, take, Option, Some, None, slice_get, refl, sym, ap, ◌∙◌, subst, arith}
+use Rattle.std.proofs.Common.{true≢false}
 use Rattle.std.specs.Prelude.{reverse, ◌==◌, ◌&&◌}
 use Rattle.std.specs.List.{list_all}
 use Rattle.std.proofs.lemmas.List.{reverse-append}
@@ -9,7 +9,6 @@ use Rattle.std.proofs.lemmas.List.Folds.{list_all-append}
 use Rattle.std.proofs.lemmas.Bool.Decides.{nat_tests}
 use mathlib.Core.Path.{fun_ext}
 use Rattle.cat_pos.specs.declared.pos.Pos.{Pos}
-use Rattle.cat_value.specs.declared.decls.Decls.{Decls}
 use Rattle.cat_value.specs.declared.value.Value.{Value}
 use Rattle.cat_value.specs.declared.outcome.Outcome.{Outcome}
 use Rattle.cat_value.specs.declared.outcome.Outcome.TheVariants as outcome
@@ -28,7 +27,7 @@ use Rattle.cat_guard.specs.declared.table.Term.{Term}
 use Rattle.cat_guard.specs.declared.table.Table.{Table}
 use Rattle.cat_guard.specs.declared.table.TableTarget.{TableTarget}
 use Rattle.cat_guard.specs.declared.tree.TreeNode.{TreeNode}
-use Rattle.cat_guard.specs.Trees.{with_answer, answering}
+use Rattle.cat_guard.specs.Trees.{with_answer}
 use Rattle.cat_guard.specs.Valuations.{dims_of}
 use Rattle.cat_guard.proofs.Exported.{both_true}
 use Rattle.cat_search.specs.Searched.{everything}
@@ -267,7 +266,8 @@ module _ (table : Table) (base : Constraints) (nothing : base.narrowings ≡ [])
       → (Led way).narrowings ≡ [] → ⊥
   led_some [] all some none = some refl
   led_some (n ∷ way) all some none =
-      by (slice_get table.atoms n.atom) (both_true (asks_derived table n) (list_all (asks_derived table) way) all).0 none
+      by (slice_get table.atoms n.atom)
+      (both_true (asks_derived table n) (list_all (asks_derived table) way) all).0 none
     where
       by : (o : Option Atom) → is_of_derived table.terms o ≡ true → (with_answer (Led way) o n.yes).narrowings ≡ [] → ⊥
       by None h e = absurd (true≢false (sym h))
@@ -302,7 +302,8 @@ module _ (table : Table) (base : Constraints) (nothing : base.narrowings ≡ [])
 -- ---- bad leaves to which they lead
 
 module _ (program : Program) (table : Table) (nodes : List TreeNode) (b : BadLeaf) (answers way : List Answer)
-    (is : way ≡ reverse answers) (here : way ≡ way_from [] (take b.leaf nodes)) (alone : hang_alone table answers ≡ true)
+    (is : way ≡ reverse answers) (here : way ≡ way_from [] (take b.leaf nodes))
+    (alone : hang_alone table answers ≡ true)
     (dims : (region_at table nodes b).dims ≡ dims_of table.terms) where
   derived_there : of_derived table.terms (region_at table nodes b).narrowings ≡ true
   derived_there =

@@ -5,9 +5,8 @@ use Rattle.std.proofs.lemmas.List.{append-nil}
 use Rattle.cat_region.specs.declared.cut.Cut.{Cut}
 use Rattle.cat_region.specs.declared.narrowing.Narrowing.{Narrowing}
 use Rattle.cat_region.specs.Regions.{narrowed_to, last_narrowing}
-use Rattle.cat_region.proofs.Exported.{narrowings-undone}
+use Rattle.cat_region.proofs.Exported.{narrowings-undone, ends}
 use Rattle.cat_guard.specs.declared.table.Term.{Term}
-use Rattle.cat_search.proofs.Exported.{ends}
 use Rattle.cat_audit.specs.Findings.{is_derived, at_most, least, derived_in}
 use Rattle.cat_audit.specs.inside.Least.{lesser, lesser_of}
 

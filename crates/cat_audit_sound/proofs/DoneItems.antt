@@ -3,7 +3,6 @@ use Rattle.std.proofs.Common.{◌≡◌, ℕ, ◌+◌, false, true, not, IsTrue,
 use Rattle.std.proofs.Common.{Some, None, slice_get, refl, sym, ap, ◌∙◌, subst, arith}
 use Rattle.cat_value.specs.declared.ty.Ty.{Ty}
 use Rattle.cat_value.specs.declared.value.Value.{Value}
-use Rattle.cat_value.specs.declared.value.Value.TheViews as value
 use Rattle.cat_value.specs.declared.decls.Decls.{Decls}
 use Rattle.cat_value.specs.declared.declaration.Kind.{Kind}
 use Rattle.cat_value.specs.declared.declaration.Kind.TheVariants as kind
@@ -21,7 +20,8 @@ use Rattle.cat_scope.specs.ItemValues.{passed_input, called_value, defined_value
 use Rattle.cat_sound.specs.Endings.{IsOf, AreOf, AreOutputsOf, IsReady}
 use Rattle.cat_sound.specs.Settled.{IsHeldOf}
 use Rattle.cat_sound.proofs.Exported.{AllIn, Behind, Callee, IsSound, all_more, anything, names_of}
-use Rattle.cat_sound.proofs.Exported.{DoneAt, IsDone, callee_at, evaluated-called, evaluated-function, evaluated-variable, free_of_may, ready}
+use Rattle.cat_sound.proofs.Exported.{DoneAt, IsDone, callee_at, evaluated-called, evaluated-function}
+use Rattle.cat_sound.proofs.Exported.{evaluated-variable, free_of_may, ready}
 use Rattle.cat_audit_sound.proofs.Gives.{both, and_both, IfGives, if_then, if_ended}
 use Rattle.cat_audit_sound.proofs.Passed.{value_ends, if_decided, passed_input_typed}
 use Rattle.cat_audit_sound.proofs.ReadyItems.{own_judged}
@@ -58,7 +58,8 @@ module _ (ds : Decls) (scoped : Scoped) (needs : ℕ → List ℕ) (sound : IsSo
           (value_ends ds (variable scoped item) decl.pos decl (all_at Placed scoped.items item decl sound.placed at)
           found holds)))
           (λ v typed. evaluated-variable anything ds scoped needs sound item decl at v free typed)
-      defined_done (t ∷ ts) e free open_one = evaluated-function anything ds scoped needs sound item decl at None free (ap has_none e)
+      defined_done (t ∷ ts) e free open_one =
+          evaluated-function anything ds scoped needs sound item decl at None free (ap has_none e)
 
       abbrev judged_at : ℕ → Judged Value
       judged_at n = judging_of scoped (call scoped values before) values [] (variable_of_called scoped item n)

@@ -17,6 +17,7 @@ pub mod Counting
 pub mod TypedLaws
 pub mod Examples
 pub mod PointedValues
+pub mod PointTableLemmas
 pub mod FreeValues
 pub mod Apart
 pub mod Shows

@@ -126,7 +126,7 @@ numbers_same (x ∷ xs) (y ∷ ys) h =
     one : (x y : ℕ) → (x == y) ≡ true → x ≡ y
     one x y h = grind (arith, nat_tests)
 
-one_path : (p q : InputPath) → is_at p (Some q) ≡ true → q ≡ p
+pub one_path : (p q : InputPath) → is_at p (Some q) ≡ true → q ≡ p
 one_path p q h = by p.item q.item p.fields q.fields h
   where
     path : ℕ → List ℕ → InputPath

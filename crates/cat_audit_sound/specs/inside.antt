@@ -1,1 +1,2 @@
+pub mod PointTables
 pub mod TypedParts

@@ -10,12 +10,14 @@ ghost use Rattle.cat_scope.specs.Names.{scope_items};
 ghost use Rattle.cat_guard.specs.Valuations.{dims_of};
 ghost use Rattle.cat_audit_sound.specs.Parts.{parts_given};
 ghost use Rattle.cat_audit_sound.specs.declared.parts.TheConstants.{MOST_PARTS};
-ghost use Rattle.cat_audit_sound.specs.PointInputs.{given_for, given_from, point_from, input_at};
+ghost use Rattle.cat_audit_sound.specs.PointInputs.{given_for, given_from, input_at};
+ghost use Rattle.cat_audit_sound.specs.inside.PointTables.{found_in};
 ghost use Rattle.cat_audit_sound.specs.inside.TypedParts.{IsGiven, AreGiven};
 
 use crate::part::part;
 use crate::parts::have_few_parts;
-use cat_guard::{InputPath, Table, Term};
+use crate::points::{PointTable, points_of};
+use cat_guard::{InputPath, Table};
 use cat_pos::List;
 use cat_region::Region;
 use cat_value::{Decls, HIGHEST, Input, ItemDecl, Kind, Value, declarations_are_sound};
@@ -25,16 +27,13 @@ use std::alloc::{AllocError, Global};
 fn given_for(
     alloc: Global,
     decls: &Decls,
-    terms: &[Term],
-    region: &Region,
+    points: &PointTable,
     number: u32,
     item: &ItemDecl,
 ) -> Result<Option<Value>, AllocError>
-    requires dims { region.now.dims ≡ dims_of terms.now }
-    requires inhabited { IsInhabited region.now }
-    requires item { IsItem decls.now item.now }
+    requires { IsItem decls.now item.now }
     ensures { IfOk result (λ given. IsGiven decls.now item.now
-        (given_for decls.now (point_from (point_at region.now) 0 terms.now) number item.now) given) }
+        (given_for decls.now (found_in points.now) number item.now) given) }
 {
     match item.kind {
         Kind::Input | Kind::InputOutput => {
@@ -42,7 +41,7 @@ fn given_for(
                 item: number,
                 fields: List::new(alloc),
             };
-            let value = part(alloc, decls, terms, region, &path, &item.ty, HIGHEST)?;
+            let value = part(alloc, decls, points, &path, &item.ty, HIGHEST)?;
             Ok(Some(value))
         }
         _ => Ok(None),
@@ -53,26 +52,23 @@ fn given_for(
 fn given(
     alloc: Global,
     decls: &Decls,
-    terms: &[Term],
-    region: &Region,
+    points: &PointTable,
     items: &[ItemDecl],
 ) -> Result<Input, AllocError>
-    requires dims { region.now.dims ≡ dims_of terms.now }
-    requires inhabited { IsInhabited region.now }
     requires few { length items.now < ENTRIES_BOUND }
     requires items { (k : ℕ) (item : Declared) → slice_get items.now k ≡ Some item → IsItem decls.now item }
     ensures { IfOk result (λ input. AreGiven decls.now items.now
-        (given_from decls.now (point_from (point_at region.now) 0 terms.now) 0 items.now) input) }
+        (given_from decls.now (found_in points.now) 0 items.now) input) }
 {
     let mut input = List::new(alloc);
     for (number, item) in items.iter().enumerate() {
-        input.push(given_for(alloc, decls, terms, region, number as u32, item)?)?;
+        input.push(given_for(alloc, decls, points, number as u32, item)?)?;
     }
     Ok(input)
 }
 
 /// The input of the scope of a table in which each free term has its point of the region, and all else that must be
-/// given its default. No context is given. It takes a look at each term for each part of an input, and where there would
+/// given its default. No context is given. It takes a step for each term and each part of an input, and where there would
 /// be too many parts, it is as if memory had run out, before any is made.
 pub fn input_of(
     alloc: Global,
@@ -93,6 +89,7 @@ pub fn input_of(
     if !have_few_parts(items, decls) {
         return Err(AllocError);
     }
-    let input = given(alloc, decls, terms, region, items)?;
+    let points = points_of(alloc, terms, region)?;
+    let input = given(alloc, decls, &points, items)?;
     Ok(input)
 }

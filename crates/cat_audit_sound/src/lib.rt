@@ -11,6 +11,7 @@ mod part;
 mod parts;
 mod place;
 mod pointed;
+mod points;
 
 pub use audits::{audited_programs_go_on, audited_programs_have_no_gap};
 pub use guard_laws::guards_tell;

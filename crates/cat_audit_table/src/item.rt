@@ -1,23 +1,12 @@
 // What is told of a target by its item.
 ghost use Rattle.std.specs.Prelude.{◌≡◌, IfOk, Some, slice_get, string_bytes};
 ghost use Rattle.std.specs.Option.{option_copied};
-ghost use Rattle.cat_value.specs.Inputs.{must_be_given};
 ghost use Rattle.cat_guard.specs.Tables.{inner_items, inner_item, item_name, item_pos, is_function, may_be_empty};
 ghost use Rattle.cat_guard.specs.Tables.{target_name};
 
 use cat_pos::{Pos, Text};
 use cat_value::{Decls, ItemDecl, Kind, Target};
 use std::alloc::{AllocError, Global};
-
-fn must_be_given(kind: Kind) -> bool
-    ensures { result ≡ must_be_given kind }
-{
-    match kind {
-        Kind::Input | Kind::InputOutput => true,
-        Kind::Output | Kind::Internal | Kind::Context | Kind::ContextOutput | Kind::Called(_) =>
-            false,
-    }
-}
 
 /// The items of the scope that an item calls.
 fn inner_items(decls: &Decls, kind: Kind) -> &[ItemDecl]
@@ -104,7 +93,7 @@ pub fn may_be_empty(decls: &Decls, items: &[ItemDecl], target: Target) -> bool
         return decl.condition;
     };
     match inner_items(decls, decl.kind).get(number as usize) {
-        Some(inner) => inner.condition || !must_be_given(inner.kind),
+        Some(inner) => inner.condition || !inner.kind.must_be_given(),
         None => false,
     }
 }

@@ -10,5 +10,5 @@ pub use Rattle.cat_guard.proofs.RegionLaws.{cut_of_term, sound_dims, sound_atoms
 pub use Rattle.cat_guard.proofs.SameCuts.{nat_self, dim_self, cut_self, dim_same, cut_same}
 pub use Rattle.cat_guard.proofs.FirstLaws.{firsts_all}
 pub use Rattle.cat_guard.proofs.AskedLemmas.{parted_all}
-pub use Rattle.cat_guard.proofs.ResultLemmas.{on_ok, both_some, on_ok_some}
-pub use Rattle.cat_guard.proofs.FurtherLaws.{KeepsLive}
+pub use Rattle.cat_guard.proofs.ResultLemmas.{on_ok, if_some, both_some, on_ok_some}
+pub use Rattle.cat_guard.proofs.LevelLemmas.{answers_alike}

@@ -13,9 +13,11 @@ pub mod CountLaws
 pub mod Examples
 pub mod OwnAtoms
 pub mod LiveLaws
+pub mod ConjunctLaws
 pub mod WholeLaws
 pub mod SameCuts
 pub mod FirstLaws
 pub mod ResultLemmas
 pub mod AskedLemmas
+pub mod LevelLemmas
 pub mod Exported

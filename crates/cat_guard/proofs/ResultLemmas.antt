@@ -5,6 +5,10 @@ pub on_ok : {A E : Type 0} {P Q : Type 0} (r : Result A E) → OnOk r P → (P �
 on_ok (Ok a) p go = go p
 on_ok (Err e) p go = tt
 
+pub if_some : {A : Type 0} {P Q : A → Type 0} (o : Option A) → IfSome o P → ((a : A) → P a → Q a) → IfSome o Q
+if_some None p go = tt
+if_some (Some a) p go = go a p
+
 pub both_some : {A : Type 0} (P Q : A → Type 0) (o : Option A) → IfSome o P → IfSome o Q → IfSome o (λ a. P a × Q a)
 both_some P Q None p q = tt
 both_some P Q (Some a) p q = (p, q)

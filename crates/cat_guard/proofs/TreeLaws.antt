@@ -1,13 +1,11 @@
 -- Closed trees cover what is admitted.
-use Rattle.std.proofs.Common.{◌≡◌, ℕ, Bool, true, false, IsTrue, List, [], ◌∷◌, ◌++◌, Option, Some, None, refl, sym, ap}
-use Rattle.std.proofs.Common.{subst, slice_get}
-use Rattle.std.specs.List.{list_all}
+use Rattle.std.proofs.Common.{◌≡◌, ℕ, Bool, true, false, List, [], ◌∷◌, ◌++◌, Option, Some, None, refl, ap}
+use Rattle.std.proofs.Common.{slice_get}
 use Rattle.std.proofs.Math.Bool.{beq}
 use Rattle.cat_region.specs.declared.dim.Dim.{Dim}
 use Rattle.cat_region.specs.Points.{answer}
-use Rattle.cat_region.specs.Regions.{Constraints, Valuation, IsValuation, Admits, IsEmpty, agrees}
-use Rattle.cat_region.specs.declared.narrowing.Narrowing.{Narrowing}
-use Rattle.cat_region.proofs.Exported.{Admits-with_narrowing}
+use Rattle.cat_region.specs.Regions.{Constraints, Valuation, IsValuation, Admits, IsEmpty}
+use Rattle.cat_region.proofs.Exported.{Admits-with_narrowing, admits_alike}
 use Rattle.cat_guard.specs.declared.table.Atom.{Atom}
 use Rattle.cat_guard.specs.declared.table.TableTarget.{TableTarget}
 use Rattle.cat_guard.specs.declared.tree.TreeNode.{TreeNode}
@@ -68,16 +66,6 @@ closed_covers atoms t region (tree.Split a left right) v closed admits =
         → (Admits (answering atoms region a false) v → Covers t (holds_at atoms v)) → Covers t (holds_at atoms v)
     by true on one other = one on
     by false on one other = other on
-
--- what is admitted doesn't hang on the room
-pub admits_alike : (region other : Constraints) (v : Valuation) → region.dims ≡ other.dims
-    → region.narrowings ≡ other.narrowings → Admits other v → Admits region v
-admits_alike region other v dims narrowings admits = record {
-  valuation = subst (λ (ds : List Dim). IsValuation ds v) (sym dims) admits.valuation;
-  agreeing =
-      subst (λ (ns : List Narrowing). IsTrue (list_all (λ n. agrees (v n.dim) n) ns)) (sym narrowings)
-      admits.agreeing;
-}
 
 answered_dims : (region other : Constraints) (o : Option Atom) (b : Bool) → region.dims ≡ other.dims
     → (with_answer region o b).dims ≡ (with_answer other o b).dims

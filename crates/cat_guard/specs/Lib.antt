@@ -14,5 +14,7 @@ pub mod Judged
 pub mod Trees
 pub mod Judgements
 pub mod Live
+pub mod Conjuncts
+pub mod Levels
 -- what the code keeps on its way: no public clause cites it
 pub mod inside

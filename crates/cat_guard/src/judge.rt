@@ -7,11 +7,12 @@ ghost use Rattle.cat_guard.specs.Valuations.{dims_of};
 ghost use Rattle.cat_guard.specs.Verdicts.{Holds as Held, listed, def_verdict, group_verdict, verdict_of};
 ghost use Rattle.cat_guard.specs.Judgements.{IsJudgement};
 ghost use Rattle.cat_guard.specs.inside.Telling.{are_cuts_of};
+ghost use Rattle.cat_guard.specs.inside.Counting.{Passes};
 ghost use Rattle.cat_guard.specs.inside.Found.{Finds};
 
 use crate::judgement::Judgement;
 use crate::tally::{MemberJudgement, Tally};
-use crate::truth::{Truth, known};
+use crate::truth::{Truth, is_so, known};
 use crate::{Atom, Table, TableTarget};
 use cat_region::Region;
 
@@ -32,6 +33,25 @@ fn judged_def(region: &Region, atoms: &[Atom], target: &TableTarget, number: u32
     }
 }
 
+/// Whether a definition changes nothing of a list one of whose members hangs on an atom: it isn't known to hold.
+fn is_passed(
+    region: &Region,
+    atoms: &[Atom],
+    target: &TableTarget,
+    number: u32,
+    tally: Tally,
+) -> bool
+    requires cuts { IsTrue (are_cuts_of region.now.dims atoms.now) }
+    requires number { number < length target.now.defs }
+    ensures { IsTrue result → Passes tally
+        (def_verdict (answers_in atoms.now region.now) number (slice_get target.now.defs number)) }
+{
+    match tally.needs {
+        None => false,
+        Some(_) => !is_so(region, atoms, &target.defs.at(number as usize).guard, true),
+    }
+}
+
 /// The list of some definitions.
 pub(crate) fn judged_defs(
     region: &Region,
@@ -47,6 +67,9 @@ pub(crate) fn judged_defs(
 {
     let mut tally = Tally::new();
     for &number in numbers {
+        if is_passed(region, atoms, target, number, tally) {
+            continue;
+        }
         tally = tally.with_member(judged_def(region, atoms, target, number));
     }
     tally.total()

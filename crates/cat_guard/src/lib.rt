@@ -2,11 +2,13 @@
 #![tactic(auto)]
 
 mod asked;
+mod conjuncts;
 mod guard;
 mod judge;
 mod judgement;
 mod judging_laws;
 mod laws;
+mod levels;
 mod live;
 mod living;
 mod pruned;
@@ -18,6 +20,7 @@ mod truth;
 mod whole;
 
 pub use asked::asked_atoms;
+pub use conjuncts::{Conjunct, Conjuncts, DefConjuncts};
 pub use guard::{Guard, GuardDef, GuardDefs, GuardGroup, GuardGroups};
 pub use judge::{judge_box, winner};
 pub use judgement::Judgement;
@@ -31,12 +34,11 @@ pub use laws::{
     connectives_are_known_by_their_parts, known_formulas_hold, known_judgings_hold,
     more_answers_keep_what_is_known,
 };
-pub use live::{LiveGroup, LiveGroups, live_size};
+pub use levels::{Level, Levels};
+pub use live::{LiveGroup, LiveGroups};
 pub use living::judge_live;
-pub use pruned::still_live;
 pub use regions::{answer_atom, whole_region};
 pub use table::{
     Atom, Atoms, InputPath, ScopeTables, Table, TableTarget, TableTargets, Term, Terms,
 };
 pub use tree::{CaseTree, CitedNames, CitedNode, CitedNodes, CitedTree, TreeNode, TreeNodes};
-pub use whole::all_live;

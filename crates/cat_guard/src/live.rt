@@ -20,7 +20,7 @@ fn group_size(group: &LiveGroup) -> usize {
 
 /// How many groups and definitions there are, or the greatest number.
 #[cycle(size)]
-pub fn live_size(live: &LiveGroups) -> usize {
+pub(crate) fn live_size(live: &LiveGroups) -> usize {
     let mut size = live.len();
     for group in live.as_slice() {
         size = size.saturating_add(group_size(group));

@@ -5,25 +5,40 @@ ghost use Rattle.cat_guard.specs.declared.table.TableTarget.{TableTarget as Targ
 ghost use Rattle.cat_guard.specs.Judged.{answers_in};
 ghost use Rattle.cat_guard.specs.Soundness.{are_below};
 ghost use Rattle.cat_guard.specs.Valuations.{dims_of};
+ghost use Rattle.cat_guard.specs.Conjuncts.{AreOfDefs};
 ghost use Rattle.cat_guard.specs.Live.{IsLiveOf, names_defs};
 ghost use Rattle.cat_guard.specs.inside.Telling.{are_cuts_of};
 ghost use Rattle.cat_guard.specs.inside.Pruned.{DefsStandFor, GroupsStandFor, GroupStandsFor, IsOut, IsGone};
 
+use crate::conjuncts::{DefConjuncts, conjuncts_at, has_broken};
 use crate::live::{LiveGroup, LiveGroups};
-use crate::truth::{Truth, known};
+use crate::truth::is_so;
 use crate::{Atom, Table, TableTarget};
 use cat_pos::{List, Numbers};
 use cat_region::Region;
 use std::alloc::{AllocError, Global};
 
-/// Whether a region knows a definition to be false.
-fn is_out(region: &Region, atoms: &[Atom], target: &TableTarget, number: u32) -> bool
+/// Whether a region is seen to know a definition to be false: of a long guard by the term that was narrowed last.
+fn is_out(
+    region: &Region,
+    atoms: &[Atom],
+    target: &TableTarget,
+    conjuncts: &DefConjuncts,
+    number: u32,
+) -> bool
     requires cuts { IsTrue (are_cuts_of region.now.dims atoms.now) }
     requires number { number < length target.now.defs }
+    requires conjuncts { AreOfDefs target.now.defs conjuncts.now }
     ensures { IsTrue result → IsOut target.now (answers_in atoms.now region.now) number }
 {
-    let guard = &target.defs.at(number as usize).guard;
-    matches!(known(region, atoms, guard), Truth::Known(false))
+    let joined = conjuncts_at(conjuncts, number);
+    if has_broken(region, atoms, joined) {
+        return true;
+    }
+    if !joined.is_empty() {
+        return false;
+    }
+    is_so(region, atoms, &target.defs.at(number as usize).guard, false)
 }
 
 /// Those of some definitions that a region doesn't know to be false.
@@ -32,15 +47,17 @@ fn pruned_defs(
     region: &Region,
     atoms: &[Atom],
     target: &TableTarget,
+    conjuncts: &DefConjuncts,
     numbers: &[u32],
 ) -> Result<Numbers, AllocError>
     requires cuts { IsTrue (are_cuts_of region.now.dims atoms.now) }
     requires numbers { IsTrue (are_below (length target.now.defs) numbers.now) }
+    requires conjuncts { AreOfDefs target.now.defs conjuncts.now }
     ensures { IfOk result (DefsStandFor target.now (answers_in atoms.now region.now) numbers.now) }
 {
     let mut left = List::new(alloc);
     for &number in numbers {
-        if is_out(region, atoms, target, number) {
+        if is_out(region, atoms, target, conjuncts, number) {
             continue;
         }
         left.push(number)?;
@@ -65,14 +82,23 @@ fn pruned_group(
     region: &Region,
     atoms: &[Atom],
     target: &TableTarget,
+    conjuncts: &DefConjuncts,
     group: &LiveGroup,
 ) -> Result<LiveGroup, AllocError>
     requires cuts { IsTrue (are_cuts_of region.now.dims atoms.now) }
     requires named { IsTrue (names_defs (length target.now.defs) group.now) }
+    requires conjuncts { AreOfDefs target.now.defs conjuncts.now }
     ensures { IfOk result (GroupStandsFor target.now (answers_in atoms.now region.now) group.now) }
 {
-    let excepted_by = pruned_groups(alloc, region, atoms, target, &group.excepted_by)?;
-    let defs = pruned_defs(alloc, region, atoms, target, group.defs.as_slice())?;
+    let excepted_by = pruned_groups(alloc, region, atoms, target, conjuncts, &group.excepted_by)?;
+    let defs = pruned_defs(
+        alloc,
+        region,
+        atoms,
+        target,
+        conjuncts,
+        group.defs.as_slice(),
+    )?;
     Ok(LiveGroup { excepted_by, defs })
 }
 
@@ -83,15 +109,17 @@ fn pruned_groups(
     region: &Region,
     atoms: &[Atom],
     target: &TableTarget,
+    conjuncts: &DefConjuncts,
     groups: &LiveGroups,
 ) -> Result<LiveGroups, AllocError>
     requires cuts { IsTrue (are_cuts_of region.now.dims atoms.now) }
     requires named { IsTrue (list_all (names_defs (length target.now.defs)) groups.now) }
+    requires conjuncts { AreOfDefs target.now.defs conjuncts.now }
     ensures { IfOk result (GroupsStandFor target.now (answers_in atoms.now region.now) groups.now) }
 {
     let mut left = List::new(alloc);
     for group in groups.as_slice() {
-        let pruned = pruned_group(alloc, region, atoms, target, group)?;
+        let pruned = pruned_group(alloc, region, atoms, target, conjuncts, group)?;
         if is_gone(&pruned) {
             continue;
         }
@@ -100,16 +128,19 @@ fn pruned_groups(
     Ok(left)
 }
 
-/// What is still live of a target in a region, of what was live: of this alone it looks at the guards.
-pub fn still_live(
+/// What is still live of a target in a region, of what was live: of this alone it looks at the guards, and in a long
+/// one only for a conjunct of the term that was narrowed last.
+pub(crate) fn still_live(
     alloc: Global,
     table: &Table,
     target: u32,
     region: &Region,
+    conjuncts: &DefConjuncts,
     live: &LiveGroups,
 ) -> Result<LiveGroups, AllocError>
     requires target { target < length table.now.targets }
     requires dims { region.now.dims ≡ dims_of table.now.terms }
+    requires conjuncts { IfSome (slice_get table.now.targets target) (λ t. AreOfDefs t.defs conjuncts.now) }
     requires live { IfSome (slice_get table.now.targets target)
         (λ t. IsLiveOf t (answers_in table.now.atoms region.now) live.now) }
     ensures { IfOk result (λ live. IfSome (slice_get table.now.targets target)
@@ -117,5 +148,5 @@ pub fn still_live(
 {
     let atoms = table.atoms.as_slice();
     let target = table.targets.at(target as usize);
-    pruned_groups(alloc, region, atoms, target, live)
+    pruned_groups(alloc, region, atoms, target, conjuncts, live)
 }

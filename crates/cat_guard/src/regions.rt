@@ -1,5 +1,8 @@
 // Regions of a table's terms.
 ghost use Rattle.std.specs.Prelude.{◌≡◌, ◌<◌, ◌+◌, [], IfOk, length};
+ghost use Rattle.cat_guard.specs.declared.levels.Levels.{Levels as LevelsSeen};
+ghost use Rattle.cat_guard.specs.declared.table.TableTarget.{TableTarget as TargetSeen};
+ghost use Rattle.cat_guard.specs.Levels.{AreLiveTo};
 ghost use Rattle.cat_guard.specs.Trees.{answering};
 ghost use Rattle.cat_guard.specs.Valuations.{dims_of};
 
@@ -36,6 +39,8 @@ pub fn answer_atom(table: &Table, region: &mut Region, atom: usize, yes: bool)
     ensures dims { region.new.dims ≡ region.old.dims }
     ensures narrowings { region.new.narrowings ≡ (answering table.now.atoms region.old atom yes).narrowings }
     ensures room { region.new.room + 1 ≡ region.old.room }
+    ensures live { (t : TargetSeen) (levels : LevelsSeen) → AreLiveTo table.now.atoms t region.old levels
+        → AreLiveTo table.now.atoms t region.new levels }
 {
     let Atom { term, cut } = *table.atoms.at(atom);
     region.narrow(term, &cut, yes);

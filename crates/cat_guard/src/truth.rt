@@ -1,10 +1,10 @@
 // What a region decides of guards.
-ghost use Rattle.std.specs.Prelude.{ℕ, Bool, Option, IsTrue};
-ghost use Rattle.cat_guard.specs.Formulas.{Formula, Atom as Asked, Not as Negated, Choice as Chosen};
+ghost use Rattle.std.specs.Prelude.{◌≡◌, ℕ, Bool, true, Option, IsTrue};
+ghost use Rattle.cat_guard.specs.Formulas.{Formula, Atom as Asked, Not as Negated, Choice as Chosen, known};
 ghost use Rattle.cat_guard.specs.GuardFormulas.{formula_of};
 ghost use Rattle.cat_guard.specs.Judged.{answers_in};
 ghost use Rattle.cat_guard.specs.declared.truth.Truth.TheVariants.{Open};
-ghost use Rattle.cat_guard.specs.inside.Telling.{are_cuts_of, Tells};
+ghost use Rattle.cat_guard.specs.inside.Telling.{are_cuts_of, is_it, told, Tells};
 
 use crate::{Atom, Guard};
 use cat_region::Region;
@@ -17,7 +17,7 @@ pub enum Truth {
 }
 
 /// The atom of that number. One that isn't there has no answer.
-fn answer(region: &Region, atoms: &[Atom], number: usize) -> Truth
+pub(crate) fn answer(region: &Region, atoms: &[Atom], number: usize) -> Truth
     requires { IsTrue (are_cuts_of region.now.dims atoms.now) }
     ensures { Tells (answers_in atoms.now region.now) (Asked number) result }
 {
@@ -68,8 +68,18 @@ fn choice(test: Truth, first: Truth, second: Truth) -> Truth
     }
 }
 
+/// Whether what is known is this truth value.
+pub(crate) fn is_told(truth: Truth, so: bool) -> bool
+    ensures { result ≡ is_it so (told truth) }
+{
+    let Truth::Known(value) = truth else {
+        return false;
+    };
+    if so { value } else { !value }
+}
+
 /// What a region decides of a guard. The connectives of two parts are choices between what the second part is and what
-/// the first alone decides.
+/// the first alone decides; it goes into the second part only where the first one doesn't say it all.
 #[cycle(known)]
 pub fn known(region: &Region, atoms: &[Atom], guard: &Guard) -> Truth
     requires { IsTrue (are_cuts_of region.now.dims atoms.now) }
@@ -81,11 +91,19 @@ pub fn known(region: &Region, atoms: &[Atom], guard: &Guard) -> Truth
         Guard::Not(of) => negation(known(region, atoms, of.get())),
         Guard::Both(left, right) => {
             let left = known(region, atoms, left.get());
+            let is_false = is_told(left, false);
+            if is_false {
+                return left;
+            }
             let right = known(region, atoms, right.get());
             choice(left, right, Truth::Known(false))
         }
         Guard::Either(left, right) => {
             let left = known(region, atoms, left.get());
+            let is_true = is_told(left, true);
+            if is_true {
+                return left;
+            }
             let right = known(region, atoms, right.get());
             choice(left, Truth::Known(true), right)
         }
@@ -100,5 +118,32 @@ pub fn known(region: &Region, atoms: &[Atom], guard: &Guard) -> Truth
             let second = known(region, atoms, second.get());
             choice(test, first, second)
         }
+    }
+}
+
+/// Whether a region knows a guard to have this truth value. Of two parts it looks at the second, and at the first only
+/// where the second doesn't say it all.
+#[cycle(so)]
+pub(crate) fn is_so(region: &Region, atoms: &[Atom], guard: &Guard, so: bool) -> bool
+    requires { IsTrue (are_cuts_of region.now.dims atoms.now) }
+    ensures { result ≡ is_it so (known (answers_in atoms.now region.now) (formula_of guard.now)) }
+{
+    match guard {
+        Guard::Not(of) => is_so(region, atoms, of.get(), !so),
+        Guard::Both(left, right) => {
+            let second = is_so(region, atoms, right.get(), so);
+            if second != so {
+                return second;
+            }
+            is_so(region, atoms, left.get(), so)
+        }
+        Guard::Either(left, right) => {
+            let other = is_so(region, atoms, right.get(), so);
+            if other == so {
+                return other;
+            }
+            is_so(region, atoms, left.get(), so)
+        }
+        _ => is_told(known(region, atoms, guard), so),
     }
 }

@@ -52,7 +52,7 @@ fn whole_groups(
 }
 
 /// All groups and definitions of the target of that number.
-pub fn all_live(alloc: Global, table: &Table, target: u32) -> Result<LiveGroups, AllocError>
+pub(crate) fn all_live(alloc: Global, table: &Table, target: u32) -> Result<LiveGroups, AllocError>
     requires { target < length table.now.targets }
     ensures { IfOk result (λ live. IfSome (slice_get table.now.targets target)
         (λ t. (answers : ℕ → Option Bool) → IsLiveOf t answers live)) }

@@ -9,6 +9,9 @@ pub use Rattle.cat_region.proofs.DecisionLaws.{Admits-point_at}
 pub use Rattle.cat_region.proofs.AdmitLemmas.{Admits-by_dimensions, IsEmpty-of_admits_none}
 pub use Rattle.cat_region.proofs.ChoiceLaws.{IsPointOf-point_at}
 pub use Rattle.cat_region.proofs.TrailLemmas.{narrowings-undone, last_narrowing-more}
+pub use Rattle.cat_region.proofs.SideLemmas.{along_dims, along_alike, joined, Ends, ends, at_base}
+pub use Rattle.cat_region.proofs.AlikeLemmas.{none_alike, decided_alike, region_alike, admits_alike, inhabited_alike}
+pub use Rattle.cat_region.proofs.AlikeLemmas.{region_before, some_before}
 pub use Rattle.cat_region.proofs.Tests.{le_is, lt_is, eq_is, and-parts, and-both}
 pub use Rattle.cat_region.proofs.LowestLemmas.{gcd_is, reduced_test}
 pub use Rattle.cat_region.proofs.ExtentLemmas.{beq-true, beq-false}

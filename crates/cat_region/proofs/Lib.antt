@@ -14,5 +14,7 @@ pub mod NearestLemmas
 pub mod BetweenLemmas
 pub mod ChoiceLaws
 pub mod KeptLemmas
+pub mod SideLemmas
+pub mod AlikeLemmas
 pub mod Exported
 pub mod Examples

@@ -9,6 +9,7 @@ mod laws;
 mod narrowing;
 mod point;
 mod region;
+mod sides;
 
 pub use cut::{Cut, Scalar};
 pub use dim::Dim;
@@ -20,3 +21,4 @@ pub use laws::{
 pub use narrowing::Narrowing;
 pub use point::Point;
 pub use region::Region;
+pub use sides::{to_false_side, undo_all};

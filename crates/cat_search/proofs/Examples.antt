@@ -15,7 +15,7 @@ use Rattle.cat_search.specs.declared.bad.Flaw.TheVariants as flaw
 use Rattle.cat_search.specs.Cells.{cells_from}
 use Rattle.cat_search.specs.Parted.{ends}
 use Rattle.cat_search.specs.Searched.{leaves_from, flaw_of, is_known, size, rests}
-use Rattle.cat_search.specs.inside.Sides.{turns}
+use Rattle.cat_region.specs.Sides.{turns}
 use Rattle.cat_search.specs.inside.ToCome.{in_front, leaf_nodes}
 use Rattle.cat_search.specs.inside.Underway.{to_come}
 

@@ -1,3 +1,2 @@
 -- What crates above may cite by path: rewriting, which no clause of a law can give.
-pub use Rattle.cat_search.proofs.SideLemmas.{Ends, ends}
 pub use Rattle.cat_search.proofs.LawLemmas.{sides_are, same_dims}

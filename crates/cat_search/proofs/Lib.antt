@@ -3,13 +3,11 @@ mod CellLemmas
 mod Examples
 mod LawLemmas
 mod SampleLemmas
-mod SideLemmas
 mod WayLemmas
 mod TargetLemmas
 mod TreeLemmas
 mod UnderwayLemmas
 mod ValueLemmas
-mod LevelLemmas
 mod WayAskedLemmas
 mod WayExamples
 mod FollowingLemmas

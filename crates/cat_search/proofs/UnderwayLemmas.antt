@@ -6,12 +6,10 @@ use Rattle.std.proofs.lemmas.List.{append-nil}
 use Rattle.std.proofs.Math.Logic.{∥∥₁_elim}
 use Rattle.std.proofs.Props.{props}
 use Rattle.std.specs.Prelude.{max}
-use mathlib.Core.Path.{fun_ext}
-use Rattle.cat_region.specs.declared.dim.Dim.{Dim}
-use Rattle.cat_region.specs.declared.cut.Cut.{Cut}
 use Rattle.cat_region.specs.declared.narrowing.Narrowing.{Narrowing}
 use Rattle.cat_region.specs.Regions.{Constraints, IsInhabited, IsEmpty}
-use Rattle.cat_region.specs.Decided.{admits_none, decided_at}
+use Rattle.cat_region.specs.Sides.{along, IsAt, turns, false_side, Turns}
+use Rattle.cat_region.proofs.Exported.{along_dims, along_alike, inhabited_alike, at_base}
 use Rattle.cat_guard.specs.declared.table.Term.{Term}
 use Rattle.cat_guard.specs.declared.table.Atom.{Atom}
 use Rattle.cat_guard.specs.declared.table.TableTarget.{TableTarget}
@@ -22,15 +20,14 @@ use Rattle.cat_guard.specs.Formulas.{asked}
 use Rattle.cat_guard.specs.Soundness.{is_sound}
 use Rattle.cat_guard.specs.Trees.{Tree, with_answer, answering, height, tree_of, is_tree}
 use Rattle.cat_guard.specs.Trees as tree
-use Rattle.cat_guard.specs.Valuations.{dims_of}
 use Rattle.cat_guard.specs.Verdicts.{verdict_of}
+use Rattle.cat_guard.proofs.Exported.{answers_alike}
 use Rattle.cat_search.specs.declared.bad.BadLeaf.{BadLeaf}
 use Rattle.cat_search.specs.declared.bad.Flaw.{Flaw}
 use Rattle.cat_search.specs.declared.node.NextNode.TheVariants as next
 use Rattle.cat_search.specs.declared.searching.Searching.{Searching}
 use Rattle.cat_search.specs.Searched.{everything, IsSplit, IsSearched, leaves_from, bad_among, size, is_known}
 use Rattle.cat_search.specs.Searched.{IsFound, roomy}
-use Rattle.cat_search.specs.inside.Sides.{along, IsAt, turns, false_side, Turns}
 use Rattle.cat_search.specs.inside.Underway.{flaw_at, bad_one, IsMadeOf, AreAsked}
 use Rattle.cat_search.specs.inside.ToCome.{in_front, AreSearched}
 use Rattle.cat_search.specs.inside.ToCome.{highest, leaves_along}
@@ -41,41 +38,38 @@ use Rattle.cat_search.proofs.WayLemmas.{inhabited, room_left}
 
 -- ---- regions that differ in room alone
 
-decided_alike : (region other : Constraints) → region.dims ≡ other.dims → region.narrowings ≡ other.narrowings
-    → (i : ℕ) (c : Cut) → decided_at region i c ≡ decided_at other i c
-unfolding decided_at admits_none
-decided_alike region other dims narrowings i c =
-    ap (λ ds. decided_at (record { dims = ds; narrowings = region.narrowings; room = 0 }) i c) dims
-    ∙ ap (λ ns. decided_at (record { dims = other.dims; narrowings = ns; room = 0 }) i c) narrowings
-
-pub answers_alike : (atoms : List Atom) (region other : Constraints) → region.dims ≡ other.dims
-    → region.narrowings ≡ other.narrowings → (a : ℕ) → answers_in atoms region a ≡ answers_in atoms other a
-answers_alike atoms region other dims narrowings a = by (slice_get atoms a)
-  where
-    by : (o : Option Atom) → atom_decided region o ≡ atom_decided other o
-    by None = refl
-    by (Some atom) = decided_alike region other dims narrowings atom.term atom.cut
-
 judged_alike : (atoms : List Atom) (t : TableTarget) (region other : Constraints) → region.dims ≡ other.dims
     → region.narrowings ≡ other.narrowings → judged_in atoms region t ≡ judged_in atoms other t
 judged_alike atoms t region other dims narrowings =
-    ap (verdict_of t) (fun_ext (answers_alike atoms region other dims narrowings))
+    ap (verdict_of t) (answers_alike atoms region other dims narrowings)
 
 split_alike : (atoms : List Atom) (t : TableTarget) (region other : Constraints) (a : ℕ) → region.dims ≡ other.dims
     → region.narrowings ≡ other.narrowings → IsSplit atoms t region a → IsSplit atoms t other a
 split_alike atoms t region other a dims narrowings is = record {
   unknown = sym (judged_alike atoms t region other dims narrowings) ∙ is.unknown;
   asked = is.asked;
-  undecided = sym (answers_alike atoms region other dims narrowings a) ∙ is.undecided;
+  undecided =
+      sym (ap (λ (answers : ℕ → Option Bool). answers a) (answers_alike atoms region other dims narrowings))
+      ∙ is.undecided;
 }
+
+-- a search's region, but for its room, is that of its path
+pub dims_at : (terms : List Term) (atoms : List Atom) (path : List Narrowing) (region : Constraints)
+    → IsAt (roomy terms atoms) path region → region.dims ≡ (along (everything terms) path).dims
+dims_at terms atoms path region at = at.dims ∙ sym (along_dims (everything terms) path)
+
+pub narrowings_at : (terms : List Term) (atoms : List Atom) (path : List Narrowing) (region : Constraints)
+    → IsAt (roomy terms atoms) path region → region.narrowings ≡ (along (everything terms) path).narrowings
+narrowings_at terms atoms path region at =
+    at.narrowings ∙ along_alike (roomy terms atoms) (everything terms) path refl
 
 -- an atom's answer, as a narrowing
 abbrev pub answering_with : Atom → Bool → Narrowing
 answering_with atom b = record { dim = atom.term; cut = atom.cut; yes = b }
 
 module _ (terms : List Term) (atoms : List Atom) (t : TableTarget) where
-  abbrev Dims : List Dim
-  Dims = dims_of terms
+  abbrev Base : Constraints
+  Base = everything terms
 
   abbrev Most : ℕ
   Most = length atoms
@@ -86,39 +80,39 @@ module _ (terms : List Term) (atoms : List Atom) (t : TableTarget) where
     abbrev Side : Bool → List Narrowing
     Side b = answering_with atom b ∷ path
 
-    side_is : (b : Bool) → answering atoms (along Dims path) a b ≡ along Dims (Side b)
-    side_is b = ap (λ o. with_answer (along Dims path) o b) at
+    side_is : (b : Bool) → answering atoms (along Base path) a b ≡ along Base (Side b)
+    side_is b = ap (λ o. with_answer (along Base path) o b) at
 
     split_leaves : (place : ℕ) (ps : List (List Narrowing)) (l r : Tree) (more : List Tree)
-        → leaves_along atoms Dims place (path ∷ ps) (tree.Split a l r ∷ more)
-        ≡ leaves_along atoms Dims (place + 1) (Side true ∷ Side false ∷ ps) (l ∷ r ∷ more)
+        → leaves_along atoms Base place (path ∷ ps) (tree.Split a l r ∷ more)
+        ≡ leaves_along atoms Base (place + 1) (Side true ∷ Side false ∷ ps) (l ∷ r ∷ more)
     split_leaves place ps l r more =
         let one = ap (λ region. leaves_from atoms (place + 1) region l) (side_is true) in
         let other = ap (λ region. leaves_from atoms (place + 1 + size l) region r) (side_is false) in
         let behind : place + (1 + (size l + size r)) ≡ place + 1 + size l + size r = omega arith in
-        let rest = ap (λ k. leaves_along atoms Dims k ps more) behind in
-        append_assoc (leaves_from atoms (place + 1) (answering atoms (along Dims path) a true) l)
-        (leaves_from atoms (place + 1 + size l) (answering atoms (along Dims path) a false) r)
-        (leaves_along atoms Dims (place + (1 + (size l + size r))) ps more)
-        ∙ ap (λ xs. xs ++ (leaves_from atoms (place + 1 + size l) (answering atoms (along Dims path) a false) r
-        ++ leaves_along atoms Dims (place + (1 + (size l + size r))) ps more)) one
-        ∙ ap (λ xs. leaves_from atoms (place + 1) (along Dims (Side true)) l
-        ++ (xs ++ leaves_along atoms Dims (place + (1 + (size l + size r))) ps more)) other
-        ∙ ap (λ xs. leaves_from atoms (place + 1) (along Dims (Side true)) l
-        ++ (leaves_from atoms (place + 1 + size l) (along Dims (Side false)) r ++ xs)) rest
+        let rest = ap (λ k. leaves_along atoms Base k ps more) behind in
+        append_assoc (leaves_from atoms (place + 1) (answering atoms (along Base path) a true) l)
+        (leaves_from atoms (place + 1 + size l) (answering atoms (along Base path) a false) r)
+        (leaves_along atoms Base (place + (1 + (size l + size r))) ps more)
+        ∙ ap (λ xs. xs ++ (leaves_from atoms (place + 1 + size l) (answering atoms (along Base path) a false) r
+        ++ leaves_along atoms Base (place + (1 + (size l + size r))) ps more)) one
+        ∙ ap (λ xs. leaves_from atoms (place + 1) (along Base (Side true)) l
+        ++ (xs ++ leaves_along atoms Base (place + (1 + (size l + size r))) ps more)) other
+        ∙ ap (λ xs. leaves_from atoms (place + 1) (along Base (Side true)) l
+        ++ (leaves_from atoms (place + 1 + size l) (along Base (Side false)) r ++ xs)) rest
 
-    asked_now : AreAsked atoms Dims path → (b : Bool) → answers_in atoms (along Dims path) a ≡ None
-        → AreAsked atoms Dims (Side b)
+    asked_now : AreAsked atoms Base path → (b : Bool) → answers_in atoms (along Base path) a ≡ None
+        → AreAsked atoms Base (Side b)
     asked_now asked b none = (
-      record { number = a; atom_is = at; undecided = sym (ap (atom_decided (along Dims path)) at) ∙ none },
+      record { number = a; atom_is = at; undecided = sym (ap (atom_decided (along Base path)) at) ∙ none },
       asked,
     )
 
     module _ (s s' : Searching) (ps : List (List Narrowing))
         (nodes : s'.nodes ≡ s.nodes ++ node.Split a ∷ []) (depth : s'.depth ≡ s.depth) (bad : s'.bad ≡ s.bad) where
       split_completes : (l r : Tree) (more : List Tree)
-          → Completes atoms t Dims s (path ∷ ps) (tree.Split a l r ∷ more)
-          → Completes atoms t Dims s' (Side true ∷ Side false ∷ ps) (l ∷ r ∷ more)
+          → Completes atoms t Base s (path ∷ ps) (tree.Split a l r ∷ more)
+          → Completes atoms t Base s' (Side true ∷ Side false ∷ ps) (l ∷ r ∷ more)
       split_completes l r more c = record {
         tree = c.tree;
         tree_is =
@@ -135,17 +129,17 @@ module _ (terms : List Term) (atoms : List Atom) (t : TableTarget) where
             sym (ap length nodes ∙ one_more s.nodes (node.Split a)) in
             c.bad_are
             ∙ ap (λ ls. s.bad ++ bad_among atoms t ls) (split_leaves (length s.nodes) ps l r more)
-            ∙ ap (λ k. s.bad ++ bad_among atoms t (leaves_along atoms Dims k (Side true ∷ Side false ∷ ps)
+            ∙ ap (λ k. s.bad ++ bad_among atoms t (leaves_along atoms Base k (Side true ∷ Side false ∷ ps)
             (l ∷ r ∷ more))) place
-            ∙ ap (λ b. b ++ bad_among atoms t (leaves_along atoms Dims (length s'.nodes) (Side true ∷ Side false ∷ ps)
+            ∙ ap (λ b. b ++ bad_among atoms t (leaves_along atoms Base (length s'.nodes) (Side true ∷ Side false ∷ ps)
             (l ∷ r ∷ more))) (sym bad);
       }
 
-      split_rest : IsSplit atoms t (along Dims path) a
-          → ((trees : List Tree) → AreSearched atoms t Dims (path ∷ ps) trees
-          → Completes atoms t Dims s (path ∷ ps) trees)
-          → (trees : List Tree) → AreSearched atoms t Dims (Side true ∷ Side false ∷ ps) trees
-          → Completes atoms t Dims s' (Side true ∷ Side false ∷ ps) trees
+      split_rest : IsSplit atoms t (along Base path) a
+          → ((trees : List Tree) → AreSearched atoms t Base (path ∷ ps) trees
+          → Completes atoms t Base s (path ∷ ps) trees)
+          → (trees : List Tree) → AreSearched atoms t Base (Side true ∷ Side false ∷ ps) trees
+          → Completes atoms t Base s' (Side true ∷ Side false ∷ ps) trees
       split_rest is rest [] searched = absurd (searched)
       split_rest is rest (l ∷ []) searched = absurd (searched.1)
       split_rest is rest (l ∷ r ∷ more) searched =
@@ -164,13 +158,14 @@ module _ (terms : List Term) (atoms : List Atom) (t : TableTarget) where
       → s'.region.dims ≡ s.region.dims → s'.region.narrowings ≡ (answering atoms s.region a true).narrowings
       → s'.region.room + 1 ≡ s.region.room → IsUnderway terms atoms t true s'
   split_step s s' a atom at u is nodes depth bad dims narrowings room =
-      let here = split_alike atoms t s.region (along Dims u.path) a u.at.dims_are u.at.narrowings is in
+      let here = split_alike atoms t s.region (along Base u.path) a (dims_at terms atoms u.path s.region u.at)
+      (narrowings_at terms atoms u.path s.region u.at) is in
       let before = u.at.room in
       record {
         some = u.some;
         path = answering_with atom true ∷ u.path;
         at = record {
-          dims_are = dims ∙ u.at.dims_are;
+          dims = dims ∙ u.at.dims;
           narrowings =
               narrowings ∙ ap (λ o. (with_answer s.region o true).narrowings) at
               ∙ ap (λ ns. ns ++ answering_with atom true ∷ []) u.at.narrowings;
@@ -185,7 +180,8 @@ module _ (terms : List Term) (atoms : List Atom) (t : TableTarget) where
       (atom : Atom) → slice_get atoms a ≡ Some atom → IsUnderway terms atoms t true s → IsSplit atoms t s.region a
       → 0 < s.region.room
   split_room targets sound s a atom at u is =
-      let here = split_alike atoms t s.region (along Dims u.path) a u.at.dims_are u.at.narrowings is in
+      let here = split_alike atoms t s.region (along Base u.path) a (dims_at terms atoms u.path s.region u.at)
+      (narrowings_at terms atoms u.path s.region u.at) is in
       let few = room_left terms atoms targets sound u.path (answering_with atom true)
       (asked_now a atom at u.path u.asked true here.undecided) u.some in
       let all = u.at.room in
@@ -196,10 +192,10 @@ module _ (terms : List Term) (atoms : List Atom) (t : TableTarget) where
   module _ (targets : List TableTarget) (sound : IsTrue (is_sound terms atoms targets)) (s s' : Searching)
       (u : IsUnderway terms atoms t true s) (region : s'.region ≡ s.region)
       (depth : s'.depth ≡ max s.depth (Most - s.region.room)) where
-    at_still : IsAt Dims Most u.path s'.region
-    at_still = subst (λ r. IsAt Dims Most u.path r) (sym region) u.at
+    at_still : IsAt (roomy terms atoms) u.path s'.region
+    at_still = subst (λ r. IsAt (roomy terms atoms) u.path r) (sym region) u.at
 
-    some_here : IsInhabited (along Dims u.path)
+    some_here : IsInhabited (along Base u.path)
     some_here = inhabited terms atoms targets sound u.path u.asked u.some
 
     deep : max s.depth (length u.path + 0) ≡ s'.depth
@@ -216,14 +212,15 @@ module _ (terms : List Term) (atoms : List Atom) (t : TableTarget) where
       rest = λ trees searched. completes trees (u.rest (tree.Leaf ∷ trees) ((some_here, known), searched));
     }
       where
-        alike : judged_in atoms s.region t ≡ judged_in atoms (along Dims u.path) t
-        alike = judged_alike atoms t s.region (along Dims u.path) u.at.dims_are u.at.narrowings
+        alike : judged_in atoms s.region t ≡ judged_in atoms (along Base u.path) t
+        alike = judged_alike atoms t s.region (along Base u.path) (dims_at terms atoms u.path s.region u.at)
+            (narrowings_at terms atoms u.path s.region u.at)
 
-        known : IsTrue (is_known (judged_in atoms (along Dims u.path) t))
+        known : IsTrue (is_known (judged_in atoms (along Base u.path) t))
         known = subst (λ v. IsTrue (is_known v)) alike is.0
 
-        completes : (trees : List Tree) → Completes atoms t Dims s (u.path ∷ turns u.path) (tree.Leaf ∷ trees)
-            → Completes atoms t Dims s' (turns u.path) trees
+        completes : (trees : List Tree) → Completes atoms t Base s (u.path ∷ turns u.path) (tree.Leaf ∷ trees)
+            → Completes atoms t Base s' (turns u.path) trees
         completes trees c = record {
           tree = c.tree;
           tree_is =
@@ -233,14 +230,14 @@ module _ (terms : List Term) (atoms : List Atom) (t : TableTarget) where
           height_is = c.height_is ∙ ap (λ d. highest d (turns u.path) trees) deep;
           bad_are =
               let rest : ℕ → List BadLeaf =
-              λ k. bad_among atoms t (leaves_along atoms Dims k (turns u.path) trees) in
+              λ k. bad_among atoms t (leaves_along atoms Base k (turns u.path) trees) in
               let place : length s.nodes + 1 ≡ length s'.nodes =
               sym (ap length nodes ∙ one_more s.nodes node.Leaf) in
-              let wrong : flaw_at t (judged_in atoms (along Dims u.path) t) ≡ flaw =
+              let wrong : flaw_at t (judged_in atoms (along Base u.path) t) ≡ flaw =
               sym (is.1 ∙ ap (flaw_at t) alike) in
               c.bad_are
               ∙ ap (λ b. s.bad ++ b)
-              (bad_one_front t (length s.nodes) (judged_in atoms (along Dims u.path) t) (rest (length s.nodes + 1))
+              (bad_one_front t (length s.nodes) (judged_in atoms (along Base u.path) t) (rest (length s.nodes + 1))
               ∙ ap (λ f. bad_one (length s.nodes) f ++ rest (length s.nodes + 1)) wrong)
               ∙ sym (append_assoc s.bad (bad_one (length s.nodes) flaw) (rest (length s.nodes + 1)))
               ∙ ap (λ b. b ++ rest (length s.nodes + 1)) (sym bad)
@@ -256,8 +253,8 @@ module _ (terms : List Term) (atoms : List Atom) (t : TableTarget) where
       rest = λ trees searched. completes trees (u.rest (tree.Rest ∷ trees) (some_here, searched));
     }
       where
-        completes : (trees : List Tree) → Completes atoms t Dims s (u.path ∷ turns u.path) (tree.Rest ∷ trees)
-            → Completes atoms t Dims s' (turns u.path) trees
+        completes : (trees : List Tree) → Completes atoms t Base s (u.path ∷ turns u.path) (tree.Rest ∷ trees)
+            → Completes atoms t Base s' (turns u.path) trees
         completes trees c = record {
           tree = c.tree;
           tree_is =
@@ -267,7 +264,7 @@ module _ (terms : List Term) (atoms : List Atom) (t : TableTarget) where
           height_is = c.height_is ∙ ap (λ d. highest d (turns u.path) trees) deep;
           bad_are =
               let rest : ℕ → List BadLeaf =
-              λ k. bad_among atoms t (leaves_along atoms Dims k (turns u.path) trees) in
+              λ k. bad_among atoms t (leaves_along atoms Base k (turns u.path) trees) in
               let place : length s.nodes + 1 ≡ length s'.nodes =
               sym (ap length nodes ∙ one_more s.nodes node.Rest) in
               c.bad_are ∙ ap (λ b. b ++ rest (length s.nodes + 1)) (sym bad) ∙ ap (λ k. s'.bad ++ rest k) place;
@@ -275,26 +272,26 @@ module _ (terms : List Term) (atoms : List Atom) (t : TableTarget) where
 
   -- ---- the way back
 
-  asked_turn : (path next : List Narrowing) (more : List (List Narrowing)) → AreAsked atoms Dims path
-      → turns path ≡ next ∷ more → AreAsked atoms Dims next
+  asked_turn : (path next : List Narrowing) (more : List (List Narrowing)) → AreAsked atoms Base path
+      → turns path ≡ next ∷ more → AreAsked atoms Base next
   asked_turn [] next more asked is = absurd (cc)
   asked_turn (n ∷ path) next more asked is = by n.yes is (asked_turn path next more asked.1)
     where
-      other : AreAsked atoms Dims (false_side n ∷ path)
+      other : AreAsked atoms Base (false_side n ∷ path)
       other = (
         record { number = asked.0.number; atom_is = asked.0.atom_is; undecided = asked.0.undecided },
         asked.1,
       )
 
       by : (b : Bool) → (if b then (false_side n ∷ path) ∷ turns path else turns path) ≡ next ∷ more
-          → (turns path ≡ next ∷ more → AreAsked atoms Dims next) → AreAsked atoms Dims next
+          → (turns path ≡ next ∷ more → AreAsked atoms Base next) → AreAsked atoms Base next
       by true e before =
-          let same : false_side n ∷ path ≡ next = cc in subst (λ p. AreAsked atoms Dims p) same other
+          let same : false_side n ∷ path ≡ next = cc in subst (λ p. AreAsked atoms Base p) same other
       by false e before = before e
 
   moved : (s : Searching) (region : Constraints) (paths : List (List Narrowing)) (trees : List Tree)
-      → Completes atoms t Dims s paths trees
-      → Completes atoms t Dims (record { region = region; nodes = s.nodes; depth = s.depth; bad = s.bad }) paths trees
+      → Completes atoms t Base s paths trees
+      → Completes atoms t Base (record { region = region; nodes = s.nodes; depth = s.depth; bad = s.bad }) paths trees
   moved s region paths trees c = record {
     tree = c.tree;
     tree_is = c.tree_is;
@@ -304,7 +301,7 @@ module _ (terms : List Term) (atoms : List Atom) (t : TableTarget) where
   }
 
   pub turn_step : (s : Searching) (region : Constraints) (found : Bool) → (u : IsUnderway terms atoms t false s)
-      → Turns Dims Most u.path found region
+      → Turns (roomy terms atoms) u.path found region
       → IsTurned terms atoms t found (record { region = region; nodes = s.nodes; depth = s.depth; bad = s.bad })
   turn_step s region true u is = record {
     some = u.some;
@@ -312,16 +309,24 @@ module _ (terms : List Term) (atoms : List Atom) (t : TableTarget) where
     at = is.2;
     asked = asked_turn u.path is.0 (turns is.0) u.asked is.1;
     rest = λ trees searched. moved s region (is.0 ∷ turns is.0) trees
-        (subst (λ ps. Completes atoms t Dims s ps trees) is.1
-        (u.rest trees (subst (λ ps. AreSearched atoms t Dims ps trees) (sym is.1) searched)));
+        (subst (λ ps. Completes atoms t Base s ps trees) is.1
+        (u.rest trees (subst (λ ps. AreSearched atoms t Base ps trees) (sym is.1) searched)));
   }
   turn_step s region false u is = record {
     written =
         moved s region [] []
-        (subst (λ ps. Completes atoms t Dims s ps []) is.0
-        (u.rest [] (subst (λ ps. AreSearched atoms t Dims ps []) (sym is.0) tt)));
+        (subst (λ ps. Completes atoms t Base s ps []) is.0
+        (u.rest [] (subst (λ ps. AreSearched atoms t Base ps []) (sym is.0) tt)));
     back = is.1;
   }
+
+-- where a search is, something is admitted
+pub inhabited_here : (terms : List Term) (atoms : List Atom) (targets : List TableTarget)
+    → IsTrue (is_sound terms atoms targets) → (t : TableTarget) (here : Bool) (s : Searching)
+    → IsUnderway terms atoms t here s → IsInhabited s.region
+inhabited_here terms atoms targets sound t here s u =
+    inhabited_alike (along (everything terms) u.path) s.region (sym (dims_at terms atoms u.path s.region u.at))
+    (sym (narrowings_at terms atoms u.path s.region u.at)) (inhabited terms atoms targets sound u.path u.asked u.some)
 
 pub room_within : (terms : List Term) (atoms : List Atom) (t : TableTarget) (here : Bool) (s : Searching)
     → IsUnderway terms atoms t here s → s.region.room ≤ length atoms
@@ -330,15 +335,15 @@ room_within terms atoms t here s u = let all = u.at.room in omega (arith, all)
 -- ---- the beginning and the end
 
 module _ (terms : List Term) (atoms : List Atom) (t : TableTarget) where
-  first_completes : (trees : List Tree) → AreSearched atoms t (dims_of terms) ([] ∷ []) trees
-      → Completes atoms t (dims_of terms) (start terms atoms) ([] ∷ []) trees
+  first_completes : (trees : List Tree) → AreSearched atoms t (everything terms) ([] ∷ []) trees
+      → Completes atoms t (everything terms) (start terms atoms) ([] ∷ []) trees
   first_completes [] searched = absurd (searched)
   first_completes (x ∷ []) searched = record {
     tree = x;
     tree_is = refl;
     searched = searched.0;
     height_is = omega arith;
-    bad_are = ap (bad_among atoms t) (sym (append-nil (leaves_from atoms 0 (along (dims_of terms) []) x)));
+    bad_are = ap (bad_among atoms t) (sym (append-nil (leaves_from atoms 0 (everything terms) x)));
   }
   first_completes (x ∷ y ∷ more) searched = absurd (searched.1)
 
@@ -346,7 +351,7 @@ module _ (terms : List Term) (atoms : List Atom) (t : TableTarget) where
   first_step some = record {
     some = some;
     path = [];
-    at = record { dims_are = refl; narrowings = refl; room = omega arith };
+    at = record { dims = refl; narrowings = refl; room = omega arith };
     asked = tt;
     rest = first_completes;
   }
@@ -379,9 +384,4 @@ module _ (terms : List Term) (atoms : List Atom) (t : TableTarget) where
   }
 
   pub complete_is_back : (s : Searching) → IsComplete terms atoms t s → s.region ≡ roomy terms atoms
-  complete_is_back s c =
-      let room : s.region.room ≡ length atoms =
-      let all : s.region.room + 0 ≡ length atoms = c.back.room in omega (arith, all) in
-      ap (λ ds. record { dims = ds; narrowings = s.region.narrowings; room = s.region.room }) c.back.dims_are
-      ∙ ap (λ ns. record { dims = dims_of terms; narrowings = ns; room = s.region.room }) c.back.narrowings
-      ∙ ap (λ n. record { dims = dims_of terms; narrowings = []; room = n }) room
+  complete_is_back s c = at_base (roomy terms atoms) s.region c.back

@@ -11,14 +11,16 @@ use Rattle.std.proofs.lemmas.Map.Steps.{length-le_from_distinct_below}
 use Rattle.std.proofs.lemmas.Option.{slice_get_within}
 use Rattle.cat_order.proofs.Exported.{apart_push}
 use Rattle.cat_value.proofs.Exported.{list_all_at}
+use Rattle.cat_region.specs.declared.dim.Dim.{Dim}
 use Rattle.cat_region.specs.declared.narrowing.Narrowing.{Narrowing}
 use Rattle.cat_region.specs.declared.point.Point.{Point}
 use Rattle.cat_region.specs.Points.{answer}
 use Rattle.cat_region.specs.Regions.{Constraints, Valuation, Admits, IsRegion, IsDecision, is_cut_at}
 use Rattle.cat_region.specs.Regions.{with_narrowing, agrees, IsInhabited}
 use Rattle.cat_region.specs.Decided.{decided_at}
+use Rattle.cat_region.specs.Sides.{along}
 use Rattle.cat_region.proofs.Exported.{IsDecision-decided_at, IsRegion-with_narrowing, Admits-with_narrowing}
-use Rattle.cat_region.proofs.Exported.{decided_at-narrowed}
+use Rattle.cat_region.proofs.Exported.{decided_at-narrowed, along_dims}
 use Rattle.cat_guard.specs.declared.table.Term.{Term}
 use Rattle.cat_guard.specs.declared.table.Atom.{Atom}
 use Rattle.cat_guard.specs.declared.table.TableTarget.{TableTarget}
@@ -26,7 +28,7 @@ use Rattle.cat_guard.specs.Judged.{atom_decided, answers_in}
 use Rattle.cat_guard.specs.Soundness.{atom_is_sound, is_sound}
 use Rattle.cat_guard.specs.Valuations.{dims_of}
 use Rattle.cat_guard.proofs.Exported.{cut_of_term, sound_dims, sound_atoms}
-use Rattle.cat_search.specs.inside.Sides.{along}
+use Rattle.cat_search.specs.Searched.{everything}
 use Rattle.cat_search.specs.inside.Underway.{IsAsked, AreAsked}
 
 -- ---- one narrowing
@@ -85,25 +87,31 @@ answered region n None (inr two) some e = by n.yes refl
 module _ (terms : List Term) (atoms : List Atom) (targets : List TableTarget)
     (sound : IsTrue (is_sound terms atoms targets)) where
   abbrev Way : List Narrowing → Constraints
-  Way path = along (dims_of terms) path
+  Way path = along (everything terms) path
 
   abbrev Asked : List Narrowing → Type 0
-  Asked path = AreAsked atoms (dims_of terms) path
+  Asked path = AreAsked atoms (everything terms) path
 
   pub cut_is : (a : ℕ) (atom : Atom) → slice_get atoms a ≡ Some atom
       → IsTrue (is_cut_at (dims_of terms) atom.term atom.cut)
   cut_is a atom is = cut_of_term terms atom.term atom
       (list_all_at (atom_is_sound terms) atoms a atom (sound_atoms terms atoms targets sound) is)
 
+  cut_on : (path : List Narrowing) (a : ℕ) (atom : Atom) → slice_get atoms a ≡ Some atom
+      → IsTrue (is_cut_at (Way path).dims atom.term atom.cut)
+  cut_on path a atom is =
+      subst (λ (ds : List Dim). IsTrue (is_cut_at ds atom.term atom.cut)) (sym (along_dims (everything terms) path))
+      (cut_is a atom is)
+
   pub region_is : (path : List Narrowing) → Asked path → IsRegion (Way path)
   region_is [] asked = record { dims = sound_dims terms atoms targets sound; narrowings = refl }
   region_is (n ∷ path) asked =
-      IsRegion-with_narrowing (Way path) n (region_is path asked.1) (cut_is asked.0.number _ asked.0.atom_is)
+      IsRegion-with_narrowing (Way path) n (region_is path asked.1) (cut_on path asked.0.number _ asked.0.atom_is)
 
   decision : (path : List Narrowing) (n : Narrowing) → Asked path → IsAsked atoms (Way path) n
       → IsDecision (Way path) n.dim n.cut (decided_at (Way path) n.dim n.cut)
   decision path n asked one =
-      IsDecision-decided_at (Way path) n.dim n.cut (region_is path asked) (cut_is one.number _ one.atom_is)
+      IsDecision-decided_at (Way path) n.dim n.cut (region_is path asked) (cut_on path one.number _ one.atom_is)
 
   pub inhabited : (path : List Narrowing) → Asked path → IsInhabited (Way []) → IsInhabited (Way path)
   inhabited [] asked some = some
@@ -130,7 +138,7 @@ module _ (terms : List Term) (atoms : List Atom) (targets : List TableTarget)
       by None e = known e
       by (Some b) e =
           let same = decided_at-narrowed (Way path) n atom.term atom.cut b (region_is path asked.1)
-          (cut_is asked.0.number _ asked.0.atom_is) (cut_is q atom is) (inhabited (n ∷ path) asked some) e in
+          (cut_on path asked.0.number _ asked.0.atom_is) (cut_on path q atom is) (inhabited (n ∷ path) asked some) e in
           absurd (cc)
 
   known_at : (path : List Narrowing) (asked : Asked path) → IsInhabited (Way []) → (q : ℕ)
@@ -142,7 +150,7 @@ module _ (terms : List Term) (atoms : List Atom) (targets : List TableTarget)
       here : IsKnown (n ∷ path) asked.0.number
       here none = answered (Way path) n (decided_at (Way (n ∷ path)) n.dim n.cut)
           (IsDecision-decided_at (Way (n ∷ path)) n.dim n.cut (region_is (n ∷ path) asked)
-          (cut_is asked.0.number _ asked.0.atom_is))
+          (cut_on (n ∷ path) asked.0.number _ asked.0.atom_is))
           (inhabited (n ∷ path) asked some) (sym (ap (atom_decided (Way (n ∷ path))) asked.0.atom_is) ∙ none)
 
       by : (b : Bool) → eqb q asked.0.number ≡ b → (b || list_any (eqb q) (numbers path asked.1)) ≡ true

@@ -7,11 +7,9 @@ mod choice;
 mod following;
 mod found;
 mod laws;
-mod levels;
 mod node;
 mod searched;
 mod searching;
-mod sides;
 mod way;
 mod way_laws;
 

@@ -7,9 +7,8 @@ ghost use Rattle.cat_search.specs.Searched.{everything, roomy, IsSearchOf, IsClo
 use crate::asked::atoms_in_order;
 use crate::found::Search;
 use crate::laws::{searched_trees_stay_within_the_cells, trees_without_bad_leaves_are_closed};
-use crate::levels::Levels;
 use crate::searching::Searching;
-use cat_guard::{Table, TreeNode, empty_regions_close_each_tree, whole_region};
+use cat_guard::{Levels, Table, TreeNode, empty_regions_close_each_tree, whole_region};
 use cat_region::Region;
 use std::alloc::{AllocError, Global};
 
@@ -44,13 +43,14 @@ pub fn search_in(
     }
     let order = atoms_in_order(alloc, table, target)?;
     let mut levels = Levels::new(alloc, table, target)?;
+    let room = table.atoms.len();
     for _ in 0..budget {
         searching.to_leaf(alloc, table, target, order.as_slice(), &mut levels)?;
-        if !searching.turn() {
+        if !searching.turn(room) {
             let (tree, bad, whole) = searching.into_parts();
             return Ok((Search::Closed { tree, bad }, whole));
         }
-        levels.back_to(table.atoms.len() - searching.region.room());
+        levels.back_to(&searching.region);
     }
     searching.rests(table, target)?;
     let (tree, bad, whole) = searching.into_parts();

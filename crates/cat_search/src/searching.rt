@@ -1,34 +1,27 @@
 // A search on its way.
 ghost use Rattle.std.specs.Prelude.{◌≡◌, ◌<◌, ◌≤◌, ◌+◌, ◌++◌, ◌∷◌, [], true, false, IsTrue, IfOk, OnOk, IfSome};
 ghost use Rattle.std.specs.Prelude.{List as Listed, All, length, slice_get};
-ghost use Rattle.cat_region.specs.declared.narrowing.Narrowing.{Narrowing as Narrowed};
+ghost use Rattle.cat_region.specs.Sides.{Turns, true_sides};
 ghost use Rattle.cat_scope.specs.Names.{IsOneOf};
+ghost use Rattle.cat_guard.specs.declared.levels.Levels.{Levels as LevelsSeen};
 ghost use Rattle.cat_guard.specs.declared.table.Term.{Term as TermSeen};
 ghost use Rattle.cat_guard.specs.declared.table.Atom.{Atom as AtomSeen};
 ghost use Rattle.cat_guard.specs.declared.table.TableTarget.{TableTarget as TargetSeen};
 ghost use Rattle.cat_guard.specs.declared.tree.TreeNode.TheVariants.{Rest as RestSeen};
-ghost use Rattle.cat_guard.specs.Trees.{is_tree, answering};
+ghost use Rattle.cat_guard.specs.Trees.{is_tree};
 ghost use Rattle.cat_guard.specs.Valuations.{dims_of};
-ghost use Rattle.cat_guard.specs.Judged.{answers_in};
+ghost use Rattle.cat_guard.specs.Levels.{AreLiveTo};
 ghost use Rattle.cat_guard.specs.Judgements.{atoms_in};
-ghost use Rattle.cat_guard.specs.Live.{IsLiveOf};
 ghost use Rattle.cat_search.specs.declared.node.NextNode.TheVariants.{Leaf as LeafMade};
-ghost use Rattle.cat_search.specs.Searched.{IsSplit};
-ghost use Rattle.cat_search.specs.inside.Levels.{AreLiveOn, IsWayBack};
+ghost use Rattle.cat_search.specs.Searched.{IsSplit, roomy};
 ghost use Rattle.cat_search.specs.inside.Underway.{IsMadeOf, IsUnderway, IsComplete, IsTurned, bad_one, begun, ended};
 ghost use Rattle.cat_search.specs.inside.ToCome.{leaf_nodes, rest_nodes};
-ghost use Rattle.cat_search.specs.inside.Sides.{true_sides};
 
 use crate::bad::{BadLeaf, Flaw, Leaves};
-use crate::levels::Levels;
 use crate::node::{NextNode, next_node};
-use crate::sides::to_false_side;
-use cat_guard::{
-    CaseTree, LiveGroups, Table, TreeNode, TreeNodes, answer_atom, narrowing_keeps_what_is_live,
-    still_live,
-};
+use cat_guard::{CaseTree, Levels, Table, TreeNode, TreeNodes, answer_atom};
 use cat_pos::List;
-use cat_region::Region;
+use cat_region::{Region, to_false_side};
 use std::alloc::{AllocError, Global};
 
 /// Where a search is and what it has found so far.
@@ -100,53 +93,13 @@ impl Searching {
         ensures leaves { OnOk result (leaf_nodes self.new.nodes ≡ leaf_nodes self.old.nodes) }
         ensures rests { OnOk result (rest_nodes self.new.nodes ≡ rest_nodes self.old.nodes) }
         ensures room { OnOk result (self.new.region.room < self.old.region.room) }
-        ensures way { OnOk result (self.new.region.narrowings
-            ≡ (answering table.now.atoms self.old.region atom true).narrowings) }
+        ensures live { (t : TargetSeen) (levels : LevelsSeen)
+            → AreLiveTo table.now.atoms t self.old.region levels
+            → OnOk result (AreLiveTo table.now.atoms t self.new.region levels) }
     {
         self.nodes.push(TreeNode::Split(atom))?;
         answer_atom(table, &mut self.region, atom, true);
         Ok(())
-    }
-
-    /// What is live in the region where it is.
-    fn live(
-        &self,
-        alloc: Global,
-        table: &Table,
-        target: u32,
-        levels: &Levels,
-    ) -> Result<LiveGroups, AllocError>
-        requires target { target < length table.now.targets }
-        requires underway { IfSome (slice_get table.now.targets target)
-            (λ t. IsUnderway table.now.terms table.now.atoms t true self.now) }
-        requires live { IfSome (slice_get table.now.targets target) (λ t. AreLiveOn table.now.atoms t
-            (dims_of table.now.terms) self.now.region.narrowings levels.now) }
-        ensures { IfOk result (λ live. IfSome (slice_get table.now.targets target)
-            (λ t. IsLiveOf t (answers_in table.now.atoms self.now.region) live)) }
-    {
-        narrowing_keeps_what_is_live(table);
-        still_live(alloc, table, target, &self.region, levels.live())
-    }
-
-    /// Keeps what is live in the region where it is, if that is little.
-    fn keep(
-        &self,
-        table: &Table,
-        target: u32,
-        live: LiveGroups,
-        levels: &mut Levels,
-    ) -> Result<(), AllocError>
-        requires target { target < length table.now.targets }
-        requires underway { IfSome (slice_get table.now.targets target)
-            (λ t. IsUnderway table.now.terms table.now.atoms t true self.now) }
-        requires here { IfSome (slice_get table.now.targets target)
-            (λ t. IsLiveOf t (answers_in table.now.atoms self.now.region) live) }
-        requires live { IfSome (slice_get table.now.targets target) (λ t. AreLiveOn table.now.atoms t
-            (dims_of table.now.terms) self.now.region.narrowings levels.old) }
-        ensures { OnOk result (IfSome (slice_get table.now.targets target) (λ t. AreLiveOn table.now.atoms t
-            (dims_of table.now.terms) self.now.region.narrowings levels.new)) }
-    {
-        levels.keep(table.atoms.len() - self.region.room(), live)
     }
 
     /// Splits until there is a leaf.
@@ -163,20 +116,20 @@ impl Searching {
             (λ t. All (λ a. IsOneOf a (atoms_in t)) order.now) }
         requires underway { IfSome (slice_get table.now.targets target)
             (λ t. IsUnderway table.now.terms table.now.atoms t true self.old) }
-        requires live { IfSome (slice_get table.now.targets target) (λ t. AreLiveOn table.now.atoms t
-            (dims_of table.now.terms) self.old.region.narrowings levels.old) }
+        requires live { IfSome (slice_get table.now.targets target)
+            (λ t. AreLiveTo table.now.atoms t self.old.region levels.old) }
         ensures underway { OnOk result (IfSome (slice_get table.now.targets target)
             (λ t. IsUnderway table.now.terms table.now.atoms t false self.new)) }
-        ensures live { OnOk result (IfSome (slice_get table.now.targets target) (λ t. AreLiveOn table.now.atoms t
-            (dims_of table.now.terms) self.new.region.narrowings levels.new)) }
+        ensures live { OnOk result (IfSome (slice_get table.now.targets target)
+            (λ t. AreLiveTo table.now.atoms t self.new.region levels.new)) }
         ensures leaves { OnOk result (leaf_nodes self.new.nodes ≡ leaf_nodes self.old.nodes + 1) }
         ensures rests { OnOk result (rest_nodes self.new.nodes ≡ rest_nodes self.old.nodes) }
     {
         loop {
-            let live = self.live(alloc, table, target, levels)?;
+            let live = levels.live_in(alloc, table, target, &self.region)?;
             match next_node(table, target, &self.region, order, &live) {
                 NextNode::Split(atom) => {
-                    self.keep(table, target, live, levels)?;
+                    levels.keep(&self.region, live)?;
                     self.split(table, atom)?;
                 }
                 NextNode::Leaf(flaw) => return self.leaf(table, flaw),
@@ -184,18 +137,19 @@ impl Searching {
         }
     }
 
-    /// Goes back to the last split whose false side is still to come, and over to that, where there is one.
-    pub(crate) fn turn(&mut self) -> bool
-        ensures turned { (terms : Listed TermSeen) (atoms : Listed AtomSeen) (t : TargetSeen)
+    /// Goes back to the last split whose false side is still to come, and over to that, where there is one. A region
+    /// with that room is the whole.
+    pub(crate) fn turn(&mut self, room: usize) -> bool
+        ensures turned { (terms : Listed TermSeen) (atoms : Listed AtomSeen) (t : TargetSeen) → length atoms ≡ room
             → IsUnderway terms atoms t false self.old → IsTurned terms atoms t result self.new }
         ensures nodes { self.new.nodes ≡ self.old.nodes }
-        ensures way { (terms : Listed TermSeen) (atoms : Listed AtomSeen) (t : TargetSeen)
-            → IsUnderway terms atoms t false self.old → IsTrue result
-            → IsWayBack self.old.region.narrowings self.new.region.narrowings }
+        ensures way { (terms : Listed TermSeen) (atoms : Listed AtomSeen) (t : TargetSeen) → length atoms ≡ room
+            → (underway : IsUnderway terms atoms t false self.old)
+            → Turns (roomy terms atoms) underway.path result self.new.region }
         ensures fewer { IsTrue result
             → true_sides self.new.region.narrowings < true_sides self.old.region.narrowings }
     {
-        to_false_side(&mut self.region)
+        to_false_side(&mut self.region, room)
     }
 
     /// Writes a rest for the region where it is, and for each one that is to come.
@@ -208,8 +162,9 @@ impl Searching {
         ensures leaves { OnOk result (leaf_nodes self.new.nodes ≡ leaf_nodes self.old.nodes) }
         ensures rests { OnOk result (rest_nodes self.old.nodes < rest_nodes self.new.nodes) }
     {
+        let room = table.atoms.len();
         self.end(table, TreeNode::Rest)?;
-        while self.turn() {
+        while self.turn(room) {
             self.end(table, TreeNode::Rest)?;
         }
         Ok(())

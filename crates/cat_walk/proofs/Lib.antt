@@ -1,9 +1,7 @@
 pub mod Lists
 pub mod MeetingLemmas
 pub mod StandLemmas
-pub mod SideLemmas
 pub mod WalkLemmas
-pub mod LevelLemmas
 pub mod ClosedLaws
 pub mod SkipLemmas
 pub mod SizeLemmas

@@ -8,7 +8,8 @@ use Rattle.std.specs.List.{list_any, list_all}
 use Rattle.cat_region.specs.declared.narrowing.Narrowing.{Narrowing}
 use Rattle.cat_region.specs.Regions.{Constraints, IsRegion, with_narrowing}
 use Rattle.cat_region.specs.Decided.{admits_none}
-use Rattle.cat_region.proofs.Exported.{IsInhabited-of_admits, admits-of_IsInhabited}
+use Rattle.cat_region.proofs.Exported.{IsInhabited-of_admits, admits-of_IsInhabited, along_dims, none_alike}
+use Rattle.cat_region.proofs.Exported.{region_alike, region_before, some_before}
 use Rattle.cat_guard.specs.declared.table.Term.{Term}
 use Rattle.cat_guard.specs.declared.table.Atom.{Atom}
 use Rattle.cat_guard.specs.declared.table.TableTarget.{TableTarget}
@@ -23,12 +24,11 @@ use Rattle.cat_walk.specs.declared.refusal.WalkRefusal.TheVariants as why
 use Rattle.cat_walk.specs.declared.meeting.Met.{Met}
 use Rattle.cat_walk.specs.declared.meeting.Met.TheVariants as met
 use Rattle.cat_walk.specs.Coverage.{leaf_regions, first_place, Answers}
-use Rattle.cat_walk.specs.inside.Sides.{along, turns}
+use Rattle.cat_region.specs.Sides.{along, turns}
 use Rattle.cat_walk.specs.inside.Walking.{uncovered_at, trees_met, leaves_met, regions_along, AreFit}
 use Rattle.cat_walk.proofs.ClosedLaws.{answered, answered_dims}
-use Rattle.cat_walk.proofs.LevelLemmas.{region_alike, region_before, some_before}
 use Rattle.cat_walk.proofs.StandLemmas.{Makes, leaves_met-append}
-use Rattle.cat_walk.proofs.WalkLemmas.{along_dims, none_alike, split_there, leaf_there, GoesOn, Passes}
+use Rattle.cat_walk.proofs.WalkLemmas.{split_there, leaf_there, GoesOn, Passes}
 
 -- ---- as many leaves as regions
 

@@ -3,22 +3,22 @@ use Rattle.std.proofs.Common.{◌≡◌, ℕ, suc, ◌+◌, ◌<◌, ◌≤◌, 
 use Rattle.std.proofs.Common.{if◌then◌else◌, List, [], ◌∷◌, ◌++◌, length, Option, Some, None, Result, Ok, Err}
 use Rattle.std.proofs.Common.{slice_get}
 use Rattle.std.proofs.Common.{IfSome, refl, sym, ap, ◌∙◌, subst, arith, append_assoc, append-nil}
-use Rattle.std.proofs.Math.Path.{fun_ext}
 use Rattle.std.proofs.lemmas.Bool.Decides.{nat_tests}
 use Rattle.std.proofs.Math.Nat.{le-max_left, le-max_right}
 use Rattle.std.specs.List.{list_any}
-use Rattle.cat_region.specs.declared.cut.Cut.{Cut}
 use Rattle.cat_region.specs.declared.narrowing.Narrowing.{Narrowing}
-use Rattle.cat_region.specs.Regions.{Constraints, with_narrowing, narrowed_to}
-use Rattle.cat_region.specs.Decided.{admits_none, decided_at}
+use Rattle.cat_region.specs.Regions.{Constraints, with_narrowing}
+use Rattle.cat_region.specs.Decided.{admits_none}
+use Rattle.cat_region.specs.Sides.{along, turns, Turns}
+use Rattle.cat_region.proofs.Exported.{along_dims, none_alike}
 use Rattle.cat_guard.specs.declared.table.Atom.{Atom}
 use Rattle.cat_guard.specs.declared.table.TableTarget.{TableTarget}
 use Rattle.cat_guard.specs.declared.tree.TreeNode.TheVariants as node
-use Rattle.cat_guard.specs.Judged.{atom_decided, answers_in, covers}
+use Rattle.cat_guard.specs.Judged.{answers_in, covers}
 use Rattle.cat_guard.specs.Trees.{Tree, node_before, height, answering, with_answer}
 use Rattle.cat_guard.specs.Trees as tree
 use Rattle.cat_guard.specs.Verdicts.{verdict_of}
-use Rattle.cat_guard.proofs.Exported.{both_true}
+use Rattle.cat_guard.proofs.Exported.{both_true, answers_alike}
 use Rattle.cat_walk.specs.declared.place.NodePlace.{NodePlace}
 use Rattle.cat_walk.specs.declared.refusal.WalkRefusal.{WalkRefusal}
 use Rattle.cat_walk.specs.declared.refusal.WalkRefusal.TheVariants as why
@@ -26,7 +26,6 @@ use Rattle.cat_walk.specs.declared.meeting.Met.{Met}
 use Rattle.cat_walk.specs.declared.meeting.Met.TheVariants as met
 use Rattle.cat_walk.specs.Coverage.{leaf_regions, is_uncovered, first_place, Answers, AnswersOf}
 use Rattle.cat_walk.specs.Walkable.{splits_below, IsWalkable}
-use Rattle.cat_walk.specs.inside.Sides.{along, turns, Turns}
 use Rattle.cat_walk.specs.inside.Walking.{uncovered_at, trees_met, leaves_met, regions_along, AreFit, IsUnderWay}
 use Rattle.cat_guard.specs.declared.tree.CitedTree.{CitedTree}
 use Rattle.cat_guard.specs.Trees.{expanded}
@@ -37,29 +36,6 @@ use Rattle.cat_walk.proofs.Lists.{there}
 
 -- ---- what is covered doesn't hang on the room
 
-pub none_alike : (region other : Constraints) → region.dims ≡ other.dims → region.narrowings ≡ other.narrowings
-    → admits_none region ≡ admits_none other
-unfolding admits_none
-none_alike region other dims narrowings =
-    ap (λ ds. admits_none (record { dims = ds; narrowings = region.narrowings; room = 0 })) dims
-    ∙ ap (λ ns. admits_none (record { dims = other.dims; narrowings = ns; room = 0 })) narrowings
-
-decided_alike : (region other : Constraints) (i : ℕ) (c : Cut) → region.dims ≡ other.dims
-    → region.narrowings ≡ other.narrowings → decided_at region i c ≡ decided_at other i c
-unfolding decided_at
-decided_alike region other i c dims narrowings =
-    let same : (n : Narrowing) → admits_none (with_narrowing region n) ≡ admits_none (with_narrowing other n) =
-    λ n. none_alike (with_narrowing region n) (with_narrowing other n) dims (ap (λ ns. ns ++ n ∷ []) narrowings) in
-    rw (none_alike region other dims narrowings, same (narrowed_to i c false), same (narrowed_to i c true)) refl
-
-pub answers_alike : (atoms : List Atom) (region other : Constraints) → region.dims ≡ other.dims
-    → region.narrowings ≡ other.narrowings → answers_in atoms region ≡ answers_in atoms other
-answers_alike atoms region other dims narrowings = fun_ext (λ a. by (slice_get atoms a))
-  where
-    by : (o : Option Atom) → atom_decided region o ≡ atom_decided other o
-    by None = refl
-    by (Some atom) = decided_alike region other atom.term atom.cut dims narrowings
-
 pub uncovered_alike : (atoms : List Atom) (o : Option TableTarget) (region other : Constraints)
     → region.dims ≡ other.dims → region.narrowings ≡ other.narrowings
     → uncovered_at atoms o region ≡ uncovered_at atoms o other
@@ -69,12 +45,6 @@ uncovered_alike atoms (Some t) region other dims narrowings =
     (none_alike region other dims narrowings)
     ∙ ap (λ answers. not (admits_none other || covers t.may_be_empty (verdict_of t answers)))
     (answers_alike atoms region other dims narrowings)
-
--- ---- the dimensions stay
-
-pub along_dims : (base : Constraints) (path : List Narrowing) → (along base path).dims ≡ base.dims
-along_dims base [] = refl
-along_dims base (n ∷ path) = along_dims base path
 
 -- ---- a target's answer is that of the target of its number
 

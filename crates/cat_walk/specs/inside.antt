@@ -1,9 +1,7 @@
 pub mod Classes
-pub mod Levels
 pub mod Meetings
 pub mod Nodes
 pub mod Numbering
-pub mod Sides
 pub mod Sizing
 pub mod Walking
 pub mod Writing

@@ -5,14 +5,12 @@
 mod classes;
 mod expanding;
 mod laws;
-mod levels;
 mod meeting;
 mod numbering;
 mod place;
 mod refusal;
 mod sharing;
 mod sharing_laws;
-mod sides;
 mod size;
 mod walking;
 mod writing;

@@ -2,47 +2,48 @@
 ghost use Rattle.std.specs.Prelude.{◌≡◌, ◌<◌, true, List, IfOk, IfErr, OnOk, IfSome, length, slice_get};
 ghost use Rattle.cat_guard.specs.declared.table.Atom.{Atom as AtomSeen};
 ghost use Rattle.cat_guard.specs.declared.table.TableTarget.{TableTarget as TargetSeen};
+ghost use Rattle.cat_guard.specs.Levels.{AreLiveTo};
 ghost use Rattle.cat_guard.specs.Trees.{IsCitedClosed, expanded};
 ghost use Rattle.cat_guard.specs.Valuations.{dims_of};
 ghost use Rattle.cat_region.specs.declared.narrowing.Narrowing.{Narrowing as Narrowed};
 ghost use Rattle.cat_region.specs.Regions.{Constraints, IsInhabited, IsRegion};
 ghost use Rattle.cat_region.specs.Decided.{admits_none};
+ghost use Rattle.cat_region.specs.Sides.{IsAt, Turns};
 ghost use Rattle.cat_walk.specs.Coverage.{is_uncovered, IsWalked};
 ghost use Rattle.cat_walk.specs.Walkable.{IsWalkable};
 ghost use Rattle.cat_walk.specs.LeafPlaces.{NamesLeaf};
-ghost use Rattle.cat_walk.specs.inside.Levels.{IsLiveAbove, AreLiveTo};
-ghost use Rattle.cat_walk.specs.inside.Sides.{IsAt, Turns};
 
 use crate::laws::covered_trees_are_closed;
-use crate::levels::Levels;
 use crate::meeting::{Met, enter, next, start};
 use crate::refusal::WalkRefusal;
-use crate::sides::{to_false_side, undo_all};
-use cat_guard::{
-    Atom, CitedTree, Judgement, LiveGroups, Table, answer_atom, judge_live,
-    narrowing_keeps_what_is_live, still_live,
-};
-use cat_region::Region;
+use cat_guard::{Atom, CitedTree, Judgement, Levels, Table, answer_atom, judge_live};
+use cat_region::{Region, to_false_side, undo_all};
 use std::alloc::{AllocError, Global};
 
-/// Whether a region admits something, and the target isn't judged covered in it, by what is live on the way to it.
-fn is_uncovered(table: &Table, target: u32, region: &Region, live: &LiveGroups) -> bool
+/// Whether a region admits something, and the target isn't judged covered in it, by what is still live of what is kept
+/// on the way to it.
+fn is_uncovered(
+    alloc: Global,
+    table: &Table,
+    target: u32,
+    region: &Region,
+    levels: &Levels,
+) -> Result<bool, AllocError>
     requires target { target < length table.now.targets }
     requires dims { region.now.dims ≡ dims_of table.now.terms }
     requires live { IfSome (slice_get table.now.targets target)
-        (λ t. IsLiveAbove table.now.atoms t region.now live.now) }
-    ensures { IfSome (slice_get table.now.targets target) (λ t. result ≡ is_uncovered table.now.atoms t region.now) }
+        (λ t. AreLiveTo table.now.atoms t region.now levels.now) }
+    ensures { IfSome (slice_get table.now.targets target)
+        (λ t. IfOk result (λ uncovered. uncovered ≡ is_uncovered table.now.atoms t region.now)) }
 {
     if region.is_empty() {
-        return false;
+        return Ok(false);
     }
-    narrowing_keeps_what_is_live(table);
-    // What is so of its narrowings.
-    let _room = region.room();
-    match judge_live(table, target, region, live) {
-        Judgement::Holds => false,
-        Judgement::Empty => !table.targets.at(target as usize).may_be_empty,
-        Judgement::Conflict | Judgement::Needs(_) => true,
+    let live = levels.live_in(alloc, table, target, region)?;
+    match judge_live(table, target, region, &live) {
+        Judgement::Holds => Ok(false),
+        Judgement::Empty => Ok(!table.targets.at(target as usize).may_be_empty),
+        Judgement::Conflict | Judgement::Needs(_) => Ok(true),
     }
 }
 
@@ -79,10 +80,8 @@ fn keep_live(
     if !is_parted(table, region, atom) {
         return Ok(());
     }
-    narrowing_keeps_what_is_live(table);
-    let room = region.room();
-    let live = still_live(alloc, table, target, region, levels.live())?;
-    levels.keep(room, live)
+    let live = levels.live_in(alloc, table, target, region)?;
+    levels.keep(region, live)
 }
 
 /// Whether a region admits nothing.
@@ -108,7 +107,7 @@ fn to_next_side(region: &mut Region, room: usize, levels: &mut Levels) -> bool
     if !to_false_side(region, room) {
         return false;
     }
-    levels.back_to(region.room());
+    levels.back_to(region);
     true
 }
 
@@ -139,7 +138,8 @@ fn walked(
                 answer_atom(table, region, atom, true);
             }
             Met::Leaf(place) => {
-                if is_uncovered(table, target, region, levels.live()) {
+                let uncovered = is_uncovered(alloc, table, target, region, &levels)?;
+                if uncovered {
                     return Err(WalkRefusal::NotCovered(place));
                 }
                 if !to_next_side(region, room, &mut levels) {

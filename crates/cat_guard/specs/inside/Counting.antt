@@ -36,3 +36,7 @@ abbrev pub Counts : Tally → MemberJudgement → Tally → Type 0
 Counts before member tally =
     (answers : ℕ → Option Bool) (t : TableTarget) (v : Verdict) (vs : List Verdict) → HasOpen answers t before.needs
     → Finds answers t v member → (completed tally vs ≡ completed before (v ∷ vs)) × HasOpen answers t tally.needs
+
+-- a member in front of others changes nothing of what was counted
+abbrev pub Passes : Tally → Verdict → Type 0
+Passes tally v = (vs : List Verdict) → completed tally vs ≡ completed tally (v ∷ vs)

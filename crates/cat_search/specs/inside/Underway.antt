@@ -1,17 +1,16 @@
 -- A search on its way: the nodes written so far, and the regions for which nodes are still to come.
 use Rattle.std.specs.Prelude.{◌≡◌, ℕ, ◌-◌, max, Bool, true, false, IsTrue, if◌then◌else◌, List, [], ◌∷◌, ◌++◌, length}
 use Rattle.std.specs.Prelude.{Option, Some, None, slice_get}
-use Rattle.cat_region.specs.declared.dim.Dim.{Dim}
 use Rattle.cat_region.specs.declared.narrowing.Narrowing.{Narrowing}
 use Rattle.cat_region.specs.Regions.{Constraints, IsInhabited}
 use Rattle.cat_region.specs.Decided.{decided_at}
+use Rattle.cat_region.specs.Sides.{along, IsAt, turns}
 use Rattle.cat_guard.specs.declared.table.Term.{Term}
 use Rattle.cat_guard.specs.declared.table.Atom.{Atom}
 use Rattle.cat_guard.specs.declared.table.TableTarget.{TableTarget}
 use Rattle.cat_guard.specs.declared.tree.TreeNode.{TreeNode}
 use Rattle.cat_guard.specs.Judged.{judged_in, covers}
 use Rattle.cat_guard.specs.Trees.{Tree, height}
-use Rattle.cat_guard.specs.Valuations.{dims_of}
 use Rattle.cat_guard.specs.Verdicts.{Verdict}
 use Rattle.cat_search.specs.declared.bad.BadLeaf.{BadLeaf}
 use Rattle.cat_search.specs.declared.bad.Flaw.{Flaw}
@@ -20,7 +19,6 @@ use Rattle.cat_search.specs.declared.node.NextNode.TheVariants as next
 use Rattle.cat_search.specs.declared.searching.Searching.{Searching}
 use Rattle.cat_search.specs.Searched.{everything, roomy, IsSplit, IsSearched, is_known, flaw_of, leaves_from, bad_among}
 use Rattle.cat_search.specs.inside.ToCome.{in_front, AreSearched, highest, leaves_along}
-use Rattle.cat_search.specs.inside.Sides.{along, IsAt, turns}
 
 -- ---- one node
 
@@ -48,21 +46,21 @@ pub record IsAsked (atoms : List Atom) (region : Constraints) (n : Narrowing) : 
   pub undecided : decided_at region n.dim n.cut ≡ None
 
 -- each narrowing of a path does
-abbrev pub AreAsked : List Atom → List Dim → List Narrowing → Type 0
-AreAsked atoms dims [] = Unit {0}
-AreAsked atoms dims (n ∷ path) = IsAsked atoms (along dims path) n × AreAsked atoms dims path
+abbrev pub AreAsked : List Atom → Constraints → List Narrowing → Type 0
+AreAsked atoms base [] = Unit {0}
+AreAsked atoms base (n ∷ path) = IsAsked atoms (along base path) n × AreAsked atoms base path
 
 -- ---- a search
 
 -- what is written and these trees make one tree, which is searched; the depth and the bad leaves are those of this tree
-pub record Completes (atoms : List Atom) (t : TableTarget) (dims : List Dim) (s : Searching)
+pub record Completes (atoms : List Atom) (t : TableTarget) (base : Constraints) (s : Searching)
     (paths : List (List Narrowing)) (trees : List Tree) : Type 0 where
   pub tree : Tree
   pub tree_is : in_front s.nodes trees ≡ Some (tree ∷ [])
-  pub searched : IsSearched atoms t (along dims []) tree
+  pub searched : IsSearched atoms t base tree
   pub height_is : height tree ≡ highest s.depth paths trees
-  pub bad_are : bad_among atoms t (leaves_from atoms 0 (along dims []) tree)
-      ≡ s.bad ++ bad_among atoms t (leaves_along atoms dims (length s.nodes) paths trees)
+  pub bad_are : bad_among atoms t (leaves_from atoms 0 base tree)
+      ≡ s.bad ++ bad_among atoms t (leaves_along atoms base (length s.nodes) paths trees)
 
 -- the regions for which nodes are to come: that where a search is, if its node isn't written yet, and those at the
 -- turns of the way to it
@@ -74,15 +72,15 @@ pub record IsUnderway (terms : List Term) (atoms : List Atom) (t : TableTarget) 
   where
     pub some : IsInhabited (everything terms)
     pub path : List Narrowing
-    pub at : IsAt (dims_of terms) (length atoms) path s.region
-    pub asked : AreAsked atoms (dims_of terms) path
-    pub rest : (trees : List Tree) → AreSearched atoms t (dims_of terms) (to_come here path) trees
-        → Completes atoms t (dims_of terms) s (to_come here path) trees
+    pub at : IsAt (roomy terms atoms) path s.region
+    pub asked : AreAsked atoms (everything terms) path
+    pub rest : (trees : List Tree) → AreSearched atoms t (everything terms) (to_come here path) trees
+        → Completes atoms t (everything terms) s (to_come here path) trees
 
 -- a search is at its end: what is written is a tree, which is searched, and it is back in the region where it began
 pub record IsComplete (terms : List Term) (atoms : List Atom) (t : TableTarget) (s : Searching) : Type 0 where
-  pub written : Completes atoms t (dims_of terms) s [] []
-  pub back : IsAt (dims_of terms) (length atoms) [] s.region
+  pub written : Completes atoms t (everything terms) s [] []
+  pub back : IsAt (roomy terms atoms) [] s.region
 
 -- after the way back: under way in another region, or at the end
 abbrev pub IsTurned : List Term → List Atom → TableTarget → Bool → Searching → Type 0

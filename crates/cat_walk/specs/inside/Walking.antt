@@ -3,6 +3,7 @@ use Rattle.std.specs.Prelude.{◌≡◌, ◌≤◌, ℕ, ◌+◌, Bool, false, I
 use Rattle.std.specs.Prelude.{Result}
 use Rattle.cat_region.specs.declared.narrowing.Narrowing.{Narrowing}
 use Rattle.cat_region.specs.Regions.{Constraints}
+use Rattle.cat_region.specs.Sides.{along, IsAt, turns}
 use Rattle.cat_guard.specs.declared.table.Atom.{Atom}
 use Rattle.cat_guard.specs.declared.table.TableTarget.{TableTarget}
 use Rattle.cat_guard.specs.declared.tree.TreeNode.TheVariants as node
@@ -13,7 +14,6 @@ use Rattle.cat_walk.specs.declared.meeting.Met.{Met}
 use Rattle.cat_walk.specs.declared.meeting.Met.TheVariants as met
 use Rattle.cat_walk.specs.Coverage.{leaf_regions, is_uncovered, Answers}
 use Rattle.cat_walk.specs.Walkable.{splits_below}
-use Rattle.cat_walk.specs.inside.Sides.{along, IsAt, turns}
 
 -- the trees that what is met makes, one behind the other
 abbrev pub trees_met : List Met → Option (List Tree)

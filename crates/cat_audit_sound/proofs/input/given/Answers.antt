@@ -1,7 +1,7 @@
 use Rattle.std.proofs.Common.{◌≡◌, Some, slice_get, length, refl, rules, arith}
 use Rattle.std.proofs.lemmas.Option.{slice_get_read}
-use Rattle.cat_region.specs.Chosen.{point_at}
-use Rattle.cat_audit_sound.specs.PointInputs.{point_from, given_from, given_for}
+use Rattle.cat_audit_sound.specs.PointInputs.{given_from, given_for}
+use Rattle.cat_audit_sound.specs.inside.PointTables.{found_in}
 use Rattle.cat_audit_sound.proofs.TypedLaws.{given_more, made_more}
 use Rattle.cat_audit_sound.proofs.input.given.Goals as goal
 
@@ -9,7 +9,7 @@ pub loop-number-preserved : goal.loop-number-preserved
 loop-number-preserved c =
     let items = c.args.items.now in
     let ds = c.args.decls.now in
-    let points = point_from (point_at c.args.region.now) 0 c.args.terms.now in
+    let points = found_in c.args.points.now in
     let at : slice_get items c.loop-number.number ≡ Some c.index-items-number.result =
     slice_get_read items (length items) c.loop-number.number c.index-items-number.result refl
     (omega (arith, c.loop-number-test.true)) c.index-items-number.is in
@@ -22,8 +22,8 @@ loop-number-preserved c =
           c.index-items-number.result c.loop-number.invariant.typed at c.in_ok-given_for.ensures.typed;
     })
 
-pub given_for-requires-clause-item : goal.given_for-requires-clause-item
-given_for-requires-clause-item c =
+pub given_for-requires : goal.given_for-requires
+given_for-requires c =
     c.requires.items c.loop-number.number c.index-items-number.result
     (slice_get_read c.args.items.now (length c.args.items.now) c.loop-number.number c.index-items-number.result refl
     (omega (arith, c.loop-number-test.true)) c.index-items-number.is)

@@ -3,8 +3,8 @@ use Rattle.cat_value.specs.declared.ty.Ty.{Ty}
 use Rattle.cat_value.specs.Heights.{height_to}
 use Rattle.cat_value.proofs.Exported.{fields_declared}
 use Rattle.cat_value.specs.declared.value.Value.{Value}
-use Rattle.cat_region.specs.Chosen.{point_at}
-use Rattle.cat_audit_sound.specs.PointInputs.{point_from, with_point}
+use Rattle.cat_audit_sound.specs.PointInputs.{with_point}
+use Rattle.cat_audit_sound.specs.inside.PointTables.{found_in}
 use Rattle.cat_audit_sound.specs.inside.TypedParts.{IsPart}
 use Rattle.cat_audit_sound.proofs.PartEquations.{height_positive, fields_lower, part_other}
 use Rattle.cat_audit_sound.proofs.TypedLaws.{structure_part}
@@ -15,9 +15,9 @@ part-returns-in_default t c =
     let ds = c.args.decls.now in
     let positive = height_positive ds.structures ds.enumerations c.args.depth c.args.ty.now in
     subst (λ (meant : Value). IfOk c.with_point.result (λ value. IsPart ds c.args.ty.now meant value))
-    (ap (with_point ds c.args.ty.now) c.point_of_path.ensures
-    ∙ sym (part_other ds (point_from (point_at c.args.region.now) 0 c.args.terms.now) c.args.path.now c.args.depth
-    c.args.ty.now (omega (arith, positive, c.requires.height)) c.in_default.not-Structure))
+    (ap (with_point ds c.args.ty.now) c.in_ok-point.ensures
+    ∙ sym (part_other ds (found_in c.args.points.now) c.args.path.now c.args.depth c.args.ty.now
+    (omega (arith, positive, c.requires.height)) c.in_default.not-Structure))
     c.with_point.ensures
 
 pub part-overflow_sub-depth : goal.part-overflow_sub-depth
@@ -35,16 +35,10 @@ part-parts-requires t c =
     c.in-Structure.is c.requires.height in (
       omega (arith, positive, c.requires.height),
       (
-        c.requires.dims,
+        (c.declarations_are_sound.ensures.structures n s c.at-structure.ensures).counted,
         (
-          c.requires.inhabited,
-          (
-            (c.declarations_are_sound.ensures.structures n s c.at-structure.ensures).counted,
-            (
-              fields_declared ds n s c.at-structure.ensures,
-              fields_lower ds.structures ds.enumerations c.args.depth n s low c.at-structure.ensures,
-            ),
-          ),
+          fields_declared ds n s c.at-structure.ensures,
+          fields_lower ds.structures ds.enumerations c.args.depth n s low c.at-structure.ensures,
         ),
       ),
     )
@@ -52,7 +46,7 @@ part-parts-requires t c =
 pub part-returns : goal.part-returns
 part-returns t c =
     let ds = c.args.decls.now in
-    let points = point_from (point_at c.args.region.now) 0 c.args.terms.now in
+    let points = found_in c.args.points.now in
     let positive = height_positive ds.structures ds.enumerations c.args.depth c.args.ty.now in
     structure_part ds points c.args.path.now c.args.depth c.args.ty.now c.in-Structure.number c.at-structure.result.now
     c.in_ok-values.values (omega (arith, positive, c.requires.height)) c.in-Structure.is c.at-structure.ensures

@@ -14,7 +14,10 @@ use Rattle.cat_guard.proofs.pruned.+pruned.Goals as goal
 pub pruned_group-pruned_groups-requires : goal.pruned_group-pruned_groups-requires
 pruned_group-pruned_groups-requires t c = (
   search (rules, arith, live.the_lemmas),
-  (c.requires.cuts, (named_parts (length c.args.target.now.defs) c.args.group.now c.requires.named).0),
+  (
+    c.requires.cuts,
+    ((named_parts (length c.args.target.now.defs) c.args.group.now c.requires.named).0, c.requires.conjuncts),
+  ),
 )
 
 pub pruned_group-pruned_defs-requires-clause-numbers : goal.pruned_group-pruned_defs-requires-clause-numbers

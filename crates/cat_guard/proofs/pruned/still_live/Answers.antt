@@ -2,6 +2,7 @@ use Rattle.std.proofs.Common.{List, IsTrue, sym, subst, rules}
 use Rattle.std.specs.Prelude.{IfSome}
 use Rattle.cat_guard.specs.declared.table.Atom.{Atom}
 use Rattle.cat_guard.specs.Judged.{answers_in}
+use Rattle.cat_guard.specs.Conjuncts.{AreOfDefs}
 use Rattle.cat_guard.specs.Live.{IsLiveOf}
 use Rattle.cat_guard.specs.inside.Pruned.{GroupsStandFor}
 use Rattle.cat_guard.specs.inside.Telling.{are_cuts_of}
@@ -23,6 +24,10 @@ pruned_groups-requires-clause-named c =
     let live : IsLiveOf c.at-target.result.now answers c.args.live.now =
     subst (λ o. IfSome o (λ t. IsLiveOf t answers c.args.live.now)) c.at-target.ensures c.requires.live in
     live.named
+
+pub pruned_groups-requires-clause-conjuncts : goal.pruned_groups-requires-clause-conjuncts
+pruned_groups-requires-clause-conjuncts c =
+    subst (λ o. IfSome o (λ t. AreOfDefs t.defs c.args.conjuncts.now)) c.at-target.ensures c.requires.conjuncts
 
 pub returns : goal.returns
 returns c =

@@ -1,11 +1,12 @@
-use Rattle.std.proofs.Common.{refl, subst, true, false}
+use Rattle.std.proofs.Common.{refl, sym, subst, ◌∙◌, true, false}
 use Rattle.cat_guard.specs.Formulas as formula
 use Rattle.cat_guard.specs.GuardFormulas.{formula_of}
 use Rattle.cat_guard.specs.Judged.{answers_in}
 use Rattle.cat_guard.specs.declared.truth.Truth.TheVariants as truth
 use Rattle.cat_guard.specs.inside.Telling.{Tells}
 use Rattle.cat_guard.proofs.GuardLaws.{found_Constant, found_Atom, found_Not, found_Both, found_Either, found_Differ}
-use Rattle.cat_guard.proofs.GuardLaws.{found_Choice}
+use Rattle.cat_guard.proofs.GuardLaws.{found_Choice, stops_Both, stops_Either}
+use Rattle.cat_guard.proofs.TellLaws.{both_stops, either_stops}
 use Rattle.cat_guard.proofs.truth.+known.Goals as goal
 
 pub returns-in-Constant : goal.returns-in-Constant
@@ -25,16 +26,34 @@ returns-in-Not t c =
     (c.negation.ensures answers (formula_of c.in-Not.of)
     (subst (λ g. Tells answers (formula_of g) c.known.result) c.get.ensures c.known.ensures))
 
-pub returns-in-Both : goal.returns-in-Both
-returns-in-Both t c =
+pub returns-then-is_false : goal.returns-then-is_false
+returns-then-is_false t c =
+    let answers = answers_in c.args.atoms.now c.args.region.now in
+    stops_Both answers c.args.guard.now c.known-left.result c.in-Both.left c.in-Both.right c.in-Both.is
+    (both_stops answers (formula_of c.in-Both.left) (formula_of c.in-Both.right) c.known-left.result
+    (subst (λ g. Tells answers (formula_of g) c.known-left.result) c.get-in-Both.ensures c.known-left.ensures)
+    (sym c.is_told-is_false.ensures ∙ c.if-is_false.true))
+
+pub returns-else-is_false : goal.returns-else-is_false
+returns-else-is_false t c =
     let answers = answers_in c.args.atoms.now c.args.region.now in
     found_Both answers c.args.guard.now c.choice.result c.in-Both.left c.in-Both.right c.in-Both.is
     (c.choice.ensures answers (formula_of c.in-Both.left) (formula_of c.in-Both.right) (formula.Constant false)
     (subst (λ g. Tells answers (formula_of g) c.known-left.result) c.get-in-Both.ensures c.known-left.ensures)
     (subst (λ g. Tells answers (formula_of g) c.known-right.result) c.get-in-Both-2.ensures c.known-right.ensures) refl)
 
-pub returns-in-Either : goal.returns-in-Either
-returns-in-Either t c =
+pub returns-then-is_true : goal.returns-then-is_true
+returns-then-is_true t c =
+    let answers = answers_in c.args.atoms.now c.args.region.now in
+    stops_Either answers c.args.guard.now c.known-left-in-Either.result c.in-Either.left c.in-Either.right
+    c.in-Either.is
+    (either_stops answers (formula_of c.in-Either.left) (formula_of c.in-Either.right) c.known-left-in-Either.result
+    (subst (λ g. Tells answers (formula_of g) c.known-left-in-Either.result) c.get-in-Either.ensures
+    c.known-left-in-Either.ensures)
+    (sym c.is_told-is_true.ensures ∙ c.if-is_true.true))
+
+pub returns-else-is_true : goal.returns-else-is_true
+returns-else-is_true t c =
     let answers = answers_in c.args.atoms.now c.args.region.now in
     found_Either answers c.args.guard.now c.choice-in-Either.result c.in-Either.left c.in-Either.right c.in-Either.is
     (c.choice-in-Either.ensures answers (formula_of c.in-Either.left) (formula.Constant true)

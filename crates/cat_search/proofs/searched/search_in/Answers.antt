@@ -6,15 +6,14 @@ use Rattle.cat_guard.specs.declared.table.TableTarget.{TableTarget}
 use Rattle.cat_guard.specs.declared.tree.TreeNode.TheVariants as node
 use Rattle.cat_guard.specs.Trees as tree
 use Rattle.cat_guard.specs.Trees.{tree_of}
-use Rattle.cat_search.specs.Searched.{everything}
+use Rattle.cat_search.specs.Searched.{everything, roomy}
 use Rattle.cat_search.proofs.LawLemmas.{closed_found}
 use Rattle.cat_search.specs.inside.Underway.{IsUnderway, IsTurned, IsComplete, begun}
 use Rattle.cat_search.specs.inside.ToCome.{in_front, leaf_nodes, rest_nodes}
 use Rattle.cat_search.proofs.TreeLemmas.{is_tree_of, leaves_made, rests_made, whole_of, part_of}
-use Rattle.cat_guard.specs.Valuations.{dims_of}
+use Rattle.cat_region.specs.Sides.{Turns}
 use Rattle.cat_guard.proofs.Exported.{both_some}
-use Rattle.cat_search.specs.inside.Levels.{AreLiveOn}
-use Rattle.cat_search.proofs.LevelLemmas.{depth_is}
+use Rattle.cat_guard.specs.Levels.{AreLiveTo}
 use Rattle.cat_search.proofs.TargetLemmas.{if_some, target_at}
 use Rattle.cat_search.proofs.UnderwayLemmas.{begins, complete_is_tree, complete_found, complete_is_back}
 use Rattle.cat_search.proofs.TargetLemmas.{all_at, some_target}
@@ -38,7 +37,7 @@ loop-init c =
       underway = some_target (slice_get table.targets c.args.target) (λ t. begins table.terms table.atoms t
           c.new-searching.result begins_so (c.is_empty.ensures.inhabited c.if-is_empty.false));
       live = if_some (slice_get table.targets c.args.target) c.in_ok-levels.ensures (λ t is are.
-          are table.atoms (dims_of table.terms) c.new-searching.result.region.narrowings);
+          are table.atoms c.new-searching.result.region);
       leaves = ap (λ s. leaf_nodes s.nodes) begins_so;
       rests = ap (λ s. rest_nodes s.nodes) begins_so;
     }
@@ -50,7 +49,7 @@ into_parts-tree-requires-then-not-turn c =
     c.requires.target c.in_ok-to_leaf.ensures.underway in
     complete_is_tree table.terms table.atoms one.0 c.turn.new.self
     (subst (λ b. IsTurned table.terms table.atoms one.0 b c.turn.new.self) c.if-not-turn.true
-    (c.turn.ensures.turned table.terms table.atoms one.0 one.2))
+    (c.turn.ensures.turned table.terms table.atoms one.0 (sym c.len-room.ensures) one.2))
 
 pub returns-then-not-turn-clause-found : goal.returns-then-not-turn-clause-found
 returns-then-not-turn-clause-found c some =
@@ -64,7 +63,7 @@ returns-then-not-turn-clause-found c some =
     if_some (slice_get table.targets c.args.target) c.in_ok-to_leaf.ensures.underway (λ t is u.
     let complete : IsComplete table.terms table.atoms t s =
     subst (λ b. IsTurned table.terms table.atoms t b s) c.if-not-turn.true
-    (c.turn.ensures.turned table.terms table.atoms t u) in
+    (c.turn.ensures.turned table.terms table.atoms t (sym c.len-room.ensures) u) in
     let made = leaves_made s.nodes complete.written.tree complete.written.tree_is in (
       complete.written.tree,
       complete_found table.terms table.atoms t s complete parts.result.0.nodes parts.result.1 parts.ensures.tree
@@ -115,7 +114,7 @@ returns-then-not-turn-clause-closed c =
     if_some (slice_get table.targets c.args.target) c.in_ok-to_leaf.ensures.underway (λ t is u.
     let complete : IsComplete table.terms table.atoms t s =
     subst (λ b. IsTurned table.terms table.atoms t b s) c.if-not-turn.true
-    (c.turn.ensures.turned table.terms table.atoms t u) in
+    (c.turn.ensures.turned table.terms table.atoms t (sym c.len-room.ensures) u) in
     let found = complete_found table.terms table.atoms t s complete parts.result.0.nodes parts.result.1
     parts.ensures.tree parts.ensures.bad in
     closed_found table.terms table.atoms table.targets (search rules) c.trees_without_bad_leaves_are_closed.ensures
@@ -160,20 +159,14 @@ loop-preserved c =
     record {
       underway = if_some target c.in_ok-to_leaf.ensures.underway (λ t is u.
           subst (λ b. IsTurned table.terms table.atoms t b s) c.if-not-turn.false
-          (c.turn.ensures.turned table.terms table.atoms t u));
+          (c.turn.ensures.turned table.terms table.atoms t (sym c.len-room.ensures) u));
       live = if_some target (both_some (λ t. IsUnderway table.terms table.atoms t false c.to_leaf.new.self)
-          (λ t. AreLiveOn table.atoms t (dims_of table.terms) c.to_leaf.new.self.region.narrowings
-          c.to_leaf.new.levels) target c.in_ok-to_leaf.ensures.underway c.in_ok-to_leaf.ensures.live)
-          (λ t is both.
-          let on : IsUnderway table.terms table.atoms t true s =
-          subst (λ b. IsTurned table.terms table.atoms t b s) c.if-not-turn.false
-          (c.turn.ensures.turned table.terms table.atoms t both.0) in
-          let deep = depth_is table.terms table.atoms t true s on in
-          let atoms = c.len.ensures in
-          let room = c.room.ensures in
-          c.back_to.ensures table.atoms t (dims_of table.terms) c.to_leaf.new.self.region.narrowings s.region.narrowings
-          (c.turn.ensures.way table.terms table.atoms t both.0 c.if-not-turn.false)
-          (omega (arith, deep, atoms, room)) both.1);
+          (λ t. AreLiveTo table.atoms t c.to_leaf.new.self.region c.to_leaf.new.levels) target
+          c.in_ok-to_leaf.ensures.underway c.in_ok-to_leaf.ensures.live)
+          (λ t is both. c.back_to.ensures table.atoms t (roomy table.terms table.atoms) c.to_leaf.new.self.region
+          both.0.path both.0.at
+          (subst (λ b. Turns (roomy table.terms table.atoms) both.0.path b s.region) c.if-not-turn.false
+          (c.turn.ensures.way table.terms table.atoms t (sym c.len-room.ensures) both.0)) both.1);
       leaves = ap leaf_nodes c.turn.ensures.nodes ∙ c.in_ok-to_leaf.ensures.leaves
           ∙ ap (λ n. n + 1) c.loop.invariant.leaves;
       rests = ap rest_nodes c.turn.ensures.nodes ∙ c.in_ok-to_leaf.ensures.rests ∙ c.loop.invariant.rests;
@@ -191,7 +184,7 @@ returns-then-not-turn-clause-back c =
     c.into_parts-tree-then-not-turn.ensures.region
     ∙ complete_is_back table.terms table.atoms one.0 c.turn.new.self
     (subst (λ b. IsTurned table.terms table.atoms one.0 b c.turn.new.self) c.if-not-turn.true
-    (c.turn.ensures.turned table.terms table.atoms one.0 one.2))
+    (c.turn.ensures.turned table.terms table.atoms one.0 (sym c.len-room.ensures) one.2))
     ∙ sym c.requires.whole
 
 pub returns-clause-back : goal.returns-clause-back

@@ -1,12 +1,11 @@
 use Rattle.std.proofs.Common.{◌≡◌, ◌∷◌, ◌++◌, ◌<◌, ◌∙◌, length, slice_get, rules, sym, subst, List}
 use Rattle.cat_walk.specs.declared.meeting.Met.{Met}
 use Rattle.cat_walk.specs.declared.meeting.Met.TheVariants as met
+use Rattle.cat_region.specs.Sides.{Turns}
 use Rattle.cat_guard.specs.Trees.{expanded}
-use Rattle.cat_guard.proofs.Exported.{sound_atoms}
+use Rattle.cat_guard.proofs.Exported.{sound_atoms, if_some}
 use Rattle.cat_walk.specs.LeafPlaces.{lists_of, leaf_places}
 use Rattle.cat_walk.specs.inside.Meetings.{met_in_list, to_come}
-use Rattle.cat_walk.specs.inside.Sides.{Turns}
-use Rattle.cat_walk.proofs.LevelLemmas.{if_some, live_split}
 use Rattle.cat_walk.proofs.SkipLemmas.{named_passed}
 use Rattle.cat_walk.proofs.WalkLemmas.{ToldOf, GoesOn, walkable_earlier, walkable_makes, tree_begins, flag_is, told_of}
 use Rattle.cat_walk.proofs.WalkLemmas.{goes_down, goes_in, goes_over, split_atom, split_room, not_covered}
@@ -42,21 +41,12 @@ loop-levels-preserved-in-Split c =
       walk = goes_down atoms o base (ToldOf atoms o base tree) c.loop-levels.region c.in-Split.atom
           (to_come (lists_of tree) c.next.new.places) walk c.answer_atom.new.region c.answer_atom.ensures.dims
           c.answer_atom.ensures.narrowings c.answer_atom.ensures.room;
-      live = if_some o c.in_ok-keep_live-in-Split.ensures (λ t are. live_split atoms t c.loop-levels.region
-          c.answer_atom.new.region c.in-Split.atom c.keep_live.new.levels
-          (split_atom atoms o base (ToldOf atoms o base tree) c.loop-levels.region c.in-Split.atom
-          (to_come (lists_of tree) c.next.new.places) walk) c.answer_atom.ensures.dims
-          c.answer_atom.ensures.narrowings c.answer_atom.ensures.room are);
+      live = if_some o c.in_ok-keep_live-in-Split.ensures
+          (λ t are. c.answer_atom.ensures.live t c.keep_live.new.levels are);
     }
 
-pub is_uncovered-requires-clause-live : goal.is_uncovered-requires-clause-live
-is_uncovered-requires-clause-live c =
-    let table = c.args.table.now in
-    if_some (slice_get table.targets c.args.target) c.loop-levels.invariant.live
-    (λ t are. c.live.ensures table.atoms t c.loop-levels.region are)
-
-pub returns-then-is_uncovered-clause-first : goal.returns-then-is_uncovered-clause-first
-returns-then-is_uncovered-clause-first c =
+pub returns-then-uncovered-clause-first : goal.returns-then-uncovered-clause-first
+returns-then-uncovered-clause-first c =
     let table = c.args.table.now in
     let o = slice_get table.targets c.args.target in
     let base = c.args.region.now in
@@ -66,10 +56,10 @@ returns-then-is_uncovered-clause-first c =
     let walk = subst (λ (ms : List Met). GoesOn table.atoms o base (ToldOf table.atoms o base tree) c.loop-levels.region
     ms) before c.loop-levels.invariant.walk in
     let flag = flag_is table.atoms table.targets c.args.target c.requires.target c.loop-levels.region
-    c.is_uncovered.result c.is_uncovered.ensures in
+    c.in_ok-uncovered-in-Leaf.uncovered c.in_ok-uncovered-in-Leaf.ensures in
     told_of table.atoms o base (leaf_places tree) (expanded tree) _
     (not_covered table.atoms o base (ToldOf table.atoms o base tree) c.loop-levels.region c.in-Leaf.place
-    (to_come (lists_of tree) c.next.new.places) walk (sym flag ∙ c.if-is_uncovered.true))
+    (to_come (lists_of tree) c.next.new.places) walk (sym flag ∙ c.if-uncovered.true))
 
 pub returns-then-not-to_next_side-clause-first : goal.returns-then-not-to_next_side-clause-first
 returns-then-not-to_next_side-clause-first c =
@@ -83,9 +73,9 @@ returns-then-not-to_next_side-clause-first c =
     let walk = subst (λ (ms : List Met). GoesOn table.atoms o base Told c.loop-levels.region ms) before
     c.loop-levels.invariant.walk in
     let flag = flag_is table.atoms table.targets c.args.target c.requires.target c.loop-levels.region
-    c.is_uncovered.result c.is_uncovered.ensures in
+    c.in_ok-uncovered-in-Leaf.uncovered c.in_ok-uncovered-in-Leaf.ensures in
     let passed = leaf_passed table.atoms o base Told c.loop-levels.region c.in-Leaf.place after walk
-    (sym flag ∙ c.if-is_uncovered.false) in
+    (sym flag ∙ c.if-uncovered.false) in
     let turned = subst (λ b. Turns base walk.path b c.to_next_side.new.region) c.if-not-to_next_side.true
     (c.to_next_side.ensures.turns base walk.path (sym c.room-room.ensures.value) walk.here) in
     told_of table.atoms o base (leaf_places tree) (expanded tree) _
@@ -103,9 +93,9 @@ loop-levels-preserved-else-not-to_next_side c =
     let walk = subst (λ (ms : List Met). GoesOn table.atoms o base Told c.loop-levels.region ms) before
     c.loop-levels.invariant.walk in
     let flag = flag_is table.atoms table.targets c.args.target c.requires.target c.loop-levels.region
-    c.is_uncovered.result c.is_uncovered.ensures in
+    c.in_ok-uncovered-in-Leaf.uncovered c.in_ok-uncovered-in-Leaf.ensures in
     let passed = leaf_passed table.atoms o base Told c.loop-levels.region c.in-Leaf.place after walk
-    (sym flag ∙ c.if-is_uncovered.false) in
+    (sym flag ∙ c.if-uncovered.false) in
     let turned = subst (λ b. Turns base walk.path b c.to_next_side.new.region) c.if-not-to_next_side.false
     (c.to_next_side.ensures.turns base walk.path (sym c.room-room.ensures.value) walk.here) in
     record {

@@ -1,9 +1,9 @@
 use Rattle.std.proofs.Common.{slice_get, length}
 use Rattle.std.specs.Prelude.{IfSome}
+use Rattle.cat_guard.specs.Levels.{AreLiveTo}
 use Rattle.cat_guard.specs.Trees.{expanded}
 use Rattle.cat_walk.specs.LeafPlaces.{lists_of, leaf_places}
 use Rattle.cat_walk.specs.Coverage.{AnswersOf}
-use Rattle.cat_walk.specs.inside.Levels.{AreLiveTo}
 use Rattle.cat_walk.specs.inside.Meetings.{to_come}
 use Rattle.cat_walk.specs.inside.Walking.{uncovered_at, IsUnderWay}
 use Rattle.cat_walk.proofs.walking.walked.Given as goal

@@ -1,4 +1,4 @@
-use Rattle.std.proofs.Common.{◌∙◌, slice_get, subst, ap, arith, rules}
+use Rattle.std.proofs.Common.{◌∙◌, slice_get, sym, subst, ap, arith, rules}
 use Rattle.std.specs.Prelude.{true, false}
 use Rattle.cat_guard.specs.declared.tree.TreeNode.TheVariants as node
 use Rattle.cat_search.specs.inside.Underway.{IsUnderway, IsTurned}
@@ -35,7 +35,7 @@ end-requires-in-loop-self c =
     let table = c.args.table.now in
     let one = target_at (λ t. IsUnderway table.terms table.atoms t false c.loop-self.self) table.targets c.args.target
     c.requires.target c.loop-self.invariant.underway in
-    let turned = c.turn.ensures.turned table.terms table.atoms one.0 one.2 in
+    let turned = c.turn.ensures.turned table.terms table.atoms one.0 (sym c.len-room.ensures) one.2 in
     room_within table.terms table.atoms one.0 true c.turn.new.self
     (subst (λ b. IsTurned table.terms table.atoms one.0 b c.turn.new.self) c.loop-self-test.true turned)
 
@@ -51,7 +51,7 @@ loop-self-preserved c =
       underway = if_some (slice_get table.targets c.args.target) c.loop-self.invariant.underway (λ t is u. rest_step
           table.terms table.atoms t table.targets (search rules) c.turn.new.self c.end-in-loop-self.new.self
           (subst (λ b. IsTurned table.terms table.atoms t b c.turn.new.self) c.loop-self-test.true
-          (c.turn.ensures.turned table.terms table.atoms t u))
+          (c.turn.ensures.turned table.terms table.atoms t (sym c.len-room.ensures) u))
           (ap (λ s. s.region) same) (ap (λ s. s.depth) same) (ap (λ s. s.nodes) same) (ap (λ s. s.bad) same));
       leaves = ap (λ s. leaf_nodes s.nodes) same ∙ omega (arith, leaves) ∙ ap leaf_nodes c.turn.ensures.nodes
           ∙ c.loop-self.invariant.leaves;

@@ -1,8 +1,8 @@
 use Rattle.std.proofs.Common.{◌≡◌, ◌<◌, slice_get}
 use Rattle.std.specs.Prelude.{IfSome, false}
+use Rattle.cat_region.specs.Sides.{true_sides}
 use Rattle.cat_search.specs.inside.Underway.{IsUnderway}
 use Rattle.cat_search.specs.inside.ToCome.{leaf_nodes, rest_nodes}
-use Rattle.cat_search.specs.inside.Sides.{true_sides}
 use Rattle.cat_search.proofs.searching.Searching.rests.Given as goal
 
 -- the rests so far, of which there is one

@@ -29,3 +29,6 @@ pub returns-clause-rests : goal.returns-clause-rests
 returns-clause-rests c =
     let more = rest_more c.args.self.now.nodes (node.Split c.args.atom) in
     ap rest_nodes c.in_ok-push.ensures.ok ∙ omega (arith, more)
+
+pub returns-clause-live : goal.returns-clause-live
+returns-clause-live c t levels are = c.answer_atom.ensures.live t levels are

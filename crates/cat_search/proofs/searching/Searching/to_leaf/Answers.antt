@@ -1,13 +1,13 @@
 use Rattle.std.proofs.Common.{◌∙◌, slice_get, sym, subst, rules}
-use Rattle.cat_guard.specs.Valuations.{dims_of}
-use Rattle.cat_search.specs.inside.Levels.{AreLiveOn}
-use Rattle.cat_search.proofs.LevelLemmas.{live_split}
+use Rattle.cat_guard.specs.Judged.{answers_in}
+use Rattle.cat_guard.specs.Levels.{AreLiveTo}
+use Rattle.cat_guard.specs.Live.{IsLiveOf}
 use Rattle.std.specs.Prelude.{true, IfSome}
 use Rattle.cat_guard.proofs.Exported.{on_ok, both_some}
 use Rattle.cat_search.specs.Searched.{IsSplit}
 use Rattle.cat_search.specs.inside.Underway.{IsUnderway}
 use Rattle.cat_search.proofs.TargetLemmas.{if_some, target_at, asked_below, atom_at}
-use Rattle.cat_search.proofs.UnderwayLemmas.{room_within, split_room}
+use Rattle.cat_search.proofs.UnderwayLemmas.{inhabited_here, room_within, split_room}
 use Rattle.cat_search.proofs.searching.Searching.to_leaf.Goals as goal
 
 pub split-requires-clause-atom : goal.split-requires-clause-atom
@@ -23,7 +23,7 @@ split-requires-clause-dims c =
     let table = c.args.table.now in
     let one = target_at (λ t. IsUnderway table.terms table.atoms t true c.loop-live.self) table.targets c.args.target
     c.requires.target c.loop-live.invariant.underway in
-    one.2.at.dims_are
+    one.2.at.dims
 
 pub leaf-requires : goal.leaf-requires
 leaf-requires c =
@@ -47,15 +47,18 @@ pub loop-live-preserved : goal.loop-live-preserved
 loop-live-preserved c =
     let table = c.args.table.now in
     let target = slice_get table.targets c.args.target in
+    let here = both_some (λ t. IsLiveOf t (answers_in table.atoms c.loop-live.self.region) c.in_ok-live.live)
+    (λ t. AreLiveTo table.atoms t c.loop-live.self.region c.loop-live.levels) target c.in_ok-live.ensures
+    c.loop-live.invariant.live in
     record {
       underway = if_some target (both_some
           (λ t. IsUnderway table.terms table.atoms t true c.loop-live.self)
           (λ t. IsSplit table.atoms t c.loop-live.self.region c.in-Split.atom) target c.loop-live.invariant.underway
           c.in-Split.ensures) (λ t is both.
           c.in_ok-split-in-Split.ensures.underway t both.0 both.1);
-      live = if_some target c.in_ok-keep-in-Split.ensures (λ t is are. live_split table.atoms t (dims_of table.terms)
-          c.loop-live.self.region c.in-Split.atom c.split.new.self.region.narrowings c.keep.new.levels
-          c.in_ok-split-in-Split.ensures.way are);
+      live = if_some target here (λ t is all.
+          c.in_ok-split-in-Split.ensures.live t c.keep.new.self
+          (c.in_ok-keep-in-Split.ensures table.atoms t all.0 all.1));
       leaves = c.in_ok-split-in-Split.ensures.leaves ∙ c.loop-live.invariant.leaves;
       rests = c.in_ok-split-in-Split.ensures.rests ∙ c.loop-live.invariant.rests;
     }
@@ -64,5 +67,19 @@ pub returns-in-Leaf-clause-live : goal.returns-in-Leaf-clause-live
 returns-in-Leaf-clause-live c =
     let table = c.args.table.now in
     on_ok c.leaf.result c.leaf.ensures.region (λ same.
-    subst (λ region. IfSome (slice_get table.targets c.args.target) (λ t. AreLiveOn table.atoms t (dims_of table.terms)
-    region.narrowings c.loop-live.levels)) (sym same) c.loop-live.invariant.live)
+    subst (λ region. IfSome (slice_get table.targets c.args.target) (λ t. AreLiveTo table.atoms t region
+    c.loop-live.levels)) (sym same) c.loop-live.invariant.live)
+
+pub live_in-requires-clause-dims : goal.live_in-requires-clause-dims
+live_in-requires-clause-dims c =
+    let table = c.args.table.now in
+    let one = target_at (λ t. IsUnderway table.terms table.atoms t true c.loop-live.self) table.targets c.args.target
+    c.requires.target c.loop-live.invariant.underway in
+    one.2.at.dims
+
+pub live_in-requires-clause-some : goal.live_in-requires-clause-some
+live_in-requires-clause-some c =
+    let table = c.args.table.now in
+    let one = target_at (λ t. IsUnderway table.terms table.atoms t true c.loop-live.self) table.targets c.args.target
+    c.requires.target c.loop-live.invariant.underway in
+    inhabited_here table.terms table.atoms table.targets (search rules) one.0 true c.loop-live.self one.2
