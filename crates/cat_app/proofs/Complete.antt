@@ -27,7 +27,7 @@ use Rattle.cat_app.specs.Answers.{IsOutcome, IsRefusedFile, IsRefusedSource, IsN
 use Rattle.cat_app.specs.Answers.{line}
 use Rattle.cat_app.specs.Audits.{HasReport, IsAudited, audit_text, status_at}
 use Rattle.cat_app.specs.Table.{Answers, MayAnswer, MayAnswerTo, MayReply}
-use Rattle.cat_app.specs.declared.request.Mode.TheVariants.{Run, Audit, Check}
+use Rattle.cat_app.specs.declared.request.Mode.TheVariants.{Run, Audit, Check, Emit}
 use Rattle.cat_app.proofs.ToldSources.{AreNotAccepted, EndingsAreTold, IsOneProgram, no_refused_file, no_refused_source}
 use Rattle.cat_app.proofs.ToldSources.{scope_is_there, told_program, told_scope, told_source}
 use Rattle.cat_app.specs.Complete.{IsToldScope, IsToldRun, WritesOutcome, EndsRun}
@@ -39,7 +39,7 @@ use Rattle.cat_app.specs.declared.status.Status.TheVariants as status
 
 -- ---- over told contents
 
-abbrev FilesAreTold : Type 0
+abbrev pub FilesAreTold : Type 0
 FilesAreTold = (told : Contents) (main name : List ℕ) (source : Source) (bytes : ℕ)
     → gathered told main ≡ Whole source → ComesTo told main name bytes
     → IsSomeAnd (told name) (λ content. length content ≤ limit_after bytes)
@@ -82,15 +82,15 @@ module _ (one_program : IsOneProgram) (not_accepted : AreNotAccepted) (endings :
     (words : List (List ℕ)) (old new : Shelved) (sink sunk : Sunk) (request : Request) (source : Source)
     (program : Program) (scope : ℕ) (told : IsToldScope words old request source program scope) where
   -- what may be replied answers this request
-  answer_is : (ended : Status) (text : List ℕ) → MayReply words old new ended text
+  pub answer_is : (ended : Status) (text : List ℕ) → MayReply words old new ended text
       → MayAnswer request old new ended text
   answer_is ended text may = subst (λ (o : Option Ask). MayAnswerTo o old new ended text)
       (of_scope (ask_of words) request told.asked) may
 
-  source_is : (other : Source) → IsSource request old other → other ≡ source
+  pub source_is : (other : Source) → IsSource request old other → other ≡ source
   source_is = told_source endings old request source told.source_told
 
-  program_of : (others : Source) (other : Program) → IsSource request old others → IsAccepted others.pieces other
+  pub program_of : (others : Source) (other : Program) → IsSource request old others → IsAccepted others.pieces other
       → program ≡ other
   program_of = told_program one_program endings old request source program told.source_told told.accepted
 
@@ -121,11 +121,22 @@ module _ (one_program : IsOneProgram) (not_accepted : AreNotAccepted) (endings :
       not_longer (old.content name) limit (limit_after now.0) now.2
       (files old.content request.file name source now.0 told.source_told now.1) long
 
-  refused_usage : (text : List ℕ) → MayReply words old new status.Usage text → ⊥
+  pub refused_usage : (text : List ℕ) → MayReply words old new status.Usage text → ⊥
   refused_usage text may = no_scope text (answer_is status.Usage text may)
 
-  refused_source : (text : List ℕ) → MayReply words old new status.Source text → ⊥
+  pub refused_source : (text : List ℕ) → MayReply words old new status.Source text → ⊥
   refused_source text may = ⊎_elim (no_file text) (no_source text) (answer_is status.Source text may)
+
+  -- where EXTRA isn't read, no file is missing or too large
+  pub none_missing : (IsTrue (reads_extra request.mode) → ⊥) → (name : List ℕ) (limit : ℕ)
+      → IsReadNow request old name limit → IsNone (old.content name) → ⊥
+  none_missing unread name limit (inl now) none = no_source_missing name limit now none
+  none_missing unread name limit (inr now) none = unread now.2
+
+  pub none_large : (IsTrue (reads_extra request.mode) → ⊥) → (name : List ℕ) (limit : ℕ)
+      → IsReadNow request old name limit → IfSome (old.content name) (λ content. limit < length content) → ⊥
+  none_large unread name limit (inl now) long = no_source_large name limit now long
+  none_large unread name limit (inr now) long = unread now.2
 
   -- the report that is answered is one of this program's scope
   report_written : (ended : Status) (text : List ℕ) → IsAudited request old new ended text → Took sink sunk text
@@ -161,17 +172,11 @@ module _ (one_program : IsOneProgram) (not_accepted : AreNotAccepted) (endings :
     not_check : request.mode ≡ Check → ⊥
     not_check checks = cc (checks, audits)
 
+    not_emit : request.mode ≡ Emit → ⊥
+    not_emit emits = cc (emits, audits)
+
     not_read : IsTrue (reads_extra request.mode) → ⊥
     not_read reads = cc (ap reads_extra audits, reads)
-
-    audit_missing : (name : List ℕ) (limit : ℕ) → IsReadNow request old name limit → IsNone (old.content name) → ⊥
-    audit_missing name limit (inl now) none = no_source_missing name limit now none
-    audit_missing name limit (inr now) none = not_read now.2
-
-    audit_large : (name : List ℕ) (limit : ℕ) → IsReadNow request old name limit
-        → IfSome (old.content name) (λ content. limit < length content) → ⊥
-    audit_large name limit (inl now) long = no_source_large name limit now long
-    audit_large name limit (inr now) long = not_read now.2
 
     no_outcome : (ended : Status) (text : List ℕ) → IsOutcome request old new ended text → ⊥
     no_outcome ended text o = not_run o.mode
@@ -179,7 +184,8 @@ module _ (one_program : IsOneProgram) (not_accepted : AreNotAccepted) (endings :
     pub ends_audit : (ended : Status) → Answers words old new sink sunk ended
         → EndsAudit sink sunk request source program scope ended
     ends_audit status.Fine is = ⊎_elim (λ o. absurd (no_outcome status.Fine is.0 o))
-        (⊎_elim (λ a. report_written status.Fine is.0 a is.2) (λ k. absurd (not_check k.mode)))
+        (⊎_elim (λ a. report_written status.Fine is.0 a is.2)
+        (⊎_elim (λ k. absurd (not_check k.mode)) (λ l. absurd (not_emit l.mode))))
         (answer_is status.Fine is.0 is.1)
     ends_audit status.Conflict is =
         absurd (no_outcome status.Conflict is.0 (answer_is status.Conflict is.0 is.1))
@@ -199,13 +205,13 @@ module _ (one_program : IsOneProgram) (not_accepted : AreNotAccepted) (endings :
     ends_audit status.Usage is = absurd (refused_usage is.0 is.1)
     ends_audit status.Missing is =
         let read = answer_is status.Missing is.0 is.1 in
-        absurd (audit_missing read.name read.limit read.now read.read.2)
+        absurd (none_missing not_read read.name read.limit read.now read.read.2)
     ends_audit status.ReadFault is = tt
     ends_audit status.WriteFault is = tt
     ends_audit status.Memory is = tt
     ends_audit status.TooLarge is =
         let read = answer_is status.TooLarge is.0 is.1 in
-        absurd (audit_large read.name read.limit read.now read.read.2)
+        absurd (none_large not_read read.name read.limit read.now read.read.2)
 
   -- ---- where the file that EXTRA names is told
 
@@ -277,13 +283,17 @@ module _ (one_program : IsOneProgram) (not_accepted : AreNotAccepted) (endings :
     not_checked : request.mode ≡ Check → ⊥
     not_checked checks = cc (checks, run.mode)
 
+    not_listed : request.mode ≡ Emit → ⊥
+    not_listed emits = cc (emits, run.mode)
+
     not_audited : (ended : Status) (text : List ℕ) → IsAudited request old new ended text → ⊥
     not_audited ended text a = cc (a.mode, run.mode)
 
     pub ends_run : (ended : Status) → Answers words old new sink sunk ended
         → EndsRun sink sunk source program scope input ended
     ends_run status.Fine is = ⊎_elim (λ o. outcome_written status.Fine is.0 o is.2)
-        (⊎_elim (λ a. absurd (not_audited status.Fine is.0 a)) (λ k. absurd (not_checked k.mode)))
+        (⊎_elim (λ a. absurd (not_audited status.Fine is.0 a))
+        (⊎_elim (λ k. absurd (not_checked k.mode)) (λ l. absurd (not_listed l.mode))))
         (answer_is status.Fine is.0 is.1)
     ends_run status.Conflict is =
         outcome_written status.Conflict is.0 (answer_is status.Conflict is.0 is.1) is.2
@@ -331,6 +341,9 @@ module _ (one_program : IsOneProgram) (not_accepted : AreNotAccepted) (endings :
     check_audits : request.mode ≡ Audit → ⊥
     check_audits audits = cc (audits, check.mode)
 
+    check_emits : request.mode ≡ Emit → ⊥
+    check_emits emits = cc (emits, check.mode)
+
     no_outcome_checked : (ended : Status) (text : List ℕ) → IsOutcome request old new ended text → ⊥
     no_outcome_checked ended text o = check_runs o.mode
 
@@ -341,7 +354,7 @@ module _ (one_program : IsOneProgram) (not_accepted : AreNotAccepted) (endings :
         → EndsCheck sink sunk program scope extra ended
     ends_check status.Fine is = ⊎_elim (λ o. absurd (no_outcome_checked status.Fine is.0 o))
         (⊎_elim (λ a. absurd (no_audit_checked status.Fine is.0 a))
-        (λ k. (is.0, said_here HasCertificate is.0 k, is.2.taken)))
+        (⊎_elim (λ k. (is.0, said_here HasCertificate is.0 k, is.2.taken)) (λ l. absurd (check_emits l.mode))))
         (answer_is status.Fine is.0 is.1)
     ends_check status.Conflict is = absurd
         (no_outcome_checked status.Conflict is.0 (answer_is status.Conflict is.0 is.1))

@@ -14,7 +14,7 @@ use Rattle.cat_app.specs.declared.status.Status.TheVariants as status
 untouched_answer : (request : Request) (old new : Shelved) (ended : Status) (text : List ℕ) → is_reply ended ≡ true
     → MayAnswer request old new ended text → new ≡ old
 untouched_answer request old new status.Fine text is may =
-    ⊎_elim (λ o. o.untouched) (⊎_elim (λ a. a.untouched) (λ k. k.untouched)) may
+    ⊎_elim (λ o. o.untouched) (⊎_elim (λ a. a.untouched) (⊎_elim (λ k. k.untouched) (λ l. l.untouched))) may
 untouched_answer request old new status.Conflict text is may = may.untouched
 untouched_answer request old new status.NoValue text is may = may.untouched
 untouched_answer request old new status.Fault text is may = may.untouched

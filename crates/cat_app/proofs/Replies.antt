@@ -17,6 +17,7 @@ use Rattle.cat_calc.specs.Calculus.{calc_outcome}
 use Rattle.cat_audit.specs.declared.report.Verdict.{Verdict}
 use Rattle.cat_audit.specs.declared.report.Verdict.TheVariants as verdict
 use Rattle.cat_audit.specs.Reports.{last_verdict}
+use Rattle.cat_listing.specs.Listing.{listing}
 use Rattle.cat_json.specs.declared.refusal.InputRefusal.{InputRefusal}
 use Rattle.cat_json.specs.declared.refusal.InputRefusal.TheVariants as refused
 use Rattle.cat_json.specs.InputsRead.{input_read}
@@ -32,7 +33,7 @@ use Rattle.cat_words.specs.Asked.{IsCases}
 use Rattle.cat_words.proofs.Exported.{cases_within}
 use Rattle.cat_app.specs.Words.{Request, IsMost, reads_extra}
 use Rattle.cat_app.specs.Asked.{IsSource, IsExtra, IsAsked, IsReadNow}
-use Rattle.cat_app.specs.declared.request.Mode.TheVariants.{Run, Audit, Check}
+use Rattle.cat_app.specs.declared.request.Mode.TheVariants.{Run, Audit, Check, Emit}
 use Rattle.cat_app.specs.Audits.{IsAudited, status_at}
 use Rattle.cat_app.specs.Checks.{HasCertificate, HasNoCertificate, IsChecked}
 use Rattle.cat_app.specs.Answers.{IsOutcome, input_line, line, status_of}
@@ -40,7 +41,7 @@ use Rattle.cat_app.specs.Table.{MayAnswer}
 use Rattle.cat_app.specs.inside.Says.{Says, SaysChecked, SaysFault, SaysGathering}
 use Rattle.cat_app.specs.inside.Says.{SaysInput, SaysOf, SaysReport, MaySay}
 use Rattle.cat_app.specs.declared.reply.Reply.{Reply}
-use Rattle.cat_app.specs.declared.status.Status.TheVariants.{Usage}
+use Rattle.cat_app.specs.declared.status.Status.TheVariants.{Fine, Usage}
 
 -- of a result, what a fact leads to
 pub if_ok : {A E : Type 0} {P Q : A → Type 0} (r : Result A E) → IfOk r P → ((a : A) → P a → Q a) → IfOk r Q
@@ -247,11 +248,26 @@ pub a_check : (request : Request) (old new : Shelved) (source : Source) (program
     → IsAsked request old source program scope → request.mode ≡ Check → SaysChecked program scope extra reply
     → MaySay request old new reply
 a_check request old new source program scope extra reply extra_read same asked mode (inl yes_says) =
-    rw yes_says.0 (inr (inr (is_checked HasCertificate request old new source program scope extra
-    (string_bytes reply.text) extra_read same asked mode yes_says.1)))
+    rw yes_says.0 (inr (inr (inl (is_checked HasCertificate request old new source program scope extra
+    (string_bytes reply.text) extra_read same asked mode yes_says.1))))
 a_check request old new source program scope extra reply extra_read same asked mode (inr no_says) =
     rw no_says.0 (is_checked HasNoCertificate request old new source program scope extra (string_bytes reply.text)
     extra_read same asked mode no_says.1)
+
+-- the code that is built is listed
+pub a_listing : (request : Request) (old new : Shelved) (source : Source) (built : Built) (scope : ℕ) (reply : Reply)
+    → new ≡ old → IsBuiltOf source.pieces built → Says Fine (listing built.code source.files) reply
+    → IsAsked request old source built.program scope → request.mode ≡ Emit → MaySay request old new reply
+a_listing request old new source built scope reply same is says asked mode =
+    rw says.0 (inr (inr (inr (record {
+      source = source;
+      program = built.program;
+      scope = scope;
+      mode = mode;
+      asked = asked;
+      lists = record { code = built.code; code_is = is.code; text_is = says.1 };
+      untouched = same;
+    }))))
 
 -- ---- scopes by name
 

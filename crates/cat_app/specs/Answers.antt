@@ -19,7 +19,7 @@ use Rattle.cat_weave.specs.declared.source.GatherRefusal.{GatherRefusal}
 use Rattle.cat_weave.specs.declared.source.GatherRefusal.TheVariants as gathering
 use Rattle.cat_weave.specs.Gathered.{Refused}
 use Rattle.cat_weave.specs.Causes.{HasEnding}
-use Rattle.cat_build.specs.declared.code.Code.{Code}
+use Rattle.cat_build.specs.declared.code.FaultCode.{FaultCode}
 use Rattle.cat_build.specs.Accepted.{IsAccepted}
 use Rattle.cat_build.specs.Causes.{StandsAt}
 use Rattle.cat_build.specs.Codes.{number_of}
@@ -97,7 +97,7 @@ pub record IsRefusedFile (request : Request) (old new : Shelved) (text : List â„
 -- the source is gathered, and this stands in it at this position
 pub record IsRefusedSource (request : Request) (old new : Shelved) (text : List â„•) : Type 0 where
   pub source : Source
-  pub code : Code
+  pub code : FaultCode
   pub pos : Pos
   pub source_read : IsSource request old source
   pub stands : StandsAt source.pieces code pos

@@ -2,6 +2,7 @@ pub mod Table
 pub mod Answers
 pub mod Audits
 pub mod Checks
+pub mod Listings
 pub mod Drills
 pub mod Asked
 pub mod Words
@@ -10,6 +11,7 @@ pub mod Complete
 pub mod AuditEnds
 pub mod DrillEnds
 pub mod Limits
+pub mod EmitEnds
 pub mod Texts
 pub mod Numbers
 pub mod Runs

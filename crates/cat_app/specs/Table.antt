@@ -8,6 +8,7 @@ use Rattle.cat_app.specs.Answers.{IsOutcome, IsRefusedFile, IsRefusedSource, IsN
 use Rattle.cat_app.specs.Answers.{IsRefusedRead}
 use Rattle.cat_app.specs.Audits.{IsAudited}
 use Rattle.cat_app.specs.Checks.{HasCertificate, HasNoCertificate, IsChecked}
+use Rattle.cat_app.specs.Listings.{IsListed}
 use Rattle.cat_app.specs.Drills.{HasLine, HasRefusedRun, HasStop, IsOfBands, bands_request, bands_shelf}
 use Rattle.cat_app.specs.declared.status.Status.{Status}
 use Rattle.cat_app.specs.declared.status.Status.TheVariants.{Fine, Conflict, NoValue, Fault, Source, Input, Found}
@@ -18,7 +19,7 @@ use Rattle.cat_app.specs.declared.status.Status.TheVariants.{WriteFault, Memory,
 abbrev pub MayAnswer : Request → Shelved → Shelved → Status → List ℕ → Type 0
 MayAnswer request old new Fine text =
     IsOutcome request old new Fine text ⊎ (IsAudited request old new Fine text
-    ⊎ IsChecked HasCertificate request old new text)
+    ⊎ (IsChecked HasCertificate request old new text ⊎ IsListed request old new text))
 MayAnswer request old new Conflict text = IsOutcome request old new Conflict text
 MayAnswer request old new NoValue text = IsOutcome request old new NoValue text
 MayAnswer request old new Fault text = IsOutcome request old new Fault text

@@ -12,7 +12,7 @@ ghost use Rattle.cat_app.specs.inside.SaysOfBands.{GathersBands, MaySayOfBands, 
 
 use crate::audited::{last_verdict, report_of};
 use crate::reply::Reply;
-use crate::run::tell;
+use crate::scoped::tell;
 use crate::texts::{no_scope, refuse_gathering, refuse_input, refuse_source};
 use crate::{Ran, Status, drill_source, leaf_count, run_all};
 use cat_audit::verdict_text;

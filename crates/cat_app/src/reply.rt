@@ -8,7 +8,7 @@ ghost use Rattle.cat_app.specs.inside.SaysOfBands.{MayTellTo};
 use crate::Status;
 use crate::drilled::drilled;
 use crate::request::{AskedFor, read_words};
-use crate::run::run;
+use crate::scoped::scope_reply;
 use crate::texts::usage;
 use cat_io::Shelf;
 use std::alloc::{AllocError, Global};
@@ -32,7 +32,7 @@ fn reply_to<S: Shelf>(
     ensures lists { OnErr result (ListsOne (S.state shelf.old) (S.state shelf.new)) }
 {
     match asked {
-        AskedFor::Scope(words) => run(alloc, words, shelf),
+        AskedFor::Scope(words) => scope_reply(alloc, words, shelf),
         AskedFor::Drill(bands) => drilled(alloc, bands),
     }
 }

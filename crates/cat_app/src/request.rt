@@ -16,6 +16,7 @@ pub enum Mode {
     Run,
     Audit,
     Check,
+    Emit,
 }
 
 /// What is asked for, with the names of the source and of the input or the certificate, and the number of cases.
@@ -47,6 +48,9 @@ fn mode_of(name: &str, has_extra: bool) -> Option<Mode>
     }
     if name == "audit" && !has_extra {
         return Some(Mode::Audit);
+    }
+    if name == "emit" && !has_extra {
+        return Some(Mode::Emit);
     }
     None
 }

@@ -8,7 +8,7 @@ ghost use Rattle.cat_app.specs.inside.Says.{Says, SaysFault, SaysGathering, Says
 use crate::Status;
 use crate::reply::Reply;
 use cat_answer::{named_position, position_text};
-use cat_build::Code;
+use cat_build::FaultCode;
 use cat_io::ShelfFault;
 use cat_json::InputRefusal;
 use cat_pos::{Files, Pos};
@@ -82,7 +82,7 @@ pub fn refuse_gathering(alloc: Global, refusal: GatherRefusal) -> Result<Reply, 
 pub fn refuse_source(
     alloc: Global,
     files: &Files,
-    code: Code,
+    code: FaultCode,
     pos: Pos,
 ) -> Result<Reply, AllocError>
     ensures { IfOk result (Says Status.Source (refusal_line (number_of code) (answers.position_text files.now pos))) }

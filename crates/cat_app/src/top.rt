@@ -11,6 +11,7 @@ ghost use Rattle.cat_app.specs.Complete.{NoFileRose, RepliesFit, IsToldCheck, Is
 ghost use Rattle.cat_app.specs.Complete.{is_fault, is_reply};
 ghost use Rattle.cat_app.specs.AuditEnds.{IsToldAudit, EndsAudit};
 ghost use Rattle.cat_app.specs.DrillEnds.{EndsDrill, IsToldDrill};
+ghost use Rattle.cat_app.specs.EmitEnds.{EndsEmit, IsToldEmit};
 
 use crate::Status;
 use crate::reply::whole_reply;
@@ -27,6 +28,7 @@ use std::alloc::Global;
 /// | `Fine` | of an audit, a complete report and its certificate |
 /// | `Found`, `Unsettled` | the report of an audit |
 /// | `Fine`, `Certificate` | of a check, a yes, or why the certificate is refused |
+/// | `Fine` | of an emit, the listing of the program's code |
 /// | `Fine` | of a drill, its line; where a run of it has no value, that outcome with its own status |
 /// | `Source` | the code and the position by which the source is refused |
 /// | `Input` | the code by which the input is refused, and of which part |
@@ -73,6 +75,12 @@ pub fn catala<S: Shelf, K: Sink>(
     ensures a_check_writes_its_answer { (request : Request) (source : Source) (program : Program) (scope : ℕ)
         (extra : List ℕ) → IsToldCheck (texts_of words.now) (S.state shelf.old) request source program scope extra
         → EndsCheck (K.state sink.old) (K.state sink.new) program scope extra result }
+
+    // Over told contents a listing is written of code that runs each scope of the program, on each well-typed input of
+    // it, to its outcome.
+    ensures an_emit_writes_the_listing { (request : Request) (source : Source) (program : Program) (scope : ℕ)
+        → IsToldEmit (texts_of words.now) (S.state shelf.old) request source program scope
+        → EndsEmit (K.state sink.old) (K.state sink.new) source program result }
 
     // The line of a drill has the sum of the rates of its runs, the leaves of the trees of its audit, and the verdict.
     ensures a_drill_writes_its_line { (bands : ℕ) (source : Source) (program : Program) (scope : ℕ)

@@ -1,5 +1,6 @@
 pub mod Counted
 pub mod Distinct
+pub mod Coded
 pub mod FrontSteps
 pub mod ForestSteps
 mod Examples

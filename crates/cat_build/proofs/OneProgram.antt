@@ -25,8 +25,8 @@ use Rattle.cat_except.specs.Causes as exceptions
 use Rattle.cat_except.specs.Causes.{MakeForest}
 use Rattle.cat_scope.specs.Groups.{Group}
 use Rattle.cat_except.specs.Faults.{groups_in}
-use Rattle.cat_build.specs.declared.code.Code.{Code}
-use Rattle.cat_build.specs.declared.code.Code.TheVariants as code
+use Rattle.cat_build.specs.declared.code.FaultCode.{FaultCode}
+use Rattle.cat_build.specs.declared.code.FaultCode.TheVariants as code
 use Rattle.cat_build.specs.declared.code.BuildRefusal.{BuildRefusal}
 use Rattle.cat_build.specs.declared.code.BuildRefusal.TheVariants.{Refused, Memory}
 use Rattle.cat_build.specs.Accepted.{IsTreeOf, IsProgramIn, IsAccepted}
@@ -157,7 +157,7 @@ module _ (one_reading : IsOneReading) (one_tree : IsOneTree) (one_program : IsOn
         subst (λ (p : Program). exceptions.HasCause (groups_in p h.scope) refusal) same h.refused in
         no_forest (groups_in program h.scope) refusal other refused (is.forests h.scope within)
 
-    nothing_stands : (found : Code) (p : Pos) → StandsAt pieces found p → ⊥
+    nothing_stands : (found : FaultCode) (p : Pos) → StandsAt pieces found p → ⊥
     nothing_stands code.NoToken p h =
         no_reading pieces (lexing.NoToken p) is.program_is.spelled.tokens (λ e. cc e) h is.program_is.spelled.lexed
     nothing_stands code.LiteralRange p h =

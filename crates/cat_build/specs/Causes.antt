@@ -18,8 +18,8 @@ use Rattle.cat_except.specs.declared.refusal.ExceptRefusal.TheVariants as except
 use Rattle.cat_except.specs.Causes as exceptions
 use Rattle.cat_except.specs.Causes.{AreResolved, HaveNoCycle}
 use Rattle.cat_except.specs.Faults.{groups_in, unknown_labels, split_labels}
-use Rattle.cat_build.specs.declared.code.Code.{Code}
-use Rattle.cat_build.specs.declared.code.Code.TheVariants as code
+use Rattle.cat_build.specs.declared.code.FaultCode.{FaultCode}
+use Rattle.cat_build.specs.declared.code.FaultCode.TheVariants as code
 use Rattle.cat_build.specs.declared.code.BuildRefusal.{BuildRefusal}
 use Rattle.cat_build.specs.declared.code.BuildRefusal.TheVariants.{Refused, Memory}
 use Rattle.cat_build.specs.Accepted.{IsTreeOf, IsProgramIn}
@@ -75,7 +75,7 @@ pub record IsRefusedForest (pieces : List Piece) (refusal : ExceptRefusal) : Typ
 -- ---- codes
 
 -- what stands at a position of some pieces
-abbrev pub StandsAt : List Piece → Code → Pos → Type 0
+abbrev pub StandsAt : List Piece → FaultCode → Pos → Type 0
 StandsAt pieces code.NoToken p = FailsAt pieces p BeginsNoToken
 StandsAt pieces code.LiteralRange p = FailsAt pieces p PassesBound
 StandsAt pieces code.Unexpected p = StandsAtToken IsUnexpected pieces p

@@ -4,13 +4,13 @@ use Rattle.cat_names.specs.declared.fault.Fault.{Fault}
 use Rattle.cat_names.specs.declared.fault.Fault.TheVariants as fault
 use Rattle.cat_except.specs.declared.refusal.ExceptRefusal.{ExceptRefusal}
 use Rattle.cat_except.specs.declared.refusal.ExceptRefusal.TheVariants as exception
-use Rattle.cat_build.specs.declared.code.Code.{Code}
-use Rattle.cat_build.specs.declared.code.Code.TheVariants as code
+use Rattle.cat_build.specs.declared.code.FaultCode.{FaultCode}
+use Rattle.cat_build.specs.declared.code.FaultCode.TheVariants as code
 use Rattle.cat_build.specs.declared.code.BuildRefusal.{BuildRefusal}
 use Rattle.cat_build.specs.declared.code.BuildRefusal.TheVariants.{Refused, Memory}
 
 -- the number by which replies name a code
-abbrev pub number_of : Code → ℕ
+abbrev pub number_of : FaultCode → ℕ
 number_of code.NoToken = 4
 number_of code.LiteralRange = 5
 number_of code.Unexpected = 6

@@ -9,7 +9,7 @@ use std::alloc::AllocError;
 
 /// What is at fault in a source. Each has a number, by which replies name it.
 #[derive(Clone, Copy, PartialEq, Eq, Debug)]
-pub enum Code {
+pub enum FaultCode {
     /// No token begins there.
     NoToken,
     /// A literal passes its bound, or a date isn't one.
@@ -46,29 +46,29 @@ pub enum Code {
     TooMany,
 }
 
-impl Code {
+impl FaultCode {
     /// The number by which replies name it.
     pub fn number(self) -> u32
         ensures { result ≡ number_of self }
     {
         match self {
-            Code::NoToken => 4,
-            Code::LiteralRange => 5,
-            Code::Unexpected => 6,
-            Code::TooDeep => 7,
-            Code::NameTwice => 8,
-            Code::NameUnknown => 9,
-            Code::TypeMismatch => 10,
-            Code::MatchCases => 11,
-            Code::LabelUnknown => 12,
-            Code::LabelSplit => 13,
-            Code::ExceptionAmbiguous => 14,
-            Code::ExceptionCycle => 15,
-            Code::VariableCycle => 16,
-            Code::ScopeCycle => 17,
-            Code::TypeCycle => 18,
-            Code::Misplaced => 19,
-            Code::TooMany => 20,
+            FaultCode::NoToken => 4,
+            FaultCode::LiteralRange => 5,
+            FaultCode::Unexpected => 6,
+            FaultCode::TooDeep => 7,
+            FaultCode::NameTwice => 8,
+            FaultCode::NameUnknown => 9,
+            FaultCode::TypeMismatch => 10,
+            FaultCode::MatchCases => 11,
+            FaultCode::LabelUnknown => 12,
+            FaultCode::LabelSplit => 13,
+            FaultCode::ExceptionAmbiguous => 14,
+            FaultCode::ExceptionCycle => 15,
+            FaultCode::VariableCycle => 16,
+            FaultCode::ScopeCycle => 17,
+            FaultCode::TypeCycle => 18,
+            FaultCode::Misplaced => 19,
+            FaultCode::TooMany => 20,
         }
     }
 }
@@ -76,7 +76,7 @@ impl Code {
 /// Why a source is not built, and where.
 #[derive(Clone, Copy, PartialEq, Eq, Debug)]
 pub enum BuildRefusal {
-    Refused(Code, Pos),
+    Refused(FaultCode, Pos),
     Memory,
 }
 
@@ -95,14 +95,14 @@ pub fn fault_refusal(fault: Fault) -> BuildRefusal
     ensures { result ≡ refusal_of fault }
 {
     match fault {
-        Fault::NameTwice(pos) => BuildRefusal::Refused(Code::NameTwice, pos),
-        Fault::NameUnknown(pos) => BuildRefusal::Refused(Code::NameUnknown, pos),
-        Fault::TypeMismatch(pos) => BuildRefusal::Refused(Code::TypeMismatch, pos),
-        Fault::MatchCases(pos) => BuildRefusal::Refused(Code::MatchCases, pos),
-        Fault::VariableCycle(pos) => BuildRefusal::Refused(Code::VariableCycle, pos),
-        Fault::ScopeCycle(pos) => BuildRefusal::Refused(Code::ScopeCycle, pos),
-        Fault::TypeCycle(pos) => BuildRefusal::Refused(Code::TypeCycle, pos),
-        Fault::Misplaced(pos) => BuildRefusal::Refused(Code::Misplaced, pos),
-        Fault::TooMany(pos) => BuildRefusal::Refused(Code::TooMany, pos),
+        Fault::NameTwice(pos) => BuildRefusal::Refused(FaultCode::NameTwice, pos),
+        Fault::NameUnknown(pos) => BuildRefusal::Refused(FaultCode::NameUnknown, pos),
+        Fault::TypeMismatch(pos) => BuildRefusal::Refused(FaultCode::TypeMismatch, pos),
+        Fault::MatchCases(pos) => BuildRefusal::Refused(FaultCode::MatchCases, pos),
+        Fault::VariableCycle(pos) => BuildRefusal::Refused(FaultCode::VariableCycle, pos),
+        Fault::ScopeCycle(pos) => BuildRefusal::Refused(FaultCode::ScopeCycle, pos),
+        Fault::TypeCycle(pos) => BuildRefusal::Refused(FaultCode::TypeCycle, pos),
+        Fault::Misplaced(pos) => BuildRefusal::Refused(FaultCode::Misplaced, pos),
+        Fault::TooMany(pos) => BuildRefusal::Refused(FaultCode::TooMany, pos),
     }
 }

@@ -7,7 +7,7 @@ ghost use Rattle.cat_build.specs.Causes.{HasCause};
 ghost use Rattle.cat_build.specs.Codes.{exception_refusal};
 ghost use Rattle.cat_build.specs.inside.Forests.{AreForestsTo, StandsFirst, first_named, kind_place};
 
-use crate::code::{BuildRefusal, Code};
+use crate::code::{BuildRefusal, FaultCode};
 use cat_except::{ExceptRefusal, forest};
 use cat_pos::{List, Piece};
 use cat_scope::{Forest, Program};
@@ -21,13 +21,13 @@ fn refusal_of(refusal: ExceptRefusal) -> BuildRefusal
     ensures { result ≡ exception_refusal refusal }
 {
     match refusal {
-        ExceptRefusal::LabelUnknown(pos) => BuildRefusal::Refused(Code::LabelUnknown, pos),
-        ExceptRefusal::LabelSplit(pos) => BuildRefusal::Refused(Code::LabelSplit, pos),
+        ExceptRefusal::LabelUnknown(pos) => BuildRefusal::Refused(FaultCode::LabelUnknown, pos),
+        ExceptRefusal::LabelSplit(pos) => BuildRefusal::Refused(FaultCode::LabelSplit, pos),
         ExceptRefusal::ExceptionAmbiguous(pos) => {
-            BuildRefusal::Refused(Code::ExceptionAmbiguous, pos)
+            BuildRefusal::Refused(FaultCode::ExceptionAmbiguous, pos)
         }
-        ExceptRefusal::ExceptionCycle(pos) => BuildRefusal::Refused(Code::ExceptionCycle, pos),
-        ExceptRefusal::TooMany(pos) => BuildRefusal::Refused(Code::TooMany, pos),
+        ExceptRefusal::ExceptionCycle(pos) => BuildRefusal::Refused(FaultCode::ExceptionCycle, pos),
+        ExceptRefusal::TooMany(pos) => BuildRefusal::Refused(FaultCode::TooMany, pos),
         ExceptRefusal::Memory => BuildRefusal::Memory,
     }
 }

@@ -10,7 +10,7 @@ ghost use Rattle.cat_names.specs.Accepted.{IsParsed, IsProgramOf};
 ghost use Rattle.cat_build.specs.Accepted.{IsProgramIn, IsTreeOf};
 ghost use Rattle.cat_build.specs.Causes.{HasCause, end_of, token_position};
 
-use crate::code::{BuildRefusal, Code, fault_refusal};
+use crate::code::{BuildRefusal, FaultCode, fault_refusal};
 use cat_check::check;
 use cat_lex::{LexRefusal, Token, Tokens, lex, position_after};
 use cat_names::{Refusal, definitions_are_counted};
@@ -28,8 +28,11 @@ fn tokens_of(alloc: Global, pieces: &[Piece]) -> Result<Tokens, BuildRefusal>
 {
     match lex(alloc, pieces) {
         Ok(tokens) => Ok(tokens),
-        Err(LexRefusal::NoToken(pos)) => Err(BuildRefusal::Refused(Code::NoToken, pos)),
-        Err(LexRefusal::LiteralRange(pos)) => Err(BuildRefusal::Refused(Code::LiteralRange, pos)),
+        Err(LexRefusal::NoToken(pos)) => Err(BuildRefusal::Refused(FaultCode::NoToken, pos)),
+        Err(LexRefusal::LiteralRange(pos)) => Err(BuildRefusal::Refused(
+            FaultCode::LiteralRange,
+            pos,
+        )),
         Err(LexRefusal::Memory) => Err(BuildRefusal::Memory),
     }
 }
@@ -75,11 +78,11 @@ fn tree_of(alloc: Global, pieces: &[Piece], tokens: &[Token]) -> Result<Tree, Bu
         Ok(tree) => Ok(tree),
         Err(ParseRefusal::Unexpected(at)) => {
             let pos = position_of(pieces, tokens, at);
-            Err(BuildRefusal::Refused(Code::Unexpected, pos))
+            Err(BuildRefusal::Refused(FaultCode::Unexpected, pos))
         }
         Err(ParseRefusal::TooDeep(at)) => {
             let pos = position_of(pieces, tokens, at);
-            Err(BuildRefusal::Refused(Code::TooDeep, pos))
+            Err(BuildRefusal::Refused(FaultCode::TooDeep, pos))
         }
         Err(ParseRefusal::Memory) => Err(BuildRefusal::Memory),
     }

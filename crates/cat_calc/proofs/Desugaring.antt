@@ -8,12 +8,9 @@ use Rattle.std.proofs.Math.Logic.{⊎_elim, ∥∥₁_elim, ∥∥₁_prop}
 use Rattle.std.proofs.Props.{props}
 use Rattle.cat_pos.specs.declared.limits.TheConstants.{ENTRIES_BOUND}
 use Rattle.cat_value.specs.declared.decls.Decls.{Decls}
-use Rattle.cat_value.specs.declared.declaration.Enumeration.{Enumeration}
 use Rattle.cat_value.specs.declared.declaration.ItemDecl.{ItemDecl}
 use Rattle.cat_value.specs.declared.declaration.Scope.{Scope}
-use Rattle.cat_value.specs.declared.declaration.Structure.{Structure}
 use Rattle.cat_value.specs.declared.outcome.Target.{Target}
-use Rattle.cat_value.specs.Declarations.{are_sound}
 use Rattle.cat_scope.specs.declared.defs.Def.{Def}
 use Rattle.cat_scope.specs.declared.defs.Body.{Body}
 use Rattle.cat_scope.specs.declared.forest.Forest.{Forest}
@@ -133,13 +130,6 @@ pub no_scope_more : (ds : Decls) (scopes : List Scope) (bodies : List Body) (mad
 no_scope_more ds scopes bodies made whole n past is =
     sym (append-nil made)
     ∙ ap (λ xs. made ++ calc_scopes ds xs (drop n bodies)) (sym (drop_all n scopes past)) ∙ is
-
--- ---- declarations with the same parts are the same
-
-abbrev with_parts : (structures : List Structure) (enumerations : List Enumeration) (scopes : List Scope)
-    → IsTrue (are_sound structures enumerations scopes) → Decls
-with_parts structures enumerations scopes sound =
-    record { structures = structures; enumerations = enumerations; scopes = scopes; sound = sound }
 
 -- ---- the whole program
 

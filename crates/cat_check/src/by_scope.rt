@@ -1,27 +1,16 @@
 // The declaration and the blocks of each scope.
-ghost use Rattle.std.specs.Prelude.{◌≡◌, [], IfOk, OnOk, length, replicate};
+ghost use Rattle.std.specs.Prelude.{◌≡◌, IfOk, OnOk, length};
 ghost use Rattle.cat_check_names.specs.Tables.{AreTablesOf};
 ghost use Rattle.cat_check.specs.inside.ByScope.{AreByScope, scope_about, with_item};
 
 use cat_check_names::NameTables;
-use cat_pos::List;
+use cat_pos::{List, empty_lists};
 use cat_tree::Item;
 use cat_value::Decls;
 use std::alloc::{AllocError, Global};
 
 /// Declarations and blocks of a tree.
 pub type Items = List<Item>;
-
-/// So many empty lists.
-fn empty_lists(alloc: Global, count: usize) -> Result<Vec<Items>, AllocError>
-    ensures { IfOk result (λ lists. lists.items ≡ replicate count []) }
-{
-    let mut lists = Vec::with_capacity(alloc, count)?;
-    for _ in 0..count {
-        lists.push(List::new(alloc))?;
-    }
-    Ok(lists)
-}
 
 /// The scope that an item declares, or that it is a block of.
 fn scope_about(decls: &Decls, names: &NameTables, item: &Item) -> Option<u32>

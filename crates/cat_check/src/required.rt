@@ -5,16 +5,13 @@ ghost use Rattle.cat_value.specs.Inputs.{must_be_given};
 ghost use Rattle.cat_check_forms.specs.Tabled.{required_from};
 
 use cat_pos::{List, Numbers};
-use cat_value::{Decls, ItemDecl, Kind, declarations_are_sound};
+use cat_value::{Decls, ItemDecl, declarations_are_sound};
 use std::alloc::{AllocError, Global};
 
 fn is_required(item: &ItemDecl) -> bool
     ensures { result ≡ (must_be_given item.now.kind && not item.now.condition) }
 {
-    match item.kind {
-        Kind::Input | Kind::InputOutput => !item.condition,
-        _ => false,
-    }
+    item.kind.must_be_given() && !item.condition
 }
 
 /// The numbers of the inputs that a call of their scope must give.

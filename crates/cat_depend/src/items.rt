@@ -9,10 +9,8 @@ ghost use Rattle.cat_depend.specs.inside.Wanted.{wants, lists_from};
 
 use crate::chains::past_longest;
 use crate::naming::{Wanted, add_definition};
-use cat_order::{
-    OrderRefusal, empty_lists, order, the_order_lists_items, the_order_puts_dependencies_first,
-};
-use cat_pos::{ENTRIES_BOUND, Numbers};
+use cat_order::{OrderRefusal, order, the_order_lists_items, the_order_puts_dependencies_first};
+use cat_pos::{ENTRIES_BOUND, Numbers, empty_lists};
 use cat_scope::Def;
 use cat_value::{ItemDecl, Kind};
 use std::alloc::{AllocError, Global};

@@ -9,7 +9,6 @@ ghost use Rattle.cat_evaluate_scope.specs.inside.CallInputs.{ungiven_input};
 ghost use Rattle.cat_evaluate_scope.specs.inside.Steps.{GoesOn};
 
 use crate::entries::put_entry;
-use crate::found::must_be_given;
 use crate::tasks::{Entries, OnOutputs, ScopeTask};
 use cat_calc::Calc;
 use cat_evaluate_step::Task;
@@ -26,7 +25,7 @@ fn ungiven_input(alloc: Global, items: &ItemDecls) -> Result<Entries, AllocError
 {
     let mut input = List::new(alloc);
     for item in items.as_slice() {
-        let is_false = must_be_given(item.kind) && item.condition;
+        let is_false = item.kind.must_be_given() && item.condition;
         let entry = is_false.then_some(SharedValue::of_truth(false));
         input.push(entry)?;
     }

@@ -1,7 +1,6 @@
 // What holds of a target is put where it is for.
 ghost use Rattle.std.specs.Prelude.{◌≡◌, slice_get};
 ghost use Rattle.cat_scope.specs.ItemValues.{passed};
-ghost use Rattle.cat_value.specs.Inputs.{must_be_given};
 ghost use Rattle.cat_scope.specs.Names.{items_in};
 ghost use Rattle.cat_evaluate_step.specs.Scenes.{scoped_at};
 ghost use Rattle.cat_evaluate_term.specs.Verdicts.{found_as};
@@ -42,13 +41,6 @@ fn variable_found<'a>(
     }
 }
 
-/// Whether an item must be given.
-pub(crate) fn must_be_given(kind: Kind) -> bool
-    ensures { result ≡ must_be_given kind }
-{
-    matches!(kind, Kind::Input | Kind::InputOutput)
-}
-
 /// What is passed to an input or a context of a called scope, by what holds of it.
 fn passed(
     target: Target,
@@ -61,7 +53,7 @@ fn passed(
     match found {
         Some(definition) => Ok(Some(definition.value)),
         None => {
-            if !must_be_given(decl.kind) {
+            if !decl.kind.must_be_given() {
                 return Ok(None);
             }
             if decl.condition {

@@ -16,8 +16,8 @@ use Rattle.cat_weave.specs.declared.source.Source.{Source}
 use Rattle.cat_weave.specs.declared.source.GatherRefusal.{GatherRefusal}
 use Rattle.cat_weave.specs.Gathered.{Ending, Whole, Refused, StopsAt, gathered}
 use Rattle.cat_weave.specs.Causes.{AreReadableTogether}
-use Rattle.cat_build.specs.declared.code.Code.{Code}
-use Rattle.cat_build.specs.declared.code.Code.TheVariants as code
+use Rattle.cat_build.specs.declared.code.FaultCode.{FaultCode}
+use Rattle.cat_build.specs.declared.code.FaultCode.TheVariants as code
 use Rattle.cat_build.specs.Accepted.{IsAccepted}
 use Rattle.cat_build.specs.Causes.{StandsAt}
 use Rattle.cat_build.specs.Codes.{number_of}
@@ -26,7 +26,7 @@ use Rattle.cat_app.specs.Asked.{IsSource, IsAsked}
 use Rattle.cat_app.specs.Answers.{line, refusal_line, gathering_line, IsOutcome, IsRefusedFile, IsRefusedSource}
 use Rattle.cat_app.specs.Answers.{IsNoScope, IsRefusedInput, IsRefusedRead}
 use Rattle.cat_app.specs.Audits.{IsAudited}
-use Rattle.cat_app.specs.declared.request.Mode.TheVariants.{Check}
+use Rattle.cat_app.specs.declared.request.Mode.TheVariants.{Check, Emit}
 use Rattle.cat_app.specs.Table.{MayAnswer, MayAnswerTo}
 use Rattle.cat_app.specs.declared.status.Status.{Status}
 use Rattle.cat_app.specs.declared.status.Status.TheVariants as status
@@ -59,17 +59,17 @@ some_room Holds o is =
 
 -- ---- codes
 
-all_codes : List Code
+all_codes : List FaultCode
 all_codes = code.NoToken ∷ code.LiteralRange ∷ code.Unexpected ∷ code.TooDeep ∷ code.NameTwice ∷ code.NameUnknown
     ∷ code.TypeMismatch ∷ code.MatchCases ∷ code.LabelUnknown ∷ code.LabelSplit ∷ code.ExceptionAmbiguous
     ∷ code.ExceptionCycle ∷ code.VariableCycle ∷ code.ScopeCycle ∷ code.TypeCycle ∷ code.Misplaced ∷ code.TooMany ∷ []
 
-code_at : (found : Code) → slice_get all_codes (number_of found - 4) ≡ Some found
+code_at : (found : FaultCode) → slice_get all_codes (number_of found - 4) ≡ Some found
 unfolding all_codes
 code_at code.NoToken = refl
 code_at _ = refl
 
-code_listed : (found : Code) → IsOneOf found all_codes
+code_listed : (found : FaultCode) → IsOneOf found all_codes
 code_listed found = one_of_at all_codes (number_of found - 4) found (code_at found)
 
 -- ---- the replies to a request
@@ -205,14 +205,14 @@ module _ (request : Request) (old : Shelved) where
         (meaning_decided laws source.pieces readable)
 
     -- the line of a code at a position
-    abbrev code_line : Code → Pos → List ℕ
+    abbrev code_line : FaultCode → Pos → List ℕ
     code_line found p = refusal_line (number_of found) (position_text source.files p)
 
     -- a text that tells of a code
-    abbrev TellsCode : Code → List ℕ → Type 0
+    abbrev TellsCode : FaultCode → List ℕ → Type 0
     TellsCode found text = (p : Pos) × StandsAt source.pieces found p × (text ≡ code_line found p)
 
-    one_code_room : (found : Code) → TextRoom (TellsCode found)
+    one_code_room : (found : FaultCode) → TextRoom (TellsCode found)
     one_code_room found =
         let room = code_room laws source.pieces readable (λ p. length (code_line found p)) found in (
           room.0,
@@ -271,11 +271,15 @@ module _ (request : Request) (old : Shelved) where
     not_checked : request.mode ≡ Check → ⊥
     not_checked checks = cc (told.mode, checks)
 
+    not_listed : request.mode ≡ Emit → ⊥
+    not_listed emits = cc (told.mode, emits)
+
     fits_all : (new : Shelved) (ended : Status) (text : List ℕ) → MayAnswer request old new ended text
         → length text ≤ all_room
     fits_all new status.Fine text (inl h) = omega (arith, comes_room.1 text (inl (new, status.Fine, h)))
     fits_all new status.Fine text (inr (inl h)) = absurd (not_audited new status.Fine text h)
-    fits_all new status.Fine text (inr (inr h)) = absurd (not_checked h.mode)
+    fits_all new status.Fine text (inr (inr (inl h))) = absurd (not_checked h.mode)
+    fits_all new status.Fine text (inr (inr (inr h))) = absurd (not_listed h.mode)
     fits_all new status.Conflict text h = omega (arith, comes_room.1 text (inl (new, status.Conflict, h)))
     fits_all new status.NoValue text h = omega (arith, comes_room.1 text (inl (new, status.NoValue, h)))
     fits_all new status.Fault text h = omega (arith, comes_room.1 text (inl (new, status.Fault, h)))

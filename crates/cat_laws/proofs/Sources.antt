@@ -21,8 +21,8 @@ use Rattle.cat_except.specs.declared.refusal.ExceptRefusal.{ExceptRefusal}
 use Rattle.cat_except.specs.declared.refusal.ExceptRefusal.TheVariants as exception
 use Rattle.cat_except.specs.Causes as exceptions
 use Rattle.cat_except.specs.Faults.{groups_in}
-use Rattle.cat_build.specs.declared.code.Code.{Code}
-use Rattle.cat_build.specs.declared.code.Code.TheVariants as code
+use Rattle.cat_build.specs.declared.code.FaultCode.{FaultCode}
+use Rattle.cat_build.specs.declared.code.FaultCode.TheVariants as code
 use Rattle.cat_build.specs.Accepted.{IsProgramIn}
 use Rattle.cat_build.specs.Causes.{end_of, token_position, StandsAtToken, IsRefusedTree, IsRefusedForest, StandsAt}
 use Rattle.cat_laws.proofs.Rooms.{Decided, Room, room_none, room_less, room_or, room_one, room_listed, one_of_at}
@@ -139,7 +139,7 @@ module _ (laws : Laws) (pieces : List Piece) where
     -- ---- codes
 
     -- where a code stands
-    pub code_room : (found : Code) → Room size (StandsAt pieces found)
+    pub code_room : (found : FaultCode) → Room size (StandsAt pieces found)
     code_room code.NoToken = fails_room size BeginsNoToken pieces
     code_room code.LiteralRange = fails_room size PassesBound pieces
     code_room code.Unexpected = token_room IsUnexpected

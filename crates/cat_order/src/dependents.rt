@@ -1,21 +1,10 @@
 // Which items depend on each item.
-ghost use Rattle.std.specs.Prelude.{◌≡◌, ◌<◌, [], length, replicate, All, IfOk, OnOk};
+ghost use Rattle.std.specs.Prelude.{◌≡◌, ◌<◌, length, All, IfOk, OnOk};
 ghost use Rattle.cat_order.specs.Order.{AreItems};
 ghost use Rattle.cat_order.specs.inside.Steps.{AddsDependent, AreDependents};
 
-use cat_pos::{ENTRIES_BOUND, List, Numbers};
+use cat_pos::{ENTRIES_BOUND, Numbers, empty_lists};
 use std::alloc::{AllocError, Global};
-
-/// So many empty lists.
-pub fn empty_lists(alloc: Global, count: usize) -> Result<Vec<Numbers>, AllocError>
-    ensures { IfOk result (λ lists. lists.items ≡ replicate count []) }
-{
-    let mut lists = Vec::with_capacity(alloc, count)?;
-    for _ in 0..count {
-        lists.push(List::new(alloc))?;
-    }
-    Ok(lists)
-}
 
 fn add_dependent(
     dependents: &mut [Numbers],

@@ -14,7 +14,6 @@ mod refusal;
 use crate::cycle::item_on_cycle;
 use crate::listing::{Listing, list_items};
 use cat_pos::Numbers;
-pub use dependents::empty_lists;
 pub use laws::{
     a_cycle_leaves_no_order, the_order_is_computed, the_order_is_one, the_order_lists_items,
     the_order_puts_dependencies_first,

@@ -18,7 +18,7 @@ pub use limits::{
     COLUMNS_BOUND, ENTRIES_BOUND, LAST_LINE, MOST_FILE_BYTES, MOST_FILES, MOST_INPUT_BYTES,
     MOST_SOURCE_BYTES, limits_are_as_stated,
 };
-pub use list::List;
+pub use list::{List, empty_lists};
 pub use pos::{Piece, Pieces, Pos, Positions, pos_at};
 pub use shared::Shared;
 pub use stack::Stack;

@@ -1,6 +1,6 @@
 // What a program declares: structures, enumerations, and scopes with their items.
 ghost use Rattle.std.specs.Prelude.{◌≡◌};
-ghost use Rattle.cat_value.specs.Inputs.{is_output, may_be_given};
+ghost use Rattle.cat_value.specs.Inputs.{is_output, may_be_given, must_be_given};
 
 use crate::{Ty, Tys};
 use cat_pos::{List, Pos, Text};
@@ -64,6 +64,16 @@ impl Kind {
         match self {
             Kind::Input | Kind::InputOutput | Kind::Context | Kind::ContextOutput => true,
             Kind::Output | Kind::Internal | Kind::Called(_) => false,
+        }
+    }
+
+    pub fn must_be_given(self) -> bool
+        ensures { result ≡ must_be_given self }
+    {
+        match self {
+            Kind::Input | Kind::InputOutput => true,
+            Kind::Output | Kind::Internal | Kind::Context | Kind::ContextOutput | Kind::Called(_) =>
+                false,
         }
     }
 

@@ -1,6 +1,7 @@
 use Rattle.cat_io.specs.Stored.{texts_of}
 use Rattle.cat_app.proofs.Complete.{ends_audit, ends_check, ends_run}
 use Rattle.cat_app.proofs.DrillEnds.{ends_drill}
+use Rattle.cat_app.proofs.EmitEnds.{ends_emit}
 use Rattle.cat_app.proofs.Faults.{no_fault}
 use Rattle.cat_app.proofs.Putting.{reply_untouched}
 use Rattle.cat_app.proofs.top.catala.Goals as goal
@@ -33,6 +34,13 @@ returns-clause-a_check_writes_its_answer g c request source program scope extra 
     c.told_sources_are_gathered.ensures.endings c.told_sources_are_gathered.ensures.files (texts_of c.args.words.now) _
     _
     _ _ request source program scope check.told extra check c.answer.result c.answer.ensures.answers
+
+pub returns-clause-an_emit_writes_the_listing : goal.returns-clause-an_emit_writes_the_listing
+returns-clause-an_emit_writes_the_listing g c request source program scope emit =
+    ends_emit c.pieces_have_one_program.ensures c.refused_pieces_are_not_accepted.ensures
+    c.told_sources_are_gathered.ensures.endings c.told_sources_are_gathered.ensures.files (texts_of c.args.words.now) _
+    _
+    _ _ request source program scope emit.told emit.mode c.answer.result c.answer.ensures.answers
 
 pub returns-clause-a_drill_writes_its_line : goal.returns-clause-a_drill_writes_its_line
 returns-clause-a_drill_writes_its_line g c bands source program scope drill =

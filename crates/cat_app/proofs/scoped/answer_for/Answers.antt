@@ -1,0 +1,21 @@
+use Rattle.std.proofs.Common.{refl}
+use Rattle.cat_app.specs.inside.Says.{asked_of}
+use Rattle.cat_app.proofs.Replies.{if_ok, asked_for, a_listing, a_report, most_is, named_within}
+use Rattle.cat_app.proofs.scoped.answer_for.Goals as goal
+
+pub audited-requires-clause-scope : goal.audited-requires-clause-scope
+audited-requires-clause-scope g c =
+    named_within c.args.asked.scope.now c.args.scope c.args.built.now.program.decls.scopes c.requires.named
+
+pub returns-in-Audit-clause-may : goal.returns-in-Audit-clause-may
+returns-in-Audit-clause-may g c = if_ok c.audited.result c.audited.ensures (λ reply says cases are.
+    a_report (asked_of cases c.args.asked) _ _ c.args.source.now c.args.built.now.program c.args.scope c.most_of.result
+    reply refl says (asked_for (asked_of cases c.args.asked) _ c.args.source.now c.args.built.now c.args.scope
+    c.requires.gathered c.requires.built c.requires.named) c.in-Audit.is
+    (most_is cases c.args.asked.cases c.most_of.result are c.most_of.ensures.most))
+
+pub returns-in-Emit-clause-may : goal.returns-in-Emit-clause-may
+returns-in-Emit-clause-may g c = if_ok c.listed.result c.listed.ensures (λ reply says cases are.
+    a_listing (asked_of cases c.args.asked) _ _ c.args.source.now c.args.built.now c.args.scope reply refl
+    c.requires.built says (asked_for (asked_of cases c.args.asked) _ c.args.source.now c.args.built.now c.args.scope
+    c.requires.gathered c.requires.built c.requires.named) c.in-Emit.is)

@@ -1,0 +1,3 @@
+pub mod OperationLaws
+pub mod MachineExamples
+pub mod Determined

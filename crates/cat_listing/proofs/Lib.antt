@@ -1,0 +1,3 @@
+pub mod TypeTexts
+pub mod NextFile
+pub mod Parts

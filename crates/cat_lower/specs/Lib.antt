@@ -1,0 +1,15 @@
+pub mod Lowered
+pub mod Scopes
+pub mod Definitions
+pub mod Terms
+pub mod Expressions
+pub mod Rows
+pub mod Pieces
+pub mod FormTypes
+pub mod Types
+pub mod Laying
+pub mod Stands
+pub mod Grown
+pub mod Told
+pub mod Starts
+pub mod Drafts

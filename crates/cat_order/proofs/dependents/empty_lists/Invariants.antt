@@ -1,6 +1,0 @@
-use Rattle.std.proofs.Common.{◌≡◌, replicate, []}
-use Rattle.cat_order.proofs.dependents.empty_lists.Given as goal
-
--- as many empty lists as were made so far
-abbrev pub invariant-loop : goal.invariant-loop
-invariant-loop l = l.lists.items ≡ replicate l.counter []
