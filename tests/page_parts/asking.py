@@ -1,8 +1,10 @@
 """What the server answers and what it refuses, asked without a browser."""
-import json, os, socket, time
+import json, os, socket, subprocess, time
 from typing import Set
 
-from .served import SECONDS, Office
+from .served import SECONDS, TOP, Office
+
+STATIC, GRAMMAR = TOP / 'tools' / 'paging' / 'static', TOP / 'editors' / 'vscode' / 'syntaxes' / 'catala.tmLanguage.json'
 
 PLAIN = """```catala
 declaration scope S:
@@ -12,6 +14,11 @@ scope S:
   definition x equals n + 1
 ```
 """
+
+
+def law(text: str, **others: str) -> dict:
+    """A law as the page has it; other texts are those of files `NAME.md` that aren't saved."""
+    return {'text': text, 'others': {name + '.md': other for name, other in others.items()}}
 
 
 def who_has_no_token_is_refused(office: Office) -> None:
@@ -103,9 +110,9 @@ def cases_are_new_files_of_the_folder(office: Office) -> None:
         assert 'already' in keep('one_and_one') and 'scope S' in keep('another', 'T')
         (folder / 'linked.reply').symlink_to(folder / 'law.md')
         assert keep('linked') and (folder / 'law.md').read_text() == PLAIN and not (folder / 'linked.json').exists()
-        told = served.parts('cases', {'text': PLAIN})[0]
+        told = served.parts('cases', law(PLAIN))[0]
         assert [(one['name'], one['is']) for one in told['cases']] == [('one_and_one', 'agrees')], told
-        told = served.parts('cases', {'text': PLAIN.replace('n + 1', 'n + 2')})[0]
+        told = served.parts('cases', law(PLAIN.replace('n + 1', 'n + 2')))[0]
         assert [one['is'] for one in told['cases']] == ['differs'], told
 
 
@@ -114,26 +121,89 @@ def a_file_that_changed_is_not_written_over(office: Office) -> None:
     with office.serves(folder) as served:
         state = served.parts('law', {})[0]
         (folder / 'law.md').write_text(PLAIN + 'by another\n')
-        assert served.parts('save', {'text': 'mine', 'sum': state['sum']})[0] == {'isChanged': True}
-        told = served.parts('changes', {'sum': state['sum']})[0]
+        save = lambda text, known: served.parts('save', {'name': 'law.md', 'text': text, 'sum': known})[0]
+        assert save('mine', state['sum']) == {'isChanged': True}
+        told = served.parts('changes', {'sums': {'law.md': state['sum']}})[0]['files']['law.md']
         assert told['text'].endswith('by another\n')
         os.chmod(folder / 'law.md', 0o640)
-        assert served.parts('save', {'text': 'mine\r\n', 'sum': told['sum']})[0].get('sum')
+        assert save('mine\r\n', told['sum']).get('sum')
         assert (folder / 'law.md').read_bytes() == b'mine\r\n' and os.stat(folder / 'law.md').st_mode & 0o777 == 0o640
         assert os.listdir(folder) == ['law.md']
+
+
+def what_a_law_includes_from_its_folder_is_opened_and_saved(office: Office) -> None:
+    folder = office.folder(law_md='> Include: part.md\n', part_md=PLAIN, other_md='no')
+    (folder / 'linked.md').symlink_to('/etc/passwd')
+    (folder / 'away').symlink_to('/etc')
+    with office.serves(folder) as served:
+        opened = lambda name: served.parts('open', {'name': name})[0]
+        assert opened('part.md') == {'name': 'part.md', 'isGone': True}
+        first, *_ = served.parts('faults', law('> Include: part.md\n'))
+        assert first['isAccepted'] and first['includes'] == [{'name': 'part.md', 'mayOpen': True}], first
+        state = opened('part.md')
+        assert state['text'] == PLAIN
+        others = ('linked.md', 'away/passwd', '../law/other.md', './other.md', '/etc/passwd', '-')
+        first, *_ = served.parts('faults', law(''.join('> Include: %s\n' % name for name in others)))
+        assert [told['mayOpen'] for told in first['includes']] == [False] * len(others), first
+        for name in ('other.md', '', 'part.md\0', *others):
+            assert opened(name).get('isGone'), name
+            assert served.parts('save', {'name': name, 'text': 'x', 'sum': state['sum']})[0].get('error'), name
+        assert served.parts('save', {'name': 'part.md', 'text': PLAIN + 'more\n', 'sum': state['sum']})[0].get('sum')
+        assert (folder / 'part.md').read_text() == PLAIN + 'more\n' and (folder / 'other.md').read_text() == 'no'
+        told = served.parts('changes', {'sums': {'part.md': state['sum'], 'other.md': ''}})[0]['files']
+        assert told['part.md']['text'] == PLAIN + 'more\n' and told['other.md'] == {'isGone': True}, told
+        for others in ('part.md', {'../part.md': ''}, {'/part.md': ''}, {'part.md': 7}, {'a\0': ''}):
+            body = json.dumps({'text': '', 'others': others})
+            assert served.answer('POST', served.path + 'faults', {'Origin': 'http://' + served.host}, body)[0] == 400, others
+
+
+def texts_of_files_that_are_not_saved_are_run(office: Office) -> None:
+    folder = office.folder(law_md='', part_md=PLAIN, one_json='{"n":1}', one_reply='{"x":2}')
+    (folder / 'scope').write_text('S\n')
+    (folder.parent / 'above.md').write_text(PLAIN.replace('S', 'T'))
+    (folder / 'deeper').mkdir()
+    (folder / 'deeper' / 'more.md').write_text('> Include: ../above.md\n')
+    with office.serves(folder) as served:
+        text = '> Include: part.md\n> Include: deeper/more.md\n'
+        changed = law(text, part=PLAIN.replace('n + 1', 'n + 5'))
+        for scope, asked, reply in (('S', law(text), 2), ('S', changed, 6), ('T', changed, 2)):
+            told = served.parts('run', {**asked, 'scope': scope, 'input': '{"n":1}', 'job': '1'})[0]
+            assert told['reply'] == '{"x":%d}' % reply, told
+        assert [served.parts('cases', asked)[0]['cases'][0]['is'] for asked in (law(text), changed)] == ['agrees', 'differs']
+        _, formed, last = served.parts('faults', changed)
+        defined = [(of['places'][0]['file'], of['places'][0]['line']) for scope in formed['forms']['scopes'] for of in scope['defined']]
+        assert defined == [('part.md', 6), ('../above.md', 6)], defined
+        assert [note['places'][0]['file'] for note in last['notes']] == ['deeper/more.md'], last
+        first, last = served.parts('faults', law(text, part='\n' + PLAIN.replace('x equals', 'x equal')))
+        assert first['reply'] == 'source refused E6 at part.md:7:16', first
+        for note in (first['notes'][0], last['notes'][0]):
+            assert [note['places'][0][key] for key in ('file', 'line', 'piece')] == ['part.md', 7, 'equal'], note
+        assert sorted(os.listdir(folder)) == ['deeper', 'law.md', 'one.json', 'one.reply', 'part.md', 'scope']
+
+
+def an_installed_page_is_served(office: Office) -> None:
+    for folder in ('prefix/bin', 'elsewhere'):
+        subprocess.run([TOP / 'install', office.room / folder], check=True)
+        with office.serves(office.folder(law_md=PLAIN), page=office.room / folder / 'catala-page') as served:
+            for name in ('', 'page.js', 'page.css', 'grammar.json'):
+                status, body = served.answer('GET', served.path + name)
+                own = STATIC / (name or 'page.html')
+                assert status == 200 and body == (own if own.exists() else GRAMMAR).read_bytes(), name
+            first, last = served.parts('faults', law(PLAIN.replace('equals', 'equal')))
+            assert first['reply'] == 'source refused E6 at law.md:6:16' and 'here may stand' in json.dumps(last), (first, last)
 
 
 def each_reply_is_the_programs(office: Office) -> None:
     with office.serves(office.folder('heating_subsidy_draft')) as served:
         text = served.law.read_text()
-        run = lambda given: served.parts('run', {'text': text, 'scope': 'HeatingSubsidy', 'input': given, 'job': '1'})[0]
+        run = lambda given: served.parts('run', {**law(text), 'scope': 'HeatingSubsidy', 'input': given, 'job': '1'})[0]
         assert run('{"income":1,"age_of_youngest":9,"heating":"Gas"}') == {'status': 0, 'reply': '{"subsidy":"300.00"}', 'trouble': ''}
         clash = 'conflict HeatingSubsidy.subsidy at law.md:56:23 law.md:65:23'
         assert run('{"income":1,"age_of_youngest":1,"heating":"DistrictHeating"}')['reply'] == clash
-        first, *_ = served.parts('faults', {'text': text.replace('equals $300', 'equal $300')})
+        first, *_ = served.parts('faults', law(text.replace('equals $300', 'equal $300')))
         column = text.split('\n')[28].index('equals $300') + 1
         assert first['reply'] == 'source refused E6 at law.md:29:%d' % column, first
-        audit = served.parts('audit', {'text': text, 'scopes': ['HeatingSubsidy'], 'job': '2'})
+        audit = served.parts('audit', {**law(text), 'scopes': ['HeatingSubsidy'], 'job': '2'})
         line, = audit[0]['sections'][0]['lines']
         assert line['input'] == '{"age_of_youngest":0,"heating":"DistrictHeating","income":"0.00"}', line
         assert [place['line'] for place in audit[1]['notes'][0]['places']] == [56, 65]
@@ -141,4 +211,5 @@ def each_reply_is_the_programs(office: Office) -> None:
 
 TESTS = [who_has_no_token_is_refused, a_browser_is_opened_with_a_ticket_for_one_time, other_hosts_and_origins_are_refused,
          nothing_but_the_pages_own_files_is_served, it_binds_to_one_address, cases_are_new_files_of_the_folder,
-         a_file_that_changed_is_not_written_over, each_reply_is_the_programs]
+         a_file_that_changed_is_not_written_over, what_a_law_includes_from_its_folder_is_opened_and_saved,
+         texts_of_files_that_are_not_saved_are_run, an_installed_page_is_served, each_reply_is_the_programs]

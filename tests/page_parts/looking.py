@@ -3,7 +3,7 @@ import json, pathlib
 
 from .browser import Browser, Failure
 from .served import Office
-from .working import put_behind, shown
+from .working import FIGURES, INCLUDING, PARITY, put_behind, shown
 
 WIDTHS = (1280, 400)
 HERE = pathlib.Path(__file__).resolve().parent
@@ -59,4 +59,25 @@ def a_form_of_each_type_is_seen_well(office: Office, browser: Browser) -> None:
         looked_at(office, page, 'form', 'run')
 
 
-TESTS = [each_state_is_seen_well, a_form_of_each_type_is_seen_well]
+def an_audit_that_runs_and_one_that_was_stopped_are_seen_well(office: Office, browser: Browser) -> None:
+    with shown(office, browser, '', law_md=PARITY) as (page, served):
+        page.value('window.page.tabs.show("audit")')
+        page.wait('!document.querySelector("#panel-audit .running").hidden', 'that the audit runs')
+        looked_at(office, page, 'audit_running', 'audit')
+        page.click('#panel-audit .running button')
+        page.wait('window.page.audit.again?.isConnected', 'that it was stopped')
+        looked_at(office, page, 'audit_stopped', 'audit')
+
+
+def a_law_of_two_files_is_seen_well(office: Office, browser: Browser) -> None:
+    with shown(office, browser, '', law_md=INCLUDING, figures_md=FIGURES.replace('equals', 'equal')) as (page, served):
+        page.wait('document.querySelector(".files .count")', 'the file with a fault')
+        page.wait('document.querySelector("#panel-faults").textContent.includes("here may stand")', 'its words')
+        looked_at(office, page, 'law_of_two_files', 'law')
+        page.value('window.page.files.show("figures.md")')
+        looked_at(office, page, 'included_file', 'law')
+        looked_at(office, page, 'fault_of_an_included_file', 'faults')
+
+
+TESTS = [each_state_is_seen_well, a_form_of_each_type_is_seen_well, an_audit_that_runs_and_one_that_was_stopped_are_seen_well,
+         a_law_of_two_files_is_seen_well]

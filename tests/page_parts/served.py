@@ -3,7 +3,7 @@ import contextlib, http.client, json, os, pathlib, re, shutil, subprocess, sys, 
 from typing import Iterator, List, Optional, Tuple
 
 TOP = pathlib.Path(__file__).resolve().parent.parent.parent
-EXAMPLES = TOP / 'examples'
+EXAMPLES, PAGE = TOP / 'examples', TOP / 'tools' / 'page'
 SECONDS = 120
 
 
@@ -53,11 +53,11 @@ class Office:
         return folder
 
     @contextlib.contextmanager
-    def serves(self, folder: pathlib.Path, name: str = 'law.md', browser: str = '') -> Iterator[Served]:
+    def serves(self, folder: pathlib.Path, name: str = 'law.md', browser: str = '', page: pathlib.Path = PAGE) -> Iterator[Served]:
         """Serves a law; `browser` is the program that is called with the address, or none is."""
-        words = ['--program', str(self.program)] if self.program else []
+        words = ['--program', str(self.program)] if self.program and page == PAGE else []
         words += [] if browser else ['--no-browser']
-        process = subprocess.Popen([sys.executable, TOP / 'tools' / 'page', *words, folder / name], stdout=subprocess.PIPE,
+        process = subprocess.Popen([sys.executable, page, *words, folder / name], stdout=subprocess.PIPE,
                                    stderr=subprocess.DEVNULL, text=True, env={**os.environ, 'BROWSER': browser})
         try:
             address = re.search(r'http://\S+', process.stdout.readline())

@@ -22,14 +22,15 @@ scope S:
   definition x equals n + <script>window.ran = 7</script>
 ```
 """
-# Which of thirty truth values hold is asked by one condition: more parts than an audit looks at in a moment.
+# Which of thirty truth values hold is asked sixteen times by one condition: what an audit takes some seconds for.
 PARITY = """```catala
 declaration scope S:
 %s  output x content integer
 scope S:
   definition x under condition %s consequence equals 1
 ```
-""" % (''.join('  input b%d content boolean\n' % k for k in range(30)), ' xor '.join('b%d' % k for k in range(30)))
+""" % (''.join('  input b%d content boolean\n' % k for k in range(30)),
+       ' or '.join('(%s)' % ' xor '.join('b%d' % k for k in range(30)) for _ in range(16)))
 
 
 def equal(seen, wanted, what: str) -> None:
@@ -55,7 +56,7 @@ def shown(office: Office, browser: Browser, statute: str, width: int = 1280, **f
 def put_behind(page: Page, piece: str) -> None:
     """Puts the cursor behind a piece of the code."""
     page.value('''((piece) => {
-        const field = [...document.querySelectorAll(".code textarea")].find((other) => other.value.includes(piece));
+        const field = [...document.querySelectorAll(".file:not([hidden]) .code textarea")].find((other) => other.value.includes(piece));
         const at = field.value.indexOf(piece) + piece.length;
         field.focus();
         field.setSelectionRange(at, at);
@@ -173,6 +174,105 @@ def the_law_is_saved_and_what_others_write_is_taken_in(office: Office, browser: 
         equal(served.law.read_text(), served_law().replace('25%', '71%'), 'the file')
 
 
+INCLUDING = """# Tax
+
+> Include: figures.md
+
+```catala
+scope Tax:
+  definition tax equals income * rate
+```
+"""
+FIGURES = """# Figures
+
+```catala
+declaration scope Tax:
+  input income content money
+  internal rate content decimal
+  output tax content money
+scope Tax:
+  definition rate equals 25%
+```
+"""
+FILES = '[...document.querySelectorAll(".files button")].map((file) => file.textContent)'
+
+
+def a_file_that_is_included_is_opened_edited_and_saved(office: Office, browser: Browser) -> None:
+    with shown(office, browser, '', law_md=INCLUDING, figures_md=FIGURES) as (page, served):
+        figures = served.law.parent / 'figures.md'
+        page.wait(FILES + '.join() === "law.md,figures.md"', 'the two files')
+        page.wait('document.querySelector("#panel-audit .summary").textContent', 'the audit')
+        page.value('document.querySelector(".edits").focus()')
+        page.press('Enter')
+        page.press('Escape')
+        page.click('.opens')
+        page.wait('window.page.view.text()[2] === "F"', 'the file that is included')
+        equal(page.value('document.activeElement.textContent'), 'figures.md', 'what is used next')
+        put_behind(page, 'definition rate equals')
+        page.press('Backspace')
+        page.wait(FILES + '.join() === "law.md,figures.md 1 fault"', 'where the fault is')
+        page.wait('document.querySelector(".file:not([hidden]) .on-fault")', 'that the fault is marked')
+        equal(page.value('document.querySelector("#panel-faults .place").textContent.split(":")[0]'), 'figures.md, line 9', 'its place')
+        page.wait('document.querySelector("#panel-faults").textContent.includes("here may stand")', 'its words')
+        page.click('.files button')
+        equal(page.value('window.page.view.text()'), INCLUDING, 'the text of the law')
+        office.picture(page, 'fault_in_another_file')
+        page.click('#panel-faults .place')
+        chosen = '(({ value, selectionStart, selectionEnd }) => value.slice(selectionStart, selectionEnd))(document.activeElement)'
+        equal(page.value(chosen), 'equal', 'what a click on the place chooses')
+        page.write('equals')
+        page.wait('document.querySelector("#panel-faults .summary").dataset.kind === "good"', 'that it is accepted again')
+        put_behind(page, 'rate equals 25')
+        page.press('Backspace')
+        page.wait('document.querySelector("#saved").textContent === "Not saved yet: figures.md"')
+        page.value('window.page.tabs.show("run")')
+        page.wait('[...document.querySelectorAll("#panel-run input")].find((field) => field.dataset.path === "income")', 'the form')
+        page.click('#panel-run input[data-path="income"]')
+        page.write('100')
+        page.press('Enter')
+        page.wait('document.querySelector("#panel-run .result td").textContent === "2.00"', 'a run of what is not saved')
+        equal((figures.read_text(), sorted(file.name for file in served.law.parent.iterdir())), (FIGURES, ['figures.md', 'law.md']),
+              'the folder before it is saved')
+        page.press('s', CONTROL)
+        page.wait('document.querySelector("#saved").textContent === "Saved"')
+        equal((figures.read_text(), served.law.read_text()), (FIGURES.replace('25%', '2%'), INCLUDING), 'the files')
+        figures.write_text(FIGURES.replace('25%', '8%'))
+        page.wait('document.querySelector("#panel-run .result td").textContent === "8.00"', 'what another has written')
+
+
+def a_file_that_cannot_be_saved_says_why(office: Office, browser: Browser) -> None:
+    with shown(office, browser, '', law_md=INCLUDING, figures_md=FIGURES) as (page, served):
+        page.wait('document.querySelectorAll(".files button").length === 2', 'the two files')
+        page.click('.files button + button')
+        put_behind(page, 'rate equals 25')
+        page.write('1')
+        (served.law.parent / 'figures.md').unlink()
+        page.press('s', CONTROL)
+        page.wait('document.querySelector("#saved").textContent.startsWith("figures.md ")', 'what is wrong')
+        equal(page.value('window.page.view.text().includes("251%")'), True, 'that what was typed is kept')
+        equal(sorted(file.name for file in served.law.parent.iterdir()), ['law.md'], 'the folder')
+
+
+def what_others_write_into_an_included_file_is_asked_about(office: Office, browser: Browser) -> None:
+    with shown(office, browser, '', law_md=INCLUDING, figures_md=FIGURES) as (page, served):
+        page.wait('document.querySelectorAll(".files button").length === 2', 'the two files')
+        page.click('.files button + button')
+        put_behind(page, 'rate equals 25')
+        page.write('1')
+        (served.law.parent / 'figures.md').write_text(FIGURES.replace('25%', '8%'))
+        page.wait('document.querySelector("#outside p").textContent.startsWith("figures.md has changed")', 'the question which text counts')
+        page.click('#outside button')
+        page.wait('document.querySelector("#outside").hidden && window.page.view.text().includes("8%")', 'the text of the file')
+        page.click('.files button')
+        put_behind(page, 'income * rate')
+        page.value('document.querySelector(".edits").focus()')
+        page.press('Enter')
+        page.wait('document.activeElement.tagName === "TEXTAREA"')
+        page.value('document.activeElement.value = "# Tax\\n", document.activeElement.dispatchEvent(new Event("input"))')
+        page.press('Escape')
+        page.wait('document.querySelector(".files").hidden', 'that the file is none of the law any more')
+
+
 def words_are_edited_in_place(office: Office, browser: Browser) -> None:
     with shown(office, browser, '', law_md=served_law()) as (page, served):
         page.value('document.querySelector(".edits").focus()')
@@ -220,5 +320,8 @@ def places_are_gone_through_by_a_key(office: Office, browser: Browser) -> None:
 
 
 TESTS = [a_fault_is_explained_and_mended, both_rules_of_a_contradiction_are_marked, a_missing_case_is_told_in_the_text,
-         a_form_is_filled_run_and_kept_by_the_keyboard, the_law_is_saved_and_what_others_write_is_taken_in, words_are_edited_in_place,
-         a_law_is_shown_as_text, a_long_audit_shows_that_it_runs_and_is_stopped, places_are_gone_through_by_a_key]
+         a_form_is_filled_run_and_kept_by_the_keyboard, the_law_is_saved_and_what_others_write_is_taken_in,
+         a_file_that_is_included_is_opened_edited_and_saved, a_file_that_cannot_be_saved_says_why,
+         what_others_write_into_an_included_file_is_asked_about,
+         words_are_edited_in_place, a_law_is_shown_as_text, a_long_audit_shows_that_it_runs_and_is_stopped,
+         places_are_gone_through_by_a_key]

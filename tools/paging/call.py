@@ -2,6 +2,8 @@
 import os, pathlib, shutil, signal, subprocess, sys, tempfile, threading, webbrowser
 from typing import List, NamedTuple, Optional
 
+from explaining.program import found
+
 from .desk import Desk
 from .law import Law, NoLaw
 from .program import Program
@@ -37,14 +39,14 @@ def read_call(words: List[str]) -> Optional[Call]:
 
 
 def program_at(asked: Optional[str]) -> Optional[str]:
-    """The program that is asked for, or the one that lies packed in this checkout, or the one on the PATH."""
+    """The program that is asked for, or the one that lies packed in this checkout, or beside what was called, or on the PATH."""
     if asked:
         return shutil.which(os.path.abspath(asked))
     unpacks = TOP / 'tools' / 'unpack'
     if unpacks.exists():
         ran = subprocess.run([unpacks], stdout=subprocess.PIPE, text=True)
         return ran.stdout.strip() if ran.returncode == 0 else None
-    return shutil.which('catala')
+    return found(None)
 
 
 def opened(address: str) -> None:
@@ -55,7 +57,7 @@ def opened(address: str) -> None:
 def served(call: Call, law: Law, path: str) -> int:
     """Serves the page until it is broken off."""
     with tempfile.TemporaryDirectory(prefix='catala-page-') as room:
-        program = Program(path, str(law.folder), room)
+        program = Program(path, room)
         desk = Desk(law, program, Words(path, str(law.folder), room))
         server = Server(desk, call.port)
         signal.signal(signal.SIGTERM, lambda *_: sys.exit(0))

@@ -36,18 +36,18 @@ class Cases:
     def named(self) -> List[str]:
         return self.law.names('.json')[:MOST_CASES] if self.law.name == 'law.md' else []
 
-    def listed(self, text: str, replied) -> dict:
-        """All cases on this text of the law; `replied` is how a reply is shown."""
+    def listed(self, folder: str, text: str, replied) -> dict:
+        """All cases on this text of the law in a folder that is laid out; `replied` is how a reply is shown."""
         scope = self.scope()
-        cases = [self.case(name, scope, text, replied) for name in self.named()] if scope else []
+        cases = [self.case(folder, name, scope, text, replied) for name in self.named()] if scope else []
         return {'isOffice': self.law.name == 'law.md', 'scope': scope, 'hasReplies': self.has_replies(), 'cases': cases}
 
-    def case(self, name: str, scope: str, text: str, replied) -> dict:
+    def case(self, folder: str, name: str, scope: str, text: str, replied) -> dict:
         data = content(self.law.beside(name + '.json'), MOST_INPUT)
         if data is None:
             return {'name': name, 'input': '', 'wanted': None, 'reply': 'the input is no plain file of at most 1 MiB', 'is': 'differs'}
         given = data.decode('utf-8', 'replace')
-        ended = replied(self.program.call(['run', '--', scope, '-'], text, given))
+        ended = replied(self.program.call(folder, ['run', '--', scope, '-'], text, given))
         wanted = self.wanted(name, data)
         how = 'unknown' if wanted is None else 'agrees' if as_wanted(ended.reply, wanted) == wanted else 'differs'
         return {'name': name, 'input': given, 'wanted': wanted, 'reply': ended.reply, 'status': ended.status, 'is': how}

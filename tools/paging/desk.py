@@ -1,12 +1,13 @@
-"""What the page may ask for: the law, its faults, audits, runs and cases, and that it is saved."""
+"""What the page may ask for: the law's files, its faults, audits, runs and cases, and that a file is saved."""
 import re, threading
-from typing import Iterator
+from typing import Iterator, Optional
 
 from explaining.audits import lines_of
 from explaining.pages import Pages
 
 from .cases import Cases
 from .law import Changed, Law
+from .layout import laid_out
 from .notes import first_words
 from .program import SECONDS, SECONDS_OF_AUDIT, STOPPED, TOO_LONG, Ended, Program
 from .report import sections_of
@@ -14,9 +15,13 @@ from .words import Overtaken, Words
 
 PLACE = re.compile(r'(?<= )-(?=:\d+:\d+(?: |$))', re.M)
 ACCEPTED = (9, 'no such scope ')
-# What each question has beside its name; all of it is text, but the scopes, which are a list of texts.
-ASKED = {'law': (), 'changes': ('sum',), 'save': ('text', 'sum'), 'faults': ('text',), 'audit': ('text', 'scopes', 'job'), 'stop': ('job',),
-         'run': ('text', 'scope', 'input', 'job'), 'cases': ('text',), 'compute': ('text',), 'keep': ('name', 'scope', 'input', 'reply')}
+# What each question has beside its name; all of it is text, but the scopes, which are a list of texts, and what is kept by names of
+# files: `others`, texts that aren't saved, and `sums`.
+LAW = ('text', 'others')
+ASKED = {'law': (), 'changes': ('sums',), 'open': ('name',), 'save': ('name', 'text', 'sum'), 'faults': LAW,
+         'audit': (*LAW, 'scopes', 'job'), 'stop': ('job',), 'run': (*LAW, 'scope', 'input', 'job'), 'cases': LAW, 'compute': LAW,
+         'keep': ('name', 'scope', 'input', 'reply')}
+BY_NAMES = ('others', 'sums')
 NO_SCOPE = ''  # A scope of no source, so that the source is read and built, and no more.
 
 
@@ -27,18 +32,23 @@ class Desk:
         self.law, self.program, self.words = law, program, words
         self.of_audits = words.another()
         self.cases, self.pages, self.saving = Cases(law, program), Pages(), threading.Lock()
-        self.answers = {'law': self.state, 'changes': self.changes, 'save': self.save, 'faults': self.faults, 'audit': self.audit,
-                        'run': self.run, 'stop': self.stop, 'cases': self.all_cases, 'compute': self.compute, 'keep': self.keep}
+        self.answers = {'law': self.state, 'changes': self.changes, 'open': self.open, 'save': self.save, 'faults': self.faults,
+                        'audit': self.audit, 'run': self.run, 'stop': self.stop, 'cases': self.all_cases, 'compute': self.compute,
+                        'keep': self.keep}
         words.begin()
 
     def is_question(self, name: str, asked: object) -> bool:
         """Whether a question has what it has to have, in texts, of which those that are words of a call have no NUL."""
         if not isinstance(asked, dict) or set(asked) != set(ASKED[name]):
             return False
-        scopes = asked.get('scopes', [])
-        words = [asked.get('scope', ''), *(scopes if isinstance(scopes, list) else [None])]
-        texts = [value for key, value in asked.items() if key != 'scopes']
-        return all(is_text(text) for text in [*texts, *words]) and not any('\0' in word for word in words)
+        scopes, named = asked.get('scopes', []), [asked[key] for key in BY_NAMES if key in asked]
+        if not isinstance(scopes, list) or not all(isinstance(of_names, dict) for of_names in named):
+            return False
+        words = [asked.get('scope', ''), *scopes]
+        texts = [value for key, value in asked.items() if key not in ('scopes', *BY_NAMES)]
+        texts += [text for of_names in named for pair in of_names.items() for text in pair]
+        are_names = all(self.law.is_name(name) for name in asked.get('others', ()) if is_text(name))
+        return all(map(is_text, [*texts, *words])) and are_names and not any('\0' in word for word in words)
 
     def end(self) -> None:
         self.program.stop_all()
@@ -56,29 +66,59 @@ class Desk:
                 place['file'] = self.law.name if place['file'] == '-' else place['file']
         return notes
 
-    def explained(self, words: Words, mode: str, scope: str, ended: Ended, text: str, given: str = '', of: str = ''):
+    def explained(self, words: Words, mode: str, scope: str, ended: Ended, folder: str, text: str, given: str = '', of: str = ''):
         """The notes on a reply; nothing where there are none."""
         if ended.status < 0:
             return None
         return self.named(words.asked({'asks': 'notes', 'mode': mode, 'scope': scope, 'status': ended.status, 'reply': ended.reply,
-                                       'text': text, 'input': given}, of))
+                                       'folder': folder, 'text': text, 'input': given}, of))
 
-    # ---- the law's file
+    def laid(self, asked: dict):
+        """The folder in which the law is laid out as the page has it."""
+        return laid_out(self.law, asked['text'], asked['others'], self.program.room)
+
+    # ---- the law's files
 
     def state(self, asked: dict) -> Iterator[dict]:
-        state = self.law.state()
-        yield {'name': self.law.name, 'text': state.text, 'sum': state.sum} if state else {'name': self.law.name, 'isGone': True}
+        yield from self.open({'name': self.law.name})
+
+    def open(self, asked: dict) -> Iterator[dict]:
+        """A file of the law, with its text."""
+        file = self.law.file_of(asked['name'])
+        state = file.state() if file else None
+        yield {'name': asked['name'], 'text': state.text, 'sum': state.sum} if state else {'name': asked['name'], 'isGone': True}
+
+    def includes(self, asked: dict) -> list:
+        """The files that the law includes, and of each whether it may be opened."""
+        return [{'name': name, 'mayOpen': self.law.is_inside(name)} for name in self.law.includes(asked['text'], asked['others'])]
+
+    def line_of(self, asked: dict, name: str, number: int) -> Optional[str]:
+        """A line of the law as the page has it; nothing where it lies in no file of its folder."""
+        own = asked['text'] if name == '-' else asked['others'].get(name)
+        text = self.law.text_of(name) if own is None and self.law.file_of(name) else own
+        lines = text.split('\n', number) if text is not None else []
+        return lines[number - 1] if len(lines) >= number else None
 
     def changes(self, asked: dict) -> Iterator[dict]:
-        """The file's text where that is another one than the page knows."""
-        state = self.law.state()
-        told = {'cases': self.cases.seen(), 'isGone': state is None}
-        yield {**told, 'text': state.text, 'sum': state.sum} if state and state.sum != asked['sum'] else told
+        """The texts of the files that are other ones than the page knows."""
+        states = {}
+        for name, known in asked['sums'].items():
+            file = self.law.file_of(name)
+            state = file.state() if file else None
+            if state is None:
+                states[name] = {'isGone': True}
+            elif state.sum != known:
+                states[name] = {'text': state.text, 'sum': state.sum}
+        yield {'cases': self.cases.seen(), 'files': states}
 
     def save(self, asked: dict) -> Iterator[dict]:
+        file = self.law.file_of(asked['name'])
+        if file is None:
+            yield {'error': '%s is no file of the law' % asked['name']}
+            return
         with self.saving:
             try:
-                yield {'sum': self.law.save(asked['text'], asked['sum']).sum}
+                yield {'sum': file.save(asked['text'], asked['sum']).sum}
             except Changed:
                 yield {'isChanged': True}
             except (OSError, ValueError) as error:
@@ -88,28 +128,45 @@ class Desk:
 
     def faults(self, asked: dict) -> Iterator[dict]:
         """How the source is refused, with the words of the pages first; and of an accepted one the forms and the warnings."""
+        with self.laid(asked) as folder:
+            yield from self.faults_in(folder, asked)
+
+    def faults_in(self, folder: str, asked: dict) -> Iterator[dict]:
         text = asked['text']
-        ended = self.program.call(['run', '--', NO_SCOPE, '-'], text)
+        ended = self.program.call(folder, ['run', '--', NO_SCOPE, '-'], text)
         is_accepted = ended.status == ACCEPTED[0] and ended.reply.startswith(ACCEPTED[1])
-        first = [] if is_accepted else first_words(text, ended.reply, self.pages)
-        yield {'isAccepted': is_accepted, 'reply': '' if is_accepted else self.called(ended).reply,
+        includes = self.includes(asked)
+        first = [] if is_accepted else first_words(ended.reply, self.pages, lambda name, number: self.line_of(asked, name, number))
+        yield {'isAccepted': is_accepted, 'reply': '' if is_accepted else self.called(ended).reply, 'includes': includes,
                'trouble': trouble(ended, SECONDS), 'notes': self.named(first)}
         try:
             if is_accepted:
-                yield {'forms': self.words.asked({'asks': 'forms', 'text': text}, 'faults')}
+                forms = self.words.asked({'asks': 'forms', 'folder': folder, 'text': text}, 'faults')
+                yield {'forms': self.named_forms(forms)}
                 ended = Ended(0, '')
-            yield {'notes': self.explained(self.words, 'run', NO_SCOPE, ended, text, of='faults')}
+            yield {'notes': self.explained(self.words, 'run', NO_SCOPE, ended, folder, text, of='faults')}
         except Overtaken:
             pass
 
+    def named_forms(self, forms: Optional[dict]) -> Optional[dict]:
+        """Forms whose definitions in the law have its file's name."""
+        for scope in forms['scopes'] if forms else []:
+            for defined in scope['defined']:
+                defined['places'] = [{**at, 'file': self.law.name if at['file'] == '-' else at['file']} for at in defined['places']]
+        return forms
+
     def audit(self, asked: dict) -> Iterator[dict]:
+        with self.laid(asked) as folder:
+            yield from self.audit_in(folder, asked)
+
+    def audit_in(self, folder: str, asked: dict) -> Iterator[dict]:
         """The sections of each scope's report that no report in front had, as they come, and then what explains them."""
         text, job, told = asked['text'], asked['job'], set()
         reports = []
         for scope in asked['scopes']:
             if scope in told:
                 continue
-            ended = self.program.call(['audit', '--', scope, '-'], text, job=job, seconds=SECONDS_OF_AUDIT)
+            ended = self.program.call(folder, ['audit', '--', scope, '-'], text, job=job, seconds=SECONDS_OF_AUDIT)
             sections = [section for section in sections_of(self.called(ended).reply) if section['scope'] not in told]
             told.update(section['scope'] for section in sections)
             yield {'scope': scope, 'sections': sections, 'trouble': trouble(ended, SECONDS_OF_AUDIT)}
@@ -118,17 +175,18 @@ class Desk:
             reports.append((scope, ended))
         for scope, ended in reports:
             try:
-                notes = self.explained(self.of_audits, 'audit', scope, ended, text, of='audit') or []
+                notes = self.explained(self.of_audits, 'audit', scope, ended, folder, text, of='audit') or []
                 yield {'notes': [{**note, 'scope': line.scope} for line, note in zip(lines_of(ended.reply), notes)]}
             except Overtaken:
                 return
 
     def run(self, asked: dict) -> Iterator[dict]:
         scope, text, given = asked['scope'], asked['text'], asked['input']
-        ended = self.program.call(['run', '--', scope, '-'], text, given, job=asked['job'])
-        yield {'status': ended.status, 'reply': self.called(ended).reply, 'trouble': trouble(ended, SECONDS)}
-        if ended.status > 0:
-            yield {'notes': self.explained(self.words, 'run', scope, ended, text, given)}
+        with self.laid(asked) as folder:
+            ended = self.program.call(folder, ['run', '--', scope, '-'], text, given, job=asked['job'])
+            yield {'status': ended.status, 'reply': self.called(ended).reply, 'trouble': trouble(ended, SECONDS)}
+            if ended.status > 0:
+                yield {'notes': self.explained(self.words, 'run', scope, ended, folder, text, given)}
 
     def stop(self, asked: dict) -> Iterator[dict]:
         yield {'wasRunning': self.program.stop(asked['job'])}
@@ -136,7 +194,8 @@ class Desk:
     # ---- cases
 
     def all_cases(self, asked: dict) -> Iterator[dict]:
-        yield self.cases.listed(asked['text'], self.called)
+        with self.laid(asked) as folder:
+            yield self.cases.listed(folder, asked['text'], self.called)
 
     def compute(self, asked: dict) -> Iterator[dict]:
         self.cases.compute()

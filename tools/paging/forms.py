@@ -23,22 +23,20 @@ def scope_of(program: Program, number: int) -> dict:
     scope = program.scopes[number]
     items = [(item.name, item.kind.split(), item.type) for item in scope.items if item.type is not None]
     return {'name': scope.name, 'calls': [program.scopes[called].name for called in scope.calls],
-            'line': scope.pos.line if scope.pos.file == 0 else 0,
             'inputs': [{'name': name, 'type': type_of(t), 'isAsked': kind[0] == ASKED} for name, kind, t in items if kind[0] in GIVEN],
             'outputs': [{'name': name, 'type': type_of(t)} for name, kind, t in items if kind[-1] == 'output'],
             'defined': defined(program, number)}
 
 
 def defined(program: Program, number: int) -> list:
-    """For each variable of a scope the lines at which the law's own file defines it, in their order."""
-    scope, lines = program.scopes[number], {}
+    """For each variable of a scope the places at which it is defined, in their order."""
+    scope, places = program.scopes[number], {}
     for definition in scope.definitions:
         item, inner = definition.target
         of = scope.items[item]
         name = of.name if inner is None else '%s.%s' % (of.name, program.scopes[of.called].items[inner].name)
-        if definition.pos.file == 0:
-            lines.setdefault(name, []).append(definition.pos.line)
-    return [{'name': name, 'lines': found} for name, found in lines.items()]
+        places.setdefault(name, []).append({'file': program.names[definition.pos.file], 'line': definition.pos.line})
+    return [{'name': name, 'places': found} for name, found in places.items()]
 
 
 def forms_of(program: Program) -> dict:

@@ -1,8 +1,10 @@
-"""The law's file and the folder in which it lies: the only ones that are read for the page and written by it."""
+"""The law's files and the folder in which they lie: the only ones that are read for the page and written by it."""
 import hashlib, os, pathlib, re, stat, tempfile
-from typing import Dict, List, NamedTuple, Optional, Tuple
+from typing import Dict, List, NamedTuple, Optional, Set, Tuple
 
-MOST_FILE = 4 * 1024 * 1024
+MOST_FILE, MOST_FILES = 4 * 1024 * 1024, 64
+FENCES = ('```catala', '```catala-metadata')
+INCLUDE = re.compile(r'> Include: [ \t]*(.+)')
 NAME = re.compile(r'[A-Za-z0-9][A-Za-z0-9_-]{0,99}')
 
 
@@ -36,21 +38,13 @@ def content(file: pathlib.Path, most: int = MOST_FILE) -> Optional[bytes]:
     return data if is_plain and len(data) <= most else None
 
 
-class Law:
-    """A law's file in its folder, both as they are once links are followed."""
+class File:
+    """A file of the law on the disk, which is read again when it has changed."""
 
-    def __init__(self, named: str):
-        self.file = pathlib.Path(named).resolve()
-        self.folder, self.name = self.file.parent, self.file.name
+    def __init__(self, file: pathlib.Path):
+        self.file = file
         self.seen: Tuple = ()
         self.kept: Optional[State] = None
-        data = content(self.file)
-        if data is None:
-            raise NoLaw('%s is no file of at most %d MiB' % (named, MOST_FILE // 2**20))
-        try:
-            data.decode()
-        except UnicodeDecodeError as error:
-            raise NoLaw('%s is no text in UTF-8: byte %d' % (named, error.start + 1))
 
     def state(self) -> Optional[State]:
         """What the file holds now; nothing where it can't be read as text at the moment."""
@@ -75,6 +69,61 @@ class Law:
             raise Changed
         replaced(self.file, data)
         return State(text, sum_of(data))
+
+
+class Law(File):
+    """A law's own file in its folder, both as they are once links are followed, and the files of the folder that it includes."""
+
+    def __init__(self, named: str):
+        super().__init__(pathlib.Path(named).resolve())
+        self.folder, self.name = self.file.parent, self.file.name
+        self.files: Dict[str, File] = {self.name: self}
+        self.included: Set[str] = set()
+        data = content(self.file)
+        if data is None:
+            raise NoLaw('%s is no file of at most %d MiB' % (named, MOST_FILE // 2**20))
+        try:
+            data.decode()
+        except UnicodeDecodeError as error:
+            raise NoLaw('%s is no text in UTF-8: byte %d' % (named, error.start + 1))
+
+    # ---- the files that it includes
+
+    def is_name(self, name: str) -> bool:
+        """Whether a name, as it is written, may be that of another file of the folder."""
+        is_below = name == os.path.normpath(name) and not os.path.isabs(name) and name.split('/')[0] not in ('.', '..')
+        return is_below and name != self.name and '\0' not in name
+
+    def is_inside(self, name: str) -> bool:
+        """Whether it is the name of another file of the folder, to which no link leads."""
+        file = os.path.join(self.folder, name)
+        return self.is_name(name) and os.path.realpath(file) == file and os.path.isfile(file)
+
+    def file_of(self, name: str) -> Optional[File]:
+        """The law's own file, or one of its folder that it has included; nothing of another one."""
+        if name != self.name and not (name in self.included and self.is_inside(name)):
+            return None
+        return self.files.setdefault(name, File(self.folder / name))
+
+    def includes(self, text: str, others: Dict[str, str]) -> List[str]:
+        """The names of the files that a law with this text includes, each once, in the order in which they are read; the page holds
+        the texts of `others`."""
+        found: List[str] = []
+        left = included_by(text)
+        while left and len(found) < MOST_FILES:
+            name = left.pop(0)
+            if name not in found and '\0' not in name:
+                found.append(name)
+                left = included_by(others[name] if name in others else self.text_of(name)) + left
+        self.included.update(found)
+        return found
+
+    def text_of(self, name: str) -> str:
+        """The text of a file that is included, wherever it lies."""
+        file = self.file_of(name)
+        state = file.state() if file else None
+        data = None if file else content(pathlib.Path(os.path.realpath(self.folder / name)))
+        return state.text if state else (data or b'').decode('utf-8', 'replace')
 
     # ---- what lies beside the law
 
@@ -102,6 +151,19 @@ class Law:
         for file, text in files.items():
             with open(file, 'x', encoding='utf-8') as opened:
                 opened.write(text)
+
+
+def included_by(text: str) -> List[str]:
+    """The names of the files that a text includes, without those in blocks of code."""
+    names, is_code = [], False
+    for line in text.split('\n') if '> Include: ' in text else []:
+        bare = line[:-1] if line.endswith('\r') else line
+        bare = bare.rstrip(' \t')
+        if is_code or bare in FENCES:
+            is_code = bare != '```' if is_code else True
+        elif found := INCLUDE.fullmatch(bare):
+            names.append(found[1])
+    return names
 
 
 def replaced(file: pathlib.Path, data: bytes) -> None:

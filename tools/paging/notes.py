@@ -1,6 +1,6 @@
 """What explains a reply, as data for the page: places with the pieces of lines that are meant."""
 import pathlib, re
-from typing import List, Optional
+from typing import Callable, List, Optional
 
 from explaining.notes import Note, Place
 from explaining.pages import Pages
@@ -10,17 +10,19 @@ from reference.tokens import Pos, Refused, token_at
 REFUSED = re.compile(r'source refused (E\d+) at (.*):(\d+):(\d+)')
 
 
-def place_of(place: Place, lines: List[str]) -> dict:
+def place_of(place: Place, told: str) -> dict:
     """A place with the piece of its line, and what stands in front of that and behind it."""
-    line = lines[place.line - 1].encode('utf-8', 'surrogateescape') if place.line <= len(lines) else b''
+    line = told.encode('utf-8', 'surrogateescape')
     cuts = (0, place.column - 1), (place.column - 1, place.end - 1), (place.end - 1, len(line))
     front, piece, behind = (line[start:end].decode('utf-8', 'replace').rstrip('\r') for start, end in cuts)
     return {'file': place.file, 'line': place.line, 'column': place.column, 'end': place.end, 'label': place.label,
             'front': front, 'piece': piece, 'behind': behind}
 
 
-def is_shown(name: str, given: str) -> bool:
-    return name in ('-', given) or is_beside(name)
+def line_of(source: Source, place: Place, given: str) -> str:
+    """The line of a place, where that may be shown."""
+    lines = source.files.lines(place.file) if place.file in ('-', given) or is_beside(place.file) else []
+    return lines[place.line - 1] if place.line <= len(lines) else ''
 
 
 def is_beside(name: str) -> bool:
@@ -33,7 +35,7 @@ def as_data(notes: List[Note], source: Source, given: str) -> List[dict]:
     """The notes; the file of the input is called so."""
     told = []
     for note in notes:
-        places = [place_of(place, source.files.lines(place.file) if is_shown(place.file, given) else []) for place in note.places]
+        places = [place_of(place, line_of(source, place, given)) for place in note.places]
         for place in places:
             place['file'] = 'input' if place['file'] == given else place['file']
         told.append({'kind': note.kind, 'code': note.code, 'name': note.name, 'places': places, 'says': note.says, 'helps': note.helps})
@@ -50,15 +52,15 @@ def token_end(line: str, column: int) -> int:
     return column + len(line[at:end].encode('utf-8', 'surrogateescape'))
 
 
-def first_words(text: str, reply: str, pages: Pages) -> Optional[List[dict]]:
+def first_words(reply: str, pages: Pages, line_at: Callable[[str, int], Optional[str]]) -> Optional[List[dict]]:
     """What the pages alone say of a refused source, before its grammar was looked at; nothing of another reply."""
     found = REFUSED.fullmatch(reply)
     if not found:
         return None
-    code, file, line, column = found[1], found[2], int(found[3]), int(found[4])
+    code, file, number, column = found[1], found[2], int(found[3]), int(found[4])
     part = pages.of_code(code)
-    lines = text.split('\n') if file == '-' else []
-    end = token_end(lines[line - 1], column) if line <= len(lines) else column + 1
-    place = place_of(Place(file, line, column, end), lines)
+    line = line_at(file, number)
+    end = token_end(line, column) if line is not None else column + 1
+    place = place_of(Place(file, number, column, end), line or '')
     return [{'kind': 'reply', 'code': code, 'name': part.title.partition(' ')[2], 'places': [place],
              'says': [part.sentence], 'helps': [part.mend]}]

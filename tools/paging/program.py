@@ -29,15 +29,16 @@ def end_group(started: subprocess.Popen) -> None:
 
 
 class Program:
-    """The program, called in the law's folder; `room` is a folder for the inputs of calls, which nobody else may read."""
+    """The program; `room` is a folder for the inputs of calls, which nobody else may read."""
 
-    def __init__(self, path: str, folder: str, room: str):
-        self.path, self.folder, self.room = path, folder, room
+    def __init__(self, path: str, room: str):
+        self.path, self.room = path, room
         self.running: Dict[str, subprocess.Popen] = {}
         self.lock = threading.Lock()
 
-    def call(self, words: List[str], source: str, given: Optional[str] = None, job: str = '', seconds: int = SECONDS) -> Ended:
-        """Runs the program with the source on standard input, and with an input in a file at the end of its words."""
+    def call(self, folder: str, words: List[str], source: str, given: Optional[str] = None, job: str = '',
+             seconds: int = SECONDS) -> Ended:
+        """Runs the program in a folder with the source on standard input, and with an input in a file at the end of its words."""
         with tempfile.TemporaryFile(dir=self.room) as into, tempfile.TemporaryFile(dir=self.room) as out, \
                 tempfile.NamedTemporaryFile(dir=self.room, suffix='.json') as extra:
             into.write(source.encode())
@@ -46,13 +47,13 @@ class Program:
                 extra.write(given.encode())
                 extra.flush()
                 words = [*words, extra.name]
-            status = self.status(limited([self.path, *words], seconds), into, out, job, seconds)
+            status = self.status(limited([self.path, *words], seconds), folder, into, out, job, seconds)
             out.seek(0)
             reply = out.read().decode('utf-8', 'replace').rstrip('\n')
         return Ended(status, reply.replace(extra.name, 'input') if given is not None else reply)
 
-    def status(self, words: List[str], into, out, job: str, seconds: int) -> int:
-        started = subprocess.Popen(words, cwd=self.folder, stdin=into, stdout=out, stderr=subprocess.DEVNULL, start_new_session=True)
+    def status(self, words: List[str], folder: str, into, out, job: str, seconds: int) -> int:
+        started = subprocess.Popen(words, cwd=folder, stdin=into, stdout=out, stderr=subprocess.DEVNULL, start_new_session=True)
         with self.lock:
             self.running[job or str(started.pid)] = started
         try:

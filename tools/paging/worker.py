@@ -1,7 +1,7 @@
 """Answers questions on a source, a line of JSON each, from the language in Python; words.py asks them.
 
-It is called with the path of the program and with a folder for inputs, in the law's folder."""
-import json, pathlib, sys, tempfile
+It is called with the path of the program and with a folder for inputs; each question says in which folder it is asked."""
+import json, os, pathlib, sys, tempfile
 
 if __name__ == '__main__':
     sys.setrecursionlimit(20_000)
@@ -41,6 +41,8 @@ ANSWERS = {'notes': notes, 'forms': forms, 'nothing': lambda question: None}
 def answer(question: dict):
     """The answer; nothing where whatever goes wrong."""
     try:
+        if 'folder' in question:
+            os.chdir(question['folder'])
         return ANSWERS[question['asks']](question)
     except Exception as error:
         print('%s: %s' % (type(error).__name__, error), file=sys.stderr)

@@ -2,7 +2,7 @@
 
 import { ask, askOnce } from "./ask.js";
 import { button, make, sentence } from "./make.js";
-import { helpsOf, placesOf } from "./notes.js";
+import { helpsOf, lineOf, placesOf } from "./notes.js";
 import { inputsPlainly, shownText } from "./values.js";
 
 const PAUSE = 250;
@@ -67,7 +67,7 @@ export class Audit {
     this.control = control;
     this.tell(Date.now());
     let isFirst = true;
-    const isWhole = await ask("audit", { text: this.desk.text(), scopes, job: this.job }, (part) => {
+    const isWhole = await ask("audit", { ...this.desk.law(), scopes, job: this.job }, (part) => {
       if (isFirst) this.clear();
       isFirst = false;
       this.take(part);
@@ -147,7 +147,7 @@ export class Audit {
     if (line.what === "Covered") return make("li", {}, head);
     const missing = this.missingOf(line);
     return make("li", {}, head, this.told(line), note && placesOf(note, this.desk.go),
-      missing ? button(`a case is missing behind line ${missing.line}`, () => this.desk.go.toMissing(missing), { class: "place" }) : null,
+      missing && button(`a case is missing behind ${lineOf(missing, this.desk.go)}`, () => this.desk.go.toMissing(missing), { class: "place" }),
       this.input(line), note ? make("details", {}, make("summary", {}, "What this says, and what to do"),
         note.says.map((said) => sentence(said)), helpsOf(note)) : null);
   }
@@ -179,7 +179,7 @@ export class Audit {
   missingOf(line) {
     if (line.what !== "Found" || !line.told.startsWith("no value")) return null;
     const at = this.desk.definedAt(line.scope, line.name);
-    return at ? { line: at, text: `Behind this a case is missing: no rule gives ${line.name} for ${inputsPlainly(line.input)}.` } : null;
+    return at ? { ...at, text: `Behind this a case is missing: no rule gives ${line.name} for ${inputsPlainly(line.input)}.` } : null;
   }
 
   missing() {

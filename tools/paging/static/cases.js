@@ -14,7 +14,7 @@ export class Cases {
     this.list = make("ul", { class: "cases" });
     this.below = make("div", {});
     root.append(make("h2", {}, "Cases"), this.summary, this.list, this.below);
-    this.latest = new Latest((name) => ask(name, { text: this.desk.text() }, (part) => this.take(part)));
+    this.latest = new Latest((name) => ask(name, this.desk.law(), (part) => this.take(part)));
   }
 
   /** Runs the cases after a pause, in which nothing is typed. */

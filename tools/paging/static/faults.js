@@ -7,28 +7,28 @@ import { noted } from "./notes.js";
 const KINDS = { reply: "on-fault", further: "on-fault", warning: "on-warning" };
 
 export class Faults {
-  /** `heard` is called with each part of an answer and its text. */
+  /** `heard` is called with each part of an answer and the law that was asked of. */
   constructor(root, go, heard) {
     Object.assign(this, { root, go, heard });
     this.summary = make("p", { class: "summary", role: "status" });
     this.list = make("div", {});
     root.append(make("h2", {}, "Faults"), this.summary, this.list);
-    this.latest = new Latest((text) => this.askFor(text));
+    this.latest = new Latest((law) => this.askFor(law));
     this.answered = null;
   }
 
-  /** Asks for the faults of a text. What explains those of another text is given up. */
-  put(text) {
+  /** Asks for the faults of a law. What explains those of another text is given up. */
+  put(law) {
     this.answered?.abort();
-    this.latest.put(text);
+    this.latest.put(law);
   }
 
-  async askFor(text) {
+  async askFor(law) {
     const control = new AbortController();
-    await ask("faults", { text }, (part) => {
+    await ask("faults", law, (part) => {
       if (part.isAccepted !== undefined) this.answered = control;
       this.show(part);
-      this.heard(part, text);
+      this.heard(part, law);
     }, control.signal);
     this.answered = null;
   }
@@ -56,6 +56,11 @@ export class Faults {
   /** How many faults there are; at least one where the law isn't accepted. */
   number() {
     return this.isAccepted ? 0 : Math.max(1, this.notes.filter(({ kind }) => kind !== "warning").length);
+  }
+
+  /** How many faults stand in a file: those whose first place lies there. */
+  numberIn(name) {
+    return this.notes.filter(({ kind, places }) => kind !== "warning" && places[0]?.file === name).length;
   }
 
   /** The places that are marked in the text: those of faults and warnings. */

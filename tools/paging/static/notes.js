@@ -10,9 +10,14 @@ function shortened(text, isFront) {
   return isFront ? `..${text.slice(-LONG)}` : `${text.slice(0, LONG)}..`;
 }
 
+/** The number of a line, with the name of its file where that isn't the law's own. */
+export function lineOf(place, go) {
+  return `${go.isMain(place) ? "" : `${place.file}, `}line ${place.line}`;
+}
+
 /** A place: a button that goes there, and the line with what is meant marked. */
 export function placed(place, go) {
-  const name = `${go.isHere(place) ? "" : `${place.file}, `}line ${place.line}`;
+  const name = lineOf(place, go);
   const title = place.label ? `${name}: ${place.label.replaceAll("`", "")}` : name;
   const head = go.isHere(place) ? button(title, () => go.to(place), { class: "place" }) : make("span", { class: "place" }, title);
   const mark = make("mark", {}, place.piece);

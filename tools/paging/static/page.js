@@ -5,38 +5,44 @@ import { Audit } from "./audit.js";
 import { Cases } from "./cases.js";
 import { Colours } from "./colours.js";
 import { Faults } from "./faults.js";
-import { File } from "./file.js";
+import { Files } from "./files.js";
 import { Run } from "./run.js";
 import { Tabs } from "./tabs.js";
-import { TextView } from "./text.js";
 
 const find = (id) => document.getElementById(id);
 
 class Page {
   constructor(grammar, law) {
-    this.name = law.name;
     this.forms = null;
     this.isAccepted = false;
-    this.view = new TextView(find("law"), new Colours(grammar), () => this.changed());
+    find("name").textContent = law.name;
     this.tabs = new Tabs(find("tabs"), find("panels"), find("law"));
     this.go = {
-      isHere: (place) => place.file === this.name, to: (place) => this.goTo(place), toMissing: (missing) => this.goToMissing(missing),
+      isHere: (place) => Boolean(this.files.named(place.file)), isMain: (place) => place.file === law.name,
+      to: (place) => this.goTo(place), toMissing: (missing) => this.goToMissing(missing),
     };
-    this.faults = new Faults(this.tabs.panel("faults", "Faults"), this.go, (part, text) => this.heard(part, text));
+    this.faults = new Faults(this.tabs.panel("faults", "Faults"), this.go, (part, law) => this.heard(part, law));
     this.audit = new Audit(this.tabs.panel("audit", "Audit"), this.desk({ marked: (found) => this.audited(found) }));
     this.run = new Run(this.tabs.panel("run", "Run"), this.desk({ marked: () => this.mark(), kept: () => this.cases.soon() }));
     this.cases = new Cases(this.tabs.panel("cases", "Cases"), this.desk({ counted: (red, green) => this.counted(red, green) }));
-    this.file = new File(this.view, law, { shown: () => this.changed(), casesChanged: () => this.isAccepted && this.cases.soon() });
+    this.files = new Files(find("law"), new Colours(grammar), law, {
+      changed: () => this.changed(), shown: () => this.files && this.mark(), casesChanged: () => this.isAccepted && this.cases.soon(),
+    });
     this.tabs.show(this.tabs.isNarrow() ? "law" : "faults");
     matchMedia("(max-width: 60rem)").addEventListener("change", () => this.widthChanged());
     document.addEventListener("keydown", (event) => this.pressed(event));
-    this.file.show(law);
+    this.changed();
+  }
+
+  /** The text of the file that is shown. */
+  get view() {
+    return this.files.shown.view;
   }
 
   /** What a panel may ask of the page, and what it tells it. */
   desk(more) {
     return {
-      go: this.go, text: () => this.view.text(), scopes: () => this.auditedScopes(), run: (scope, input) => this.runInput(scope, input),
+      go: this.go, law: () => this.files.law(), scopes: () => this.auditedScopes(), run: (scope, input) => this.runInput(scope, input),
       definedAt: (scope, name) => this.definedAt(scope, name), scopeOfCases: () => this.cases.told.scope,
       mayKeep: () => this.cases.told.isOffice, ...more,
     };
@@ -49,17 +55,18 @@ class Page {
   // ---- when the law changes
 
   changed() {
-    this.file.tellSaved();
-    this.faults.put(this.view.text());
+    this.files.tellSaved();
+    this.faults.put(this.files.law());
   }
 
-  heard(part, text) {
+  heard(part, law) {
+    if (part.includes) this.files.take(part.includes);
     if (part.isAccepted !== undefined) {
       this.isAccepted = part.isAccepted;
       if (this.isAccepted) this.accepted();
       else this.refused();
     }
-    if (part.forms && text === this.view.text()) this.formed(part.forms);
+    if (part.forms && JSON.stringify(law) === JSON.stringify(this.files.law())) this.formed(part.forms);
     this.tabs.count("faults", this.faults.number() ? String(this.faults.number()) : "✓", this.isAccepted ? "good" : "bad");
     this.mark();
   }
@@ -84,8 +91,13 @@ class Page {
   // ---- marks
 
   mark() {
-    this.view.mark([...this.faults.marks(), ...this.audit.marks(), ...this.run.marks()]);
-    this.view.tellMissing(this.audit.missing());
+    const marks = [...this.faults.marks(), ...this.audit.marks(), ...this.run.marks()];
+    const missing = this.audit.missing();
+    for (const { name, view } of this.files.all) {
+      view.mark(marks.filter(({ file }) => file === name));
+      view.tellMissing(missing.filter(({ file }) => file === name));
+    }
+    this.files.count((name) => this.faults.numberIn(name));
   }
 
   audited({ found, open, isWhole }) {
@@ -102,14 +114,19 @@ class Page {
   // ---- going to places
 
   goTo(place) {
-    if (this.tabs.isNarrow()) this.tabs.show("law");
+    this.showFile(place.file);
     this.view.go(place);
-    find("told").textContent = `Line ${place.line}`;
+    find("told").textContent = `${this.go.isMain(place) ? "Line" : `${place.file}, line`} ${place.line}`;
   }
 
   goToMissing(missing) {
-    if (this.tabs.isNarrow()) this.tabs.show("law");
+    this.showFile(missing.file);
     this.view.goToMissing(missing);
+  }
+
+  showFile(name) {
+    if (this.tabs.isNarrow()) this.tabs.show("law");
+    this.files.show(name);
   }
 
   runInput(scope, input) {
@@ -121,7 +138,7 @@ class Page {
   pressed(event) {
     if ((event.ctrlKey || event.metaKey) && event.key.toLowerCase() === "s") {
       event.preventDefault();
-      this.file.save();
+      this.files.save();
     } else if (event.key === "F8") {
       event.preventDefault();
       this.goToNext(event.shiftKey ? -1 : 1);
@@ -130,7 +147,9 @@ class Page {
 
   /** Goes to the next place that is marked, or to the one in front. */
   goToNext(step) {
-    const places = [...this.faults.marks(), ...this.audit.marks()].sort((a, b) => a.line - b.line || a.column - b.column);
+    const number = ({ file }) => this.files.all.findIndex(({ name }) => name === file);
+    const places = [...this.faults.marks(), ...this.audit.marks()]
+      .sort((a, b) => number(a) - number(b) || a.line - b.line || a.column - b.column);
     if (!places.length) return;
     this.at = ((this.at ?? (step > 0 ? -1 : 0)) + step + places.length) % places.length;
     this.goTo(places[this.at]);
@@ -145,10 +164,10 @@ class Page {
     return [...roots, ...this.forms.scopes.filter(({ name }) => called.has(name))].map(({ name }) => name);
   }
 
-  /** The line of the last definition of a variable in the law's own file. */
+  /** The place of the last definition of a variable in the files that are here. */
   definedAt(scope, name) {
     const defined = this.forms?.scopes.find((other) => other.name === scope)?.defined ?? [];
-    return defined.find((other) => other.name === name)?.lines.at(-1);
+    return defined.find((other) => other.name === name)?.places.findLast((place) => this.go.isHere(place));
   }
 }
 

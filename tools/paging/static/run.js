@@ -34,7 +34,7 @@ export class Run {
 
   choose(scope, input = "{}") {
     const form = this.forms.scopes.find(({ name }) => name === scope);
-    const shape = JSON.stringify([form, this.forms.structures, this.forms.enumerations].map((part) => ({ ...part, line: 0, defined: 0 })));
+    const shape = JSON.stringify([form, this.forms.structures, this.forms.enumerations].map((part) => ({ ...part, defined: 0 })));
     this.choice.value = scope;
     if (shape === this.shape) return;
     if (scope !== this.scope) this.clear();
@@ -86,7 +86,7 @@ export class Run {
     const input = this.form.read();
     const { scope } = this;
     const turn = this.turn = (this.turn ?? 0) + 1;
-    await ask("run", { text: this.desk.text(), scope, input, job: this.job }, (part) => {
+    await ask("run", { ...this.desk.law(), scope, input, job: this.job }, (part) => {
       if (turn !== this.turn) return;
       if (part.status !== undefined) this.result = { ...part, notes: [], scope, input };
       if (part.notes) this.result.notes = part.notes;

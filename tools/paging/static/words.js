@@ -1,6 +1,6 @@
 // The law's own words between the blocks of code, as a person reads them: headings, paragraphs, lists, tables. All of it is text.
 
-import { make } from "./make.js";
+import { button, make } from "./make.js";
 
 const HEADING = /^(#{1,6})[ \t]+(.*?)[ \t]*#*$/;
 const ITEM = /^\s*(?:[-*+]|\d+[.)])[ \t]+(.*)$/;
@@ -76,12 +76,20 @@ function headed(line) {
   return make(`h${Math.min(6, signs.length + 1)}`, {}, inline(text));
 }
 
+/** A line that includes a file, which a button opens. */
+function included(line) {
+  const name = line.replace(/^> Include:[ \t]*/, "").trimEnd();
+  const opens = ({ target }) => target.dispatchEvent(new CustomEvent("open-file", { bubbles: true, detail: name }));
+  const told = { class: "opens", "data-file": name, "aria-label": `Open ${name}` };
+  return make("span", {}, "> Include: ", name ? button(name, opens, told) : null);
+}
+
 function drawn({ kind, lines }) {
   if (kind === "heading") return headed(lines[0]);
   if (kind === "list") return listed(lines);
   if (kind === "table") return tabled(lines);
   if (kind === "fence") return make("pre", { tabindex: "0" }, lines.slice(1, -1).join("\n"));
-  if (kind === "include") return make("p", { class: "include" }, lines.join("\n"));
+  if (kind === "include") return make("p", { class: "include" }, lines.map(included));
   if (kind === "quote") return make("blockquote", {}, inline(lines.map((line) => line.replace(/^> ?/, "")).join(" ")));
   return make("p", {}, inline(lines.join(" ")));
 }
