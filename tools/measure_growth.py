@@ -27,6 +27,10 @@ def check(scope, text):
     return Call(['check', scope, 'a.md', 'certificate'], {'a.md': text}, reply=b'Yes\n', first=['audit', scope, 'a.md'])
 
 
+def emit(text):
+    return Call(['emit', 'S', 'a.md'], {'a.md': text}, reply=b'catala-code 1\n')
+
+
 def grid(count):
     """A rule for each cell of a square of two amounts; so many rules or a few less."""
     side = int(count ** 0.5)
@@ -140,11 +144,15 @@ WORK = [
     ('a check of bands', lambda n: check('Bands', source(bands(n, 'in order'))), 32_000),
     ('an audit of a grid', lambda n: audit('S', grid(n), b'x: Covered'), 32_400),
     ('a check of a grid', lambda n: check('S', grid(n)), 32_400),
-    ('an audit of a ladder of truth values, by its parts', lambda n: audit('S', ladder(n), b'x: Covered'), 60_000),
+    ('an audit of a ladder of truth values, by its parts', lambda n: audit('S', ladder(n), b'x: Covered'), 240_000),
     ('an audit of chains of exceptions over terms of their own', lambda n: audit('S', chains(n), b'x0: Covered'), 16_000),
     ('an audit of bands of a computed number with gaps',
      lambda n: audit('Derived', derived_gaps(n), b'y: Covered\nx: Undecided derived at '), 16_000),
     ('an audit whose findings write all inputs, by the values written', lambda n: audit('S', findings(n), b'x0: Found no value '), 640_000),
+    ('the code of definitions of one variable', lambda n: emit(definitions(n)), 64_000),
+    ('the code of variables of a scope', lambda n: emit(items(n)), 4_000),
+    ('the code of scopes', lambda n: emit(scopes(n)), 32_000),
+    ('the code of a structure literal, the last field first', lambda n: emit(turned(n)), 64_000),
     ('a drill', lambda n: Call(['drill', str(n), 'none'], {}, reply=b'bands %d ' % n), 1_000),
 ]
 

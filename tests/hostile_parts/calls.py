@@ -26,6 +26,7 @@ CALLS = [
     call('complete audit', 'audit Bands a.md', 0),
     call('check', 'check Bands a.md certificate', 0),
     call('check of the older form', 'check Bands a.md older', 0),
+    call('emit', 'emit All a.md', 0),
     call('drill', 'drill 3 none', 0),
     call('conflict', 'run Drafted b.md both.json', 1),
     call('no value', 'run Drafted b.md none.json', 2),

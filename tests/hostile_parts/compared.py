@@ -4,6 +4,7 @@ import signal
 from reference.answers import is_allowed, replies
 from reference.certificate import check
 from reference.drill import drill
+from reference.lowering import listings
 from reference.report import audit
 
 # Of the processor.
@@ -34,6 +35,8 @@ def allowed(files, words, given):
     mode, scope, main, *extra = words
     if mode == 'drill':
         return {drill(words[1:])}
+    if mode == 'emit':
+        return listings(files, main, scope)
     name = extra[0] if extra and not extra[0].startswith('--') else '-'
     data = {**files, '-': given}.get(name)
     if mode == 'run' and data is not None:

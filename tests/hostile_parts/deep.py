@@ -63,7 +63,7 @@ def at_heights(runs, is_sample):
     for k, (form, source, is_accepted) in enumerate(nested_sources()):
         files = {'a.md': source}
         runs.put(files)
-        for words in (['run', 'S', 'a.md'], ['audit', 'S', 'a.md'], ['check', 'S', 'a.md']):
+        for words in (['run', 'S', 'a.md'], ['audit', 'S', 'a.md'], ['check', 'S', 'a.md'], ['emit', 'S', 'a.md']):
             for stack in STACKS[:1] if is_sample else STACKS:
                 ended = runs.ended(words, GIVEN, limit='ulimit -s %d' % stack)
                 wrong = out_of_table(words, ended)
@@ -80,7 +80,7 @@ def deep_calls(runs):
     for name, text in DEEP:
         files = {'a.md': text.encode()}
         runs.put(files)
-        for words, status in ((['run', 'S', 'a.md'], 0), (['audit', 'S', 'a.md'], 0)):
+        for words, status in ((['run', 'S', 'a.md'], 0), (['audit', 'S', 'a.md'], 0), (['emit', 'S', 'a.md'], 0)):
             ended = runs.ended(words, b'{"n":1}', limit='ulimit -s %d' % STACKS[0])
             wrong = out_of_table(words, ended) or ('' if ended.status == status else told(ended))
             yield 'deep calls', '%s in %s' % (name, words[0]), wrong

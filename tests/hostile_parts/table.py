@@ -9,12 +9,16 @@ CERTIFICATE = (rb'catala-certificate 2\n(?:scope [^\n]+\n(?:var [^\n]+\n(?:name 
                rb'tree\n(?:split [0-9]+\n|cite [0-9]+\n|leaf\n)+)*)+end\n')
 USAGE = rb'usage: catala MODE SCOPE FILE \[EXTRA\] \[--cases N\]\n'
 DRILLED = rb'bands [0-9]+ runs 1000 sum [0-9]+ leaves [0-9]+ (?:Complete|Found|Masked|Undecided)\n'
+LISTING = (rb'catala-code 1\n(?:file [^\n]+\n)+(?:structure [^\n]+\n(?:field [^\n]+\n)*)*(?:enumeration [^\n]+\n(?:case [^\n]+\n)*)*'
+           rb'(?:scope [^\n]+ [0-9]+\n(?:item [^\n]+\n)*)+(?:target [^\n]+\n)*(?:definition [0-9:]+\n)*(?:function [0-9]+\n)*'
+           rb'(?:position [0-9:]+\n)*(?:const [^\n]+\n)*(?:[0-9]+ [a-z]+(?: [0-9]+)*\n)+')
 
 # What a mode writes with status 0, as far as its form goes.
 FINE = {
     'run': rb'\{[^\n]*\}\n',
     'audit': rb'(?:%s)+%s' % (AUDITED, CERTIFICATE),
     'check': rb'Yes\n(?:%s)?' % CERTIFICATE,
+    'emit': LISTING,
     'drill': DRILLED,
 }
 TEXTS = {
