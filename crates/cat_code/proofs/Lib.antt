@@ -1,3 +1,4 @@
 pub mod OperationLaws
 pub mod MachineExamples
 pub mod Determined
+pub mod FormLaws

@@ -2,9 +2,11 @@
 use Rattle.std.specs.Prelude.{◌≡◌, ℕ, ◌+◌, ◌-◌, nat_eq, nat_le, nat_lt, ◌&&◌, Bool, true, false, not, IsTrue, List, [], ◌∷◌}
 use Rattle.std.specs.Prelude.{◌++◌, length, Option, Some, None, is_some, slice_get}
 use Rattle.std.specs.List.{list_all}
+use Rattle.cat_value.specs.declared.decls.Decls.{Decls}
 use Rattle.cat_value.specs.declared.value.Value.{Value}
 use Rattle.cat_value.specs.declared.value.Value.TheOpen.{Value-F}
 use Rattle.cat_value.specs.declared.value.Value.TheViews.{out-Value}
+use Rattle.cat_value.specs.Declarations.{is_sound}
 use Rattle.cat_value.specs.Entries.{content_of, some_passes}
 use Rattle.cat_value.specs.Typing.{has_type}
 use Rattle.cat_scope.specs.Names.{has_none}
@@ -16,6 +18,10 @@ use Rattle.cat_code.specs.Places.{case_places, function_places, target_form}
 use Rattle.cat_code.specs.Jumps.{jumps_in, is_within}
 use Rattle.cat_code.specs.Shaped.{Shapes, IsShapedBy}
 use Rattle.cat_code.specs.Tame.{IsTame}
+
+-- a constant's type may stand in a declaration, and its value has that type
+abbrev pub constant_is_sound : Decls → Constant → Bool
+constant_is_sound ds c = is_sound ds.structures ds.enumerations c.ty && has_type ds c.value c.ty
 
 -- whether a value is a list without elements
 abbrev pub is_empty_list : Value-F Value → Bool
@@ -76,7 +82,7 @@ pub record IsValidBy (tables : Tables) (code : List Instr) (shapes : Shapes) : T
   pub cases : tables.cases ≡ case_places 0 tables.decls.enumerations
   pub functions : length tables.functions ≡ length (function_places tables.decls)
   pub targets : IsTrue (list_all (λ entry. is_some (target_form tables.decls entry.target)) tables.targets)
-  pub constants : IsTrue (list_all (λ c. has_type tables.decls c.value c.ty) tables.constants)
+  pub constants : IsTrue (list_all (constant_is_sound tables.decls) tables.constants)
   pub entries : IsTrue (list_all (λ place. nat_lt place (length code)) (entries_of tables))
   pub numbers : IsTrue (list_all (is_within tables (length code)) code)
   pub rules : IsTrue (keep_rules tables code (places_entered tables code) 0 code)

@@ -1,8 +1,7 @@
--- The types that shapes speak of, as declared types tell them.
+-- The forms of declared types that lowering meets: lists, structures with their fields, items, and what operators take and give.
 use Rattle.std.proofs.Common.{◌≡◌, ◌≤◌, ℕ, zero, suc, nat_le, ◌&&◌, Bool, true, false, List, [], ◌∷◌, ◌++◌, map, Option, Some, None}
-use Rattle.std.proofs.Common.{IsTrue, slice_get, refl, sym, ap, ◌∙◌, arith, rules, true≢false}
+use Rattle.std.proofs.Common.{IsTrue, slice_get, refl, sym, ap, ◌∙◌, arith, true≢false}
 use Rattle.std.proofs.Math.Logic.{⊎_elim}
-use Rattle.std.proofs.lemmas.Bool.{eq-eqb}
 use Rattle.std.proofs.lemmas.Bool.Decides.{nat_tests}
 use Rattle.cat_value.specs.declared.ty.Ty.{Ty}
 use Rattle.cat_value.specs.declared.ty.Ty.TheOpen.{Ty-F}
@@ -14,9 +13,9 @@ use Rattle.cat_value.specs.declared.declaration.Structure.{Structure}
 use Rattle.cat_value.specs.declared.declaration.ItemDecl.{ItemDecl}
 use Rattle.cat_value.specs.declared.decls.Decls.{Decls}
 use Rattle.cat_value.specs.Declarations.{highest, is_boolean}
-use Rattle.cat_value.specs.Heights.{height_to, highest_field, structure_parts, highest_part}
+use Rattle.cat_value.specs.Heights.{height_to}
 use Rattle.cat_value.specs.Entries.{fields_in, fields_of}
-use Rattle.cat_value.proofs.Exported.{height_step, height_zero, structure_low, within}
+use Rattle.cat_value.proofs.Exported.{height_Boolean, is_declared_Boolean, structure_low, within}
 use Rattle.cat_scope.specs.Names.{AllHave, IsOneOf}
 use Rattle.cat_scope.specs.declared.operators.SumKind.{SumKind}
 use Rattle.cat_scope.specs.declared.operators.SumKind.TheVariants as sum
@@ -24,69 +23,11 @@ use Rattle.cat_scope.specs.Signatures.{Signature, comparison, signatures_of, sum
 use Rattle.cat_scope.specs.Lists.{adding}
 use Rattle.cat_scope.specs.Fitting.{field_at, type_in, field_type}
 use Rattle.cat_sound.specs.LowTypes.{IsLow}
-use Rattle.cat_code.specs.Forms.{Form, Forms, Truth, Whole, Fraction, Amount, Day, Span, Many, Fields, OneOf, Last, More, form_at, same_form}
-use Rattle.cat_code.specs.Forms.{same_forms, forms_in, structure_form, level, form_to, form_of, items_forms, in_row}
-use Rattle.cat_code.specs.Wanted.{signed, all_same, are_params}
-
--- ---- one level, and the next
-
-form_step : (ds : Decls) (k : ℕ) (t : Ty) → form_to ds (suc k) t ≡ level ds (form_to ds k) (out-Ty t)
-unfolding form_to
-form_step ds k t = refl
-
--- two ways to tell types that agree on what is at most so high
-module _ (f g : Ty → Form) (height : Ty → ℕ) (k : ℕ) (same : (t : Ty) → height t ≤ k → f t ≡ g t) where
-  fields_same : (fs : List Field) → highest_field height fs ≤ k → forms_in f fs ≡ forms_in g fs
-  fields_same [] low = refl
-  fields_same (x ∷ fs) low =
-      ap (λ (t : Form). More t (forms_in f fs)) (same x.ty (omega arith))
-      ∙ ap (λ (ts : Forms). More (g x.ty) ts) (fields_same fs (omega arith))
-
-  structure_same : (o : Option Structure) → structure_parts height o ≤ k → structure_form f (fields_in o) ≡ structure_form g (fields_in o)
-  structure_same None low = refl
-  structure_same (Some s) low = ap Fields (fields_same s.fields low)
-
-  level_same : (ds : Decls) (y : Ty-F Ty) → highest_part ds.structures ds.enumerations height y ≤ k → level ds f y ≡ level ds g y
-  level_same ds (Ty-F.List t) low = ap Many (same t low)
-  level_same ds (Ty-F.Structure n) low = structure_same (slice_get ds.structures n) low
-  level_same ds (Ty-F.Enumeration n) low = refl
-  level_same ds Ty-F.Boolean low = refl
-  level_same ds Ty-F.Integer low = refl
-  level_same ds Ty-F.Decimal low = refl
-  level_same ds Ty-F.Money low = refl
-  level_same ds Ty-F.Date low = refl
-  level_same ds Ty-F.Duration low = refl
-
-form_deeper : (ds : Decls) (k : ℕ) (t : Ty) → height_to ds.structures ds.enumerations k t ≤ k → form_to ds k t ≡ form_to ds (suc k) t
-form_deeper ds zero t low = absurd (omega (arith, height_zero ds.structures ds.enumerations t))
-form_deeper ds (suc k) t low =
-    form_step ds k t
-    ∙ level_same (form_to ds k) (form_to ds (suc k)) (height_to ds.structures ds.enumerations k) k (form_deeper ds k) ds (out-Ty t)
-    (omega (arith, height_step ds.structures ds.enumerations k t, low))
-    ∙ sym (form_step ds (suc k) t)
-
--- a type that is no higher than types may be is told by its parts
-form_is : (ds : Decls) (t : Ty) → height_to ds.structures ds.enumerations highest t ≤ highest → form_of ds t ≡ level ds (form_of ds) (out-Ty t)
-form_is ds t low =
-    form_step ds 63 t
-    ∙ level_same (form_to ds 63) (form_to ds 64) (height_to ds.structures ds.enumerations 63) 63 (form_deeper ds 63) ds (out-Ty t)
-    (omega (arith, height_step ds.structures ds.enumerations 63 t, low))
+use Rattle.cat_code.specs.Forms.{Form, Truth, Many, Fields, form_at, same_form, forms_in, structure_form, level, form_to, form_of, items_forms}
+use Rattle.cat_code.specs.Wanted.{signed, are_params}
+use Rattle.cat_code.proofs.FormLaws.{form_step, form_is, both_true, same_self}
 
 -- ---- each form of type
-
-flat_Boolean : (ds : Decls) (k : ℕ) → form_to ds (suc k) flat.Boolean ≡ Truth
-unfolding form_to
-flat_Boolean ds k = search (rules, ty.the_lemmas)
-
-flat_Integer : (ds : Decls) (k : ℕ) → form_to ds (suc k) flat.Integer ≡ Whole
-unfolding form_to
-flat_Integer ds k = search (rules, ty.the_lemmas)
-
-pub form_Boolean : (ds : Decls) → form_of ds flat.Boolean ≡ Truth
-form_Boolean ds = flat_Boolean ds 63
-
-pub form_Integer : (ds : Decls) → form_of ds flat.Integer ≡ Whole
-form_Integer ds = flat_Integer ds 63
 
 -- a type that is found to be the boolean one
 pub form_boolean : (ds : Decls) (t : Ty) → is_boolean (out-Ty t) ≡ true → form_of ds t ≡ Truth
@@ -103,11 +44,17 @@ form_boolean ds t is = form_step ds 63 t ∙ by (out-Ty t) is
     by (Ty-F.Structure n) so = absurd (true≢false (sym so))
     by (Ty-F.Enumeration n) so = absurd (true≢false (sym so))
 
-pub form_Enumeration : (ds : Decls) (n : ℕ) → form_of ds (flat.Enumeration n) ≡ OneOf n
-form_Enumeration ds n = form_step ds 63 (flat.Enumeration n) ∙ ap (level ds (form_to ds 63)) (ty.outs-Enumeration n)
-
 true_le : (a b : ℕ) → IsTrue (nat_le a b) → a ≤ b
 true_le a b h = grind (arith, nat_tests)
+
+le_true : (a b : ℕ) → a ≤ b → IsTrue (nat_le a b)
+le_true a b h = grind (arith, nat_tests)
+
+pub low_Boolean : (ds : Decls) → IsLow ds flat.Boolean
+low_Boolean ds = record {
+  declared = is_declared_Boolean ds.structures ds.enumerations;
+  low = le_true _ highest (omega (arith, height_Boolean ds.structures ds.enumerations 63));
+}
 
 pub form_List : (ds : Decls) (t : Ty) → IsLow ds (ty.List t) → form_of ds (ty.List t) ≡ Many (form_of ds t)
 form_List ds t is = form_is ds (ty.List t) (true_le _ highest is.low) ∙ ap (level ds (form_of ds)) (ty.outs-List t)
@@ -160,28 +107,7 @@ form_field ds n k t is = by (fields_of ds n) refl is
     by None there is = absurd (cc is)
     by (Some fields) there is = at fields there (slice_get fields k) refl is
 
--- ---- types that are the same
-
-both_true : (a b : Bool) → a ≡ true → b ≡ true → (a && b) ≡ true
-both_true true true e f = refl
-both_true true false e f = f
-both_true false b e f = e
-
-mutual
-  pub same_self : (t : Form) → same_form t t ≡ true
-  same_self Truth = refl
-  same_self Whole = refl
-  same_self Fraction = refl
-  same_self Amount = refl
-  same_self Day = refl
-  same_self Span = refl
-  same_self (Many t) = same_self t
-  same_self (Fields ts) = same_selves ts
-  same_self (OneOf n) = eq-eqb n n refl
-
-  same_selves : (ts : Forms) → same_forms ts ts ≡ true
-  same_selves Last = refl
-  same_selves (More t ts) = both_true (same_form t t) (same_forms ts ts) (same_self t) (same_selves ts)
+-- ---- types that operators take
 
 pub params_are : (form : Ty → Form) (params : List Ty) → are_params form params (map form params) ≡ true
 params_are form [] = refl

@@ -27,13 +27,13 @@ use Rattle.cat_code.specs.declared.code.Tables.{Tables}
 use Rattle.cat_code.specs.Forms.{Form, Truth, form_of}
 use Rattle.cat_code.specs.Shapes.{Owner, Shape, Meets}
 use Rattle.cat_code.specs.Places.{FunctionPlace, function_places, functions_in, case_places, target_form}
+use Rattle.cat_code.proofs.FormLaws.{form_Boolean}
 use Rattle.cat_lower.specs.Rows.{Standing, function_number}
 use Rattle.cat_lower.specs.Pieces.{index_of}
 use Rattle.cat_lower.specs.Terms.{TermStanding}
 use Rattle.cat_lower.specs.Expressions.{lowered}
 use Rattle.cat_lower.proofs.ScopeTerms.{all_at}
 use Rattle.cat_lower.proofs.AddingTerms.{all_front, all_back}
-use Rattle.cat_lower.proofs.FormLaws.{form_Boolean}
 use Rattle.cat_lower.proofs.Named.{Named}
 use Rattle.cat_lower.proofs.FilledSlots.{filled_from, filled_read, filled_more, in_front_of, front_within}
 use Rattle.cat_lower.proofs.Ranks.{order_of, place_rank, local_rank, Calls, entry, entry_is, function_shape, calls_function}

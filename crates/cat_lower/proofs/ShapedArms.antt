@@ -4,7 +4,6 @@ use Rattle.std.proofs.Common.{Option, Some, None, slice_get, refl, sym, ap, ◌�
 use Rattle.std.proofs.lemmas.Bool.{eq-eqb}
 use Rattle.std.proofs.lemmas.Bool.Decides.{nat_tests}
 use Rattle.cat_value.specs.declared.ty.Ty.{Ty}
-use Rattle.cat_value.specs.Typing.{has_type}
 use Rattle.cat_value.specs.Entries.{content_of}
 use Rattle.cat_value.specs.Defaults.{default_of}
 use Rattle.cat_code.specs.declared.instr.Instr.{Instr}
@@ -19,7 +18,7 @@ use Rattle.cat_lower.specs.Laying.{Ends, Parts, Coded, past, one, then_code, led
 use Rattle.cat_lower.specs.Stands.{HasAt, Has}
 use Rattle.cat_lower.specs.Pieces.{constant, arm_body}
 use Rattle.cat_lower.proofs.Places.{past_append}
-use Rattle.cat_lower.proofs.Spots.{Spots, open_at, shut_at, Meeting, Marked, Arrives, arrives_here, meets_here, Keeps}
+use Rattle.cat_lower.proofs.Spots.{Spots, open_at, shut_at, Meeting, Marked, Arrives, arrives_here, meets_here, Keeps, IsConstant}
 use Rattle.cat_lower.proofs.Sketches.{Sketch, Takes, takes_one, takes_then, takes_branch, sketch_after, sketch_sides, is_jump_false, jump_keeps}
 use Rattle.cat_lower.proofs.Sketches.{forward, past_below}
 use Rattle.cat_lower.proofs.ShapedForms.{Deep, more, Stands, at, Gives, gives_constant, form as form_by}
@@ -57,12 +56,13 @@ module _ (tables : Tables) (code : List Instr) (Calls : Owner → Owner → Type
   abbrev pub Matches : Coded → List Form → ℕ → Form → Type 0
   Matches a ls n t = (d : Deep) → Stands d.loops d.pending → T a (A (ls ++ OneOf n ∷ []) d) (A ls (more t d))
 
-  pub matches_none : (u : Ty) (ls : List Form) (n : ℕ) (t : Form) → IsTrue (has_type tables.decls (default_of tables.decls u) u) → F u ≡ t
+  pub matches_none : (u : Ty) (ls : List Form) (n : ℕ) (t : Form) → IsConstant tables (record { ty = u; value = default_of tables.decls u })
+      → F u ≡ t
       → Matches (then_code (constant u (default_of tables.decls u)) (one (instr.Drop 1))) ls n t
-  matches_none u ls n t typed is d stands =
+  matches_none u ls n t sound is d stands =
       takes_then tables code Calls entry (constant u (default_of tables.decls u)) (one (instr.Drop 1)) (A (ls ++ OneOf n ∷ []) d)
       (A (ls ++ OneOf n ∷ []) (more t d)) (A ls (more t d))
-      (gives_constant tables code Calls entry owner filled u (default_of tables.decls u) t (ls ++ OneOf n ∷ []) typed is d stands)
+      (gives_constant tables code Calls entry owner filled u (default_of tables.decls u) t (ls ++ OneOf n ∷ []) sound is d stands)
       (takes_drop tables code Calls entry owner filled ls (OneOf n ∷ []) 1 (more t d) refl)
 
   -- a body without a content

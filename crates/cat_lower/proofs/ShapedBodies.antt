@@ -26,6 +26,7 @@ use Rattle.cat_code.specs.Places.{case_places, held_form, inner_of, called_scope
 use Rattle.cat_code.specs.Wanted.{are_passed}
 use Rattle.cat_code.specs.Leads.{leads, leads_two}
 use Rattle.cat_code.specs.Flow.{flow}
+use Rattle.cat_code.proofs.FormLaws.{same_self}
 use Rattle.cat_lower.specs.Laying.{Coded, nothing, one, then_code, led, over}
 use Rattle.cat_lower.specs.Pieces.{index_of}
 use Rattle.cat_lower.specs.Terms.{target_code, context_code}
@@ -35,7 +36,7 @@ use Rattle.cat_lower.proofs.AddingTerms.{all_front, all_back}
 use Rattle.cat_lower.proofs.ScopeTerms.{all_at}
 use Rattle.cat_lower.proofs.Spots.{Spots}
 use Rattle.cat_lower.proofs.Sketches.{Takes, IsJump, takes_one, takes_then, takes_nothing, takes_over}
-use Rattle.cat_lower.proofs.FormLaws.{form_boolean, same_self}
+use Rattle.cat_lower.proofs.FormLaws.{form_boolean}
 use Rattle.cat_lower.proofs.FilledSlots.{filled_from, filled_alike, filled_next, filled_still, filled_length, in_last, index_within, behind_front}
 use Rattle.cat_lower.proofs.Ranks.{order_of, local_rank, Calls, entry, calls_scope}
 use Rattle.cat_lower.proofs.ShapedForms.{Deep, more, at, within_so}

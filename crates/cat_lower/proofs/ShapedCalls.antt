@@ -17,11 +17,11 @@ use Rattle.cat_code.specs.Shapes.{Owner, LoopShape, PendingShape, Shape}
 use Rattle.cat_code.specs.Wanted.{is_pending_inside, are_passed}
 use Rattle.cat_code.specs.Leads.{leads}
 use Rattle.cat_code.specs.Flow.{flow}
+use Rattle.cat_code.proofs.FormLaws.{same_self}
 use Rattle.cat_lower.specs.Laying.{Coded, nothing, one, then_code, led}
 use Rattle.cat_lower.specs.Pieces.{pass_all, absent_code, pass_absent, truth}
 use Rattle.cat_lower.proofs.Spots.{Spots}
 use Rattle.cat_lower.proofs.Sketches.{Takes, takes_one, takes_then, takes_nothing}
-use Rattle.cat_lower.proofs.FormLaws.{same_self}
 use Rattle.cat_lower.proofs.ShapedForms.{Deep, more, Stands, at, Gives, gives_truth, form as form_by}
 
 -- ---- which slots something was passed to

@@ -11,7 +11,6 @@ use Rattle.cat_value.specs.declared.declaration.Kind.{Kind}
 use Rattle.cat_value.specs.Inputs.{outputs_in}
 use Rattle.cat_value.specs.Entries.{content_of}
 use Rattle.cat_value.specs.Laws.{AreSound}
-use Rattle.cat_value.specs.Typing.{has_type}
 use Rattle.cat_value.proofs.DefaultsTyped.{default_of_typed}
 use Rattle.cat_scope.specs.declared.expr.ArmPattern.{ArmPattern}
 use Rattle.cat_scope.specs.declared.expr.Expr.{Expr}
@@ -43,6 +42,7 @@ use Rattle.cat_code.specs.declared.code.Tables.{Tables}
 use Rattle.cat_code.specs.Forms.{Form, Truth, Whole, Fields, OneOf, forms_in, outputs_form, items_forms}
 use Rattle.cat_code.specs.Shapes.{Owner, Shape}
 use Rattle.cat_code.specs.Places.{case_places}
+use Rattle.cat_code.proofs.FormLaws.{form_Boolean, form_Integer, form_Enumeration}
 use Rattle.cat_lower.specs.Laying.{Coded, one, all_code}
 use Rattle.cat_lower.specs.Types.{Lowering, enumeration_in, element_type, content_type, arms_type, element_expected}
 use Rattle.cat_lower.specs.Rows.{Standing, function_number, case_number, list_code, arms_code, arguments_code, fields_code, values_code}
@@ -57,7 +57,7 @@ use Rattle.cat_lower.proofs.TypesAgree.{arms_agree, expects_element, still_expec
 use Rattle.cat_lower.proofs.Stacks.{length_map}
 use Rattle.cat_lower.proofs.CasePlaces.{case_stands, tested_stands}
 use Rattle.cat_lower.proofs.Named.{Named, named_parts, item_itself, scope_itself}
-use Rattle.cat_lower.proofs.FormLaws.{form_Boolean, form_Integer, form_Enumeration, form_List, form_Structure, form_field, at_items}
+use Rattle.cat_lower.proofs.FormLaws.{form_List, form_Structure, form_field, at_items}
 use Rattle.cat_lower.proofs.ShapedForms.{more, Gives, gives_constant, gives_truth, gives_local, gives_field, gives_is_case}
 use Rattle.cat_lower.proofs.ShapedForms.{gives_case_alone, gives_case_with, gives_length, gives_unary, gives_binary, gives_choice, form as form_by}
 use Rattle.cat_lower.proofs.ShapedLoops.{gives_sum}
@@ -65,13 +65,13 @@ use Rattle.cat_lower.proofs.ShapedFolds.{gives_contains}
 use Rattle.cat_lower.proofs.ShapedRows.{GivesAll, all_none, all_more, gives_listed, IsCallable, gives_structure}
 use Rattle.cat_lower.proofs.ShapedArms.{Matches, matches_none}
 use Rattle.cat_lower.proofs.ShapedCalls.{Passes, IsReached}
+use Rattle.cat_lower.proofs.Spots.{IsConstant}
 use Rattle.cat_lower.proofs.Sketches.{all_both}
 use Rattle.cat_lower.proofs.ShapedParts.{read_map, plain_form, given_form, empty_typed, written, each_counted, later_placed, fields_are}
 use Rattle.cat_lower.proofs.ShapedParts.{same_all, plain_not_called, plain_no_function, called_no_function, same_as_one, declared_fields, arm_low}
 use Rattle.cat_lower.specs.Laying.{then_code}
 use Rattle.cat_lower.specs.Pieces.{packed}
 use Rattle.cat_code.specs.Forms.{slot_form, value_form}
-use Rattle.cat_value.specs.Typing.{is_type}
 use Rattle.cat_lower.proofs.ShapedNames.{IsReady, read, arm_shape, Typed_all, FieldsShaped, belong_all, match_shape, for_all_shape, exists_shape, map_shape, filter_shape, combine_shape, call_shape, scope_call_shape}
 
 module _ (tables : Tables) (code : List Instr) (Calls : Owner → Owner → Type 0) (entry : ℕ → Shape) (owner : Owner) (filled : List Bool)
@@ -137,7 +137,8 @@ module _ (tables : Tables) (code : List Instr) (Calls : Owner → Owner → Type
         → lists_placed e (is_some x) ≡ true → AllHave Low ls → Names_ready e → Lowers ls e x (F t)
     shapes {ls} (typed.literal {p = p} {l = l} fits) x want placed lows ns =
         formed _ ls x _ _ (lowered_Literal here p l)
-        (gives_constant tables code Calls entry owner filled (literal_type l) (literal_value l) (F (literal_type l)) (map F ls) (literal-typed tables.decls l fits) refl)
+        (gives_constant tables code Calls entry owner filled (literal_type l) (literal_value l) (F (literal_type l)) (map F ls)
+        (low_of ls _ (literal_type l) lows (typed.literal {p = p} fits), literal-typed tables.decls l fits) refl)
     shapes {ls} {t = t} (typed.item {p = p} {i = i} is) x want placed lows ns =
         let ready = (item_itself Ready (IsReached tables code Calls entry owner filled) _ (Expr-F.Item p i) (expr.outs-Item p i) ns).0 in
         formed _ ls x _ _ (lowered_Item here p i)
@@ -293,7 +294,7 @@ module _ (tables : Tables) (code : List Instr) (Calls : Owner → Owner → Type
         let parts = named_parts Ready (IsReached tables code Calls entry owner filled) _ (Expr-F.Sum p k l) (expr.outs-Sum p k l) ns in
         let is = low_of ls l (ty.List (summed_type k)) lows g in
         formed _ ls x _ _ (lowered_Sum here p k l)
-        (gives_sum tables code Calls entry owner filled _ k p (map F ls) (zero-typed tables.decls k)
+        (gives_sum tables code Calls entry owner filled _ k p (map F ls) (element_low tables.decls sound (summed_type k) is, zero-typed tables.decls k)
         (alike _ (map F ls) _ _ (form_List tables.decls (summed_type k) is)
         (shapes g None tt (sym (ap (λ f. f (is_some x)) (placed_Sum p k l)) ∙ placed) lows parts.0)))
     shapes {ls} {t = t} (typed.call {p = p} {f = f} {es = es} params is g) x want placed lows ns =
@@ -317,7 +318,7 @@ module _ (tables : Tables) (code : List Instr) (Calls : Owner → Owner → Type
         → Matches tables code Calls entry owner filled (arms_code here n u (arms_of arms) ls x) (map F ls) n (F t)
     arms_shape {ls} {n} {t = t} typed.arms_none x want placed lows ns u agree low =
         matches_none tables code Calls entry owner filled u (map F ls) n (F t)
-        (default_of_typed tables.decls u (subst (λ (v : Ty). IsTrue (is_type tables.decls v)) (sym agree) low.declared)) (ap F agree)
+        (let is : Low u = subst Low (sym agree) low in (is, default_of_typed tables.decls u is.declared)) (ap F agree)
     arms_shape {ls} {n} {t = t} (typed.arms_more {a = a} {arms = arms} inside is g more) x want placed lows ns u agree low =
         let parts = both_so (lists_placed a.body (is_some x)) (later_arms_placed arms) placed in
         arm_shape tables code Calls entry owner filled rounding functions definitions sound cases n a.pattern a.body ls inside x (F t) is
@@ -358,7 +359,7 @@ module _ (tables : Tables) (code : List Instr) (Calls : Owner → Owner → Type
     list_shape {ls} typed.all_none None want placed lows ns low = absurd (true≢false (sym placed))
     list_shape {ls} {t = t} typed.all_none (Some u) want placed lows ns low =
         gives_constant tables code Calls entry owner filled u (value.List []) (F (ty.List t)) (map F ls)
-        (subst (λ (v : Ty). IsTrue (has_type tables.decls (value.List []) v)) (sym want) (empty_typed tables t low)) (ap F want)
+        (subst (λ (v : Ty). IsConstant tables (record { ty = v; value = value.List [] })) (sym want) (low, empty_typed tables t low)) (ap F want)
     list_shape {ls} {t = t} (typed.all_more {e = e} {es = es} g more) x want placed lows ns low =
         let parts = both_so (lists_placed e (is_some x)) (all_placed (map lists_placed es)) placed in
         let first : lists_placed e (is_some (element_expected x)) ≡ true = ap (lists_placed e) (still_expected x) ∙ parts.0 in

@@ -13,12 +13,13 @@ use Rattle.cat_code.specs.declared.code.Tables.{Tables}
 use Rattle.cat_code.specs.OperationNumbers.{number_between}
 use Rattle.cat_code.specs.Forms.{Form, Truth, Many}
 use Rattle.cat_code.specs.Shapes.{Owner, Shape}
+use Rattle.cat_code.proofs.FormLaws.{form_Boolean}
 use Rattle.cat_lower.specs.Laying.{Coded, one, then_code, led, loop}
 use Rattle.cat_lower.specs.Pieces.{operator, search_for, any_turn}
 use Rattle.cat_lower.proofs.Stacks.{length_append}
 use Rattle.cat_lower.proofs.Sketches.{Takes, takes_one, takes_then}
 use Rattle.cat_lower.proofs.SketchedLoops.{takes_search, turns_any, any_sizes}
-use Rattle.cat_lower.proofs.FormLaws.{form_Boolean, compared_result}
+use Rattle.cat_lower.proofs.FormLaws.{compared_result}
 use Rattle.cat_lower.proofs.ShapedForms.{Deep, more, Stands, at, Gives, gives_truth, takes_between, zero_rounded, form as form_by}
 use Rattle.cat_lower.proofs.ShapedLoops.{in_loop, takes_bind, takes_drop, takes_iter, at_back, self_below}
 

@@ -12,7 +12,6 @@ use Rattle.cat_value.specs.declared.value.Value.{Value}
 use Rattle.cat_value.specs.declared.value.Value.TheVariants as value_flat
 use Rattle.cat_value.specs.declared.ty.Ty.TheViews as ty
 use Rattle.cat_value.specs.Declarations.{is_boolean}
-use Rattle.cat_value.specs.Typing.{has_type}
 use Rattle.cat_value.specs.Entries.{content_of}
 use Rattle.cat_value.proofs.Exported.{has_type_Boolean}
 use Rattle.cat_scope.specs.declared.operators.UnaryOp.{UnaryOp}
@@ -33,11 +32,12 @@ use Rattle.cat_code.specs.Told.{constant_form}
 use Rattle.cat_code.specs.Flow.{flow}
 use Rattle.cat_code.specs.Wanted.{is_so, signed}
 use Rattle.cat_code.proofs.OperationLaws.{operation-number_before, operation-number_between, roundings-rounding_number}
+use Rattle.cat_code.proofs.FormLaws.{form_Boolean, same_self}
 use Rattle.cat_lower.specs.Laying.{Coded, one, then_code, branch}
 use Rattle.cat_lower.specs.Pieces.{constant, truth, operator}
-use Rattle.cat_lower.proofs.Spots.{Spots, Keeps}
+use Rattle.cat_lower.proofs.Spots.{Spots, Keeps, IsConstant}
 use Rattle.cat_lower.proofs.Sketches.{Takes, takes_one, takes_constant, takes_position, takes_then, takes_branch, is_jump_false}
-use Rattle.cat_lower.proofs.FormLaws.{form_Boolean, same_self, signed_result}
+use Rattle.cat_lower.proofs.FormLaws.{low_Boolean, signed_result}
 
 -- what lies below an expression
 pub record Deep : Type 0 where
@@ -91,20 +91,21 @@ module _ (tables : Tables) (code : List Instr) (Calls : Owner → Owner → Type
   abbrev pub Gives : Coded → List Form → Form → Type 0
   Gives a ls t = (d : Deep) → Stands d.loops d.pending → Goes a (at ls d) (at ls (more t d))
 
-  pub gives_constant : (u : Ty) (v : Value) (t : Form) (ls : List Form) → IsTrue (has_type tables.decls v u) → form u ≡ t → Gives (constant u v) ls t
-  gives_constant u v t ls typed is d stands =
-      takes_constant tables code Calls entry (λ k. instr.Const k) (record { ty = u; value = v }) (at ls d) (at ls (more t d)) typed
+  pub gives_constant : (u : Ty) (v : Value) (t : Form) (ls : List Form) → IsConstant tables (record { ty = u; value = v }) → form u ≡ t
+      → Gives (constant u v) ls t
+  gives_constant u v t ls sound is d stands =
+      takes_constant tables code Calls entry (λ k. instr.Const k) (record { ty = u; value = v }) (at ls d) (at ls (more t d)) sound
       (λ k p there. by k p (constant_told tables k (record { ty = u; value = v }) there ∙ ap (λ (f : Form). Some f) is))
       (λ all k p there. (tt, (refl, (tt, tt))))
     where
       by : (k p : ℕ) → constant_form tables k ≡ Some t → flow tables code (instr.Const k) p (at ls d) ≡ leads (p + 1) (at ls (more t d))
       by k p there = rw there refl
 
-  pub truth_typed : (b : Bool) → IsTrue (has_type tables.decls (value_flat.Boolean b) flat.Boolean)
-  truth_typed b = has_type_Boolean tables.decls b flat.Boolean ∙ ap is_boolean ty.outs-Boolean
+  truth_sound : (b : Bool) → IsConstant tables (record { ty = flat.Boolean; value = value_flat.Boolean b })
+  truth_sound b = (low_Boolean tables.decls, has_type_Boolean tables.decls b flat.Boolean ∙ ap is_boolean ty.outs-Boolean)
 
   pub gives_truth : (b : Bool) (ls : List Form) → Gives (truth b) ls Truth
-  gives_truth b ls = gives_constant flat.Boolean (value_flat.Boolean b) Truth ls (truth_typed b) (form_Boolean tables.decls)
+  gives_truth b ls = gives_constant flat.Boolean (value_flat.Boolean b) Truth ls (truth_sound b) (form_Boolean tables.decls)
 
   pub gives_local : (k : ℕ) (t : Form) (ls : List Form) → slice_get ls k ≡ Some t → Gives (one (instr.Local k)) ls t
   gives_local k t ls is d stands =

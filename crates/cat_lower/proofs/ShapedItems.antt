@@ -31,6 +31,7 @@ use Rattle.cat_calc.specs.declared.calcs.CalcScope.{CalcScope}
 use Rattle.cat_calc.specs.Terms.{named_in, consequences_in}
 use Rattle.cat_scope.specs.Judging.{Held}
 use Rattle.cat_scope.specs.declared.expr.Expr.{Expr}
+use Rattle.cat_code.proofs.FormLaws.{same_self}
 use Rattle.cat_lower.specs.Terms.{target_code}
 use Rattle.cat_calc.specs.Reducing.{term_of}
 use Rattle.cat_calc.specs.WellFormed.{IsOrderOf, items_needed, named_by_items, scopes_called}
@@ -52,7 +53,7 @@ use Rattle.cat_lower.proofs.ScopeTerms.{TermSound, ScopeSound, function_is_defin
 use Rattle.cat_lower.proofs.AddingTerms.{all_front, all_back}
 use Rattle.cat_lower.proofs.Spots.{Spots}
 use Rattle.cat_lower.proofs.Sketches.{Takes, Laid, laid_then, takes_one, takes_then, sketch_step}
-use Rattle.cat_lower.proofs.FormLaws.{form_boolean, same_self}
+use Rattle.cat_lower.proofs.FormLaws.{form_boolean}
 use Rattle.cat_lower.proofs.ShapedParts.{slot_of, plain_form}
 use Rattle.cat_lower.proofs.FilledSlots.{filled_from, front_itself, index_within, index_behind, once_out, behind_front, Split, split_at, in_front_of}
 use Rattle.cat_lower.proofs.Ranks.{order_in, order_of, place_rank, local_rank, Calls, entry, function_shape, entry_is, calls_scope}

@@ -25,15 +25,16 @@ use Rattle.cat_code.specs.Leads.{leads, pushed}
 use Rattle.cat_code.specs.Told.{constant_form}
 use Rattle.cat_code.specs.Flow.{flow}
 use Rattle.cat_code.specs.Valid.{is_empty_list, is_empty_constant}
+use Rattle.cat_code.proofs.FormLaws.{same_self}
 use Rattle.cat_lower.specs.Laying.{Ends, Coded, one, then_code, led, over, loop}
 use Rattle.cat_lower.specs.Pieces.{constant, truth, operator, of_local, search_for, any_turn, all_turn}
 use Rattle.cat_lower.specs.Expressions.{collecting}
 use Rattle.cat_lower.proofs.Stacks.{length_append}
 use Rattle.cat_lower.proofs.Meeting.{meets_same}
-use Rattle.cat_lower.proofs.Spots.{Spots}
+use Rattle.cat_lower.proofs.Spots.{Spots, IsConstant}
 use Rattle.cat_lower.proofs.Sketches.{Takes, takes_one, takes_then, takes_over, laid_by, sketch_on, is_jump_false}
 use Rattle.cat_lower.proofs.SketchedLoops.{inside, takes_loop, takes_search, turns_any, turns_all, any_sizes, all_sizes}
-use Rattle.cat_lower.proofs.FormLaws.{form_List, same_self, compared_result, adding_result}
+use Rattle.cat_lower.proofs.FormLaws.{form_List, compared_result, adding_result}
 use Rattle.cat_lower.proofs.ShapedForms.{Deep, more, Stands, at, Goes, Gives, gives_constant, gives_truth, constant_told, takes_between, form as form_by}
 use Rattle.cat_lower.proofs.ShapedForms.{zero_rounded}
 
@@ -128,7 +129,7 @@ module _ (tables : Tables) (code : List Instr) (Calls : Owner → Owner → Type
       (λ ends has. sketch_on tables code Calls entry ends (instr.IterList ends.constants) (list_of u ∷ []) [] (A ls (more (Many t) d))
       (A ls (in_loop t (Some (F u)) ends.place d))
       (by ends.constants ends.place (constant_told tables ends.constants (list_of u) has.constants.0 ∙ ap (λ (f : Form). Some f) (form_List tables.decls u low)))
-      (typed, tt) (λ all. (tt, (ap is_empty_constant has.constants.0 ∙ ap is_empty_list (value.outs-List []), (tt, tt)))))
+      ((low, typed), tt) (λ all. (tt, (ap is_empty_constant has.constants.0 ∙ ap is_empty_list (value.outs-List []), (tt, tt)))))
       (λ ends. refl) turns
     where
       by : (k p : ℕ) → constant_form tables k ≡ Some (Many (F u))
@@ -181,14 +182,14 @@ module _ (tables : Tables) (code : List Instr) (Calls : Owner → Owner → Type
       (takes_collect deeper (F u) (F u) p d)))
       (takes_drop ls (F u ∷ []) 1 i refl)))))
 
-  pub gives_sum : (l : Coded) (k : SumKind) (q : Pos) (ls : List Form) → IsTrue (has_type tables.decls (zero_of k) (summed_type k))
+  pub gives_sum : (l : Coded) (k : SumKind) (q : Pos) (ls : List Form) → IsConstant tables (record { ty = summed_type k; value = zero_of k })
       → G l ls (Many (F (summed_type k)))
       → G (then_code (constant (summed_type k) (zero_of k)) (then_code l (led instr.Iter (loop (operator (number_between (adding k)) 0 q)))))
       ls (F (summed_type k))
-  gives_sum l k q ls typed gl d stands =
+  gives_sum l k q ls zero gl d stands =
       let t = F (summed_type k) in
       takes_then tables code Calls entry (constant (summed_type k) (zero_of k)) _ (A ls d) (A ls (more t d)) (A ls (more t d))
-      (gives_constant tables code Calls entry owner filled (summed_type k) (zero_of k) t ls typed refl d stands)
+      (gives_constant tables code Calls entry owner filled (summed_type k) (zero_of k) t ls zero refl d stands)
       (takes_then tables code Calls entry l _ (A ls (more t d)) (A ls (more (Many t) (more t d))) (A ls (more t d)) (gl (more t d) stands)
       (takes_iter (operator (number_between (adding k)) 0 q) ls t (more t d)
       (λ p. takes_between tables code Calls entry owner filled (adding k) 0 q t t t (summed_type k) ls (in_loop t None p d) zero_rounded

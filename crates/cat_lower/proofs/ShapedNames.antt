@@ -30,6 +30,7 @@ use Rattle.cat_code.specs.Forms.{Form, Truth, OneOf, forms_in, form_at, item_for
 use Rattle.cat_code.specs.Shapes.{Owner, Shape}
 use Rattle.cat_code.specs.Places.{case_places}
 use Rattle.cat_code.specs.Wanted.{is_so}
+use Rattle.cat_code.proofs.FormLaws.{form_Boolean, form_Enumeration}
 use Rattle.cat_lower.specs.Laying.{Coded, one, led}
 use Rattle.cat_lower.specs.Types.{Lowering, enumeration_in, element_type, arm_types, arms_type}
 use Rattle.cat_lower.specs.Rows.{Standing, function_number, case_number, arm_code, arms_code, arguments_code, params_of, fields_code, values_code}
@@ -43,7 +44,7 @@ use Rattle.cat_lower.proofs.TypesAgree.{arm_types_are, type_of}
 use Rattle.cat_lower.proofs.Stacks.{length_map}
 use Rattle.cat_lower.proofs.CasePlaces.{case_stands, tested_stands}
 use Rattle.cat_lower.proofs.Named.{Named}
-use Rattle.cat_lower.proofs.FormLaws.{form_Boolean, form_Enumeration, form_List, form_field}
+use Rattle.cat_lower.proofs.FormLaws.{form_List, form_field}
 use Rattle.cat_lower.proofs.ShapedForms.{more, Gives, gives_slot}
 use Rattle.cat_lower.proofs.ShapedForms.{form as form_by}
 use Rattle.cat_lower.proofs.ShapedLoops.{gives_map, gives_filter, gives_all, gives_any, takes_bind}

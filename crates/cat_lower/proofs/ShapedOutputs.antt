@@ -25,6 +25,7 @@ use Rattle.cat_code.specs.Places.{case_places}
 use Rattle.cat_code.specs.Shaped.{scope_entry}
 use Rattle.cat_code.specs.Flow.{flow}
 use Rattle.cat_code.specs.Wanted.{is_so}
+use Rattle.cat_code.proofs.FormLaws.{same_self}
 use Rattle.cat_lower.specs.Laying.{Coded, nothing, one, with_position, then_code, led}
 use Rattle.cat_lower.specs.Pieces.{index_of}
 use Rattle.cat_lower.specs.Expressions.{lowered}
@@ -34,7 +35,6 @@ use Rattle.cat_lower.proofs.Stacks.{append_none}
 use Rattle.cat_lower.proofs.ScopeTerms.{AssertionSound, all_at}
 use Rattle.cat_lower.proofs.Spots.{Spots}
 use Rattle.cat_lower.proofs.Sketches.{Takes, Laid, laid_then, takes_one, takes_then, takes_nothing, takes_position, sketch_step}
-use Rattle.cat_lower.proofs.FormLaws.{same_self}
 use Rattle.cat_lower.proofs.FilledSlots.{filled_from, filled_first, filled_read, index_within}
 use Rattle.cat_lower.proofs.Ranks.{order_of, local_rank, Calls, entry}
 use Rattle.cat_lower.proofs.Named.{Named}

@@ -29,6 +29,7 @@ use Rattle.cat_code.specs.declared.instr.Instr.TheVariants as instr
 use Rattle.cat_code.specs.declared.code.Tables.{Tables}
 use Rattle.cat_code.specs.Forms.{Form, form_of, item_form, slot_form}
 use Rattle.cat_code.specs.Wanted.{all_same}
+use Rattle.cat_code.proofs.FormLaws.{same_self}
 use Rattle.cat_lower.specs.Laying.{one}
 use Rattle.cat_lower.specs.Types.{Lowering}
 use Rattle.cat_lower.specs.Rows.{Standing}
@@ -36,7 +37,6 @@ use Rattle.cat_lower.specs.Expressions.{numbers_of, lowered}
 use Rattle.cat_lower.proofs.LoweredEquations.{branch, branch_is, field, field_is}
 use Rattle.cat_lower.proofs.TypesAgree.{both_so}
 use Rattle.cat_lower.proofs.TypesAgree.{same_results, result_in}
-use Rattle.cat_lower.proofs.FormLaws.{same_self}
 use Rattle.cat_lower.proofs.ShapedForms.{more}
 use Rattle.std.proofs.Common.{nat_eq, if◌then◌else◌}
 use Rattle.std.proofs.lemmas.Bool.{eqb-true}

@@ -17,13 +17,14 @@ use Rattle.cat_code.specs.Places.{FunctionPlace, function_places}
 use Rattle.cat_code.specs.Wanted.{all_same, are_params}
 use Rattle.cat_code.specs.Leads.{Flow, leads, leads_two, popped, pop_all, pushed, where_so, top}
 use Rattle.cat_code.specs.Flow.{flow}
+use Rattle.cat_code.proofs.FormLaws.{same_self}
 use Rattle.cat_lower.specs.Laying.{Coded, nothing, one, then_code, led}
 use Rattle.cat_lower.specs.Pieces.{index_of, are_counted, bind_all, picked, packed, packed_by}
 use Rattle.cat_lower.proofs.Stacks.{append_none, length_append, length_map}
 use Rattle.cat_lower.proofs.DoingRows.{back_read}
 use Rattle.cat_lower.proofs.Spots.{Spots, Meeting, Arrives, met_by}
 use Rattle.cat_lower.proofs.Sketches.{Takes, takes_one, takes_then, takes_nothing, sketch_step}
-use Rattle.cat_lower.proofs.FormLaws.{same_self, params_are, at_forms}
+use Rattle.cat_lower.proofs.FormLaws.{params_are, at_forms}
 use Rattle.cat_lower.proofs.ShapedForms.{Deep, more, Stands, at, Gives, form as form_by}
 use Rattle.cat_lower.proofs.ShapedLoops.{takes_bind, takes_drop}
 

@@ -30,6 +30,7 @@ use Rattle.cat_code.specs.Shaped.{scope_entry}
 use Rattle.cat_code.specs.Wanted.{are_passed}
 use Rattle.cat_code.specs.Leads.{leads}
 use Rattle.cat_code.specs.Flow.{flow}
+use Rattle.cat_code.proofs.FormLaws.{form_Boolean, same_self}
 use Rattle.cat_lower.specs.Laying.{Coded, nothing, one, with_position, then_code, led, over}
 use Rattle.cat_lower.specs.Expressions.{lowered}
 use Rattle.cat_lower.specs.Scopes.{ScopeStanding, inner_codes, called_code, stored_code, kind_code, item_code, items_code, outputs_code, output_count}
@@ -41,7 +42,6 @@ use Rattle.cat_lower.proofs.Stacks.{append_none}
 use Rattle.cat_value.proofs.Exported.{found}
 use Rattle.cat_lower.proofs.Spots.{Spots}
 use Rattle.cat_lower.proofs.Sketches.{Takes, Laid, laid_then, laid_by, takes_one, takes_then, takes_nothing, takes_position, sketch_step}
-use Rattle.cat_lower.proofs.FormLaws.{form_Boolean, same_self}
 use Rattle.cat_lower.proofs.FilledSlots.{filled_from, filled_first}
 use Rattle.cat_lower.proofs.Ranks.{Calls, entry, calls_scope}
 use Rattle.cat_lower.proofs.ReadyItems.{joined_have, all_go, named_ready}

@@ -20,6 +20,7 @@ use Rattle.cat_code.specs.Forms.{Form, Truth}
 use Rattle.cat_code.specs.Shapes.{Owner, FrameShape, PendingShape, Shape, AreFewer, Meets}
 use Rattle.cat_code.specs.Places.{target_form}
 use Rattle.cat_code.specs.Wanted.{frames_inside}
+use Rattle.cat_code.proofs.FormLaws.{same_self}
 use Rattle.cat_lower.specs.Laying.{Coded, nothing, one, then_code, led, all_code, over}
 use Rattle.cat_lower.specs.Terms.{TermStanding, condition_code, value_code, under, otherwise, framed, default_code, term_code, judged_code}
 use Rattle.cat_lower.proofs.AddingTerms.{all_front, all_back, each_of}
@@ -27,7 +28,6 @@ use Rattle.cat_lower.proofs.TermEquations.{code_Empty, code_Consequence, code_De
 use Rattle.cat_lower.proofs.Meeting.{meets_same, fewer_same, frames_same, pending_same}
 use Rattle.cat_lower.proofs.Sketches.{Takes, Leaves, IsJump, leaves_one, leaves_then, takes_one, takes_then, takes_nothing, takes_less, takes_over}
 use Rattle.cat_lower.proofs.Sketches.{is_jump_false}
-use Rattle.cat_lower.proofs.FormLaws.{same_self}
 use Rattle.cat_lower.proofs.ShapedForms.{Deep, more, at, Gives, within_so}
 
 one_there : (n : ℕ) → nat_le 1 (n + 1) ≡ true

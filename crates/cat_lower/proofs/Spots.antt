@@ -3,6 +3,7 @@ use Rattle.std.proofs.Common.{◌≡◌, ℕ, ◌+◌, ◌-◌, nat_lt, ◌||◌
 use Rattle.std.proofs.Common.{slice_get, refl}
 use Rattle.cat_value.specs.Typing.{has_type}
 use Rattle.cat_scope.specs.Names.{AllHave}
+use Rattle.cat_sound.specs.LowTypes.{IsLow}
 use Rattle.cat_code.specs.declared.instr.Instr.{Instr}
 use Rattle.cat_code.specs.declared.instr.Instr.TheVariants as instr
 use Rattle.cat_code.specs.declared.code.Constant.{Constant}
@@ -99,9 +100,9 @@ module _ (tables : Tables) (code : List Instr) (Calls : Owner → Owner → Type
   abbrev pub AreEntered : Spots → Type 0
   AreEntered all = (f place : ℕ) → slice_get tables.functions f ≡ Some place → Meeting all place (entry f)
 
--- a constant of its type, and an entry of a target that is there
+-- a constant of its type, which may stand in a declaration, and an entry of a target that is there
 abbrev pub IsConstant : Tables → Constant → Type 0
-IsConstant tables c = IsTrue (has_type tables.decls c.value c.ty)
+IsConstant tables c = IsLow tables.decls c.ty × IsTrue (has_type tables.decls c.value c.ty)
 
 abbrev pub IsTargetEntry : Tables → TargetEntry → Type 0
 IsTargetEntry tables e = (t : Form) × (target_form tables.decls e.target ≡ Some t)

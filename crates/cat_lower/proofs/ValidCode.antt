@@ -1,13 +1,15 @@
 -- The code of a calculus is valid and tame.
-use Rattle.std.proofs.Common.{◌≡◌, ◌<◌, ℕ, zero, suc, ◌+◌, nat_lt, Bool, true, false, true≢false, IsTrue, List, [], ◌∷◌, ◌++◌, length, map, Option, Some}
+use Rattle.std.proofs.Common.{◌≡◌, ◌<◌, ℕ, zero, suc, ◌+◌, nat_lt, ◌&&◌, Bool, true, false, true≢false, IsTrue, List, [], ◌∷◌, ◌++◌, length, map, Option, Some}
 use Rattle.std.proofs.Common.{None, is_some, slice_get, refl, sym, ap, ◌∙◌, subst, arith}
 use Rattle.std.specs.List.{list_all}
 use Rattle.cat_value.specs.declared.decls.Decls.{Decls}
 use Rattle.cat_value.specs.declared.declaration.ItemDecl.{ItemDecl}
 use Rattle.cat_value.specs.declared.declaration.Scope.{Scope}
 use Rattle.cat_value.specs.Laws.{AreSound}
-use Rattle.cat_value.specs.Typing.{has_type}
+use Rattle.cat_value.specs.Typing.{is_type, has_type}
+use Rattle.cat_scope.specs.Fitting.{is_low_type}
 use Rattle.cat_scope.specs.Names.{AllHave}
+use Rattle.cat_sound.proofs.Results.{and_both}
 use Rattle.cat_calc.specs.declared.calcs.CalcScope.{CalcScope}
 use Rattle.cat_calc.specs.declared.calcs.Calc.{Calc}
 use Rattle.cat_calc.specs.WellFormed.{IsCalc}
@@ -20,7 +22,7 @@ use Rattle.cat_code.specs.Places.{case_places, function_places, functions_from, 
 use Rattle.cat_code.specs.Shaped.{IsMet, AreEntries, IsShapedBy, scope_entry}
 use Rattle.cat_code.specs.Tame.{IsTame}
 use Rattle.cat_code.specs.Jumps.{jumps_in}
-use Rattle.cat_code.specs.Valid.{IsValidBy, entries_of, places_entered}
+use Rattle.cat_code.specs.Valid.{IsValidBy, constant_is_sound, entries_of, places_entered}
 use Rattle.cat_lower.specs.Laying.{Ends, Parts, past, end_of}
 use Rattle.cat_lower.specs.Stands.{HasAt, Has}
 use Rattle.cat_lower.specs.Scopes.{functions_code, function_entries}
@@ -35,9 +37,13 @@ use Rattle.cat_lower.proofs.ShapedForms.{within_so}
 use Rattle.cat_lower.proofs.ShapedParts.{read_map}
 
 -- constants and targets that are so, one by one
-constants_so : (tables : Tables) (cs : List Constant) → AllHave (IsConstant tables) cs → list_all (λ (c : Constant). has_type tables.decls c.value c.ty) cs ≡ true
+constants_so : (tables : Tables) (cs : List Constant) → AllHave (IsConstant tables) cs → list_all (constant_is_sound tables.decls) cs ≡ true
 constants_so tables [] h = refl
-constants_so tables (c ∷ cs) h = let rest = constants_so tables cs h.1 in let first : has_type tables.decls c.value c.ty ≡ true = h.0 in rw (first, rest) refl
+constants_so tables (c ∷ cs) h =
+    let ds = tables.decls in
+    let low = and_both (is_type ds c.ty) (is_low_type ds c.ty) h.0.0.declared h.0.0.low in
+    let first = and_both (is_type ds c.ty && is_low_type ds c.ty) (has_type ds c.value c.ty) low h.0.1 in
+    and_both (constant_is_sound ds c) (list_all (constant_is_sound ds) cs) first (constants_so tables cs h.1)
 
 targets_so : (tables : Tables) (es : List TargetEntry) → AllHave (IsTargetEntry tables) es
     → list_all (λ (e : TargetEntry). is_some (target_form tables.decls e.target)) es ≡ true
