@@ -1,0 +1,7 @@
+pub mod Reading
+pub mod Growing
+pub mod Cutting
+pub mod Counting
+pub mod LoadingLemmas
+pub mod Examples
+pub mod Exported

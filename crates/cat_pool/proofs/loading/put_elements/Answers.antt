@@ -1,0 +1,8 @@
+use Rattle.cat_pool.specs.Nodes.{listed}
+use Rattle.cat_pool.proofs.LoadingLemmas.{put_value}
+use Rattle.cat_pool.proofs.loading.put_elements.Goals as goal
+
+pub returns-clause-value : goal.returns-clause-value
+returns-clause-value c =
+    put_value c.args.pool.now c.put_list.new.self (listed c.args.pool.now c.args.parts.now) c.in_ok-r.r
+    c.in_ok-r.ensures.ok c.in_ok-r.ensures.place
