@@ -1,0 +1,12 @@
+use Rattle.cat_machine.proofs.CallSteps.{pass_machine, pass_told}
+use Rattle.cat_machine.proofs.steps.calling.pass.Goals as goal
+
+pub returns-clause-told : goal.returns-clause-told
+returns-clause-told c =
+    pass_told c.args.code.now.tables c.args.place c.args.m.now c.args.i c.in-Some.r c.pop.new.self c.set.new.self
+    c.in-Some.ensures c.set.ensures c.requires.going
+
+pub returns-clause-machine : goal.returns-clause-machine
+returns-clause-machine c =
+    pass_machine c.args.code.now.tables c.args.place c.args.m.now c.args.i c.in-Some.r c.pop.new.self c.set.new.self
+    c.requires.machine c.in-Some.ensures c.set.ensures

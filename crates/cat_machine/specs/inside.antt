@@ -1,0 +1,10 @@
+pub mod Layered
+pub mod Machines
+pub mod Putting
+pub mod Looping
+pub mod Calling
+pub mod Logging
+pub mod Driven
+pub mod Leading
+pub mod Begun
+pub mod Outcomes

@@ -1,0 +1,163 @@
+// The runs of scopes: four faces of one run.
+ghost use Rattle.std.specs.Prelude.{◌≡◌, IfOk};
+ghost use Rattle.cat_pool.specs.Loading.{Extends};
+ghost use Rattle.cat_machine.specs.inside.Begun.{IsEmpty, RunsSo};
+ghost use Rattle.cat_machine.specs.Running.{Counts, GivesOutcome, Grows, IsGiven, Logs};
+
+use crate::ending::outcome_at;
+use crate::going::{Ended, Going, drive};
+use crate::log::Log;
+use crate::machine::Machine;
+use crate::starting::{empty, make_ready};
+use cat_code::Code;
+use cat_pool::Pool;
+use cat_pos::List;
+use cat_value::{Input, Outcome};
+use std::alloc::{AllocError, Global};
+use std::mem;
+
+/// The outcome of a run, how many steps it took, at most 2^64 - 1, and what it logged.
+#[derive(Drop)]
+struct Run {
+    outcome: Outcome,
+    steps: u64,
+    log: Log,
+}
+
+/// A machine with its nodes behind those of the pool runs up to its end, or until memory runs out.
+fn run_machine(
+    alloc: Global,
+    code: &Code,
+    scope: u32,
+    input: &Input,
+    machine: Box<Machine>,
+) -> Ended
+    requires empty { IsEmpty machine.value }
+    requires given { ∥ IsGiven code.now scope input.now ∥₁ }
+    ensures { RunsSo code.now scope input.now machine.value.pool result.end result.machine.value result.count }
+{
+    let mut machine = machine;
+    if make_ready(alloc, code, input, &mut machine).is_err() {
+        return Ended {
+            machine,
+            count: 0,
+            end: Err(AllocError),
+        };
+    }
+    drive(Going {
+        code,
+        place: *code.tables.scopes.at(scope as usize) as usize,
+        count: 0,
+        machine,
+    })
+}
+
+fn run_scope(
+    alloc: Global,
+    code: &Code,
+    scope: u32,
+    input: &Input,
+    pool: &mut Pool,
+) -> Result<Run, AllocError>
+    requires { ∥ IsGiven code.now scope input.now ∥₁ }
+    ensures outcome { IfOk result (λ made. GivesOutcome code.now scope input.now made.outcome) }
+    ensures count { IfOk result (λ made. Counts code.now scope input.now made.steps) }
+    ensures log { IfOk result (λ made. Logs code.now scope input.now made.log) }
+    ensures kept { Extends pool.old pool.new }
+    ensures grown { IfOk result (λ made. Grows code.now scope input.now pool.old pool.new made.outcome) }
+{
+    let mut machine = Box::new(alloc, empty(alloc))?;
+    mem::swap(pool, &mut machine.pool);
+    let Ended {
+        mut machine,
+        count,
+        end,
+    } = run_machine(alloc, code, scope, input, machine);
+    let outcome = outcome_at(alloc, code, &machine, end);
+    mem::swap(pool, &mut machine.pool);
+    let log = mem::replace(&mut machine.log, List::new(alloc));
+    Ok(Run {
+        outcome: outcome?,
+        steps: count,
+        log,
+    })
+}
+
+/// The outcome that the code gives. The pool keeps its nodes; those of this run stay behind them, also where memory runs
+/// out, until they are released.
+pub fn execute(
+    alloc: Global,
+    code: &Code,
+    scope: u32,
+    input: &Input,
+    pool: &mut Pool,
+) -> Result<Outcome, AllocError>
+    requires { ∥ IsGiven code.now scope input.now ∥₁ }
+    ensures outcome { IfOk result (GivesOutcome code.now scope input.now) }
+    ensures kept { Extends pool.old pool.new }
+    ensures grown { IfOk result (Grows code.now scope input.now pool.old pool.new) }
+{
+    Ok(run_scope(alloc, code, scope, input, pool)?.outcome)
+}
+
+/// The same with the number of steps from the start to the outcome, 2^64 - 1 where there are more.
+pub fn execute_counted(
+    alloc: Global,
+    code: &Code,
+    scope: u32,
+    input: &Input,
+    pool: &mut Pool,
+) -> Result<(Outcome, u64), AllocError>
+    requires { ∥ IsGiven code.now scope input.now ∥₁ }
+    ensures outcome { IfOk result (λ made. GivesOutcome code.now scope input.now made.0) }
+    ensures count { IfOk result (λ made. Counts code.now scope input.now made.1) }
+    ensures kept { Extends pool.old pool.new }
+    ensures grown { IfOk result (λ made. Grows code.now scope input.now pool.old pool.new made.0) }
+{
+    let Run {
+        outcome,
+        steps,
+        log: _,
+    } = run_scope(alloc, code, scope, input, pool)?;
+    Ok((outcome, steps))
+}
+
+/// The same with the log.
+pub fn execute_logged(
+    alloc: Global,
+    code: &Code,
+    scope: u32,
+    input: &Input,
+    pool: &mut Pool,
+) -> Result<(Outcome, Log), AllocError>
+    requires { ∥ IsGiven code.now scope input.now ∥₁ }
+    ensures outcome { IfOk result (λ made. GivesOutcome code.now scope input.now made.0) }
+    ensures log { IfOk result (λ made. Logs code.now scope input.now made.1) }
+    ensures kept { Extends pool.old pool.new }
+    ensures grown { IfOk result (λ made. Grows code.now scope input.now pool.old pool.new made.0) }
+{
+    let Run {
+        outcome,
+        steps: _,
+        log,
+    } = run_scope(alloc, code, scope, input, pool)?;
+    Ok((outcome, log))
+}
+
+/// The outcome that the code gives; the pool is as before.
+pub fn execute_clean(
+    alloc: Global,
+    code: &Code,
+    scope: u32,
+    input: &Input,
+    pool: &mut Pool,
+) -> Result<Outcome, AllocError>
+    requires { ∥ IsGiven code.now scope input.now ∥₁ }
+    ensures outcome { IfOk result (GivesOutcome code.now scope input.now) }
+    ensures clean { pool.new ≡ pool.old }
+{
+    let mark = pool.mark();
+    let outcome = execute(alloc, code, scope, input, pool);
+    pool.release(mark);
+    outcome
+}

@@ -1,0 +1,96 @@
+// A machine is made ready.
+ghost use Rattle.std.specs.Prelude.{◌≡◌, ◌+◌, [], IfOk, OnOk, length};
+ghost use Rattle.cat_pool.specs.Loading.{Extends};
+ghost use Rattle.cat_machine.specs.Running.{entry_count};
+ghost use Rattle.cat_machine.specs.inside.Begun.{HasConstants, HasInput, IsEmpty, IsEntry, IsReady};
+
+use crate::layers::Layers;
+use crate::machine::{Machine, Truths};
+use crate::operands::Operands;
+use cat_code::Code;
+use cat_pool::{Pool, Ref};
+use cat_pos::List;
+use cat_value::{Input, Value};
+use std::alloc::{AllocError, Global};
+
+/// A machine over an empty pool.
+pub fn empty(alloc: Global) -> Machine
+    ensures empty { IsEmpty result }
+    ensures pool { result.pool ≡ [] }
+{
+    Machine {
+        pool: Pool::new(alloc),
+        operands: Operands::new(alloc),
+        locals: Layers::new(alloc),
+        slots: Layers::new(alloc),
+        defaults: Layers::new(alloc),
+        loops: Layers::new(alloc),
+        pending: Layers::new(alloc),
+        constants: List::new(alloc),
+        truths: Truths {
+            yes: None,
+            no: None,
+        },
+        log: List::new(alloc),
+    }
+}
+
+/// The constants of the code as nodes.
+fn load_constants(alloc: Global, code: &Code, m: &mut Machine) -> Result<(), AllocError>
+    requires { IsEmpty m.old }
+    ensures loaded { OnOk result (HasConstants code.now.tables m.old m.new) }
+    ensures pool { Extends m.old.pool m.new.pool }
+{
+    for constant in code.tables.constants.as_slice() {
+        let r = m.pool.load(alloc, &constant.value)?;
+        m.constants.push(r)?;
+    }
+    Ok(())
+}
+
+/// The node of an entry, where it is given.
+fn load_entry(
+    alloc: Global,
+    pool: &mut Pool,
+    entry: &Option<Value>,
+) -> Result<Option<Ref>, AllocError>
+    ensures loaded { IfOk result (IsEntry pool.new entry.now) }
+    ensures count { OnOk result (length pool.new ≡ length pool.old + entry_count entry.now) }
+    ensures kept { Extends pool.old pool.new }
+{
+    let Some(value) = entry else {
+        return Ok(None);
+    };
+    let r = pool.load(alloc, value)?;
+    Ok(Some(r))
+}
+
+/// What is given, as nodes in the slots of the first frame.
+fn load_input(alloc: Global, input: &Input, m: &mut Machine) -> Result<(), AllocError>
+    ensures loaded { OnOk result (HasInput input.now m.old m.new) }
+    ensures pool { Extends m.old.pool m.new.pool }
+{
+    m.slots.open(())?;
+    for entry in input.as_slice() {
+        let slot = load_entry(alloc, &mut m.pool, entry)?;
+        m.slots.push(slot)?;
+    }
+    Ok(())
+}
+
+/// A machine with the input in its slots.
+pub fn make_ready(
+    alloc: Global,
+    code: &Code,
+    input: &Input,
+    m: &mut Machine,
+) -> Result<(), AllocError>
+    requires { IsEmpty m.old }
+    ensures ready { OnOk result (IsReady code.now input.now m.old.pool m.new) }
+    ensures pool { Extends m.old.pool m.new.pool }
+{
+    load_constants(alloc, code, m)?;
+    m.locals.open(None)?;
+    load_input(alloc, input, m)?;
+    Ok(())
+}
