@@ -1,17 +1,13 @@
 -- What follows from the answers of the top call.
-use Rattle.std.proofs.Common.{◌≡◌, ◌∙◌, ◌≤◌, ◌<◌, ℕ, List, [], refl, sym, ap, subst, inl, inr, arith, ⊎_elim}
-use Rattle.std.specs.Prelude.{◌⊎◌, Option, Some, None, Ok, IsSomeAnd, IfSome, IsNone, IsTrue, length}
+use Rattle.std.proofs.Common.{◌≡◌, ◌∙◌, ◌≤◌, ◌<◌, ℕ, List, refl, sym, ap, subst, inl, inr, arith, ⊎_elim}
+use Rattle.std.specs.Prelude.{◌⊎◌, Option, Some, None, IsSomeAnd, IfSome, IsNone, IsTrue, length}
 use Rattle.std.specs.Io.KnownBytes.{Appends}
 use Rattle.cat_pos.specs.Limits.{most_input_bytes}
 use Rattle.cat_io.specs.Shelf.{Shelved}
 use Rattle.cat_io.specs.Sink.{Sunk, Took}
-use Rattle.cat_value.specs.declared.value.Value.{Value}
 use Rattle.cat_scope.specs.declared.programs.Program.{Program}
 use Rattle.cat_scope.specs.Named.{number_named}
 use Rattle.cat_scope.specs.Names.{AllHave}
-use Rattle.cat_scope.specs.Outcomes.{scope_outcome}
-use Rattle.cat_json.specs.InputsRead.{input_read}
-use Rattle.cat_answer.specs.Answer.{answer_of}
 use Rattle.cat_audit.specs.declared.report.Report.{Report}
 use Rattle.cat_audit.specs.declared.report.Verdict.{Verdict}
 use Rattle.cat_audit.specs.declared.report.Verdict.TheVariants as verdict
@@ -21,17 +17,15 @@ use Rattle.cat_weave.specs.declared.source.Source.{Source}
 use Rattle.cat_weave.specs.Gathered.{Contents, Whole, gathered, limit_after}
 use Rattle.cat_weave.specs.Causes.{ComesTo}
 use Rattle.cat_build.specs.Accepted.{IsAccepted}
-use Rattle.cat_app.specs.Words.{Ask, OfBands, OfScope, Request, ask_of, reads_extra, request_in}
+use Rattle.cat_app.specs.Words.{Ask, OfBands, OfScope, Request, ask_of, reads_extra, request_in, runs_scope}
 use Rattle.cat_app.specs.Asked.{IsSource, IsExtra, IsReadNow}
-use Rattle.cat_app.specs.Answers.{IsOutcome, IsRefusedFile, IsRefusedSource, IsNoScope, IsRefusedInput}
-use Rattle.cat_app.specs.Answers.{line}
+use Rattle.cat_app.specs.Answers.{IsOutcome, IsRefusedFile, IsRefusedSource, IsNoScope}
 use Rattle.cat_app.specs.Audits.{HasReport, IsAudited, audit_text, status_at}
 use Rattle.cat_app.specs.Table.{Answers, MayAnswer, MayAnswerTo, MayReply}
-use Rattle.cat_app.specs.declared.request.Mode.TheVariants.{Run, Audit, Check, Emit}
+use Rattle.cat_app.specs.declared.request.Mode.TheVariants.{Audit, Check, Emit}
 use Rattle.cat_app.proofs.ToldSources.{AreNotAccepted, EndingsAreTold, IsOneProgram, no_refused_file, no_refused_source}
 use Rattle.cat_app.proofs.ToldSources.{scope_is_there, told_program, told_scope, told_source}
-use Rattle.cat_app.specs.Complete.{IsToldScope, IsToldRun, WritesOutcome, EndsRun}
-use Rattle.cat_app.specs.Complete.{EndsCheck, IsToldCheck}
+use Rattle.cat_app.specs.Complete.{EndsCheck, IsToldCheck, IsToldScope}
 use Rattle.cat_app.specs.AuditEnds.{WritesReport, EndsAudit, IsComplete}
 use Rattle.cat_app.specs.Checks.{HasCertificate, HasNoCertificate, IsChecked}
 use Rattle.cat_app.specs.declared.status.Status.{Status}
@@ -94,7 +88,7 @@ module _ (one_program : IsOneProgram) (not_accepted : AreNotAccepted) (endings :
       → program ≡ other
   program_of = told_program one_program endings old request source program told.source_told told.accepted
 
-  scope_of : (other : Program) (number : ℕ) → program ≡ other
+  pub scope_of : (other : Program) (number : ℕ) → program ≡ other
       → number_named request.scope 0 other.decls.scopes ≡ Some number → scope ≡ number
   scope_of = told_scope request program scope told.named
 
@@ -166,8 +160,8 @@ module _ (one_program : IsOneProgram) (not_accepted : AreNotAccepted) (endings :
   -- ---- of an audit
 
   module _ (audits : request.mode ≡ Audit) where
-    not_run : request.mode ≡ Run → ⊥
-    not_run runs = cc (runs, audits)
+    not_run : IsTrue (runs_scope request.mode) → ⊥
+    not_run runs = cc (ap runs_scope audits, runs)
 
     not_check : request.mode ≡ Check → ⊥
     not_check checks = cc (checks, audits)
@@ -217,16 +211,16 @@ module _ (one_program : IsOneProgram) (not_accepted : AreNotAccepted) (endings :
 
   module _ (extra : List ℕ) (extra_told : old.content request.extra ≡ Some extra)
       (extra_short : length extra ≤ most_input_bytes) where
-    extra_is : (other : List ℕ) → IsExtra request old other → other ≡ extra
+    pub extra_is : (other : List ℕ) → IsExtra request old other → other ≡ extra
     extra_is other read =
         of_told (λ content. other ≡ content) (old.content request.extra) extra extra_told read.content
 
-    not_missing : (name : List ℕ) (limit : ℕ) → IsReadNow request old name limit → IsNone (old.content name) → ⊥
+    pub not_missing : (name : List ℕ) (limit : ℕ) → IsReadNow request old name limit → IsNone (old.content name) → ⊥
     not_missing name limit (inl now) none = no_source_missing name limit now none
     not_missing name limit (inr now) none =
         none_there (old.content name) extra (ap old.content now.0 ∙ extra_told) none
 
-    not_large : (name : List ℕ) (limit : ℕ) → IsReadNow request old name limit
+    pub not_large : (name : List ℕ) (limit : ℕ) → IsReadNow request old name limit
         → IfSome (old.content name) (λ content. limit < length content) → ⊥
     not_large name limit (inl now) long = no_source_large name limit now long
     not_large name limit (inr now) long =
@@ -234,92 +228,6 @@ module _ (one_program : IsOneProgram) (not_accepted : AreNotAccepted) (endings :
         of_told (λ content. limit < length content) (old.content name) extra
         (ap old.content now.0 ∙ extra_told) long in
         absurd (omega (arith, longer, now.1, extra_short))
-
-  -- ---- of a run
-
-  module _ (input : List (Option Value)) (run : IsToldRun words old request source program scope input) where
-    run_extra : (other : List ℕ) → IsExtra request old other → other ≡ run.extra
-    run_extra other read = extra_is run.extra run.extra_told run.extra_short other read
-
-    -- what is read of the input is this
-    read_as : (other : Program) (number : ℕ) (extra : List ℕ) → program ≡ other → scope ≡ number → extra ≡ run.extra
-        → input_read other.decls number extra ≡ Ok input
-    read_as other number extra program_is scope_is extra_is =
-        ap (λ (p : Program). input_read p.decls number extra) (sym program_is)
-        ∙ (ap (λ n. input_read program.decls n extra) (sym scope_is)
-        ∙ (ap (λ (e : List ℕ). input_read program.decls scope e) extra_is ∙ run.input_is))
-
-    outcome_written : (ended : Status) (text : List ℕ) → IsOutcome request old new ended text → Took sink sunk text
-        → WritesOutcome sink sunk source program scope input ended
-    outcome_written ended text o took =
-        let sources = source_is o.source o.asked.source_read in
-        let programs = program_of o.source o.program o.asked.source_read o.asked.accepted in
-        let scopes = scope_of o.program o.scope programs o.asked.named in
-        let read = read_as o.program o.scope o.extra programs scopes (run_extra o.extra o.extra_read) in
-        let inputs : input ≡ o.input = cc (read, o.input_is) in
-        let outcome_is : scope_outcome program scope input ≡ Some o.outcome =
-        ap (λ (p : Program). scope_outcome p scope input) programs
-        ∙ (ap (λ n. scope_outcome o.program n input) scopes
-        ∙ (ap (λ (i : List (Option Value)). scope_outcome o.program o.scope i) inputs ∙ o.outcome_is)) in
-        let text_is : text ≡ line (answer_of program.decls scope source.files o.outcome) [] =
-        o.reply
-        ∙ (ap (λ (s : Source). line (answer_of o.program.decls o.scope s.files o.outcome) []) sources
-        ∙ (ap (λ n. line (answer_of o.program.decls n source.files o.outcome) []) (sym scopes)
-        ∙ ap (λ (p : Program). line (answer_of p.decls scope source.files o.outcome) []) (sym programs))) in
-        record {
-          outcome = o.outcome;
-          outcome_is = outcome_is;
-          status = o.status;
-          written = subst (λ (t : List ℕ). Appends sink.taken sunk.taken t) text_is took.taken;
-        }
-
-    no_input : (text : List ℕ) → IsRefusedInput request old new text → ⊥
-    no_input text is =
-        let programs = program_of is.source is.program is.asked.source_read is.asked.accepted in
-        let scopes = scope_of is.program is.scope programs is.asked.named in
-        let read = read_as is.program is.scope is.extra programs scopes (run_extra is.extra is.extra_read) in
-        cc (read, is.refused)
-
-    not_checked : request.mode ≡ Check → ⊥
-    not_checked checks = cc (checks, run.mode)
-
-    not_listed : request.mode ≡ Emit → ⊥
-    not_listed emits = cc (emits, run.mode)
-
-    not_audited : (ended : Status) (text : List ℕ) → IsAudited request old new ended text → ⊥
-    not_audited ended text a = cc (a.mode, run.mode)
-
-    pub ends_run : (ended : Status) → Answers words old new sink sunk ended
-        → EndsRun sink sunk source program scope input ended
-    ends_run status.Fine is = ⊎_elim (λ o. outcome_written status.Fine is.0 o is.2)
-        (⊎_elim (λ a. absurd (not_audited status.Fine is.0 a))
-        (⊎_elim (λ k. absurd (not_checked k.mode)) (λ l. absurd (not_listed l.mode))))
-        (answer_is status.Fine is.0 is.1)
-    ends_run status.Conflict is =
-        outcome_written status.Conflict is.0 (answer_is status.Conflict is.0 is.1) is.2
-    ends_run status.NoValue is =
-        outcome_written status.NoValue is.0 (answer_is status.NoValue is.0 is.1) is.2
-    ends_run status.Fault is =
-        outcome_written status.Fault is.0 (answer_is status.Fault is.0 is.1) is.2
-    ends_run status.Source is = absurd (refused_source is.0 is.1)
-    ends_run status.Input is = absurd (no_input is.0 (answer_is status.Input is.0 is.1))
-    ends_run status.Found is =
-        absurd (not_audited status.Found is.0 (answer_is status.Found is.0 is.1))
-    ends_run status.Unsettled is =
-        absurd (not_audited status.Unsettled is.0 (answer_is status.Unsettled is.0 is.1))
-    ends_run status.Certificate is =
-        let refused = answer_is status.Certificate is.0 is.1 in
-        absurd (not_checked refused.mode)
-    ends_run status.Usage is = absurd (refused_usage is.0 is.1)
-    ends_run status.Missing is =
-        let read = answer_is status.Missing is.0 is.1 in
-        absurd (not_missing run.extra run.extra_told run.extra_short read.name read.limit read.now read.read.2)
-    ends_run status.ReadFault is = tt
-    ends_run status.WriteFault is = tt
-    ends_run status.Memory is = tt
-    ends_run status.TooLarge is =
-        let read = answer_is status.TooLarge is.0 is.1 in
-        absurd (not_large run.extra run.extra_told run.extra_short read.name read.limit read.now read.read.2)
 
   -- ---- of a check
 
@@ -335,8 +243,8 @@ module _ (one_program : IsOneProgram) (not_accepted : AreNotAccepted) (endings :
         (subst (λ n. Says k.program n extra text) (sym scopes)
         (subst (λ (e : List ℕ). Says k.program k.scope e text) same k.says))
 
-    check_runs : request.mode ≡ Run → ⊥
-    check_runs runs = cc (runs, check.mode)
+    check_runs : IsTrue (runs_scope request.mode) → ⊥
+    check_runs runs = cc (ap runs_scope check.mode, runs)
 
     check_audits : request.mode ≡ Audit → ⊥
     check_audits audits = cc (audits, check.mode)

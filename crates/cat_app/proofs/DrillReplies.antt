@@ -22,7 +22,7 @@ use Rattle.cat_audit.specs.Reports.{last_verdict}
 use Rattle.cat_audit.specs.ReportLines.{verdict_text}
 use Rattle.cat_app.specs.Runs.{IsFirstRefused, IsFirstStop, IsValue}
 use Rattle.cat_app.specs.Asked.{IsAsked, IsSource}
-use Rattle.cat_app.specs.Answers.{line, status_of}
+use Rattle.cat_app.specs.Lines.{line, status_of}
 use Rattle.cat_app.specs.Drills.{HasLine, HasRefusedRun, HasStop, IsOfBands, bands_request, bands_shelf, drill_line}
 use Rattle.cat_app.specs.Table.{MayAnswer, MayDrill}
 use Rattle.cat_app.specs.inside.Says.{MaySay, Says, SaysGathering, SaysInput, SaysOutcome}

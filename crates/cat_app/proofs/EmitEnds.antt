@@ -5,13 +5,13 @@ use Rattle.cat_io.specs.Shelf.{Shelved}
 use Rattle.cat_io.specs.Sink.{Sunk}
 use Rattle.cat_scope.specs.declared.programs.Program.{Program}
 use Rattle.cat_weave.specs.declared.source.Source.{Source}
-use Rattle.cat_app.specs.Words.{Request, reads_extra}
+use Rattle.cat_app.specs.Words.{Request, reads_extra, runs_scope}
 use Rattle.cat_app.specs.Complete.{IsToldScope}
 use Rattle.cat_app.specs.EmitEnds.{EndsEmit}
 use Rattle.cat_app.specs.Listings.{IsListed, ListsCode}
 use Rattle.cat_app.specs.Asked.{IsReadNow}
 use Rattle.cat_app.specs.Table.{Answers, MayAnswer, MayReply}
-use Rattle.cat_app.specs.declared.request.Mode.TheVariants.{Run, Audit, Check, Emit}
+use Rattle.cat_app.specs.declared.request.Mode.TheVariants.{Audit, Check, Emit}
 use Rattle.cat_app.specs.declared.status.Status.{Status}
 use Rattle.cat_app.specs.declared.status.Status.TheVariants as status
 use Rattle.cat_app.proofs.Complete.{FilesAreTold, answer_is, none_large, none_missing, program_of, refused_source}
@@ -34,8 +34,8 @@ module _ (one_program : IsOneProgram) (not_accepted : AreNotAccepted) (endings :
   no_refusal = refused_source one_program not_accepted endings files words old new sink sunk request source program
       scope told
 
-  runs : request.mode ≡ Run → ⊥
-  runs is = cc (is, emits)
+  runs : IsTrue (runs_scope request.mode) → ⊥
+  runs is = cc (ap runs_scope emits, is)
 
   audits : request.mode ≡ Audit → ⊥
   audits is = cc (is, emits)

@@ -13,7 +13,6 @@ use Rattle.cat_value.specs.declared.outcome.Outcome.{Outcome}
 use Rattle.cat_value.specs.declared.outcome.Outcome.TheVariants as outcome
 use Rattle.cat_scope.specs.declared.programs.Program.{Program}
 use Rattle.cat_scope.specs.Named.{number_named}
-use Rattle.cat_calc.specs.Calculus.{calc_outcome}
 use Rattle.cat_audit.specs.declared.report.Verdict.{Verdict}
 use Rattle.cat_audit.specs.declared.report.Verdict.TheVariants as verdict
 use Rattle.cat_audit.specs.Reports.{last_verdict}
@@ -31,16 +30,20 @@ use Rattle.cat_build.specs.Accepted.{IsAccepted}
 use Rattle.cat_build.specs.Built.{IsBuiltOf}
 use Rattle.cat_words.specs.Asked.{IsCases}
 use Rattle.cat_words.proofs.Exported.{cases_within}
-use Rattle.cat_app.specs.Words.{Request, IsMost, reads_extra}
+use Rattle.cat_app.specs.Words.{Request, IsMost, reads_extra, runs_scope}
 use Rattle.cat_app.specs.Asked.{IsSource, IsExtra, IsAsked, IsReadNow}
-use Rattle.cat_app.specs.declared.request.Mode.TheVariants.{Run, Audit, Check, Emit}
+use Rattle.cat_app.specs.declared.request.Mode.{Mode}
+use Rattle.cat_app.specs.declared.request.Mode.TheVariants as modes
+use Rattle.cat_app.specs.declared.request.Mode.TheVariants.{Audit, Check, Emit}
 use Rattle.cat_app.specs.Audits.{IsAudited, status_at}
 use Rattle.cat_app.specs.Checks.{HasCertificate, HasNoCertificate, IsChecked}
-use Rattle.cat_app.specs.Answers.{IsOutcome, input_line, line, status_of}
+use Rattle.cat_app.specs.Answers.{IsOutcome}
+use Rattle.cat_app.specs.Lines.{input_line, line, status_of}
 use Rattle.cat_app.specs.Table.{MayAnswer}
 use Rattle.cat_app.specs.inside.Says.{Says, SaysChecked, SaysFault, SaysGathering}
-use Rattle.cat_app.specs.inside.Says.{SaysInput, SaysOf, SaysReport, MaySay}
+use Rattle.cat_app.specs.inside.Says.{SaysInput, SaysReport, SaysRun, MaySay}
 use Rattle.cat_app.specs.declared.reply.Reply.{Reply}
+use Rattle.cat_app.specs.declared.status.Status.{Status}
 use Rattle.cat_app.specs.declared.status.Status.TheVariants.{Fine, Usage}
 
 -- of a result, what a fact leads to
@@ -128,11 +131,20 @@ no_extra request old new source program scope fault reply read says asked mode =
     refused_now request old new request.extra most_input_bytes fault reply
     (inr (refl, refl, mode, (source, program, scope, asked))) read says
 
+-- a mode that runs the scope reads the input
+pub run_reads : (mode : Mode) → IsTrue (runs_scope mode) → IsTrue (reads_extra mode)
+run_reads modes.Run is = is
+run_reads modes.EmitRun is = is
+run_reads modes.Trace is = is
+run_reads modes.Audit is = is
+run_reads modes.Check is = refl
+run_reads modes.Emit is = is
+
 -- the input is none of the scope's
 pub no_input : (request : Request) (old new : Shelved) (source : Source) (program : Program) (scope : ℕ)
     (extra : List ℕ) (refusal : InputRefusal) (reply : Reply) → IsExtra request old extra → new ≡ old
     → input_read program.decls scope extra ≡ Err refusal → SaysInput refusal reply
-    → IsAsked request old source program scope → request.mode ≡ Run → MaySay request old new reply
+    → IsAsked request old source program scope → IsTrue (runs_scope request.mode) → MaySay request old new reply
 no_input request old new source program scope extra refusal reply extra_read same none says asked mode =
     rw says.0 (record {
       source = source;
@@ -154,36 +166,38 @@ not_memory refusal reply says is =
     cc (subst (λ (r : InputRefusal). input_line r ≡ Some (string_bytes reply.text)) is says.1)
 
 -- an outcome answers with its own status
-outcome_answers : (request : Request) (old new : Shelved) (ended : Outcome) (text : List ℕ)
-    → IsOutcome request old new (status_of ended) text → MayAnswer request old new (status_of ended) text
-outcome_answers request old new (outcome.Value values) text is = inl is
-outcome_answers request old new (outcome.Conflict target positions) text is = is
-outcome_answers request old new (outcome.NoValue target pos) text is = is
-outcome_answers request old new (outcome.Fault kind pos) text is = is
+outcome_at : (request : Request) (old new : Shelved) (o : Outcome) (text : List ℕ)
+    → IsOutcome request old new (status_of o) text → MayAnswer request old new (status_of o) text
+outcome_at request old new (outcome.Value values) text is = inl is
+outcome_at request old new (outcome.Conflict target positions) text is = is
+outcome_at request old new (outcome.NoValue target pos) text is = is
+outcome_at request old new (outcome.Fault kind pos) text is = is
+
+outcome_answers : (request : Request) (old new : Shelved) (ended : Status) (o : Outcome) (text : List ℕ)
+    → ended ≡ status_of o → IsOutcome request old new ended text → MayAnswer request old new ended text
+outcome_answers request old new ended o text is answer =
+    subst (λ (s : Status). MayAnswer request old new s text) (sym is)
+    (outcome_at request old new o text (subst (λ (s : Status). IsOutcome request old new s text) is answer))
 
 -- the scope comes to its outcome on the input
-pub an_outcome : (request : Request) (old new : Shelved) (source : Source) (built : Built) (scope : ℕ)
+pub an_outcome : (request : Request) (old new : Shelved) (source : Source) (program : Program) (scope : ℕ)
     (extra : List ℕ) (input : List (Option Value)) (reply : Reply) → IsExtra request old extra → new ≡ old
-    → input_read built.program.decls scope extra ≡ Ok input → IsBuiltOf source.pieces built
-    → SaysOf built.program.decls scope source.files (calc_outcome built.calc scope input) reply
-    → IsAsked request old source built.program scope → request.mode ≡ Run → MaySay request old new reply
-an_outcome request old new source built scope extra input reply extra_read same known is says asked mode =
-    rw says.says.0 (outcome_answers request old new says.outcome (string_bytes reply.text) (record {
+    → input_read program.decls scope extra ≡ Ok input → SaysRun request.mode source program scope input reply
+    → IsAsked request old source program scope → IsTrue (runs_scope request.mode) → MaySay request old new reply
+an_outcome request old new source program scope extra input reply extra_read same known says asked mode =
+    outcome_answers request old new reply.status says.outcome (string_bytes reply.text) says.status (record {
       source = source;
-      program = built.program;
+      program = program;
       scope = scope;
       extra = extra;
       input = input;
-      outcome = says.outcome;
       mode = mode;
       asked = asked;
       extra_read = extra_read;
       input_is = known;
-      outcome_is = sym (is.outcomes scope input) ∙ says.found_is;
+      tells = says;
       untouched = same;
-      status = refl;
-      reply = says.says.1;
-    }))
+    })
 
 -- a report answers with the status of its last verdict
 report_answers : (request : Request) (old new : Shelved) (v : Verdict) (text : List ℕ)

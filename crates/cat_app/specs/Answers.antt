@@ -1,91 +1,57 @@
 -- The answers of the top call, each with its cause.
-use Rattle.std.specs.Prelude.{◌≡◌, ℕ, List, [], ◌∷◌, ◌++◌, Option, Some, None, Ok, Err, codes}
-use Rattle.std.specs.Fmt.{decimal}
+use Rattle.std.specs.Prelude.{◌≡◌, ℕ, IsTrue, List, [], ◌++◌, Option, Some, None, Ok, Err, codes}
 use Rattle.cat_io.specs.Shelf.{Shelved, Reads}
 use Rattle.cat_io.specs.declared.shelf.ShelfFault.{ShelfFault}
 use Rattle.cat_pos.specs.declared.pos.Pos.{Pos}
 use Rattle.cat_value.specs.declared.value.Value.{Value}
 use Rattle.cat_value.specs.declared.outcome.Outcome.{Outcome}
-use Rattle.cat_value.specs.declared.outcome.Outcome.TheVariants as outcome
 use Rattle.cat_scope.specs.declared.programs.Program.{Program}
 use Rattle.cat_scope.specs.Named.{number_named}
 use Rattle.cat_scope.specs.Outcomes.{scope_outcome}
 use Rattle.cat_json.specs.declared.refusal.InputRefusal.{InputRefusal}
-use Rattle.cat_json.specs.declared.refusal.InputRefusal.TheVariants as refused
 use Rattle.cat_json.specs.InputsRead.{input_read}
-use Rattle.cat_answer.specs.Answer.{answer_of, named_position, position_text}
+use Rattle.cat_answer.specs.Answer.{answer_of, position_text}
 use Rattle.cat_weave.specs.declared.source.Source.{Source}
 use Rattle.cat_weave.specs.declared.source.GatherRefusal.{GatherRefusal}
-use Rattle.cat_weave.specs.declared.source.GatherRefusal.TheVariants as gathering
 use Rattle.cat_weave.specs.Gathered.{Refused}
 use Rattle.cat_weave.specs.Causes.{HasEnding}
 use Rattle.cat_build.specs.declared.code.FaultCode.{FaultCode}
 use Rattle.cat_build.specs.Accepted.{IsAccepted}
 use Rattle.cat_build.specs.Causes.{StandsAt}
 use Rattle.cat_build.specs.Codes.{number_of}
-use Rattle.cat_app.specs.Words.{Request}
-use Rattle.cat_app.specs.declared.request.Mode.TheVariants.{Run}
+use Rattle.cat_app.specs.Words.{Request, runs_scope}
+use Rattle.cat_app.specs.Lines.{gathering_line, input_line, line, refusal_line, status_of}
+use Rattle.cat_app.specs.declared.request.Mode.{Mode}
 use Rattle.cat_app.specs.Asked.{IsSource, IsExtra, IsAsked, IsReadNow}
+use Rattle.cat_app.specs.Listings.{StandsInFront}
 use Rattle.cat_app.specs.declared.status.Status.{Status}
 use Rattle.cat_app.specs.declared.status.Status.TheVariants as status
 
--- a line: these words, the name and a line feed
-abbrev pub line : List ℕ → List ℕ → List ℕ
-line words name = words ++ (name ++ 10 ∷ [])
-
--- the line that refuses a source by a code, at a position that is told so
-abbrev pub refusal_line : ℕ → List ℕ → List ℕ
-refusal_line number position =
-    codes "source refused E" ++ (decimal number ++ (codes " at " ++ (position ++ 10 ∷ [])))
-
--- the line that refuses a source because of a file that is gathered, where it is refused for what it holds
-abbrev pub gathering_line : GatherRefusal → Option (List ℕ)
-gathering_line (gathering.NotUtf8 name pos) = Some (refusal_line 1 (named_position name pos))
-gathering_line (gathering.FenceOpen name pos) = Some (refusal_line 2 (named_position name pos))
-gathering_line (gathering.IncludeTwice name pos) = Some (refusal_line 3 (named_position name pos))
-gathering_line (gathering.Missing name) = None
-gathering_line (gathering.ReadFault name) = None
-gathering_line (gathering.TooLarge name) = None
-gathering_line gathering.Memory = None
-
--- the line that refuses a part of an input
-abbrev pub part_line : ℕ → List ℕ → List ℕ
-part_line number path = codes "input refused I" ++ (decimal number ++ (codes " " ++ (path ++ 10 ∷ [])))
-
--- the line that refuses an input
-abbrev pub input_line : InputRefusal → Option (List ℕ)
-input_line refused.NotJson = Some (line (codes "input refused I1") [])
-input_line (refused.Missing path) = Some (part_line 2 path)
-input_line (refused.Extra path) = Some (part_line 3 path)
-input_line (refused.WrongForm path) = Some (part_line 4 path)
-input_line (refused.OutOfRange path) = Some (part_line 5 path)
-input_line refused.Memory = None
-
--- the status of an outcome
-abbrev pub status_of : Outcome → Status
-status_of (outcome.Value values) = status.Fine
-status_of (outcome.Conflict target positions) = status.Conflict
-status_of (outcome.NoValue target pos) = status.NoValue
-status_of (outcome.Fault kind pos) = status.Fault
+-- a text tells, with its status, what a scope gives on an input: the line of its outcome, behind what the mode asks for
+pub record TellsOutcome (mode : Mode) (source : Source) (program : Program) (scope : ℕ) (input : List (Option Value))
+    (ended : Status) (text : List ℕ) : Type 0 where
+  pub outcome : Outcome
+  pub front : List ℕ
+  pub outcome_is : scope_outcome program scope input ≡ Some outcome
+  pub status : ended ≡ status_of outcome
+  pub front_is : StandsInFront mode source program scope input front
+  pub reply : text ≡ front ++ line (answer_of program.decls scope source.files outcome) []
 
 -- The replies. The files are as they may have been read, and no name was listed.
 
--- of a run: what the scope gives on the input
+-- of a run, an emit with an input, or a trace: what the scope gives on the input
 pub record IsOutcome (request : Request) (old new : Shelved) (ended : Status) (text : List ℕ) : Type 0 where
   pub source : Source
   pub program : Program
   pub scope : ℕ
   pub extra : List ℕ
   pub input : List (Option Value)
-  pub outcome : Outcome
-  pub mode : request.mode ≡ Run
+  pub mode : IsTrue (runs_scope request.mode)
   pub asked : IsAsked request old source program scope
   pub extra_read : IsExtra request old extra
   pub input_is : input_read program.decls scope extra ≡ Ok input
-  pub outcome_is : scope_outcome program scope input ≡ Some outcome
+  pub tells : TellsOutcome request.mode source program scope input ended text
   pub untouched : new ≡ old
-  pub status : ended ≡ status_of outcome
-  pub reply : text ≡ line (answer_of program.decls scope source.files outcome) []
 
 -- a file of the source isn't text, has an open block, or includes one that is taken or one too many
 pub record IsRefusedFile (request : Request) (old new : Shelved) (text : List ℕ) : Type 0 where
@@ -114,14 +80,14 @@ pub record IsNoScope (request : Request) (old new : Shelved) (text : List ℕ) :
   pub untouched : new ≡ old
   pub reply : text ≡ line (codes "no such scope ") request.scope
 
--- of a run: the input is none of the scope's
+-- of a run, an emit with an input, or a trace: the input is none of the scope's
 pub record IsRefusedInput (request : Request) (old new : Shelved) (text : List ℕ) : Type 0 where
   pub source : Source
   pub program : Program
   pub scope : ℕ
   pub extra : List ℕ
   pub refusal : InputRefusal
-  pub mode : request.mode ≡ Run
+  pub mode : IsTrue (runs_scope request.mode)
   pub asked : IsAsked request old source program scope
   pub extra_read : IsExtra request old extra
   pub refused : input_read program.decls scope extra ≡ Err refusal

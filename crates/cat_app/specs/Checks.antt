@@ -10,7 +10,7 @@ use Rattle.cat_cert.specs.ScopeTables.{HasScopeCause, IsOverScope}
 use Rattle.cat_weave.specs.declared.source.Source.{Source}
 use Rattle.cat_app.specs.Words.{Request}
 use Rattle.cat_app.specs.Asked.{IsAsked, IsExtra}
-use Rattle.cat_app.specs.Answers.{line}
+use Rattle.cat_app.specs.Lines.{line}
 use Rattle.cat_app.specs.declared.request.Mode.TheVariants.{Check}
 
 -- a yes, with the certificate's text of version 2 where it is of version 1

@@ -16,7 +16,7 @@ use Rattle.cat_weave.specs.Gathered.{Whole, gathered}
 use Rattle.cat_build.specs.Accepted.{IsAccepted}
 use Rattle.cat_app.specs.Words.{Request, request_of}
 use Rattle.cat_app.specs.Asked.{IsReadNow}
-use Rattle.cat_app.specs.Answers.{line, status_of}
+use Rattle.cat_app.specs.Lines.{line, status_of}
 use Rattle.cat_app.specs.Checks.{HasCertificate, HasNoCertificate}
 use Rattle.cat_app.specs.Table.{MayReply}
 use Rattle.cat_app.specs.declared.request.Mode.TheVariants.{Run, Check}

@@ -18,7 +18,7 @@ use Rattle.cat_weave.specs.Gathered.{Contents}
 use Rattle.cat_weave.specs.declared.source.Source.{Source}
 use Rattle.cat_app.specs.Words.{Request, request}
 use Rattle.cat_app.specs.Asked.{IsAsked}
-use Rattle.cat_app.specs.Answers.{input_line, line, status_of}
+use Rattle.cat_app.specs.Lines.{input_line, line, status_of}
 use Rattle.cat_app.specs.Audits.{HasReport}
 use Rattle.cat_app.specs.declared.request.Mode.TheVariants.{Run}
 use Rattle.cat_app.specs.declared.status.Status.{Status}

@@ -1,4 +1,5 @@
 pub mod Table
+pub mod Lines
 pub mod Answers
 pub mod Audits
 pub mod Checks
@@ -12,6 +13,7 @@ pub mod AuditEnds
 pub mod DrillEnds
 pub mod Limits
 pub mod EmitEnds
+pub mod TraceEnds
 pub mod Texts
 pub mod Numbers
 pub mod Runs

@@ -1,3 +1,4 @@
+pub mod AskedWords
 pub mod Once
 pub mod Says
 pub mod SaysOfBands

@@ -75,7 +75,7 @@ pub(crate) fn report_of(
         alloc,
         &built.program,
         forests,
-        &built.calc,
+        &built.code,
         scope,
         u64::from(most),
     )

@@ -11,8 +11,8 @@ ghost use Rattle.cat_app.specs.Drills.{HasLine, bands_request, bands_shelf};
 ghost use Rattle.cat_app.specs.inside.SaysOfBands.{GathersBands, MaySayOfBands, SaysLine};
 
 use crate::audited::{last_verdict, report_of};
+use crate::ran::tell;
 use crate::reply::Reply;
-use crate::scoped::tell;
 use crate::texts::{no_scope, refuse_gathering, refuse_input, refuse_source};
 use crate::{Ran, Status, drill_source, leaf_count, run_all};
 use cat_audit::verdict_text;
@@ -96,7 +96,7 @@ fn drill_scope(
     requires named { number_named bands_request.scope 0 built.now.program.decls.scopes ≡ Some scope }
     ensures { IfOk result (MaySayOfBands bands) }
 {
-    let ran = run_all(alloc, &built.program, &built.calc, scope, bands)?;
+    let ran = run_all(alloc, &built.program, &built.code, scope, bands)?;
     match ran {
         Ran::Sum(sum) => audit_bands(alloc, bands, source, built, scope, sum),
         Ran::Stopped(outcome) => {

@@ -8,6 +8,7 @@ mod drilled;
 mod leaves;
 mod listed;
 mod number;
+mod ran;
 mod reply;
 mod request;
 mod runs;

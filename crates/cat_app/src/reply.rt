@@ -2,7 +2,7 @@
 ghost use Rattle.std.specs.Prelude.{◌≡◌, IfOk, OnErr, string_bytes};
 ghost use Rattle.cat_io.specs.Stored.{texts_of};
 ghost use Rattle.cat_app.specs.Table.{ListsOne, MayReply};
-ghost use Rattle.cat_app.specs.inside.Says.{HasBands};
+ghost use Rattle.cat_app.specs.inside.AskedWords.{HasBands};
 ghost use Rattle.cat_app.specs.inside.SaysOfBands.{MayTellTo};
 
 use crate::Status;

@@ -4,7 +4,7 @@ ghost use Rattle.cat_io.specs.Stored.{texts_of};
 ghost use Rattle.cat_words.specs.Asked.{asked_of as words_of};
 ghost use Rattle.cat_app.specs.Limits.{most_bands};
 ghost use Rattle.cat_app.specs.Words.{ask_by, bands_by, bands_from, mode_by, request_by};
-ghost use Rattle.cat_app.specs.inside.Says.{ask_in, asked_of, AsksFor, HasBands, HasNumber};
+ghost use Rattle.cat_app.specs.inside.AskedWords.{ask_in, asked_of, AsksFor, HasBands, HasNumber};
 
 use crate::bands_in;
 use cat_words::CommandLine;
@@ -17,6 +17,9 @@ pub enum Mode {
     Audit,
     Check,
     Emit,
+    /// The code is listed as by `Emit`, and run on an input.
+    EmitRun,
+    Trace,
 }
 
 /// What is asked for, with the names of the source and of the input or the certificate, and the number of cases.
@@ -36,7 +39,7 @@ pub enum AskedFor<'a> {
     Drill(u32),
 }
 
-/// The mode that goes by this name, where it takes EXTRA or none is given.
+/// The mode that goes by this name, with or without EXTRA.
 fn mode_of(name: &str, has_extra: bool) -> Option<Mode>
     ensures { result ≡ mode_by name.now has_extra }
 {
@@ -46,16 +49,19 @@ fn mode_of(name: &str, has_extra: bool) -> Option<Mode>
     if name == "check" {
         return Some(Mode::Check);
     }
+    if name == "trace" {
+        return Some(Mode::Trace);
+    }
     if name == "audit" && !has_extra {
         return Some(Mode::Audit);
     }
-    if name == "emit" && !has_extra {
-        return Some(Mode::Emit);
+    if name == "emit" {
+        return Some(if has_extra { Mode::EmitRun } else { Mode::Emit });
     }
     None
 }
 
-/// What a command line asks for. EXTRA is standard input where it isn't given.
+/// What a command line asks for. EXTRA is standard input where a mode reads it and it isn't given.
 fn asked_words(line: CommandLine<'_>) -> Option<AskedWords<'_>>
     ensures asked { (cases : Option (List ℕ))
         → option_map (asked_of cases) result ≡ request_by cases (words_of line.entry) }

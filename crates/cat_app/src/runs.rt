@@ -1,15 +1,16 @@
 // The runs of a drill.
 ghost use Rattle.std.specs.Prelude.{◌≡◌, ◌≢◌, ◌<◌, ◌≤◌, IfOk, Some, Ok as OkSeen, length, option_map};
 ghost use Rattle.cat_value.specs.declared.outcome.Outcome.TheVariants.{Value as ValueSeen};
-ghost use Rattle.cat_audit.specs.Reports.{IsCalcOf};
+ghost use Rattle.cat_machine.specs.ForPrograms.{IsCodeFor};
 ghost use Rattle.cat_app.specs.Limits.{most_bands};
 ghost use Rattle.cat_app.specs.Runs.{AreRunsOf, rate_of};
 ghost use Rattle.cat_app.specs.inside.Once.{RunsOnce, rate_in};
 
 use crate::source::income_input;
-use cat_calc::Calc;
-use cat_evaluate::evaluate;
+use cat_code::Code;
 use cat_json::{InputRefusal, read_input};
+use cat_machine::execute_clean;
+use cat_pool::Pool;
 use cat_scope::Program;
 use cat_value::{Outcome, Value};
 use std::alloc::{AllocError, Global};
@@ -52,17 +53,21 @@ fn rate_in(outcome: &Outcome) -> Option<i64>
 fn run_once(
     alloc: Global,
     program: &Program,
-    calc: &Calc,
+    code: &Code,
+    pool: &mut Pool,
     scope: u32,
     units: u32,
 ) -> Result<Result<Outcome, InputRefusal>, AllocError>
-    requires calc { IsCalcOf program.now calc.now }
+    requires code { ∥ IsCodeFor program.now code.now ∥₁ }
     requires scope { scope < length program.now.decls.scopes }
     ensures { IfOk result (RunsOnce program.now scope units) }
 {
     let text = income_input(alloc, units)?;
     match read_input(alloc, text.as_bytes(), program.decls(), scope) {
-        Ok(input) => Ok(Ok(evaluate(alloc, calc, scope, &input)?)),
+        Ok(input) => {
+            let outcome = execute_clean(alloc, code, scope, &input, pool)?;
+            Ok(Ok(outcome))
+        }
         Err(InputRefusal::Memory) => Err(AllocError),
         Err(refusal) => Ok(Err(refusal)),
     }
@@ -73,18 +78,19 @@ fn run_once(
 pub fn run_all(
     alloc: Global,
     program: &Program,
-    calc: &Calc,
+    code: &Code,
     scope: u32,
     bands: u32,
 ) -> Result<Ran, AllocError>
-    requires calc { IsCalcOf program.now calc.now }
+    requires code { ∥ IsCodeFor program.now code.now ∥₁ }
     requires scope { scope < length program.now.decls.scopes }
     requires bands { bands ≤ most_bands }
     ensures { IfOk result (AreRunsOf program.now scope bands) }
 {
+    let mut pool = Pool::new(alloc);
     let mut sum = 0i64;
     for run in 0..RUNS {
-        let outcome = match run_once(alloc, program, calc, scope, run * bands)? {
+        let outcome = match run_once(alloc, program, code, &mut pool, scope, run * bands)? {
             Ok(outcome) => outcome,
             Err(refusal) => return Ok(Ran::Refused(refusal)),
         };

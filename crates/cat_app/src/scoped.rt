@@ -1,28 +1,24 @@
-// What is asked of a scope: the source first, and then an audit, a check, a listing, or the outcome on an input.
-ghost use Rattle.std.specs.Prelude.{◌≡◌, ◌<◌, IfOk, OnErr, Some, length};
+// What is asked of a scope: the source first, and then an audit, a check, a listing, or a run on an input.
+ghost use Rattle.std.specs.Prelude.{◌≡◌, IfOk, IsTrue, OnErr, Some};
 ghost use Rattle.cat_scope.specs.Named.{number_named};
-ghost use Rattle.cat_calc.specs.Calculus.{calc_outcome};
 ghost use Rattle.cat_weave.specs.Causes.{AreReadableTogether};
-ghost use Rattle.cat_value.specs.Inputs.{IsWellTyped};
 ghost use Rattle.cat_build.specs.Built.{IsBuiltOf};
-ghost use Rattle.cat_app.specs.Answers.{status_of};
+ghost use Rattle.cat_app.specs.Words.{runs_scope};
 ghost use Rattle.cat_app.specs.Table.{ListsOne};
-ghost use Rattle.cat_app.specs.inside.Says.{IsGathered, MayTell, SaysOf, SaysOutcome};
+ghost use Rattle.cat_app.specs.inside.AskedWords.{IsGathered};
+ghost use Rattle.cat_app.specs.inside.Says.{MayTell};
 
-use crate::Status;
 use crate::audited::{audited, most_of};
 use crate::checked::checked;
 use crate::listed::listed;
+use crate::ran::ran;
 use crate::reply::Reply;
 use crate::request::{AskedWords, Mode};
 use crate::texts::{no_scope, refuse_file, refuse_gathering, refuse_input, refuse_source};
-use cat_answer::answer_text;
 use cat_build::{BuildRefusal, Built, build};
-use cat_evaluate::evaluate;
 use cat_io::{Shelf, read_all};
 use cat_json::read_input;
-use cat_pos::{Files, MOST_INPUT_BYTES};
-use cat_value::{Decls, Input, Outcome};
+use cat_pos::MOST_INPUT_BYTES;
 use cat_weave::{Source, gather};
 use std::alloc::{AllocError, Global};
 
@@ -85,7 +81,9 @@ fn answer_for<S: Shelf>(
     ensures lists { OnErr result (ListsOne (S.state shelf.old) (S.state shelf.new)) }
 {
     match asked.mode {
-        Mode::Run => run_scope(alloc, asked, source, built, scope, shelf),
+        Mode::Run | Mode::EmitRun | Mode::Trace => run_scope(
+            alloc, asked, source, built, scope, shelf,
+        ),
         Mode::Check => check_scope(alloc, asked, source, built, scope, shelf),
         Mode::Audit => audited(alloc, source, built, scope, most_of(asked.cases)),
         Mode::Emit => listed(alloc, source, built),
@@ -104,7 +102,7 @@ fn run_scope<S: Shelf>(
     requires gathered { IsGathered asked (S.state shelf.old) source.now }
     requires built { IsBuiltOf source.now.pieces built.now }
     requires named { number_named asked.scope.now 0 built.now.program.decls.scopes ≡ Some scope }
-    requires mode { asked.mode ≡ Mode.Run }
+    requires mode { IsTrue (runs_scope asked.mode) }
     ensures told { (S.state shelf.new).content ≡ (S.state shelf.old).content }
     ensures may { IfOk result (MayTell asked.entry (S.state shelf.old) (S.state shelf.new)) }
     ensures lists { OnErr result (ListsOne (S.state shelf.old) (S.state shelf.new)) }
@@ -114,7 +112,7 @@ fn run_scope<S: Shelf>(
         Err(fault) => return refuse_file(alloc, asked.extra, fault),
     };
     match read_input(alloc, &extra, built.program.decls(), scope) {
-        Ok(input) => answer(alloc, &source.files, built, scope, &input),
+        Ok(input) => ran(alloc, asked.mode, source, built, scope, &input),
         Err(refusal) => refuse_input(alloc, refusal),
     }
 }
@@ -139,50 +137,5 @@ fn check_scope<S: Shelf>(
     match read_all(alloc, shelf, asked.extra, MOST_INPUT_BYTES) {
         Ok(bytes) => checked(alloc, source, built, scope, &bytes),
         Err(fault) => refuse_file(alloc, asked.extra, fault),
-    }
-}
-
-/// What the scope comes to on the input.
-fn answer(
-    alloc: Global,
-    files: &Files,
-    built: &Built,
-    scope: u32,
-    input: &Input,
-) -> Result<Reply, AllocError>
-    requires scope { scope < length built.now.program.decls.scopes }
-    requires typed { IsWellTyped built.now.calc.decls scope input.now }
-    ensures { IfOk result (SaysOf built.now.program.decls scope files.now
-        (calc_outcome built.now.calc scope input.now)) }
-{
-    let outcome = evaluate(alloc, &built.calc, scope, input)?;
-    tell(alloc, files, built.program.decls(), scope, &outcome)
-}
-
-/// The line of an outcome, with its status.
-pub(crate) fn tell(
-    alloc: Global,
-    files: &Files,
-    decls: &Decls,
-    scope: u32,
-    outcome: &Outcome,
-) -> Result<Reply, AllocError>
-    requires { scope < length decls.now.scopes }
-    ensures { IfOk result (SaysOutcome decls.now scope files.now outcome.now) }
-{
-    let mut text = answer_text(alloc, outcome, decls, scope, files)?;
-    text.push_str("\n")?;
-    let status = ended(outcome);
-    Ok(Reply { status, text })
-}
-
-fn ended(outcome: &Outcome) -> Status
-    ensures { result ≡ status_of outcome.now }
-{
-    match outcome {
-        Outcome::Value(_) => Status::Fine,
-        Outcome::Conflict(_, _) => Status::Conflict,
-        Outcome::NoValue(_, _) => Status::NoValue,
-        Outcome::Fault(_, _) => Status::Fault,
     }
 }

@@ -2,7 +2,7 @@
 ghost use Rattle.std.specs.Prelude.{◌≡◌, [], IfOk, codes, string_bytes};
 ghost use Rattle.cat_answer.specs.Answer as answers;
 ghost use Rattle.cat_build.specs.Codes.{number_of};
-ghost use Rattle.cat_app.specs.Answers.{line, part_line, refusal_line};
+ghost use Rattle.cat_app.specs.Lines.{line, part_line, refusal_line};
 ghost use Rattle.cat_app.specs.inside.Says.{Says, SaysFault, SaysGathering, SaysInput};
 
 use crate::Status;

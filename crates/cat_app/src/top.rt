@@ -11,7 +11,8 @@ ghost use Rattle.cat_app.specs.Complete.{NoFileRose, RepliesFit, IsToldCheck, Is
 ghost use Rattle.cat_app.specs.Complete.{is_fault, is_reply};
 ghost use Rattle.cat_app.specs.AuditEnds.{IsToldAudit, EndsAudit};
 ghost use Rattle.cat_app.specs.DrillEnds.{EndsDrill, IsToldDrill};
-ghost use Rattle.cat_app.specs.EmitEnds.{EndsEmit, IsToldEmit};
+ghost use Rattle.cat_app.specs.EmitEnds.{EndsEmit, EndsEmitRun, IsToldEmit, IsToldEmitRun};
+ghost use Rattle.cat_app.specs.TraceEnds.{EndsTrace, IsToldTrace};
 
 use crate::Status;
 use crate::reply::whole_reply;
@@ -24,7 +25,7 @@ use std::alloc::Global;
 ///
 /// | Status | What is written |
 /// |---|---|
-/// | `Fine`, `Conflict`, `NoValue`, `Fault` | of a run, the scope's outcome on the input |
+/// | `Fine`, `Conflict`, `NoValue`, `Fault` | of a run, the scope's outcome on the input; of an emit with an input, that behind the code and its steps; of a trace, that behind what decided each judging |
 /// | `Fine` | of an audit, a complete report and its certificate |
 /// | `Found`, `Unsettled` | the report of an audit |
 /// | `Fine`, `Certificate` | of a check, a yes, or why the certificate is refused |
@@ -81,6 +82,20 @@ pub fn catala<S: Shelf, K: Sink>(
     ensures an_emit_writes_the_listing { (request : Request) (source : Source) (program : Program) (scope : ℕ)
         → IsToldEmit (texts_of words.now) (S.state shelf.old) request source program scope
         → EndsEmit (K.state sink.old) (K.state sink.new) source program result }
+
+    // With an input the number of steps that the listed code itself takes on it is written behind the listing, and then
+    // the line that a run writes, with its status.
+    ensures an_emit_with_an_input_writes_its_steps { (request : Request) (source : Source) (program : Program)
+        (scope : ℕ) (input : List (Option Value))
+        → IsToldEmitRun (texts_of words.now) (S.state shelf.old) request source program scope input
+        → EndsEmitRun (K.state sink.old) (K.state sink.new) source program scope input result }
+
+    // What decided each judging that ended in the run of the scope is written, a line each under the heading over the
+    // definition, and then the line that a run writes, with its status.
+    ensures a_trace_writes_what_decided { (request : Request) (source : Source) (program : Program) (scope : ℕ)
+        (input : List (Option Value))
+        → IsToldTrace (texts_of words.now) (S.state shelf.old) request source program scope input
+        → EndsTrace (K.state sink.old) (K.state sink.new) source program scope input result }
 
     // The line of a drill has the sum of the rates of its runs, the leaves of the trees of its audit, and the verdict.
     ensures a_drill_writes_its_line { (bands : ℕ) (source : Source) (program : Program) (scope : ℕ)

@@ -1,15 +1,9 @@
 -- The report of an audit.
-use Rattle.std.specs.Prelude.{◌≡◌, ◌<◌, ◌≤◌, ℕ, List, [], ◌∷◌, ◌++◌, map, length}
-use Rattle.cat_pos.specs.declared.limits.TheConstants.{ENTRIES_BOUND}
+use Rattle.std.specs.Prelude.{◌≡◌, ℕ, List, [], ◌∷◌, ◌++◌, map}
 use Rattle.cat_scope.specs.declared.programs.Program.{Program}
-use Rattle.cat_scope.specs.Names.{AllHave}
-use Rattle.cat_calc.specs.declared.calcs.Calc.{Calc}
-use Rattle.cat_calc.specs.Desugared.{KeepsOutcomes}
 use Rattle.cat_guard.specs.declared.table.Table.{Table}
 use Rattle.cat_guard.specs.declared.tree.CaseTree.{CaseTree}
-use Rattle.cat_guard.specs.Tables.{TablesScope}
 use Rattle.cat_audit.specs.declared.finding.TargetLine.{TargetLine}
-use Rattle.cat_depend.specs.Reached.{AreReachedFrom}
 use Rattle.cat_audit.specs.declared.report.Verdict.{Verdict}
 use Rattle.cat_audit.specs.declared.report.Verdict.TheVariants as verdict
 use Rattle.cat_audit.specs.declared.report.Section.{Section}
@@ -17,13 +11,6 @@ use Rattle.cat_audit.specs.declared.report.Report.{Report}
 use Rattle.cat_audit.specs.Called.{verdict_in}
 use Rattle.cat_audit.specs.Sections.{IsSection}
 use Rattle.cat_audit_table.specs.AuditedTables.{AreTablesOf}
-
--- default terms are those of a program
-pub record IsCalcOf (program : Program) (calc : Calc) : Type 0 where
-  pub declared : calc.decls ≡ program.decls
-  pub outcomes : KeepsOutcomes program calc
-
--- ---- reports
 
 -- a section for each table
 abbrev pub AreSections : Program → ℕ → (ℕ → Verdict) → List Table → List (List TargetLine) → List Section → Type 0

@@ -1,15 +1,17 @@
 // The audit of a scope.
 ghost use Rattle.std.specs.Prelude.{◌<◌, IfOk, length};
 ghost use Rattle.cat_scope.specs.AllForests.{AreForestsOf};
-ghost use Rattle.cat_audit.specs.Reports.{IsCalcOf, IsReport};
+ghost use Rattle.cat_machine.specs.ForPrograms.{IsCodeFor};
+ghost use Rattle.cat_audit.specs.Reports.{IsReport};
 ghost use Rattle.cat_audit_table.specs.AuditedTables.{AreTablesOf, IsCounted};
 
 use crate::report::{Report, Section, Verdict};
 use crate::section::section_of;
 use cat_audit_table::audited_tables;
-use cat_calc::Calc;
+use cat_code::Code;
 use cat_depend::audited_scopes_have_what_they_call;
 use cat_guard::ScopeTables;
+use cat_pool::Pool;
 use cat_pos::List;
 use cat_scope::{Forest, Program, programs_are_well_formed};
 use std::alloc::{AllocError, Global};
@@ -18,12 +20,13 @@ use std::alloc::{AllocError, Global};
 fn report_over(
     alloc: Global,
     program: &Program,
-    calc: &Calc,
+    code: &Code,
+    pool: &mut Pool,
     tables: ScopeTables,
     scope: u32,
     budget: u64,
 ) -> Result<Report, AllocError>
-    requires calc { IsCalcOf program.now calc.now }
+    requires code { ∥ IsCodeFor program.now code.now ∥₁ }
     requires tables { AreTablesOf program.now scope tables }
     requires budget { 0 < budget }
     ensures { IfOk result (IsReport program.now scope budget) }
@@ -34,7 +37,9 @@ fn report_over(
     let mut sections = List::new(alloc);
     let mut trees = List::new(alloc);
     for table in tables.as_slice() {
-        let section = section_of(alloc, program, calc, table, budget, &verdicts, &mut trees)?;
+        let section = section_of(
+            alloc, program, code, pool, table, budget, &verdicts, &mut trees,
+        )?;
         verdicts[table.scope as usize] = section.verdict;
         sections.push(section)?;
     }
@@ -51,17 +56,18 @@ pub fn audit(
     alloc: Global,
     program: &Program,
     forests: &[Forest],
-    calc: &Calc,
+    code: &Code,
     scope: u32,
     budget: u64,
 ) -> Result<Report, AllocError>
     requires counted { IsCounted program.now }
     requires forests { AreForestsOf program.now forests.now }
-    requires calc { IsCalcOf program.now calc.now }
+    requires code { ∥ IsCodeFor program.now code.now ∥₁ }
     requires scope { scope < length program.now.bodies }
     requires budget { 0 < budget }
     ensures { IfOk result (IsReport program.now scope budget) }
 {
     let tables = audited_tables(alloc, program, forests, scope)?;
-    report_over(alloc, program, calc, tables, scope, budget)
+    let mut pool = Pool::new(alloc);
+    report_over(alloc, program, code, &mut pool, tables, scope, budget)
 }

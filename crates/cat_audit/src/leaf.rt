@@ -1,19 +1,20 @@
 // The finding of one region.
 ghost use Rattle.std.specs.Prelude.{◌≡◌, ◌<◌, Some, IsSome, IsTrue, IfOk, IfSome, length, slice_get};
 ghost use Rattle.cat_region.specs.Regions.{IsInhabited};
-ghost use Rattle.cat_calc.specs.Desugared.{KeepsOutcomes};
 ghost use Rattle.cat_guard.specs.Judged.{judged_in};
 ghost use Rattle.cat_guard.specs.Tables.{TablesScope};
 ghost use Rattle.cat_guard.specs.Valuations.{dims_of};
 ghost use Rattle.cat_guard.specs.Judgements.{is_bad};
+ghost use Rattle.cat_machine.specs.ForPrograms.{IsCodeFor};
 ghost use Rattle.cat_audit.specs.Findings.{finding_of, finding_in};
 
 use crate::cause::undecided_at;
 use crate::finding::Finding;
 use cat_audit_sound::{bad_regions_of_free_terms_fail, input_of};
-use cat_calc::Calc;
-use cat_evaluate::evaluate;
+use cat_code::Code;
 use cat_guard::Table;
+use cat_machine::execute_clean;
+use cat_pool::Pool;
 use cat_pos::Pos;
 use cat_region::{Region, regions_are_sound};
 use cat_scope::Program;
@@ -45,14 +46,14 @@ fn finding_of(at: Option<Pos>, input: Input, outcome: Outcome) -> Finding
 pub(crate) fn finding_in(
     alloc: Global,
     program: &Program,
-    calc: &Calc,
+    code: &Code,
+    pool: &mut Pool,
     table: &Table,
     target: u32,
     region: Region,
 ) -> Result<Finding, AllocError>
     requires tabled { TablesScope program.now table.now.scope table.now }
-    requires declared { calc.now.decls ≡ program.now.decls }
-    requires outcomes { KeepsOutcomes program.now calc.now }
+    requires code { ∥ IsCodeFor program.now code.now ∥₁ }
     requires target { target < length table.now.targets }
     requires dims { region.dims ≡ dims_of table.now.terms }
     requires inhabited { IsInhabited region }
@@ -63,9 +64,8 @@ pub(crate) fn finding_in(
 {
     bad_regions_of_free_terms_fail(program, table);
     regions_are_sound(&region);
-    let decls = calc.decls();
-    let input = input_of(alloc, table, decls, &region)?;
-    let outcome = evaluate(alloc, calc, table.scope, &input)?;
+    let input = input_of(alloc, table, program.decls(), &region)?;
+    let outcome = execute_clean(alloc, code, table.scope, &input, pool)?;
     let at = undecided_at(table, target, region);
     Ok(finding_of(at, input, outcome))
 }

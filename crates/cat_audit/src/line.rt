@@ -1,7 +1,7 @@
 // The line of a target.
 ghost use Rattle.std.specs.Prelude.{◌≡◌, ◌<◌, IfOk, IfSome, length, slice_get};
-ghost use Rattle.cat_calc.specs.Desugared.{KeepsOutcomes};
 ghost use Rattle.cat_guard.specs.Tables.{TablesScope};
+ghost use Rattle.cat_machine.specs.ForPrograms.{IsCodeFor};
 ghost use Rattle.cat_search.specs.Searched.{roomy};
 ghost use Rattle.cat_audit.specs.Causes.{HasCause};
 ghost use Rattle.cat_audit.specs.Lines.{IsLineOf, line_by, tree_in};
@@ -11,8 +11,9 @@ use crate::finding::{Finding, Line, TargetLine};
 use crate::finding_laws::tables_admit_something;
 use crate::tried::tried;
 use cat_audit_sound::inputs_of_valuations_are_well_typed;
-use cat_calc::Calc;
+use cat_code::Code;
 use cat_guard::{Table, TreeNode};
+use cat_pool::Pool;
 use cat_region::{Region, points_are_admitted};
 use cat_scope::Program;
 use cat_search::{
@@ -73,15 +74,15 @@ fn line_by(found: Option<Finding>, search: Search) -> TargetLine
 pub fn target_line(
     alloc: Global,
     program: &Program,
-    calc: &Calc,
+    code: &Code,
+    pool: &mut Pool,
     table: &Table,
     target: u32,
     budget: u64,
     whole: Region,
 ) -> Result<(TargetLine, Region), AllocError>
     requires tabled { TablesScope program.now table.now.scope table.now }
-    requires declared { calc.now.decls ≡ program.now.decls }
-    requires outcomes { KeepsOutcomes program.now calc.now }
+    requires code { ∥ IsCodeFor program.now code.now ∥₁ }
     requires target { target < length table.now.targets }
     requires budget { 0 < budget }
     requires whole { whole ≡ roomy table.now.terms table.now.atoms }
@@ -99,6 +100,6 @@ pub fn target_line(
     let (search, whole) = search_in(alloc, table, target, budget, whole)?;
     let nodes = nodes_of(&search);
     let bad = bad_of(&search);
-    let found = tried(alloc, program, calc, table, target, nodes, bad)?;
+    let found = tried(alloc, program, code, pool, table, target, nodes, bad)?;
     Ok((line_by(found, search), whole))
 }

@@ -1,15 +1,16 @@
 // The section of one scope.
 ghost use Rattle.std.specs.Prelude.{◌≡◌, ◌<◌, IfOk, length};
 ghost use Rattle.cat_guard.specs.Tables.{TablesScope};
-ghost use Rattle.cat_audit.specs.Reports.{IsCalcOf};
+ghost use Rattle.cat_machine.specs.ForPrograms.{IsCodeFor};
 ghost use Rattle.cat_audit.specs.Sections.{is_found, is_masked, is_undecided, any_line, verdict_of};
 ghost use Rattle.cat_audit.specs.inside.Underway.{HasLines, MakesSection};
 
 use crate::called::called_lines;
 use crate::report::{CalledLine, CaseTrees, NamedLine, NamedLines, Section, Verdict};
 use crate::{Finding, Line, TargetLine, target_line};
-use cat_calc::Calc;
+use cat_code::Code;
 use cat_guard::{Table, whole_region};
+use cat_pool::Pool;
 use cat_pos::List;
 use cat_scope::Program;
 use std::alloc::{AllocError, Global};
@@ -73,13 +74,14 @@ fn verdict_of(lines: &[NamedLine], called: &[CalledLine]) -> Verdict
 fn target_lines(
     alloc: Global,
     program: &Program,
-    calc: &Calc,
+    code: &Code,
+    pool: &mut Pool,
     table: &Table,
     budget: u64,
     trees: &mut CaseTrees,
 ) -> Result<NamedLines, AllocError>
     requires tabled { TablesScope program.now table.now.scope table.now }
-    requires calc { IsCalcOf program.now calc.now }
+    requires code { ∥ IsCodeFor program.now code.now ∥₁ }
     requires budget { 0 < budget }
     ensures { IfOk result (HasLines program.now table.now budget trees.old trees.new) }
 {
@@ -89,7 +91,7 @@ fn target_lines(
         let Ok(number) = u32::try_from(number) else {
             return Err(AllocError);
         };
-        let (made, back) = target_line(alloc, program, calc, table, number, budget, whole)?;
+        let (made, back) = target_line(alloc, program, code, pool, table, number, budget, whole)?;
         whole = back;
         let TargetLine { line, tree } = made;
         let name = target.name.copy()?;
@@ -103,7 +105,8 @@ fn target_lines(
 pub(crate) fn section_of(
     alloc: Global,
     program: &Program,
-    calc: &Calc,
+    code: &Code,
+    pool: &mut Pool,
     table: &Table,
     budget: u64,
     verdicts: &[Verdict],
@@ -111,11 +114,11 @@ pub(crate) fn section_of(
 ) -> Result<Section, AllocError>
     requires tabled { TablesScope program.now table.now.scope table.now }
     requires scope { table.now.scope < length program.now.bodies }
-    requires calc { IsCalcOf program.now calc.now }
+    requires code { ∥ IsCodeFor program.now code.now ∥₁ }
     requires budget { 0 < budget }
     ensures { IfOk result (MakesSection program.now budget verdicts.now table.now trees.old trees.new) }
 {
-    let lines = target_lines(alloc, program, calc, table, budget, trees)?;
+    let lines = target_lines(alloc, program, code, pool, table, budget, trees)?;
     let called = called_lines(alloc, program, table.scope, verdicts)?;
     let verdict = verdict_of(lines.as_slice(), called.as_slice());
     Ok(Section {

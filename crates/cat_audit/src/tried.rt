@@ -2,8 +2,8 @@
 ghost use Rattle.std.specs.Prelude.{◌≡◌, ◌<◌, ◌≤◌, ℕ, [], None, IsTrue, IfOk, OnOk, IfSome, length, map, slice_get};
 ghost use Rattle.std.specs.Prelude.{take};
 ghost use Rattle.std.specs.List.{slice_range};
-ghost use Rattle.cat_calc.specs.Desugared.{KeepsOutcomes};
 ghost use Rattle.cat_guard.specs.Tables.{TablesScope};
+ghost use Rattle.cat_machine.specs.ForPrograms.{IsCodeFor};
 ghost use Rattle.cat_search.specs.Ways.{ask_below, way_from};
 ghost use Rattle.cat_audit.specs.Lines.{is_found, is_masked, findings, counting};
 ghost use Rattle.cat_audit.specs.inside.Tried.{kept, region_at, AreBadFrom};
@@ -11,8 +11,9 @@ ghost use Rattle.cat_audit.specs.inside.Tried.{kept, region_at, AreBadFrom};
 use crate::finding::Finding;
 use crate::hanging::hang_alone;
 use crate::leaf::finding_in;
-use cat_calc::Calc;
+use cat_code::Code;
 use cat_guard::{Table, TreeNode};
+use cat_pool::Pool;
 use cat_scope::Program;
 use cat_search::{BadLeaf, Way};
 use std::alloc::{AllocError, Global};
@@ -57,15 +58,15 @@ fn go_to(way: &mut Way, nodes: &[TreeNode], from: usize, to: usize) -> Result<()
 pub(crate) fn tried(
     alloc: Global,
     program: &Program,
-    calc: &Calc,
+    code: &Code,
+    pool: &mut Pool,
     table: &Table,
     target: u32,
     nodes: &[TreeNode],
     bad: &[BadLeaf],
 ) -> Result<Option<Finding>, AllocError>
     requires tabled { TablesScope program.now table.now.scope table.now }
-    requires declared { calc.now.decls ≡ program.now.decls }
-    requires outcomes { KeepsOutcomes program.now calc.now }
+    requires code { ∥ IsCodeFor program.now code.now ∥₁ }
     requires target { target < length table.now.targets }
     requires asked { (n : ℕ) → IsTrue (ask_below (length table.now.atoms) (way_from [] (take n nodes.now))) }
     requires bad { IfSome (slice_get table.now.targets target) (λ t. AreBadFrom table.now t nodes.now 0 bad.now) }
@@ -86,7 +87,7 @@ pub(crate) fn tried(
         }
         default_is_run |= hangs;
         let region = way.region(alloc, table)?;
-        let next = finding_in(alloc, program, calc, table, target, region)?;
+        let next = finding_in(alloc, program, code, pool, table, target, region)?;
         if is_found(&next) {
             return Ok(Some(next));
         }

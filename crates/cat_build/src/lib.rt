@@ -1,5 +1,5 @@
-//! Builds the gathered pieces of a source into a program, the forests of its exceptions, its default terms and its jump
-//! code; or tells what is at fault in it.
+//! Builds the gathered pieces of a source into a program, the forests of its exceptions, and its jump code; or tells what
+//! is at fault in it.
 #![tactic(auto)]
 
 ghost use Rattle.std.specs.Prelude.{IfOk, IfErr};
@@ -17,7 +17,7 @@ pub use crate::forests::Forests;
 use crate::forests::forests_of;
 use crate::front::program_in;
 use crate::lowered::code_of;
-use cat_calc::{Calc, desugar};
+use cat_calc::desugar;
 use cat_code::Code;
 use cat_scope::Program;
 use cat_weave::Source;
@@ -28,12 +28,11 @@ pub use laws::{
 };
 use std::alloc::Global;
 
-/// A program, the forest of each of its scopes, its default terms, and its jump code.
+/// A program, the forest of each of its scopes, and its jump code.
 #[derive(Drop)]
 pub struct Built {
     pub program: Program,
     pub forests: Forests,
-    pub calc: Calc,
     pub code: Code,
 }
 
@@ -52,7 +51,6 @@ pub fn build(alloc: Global, source: &Source) -> Result<Built, BuildRefusal>
     Ok(Built {
         program,
         forests,
-        calc,
         code,
     })
 }

@@ -1,7 +1,7 @@
 // The code of a program.
 ghost use Rattle.std.specs.Prelude.{◌≡◌, IfOk};
 ghost use Rattle.cat_calc.specs.Desugared.{KeepsOutcomes, KeepsDeciders};
-ghost use Rattle.cat_build.specs.Built.{IsCodeFor};
+ghost use Rattle.cat_machine.specs.ForPrograms.{IsCodeFor};
 
 use cat_calc::Calc;
 use cat_code::Code;

@@ -1,4 +1,1 @@
-pub mod Ends
-pub mod Beginnings
-pub mod Steps
-pub mod Calculating
+pub mod Outcomes

@@ -23,7 +23,8 @@ use Rattle.cat_build.specs.Causes.{StandsAt}
 use Rattle.cat_build.specs.Codes.{number_of}
 use Rattle.cat_app.specs.Words.{Ask, OfBands, OfScope, Request, ask_of}
 use Rattle.cat_app.specs.Asked.{IsSource, IsAsked}
-use Rattle.cat_app.specs.Answers.{line, refusal_line, gathering_line, IsOutcome, IsRefusedFile, IsRefusedSource}
+use Rattle.cat_app.specs.Answers.{IsOutcome, IsRefusedFile, IsRefusedSource}
+use Rattle.cat_app.specs.Lines.{line, refusal_line, gathering_line}
 use Rattle.cat_app.specs.Answers.{IsNoScope, IsRefusedInput, IsRefusedRead}
 use Rattle.cat_app.specs.Audits.{IsAudited}
 use Rattle.cat_app.specs.declared.request.Mode.TheVariants.{Check, Emit}
@@ -138,8 +139,8 @@ module _ (request : Request) (old : Shelved) where
   -- ---- a source that is gathered
 
   module _ (laws : Laws) (source : Source) (is : gathered old.content request.file ≡ Whole source)
-      (told : (s : Source) (program : Program) (scope : ℕ) → IsAsked request old s program scope
-      → IsSome (old.content request.extra)) where
+      (is_run : IsRun request) (told : (s : Source) (program : Program) (scope : ℕ)
+      → IsAsked request old s program scope → IsSome (old.content request.extra)) where
     source_is : (other : Source) → IsSource request old other → other ≡ source
     source_is other read =
         let same : Whole other ≡ Whole source =
@@ -193,7 +194,7 @@ module _ (request : Request) (old : Shelved) where
     outcome_room : TextRoom HasOutcome
     outcome_room = meant_room HasOutcome
         (λ m text has. let o = has.2 in line_meant m o.source o.program o.scope text o.asked
-        (outcome_is request old has.0 has.1 text o (told o.source o.program o.scope o.asked)))
+        (outcome_is request old has.0 is_run has.1 text o (told o.source o.program o.scope o.asked)))
         (λ text has. let o = has.2 in meaning_of o.source o.program o.scope o.asked)
         (meaning_decided laws source.pieces readable)
 
@@ -246,7 +247,7 @@ module _ (request : Request) (old : Shelved) where
 
   module _ (laws : Laws) (told : TellsRun old request) where
     comes_by : (end : Ending Source) → gathered old.content request.file ≡ end → TextRoom Comes
-    comes_by (Whole source) is = whole_room laws source is told.input
+    comes_by (Whole source) is = whole_room laws source is told.mode told.input
     comes_by (Refused refusal) is = refused_room refusal is
     comes_by (StopsAt name bytes) is = absurd (subst (λ (e : Ending Source). IsTold e) is told.source)
 

@@ -1,5 +1,5 @@
 -- Over told contents, an outcome and a refusal of an input have one text.
-use Rattle.std.proofs.Common.{◌≡◌, ◌∙◌, ℕ, List, [], Option, Some, None, Result, Ok, Err, sym, ap}
+use Rattle.std.proofs.Common.{◌≡◌, ◌∙◌, ◌++◌, ℕ, List, [], Option, Some, None, Result, Ok, Err, sym, ap, subst}
 use Rattle.std.proofs.Common.{option_map}
 use Rattle.std.specs.Prelude.{IfSome, IsSome}
 use Rattle.cat_io.specs.Shelf.{Shelved}
@@ -17,8 +17,11 @@ use Rattle.cat_answer.specs.Answer.{answer_of}
 use Rattle.cat_weave.specs.declared.source.Source.{Source}
 use Rattle.cat_app.specs.Words.{Request}
 use Rattle.cat_app.specs.Asked.{IsAsked, IsExtra}
-use Rattle.cat_app.specs.Answers.{line, input_line, IsOutcome, IsRefusedInput}
+use Rattle.cat_app.specs.Answers.{IsOutcome, IsRefusedInput, TellsOutcome}
+use Rattle.cat_app.specs.Lines.{line, input_line}
+use Rattle.cat_app.specs.declared.request.Mode.{Mode}
 use Rattle.cat_app.specs.declared.status.Status.{Status}
+use Rattle.cat_laws.specs.Told.{IsRun}
 
 -- the outcome of a scope, by the parts of its program
 abbrev outcome_by : Decls → List Body → List ℕ → ℕ → List (Option Value) → Option Outcome
@@ -67,12 +70,15 @@ module _ (request : Request) (old new : Shelved) where
       ∙ (ap (told_line program.decls program.bodies program.scope_order source.files (Some scope)) content
       ∙ ap (read_line program.decls program.bodies program.scope_order source.files scope) is)
 
-  pub outcome_is : (ended : Status) (text : List ℕ) (o : IsOutcome request old new ended text)
+  pub outcome_is : IsRun request → (ended : Status) (text : List ℕ) (o : IsOutcome request old new ended text)
       → IsSome (old.content request.extra)
       → run_line request old o.program.decls o.program.bodies o.program.scope_order o.source.files ≡ Some text
-  outcome_is ended text o some =
+  outcome_is is_run ended text o some =
+      let here = subst (λ (m : Mode). TellsOutcome m o.source o.program o.scope o.input ended text) is_run o.tells in
+      let told = line (answer_of o.program.decls o.scope o.source.files here.outcome) [] in
+      let alone : text ≡ told = here.reply ∙ ap (λ (f : List ℕ). f ++ told) here.front_is in
       line_is o.source o.program o.scope o.extra (Ok o.input) o.asked some o.extra_read o.input_is
-      ∙ (ap (outcome_line o.program.decls o.scope o.source.files) o.outcome_is ∙ ap Some (sym o.reply))
+      ∙ (ap (outcome_line o.program.decls o.scope o.source.files) here.outcome_is ∙ ap Some (sym alone))
 
   pub refusal_is : (text : List ℕ) (o : IsRefusedInput request old new text) → IsSome (old.content request.extra)
       → run_line request old o.program.decls o.program.bodies o.program.scope_order o.source.files ≡ Some text

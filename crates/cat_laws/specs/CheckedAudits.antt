@@ -8,7 +8,7 @@ use Rattle.cat_audit.specs.declared.report.Report.{Report}
 use Rattle.cat_audit.specs.declared.report.Verdict.TheVariants.{Complete}
 use Rattle.cat_audit.specs.Reports.{last_verdict}
 use Rattle.cat_app.specs.Words.{Request, IsMost}
-use Rattle.cat_app.specs.Answers.{line}
+use Rattle.cat_app.specs.Lines.{line}
 use Rattle.cat_app.specs.Audits.{HasReport, audit_text}
 use Rattle.cat_app.specs.declared.status.Status.{Status}
 use Rattle.cat_app.specs.declared.status.Status.TheVariants.{Fine, Memory, ReadFault, WriteFault}

@@ -1,9 +1,10 @@
 -- What the steps of a call say.
-use Rattle.std.specs.Prelude.{◌≡◌, ◌≤◌, ◌⊎◌, List, [], ℕ, Option, Some, IfSome, option_map, string_bytes, codes}
+use Rattle.std.specs.Prelude.{◌≡◌, ◌⊎◌, List, [], ℕ, Option, Some, string_bytes, codes}
 use Rattle.cat_io.specs.Shelf.{Shelved}
 use Rattle.cat_io.specs.declared.shelf.ShelfFault.{ShelfFault}
 use Rattle.cat_io.specs.declared.shelf.ShelfFault.TheVariants as shelf
 use Rattle.cat_value.specs.declared.decls.Decls.{Decls}
+use Rattle.cat_value.specs.declared.value.Value.{Value}
 use Rattle.cat_value.specs.declared.outcome.Outcome.{Outcome}
 use Rattle.cat_scope.specs.declared.programs.Program.{Program}
 use Rattle.cat_scope.specs.Names.{AllHave}
@@ -18,57 +19,21 @@ use Rattle.cat_answer.specs.Answer.{answer_of}
 use Rattle.cat_weave.specs.declared.source.Source.{Source}
 use Rattle.cat_weave.specs.declared.source.GatherRefusal.{GatherRefusal}
 use Rattle.cat_weave.specs.declared.source.GatherRefusal.TheVariants as gathering
-use Rattle.cat_weave.specs.Gathered.{Whole}
-use Rattle.cat_weave.specs.Causes.{HasEnding}
 use Rattle.cat_words.specs.Asked.{IsCases}
-use Rattle.cat_app.specs.Limits.{most_bands}
-use Rattle.cat_app.specs.Words.{Ask, OfBands, OfScope, Request, ask_of, cases_in, request}
-use Rattle.cat_app.specs.Answers.{line, status_of, gathering_line, input_line}
+use Rattle.cat_app.specs.Words.{Request}
+use Rattle.cat_app.specs.inside.AskedWords.{asked_of}
+use Rattle.cat_app.specs.Answers.{TellsOutcome}
+use Rattle.cat_app.specs.Lines.{line, status_of, gathering_line, input_line}
 use Rattle.cat_cert.specs.declared.refusal.CertRefusal.{CertRefusal}
 use Rattle.cat_app.specs.Checks.{HasCertificate, HasNoCertificate, certificate_line}
 use Rattle.cat_app.specs.Audits.{HasReport, audit_text, status_at}
 use Rattle.cat_app.specs.Table.{MayAnswer}
-use Rattle.cat_app.specs.declared.request.AskedFor.{AskedFor}
-use Rattle.cat_app.specs.declared.request.AskedFor.TheVariants as asking
 use Rattle.cat_app.specs.declared.request.AskedWords.{AskedWords}
+use Rattle.cat_app.specs.declared.request.Mode.{Mode}
 use Rattle.cat_app.specs.declared.reply.Reply.{Reply}
 use Rattle.cat_app.specs.declared.status.Status.{Status}
 use Rattle.cat_app.specs.declared.status.Status.TheVariants.{Certificate, Fine, Input, Missing, ReadFault, TooLarge}
 use Rattle.cat_app.specs.declared.status.Status.TheVariants.{Source as SourceStatus}
-
--- the request of these words, where the number of cases has this text
-abbrev pub asked_of : Option (List ℕ) → AskedWords → Request
-asked_of cases asked = request asked.mode asked.scope.now asked.file.now asked.extra.now cases
-
--- this may be what is gathered of the main file that is asked for
-abbrev pub IsGathered : AskedWords → Shelved → Source → Type 0
-IsGathered asked shelf source = HasEnding shelf.content asked.file.now (Whole source)
-
--- what is asked by these words, where the number of cases has this text
-abbrev pub ask_in : Option (List ℕ) → AskedFor → Ask
-ask_in cases (asking.Scope asked) = OfScope (asked_of cases asked)
-ask_in cases (asking.Drill bands) = OfBands bands
-
--- the number of cases has this text, where something is asked of a scope
-abbrev pub HasCases : Option (List ℕ) → AskedFor → Type 0
-HasCases cases (asking.Scope asked) = IsCases cases asked.cases
-HasCases cases (asking.Drill bands) = Unit {0}
-
--- there is no other number of cases than this, where something is asked of a scope
-abbrev pub HasNumber : ℕ → AskedFor → Type 0
-HasNumber number (asking.Scope asked) = asked.cases ≡ number
-HasNumber number (asking.Drill bands) = Unit {0}
-
--- a drill may have so many bands, where one is asked for
-abbrev pub HasBands : AskedFor → Type 0
-HasBands (asking.Scope asked) = Unit {0}
-HasBands (asking.Drill bands) = (1 ≤ bands) × (bands ≤ most_bands)
-
--- words ask for this
-pub record AsksFor (words : List (List ℕ)) (asked : Option AskedFor) : Type 0 where
-  pub ask_is : option_map (ask_in (cases_in words)) asked ≡ ask_of words
-  pub cases_are : IfSome asked (HasCases (cases_in words))
-  pub bands_are : IfSome asked HasBands
 
 -- a reply has this status and this text
 abbrev pub Says : Status → List ℕ → Reply → Type 0
@@ -133,9 +98,7 @@ pub record SaysReport (program : Program) (scope most : ℕ) (files : List (List
   pub again : AllHave (RunAgain program) report.sections
   pub says : Says (status_at (last_verdict report.sections)) (audit_text program.decls files most report) reply
 
--- a reply tells of an outcome, where there is one
-pub record SaysOf (decls : Decls) (scope : ℕ) (names : List (List ℕ)) (found : Option Outcome) (reply : Reply) : Type 0
-  where
-    pub outcome : Outcome
-    pub found_is : found ≡ Some outcome
-    pub says : SaysOutcome decls scope names outcome reply
+-- a reply tells what a scope gives on an input, as a mode asks for it
+abbrev pub SaysRun : Mode → Source → Program → ℕ → List (Option Value) → Reply → Type 0
+SaysRun mode source program scope input reply =
+    TellsOutcome mode source program scope input reply.status (string_bytes reply.text)

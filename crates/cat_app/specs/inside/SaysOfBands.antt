@@ -9,7 +9,7 @@ use Rattle.cat_weave.specs.Gathered.{Refused, Whole}
 use Rattle.cat_weave.specs.Causes.{AreReadableTogether, HasEnding}
 use Rattle.cat_app.specs.Drills.{HasLine, bands_request, bands_shelf}
 use Rattle.cat_app.specs.Table.{MayAnswerTo, MayDrill}
-use Rattle.cat_app.specs.inside.Says.{HasCases, ask_in}
+use Rattle.cat_app.specs.inside.AskedWords.{HasCases, ask_in}
 use Rattle.cat_app.specs.declared.request.AskedFor.{AskedFor}
 use Rattle.cat_app.specs.declared.reply.Reply.{Reply}
 use Rattle.cat_app.specs.declared.status.Status.TheVariants.{Fine}

@@ -1,5 +1,5 @@
 use Rattle.std.proofs.Common.{refl}
-use Rattle.cat_app.specs.inside.Says.{asked_of}
+use Rattle.cat_app.specs.inside.AskedWords.{asked_of}
 use Rattle.cat_app.proofs.Replies.{if_ok, asked_for, a_listing, a_report, most_is, named_within}
 use Rattle.cat_app.proofs.scoped.answer_for.Goals as goal
 

@@ -1,4 +1,4 @@
-use Rattle.cat_app.specs.inside.Says.{asked_of}
+use Rattle.cat_app.specs.inside.AskedWords.{asked_of}
 use Rattle.cat_app.proofs.Replies.{if_ok, no_source}
 use Rattle.cat_app.proofs.scoped.scope_reply.Goals as goal
 

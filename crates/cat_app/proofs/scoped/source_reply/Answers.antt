@@ -1,5 +1,5 @@
 use Rattle.std.proofs.Common.{refl}
-use Rattle.cat_app.specs.inside.Says.{asked_of}
+use Rattle.cat_app.specs.inside.AskedWords.{asked_of}
 use Rattle.cat_app.proofs.Replies.{if_ok, no_scope}
 use Rattle.cat_app.proofs.scoped.source_reply.Goals as goal
 

@@ -1,9 +1,10 @@
 use Rattle.cat_io.specs.Stored.{texts_of}
-use Rattle.cat_app.proofs.Complete.{ends_audit, ends_check, ends_run}
+use Rattle.cat_app.proofs.Complete.{ends_audit, ends_check}
 use Rattle.cat_app.proofs.DrillEnds.{ends_drill}
 use Rattle.cat_app.proofs.EmitEnds.{ends_emit}
 use Rattle.cat_app.proofs.Faults.{no_fault}
 use Rattle.cat_app.proofs.Putting.{reply_untouched}
+use Rattle.cat_app.proofs.RunEnds.{emit_run_ends, run_ends, trace_ends}
 use Rattle.cat_app.proofs.top.catala.Goals as goal
 
 pub returns-clause-a_fault_comes_only_where_a_count_rose : goal.returns-clause-a_fault_comes_only_where_a_count_rose
@@ -16,10 +17,9 @@ returns-clause-a_reply_comes_only_where_no_count_rose g c is =
 
 pub returns-clause-a_run_writes_the_outcome : goal.returns-clause-a_run_writes_the_outcome
 returns-clause-a_run_writes_the_outcome g c request source program scope input run =
-    ends_run c.pieces_have_one_program.ensures c.refused_pieces_are_not_accepted.ensures
+    run_ends c.pieces_have_one_program.ensures c.refused_pieces_are_not_accepted.ensures
     c.told_sources_are_gathered.ensures.endings c.told_sources_are_gathered.ensures.files (texts_of c.args.words.now) _
-    _
-    _ _ request source program scope run.told input run c.answer.result c.answer.ensures.answers
+    _ _ _ request source program scope input run c.answer.result c.answer.ensures.answers
 
 pub returns-clause-an_audit_writes_the_report : goal.returns-clause-an_audit_writes_the_report
 returns-clause-an_audit_writes_the_report g c request source program scope audit =
@@ -41,6 +41,19 @@ returns-clause-an_emit_writes_the_listing g c request source program scope emit 
     c.told_sources_are_gathered.ensures.endings c.told_sources_are_gathered.ensures.files (texts_of c.args.words.now) _
     _
     _ _ request source program scope emit.told emit.mode c.answer.result c.answer.ensures.answers
+
+pub returns-clause-an_emit_with_an_input_writes_its_steps :
+    goal.returns-clause-an_emit_with_an_input_writes_its_steps
+returns-clause-an_emit_with_an_input_writes_its_steps g c request source program scope input run =
+    emit_run_ends c.pieces_have_one_program.ensures c.refused_pieces_are_not_accepted.ensures
+    c.told_sources_are_gathered.ensures.endings c.told_sources_are_gathered.ensures.files (texts_of c.args.words.now) _
+    _ _ _ request source program scope input run c.answer.result c.answer.ensures.answers
+
+pub returns-clause-a_trace_writes_what_decided : goal.returns-clause-a_trace_writes_what_decided
+returns-clause-a_trace_writes_what_decided g c request source program scope input run =
+    trace_ends c.pieces_have_one_program.ensures c.refused_pieces_are_not_accepted.ensures
+    c.told_sources_are_gathered.ensures.endings c.told_sources_are_gathered.ensures.files (texts_of c.args.words.now) _
+    _ _ _ request source program scope input run c.answer.result c.answer.ensures.answers
 
 pub returns-clause-a_drill_writes_its_line : goal.returns-clause-a_drill_writes_its_line
 returns-clause-a_drill_writes_its_line g c bands source program scope drill =

@@ -1,4 +1,0 @@
-pub mod Steps
-pub mod ItemForms
-pub mod Outputs
-pub mod CallInputs

@@ -1,5 +1,0 @@
-pub mod Nodes
-pub mod Falls
-pub mod Telling
-pub mod Scalars
-pub mod Parts
