@@ -1,16 +1,40 @@
 """What tools/measure tells of audits: of bands, beside z3 and beside the check of the certificate, of deep certificates, and of
-`drill`.
+`drill`, beside C in which its bands are compiled.
 
 Of the forms in which z3 may be asked this is the fastest that was found: truth values for the bounds, in their order. With an
 integer in their place it takes up to ten times as long; with a sum of indicators, `at-least`, all pairs, or one band after
 another, longer still. Its general solver and its SAT solver are asked, and the sooner answer counts."""
 import random, shutil, subprocess, sys
 
-from measure_runs import measured
+from measure_runs import compiled, measured
 
 COUNTS = 100, 1_000, 10_000
 MOST = 600
 SOLVERS = '(check-sat)', '(check-sat-using (then simplify sat))'
+# A drill's runs, done as often as a word says: what is asked of each income, and how far one is from the one before.
+AGAIN = 200
+DRILL = '''#include <stdio.h>
+#include <stdlib.h>
+static int rate(long long income, int *held) {
+  int found = 0;
+  *held = 0;
+%s
+  return found;
+}
+int main(int count, char **words) {
+  long long sum = 0;
+  for (int again = count > 1 ? atoi(words[1]) : 1; again; again--) {
+    volatile long long step = %d;
+    sum = 0;
+    for (int run = 0; run < 1000; run++) {
+      int held, found = rate(run * step, &held);
+      if (held != 1) return 1;
+      sum += found;
+    }
+  }
+  printf("%%lld\\n", sum);
+}
+'''
 HEAD = ['```catala', 'declaration scope Bands:', '  input income content money', '  output rate content integer', 'scope Bands:']
 
 
@@ -116,12 +140,23 @@ def certificates(folder, program):
             print('%d splits: %r' % (splits, reply[:100]), file=sys.stderr)
 
 
+def drill_in_c(made):
+    """The runs of a drill: of each income each band is asked, so that a second one that has it would be seen."""
+    asked = [joined(band, ['income >= %dLL', 'income < %dLL'], ' && ') or '1' for band in made]
+    lines = ['  if (%s) { found = %d; ++*held; }' % (text, k) for k, text in enumerate(asked)]
+    return DRILL % ('\n'.join(lines), len(made))
+
+
 def drills(folder, program):
-    print('\n| Bands of `drill` | time | memory |\n|---|---|---|')
+    """Beside the same runs in C: a whole call, and of many runs in one call those of one."""
+    print('\n| Bands of `drill` | time | memory | in C | times | in C without start-up |\n|---|---|---|---|---|---|')
     for count in (1, 10, 100, 1_000):
         took, memory, reply = measured(folder, [program, 'drill', str(count), 'none'], most=MOST)
+        in_c = compiled(folder, 'drill.c', drill_in_c(bands(count, 'in order')), ['cc'])
+        other, _, told = measured(folder, [in_c])
+        again, _, _ = measured(folder, [in_c, str(AGAIN)])
         total = sum(run * count // 1_000 for run in range(1_000))
         want = 'bands %d runs 1000 sum %d leaves %d Complete\n' % (count, total, count)
-        print('| %d | %s |' % (count, cells(took, memory)), flush=True)
-        if reply != want.encode():
-            print('differs: %r and by the rules %r' % (reply[:100], want), file=sys.stderr)
+        print('| %d | %s | %.4f s | %.0f | %.5f s |' % (count, cells(took, memory), other, took / other, again / AGAIN), flush=True)
+        if [reply, told] != [want.encode(), b'%d\n' % total]:
+            print('differs: %r, in C %r and by the rules %r' % (reply[:100], told[:100], want), file=sys.stderr)

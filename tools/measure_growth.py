@@ -31,6 +31,10 @@ def emit(text):
     return Call(['emit', 'S', 'a.md'], {'a.md': text}, reply=b'catala-code 1\n')
 
 
+def trace(text, given, reply):
+    return Call(['trace', 'S', 'a.md'], {'a.md': text}, json.dumps(given).encode(), reply)
+
+
 def grid(count):
     """A rule for each cell of a square of two amounts; so many rules or a few less."""
     side = int(count ** 0.5)
@@ -107,6 +111,13 @@ def turned(count):
     return head + 'T {' + ''.join(' --' + part for part in reversed(given.split(' --')[1:])) + ' }' + rest
 
 
+def articles(count):
+    """A law of so many articles, each of which defines a variable under its heading."""
+    declared = ['declaration scope S:', '  input n content integer', *('  output x%d content integer' % k for k in range(count))]
+    return block(declared) + ''.join('# Article %d\n%s' % (k, block(['scope S:', '  definition x%d equals n + %d' % (k, k)]))
+                                     for k in range(count))
+
+
 def unknown_keys(count):
     """An input with so many keys that name nothing."""
     return {'n': 1, **{'k%d' % k: 0 for k in range(count)}}
@@ -153,6 +164,7 @@ WORK = [
     ('the code of variables of a scope', lambda n: emit(items(n)), 4_000),
     ('the code of scopes', lambda n: emit(scopes(n)), 32_000),
     ('the code of a structure literal, the last field first', lambda n: emit(turned(n)), 64_000),
+    ('a trace of articles', lambda n: trace(articles(n), {'n': 1}, b'S.x0 by a.md:'), 4_000),
     ('a drill', lambda n: Call(['drill', str(n), 'none'], {}, reply=b'bands %d ' % n), 1_000),
 ]
 

@@ -4,7 +4,7 @@ Each peer reads standard input by its library into that library's own tree, adds
 import json, shutil, subprocess, sys
 
 from measure_growth import persons
-from measure_runs import measured
+from measure_runs import compiled, measured
 
 COUNTS = 10_000, 100_000, 1_000_000
 JANSSON = '''#include <jansson.h>
@@ -31,31 +31,6 @@ int main() {
 }
 '''
 PYTHON = 'import json, sys; print(\'{"x":%d}\' % sum(p["income"] for p in json.load(sys.stdin)["l"]))'
-# A statute of brackets over a list of persons: what is read of the JSON, in front of the brackets.
-READ_PERSONS = '''#include <jansson.h>
-#include <stdio.h>
-int main(void) {
-  json_t *all = json_loadf(stdin, 0, NULL), *list = json_object_get(all, "persons"), *one;
-  size_t k;
-  long long t = 0, a;
-  int b;
-  json_array_foreach(list, k, one) {
-    sscanf(json_string_value(json_object_get(one, "income")), "%%lld.%%d", &a, &b);
-    long long c = a * 100 + b;
-%s
-  }
-  printf("{\\"total\\":\\"%%lld.%%02lld\\"}\\n", t / 100, t %% 100);
-}
-'''
-
-
-def compiled(folder, name, text, words):
-    """A peer, or nothing where its compiler or its library is missing."""
-    source, made = folder / name, folder / name.replace('.', '_')
-    source.write_text(text)
-    ended = subprocess.run([*words, '-O2', '-o', made, source, *(['-ljansson'] if 'jansson.h' in text else [])],
-                           stdout=subprocess.DEVNULL, stderr=subprocess.DEVNULL)
-    return str(made) if ended.returncode == 0 else None
 
 
 def peers(folder):

@@ -1,8 +1,7 @@
 """Sources to tokens, and these to their tree, by sources that are refused behind, beside a plain parser of the same grammar in C."""
 import pathlib, subprocess, sys
 import measure_sources as sources
-from measure_json import compiled
-from measure_runs import measured
+from measure_runs import compiled, measured
 
 PARSER = (pathlib.Path(__file__).resolve().parent / 'parser.c').read_text()
 SIZES = (2**20 // 10, 2**20, 4 * 2**20, 16 * 2**20)

@@ -1,4 +1,4 @@
-"""Runs a program three times, for the tables of tools/measure."""
+"""Compiles what stands beside the program, and runs a program three times, for the tables of tools/measure."""
 import subprocess, sys
 
 LONG = 60
@@ -18,6 +18,15 @@ if child == 0:
 used = os.wait4(child, 0)[2]
 print(used.ru_utime + used.ru_stime, used.ru_maxrss / 1024)
 '''
+
+
+def compiled(folder, name, text, words):
+    """A peer, or nothing where its compiler or its library is missing."""
+    source, made = folder / name, folder / name.replace('.', '_')
+    source.write_text(text)
+    ended = subprocess.run([*words, '-O2', '-o', made, source, *(['-ljansson'] if 'jansson.h' in text else [])],
+                           stdout=subprocess.DEVNULL, stderr=subprocess.DEVNULL)
+    return str(made) if ended.returncode == 0 else None
 
 
 def measured(folder, words, given=b'', most=0):

@@ -5,16 +5,18 @@ from .answers import Program, replies
 from .cases import TOP, case_folders, files_of, is_computed, reply_in, told, words_of
 from .lowering import Lowering, listings
 from .machine import Code
+from .modes import replies as any_replies
 
 STEPS = re.compile(r'At the age of (\d+) the run takes (\d+) steps and gives ([\d.]+), .*; at (\d+) it takes (\d+) and gives ([\d.]+),')
 
 
 def listed_cases():
-    """Each case that lists the code of a source which there is: its name, what it expects, and the replies that the rules allow."""
+    """Each case that lists the code of a source, alone or in front of a run: its name, what it expects, and the replies that the rules
+    allow."""
     for case in case_folders():
-        words, want = words_of(case), reply_in(case)
-        if words[:1] == ['emit'] and not want.startswith(('usage', 'missing file')):
-            yield case.name, want, listings(files_of(case), words[2], words[1])
+        words = words_of(case)
+        if words[:1] == ['emit']:
+            yield case.name, reply_in(case), {text.rstrip('\n') for text, _ in any_replies(words, files_of(case))}
 
 
 def laws():
@@ -37,20 +39,33 @@ def code_of(files, main):
     return Code(Lowering(Program(files, main)).listing())
 
 
-def runs_of_code():
-    """Each run of a case and each input of a statute that is run by the code of its source: its name, the reply, and what the code
-    gives."""
+def case_codes():
+    """Each case that runs a scope of a source which there is: the case, the code of the source, the scope and the input."""
     for case in filter(is_computed, case_folders()):
         words, files = words_of(case), files_of(case)
         code = code_of(files, words[2])
         if code and words[-1] in {*files, words[2]}:
-            reply = code.run(words[1], files[(words[3:] or ['-'])[0]])[0]
-            yield '%s by its code' % case.name, told(reply_in(case), {reply}), {reply}
-    for folder, files, scope in laws():
+            yield case, code, words[1], files[(words[3:] or ['-'])[0]]
+
+
+def statute_codes():
+    """Each input of each statute: its file, the code of the statute, its scope and the input."""
+    for folder, _, scope in laws():
         code = Code((folder / 'listing.txt').read_text())
         for given in sorted(folder.glob('*.json')):
-            reply = code.run(scope, given.read_bytes())[0]
-            yield '%s %s by its code' % (folder.name, given.stem), replies(files, 'law.md', scope, given.read_bytes()).pop(), {reply}
+            yield given, code, scope, given.read_bytes()
+
+
+def runs_of_code():
+    """Each run of a case and each input of a statute that is run by the code of its source: its name, the reply, and what the code
+    gives."""
+    for case, code, scope, data in case_codes():
+        reply = code.run(scope, data)[0]
+        yield '%s by its code' % case.name, told(reply_in(case), {reply}), {reply}
+    for given, code, scope, data in statute_codes():
+        law = {'law.md': (given.parent / 'law.md').read_bytes()}
+        yield ('%s %s by its code' % (given.parent.name, given.stem), replies(law, 'law.md', scope, data).pop(),
+               {code.run(scope, data)[0]})
 
 
 def machine_page():

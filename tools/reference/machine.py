@@ -346,7 +346,7 @@ class Code:
     """A listing that runs its scopes on inputs."""
 
     def __init__(self, text, machine=Machine):
-        self.listing, self.machine = Listing(text), machine
+        self.text, self.listing, self.machine = text, Listing(text), machine
 
     def at(self, pos):
         return '%s:%d:%d' % (self.listing.files[pos.file], pos.line, pos.column)
