@@ -5,6 +5,7 @@ from reference.answers import is_allowed, replies
 from reference.certificate import check
 from reference.drill import drill
 from reference.lowering import listings
+from reference.modes import replies as any_replies
 from reference.report import audit
 
 # Of the processor.
@@ -35,8 +36,10 @@ def allowed(files, words, given):
     mode, scope, main, *extra = words
     if mode == 'drill':
         return {drill(words[1:])}
-    if mode == 'emit':
+    if mode == 'emit' and not extra:
         return listings(files, main, scope)
+    if mode in ('emit', 'trace'):
+        return {text.rstrip('\n') for text, _ in any_replies(words, {**files, '-': given})}
     name = extra[0] if extra and not extra[0].startswith('--') else '-'
     data = {**files, '-': given}.get(name)
     if mode == 'run' and data is not None:

@@ -80,7 +80,7 @@ def deep_calls(runs):
     for name, text in DEEP:
         files = {'a.md': text.encode()}
         runs.put(files)
-        for words, status in ((['run', 'S', 'a.md'], 0), (['audit', 'S', 'a.md'], 0), (['emit', 'S', 'a.md'], 0)):
+        for words, status in ((['run', 'S', 'a.md'], 0), (['audit', 'S', 'a.md'], 0), (['emit', 'S', 'a.md', '-'], 0)):
             ended = runs.ended(words, b'{"n":1}', limit='ulimit -s %d' % STACKS[0])
             wrong = out_of_table(words, ended) or ('' if ended.status == status else told(ended))
             yield 'deep calls', '%s in %s' % (name, words[0]), wrong

@@ -98,7 +98,8 @@ def odd_outputs(runs):
     full, source = os.open('/dev/full', os.O_WRONLY), os.open(os.devnull, os.O_RDONLY)
     closed, into_closed = os.pipe()
     os.close(closed)
-    for words in (CALL, ['audit', 'All', 'a.md'], ['emit', 'All', 'a.md'], ['drill', '2', 'none'], [], ['run', 'All', 'none.md']):
+    modes = (['audit', 'All', 'a.md'], ['emit', 'All', 'a.md'], ['trace', 'All', 'a.md', 'input.json'], ['drill', '2', 'none'])
+    for words in (CALL, *modes, [], ['run', 'All', 'none.md']):
         for what, options in (('full', {'stdout': full}), ('closed', {'limit': 'exec >&-'}), ('only read from', {'stdout': source}),
                               ('a closed pipe', {'stdout': into_closed}), ('closed as input is', {'limit': 'exec <&- >&-'})):
             ended = runs.ended(words, **options)

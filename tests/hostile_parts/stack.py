@@ -47,7 +47,7 @@ def spaces(runs, is_sample):
         if is_sample and k > 6:
             break
         runs.put({'a.md': source})
-        for mode in ('run', 'audit', 'check', 'emit')[:1 if is_sample else 4]:
+        for mode in ('run', 'audit', 'check', 'emit', 'trace')[:1 if is_sample else 5]:
             words = [mode, 'S', 'a.md']
             right = runs.ended(words, given)
             for kib in range(begin, begin + ROOM, 16 * STEP if is_sample else 4 * STEP):
@@ -59,7 +59,7 @@ def stacks(runs, is_sample):
     """The deepest sources on half of the smaller stack."""
     for name, source, given in list(deepest())[::4 if is_sample else 1]:
         runs.put({'a.md': source})
-        for mode in ('run', 'audit', 'check', 'emit'):
+        for mode in ('run', 'audit', 'check', 'emit', 'trace'):
             words = [mode, 'S', 'a.md']
             right = runs.ended(words, given)
             ended = runs.ended(words, given, limit='ulimit -s %d' % (STACKS[0] // 2))

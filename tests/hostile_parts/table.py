@@ -12,13 +12,19 @@ DRILLED = rb'bands [0-9]+ runs 1000 sum [0-9]+ leaves [0-9]+ (?:Complete|Found|M
 LISTING = (rb'catala-code 1\n(?:file [^\n]+\n)+(?:structure [^\n]+\n(?:field [^\n]+\n)*)*(?:enumeration [^\n]+\n(?:case [^\n]+\n)*)*'
            rb'(?:scope [^\n]+ [0-9]+\n(?:item [^\n]+\n)*)+(?:target [^\n]+\n)*(?:definition [0-9:]+\n)*(?:function [0-9]+\n)*'
            rb'(?:position [0-9:]+\n)*(?:const [^\n]+\n)*(?:[0-9]+ [a-z]+(?: [0-9]+)*\n)+')
+# What stands in front of the line of a run, where its code is listed.
+COUNTED = rb'%ssteps [0-9]+\n' % LISTING
+# What stands there of a trace.
+DECIDED = rb'(?:%s by (?:none|%s(?: under [^\n]*)?)\n)*' % (NAME, PLACE)
+OUTPUTS = rb'\{[^\n]*\}\n'
 
 # What a mode writes with status 0, as far as its form goes.
 FINE = {
-    'run': rb'\{[^\n]*\}\n',
+    'run': OUTPUTS,
     'audit': rb'(?:%s)+%s' % (AUDITED, CERTIFICATE),
     'check': rb'Yes\n(?:%s)?' % CERTIFICATE,
-    'emit': LISTING,
+    'emit': rb'%s|%s%s' % (LISTING, COUNTED, OUTPUTS),
+    'trace': DECIDED + OUTPUTS,
     'drill': DRILLED,
 }
 TEXTS = {
@@ -38,6 +44,9 @@ TEXTS = {
     13: rb'',
     14: rb'too large %s\n' % NAME,
 }
+STOPS = (1, 2, 3)
+# What may stand in front of a stop, by the mode.
+FRONTS = {'emit': COUNTED, 'trace': DECIDED}
 VERDICTS = {0: {b'Complete'}, 6: {b'Found'}, 7: {b'Masked', b'Undecided'}}
 
 
@@ -47,13 +56,16 @@ def out_of_table(words, ended):
         return 'no answer in time'
     if ended.status < 0:
         return 'signal %d' % -ended.status
-    form = FINE.get(words[0] if words else '') if ended.status == 0 else TEXTS.get(ended.status)
+    mode = words[0] if words else ''
+    form = FINE.get(mode) if ended.status == 0 else TEXTS.get(ended.status)
+    if ended.status in STOPS:
+        form = FRONTS.get(mode, b'') + form
     if form is None or ended.err:
         return 'status %d, %r on standard error' % (ended.status, ended.err[:80])
     if not re.fullmatch(form, ended.out):
         return 'status %d with %r' % (ended.status, ended.out[:80])
-    if words[:1] == ['run'] and ended.status == 0 and not is_json(ended.out):
-        return 'no JSON: %r' % ended.out[:80]
+    if (mode in ('run', 'trace') or mode == 'emit' and words[3:]) and ended.status == 0 and not is_json(ended.out.split(b'\n')[-2]):
+        return 'no JSON: %r' % ended.out[-80:]
     if words[:1] == ['audit'] and ended.status in VERDICTS:
         if re.findall(rb'^verdict (\w+)$', ended.out, re.M)[-1] not in VERDICTS[ended.status]:
             return 'status %d with %r' % (ended.status, ended.out[-80:])

@@ -49,7 +49,8 @@ class Reply:
     # ---- by status
 
     def stopped(self) -> List[Note]:
-        what, name, rest = STOPPED.fullmatch(self.text).groups()
+        outcome = self.text.rpartition('\n')[2]  # Behind the code and its steps, or what decided, where the words ask for these.
+        what, name, rest = STOPPED.fullmatch(outcome).groups()
         places = places_in(rest)
         if what == 'conflict':
             return [outcomes.conflict(self.source, self.pages, places)]

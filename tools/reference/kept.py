@@ -1,8 +1,10 @@
 """What the modes write of the statutes of the examples, which is kept beside each: the traces of its inputs, its tables, and what of it is
-dead."""
+dead; and the cases that ask for a trace."""
 from .answers import Program
+from .cases import case_folders, files_of, reply_in, words_of
 from .dead import dead
 from .listings import laws
+from .modes import replies
 from .tables import table
 from .trace import trace
 
@@ -21,3 +23,11 @@ def statute_modes():
         for mode, text in written.items():
             kept = folder / ('%s.txt' % mode)
             yield kept, kept.read_text().rstrip('\n') if kept.exists() else '', text
+
+
+def traced_cases():
+    """Each case that asks for a trace: its name, what it expects, and the replies that the rules allow."""
+    for case in case_folders():
+        words = words_of(case)
+        if words[:1] == ['trace']:
+            yield case.name, reply_in(case), {text.rstrip('\n') for text, _ in replies(words, files_of(case))}
