@@ -21,8 +21,8 @@ use Rattle.cat_app.specs.Words.{Ask, OfBands, OfScope, Request, ask_of, reads_ex
 use Rattle.cat_app.specs.Asked.{IsSource, IsExtra, IsReadNow}
 use Rattle.cat_app.specs.Answers.{IsOutcome, IsRefusedFile, IsRefusedSource, IsNoScope}
 use Rattle.cat_app.specs.Audits.{HasReport, IsAudited, audit_text, status_at}
-use Rattle.cat_app.specs.Table.{Answers, MayAnswer, MayAnswerTo, MayReply}
-use Rattle.cat_app.specs.declared.request.Mode.TheVariants.{Audit, Check, Emit}
+use Rattle.cat_app.specs.Table.{AnswersAtOnce, MayAnswer, MayAnswerTo, MayReply}
+use Rattle.cat_app.specs.declared.request.Mode.TheVariants.{Audit, Check, Emit, Many}
 use Rattle.cat_app.proofs.ToldSources.{AreNotAccepted, EndingsAreTold, IsOneProgram, no_refused_file, no_refused_source}
 use Rattle.cat_app.proofs.ToldSources.{scope_is_there, told_program, told_scope, told_source}
 use Rattle.cat_app.specs.Complete.{EndsCheck, IsToldCheck, IsToldScope}
@@ -169,13 +169,16 @@ module _ (one_program : IsOneProgram) (not_accepted : AreNotAccepted) (endings :
     not_emit : request.mode ≡ Emit → ⊥
     not_emit emits = cc (emits, audits)
 
+    not_many : request.mode ≡ Many → ⊥
+    not_many many = cc (many, audits)
+
     not_read : IsTrue (reads_extra request.mode) → ⊥
     not_read reads = cc (ap reads_extra audits, reads)
 
     no_outcome : (ended : Status) (text : List ℕ) → IsOutcome request old new ended text → ⊥
     no_outcome ended text o = not_run o.mode
 
-    pub ends_audit : (ended : Status) → Answers words old new sink sunk ended
+    pub ends_audit : (ended : Status) → AnswersAtOnce words old new sink sunk ended
         → EndsAudit sink sunk request source program scope ended
     ends_audit status.Fine is = ⊎_elim (λ o. absurd (no_outcome status.Fine is.0 o))
         (⊎_elim (λ a. report_written status.Fine is.0 a is.2)
@@ -189,7 +192,7 @@ module _ (one_program : IsOneProgram) (not_accepted : AreNotAccepted) (endings :
         absurd (no_outcome status.Fault is.0 (answer_is status.Fault is.0 is.1))
     ends_audit status.Source is = absurd (refused_source is.0 is.1)
     ends_audit status.Input is =
-        let refused = answer_is status.Input is.0 is.1 in absurd (not_run refused.mode)
+        ⊎_elim (λ i. absurd (not_run i.mode)) (λ a. absurd (not_many a.mode)) (answer_is status.Input is.0 is.1)
     ends_audit status.Found is =
         report_written status.Found is.0 (answer_is status.Found is.0 is.1) is.2
     ends_audit status.Unsettled is =
@@ -249,6 +252,9 @@ module _ (one_program : IsOneProgram) (not_accepted : AreNotAccepted) (endings :
     check_audits : request.mode ≡ Audit → ⊥
     check_audits audits = cc (audits, check.mode)
 
+    check_many : request.mode ≡ Many → ⊥
+    check_many many = cc (many, check.mode)
+
     check_emits : request.mode ≡ Emit → ⊥
     check_emits emits = cc (emits, check.mode)
 
@@ -258,7 +264,7 @@ module _ (one_program : IsOneProgram) (not_accepted : AreNotAccepted) (endings :
     no_audit_checked : (ended : Status) (text : List ℕ) → IsAudited request old new ended text → ⊥
     no_audit_checked ended text a = check_audits a.mode
 
-    pub ends_check : (ended : Status) → Answers words old new sink sunk ended
+    pub ends_check : (ended : Status) → AnswersAtOnce words old new sink sunk ended
         → EndsCheck sink sunk program scope extra ended
     ends_check status.Fine is = ⊎_elim (λ o. absurd (no_outcome_checked status.Fine is.0 o))
         (⊎_elim (λ a. absurd (no_audit_checked status.Fine is.0 a))
@@ -272,7 +278,7 @@ module _ (one_program : IsOneProgram) (not_accepted : AreNotAccepted) (endings :
         (no_outcome_checked status.Fault is.0 (answer_is status.Fault is.0 is.1))
     ends_check status.Source is = absurd (refused_source is.0 is.1)
     ends_check status.Input is =
-        let refused = answer_is status.Input is.0 is.1 in absurd (check_runs refused.mode)
+        ⊎_elim (λ i. absurd (check_runs i.mode)) (λ a. absurd (check_many a.mode)) (answer_is status.Input is.0 is.1)
     ends_check status.Found is = absurd
         (no_audit_checked status.Found is.0 (answer_is status.Found is.0 is.1))
     ends_check status.Unsettled is = absurd

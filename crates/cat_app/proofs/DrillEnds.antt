@@ -7,7 +7,7 @@ use Rattle.cat_scope.specs.declared.programs.Program.{Program}
 use Rattle.cat_weave.specs.declared.source.Source.{Source}
 use Rattle.cat_app.specs.Words.{Ask, OfBands, OfScope, ask_of, bands_asked}
 use Rattle.cat_app.specs.Drills.{HasLine, HasRefusedRun, HasStop, IsOfBands, bands_request, bands_shelf}
-use Rattle.cat_app.specs.Table.{Answers, MayAnswerTo, MayDrill, MayReply}
+use Rattle.cat_app.specs.Table.{AnswersAtOnce, MayAnswerTo, MayDrill, MayReply}
 use Rattle.cat_app.specs.DrillEnds.{EndsDrill, IsToldDrill}
 use Rattle.cat_app.specs.declared.status.Status.{Status}
 use Rattle.cat_app.specs.declared.status.Status.TheVariants as status
@@ -15,7 +15,7 @@ use Rattle.cat_app.proofs.ToldSources.{AreNotAccepted, EndingsAreTold, IsOneProg
 use Rattle.cat_app.proofs.ToldSources.{scope_is_there, told_program, told_scope, told_source}
 
 -- where a number of bands is asked for, it is what is asked
-of_bands : (o : Option Ask) (bands : ℕ) → bands_asked o ≡ Some bands → o ≡ Some (OfBands bands)
+pub of_bands : (o : Option Ask) (bands : ℕ) → bands_asked o ≡ Some bands → o ≡ Some (OfBands bands)
 of_bands None bands is = cc is
 of_bands (Some (OfScope request)) bands is = cc is
 of_bands (Some (OfBands other)) bands is = cc is
@@ -42,7 +42,7 @@ module _ (one_program : IsOneProgram) (not_accepted : AreNotAccepted) (endings :
       (subst (λ (p : Program). Says is.source p scope text) (sym programs)
       (subst (λ n. Says is.source is.program n text) (sym scopes) is.says))
 
-  pub ends_drill : (ended : Status) → Answers words old new sink sunk ended
+  pub ends_drill : (ended : Status) → AnswersAtOnce words old new sink sunk ended
       → EndsDrill sink sunk bands source program scope ended
   ends_drill status.Fine is = (is.0, said_here (HasLine bands) is.0 (drill_is status.Fine is.0 is.1), is.2.taken)
   ends_drill status.Conflict is = (

@@ -10,8 +10,8 @@ use Rattle.cat_app.specs.Complete.{IsToldScope}
 use Rattle.cat_app.specs.EmitEnds.{EndsEmit}
 use Rattle.cat_app.specs.Listings.{IsListed, ListsCode}
 use Rattle.cat_app.specs.Asked.{IsReadNow}
-use Rattle.cat_app.specs.Table.{Answers, MayAnswer, MayReply}
-use Rattle.cat_app.specs.declared.request.Mode.TheVariants.{Audit, Check, Emit}
+use Rattle.cat_app.specs.Table.{AnswersAtOnce, MayAnswer, MayReply}
+use Rattle.cat_app.specs.declared.request.Mode.TheVariants.{Audit, Check, Emit, Many}
 use Rattle.cat_app.specs.declared.status.Status.{Status}
 use Rattle.cat_app.specs.declared.status.Status.TheVariants as status
 use Rattle.cat_app.proofs.Complete.{FilesAreTold, answer_is, none_large, none_missing, program_of, refused_source}
@@ -65,7 +65,10 @@ module _ (one_program : IsOneProgram) (not_accepted : AreNotAccepted) (endings :
       subst (λ (s : Source). ListsCode s program text) sources
       (subst (λ (p : Program). ListsCode l.source p text) (sym programs) l.lists)
 
-  pub ends_emit : (ended : Status) → Answers words old new sink sunk ended → EndsEmit sink sunk source program ended
+  many : request.mode ≡ Many → ⊥
+  many is = cc (is, emits)
+
+  pub ends_emit : (ended : Status) → AnswersAtOnce words old new sink sunk ended → EndsEmit sink sunk source program ended
   ends_emit status.Fine is = ⊎_elim (λ o. absurd (runs o.mode))
       (⊎_elim (λ a. absurd (audits a.mode))
       (⊎_elim (λ k. absurd (checks k.mode)) (λ l. (is.0, code_listed is.0 l, is.2.taken))))
@@ -74,7 +77,8 @@ module _ (one_program : IsOneProgram) (not_accepted : AreNotAccepted) (endings :
   ends_emit status.NoValue is = let o = answered status.NoValue is.0 is.1 in absurd (runs o.mode)
   ends_emit status.Fault is = let o = answered status.Fault is.0 is.1 in absurd (runs o.mode)
   ends_emit status.Source is = absurd (no_refusal is.0 is.1)
-  ends_emit status.Input is = let o = answered status.Input is.0 is.1 in absurd (runs o.mode)
+  ends_emit status.Input is =
+      ⊎_elim (λ i. absurd (runs i.mode)) (λ a. absurd (many a.mode)) (answered status.Input is.0 is.1)
   ends_emit status.Found is = let o = answered status.Found is.0 is.1 in absurd (audits o.mode)
   ends_emit status.Unsettled is = let o = answered status.Unsettled is.0 is.1 in absurd (audits o.mode)
   ends_emit status.Certificate is = let o = answered status.Certificate is.0 is.1 in absurd (checks o.mode)

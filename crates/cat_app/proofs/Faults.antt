@@ -1,15 +1,16 @@
 -- A fault is answered only where a count rose.
-use Rattle.std.proofs.Common.{◌≡◌, ◌≢◌, ℕ, false, List, refl, inl, inr}
-use Rattle.std.specs.Prelude.{Option, Some, None, Err, IfSome, codes}
-use Rattle.cat_io.specs.Count.{FaultsRose}
+use Rattle.std.proofs.Common.{◌≡◌, ◌≢◌, ◌≤◌, ℕ, false, List, refl, inl, inr, arith, ⊎_elim}
+use Rattle.std.specs.Prelude.{Option, Some, None, Err, IfSome, IsSomeAnd, codes}
+use Rattle.cat_io.specs.Count.{FaultsRose, next_count}
 use Rattle.cat_io.specs.Shelf.{Shelved, Reads}
 use Rattle.cat_io.specs.Sink.{Sunk}
 use Rattle.cat_io.specs.declared.shelf.ShelfFault.{ShelfFault}
 use Rattle.cat_io.specs.declared.shelf.ShelfFault.TheVariants as shelf
-use Rattle.cat_app.specs.Words.{Ask, OfBands, OfScope, Request, ask_of, request_in}
+use Rattle.cat_app.specs.Words.{Ask, OfBands, OfScope, Request, ask_of, request_in, request_of}
+use Rattle.cat_app.specs.Many.{AnswersByLine}
 use Rattle.cat_app.specs.Asked.{IsReadNow}
 use Rattle.cat_app.specs.Answers.{IsRefusedRead}
-use Rattle.cat_app.specs.Table.{Answers, MayAnswer, MayAnswerTo, MayDrill}
+use Rattle.cat_app.specs.Table.{Answers, AnswersAtOnce, MayAnswer, MayAnswerTo, MayDrill}
 use Rattle.cat_app.specs.Complete.{NameRose, NoFileRose, is_fault}
 use Rattle.cat_app.specs.declared.status.Status.{Status}
 use Rattle.cat_app.specs.declared.status.Status.TheVariants as status
@@ -34,21 +35,45 @@ still : (request : Request) (old new : Shelved) (fault : ShelfFault) (line text 
 still request old new fault line text rises is none =
     none is.name is.limit is.now (rises is.name is.limit is.read)
 
-pub no_fault : (words : List (List ℕ)) (old new : Shelved) (sink sunk : Sunk) (ended : Status)
-    → Answers words old new sink sunk ended → NoFileRose words old new → (FaultsRose sink.faults sunk.faults → ⊥)
+fault_at_once : (words : List (List ℕ)) (old new : Shelved) (sink sunk : Sunk) (ended : Status)
+    → AnswersAtOnce words old new sink sunk ended → NoFileRose words old new → (FaultsRose sink.faults sunk.faults → ⊥)
     → is_fault ended ≡ false
-no_fault words old new sink sunk status.Missing is none steady =
+fault_at_once words old new sink sunk status.Missing is none steady =
     absurd (on_request (IsCalm old new) (ask_of words) old new status.Missing is.0 (λ e. cc e)
     (λ bands may. may) is.1 none
     (λ request refused calm. still request old new shelf.Missing (codes "missing file ") is.0
     (λ name limit reads. inl reads.1) refused calm))
-no_fault words old new sink sunk status.ReadFault is none steady =
+fault_at_once words old new sink sunk status.ReadFault is none steady =
     absurd (on_request (IsCalm old new) (ask_of words) old new status.ReadFault is.0 (λ e. cc e)
     (λ bands may. may) is.1 none (λ request refused calm. still request old new shelf.Failed (codes "read fault ") is.0
     (λ name limit reads. inr (inl reads.1)) refused calm))
-no_fault words old new sink sunk status.TooLarge is none steady =
+fault_at_once words old new sink sunk status.TooLarge is none steady =
     absurd (on_request (IsCalm old new) (ask_of words) old new status.TooLarge is.0 (λ e. cc e)
     (λ bands may. may) is.1 none (λ request refused calm. still request old new shelf.Long (codes "too large ") is.0
     (λ name limit reads. inr (inr reads.1)) refused calm))
-no_fault words old new sink sunk status.WriteFault is none steady = absurd (steady is.failed.rose)
-no_fault words old new sink sunk _ is none steady = refl
+fault_at_once words old new sink sunk status.WriteFault is none steady = absurd (steady is.failed.rose)
+fault_at_once words old new sink sunk _ is none steady = refl
+
+-- a count that rose behind one that is no less rose
+rose_behind : (x y z : ℕ) → x ≤ y → FaultsRose y z → FaultsRose x z
+rose_behind x y z low rose =
+    let less : next_count x ≤ next_count y = omega (arith, low) in omega (arith, less, rose)
+
+-- nor does a line fail where the sink's count stood
+line_fault : (o : Option Request) (old new : Shelved) (sink sunk : Sunk) (ended : Status)
+    → IsSomeAnd o (λ r. AnswersByLine r old new sink sunk ended) → (FaultsRose sink.faults sunk.faults → ⊥)
+    → is_fault ended ≡ false
+line_fault None old new sink sunk ended l steady = absurd l
+line_fault (Some r) old new sink sunk status.Fine l steady = refl
+line_fault (Some r) old new sink sunk status.Memory l steady = refl
+line_fault (Some r) old new sink sunk status.WriteFault l steady =
+    absurd (steady (rose_behind sink.faults l.puts.between.faults sunk.faults l.puts.before.no_fewer
+    l.puts.failed.rose))
+line_fault (Some r) old new sink sunk _ l steady = absurd l.puts
+
+pub no_fault : (words : List (List ℕ)) (old new : Shelved) (sink sunk : Sunk) (ended : Status)
+    → Answers words old new sink sunk ended → NoFileRose words old new → (FaultsRose sink.faults sunk.faults → ⊥)
+    → is_fault ended ≡ false
+no_fault words old new sink sunk ended is none steady =
+    ⊎_elim (λ a. fault_at_once words old new sink sunk ended a none steady)
+    (λ l. line_fault (request_of words) old new sink sunk ended l steady) is

@@ -1,10 +1,11 @@
 -- Which statuses have texts, and what the shelf is left as.
 use Rattle.std.proofs.Common.{◌≡◌, ℕ, true, List, ⊎_elim}
-use Rattle.std.specs.Prelude.{Option, None, Some}
+use Rattle.std.specs.Prelude.{Option, None, Some, IsSomeAnd}
 use Rattle.cat_io.specs.Shelf.{Shelved}
 use Rattle.cat_io.specs.Sink.{Sunk}
-use Rattle.cat_app.specs.Words.{Ask, OfBands, OfScope, Request, ask_of}
-use Rattle.cat_app.specs.Table.{Answers, MayAnswer, MayAnswerTo}
+use Rattle.cat_app.specs.Words.{Ask, OfBands, OfScope, Request, ask_of, request_of}
+use Rattle.cat_app.specs.Many.{AnswersByLine}
+use Rattle.cat_app.specs.Table.{Answers, AnswersAtOnce, MayAnswer, MayAnswerTo}
 use Rattle.cat_app.specs.Complete.{is_reply}
 use Rattle.cat_app.specs.declared.status.Status.{Status}
 use Rattle.cat_app.specs.declared.status.Status.TheVariants as status
@@ -19,7 +20,7 @@ untouched_answer request old new status.Conflict text is may = may.untouched
 untouched_answer request old new status.NoValue text is may = may.untouched
 untouched_answer request old new status.Fault text is may = may.untouched
 untouched_answer request old new status.Source text is may = ⊎_elim (λ f. f.untouched) (λ s. s.untouched) may
-untouched_answer request old new status.Input text is may = may.untouched
+untouched_answer request old new status.Input text is may = ⊎_elim (λ i. i.untouched) (λ a. a.untouched) may
 untouched_answer request old new status.Found text is may = may.untouched
 untouched_answer request old new status.Unsettled text is may = may.untouched
 untouched_answer request old new status.Certificate text is may = may.untouched
@@ -37,30 +38,39 @@ untouched (Some (OfScope request)) old new ended text is may = untouched_answer 
 untouched (Some (OfBands bands)) old new ended text is may = may.0
 
 -- a reply that is a function of words and bytes leaves the shelf as it was
+reply_at_once : (words : List (List ℕ)) (old new : Shelved) (sink sunk : Sunk) (ended : Status)
+    → AnswersAtOnce words old new sink sunk ended → is_reply ended ≡ true → new ≡ old
+reply_at_once words old new sink sunk status.WriteFault is reply = cc reply
+reply_at_once words old new sink sunk status.Memory is reply = cc reply
+reply_at_once words old new sink sunk status.Fine is reply =
+    untouched (ask_of words) old new status.Fine is.0 reply is.1
+reply_at_once words old new sink sunk status.Conflict is reply =
+    untouched (ask_of words) old new status.Conflict is.0 reply is.1
+reply_at_once words old new sink sunk status.NoValue is reply =
+    untouched (ask_of words) old new status.NoValue is.0 reply is.1
+reply_at_once words old new sink sunk status.Fault is reply =
+    untouched (ask_of words) old new status.Fault is.0 reply is.1
+reply_at_once words old new sink sunk status.Source is reply =
+    untouched (ask_of words) old new status.Source is.0 reply is.1
+reply_at_once words old new sink sunk status.Input is reply =
+    untouched (ask_of words) old new status.Input is.0 reply is.1
+reply_at_once words old new sink sunk status.Found is reply =
+    untouched (ask_of words) old new status.Found is.0 reply is.1
+reply_at_once words old new sink sunk status.Unsettled is reply =
+    untouched (ask_of words) old new status.Unsettled is.0 reply is.1
+reply_at_once words old new sink sunk status.Certificate is reply =
+    untouched (ask_of words) old new status.Certificate is.0 reply is.1
+reply_at_once words old new sink sunk status.Usage is reply =
+    untouched (ask_of words) old new status.Usage is.0 reply is.1
+reply_at_once words old new sink sunk status.Missing is reply = cc reply
+reply_at_once words old new sink sunk status.ReadFault is reply = cc reply
+reply_at_once words old new sink sunk status.TooLarge is reply = cc reply
+
 pub reply_untouched : (words : List (List ℕ)) (old new : Shelved) (sink sunk : Sunk) (ended : Status)
     → Answers words old new sink sunk ended → is_reply ended ≡ true → new ≡ old
-reply_untouched words old new sink sunk status.WriteFault is reply = cc reply
-reply_untouched words old new sink sunk status.Memory is reply = cc reply
-reply_untouched words old new sink sunk status.Fine is reply =
-    untouched (ask_of words) old new status.Fine is.0 reply is.1
-reply_untouched words old new sink sunk status.Conflict is reply =
-    untouched (ask_of words) old new status.Conflict is.0 reply is.1
-reply_untouched words old new sink sunk status.NoValue is reply =
-    untouched (ask_of words) old new status.NoValue is.0 reply is.1
-reply_untouched words old new sink sunk status.Fault is reply =
-    untouched (ask_of words) old new status.Fault is.0 reply is.1
-reply_untouched words old new sink sunk status.Source is reply =
-    untouched (ask_of words) old new status.Source is.0 reply is.1
-reply_untouched words old new sink sunk status.Input is reply =
-    untouched (ask_of words) old new status.Input is.0 reply is.1
-reply_untouched words old new sink sunk status.Found is reply =
-    untouched (ask_of words) old new status.Found is.0 reply is.1
-reply_untouched words old new sink sunk status.Unsettled is reply =
-    untouched (ask_of words) old new status.Unsettled is.0 reply is.1
-reply_untouched words old new sink sunk status.Certificate is reply =
-    untouched (ask_of words) old new status.Certificate is.0 reply is.1
-reply_untouched words old new sink sunk status.Usage is reply =
-    untouched (ask_of words) old new status.Usage is.0 reply is.1
-reply_untouched words old new sink sunk status.Missing is reply = cc reply
-reply_untouched words old new sink sunk status.ReadFault is reply = cc reply
-reply_untouched words old new sink sunk status.TooLarge is reply = cc reply
+reply_untouched words old new sink sunk ended is reply =
+    ⊎_elim (λ a. reply_at_once words old new sink sunk ended a reply) (by_line (request_of words)) is
+  where
+    by_line : (o : Option Request) → IsSomeAnd o (λ r. AnswersByLine r old new sink sunk ended) → new ≡ old
+    by_line None l = absurd l
+    by_line (Some r) l = l.untouched

@@ -19,7 +19,7 @@ use Rattle.cat_audit.specs.Reports.{last_verdict}
 use Rattle.cat_listing.specs.Listing.{listing}
 use Rattle.cat_json.specs.declared.refusal.InputRefusal.{InputRefusal}
 use Rattle.cat_json.specs.declared.refusal.InputRefusal.TheVariants as refused
-use Rattle.cat_json.specs.InputsRead.{input_read}
+use Rattle.cat_json.specs.InputsRead.{input_read, inputs_read}
 use Rattle.cat_weave.specs.declared.source.Source.{Source}
 use Rattle.cat_weave.specs.declared.source.GatherRefusal.{GatherRefusal}
 use Rattle.cat_weave.specs.declared.source.GatherRefusal.TheVariants as gathering
@@ -139,6 +139,7 @@ run_reads modes.Trace is = is
 run_reads modes.Audit is = is
 run_reads modes.Check is = refl
 run_reads modes.Emit is = is
+run_reads modes.Many is = refl
 
 -- the input is none of the scope's
 pub no_input : (request : Request) (old new : Shelved) (source : Source) (program : Program) (scope : ℕ)
@@ -146,7 +147,7 @@ pub no_input : (request : Request) (old new : Shelved) (source : Source) (progra
     → input_read program.decls scope extra ≡ Err refusal → SaysInput refusal reply
     → IsAsked request old source program scope → IsTrue (runs_scope request.mode) → MaySay request old new reply
 no_input request old new source program scope extra refusal reply extra_read same none says asked mode =
-    rw says.0 (record {
+    rw says.0 (inl (record {
       source = source;
       program = program;
       scope = scope;
@@ -158,7 +159,27 @@ no_input request old new source program scope extra refusal reply extra_read sam
       refused = none;
       untouched = same;
       reply = says.1;
-    })
+    }))
+
+-- the array is refused as a whole
+pub no_array : (request : Request) (old new : Shelved) (source : Source) (program : Program) (scope : ℕ)
+    (extra : List ℕ) (refusal : InputRefusal) (reply : Reply) → IsExtra request old extra → new ≡ old
+    → inputs_read program.decls scope extra ≡ Err refusal → SaysInput refusal reply
+    → IsAsked request old source program scope → request.mode ≡ modes.Many → MaySay request old new reply
+no_array request old new source program scope extra refusal reply extra_read same none says asked mode =
+    rw says.0 (inr (record {
+      source = source;
+      program = program;
+      scope = scope;
+      extra = extra;
+      refusal = refusal;
+      mode = mode;
+      asked = asked;
+      extra_read = extra_read;
+      refused = none;
+      untouched = same;
+      reply = says.1;
+    }))
 
 -- want of memory refuses no input
 pub not_memory : (refusal : InputRefusal) (reply : Reply) → SaysInput refusal reply → refusal ≢ refused.Memory

@@ -17,9 +17,9 @@ use Rattle.cat_app.specs.Lines.{line}
 use Rattle.cat_app.specs.Complete.{EndsRun, IsToldRun, IsToldScope, WritesOutcome}
 use Rattle.cat_app.specs.EmitEnds.{EndsEmitRun, EndsTold, IsToldEmitRun}
 use Rattle.cat_app.specs.TraceEnds.{EndsTrace, IsToldTrace}
-use Rattle.cat_app.specs.Table.{Answers, MayAnswer, MayReply}
+use Rattle.cat_app.specs.Table.{AnswersAtOnce, MayAnswer, MayReply}
 use Rattle.cat_app.specs.declared.request.Mode.{Mode}
-use Rattle.cat_app.specs.declared.request.Mode.TheVariants.{Run, Audit, Check, Emit, EmitRun, Trace}
+use Rattle.cat_app.specs.declared.request.Mode.TheVariants.{Run, Audit, Check, Emit, EmitRun, Trace, Many}
 use Rattle.cat_app.specs.declared.status.Status.{Status}
 use Rattle.cat_app.specs.declared.status.Status.TheVariants as status
 use Rattle.cat_app.proofs.Complete.{FilesAreTold, answer_is, extra_is, not_large, not_missing, program_of}
@@ -62,6 +62,9 @@ module _ (one_program : IsOneProgram) (not_accepted : AreNotAccepted) (endings :
 
   checks : request.mode ≡ Check → ⊥
   checks is = cc (ap runs_scope is, runs)
+
+  many : request.mode ≡ Many → ⊥
+  many is = cc (ap runs_scope is, runs)
 
   lists : request.mode ≡ Emit → ⊥
   lists is = cc (ap runs_scope is, runs)
@@ -127,7 +130,7 @@ module _ (one_program : IsOneProgram) (not_accepted : AreNotAccepted) (endings :
               (here.reply ∙ ap (λ (f : List ℕ). f ++ alone) here.front_is) took.taken;
         }
 
-    pub ends_run : (ended : Status) → Answers words old new sink sunk ended
+    pub ends_run : (ended : Status) → AnswersAtOnce words old new sink sunk ended
         → EndsRun sink sunk source program scope input ended
     ends_run status.Fine is = outcome_written status.Fine (ends_fine is.0 is.1 is.2)
     ends_run status.Conflict is =
@@ -137,7 +140,8 @@ module _ (one_program : IsOneProgram) (not_accepted : AreNotAccepted) (endings :
     ends_run status.Fault is =
         outcome_written status.Fault (ends_told status.Fault is.0 (answered status.Fault is.0 is.1) is.2)
     ends_run status.Source is = absurd (no_refusal is.0 is.1)
-    ends_run status.Input is = absurd (no_input is.0 (answered status.Input is.0 is.1))
+    ends_run status.Input is =
+        ⊎_elim (λ i. absurd (no_input is.0 i)) (λ a. absurd (many a.mode)) (answered status.Input is.0 is.1)
     ends_run status.Found is = let a = answered status.Found is.0 is.1 in absurd (audits a.mode)
     ends_run status.Unsettled is = let a = answered status.Unsettled is.0 is.1 in absurd (audits a.mode)
     ends_run status.Certificate is = let k = answered status.Certificate is.0 is.1 in absurd (checks k.mode)
@@ -164,7 +168,7 @@ module _ (one_program : IsOneProgram) (not_accepted : AreNotAccepted) (endings :
       took.taken,
     )
 
-    pub ends_so : (ended : Status) → Answers words old new sink sunk ended
+    pub ends_so : (ended : Status) → AnswersAtOnce words old new sink sunk ended
         → EndsTold mode sink sunk source program scope input ended
     ends_so status.Fine is = front_written status.Fine (ends_fine is.0 is.1 is.2)
     ends_so status.Conflict is =
@@ -174,7 +178,8 @@ module _ (one_program : IsOneProgram) (not_accepted : AreNotAccepted) (endings :
     ends_so status.Fault is =
         front_written status.Fault (ends_told status.Fault is.0 (answered status.Fault is.0 is.1) is.2)
     ends_so status.Source is = absurd (no_refusal is.0 is.1)
-    ends_so status.Input is = absurd (no_input is.0 (answered status.Input is.0 is.1))
+    ends_so status.Input is =
+        ⊎_elim (λ i. absurd (no_input is.0 i)) (λ a. absurd (many a.mode)) (answered status.Input is.0 is.1)
     ends_so status.Found is = let a = answered status.Found is.0 is.1 in absurd (audits a.mode)
     ends_so status.Unsettled is = let a = answered status.Unsettled is.0 is.1 in absurd (audits a.mode)
     ends_so status.Certificate is = let k = answered status.Certificate is.0 is.1 in absurd (checks k.mode)
@@ -193,7 +198,7 @@ module _ (one_program : IsOneProgram) (not_accepted : AreNotAccepted) (endings :
 pub run_ends : IsOneProgram → AreNotAccepted → EndingsAreTold → FilesAreTold → (words : List (List ℕ))
     (old new : Shelved) (sink sunk : Sunk) (request : Request) (source : Source) (program : Program) (scope : ℕ)
     (input : List (Option Value)) → IsToldRun words old request source program scope input → (ended : Status)
-    → Answers words old new sink sunk ended → EndsRun sink sunk source program scope input ended
+    → AnswersAtOnce words old new sink sunk ended → EndsRun sink sunk source program scope input ended
 run_ends one_program not_accepted endings files words old new sink sunk request source program scope input run =
     ends_run one_program not_accepted endings files words old new sink sunk request source program scope run.told
     run.extra run.extra_told run.extra_short input run.input_is (ap runs_scope run.mode) run.mode
@@ -202,7 +207,7 @@ run_ends one_program not_accepted endings files words old new sink sunk request 
 pub emit_run_ends : IsOneProgram → AreNotAccepted → EndingsAreTold → FilesAreTold → (words : List (List ℕ))
     (old new : Shelved) (sink sunk : Sunk) (request : Request) (source : Source) (program : Program) (scope : ℕ)
     (input : List (Option Value)) → IsToldEmitRun words old request source program scope input → (ended : Status)
-    → Answers words old new sink sunk ended → EndsEmitRun sink sunk source program scope input ended
+    → AnswersAtOnce words old new sink sunk ended → EndsEmitRun sink sunk source program scope input ended
 emit_run_ends one_program not_accepted endings files words old new sink sunk request source program scope input run =
     ends_so one_program not_accepted endings files words old new sink sunk request source program scope run.told
     run.extra run.extra_told run.extra_short input run.input_is (ap runs_scope run.mode) EmitRun run.mode
@@ -211,7 +216,7 @@ emit_run_ends one_program not_accepted endings files words old new sink sunk req
 pub trace_ends : IsOneProgram → AreNotAccepted → EndingsAreTold → FilesAreTold → (words : List (List ℕ))
     (old new : Shelved) (sink sunk : Sunk) (request : Request) (source : Source) (program : Program) (scope : ℕ)
     (input : List (Option Value)) → IsToldTrace words old request source program scope input → (ended : Status)
-    → Answers words old new sink sunk ended → EndsTrace sink sunk source program scope input ended
+    → AnswersAtOnce words old new sink sunk ended → EndsTrace sink sunk source program scope input ended
 trace_ends one_program not_accepted endings files words old new sink sunk request source program scope input run =
     ends_so one_program not_accepted endings files words old new sink sunk request source program scope run.told
     run.extra run.extra_told run.extra_short input run.input_is (ap runs_scope run.mode) Trace run.mode

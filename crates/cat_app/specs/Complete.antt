@@ -1,5 +1,6 @@
 -- What follows from the answers: when a reply comes, and when a fault can't.
 use Rattle.std.specs.Prelude.{◌≡◌, ◌⊎◌, ℕ, ◌≤◌, Bool, true, false, List, [], length, Option, Some, Ok, IfSome, ⊤}
+use Rattle.std.specs.List.{concat}
 use Rattle.std.specs.Io.KnownBytes.{Appends}
 use Rattle.cat_pos.specs.Limits.{most_input_bytes}
 use Rattle.cat_io.specs.Shelf.{Shelved, Rose}
@@ -18,6 +19,7 @@ use Rattle.cat_app.specs.Words.{Request, request_of}
 use Rattle.cat_app.specs.Asked.{IsReadNow}
 use Rattle.cat_app.specs.Lines.{line, status_of}
 use Rattle.cat_app.specs.Checks.{HasCertificate, HasNoCertificate}
+use Rattle.cat_app.specs.Many.{IsAskedMany}
 use Rattle.cat_app.specs.Table.{MayReply}
 use Rattle.cat_app.specs.declared.request.Mode.TheVariants.{Run, Check}
 use Rattle.cat_app.specs.declared.status.Status.{Status}
@@ -51,10 +53,15 @@ is_reply WriteFault = false
 is_reply Memory = false
 is_reply status = true
 
--- each text that may come here fits
-abbrev pub RepliesFit : List (List ℕ) → Shelved → Shelved → ℕ → Type 0
-RepliesFit words old new room =
-    (status : Status) (text : List ℕ) → MayReply words old new status text → length text ≤ room
+-- the lines of many inputs fit, where the words ask for these
+abbrev pub LinesFit : Option Request → Shelved → ℕ → Type 0
+LinesFit asked old room = IfSome asked (λ request.
+    (lines : List (List ℕ)) → IsAskedMany request old lines → length (concat lines) ≤ room)
+
+-- each text that may come here fits, and so do the lines
+pub record RepliesFit (words : List (List ℕ)) (old new : Shelved) (room : ℕ) : Type 0 where
+  pub texts : (status : Status) (text : List ℕ) → MayReply words old new status text → length text ≤ room
+  pub lines : LinesFit (request_of words) old room
 
 -- the words ask for a scope of a source that is accepted, over contents that the shelf tells
 pub record IsToldScope (words : List (List ℕ)) (old : Shelved) (request : Request) (source : Source)

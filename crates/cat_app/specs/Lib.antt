@@ -14,6 +14,8 @@ pub mod DrillEnds
 pub mod Limits
 pub mod EmitEnds
 pub mod TraceEnds
+pub mod Many
+pub mod ManyEnds
 pub mod Texts
 pub mod Numbers
 pub mod Runs

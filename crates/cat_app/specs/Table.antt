@@ -1,14 +1,15 @@
 -- The table of answers: which texts may come with a status, and what the sink took of them.
-use Rattle.std.specs.Prelude.{◌≡◌, ◌⊎◌, ℕ, List, Option, None, Some, codes}
+use Rattle.std.specs.Prelude.{◌≡◌, ◌⊎◌, ℕ, List, Option, None, Some, IsSomeAnd, codes}
 use Rattle.cat_io.specs.Shelf.{Shelved, Keeps}
 use Rattle.cat_io.specs.declared.shelf.ShelfFault.TheVariants as shelf
 use Rattle.cat_io.specs.Sink.{Sunk, Took, FailedAt}
-use Rattle.cat_app.specs.Words.{Ask, OfScope, OfBands, Request, ask_of}
+use Rattle.cat_app.specs.Words.{Ask, OfScope, OfBands, Request, ask_of, request_of}
 use Rattle.cat_app.specs.Answers.{IsOutcome, IsRefusedFile, IsRefusedSource, IsNoScope, IsRefusedInput, IsUsage}
 use Rattle.cat_app.specs.Answers.{IsRefusedRead}
 use Rattle.cat_app.specs.Audits.{IsAudited}
 use Rattle.cat_app.specs.Checks.{HasCertificate, HasNoCertificate, IsChecked}
 use Rattle.cat_app.specs.Listings.{IsListed}
+use Rattle.cat_app.specs.Many.{AnswersByLine, IsRefusedArray}
 use Rattle.cat_app.specs.Drills.{HasLine, HasRefusedRun, HasStop, IsOfBands, bands_request, bands_shelf}
 use Rattle.cat_app.specs.declared.status.Status.{Status}
 use Rattle.cat_app.specs.declared.status.Status.TheVariants.{Fine, Conflict, NoValue, Fault, Source, Input, Found}
@@ -24,7 +25,7 @@ MayAnswer request old new Conflict text = IsOutcome request old new Conflict tex
 MayAnswer request old new NoValue text = IsOutcome request old new NoValue text
 MayAnswer request old new Fault text = IsOutcome request old new Fault text
 MayAnswer request old new Source text = IsRefusedFile request old new text ⊎ IsRefusedSource request old new text
-MayAnswer request old new Input text = IsRefusedInput request old new text
+MayAnswer request old new Input text = IsRefusedInput request old new text ⊎ IsRefusedArray request old new text
 MayAnswer request old new Found text = IsAudited request old new Found text
 MayAnswer request old new Unsettled text = IsAudited request old new Unsettled text
 MayAnswer request old new Certificate text = IsChecked HasNoCertificate request old new text
@@ -68,10 +69,15 @@ pub record IsWriteFault (words : List (List ℕ)) (old new : Shelved) (sink sunk
   pub may : MayReply words old new status text
   pub failed : FailedAt sink sunk text
 
--- a status is answered only with its text, written whole; `WriteFault` only by the sink's own fault; `Memory` writes
--- nothing, and at most one name was listed
-abbrev pub Answers : List (List ℕ) → Shelved → Shelved → Sunk → Sunk → Status → Type 0
-Answers words old new sink sunk WriteFault = IsWriteFault words old new sink sunk
-Answers words old new sink sunk Memory = (sunk ≡ sink) × ListsOne old new
-Answers words old new sink sunk status =
+-- a whole text is put at once: a status is answered only with its text, written whole; `WriteFault` only by the sink's
+-- own fault; `Memory` writes nothing, and at most one name was listed
+abbrev pub AnswersAtOnce : List (List ℕ) → Shelved → Shelved → Sunk → Sunk → Status → Type 0
+AnswersAtOnce words old new sink sunk WriteFault = IsWriteFault words old new sink sunk
+AnswersAtOnce words old new sink sunk Memory = (sunk ≡ sink) × ListsOne old new
+AnswersAtOnce words old new sink sunk status =
     (text : List ℕ) × MayReply words old new status text × Took sink sunk text
+
+-- a text was put at once, or of many inputs the line of each
+abbrev pub Answers : List (List ℕ) → Shelved → Shelved → Sunk → Sunk → Status → Type 0
+Answers words old new sink sunk ended = AnswersAtOnce words old new sink sunk ended
+    ⊎ IsSomeAnd (request_of words) (λ request. AnswersByLine request old new sink sunk ended)

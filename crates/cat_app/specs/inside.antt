@@ -1,4 +1,5 @@
 pub mod AskedWords
 pub mod Once
+pub mod Reading
 pub mod Says
 pub mod SaysOfBands

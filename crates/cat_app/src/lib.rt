@@ -7,6 +7,7 @@ mod checked;
 mod drilled;
 mod leaves;
 mod listed;
+mod many;
 mod number;
 mod ran;
 mod reply;

@@ -130,7 +130,7 @@ pub fn ran(
         Mode::Run => answer(alloc, source, built, scope, input),
         Mode::EmitRun => answer_with_code(alloc, source, built, scope, input),
         Mode::Trace => answer_with_trace(alloc, source, built, scope, input),
-        Mode::Audit | Mode::Check | Mode::Emit => unreachable!(),
+        Mode::Audit | Mode::Check | Mode::Emit | Mode::Many => unreachable!(),
     }
 }
 

@@ -1,12 +1,13 @@
-// The whole reply to the words, before any of it is written.
-ghost use Rattle.std.specs.Prelude.{◌≡◌, IfOk, OnErr, string_bytes};
+// The reply to the words, before any of it is written.
+ghost use Rattle.std.specs.Prelude.{◌≡◌, IfOk, OnErr};
 ghost use Rattle.cat_io.specs.Stored.{texts_of};
-ghost use Rattle.cat_app.specs.Table.{ListsOne, MayReply};
+ghost use Rattle.cat_app.specs.Table.{ListsOne};
 ghost use Rattle.cat_app.specs.inside.AskedWords.{HasBands};
-ghost use Rattle.cat_app.specs.inside.SaysOfBands.{MayTellTo};
+ghost use Rattle.cat_app.specs.inside.Reading.{MayBeWritten, MayWriteTo};
 
 use crate::Status;
 use crate::drilled::drilled;
+use crate::many::ManyInputs;
 use crate::request::{AskedFor, read_words};
 use crate::scoped::scope_reply;
 use crate::texts::usage;
@@ -20,36 +21,42 @@ pub struct Reply {
     pub text: String,
 }
 
+/// What is to be written: a whole text at once, or the line of each of many inputs as soon as it is made.
+#[derive(Drop)]
+pub enum ToWrite {
+    Text(Reply),
+    Lines(ManyInputs),
+}
+
 /// The reply to what is asked.
 fn reply_to<S: Shelf>(
     alloc: Global,
     asked: AskedFor<'_>,
     shelf: &mut S,
-) -> Result<Reply, AllocError>
+) -> Result<ToWrite, AllocError>
     requires { HasBands asked }
     ensures told { (S.state shelf.new).content ≡ (S.state shelf.old).content }
-    ensures may { IfOk result (MayTellTo asked.entry (S.state shelf.old) (S.state shelf.new)) }
+    ensures may { IfOk result (MayWriteTo asked.entry (S.state shelf.old) (S.state shelf.new)) }
     ensures lists { OnErr result (ListsOne (S.state shelf.old) (S.state shelf.new)) }
 {
     match asked {
         AskedFor::Scope(words) => scope_reply(alloc, words, shelf),
-        AskedFor::Drill(bands) => drilled(alloc, bands),
+        AskedFor::Drill(bands) => Ok(ToWrite::Text(drilled(alloc, bands)?)),
     }
 }
 
 /// The reply to the words, over the files of the shelf.
-pub fn whole_reply<S: Shelf>(
+pub fn reply_of<S: Shelf>(
     alloc: Global,
     words: &[String],
     shelf: &mut S,
-) -> Result<Reply, AllocError>
+) -> Result<ToWrite, AllocError>
     ensures told { (S.state shelf.new).content ≡ (S.state shelf.old).content }
-    ensures may { IfOk result (λ reply. MayReply (texts_of words.now)
-        (S.state shelf.old) (S.state shelf.new) reply.status (string_bytes reply.text)) }
+    ensures may { IfOk result (MayBeWritten (texts_of words.now) (S.state shelf.old) (S.state shelf.new)) }
     ensures lists { OnErr result (ListsOne (S.state shelf.old) (S.state shelf.new)) }
 {
     match read_words(alloc, words)? {
         Some(asked) => reply_to(alloc, asked, shelf),
-        None => usage(alloc),
+        None => Ok(ToWrite::Text(usage(alloc)?)),
     }
 }

@@ -20,6 +20,7 @@ pub enum Mode {
     /// The code is listed as by `Emit`, and run on an input.
     EmitRun,
     Trace,
+    Many,
 }
 
 /// What is asked for, with the names of the source and of the input or the certificate, and the number of cases.
@@ -51,6 +52,9 @@ fn mode_of(name: &str, has_extra: bool) -> Option<Mode>
     }
     if name == "trace" {
         return Some(Mode::Trace);
+    }
+    if name == "many" {
+        return Some(Mode::Many);
     }
     if name == "audit" && !has_extra {
         return Some(Mode::Audit);

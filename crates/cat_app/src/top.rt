@@ -1,4 +1,4 @@
-// The top call: the whole reply first, and then one put.
+// The top call: the reply first, and then one put, or of many inputs one for each.
 ghost use Rattle.std.specs.Prelude.{◌≡◌, ◌≢◌, ℕ, List, Option, true, false, IfSome};
 ghost use Rattle.cat_io.specs.Count.{FaultsRose};
 ghost use Rattle.cat_io.specs.Stored.{texts_of};
@@ -12,10 +12,14 @@ ghost use Rattle.cat_app.specs.Complete.{is_fault, is_reply};
 ghost use Rattle.cat_app.specs.AuditEnds.{IsToldAudit, EndsAudit};
 ghost use Rattle.cat_app.specs.DrillEnds.{EndsDrill, IsToldDrill};
 ghost use Rattle.cat_app.specs.EmitEnds.{EndsEmit, EndsEmitRun, IsToldEmit, IsToldEmitRun};
+ghost use Rattle.cat_app.specs.Many.{ReadInput};
+ghost use Rattle.cat_app.specs.ManyEnds.{EndsMany, IsToldMany};
+ghost use Rattle.cat_app.specs.inside.Reading.{PutsText};
 ghost use Rattle.cat_app.specs.TraceEnds.{EndsTrace, IsToldTrace};
 
 use crate::Status;
-use crate::reply::whole_reply;
+use crate::many::put_lines;
+use crate::reply::{Reply, ToWrite, reply_of};
 use cat_build::{pieces_have_one_program, refused_pieces_are_not_accepted};
 use cat_io::{Shelf, Sink};
 use cat_weave::told_sources_are_gathered;
@@ -30,13 +34,14 @@ use std::alloc::Global;
 /// | `Found`, `Unsettled` | the report of an audit |
 /// | `Fine`, `Certificate` | of a check, a yes, or why the certificate is refused |
 /// | `Fine` | of an emit, the listing of the program's code |
+/// | `Fine` | of many inputs, the line of each as a run on it alone writes it |
 /// | `Fine` | of a drill, its line; where a run of it has no value, that outcome with its own status |
 /// | `Source` | the code and the position by which the source is refused |
 /// | `Input` | the code by which the input is refused, and of which part |
 /// | `Usage` | how the program is used, or that the source has no such scope |
 /// | `Missing`, `ReadFault`, `TooLarge` | the name of a file whose count of misses, faults or long reads rose |
-/// | `WriteFault` | the front of one of these texts; the sink's count of faults rose |
-/// | `Memory` | nothing |
+/// | `WriteFault` | the front of one of these texts, of many inputs whole lines and the front of one; the sink's count of faults rose |
+/// | `Memory` | nothing, or of many inputs the lines of the first ones |
 pub fn catala<S: Shelf, K: Sink>(
     alloc: Global,
     words: &[String],
@@ -97,6 +102,13 @@ pub fn catala<S: Shelf, K: Sink>(
         → IsToldTrace (texts_of words.now) (S.state shelf.old) request source program scope input
         → EndsTrace (K.state sink.old) (K.state sink.new) source program scope input result }
 
+    // A line is written for each element of an array, as a run on it alone writes it; where memory runs out, those of the
+    // first ones are.
+    ensures a_run_on_many_writes_a_line_each { (request : Request) (source : Source) (program : Program) (scope : ℕ)
+        (inputs : List ReadInput)
+        → IsToldMany (texts_of words.now) (S.state shelf.old) request source program scope inputs
+        → EndsMany (K.state sink.old) (K.state sink.new) source program scope inputs result }
+
     // The line of a drill has the sum of the rates of its runs, the leaves of the trees of its audit, and the verdict.
     ensures a_drill_writes_its_line { (bands : ℕ) (source : Source) (program : Program) (scope : ℕ)
         → IsToldDrill (texts_of words.now) bands source program scope
@@ -108,17 +120,27 @@ pub fn catala<S: Shelf, K: Sink>(
     answer(alloc, words, shelf, sink)
 }
 
-// The whole reply first, and then a single put.
+// A whole text, by a single put.
+fn put_text<K: Sink>(reply: Reply, sink: &mut K) -> Status
+    ensures { PutsText reply (K.state sink.old) (K.state sink.new) result }
+{
+    match sink.put(reply.text.as_bytes()) {
+        Ok(()) => reply.status,
+        Err(_) => Status::WriteFault,
+    }
+}
+
+// The reply first, and then what it has to write.
 fn answer<S: Shelf, K: Sink>(alloc: Global, words: &[String], shelf: &mut S, sink: &mut K) -> Status
     ensures told { (S.state shelf.new).content ≡ (S.state shelf.old).content }
     ensures answers { Answers (texts_of words.now) (S.state shelf.old) (S.state shelf.new)
         (K.state sink.old) (K.state sink.new) result }
 {
-    let Ok(reply) = whole_reply(alloc, words, shelf) else {
+    let Ok(to_write) = reply_of(alloc, words, shelf) else {
         return Status::Memory;
     };
-    match sink.put(reply.text.as_bytes()) {
-        Ok(()) => reply.status,
-        Err(_) => Status::WriteFault,
+    match to_write {
+        ToWrite::Text(reply) => put_text(reply, sink),
+        ToWrite::Lines(many) => put_lines(alloc, many, sink),
     }
 }

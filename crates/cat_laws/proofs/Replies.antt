@@ -21,13 +21,14 @@ use Rattle.cat_build.specs.declared.code.FaultCode.TheVariants as code
 use Rattle.cat_build.specs.Accepted.{IsAccepted}
 use Rattle.cat_build.specs.Causes.{StandsAt}
 use Rattle.cat_build.specs.Codes.{number_of}
-use Rattle.cat_app.specs.Words.{Ask, OfBands, OfScope, Request, ask_of}
+use Rattle.cat_app.specs.Words.{Ask, OfBands, OfScope, Request, ask_of, request_in}
 use Rattle.cat_app.specs.Asked.{IsSource, IsAsked}
 use Rattle.cat_app.specs.Answers.{IsOutcome, IsRefusedFile, IsRefusedSource}
 use Rattle.cat_app.specs.Lines.{line, refusal_line, gathering_line}
 use Rattle.cat_app.specs.Answers.{IsNoScope, IsRefusedInput, IsRefusedRead}
 use Rattle.cat_app.specs.Audits.{IsAudited}
-use Rattle.cat_app.specs.declared.request.Mode.TheVariants.{Check, Emit}
+use Rattle.cat_app.specs.Complete.{LinesFit}
+use Rattle.cat_app.specs.declared.request.Mode.TheVariants.{Check, Emit, Many}
 use Rattle.cat_app.specs.Table.{MayAnswer, MayAnswerTo}
 use Rattle.cat_app.specs.declared.status.Status.{Status}
 use Rattle.cat_app.specs.declared.status.Status.TheVariants as status
@@ -275,6 +276,9 @@ module _ (request : Request) (old : Shelved) where
     not_listed : request.mode ≡ Emit → ⊥
     not_listed emits = cc (told.mode, emits)
 
+    not_many : request.mode ≡ Many → ⊥
+    not_many many = cc (told.mode, many)
+
     fits_all : (new : Shelved) (ended : Status) (text : List ℕ) → MayAnswer request old new ended text
         → length text ≤ all_room
     fits_all new status.Fine text (inl h) = omega (arith, comes_room.1 text (inl (new, status.Fine, h)))
@@ -286,7 +290,8 @@ module _ (request : Request) (old : Shelved) where
     fits_all new status.Fault text h = omega (arith, comes_room.1 text (inl (new, status.Fault, h)))
     fits_all new status.Source text (inl h) = omega (arith, comes_room.1 text (inr (inr (inl (new, h)))))
     fits_all new status.Source text (inr h) = omega (arith, comes_room.1 text (inr (inr (inr (new, h)))))
-    fits_all new status.Input text h = omega (arith, comes_room.1 text (inr (inl (new, h))))
+    fits_all new status.Input text (inl h) = omega (arith, comes_room.1 text (inr (inl (new, h))))
+    fits_all new status.Input text (inr h) = absurd (not_many h.mode)
     fits_all new status.Found text h = absurd (not_audited new status.Found text h)
     fits_all new status.Unsettled text h = absurd (not_audited new status.Unsettled text h)
     fits_all new status.Certificate text h = absurd (not_checked h.mode)
@@ -305,6 +310,13 @@ module _ (request : Request) (old : Shelved) where
 
 -- ---- the replies to words
 
+-- who asks for a run asks for no lines of many inputs
+no_lines : (asked : Option Ask) (old : Shelved) (room : ℕ) → WhereAsked asked (TellsRun old)
+    → LinesFit (request_in asked) old room
+no_lines None old room told = tt
+no_lines (Some (OfScope request)) old room told = λ lines many. absurd (cc (told.mode, many.mode))
+no_lines (Some (OfBands bands)) old room told = absurd told
+
 -- a text that answers what the words ask for
 abbrev Answers : Option Ask → Shelved → List ℕ → Type 0
 Answers asked old text = (new : Shelved) × (ended : Status) × MayAnswerTo asked old new ended text
@@ -320,8 +332,13 @@ answers_room laws old (Some (OfBands bands)) told = absurd told
 pub run_room : Laws → (words : List (List ℕ)) (old : Shelved) → WhereAsked (ask_of words) (TellsRun old)
     → HasRoom words old
 run_room laws words old told =
-    let room = answers_room laws old (ask_of words) told in
-    (room.0, λ new ended text h. room.1 text (new, ended, h))
+    let room = answers_room laws old (ask_of words) told in (
+      room.0,
+      λ new. record {
+        texts = λ ended text h. room.1 text (new, ended, h);
+        lines = no_lines (ask_of words) old room.0 told;
+      },
+    )
 
 where_asked : (Has Holds : Request → Type 0) (asked : Option Ask) → ((request : Request) → Has request → Holds request)
     → WhereAsked asked Has → WhereAsked asked Holds

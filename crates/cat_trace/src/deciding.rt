@@ -120,8 +120,8 @@ fn log_text(
 }
 
 /// A line for each entry of a log of the code, each with its line feed: what was decided, by which definition of the
-/// sources, and under which heading that stands. It takes time in proportion to the log, the pieces and the headings, and
-/// for each definition a logarithm of the count of pieces.
+/// sources, and under which heading that stands. It takes time in proportion to the log, the pieces and the headings,
+/// and for each definition a logarithm of the count of pieces.
 pub fn trace_lines(
     alloc: Global,
     code: &Code,

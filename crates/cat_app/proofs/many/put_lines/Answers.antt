@@ -1,0 +1,73 @@
+use Rattle.std.proofs.Common.{◌≡◌, ◌∙◌, ◌++◌, [], ◌∷◌, List, ℕ, length, ap, arith, refl, subst, sym}
+use Rattle.std.specs.Prelude.{string_bytes}
+use Rattle.std.proofs.lemmas.List.{append-nil, append_assoc}
+use Rattle.std.specs.Vec.Iter.{into_iter_items, into_iter_len}
+use Rattle.cat_io.specs.Sink.{FailedAt, Took}
+use Rattle.cat_app.specs.Many.{ReadInput}
+use Rattle.cat_app.proofs.ManyLemmas.{all_put, ended_early, failed_at, is_read_next, nothing_put, one_more}
+use Rattle.cat_app.proofs.ManyLemmas.{put_broken, put_whole}
+use Rattle.cat_app.proofs.many.put_lines.Goals as goal
+
+no_items : {A : Type 0} (xs : List A) (n : ℕ) → n ≡ length xs → n ≡ 0 → xs ≡ []
+no_items [] n is none = refl
+no_items (x ∷ xs) n is none = absurd (omega (arith, is, none))
+
+pub loop-read-init : goal.loop-read-init
+loop-read-init g c = (
+  nothing_put c.args.many.built.program c.args.many.built.code c.requires.built.code c.args.many.scope
+      c.args.many.source.files (g.K.Sink.state c.args.sink.now),
+  c.into_iter-read-iterator.ensures.into_iter_gives.0 ∙ c.into_vec-read-items.ensures,
+)
+
+pub reply_on-requires-clause-read : goal.reply_on-requires-clause-read
+reply_on-requires-clause-read g c =
+    let l = c.loop-read in
+    is_read_next c.args.many.built.program.decls c.args.many.scope c.requires.read.0 c.args.many.inputs l.yielded
+    (into_iter_items c.next.new.self) c.in-Some.read c.requires.read.1
+    (ap (λ (rs : List ReadInput). l.yielded ++ rs) (sym c.in-Some.ensures.steps.0) ∙ l.invariant.1)
+
+pub loop-read-preserved : goal.loop-read-preserved
+loop-read-preserved g c =
+    let l = c.loop-read in
+    let bytes : c.as_bytes.result.now ≡ string_bytes c.in-Ok.reply.text = cc (c.as_bytes.ensures.value) in (
+      one_more c.args.many.built.program c.args.many.built.code c.requires.built.code c.args.many.scope
+          c.args.many.source.files l.yielded c.in-Some.read (string_bytes c.in-Ok.reply.text)
+          (g.K.Sink.state c.args.sink.now) (g.K.Sink.state l.sink) (g.K.Sink.state c.put.new.self) l.invariant.0
+          c.in-Ok.ensures.line
+          (subst (λ (b : List ℕ). Took (g.K.Sink.state l.sink) (g.K.Sink.state c.put.new.self) b) bytes
+          (put_whole c.as_bytes.result.now (g.K.Sink.state l.sink) (g.K.Sink.state c.put.new.self) c.put.result
+          c.if-is_err.ensures.value c.put.ensures)),
+      append_assoc l.yielded (c.in-Some.read ∷ []) (into_iter_items c.next.new.self)
+          ∙ ap (λ (rs : List ReadInput). l.yielded ++ rs) (sym c.in-Some.ensures.steps.0) ∙ l.invariant.1,
+    )
+
+pub returns-in_default : goal.returns-in_default
+returns-in_default g c =
+    let l = c.loop-read in
+    ended_early c.args.many.built.program c.args.many.built.code c.requires.built.code c.args.many.scope
+    c.args.many.source.files c.requires.read.0 c.args.many.inputs l.yielded (into_iter_items l.read-iterator)
+    l.invariant.1 c.requires.read.1 (g.K.Sink.state c.args.sink.now) (g.K.Sink.state l.sink) l.invariant.0
+
+pub returns-then-is_err : goal.returns-then-is_err
+returns-then-is_err g c =
+    let l = c.loop-read in
+    let bytes : c.as_bytes.result.now ≡ string_bytes c.in-Ok.reply.text = cc (c.as_bytes.ensures.value) in
+    failed_at c.args.many.built.program c.args.many.built.code c.requires.built.code c.args.many.scope
+    c.args.many.source.files c.requires.read.0 c.args.many.inputs l.yielded (into_iter_items l.read-iterator)
+    l.invariant.1 c.requires.read.1 (g.K.Sink.state c.args.sink.now) c.in-Some.read (into_iter_items c.next.new.self)
+    (string_bytes c.in-Ok.reply.text) (g.K.Sink.state l.sink) (g.K.Sink.state c.put.new.self)
+    c.in-Some.ensures.steps.0 l.invariant.0 c.in-Ok.ensures.line
+    (subst (λ (b : List ℕ). FailedAt (g.K.Sink.state l.sink) (g.K.Sink.state c.put.new.self) b) bytes
+    (put_broken c.as_bytes.result.now (g.K.Sink.state l.sink) (g.K.Sink.state c.put.new.self) c.put.result
+    c.if-is_err.ensures.value c.put.ensures))
+
+pub returns : goal.returns
+returns g c =
+    let l = c.loop-read in
+    let none : into_iter_items l.read-iterator ≡ [] =
+    no_items (into_iter_items l.read-iterator) (into_iter_len l.read-iterator) l.read-iterator.rest.ok.0
+    c.in-None.ensures.steps.0 in
+    all_put c.args.many.built.program c.args.many.built.code c.requires.built.code c.args.many.scope
+    c.args.many.source.files l.yielded c.args.many.inputs (g.K.Sink.state c.args.sink.now) (g.K.Sink.state l.sink)
+    (sym (append-nil l.yielded) ∙ ap (λ (rs : List ReadInput). l.yielded ++ rs) (sym none) ∙ l.invariant.1)
+    l.invariant.0

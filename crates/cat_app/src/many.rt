@@ -1,0 +1,78 @@
+// The outcomes of a scope on many inputs, a line each.
+ghost use Rattle.std.specs.Prelude.{◌≡◌, ◌<◌, ℕ, List, IfOk, Some, length, string_bytes};
+ghost use Rattle.cat_build.specs.Built.{IsBuiltOf};
+ghost use Rattle.cat_app.specs.Many.{element_line};
+ghost use Rattle.cat_app.specs.inside.Reading.{AreRead, IsReadInput, PutsEach};
+
+use crate::Status;
+use crate::ran::tell;
+use crate::reply::Reply;
+use crate::texts::refuse_input;
+use cat_build::Built;
+use cat_io::Sink;
+use cat_json::{InputRefusal, ReadInputs};
+use cat_machine::execute_clean;
+use cat_pool::Pool;
+use cat_value::Input;
+use cat_weave::Source;
+use std::alloc::{AllocError, Global};
+
+/// A scope of an accepted source, and what it is to be run on.
+#[derive(Drop)]
+pub struct ManyInputs {
+    pub source: Source,
+    pub built: Built,
+    pub scope: u32,
+    pub inputs: ReadInputs,
+}
+
+/// What a run writes on one element alone. The pool is as before.
+fn reply_on(
+    alloc: Global,
+    source: &Source,
+    built: &Built,
+    scope: u32,
+    read: Result<Input, InputRefusal>,
+    pool: &mut Pool,
+) -> Result<Reply, AllocError>
+    requires built { IsBuiltOf source.now.pieces built.now }
+    requires scope { scope < length built.now.program.decls.scopes }
+    requires read { IsReadInput built.now.program.decls scope read }
+    ensures line { IfOk result (λ reply.
+        element_line built.now.program scope source.now.files read ≡ Some (string_bytes reply.text)) }
+    ensures clean { pool.new ≡ pool.old }
+{
+    match read {
+        Ok(input) => {
+            let outcome = execute_clean(alloc, &built.code, scope, &input, pool)?;
+            tell(alloc, &source.files, built.program.decls(), scope, &outcome)
+        }
+        Err(refusal) => refuse_input(alloc, refusal),
+    }
+}
+
+/// Puts the line of each element as soon as it is made, over one pool.
+pub fn put_lines<K: Sink>(alloc: Global, many: ManyInputs, sink: &mut K) -> Status
+    requires built { IsBuiltOf many.source.pieces many.built }
+    requires scope { many.scope < length many.built.program.decls.scopes }
+    requires read { (extra : List ℕ) × AreRead many.built.program.decls many.scope extra many.inputs }
+    ensures { PutsEach many.built.program many.scope many.source.files many.inputs
+        (K.state sink.old) (K.state sink.new) result }
+{
+    let ManyInputs {
+        source,
+        built,
+        scope,
+        inputs,
+    } = many;
+    let mut pool = Pool::new(alloc);
+    for read in inputs.into_vec() {
+        let Ok(reply) = reply_on(alloc, &source, &built, scope, read, &mut pool) else {
+            return Status::Memory;
+        };
+        if sink.put(reply.text.as_bytes()).is_err() {
+            return Status::WriteFault;
+        }
+    }
+    Status::Fine
+}
