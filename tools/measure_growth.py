@@ -35,6 +35,10 @@ def trace(text, given, reply):
     return Call(['trace', 'S', 'a.md'], {'a.md': text}, json.dumps(given).encode(), reply)
 
 
+def many(text, inputs, reply):
+    return Call(['many', 'S', 'a.md'], {'a.md': text}, json.dumps(inputs).encode(), reply)
+
+
 def grid(count):
     """A rule for each cell of a square of two amounts; so many rules or a few less."""
     side = int(count ** 0.5)
@@ -165,6 +169,7 @@ WORK = [
     ('the code of scopes', lambda n: emit(scopes(n)), 32_000),
     ('the code of a structure literal, the last field first', lambda n: emit(turned(n)), 64_000),
     ('a trace of articles', lambda n: trace(articles(n), {'n': 1}, b'S.x0 by a.md:'), 4_000),
+    ('many inputs', lambda n: many(items(20), [{'n': k} for k in range(n)], b'{"x0":0,'), 64_000),
     ('a drill', lambda n: Call(['drill', str(n), 'none'], {}, reply=b'bands %d ' % n), 1_000),
 ]
 

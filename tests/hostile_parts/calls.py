@@ -29,6 +29,7 @@ CALLS = [
     call('emit', 'emit All a.md', 0),
     call('emit with an input', 'emit All a.md input.json', 0),
     call('trace', 'trace All a.md input.json', 0),
+    call('many', 'many All a.md inputs.json', 0),
     call('drill', 'drill 3 none', 0),
     call('conflict', 'run Drafted b.md both.json', 1),
     call('no value', 'run Drafted b.md none.json', 2),
@@ -37,6 +38,7 @@ CALLS = [
     call('fault behind what decided', 'trace All a.md failed.json', 3),
     call('refused source', 'run All refused.md input.json', 4),
     call('refused input', 'run All a.md refused.json', 5),
+    call('refused array', 'many All a.md input.json', 5),
     call('refused certificate', 'check Bands a.md input.json', 8),
     call('no such scope', 'run None a.md input.json', 9),
     call('missing file', 'run All a.md missing.json', 10),
@@ -48,6 +50,7 @@ def files():
     kept = {file.name: file.read_bytes() for file in SOURCE.iterdir()}
     certificate = audit(kept, 'a.md', 'Bands').encode() + b'\n'
     given = kept['input.json']
+    failed, refused = given.replace(b'"n":42', b'"n":7777'), given.replace(b'"n":42', b'"n":4.2')
     return {**kept, 'certificate': certificate, 'both.json': b'{"income":10}', 'none.json': b'{"income":95}',
-            'failed.json': given.replace(b'"n":42', b'"n":7777'), 'refused.json': given.replace(b'"n":42', b'"n":4.2'),
+            'failed.json': failed, 'refused.json': refused, 'inputs.json': b'[%s]' % b','.join((given, refused, failed, given)),
             'refused.md': kept['a.md'].replace(b'most equals 100', b'most equals true')}

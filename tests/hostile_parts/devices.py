@@ -11,17 +11,17 @@ OPENS = (errno.ENOENT, errno.EACCES, errno.EISDIR, errno.ENOTDIR, errno.ELOOP, e
          errno.EPERM, errno.ENXIO, errno.EOVERFLOW, errno.ENOMEM)
 READS = (errno.EIO, errno.EISDIR, errno.EBADF, errno.EAGAIN, errno.EINVAL, errno.ESTALE, errno.EINTR, errno.ENOMEM)
 WRITES = (errno.EIO, errno.ENOSPC, errno.EPIPE, errno.EBADF, errno.EAGAIN, errno.EDQUOT, errno.EFBIG, errno.ENOMEM, errno.EINTR)
-WANT, FAILED = Ended(13, b'', b''), Ended(12, b'', b'')
+WANT = Ended(13, b'', b'')
 GROWN = (1, 5_000_000, 70_000_000)
 FEW = 3
 
 
-def due(kind, name, error, right):
-    """How a call ends whose open or read of a file, or whose write, ends with an error."""
+def due(kind, name, error, right, before):
+    """How a call ends whose open or read of a file, or whose write behind what was written before, ends with an error."""
     if error == errno.EINTR and kind != 'open':
         return right
     if kind == 'write':
-        return FAILED
+        return Ended(12, before, b'')
     if error == errno.ENOMEM:
         return WANT
     is_missing = kind == 'open' and error == errno.ENOENT
@@ -35,8 +35,9 @@ def failing(runs, call, is_sample):
     for kind, errors in (('open', OPENS), ('read', READS), ('write', WRITES)):
         names = [name.encode() for of, name in asked if of == kind]
         for k, name in enumerate(names, 1):
+            before = b''.join(right.out.splitlines(True)[:k - 1]) if call.words[0] == 'many' else b''
             for error in errors[:FEW] + (errno.ENOMEM,) if is_sample else errors:
-                ended, want = runs.refused(call, kind, k, k, error), due(kind, name, error, right)
+                ended, want = runs.refused(call, kind, k, k, error), due(kind, name, error, right, before)
                 yield '%ss that fail' % kind, '%s %d, %s' % (call.name, k, errno.errorcode[error]), '' if ended == want else told(ended)
 
 

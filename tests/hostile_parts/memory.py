@@ -1,14 +1,12 @@
-"""Each allocation of each call is refused, alone and with all that follow: the answer is want of memory, with nothing written, or the
-whole right one."""
+"""Each allocation of each call is refused, alone and with all that follow: the answer is want of memory, with nothing written, and of
+many inputs with the lines of the first ones, or the whole right one."""
 import errno
 
 from .calls import CALLS
 from .compared import differs
 from .refusing import LAST, Refusing, has_compiler
-from .runs import Ended
 from .table import out_of_table, told
 
-WANT = Ended(13, b'', b'')
 FEW = 120
 
 
@@ -24,7 +22,13 @@ def memory(program, is_sample):
             for k in range(1, count + 1, max(1, count // FEW) if is_sample else 1):
                 for last, kind in ((k, 'allocations refused alone'), (LAST, 'allocations refused with all that follow')):
                     ended = runs.refused(call, 'alloc', k, last, errno.ENOMEM)
-                    yield kind, '%s %d' % (call.name, k), '' if ended in (right, WANT) else told(ended)
+                    yield kind, '%s %d' % (call.name, k), '' if ended == right or is_want(call, ended, right) else told(ended)
+
+
+def is_want(call, ended, right):
+    """Whether memory ran out behind whole lines of the right answer: those of the first of many inputs, else none."""
+    lines = right.out.splitlines(True) if call.words[0] == 'many' else []
+    return (ended.status, ended.err) == (13, b'') and ended.out in {b''.join(lines[:k]) for k in range(len(lines) + 1)}
 
 
 def wrong_answer(runs, call, right):

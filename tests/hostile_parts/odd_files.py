@@ -98,7 +98,8 @@ def odd_outputs(runs):
     full, source = os.open('/dev/full', os.O_WRONLY), os.open(os.devnull, os.O_RDONLY)
     closed, into_closed = os.pipe()
     os.close(closed)
-    modes = (['audit', 'All', 'a.md'], ['emit', 'All', 'a.md'], ['trace', 'All', 'a.md', 'input.json'], ['drill', '2', 'none'])
+    modes = (['audit', 'All', 'a.md'], ['emit', 'All', 'a.md'], ['trace', 'All', 'a.md', 'input.json'], ['many', 'All', 'a.md', 'inputs.json'],
+             ['drill', '2', 'none'])
     for words in (CALL, *modes, [], ['run', 'All', 'none.md']):
         for what, options in (('full', {'stdout': full}), ('closed', {'limit': 'exec >&-'}), ('only read from', {'stdout': source}),
                               ('a closed pipe', {'stdout': into_closed}), ('closed as input is', {'limit': 'exec <&- >&-'})):

@@ -44,6 +44,11 @@ TEXTS = {
     13: rb'',
     14: rb'too large %s\n' % NAME,
 }
+# The lines of many inputs, of which each tells what a run on it alone does.
+LINES = rb'(?:%s)*' % b'|'.join((OUTPUTS, TEXTS[1], TEXTS[2], TEXTS[3], TEXTS[5]))
+FINE['many'] = LINES
+# What of them is written where the output failed, and where memory ran out.
+BROKEN = {12: LINES + rb'[^\n]*', 13: LINES}
 STOPS = (1, 2, 3)
 # What may stand in front of a stop, by the mode.
 FRONTS = {'emit': COUNTED, 'trace': DECIDED}
@@ -60,6 +65,8 @@ def out_of_table(words, ended):
     form = FINE.get(mode) if ended.status == 0 else TEXTS.get(ended.status)
     if ended.status in STOPS:
         form = FRONTS.get(mode, b'') + form
+    if mode == 'many' and ended.status in BROKEN:
+        form = BROKEN[ended.status]
     if form is None or ended.err:
         return 'status %d, %r on standard error' % (ended.status, ended.err[:80])
     if not re.fullmatch(form, ended.out):

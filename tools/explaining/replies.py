@@ -65,7 +65,7 @@ class Reply:
         code, path = INPUT.fullmatch(self.text).groups()
         name = self.words.extra or '-'
         data = self.source.files.content(name) if name != self.words.file else None  # Behind a source nothing is left.
-        if data is None or not self.source.is_small:
+        if data is None or not self.source.is_small or self.words.mode == 'many':  # Of an array no part is sought.
             part = self.pages.of_code(code)
             return [Note('reply', code, part.title.partition(' ')[2], [], [part.sentence], [part.mend])]
         given = inputs.Input(name, data, self.program(), self.words.scope)

@@ -85,8 +85,8 @@ class Call:
         return program.run(self.scope, self.given())
 
     def many(self, program):
-        lines = many(program, self.scope, self.given())
-        return '\n'.join(lines), status_of(lines[0]) if lines[:1] in (['input refused I1'], ['input refused I4 (input)']) else 0
+        lines, refused = many(program, self.scope, self.given())
+        return (refused, status_of(refused)) if refused else ('\n'.join(lines), 0)
 
     def trace(self, program):
         text = trace(program, self.scope, self.given())
