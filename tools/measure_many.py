@@ -2,24 +2,15 @@
 beside a run for each element.
 
 Each peer reads standard input by its library into that library's own tree, and writes the same lines."""
-import random, subprocess, sys, time
+import json, subprocess, sys, time
 
-from measure_persons import brackets_in_c, steps
+from measure_persons import brackets_in_c, earners, steps, tax
 from measure_runs import compiled, measured
+from measure_sources import block
 
 MOST_BYTES = 64 * 2**20
 COUNTS = 1_000, 10_000, 100_000, 1_000_000, None
 RUNS = 100
-STATUTE = '''```catala
-declaration scope Tax:
-  input income content money
-  output tax content money
-scope Tax:
-  definition tax equals
-    %s
-```
-'''
-BRACKET = '(if income > $%d then (income - $%d) * %d%% else $0)'
 IN_C = '''#include <jansson.h>
 #include <stdio.h>
 int main(void) {
@@ -28,8 +19,6 @@ int main(void) {
   json_array_foreach(all, k, one) {
     long long t = 0, a;
     int b;
-    sscanf(json_string_value(json_object_get(one, "income")), "%%lld.%%d", &a, &b);
-    long long c = a * 100 + b;
 %s
     printf("{\\"tax\\":\\"%%lld.%%02lld\\"}\\n", t / 100, t %% 100);
   }
@@ -48,12 +37,10 @@ for one in json.load(sys.stdin):
 
 def array_of(count):
     """An array of so many records, or of as many as an input may have."""
-    chance, size = random.Random(0), 2
-    records = []
-    while len(records) != count:
-        one = '{"income":"%d.%02d"}' % divmod(chance.randrange(80_000_000), 100)
+    size, records = 2, []
+    for one in (json.dumps(person, separators=(',', ':')) for person in earners()):
         size += len(one) + 1
-        if count is None and size > MOST_BYTES:
+        if len(records) == count or count is None and size > MOST_BYTES:
             break
         records.append(one)
     return ('[%s]' % ','.join(records)).encode(), len(records)
@@ -68,7 +55,8 @@ def a_run_each(folder, program, data):
 
 
 def many(folder, program):
-    (folder / 'a.md').write_text(STATUTE % ' +\n    '.join(BRACKET % (low // 100, low // 100, rate) for low, rate in steps()))
+    (folder / 'a.md').write_text(block(['declaration scope Tax:', '  input income content money', '  output tax content money', 'scope Tax:',
+                                        '  definition tax equals %s' % tax('income')]))
     others = [('C', [compiled(folder, 'brackets.c', IN_C % brackets_in_c(), ['cc'])]), ('Python', [sys.executable, '-c', IN_PYTHON % steps()])]
     print('\n| Records | MiB | time | a record | memory | a record | in C | in Python |\n|---|---|---|---|---|---|---|---|')
     for count in COUNTS:

@@ -1,13 +1,16 @@
 """A statute of brackets over persons, and what tools/measure tells of it beside the same in C, whose JSON jansson reads."""
-import json, random, sys
+import itertools, json, random, sys
 
 from measure_runs import compiled, measured
 from measure_sources import block
 
 COUNTS = 10, 1_000, 10_000, 100_000, 1_000_000
 BRACKETS = [(0, 10), (11_000_00, 12), (44_725_00, 22), (95_375_00, 24), (182_100_00, 32), (231_250_00, 35), (578_125_00, 37)]
-BRACKET = '(if p.income > %s then (p.income - %s) * %d%% else $0)'
-# What is read of the JSON, in front of the brackets.
+BRACKET = '(if %s > %s then (%s - %s) * %d%% else $0)'
+# What is read of the JSON of one, in front of the brackets.
+READ_INCOME = '''    sscanf(json_string_value(json_object_get(one, "income")), "%lld.%d", &a, &b);
+    long long c = a * 100 + b;
+'''
 READ_PERSONS = '''#include <jansson.h>
 #include <stdio.h>
 int main(void) {
@@ -16,8 +19,6 @@ int main(void) {
   long long t = 0, a;
   int b;
   json_array_foreach(list, k, one) {
-    sscanf(json_string_value(json_object_get(one, "income")), "%%lld.%%d", &a, &b);
-    long long c = a * 100 + b;
 %s
   }
   printf("{\\"total\\":\\"%%lld.%%02lld\\"}\\n", t / 100, t %% 100);
@@ -34,9 +35,9 @@ def steps():
     return [(low, rate - before) for (low, rate), (_, before) in zip(BRACKETS, [(0, 0), *BRACKETS])]
 
 
-def tax():
-    """What the brackets come to for the person p."""
-    return ' + '.join(BRACKET % (amount(low), amount(low), rate) for low, rate in steps())
+def tax(income):
+    """What the brackets come to for an income."""
+    return ' + '.join(BRACKET % (income, amount(low), income, amount(low), rate) for low, rate in steps())
 
 
 def statute(total, inputs=()):
@@ -47,17 +48,23 @@ def statute(total, inputs=()):
 
 
 def over_persons():
-    return 'sum money of map each p among persons to %s' % tax()
+    return 'sum money of map each p among persons to %s' % tax('p.income')
 
 
 def brackets_in_c():
-    """What is added to t for an income of c cents."""
-    return '\n'.join('    if (c > %dLL) t += ((c - %dLL) * %d + 50) / 100;' % (low, low, rate) for low, rate in steps())
+    """What is added to t for the income of one, of c cents."""
+    return READ_INCOME + '\n'.join('    if (c > %dLL) t += ((c - %dLL) * %d + 50) / 100;' % (low, low, rate) for low, rate in steps())
+
+
+def earners():
+    """Persons of any income, without end and the same at each call."""
+    chance = random.Random(0)
+    while True:
+        yield {'income': '%d.%02d' % divmod(chance.randrange(80_000_000), 100)}
 
 
 def people(count):
-    chance = random.Random(0)
-    return [{'income': '%d.%02d' % divmod(chance.randrange(80_000_000), 100)} for _ in range(count)]
+    return list(itertools.islice(earners(), count))
 
 
 def given(count):
