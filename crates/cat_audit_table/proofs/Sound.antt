@@ -40,7 +40,7 @@ use Rattle.cat_audit_table.proofs.TermNumbers.{term_self}
 use Rattle.cat_audit_table.proofs.AtomNumbers.{question_self}
 use Rattle.cat_audit_table.proofs.Numbers.{all_each, all_both, all_pass, found, number_below}
 use Rattle.cat_audit_table.proofs.Fit.{IsFit}
-use Rattle.cat_audit_table.proofs.Rooted.{forest_length}
+use Rattle.cat_audit_table.proofs.GroupCounts.{forest_length}
 use Rattle.cat_scope.proofs.Exported.{map_append}
 use Rattle.cat_region.proofs.Exported.{lt_is, and-parts, and-both}
 

@@ -1,7 +1,8 @@
 // The groups of a target by the places of their definitions.
 ghost use Rattle.std.specs.Prelude.{◌≡◌, ◌<◌, IfOk, length, map, slice_get};
 ghost use Rattle.cat_pos.specs.declared.limits.TheConstants.{ENTRIES_BOUND};
-ghost use Rattle.cat_audit_table.specs.inside.Placed.{Ascend, place_in, group_by_places, is_first_root, root_numbers};
+ghost use Rattle.cat_sound.specs.Roots.{is_first_root, root_numbers};
+ghost use Rattle.cat_audit_table.specs.inside.Placed.{Ascend, place_in, group_by_places};
 
 use cat_guard::{GuardGroup, GuardGroups};
 use cat_pos::{ENTRIES_BOUND, List, Numbers};

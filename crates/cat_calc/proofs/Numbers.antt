@@ -8,9 +8,8 @@ use Rattle.cat_scope.specs.declared.defs.Def.{Def}
 use Rattle.cat_scope.specs.declared.forest.ForestGroup.{ForestGroup}
 use Rattle.cat_scope.specs.Names.{AllHave}
 use Rattle.cat_scope.specs.Groups.{Numbered, Group, excepts, excepting}
-use Rattle.cat_scope.specs.Targets.{same_target, defs_from}
 use Rattle.cat_scope.specs.Forests.{definition_numbers, forest_groups, forest_of_groups}
-use Rattle.cat_sound.proofs.Exported.{groups-all, all_at, all_more, same_some}
+use Rattle.cat_sound.proofs.Exported.{all_at, same_some, IsNumbered, numbered_groups}
 use Rattle.cat_calc.specs.inside.Numbered.{numbered_as, numbered_at, groups_in}
 use Rattle.cat_calc.specs.inside.Terms.{definition_term, one_of, own_term}
 
@@ -22,36 +21,6 @@ next_numbered defs ns i d within below there =
     ap (numbered_at defs) (drop_more ns i 0 within)
     ∙ ap (λ o. numbered_as (get_or ns i 0) o (numbered_at defs (drop (i + 1) ns)))
     (slice_get-get_or defs (get_or ns i 0) d below ∙ ap Some (sym there))
-
--- a definition stands at its number
-abbrev pub IsNumbered : List Def → Numbered → Type 0
-IsNumbered defs d = slice_get defs d.0 ≡ Some d.1
-
-abbrev IsFrom : ℕ → List Def → Numbered → Type 0
-IsFrom n defs d = (k : ℕ) × (d.0 ≡ n + k) × (slice_get defs k ≡ Some d.1)
-
-numbered_from : (target : Target) (n : ℕ) (defs : List Def) → AllHave (IsFrom n defs) (defs_from target n defs)
-numbered_from target n [] = tt
-numbered_from target n (e ∷ defs) = by (same_target e.target target)
-    (all_more (IsFrom (n + 1) defs) (IsFrom n (e ∷ defs)) (defs_from target (n + 1) defs)
-    (numbered_from target (n + 1) defs)
-    (λ d from. (suc from.0, omega (arith, from.1), from.2)))
-  where
-    by : (b : Bool) → AllHave (IsFrom n (e ∷ defs)) (defs_from target (n + 1) defs)
-        → AllHave (IsFrom n (e ∷ defs)) (if b then (n, e) ∷ defs_from target (n + 1) defs else defs_from target (n + 1)
-        defs)
-    by true rest = ((0, omega arith, refl), rest)
-    by false rest = rest
-
-numbered_in : (defs : List Def) (target : Target) → AllHave (IsNumbered defs) (defs_from target 0 defs)
-numbered_in defs target = all_more (IsFrom 0 defs) (IsNumbered defs) (defs_from target 0 defs)
-    (numbered_from target 0 defs)
-    (λ d from. ap (slice_get defs) (omega (arith, from.1)) ∙ from.2)
-
-pub numbered_groups : (defs : List Def) (target : Target)
-    → AllHave (λ g. AllHave (IsNumbered defs) g.defs) (groups_in defs target)
-numbered_groups defs target =
-    groups-all (IsNumbered defs) (defs_from target 0 defs) [] (defs_from target 0 defs) (numbered_in defs target)
 
 -- definitions are those of their numbers
 numbered_same : (defs : List Def) (ds : List Numbered) → AllHave (IsNumbered defs) ds

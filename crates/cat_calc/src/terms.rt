@@ -5,7 +5,8 @@ ghost use Rattle.cat_scope.specs.Groups.{exceptions_of, roots_of};
 ghost use Rattle.cat_scope.specs.Chains.{is_within, longest_chain};
 ghost use Rattle.cat_scope.specs.Forests.{forest_of_groups};
 ghost use Rattle.cat_calc.specs.Desugared.{KeepsJudging};
-ghost use Rattle.cat_calc.specs.inside.Numbered.{numbered_at, is_first_root, groups_in};
+ghost use Rattle.cat_sound.specs.Roots.{is_first_root};
+ghost use Rattle.cat_calc.specs.inside.Numbered.{numbered_at, groups_in};
 ghost use Rattle.cat_calc.specs.inside.Terms.{definition_term, one_of, group_term, target_term, HasLowGroups};
 
 use crate::{DefaultTerm, DefaultTerms, Justification};

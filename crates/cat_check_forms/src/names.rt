@@ -18,7 +18,7 @@ use cat_names::{Fault, Local, Locals, Refusal};
 use cat_pos::{Pos, Text};
 use cat_scope::Expr;
 use cat_tree::{Name, Node};
-use cat_value::{ItemDecl, Kind, Ty, Tys, copy_ty};
+use cat_value::{ItemDecl, Kind, Ty, copy_ty};
 use std::alloc::AllocError;
 
 /// The last bound name of that spelling, with its number and its type.
@@ -80,37 +80,17 @@ fn item(here: &Here, name: &Name) -> Result<Resolved, Refusal>
     Resolved::new(here.alloc, name.pos, name.pos, expr, ty)
 }
 
-fn is_called(kind: Kind) -> bool
-    ensures { result ≡ scope_words.is_called kind }
-{
-    match kind {
-        Kind::Called(_) => true,
-        Kind::Input
-        | Kind::Output
-        | Kind::Internal
-        | Kind::Context
-        | Kind::InputOutput
-        | Kind::ContextOutput => false,
-    }
-}
-
-fn has_none(params: &Tys) -> bool
-    ensures { result ≡ scope_words.has_none params.now }
-{
-    params.is_empty()
-}
-
 /// Whether an item is a variable that is no function.
 fn is_plain(item: &ItemDecl) -> bool
     ensures { result ≡ scope_words.is_plain item.now }
 {
-    !is_called(item.kind) && has_none(&item.params)
+    !matches!(item.kind, Kind::Called(_)) && item.params.is_empty()
 }
 
 fn is_function(item: &ItemDecl) -> bool
     ensures { result ≡ scope_words.is_function item.now }
 {
-    !is_called(item.kind) && !has_none(&item.params)
+    !matches!(item.kind, Kind::Called(_)) && !item.params.is_empty()
 }
 
 /// The function that a name stands for where it is called, with its number: a bound name is none.

@@ -1,3 +1,3 @@
 -- What crates above may cite by path: the definitions of a target, and of some numbers.
-pub use Rattle.cat_except.proofs.Numbers.{target_defs, target_numbers, few_numbers, defs_there}
+pub use Rattle.cat_except.proofs.Numbers.{target_defs, target_numbers, few_numbers}
 pub use Rattle.cat_except.proofs.Grouped.{defs_at_push}

@@ -68,8 +68,3 @@ target_numbers target defs = low_true defs (defs_from target 0 defs) (from_true 
 pub few_numbers : (target : Target) (defs : List Def)
     → length (definition_numbers (defs_from target 0 defs)) ≤ length defs
 few_numbers target defs = few_from target 0 defs
-
--- each definition of a target stands at its number
-pub defs_there : (target : Target) (defs : List Def)
-    → AllHave (λ (d : Numbered). slice_get defs d.0 ≡ Some d.1) (defs_from target 0 defs)
-defs_there target defs = from_true target [] defs

@@ -6,6 +6,7 @@ pub use Rattle.cat_sound.proofs.ExprTypes.{expressions_go_on}
 pub use Rattle.cat_sound.proofs.Results.{all_front, all_back}
 pub use Rattle.cat_sound.proofs.Endings.{ends_as, ends_choose, ends_then}
 pub use Rattle.cat_sound.proofs.FormTypes.{same_some}
+pub use Rattle.cat_sound.proofs.OperatorTypes.{signature_in}
 pub use Rattle.cat_sound.proofs.TargetTypes.{DefEnds, groups-all, defs-all, judge_target-ends}
 pub use Rattle.cat_sound.proofs.TargetTypes.{all_at, all_more, or_else-ends, settle-ends}
 pub use Rattle.cat_sound.proofs.ScopeParts.{DoneAt, IsDone, IsSound, JudgingEnds, callable, called_is, names_of, not_both}
@@ -32,6 +33,7 @@ pub use Rattle.cat_sound.proofs.RunParts.{first_ok, each_judged}
 pub use Rattle.cat_sound.proofs.DecidedLaws.{each_logged}
 pub use Rattle.cat_sound.proofs.JudgeLaws.{judging_rule, leads_on}
 pub use Rattle.cat_sound.proofs.GroupLaws.{IsAsItsFirst, are_as_their_first}
+pub use Rattle.cat_sound.proofs.RootNumbers.{IsNumbered, numbered_groups, roots_are}
 pub use Rattle.cat_sound.proofs.Rests.{names_alone}
 pub use Rattle.cat_sound.proofs.JudgingSame.{DefSame, target_same}
 pub use Rattle.cat_sound.proofs.ScopeLaws.{scopes_by_rule}

@@ -51,6 +51,7 @@ pub mod DecidedLaws
 mod SoundSamples
 pub mod HeldLaws
 pub mod GroupLaws
+pub mod RootNumbers
 pub mod OneType
 pub mod LowTypes
 pub mod Exported

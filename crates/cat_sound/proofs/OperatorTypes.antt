@@ -229,7 +229,8 @@ module _ (ds : Decls) (p : Pos) (v w : Value) where
   equal-ends t (inl e) hv hw = equal-Boolean (at t ty.Boolean v e hv) (at t ty.Boolean w e hw)
   equal-ends t (inr more) hv hw = equal-ordered t more hv hw
 
-signature_in : (signature : Signature) (ts : List Ty) → IsOneOf signature (map comparison ts) → (t : Ty) × IsOneOf t ts
+-- among the signatures of comparisons of some types is that of one of them
+pub signature_in : (signature : Signature) (ts : List Ty) → IsOneOf signature (map comparison ts) → (t : Ty) × IsOneOf t ts
     × (signature ≡ comparison t)
 signature_in signature [] h = elim h [ ]
 signature_in signature (t ∷ ts) (inl e) = (t, inl refl, e)

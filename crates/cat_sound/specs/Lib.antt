@@ -15,3 +15,5 @@ pub mod Grouped
 pub mod Stopped
 -- what stands in a log
 pub mod Logs
+-- roots by their numbers
+pub mod Roots

@@ -1,5 +1,5 @@
 use Rattle.std.proofs.Common.{◌≡◌, ◌++◌, drop}
-use Rattle.cat_audit_table.specs.inside.Placed.{root_numbers}
+use Rattle.cat_sound.specs.Roots.{root_numbers}
 use Rattle.cat_audit_table.proofs.groups.roots.Given as goal
 
 abbrev pub invariant-loop-number : goal.invariant-loop-number

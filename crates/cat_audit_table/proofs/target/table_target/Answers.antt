@@ -5,10 +5,12 @@ use Rattle.cat_scope.specs.Targets.{defs_from}
 use Rattle.cat_scope.specs.Forests.{definition_numbers, forest_of_groups}
 use Rattle.cat_except.specs.inside.Grouping.{defs_at}
 use Rattle.cat_except.proofs.Exported.{target_defs, target_numbers, few_numbers}
-use Rattle.cat_audit_table.specs.inside.Placed.{Ascend, group_by_places, root_numbers}
+use Rattle.cat_sound.specs.Roots.{root_numbers}
+use Rattle.cat_sound.proofs.Exported.{roots_are}
+use Rattle.cat_audit_table.specs.inside.Placed.{Ascend, group_by_places}
 use Rattle.cat_audit_table.specs.inside.Added.{AddsDefs}
 use Rattle.cat_audit_table.proofs.Placing.{numbers_ascend, groups_placed}
-use Rattle.cat_audit_table.proofs.Rooted.{roots_are, few_groups}
+use Rattle.cat_audit_table.proofs.GroupCounts.{few_groups}
 use Rattle.cat_audit_table.proofs.Steps.{target_added}
 use Rattle.cat_audit_table.proofs.target.table_target.Goals as goal
 

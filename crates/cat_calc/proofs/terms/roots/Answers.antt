@@ -1,6 +1,7 @@
 use Rattle.std.proofs.Common.{ap, ◌∙◌, length, arith}
-use Rattle.cat_calc.specs.inside.Numbered.{root_numbers}
-use Rattle.cat_calc.proofs.Roots.{roots_are, named_at, all_met}
+use Rattle.cat_sound.specs.Roots.{root_numbers}
+use Rattle.cat_sound.proofs.Exported.{roots_are}
+use Rattle.cat_calc.proofs.Roots.{named_at, all_met}
 use Rattle.cat_calc.proofs.terms.roots.Goals as goal
 
 pub is_root-requires : goal.is_root-requires
