@@ -1,6 +1,6 @@
 -- The types that shapes speak of, as declared types tell them, and types that are the same.
-use Rattle.std.proofs.Common.{◌≡◌, ◌≤◌, ℕ, zero, suc, nat_eq, ◌&&◌, Bool, true, false, true≢false, Option, Some, None, List, [], ◌∷◌}
-use Rattle.std.proofs.Common.{slice_get, refl, sym, ap, ◌∙◌, arith}
+use Rattle.std.proofs.Common.{◌≡◌, ◌≤◌, ℕ, zero, suc, ◌&&◌, Bool, true, false, true≢false, Option, Some, None}
+use Rattle.std.proofs.Common.{List, [], ◌∷◌, slice_get, refl, sym, ap, ◌∙◌, arith}
 use Rattle.std.proofs.lemmas.Bool.{eqb-true, eq-eqb}
 use Rattle.cat_value.specs.declared.ty.Ty.{Ty}
 use Rattle.cat_value.specs.declared.ty.Ty.TheOpen.{Ty-F}
@@ -14,8 +14,8 @@ use Rattle.cat_value.specs.Declarations.{highest}
 use Rattle.cat_value.specs.Heights.{height_to, highest_field, structure_parts, highest_part}
 use Rattle.cat_value.specs.Entries.{fields_in}
 use Rattle.cat_value.proofs.Exported.{height_step, height_zero}
-use Rattle.cat_code.specs.Forms.{Form, Forms, Truth, Whole, Fraction, Amount, Day, Span, Many, Fields, OneOf, Last, More}
-use Rattle.cat_code.specs.Forms.{same_form, same_forms, forms_in, structure_form, level, form_to, form_of}
+use Rattle.cat_code.specs.Forms.{Form, Forms, Truth, Whole, Fraction, Amount, Day, Span, Many, Fields, OneOf, Last}
+use Rattle.cat_code.specs.Forms.{More, same_form, same_forms, forms_in, structure_form, level, form_to, form_of}
 
 -- ---- one level, and the next
 
@@ -31,11 +31,13 @@ module _ (f g : Ty → Form) (height : Ty → ℕ) (k : ℕ) (same : (t : Ty) �
       ap (λ (t : Form). More t (forms_in f fs)) (same x.ty (omega arith))
       ∙ ap (λ (ts : Forms). More (g x.ty) ts) (fields_same fs (omega arith))
 
-  structure_same : (o : Option Structure) → structure_parts height o ≤ k → structure_form f (fields_in o) ≡ structure_form g (fields_in o)
+  structure_same : (o : Option Structure) → structure_parts height o ≤ k
+      → structure_form f (fields_in o) ≡ structure_form g (fields_in o)
   structure_same None low = refl
   structure_same (Some s) low = ap Fields (fields_same s.fields low)
 
-  level_same : (ds : Decls) (y : Ty-F Ty) → highest_part ds.structures ds.enumerations height y ≤ k → level ds f y ≡ level ds g y
+  level_same : (ds : Decls) (y : Ty-F Ty) → highest_part ds.structures ds.enumerations height y ≤ k
+      → level ds f y ≡ level ds g y
   level_same ds (Ty-F.List t) low = ap Many (same t low)
   level_same ds (Ty-F.Structure n) low = structure_same (slice_get ds.structures n) low
   level_same ds (Ty-F.Enumeration n) low = refl
@@ -46,19 +48,23 @@ module _ (f g : Ty → Form) (height : Ty → ℕ) (k : ℕ) (same : (t : Ty) �
   level_same ds Ty-F.Date low = refl
   level_same ds Ty-F.Duration low = refl
 
-form_deeper : (ds : Decls) (k : ℕ) (t : Ty) → height_to ds.structures ds.enumerations k t ≤ k → form_to ds k t ≡ form_to ds (suc k) t
+form_deeper : (ds : Decls) (k : ℕ) (t : Ty) → height_to ds.structures ds.enumerations k t ≤ k
+    → form_to ds k t ≡ form_to ds (suc k) t
 form_deeper ds zero t low = absurd (omega (arith, height_zero ds.structures ds.enumerations t))
 form_deeper ds (suc k) t low =
     form_step ds k t
-    ∙ level_same (form_to ds k) (form_to ds (suc k)) (height_to ds.structures ds.enumerations k) k (form_deeper ds k) ds (out-Ty t)
+    ∙ level_same (form_to ds k) (form_to ds (suc k)) (height_to ds.structures ds.enumerations k) k (form_deeper ds k) ds
+    (out-Ty t)
     (omega (arith, height_step ds.structures ds.enumerations k t, low))
     ∙ sym (form_step ds (suc k) t)
 
 -- a type that is no higher than types may be is told by its parts
-pub form_is : (ds : Decls) (t : Ty) → height_to ds.structures ds.enumerations highest t ≤ highest → form_of ds t ≡ level ds (form_of ds) (out-Ty t)
+pub form_is : (ds : Decls) (t : Ty) → height_to ds.structures ds.enumerations highest t ≤ highest
+    → form_of ds t ≡ level ds (form_of ds) (out-Ty t)
 form_is ds t low =
     form_step ds 63 t
-    ∙ level_same (form_to ds 63) (form_to ds 64) (height_to ds.structures ds.enumerations 63) 63 (form_deeper ds 63) ds (out-Ty t)
+    ∙ level_same (form_to ds 63) (form_to ds 64) (height_to ds.structures ds.enumerations 63) 63 (form_deeper ds 63) ds
+    (out-Ty t)
     (omega (arith, height_step ds.structures ds.enumerations 63 t, low))
 
 -- ---- types without parts

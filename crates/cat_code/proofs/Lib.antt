@@ -2,3 +2,4 @@ pub mod OperationLaws
 pub mod MachineExamples
 pub mod Determined
 pub mod FormLaws
+pub mod InputLemmas

@@ -45,7 +45,8 @@ fare_code =
 
 -- what the fare comes to within some steps
 abbrev fare : Decls → ℕ → ℕ → Option Whole
-fare decls steps years = within (fare_tables decls) fare_code steps (started 0 (Some (flat.Integer (pos years)) ∷ None ∷ []))
+fare decls steps years =
+    within (fare_tables decls) fare_code steps (started 0 (Some (flat.Integer (pos years)) ∷ None ∷ []))
 
 -- a price, by the definition at a line and a column
 abbrev decided : ℕ → Pos → Whole

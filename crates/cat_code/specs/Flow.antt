@@ -1,7 +1,7 @@
 -- Where an instruction leads, one line for each: the places at which a run may go on, each with the shape that is left
 -- there. There is none where the instruction lacks what it works on.
 use Rattle.std.specs.Prelude.{ℕ, ◌+◌, ◌-◌, nat_eq, nat_le, nat_lt, ◌&&◌, true, false, List, [], ◌∷◌, ◌++◌, length}
-use Rattle.std.specs.Prelude.{take, replicate, Option, Some, None, slice_get, slice_set, is_none}
+use Rattle.std.specs.Prelude.{take, replicate, Some, None, slice_get, slice_set, is_none}
 use Rattle.cat_value.specs.Entries.{content_of}
 use Rattle.cat_scope.specs.Names.{has_none, scope_items}
 use Rattle.cat_code.specs.declared.instr.Instr.{Instr}
@@ -21,7 +21,8 @@ use Rattle.cat_code.specs.Told.{case_asked, collected_by, constant_form, result_
 abbrev pub flow : Tables → List Instr → Instr → ℕ → Shape → Flow
 flow tables code (instr.Const k) p s = with (constant_form tables k) (λ t. leads (p + 1) (pushed t s))
 flow tables code (instr.Slot i) p s =
-    where_so (is_so (slice_get s.filled i)) (with (slot_form tables.decls s.owner.scope i) (λ t. leads (p + 1) (pushed t s)))
+    where_so (is_so (slice_get s.filled i))
+    (with (slot_form tables.decls s.owner.scope i) (λ t. leads (p + 1) (pushed t s)))
 flow tables code (instr.Local i) p s = with (slice_get s.locals i) (λ t. leads (p + 1) (pushed t s))
 flow tables code (instr.Store i) p s =
     where_so (is_scope s.owner) (with (slot_form tables.decls s.owner.scope i)
@@ -39,10 +40,12 @@ flow tables code (instr.Op n r q) p s =
 flow tables code (instr.Pack n) p s = pop_all n s (λ ts s. leads (p + 1) (pushed (Fields (in_row ts)) s))
 flow tables code (instr.List n) p s =
     pop_all n s (λ ts s. top ts (λ t us. where_so (all_same t us) (leads (p + 1) (pushed (Many t) s))))
-flow tables code (instr.Field i) p s = pop s (λ t s. fields_of t (λ ts. with (form_at ts i) (λ u. leads (p + 1) (pushed u s))))
+flow tables code (instr.Field i) p s =
+    pop s (λ t s. fields_of t (λ ts. with (form_at ts i) (λ u. leads (p + 1) (pushed u s))))
 flow tables code (instr.Tag c) p s =
     with (slice_get tables.cases c) (λ place. with (content_of tables.decls place.enumeration place.case)
-    (λ content. with content (λ t. pop_as (form_of tables.decls t) s (λ s. leads (p + 1) (pushed (OneOf place.enumeration) s)))))
+    (λ content. with content
+    (λ t. pop_as (form_of tables.decls t) s (λ s. leads (p + 1) (pushed (OneOf place.enumeration) s)))))
 flow tables code (instr.TagNone c) p s =
     with (slice_get tables.cases c) (λ place. with (content_of tables.decls place.enumeration place.case)
     (λ content. where_so (is_none content) (leads (p + 1) (pushed (OneOf place.enumeration) s))))
@@ -73,7 +76,8 @@ flow tables code (instr.Scope n) p s =
     (record s { pending = record { scope = n; passed = replicate (length scope.items) false } ∷ s.pending }))
 flow tables code (instr.Pass i) p s =
     where_so (is_pending_inside s.loops s.pending) (top s.pending (λ q qs. with (slot_form tables.decls q.scope i)
-    (λ t. pop_as t s (λ s. leads (p + 1) (record s { pending = record q { passed = slice_set q.passed i true } ∷ qs })))))
+    (λ t. pop_as t s (λ s. leads (p + 1)
+    (record s { pending = record q { passed = slice_set q.passed i true } ∷ qs })))))
 flow tables code instr.Enter p s =
     where_so (is_pending_inside s.loops s.pending) (top s.pending
     (λ q qs. where_so (are_passed (scope_items tables.decls q.scope) q.passed)
@@ -86,7 +90,8 @@ flow tables code (instr.Begin v) p s =
     (λ t. leads (p + 1) (record s { defaults = record { begun = p; holds = t; checked = false } ∷ s.defaults })))
 flow tables code (instr.Hold d) p s =
     where_so (nat_lt d (length tables.definitions) && frames_inside 1 s.loops s.defaults)
-    (top s.defaults (λ f fs. pop_as f.holds s (λ s. leads (p + 1) (record s { defaults = record f { checked = false } ∷ fs }))))
+    (top s.defaults (λ f fs. pop_as f.holds s
+    (λ s. leads (p + 1) (record s { defaults = record f { checked = false } ∷ fs }))))
 flow tables code instr.Merge p s =
     where_so (frames_inside 2 s.loops s.defaults) (top s.defaults (λ f fs. top fs
     (λ g gs. where_so (f.checked && same_form f.holds g.holds)

@@ -1,5 +1,5 @@
 -- Where instructions jump to, what they call, and which numbers they name.
-use Rattle.std.specs.Prelude.{ℕ, nat_lt, nat_le, ◌&&◌, Bool, true, false, List, [], ◌∷◌, ◌++◌, length, Option, Some, None}
+use Rattle.std.specs.Prelude.{ℕ, nat_lt, nat_le, ◌&&◌, Bool, true, List, [], ◌∷◌, length, Option, Some, None}
 use Rattle.cat_code.specs.declared.instr.Instr.{Instr}
 use Rattle.cat_code.specs.declared.instr.Instr.TheVariants as instr
 use Rattle.cat_code.specs.declared.code.Tables.{Tables}

@@ -18,7 +18,8 @@ use Rattle.cat_code.specs.declared.instr.Instr.TheVariants as instr
 use Rattle.cat_code.specs.declared.code.Tables.{Tables}
 use Rattle.cat_code.specs.Operations.{Operation, Before, Between, operation, roundings}
 use Rattle.cat_code.specs.States.{State, Next, Over, on, to, push}
-use Rattle.cat_code.specs.Moves.{with_part, pushes, of_top, pop, pop_all, by_truth, if_filled, if_held, starts, next_of, enters, returns, takes}
+use Rattle.cat_code.specs.Moves.{with_part, pushes, of_top, pop, pop_all, by_truth, if_filled, if_held, starts, next_of}
+use Rattle.cat_code.specs.Moves.{enters, returns, takes}
 
 -- pops the operands of an operator, and pushes its result
 abbrev pub operates : Operation → Rounding → Pos → State → Next
@@ -72,11 +73,16 @@ act tables instr.Return s = returns s.frames s
 act tables (instr.Begin v) s = on (record s { defaults = record { checked = None; held = [] } ∷ s.defaults })
 act tables (instr.Hold d) s =
     pop s (λ v s. of_top s.defaults (λ f fs. with_part (known (slice_get tables.definitions d))
-    (λ at. on (record s { defaults = record f { held = f.held ++ record { number = d; pos = at; value = v } ∷ [] } ∷ fs }))))
+    (λ at. on (record s {
+      defaults =
+          record f { held = f.held ++ record { number = d; pos = at; value = v } ∷ [] } ∷ fs;
+    }))))
 act tables instr.Merge s =
-    of_top s.defaults (λ f fs. of_top fs (λ g gs. on (record s { defaults = record g { held = g.held ++ f.held } ∷ gs })))
+    of_top s.defaults (λ f fs. of_top fs
+    (λ g gs. on (record s { defaults = record g { held = g.held ++ f.held } ∷ gs })))
 act tables (instr.Check v) s =
-    of_top s.defaults (λ f fs. with_part (known (slice_get tables.targets v)) (λ entry. with_part (alone entry.target f.held)
+    of_top s.defaults (λ f fs. with_part (known (slice_get tables.targets v))
+    (λ entry. with_part (alone entry.target f.held)
     (λ found. on (record s { defaults = record f { checked = Some v } ∷ fs }))))
 act tables (instr.Held t) s = of_top s.defaults (λ f fs. if_held f.held (to t s) (on s))
 act tables (instr.Take t) s =

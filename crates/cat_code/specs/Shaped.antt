@@ -1,5 +1,5 @@
 -- Shaped code: each instruction that a run may come to has a shape, and leads only to places whose shapes are met.
-use Rattle.std.specs.Prelude.{◌≡◌, ℕ, ◌+◌, List, [], ◌∷◌, length, map, Option, Some, None, slice_get}
+use Rattle.std.specs.Prelude.{◌≡◌, ℕ, ◌+◌, List, [], ◌∷◌, map, Option, Some, None, slice_get}
 use Rattle.cat_value.specs.declared.declaration.ItemDecl.{ItemDecl}
 use Rattle.cat_value.specs.declared.declaration.Scope.{Scope}
 use Rattle.cat_value.specs.Inputs.{must_be_given}
@@ -35,7 +35,8 @@ abbrev pub AreFine : Tables → List Instr → Shapes → ℕ → List Instr →
 AreFine tables code shapes p [] [] = Unit {0}
 AreFine tables code shapes p [] (s ∷ ss) = ⊥
 AreFine tables code shapes p (i ∷ is) [] = ⊥
-AreFine tables code shapes p (i ∷ is) (s ∷ ss) = FineAt tables code shapes i p s × AreFine tables code shapes (p + 1) is ss
+AreFine tables code shapes p (i ∷ is) (s ∷ ss) =
+    FineAt tables code shapes i p s × AreFine tables code shapes (p + 1) is ss
 
 -- at the entry of a scope its inputs are there, and nothing else
 abbrev pub scope_entry : ℕ → List ItemDecl → Shape

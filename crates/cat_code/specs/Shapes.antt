@@ -7,8 +7,8 @@ pub record Owner : Type 0 where
   pub scope : ℕ
   pub function : Option ℕ
 
--- a default frame: the place of its beginning, with which comes the type of its values, and whether it was checked since
--- it last took an entry
+-- a default frame: the place of its beginning, with which comes the type of its values, and whether it was checked
+-- since it last took an entry
 pub record FrameShape : Type 0 where
   pub begun : ℕ
   pub holds : Form

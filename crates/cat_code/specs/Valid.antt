@@ -1,6 +1,6 @@
 -- Valid code: its numbers are those of entries, it keeps the rules that listings keep, and it is shaped and tame.
-use Rattle.std.specs.Prelude.{◌≡◌, ℕ, ◌+◌, ◌-◌, nat_eq, nat_le, nat_lt, ◌&&◌, Bool, true, false, not, IsTrue, List, [], ◌∷◌}
-use Rattle.std.specs.Prelude.{◌++◌, length, Option, Some, None, is_some, slice_get}
+use Rattle.std.specs.Prelude.{◌≡◌, ℕ, ◌+◌, ◌-◌, nat_eq, nat_le, nat_lt, ◌&&◌, Bool, true, false, not, IsTrue, List, []}
+use Rattle.std.specs.Prelude.{◌∷◌, ◌++◌, length, Option, Some, None, is_some, slice_get}
 use Rattle.std.specs.List.{list_all}
 use Rattle.cat_value.specs.declared.decls.Decls.{Decls}
 use Rattle.cat_value.specs.declared.value.Value.{Value}
@@ -42,7 +42,8 @@ is_loop _ = false
 -- whether a case has content
 abbrev pub has_content : Tables → ℕ → Bool
 has_content tables c =
-    some_passes (λ place. some_passes is_some (content_of tables.decls place.enumeration place.case)) (slice_get tables.cases c)
+    some_passes (λ place. some_passes is_some (content_of tables.decls place.enumeration place.case))
+    (slice_get tables.cases c)
 
 -- whether four instructions push a local name that is found to be a case with content
 abbrev pub are_tested : Tables → Option Instr → Option Instr → Option Instr → Option Instr → Bool
@@ -61,13 +62,15 @@ keeps_rules tables code places p (instr.IterList k) = is_empty_constant (slice_g
 keeps_rules tables code places p (instr.Next t) = nat_le 1 p && is_loop (slice_get code (p - 1))
 keeps_rules tables code places p instr.Content =
     nat_le 4 p && are_apart p places
-    && are_tested tables (slice_get code (p - 4)) (slice_get code (p - 3)) (slice_get code (p - 2)) (slice_get code (p - 1))
+    && are_tested tables (slice_get code (p - 4)) (slice_get code (p - 3)) (slice_get code (p - 2))
+    (slice_get code (p - 1))
 keeps_rules tables code places p _ = true
 
 -- whether the instructions from place p on keep them
 abbrev pub keep_rules : Tables → List Instr → List ℕ → ℕ → List Instr → Bool
 keep_rules tables code places p [] = true
-keep_rules tables code places p (i ∷ is) = keeps_rules tables code places p i && keep_rules tables code places (p + 1) is
+keep_rules tables code places p (i ∷ is) =
+    keeps_rules tables code places p i && keep_rules tables code places (p + 1) is
 
 -- the places at which scopes and functions begin
 abbrev pub entries_of : Tables → List ℕ

@@ -1,5 +1,5 @@
 -- Valid code runs to an end on each well-typed input of each scope.
-use Rattle.std.proofs.Common.{◌≡◌, ℕ, suc, ◌+◌, true, true≢false, IsTrue, List, [], ◌∷◌, map, Option}
+use Rattle.std.proofs.Common.{◌≡◌, ℕ, suc, ◌+◌, true, true≢false, List, [], ◌∷◌, map, Option}
 use Rattle.std.proofs.Common.{Some, None, Result, Err, slice_get, refl, sym, ap, subst, arith}
 use Rattle.std.proofs.lemmas.Bool.{not-true}
 use Rattle.cat_value.specs.declared.ty.Ty.{Ty}
@@ -7,10 +7,9 @@ use Rattle.cat_value.specs.declared.value.Value.{Value}
 use Rattle.cat_value.specs.declared.declaration.Kind.{Kind}
 use Rattle.cat_value.specs.declared.declaration.Kind.TheVariants as kind
 use Rattle.cat_value.specs.declared.declaration.ItemDecl.{ItemDecl}
-use Rattle.cat_value.specs.declared.declaration.Scope.{Scope}
 use Rattle.cat_value.specs.declared.decls.Decls.{Decls}
 use Rattle.cat_value.specs.Declarations.{is_sound}
-use Rattle.cat_value.specs.Inputs.{outputs_in, must_be_given, may_be_given, is_given_for, are_given_for, is_input_for, is_input_of, IsWellTyped}
+use Rattle.cat_value.specs.Inputs.{outputs_in, must_be_given, may_be_given, is_given_for, are_given_for, IsWellTyped}
 use Rattle.cat_value.specs.Laws.{AreSound}
 use Rattle.cat_value.specs.Typing.{has_type}
 use Rattle.cat_value.proofs.Exported.{list_all_at}
@@ -35,6 +34,7 @@ use Rattle.cat_code.specs.Shapes.{Owner}
 use Rattle.cat_code.specs.Shaped.{Shapes, scope_entry}
 use Rattle.cat_code.specs.Valid.{IsValidBy, IsValid, constant_is_sound, entries_of}
 use Rattle.cat_code.proofs.Determined.{one_run}
+use Rattle.cat_code.proofs.InputLemmas.{taken}
 use Rattle.cat_code_sound.specs.Ending.{RunsToAnEnd}
 use Rattle.cat_code_sound.proofs.ValueKinds.{IsOf, reads_fields}
 use Rattle.cat_code_sound.proofs.Fitting.{SlotFits, SlotsFit, Fits, meets_fits}
@@ -56,35 +56,27 @@ given_form ds t kind.Internal may = refl
 given_form ds t kind.Context may = refl
 given_form ds t kind.ContextOutput may = refl
 
-slot_given : (ds : Decls) (sound : AreSound ds) (item : ItemDecl) (o : Option Value) → IsLow ds item.ty → is_given_for ds item o ≡ true
+slot_given : (ds : Decls) (sound : AreSound ds) (item : ItemDecl) (o : Option Value) → IsLow ds item.ty
+    → is_given_for ds item o ≡ true
     → SlotFits ds item (must_be_given item.kind) o
 slot_given ds sound item None low given = not-true (must_be_given item.kind) given
 slot_given ds sound item (Some v) low given =
     let parts = both (may_be_given item.kind) (has_type ds v item.ty) given in
-    subst (λ (f : Form). IsOf ds f v) (sym (given_form ds item.ty item.kind parts.0)) (typed_form ds sound v item.ty parts.1 low)
+    subst (λ (f : Form). IsOf ds f v) (sym (given_form ds item.ty item.kind parts.0))
+    (typed_form ds sound v item.ty parts.1 low)
 
 slots_given : (ds : Decls) (sound : AreSound ds) (items : List ItemDecl) (input : Items)
-    → ((k : ℕ) (item : ItemDecl) → slice_get items k ≡ Some item → IsLow ds item.ty) → are_given_for ds items input ≡ true
+    → ((k : ℕ) (item : ItemDecl) → slice_get items k ≡ Some item → IsLow ds item.ty)
+    → are_given_for ds items input ≡ true
     → SlotsFit ds items (map (λ (item : ItemDecl). must_be_given item.kind) items) input
 slots_given ds sound [] [] low given = tt
 slots_given ds sound [] (o ∷ input) low given = absurd (true≢false (sym given))
 slots_given ds sound (item ∷ items) [] low given = absurd (true≢false (sym given))
 slots_given ds sound (item ∷ items) (o ∷ input) low given =
-    let parts = both (is_given_for ds item o) (are_given_for ds items input) given in
-    (slot_given ds sound item o (low 0 item refl) parts.0, slots_given ds sound items input (λ k x is. low (suc k) x is) parts.1)
-
-record Taken (ds : Decls) (n : ℕ) (input : Items) : Type 0 where
-  scope : Scope
-  is : slice_get ds.scopes n ≡ Some scope
-  given : are_given_for ds scope.items input ≡ true
-
-taken : (ds : Decls) (n : ℕ) (input : Items) → IsWellTyped ds n input → Taken ds n input
-unfolding is_input_of
-taken ds n input typed = by (slice_get ds.scopes n) refl typed
-  where
-    by : (o : Option Scope) → slice_get ds.scopes n ≡ o → IsTrue (is_input_for ds input o) → Taken ds n input
-    by None is given = absurd (true≢false (sym given))
-    by (Some scope) is given = record { scope = scope; is = is; given = given }
+    let parts = both (is_given_for ds item o) (are_given_for ds items input) given in (
+      slot_given ds sound item o (low 0 item refl) parts.0,
+      slots_given ds sound items input (λ k x is. low (suc k) x is) parts.1,
+    )
 
 -- ---- the first frame is left with the fields of a structure
 
@@ -92,17 +84,20 @@ first_ends : (tables : Tables) (code : List Instr) (n : ℕ) (input : Items) (en
     → BackEnds tables code (record { scope = n; function = None }) (started entry input)
 first_ends tables code n input entry v r left =
     let typed : IsOf tables.decls (outputs_form tables.decls n) v
-    = subst (λ (f : Form). IsOf tables.decls f v) (sym (same_some (outputs_form tables.decls n) left.result.0 left.result.1)) left.result.2 in
+    = subst (λ (f : Form). IsOf tables.decls f v)
+    (sym (same_some (outputs_form tables.decls n) left.result.0 left.result.1)) left.result.2 in
     let vs = reads_fields tables.decls (items_forms tables.decls (outputs_in (scope_items tables.decls n))) v typed in
     subst (λ (fs : List Frame). Finishes (EndsFrom tables code) (move.returns fs r)) (sym left.frames)
-    (subst (λ (l : List Value). Finishes (EndsFrom tables code) (move.of_top l (λ w ws. Over (read.parts w)))) (sym left.operands)
+    (subst (λ (l : List Value). Finishes (EndsFrom tables code) (move.of_top l (λ w ws. Over (read.parts w))))
+    (sym left.operands)
     (over (subst (λ (x : Result (List Value) Stop). Ended anything Any x) (sym vs.1) tt)))
 
 -- what a stop tells apart
 is_stuck : (end : Result (List Value) Stop) → Ended anything Any end → end ≡ Err Stuck → ⊥
 is_stuck end goes stuck = subst (λ (x : Result (List Value) Stop). Ended anything Any x) stuck goes
 
-pub code_runs_to_an_end : (tables : Tables) (code : List Instr) → IsValid tables code → AreSound tables.decls → (scope : ℕ) (input : Items)
+pub code_runs_to_an_end : (tables : Tables) (code : List Instr) → IsValid tables code → AreSound tables.decls
+    → (scope : ℕ) (input : Items)
     → IsWellTyped tables.decls scope input → RunsToAnEnd tables code scope input
 code_runs_to_an_end tables code is_valid sound n input typed =
     let shapes : Shapes = is_valid.0 in
@@ -121,9 +116,12 @@ code_runs_to_an_end tables code is_valid sound n input typed =
       owner = ap (λ (k : ℕ). record { scope = k; function = None }) (zero_more n);
       operands = refl;
       locals = refl;
-      slots = subst (λ (l : List ItemDecl). SlotsFit ds l (map (λ (item : ItemDecl). must_be_given item.kind) met.scope.items) input)
+      slots =
+          subst (λ (l : List ItemDecl). SlotsFit ds l
+          (map (λ (item : ItemDecl). must_be_given item.kind) met.scope.items) input)
           (sym (ap items_in met.is)) (slots_given ds sound met.scope.items input
-          (λ k item is. let so = sound.items n k met.scope item met.is is in low_type ds item.ty so.declared so.low) met.given);
+          (λ k item is. let so = sound.items n k met.scope item met.is is in low_type ds item.ty so.declared so.low)
+          met.given);
       kept = tt;
       defaults = refl;
       loops = refl;
@@ -132,12 +130,17 @@ code_runs_to_an_end tables code is_valid sound n input typed =
       pending = refl;
       frames = refl;
     } in
-    let ends = entry_ends tables code shapes valid constant owner there.entry there.met.shape there.met.is (sym there.met.meets.loops)
-    (outer_entry tables code (entries_of tables) valid.rules n there.entry (scope_among tables n there.entry there.entry_is))
+    let ends =
+    entry_ends tables code shapes valid constant owner there.entry there.met.shape there.met.is
+    (sym there.met.meets.loops)
+    (outer_entry tables code (entries_of tables) valid.rules n there.entry
+    (scope_among tables n there.entry there.entry_is))
     start refl []
-    (meets_fits (entered tables code shapes owner start) [] (scope_entry (0 + n) met.scope.items) there.met.shape start there.met.meets begins)
+    (meets_fits (entered tables code shapes owner start) []
+    (scope_entry (0 + n) met.scope.items) there.met.shape start there.met.meets begins)
     (first_ends tables code n input there.entry) in
-    let gives : Gives tables code n input ends.run = record { entry = there.entry; is_entry = there.entry_is; steps = ends.steps; ends = ends.ends } in
+    let gives : Gives tables code n input ends.run =
+    record { entry = there.entry; is_entry = there.entry_is; steps = ends.steps; ends = ends.ends } in
     record {
       run = ends.run;
       gives = gives;

@@ -1,6 +1,7 @@
 -- Rows of values, what they are made into and read from, and the signatures of operators.
 use Rattle.std.proofs.Common.{◌≡◌, ℕ, zero, suc, ◌&&◌, Bool, true, false, true≢false, List, [], ◌∷◌, length, replicate}
-use Rattle.std.proofs.Common.{Option, Some, None, Ok, slice_get, is_none, inl, inr, refl, sym, ap, ◌∙◌, subst, if◌then◌else◌}
+use Rattle.std.proofs.Common.{Option, Some, None, Ok, slice_get, is_none, inl, inr, refl, sym, ap, ◌∙◌, subst}
+use Rattle.std.proofs.Common.{if◌then◌else◌}
 use Rattle.cat_value.specs.declared.ty.Ty.{Ty}
 use Rattle.cat_value.specs.declared.value.Value.{Value}
 use Rattle.cat_value.specs.declared.declaration.ItemDecl.{ItemDecl}
@@ -25,14 +26,16 @@ use Rattle.cat_code_sound.proofs.ValueKinds as kinds
 use Rattle.cat_code_sound.proofs.Fitting.{OnTop, HasFew, CollectedFits, SlotsFit}
 
 -- values one by one as the fields of a row
-pub row_fields : (ds : Decls) (ts : List Form) (vs : List Value) → OnTop (IsOf ds) ts vs [] → AreFields ds (in_row ts) vs
+pub row_fields : (ds : Decls) (ts : List Form) (vs : List Value) → OnTop (IsOf ds) ts vs []
+    → AreFields ds (in_row ts) vs
 row_fields ds [] [] are = kinds.last_field
 row_fields ds [] (v ∷ vs) are = absurd (cc are)
 row_fields ds (t ∷ ts) [] are = absurd are
 row_fields ds (t ∷ ts) (v ∷ vs) are = kinds.next_field are.0 (row_fields ds ts vs are.1)
 
 -- values of types that are all the same
-pub row_all : (ds : Decls) (t : Form) (ts : List Form) (vs : List Value) → all_same t ts ≡ true → OnTop (IsOf ds) ts vs []
+pub row_all : (ds : Decls) (t : Form) (ts : List Form) (vs : List Value) → all_same t ts ≡ true
+    → OnTop (IsOf ds) ts vs []
     → AreAll ds t vs
 row_all ds t [] [] same are = kinds.no_more
 row_all ds t [] (v ∷ vs) same are = absurd (cc are)
@@ -42,7 +45,8 @@ row_all ds t (u ∷ ts) (v ∷ vs) same are =
     kinds.one_more (subst (λ (f : Form). IsOf ds f v) (same_is u t parts.0) are.0) (row_all ds t ts vs parts.1 are.1)
 
 -- a field of a row
-pub field_typed : (ds : Decls) (ts : Forms) (vs : List Value) (k : ℕ) (t : Form) → AreFields ds ts vs → form_at ts k ≡ Some t
+pub field_typed : (ds : Decls) (ts : Forms) (vs : List Value) (k : ℕ) (t : Form) → AreFields ds ts vs
+    → form_at ts k ≡ Some t
     → (v : Value) × (slice_get vs k ≡ Some v) × IsOf ds t v
 field_typed ds forms.Last vs k t are is = absurd (cc is)
 field_typed ds (forms.More u ts) [] k t are is = elim are [ ]
@@ -50,7 +54,8 @@ field_typed ds (forms.More u ts) (v ∷ vs) zero t (kinds.next_field first rest)
     let same : u ≡ t = cc is in (v, refl, subst (λ (f : Form). IsOf ds f v) same first)
 field_typed ds (forms.More u ts) (v ∷ vs) (suc k) t (kinds.next_field first rest) is = field_typed ds ts vs k t rest is
 
-pub part_typed : (ds : Decls) (ts : Forms) (v : Value) (k : ℕ) (t : Form) → IsOf ds (forms.Fields ts) v → form_at ts k ≡ Some t
+pub part_typed : (ds : Decls) (ts : Forms) (v : Value) (k : ℕ) (t : Form) → IsOf ds (forms.Fields ts) v
+    → form_at ts k ≡ Some t
     → (w : Value) × (part k v ≡ Ok w) × IsOf ds t w
 part_typed ds ts v k t is there =
     let vs = reads_fields ds ts v is in
@@ -71,7 +76,8 @@ none_so None is = refl
 none_so (Some a) is = absurd (true≢false (sym is))
 
 -- what a loop has collected
-pub collected_there : (ds : Decls) (o : Option Form) (m : Option (List Value)) (t : Form) → CollectedFits ds o m → o ≡ Some t
+pub collected_there : (ds : Decls) (o : Option Form) (m : Option (List Value)) (t : Form) → CollectedFits ds o m
+    → o ≡ Some t
     → (vs : List Value) × (m ≡ Some vs) × AreAll ds t vs
 collected_there ds None m t fits is = absurd (cc is)
 collected_there ds (Some u) None t fits is = absurd fits
@@ -83,7 +89,8 @@ pub collected_so : (ds : Decls) (o : Option Form) (t : Form) (vs : List Value) �
 collected_so ds o t vs is all = subst (λ (x : Option Form). CollectedFits ds x (Some vs)) (sym is) all
 
 -- nothing is passed yet
-pub nothing_passed : (ds : Decls) (items : List ItemDecl) → SlotsFit ds items (replicate (length items) false) (no_values items)
+pub nothing_passed : (ds : Decls) (items : List ItemDecl)
+    → SlotsFit ds items (replicate (length items) false) (no_values items)
 nothing_passed ds [] = tt
 nothing_passed ds (item ∷ items) = (refl, nothing_passed ds items)
 

@@ -24,12 +24,14 @@ use Rattle.cat_code_sound.proofs.Running.{EntryEnds, LoopsEnd, entered}
 use Rattle.cat_code_sound.proofs.Ends.{from}
 
 module _ (tables : Tables) (code : List Instr) (shapes : Shapes) (valid : IsValidBy tables code shapes)
-    (typed : (k : ℕ) (c : Constant) → slice_get tables.constants k ≡ Some c → IsOf tables.decls (form_of tables.decls c.ty) c.value) where
+    (typed : (k : ℕ) (c : Constant) → slice_get tables.constants k ≡ Some c
+    → IsOf tables.decls (form_of tables.decls c.ty) c.value) where
   -- the calls that are under way: each leads from its own owner to the present one
   abbrev IsTrail : List ℕ → Owner → Type 0
   IsTrail [] to = Unit {0}
   IsTrail (p ∷ trail) to =
-      ((shape : Shape) × (slice_get shapes p ≡ Some (Some shape)) × LeadTo code shapes shape.owner to) × IsTrail trail to
+      ((shape : Shape) × (slice_get shapes p ≡ Some (Some shape)) × LeadTo code shapes shape.owner to)
+      × IsTrail trail to
 
   longer : (trail : List ℕ) (a b : Owner) → IsTrail trail a → IsCallOf code shapes a b → IsTrail trail b
   longer [] a b is call = tt
@@ -40,7 +42,8 @@ module _ (tables : Tables) (code : List Instr) (shapes : Shapes) (valid : IsVali
       onward a b c (tame.chain {b = d} first rest) last = tame.chain first (onward d b c rest last)
 
   -- a call that is under way is none of the present owner
-  not_twice : (trail : List ℕ) (a : Owner) (q : ℕ) (shape : Shape) → IsTrail trail a → slice_get shapes q ≡ Some (Some shape) → shape.owner ≡ a
+  not_twice : (trail : List ℕ) (a : Owner) (q : ℕ) (shape : Shape) → IsTrail trail a
+      → slice_get shapes q ≡ Some (Some shape) → shape.owner ≡ a
       → list_any (eqb q) trail ≡ false
   not_twice [] a q shape is there own = refl
   not_twice (p ∷ trail) a q shape is there own =
@@ -50,7 +53,8 @@ module _ (tables : Tables) (code : List Instr) (shapes : Shapes) (valid : IsVali
       by false e rest = rest
       by true e rest =
           let same : q ≡ p = grind (arith, nat_tests, e) in
-          let one : Some shape ≡ Some is.0.0 = same_some (Some shape) (Some is.0.0) (sym there ∙ ap (slice_get shapes) same ∙ is.0.1) in
+          let one : Some shape ≡ Some is.0.0 =
+          same_some (Some shape) (Some is.0.0) (sym there ∙ ap (slice_get shapes) same ∙ is.0.1) in
           let owner : is.0.0.owner ≡ a = ap (λ (x : Shape). x.owner) (sym (same_some shape is.0.0 one)) ∙ own in
           absurd (valid.tame.acyclic a (subst (λ (x : Owner). LeadTo code shapes x a) owner is.0.2))
 
@@ -65,7 +69,8 @@ module _ (tables : Tables) (code : List Instr) (shapes : Shapes) (valid : IsVali
       by false e g = below q g
 
   -- each that is entered ends, counted down by the calls that are under way
-  entries_end : (left : ℕ) (trail : List ℕ) (owner : Owner) → IsTrail trail owner → IsDistinct eqb trail → AreBelow trail
+  entries_end : (left : ℕ) (trail : List ℕ) (owner : Owner) → IsTrail trail owner → IsDistinct eqb trail
+      → AreBelow trail
       → length code < length trail + left → EntryEnds tables code shapes owner
   entries_end zero trail owner is apart below most entry shape there none outer s at turns fits back =
       absurd (omega (arith, length-le_from_distinct_below trail (length code) apart below))
@@ -92,7 +97,8 @@ module _ (tables : Tables) (code : List Instr) (shapes : Shapes) (valid : IsVali
       (apart_push call.place trail (not_twice trail owner call.place call.shape is call.shape_is call.owner_is) apart)
       (below_push call.place trail (within code call.place call.instruction call.instruction_is) below)
       (omega arith))
-      back (length code) s (omega arith) (subst (Outer code) place outer) shape (ap (slice_get shapes) (sym place) ∙ there) turns
+      back (length code) s (omega arith) (subst (Outer code) place outer) shape
+      (ap (slice_get shapes) (sym place) ∙ there) turns
       (record {
         owner = fits.owner;
         operands = fits.operands;
@@ -102,7 +108,9 @@ module _ (tables : Tables) (code : List Instr) (shapes : Shapes) (valid : IsVali
         defaults = fits.defaults;
         loops = fits.loops;
         turns_are = fits.turns_are;
-        around = subst (λ (ls : List LoopShape). LoopsEnd tables code shapes (entered tables code shapes owner s) ls turns) (sym none) tt;
+        around =
+            subst (λ (ls : List LoopShape). LoopsEnd tables code shapes (entered tables code shapes owner s) ls turns)
+            (sym none) tt;
         pending = fits.pending;
         frames = fits.frames;
       })

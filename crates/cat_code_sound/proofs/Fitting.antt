@@ -1,5 +1,6 @@
 -- A state fits a shape over what its frame found when it was entered.
-use Rattle.std.proofs.Common.{◌≡◌, ℕ, Bool, true, false, List, [], ◌∷◌, length, Option, Some, None, refl, sym, ap, ◌∙◌, subst}
+use Rattle.std.proofs.Common.{◌≡◌, ℕ, Bool, true, false, List, [], ◌∷◌, length, Option, Some, None, refl, sym, ap, ◌∙◌}
+use Rattle.std.proofs.Common.{subst}
 use Rattle.cat_value.specs.declared.value.Value.{Value}
 use Rattle.cat_value.specs.declared.declaration.ItemDecl.{ItemDecl}
 use Rattle.cat_value.specs.declared.decls.Decls.{Decls}
@@ -68,8 +69,9 @@ abbrev pub lefts : List Loop → List ℕ
 lefts [] = []
 lefts (l ∷ ls) = length l.left ∷ lefts ls
 
--- what is known of a frame: the tables of its code, to what it belongs, what lay below when it was entered, which scopes
--- its code may call, where a shape is met, and what holds of the loops in which it stands with so many elements left
+-- what is known of a frame: the tables of its code, to what it belongs, what lay below when it was entered, which
+-- scopes its code may call, where a shape is met, and what holds of the loops in which it stands with so many elements
+-- left
 pub record Setting : Type 1 where
   pub tables : Tables
   pub owner : Owner
@@ -98,7 +100,8 @@ pub record Fits (here : Setting) (turns : List ℕ) (shape : Shape) (s : State) 
 
 -- ---- what fits a shape fits each shape that it meets
 
-slot_fewer : (ds : Decls) (item : ItemDecl) (a b : Bool) (o : Option Value) → (a ≡ true → b ≡ true) → SlotFits ds item b o
+slot_fewer : (ds : Decls) (item : ItemDecl) (a b : Bool) (o : Option Value) → (a ≡ true → b ≡ true)
+    → SlotFits ds item b o
     → SlotFits ds item a o
 slot_fewer ds item a b (Some v) fewer fits = fits
 slot_fewer ds item false b None fewer fits = refl
@@ -167,15 +170,24 @@ pub meets_fits : (here : Setting) (turns : List ℕ) (left shape : Shape) (s : S
     → Fits here turns left s → Fits here turns shape s
 meets_fits here turns left shape s meets fits = record {
   owner = sym meets.owner ∙ fits.owner;
-  operands = subst (λ (ts : List Form). OnTop (IsOf here.tables.decls) ts s.operands here.below.operands) meets.operands fits.operands;
+  operands =
+      subst (λ (ts : List Form). OnTop (IsOf here.tables.decls) ts s.operands here.below.operands) meets.operands
+      fits.operands;
   locals = subst (λ (ts : List Form). OnTop (IsOf here.tables.decls) ts s.locals []) meets.locals fits.locals;
-  slots = slots_fewer here.tables.decls (scope_items here.tables.decls here.owner.scope) shape.filled left.filled s.slots meets.filled fits.slots;
+  slots =
+      slots_fewer here.tables.decls
+      (scope_items here.tables.decls here.owner.scope) shape.filled left.filled s.slots meets.filled fits.slots;
   kept = fits.kept;
-  defaults = frames_meet here.tables.decls left.defaults shape.defaults s.defaults here.below.defaults meets.defaults fits.defaults;
-  loops = subst (λ (ls : List LoopShape). OnTop (LoopFits here.tables.decls) ls s.loops here.below.loops) meets.loops fits.loops;
+  defaults =
+      frames_meet here.tables.decls left.defaults shape.defaults s.defaults here.below.defaults meets.defaults
+      fits.defaults;
+  loops =
+      subst (λ (ls : List LoopShape). OnTop (LoopFits here.tables.decls) ls s.loops here.below.loops) meets.loops
+      fits.loops;
   turns_are = fits.turns_are;
   around = subst (λ (ls : List LoopShape). here.Around ls turns) meets.loops fits.around;
-  pending = pendings_meet here.tables.decls here.Known left.pending shape.pending s.pending here.below.pending meets.pending
+  pending =
+      pendings_meet here.tables.decls here.Known left.pending shape.pending s.pending here.below.pending meets.pending
       fits.pending;
   frames = fits.frames;
 }
@@ -187,16 +199,25 @@ pub same_fits : (here : Setting) (turns : List ℕ) (shape : Shape) (s r : State
     → s.pending ≡ r.pending → s.frames ≡ r.frames → Fits here turns shape r
 same_fits here turns shape s r fits operands locals slots defaults loops pending frames = record {
   owner = fits.owner;
-  operands = subst (λ (vs : List Value). OnTop (IsOf here.tables.decls) shape.operands vs here.below.operands) operands fits.operands;
+  operands =
+      subst (λ (vs : List Value). OnTop (IsOf here.tables.decls) shape.operands vs here.below.operands) operands
+      fits.operands;
   locals = subst (λ (vs : List Value). OnTop (IsOf here.tables.decls) shape.locals vs []) locals fits.locals;
-  slots = subst (λ (os : Items). SlotsFit here.tables.decls (scope_items here.tables.decls here.owner.scope) shape.filled os) slots fits.slots;
+  slots =
+      subst (λ (os : Items). SlotsFit here.tables.decls
+      (scope_items here.tables.decls here.owner.scope) shape.filled os) slots fits.slots;
   kept = subst (λ (os : Items). KeepsSlots here.owner.function os here.below.slots) slots fits.kept;
-  defaults = subst (λ (fs : List DefaultFrame). OnTop (FrameFits here.tables.decls) shape.defaults fs here.below.defaults) defaults
+  defaults =
+      subst (λ (fs : List DefaultFrame). OnTop (FrameFits here.tables.decls) shape.defaults fs here.below.defaults)
+      defaults
       fits.defaults;
-  loops = subst (λ (ls : List Loop). OnTop (LoopFits here.tables.decls) shape.loops ls here.below.loops) loops fits.loops;
+  loops =
+      subst (λ (ls : List Loop). OnTop (LoopFits here.tables.decls) shape.loops ls here.below.loops) loops fits.loops;
   turns_are = ap lefts (sym loops) ∙ fits.turns_are;
   around = fits.around;
-  pending = subst (λ (ps : List Pending). OnTop (PendingFits here.tables.decls here.Known) shape.pending ps here.below.pending) pending
+  pending =
+      subst (λ (ps : List Pending). OnTop
+      (PendingFits here.tables.decls here.Known) shape.pending ps here.below.pending) pending
       fits.pending;
   frames = sym frames ∙ fits.frames;
 }

@@ -1,6 +1,6 @@
 -- No operator is stuck on values of the types that it takes: it gives a value of the type of its result, or a fault.
-use Rattle.std.proofs.Common.{◌≡◌, inl, inr, ℤ, pos, ◌-ℤ◌, neg_ℤ, Bool, not, List, [], ◌∷◌, map, Result, Ok, refl, sym, ap}
-use Rattle.std.proofs.Common.{subst}
+use Rattle.std.proofs.Common.{◌≡◌, inl, inr, ℤ, pos, ◌-ℤ◌, neg_ℤ, Bool, not, List, [], ◌∷◌, map, Result, Ok, refl, sym}
+use Rattle.std.proofs.Common.{ap, subst}
 use Rattle.std.specs.declared.cmp.Ordering.{Ordering}
 use Rattle.cat_pos.specs.declared.pos.Pos.{Pos}
 use Rattle.cat_num.specs.declared.fault.NumFault.{NumFault}
@@ -33,13 +33,14 @@ use Rattle.cat_scope.specs.Names.{IsOneOf}
 use Rattle.cat_scope.specs.Signatures.{Signature, signatures_of, comparison, ordered_types, compared_types, taken_by}
 use Rattle.cat_scope.specs.Signatures.{given_by}
 use Rattle.cat_sound.specs.Endings.{ResultsIn}
+use Rattle.cat_sound.proofs.Exported.{signature_in}
 use Rattle.cat_sound.proofs.Results.{Any, result_as, result_then, result_two, result_exact}
 use Rattle.cat_sound.proofs.FlatTypes.{IsDated, result_dated, range-dated, sum-dated, compared-dated}
 use Rattle.cat_code.specs.Forms.{Form, form_of}
 use Rattle.cat_code.specs.Forms as forms
 use Rattle.cat_code.proofs.FormLaws.{form_Boolean, form_Integer, form_Decimal, form_Money, form_Date, form_Duration}
-use Rattle.cat_code_sound.proofs.ValueKinds.{IsOf, reads_truth, reads_whole, reads_fraction, reads_amount, reads_day, reads_span}
-use Rattle.cat_code_sound.proofs.ValueKinds.{of_truth, of_whole, of_fraction, of_amount, of_day, of_span}
+use Rattle.cat_code_sound.proofs.ValueKinds.{IsOf, reads_truth, reads_whole, reads_fraction, reads_amount, reads_day}
+use Rattle.cat_code_sound.proofs.ValueKinds.{reads_span, of_truth, of_whole, of_fraction, of_amount, of_day, of_span}
 
 -- a value of a declared type
 abbrev pub Has : Decls → Ty → Value → Type 0
@@ -59,7 +60,8 @@ reads-Boolean ds v h =
     result_as (Any {A = Bool}) (read.truth v) (Ok is.0) (ap read.truth_in is.1) tt
 
 has-Boolean : (ds : Decls) (a : Bool) → Has ds ty.Boolean (flat.Boolean a)
-has-Boolean ds a = seen_as ds forms.Truth (form_of ds ty.Boolean) (flat.Boolean a) (sym (form_Boolean ds)) (of_truth ds a)
+has-Boolean ds a =
+    seen_as ds forms.Truth (form_of ds ty.Boolean) (flat.Boolean a) (sym (form_Boolean ds)) (of_truth ds a)
 
 level-Integer : (ds : Decls) (v : Value) → Has ds ty.Integer v → (a : ℤ) × (value.out-Value v ≡ Value-F.Integer a)
 level-Integer ds v h = reads_whole ds v (seen_as ds (form_of ds ty.Integer) forms.Whole v (form_Integer ds) h)
@@ -70,9 +72,11 @@ reads-Integer ds v h =
     result_as (Any {A = ℤ}) (read.integer v) (Ok is.0) (ap read.integer_in is.1) tt
 
 has-Integer : (ds : Decls) (a : ℤ) → Has ds ty.Integer (flat.Integer a)
-has-Integer ds a = seen_as ds forms.Whole (form_of ds ty.Integer) (flat.Integer a) (sym (form_Integer ds)) (of_whole ds a)
+has-Integer ds a =
+    seen_as ds forms.Whole (form_of ds ty.Integer) (flat.Integer a) (sym (form_Integer ds)) (of_whole ds a)
 
-level-Decimal : (ds : Decls) (v : Value) → Has ds ty.Decimal v → (a : Fraction) × (value.out-Value v ≡ Value-F.Decimal a)
+level-Decimal : (ds : Decls) (v : Value) → Has ds ty.Decimal v
+    → (a : Fraction) × (value.out-Value v ≡ Value-F.Decimal a)
 level-Decimal ds v h = reads_fraction ds v (seen_as ds (form_of ds ty.Decimal) forms.Fraction v (form_Decimal ds) h)
 
 reads-Decimal : (ds : Decls) (v : Value) → Has ds ty.Decimal v → ResultsIn (Any {A = Fraction}) (read.decimal v)
@@ -81,7 +85,8 @@ reads-Decimal ds v h =
     result_as (Any {A = Fraction}) (read.decimal v) (Ok is.0) (ap read.decimal_in is.1) tt
 
 has-Decimal : (ds : Decls) (a : Fraction) → Has ds ty.Decimal (flat.Decimal a)
-has-Decimal ds a = seen_as ds forms.Fraction (form_of ds ty.Decimal) (flat.Decimal a) (sym (form_Decimal ds)) (of_fraction ds a)
+has-Decimal ds a =
+    seen_as ds forms.Fraction (form_of ds ty.Decimal) (flat.Decimal a) (sym (form_Decimal ds)) (of_fraction ds a)
 
 level-Money : (ds : Decls) (v : Value) → Has ds ty.Money v → (a : ℤ) × (value.out-Value v ≡ Value-F.Money a)
 level-Money ds v h = reads_amount ds v (seen_as ds (form_of ds ty.Money) forms.Amount v (form_Money ds) h)
@@ -105,7 +110,8 @@ reads-Date ds v h =
 has-Date : (ds : Decls) (a : ℤ) → Has ds ty.Date (flat.Date a)
 has-Date ds a = seen_as ds forms.Day (form_of ds ty.Date) (flat.Date a) (sym (form_Date ds)) (of_day ds a)
 
-level-Duration : (ds : Decls) (v : Value) → Has ds ty.Duration v → (a : SpanOf) × (value.out-Value v ≡ Value-F.Duration a)
+level-Duration : (ds : Decls) (v : Value) → Has ds ty.Duration v
+    → (a : SpanOf) × (value.out-Value v ≡ Value-F.Duration a)
 level-Duration ds v h = reads_span ds v (seen_as ds (form_of ds ty.Duration) forms.Span v (form_Duration ds) h)
 
 reads-Duration : (ds : Decls) (v : Value) → Has ds ty.Duration v → ResultsIn (Any {A = SpanOf}) (read.duration v)
@@ -114,7 +120,8 @@ reads-Duration ds v h =
     result_as (Any {A = SpanOf}) (read.duration v) (Ok is.0) (ap read.duration_in is.1) tt
 
 has-Duration : (ds : Decls) (a : SpanOf) → Has ds ty.Duration (flat.Duration a)
-has-Duration ds a = seen_as ds forms.Span (form_of ds ty.Duration) (flat.Duration a) (sym (form_Duration ds)) (of_span ds a)
+has-Duration ds a =
+    seen_as ds forms.Span (form_of ds ty.Duration) (flat.Duration a) (sym (form_Duration ds)) (of_span ds a)
 
 -- ---- what stands before one operand
 
@@ -143,21 +150,36 @@ module _ (ds : Decls) (p : Pos) where
 -- an operator before one operand
 pub conversions_go_on : (ds : Decls) (p : Pos) (v : Value) (o : UnaryOp) → Has ds (taken_by o) v
     → ResultsIn (Has ds (given_by o)) (convert o p v)
-conversions_go_on ds p v unary.NegateInteger is = one ds ty.Integer (read.integer v) _ (reads-Integer ds v is) (λ a. has-Integer ds (neg_ℤ a))
-conversions_go_on ds p v unary.NegateDecimal is = one ds ty.Decimal (read.decimal v) _ (reads-Decimal ds v is) (λ a. has-Decimal ds (frac_negation a))
-conversions_go_on ds p v unary.NegateMoney is = one ds ty.Money (read.money v) _ (reads-Money ds v is) (λ a. has-Money ds (neg_ℤ a))
-conversions_go_on ds p v unary.NegateDuration is = one ds ty.Duration (read.duration v) _ (reads-Duration ds v is) (λ a. has-Duration ds (span_negated a))
-conversions_go_on ds p v unary.Not is = one ds ty.Boolean (read.truth v) _ (reads-Boolean ds v is) (λ a. has-Boolean ds (not a))
-conversions_go_on ds p v unary.IntegerOfDecimal is = one ds ty.Integer (read.decimal v) _ (reads-Decimal ds v is) (λ a. has-Integer ds (truncated a.num a.den))
-conversions_go_on ds p v unary.DecimalOfInteger is = one ds ty.Decimal (read.integer v) _ (reads-Integer ds v is) (λ a. has-Decimal ds (over_one a))
-conversions_go_on ds p v unary.DecimalOfMoney is = one ds ty.Decimal (read.money v) _ (reads-Money ds v is) (λ a. has-Decimal ds (lowest a 100))
-conversions_go_on ds p v unary.MoneyOfDecimal is = one ds ty.Money (read.decimal v) _ (reads-Decimal ds v is) (λ a. money-is ds p (money_product (pos 100) a))
-conversions_go_on ds p v unary.MoneyOfInteger is = one ds ty.Money (read.integer v) _ (reads-Integer ds v is) (λ a. money-is ds p (whole_product a (pos 100)))
-conversions_go_on ds p v unary.RoundDecimal is = one ds ty.Decimal (read.decimal v) _ (reads-Decimal ds v is) (λ a. has-Decimal ds (over_one (rounded a.num a.den)))
-conversions_go_on ds p v unary.RoundMoney is = one ds ty.Money (read.money v) _ (reads-Money ds v is) (λ a. has-Money ds (whole_units a))
-conversions_go_on ds p v unary.YearOfDate is = one ds ty.Integer (read.date v) _ (reads-Date ds v is) (λ a. has-Integer ds (civil_of a).year)
-conversions_go_on ds p v unary.MonthOfDate is = one ds ty.Integer (read.date v) _ (reads-Date ds v is) (λ a. has-Integer ds (pos (civil_of a).month))
-conversions_go_on ds p v unary.DayOfDate is = one ds ty.Integer (read.date v) _ (reads-Date ds v is) (λ a. has-Integer ds (pos (civil_of a).day))
+conversions_go_on ds p v unary.NegateInteger is =
+    one ds ty.Integer (read.integer v) _ (reads-Integer ds v is) (λ a. has-Integer ds (neg_ℤ a))
+conversions_go_on ds p v unary.NegateDecimal is =
+    one ds ty.Decimal (read.decimal v) _ (reads-Decimal ds v is) (λ a. has-Decimal ds (frac_negation a))
+conversions_go_on ds p v unary.NegateMoney is =
+    one ds ty.Money (read.money v) _ (reads-Money ds v is) (λ a. has-Money ds (neg_ℤ a))
+conversions_go_on ds p v unary.NegateDuration is =
+    one ds ty.Duration (read.duration v) _ (reads-Duration ds v is) (λ a. has-Duration ds (span_negated a))
+conversions_go_on ds p v unary.Not is =
+    one ds ty.Boolean (read.truth v) _ (reads-Boolean ds v is) (λ a. has-Boolean ds (not a))
+conversions_go_on ds p v unary.IntegerOfDecimal is =
+    one ds ty.Integer (read.decimal v) _ (reads-Decimal ds v is) (λ a. has-Integer ds (truncated a.num a.den))
+conversions_go_on ds p v unary.DecimalOfInteger is =
+    one ds ty.Decimal (read.integer v) _ (reads-Integer ds v is) (λ a. has-Decimal ds (over_one a))
+conversions_go_on ds p v unary.DecimalOfMoney is =
+    one ds ty.Decimal (read.money v) _ (reads-Money ds v is) (λ a. has-Decimal ds (lowest a 100))
+conversions_go_on ds p v unary.MoneyOfDecimal is =
+    one ds ty.Money (read.decimal v) _ (reads-Decimal ds v is) (λ a. money-is ds p (money_product (pos 100) a))
+conversions_go_on ds p v unary.MoneyOfInteger is =
+    one ds ty.Money (read.integer v) _ (reads-Integer ds v is) (λ a. money-is ds p (whole_product a (pos 100)))
+conversions_go_on ds p v unary.RoundDecimal is =
+    one ds ty.Decimal (read.decimal v) _ (reads-Decimal ds v is) (λ a. has-Decimal ds (over_one (rounded a.num a.den)))
+conversions_go_on ds p v unary.RoundMoney is =
+    one ds ty.Money (read.money v) _ (reads-Money ds v is) (λ a. has-Money ds (whole_units a))
+conversions_go_on ds p v unary.YearOfDate is =
+    one ds ty.Integer (read.date v) _ (reads-Date ds v is) (λ a. has-Integer ds (civil_of a).year)
+conversions_go_on ds p v unary.MonthOfDate is =
+    one ds ty.Integer (read.date v) _ (reads-Date ds v is) (λ a. has-Integer ds (pos (civil_of a).month))
+conversions_go_on ds p v unary.DayOfDate is =
+    one ds ty.Integer (read.date v) _ (reads-Date ds v is) (λ a. has-Integer ds (pos (civil_of a).day))
 
 -- ---- comparisons
 
@@ -200,7 +222,8 @@ module _ (ds : Decls) (p : Pos) (v w : Value) where
       let is = level-Duration ds v hv in
       compared-at (Value-F.Duration is.0) is.1
       (result_then (Any {A = SpanOf}) (Any {A = Ordering}) (read.duration w) _ (reads-Duration ds w hw)
-      (λ b h. result_dated (Any {A = Ordering}) p (λ o. o) (compared_spans is.0 b) (compared-dated is.0 b) (λ o told. tt)))
+      (λ b h. result_dated (Any {A = Ordering}) p (λ o. o) (compared_spans is.0 b) (compared-dated is.0 b)
+      (λ o told. tt)))
 
   at : (t u : Ty) (x : Value) → t ≡ u → Has ds t x → Has ds u x
   at t u x e h = subst (λ s. Has ds s x) e h
@@ -255,12 +278,6 @@ module _ (ds : Decls) (p : Pos) (v w : Value) where
   equal-ends t (inl e) hv hw = equal-Boolean (at t ty.Boolean v e hv) (at t ty.Boolean w e hw)
   equal-ends t (inr more) hv hw = equal-ordered t more hv hw
 
-signature_in : (signature : Signature) (ts : List Ty) → IsOneOf signature (map comparison ts) → (t : Ty) × IsOneOf t ts
-    × (signature ≡ comparison t)
-signature_in signature [] h = elim h [ ]
-signature_in signature (t ∷ ts) (inl e) = (t, inl refl, e)
-signature_in signature (t ∷ ts) (inr h) = let rest = signature_in signature ts h in (rest.0, inr rest.1, rest.2)
-
 module _ (ds : Decls) (p : Pos) (v w : Value) (signature : Signature) where
   by_order : (next : Ordering → Bool) → IsOneOf signature (map comparison ordered_types) → Has ds signature.left v
       → Has ds signature.right w
@@ -308,80 +325,105 @@ pub operators_go_on : (ds : Decls) (r : Rounding) (p : Pos) (v w : Value) (signa
     → IsOneOf signature (signatures_of o) → Has ds signature.left v → Has ds signature.right w
     → ResultsIn (Has ds signature.result) (operate r o p v w)
 operators_go_on ds r p v w signature binary.AddIntegers is hv hw =
-    two ds v w signature ty.Integer ty.Integer ty.Integer read.integer read.integer _ is hv hw (reads-Integer ds v) (reads-Integer ds w)
+    two ds v w signature ty.Integer ty.Integer ty.Integer read.integer read.integer _ is hv hw (reads-Integer ds v)
+    (reads-Integer ds w)
     (λ a b. integer-is ds p (whole_sum a b))
 operators_go_on ds r p v w signature binary.SubtractIntegers is hv hw =
-    two ds v w signature ty.Integer ty.Integer ty.Integer read.integer read.integer _ is hv hw (reads-Integer ds v) (reads-Integer ds w)
+    two ds v w signature ty.Integer ty.Integer ty.Integer read.integer read.integer _ is hv hw (reads-Integer ds v)
+    (reads-Integer ds w)
     (λ a b. integer-is ds p (whole_difference a b))
 operators_go_on ds r p v w signature binary.MultiplyIntegers is hv hw =
-    two ds v w signature ty.Integer ty.Integer ty.Integer read.integer read.integer _ is hv hw (reads-Integer ds v) (reads-Integer ds w)
+    two ds v w signature ty.Integer ty.Integer ty.Integer read.integer read.integer _ is hv hw (reads-Integer ds v)
+    (reads-Integer ds w)
     (λ a b. integer-is ds p (whole_product a b))
 operators_go_on ds r p v w signature binary.DivideIntegers is hv hw =
-    two ds v w signature ty.Integer ty.Integer ty.Decimal read.integer read.integer _ is hv hw (reads-Integer ds v) (reads-Integer ds w)
+    two ds v w signature ty.Integer ty.Integer ty.Decimal read.integer read.integer _ is hv hw (reads-Integer ds v)
+    (reads-Integer ds w)
     (λ a b. decimal-is ds p (frac_of a b))
 operators_go_on ds r p v w signature binary.AddDecimals is hv hw =
-    two ds v w signature ty.Decimal ty.Decimal ty.Decimal read.decimal read.decimal _ is hv hw (reads-Decimal ds v) (reads-Decimal ds w)
+    two ds v w signature ty.Decimal ty.Decimal ty.Decimal read.decimal read.decimal _ is hv hw (reads-Decimal ds v)
+    (reads-Decimal ds w)
     (λ a b. decimal-is ds p (frac_sum a b))
 operators_go_on ds r p v w signature binary.SubtractDecimals is hv hw =
-    two ds v w signature ty.Decimal ty.Decimal ty.Decimal read.decimal read.decimal _ is hv hw (reads-Decimal ds v) (reads-Decimal ds w)
+    two ds v w signature ty.Decimal ty.Decimal ty.Decimal read.decimal read.decimal _ is hv hw (reads-Decimal ds v)
+    (reads-Decimal ds w)
     (λ a b. decimal-is ds p (frac_difference a b))
 operators_go_on ds r p v w signature binary.MultiplyDecimals is hv hw =
-    two ds v w signature ty.Decimal ty.Decimal ty.Decimal read.decimal read.decimal _ is hv hw (reads-Decimal ds v) (reads-Decimal ds w)
+    two ds v w signature ty.Decimal ty.Decimal ty.Decimal read.decimal read.decimal _ is hv hw (reads-Decimal ds v)
+    (reads-Decimal ds w)
     (λ a b. decimal-is ds p (frac_product a b))
 operators_go_on ds r p v w signature binary.DivideDecimals is hv hw =
-    two ds v w signature ty.Decimal ty.Decimal ty.Decimal read.decimal read.decimal _ is hv hw (reads-Decimal ds v) (reads-Decimal ds w)
+    two ds v w signature ty.Decimal ty.Decimal ty.Decimal read.decimal read.decimal _ is hv hw (reads-Decimal ds v)
+    (reads-Decimal ds w)
     (λ a b. decimal-is ds p (frac_quotient a b))
 operators_go_on ds r p v w signature binary.AddMoney is hv hw =
-    two ds v w signature ty.Money ty.Money ty.Money read.money read.money _ is hv hw (reads-Money ds v) (reads-Money ds w)
+    two ds v w signature ty.Money ty.Money ty.Money read.money read.money _ is hv hw (reads-Money ds v)
+    (reads-Money ds w)
     (λ a b. money-is ds p (whole_sum a b))
 operators_go_on ds r p v w signature binary.SubtractMoney is hv hw =
-    two ds v w signature ty.Money ty.Money ty.Money read.money read.money _ is hv hw (reads-Money ds v) (reads-Money ds w)
+    two ds v w signature ty.Money ty.Money ty.Money read.money read.money _ is hv hw (reads-Money ds v)
+    (reads-Money ds w)
     (λ a b. money-is ds p (whole_difference a b))
 operators_go_on ds r p v w signature binary.MultiplyMoneyByDecimal is hv hw =
-    two ds v w signature ty.Money ty.Decimal ty.Money read.money read.decimal _ is hv hw (reads-Money ds v) (reads-Decimal ds w)
+    two ds v w signature ty.Money ty.Decimal ty.Money read.money read.decimal _ is hv hw (reads-Money ds v)
+    (reads-Decimal ds w)
     (λ a b. money-is ds p (money_product a b))
 operators_go_on ds r p v w signature binary.MultiplyDecimalByMoney is hv hw =
-    two ds v w signature ty.Decimal ty.Money ty.Money read.decimal read.money _ is hv hw (reads-Decimal ds v) (reads-Money ds w)
+    two ds v w signature ty.Decimal ty.Money ty.Money read.decimal read.money _ is hv hw (reads-Decimal ds v)
+    (reads-Money ds w)
     (λ a b. money-is ds p (money_product b a))
 operators_go_on ds r p v w signature binary.MultiplyMoneyByInteger is hv hw =
-    two ds v w signature ty.Money ty.Integer ty.Money read.money read.integer _ is hv hw (reads-Money ds v) (reads-Integer ds w)
+    two ds v w signature ty.Money ty.Integer ty.Money read.money read.integer _ is hv hw (reads-Money ds v)
+    (reads-Integer ds w)
     (λ a b. money-is ds p (whole_product a b))
 operators_go_on ds r p v w signature binary.MultiplyIntegerByMoney is hv hw =
-    two ds v w signature ty.Integer ty.Money ty.Money read.integer read.money _ is hv hw (reads-Integer ds v) (reads-Money ds w)
+    two ds v w signature ty.Integer ty.Money ty.Money read.integer read.money _ is hv hw (reads-Integer ds v)
+    (reads-Money ds w)
     (λ a b. money-is ds p (whole_product a b))
 operators_go_on ds r p v w signature binary.DivideMoneyByDecimal is hv hw =
-    two ds v w signature ty.Money ty.Decimal ty.Money read.money read.decimal _ is hv hw (reads-Money ds v) (reads-Decimal ds w)
+    two ds v w signature ty.Money ty.Decimal ty.Money read.money read.decimal _ is hv hw (reads-Money ds v)
+    (reads-Decimal ds w)
     (λ a b. money-is ds p (money_quotient a b))
 operators_go_on ds r p v w signature binary.DivideMoneyByInteger is hv hw =
-    two ds v w signature ty.Money ty.Integer ty.Money read.money read.integer _ is hv hw (reads-Money ds v) (reads-Integer ds w)
+    two ds v w signature ty.Money ty.Integer ty.Money read.money read.integer _ is hv hw (reads-Money ds v)
+    (reads-Integer ds w)
     (λ a b. money-is ds p (rounded_ratio a b))
 operators_go_on ds r p v w signature binary.DivideMoney is hv hw =
-    two ds v w signature ty.Money ty.Money ty.Decimal read.money read.money _ is hv hw (reads-Money ds v) (reads-Money ds w)
+    two ds v w signature ty.Money ty.Money ty.Decimal read.money read.money _ is hv hw (reads-Money ds v)
+    (reads-Money ds w)
     (λ a b. decimal-is ds p (frac_of a b))
 operators_go_on ds r p v w signature binary.AddDurationToDate is hv hw =
-    two ds v w signature ty.Date ty.Duration ty.Date read.date read.duration _ is hv hw (reads-Date ds v) (reads-Duration ds w)
+    two ds v w signature ty.Date ty.Duration ty.Date read.date read.duration _ is hv hw (reads-Date ds v)
+    (reads-Duration ds w)
     (λ a b. date-is ds p (day_plus_span a b r) (sum-dated a b r))
 operators_go_on ds r p v w signature binary.SubtractDurationFromDate is hv hw =
-    two ds v w signature ty.Date ty.Duration ty.Date read.date read.duration _ is hv hw (reads-Date ds v) (reads-Duration ds w)
+    two ds v w signature ty.Date ty.Duration ty.Date read.date read.duration _ is hv hw (reads-Date ds v)
+    (reads-Duration ds w)
     (λ a b. date-is ds p (day_plus_span a (span_negated b) r) (sum-dated a (span_negated b) r))
 operators_go_on ds r p v w signature binary.SubtractDates is hv hw =
     two ds v w signature ty.Date ty.Date ty.Duration read.date read.date _ is hv hw (reads-Date ds v) (reads-Date ds w)
     (λ a b. has-Duration ds (span_of_days (a -ℤ b)))
 operators_go_on ds r p v w signature binary.AddDurations is hv hw =
-    two ds v w signature ty.Duration ty.Duration ty.Duration read.duration read.duration _ is hv hw (reads-Duration ds v) (reads-Duration ds w)
+    two ds v w signature ty.Duration ty.Duration ty.Duration read.duration read.duration _ is hv hw
+    (reads-Duration ds v) (reads-Duration ds w)
     (λ a b. duration-is ds p _)
 operators_go_on ds r p v w signature binary.SubtractDurations is hv hw =
-    two ds v w signature ty.Duration ty.Duration ty.Duration read.duration read.duration _ is hv hw (reads-Duration ds v) (reads-Duration ds w)
+    two ds v w signature ty.Duration ty.Duration ty.Duration read.duration read.duration _ is hv hw
+    (reads-Duration ds v) (reads-Duration ds w)
     (λ a b. duration-is ds p _)
 operators_go_on ds r p v w signature binary.MultiplyDurationByInteger is hv hw =
-    two ds v w signature ty.Duration ty.Integer ty.Duration read.duration read.integer _ is hv hw (reads-Duration ds v) (reads-Integer ds w)
+    two ds v w signature ty.Duration ty.Integer ty.Duration read.duration read.integer _ is hv hw (reads-Duration ds v)
+    (reads-Integer ds w)
     (λ a b. duration-is ds p _)
 operators_go_on ds r p v w signature binary.Xor is hv hw =
-    two ds v w signature ty.Boolean ty.Boolean ty.Boolean read.truth read.truth _ is hv hw (reads-Boolean ds v) (reads-Boolean ds w)
+    two ds v w signature ty.Boolean ty.Boolean ty.Boolean read.truth read.truth _ is hv hw (reads-Boolean ds v)
+    (reads-Boolean ds w)
     (λ a b. has-Boolean ds (differ a b))
 operators_go_on ds r p v w signature binary.Less is hv hw = by_order ds p v w signature is_less is hv hw
-operators_go_on ds r p v w signature binary.AtMost is hv hw = by_order ds p v w signature (λ x. not (is_greater x)) is hv hw
+operators_go_on ds r p v w signature binary.AtMost is hv hw =
+    by_order ds p v w signature (λ x. not (is_greater x)) is hv hw
 operators_go_on ds r p v w signature binary.Greater is hv hw = by_order ds p v w signature is_greater is hv hw
-operators_go_on ds r p v w signature binary.AtLeast is hv hw = by_order ds p v w signature (λ x. not (is_less x)) is hv hw
+operators_go_on ds r p v w signature binary.AtLeast is hv hw =
+    by_order ds p v w signature (λ x. not (is_less x)) is hv hw
 operators_go_on ds r p v w signature binary.Equal is hv hw = by_equality ds p v w signature (λ x. x) is hv hw
 operators_go_on ds r p v w signature binary.Unequal is hv hw = by_equality ds p v w signature (λ x. not x) is hv hw

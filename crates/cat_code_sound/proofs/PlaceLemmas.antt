@@ -21,12 +21,14 @@ use Rattle.cat_code.specs.Valid.{has_content, are_tested, are_apart, keeps_rules
 -- ---- what holds of each instruction from a place on
 
 -- an instruction that has a shape is fine by it
-pub record FineHere (tables : Tables) (code : List Instr) (shapes : Shapes) (p : ℕ) (is : List Instr) (k : ℕ) (shape : Shape) : Type 0 where
+pub record FineHere (tables : Tables) (code : List Instr) (shapes : Shapes) (p : ℕ) (is : List Instr) (k : ℕ)
+    (shape : Shape) : Type 0 where
   pub instruction : Instr
   pub instruction_is : slice_get is k ≡ Some instruction
   pub fine : IsFine tables code shapes instruction (p + k) shape
 
-pub fine_at : (tables : Tables) (code : List Instr) (shapes : Shapes) (p : ℕ) (is : List Instr) (ss : Shapes) (k : ℕ) (shape : Shape)
+pub fine_at : (tables : Tables) (code : List Instr) (shapes : Shapes) (p : ℕ) (is : List Instr) (ss : Shapes) (k : ℕ)
+    (shape : Shape)
     → AreFine tables code shapes p is ss → slice_get ss k ≡ Some (Some shape) → FineHere tables code shapes p is k shape
 fine_at tables code shapes p [] [] k shape fine there = absurd (cc there)
 fine_at tables code shapes p [] (s ∷ ss) k shape fine there = absurd fine
@@ -51,7 +53,8 @@ fine_at tables code shapes p (i ∷ is) (s ∷ ss) (suc k) shape fine there =
     }
 
 pub rule_at : (tables : Tables) (code : List Instr) (places : List ℕ) (p : ℕ) (is : List Instr) (k : ℕ) (i : Instr)
-    → keep_rules tables code places p is ≡ true → slice_get is k ≡ Some i → keeps_rules tables code places (p + k) i ≡ true
+    → keep_rules tables code places p is ≡ true → slice_get is k ≡ Some i
+    → keeps_rules tables code places (p + k) i ≡ true
 rule_at tables code places p [] k i keep there = absurd (cc there)
 rule_at tables code places p (x ∷ is) zero i keep there =
     let same : x ≡ i = cc there in
@@ -65,7 +68,8 @@ rule_at tables code places p (x ∷ is) (suc k) i keep there =
     subst (λ (n : ℕ). keeps_rules tables code places n i ≡ true) place
     (rule_at tables code places (p + 1) is k i parts.1 there)
 
-pub forward_at : (code : List Instr) (p : ℕ) (is : List Instr) (k : ℕ) (i : Instr) → AreForward code p is → slice_get is k ≡ Some i
+pub forward_at : (code : List Instr) (p : ℕ) (is : List Instr) (k : ℕ) (i : Instr) → AreForward code p is
+    → slice_get is k ≡ Some i
     → is_forward code (p + k) i (jump_of i) ≡ true
 forward_at code p [] k i forward there = absurd (cc there)
 forward_at code p (x ∷ is) zero i forward there =
@@ -83,7 +87,8 @@ pub record Entered (shapes : Shapes) (es : List ℕ) (k n : ℕ) (scope : Scope)
   pub entry_is : slice_get es k ≡ Some entry
   pub met : IsMet shapes entry (scope_entry n scope.items)
 
-pub entry_at : (shapes : Shapes) (n : ℕ) (scopes : List Scope) (es : List ℕ) (k : ℕ) (scope : Scope) → AreEntries shapes n scopes es
+pub entry_at : (shapes : Shapes) (n : ℕ) (scopes : List Scope) (es : List ℕ) (k : ℕ) (scope : Scope)
+    → AreEntries shapes n scopes es
     → slice_get scopes k ≡ Some scope → Entered shapes es k (n + k) scope
 entry_at shapes n [] es k scope are there = absurd (cc there)
 entry_at shapes n (x ∷ scopes) [] k scope are there = absurd are
@@ -106,7 +111,8 @@ entry_at shapes n (x ∷ scopes) (e ∷ es) (suc k) scope are there =
     }
 
 -- the places of scopes stand in front of those of functions
-pub scope_among : (tables : Tables) (n entry : ℕ) → slice_get tables.scopes n ≡ Some entry → slice_get (entries_of tables) n ≡ Some entry
+pub scope_among : (tables : Tables) (n entry : ℕ) → slice_get tables.scopes n ≡ Some entry
+    → slice_get (entries_of tables) n ≡ Some entry
 scope_among tables n entry is = front tables.scopes n is
   where
     front : (xs : List ℕ) (k : ℕ) → slice_get xs k ≡ Some entry → slice_get (xs ++ tables.functions) k ≡ Some entry
@@ -129,13 +135,15 @@ function_among tables f entry is = behind tables.scopes
 all_front : (test : ℕ → Bool) (xs ys : List ℕ) → list_all test (xs ++ ys) ≡ true → list_all test xs ≡ true
 all_front test [] ys all = refl
 all_front test (x ∷ xs) ys all =
-    let parts = both (test x) (list_all test (xs ++ ys)) all in and_both (test x) (list_all test xs) parts.0 (all_front test xs ys parts.1)
+    let parts = both (test x) (list_all test (xs ++ ys)) all in
+    and_both (test x) (list_all test xs) parts.0 (all_front test xs ys parts.1)
 
 all_back : (test : ℕ → Bool) (xs ys : List ℕ) → list_all test (xs ++ ys) ≡ true → list_all test ys ≡ true
 all_back test [] ys all = all
 all_back test (x ∷ xs) ys all = all_back test xs ys (both (test x) (list_all test (xs ++ ys)) all).1
 
-jump_tested : (test : ℕ → Bool) (is : List Instr) (k : ℕ) (i : Instr) (t : ℕ) → slice_get is k ≡ Some i → jump_of i ≡ Some t
+jump_tested : (test : ℕ → Bool) (is : List Instr) (k : ℕ) (i : Instr) (t : ℕ) → slice_get is k ≡ Some i
+    → jump_of i ≡ Some t
     → list_all test (jumps_in is) ≡ true → test t ≡ true
 jump_tested test [] k i t there jumps all = absurd (cc there)
 jump_tested test (x ∷ is) zero i t there jumps all =
@@ -169,7 +177,8 @@ pub record Tested (tables : Tables) (a b c d : Option Instr) : Type 0 where
   pub fourth : d ≡ Some (instr.Local local)
 
 pub tested_there : (tables : Tables) (a b c d : Option Instr) → are_tested tables a b c d ≡ true → Tested tables a b c d
-tested_there tables (Some (instr.Local i)) (Some (instr.IsCase k)) (Some (instr.JumpFalse t)) (Some (instr.Local j)) is =
+tested_there tables (Some (instr.Local i)) (Some (instr.IsCase k)) (Some (instr.JumpFalse t))
+    (Some (instr.Local j)) is =
     let parts = both (nat_eq i j) (has_content tables k) is in
     record {
       local = i;
@@ -187,8 +196,10 @@ module _ (code : List Instr) where
   abbrev pub Outer : ℕ → Type 0
   Outer q = (c : ℕ) → slice_get code c ≡ Some instr.Content → q ≤ c → c ≤ q + 3 → ⊥
 
-module _ (tables : Tables) (code : List Instr) (entries : List ℕ) (keep : keep_rules tables code (jumps_in code ++ entries) 0 code ≡ true) where
-  content_keeps : (c : ℕ) → slice_get code c ≡ Some instr.Content → keeps_rules tables code (jumps_in code ++ entries) c instr.Content ≡ true
+module _ (tables : Tables) (code : List Instr) (entries : List ℕ)
+    (keep : keep_rules tables code (jumps_in code ++ entries) 0 code ≡ true) where
+  content_keeps : (c : ℕ) → slice_get code c ≡ Some instr.Content
+      → keeps_rules tables code (jumps_in code ++ entries) c instr.Content ≡ true
   content_keeps c there =
       let place : 0 + c ≡ c = omega arith in
       subst (λ (n : ℕ). keeps_rules tables code (jumps_in code ++ entries) n instr.Content ≡ true) place
@@ -197,7 +208,8 @@ module _ (tables : Tables) (code : List Instr) (entries : List ℕ) (keep : keep
   content_apart : (c : ℕ) → slice_get code c ≡ Some instr.Content → are_apart c (jumps_in code ++ entries) ≡ true
   content_apart c there =
       let parts = both (nat_le 4 c && are_apart c (jumps_in code ++ entries))
-      (are_tested tables (slice_get code (c - 4)) (slice_get code (c - 3)) (slice_get code (c - 2)) (slice_get code (c - 1))) (content_keeps c there) in
+      (are_tested tables (slice_get code (c - 4)) (slice_get code (c - 3)) (slice_get code (c - 2))
+      (slice_get code (c - 1))) (content_keeps c there) in
       (both (nat_le 4 c) (are_apart c (jumps_in code ++ entries)) parts.0).1
 
   -- the five instructions that end in a `content`
@@ -206,16 +218,21 @@ module _ (tables : Tables) (code : List Instr) (entries : List ℕ) (keep : keep
   content_tests q there =
       let c : ℕ = q + 4 in
       let parts = both (nat_le 4 c && are_apart c (jumps_in code ++ entries))
-      (are_tested tables (slice_get code (c - 4)) (slice_get code (c - 3)) (slice_get code (c - 2)) (slice_get code (c - 1))) (content_keeps c there) in
+      (are_tested tables (slice_get code (c - 4)) (slice_get code (c - 3)) (slice_get code (c - 2))
+      (slice_get code (c - 1))) (content_keeps c there) in
       let a : q + 4 - 4 ≡ q = omega arith in
       let b : q + 4 - 3 ≡ q + 1 = omega arith in
       let d : q + 4 - 2 ≡ q + 2 = omega arith in
       let e : q + 4 - 1 ≡ q + 3 = omega arith in
       tested_there tables (slice_get code q) (slice_get code (q + 1)) (slice_get code (q + 2)) (slice_get code (q + 3))
-      (subst (λ (n : ℕ). are_tested tables (slice_get code q) (slice_get code (q + 1)) (slice_get code (q + 2)) (slice_get code n) ≡ true) e
-      (subst (λ (n : ℕ). are_tested tables (slice_get code q) (slice_get code (q + 1)) (slice_get code n) (slice_get code (q + 4 - 1)) ≡ true) d
-      (subst (λ (n : ℕ). are_tested tables (slice_get code q) (slice_get code n) (slice_get code (q + 4 - 2)) (slice_get code (q + 4 - 1)) ≡ true) b
-      (subst (λ (n : ℕ). are_tested tables (slice_get code n) (slice_get code (q + 4 - 3)) (slice_get code (q + 4 - 2)) (slice_get code (q + 4 - 1)) ≡ true) a
+      (subst (λ (n : ℕ). are_tested tables (slice_get code q) (slice_get code (q + 1)) (slice_get code (q + 2))
+      (slice_get code n) ≡ true) e
+      (subst (λ (n : ℕ). are_tested tables (slice_get code q) (slice_get code (q + 1)) (slice_get code n)
+      (slice_get code (q + 4 - 1)) ≡ true) d
+      (subst (λ (n : ℕ). are_tested tables (slice_get code q) (slice_get code n) (slice_get code (q + 4 - 2))
+      (slice_get code (q + 4 - 1)) ≡ true) b
+      (subst (λ (n : ℕ). are_tested tables (slice_get code n) (slice_get code (q + 4 - 3)) (slice_get code (q + 4 - 2))
+      (slice_get code (q + 4 - 1)) ≡ true) a
       parts.1))))
 
   contents_far : (c t : ℕ) → not (nat_le c (t + 3) && nat_le t c) ≡ true → t ≤ c → c ≤ t + 3 → ⊥
@@ -256,25 +273,31 @@ module _ (tables : Tables) (code : List Instr) (entries : List ℕ) (keep : keep
       told : Tested tables (slice_get code p) (slice_get code (p + 1)) (slice_get code (p + 2)) (slice_get code (p + 3))
       told = content_tests p there
 
-      at : (q : ℕ) → c ≡ q + 4 → Tested tables (slice_get code q) (slice_get code (q + 1)) (slice_get code (q + 2)) (slice_get code (q + 3))
+      at : (q : ℕ) → c ≡ q + 4
+          → Tested tables (slice_get code q) (slice_get code (q + 1)) (slice_get code (q + 2)) (slice_get code (q + 3))
       at q is = content_tests q (ap (slice_get code) (sym is) ∙ content)
 
       by : (d : ℕ) → c ≡ p + 5 + d → d ≤ 3 → ⊥
       by zero is less =
           let t = at (p + 1) (omega arith) in
-          let e : instr.Local t.local ≡ instr.IsCase told.asked = same_some (instr.Local t.local) (instr.IsCase told.asked) (sym t.first ∙ told.second) in
+          let e : instr.Local t.local ≡ instr.IsCase told.asked =
+          same_some (instr.Local t.local) (instr.IsCase told.asked) (sym t.first ∙ told.second) in
           cc e
       by (suc zero) is less =
           let t = at (p + 2) (omega arith) in
-          let e : instr.Local t.local ≡ instr.JumpFalse told.other = same_some (instr.Local t.local) (instr.JumpFalse told.other) (sym t.first ∙ told.third) in
+          let e : instr.Local t.local ≡ instr.JumpFalse told.other =
+          same_some (instr.Local t.local) (instr.JumpFalse told.other) (sym t.first ∙ told.third) in
           cc e
       by (suc (suc zero)) is less =
           let t = at (p + 3) (omega arith) in
           let place : p + 3 + 1 ≡ p + 4 = omega arith in
-          let e : instr.IsCase t.asked ≡ instr.Content = same_some (instr.IsCase t.asked) instr.Content (sym (ap (slice_get code) (sym place) ∙ t.second) ∙ there) in
+          let e : instr.IsCase t.asked ≡ instr.Content =
+          same_some (instr.IsCase t.asked) instr.Content
+          (sym (ap (slice_get code) (sym place) ∙ t.second) ∙ there) in
           cc e
       by (suc (suc (suc zero))) is less =
           let t = at (p + 4) (omega arith) in
-          let e : instr.Local t.local ≡ instr.Content = same_some (instr.Local t.local) instr.Content (sym t.first ∙ there) in
+          let e : instr.Local t.local ≡ instr.Content =
+          same_some (instr.Local t.local) instr.Content (sym t.first ∙ there) in
           cc e
       by (suc (suc (suc (suc d)))) is less = absurd (omega arith)

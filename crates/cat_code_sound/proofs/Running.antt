@@ -1,6 +1,6 @@
 -- Runs that end, and what ends where a frame is left.
-use Rattle.std.proofs.Common.{◌≡◌, ℕ, zero, suc, ◌+◌, true, List, [], ◌∷◌, ◌++◌, Option, Some, None, slice_get, refl, sym}
-use Rattle.std.proofs.Common.{ap, ◌∙◌, subst}
+use Rattle.std.proofs.Common.{◌≡◌, ℕ, zero, suc, ◌+◌, true, List, [], ◌∷◌, ◌++◌, Option, Some, None, slice_get, refl}
+use Rattle.std.proofs.Common.{sym, ap, ◌∙◌, subst}
 use Rattle.cat_value.specs.declared.value.Value.{Value}
 use Rattle.cat_scope.specs.Runs.{plain}
 use Rattle.cat_sound.specs.Endings.{Ended}
@@ -47,7 +47,8 @@ module _ (tables : Tables) (code : List Instr) where
         goes_on = rest.goes_on;
       }
 
-  pub run_by : (s : State) (i : Instr) → slice_get code s.place ≡ Some i → Finishes EndsFrom (act tables i s) → EndsFrom s
+  pub run_by : (s : State) (i : Instr) → slice_get code s.place ≡ Some i → Finishes EndsFrom (act tables i s)
+      → EndsFrom s
   run_by s i is finishes =
       run_on s (subst (λ (o : Option Instr). Finishes EndsFrom (act_at tables o s)) (sym is) finishes)
 
@@ -85,7 +86,8 @@ module _ (tables : Tables) (code : List Instr) where
     abbrev pub EntryEnds : Owner → Type 0
     EntryEnds owner =
         (entry : ℕ) (shape : Shape) → slice_get shapes entry ≡ Some (Some shape) → shape.loops ≡ [] → Outer code entry
-        → (s : State) → s.place ≡ entry → (turns : List ℕ) → Fits (entered owner s) turns shape s → BackEnds owner s → EndsFrom s
+        → (s : State) → s.place ≡ entry → (turns : List ℕ) → Fits (entered owner s) turns shape s → BackEnds owner s
+        → EndsFrom s
 
     -- from the `next` of a loop, with so many elements left, it ends
     abbrev pub TurnEnds : Setting → LoopShape → List LoopShape → ℕ → List ℕ → Type 0

@@ -47,7 +47,8 @@ filled_there ds (item ∷ items) (b ∷ filled) (o ∷ slots) (suc i) fits so =
     record { item = rest.item; value = rest.value; item_is = rest.item_is; slot_is = rest.slot_is; typed = rest.typed }
 
 -- a value put into a slot
-pub stored_fits : (ds : Decls) (items : List ItemDecl) (filled : List Bool) (slots : Items) (i : ℕ) (item : ItemDecl) (v : Value)
+pub stored_fits : (ds : Decls) (items : List ItemDecl) (filled : List Bool) (slots : Items) (i : ℕ) (item : ItemDecl)
+    (v : Value)
     → slice_get items i ≡ Some item → IsOf ds (item_form ds item) v → SlotsFit ds items filled slots
     → SlotsFit ds items (slice_set filled i true) (with_entry i (Some v) slots)
 stored_fits ds [] filled slots i item v is typed fits = absurd (cc is)
@@ -61,7 +62,8 @@ stored_fits ds (x ∷ items) (b ∷ filled) (o ∷ slots) (suc i) item v is type
 
 -- a slot that is found to be filled is known to be so
 pub found_fits : (ds : Decls) (items : List ItemDecl) (filled : List Bool) (slots : Items) (i : ℕ) (v : Value)
-    → slice_get slots i ≡ Some (Some v) → SlotsFit ds items filled slots → SlotsFit ds items (slice_set filled i true) slots
+    → slice_get slots i ≡ Some (Some v) → SlotsFit ds items filled slots
+    → SlotsFit ds items (slice_set filled i true) slots
 found_fits ds items filled [] i v is fits = absurd (cc is)
 found_fits ds [] filled (o ∷ slots) i v is fits = absurd (none filled fits)
   where
@@ -74,7 +76,8 @@ found_fits ds (x ∷ items) (b ∷ filled) (Some w ∷ slots) zero v is fits = f
 found_fits ds (x ∷ items) (b ∷ filled) (o ∷ slots) (suc i) v is fits =
     (fits.0, found_fits ds items filled slots i v is fits.1)
 
-pub slots_long : (ds : Decls) (items : List ItemDecl) (filled : List Bool) (slots : Items) → SlotsFit ds items filled slots
+pub slots_long : (ds : Decls) (items : List ItemDecl) (filled : List Bool) (slots : Items)
+    → SlotsFit ds items filled slots
     → length filled ≡ length slots
 slots_long ds [] [] [] fits = refl
 slots_long ds [] [] (o ∷ slots) fits = absurd fits

@@ -18,10 +18,11 @@ use Rattle.cat_code.specs.Told.{collected_by, constant_form}
 use Rattle.cat_code.specs.Flow.{flow}
 use Rattle.cat_code_sound.proofs.ValueKinds.{IsOf, AreAll, reads_many, of_many}
 use Rattle.cat_code_sound.proofs.ValueKinds as kinds
-use Rattle.cat_code_sound.proofs.Fitting.{OnTop, CollectedFits, LoopFits, Setting, Fits, lefts, unbound, loops_fit, unbound_fits}
-use Rattle.cat_code_sound.proofs.Fitting.{pushed_fits}
-use Rattle.cat_code_sound.proofs.Stepping.{Finishes, GoesOn, Fine, fine_where, fine_one, fine_two, fine_top, fine_elements}
-use Rattle.cat_code_sound.proofs.Stepping.{finish_on, finish_to, finish_push, finish_ok, finish_pop, finish_over}
+use Rattle.cat_code_sound.proofs.Fitting.{OnTop, CollectedFits, LoopFits, Setting, Fits, lefts, unbound, loops_fit}
+use Rattle.cat_code_sound.proofs.Fitting.{unbound_fits, pushed_fits}
+use Rattle.cat_code_sound.proofs.Stepping.{Finishes, GoesOn, Fine, fine_where, fine_one, fine_two, fine_top}
+use Rattle.cat_code_sound.proofs.Stepping.{fine_elements, finish_on, finish_to, finish_push, finish_ok, finish_pop}
+use Rattle.cat_code_sound.proofs.Stepping.{finish_over}
 use Rattle.cat_code_sound.proofs.SoundSlots.{Sound}
 
 module _ (here : Setting) (code : List Instr) (Good : State → Type 0) where
@@ -45,21 +46,27 @@ module _ (here : Setting) (code : List Instr) (Good : State → Type 0) where
       let loop : Loop = record { left = vs.0; collected = m } in
       finish_ok here Good i s.place (read.elements v) vs.0
       (λ (xs : List Value). on (record s { loops = record { left = xs; collected = m } ∷ s.loops })) vs.1
-      (finish_on here Good i s.place (length vs.0 ∷ turns) (record shape { loops = l ∷ shape.loops }) (record s { loops = loop ∷ s.loops }) refl
-      (loops_fit here turns shape s (length vs.0 ∷ turns) (l ∷ shape.loops) (loop ∷ s.loops) (unbound_fits here turns shape s fits)
+      (finish_on here Good i s.place (length vs.0 ∷ turns) (record shape { loops = l ∷ shape.loops })
+      (record s { loops = loop ∷ s.loops }) refl
+      (loops_fit here turns shape s (length vs.0 ∷ turns) (l ∷ shape.loops) (loop ∷ s.loops)
+      (unbound_fits here turns shape s fits)
       (record { left = vs.2; collected = collects }, fits.loops) (ap (λ (ns : List ℕ). length vs.0 ∷ ns) fits.turns_are)
       (begun l refl (length vs.0)))
       (fine_one here Good i s.place (s.place + 1) (record shape { loops = l ∷ shape.loops }) fine))
 
-  pub sound_iter : (turns : List ℕ) (shape : Shape) (s : State) → Begins s.place shape.loops turns → Fits here turns shape s
+  pub sound_iter : (turns : List ℕ) (shape : Shape) (s : State) → Begins s.place shape.loops turns
+      → Fits here turns shape s
       → Fine here Good instr.Iter s.place (flow here.tables code instr.Iter s.place shape)
       → Finishes Good (act here.tables instr.Iter s)
   sound_iter turns shape s begun fits fine =
       finish_pop here Good instr.Iter s.place turns shape s (λ t r. lead.elements_of t (λ u. begins s.place u None r))
       (λ v r. move.starts None v r) fits fine
       (λ t ts v vs is left f.
-      let u = fine_elements here Good instr.Iter s.place t (λ u. begins s.place u None (record shape { operands = ts })) f in
-      begins_finishes instr.Iter turns (record shape { operands = ts }) (record s { operands = vs }) u.0 v None None left
+      let u =
+      fine_elements here Good instr.Iter s.place t
+      (λ u. begins s.place u None (record shape { operands = ts })) f in
+      begins_finishes instr.Iter turns (record shape { operands = ts })
+      (record s { operands = vs }) u.0 v None None left
       (subst (λ (k : Form). IsOf here.tables.decls k v) u.1 is) tt begun u.2)
 
   fine_collected : (i : Instr) (p : ℕ) (o : Option Form) (go : Form → Flow) → Fine here Good i p (collected_by o go)
@@ -78,10 +85,16 @@ module _ (here : Setting) (code : List Instr) (Good : State → Type 0) where
       (λ v r. move.starts (Some []) v r) fits fine
       (λ t ts v vs is left f.
       let u = fine_elements here Good i s.place t
-      (λ u. collected_by (constant_form here.tables k) (λ c. begins s.place u (Some c) (record shape { operands = ts }))) f in
-      let list = fine_collected i s.place (constant_form here.tables k) (λ c. begins s.place u.0 (Some c) (record shape { operands = ts })) u.2 in
-      let c = fine_elements here Good i s.place list.0 (λ c. begins s.place u.0 (Some c) (record shape { operands = ts })) list.1 in
-      begins_finishes i turns (record shape { operands = ts }) (record s { operands = vs }) u.0 v (Some c.0) (Some []) left
+      (λ u. collected_by (constant_form here.tables k)
+      (λ c. begins s.place u (Some c) (record shape { operands = ts }))) f in
+      let list =
+      fine_collected i s.place (constant_form here.tables k)
+      (λ c. begins s.place u.0 (Some c) (record shape { operands = ts })) u.2 in
+      let c =
+      fine_elements here Good i s.place list.0
+      (λ c. begins s.place u.0 (Some c) (record shape { operands = ts })) list.1 in
+      begins_finishes i turns (record shape { operands = ts }) (record s { operands = vs }) u.0 v (Some c.0)
+      (Some []) left
       (subst (λ (k : Form). IsOf here.tables.decls k v) u.1 is) kinds.no_more begun c.2)
 
   -- what a loop leaves behind where nothing is left in it
@@ -106,9 +119,11 @@ module _ (here : Setting) (code : List Instr) (Good : State → Type 0) where
       let i : Instr = instr.Next t in
       let x = fine_top here Good i s.place shape.loops
       (λ (l : LoopShape) (ls : List LoopShape). where_so (nat_eq (l.begun + 1) s.place)
-      (leads_two (s.place + 1) (pushed l.element shape) t (loop_ended l.collected (record shape { loops = ls })))) fine in
+      (leads_two (s.place + 1) (pushed l.element shape) t (loop_ended l.collected (record shape { loops = ls }))))
+      fine in
       let w = fine_where here Good i s.place (nat_eq (x.0.begun + 1) s.place)
-      (leads_two (s.place + 1) (pushed x.0.element shape) t (loop_ended x.0.collected (record shape { loops = x.1 }))) x.3 in
+      (leads_two (s.place + 1) (pushed x.0.element shape) t (loop_ended x.0.collected (record shape { loops = x.1 })))
+      x.3 in
       let two = fine_two here Good i s.place (s.place + 1) (pushed x.0.element shape) t
       (loop_ended x.0.collected (record shape { loops = x.1 })) w.1 in
       let first : l ≡ x.0 = cons_first l x.0 ls x.1 (sym in_loop ∙ x.2) in
@@ -130,10 +145,12 @@ module _ (here : Setting) (code : List Instr) (Good : State → Type 0) where
       cons_rest : {A : Type 0} (a b : A) (xs ys : List A) → a ∷ xs ≡ b ∷ ys → xs ≡ ys
       cons_rest a b xs ys e = cc e
 
-      by : (x : LoopShape) (xs : List LoopShape) → shape.loops ≡ x ∷ xs → (m : Loop) (ms : List Loop) (left : List Value)
+      by : (x : LoopShape) (xs : List LoopShape) → shape.loops ≡ x ∷ xs
+          → (m : Loop) (ms : List Loop) (left : List Value)
           → AreAll here.tables.decls x.element left
           → CollectedFits here.tables.decls x.collected m.collected
-          → OnTop (LoopFits here.tables.decls) xs ms here.below.loops → length left ≡ n → lefts ms ≡ ns → here.Around xs ns
+          → OnTop (LoopFits here.tables.decls) xs ms here.below.loops → length left ≡ n → lefts ms ≡ ns
+          → here.Around xs ns
           → ((k : ℕ) → n ≡ suc k → here.Around (x ∷ xs) (k ∷ ns))
           → GoesOn here Good (instr.Next t) s.place (s.place + 1, pushed x.element shape)
           × GoesOn here Good (instr.Next t) s.place (t, loop_ended x.collected (record shape { loops = xs }))
@@ -143,20 +160,25 @@ module _ (here : Setting) (code : List Instr) (Good : State → Type 0) where
           (loops_fit here (n ∷ ns) shape s ns xs ms fits rest rest_is outside) s.place two.1
       by x xs are m ms (v ∷ left) (kinds.one_more first all) collects rest left_is rest_is outside again two =
           let next : Loop = record m { left = left } in
-          finish_push here Good (instr.Next t) s.place (length left ∷ ns) shape (record s { loops = next ∷ ms }) x.element v refl
+          finish_push here Good (instr.Next t) s.place (length left ∷ ns) shape
+          (record s { loops = next ∷ ms }) x.element v refl
           (loops_fit here (n ∷ ns) shape s (length left ∷ ns) shape.loops (next ∷ ms) fits
           (subst (λ (k : List LoopShape). OnTop (LoopFits here.tables.decls) k (next ∷ ms) here.below.loops) (sym are)
           (record { left = all; collected = collects }, rest))
           (ap (λ (k : List ℕ). length left ∷ k) rest_is)
-          (subst (λ (k : List LoopShape). here.Around k (length left ∷ ns)) (sym are) (again (length left) (sym left_is))))
+          (subst (λ (k : List LoopShape). here.Around k (length left ∷ ns)) (sym are)
+          (again (length left) (sym left_is))))
           first two.0
 
   -- a loop is left
-  pub sound_leave : ((l : LoopShape) (ls : List LoopShape) (n : ℕ) (ns : List ℕ) → here.Around (l ∷ ls) (n ∷ ns) → here.Around ls ns)
+  pub sound_leave : ((l : LoopShape) (ls : List LoopShape) (n : ℕ) (ns : List ℕ) → here.Around (l ∷ ls) (n ∷ ns)
+      → here.Around ls ns)
       → Sound here code Good instr.Leave
   sound_leave outside turns shape s fits fine =
       let i : Instr = instr.Leave in
-      let x = fine_top here Good i s.place shape.loops (λ (l : LoopShape) (ls : List LoopShape). leads (s.place + 1) (record shape { loops = ls })) fine in
+      let x =
+      fine_top here Good i s.place shape.loops
+      (λ (l : LoopShape) (ls : List LoopShape). leads (s.place + 1) (record shape { loops = ls })) fine in
       finish_over here Good i s.place (LoopFits here.tables.decls) shape.loops x.0 x.1 s.loops here.below.loops
       (λ m ms. on (record s { loops = ms })) x.2 fits.loops
       (λ m ms are fit rest.

@@ -1,6 +1,6 @@
 -- How a step finishes where its instruction flows from a shape that the state fits.
-use Rattle.std.proofs.Common.{◌≡◌, ◌⊎◌, inl, inr, ℕ, zero, suc, ◌+◌, Bool, true, false, List, [], ◌∷◌, Option, Some, None}
-use Rattle.std.proofs.Common.{Result, Ok, Err, refl, sym, ap, subst}
+use Rattle.std.proofs.Common.{◌≡◌, ◌⊎◌, inl, inr, ℕ, zero, suc, ◌+◌, Bool, true, false, List, [], ◌∷◌, Option, Some}
+use Rattle.std.proofs.Common.{None, Result, Ok, Err, refl, sym, ap, subst}
 use Rattle.cat_value.specs.declared.value.Value.{Value}
 use Rattle.cat_scope.specs.declared.stop.Stop.{Stop}
 use Rattle.cat_scope.specs.Replies.{known}
@@ -61,19 +61,23 @@ module _ (here : Setting) (Good : State → Type 0) (i : Instr) (p : ℕ) where
   pub fine_two : (q : ℕ) (s : Shape) (r : ℕ) (t : Shape) → Fine (leads_two q s r t) → GoesOn (q, s) × GoesOn (r, t)
   fine_two q s r t f =
       let there : AllHave GoesOn ((q, s) ∷ (r, t) ∷ [])
-      = subst (λ (l : List (ℕ × Shape)). AllHave GoesOn l) (sym (same_some ((q, s) ∷ (r, t) ∷ []) f.into f.is)) f.good in
+      = subst (λ (l : List (ℕ × Shape)). AllHave GoesOn l)
+      (sym (same_some ((q, s) ∷ (r, t) ∷ []) f.into f.is)) f.good in
       (there.0, there.1.0)
 
   -- ---- states
 
-  pub finish_on : (turns : List ℕ) (shape : Shape) (s : State) → s.place ≡ p → Fits here turns shape s → GoesOn (p + 1, shape)
+  pub finish_on : (turns : List ℕ) (shape : Shape) (s : State) → s.place ≡ p → Fits here turns shape s
+      → GoesOn (p + 1, shape)
       → Finishes Good (on s)
   finish_on turns shape s is fits go =
-      goes (go.1 (inl refl) turns (at (s.place + 1) s) (ap (λ n. n + 1) is) (placed_fits here turns shape s (s.place + 1) fits))
+      goes (go.1 (inl refl) turns (at (s.place + 1) s) (ap (λ n. n + 1) is)
+      (placed_fits here turns shape s (s.place + 1) fits))
 
   pub finish_to : (turns : List ℕ) (shape : Shape) (s : State) (t : ℕ) → jump_of i ≡ Some t → Fits here turns shape s
       → GoesOn (t, shape) → Finishes Good (to t s)
-  finish_to turns shape s t is fits go = goes (go.1 (inr is) turns (at t s) refl (placed_fits here turns shape s t fits))
+  finish_to turns shape s t is fits go =
+      goes (go.1 (inr is) turns (at t s) refl (placed_fits here turns shape s t fits))
 
   pub finish_push : (turns : List ℕ) (shape : Shape) (s : State) (t : Form) (v : Value) → s.place ≡ p
       → Fits here turns shape s
@@ -163,7 +167,8 @@ module _ (here : Setting) (Good : State → Type 0) (i : Instr) (p : ℕ) where
       by (suc n) ts vs (u ∷ us) (w ∷ ws) taken are f = by n (u ∷ ts) (w ∷ vs) us ws (are.0, taken) are.1 f
 
   -- the type of the elements of a list, and those of the fields of a structure
-  pub fine_elements : (t : Form) (go : Form → Flow) → Fine (lead.elements_of t go) → (u : Form) × (t ≡ forms.Many u) × Fine (go u)
+  pub fine_elements : (t : Form) (go : Form → Flow) → Fine (lead.elements_of t go)
+      → (u : Form) × (t ≡ forms.Many u) × Fine (go u)
   fine_elements (forms.Many u) go f = (u, refl, f)
   fine_elements forms.Truth go f = absurd (cc f.is)
   fine_elements forms.Whole go f = absurd (cc f.is)
@@ -174,7 +179,8 @@ module _ (here : Setting) (Good : State → Type 0) (i : Instr) (p : ℕ) where
   fine_elements (forms.Fields ts) go f = absurd (cc f.is)
   fine_elements (forms.OneOf n) go f = absurd (cc f.is)
 
-  pub fine_fields : (t : Form) (go : Forms → Flow) → Fine (lead.fields_of t go) → (ts : Forms) × (t ≡ forms.Fields ts) × Fine (go ts)
+  pub fine_fields : (t : Form) (go : Forms → Flow) → Fine (lead.fields_of t go)
+      → (ts : Forms) × (t ≡ forms.Fields ts) × Fine (go ts)
   fine_fields (forms.Fields ts) go f = (ts, refl, f)
   fine_fields forms.Truth go f = absurd (cc f.is)
   fine_fields forms.Whole go f = absurd (cc f.is)

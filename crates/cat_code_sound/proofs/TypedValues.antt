@@ -1,6 +1,6 @@
 -- A value of a declared type is one of that type as shapes speak of it.
-use Rattle.std.proofs.Common.{◌≡◌, ◌≤◌, ℕ, ℤ, ◌+◌, nat_le, ◌&&◌, Bool, true, true≢false, IsTrue, List, [], ◌∷◌, length, Option, Some, None}
-use Rattle.std.proofs.Common.{slice_get, refl, sym, ap, ◌∙◌, subst, arith}
+use Rattle.std.proofs.Common.{◌≡◌, ◌≤◌, ℕ, ℤ, ◌+◌, nat_le, ◌&&◌, Bool, true, true≢false, IsTrue, List, [], ◌∷◌, length}
+use Rattle.std.proofs.Common.{Option, Some, None, slice_get, refl, sym, ap, ◌∙◌, subst, arith}
 use Rattle.std.specs.List.{list_all}
 use Rattle.std.proofs.lemmas.Bool.{le-leb, leb-true}
 use Rattle.cat_num.specs.Frac.{Fraction}
@@ -22,8 +22,9 @@ use Rattle.cat_value.specs.Entries.{some_passes, fields_in, content_of}
 use Rattle.cat_value.specs.Flat.{integer_typed, decimal_typed, money_typed, date_typed, duration_typed}
 use Rattle.cat_value.specs.Laws.{AreSound}
 use Rattle.cat_value.specs.Typing.{is_type, most_elements, has_type, all_have_type, fields_have_types, content_has_type}
-use Rattle.cat_value.proofs.Exported.{Each, Within, value_induction, has_type_Boolean, has_type_Integer, has_type_Decimal, has_type_Money}
-use Rattle.cat_value.proofs.Exported.{has_type_Date, has_type_Duration, level_cut, height_Structure, structure_low, fields_declared, within}
+use Rattle.cat_value.proofs.Exported.{Each, Within, value_induction, has_type_Boolean, has_type_Integer}
+use Rattle.cat_value.proofs.Exported.{has_type_Decimal, has_type_Money, has_type_Date, has_type_Duration, level_cut}
+use Rattle.cat_value.proofs.Exported.{height_Structure, structure_low, fields_declared, within}
 use Rattle.cat_value.proofs.Inversions.{list_of, structure_of, case_of}
 use Rattle.cat_scope.specs.Fitting.{is_low_type}
 use Rattle.cat_sound.specs.LowTypes.{IsLow}
@@ -32,22 +33,26 @@ use Rattle.cat_sound.proofs.LowTypes.{element_low, content_low}
 use Rattle.cat_code.specs.Forms.{Form, forms_in, structure_form, level, form_of}
 use Rattle.cat_code.specs.Forms as forms
 use Rattle.cat_code.proofs.FormLaws.{form_is}
-use Rattle.cat_code_sound.proofs.ValueKinds.{IsOf, AreAll, AreFields, of_truth, of_whole, of_fraction, of_amount, of_day, of_span, of_many}
-use Rattle.cat_code_sound.proofs.ValueKinds.{of_fields, of_bare, of_held}
+use Rattle.cat_code_sound.proofs.ValueKinds.{IsOf, AreAll, AreFields, of_truth, of_whole, of_fraction, of_amount}
+use Rattle.cat_code_sound.proofs.ValueKinds.{of_day, of_span, of_many, of_fields, of_bare, of_held}
 use Rattle.cat_code_sound.proofs.ValueKinds as kinds
 
 -- ---- types that may stand in a declaration
 
-pub low_type : (ds : Decls) (t : Ty) → IsTrue (is_type ds t) → height_to ds.structures ds.enumerations highest t ≤ highest → IsLow ds t
-low_type ds t declared low = record { declared = declared; low = le-leb (height_to ds.structures ds.enumerations highest t) highest low }
+pub low_type : (ds : Decls) (t : Ty) → IsTrue (is_type ds t)
+    → height_to ds.structures ds.enumerations highest t ≤ highest → IsLow ds t
+low_type ds t declared low =
+    record { declared = declared; low = le-leb (height_to ds.structures ds.enumerations highest t) highest low }
 
 pub low_of : (ds : Decls) (t : Ty) → IsTrue (is_sound ds.structures ds.enumerations t) → IsLow ds t
-low_of ds t sound = let parts = both (is_type ds t) (is_low_type ds t) sound in record { declared = parts.0; low = parts.1 }
+low_of ds t sound = let parts = both (is_type ds t) (is_low_type ds t) sound in
+    record { declared = parts.0; low = parts.1 }
 
 -- ---- by the level of a type
 
 -- a value is of a type whose level is told
-at_level : (ds : Decls) (t : Ty) (y : Ty-F Ty) (v : Value) → IsLow ds t → out-Ty t ≡ y → IsOf ds (level ds (form_of ds) y) v
+at_level : (ds : Decls) (t : Ty) (y : Ty-F Ty) (v : Value) → IsLow ds t → out-Ty t ≡ y
+    → IsOf ds (level ds (form_of ds) y) v
     → IsOf ds (form_of ds t) v
 at_level ds t y v low is typed =
     let told = form_is ds t (leb-true (height_to ds.structures ds.enumerations highest t) highest low.low) in
@@ -101,7 +106,8 @@ told_Duration ds span t typed low = by (out-Ty t) refl (sym (has_type_Duration d
 module _ (ds : Decls) (sound : AreSound ds) where
   -- ---- lists
 
-  elements_told : (vs : List Value) (t : Ty) → Each (Told ds) vs → all_have_type ds vs t ≡ true → IsLow ds t → AreAll ds (form_of ds t) vs
+  elements_told : (vs : List Value) (t : Ty) → Each (Told ds) vs → all_have_type ds vs t ≡ true → IsLow ds t
+      → AreAll ds (form_of ds t) vs
   elements_told [] t each all low = kinds.no_more
   elements_told (v ∷ vs) t each all low =
       let parts = both (has_type ds v t) (all_have_type ds vs t) all in
@@ -128,8 +134,11 @@ module _ (ds : Decls) (sound : AreSound ds) where
   fields_told (v ∷ vs) [] each all declared low = absurd (true≢false (sym all))
   fields_told (v ∷ vs) (f ∷ fs) each all declared low =
       let parts = both (has_type ds v f.ty) (fields_have_types ds vs fs) all in
-      let types = both (field_is_sound ds.structures ds.enumerations f) (list_all (field_is_sound ds.structures ds.enumerations) fs) declared in
-      kinds.next_field (each.0 f.ty parts.0 (field_low f.ty types.0 (omega (arith, low)))) (fields_told vs fs each.1 parts.1 types.1 (omega (arith, low)))
+      let types =
+      both (field_is_sound ds.structures ds.enumerations f)
+      (list_all (field_is_sound ds.structures ds.enumerations) fs) declared in
+      kinds.next_field (each.0 f.ty parts.0 (field_low f.ty types.0 (omega (arith, low))))
+      (fields_told vs fs each.1 parts.1 types.1 (omega (arith, low)))
 
   told_Structure : (vs : List Value) → Each (Told ds) vs → Told ds (value.Structure vs)
   told_Structure vs each t typed low =
@@ -137,13 +146,16 @@ module _ (ds : Decls) (sound : AreSound ds) where
       at_level ds t (Ty-F.Structure is.0) (value.Structure vs) low (ap out-Ty is.1 ∙ ty.outs-Structure is.0)
       (by is.0 (slice_get ds.structures is.0) refl is.2)
     where
-      by : (n : ℕ) (o : Option Structure) → slice_get ds.structures n ≡ o → IsTrue (some_passes (fields_have_types ds vs) (fields_in o))
+      by : (n : ℕ) (o : Option Structure) → slice_get ds.structures n ≡ o
+          → IsTrue (some_passes (fields_have_types ds vs) (fields_in o))
           → IsOf ds (structure_form (form_of ds) (fields_in o)) (value.Structure vs)
       by n None there so = absurd (true≢false (sym so))
       by n (Some s) there so =
-          let height : height_to ds.structures ds.enumerations 64 (flat_ty.Structure n) ≡ 1 + highest_field (height_to ds.structures ds.enumerations 63) s.fields
+          let height : height_to ds.structures ds.enumerations 64 (flat_ty.Structure n)
+          ≡ 1 + highest_field (height_to ds.structures ds.enumerations 63) s.fields
           = height_Structure ds.structures ds.enumerations 63 n s there in
-          let bound : height_to ds.structures ds.enumerations highest (flat_ty.Structure n) ≤ highest = structure_low ds n (within ds.structures n s there) in
+          let bound : height_to ds.structures ds.enumerations highest (flat_ty.Structure n) ≤ highest =
+          structure_low ds n (within ds.structures n s there) in
           of_fields ds (forms_in (form_of ds) s.fields) vs
           (fields_told vs s.fields each so (fields_declared ds n s there) (omega (arith, height, bound)))
 
@@ -161,10 +173,12 @@ module _ (ds : Decls) (sound : AreSound ds) where
       by n None each (Some None) there so = of_bare ds n k there
       by n None each (Some (Some u)) there so = absurd (true≢false (sym so))
       by n (Some w) each (Some None) there so = absurd (true≢false (sym so))
-      by n (Some w) each (Some (Some u)) there so = of_held ds n k w u there (each u so (content_low ds sound n k u there))
+      by n (Some w) each (Some (Some u)) there so =
+          of_held ds n k w u there (each u so (content_low ds sound n k u there))
 
   -- a value of a declared type that may stand in a declaration
   pub typed_form : (v : Value) (t : Ty) → IsTrue (has_type ds v t) → IsLow ds t → IsOf ds (form_of ds t) v
   typed_form =
-      value_induction (Told ds) (told_Boolean ds) (told_Integer ds) (told_Decimal ds) (told_Money ds) (told_Date ds) (told_Duration ds)
+      value_induction (Told ds) (told_Boolean ds) (told_Integer ds) (told_Decimal ds) (told_Money ds) (told_Date ds)
+      (told_Duration ds)
       told_List told_Structure told_Case

@@ -45,7 +45,8 @@ mutual
 
 -- ---- what is read of a value of a type
 
-pub reads_truth : (ds : Decls) (v : Value) → IsOf ds forms.Truth v → (b : Bool) × (value.out-Value v ≡ Value-F.Boolean b)
+pub reads_truth : (ds : Decls) (v : Value) → IsOf ds forms.Truth v
+    → (b : Bool) × (value.out-Value v ≡ Value-F.Boolean b)
 reads_truth ds v (truth b is) = (b, is)
 
 pub reads_whole : (ds : Decls) (v : Value) → IsOf ds forms.Whole v → (n : ℤ) × (value.out-Value v ≡ Value-F.Integer n)
@@ -61,7 +62,8 @@ reads_amount ds v (amount n is) = (n, is)
 pub reads_day : (ds : Decls) (v : Value) → IsOf ds forms.Day v → (n : ℤ) × (value.out-Value v ≡ Value-F.Date n)
 reads_day ds v (day n is) = (n, is)
 
-pub reads_span : (ds : Decls) (v : Value) → IsOf ds forms.Span v → (s : SpanOf) × (value.out-Value v ≡ Value-F.Duration s)
+pub reads_span : (ds : Decls) (v : Value) → IsOf ds forms.Span v
+    → (s : SpanOf) × (value.out-Value v ≡ Value-F.Duration s)
 reads_span ds v (span s is) = (s, is)
 
 pub reads_many : (ds : Decls) (t : Form) (v : Value) → IsOf ds (forms.Many t) v

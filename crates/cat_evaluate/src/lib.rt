@@ -1,5 +1,5 @@
-//! Evaluates scopes of the default calculus: they are lowered to code, and the machine runs it. Each has the outcome that
-//! the calculus gives it.
+//! Evaluates scopes of the default calculus: they are lowered to code, and the machine runs it. Each has the outcome
+//! that the calculus gives it.
 #![tactic(auto)]
 
 ghost use Rattle.std.specs.Prelude.{◌≡◌, Some, IfOk};

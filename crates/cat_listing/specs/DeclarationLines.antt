@@ -1,6 +1,5 @@
 -- The lines of declarations.
-use Rattle.std.specs.Prelude.{ℕ, List, [], ◌∷◌, ◌++◌, Option, Some, None, slice_get, codes, decimal}
-use Rattle.std.specs.Prelude.{if◌then◌else◌}
+use Rattle.std.specs.Prelude.{ℕ, List, [], ◌∷◌, ◌++◌, Option, Some, None, slice_get, codes, decimal, if◌then◌else◌}
 use Rattle.cat_value.specs.declared.ty.Ty.{Ty}
 use Rattle.cat_value.specs.declared.declaration.Field.{Field}
 use Rattle.cat_value.specs.declared.declaration.Structure.{Structure}
@@ -15,6 +14,7 @@ use Rattle.cat_listing.specs.Texts.{Text, lines_of, place_text, name_at, type_te
 
 -- ---- structures and enumerations
 
+-- a field with its type
 unfoldable pub field_line : Decls → Field → Text
 field_line ds f = codes "field " ++ (f.name ++ (codes " " ++ (type_text ds f.ty ++ codes "\n")))
 
@@ -31,6 +31,7 @@ abbrev pub content_text : Decls → Option Ty → Text
 content_text ds None = []
 content_text ds (Some t) = codes " " ++ type_text ds t
 
+-- a case with its content
 unfoldable pub case_line : Decls → Case → Text
 case_line ds c = codes "case " ++ (c.name ++ (content_text ds c.content ++ codes "\n"))
 
@@ -40,6 +41,7 @@ enumeration_lines ds e = named_line (codes "enumeration ") e.name ++ lines_of (c
 
 -- ---- scopes
 
+-- the word for an item's kind
 abbrev pub kind_text : Kind → Text
 kind_text kind.Input = codes "input"
 kind_text kind.Output = codes "output"
@@ -71,6 +73,7 @@ abbrev pub what_text : Decls → ItemDecl → Kind → Text
 what_text ds item (kind.Called scope) = name_at (λ (s : Scope). s.name) (slice_get ds.scopes scope)
 what_text ds item _ = defined_text ds item
 
+-- an item of a scope: its name, its kind, its place and what it is
 unfoldable pub item_line : Decls → ItemDecl → Text
 item_line ds item =
     codes "item " ++ (item.name ++ (codes " " ++ (kind_text item.kind ++ (codes " " ++ (place_text item.pos

@@ -12,11 +12,13 @@ use Rattle.cat_listing.specs.Texts.{Text, lines_of, place_text, type_text}
 use Rattle.cat_listing.specs.DeclarationLines.{declaration_lines}
 use Rattle.cat_listing.specs.InstructionLines.{instructions_lines}
 
+-- a file's name
 unfoldable pub file_line : Text → Text
 file_line name = codes "file " ++ (name ++ codes "\n")
 
 -- ---- the tables behind the declarations
 
+-- a target, with the position of the name that has no value where none of its definitions holds
 unfoldable pub target_line : Decls → TargetEntry → Text
 target_line ds entry =
     codes "target " ++ (target_text ds entry.target ++ (codes " " ++ (place_text entry.pos ++ codes "\n")))
@@ -29,9 +31,11 @@ place_line name p = name ++ (place_text p ++ codes "\n")
 unfoldable pub function_line : ℕ → Text
 function_line entry = codes "function " ++ (decimal entry ++ codes "\n")
 
+-- a constant: its type, and its value as JSON
 unfoldable pub constant_line : Decls → Constant → Text
 constant_line ds c = codes "const " ++ (type_text ds c.ty ++ (codes " " ++ (value_bytes ds c.ty c.value ++ codes "\n")))
 
+-- the tables, one behind the other
 unfoldable pub table_lines : Tables → Text
 table_lines tables =
     lines_of (target_line tables.decls) tables.targets

@@ -28,8 +28,10 @@ tables_of draft decls cases = record {
   constants = draft.growing.constants;
 }
 
-pub code_of_draft : (calc : Calc) (draft : Draft) (decls : Decls) (cases : List CasePlace) → Holds draft (calc_laid calc) → decls ≡ calc.decls
-    → cases ≡ case_places 0 calc.decls.enumerations → AreCodeOf calc (tables_of draft decls cases) draft.growing.instructions
+pub code_of_draft : (calc : Calc) (draft : Draft) (decls : Decls) (cases : List CasePlace)
+    → Holds draft (calc_laid calc) → decls ≡ calc.decls
+    → cases ≡ case_places 0 calc.decls.enumerations
+    → AreCodeOf calc (tables_of draft decls cases) draft.growing.instructions
 code_of_draft calc draft decls cases laid same counted = record {
   instructions = laid.instructions;
   decls = same;
@@ -42,7 +44,8 @@ code_of_draft calc draft decls cases laid same counted = record {
   constants = laid.constants;
 }
 
-pub valid_code_of : (calc : Calc) (tables : Tables) (code : List Instr) → AreCodeOf calc tables code → ∥ IsCalc calc.decls calc.scopes calc.scope_order ∥₁
+pub valid_code_of : (calc : Calc) (tables : Tables) (code : List Instr) → AreCodeOf calc tables code
+    → ∥ IsCalc calc.decls calc.scopes calc.scope_order ∥₁
     → AreSound calc.decls → ∥ IsValid tables code ∥₁
 valid_code_of calc tables code low formed sound =
     ∥∥₁_elim formed ∥∥₁_prop (λ f. (∣ code_is_valid calc tables code low f sound ∣₁))

@@ -1,7 +1,6 @@
 -- The code of a scope does what the scope gives, where the scopes that it calls do.
-use Rattle.std.proofs.Common.{◌≡◌, ℕ, zero, suc, ◌+◌, ◌<◌, ◌≤◌, Bool, true, false, List, [], ◌∷◌}
-use Rattle.std.proofs.Common.{length, Option, Some, None, Result, Ok, Err, refl, sym, ap, ◌∙◌, subst, slice_get, nat_eq, arith}
-use Rattle.std.proofs.Common.{if◌then◌else◌}
+use Rattle.std.proofs.Common.{◌≡◌, ℕ, zero, suc, ◌+◌, ◌<◌, ◌≤◌, Bool, true, false, List, [], ◌∷◌, length, Option, Some}
+use Rattle.std.proofs.Common.{None, Result, Ok, Err, refl, sym, ap, ◌∙◌, subst, slice_get, nat_eq, arith, if◌then◌else◌}
 use Rattle.std.proofs.lemmas.Bool.{eq-eqb}
 use Rattle.cat_order.specs.Order.{times}
 use Rattle.cat_value.specs.declared.value.Value.{Value}
@@ -22,7 +21,8 @@ use Rattle.cat_scope.specs.Names.{AllHave}
 use Rattle.cat_scope.specs.Eval.{eval}
 use Rattle.cat_scope.specs.Calls.{Items, Runs, Scoped, env_of, call}
 use Rattle.cat_scope.specs.ItemValues.{item_value}
-use Rattle.cat_scope.specs.Running.{entry_at, with_entry, run_items, no_values, asserted, outputs_of, backwards, run_scoped}
+use Rattle.cat_scope.specs.Running.{entry_at, with_entry, run_items, no_values, asserted, outputs_of, backwards}
+use Rattle.cat_scope.specs.Running.{run_scoped}
 use Rattle.cat_scope.proofs.Exported.{and_then_and_then}
 use Rattle.cat_calc.specs.declared.calcs.CalcScope.{CalcScope}
 use Rattle.cat_calc.specs.Calculus.{calc_scoped}
@@ -49,9 +49,12 @@ use Rattle.cat_lower.proofs.ScopeTerms.{AssertionSound, ScopeSound, ScopeLaid}
 use Rattle.cat_lower.proofs.ItemSlots.{given_at}
 use Rattle.cat_lower.proofs.ItemsDo.{functions_do, listed_does}
 
-module _ (tables : Tables) (code : List Instr) (ds : Decls) (number functions definitions : ℕ) (scope : Scope) (terms : CalcScope) (runs : Runs)
-    (same : tables.decls ≡ ds) (cases : tables.cases ≡ case_places 0 ds.enumerations) (declared : slice_get ds.scopes number ≡ Some scope)
-    (runs_are : RunsAre tables code runs) (sound : ScopeSound tables (standing ds number functions definitions scope terms))
+module _ (tables : Tables) (code : List Instr) (ds : Decls) (number functions definitions : ℕ) (scope : Scope)
+    (terms : CalcScope) (runs : Runs)
+    (same : tables.decls ≡ ds) (cases : tables.cases ≡ case_places 0 ds.enumerations)
+    (declared : slice_get ds.scopes number ≡ Some scope)
+    (runs_are : RunsAre tables code runs)
+    (sound : ScopeSound tables (standing ds number functions definitions scope terms))
     (laid : ScopeLaid tables code (standing ds number functions definitions scope terms)) where
   abbrev at : ScopeStanding
   at = standing ds number functions definitions scope terms
@@ -83,10 +86,13 @@ module _ (tables : Tables) (code : List Instr) (ds : Decls) (number functions de
       omega arith
 
   -- the items that are left fill their slots
-  items_do : (input : Items) → AreGivable scope.items input → (ns : List ℕ) → ((m : ℕ) → m < length scope.items → times ns m ≤ 1)
-      → AllHave (λ m. m < length scope.items) ns → (before : List ℕ) (values : Items) (ends : Ends) → Has tables code ends (items_code at ns ends)
+  items_do : (input : Items) → AreGivable scope.items input → (ns : List ℕ)
+      → ((m : ℕ) → m < length scope.items → times ns m ≤ 1)
+      → AllHave (λ m. m < length scope.items) ns → (before : List ℕ) (values : Items) (ends : Ends)
+      → Has tables code ends (items_code at ns ends)
       → (s : State) → Agree s.slots values → Left s.slots input ns → (k : Items → Whole)
-      → ((done slots : Items) → Agree slots done → Comes tables code (located (end_of (items_code at ns) ends).place [] (record s { slots = slots })) (k done))
+      → ((done slots : Items) → Agree slots done
+      → Comes tables code (located (end_of (items_code at ns) ends).place [] (record s { slots = slots })) (k done))
       → Comes tables code (located ends.place [] s) (and_then (run_items scoped input before values ns) k)
   items_do input are [] once below before values ends has s agree left k next = next values s.slots agree
   items_do input are (n ∷ ns) once below before values ends has s agree left k next =
@@ -94,19 +100,30 @@ module _ (tables : Tables) (code : List Instr) (ds : Decls) (number functions de
       let rest : Coded = items_code at ns in
       let given = given_at scope.items input are n below.0 in
       let out = not_again n ns (once n below.0) in
-      alike tables code _ _ _ (and_then_and_then (item_value scoped before values n (entry_at n input) (slice_get scope.items n)) _ k)
-      (listed_does tables code ds number functions definitions scope terms runs same cases declared runs_are sound laid values before n (slice_get scope.items n) refl (entry_at n input) given.1 ends (first_of tables code first rest ends has) s agree
-      (left n (listed_first n ns) ∙ given.0) (λ v. and_then (run_items scoped input (n ∷ before) (with_entry n v values) ns) k)
-      (λ v slots after. items_do input are ns (λ m less. let f = fewer n m ns in let o = once m less in omega arith) below.1 (n ∷ before) (with_entry n v values) (end_of first ends)
+      alike tables code _ _ _ (and_then_and_then
+      (item_value scoped before values n (entry_at n input) (slice_get scope.items n)) _ k)
+      (listed_does tables code ds number functions definitions scope terms runs same cases declared runs_are sound laid
+      values before n (slice_get scope.items n) refl (entry_at n input) given.1 ends
+      (first_of tables code first rest ends has) s agree
+      (left n (listed_first n ns) ∙ given.0)
+      (λ v. and_then (run_items scoped input (n ∷ before) (with_entry n v values) ns) k)
+      (λ v slots after. items_do input are ns
+      (λ m less. let f = fewer n m ns in let o = once m less in omega arith) below.1 (n ∷ before)
+      (with_entry n v values) (end_of first ends)
       (second_of tables code first rest ends has) (record s { slots = slots }) after.agree
-      (λ m listed. after.left m (λ e. listed (ap (λ i. times ns i) e ∙ out)) ∙ left m (λ e. let f = fewer n m ns in listed (omega arith))) k
-      (λ done slots' agreed. behind tables code values {A = Unit {0}} first rest ends [] (λ u. record s { slots = slots' }) (λ u. k done) (λ u. next done slots' agreed) tt)))
+      (λ m listed. after.left m (λ e. listed (ap (λ i. times ns i) e ∙ out))
+      ∙ left m (λ e. let f = fewer n m ns in listed (omega arith))) k
+      (λ done slots' agreed. behind tables code values {A = Unit {0}} first rest ends []
+      (λ u. record s { slots = slots' }) (λ u. k done) (λ u. next done slots' agreed) tt)))
 
   -- assertions in their order
-  assertions_do : (values : Items) (before : List ℕ) (left : List Assertion) → AllHave (AssertionSound at.here.names) left → (ends : Ends)
-      → Has tables code ends (assertions_code at.here left ends) → (s : State) → Agree s.slots values → (last : Whole) (k : List Value → Whole)
+  assertions_do : (values : Items) (before : List ℕ) (left : List Assertion)
+      → AllHave (AssertionSound at.here.names) left → (ends : Ends)
+      → Has tables code ends (assertions_code at.here left ends) → (s : State) → Agree s.slots values
+      → (last : Whole) (k : List Value → Whole)
       → Comes tables code (located (end_of (assertions_code at.here left) ends).place [] s) (and_then last k)
-      → Comes tables code (located ends.place [] s) (and_then (asserted (λ e. eval (env_of scoped (call scoped values before) values) e []) left last) k)
+      → Comes tables code (located ends.place [] s)
+      (and_then (asserted (λ e. eval (env_of scoped (call scoped values before) values) e []) left last) k)
   assertions_do values before [] sounds ends has s agree last k next = next
   assertions_do values before (a ∷ left) sounds ends has s agree last k next =
       let value : Expr → Run Value = λ e. eval (env_of scoped (call scoped values before) values) e [] in
@@ -120,49 +137,66 @@ module _ (tables : Tables) (code : List Instr) (ds : Decls) (number functions de
       let done = behind tables code values {A = Unit {0}} assert more e1 [] (λ u. s) (λ u. and_then last k)
       (behind tables code values {A = Unit {0}} condition rest ends [] (λ u. s) (λ u. and_then last k) (λ u. next)) in
       alike tables code _ _ _ (and_then_and_then (value a.condition) _ k)
-      (does tables code values at.here scoped (call scoped values before) same cases refl refl (functions_do tables code ds number functions definitions scope terms runs same cases declared runs_are sound laid values before) runs_are sounds.0.typed None tt sounds.0.placed
+      (does tables code values at.here scoped (call scoped values before) same cases refl refl
+      (functions_do tables code ds number functions definitions scope terms runs same cases declared runs_are sound
+      laid values before) runs_are sounds.0.typed None tt sounds.0.placed
       ends (first_of tables code condition rest ends has) [] refl s agree _
       (λ v. acted tables code _ (instr.Assert e1.positions) _ inner.instructions.0
       (found tables code _ _ _ _ inner.positions.0
       (chosen tables code (truth v) _ _ (asserted value left last) (stops (Fault AssertionFailed a.keyword)) k
-      (goes_on tables code _ _ (assertions_do values before left sounds.1 e2 (second_of tables code assert more e1 inner) s agree last k (done tt)))
+      (goes_on tables code _ _
+      (assertions_do values before left sounds.1 e2 (second_of tables code assert more e1 inner) s agree last k
+      (done tt)))
       (ends_with tables code (Err (Fault AssertionFailed a.keyword)))))))
 
   abbrev writing : ℕ → List ItemDecl → Bool → Coded
   writing j items b = if b then led (instr.Slot j) (outputs_code (j + 1) items) else outputs_code (j + 1) items
 
   -- the values of the outputs among the items from number j on
-  outputs_do : (whole : Items) (items : List ItemDecl) (j : ℕ) (values : Items) → ((m : ℕ) → slice_get whole (j + m) ≡ slice_get values m)
-      → (ends : Ends) → Has tables code ends (outputs_code j items ends) → (s : State) → Agree s.slots whole → (k : List Value → Whole)
+  outputs_do : (whole : Items) (items : List ItemDecl) (j : ℕ) (values : Items)
+      → ((m : ℕ) → slice_get whole (j + m) ≡ slice_get values m)
+      → (ends : Ends) → Has tables code ends (outputs_code j items ends) → (s : State) → Agree s.slots whole
+      → (k : List Value → Whole)
       → ((vs : List Value) → length vs ≡ output_count items
-      → Comes tables code (located (end_of (outputs_code j items) ends).place [] (record s { operands = stacked s.operands vs })) (k vs))
+      → Comes tables code (located (end_of (outputs_code j items) ends).place []
+      (record s { operands = stacked s.operands vs })) (k vs))
       → Comes tables code (located ends.place [] s) (and_then (plain (outputs_of items values)) k)
   outputs_do whole [] j values there ends has s agree k next = next [] refl
   outputs_do whole (item ∷ items) j [] there ends has s agree k next = stays_stuck tables code _ _ refl
   outputs_do whole (item ∷ items) j (x ∷ values) there ends has s agree k next =
       by (is_output item.kind) has next
-      (λ ends has s agree k next. outputs_do whole items (j + 1) values (λ m. let i : j + suc m ≡ (j + 1) + m = omega arith in ap (λ i. slice_get whole i) (sym i) ∙ there (suc m)) ends has s agree k next)
+      (λ ends has s agree k next. outputs_do whole items (j + 1) values
+      (λ m. let i : j + suc m ≡ (j + 1) + m = omega arith in ap (λ i. slice_get whole i) (sym i) ∙ there (suc m))
+      ends has s agree k next)
       x (let i : j + 0 ≡ j = omega arith in ap (λ i. slice_get whole i) (sym i) ∙ there 0)
     where
       by : (b : Bool) → Has tables code ends (writing j items b ends)
           → ((vs : List Value) → length vs ≡ (if b then 1 + output_count items else output_count items)
-          → Comes tables code (located (end_of (writing j items b) ends).place [] (record s { operands = stacked s.operands vs })) (k vs))
-          → ((ends : Ends) → Has tables code ends (outputs_code (j + 1) items ends) → (s : State) → Agree s.slots whole → (k : List Value → Whole)
+          → Comes tables code (located (end_of (writing j items b) ends).place []
+          (record s { operands = stacked s.operands vs })) (k vs))
+          → ((ends : Ends) → Has tables code ends (outputs_code (j + 1) items ends) → (s : State) → Agree s.slots whole
+          → (k : List Value → Whole)
           → ((vs : List Value) → length vs ≡ output_count items
-          → Comes tables code (located (end_of (outputs_code (j + 1) items) ends).place [] (record s { operands = stacked s.operands vs })) (k vs))
+          → Comes tables code (located (end_of (outputs_code (j + 1) items) ends).place []
+          (record s { operands = stacked s.operands vs })) (k vs))
           → Comes tables code (located ends.place [] s) (and_then (plain (outputs_of items values)) k))
           → (x : Option Value) → slice_get whole j ≡ Some x
-          → Comes tables code (located ends.place [] s) (and_then (plain (if b then with_front (known x) (outputs_of items values) else outputs_of items values)) k)
+          → Comes tables code (located ends.place [] s)
+          (and_then (plain (if b then with_front (known x) (outputs_of items values) else outputs_of items values))
+          k)
       by false has next again x is = again ends has s agree k next
       by true has next again None is = stays_stuck tables code _ _ refl
       by true has next again (Some v) is =
           acted tables code _ (instr.Slot j) _ has.instructions.0
-          (subst (λ o. Leads tables code (pushes (evaluated o) (located ends.place [] s)) (and_then (plain (with_front (Ok v) (outputs_of items values))) k)) (sym (agree.by j v is))
+          (subst (λ o. Leads tables code (pushes (evaluated o) (located ends.place [] s))
+          (and_then (plain (with_front (Ok v) (outputs_of items values))) k)) (sym (agree.by j v is))
           (goes_on tables code _ _ (alike tables code _ _ _ (joins (outputs_of items values))
-          (again (skip ends) (rest_of tables code (instr.Slot j) (outputs_code (j + 1) items) ends has) (push v s) agree (λ vs. k (v ∷ vs))
+          (again (skip ends) (rest_of tables code (instr.Slot j) (outputs_code (j + 1) items) ends has) (push v s) agree
+          (λ vs. k (v ∷ vs))
           (λ vs e. next (v ∷ vs) (omega arith))))))
         where
-          joins : (r : Result (List Value) Stop) → and_then (plain (on_one r (λ vs. Ok (v ∷ vs)))) k ≡ and_then (plain r) (λ vs. k (v ∷ vs))
+          joins : (r : Result (List Value) Stop)
+              → and_then (plain (on_one r (λ vs. Ok (v ∷ vs)))) k ≡ and_then (plain r) (λ vs. k (v ∷ vs))
           joins (Ok vs) = refl
           joins (Err stop) = refl
 
@@ -180,8 +214,10 @@ module _ (tables : Tables) (code : List Instr) (ds : Decls) (number functions de
   -- what stands behind the functions of a scope comes to its outputs, which its frame returns
   pub body_does : (input : Items) → AreGivable scope.items input → (s : State) (k : List Value → Whole)
       → ((outputs : List Value) (p : ℕ) (slots : Items)
-      → Leads tables code (returns s.frames (located p [] (push (value.Structure outputs) (record s { slots = slots })))) (k outputs))
-      → Comes tables code (located laid.ends.place [] (record s { slots = input })) (and_then (run_scoped scoped input) k)
+      → Leads tables code (returns s.frames
+      (located p [] (push (value.Structure outputs) (record s { slots = slots })))) (k outputs))
+      → Comes tables code (located laid.ends.place [] (record s { slots = input }))
+      (and_then (run_scoped scoped input) k)
   body_does input are s k next =
       let items : Coded = items_code at terms.order in
       let asserts : Coded = assertions_code at.here terms.assertions in
@@ -197,11 +233,16 @@ module _ (tables : Tables) (code : List Instr) (ds : Decls) (number functions de
       let has2 = second_of tables code asserts behind_asserts e1 has1 in
       let last = second_of tables code outputs tail e2 has2 in
       alike tables code _ _ _ (and_then_and_then (run_items scoped input [] (no_values scope.items) terms.order) _ k)
-      (items_do input are terms.order (λ m less. let o = sound.once m less in omega arith) sound.below [] (no_values scope.items) e0
-      (first_of tables code items behind_items e0 laid.body) (record s { slots = input }) (agree_none scope.items input) (λ m listed. refl) _
-      (λ done slots agree. assertions_do done (backwards terms.order) terms.assertions sound.assertions e1 (first_of tables code asserts behind_asserts e1 has1)
+      (items_do input are terms.order (λ m less. let o = sound.once m less in omega arith) sound.below []
+      (no_values scope.items) e0
+      (first_of tables code items behind_items e0 laid.body) (record s { slots = input }) (agree_none scope.items input)
+      (λ m listed. refl) _
+      (λ done slots agree. assertions_do done (backwards terms.order) terms.assertions sound.assertions e1
+      (first_of tables code asserts behind_asserts e1 has1)
       (record s { slots = slots }) agree (plain (outputs_of scope.items done)) k
-      (outputs_do done scope.items 0 done (λ m. ap (λ i. slice_get done i) (zero_in_front m)) e2 (first_of tables code outputs tail e2 has2) (record s { slots = slots }) agree k
+      (outputs_do done scope.items 0 done (λ m. ap (λ i. slice_get done i) (zero_in_front m)) e2
+      (first_of tables code outputs tail e2 has2) (record s { slots = slots }) agree k
       (λ vs e. acted tables code _ (instr.Pack (output_count scope.items)) _ last.instructions.0
       (subst (λ x. Leads tables code x (k vs)) (sym (popped_all (output_count scope.items) vs s.operands _ _ e))
-      (goes_on tables code _ _ (acted tables code _ instr.Return _ last.instructions.1.0 (next vs (e3.place + 1) slots))))))))
+      (goes_on tables code _ _
+      (acted tables code _ instr.Return _ last.instructions.1.0 (next vs (e3.place + 1) slots))))))))

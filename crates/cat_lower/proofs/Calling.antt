@@ -1,6 +1,6 @@
 -- What a scope call passes may be given.
-use Rattle.std.proofs.Common.{◌≡◌, ℕ, suc, ◌+◌, Bool, true, false, true≢false, ◌&&◌, not, IsTrue, List, [], ◌∷◌, map, Option, Some, None, refl, sym, ap}
-use Rattle.std.proofs.Common.{◌∙◌, subst, slice_get, if◌then◌else◌, arith}
+use Rattle.std.proofs.Common.{◌≡◌, ℕ, suc, ◌+◌, Bool, true, false, true≢false, ◌&&◌, not, List, [], ◌∷◌}
+use Rattle.std.proofs.Common.{Option, Some, None, refl, sym, ap, ◌∙◌, slice_get, if◌then◌else◌, arith}
 use Rattle.cat_value.specs.declared.value.Value.{Value}
 use Rattle.cat_value.specs.declared.value.Value.TheVariants as flat
 use Rattle.cat_value.specs.declared.declaration.Kind.{Kind}
@@ -9,7 +9,7 @@ use Rattle.cat_value.specs.declared.declaration.ItemDecl.{ItemDecl}
 use Rattle.cat_value.specs.Inputs.{must_be_given, may_be_given}
 use Rattle.cat_scope.specs.Composed.{value_given}
 use Rattle.cat_scope.specs.Names.{is_in, inputs_given}
-use Rattle.cat_scope.specs.Calls.{Items, call_entry, call_input}
+use Rattle.cat_scope.specs.Calls.{call_entry, call_input}
 use Rattle.cat_lower.proofs.Slots.{numbers, IsGivable, AreGivable, given_so, none_so}
 use Rattle.cat_lower.proofs.TypesAgree.{both_so}
 
@@ -20,7 +20,8 @@ must_may kind.Context is = refl
 must_may kind.ContextOutput is = refl
 must_may _ is = is
 
-entry_givable : (item : ItemDecl) (o : Option Value) (given : Bool) → ((v : Value) → o ≡ Some v → may_be_given item.kind ≡ true)
+entry_givable : (item : ItemDecl) (o : Option Value) (given : Bool)
+    → ((v : Value) → o ≡ Some v → may_be_given item.kind ≡ true)
     → (o ≡ None → given ≡ false) → (if must_be_given item.kind && not item.condition then given else true) ≡ true
     → IsGivable item (call_entry item o)
 entry_givable item (Some v) given may none must = may v refl
@@ -29,12 +30,14 @@ entry_givable item None given may none must = by (must_be_given item.kind) refl 
     by : (b : Bool) → must_be_given item.kind ≡ b → (c : Bool) → item.condition ≡ c
         → IsGivable item (if must_be_given item.kind && item.condition then Some (flat.Boolean false) else None)
     by true is true condition = rw (is, condition) (must_may item.kind is)
-    by true is false condition = let there : given ≡ true = rw (is, condition) at must in absurd (true≢false (sym there ∙ none refl))
+    by true is false condition = let there : given ≡ true = rw (is, condition) at must in
+        absurd (true≢false (sym there ∙ none refl))
     by false is c condition = rw is is
 
 -- fields whose numbers are those of inputs and contexts, where each input that is no condition is among them
 pub given_are_givable : (fs : List (ℕ × Value)) (items : List ItemDecl) (n : ℕ)
-    → ((k : ℕ) (item : ItemDecl) → slice_get items k ≡ Some item → is_in (n + k) (numbers fs) ≡ true → may_be_given item.kind ≡ true)
+    → ((k : ℕ) (item : ItemDecl) → slice_get items k ≡ Some item → is_in (n + k) (numbers fs) ≡ true
+    → may_be_given item.kind ≡ true)
     → inputs_given n items (numbers fs) ≡ true → AreGivable items (call_input n fs items)
 given_are_givable fs [] n may must = tt
 given_are_givable fs (item ∷ items) n may must =

@@ -1,12 +1,12 @@
 -- Each case stands at its number among all cases.
-use Rattle.std.proofs.Common.{◌≡◌, ℕ, zero, suc, ◌+◌, ◌<◌, true, false, List, [], ◌∷◌, ◌++◌, length, Option, Some, None, refl, sym}
-use Rattle.std.proofs.Common.{ap, ◌∙◌, subst, arith, slice_get, true≢false}
+use Rattle.std.proofs.Common.{◌≡◌, ℕ, zero, suc, ◌+◌, ◌<◌, true, false, List, [], ◌∷◌, ◌++◌, length, Option, Some, None}
+use Rattle.std.proofs.Common.{refl, sym, ap, ◌∙◌, subst, arith, slice_get}
 use Rattle.std.proofs.lemmas.Option.{slice_get_within}
 use Rattle.cat_value.specs.declared.ty.Ty.{Ty}
 use Rattle.cat_value.specs.declared.declaration.Case.{Case}
 use Rattle.cat_value.specs.declared.declaration.Enumeration.{Enumeration}
 use Rattle.cat_value.specs.declared.decls.Decls.{Decls}
-use Rattle.cat_value.specs.Entries.{content_in, case_in, content_of}
+use Rattle.cat_value.specs.Entries.{content_in, content_of}
 use Rattle.cat_scope.specs.Fitting.{has_case}
 use Rattle.cat_code.specs.declared.code.CasePlace.{CasePlace}
 use Rattle.cat_code.specs.Places.{places_in, case_places}
@@ -46,9 +46,11 @@ place_read m zero k (d ∷ es) e is less =
     ∙ ap (λ (i : ℕ). place i k) b
 place_read m (suc n) k (d ∷ es) e is less =
     let size = length_places m 0 d.cases in
-    let a : (length d.cases + cases_before n es) + k ≡ length (places_in m 0 d.cases) + (cases_before n es + k) = omega arith in
+    let a : (length d.cases + cases_before n es) + k ≡ length (places_in m 0 d.cases) + (cases_before n es + k) =
+    omega arith in
     let b : (m + 1) + n ≡ m + suc n = omega arith in
-    back_read (places_in m 0 d.cases) (case_places (m + 1) es) ((length d.cases + cases_before n es) + k) (cases_before n es + k) a
+    back_read (places_in m 0 d.cases) (case_places (m + 1) es) ((length d.cases + cases_before n es) + k)
+    (cases_before n es + k) a
     ∙ place_read (m + 1) n k es e is less
     ∙ ap (λ (i : ℕ). place i k) b
 
@@ -57,7 +59,8 @@ pub case_stands : (ds : Decls) (n k : ℕ) (content : Option Ty) → content_of 
     → slice_get (case_places 0 ds.enumerations) (cases_before n ds.enumerations + k) ≡ place n k
 case_stands ds n k content is = by (slice_get ds.enumerations n) refl
   where
-    inner : (e : Enumeration) → slice_get ds.enumerations n ≡ Some e → (o : Option Case) → slice_get e.cases k ≡ o → content_in o ≡ Some content
+    inner : (e : Enumeration) → slice_get ds.enumerations n ≡ Some e → (o : Option Case) → slice_get e.cases k ≡ o
+        → content_in o ≡ Some content
         → slice_get (case_places 0 ds.enumerations) (cases_before n ds.enumerations + k) ≡ place n k
     inner e there None at told = absurd (cc told)
     inner e there (Some c) at told =

@@ -1,23 +1,22 @@
 -- Arms that are laid one behind the other, with jumps behind each that are patched when all are there.
-use Rattle.std.proofs.Common.{◌≡◌, ◌≤◌, ◌<◌, ℕ, zero, suc, ◌+◌, Bool, true, false, List, [], ◌∷◌, ◌++◌, length, map, Option, Some, None}
-use Rattle.std.proofs.Common.{All, refl, sym, ap, ◌∙◌, subst, arith}
+use Rattle.std.proofs.Common.{◌≡◌, ◌<◌, ℕ, ◌+◌, Bool, List, [], ◌∷◌, ◌++◌, length, map}
+use Rattle.std.proofs.Common.{Option, Some, All, refl, sym, ap, ◌∙◌, subst, arith}
 use Rattle.std.proofs.lemmas.List.{length-set}
 use Rattle.std.proofs.lemmas.List.Elements.{All-push, All-pop, All-weaker}
 use Rattle.cat_value.specs.declared.ty.Ty.{Ty}
 use Rattle.cat_scope.specs.declared.expr.ArmPattern.{ArmPattern}
 use Rattle.cat_scope.specs.declared.expr.ArmPattern.TheVariants as pattern
 use Rattle.cat_scope.specs.declared.expr.Arm.{Arm}
-use Rattle.cat_scope.specs.declared.expr.Expr.{Expr}
 use Rattle.cat_code.specs.declared.instr.Instr.{Instr}
 use Rattle.cat_code.specs.declared.instr.Instr.TheVariants as instr
 use Rattle.cat_lower.specs.declared.growing.Growing.{Growing}
-use Rattle.cat_lower.specs.Laying.{Ends, Parts, Coded, past, joined, after, one, then_code, led, skip, end_of, over, branch}
+use Rattle.cat_lower.specs.Laying.{Ends, Parts, Coded, joined, one, then_code, led, skip, end_of, branch}
 use Rattle.cat_lower.specs.Grown.{ends_of, Grown, Patched, patched_at, all_patched}
 use Rattle.cat_lower.specs.Pieces.{arm_body, first_side}
 use Rattle.cat_lower.specs.Types.{Lowering, arm_types, is_bound}
 use Rattle.cat_lower.specs.Rows.{Standing, case_number, arm_code, arms_code}
 use Rattle.cat_lower.specs.Expressions.{lowered}
-use Rattle.cat_lower.proofs.Places.{past_length, past_append}
+use Rattle.cat_lower.proofs.Places.{past_length}
 use Rattle.cat_lower.proofs.Regrouped.{regrouped, after_joined}
 use Rattle.cat_lower.proofs.Grows.{grown_then, grown_at, place_behind, ends_are}
 use Rattle.cat_lower.proofs.Patches.{patched_within, patched_inside}
@@ -33,7 +32,8 @@ pub last_inside : (old : Growing) (places rest : List ℕ) (at : ℕ) → places
     → All (λ at. at < length old.instructions) places → at < length old.instructions
 last_inside old places rest at is h = (All-pop (λ (at : ℕ). at < length old.instructions) places rest (Some at) is h).1
 
-pub others_inside : (old new : Growing) (i : Instr) (places rest : List ℕ) (at : ℕ) → places ≡ rest ++ at ∷ [] → Patched old new at i
+pub others_inside : (old new : Growing) (i : Instr) (places rest : List ℕ) (at : ℕ) → places ≡ rest ++ at ∷ []
+    → Patched old new at i
     → All (λ at. at < length old.instructions) places → All (λ at. at < length new.instructions) rest
 others_inside old new i places rest at is p h =
     All-weaker (λ (at : ℕ). at < length old.instructions) (λ (at : ℕ). at < length new.instructions)
@@ -53,7 +53,8 @@ patched_is old new at i p =
     e1 ∙ e2 ∙ e3 ∙ e4
 
 -- the others are patched behind the last one
-pub others_patched : (old new : Growing) (i : Instr) (places rest : List ℕ) (at : ℕ) → places ≡ rest ++ at ∷ [] → Patched old new at i
+pub others_patched : (old new : Growing) (i : Instr) (places rest : List ℕ) (at : ℕ) → places ≡ rest ++ at ∷ []
+    → Patched old new at i
     → all_patched rest i new ≡ all_patched places i old
 others_patched old new i places rest at is p =
     ap (λ (t : Growing). all_patched rest i t) (patched_is old new at i p) ∙ sym (patched_last rest at i old)
@@ -80,7 +81,8 @@ module _ (i number : ℕ) where
   whole_arm body rest = led (instr.Local i) (led (instr.IsCase number) (branch (λ t. instr.JumpFalse t) body rest))
 
   -- the arm with what is behind it is there, once the jump is patched
-  pub arm_closed : (g1 g2 new : Growing) (body rest : Coded) (at : ℕ) → Grown g1 g2 (side body) → at + 1 ≡ length g2.instructions
+  pub arm_closed : (g1 g2 new : Growing) (body rest : Coded) (at : ℕ) → Grown g1 g2 (side body)
+      → at + 1 ≡ length g2.instructions
       → Grown g2 new rest
       → Grown g1 (patched_at at (instr.Jump (length new.instructions)) new) (whole_arm body rest)
   arm_closed g1 g2 new body rest at g is h =
@@ -92,37 +94,45 @@ module _ (i number : ℕ) where
       let group : then_code (side body) rest ends ≡ then_code (front body) (led (instr.Jump 0) rest) ends =
       ap (λ (p : Parts). joined (one (instr.Local i) ends) (joined (one (instr.IsCase number) (skip ends))
       (joined (one (instr.JumpFalse number_of) (skip (skip ends))) p))) (regrouped body jump rest inner) in
-      let grouped = grown_at g1 new (then_code (side body) rest) (then_code (front body) (led (instr.Jump 0) rest)) group laid in
+      let grouped =
+      grown_at g1 new (then_code (side body) rest) (then_code (front body) (led (instr.Jump 0) rest)) group laid in
       let behind : ends_of g2 ≡ skip (end_of body inner) =
       ends_are g1 g2 (side body) g ∙ behind_side body (skip (skip ends)) in
       let place : at ≡ (end_of body inner).place =
       let e : at + 1 ≡ (end_of body inner).place + 1 = is ∙ ap (λ (e : Ends). e.place) behind in omega (arith, e) in
       let end_is : length new.instructions ≡ (end_of rest (skip (end_of body inner))).place =
       place_behind g2 new rest h ∙ ap (λ (e : Ends). (end_of rest e).place) behind in
-      let jumped = patched_within g1 new (patched_at at (instr.Jump (length new.instructions)) new) (front body) (instr.Jump 0)
+      let jumped =
+      patched_within g1 new (patched_at at (instr.Jump (length new.instructions)) new) (front body) (instr.Jump 0)
       (instr.Jump (length new.instructions)) rest at grouped place
       (record { instructions = refl; constants = refl; positions = refl; targets = refl }) in
-      grown_at g1 (patched_at at (instr.Jump (length new.instructions)) new) (then_code (front body) (led (instr.Jump (length new.instructions)) rest))
+      grown_at g1 (patched_at at (instr.Jump (length new.instructions)) new)
+      (then_code (front body) (led (instr.Jump (length new.instructions)) rest))
       (whole_arm body rest) (ap (λ (n : ℕ). then_code (front body) (led (instr.Jump n) rest) ends) end_is) jumped
 
 -- an arm, by its pattern
 abbrev pub arms_of : Standing → List Arm → List (ArmPattern × Lowering)
 arms_of here arms = map (λ a. (a.pattern, lowered here a.body)) arms
 
-pub anything_first : (here : Standing) (n : ℕ) (t : Ty) (a : Arm) (arms : List Arm) (ls : List Ty) (x : Option Ty) → a.pattern ≡ pattern.Anything
+pub anything_first : (here : Standing) (n : ℕ) (t : Ty) (a : Arm) (arms : List Arm) (ls : List Ty) (x : Option Ty)
+    → a.pattern ≡ pattern.Anything
     → arms_code here n t (arms_of here (a ∷ arms)) ls x ≡ led (instr.Drop 1) ((lowered here a.body).code ls x)
 anything_first here n t a arms ls x is =
-    ap (λ (p : ArmPattern). arm_code here n (length ls) p ((lowered here a.body).code (arm_types here.names.decls n p ls) x)
+    ap (λ (p : ArmPattern). arm_code here n (length ls) p
+    ((lowered here a.body).code (arm_types here.names.decls n p ls) x)
     (arms_code here n t (arms_of here arms) ls (Some t))) is
 
-pub case_first : (here : Standing) (n k : ℕ) (b : Bool) (t : Ty) (a : Arm) (arms : List Arm) (ls : List Ty) (x : Option Ty)
+pub case_first : (here : Standing) (n k : ℕ) (b : Bool) (t : Ty) (a : Arm) (arms : List Arm) (ls : List Ty)
+    (x : Option Ty)
     → a.pattern ≡ pattern.Case k b
     → arms_code here n t (arms_of here (a ∷ arms)) ls x
     ≡ whole_arm (length ls) (case_number here n k)
-    (arm_body (length ls) (is_bound a.pattern) ((lowered here a.body).code (arm_types here.names.decls n a.pattern ls) x))
+    (arm_body (length ls) (is_bound a.pattern)
+    ((lowered here a.body).code (arm_types here.names.decls n a.pattern ls) x))
     (arms_code here n t (arms_of here arms) ls (Some t))
 case_first here n k b t a arms ls x is =
-    ap (λ (p : ArmPattern). arm_code here n (length ls) p ((lowered here a.body).code (arm_types here.names.decls n p ls) x)
+    ap (λ (p : ArmPattern). arm_code here n (length ls) p
+    ((lowered here a.body).code (arm_types here.names.decls n p ls) x)
     (arms_code here n t (arms_of here arms) ls (Some t))) is
     ∙ sym (ap (λ (p : ArmPattern). whole_arm (length ls) (case_number here n k)
     (arm_body (length ls) (is_bound p) ((lowered here a.body).code (arm_types here.names.decls n p ls) x))
@@ -137,10 +147,13 @@ pub arm_next : (g0 g1 g2 new : Growing) (places later : List ℕ) (at i number :
 arm_next g0 g1 g2 new places later at i number body rest before whole pushed is so_far g place h =
     let end = length new.instructions in
     let there = patched_at at (instr.Jump end) new in
-    let told = so_far there (subst (λ (c : Coded). Grown g1 there c) (sym is) (arm_closed i number g1 g2 new body rest at g place h)) in
+    let told =
+    so_far there (subst (λ (c : Coded). Grown g1 there c) (sym is)
+    (arm_closed i number g1 g2 new body rest at g place h)) in
     let long : length there.instructions ≡ end = length-set new.instructions at (instr.Jump end) in
     subst (λ (t : Growing). Grown g0 t whole)
-    (sym (ap (λ (ps : List ℕ). all_patched ps (instr.Jump end) new) pushed ∙ patched_last places at (instr.Jump end) new))
+    (sym (ap (λ (ps : List ℕ). all_patched ps (instr.Jump end) new) pushed
+    ∙ patched_last places at (instr.Jump end) new))
     (subst (λ (n : ℕ). Grown g0 (all_patched places (instr.Jump n) there) whole) long told)
 
 -- the last arm is there
@@ -158,7 +171,8 @@ still_within old new a places g h =
     All-weaker (λ (at : ℕ). at < length old.instructions) (λ (at : ℕ). at < length new.instructions)
     (λ at less. omega (arith, long, less)) places h
 
-pub one_within : (new : Growing) (places later : List ℕ) (at : ℕ) → later ≡ places ++ at ∷ [] → All (λ at. at < length new.instructions) places
+pub one_within : (new : Growing) (places later : List ℕ) (at : ℕ) → later ≡ places ++ at ∷ []
+    → All (λ at. at < length new.instructions) places
     → at + 1 ≡ length new.instructions → All (λ at. at < length new.instructions) later
 one_within new places later at pushed h is =
     subst (λ (ps : List ℕ). All (λ at. at < length new.instructions) ps) (sym pushed)

@@ -1,5 +1,6 @@
 -- The code of a calculus is valid, and tame with that.
-use Rattle.std.proofs.Common.{◌≡◌, ℕ, zero, suc, ◌+◌, List, [], ◌∷◌, ◌++◌, length, Option, Some, None, slice_get, refl, sym, ap, ◌∙◌, subst, arith}
+use Rattle.std.proofs.Common.{◌≡◌, ℕ, suc, ◌+◌, List, [], ◌∷◌, length, Some, slice_get, refl}
+use Rattle.std.proofs.Common.{sym, ap, ◌∙◌, subst, arith}
 use Rattle.cat_value.specs.declared.decls.Decls.{Decls}
 use Rattle.cat_value.specs.declared.declaration.Scope.{Scope}
 use Rattle.cat_value.specs.Laws.{AreSound}
@@ -16,7 +17,7 @@ use Rattle.cat_code.specs.Places.{function_places, functions_from, functions_in}
 use Rattle.cat_code.specs.Shaped.{scope_entry}
 use Rattle.cat_code.specs.Valid.{IsValidBy, IsValid}
 use Rattle.cat_lower.specs.Laying.{Ends, end_of}
-use Rattle.cat_lower.specs.Stands.{HasAt, Has}
+use Rattle.cat_lower.specs.Stands.{HasAt}
 use Rattle.cat_lower.specs.Scopes.{function_entries}
 use Rattle.cat_lower.specs.Definitions.{definitions_of}
 use Rattle.cat_lower.specs.Lowered.{AreCodeOf, scopes_laid, calc_laid, none, standing, scope_code}
@@ -30,28 +31,34 @@ use Rattle.cat_lower.proofs.KeptCode.{shapes_of}
 use Rattle.cat_lower.proofs.ValidCode.{AllKept, is_valid}
 use Rattle.cat_lower.proofs.AllCode.{all_kept}
 
-as_many : (ds : Decls) (scopes : List Scope) (all : List CalcScope) → AreCalcScopes ds scopes all → length scopes ≡ length all
+as_many : (ds : Decls) (scopes : List Scope) (all : List CalcScope) → AreCalcScopes ds scopes all
+    → length scopes ≡ length all
 as_many ds [] [] are = refl
 as_many ds [] (t ∷ all) are = absurd are
 as_many ds (s ∷ scopes) [] are = absurd are
 as_many ds (s ∷ scopes) (t ∷ all) are = ap suc (as_many ds scopes all are.1)
 
 -- each function has an entry
-functions_counted : (ds : Decls) (ss : List Scope) (rest : List CalcScope) (n functions definitions : ℕ) (ends : Ends) → length ss ≡ length rest
+functions_counted : (ds : Decls) (ss : List Scope) (rest : List CalcScope) (n functions definitions : ℕ) (ends : Ends)
+    → length ss ≡ length rest
     → length (scopes_laid ds n functions definitions ss rest ends).functions ≡ length (functions_from n ss)
 functions_counted ds [] rest n functions definitions ends same = refl
 functions_counted ds (s ∷ ss) [] n functions definitions ends same = absurd (omega (arith, same))
 functions_counted ds (s ∷ ss) (t ∷ rest) n functions definitions ends same =
     let at = standing ds n functions definitions s t in
-    let later = functions_counted ds ss rest (n + 1) (functions + length (functions_in n 0 s.items)) (definitions + length (definitions_of t.terms []))
+    let later =
+    functions_counted ds ss rest (n + 1) (functions + length (functions_in n 0 s.items))
+    (definitions + length (definitions_of t.terms []))
     (end_of (scope_code at) ends) (omega (arith, same)) in
     length_append (function_entries at 0 s.items ends) _
-    ∙ ap (λ m. m + length (scopes_laid ds (n + 1) (functions + length (functions_in n 0 s.items)) (definitions + length (definitions_of t.terms [])) ss rest
+    ∙ ap (λ m. m + length (scopes_laid ds (n + 1) (functions + length (functions_in n 0 s.items))
+    (definitions + length (definitions_of t.terms [])) ss rest
     (end_of (scope_code at) ends)).functions) (entries_counted at s.items 0 ends n 0)
     ∙ ap (λ m. length (functions_in n 0 s.items) + m) later
     ∙ sym (length_append (functions_in n 0 s.items) (functions_from (n + 1) ss))
 
-module _ (calc : Calc) (given : Tables) (code : List Instr) (low : AreCodeOf calc given code) (formed : IsCalc calc.decls calc.scopes calc.scope_order)
+module _ (calc : Calc) (given : Tables) (code : List Instr) (low : AreCodeOf calc given code)
+    (formed : IsCalc calc.decls calc.scopes calc.scope_order)
     (sound : AreSound calc.decls) where
   -- the tables, with the declarations of the calculus
   abbrev tables : Tables
@@ -121,7 +128,8 @@ module _ (calc : Calc) (given : Tables) (code : List Instr) (low : AreCodeOf cal
       is_valid tables code calc.scopes calc.scope_order all kept long entered begun
       (ap (λ (l : List ℕ). length l) low.scopes ∙ whole.counted) low.cases
       (ap (λ (l : List ℕ). length l) low.functions
-      ∙ functions_counted calc.decls calc.decls.scopes calc.scopes 0 0 0 none (as_many calc.decls calc.decls.scopes calc.scopes formed.scopes_are))
+      ∙ functions_counted calc.decls calc.decls.scopes calc.scopes 0 0 0 none
+      (as_many calc.decls calc.decls.scopes calc.scopes formed.scopes_are))
       (subst (λ (cs : List Constant). AllHave (IsConstant tables) cs) (sym low.constants) whole.kept.constants)
       (subst (λ (es : List TargetEntry). AllHave (IsTargetEntry tables) es) (sym low.targets) whole.kept.targets)
 

@@ -1,5 +1,5 @@
 -- What a run comes to from a state, or from where a step leads. Nothing is said of a run that is stuck.
-use Rattle.std.proofs.Common.{◌≡◌, ◌≢◌, ℕ, zero, suc, ◌+◌, Bool, true, false, List, [], ◌∷◌, ◌++◌, Option, Some, None}
+use Rattle.std.proofs.Common.{◌≡◌, ◌≢◌, ℕ, suc, ◌+◌, Bool, true, false, List, [], ◌++◌, Option, Some, None}
 use Rattle.std.proofs.Common.{Result, Ok, Err, refl, sym, ap, subst, slice_get}
 use Rattle.cat_value.specs.declared.value.Value.{Value}
 use Rattle.cat_scope.specs.declared.stop.Stop.{Stop}
@@ -26,7 +26,8 @@ module _ (tables : Tables) (code : List Instr) where
   stepped s r l = record { by = λ h. let a = l.by h in (suc a.0, a.1) }
 
   -- the instruction at the place of a state
-  pub acted : (s : State) (i : Instr) (r : Whole) → slice_get code s.place ≡ Some i → Leads (act tables i s) r → Comes s r
+  pub acted : (s : State) (i : Instr) (r : Whole) → slice_get code s.place ≡ Some i → Leads (act tables i s) r
+      → Comes s r
   acted s i r is l = stepped s r (subst (λ o. Leads (act_at tables o s) r) (sym is) l)
 
   pub goes_on : (s : State) (r : Whole) → Comes s r → Leads (Goes [] s) r

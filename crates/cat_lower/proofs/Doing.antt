@@ -1,38 +1,31 @@
 -- Code that pushes a value does what an expression means: wherever the machine goes on with the value, it comes to the
 -- meaning and then that.
-use Rattle.std.proofs.Common.{◌≡◌, ◌≢◌, ℕ, suc, ◌+◌, List, [], ◌∷◌, ◌++◌, length, Option, Some, None, Result, Ok, Err, refl}
-use Rattle.std.proofs.Common.{sym, ap, ◌∙◌, subst, slice_get, true, false, Bool}
+use Rattle.std.proofs.Common.{◌≡◌, ℕ, ◌+◌, List, length, Some, sym, ap, subst, slice_get}
 use Rattle.cat_pos.specs.declared.pos.Pos.{Pos}
 use Rattle.cat_date.specs.declared.rounding.Rounding.{Rounding}
 use Rattle.cat_value.specs.declared.ty.Ty.{Ty}
 use Rattle.cat_value.specs.declared.value.Value.{Value}
-use Rattle.cat_value.specs.declared.value.Value.TheVariants as flat
-use Rattle.cat_scope.specs.declared.stop.Stop.TheVariants.{Stuck}
 use Rattle.cat_scope.specs.declared.operators.UnaryOp.{UnaryOp}
 use Rattle.cat_scope.specs.declared.operators.BinaryOp.{BinaryOp}
-use Rattle.cat_scope.specs.Replies.{Reply, on_one, known, evaluated}
-use Rattle.cat_scope.specs.Runs.{Run, plain, gives, and_then, giving, choose}
-use Rattle.cat_scope.specs.Projections.{truth, parts}
+use Rattle.cat_scope.specs.Replies.{Reply, known, evaluated}
+use Rattle.cat_scope.specs.Runs.{plain, gives, and_then, giving, choose}
+use Rattle.cat_scope.specs.Projections.{truth}
 use Rattle.cat_scope.specs.Operators.{convert, operate}
 use Rattle.cat_scope.specs.Composed.{Meaning, part}
 use Rattle.cat_scope.specs.Calls.{Items}
 use Rattle.cat_scope.proofs.Exported.{and_then_and_then}
 use Rattle.cat_code.specs.declared.instr.Instr.{Instr}
 use Rattle.cat_code.specs.declared.instr.Instr.TheVariants as instr
-use Rattle.cat_code.specs.declared.code.Constant.{Constant}
 use Rattle.cat_code.specs.declared.code.Tables.{Tables}
-use Rattle.cat_code.specs.Operations.{Before, Between, operation, roundings}
 use Rattle.cat_code.specs.OperationNumbers.{number_before, number_between, rounding_number}
-use Rattle.cat_code.specs.States.{State, Next, at, on, to, push}
-use Rattle.cat_code.specs.Moves.{with_part, pushes, by_truth}
-use Rattle.cat_code.specs.Machine.{operates}
+use Rattle.cat_code.specs.States.{State, push}
 use Rattle.cat_code.specs.Runs.{Whole}
 use Rattle.cat_code.proofs.OperationLaws.{operation-number_before, operation-number_between, roundings-rounding_number}
-use Rattle.cat_lower.specs.Laying.{Ends, Coded, one, with_constant, with_position, then_code, led, skip, end_of, over, branch}
-use Rattle.cat_lower.specs.Pieces.{constant, truth as truth_code, operator}
+use Rattle.cat_lower.specs.Laying.{Ends, Coded, one, then_code, skip, end_of, over, branch}
+use Rattle.cat_lower.specs.Pieces.{constant, operator}
 use Rattle.cat_lower.specs.Stands.{Has}
 use Rattle.cat_lower.proofs.Places.{first_of, second_of, rest_of, past_append}
-use Rattle.cat_lower.proofs.Comes.{Comes, Leads, acted, goes_on, ends_with, is_stuck, parted, pushed, found, chosen, slot_read, alike}
+use Rattle.cat_lower.proofs.Comes.{Comes, acted, goes_on, pushed, found, chosen, slot_read, alike}
 
 -- items that are done have their values in their slots
 pub record Agree (slots items : Items) : Type 0 where
@@ -69,10 +62,12 @@ module _ (tables : Tables) (code : List Instr) (items : Items) where
       acted tables code _ (instr.Local n) _ has.instructions.0
       (pushed tables code (known (slice_get locals n)) (here ends.place locals s) k next)
 
-  pub does_item : (n : ℕ) (depth : ℕ) → Does (λ locals. plain (evaluated (slice_get items n))) depth (one (instr.Slot n))
+  pub does_item : (n : ℕ) (depth : ℕ)
+      → Does (λ locals. plain (evaluated (slice_get items n))) depth (one (instr.Slot n))
   does_item n depth ends has locals deep s agree k next =
       acted tables code _ (instr.Slot n) _ has.instructions.0
-      (slot_read tables code (slice_get items n) (slice_get s.slots n) _ k (agree.by n) (λ v. goes_on tables code _ _ (next v)))
+      (slot_read tables code (slice_get items n) (slice_get s.slots n) _ k (agree.by n)
+      (λ v. goes_on tables code _ _ (next v)))
 
   -- a value, and an instruction that pops it and pushes a reply
   pub does_reply : (a : Meaning) (depth : ℕ) (ca : Coded) (i : Instr) (reply : Value → Reply)
@@ -117,12 +112,14 @@ module _ (tables : Tables) (code : List Instr) (items : Items) where
       let rest : Coded = then_code cb op in
       let inner = second_of tables code ca rest ends has in
       let last = second_of tables code cb op (end_of ca ends) inner in
-      let done = behind cb op (end_of ca ends) locals (λ w. push w s) k (behind ca rest ends locals (λ w. push w s) k next) in
+      let done =
+      behind cb op (end_of ca ends) locals (λ w. push w s) k (behind ca rest ends locals (λ w. push w s) k next) in
       alike tables code _ _ _ (and_then_and_then (a locals) _ k)
       (da ends (first_of tables code ca rest ends has) locals deep s agree _
       (λ v. alike tables code _ _ _ (and_then_and_then (b locals) _ k)
       (db (end_of ca ends) (first_of tables code cb op (end_of ca ends) inner) locals deep (push v s) agree _
-      (λ w. acted tables code _ (instr.Op (number_between o) (rounding_number r) (end_of cb (end_of ca ends)).positions) _
+      (λ w. acted tables code _
+      (instr.Op (number_between o) (rounding_number r) (end_of cb (end_of ca ends)).positions) _
       last.instructions.0
       (found tables code _ _ _ _ (operation-number_between o)
       (found tables code _ _ _ _ (roundings-rounding_number r)
@@ -133,7 +130,8 @@ module _ (tables : Tables) (code : List Instr) (items : Items) where
   pub does_branch : (a b : Meaning) (depth : ℕ) (ca cb : Coded) → Does a depth ca → Does b depth cb
       → (v : Value) (ends : Ends) → Has tables code ends (branch (λ t. instr.JumpFalse t) ca cb ends)
       → (locals : List Value) → length locals ≡ depth → (s : State) → Agree s.slots items → (k : Value → Whole)
-      → ((w : Value) → Comes tables code (here (end_of (branch (λ t. instr.JumpFalse t) ca cb) ends).place locals (push w s)) (k w))
+      → ((w : Value) → Comes tables code
+      (here (end_of (branch (λ t. instr.JumpFalse t) ca cb) ends).place locals (push w s)) (k w))
       → Comes tables code (here ends.place locals (push v s)) (and_then (choose v (a locals) (b locals)) k)
   does_branch a b depth ca cb da db v ends has locals deep s agree k next =
       let e1 = skip ends in
@@ -150,14 +148,16 @@ module _ (tables : Tables) (code : List Instr) (items : Items) where
       (goes_on tables code _ _ (db e2 (rest_of tables code jump cb (end_of ca e1) after_a) locals deep s agree k done)))
 
   -- a truth value, and one of two sides
-  pub does_choice : (c a b : Meaning) (depth : ℕ) (ct ca cb : Coded) → Does c depth ct → Does a depth ca → Does b depth cb
+  pub does_choice : (c a b : Meaning) (depth : ℕ) (ct ca cb : Coded) → Does c depth ct → Does a depth ca
+      → Does b depth cb
       → Does (λ locals. and_then (c locals) (λ v. choose v (a locals) (b locals))) depth
       (then_code ct (branch (λ t. instr.JumpFalse t) ca cb))
   does_choice c a b depth ct ca cb dc da db ends has locals deep s agree k next =
       let sides : Coded = branch (λ t. instr.JumpFalse t) ca cb in
       alike tables code _ _ _ (and_then_and_then (c locals) _ k)
       (dc ends (first_of tables code ct sides ends has) locals deep s agree _
-      (λ v. does_branch a b depth ca cb da db v (end_of ct ends) (second_of tables code ct sides ends has) locals deep s agree k
+      (λ v. does_branch a b depth ca cb da db v (end_of ct ends)
+      (second_of tables code ct sides ends has) locals deep s agree k
       (behind ct sides ends locals (λ w. push w s) k next)))
 
   -- the same meaning and the same code

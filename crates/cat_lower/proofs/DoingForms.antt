@@ -1,43 +1,33 @@
 -- The code of forms over lists and cases does what the forms mean.
-use Rattle.std.proofs.Common.{◌≡◌, ℕ, suc, ◌+◌, pos, Bool, true, false, List, [], ◌∷◌, ◌++◌, length, take, map, Option, Some}
-use Rattle.std.proofs.Common.{None, Result, Ok, Err, refl, sym, ap, ◌∙◌, subst, slice_get, nat_eq, arith, rules}
-use Rattle.cat_pos.specs.declared.pos.Pos.{Pos}
-use Rattle.cat_date.specs.declared.rounding.Rounding.TheVariants.{Refuse}
+use Rattle.std.proofs.Common.{◌≡◌, ℕ, ◌+◌, pos, true, false, List, [], ◌∷◌, ◌++◌, length}
+use Rattle.std.proofs.Common.{Some, None, Result, Ok, Err, refl, sym, ap, ◌∙◌, subst, slice_get, nat_eq}
 use Rattle.cat_value.specs.declared.ty.Ty.{Ty}
-use Rattle.cat_value.specs.declared.ty.Ty.TheViews as ty
 use Rattle.cat_value.specs.declared.value.Value.{Value}
 use Rattle.cat_value.specs.declared.value.Value.TheVariants as flat
 use Rattle.cat_value.specs.declared.value.Value.TheViews as value
 use Rattle.cat_scope.specs.declared.stop.Stop.{Stop}
-use Rattle.cat_scope.specs.declared.operators.SumKind.{SumKind}
-use Rattle.cat_scope.specs.declared.operators.BinaryOp.TheVariants.{Equal}
-use Rattle.cat_scope.specs.Replies.{Reply, on_one, known}
-use Rattle.cat_scope.specs.Runs.{Run, plain, gives, and_then, giving, in_front, choose}
-use Rattle.cat_scope.specs.Projections.{truth, elements, case_of}
-use Rattle.cat_scope.specs.Operators.{operate}
-use Rattle.cat_scope.specs.Comparing.{equal}
+use Rattle.cat_scope.specs.Replies.{on_one}
+use Rattle.cat_scope.specs.Runs.{Run, plain, gives, and_then, giving}
+use Rattle.cat_scope.specs.Projections.{elements, case_of}
 use Rattle.cat_scope.specs.Composed.{Meaning, listed}
-use Rattle.cat_scope.specs.Lists.{for_all, exists, mapped, filtered, combined, contained, zero_of, adding, summed}
+use Rattle.cat_scope.specs.Lists.{for_all, exists, mapped}
 use Rattle.cat_scope.specs.Calls.{Items}
 use Rattle.cat_scope.proofs.Exported.{and_then_and_then}
 use Rattle.cat_code.specs.declared.instr.Instr.{Instr}
 use Rattle.cat_code.specs.declared.instr.Instr.TheVariants as instr
 use Rattle.cat_code.specs.declared.code.Tables.{Tables}
-use Rattle.cat_code.specs.OperationNumbers.{number_between}
-use Rattle.cat_code.specs.States.{State, Next, Goes, on, push}
-use Rattle.cat_code.specs.Moves.{with_part, pushes}
+use Rattle.cat_code.specs.States.{State, on, push}
 use Rattle.cat_code.specs.Runs.{Whole}
-use Rattle.cat_code.proofs.OperationLaws.{operation-number_between}
-use Rattle.cat_lower.specs.Laying.{Ends, Coded, nothing, one, with_constant, then_code, led, skip, end_of, over, loop}
-use Rattle.cat_lower.specs.Pieces.{constant, truth as truth_code, operator, search_for, any_turn, all_turn, of_local}
+use Rattle.cat_lower.specs.Laying.{Ends, Coded, one, then_code, led, skip, end_of, loop}
+use Rattle.cat_lower.specs.Pieces.{search_for, any_turn, all_turn, of_local}
 use Rattle.cat_lower.specs.Expressions.{collecting}
 use Rattle.cat_lower.specs.Stands.{Has}
-use Rattle.cat_lower.proofs.Places.{first_of, second_of, rest_of, past_append}
-use Rattle.cat_lower.proofs.Comes.{Comes, Leads, acted, goes_on, ends_with, parted, pushed, found, chosen, alike}
-use Rattle.cat_lower.proofs.Stacks.{stacked, popped_all, dropped, read_behind, append_none, length_append}
-use Rattle.cat_lower.proofs.Doing.{Agree, here, Does, behind, does_constant, does_reply}
-use Rattle.cat_lower.proofs.Looping.{folded, adding_each, adding_some, mapped_folds, filtered_folds, does_loop}
-use Rattle.cat_lower.proofs.Searching.{looping, Tests, does_exists, does_for_all}
+use Rattle.cat_lower.proofs.Places.{first_of, second_of, rest_of}
+use Rattle.cat_lower.proofs.Comes.{Comes, acted, goes_on, parted, found, alike}
+use Rattle.cat_lower.proofs.Stacks.{dropped, length_append}
+use Rattle.cat_lower.proofs.Doing.{Agree, here, Does, behind, does_reply}
+use Rattle.cat_lower.proofs.Looping.{adding_each, mapped_folds, does_loop}
+use Rattle.cat_lower.proofs.Searching.{looping, does_exists, does_for_all}
 
 -- one of a reply, and then the rest
 pub on_one_then : {A B C : Type 0} (r : Result A Stop) (f : A → Result B Stop) (k : B → Run C)
@@ -47,12 +37,15 @@ on_one_then (Err stop) f k = refl
 
 module _ (tables : Tables) (code : List Instr) (items : Items) where
   -- a value, and an instruction that goes on with a part of it
-  does_part : {A : Type 0} (a : Meaning) (depth : ℕ) (ca : Coded) (i : Instr) (of : Value → Result A Stop) (made : A → Value)
+  does_part : {A : Type 0} (a : Meaning) (depth : ℕ) (ca : Coded) (i : Instr) (of : Value → Result A Stop)
+      (made : A → Value)
       → ((v : Value) (p : ℕ) (locals : List Value) (s : State) (k : Value → Whole)
       → ((w : Value) → Comes tables code (here (p + 1) locals (push w s)) (k w))
-      → slice_get code p ≡ Some i → Comes tables code (here p locals (push v s)) (and_then (plain (of v)) (λ x. k (made x))))
+      → slice_get code p ≡ Some i
+      → Comes tables code (here p locals (push v s)) (and_then (plain (of v)) (λ x. k (made x))))
       → Does tables code items a depth ca
-      → Does tables code items (λ locals. and_then (giving (a locals) of) (λ x. gives (made x))) depth (then_code ca (one i))
+      → Does tables code items (λ locals. and_then (giving (a locals) of) (λ x. gives (made x))) depth
+      (then_code ca (one i))
   does_part a depth ca i of made does da ends has locals deep s agree k next =
       let done = behind tables code items ca (one i) ends locals (λ w. push w s) k next in
       alike tables code _ _ _ (and_then_and_then (giving (a locals) of) _ k ∙ and_then_and_then (a locals) _ _)
@@ -60,7 +53,8 @@ module _ (tables : Tables) (code : List Instr) (items : Items) where
       (λ v. does v (end_of ca ends).place locals s k done (second_of tables code ca (one i) ends has).instructions.0))
 
   pub does_length : (a : Meaning) (depth : ℕ) (ca : Coded) → Does tables code items a depth ca
-      → Does tables code items (λ locals. and_then (listed a locals) (λ vs. gives (flat.Integer (pos (length vs))))) depth
+      → Does tables code items
+      (λ locals. and_then (listed a locals) (λ vs. gives (flat.Integer (pos (length vs))))) depth
       (then_code ca (one instr.Length))
   does_length a depth ca da =
       does_part a depth ca instr.Length elements (λ vs. flat.Integer (pos (length vs)))
@@ -70,10 +64,12 @@ module _ (tables : Tables) (code : List Instr) (items : Items) where
   -- a test of a case that stands at a number of the table
   pub does_is_case : (a : Meaning) (depth : ℕ) (ca : Coded) (c n m : ℕ) → Does tables code items a depth ca
       → slice_get tables.cases c ≡ Some (record { enumeration = n; case = m })
-      → Does tables code items (λ locals. giving (a locals) (λ v. on_one (case_of v) (λ met. Ok (flat.Boolean (nat_eq met.0 m))))) depth
+      → Does tables code items
+      (λ locals. giving (a locals) (λ v. on_one (case_of v) (λ met. Ok (flat.Boolean (nat_eq met.0 m))))) depth
       (then_code ca (one (instr.IsCase c)))
   does_is_case a depth ca c n m da is_case =
-      does_reply tables code items a depth ca (instr.IsCase c) (λ v. on_one (case_of v) (λ met. Ok (flat.Boolean (nat_eq met.0 m))))
+      does_reply tables code items a depth ca (instr.IsCase c)
+      (λ v. on_one (case_of v) (λ met. Ok (flat.Boolean (nat_eq met.0 m))))
       (λ v p locals s k next is. alike tables code _ _ _ (on_one_then (case_of v) _ k)
       (acted tables code _ (instr.IsCase c) _ is
       (parted tables code (case_of v) _ _ (λ met. found tables code _ _ _ _ is_case
@@ -100,7 +96,8 @@ module _ (tables : Tables) (code : List Instr) (items : Items) where
   tests_local : (of_test : Meaning) (depth : ℕ) (test : Coded) → Does tables code items of_test (depth + 1) test
       → (locals : List Value) → length locals ≡ depth → (s : State) → Agree s.slots items
       → (v : Value) (left : List Value) (ends : Ends) → Has tables code ends (of_local test ends) → (k : Value → Whole)
-      → ((t : Value) → Comes tables code (here (end_of (of_local test) ends).place locals (push t (looping left s))) (k t))
+      → ((t : Value) → Comes tables code (here (end_of (of_local test) ends).place locals (push t (looping left s)))
+      (k t))
       → Comes tables code (here ends.place locals (push v (looping left s))) (and_then (of_test (locals ++ v ∷ [])) k)
   tests_local of_test depth test does locals deep s agree v left ends has k next =
       let tail : Coded = one (instr.Drop 1) in
@@ -109,10 +106,12 @@ module _ (tables : Tables) (code : List Instr) (items : Items) where
       let done = behind tables code items test tail e1 locals (λ t. push t (looping left s)) k next in
       let deeper = length_append locals (v ∷ []) in
       acted tables code _ instr.Bind _ has.instructions.0 (goes_on tables code _ _
-      (does e1 (first_of tables code test tail e1 inner) (locals ++ v ∷ []) (deeper ∙ ap (λ n. n + 1) deep) (looping left s) agree k
+      (does e1 (first_of tables code test tail e1 inner) (locals ++ v ∷ []) (deeper ∙ ap (λ n. n + 1) deep)
+      (looping left s) agree k
       (λ t. acted tables code _ (instr.Drop 1) _ (second_of tables code test tail e1 inner).instructions.0
       (goes_on tables code _ _
-      (subst (λ (l : List Value). Comes tables code (here ((end_of test e1).place + 1) l (push t (looping left s))) (k t))
+      (subst (λ (l : List Value). Comes tables code (here ((end_of test e1).place + 1) l (push t (looping left s)))
+      (k t))
       (sym (dropped locals (v ∷ []) 1 refl)) (done t))))))
 
   pub does_some : (l of_test : Meaning) (depth : ℕ) (cl test : Coded) → Does tables code items l depth cl
@@ -131,7 +130,8 @@ module _ (tables : Tables) (code : List Instr) (items : Items) where
       (parted tables code (elements v) _ _
       (λ vs. goes_on tables code _ _
       (does_exists tables code (λ w. of_test (locals ++ w ∷ [])) (of_local test) locals s
-      (tests_local of_test depth test dt locals deep s agree) vs (skip e1) (rest_of tables code instr.Iter turns e1 inner) k done)))))
+      (tests_local of_test depth test dt locals deep s agree) vs (skip e1)
+      (rest_of tables code instr.Iter turns e1 inner) k done)))))
 
   pub does_each : (l of_test : Meaning) (depth : ℕ) (cl test : Coded) → Does tables code items l depth cl
       → Does tables code items of_test (depth + 1) test
@@ -149,7 +149,8 @@ module _ (tables : Tables) (code : List Instr) (items : Items) where
       (parted tables code (elements v) _ _
       (λ vs. goes_on tables code _ _
       (does_for_all tables code (λ w. of_test (locals ++ w ∷ [])) (of_local test) locals s
-      (tests_local of_test depth test dt locals deep s agree) vs (skip e1) (rest_of tables code instr.Iter turns e1 inner) k done)))))
+      (tests_local of_test depth test dt locals deep s agree) vs (skip e1)
+      (rest_of tables code instr.Iter turns e1 inner) k done)))))
 
   -- a loop that collects
   abbrev pub gathering : List Value → List Value → State → State
@@ -159,7 +160,8 @@ module _ (tables : Tables) (code : List Instr) (items : Items) where
       → Does tables code items e (depth + 1) ce
       → Does tables code items (λ locals. and_then (listed l locals)
       (λ vs. and_then (mapped (λ v. e (locals ++ v ∷ [])) vs) (λ ws. gives (value.List ws)))) depth
-      (then_code cl (then_code (collecting t) (loop (led instr.Bind (then_code ce (led instr.Collect (one (instr.Drop 1))))))))
+      (then_code cl (then_code (collecting t)
+      (loop (led instr.Bind (then_code ce (led instr.Collect (one (instr.Drop 1))))))))
   does_map l e depth t cl ce dl de ends has locals deep s agree k next =
       let last : Coded = led instr.Collect (one (instr.Drop 1)) in
       let body : Coded = led instr.Bind (then_code ce last) in
@@ -188,7 +190,8 @@ module _ (tables : Tables) (code : List Instr) (items : Items) where
       (length_append locals (w ∷ []) ∙ ap (λ n. n + 1) deep) (gathering x ws s) agree _
       (λ y. acted tables code _ instr.Collect _ at_last.instructions.0 (goes_on tables code _ _
       (acted tables code _ (instr.Drop 1) _ at_last.instructions.1.0 (goes_on tables code _ _
-      (subst (λ (ls : List Value). Comes tables code (here ((end_of ce (skip e2)).place + 1 + 1) ls (gathering (x ++ y ∷ []) ws s)) (k (x ++ y ∷ [])))
+      (subst (λ (ls : List Value). Comes tables code
+      (here ((end_of ce (skip e2)).place + 1 + 1) ls (gathering (x ++ y ∷ []) ws s)) (k (x ++ y ∷ [])))
       (sym (dropped locals (w ∷ []) 1 refl)) (on (x ++ y ∷ [])))))))))))
       vs [] (end_of (collecting t) e1) (second_of tables code (collecting t) turns e1 inner) (λ ws. k (value.List ws))
       (λ ws. done (value.List ws))))))))

@@ -1,13 +1,12 @@
 -- Parts in a row do what they mean one after the other.
-use Rattle.std.proofs.Common.{◌≡◌, ℕ, zero, suc, ◌+◌, ◌-◌, ◌<◌, Bool, true, false, List, [], ◌∷◌, ◌++◌, length, map, take, Option}
-use Rattle.std.proofs.Common.{Some, None, Result, Ok, Err, refl, sym, ap, ◌∙◌, subst, slice_get, nat_eq, arith, append_assoc}
-use Rattle.std.proofs.Common.{if◌then◌else◌, ◌&&◌}
+use Rattle.std.proofs.Common.{◌≡◌, ℕ, zero, suc, ◌+◌, ◌-◌, ◌<◌, Bool, true, false, List, [], ◌∷◌, ◌++◌, length, map}
+use Rattle.std.proofs.Common.{take, Option, Some, None, Result, Ok, Err, refl, sym, ap, ◌∙◌, subst, slice_get, nat_eq}
+use Rattle.std.proofs.Common.{arith, append_assoc, ◌&&◌}
 use Rattle.std.proofs.lemmas.Bool.{eqb-true}
 use Rattle.cat_value.specs.declared.value.Value.{Value}
 use Rattle.cat_value.specs.declared.value.Value.TheViews as value
 use Rattle.cat_value.specs.declared.declaration.ItemDecl.{ItemDecl}
 use Rattle.cat_scope.specs.declared.stop.Stop.{Stop}
-use Rattle.cat_scope.specs.declared.stop.Stop.TheVariants.{Stuck}
 use Rattle.cat_scope.specs.Replies.{known, on_one, with_front}
 use Rattle.cat_scope.specs.Runs.{Run, plain, gives, and_then, giving, in_front}
 use Rattle.cat_scope.specs.Composed.{Meaning, value_given, in_order, structured}
@@ -25,7 +24,7 @@ use Rattle.cat_lower.specs.Pieces.{index_of, are_counted, bind_all, picked, pack
 use Rattle.cat_lower.specs.Stands.{Has}
 use Rattle.std.proofs.lemmas.Option.{slice_get_within}
 use Rattle.cat_lower.proofs.Places.{first_of, second_of, rest_of, past_append}
-use Rattle.cat_lower.proofs.Comes.{Comes, Leads, acted, goes_on, is_stuck, stays_stuck, found, alike}
+use Rattle.cat_lower.proofs.Comes.{Comes, Leads, acted, goes_on, stays_stuck, found, alike}
 use Rattle.cat_lower.proofs.Stacks.{stacked, popped_all, dropped, read_behind, append_none, length_append, length_map}
 use Rattle.cat_lower.proofs.Doing.{Agree, here, Does, behind}
 use Rattle.cat_lower.proofs.DoingForms.{on_one_then}
@@ -36,7 +35,8 @@ pub record CallsAre (tables : Tables) (code : List Instr) (number : ℕ → ℕ)
   pub by : (f : ℕ) (decl : ItemDecl) → slice_get decls f ≡ Some decl → is_function decl ≡ true
       → (vs : List Value) → length vs ≡ length decl.params → (s : State) (k : Value → Whole) → Agree s.slots items
       → ((v : Value) → Comes tables code (at (s.place + 1) (push v s)) (k v))
-      → Leads tables code (with_part (known (slice_get tables.functions (number f))) (λ entry. enters entry None s.slots vs s))
+      → Leads tables code (with_part (known (slice_get tables.functions (number f)))
+      (λ entry. enters entry None s.slots vs s))
       (and_then (calls f vs) k)
 
 module _ (tables : Tables) (code : List Instr) (items : Items) where
@@ -52,19 +52,22 @@ module _ (tables : Tables) (code : List Instr) (items : Items) where
   pub does_none : (depth : ℕ) → DoesAll (λ locals. gives []) depth 0 nothing
   does_none depth ends has locals deep s agree k next = next [] refl
 
-  pub does_more : (a : Meaning) (b : List Value → Run (List Value)) (depth n : ℕ) (ca cb : Coded) → Does tables code items a depth ca
+  pub does_more : (a : Meaning) (b : List Value → Run (List Value)) (depth n : ℕ) (ca cb : Coded)
+      → Does tables code items a depth ca
       → DoesAll b depth n cb → DoesAll (λ locals. in_front (a locals) (b locals)) depth (suc n) (then_code ca cb)
   does_more a b depth n ca cb da db ends has locals deep s agree k next =
       alike tables code _ _ _ (and_then_and_then (a locals) _ k)
       (da ends (first_of tables code ca cb ends has) locals deep s agree _
       (λ v. alike tables code _ _ _ (and_then_and_then (b locals) _ k)
       (db (end_of ca ends) (second_of tables code ca cb ends has) locals deep (push v s) agree _
-      (λ vs e. subst (λ p. Comes tables code (here p locals (record s { operands = stacked (v ∷ s.operands) vs })) (k (v ∷ vs)))
+      (λ vs e. subst (λ p. Comes tables code (here p locals (record s { operands = stacked (v ∷ s.operands) vs }))
+      (k (v ∷ vs)))
       (past_append ends.place (ca ends).instructions (cb (end_of ca ends)).instructions) (next (v ∷ vs) (ap suc e))))))
 
   -- some values popped into one
   pub does_listed : (a : List Value → Run (List Value)) (depth n : ℕ) (ca : Coded) → DoesAll a depth n ca
-      → Does tables code items (λ locals. and_then (a locals) (λ vs. gives (value.List vs))) depth (then_code ca (one (instr.List n)))
+      → Does tables code items (λ locals. and_then (a locals) (λ vs. gives (value.List vs))) depth
+      (then_code ca (one (instr.List n)))
   does_listed a depth n ca da ends has locals deep s agree k next =
       let i : Coded = one (instr.List n) in
       let done = behind tables code items ca i ends locals (λ w. push w s) k next in
@@ -75,10 +78,12 @@ module _ (tables : Tables) (code : List Instr) (items : Items) where
       (goes_on tables code _ _ (done (value.List vs))))))
 
   -- a call of a function
-  pub does_call : (number : ℕ → ℕ) (decls : List ItemDecl) (calls : ℕ → List Value → Run Value) → CallsAre tables code number decls items calls
+  pub does_call : (number : ℕ → ℕ) (decls : List ItemDecl) (calls : ℕ → List Value → Run Value)
+      → CallsAre tables code number decls items calls
       → (f : ℕ) (decl : ItemDecl) → slice_get decls f ≡ Some decl → is_function decl ≡ true
       → (depth n : ℕ) → n ≡ length decl.params → (a : List Value → Run (List Value)) (ca : Coded) → DoesAll a depth n ca
-      → Does tables code items (λ locals. and_then (a locals) (calls f)) depth (then_code ca (one (instr.Call (number f) n)))
+      → Does tables code items (λ locals. and_then (a locals) (calls f)) depth
+      (then_code ca (one (instr.Call (number f) n)))
   does_call number decls calls are f decl is function depth n counted a ca da ends has locals deep s agree k next =
       let i : Coded = one (instr.Call (number f) n) in
       let done = behind tables code items ca i ends locals (λ w. push w s) k next in
@@ -94,21 +99,26 @@ module _ (tables : Tables) (code : List Instr) (items : Items) where
       (ends : Ends) → Has tables code ends (a ends) → (locals : List Value) → length locals ≡ depth
       → (s : State) → Agree s.slots items → (k : List (ℕ × Value) → Whole)
       → ((fs : List (ℕ × Value)) → map (λ f. f.0) fs ≡ numbers
-      → Comes tables code (here (end_of a ends).place locals (record s { operands = stacked s.operands (map (λ f. f.1) fs) })) (k fs))
+      → Comes tables code (here (end_of a ends).place locals
+      (record s { operands = stacked s.operands (map (λ f. f.1) fs) })) (k fs))
       → Comes tables code (here ends.place locals s) (and_then (meaning locals) k)
 
   pub does_no_field : (depth : ℕ) → DoesFields (λ locals. gives []) depth [] nothing
   does_no_field depth ends has locals deep s agree k next = next [] refl
 
-  pub does_field_more : (n : ℕ) (a : Meaning) (b : List Value → Run (List (ℕ × Value))) (depth : ℕ) (ns : List ℕ) (ca cb : Coded)
+  pub does_field_more : (n : ℕ) (a : Meaning) (b : List Value → Run (List (ℕ × Value))) (depth : ℕ) (ns : List ℕ)
+      (ca cb : Coded)
       → Does tables code items a depth ca → DoesFields b depth ns cb
-      → DoesFields (λ locals. in_front (and_then (a locals) (λ v. gives (n, v))) (b locals)) depth (n ∷ ns) (then_code ca cb)
+      → DoesFields (λ locals. in_front (and_then (a locals) (λ v. gives (n, v))) (b locals)) depth (n ∷ ns)
+      (then_code ca cb)
   does_field_more n a b depth ns ca cb da db ends has locals deep s agree k next =
-      alike tables code _ _ _ (and_then_and_then (and_then (a locals) (λ v. gives (n, v))) _ k ∙ and_then_and_then (a locals) _ _)
+      alike tables code _ _ _ (and_then_and_then (and_then (a locals) (λ v. gives (n, v))) _ k
+      ∙ and_then_and_then (a locals) _ _)
       (da ends (first_of tables code ca cb ends has) locals deep s agree _
       (λ v. alike tables code _ _ _ (and_then_and_then (b locals) _ k)
       (db (end_of ca ends) (second_of tables code ca cb ends has) locals deep (push v s) agree _
-      (λ fs e. subst (λ p. Comes tables code (here p locals (record s { operands = stacked (v ∷ s.operands) (map (λ f. f.1) fs) })) (k ((n, v) ∷ fs)))
+      (λ fs e. subst (λ p. Comes tables code
+      (here p locals (record s { operands = stacked (v ∷ s.operands) (map (λ f. f.1) fs) })) (k ((n, v) ∷ fs)))
       (past_append ends.place (ca ends).instructions (cb (end_of ca ends)).instructions)
       (next ((n, v) ∷ fs) (ap (λ (l : List ℕ). n ∷ l) e))))))
 
@@ -148,7 +158,8 @@ turned_read (y ∷ xs) (suc j) x is =
     let e = length_turned xs in
     let n : length (y ∷ xs) - suc (suc j) ≡ length xs - suc j = omega arith in
     let m : length xs - suc j < length (turned xs) = omega arith in
-    ap (λ k. slice_get (turned xs ++ y ∷ []) k) n ∙ front_read (turned xs) (y ∷ []) (length xs - suc j) m ∙ turned_read xs j x is
+    ap (λ k. slice_get (turned xs ++ y ∷ []) k) n ∙ front_read (turned xs) (y ∷ []) (length xs - suc j) m
+    ∙ turned_read xs j x is
 
 pub back_read : {A : Type 0} (xs ys : List A) (n m : ℕ) → n ≡ length xs + m → slice_get (xs ++ ys) n ≡ slice_get ys m
 back_read [] ys n m is = let e : n ≡ m = omega arith in ap (λ k. slice_get ys k) e
@@ -202,7 +213,8 @@ passed_over k (f ∷ front) fs n counted is =
 
 -- behind them stands the value of the next number
 next_given : (k : ℕ) (front : List (ℕ × Value)) (f : ℕ × Value) (fs : List (ℕ × Value)) (n : ℕ)
-    → are_counted n (numbers (front ++ f ∷ fs)) ≡ true → n + length front ≡ k → value_given k (front ++ f ∷ fs) ≡ Some f.1
+    → are_counted n (numbers (front ++ f ∷ fs)) ≡ true → n + length front ≡ k
+    → value_given k (front ++ f ∷ fs) ≡ Some f.1
 next_given k [] f fs n counted is =
     let parts = and_parts (nat_eq n f.0) _ counted in
     let e : n ≡ k = omega arith in
@@ -240,36 +252,44 @@ module _ (tables : Tables) (code : List Instr) (items : Items) where
   does_bind_all (w ∷ ws) zero is ends has locals s r next = absurd (omega arith)
   does_bind_all (w ∷ ws) (suc n) is ends has locals s r next =
       acted tables code _ instr.Bind _ has.instructions.0 (goes_on tables code _ _
-      (does_bind_all ws n (omega arith) (skip ends) (rest_of tables code instr.Bind (bind_all n) ends has) (locals ++ w ∷ []) s r
+      (does_bind_all ws n (omega arith) (skip ends) (rest_of tables code instr.Bind (bind_all n) ends has)
+      (locals ++ w ∷ []) s r
       (subst (λ (l : List Value). Comes tables code (here (end_of (bind_all n) (skip ends)).place l s) r)
       (sym (append_assoc locals (w ∷ []) ws)) next)))
 
   -- the values of fields are taken in the order of their numbers, by way of local names
-  does_pick : (fs : List (ℕ × Value)) (depth : ℕ) (locals : List Value) → length locals ≡ depth → (n k : ℕ) (ends : Ends)
+  does_pick : (fs : List (ℕ × Value)) (depth : ℕ) (locals : List Value) → length locals ≡ depth
+      → (n k : ℕ) (ends : Ends)
       → Has tables code ends (picked depth (numbers fs) k n ends) → (s : State) (r : List Value → Whole)
       → ((vs : List Value) → length vs ≡ n → Comes tables code (here (end_of (picked depth (numbers fs) k n) ends).place
       (locals ++ turned (values fs)) (record s { operands = stacked s.operands vs })) (r vs))
       → Comes tables code (here ends.place (locals ++ turned (values fs)) s) (and_then (plain (in_order n k fs)) r)
   does_pick fs depth locals deep zero k ends has s r next = next [] refl
   does_pick fs depth locals deep (suc n) k ends has s r next = by (value_given k fs) refl
-      (λ v. does_pick fs depth locals deep n (k + 1) (skip ends) (rest_of tables code (instr.Local _) (picked depth (numbers fs) (k + 1) n) ends has)
+      (λ v. does_pick fs depth locals deep n (k + 1) (skip ends)
+      (rest_of tables code (instr.Local _) (picked depth (numbers fs) (k + 1) n) ends has)
       (push v s) (λ vs. r (v ∷ vs)) (λ vs e. next (v ∷ vs) (ap suc e)))
     where
-      joined : (x : Result (List Value) Stop) (v : Value) → and_then (plain (on_one x (λ more. Ok (v ∷ more)))) r ≡ and_then (plain x) (λ vs. r (v ∷ vs))
+      joined : (x : Result (List Value) Stop) (v : Value)
+          → and_then (plain (on_one x (λ more. Ok (v ∷ more)))) r ≡ and_then (plain x) (λ vs. r (v ∷ vs))
       joined (Ok vs) v = refl
       joined (Err stop) v = refl
 
       there : (v : Value) → value_given k fs ≡ Some v
-          → slice_get (locals ++ turned (values fs)) (depth + (length (numbers fs) - suc (index_of k (numbers fs)))) ≡ Some v
+          → slice_get (locals ++ turned (values fs)) (depth + (length (numbers fs) - suc (index_of k (numbers fs))))
+          ≡ Some v
       there v is =
           back_read locals (turned (values fs)) (depth + (length (numbers fs) - suc (index_of k (numbers fs))))
-          (length (numbers fs) - suc (index_of k (numbers fs))) (ap (λ d. d + (length (numbers fs) - suc (index_of k (numbers fs)))) (sym deep))
+          (length (numbers fs) - suc (index_of k (numbers fs)))
+          (ap (λ d. d + (length (numbers fs) - suc (index_of k (numbers fs)))) (sym deep))
           ∙ ap (λ l. slice_get (turned (values fs)) (l - suc (index_of k (numbers fs)))) (sym (same_length fs))
           ∙ turned_read (values fs) (index_of k (numbers fs)) v (given_at k fs v is)
 
       by : (o : Option Value) → value_given k fs ≡ o
-          → ((v : Value) → Comes tables code (here (ends.place + 1) (locals ++ turned (values fs)) (push v s)) (and_then (plain (in_order n (k + 1) fs)) (λ vs. r (v ∷ vs))))
-          → Comes tables code (here ends.place (locals ++ turned (values fs)) s) (and_then (plain (with_front (known o) (in_order n (k + 1) fs))) r)
+          → ((v : Value) → Comes tables code (here (ends.place + 1) (locals ++ turned (values fs)) (push v s))
+          (and_then (plain (in_order n (k + 1) fs)) (λ vs. r (v ∷ vs))))
+          → Comes tables code (here ends.place (locals ++ turned (values fs)) s)
+          (and_then (plain (with_front (known o) (in_order n (k + 1) fs))) r)
       by None is go = stays_stuck tables code _ _ refl
       by (Some v) is go =
           acted tables code _ (instr.Local _) _ has.instructions.0
@@ -281,13 +301,17 @@ module _ (tables : Tables) (code : List Instr) (items : Items) where
       → (ends : Ends) → Has tables code ends (packed_by b depth ns ends) → (locals : List Value) → length locals ≡ depth
       → (s : State) (k : Value → Whole)
       → ((v : Value) → Comes tables code (here (end_of (packed_by b depth ns) ends).place locals (push v s)) (k v))
-      → Comes tables code (here ends.place locals (record s { operands = stacked s.operands (values fs) })) (and_then (plain (structured fs)) k)
+      → Comes tables code (here ends.place locals (record s { operands = stacked s.operands (values fs) }))
+      (and_then (plain (structured fs)) k)
   does_packed true ns counted depth fs is ends has locals deep s k next =
       let size : length (values fs) ≡ length ns = same_length fs ∙ ap (λ (l : List ℕ). length l) is in
-      let whole : in_order (length fs) 0 fs ≡ Ok (values fs) = counted_in_order [] fs (ap (λ l. are_counted 0 l) is ∙ counted) in
-      alike tables code _ _ _ (ap (λ (x : Result (List Value) Stop). and_then (plain (on_one x (λ vs. Ok (value.Structure vs)))) k) whole)
+      let whole : in_order (length fs) 0 fs ≡ Ok (values fs) =
+      counted_in_order [] fs (ap (λ l. are_counted 0 l) is ∙ counted) in
+      alike tables code _ _ _ (ap
+      (λ (x : Result (List Value) Stop). and_then (plain (on_one x (λ vs. Ok (value.Structure vs)))) k) whole)
       (acted tables code _ (instr.Pack (length ns)) _ has.instructions.0
-      (subst (λ x. Leads tables code x (k (value.Structure (values fs)))) (sym (popped_all (length ns) (values fs) s.operands _ _ size))
+      (subst (λ x. Leads tables code x (k (value.Structure (values fs))))
+      (sym (popped_all (length ns) (values fs) s.operands _ _ size))
       (goes_on tables code _ _ (next (value.Structure (values fs))))))
   does_packed false ns counted depth fs is ends has locals deep s k next =
       let n = length ns in
@@ -307,24 +331,31 @@ module _ (tables : Tables) (code : List Instr) (items : Items) where
       = subst (λ l. Has tables code e1 (picked depth l 0 n e1)) (sym is) (first_of tables code picks tail e1 in_rest) in
       let gone : take (length (locals ++ turned (values fs)) - n) (locals ++ turned (values fs)) ≡ locals
       = dropped locals (turned (values fs)) n (sym (length_turned (values fs) ∙ size)) in
-      subst (λ (l : List Value). Comes tables code (here ends.place locals (record s { operands = l })) (and_then (plain (structured fs)) k))
+      subst (λ (l : List Value). Comes tables code (here ends.place locals (record s { operands = l }))
+      (and_then (plain (structured fs)) k))
       (sym (stacked_turned s.operands (values fs)))
-      (does_bind_all (turned (values fs)) n (length_turned (values fs) ∙ size) ends (first_of tables code (bind_all n) rest ends has) locals s _
-      (alike tables code _ _ _ (on_one_then (in_order (length fs) 0 fs) _ k ∙ ap (λ m. and_then (plain (in_order m 0 fs)) (λ vs. k (value.Structure vs))) count)
+      (does_bind_all (turned (values fs)) n (length_turned (values fs) ∙ size) ends
+      (first_of tables code (bind_all n) rest ends has) locals s _
+      (alike tables code _ _ _
+      (on_one_then (in_order (length fs) 0 fs) _ k
+      ∙ ap (λ m. and_then (plain (in_order m 0 fs)) (λ vs. k (value.Structure vs))) count)
       (does_pick fs depth locals deep n 0 e1 has_picks s (λ vs. k (value.Structure vs))
       (λ vs e. subst (λ l. Comes tables code (here (end_of (picked depth l 0 n) e1).place (locals ++ turned (values fs))
       (record s { operands = stacked s.operands vs })) (k (value.Structure vs))) (sym is)
       (acted tables code _ (instr.Drop n) _ at_tail.instructions.0 (goes_on tables code _ _
-      (subst (λ (ls : List Value). Comes tables code (here (e2.place + 1) ls (record s { operands = stacked s.operands vs })) (k (value.Structure vs))) (sym gone)
+      (subst (λ (ls : List Value). Comes tables code
+      (here (e2.place + 1) ls (record s { operands = stacked s.operands vs })) (k (value.Structure vs))) (sym gone)
       (acted tables code _ (instr.Pack n) _ at_tail.instructions.1.0
       (subst (λ x. Leads tables code x (k (value.Structure vs))) (sym (popped_all n vs s.operands _ _ e))
       (goes_on tables code _ _ (done (value.Structure vs))))))))))))
 
-  pub does_structure : (a : List Value → Run (List (ℕ × Value))) (depth : ℕ) (ns : List ℕ) (ca : Coded) → DoesFields tables code items a depth ns ca
+  pub does_structure : (a : List Value → Run (List (ℕ × Value))) (depth : ℕ) (ns : List ℕ) (ca : Coded)
+      → DoesFields tables code items a depth ns ca
       → Does tables code items (λ locals. giving (a locals) structured) depth (then_code ca (packed depth ns))
   does_structure a depth ns ca da ends has locals deep s agree k next =
       let last : Coded = packed depth ns in
       alike tables code _ _ _ (and_then_and_then (a locals) _ k)
       (da ends (first_of tables code ca last ends has) locals deep s agree _
-      (λ fs is. does_packed (are_counted 0 ns) ns refl depth fs is (end_of ca ends) (second_of tables code ca last ends has) locals deep s k
+      (λ fs is. does_packed (are_counted 0 ns) ns refl depth fs is (end_of ca ends)
+      (second_of tables code ca last ends has) locals deep s k
       (behind tables code items ca last ends locals (λ w. push w s) k next)))

@@ -41,18 +41,23 @@ entries_counted at (item ∷ items) j ends n k =
     by (is_function item) (entries_counted at items (j + 1) (end_of (function_code at j item) ends) n (k + 1))
     (entries_counted at items (j + 1) ends n (k + 1))
   where
-    by : (b : Bool) → length (function_entries at (j + 1) items (end_of (function_code at j item) ends)) ≡ length (functions_in n (k + 1) items)
+    by : (b : Bool) → length (function_entries at (j + 1) items (end_of (function_code at j item) ends))
+        ≡ length (functions_in n (k + 1) items)
         → length (function_entries at (j + 1) items ends) ≡ length (functions_in n (k + 1) items)
-        → length (if b then ends.place ∷ function_entries at (j + 1) items (end_of (function_code at j item) ends) else function_entries at (j + 1) items ends)
-        ≡ length (if b then record { scope = n; item = k; decl = item } ∷ functions_in n (k + 1) items else functions_in n (k + 1) items)
+        → length (if b then ends.place ∷ function_entries at (j + 1) items (end_of (function_code at j item) ends)
+        else function_entries at (j + 1) items ends)
+        ≡ length (if b then record { scope = n; item = k; decl = item } ∷ functions_in n (k + 1) items
+        else functions_in n (k + 1) items)
     by true e f = ap suc e
     by false e f = f
 
-on : {A : Type 0} (old new part rest whole : List A) → new ≡ old ++ part → old ++ (part ++ rest) ≡ whole → new ++ rest ≡ whole
+on : {A : Type 0} (old new part rest whole : List A) → new ≡ old ++ part → old ++ (part ++ rest) ≡ whole
+    → new ++ rest ≡ whole
 on old new part rest whole is so_far = ap (λ l. l ++ rest) is ∙ append_assoc old part rest ∙ so_far
 
 -- a scope more
-pub goes_on : (ds : Decls) (n : ℕ) (scope : Scope) (scopes all_scopes : List Scope) (terms : CalcScope) (rest all_terms : List CalcScope)
+pub goes_on : (ds : Decls) (n : ℕ) (scope : Scope) (scopes all_scopes : List Scope) (terms : CalcScope)
+    (rest all_terms : List CalcScope)
     (old new : Draft) (whole : Laid) → all_scopes ≡ scope ∷ scopes → all_terms ≡ terms ∷ rest
     → Lays old new (standing ds n (length old.functions) (length old.definitions) scope terms)
     → GoesTo old (left_of ds n all_scopes all_terms old) whole → GoesTo new (left_of ds (n + 1) scopes rest new) whole
@@ -70,8 +75,11 @@ goes_on ds n scope scopes all_scopes terms rest all_terms old new whole is_scope
     let behind : scopes_laid ds (n + 1) (length old.functions + length (functions_in n 0 scope.items))
     (length old.definitions + length (definitions_of terms.terms [])) scopes rest (end_of (scope_code at) ends)
     ≡ left_of ds (n + 1) scopes rest new =
-    ap (λ (m : ℕ). scopes_laid ds (n + 1) m (length old.definitions + length (definitions_of terms.terms [])) scopes rest (end_of (scope_code at) ends)) functions
-    ∙ ap (λ (m : ℕ). scopes_laid ds (n + 1) (length new.functions) m scopes rest (end_of (scope_code at) ends)) definitions
+    ap (λ (m : ℕ). scopes_laid ds (n + 1) m
+    (length old.definitions + length (definitions_of terms.terms [])) scopes rest (end_of (scope_code at) ends))
+    functions
+    ∙ ap (λ (m : ℕ). scopes_laid ds (n + 1) (length new.functions) m scopes rest (end_of (scope_code at) ends))
+    definitions
     ∙ ap (λ (e : Ends). scopes_laid ds (n + 1) (length new.functions) (length new.definitions) scopes rest e)
     (sym (ends_are old.growing new.growing (scope_code at) laid.growing)) in
     let told : GoesTo old (in_front at ends (left_of ds (n + 1) scopes rest new)) whole =
@@ -102,14 +110,16 @@ all_there draft ends whole g = record {
 }
 
 -- no scope has terms left, or no terms have a scope
-pub no_terms : (ds : Decls) (n : ℕ) (scopes : List Scope) (terms : List CalcScope) (draft : Draft) (whole : Laid) → terms ≡ []
+pub no_terms : (ds : Decls) (n : ℕ) (scopes : List Scope) (terms : List CalcScope) (draft : Draft) (whole : Laid)
+    → terms ≡ []
     → GoesTo draft (left_of ds n scopes terms draft) whole → Holds draft whole
 no_terms ds n [] terms draft whole is g = all_there draft (ends_of draft.growing) whole g
 no_terms ds n (s ∷ scopes) terms draft whole is g =
     all_there draft (ends_of draft.growing) whole
     (subst (λ (l : List CalcScope). GoesTo draft (left_of ds n (s ∷ scopes) l draft) whole) is g)
 
-pub no_scopes : (ds : Decls) (n : ℕ) (scopes : List Scope) (terms : List CalcScope) (draft : Draft) (whole : Laid) → scopes ≡ []
+pub no_scopes : (ds : Decls) (n : ℕ) (scopes : List Scope) (terms : List CalcScope) (draft : Draft) (whole : Laid)
+    → scopes ≡ []
     → GoesTo draft (left_of ds n scopes terms draft) whole → Holds draft whole
 no_scopes ds n scopes terms draft whole is g =
     all_there draft (ends_of draft.growing) whole
@@ -122,14 +132,19 @@ standing_alike ds scope terms n m f g d e numbers functions definitions =
     ∙ ap (λ (k : ℕ). standing ds m g k scope terms) definitions
 
 -- a scope is laid where its code, its entries and its definitions are there
-pub laid_ok : (r : Result Unit AllocError) (old new : Draft) (ds : Decls) (scope : Scope) (terms : CalcScope) (n m f g d e : ℕ) (ps : List Pos)
+pub laid_ok : (r : Result Unit AllocError) (old new : Draft) (ds : Decls) (scope : Scope) (terms : CalcScope)
+    (n m f g d e : ℕ) (ps : List Pos)
     → n ≡ m → f ≡ g → d ≡ e → Grown old.growing new.growing (scope_code (standing ds n f d scope terms))
-    → new.functions ≡ old.functions ++ function_entries (standing ds n f d scope terms) 0 scope.items (ends_of old.growing)
-    → new.scopes ≡ old.scopes ++ (end_of (functions_code (standing ds n f d scope terms) 0 scope.items) (ends_of old.growing)).place ∷ []
-    → ps ≡ definitions_of terms.terms [] → OnOk r (new.definitions ≡ old.definitions ++ ps) → OnOk r (Lays old new (standing ds m g e scope terms))
+    → new.functions ≡ old.functions
+    ++ function_entries (standing ds n f d scope terms) 0 scope.items (ends_of old.growing)
+    → new.scopes ≡ old.scopes
+    ++ (end_of (functions_code (standing ds n f d scope terms) 0 scope.items) (ends_of old.growing)).place ∷ []
+    → ps ≡ definitions_of terms.terms [] → OnOk r (new.definitions ≡ old.definitions ++ ps)
+    → OnOk r (Lays old new (standing ds m g e scope terms))
 laid_ok (Err x) old new ds scope terms n m f g d e ps numbers functions definitions grown entries begins placed h = tt
 laid_ok (Ok u) old new ds scope terms n m f g d e ps numbers functions definitions grown entries begins placed h =
-    subst (λ (at : ScopeStanding). Lays old new at) (standing_alike ds scope terms n m f g d e numbers functions definitions)
+    subst (λ (at : ScopeStanding). Lays old new at)
+    (standing_alike ds scope terms n m f g d e numbers functions definitions)
     (record {
       growing = grown;
       functions = entries;

@@ -1,7 +1,7 @@
 -- Which slots of a scope are filled, item by item in its order.
-use Rattle.std.proofs.Common.{◌≡◌, ◌≤◌, ◌<◌, ℕ, zero, suc, ◌+◌, nat_eq, nat_lt, ◌&&◌, ◌||◌, Bool, true, false, not, true≢false, IsTrue, List}
-use Rattle.std.proofs.Common.{[], ◌∷◌, ◌++◌, length, map, Option, Some, None, slice_get, slice_set, refl, sym, ap, ◌∙◌, subst, arith, append_assoc}
-use Rattle.std.proofs.Common.{if◌then◌else◌}
+use Rattle.std.proofs.Common.{◌≡◌, ◌<◌, ℕ, zero, suc, ◌+◌, nat_eq, ◌&&◌, ◌||◌, Bool, true, false, not}
+use Rattle.std.proofs.Common.{true≢false, IsTrue, List, [], ◌∷◌, ◌++◌, length, map, Some, slice_get}
+use Rattle.std.proofs.Common.{slice_set, refl, sym, ap, ◌∙◌, subst, arith, if◌then◌else◌}
 use Rattle.std.proofs.lemmas.Bool.{eq-eqb, eqb-true}
 use Rattle.std.proofs.lemmas.Bool.Decides.{nat_tests}
 use Rattle.cat_order.specs.Order.{times}
@@ -22,7 +22,8 @@ abbrev pub filled_from : ℕ → List ItemDecl → List ℕ → List Bool
 filled_from n [] done = []
 filled_from n (item ∷ items) done = is_filled n item done ∷ filled_from (n + 1) items done
 
-pub filled_first : (n : ℕ) (items : List ItemDecl) → filled_from n items [] ≡ map (λ (item : ItemDecl). must_be_given item.kind) items
+pub filled_first : (n : ℕ) (items : List ItemDecl)
+    → filled_from n items [] ≡ map (λ (item : ItemDecl). must_be_given item.kind) items
 filled_first n [] = refl
 filled_first n (item ∷ items) =
     ap (λ (b : Bool). b ∷ filled_from (n + 1) items []) (by (must_be_given item.kind))
@@ -32,7 +33,8 @@ filled_first n (item ∷ items) =
     by true = refl
     by false = refl
 
-pub filled_read : (n : ℕ) (items : List ItemDecl) (done : List ℕ) (k : ℕ) (item : ItemDecl) → slice_get items k ≡ Some item
+pub filled_read : (n : ℕ) (items : List ItemDecl) (done : List ℕ) (k : ℕ) (item : ItemDecl)
+    → slice_get items k ≡ Some item
     → is_in (n + k) done ≡ true → is_function item ≡ false → is_so (slice_get (filled_from n items done) k) ≡ true
 filled_read n [] done k item is there plain = absurd (cc is)
 filled_read n (x ∷ items) done zero item is there plain =
@@ -52,13 +54,16 @@ filled_read n (x ∷ items) done (suc k) item is there plain =
     filled_read (n + 1) items done k item is (ap (λ m. is_in m done) e ∙ there) plain
 
 -- what is done more fills no fewer slots
-pub filled_more : (n : ℕ) (items : List ItemDecl) (some more : List ℕ) → ((j : ℕ) → is_in j some ≡ true → is_in j more ≡ true)
+pub filled_more : (n : ℕ) (items : List ItemDecl) (some more : List ℕ)
+    → ((j : ℕ) → is_in j some ≡ true → is_in j more ≡ true)
     → AreFewer (filled_from n items some) (filled_from n items more)
 filled_more n [] some more within = tt
 filled_more n (item ∷ items) some more within =
-    by (must_be_given item.kind) (is_in n some) (is_in n more) (not (is_function item)) (within n) (filled_more (n + 1) items some more within)
+    by (must_be_given item.kind) (is_in n some) (is_in n more) (not (is_function item)) (within n)
+    (filled_more (n + 1) items some more within)
   where
-    by : (a b c d : Bool) → (b ≡ true → c ≡ true) → AreFewer (filled_from (n + 1) items some) (filled_from (n + 1) items more)
+    by : (a b c d : Bool) → (b ≡ true → c ≡ true)
+        → AreFewer (filled_from (n + 1) items some) (filled_from (n + 1) items more)
         → AreFewer ((a || (b && d)) ∷ filled_from (n + 1) items some) ((a || (c && d)) ∷ filled_from (n + 1) items more)
     by true b c d so rest = (refl, rest)
     by false false c d so rest = rest
@@ -71,7 +76,8 @@ pub filled_alike : (n : ℕ) (items : List ItemDecl) (some more : List ℕ) → 
     → filled_from n items some ≡ filled_from n items more
 filled_alike n [] some more same = refl
 filled_alike n (item ∷ items) some more same =
-    ap (λ (b : Bool). (must_be_given item.kind || (b && not (is_function item))) ∷ filled_from (n + 1) items some) (same n)
+    ap (λ (b : Bool). (must_be_given item.kind || (b && not (is_function item))) ∷ filled_from (n + 1) items some)
+    (same n)
     ∙ ap (λ (l : List Bool). is_filled n item more ∷ l) (filled_alike (n + 1) items some more same)
 
 other_number : (n m : ℕ) → (n ≡ m → ⊥) → nat_eq n m ≡ false
@@ -82,22 +88,27 @@ other_number n m other = by (nat_eq n m) refl
     by false e = e
 
 -- a number in front fills none of those behind
-filled_past : (n m : ℕ) (items : List ItemDecl) (done : List ℕ) → m < n → filled_from n items (m ∷ done) ≡ filled_from n items done
+filled_past : (n m : ℕ) (items : List ItemDecl) (done : List ℕ) → m < n
+    → filled_from n items (m ∷ done) ≡ filled_from n items done
 filled_past n m [] done less = refl
 filled_past n m (item ∷ items) done less =
     let other : nat_eq n m ≡ false = other_number n m (λ e. omega (arith, e, less)) in
-    rw other (ap (λ (l : List Bool). is_filled n item done ∷ l) (filled_past (n + 1) m items done (omega (arith, less))))
+    rw other (ap (λ (l : List Bool). is_filled n item done ∷ l)
+    (filled_past (n + 1) m items done (omega (arith, less))))
 
 -- a variable that is stored fills its slot
-pub filled_next : (n : ℕ) (items : List ItemDecl) (done : List ℕ) (k : ℕ) (item : ItemDecl) → slice_get items k ≡ Some item
+pub filled_next : (n : ℕ) (items : List ItemDecl) (done : List ℕ) (k : ℕ) (item : ItemDecl)
+    → slice_get items k ≡ Some item
     → is_function item ≡ false → slice_set (filled_from n items done) k true ≡ filled_from n items ((n + k) ∷ done)
 filled_next n [] done k item is plain = absurd (cc is)
 filled_next n (x ∷ items) done zero item is plain =
     let same : x ≡ item = cc is in
     let no : is_function x ≡ false = ap is_function same ∙ plain in
     let here : nat_eq n (n + 0) ≡ true = eq-eqb n (n + 0) (omega arith) in
-    ap (λ (b : Bool). b ∷ filled_from (n + 1) items done) (sym (by (must_be_given x.kind) (is_in n ((n + 0) ∷ done)) (is_function x) (rw here refl) no))
-    ∙ ap (λ (l : List Bool). is_filled n x ((n + 0) ∷ done) ∷ l) (sym (filled_past (n + 1) (n + 0) items done (omega arith)))
+    ap (λ (b : Bool). b ∷ filled_from (n + 1) items done)
+    (sym (by (must_be_given x.kind) (is_in n ((n + 0) ∷ done)) (is_function x) (rw here refl) no))
+    ∙ ap (λ (l : List Bool). is_filled n x ((n + 0) ∷ done) ∷ l)
+    (sym (filled_past (n + 1) (n + 0) items done (omega arith)))
   where
     by : (a b c : Bool) → b ≡ true → c ≡ false → (a || (b && not c)) ≡ true
     by true b c e f = refl
@@ -111,14 +122,19 @@ filled_next n (x ∷ items) done (suc k) item is plain =
     (filled_next (n + 1) items done k item is plain ∙ ap (λ m. filled_from (n + 1) items (m ∷ done)) moved))
 
 -- an input and a function fill none
-pub filled_still : (n : ℕ) (items : List ItemDecl) (done : List ℕ) (k : ℕ) (item : ItemDecl) → slice_get items k ≡ Some item
-    → (must_be_given item.kind || is_function item) ≡ true → filled_from n items done ≡ filled_from n items ((n + k) ∷ done)
+pub filled_still : (n : ℕ) (items : List ItemDecl) (done : List ℕ) (k : ℕ) (item : ItemDecl)
+    → slice_get items k ≡ Some item
+    → (must_be_given item.kind || is_function item) ≡ true
+    → filled_from n items done ≡ filled_from n items ((n + k) ∷ done)
 filled_still n [] done k item is so = absurd (cc is)
 filled_still n (x ∷ items) done zero item is so =
     let same : x ≡ item = cc is in
-    let so_x : (must_be_given x.kind || is_function x) ≡ true = ap (λ (i : ItemDecl). must_be_given i.kind || is_function i) same ∙ so in
-    ap (λ (b : Bool). b ∷ filled_from (n + 1) items done) (by (must_be_given x.kind) (is_in n done) (is_in n ((n + 0) ∷ done)) (is_function x) so_x)
-    ∙ ap (λ (l : List Bool). is_filled n x ((n + 0) ∷ done) ∷ l) (sym (filled_past (n + 1) (n + 0) items done (omega arith)))
+    let so_x : (must_be_given x.kind || is_function x) ≡ true =
+    ap (λ (i : ItemDecl). must_be_given i.kind || is_function i) same ∙ so in
+    ap (λ (b : Bool). b ∷ filled_from (n + 1) items done)
+    (by (must_be_given x.kind) (is_in n done) (is_in n ((n + 0) ∷ done)) (is_function x) so_x)
+    ∙ ap (λ (l : List Bool). is_filled n x ((n + 0) ∷ done) ∷ l)
+    (sym (filled_past (n + 1) (n + 0) items done (omega arith)))
   where
     by : (a b c d : Bool) → (a || d) ≡ true → (a || (b && not d)) ≡ (a || (c && not d))
     by true b c d e = refl
@@ -164,11 +180,13 @@ in_front_of k [] = []
 in_front_of k (n ∷ ns) = if nat_eq k n then [] else n ∷ in_front_of k ns
 
 -- what stands in front of one of a front stands in the front
-pub front_within : (j k : ℕ) (front rest : List ℕ) → is_in k front ≡ true → is_in j (in_front_of k (front ++ rest)) ≡ true → is_in j front ≡ true
+pub front_within : (j k : ℕ) (front rest : List ℕ) → is_in k front ≡ true
+    → is_in j (in_front_of k (front ++ rest)) ≡ true → is_in j front ≡ true
 front_within j k [] rest there among = absurd (true≢false (sym there))
 front_within j k (n ∷ front) rest there among = by (nat_eq k n) refl (front_within j k front rest)
   where
-    inner : (b : Bool) → nat_eq k n ≡ false → nat_eq j n ≡ b → (is_in k front ≡ true → is_in j (in_front_of k (front ++ rest)) ≡ true → is_in j front ≡ true)
+    inner : (b : Bool) → nat_eq k n ≡ false → nat_eq j n ≡ b
+        → (is_in k front ≡ true → is_in j (in_front_of k (front ++ rest)) ≡ true → is_in j front ≡ true)
         → is_in j (n ∷ front) ≡ true
     inner true e f later = rw f refl
     inner false e f later =
@@ -176,7 +194,8 @@ front_within j k (n ∷ front) rest there among = by (nat_eq k n) refl (front_wi
         let j_among : is_in j (in_front_of k (front ++ rest)) ≡ true = rw (e, f) at among in
         rw f (later k_there j_among)
 
-    by : (b : Bool) → nat_eq k n ≡ b → (is_in k front ≡ true → is_in j (in_front_of k (front ++ rest)) ≡ true → is_in j front ≡ true)
+    by : (b : Bool) → nat_eq k n ≡ b
+        → (is_in k front ≡ true → is_in j (in_front_of k (front ++ rest)) ≡ true → is_in j front ≡ true)
         → is_in j (n ∷ front) ≡ true
     by true e later = let none : false ≡ true = rw e at among in absurd (true≢false (sym none))
     by false e later = inner (nat_eq j n) e refl later
@@ -186,7 +205,8 @@ pub index_within : (k : ℕ) (front rest : List ℕ) → is_in k front ≡ true 
 index_within k [] rest there = absurd (true≢false (sym there))
 index_within k (n ∷ front) rest there = by (nat_eq k n) refl (index_within k front rest)
   where
-    by : (b : Bool) → nat_eq k n ≡ b → (is_in k front ≡ true → index_of k (front ++ rest) < length front) → index_of k ((n ∷ front) ++ rest) < length (n ∷ front)
+    by : (b : Bool) → nat_eq k n ≡ b → (is_in k front ≡ true → index_of k (front ++ rest) < length front)
+        → index_of k ((n ∷ front) ++ rest) < length (n ∷ front)
     by true e later = rw e (omega arith)
     by false e later = let t : is_in k front ≡ true = rw e at there in rw e (omega (arith, later t))
 
@@ -195,7 +215,8 @@ pub index_behind : (n : ℕ) (front rest : List ℕ) → is_in n front ≡ false
 index_behind n [] rest out = let same = eq-eqb n n refl in rw same refl
 index_behind n (m ∷ front) rest out = by (nat_eq n m) refl (index_behind n front rest)
   where
-    by : (b : Bool) → nat_eq n m ≡ b → (is_in n front ≡ false → index_of n (front ++ n ∷ rest) ≡ length front) → index_of n ((m ∷ front) ++ n ∷ rest) ≡ length (m ∷ front)
+    by : (b : Bool) → nat_eq n m ≡ b → (is_in n front ≡ false → index_of n (front ++ n ∷ rest) ≡ length front)
+        → index_of n ((m ∷ front) ++ n ∷ rest) ≡ length (m ∷ front)
     by true e later = let o : true ≡ false = rw e at out in absurd (true≢false o)
     by false e later = let o : is_in n front ≡ false = rw e at out in rw e (ap suc (later o))
 
@@ -203,7 +224,8 @@ pub front_itself : (n : ℕ) (front rest : List ℕ) → is_in n front ≡ false
 front_itself n [] rest out = let same = eq-eqb n n refl in rw same refl
 front_itself n (m ∷ front) rest out = by (nat_eq n m) refl (front_itself n front rest)
   where
-    by : (b : Bool) → nat_eq n m ≡ b → (is_in n front ≡ false → in_front_of n (front ++ n ∷ rest) ≡ front) → in_front_of n ((m ∷ front) ++ n ∷ rest) ≡ m ∷ front
+    by : (b : Bool) → nat_eq n m ≡ b → (is_in n front ≡ false → in_front_of n (front ++ n ∷ rest) ≡ front)
+        → in_front_of n ((m ∷ front) ++ n ∷ rest) ≡ m ∷ front
     by true e later = let o : true ≡ false = rw e at out in absurd (true≢false o)
     by false e later = let o : is_in n front ≡ false = rw e at out in rw e (ap (λ (l : List ℕ). m ∷ l) (later o))
 
@@ -225,20 +247,24 @@ or_none : (b : Bool) → (b || false) ≡ true → b ≡ true
 or_none true e = refl
 or_none false e = e
 
-each_onto : (needs front : List ℕ) → AllHave (λ k. IsTrue (is_in k (onto front []))) needs → AllHave (λ k. is_in k front ≡ true) needs
+each_onto : (needs front : List ℕ) → AllHave (λ k. IsTrue (is_in k (onto front []))) needs
+    → AllHave (λ k. is_in k front ≡ true) needs
 each_onto [] front h = tt
 each_onto (k ∷ needs) front h = (or_none (is_in k front) (onto_in k front [] h.0), each_onto needs front h.1)
 
-behind_from : (bound : ℕ) (needs : ℕ → List ℕ) (front done : List ℕ) (n : ℕ) (rest : List ℕ) → StandBehind bound needs done (front ++ n ∷ rest)
+behind_from : (bound : ℕ) (needs : ℕ → List ℕ) (front done : List ℕ) (n : ℕ) (rest : List ℕ)
+    → StandBehind bound needs done (front ++ n ∷ rest)
     → AllHave (λ k. IsTrue (is_in k (onto front done))) (needs n)
 behind_from bound needs [] done n rest h = h.1
 behind_from bound needs (m ∷ front) done n rest h = behind_from bound needs front (m ∷ done) n rest h.2
 
 -- what a number needs stands in front of it
-pub behind_front : (bound : ℕ) (needs : ℕ → List ℕ) (order front : List ℕ) (n : ℕ) (rest : List ℕ) → StandBehind bound needs [] order
+pub behind_front : (bound : ℕ) (needs : ℕ → List ℕ) (order front : List ℕ) (n : ℕ) (rest : List ℕ)
+    → StandBehind bound needs [] order
     → order ≡ front ++ n ∷ rest → AllHave (λ k. is_in k front ≡ true) (needs n)
 behind_front bound needs order front n rest h split =
-    each_onto (needs n) front (behind_from bound needs front [] n rest (subst (λ (l : List ℕ). StandBehind bound needs [] l) split h))
+    each_onto (needs n) front
+    (behind_from bound needs front [] n rest (subst (λ (l : List ℕ). StandBehind bound needs [] l) split h))
 
 times_some : (n : ℕ) (xs : List ℕ) → is_in n xs ≡ true → 0 < times xs n
 times_some n [] there = absurd (true≢false (sym there))

@@ -1,6 +1,7 @@
--- The forms of declared types that lowering meets: lists, structures with their fields, items, and what operators take and give.
-use Rattle.std.proofs.Common.{◌≡◌, ◌≤◌, ℕ, zero, suc, nat_le, ◌&&◌, Bool, true, false, List, [], ◌∷◌, ◌++◌, map, Option, Some, None}
-use Rattle.std.proofs.Common.{IsTrue, slice_get, refl, sym, ap, ◌∙◌, arith, true≢false}
+-- The forms of declared types that lowering meets: lists, structures with their fields, items, and what operators take
+-- and give.
+use Rattle.std.proofs.Common.{◌≡◌, ◌≤◌, ℕ, zero, suc, nat_le, ◌&&◌, Bool, true, false, List, [], ◌∷◌, map, Option}
+use Rattle.std.proofs.Common.{Some, None, IsTrue, slice_get, refl, sym, ap, ◌∙◌, arith, true≢false}
 use Rattle.std.proofs.Math.Logic.{⊎_elim}
 use Rattle.std.proofs.lemmas.Bool.Decides.{nat_tests}
 use Rattle.cat_value.specs.declared.ty.Ty.{Ty}
@@ -23,7 +24,8 @@ use Rattle.cat_scope.specs.Signatures.{Signature, comparison, signatures_of, sum
 use Rattle.cat_scope.specs.Lists.{adding}
 use Rattle.cat_scope.specs.Fitting.{field_at, type_in, field_type}
 use Rattle.cat_sound.specs.LowTypes.{IsLow}
-use Rattle.cat_code.specs.Forms.{Form, Truth, Many, Fields, form_at, same_form, forms_in, structure_form, level, form_to, form_of, items_forms}
+use Rattle.cat_code.specs.Forms.{Form, Truth, Many, Fields, form_at, same_form, forms_in, structure_form, level}
+use Rattle.cat_code.specs.Forms.{form_to, form_of, items_forms}
 use Rattle.cat_code.specs.Wanted.{signed, are_params}
 use Rattle.cat_code.proofs.FormLaws.{form_step, form_is, both_true, same_self}
 
@@ -70,7 +72,8 @@ form_Structure ds n fields is =
     by None there is = absurd (cc is)
     by (Some s) there is = structure_low ds n (within ds.structures n s there)
 
-pub at_forms : (f : Ty → Form) (fs : List Field) (k : ℕ) (x : Field) → slice_get fs k ≡ Some x → form_at (forms_in f fs) k ≡ Some (f x.ty)
+pub at_forms : (f : Ty → Form) (fs : List Field) (k : ℕ) (x : Field) → slice_get fs k ≡ Some x
+    → form_at (forms_in f fs) k ≡ Some (f x.ty)
 at_forms f [] k x is = absurd (cc is)
 at_forms f (y ∷ fs) zero x is = let same : y ≡ x = cc is in ap (λ (z : Field). Some (f z.ty)) same
 at_forms f (y ∷ fs) (suc k) x is = at_forms f fs k x is
@@ -91,7 +94,8 @@ pub record FieldForm (ds : Decls) (n k : ℕ) (t : Ty) : Type 0 where
 pub form_field : (ds : Decls) (n k : ℕ) (t : Ty) → field_type ds n k ≡ Some t → FieldForm ds n k t
 form_field ds n k t is = by (fields_of ds n) refl is
   where
-    at : (fields : List Field) → fields_of ds n ≡ Some fields → (o : Option Field) → slice_get fields k ≡ o → type_in o ≡ Some t
+    at : (fields : List Field) → fields_of ds n ≡ Some fields → (o : Option Field) → slice_get fields k ≡ o
+        → type_in o ≡ Some t
         → FieldForm ds n k t
     at fields there None stands is = absurd (cc is)
     at fields there (Some x) stands is =
@@ -115,11 +119,13 @@ params_are form (p ∷ ps) =
     both_true (same_form (form p) (form p)) (are_params form ps (map form ps)) (same_self (form p)) (params_are form ps)
 
 -- an operator gives the result that all its signatures have, where its operands are those of one
-pub signed_result : (form : Ty → Form) (ss : List Signature) (s : Signature) (r : Ty) → AllHave (λ (u : Signature). u.result ≡ r) ss
+pub signed_result : (form : Ty → Form) (ss : List Signature) (s : Signature) (r : Ty)
+    → AllHave (λ (u : Signature). u.result ≡ r) ss
     → IsOneOf s ss → signed form ss (form s.left) (form s.right) ≡ Some r
 signed_result form [] s r all is = elim is [ ]
 signed_result form (x ∷ ss) s r all is =
-    by (same_form (form s.left) (form x.left) && same_form (form s.right) (form x.right)) refl (signed_result form ss s r all.1)
+    by (same_form (form s.left) (form x.left) && same_form (form s.right) (form x.right)) refl
+    (signed_result form ss s r all.1)
   where
     by : (b : Bool) → (same_form (form s.left) (form x.left) && same_form (form s.right) (form x.right)) ≡ b
         → (IsOneOf s ss → signed form ss (form s.left) (form s.right) ≡ Some r)

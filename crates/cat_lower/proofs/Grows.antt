@@ -1,12 +1,12 @@
 -- Parts that are laid one behind the other.
-use Rattle.std.proofs.Common.{◌≡◌, ℕ, ◌+◌, List, [], ◌∷◌, ◌++◌, length, Option, Result, Ok, Err, OnOk, refl, sym, ap, ◌∙◌, subst, arith}
-use Rattle.std.proofs.Common.{append_assoc, length-append}
+use Rattle.std.proofs.Common.{◌≡◌, ℕ, List, [], ◌∷◌, ◌++◌, length, Option, Result, Ok, Err, OnOk, refl, sym, ap}
+use Rattle.std.proofs.Common.{◌∙◌, subst, append_assoc, length-append}
 use Rattle.std.specs.Prelude.{slice_set}
 use Rattle.std.proofs.Math.Seq.{set-append_seam}
 use Rattle.std.specs.declared.alloc.AllocError.{AllocError}
 use Rattle.cat_code.specs.declared.instr.Instr.{Instr}
 use Rattle.cat_lower.specs.declared.growing.Growing.{Growing}
-use Rattle.cat_lower.specs.Laying.{Ends, Parts, Coded, past, one, nothing, then_code, led, skip, end_of}
+use Rattle.cat_lower.specs.Laying.{Ends, Parts, Coded, past, nothing, then_code, led, skip, end_of}
 use Rattle.cat_value.specs.declared.ty.Ty.{Ty}
 use Rattle.cat_scope.specs.declared.expr.Expr.{Expr}
 use Rattle.cat_lower.specs.Grown.{ends_of, Grown, Patched}
@@ -17,7 +17,8 @@ use Rattle.cat_lower.proofs.Places.{past_length}
 pub count : {A : Type 0} (old new more : List A) → new ≡ old ++ more → length new ≡ past (length old) more
 count old new more e = ap length e ∙ length-append old more ∙ sym (past_length (length old) more)
 
-pub ends_alike : (a b : Ends) → a.place ≡ b.place → a.constants ≡ b.constants → a.positions ≡ b.positions → a.targets ≡ b.targets → a ≡ b
+pub ends_alike : (a b : Ends) → a.place ≡ b.place → a.constants ≡ b.constants → a.positions ≡ b.positions
+    → a.targets ≡ b.targets → a ≡ b
 ends_alike a b p c q t =
     let first : Ends = record a { place = b.place } in
     let second : Ends = record first { constants = b.constants } in
@@ -45,7 +46,8 @@ record AddTo (mid new : Growing) (p : Parts) : Type 0 where
   positions : new.positions ≡ mid.positions ++ p.positions
   targets : new.targets ≡ mid.targets ++ p.targets
 
-pub grown_then : (old mid new : Growing) (a b : Coded) → Grown old mid a → Grown mid new b → Grown old new (then_code a b)
+pub grown_then : (old mid new : Growing) (a b : Coded) → Grown old mid a → Grown mid new b
+    → Grown old new (then_code a b)
 grown_then old mid new a b g h =
     let k = subst (λ e. AddTo mid new (b e)) (ends_are old mid a g)
     (record { instructions = h.instructions; constants = h.constants; positions = h.positions; targets = h.targets }) in
@@ -56,7 +58,8 @@ grown_then old mid new a b g h =
       targets = joins old.targets mid.targets new.targets _ _ g.targets k.targets;
     }
 
-pub then_ok : {A : Type 0} (r : Result A AllocError) (old mid new : Growing) (a b : Coded) → Grown old mid a → OnOk r (Grown mid new b)
+pub then_ok : {A : Type 0} (r : Result A AllocError) (old mid new : Growing) (a b : Coded) → Grown old mid a
+    → OnOk r (Grown mid new b)
     → OnOk r (Grown old new (then_code a b))
 then_ok (Ok u) old mid new a b g h = grown_then old mid new a b g h
 then_ok (Err e) old mid new a b g h = tt
@@ -74,10 +77,13 @@ grown_none t = record {
 }
 
 -- another instruction in front of what was laid
-pub patched : (old full new : Growing) (x i : Instr) (a : Coded) (at : ℕ) → Grown old full (led x a) → at ≡ length old.instructions
+pub patched : (old full new : Growing) (x i : Instr) (a : Coded) (at : ℕ) → Grown old full (led x a)
+    → at ≡ length old.instructions
     → Patched full new at i → Grown old new (led i a)
 patched old full new x i a at g is p = record {
-  instructions = p.instructions ∙ ap (λ n. slice_set full.instructions n i) is ∙ ap (λ l. slice_set l (length old.instructions) i) g.instructions
+  instructions =
+      p.instructions ∙ ap (λ n. slice_set full.instructions n i) is
+      ∙ ap (λ l. slice_set l (length old.instructions) i) g.instructions
       ∙ set-append_seam old.instructions x (a (skip (ends_of old))).instructions i;
   constants = p.constants ∙ g.constants;
   positions = p.positions ∙ g.positions;
@@ -85,7 +91,8 @@ patched old full new x i a at g is p = record {
 }
 
 -- the place behind what was laid
-pub place_behind : (old new : Growing) (a : Coded) → Grown old new a → length new.instructions ≡ (end_of a (ends_of old)).place
+pub place_behind : (old new : Growing) (a : Coded) → Grown old new a
+    → length new.instructions ≡ (end_of a (ends_of old)).place
 place_behind old new a g = count old.instructions new.instructions _ g.instructions
 
 -- code that is the same behind what stands there
@@ -102,7 +109,8 @@ pub led_by : (old new : Growing) (i j : Instr) (a : Coded) → i ≡ j → Grown
 led_by old new i j a e g = subst (λ x. Grown old new (led x a)) e g
 
 -- the same types of local names, and the same expected type
-pub told_code : (old new : Growing) (here : Standing) (e : Expr) (later first : List Ty) (x y : Option Ty) → later ≡ first → x ≡ y
+pub told_code : (old new : Growing) (here : Standing) (e : Expr) (later first : List Ty) (x y : Option Ty)
+    → later ≡ first → x ≡ y
     → Grown old new ((lowered here e).code later x) → Grown old new ((lowered here e).code first y)
 told_code old new here e later first x y is_locals is_type g =
     subst (λ (z : Option Ty). Grown old new ((lowered here e).code first z)) is_type
@@ -121,10 +129,14 @@ told_ok (Err e) p = tt
 pub same_code : (old new : Growing) (a b : Coded) → a ≡ b → Grown old new a → Grown old new b
 same_code old new a b is g = subst (λ (c : Coded). Grown old new c) is g
 
-pub same_ok : (r : Result Unit AllocError) (old new : Growing) (a b : Coded) → a ≡ b → OnOk r (Grown old new a) → OnOk r (Grown old new b)
+pub same_ok : (r : Result Unit AllocError) (old new : Growing) (a b : Coded) → a ≡ b → OnOk r (Grown old new a)
+    → OnOk r (Grown old new b)
 same_ok r old new a b is g = subst (λ (c : Coded). OnOk r (Grown old new c)) is g
 
 -- the same expression
-pub at_whole : (r : Result Unit AllocError) (old new : Growing) (here : Standing) (whole e : Expr) (ls : List Ty) (x : Option Ty)
-    → whole ≡ e → OnOk r (Grown old new ((lowered here e).code ls x)) → OnOk r (Grown old new ((lowered here whole).code ls x))
-at_whole r old new here whole e ls x is g = subst (λ (w : Expr). OnOk r (Grown old new ((lowered here w).code ls x))) (sym is) g
+pub at_whole : (r : Result Unit AllocError) (old new : Growing) (here : Standing) (whole e : Expr) (ls : List Ty)
+    (x : Option Ty)
+    → whole ≡ e → OnOk r (Grown old new ((lowered here e).code ls x))
+    → OnOk r (Grown old new ((lowered here whole).code ls x))
+at_whole r old new here whole e ls x is g =
+    subst (λ (w : Expr). OnOk r (Grown old new ((lowered here w).code ls x))) (sym is) g

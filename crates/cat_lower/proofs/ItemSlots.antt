@@ -1,5 +1,5 @@
 -- Slots and values of items, as they fill.
-use Rattle.std.proofs.Common.{◌≡◌, ℕ, zero, suc, ◌+◌, ◌<◌, Bool, true, false, not, ◌&&◌, List, [], ◌∷◌, ◌++◌}
+use Rattle.std.proofs.Common.{◌≡◌, ℕ, zero, suc, ◌<◌, Bool, true, false, not, ◌&&◌, List, [], ◌∷◌, ◌++◌}
 use Rattle.std.proofs.Common.{length, Option, Some, None, Result, Ok, Err, refl, ap, ◌∙◌, slice_get, arith}
 use Rattle.cat_value.specs.declared.ty.Ty.{Ty}
 use Rattle.cat_value.specs.declared.value.Value.{Value}
@@ -16,34 +16,40 @@ use Rattle.cat_lower.proofs.Slots.{IsGivable, AreGivable}
 
 pub agree_stored : (n : ℕ) (v : Value) (x : Option Value) (slots items : Items) → slice_get slots n ≡ Some x
     → ((m : ℕ) (w : Value) → slice_get items m ≡ Some (Some w) → slice_get slots m ≡ Some (Some w))
-    → (m : ℕ) (w : Value) → slice_get (with_entry n (Some v) items) m ≡ Some (Some w) → slice_get (with_entry n (Some v) slots) m ≡ Some (Some w)
+    → (m : ℕ) (w : Value) → slice_get (with_entry n (Some v) items) m ≡ Some (Some w)
+    → slice_get (with_entry n (Some v) slots) m ≡ Some (Some w)
 agree_stored n v x [] items there agree m w h = absurd (cc there)
 agree_stored zero v x (s ∷ slots) [] there agree m w h = absurd (cc h)
 agree_stored (suc n) v x (s ∷ slots) [] there agree m w h = absurd (cc h)
 agree_stored zero v x (s ∷ slots) (i ∷ items) there agree zero w h = h
 agree_stored zero v x (s ∷ slots) (i ∷ items) there agree (suc m) w h = agree (suc m) w h
 agree_stored (suc n) v x (s ∷ slots) (i ∷ items) there agree zero w h = agree zero w h
-agree_stored (suc n) v x (s ∷ slots) (i ∷ items) there agree (suc m) w h = agree_stored n v x slots items there (λ k u e. agree (suc k) u e) m w h
+agree_stored (suc n) v x (s ∷ slots) (i ∷ items) there agree (suc m) w h =
+    agree_stored n v x slots items there (λ k u e. agree (suc k) u e) m w h
 
 pub agree_given : (n : ℕ) (v : Value) (slots items : Items) → slice_get slots n ≡ Some (Some v)
     → ((m : ℕ) (w : Value) → slice_get items m ≡ Some (Some w) → slice_get slots m ≡ Some (Some w))
-    → (m : ℕ) (w : Value) → slice_get (with_entry n (Some v) items) m ≡ Some (Some w) → slice_get slots m ≡ Some (Some w)
+    → (m : ℕ) (w : Value) → slice_get (with_entry n (Some v) items) m ≡ Some (Some w)
+    → slice_get slots m ≡ Some (Some w)
 agree_given n v [] items there agree m w h = absurd (cc there)
 agree_given zero v (s ∷ slots) [] there agree m w h = absurd (cc h)
 agree_given (suc n) v (s ∷ slots) [] there agree m w h = absurd (cc h)
 agree_given zero v (s ∷ slots) (i ∷ items) there agree zero w h = there ∙ h
 agree_given zero v (s ∷ slots) (i ∷ items) there agree (suc m) w h = agree (suc m) w h
 agree_given (suc n) v (s ∷ slots) (i ∷ items) there agree zero w h = agree zero w h
-agree_given (suc n) v (s ∷ slots) (i ∷ items) there agree (suc m) w h = agree_given n v slots items there (λ k u e. agree (suc k) u e) m w h
+agree_given (suc n) v (s ∷ slots) (i ∷ items) there agree (suc m) w h =
+    agree_given n v slots items there (λ k u e. agree (suc k) u e) m w h
 
-pub none_left : (n : ℕ) (items : Items) (m : ℕ) (w : Value) → slice_get (with_entry n None items) m ≡ Some (Some w) → slice_get items m ≡ Some (Some w)
+pub none_left : (n : ℕ) (items : Items) (m : ℕ) (w : Value) → slice_get (with_entry n None items) m ≡ Some (Some w)
+    → slice_get items m ≡ Some (Some w)
 none_left n [] m w h = absurd (cc h)
 none_left zero (i ∷ items) zero w h = absurd (cc h)
 none_left zero (i ∷ items) (suc m) w h = h
 none_left (suc n) (i ∷ items) zero w h = h
 none_left (suc n) (i ∷ items) (suc m) w h = none_left n items m w h
 
-entry_other : (n m : ℕ) (v : Option Value) (slots : Items) → (m ≡ n → ⊥) → slice_get (with_entry n v slots) m ≡ slice_get slots m
+entry_other : (n m : ℕ) (v : Option Value) (slots : Items) → (m ≡ n → ⊥)
+    → slice_get (with_entry n v slots) m ≡ slice_get slots m
 entry_other n m v [] other = refl
 entry_other zero zero v (s ∷ slots) other = absurd (other refl)
 entry_other zero (suc m) v (s ∷ slots) other = refl
@@ -55,13 +61,15 @@ pub record After (slots values : Items) (n : ℕ) (o : Option Value) (slots' : I
   pub agree : Agree slots' (with_entry n o values)
   pub left : (m : ℕ) → (m ≡ n → ⊥) → slice_get slots' m ≡ slice_get slots m
 
-pub after_given : (slots values : Items) (n : ℕ) (v : Value) → Agree slots values → slice_get slots n ≡ Some (Some v) → After slots values n (Some v) slots
+pub after_given : (slots values : Items) (n : ℕ) (v : Value) → Agree slots values → slice_get slots n ≡ Some (Some v)
+    → After slots values n (Some v) slots
 after_given slots values n v agree there = record {
   agree = record { by = agree_given n v slots values there agree.by };
   left = λ m other. refl;
 }
 
-pub after_stored : (slots values : Items) (n : ℕ) (v : Value) (x : Option Value) → Agree slots values → slice_get slots n ≡ Some x
+pub after_stored : (slots values : Items) (n : ℕ) (v : Value) (x : Option Value) → Agree slots values
+    → slice_get slots n ≡ Some x
     → After slots values n (Some v) (with_entry n (Some v) slots)
 after_stored slots values n v x agree there = record {
   agree = record { by = agree_stored n v x slots values there agree.by };
@@ -88,11 +96,13 @@ given_at (item ∷ items) (v ∷ input) are zero less = (refl, are.0)
 given_at (item ∷ items) (v ∷ input) are (suc n) less = given_at items input are.1 n (omega arith)
 
 -- a value that is made of another
-pub value_joined : {A : Type 0} (make : Value → A) (r : Reply) (k : A → Whole) → and_then (plain (on_one r (λ v. Ok (make v)))) k ≡ and_then (plain r) (λ v. k (make v))
+pub value_joined : {A : Type 0} (make : Value → A) (r : Reply) (k : A → Whole)
+    → and_then (plain (on_one r (λ v. Ok (make v)))) k ≡ and_then (plain r) (λ v. k (make v))
 value_joined make (Ok v) k = refl
 value_joined make (Err stop) k = refl
 
-pub ended : {A : Type 0} (log : List Decider) (r : Result A Stop) (f g : A → Whole) → ((a : A) → f a ≡ g a) → later log r f ≡ later log r g
+pub ended : {A : Type 0} (log : List Decider) (r : Result A Stop) (f g : A → Whole) → ((a : A) → f a ≡ g a)
+    → later log r f ≡ later log r g
 ended log (Ok a) f g same = ap (λ (x : Whole). record { log = log ++ x.log; end = x.end }) (same a)
 ended log (Err stop) f g same = refl
 

@@ -1,28 +1,20 @@
 -- Code whose instructions are kept at their spots is valid.
-use Rattle.std.proofs.Common.{◌≡◌, ◌≤◌, ◌<◌, ℕ, zero, suc, ◌+◌, ◌-◌, nat_eq, nat_le, nat_lt, ◌&&◌, ◌||◌, Bool, true, false, not, true≢false}
-use Rattle.std.proofs.Common.{IsTrue, List, [], ◌∷◌, ◌++◌, length, map, Option, Some, None, slice_get, refl, sym, ap, ◌∙◌, subst, arith}
-use Rattle.std.specs.List.{list_all}
+use Rattle.std.proofs.Common.{◌≡◌, ℕ, zero, suc, ◌+◌, ◌-◌, nat_eq, nat_le, ◌&&◌, Bool, true}
+use Rattle.std.proofs.Common.{false, not, true≢false, IsTrue, List, [], ◌∷◌, map, Option, Some, None}
+use Rattle.std.proofs.Common.{slice_get, refl, sym, ap, ◌∙◌, subst, arith}
 use Rattle.std.proofs.lemmas.Bool.{eqb-true}
 use Rattle.std.proofs.lemmas.Bool.Decides.{nat_tests}
 use Rattle.cat_scope.specs.Names.{AllHave}
 use Rattle.cat_code.specs.declared.instr.Instr.{Instr}
 use Rattle.cat_code.specs.declared.instr.Instr.TheVariants as instr
-use Rattle.cat_code.specs.declared.code.Constant.{Constant}
-use Rattle.cat_code.specs.declared.code.CasePlace.{CasePlace}
 use Rattle.cat_code.specs.declared.code.Tables.{Tables}
-use Rattle.cat_code.specs.Forms.{Form, form_of}
-use Rattle.cat_code.specs.Operations.{Operation, operation, operations, roundings}
 use Rattle.cat_code.specs.Shapes.{Owner, Shape}
-use Rattle.cat_code.specs.Leads.{Flow, with, where_so, pop}
-use Rattle.cat_code.specs.Flow.{flow}
-use Rattle.cat_code.specs.Told.{constant_form}
-use Rattle.cat_code.specs.Shaped.{Shapes, IsMet, IsFine, AreFine}
-use Rattle.cat_code.specs.Jumps.{jump_of, with_jump, jumps_in, called_by, is_within}
-use Rattle.cat_code.specs.Tame.{is_forward, AreForward, may_go_back, IsCallOf, LeadTo, call, chain, IsTame}
+use Rattle.cat_code.specs.Shaped.{Shapes, IsMet, AreFine}
+use Rattle.cat_code.specs.Jumps.{jump_of, with_jump, jumps_in, called_by}
+use Rattle.cat_code.specs.Tame.{is_forward, AreForward, IsCallOf, LeadTo, call, chain, IsTame}
 use Rattle.cat_code.specs.Valid.{are_apart, are_tested, keeps_rules, keep_rules}
 use Rattle.cat_lower.proofs.TypesAgree.{both_so}
-use Rattle.cat_lower.proofs.Spots.{Spot, Spots, Meeting, Marked, Jumps, Shut, MayCall, Keeps, IsKept, AreKept}
-use Rattle.cat_lower.proofs.ShapedForms.{within_so}
+use Rattle.cat_lower.proofs.Spots.{Spot, Spots, Meeting, Marked, Jumps, Shut, MayCall, IsKept, AreKept}
 use Rattle.cat_lower.proofs.ShapedParts.{read_map}
 
 pub both_true : (a b : Bool) → a ≡ true → b ≡ true → (a && b) ≡ true
@@ -57,22 +49,26 @@ module _ (tables : Tables) (code : List Instr) (Calls : Owner → Owner → Type
 
   -- ---- jumps
 
-  forward_so : (p : ℕ) (i : Instr) (o : Option ℕ) → Jumps tables code Calls entry all p i o → IsTrue (is_forward code p i o)
+  forward_so : (p : ℕ) (i : Instr) (o : Option ℕ) → Jumps tables code Calls entry all p i o
+      → IsTrue (is_forward code p i o)
   forward_so p i None h = refl
   forward_so p i (Some t) h = h.1
 
-  pub all_forward : (p : ℕ) (is : List Instr) (ss : Spots) → AreKept tables code Calls entry all p is ss → AreForward code p is
+  pub all_forward : (p : ℕ) (is : List Instr) (ss : Spots) → AreKept tables code Calls entry all p is ss
+      → AreForward code p is
   all_forward p [] [] h = tt
   all_forward p [] (s ∷ ss) h = absurd h
   all_forward p (i ∷ is) [] h = absurd h
   all_forward p (i ∷ is) (s ∷ ss) h = (forward_so p i (jump_of i) h.0.keeps.0, all_forward (p + 1) is ss h.1)
 
-  with_open : (p : ℕ) (i : Instr) (o : Option ℕ) (ts : List ℕ) → Jumps tables code Calls entry all p i o → AllHave (Marked true all) ts
+  with_open : (p : ℕ) (i : Instr) (o : Option ℕ) (ts : List ℕ) → Jumps tables code Calls entry all p i o
+      → AllHave (Marked true all) ts
       → AllHave (Marked true all) (with_jump o ts)
   with_open p i None ts h rest = rest
   with_open p i (Some t) ts h rest = (h.0, rest)
 
-  pub all_open : (p : ℕ) (is : List Instr) (ss : Spots) → AreKept tables code Calls entry all p is ss → AllHave (Marked true all) (jumps_in is)
+  pub all_open : (p : ℕ) (is : List Instr) (ss : Spots) → AreKept tables code Calls entry all p is ss
+      → AllHave (Marked true all) (jumps_in is)
   all_open p [] [] h = tt
   all_open p [] (s ∷ ss) h = absurd h
   all_open p (i ∷ is) [] h = absurd h
@@ -86,7 +82,8 @@ module _ (tables : Tables) (code : List Instr) (Calls : Owner → Owner → Type
       let spots : free.spot ≡ shut.spot = cc same in
       true≢false (sym free.marked ∙ ap (λ (s : Spot). s.free) spots ∙ shut.marked)
 
-  last_of_four : (p t : ℕ) → nat_le 4 p ≡ true → (nat_le p (t + 3) && nat_le t p) ≡ true → nat_eq t p ≡ false → nat_eq t (p - 1) ≡ false
+  last_of_four : (p t : ℕ) → nat_le 4 p ≡ true → (nat_le p (t + 3) && nat_le t p) ≡ true → nat_eq t p ≡ false
+      → nat_eq t (p - 1) ≡ false
       → nat_eq t (p - 2) ≡ false → nat_eq t (p - 3) ≡ true
   last_of_four p t four near a b c = grind (arith, nat_tests)
 
@@ -98,7 +95,8 @@ module _ (tables : Tables) (code : List Instr) (Calls : Owner → Owner → Type
       meet : (q : ℕ) → nat_eq t q ≡ true → Marked false all q → ⊥
       meet q e s = clash t free (subst (λ m. Marked false all m) (sym (eqb-true t q e)) s)
 
-      third : (nat_le p (t + 3) && nat_le t p) ≡ true → (c : Bool) → nat_eq t (p - 2) ≡ c → nat_eq t p ≡ false → nat_eq t (p - 1) ≡ false → ⊥
+      third : (nat_le p (t + 3) && nat_le t p) ≡ true → (c : Bool) → nat_eq t (p - 2) ≡ c → nat_eq t p ≡ false
+          → nat_eq t (p - 1) ≡ false → ⊥
       third near true e a b = meet (p - 2) e shut.1.0
       third near false e a b = meet (p - 3) (last_of_four p t four near a b e) shut.0
 
@@ -115,18 +113,23 @@ module _ (tables : Tables) (code : List Instr) (Calls : Owner → Owner → Type
       by false near = refl
 
   all_apart : (p : ℕ) (ts : List ℕ) → nat_le 4 p ≡ true → AllHave (Marked true all) ts
-      → Marked false all (p - 3) × (Marked false all (p - 2) × (Marked false all (p - 1) × Marked false all p)) → are_apart p ts ≡ true
+      → Marked false all (p - 3) × (Marked false all (p - 2) × (Marked false all (p - 1) × Marked false all p))
+      → are_apart p ts ≡ true
   all_apart p [] four free shut = refl
   all_apart p (t ∷ ts) four free shut =
-      both_true (not (nat_le p (t + 3) && nat_le t p)) (are_apart p ts) (not_near p t four free.0 shut) (all_apart p ts four free.1 shut)
+      both_true (not (nat_le p (t + 3) && nat_le t p)) (are_apart p ts) (not_near p t four free.0 shut)
+      (all_apart p ts four free.1 shut)
 
-  rules_so : (places : List ℕ) → AllHave (Marked true all) places → (p : ℕ) (i : Instr) → Shut tables code Calls entry all p i
+  rules_so : (places : List ℕ) → AllHave (Marked true all) places → (p : ℕ) (i : Instr)
+      → Shut tables code Calls entry all p i
       → keeps_rules tables code [] p i ≡ true → keeps_rules tables code places p i ≡ true
   rules_so places free p instr.Content shut so =
       let parts = both_so (nat_le 4 p && true)
-      (are_tested tables (slice_get code (p - 4)) (slice_get code (p - 3)) (slice_get code (p - 2)) (slice_get code (p - 1))) so in
+      (are_tested tables (slice_get code (p - 4)) (slice_get code (p - 3)) (slice_get code (p - 2))
+      (slice_get code (p - 1))) so in
       let four = (both_so (nat_le 4 p) true parts.0).0 in
-      both_true (nat_le 4 p && are_apart p places) _ (both_true (nat_le 4 p) (are_apart p places) four (all_apart p places four free shut)) parts.1
+      both_true (nat_le 4 p && are_apart p places) _
+      (both_true (nat_le 4 p) (are_apart p places) four (all_apart p places four free shut)) parts.1
   rules_so places free p (instr.Const k) shut so = so
   rules_so places free p (instr.Slot k) shut so = so
   rules_so places free p (instr.Local k) shut so = so
@@ -174,7 +177,8 @@ module _ (tables : Tables) (code : List Instr) (Calls : Owner → Owner → Type
 
   -- ---- calls
 
-  kept_at : (p : ℕ) (is : List Instr) (ss : Spots) (n : ℕ) (i : Instr) (s : Spot) → AreKept tables code Calls entry all p is ss
+  kept_at : (p : ℕ) (is : List Instr) (ss : Spots) (n : ℕ) (i : Instr) (s : Spot)
+      → AreKept tables code Calls entry all p is ss
       → slice_get is n ≡ Some i → slice_get ss n ≡ Some s → IsKept tables code Calls entry all i (p + n) s.shape
   kept_at p [] ss n i s h is_i is_s = absurd (cc is_i)
   kept_at p (j ∷ is) [] n i s h is_i is_s = absurd (cc is_s)
@@ -189,23 +193,31 @@ module _ (tables : Tables) (code : List Instr) (Calls : Owner → Owner → Type
       let e : (p + 1) + n ≡ p + suc n = omega arith in
       subst (λ m. IsKept tables code Calls entry all i m s.shape) e (kept_at (p + 1) is ss n i s h.1 is_i is_s)
 
-  spot_at : (ss : Spots) (n : ℕ) (shape : Shape) → slice_get (shapes_of ss) n ≡ Some (Some shape) → (s : Spot) × (slice_get ss n ≡ Some s) × (s.shape ≡ shape)
+  spot_at : (ss : Spots) (n : ℕ) (shape : Shape) → slice_get (shapes_of ss) n ≡ Some (Some shape)
+      → (s : Spot) × (slice_get ss n ≡ Some s) × (s.shape ≡ shape)
   spot_at [] n shape is = absurd (cc is)
   spot_at (s ∷ ss) zero shape is = let same : s.shape ≡ shape = cc is in (s, refl, same)
   spot_at (s ∷ ss) (suc n) shape is = spot_at ss n shape is
 
-  module _ (kept : AreKept tables code Calls entry all 0 code all) (further : (a b c : Owner) → Calls a b → Calls b c → Calls a c) where
+  module _ (kept : AreKept tables code Calls entry all 0 code all)
+      (further : (a b c : Owner) → Calls a b → Calls b c → Calls a c) where
     called_so : (a b : Owner) → IsCallOf code (shapes_of all) a b → Calls a b
     called_so a b c =
         let met = spot_at all c.place c.shape c.shape_is in
         let one = kept_at 0 code all c.place c.instruction met.0 kept c.instruction_is met.1 in
         let owned : met.0.shape.owner ≡ a = ap (λ (s : Shape). s.owner) met.2 ∙ c.owner_is in
         subst (λ (o : Owner). Calls o b) owned
-        (subst (λ o. MayCall tables code Calls entry met.0.shape.owner o) (ap (λ (o : Owner). called_by o c.instruction) owned ∙ c.calls) one.keeps.1.1.1)
+        (subst (λ o. MayCall tables code Calls entry met.0.shape.owner o)
+        (ap (λ (o : Owner). called_by o c.instruction) owned ∙ c.calls) one.keeps.1.1.1)
 
     pub leads_so : (a b : Owner) → LeadTo code (shapes_of all) a b → Calls a b
     leads_so a b (call c) = called_so a b c
     leads_so a b (chain {b = m} c rest) = further a m b (called_so a m c) (leads_so m b rest)
 
     pub is_tame : ((a : Owner) → Calls a a → ⊥) → IsTame code (shapes_of all)
-    is_tame none = record { forward = all_forward 0 code all kept; acyclic = λ owner leads. none owner (leads_so owner owner leads) }
+    is_tame none =
+        record {
+          forward = all_forward 0 code all kept;
+          acyclic =
+              λ owner leads. none owner (leads_so owner owner leads);
+        }

@@ -1,25 +1,24 @@
 -- A loop does what comes of one element after the other.
-use Rattle.std.proofs.Common.{◌≡◌, ℕ, ◌+◌, Bool, true, false, List, [], ◌∷◌, ◌++◌, length, Option, Some, None, Result, Ok, Err, refl, sym}
-use Rattle.std.proofs.Common.{ap, ◌∙◌, subst, slice_get, append_assoc}
+use Rattle.std.proofs.Common.{◌≡◌, ℕ, ◌+◌, Bool, true, false, List, [], ◌∷◌, ◌++◌, Result}
+use Rattle.std.proofs.Common.{Ok, Err, refl, sym, ap, ◌∙◌, subst, append_assoc}
 use Rattle.cat_value.specs.declared.value.Value.{Value}
 use Rattle.cat_scope.specs.declared.stop.Stop.{Stop}
-use Rattle.cat_scope.specs.Runs.{Run, plain, gives, and_then, in_front, choose, either}
-use Rattle.cat_scope.specs.Projections.{truth, elements}
+use Rattle.cat_scope.specs.Runs.{Run, gives, and_then, choose, either}
+use Rattle.cat_scope.specs.Projections.{truth}
 use Rattle.cat_scope.specs.Lists.{mapped, filtered}
-use Rattle.cat_scope.specs.Calls.{Items}
 use Rattle.cat_scope.proofs.Exported.{and_then_and_then, and_then_same}
 use Rattle.cat_code.specs.declared.instr.Instr.{Instr}
 use Rattle.cat_code.specs.declared.instr.Instr.TheVariants as instr
 use Rattle.cat_code.specs.declared.code.Tables.{Tables}
-use Rattle.cat_code.specs.States.{State, Loop, Goes, push}
+use Rattle.cat_code.specs.States.{State, Goes, push}
 use Rattle.cat_code.specs.Machine.{act}
 use Rattle.cat_code.specs.Runs.{Whole}
-use Rattle.cat_lower.specs.Laying.{Ends, Coded, one, then_code, led, skip, end_of, loop}
+use Rattle.cat_lower.specs.Laying.{Ends, Coded, one, then_code, skip, end_of, loop}
 use Rattle.cat_lower.specs.Stands.{Has}
-use Rattle.cat_lower.proofs.Places.{first_of, second_of, rest_of, past_append}
-use Rattle.cat_lower.proofs.Comes.{Comes, Leads, acted, goes_on, parted, alike}
+use Rattle.cat_lower.proofs.Places.{first_of, second_of, rest_of}
+use Rattle.cat_lower.proofs.Comes.{Comes, Leads, acted, goes_on, alike}
 use Rattle.cat_lower.proofs.Stacks.{append_none}
-use Rattle.cat_lower.proofs.Doing.{Agree, here, behind}
+use Rattle.cat_lower.proofs.Doing.{here, behind}
 
 -- what comes of an element and of all in front, one element after the other
 abbrev pub folded : {X : Type 0} → (Value → X → Run X) → List Value → X → Run X
@@ -72,9 +71,11 @@ module _ (tables : Tables) (code : List Instr) where
   module _ {X : Type 0} (step : Value → X → Run X) (body : Coded) (locals : List Value) (s : State)
       (inside : X → List Value → State) (after : X → State)
       -- at the end of the loop, and at an element
-      (ends_so : (x : X) (p t : ℕ) → act tables (instr.Next t) (here p locals (inside x [])) ≡ Goes [] (here t locals (after x)))
+      (ends_so : (x : X) (p t : ℕ)
+      → act tables (instr.Next t) (here p locals (inside x [])) ≡ Goes [] (here t locals (after x)))
       (goes_so : (x : X) (v : Value) (vs : List Value) (p t : ℕ)
-      → act tables (instr.Next t) (here p locals (inside x (v ∷ vs))) ≡ Goes [] (here (p + 1) locals (push v (inside x vs))))
+      → act tables (instr.Next t) (here p locals (inside x (v ∷ vs)))
+      ≡ Goes [] (here (p + 1) locals (push v (inside x vs))))
       -- the body does a step
       (does : (x : X) (v : Value) (vs : List Value) (ends : Ends) → Has tables code ends (body ends) → (k : X → Whole)
       → ((y : X) → Comes tables code (here (end_of body ends).place locals (inside y vs)) (k y))
@@ -93,8 +94,10 @@ module _ (tables : Tables) (code : List Instr) where
         let inner = rest_of tables code (instr.Next end) (then_code body back) ends has in
         alike tables code _ _ _ (and_then_and_then (step v x) _ k)
         (acted tables code _ (instr.Next end) _ has.instructions.0
-        (subst (λ z. Leads tables code z (and_then (step v x) (λ y. and_then (folded step vs y) k))) (sym (goes_so x v vs _ _))
+        (subst (λ z. Leads tables code z (and_then (step v x) (λ y. and_then (folded step vs y) k)))
+        (sym (goes_so x v vs _ _))
         (goes_on tables code _ _
         (does x v vs (skip ends) (first_of tables code body back (skip ends) inner) _
-        (λ y. acted tables code _ (instr.Jump ends.place) _ (second_of tables code body back (skip ends) inner).instructions.0
+        (λ y. acted tables code _ (instr.Jump ends.place) _
+        (second_of tables code body back (skip ends) inner).instructions.0
         (goes_on tables code _ _ (does_loop vs y ends has k next)))))))

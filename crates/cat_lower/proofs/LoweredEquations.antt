@@ -26,23 +26,30 @@ form here y = record { type = type_by here.names y; code = code_by here y }
 
 -- an arm and a field, lowered
 abbrev pub branch : Standing → Arm → ArmPattern × Lowering
-branch here = fold-Arm Lowering (ArmPattern × Lowering) (ℕ × Lowering) (form here) (λ a. (a.pattern, a.body)) (λ f. (f.field, f.value))
+branch here =
+    fold-Arm Lowering (ArmPattern × Lowering) (ℕ × Lowering) (form here) (λ a. (a.pattern, a.body))
+    (λ f. (f.field, f.value))
 
 abbrev pub field : Standing → FieldValue → ℕ × Lowering
-field here = fold-FieldValue Lowering (ArmPattern × Lowering) (ℕ × Lowering) (form here) (λ a. (a.pattern, a.body)) (λ f. (f.field, f.value))
+field here =
+    fold-FieldValue Lowering (ArmPattern × Lowering) (ℕ × Lowering) (form here) (λ a. (a.pattern, a.body))
+    (λ f. (f.field, f.value))
 
 levels : (here : Standing) (e : Expr) → lowered here e ≡ form here
-    (map-Expr Expr Arm FieldValue Lowering (ArmPattern × Lowering) (ℕ × Lowering) (lowered here) (branch here) (field here) (out-Expr e))
+    (map-Expr Expr Arm FieldValue Lowering (ArmPattern × Lowering) (ℕ × Lowering) (lowered here) (branch here)
+    (field here) (out-Expr e))
 unfolding lowered
 levels here e =
-    fold_out-Expr Lowering (ArmPattern × Lowering) (ℕ × Lowering) (form here) (λ a. (a.pattern, a.body)) (λ f. (f.field, f.value)) e
+    fold_out-Expr Lowering (ArmPattern × Lowering) (ℕ × Lowering) (form here) (λ a. (a.pattern, a.body))
+    (λ f. (f.field, f.value)) e
 
 pub branch_is : (here : Standing) (a : Arm) → branch here a ≡ (a.pattern, lowered here a.body)
 unfolding lowered
 branch_is here a = search (
   rules,
   expr.the_lemmas,
-  fold_out-Arm Lowering (ArmPattern × Lowering) (ℕ × Lowering) (form here) (λ a. (a.pattern, a.body)) (λ f. (f.field, f.value)),
+  fold_out-Arm Lowering (ArmPattern × Lowering) (ℕ × Lowering) (form here) (λ a. (a.pattern, a.body))
+      (λ f. (f.field, f.value)),
 )
 
 pub field_is : (here : Standing) (f : FieldValue) → field here f ≡ (f.field, lowered here f.value)
@@ -50,7 +57,8 @@ unfolding lowered
 field_is here f = search (
   rules,
   expr.the_lemmas,
-  fold_out-FieldValue Lowering (ArmPattern × Lowering) (ℕ × Lowering) (form here) (λ a. (a.pattern, a.body)) (λ f. (f.field, f.value)),
+  fold_out-FieldValue Lowering (ArmPattern × Lowering) (ℕ × Lowering) (form here) (λ a. (a.pattern, a.body))
+      (λ f. (f.field, f.value)),
 )
 
 pub lowered_Literal : (here : Standing) (p : Pos) (l : Literal)
@@ -134,7 +142,8 @@ pub lowered_Filter : (here : Standing) (p : Pos) (l test : Expr)
 lowered_Filter here p l test = rw (levels here (expr.Filter p l test), expr.outs-Filter p l test) refl
 
 pub lowered_Combine : (here : Standing) (p : Pos) (l start e : Expr)
-    → lowered here (expr.Combine p l start e) ≡ form here (Expr-F.Combine p (lowered here l) (lowered here start) (lowered here e))
+    → lowered here (expr.Combine p l start e)
+    ≡ form here (Expr-F.Combine p (lowered here l) (lowered here start) (lowered here e))
 lowered_Combine here p l start e = rw (levels here (expr.Combine p l start e), expr.outs-Combine p l start e) refl
 
 pub lowered_Contains : (here : Standing) (p q : Pos) (l e : Expr)
@@ -155,4 +164,5 @@ lowered_Call here p f es = rw (levels here (expr.Call p f es), expr.outs-Call p 
 
 pub lowered_ScopeCall : (here : Standing) (p : Pos) (s : ℕ) (fields : List FieldValue) (k : ℕ)
     → lowered here (expr.ScopeCall p s fields k) ≡ form here (Expr-F.ScopeCall p s (map (field here) fields) k)
-lowered_ScopeCall here p s fields k = rw (levels here (expr.ScopeCall p s fields k), expr.outs-ScopeCall p s fields k) refl
+lowered_ScopeCall here p s fields k =
+    rw (levels here (expr.ScopeCall p s fields k), expr.outs-ScopeCall p s fields k) refl

@@ -1,5 +1,5 @@
 -- What is left meets shapes: the order of shapes by what is known.
-use Rattle.std.proofs.Common.{◌≡◌, Bool, true, false, List, [], ◌∷◌, refl, ◌∙◌}
+use Rattle.std.proofs.Common.{Bool, true, false, List, [], ◌∷◌, refl, ◌∙◌}
 use Rattle.cat_code.specs.Shapes.{FrameShape, PendingShape, Shape, AreFewer, MeetsFrame, MeetsPending, AllMeet, Meets}
 
 pub fewer_same : (bs : List Bool) → AreFewer bs bs
@@ -46,7 +46,8 @@ meets_same s = record {
   pending = pending_same s.pending;
 }
 
-frames_then : (xs bs cs : List FrameShape) → AllMeet MeetsFrame xs bs → AllMeet MeetsFrame bs cs → AllMeet MeetsFrame xs cs
+frames_then : (xs bs cs : List FrameShape) → AllMeet MeetsFrame xs bs → AllMeet MeetsFrame bs cs
+    → AllMeet MeetsFrame xs cs
 frames_then [] [] [] h k = tt
 frames_then [] [] (c ∷ cs) h k = k
 frames_then [] (b ∷ bs) cs h k = absurd h
@@ -61,7 +62,8 @@ frames_then (a ∷ xs) (b ∷ bs) (c ∷ cs) h k = (
   frames_then xs bs cs h.1 k.1,
 )
 
-pending_then : (xs bs cs : List PendingShape) → AllMeet MeetsPending xs bs → AllMeet MeetsPending bs cs → AllMeet MeetsPending xs cs
+pending_then : (xs bs cs : List PendingShape) → AllMeet MeetsPending xs bs → AllMeet MeetsPending bs cs
+    → AllMeet MeetsPending xs cs
 pending_then [] [] [] h k = tt
 pending_then [] [] (c ∷ cs) h k = k
 pending_then [] (b ∷ bs) cs h k = absurd h

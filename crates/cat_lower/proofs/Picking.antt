@@ -1,17 +1,15 @@
 -- Where numbers stand in a list.
-use Rattle.std.proofs.Common.{◌≡◌, ◌≤◌, ◌<◌, ℕ, zero, suc, ◌+◌, ◌-◌, nat_eq, Bool, true, false, not, ◌&&◌, List, [], ◌∷◌, length}
-use Rattle.std.proofs.Common.{drop, replicate, refl, sym, ap, ◌∙◌, subst, arith, if◌then◌else◌, map, get_or}
+use Rattle.std.proofs.Common.{◌≡◌, ◌≤◌, ◌<◌, ℕ, zero, suc, ◌+◌, ◌-◌, nat_eq, Bool, true, false, List, [], ◌∷◌}
+use Rattle.std.proofs.Common.{length, drop, replicate, refl, sym, ap, ◌∙◌, arith, if◌then◌else◌, map, get_or}
 use Rattle.std.specs.Prelude.{slice_set, nat_lt}
 use Rattle.std.proofs.lemmas.Bool.{eqb-true, eq-eqb}
 use Rattle.std.proofs.lemmas.Bool.Decides.{nat_tests}
 use Rattle.std.proofs.lemmas.List.{length-map}
-use Rattle.cat_value.specs.declared.declaration.ItemDecl.{ItemDecl}
-use Rattle.cat_value.specs.Inputs.{must_be_given}
 use Rattle.cat_scope.specs.Names.{is_in}
 use Rattle.cat_scope.specs.declared.expr.FieldValue.{FieldValue}
 use Rattle.cat_code.specs.declared.instr.Instr.TheVariants as instr
-use Rattle.cat_lower.specs.Laying.{Coded, nothing, led, then_code}
-use Rattle.cat_lower.specs.Pieces.{index_of, indices, bind_all, picked, absent_code, pass_absent}
+use Rattle.cat_lower.specs.Laying.{Coded, nothing, led}
+use Rattle.cat_lower.specs.Pieces.{index_of, indices, bind_all, picked}
 
 -- in an empty list none stands
 pub indices_none : (k n i : ℕ) → replicate n i ≡ indices k n i []
@@ -40,7 +38,8 @@ found_later k m ms off = by (nat_eq k m) refl
     by false e = refl
 
 -- a number that isn't asked for
-pub indices_other : (k n i m : ℕ) (ms : List ℕ) → ((j : ℕ) → j < n → k + j ≡ m → ⊥) → indices k n (suc i) ms ≡ indices k n i (m ∷ ms)
+pub indices_other : (k n i m : ℕ) (ms : List ℕ) → ((j : ℕ) → j < n → k + j ≡ m → ⊥)
+    → indices k n (suc i) ms ≡ indices k n i (m ∷ ms)
 indices_other k zero i m ms off = refl
 indices_other k (suc n) i m ms off =
     let here = found_later k m ms (λ e. off 0 (omega arith) (omega (arith, e))) in
@@ -49,7 +48,8 @@ indices_other k (suc n) i m ms off =
     ap (λ l. (suc i + index_of k ms) ∷ l) rest ∙ ap (λ (x : ℕ). x ∷ indices (k + 1) n i (m ∷ ms)) head
 
 -- a number that is asked for
-pub indices_set : (k n i j : ℕ) (ms : List ℕ) → j < n → slice_set (indices k n (suc i) ms) j i ≡ indices k n i ((k + j) ∷ ms)
+pub indices_set : (k n i j : ℕ) (ms : List ℕ) → j < n
+    → slice_set (indices k n (suc i) ms) j i ≡ indices k n i ((k + j) ∷ ms)
 indices_set k zero i j ms less = absurd (omega (arith, less))
 indices_set k (suc n) i zero ms less =
     let same : k ≡ k + 0 = omega arith in
@@ -75,7 +75,8 @@ place_passed count later at fields f places is here off so_far =
     let more : suc at ≡ at + 1 = omega arith in
     so_far ∙ ap (λ (n : ℕ). indices 0 count n (map (λ f. f.field) (drop n fields))) is
     ∙ ap (λ (n : ℕ). indices 0 count (suc at) (map (λ f. f.field) (drop n fields))) more
-    ∙ indices_other 0 count at f.field (map (λ f. f.field) (drop (at + 1) fields)) (λ j less e. off (omega (arith, less, e)))
+    ∙ indices_other 0 count at f.field (map (λ f. f.field) (drop (at + 1) fields))
+    (λ j less e. off (omega (arith, less, e)))
     ∙ ap (λ (fs : List FieldValue). indices 0 count at (map (λ f. f.field) fs)) (sym here)
 
 -- and one that is asked for
@@ -117,11 +118,14 @@ abbrev pub picked_at : ℕ → ℕ → List ℕ → Coded
 picked_at i count [] = nothing
 picked_at i count (p ∷ ps) = led (instr.Local (i + ((count - p) - 1))) (picked_at i count ps)
 
-pub picked_by : (i : ℕ) (numbers : List ℕ) (k n : ℕ) → picked_at i (length numbers) (indices k n 0 numbers) ≡ picked i numbers k n
+pub picked_by : (i : ℕ) (numbers : List ℕ) (k n : ℕ)
+    → picked_at i (length numbers) (indices k n 0 numbers) ≡ picked i numbers k n
 picked_by i numbers k zero = refl
 picked_by i numbers k (suc n) =
-    let same : (length numbers - (0 + index_of k numbers)) - 1 ≡ length numbers - suc (index_of k numbers) = omega arith in
-    ap (λ (c : Coded). led (instr.Local (i + ((length numbers - (0 + index_of k numbers)) - 1))) c) (picked_by i numbers (k + 1) n)
+    let same : (length numbers - (0 + index_of k numbers)) - 1 ≡ length numbers - suc (index_of k numbers) =
+    omega arith in
+    ap (λ (c : Coded). led (instr.Local (i + ((length numbers - (0 + index_of k numbers)) - 1))) c)
+    (picked_by i numbers (k + 1) n)
     ∙ ap (λ (m : ℕ). led (instr.Local (i + m)) (picked i numbers (k + 1) n)) same
 
 -- a number that stands in a list has an index below its length
@@ -137,7 +141,8 @@ in_below n ms = ap (λ (m : ℕ). nat_lt m (length ms)) (omega arith) ∙ by ms
         step true e =
             let less : nat_lt 0 (suc (length ms)) ≡ true = grind (arith, nat_tests) in less
         step false e =
-            let less : nat_lt (suc (index_of n ms)) (suc (length ms)) ≡ nat_lt (index_of n ms) (length ms) = grind (arith, nat_tests) in less ∙ e
+            let less : nat_lt (suc (index_of n ms)) (suc (length ms)) ≡ nat_lt (index_of n ms) (length ms) =
+            grind (arith, nat_tests) in less ∙ e
 
 -- whether a field has a number, by the index that is read for it
 pub given_at : (count i place : ℕ) (fields : List FieldValue) → i < count

@@ -41,5 +41,6 @@ module _ (tables : Tables) (code : List Instr) where
     targets = has_back tables.targets ends.targets (a ends).targets _ h.targets;
   }
 
-  pub rest_of : (i : Instr) (a : Coded) (ends : Ends) → Has tables code ends (led i a ends) → Has tables code (skip ends) (a (skip ends))
+  pub rest_of : (i : Instr) (a : Coded) (ends : Ends) → Has tables code ends (led i a ends)
+      → Has tables code (skip ends) (a (skip ends))
   rest_of i a ends h = second_of (one i) a ends h

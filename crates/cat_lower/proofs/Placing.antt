@@ -1,5 +1,6 @@
 -- Positions that are put at the numbers of their definitions.
-use Rattle.std.proofs.Common.{◌≡◌, ◌≤◌, ◌<◌, ℕ, zero, suc, List, [], ◌∷◌, ◌++◌, length, map, Result, Ok, Err, OnOk, refl, sym, ap, ◌∙◌, arith}
+use Rattle.std.proofs.Common.{◌≡◌, ◌≤◌, ◌<◌, ℕ, zero, suc, List, [], ◌∷◌, ◌++◌, length, map, Result, Ok, Err, OnOk}
+use Rattle.std.proofs.Common.{refl, sym, ap, ◌∙◌, arith}
 use Rattle.std.specs.Prelude.{slice_set}
 use Rattle.std.specs.declared.alloc.AllocError.{AllocError}
 use Rattle.cat_pos.specs.declared.pos.Pos.{Pos}
@@ -30,12 +31,15 @@ placed_both : (hs gs : List (Held Expr)) (ps : List Pos) → all_placed (hs ++ g
 placed_both [] gs ps = refl
 placed_both (h ∷ hs) gs ps = placed_both hs gs (placed h.number h.pos ps)
 
-placed_terms : (ts : List DefaultTerm) (ps : List Pos) → all_placed (all_in (map consequences_in ts)) ps ≡ terms_placed ts ps
+placed_terms : (ts : List DefaultTerm) (ps : List Pos)
+    → all_placed (all_in (map consequences_in ts)) ps ≡ terms_placed ts ps
 placed_terms [] ps = refl
 placed_terms (t ∷ ts) ps =
-    placed_both (consequences_in t) (all_in (map consequences_in ts)) ps ∙ placed_terms ts (all_placed (consequences_in t) ps)
+    placed_both (consequences_in t) (all_in (map consequences_in ts)) ps
+    ∙ placed_terms ts (all_placed (consequences_in t) ps)
 
-pub placed_Empty : (whole : DefaultTerm) (ps : List Pos) → whole ≡ leaf.Empty → ps ≡ all_placed (consequences_in whole) ps
+pub placed_Empty : (whole : DefaultTerm) (ps : List Pos) → whole ≡ leaf.Empty
+    → ps ≡ all_placed (consequences_in whole) ps
 placed_Empty whole ps is =
     sym (ap (λ (t : DefaultTerm). all_placed (consequences_in t) ps) is
     ∙ ap (λ (hs : List (Held Expr)). all_placed hs ps) consequences_Empty)
@@ -51,16 +55,20 @@ placed_Default ts j t ps =
     ∙ placed_both (all_in (map consequences_in ts)) (consequences_in t) ps
     ∙ ap (λ (l : List Pos). all_placed (consequences_in t) l) (placed_terms ts ps))
 
-pub placed_Consequence_ok : (r : Result Unit AllocError) (new ps : List Pos) (whole : DefaultTerm) (n : ℕ) (p : Pos) (e : Expr)
-    → whole ≡ leaf.Consequence n p e → OnOk r (new ≡ placed n p ps) → OnOk r (new ≡ all_placed (consequences_in whole) ps)
+pub placed_Consequence_ok : (r : Result Unit AllocError) (new ps : List Pos) (whole : DefaultTerm) (n : ℕ) (p : Pos)
+    (e : Expr)
+    → whole ≡ leaf.Consequence n p e → OnOk r (new ≡ placed n p ps)
+    → OnOk r (new ≡ all_placed (consequences_in whole) ps)
 placed_Consequence_ok (Err x) new ps whole n p e is h = tt
 placed_Consequence_ok (Ok u) new ps whole n p e is h =
     h ∙ placed_Consequence n p e ps ∙ sym (ap (λ (t : DefaultTerm). all_placed (consequences_in t) ps) is)
 
-pub placed_Default_ok : (r : Result Unit AllocError) (new mid ps : List Pos) (whole : DefaultTerm) (ts : List DefaultTerm) (j : Justification)
+pub placed_Default_ok : (r : Result Unit AllocError) (new mid ps : List Pos) (whole : DefaultTerm)
+    (ts : List DefaultTerm) (j : Justification)
     (t last : DefaultTerm) → whole ≡ term.Default ts j t → last ≡ t → mid ≡ terms_placed ts ps
     → OnOk r (new ≡ all_placed (consequences_in last) mid) → OnOk r (new ≡ all_placed (consequences_in whole) ps)
 placed_Default_ok (Err x) new mid ps whole ts j t last is same placed h = tt
 placed_Default_ok (Ok u) new mid ps whole ts j t last is same placed h =
-    h ∙ ap (λ (s : DefaultTerm). all_placed (consequences_in s) mid) same ∙ ap (λ (l : List Pos). all_placed (consequences_in t) l) placed
+    h ∙ ap (λ (s : DefaultTerm). all_placed (consequences_in s) mid) same
+    ∙ ap (λ (l : List Pos). all_placed (consequences_in t) l) placed
     ∙ placed_Default ts j t ps ∙ sym (ap (λ (s : DefaultTerm). all_placed (consequences_in s) ps) is)

@@ -1,6 +1,5 @@
 -- Bound names that are taken off.
-use Rattle.std.proofs.Common.{◌≡◌, ◌∙◌, ℕ, ◌-◌, List, [], ◌++◌, length, take}
-use Rattle.std.proofs.Common.{ap, arith}
+use Rattle.std.proofs.Common.{◌≡◌, ◌∙◌, ℕ, ◌-◌, List, ◌++◌, length, take, ap, arith}
 use Rattle.std.proofs.lemmas.List.{length-append}
 use Rattle.cat_pos.proofs.Popping.{take_front}
 

@@ -1,8 +1,7 @@
--- Who calls whom: each call goes to a scope that stands in front in the order of the scopes, or to a function that stands
--- in front in the order of its scope; and what a function begins with.
-use Rattle.std.proofs.Common.{◌≡◌, ◌<◌, ℕ, ◌+◌, nat_eq, nat_lt, ◌&&◌, ◌||◌, Bool, true, false, true≢false, IsTrue, List, [], ◌∷◌, length, map}
-use Rattle.std.proofs.Common.{Option, Some, None, slice_get, refl, sym, ap, ◌∙◌, arith}
-use Rattle.std.proofs.lemmas.Bool.{eq-eqb}
+-- Who calls whom: each call goes to a scope that stands in front in the order of the scopes, or to a function that
+-- stands in front in the order of its scope; and what a function begins with.
+use Rattle.std.proofs.Common.{◌≡◌, ◌<◌, ℕ, nat_eq, nat_lt, ◌&&◌, ◌||◌, Bool, true, false, true≢false, IsTrue, List}
+use Rattle.std.proofs.Common.{[], length, map, Option, Some, None, slice_get, sym, ap, ◌∙◌, arith}
 use Rattle.std.proofs.lemmas.Bool.Decides.{nat_tests}
 use Rattle.cat_value.specs.declared.decls.Decls.{Decls}
 use Rattle.cat_scope.specs.Names.{scope_items}
@@ -52,11 +51,13 @@ module _ (ds : Decls) (scopes : List CalcScope) (scope_order : List ℕ) where
   -- a call goes to what stands in front
   abbrev pub Calls : Owner → Owner → Type 0
   Calls caller called =
-      IsTrue (is_before (index_of called.scope scope_order) (local_rank ds scopes called) (index_of caller.scope scope_order) (local_rank ds scopes caller))
+      IsTrue (is_before (index_of called.scope scope_order) (local_rank ds scopes called)
+      (index_of caller.scope scope_order) (local_rank ds scopes caller))
 
   pub calls_further : (a b c : Owner) → Calls a b → Calls b c → Calls a c
   calls_further a b c one two =
-      before_then (index_of c.scope scope_order) (local_rank ds scopes c) (index_of b.scope scope_order) (local_rank ds scopes b)
+      before_then (index_of c.scope scope_order) (local_rank ds scopes c) (index_of b.scope scope_order)
+      (local_rank ds scopes b)
       (index_of a.scope scope_order) (local_rank ds scopes a) two one
 
   pub none_itself : (a : Owner) → Calls a a → ⊥
@@ -71,10 +72,12 @@ module _ (ds : Decls) (scopes : List CalcScope) (scope_order : List ℕ) where
       lower a b c d less = grind (arith, nat_tests)
 
   -- a function that stands in front in its scope
-  pub calls_function : (caller : Owner) (f : ℕ) → local_rank ds scopes (record { scope = caller.scope; function = Some f }) < local_rank ds scopes caller
+  pub calls_function : (caller : Owner) (f : ℕ)
+      → local_rank ds scopes (record { scope = caller.scope; function = Some f }) < local_rank ds scopes caller
       → Calls caller (record { scope = caller.scope; function = Some f })
   calls_function caller f less =
-      lower (index_of caller.scope scope_order) (local_rank ds scopes (record { scope = caller.scope; function = Some f })) (local_rank ds scopes caller) less
+      lower (index_of caller.scope scope_order)
+      (local_rank ds scopes (record { scope = caller.scope; function = Some f })) (local_rank ds scopes caller) less
     where
       lower : (a b d : ℕ) → b < d → is_before a b a d ≡ true
       lower a b d less = grind (arith, nat_tests)
@@ -98,5 +101,6 @@ module _ (ds : Decls) (scopes : List CalcScope) (scope_order : List ℕ) where
   abbrev pub entry : ℕ → Shape
   entry f = entry_by f (slice_get (function_places ds) f)
 
-  pub entry_is : (f : ℕ) (place : FunctionPlace) → slice_get (function_places ds) f ≡ Some place → entry f ≡ function_shape f place
+  pub entry_is : (f : ℕ) (place : FunctionPlace) → slice_get (function_places ds) f ≡ Some place
+      → entry f ≡ function_shape f place
   entry_is f place is = ap (entry_by f) is

@@ -1,8 +1,7 @@
 -- Parts are laid the same however they are grouped.
-use Rattle.std.proofs.Common.{◌≡◌, ℕ, ◌+◌, List, [], ◌∷◌, ◌++◌, refl, sym, ap, ◌∙◌, subst, append_assoc}
-use Rattle.cat_code.specs.declared.instr.Instr.{Instr}
+use Rattle.std.proofs.Common.{◌≡◌, sym, ap, ◌∙◌, subst, append_assoc}
 use Rattle.cat_lower.specs.declared.growing.Growing.{Growing}
-use Rattle.cat_lower.specs.Laying.{Ends, Parts, Coded, past, after, joined, then_code}
+use Rattle.cat_lower.specs.Laying.{Ends, Parts, Coded, after, joined, then_code}
 use Rattle.cat_lower.specs.Grown.{ends_of, Grown}
 use Rattle.cat_lower.proofs.Places.{past_append}
 use Rattle.cat_lower.proofs.Grows.{ends_alike, grown_at, grown_then}
@@ -27,18 +26,21 @@ parts_alike a b i c p t =
 
 joined_joined : (p q r : Parts) → joined (joined p q) r ≡ joined p (joined q r)
 joined_joined p q r =
-    parts_alike (joined (joined p q) r) (joined p (joined q r)) (append_assoc p.instructions q.instructions r.instructions)
+    parts_alike (joined (joined p q) r) (joined p (joined q r))
+    (append_assoc p.instructions q.instructions r.instructions)
     (append_assoc p.constants q.constants r.constants) (append_assoc p.positions q.positions r.positions)
     (append_assoc p.targets q.targets r.targets)
 
 pub regrouped : (a b c : Coded) (ends : Ends) → then_code (then_code a b) c ends ≡ then_code a (then_code b c) ends
 regrouped a b c ends =
-    ap (λ e. joined (joined (a ends) (b (after ends (a ends)))) (c e)) (after_joined ends (a ends) (b (after ends (a ends))))
+    ap (λ e. joined (joined (a ends) (b (after ends (a ends)))) (c e))
+    (after_joined ends (a ends) (b (after ends (a ends))))
     ∙ joined_joined (a ends) (b (after ends (a ends))) (c (after (after ends (a ends)) (b (after ends (a ends)))))
 
 -- two parts are laid as one, and the rest is left
 pub step_in_two : (old t1 t2 new : Growing) (before a b rest whole : Coded) → before ≡ then_code a (then_code b rest)
-    → ((t : Growing) → Grown t1 t before → Grown old t whole) → Grown t1 t2 (then_code a b) → Grown t2 new rest → Grown old new whole
+    → ((t : Growing) → Grown t1 t before → Grown old t whole) → Grown t1 t2 (then_code a b) → Grown t2 new rest
+    → Grown old new whole
 step_in_two old t1 t2 new before a b rest whole is so_far g h =
     so_far new (subst (λ (c : Coded). Grown t1 new c) (sym is)
     (grown_at t1 new (then_code (then_code a b) rest) (then_code a (then_code b rest)) (regrouped a b rest (ends_of t1))

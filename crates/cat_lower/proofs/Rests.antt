@@ -1,6 +1,6 @@
 -- Code that is laid element by element.
-use Rattle.std.proofs.Common.{◌≡◌, ◌<◌, Some, None, slice_get, ◌+◌, ℕ, zero, suc, Bool, true, false, List, [], ◌∷◌, ◌++◌, drop, length, get_or, refl, sym, ap}
-use Rattle.std.proofs.Common.{◌∙◌, subst, if◌then◌else◌, append_assoc, arith}
+use Rattle.std.proofs.Common.{◌≡◌, ◌<◌, Some, None, slice_get, ◌+◌, ℕ, zero, suc, Bool, true, false, List, [], ◌∷◌}
+use Rattle.std.proofs.Common.{◌++◌, drop, length, get_or, refl, sym, ap, ◌∙◌, subst, if◌then◌else◌, append_assoc, arith}
 use Rattle.std.proofs.lemmas.List.{drop_more, drop_all}
 use Rattle.std.proofs.lemmas.Option.{slice_get_within, get_or_from_slice_get}
 use Rattle.cat_lower.specs.declared.growing.Growing.{Growing}
@@ -9,13 +9,16 @@ use Rattle.cat_lower.specs.Grown.{Grown}
 use Rattle.cat_lower.proofs.Grows.{grown_then, grown_none}
 
 -- what is left of a list begins with its next element
-pub next : {A : Type 0} (xs ys : List A) (i : ℕ) (x : A) → ys ≡ xs → i < length ys → x ≡ get_or ys i x → drop i xs ≡ x ∷ drop (i + 1) xs
+pub next : {A : Type 0} (xs ys : List A) (i : ℕ) (x : A) → ys ≡ xs → i < length ys → x ≡ get_or ys i x
+    → drop i xs ≡ x ∷ drop (i + 1) xs
 next {A = A} xs ys i x e lt is =
-    subst (λ (zs : List A). drop i zs ≡ x ∷ drop (i + 1) zs) e (drop_more ys i x lt ∙ ap (λ y. y ∷ drop (i + 1) ys) (sym is))
+    subst (λ (zs : List A). drop i zs ≡ x ∷ drop (i + 1) zs) e
+    (drop_more ys i x lt ∙ ap (λ y. y ∷ drop (i + 1) ys) (sym is))
 
 -- the same of numbers, which are read with another number in place of none
 pub next_number : (xs ys : List ℕ) (i d : ℕ) → ys ≡ xs → i < length ys → drop i xs ≡ get_or ys i d ∷ drop (i + 1) xs
-next_number xs ys i d e lt = subst (λ (zs : List ℕ). drop i zs ≡ get_or ys i d ∷ drop (i + 1) zs) e (drop_more ys i d lt)
+next_number xs ys i d e lt =
+    subst (λ (zs : List ℕ). drop i zs ≡ get_or ys i d ∷ drop (i + 1) zs) e (drop_more ys i d lt)
 
 -- the same, by what was read at its number
 pub rest_from : {A : Type 0} (xs : List A) (i : ℕ) (x : A) → slice_get xs i ≡ Some x → drop i xs ≡ x ∷ drop (i + 1) xs
@@ -60,5 +63,6 @@ pub end_on : (old t1 : Growing) (before whole : Coded) → before ≡ nothing
 end_on old t1 before whole is so_far = so_far t1 (subst (λ (c : Coded). Grown t1 t1 c) (sym is) (grown_none t1))
 
 -- what was gathered, with what the rest gives
-pub gather : {A : Type 0} (made part rest whole : List A) → made ++ (part ++ rest) ≡ whole → (made ++ part) ++ rest ≡ whole
+pub gather : {A : Type 0} (made part rest whole : List A) → made ++ (part ++ rest) ≡ whole
+    → (made ++ part) ++ rest ≡ whole
 gather made part rest whole e = append_assoc made part rest ∙ e

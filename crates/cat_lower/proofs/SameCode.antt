@@ -1,6 +1,6 @@
 -- Code of forms whose parts are told by types that are equal.
-use Rattle.std.proofs.Common.{◌≡◌, ℕ, ◌+◌, false, List, [], ◌∷◌, ◌++◌, length, map, Option, Some, None, Result, Ok, Err, OnOk, refl, sym, ap}
-use Rattle.std.proofs.Common.{◌∙◌, subst, take, drop, slice_get, get_or, suc, ◌-◌, ◌≤◌, arith}
+use Rattle.std.proofs.Common.{◌≡◌, ℕ, ◌+◌, false, List, [], ◌∷◌, ◌++◌, length, map, Option, Some, None, Result, Ok, Err}
+use Rattle.std.proofs.Common.{OnOk, refl, sym, ap, ◌∙◌, subst, take, drop, slice_get, get_or, suc, ◌-◌, ◌≤◌, arith}
 use Rattle.std.proofs.lemmas.List.{take_all, length-map}
 use Rattle.std.specs.declared.alloc.AllocError.{AllocError}
 use Rattle.cat_pos.specs.declared.pos.Pos.{Pos}
@@ -15,7 +15,8 @@ use Rattle.cat_code.specs.declared.instr.Instr.{Instr}
 use Rattle.cat_code.specs.declared.instr.Instr.TheVariants as instr
 use Rattle.cat_code.specs.OperationNumbers.{number_between}
 use Rattle.cat_lower.specs.declared.growing.Growing.{Growing}
-use Rattle.cat_lower.specs.Laying.{Ends, Coded, nothing, one, with_constant, then_code, led, skip, end_of, over, all_code}
+use Rattle.cat_lower.specs.Laying.{Ends, Coded, nothing, one, with_constant, then_code, led, skip, end_of, over}
+use Rattle.cat_lower.specs.Laying.{all_code}
 use Rattle.cat_lower.specs.Grown.{ends_of, Grown, Patched, all_patched}
 use Rattle.cat_lower.specs.Pieces.{operator, search_for, any_turn, of_local, arm_body, first_side}
 use Rattle.cat_lower.specs.Types.{Lowering, element_expected, arm_types, is_bound}
@@ -31,8 +32,10 @@ pub typed_alike : (here : Standing) (e : Expr) (x : Option Ty) (later first : Li
 typed_alike here e x later first is = ap (λ (ls : List Ty). (lowered here e).type ls x) is
 
 -- a part under one name more
-pub under_code : (old new : Growing) (here : Standing) (e : Expr) (x : Option Ty) (later first : List Ty) (t u : Ty) → later ≡ first → t ≡ u
-    → Grown old new ((lowered here e).code (later ++ t ∷ []) x) → Grown old new ((lowered here e).code (first ++ u ∷ []) x)
+pub under_code : (old new : Growing) (here : Standing) (e : Expr) (x : Option Ty) (later first : List Ty) (t u : Ty)
+    → later ≡ first → t ≡ u
+    → Grown old new ((lowered here e).code (later ++ t ∷ []) x)
+    → Grown old new ((lowered here e).code (first ++ u ∷ []) x)
 under_code old new here e x later first t u is_locals is_type g =
     subst (λ (v : Ty). Grown old new ((lowered here e).code (first ++ v ∷ []) x)) is_type
     (subst (λ (ls : List Ty). Grown old new ((lowered here e).code (ls ++ t ∷ []) x)) is_locals g)
@@ -45,16 +48,19 @@ tested old new here e later first t u is_locals is_type g =
     (subst (λ (ls : List Ty). Grown old new (of_local ((lowered here e).code (ls ++ t ∷ []) None))) is_locals g)
 
 pub collected : (old new : Growing) (t u : Ty) → t ≡ ty.List u
-    → Grown old new (with_constant (λ k. instr.IterList k) (record { ty = t; value = value.List [] })) → Grown old new (collecting u)
+    → Grown old new (with_constant (λ k. instr.IterList k) (record { ty = t; value = value.List [] }))
+    → Grown old new (collecting u)
 collected old new t u is g =
-    subst (λ (v : Ty). Grown old new (with_constant (λ k. instr.IterList k) (record { ty = v; value = value.List [] }))) is g
+    subst (λ (v : Ty). Grown old new (with_constant (λ k. instr.IterList k) (record { ty = v; value = value.List [] })))
+    is g
 
 -- a step of what is combined
 abbrev step_code : Standing → Expr → List Ty → Ty → Ty → Coded
 step_code here e ls t u =
     led instr.Bind (led instr.Bind (then_code ((lowered here e).code (ls ++ t ∷ u ∷ []) (Some u)) (one (instr.Drop 2))))
 
-pub stepped : (old new : Growing) (here : Standing) (e : Expr) (later first : List Ty) (t v u : Ty) (w : Ty) → later ≡ first → t ≡ v → u ≡ w
+pub stepped : (old new : Growing) (here : Standing) (e : Expr) (later first : List Ty) (t v u : Ty) (w : Ty)
+    → later ≡ first → t ≡ v → u ≡ w
     → Grown old new (step_code here e later t u) → Grown old new (step_code here e first v w)
 stepped old new here e later first t v u w is_locals is_element is_total g =
     subst (λ (z : Ty). Grown old new (step_code here e first v z)) is_total
@@ -74,26 +80,33 @@ contained_code n p =
 
 -- the code that collects an element where its test is true
 abbrev pub kept_code_at : ℕ → Coded
-kept_code_at n = then_code (over (λ t. instr.JumpFalse t) (led (instr.Local n) (one instr.Collect))) (one (instr.Drop 1))
+kept_code_at n =
+    then_code (over (λ t. instr.JumpFalse t) (led (instr.Local n) (one instr.Collect))) (one (instr.Drop 1))
 
 -- a loop behind an exchange
-pub led_ok : (r : Result Unit AllocError) (t1 t2 t3 new : Growing) (n : ℕ) (a : Coded) → Grown t1 t2 (exchanged_code n) → Grown t2 t3 (one instr.Iter)
+pub led_ok : (r : Result Unit AllocError) (t1 t2 t3 new : Growing) (n : ℕ) (a : Coded) → Grown t1 t2 (exchanged_code n)
+    → Grown t2 t3 (one instr.Iter)
     → OnOk r (Grown t3 new a)
-    → OnOk r (Grown t1 new (led instr.Bind (led instr.Bind (led (instr.Local n) (led (instr.Local (n + 1)) (led (instr.Drop 2) (led instr.Iter a)))))))
+    → OnOk r (Grown t1 new (led instr.Bind
+    (led instr.Bind (led (instr.Local n) (led (instr.Local (n + 1)) (led (instr.Drop 2) (led instr.Iter a)))))))
 led_ok (Ok u) t1 t2 t3 new n a g h k =
     grown_at t1 new (then_code (exchanged_code n) (led instr.Iter a))
-    (led instr.Bind (led instr.Bind (led (instr.Local n) (led (instr.Local (n + 1)) (led (instr.Drop 2) (led instr.Iter a)))))) refl
+    (led instr.Bind (led instr.Bind
+    (led (instr.Local n) (led (instr.Local (n + 1)) (led (instr.Drop 2) (led instr.Iter a)))))) refl
     (grown_then t1 t2 new (exchanged_code n) (led instr.Iter a) g (grown_then t2 t3 new (one instr.Iter) a h k))
 led_ok (Err e) t1 t2 t3 new n a g h k = tt
 
 -- expressions of one type
-pub all_told : (r : Result Unit AllocError) (old new : Growing) (here : Standing) (es : List Expr) (later first : List Ty) (t u : Ty)
+pub all_told : (r : Result Unit AllocError) (old new : Growing) (here : Standing) (es : List Expr)
+    (later first : List Ty) (t u : Ty)
     → later ≡ first → t ≡ u
     → OnOk r (Grown old new (all_code (map (λ o. o.code later (Some t)) (map (lowered here) es))))
     → OnOk r (Grown old new (all_code (map (λ o. o.code first (Some u)) (map (lowered here) es))))
 all_told r old new here es later first t u is_locals is_type g =
-    subst (λ (v : Ty). OnOk r (Grown old new (all_code (map (λ o. o.code first (Some v)) (map (lowered here) es))))) is_type
-    (subst (λ (ls : List Ty). OnOk r (Grown old new (all_code (map (λ o. o.code ls (Some t)) (map (lowered here) es))))) is_locals g)
+    subst (λ (v : Ty). OnOk r (Grown old new (all_code (map (λ o. o.code first (Some v)) (map (lowered here) es)))))
+    is_type
+    (subst (λ (ls : List Ty). OnOk r (Grown old new (all_code (map (λ o. o.code ls (Some t)) (map (lowered here) es)))))
+    is_locals g)
 
 front_of : (es : List Expr) (e d : Expr) → 1 ≤ length es → e ≡ get_or es 0 d → es ≡ e ∷ take (length es - 1) (drop 1 es)
 front_of [] e d some is = absurd (omega (arith, some))
@@ -102,8 +115,10 @@ front_of (x ∷ xs) e d some is =
     ap (λ (l : List Expr). x ∷ l) (sym all) ∙ ap (λ (y : Expr). y ∷ take (suc (length xs) - 1) xs) (sym is)
 
 -- a list that isn't empty
-pub list_told : (r : Result Unit AllocError) (old mid new : Growing) (here : Standing) (es items : List Expr) (e d : Expr) (ls : List Ty)
-    (x y : Option Ty) (n : ℕ) → items ≡ es → 1 ≤ length items → e ≡ get_or items 0 d → y ≡ element_expected x → n ≡ length es
+pub list_told : (r : Result Unit AllocError) (old mid new : Growing) (here : Standing) (es items : List Expr)
+    (e d : Expr) (ls : List Ty)
+    (x y : Option Ty) (n : ℕ) → items ≡ es → 1 ≤ length items → e ≡ get_or items 0 d → y ≡ element_expected x
+    → n ≡ length es
     → OnOk r (Grown mid new (one (instr.List n)))
     → Grown old mid (row_code (lowered here e ∷ map (lowered here) (take (length items - 1) (drop 1 items))) ls y)
     → OnOk r (Grown old new (list_code (map (lowered here) es) ls x))
@@ -119,9 +134,11 @@ list_told r old mid new here es items e d ls x y n same some is told long put la
     (subst (λ (m : ℕ). OnOk r (Grown mid new (one (instr.List m)))) count put))
 
 -- arms by the number of their enumeration and their type
-pub arms_told : (r : Result Unit AllocError) (old new : Growing) (here : Standing) (arms : List (ArmPattern × Lowering)) (x : Option Ty)
+pub arms_told : (r : Result Unit AllocError) (old new : Growing) (here : Standing) (arms : List (ArmPattern × Lowering))
+    (x : Option Ty)
     (n m : ℕ) (t u : Ty) (later first : List Ty) → n ≡ m → t ≡ u → later ≡ first
-    → OnOk r (Grown old new (arms_code here n t arms later x)) → OnOk r (Grown old new (arms_code here m u arms first x))
+    → OnOk r (Grown old new (arms_code here n t arms later x))
+    → OnOk r (Grown old new (arms_code here m u arms first x))
 arms_told r old new here arms x n m t u later first is_number is_type is_locals g =
     subst (λ (ls : List Ty). OnOk r (Grown old new (arms_code here m u arms ls x))) is_locals
     (subst (λ (v : Ty). OnOk r (Grown old new (arms_code here m v arms later x))) is_type
@@ -134,7 +151,8 @@ pub argument_next : (params : List Ty) (i : ℕ) (e : Lowering) (es : List Lower
 argument_next params i e es ls = by (slice_get params i) refl
   where
     by : (o : Option Ty) → slice_get params i ≡ o
-        → arguments_code (drop i params) (e ∷ es) ls ≡ then_code (e.code ls o) (arguments_code (drop (i + 1) params) es ls)
+        → arguments_code (drop i params) (e ∷ es) ls
+        ≡ then_code (e.code ls o) (arguments_code (drop (i + 1) params) es ls)
     by None is =
         ap (λ (ps : List Ty). arguments_code ps (e ∷ es) ls) (none_from params i is)
         ∙ ap (λ (ps : List Ty). then_code (e.code ls None) (arguments_code ps es ls)) (sym (none_more_from params i is))
@@ -145,24 +163,30 @@ no_arguments [] ls = refl
 no_arguments (p ∷ ps) ls = refl
 
 -- a part is laid and passed, and the rest is left
-pub pass_on : (old t1 t2 t3 new : Growing) (before a : Coded) (n : ℕ) (rest whole : Coded) → before ≡ then_code a (led (instr.Pass n) rest)
-    → ((t : Growing) → Grown t1 t before → Grown old t whole) → Grown t1 t2 a → Grown t2 t3 (one (instr.Pass n)) → Grown t3 new rest
+pub pass_on : (old t1 t2 t3 new : Growing) (before a : Coded) (n : ℕ) (rest whole : Coded)
+    → before ≡ then_code a (led (instr.Pass n) rest)
+    → ((t : Growing) → Grown t1 t before → Grown old t whole) → Grown t1 t2 a → Grown t2 t3 (one (instr.Pass n))
+    → Grown t3 new rest
     → Grown old new whole
 pass_on old t1 t2 t3 new before a n rest whole is so_far g p h =
-    step_on old t1 t2 new before a (led (instr.Pass n) rest) whole is so_far g (grown_then t2 t3 new (one (instr.Pass n)) rest p h)
+    step_on old t1 t2 new before a (led (instr.Pass n) rest) whole is so_far g
+    (grown_then t2 t3 new (one (instr.Pass n)) rest p h)
 
 -- an arm under the same names
-pub side_told : (old new : Growing) (here : Standing) (n k : ℕ) (a : Arm) (x : Option Ty) (later first : List Ty) → later ≡ first
+pub side_told : (old new : Growing) (here : Standing) (n k : ℕ) (a : Arm) (x : Option Ty) (later first : List Ty)
+    → later ≡ first
     → Grown old new (side (length later) (case_number here n k) (arm_body (length later) (is_bound a.pattern)
     ((lowered here a.body).code (arm_types here.names.decls n a.pattern later) x)))
     → Grown old new (side (length first) (case_number here n k) (arm_body (length first) (is_bound a.pattern)
     ((lowered here a.body).code (arm_types here.names.decls n a.pattern first) x)))
 side_told old new here n k a x later first is g =
-    subst (λ (ls : List Ty). Grown old new (side (length ls) (case_number here n k) (arm_body (length ls) (is_bound a.pattern)
+    subst (λ (ls : List Ty). Grown old new
+    (side (length ls) (case_number here n k) (arm_body (length ls) (is_bound a.pattern)
     ((lowered here a.body).code (arm_types here.names.decls n a.pattern ls) x)))) is g
 
 -- the jump in front of the first side is patched
-pub side_closed : (t1 t2 t3 t4 t5 : Growing) (body : Coded) (test end : ℕ) (x : Instr) → Grown t1 t2 (one x) → Grown t2 t3 body
+pub side_closed : (t1 t2 t3 t4 t5 : Growing) (body : Coded) (test end : ℕ) (x : Instr) → Grown t1 t2 (one x)
+    → Grown t2 t3 body
     → Grown t3 t4 (one (instr.Jump 0)) → test ≡ length t1.instructions → end ≡ length t4.instructions
     → Patched t4 t5 test (instr.JumpFalse end) → Grown t1 t5 (first_side body)
 side_closed t1 t2 t3 t4 t5 body test end x g h k is_test is_end p =
@@ -178,8 +202,10 @@ side_closed t1 t2 t3 t4 t5 body test end x g h k is_test is_end p =
     (ap (λ (n : ℕ). led (instr.JumpFalse n) part ends) at_end) whole
 
 -- the jumps behind all arms are patched
-pub ends_patched : (r : Growing) (old new : Growing) (places : List ℕ) (end : ℕ) (whole : Coded) → end ≡ length r.instructions
-    → new ≡ all_patched places (instr.Jump end) r → Grown old (all_patched places (instr.Jump (length r.instructions)) r) whole → Grown old new whole
+pub ends_patched : (r : Growing) (old new : Growing) (places : List ℕ) (end : ℕ) (whole : Coded)
+    → end ≡ length r.instructions
+    → new ≡ all_patched places (instr.Jump end) r
+    → Grown old (all_patched places (instr.Jump (length r.instructions)) r) whole → Grown old new whole
 ends_patched r old new places end whole is_end is g =
     subst (λ (t : Growing). Grown old t whole) (sym is)
     (subst (λ (n : ℕ). Grown old (all_patched places (instr.Jump n) r) whole) (sym is_end) g)

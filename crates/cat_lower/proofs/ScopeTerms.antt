@@ -1,6 +1,6 @@
 -- What the code of a scope stands on: its terms are typed and placed, and its parts stand in the code.
-use Rattle.std.proofs.Common.{◌≡◌, ℕ, zero, suc, ◌+◌, ◌<◌, Bool, true, false, true≢false, not, ◌&&◌, ◌||◌, IfSome, IsTrue, List, [], ◌∷◌}
-use Rattle.std.proofs.Common.{length, Option, Some, None, refl, sym, ap, ◌∙◌, subst, slice_get}
+use Rattle.std.proofs.Common.{◌≡◌, ℕ, zero, suc, ◌+◌, ◌<◌, Bool, true, false, true≢false, not, ◌&&◌, ◌||◌, IfSome}
+use Rattle.std.proofs.Common.{IsTrue, List, [], ◌∷◌, length, Option, Some, None, refl, sym, subst, slice_get}
 use Rattle.cat_order.specs.Order.{times}
 use Rattle.cat_value.specs.declared.ty.Ty.{Ty}
 use Rattle.cat_value.specs.declared.ty.Ty.TheVariants.{Boolean}
@@ -47,7 +47,8 @@ use Rattle.cat_lower.proofs.ExpressionsDo.{does}
 use Rattle.cat_lower.proofs.TargetsDo.{TermDoes, IsDoing}
 
 -- a term that is typed, with empty lists only where a type is expected, and whose definitions stand at their numbers
-pub record TermSound (tables : Tables) (base : ℕ) (names : Names) (params : List Ty) (ty : Ty) (term : DefaultTerm) : Type 0 where
+pub record TermSound (tables : Tables) (base : ℕ) (names : Names) (params : List Ty) (ty : Ty)
+    (term : DefaultTerm) : Type 0 where
   pub typed : TermTyped names params ty term
   pub conditions : AllHave (λ e. lists_placed e false ≡ true) (conditions_in term)
   pub consequences : AllHave (λ h. lists_placed h.value true ≡ true) (consequences_in term)
@@ -60,7 +61,8 @@ pub record AssertionSound (names : Names) (a : Assertion) : Type 0 where
 
 -- a scope whose terms and assertions are so, and whose order has each item once
 pub record ScopeSound (tables : Tables) (at : ScopeStanding) : Type 0 where
-  pub terms : (target : Target) (params : List Ty) (ty : Ty) → IsTargetAt at.here.names target.item target.inner params ty
+  pub terms : (target : Target) (params : List Ty) (ty : Ty)
+      → IsTargetAt at.here.names target.item target.inner params ty
       → IfSome (term_of at.scope.terms target) (TermSound tables at.here.definitions at.here.names params ty)
   pub assertions : AllHave (AssertionSound at.here.names) at.scope.assertions
   pub placed : AllHave (λ item. IsTrue (is_placed item)) at.here.names.items
@@ -68,7 +70,8 @@ pub record ScopeSound (tables : Tables) (at : ScopeStanding) : Type 0 where
   pub once : (k : ℕ) → k < length at.here.names.items → times at.scope.order k ≡ 1
 
 -- a function stands at its entry
-pub record FunctionLaid (tables : Tables) (code : List Instr) (at : ScopeStanding) (f : ℕ) (decl : ItemDecl) : Type 0 where
+pub record FunctionLaid (tables : Tables) (code : List Instr) (at : ScopeStanding) (f : ℕ)
+    (decl : ItemDecl) : Type 0 where
   pub ends : Ends
   pub entry : slice_get tables.functions (function_number at.here f) ≡ Some ends.place
   pub body : Has tables code ends (function_code at f decl ends)
@@ -105,23 +108,27 @@ function_is_defined item placed function =
     by true none internal = absurd (true≢false (sym none))
     by false none internal = internal_is_defined item.kind internal
 
-module _ (tables : Tables) (code : List Instr) (items : Items) (here : Standing) (scoped : Scoped) (calls : ℕ → List Value → Run Value)
+module _ (tables : Tables) (code : List Instr) (items : Items) (here : Standing) (scoped : Scoped)
+    (calls : ℕ → List Value → Run Value)
     (same : tables.decls ≡ here.names.decls) (cases : tables.cases ≡ case_places 0 here.names.decls.enumerations)
     (rounded : here.rounding ≡ scoped.rounding) (called : scoped.scopes ≡ here.names.decls.scopes)
-    (calls_are : CallsAre tables code (function_number here) here.names.items items calls) (runs_are : RunsAre tables code scoped.runs)
+    (calls_are : CallsAre tables code (function_number here) here.names.items items calls)
+    (runs_are : RunsAre tables code scoped.runs)
     (locals : List Value) (types : List Ty) (deep : length locals ≡ length types) where
   -- what the expressions come to
   abbrev pub meant : Expr → Run Value
   meant e = eval (env_of scoped calls items) e locals
 
-  at_locals : (m : Meaning) (a : Coded) → Does tables code items m (length types) a → DoesAt tables code items locals here.definitions (m locals) a
+  at_locals : (m : Meaning) (a : Coded) → Does tables code items m (length types) a
+      → DoesAt tables code items locals here.definitions (m locals) a
   at_locals m a d ends has s agree k next = d ends has locals deep s agree k next
 
   module _ (v : ℕ) (type : Ty) (target : TargetEntry) (there : slice_get tables.targets v ≡ Some target) where
     abbrev at : TermStanding
     at = record { here = here; target = v; type = type; locals = types }
 
-    conditions_do : (es : List Expr) → AllHave (λ e. HasType here.names types e Boolean) es → AllHave (λ e. lists_placed e false ≡ true) es
+    conditions_do : (es : List Expr) → AllHave (λ e. HasType here.names types e Boolean) es
+        → AllHave (λ e. lists_placed e false ≡ true) es
         → AllHave (C tables code items locals at target there meant) es
     conditions_do [] h p = tt
     conditions_do (e ∷ es) h p = (
@@ -138,7 +145,8 @@ module _ (tables : Tables) (code : List Instr) (items : Items) (here : Standing)
     consequences_do (x ∷ xs) h p n = (
       record {
         does = at_locals (eval (env_of scoped calls items) x.value) ((lowered here x.value).code types (Some type))
-            (does tables code items here scoped calls same cases rounded called calls_are runs_are h.0 (Some type) refl p.0);
+            (does tables code items here scoped calls same cases rounded called calls_are runs_are h.0
+            (Some type) refl p.0);
         placed = n.0;
       },
       consequences_do xs h.1 p.1 n.1,
@@ -152,7 +160,8 @@ module _ (tables : Tables) (code : List Instr) (items : Items) (here : Standing)
     }
 
   -- the expressions of a term do what they mean
-  pub is_doing : (type : Ty) (target : TargetEntry) (o : Option DefaultTerm) → IfSome o (TermSound tables here.definitions here.names types type)
+  pub is_doing : (type : Ty) (target : TargetEntry) (o : Option DefaultTerm)
+      → IfSome o (TermSound tables here.definitions here.names types type)
       → IsDoing tables code items locals here types meant type target o
   is_doing type target None sound = tt
   is_doing type target (Some term) sound = λ v there. term_does v type target there term sound

@@ -1,10 +1,8 @@
 -- A loop that ends at the first element that is found, or that is none.
-use Rattle.std.proofs.Common.{◌≡◌, ℕ, ◌+◌, Bool, true, false, List, [], ◌∷◌, ◌++◌, Option, Some, None, Result, Ok, Err, refl, sym}
-use Rattle.std.proofs.Common.{ap, ◌∙◌, subst, slice_get, if◌then◌else◌}
-use Rattle.cat_pos.specs.declared.pos.Pos.{Pos}
+use Rattle.std.proofs.Common.{◌≡◌, ℕ, ◌+◌, Bool, true, false, List, [], ◌∷◌, None, sym, ap, ◌∙◌, subst}
 use Rattle.cat_value.specs.declared.value.Value.{Value}
 use Rattle.cat_value.specs.declared.value.Value.TheVariants as flat
-use Rattle.cat_scope.specs.Runs.{Run, plain, gives, and_then, choose}
+use Rattle.cat_scope.specs.Runs.{Run, gives, and_then}
 use Rattle.cat_scope.specs.Projections.{truth}
 use Rattle.cat_scope.specs.Lists.{for_all, exists}
 use Rattle.cat_scope.proofs.Exported.{and_then_and_then}
@@ -13,11 +11,11 @@ use Rattle.cat_code.specs.declared.instr.Instr.TheVariants as instr
 use Rattle.cat_code.specs.declared.code.Tables.{Tables}
 use Rattle.cat_code.specs.States.{State, push}
 use Rattle.cat_code.specs.Runs.{Whole}
-use Rattle.cat_lower.specs.Laying.{Ends, Coded, one, then_code, led, skip, end_of, over}
+use Rattle.cat_lower.specs.Laying.{Ends, Coded, one, then_code, skip, end_of, over}
 use Rattle.cat_lower.specs.Pieces.{truth as truth_code, search_for, found as found_code, any_turn, all_turn}
 use Rattle.cat_lower.specs.Stands.{Has}
 use Rattle.cat_lower.proofs.Places.{first_of, second_of, rest_of, past_append}
-use Rattle.cat_lower.proofs.Comes.{Comes, Leads, acted, goes_on, found, chosen, alike}
+use Rattle.cat_lower.proofs.Comes.{Comes, acted, goes_on, found, chosen, alike}
 use Rattle.cat_lower.proofs.Doing.{here}
 
 -- a loop over elements that collects nothing
@@ -35,7 +33,8 @@ all_turn_ends test start out ends = past_append ends.place (test ends).instructi
 
 module _ (tables : Tables) (code : List Instr) where
   -- leaves a loop with a truth value, and goes on behind it
-  leaves : (b : Bool) (out : ℕ) (ends : Ends) → Has tables code ends (found_code b out ends) → (locals left : List Value)
+  leaves : (b : Bool) (out : ℕ) (ends : Ends) → Has tables code ends (found_code b out ends)
+      → (locals left : List Value)
       → (s : State) (r : Whole) → Comes tables code (here out locals (push (flat.Boolean b) s)) r
       → Comes tables code (here ends.place locals (looping left s)) r
   leaves b out ends has locals left s r next =
@@ -51,10 +50,12 @@ module _ (tables : Tables) (code : List Instr) where
       → ((t : Value) → Comes tables code (here (end_of test ends).place locals (push t (looping left s))) (k t))
       → Comes tables code (here ends.place locals (push v (looping left s))) (and_then (of_each v) k)
 
-  module _ (of_each : Value → Run Value) (test : Coded) (locals : List Value) (s : State) (tests : Tests of_each test locals s) where
+  module _ (of_each : Value → Run Value) (test : Coded) (locals : List Value) (s : State)
+      (tests : Tests of_each test locals s) where
     pub does_exists : (left : List Value) (ends : Ends) → Has tables code ends (search_for (any_turn test) false ends)
         → (k : Value → Whole)
-        → ((b : Value) → Comes tables code (here (end_of (search_for (any_turn test) false) ends).place locals (push b s)) (k b))
+        → ((b : Value) → Comes tables code
+        (here (end_of (search_for (any_turn test) false) ends).place locals (push b s)) (k b))
         → Comes tables code (here ends.place locals (looping left s)) (and_then (exists of_each left) k)
     does_exists left ends has k next = go left
       where
@@ -81,7 +82,8 @@ module _ (tables : Tables) (code : List Instr) where
 
         done : (b : Value) → Comes tables code (here (exit + 1) locals (push b s)) (k b)
         done b = subst (λ p. Comes tables code (here p locals (push b s)) (k b))
-            (past_append (skip ends).place (turn (skip ends)).instructions (truth_code false (end_of turn (skip ends))).instructions
+            (past_append (skip ends).place (turn (skip ends)).instructions
+            (truth_code false (end_of turn (skip ends))).instructions
             ∙ ap (λ n. n + 1) same_exit) (next b)
 
         rest : Coded
@@ -94,15 +96,19 @@ module _ (tables : Tables) (code : List Instr) where
         in_rest = second_of tables code test rest (skip ends) in_turn
 
         in_over : Has tables code e2 (over (λ t. instr.JumpFalse t) (found_code true (exit + 1)) e2)
-        in_over = first_of tables code (over (λ t. instr.JumpFalse t) (found_code true (exit + 1))) (one (instr.Jump start)) e2 in_rest
+        in_over =
+            first_of tables code (over (λ t. instr.JumpFalse t) (found_code true (exit + 1)))
+            (one (instr.Jump start)) e2 in_rest
 
-        go : (left : List Value) → Comes tables code (here start locals (looping left s)) (and_then (exists of_each left) k)
+        go : (left : List Value)
+            → Comes tables code (here start locals (looping left s)) (and_then (exists of_each left) k)
         go [] =
             acted tables code _ (instr.Next exit) _ has.instructions.0 (goes_on tables code _ _
             (subst (λ p. Comes tables code (here p locals s) (k (flat.Boolean false))) same_exit
             (acted tables code _ (instr.Const (end_of turn (skip ends)).constants) _ at_none.instructions.0
             (found tables code _ _ _ _ at_none.constants.0 (goes_on tables code _ _
-            (subst (λ p. Comes tables code (here (p + 1) locals (push (flat.Boolean false) s)) (k (flat.Boolean false))) (sym same_exit)
+            (subst (λ p. Comes tables code (here (p + 1) locals (push (flat.Boolean false) s)) (k (flat.Boolean false)))
+            (sym same_exit)
             (done (flat.Boolean false))))))))
         go (v ∷ vs) =
             alike tables code _ _ _ (and_then_and_then (of_each v) _ k)
@@ -118,7 +124,8 @@ module _ (tables : Tables) (code : List Instr) where
 
     pub does_for_all : (left : List Value) (ends : Ends) → Has tables code ends (search_for (all_turn test) true ends)
         → (k : Value → Whole)
-        → ((b : Value) → Comes tables code (here (end_of (search_for (all_turn test) true) ends).place locals (push b s)) (k b))
+        → ((b : Value) → Comes tables code
+        (here (end_of (search_for (all_turn test) true) ends).place locals (push b s)) (k b))
         → Comes tables code (here ends.place locals (looping left s)) (and_then (for_all of_each left) k)
     does_for_all left ends has k next = go left
       where
@@ -145,7 +152,8 @@ module _ (tables : Tables) (code : List Instr) where
 
         done : (b : Value) → Comes tables code (here (exit + 1) locals (push b s)) (k b)
         done b = subst (λ p. Comes tables code (here p locals (push b s)) (k b))
-            (past_append (skip ends).place (turn (skip ends)).instructions (truth_code true (end_of turn (skip ends))).instructions
+            (past_append (skip ends).place (turn (skip ends)).instructions
+            (truth_code true (end_of turn (skip ends))).instructions
             ∙ ap (λ n. n + 1) same_exit) (next b)
 
         rest : Coded
@@ -157,13 +165,15 @@ module _ (tables : Tables) (code : List Instr) where
         in_rest : Has tables code e2 (rest e2)
         in_rest = second_of tables code test rest (skip ends) in_turn
 
-        go : (left : List Value) → Comes tables code (here start locals (looping left s)) (and_then (for_all of_each left) k)
+        go : (left : List Value)
+            → Comes tables code (here start locals (looping left s)) (and_then (for_all of_each left) k)
         go [] =
             acted tables code _ (instr.Next exit) _ has.instructions.0 (goes_on tables code _ _
             (subst (λ p. Comes tables code (here p locals s) (k (flat.Boolean true))) same_exit
             (acted tables code _ (instr.Const (end_of turn (skip ends)).constants) _ at_none.instructions.0
             (found tables code _ _ _ _ at_none.constants.0 (goes_on tables code _ _
-            (subst (λ p. Comes tables code (here (p + 1) locals (push (flat.Boolean true) s)) (k (flat.Boolean true))) (sym same_exit)
+            (subst (λ p. Comes tables code (here (p + 1) locals (push (flat.Boolean true) s)) (k (flat.Boolean true)))
+            (sym same_exit)
             (done (flat.Boolean true))))))))
         go (v ∷ vs) =
             alike tables code _ _ _ (and_then_and_then (of_each v) _ k)
@@ -174,5 +184,6 @@ module _ (tables : Tables) (code : List Instr) where
             (goes_on tables code _ _ (acted tables code _ (instr.Jump start) _ in_rest.instructions.1.0
             (goes_on tables code _ _ (go vs))))
             (goes_on tables code _ _ (leaves false (exit + 1) (skip (skip e2))
-            (second_of tables code (over (λ t. instr.JumpFalse t) (one (instr.Jump start))) (found_code false (exit + 1)) e2 in_rest)
+            (second_of tables code (over (λ t. instr.JumpFalse t) (one (instr.Jump start)))
+            (found_code false (exit + 1)) e2 in_rest)
             locals vs s _ (done (flat.Boolean false)))))))))

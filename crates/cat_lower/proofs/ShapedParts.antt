@@ -1,8 +1,7 @@
 -- What lowering expressions to typed places stands on.
-use Rattle.std.proofs.Common.{◌≡◌, ℕ, zero, suc, ◌<◌, Bool, true, false, true≢false, not, ◌&&◌, IsTrue, List, [], ◌∷◌, length}
-use Rattle.std.proofs.Common.{map, Option, Some, None, refl, sym, ap, ◌∙◌, slice_get, arith}
+use Rattle.std.proofs.Common.{◌≡◌, ℕ, zero, suc, ◌<◌, Bool, true, false, true≢false, not, ◌&&◌, IsTrue, List, [], ◌∷◌}
+use Rattle.std.proofs.Common.{length, map, Option, Some, None, refl, sym, ap, ◌∙◌, slice_get, arith}
 use Rattle.cat_value.specs.declared.ty.Ty.{Ty}
-use Rattle.cat_value.specs.declared.ty.Ty.TheVariants as flat
 use Rattle.cat_value.specs.declared.ty.Ty.TheViews as ty
 use Rattle.cat_value.specs.declared.value.Value.TheViews as value
 use Rattle.cat_value.specs.declared.declaration.Field.{Field}
@@ -19,24 +18,22 @@ use Rattle.cat_scope.specs.declared.expr.FieldValue.{FieldValue}
 use Rattle.cat_scope.specs.declared.expr.Arm.{Arm}
 use Rattle.cat_scope.specs.declared.expr.Expr.TheViews as expr
 use Rattle.cat_scope.specs.Signatures.{signatures_of}
-use Rattle.cat_scope.specs.Names.{AllHave, Names, scope_items, is_function, is_plain, is_called, has_none, is_in, are_all_in}
+use Rattle.cat_scope.specs.Names.{AllHave, Names, scope_items, is_function, is_plain, is_called, has_none, is_in}
+use Rattle.cat_scope.specs.Names.{are_all_in}
 use Rattle.cat_scope.specs.Fitting.{given_type, input_type, numbers_in, are_fields_of}
 use Rattle.cat_scope.specs.HasType.{EachHasType}
 use Rattle.cat_scope.specs.HasType as typed
 use Rattle.cat_scope.proofs.Exported.{arms_placed, later_arms_placed}
 use Rattle.cat_sound.specs.LowTypes.{IsLow}
-use Rattle.cat_code.specs.declared.instr.Instr.TheVariants as instr
 use Rattle.cat_code.specs.declared.code.Tables.{Tables}
 use Rattle.cat_code.specs.Forms.{Form, form_of, item_form, slot_form}
 use Rattle.cat_code.specs.Wanted.{all_same}
 use Rattle.cat_code.proofs.FormLaws.{same_self}
-use Rattle.cat_lower.specs.Laying.{one}
 use Rattle.cat_lower.specs.Types.{Lowering}
 use Rattle.cat_lower.specs.Rows.{Standing}
 use Rattle.cat_lower.specs.Expressions.{numbers_of, lowered}
 use Rattle.cat_lower.proofs.LoweredEquations.{branch, branch_is, field, field_is}
-use Rattle.cat_lower.proofs.TypesAgree.{both_so}
-use Rattle.cat_lower.proofs.TypesAgree.{same_results, result_in}
+use Rattle.cat_lower.proofs.TypesAgree.{both_so, same_results, result_in}
 use Rattle.cat_lower.proofs.ShapedForms.{more}
 use Rattle.std.proofs.Common.{nat_eq, if◌then◌else◌}
 use Rattle.std.proofs.lemmas.Bool.{eqb-true}
@@ -55,13 +52,15 @@ use Rattle.cat_scope.specs.Fitting.{ArmLocals}
 use Rattle.cat_sound.proofs.LowTypes.{content_low}
 use Rattle.cat_lower.proofs.Sketches.{all_both}
 
-pub read_map : {A B : Type 0} (f : A → B) (xs : List A) (k : ℕ) (x : A) → slice_get xs k ≡ Some x → slice_get (map f xs) k ≡ Some (f x)
+pub read_map : {A B : Type 0} (f : A → B) (xs : List A) (k : ℕ) (x : A) → slice_get xs k ≡ Some x
+    → slice_get (map f xs) k ≡ Some (f x)
 read_map f [] k x is = absurd (cc is)
 read_map f (y ∷ xs) zero x is = let same : y ≡ x = cc is in ap (λ z. Some (f z)) same
 read_map f (y ∷ xs) (suc k) x is = read_map f xs k x is
 
 -- a variable that isn't a called scope holds values of its type
-pub plain_form : (tables : Tables) (item : ItemDecl) → is_called item.kind ≡ false → item_form tables.decls item ≡ form_of tables.decls item.ty
+pub plain_form : (tables : Tables) (item : ItemDecl) → is_called item.kind ≡ false
+    → item_form tables.decls item ≡ form_of tables.decls item.ty
 plain_form tables item is = by item.kind is
   where
     by : (k : Kind) → is_called k ≡ false → value_form tables.decls item.ty k ≡ form_of tables.decls item.ty
@@ -87,10 +86,12 @@ not_called kind.Context is = refl
 not_called kind.ContextOutput is = refl
 
 -- what may be given to a slot is of its item's type
-pub given_form : (tables : Tables) (s k : ℕ) (t : Ty) → input_type tables.decls s k ≡ Some t → slot_form tables.decls s k ≡ Some (form_of tables.decls t)
+pub given_form : (tables : Tables) (s k : ℕ) (t : Ty) → input_type tables.decls s k ≡ Some t
+    → slot_form tables.decls s k ≡ Some (form_of tables.decls t)
 given_form tables s k t is = by (slice_get (scope_items tables.decls s) k) refl is
   where
-    inner : (item : ItemDecl) → slice_get (scope_items tables.decls s) k ≡ Some item → (b : Bool) → may_be_given item.kind ≡ b
+    inner : (item : ItemDecl) → slice_get (scope_items tables.decls s) k ≡ Some item → (b : Bool)
+        → may_be_given item.kind ≡ b
         → (if b then Some item.ty else None) ≡ Some t → slot_form tables.decls s k ≡ Some (form_of tables.decls t)
     inner item there true may is =
         let same : item.ty ≡ t = cc is in
@@ -104,17 +105,26 @@ given_form tables s k t is = by (slice_get (scope_items tables.decls s) k) refl 
     by (Some item) there is = inner item there (may_be_given item.kind) refl is
 
 -- without elements a list is of every type of lists that is declared
-pub empty_typed : (tables : Tables) (t : Ty) → IsLow tables.decls (ty.List t) → IsTrue (has_type tables.decls (value.List []) (ty.List t))
+pub empty_typed : (tables : Tables) (t : Ty) → IsLow tables.decls (ty.List t)
+    → IsTrue (has_type tables.decls (value.List []) (ty.List t))
 empty_typed tables t low =
     of-List tables.decls t []
-    (record { declared = sym (is_declared_List tables.decls.structures tables.decls.enumerations t) ∙ low.declared; counted = refl; all = tt })
+    (record {
+      declared =
+          sym (is_declared_List tables.decls.structures tables.decls.enumerations t) ∙ low.declared;
+      counted = refl;
+      all =
+          tt;
+    })
 
 -- the numbers of lowered fields are those of the fields
-pub written : (here : Standing) (fs : List FieldValue) → numbers_of (map (λ f. (f.field, lowered here f.value)) fs) ≡ numbers_in fs
+pub written : (here : Standing) (fs : List FieldValue)
+    → numbers_of (map (λ f. (f.field, lowered here f.value)) fs) ≡ numbers_in fs
 written here [] = refl
 written here (f ∷ fs) = ap (λ (l : List ℕ). f.field ∷ l) (written here fs)
 
-pub each_counted : {ns : Names} {ls : List Ty} {es : List Expr} {params : List Ty} → EachHasType ns ls es params → length params ≡ length es
+pub each_counted : {ns : Names} {ls : List Ty} {es : List Expr} {params : List Ty} → EachHasType ns ls es params
+    → length params ≡ length es
 each_counted typed.each_none = refl
 each_counted (typed.each_more g more) = let e = each_counted more in omega arith
 
@@ -122,13 +132,15 @@ pub later_placed : (arms : List Arm) → later_arms_placed arms ≡ true → arm
 later_placed [] placed = refl
 later_placed (a ∷ arms) placed = placed
 
-pub fields_are : (here : Standing) (fs : List FieldValue) → map (field here) fs ≡ map (λ f. (f.field, lowered here f.value)) fs
+pub fields_are : (here : Standing) (fs : List FieldValue)
+    → map (field here) fs ≡ map (λ f. (f.field, lowered here f.value)) fs
 fields_are here [] = refl
 fields_are here (f ∷ fs) =
     ap (λ (g : ℕ × Lowering). g ∷ map (field here) fs) (field_is here f)
     ∙ ap (λ l. (f.field, lowered here f.value) ∷ l) (fields_are here fs)
 
-pub branches_are : (here : Standing) (arms : List Arm) → map (branch here) arms ≡ map (λ a. (a.pattern, lowered here a.body)) arms
+pub branches_are : (here : Standing) (arms : List Arm)
+    → map (branch here) arms ≡ map (λ a. (a.pattern, lowered here a.body)) arms
 branches_are here [] = refl
 branches_are here (a ∷ arms) =
     ap (λ (g : ArmPattern × Lowering). g ∷ map (branch here) arms) (branch_is here a)
@@ -159,12 +171,15 @@ pub called_no_function : (item : ItemDecl) (s : ℕ) → item.kind ≡ kind.Call
 called_no_function item s is = ap (λ k. not (is_called k) && not (has_none item.params)) is
 
 -- each result of an operator is that of one of its signatures
-pub same_as_one : (o : BinaryOp) (s : Signature) → IsOneOf s (signatures_of o) → AllHave (λ (u : Signature). u.result ≡ s.result) (signatures_of o)
+pub same_as_one : (o : BinaryOp) (s : Signature) → IsOneOf s (signatures_of o)
+    → AllHave (λ (u : Signature). u.result ≡ s.result) (signatures_of o)
 same_as_one o s is = by (signatures_of o) (same_results o)
   where
-    by : (ss : List Signature) → AllHave (λ (u : Signature). u.result ≡ result_of (signatures_of o)) ss → AllHave (λ (u : Signature). u.result ≡ s.result) ss
+    by : (ss : List Signature) → AllHave (λ (u : Signature). u.result ≡ result_of (signatures_of o)) ss
+        → AllHave (λ (u : Signature). u.result ≡ s.result) ss
     by [] h = tt
-    by (x ∷ ss) h = (h.0 ∙ sym (result_in (result_of (signatures_of o)) (signatures_of o) (same_results o) s is), by ss h.1)
+    by (x ∷ ss) h =
+        (h.0 ∙ sym (result_in (result_of (signatures_of o)) (signatures_of o) (same_results o) s is), by ss h.1)
 
 -- the fields of a structure whose numbers are all there
 pub record DeclaredFields (tables : Tables) (n : ℕ) (ks : List ℕ) : Type 0 where
@@ -186,11 +201,13 @@ each_in (suc n) ns j so less =
     by true e first rest = ap (λ m. is_in m ns) (eqb-true j n e) ∙ first
     by false e first rest = rest (lower_than j n less e)
 
-pub declared_fields : (tables : Tables) (n : ℕ) (ks : List ℕ) → IsTrue (are_fields_of tables.decls n ks) → DeclaredFields tables n ks
+pub declared_fields : (tables : Tables) (n : ℕ) (ks : List ℕ) → IsTrue (are_fields_of tables.decls n ks)
+    → DeclaredFields tables n ks
 declared_fields tables n ks is = by (fields_of tables.decls n) refl is
   where
     by : (o : Option (List Field)) → fields_of tables.decls n ≡ o
-        → IsTrue (some_passes (λ fields. nat_eq (length ks) (length fields) && are_all_in (length fields) ks) o) → DeclaredFields tables n ks
+        → IsTrue (some_passes (λ fields. nat_eq (length ks) (length fields) && are_all_in (length fields) ks) o)
+        → DeclaredFields tables n ks
     by None there so = absurd (true≢false (sym so))
     by (Some fields) there so =
         let parts = both_so (nat_eq (length ks) (length fields)) (are_all_in (length fields) ks) so in
@@ -202,9 +219,11 @@ declared_fields tables n ks is = by (fields_of tables.decls n) refl is
         }
 
 -- the local names of an arm's body have low types
-pub arm_low : (ds : Decls) (sound : AreSound ds) (n : ℕ) (p : ArmPattern) (ls inside : List Ty) → ArmLocals ds n p ls inside → AllHave (IsLow ds) ls
+pub arm_low : (ds : Decls) (sound : AreSound ds) (n : ℕ) (p : ArmPattern) (ls inside : List Ty)
+    → ArmLocals ds n p ls inside → AllHave (IsLow ds) ls
     → AllHave (IsLow ds) inside
 arm_low ds sound n pattern.Anything ls inside is are = subst (AllHave (IsLow ds)) (sym is) are
 arm_low ds sound n (pattern.Case k false) ls inside is are = subst (AllHave (IsLow ds)) (sym is.1) are
 arm_low ds sound n (pattern.Case k true) ls inside is are =
-    subst (AllHave (IsLow ds)) (sym is.2) (all_both (IsLow ds) ls (is.0 ∷ []) are (content_low ds sound n k is.0 is.1, tt))
+    subst (AllHave (IsLow ds)) (sym is.2)
+    (all_both (IsLow ds) ls (is.0 ∷ []) are (content_low ds sound n k is.0 is.1, tt))

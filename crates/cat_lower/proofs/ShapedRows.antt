@@ -1,28 +1,27 @@
 -- The places of the forms of expression that have parts in a row: lists, calls and structures.
-use Rattle.std.proofs.Common.{◌≡◌, ◌≤◌, ◌<◌, ℕ, zero, suc, ◌+◌, ◌-◌, nat_eq, nat_le, ◌&&◌, Bool, true, false, IsTrue, List, [], ◌∷◌, ◌++◌}
-use Rattle.std.proofs.Common.{length, map, take, Option, Some, None, slice_get, refl, sym, ap, ◌∙◌, subst, arith, append_assoc, true≢false}
+use Rattle.std.proofs.Common.{◌≡◌, ◌≤◌, ◌<◌, ℕ, zero, suc, ◌+◌, ◌-◌, nat_eq, nat_le, ◌&&◌, Bool, true, false, IsTrue}
+use Rattle.std.proofs.Common.{List, [], ◌∷◌, ◌++◌, length, map, Some, slice_get, refl, sym, ap, ◌∙◌}
+use Rattle.std.proofs.Common.{subst, arith, append_assoc, true≢false}
 use Rattle.std.proofs.lemmas.Bool.{eq-eqb, eqb-true}
 use Rattle.std.proofs.lemmas.Bool.Decides.{nat_tests}
 use Rattle.std.proofs.lemmas.Option.{slice_get_within}
 use Rattle.cat_value.specs.declared.ty.Ty.{Ty}
-use Rattle.cat_value.specs.declared.ty.Ty.TheVariants as flat
 use Rattle.cat_value.specs.declared.declaration.Field.{Field}
 use Rattle.cat_scope.specs.Names.{is_in}
 use Rattle.cat_code.specs.declared.instr.Instr.{Instr}
 use Rattle.cat_code.specs.declared.instr.Instr.TheVariants as instr
 use Rattle.cat_code.specs.declared.code.Tables.{Tables}
-use Rattle.cat_code.specs.Forms.{Form, Forms, Last, More, Many, Fields, in_row, form_at, form_of, forms_in}
+use Rattle.cat_code.specs.Forms.{Form, Forms, More, Many, Fields, in_row, form_at, forms_in}
 use Rattle.cat_code.specs.Shapes.{Owner, Shape, Meets}
 use Rattle.cat_code.specs.Places.{FunctionPlace, function_places}
 use Rattle.cat_code.specs.Wanted.{all_same, are_params}
-use Rattle.cat_code.specs.Leads.{Flow, leads, leads_two, popped, pop_all, pushed, where_so, top}
+use Rattle.cat_code.specs.Leads.{Flow, leads, leads_two, popped, pushed}
 use Rattle.cat_code.specs.Flow.{flow}
-use Rattle.cat_code.proofs.FormLaws.{same_self}
 use Rattle.cat_lower.specs.Laying.{Coded, nothing, one, then_code, led}
 use Rattle.cat_lower.specs.Pieces.{index_of, are_counted, bind_all, picked, packed, packed_by}
-use Rattle.cat_lower.proofs.Stacks.{append_none, length_append, length_map}
+use Rattle.cat_lower.proofs.Stacks.{append_none, length_map}
 use Rattle.cat_lower.proofs.DoingRows.{back_read}
-use Rattle.cat_lower.proofs.Spots.{Spots, Meeting, Arrives, met_by}
+use Rattle.cat_lower.proofs.Spots.{Arrives, met_by}
 use Rattle.cat_lower.proofs.Sketches.{Takes, takes_one, takes_then, takes_nothing, sketch_step}
 use Rattle.cat_lower.proofs.FormLaws.{params_are, at_forms}
 use Rattle.cat_lower.proofs.ShapedForms.{Deep, more, Stands, at, Gives, form as form_by}
@@ -81,7 +80,8 @@ stacked_read (x ∷ ts) us zero t is =
         ap (λ m. slice_get (stacked ts (y ∷ us)) m) e ∙ under ts (y ∷ us) (suc n)
 
     behind : (ts : List Form) → slice_get (stacked ts (x ∷ us)) (length ts) ≡ Some x
-    behind ts = let e : length ts ≡ length ts + 0 = omega arith in ap (λ m. slice_get (stacked ts (x ∷ us)) m) e ∙ under ts (x ∷ us) 0
+    behind ts = let e : length ts ≡ length ts + 0 = omega arith in
+        ap (λ m. slice_get (stacked ts (x ∷ us)) m) e ∙ under ts (x ∷ us) 0
 stacked_read (x ∷ ts) us (suc j) t is =
     let k : length (x ∷ ts) - suc (suc j) ≡ length ts - suc j = omega arith in
     ap (λ n. slice_get (stacked ts (x ∷ us)) n) k ∙ stacked_read ts (x ∷ us) j t is
@@ -109,7 +109,8 @@ belongs all [] ts k h among = absurd (true≢false (sym among))
 belongs all (n ∷ ns) [] k h among = absurd h
 belongs all (n ∷ ns) (t ∷ ts) k h among = by (nat_eq k n) refl (belongs all ns ts k h.1)
   where
-    by : (b : Bool) → nat_eq k n ≡ b → (is_in k ns ≡ true → (t : Form) × (slice_get ts (index_of k ns) ≡ Some t) × (form_at all k ≡ Some t))
+    by : (b : Bool) → nat_eq k n ≡ b
+        → (is_in k ns ≡ true → (t : Form) × (slice_get ts (index_of k ns) ≡ Some t) × (form_at all k ≡ Some t))
         → (u : Form) × (slice_get (t ∷ ts) (index_of k (n ∷ ns)) ≡ Some u) × (form_at all k ≡ Some u)
     by true e later = (t, rw e refl, ap (form_at all) (eqb-true k n e) ∙ h.0)
     by false e later =
@@ -122,11 +123,13 @@ index_below : (ns : List ℕ) (k : ℕ) → is_in k ns ≡ true → suc (index_o
 index_below [] k among = absurd (true≢false (sym among))
 index_below (n ∷ ns) k among = by (nat_eq k n) refl (index_below ns k)
   where
-    by : (b : Bool) → nat_eq k n ≡ b → (is_in k ns ≡ true → suc (index_of k ns) ≤ length ns) → suc (index_of k (n ∷ ns)) ≤ length (n ∷ ns)
+    by : (b : Bool) → nat_eq k n ≡ b → (is_in k ns ≡ true → suc (index_of k ns) ≤ length ns)
+        → suc (index_of k (n ∷ ns)) ≤ length (n ∷ ns)
     by true e later = rw e (omega arith)
     by false e later = let there : is_in k ns ≡ true = rw e at among in rw e (omega (arith, later there))
 
-module _ (tables : Tables) (code : List Instr) (Calls : Owner → Owner → Type 0) (entry : ℕ → Shape) (owner : Owner) (filled : List Bool) where
+module _ (tables : Tables) (code : List Instr) (Calls : Owner → Owner → Type 0) (entry : ℕ → Shape) (owner : Owner)
+    (filled : List Bool) where
   abbrev G : Coded → List Form → Form → Type 0
   G a ls t = Gives tables code Calls entry owner filled a ls t
 
@@ -146,14 +149,18 @@ module _ (tables : Tables) (code : List Instr) (Calls : Owner → Owner → Type
   pub all_none : (ls : List Form) → GivesAll nothing ls []
   all_none ls d stands = takes_nothing tables code Calls entry (A ls d)
 
-  pub all_more : (a b : Coded) (ls : List Form) (t : Form) (ts : List Form) → G a ls t → GivesAll b ls ts → GivesAll (then_code a b) ls (t ∷ ts)
+  pub all_more : (a b : Coded) (ls : List Form) (t : Form) (ts : List Form) → G a ls t → GivesAll b ls ts
+      → GivesAll (then_code a b) ls (t ∷ ts)
   all_more a b ls t ts ga gb d stands =
-      takes_then tables code Calls entry a b (A ls d) (A ls (more t d)) (A ls (more_all ts (more t d))) (ga d stands) (gb (more t d) stands)
+      takes_then tables code Calls entry a b (A ls d) (A ls (more t d)) (A ls (more_all ts (more t d))) (ga d stands)
+      (gb (more t d) stands)
 
-  pub gives_listed : (a : Coded) (n : ℕ) (ls : List Form) (t : Form) (ts : List Form) → length (t ∷ ts) ≡ n → all_same t ts ≡ true
+  pub gives_listed : (a : Coded) (n : ℕ) (ls : List Form) (t : Form) (ts : List Form) → length (t ∷ ts) ≡ n
+      → all_same t ts ≡ true
       → GivesAll a ls (t ∷ ts) → G (then_code a (one (instr.List n))) ls (Many t)
   gives_listed a n ls t ts long same given d stands =
-      takes_then tables code Calls entry a (one (instr.List n)) (A ls d) (A ls (more_all (t ∷ ts) d)) (A ls (more (Many t) d)) (given d stands)
+      takes_then tables code Calls entry a (one (instr.List n)) (A ls d) (A ls (more_all (t ∷ ts) d))
+      (A ls (more (Many t) d)) (given d stands)
       (takes_one tables code Calls entry (instr.List n) (A ls (more_all (t ∷ ts) d)) (A ls (more (Many t) d))
       (λ p. popped_all (t ∷ ts) n (A ls (more_all (t ∷ ts) d)) d.operands _ long ∙ rw same refl)
       (λ all p. (tt, (subst (λ m. IsTrue (nat_le 1 m)) long (some (length ts)), (tt, tt)))))
@@ -165,7 +172,8 @@ module _ (tables : Tables) (code : List Instr) (Calls : Owner → Owner → Type
       → T (one (instr.Pack n)) (A ls (more_all ts d)) (A ls (more (Fields (in_row ts)) d))
   takes_pack n ls ts d long =
       takes_one tables code Calls entry (instr.Pack n) (A ls (more_all ts d)) (A ls (more (Fields (in_row ts)) d))
-      (λ p. popped_all ts n (A ls (more_all ts d)) d.operands (λ us s. leads (p + 1) (pushed (Fields (in_row us)) s)) long)
+      (λ p. popped_all ts n (A ls (more_all ts d)) d.operands
+      (λ us s. leads (p + 1) (pushed (Fields (in_row us)) s)) long)
       (λ all p. (tt, (refl, (tt, tt))))
 
   -- ---- calls
@@ -194,23 +202,30 @@ module _ (tables : Tables) (code : List Instr) (Calls : Owner → Owner → Type
     pub meets : Meets (begun f place) (entry f)
     pub may : Calls owner (record { scope = owner.scope; function = Some f })
 
-  pub gives_call : (a : Coded) (f n : ℕ) (params : List Ty) (t : Ty) (ls : List Form) → IsCallable f params t → length params ≡ n
+  pub gives_call : (a : Coded) (f n : ℕ) (params : List Ty) (t : Ty) (ls : List Form) → IsCallable f params t
+      → length params ≡ n
       → GivesAll a ls (map F params) → G (then_code a (one (instr.Call f n))) ls (F t)
   gives_call a f n params t ls c long given d stands =
-      takes_then tables code Calls entry a (one (instr.Call f n)) (A ls d) (A ls (more_all (map F params) d)) (A ls (more (F t) d)) (given d stands)
+      takes_then tables code Calls entry a (one (instr.Call f n)) (A ls d) (A ls (more_all (map F params) d))
+      (A ls (more (F t) d)) (given d stands)
       (λ ends has. sketch_step tables code Calls entry ends (instr.Call f n) [] [] (A ls (more_all (map F params) d))
       (λ all. Arrives all (ends.place + 1) (A ls (more (F t) d)))
       ((ends.place + 1, A ls (more (F t) d)) ∷ (c.begin, begun f c.place) ∷ []) (flows ends.place) tt
-      (λ all known after. (after.0, (met_by all c.begin (begun f c.place) (entry f) c.meets (known f c.begin c.is_entry), tt)))
+      (λ all known after. (
+        after.0,
+        (met_by all c.begin (begun f c.place) (entry f) c.meets (known f c.begin c.is_entry), tt),
+      ))
       (λ all after. (tt, (refl, (tt, c.may)))))
     where
       flows : (p : ℕ) → flow tables code (instr.Call f n) p (A ls (more_all (map F params) d))
           ≡ leads_two (p + 1) (A ls (more (F t) d)) c.begin (begun f c.place)
       flows p =
           let here = eq-eqb c.place.scope owner.scope c.scope in
-          let many = eq-eqb n (length c.place.decl.params) (sym long ∙ ap (λ (l : List Ty). length l) (sym c.params_are)) in
+          let many =
+          eq-eqb n (length c.place.decl.params) (sym long ∙ ap (λ (l : List Ty). length l) (sym c.params_are)) in
           let fit : are_params F c.place.decl.params (map F params) ≡ true
-          = ap (λ (l : List Ty). are_params F c.place.decl.params (map F l)) (sym c.params_are) ∙ params_are F c.place.decl.params in
+          = ap (λ (l : List Ty). are_params F c.place.decl.params (map F l)) (sym c.params_are)
+          ∙ params_are F c.place.decl.params in
           rw (c.is_place, c.is_entry, here, many)
           (popped_all (map F params) n (A ls (more_all (map F params) d)) d.operands _ (length_map F params ∙ long)
           ∙ rw fit (ap (λ (u : Ty). leads_two (p + 1) (A ls (more (F u) d)) c.begin (begun f c.place)) c.ty_is))
@@ -221,12 +236,16 @@ module _ (tables : Tables) (code : List Instr) (Calls : Owner → Owner → Type
   takes_all_bound : (st ls : List Form) (d : Deep)
       → T (bind_all (length st)) (A ls (record d { operands = st ++ d.operands })) (A (ls ++ st) d)
   takes_all_bound [] ls d =
-      subst (λ (l : List Form). T nothing (A ls d) (A l d)) (sym (append_none ls)) (takes_nothing tables code Calls entry (A ls d))
+      subst (λ (l : List Form). T nothing (A ls d) (A l d)) (sym (append_none ls))
+      (takes_nothing tables code Calls entry (A ls d))
   takes_all_bound (t ∷ st) ls d =
-      subst (λ (l : List Form). T (bind_all (length (t ∷ st))) (A ls (record d { operands = (t ∷ st) ++ d.operands })) (A l d)) (append_assoc ls (t ∷ []) st)
-      (takes_then tables code Calls entry (one instr.Bind) (bind_all (length st)) (A ls (record d { operands = t ∷ (st ++ d.operands) }))
+      subst (λ (l : List Form). T (bind_all (length (t ∷ st))) (A ls (record d { operands = (t ∷ st) ++ d.operands }))
+      (A l d)) (append_assoc ls (t ∷ []) st)
+      (takes_then tables code Calls entry (one instr.Bind) (bind_all (length st))
+      (A ls (record d { operands = t ∷ (st ++ d.operands) }))
       (A (ls ++ t ∷ []) (record d { operands = st ++ d.operands })) (A ((ls ++ t ∷ []) ++ st) d)
-      (takes_bind tables code Calls entry owner filled ls t (record d { operands = st ++ d.operands })) (takes_all_bound st (ls ++ t ∷ []) d))
+      (takes_bind tables code Calls entry owner filled ls t (record d { operands = st ++ d.operands }))
+      (takes_all_bound st (ls ++ t ∷ []) d))
 
   abbrev forms_out : List Field → List Form
   forms_out fields = map (λ (f : Field). F f.ty) fields
@@ -237,23 +256,29 @@ module _ (tables : Tables) (code : List Instr) (Calls : Owner → Owner → Type
 
   -- each local name is taken by its index
   takes_picked : (L : List Form) (i : ℕ) (ns : List ℕ) (fields : List Field) (k : ℕ)
-      → ((j : ℕ) (f : Field) → slice_get fields j ≡ Some f → slice_get L (i + (length ns - suc (index_of (k + j) ns))) ≡ Some (F f.ty))
+      → ((j : ℕ) (f : Field) → slice_get fields j ≡ Some f
+      → slice_get L (i + (length ns - suc (index_of (k + j) ns))) ≡ Some (F f.ty))
       → GivesAll (picked i ns k (length fields)) L (map (λ (f : Field). F f.ty) fields)
   takes_picked L i ns [] k read = all_none L
   takes_picked L i ns (f ∷ fields) k read =
-      all_more (one (instr.Local (i + (length ns - suc (index_of k ns))))) (picked i ns (k + 1) (length fields)) L (F f.ty) (map (λ (f : Field). F f.ty) fields)
-      (λ d stands. takes_one tables code Calls entry (instr.Local (i + (length ns - suc (index_of k ns)))) (A L d) (A L (more (F f.ty) d))
+      all_more (one (instr.Local (i + (length ns - suc (index_of k ns))))) (picked i ns (k + 1) (length fields)) L
+      (F f.ty) (map (λ (f : Field). F f.ty) fields)
+      (λ d stands. takes_one tables code Calls entry (instr.Local (i + (length ns - suc (index_of k ns)))) (A L d)
+      (A L (more (F f.ty) d))
       (λ p. let there = first in rw there refl) (λ all p. (tt, (refl, (tt, tt)))))
       (takes_picked L i ns fields (k + 1) (λ j g is.
       let e : (k + 1) + j ≡ k + suc j = omega arith in
       ap (λ m. slice_get L (i + (length ns - suc (index_of m ns)))) e ∙ read (suc j) g is))
     where
       first : slice_get L (i + (length ns - suc (index_of k ns))) ≡ Some (F f.ty)
-      first = let e : k ≡ k + 0 = omega arith in ap (λ m. slice_get L (i + (length ns - suc (index_of m ns)))) e ∙ read 0 f refl
+      first = let e : k ≡ k + 0 = omega arith in
+          ap (λ m. slice_get L (i + (length ns - suc (index_of m ns)))) e ∙ read 0 f refl
 
   -- numbers that are counted are those of the fields in their order
-  in_order : (all : Forms) (k : ℕ) (ns : List ℕ) (ts : List Form) (fields : List Field) → are_counted k ns ≡ true → Belong all ns ts
-      → length ns ≡ length fields → ((j : ℕ) (f : Field) → slice_get fields j ≡ Some f → form_at all (k + j) ≡ Some (F f.ty))
+  in_order : (all : Forms) (k : ℕ) (ns : List ℕ) (ts : List Form) (fields : List Field) → are_counted k ns ≡ true
+      → Belong all ns ts
+      → length ns ≡ length fields
+      → ((j : ℕ) (f : Field) → slice_get fields j ≡ Some f → form_at all (k + j) ≡ Some (F f.ty))
       → in_row ts ≡ forms_in F fields
   in_order all k [] [] [] so h long there = refl
   in_order all k [] [] (f ∷ fields) so h long there = absurd (omega (arith, long))
@@ -263,7 +288,8 @@ module _ (tables : Tables) (code : List Instr) (Calls : Owner → Owner → Type
   in_order all k (n ∷ ns) (t ∷ ts) (f ∷ fields) so h long there =
       let parts = two (nat_eq k n) (are_counted (k + 1) ns) so in
       let e : k ≡ k + 0 = omega arith in
-      let same : Some t ≡ Some (F f.ty) = sym h.0 ∙ ap (form_at all) (sym (eqb-true k n parts.0) ∙ e) ∙ there 0 f refl in
+      let same : Some t ≡ Some (F f.ty) =
+      sym h.0 ∙ ap (form_at all) (sym (eqb-true k n parts.0) ∙ e) ∙ there 0 f refl in
       let is : t ≡ F f.ty = cc same in
       ap (λ (u : Form). More u (in_row ts)) is
       ∙ ap (λ (us : Forms). More (F f.ty) us)
@@ -275,17 +301,20 @@ module _ (tables : Tables) (code : List Instr) (Calls : Owner → Owner → Type
       two false b e = absurd (true≢false (sym e))
 
   -- a structure of values that are there
-  pub gives_structure : (a : Coded) (i : ℕ) (ns : List ℕ) (ts : List Form) (fields : List Field) (ls : List Form) → i ≡ length ls
+  pub gives_structure : (a : Coded) (i : ℕ) (ns : List ℕ) (ts : List Form) (fields : List Field) (ls : List Form)
+      → i ≡ length ls
       → Belong (forms_in F fields) ns ts → length ns ≡ length fields → ((j : ℕ) → j < length fields → is_in j ns ≡ true)
       → GivesAll a ls ts → G (then_code a (packed i ns)) ls (Fields (forms_in F fields))
   gives_structure a i ns ts fields ls deep h long each given d stands =
-      takes_then tables code Calls entry a (packed i ns) (A ls d) (A ls (more_all ts d)) (A ls (more (Fields (forms_in F fields)) d)) (given d stands)
+      takes_then tables code Calls entry a (packed i ns) (A ls d) (A ls (more_all ts d))
+      (A ls (more (Fields (forms_in F fields)) d)) (given d stands)
       (by (are_counted 0 ns) refl)
     where
       many : length ts ≡ length ns
       many = as_many (forms_in F fields) ns ts h
 
-      there : (j : ℕ) (f : Field) → slice_get fields j ≡ Some f → slice_get (ls ++ stacked ts []) (i + (length ns - suc (index_of (0 + j) ns))) ≡ Some (F f.ty)
+      there : (j : ℕ) (f : Field) → slice_get fields j ≡ Some f
+          → slice_get (ls ++ stacked ts []) (i + (length ns - suc (index_of (0 + j) ns))) ≡ Some (F f.ty)
       there j f is =
           let z : 0 + j ≡ j = omega arith in
           let among = each j (slice_get_within fields j f is) in
@@ -293,10 +322,12 @@ module _ (tables : Tables) (code : List Instr) (Calls : Owner → Owner → Type
           let same : Some found.0 ≡ Some (F f.ty) = sym found.2 ∙ at_forms F fields j f is in
           ap (λ m. slice_get (ls ++ stacked ts []) (i + (length ns - suc (index_of m ns)))) z
           ∙ ap (λ m. slice_get (ls ++ stacked ts []) (i + (m - suc (index_of j ns)))) (sym many)
-          ∙ back_read ls (stacked ts []) (i + (length ts - suc (index_of j ns))) (length ts - suc (index_of j ns)) (ap (λ m. m + (length ts - suc (index_of j ns))) deep)
+          ∙ back_read ls (stacked ts []) (i + (length ts - suc (index_of j ns))) (length ts - suc (index_of j ns))
+          (ap (λ m. m + (length ts - suc (index_of j ns))) deep)
           ∙ stacked_read ts [] (index_of j ns) found.0 found.1 ∙ same
 
-      by : (b : Bool) → are_counted 0 ns ≡ b → T (packed_by b i ns) (A ls (more_all ts d)) (A ls (more (Fields (forms_in F fields)) d))
+      by : (b : Bool) → are_counted 0 ns ≡ b
+          → T (packed_by b i ns) (A ls (more_all ts d)) (A ls (more (Fields (forms_in F fields)) d))
       by true so =
           subst (λ (fs : Forms). T (one (instr.Pack (length ns))) (A ls (more_all ts d)) (A ls (more (Fields fs) d)))
           (in_order (forms_in F fields) 0 ns ts fields so h long
@@ -307,15 +338,25 @@ module _ (tables : Tables) (code : List Instr) (Calls : Owner → Owner → Type
           let counted : length (stacked ts []) ≡ n = length_stacked ts [] ∙ zero_behind (length ts) ∙ many in
           let bound : T (bind_all n) (A ls (more_all ts d)) (A (ls ++ stacked ts []) d)
           = subst (λ m. T (bind_all m) (A ls (more_all ts d)) (A (ls ++ stacked ts []) d)) counted
-          (subst (λ (ops : List Form). T (bind_all (length (stacked ts []))) (A ls (record d { operands = ops })) (A (ls ++ stacked ts []) d))
+          (subst (λ (ops : List Form). T (bind_all (length (stacked ts []))) (A ls (record d { operands = ops }))
+          (A (ls ++ stacked ts []) d))
           (sym (stacked_back ts [] d.operands)) (takes_all_bound (stacked ts []) ls d)) in
-          let taken : T (picked i ns 0 n) (A (ls ++ stacked ts []) d) (A (ls ++ stacked ts []) (more_all (forms_out fields) d))
-          = subst (λ m. T (picked i ns 0 m) (A (ls ++ stacked ts []) d) (A (ls ++ stacked ts []) (more_all (forms_out fields) d))) (sym long) (takes_picked (ls ++ stacked ts []) i ns fields 0 there d stands) in
-          takes_then tables code Calls entry (bind_all n) (then_code (picked i ns 0 n) (led (instr.Drop n) (one (instr.Pack n))))
+          let taken : T (picked i ns 0 n) (A (ls ++ stacked ts []) d)
+          (A (ls ++ stacked ts []) (more_all (forms_out fields) d))
+          = subst (λ m. T (picked i ns 0 m) (A (ls ++ stacked ts []) d)
+          (A (ls ++ stacked ts []) (more_all (forms_out fields) d))) (sym long)
+          (takes_picked (ls ++ stacked ts []) i ns fields 0 there d stands) in
+          takes_then tables code Calls entry (bind_all n)
+          (then_code (picked i ns 0 n) (led (instr.Drop n) (one (instr.Pack n))))
           (A ls (more_all ts d)) (A (ls ++ stacked ts []) d) (A ls (more (Fields (forms_in F fields)) d)) bound
-          (takes_then tables code Calls entry (picked i ns 0 n) (led (instr.Drop n) (one (instr.Pack n))) (A (ls ++ stacked ts []) d) (A (ls ++ stacked ts []) (more_all (forms_out fields) d))
+          (takes_then tables code Calls entry (picked i ns 0 n) (led (instr.Drop n) (one (instr.Pack n)))
+          (A (ls ++ stacked ts []) d) (A (ls ++ stacked ts []) (more_all (forms_out fields) d))
           (A ls (more (Fields (forms_in F fields)) d)) taken
-          (takes_then tables code Calls entry (one (instr.Drop n)) (one (instr.Pack n)) (A (ls ++ stacked ts []) (more_all (forms_out fields) d)) (A ls (more_all (forms_out fields) d))
-          (A ls (more (Fields (forms_in F fields)) d)) (takes_drop tables code Calls entry owner filled ls (stacked ts []) n (more_all (forms_out fields) d) counted)
-          (subst (λ (fs : Forms). T (one (instr.Pack n)) (A ls (more_all (forms_out fields) d)) (A ls (more (Fields fs) d))) (forms_from fields)
+          (takes_then tables code Calls entry (one (instr.Drop n)) (one (instr.Pack n))
+          (A (ls ++ stacked ts []) (more_all (forms_out fields) d)) (A ls (more_all (forms_out fields) d))
+          (A ls (more (Fields (forms_in F fields)) d))
+          (takes_drop tables code Calls entry owner filled ls (stacked ts []) n
+          (more_all (forms_out fields) d) counted)
+          (subst (λ (fs : Forms). T (one (instr.Pack n)) (A ls (more_all (forms_out fields) d))
+          (A ls (more (Fields fs) d))) (forms_from fields)
           (takes_pack n ls (forms_out fields) d (length_map (λ (f : Field). F f.ty) fields ∙ sym long)))))

@@ -1,6 +1,6 @@
 -- The places of terms: each adds to the top default frame, and a target pushes its value.
-use Rattle.std.proofs.Common.{◌≡◌, ℕ, suc, ◌+◌, nat_le, nat_lt, Bool, true, false, List, [], ◌∷◌, ◌++◌, length, map, Option, Some, None}
-use Rattle.std.proofs.Common.{slice_get, refl, sym, subst, arith}
+use Rattle.std.proofs.Common.{◌≡◌, ℕ, suc, ◌+◌, nat_le, nat_lt, Bool, true, false, List, [], ◌∷◌, ◌++◌, length, map}
+use Rattle.std.proofs.Common.{Option, Some, None, slice_get, refl, sym, subst, arith}
 use Rattle.std.proofs.lemmas.Bool.Decides.{nat_tests}
 use Rattle.cat_scope.specs.declared.expr.Expr.{Expr}
 use Rattle.cat_scope.specs.Judging.{Held}
@@ -22,18 +22,20 @@ use Rattle.cat_code.specs.Places.{target_form}
 use Rattle.cat_code.specs.Wanted.{frames_inside}
 use Rattle.cat_code.proofs.FormLaws.{same_self}
 use Rattle.cat_lower.specs.Laying.{Coded, nothing, one, then_code, led, all_code, over}
-use Rattle.cat_lower.specs.Terms.{TermStanding, condition_code, value_code, under, otherwise, framed, default_code, term_code, judged_code}
+use Rattle.cat_lower.specs.Terms.{TermStanding, condition_code, value_code, under, otherwise, framed, default_code}
+use Rattle.cat_lower.specs.Terms.{term_code, judged_code}
 use Rattle.cat_lower.proofs.AddingTerms.{all_front, all_back, each_of}
 use Rattle.cat_lower.proofs.TermEquations.{code_Empty, code_Consequence, code_Default}
 use Rattle.cat_lower.proofs.Meeting.{meets_same, fewer_same, frames_same, pending_same}
-use Rattle.cat_lower.proofs.Sketches.{Takes, Leaves, IsJump, leaves_one, leaves_then, takes_one, takes_then, takes_nothing, takes_less, takes_over}
-use Rattle.cat_lower.proofs.Sketches.{is_jump_false}
+use Rattle.cat_lower.proofs.Sketches.{Takes, Leaves, IsJump, leaves_one, leaves_then, takes_one, takes_then}
+use Rattle.cat_lower.proofs.Sketches.{takes_nothing, takes_less, takes_over, is_jump_false}
 use Rattle.cat_lower.proofs.ShapedForms.{Deep, more, at, Gives, within_so}
 
 one_there : (n : ℕ) → nat_le 1 (n + 1) ≡ true
 one_there n = grind (arith, nat_tests)
 
-module _ (tables : Tables) (code : List Instr) (Calls : Owner → Owner → Type 0) (entry : ℕ → Shape) (owner : Owner) (filled : List Bool) where
+module _ (tables : Tables) (code : List Instr) (Calls : Owner → Owner → Type 0) (entry : ℕ → Shape) (owner : Owner)
+    (filled : List Bool) where
   abbrev G : Coded → List Form → Form → Type 0
   G a ls t = Gives tables code Calls entry owner filled a ls t
 
@@ -78,15 +80,19 @@ module _ (tables : Tables) (code : List Instr) (Calls : Owner → Owner → Type
 
     nothing_steps : (c c' : Bool) → AreFewer (c' ∷ []) (c ∷ []) → Steps nothing c c'
     nothing_steps c c' less b fs ps =
-        takes_less tables code Calls entry nothing (top b c fs ps) (top b c fs ps) (top b c' fs ps) (less_known b c c' fs ps less)
+        takes_less tables code Calls entry nothing (top b c fs ps) (top b c fs ps) (top b c' fs ps)
+        (less_known b c c' fs ps less)
         (takes_nothing tables code Calls entry (top b c fs ps))
 
     -- a definition that holds
-    holds : (value : Coded) (d : ℕ) → nat_lt d (length tables.definitions) ≡ true → G value ls h → Adds (then_code value (one (instr.Hold d)))
+    holds : (value : Coded) (d : ℕ) → nat_lt d (length tables.definitions) ≡ true → G value ls h
+        → Adds (then_code value (one (instr.Hold d)))
     holds value d there given c b fs ps =
-        takes_then tables code Calls entry value (one (instr.Hold d)) (top b c fs ps) (A ls (more h (base (frame b h c ∷ fs) ps))) (top b false fs ps)
+        takes_then tables code Calls entry value (one (instr.Hold d)) (top b c fs ps)
+        (A ls (more h (base (frame b h c ∷ fs) ps))) (top b false fs ps)
         (given (base (frame b h c ∷ fs) ps) tt)
-        (takes_one tables code Calls entry (instr.Hold d) (A ls (more h (base (frame b h c ∷ fs) ps))) (top b false fs ps)
+        (takes_one tables code Calls entry (instr.Hold d) (A ls (more h (base (frame b h c ∷ fs) ps)))
+        (top b false fs ps)
         (λ p. let inner = inside_one fs in let same = same_self h in rw (there, inner, same) refl)
         (λ all p. (tt, (refl, (tt, tt)))))
       where
@@ -107,7 +113,8 @@ module _ (tables : Tables) (code : List Instr) (Calls : Owner → Owner → Type
 
     steps_then : (a a' : Coded) (c c' c'' : Bool) → Steps a c c' → Steps a' c' c'' → Steps (then_code a a') c c''
     steps_then a a' c c' c'' f g b fs ps =
-        takes_then tables code Calls entry a a' (top b c fs ps) (top b c' fs ps) (top b c'' fs ps) (f b fs ps) (g b fs ps)
+        takes_then tables code Calls entry a a' (top b c fs ps) (top b c' fs ps) (top b c'' fs ps) (f b fs ps)
+        (g b fs ps)
 
     all_add : (cs : List Coded) → AllHave Adds cs → Steps (all_code cs) false false
     all_add [] h b fs ps = takes_nothing tables code Calls entry (top b false fs ps)
@@ -119,15 +126,18 @@ module _ (tables : Tables) (code : List Instr) (Calls : Owner → Owner → Type
       abbrev pub IsCondition : Expr → Type 0
       IsCondition e = G (condition_code at e) ls Truth
 
-      steps_under : (j : Justification) (a : Coded) (c c' : Bool) → AllHave IsCondition (condition_in j) → AreFewer (c' ∷ []) (c ∷ [])
+      steps_under : (j : Justification) (a : Coded) (c c' : Bool) → AllHave IsCondition (condition_in j)
+          → AreFewer (c' ∷ []) (c ∷ [])
           → Steps a c c' → Steps (under at j a) c c'
       steps_under justification.Never a c c' conditions less f b fs ps = nothing_steps c c' less b fs ps
       steps_under justification.Always a c c' conditions less f b fs ps = f b fs ps
       steps_under (justification.Where x) a c c' conditions less f b fs ps =
           let tested = A ls (more Truth (base (frame b h c ∷ fs) ps)) in
-          takes_then tables code Calls entry (condition_code at x) (over (λ t. instr.JumpFalse t) a) (top b c fs ps) tested (top b c' fs ps)
+          takes_then tables code Calls entry (condition_code at x) (over (λ t. instr.JumpFalse t) a)
+          (top b c fs ps) tested (top b c' fs ps)
           (conditions.0 (base (frame b h c ∷ fs) ps) tt)
-          (takes_over tables code Calls entry (λ t. instr.JumpFalse t) a tested (top b c fs ps) (top b c fs ps) (top b c' fs ps)
+          (takes_over tables code Calls entry (λ t. instr.JumpFalse t) a tested (top b c fs ps) (top b c fs ps)
+          (top b c' fs ps)
           (is_jump_false tables code Calls entry) (λ p q is. refl) (less_known b c c' fs ps less) (f b fs ps))
 
       is_held : IsJump tables code Calls entry (λ t. instr.Held t)
@@ -138,18 +148,23 @@ module _ (tables : Tables) (code : List Instr) (Calls : Owner → Owner → Type
 
       steps_over : (a : Coded) → Steps a true true → Steps (over (λ t. instr.Held t) a) true true
       steps_over a f b fs ps =
-          takes_over tables code Calls entry (λ t. instr.Held t) a (top b true fs ps) (top b true fs ps) (top b true fs ps) (top b true fs ps)
+          takes_over tables code Calls entry (λ t. instr.Held t) a (top b true fs ps) (top b true fs ps)
+          (top b true fs ps) (top b true fs ps)
           is_held (λ p q is. refl) (meets_same (top b true fs ps)) (f b fs ps)
 
-      otherwise_steps : (j : Justification) (a : Coded) → AllHave IsCondition (condition_in j) → Adds a → Steps (otherwise at j a) true true
+      otherwise_steps : (j : Justification) (a : Coded) → AllHave IsCondition (condition_in j) → Adds a
+          → Steps (otherwise at j a) true true
       otherwise_steps justification.Never a conditions adds = nothing_steps true true (refl, tt)
       otherwise_steps justification.Always a conditions adds =
           steps_over (then_code a (one (instr.Check at.target)))
-          (steps_then a (one (instr.Check at.target)) true false true (adds true) (checks at.target false within_target))
+          (steps_then a (one (instr.Check at.target)) true false true (adds true)
+          (checks at.target false within_target))
       otherwise_steps (justification.Where x) a conditions adds =
           steps_over (under at (justification.Where x) (then_code a (one (instr.Check at.target))))
-          (steps_under (justification.Where x) (then_code a (one (instr.Check at.target))) true true conditions (refl, tt)
-          (steps_then a (one (instr.Check at.target)) true false true (adds true) (checks at.target false within_target)))
+          (steps_under (justification.Where x) (then_code a (one (instr.Check at.target))) true true conditions
+          (refl, tt)
+          (steps_then a (one (instr.Check at.target)) true false true (adds true)
+          (checks at.target false within_target)))
 
       -- a frame begins, over those that are there
       starts : (fs : List FrameShape) (ps : List PendingShape)
@@ -162,31 +177,40 @@ module _ (tables : Tables) (code : List Instr) (Calls : Owner → Owner → Type
           → T (one instr.Merge) (top o true (frame b h c ∷ fs) ps) (top b false fs ps)
       merges o b c fs ps =
           takes_one tables code Calls entry instr.Merge (top o true (frame b h c ∷ fs) ps) (top b false fs ps)
-          (λ p. let inner = long (length fs) in let same = same_self h in rw (inner, same) refl) (λ all p. (tt, (refl, (tt, tt))))
+          (λ p. let inner = long (length fs) in let same = same_self h in rw (inner, same) refl)
+          (λ all p. (tt, (refl, (tt, tt))))
         where
           long : (n : ℕ) → nat_le 2 (suc (suc n)) ≡ true
           long n = grind (arith, nat_tests)
 
-      framed_adds : (cs : List Coded) (j : Justification) (a : Coded) → AllHave Adds cs → AllHave IsCondition (condition_in j) → Adds a
+      framed_adds : (cs : List Coded) (j : Justification) (a : Coded) → AllHave Adds cs
+          → AllHave IsCondition (condition_in j) → Adds a
           → Adds (framed at cs j a)
       framed_adds cs j a each conditions adds c b fs ps =
           let gs = frame b h c ∷ fs in
           let behind : Coded = then_code (otherwise at j a) (one instr.Merge) in
           let checked : Coded = led (instr.Check at.target) behind in
-          leaves_then tables code Calls entry (one (instr.Begin at.target)) (then_code (all_code cs) checked) (top b c fs ps)
+          leaves_then tables code Calls entry (one (instr.Begin at.target)) (then_code (all_code cs) checked)
+          (top b c fs ps)
           (λ p. top p false gs ps) (λ p. top b false fs ps) (starts gs ps)
-          (λ p. takes_then tables code Calls entry (all_code cs) checked (top p false gs ps) (top p false gs ps) (top b false fs ps) (all_add cs each p gs ps)
-          (takes_then tables code Calls entry (one (instr.Check at.target)) behind (top p false gs ps) (top p true gs ps) (top b false fs ps)
+          (λ p. takes_then tables code Calls entry (all_code cs) checked (top p false gs ps) (top p false gs ps)
+          (top b false fs ps) (all_add cs each p gs ps)
+          (takes_then tables code Calls entry (one (instr.Check at.target)) behind (top p false gs ps)
+          (top p true gs ps) (top b false fs ps)
           (checks at.target false within_target p gs ps)
-          (takes_then tables code Calls entry (otherwise at j a) (one instr.Merge) (top p true gs ps) (top p true gs ps) (top b false fs ps)
+          (takes_then tables code Calls entry (otherwise at j a) (one instr.Merge) (top p true gs ps) (top p true gs ps)
+          (top b false fs ps)
           (otherwise_steps j a conditions adds p gs ps) (merges p b c fs ps))))
 
-      default_adds : (cs : List Coded) (j : Justification) (a : Coded) → AllHave Adds cs → AllHave IsCondition (condition_in j) → Adds a
+      default_adds : (cs : List Coded) (j : Justification) (a : Coded) → AllHave Adds cs
+          → AllHave IsCondition (condition_in j) → Adds a
           → Adds (default_code at cs j a)
       default_adds [] j a each conditions adds c = steps_under j a c false conditions tt (adds c)
       default_adds (x ∷ []) justification.Never a each conditions adds c = each.0 c
-      default_adds (x ∷ []) justification.Always a each conditions adds c = framed_adds (x ∷ []) justification.Always a each conditions adds c
-      default_adds (x ∷ []) (justification.Where y) a each conditions adds c = framed_adds (x ∷ []) (justification.Where y) a each conditions adds c
+      default_adds (x ∷ []) justification.Always a each conditions adds c =
+          framed_adds (x ∷ []) justification.Always a each conditions adds c
+      default_adds (x ∷ []) (justification.Where y) a each conditions adds c =
+          framed_adds (x ∷ []) (justification.Where y) a each conditions adds c
       default_adds (x ∷ y ∷ cs) j a each conditions adds c = framed_adds (x ∷ y ∷ cs) j a each conditions adds c
 
       -- what a consequence gives, and where its definition stands
@@ -195,7 +219,8 @@ module _ (tables : Tables) (code : List Instr) (Calls : Owner → Owner → Type
         pub numbered : nat_lt (at.here.definitions + x.number) (length tables.definitions) ≡ true
 
       abbrev OfTerm : DefaultTerm → Type 0
-      OfTerm t = AllHave IsCondition (conditions_in t) → AllHave IsConsequence (consequences_in t) → Adds (term_code at t)
+      OfTerm t =
+          AllHave IsCondition (conditions_in t) → AllHave IsConsequence (consequences_in t) → Adds (term_code at t)
 
       adds_by : (a b : Coded) → a ≡ b → Adds b → Adds a
       adds_by a b is adds = subst (λ x. Adds x) (sym is) adds
@@ -205,15 +230,18 @@ module _ (tables : Tables) (code : List Instr) (Calls : Owner → Owner → Type
       each_adds [] hs cs vs = tt
       each_adds (t ∷ ts) hs cs vs = (hs.0 cs.0 vs.0, each_adds ts hs.1 cs.1 vs.1)
 
-      of_default : (ts : List DefaultTerm) (j : Justification) (t : DefaultTerm) → Each OfTerm ts → OfTerm t → OfTerm (term.Default ts j t)
+      of_default : (ts : List DefaultTerm) (j : Justification) (t : DefaultTerm) → Each OfTerm ts → OfTerm t
+          → OfTerm (term.Default ts j t)
       of_default ts j t hs f cs vs =
           let c = subst (λ (l : List Expr). AllHave IsCondition l) (conditions_Default ts j t) cs in
           let w = subst (λ (l : List (Held Expr)). AllHave IsConsequence l) (consequences_Default ts j t) vs in
           let front = all_front IsCondition (all_in (map conditions_in ts) ++ condition_in j) (conditions_in t) c in
           adds_by _ _ (code_Default at ts j t)
           (default_adds (map (term_code at) ts) j (term_code at t)
-          (each_adds ts hs (each_of IsCondition conditions_in ts (all_front IsCondition (all_in (map conditions_in ts)) (condition_in j) front))
-          (each_of IsConsequence consequences_in ts (all_front IsConsequence (all_in (map consequences_in ts)) (consequences_in t) w)))
+          (each_adds ts hs (each_of IsCondition conditions_in ts
+          (all_front IsCondition (all_in (map conditions_in ts)) (condition_in j) front))
+          (each_of IsConsequence consequences_in ts
+          (all_front IsConsequence (all_in (map consequences_in ts)) (consequences_in t) w)))
           (all_back IsCondition (all_in (map conditions_in ts)) (condition_in j) front)
           (f (all_back IsCondition (all_in (map conditions_in ts) ++ condition_in j) (conditions_in t) c)
           (all_back IsConsequence (all_in (map consequences_in ts)) (consequences_in t) w)))
@@ -223,7 +251,8 @@ module _ (tables : Tables) (code : List Instr) (Calls : Owner → Owner → Type
           (λ cs vs. adds_by _ _ (code_Empty at) (λ c. nothing_steps c false tt))
           (λ n p x cs vs.
           let v = subst (λ (l : List (Held Expr)). AllHave IsConsequence l) (consequences_Consequence n p x) vs in
-          adds_by _ _ (code_Consequence at n p x) (holds (value_code at x) (at.here.definitions + n) v.0.numbered v.0.given))
+          adds_by _ _ (code_Consequence at n p x)
+          (holds (value_code at x) (at.here.definitions + n) v.0.numbered v.0.given))
           of_default
 
       -- a term that is typed, where there is one
@@ -234,8 +263,10 @@ module _ (tables : Tables) (code : List Instr) (Calls : Owner → Owner → Type
       pub judged_leaves : (o : Option DefaultTerm) → IsTerm o → (fs : List FrameShape) (ps : List PendingShape)
           → Leaves tables code Calls entry (judged_code at o) (A ls (base fs ps)) (λ p. top p true fs ps)
       judged_leaves None is fs ps =
-          leaves_then tables code Calls entry (one (instr.Begin at.target)) (one (instr.Check at.target)) (A ls (base fs ps))
-          (λ p. top p false fs ps) (λ p. top p true fs ps) (starts fs ps) (λ p. checks at.target false within_target p fs ps)
+          leaves_then tables code Calls entry (one (instr.Begin at.target)) (one (instr.Check at.target))
+          (A ls (base fs ps))
+          (λ p. top p false fs ps) (λ p. top p true fs ps) (starts fs ps)
+          (λ p. checks at.target false within_target p fs ps)
       judged_leaves (Some t) is fs ps =
           let judged : Coded = then_code (term_code at t) (one (instr.Check at.target)) in
           leaves_then tables code Calls entry (one (instr.Begin at.target)) judged (A ls (base fs ps))

@@ -1,6 +1,7 @@
 -- What is passed to the slots of a scope.
-use Rattle.std.proofs.Common.{◌≡◌, ℕ, zero, suc, ◌+◌, ◌<◌, Bool, true, false, ◌&&◌, not, nat_eq, IsTrue, List, [], ◌∷◌, ◌++◌}
-use Rattle.std.proofs.Common.{length, map, Option, Some, None, refl, sym, ap, ◌∙◌, subst, arith, append_assoc, if◌then◌else◌}
+use Rattle.std.proofs.Common.{◌≡◌, ℕ, zero, suc, ◌+◌, ◌<◌, Bool, true, false, ◌&&◌, not, nat_eq, IsTrue, List, [], ◌∷◌}
+use Rattle.std.proofs.Common.{◌++◌, length, map, Option, Some, None, refl, sym, ap, ◌∙◌, arith, append_assoc}
+use Rattle.std.proofs.Common.{if◌then◌else◌}
 use Rattle.std.proofs.lemmas.Bool.{eqb-true, eq-eqb}
 use Rattle.cat_value.specs.declared.value.Value.{Value}
 use Rattle.cat_value.specs.declared.value.Value.TheVariants as flat
@@ -75,11 +76,13 @@ abbrev back : List (ℕ × Value) → List (ℕ × Value) → List (ℕ × Value
 back gs [] = gs
 back gs (f ∷ fs) = back (f ∷ gs) fs
 
-passed_all : (gs fs : List (ℕ × Value)) (items : List ItemDecl) → passed_to fs (given_slots 0 gs items) ≡ given_slots 0 (back gs fs) items
+passed_all : (gs fs : List (ℕ × Value)) (items : List ItemDecl)
+    → passed_to fs (given_slots 0 gs items) ≡ given_slots 0 (back gs fs) items
 passed_all gs [] items = refl
 passed_all gs (f ∷ fs) items =
     let at : 0 + f.0 ≡ f.0 = omega arith in
-    ap (λ (q : Items). passed_to fs q) (passed_one f.0 0 f.1 gs items ∙ ap (λ k. given_slots 0 ((k, f.1) ∷ gs) items) at)
+    ap (λ (q : Items). passed_to fs q)
+    (passed_one f.0 0 f.1 gs items ∙ ap (λ k. given_slots 0 ((k, f.1) ∷ gs) items) at)
     ∙ passed_all (f ∷ gs) fs items
 
 -- what is given by the first of two lists, or else by the second
@@ -92,7 +95,8 @@ not_given : (n : ℕ) (fs : List (ℕ × Value)) → is_in n (numbers fs) ≡ fa
 not_given n [] out = refl
 not_given n (f ∷ fs) out = by (nat_eq n f.0) refl (not_given n fs)
   where
-    by : (b : Bool) → nat_eq n f.0 ≡ b → (is_in n (numbers fs) ≡ false → value_given n fs ≡ None) → value_given n (f ∷ fs) ≡ None
+    by : (b : Bool) → nat_eq n f.0 ≡ b → (is_in n (numbers fs) ≡ false → value_given n fs ≡ None)
+        → value_given n (f ∷ fs) ≡ None
     by true e again = let o : true ≡ false = rw e at out in absurd (cc o)
     by false e again = let o : is_in n (numbers fs) ≡ false = rw e at out in rw e (again o)
 
@@ -105,7 +109,8 @@ back_given n gs (f ∷ fs) differ =
     back_given n (f ∷ gs) fs parts.1 ∙ by (nat_eq n f.0) refl (is_in f.0 (numbers fs)) refl parts.0
   where
     by : (b : Bool) → nat_eq n f.0 ≡ b → (c : Bool) → is_in f.0 (numbers fs) ≡ c → not (is_in f.0 (numbers fs)) ≡ true
-        → first_given (value_given n fs) (value_given n (f ∷ gs)) ≡ first_given (value_given n (f ∷ fs)) (value_given n gs)
+        → first_given (value_given n fs) (value_given n (f ∷ gs))
+        ≡ first_given (value_given n (f ∷ fs)) (value_given n gs)
     by true e true there out = let o : false ≡ true = rw there at out in absurd (cc o)
     by true e false there out =
         let same : n ≡ f.0 = eqb-true n f.0 e in
@@ -113,11 +118,13 @@ back_given n gs (f ∷ fs) differ =
         rw (none, e) refl
     by false e c there out = rw e refl
 
-given_alike : (n : ℕ) (fs gs : List (ℕ × Value)) (items : List ItemDecl) → ((k : ℕ) → value_given k fs ≡ value_given k gs)
+given_alike : (n : ℕ) (fs gs : List (ℕ × Value)) (items : List ItemDecl)
+    → ((k : ℕ) → value_given k fs ≡ value_given k gs)
     → given_slots n fs items ≡ given_slots n gs items
 given_alike n fs gs [] same = refl
 given_alike n fs gs (item ∷ items) same =
-    ap (λ o. o ∷ given_slots (n + 1) fs items) (same n) ∙ ap (λ (l : Items). value_given n gs ∷ l) (given_alike (n + 1) fs gs items same)
+    ap (λ o. o ∷ given_slots (n + 1) fs items) (same n)
+    ∙ ap (λ (l : Items). value_given n gs ∷ l) (given_alike (n + 1) fs gs items same)
 
 none_behind : (o : Option Value) → first_given o None ≡ o
 none_behind None = refl
@@ -142,7 +149,8 @@ pub given_so : (n : ℕ) (fs : List (ℕ × Value)) → ((v : Value) → value_g
 given_so n [] v given = absurd (cc given)
 given_so n (f ∷ fs) v given = by (nat_eq n f.0) refl (given_so n fs v)
   where
-    by : (c : Bool) → nat_eq n f.0 ≡ c → (value_given n fs ≡ Some v → is_in n (numbers fs) ≡ true) → is_in n (numbers (f ∷ fs)) ≡ true
+    by : (c : Bool) → nat_eq n f.0 ≡ c → (value_given n fs ≡ Some v → is_in n (numbers fs) ≡ true)
+        → is_in n (numbers (f ∷ fs)) ≡ true
     by true e again = rw e refl
     by false e again = let g : value_given n fs ≡ Some v = rw e at given in rw e (again g)
 
@@ -150,14 +158,18 @@ pub none_so : (n : ℕ) (fs : List (ℕ × Value)) → value_given n fs ≡ None
 none_so n [] given = refl
 none_so n (f ∷ fs) given = by (nat_eq n f.0) refl (none_so n fs)
   where
-    by : (c : Bool) → nat_eq n f.0 ≡ c → (value_given n fs ≡ None → is_in n (numbers fs) ≡ false) → is_in n (numbers (f ∷ fs)) ≡ false
+    by : (c : Bool) → nat_eq n f.0 ≡ c → (value_given n fs ≡ None → is_in n (numbers fs) ≡ false)
+        → is_in n (numbers (f ∷ fs)) ≡ false
     by true e again = let g : Some f.1 ≡ None = rw e at given in absurd (cc g)
     by false e again = let g : value_given n fs ≡ None = rw e at given in rw e (again g)
 
 -- an entry behind those in front, by whether it is given and whether false is wanted where it isn't
-entry_done : (wanted : Bool) (o : Option Value) (there : Bool) → ((v : Value) → o ≡ Some v → there ≡ true) → (o ≡ None → there ≡ false)
-    → (n : ℕ) (front rest : Items) → length front ≡ n → (made : Option Value) → (o ≡ None → made ≡ (if wanted then Some (flat.Boolean false) else None))
-    → ((v : Value) → o ≡ Some v → made ≡ Some v) → absent_entry (wanted && not there) n (front ++ o ∷ rest) ≡ front ++ made ∷ rest
+entry_done : (wanted : Bool) (o : Option Value) (there : Bool) → ((v : Value) → o ≡ Some v → there ≡ true)
+    → (o ≡ None → there ≡ false)
+    → (n : ℕ) (front rest : Items) → length front ≡ n → (made : Option Value)
+    → (o ≡ None → made ≡ (if wanted then Some (flat.Boolean false) else None))
+    → ((v : Value) → o ≡ Some v → made ≡ Some v)
+    → absent_entry (wanted && not there) n (front ++ o ∷ rest) ≡ front ++ made ∷ rest
 entry_done true (Some v) true is none n front rest at made empty full = ap (λ x. front ++ x ∷ rest) (sym (full v refl))
 entry_done false (Some v) true is none n front rest at made empty full = ap (λ x. front ++ x ∷ rest) (sym (full v refl))
 entry_done wanted (Some v) false is none n front rest at made empty full = let o = is v refl in absurd (cc o)
@@ -180,8 +192,10 @@ absent_entries fs [] n front is = refl
 absent_entries fs (item ∷ items) n front is =
     let made = call_entry item (value_given n fs) in
     ap (λ (q : Items). absent_to (n + 1) (numbers fs) items q)
-    (entry_done (must_be_given item.kind && item.condition) (value_given n fs) (is_in n (numbers fs)) (given_so n fs) (none_so n fs) n front
-    (given_slots (n + 1) fs items) is made (call_entry_none item (value_given n fs)) (call_entry_some item (value_given n fs))
+    (entry_done (must_be_given item.kind && item.condition) (value_given n fs) (is_in n (numbers fs)) (given_so n fs)
+    (none_so n fs) n front
+    (given_slots (n + 1) fs items) is made (call_entry_none item (value_given n fs))
+    (call_entry_some item (value_given n fs))
     ∙ sym (append_assoc front (made ∷ []) (given_slots (n + 1) fs items)))
     ∙ absent_entries fs items (n + 1) (front ++ made ∷ []) (length_append front (made ∷ []) ∙ ap (λ k. k + 1) is)
     ∙ append_assoc front (made ∷ []) (call_input (n + 1) fs items)
@@ -190,7 +204,8 @@ absent_entries fs (item ∷ items) n front is =
 pub passed_input_is : (fs : List (ℕ × Value)) (items : List ItemDecl) → IsTrue (all_differ (numbers fs))
     → absent_to 0 (numbers fs) items (passed_to fs (no_values items)) ≡ call_input 0 fs items
 passed_input_is fs items differ =
-    ap (λ (q : Items). absent_to 0 (numbers fs) items q) (passed_fields fs items differ) ∙ absent_entries fs items 0 [] refl
+    ap (λ (q : Items). absent_to 0 (numbers fs) items q) (passed_fields fs items differ)
+    ∙ absent_entries fs items 0 [] refl
 
 -- an input that has values where they must be given, and elsewhere only where they may be, one entry for each item
 abbrev pub IsGivable : ItemDecl → Option Value → Type 0

@@ -1,6 +1,7 @@
--- The places of code that is laid: the shape of each, and whether one may jump there; and what each instruction keeps to.
-use Rattle.std.proofs.Common.{◌≡◌, ℕ, ◌+◌, ◌-◌, nat_lt, ◌||◌, Bool, true, false, IsTrue, List, [], ◌∷◌, ◌++◌, Option, Some, None}
-use Rattle.std.proofs.Common.{slice_get, refl}
+-- The places of code that is laid: the shape of each, and whether one may jump there; and what each instruction keeps
+-- to.
+use Rattle.std.proofs.Common.{◌≡◌, ℕ, ◌+◌, ◌-◌, nat_lt, ◌||◌, Bool, true, false, IsTrue, List, [], ◌∷◌, Option}
+use Rattle.std.proofs.Common.{Some, None, slice_get, refl}
 use Rattle.cat_value.specs.Typing.{has_type}
 use Rattle.cat_scope.specs.Names.{AllHave}
 use Rattle.cat_sound.specs.LowTypes.{IsLow}
@@ -70,7 +71,8 @@ module _ (tables : Tables) (code : List Instr) (Calls : Owner → Owner → Type
 
   -- the last four of five instructions that end with `content` are no places to jump to
   abbrev pub Shut : Spots → ℕ → Instr → Type 0
-  Shut all p instr.Content = Marked false all (p - 3) × (Marked false all (p - 2) × (Marked false all (p - 1) × Marked false all p))
+  Shut all p instr.Content =
+      Marked false all (p - 3) × (Marked false all (p - 2) × (Marked false all (p - 1) × Marked false all p))
   Shut all p _ = Unit {0}
 
   -- a call is of what may be called
@@ -80,7 +82,9 @@ module _ (tables : Tables) (code : List Instr) (Calls : Owner → Owner → Type
 
   -- what an instruction keeps to beside its flow
   abbrev pub Keeps : Spots → Instr → ℕ → Shape → Type 0
-  Keeps all i p s = Jumps all p i (jump_of i) × (IsTrue (keeps_rules tables code [] p i) × (Shut all p i × MayCall s.owner (called_by s.owner i)))
+  Keeps all i p s =
+      Jumps all p i (jump_of i)
+      × (IsTrue (keeps_rules tables code [] p i) × (Shut all p i × MayCall s.owner (called_by s.owner i)))
 
   -- an instruction at a place with a shape flows, only to places whose shapes it meets, and keeps to the rest
   pub record IsKept (all : Spots) (i : Instr) (p : ℕ) (s : Shape) : Type 0 where

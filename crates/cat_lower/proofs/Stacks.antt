@@ -1,5 +1,5 @@
 -- Lists on the operand stack and among the local names.
-use Rattle.std.proofs.Common.{◌≡◌, ℕ, zero, suc, ◌+◌, ◌-◌, List, [], ◌∷◌, ◌++◌, length, take, map, Some, refl, sym, ap}
+use Rattle.std.proofs.Common.{◌≡◌, ℕ, suc, ◌+◌, ◌-◌, List, [], ◌∷◌, ◌++◌, length, take, map, Some, refl, ap}
 use Rattle.std.proofs.Common.{◌∙◌, arith, slice_get}
 use Rattle.cat_value.specs.declared.value.Value.{Value}
 use Rattle.cat_code.specs.States.{State, Next}
@@ -49,7 +49,8 @@ pub dropped : {A : Type 0} (xs ys : List A) (n : ℕ) → n ≡ length ys → ta
 dropped xs ys n is = let e = length_append xs ys in take_front xs ys (length (xs ++ ys) - n) (omega arith)
 
 -- the first name behind the local names
-pub read_behind : {A : Type 0} (xs : List A) (y : A) (ys : List A) (n : ℕ) → n ≡ length xs → slice_get (xs ++ y ∷ ys) n ≡ Some y
+pub read_behind : {A : Type 0} (xs : List A) (y : A) (ys : List A) (n : ℕ) → n ≡ length xs
+    → slice_get (xs ++ y ∷ ys) n ≡ Some y
 read_behind [] y ys n is = ap (λ m. slice_get (y ∷ ys) m) is
 read_behind (x ∷ xs) y ys n is =
     let m : n ≡ suc (length xs) = omega arith in

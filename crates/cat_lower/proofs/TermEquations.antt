@@ -15,7 +15,8 @@ pub code_Empty : (at : TermStanding) → term_code at leaf.Empty ≡ nothing
 unfolding term_code
 code_Empty at = search (rules, term.the_lemmas, fold_out-DefaultTerm Coded (term_by at))
 
-pub code_Consequence : (at : TermStanding) (number : ℕ) (p : Pos) (e : Expr) → term_code at (leaf.Consequence number p e)
+pub code_Consequence : (at : TermStanding) (number : ℕ) (p : Pos) (e : Expr)
+    → term_code at (leaf.Consequence number p e)
     ≡ then_code (value_code at e) (one (instr.Hold (at.here.definitions + number)))
 unfolding term_code
 code_Consequence at number p e = search (rules, term.the_lemmas, fold_out-DefaultTerm Coded (term_by at))

@@ -1,6 +1,6 @@
 -- A typed expression is lowered with its type, where its empty lists stand where a type is expected.
-use Rattle.std.proofs.Common.{◌≡◌, ℕ, Bool, true, false, ◌&&◌, List, [], ◌∷◌, ◌++◌, map, Option, None, Some, is_some, refl}
-use Rattle.std.proofs.Common.{sym, ap, ◌∙◌, subst, true≢false, slice_get}
+use Rattle.std.proofs.Common.{◌≡◌, ℕ, Bool, true, false, ◌&&◌, List, [], ◌∷◌, ◌++◌, map, Option, None, Some, is_some}
+use Rattle.std.proofs.Common.{refl, sym, ap, ◌∙◌, true≢false}
 use Rattle.std.proofs.Math.Logic.{⊎_elim}
 use Rattle.cat_value.specs.declared.ty.Ty.{Ty}
 use Rattle.cat_value.specs.declared.ty.Ty.TheVariants as flat
@@ -9,7 +9,6 @@ use Rattle.cat_value.specs.declared.ty.Ty.TheViews.{out-Ty}
 use Rattle.cat_value.specs.declared.declaration.ItemDecl.{ItemDecl}
 use Rattle.cat_value.specs.declared.declaration.Kind.{Kind}
 use Rattle.cat_value.specs.declared.decls.Decls.{Decls}
-use Rattle.cat_value.specs.Entries.{content_of}
 use Rattle.cat_scope.specs.declared.operators.BinaryOp.{BinaryOp}
 use Rattle.cat_scope.specs.declared.operators.BinaryOp.TheVariants as binary
 use Rattle.cat_scope.specs.declared.expr.ArmPattern.{ArmPattern}
@@ -21,19 +20,22 @@ use Rattle.cat_scope.specs.Signatures.{Signature, signatures_of}
 use Rattle.cat_scope.specs.Fitting.{ArmLocals}
 use Rattle.cat_scope.specs.HasType.{HasType, AllHaveType, ArmsHaveType}
 use Rattle.cat_scope.specs.HasType as typed
-use Rattle.cat_scope.specs.Expected.{lists_placed, row_placed, all_placed}
-use Rattle.cat_scope.proofs.Exported.{arms_placed, later_arms_placed, placed_Field, placed_If, placed_Match, placed_List, placed_Map}
-use Rattle.cat_scope.proofs.Exported.{placed_Filter, placed_Combine}
+use Rattle.cat_scope.specs.Expected.{lists_placed, row_placed}
+use Rattle.cat_scope.proofs.Exported.{arms_placed, placed_Field, placed_If, placed_Match}
+use Rattle.cat_scope.proofs.Exported.{placed_List, placed_Map, placed_Filter, placed_Combine}
 use Rattle.cat_code.specs.Places.{called_scope}
-use Rattle.cat_lower.specs.Types.{Lowering, type_or, item_type, element_in, element_type, element_expected, enumeration_in, field_in}
-use Rattle.cat_lower.specs.Types.{called_output, scope_called, content_type, arm_types, row_type, arms_type, result_of}
+use Rattle.cat_lower.specs.Types.{Lowering, type_or, item_type, element_in, element_type, element_expected}
+use Rattle.cat_lower.specs.Types.{enumeration_in, field_in, called_output, scope_called, content_type, arm_types}
+use Rattle.cat_lower.specs.Types.{row_type, arms_type, result_of}
 use Rattle.cat_lower.specs.Rows.{Standing}
 use Rattle.cat_lower.specs.Expressions.{lowered}
-use Rattle.cat_lower.proofs.LoweredEquations.{branch, branch_is, lowered_Literal, lowered_Item, lowered_Output, lowered_Local}
-use Rattle.cat_lower.proofs.LoweredEquations.{lowered_Field, lowered_Unary, lowered_Binary, lowered_And, lowered_Or, lowered_If}
-use Rattle.cat_lower.proofs.LoweredEquations.{lowered_Match, lowered_IsCase, lowered_Case_None, lowered_Case_Some, lowered_Structure}
-use Rattle.cat_lower.proofs.LoweredEquations.{lowered_List, lowered_ForAll, lowered_Exists, lowered_Map, lowered_Filter}
-use Rattle.cat_lower.proofs.LoweredEquations.{lowered_Combine, lowered_Contains, lowered_Length, lowered_Sum, lowered_Call, lowered_ScopeCall}
+use Rattle.cat_lower.proofs.LoweredEquations.{branch, branch_is, lowered_Literal, lowered_Item, lowered_Output}
+use Rattle.cat_lower.proofs.LoweredEquations.{lowered_Local, lowered_Field, lowered_Unary, lowered_Binary, lowered_And}
+use Rattle.cat_lower.proofs.LoweredEquations.{lowered_Or, lowered_If, lowered_Match, lowered_IsCase, lowered_Case_None}
+use Rattle.cat_lower.proofs.LoweredEquations.{lowered_Case_Some, lowered_Structure, lowered_List, lowered_ForAll}
+use Rattle.cat_lower.proofs.LoweredEquations.{lowered_Exists, lowered_Map, lowered_Filter, lowered_Combine}
+use Rattle.cat_lower.proofs.LoweredEquations.{lowered_Contains, lowered_Length, lowered_Sum, lowered_Call}
+use Rattle.cat_lower.proofs.LoweredEquations.{lowered_ScopeCall}
 
 -- a type that is expected is the one that is there
 abbrev pub Expects : Option Ty → Ty → Type 0
@@ -57,14 +59,16 @@ same_results binary.Equal = (refl, (refl, (refl, (refl, (refl, (refl, tt))))))
 same_results binary.Unequal = (refl, (refl, (refl, (refl, (refl, (refl, tt))))))
 same_results _ = (refl, tt)
 
-pub result_in : (x : Ty) (rows : List Signature) → AllHave (λ (r : Signature). r.result ≡ x) rows → (r : Signature) → IsOneOf r rows
+pub result_in : (x : Ty) (rows : List Signature) → AllHave (λ (r : Signature). r.result ≡ x) rows → (r : Signature)
+    → IsOneOf r rows
     → r.result ≡ x
 result_in x [] all r among = elim among [ ]
 result_in x (s ∷ rows) all r among =
     ⊎_elim (λ same. ap (λ (q : Signature). q.result) same ∙ all.0) (λ more. result_in x rows all.1 r more) among
 
 -- the local names of an arm's body
-pub arm_types_are : (ds : Decls) (n : ℕ) (p : ArmPattern) (ls inside : List Ty) → ArmLocals ds n p ls inside → arm_types ds n p ls ≡ inside
+pub arm_types_are : (ds : Decls) (n : ℕ) (p : ArmPattern) (ls inside : List Ty) → ArmLocals ds n p ls inside
+    → arm_types ds n p ls ≡ inside
 arm_types_are ds n pattern.Anything ls inside is = sym is
 arm_types_are ds n (pattern.Case k false) ls inside is = sym is.1
 arm_types_are ds n (pattern.Case k true) ls inside is =
@@ -127,7 +131,9 @@ module _ (here : Standing) where
         ap (λ (w : Lowering). w.type ls x) (lowered_If here p c a b)
         ∙ types_agree g x want (both_so (lists_placed a (is_some x)) _ parts.1).0
     types_agree {ls} (typed.matching {p = p} {e = e} {arms = arms} n g each whole) x want placed =
-        let parts = both_so (lists_placed e false) (arms_placed arms (is_some x)) (sym (placed_Match p e arms (is_some x)) ∙ placed) in
+        let parts =
+        both_so (lists_placed e false) (arms_placed arms (is_some x))
+        (sym (placed_Match p e arms (is_some x)) ∙ placed) in
         ap (λ (w : Lowering). w.type ls x) (lowered_Match here p e arms)
         ∙ ap (λ m. arms_type here.names.decls m (map (branch here) arms) ls x)
         (enumeration_of n (type_of e ls None) (types_agree g None tt parts.0))
@@ -148,12 +154,17 @@ module _ (here : Standing) where
     types_agree {ls} (typed.exists {p = p} {l = l} {test = test} t g h) x want placed =
         ap (λ (w : Lowering). w.type ls x) (lowered_Exists here p l test)
     types_agree {ls} (typed.map_each {p = p} {l = l} {e = e} {u = u} t g h declared low) x want placed =
-        let parts = both_so (lists_placed l false) (lists_placed e false) (sym (ap (λ f. f (is_some x)) (placed_Map p l e)) ∙ placed) in
+        let parts =
+        both_so (lists_placed l false) (lists_placed e false)
+        (sym (ap (λ f. f (is_some x)) (placed_Map p l e)) ∙ placed) in
         ap (λ (w : Lowering). w.type ls x) (lowered_Map here p l e)
-        ∙ ap (λ (v : Ty). ty.List (type_of e (ls ++ v ∷ []) None)) (element_of_list t (type_of l ls None) (types_agree g None tt parts.0))
+        ∙ ap (λ (v : Ty). ty.List (type_of e (ls ++ v ∷ []) None))
+        (element_of_list t (type_of l ls None) (types_agree g None tt parts.0))
         ∙ ap ty.List (types_agree h None tt parts.1)
     types_agree {ls} (typed.filter {p = p} {l = l} {test = test} t g h) x want placed =
-        let parts = both_so (lists_placed l false) (lists_placed test false) (sym (ap (λ f. f (is_some x)) (placed_Filter p l test)) ∙ placed) in
+        let parts =
+        both_so (lists_placed l false) (lists_placed test false)
+        (sym (ap (λ f. f (is_some x)) (placed_Filter p l test)) ∙ placed) in
         ap (λ (w : Lowering). w.type ls x) (lowered_Filter here p l test) ∙ types_agree g None tt parts.0
     types_agree {ls} (typed.combine {p = p} {l = l} {start = start} {e = e} t g h i) x want placed =
         let parts = both_so (lists_placed l false && lists_placed start false) (lists_placed e true)
@@ -171,14 +182,16 @@ module _ (here : Standing) where
     types_agree {ls} (typed.scope_call {p = p} {s = s} {k = k} {fs = fs} g there is) x want placed =
         ap (λ (w : Lowering). w.type ls x) (lowered_ScopeCall here p s fs k) ∙ ap item_type is.1 ∙ sym is.2
 
-    pub row_agrees : {ls : List Ty} {es : List Expr} {t : Ty} → AllHaveType here.names ls es t → (x : Option Ty) → Expects x (ty.List t)
+    pub row_agrees : {ls : List Ty} {es : List Expr} {t : Ty} → AllHaveType here.names ls es t → (x : Option Ty)
+        → Expects x (ty.List t)
         → row_placed (map lists_placed es) (is_some x) ≡ true → row_type (map (lowered here) es) ls x ≡ ty.List t
     row_agrees {t = t} typed.all_none x want placed = none_placed x (ty.List t) want placed
     row_agrees {t = t} (typed.all_more {e = e} g more) x want placed =
         ap ty.List (types_agree g (element_expected x) (expects_element x t want)
         (ap (λ b. lists_placed e b) (still_expected x) ∙ (both_so (lists_placed e (is_some x)) _ placed).0))
 
-    pub arms_agree : {ls : List Ty} {n : ℕ} {arms : List Arm} {t : Ty} → ArmsHaveType here.names ls n arms t → (x : Option Ty) → Expects x t
+    pub arms_agree : {ls : List Ty} {n : ℕ} {arms : List Arm} {t : Ty} → ArmsHaveType here.names ls n arms t
+        → (x : Option Ty) → Expects x t
         → arms_placed arms (is_some x) ≡ true → arms_type here.names.decls n (map (branch here) arms) ls x ≡ t
     arms_agree {t = t} typed.arms_none x want placed = none_placed x t want placed
     arms_agree {ls} {n} (typed.arms_more {a = a} inside is g more) x want placed =

@@ -11,7 +11,8 @@ use Rattle.cat_lower.specs.Lowered.{Laid, scope_code}
 pub record Lays (old new : Draft) (at : ScopeStanding) : Type 0 where
   pub growing : Grown old.growing new.growing (scope_code at)
   pub functions : new.functions ≡ old.functions ++ function_entries at 0 at.here.names.items (ends_of old.growing)
-  pub scopes : new.scopes ≡ old.scopes ++ (end_of (functions_code at 0 at.here.names.items) (ends_of old.growing)).place ∷ []
+  pub scopes : new.scopes ≡ old.scopes ++ (end_of (functions_code at 0 at.here.names.items) (ends_of old.growing)).place
+      ∷ []
   pub definitions : new.definitions ≡ old.definitions ++ definitions_of at.scope.terms []
 
 -- what stands there is all that was to be laid

@@ -21,9 +21,10 @@ use Rattle.cat_code.specs.OperationNumbers.{number_before, number_between, round
 use Rattle.cat_lower.specs.Laying.{Coded, one, with_constant, then_code, led, over, branch, loop}
 use Rattle.cat_lower.specs.Types.{Lowering, element_type, enumeration_in, content_type, arms_type}
 use Rattle.cat_lower.specs.FormTypes.{type_by}
-use Rattle.cat_lower.specs.Pieces.{constant, truth, operator, packed, search_for, any_turn, all_turn, of_local, pass_all, pass_absent}
-use Rattle.cat_lower.specs.Rows.{Standing, function_number, case_number, list_code, arms_code, arguments_code, params_of, fields_code}
-use Rattle.cat_lower.specs.Rows.{values_code}
+use Rattle.cat_lower.specs.Pieces.{constant, truth, operator, packed, search_for, any_turn, all_turn, of_local}
+use Rattle.cat_lower.specs.Pieces.{pass_all, pass_absent}
+use Rattle.cat_lower.specs.Rows.{Standing, function_number, case_number, list_code, arms_code, arguments_code}
+use Rattle.cat_lower.specs.Rows.{params_of, fields_code, values_code}
 
 -- begins a loop that collects values of a type
 abbrev pub collecting : Ty → Coded
@@ -55,11 +56,13 @@ code_by here (Expr-F.And p a b) locals x =
 code_by here (Expr-F.Or p a b) locals x =
     then_code (a.code locals None) (branch (λ t. instr.JumpFalse t) (truth true) (b.code locals None))
 code_by here (Expr-F.If p c a b) locals x =
-    then_code (c.code locals None) (branch (λ t. instr.JumpFalse t) (a.code locals x) (b.code locals (Some (a.type locals x))))
+    then_code (c.code locals None)
+    (branch (λ t. instr.JumpFalse t) (a.code locals x) (b.code locals (Some (a.type locals x))))
 code_by here (Expr-F.Match p e arms) locals x =
     then_code (e.code locals None) (led instr.Bind (arms_code here (enumeration_in (out-Ty (e.type locals None)))
     (arms_type here.names.decls (enumeration_in (out-Ty (e.type locals None))) arms locals x) arms locals x))
-code_by here (Expr-F.IsCase p e n k) locals x = then_code (e.code locals None) (one (instr.IsCase (case_number here n k)))
+code_by here (Expr-F.IsCase p e n k) locals x =
+    then_code (e.code locals None) (one (instr.IsCase (case_number here n k)))
 code_by here (Expr-F.Case p n k content) locals x = case_code here n k content locals
 code_by here (Expr-F.Structure p n fields) locals x =
     then_code (values_code (fields_code (field_type here.names.decls n) fields locals))
@@ -107,4 +110,5 @@ code_by here (Expr-F.ScopeCall p s fields k) locals x =
 -- an expression, lowered
 unfoldable pub lowered : Standing → Expr → Lowering
 lowered here = fold-Expr Lowering (ArmPattern × Lowering) (ℕ × Lowering)
-    (λ y. record { type = type_by here.names y; code = code_by here y }) (λ a. (a.pattern, a.body)) (λ f. (f.field, f.value))
+    (λ y. record { type = type_by here.names y; code = code_by here y }) (λ a. (a.pattern, a.body))
+    (λ f. (f.field, f.value))

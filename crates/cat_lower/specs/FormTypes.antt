@@ -1,5 +1,5 @@
 -- The type of each form of expression.
-use Rattle.std.specs.Prelude.{ℕ, List, [], ◌∷◌, ◌++◌, Option, Some, None, slice_get}
+use Rattle.std.specs.Prelude.{ℕ, List, [], ◌∷◌, ◌++◌, Option, None, slice_get}
 use Rattle.cat_value.specs.declared.ty.Ty.{Ty}
 use Rattle.cat_value.specs.declared.ty.Ty.TheVariants as flat
 use Rattle.cat_value.specs.declared.ty.Ty.TheViews as ty
@@ -9,8 +9,8 @@ use Rattle.cat_scope.specs.declared.expr.Expr.TheOpen.{Expr-F}
 use Rattle.cat_scope.specs.Signatures.{signatures_of, given_by, summed_type}
 use Rattle.cat_scope.specs.Literals.{literal_type}
 use Rattle.cat_scope.specs.Names.{Names, output_at}
-use Rattle.cat_lower.specs.Types.{Lowering, type_or, item_type, element_type, enumeration_in, field_in, called_output, scope_called}
-use Rattle.cat_lower.specs.Types.{row_type, arms_type, result_of}
+use Rattle.cat_lower.specs.Types.{Lowering, type_or, item_type, element_type, enumeration_in, field_in, called_output}
+use Rattle.cat_lower.specs.Types.{scope_called, row_type, arms_type, result_of}
 
 -- the type of an expression, where each part is lowered in its place
 abbrev pub type_by : Names → Expr-F Lowering (ArmPattern × Lowering) (ℕ × Lowering) → List Ty → Option Ty → Ty
@@ -33,7 +33,8 @@ type_by names (Expr-F.Structure p n fields) locals expected = flat.Structure n
 type_by names (Expr-F.List p es) locals expected = row_type es locals expected
 type_by names (Expr-F.ForAll p l test) locals expected = flat.Boolean
 type_by names (Expr-F.Exists p l test) locals expected = flat.Boolean
-type_by names (Expr-F.Map p l e) locals expected = ty.List (e.type (locals ++ element_type (l.type locals None) ∷ []) None)
+type_by names (Expr-F.Map p l e) locals expected =
+    ty.List (e.type (locals ++ element_type (l.type locals None) ∷ []) None)
 type_by names (Expr-F.Filter p l test) locals expected = l.type locals None
 type_by names (Expr-F.Combine p l start e) locals expected = start.type locals None
 type_by names (Expr-F.Contains p q l e) locals expected = flat.Boolean

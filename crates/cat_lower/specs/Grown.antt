@@ -35,7 +35,8 @@ pub record Closes (start : ℕ) (x : Instr) (old new : Growing) (whole : Coded �
 
 -- behind two sides, the jumps in front of them are patched
 pub record ClosesSides (test first : ℕ) (old new : Growing) : Type 0 where
-  pub closed : (before middle : Growing) (a b : Coded) → test ≡ length before.instructions → first ≡ length middle.instructions
+  pub closed : (before middle : Growing) (a b : Coded) → test ≡ length before.instructions
+      → first ≡ length middle.instructions
       → Grown before middle (led (instr.JumpFalse 0) a) → Grown middle old (led (instr.Jump 0) b)
       → Grown before new (branch (λ t. instr.JumpFalse t) a b)
 

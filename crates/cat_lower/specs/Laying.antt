@@ -57,11 +57,13 @@ one i ends = record { instructions = i ∷ []; constants = []; positions = []; t
 
 -- an instruction that names a constant of its own
 abbrev pub with_constant : (ℕ → Instr) → Constant → Coded
-with_constant i c ends = record { instructions = i ends.constants ∷ []; constants = c ∷ []; positions = []; targets = [] }
+with_constant i c ends =
+    record { instructions = i ends.constants ∷ []; constants = c ∷ []; positions = []; targets = [] }
 
 -- an instruction that names a position of its own
 abbrev pub with_position : (ℕ → Instr) → Pos → Coded
-with_position i p ends = record { instructions = i ends.positions ∷ []; constants = []; positions = p ∷ []; targets = [] }
+with_position i p ends =
+    record { instructions = i ends.positions ∷ []; constants = []; positions = p ∷ []; targets = [] }
 
 -- an entry of a target
 abbrev pub entry : TargetEntry → Coded

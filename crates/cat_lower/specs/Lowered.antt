@@ -14,7 +14,8 @@ use Rattle.cat_code.specs.Places.{case_places, functions_in}
 use Rattle.cat_lower.specs.Laying.{Parts, Ends, Coded, joined, nothing, one, with_position, then_code, led, end_of}
 use Rattle.cat_lower.specs.Rows.{Standing}
 use Rattle.cat_lower.specs.Expressions.{lowered}
-use Rattle.cat_lower.specs.Scopes.{ScopeStanding, functions_code, function_entries, items_code, outputs_code, output_count}
+use Rattle.cat_lower.specs.Scopes.{ScopeStanding, functions_code, function_entries, items_code, outputs_code}
+use Rattle.cat_lower.specs.Scopes.{output_count}
 use Rattle.cat_lower.specs.Definitions.{definitions_of}
 
 -- an assertion

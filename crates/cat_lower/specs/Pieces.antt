@@ -1,6 +1,6 @@
 -- The code of forms, of the code of their parts.
-use Rattle.std.specs.Prelude.{ℕ, zero, suc, ◌+◌, ◌-◌, nat_eq, ◌&&◌, Bool, true, false, not, pos, List, [], ◌∷◌, ◌++◌, length}
-use Rattle.std.specs.Prelude.{Option, Some, None, if◌then◌else◌}
+use Rattle.std.specs.Prelude.{ℕ, zero, suc, ◌+◌, ◌-◌, nat_eq, ◌&&◌, Bool, true, false, not, List, [], ◌∷◌}
+use Rattle.std.specs.Prelude.{length, if◌then◌else◌}
 use Rattle.cat_pos.specs.declared.pos.Pos.{Pos}
 use Rattle.cat_value.specs.declared.value.Value.{Value}
 use Rattle.cat_value.specs.declared.value.Value.TheVariants as flat
@@ -11,10 +11,9 @@ use Rattle.cat_value.specs.declared.declaration.Enumeration.{Enumeration}
 use Rattle.cat_value.specs.declared.declaration.ItemDecl.{ItemDecl}
 use Rattle.cat_value.specs.Inputs.{must_be_given}
 use Rattle.cat_scope.specs.Names.{is_in}
-use Rattle.cat_code.specs.declared.instr.Instr.{Instr}
 use Rattle.cat_code.specs.declared.instr.Instr.TheVariants as instr
-use Rattle.cat_lower.specs.Laying.{Coded, nothing, one, with_constant, with_position, then_code, led, skip, end_of, all_code, over}
-use Rattle.cat_lower.specs.Laying.{branch, loop}
+use Rattle.cat_lower.specs.Laying.{Coded, nothing, one, with_constant, with_position, then_code, led, skip, end_of}
+use Rattle.cat_lower.specs.Laying.{over}
 
 -- a constant of its own
 abbrev pub constant : Ty → Value → Coded
@@ -54,7 +53,7 @@ abbrev pub bind_all : ℕ → Coded
 bind_all zero = nothing
 bind_all (suc n) = led instr.Bind (bind_all n)
 
--- n local names from number k on, which are there in the order of some numbers behind the first i, the last one in front
+-- n local names from number k on, in the order of some numbers behind the first i, the last one in front
 abbrev pub picked : ℕ → List ℕ → ℕ → ℕ → Coded
 picked i numbers k zero = nothing
 picked i numbers k (suc n) =
@@ -82,8 +81,8 @@ arm_body i true body =
 abbrev pub first_side : Coded → Coded
 first_side a ends = led (instr.JumpFalse (skip (end_of a (skip ends))).place) (then_code a (one (instr.Jump 0))) ends
 
--- a loop that ends at the first element for which `turn` jumps out of it, and else gives a truth value; `turn` knows the
--- place of `next` and that behind the loop
+-- a loop that ends at the first element for which `turn` jumps out of it, and else gives a truth value; `turn` knows
+-- the place of `next` and that behind the loop
 abbrev pub search_for : (ℕ → ℕ → Coded) → Bool → Coded
 search_for turn none ends =
     led (instr.Next (end_of (turn 0 0) (skip ends)).place)
@@ -121,4 +120,5 @@ absent_code false n = nothing
 abbrev pub pass_absent : ℕ → List ℕ → List ItemDecl → Coded
 pass_absent n given [] = nothing
 pass_absent n given (item ∷ items) =
-    then_code (absent_code (must_be_given item.kind && item.condition && not (is_in n given)) n) (pass_absent (n + 1) given items)
+    then_code (absent_code (must_be_given item.kind && item.condition && not (is_in n given)) n)
+    (pass_absent (n + 1) given items)

@@ -23,7 +23,8 @@ pub record ScopeStanding : Type 0 where
 
 -- a target of the scope, told at a declaration
 abbrev pub target_at : ScopeStanding → ℕ → Option ℕ → ItemDecl → TargetEntry
-target_at at item inner decl = record { target = record { scope = at.number; item = item; inner = inner }; pos = decl.pos }
+target_at at item inner decl =
+    record { target = record { scope = at.number; item = item; inner = inner }; pos = decl.pos }
 
 -- the term of a target of the scope, where it has one
 abbrev pub term_at : ScopeStanding → ℕ → Option ℕ → Option DefaultTerm

@@ -20,7 +20,8 @@ function_starts n (item ∷ items) =
 -- the numbers of the outputs among the items from number n on
 abbrev pub output_numbers : ℕ → List ItemDecl → List ℕ
 output_numbers n [] = []
-output_numbers n (item ∷ items) = if is_output item.kind then n ∷ output_numbers (n + 1) items else output_numbers (n + 1) items
+output_numbers n (item ∷ items) =
+    if is_output item.kind then n ∷ output_numbers (n + 1) items else output_numbers (n + 1) items
 
 -- the same of each scope
 abbrev pub outputs_of_each : List Scope → List (List ℕ)

@@ -14,7 +14,8 @@ use Rattle.cat_lower.specs.Pieces.{truth}
 use Rattle.cat_lower.specs.Rows.{Standing}
 use Rattle.cat_lower.specs.Expressions.{lowered}
 
--- where a term stands: also the number of its target, the type of the values that it gives, and those of its local names
+-- where a term stands: also the number of its target, the type of the values that it gives, and those of its local
+-- names
 pub record TermStanding : Type 0 where
   pub here : Standing
   pub target : ℕ

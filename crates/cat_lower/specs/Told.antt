@@ -2,8 +2,8 @@
 use Rattle.std.specs.Prelude.{List}
 use Rattle.cat_value.specs.declared.ty.Ty.{Ty}
 use Rattle.cat_lower.specs.declared.scene.LoweringScene.{LoweringScene}
-use Rattle.cat_lower.specs.declared.terms.Aim.{Aim}
-use Rattle.cat_lower.specs.declared.items.Scoped.{Scoped}
+use Rattle.cat_lower.specs.declared.terms.TypedTarget.{TypedTarget}
+use Rattle.cat_lower.specs.declared.items.NumberedScope.{NumberedScope}
 use Rattle.cat_lower.specs.Rows.{Standing}
 use Rattle.cat_lower.specs.Terms.{TermStanding}
 use Rattle.cat_lower.specs.Scopes.{ScopeStanding}
@@ -18,7 +18,7 @@ standing_at here = record {
 }
 
 -- where a term stands
-abbrev pub term_standing : LoweringScene → Aim → List Ty → TermStanding
+abbrev pub term_standing : LoweringScene → TypedTarget → List Ty → TermStanding
 term_standing here aim locals = record {
   here = standing_at here;
   target = aim.target;
@@ -27,7 +27,7 @@ term_standing here aim locals = record {
 }
 
 -- a scope that is lowered
-abbrev pub scope_standing : LoweringScene → Scoped → ScopeStanding
+abbrev pub scope_standing : LoweringScene → NumberedScope → ScopeStanding
 scope_standing here scope = record {
   number = scope.number;
   here = standing_at here;

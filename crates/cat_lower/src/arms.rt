@@ -40,8 +40,10 @@ pub fn emit_match(
         (words.enumeration_in (out-Ty ((lowered (standing_at here.now) of.now).type locals.old None)))
         (words.arms_type here.now.decls.now
         (words.enumeration_in (out-Ty ((lowered (standing_at here.now) of.now).type locals.old None)))
-        (map (λ a. (a.pattern, lowered (standing_at here.now) a.body)) arms.now) locals.old (option_copied expected.entry))
-        (map (λ a. (a.pattern, lowered (standing_at here.now) a.body)) arms.now) locals.old (option_copied expected.entry))))) }
+        (map (λ a. (a.pattern, lowered (standing_at here.now) a.body)) arms.now) locals.old
+        (option_copied expected.entry))
+        (map (λ a. (a.pattern, lowered (standing_at here.now) a.body)) arms.now) locals.old
+        (option_copied expected.entry))))) }
     ensures kept { OnOk result (locals.new ≡ locals.old) }
 {
     emit_part(here, growing, locals, of, None)?;
@@ -64,7 +66,8 @@ fn emit_arms(
 ) -> Result<(), AllocError>
     ensures grown { OnOk result (Grown growing.old growing.new
         (rows.arms_code (standing_at here.now) enumeration ty.now
-        (map (λ a. (a.pattern, lowered (standing_at here.now) a.body)) arms.now) locals.old (option_copied expected.entry))) }
+        (map (λ a. (a.pattern, lowered (standing_at here.now) a.body)) arms.now) locals.old
+        (option_copied expected.entry))) }
     ensures kept { OnOk result (locals.new ≡ locals.old) }
 {
     let ends = lay_arms(here, growing, locals, enumeration, ty, arms, expected)?;
@@ -87,7 +90,8 @@ fn lay_arms(
     ensures grown { IfOk result (λ ends. Grown growing.old
         (all_patched ends (instr.Jump (length growing.new.instructions)) growing.new)
         (rows.arms_code (standing_at here.now) enumeration ty.now
-        (map (λ a. (a.pattern, lowered (standing_at here.now) a.body)) arms.now) locals.old (option_copied expected.entry))) }
+        (map (λ a. (a.pattern, lowered (standing_at here.now) a.body)) arms.now) locals.old
+        (option_copied expected.entry))) }
     ensures within { IfOk result (All (λ at. at < length growing.new.instructions)) }
     ensures kept { OnOk result (locals.new ≡ locals.old) }
 {
@@ -123,10 +127,12 @@ fn emit_arm(
     expected: Option<&Ty>,
 ) -> Result<usize, AllocError>
     ensures grown { OnOk result (Grown growing.old growing.new
-        (led (instr.Local (length locals.old)) (led (instr.IsCase (rows.case_number (standing_at here.now) enumeration case))
+        (led (instr.Local (length locals.old))
+        (led (instr.IsCase (rows.case_number (standing_at here.now) enumeration case))
         (first_side (arm_body (length locals.old) (words.is_bound arm.now.pattern)
         ((lowered (standing_at here.now) arm.now.body).code
-        (words.arm_types here.now.decls.now enumeration arm.now.pattern locals.old) (option_copied expected.entry))))))) }
+        (words.arm_types here.now.decls.now enumeration arm.now.pattern locals.old)
+        (option_copied expected.entry))))))) }
     ensures place { IfOk result (λ at. at + 1 ≡ length growing.new.instructions) }
     ensures kept { OnOk result (locals.new ≡ locals.old) }
 {
@@ -197,7 +203,8 @@ fn emit_plain(
     expected: Option<&Ty>,
 ) -> Result<(), AllocError>
     ensures grown { OnOk result (Grown growing.old growing.new
-        (led (instr.Drop 1) ((lowered (standing_at here.now) body.now).code locals.old (option_copied expected.entry)))) }
+        (led (instr.Drop 1) ((lowered (standing_at here.now) body.now).code locals.old
+        (option_copied expected.entry)))) }
     ensures kept { OnOk result (locals.new ≡ locals.old) }
 {
     put(growing, Instr::Drop(1))?;

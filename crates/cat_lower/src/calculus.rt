@@ -9,7 +9,7 @@ ghost use Rattle.cat_lower.specs.Lowered.{IsCodeOf, standing, scopes_laid, calc_
 use crate::cases::case_places;
 use crate::definitions::definitions_of;
 use crate::growing::fitting;
-use crate::items::Scoped;
+use crate::items::NumberedScope;
 use crate::scopes::emit_scope;
 use crate::starts::{case_starts, function_starts, outputs_of_each};
 use crate::{Growing, LoweringScene};
@@ -36,7 +36,7 @@ fn lay_scope(
     case_starts: &Numbers,
     outputs: &NumberLists,
     scope: &Scope,
-    scoped: &Scoped,
+    scoped: &NumberedScope,
 ) -> Result<(), AllocError>
     requires cases { case_starts.now ≡ starts.case_starts 0 decls.now.enumerations }
     requires outputs { outputs.now ≡ starts.outputs_of_each decls.now.scopes }
@@ -96,7 +96,7 @@ fn lay_scopes(alloc: Global, decls: &Decls, scopes: &CalcScopes) -> Result<Draft
             return Ok(draft);
         };
         let number = fitting(number)?;
-        let scoped = Scoped { number, terms };
+        let scoped = NumberedScope { number, terms };
         lay_scope(
             alloc,
             &mut draft,

@@ -38,7 +38,8 @@ pub fn close_loop(growing: &mut Growing, start: usize) -> Result<(), AllocError>
 /// Behind the test of a loop that ends where the test is true.
 pub fn close_any(growing: &mut Growing, start: usize) -> Result<(), AllocError>
     requires { start < length growing.old.instructions }
-    ensures { OnOk result (Closes start (instr.Next 0) growing.old growing.new (λ test. search_for (any_turn test) false)) }
+    ensures { OnOk result (Closes start (instr.Next 0) growing.old growing.new
+        (λ test. search_for (any_turn test) false)) }
 {
     let back = fitting(start)?;
     let test = put_open(growing, Instr::JumpFalse(0))?;
@@ -59,7 +60,8 @@ pub fn close_any(growing: &mut Growing, start: usize) -> Result<(), AllocError>
 /// Behind the test of a loop that ends where the test is false.
 pub fn close_all(growing: &mut Growing, start: usize) -> Result<(), AllocError>
     requires { start < length growing.old.instructions }
-    ensures { OnOk result (Closes start (instr.Next 0) growing.old growing.new (λ test. search_for (all_turn test) true)) }
+    ensures { OnOk result (Closes start (instr.Next 0) growing.old growing.new
+        (λ test. search_for (all_turn test) true)) }
 {
     let back = fitting(start)?;
     let test = put_open(growing, Instr::JumpFalse(0))?;

@@ -7,11 +7,11 @@ ghost use Rattle.cat_lower.specs.Told.{standing_at};
 use crate::LoweringScene;
 use crate::growing::{added, fitting};
 use crate::scene::tables_are_made;
-use cat_value::{ItemDecl, Kind, Tys};
+use cat_value::{ItemDecl, Kind};
 use std::alloc::AllocError;
 
-/// The number of a function among those of all scopes, by its item. Want of memory is answered too where there is no such
-/// item, which no expression names.
+/// The number of a function among those of all scopes, by its item. Want of memory is answered too where there is no
+/// such item, which no expression names.
 pub fn function_number(here: &LoweringScene, item: u32) -> Result<u32, AllocError>
     ensures { IfOk result (λ n. n ≡ words.function_number (standing_at here.now) item) }
 {
@@ -36,29 +36,9 @@ pub fn case_number(here: &LoweringScene, enumeration: u32, case: u32) -> Result<
     fitting(number)
 }
 
-fn is_called(kind: Kind) -> bool
-    ensures { result ≡ scope_words.is_called kind }
-{
-    match kind {
-        Kind::Called(_) => true,
-        Kind::Input
-        | Kind::Output
-        | Kind::Internal
-        | Kind::Context
-        | Kind::InputOutput
-        | Kind::ContextOutput => false,
-    }
-}
-
-fn has_none(params: &Tys) -> bool
-    ensures { result ≡ scope_words.has_none params.now }
-{
-    params.is_empty()
-}
-
 /// Whether an item is a function.
 pub fn is_function(item: &ItemDecl) -> bool
     ensures { result ≡ scope_words.is_function item.now }
 {
-    !is_called(item.kind) && !has_none(&item.params)
+    !matches!(item.kind, Kind::Called(_)) && !item.params.is_empty()
 }

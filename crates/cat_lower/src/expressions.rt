@@ -2,7 +2,8 @@
 ghost use Rattle.std.specs.Prelude.{◌≡◌, ◌++◌, ◌∷◌, [], true, false, Some, None, OnOk, option_map};
 ghost use Rattle.std.specs.Option.{option_copied};
 ghost use Rattle.cat_code.specs.declared.instr.Instr.TheVariants as instr;
-ghost use Rattle.cat_code.specs.OperationNumbers.{number_before as of_unary, number_between as of_binary, rounding_number as of_rounding};
+ghost use Rattle.cat_code.specs.OperationNumbers.{number_before as of_unary, number_between as of_binary};
+ghost use Rattle.cat_code.specs.OperationNumbers.{rounding_number as of_rounding};
 ghost use Rattle.cat_lower.specs.Grown.{Grown};
 ghost use Rattle.cat_lower.specs.Laying.{one, led, then_code, branch};
 ghost use Rattle.cat_lower.specs.Pieces.{operator, truth};
@@ -220,7 +221,8 @@ fn emit_and(
 ) -> Result<(), AllocError>
     ensures grown { OnOk result (Grown growing.old growing.new
         (then_code ((lowered (standing_at here.now) left.now).code locals.old None)
-        (branch (λ t. instr.JumpFalse t) ((lowered (standing_at here.now) right.now).code locals.old None) (truth false)))) }
+        (branch (λ t. instr.JumpFalse t) ((lowered (standing_at here.now) right.now).code locals.old None)
+        (truth false)))) }
     ensures kept { OnOk result (locals.new ≡ locals.old) }
 {
     emit_part(here, growing, locals, left, None)?;
@@ -241,7 +243,8 @@ fn emit_or(
 ) -> Result<(), AllocError>
     ensures grown { OnOk result (Grown growing.old growing.new
         (then_code ((lowered (standing_at here.now) left.now).code locals.old None)
-        (branch (λ t. instr.JumpFalse t) (truth true) ((lowered (standing_at here.now) right.now).code locals.old None)))) }
+        (branch (λ t. instr.JumpFalse t) (truth true)
+        ((lowered (standing_at here.now) right.now).code locals.old None)))) }
     ensures kept { OnOk result (locals.new ≡ locals.old) }
 {
     emit_part(here, growing, locals, left, None)?;
@@ -309,7 +312,8 @@ fn emit_case(
     content: &Option<Boxed<Expr>>,
 ) -> Result<(), AllocError>
     ensures grown { OnOk result (Grown growing.old growing.new
-        (case_code (standing_at here.now) enumeration case (option_map (lowered (standing_at here.now)) content.now) locals.old)) }
+        (case_code (standing_at here.now) enumeration case
+        (option_map (lowered (standing_at here.now)) content.now) locals.old)) }
     ensures kept { OnOk result (locals.new ≡ locals.old) }
 {
     match content {
@@ -328,7 +332,8 @@ fn emit_tag(
     content: &Boxed<Expr>,
 ) -> Result<(), AllocError>
     ensures grown { OnOk result (Grown growing.old growing.new
-        (case_code (standing_at here.now) enumeration case (Some (lowered (standing_at here.now) content.now)) locals.old)) }
+        (case_code (standing_at here.now) enumeration case
+        (Some (lowered (standing_at here.now) content.now)) locals.old)) }
     ensures kept { OnOk result (locals.new ≡ locals.old) }
 {
     let expected = content_type(here, enumeration, case);

@@ -110,7 +110,8 @@ fn put_local(
     fields: &FieldValues,
     place: usize,
 ) -> Result<(), AllocError>
-    ensures { OnOk result (Grown growing.old growing.new (one (instr.Local (local + ((length fields.now - place) - 1))))) }
+    ensures { OnOk result (Grown growing.old growing.new
+        (one (instr.Local (local + ((length fields.now - place) - 1))))) }
 {
     let more = fields.len().saturating_sub(place).saturating_sub(1);
     put(growing, Instr::Local(fitting(added(local, more)?)?))

@@ -21,13 +21,13 @@ use std::alloc::AllocError;
 
 /// A scope that is lowered: its number, and its terms.
 #[derive(Drop)]
-pub struct Scoped<'a> {
+pub struct NumberedScope<'a> {
     pub number: u32,
     pub terms: &'a CalcScope,
 }
 
 /// The term of a target, where it has one.
-fn term_of<'a>(scope: &Scoped<'a>, target: Target) -> Option<&'a DefaultTerm>
+fn term_of<'a>(scope: &NumberedScope<'a>, target: Target) -> Option<&'a DefaultTerm>
     ensures { option_copied result ≡ of_target scope.now.terms.now.terms target }
 {
     let terms = scope.terms.terms.get(target.item as usize)?;
@@ -38,8 +38,11 @@ fn term_of<'a>(scope: &Scoped<'a>, target: Target) -> Option<&'a DefaultTerm>
 }
 
 /// The target that an item is, or an item of the scope that it calls.
-fn entry_of(scope: &Scoped, item: u32, inner: Option<u32>, decl: &ItemDecl) -> TargetEntry
-    ensures { result ≡ record { target = record { scope = scope.now.number; item = item; inner = inner }; pos = decl.now.pos } }
+fn entry_of(scope: &NumberedScope, item: u32, inner: Option<u32>, decl: &ItemDecl) -> TargetEntry
+    ensures { result ≡ record {
+      target = record { scope = scope.now.number; item = item; inner = inner };
+      pos = decl.now.pos;
+    } }
 {
     TargetEntry {
         target: Target {
@@ -55,7 +58,7 @@ fn entry_of(scope: &Scoped, item: u32, inner: Option<u32>, decl: &ItemDecl) -> T
 fn emit_variable(
     here: &LoweringScene,
     growing: &mut Growing,
-    scope: &Scoped,
+    scope: &NumberedScope,
     item: u32,
     decl: &ItemDecl,
 ) -> Result<(), AllocError>
@@ -79,7 +82,7 @@ fn emit_variable(
 fn emit_function(
     here: &LoweringScene,
     growing: &mut Growing,
-    scope: &Scoped,
+    scope: &NumberedScope,
     item: u32,
     decl: &ItemDecl,
 ) -> Result<(), AllocError>
@@ -95,7 +98,7 @@ pub fn emit_functions(
     here: &LoweringScene,
     growing: &mut Growing,
     entries: &mut Numbers,
-    scope: &Scoped,
+    scope: &NumberedScope,
 ) -> Result<(), AllocError>
     ensures grown { OnOk result (Grown growing.old growing.new
         (words.functions_code (scope_standing here.now scope.now) 0 here.now.items.now)) }
@@ -118,7 +121,7 @@ pub fn emit_functions(
 fn emit_stored(
     here: &LoweringScene,
     growing: &mut Growing,
-    scope: &Scoped,
+    scope: &NumberedScope,
     item: u32,
     decl: &ItemDecl,
 ) -> Result<(), AllocError>
@@ -136,7 +139,7 @@ fn emit_stored(
 fn emit_given(
     here: &LoweringScene,
     growing: &mut Growing,
-    scope: &Scoped,
+    scope: &NumberedScope,
     item: u32,
     decl: &ItemDecl,
 ) -> Result<(), AllocError>
@@ -154,7 +157,7 @@ fn emit_given(
 fn emit_inner(
     here: &LoweringScene,
     growing: &mut Growing,
-    scope: &Scoped,
+    scope: &NumberedScope,
     item: u32,
     decl: &ItemDecl,
     number: u32,
@@ -185,7 +188,7 @@ fn emit_inner(
 fn emit_inners(
     here: &LoweringScene,
     growing: &mut Growing,
-    scope: &Scoped,
+    scope: &NumberedScope,
     item: u32,
     decl: &ItemDecl,
     inners: &ItemDecls,
@@ -207,13 +210,14 @@ fn emit_inners(
 fn emit_given_inners(
     here: &LoweringScene,
     growing: &mut Growing,
-    scope: &Scoped,
+    scope: &NumberedScope,
     item: u32,
     decl: &ItemDecl,
     called: u32,
 ) -> Result<(), AllocError>
     ensures { OnOk result (Grown growing.old growing.new
-        (words.inner_codes (scope_standing here.now scope.now) item decl.now 0 (scope_items here.now.decls.now called))) }
+        (words.inner_codes (scope_standing here.now scope.now) item decl.now 0
+        (scope_items here.now.decls.now called))) }
 {
     match here.decls.scopes.get(called as usize) {
         Some(called) => emit_inners(here, growing, scope, item, decl, &called.items),
@@ -225,7 +229,7 @@ fn emit_given_inners(
 fn emit_called(
     here: &LoweringScene,
     growing: &mut Growing,
-    scope: &Scoped,
+    scope: &NumberedScope,
     item: u32,
     decl: &ItemDecl,
     called: u32,
@@ -243,7 +247,7 @@ fn emit_called(
 fn emit_kind(
     here: &LoweringScene,
     growing: &mut Growing,
-    scope: &Scoped,
+    scope: &NumberedScope,
     item: u32,
     decl: &ItemDecl,
 ) -> Result<(), AllocError>
@@ -261,7 +265,7 @@ fn emit_kind(
 fn emit_item(
     here: &LoweringScene,
     growing: &mut Growing,
-    scope: &Scoped,
+    scope: &NumberedScope,
     item: u32,
 ) -> Result<(), AllocError>
     ensures { OnOk result (Grown growing.old growing.new
@@ -277,7 +281,7 @@ fn emit_item(
 pub fn emit_items(
     here: &LoweringScene,
     growing: &mut Growing,
-    scope: &Scoped,
+    scope: &NumberedScope,
 ) -> Result<(), AllocError>
     ensures { OnOk result (Grown growing.old growing.new
         (words.items_code (scope_standing here.now scope.now) scope.now.terms.now.order)) }

@@ -56,7 +56,8 @@ pub fn emit_for_all(
     ensures grown { OnOk result (Grown growing.old growing.new
         (then_code ((lowered (standing_at here.now) list.now).code locals.old None) (led instr.Iter
         (search_for (all_turn (of_local ((lowered (standing_at here.now) test.now).code
-        (locals.old ++ words.element_type ((lowered (standing_at here.now) list.now).type locals.old None) ∷ []) None))) true)))) }
+        (locals.old ++ words.element_type ((lowered (standing_at here.now) list.now).type locals.old None) ∷ []) None)))
+        true)))) }
     ensures kept { OnOk result (locals.new ≡ locals.old) }
 {
     emit_part(here, growing, locals, list, None)?;
@@ -78,7 +79,8 @@ pub fn emit_exists(
     ensures grown { OnOk result (Grown growing.old growing.new
         (then_code ((lowered (standing_at here.now) list.now).code locals.old None) (led instr.Iter
         (search_for (any_turn (of_local ((lowered (standing_at here.now) test.now).code
-        (locals.old ++ words.element_type ((lowered (standing_at here.now) list.now).type locals.old None) ∷ []) None))) false)))) }
+        (locals.old ++ words.element_type ((lowered (standing_at here.now) list.now).type locals.old None) ∷ []) None)))
+        false)))) }
     ensures kept { OnOk result (locals.new ≡ locals.old) }
 {
     emit_part(here, growing, locals, list, None)?;
@@ -182,7 +184,8 @@ pub fn emit_combine(
     ensures grown { OnOk result (Grown growing.old growing.new
         (then_code ((lowered (standing_at here.now) list.now).code locals.old None)
         (then_code ((lowered (standing_at here.now) start.now).code locals.old None)
-        (led instr.Bind (led instr.Bind (led (instr.Local (length locals.old)) (led (instr.Local (length locals.old + 1))
+        (led instr.Bind (led instr.Bind
+        (led (instr.Local (length locals.old)) (led (instr.Local (length locals.old + 1))
         (led (instr.Drop 2) (led instr.Iter
         (loop (led instr.Bind (led instr.Bind (then_code ((lowered (standing_at here.now) step.now).code
         (locals.old ++ words.element_type ((lowered (standing_at here.now) list.now).type locals.old None)

@@ -1,6 +1,7 @@
 // The numbers of operators and roundings in code, and the types of what operators give.
 ghost use Rattle.std.specs.Prelude.{◌≡◌};
-ghost use Rattle.cat_code.specs.OperationNumbers.{number_before as of_unary, number_between as of_binary, rounding_number as of_rounding};
+ghost use Rattle.cat_code.specs.OperationNumbers.{number_before as of_unary, number_between as of_binary};
+ghost use Rattle.cat_code.specs.OperationNumbers.{rounding_number as of_rounding};
 ghost use Rattle.cat_scope.specs.Signatures.{given_by, signatures_of, summed_type};
 ghost use Rattle.cat_scope.specs.Literals.{literal_type};
 ghost use Rattle.cat_lower.specs.Types.{result_of};

@@ -21,7 +21,8 @@ pub fn output_of<'a>(here: &LoweringScene<'a>, scope: u32, number: u32) -> Optio
 
 /// An output of the scope that an item calls.
 pub fn called_output<'a>(here: &LoweringScene<'a>, item: u32, number: u32) -> Option<&'a ItemDecl>
-    ensures { option_copied result ≡ of_called here.now.decls.now number (scope_called (slice_get here.now.items.now item)) }
+    ensures { option_copied result
+        ≡ of_called here.now.decls.now number (scope_called (slice_get here.now.items.now item)) }
 {
     match here.items.get(item as usize) {
         Some(

@@ -3,7 +3,8 @@ ghost use Rattle.std.specs.Prelude.{◌+◌, OnOk, length};
 ghost use Rattle.cat_scope.specs.Lists.{zero_of, adding as of_kind};
 ghost use Rattle.cat_scope.specs.Signatures.{summed_type};
 ghost use Rattle.cat_code.specs.declared.instr.Instr.TheVariants as instr;
-ghost use Rattle.cat_code.specs.OperationNumbers.{number_before as of_unary, number_between as of_binary, rounding_number as of_rounding};
+ghost use Rattle.cat_code.specs.OperationNumbers.{number_before as of_unary, number_between as of_binary};
+ghost use Rattle.cat_code.specs.OperationNumbers.{rounding_number as of_rounding};
 ghost use Rattle.cat_lower.specs.Grown.{Grown};
 ghost use Rattle.cat_lower.specs.Laying.{one, led, then_code, over};
 ghost use Rattle.cat_lower.specs.Pieces.{constant, operator};
@@ -159,7 +160,8 @@ pub fn put_adding(growing: &mut Growing, kind: SumKind, pos: Pos) -> Result<(), 
 /// Collects an element, which has this number among the local names, where its test is true.
 pub fn put_kept(growing: &mut Growing, local: u32) -> Result<(), AllocError>
     ensures { OnOk result (Grown growing.old growing.new
-        (then_code (over (λ t. instr.JumpFalse t) (led (instr.Local local) (one instr.Collect))) (one (instr.Drop 1)))) }
+        (then_code (over (λ t. instr.JumpFalse t) (led (instr.Local local) (one instr.Collect)))
+        (one (instr.Drop 1)))) }
 {
     let test = put_open(growing, Instr::JumpFalse(0))?;
     put(growing, Instr::Local(local))?;
@@ -171,7 +173,8 @@ pub fn put_kept(growing: &mut Growing, local: u32) -> Result<(), AllocError>
 
 /// A list and what stands behind it change places.
 pub fn put_exchanged(growing: &mut Growing, locals: &Tys) -> Result<(), AllocError>
-    ensures { OnOk result (Grown growing.old growing.new (led instr.Bind (led instr.Bind (led (instr.Local (length locals.now))
+    ensures { OnOk result (Grown growing.old growing.new
+        (led instr.Bind (led instr.Bind (led (instr.Local (length locals.now))
         (led (instr.Local (length locals.now + 1)) (one (instr.Drop 2))))))) }
 {
     let local = fitting(locals.len())?;

@@ -34,7 +34,8 @@ pub fn emit_list(
     expected: Option<&Ty>,
 ) -> Result<(), AllocError>
     ensures grown { OnOk result (Grown growing.old growing.new
-        (words.list_code (map (lowered (standing_at here.now)) elements.now) locals.old (option_copied expected.entry))) }
+        (words.list_code (map (lowered (standing_at here.now)) elements.now) locals.old
+        (option_copied expected.entry))) }
     ensures kept { OnOk result (locals.new ≡ locals.old) }
 {
     match elements.as_slice() {
@@ -53,7 +54,8 @@ fn put_empty(
     locals: &Tys,
     expected: Option<&Ty>,
 ) -> Result<(), AllocError>
-    ensures { OnOk result (Grown growing.old growing.new (words.list_code [] locals.now (option_copied expected.entry))) }
+    ensures { OnOk result (Grown growing.old growing.new
+        (words.list_code [] locals.now (option_copied expected.entry))) }
 {
     let ty = match expected {
         Some(ty) => copy_ty(here.alloc, ty)?,
@@ -112,7 +114,8 @@ pub fn emit_call(
     ensures grown { OnOk result (Grown growing.old growing.new
         (then_code (words.arguments_code (words.params_of (slice_get here.now.items.now function))
         (map (lowered (standing_at here.now)) arguments.now) locals.old)
-        (one (instr.Call (words.function_number (standing_at here.now) function) (length (map (lowered (standing_at here.now)) arguments.now)))))) }
+        (one (instr.Call (words.function_number (standing_at here.now) function)
+        (length (map (lowered (standing_at here.now)) arguments.now)))))) }
     ensures kept { OnOk result (locals.new ≡ locals.old) }
 {
     emit_arguments(here, growing, locals, function, arguments)?;

@@ -8,7 +8,7 @@ ghost use Rattle.cat_lower.specs.Told.{standing_at, scope_standing};
 
 use crate::expressions::emit_shared;
 use crate::growing::{added, fitting, place, put, put_assertion};
-use crate::items::{Scoped, emit_functions, emit_items};
+use crate::items::{NumberedScope, emit_functions, emit_items};
 use crate::{Growing, LoweringScene};
 use cat_code::Instr;
 use cat_pos::{List, Numbers};
@@ -74,7 +74,7 @@ fn output_count(items: &ItemDecls) -> Result<usize, AllocError>
 fn emit_scope_body(
     here: &LoweringScene,
     growing: &mut Growing,
-    scope: &Scoped,
+    scope: &NumberedScope,
 ) -> Result<(), AllocError>
     ensures { OnOk result (Grown growing.old growing.new (words.body_code (scope_standing here.now scope.now))) }
 {
@@ -92,13 +92,15 @@ pub fn emit_scope(
     growing: &mut Growing,
     functions: &mut Numbers,
     scopes: &mut Numbers,
-    scope: &Scoped,
+    scope: &NumberedScope,
 ) -> Result<(), AllocError>
     ensures grown { OnOk result (Grown growing.old growing.new (words.scope_code (scope_standing here.now scope.now))) }
     ensures functions { OnOk result (functions.new ≡ functions.old
-        ++ scope_words.function_entries (scope_standing here.now scope.now) 0 here.now.items.now (ends_of growing.old)) }
+        ++ scope_words.function_entries (scope_standing here.now scope.now) 0 here.now.items.now
+        (ends_of growing.old)) }
     ensures scopes { OnOk result (scopes.new ≡ scopes.old
-        ++ (end_of (scope_words.functions_code (scope_standing here.now scope.now) 0 here.now.items.now) (ends_of growing.old)).place ∷ []) }
+        ++ (end_of (scope_words.functions_code (scope_standing here.now scope.now) 0 here.now.items.now)
+        (ends_of growing.old)).place ∷ []) }
 {
     emit_functions(here, growing, functions, scope)?;
     let begin = place(growing)?;

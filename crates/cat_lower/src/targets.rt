@@ -8,7 +8,7 @@ ghost use Rattle.cat_lower.specs.Terms as words;
 ghost use Rattle.cat_lower.specs.Told.{standing_at, term_standing};
 
 use crate::growing::{fitting, patch, place, put, put_open, put_target, put_truth};
-use crate::terms::{Aim, emit_term};
+use crate::terms::{TypedTarget, emit_term};
 use crate::{Growing, LoweringScene};
 use cat_calc::DefaultTerm;
 use cat_code::{Instr, TargetEntry};
@@ -21,7 +21,7 @@ fn emit_judged(
     here: &LoweringScene,
     growing: &mut Growing,
     locals: &mut Tys,
-    aim: &Aim,
+    aim: &TypedTarget,
     term: Option<&DefaultTerm>,
 ) -> Result<(), AllocError>
     ensures grown { OnOk result (Grown growing.old growing.new
@@ -88,7 +88,13 @@ pub fn emit_target(
     let mut locals = copy_tys(here.alloc, params)?;
     let target = fitting(growing.targets.len())?;
     put_target(growing, entry)?;
-    emit_judged(here, growing, &mut locals, &Aim { target, ty }, term)?;
+    emit_judged(
+        here,
+        growing,
+        &mut locals,
+        &TypedTarget { target, ty },
+        term,
+    )?;
     put_taken(growing, target, condition)
 }
 
@@ -107,7 +113,13 @@ pub fn emit_context(
     let mut locals = List::new(here.alloc);
     let target = fitting(growing.targets.len())?;
     put_target(growing, entry)?;
-    emit_judged(here, growing, &mut locals, &Aim { target, ty }, term)?;
+    emit_judged(
+        here,
+        growing,
+        &mut locals,
+        &TypedTarget { target, ty },
+        term,
+    )?;
     let taken = put_open(growing, Instr::Take(0))?;
     put(growing, Instr::Pass(item))?;
     let end = place(growing)?;

@@ -19,7 +19,7 @@ use std::alloc::AllocError;
 
 /// A target by its number, with the type of what its definitions give.
 #[derive(Drop)]
-pub struct Aim<'a> {
+pub struct TypedTarget<'a> {
     pub target: u32,
     pub ty: &'a Ty,
 }
@@ -31,7 +31,7 @@ pub fn emit_term(
     here: &LoweringScene,
     growing: &mut Growing,
     locals: &mut Tys,
-    aim: &Aim,
+    aim: &TypedTarget,
     term: &DefaultTerm,
 ) -> Result<(), AllocError>
     ensures grown { OnOk result (Grown growing.old growing.new
@@ -59,7 +59,7 @@ fn emit_consequence(
     here: &LoweringScene,
     growing: &mut Growing,
     locals: &mut Tys,
-    aim: &Aim,
+    aim: &TypedTarget,
     number: u32,
     value: &Shared<Expr>,
 ) -> Result<(), AllocError>
@@ -97,7 +97,7 @@ fn emit_default(
     here: &LoweringScene,
     growing: &mut Growing,
     locals: &mut Tys,
-    aim: &Aim,
+    aim: &TypedTarget,
     exceptions: &DefaultTerms,
     justification: &Justification,
     consequence: &Boxed<DefaultTerm>,
@@ -139,7 +139,7 @@ fn emit_justified(
     here: &LoweringScene,
     growing: &mut Growing,
     locals: &mut Tys,
-    aim: &Aim,
+    aim: &TypedTarget,
     justification: &Justification,
     consequence: &Boxed<DefaultTerm>,
     checked: bool,
@@ -164,7 +164,7 @@ fn emit_where(
     here: &LoweringScene,
     growing: &mut Growing,
     locals: &mut Tys,
-    aim: &Aim,
+    aim: &TypedTarget,
     test: &Shared<Expr>,
     consequence: &Boxed<DefaultTerm>,
     checked: bool,
@@ -188,7 +188,7 @@ fn emit_checked(
     here: &LoweringScene,
     growing: &mut Growing,
     locals: &mut Tys,
-    aim: &Aim,
+    aim: &TypedTarget,
     consequence: &Boxed<DefaultTerm>,
     checked: bool,
 ) -> Result<(), AllocError>
@@ -210,7 +210,7 @@ fn emit_framed(
     here: &LoweringScene,
     growing: &mut Growing,
     locals: &mut Tys,
-    aim: &Aim,
+    aim: &TypedTarget,
     exceptions: &DefaultTerms,
     justification: &Justification,
     consequence: &Boxed<DefaultTerm>,
@@ -233,7 +233,7 @@ fn emit_exceptions(
     here: &LoweringScene,
     growing: &mut Growing,
     locals: &mut Tys,
-    aim: &Aim,
+    aim: &TypedTarget,
     exceptions: &DefaultTerms,
 ) -> Result<(), AllocError>
     ensures grown { OnOk result (Grown growing.old growing.new
@@ -252,7 +252,7 @@ fn emit_otherwise(
     here: &LoweringScene,
     growing: &mut Growing,
     locals: &mut Tys,
-    aim: &Aim,
+    aim: &TypedTarget,
     justification: &Justification,
     consequence: &Boxed<DefaultTerm>,
 ) -> Result<(), AllocError>

@@ -34,7 +34,8 @@ pub fn type_of(
     e: &Expr,
     expected: Option<&Ty>,
 ) -> Result<Ty, AllocError>
-    ensures ty { IfOk result (λ t. t ≡ (lowered (standing_at here.now) e.now).type locals.old (option_copied expected.entry)) }
+    ensures ty { IfOk result
+        (λ t. t ≡ (lowered (standing_at here.now) e.now).type locals.old (option_copied expected.entry)) }
     ensures kept { OnOk result (locals.new ≡ locals.old) }
 {
     match e {
@@ -77,7 +78,8 @@ pub fn type_of_part(
     part: &Boxed<Expr>,
     expected: Option<&Ty>,
 ) -> Result<Ty, AllocError>
-    ensures ty { IfOk result (λ t. t ≡ (lowered (standing_at here.now) part.now).type locals.old (option_copied expected.entry)) }
+    ensures ty { IfOk result
+        (λ t. t ≡ (lowered (standing_at here.now) part.now).type locals.old (option_copied expected.entry)) }
     ensures kept { OnOk result (locals.new ≡ locals.old) }
 {
     type_of(here, locals, part.get(), expected)
@@ -89,7 +91,8 @@ pub fn element_of(
     locals: &mut Tys,
     list: &Boxed<Expr>,
 ) -> Result<Ty, AllocError>
-    ensures ty { IfOk result (λ t. t ≡ words.element_type ((lowered (standing_at here.now) list.now).type locals.old None)) }
+    ensures ty { IfOk result
+        (λ t. t ≡ words.element_type ((lowered (standing_at here.now) list.now).type locals.old None)) }
     ensures kept { OnOk result (locals.new ≡ locals.old) }
 {
     let ty = type_of(here, locals, list.get(), None)?;
@@ -102,7 +105,8 @@ pub fn enumeration_of(
     locals: &mut Tys,
     of: &Boxed<Expr>,
 ) -> Result<u32, AllocError>
-    ensures number { IfOk result (λ n. n ≡ words.enumeration_in (out-Ty ((lowered (standing_at here.now) of.now).type locals.old None))) }
+    ensures number { IfOk result
+        (λ n. n ≡ words.enumeration_in (out-Ty ((lowered (standing_at here.now) of.now).type locals.old None))) }
     ensures kept { OnOk result (locals.new ≡ locals.old) }
 {
     let ty = type_of(here, locals, of.get(), None)?;
@@ -116,7 +120,9 @@ fn type_of_field(
     of: &Boxed<Expr>,
     field: u32,
 ) -> Result<Ty, AllocError>
-    ensures ty { IfOk result (λ t. t ≡ words.field_in here.now.decls.now field (out-Ty ((lowered (standing_at here.now) of.now).type locals.old None))) }
+    ensures ty { IfOk result
+        (λ t. t ≡ words.field_in here.now.decls.now field
+        (out-Ty ((lowered (standing_at here.now) of.now).type locals.old None))) }
     ensures kept { OnOk result (locals.new ≡ locals.old) }
 {
     let ty = type_of(here, locals, of.get(), None)?;
@@ -132,7 +138,8 @@ fn type_under(
     e: &Expr,
     expected: Option<&Ty>,
 ) -> Result<Ty, AllocError>
-    ensures ty { IfOk result (λ t. t ≡ (lowered (standing_at here.now) e.now).type (locals.old ++ ty ∷ []) (option_copied expected.entry)) }
+    ensures ty { IfOk result
+        (λ t. t ≡ (lowered (standing_at here.now) e.now).type (locals.old ++ ty ∷ []) (option_copied expected.entry)) }
     ensures kept { OnOk result (locals.new ≡ locals.old) }
 {
     locals.push(ty)?;
@@ -149,7 +156,8 @@ pub fn type_of_map(
     body: &Boxed<Expr>,
 ) -> Result<Ty, AllocError>
     ensures ty { IfOk result (λ t. t ≡ ty.List ((lowered (standing_at here.now) body.now).type
-        (locals.old ++ words.element_type ((lowered (standing_at here.now) list.now).type locals.old None) ∷ []) None)) }
+        (locals.old ++ words.element_type ((lowered (standing_at here.now) list.now).type locals.old None) ∷ [])
+        None)) }
     ensures kept { OnOk result (locals.new ≡ locals.old) }
 {
     let list = type_of(here, locals, list.get(), None)?;
@@ -166,7 +174,9 @@ fn type_of_row(
     elements: &Exprs,
     expected: Option<&Ty>,
 ) -> Result<Ty, AllocError>
-    ensures ty { IfOk result (λ t. t ≡ words.row_type (map (lowered (standing_at here.now)) elements.now) locals.old (option_copied expected.entry)) }
+    ensures ty { IfOk result
+        (λ t. t ≡ words.row_type (map (lowered (standing_at here.now)) elements.now) locals.old
+        (option_copied expected.entry)) }
     ensures kept { OnOk result (locals.new ≡ locals.old) }
 {
     match elements.as_slice() {
@@ -190,7 +200,8 @@ pub fn type_of_match(
 ) -> Result<Ty, AllocError>
     ensures ty { IfOk result (λ t. t ≡ words.arms_type here.now.decls.now
         (words.enumeration_in (out-Ty ((lowered (standing_at here.now) of.now).type locals.old None)))
-        (map (λ a. (a.pattern, lowered (standing_at here.now) a.body)) arms.now) locals.old (option_copied expected.entry)) }
+        (map (λ a. (a.pattern, lowered (standing_at here.now) a.body)) arms.now) locals.old
+        (option_copied expected.entry)) }
     ensures kept { OnOk result (locals.new ≡ locals.old) }
 {
     match arms.as_slice() {

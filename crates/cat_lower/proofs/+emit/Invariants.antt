@@ -44,7 +44,8 @@ abbrev pub decreases-expressions::emit_or : goal.decreases-expressions::emit_or
 decreases-expressions::emit_or l = 16 * (max (size-Expr l.left.now) (size-Expr l.right.now)) + 2
 
 abbrev pub decreases-expressions::emit_if : goal.decreases-expressions::emit_if
-decreases-expressions::emit_if l = 16 * (max (size-Expr l.test.now) (max (size-Expr l.yes.now) (size-Expr l.no.now))) + 2
+decreases-expressions::emit_if l =
+    16 * (max (size-Expr l.test.now) (max (size-Expr l.yes.now) (size-Expr l.no.now))) + 2
 
 abbrev pub decreases-expressions::emit_is_case : goal.decreases-expressions::emit_is_case
 decreases-expressions::emit_is_case l = 16 * size-Expr l.of.now + 3
@@ -74,7 +75,8 @@ abbrev pub decreases-loops::emit_step : goal.decreases-loops::emit_step
 decreases-loops::emit_step l = 16 * size-Expr l.step.now + 3
 
 abbrev pub decreases-loops::emit_combine : goal.decreases-loops::emit_combine
-decreases-loops::emit_combine l = 16 * (max (size-Expr l.list.now) (max (size-Expr l.start.now) (size-Expr l.step.now))) + 4
+decreases-loops::emit_combine l =
+    16 * (max (size-Expr l.list.now) (max (size-Expr l.start.now) (size-Expr l.step.now))) + 4
 
 abbrev pub decreases-loops::emit_contains : goal.decreases-loops::emit_contains
 decreases-loops::emit_contains l = 16 * (max (size-Expr l.list.now) (size-Expr l.of.now)) + 2
@@ -133,32 +135,46 @@ decreases-rows::emit_inputs l = 16 * most size-FieldValue l.fields.now + 1
 abbrev pub invariant-rows::emit_all-loop-element : goal.invariant-rows::emit_all-loop-element
 invariant-rows::emit_all-loop-element l = record {
   grown : (new : Growing)
-      → Grown l.growing new (all_code (map (λ o. o.code l.fn.locals (Some l.ty)) (map (lowered (standing_at l.here)) (drop l.element-index l.elements))))
-      → Grown l.fn.growing new (all_code (map (λ o. o.code l.fn.locals (Some l.ty)) (map (lowered (standing_at l.here)) l.elements)));
+      → Grown l.growing new (all_code
+      (map (λ o. o.code l.fn.locals (Some l.ty))
+      (map (lowered (standing_at l.here)) (drop l.element-index l.elements))))
+      → Grown l.fn.growing new
+      (all_code (map (λ o. o.code l.fn.locals (Some l.ty)) (map (lowered (standing_at l.here)) l.elements)));
   kept : l.locals ≡ l.fn.locals;
 }
 
 abbrev pub invariant-rows::emit_arguments-loop-number : goal.invariant-rows::emit_arguments-loop-number
 invariant-rows::emit_arguments-loop-number l = record {
   grown : (new : Growing)
-      → Grown l.growing new (arguments_code (drop l.number (params_of (slice_get l.here.items.now l.function))) (map (lowered (standing_at l.here)) (drop l.number l.arguments)) l.fn.locals)
-      → Grown l.fn.growing new (arguments_code (params_of (slice_get l.here.items.now l.function)) (map (lowered (standing_at l.here)) l.arguments) l.fn.locals);
+      → Grown l.growing new (arguments_code (drop l.number (params_of (slice_get l.here.items.now l.function)))
+      (map (lowered (standing_at l.here)) (drop l.number l.arguments)) l.fn.locals)
+      → Grown l.fn.growing new
+      (arguments_code (params_of (slice_get l.here.items.now l.function))
+      (map (lowered (standing_at l.here)) l.arguments) l.fn.locals);
   kept : l.locals ≡ l.fn.locals;
 }
 
 abbrev pub invariant-rows::emit_fields-loop-field : goal.invariant-rows::emit_fields-loop-field
 invariant-rows::emit_fields-loop-field l = record {
   grown : (new : Growing)
-      → Grown l.growing new (values_code (fields_code (field_type l.here.decls.now l.structure) (map (λ f. (f.field, lowered (standing_at l.here) f.value)) (drop l.field-index l.fields)) l.fn.locals))
-      → Grown l.fn.growing new (values_code (fields_code (field_type l.here.decls.now l.structure) (map (λ f. (f.field, lowered (standing_at l.here) f.value)) l.fields) l.fn.locals));
+      → Grown l.growing new (values_code
+      (fields_code (field_type l.here.decls.now l.structure)
+      (map (λ f. (f.field, lowered (standing_at l.here) f.value)) (drop l.field-index l.fields)) l.fn.locals))
+      → Grown l.fn.growing new
+      (values_code (fields_code (field_type l.here.decls.now l.structure)
+      (map (λ f. (f.field, lowered (standing_at l.here) f.value)) l.fields) l.fn.locals));
   kept : l.locals ≡ l.fn.locals;
 }
 
 abbrev pub invariant-rows::emit_inputs-loop-field : goal.invariant-rows::emit_inputs-loop-field
 invariant-rows::emit_inputs-loop-field l = record {
   grown : (new : Growing)
-      → Grown l.growing new (pass_all (fields_code (input_type l.here.decls.now l.scope) (map (λ f. (f.field, lowered (standing_at l.here) f.value)) (drop l.field-index l.fields)) l.fn.locals))
-      → Grown l.fn.growing new (pass_all (fields_code (input_type l.here.decls.now l.scope) (map (λ f. (f.field, lowered (standing_at l.here) f.value)) l.fields) l.fn.locals));
+      → Grown l.growing new (pass_all
+      (fields_code (input_type l.here.decls.now l.scope)
+      (map (λ f. (f.field, lowered (standing_at l.here) f.value)) (drop l.field-index l.fields)) l.fn.locals))
+      → Grown l.fn.growing new
+      (pass_all (fields_code (input_type l.here.decls.now l.scope)
+      (map (λ f. (f.field, lowered (standing_at l.here) f.value)) l.fields) l.fn.locals));
   kept : l.locals ≡ l.fn.locals;
 }
 
@@ -166,7 +182,8 @@ abbrev pub invariant-arms::lay_arms-loop-arm : goal.invariant-arms::lay_arms-loo
 invariant-arms::lay_arms-loop-arm l = record {
   grown : (new : Growing)
       → Grown l.growing new (arms_code (standing_at l.here) l.enumeration l.ty
-      (map (λ a. (a.pattern, lowered (standing_at l.here) a.body)) (drop l.arm-index l.arms)) l.fn.locals (option_copied l.wanted))
+      (map (λ a. (a.pattern, lowered (standing_at l.here) a.body)) (drop l.arm-index l.arms)) l.fn.locals
+      (option_copied l.wanted))
       → Grown l.fn.growing (all_patched l.ends (instr.Jump (length new.instructions)) new)
       (arms_code (standing_at l.here) l.enumeration l.ty
       (map (λ a. (a.pattern, lowered (standing_at l.here) a.body)) l.arms) l.fn.locals (option_copied l.expected));

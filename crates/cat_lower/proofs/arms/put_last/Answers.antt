@@ -9,7 +9,8 @@ use Rattle.cat_lower.proofs.arms.put_last.Goals as goal
 pub returns : goal.returns
 returns c =
     let copied = c.in_ok-copy_ty.field-0 in
-    let told : constant copied c.in_ok-value.value ≡ constant c.args.ty.now (default_of c.args.here.now.decls.now c.args.ty.now) =
+    let told : constant copied c.in_ok-value.value
+    ≡ constant c.args.ty.now (default_of c.args.here.now.decls.now c.args.ty.now) =
     ap (λ (t : Ty). constant t c.in_ok-value.value) c.in_ok-copy_ty.ensures
     ∙ ap (λ (v : Value). constant c.args.ty.now v) c.in_ok-value.ensures in
     then_ok _ _ _ _ _ _ (same_code _ _ _ _ told c.in_ok-put_constant.ensures) c.put.ensures

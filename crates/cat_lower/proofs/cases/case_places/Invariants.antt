@@ -4,4 +4,5 @@ use Rattle.cat_lower.proofs.cases.case_places.Given as goal
 
 abbrev pub invariant-loop-number : goal.invariant-loop-number
 invariant-loop-number l =
-    l.places ++ words.case_places l.number (drop l.number l.decls.enumerations) ≡ words.case_places 0 l.decls.enumerations
+    l.places ++ words.case_places l.number (drop l.number l.decls.enumerations)
+    ≡ words.case_places 0 l.decls.enumerations

@@ -9,4 +9,5 @@ place_term-returns-in-Consequence t c = placed_Consequence_ok _ _ _ _ _ _ _ c.in
 
 pub place_term-returns-in_ok-place_terms-in-Default : goal.place_term-returns-in_ok-place_terms-in-Default
 place_term-returns-in_ok-place_terms-in-Default t c =
-    placed_Default_ok _ _ _ _ _ _ _ _ _ c.in-Default.is c.get.ensures c.in_ok-place_terms-in-Default.ensures c.place_term.ensures
+    placed_Default_ok _ _ _ _ _ _ _ _ _ c.in-Default.is c.get.ensures c.in_ok-place_terms-in-Default.ensures
+    c.place_term.ensures

@@ -11,4 +11,5 @@ abbrev pub decreases-place_terms : goal.decreases-place_terms
 decreases-place_terms l = 2 * most size-DefaultTerm l.terms.now + 1
 
 abbrev pub invariant-place_terms-loop-term : goal.invariant-place_terms-loop-term
-invariant-place_terms-loop-term l = terms_placed (drop l.term-index l.terms) l.positions ≡ terms_placed l.terms l.fn.positions
+invariant-place_terms-loop-term l =
+    terms_placed (drop l.term-index l.terms) l.positions ≡ terms_placed l.terms l.fn.positions

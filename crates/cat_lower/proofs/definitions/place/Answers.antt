@@ -11,4 +11,5 @@ loop-positions-preserved c =
 
 pub returns : goal.returns
 returns c =
-    c.set.ensures ∙ placed_within c.args.number c.args.pos c.loop-positions.positions (search rules) ∙ c.loop-positions.invariant
+    c.set.ensures ∙ placed_within c.args.number c.args.pos c.loop-positions.positions (search rules)
+    ∙ c.loop-positions.invariant

@@ -4,4 +4,5 @@ use Rattle.cat_lower.proofs.fields.are_counted.Given as goal
 
 abbrev pub invariant-loop-number : goal.invariant-loop-number
 invariant-loop-number l =
-    words.are_counted l.number (map (λ f. f.field) (drop l.number l.fields)) ≡ words.are_counted 0 (map (λ f. f.field) l.fields)
+    words.are_counted l.number (map (λ f. f.field) (drop l.number l.fields))
+    ≡ words.are_counted 0 (map (λ f. f.field) l.fields)

@@ -1,4 +1,4 @@
-use Rattle.std.proofs.Common.{◌≡◌, ◌≤◌, drop, map, length}
+use Rattle.std.proofs.Common.{◌≡◌, drop, map}
 use Rattle.cat_lower.specs.Pieces.{indices}
 use Rattle.cat_lower.proofs.fields.first_places.Given as goal
 

@@ -1,6 +1,6 @@
-use Rattle.std.proofs.Common.{rules, ◌≡◌, ◌∙◌, ◌+◌, ◌<◌, ◌&&◌, not, ℕ, Bool, List, map, drop, length, get_or, refl, ap, sym, subst, arith}
+use Rattle.std.proofs.Common.{◌≡◌, ◌∙◌, ◌&&◌, not, ℕ, Bool, List, map, length, get_or, ap, arith}
 use Rattle.std.specs.Prelude.{nat_lt}
-use Rattle.std.proofs.lemmas.List.{drop_all, length-map}
+use Rattle.std.proofs.lemmas.List.{drop_all}
 use Rattle.cat_value.specs.declared.declaration.ItemDecl.{ItemDecl}
 use Rattle.cat_value.specs.Inputs.{must_be_given}
 use Rattle.cat_scope.specs.Names.{is_in}
@@ -25,10 +25,12 @@ loop-number-preserved c =
     let given = map (λ f. f.field) c.args.fields.now in
     let places : items ≡ indices 0 (length c.args.items.now) 0 given =
     c.as_slice-place-items.ensures ∙ c.in_ok-places.ensures ∙ ap (λ (n : ℕ). indices 0 n 0 given) c.len.ensures in
-    let long : length items ≡ length c.args.items.now = ap length places ∙ length_indices 0 (length c.args.items.now) 0 given in
+    let long : length items ≡ length c.args.items.now =
+    ap length places ∙ length_indices 0 (length c.args.items.now) 0 given in
     let told : nat_lt (get_or items i 0) c.len-in-loop-number.result ≡ is_in i given =
     ap (λ (n : ℕ). nat_lt (get_or items i 0) n) c.len-in-loop-number.ensures
-    ∙ given_at (length c.args.items.now) i (get_or items i 0) c.args.fields.now (omega (arith, long, c.loop-number-test.true))
+    ∙ given_at (length c.args.items.now) i (get_or items i 0) c.args.fields.now
+    (omega (arith, long, c.loop-number-test.true))
     (ap (λ (ps : List ℕ). get_or ps i 0) places) in
     λ new. step_on _ _ _ new _ _ _ _
     (ap (λ (all : List ItemDecl). pass_absent i given all) (rest_from c.args.items.now i item c.at.ensures))
@@ -43,4 +45,5 @@ returns c =
     ∙ length_indices 0 c.len.result 0 (map (λ f. f.field) c.args.fields.now) ∙ c.len.ensures in
     end_on _ _ _ _
     (ap (λ (items : List ItemDecl). pass_absent c.loop-number.number (map (λ f. f.field) c.args.fields.now) items)
-    (drop_all c.loop-number.number c.args.items.now (omega (arith, long, c.loop-number-test.false)))) c.loop-number.invariant
+    (drop_all c.loop-number.number c.args.items.now (omega (arith, long, c.loop-number-test.false))))
+    c.loop-number.invariant

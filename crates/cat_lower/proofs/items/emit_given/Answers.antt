@@ -8,7 +8,9 @@ use Rattle.cat_lower.proofs.items.emit_given.Goals as goal
 
 pub returns : goal.returns
 returns c =
-    let part : Coded = stored_code (scope_standing c.args.here.now c.args.scope.now) c.args.item c.args.decl.now c.args.decl.now.params in
+    let part : Coded =
+    stored_code (scope_standing c.args.here.now c.args.scope.now) c.args.item c.args.decl.now
+    c.args.decl.now.params in
     jumped _ _ _ (λ t. instr.Given c.args.item t) _ part _ _
     (grown_then _ _ _ (one (instr.Given c.args.item 0)) part c.in_ok-given.ensures.grown c.in_ok-emit_stored.ensures)
     c.in_ok-given.ensures.place c.in_ok-end.ensures c.patch.ensures

@@ -7,5 +7,6 @@ use Rattle.cat_lower.proofs.items.emit_inners.Given as goal
 
 abbrev pub invariant-loop-number : goal.invariant-loop-number
 invariant-loop-number l =
-    (new : Growing) → Grown l.growing new (inner_codes (scope_standing l.here l.scope) l.item l.decl l.number (drop l.number l.inners))
+    (new : Growing) → Grown l.growing new
+    (inner_codes (scope_standing l.here l.scope) l.item l.decl l.number (drop l.number l.inners))
     → Grown l.fn.growing new (inner_codes (scope_standing l.here l.scope) l.item l.decl 0 l.inners)

@@ -10,7 +10,8 @@ loop-item-preserved c =
     let order : List ℕ = c.args.scope.now.terms.now.order in
     let read : List ℕ = c.as_slice-item-items.result.now in
     let left = next_number order read c.loop-item.item-index 0 c.as_slice-item-items.ensures c.loop-item-test.true in
-    λ new. step_on _ _ _ new _ _ _ _ (ap (λ (ns : List ℕ). items_code (scope_standing c.args.here.now c.args.scope.now) ns) left)
+    λ new. step_on _ _ _ new _ _ _ _
+    (ap (λ (ns : List ℕ). items_code (scope_standing c.args.here.now c.args.scope.now) ns) left)
     c.loop-item.invariant c.in_ok-emit_item.ensures
 
 pub returns : goal.returns

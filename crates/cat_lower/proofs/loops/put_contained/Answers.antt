@@ -1,4 +1,3 @@
-use Rattle.cat_code.specs.declared.instr.Instr.TheVariants as instr
 use Rattle.cat_lower.proofs.Grows.{then_ok, grown_then}
 use Rattle.cat_lower.proofs.Patches.{closed_on}
 use Rattle.cat_lower.proofs.loops.put_contained.Goals as goal

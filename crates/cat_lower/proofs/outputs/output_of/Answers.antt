@@ -12,7 +12,8 @@ returns-in_err-outputs c =
     let there : slice_get here.decls.now.scopes s ≡ Some scope = search rules in
     let none : slice_get here.outputs.now s ≡ None = search rules in
     let numbers : slice_get here.outputs.now s ≡ Some (output_numbers 0 scope.items) =
-    ap (λ (l : List (List ℕ)). slice_get l s) c.tables_are_made.ensures.outputs ∙ numbers_there here.decls.now.scopes s scope there in
+    ap (λ (l : List (List ℕ)). slice_get l s) c.tables_are_made.ensures.outputs
+    ∙ numbers_there here.decls.now.scopes s scope there in
     let clash : None ≡ Some (output_numbers 0 scope.items) = sym none ∙ numbers in
     absurd (cc clash)
 
@@ -26,7 +27,8 @@ returns-in_err-item c =
     let there : slice_get here.decls.now.scopes s ≡ Some scope = search rules in
     let read : slice_get here.outputs.now s ≡ Some listed = search rules in
     let numbers : slice_get here.outputs.now s ≡ Some (output_numbers 0 scope.items) =
-    ap (λ (l : List (List ℕ)). slice_get l s) c.tables_are_made.ensures.outputs ∙ numbers_there here.decls.now.scopes s scope there in
+    ap (λ (l : List (List ℕ)). slice_get l s) c.tables_are_made.ensures.outputs
+    ∙ numbers_there here.decls.now.scopes s scope there in
     let both : Some listed ≡ Some (output_numbers 0 scope.items) = sym read ∙ numbers in
     let same : listed ≡ output_numbers 0 scope.items = cc both in
     let none : slice_get listed k ≡ None = search rules in
@@ -44,8 +46,10 @@ returns c =
     let there : slice_get here.decls.now.scopes s ≡ Some scope = search rules in
     let read : slice_get here.outputs.now s ≡ Some listed = search rules in
     let numbers : slice_get here.outputs.now s ≡ Some (output_numbers 0 scope.items) =
-    ap (λ (l : List (List ℕ)). slice_get l s) c.tables_are_made.ensures.outputs ∙ numbers_there here.decls.now.scopes s scope there in
+    ap (λ (l : List (List ℕ)). slice_get l s) c.tables_are_made.ensures.outputs
+    ∙ numbers_there here.decls.now.scopes s scope there in
     let both : Some listed ≡ Some (output_numbers 0 scope.items) = sym read ∙ numbers in
     let same : listed ≡ output_numbers 0 scope.items = cc both in
     let some : slice_get listed k ≡ Some item = search rules in
-    c.get-4.ensures.value ∙ output_read here.decls.now s k scope (Some item) there (ap (λ (l : List ℕ). slice_get l k) (sym same) ∙ some)
+    c.get-4.ensures.value ∙ output_read here.decls.now s k scope (Some item) there
+    (ap (λ (l : List ℕ). slice_get l k) (sym same) ∙ some)

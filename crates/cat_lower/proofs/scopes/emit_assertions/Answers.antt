@@ -18,8 +18,11 @@ loop-assertion-preserved c =
     let item = c.assertion-item.result in
     let test : Coded = (lowered here item.condition).code [] None in
     let assert : Coded = with_position (λ p. instr.Assert p) item.keyword in
-    let left = next all c.as_slice-assertion-items.result.now i item c.as_slice-assertion-items.ensures c.loop-assertion-test.true c.assertion-item.is in
-    λ new. step_in_two _ _ _ new _ test assert (assertions_code here (drop (i + 1) all)) _ (ap (λ (rest : List Assertion). assertions_code here rest) left)
+    let left =
+    next all c.as_slice-assertion-items.result.now i item c.as_slice-assertion-items.ensures
+    c.loop-assertion-test.true c.assertion-item.is in
+    λ new. step_in_two _ _ _ new _ test assert (assertions_code here (drop (i + 1) all)) _
+    (ap (λ (rest : List Assertion). assertions_code here rest) left)
     c.loop-assertion.invariant c.in_ok-emit_assertion.ensures
 
 pub returns : goal.returns

@@ -7,4 +7,5 @@ use Rattle.cat_lower.proofs.scopes.emit_assertions.Given as goal
 
 abbrev pub invariant-loop-assertion : goal.invariant-loop-assertion
 invariant-loop-assertion l =
-    (new : Growing) → Grown l.growing new (assertions_code (standing_at l.here) (drop l.assertion-index l.assertions)) → Grown l.fn.growing new (assertions_code (standing_at l.here) l.assertions)
+    (new : Growing) → Grown l.growing new (assertions_code (standing_at l.here) (drop l.assertion-index l.assertions))
+    → Grown l.fn.growing new (assertions_code (standing_at l.here) l.assertions)

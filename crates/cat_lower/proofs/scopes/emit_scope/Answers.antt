@@ -11,4 +11,5 @@ returns-clause-functions c = told_ok _ c.in_ok-emit_functions.ensures.entries
 pub returns-clause-scopes : goal.returns-clause-scopes
 returns-clause-scopes c =
     told_ok _ (c.in_ok-push.ensures.ok
-    ∙ ap (λ (n : ℕ). c.args.scopes.now ++ n ∷ []) (c.in_ok-begin.ensures ∙ place_behind _ _ _ c.in_ok-emit_functions.ensures.grown))
+    ∙ ap (λ (n : ℕ). c.args.scopes.now ++ n ∷ [])
+    (c.in_ok-begin.ensures ∙ place_behind _ _ _ c.in_ok-emit_functions.ensures.grown))

@@ -8,4 +8,5 @@ pub returns : goal.returns
 returns c =
     then_ok _ _ _ _ _ _ c.in_ok-emit_items.ensures (then_ok _ _ _ _ _ _ c.in_ok-emit_assertions.ensures
     (then_ok _ _ _ _ _ _ c.in_ok-put_outputs.ensures (then_ok _ _ _ _ _ _
-    (same_code _ _ _ _ (ap (λ (n : ℕ). one (instr.Pack n)) (c.in_ok-fitting.ensures ∙ c.in_ok-count.ensures)) c.in_ok-put.ensures) c.put-2.ensures)))
+    (same_code _ _ _ _ (ap (λ (n : ℕ). one (instr.Pack n)) (c.in_ok-fitting.ensures ∙ c.in_ok-count.ensures))
+    c.in_ok-put.ensures) c.put-2.ensures)))

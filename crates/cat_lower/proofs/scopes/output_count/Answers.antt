@@ -14,7 +14,8 @@ loop-item-preserved-then-not-is_output c =
     let item = c.item-item.result in
     let other : is_output item.kind ≡ false = search rules in
     no_output_next c.loop-item.count (words.output_count items) (drop n items) (drop (n + 1) items) item
-    (next items c.as_slice-item-items.result.now n item c.as_slice-item-items.ensures c.loop-item-test.true c.item-item.is) other c.loop-item.invariant
+    (next items c.as_slice-item-items.result.now n item c.as_slice-item-items.ensures c.loop-item-test.true
+    c.item-item.is) other c.loop-item.invariant
 
 pub loop-item-preserved : goal.loop-item-preserved
 loop-item-preserved c =
@@ -23,7 +24,8 @@ loop-item-preserved c =
     let item = c.item-item.result in
     let output : is_output item.kind ≡ true = search rules in
     let more = output_next c.loop-item.count (words.output_count items) (drop n items) (drop (n + 1) items) item
-    (next items c.as_slice-item-items.result.now n item c.as_slice-item-items.ensures c.loop-item-test.true c.item-item.is) output c.loop-item.invariant in
+    (next items c.as_slice-item-items.result.now n item c.as_slice-item-items.ensures c.loop-item-test.true
+    c.item-item.is) output c.loop-item.invariant in
     search (rules, more)
 
 pub returns : goal.returns

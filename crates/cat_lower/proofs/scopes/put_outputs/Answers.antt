@@ -16,8 +16,11 @@ loop-number-preserved-then-not-is_output c =
     let n = c.loop-number.number in
     let item = c.item-item.result in
     let other : is_output item.kind ≡ false = search rules in
-    let left : drop n items ≡ item ∷ drop (n + 1) items = next items c.as_slice-item-items.result.now n item c.as_slice-item-items.ensures c.loop-number-test.true c.item-item.is in
-    λ new. skip_on _ _ new _ _ _ (no_output n (drop n items) (drop (n + 1) items) item left other) c.loop-number.invariant
+    let left : drop n items ≡ item ∷ drop (n + 1) items =
+    next items c.as_slice-item-items.result.now n item c.as_slice-item-items.ensures c.loop-number-test.true
+    c.item-item.is in
+    λ new. skip_on _ _ new _ _ _
+    (no_output n (drop n items) (drop (n + 1) items) item left other) c.loop-number.invariant
 
 pub loop-number-preserved : goal.loop-number-preserved
 loop-number-preserved c =
@@ -25,8 +28,11 @@ loop-number-preserved c =
     let n = c.loop-number.number in
     let item = c.item-item.result in
     let output : is_output item.kind ≡ true = search rules in
-    let left : drop n items ≡ item ∷ drop (n + 1) items = next items c.as_slice-item-items.result.now n item c.as_slice-item-items.ensures c.loop-number-test.true c.item-item.is in
-    λ new. step_on _ _ _ new _ (one (instr.Slot n)) _ _ (an_output n (drop n items) (drop (n + 1) items) item left output) c.loop-number.invariant
+    let left : drop n items ≡ item ∷ drop (n + 1) items =
+    next items c.as_slice-item-items.result.now n item c.as_slice-item-items.ensures c.loop-number-test.true
+    c.item-item.is in
+    λ new. step_on _ _ _ new _ (one (instr.Slot n)) _ _
+    (an_output n (drop n items) (drop (n + 1) items) item left output) c.loop-number.invariant
     (same_code _ _ _ _ (ap (λ (m : ℕ). one (instr.Slot m)) c.in_ok-slot.ensures) c.in_ok-put.ensures)
 
 pub returns : goal.returns

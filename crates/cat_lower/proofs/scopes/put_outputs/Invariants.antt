@@ -6,4 +6,5 @@ use Rattle.cat_lower.proofs.scopes.put_outputs.Given as goal
 
 abbrev pub invariant-loop-number : goal.invariant-loop-number
 invariant-loop-number l =
-    (new : Growing) → Grown l.growing new (outputs_code l.number (drop l.number l.items)) → Grown l.fn.growing new (outputs_code 0 l.items)
+    (new : Growing) → Grown l.growing new (outputs_code l.number (drop l.number l.items))
+    → Grown l.fn.growing new (outputs_code 0 l.items)

@@ -15,10 +15,14 @@ returns c =
     let here = standing_at c.args.here.now in
     let target = c.in_ok-target.target in
     let judging : List Ty → ℕ → Coded
-    = λ ls v. judged_code (record { here = here; target = v; type = c.args.ty.now; locals = ls }) (option_copied c.args.term) in
+    = λ ls v. judged_code (record { here = here; target = v; type = c.args.ty.now; locals = ls })
+    (option_copied c.args.term) in
     let pass : Coded = one (instr.Pass c.args.item) in
-    let judged = same_code _ _ _ _ (ap (λ (ls : List Ty). judging ls target) c.new-locals.ensures) c.in_ok-emit_judged.ensures.grown in
-    targeted_grown _ _ _ _ (λ v. then_code (judging [] v) (over (λ t. instr.Take t) pass)) target (c.in_ok-target.ensures ∙ c.len.ensures)
+    let judged =
+    same_code _ _ _ _ (ap (λ (ls : List Ty). judging ls target) c.new-locals.ensures)
+    c.in_ok-emit_judged.ensures.grown in
+    targeted_grown _ _ _ _ (λ v. then_code (judging [] v) (over (λ t. instr.Take t) pass)) target
+    (c.in_ok-target.ensures ∙ c.len.ensures)
     c.in_ok-put_target.ensures
     (grown_then _ _ _ (judging [] target) (over (λ t. instr.Take t) pass) judged
     (jumped _ _ _ (λ t. instr.Take t) _ pass _ _

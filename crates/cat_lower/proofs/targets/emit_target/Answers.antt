@@ -14,8 +14,12 @@ returns c =
     let here = standing_at c.args.here.now in
     let target = c.in_ok-target.target in
     let judging : List Ty → ℕ → Coded
-    = λ ls v. judged_code (record { here = here; target = v; type = c.args.ty.now; locals = ls }) (option_copied c.args.term) in
+    = λ ls v. judged_code (record { here = here; target = v; type = c.args.ty.now; locals = ls })
+    (option_copied c.args.term) in
     let taking : ℕ → Coded = λ v. branch (λ t. instr.Take t) nothing (without_value v c.args.condition) in
-    let judged = same_code _ _ _ _ (ap (λ (ls : List Ty). judging ls target) c.in_ok-locals.ensures) c.in_ok-emit_judged.ensures.grown in
-    targeted_ok _ _ _ _ _ (λ v. then_code (judging c.args.params.now v) (taking v)) target (c.in_ok-target.ensures ∙ c.len.ensures)
+    let judged =
+    same_code _ _ _ _ (ap (λ (ls : List Ty). judging ls target) c.in_ok-locals.ensures)
+    c.in_ok-emit_judged.ensures.grown in
+    targeted_ok _ _ _ _ _ (λ v. then_code (judging c.args.params.now v) (taking v)) target
+    (c.in_ok-target.ensures ∙ c.len.ensures)
     c.in_ok-put_target.ensures (then_ok _ _ _ _ _ (taking target) judged c.put_taken.ensures)

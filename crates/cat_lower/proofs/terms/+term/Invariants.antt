@@ -35,7 +35,8 @@ decreases-emit_otherwise l = 8 * size-DefaultTerm l.consequence.now + 4
 abbrev pub invariant-emit_exceptions-loop-exception : goal.invariant-emit_exceptions-loop-exception
 invariant-emit_exceptions-loop-exception l = record {
   grown : (new : Growing)
-      → Grown l.growing new (all_code (map (term_code (term_standing l.here l.aim l.fn.locals)) (drop l.exception-index l.exceptions)))
+      → Grown l.growing new (all_code
+      (map (term_code (term_standing l.here l.aim l.fn.locals)) (drop l.exception-index l.exceptions)))
       → Grown l.fn.growing new (all_code (map (term_code (term_standing l.here l.aim l.fn.locals)) l.exceptions));
   kept : l.locals ≡ l.fn.locals;
 }

@@ -1,10 +1,8 @@
-use Rattle.std.proofs.Common.{◌≡◌, ◌∙◌, Option, Some, None, IfOk, sym, ap, subst}
-use Rattle.cat_scope.specs.declared.expr.Expr.{Expr}
+use Rattle.std.proofs.Common.{◌≡◌, ◌∙◌, IfOk, sym, ap, subst}
 use Rattle.cat_scope.specs.declared.expr.Expr.TheViews as expr
-use Rattle.cat_lower.specs.Expressions.{lowered}
-use Rattle.cat_lower.specs.Told.{standing_at}
 use Rattle.cat_lower.proofs.TypesOf.{told_Literal, told_Unary, told_Binary, told_And, told_Or, told_IsCase, told_Case}
-use Rattle.cat_lower.proofs.TypesOf.{told_Structure, told_ForAll, told_Exists, told_Contains, told_Length, told_Sum, told_Field, told_Match, told_Map}
+use Rattle.cat_lower.proofs.TypesOf.{told_Structure, told_ForAll, told_Exists, told_Contains, told_Length, told_Sum}
+use Rattle.cat_lower.proofs.TypesOf.{told_Field, told_Match, told_Map}
 use Rattle.cat_lower.proofs.types.+typing.Goals as goal
 
 pub type_of-returns-in-Literal-clause-ty : goal.type_of-returns-in-Literal-clause-ty
@@ -53,11 +51,15 @@ type_of-returns-in-Sum-clause-ty t c = c.summed.ensures ∙ told_Sum _ _ _ _ _ _
 
 pub type_of-returns-in-Field-clause-ty : goal.type_of-returns-in-Field-clause-ty
 type_of-returns-in-Field-clause-ty t c =
-    subst (λ u. IfOk c.type_of_field.result (λ t. t ≡ u)) (told_Field _ _ _ _ _ _ _ c.in-Field.is) c.type_of_field.ensures.ty
+    subst (λ u. IfOk c.type_of_field.result (λ t. t ≡ u))
+    (told_Field _ _ _ _ _ _ _ c.in-Field.is) c.type_of_field.ensures.ty
 
 pub type_of-returns-in-Match-clause-ty : goal.type_of-returns-in-Match-clause-ty
 type_of-returns-in-Match-clause-ty t c =
-    subst (λ u. IfOk c.type_of_match.result (λ t. t ≡ u)) (told_Match _ _ _ _ _ _ _ (c.in-Match.is ∙ ap (λ a. expr.Match c.in-Match.field-0 c.in-Match.of a) (sym c.get-in-Match.ensures))) c.type_of_match.ensures.ty
+    subst (λ u. IfOk c.type_of_match.result (λ t. t ≡ u))
+    (told_Match _ _ _ _ _ _ _
+    (c.in-Match.is ∙ ap (λ a. expr.Match c.in-Match.field-0 c.in-Match.of a) (sym c.get-in-Match.ensures)))
+    c.type_of_match.ensures.ty
 
 pub type_of-returns-in-Map-clause-ty : goal.type_of-returns-in-Map-clause-ty
 type_of-returns-in-Map-clause-ty t c =

@@ -9,4 +9,5 @@ pub returns-in-Decimals : goal.returns-in-Decimals
 unfolding lowest gcd
 returns-in-Decimals c =
     let none : c.unwrap-in-Decimals.result ≡ record { digits = 0; places = 0 } = search rules in
-    ap (λ (f : Fraction). flat.Decimal f) (c.frac_of_decimal.ensures ∙ ap (λ (n : Numeral). numeral_value n) none) ∙ sym (ap zero_of c.in-Decimals.is)
+    ap (λ (f : Fraction). flat.Decimal f) (c.frac_of_decimal.ensures ∙ ap (λ (n : Numeral). numeral_value n) none)
+    ∙ sym (ap zero_of c.in-Decimals.is)
