@@ -36,7 +36,7 @@ pub use laws::{
 };
 pub use levels::{Level, Levels};
 pub use live::{LiveGroup, LiveGroups};
-pub use living::judge_live;
+pub use living::{judge_live, live_winner};
 pub use regions::{answer_atom, whole_region};
 pub use table::{
     Atom, Atoms, InputPath, ScopeTables, Table, TableTarget, TableTargets, Term, Terms,

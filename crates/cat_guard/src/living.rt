@@ -1,9 +1,10 @@
 // How a target is judged in a region by what is live of it.
-ghost use Rattle.std.specs.Prelude.{◌≡◌, ◌<◌, IsTrue, IfSome, length, slice_get};
+ghost use Rattle.std.specs.Prelude.{◌≡◌, ◌<◌, ℕ, IsTrue, IfSome, length, slice_get};
 ghost use Rattle.std.specs.List.{list_all};
 ghost use Rattle.cat_guard.specs.Judged.{answers_in, judged_in};
 ghost use Rattle.cat_guard.specs.Valuations.{dims_of};
 ghost use Rattle.cat_guard.specs.Judgements.{IsJudgement};
+ghost use Rattle.cat_guard.specs.Verdicts.{Holds as Held};
 ghost use Rattle.cat_guard.specs.Live.{IsLiveOf, names_defs, live_verdict, lives_verdict};
 ghost use Rattle.cat_guard.specs.inside.Telling.{are_cuts_of};
 ghost use Rattle.cat_guard.specs.inside.Found.{Finds};
@@ -83,5 +84,22 @@ pub fn judge_live(table: &Table, target: u32, region: &Region, live: &LiveGroups
         MemberJudgement::Empty => Judgement::Empty,
         MemberJudgement::Conflict => Judgement::Conflict,
         MemberJudgement::Needs(atom) => Judgement::Needs(atom),
+    }
+}
+
+/// The definition that holds, by its number among the target's, as `winner` tells it, where this is live of the target there.
+/// It costs the guards of what is live.
+pub fn live_winner(table: &Table, target: u32, region: &Region, live: &LiveGroups) -> u32
+    requires target { target < length table.now.targets }
+    requires dims { region.now.dims ≡ dims_of table.now.terms }
+    requires live { IfSome (slice_get table.now.targets target)
+        (λ t. IsLiveOf t (answers_in table.now.atoms region.now) live.now) }
+    requires holds { IfSome (slice_get table.now.targets target) (λ t. (d : ℕ)
+        × (judged_in table.now.atoms region.now t ≡ Held d)) }
+    ensures { IfSome (slice_get table.now.targets target) (λ t. judged_in table.now.atoms region.now t ≡ Held result) }
+{
+    match living(table, target, region, live) {
+        MemberJudgement::Holds(number) => number,
+        _ => unreachable!(),
     }
 }
