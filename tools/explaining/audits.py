@@ -1,6 +1,6 @@
 """What an audit leaves open: the definitions that would hold, their conditions as they are written, and how it is decided."""
 import re
-from typing import Callable, Iterator, List, NamedTuple, Optional
+from typing import Callable, List, Optional
 
 from reference.audit import NUMBERS, without_positions
 from reference.grammar import tree_of
@@ -10,12 +10,11 @@ from reference.report import Region, Scoped
 from .conditions import Written
 from .notes import Note, Place
 from .pages import Pages, help_in
+from .report import Line, open_lines
 from .sources import Source
 from .witnesses import Search
 
-SECTION = re.compile(r'audit (\S+)')
-LINE = re.compile(r'(\S+): (Found|Masked|Undecided derived|Undecided called|Undecided budget) (.*)')
-AT = re.compile(r'(.*?) ?at (.*?)(?: with (\{.*\}))?(?: giving .*)?')
+AT = re.compile(r'(?:.*? )?at (.*)')
 PLACE = re.compile(r' ?(.*?):(\d+):(\d+)(?= |$)')
 OPPOSITE = {('<', '>='), ('<=', '>'), ('>', '<='), ('>=', '<'), ('=', '!='), ('!=', '=')}
 COMPARED = ('<', '<=', '>', '>=', '=', '!=')
@@ -23,27 +22,10 @@ OF_LISTS = ('for all', 'exists', 'map each', 'list of', 'combine', 'number of', 
 MOST_LEAVES, MOST_CONDITIONS = 2_000, 10
 
 
-class Line(NamedTuple):
-    """A line of a report that isn't Covered, in the section of a scope."""
-    scope: str
-    name: str
-    what: str
-    rest: str
-
-
-def lines_of(report: str) -> Iterator[Line]:
-    scope = ''
-    for text in report.split('\n'):
-        if section := SECTION.fullmatch(text):
-            scope = section[1]
-        elif found := LINE.fullmatch(text):
-            yield Line(scope, *found.groups())
-
-
-def places_in(rest: str) -> List[Place]:
+def places_in(told: str) -> List[Place]:
     """The places that a line names."""
-    found = AT.fullmatch(rest)
-    return [Place(name, int(line), int(column), int(column) + 1) for name, line, column in PLACE.findall(found[2])] if found else []
+    found = AT.fullmatch(told)
+    return [Place(name, int(line), int(column), int(column) + 1) for name, line, column in PLACE.findall(found[1])] if found else []
 
 
 class Open:
@@ -113,21 +95,21 @@ class Explained:
     def note(self, line: Line) -> Note:
         part = self.pages.of_line(line.what)
         if self.program is None:
-            return Note('reply', line.what, line.name, places_in(line.rest), [part.sentence], [part.mend])
+            return Note('reply', line.what, line.name, places_in(line.told), [part.sentence], [part.mend])
         told = {'Found': self.found, 'Masked': self.masked, 'Undecided derived': self.undecided, 'Undecided called': self.called}
         places, says, helps = told.get(line.what, lambda line: ([], [], []))(line)
         return Note('reply', line.what, line.name, places, [part.sentence, *says], helps or [part.mend])
 
     def found(self, line: Line):
-        is_conflict = line.rest.startswith('conflict')
+        is_conflict = line.told.startswith('conflict')
         places = []
-        for place in places_in(line.rest):
+        for place in places_in(line.told):
             pos = self.source.pos(place)
             places.append(self.source.without_value(pos, 'holds') if is_conflict else self.source.place(pos, label='has no value'))
         return places, [], []
 
     def masked(self, line: Line):
-        kind, place = line.rest.split()[0], places_in(line.rest)[0]
+        kind, place = line.told.split()[0], places_in(line.told)[0]
         fault = self.source.place(self.source.pos(place), label=kind)
         mend = [self.pages.of_line('Masked').mend, self.pages.of_code(kind).mend]
         opened = Open(self.program, line.scope, line.name, False)
@@ -136,12 +118,12 @@ class Explained:
     def undecided(self, line: Line):
         opened = Open(self.program, line.scope, line.name, True)
         if opened.region is None:
-            return places_in(line.rest), [], []
+            return places_in(line.told), [], []
         table = self.pages.titled('AUDIT.md', 'From derived to decided')
         helps = ['write ' + help_in(table, row) for row in opened.rows()]
         if pair := opened.opposites():
             helps.insert(0, '`not (%s)` in place of `%s`' % tuple(map(self.written.comparison, pair)))
-        at = self.source.place(self.source.pos(places_in(line.rest)[0]), label='what it hangs on')
+        at = self.source.place(self.source.pos(places_in(line.told)[0]), label='what it hangs on')
         return first(at, self.open_places(opened)), self.beside(line), helps
 
     def open_places(self, opened: Open) -> List[Place]:
@@ -165,7 +147,7 @@ class Explained:
 
     def called(self, line: Line):
         items = self.program.scopes[self.program.runs.numbers[line.scope]].items
-        return [self.source.place(i.pos, label='calls %s' % line.rest) for i in items if i.name == line.name], [], []
+        return [self.source.place(i.pos, label='calls %s' % line.told) for i in items if i.name == line.name], [], []
 
 
 def first(place: Place, others: List[Place]) -> List[Place]:
@@ -177,4 +159,4 @@ def first(place: Place, others: List[Place]) -> List[Place]:
 def notes_of(report: str, source: Source, pages: Pages, program, run: Callable[[str, str], str]) -> List[Note]:
     """What is told of each line of a report that isn't Covered; `run` gives the program's reply of a scope on an input."""
     explained = Explained(source, pages, program, run)
-    return [explained.note(line) for line in lines_of(report)]
+    return [explained.note(line) for line in open_lines(report)]

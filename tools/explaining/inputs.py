@@ -149,6 +149,13 @@ def note_of(given: Input, pages: Pages, kind: str, code: str, steps: tuple) -> N
     return Note(kind, code, part.title.partition(' ')[2], [place], [part.sentence], helps)
 
 
+def no_array(given: Input, pages: Pages, code: str) -> Note:
+    """Inputs of many runs that are no array."""
+    part, span = pages.of_code(code), Spans(given.text).by_path[()]
+    place = given.place(span.start, span.end, 'the inputs one behind the other, in brackets')
+    return Note('reply', code, part.title.partition(' ')[2], [place], [part.sentence], ['written in JSON: `[{..}, {..}]`'])
+
+
 def notes_of(given: Input, pages: Pages, code: str, path: str) -> List[Note]:
     """The refusal of an input that the reply tells, and further ones of other inputs."""
     part = pages.of_code(code)

@@ -36,6 +36,13 @@ def no_scope(source: Source, pages: Pages, name: str) -> Note:
     return Note('reply', 'no such scope', '', places, [part.sentence, *listed], near_help(name, names) + [part.mend])
 
 
+def no_target(pages: Pages, name: str, names: List[str]) -> Note:
+    """No target of a name: those that the scope has."""
+    part = pages.of_code('no such target')
+    listed = ['targets of this scope: %s' % ', '.join('`%s`' % name for name in names)] if names else []
+    return Note('reply', 'no such target', '', [], [part.sentence, *listed], near_help(name, names) + [part.mend])
+
+
 def no_file(source: Source, pages: Pages, code: str, name: str) -> Note:
     """A file that can't be taken: with the include that names it, and the file beside that one which may be meant."""
     part = pages.of_code(code)

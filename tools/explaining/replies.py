@@ -3,6 +3,7 @@ import re
 from typing import List
 
 from reference.answers import Program
+from reference.report import Scoped
 
 from . import audits, inputs, outcomes, refusals, warnings
 from .notes import Note, Place
@@ -17,6 +18,7 @@ INPUT = re.compile(r'input refused (I\d)(?: (.*))?', re.S)
 CERTIFICATE = re.compile(r'certificate refused (C\d)(?: at line (\d+))?')
 ACCEPTED = (0, 1, 2, 3, 5, 6, 7, 8)
 FILES = {9: 'no such scope ', 10: 'missing file ', 11: 'read fault ', 14: 'too large '}
+NO_TARGET = 'no such target '
 
 
 def places_in(text: str) -> List[Place]:
@@ -35,12 +37,19 @@ class Reply:
         return Program(self.source.files, self.source.main)
 
     def notes(self) -> List[Note]:
-        explained = {1: self.stopped, 2: self.stopped, 3: self.stopped, 4: self.refused, 5: self.input, 6: self.audit, 7: self.audit,
+        explained = {1: self.stopped, 2: self.stopped, 3: self.stopped, 4: self.refused, 5: self.input, 6: self.audit, 7: self.unsettled,
                      8: self.certificate, 9: self.named, 10: self.named, 11: self.named, 14: self.named}
         notes = explained[self.status]() if self.status in explained and self.words.mode != 'drill' else []
         is_built = self.source.is_small and self.status in ACCEPTED
         return notes + (warnings.warnings_of(self.source, self.pages, self.program()) if is_built else
                         warnings.of_files(self.source, self.pages))
+
+    def targets(self) -> List[str]:
+        """The names of the targets of the scope that is asked for; none where the source is too large."""
+        if not self.source.is_small:
+            return []
+        program = self.program()
+        return [target.name for target in Scoped(program, program.runs.numbers[self.words.scope], 1).table.targets]
 
     def run(self, scope: str, given: str) -> str:
         """The program's reply of a scope on another input."""
@@ -65,15 +74,23 @@ class Reply:
         code, path = INPUT.fullmatch(self.text).groups()
         name = self.words.extra or '-'
         data = self.source.files.content(name) if name != self.words.file else None  # Behind a source nothing is left.
-        if data is None or not self.source.is_small or self.words.mode == 'many':  # Of an array no part is sought.
+        if data is None or not self.source.is_small:
             part = self.pages.of_code(code)
             return [Note('reply', code, part.title.partition(' ')[2], [], [part.sentence], [part.mend])]
         given = inputs.Input(name, data, self.program(), self.words.scope)
+        if self.words.mode == 'many' and code != 'I1':
+            return [inputs.no_array(given, self.pages, code)]
         return inputs.notes_of(given, self.pages, code, path)
 
     def audit(self) -> List[Note]:
         program = self.program() if self.source.is_small else None
         return audits.notes_of(self.text, self.source, self.pages, program, self.run)
+
+    def unsettled(self) -> List[Note]:
+        if self.words.mode == 'table':
+            part = self.pages.of_line('rest not shown')
+            return [Note('reply', 'rest not shown', '', [], [part.sentence], [part.mend])]
+        return self.audit()
 
     def certificate(self) -> List[Note]:
         code, line = CERTIFICATE.fullmatch(self.text).groups()
@@ -85,6 +102,8 @@ class Reply:
         return [Note('reply', code, '', places, [part.sentence])]
 
     def named(self) -> List[Note]:
+        if self.status == 9 and self.text.startswith(NO_TARGET):
+            return [outcomes.no_target(self.pages, self.text[len(NO_TARGET):], self.targets())]
         code = FILES[self.status].strip()
         if not self.text.startswith(code):
             return [Note('reply', 'usage', '', [], [], self.pages.calls())]

@@ -3,7 +3,7 @@ import os, re
 from typing import Callable, Iterator, List, Optional, Set, Tuple
 
 from reference.checker import base_of
-from reference.grammar import Node, tree_of
+from reference.grammar import tree_of
 from reference.programs import walk
 
 from .conditions import parts_of

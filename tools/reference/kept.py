@@ -1,5 +1,5 @@
 """What the modes write of the statutes of the examples, which is kept beside each: the traces of its inputs, its tables, and what of it is
-dead; and the cases that ask for a trace, or for many inputs."""
+dead; and the cases that ask for a trace, for many inputs, or for tables."""
 from .answers import Program
 from .cases import case_folders, files_of, reply_in, words_of
 from .dead import dead
@@ -26,8 +26,8 @@ def statute_modes():
 
 
 def cases_of_modes():
-    """Each case that asks for a trace or for many inputs: its name, what it expects, and the replies that the rules allow."""
+    """Each case that asks for a trace, for many inputs or for tables: its name, what it expects, and the replies that the rules allow."""
     for case in case_folders():
         words = words_of(case)
-        if words[:1] in (['trace'], ['many']):
+        if words[:1] in (['trace'], ['many'], ['table']):
             yield case.name, reply_in(case), {text.rstrip('\n') for text, _ in replies(words, files_of(case))}

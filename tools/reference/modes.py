@@ -1,4 +1,6 @@
 """The reply and the status of each call of the program, by its words and by what its files hold."""
+import re
+
 from . import certificate, drill, report
 from .answers import replies_of
 from .dead import dead, dead_checked
@@ -11,7 +13,7 @@ from .trace import trace
 
 USAGE = drill.USAGE
 MOST_BYTES = 64 * 1024 * 1024
-LAST = {'run': '-', 'many': '-', 'trace': '-', 'check': '-', 'exec': '-', 'audit': None, 'emit': '', 'table': '', 'dead': ''}
+LAST = {'run': '-', 'many': '-', 'trace': '-', 'check': '-', 'exec': '-', 'audit': None, 'drill': None, 'emit': '', 'table': '', 'dead': ''}
 STATUSES = {'conflict': 1, 'no value': 2, 'fault': 3, 'source refused': 4, 'input refused': 5, 'certificate refused': 8, 'usage:': 9,
             'no such scope': 9, 'no such target': 9, 'missing file': 10, 'too large': 14, 'listing refused': 15}
 VERDICTS = {'Complete': 0, 'Found': 6, 'Masked': 7, 'Undecided': 7}
@@ -33,7 +35,7 @@ def taken(words):
         word = left.pop(0)
         if word == '--cases' or word.startswith('--cases='):
             number = word[len('--cases='):] if '=' in word else left.pop(0) if left else ''
-            if budget is not None or not number.isdecimal() or not 1 <= int(number) <= 1_000_000:
+            if budget is not None or not re.fullmatch(r'\+?[0-9]+', number) or not 1 <= int(number) <= 1_000_000:
                 return None
             budget = int(number)
         elif word == '--':
@@ -118,8 +120,8 @@ class Call:
 
 def replies(words, files):
     """What the program may write, and the status with which it ends then: one reply, but where a place is left open."""
-    if words[:1] == ['drill']:
-        line = drill.drill(words[1:])
-        return {(line + '\n', status_of(line))}
     call = taken(words)
+    if call and call[0] == 'drill':
+        line = drill.drill(call[1:3])
+        return {(line + '\n', status_of(line))}
     return Call(files, call).replies() if call else {(USAGE + '\n', 9)}

@@ -1,6 +1,6 @@
 -- What follows from the answers of the top call.
 use Rattle.std.proofs.Common.{◌≡◌, ◌∙◌, ◌≤◌, ◌<◌, ℕ, List, refl, sym, ap, subst, inl, inr, arith, ⊎_elim}
-use Rattle.std.specs.Prelude.{◌⊎◌, Option, Some, None, IsSomeAnd, IfSome, IsNone, IsTrue, length}
+use Rattle.std.specs.Prelude.{Option, Some, None, IsSomeAnd, IfSome, IsNone, IsTrue, length}
 use Rattle.std.specs.Io.KnownBytes.{Appends}
 use Rattle.cat_pos.specs.Limits.{most_input_bytes}
 use Rattle.cat_io.specs.Shelf.{Shelved}
@@ -17,12 +17,13 @@ use Rattle.cat_weave.specs.declared.source.Source.{Source}
 use Rattle.cat_weave.specs.Gathered.{Contents, Whole, gathered, limit_after}
 use Rattle.cat_weave.specs.Causes.{ComesTo}
 use Rattle.cat_build.specs.Accepted.{IsAccepted}
-use Rattle.cat_app.specs.Words.{Ask, OfBands, OfScope, Request, ask_of, reads_extra, request_in, runs_scope}
+use Rattle.cat_app.specs.Modes.{reads_extra, runs_scope, shows_tables}
+use Rattle.cat_app.specs.Words.{Ask, OfBands, OfScope, Request, ask_of, request_in}
 use Rattle.cat_app.specs.Asked.{IsSource, IsExtra, IsReadNow}
 use Rattle.cat_app.specs.Answers.{IsOutcome, IsRefusedFile, IsRefusedSource, IsNoScope}
 use Rattle.cat_app.specs.Audits.{HasReport, IsAudited, audit_text, status_at}
 use Rattle.cat_app.specs.Table.{AnswersAtOnce, MayAnswer, MayAnswerTo, MayReply}
-use Rattle.cat_app.specs.declared.request.Mode.TheVariants.{Audit, Check, Emit, Many}
+use Rattle.cat_app.specs.declared.request.Mode.TheVariants.{Audit, Check, Emit, Many, OneTable}
 use Rattle.cat_app.proofs.ToldSources.{AreNotAccepted, EndingsAreTold, IsOneProgram, no_refused_file, no_refused_source}
 use Rattle.cat_app.proofs.ToldSources.{scope_is_there, told_program, told_scope, told_source}
 use Rattle.cat_app.specs.Complete.{EndsCheck, IsToldCheck, IsToldScope}
@@ -115,8 +116,9 @@ module _ (one_program : IsOneProgram) (not_accepted : AreNotAccepted) (endings :
       not_longer (old.content name) limit (limit_after now.0) now.2
       (files old.content request.file name source now.0 told.source_told now.1) long
 
-  pub refused_usage : (text : List ℕ) → MayReply words old new status.Usage text → ⊥
-  refused_usage text may = no_scope text (answer_is status.Usage text may)
+  -- the scope is there, so that only a target may be missing
+  pub refused_usage : (request.mode ≡ OneTable → ⊥) → (text : List ℕ) → MayReply words old new status.Usage text → ⊥
+  refused_usage other text may = ⊎_elim (no_scope text) (λ t. other t.mode) (answer_is status.Usage text may)
 
   pub refused_source : (text : List ℕ) → MayReply words old new status.Source text → ⊥
   refused_source text may = ⊎_elim (no_file text) (no_source text) (answer_is status.Source text may)
@@ -172,6 +174,12 @@ module _ (one_program : IsOneProgram) (not_accepted : AreNotAccepted) (endings :
     not_many : request.mode ≡ Many → ⊥
     not_many many = cc (many, audits)
 
+    not_table : IsTrue (shows_tables request.mode) → ⊥
+    not_table shows = cc (ap shows_tables audits, shows)
+
+    not_one_table : request.mode ≡ OneTable → ⊥
+    not_one_table one = cc (one, audits)
+
     not_read : IsTrue (reads_extra request.mode) → ⊥
     not_read reads = cc (ap reads_extra audits, reads)
 
@@ -182,7 +190,8 @@ module _ (one_program : IsOneProgram) (not_accepted : AreNotAccepted) (endings :
         → EndsAudit sink sunk request source program scope ended
     ends_audit status.Fine is = ⊎_elim (λ o. absurd (no_outcome status.Fine is.0 o))
         (⊎_elim (λ a. report_written status.Fine is.0 a is.2)
-        (⊎_elim (λ k. absurd (not_check k.mode)) (λ l. absurd (not_emit l.mode))))
+        (⊎_elim (λ k. absurd (not_check k.mode))
+        (⊎_elim (λ l. absurd (not_emit l.mode)) (λ d. absurd (not_table d.mode)))))
         (answer_is status.Fine is.0 is.1)
     ends_audit status.Conflict is =
         absurd (no_outcome status.Conflict is.0 (answer_is status.Conflict is.0 is.1))
@@ -195,11 +204,11 @@ module _ (one_program : IsOneProgram) (not_accepted : AreNotAccepted) (endings :
         ⊎_elim (λ i. absurd (not_run i.mode)) (λ a. absurd (not_many a.mode)) (answer_is status.Input is.0 is.1)
     ends_audit status.Found is =
         report_written status.Found is.0 (answer_is status.Found is.0 is.1) is.2
-    ends_audit status.Unsettled is =
-        report_written status.Unsettled is.0 (answer_is status.Unsettled is.0 is.1) is.2
+    ends_audit status.Unsettled is = ⊎_elim (λ a. report_written status.Unsettled is.0 a is.2)
+        (λ d. absurd (not_table d.mode)) (answer_is status.Unsettled is.0 is.1)
     ends_audit status.Certificate is =
         let refused = answer_is status.Certificate is.0 is.1 in absurd (not_check refused.mode)
-    ends_audit status.Usage is = absurd (refused_usage is.0 is.1)
+    ends_audit status.Usage is = absurd (refused_usage not_one_table is.0 is.1)
     ends_audit status.Missing is =
         let read = answer_is status.Missing is.0 is.1 in
         absurd (none_missing not_read read.name read.limit read.now read.read.2)
@@ -258,6 +267,12 @@ module _ (one_program : IsOneProgram) (not_accepted : AreNotAccepted) (endings :
     check_emits : request.mode ≡ Emit → ⊥
     check_emits emits = cc (emits, check.mode)
 
+    check_tables : IsTrue (shows_tables request.mode) → ⊥
+    check_tables shows = cc (ap shows_tables check.mode, shows)
+
+    check_one_table : request.mode ≡ OneTable → ⊥
+    check_one_table one = cc (one, check.mode)
+
     no_outcome_checked : (ended : Status) (text : List ℕ) → IsOutcome request old new ended text → ⊥
     no_outcome_checked ended text o = check_runs o.mode
 
@@ -268,7 +283,8 @@ module _ (one_program : IsOneProgram) (not_accepted : AreNotAccepted) (endings :
         → EndsCheck sink sunk program scope extra ended
     ends_check status.Fine is = ⊎_elim (λ o. absurd (no_outcome_checked status.Fine is.0 o))
         (⊎_elim (λ a. absurd (no_audit_checked status.Fine is.0 a))
-        (⊎_elim (λ k. (is.0, said_here HasCertificate is.0 k, is.2.taken)) (λ l. absurd (check_emits l.mode))))
+        (⊎_elim (λ k. (is.0, said_here HasCertificate is.0 k, is.2.taken))
+        (⊎_elim (λ l. absurd (check_emits l.mode)) (λ d. absurd (check_tables d.mode)))))
         (answer_is status.Fine is.0 is.1)
     ends_check status.Conflict is = absurd
         (no_outcome_checked status.Conflict is.0 (answer_is status.Conflict is.0 is.1))
@@ -281,14 +297,14 @@ module _ (one_program : IsOneProgram) (not_accepted : AreNotAccepted) (endings :
         ⊎_elim (λ i. absurd (check_runs i.mode)) (λ a. absurd (check_many a.mode)) (answer_is status.Input is.0 is.1)
     ends_check status.Found is = absurd
         (no_audit_checked status.Found is.0 (answer_is status.Found is.0 is.1))
-    ends_check status.Unsettled is = absurd
-        (no_audit_checked status.Unsettled is.0 (answer_is status.Unsettled is.0 is.1))
+    ends_check status.Unsettled is = absurd (⊎_elim (no_audit_checked status.Unsettled is.0)
+        (λ d. check_tables d.mode) (answer_is status.Unsettled is.0 is.1))
     ends_check status.Certificate is = (
       is.0,
       said_here HasNoCertificate is.0 (answer_is status.Certificate is.0 is.1),
       is.2.taken,
     )
-    ends_check status.Usage is = absurd (refused_usage is.0 is.1)
+    ends_check status.Usage is = absurd (refused_usage check_one_table is.0 is.1)
     ends_check status.Missing is =
         let read = answer_is status.Missing is.0 is.1 in
         absurd (not_missing extra check.extra_told check.extra_short read.name read.limit read.now read.read.2)

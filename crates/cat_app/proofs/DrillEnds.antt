@@ -66,9 +66,9 @@ module _ (one_program : IsOneProgram) (not_accepted : AreNotAccepted) (endings :
       (no_refused_file endings (bands_shelf bands) (bands_shelf bands) bands_request source told.source_told is.0)
       (no_refused_source not_accepted endings (bands_shelf bands) (bands_shelf bands) bands_request source program
       told.source_told told.accepted is.0) (drill_is status.Source is.0 is.1))
-  ends_drill status.Usage is = absurd (scope_is_there one_program endings (bands_shelf bands) (bands_shelf bands)
-      bands_request source program scope told.source_told told.accepted told.named is.0
-      (drill_is status.Usage is.0 is.1))
+  ends_drill status.Usage is = absurd (⊎_elim (scope_is_there one_program endings (bands_shelf bands)
+      (bands_shelf bands) bands_request source program scope told.source_told told.accepted told.named is.0)
+      (λ t. cc t.mode) (drill_is status.Usage is.0 is.1))
   ends_drill status.Found is = absurd (drill_is status.Found is.0 is.1)
   ends_drill status.Unsettled is = absurd (drill_is status.Unsettled is.0 is.1)
   ends_drill status.Certificate is = absurd (drill_is status.Certificate is.0 is.1)

@@ -5,7 +5,8 @@ use Rattle.cat_io.specs.Shelf.{Shelved}
 use Rattle.cat_io.specs.Sink.{Sunk}
 use Rattle.cat_scope.specs.declared.programs.Program.{Program}
 use Rattle.cat_weave.specs.declared.source.Source.{Source}
-use Rattle.cat_app.specs.Words.{Request, reads_extra, runs_scope}
+use Rattle.cat_app.specs.Modes.{reads_extra, runs_scope, shows_tables}
+use Rattle.cat_app.specs.Words.{Request}
 use Rattle.cat_app.specs.Complete.{IsToldScope}
 use Rattle.cat_app.specs.EmitEnds.{EndsEmit}
 use Rattle.cat_app.specs.Listings.{IsListed, ListsCode}
@@ -28,7 +29,7 @@ module _ (one_program : IsOneProgram) (not_accepted : AreNotAccepted) (endings :
 
   no_usage : (text : List ℕ) → MayReply words old new status.Usage text → ⊥
   no_usage = refused_usage one_program not_accepted endings files words old new sink sunk request source program scope
-      told
+      told (λ one. cc (one, emits))
 
   no_refusal : (text : List ℕ) → MayReply words old new status.Source text → ⊥
   no_refusal = refused_source one_program not_accepted endings files words old new sink sunk request source program
@@ -42,6 +43,9 @@ module _ (one_program : IsOneProgram) (not_accepted : AreNotAccepted) (endings :
 
   checks : request.mode ≡ Check → ⊥
   checks is = cc (is, emits)
+
+  tables : IsTrue (shows_tables request.mode) → ⊥
+  tables is = cc (ap shows_tables emits, is)
 
   unread : IsTrue (reads_extra request.mode) → ⊥
   unread reads = cc (ap reads_extra emits, reads)
@@ -71,7 +75,8 @@ module _ (one_program : IsOneProgram) (not_accepted : AreNotAccepted) (endings :
   pub ends_emit : (ended : Status) → AnswersAtOnce words old new sink sunk ended → EndsEmit sink sunk source program ended
   ends_emit status.Fine is = ⊎_elim (λ o. absurd (runs o.mode))
       (⊎_elim (λ a. absurd (audits a.mode))
-      (⊎_elim (λ k. absurd (checks k.mode)) (λ l. (is.0, code_listed is.0 l, is.2.taken))))
+      (⊎_elim (λ k. absurd (checks k.mode))
+      (⊎_elim (λ l. (is.0, code_listed is.0 l, is.2.taken)) (λ d. absurd (tables d.mode)))))
       (answered status.Fine is.0 is.1)
   ends_emit status.Conflict is = let o = answered status.Conflict is.0 is.1 in absurd (runs o.mode)
   ends_emit status.NoValue is = let o = answered status.NoValue is.0 is.1 in absurd (runs o.mode)
@@ -80,7 +85,8 @@ module _ (one_program : IsOneProgram) (not_accepted : AreNotAccepted) (endings :
   ends_emit status.Input is =
       ⊎_elim (λ i. absurd (runs i.mode)) (λ a. absurd (many a.mode)) (answered status.Input is.0 is.1)
   ends_emit status.Found is = let o = answered status.Found is.0 is.1 in absurd (audits o.mode)
-  ends_emit status.Unsettled is = let o = answered status.Unsettled is.0 is.1 in absurd (audits o.mode)
+  ends_emit status.Unsettled is =
+      ⊎_elim (λ a. absurd (audits a.mode)) (λ d. absurd (tables d.mode)) (answered status.Unsettled is.0 is.1)
   ends_emit status.Certificate is = let o = answered status.Certificate is.0 is.1 in absurd (checks o.mode)
   ends_emit status.Usage is = absurd (no_usage is.0 is.1)
   ends_emit status.Missing is =

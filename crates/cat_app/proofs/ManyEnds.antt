@@ -1,14 +1,14 @@
 -- What follows from the answers to one who asked for the outcomes of a scope on many inputs.
-use Rattle.std.proofs.Common.{◌≡◌, ◌∙◌, ◌≤◌, ◌<◌, ℕ, zero, suc, List, [], ◌∷◌, take, sym, ap, subst, ⊎_elim}
-use Rattle.std.specs.Prelude.{Option, Some, Ok, IfSome, IsNone, IsSomeAnd, IsTrue, length}
+use Rattle.std.proofs.Common.{◌≡◌, ◌∙◌, ◌<◌, ℕ, zero, suc, List, [], ◌∷◌, take, sym, ap, subst, ⊎_elim}
+use Rattle.std.specs.Prelude.{Ok, IfSome, IsNone, IsSomeAnd, IsTrue, length}
 use Rattle.std.specs.Io.KnownBytes.{Appends}
-use Rattle.cat_pos.specs.Limits.{most_input_bytes}
 use Rattle.cat_io.specs.Shelf.{Shelved}
 use Rattle.cat_io.specs.Sink.{Sunk}
 use Rattle.cat_scope.specs.declared.programs.Program.{Program}
 use Rattle.cat_json.specs.InputsRead.{inputs_read}
 use Rattle.cat_weave.specs.declared.source.Source.{Source}
-use Rattle.cat_app.specs.Words.{Request, request_of, runs_scope}
+use Rattle.cat_app.specs.Modes.{runs_scope, shows_tables}
+use Rattle.cat_app.specs.Words.{Request, request_of}
 use Rattle.cat_app.specs.Asked.{IsAsked, IsExtra, IsReadNow}
 use Rattle.cat_app.specs.Many.{AnswersByLine, AreLines, IsAskedMany, IsRefusedArray, ReadInput}
 use Rattle.cat_app.specs.ManyEnds.{EndsMany, IsToldMany, WritesLines}
@@ -43,7 +43,7 @@ module _ (one_program : IsOneProgram) (not_accepted : AreNotAccepted) (endings :
 
   no_usage : (text : List ℕ) → MayReply words old new status.Usage text → ⊥
   no_usage = refused_usage one_program not_accepted endings files words old new sink sunk request source program scope
-      many.told
+      many.told (λ one. cc (one, many.mode))
 
   no_refusal : (text : List ℕ) → MayReply words old new status.Source text → ⊥
   no_refusal = refused_source one_program not_accepted endings files words old new sink sunk request source program
@@ -73,6 +73,9 @@ module _ (one_program : IsOneProgram) (not_accepted : AreNotAccepted) (endings :
 
   lists : request.mode ≡ Emit → ⊥
   lists is = cc (is, many.mode)
+
+  tables : IsTrue (shows_tables request.mode) → ⊥
+  tables is = cc (ap shows_tables many.mode, is)
 
   -- what is read of the array is this
   module _ (others : Source) (other : Program) (number : ℕ) (bytes : List ℕ)
@@ -122,7 +125,8 @@ module _ (one_program : IsOneProgram) (not_accepted : AreNotAccepted) (endings :
   at_once : (ended : Status) → AnswersAtOnce words old new sink sunk ended
       → EndsMany sink sunk source program scope inputs ended
   at_once status.Fine is = ⊎_elim (λ o. absurd (runs o.mode))
-      (⊎_elim (λ a. absurd (audits a.mode)) (⊎_elim (λ k. absurd (checks k.mode)) (λ l. absurd (lists l.mode))))
+      (⊎_elim (λ a. absurd (audits a.mode)) (⊎_elim (λ k. absurd (checks k.mode))
+      (⊎_elim (λ l. absurd (lists l.mode)) (λ d. absurd (tables d.mode)))))
       (answered status.Fine is.0 is.1)
   at_once status.Conflict is = let o = answered status.Conflict is.0 is.1 in absurd (runs o.mode)
   at_once status.NoValue is = let o = answered status.NoValue is.0 is.1 in absurd (runs o.mode)
@@ -131,7 +135,8 @@ module _ (one_program : IsOneProgram) (not_accepted : AreNotAccepted) (endings :
   at_once status.Input is =
       ⊎_elim (λ i. absurd (runs i.mode)) (λ a. absurd (no_array is.0 a)) (answered status.Input is.0 is.1)
   at_once status.Found is = let a = answered status.Found is.0 is.1 in absurd (audits a.mode)
-  at_once status.Unsettled is = let a = answered status.Unsettled is.0 is.1 in absurd (audits a.mode)
+  at_once status.Unsettled is =
+      ⊎_elim (λ a. absurd (audits a.mode)) (λ d. absurd (tables d.mode)) (answered status.Unsettled is.0 is.1)
   at_once status.Certificate is = let k = answered status.Certificate is.0 is.1 in absurd (checks k.mode)
   at_once status.Usage is = absurd (no_usage is.0 is.1)
   at_once status.Missing is =

@@ -1,7 +1,7 @@
 -- The lines of many inputs, as they are put one by one.
-use Rattle.std.proofs.Common.{◌≡◌, ◌≢◌, ◌∙◌, ◌≤◌, ◌<◌, ◌+◌, ℕ, zero, suc, true, false, List, [], ◌∷◌, ◌++◌, length, take}
-use Rattle.std.proofs.Common.{refl, sym, ap, subst, arith}
-use Rattle.std.specs.Prelude.{Option, Some, None, Ok, Err, Result, IfSome, is_some, option_map, slice_get, ⊤}
+use Rattle.std.proofs.Common.{◌≡◌, ◌≢◌, ◌∙◌, ◌+◌, ℕ, zero, suc, true, false, List, [], ◌∷◌, ◌++◌}
+use Rattle.std.proofs.Common.{length, take, refl, sym, ap, subst, arith}
+use Rattle.std.specs.Prelude.{Option, Some, None, Ok, Err, Result, IfSome, is_some, option_map, slice_get}
 use Rattle.std.specs.Result.{is_err}
 use Rattle.std.specs.List.{concat}
 use Rattle.std.specs.Io.KnownBytes.{Appends}
@@ -13,7 +13,6 @@ use Rattle.serde_json.specs.Data.{Data, Items, no_items, item}
 use Rattle.serde_json.specs.Find.{as_array}
 use Rattle.cat_io.specs.Sink.{FailedAt, Puts, Shrinks, Sunk, Took}
 use Rattle.cat_io.specs.declared.sink.SinkFault.{SinkFault}
-use Rattle.cat_value.specs.declared.value.Value.{Value}
 use Rattle.cat_value.specs.declared.outcome.Outcome.{Outcome}
 use Rattle.cat_value.specs.declared.decls.Decls.{Decls}
 use Rattle.cat_value.specs.declared.declaration.ItemDecl.{ItemDecl}
@@ -24,11 +23,10 @@ use Rattle.cat_code.specs.declared.code.Code.{Code}
 use Rattle.cat_machine.specs.ForPrograms.{IsCodeFor}
 use Rattle.cat_json.specs.declared.refusal.InputRefusal.{InputRefusal}
 use Rattle.cat_json.specs.declared.refusal.InputRefusal.TheVariants as refused
-use Rattle.cat_json.specs.declared.refusal.PartRefusal.{PartRefusal}
 use Rattle.cat_json.specs.declared.refusal.Reason.{Reason}
 use Rattle.cat_json.specs.declared.refusal.Reason.TheVariants as reason
 use Rattle.cat_json.specs.Paths.{Reading, path_text}
-use Rattle.cat_json.specs.InputsRead.{AreWellTyped, Input, answered, array_inputs, each_input, input_in, inputs_read}
+use Rattle.cat_json.specs.InputsRead.{AreWellTyped, Input, answered, array_inputs, each_input, input_in}
 use Rattle.cat_json.specs.InputsRead.{items_of, json_of, read_from, refusal_of}
 use Rattle.cat_app.specs.Many.{AreLines, ReadInput, TookFirst, outcome_line, element_line}
 use Rattle.cat_app.specs.inside.Reading.{AreRead, IsReadInput, PutsEach, TookLines}

@@ -30,7 +30,8 @@ use Rattle.cat_build.specs.Accepted.{IsAccepted}
 use Rattle.cat_build.specs.Built.{IsBuiltOf}
 use Rattle.cat_words.specs.Asked.{IsCases}
 use Rattle.cat_words.proofs.Exported.{cases_within}
-use Rattle.cat_app.specs.Words.{Request, IsMost, reads_extra, runs_scope}
+use Rattle.cat_app.specs.Modes.{reads_extra, runs_scope}
+use Rattle.cat_app.specs.Words.{Request, IsMost}
 use Rattle.cat_app.specs.Asked.{IsSource, IsExtra, IsAsked, IsReadNow}
 use Rattle.cat_app.specs.declared.request.Mode.{Mode}
 use Rattle.cat_app.specs.declared.request.Mode.TheVariants as modes
@@ -104,7 +105,7 @@ pub no_scope : (request : Request) (old new : Shelved) (source : Source) (progra
     → IsSource request old source → IsAccepted source.pieces program
     → number_named request.scope 0 program.decls.scopes ≡ None → new ≡ old
     → Says Usage (line (codes "no such scope ") request.scope) reply → MaySay request old new reply
-no_scope request old new source program reply read accepted unnamed same says = rw says.0 (record {
+no_scope request old new source program reply read accepted unnamed same says = rw says.0 (inl (record {
   source = source;
   program = program;
   source_read = read;
@@ -112,7 +113,7 @@ no_scope request old new source program reply read accepted unnamed same says = 
   unnamed = unnamed;
   untouched = same;
   reply = says.1;
-})
+}))
 
 -- the scope is there
 pub asked_for : (request : Request) (old : Shelved) (source : Source) (built : Built) (scope : ℕ)
@@ -140,6 +141,8 @@ run_reads modes.Audit is = is
 run_reads modes.Check is = refl
 run_reads modes.Emit is = is
 run_reads modes.Many is = refl
+run_reads modes.AllTables is = is
+run_reads modes.OneTable is = is
 
 -- the input is none of the scope's
 pub no_input : (request : Request) (old new : Shelved) (source : Source) (program : Program) (scope : ℕ)
@@ -224,8 +227,8 @@ an_outcome request old new source program scope extra input reply extra_read sam
 report_answers : (request : Request) (old new : Shelved) (v : Verdict) (text : List ℕ)
     → IsAudited request old new (status_at v) text → MayAnswer request old new (status_at v) text
 report_answers request old new verdict.Found text is = is
-report_answers request old new verdict.Masked text is = is
-report_answers request old new verdict.Undecided text is = is
+report_answers request old new verdict.Masked text is = inl is
+report_answers request old new verdict.Undecided text is = inl is
 report_answers request old new verdict.Complete text is = inr (inl is)
 
 -- the number of cases is the most leaves
@@ -294,7 +297,7 @@ pub a_listing : (request : Request) (old new : Shelved) (source : Source) (built
     → new ≡ old → IsBuiltOf source.pieces built → Says Fine (listing built.code source.files) reply
     → IsAsked request old source built.program scope → request.mode ≡ Emit → MaySay request old new reply
 a_listing request old new source built scope reply same is says asked mode =
-    rw says.0 (inr (inr (inr (record {
+    rw says.0 (inr (inr (inr (inl (record {
       source = source;
       program = built.program;
       scope = scope;
@@ -302,7 +305,7 @@ a_listing request old new source built scope reply same is says asked mode =
       asked = asked;
       lists = record { code = built.code; code_is = is.code; text_is = says.1 };
       untouched = same;
-    }))))
+    })))))
 
 -- ---- scopes by name
 

@@ -10,7 +10,8 @@ use Rattle.cat_scope.specs.declared.programs.Program.{Program}
 use Rattle.cat_json.specs.InputsRead.{input_read}
 use Rattle.cat_answer.specs.Answer.{answer_of}
 use Rattle.cat_weave.specs.declared.source.Source.{Source}
-use Rattle.cat_app.specs.Words.{Request, runs_scope}
+use Rattle.cat_app.specs.Modes.{runs_scope, shows_tables}
+use Rattle.cat_app.specs.Words.{Request}
 use Rattle.cat_app.specs.Asked.{IsExtra, IsReadNow}
 use Rattle.cat_app.specs.Answers.{IsOutcome, IsRefusedInput, TellsOutcome}
 use Rattle.cat_app.specs.Lines.{line}
@@ -20,11 +21,18 @@ use Rattle.cat_app.specs.TraceEnds.{EndsTrace, IsToldTrace}
 use Rattle.cat_app.specs.Table.{AnswersAtOnce, MayAnswer, MayReply}
 use Rattle.cat_app.specs.declared.request.Mode.{Mode}
 use Rattle.cat_app.specs.declared.request.Mode.TheVariants.{Run, Audit, Check, Emit, EmitRun, Trace, Many}
+use Rattle.cat_app.specs.declared.request.Mode.TheVariants.{AllTables, OneTable}
 use Rattle.cat_app.specs.declared.status.Status.{Status}
 use Rattle.cat_app.specs.declared.status.Status.TheVariants as status
 use Rattle.cat_app.proofs.Complete.{FilesAreTold, answer_is, extra_is, not_large, not_missing, program_of}
 use Rattle.cat_app.proofs.Complete.{refused_source, refused_usage, scope_of, source_is}
 use Rattle.cat_app.proofs.ToldSources.{AreNotAccepted, EndingsAreTold, IsOneProgram}
+
+-- a mode that runs the scope shows no tables
+runs_none : (mode : Mode) → IsTrue (runs_scope mode) → IsTrue (shows_tables mode) → ⊥
+runs_none AllTables runs shows = cc runs
+runs_none OneTable runs shows = cc runs
+runs_none _ runs shows = cc shows
 
 module _ (one_program : IsOneProgram) (not_accepted : AreNotAccepted) (endings : EndingsAreTold) (files : FilesAreTold)
     (words : List (List ℕ)) (old new : Shelved) (sink sunk : Sunk) (request : Request) (source : Source)
@@ -38,7 +46,7 @@ module _ (one_program : IsOneProgram) (not_accepted : AreNotAccepted) (endings :
 
   no_usage : (text : List ℕ) → MayReply words old new status.Usage text → ⊥
   no_usage = refused_usage one_program not_accepted endings files words old new sink sunk request source program scope
-      told
+      told (λ one. cc (ap runs_scope one, runs))
 
   no_refusal : (text : List ℕ) → MayReply words old new status.Source text → ⊥
   no_refusal = refused_source one_program not_accepted endings files words old new sink sunk request source program
@@ -68,6 +76,9 @@ module _ (one_program : IsOneProgram) (not_accepted : AreNotAccepted) (endings :
 
   lists : request.mode ≡ Emit → ⊥
   lists is = cc (ap runs_scope is, runs)
+
+  tables : IsTrue (shows_tables request.mode) → ⊥
+  tables = runs_none request.mode runs
 
   -- what is read of the input is this
   read_as : (other : Program) (number : ℕ) (bytes : List ℕ) → program ≡ other → scope ≡ number → bytes ≡ extra
@@ -113,7 +124,8 @@ module _ (one_program : IsOneProgram) (not_accepted : AreNotAccepted) (endings :
 
   ends_fine : (text : List ℕ) → MayReply words old new status.Fine text → Took sink sunk text → Ends status.Fine
   ends_fine text may took = ⊎_elim (λ o. ends_told status.Fine text o took)
-      (⊎_elim (λ a. absurd (audits a.mode)) (⊎_elim (λ k. absurd (checks k.mode)) (λ l. absurd (lists l.mode))))
+      (⊎_elim (λ a. absurd (audits a.mode)) (⊎_elim (λ k. absurd (checks k.mode))
+      (⊎_elim (λ l. absurd (lists l.mode)) (λ d. absurd (tables d.mode)))))
       (answered status.Fine text may)
 
   -- ---- of a run
@@ -143,7 +155,8 @@ module _ (one_program : IsOneProgram) (not_accepted : AreNotAccepted) (endings :
     ends_run status.Input is =
         ⊎_elim (λ i. absurd (no_input is.0 i)) (λ a. absurd (many a.mode)) (answered status.Input is.0 is.1)
     ends_run status.Found is = let a = answered status.Found is.0 is.1 in absurd (audits a.mode)
-    ends_run status.Unsettled is = let a = answered status.Unsettled is.0 is.1 in absurd (audits a.mode)
+    ends_run status.Unsettled is =
+        ⊎_elim (λ a. absurd (audits a.mode)) (λ d. absurd (tables d.mode)) (answered status.Unsettled is.0 is.1)
     ends_run status.Certificate is = let k = answered status.Certificate is.0 is.1 in absurd (checks k.mode)
     ends_run status.Usage is = absurd (no_usage is.0 is.1)
     ends_run status.Missing is =
@@ -181,7 +194,8 @@ module _ (one_program : IsOneProgram) (not_accepted : AreNotAccepted) (endings :
     ends_so status.Input is =
         ⊎_elim (λ i. absurd (no_input is.0 i)) (λ a. absurd (many a.mode)) (answered status.Input is.0 is.1)
     ends_so status.Found is = let a = answered status.Found is.0 is.1 in absurd (audits a.mode)
-    ends_so status.Unsettled is = let a = answered status.Unsettled is.0 is.1 in absurd (audits a.mode)
+    ends_so status.Unsettled is =
+        ⊎_elim (λ a. absurd (audits a.mode)) (λ d. absurd (tables d.mode)) (answered status.Unsettled is.0 is.1)
     ends_so status.Certificate is = let k = answered status.Certificate is.0 is.1 in absurd (checks k.mode)
     ends_so status.Usage is = absurd (no_usage is.0 is.1)
     ends_so status.Missing is =

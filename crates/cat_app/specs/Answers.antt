@@ -19,7 +19,8 @@ use Rattle.cat_build.specs.declared.code.FaultCode.{FaultCode}
 use Rattle.cat_build.specs.Accepted.{IsAccepted}
 use Rattle.cat_build.specs.Causes.{StandsAt}
 use Rattle.cat_build.specs.Codes.{number_of}
-use Rattle.cat_app.specs.Words.{Request, runs_scope}
+use Rattle.cat_app.specs.Modes.{runs_scope}
+use Rattle.cat_app.specs.Words.{Request}
 use Rattle.cat_app.specs.Lines.{gathering_line, input_line, line, refusal_line, status_of}
 use Rattle.cat_app.specs.declared.request.Mode.{Mode}
 use Rattle.cat_app.specs.Asked.{IsSource, IsExtra, IsAsked, IsReadNow}

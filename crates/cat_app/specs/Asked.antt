@@ -8,7 +8,8 @@ use Rattle.cat_weave.specs.declared.source.Source.{Source}
 use Rattle.cat_weave.specs.Gathered.{Whole, limit_after}
 use Rattle.cat_weave.specs.Causes.{ComesTo, HasEnding}
 use Rattle.cat_build.specs.Accepted.{IsAccepted}
-use Rattle.cat_app.specs.Words.{Request, reads_extra}
+use Rattle.cat_app.specs.Modes.{reads_extra}
+use Rattle.cat_app.specs.Words.{Request}
 
 -- this may be what is gathered of the main file
 abbrev pub IsSource : Request → Shelved → Source → Type 0

@@ -4,12 +4,15 @@ pub mod Answers
 pub mod Audits
 pub mod Checks
 pub mod Listings
+pub mod TargetTables
 pub mod Drills
 pub mod Asked
+pub mod Modes
 pub mod Words
 pub mod Status
 pub mod Complete
 pub mod AuditEnds
+pub mod TableEnds
 pub mod DrillEnds
 pub mod Limits
 pub mod EmitEnds

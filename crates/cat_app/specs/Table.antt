@@ -10,6 +10,7 @@ use Rattle.cat_app.specs.Audits.{IsAudited}
 use Rattle.cat_app.specs.Checks.{HasCertificate, HasNoCertificate, IsChecked}
 use Rattle.cat_app.specs.Listings.{IsListed}
 use Rattle.cat_app.specs.Many.{AnswersByLine, IsRefusedArray}
+use Rattle.cat_app.specs.TargetTables.{IsNoTarget, IsTabled}
 use Rattle.cat_app.specs.Drills.{HasLine, HasRefusedRun, HasStop, IsOfBands, bands_request, bands_shelf}
 use Rattle.cat_app.specs.declared.status.Status.{Status}
 use Rattle.cat_app.specs.declared.status.Status.TheVariants.{Fine, Conflict, NoValue, Fault, Source, Input, Found}
@@ -20,16 +21,18 @@ use Rattle.cat_app.specs.declared.status.Status.TheVariants.{WriteFault, Memory,
 abbrev pub MayAnswer : Request → Shelved → Shelved → Status → List ℕ → Type 0
 MayAnswer request old new Fine text =
     IsOutcome request old new Fine text ⊎ (IsAudited request old new Fine text
-    ⊎ (IsChecked HasCertificate request old new text ⊎ IsListed request old new text))
+    ⊎ (IsChecked HasCertificate request old new text
+    ⊎ (IsListed request old new text ⊎ IsTabled request old new Fine text)))
 MayAnswer request old new Conflict text = IsOutcome request old new Conflict text
 MayAnswer request old new NoValue text = IsOutcome request old new NoValue text
 MayAnswer request old new Fault text = IsOutcome request old new Fault text
 MayAnswer request old new Source text = IsRefusedFile request old new text ⊎ IsRefusedSource request old new text
 MayAnswer request old new Input text = IsRefusedInput request old new text ⊎ IsRefusedArray request old new text
 MayAnswer request old new Found text = IsAudited request old new Found text
-MayAnswer request old new Unsettled text = IsAudited request old new Unsettled text
+MayAnswer request old new Unsettled text =
+    IsAudited request old new Unsettled text ⊎ IsTabled request old new Unsettled text
 MayAnswer request old new Certificate text = IsChecked HasNoCertificate request old new text
-MayAnswer request old new Usage text = IsNoScope request old new text
+MayAnswer request old new Usage text = IsNoScope request old new text ⊎ IsNoTarget request old new text
 MayAnswer request old new Missing text = IsRefusedRead request old new shelf.Missing (codes "missing file ") text
 MayAnswer request old new ReadFault text = IsRefusedRead request old new shelf.Failed (codes "read fault ") text
 MayAnswer request old new TooLarge text = IsRefusedRead request old new shelf.Long (codes "too large ") text

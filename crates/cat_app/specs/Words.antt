@@ -6,11 +6,12 @@ use Rattle.clap.specs.Words.{matches_of, one_of}
 use Rattle.cat_words.specs.Asked.{Asked, IsCases, asked_by, most_asked}
 use Rattle.cat_words.specs.TheCommand.{the_command}
 use Rattle.cat_app.specs.Numbers.{bands_in}
+use Rattle.cat_app.specs.Modes.{mode_by}
 use Rattle.cat_app.specs.declared.request.Mode.{Mode}
-use Rattle.cat_app.specs.declared.request.Mode.TheVariants.{Run, Audit, Check, Emit, EmitRun, Trace, Many}
 
 -- a mode and the scope of this name, with the names of the source and of the input or the certificate, which neither an
--- audit has nor an emit of the code alone, and the text of the number of cases, which an audit alone looks at
+-- audit has nor an emit of the code alone, or that of the target whose table is asked for, and the text of the number
+-- of cases, which an audit and a table look at
 pub record Request : Type 0 where
   pub mode : Mode
   pub scope : List ℕ
@@ -22,37 +23,6 @@ pub record Request : Type 0 where
 abbrev pub request : Mode → List ℕ → List ℕ → List ℕ → Option (List ℕ) → Request
 request mode scope file extra cases =
     record { mode = mode; scope = scope; file = file; extra = extra; cases = cases }
-
--- the mode that goes by a name: `run`, `check`, `trace`, `many`, `audit`, which takes no EXTRA, or `emit`, which runs
--- the code where there is one
-abbrev pub mode_by : List ℕ → Bool → Option Mode
-mode_by name has_extra =
-    if bytes_eq name (codes "run") then Some Run else
-    (if bytes_eq name (codes "check") then Some Check else
-    (if bytes_eq name (codes "trace") then Some Trace else
-    (if bytes_eq name (codes "many") then Some Many else
-    (if bytes_eq name (codes "audit") && not has_extra then Some Audit else
-    (if bytes_eq name (codes "emit") then Some (if has_extra then EmitRun else Emit) else None)))))
-
--- whether a mode runs the scope on the input that EXTRA names
-abbrev pub runs_scope : Mode → Bool
-runs_scope Run = true
-runs_scope Audit = false
-runs_scope Check = false
-runs_scope Emit = false
-runs_scope EmitRun = true
-runs_scope Trace = true
-runs_scope Many = false
-
--- whether a mode reads the file that EXTRA names
-abbrev pub reads_extra : Mode → Bool
-reads_extra Run = true
-reads_extra Audit = false
-reads_extra Check = true
-reads_extra Emit = false
-reads_extra EmitRun = true
-reads_extra Trace = true
-reads_extra Many = true
 
 -- what words ask for: the name of the source has no line feed, and EXTRA is standard input unless it is given
 abbrev pub request_by : Option (List ℕ) → Asked → Option Request
@@ -86,8 +56,8 @@ ask_by cases asked =
     if bytes_eq asked.mode (codes "drill") then option_map OfBands (bands_by asked)
     else option_map OfScope (request_by cases asked)
 
--- the words `run SCOPE FILE [EXTRA]`, `check SCOPE FILE [EXTRA]`, `trace SCOPE FILE [EXTRA]`, `many SCOPE FILE [EXTRA]`,
--- `audit SCOPE FILE`, `emit SCOPE FILE [EXTRA]` or `drill N none` of a command that is taken; other words ask for nothing
+-- the words `MODE SCOPE FILE [EXTRA]` with `run`, `check`, `trace`, `many`, `table` or `emit`, `audit SCOPE FILE`, or
+-- `drill N none` of a command that is taken; other words ask for nothing
 unfoldable pub ask_of : List (List ℕ) → Option Ask
 ask_of words = option_and_then (ask_by (cases_in words)) (asked_by words)
 
@@ -111,7 +81,7 @@ request_of words = request_in (ask_of words)
 abbrev pub bands_of : List (List ℕ) → Option ℕ
 bands_of words = bands_asked (ask_of words)
 
--- the most leaves that an audit makes of a target: the number of cases, which is from 1 to 1,000,000
+-- the most leaves that an audit or a table makes of a target: the number of cases, which is from 1 to 1,000,000
 pub record IsMost (cases : Option (List ℕ)) (most : ℕ) : Type 0 where
   pub number_is : IsCases cases most
   pub some : 1 ≤ most

@@ -3,3 +3,4 @@ pub mod Once
 pub mod Reading
 pub mod Says
 pub mod SaysOfBands
+pub mod SaysOfTables

@@ -16,6 +16,7 @@ mod runs;
 mod scoped;
 mod source;
 mod status;
+mod tabled;
 mod texts;
 mod top;
 

@@ -4,7 +4,7 @@ ghost use Rattle.cat_value.specs.Inputs.{IsWellTyped};
 ghost use Rattle.cat_listing.specs.Listing.{listing as text_of};
 ghost use Rattle.cat_build.specs.Built.{IsBuiltOf};
 ghost use Rattle.cat_app.specs.Lines.{status_of};
-ghost use Rattle.cat_app.specs.Words.{runs_scope};
+ghost use Rattle.cat_app.specs.Modes.{runs_scope};
 ghost use Rattle.cat_app.specs.Listings.{steps_line};
 ghost use Rattle.cat_app.specs.inside.Says.{Says, SaysOutcome, SaysRun};
 
@@ -130,7 +130,8 @@ pub fn ran(
         Mode::Run => answer(alloc, source, built, scope, input),
         Mode::EmitRun => answer_with_code(alloc, source, built, scope, input),
         Mode::Trace => answer_with_trace(alloc, source, built, scope, input),
-        Mode::Audit | Mode::Check | Mode::Emit | Mode::Many => unreachable!(),
+        Mode::Audit | Mode::Check | Mode::Emit | Mode::Many | Mode::AllTables | Mode::OneTable =>
+            unreachable!(),
     }
 }
 

@@ -3,7 +3,8 @@ ghost use Rattle.std.specs.Prelude.{◌≡◌, ◌≤◌, ℕ, List, Option, IfO
 ghost use Rattle.cat_io.specs.Stored.{texts_of};
 ghost use Rattle.cat_words.specs.Asked.{asked_of as words_of};
 ghost use Rattle.cat_app.specs.Limits.{most_bands};
-ghost use Rattle.cat_app.specs.Words.{ask_by, bands_by, bands_from, mode_by, request_by};
+ghost use Rattle.cat_app.specs.Modes.{mode_by};
+ghost use Rattle.cat_app.specs.Words.{ask_by, bands_by, bands_from, request_by};
 ghost use Rattle.cat_app.specs.inside.AskedWords.{ask_in, asked_of, AsksFor, HasBands, HasNumber};
 
 use crate::bands_in;
@@ -21,9 +22,14 @@ pub enum Mode {
     EmitRun,
     Trace,
     Many,
+    /// The tables of all targets.
+    AllTables,
+    /// The table of the target that EXTRA names.
+    OneTable,
 }
 
-/// What is asked for, with the names of the source and of the input or the certificate, and the number of cases.
+/// What is asked for, with the names of the source and of the input, the certificate or the target, and the number of
+/// cases.
 #[derive(Clone, Copy, Debug)]
 pub struct AskedWords<'a> {
     pub mode: Mode,
@@ -61,6 +67,13 @@ fn mode_of(name: &str, has_extra: bool) -> Option<Mode>
     }
     if name == "emit" {
         return Some(if has_extra { Mode::EmitRun } else { Mode::Emit });
+    }
+    if name == "table" {
+        return Some(if has_extra {
+            Mode::OneTable
+        } else {
+            Mode::AllTables
+        });
     }
     None
 }

@@ -1,9 +1,10 @@
-// What is asked of a scope: the source first, and then an audit, a check, a listing, or a run on an input.
+// What is asked of a scope: the source first, and then an audit, a check, a listing, decision tables, or a run on an
+// input.
 ghost use Rattle.std.specs.Prelude.{◌≡◌, ◌≢◌, IfOk, IsTrue, OnErr, Some};
 ghost use Rattle.cat_scope.specs.Named.{number_named};
 ghost use Rattle.cat_weave.specs.Causes.{AreReadableTogether};
 ghost use Rattle.cat_build.specs.Built.{IsBuiltOf};
-ghost use Rattle.cat_app.specs.Words.{runs_scope};
+ghost use Rattle.cat_app.specs.Modes.{runs_scope};
 ghost use Rattle.cat_app.specs.Table.{ListsOne};
 ghost use Rattle.cat_app.specs.inside.AskedWords.{IsGathered};
 ghost use Rattle.cat_app.specs.inside.Reading.{MayWrite};
@@ -16,6 +17,7 @@ use crate::many::ManyInputs;
 use crate::ran::ran;
 use crate::reply::{Reply, ToWrite};
 use crate::request::{AskedWords, Mode};
+use crate::tabled::{all_tables, target_table};
 use crate::texts::{no_scope, refuse_file, refuse_gathering, refuse_input, refuse_source};
 use cat_build::{BuildRefusal, Built, build};
 use cat_io::{Shelf, read_all};
@@ -144,6 +146,15 @@ fn answer_for<S: Shelf>(
         Mode::Check => check_scope(alloc, asked, source, built, scope, shelf),
         Mode::Audit => audited(alloc, source, built, scope, most_of(asked.cases)),
         Mode::Emit => listed(alloc, source, built),
+        Mode::AllTables => all_tables(alloc, source, built, scope, most_of(asked.cases)),
+        Mode::OneTable => target_table(
+            alloc,
+            source,
+            built,
+            scope,
+            most_of(asked.cases),
+            asked.extra,
+        ),
         Mode::Many => unreachable!(),
     }
 }

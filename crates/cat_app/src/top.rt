@@ -15,6 +15,7 @@ ghost use Rattle.cat_app.specs.EmitEnds.{EndsEmit, EndsEmitRun, IsToldEmit, IsTo
 ghost use Rattle.cat_app.specs.Many.{ReadInput};
 ghost use Rattle.cat_app.specs.ManyEnds.{EndsMany, IsToldMany};
 ghost use Rattle.cat_app.specs.inside.Reading.{PutsText};
+ghost use Rattle.cat_app.specs.TableEnds.{EndsTable, IsToldTable};
 ghost use Rattle.cat_app.specs.TraceEnds.{EndsTrace, IsToldTrace};
 
 use crate::Status;
@@ -32,13 +33,14 @@ use std::alloc::Global;
 /// | `Fine`, `Conflict`, `NoValue`, `Fault` | of a run, the scope's outcome on the input; of an emit with an input, that behind the code and its steps; of a trace, that behind what decided each judging |
 /// | `Fine` | of an audit, a complete report and its certificate |
 /// | `Found`, `Unsettled` | the report of an audit |
+/// | `Fine`, `Unsettled` | the decision tables of a scope's targets; whether all leaves of each are shown |
 /// | `Fine`, `Certificate` | of a check, a yes, or why the certificate is refused |
 /// | `Fine` | of an emit, the listing of the program's code |
 /// | `Fine` | of many inputs, the line of each as a run on it alone writes it |
 /// | `Fine` | of a drill, its line; where a run of it has no value, that outcome with its own status |
 /// | `Source` | the code and the position by which the source is refused |
 /// | `Input` | the code by which the input is refused, and of which part |
-/// | `Usage` | how the program is used, or that the source has no such scope |
+/// | `Usage` | how the program is used, that the source has no such scope, or the scope no such target |
 /// | `Missing`, `ReadFault`, `TooLarge` | the name of a file whose count of misses, faults or long reads rose |
 /// | `WriteFault` | the front of one of these texts, of many inputs whole lines and the front of one; the sink's count of faults rose |
 /// | `Memory` | nothing, or of many inputs the lines of the first ones |
@@ -101,6 +103,13 @@ pub fn catala<S: Shelf, K: Sink>(
         (input : List (Option Value))
         → IsToldTrace (texts_of words.now) (S.state shelf.old) request source program scope input
         → EndsTrace (K.state sink.old) (K.state sink.new) source program scope input result }
+
+    // Over told contents the tables of the targets that are asked for are written. The regions of a target's leaves and
+    // rests are disjoint and admit every valuation, and the line of a leaf says what decides the target at each
+    // valuation of its region; or there is no such target.
+    ensures a_table_writes_what_decides { (request : Request) (source : Source) (program : Program) (scope : ℕ)
+        → IsToldTable (texts_of words.now) (S.state shelf.old) request source program scope
+        → EndsTable (K.state sink.old) (K.state sink.new) request source program scope result }
 
     // A line is written for each element of an array, as a run on it alone writes it; where memory runs out, those of the
     // first ones are.

@@ -2,7 +2,7 @@
 use Rattle.std.proofs.Common.{◌≡◌, ◌≤◌, ◌+◌, ◌-◌, ◌⊎◌, ◌∙◌, ℕ, List, [], ◌∷◌, ◌++◌, Option, Some, None, length, refl}
 use Rattle.std.proofs.Common.{sym, ap, subst, inl, inr, arith, slice_get}
 use Rattle.std.proofs.lemmas.List.{length-append}
-use Rattle.std.specs.Prelude.{IsSome, codes}
+use Rattle.std.specs.Prelude.{IsSome, IsTrue, codes}
 use Rattle.cat_pos.specs.declared.pos.Pos.{Pos}
 use Rattle.cat_io.specs.Shelf.{Shelved}
 use Rattle.cat_io.specs.declared.shelf.ShelfFault.{ShelfFault}
@@ -21,6 +21,7 @@ use Rattle.cat_build.specs.declared.code.FaultCode.TheVariants as code
 use Rattle.cat_build.specs.Accepted.{IsAccepted}
 use Rattle.cat_build.specs.Causes.{StandsAt}
 use Rattle.cat_build.specs.Codes.{number_of}
+use Rattle.cat_app.specs.Modes.{shows_tables}
 use Rattle.cat_app.specs.Words.{Ask, OfBands, OfScope, Request, ask_of, request_in}
 use Rattle.cat_app.specs.Asked.{IsSource, IsAsked}
 use Rattle.cat_app.specs.Answers.{IsOutcome, IsRefusedFile, IsRefusedSource}
@@ -28,7 +29,7 @@ use Rattle.cat_app.specs.Lines.{line, refusal_line, gathering_line}
 use Rattle.cat_app.specs.Answers.{IsNoScope, IsRefusedInput, IsRefusedRead}
 use Rattle.cat_app.specs.Audits.{IsAudited}
 use Rattle.cat_app.specs.Complete.{LinesFit}
-use Rattle.cat_app.specs.declared.request.Mode.TheVariants.{Check, Emit, Many}
+use Rattle.cat_app.specs.declared.request.Mode.TheVariants.{Check, Emit, Many, OneTable}
 use Rattle.cat_app.specs.Table.{MayAnswer, MayAnswerTo}
 use Rattle.cat_app.specs.declared.status.Status.{Status}
 use Rattle.cat_app.specs.declared.status.Status.TheVariants as status
@@ -279,12 +280,19 @@ module _ (request : Request) (old : Shelved) where
     not_many : request.mode ≡ Many → ⊥
     not_many many = cc (told.mode, many)
 
+    not_tabled : IsTrue (shows_tables request.mode) → ⊥
+    not_tabled shows = cc (ap shows_tables told.mode, shows)
+
+    not_one_table : request.mode ≡ OneTable → ⊥
+    not_one_table one = cc (told.mode, one)
+
     fits_all : (new : Shelved) (ended : Status) (text : List ℕ) → MayAnswer request old new ended text
         → length text ≤ all_room
     fits_all new status.Fine text (inl h) = omega (arith, comes_room.1 text (inl (new, status.Fine, h)))
     fits_all new status.Fine text (inr (inl h)) = absurd (not_audited new status.Fine text h)
     fits_all new status.Fine text (inr (inr (inl h))) = absurd (not_checked h.mode)
-    fits_all new status.Fine text (inr (inr (inr h))) = absurd (not_listed h.mode)
+    fits_all new status.Fine text (inr (inr (inr (inl h)))) = absurd (not_listed h.mode)
+    fits_all new status.Fine text (inr (inr (inr (inr h)))) = absurd (not_tabled h.mode)
     fits_all new status.Conflict text h = omega (arith, comes_room.1 text (inl (new, status.Conflict, h)))
     fits_all new status.NoValue text h = omega (arith, comes_room.1 text (inl (new, status.NoValue, h)))
     fits_all new status.Fault text h = omega (arith, comes_room.1 text (inl (new, status.Fault, h)))
@@ -293,9 +301,11 @@ module _ (request : Request) (old : Shelved) where
     fits_all new status.Input text (inl h) = omega (arith, comes_room.1 text (inr (inl (new, h))))
     fits_all new status.Input text (inr h) = absurd (not_many h.mode)
     fits_all new status.Found text h = absurd (not_audited new status.Found text h)
-    fits_all new status.Unsettled text h = absurd (not_audited new status.Unsettled text h)
+    fits_all new status.Unsettled text (inl h) = absurd (not_audited new status.Unsettled text h)
+    fits_all new status.Unsettled text (inr h) = absurd (not_tabled h.mode)
     fits_all new status.Certificate text h = absurd (not_checked h.mode)
-    fits_all new status.Usage text h = omega (arith, scope_room.1 text (new, h))
+    fits_all new status.Usage text (inl h) = omega (arith, scope_room.1 text (new, h))
+    fits_all new status.Usage text (inr h) = absurd (not_one_table h.mode)
     fits_all new status.Missing text h = omega (arith, missing_room.1 text (new, h))
     fits_all new status.ReadFault text h = omega (arith, failed_room.1 text (new, h))
     fits_all new status.TooLarge text h = omega (arith, long_room.1 text (new, h))

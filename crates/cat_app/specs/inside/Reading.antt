@@ -49,8 +49,8 @@ pub record IsRead (request : Request) (old new : Shelved) (read : ManyInputs) : 
   pub untouched : new ≡ old
 
 -- the lines of the elements that were passed were taken whole
-pub record TookLines (program : Program) (scope : ℕ) (names : List (List ℕ)) (passed : List ReadInput) (sink sunk : Sunk)
-    : Type 0 where
+pub record TookLines (program : Program) (scope : ℕ) (names : List (List ℕ)) (passed : List ReadInput)
+    (sink sunk : Sunk) : Type 0 where
   pub lines : List (List ℕ)
   pub lines_are : AreLines program scope names passed lines
   pub took : Took sink sunk (concat lines)

@@ -24,5 +24,5 @@ returns-in_ok-outcome-in-Ok-clause-line c = if_ok c.tell.result c.tell.ensures (
     let told = subst (λ (ds : Decls). SaysOutcome ds c.args.scope names outcome reply) c.decls.ensures says in
     let comes = comes_to program c.args.built.now.code c.requires.built.code c.args.scope c.in-Ok.input typed outcome
     c.in_ok-outcome-in-Ok.ensures.outcome in
-    subst (λ (r : ReadInput). element_line program c.args.scope names r ≡ Some (string_bytes reply.text)) (sym c.in-Ok.is)
-    (ap (option_map (outcome_line program c.args.scope names)) comes ∙ ap Some (sym told.1)))
+    subst (λ (r : ReadInput). element_line program c.args.scope names r ≡ Some (string_bytes reply.text))
+    (sym c.in-Ok.is) (ap (option_map (outcome_line program c.args.scope names)) comes ∙ ap Some (sym told.1)))

@@ -1,6 +1,7 @@
 use Rattle.std.proofs.Common.{refl}
 use Rattle.cat_app.specs.inside.AskedWords.{asked_of}
 use Rattle.cat_app.proofs.Replies.{if_ok, asked_for, a_listing, a_report, most_is, named_within}
+use Rattle.cat_app.proofs.TableReplies.{all_answer, one_answers}
 use Rattle.cat_app.proofs.scoped.answer_for.Goals as goal
 
 pub audited-requires-clause-scope : goal.audited-requires-clause-scope
@@ -19,3 +20,27 @@ returns-in-Emit-clause-may g c = if_ok c.listed.result c.listed.ensures (λ repl
     a_listing (asked_of cases c.args.asked) _ _ c.args.source.now c.args.built.now c.args.scope reply refl
     c.requires.built says (asked_for (asked_of cases c.args.asked) _ c.args.source.now c.args.built.now c.args.scope
     c.requires.gathered c.requires.built c.requires.named) c.in-Emit.is)
+
+pub all_tables-requires-clause-scope : goal.all_tables-requires-clause-scope
+all_tables-requires-clause-scope g c =
+    named_within c.args.asked.scope.now c.args.scope c.args.built.now.program.decls.scopes c.requires.named
+
+pub target_table-requires-clause-scope : goal.target_table-requires-clause-scope
+target_table-requires-clause-scope g c =
+    named_within c.args.asked.scope.now c.args.scope c.args.built.now.program.decls.scopes c.requires.named
+
+pub returns-in-AllTables-clause-may : goal.returns-in-AllTables-clause-may
+returns-in-AllTables-clause-may g c = if_ok c.all_tables.result c.all_tables.ensures (λ reply says cases are.
+    all_answer (asked_of cases c.args.asked) _ _ c.args.source.now c.args.built.now.program c.args.scope
+    c.most_of-in-AllTables.result reply refl (asked_for (asked_of cases c.args.asked) _ c.args.source.now
+    c.args.built.now c.args.scope c.requires.gathered c.requires.built c.requires.named)
+    (most_is cases c.args.asked.cases c.most_of-in-AllTables.result are c.most_of-in-AllTables.ensures.most)
+    c.in-AllTables.is says)
+
+pub returns-in-OneTable-clause-may : goal.returns-in-OneTable-clause-may
+returns-in-OneTable-clause-may g c = if_ok c.target_table.result c.target_table.ensures (λ reply says cases are.
+    one_answers (asked_of cases c.args.asked) _ _ c.args.source.now c.args.built.now.program c.args.scope
+    c.most_of-in-OneTable.result reply refl (asked_for (asked_of cases c.args.asked) _ c.args.source.now
+    c.args.built.now c.args.scope c.requires.gathered c.requires.built c.requires.named)
+    (most_is cases c.args.asked.cases c.most_of-in-OneTable.result are c.most_of-in-OneTable.ensures.most)
+    c.in-OneTable.is says)

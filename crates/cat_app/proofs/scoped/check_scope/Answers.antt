@@ -1,5 +1,5 @@
 use Rattle.std.proofs.Common.{◌≡◌, ap, subst, List, ℕ}
-use Rattle.cat_app.specs.Words.{reads_extra}
+use Rattle.cat_app.specs.Modes.{reads_extra}
 use Rattle.cat_app.specs.inside.AskedWords.{asked_of}
 use Rattle.cat_app.specs.inside.Says.{SaysChecked}
 use Rattle.cat_app.proofs.Replies.{if_ok, asked_for, no_extra, a_check, named_within}

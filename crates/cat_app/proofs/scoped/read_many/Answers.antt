@@ -2,7 +2,7 @@ use Rattle.std.proofs.Common.{◌≡◌, ◌<◌, length, ap, sym, subst, List, 
 use Rattle.std.specs.Prelude.{Err}
 use Rattle.cat_value.specs.declared.decls.Decls.{Decls}
 use Rattle.cat_json.specs.InputsRead.{inputs_read}
-use Rattle.cat_app.specs.Words.{reads_extra}
+use Rattle.cat_app.specs.Modes.{reads_extra}
 use Rattle.cat_app.specs.inside.AskedWords.{asked_of}
 use Rattle.cat_app.proofs.Replies.{asked_for, named_within, no_array, no_extra, not_memory}
 use Rattle.cat_app.proofs.scoped.read_many.Goals as goal

@@ -7,6 +7,7 @@ use Rattle.cat_app.proofs.Faults.{no_fault}
 use Rattle.cat_app.proofs.ManyEnds.{many_ends}
 use Rattle.cat_app.proofs.Putting.{reply_untouched}
 use Rattle.cat_app.proofs.RunEnds.{emit_run_ends, run_ends, trace_ends}
+use Rattle.cat_app.proofs.TableEnds.{ends_table, no_table_of_many}
 use Rattle.cat_app.proofs.top.catala.Goals as goal
 
 pub returns-clause-a_fault_comes_only_where_a_count_rose : goal.returns-clause-a_fault_comes_only_where_a_count_rose
@@ -69,10 +70,19 @@ returns-clause-a_trace_writes_what_decided g c request source program scope inpu
     (at_once (texts_of c.args.words.now) _ _ _ _ c.answer.result request run.told.asked (λ many. cc (many, run.mode))
     c.answer.ensures.answers)
 
+pub returns-clause-a_table_writes_what_decides : goal.returns-clause-a_table_writes_what_decides
+returns-clause-a_table_writes_what_decides g c request source program scope table =
+    ends_table c.pieces_have_one_program.ensures c.refused_pieces_are_not_accepted.ensures
+    c.told_sources_are_gathered.ensures.endings c.told_sources_are_gathered.ensures.files (texts_of c.args.words.now) _
+    _ _ _ request source program scope table.told table.mode c.answer.result
+    (at_once (texts_of c.args.words.now) _ _ _ _ c.answer.result request table.told.asked
+    (λ many. no_table_of_many request.mode many table.mode) c.answer.ensures.answers)
+
 pub returns-clause-a_drill_writes_its_line : goal.returns-clause-a_drill_writes_its_line
 returns-clause-a_drill_writes_its_line g c bands source program scope drill =
     ends_drill c.pieces_have_one_program.ensures c.refused_pieces_are_not_accepted.ensures
-    c.told_sources_are_gathered.ensures.endings (texts_of c.args.words.now) _ _ _ _ bands source program scope drill c.answer.result
+    c.told_sources_are_gathered.ensures.endings (texts_of c.args.words.now) _ _ _ _ bands source program scope drill
+    c.answer.result
     (drill_at_once (texts_of c.args.words.now) _ _ _ _ c.answer.result bands drill.asked c.answer.ensures.answers)
 
 pub returns-clause-what_fits_is_written : goal.returns-clause-what_fits_is_written

@@ -1,0 +1,9 @@
+mod TypeViews
+mod ToldEquations
+mod NodeLemmas
+mod LawLemmas
+mod TableLemmas
+mod RowLemmas
+mod TablesLemmas
+mod Examples
+mod TypedLaws

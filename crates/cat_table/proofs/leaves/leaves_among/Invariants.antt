@@ -1,0 +1,7 @@
+use Rattle.std.proofs.Common.{◌≡◌, ◌≤◌, ◌+◌, drop}
+use Rattle.cat_table.specs.inside.Nodes.{leaves_among}
+use Rattle.cat_table.proofs.leaves.leaves_among.Given as goal
+
+abbrev pub invariant-loop-node : goal.invariant-loop-node
+invariant-loop-node l =
+    (l.leaves + leaves_among (drop l.node-index l.nodes) ≡ leaves_among l.nodes) × (l.leaves ≤ l.node-index)

@@ -1,0 +1,9 @@
+pub mod NamedTypes
+pub mod Told
+pub mod Conditions
+pub mod Results
+pub mod Rows
+pub mod Kept
+pub mod Wanted
+-- what the code keeps on its way: no public clause cites it
+pub mod inside

@@ -1,0 +1,23 @@
+// Constants as texts.
+ghost use Rattle.std.specs.Prelude.{◌≡◌, IfOk, string_bytes};
+ghost use Rattle.cat_table.specs.Conditions.{constant_text};
+
+use cat_date::show_day;
+use cat_num::{decimal_text, money_text};
+use cat_region::Scalar;
+use std::alloc::{AllocError, Global};
+
+/// A constant, as a run writes it.
+pub(crate) fn constant_text(alloc: Global, constant: Scalar) -> Result<String, AllocError>
+    ensures { IfOk result (λ text. string_bytes text ≡ constant_text constant) }
+{
+    match constant {
+        Scalar::Whole(whole) => {
+            let number = whole.get();
+            format!(in alloc; "{number}")
+        }
+        Scalar::Money(money) => money_text(alloc, money),
+        Scalar::Day(day) => show_day(alloc, day),
+        Scalar::Decimal(frac) => decimal_text(alloc, frac),
+    }
+}
