@@ -2,7 +2,9 @@
 import json, os, socket, subprocess, time
 from typing import Set
 
-from .served import SECONDS, TOP, Office
+from paging.tables import READ, tables_of
+
+from .served import EXAMPLES, SECONDS, TOP, Office
 
 STATIC, GRAMMAR = TOP / 'tools' / 'paging' / 'static', TOP / 'editors' / 'vscode' / 'syntaxes' / 'catala.tmLanguage.json'
 
@@ -197,7 +199,10 @@ def each_reply_is_the_programs(office: Office) -> None:
     with office.serves(office.folder('heating_subsidy_draft')) as served:
         text = served.law.read_text()
         run = lambda given: served.parts('run', {**law(text), 'scope': 'HeatingSubsidy', 'input': given, 'job': '1'})[0]
-        assert run('{"income":1,"age_of_youngest":9,"heating":"Gas"}') == {'status': 0, 'reply': '{"subsidy":"300.00"}', 'trouble': ''}
+        told = run('{"income":1,"age_of_youngest":9,"heating":"Gas"}')
+        decided = [(one['name'], one['times'], one['heading'], one['places'][0]['file'], one['places'][0]['line']) for one in told['trace']]
+        assert decided == [('HeatingSubsidy.subsidy', 1, 'Section 2', 'law.md', 29)], decided
+        assert {**told, 'trace': []} == {'status': 0, 'reply': '{"subsidy":"300.00"}', 'trouble': '', 'trace': []}, told
         clash = 'conflict HeatingSubsidy.subsidy at law.md:56:23 law.md:65:23'
         assert run('{"income":1,"age_of_youngest":1,"heating":"DistrictHeating"}')['reply'] == clash
         first, *_ = served.parts('faults', law(text.replace('equals $300', 'equal $300')))
@@ -209,7 +214,69 @@ def each_reply_is_the_programs(office: Office) -> None:
         assert [place['line'] for place in audit[1]['notes'][0]['places']] == [56, 65]
 
 
+def a_picture_is_made_of_the_programs_answers(office: Office) -> None:
+    with office.serves(office.folder('heating_subsidy_draft')) as served:
+        asked = {**law(served.law.read_text()), 'scope': 'HeatingSubsidy', 'of': 'subsidy', 'job': '1',
+                 'input': '{"age_of_youngest":2,"heating":"DistrictHeating","income":0}'}
+        draw = lambda over, start, end, step, **more: served.parts('picture', {**asked, 'over': over, 'from': start, 'to': end,
+                                                                               'step': step, **more})
+        first, whole = draw('age_of_youngest', '0', '5', '1')
+        assert not first['isWhole'] and whole['isWhole'] and not first['changes'], (first, whole)
+        assert whole['pieces'] == first['pieces'] == [[[3, 100], [4, 100], [5, 100]]], whole
+        stretch, = whole['stretches']
+        clash = 'HeatingSubsidy.subsidy at law.md:56:23 law.md:65:23'
+        assert (stretch['kind'], stretch['fromText'], stretch['toText'], stretch['told']) == ('conflict', '0', '2', clash), stretch
+        change, = whole['changes']
+        seen = (change['at'], change['heading'], change['places'][0]['file'], change['places'][0]['line'])
+        assert seen == ('3', 'Section 6', 'law.md', 65), seen
+        assert [part['stretches'][0]['kind'] for part in draw('income', '0', '2', '1', input='{}')] == ['input refused'] * 2
+        age, income = ('age_of_youngest', '0', '5', '1'), ('income', '0', '5', '1')
+        for words, more in ((age, {'of': 'nothing'}), (('a.b', '0', '5', '1'), {}), (('income', '5', '0', '1'), {}),
+                            (('income', 'x', '5', '1'), {}), (('income', '0', '5000', '1'), {}), (income, {'input': '['}),
+                            (income, {'scope': 'T'}), (('income', '0001-01-01', '9999-12-31', '1'), {})):
+            part, = draw(*words, **more)
+            assert part['trouble'], (words, more)
+
+
+def tables_and_rules_are_taken_apart_whole(office: Office) -> None:
+    """No line of the stored replies of the second implementation is lost."""
+    line_at = lambda name, number: None
+    coming = [case for case in (TOP / 'tests' / 'coming').iterdir() if (case / 'words').read_text().split()[0] in READ]
+    replies = [((case / 'words').read_text().split()[0], (case / 'stdout').read_text()) for case in coming]
+    replies += [(mode, file.read_text()) for mode in READ for file in EXAMPLES.glob('*/%s.txt' % mode)]
+    assert {mode for mode, _ in replies} == set(READ) and len(replies) > 40, len(replies)
+    for mode, reply in replies:
+        if reply.startswith(('no such', 'certificate refused')) or 'Yes' in reply:
+            continue
+        parts = READ[mode][1](reply, line_at)
+        lines = reply.partition('\ncatala-dead ')[0].strip('\n').split('\n')
+        told = [line for line in lines if not line.startswith('dead ')]
+        taken = len(parts) if mode == 'dead' else sum(1 + len(table['rows']) + (table['rest'] is not None) for table in parts)
+        assert taken == len(told), (mode, reply)
+    always, row = [table['rows'][0] for table in tables_of(
+        'table S.w\nalways : conflict\ntable S.v\nnot term at a b.md:3:4 and e is A and n < -3 : not given\n', line_at)]
+    assert always == {'asks': [], 'result': 'conflict', 'places': []}, always
+    asks = [(one['front'], [(at['file'], at['line'], at['column']) for at in one['places']], one['behind']) for one in row['asks']]
+    assert asks == [('not ', [('a b.md', 3, 4)], ''), ('e is A', [], ''), ('n < -3', [], '')] and row['result'] == 'not given', row
+
+
+def tables_are_asked_for_where_the_program_has_them(office: Office) -> None:
+    text = (TOP / 'tests' / 'coming' / 'a_dead_certificate_is_accepted' / 'a.md').read_text()
+    with office.with_modes(False).serves(office.folder(law_md=text)) as served:
+        assert served.parts('law', {})[0]['modes'] == []
+        assert served.parts('tables', {**law(text), 'scopes': ['S'], 'job': '1'}) == []
+    with office.with_modes(True).serves(office.folder(law_md=text)) as served:
+        assert served.parts('law', {})[0]['modes'] == ['table', 'dead']
+        first, last = served.parts('tables', {**law(text), 'scopes': ['S'], 'job': '1'})
+        rows = [([one['front'] for one in row['asks']], row['places'][0]['line']) for row in first['table'][0]['rows'] if row['places']]
+        assert (['n > 3'], 7) in [(asks[-1:], line) for asks, line in rows], first
+        seen = [(rule['name'], rule['what'], rule['places'][0]['file'], rule['places'][0]['line']) for rule in last['dead']]
+        assert seen == [('x', 'never decides', 'law.md', 6), ('x', 'decides', 'law.md', 7)], last
+
+
 TESTS = [who_has_no_token_is_refused, a_browser_is_opened_with_a_ticket_for_one_time, other_hosts_and_origins_are_refused,
          nothing_but_the_pages_own_files_is_served, it_binds_to_one_address, cases_are_new_files_of_the_folder,
          a_file_that_changed_is_not_written_over, what_a_law_includes_from_its_folder_is_opened_and_saved,
-         texts_of_files_that_are_not_saved_are_run, an_installed_page_is_served, each_reply_is_the_programs]
+         texts_of_files_that_are_not_saved_are_run, an_installed_page_is_served, each_reply_is_the_programs,
+         a_picture_is_made_of_the_programs_answers, tables_and_rules_are_taken_apart_whole,
+         tables_are_asked_for_where_the_program_has_them]

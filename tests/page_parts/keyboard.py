@@ -35,6 +35,16 @@ def tab_to(page: Page, selector: str, modifiers: int = 0) -> None:
     raise Failure('the keys do not come to %s' % selector)
 
 
+def arrow_to(page: Page, name: str, key: str) -> None:
+    """Goes on by an arrow among the names of the panels, until it has chosen one."""
+    for _ in range(8):
+        if page.value('document.activeElement.id') == 'tab-' + name:
+            equal(page.value('document.querySelector("#panel-%s").checkVisibility()' % name), True, 'that the keys have chosen the panel')
+            return
+        page.press(key)
+    raise Failure('the keys do not come to the panel %s' % name)
+
+
 def all_is_come_to(page: Page, where: str) -> None:
     """Goes round the page once, and finds that each thing was come to and was seen to be."""
     page.value('document.activeElement.blur(), scrollTo(0, 0)')
@@ -62,7 +72,8 @@ def all_that_is_used_is_come_to(office: Office, browser: Browser) -> None:
         page.wait('document.querySelector("#panel-run .note")', 'what the run ends in')
         for width in WIDTHS:
             page.size(width, 900)
-            for panel in ('law', 'faults', 'audit', 'run', 'cases') if width == WIDTHS[-1] else ('audit', 'run', 'cases'):
+            panels = ('audit', 'run', 'picture', 'cases')
+            for panel in ('law', 'faults', *panels) if width == WIDTHS[-1] else panels:
                 page.value('window.page.tabs.show("%s")' % panel)
                 all_is_come_to(page, '%s, %d wide' % (panel, width))
 
@@ -75,8 +86,7 @@ def a_form_is_filled_by_the_keyboard(office: Office, browser: Browser) -> None:
         page.press('Enter')
         tab_to(page, '[role="tab"]', SHIFT)
         page.press('End')
-        page.press('ArrowLeft')
-        equal(page.value('document.activeElement.id'), 'tab-run', 'the panel that arrows choose')
+        arrow_to(page, 'run', 'ArrowLeft')
         tab_to(page, '#panel-run fieldset.list > button')
         page.press('Enter')
         equal(page.value('document.querySelectorAll("#panel-run .item").length'), 1, 'the number of elements')

@@ -1,5 +1,5 @@
 """Pages that are served for a test: a law in a folder of its own, and the server that is called for it."""
-import contextlib, http.client, json, os, pathlib, re, shutil, subprocess, sys, tempfile
+import contextlib, copy, http.client, json, os, pathlib, re, shutil, subprocess, sys, tempfile
 from typing import Iterator, List, Optional, Tuple
 
 TOP = pathlib.Path(__file__).resolve().parent.parent.parent
@@ -67,6 +67,17 @@ class Office:
             process.terminate()
             process.wait()
             process.stdout.close()
+
+    def with_modes(self, has_them: bool) -> 'Office':
+        """The same with a program that has the modes of tables, by the second implementation, or that has none of them."""
+        path = self.program or subprocess.run([TOP / 'tools' / 'unpack'], stdout=subprocess.PIPE, text=True, check=True).stdout.strip()
+        script = self.room / ('with_modes' if has_them else 'without_modes')
+        answers = 'exec "%s" "%s" "$@"' % (sys.executable, TOP / 'tools' / 'second') if has_them else 'echo "usage: as ever"; exit 9'
+        script.write_text('#!/bin/sh\ncase $1 in table|dead) %s ;; esac\nexec "%s" "$@"\n' % (answers, path))
+        script.chmod(0o755)
+        other = copy.copy(self)
+        other.program = script
+        return other
 
     def picture(self, page, name: str) -> None:
         if self.pictures:

@@ -5,7 +5,7 @@ from typing import Dict, List, Optional, Tuple
 from page_commands import as_wanted
 
 from .law import NAME, Law, content
-from .program import Ended, Program, limited
+from .program import Program, limited
 
 SECONDS, MOST_INPUT, MOST_CASES = 10, 1024 * 1024, 500
 

@@ -1,16 +1,19 @@
 """What the page may ask for: the law's files, its faults, audits, runs and cases, and that a file is saved."""
-import re, threading
-from typing import Iterator, Optional
+import functools, itertools, re, threading
+from typing import Iterator, List, Optional
 
-from explaining.audits import lines_of
 from explaining.pages import Pages
+from explaining.report import Section, open_lines, sections_of
+from explaining.traces import traced
 
 from .cases import Cases
 from .law import Changed, Law
 from .layout import laid_out
 from .notes import first_words
+from .pictures import pictures
 from .program import SECONDS, SECONDS_OF_AUDIT, STOPPED, TOO_LONG, Ended, Program
-from .report import sections_of
+from .tables import READ, with_places
+from .traces import trace_of
 from .words import Overtaken, Words
 
 PLACE = re.compile(r'(?<= )-(?=:\d+:\d+(?: |$))', re.M)
@@ -20,6 +23,7 @@ ACCEPTED = (9, 'no such scope ')
 LAW = ('text', 'others')
 ASKED = {'law': (), 'changes': ('sums',), 'open': ('name',), 'save': ('name', 'text', 'sum'), 'faults': LAW,
          'audit': (*LAW, 'scopes', 'job'), 'stop': ('job',), 'run': (*LAW, 'scope', 'input', 'job'), 'cases': LAW, 'compute': LAW,
+         'tables': (*LAW, 'scopes', 'job'), 'picture': (*LAW, 'scope', 'input', 'over', 'from', 'to', 'step', 'of', 'job'),
          'keep': ('name', 'scope', 'input', 'reply')}
 BY_NAMES = ('others', 'sums')
 NO_SCOPE = ''  # A scope of no source, so that the source is read and built, and no more.
@@ -34,7 +38,7 @@ class Desk:
         self.cases, self.pages, self.saving = Cases(law, program), Pages(), threading.Lock()
         self.answers = {'law': self.state, 'changes': self.changes, 'open': self.open, 'save': self.save, 'faults': self.faults,
                         'audit': self.audit, 'run': self.run, 'stop': self.stop, 'cases': self.all_cases, 'compute': self.compute,
-                        'keep': self.keep}
+                        'keep': self.keep, 'picture': self.picture, 'tables': self.tables}
         words.begin()
 
     def is_question(self, name: str, asked: object) -> bool:
@@ -80,7 +84,15 @@ class Desk:
     # ---- the law's files
 
     def state(self, asked: dict) -> Iterator[dict]:
-        yield from self.open({'name': self.law.name})
+        """The law's own file, and which modes the program has of those that it may have."""
+        for told in self.open({'name': self.law.name}):
+            yield {**told, 'modes': self.modes}
+
+    @functools.cached_property
+    def modes(self) -> List[str]:
+        """Which modes the program has of those that it may have: where it lacks one, any words are wrong use."""
+        replies = {mode: self.program.call(str(self.law.folder), [mode, '--', NO_SCOPE, '-'], '').reply for mode in READ}
+        return [mode for mode, reply in replies.items() if reply.startswith(ACCEPTED[1])]
 
     def open(self, asked: dict) -> Iterator[dict]:
         """A file of the law, with its text."""
@@ -167,26 +179,52 @@ class Desk:
             if scope in told:
                 continue
             ended = self.program.call(folder, ['audit', '--', scope, '-'], text, job=job, seconds=SECONDS_OF_AUDIT)
-            sections = [section for section in sections_of(self.called(ended).reply) if section['scope'] not in told]
-            told.update(section['scope'] for section in sections)
-            yield {'scope': scope, 'sections': sections, 'trouble': trouble(ended, SECONDS_OF_AUDIT)}
+            sections = [section for section in sections_of(self.called(ended).reply) if section.scope not in told]
+            told.update(section.scope for section in sections)
+            yield {'scope': scope, 'sections': list(map(as_data, sections)), 'trouble': trouble(ended, SECONDS_OF_AUDIT)}
             if ended.status == STOPPED:
                 return
             reports.append((scope, ended))
         for scope, ended in reports:
             try:
                 notes = self.explained(self.of_audits, 'audit', scope, ended, folder, text, of='audit') or []
-                yield {'notes': [{**note, 'scope': line.scope} for line, note in zip(lines_of(ended.reply), notes)]}
+                yield {'notes': [{**note, 'scope': line.scope} for line, note in zip(open_lines(ended.reply), notes)]}
             except Overtaken:
                 return
 
     def run(self, asked: dict) -> Iterator[dict]:
+        """What `run` replies, and the trace in front of it."""
         scope, text, given = asked['scope'], asked['text'], asked['input']
         with self.laid(asked) as folder:
-            ended = self.program.call(folder, ['run', '--', scope, '-'], text, given, job=asked['job'])
-            yield {'status': ended.status, 'reply': self.called(ended).reply, 'trouble': trouble(ended, SECONDS)}
+            ended = self.program.call(folder, ['trace', '--', scope, '-'], text, given, job=asked['job'])
+            decided, reply = traced(ended.reply, ended.status)
+            ended = ended._replace(reply=reply)
+            trace = self.named(trace_of(decided, lambda name, number: self.line_of(asked, name, number)))
+            yield {'status': ended.status, 'reply': self.called(ended).reply, 'trouble': trouble(ended, SECONDS), 'trace': trace}
             if ended.status > 0:
                 yield {'notes': self.explained(self.words, 'run', scope, ended, folder, text, given)}
+
+    def picture(self, asked: dict) -> Iterator[dict]:
+        """An output along an input, first as `many` has it, and then with who decides, as `trace` has it."""
+        with self.laid(asked) as folder:
+            for part in pictures(self.program, folder, asked, lambda name, number: self.line_of(asked, name, number)):
+                self.named(part.get('changes'))
+                for stretch in part.get('stretches', []):
+                    stretch['told'] = PLACE.sub(self.law.name, stretch['told'])
+                yield part
+
+    def tables(self, asked: dict) -> Iterator[dict]:
+        """The decision tables of each scope, and which of its rules never decide, as far as the program has these modes."""
+        with self.laid(asked) as folder:
+            for scope, mode in itertools.product(asked['scopes'], self.modes):
+                most, read = READ[mode]
+                words = [mode, '--cases', most, '--', scope, '-']
+                ended = self.program.call(folder, words, asked['text'], job=asked['job'], seconds=SECONDS_OF_AUDIT)
+                parts = read(ended.reply, lambda name, number: self.line_of(asked, name, number))
+                self.named(with_places(parts))
+                yield {'scope': scope, mode: parts, 'trouble': trouble(ended, SECONDS_OF_AUDIT)}
+                if ended.status == STOPPED:
+                    return
 
     def stop(self, asked: dict) -> Iterator[dict]:
         yield {'wasRunning': self.program.stop(asked['job'])}
@@ -203,6 +241,10 @@ class Desk:
 
     def keep(self, asked: dict) -> Iterator[dict]:
         yield {'why': self.cases.keep(asked['name'], asked['scope'], asked['input'], asked['reply'])}
+
+
+def as_data(section: Section) -> dict:
+    return {**section._asdict(), 'lines': [line._asdict() for line in section.lines]}
 
 
 def is_text(value: object) -> bool:

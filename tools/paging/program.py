@@ -70,12 +70,12 @@ class Program:
         return TOO_LONG if status == -signal.SIGXCPU else 128 - status if status < 0 else status
 
     def stop(self, job: str) -> bool:
-        """Ends a call; whether it was running."""
+        """Ends a call, or all those whose jobs have this name in front; whether any was running."""
         with self.lock:
-            started = self.running.get(job)
-            if started:
+            found = [started for name, started in self.running.items() if name == job or name.startswith(job + ' ')]
+            for started in found:
                 end_group(started)
-        return started is not None
+        return bool(found)
 
     def stop_all(self) -> None:
         for job in list(self.running):

@@ -32,7 +32,8 @@ def notes(question: dict) -> list:
 
 
 def forms(question: dict) -> dict:
-    return forms_of(Program(Files(question['text'].encode()), '-'))
+    files = Files(question['text'].encode())
+    return forms_of(Program(files, '-'), Source(files, '-'))
 
 
 ANSWERS = {'notes': notes, 'forms': forms, 'nothing': lambda question: None}

@@ -147,7 +147,8 @@ export class Audit {
     if (line.what === "Covered") return make("li", {}, head);
     const missing = this.missingOf(line);
     return make("li", {}, head, this.told(line), note && placesOf(note, this.desk.go),
-      missing && button(`a case is missing behind ${lineOf(missing, this.desk.go)}`, () => this.desk.go.toMissing(missing), { class: "place" }),
+      missing && button(`a case is missing behind ${lineOf(missing, this.desk.go)}`, () => this.desk.go.toMissing(missing),
+        { class: "place" }),
       this.input(line), note ? make("details", {}, make("summary", {}, "What this says, and what to do"),
         note.says.map((said) => sentence(said)), helpsOf(note)) : null);
   }

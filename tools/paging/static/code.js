@@ -17,6 +17,17 @@ function cut(text, pieces, marks) {
   });
 }
 
+/** The numbers that marks have. */
+function ordersIn(marks) {
+  return marks.map(({ order }) => order).filter((order) => order !== undefined);
+}
+
+/** Some numbers, of which the first few are told. */
+export function shortly(orders) {
+  const sorted = [...new Set(orders)].sort((a, b) => a - b);
+  return sorted.length > 3 ? `${sorted.slice(0, 3).join(", ")} ..` : sorted.join(", ");
+}
+
 export class CodeView {
   /** `told` is called after each change. */
   constructor(stretch, colours, told) {
@@ -100,28 +111,42 @@ export class CodeView {
     const pieces = cut(row.text, row.pieces, row.marks);
     row.element.replaceChildren(...pieces.map(({ text, classes }) => (classes ? make("span", { class: classes }, text) : text)));
     if (!row.text) row.element.append("\u200b");
+    const orders = ordersIn(row.marks);
+    if (orders.length) row.element.dataset.order = shortly(orders);
+    else delete row.element.dataset.order;
   }
 
   // ---- marks
 
-  /** Marks places of the law, `{line, column, end, kind}`, where they stand in this block; what was marked in it before isn't any more. */
+  /** The numbers of what is marked in this block. */
+  orders() {
+    return this.rows.flatMap((row) => ordersIn(row.marks));
+  }
+
+  /**
+   * Marks places of the law, `{line, column, end, kind}`, where they stand in this block, and puts the number of those that have one, as
+   * their `order`, beside the line; what was marked in it before isn't any more.
+   */
   mark(places) {
     const { first } = this.stretch;
     const byRow = new Map();
     for (const place of places) {
       const row = this.rows[place.line - first];
       if (!row) continue;
-      const start = indexAt(row.text, place.column);
+      const start = Math.max(indexAt(row.text, place.column), row.text.search(/\S/));
       const end = Math.max(indexAt(row.text, place.end), start + 1);
-      byRow.set(row, [...(byRow.get(row) ?? []), { start, end, kind: place.kind }]);
+      byRow.set(row, [...(byRow.get(row) ?? []), { start, end, kind: place.kind, order: place.order }]);
     }
+    let isOther = false;
     for (const row of this.rows) {
       const marks = byRow.get(row) ?? [];
       if (!marks.length && !row.marks.length) continue;
       if (JSON.stringify(marks) === JSON.stringify(row.marks)) continue;
       row.marks = marks;
       this.draw(row);
+      isOther = true;
     }
+    if (isOther) this.element.classList.toggle("has-orders", this.orders().length > 0);
   }
 
   /** Goes to a place: its piece is chosen in the field, in the middle of what is seen. */

@@ -9,7 +9,7 @@ const KINDS = { reply: "on-fault", further: "on-fault", warning: "on-warning" };
 export class Faults {
   /** `heard` is called with each part of an answer and the law that was asked of. */
   constructor(root, go, heard) {
-    Object.assign(this, { root, go, heard });
+    Object.assign(this, { root, go, heard, notes: [] });
     this.summary = make("p", { class: "summary", role: "status" });
     this.list = make("div", {});
     root.append(make("h2", {}, "Faults"), this.summary, this.list);

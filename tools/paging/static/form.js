@@ -47,6 +47,7 @@ class Forms {
       min: isDate ? "0001-01-01" : null, max: isDate ? "9999-12-31" : null, oninput: this.told,
     });
     field.value = textIn(value);
+    field.dataset.type = type;
     const read = () => (type !== "date" && WHOLE.test(field.value.trim()) ? field.value.trim() : JSON.stringify(field.value.trim()));
     return { element: labelled(name, path, field, HINTS[type]), read };
   }

@@ -6,7 +6,9 @@ import { Cases } from "./cases.js";
 import { Colours } from "./colours.js";
 import { Faults } from "./faults.js";
 import { Files } from "./files.js";
+import { Picture } from "./picture.js";
 import { Run } from "./run.js";
+import { Tables } from "./tables.js";
 import { Tabs } from "./tabs.js";
 
 const find = (id) => document.getElementById(id);
@@ -16,17 +18,20 @@ class Page {
     this.forms = null;
     this.isAccepted = false;
     find("name").textContent = law.name;
-    this.tabs = new Tabs(find("tabs"), find("panels"), find("law"));
+    this.tabs = new Tabs(find("tabs"), find("panels"), find("law"), (name) => this.shown(name));
     this.go = {
       isHere: (place) => Boolean(this.files.named(place.file)), isMain: (place) => place.file === law.name,
       to: (place) => this.goTo(place), toMissing: (missing) => this.goToMissing(missing),
     };
     this.faults = new Faults(this.tabs.panel("faults", "Faults"), this.go, (part, law) => this.heard(part, law));
     this.audit = new Audit(this.tabs.panel("audit", "Audit"), this.desk({ marked: (found) => this.audited(found) }));
+    this.tables = law.modes.length ? new Tables(this.tabs.panel("table", "Table"), this.desk({ marked: () => this.mark() })) : null;
     this.run = new Run(this.tabs.panel("run", "Run"), this.desk({ marked: () => this.mark(), kept: () => this.cases.soon() }));
+    this.picture = new Picture(this.tabs.panel("picture", "Picture"),
+      this.desk({ form: () => this.run.filledIn(), marked: () => this.mark() }));
     this.cases = new Cases(this.tabs.panel("cases", "Cases"), this.desk({ counted: (red, green) => this.counted(red, green) }));
     this.files = new Files(find("law"), new Colours(grammar), law, {
-      changed: () => this.changed(), shown: () => this.files && this.mark(), casesChanged: () => this.isAccepted && this.cases.soon(),
+      changed: () => this.changed(), shown: () => this.mark(), casesChanged: () => this.isAccepted && this.cases.soon(),
     });
     this.tabs.show(this.tabs.isNarrow() ? "law" : "faults");
     matchMedia("(max-width: 60rem)").addEventListener("change", () => this.widthChanged());
@@ -43,9 +48,18 @@ class Page {
   desk(more) {
     return {
       go: this.go, law: () => this.files.law(), scopes: () => this.auditedScopes(), run: (scope, input) => this.runInput(scope, input),
-      definedAt: (scope, name) => this.definedAt(scope, name), scopeOfCases: () => this.cases.told.scope,
+      definedAt: (scope, name) => this.definitions(scope, name).findLast((place) => this.go.isHere(place)),
+      lastLine: (scope, name, at) => this.definitions(scope, name).find((place) =>
+        place.file === at.file && place.line === at.line && place.column === at.column)?.last,
+      allScopes: () => this.forms.scopes.map((scope) => scope.name), scopeOfCases: () => this.cases.told.scope,
       mayKeep: () => this.cases.told.isOffice, ...more,
     };
+  }
+
+  /** Another panel is shown. */
+  shown(name) {
+    if (name === "picture") this.picture.take();
+    this.mark();
   }
 
   widthChanged() {
@@ -78,6 +92,7 @@ class Page {
   refused() {
     this.audit.wait("An audit reads a law that is accepted. Mend the faults first.");
     this.cases.wait("Cases are run on a law that is accepted. Mend the faults first.");
+    this.tables?.wait("Tables are those of a law that is accepted. Mend the faults first.");
     this.tabs.count("audit", "");
   }
 
@@ -85,13 +100,23 @@ class Page {
   formed(forms) {
     this.forms = forms;
     this.run.take(forms);
+    if (this.tabs.last === "picture" || this.picture.isDrawn) this.picture.take();
+    this.picture.again();
     this.audit.soon();
+    this.tables?.soon();
   }
 
   // ---- marks
 
+  /** The places that are marked in the text: of what decides those of the panel that was shown last. */
+  places() {
+    const decides = { table: () => this.tables.marks(), picture: () => this.picture.marks() }[this.tabs.last] ?? (() => this.run.traced());
+    return [...this.faults.marks(), ...this.audit.marks(), ...this.run.marks(), ...decides()];
+  }
+
   mark() {
-    const marks = [...this.faults.marks(), ...this.audit.marks(), ...this.run.marks()];
+    if (!this.files) return;
+    const marks = [...this.places(), ...this.tables?.dead() ?? []];
     const missing = this.audit.missing();
     for (const { name, view } of this.files.all) {
       view.mark(marks.filter(({ file }) => file === name));
@@ -148,8 +173,8 @@ class Page {
   /** Goes to the next place that is marked, or to the one in front. */
   goToNext(step) {
     const number = ({ file }) => this.files.all.findIndex(({ name }) => name === file);
-    const places = [...this.faults.marks(), ...this.audit.marks()]
-      .sort((a, b) => number(a) - number(b) || a.line - b.line || a.column - b.column);
+    const byPlace = new Map(this.places().map((place) => [`${place.line}:${place.column} ${place.file}`, place]));
+    const places = [...byPlace.values()].sort((a, b) => number(a) - number(b) || a.line - b.line || a.column - b.column);
     if (!places.length) return;
     this.at = ((this.at ?? (step > 0 ? -1 : 0)) + step + places.length) % places.length;
     this.goTo(places[this.at]);
@@ -164,10 +189,10 @@ class Page {
     return [...roots, ...this.forms.scopes.filter(({ name }) => called.has(name))].map(({ name }) => name);
   }
 
-  /** The place of the last definition of a variable in the files that are here. */
-  definedAt(scope, name) {
+  /** The places of the definitions of a variable, in their order. */
+  definitions(scope, name) {
     const defined = this.forms?.scopes.find((other) => other.name === scope)?.defined ?? [];
-    return defined.find((other) => other.name === name)?.places.findLast((place) => this.go.isHere(place));
+    return defined.find((other) => other.name === name)?.places ?? [];
   }
 }
 

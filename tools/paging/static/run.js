@@ -4,6 +4,7 @@ import { ask, askOnce } from "./ask.js";
 import { formOf } from "./form.js";
 import { button, make, sentence } from "./make.js";
 import { noted } from "./notes.js";
+import { marksOfTrace, traceOf } from "./trace.js";
 import { named, parsed, values } from "./values.js";
 
 export class Run {
@@ -82,6 +83,15 @@ export class Run {
     this.run();
   }
 
+  /** What stands in the form: the scope, and each plain part of its inputs that is given. */
+  filledIn() {
+    const fields = [...this.inside.querySelectorAll("input[data-type]")].filter((field) => !field.closest("[hidden]"));
+    return {
+      forms: this.forms, scope: this.forms?.scopes.find(({ name }) => name === this.scope), input: this.form?.read() ?? "{}",
+      inputs: fields.map(({ dataset: { path, type }, value }) => ({ path, type, value })),
+    };
+  }
+
   async run() {
     const input = this.form.read();
     const { scope } = this;
@@ -97,11 +107,12 @@ export class Run {
   // ---- what is shown
 
   draw() {
-    const { status, reply, trouble, notes } = this.result;
+    const { status, reply, trouble, notes, trace } = this.result;
     this.status.textContent = trouble || (status === 0 ? "The outputs:" : reply);
     this.status.dataset.kind = status === 0 ? "good" : "bad";
     const outputs = status === 0 ? named(parsed(reply)) : null;
-    this.out.replaceChildren(...[outputs, ...notes.map((note) => noted(note, this.desk.go)), this.keeping()].filter((part) => part));
+    const told = [outputs, ...notes.map((note) => noted(note, this.desk.go)), this.keeping(), traceOf(trace, this.desk.go)];
+    this.out.replaceChildren(...told.filter((part) => part));
     this.tellFields(notes);
     this.desk.marked();
   }
@@ -127,6 +138,11 @@ export class Run {
     const kind = this.result.status === 1 ? "on-clash" : "on-stop";
     const places = this.result.notes.flatMap((note) => note.places);
     return places.filter((place) => this.desk.go.isHere(place)).map((place) => ({ ...place, kind }));
+  }
+
+  /** The rules that have decided, each with its number. */
+  traced() {
+    return this.result ? marksOfTrace(this.result.trace, this.desk.go) : [];
   }
 
   // ---- a case

@@ -3,8 +3,9 @@
 import { make } from "./make.js";
 
 export class Tabs {
-  constructor(list, panels, law) {
-    Object.assign(this, { list, panels, law });
+  /** `told` is called with the name of what is shown. */
+  constructor(list, panels, law, told) {
+    Object.assign(this, { list, panels, law, told });
     this.byName = new Map();
     list.addEventListener("keydown", (event) => this.pressed(event));
     this.add("law", "Law", law);
@@ -37,6 +38,7 @@ export class Tabs {
 
   show(name) {
     this.shown = name;
+    if (name !== "law") this.last = name;
     for (const [other, { tab, inside }] of this.byName) {
       const isShown = other === name;
       tab.setAttribute("aria-selected", String(isShown));
@@ -44,6 +46,7 @@ export class Tabs {
       inside.classList.toggle("is-shown", isShown);
     }
     document.body.dataset.shown = name === "law" ? "law" : "panel";
+    this.told(name);
   }
 
   /** Whether the law is a panel like the others. */

@@ -1,6 +1,6 @@
 // The law's text: its words as a person reads them, and its blocks of code, both edited in place.
 
-import { CodeView } from "./code.js";
+import { CodeView, shortly } from "./code.js";
 import { fieldOf, hasCarriage, linesOf, linesOfField, number, stretchesOf, textOf } from "./law.js";
 import { button, make } from "./make.js";
 import { headingOf, read } from "./words.js";
@@ -20,6 +20,11 @@ class WordsView {
     this.edits.textContent = this.shown.hasChildNodes() ? "Edit the text" : "Add text";
     this.element.classList.toggle("is-empty", !this.shown.hasChildNodes());
     this.edits.disabled = this.stretch.lines.some((line) => line.replace(/\r$/, "").includes("\r"));
+  }
+
+  /** The last heading that is shown; nothing where there is none. */
+  heading() {
+    return [...this.shown.querySelectorAll("h2, h3, h4, h5, h6")].at(-1);
   }
 
   placed() {
@@ -123,6 +128,7 @@ export class TextView {
       this.told();
     }
     if (isDone) this.parted();
+    if (isDone) this.markHeadings();
   }
 
   /** Parts the text anew where a fence was written into it or taken out. */
@@ -137,6 +143,26 @@ export class TextView {
   mark(places) {
     this.marked = places;
     for (const view of this.views) if (view.mark) view.mark(places);
+    this.markHeadings();
+  }
+
+  /** Puts the numbers of what is marked in the code beside the headings under which it stands. */
+  markHeadings() {
+    const isOrdered = this.marked.some(({ order }) => order !== undefined);
+    if (!isOrdered && !this.wasOrdered) return;
+    this.wasOrdered = isOrdered;
+    for (const told of this.root.querySelectorAll(".shown .order")) told.remove();
+    if (!isOrdered) return;
+    const under = new Map();
+    let heading = null;
+    for (const view of this.views) {
+      heading = view.heading?.() ?? heading;
+      const orders = view.orders?.() ?? [];
+      if (heading && orders.length) under.set(heading, [...(under.get(heading) ?? []), ...orders]);
+    }
+    for (const [above, orders] of under) {
+      above.append(make("span", { class: "order" }, make("span", { class: "unseen" }, " decides as number "), shortly(orders)));
+    }
   }
 
   /** Says behind blocks that a case is missing: `{line, text}`, each behind the block with that line. */
