@@ -1,18 +1,22 @@
 """Sources, inputs and certificates that are cut and changed: each answer is in the table, and is one that the second implementation
 allows where it reads the source in time."""
+import functools, itertools
 from typing import NamedTuple
 
 from reference.answers import Program, is_allowed
 from reference.certificate import checked
 
-from .compared import allowed, in_time, text_of
+from .changes import cut, with_other_bytes, with_other_lines
+from .compared import allowed, in_time, on_disk, text_of
 from .odd_bytes import ODD_INPUTS, PLAIN, long_inputs, long_sources, random_texts, with_odd_bytes
+from .odd_words import odd_words
+from .pieces import Piece, Tried
 from .runs import Runs
 from .statutes import statutes
 from .table import out_of_table, told
 
-OTHERS = b'\n\r\0 #`(1aA|\xff.'
-BYTES = 10
+# So many changes go through a piece.
+MANY = 2_000
 
 
 class Changed(NamedTuple):
@@ -25,60 +29,62 @@ class Changed(NamedTuple):
     is_compared: bool = True
 
 
-def cut(text, end=b''):
-    """The proper prefixes, each with an end."""
-    return ((k, text[:k] + end) for k in range(len(text)))
+def other_call(s, k):
+    """The k-th call of the other modes in turn on a statute: its words behind the mode's, and its standard input."""
+    mode = ('audit', 'trace', 'many', 'emit', 'check', 'emit')[k % 6]
+    scope = s.certified if mode == 'check' else s.scope
+    given = {'many': b'[%s,1,%s]' % (s.given, s.given), 'check': s.certificate}.get(mode, s.given)
+    return [mode, scope, s.main] + (['-'] if k % 6 == 5 else []), given
 
 
-def with_other_bytes(text):
-    """Each byte changed to each of ten others."""
-    for k, byte in enumerate(text):
-        for other in [other for other in OTHERS if other != byte][:BYTES]:
-            yield '%d %r' % (k, bytes([other])), text[:k] + bytes([other]) + text[k + 1:]
+def of_source(s, name, kind, changes, steps, is_sample):
+    """Runs of a statute of which a file is changed, and calls of the other modes on each so-many-th. Of a sample each `step` is tried
+    and one of each `share` of them is compared."""
+    step, share, others = steps
+    for k, (what, made) in enumerate(changes()):
+        nth, rest = divmod(k, step if is_sample else 1)
+        if rest == 0:
+            files, what, is_compared = {**s.files, name: made}, '%s, %s' % (s.name, what), not is_sample or nth % share == 0
+            yield Changed(kind, what, files, ['run', s.scope, s.main], s.given, is_compared)
+            if nth % others == 0:
+                words, given = other_call(s, nth // others)
+                yield Changed(kind + ', in other modes', '%s, %s' % (words[0], what), files, words, given, is_compared)
 
 
-def with_other_lines(text):
-    """Each line dropped, doubled and exchanged with the next."""
-    lines = text.splitlines(True)
-    for k, line in enumerate(lines):
-        before, behind = lines[:k], lines[k + 1:]
-        yield 'line %d dropped' % (k + 1), b''.join(before + behind)
-        yield 'line %d doubled' % (k + 1), b''.join(before + [line, line] + behind)
-        yield 'line %d exchanged' % (k + 1), b''.join(before + behind[:1] + [line] + behind[1:])
+def sources(s):
+    """Kinds of changes of the files of a statute."""
+    for name, text in s.files.items():
+        yield name, 'sources cut', functools.partial(cut, text), (211, 3, 5)
+        yield name, 'sources cut, with the block closed', functools.partial(cut, text, b'\n```\n'), (131, 3, 5)
+        yield name, 'sources with a line changed', functools.partial(with_other_lines, text), (31, 1, 2)
+        if s.name == 'every form':
+            yield name, 'sources with a byte changed', functools.partial(with_other_bytes, text), (397, 12, 2)
+            yield name, 'sources with odd bytes', functools.partial(with_odd_bytes, text), (7, 1, 2)
 
 
-def sources(is_sample):
-    """Of each statute the source. A sample has one change of each `step`, and one of each `share` of them is compared."""
-    for s in statutes():
-        is_every = s.name == 'every form'
-        text = s.files[s.main]
-        for kind, changes, step, share in (('sources cut', cut(text), 211, 3),
-                                           ('sources cut, with the block closed', cut(text, b'\n```\n'), 131, 3),
-                                           ('sources with a line changed', with_other_lines(text), 31, 1),
-                                           ('sources with a byte changed', with_other_bytes(text) if is_every else (), 397, 12),
-                                           ('sources with odd bytes', with_odd_bytes(text) if is_every else (), 7, 1)):
-            for k, (what, made) in enumerate(changes):
-                if not is_sample or k % step == 0:
-                    is_compared = k // (step if is_sample else 1) % share == 0
-                    files, words = {**s.files, s.main: made}, ['run', s.scope, s.main]
-                    yield Changed(kind, '%s, %s' % (s.name, what), files, words, s.given, is_compared)
+def of_input(s, kind, changes, step, call, is_sample):
+    """Calls whose standard input is changed."""
+    for k, (what, made) in enumerate(changes()):
+        if not is_sample or k % step == 0:
+            yield Changed(kind, '%s, %s' % (s.name, what), s.files, call, made)
 
 
-def inputs(is_sample):
-    """Of each statute the input and the certificate."""
-    for s in statutes():
-        for mode, scope, text in (('run', s.scope, s.given), ('check', s.certified, s.certificate)):
-            what_of = 'inputs' if mode == 'run' else 'certificates'
-            for kind, changes, step in ((what_of + ' cut', cut(text), 23), (what_of + ' with a line changed', with_other_lines(text), 5),
-                                        (what_of + ' with a byte changed', with_other_bytes(text), 211),
-                                        (what_of + ' with odd bytes', with_odd_bytes(text), 29)):
-                for k, (what, made) in enumerate(changes):
-                    if not is_sample or k % step == 0:
-                        yield Changed(kind, '%s, %s' % (s.name, what), s.files, [mode, scope, s.main], made)
+def inputs(s):
+    """Kinds of changes of a statute's input, in the modes that read one, of an array of inputs, and of its certificate."""
+    array = b'[%s,{},%s]' % (s.given, s.given)
+    calls = [('inputs', ['run', s.scope, s.main], s.given, 1), ('certificates', ['check', s.certified, s.main], s.certificate, 1),
+             ('arrays', ['many', s.scope, s.main], array, 3), ('inputs of a trace', ['trace', s.scope, s.main], s.given, 3),
+             ('inputs of an emit', ['emit', s.scope, s.main, '-'], s.given, 3)]
+    for what, call, text, rarer in calls:
+        yield what + ' cut', functools.partial(cut, text), 23 * rarer, call
+        yield what + ' with a line changed', functools.partial(with_other_lines, text), 5 * rarer, call
+        yield what + ' with odd bytes', functools.partial(with_odd_bytes, text), 29 * rarer, call
+        if rarer == 1 or what == 'arrays':
+            yield what + ' with a byte changed', functools.partial(with_other_bytes, text), 211 * rarer, call
 
 
 def single(is_sample):
-    """Small sources and inputs, and long ones."""
+    """Small sources and inputs."""
     words, files = ['run', 'S', 'a.md'], {'a.md': PLAIN}
     for kind, changes, step in (('sources with a byte changed', with_other_bytes(PLAIN), 7),
                                 ('sources with odd bytes', with_odd_bytes(PLAIN), 3)):
@@ -91,10 +97,14 @@ def single(is_sample):
         yield Changed('random inputs', str(k), files, words, made)
     for given in ODD_INPUTS:
         yield Changed('odd inputs', repr(given), files, words, given)
+        yield Changed('odd inputs', 'many, %r' % given, files, ['many', *words[1:]], b'[{"n":1},%s]' % given)
+
+
+def long_parts(is_sample):
     for name, made, given, scope in long_sources():
         yield Changed('parts of 1 MiB', name, {'a.md': made}, ['run', scope, 'a.md'], given, not is_sample)
     for name, given in long_inputs():
-        yield Changed('parts of 1 MiB', 'input, %s' % name, files, words, given, not is_sample)
+        yield Changed('parts of 1 MiB', 'input, %s' % name, {'a.md': PLAIN}, ['run', 'S', 'a.md'], given, not is_sample)
 
 
 class Known:
@@ -104,17 +114,16 @@ class Known:
         self.files, self.program = None, None
 
     def replies(self, change):
-        mode, scope, main = change.words
+        mode, scope, main, *_ = change.words
         if change.files is not self.files:
             self.files, self.program = change.files, None
             try:
                 self.program = Program(change.files, main)
             except Exception:  # What it is refused for is found out below.
                 pass
-        if self.program is None or scope not in self.program.runs.numbers:
+        if self.program is None or scope not in self.program.runs.numbers or mode not in ('run', 'check'):
             return allowed(change.files, change.words, change.given)
-        run = self.program.run if mode == 'run' else lambda scope, data: checked(self.program, scope, data)
-        return {run(scope, change.given)}
+        return {self.program.run(scope, change.given) if mode == 'run' else checked(self.program, scope, change.given)}
 
 
 def wrong_change(known, change, ended):
@@ -123,16 +132,33 @@ def wrong_change(known, change, ended):
     found = in_time(known.replies, change) if change.is_compared else None
     if wrong or found is None:
         return found is not None, wrong
-    reply = text_of(ended)
+    reply, found = text_of(ended), set(map(on_disk, found))
     return True, '' if is_allowed(reply, found) else 'allowed is %r, got %s' % (sorted(found)[:3], told(ended))
 
 
-def broken(program, is_sample):
+def tried(program, changes, first):
     known = Known()
     with Runs(program) as runs:
-        for part in (sources, inputs, single):
-            for change in part(is_sample):
-                runs.put(change.files)
-                ended = runs.ended(change.words, change.given)
-                was_compared, wrong = wrong_change(known, change, ended)
-                yield change.kind + (', compared' if was_compared else ''), change.what, wrong
+        for change in itertools.islice(changes(), first, first + MANY):
+            runs.put(change.files)
+            ended = runs.ended(change.words, change.given)
+            was_compared, wrong = wrong_change(known, change, ended)
+            yield Tried(change.kind + (', compared' if was_compared else ''), change.what, wrong)
+
+
+def all_changes(is_sample):
+    """All changes, by a name and a function that makes them."""
+    for s in statutes():
+        for name, *kind in sources(s):
+            yield '%s, %s of %s' % (kind[0], s.name, name), functools.partial(of_source, s, name, *kind, is_sample)
+        for kind in inputs(s):
+            yield '%s, %s' % (kind[0], s.name), functools.partial(of_input, s, *kind, is_sample)
+    yield 'small ones', functools.partial(single, is_sample)
+    yield 'long parts', functools.partial(long_parts, is_sample)
+
+
+def broken(program, is_sample):
+    yield Piece('lists of words', functools.partial(odd_words, program, is_sample))
+    for name, changes in all_changes(is_sample):
+        for first in range(0, sum(1 for _ in changes()), MANY):
+            yield Piece('%s from %d' % (name, first), functools.partial(tried, program, changes, first))

@@ -1,8 +1,9 @@
 """The calls whose memory and devices fail: of each mode one that does its work over a source with every form, and of each refusal one."""
-import pathlib
+import functools, pathlib, re
 from typing import NamedTuple
 
 from reference.report import audit
+from reference.tokens import KEYWORDS, PAIRS, SYMBOL
 
 SOURCE = pathlib.Path(__file__).resolve().parent / 'source'
 
@@ -30,6 +31,9 @@ CALLS = [
     call('emit with an input', 'emit All a.md input.json', 0),
     call('trace', 'trace All a.md input.json', 0),
     call('many', 'many All a.md inputs.json', 0),
+    call('tables', 'table All a.md', 0),
+    call('a table', 'table Bands a.md band', 0),
+    call('a table with a rest', 'table Bands a.md --cases 1', 7),
     call('drill', 'drill 3 none', 0),
     call('conflict', 'run Drafted b.md both.json', 1),
     call('no value', 'run Drafted b.md none.json', 2),
@@ -41,10 +45,21 @@ CALLS = [
     call('refused array', 'many All a.md input.json', 5),
     call('refused certificate', 'check Bands a.md input.json', 8),
     call('no such scope', 'run None a.md input.json', 9),
+    call('no such target', 'table All a.md none', 9),
     call('missing file', 'run All a.md missing.json', 10),
 ]
 
+SYMBOLS = ': . , ; ( ) [ ] { } + - -- * / = != < <= > >='.split()
 
+
+def lacking():
+    """What of the language's words and symbols the source with every form lacks."""
+    text = ''.join((SOURCE / name).read_text() for name in ('a.md', 'b.md'))
+    words = [word for word in (*sorted(KEYWORDS), *PAIRS) if not re.search(r'\b%s\b' % word, text)]
+    return words + [symbol for symbol in SYMBOLS if symbol not in SYMBOL.findall(text)]
+
+
+@functools.cache
 def files():
     """The files of the calls: those that are kept, the certificate that the second implementation writes, and what is made of them."""
     kept = {file.name: file.read_bytes() for file in SOURCE.iterdir()}

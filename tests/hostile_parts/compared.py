@@ -10,6 +10,8 @@ from reference.report import audit
 
 # Of the processor.
 SECONDS = 5
+# Bytes of a name and of each of its parts, on Linux.
+MOST_NAME, MOST_PART = 4095, 255
 
 
 class Late(Exception):
@@ -38,7 +40,7 @@ def allowed(files, words, given):
         return {drill(words[1:])}
     if mode == 'emit' and not extra:
         return listings(files, main, scope)
-    if mode in ('emit', 'trace', 'many'):
+    if mode in ('emit', 'trace', 'many', 'table'):
         return {text.rstrip('\n') for text, _ in any_replies(words, {**files, '-': given})}
     name = extra[0] if extra and not extra[0].startswith('--') else '-'
     data = {**files, '-': given}.get(name)
@@ -52,6 +54,17 @@ def allowed(files, words, given):
     return {audit(files, main, scope)} if mode == 'audit' else {check(files, main, scope, data)}
 
 
+def on_disk(reply):
+    """The reply where the files lie on a disk. Nothing is told to be missing there by a name that the system doesn't look up at all: one
+    with a NUL, or with a part or as a whole longer than names may be."""
+    if not reply.startswith('missing file '):
+        return reply
+    name = reply[len('missing file '):]
+    parts = name.encode().split(b'/')
+    is_none = '\0' in name or len(name.encode()) > MOST_NAME or max(map(len, parts)) > MOST_PART
+    return 'read fault ' + name if is_none else reply
+
+
 def text_of(ended):
     """The reply without its last line feed."""
     text = ended.out.decode('utf-8', 'replace')
@@ -63,5 +76,5 @@ def differs(files, words, given, ended):
     found = in_time(allowed, files, words, given)
     if found is None:
         return False, ''
-    reply = text_of(ended)
+    reply, found = text_of(ended), set(map(on_disk, found))
     return True, '' if is_allowed(reply, found) else 'allowed is %r, got %r' % (sorted(found)[:3], reply[:300])

@@ -1,19 +1,24 @@
 """Each limit at its edge and one past it, under a stack of 1 MiB and under the 8 MiB that Linux gives; and what each takes."""
-import pathlib, subprocess, sys
+import functools, subprocess, sys
 
 from measure_sources import DEEP
-from reference.cases import case_folders, files_of, reply_in, words_of
+from reference.cases import case_folders, files_of, words_of
 
 from .compared import differs
 from .edges import edges
 from .forms import FORMS, GIVEN, nested_sources
+from .pieces import Piece, Tried
 from .runs import Ended, Runs
 from .table import out_of_table, told
 
 STACKS = 1024, 8192
+CALLS = [(['run', 'S', 'a.md'], GIVEN), (['audit', 'S', 'a.md'], GIVEN), (['check', 'S', 'a.md'], GIVEN), (['emit', 'S', 'a.md'], GIVEN),
+         (['emit', 'S', 'a.md', '-'], GIVEN), (['trace', 'S', 'a.md'], GIVEN), (['many', 'S', 'a.md'], b'[%s,{}]' % GIVEN)]
 # Of the processor.
 SECONDS = 20
 SMALL = 100_000
+# A reply that is longer isn't held against the table's forms, but against how it begins, ends and how long it is.
+LONG = 2**20
 RUNNER = '''
 import os, resource, sys
 stack, words = int(sys.argv[1]), sys.argv[2:]
@@ -35,75 +40,85 @@ def measured(runs, words, given, stack):
     return Ended(int(status), ended.stdout, b''.join(err)), float(seconds), int(kib) / 1024
 
 
-def wrong_edge(runs, edge, ended, seconds):
+def wrong_edge(edge, ended, seconds):
     """What is wrong of a run at an edge."""
-    wrong = out_of_table(edge.words, ended)
+    is_long = len(ended.out) > LONG
+    wrong = '' if is_long and ended.out.endswith(b'\n') and not ended.err else out_of_table(edge.words, ended)
     if wrong:
         return wrong
     if seconds > SECONDS:
         return 'takes %.1f s' % seconds
-    if ended.status != edge.status or not ended.out.startswith(edge.reply):
+    if ended.status != edge.status or not ended.out.startswith(edge.reply) or edge.length not in (None, len(ended.out)):
         return 'status %d and %r are due: %s' % (edge.status, edge.reply, told(ended))
     is_small = sum(map(len, edge.files.values())) + len(edge.given) < SMALL
     return differs(edge.files, edge.words, edge.given, ended)[1] if is_small and ended.status != 9 else ''
 
 
-def at_edges(runs, is_sample):
-    for edge in edges(is_sample):
+def at_edge(program, edge, is_sample):
+    with Runs(program) as runs:
         runs.put(edge.files)
         for stack in STACKS[:1] if is_sample else STACKS:
             ended, seconds, mib = measured(runs, edge.words, edge.given, stack)
-            if not is_sample and stack == STACKS[0]:
-                print('%s: %.2f s, %.0f MiB, status %s' % (edge.name, seconds, mib, ended.status))
-            yield 'edges', '%s under %d KiB' % (edge.name, stack), wrong_edge(runs, edge, ended, seconds)
+            note = '%s, %s: %.2f s, %.0f MiB, status %s' % (edge.words[0], edge.name, seconds, mib, ended.status)
+            is_told = not is_sample and stack == STACKS[0]
+            yield Tried('edges', '%s under %d KiB' % (edge.name, stack), wrong_edge(edge, ended, seconds), note if is_told else '')
 
 
-def at_heights(runs, is_sample):
-    """Each form at the greatest height and one past it, in each mode that reads a source."""
-    for k, (form, source, is_accepted) in enumerate(nested_sources()):
-        files = {'a.md': source}
-        runs.put(files)
-        for words in (['run', 'S', 'a.md'], ['audit', 'S', 'a.md'], ['check', 'S', 'a.md'], ['emit', 'S', 'a.md']):
-            for stack in STACKS[:1] if is_sample else STACKS:
-                ended = runs.ended(words, GIVEN, limit='ulimit -s %d' % stack)
-                wrong = out_of_table(words, ended)
-                is_deep = ended.out.startswith(b'source refused E7 at a.md:')
-                if not wrong and is_deep == is_accepted:
-                    wrong = told(ended)
-                if not wrong and words[0] == 'run' and not (is_sample and k % 4):
-                    wrong = differs(files, words, GIVEN, ended)[1]
-                yield 'heights', '%s in %s under %d KiB' % (form, words[0], stack), wrong
+def heights(program, k, is_sample):
+    """A form at the greatest height and one past it, in each mode that reads a source."""
+    seconds, mib = 0, 0
+    with Runs(program) as runs:
+        for form, source, is_accepted in nested_sources(k):
+            files = {'a.md': source}
+            runs.put(files)
+            for words, given in CALLS:
+                for stack in STACKS[:1] if is_sample else STACKS:
+                    ended, *took = measured(runs, words, given, stack)
+                    seconds, mib = max(seconds, took[0]), max(mib, took[1])
+                    is_compared = not is_sample or words[0] == 'run' and k % 4 == 0
+                    wrong = wrong_height(files, words, given, ended, is_accepted, is_compared)
+                    yield Tried('heights', '%s in %s under %d KiB' % (form, words[0], stack), wrong)
+    wrong = 'takes %.1f s' % seconds if seconds > SECONDS else ''
+    yield Tried('forms', form, wrong, '' if is_sample else '%s: at most %.2f s, %.0f MiB' % (form, seconds, mib))
 
 
-def deep_calls(runs):
+def wrong_height(files, words, given, ended, is_accepted, is_compared):
+    wrong = out_of_table(words, ended)
+    if wrong or ended.out.startswith(b'source refused E7 at a.md:') == is_accepted:
+        return wrong or told(ended)
+    return differs(files, words, given, ended)[1] if is_compared else ''
+
+
+def deep_calls(program):
     """Chains of calls, each below a high expression: what waits stands on the heap."""
-    for name, text in DEEP:
-        files = {'a.md': text.encode()}
-        runs.put(files)
-        for words, status in ((['run', 'S', 'a.md'], 0), (['audit', 'S', 'a.md'], 0), (['emit', 'S', 'a.md', '-'], 0)):
-            ended = runs.ended(words, b'{"n":1}', limit='ulimit -s %d' % STACKS[0])
-            wrong = out_of_table(words, ended) or ('' if ended.status == status else told(ended))
-            yield 'deep calls', '%s in %s' % (name, words[0]), wrong
+    with Runs(program) as runs:
+        for name, text in DEEP:
+            runs.put({'a.md': text.encode()})
+            for mode, *extra in (['run'], ['audit'], ['emit', '-'], ['trace']):
+                words = [mode, 'S', 'a.md', *extra]
+                ended = runs.ended(words, b'{"n":1}', limit='ulimit -s %d' % STACKS[0])
+                wrong = out_of_table(words, ended) or ('' if ended.status == 0 else told(ended))
+                yield Tried('deep calls', '%s in %s' % (name, mode), wrong)
 
 
-def cases(runs):
+def cases(program):
     """The end-to-end cases on the smaller stack."""
     for case in case_folders():
         if (case / 'make').exists() or (case / 'device').exists():
             continue
         files = files_of(case)
-        here = Runs(runs.program)
-        with here:
+        with Runs(program) as here:
             here.put(files)
             ended = here.ended(words_of(case), files['-'], limit='ulimit -s %d' % STACKS[0])
         status = int((case / 'status').read_text()) if (case / 'status').exists() else 0
         is_right = ended.status == status and ended.out == ((case / 'stdout').read_bytes() if (case / 'stdout').exists() else b'')
-        yield 'cases under 1 MiB of stack', case.name, '' if is_right else told(ended)
+        yield Tried('cases under 1 MiB of stack', case.name, '' if is_right else told(ended))
 
 
 def deep(program, is_sample):
-    with Runs(program) as runs:
-        yield from at_heights(runs, is_sample)
-        yield from deep_calls(runs)
-        yield from at_edges(runs, is_sample)
-        yield from cases(runs)
+    for k, (form, *_) in enumerate(FORMS):
+        yield Piece('heights of ' + form, functools.partial(heights, program, k, is_sample))
+    yield Piece('deep calls', functools.partial(deep_calls, program))
+    yield Piece('cases', functools.partial(cases, program))
+    for k, edge in enumerate(edges(is_sample)):
+        yield Piece('edge %d, %s' % (k, edge.name), functools.partial(at_edge, program, edge, is_sample), not is_sample)

@@ -1,9 +1,10 @@
 """Each open, read and write of each call fails, and gives less than was asked; and files, inputs and outputs that are no plain ones."""
-import errno
+import errno, functools
 
 from .calls import CALLS
 from .odd_files import odd_files
-from .refusing import LAST, Refusing, has_compiler
+from .pieces import Piece, Tried
+from .refusing import LAST, Refusing, has_compiler, library
 from .runs import Ended
 from .table import out_of_table, told
 
@@ -38,7 +39,8 @@ def failing(runs, call, is_sample):
             before = b''.join(right.out.splitlines(True)[:k - 1]) if call.words[0] == 'many' else b''
             for error in errors[:FEW] + (errno.ENOMEM,) if is_sample else errors:
                 ended, want = runs.refused(call, kind, k, k, error), due(kind, name, error, right, before)
-                yield '%ss that fail' % kind, '%s %d, %s' % (call.name, k, errno.errorcode[error]), '' if ended == want else told(ended)
+                what = '%s %d, %s' % (call.name, k, errno.errorcode[error])
+                yield Tried('%ss that fail' % kind, what, '' if ended == want else told(ended))
 
 
 def slow(runs, call):
@@ -48,7 +50,7 @@ def slow(runs, call):
         count = sum(of == kind for of, _ in runs.asked(call))
         for first, last in [(1, LAST), *((k, k) for k in range(1, count + 1))]:
             ended = runs.refused(call, kind, first, last, 0)
-            yield '%ss of one byte' % kind, '%s %d' % (call.name, first), '' if ended == right else told(ended)
+            yield Tried('%ss of one byte' % kind, '%s %d' % (call.name, first), '' if ended == right else told(ended))
 
 
 def growing(runs, call, is_sample):
@@ -64,16 +66,26 @@ def growing(runs, call, is_sample):
                 longer = runs.answer(call)
                 runs.put({name: was})
                 wrong = out_of_table(call.words, ended) or ('' if ended in (right, longer) else told(ended))
-                yield 'files that grow', '%s %d by %d' % (call.name, k, more), wrong
+                yield Tried('files that grow', '%s %d by %d' % (call.name, k, more), wrong)
 
 
 def devices(program, is_sample):
     if not has_compiler():
         print('devices: skipped, since cc is missing')
         return
+    library()
+    for call in CALLS:
+        yield Piece(call.name, functools.partial(troubled, program, call, is_sample))
+    yield Piece('odd files', functools.partial(odd, program))
+
+
+def troubled(program, call, is_sample):
     with Refusing(program) as runs:
-        for call in CALLS:
-            yield from failing(runs, call, is_sample)
-            yield from slow(runs, call)
-            yield from growing(runs, call, is_sample)
+        yield from failing(runs, call, is_sample)
+        yield from slow(runs, call)
+        yield from growing(runs, call, is_sample)
+
+
+def odd(program):
+    with Refusing(program) as runs:
         yield from odd_files(runs)

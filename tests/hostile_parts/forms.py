@@ -65,9 +65,9 @@ def of_height(form, adds, middle, height):
     return text
 
 
-def nested_sources():
-    """Of each form the source at the greatest height and one past it, with whether it is accepted."""
-    for form, adds, middle, kind in FORMS:
-        for height in (MOST, MOST + 1):
-            text = of_height(form, adds, middle, height)
-            yield form, block((DECLARED % (kind, text)).split('\n')).encode(), height == MOST
+def nested_sources(number):
+    """Of a form the source at the greatest height and one past it, with whether it is accepted."""
+    form, adds, middle, kind = FORMS[number]
+    for height in (MOST, MOST + 1):
+        text = of_height(form, adds, middle, height)
+        yield form, block((DECLARED % (kind, text)).split('\n')).encode(), height == MOST

@@ -1,6 +1,7 @@
 """Files, inputs and outputs that are no plain ones, and words as no user writes them."""
 import fcntl, os, subprocess
 
+from .pieces import Tried
 from .runs import Ended
 from .table import out_of_table, told
 
@@ -51,11 +52,11 @@ def odd_files(runs):
     for words, status, reply in NAMED:
         want = Ended(status, b'' if reply is None else reply.encode() + b'\n', b'')
         ended = runs.ended(words)
-        yield 'odd files', ' '.join(str(word)[:40] for word in words), '' if ended == want else told(ended)
+        yield Tried('odd files', ' '.join(str(word)[:40] for word in words), '' if ended == want else told(ended))
     ended = runs.ended(['run', 'All', 'itself.md'])
-    yield 'odd files', 'a file that includes itself by longer and longer names', out_of_table(['run'], ended)
+    yield Tried('odd files', 'a file that includes itself by longer and longer names', out_of_table(['run'], ended))
     words = ['x'] * 100_000
-    yield 'odd files', 'many words', out_of_table(words, runs.ended(words))
+    yield Tried('odd files', 'many words', out_of_table(words, runs.ended(words)))
     yield from closed_files(runs)
     yield from pipes(runs)
     yield from odd_inputs(runs)
@@ -66,7 +67,7 @@ def closed_files(runs):
     """A file that may not be read, by a user who may not read each."""
     as_other = {'preexec_fn': lambda: os.setuid(NOBODY)} if os.geteuid() == 0 else {}
     ended = runs.ended(SCOPE + ['closed'], **as_other)
-    yield 'odd files', 'a file that may not be read', '' if ended == Ended(11, b'read fault closed\n', b'') else told(ended)
+    yield Tried('odd files', 'a file that may not be read', '' if ended == Ended(11, b'read fault closed\n', b'') else told(ended))
 
 
 def pipes(runs):
@@ -76,7 +77,7 @@ def pipes(runs):
         right = runs.ended([name if word == 'fifo' else word for word in words])
         ended = runs.ended(words, limit='cat %s > fifo &' % name + ' :')
         right = Ended(right.status, right.out.replace(name.encode() + b':', b'fifo:'), right.err)
-        yield 'pipes', ' '.join(words), '' if ended == right else told(ended)
+        yield Tried('pipes', ' '.join(words), '' if ended == right else told(ended))
 
 
 def odd_inputs(runs):
@@ -87,7 +88,7 @@ def odd_inputs(runs):
         for what, options, want in (('closed', {'limit': 'exec <&-'}, fault), ('a folder', {'stdin': folder}, fault),
                                     ('only written to', {'stdin': sink}, fault), ('without end', {'stdin': zeros}, large)):
             ended = runs.ended(words, **options)
-            yield 'odd standard inputs', '%s, %s' % (what, ' '.join(words)), '' if ended == want else told(ended)
+            yield Tried('odd standard inputs', '%s, %s' % (what, ' '.join(words)), '' if ended == want else told(ended))
     for file in (folder, sink, zeros):
         os.close(file)
 
@@ -98,16 +99,16 @@ def odd_outputs(runs):
     full, source = os.open('/dev/full', os.O_WRONLY), os.open(os.devnull, os.O_RDONLY)
     closed, into_closed = os.pipe()
     os.close(closed)
-    modes = (['audit', 'All', 'a.md'], ['emit', 'All', 'a.md'], ['trace', 'All', 'a.md', 'input.json'], ['many', 'All', 'a.md', 'inputs.json'],
-             ['drill', '2', 'none'])
+    modes = (['audit', 'All', 'a.md'], ['check', 'Bands', 'a.md', 'certificate'], ['emit', 'All', 'a.md'], ['emit', *CALL[1:]],
+             ['trace', *CALL[1:]], ['many', 'All', 'a.md', 'inputs.json'], ['table', 'All', 'a.md'], ['drill', '2', 'none'])
     for words in (CALL, *modes, [], ['run', 'All', 'none.md']):
         for what, options in (('full', {'stdout': full}), ('closed', {'limit': 'exec >&-'}), ('only read from', {'stdout': source}),
                               ('a closed pipe', {'stdout': into_closed}), ('closed as input is', {'limit': 'exec <&- >&-'})):
             ended = runs.ended(words, **options)
-            yield 'odd standard outputs', '%s, %s' % (what, ' '.join(words)), '' if ended == failed else told(ended)
+            yield Tried('odd standard outputs', '%s, %s' % (what, ' '.join(words)), '' if ended == failed else told(ended))
     for file in (full, source, into_closed):
         os.close(file)
-    yield 'odd standard outputs', 'a pipe that takes a front', front_taken(runs)
+    yield Tried('odd standard outputs', 'a pipe that takes a front', front_taken(runs))
 
 
 def front_taken(runs):

@@ -1,5 +1,5 @@
 """Runs of the calls whose allocations, opens, reads or writes are refused, by refuse.c."""
-import pathlib, shutil, subprocess
+import atexit, functools, pathlib, shutil, subprocess, tempfile
 
 from .calls import files
 from .runs import Runs
@@ -8,13 +8,22 @@ HERE = pathlib.Path(__file__).resolve().parent
 LAST = 2**31
 
 
+@functools.cache
+def library():
+    """The library that refuses, made once for all that are forked from here."""
+    folder = pathlib.Path(tempfile.mkdtemp(prefix='hostile-'))
+    folder.chmod(0o755)
+    atexit.register(shutil.rmtree, folder)
+    subprocess.run(['cc', '-O1', '-shared', '-fPIC', '-o', folder / 'refuse.so', HERE / 'refuse.c'], check=True)
+    return folder / 'refuse.so'
+
+
 class Refusing(Runs):
     """Runs over the files of the calls, with the library before the program that refuses."""
 
     def __enter__(self):
         self.put(files())
-        self.library = self.folder / 'refuse.so'
-        subprocess.run(['cc', '-O1', '-shared', '-fPIC', '-o', self.library, HERE / 'refuse.c'], check=True)
+        self.library = library()
         return self
 
     def given(self, call):

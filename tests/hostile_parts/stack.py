@@ -1,26 +1,30 @@
 """The deepest sources where the address space has no room for the stack to grow: the answer is want of memory or the right one."""
-from measure_sources import DEEP
+import functools
+
+from measure_sources import DEEP, HEAD, block, definitions, over_list
 
 from .deep import STACKS
-from .forms import GIVEN, nested_sources
+from .forms import FORMS, GIVEN, nested_sources
 from .odd_bytes import PLAIN
+from .pieces import Piece, Tried
 from .runs import Ended, Runs
 from .table import out_of_table, told
 
 STEP, ROOM = 4, 1536
 # The loader's status where the libraries have no room, and the signals with which the system ends a program that it can't load.
 LOADER = {127, -9, -11}
-WANT = Ended(13, b'', b'')
+# From less to more than large calls take.
+SPACES = [4_096 * 5**k // 4**k for k in range(24)]
+# An environment takes at most a fourth of the stack, and a word of it 128 KiB.
+FULL = {'HOSTILE_%d' % k: 'n' * 80_000 for k in range(3)}
+MODES = ['run', 'audit', 'check', 'emit', 'trace', 'many', 'table']
 
 
+@functools.cache
 def deepest():
     """A plain source, the deepest calls, and each form at its greatest height, with an input."""
-    yield 'plain', PLAIN, b'{"n":1}'
-    for name, text in DEEP:
-        yield name, text.encode(), b'{"n":1}'
-    for form, source, is_accepted in nested_sources():
-        if is_accepted:
-            yield form, source, GIVEN
+    return [('plain', PLAIN, b'{"n":1}'), *((name, text.encode(), b'{"n":1}') for name, text in DEEP),
+            *((*next(nested_sources(k))[:2], GIVEN) for k in range(len(FORMS)))]
 
 
 def least(works, low, high, step):
@@ -40,33 +44,82 @@ def loads(runs, kib):
     return in_space(runs, [], b'', kib).status not in LOADER
 
 
-def spaces(runs, is_sample):
+def calls(runs, source, given, modes=MODES):
+    """A call of each mode on a source, with its answer where memory is there."""
+    runs.put({'a.md': source})
+    for words in [[mode, 'S', 'a.md'] for mode in modes] + ([['emit', 'S', 'a.md', '-']] if 'emit' in modes else []):
+        now = b'[%s,%s]' % (given, given) if words[0] == 'many' else given
+        yield words, now, runs.ended(words, now)
+
+
+def is_right(words, ended, right):
+    """Whether it is the answer, or want of memory, of many inputs behind whole lines."""
+    is_front = words[0] == 'many' and right.out.startswith(ended.out) and ended.out.endswith(b'\n')
+    return ended == right or (ended.status, ended.err) == (13, b'') and (not ended.out or is_front)
+
+
+def spaces(program, begin, number, is_sample):
     """Each address space from the least on in which the program is there."""
-    begin = least(lambda kib: loads(runs, kib), 0, 1 << 16, STEP)
-    for k, (name, source, given) in enumerate(deepest()):
-        if is_sample and k > 6:
-            break
-        runs.put({'a.md': source})
-        for mode in ('run', 'audit', 'check', 'emit', 'trace')[:1 if is_sample else 5]:
-            words = [mode, 'S', 'a.md']
+    name, source, given = deepest()[number]
+    with Runs(program) as runs:
+        for words, now, right in calls(runs, source, given, MODES[:1] if is_sample else MODES):
+            for kib in range(begin, begin + ROOM, 16 * STEP if is_sample else STEP if words[0] == 'run' else 4 * STEP):
+                ended = in_space(runs, words, now, kib)
+                wrong = '' if is_right(words, ended, right) else told(ended)
+                yield Tried('address spaces', '%s in %s, %d KiB' % (name, ' '.join(words), kib), wrong)
+
+
+def drills(program, begin):
+    with Runs(program) as runs:
+        words = ['drill', '100', 'none']
+        right = runs.ended(words)
+        for kib in range(begin, begin + ROOM, 4 * STEP):
+            ended = in_space(runs, words, b'', kib)
+            yield Tried('address spaces', 'drill, %d KiB' % kib, '' if is_right(words, ended, right) else told(ended))
+
+
+def stacks(program, is_sample):
+    """The deepest sources on half of the smaller stack, and on all of it where the environment takes what of it an environment may."""
+    with Runs(program) as runs:
+        for name, source, given in deepest()[::4 if is_sample else 1]:
+            for words, now, right in calls(runs, source, given):
+                for kind, kib, more in (('half a stack', STACKS[0] // 2, None), ('a stack behind a full environment', STACKS[0], FULL)):
+                    ended = runs.ended(words, now, limit='ulimit -s %d' % kib, more=more)
+                    wrong = out_of_table(words, ended) or ('' if ended == right else told(ended))
+                    yield Tried(kind, '%s in %s' % (name, ' '.join(words)), wrong)
+
+
+def large_calls():
+    """Calls that take much memory: a source, its words and its standard input."""
+    wide, numbers, few = definitions(20_000), over_list('number of l', 'integer'), PLAIN.decode()
+    for words in (['run'], ['trace'], ['audit'], ['emit'], ['emit', '-']):
+        yield wide, words, b'{"n":1}'
+    yield numbers, ['run'], b'{"l":[1' + b',-48313' * 500_000 + b']}'
+    yield few, ['many'], b'[{"n":1}' + b',{"n":2},{}' * 200_000 + b']'
+    tree = b'split 0\nleaf\n' * 200_000 + b'leaf\nend\n'
+    halves = block(HEAD + ['  definition x under condition n %s consequence equals n' % asked for asked in ('>= 0', '< 0')])
+    yield halves, ['check'], b'catala-certificate 1\nscope S\nvar x\n' + tree
+
+
+def large(program):
+    """Calls that take much memory, where there is from little of it to enough."""
+    with Runs(program) as runs:
+        for source, (mode, *more), given in large_calls():
+            runs.put({'a.md': source.encode()})
+            words = [mode, 'S', 'a.md', *more]
             right = runs.ended(words, given)
-            for kib in range(begin, begin + ROOM, 16 * STEP if is_sample else 4 * STEP):
+            for kib in SPACES:
                 ended = in_space(runs, words, given, kib)
-                yield 'address spaces', '%s in %s, %d KiB' % (name, mode, kib), '' if ended in (right, WANT) else told(ended)
-
-
-def stacks(runs, is_sample):
-    """The deepest sources on half of the smaller stack."""
-    for name, source, given in list(deepest())[::4 if is_sample else 1]:
-        runs.put({'a.md': source})
-        for mode in ('run', 'audit', 'check', 'emit', 'trace'):
-            words = [mode, 'S', 'a.md']
-            right = runs.ended(words, given)
-            ended = runs.ended(words, given, limit='ulimit -s %d' % (STACKS[0] // 2))
-            yield 'stacks', '%s in %s' % (name, mode), out_of_table(words, ended) or ('' if ended == right else told(ended))
+                yield Tried('large calls in little memory', '%s, %d KiB' % (' '.join(words), kib),
+                            '' if is_right(words, ended, right) else told(ended))
 
 
 def stack(program, is_sample):
     with Runs(program) as runs:
-        yield from spaces(runs, is_sample)
-        yield from stacks(runs, is_sample)
+        begin = least(lambda kib: loads(runs, kib), 0, 1 << 16, STEP)
+    for number, (name, _, _) in enumerate(deepest()[:7] if is_sample else deepest()):
+        yield Piece('address spaces, ' + name, functools.partial(spaces, program, begin, number, is_sample))
+    yield Piece('address spaces, drill', functools.partial(drills, program, begin))
+    if not is_sample:
+        yield Piece('large calls in little memory', functools.partial(large, program))
+    yield Piece('half of the smaller stack', functools.partial(stacks, program, is_sample))

@@ -3,6 +3,8 @@ import json, re
 
 PLACE = rb'[^\n]+:[1-9][0-9]*:[1-9][0-9]*'
 NAME = rb'[^\n]+'
+# A word of the call, which may be empty or have a line feed.
+WORD = rb'(?s:.*)'
 FAULTS = rb'(?:Overflow|DivisionByZero|AmbiguousDate|Uncomparable|AssertionFailed)'
 AUDITED = rb'audit %s\n(?:[^\n]+: [^\n]+\n)*verdict (Complete|Found|Masked|Undecided)\n' % NAME
 CERTIFICATE = (rb'catala-certificate 2\n(?:scope [^\n]+\n(?:var [^\n]+\n(?:name [0-9]+\n(?:split [0-9]+\n|cite [0-9]+\n|leaf\n)+)*'
@@ -17,6 +19,9 @@ COUNTED = rb'%ssteps [0-9]+\n' % LISTING
 # What stands there of a trace.
 DECIDED = rb'(?:%s by (?:none|%s(?: under [^\n]*)?)\n)*' % (NAME, PLACE)
 OUTPUTS = rb'\{[^\n]*\}\n'
+# The tables of targets: how far their leaves are told by the status.
+TABLES = rb'(?:table %s\n(?:[^\n]+ : (?:definition at %s|conflict|no value|false|not given)\n)+%%s)*' % (NAME, PLACE)
+SHOWN, SPENT = TABLES % b'', TABLES % rb'(?:rest not shown, budget [0-9]+\n)?'
 
 # What a mode writes with status 0, as far as its form goes.
 FINE = {
@@ -25,6 +30,7 @@ FINE = {
     'check': rb'Yes\n(?:%s)?' % CERTIFICATE,
     'emit': rb'%s|%s%s' % (LISTING, COUNTED, OUTPUTS),
     'trace': DECIDED + OUTPUTS,
+    'table': SHOWN,
     'drill': DRILLED,
 }
 TEXTS = {
@@ -37,12 +43,12 @@ TEXTS = {
     6: rb'(?:%s)+' % AUDITED,
     7: rb'(?:%s)+' % AUDITED,
     8: rb'certificate refused (?:C4|C[1-6] at line [1-9][0-9]*)\n',
-    9: rb'(?:%s|no such scope %s\n|)' % (USAGE, NAME),
-    10: rb'missing file %s\n' % NAME,
-    11: rb'read fault %s\n' % NAME,
+    9: rb'(?:%s|no such (?:scope|target) %s\n|)' % (USAGE, WORD),
+    10: rb'missing file %s\n' % WORD,
+    11: rb'read fault %s\n' % WORD,
     12: rb'',
     13: rb'',
-    14: rb'too large %s\n' % NAME,
+    14: rb'too large %s\n' % WORD,
 }
 # The lines of many inputs, of which each tells what a run on it alone does.
 LINES = rb'(?:%s)*' % b'|'.join((OUTPUTS, TEXTS[1], TEXTS[2], TEXTS[3], TEXTS[5]))
@@ -55,25 +61,36 @@ FRONTS = {'emit': COUNTED, 'trace': DECIDED}
 VERDICTS = {0: {b'Complete'}, 6: {b'Found'}, 7: {b'Masked', b'Undecided'}}
 
 
+def mode_of(words):
+    """The first word that is none of the option."""
+    at = 0
+    while at < len(words) and words[at].startswith('--'):
+        at += 2 if words[at] == '--cases' else 1
+    return words[at] if at < len(words) else ''
+
+
 def out_of_table(words, ended):
     """What of a run's end stands outside the table; nothing where all of it may be."""
     if ended.status is None:
         return 'no answer in time'
     if ended.status < 0:
         return 'signal %d' % -ended.status
-    mode = words[0] if words else ''
+    mode = mode_of(words)
     form = FINE.get(mode) if ended.status == 0 else TEXTS.get(ended.status)
     if ended.status in STOPS:
         form = FRONTS.get(mode, b'') + form
     if mode == 'many' and ended.status in BROKEN:
         form = BROKEN[ended.status]
+    if mode == 'table' and ended.status == 7:
+        form = SPENT
     if form is None or ended.err:
         return 'status %d, %r on standard error' % (ended.status, ended.err[:80])
     if not re.fullmatch(form, ended.out):
         return 'status %d with %r' % (ended.status, ended.out[:80])
-    if (mode in ('run', 'trace') or mode == 'emit' and words[3:]) and ended.status == 0 and not is_json(ended.out.split(b'\n')[-2]):
+    is_outputs = mode in ('run', 'trace') or mode == 'emit' and not re.fullmatch(LISTING, ended.out)
+    if is_outputs and ended.status == 0 and not is_json(ended.out.split(b'\n')[-2]):
         return 'no JSON: %r' % ended.out[-80:]
-    if words[:1] == ['audit'] and ended.status in VERDICTS:
+    if mode == 'audit' and ended.status in VERDICTS:
         if re.findall(rb'^verdict (\w+)$', ended.out, re.M)[-1] not in VERDICTS[ended.status]:
             return 'status %d with %r' % (ended.status, ended.out[-80:])
     return ''
