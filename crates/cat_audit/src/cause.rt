@@ -44,7 +44,7 @@ fn least_derived(terms: &[Term], region: Region) -> Option<usize>
 
 /// The position on which a target's finding in a region hangs beside the inputs: of a function its declaration, and
 /// else the first appearance of the first derived term that the region constrains.
-pub(crate) fn undecided_at(table: &Table, target: u32, region: Region) -> Option<Pos>
+pub fn undecided_at(table: &Table, target: u32, region: Region) -> Option<Pos>
     requires { target < length table.now.targets }
     ensures { IfSome (slice_get table.now.targets target) (λ t. result ≡ undecided_at table.now.terms t region) }
 {

@@ -19,6 +19,7 @@ mod text;
 mod tried;
 
 pub use auditing::audit;
+pub use cause::undecided_at;
 pub use finding::{Finding, Line, TargetLine};
 pub use finding_laws::tables_admit_something;
 pub use laws::{

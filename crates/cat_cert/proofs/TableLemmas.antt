@@ -28,7 +28,8 @@ use Rattle.cat_cert.specs.ReadTrees.{AreReadTrees}
 use Rattle.cat_cert.specs.Uncovered.{IsCovered, AreCovered, AllCovered, tree_uncovered, targets_uncovered}
 use Rattle.cat_cert.specs.Uncovered.{uncovered}
 use Rattle.cat_cert.specs.Checked.{HasClosedTree}
-use Rattle.cat_cert.specs.inside.Checkable.{last_line, AreOfTable, AreOfTables, IsLow, IsUpTo, IsCheckable, NamesFirst}
+use Rattle.cat_cert.specs.Heights.{IsLow, IsUpTo}
+use Rattle.cat_cert.specs.inside.Checkable.{last_line, AreOfTable, AreOfTables, IsCheckable, NamesFirst}
 use Rattle.cat_cert.specs.inside.Checkable.{found_in}
 use Rattle.cat_cert.proofs.Lists.{drop_at, have_at, have_taken}
 use Rattle.cat_cert.proofs.RoomLemmas.{with_room, lines_same, covered_same}

@@ -3,7 +3,7 @@ ghost use Rattle.std.specs.Prelude.{◌≡◌, max, IsTrue, IfOk};
 ghost use Rattle.cat_scope.specs.Names.{AllHave};
 ghost use Rattle.cat_guard.specs.Trees.{expanded};
 ghost use Rattle.cat_walk.specs.Sizes.{is_small};
-ghost use Rattle.cat_cert.specs.inside.Checkable.{IsUpTo};
+ghost use Rattle.cat_cert.specs.Heights.{IsUpTo};
 
 use crate::CertTree;
 use cat_walk::{cited_trees_are_whole, tree_size};
@@ -27,7 +27,7 @@ fn greater(one: usize, other: usize) -> usize
 }
 
 /// How high the highest of some trees is.
-pub(crate) fn highest(alloc: Global, trees: &[CertTree]) -> Result<usize, AllocError>
+pub fn highest(alloc: Global, trees: &[CertTree]) -> Result<usize, AllocError>
     requires { AllHave (λ c. IsTrue (is_small (expanded c.tree))) trees.now }
     ensures { IfOk result (λ most. AllHave (IsUpTo most) trees.now) }
 {

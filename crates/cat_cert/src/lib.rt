@@ -25,6 +25,7 @@ mod writing;
 
 pub use certificate::{CertTree, CertTrees, Certificate, LineNumbers, MOST_LEAVES, Version};
 pub use certifying::write_cert;
+pub use heights::highest;
 pub use laws::{
     certified_texts_are_not_refused, limit_is_as_stated,
     what_is_written_of_covered_trees_is_certified, what_is_written_over_is_read_again,

@@ -1,5 +1,5 @@
 -- No operator is stuck on values of the types that it takes: it gives a value of the type of its result, or a fault.
-use Rattle.std.proofs.Common.{◌≡◌, inl, inr, ℤ, pos, ◌-ℤ◌, neg_ℤ, Bool, not, List, [], ◌∷◌, map, Result, Ok, refl, sym}
+use Rattle.std.proofs.Common.{◌≡◌, inl, inr, ℤ, pos, ◌-ℤ◌, neg_ℤ, Bool, not, [], ◌∷◌, map, Result, Ok, sym}
 use Rattle.std.proofs.Common.{ap, subst}
 use Rattle.std.specs.declared.cmp.Ordering.{Ordering}
 use Rattle.cat_pos.specs.declared.pos.Pos.{Pos}

@@ -25,4 +25,4 @@ pub use refusal::WalkRefusal;
 pub use sharing::share;
 pub use sharing_laws::{named_parts_are_subtrees, shared_trees_stand_for_the_tree};
 pub use size::{PAST_MOST, TreeSize, tree_size};
-pub use walking::walk;
+pub use walking::{keep_live, to_next_side, walk};

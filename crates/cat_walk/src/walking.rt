@@ -61,7 +61,7 @@ fn is_parted(table: &Table, region: &Region, atom: usize) -> bool
 }
 
 /// Keeps what is live in a region before a split, if the split parts it and little is live.
-fn keep_live(
+pub fn keep_live(
     alloc: Global,
     table: &Table,
     target: u32,
@@ -96,7 +96,7 @@ fn is_empty(region: &Region) -> bool
 
 /// Goes back to the last split whose true side a region is on, and over to its false side, where there is one. It drops
 /// what was live further down.
-fn to_next_side(region: &mut Region, room: usize, levels: &mut Levels) -> bool
+pub fn to_next_side(region: &mut Region, room: usize, levels: &mut Levels) -> bool
     ensures turns { (base : Constraints) (path : List Narrowed) → base.room ≡ room → IsAt base path region.old
         → Turns base path result region.new }
     ensures live { (base : Constraints) (path : List Narrowed) (atoms : List AtomSeen) (t : TargetSeen)

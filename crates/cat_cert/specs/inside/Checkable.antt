@@ -1,7 +1,7 @@
 -- Trees that can be checked, and what is found of them.
-use Rattle.std.specs.Prelude.{◌≡◌, ◌≤◌, ◌-◌, ◌^◌, ℕ, List, ◌∷◌, map, Option, None, Some}
+use Rattle.std.specs.Prelude.{◌≡◌, ◌-◌, ◌^◌, ℕ, List, ◌∷◌, map, Option}
 use Rattle.cat_guard.specs.declared.table.Table.{Table}
-use Rattle.cat_guard.specs.Trees.{Tree, expanded, height}
+use Rattle.cat_guard.specs.Trees.{Tree, expanded}
 use Rattle.cat_walk.specs.LeafPlaces.{lists_of}
 use Rattle.cat_walk.specs.Walkable.{IsWalkable}
 use Rattle.cat_cert.specs.declared.certificate.Version.{Version}
@@ -22,15 +22,6 @@ AreOfTable table cs = (v : Version) × AreReadTrees last_line v (map TargetDue t
 -- the same for all tables
 abbrev pub AreOfTables : List Table → List CertTree → Type 0
 AreOfTables tables cs = (v : Version) × AreReadTrees last_line v (dues_of tables) cs
-
--- a tree is no higher than that, where there is one
-abbrev pub IsLow : ℕ → Option Tree → Type 0
-IsLow most None = Unit {0}
-IsLow most (Some t) = height t ≤ most
-
--- the tree of a target is no higher than that, where there is one
-abbrev pub IsUpTo : ℕ → CertTree → Type 0
-IsUpTo most c = IsLow most (expanded c.tree)
 
 -- a tree can be walked that splits on the first atoms, of that number, and its lines have numbers
 pub record IsCheckable (atoms room : ℕ) (c : CertTree) : Type 0 where

@@ -3,7 +3,7 @@ use Rattle.std.proofs.lemmas.Option.{slice_get_read}
 use Rattle.cat_guard.specs.Trees.{expanded}
 use Rattle.cat_walk.specs.Sizes.{is_small}
 use Rattle.cat_cert.specs.declared.certificate.CertTree.{CertTree}
-use Rattle.cat_cert.specs.inside.Checkable.{IsUpTo}
+use Rattle.cat_cert.specs.Heights.{IsUpTo}
 use Rattle.cat_cert.proofs.Lists.{have_each, taken_more, left_more}
 use Rattle.cat_cert.proofs.CheckLemmas.{low_further}
 use Rattle.cat_cert.proofs.heights.highest.Goals as goal
