@@ -3,6 +3,7 @@ pub mod Numerals
 pub mod KnownNames
 pub mod Levels
 pub mod JsonRead
+pub mod Elements
 pub mod ScalarsTyped
 pub mod ReadTyped
 pub mod InputsTyped

@@ -4,7 +4,7 @@ ghost use Rattle.std.specs.Option.{option_map};
 ghost use Rattle.serde_json.specs.Data.{depth as nesting, items_depth};
 ghost use Rattle.serde_json.specs.Read.{max_depth};
 ghost use Rattle.serde_json.specs.View.{view, items_view};
-ghost use Rattle.serde_json.specs.Find.{as_object};
+ghost use Rattle.serde_json.specs.Find.{as_array, as_object};
 ghost use Rattle.cat_value.specs.Inputs.{must_be_given, may_be_given, IsWellTyped};
 ghost use Rattle.cat_value.specs.Typing.{has_type, is_type};
 ghost use Rattle.cat_json.specs.declared.refusal.InputRefusal.TheVariants.{NotJson, Memory};
@@ -80,12 +80,11 @@ pub fn read_inputs(
         Err refusal) }
     ensures typed { IfOk result (λ all. inputs.AreWellTyped decls.now scope all) }
 {
-    let json = json_of(alloc, bytes)?;
     let items = &decls.scopes.at(scope as usize).items;
-    let Some(elements) = json.as_array() else {
-        return Err(told(alloc, PartRefusal::new(alloc, Reason::WrongForm))?);
-    };
-    Ok(each_input(alloc, elements.as_slice(), items, decls)?)
+    match elements_of(json_of(alloc, bytes)?) {
+        Some(elements) => Ok(each_input(alloc, elements, items, decls)?),
+        None => Err(told(alloc, PartRefusal::new(alloc, Reason::WrongForm))?),
+    }
 }
 
 /// The JSON that bytes are.
@@ -117,22 +116,47 @@ fn told(alloc: Global, refusal: PartRefusal) -> Result<InputRefusal, AllocError>
     })
 }
 
+/// The elements of an array.
+#[tactic(auto, using(crate::proofs::Elements::elements))]
+fn elements_of(json: Json) -> Option<Vec<Json>>
+    ensures { option_map (λ elements. items_view elements.items) result ≡ as_array (view json) }
+{
+    match json {
+        Json::Array(elements) => Some(elements),
+        _ => None,
+    }
+}
+
+/// The input that an element is, or why it is none.
+fn element_read(
+    alloc: Global,
+    element: &Json,
+    items: &ItemDecls,
+    decls: &Decls,
+) -> Result<Result<Input, InputRefusal>, AllocError>
+    requires { nesting (view element.now) ≤ 127 }
+    ensures { IfOk result (λ read. read ≡ inputs.answered (inputs.input_in decls.now items.now (view element.now))) }
+{
+    match input_in(alloc, element, items, decls)? {
+        Ok(input) => Ok(Ok(input)),
+        Err(refusal) => Ok(Err(told(alloc, refusal)?)),
+    }
+}
+
+/// What each element is. An element is dropped as soon as it is read, so that it and its input never wait beside one
+/// another.
 fn each_input(
     alloc: Global,
-    elements: &[Json],
+    elements: Vec<Json>,
     items: &ItemDecls,
     decls: &Decls,
 ) -> Result<ReadInputs, AllocError>
-    requires { items_depth (items_view elements.now) ≤ 127 }
-    ensures { IfOk result (λ all. all ≡ inputs.each_input decls.now items.now (items_view elements.now)) }
+    requires { items_depth (items_view elements.items) ≤ 127 }
+    ensures { IfOk result (λ all. all ≡ inputs.each_input decls.now items.now (items_view elements.items)) }
 {
     let mut inputs = List::new(alloc);
     for element in elements {
-        let input = match input_in(alloc, element, items, decls)? {
-            Ok(input) => Ok(input),
-            Err(refusal) => Err(told(alloc, refusal)?),
-        };
-        inputs.push(input)?;
+        inputs.push(element_read(alloc, &element, items, decls)?)?;
     }
     Ok(inputs)
 }
