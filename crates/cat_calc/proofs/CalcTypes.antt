@@ -1,13 +1,14 @@
 -- The runs of a calculus end in values of the types of the outputs, or in a stop that an outcome may be.
 use Rattle.std.proofs.Common.{◌≡◌, ℕ, zero, suc, ◌<◌, true, IsTrue, List, [], ◌∷◌, ◌++◌, length, map, Option, None}
-use Rattle.std.proofs.Common.{Some}
-use Rattle.std.proofs.Common.{slice_get, refl, ap, ◌∙◌, subst, arith, IfSome}
+use Rattle.std.proofs.Common.{Some, slice_get, refl, ap, ◌∙◌, subst, arith, IfSome, IsSome}
 use Rattle.std.proofs.Math.Logic.{∥∥₁_elim}
 use Rattle.cat_value.specs.declared.ty.Ty.{Ty}
 use Rattle.cat_value.specs.declared.ty.Ty.TheVariants as flat_ty
 use Rattle.cat_value.specs.declared.value.Value.{Value}
 use Rattle.cat_value.specs.declared.decls.Decls.{Decls}
+use Rattle.cat_value.specs.declared.declaration.ItemDecl.{ItemDecl}
 use Rattle.cat_value.specs.declared.declaration.Scope.{Scope}
+use Rattle.cat_value.specs.declared.outcome.Outcome.{Outcome}
 use Rattle.cat_value.specs.Inputs.{IsWellTyped, are_given_for}
 use Rattle.cat_scope.specs.declared.expr.Expr.{Expr}
 use Rattle.cat_scope.specs.declared.defs.Assertion.{Assertion}
@@ -31,10 +32,11 @@ use Rattle.cat_sound.proofs.Exported.{expressions_go_on, listed_in, moved_new, n
 use Rattle.cat_sound.proofs.Exported.{same_some, target_of}
 use Rattle.cat_calc.specs.declared.term.DefaultTerm.{DefaultTerm}
 use Rattle.cat_calc.specs.declared.calcs.ItemTerms.{ItemTerms}
+use Rattle.cat_calc.specs.declared.calcs.Calc.{Calc}
 use Rattle.cat_calc.specs.declared.calcs.CalcScope.{CalcScope}
 use Rattle.cat_calc.specs.Terms.{conditions_in, consequences_in, named_in}
 use Rattle.cat_calc.specs.Reducing.{term_among, term_of, reduced_or}
-use Rattle.cat_calc.specs.Calculus.{calc_scoped, run_terms, run_of_terms}
+use Rattle.cat_calc.specs.Calculus.{calc_run, calc_scoped, run_terms, run_of_terms}
 use Rattle.cat_calc.specs.WellFormed.{AreCalcScopes, IsCalc, IsCalcScope, IsOrderOf, StandBehind, TermTyped, all_terms}
 use Rattle.cat_calc.specs.WellFormed.{items_needed, named_by_items, named_by_terms, named_in_all, scopes_called}
 use Rattle.cat_calc.proofs.TermTypes.{reduced-ends}
@@ -245,3 +247,15 @@ calculi_end ds scopes order formed s input typed =
     (IsOutcomeOf-prop ds (scope_items ds s) (outcome_of (run_of_terms ds.scopes scopes order s input).end))
     (λ is. outcome-of anything ds (scope_items ds s) (run_of_terms ds.scopes scopes order s input).end
     (runs_end ds scopes order is s input typed).1)
+
+-- what is the outcome of some items is there
+is_there : (ds : Decls) (items : List ItemDecl) (o : Option Outcome) → IsOutcomeOf ds items o → IsSome o
+is_there ds items (Some o) is = refl
+is_there ds items None is = absurd is
+
+-- a run of a calculus on a well-typed input has an outcome
+pub has_outcome : (calc : Calc) (scope : ℕ) (input : Items) → IsWellTyped calc.decls scope input
+    → IsSome (outcome_of (calc_run calc scope input).end)
+has_outcome calc scope input typed =
+    is_there calc.decls (scope_items calc.decls scope) (outcome_of (calc_run calc scope input).end)
+    (calculi_end calc.decls calc.scopes calc.scope_order calc.well_formed scope input typed)

@@ -4,4 +4,4 @@ pub use Rattle.cat_calc.proofs.Equations.{conditions_Empty, conditions_Consequen
 pub use Rattle.cat_calc.proofs.Equations.{consequences_Empty, consequences_Consequence, consequences_Default}
 pub use Rattle.cat_calc.proofs.Equations.{induction}
 pub use Rattle.cat_calc.proofs.ReducingLaws.{or_else_none}
-pub use Rattle.cat_calc.proofs.CalcTypes.{calculi_end}
+pub use Rattle.cat_calc.proofs.CalcTypes.{calculi_end, has_outcome}

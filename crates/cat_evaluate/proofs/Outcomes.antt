@@ -1,28 +1,19 @@
 -- The code of a calculus comes to the outcomes of the calculus.
-use Rattle.std.proofs.Common.{◌≡◌, ℕ, List, Option, Some, None, Result, Ok, Err, IsSome, refl}
+use Rattle.std.proofs.Common.{◌≡◌, ℕ, Some, Result, Ok, Err}
 use Rattle.std.specs.Prelude.{IfOk}
 use Rattle.std.proofs.Math.Logic.{∥∥₁_elim, ∥∥₁_map}
 use Rattle.std.specs.Coded.{Coded-set, coded_option}
 use Rattle.cat_value.specs.contracts.outcome.Outcome.{the_row}
-use Rattle.cat_value.specs.declared.decls.Decls.{Decls}
-use Rattle.cat_value.specs.declared.declaration.ItemDecl.{ItemDecl}
 use Rattle.cat_value.specs.declared.outcome.Outcome.{Outcome}
 use Rattle.cat_value.specs.Inputs.{IsWellTyped}
 use Rattle.cat_scope.specs.Calls.{Items}
-use Rattle.cat_scope.specs.Names.{scope_items}
-use Rattle.cat_scope.specs.Outcomes.{outcome_of}
-use Rattle.cat_sound.specs.Endings.{IsOutcomeOf}
 use Rattle.cat_calc.specs.declared.calcs.Calc.{Calc}
 use Rattle.cat_calc.specs.Calculus.{calc_outcome, calc_run}
-use Rattle.cat_calc.proofs.Exported.{calculi_end}
+use Rattle.cat_calc.proofs.Exported.{has_outcome}
 use Rattle.cat_code.specs.declared.code.Code.{Code}
 use Rattle.cat_lower.specs.Lowered.{IsCodeOf}
 use Rattle.cat_lower.proofs.Exported.{lowered_gives}
 use Rattle.cat_machine.specs.Running.{GivesOutcome, IsGiven}
-
-has_outcome : (ds : Decls) (items : List ItemDecl) (o : Option Outcome) → IsOutcomeOf ds items o → IsSome o
-has_outcome ds items (Some o) is = refl
-has_outcome ds items None is = absurd is
 
 module _ (calc : Calc) (code : Code) (low : IsCodeOf calc code) (scope : ℕ) (input : Items)
     (typed : IsWellTyped calc.decls scope input) where
@@ -32,8 +23,7 @@ module _ (calc : Calc) (code : Code) (low : IsCodeOf calc code) (scope : ℕ) (i
       ∥∥₁_map calc.well_formed (λ formed. record {
         run = calc_run calc scope input;
         gives = lowered_gives calc code low formed scope input typed;
-        has_outcome = has_outcome calc.decls (scope_items calc.decls scope) (outcome_of (calc_run calc scope input).end)
-            (calculi_end calc.decls calc.scopes calc.scope_order calc.well_formed scope input typed);
+        has_outcome = has_outcome calc scope input typed;
       })
 
   -- to the outcome of the terms
