@@ -1,2 +1,2 @@
 -- What crates above may cite by path: what the runs of a program's code tell of its scopes.
-pub use Rattle.cat_machine.proofs.Programs.{comes_to, given_by, is_given, log_by, outcome_by}
+pub use Rattle.cat_machine.proofs.Programs.{comes_to, is_given}

@@ -1,5 +1,6 @@
 -- A run from its start to its outcome.
 use Rattle.std.proofs.Common.{◌≡◌, ℕ, ◌+◌, ◌<◌, ◌≤◌, min, List, [], ◌∷◌, ◌++◌, length, map, slice_get, true}
+use Rattle.std.proofs.Common.{OnOk, false, true≢false}
 use Rattle.std.proofs.Common.{Option, Some, None, IsSome, is_some, Result, Ok, Err, refl, sym, ap, ◌∙◌, subst, arith}
 use Rattle.std.proofs.Common.{⊎_elim}
 use Rattle.std.proofs.Math.Bool.{Bool-set}
@@ -7,6 +8,7 @@ use Rattle.std.proofs.Math.Logic.{∥∥₁_elim}
 use Rattle.std.proofs.lemmas.Bool.{cases_lt}
 use Rattle.std.proofs.lemmas.List.{length-map}
 use Rattle.std.specs.Coded.{le_prop}
+use Rattle.std.specs.Result.{is_err}
 use Rattle.std.specs.declared.alloc.AllocError.{AllocError}
 use Rattle.cat_value.specs.declared.outcome.Outcome.{Outcome}
 use Rattle.cat_value.specs.declared.outcome.Outcome.TheVariants as outcome
@@ -122,6 +124,12 @@ module _ (code : Code) (scope : ℕ) (input : Items) (given : ∥ IsGiven code s
       ∙ g.gives.ends in
       let many = ends_within code g.gives.steps (started entry input) g.run moved g.has_outcome in
       (many.0, subst (λ (s : State). 1 ≤ ends_in code many.0 s) (sym state) many.1))
+
+-- a machine was made ready where memory didn't run out
+pub ready_so : (code : Code) (input : Items) (before : List Standing) (m : Machine) (res : Result (Unit {0}) AllocError)
+    → false ≡ is_err res → OnOk res (IsReady code input before m) → IsReady code input before m
+ready_so code input before m (Ok done) is ready = ready
+ready_so code input before m (Err e) is ready = absurd (true≢false (sym is))
 
 -- a run has ended that began at the start
 pub runs_so : (code : Code) (scope : ℕ) (input : Items) (before : List Standing) (m last : Machine) (entry count : ℕ)

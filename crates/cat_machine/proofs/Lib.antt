@@ -18,5 +18,6 @@ pub mod Pushing
 pub mod MakingSteps
 pub mod OperatingSteps
 pub mod DefaultSteps
+pub mod LogSteps
 pub mod Programs
 pub mod Exported

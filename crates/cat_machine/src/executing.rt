@@ -25,13 +25,13 @@ struct Run {
 }
 
 /// A machine with its nodes behind those of the pool runs up to its end, or until memory runs out.
-fn run_machine(
+fn run_machine<'a>(
     alloc: Global,
-    code: &Code,
+    code: &'a Code,
     scope: u32,
     input: &Input,
     machine: Box<Machine>,
-) -> Ended
+) -> Ended<'a>
     requires empty { IsEmpty machine.value }
     requires given { ∥ IsGiven code.now scope input.now ∥₁ }
     ensures { RunsSo code.now scope input.now machine.value.pool result.end result.machine.value result.count }
@@ -39,8 +39,10 @@ fn run_machine(
     let mut machine = machine;
     if make_ready(alloc, code, input, &mut machine).is_err() {
         return Ended {
-            machine,
+            code,
+            place: 0,
             count: 0,
+            machine,
             end: Err(AllocError),
         };
     }
@@ -69,8 +71,10 @@ fn run_scope(
     let mut machine = Box::new(alloc, empty(alloc))?;
     mem::swap(pool, &mut machine.pool);
     let Ended {
-        mut machine,
+        code: _,
+        place: _,
         count,
+        mut machine,
         end,
     } = run_machine(alloc, code, scope, input, machine);
     let outcome = outcome_at(alloc, code, &machine, end);

@@ -19,16 +19,20 @@ pub struct Going<'a> {
     pub ghost ends: { EndsFrom code.now place machine.value } by { EndsFrom-prop code.now place machine.value },
 }
 
-/// A machine that has ended, or for which memory ran out, after so many steps.
+/// A machine that has ended behind the step at a place, or for which memory ran out, after so many steps. It begins as
+/// `Going` does, so that nothing is moved to another place when a step leads on.
 #[derive(Drop)]
-pub struct Ended {
-    pub machine: Box<Machine>,
+pub struct Ended<'a> {
+    pub code: &'a Code,
+    pub place: usize,
     pub count: u64,
+    pub machine: Box<Machine>,
     pub end: Result<End, AllocError>,
 }
 
 /// One step, or the end.
-fn advance<'a>(going: Going<'a>) -> Result<Going<'a>, Ended>
+#[inline(always)]
+fn advance<'a>(going: Going<'a>) -> Result<Going<'a>, Ended<'a>>
     requires machine { IsMachine going.code.now.tables going.machine.value }
     ensures code { IfOk result (λ after. after.code.now ≡ going.entry.code.now) }
     ensures on { IfOk result (λ after. GoesOn going.entry.code.now
@@ -53,20 +57,25 @@ fn advance<'a>(going: Going<'a>) -> Result<Going<'a>, Ended>
             machine,
         }),
         Ok(Stepped::Over(end)) => Err(Ended {
-            machine,
+            code,
+            place,
             count,
+            machine,
             end: Ok(end),
         }),
         Err(_) => Err(Ended {
-            machine,
+            code,
+            place,
             count,
+            machine,
             end: Err(AllocError),
         }),
     }
 }
 
 /// The end of a run that ends.
-pub fn drive<'a>(start: Going<'a>) -> Ended
+#[inline(never)]
+pub fn drive<'a>(start: Going<'a>) -> Ended<'a>
     requires machine { IsMachine start.code.now.tables start.machine.value }
     ensures { EndsSo start.entry.code.now (stand start.entry.place start.entry.count start.entry.machine.value) result.end
         (stand 0 result.count result.machine.value) }

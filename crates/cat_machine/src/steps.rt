@@ -1,4 +1,5 @@
-// One step of the machine.
+// One step of the machine. It is inlined into the loop over the steps, so that the loop's state stays in registers;
+// what is long or rare of it is not.
 ghost use Rattle.std.specs.Prelude.{◌≡◌, ◌≢◌, ◌<◌, ◌+◌, ◌^◌, OnOk};
 ghost use Rattle.cat_code.specs.States.{stuck};
 ghost use Rattle.cat_code.specs.Machine.{act};
@@ -19,6 +20,7 @@ use cat_code::{Code, Instr};
 use std::alloc::AllocError;
 
 /// What an instruction does.
+#[inline(always)]
 fn act(code: &Code, m: &mut Machine, place: usize, instr: Instr) -> Result<Stepped, AllocError>
     requires machine { IsMachine code.now.tables m.old }
     requires place { place + 1 < 2 ^ 64 }
@@ -69,6 +71,7 @@ fn act(code: &Code, m: &mut Machine, place: usize, instr: Instr) -> Result<Stepp
 }
 
 /// One step from a place.
+#[inline(always)]
 pub fn step(code: &Code, m: &mut Machine, place: usize) -> Result<Stepped, AllocError>
     requires machine { IsMachine code.now.tables m.old }
     requires going { step code.now.tables code.now.instructions (state_at code.now.tables place m.old) ≢ stuck }

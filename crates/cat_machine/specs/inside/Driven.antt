@@ -19,6 +19,7 @@ is_ended (Ok vs) = 1
 is_ended (Err stop.Stuck) = 0
 is_ended (Err _) = 1
 
+-- what is counted behind a step: 1 where it ends the run and none is left, and else what stands behind it
 abbrev pub after_step : ℕ → (State → ℕ) → Next → ℕ
 after_step zero go (Over end) = is_ended end
 after_step (suc n) go (Over end) = 0
@@ -33,6 +34,7 @@ ends_in code (suc n) s = after_step (suc n) (ends_in code n) (step code.tables c
 none_le : {A : Type 0} → 1 ≤ 0 → A
 none_le h = absurd (omega arith)
 
+-- there is one such number
 pub same_number : (code : Code) (m n : ℕ) (s : State) → 1 ≤ ends_in code m s → 1 ≤ ends_in code n s → m ≡ n
 same_number code zero zero s g h = refl
 same_number code zero (suc n) s g h = differ (step code.tables code.instructions s) g h

@@ -18,6 +18,7 @@ pub record Stand : Type 0 where
   pub count : ℕ
   pub machine : Machine
 
+-- the same from its parts
 abbrev pub stand : ℕ → ℕ → Machine → Stand
 stand place count machine = record { place = place; count = count; machine = machine }
 
@@ -78,6 +79,7 @@ pub record EndsAt (code : Code) (first last : Stand) (end : End) : Type 0 where
       ≡ Some (record { log = log; end = ending code.tables last.machine end })
   pub no_fewer : (k : ℕ) → k < taken → within code.tables code.instructions k (state_of code first) ≡ None
 
+-- what a run ends in: where memory ran out, all nodes stay
 abbrev pub EndsSo : Code → Stand → Result End AllocError → Stand → Type 0
 EndsSo code first (Ok end) last = EndsAt code first last end
 EndsSo code first (Err e) last = Extends first.machine.pool last.machine.pool

@@ -21,6 +21,7 @@ SlotsBelow n [] = Unit {0}
 SlotsBelow n (None ∷ rs) = SlotsBelow n rs
 SlotsBelow n (Some r ∷ rs) = (r < n) × SlotsBelow n rs
 
+-- each slot that is filled, of lists one on the other
 abbrev pub SlotLayersBelow : {H : Type 0} → ℕ → List (H × List (Option ℕ)) → Type 0
 SlotLayersBelow n [] = Unit {0}
 SlotLayersBelow n (l ∷ ls) = SlotsBelow n l.1 × SlotLayersBelow n ls
@@ -30,6 +31,7 @@ abbrev pub HeldBelow : Tables → ℕ → List HeldRef → Type 0
 HeldBelow tables n [] = Unit {0}
 HeldBelow tables n (h ∷ hs) = (h.value < n) × (h.definition < length tables.definitions) × HeldBelow tables n hs
 
+-- each definition that default frames hold
 abbrev pub DefaultsBelow : Tables → ℕ → List (Option ℕ × List HeldRef) → Type 0
 DefaultsBelow tables n [] = Unit {0}
 DefaultsBelow tables n (f ∷ fs) = HeldBelow tables n f.1 × DefaultsBelow tables n fs
@@ -39,6 +41,7 @@ pub record LoopWithin (nodes : List Standing) (l : LoopHead) : Type 0 where
   pub within : IsWithin nodes l.left
   pub below : AreBelow (length nodes) (in_range (kept_parts nodes) l.left)
 
+-- the elements that loops have left
 abbrev pub LoopsWithin : List Standing → List (LoopHead × List ℕ) → Type 0
 LoopsWithin nodes [] = Unit {0}
 LoopsWithin nodes (l ∷ ls) = LoopWithin nodes l.0 × LoopsWithin nodes ls

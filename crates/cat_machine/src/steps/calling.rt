@@ -39,6 +39,7 @@ pub fn call(
 }
 
 /// Makes a pending frame for a scope.
+#[inline(never)]
 #[tactic(auto, using(crate::proofs::Growth::staying))]
 pub fn scope(code: &Code, m: &mut Machine, place: usize, n: u32) -> Result<Stepped, AllocError>
     requires machine { IsMachine code.now.tables m.old }
@@ -78,6 +79,7 @@ pub fn pass(code: &Code, m: &mut Machine, place: usize, i: u32) -> Result<Steppe
 }
 
 /// Goes to the entry of the pending frame.
+#[inline(never)]
 #[tactic(auto, using(crate::proofs::Growth::staying))]
 pub fn enter(code: &Code, m: &mut Machine, place: usize) -> Result<Stepped, AllocError>
     requires machine { IsMachine code.now.tables m.old }

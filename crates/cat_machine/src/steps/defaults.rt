@@ -48,6 +48,7 @@ fn number_of(found: Option<HeldRef>) -> Option<u32>
 }
 
 /// Logs how the judging of a target ended, but of a function.
+#[inline(never)]
 fn log_target(
     code: &Code,
     m: &mut Machine,

@@ -211,6 +211,7 @@ fn push_result(
 }
 
 /// Pops the operands of an operation, and pushes its result, or ends with its fault.
+#[inline(never)]
 fn apply(
     code: &Code,
     m: &mut Machine,

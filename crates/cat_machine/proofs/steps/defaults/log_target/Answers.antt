@@ -1,7 +1,7 @@
 use Rattle.std.proofs.Common.{◌++◌, ◌∷◌, [], Option, ℕ, ap, sym, ◌∙◌}
 use Rattle.cat_value.specs.declared.decls.Decls.{Decls}
 use Rattle.cat_code.specs.Logged.{is_function_target}
-use Rattle.cat_machine.proofs.DefaultSteps.{logs_more}
+use Rattle.cat_machine.proofs.LogSteps.{logs_more}
 use Rattle.cat_machine.proofs.steps.defaults.log_target.Goals as goal
 
 pub returns-clause-ok : goal.returns-clause-ok
