@@ -18,7 +18,8 @@ use Rattle.cat_cert.specs.declared.refusal.CertRefusal.TheVariants as refusal
 use Rattle.cat_cert.specs.ReadTrees.{AreWithin}
 use Rattle.cat_cert.specs.Uncovered.{IsCovered, line_of, lines_passing, regions_of}
 use Rattle.cat_cert.specs.Uncovered.{tree_uncovered}
-use Rattle.cat_cert.specs.inside.Checkable.{IsLow, NamesFirst}
+use Rattle.cat_cert.specs.Heights.{IsLow}
+use Rattle.cat_cert.specs.inside.Checkable.{NamesFirst}
 use Rattle.cat_cert.proofs.Lists.{below_length}
 
 -- ---- lines of nodes
