@@ -25,6 +25,7 @@ use Rattle.cat_code.specs.Machine.{act, operates}
 use Rattle.cat_code.specs.Moves.{by_truth, pop, pushes, with_part}
 use Rattle.cat_code.specs.Operations.{Before, Between, Operation, operation, operations, roundings}
 use Rattle.cat_code.specs.States.{Goes, Next, Over, State, on, stuck}
+use Rattle.cat_pool.specs.declared.node.PoolNode.{PoolNode}
 use Rattle.cat_pool.specs.declared.node.PoolNode.TheVariants as node
 use Rattle.cat_pool.specs.Loading.{Extends}
 use Rattle.cat_pool.specs.Nodes.{Standing, at, lone, value_in, values}
@@ -39,7 +40,7 @@ use Rattle.cat_machine.specs.declared.machine.Stepped.TheVariants as stepped
 use Rattle.cat_machine.specs.States.{decided, state_at}
 use Rattle.cat_machine.specs.Steps.{OneMore, Tells, behind}
 use Rattle.cat_machine.specs.inside.Machines.{IsMachine, IsTruth}
-use Rattle.cat_machine.specs.inside.Putting.{HasTruths, PopsScalar, Puts, truth_in, with_truth}
+use Rattle.cat_machine.specs.inside.Putting.{HasTruths, Pops, Puts, scalar_at, truth_in, with_truth}
 use Rattle.cat_machine.proofs.Growth.{truth_more}
 use Rattle.cat_machine.proofs.Holding.{get_below, without_operand}
 use Rattle.cat_machine.proofs.NodeKinds.{at_is, truth_is}
@@ -49,28 +50,28 @@ use Rattle.cat_machine.proofs.Pushing.{put_stands, puts_machine, puts_told, stan
 
 -- ---- what is in a node that has no parts
 
-pub of_Boolean : (b : Bool) → scalar_of (flat.Boolean b) ≡ scalar.Boolean b
+of_Boolean : (b : Bool) → scalar_of (flat.Boolean b) ≡ scalar.Boolean b
 of_Boolean b = search (rules, value.the_lemmas)
 
-pub of_Integer : (n : ℤ) → scalar_of (flat.Integer n) ≡ scalar.Integer n
+of_Integer : (n : ℤ) → scalar_of (flat.Integer n) ≡ scalar.Integer n
 of_Integer n = search (rules, value.the_lemmas)
 
-pub of_Decimal : (f : Fraction) → scalar_of (flat.Decimal f) ≡ scalar.Decimal f
+of_Decimal : (f : Fraction) → scalar_of (flat.Decimal f) ≡ scalar.Decimal f
 of_Decimal f = search (rules, value.the_lemmas)
 
-pub of_Money : (cents : ℤ) → scalar_of (flat.Money cents) ≡ scalar.Money cents
+of_Money : (cents : ℤ) → scalar_of (flat.Money cents) ≡ scalar.Money cents
 of_Money cents = search (rules, value.the_lemmas)
 
-pub of_Date : (day : ℤ) → scalar_of (flat.Date day) ≡ scalar.Date day
+of_Date : (day : ℤ) → scalar_of (flat.Date day) ≡ scalar.Date day
 of_Date day = search (rules, value.the_lemmas)
 
-pub of_Duration : (span : SpanOf) → scalar_of (flat.Duration span) ≡ scalar.Duration span
+of_Duration : (span : SpanOf) → scalar_of (flat.Duration span) ≡ scalar.Duration span
 of_Duration span = search (rules, value.the_lemmas)
 
-pub of_List : (vs : List Value) → scalar_of (value.List vs) ≡ scalar.Compound
+of_List : (vs : List Value) → scalar_of (value.List vs) ≡ scalar.Compound
 of_List vs = search (rules, value.the_lemmas)
 
-pub of_Structure : (vs : List Value) → scalar_of (value.Structure vs) ≡ scalar.Compound
+of_Structure : (vs : List Value) → scalar_of (value.Structure vs) ≡ scalar.Compound
 of_Structure vs = search (rules, value.the_lemmas)
 
 of_None : (k : ℕ) → scalar_of (value.Case k None) ≡ scalar.Compound
@@ -79,13 +80,22 @@ of_None k = search (rules, value.the_lemmas)
 of_Some : (k : ℕ) (v : Value) → scalar_of (value.Case k (Some v)) ≡ scalar.Compound
 of_Some k v = search (rules, value.the_lemmas)
 
-pub of_Case : (nodes : List Standing) (k : ℕ) (content : Option ℕ)
+of_Case : (nodes : List Standing) (k : ℕ) (content : Option ℕ)
     → scalar_of (value_in nodes (node.Case k content)) ≡ scalar.Compound
 of_Case nodes k None = of_None k
 of_Case nodes k (Some r) = of_Some k (at (values nodes) r)
 
-pub ruleset scalars =
-    (of_Boolean, of_Integer, of_Decimal, of_Money, of_Date, of_Duration, of_List, of_Structure, of_Case)
+-- the scalar in the value of a node
+pub scalar_is : (nodes : List Standing) (n : PoolNode) → scalar_of (value_in nodes n) ≡ scalar_at n
+scalar_is nodes (node.Boolean b) = of_Boolean b
+scalar_is nodes (node.Integer n) = of_Integer n
+scalar_is nodes (node.Decimal f) = of_Decimal f
+scalar_is nodes (node.Money cents) = of_Money cents
+scalar_is nodes (node.Date day) = of_Date day
+scalar_is nodes (node.Duration span) = of_Duration span
+scalar_is nodes (node.List refs) = of_List _
+scalar_is nodes (node.Structure refs) = of_Structure _
+scalar_is nodes (node.Case k content) = of_Case nodes k content
 
 -- ---- the truth values
 
@@ -179,21 +189,17 @@ module _ (tables : Tables) (place r : ℕ) (old new : Machine) (is : IsMachine t
 
 -- ---- operands
 
-module _ (tables : Tables) (place : ℕ) (old new : Machine) (s : Scalar) (pops : PopsScalar old new s) where
-  -- the value on top
-  abbrev pub top_value : Value
-  top_value = at (values old.pool) pops.top
-
-  pub pops_scalar : (go : Value → State → Next)
-      → pop (state_at tables place old) go ≡ go top_value (state_at tables place new)
-  pops_scalar go =
+module _ (tables : Tables) (place : ℕ) (old new : Machine) (r : ℕ) (pops : Pops old new r) where
+  pops_top : (go : Value → State → Next)
+      → pop (state_at tables place old) go ≡ go (at (values old.pool) r) (state_at tables place new)
+  pops_top go =
       ap (λ (rs : List ℕ). pop (state_at tables place (record old { operands = rs })) go) pops.popped
-      ∙ ap (λ (m : Machine). go top_value (state_at tables place m)) (sym pops.same)
+      ∙ ap (λ (m : Machine). go (at (values old.pool) r) (state_at tables place m)) (sym pops.same)
 
   pub machine_popped : IsMachine tables old → IsMachine tables new
   machine_popped is =
       subst (λ (m : Machine). IsMachine tables m) (sym pops.same)
-      (without_operand tables old is pops.top new.operands pops.popped)
+      (without_operand tables old is r new.operands pops.popped)
 
   -- a step from behind it is one from in front of it
   pub tells_before : (res : Result Stepped AllocError) (last : Machine) (next behind_it : Next) → next ≡ behind_it
@@ -209,36 +215,52 @@ module _ (tables : Tables) (place : ℕ) (old new : Machine) (s : Scalar) (pops 
   pub pool_before : (last : List Standing) → OneMore new.pool last → OneMore old.pool last
   pool_before last more = subst (λ (m : Machine). OneMore m.pool last) pops.same more
 
+-- the scalar of what a node stands for
+pub stands_scalar : (old new : Machine) (r top : ℕ) (n : PoolNode) → Pops old new r
+    → slice_get (values new.pool) top ≡ Some (value_in new.pool n) → scalar_of (at (values old.pool) top) ≡ scalar_at n
+stands_scalar old new r top n pops stands =
+    ap (λ (m : Machine). scalar_of (at (values m.pool) top)) (sym pops.same)
+    ∙ ap scalar_of (at_is (values new.pool) top (value_in new.pool n) stands)
+    ∙ scalar_is new.pool n
+
 -- an operator before one operand
-module _ (tables : Tables) (place : ℕ) (rounding : Rounding) (p : Pos) (old mid : Machine) (s : Scalar)
-    (first : PopsScalar old mid s)
-    (op : UnaryOp) (made : Result Scalar NoResult) (gives : (p : Pos) (v : Value) → scalar_of v ≡ s
+module _ (tables : Tables) (place : ℕ) (rounding : Rounding) (p : Pos) (old mid : Machine) (r : ℕ) (n : PoolNode)
+    (first : Pops old mid r) (stands : slice_get (values mid.pool) r ≡ Some (value_in mid.pool n))
+    (op : UnaryOp) (made : Result Scalar NoResult) (gives : (p : Pos) (v : Value) → scalar_of v ≡ scalar_at n
     → as_reply p made ≡ convert op p v) where
   pub before_leads : operates (Before op) rounding p (state_at tables place old)
       ≡ pushes (as_reply p made) (state_at tables place mid)
   before_leads =
-      pops_scalar tables place old mid s first (λ v t. pushes (convert op p v) t)
+      pops_top tables place old mid r first (λ v t. pushes (convert op p v) t)
       ∙ ap (λ (reply : Reply). pushes reply (state_at tables place mid))
-      (sym (gives p (at (values old.pool) first.top) first.scalar))
+      (sym (gives p (at (values old.pool) r) (stands_scalar old mid r r n first stands)))
 
   pub before_going : operates (Before op) rounding p (state_at tables place old) ≢ stuck
       → pushes (as_reply p made) (state_at tables place mid) ≢ stuck
   before_going going e = going (before_leads ∙ e)
 
 -- an operator between two operands
-module _ (tables : Tables) (place : ℕ) (rounding : Rounding) (p : Pos) (old mid last : Machine) (right left : Scalar)
-    (first : PopsScalar old mid right) (second : PopsScalar mid last left) (op : BinaryOp)
-    (made : Result Scalar NoResult)
-    (gives : (p : Pos) (v w : Value) → scalar_of v ≡ left → scalar_of w ≡ right
+module _ (tables : Tables) (place : ℕ) (rounding : Rounding) (p : Pos) (old mid last : Machine) (right left : ℕ)
+    (first : Pops old mid right) (second : Pops mid last left) (op : BinaryOp) (n o : PoolNode)
+    (stands : slice_get (values last.pool) left ≡ Some (value_in last.pool n))
+    (other : slice_get (values last.pool) right ≡ Some (value_in last.pool o)) (made : Result Scalar NoResult)
+    (gives : (p : Pos) (v w : Value) → scalar_of v ≡ scalar_at n → scalar_of w ≡ scalar_at o
     → as_reply p made ≡ operate rounding op p v w) where
   pub between_leads : operates (Between op) rounding p (state_at tables place old)
       ≡ pushes (as_reply p made) (state_at tables place last)
   between_leads =
-      pops_scalar tables place old mid right first (λ w s. pop s (λ v t. pushes (operate rounding op p v w) t))
-      ∙ pops_scalar tables place mid last left second
-      (λ v t. pushes (operate rounding op p v (at (values old.pool) first.top)) t)
+      pops_top tables place old mid right first (λ w s. pop s (λ v t. pushes (operate rounding op p v w) t))
+      ∙ pops_top tables place mid last left second
+      (λ v t. pushes (operate rounding op p v (at (values old.pool) right)) t)
       ∙ ap (λ (reply : Reply). pushes reply (state_at tables place last))
-      (sym (gives p (at (values mid.pool) second.top) (at (values old.pool) first.top) second.scalar first.scalar))
+      (sym (gives p (at (values mid.pool) left) (at (values old.pool) right)
+      (stands_scalar mid last left left n second stands)
+      (ap (λ (m : Machine). scalar_of (at (values m.pool) right)) (sym first.same)
+      ∙ stands_scalar mid last left right o second other)))
+
+  pub between_going : operates (Between op) rounding p (state_at tables place old) ≢ stuck
+      → pushes (as_reply p made) (state_at tables place last) ≢ stuck
+  between_going going e = going (between_leads ∙ e)
 
 -- some operand is there
 pub some_operand : (tables : Tables) (place : ℕ) (m : Machine) (go : Value → State → Next)

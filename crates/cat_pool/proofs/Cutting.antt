@@ -142,5 +142,3 @@ pub given_back_extends : (mark : Mark) (old mid new : List Standing) → mark �
     → new ≡ take mark.nodes mid → Extends old new
 given_back_extends mark old mid new is extends back =
     ap (take (length old)) (given_back mark old mid new is extends back) ∙ take_all (length old) old (omega arith)
-
-pub ruleset releasing = (marked, given_back, given_back_extends)

@@ -1,8 +1,9 @@
 // A value comes into a pool.
-ghost use Rattle.std.specs.Prelude.{◌≡◌, ◌+◌, length, slice_get, Some, IfOk, OnOk, OnErr};
+ghost use Rattle.std.specs.Prelude.{◌≡◌, ◌+◌, length, slice_get, Some, IfOk, IfSome, OnOk, OnErr};
 ghost use Rattle.cat_value.specs.declared.value.Value.TheViews as value;
 ghost use Rattle.cat_pool.specs.Nodes.{AreBelow, IsPlain, seen_at, value_in, values};
 ghost use Rattle.cat_pool.specs.Loading.{Extends, node_count, node_counts};
+ghost use Rattle.cat_pool.specs.inside.Alone.{IsAlone};
 
 use crate::node::{PoolNode, Ref, References};
 use crate::pool::Pool;
@@ -17,9 +18,28 @@ fn put_node(pool: &mut Pool, node: PoolNode) -> Result<Ref, AllocError>
     ensures value { IfOk result (λ r. slice_get (values pool.new) r ≡ Some (value_in pool.old node)) }
     ensures count { OnOk result (length pool.new ≡ length pool.old + 1) }
     ensures kept { Extends pool.old pool.new }
+    ensures err { OnErr result (pool.new ≡ pool.old) }
 {
     let r = pool.put(node)?;
     Ok(r)
+}
+
+/// A value that has no parts, as a node.
+#[tactic(auto, using(crate::proofs::Alone::alone))]
+fn alone(value: &Value) -> Option<PoolNode>
+    ensures { IfSome result (IsAlone value.now) }
+{
+    match value {
+        Value::Boolean(truth) => Some(PoolNode::Boolean(*truth)),
+        Value::Integer(whole) => Some(PoolNode::Integer(*whole)),
+        Value::Decimal(frac) => Some(PoolNode::Decimal(*frac)),
+        Value::Money(money) => Some(PoolNode::Money(*money)),
+        Value::Date(day) => Some(PoolNode::Date(*day)),
+        Value::Duration(span) => Some(PoolNode::Duration(*span)),
+        Value::List(_) => None,
+        Value::Structure(_) => None,
+        Value::Case(_, _) => None,
+    }
 }
 
 /// A list of these elements.
@@ -95,13 +115,17 @@ fn load_all(alloc: Global, pool: &mut Pool, values: &Values) -> Result<Reference
 
 impl Pool {
     /// The nodes of a value: one for itself, and those of each of its parts.
-    #[tactic(auto, using(crate::proofs::Cutting::releasing))]
+    #[tactic(auto, using(crate::proofs::Alone::loading))]
     pub fn load(&mut self, alloc: Global, value: &Value) -> Result<Ref, AllocError>
         ensures value { IfOk result (λ r. slice_get (values self.new) r ≡ Some value.now) }
         ensures count { OnOk result (length self.new ≡ length self.old + node_count value.now) }
         ensures kept { Extends self.old self.new }
         ensures err { OnErr result (self.new ≡ self.old) }
     {
+        if let Some(node) = alone(value) {
+            let r = put_node(self, node)?;
+            return Ok(r);
+        }
         let mark = self.mark();
         match load_behind(alloc, self, value) {
             Ok(r) => Ok(r),

@@ -59,27 +59,32 @@ abbrev pub as_reply : Pos → Result Scalar NoResult → Reply
 as_reply p (Ok s) = scalar_reply s
 as_reply p (Err none) = Err (stop_at p none)
 
--- the truth value of a scalar that is one; and so on
+-- the truth value of a scalar that is one
 abbrev pub truth_of : Scalar → Result Bool NoResult
 truth_of (scalar.Boolean b) = Ok b
 truth_of _ = Err result.Stuck
 
+-- the whole number of a scalar that is one
 abbrev pub integer_of : Scalar → Result ℤ NoResult
 integer_of (scalar.Integer n) = Ok n
 integer_of _ = Err result.Stuck
 
+-- the fraction of a scalar that is one
 abbrev pub decimal_of : Scalar → Result Fraction NoResult
 decimal_of (scalar.Decimal f) = Ok f
 decimal_of _ = Err result.Stuck
 
+-- the cents of a scalar that is an amount
 abbrev pub money_of : Scalar → Result ℤ NoResult
 money_of (scalar.Money cents) = Ok cents
 money_of _ = Err result.Stuck
 
+-- the day of a scalar that is one
 abbrev pub date_of : Scalar → Result ℤ NoResult
 date_of (scalar.Date day) = Ok day
 date_of _ = Err result.Stuck
 
+-- the span of a scalar that is one
 abbrev pub duration_of : Scalar → Result SpanOf NoResult
 duration_of (scalar.Duration span) = Ok span
 duration_of _ = Err result.Stuck

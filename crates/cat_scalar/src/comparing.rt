@@ -11,6 +11,7 @@ use cat_date::{cmp_day, cmp_span};
 use std::cmp::Ordering;
 
 /// The order of two scalars; booleans have none.
+#[inline(always)]
 #[tactic(auto, using(crate::proofs::Projecting::projections))]
 pub(crate) fn compared(left: Scalar, right: Scalar) -> Result<Ordering, NoResult>
     ensures { (p : At) (v w : Valued) → scalar_of v ≡ left → scalar_of w ≡ right → with_position p result ≡ compared p v w }
@@ -30,6 +31,7 @@ pub(crate) fn compared(left: Scalar, right: Scalar) -> Result<Ordering, NoResult
 }
 
 /// Whether two scalars are equal.
+#[inline(always)]
 #[tactic(auto, using(crate::proofs::Projecting::projections))]
 pub(crate) fn equal(left: Scalar, right: Scalar) -> Result<bool, NoResult>
     ensures { (p : At) (v w : Valued) → scalar_of v ≡ left → scalar_of w ≡ right → with_position p result ≡ equal p v w }

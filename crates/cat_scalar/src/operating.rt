@@ -44,6 +44,7 @@ pub fn convert(op: UnaryOp, operand: Scalar) -> Result<Scalar, NoResult>
 }
 
 /// What stands between two operands; `rounding` is what becomes of a day that its month lacks.
+#[inline(always)]
 #[tactic(auto, using(crate::proofs::Projecting::projections))]
 pub fn operate(
     rounding: Rounding,
@@ -71,10 +72,7 @@ pub fn operate(
             money_or(money_times(right.money()?, frac))
         }
         BinaryOp::MultiplyMoneyByInteger => money_or(times(left.money()?, right.integer()?)),
-        BinaryOp::MultiplyIntegerByMoney => {
-            let whole = left.integer()?;
-            money_or(times_of(whole, right.money()?))
-        }
+        BinaryOp::MultiplyIntegerByMoney => money_or(times_of(left.integer()?, right.money()?)),
         BinaryOp::DivideMoneyByDecimal => money_or(money_over(left.money()?, right.decimal()?)),
         BinaryOp::DivideMoneyByInteger => money_or(over(left.money()?, right.integer()?)),
         BinaryOp::DivideMoney => frac_or(left.money()?.over(right.money()?)),

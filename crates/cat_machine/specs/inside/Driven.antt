@@ -58,6 +58,7 @@ same_number code (suc m) (suc n) s g h = both (step code.tables code.instruction
 abbrev pub EndsFrom : Code → ℕ → Machine → Type 0
 EndsFrom code place m = (n : ℕ) × (1 ≤ ends_in code n (state_at code.tables place m))
 
+-- all ways to tell that it ends are one
 pub EndsFrom-prop : (code : Code) (place : ℕ) (m : Machine) → IsProp (EndsFrom code place m)
 EndsFrom-prop code place m x y =
     Σ_prop_path (λ n. le_prop) (same_number code x.0 y.0 (state_at code.tables place m) x.1 y.1)

@@ -1,10 +1,12 @@
 -- What is put into the pool for a machine, and popped of its operands.
-use Rattle.std.specs.Prelude.{◌≡◌, ℕ, Bool, true, false, ◌∷◌, Option, Some, slice_get}
+use Rattle.std.specs.Prelude.{◌≡◌, ◌<◌, ℕ, Bool, true, false, ◌∷◌, length, Option, Some, slice_get}
 use Rattle.cat_value.specs.declared.value.Value.{Value}
 use Rattle.cat_code.specs.Operations as code
-use Rattle.cat_pool.specs.Nodes.{at, values}
+use Rattle.cat_pool.specs.declared.node.PoolNode.{PoolNode}
+use Rattle.cat_pool.specs.declared.node.PoolNode.TheVariants as node
+use Rattle.cat_pool.specs.Nodes.{values}
 use Rattle.cat_scalar.specs.declared.scalar.Scalar.{Scalar}
-use Rattle.cat_scalar.specs.Scalars.{scalar_of}
+use Rattle.cat_scalar.specs.declared.scalar.Scalar.TheVariants as scalar
 use Rattle.cat_machine.specs.declared.machine.Machine.{Machine}
 use Rattle.cat_machine.specs.declared.machine.Truths.{Truths}
 use Rattle.cat_machine.specs.declared.steps.operating.Operation.{Operation}
@@ -32,12 +34,21 @@ pub record Puts (old new : Machine) (v : Value) (r : ℕ) : Type 0 where
   pub stands : slice_get (values new.pool) r ≡ Some v
   pub truths : HasTruths new
 
+-- what is in a node that has no parts
+abbrev pub scalar_at : PoolNode → Scalar
+scalar_at (node.Boolean b) = scalar.Boolean b
+scalar_at (node.Integer n) = scalar.Integer n
+scalar_at (node.Decimal f) = scalar.Decimal f
+scalar_at (node.Money cents) = scalar.Money cents
+scalar_at (node.Date day) = scalar.Date day
+scalar_at (node.Duration span) = scalar.Duration span
+scalar_at _ = scalar.Compound
+
 -- the operand on top is popped, and all else is as before
-pub record PopsScalar (old new : Machine) (s : Scalar) : Type 0 where
-  pub top : ℕ
-  pub popped : old.operands ≡ top ∷ new.operands
+pub record Pops (old new : Machine) (r : ℕ) : Type 0 where
+  pub below : r < length new.pool
+  pub popped : old.operands ≡ r ∷ new.operands
   pub same : new ≡ record old { operands = new.operands }
-  pub scalar : scalar_of (at (values old.pool) top) ≡ s
 
 -- an operator of a number
 abbrev pub operation_of : Operation → code.Operation

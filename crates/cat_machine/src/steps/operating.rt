@@ -1,11 +1,16 @@
 // What operators and assertions do.
-ghost use Rattle.std.specs.Prelude.{◌≡◌, ◌≢◌, ◌<◌, ◌+◌, ◌^◌, [], List as Listed, IfOk, IsOk, IsSome, OnOk, Some, length, slice_get};
+ghost use Rattle.std.specs.Prelude.{◌≡◌, ◌≢◌, ◌≤◌, ◌<◌, ◌+◌, ◌^◌, [], IfOk, IsOk, IsSome, OnOk, Some, length};
+ghost use Rattle.std.specs.Prelude.{slice_get};
+ghost use Rattle.cat_pos.specs.declared.pos.Pos.{Pos as At};
+ghost use Rattle.cat_value.specs.declared.value.Value.{Value as Valued};
 ghost use Rattle.cat_value.specs.declared.value.Value.TheVariants as flat;
+ghost use Rattle.cat_scope.specs.Operators.{convert, operate};
 ghost use Rattle.cat_code.specs.Moves.{pushes};
-ghost use Rattle.cat_code.specs.Operations.{operation, roundings};
-ghost use Rattle.cat_pool.specs.Nodes.{AreBelow, Standing, value_in};
+ghost use Rattle.cat_code.specs.Operations.{Between, operation, roundings};
+ghost use Rattle.cat_pool.specs.Nodes.{AreBelow};
 ghost use Rattle.cat_scalar.specs.Scalars.{as_reply, scalar_of, scalar_reply};
-ghost use Rattle.cat_machine.specs.inside.Putting.{HasTruths, PopsScalar, Puts, operation_of, truth_in, with_truth};
+ghost use Rattle.cat_machine.specs.inside.Putting.{HasTruths, Pops, Puts, operation_of, scalar_at, truth_in};
+ghost use Rattle.cat_machine.specs.inside.Putting.{with_truth};
 ghost use Rattle.cat_code.specs.States.{stuck};
 ghost use Rattle.cat_code.specs.Machine.{act, operates};
 ghost use Rattle.cat_code.specs.declared.instr.Instr.TheVariants as instr;
@@ -67,35 +72,47 @@ pub fn truth_of(m: &mut Machine, truth: bool) -> Result<Ref, AllocError>
     Ok(r)
 }
 
-/// The operator of a number.
-fn operation_at(n: u32) -> Operation
-    requires { IsSome (operation n) }
+/// The operator of a number up to 23: each stands between two operands.
+fn arithmetic_at(n: u32) -> BinaryOp
+    requires first { 1 ≤ n }
+    requires last { n < 24 }
+    ensures { operation n ≡ Some (Between result) }
+{
+    match n {
+        1 => BinaryOp::AddIntegers,
+        2 => BinaryOp::SubtractIntegers,
+        3 => BinaryOp::MultiplyIntegers,
+        4 => BinaryOp::DivideIntegers,
+        5 => BinaryOp::AddDecimals,
+        6 => BinaryOp::SubtractDecimals,
+        7 => BinaryOp::MultiplyDecimals,
+        8 => BinaryOp::DivideDecimals,
+        9 => BinaryOp::AddMoney,
+        10 => BinaryOp::SubtractMoney,
+        11 => BinaryOp::MultiplyMoneyByDecimal,
+        12 => BinaryOp::MultiplyDecimalByMoney,
+        13 => BinaryOp::MultiplyMoneyByInteger,
+        14 => BinaryOp::MultiplyIntegerByMoney,
+        15 => BinaryOp::DivideMoneyByDecimal,
+        16 => BinaryOp::DivideMoneyByInteger,
+        17 => BinaryOp::DivideMoney,
+        18 => BinaryOp::AddDurationToDate,
+        19 => BinaryOp::SubtractDurationFromDate,
+        20 => BinaryOp::SubtractDates,
+        21 => BinaryOp::AddDurations,
+        22 => BinaryOp::SubtractDurations,
+        23 => BinaryOp::MultiplyDurationByInteger,
+        _ => unreachable!(),
+    }
+}
+
+/// The operator of a number from 24 on.
+fn other_at(n: u32) -> Operation
+    requires first { 24 ≤ n }
+    requires last { n ≤ 45 }
     ensures { operation n ≡ Some (operation_of result) }
 {
     match n {
-        1 => Operation::Between(BinaryOp::AddIntegers),
-        2 => Operation::Between(BinaryOp::SubtractIntegers),
-        3 => Operation::Between(BinaryOp::MultiplyIntegers),
-        4 => Operation::Between(BinaryOp::DivideIntegers),
-        5 => Operation::Between(BinaryOp::AddDecimals),
-        6 => Operation::Between(BinaryOp::SubtractDecimals),
-        7 => Operation::Between(BinaryOp::MultiplyDecimals),
-        8 => Operation::Between(BinaryOp::DivideDecimals),
-        9 => Operation::Between(BinaryOp::AddMoney),
-        10 => Operation::Between(BinaryOp::SubtractMoney),
-        11 => Operation::Between(BinaryOp::MultiplyMoneyByDecimal),
-        12 => Operation::Between(BinaryOp::MultiplyDecimalByMoney),
-        13 => Operation::Between(BinaryOp::MultiplyMoneyByInteger),
-        14 => Operation::Between(BinaryOp::MultiplyIntegerByMoney),
-        15 => Operation::Between(BinaryOp::DivideMoneyByDecimal),
-        16 => Operation::Between(BinaryOp::DivideMoneyByInteger),
-        17 => Operation::Between(BinaryOp::DivideMoney),
-        18 => Operation::Between(BinaryOp::AddDurationToDate),
-        19 => Operation::Between(BinaryOp::SubtractDurationFromDate),
-        20 => Operation::Between(BinaryOp::SubtractDates),
-        21 => Operation::Between(BinaryOp::AddDurations),
-        22 => Operation::Between(BinaryOp::SubtractDurations),
-        23 => Operation::Between(BinaryOp::MultiplyDurationByInteger),
         24 => Operation::Before(UnaryOp::NegateInteger),
         25 => Operation::Before(UnaryOp::NegateDecimal),
         26 => Operation::Before(UnaryOp::NegateMoney),
@@ -122,6 +139,19 @@ fn operation_at(n: u32) -> Operation
     }
 }
 
+/// The operator of a number.
+#[inline(never)]
+fn operation_at(n: u32) -> Operation
+    requires { IsSome (operation n) }
+    ensures { operation n ≡ Some (operation_of result) }
+{
+    if n < 24 {
+        Operation::Between(arithmetic_at(n))
+    } else {
+        other_at(n)
+    }
+}
+
 /// What becomes of a day that its month lacks, by its number.
 fn rounding_at(n: u32) -> Rounding
     requires { IsSome (slice_get roundings n) }
@@ -136,11 +166,10 @@ fn rounding_at(n: u32) -> Rounding
 }
 
 /// What is in a node that has no parts.
-#[tactic(auto, using(crate::proofs::OperatingSteps::scalars))]
-fn scalar_of(node: PoolNode) -> Scalar
-    ensures { (nodes : Listed Standing) → scalar_of (value_in nodes node) ≡ result }
+fn scalar_at(node: &PoolNode) -> Scalar
+    ensures { result ≡ scalar_at node.now }
 {
-    match node {
+    match *node {
         PoolNode::Boolean(truth) => Scalar::Boolean(truth),
         PoolNode::Integer(whole) => Scalar::Integer(whole),
         PoolNode::Decimal(frac) => Scalar::Decimal(frac),
@@ -154,18 +183,69 @@ fn scalar_of(node: PoolNode) -> Scalar
 }
 
 /// The operand on top, which is popped.
-fn operand(m: &mut Machine) -> Scalar
+fn operand(m: &mut Machine) -> Ref
     requires below { AreBelow (length m.old.pool) m.old.operands }
     requires some { m.old.operands ≢ [] }
-    ensures { PopsScalar m.old m.new result }
+    ensures { Pops m.old m.new result }
 {
     let Some(r) = m.operands.pop() else {
         unreachable!()
     };
-    scalar_of(*m.pool.look(r))
+    r
+}
+
+/// What an operator gives before a node.
+#[inline(never)]
+fn before(op: UnaryOp, node: &PoolNode) -> Result<Scalar, NoResult>
+    ensures { (p : At) (v : Valued) → scalar_of v ≡ scalar_at node.now → as_reply p result ≡ convert op p v }
+{
+    convert(op, scalar_at(node))
+}
+
+/// What an operator gives between two nodes of any kinds.
+#[inline(never)]
+fn between_any(
+    rounding: Rounding,
+    op: BinaryOp,
+    left: &PoolNode,
+    right: &PoolNode,
+) -> Result<Scalar, NoResult>
+    ensures { (p : At) (v w : Valued) → scalar_of v ≡ scalar_at left.now → scalar_of w ≡ scalar_at right.now
+        → as_reply p result ≡ operate rounding op p v w }
+{
+    operate(rounding, op, scalar_at(left), scalar_at(right))
+}
+
+/// What an operator gives between two nodes. Between two whole numbers and two amounts, which most are, it is inlined
+/// into the loop for each of both kinds apart.
+#[inline(always)]
+fn between(
+    rounding: Rounding,
+    op: BinaryOp,
+    left: &PoolNode,
+    right: &PoolNode,
+) -> Result<Scalar, NoResult>
+    ensures { (p : At) (v w : Valued) → scalar_of v ≡ scalar_at left.now → scalar_of w ≡ scalar_at right.now
+        → as_reply p result ≡ operate rounding op p v w }
+{
+    match (left, right) {
+        (PoolNode::Integer(whole), PoolNode::Integer(other)) => {
+            operate(
+                rounding,
+                op,
+                Scalar::Integer(*whole),
+                Scalar::Integer(*other),
+            )
+        }
+        (PoolNode::Money(money), PoolNode::Money(more)) => {
+            operate(rounding, op, Scalar::Money(*money), Scalar::Money(*more))
+        }
+        _ => between_any(rounding, op, left, right),
+    }
 }
 
 /// The node of a scalar: a new one, but of a truth value.
+#[inline(always)]
 fn put_scalar(m: &mut Machine, scalar: Scalar) -> Result<Ref, AllocError>
     requires truths { HasTruths m.old }
     requires plain { IsOk (scalar_reply scalar) }
@@ -184,6 +264,7 @@ fn put_scalar(m: &mut Machine, scalar: Scalar) -> Result<Ref, AllocError>
 }
 
 /// Pushes a result, or ends with its fault.
+#[inline(always)]
 fn push_result(
     code: &Code,
     m: &mut Machine,
@@ -211,7 +292,7 @@ fn push_result(
 }
 
 /// Pops the operands of an operation, and pushes its result, or ends with its fault.
-#[inline(never)]
+#[inline(always)]
 fn apply(
     code: &Code,
     m: &mut Machine,
@@ -231,12 +312,14 @@ fn apply(
     match operation {
         Operation::Before(op) => {
             let only = operand(m);
-            push_result(code, m, place, pos, convert(op, only))
+            let made = before(op, m.pool.look(only));
+            push_result(code, m, place, pos, made)
         }
         Operation::Between(op) => {
             let right = operand(m);
             let left = operand(m);
-            push_result(code, m, place, pos, operate(rounding, op, left, right))
+            let made = between(rounding, op, m.pool.look(left), m.pool.look(right));
+            push_result(code, m, place, pos, made)
         }
     }
 }

@@ -1,6 +1,6 @@
 use Rattle.std.proofs.Common.{refl}
-use Rattle.cat_machine.proofs.OperatingSteps.{before_going, before_leads, before_some, between_leads, machine_popped}
-use Rattle.cat_machine.proofs.OperatingSteps.{pool_before, tells_before}
+use Rattle.cat_machine.proofs.OperatingSteps.{before_going, before_leads, before_some, between_going, between_leads}
+use Rattle.cat_machine.proofs.OperatingSteps.{machine_popped, pool_before, tells_before}
 use Rattle.cat_machine.proofs.steps.operating.apply.Goals as goal
 
 pub operand-only-requires : goal.operand-only-requires
@@ -20,9 +20,17 @@ push_result-requires c =
       place = c.requires.place;
       going =
           before_going c.args.code.now.tables c.args.place c.args.rounding c.args.pos c.args.m.now c.operand-only.new.m
-          c.operand-only.result c.operand-only.ensures c.in-Before.op c.convert.result c.convert.ensures
-          (rw c.in-Before.is at c.requires.going);
+          c.operand-only.result c.look.result.now c.operand-only.ensures c.look.ensures.value c.in-Before.op
+          c.before-made.result c.before-made.ensures (rw c.in-Before.is at c.requires.going);
     }
+
+pub push_result-requires-in-Between-clause-going : goal.push_result-requires-in-Between-clause-going
+push_result-requires-in-Between-clause-going c =
+    between_going c.args.code.now.tables c.args.place c.args.rounding c.args.pos c.args.m.now c.operand-right.new.m
+    c.operand-left.new.m c.operand-right.result c.operand-left.result c.operand-right.ensures c.operand-left.ensures
+    c.in-Between.op c.look-in-Between.result.now c.look-in-Between-2.result.now c.look-in-Between.ensures.value
+    c.look-in-Between-2.ensures.value c.between-made.result c.between-made.ensures
+    (rw c.in-Between.is at c.requires.going)
 
 pub returns-in-Before-clause-told : goal.returns-in-Before-clause-told
 returns-in-Before-clause-told c =
@@ -31,7 +39,8 @@ returns-in-Before-clause-told c =
     c.operand-only.ensures c.push_result.result
     c.push_result.new.m _ _
     (before_leads c.args.code.now.tables c.args.place c.args.rounding c.args.pos c.args.m.now c.operand-only.new.m
-    c.operand-only.result c.operand-only.ensures c.in-Before.op c.convert.result c.convert.ensures)
+    c.operand-only.result c.look.result.now c.operand-only.ensures c.look.ensures.value c.in-Before.op
+    c.before-made.result c.before-made.ensures)
     c.push_result.ensures.told)
 
 pub returns-in-Between-clause-told : goal.returns-in-Between-clause-told
@@ -42,7 +51,8 @@ returns-in-Between-clause-told c =
     c.push_result-in-Between.result c.push_result-in-Between.new.m _ _
     (between_leads c.args.code.now.tables c.args.place c.args.rounding c.args.pos c.args.m.now c.operand-right.new.m
     c.operand-left.new.m c.operand-right.result c.operand-left.result c.operand-right.ensures c.operand-left.ensures
-    c.in-Between.op c.operate.result c.operate.ensures)
+    c.in-Between.op c.look-in-Between.result.now c.look-in-Between-2.result.now c.look-in-Between.ensures.value
+    c.look-in-Between-2.ensures.value c.between-made.result c.between-made.ensures)
     (tells_before c.args.code.now.tables c.args.place c.operand-right.new.m c.operand-left.new.m c.operand-left.result
     c.operand-left.ensures
     c.push_result-in-Between.result c.push_result-in-Between.new.m _ _ refl c.push_result-in-Between.ensures.told))
