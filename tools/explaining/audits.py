@@ -136,8 +136,8 @@ class Explained:
             return [place for d in held for place in self.written.conditions(d.pos, 'would hold')]
         item = opened.scope.items[opened.target.number[0]]
         others = [opened.scope.definitions[n] for n in sorted(opened.target.definitions)][:MOST_CONDITIONS]
-        return [self.source.place(item.pos, label='would have no value'),
-                *[place for d in others for place in self.written.conditions(d.pos, 'would not hold')[:1]]]
+        asked = [place for d in others for place in self.written.asked(d.pos, 'would not hold')]
+        return [self.source.place(item.pos, label='would have no value'), *dict.fromkeys(asked)]
 
     def beside(self, line: Line) -> List[str]:
         """An input that shows more, where the program's run on it ends so."""

@@ -38,13 +38,25 @@ class Written:
         begins = next((k for k, token in enumerate(tokens[:ends]) if token.kind == 'under condition'), ends)
         return tokens[begins + 1:ends]
 
+    def around(self, pos: Pos, label: str) -> List[Place]:
+        """The condition of the block of a definition."""
+        block = next((b for b in self.blocks if any(use.pos == pos for use in b.uses)), None)
+        return [self.source.place(block.condition.pos, block.condition.end, label)] if block and block.condition else []
+
+    def own(self, pos: Pos, label: str) -> List[Place]:
+        tokens = self.condition(pos)
+        return [self.source.place(tokens[0].pos, tokens[-1].end, label)] if tokens else []
+
     def conditions(self, pos: Pos, label: str) -> List[Place]:
         """The condition of a definition, or its name where it has none, and the condition of its block."""
-        block = next((b for b in self.blocks if any(use.pos == pos for use in b.uses)), None)
-        around = [self.source.place(block.condition.pos, block.condition.end, 'holds')] if block and block.condition else []
-        tokens = self.condition(pos)
-        own = self.source.place(tokens[0].pos, tokens[-1].end, label) if tokens else self.source.without_value(pos, label)
-        return [own, *around]
+        return [*(self.own(pos, label) or [self.source.without_value(pos, label)]), *self.around(pos, 'holds')]
+
+    def asked(self, pos: Pos, label: str) -> List[Place]:
+        """What leaves a definition out: its condition, or that of its block, or the two together."""
+        own, around = self.own(pos, label), self.around(pos, label)
+        if not own or not around:
+            return own or around
+        return self.around(pos, '') + self.own(pos, label + ' together with the condition of its block')
 
     def comparison(self, expr) -> str:
         """A comparison as it is written, by the position of its sign."""
