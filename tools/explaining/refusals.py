@@ -132,15 +132,18 @@ def notes_of(source: Source, pages: Pages, code: str, place: Place) -> List[Note
     own = next((fault for fault in faults if fault[0] == code and fault[1] in (pos, None)), Fault(code, pos))
     further = [fault for fault in faults if fault is not own and fault[1] not in (pos, None)]
     notes = [Refusal(source, pages, own, pos).note('reply')]
-    return notes + [Refusal(source, pages, fault, fault[1]).note('further') for fault in apart(further, pos)[:MOST_FURTHER]]
+    return notes + [Refusal(source, pages, fault, fault[1]).note('further') for fault in apart(further, own, pos)[:MOST_FURTHER]]
 
 
-def apart(faults: List[Fault], own: Pos) -> List[Fault]:
-    """Without those that one in front may have caused: of tokens, the first one of each line is told, and of cycles the first one."""
-    lines, left = {own[:2]}, []
+def apart(faults: List[Fault], own: Fault, pos: Pos) -> List[Fault]:
+    """Without those that one in front may have caused: of tokens and of the grammar, the first one of each line is told, types only where
+    the line has none of these, and of cycles the first one."""
+    broken = {at[:2] for code, at in [(own[0], pos), *faults] if code in OF_TOKENS}
+    lines, left = {pos[:2]}, []
     for fault in faults:
         line = fault[1][:2]
-        if fault[0] not in CYCLES and not (fault[0] in OF_TOKENS and line in lines):
+        hangs = line in lines if fault[0] in OF_TOKENS else line in broken and fault[0] == 'E10'
+        if fault[0] not in CYCLES and not hangs:
             left.append(fault)
         lines.add(line)
     return left

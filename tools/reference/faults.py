@@ -92,17 +92,22 @@ def words_behind(front):
     return [kind for kind in KINDS if goes_on(front, kind)]
 
 
+def tokens_with_gaps(piece, faults):
+    """The tokens of a piece of code, where what is no token is told among the faults, and stands as one that fits nowhere."""
+    first = len(faults)
+    tokens = tokens_of([piece], faults)
+    return sorted(tokens + [Token('', None, pos, pos) for _, pos in faults[first:]], key=lambda token: token.pos)
+
+
 def faults_of(pieces):
     """The faults of some pieces of code, by phases: of a later one where the earlier ones leave something that it can look at."""
     faults = []
-    tokens = tokens_of(pieces, faults)
-    if faults:
-        return faults
-    reader = Recovering(tokens)
+    reader = Recovering([token for piece in pieces for token in tokens_with_gaps(piece, faults)])
     tree = reader.program()
+    told = faults + [fault for fault in reader.faults if fault[1] not in [pos for _, pos in faults]]
     if not reader.are_declarations_whole:
-        return reader.faults
-    return reader.faults + once(meaning_faults(tree, not reader.faults))
+        return told
+    return told + once(meaning_faults(tree, not told))
 
 
 def once(faults):
