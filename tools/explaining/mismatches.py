@@ -29,6 +29,8 @@ def parts_row(operator: str, kinds: Tuple[str, ...]) -> str:
         return 'numbers in place of truth values'
     if operator in COMPARED and 'enumeration' in kinds:
         return 'an enumeration that is compared'
+    if operator in ('=', '!=') and 'boolean' in kinds:
+        return 'a truth value that is compared'
     if operator in COMPARED and {'structure', 'list'} & set(kinds):
         return 'a structure or a list that is compared'
     if operator == '/' and 'duration' in kinds:

@@ -5,10 +5,10 @@ from reference.faults import faults_of
 from reference.tokens import Fault, Pos
 
 from . import mismatches
-from .near import near_help
+from .near import near_help, told_near
 from .notes import Note, Place
 from .pages import Pages, Part, help_in
-from .slips import ENDS, character_slip, described, here_of, slip_of
+from .slips import ENDS, character_slip, described, here_of, nearly, slip_of
 from .sources import Source
 
 MOST_FURTHER = 10
@@ -17,7 +17,7 @@ CYCLES = ('E15', 'E16', 'E17', 'E18')
 Told = Tuple[str, List[Place], List[str], List[str]]
 WORDS_OF_OTHERS = {'a least or a greatest': ('min', 'max', 'minimum', 'maximum', 'abs'), 'a rounding': ('round', 'floor', 'ceil', 'ceiling', 'int'),
                    'a count': ('count', 'len', 'length', 'size'), 'a day that passes': ('today', 'now', 'current_date'),
-                   'a word of another language': ('yes', 'no', 'null', 'none', 'filter', 'some', 'each')}
+                   'a word of another language': ('yes', 'no', 'true', 'false', 'null', 'none', 'filter', 'some', 'each')}
 
 
 def rows(part: Part, *keys: str) -> List[str]:
@@ -59,10 +59,10 @@ class Refusal:
         if 'front' not in self.told:
             return '', [], [], []
         here = here_of(self.told['front'], self.source.behind(self.fault[1]), self.source.tokens)
-        may_stand = 'here may stand: %s' % ', '.join(described(here.words))
+        may_stand = ['here may stand: %s' % ', '.join(described(here.words))] if here.words else []
         last = here.front[-1] if here.front else None
         behind = [self.source.place(last.pos, label='behind this')] if last and here.kind in ENDS and last.end.line != self.pos.line else []
-        return '', behind, [may_stand], rows(self.part, slip_of(here))
+        return '', behind, may_stand, told_near(nearly(here)) + rows(self.part, slip_of(here))
 
     def name_twice(self) -> Told:
         first = self.told.get('first')
@@ -75,10 +75,16 @@ class Refusal:
         others = [scope.name.text for scope in self.told['names'].scopes if text in [v.name.text for v in scope.variables]] \
             if 'names' in self.told else []
         row = next((row for row, words in WORDS_OF_OTHERS.items() if text.lower() in words), '')
+        row = row or 'a type or a scope as a value' * (text in self.declared())
         helps = near_help(text, self.told.get('among', [])) + rows(self.part, row)
         if others and not helps:
             return 'a variable of ' + named(others), [], [], rows(self.part, 'a variable of another scope')
         return '', [], [], helps + ([] if row else [self.part.mend])
+
+    def declared(self) -> List[str]:
+        """The names of the types and the scopes of the source."""
+        names = self.told.get('names')
+        return [*names.types, *names.scope_numbers] if names else []
 
     def is_compared(self) -> bool:
         """Whether a sign that compares stands in front."""

@@ -4,17 +4,23 @@ from typing import Callable, Dict, FrozenSet, List, NamedTuple, Tuple
 from reference.faults import ITEMS, USES, words_behind
 from reference.tokens import KEYWORDS, Token
 
+from .near import near
+
 TYPES = ('boolean', 'integer', 'decimal', 'money', 'date', 'duration', 'list of')
 ENDS = (*USES, 'declaration', 'scope', '')
 AROUND = ('consequence', 'equals', 'then', 'else', 'fulfilled', 'with', 'among', 'of', 'and', 'or', 'xor', 'anything')
+ALMOST = 0.8
 OPENED = {')': '(', ']': '[', '}': '{'}
+UNITS = ('year', 'month', 'day')
+ELSES = ('elif', 'elsif', 'elseif', 'elsewise', 'otherwise')
+COMPARED = ('<', '<=', '>', '>=', '=', '!=')
 PLURALS = ('years', 'months', 'days', 'weeks', 'week')
 CURRENCIES = ('euro', 'euros', 'eur', 'dollar', 'dollars', 'usd', 'pound', 'pounds', 'gbp', 'francs', 'cents')
 SIGNS = ('equal', 'equals', 'plus', 'minus', 'times', 'mod', 'percent', 'divided', 'greater', 'less', 'below', 'above')
 LISTS = ('list', 'array', 'set', 'lists')
 CONDITIONS = ('if', 'under condition', 'when', 'where', 'unless', 'provided', 'then')
 BY_CHARACTER = {'a quotation mark': '"\'“”„«»‘’', 'a bar': '|', 'the sign of a currency': '€£¥¢₣', '`$`': '$', '`%`': '%', '`&`': '&',
-                '`!`': '!', '`≤`, `≥` or `≠`': '≤≥≠', 'a sign of printing': '–—−×÷·', '`_`': '_', 'a backquote': '`'}
+                '`!`': '!', '`^`': '^', '`≤`, `≥` or `≠`': '≤≥≠', 'a sign of printing': '–—−×÷·', '`_`': '_', 'a backquote': '`'}
 
 
 class Here(NamedTuple):
@@ -34,8 +40,16 @@ class Here(NamedTuple):
         return self.front[-1].kind if self.front else ''
 
     @property
+    def following(self) -> str:
+        return self.behind[1].kind if len(self.behind) > 1 else ''
+
+    @property
     def spelled(self) -> str:
         return spelling(self.behind[0]).lower() if self.behind else ''
+
+    def signs(self) -> str:
+        """The sign in front of it and the two from there on."""
+        return ''.join(kind if kind in ('/', '*') else ' ' for kind in (self.last, self.kind, self.following))
 
     def may(self, *kinds: str) -> bool:
         return any(kind in self.words for kind in kinds)
@@ -65,6 +79,10 @@ class Here(NamedTuple):
                 opened.pop()
         return opened[-1] if opened else ''
 
+    def compares_again(self) -> bool:
+        """Whether a sign that compares stands behind a comparison."""
+        return self.kind in COMPARED and self.may('+') and not self.may(self.kind)
+
     def is_keyword(self) -> bool:
         """Whether a keyword stands where a name is due."""
         in_expression = self.may('INT')
@@ -78,7 +96,8 @@ def spelling(token: Token) -> str:
 SLIPS: List[Tuple[str, Callable[[Here], bool]]] = [
     ('`==`', lambda h: (h.last, h.kind) == ('=', '=')),
     ('`<>`, `=>` or `=<`', lambda h: (h.last, h.kind) in (('<', '>'), ('=', '>'), ('=', '<'))),
-    ('`//`', lambda h: (h.last, h.kind) == ('/', '/')),
+    ('`//`, `/*` or `--`', lambda h: '//' in h.signs() or '/*' in h.signs() or h.kind == '--' and h.may('declaration')),
+    ('`**`', lambda h: (h.last, h.kind) == ('*', '*')),
     ('a unit with a plural', lambda h: h.last == 'INT' and h.spelled in PLURALS),
     ('a word behind an amount', lambda h: h.spelled in CURRENCIES),
     ('a comma in a list', lambda h: h.kind == ',' and h.within() == '['),
@@ -90,6 +109,7 @@ SLIPS: List[Tuple[str, Callable[[Here], bool]]] = [
     ('`condition` behind `content`', lambda h: (h.last, h.kind) == ('content', 'condition')),
     ('a list\'s type', lambda h: h.begins('declaration') and (h.spelled in LISTS or h.front[-1].value in LISTS)),
     ('a scope, type or case without a capital', lambda h: h.kind == 'w' and h.may('U') and h.spelled in h.capitals),
+    ('a sum without its type', lambda h: h.last == 'sum' and not (h.kind == 'w' and h.following == 'of')),
     ('a type of another language', lambda h: h.last in ('content', 'list of', 'sum') and h.kind == 'w'),
     ('a variable without `content`', lambda h: h.may('content') and h.kind in (*TYPES, 'U', ':')),
     ('an item without its kind', lambda h: h.begins('declaration', 'scope') and (h.words == {'scope'} or h.kind == 'data' and not h.may(':'))),
@@ -102,19 +122,30 @@ SLIPS: List[Tuple[str, Callable[[Here], bool]]] = [
     ('a line without its colon', lambda h: h.may(':') and not h.has('match') and h.within() != '{'),
     ('a scope, type or case without a capital', lambda h: h.kind == 'w' and h.may('U') and not h.may('w')),
     ('a variable with a capital', lambda h: h.kind == 'U' and h.may('w') and not h.may('U')),
+    ('a part of a date', lambda h: h.kind in UNITS and (h.last == '.' or h.may('INT') and h.following == 'of')),
     ('a keyword as a name', lambda h: h.is_keyword() or h.words == {'of'} and h.last in KEYWORDS),
     ('a number that begins with its point', lambda h: h.kind == '.' and h.may('INT')),
     ('a function\'s name in front of parentheses', lambda h: (h.last, h.kind) == ('w', '(')),
+    ('a type or a scope in front of parentheses', lambda h: (h.last, h.kind) == ('U', '(')),
+    ('a scope call without its braces or its output', lambda h: h.has('output of') and h.words in ({'.'}, {'{'}, {'with'})),
+    ('a number behind a list', lambda h: (h.last, h.kind) == ('w', '[')),
     ('a call in a call', lambda h: (h.last, h.kind) == ('w', 'of') and h.has('of')),
     ('a list\'s form without `among`', lambda h: h.may('among')),
+    ('a list\'s form without its second word', lambda h: h.may('we have', 'such that', 'to')),
+    ('a field without its colon', lambda h: h.within() == '{' and h.may(':')),
+    ('a content without `of`', lambda h: h.has('with pattern') and h.may('of') and h.may(':') and (h.kind, h.following) == ('w', ':')),
+    ('an arm without its colon', lambda h: h.has('with pattern') and h.may(':')),
     ('an arm without its `--`', lambda h: h.last == 'with pattern' and h.has('match') and h.kind in ('U', 'w')),
     ('a match without `with pattern`', lambda h: h.has('match') and not h.has('with pattern') and h.kind in ('with', 'of', '--', 'in', 'U')),
     ('`=` where a value begins', lambda h: h.kind == '=' and h.may('equals')),
     ('`equals` in a condition', lambda h: h.kind == 'equals' and h.may('consequence') and h.follows('consequence')),
     ('`equals` without `consequence`', lambda h: h.kind == 'equals' and h.may('consequence')),
+    ('a comparison that is compared', Here.compares_again),
+    ('`in`', lambda h: h.kind == 'in' and h.may('*')),
     ('`is`', lambda h: h.spelled == 'is' and h.may('*')),
     ('a test that names a content', lambda h: (h.last, h.kind) == ('U', 'of') and h.has('with pattern')),
     ('a word for a sign', lambda h: h.spelled in SIGNS and h.may('*')),
+    ('`elif`', lambda h: h.spelled in ELSES and h.may('else')),
     ('an `if` without `then`', lambda h: h.may('then') and not h.follows('then')),
     ('an `if` without `else`', lambda h: h.may('else') and h.kind != 'else' and not h.follows('else')),
     ('`fulfilled` in a definition', lambda h: h.kind == 'fulfilled' and h.may('equals', 'INT')),
@@ -132,6 +163,14 @@ SLIPS: List[Tuple[str, Callable[[Here], bool]]] = [
 def slip_of(here: Here) -> str:
     """The row that tells of it; nothing where no row does."""
     return next((row for row, is_it in SLIPS if is_it(here)), '')
+
+
+def nearly(here: Here) -> List[str]:
+    """The words of the language that may stand there and are spelled almost as what stands there, up to three words of it."""
+    words = [kind for kind in here.words if kind in KEYWORDS or ' ' in kind]
+    texts = [' '.join(map(spelling, here.behind[:count])).replace('_', ' ') for count in (1, 2, 3)]
+    found = [near(text, words, ALMOST) for text in texts[here.kind in KEYWORDS:]]
+    return next((names for names in found if names), [])
 
 
 def here_of(front: List[Token], behind: List[Token], tokens: List[Token]) -> Here:
@@ -152,7 +191,8 @@ FORMS = frozenset(('if', 'match', 'not', '-', 'sum', 'integer', 'decimal', 'mone
 OPERATORS = frozenset(('+', '-', '*', '/', '<', '<=', '>', '>=', '=', '!=', 'contains', 'with pattern'))
 GROUPS: List[Tuple[str, FrozenSet[str], FrozenSet[str]]] = [  # What each has to have, and what it may have besides.
     ('an expression', OPERANDS, FORMS),
-    ('an operator', frozenset(('and', 'or', 'xor')), OPERATORS | {'.'}),
+    ('an operator', frozenset(('and', 'or', 'xor', *COMPARED)), OPERATORS | {'.'}),
+    ('an operator that does not compare', frozenset(('and', 'or', 'xor')), OPERATORS | {'.'}),
     ('a definition', frozenset(USES), frozenset()),
     ('a declaration or a block', frozenset(('declaration', 'scope')), frozenset()),
     ('an item', frozenset(ITEMS), frozenset(('w',))),
@@ -170,4 +210,4 @@ def described(words: FrozenSet[str]) -> List[str]:
             left -= needed | besides
             told.append(name)
     singles = [SINGLE.get(kind, '`%s`' % kind) for kind in sorted(left)]
-    return [name for name in singles if name] + told
+    return [name for name in singles if name] + told or ['`.`'] * ('.' in words)
