@@ -18,11 +18,14 @@ def printed(pages: Pages, asked: str, is_json: bool) -> int:
     if not parts:
         print('catala-explain: no page tells of %s' % asked, file=sys.stderr)
         return WRONG_USE
-    if is_json:
-        print(json.dumps([part._asdict() for part in parts], ensure_ascii=False, indent=1))
-    else:
-        print('\n\n'.join('%s\n\n%s' % (part.title, part.text) for part in parts))
-    return 0
+    text = json.dumps([part._asdict() for part in parts], ensure_ascii=False, indent=1) if is_json else \
+        '\n\n'.join('%s\n\n%s' % (part.title, part.text) for part in parts)
+    return into_output(text)
+
+
+def into_output(text: str) -> int:
+    """Writes a text to standard output, which may be closed before it is read to the end."""
+    return 0 if program.written(sys.stdout, (text + '\n').encode('utf-8', 'replace')) else program.OUTPUT_FAILED
 
 
 def explained(words: List[str], path: str, is_json: bool) -> int:
@@ -50,8 +53,7 @@ def main(words: List[str]) -> int:
         asked = left[1] if left[0] == '--program' and len(left) > 1 else asked
         left = left[2 if left[0] == '--program' else 1:]
     if left[:1] in (['--help'], ['-h'], ['help']):
-        print(Pages().help())
-        return 0
+        return into_output(Pages().help())
     if left[:1] == ['--'] or left[:1] and left[0] in program.MODES:
         path = program.found(asked)
         if path is None:
