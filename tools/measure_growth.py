@@ -27,6 +27,10 @@ def check(scope, text):
     return Call(['check', scope, 'a.md', 'certificate'], {'a.md': text}, reply=b'Yes\n', first=['audit', scope, 'a.md'])
 
 
+def table(scope, text, said):
+    return Call(['table', scope, 'a.md'], {'a.md': text}, reply=b'table %s.%s\n' % (scope.encode(), said))
+
+
 def emit(text):
     return Call(['emit', 'S', 'a.md'], {'a.md': text}, reply=b'catala-code 1\n')
 
@@ -159,6 +163,8 @@ WORK = [
     ('a check of bands', lambda n: check('Bands', source(bands(n, 'in order'))), 32_000),
     ('an audit of a grid', lambda n: audit('S', grid(n), b'x: Covered'), 32_400),
     ('a check of a grid', lambda n: check('S', grid(n)), 32_400),
+    ('a table of bands', lambda n: table('Bands', source(bands(n, 'in order')), b'rate'), 32_000),
+    ('a table of a grid', lambda n: table('S', grid(n), b'x'), 32_400),
     ('an audit of a ladder of truth values, by its parts', lambda n: audit('S', ladder(n), b'x: Covered'), 240_000),
     ('an audit of chains of exceptions over terms of their own', lambda n: audit('S', chains(n), b'x0: Covered'), 16_000),
     ('an audit of bands of a computed number with gaps',

@@ -4,6 +4,7 @@ mod NodeLemmas
 mod LawLemmas
 mod TableLemmas
 mod RowLemmas
+mod WalkLemmas
 mod TablesLemmas
 mod Examples
 mod TypedLaws

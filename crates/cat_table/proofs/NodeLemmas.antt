@@ -1,20 +1,24 @@
 -- The nodes of a tree, and the lines of its leaves.
-use Rattle.std.proofs.Common.{◌≡◌, ◌∙◌, ℕ, suc, ◌+◌, true, false, IsTrue, List, [], ◌∷◌, ◌++◌, drop, take, Option, Some}
-use Rattle.std.proofs.Common.{None, reverse, refl, sym, ap, subst, arith, append_assoc}
+use Rattle.std.proofs.Common.{◌≡◌, ◌∙◌, ℕ, suc, ◌+◌, Bool, true, false, IsTrue, List, [], ◌∷◌, ◌++◌, drop, take, Option}
+use Rattle.std.proofs.Common.{Some, None, reverse, refl, sym, ap, subst, arith, append_assoc}
 use Rattle.std.specs.Prelude.{IfSome}
 use Rattle.std.proofs.lemmas.List.{append-nil, reverse-append}
+use Rattle.cat_region.specs.Regions.{Constraints, IsInhabited}
+use Rattle.cat_region.proofs.Exported.{some_before}
+use Rattle.cat_guard.specs.declared.table.Atom.{Atom}
 use Rattle.cat_guard.specs.declared.table.Table.{Table}
 use Rattle.cat_guard.specs.declared.table.TableTarget.{TableTarget}
 use Rattle.cat_guard.specs.declared.tree.TreeNode.{TreeNode}
 use Rattle.cat_guard.specs.declared.tree.TreeNode.TheVariants as node
-use Rattle.cat_guard.specs.Trees.{Tree, node_before, one_tree, trees_of, tree_of, answering, leaves}
+use Rattle.cat_guard.specs.Trees.{Tree, node_before, one_tree, trees_of, tree_of, answering, leaves, with_answer}
 use Rattle.cat_guard.specs.Trees as tree
 use Rattle.cat_search.specs.declared.way.Answer.{Answer}
-use Rattle.cat_search.specs.Searched.{everything}
+use Rattle.cat_search.specs.Searched.{everything, IsSearched}
 use Rattle.cat_search.specs.Ways.{ask_below, led_to, passed, turned, way_from}
 use Rattle.cat_table.specs.Conditions.{Naming}
 use Rattle.cat_table.specs.Rows.{Row, answered, ended, row_text, rows_from, rows_text, shown_text}
 use Rattle.cat_table.specs.inside.Nodes.{row_at, node_text, nodes_text, leaves_among}
+use Rattle.cat_table.specs.inside.Walking.{AreReached}
 
 -- ---- nodes
 
@@ -151,6 +155,15 @@ lines_step ns table (Some t) nodes i n way next old new start is further grown a
     lines_step_at ns table t (drop i nodes) (drop (i + 1) nodes) n way next old new
     (start ++ nodes_text ns table t [] nodes) is further grown all
 
+-- where no node is left, all lines are written
+pub lines_end : (ns : Naming) (table : Table) (o : Option TableTarget) (nodes rest : List TreeNode) (way : List Answer)
+    (text start : List ℕ) → rest ≡ []
+    → IfSome o (λ t. text ++ nodes_text ns table t way rest ≡ start ++ nodes_text ns table t [] nodes)
+    → IfSome o (λ t. text ≡ start ++ nodes_text ns table t [] nodes)
+lines_end ns table None nodes rest way text start none all = tt
+lines_end ns table (Some t) nodes rest way text start none all =
+    sym (append-nil text) ∙ ap (λ (ms : List TreeNode). text ++ nodes_text ns table t way ms) (sym none) ∙ all
+
 -- the ways from there on ask no other atoms
 pub asked_step : (bound : ℕ) (nodes : List TreeNode) (i : ℕ) (n : TreeNode) (way next : List Answer)
     → drop i nodes ≡ n ∷ drop (i + 1) nodes → next ≡ passed n way
@@ -159,3 +172,55 @@ pub asked_step : (bound : ℕ) (nodes : List TreeNode) (i : ℕ) (n : TreeNode) 
 asked_step bound nodes i n way next is further asked k =
     subst (λ (w : List Answer). IsTrue (ask_below bound (way_from w (take k (drop (i + 1) nodes))))) (sym further)
     (subst (λ (ms : List TreeNode). IsTrue (ask_below bound (way_from way (take (suc k) ms)))) is (asked (suc k)))
+
+-- ---- regions
+
+some_above : (region : Constraints) (o : Option Atom) (b : Bool) → IsInhabited (with_answer region o b)
+    → IsInhabited region
+some_above region None b some = some
+some_above region (Some atom) b some = some_before region _ some
+
+-- a searched tree has a region that admits something
+some_there : (atoms : List Atom) (t : TableTarget) (region : Constraints) (tree : Tree)
+    → IsSearched atoms t region tree → IsInhabited region
+some_there atoms t region tree.Leaf searched = searched.0
+some_there atoms t region tree.Rest searched = searched
+some_there atoms t region (tree.Split a l r) searched =
+    some_above region _ true (some_there atoms t (answering atoms region a true) l searched.1)
+
+-- and so has each of its nodes, and the way comes to its end at the last one
+each_reached : (atoms : List Atom) (t : TableTarget) (base : Constraints) (tree : Tree) (way : List Answer)
+    (more : List TreeNode) → IsSearched atoms t (led_to atoms base way) tree → (turned way ≡ [] → more ≡ [])
+    → AreReached atoms base (turned way) more → AreReached atoms base way (preorder tree ++ more)
+each_reached atoms t base tree.Leaf way more searched last rest = (searched.0, last, rest)
+each_reached atoms t base tree.Rest way more searched last rest = (searched, last, rest)
+each_reached atoms t base (tree.Split a l r) way more searched last rest =
+    let one = answered a true in
+    let other = answered a false in (
+      some_there atoms t (led_to atoms base way) (tree.Split a l r) searched,
+      λ none. absurd (cc (none)),
+      subst (AreReached atoms base (one ∷ way)) (sym (append_assoc (preorder l) (preorder r) more))
+          (each_reached atoms t base l (one ∷ way) (preorder r ++ more) searched.1 (λ none. absurd (cc (none)))
+          (each_reached atoms t base r (other ∷ way) more searched.2 last rest)),
+    )
+
+pub all_reached : (atoms : List Atom) (t : TableTarget) (base : Constraints) (nodes : List TreeNode) (tree : Tree)
+    → tree_of nodes ≡ Some tree → IsSearched atoms t base tree → AreReached atoms base [] nodes
+all_reached atoms t base nodes tree is searched =
+    subst (AreReached atoms base []) (sym (tree_nodes nodes tree is))
+    (each_reached atoms t base tree [] [] searched (λ none. refl) tt)
+
+-- one node further
+pub reached_step : (atoms : List Atom) (base : Constraints) (nodes : List TreeNode) (i : ℕ) (n : TreeNode)
+    (way next : List Answer) → drop i nodes ≡ n ∷ drop (i + 1) nodes → next ≡ passed n way
+    → AreReached atoms base way (drop i nodes)
+    → IsInhabited (led_to atoms base way)
+    × (next ≡ [] → drop (i + 1) nodes ≡ [])
+    × AreReached atoms base next (drop (i + 1) nodes)
+reached_step atoms base nodes i n way next is further reached =
+    let all : AreReached atoms base way (n ∷ drop (i + 1) nodes) = subst (AreReached atoms base way) is reached in
+    let rest = drop (i + 1) nodes in (
+      all.0,
+      λ none. all.1 (sym further ∙ none),
+      subst (λ (w : List Answer). AreReached atoms base w rest) (sym further) all.2,
+    )

@@ -8,6 +8,7 @@ use Rattle.cat_guard.specs.declared.table.Table.{Table}
 use Rattle.cat_guard.specs.declared.table.TableTarget.{TableTarget}
 use Rattle.cat_guard.specs.Judged.{judged_in}
 use Rattle.cat_guard.specs.Trees.{with_answer}
+use Rattle.cat_guard.specs.Verdicts.{Verdict}
 use Rattle.cat_search.specs.declared.way.Answer.{Answer}
 use Rattle.cat_search.specs.Searched.{everything}
 use Rattle.cat_search.specs.Ways.{led_to}
@@ -32,16 +33,16 @@ led_dims atoms base (n ∷ way) = by (slice_get atoms n.atom) ∙ led_dims atoms
 
 pub row_made : (ns : Naming) (table : Table) (t : TableTarget) (way answers : List Answer) (region : Constraints)
     (conditions verdict text : List ℕ) → way ≡ reverse answers
-    → region ≡ led_to table.atoms (everything table.terms) way
+    → judged_in table.atoms region t ≡ judged_in table.atoms (led_to table.atoms (everything table.terms) way) t
     → conditions ≡ way_text ns table.terms table.atoms answers
     → verdict ≡ verdict_text ns t (judged_in table.atoms region t)
     → text ≡ conditions ++ (codes " : " ++ verdict) → text ≡ row_text ns table t (row_at table way)
-row_made ns table t way answers region conditions verdict text way_is region_is conditions_are verdict_is text_is =
+row_made ns table t way answers region conditions verdict text way_is judged_so conditions_are verdict_is text_is =
     text_is
     ∙ ap (λ (c : List ℕ). c ++ (codes " : " ++ verdict)) conditions_are
     ∙ ap (λ (v : List ℕ). way_text ns table.terms table.atoms answers ++ (codes " : " ++ v)) verdict_is
     ∙ ap (λ (answered : List Answer). way_text ns table.terms table.atoms answered
     ++ (codes " : " ++ verdict_text ns t (judged_in table.atoms region t)))
     (sym (ap reverse way_is ∙ reverse-reverse answers))
-    ∙ ap (λ (r : Constraints). way_text ns table.terms table.atoms (reverse way)
-    ++ (codes " : " ++ verdict_text ns t (judged_in table.atoms r t))) region_is
+    ∙ ap (λ (v : Verdict). way_text ns table.terms table.atoms (reverse way)
+    ++ (codes " : " ++ verdict_text ns t v)) judged_so

@@ -1,3 +1,4 @@
 pub mod Here
 pub mod Nodes
 pub mod OneTable
+pub mod Walking

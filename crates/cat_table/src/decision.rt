@@ -1,7 +1,9 @@
 // What decides a target in a region.
 ghost use Rattle.std.specs.Prelude.{◌≡◌, ◌<◌, IfOk, IfSome, length, slice_get, string_bytes};
 ghost use Rattle.std.specs.Option.{option_copied};
+ghost use Rattle.cat_region.specs.Regions.{IsInhabited};
 ghost use Rattle.cat_guard.specs.Judged.{judged_in};
+ghost use Rattle.cat_guard.specs.Levels.{AreLiveTo};
 ghost use Rattle.cat_guard.specs.Tables as tables;
 ghost use Rattle.cat_guard.specs.Valuations.{dims_of};
 ghost use Rattle.cat_table.specs.Results as results;
@@ -9,7 +11,7 @@ ghost use Rattle.cat_table.specs.inside.Here.{naming_at};
 
 use crate::scene::TableScene;
 use cat_answer::position_text;
-use cat_guard::{GuardDef, Judgement, TableTarget, judge_box, winner};
+use cat_guard::{GuardDef, Judgement, Levels, TableTarget, judge_live, live_winner};
 use cat_region::Region;
 use cat_value::{Decls, ItemDecl, Kind};
 use std::alloc::AllocError;
@@ -73,21 +75,26 @@ fn definition_text(here: &TableScene, def: Option<&GuardDef>) -> Result<String, 
     }
 }
 
-/// What decides the target of that number in a region.
+/// What decides the target of that number in a region that admits something, by what is live on the way to it.
 pub(crate) fn verdict_text(
     here: &TableScene,
     target: u32,
     region: &Region,
+    levels: &Levels,
 ) -> Result<String, AllocError>
     requires target { target < length here.now.table.now.targets }
     requires dims { region.now.dims ≡ dims_of here.now.table.now.terms }
+    requires some { IsInhabited region.now }
+    requires live { IfSome (slice_get here.now.table.now.targets target)
+        (λ t. AreLiveTo here.now.table.now.atoms t region.now levels.now) }
     ensures { IfSome (slice_get here.now.table.now.targets target) (λ t. IfOk result (λ text. string_bytes text
         ≡ results.verdict_text (naming_at here.now) t (judged_in here.now.table.now.atoms region.now t))) }
 {
     let judged = here.table.targets.at(target as usize);
-    match judge_box(here.table, target, region) {
+    let live = levels.live_in(here.alloc, here.table, target, region)?;
+    match judge_live(here.table, target, region, &live) {
         Judgement::Holds => {
-            let number = winner(here.table, target, region);
+            let number = live_winner(here.table, target, region, &live);
             definition_text(here, judged.defs.get(number as usize))
         }
         Judgement::Empty => String::from_str(here.alloc, absent_text(here, judged)),

@@ -13,6 +13,7 @@ mod table;
 mod tables;
 mod telling;
 mod term;
+mod walking;
 mod wanted;
 
 pub use laws::{expressions_tell_their_types, tables_say_what_decides};

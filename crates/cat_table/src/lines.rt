@@ -1,7 +1,11 @@
 // The line of a leaf.
-ghost use Rattle.std.specs.Prelude.{◌≡◌, ◌<◌, ◌++◌, codes, IsTrue, IfOk, OnOk, IfSome, length, slice_get};
+ghost use Rattle.std.specs.Prelude.{◌≡◌, ◌<◌, ◌++◌, codes, IfOk, OnOk, IfSome, length, slice_get};
 ghost use Rattle.std.specs.Prelude.{string_bytes};
-ghost use Rattle.cat_search.specs.Ways.{ask_below};
+ghost use Rattle.cat_region.specs.Regions.{IsInhabited};
+ghost use Rattle.cat_guard.specs.Levels.{AreLiveTo};
+ghost use Rattle.cat_guard.specs.Valuations.{dims_of};
+ghost use Rattle.cat_search.specs.Searched.{everything};
+ghost use Rattle.cat_search.specs.Ways.{led_to};
 ghost use Rattle.cat_table.specs.Conditions as conditions;
 ghost use Rattle.cat_table.specs.Rows as rows;
 ghost use Rattle.cat_table.specs.Rows.{ended};
@@ -11,6 +15,8 @@ ghost use Rattle.cat_table.specs.inside.Nodes.{row_at};
 use crate::decision::verdict_text;
 use crate::scene::TableScene;
 use crate::term::cut_text;
+use cat_guard::Levels;
+use cat_region::Region;
 use cat_search::{Answer, Way};
 use std::alloc::{AllocError, Global};
 
@@ -72,32 +78,49 @@ fn joined(alloc: Global, conditions: &str, verdict: &str) -> Result<String, Allo
     format!(in alloc; "{conditions} : {verdict}")
 }
 
-/// The line of the leaf at the end of a way.
-fn row_text(here: &TableScene, target: u32, way: &Way) -> Result<String, AllocError>
+/// The line of the leaf at the end of a way, with its region and what is live on the way.
+fn row_text(
+    here: &TableScene,
+    target: u32,
+    way: &Way,
+    region: &Region,
+    levels: &Levels,
+) -> Result<String, AllocError>
     requires target { target < length here.now.table.now.targets }
-    requires asked { IsTrue (ask_below (length here.now.table.now.atoms) way.now) }
+    requires dims { region.now.dims ≡ dims_of here.now.table.now.terms }
+    requires narrowings { region.now.narrowings
+        ≡ (led_to here.now.table.now.atoms (everything here.now.table.now.terms) way.now).narrowings }
+    requires some { IsInhabited region.now }
+    requires live { IfSome (slice_get here.now.table.now.targets target)
+        (λ t. AreLiveTo here.now.table.now.atoms t region.now levels.now) }
     ensures { IfSome (slice_get here.now.table.now.targets target) (λ t. IfOk result (λ text. string_bytes text
         ≡ rows.row_text (naming_at here.now) here.now.table.now t (row_at here.now.table.now way.now))) }
 {
     let conditions = way_text(here, way.answers())?;
-    let region = way.region(here.alloc, here.table)?;
-    let verdict = verdict_text(here, target, &region)?;
+    let verdict = verdict_text(here, target, region, levels)?;
     joined(here.alloc, conditions.as_str(), verdict.as_str())
 }
 
-/// Adds the line of the leaf at the end of a way.
+/// Adds the line of the leaf at the end of a way, with its region and what is live on the way.
 pub(crate) fn push_row(
     here: &TableScene,
     text: &mut String,
     target: u32,
     way: &Way,
+    region: &Region,
+    levels: &Levels,
 ) -> Result<(), AllocError>
     requires target { target < length here.now.table.now.targets }
-    requires asked { IsTrue (ask_below (length here.now.table.now.atoms) way.now) }
+    requires dims { region.now.dims ≡ dims_of here.now.table.now.terms }
+    requires narrowings { region.now.narrowings
+        ≡ (led_to here.now.table.now.atoms (everything here.now.table.now.terms) way.now).narrowings }
+    requires some { IsInhabited region.now }
+    requires live { IfSome (slice_get here.now.table.now.targets target)
+        (λ t. AreLiveTo here.now.table.now.atoms t region.now levels.now) }
     ensures { IfSome (slice_get here.now.table.now.targets target) (λ t. OnOk result (string_bytes text.new
         ≡ string_bytes text.old ++ ended (rows.row_text (naming_at here.now) here.now.table.now t
         (row_at here.now.table.now way.now)))) }
 {
-    let line = row_text(here, target, way)?;
+    let line = row_text(here, target, way, region, levels)?;
     push_line(text, line.as_str())
 }

@@ -57,8 +57,8 @@ fn written(here: &TableScene, target: u32, search: &Search) -> Result<String, Al
 }
 
 /// The table of a target by a search for its leaves: a line for each leaf in preorder, and where leaves were spent,
-/// that the rest isn't shown. Each line ends with a line feed. It costs what is written, and for each leaf two looks at
-/// the guards of the target.
+/// that the rest isn't shown. Each line ends with a line feed. It costs what is written, and at each split and each
+/// leaf a look at what may be live there of the target.
 pub fn table_text(
     alloc: Global,
     program: &Program,
