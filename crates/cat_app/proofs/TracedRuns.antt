@@ -13,7 +13,6 @@ use Rattle.cat_machine.specs.declared.log.LogEntry.{LogEntry}
 use Rattle.cat_machine.specs.States.{decided}
 use Rattle.cat_machine.specs.Running.{Logs}
 use Rattle.cat_machine.specs.ForPrograms.{IsCodeFor}
-use Rattle.cat_machine.proofs.Exported.{log_by}
 use Rattle.cat_trace.specs.Traces.{trace_text}
 
 -- it is what it says of the deciders of the scope
@@ -22,5 +21,6 @@ pub tells_deciders : (program : Program) (code : Code) → ∥ IsCodeFor program
     → trace_text code.tables.decls source (decided code.tables log)
     ≡ trace_text program.decls source (deciders program scope input)
 tells_deciders program code is scope input typed source log logs = ∥∥₁_elim is (hlevel props) (λ runs.
+    let here = runs.runs scope input typed in
     ap (λ (ds : Decls). trace_text ds source (decided code.tables log)) runs.declared
-    ∙ ap (trace_text program.decls source) (log_by program code scope input (runs.runs scope input typed) log logs))
+    ∙ ap (trace_text program.decls source) (logs here.run here.gives ∙ here.log))
