@@ -56,6 +56,9 @@ def all_done(parts, record, jobs):
     LEFT[:] = [(part, piece) for part, pieces in parts for piece in pieces if (part, piece.name) not in record.found]
     with FORKS.Pool(jobs) as pool:
         yield from pool.imap_unordered(nth_done, [k for k, (_, piece) in enumerate(LEFT) if not piece.is_alone])
+        # The processes end by themselves: one that is ended while it waits for its next piece may wait for ever.
+        pool.close()
+        pool.join()
     yield from (done(part, piece) for part, piece in LEFT if piece.is_alone)
 
 
