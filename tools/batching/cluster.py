@@ -1,5 +1,5 @@
 """The engine: a cluster of Dask, local or of a scheduler that runs elsewhere, on which each part is a task of its own."""
-import contextlib, importlib.util, logging, signal, sys, tempfile, uuid
+import contextlib, importlib.util, logging, signal, sys, tempfile, time, uuid
 from multiprocessing import resource_tracker
 from typing import Callable, Dict, Iterator, List, Optional
 
@@ -9,6 +9,7 @@ from . import records, results
 from .refused import FAILED, Refused
 
 TRIES = 5  # A part on which more workers die is given up: it isn't the machine that ends them.
+SILENT = 30  # Seconds without news of a part, after which the folder of parts is looked through.
 HERE = '127.0.0.1:0'
 SETTINGS = {'distributed.scheduler.allowed-failures': TRIES, 'distributed.scheduler.http.routes': [], 'distributed.worker.http.routes': [],
             'distributed.comm.timeouts.connect': '300s', 'distributed.comm.timeouts.tcp': '300s',
@@ -60,7 +61,6 @@ def secured() -> Optional[object]:
 def compute(client, task: results.Task, parts: List[records.Part], told: Callable[[results.Done], None]) -> None:
     """Computes the parts, and tells of each when it is done. A worker that dies costs the part that it had alone, which is run again."""
     import cloudpickle
-    from distributed import as_completed
 
     def work(part: Dict[str, int]) -> Dict[str, object]:
         return vars(results.compute(task, records.Part(**part)))
@@ -71,9 +71,29 @@ def compute(client, task: results.Task, parts: List[records.Part], told: Callabl
         print('no worker is there yet: it waits for one', file=sys.stderr, flush=True)
     batch = uuid.uuid4().hex
     waiting = [client.submit(work, vars(part), pure=False, key='part-%06d-%s' % (part.number, batch)) for part in parts]
+    left = {part.number: part for part in parts}
     try:
-        for future in as_completed(waiting):
-            told(results.Done(**future.result()))
-            future.release()
+        for found in news(waiting, task, left):
+            for done in found:
+                if left.pop(done.number, None):
+                    told(done)
     finally:
         client.cancel(waiting)
+
+
+def news(waiting: List[object], task: results.Task, left: Dict[int, records.Part]) -> Iterator[List[results.Done]]:
+    """What is told of parts as they end, while some are left. Where a worker died, the engine may lose that a part has ended: after so long
+    without news, what lies in the folder counts."""
+    from distributed import as_completed
+
+    ended = as_completed(waiting)
+    while left:
+        until = time.monotonic() + SILENT
+        while ended.is_empty() and time.monotonic() < until:
+            time.sleep(0.02)
+        if ended.is_empty():
+            yield list(results.done_in(task.folder, list(left.values())).values())
+        else:
+            future = next(ended)
+            yield [results.Done(**future.result())]
+            future.release()
