@@ -2,6 +2,9 @@ mod TypeViews
 mod ToldEquations
 mod NodeLemmas
 mod LawLemmas
+mod ApartLemmas
+mod JudgedInRuns
+mod JudgingLaws
 mod TableLemmas
 mod RowLemmas
 mod WalkLemmas

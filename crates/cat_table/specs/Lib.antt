@@ -5,5 +5,6 @@ pub mod Results
 pub mod Rows
 pub mod Kept
 pub mod Wanted
+pub mod Judgings
 -- what the code keeps on its way: no public clause cites it
 pub mod inside

@@ -16,7 +16,9 @@ mod term;
 mod walking;
 mod wanted;
 
-pub use laws::{expressions_tell_their_types, tables_say_what_decides};
+pub use laws::{
+    expressions_tell_their_types, judgings_agree_with_their_lines, tables_say_what_decides,
+};
 pub use named_type::NamedType;
 pub use table::table_text;
 pub use tables::{TableTexts, tables_text};
