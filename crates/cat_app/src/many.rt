@@ -1,6 +1,7 @@
 // The outcomes of a scope on many inputs, a line each.
 ghost use Rattle.std.specs.Prelude.{◌≡◌, ◌<◌, ℕ, List, IfOk, Some, length, string_bytes};
 ghost use Rattle.cat_build.specs.Built.{IsBuiltOf};
+ghost use Rattle.cat_machine.specs.Running.{constant_values};
 ghost use Rattle.cat_app.specs.Many.{element_line};
 ghost use Rattle.cat_app.specs.inside.Reading.{AreRead, IsReadInput, PutsEach};
 
@@ -11,8 +12,7 @@ use crate::texts::refuse_input;
 use cat_build::Built;
 use cat_io::Sink;
 use cat_json::{InputRefusal, ReadInputs};
-use cat_machine::execute_clean;
-use cat_pool::Pool;
+use cat_machine::Loaded;
 use cat_value::Input;
 use cat_weave::Source;
 use std::alloc::{AllocError, Global};
@@ -26,32 +26,33 @@ pub struct ManyInputs {
     pub inputs: ReadInputs,
 }
 
-/// What a run writes on one element alone. The pool is as before.
+/// What a run writes on one element alone.
 fn reply_on(
     alloc: Global,
     source: &Source,
     built: &Built,
     scope: u32,
     read: Result<Input, InputRefusal>,
-    pool: &mut Pool,
+    loaded: &mut Loaded,
 ) -> Result<Reply, AllocError>
     requires built { IsBuiltOf source.now.pieces built.now }
     requires scope { scope < length built.now.program.decls.scopes }
     requires read { IsReadInput built.now.program.decls scope read }
+    requires constants { loaded.old ≡ constant_values built.now.code.tables.constants }
     ensures line { IfOk result (λ reply.
         element_line built.now.program scope source.now.files read ≡ Some (string_bytes reply.text)) }
-    ensures clean { pool.new ≡ pool.old }
+    ensures clean { loaded.new ≡ loaded.old }
 {
     match read {
         Ok(input) => {
-            let outcome = execute_clean(alloc, &built.code, scope, &input, pool)?;
+            let outcome = loaded.execute(alloc, &built.code, scope, &input)?;
             tell(alloc, &source.files, built.program.decls(), scope, &outcome)
         }
         Err(refusal) => refuse_input(alloc, refusal),
     }
 }
 
-/// Puts the line of each element as soon as it is made, over one pool.
+/// Puts the line of each element as soon as it is made, over one pool that has the constants.
 pub fn put_lines<K: Sink>(alloc: Global, many: ManyInputs, sink: &mut K) -> Status
     requires built { IsBuiltOf many.source.pieces many.built }
     requires scope { many.scope < length many.built.program.decls.scopes }
@@ -65,9 +66,11 @@ pub fn put_lines<K: Sink>(alloc: Global, many: ManyInputs, sink: &mut K) -> Stat
         scope,
         inputs,
     } = many;
-    let mut pool = Pool::new(alloc);
+    let Ok(mut loaded) = Loaded::new(alloc, &built.code) else {
+        return Status::Memory;
+    };
     for read in inputs.into_vec() {
-        let Ok(reply) = reply_on(alloc, &source, &built, scope, read, &mut pool) else {
+        let Ok(reply) = reply_on(alloc, &source, &built, scope, read, &mut loaded) else {
             return Status::Memory;
         };
         if sink.put(reply.text.as_bytes()).is_err() {

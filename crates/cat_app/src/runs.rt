@@ -2,6 +2,7 @@
 ghost use Rattle.std.specs.Prelude.{◌≡◌, ◌≢◌, ◌<◌, ◌≤◌, IfOk, Some, Ok as OkSeen, length, option_map};
 ghost use Rattle.cat_value.specs.declared.outcome.Outcome.TheVariants.{Value as ValueSeen};
 ghost use Rattle.cat_machine.specs.ForPrograms.{IsCodeFor};
+ghost use Rattle.cat_machine.specs.Running.{constant_values};
 ghost use Rattle.cat_app.specs.Limits.{most_bands};
 ghost use Rattle.cat_app.specs.Runs.{AreRunsOf, rate_of};
 ghost use Rattle.cat_app.specs.inside.Once.{RunsOnce, rate_in};
@@ -9,8 +10,7 @@ ghost use Rattle.cat_app.specs.inside.Once.{RunsOnce, rate_in};
 use crate::source::income_input;
 use cat_code::Code;
 use cat_json::{InputRefusal, read_input};
-use cat_machine::execute_clean;
-use cat_pool::Pool;
+use cat_machine::Loaded;
 use cat_scope::Program;
 use cat_value::{Outcome, Value};
 use std::alloc::{AllocError, Global};
@@ -54,18 +54,20 @@ fn run_once(
     alloc: Global,
     program: &Program,
     code: &Code,
-    pool: &mut Pool,
+    loaded: &mut Loaded,
     scope: u32,
     units: u32,
 ) -> Result<Result<Outcome, InputRefusal>, AllocError>
     requires code { ∥ IsCodeFor program.now code.now ∥₁ }
     requires scope { scope < length program.now.decls.scopes }
-    ensures { IfOk result (RunsOnce program.now scope units) }
+    requires constants { loaded.old ≡ constant_values code.now.tables.constants }
+    ensures ran { IfOk result (RunsOnce program.now scope units) }
+    ensures clean { loaded.new ≡ loaded.old }
 {
     let text = income_input(alloc, units)?;
     match read_input(alloc, text.as_bytes(), program.decls(), scope) {
         Ok(input) => {
-            let outcome = execute_clean(alloc, code, scope, &input, pool)?;
+            let outcome = loaded.execute(alloc, code, scope, &input)?;
             Ok(Ok(outcome))
         }
         Err(InputRefusal::Memory) => Err(AllocError),
@@ -87,10 +89,10 @@ pub fn run_all(
     requires bands { bands ≤ most_bands }
     ensures { IfOk result (AreRunsOf program.now scope bands) }
 {
-    let mut pool = Pool::new(alloc);
+    let mut loaded = Loaded::new(alloc, code)?;
     let mut sum = 0i64;
     for run in 0..RUNS {
-        let outcome = match run_once(alloc, program, code, &mut pool, scope, run * bands)? {
+        let outcome = match run_once(alloc, program, code, &mut loaded, scope, run * bands)? {
             Ok(outcome) => outcome,
             Err(refusal) => return Ok(Ran::Refused(refusal)),
         };

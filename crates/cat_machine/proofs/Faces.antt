@@ -28,15 +28,16 @@ use Rattle.cat_code.proofs.Determined.{one_run}
 use Rattle.cat_pool.specs.Loading.{Extends}
 use Rattle.cat_pool.specs.Nodes.{Standing, at, values}
 use Rattle.cat_pool.proofs.Exported.{extends_on, length-values, slice_get-at}
+use Rattle.cat_machine.specs.declared.executing.Run.{Run}
 use Rattle.cat_machine.specs.declared.log.LogEntry.{LogEntry}
 use Rattle.cat_machine.specs.declared.machine.End.{End}
 use Rattle.cat_machine.specs.declared.machine.End.TheVariants as end
 use Rattle.cat_machine.specs.declared.machine.Machine.{Machine}
 use Rattle.cat_machine.specs.Layers.{top_items}
-use Rattle.cat_machine.specs.Running.{GivesOutcome, Grows, HasOutputs, IsGiven, Logs, TakesSteps}
+use Rattle.cat_machine.specs.Running.{GivesOutcome, Grows, HasOutputs, IsGiven, Logs, TakesSteps, constant_count}
 use Rattle.cat_machine.specs.States.{decided, held_of, state_at}
 use Rattle.cat_machine.specs.Steps.{EndWithin, ending}
-use Rattle.cat_machine.specs.inside.Begun.{GivesEnd, HasEnd, IsReady, RunsSo, RunsTo}
+use Rattle.cat_machine.specs.inside.Begun.{GivesEnd, HasEnd, IsReady, RanTo, RunsSo, RunsTo}
 use Rattle.cat_machine.specs.inside.Driven.{EndsFrom, EndsFrom-prop, ends_in}
 use Rattle.cat_machine.specs.inside.Leading.{EndsSo, stand}
 use Rattle.cat_machine.proofs.Endings.{ends_within}
@@ -178,7 +179,7 @@ module _ (code : Code) (scope : ℕ) (input : Items) (before : List Standing) (e
       ∥∥₁_elim given (IsSome-prop (outcome_of (ending code.tables m ended))) (λ g.
       subst (λ (e : Result (List Value) Stop). IsSome (outcome_of e)) (same_end g.run g.gives) g.has_outcome)
 
-  pub gives_outcome : (made : Outcome) → outcome_of (ending code.tables m ended) ≡ Some made
+  gives_outcome : (made : Outcome) → outcome_of (ending code.tables m ended) ≡ Some made
       → GivesOutcome code scope input made
   gives_outcome made is run given = ap (λ (e : Result (List Value) Stop). outcome_of e) (same_end run given) ∙ is
 
@@ -200,18 +201,22 @@ module _ (code : Code) (scope : ℕ) (input : Items) (before : List Standing) (e
       (cases_lt runs.taken n))
       (cases_lt n runs.taken)
 
-  pub logs : (log : List LogEntry) → log ≡ m.log → Logs code scope input log
+  logs : (log : List LogEntry) → log ≡ m.log → Logs code scope input log
   logs log is run given =
       ap (decided code.tables) is
       ∙ runs.log
       ∙ ap (λ (r : Whole). r.log) (one_run code.tables code.instructions scope input runs.steps.run run gives given)
 
-  pub grows : (pool : List Standing) (made : Outcome) → pool ≡ m.pool
-      → outcome_of (ending code.tables m ended) ≡ Some made → Grows code scope input before pool made
-  grows pool made is made_is = subst (λ (l : List Standing). Grows code scope input before l made) (sym is) (record {
-    few = λ n takes. let all = runs.few in let same = same_number n takes in omega (arith, all, same);
-    outputs = outputs_there code m ended made made_is runs.within_pool;
-  })
+  pub ran : (made : Run) (pool : List Standing) → pool ≡ m.pool → made.log ≡ m.log → made.steps ≡ count
+      → outcome_of (ending code.tables m ended) ≡ Some made.outcome → RanTo code scope input before pool made
+  ran made pool is log steps made_is = record {
+    outcome = gives_outcome made.outcome made_is;
+    count = λ n takes. steps ∙ runs.counted ∙ ap (λ k. min k 18446744073709551615) (sym (same_number n takes));
+    log = logs made.log log;
+    few = λ n takes. let all = runs.few in let same = same_number n takes in omega (arith, ap length is, all, same);
+    outputs = subst (λ (l : List Standing). HasOutputs l made.outcome) (sym is)
+        (outputs_there code m ended made.outcome made_is runs.within_pool);
+  }
 
 -- ---- where memory may run out
 
@@ -222,18 +227,20 @@ module _ (code : Code) (scope : ℕ) (input : Items) (before : List Standing) (m
       (runs.machine, runs.within_pool, outcome_there code scope input before ended m count runs given)
   has_end (Err e) runs given = tt
 
-  pub outcome_so : (e : Result End AllocError) (made : Outcome) → RunsSo code scope input before e m count
-      → GivesEnd code.tables m e made → GivesOutcome code scope input made
-  outcome_so (Ok ended) made runs is = gives_outcome code scope input before ended m count runs made is
-  outcome_so (Err e) made runs is = absurd is
+  pub ran_so : (e : Result End AllocError) (made : Run) (pool : List Standing) → pool ≡ m.pool → made.log ≡ m.log
+      → made.steps ≡ count → RunsSo code scope input before e m count → GivesEnd code.tables m e made.outcome
+      → RanTo code scope input before pool made
+  ran_so (Ok ended) made pool same log steps runs is =
+      ran code scope input before ended m count runs made pool same log steps is
+  ran_so (Err e) made pool same log steps runs is = absurd is
 
-  pub logs_so : (e : Result End AllocError) (made : Outcome) (log : List LogEntry) → log ≡ m.log
-      → RunsSo code scope input before e m count → GivesEnd code.tables m e made → Logs code scope input log
-  logs_so (Ok ended) made log same runs is = logs code scope input before ended m count runs log same
-  logs_so (Err e) made log same runs is = absurd is
+-- the constants are loaded in front of a run
+pub grows_behind : (code : Code) (scope : ℕ) (input : Items) (old loaded new : List Standing) (made : Run)
+    → length loaded ≡ length old + constant_count code.tables.constants → RanTo code scope input loaded new made
+    → Grows code scope input old new made.outcome
+grows_behind code scope input old loaded new made counted ran = record {
+  few = λ n takes. let here = ran.few n takes in omega (arith, counted, here);
+  outputs = ran.outputs;
+}
 
-  pub grows_so : (e : Result End AllocError) (made : Outcome) (pool : List Standing) → pool ≡ m.pool
-      → RunsSo code scope input before e m count → GivesEnd code.tables m e made
-      → Grows code scope input before pool made
-  grows_so (Ok ended) made pool same runs is = grows code scope input before ended m count runs pool made same is
-  grows_so (Err e) made pool same runs is = absurd is
+pub ruleset behind_loaded = (extends_on)

@@ -15,10 +15,10 @@ use Rattle.cat_pool.proofs.Exported.{longer, seen_at-extends}
 use Rattle.cat_machine.specs.declared.machine.Machine.{Machine}
 use Rattle.cat_machine.specs.declared.machine.Return.{Return}
 use Rattle.cat_machine.specs.Layers.{extended}
-use Rattle.cat_machine.specs.Running.{constant_count, entry_count, given_count}
+use Rattle.cat_machine.specs.Running.{constant_count, constant_values, entry_count, given_count}
 use Rattle.cat_machine.specs.States.{slot, slots_of}
-use Rattle.cat_machine.specs.inside.Begun.{emptied, HasConstants, HasInput, IsEmpty, IsEntry, IsReady}
-use Rattle.cat_machine.specs.inside.Machines.{SlotsBelow, constant_values}
+use Rattle.cat_machine.specs.inside.Begun.{AreConstants, emptied, HasInput, IsEmpty, IsEntry, IsReady}
+use Rattle.cat_machine.specs.inside.Machines.{SlotsBelow}
 use Rattle.cat_machine.proofs.Growth.{slots_front, slots_more}
 use Rattle.cat_machine.proofs.Holding.{get_below, slots_joined}
 use Rattle.cat_machine.proofs.NodeKinds.{at_is}
@@ -34,61 +34,51 @@ constant_values-append [] ds = refl
 constant_values-append (c ∷ cs) ds = ap (λ (vs : List Value). c.value ∷ vs) (constant_values-append cs ds)
 
 -- the first of the constants are loaded
-pub record ConstantsLoaded (old new : Machine) (cs : List Constant) (i : ℕ) : Type 0 where
-  pub same : new ≡ record old { pool = new.pool; constants = new.constants }
-  pub seen : seen_at new.pool new.constants ≡ constant_values (take i cs)
-  pub below : AreBelow (length new.pool) new.constants
-  pub count : length new.pool + constant_count (drop i cs) ≡ length old.pool + constant_count cs
-  pub kept : Extends old.pool new.pool
+pub record ConstantsLoaded (old new : List Standing) (cs : List Constant) (i : ℕ) (refs : List ℕ) : Type 0 where
+  pub seen : seen_at new refs ≡ constant_values (take i cs)
+  pub below : AreBelow (length new) refs
+  pub count : length new + constant_count (drop i cs) ≡ length old + constant_count cs
+  pub kept : Extends old new
 
-pub no_constants : (m : Machine) (cs : List Constant) → IsEmpty m → ConstantsLoaded m m cs 0
-no_constants m cs empty =
-    let none : m.constants ≡ [] = ap (λ (n : Machine). n.constants) empty.is in
-    record {
-      same = refl;
-      seen = ap (seen_at m.pool) none;
-      below = subst (λ (l : List ℕ). AreBelow (length m.pool) l) (sym none) tt;
-      count = refl;
-      kept = extends_itself m.pool;
-    }
+pub no_constants : (pool : List Standing) (cs : List Constant) → ConstantsLoaded pool pool cs 0 []
+no_constants pool cs = record { seen = refl; below = tt; count = refl; kept = extends_itself pool }
 
-pub one_constant : (old new : Machine) (cs : List Constant) (i : ℕ) (c : Constant) (r : ℕ) (pool : List Standing)
-    (constants : List ℕ)
-    → ConstantsLoaded old new cs i → i < length cs → c ≡ get_or cs i c → slice_get (values pool) r ≡ Some c.value
-    → length pool ≡ length new.pool + node_count c.value → Extends new.pool pool → constants ≡ new.constants ++ r ∷ []
-    → ConstantsLoaded old (record new { pool = pool; constants = constants }) cs (i + 1)
-one_constant old new cs i c r pool constants are within is at_r count kept pushed = record {
-  same = ap (λ (n : Machine). record n { pool = pool; constants = constants }) are.same;
+pub one_constant : (old new : List Standing) (cs : List Constant) (i : ℕ) (c : Constant) (r : ℕ) (pool : List Standing)
+    (refs more : List ℕ) → ConstantsLoaded old new cs i refs → i < length cs → c ≡ get_or cs i c
+    → slice_get (values pool) r ≡ Some c.value → length pool ≡ length new + node_count c.value → Extends new pool
+    → more ≡ refs ++ r ∷ [] → ConstantsLoaded old pool cs (i + 1) more
+one_constant old new cs i c r pool refs more are within is at_r count kept pushed = record {
   seen =
       ap (seen_at pool) pushed
-      ∙ map-append (at (values pool)) new.constants (r ∷ [])
-      ∙ ap (λ (l : List Value). l ++ at (values pool) r ∷ [])
-      (seen_at-extends new.pool pool new.constants kept are.below ∙ are.seen)
+      ∙ map-append (at (values pool)) refs (r ∷ [])
+      ∙ ap (λ (l : List Value). l ++ at (values pool) r ∷ []) (seen_at-extends new pool refs kept are.below ∙ are.seen)
       ∙ ap (λ (w : Value). constant_values (take i cs) ++ w ∷ []) (at_is (values pool) r c.value at_r)
       ∙ sym (constant_values-append (take i cs) (c ∷ []))
       ∙ ap (λ (d : Constant). constant_values (take i cs ++ d ∷ [])) is
       ∙ ap constant_values (sym (take_more cs i c within));
   below = subst (λ (l : List ℕ). AreBelow (length pool) l) (sym pushed)
-      (below-append (length pool) new.constants (r ∷ [])
-      (below-more (length new.pool) (length pool) new.constants (longer new.pool pool kept) are.below)
+      (below-append (length pool) refs (r ∷ [])
+      (below-more (length new) (length pool) refs (longer new pool kept) are.below)
       (node_below pool r c.value at_r, tt));
   count =
       let next_is : constant_count (drop i cs) ≡ node_count c.value + constant_count (drop (i + 1) cs)
       = ap constant_count (drop_more cs i c within ∙ ap (λ (d : Constant). d ∷ drop (i + 1) cs) (sym is)) in
       let before = are.count in omega (arith, next_is, before, count);
-  kept = extends_on old.pool new.pool pool are.kept kept;
+  kept = extends_on old new pool are.kept kept;
 }
 
-pub all_constants : (tables : Tables) (old new : Machine) (i : ℕ) → ConstantsLoaded old new tables.constants i
-    → length tables.constants ≤ i → HasConstants tables old new
-all_constants tables old new i are past = record {
-  same = are.same;
-  values = are.seen ∙ ap constant_values (take_all i tables.constants past);
-  below = are.below;
-  few =
+module _ (tables : Tables) (old new : List Standing) (i : ℕ) (refs : List ℕ)
+    (are : ConstantsLoaded old new tables.constants i refs) (past : length tables.constants ≤ i) where
+  pub all_constants : AreConstants tables new refs
+  all_constants = record {
+    values = are.seen ∙ ap constant_values (take_all i tables.constants past);
+    below = are.below;
+  }
+
+  pub constants_counted : length new ≡ length old + constant_count tables.constants
+  constants_counted =
       let none : constant_count (drop i tables.constants) ≡ 0 = ap constant_count (drop_all i tables.constants past) in
-      let all = are.count in omega (arith, none, all);
-}
+      let all = are.count in omega (arith, none, all)
 
 -- ---- the input
 
@@ -150,33 +140,29 @@ one_entry old new input i e s pool slots are within is at_s count kept pushed = 
 
 -- ---- both
 
-module _ (code : Code) (input : Items) (m first last : Machine) (locals : List (Option Return × List ℕ))
-    (empty : IsEmpty m) (constants : HasConstants code.tables m first) (opened : locals ≡ (None, []) ∷ first.locals)
-    (given : HasInput input (record first { locals = locals }) last) (kept : Extends first.pool last.pool) where
+module _ (code : Code) (input : Items) (m last : Machine) (constants : List ℕ)
+    (locals : List (Option Return × List ℕ)) (empty : IsEmpty m) (are : AreConstants code.tables m.pool constants)
+    (opened : locals ≡ (None, []) ∷ m.locals)
+    (given : HasInput input (record m { constants = constants; locals = locals }) last)
+    (kept : Extends m.pool last.pool) where
   abbrev begun : Machine
-  begun =
-      record (emptied last.pool) {
-        locals = (None, []) ∷ [];
-        slots = (tt, given.refs) ∷ [];
-        constants =
-            first.constants;
-      }
-
-  first_is : first ≡ record (emptied m.pool) { pool = first.pool; constants = first.constants }
-  first_is = constants.same ∙ ap (λ (n : Machine). record n { pool = first.pool; constants = first.constants }) empty.is
+  begun = record (emptied last.pool) { locals = (None, []) ∷ []; slots = (tt, given.refs) ∷ []; constants = constants }
 
   last_is : last ≡ begun
   last_is =
       given.same
-      ∙ ap (λ (l : List (Option Return × List ℕ)). record first {
+      ∙ ap (λ (l : List (Option Return × List ℕ)). record m {
         pool = last.pool;
-        locals =
-            l;
-        slots = (tt, given.refs) ∷ first.slots;
+        locals = l;
+        slots = (tt, given.refs) ∷ m.slots;
+        constants = constants;
       }) opened
-      ∙ ap (λ
-      (n : Machine). record n { pool = last.pool; locals = (None, []) ∷ n.locals; slots = (tt, given.refs) ∷ n.slots })
-      first_is
+      ∙ ap (λ (n : Machine). record n {
+        pool = last.pool;
+        locals = (None, []) ∷ n.locals;
+        slots = (tt, given.refs) ∷ n.slots;
+        constants = constants;
+      }) empty.is
 
   begun_ready : IsReady code input m.pool begun
   begun_ready = record {
@@ -189,16 +175,15 @@ module _ (code : Code) (input : Items) (m first last : Machine) (locals : List (
       loops = tt;
       collected = tt;
       pending = tt;
-      constants = seen_at-extends first.pool last.pool first.constants kept constants.below ∙ constants.values;
+      constants = seen_at-extends m.pool last.pool constants kept are.below ∙ are.values;
       constants_below =
-          below-more (length first.pool) (length last.pool) first.constants (longer first.pool last.pool kept)
-          constants.below;
+          below-more (length m.pool) (length last.pool) constants (longer m.pool last.pool kept) are.below;
       yes = tt;
       no = tt;
     };
     state = λ entry. ap (λ (vs : Items). record (started entry input) { slots = vs }) given.values;
     log = refl;
-    few = let one = constants.few in let other = given.few in omega (arith, one, other);
+    few = given.few;
   }
 
   pub made_ready : IsReady code input m.pool last

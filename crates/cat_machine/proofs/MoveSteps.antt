@@ -22,7 +22,8 @@ use Rattle.cat_machine.specs.declared.machine.Return.{Return}
 use Rattle.cat_machine.specs.Layers.{extended, shortened, top_items, with_at, with_item}
 use Rattle.cat_machine.specs.States.{decided, frames_of, slot, slots_of, state_at}
 use Rattle.cat_machine.specs.Steps.{behind}
-use Rattle.cat_machine.specs.inside.Machines.{AreFrames, IsMachine, LayersBelow, SlotLayersBelow, constant_values}
+use Rattle.cat_machine.specs.Running.{constant_values}
+use Rattle.cat_machine.specs.inside.Machines.{AreFrames, IsMachine, LayersBelow, SlotLayersBelow}
 use Rattle.cat_machine.proofs.Holding.{below_split, frames_extended, frames_shortened, layers_extended}
 use Rattle.cat_machine.proofs.Holding.{layers_shortened, slot_layers_set}
 use Rattle.cat_machine.proofs.Holding.{with_locals, with_slots, without_operand}

@@ -13,7 +13,7 @@ use Rattle.cat_code.specs.States.{Next, State, stuck}
 use Rattle.cat_pool.specs.Nodes.{Standing, at, seen_at, values}
 use Rattle.cat_machine.specs.declared.machine.Machine.{Machine}
 use Rattle.cat_machine.specs.States.{slots_of, state_at}
-use Rattle.cat_machine.specs.inside.Machines.{constant_values}
+use Rattle.cat_machine.specs.Running.{constant_values}
 use Rattle.cat_machine.proofs.Holding.{get_below}
 
 -- what is read of a table

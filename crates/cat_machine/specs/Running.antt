@@ -44,6 +44,11 @@ abbrev pub Logs : Code → ℕ → Items → List LogEntry → Type 0
 Logs code scope input log =
     (run : Whole) → Gives code.tables code.instructions scope input run → decided code.tables log ≡ run.log
 
+-- the values of the constants
+abbrev pub constant_values : List Constant → List Value
+constant_values [] = []
+constant_values (c ∷ cs) = c.value ∷ constant_values cs
+
 -- the nodes of the constants
 abbrev pub constant_count : List Constant → ℕ
 constant_count [] = 0

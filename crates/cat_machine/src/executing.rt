@@ -1,16 +1,16 @@
 // The runs of scopes: four faces of one run.
 ghost use Rattle.std.specs.Prelude.{◌≡◌, IfOk};
 ghost use Rattle.cat_pool.specs.Loading.{Extends};
-ghost use Rattle.cat_machine.specs.inside.Begun.{IsEmpty, RunsSo};
+ghost use Rattle.cat_machine.specs.inside.Begun.{AreConstants, IsEmpty, RanTo, RunsSo};
 ghost use Rattle.cat_machine.specs.Running.{Counts, GivesOutcome, Grows, IsGiven, Logs};
 
 use crate::ending::outcome_at;
 use crate::going::{Ended, Going, drive};
 use crate::log::Log;
 use crate::machine::Machine;
-use crate::starting::{empty, make_ready};
+use crate::starting::{empty, load_constants, make_ready};
 use cat_code::Code;
-use cat_pool::Pool;
+use cat_pool::{Pool, Ref};
 use cat_pos::List;
 use cat_value::{Input, Outcome};
 use std::alloc::{AllocError, Global};
@@ -18,26 +18,28 @@ use std::mem;
 
 /// The outcome of a run, how many steps it took, at most 2^64 - 1, and what it logged.
 #[derive(Drop)]
-struct Run {
-    outcome: Outcome,
-    steps: u64,
-    log: Log,
+pub struct Run {
+    pub outcome: Outcome,
+    pub steps: u64,
+    pub log: Log,
 }
 
-/// A machine with its nodes behind those of the pool runs up to its end, or until memory runs out.
+/// A machine with its nodes behind those of a pool that has the constants runs up to its end, or until memory runs out.
 fn run_machine<'a>(
     alloc: Global,
     code: &'a Code,
     scope: u32,
     input: &Input,
+    constants: &[Ref],
     machine: Box<Machine>,
 ) -> Ended<'a>
     requires empty { IsEmpty machine.value }
+    requires constants { AreConstants code.now.tables machine.value.pool constants.now }
     requires given { ∥ IsGiven code.now scope input.now ∥₁ }
     ensures { RunsSo code.now scope input.now machine.value.pool result.end result.machine.value result.count }
 {
     let mut machine = machine;
-    if make_ready(alloc, code, input, &mut machine).is_err() {
+    if make_ready(alloc, code, constants, input, &mut machine).is_err() {
         return Ended {
             code,
             place: 0,
@@ -54,6 +56,40 @@ fn run_machine<'a>(
     })
 }
 
+/// A run over a pool that has the constants of the code. The pool keeps its nodes.
+pub fn run_over(
+    alloc: Global,
+    code: &Code,
+    scope: u32,
+    input: &Input,
+    constants: &[Ref],
+    pool: &mut Pool,
+) -> Result<Run, AllocError>
+    requires given { ∥ IsGiven code.now scope input.now ∥₁ }
+    requires constants { AreConstants code.now.tables pool.old constants.now }
+    ensures ran { IfOk result (RanTo code.now scope input.now pool.old pool.new) }
+    ensures kept { Extends pool.old pool.new }
+{
+    let mut machine = Box::new(alloc, empty(alloc))?;
+    mem::swap(pool, &mut machine.pool);
+    let Ended {
+        code: _,
+        place: _,
+        count,
+        mut machine,
+        end,
+    } = run_machine(alloc, code, scope, input, constants, machine);
+    let outcome = outcome_at(alloc, code, &machine, end);
+    mem::swap(pool, &mut machine.pool);
+    let log = mem::replace(&mut machine.log, List::new(alloc));
+    Ok(Run {
+        outcome: outcome?,
+        steps: count,
+        log,
+    })
+}
+
+#[tactic(auto, using(crate::proofs::Faces::behind_loaded))]
 fn run_scope(
     alloc: Global,
     code: &Code,
@@ -68,23 +104,9 @@ fn run_scope(
     ensures kept { Extends pool.old pool.new }
     ensures grown { IfOk result (λ made. Grows code.now scope input.now pool.old pool.new made.outcome) }
 {
-    let mut machine = Box::new(alloc, empty(alloc))?;
-    mem::swap(pool, &mut machine.pool);
-    let Ended {
-        code: _,
-        place: _,
-        count,
-        mut machine,
-        end,
-    } = run_machine(alloc, code, scope, input, machine);
-    let outcome = outcome_at(alloc, code, &machine, end);
-    mem::swap(pool, &mut machine.pool);
-    let log = mem::replace(&mut machine.log, List::new(alloc));
-    Ok(Run {
-        outcome: outcome?,
-        steps: count,
-        log,
-    })
+    let constants = load_constants(alloc, code, pool)?;
+    let run = run_over(alloc, code, scope, input, constants.as_slice(), pool)?;
+    Ok(run)
 }
 
 /// The outcome that the code gives. The pool keeps its nodes; those of this run stay behind them, also where memory runs

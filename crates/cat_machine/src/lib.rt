@@ -5,6 +5,7 @@ mod ending;
 mod executing;
 mod going;
 mod layers;
+mod loaded;
 mod log;
 mod machine;
 mod operands;
@@ -12,4 +13,5 @@ mod starting;
 mod steps;
 
 pub use executing::{execute, execute_clean, execute_counted, execute_logged};
+pub use loaded::Loaded;
 pub use log::{Log, LogEntry};

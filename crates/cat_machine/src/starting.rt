@@ -1,14 +1,14 @@
 // A machine is made ready.
 ghost use Rattle.std.specs.Prelude.{◌≡◌, ◌+◌, [], IfOk, OnOk, length};
 ghost use Rattle.cat_pool.specs.Loading.{Extends};
-ghost use Rattle.cat_machine.specs.Running.{entry_count};
-ghost use Rattle.cat_machine.specs.inside.Begun.{HasConstants, HasInput, IsEmpty, IsEntry, IsReady};
+ghost use Rattle.cat_machine.specs.Running.{constant_count, entry_count};
+ghost use Rattle.cat_machine.specs.inside.Begun.{AreConstants, HasInput, IsEmpty, IsEntry, IsReady};
 
 use crate::layers::Layers;
 use crate::machine::{Machine, Truths};
 use crate::operands::Operands;
 use cat_code::Code;
-use cat_pool::{Pool, Ref};
+use cat_pool::{Pool, Ref, References};
 use cat_pos::List;
 use cat_value::{Input, Value};
 use std::alloc::{AllocError, Global};
@@ -35,17 +35,18 @@ pub fn empty(alloc: Global) -> Machine
     }
 }
 
-/// The constants of the code as nodes.
-fn load_constants(alloc: Global, code: &Code, m: &mut Machine) -> Result<(), AllocError>
-    requires { IsEmpty m.old }
-    ensures loaded { OnOk result (HasConstants code.now.tables m.old m.new) }
-    ensures pool { Extends m.old.pool m.new.pool }
+/// The constants of the code as nodes behind those of a pool.
+pub fn load_constants(alloc: Global, code: &Code, pool: &mut Pool) -> Result<References, AllocError>
+    ensures loaded { IfOk result (AreConstants code.now.tables pool.new) }
+    ensures count { OnOk result (length pool.new ≡ length pool.old + constant_count code.now.tables.constants) }
+    ensures kept { Extends pool.old pool.new }
 {
+    let mut constants = List::new(alloc);
     for constant in code.tables.constants.as_slice() {
-        let r = m.pool.load(alloc, &constant.value)?;
-        m.constants.push(r)?;
+        let r = pool.load(alloc, &constant.value)?;
+        constants.push(r)?;
     }
-    Ok(())
+    Ok(constants)
 }
 
 /// The node of an entry, where it is given.
@@ -78,18 +79,20 @@ fn load_input(alloc: Global, input: &Input, m: &mut Machine) -> Result<(), Alloc
     Ok(())
 }
 
-/// A machine with the input in its slots.
+/// A machine with the constants of the code, and with the input in its slots.
 pub fn make_ready(
     alloc: Global,
     code: &Code,
+    constants: &[Ref],
     input: &Input,
     m: &mut Machine,
 ) -> Result<(), AllocError>
-    requires { IsEmpty m.old }
+    requires empty { IsEmpty m.old }
+    requires constants { AreConstants code.now.tables m.old.pool constants.now }
     ensures ready { OnOk result (IsReady code.now input.now m.old.pool m.new) }
     ensures pool { Extends m.old.pool m.new.pool }
 {
-    load_constants(alloc, code, m)?;
+    m.constants = List::from_slice(alloc, constants)?;
     m.locals.open(None)?;
     load_input(alloc, input, m)?;
     Ok(())

@@ -11,12 +11,13 @@ use Rattle.cat_code.specs.declared.code.Tables.{Tables}
 use Rattle.cat_code.specs.States.{started}
 use Rattle.cat_pool.specs.Nodes.{Standing, AreBelow, seen_at, values}
 use Rattle.cat_pool.specs.Loading.{Extends}
+use Rattle.cat_machine.specs.declared.executing.Run.{Run}
 use Rattle.cat_machine.specs.declared.machine.Machine.{Machine}
 use Rattle.cat_machine.specs.declared.machine.End.{End}
-use Rattle.cat_machine.specs.Running.{TakesSteps, constant_count, given_count}
+use Rattle.cat_machine.specs.Running.{Counts, GivesOutcome, HasOutputs, Logs, TakesSteps, constant_values, given_count}
 use Rattle.cat_machine.specs.States.{decided, slots_of, state_at}
 use Rattle.cat_machine.specs.Steps.{EndWithin, ending}
-use Rattle.cat_machine.specs.inside.Machines.{IsMachine, SlotsBelow, constant_values}
+use Rattle.cat_machine.specs.inside.Machines.{IsMachine, SlotsBelow}
 
 -- a machine over a pool in which no run has begun
 abbrev pub emptied : List Standing → Machine
@@ -43,12 +44,10 @@ IsEntry nodes None None = Unit {0}
 IsEntry nodes (Some v) (Some r) = slice_get (values nodes) r ≡ Some v
 IsEntry nodes _ _ = ⊥
 
--- the constants are loaded, and all else is as before
-pub record HasConstants (tables : Tables) (old new : Machine) : Type 0 where
-  pub same : new ≡ record old { pool = new.pool; constants = new.constants }
-  pub values : seen_at new.pool new.constants ≡ constant_values tables.constants
-  pub below : AreBelow (length new.pool) new.constants
-  pub few : length new.pool ≡ length old.pool + constant_count tables.constants
+-- references are those of the constants, in their order
+pub record AreConstants (tables : Tables) (nodes : List Standing) (refs : List ℕ) : Type 0 where
+  pub values : seen_at nodes refs ≡ constant_values tables.constants
+  pub below : AreBelow (length nodes) refs
 
 -- the input is in the slots, and all else is as before
 pub record HasInput (input : Items) (old new : Machine) : Type 0 where
@@ -63,7 +62,7 @@ pub record IsReady (code : Code) (input : Items) (before : List Standing) (m : M
   pub machine : IsMachine code.tables m
   pub state : (entry : ℕ) → state_at code.tables entry m ≡ started entry input
   pub log : m.log ≡ []
-  pub few : length m.pool ≡ length before + constant_count code.tables.constants + given_count input
+  pub few : length m.pool ≡ length before + given_count input
 
 -- a run has ended: exactly so many steps take it to this end
 pub record RunsTo (code : Code) (scope : ℕ) (input : Items) (before : List Standing) (end : End) (m : Machine)
@@ -76,7 +75,7 @@ pub record RunsTo (code : Code) (scope : ℕ) (input : Items) (before : List Sta
   pub log : decided code.tables m.log ≡ steps.run.log
   pub ends : steps.run.end ≡ ending code.tables m end
   pub pool : Extends before m.pool
-  pub few : length m.pool ≤ length before + constant_count code.tables.constants + given_count input + taken
+  pub few : length m.pool ≤ length before + given_count input + taken
 
 -- a run has ended, or memory ran out: then all nodes stay
 abbrev pub RunsSo : Code → ℕ → Items → List Standing → Result End AllocError → Machine → ℕ → Type 0
@@ -92,3 +91,12 @@ HasEnd tables m (Err e) = Unit {0}
 abbrev pub GivesEnd : Tables → Machine → Result End AllocError → Outcome → Type 0
 GivesEnd tables m (Ok end) made = outcome_of (ending tables m end) ≡ Some made
 GivesEnd tables m (Err e) made = ⊥
+
+-- what a run over a pool that has the constants comes to: at most the nodes of what is given, and one for each step are
+-- new, and the outputs are there
+pub record RanTo (code : Code) (scope : ℕ) (input : Items) (before after : List Standing) (made : Run) : Type 0 where
+  pub outcome : GivesOutcome code scope input made.outcome
+  pub count : Counts code scope input made.steps
+  pub log : Logs code scope input made.log
+  pub few : (n : ℕ) → TakesSteps code scope input n → length after ≤ length before + given_count input + n
+  pub outputs : HasOutputs after made.outcome

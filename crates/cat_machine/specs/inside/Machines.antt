@@ -1,14 +1,13 @@
 -- What holds of each machine: its references are those of nodes.
 use Rattle.std.specs.Prelude.{◌≡◌, ◌<◌, ℕ, Bool, true, false, List, [], ◌∷◌, length, Option, Some, None}
-use Rattle.cat_value.specs.declared.value.Value.{Value}
 use Rattle.cat_value.specs.declared.value.Value.TheVariants as flat
-use Rattle.cat_code.specs.declared.code.Constant.{Constant}
 use Rattle.cat_code.specs.declared.code.Tables.{Tables}
 use Rattle.cat_pool.specs.Nodes.{Standing, AreBelow, IsWithin, at, in_range, kept_parts, seen_at, values}
 use Rattle.cat_machine.specs.declared.machine.Machine.{Machine}
 use Rattle.cat_machine.specs.declared.machine.LoopHead.{LoopHead}
 use Rattle.cat_machine.specs.declared.machine.Return.{Return}
 use Rattle.cat_machine.specs.declared.machine.HeldRef.{HeldRef}
+use Rattle.cat_machine.specs.Running.{constant_values}
 
 -- each of the lists, one on the other, is one of references below a number
 abbrev pub LayersBelow : {H : Type 0} → ℕ → List (H × List ℕ) → Type 0
@@ -45,11 +44,6 @@ pub record LoopWithin (nodes : List Standing) (l : LoopHead) : Type 0 where
 abbrev pub LoopsWithin : List Standing → List (LoopHead × List ℕ) → Type 0
 LoopsWithin nodes [] = Unit {0}
 LoopsWithin nodes (l ∷ ls) = LoopWithin nodes l.0 × LoopsWithin nodes ls
-
--- the values of the constants
-abbrev pub constant_values : List Constant → List Value
-constant_values [] = []
-constant_values (c ∷ cs) = c.value ∷ constant_values cs
 
 -- a truth value's node, once there is one
 abbrev pub IsTruth : List Standing → Bool → Option ℕ → Type 0

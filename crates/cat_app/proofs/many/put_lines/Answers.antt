@@ -17,6 +17,7 @@ loop-read-init g c = (
   nothing_put c.args.many.built.program c.args.many.built.code c.requires.built.code c.args.many.scope
       c.args.many.source.files (g.K.Sink.state c.args.sink.now),
   c.into_iter-read-iterator.ensures.into_iter_gives.0 ∙ c.into_vec-read-items.ensures,
+  c.in-Ok.ensures,
 )
 
 pub reply_on-requires-clause-read : goal.reply_on-requires-clause-read
@@ -29,34 +30,43 @@ reply_on-requires-clause-read g c =
 pub loop-read-preserved : goal.loop-read-preserved
 loop-read-preserved g c =
     let l = c.loop-read in
-    let bytes : c.as_bytes.result.now ≡ string_bytes c.in-Ok.reply.text = cc (c.as_bytes.ensures.value) in (
+    let bytes : c.as_bytes.result.now ≡ string_bytes c.in-Ok-reply_on.reply.text = cc (c.as_bytes.ensures.value) in (
       one_more c.args.many.built.program c.args.many.built.code c.requires.built.code c.args.many.scope
-          c.args.many.source.files l.yielded c.in-Some.read (string_bytes c.in-Ok.reply.text)
+          c.args.many.source.files l.yielded c.in-Some.read (string_bytes c.in-Ok-reply_on.reply.text)
           (g.K.Sink.state c.args.sink.now) (g.K.Sink.state l.sink) (g.K.Sink.state c.put.new.self) l.invariant.0
-          c.in-Ok.ensures.line
+          c.in-Ok-reply_on.ensures.line
           (subst (λ (b : List ℕ). Took (g.K.Sink.state l.sink) (g.K.Sink.state c.put.new.self) b) bytes
           (put_whole c.as_bytes.result.now (g.K.Sink.state l.sink) (g.K.Sink.state c.put.new.self) c.put.result
           c.if-is_err.ensures.value c.put.ensures)),
       append_assoc l.yielded (c.in-Some.read ∷ []) (into_iter_items c.next.new.self)
           ∙ ap (λ (rs : List ReadInput). l.yielded ++ rs) (sym c.in-Some.ensures.steps.0) ∙ l.invariant.1,
+      c.reply_on.ensures.clean ∙ l.invariant.2,
     )
 
-pub returns-in_default : goal.returns-in_default
-returns-in_default g c =
+pub returns-in_default-reply_on : goal.returns-in_default-reply_on
+returns-in_default-reply_on g c =
     let l = c.loop-read in
     ended_early c.args.many.built.program c.args.many.built.code c.requires.built.code c.args.many.scope
     c.args.many.source.files c.requires.read.0 c.args.many.inputs l.yielded (into_iter_items l.read-iterator)
     l.invariant.1 c.requires.read.1 (g.K.Sink.state c.args.sink.now) (g.K.Sink.state l.sink) l.invariant.0
 
+pub returns-in_default : goal.returns-in_default
+returns-in_default g c =
+    ended_early c.args.many.built.program c.args.many.built.code c.requires.built.code c.args.many.scope
+    c.args.many.source.files c.requires.read.0 c.args.many.inputs [] c.args.many.inputs refl c.requires.read.1
+    (g.K.Sink.state c.args.sink.now) (g.K.Sink.state c.args.sink.now)
+    (nothing_put c.args.many.built.program c.args.many.built.code c.requires.built.code c.args.many.scope
+    c.args.many.source.files (g.K.Sink.state c.args.sink.now))
+
 pub returns-then-is_err : goal.returns-then-is_err
 returns-then-is_err g c =
     let l = c.loop-read in
-    let bytes : c.as_bytes.result.now ≡ string_bytes c.in-Ok.reply.text = cc (c.as_bytes.ensures.value) in
+    let bytes : c.as_bytes.result.now ≡ string_bytes c.in-Ok-reply_on.reply.text = cc (c.as_bytes.ensures.value) in
     failed_at c.args.many.built.program c.args.many.built.code c.requires.built.code c.args.many.scope
     c.args.many.source.files c.requires.read.0 c.args.many.inputs l.yielded (into_iter_items l.read-iterator)
     l.invariant.1 c.requires.read.1 (g.K.Sink.state c.args.sink.now) c.in-Some.read (into_iter_items c.next.new.self)
-    (string_bytes c.in-Ok.reply.text) (g.K.Sink.state l.sink) (g.K.Sink.state c.put.new.self)
-    c.in-Some.ensures.steps.0 l.invariant.0 c.in-Ok.ensures.line
+    (string_bytes c.in-Ok-reply_on.reply.text) (g.K.Sink.state l.sink) (g.K.Sink.state c.put.new.self)
+    c.in-Some.ensures.steps.0 l.invariant.0 c.in-Ok-reply_on.ensures.line
     (subst (λ (b : List ℕ). FailedAt (g.K.Sink.state l.sink) (g.K.Sink.state c.put.new.self) b) bytes
     (put_broken c.as_bytes.result.now (g.K.Sink.state l.sink) (g.K.Sink.state c.put.new.self) c.put.result
     c.if-is_err.ensures.value c.put.ensures))

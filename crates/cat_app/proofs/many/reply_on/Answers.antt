@@ -9,8 +9,8 @@ use Rattle.cat_app.specs.Many.{ReadInput, outcome_line, element_line}
 use Rattle.cat_app.proofs.Replies.{if_ok}
 use Rattle.cat_app.proofs.many.reply_on.Goals as goal
 
-pub execute_clean-requires : goal.execute_clean-requires
-execute_clean-requires c =
+pub execute-requires-clause-given : goal.execute-requires-clause-given
+execute-requires-clause-given c =
     is_given c.args.built.now.program c.args.built.now.code c.requires.built.code c.args.scope c.in-Ok.input
     (subst (λ (r : ReadInput). IsReadInput c.args.built.now.program.decls c.args.scope r) c.in-Ok.is c.requires.read)
 
