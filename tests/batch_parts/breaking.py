@@ -1,7 +1,9 @@
 """What becomes of a batch when something breaks: a worker, the call, the program, or the machine."""
-import contextlib, json, os, pathlib, re, shlex, shutil, signal, socket, subprocess, time
-from typing import Iterator, Set
+import contextlib, io, json, os, pathlib, re, shlex, shutil, signal, socket, subprocess, threading, time
+from typing import Dict, Iterator, Set
+from unittest import mock
 
+from batching import call, cluster
 from measure_batch import households
 
 from .office import STATUTE, Failure, Office, blocks, equal, inputs, missing, said, wanted_row
@@ -31,6 +33,47 @@ def a_worker_that_dies_costs_its_part_alone(office: Office) -> None:
     office.batch('--size', '2', '--workers', '2', 'records.jsonl', 'results.jsonl', program=killing)
     equal(office.rows('results.jsonl'), wanted_table(office, lines), 'the table')
     equal(office.calls(), 5, 'the number of calls for four parts')
+
+
+HEARD = threading.Event()
+
+
+def unheard(work, part: Dict[str, int]) -> None:
+    work(part)
+    HEARD.wait(SECONDS)
+
+
+class Unheard:
+    """An engine that computes each part, and tells of none that it has ended."""
+
+    def __init__(self, client):
+        self.client, self.scheduler_info, self.cancel = client, client.scheduler_info, client.cancel
+
+    def submit(self, work, part: Dict[str, int], **others):
+        return self.client.submit(unheard, work, part, **others)
+
+
+@contextlib.contextmanager
+def unheard_client(*_: object) -> Iterator[Unheard]:
+    import distributed
+
+    with distributed.Client(processes=False, n_workers=1, threads_per_worker=4, dashboard_address=None) as client:
+        try:
+            yield Unheard(client)
+        finally:
+            HEARD.set()
+
+
+def a_part_counts_when_its_files_are_there(office: Office) -> None:
+    """Also where the engine never tells that it has ended."""
+    lines = [json.dumps(given) for given in inputs(8)]
+    office.file('records.jsonl', '\n'.join(lines))
+    asked = call.read_call(office.words('--size', '2', '--workers', '1', 'records.jsonl', 'results.jsonl')[1:])
+    silent = mock.patch.multiple(cluster, SILENT=0.2, client_of=unheard_client)
+    with silent, contextlib.redirect_stdout(io.StringIO()) as counted, contextlib.redirect_stderr(io.StringIO()):
+        equal(call.run(asked), 0, 'the status')
+    equal(sum(int(row.split()[0]) for row in counted.getvalue().splitlines()), 8, 'the number of records that are told')
+    equal(office.rows('results.jsonl'), wanted_table(office, lines), 'the table')
 
 
 def a_part_that_kills_workers_stops_the_batch(office: Office) -> None:
@@ -182,7 +225,8 @@ def workers_of_a_scheduler_compute(office: Office) -> None:
 
 
 ALONE = [what_is_missing_is_said]
-SAMPLE = [a_worker_that_dies_costs_its_part_alone, a_second_start_goes_on_where_the_machine_went_down]
+SAMPLE = [a_worker_that_dies_costs_its_part_alone, a_part_counts_when_its_files_are_there,
+          a_second_start_goes_on_where_the_machine_went_down]
 TESTS = [*SAMPLE, a_second_start_goes_on_where_one_broke_it_off, a_part_that_kills_workers_stops_the_batch,
          what_stops_one_call_stops_the_batch, what_stops_all_stops_before_the_first, a_law_that_changes_makes_no_table,
          workers_of_a_scheduler_compute]

@@ -3,7 +3,7 @@ import collections, itertools, json, os, signal, subprocess
 
 from measure_batch import households
 
-from .office import Failure, Office, equal, wanted_row
+from .office import PATIENCE, Failure, Office, equal, wanted_row
 
 FEW, MANY = 20_000, 1_000_000
 
@@ -24,7 +24,7 @@ def records_are_those_of_one_call(office: Office, number: int) -> None:
         raise Failure('it begins with %r' % (first + process.stderr.read()))
     victims = workers_of(process)
     os.kill(victims[0], signal.SIGKILL)
-    counts, told = process.communicate()
+    counts, told = process.communicate(timeout=PATIENCE)
     equal(process.returncode, 0, 'the status, with %s,' % told)
     whole, outcomes = office.lines(lines), collections.Counter()
     with open(office.folder / 'results.jsonl') as rows:

@@ -8,6 +8,7 @@ TOP = pathlib.Path(__file__).resolve().parent.parent.parent
 BATCH, PAGE = TOP / 'tools' / 'batch', TOP / 'docs' / 'BATCH.md'
 STATUTE = TOP / 'examples' / 'heating_subsidy_second_draft' / 'law.md'  # An income of $20,000 is in no section of it.
 REFUSED = len('input refused I1')
+PATIENCE = 900  # Seconds for one batch.
 Row = Dict[str, object]
 
 
@@ -37,7 +38,7 @@ class Office:
 
     def batch(self, *words: str, status: int = 0, **others) -> Tuple[str, str]:
         """Runs a batch; gives what it wrote on standard output and on standard error."""
-        ended = subprocess.run(self.words(*words, **others), stdout=subprocess.PIPE, stderr=subprocess.PIPE, text=True)
+        ended = subprocess.run(self.words(*words, **others), stdout=subprocess.PIPE, stderr=subprocess.PIPE, text=True, timeout=PATIENCE)
         equal(ended.returncode, status, 'the status of %s with %r' % (' '.join(words), ended.stdout + ended.stderr))
         return ended.stdout, ended.stderr
 

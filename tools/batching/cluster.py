@@ -59,7 +59,8 @@ def secured() -> Optional[object]:
 
 
 def compute(client, task: results.Task, parts: List[records.Part], told: Callable[[results.Done], None]) -> None:
-    """Computes the parts, and tells of each when it is done. A worker that dies costs the part that it had alone, which is run again."""
+    """Computes the parts, and tells of each when its files are there. A worker that dies costs the part that it had alone, which is run
+    again."""
     import cloudpickle
 
     def work(part: Dict[str, int]) -> Dict[str, object]:
@@ -70,30 +71,34 @@ def compute(client, task: results.Task, parts: List[records.Part], told: Callabl
     if not client.scheduler_info()['workers']:
         print('no worker is there yet: it waits for one', file=sys.stderr, flush=True)
     batch = uuid.uuid4().hex
-    waiting = [client.submit(work, vars(part), pure=False, key='part-%06d-%s' % (part.number, batch)) for part in parts]
+    waiting = {client.submit(work, vars(part), pure=False, key='part-%06d-%s' % (part.number, batch)): part for part in parts}
     left = {part.number: part for part in parts}
     try:
-        for found in news(waiting, task, left):
-            for done in found:
-                if left.pop(done.number, None):
-                    told(done)
+        for ended in ends(waiting):
+            for done in results.done_in(task.folder, [part for part in ended if part.number in left]).values():
+                del left[done.number]
+                told(done)
+            if not left:
+                break
     finally:
-        client.cancel(waiting)
+        client.cancel(list(waiting))
 
 
-def news(waiting: List[object], task: results.Task, left: Dict[int, records.Part]) -> Iterator[List[results.Done]]:
-    """What is told of parts as they end, while some are left. Where a worker died, the engine may lose that a part has ended: after so long
-    without news, what lies in the folder counts."""
+def ends(waiting: Dict[object, records.Part]) -> Iterator[List[records.Part]]:
+    """Each part that has ended; and where the engine tells of none for so long, all of them, since with a worker that died it may have lost
+    that one has. What a part gave is never asked of it, as that may be lost too: its files have it."""
     from distributed import as_completed
 
-    ended = as_completed(waiting)
-    while left:
+    ended = as_completed(list(waiting))
+    while True:
         until = time.monotonic() + SILENT
-        while ended.is_empty() and time.monotonic() < until:
+        while not ended.has_ready() and time.monotonic() < until:
             time.sleep(0.02)
-        if ended.is_empty():
-            yield list(results.done_in(task.folder, list(left.values())).values())
-        else:
+        if ended.has_ready():
             future = next(ended)
-            yield [results.Done(**future.result())]
+            if future.status != 'finished':
+                future.result()  # It raises what ended the part.
+            yield [waiting[future]]
             future.release()
+        else:
+            yield list(waiting.values())
