@@ -162,7 +162,8 @@ class Scoped:
                 else:
                     high = middle
             return low
-        middle = bound(False) // 2 + bound(True) // 2
+        low, last = bound(False), max(bound(True) - 1, 0)
+        middle = low + max(last - low, 0) // 2
         if middle < len(order) and region.decided(atoms[order[middle]]) is None:
             return order[middle]
         return named

@@ -54,9 +54,9 @@ fn bound(table: &Table, region: &Region, order: &[usize], term: usize, end: bool
     low
 }
 
-/// The middle one of the atoms that a region doesn't decide and that ask the same term as the one that is named. It
-/// costs a few questions for each doubling of the number of atoms. Among cases, whose undecided ones need not stand
-/// together, it may be the named one itself.
+/// The middle one of the atoms that a region doesn't decide and that ask the same term as the one that is named, of two
+/// the first. It costs a few questions for each doubling of the number of atoms. Among cases, whose undecided ones need
+/// not stand together, it may be the named one itself.
 pub(crate) fn split_atom(
     table: &Table,
     target: u32,
@@ -73,7 +73,8 @@ pub(crate) fn split_atom(
     let term = table.atoms.at(named).term;
     let low = bound(table, region, order, term, false);
     let high = bound(table, region, order, term, true);
-    let Some(&middle) = order.get(low / 2 + high / 2) else {
+    let last = high.saturating_sub(1);
+    let Some(&middle) = order.get(low + last.saturating_sub(low) / 2) else {
         return named;
     };
     if is_undecided(table, region, middle) {
