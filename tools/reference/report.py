@@ -1,7 +1,7 @@
 """What `audit` writes: for each target the leaves of its tree, the line that they come to, and the certificate.
 
 Which atom a region is split on, and so which leaves and inputs there are, is left open by the rules. Here it is the
-middle one of the undecided atoms that ask the same term as the first one that the target hangs on."""
+middle one of the undecided atoms that ask the same term as the first one that the target hangs on, of two the first."""
 import datetime
 from fractions import Fraction
 
