@@ -1,5 +1,6 @@
 """The tables of a listing that anyone may have made: what they declare, and the lines that name, spell or declare something wrong."""
 import oracle_json as forms
+from oracle_sources import MOST_FILE, MOST_FILES
 
 from .answers import Given
 from .checker import HIGHEST, MOST_CASES, MOST_ITEMS, MOST_PARAMETERS, base_of, reachable
@@ -24,6 +25,8 @@ class ImageTables:
         self.image, self.wrong = image, set()
         lines = image.tables
         self.names_once(lines['file'])
+        for line in lines['file'][MOST_FILES:]:
+            self.refuse(line)
         self.names_once(sorted(lines['structure'] + lines['enumeration'] + lines['scope'], key=lambda line: line.number))
         self.declare_types(lines)
         self.numbers = {line.words[0]: n for n, line in reversed(list(enumerate(lines['scope'])))}
@@ -49,10 +52,11 @@ class ImageTables:
             known.add(line.words[0])
 
     def placed(self, line, words):
-        """A position, whose file has a line."""
-        if int(words[0]) >= len(self.image.tables['file']):
+        """A position, whose file has a line, and which stands at most behind the last byte of the longest file."""
+        pos = position(words)
+        if pos.file >= len(self.image.tables['file']) or max(pos.line, pos.column) > MOST_FILE + 1:
             self.refuse(line)
-        return position(words)
+        return pos
 
     # ---- types
 

@@ -1,0 +1,24 @@
+-- a text that is cut, its words, and what is read of them
+pub mod CutLemmas
+pub mod DigitLemmas
+pub mod FeedLemmas
+pub mod NumberLemmas
+pub mod ReadLemmas
+pub mod TypeLemmas
+pub mod TypedLemmas
+pub mod ListedLemmas
+pub mod ConstantLemmas
+pub mod InstrLemmas
+pub mod RowLemmas
+pub mod SplitLemmas
+pub mod WrittenLemmas
+-- rows that are put in order, and images
+pub mod PutLemmas
+pub mod RunLemmas
+pub mod AcceptLemmas
+pub mod InnerLemmas
+pub mod EndingLemmas
+pub mod ImageLemmas
+pub mod FewLemmas
+pub mod ListedText
+mod ImageExamples
