@@ -1,0 +1,16 @@
+-- Lemmas.
+mod AloneLemmas
+mod DeciderLemmas
+mod FreeLemmas
+mod KnownLemmas
+mod NeverLemmas
+mod PlaceLemmas
+mod PlainReportLemmas
+mod ReachedLemmas
+mod RunLemmas
+mod SaidLemmas
+mod SaidOfLemmas
+mod SearchLemmas
+mod TryingLemmas
+mod WonLemmas
+mod WritingLemmas

@@ -1,0 +1,9 @@
+pub mod Hanging
+pub mod Knowing
+pub mod Places
+pub mod Said
+pub mod Scenes
+pub mod Searches
+pub mod Tries
+pub mod WonLeaves
+pub mod Writing
