@@ -2,6 +2,8 @@
 import functools, pathlib, re
 from typing import NamedTuple
 
+from reference.answers import Program
+from reference.dead import dead
 from reference.report import audit
 from reference.tokens import KEYWORDS, PAIRS, SYMBOL
 
@@ -34,6 +36,10 @@ CALLS = [
     call('tables', 'table All a.md', 0),
     call('a table', 'table Bands a.md band', 0),
     call('a table with a rest', 'table Bands a.md --cases 1', 7),
+    call('definitions', 'dead All a.md', 7),
+    call('definitions that all decide', 'dead Bands a.md', 0),
+    call('definitions short of leaves', 'dead Bands a.md --cases 1', 7),
+    call('a check of definitions', 'dead Bands a.md dead', 0),
     call('drill', 'drill 3 none', 0),
     call('conflict', 'run Drafted b.md both.json', 1),
     call('no value', 'run Drafted b.md none.json', 2),
@@ -44,6 +50,7 @@ CALLS = [
     call('refused input', 'run All a.md refused.json', 5),
     call('refused array', 'many All a.md input.json', 5),
     call('refused certificate', 'check Bands a.md input.json', 8),
+    call('refused certificate of definitions', 'dead Bands a.md certificate', 8),
     call('no such scope', 'run None a.md input.json', 9),
     call('no such target', 'table All a.md none', 9),
     call('missing file', 'run All a.md missing.json', 10),
@@ -61,11 +68,12 @@ def lacking():
 
 @functools.cache
 def files():
-    """The files of the calls: those that are kept, the certificate that the second implementation writes, and what is made of them."""
+    """The files of the calls: those that are kept, the certificates that the second implementation writes, and what is made of them."""
     kept = {file.name: file.read_bytes() for file in SOURCE.iterdir()}
     certificate = audit(kept, 'a.md', 'Bands').encode() + b'\n'
+    certified = dead(Program(kept, 'a.md'), 'Bands')[0].encode() + b'\n'
     given = kept['input.json']
     failed, refused = given.replace(b'"n":42', b'"n":7777'), given.replace(b'"n":42', b'"n":4.2')
-    return {**kept, 'certificate': certificate, 'both.json': b'{"income":10}', 'none.json': b'{"income":95}',
+    return {**kept, 'certificate': certificate, 'dead': certified, 'both.json': b'{"income":10}', 'none.json': b'{"income":95}',
             'failed.json': failed, 'refused.json': refused, 'inputs.json': b'[%s]' % b','.join((given, refused, failed, given)),
             'refused.md': kept['a.md'].replace(b'most equals 100', b'most equals true')}

@@ -100,7 +100,8 @@ def odd_outputs(runs):
     closed, into_closed = os.pipe()
     os.close(closed)
     modes = (['audit', 'All', 'a.md'], ['check', 'Bands', 'a.md', 'certificate'], ['emit', 'All', 'a.md'], ['emit', *CALL[1:]],
-             ['trace', *CALL[1:]], ['many', 'All', 'a.md', 'inputs.json'], ['table', 'All', 'a.md'], ['drill', '2', 'none'])
+             ['trace', *CALL[1:]], ['many', 'All', 'a.md', 'inputs.json'], ['table', 'All', 'a.md'], ['dead', 'All', 'a.md'],
+             ['dead', 'Bands', 'a.md', 'dead'], ['drill', '2', 'none'])
     for words in (CALL, *modes, [], ['run', 'All', 'none.md']):
         for what, options in (('full', {'stdout': full}), ('closed', {'limit': 'exec >&-'}), ('only read from', {'stdout': source}),
                               ('a closed pipe', {'stdout': into_closed}), ('closed as input is', {'limit': 'exec <&- >&-'})):

@@ -10,7 +10,7 @@ from .pieces import Tried
 from .runs import Runs
 from .table import out_of_table, told
 
-MODES = ['run', 'many', 'trace', 'audit', 'check', 'emit', 'table', 'drill']
+MODES = ['run', 'many', 'trace', 'audit', 'check', 'emit', 'table', 'dead', 'drill']
 FILES = {'a.md': PLAIN, 'in': b'{"n":1}', 'array': b'[{"n":1},{"n":2}]', '--': b'law', '-a.md': PLAIN}
 NUMBERS = ['5', '0', '', '1000000', '1000001', '+5', '+', ' 5', '05', '-1', '\u0665', '1_000', '9' * 30, '5=5']
 ODD = ['', ' ', '-', '--', '--cases', *('--cases=' + number for number in NUMBERS), '--case', '--case=5', '--CASES=5', '-c', '-c5', '-h',

@@ -17,7 +17,7 @@ LOADER = {127, -9, -11}
 SPACES = [4_096 * 5**k // 4**k for k in range(24)]
 # An environment takes at most a fourth of the stack, and a word of it 128 KiB.
 FULL = {'HOSTILE_%d' % k: 'n' * 80_000 for k in range(3)}
-MODES = ['run', 'audit', 'check', 'emit', 'trace', 'many', 'table']
+MODES = ['run', 'audit', 'check', 'emit', 'trace', 'many', 'table', 'dead']
 
 
 @functools.cache

@@ -22,6 +22,13 @@ OUTPUTS = rb'\{[^\n]*\}\n'
 # The tables of targets: how far their leaves are told by the status.
 TABLES = rb'(?:table %s\n(?:[^\n]+ : (?:definition at %s|conflict|no value|false|not given)\n)+%%s)*' % (NAME, PLACE)
 SHOWN, SPENT = TABLES % b'', TABLES % rb'(?:rest not shown, budget [0-9]+\n)?'
+# The report on definitions, with its certificate where it has one: what is said of them is told by the status.
+NEVER = rb'[^\n]+ at %s: never decides\n' % PLACE
+DECIDES = rb'[^\n]+ at %s: decides with \{[^\n]*\}\n' % PLACE
+OPEN = rb'[^\n]+ at %s: (?:Masked|Undecided derived at %s) with \{[^\n]*\} giving [^\n]+\n' % (PLACE, PLACE)
+SPARED = rb'[^\n]+ at %s: Undecided budget [0-9]+\n' % PLACE
+DEAD = rb'dead %s\n(?:%%s)*(?:catala-dead 1\nscope [^\n]+\n(?:var [^\n]+\n(?:split [0-9]+\n|leaf\n)+)*end\n)?' % NAME
+DEFINITIONS = {0: DEAD % DECIDES, 6: DEAD % b'|'.join((NEVER, DECIDES, OPEN, SPARED)), 7: DEAD % b'|'.join((DECIDES, OPEN, SPARED))}
 
 # What a mode writes with status 0, as far as its form goes.
 FINE = {
@@ -31,6 +38,7 @@ FINE = {
     'emit': rb'%s|%s%s' % (LISTING, COUNTED, OUTPUTS),
     'trace': DECIDED + OUTPUTS,
     'table': SHOWN,
+    'dead': rb'%s|(?:%s)*Yes\n' % (DEFINITIONS[0], NEVER),
     'drill': DRILLED,
 }
 TEXTS = {
@@ -83,6 +91,8 @@ def out_of_table(words, ended):
         form = BROKEN[ended.status]
     if mode == 'table' and ended.status == 7:
         form = SPENT
+    if mode == 'dead' and ended.status in (6, 7):
+        form = DEFINITIONS[ended.status]
     if form is None or ended.err:
         return 'status %d, %r on standard error' % (ended.status, ended.err[:80])
     if not re.fullmatch(form, ended.out):

@@ -239,14 +239,14 @@ def a_picture_is_made_of_the_programs_answers(office: Office) -> None:
 
 
 def tables_and_rules_are_taken_apart_whole(office: Office) -> None:
-    """No line of the stored replies of the second implementation is lost."""
+    """No line of the stored replies is lost."""
     line_at = lambda name, number: None
-    coming = [case for case in (TOP / 'tests' / 'coming').iterdir() if (case / 'words').read_text().split()[0] in READ]
-    replies = [((case / 'words').read_text().split()[0], (case / 'stdout').read_text()) for case in coming]
+    cases = [(case, (case / 'words').read_text().split()) for case in (TOP / 'tests' / 'cases').iterdir()]
+    replies = [(words[0], (case / 'stdout').read_text()) for case, words in cases if words and words[0] in READ]
     replies += [(mode, file.read_text()) for mode in READ for file in EXAMPLES.glob('*/%s.txt' % mode)]
     assert {mode for mode, _ in replies} == set(READ) and len(replies) > 40, len(replies)
     for mode, reply in replies:
-        if reply.startswith(('no such', 'certificate refused')) or 'Yes' in reply:
+        if reply.startswith(('no such', 'certificate refused', 'missing file')) or 'Yes' in reply:
             continue
         parts = READ[mode][1](reply, line_at)
         lines = reply.partition('\ncatala-dead ')[0].strip('\n').split('\n')
@@ -261,11 +261,11 @@ def tables_and_rules_are_taken_apart_whole(office: Office) -> None:
 
 
 def tables_are_asked_for_where_the_program_has_them(office: Office) -> None:
-    text = (TOP / 'tests' / 'coming' / 'a_dead_certificate_is_accepted' / 'a.md').read_text()
-    with office.with_modes(False).serves(office.folder(law_md=text)) as served:
+    text = (TOP / 'tests' / 'cases' / 'a_dead_certificate_is_accepted' / 'a.md').read_text()
+    with office.without_tables().serves(office.folder(law_md=text)) as served:
         assert served.parts('law', {})[0]['modes'] == []
         assert served.parts('tables', {**law(text), 'scopes': ['S'], 'job': '1'}) == []
-    with office.with_modes(True).serves(office.folder(law_md=text)) as served:
+    with office.serves(office.folder(law_md=text)) as served:
         assert served.parts('law', {})[0]['modes'] == ['table', 'dead']
         first, last = served.parts('tables', {**law(text), 'scopes': ['S'], 'job': '1'})
         rows = [([one['front'] for one in row['asks']], row['places'][0]['line']) for row in first['table'][0]['rows'] if row['places']]

@@ -120,7 +120,7 @@ def an_output_is_drawn_along_an_input(office: Office, browser: Browser) -> None:
 
 
 def each_row_of_a_table_is_tied_to_its_rule(office: Office, browser: Browser) -> None:
-    with shown(office.with_modes(True), browser, '', law_md=DEAD) as (page, served):
+    with shown(office, browser, '', law_md=DEAD) as (page, served):
         page.wait(SUMMARY % 'table' + ' === "1 rule never decides"', 'what the rules do')
         dead = '[...document.querySelectorAll(".line")].filter((row) => row.querySelector(".on-dead")).map((row) => row.textContent.trim())'
         equal(page.value(dead), ['label a definition x under condition n > 5', 'consequence equals 1'], 'the lines that are grey')
@@ -144,7 +144,7 @@ def each_row_of_a_table_is_tied_to_its_rule(office: Office, browser: Browser) ->
 
 
 def a_program_without_tables_has_no_panel_of_them(office: Office, browser: Browser) -> None:
-    with shown(office.with_modes(False), browser, '', law_md=DEAD) as (page, served):
+    with shown(office.without_tables(), browser, '', law_md=DEAD) as (page, served):
         names = '[...document.querySelectorAll("[role=tab]")].map((tab) => tab.firstChild.textContent)'
         equal(page.value(names), ['Law', 'Faults', 'Audit', 'Run', 'Picture', 'Cases'], 'the panels')
 

@@ -68,12 +68,11 @@ class Office:
             process.wait()
             process.stdout.close()
 
-    def with_modes(self, has_them: bool) -> 'Office':
-        """The same with a program that has the modes of tables, by the second implementation, or that has none of them."""
+    def without_tables(self) -> 'Office':
+        """The same with a program that hasn't the modes of tables yet."""
         path = self.program or subprocess.run([TOP / 'tools' / 'unpack'], stdout=subprocess.PIPE, text=True, check=True).stdout.strip()
-        script = self.room / ('with_modes' if has_them else 'without_modes')
-        answers = 'exec "%s" "%s" "$@"' % (sys.executable, TOP / 'tools' / 'second') if has_them else 'echo "usage: as ever"; exit 9'
-        script.write_text('#!/bin/sh\ncase $1 in table|dead) %s ;; esac\nexec "%s" "$@"\n' % (answers, path))
+        script = self.room / 'without_tables'
+        script.write_text('#!/bin/sh\ncase $1 in table|dead) echo "usage: as ever"; exit 9 ;; esac\nexec "%s" "$@"\n' % path)
         script.chmod(0o755)
         other = copy.copy(self)
         other.program = script

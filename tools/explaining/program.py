@@ -5,7 +5,7 @@ from typing import List, NamedTuple, Optional
 HERE = pathlib.Path(sys.argv[0]).resolve().parent
 BLOCK = 65_536
 OUTPUT_FAILED, NOT_FOUND = 12, 127
-MODES = ('run', 'audit', 'check', 'emit', 'trace', 'many', 'table', 'drill')
+MODES = ('run', 'audit', 'check', 'emit', 'trace', 'many', 'table', 'dead', 'drill')
 
 
 class Words(NamedTuple):

@@ -5,7 +5,7 @@ from typing import List
 from reference.answers import Program
 from reference.report import Scoped
 
-from . import audits, inputs, outcomes, refusals, warnings
+from . import audits, definitions, inputs, outcomes, refusals, warnings
 from .notes import Note, Place
 from .pages import Pages
 from .program import Ended, Words, reply_on
@@ -37,7 +37,7 @@ class Reply:
         return Program(self.source.files, self.source.main)
 
     def notes(self) -> List[Note]:
-        explained = {1: self.stopped, 2: self.stopped, 3: self.stopped, 4: self.refused, 5: self.input, 6: self.audit, 7: self.unsettled,
+        explained = {1: self.stopped, 2: self.stopped, 3: self.stopped, 4: self.refused, 5: self.input, 6: self.report, 7: self.report,
                      8: self.certificate, 9: self.named, 10: self.named, 11: self.named, 14: self.named}
         notes = explained[self.status]() if self.status in explained and self.words.mode != 'drill' else []
         is_built = self.source.is_small and self.status in ACCEPTED
@@ -82,19 +82,19 @@ class Reply:
             return [inputs.no_array(given, self.pages, code)]
         return inputs.notes_of(given, self.pages, code, path)
 
-    def audit(self) -> List[Note]:
-        program = self.program() if self.source.is_small else None
-        return audits.notes_of(self.text, self.source, self.pages, program, self.run)
-
-    def unsettled(self) -> List[Note]:
+    def report(self) -> List[Note]:
         if self.words.mode == 'table':
             part = self.pages.of_line('rest not shown')
             return [Note('reply', 'rest not shown', '', [], [part.sentence], [part.mend])]
-        return self.audit()
+        program = self.program() if self.source.is_small else None
+        if self.words.mode == 'dead':
+            return definitions.notes_of(self.text, self.source, self.pages, program, self.words.scope)
+        return audits.notes_of(self.text, self.source, self.pages, program, self.run)
 
     def certificate(self) -> List[Note]:
         code, line = CERTIFICATE.fullmatch(self.text).groups()
-        part, = self.pages.certificate(code)
+        is_open = self.words.mode == 'dead' and code == 'C3'
+        part = self.pages.of_line('A leaf that is open') if is_open else self.pages.certificate(code)[0]
         name = self.words.extra or '-'
         lines = self.source.files.lines(name) if self.source.files.content(name) is not None and line else []
         shown = lines[int(line) - 1] if line and int(line) <= len(lines) else ''

@@ -17,13 +17,15 @@ use Rattle.cat_weave.specs.declared.source.Source.{Source}
 use Rattle.cat_weave.specs.Gathered.{Contents, Whole, gathered, limit_after}
 use Rattle.cat_weave.specs.Causes.{ComesTo}
 use Rattle.cat_build.specs.Accepted.{IsAccepted}
-use Rattle.cat_app.specs.Modes.{reads_extra, runs_scope, shows_tables}
+use Rattle.cat_app.specs.Modes.{asks_dead, reads_extra, runs_scope, shows_tables}
 use Rattle.cat_app.specs.Words.{Ask, OfBands, OfScope, Request, ask_of, request_in}
 use Rattle.cat_app.specs.Asked.{IsSource, IsExtra, IsReadNow}
 use Rattle.cat_app.specs.Answers.{IsOutcome, IsRefusedFile, IsRefusedSource, IsNoScope}
 use Rattle.cat_app.specs.Audits.{HasReport, IsAudited, audit_text, status_at}
+use Rattle.cat_app.specs.Deads.{TellsDead}
 use Rattle.cat_app.specs.Table.{AnswersAtOnce, MayAnswer, MayAnswerTo, MayReply}
 use Rattle.cat_app.specs.declared.request.Mode.TheVariants.{Audit, Check, Emit, Many, OneTable}
+use Rattle.cat_app.proofs.DeadAsked.{dead_asked}
 use Rattle.cat_app.proofs.ToldSources.{AreNotAccepted, EndingsAreTold, IsOneProgram, no_refused_file, no_refused_source}
 use Rattle.cat_app.proofs.ToldSources.{scope_is_there, told_program, told_scope, told_source}
 use Rattle.cat_app.specs.Complete.{EndsCheck, IsToldCheck, IsToldScope}
@@ -180,6 +182,9 @@ module _ (one_program : IsOneProgram) (not_accepted : AreNotAccepted) (endings :
     not_one_table : request.mode ≡ OneTable → ⊥
     not_one_table one = cc (one, audits)
 
+    not_dead : (ended : Status) (text : List ℕ) → TellsDead request old new ended text → ⊥
+    not_dead ended text t = cc (ap asks_dead audits, dead_asked request old new ended text t)
+
     not_read : IsTrue (reads_extra request.mode) → ⊥
     not_read reads = cc (ap reads_extra audits, reads)
 
@@ -191,7 +196,8 @@ module _ (one_program : IsOneProgram) (not_accepted : AreNotAccepted) (endings :
     ends_audit status.Fine is = ⊎_elim (λ o. absurd (no_outcome status.Fine is.0 o))
         (⊎_elim (λ a. report_written status.Fine is.0 a is.2)
         (⊎_elim (λ k. absurd (not_check k.mode))
-        (⊎_elim (λ l. absurd (not_emit l.mode)) (λ d. absurd (not_table d.mode)))))
+        (⊎_elim (λ l. absurd (not_emit l.mode))
+        (⊎_elim (λ d. absurd (not_table d.mode)) (λ t. absurd (not_dead status.Fine is.0 t))))))
         (answer_is status.Fine is.0 is.1)
     ends_audit status.Conflict is =
         absurd (no_outcome status.Conflict is.0 (answer_is status.Conflict is.0 is.1))
@@ -202,12 +208,13 @@ module _ (one_program : IsOneProgram) (not_accepted : AreNotAccepted) (endings :
     ends_audit status.Source is = absurd (refused_source is.0 is.1)
     ends_audit status.Input is =
         ⊎_elim (λ i. absurd (not_run i.mode)) (λ a. absurd (not_many a.mode)) (answer_is status.Input is.0 is.1)
-    ends_audit status.Found is =
-        report_written status.Found is.0 (answer_is status.Found is.0 is.1) is.2
+    ends_audit status.Found is = ⊎_elim (λ a. report_written status.Found is.0 a is.2)
+        (λ t. absurd (not_dead status.Found is.0 t)) (answer_is status.Found is.0 is.1)
     ends_audit status.Unsettled is = ⊎_elim (λ a. report_written status.Unsettled is.0 a is.2)
-        (λ d. absurd (not_table d.mode)) (answer_is status.Unsettled is.0 is.1)
-    ends_audit status.Certificate is =
-        let refused = answer_is status.Certificate is.0 is.1 in absurd (not_check refused.mode)
+        (⊎_elim (λ d. absurd (not_table d.mode)) (λ t. absurd (not_dead status.Unsettled is.0 t)))
+        (answer_is status.Unsettled is.0 is.1)
+    ends_audit status.Certificate is = ⊎_elim (λ k. absurd (not_check k.mode))
+        (λ t. absurd (not_dead status.Certificate is.0 t)) (answer_is status.Certificate is.0 is.1)
     ends_audit status.Usage is = absurd (refused_usage not_one_table is.0 is.1)
     ends_audit status.Missing is =
         let read = answer_is status.Missing is.0 is.1 in
@@ -273,6 +280,9 @@ module _ (one_program : IsOneProgram) (not_accepted : AreNotAccepted) (endings :
     check_one_table : request.mode ≡ OneTable → ⊥
     check_one_table one = cc (one, check.mode)
 
+    check_dead : (ended : Status) (text : List ℕ) → TellsDead request old new ended text → ⊥
+    check_dead ended text t = cc (ap asks_dead check.mode, dead_asked request old new ended text t)
+
     no_outcome_checked : (ended : Status) (text : List ℕ) → IsOutcome request old new ended text → ⊥
     no_outcome_checked ended text o = check_runs o.mode
 
@@ -284,7 +294,8 @@ module _ (one_program : IsOneProgram) (not_accepted : AreNotAccepted) (endings :
     ends_check status.Fine is = ⊎_elim (λ o. absurd (no_outcome_checked status.Fine is.0 o))
         (⊎_elim (λ a. absurd (no_audit_checked status.Fine is.0 a))
         (⊎_elim (λ k. (is.0, said_here HasCertificate is.0 k, is.2.taken))
-        (⊎_elim (λ l. absurd (check_emits l.mode)) (λ d. absurd (check_tables d.mode)))))
+        (⊎_elim (λ l. absurd (check_emits l.mode))
+        (⊎_elim (λ d. absurd (check_tables d.mode)) (λ t. absurd (check_dead status.Fine is.0 t))))))
         (answer_is status.Fine is.0 is.1)
     ends_check status.Conflict is = absurd
         (no_outcome_checked status.Conflict is.0 (answer_is status.Conflict is.0 is.1))
@@ -295,15 +306,12 @@ module _ (one_program : IsOneProgram) (not_accepted : AreNotAccepted) (endings :
     ends_check status.Source is = absurd (refused_source is.0 is.1)
     ends_check status.Input is =
         ⊎_elim (λ i. absurd (check_runs i.mode)) (λ a. absurd (check_many a.mode)) (answer_is status.Input is.0 is.1)
-    ends_check status.Found is = absurd
-        (no_audit_checked status.Found is.0 (answer_is status.Found is.0 is.1))
+    ends_check status.Found is = absurd (⊎_elim (no_audit_checked status.Found is.0)
+        (check_dead status.Found is.0) (answer_is status.Found is.0 is.1))
     ends_check status.Unsettled is = absurd (⊎_elim (no_audit_checked status.Unsettled is.0)
-        (λ d. check_tables d.mode) (answer_is status.Unsettled is.0 is.1))
-    ends_check status.Certificate is = (
-      is.0,
-      said_here HasNoCertificate is.0 (answer_is status.Certificate is.0 is.1),
-      is.2.taken,
-    )
+        (⊎_elim (λ d. check_tables d.mode) (check_dead status.Unsettled is.0)) (answer_is status.Unsettled is.0 is.1))
+    ends_check status.Certificate is = ⊎_elim (λ k. (is.0, said_here HasNoCertificate is.0 k, is.2.taken))
+        (λ t. absurd (check_dead status.Certificate is.0 t)) (answer_is status.Certificate is.0 is.1)
     ends_check status.Usage is = absurd (refused_usage check_one_table is.0 is.1)
     ends_check status.Missing is =
         let read = answer_is status.Missing is.0 is.1 in

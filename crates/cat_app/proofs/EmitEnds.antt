@@ -5,10 +5,11 @@ use Rattle.cat_io.specs.Shelf.{Shelved}
 use Rattle.cat_io.specs.Sink.{Sunk}
 use Rattle.cat_scope.specs.declared.programs.Program.{Program}
 use Rattle.cat_weave.specs.declared.source.Source.{Source}
-use Rattle.cat_app.specs.Modes.{reads_extra, runs_scope, shows_tables}
+use Rattle.cat_app.specs.Modes.{asks_dead, reads_extra, runs_scope, shows_tables}
 use Rattle.cat_app.specs.Words.{Request}
 use Rattle.cat_app.specs.Complete.{IsToldScope}
 use Rattle.cat_app.specs.EmitEnds.{EndsEmit}
+use Rattle.cat_app.specs.Deads.{TellsDead}
 use Rattle.cat_app.specs.Listings.{IsListed, ListsCode}
 use Rattle.cat_app.specs.Asked.{IsReadNow}
 use Rattle.cat_app.specs.Table.{AnswersAtOnce, MayAnswer, MayReply}
@@ -17,6 +18,7 @@ use Rattle.cat_app.specs.declared.status.Status.{Status}
 use Rattle.cat_app.specs.declared.status.Status.TheVariants as status
 use Rattle.cat_app.proofs.Complete.{FilesAreTold, answer_is, none_large, none_missing, program_of, refused_source}
 use Rattle.cat_app.proofs.Complete.{refused_usage, source_is}
+use Rattle.cat_app.proofs.DeadAsked.{dead_asked}
 use Rattle.cat_app.proofs.ToldSources.{AreNotAccepted, EndingsAreTold, IsOneProgram}
 
 module _ (one_program : IsOneProgram) (not_accepted : AreNotAccepted) (endings : EndingsAreTold) (files : FilesAreTold)
@@ -47,6 +49,9 @@ module _ (one_program : IsOneProgram) (not_accepted : AreNotAccepted) (endings :
   tables : IsTrue (shows_tables request.mode) → ⊥
   tables is = cc (ap shows_tables emits, is)
 
+  no_dead : (ended : Status) (text : List ℕ) → TellsDead request old new ended text → ⊥
+  no_dead ended text t = cc (ap asks_dead emits, dead_asked request old new ended text t)
+
   unread : IsTrue (reads_extra request.mode) → ⊥
   unread reads = cc (ap reads_extra emits, reads)
 
@@ -76,7 +81,8 @@ module _ (one_program : IsOneProgram) (not_accepted : AreNotAccepted) (endings :
   ends_emit status.Fine is = ⊎_elim (λ o. absurd (runs o.mode))
       (⊎_elim (λ a. absurd (audits a.mode))
       (⊎_elim (λ k. absurd (checks k.mode))
-      (⊎_elim (λ l. (is.0, code_listed is.0 l, is.2.taken)) (λ d. absurd (tables d.mode)))))
+      (⊎_elim (λ l. (is.0, code_listed is.0 l, is.2.taken))
+      (⊎_elim (λ d. absurd (tables d.mode)) (λ t. absurd (no_dead status.Fine is.0 t))))))
       (answered status.Fine is.0 is.1)
   ends_emit status.Conflict is = let o = answered status.Conflict is.0 is.1 in absurd (runs o.mode)
   ends_emit status.NoValue is = let o = answered status.NoValue is.0 is.1 in absurd (runs o.mode)
@@ -84,10 +90,12 @@ module _ (one_program : IsOneProgram) (not_accepted : AreNotAccepted) (endings :
   ends_emit status.Source is = absurd (no_refusal is.0 is.1)
   ends_emit status.Input is =
       ⊎_elim (λ i. absurd (runs i.mode)) (λ a. absurd (many a.mode)) (answered status.Input is.0 is.1)
-  ends_emit status.Found is = let o = answered status.Found is.0 is.1 in absurd (audits o.mode)
-  ends_emit status.Unsettled is =
-      ⊎_elim (λ a. absurd (audits a.mode)) (λ d. absurd (tables d.mode)) (answered status.Unsettled is.0 is.1)
-  ends_emit status.Certificate is = let o = answered status.Certificate is.0 is.1 in absurd (checks o.mode)
+  ends_emit status.Found is =
+      absurd (⊎_elim (λ a. audits a.mode) (no_dead status.Found is.0) (answered status.Found is.0 is.1))
+  ends_emit status.Unsettled is = absurd (⊎_elim (λ a. audits a.mode)
+      (⊎_elim (λ d. tables d.mode) (no_dead status.Unsettled is.0)) (answered status.Unsettled is.0 is.1))
+  ends_emit status.Certificate is =
+      absurd (⊎_elim (λ k. checks k.mode) (no_dead status.Certificate is.0) (answered status.Certificate is.0 is.1))
   ends_emit status.Usage is = absurd (no_usage is.0 is.1)
   ends_emit status.Missing is =
       let read = answered status.Missing is.0 is.1 in

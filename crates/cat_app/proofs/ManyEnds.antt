@@ -7,9 +7,10 @@ use Rattle.cat_io.specs.Sink.{Sunk}
 use Rattle.cat_scope.specs.declared.programs.Program.{Program}
 use Rattle.cat_json.specs.InputsRead.{inputs_read}
 use Rattle.cat_weave.specs.declared.source.Source.{Source}
-use Rattle.cat_app.specs.Modes.{runs_scope, shows_tables}
+use Rattle.cat_app.specs.Modes.{asks_dead, runs_scope, shows_tables}
 use Rattle.cat_app.specs.Words.{Request, request_of}
 use Rattle.cat_app.specs.Asked.{IsAsked, IsExtra, IsReadNow}
+use Rattle.cat_app.specs.Deads.{TellsDead}
 use Rattle.cat_app.specs.Many.{AnswersByLine, AreLines, IsAskedMany, IsRefusedArray, ReadInput}
 use Rattle.cat_app.specs.ManyEnds.{EndsMany, IsToldMany, WritesLines}
 use Rattle.cat_app.specs.Table.{Answers, AnswersAtOnce, MayAnswer, MayReply}
@@ -19,6 +20,7 @@ use Rattle.cat_app.specs.declared.status.Status.TheVariants as status
 use Rattle.cat_app.proofs.Answering.{asked_here}
 use Rattle.cat_app.proofs.Complete.{FilesAreTold, answer_is, extra_is, not_large, not_missing, program_of}
 use Rattle.cat_app.proofs.Complete.{refused_source, refused_usage, scope_of, source_is}
+use Rattle.cat_app.proofs.DeadAsked.{dead_asked}
 use Rattle.cat_app.proofs.ManyLemmas.{nothing_more}
 use Rattle.cat_app.proofs.ToldSources.{AreNotAccepted, EndingsAreTold, IsOneProgram}
 
@@ -77,6 +79,9 @@ module _ (one_program : IsOneProgram) (not_accepted : AreNotAccepted) (endings :
   tables : IsTrue (shows_tables request.mode) → ⊥
   tables is = cc (ap shows_tables many.mode, is)
 
+  no_dead : (ended : Status) (text : List ℕ) → TellsDead request old new ended text → ⊥
+  no_dead ended text t = cc (ap asks_dead many.mode, dead_asked request old new ended text t)
+
   -- what is read of the array is this
   module _ (others : Source) (other : Program) (number : ℕ) (bytes : List ℕ)
       (asked : IsAsked request old others other number) (read : IsExtra request old bytes) where
@@ -126,7 +131,8 @@ module _ (one_program : IsOneProgram) (not_accepted : AreNotAccepted) (endings :
       → EndsMany sink sunk source program scope inputs ended
   at_once status.Fine is = ⊎_elim (λ o. absurd (runs o.mode))
       (⊎_elim (λ a. absurd (audits a.mode)) (⊎_elim (λ k. absurd (checks k.mode))
-      (⊎_elim (λ l. absurd (lists l.mode)) (λ d. absurd (tables d.mode)))))
+      (⊎_elim (λ l. absurd (lists l.mode))
+      (⊎_elim (λ d. absurd (tables d.mode)) (λ t. absurd (no_dead status.Fine is.0 t))))))
       (answered status.Fine is.0 is.1)
   at_once status.Conflict is = let o = answered status.Conflict is.0 is.1 in absurd (runs o.mode)
   at_once status.NoValue is = let o = answered status.NoValue is.0 is.1 in absurd (runs o.mode)
@@ -134,10 +140,12 @@ module _ (one_program : IsOneProgram) (not_accepted : AreNotAccepted) (endings :
   at_once status.Source is = absurd (no_refusal is.0 is.1)
   at_once status.Input is =
       ⊎_elim (λ i. absurd (runs i.mode)) (λ a. absurd (no_array is.0 a)) (answered status.Input is.0 is.1)
-  at_once status.Found is = let a = answered status.Found is.0 is.1 in absurd (audits a.mode)
-  at_once status.Unsettled is =
-      ⊎_elim (λ a. absurd (audits a.mode)) (λ d. absurd (tables d.mode)) (answered status.Unsettled is.0 is.1)
-  at_once status.Certificate is = let k = answered status.Certificate is.0 is.1 in absurd (checks k.mode)
+  at_once status.Found is =
+      absurd (⊎_elim (λ a. audits a.mode) (no_dead status.Found is.0) (answered status.Found is.0 is.1))
+  at_once status.Unsettled is = absurd (⊎_elim (λ a. audits a.mode)
+      (⊎_elim (λ d. tables d.mode) (no_dead status.Unsettled is.0)) (answered status.Unsettled is.0 is.1))
+  at_once status.Certificate is =
+      absurd (⊎_elim (λ k. checks k.mode) (no_dead status.Certificate is.0) (answered status.Certificate is.0 is.1))
   at_once status.Usage is = absurd (no_usage is.0 is.1)
   at_once status.Missing is =
       let read = answered status.Missing is.0 is.1 in

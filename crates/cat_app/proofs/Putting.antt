@@ -9,6 +9,7 @@ use Rattle.cat_app.specs.Table.{Answers, AnswersAtOnce, MayAnswer, MayAnswerTo}
 use Rattle.cat_app.specs.Complete.{is_reply}
 use Rattle.cat_app.specs.declared.status.Status.{Status}
 use Rattle.cat_app.specs.declared.status.Status.TheVariants as status
+use Rattle.cat_app.proofs.DeadAsked.{dead_untouched}
 
 -- ---- where the shelf is as it was
 
@@ -16,15 +17,19 @@ untouched_answer : (request : Request) (old new : Shelved) (ended : Status) (tex
     → MayAnswer request old new ended text → new ≡ old
 untouched_answer request old new status.Fine text is may =
     ⊎_elim (λ o. o.untouched) (⊎_elim (λ a. a.untouched) (⊎_elim (λ k. k.untouched)
-    (⊎_elim (λ l. l.untouched) (λ d. d.untouched)))) may
+    (⊎_elim (λ l. l.untouched) (⊎_elim (λ d. d.untouched) (dead_untouched request old new status.Fine text))))) may
 untouched_answer request old new status.Conflict text is may = may.untouched
 untouched_answer request old new status.NoValue text is may = may.untouched
 untouched_answer request old new status.Fault text is may = may.untouched
 untouched_answer request old new status.Source text is may = ⊎_elim (λ f. f.untouched) (λ s. s.untouched) may
 untouched_answer request old new status.Input text is may = ⊎_elim (λ i. i.untouched) (λ a. a.untouched) may
-untouched_answer request old new status.Found text is may = may.untouched
-untouched_answer request old new status.Unsettled text is may = ⊎_elim (λ a. a.untouched) (λ d. d.untouched) may
-untouched_answer request old new status.Certificate text is may = may.untouched
+untouched_answer request old new status.Found text is may =
+    ⊎_elim (λ a. a.untouched) (dead_untouched request old new status.Found text) may
+untouched_answer request old new status.Unsettled text is may =
+    ⊎_elim (λ a. a.untouched)
+    (⊎_elim (λ d. d.untouched) (dead_untouched request old new status.Unsettled text)) may
+untouched_answer request old new status.Certificate text is may =
+    ⊎_elim (λ k. k.untouched) (dead_untouched request old new status.Certificate text) may
 untouched_answer request old new status.Usage text is may = ⊎_elim (λ n. n.untouched) (λ t. t.untouched) may
 untouched_answer request old new status.Missing text is may = cc is
 untouched_answer request old new status.ReadFault text is may = cc is

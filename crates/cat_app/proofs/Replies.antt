@@ -143,6 +143,8 @@ run_reads modes.Emit is = is
 run_reads modes.Many is = refl
 run_reads modes.AllTables is = is
 run_reads modes.OneTable is = is
+run_reads modes.Dead is = is
+run_reads modes.DeadCheck is = refl
 
 -- the input is none of the scope's
 pub no_input : (request : Request) (old new : Shelved) (source : Source) (program : Program) (scope : ℕ)
@@ -226,7 +228,7 @@ an_outcome request old new source program scope extra input reply extra_read sam
 -- a report answers with the status of its last verdict
 report_answers : (request : Request) (old new : Shelved) (v : Verdict) (text : List ℕ)
     → IsAudited request old new (status_at v) text → MayAnswer request old new (status_at v) text
-report_answers request old new verdict.Found text is = is
+report_answers request old new verdict.Found text is = inl is
 report_answers request old new verdict.Masked text is = inl is
 report_answers request old new verdict.Undecided text is = inl is
 report_answers request old new verdict.Complete text is = inr (inl is)
@@ -289,8 +291,8 @@ a_check request old new source program scope extra reply extra_read same asked m
     rw yes_says.0 (inr (inr (inl (is_checked HasCertificate request old new source program scope extra
     (string_bytes reply.text) extra_read same asked mode yes_says.1))))
 a_check request old new source program scope extra reply extra_read same asked mode (inr no_says) =
-    rw no_says.0 (is_checked HasNoCertificate request old new source program scope extra (string_bytes reply.text)
-    extra_read same asked mode no_says.1)
+    rw no_says.0 (inl (is_checked HasNoCertificate request old new source program scope extra (string_bytes reply.text)
+    extra_read same asked mode no_says.1))
 
 -- the code that is built is listed
 pub a_listing : (request : Request) (old new : Shelved) (source : Source) (built : Built) (scope : ℕ) (reply : Reply)

@@ -10,10 +10,11 @@ use Rattle.cat_scope.specs.declared.programs.Program.{Program}
 use Rattle.cat_json.specs.InputsRead.{input_read}
 use Rattle.cat_answer.specs.Answer.{answer_of}
 use Rattle.cat_weave.specs.declared.source.Source.{Source}
-use Rattle.cat_app.specs.Modes.{runs_scope, shows_tables}
+use Rattle.cat_app.specs.Modes.{asks_dead, runs_scope, shows_tables}
 use Rattle.cat_app.specs.Words.{Request}
 use Rattle.cat_app.specs.Asked.{IsExtra, IsReadNow}
 use Rattle.cat_app.specs.Answers.{IsOutcome, IsRefusedInput, TellsOutcome}
+use Rattle.cat_app.specs.Deads.{TellsDead}
 use Rattle.cat_app.specs.Lines.{line}
 use Rattle.cat_app.specs.Complete.{EndsRun, IsToldRun, IsToldScope, WritesOutcome}
 use Rattle.cat_app.specs.EmitEnds.{EndsEmitRun, EndsTold, IsToldEmitRun}
@@ -21,11 +22,12 @@ use Rattle.cat_app.specs.TraceEnds.{EndsTrace, IsToldTrace}
 use Rattle.cat_app.specs.Table.{AnswersAtOnce, MayAnswer, MayReply}
 use Rattle.cat_app.specs.declared.request.Mode.{Mode}
 use Rattle.cat_app.specs.declared.request.Mode.TheVariants.{Run, Audit, Check, Emit, EmitRun, Trace, Many}
-use Rattle.cat_app.specs.declared.request.Mode.TheVariants.{AllTables, OneTable}
+use Rattle.cat_app.specs.declared.request.Mode.TheVariants.{AllTables, OneTable, Dead, DeadCheck}
 use Rattle.cat_app.specs.declared.status.Status.{Status}
 use Rattle.cat_app.specs.declared.status.Status.TheVariants as status
 use Rattle.cat_app.proofs.Complete.{FilesAreTold, answer_is, extra_is, not_large, not_missing, program_of}
 use Rattle.cat_app.proofs.Complete.{refused_source, refused_usage, scope_of, source_is}
+use Rattle.cat_app.proofs.DeadAsked.{dead_asked}
 use Rattle.cat_app.proofs.ToldSources.{AreNotAccepted, EndingsAreTold, IsOneProgram}
 
 -- a mode that runs the scope shows no tables
@@ -33,6 +35,12 @@ runs_none : (mode : Mode) → IsTrue (runs_scope mode) → IsTrue (shows_tables 
 runs_none AllTables runs shows = cc runs
 runs_none OneTable runs shows = cc runs
 runs_none _ runs shows = cc shows
+
+-- nor does it ask for dead definitions
+runs_no_dead : (mode : Mode) → IsTrue (runs_scope mode) → IsTrue (asks_dead mode) → ⊥
+runs_no_dead Dead runs asks = cc runs
+runs_no_dead DeadCheck runs asks = cc runs
+runs_no_dead _ runs asks = cc asks
 
 module _ (one_program : IsOneProgram) (not_accepted : AreNotAccepted) (endings : EndingsAreTold) (files : FilesAreTold)
     (words : List (List ℕ)) (old new : Shelved) (sink sunk : Sunk) (request : Request) (source : Source)
@@ -80,6 +88,9 @@ module _ (one_program : IsOneProgram) (not_accepted : AreNotAccepted) (endings :
   tables : IsTrue (shows_tables request.mode) → ⊥
   tables = runs_none request.mode runs
 
+  no_dead : (ended : Status) (text : List ℕ) → TellsDead request old new ended text → ⊥
+  no_dead ended text t = runs_no_dead request.mode runs (dead_asked request old new ended text t)
+
   -- what is read of the input is this
   read_as : (other : Program) (number : ℕ) (bytes : List ℕ) → program ≡ other → scope ≡ number → bytes ≡ extra
       → input_read other.decls number bytes ≡ Ok input
@@ -125,7 +136,8 @@ module _ (one_program : IsOneProgram) (not_accepted : AreNotAccepted) (endings :
   ends_fine : (text : List ℕ) → MayReply words old new status.Fine text → Took sink sunk text → Ends status.Fine
   ends_fine text may took = ⊎_elim (λ o. ends_told status.Fine text o took)
       (⊎_elim (λ a. absurd (audits a.mode)) (⊎_elim (λ k. absurd (checks k.mode))
-      (⊎_elim (λ l. absurd (lists l.mode)) (λ d. absurd (tables d.mode)))))
+      (⊎_elim (λ l. absurd (lists l.mode))
+      (⊎_elim (λ d. absurd (tables d.mode)) (λ t. absurd (no_dead status.Fine text t))))))
       (answered status.Fine text may)
 
   -- ---- of a run
@@ -154,10 +166,12 @@ module _ (one_program : IsOneProgram) (not_accepted : AreNotAccepted) (endings :
     ends_run status.Source is = absurd (no_refusal is.0 is.1)
     ends_run status.Input is =
         ⊎_elim (λ i. absurd (no_input is.0 i)) (λ a. absurd (many a.mode)) (answered status.Input is.0 is.1)
-    ends_run status.Found is = let a = answered status.Found is.0 is.1 in absurd (audits a.mode)
-    ends_run status.Unsettled is =
-        ⊎_elim (λ a. absurd (audits a.mode)) (λ d. absurd (tables d.mode)) (answered status.Unsettled is.0 is.1)
-    ends_run status.Certificate is = let k = answered status.Certificate is.0 is.1 in absurd (checks k.mode)
+    ends_run status.Found is =
+        absurd (⊎_elim (λ a. audits a.mode) (no_dead status.Found is.0) (answered status.Found is.0 is.1))
+    ends_run status.Unsettled is = absurd (⊎_elim (λ a. audits a.mode)
+        (⊎_elim (λ d. tables d.mode) (no_dead status.Unsettled is.0)) (answered status.Unsettled is.0 is.1))
+    ends_run status.Certificate is =
+        absurd (⊎_elim (λ k. checks k.mode) (no_dead status.Certificate is.0) (answered status.Certificate is.0 is.1))
     ends_run status.Usage is = absurd (no_usage is.0 is.1)
     ends_run status.Missing is =
         let read = answered status.Missing is.0 is.1 in
@@ -193,10 +207,12 @@ module _ (one_program : IsOneProgram) (not_accepted : AreNotAccepted) (endings :
     ends_so status.Source is = absurd (no_refusal is.0 is.1)
     ends_so status.Input is =
         ⊎_elim (λ i. absurd (no_input is.0 i)) (λ a. absurd (many a.mode)) (answered status.Input is.0 is.1)
-    ends_so status.Found is = let a = answered status.Found is.0 is.1 in absurd (audits a.mode)
-    ends_so status.Unsettled is =
-        ⊎_elim (λ a. absurd (audits a.mode)) (λ d. absurd (tables d.mode)) (answered status.Unsettled is.0 is.1)
-    ends_so status.Certificate is = let k = answered status.Certificate is.0 is.1 in absurd (checks k.mode)
+    ends_so status.Found is =
+        absurd (⊎_elim (λ a. audits a.mode) (no_dead status.Found is.0) (answered status.Found is.0 is.1))
+    ends_so status.Unsettled is = absurd (⊎_elim (λ a. audits a.mode)
+        (⊎_elim (λ d. tables d.mode) (no_dead status.Unsettled is.0)) (answered status.Unsettled is.0 is.1))
+    ends_so status.Certificate is =
+        absurd (⊎_elim (λ k. checks k.mode) (no_dead status.Certificate is.0) (answered status.Certificate is.0 is.1))
     ends_so status.Usage is = absurd (no_usage is.0 is.1)
     ends_so status.Missing is =
         let read = answered status.Missing is.0 is.1 in

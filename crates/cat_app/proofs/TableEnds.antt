@@ -6,9 +6,10 @@ use Rattle.cat_io.specs.Sink.{Sunk, Took}
 use Rattle.std.specs.Io.KnownBytes.{Appends}
 use Rattle.cat_scope.specs.declared.programs.Program.{Program}
 use Rattle.cat_weave.specs.declared.source.Source.{Source}
-use Rattle.cat_app.specs.Modes.{reads_extra, runs_scope, shows_tables, wanted_by}
+use Rattle.cat_app.specs.Modes.{asks_dead, reads_extra, runs_scope, shows_tables, wanted_by}
 use Rattle.cat_app.specs.Words.{Request}
 use Rattle.cat_app.specs.Complete.{IsToldScope}
+use Rattle.cat_app.specs.Deads.{TellsDead}
 use Rattle.cat_app.specs.TableEnds.{EndsTable, WritesNoTarget, WritesTables}
 use Rattle.cat_app.specs.TargetTables.{HasNoTarget, HasTables, IsNoTarget, IsTabled}
 use Rattle.cat_app.specs.Answers.{IsNoScope}
@@ -20,6 +21,7 @@ use Rattle.cat_app.specs.declared.status.Status.{Status}
 use Rattle.cat_app.specs.declared.status.Status.TheVariants as status
 use Rattle.cat_app.proofs.Complete.{FilesAreTold, answer_is, none_large, none_missing, program_of, refused_source}
 use Rattle.cat_app.proofs.Complete.{scope_of, source_is}
+use Rattle.cat_app.proofs.DeadAsked.{dead_asked}
 use Rattle.cat_app.proofs.ToldSources.{AreNotAccepted, EndingsAreTold, IsOneProgram, scope_is_there}
 
 -- tables read no EXTRA
@@ -33,6 +35,12 @@ runs_nothing : (mode : Mode) → IsTrue (shows_tables mode) → IsTrue (runs_sco
 runs_nothing AllTables shows runs = cc runs
 runs_nothing OneTable shows runs = cc runs
 runs_nothing _ shows runs = cc shows
+
+-- nor do they ask for dead definitions
+shows_no_dead : (mode : Mode) → IsTrue (shows_tables mode) → IsTrue (asks_dead mode) → ⊥
+shows_no_dead AllTables shows asks = cc asks
+shows_no_dead OneTable shows asks = cc asks
+shows_no_dead _ shows asks = cc shows
 
 -- of many inputs none is shown
 pub no_table_of_many : (mode : Mode) → mode ≡ Many → IsTrue (shows_tables mode) → ⊥
@@ -64,6 +72,9 @@ module _ (one_program : IsOneProgram) (not_accepted : AreNotAccepted) (endings :
 
   many : request.mode ≡ Many → ⊥
   many is = no_table_of_many request.mode is tables
+
+  no_dead : (ended : Status) (text : List ℕ) → TellsDead request old new ended text → ⊥
+  no_dead ended text t = shows_no_dead request.mode tables (dead_asked request old new ended text t)
 
   unread : IsTrue (reads_extra request.mode) → ⊥
   unread = reads_nothing request.mode tables
@@ -124,7 +135,8 @@ module _ (one_program : IsOneProgram) (not_accepted : AreNotAccepted) (endings :
   ends_table status.Fine is = ⊎_elim (λ o. absurd (runs o.mode))
       (⊎_elim (λ a. absurd (audits a.mode))
       (⊎_elim (λ k. absurd (checks k.mode))
-      (⊎_elim (λ l. absurd (emits l.mode)) (λ d. tables_written status.Fine is.0 d is.2))))
+      (⊎_elim (λ l. absurd (emits l.mode))
+      (⊎_elim (λ d. tables_written status.Fine is.0 d is.2) (λ t. absurd (no_dead status.Fine is.0 t))))))
       (answered status.Fine is.0 is.1)
   ends_table status.Conflict is = let o = answered status.Conflict is.0 is.1 in absurd (runs o.mode)
   ends_table status.NoValue is = let o = answered status.NoValue is.0 is.1 in absurd (runs o.mode)
@@ -132,10 +144,13 @@ module _ (one_program : IsOneProgram) (not_accepted : AreNotAccepted) (endings :
   ends_table status.Source is = absurd (no_refusal is.0 is.1)
   ends_table status.Input is =
       ⊎_elim (λ i. absurd (runs i.mode)) (λ a. absurd (many a.mode)) (answered status.Input is.0 is.1)
-  ends_table status.Found is = let o = answered status.Found is.0 is.1 in absurd (audits o.mode)
+  ends_table status.Found is =
+      absurd (⊎_elim (λ a. audits a.mode) (no_dead status.Found is.0) (answered status.Found is.0 is.1))
   ends_table status.Unsettled is = ⊎_elim (λ a. absurd (audits a.mode))
-      (λ d. tables_written status.Unsettled is.0 d is.2) (answered status.Unsettled is.0 is.1)
-  ends_table status.Certificate is = let o = answered status.Certificate is.0 is.1 in absurd (checks o.mode)
+      (⊎_elim (λ d. tables_written status.Unsettled is.0 d is.2) (λ t. absurd (no_dead status.Unsettled is.0 t)))
+      (answered status.Unsettled is.0 is.1)
+  ends_table status.Certificate is =
+      absurd (⊎_elim (λ k. checks k.mode) (no_dead status.Certificate is.0) (answered status.Certificate is.0 is.1))
   ends_table status.Usage is = ⊎_elim (λ n. absurd (no_scope is.0 n)) (λ n. no_target_written is.0 n is.2)
       (answered status.Usage is.0 is.1)
   ends_table status.Missing is =

@@ -18,8 +18,8 @@ use Rattle.cat_app.specs.inside.SaysOfTables.{MaySayOfTarget, SaysTables}
 tables_answer : (request : Request) (old new : Shelved) (spent : Bool) (text : List ℕ)
     → IsTabled request old new (status_of_tables spent) text
     → MayAnswer request old new (status_of_tables spent) text
-tables_answer request old new true text is = inr is
-tables_answer request old new false text is = inr (inr (inr (inr is)))
+tables_answer request old new true text is = inr (inl is)
+tables_answer request old new false text is = inr (inr (inr (inr (inl is))))
 
 module _ (request : Request) (old new : Shelved) (source : Source) (program : Program) (scope most : ℕ) (reply : Reply)
     (same : new ≡ old) (asked : IsAsked request old source program scope) (most_is : IsMost request.cases most) where

@@ -5,6 +5,8 @@ pub mod Audits
 pub mod Checks
 pub mod Listings
 pub mod TargetTables
+pub mod DeadChecks
+pub mod Deads
 pub mod Drills
 pub mod Asked
 pub mod Modes
@@ -13,6 +15,7 @@ pub mod Status
 pub mod Complete
 pub mod AuditEnds
 pub mod TableEnds
+pub mod DeadEnds
 pub mod DrillEnds
 pub mod Limits
 pub mod EmitEnds

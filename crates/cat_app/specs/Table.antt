@@ -8,6 +8,7 @@ use Rattle.cat_app.specs.Answers.{IsOutcome, IsRefusedFile, IsRefusedSource, IsN
 use Rattle.cat_app.specs.Answers.{IsRefusedRead}
 use Rattle.cat_app.specs.Audits.{IsAudited}
 use Rattle.cat_app.specs.Checks.{HasCertificate, HasNoCertificate, IsChecked}
+use Rattle.cat_app.specs.Deads.{TellsDead}
 use Rattle.cat_app.specs.Listings.{IsListed}
 use Rattle.cat_app.specs.Many.{AnswersByLine, IsRefusedArray}
 use Rattle.cat_app.specs.TargetTables.{IsNoTarget, IsTabled}
@@ -22,16 +23,19 @@ abbrev pub MayAnswer : Request → Shelved → Shelved → Status → List ℕ �
 MayAnswer request old new Fine text =
     IsOutcome request old new Fine text ⊎ (IsAudited request old new Fine text
     ⊎ (IsChecked HasCertificate request old new text
-    ⊎ (IsListed request old new text ⊎ IsTabled request old new Fine text)))
+    ⊎ (IsListed request old new text
+    ⊎ (IsTabled request old new Fine text ⊎ TellsDead request old new Fine text))))
 MayAnswer request old new Conflict text = IsOutcome request old new Conflict text
 MayAnswer request old new NoValue text = IsOutcome request old new NoValue text
 MayAnswer request old new Fault text = IsOutcome request old new Fault text
 MayAnswer request old new Source text = IsRefusedFile request old new text ⊎ IsRefusedSource request old new text
 MayAnswer request old new Input text = IsRefusedInput request old new text ⊎ IsRefusedArray request old new text
-MayAnswer request old new Found text = IsAudited request old new Found text
+MayAnswer request old new Found text = IsAudited request old new Found text ⊎ TellsDead request old new Found text
 MayAnswer request old new Unsettled text =
-    IsAudited request old new Unsettled text ⊎ IsTabled request old new Unsettled text
-MayAnswer request old new Certificate text = IsChecked HasNoCertificate request old new text
+    IsAudited request old new Unsettled text
+    ⊎ (IsTabled request old new Unsettled text ⊎ TellsDead request old new Unsettled text)
+MayAnswer request old new Certificate text =
+    IsChecked HasNoCertificate request old new text ⊎ TellsDead request old new Certificate text
 MayAnswer request old new Usage text = IsNoScope request old new text ⊎ IsNoTarget request old new text
 MayAnswer request old new Missing text = IsRefusedRead request old new shelf.Missing (codes "missing file ") text
 MayAnswer request old new ReadFault text = IsRefusedRead request old new shelf.Failed (codes "read fault ") text

@@ -10,8 +10,8 @@ use Rattle.cat_app.specs.Modes.{mode_by}
 use Rattle.cat_app.specs.declared.request.Mode.{Mode}
 
 -- a mode and the scope of this name, with the names of the source and of the input or the certificate, which neither an
--- audit has nor an emit of the code alone, or that of the target whose table is asked for, and the text of the number
--- of cases, which an audit and a table look at
+-- audit has nor an emit of the code alone nor a report on definitions, or that of the target whose table is asked for,
+-- and the text of the number of cases, which an audit, a table and such a report look at
 pub record Request : Type 0 where
   pub mode : Mode
   pub scope : List ℕ
@@ -56,8 +56,8 @@ ask_by cases asked =
     if bytes_eq asked.mode (codes "drill") then option_map OfBands (bands_by asked)
     else option_map OfScope (request_by cases asked)
 
--- the words `MODE SCOPE FILE [EXTRA]` with `run`, `check`, `trace`, `many`, `table` or `emit`, `audit SCOPE FILE`, or
--- `drill N none` of a command that is taken; other words ask for nothing
+-- the words `MODE SCOPE FILE [EXTRA]` with `run`, `check`, `trace`, `many`, `table`, `dead` or `emit`, `audit SCOPE
+-- FILE`, or `drill N none` of a command that is taken; other words ask for nothing
 unfoldable pub ask_of : List (List ℕ) → Option Ask
 ask_of words = option_and_then (ask_by (cases_in words)) (asked_by words)
 
@@ -81,7 +81,8 @@ request_of words = request_in (ask_of words)
 abbrev pub bands_of : List (List ℕ) → Option ℕ
 bands_of words = bands_asked (ask_of words)
 
--- the most leaves that an audit or a table makes of a target: the number of cases, which is from 1 to 1,000,000
+-- the most leaves that an audit, a table or a report on definitions makes of a target: the number of cases, which is
+-- from 1 to 1,000,000
 pub record IsMost (cases : Option (List ℕ)) (most : ℕ) : Type 0 where
   pub number_is : IsCases cases most
   pub some : 1 ≤ most

@@ -21,7 +21,8 @@ use cat_scope::programs_are_well_formed;
 use cat_weave::Source;
 use std::alloc::{AllocError, Global};
 
-/// The most leaves that an audit or a table makes of a target: the number of cases, and one at least.
+/// The most leaves that an audit, a table or a report on definitions makes of a target: the number of cases, and one at
+/// least.
 pub fn most_of(cases: u32) -> u32
     ensures most { result ≡ max cases 1 }
     ensures some { 1 ≤ result }

@@ -21,7 +21,7 @@ fn code_line(alloc: Global, number: u32, line: usize) -> Result<String, AllocErr
 }
 
 /// The certificate is refused.
-fn refuse_certificate(alloc: Global, why: CertRefusal) -> Result<Reply, AllocError>
+pub(crate) fn refuse_certificate(alloc: Global, why: CertRefusal) -> Result<Reply, AllocError>
     ensures { IfOk result (SaysCertificate why) }
 {
     let text = match why {

@@ -4,10 +4,12 @@
 
 mod audited;
 mod checked;
+mod dead;
 mod drilled;
 mod leaves;
 mod listed;
 mod many;
+mod never;
 mod number;
 mod ran;
 mod reply;

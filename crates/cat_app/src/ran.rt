@@ -130,8 +130,14 @@ pub fn ran(
         Mode::Run => answer(alloc, source, built, scope, input),
         Mode::EmitRun => answer_with_code(alloc, source, built, scope, input),
         Mode::Trace => answer_with_trace(alloc, source, built, scope, input),
-        Mode::Audit | Mode::Check | Mode::Emit | Mode::Many | Mode::AllTables | Mode::OneTable =>
-            unreachable!(),
+        Mode::Audit
+        | Mode::Check
+        | Mode::Emit
+        | Mode::Many
+        | Mode::AllTables
+        | Mode::OneTable
+        | Mode::Dead
+        | Mode::DeadCheck => unreachable!(),
     }
 }
 

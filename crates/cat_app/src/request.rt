@@ -26,6 +26,10 @@ pub enum Mode {
     AllTables,
     /// The table of the target that EXTRA names.
     OneTable,
+    /// What runs say of each definition of the scope.
+    Dead,
+    /// The certificate of dead definitions that EXTRA names is checked.
+    DeadCheck,
 }
 
 /// What is asked for, with the names of the source and of the input, the certificate or the target, and the number of
@@ -73,6 +77,13 @@ fn mode_of(name: &str, has_extra: bool) -> Option<Mode>
             Mode::OneTable
         } else {
             Mode::AllTables
+        });
+    }
+    if name == "dead" {
+        return Some(if has_extra {
+            Mode::DeadCheck
+        } else {
+            Mode::Dead
         });
     }
     None

@@ -1,5 +1,5 @@
-// What is asked of a scope: the source first, and then an audit, a check, a listing, decision tables, or a run on an
-// input.
+// What is asked of a scope: the source first, and then an audit, a check, a listing, decision tables, what decides and
+// what never does, or a run on an input.
 ghost use Rattle.std.specs.Prelude.{◌≡◌, ◌≢◌, IfOk, IsTrue, OnErr, Some};
 ghost use Rattle.cat_scope.specs.Named.{number_named};
 ghost use Rattle.cat_weave.specs.Causes.{AreReadableTogether};
@@ -12,6 +12,7 @@ ghost use Rattle.cat_app.specs.inside.Says.{MayTell};
 
 use crate::audited::{audited, most_of};
 use crate::checked::checked;
+use crate::dead::{dead_checked, reported};
 use crate::listed::listed;
 use crate::many::ManyInputs;
 use crate::ran::ran;
@@ -155,6 +156,8 @@ fn answer_for<S: Shelf>(
             most_of(asked.cases),
             asked.extra,
         ),
+        Mode::Dead => reported(alloc, source, built, scope, most_of(asked.cases)),
+        Mode::DeadCheck => check_dead_scope(alloc, asked, source, built, scope, shelf),
         Mode::Many => unreachable!(),
     }
 }
@@ -205,6 +208,29 @@ fn check_scope<S: Shelf>(
 {
     match read_all(alloc, shelf, asked.extra, MOST_INPUT_BYTES) {
         Ok(bytes) => checked(alloc, source, built, scope, &bytes),
+        Err(fault) => refuse_file(alloc, asked.extra, fault),
+    }
+}
+
+/// Reads the certificate of dead definitions, and checks it.
+fn check_dead_scope<S: Shelf>(
+    alloc: Global,
+    asked: AskedWords<'_>,
+    source: &Source,
+    built: &Built,
+    scope: u32,
+    shelf: &mut S,
+) -> Result<Reply, AllocError>
+    requires gathered { IsGathered asked (S.state shelf.old) source.now }
+    requires built { IsBuiltOf source.now.pieces built.now }
+    requires named { number_named asked.scope.now 0 built.now.program.decls.scopes ≡ Some scope }
+    requires mode { asked.mode ≡ Mode.DeadCheck }
+    ensures told { (S.state shelf.new).content ≡ (S.state shelf.old).content }
+    ensures may { IfOk result (MayTell asked.entry (S.state shelf.old) (S.state shelf.new)) }
+    ensures lists { OnErr result (ListsOne (S.state shelf.old) (S.state shelf.new)) }
+{
+    match read_all(alloc, shelf, asked.extra, MOST_INPUT_BYTES) {
+        Ok(bytes) => dead_checked(alloc, source, built, scope, &bytes),
         Err(fault) => refuse_file(alloc, asked.extra, fault),
     }
 }

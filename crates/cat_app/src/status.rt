@@ -3,7 +3,8 @@ ghost use Rattle.std.specs.Prelude.{◌≡◌};
 ghost use Rattle.cat_app.specs.Status.{code_of};
 
 /// How a call ended. `Conflict`, `NoValue` and `Fault` are outcomes of a run, `Found` and `Unsettled`
-/// verdicts of an audit; from `Source` on come refusals, but for these two.
+/// verdicts of an audit, or say of definitions that one never decides, or that it isn't known; from
+/// `Source` on come refusals, but for these two.
 #[derive(Clone, Copy, Debug, PartialEq, Eq)]
 pub enum Status {
     Fine,

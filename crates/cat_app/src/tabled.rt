@@ -19,7 +19,7 @@ use cat_weave::Source;
 use std::alloc::{AllocError, Global};
 
 /// The table of a scope.
-fn scope_table(
+pub(crate) fn scope_table(
     alloc: Global,
     source: &Source,
     built: &Built,

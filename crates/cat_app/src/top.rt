@@ -10,6 +10,7 @@ ghost use Rattle.cat_app.specs.Table.{Answers};
 ghost use Rattle.cat_app.specs.Complete.{NoFileRose, RepliesFit, IsToldCheck, IsToldRun, EndsCheck, EndsRun};
 ghost use Rattle.cat_app.specs.Complete.{is_fault, is_reply};
 ghost use Rattle.cat_app.specs.AuditEnds.{IsToldAudit, EndsAudit};
+ghost use Rattle.cat_app.specs.DeadEnds.{EndsDead, EndsDeadCheck, IsToldDead, IsToldDeadCheck};
 ghost use Rattle.cat_app.specs.DrillEnds.{EndsDrill, IsToldDrill};
 ghost use Rattle.cat_app.specs.EmitEnds.{EndsEmit, EndsEmitRun, IsToldEmit, IsToldEmitRun};
 ghost use Rattle.cat_app.specs.Many.{ReadInput};
@@ -34,7 +35,8 @@ use std::alloc::Global;
 /// | `Fine` | of an audit, a complete report and its certificate |
 /// | `Found`, `Unsettled` | the report of an audit |
 /// | `Fine`, `Unsettled` | the decision tables of a scope's targets; whether all leaves of each are shown |
-/// | `Fine`, `Certificate` | of a check, a yes, or why the certificate is refused |
+/// | `Fine`, `Found`, `Unsettled` | the report on a scope's definitions; whether one never decides, or it isn't known of one whether it does |
+/// | `Fine`, `Certificate` | of a check, a yes, or why the certificate is refused; of a certificate of dead definitions, these in front of the yes |
 /// | `Fine` | of an emit, the listing of the program's code |
 /// | `Fine` | of many inputs, the line of each as a run on it alone writes it |
 /// | `Fine` | of a drill, its line; where a run of it has no value, that outcome with its own status |
@@ -110,6 +112,20 @@ pub fn catala<S: Shelf, K: Sink>(
     ensures a_table_writes_what_decides { (request : Request) (source : Source) (program : Program) (scope : ℕ)
         → IsToldTable (texts_of words.now) (S.state shelf.old) request source program scope
         → EndsTable (K.state sink.old) (K.state sink.new) request source program scope result }
+
+    // Over told contents the report on the definitions of the scope is written, each line with its cause. A definition of
+    // which it is written that it never decides does so in no run of the scope on a well-typed input. In a plain scope no
+    // target of which has more cells than leaves may be made, each line is `decides`, Masked or `never decides`.
+    ensures a_dead_report_tells_what_never_decides { (request : Request) (source : Source) (program : Program)
+        (scope : ℕ) → IsToldDead (texts_of words.now) (S.state shelf.old) request source program scope
+        → EndsDead (K.state sink.old) (K.state sink.new) request source program scope result }
+
+    // Over told contents the definitions are written that win in no leaf of a certificate's trees and decide in no run of
+    // the scope on a well-typed input, whoever made it, and then a yes; or why the bytes are no such certificate.
+    ensures a_certificate_of_dead_definitions_is_checked { (request : Request) (source : Source) (program : Program)
+        (scope : ℕ) (extra : List ℕ)
+        → IsToldDeadCheck (texts_of words.now) (S.state shelf.old) request source program scope extra
+        → EndsDeadCheck (K.state sink.old) (K.state sink.new) source program scope extra result }
 
     // A line is written for each element of an array, as a run on it alone writes it; where memory runs out, those of the
     // first ones are.

@@ -29,7 +29,7 @@ use Rattle.cat_app.specs.Lines.{line, refusal_line, gathering_line}
 use Rattle.cat_app.specs.Answers.{IsNoScope, IsRefusedInput, IsRefusedRead}
 use Rattle.cat_app.specs.Audits.{IsAudited}
 use Rattle.cat_app.specs.Complete.{LinesFit}
-use Rattle.cat_app.specs.declared.request.Mode.TheVariants.{Check, Emit, Many, OneTable}
+use Rattle.cat_app.specs.declared.request.Mode.TheVariants.{Check, Dead, DeadCheck, Emit, Many, OneTable}
 use Rattle.cat_app.specs.Table.{MayAnswer, MayAnswerTo}
 use Rattle.cat_app.specs.declared.status.Status.{Status}
 use Rattle.cat_app.specs.declared.status.Status.TheVariants as status
@@ -286,13 +286,21 @@ module _ (request : Request) (old : Shelved) where
     not_one_table : request.mode ≡ OneTable → ⊥
     not_one_table one = cc (told.mode, one)
 
+    not_reported : request.mode ≡ Dead → ⊥
+    not_reported dead = cc (told.mode, dead)
+
+    not_dead_checked : request.mode ≡ DeadCheck → ⊥
+    not_dead_checked checks = cc (told.mode, checks)
+
     fits_all : (new : Shelved) (ended : Status) (text : List ℕ) → MayAnswer request old new ended text
         → length text ≤ all_room
     fits_all new status.Fine text (inl h) = omega (arith, comes_room.1 text (inl (new, status.Fine, h)))
     fits_all new status.Fine text (inr (inl h)) = absurd (not_audited new status.Fine text h)
     fits_all new status.Fine text (inr (inr (inl h))) = absurd (not_checked h.mode)
     fits_all new status.Fine text (inr (inr (inr (inl h)))) = absurd (not_listed h.mode)
-    fits_all new status.Fine text (inr (inr (inr (inr h)))) = absurd (not_tabled h.mode)
+    fits_all new status.Fine text (inr (inr (inr (inr (inl h))))) = absurd (not_tabled h.mode)
+    fits_all new status.Fine text (inr (inr (inr (inr (inr (inl h)))))) = absurd (not_reported h.mode)
+    fits_all new status.Fine text (inr (inr (inr (inr (inr (inr h)))))) = absurd (not_dead_checked h.mode)
     fits_all new status.Conflict text h = omega (arith, comes_room.1 text (inl (new, status.Conflict, h)))
     fits_all new status.NoValue text h = omega (arith, comes_room.1 text (inl (new, status.NoValue, h)))
     fits_all new status.Fault text h = omega (arith, comes_room.1 text (inl (new, status.Fault, h)))
@@ -300,10 +308,13 @@ module _ (request : Request) (old : Shelved) where
     fits_all new status.Source text (inr h) = omega (arith, comes_room.1 text (inr (inr (inr (new, h)))))
     fits_all new status.Input text (inl h) = omega (arith, comes_room.1 text (inr (inl (new, h))))
     fits_all new status.Input text (inr h) = absurd (not_many h.mode)
-    fits_all new status.Found text h = absurd (not_audited new status.Found text h)
+    fits_all new status.Found text (inl h) = absurd (not_audited new status.Found text h)
+    fits_all new status.Found text (inr h) = absurd (not_reported h.mode)
     fits_all new status.Unsettled text (inl h) = absurd (not_audited new status.Unsettled text h)
-    fits_all new status.Unsettled text (inr h) = absurd (not_tabled h.mode)
-    fits_all new status.Certificate text h = absurd (not_checked h.mode)
+    fits_all new status.Unsettled text (inr (inl h)) = absurd (not_tabled h.mode)
+    fits_all new status.Unsettled text (inr (inr h)) = absurd (not_reported h.mode)
+    fits_all new status.Certificate text (inl h) = absurd (not_checked h.mode)
+    fits_all new status.Certificate text (inr h) = absurd (not_dead_checked h.mode)
     fits_all new status.Usage text (inl h) = omega (arith, scope_room.1 text (new, h))
     fits_all new status.Usage text (inr h) = absurd (not_one_table h.mode)
     fits_all new status.Missing text h = omega (arith, missing_room.1 text (new, h))

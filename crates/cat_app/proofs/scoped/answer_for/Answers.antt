@@ -1,5 +1,6 @@
 use Rattle.std.proofs.Common.{refl}
 use Rattle.cat_app.specs.inside.AskedWords.{asked_of}
+use Rattle.cat_app.proofs.DeadReplies.{a_dead_report}
 use Rattle.cat_app.proofs.Replies.{if_ok, asked_for, a_listing, a_report, most_is, named_within}
 use Rattle.cat_app.proofs.TableReplies.{all_answer, one_answers}
 use Rattle.cat_app.proofs.scoped.answer_for.Goals as goal
@@ -44,3 +45,14 @@ returns-in-OneTable-clause-may g c = if_ok c.target_table.result c.target_table.
     c.args.built.now c.args.scope c.requires.gathered c.requires.built c.requires.named)
     (most_is cases c.args.asked.cases c.most_of-in-OneTable.result are c.most_of-in-OneTable.ensures.most)
     c.in-OneTable.is says)
+
+pub reported-requires-clause-scope : goal.reported-requires-clause-scope
+reported-requires-clause-scope g c =
+    named_within c.args.asked.scope.now c.args.scope c.args.built.now.program.decls.scopes c.requires.named
+
+pub returns-in-Dead-clause-may : goal.returns-in-Dead-clause-may
+returns-in-Dead-clause-may g c = if_ok c.reported.result c.reported.ensures (λ reply says cases are.
+    a_dead_report (asked_of cases c.args.asked) _ _ c.args.source.now c.args.built.now.program c.args.scope
+    c.most_of-in-Dead.result reply refl says (asked_for (asked_of cases c.args.asked) _ c.args.source.now
+    c.args.built.now c.args.scope c.requires.gathered c.requires.built c.requires.named) c.in-Dead.is
+    (most_is cases c.args.asked.cases c.most_of-in-Dead.result are c.most_of-in-Dead.ensures.most))

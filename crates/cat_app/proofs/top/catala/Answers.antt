@@ -1,6 +1,7 @@
 use Rattle.cat_io.specs.Stored.{texts_of}
 use Rattle.cat_app.proofs.Answering.{at_once, drill_at_once, what_fits}
 use Rattle.cat_app.proofs.Complete.{ends_audit, ends_check}
+use Rattle.cat_app.proofs.DeadEnds.{ends_dead, ends_dead_check}
 use Rattle.cat_app.proofs.DrillEnds.{ends_drill}
 use Rattle.cat_app.proofs.EmitEnds.{ends_emit}
 use Rattle.cat_app.proofs.Faults.{no_fault}
@@ -77,6 +78,23 @@ returns-clause-a_table_writes_what_decides g c request source program scope tabl
     _ _ _ request source program scope table.told table.mode c.answer.result
     (at_once (texts_of c.args.words.now) _ _ _ _ c.answer.result request table.told.asked
     (λ many. no_table_of_many request.mode many table.mode) c.answer.ensures.answers)
+
+pub returns-clause-a_dead_report_tells_what_never_decides : goal.returns-clause-a_dead_report_tells_what_never_decides
+returns-clause-a_dead_report_tells_what_never_decides g c request source program scope dead =
+    ends_dead c.pieces_have_one_program.ensures c.refused_pieces_are_not_accepted.ensures
+    c.told_sources_are_gathered.ensures.endings c.told_sources_are_gathered.ensures.files (texts_of c.args.words.now) _
+    _ _ _ request source program scope dead.told dead.mode c.answer.result
+    (at_once (texts_of c.args.words.now) _ _ _ _ c.answer.result request dead.told.asked (λ many. cc (many, dead.mode))
+    c.answer.ensures.answers)
+
+pub returns-clause-a_certificate_of_dead_definitions_is_checked :
+    goal.returns-clause-a_certificate_of_dead_definitions_is_checked
+returns-clause-a_certificate_of_dead_definitions_is_checked g c request source program scope extra check =
+    ends_dead_check c.pieces_have_one_program.ensures c.refused_pieces_are_not_accepted.ensures
+    c.told_sources_are_gathered.ensures.endings c.told_sources_are_gathered.ensures.files (texts_of c.args.words.now) _
+    _ _ _ request source program scope check.told extra check c.answer.result
+    (at_once (texts_of c.args.words.now) _ _ _ _ c.answer.result request check.told.asked
+    (λ many. cc (many, check.mode)) c.answer.ensures.answers)
 
 pub returns-clause-a_drill_writes_its_line : goal.returns-clause-a_drill_writes_its_line
 returns-clause-a_drill_writes_its_line g c bands source program scope drill =
