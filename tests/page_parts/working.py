@@ -103,7 +103,7 @@ def a_missing_case_is_told_in_the_text(office: Office, browser: Browser) -> None
         page.click('#tab-audit')
         told = page.wait('document.querySelector(".missing").textContent', 'that a case is missing')
         equal('20000.00' in told and 'subsidy' in told, True, 'that it tells the input')
-        page.click('#panel-audit li > .place')
+        page.click('#panel-audit .verdicts > li > .place')
         equal(page.value('document.activeElement.className'), 'missing', 'what a click goes to')
 
 
