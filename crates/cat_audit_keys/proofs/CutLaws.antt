@@ -4,14 +4,14 @@ use Rattle.std.proofs.Common.{◌∷◌, refl, sym, ap, ◌∙◌, arith, true�
 use Rattle.std.specs.Prelude.{unsigned_abs}
 use Rattle.std.specs.Ordering.{int_eq}
 use Rattle.std.proofs.lemmas.Bool.Decides.{nat_tests, Decides-int_eq}
-use Rattle.cat_region.specs.declared.cut.Scalar.{Scalar}
-use Rattle.cat_region.specs.declared.cut.Scalar.TheVariants as scalar
+use Rattle.cat_region.specs.declared.cut.Threshold.{Threshold}
+use Rattle.cat_region.specs.declared.cut.Threshold.TheVariants as threshold
 use Rattle.cat_region.specs.declared.cut.Cut.{Cut}
 use Rattle.cat_region.specs.declared.cut.Cut.TheVariants as cut
 use Rattle.cat_region.proofs.Exported.{and-parts}
-use Rattle.cat_guard.specs.Terms.{same_scalar, same_cut}
+use Rattle.cat_guard.specs.Terms.{same_threshold, same_cut}
 use Rattle.cat_audit_keys.specs.Keys.{sign_number}
-use Rattle.cat_audit_keys.specs.Atoms.{scalar_numbers, cut_numbers}
+use Rattle.cat_audit_keys.specs.Atoms.{threshold_numbers, cut_numbers}
 
 -- the number at an index, or 0
 abbrev number_at : ℕ → List ℕ → ℕ
@@ -40,28 +40,29 @@ one_integer a b s n = (Decides-int_eq a b).1 (by a b s n)
 
 -- ---- constants
 
-constant_told : (a b : Scalar) → scalar_numbers a ≡ scalar_numbers b → same_scalar a b ≡ true
+constant_told : (a b : Threshold) → threshold_numbers a ≡ threshold_numbers b → same_threshold a b ≡ true
 constant_told a b e =
-    by a b e (one_number (number_at 0 (scalar_numbers a)) (number_at 0 (scalar_numbers b)) (ap (number_at 0) e))
+    by a b e (one_number (number_at 0 (threshold_numbers a)) (number_at 0 (threshold_numbers b)) (ap (number_at 0) e))
   where
-    by : (a b : Scalar) → scalar_numbers a ≡ scalar_numbers b
-        → nat_eq (number_at 0 (scalar_numbers a)) (number_at 0 (scalar_numbers b)) ≡ true → same_scalar a b ≡ true
-    by (scalar.Whole n) (scalar.Whole m) e k = one_integer n m (ap (number_at 1) e) (ap (number_at 2) e)
-    by (scalar.Money n) (scalar.Money m) e k = one_integer n m (ap (number_at 1) e) (ap (number_at 2) e)
-    by (scalar.Day n) (scalar.Day m) e k = one_integer n m (ap (number_at 1) e) (ap (number_at 2) e)
-    by (scalar.Decimal f) (scalar.Decimal g) e k =
+    by : (a b : Threshold) → threshold_numbers a ≡ threshold_numbers b
+        → nat_eq (number_at 0 (threshold_numbers a)) (number_at 0 (threshold_numbers b)) ≡ true
+        → same_threshold a b ≡ true
+    by (threshold.Whole n) (threshold.Whole m) e k = one_integer n m (ap (number_at 1) e) (ap (number_at 2) e)
+    by (threshold.Money n) (threshold.Money m) e k = one_integer n m (ap (number_at 1) e) (ap (number_at 2) e)
+    by (threshold.Day n) (threshold.Day m) e k = one_integer n m (ap (number_at 1) e) (ap (number_at 2) e)
+    by (threshold.Decimal f) (threshold.Decimal g) e k =
         rw (one_integer f.num g.num (ap (number_at 1) e) (ap (number_at 2) e)) (one_number f.den g.den
         (ap (number_at 3) e))
     by _ _ e k = absurd (true≢false (sym k))
 
-constant_numbers : (a b : Scalar) → same_scalar a b ≡ true → scalar_numbers a ≡ scalar_numbers b
-constant_numbers (scalar.Whole n) (scalar.Whole m) h =
-    ap (λ (k : ℤ). scalar_numbers (scalar.Whole k)) ((Decides-int_eq n m).0 h)
-constant_numbers (scalar.Money n) (scalar.Money m) h =
-    ap (λ (k : ℤ). scalar_numbers (scalar.Money k)) ((Decides-int_eq n m).0 h)
-constant_numbers (scalar.Day n) (scalar.Day m) h =
-    ap (λ (k : ℤ). scalar_numbers (scalar.Day k)) ((Decides-int_eq n m).0 h)
-constant_numbers (scalar.Decimal f) (scalar.Decimal g) h =
+constant_numbers : (a b : Threshold) → same_threshold a b ≡ true → threshold_numbers a ≡ threshold_numbers b
+constant_numbers (threshold.Whole n) (threshold.Whole m) h =
+    ap (λ (k : ℤ). threshold_numbers (threshold.Whole k)) ((Decides-int_eq n m).0 h)
+constant_numbers (threshold.Money n) (threshold.Money m) h =
+    ap (λ (k : ℤ). threshold_numbers (threshold.Money k)) ((Decides-int_eq n m).0 h)
+constant_numbers (threshold.Day n) (threshold.Day m) h =
+    ap (λ (k : ℤ). threshold_numbers (threshold.Day k)) ((Decides-int_eq n m).0 h)
+constant_numbers (threshold.Decimal f) (threshold.Decimal g) h =
     let two = and-parts (int_eq f.num g.num) (nat_eq f.den g.den) h in
     ap (λ (k : ℤ). 3 ∷ sign_number k ∷ unsigned_abs k ∷ f.den ∷ []) ((Decides-int_eq f.num g.num).0 two.0)
     ∙ ap (λ (d : ℕ). 3 ∷ sign_number g.num ∷ unsigned_abs g.num ∷ d ∷ []) (same_number f.den g.den two.1)

@@ -1,25 +1,25 @@
 // The keys of atoms.
 ghost use Rattle.std.specs.Prelude.{◌≡◌, ◌++◌, IfOk};
-ghost use Rattle.cat_audit_keys.specs.Atoms.{atom_key, cut_numbers, scalar_numbers};
+ghost use Rattle.cat_audit_keys.specs.Atoms.{atom_key, cut_numbers, threshold_numbers};
 
 use crate::form::Spelling;
 use crate::key::Key;
 use crate::literal::sign;
 use cat_date::number;
 use cat_pos::List;
-use cat_region::{Cut, Scalar};
+use cat_region::{Cut, Threshold};
 use std::alloc::{AllocError, Global};
 
 /// Behind a spelling what a value is compared with.
-fn with_scalar(numbers: Spelling, scalar: Scalar) -> Result<Spelling, AllocError>
-    ensures { IfOk result (λ longer. longer ≡ numbers ++ scalar_numbers scalar) }
+fn with_threshold(numbers: Spelling, threshold: Threshold) -> Result<Spelling, AllocError>
+    ensures { IfOk result (λ longer. longer ≡ numbers ++ threshold_numbers threshold) }
 {
     let mut numbers = numbers;
-    let (kind, value, den) = match scalar {
-        Scalar::Whole(whole) => (0, whole.get(), 1),
-        Scalar::Money(money) => (1, money.get(), 1),
-        Scalar::Day(day) => (2, number(day), 1),
-        Scalar::Decimal(frac) => (3, frac.num(), frac.den() as u64),
+    let (kind, value, den) = match threshold {
+        Threshold::Whole(whole) => (0, whole.get(), 1),
+        Threshold::Money(money) => (1, money.get(), 1),
+        Threshold::Day(day) => (2, number(day), 1),
+        Threshold::Decimal(frac) => (3, frac.num(), frac.den() as u64),
     };
     numbers.push(kind)?;
     numbers.push(sign(value))?;
@@ -34,13 +34,13 @@ fn with_cut(numbers: Spelling, cut: &Cut) -> Result<Spelling, AllocError>
 {
     let mut numbers = numbers;
     match cut {
-        Cut::Below(scalar) => {
+        Cut::Below(threshold) => {
             numbers.push(0)?;
-            with_scalar(numbers, *scalar)
+            with_threshold(numbers, *threshold)
         }
-        Cut::AtMost(scalar) => {
+        Cut::AtMost(threshold) => {
             numbers.push(1)?;
-            with_scalar(numbers, *scalar)
+            with_threshold(numbers, *threshold)
         }
         Cut::IsTrue => {
             numbers.push(2)?;

@@ -12,8 +12,8 @@ use Rattle.cat_value.specs.declared.decls.Decls.{Decls}
 use Rattle.cat_value.specs.declared.declaration.Case.{Case}
 use Rattle.cat_value.specs.declared.declaration.Enumeration.{Enumeration}
 use Rattle.cat_value.specs.Entries.{some_passes, content_in, case_in}
-use Rattle.cat_region.specs.declared.cut.Scalar.{Scalar}
-use Rattle.cat_region.specs.declared.cut.Scalar.TheVariants as scalar
+use Rattle.cat_region.specs.declared.cut.Threshold.{Threshold}
+use Rattle.cat_region.specs.declared.cut.Threshold.TheVariants as threshold
 use Rattle.cat_region.specs.declared.cut.Cut.{Cut}
 use Rattle.cat_region.specs.declared.cut.Cut.TheVariants as cut
 use Rattle.cat_region.specs.Points.{is_point, default_point}
@@ -38,12 +38,12 @@ use Rattle.cat_scope.specs.Eval.{Env}
 use Rattle.cat_sound.specs.Parts.{PartsTyped}
 use Rattle.cat_sound.proofs.Exported.{by_parts, parts_of}
 use Rattle.cat_guard.specs.Formulas.{Formula, asked}
-use Rattle.cat_guard.specs.Comparisons.{Comparison, comparison_of, turned, scalar_dim, constant_of}
+use Rattle.cat_guard.specs.Comparisons.{Comparison, comparison_of, turned, threshold_dim, constant_of}
 use Rattle.cat_guard.specs.Questions.{Question, ask_truth, against, compared, operated, literal_guard, unary_guard}
 use Rattle.cat_guard.specs.Questions.{binary_guard, guard_of, condition_guard}
 use Rattle.cat_guard.specs.PointValues.{dim_of, dim_in}
 use Rattle.cat_guard.proofs.Exported.{guard_at, parted_all}
-use Rattle.cat_audit_sound.proofs.Constants.{Form, typed_at, scalar_type, constant_is}
+use Rattle.cat_audit_sound.proofs.Constants.{Form, typed_at, threshold_type, constant_is}
 use Rattle.cat_audit_sound.proofs.GuardTells.{compared_alike, xor_signature}
 use Rattle.cat_scope.proofs.Exported.{all_append}
 
@@ -55,18 +55,18 @@ pub record IsAskedOf (ns : Names) (ps : List Ty) (g : Standing) (q : Question) :
   pub dim_is : dim_of ns.decls ty ≡ Some q.dim
   pub inhabited : IsTrue (is_point q.dim (default_point q.dim))
 
-scalar_dim_is : (ds : Decls) (s : Scalar) → dim_of ds (scalar_type s) ≡ Some (scalar_dim s)
-scalar_dim_is ds (scalar.Whole n) = ap (dim_in ds) ty.outs-Integer
-scalar_dim_is ds (scalar.Money n) = ap (dim_in ds) ty.outs-Money
-scalar_dim_is ds (scalar.Day n) = ap (dim_in ds) ty.outs-Date
-scalar_dim_is ds (scalar.Decimal f) = ap (dim_in ds) ty.outs-Decimal
+threshold_dim_is : (ds : Decls) (s : Threshold) → dim_of ds (threshold_type s) ≡ Some (threshold_dim s)
+threshold_dim_is ds (threshold.Whole n) = ap (dim_in ds) ty.outs-Integer
+threshold_dim_is ds (threshold.Money n) = ap (dim_in ds) ty.outs-Money
+threshold_dim_is ds (threshold.Day n) = ap (dim_in ds) ty.outs-Date
+threshold_dim_is ds (threshold.Decimal f) = ap (dim_in ds) ty.outs-Decimal
 
-scalar_inhabited : (s : Scalar) → IsTrue (is_point (scalar_dim s) (default_point (scalar_dim s)))
+threshold_inhabited : (s : Threshold) → IsTrue (is_point (threshold_dim s) (default_point (threshold_dim s)))
 unfolding gcd
-scalar_inhabited (scalar.Whole n) = refl
-scalar_inhabited (scalar.Money n) = refl
-scalar_inhabited (scalar.Day n) = refl
-scalar_inhabited (scalar.Decimal f) = refl
+threshold_inhabited (threshold.Whole n) = refl
+threshold_inhabited (threshold.Money n) = refl
+threshold_inhabited (threshold.Day n) = refl
+threshold_inhabited (threshold.Decimal f) = refl
 
 -- an environment without anything
 abbrev nowhere : Env
@@ -107,26 +107,26 @@ module _ (ns : Names) (ps : List Ty) (g : Standing) where
     tt,
   )
 
-  scalar_asked : (e : Expr) (s : Scalar) (c : Cut) → HasType ns ps e (scalar_type s)
-      → IsAskedOf ns ps g (record { standing = g; expr = e; dim = scalar_dim s; cut = c })
-  scalar_asked e s c typed = record {
-    ty = scalar_type s;
+  threshold_asked : (e : Expr) (s : Threshold) (c : Cut) → HasType ns ps e (threshold_type s)
+      → IsAskedOf ns ps g (record { standing = g; expr = e; dim = threshold_dim s; cut = c })
+  threshold_asked e s c typed = record {
+    ty = threshold_type s;
     standing_is = refl;
     typed = typed;
-    dim_is = scalar_dim_is ns.decls s;
-    inhabited = scalar_inhabited s;
+    dim_is = threshold_dim_is ns.decls s;
+    inhabited = threshold_inhabited s;
   }
 
-  against_asked : (e : Expr) (c : Comparison) (s : Scalar) → HasType ns ps e (scalar_type s)
+  against_asked : (e : Expr) (c : Comparison) (s : Threshold) → HasType ns ps e (threshold_type s)
       → AreAsked (against g e c s)
   against_asked e c s typed =
-      parted_all (IsAskedOf ns ps g) c _ _ (scalar_asked e s (cut.Below s) typed)
-      (scalar_asked e s (cut.AtMost s) typed)
+      parted_all (IsAskedOf ns ps g) c _ _ (threshold_asked e s (cut.Below s) typed)
+      (threshold_asked e s (cut.AtMost s) typed)
 
   compared_asked : (e : Expr) (c : Comparison) (o : BinaryOp) → comparison_of o ≡ Some c → (r : Signature)
       → IsOneOf r (signatures_of o) → (a b : Expr) → HasType ns ps a r.left → HasType ns ps b r.right
-      → HasType ns ps e flat_ty.Boolean → (left : Option Scalar) → constant_of a ≡ left
-      → (right : Option Scalar) → constant_of b ≡ right → AreAsked (compared g e c a left b right)
+      → HasType ns ps e flat_ty.Boolean → (left : Option Threshold) → constant_of a ≡ left
+      → (right : Option Threshold) → constant_of b ≡ right → AreAsked (compared g e c a left b right)
   compared_asked e c o reads r one a b typed_a typed_b typed left at_left (Some s) at_right =
       let k = constant_is ns ps nowhere [] b r.right s at_right typed_b in
       against_asked a c s (subst (HasType ns ps a) (compared_alike o c reads r one ∙ k.ty) typed_a)

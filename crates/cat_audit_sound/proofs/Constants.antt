@@ -18,8 +18,8 @@ use Rattle.cat_value.specs.declared.value.Value.TheVariants as flat
 use Rattle.cat_value.specs.declared.value.Value.TheViews as value
 use Rattle.cat_value.specs.declared.decls.Decls.{Decls}
 use Rattle.cat_value.proofs.Exported.{integer_value, decimal_value, money_value, date_value}
-use Rattle.cat_region.specs.declared.cut.Scalar.{Scalar}
-use Rattle.cat_region.specs.declared.cut.Scalar.TheVariants as scalar
+use Rattle.cat_region.specs.declared.cut.Threshold.{Threshold}
+use Rattle.cat_region.specs.declared.cut.Threshold.TheVariants as threshold
 use Rattle.cat_region.specs.declared.point.Point.{Point}
 use Rattle.cat_region.specs.declared.point.Point.TheVariants as point
 use Rattle.cat_region.specs.Points.{is_point, point_order, default_point}
@@ -53,7 +53,7 @@ use Rattle.cat_sound.specs.Parts.{PartsTyped}
 use Rattle.cat_sound.proofs.Exported.{parts_typed}
 use Rattle.cat_guard.specs.Formulas.{Formula, truth}
 use Rattle.cat_guard.specs.Formulas as formula
-use Rattle.cat_guard.specs.Comparisons.{Comparison, comparison_of, reads, turned, parted, scalar_dim, constant_of}
+use Rattle.cat_guard.specs.Comparisons.{Comparison, comparison_of, reads, turned, parted, threshold_dim, constant_of}
 use Rattle.cat_guard.specs.Comparisons.{constant_in, constant_under, literal_constant, negated_constant}
 use Rattle.cat_guard.specs.Comparisons as comparison
 use Rattle.cat_guard.specs.PointValues.{point_in, point_of, point_or, point_at}
@@ -79,43 +79,44 @@ typed_at ns ps e y is t typed = subst (λ x. PartsTyped ns ps x t) is (parts_typ
 
 -- ---- what constants evaluate to
 
-abbrev pub scalar_value : Scalar → Value
-scalar_value (scalar.Whole n) = flat.Integer n
-scalar_value (scalar.Money cents) = flat.Money cents
-scalar_value (scalar.Day day) = flat.Date day
-scalar_value (scalar.Decimal f) = flat.Decimal f
+abbrev pub threshold_value : Threshold → Value
+threshold_value (threshold.Whole n) = flat.Integer n
+threshold_value (threshold.Money cents) = flat.Money cents
+threshold_value (threshold.Day day) = flat.Date day
+threshold_value (threshold.Decimal f) = flat.Decimal f
 
-abbrev pub scalar_type : Scalar → Ty
-scalar_type (scalar.Whole n) = flat_ty.Integer
-scalar_type (scalar.Money cents) = flat_ty.Money
-scalar_type (scalar.Day day) = flat_ty.Date
-scalar_type (scalar.Decimal f) = flat_ty.Decimal
+abbrev pub threshold_type : Threshold → Ty
+threshold_type (threshold.Whole n) = flat_ty.Integer
+threshold_type (threshold.Money cents) = flat_ty.Money
+threshold_type (threshold.Day day) = flat_ty.Date
+threshold_type (threshold.Decimal f) = flat_ty.Decimal
 
-abbrev or_scalar : Scalar → Option Scalar → Scalar
-or_scalar s None = s
-or_scalar s (Some r) = r
+abbrev or_threshold : Threshold → Option Threshold → Threshold
+or_threshold s None = s
+or_threshold s (Some r) = r
 
-same_scalar : (s r : Scalar) → Some s ≡ Some r → s ≡ r
-same_scalar s r e = ap (or_scalar s) e
+same_threshold : (s r : Threshold) → Some s ≡ Some r → s ≡ r
+same_threshold s r e = ap (or_threshold s) e
 
-literal_is : (l : Literal) (s : Scalar) → literal_constant l ≡ Some s
-    → (literal_type l ≡ scalar_type s) × (literal_value l ≡ scalar_value s)
+literal_is : (l : Literal) (s : Threshold) → literal_constant l ≡ Some s
+    → (literal_type l ≡ threshold_type s) × (literal_value l ≡ threshold_value s)
 literal_is (literal.Boolean b) s e = absurd (cc)
 literal_is (literal.Duration span) s e = absurd (cc)
 literal_is (literal.Integer n) s e =
-    let same = same_scalar (scalar.Whole n) s e in (ap scalar_type same, ap scalar_value same)
-literal_is (literal.Decimal d) s e = let same = same_scalar _ s e in (ap scalar_type same, ap scalar_value same)
+    let same = same_threshold (threshold.Whole n) s e in (ap threshold_type same, ap threshold_value same)
+literal_is (literal.Decimal d) s e =
+    let same = same_threshold _ s e in (ap threshold_type same, ap threshold_value same)
 literal_is (literal.Money cents) s e =
-    let same = same_scalar (scalar.Money cents) s e in (ap scalar_type same, ap scalar_value same)
+    let same = same_threshold (threshold.Money cents) s e in (ap threshold_type same, ap threshold_value same)
 literal_is (literal.Date day) s e =
-    let same = same_scalar (scalar.Day day) s e in (ap scalar_type same, ap scalar_value same)
+    let same = same_threshold (threshold.Day day) s e in (ap threshold_type same, ap threshold_value same)
 
-abbrev Negated : UnaryOp → Literal → Scalar → Type 0
-Negated o l s = (given_by o ≡ scalar_type s) × ((p : Pos) → convert o p (literal_value l) ≡ Ok (scalar_value s))
+abbrev Negated : UnaryOp → Literal → Threshold → Type 0
+Negated o l s = (given_by o ≡ threshold_type s) × ((p : Pos) → convert o p (literal_value l) ≡ Ok (threshold_value s))
 
-negated_is : (o : UnaryOp) (l : Literal) (s : Scalar) → negated_constant o l ≡ Some s → Negated o l s
+negated_is : (o : UnaryOp) (l : Literal) (s : Threshold) → negated_constant o l ≡ Some s → Negated o l s
 negated_is unary.NegateInteger (literal.Integer n) s e =
-    subst (Negated unary.NegateInteger (literal.Integer n)) (same_scalar _ s e)
+    subst (Negated unary.NegateInteger (literal.Integer n)) (same_threshold _ s e)
     (refl, (λ p. rw (value.outs-Integer n) refl))
 negated_is unary.NegateInteger (literal.Boolean b) s e = absurd (cc)
 negated_is unary.NegateInteger (literal.Decimal d) s e = absurd (cc)
@@ -123,7 +124,7 @@ negated_is unary.NegateInteger (literal.Money cents) s e = absurd (cc)
 negated_is unary.NegateInteger (literal.Date day) s e = absurd (cc)
 negated_is unary.NegateInteger (literal.Duration span) s e = absurd (cc)
 negated_is unary.NegateDecimal (literal.Decimal d) s e =
-    subst (Negated unary.NegateDecimal (literal.Decimal d)) (same_scalar _ s e)
+    subst (Negated unary.NegateDecimal (literal.Decimal d)) (same_threshold _ s e)
     (refl, (λ p. rw (value.outs-Decimal _) refl))
 negated_is unary.NegateDecimal (literal.Boolean b) s e = absurd (cc)
 negated_is unary.NegateDecimal (literal.Integer n) s e = absurd (cc)
@@ -131,7 +132,7 @@ negated_is unary.NegateDecimal (literal.Money cents) s e = absurd (cc)
 negated_is unary.NegateDecimal (literal.Date day) s e = absurd (cc)
 negated_is unary.NegateDecimal (literal.Duration span) s e = absurd (cc)
 negated_is unary.NegateMoney (literal.Money cents) s e =
-    subst (Negated unary.NegateMoney (literal.Money cents)) (same_scalar _ s e)
+    subst (Negated unary.NegateMoney (literal.Money cents)) (same_threshold _ s e)
     (refl, (λ p. rw (value.outs-Money cents) refl))
 negated_is unary.NegateMoney (literal.Boolean b) s e = absurd (cc)
 negated_is unary.NegateMoney (literal.Integer n) s e = absurd (cc)
@@ -142,11 +143,11 @@ negated_is _ l s e = absurd (cc)
 
 module _ (ns : Names) (ps : List Ty) (env : Env) (arguments : List Value) where
   -- an expression of a type is a constant
-  pub record IsConstant (e : Expr) (t : Ty) (s : Scalar) : Type 0 where
-    pub ty : t ≡ scalar_type s
-    pub end : (eval env e arguments).end ≡ Ok (scalar_value s)
+  pub record IsConstant (e : Expr) (t : Ty) (s : Threshold) : Type 0 where
+    pub ty : t ≡ threshold_type s
+    pub end : (eval env e arguments).end ≡ Ok (threshold_value s)
 
-  under_is : (p : Pos) (o : UnaryOp) (a e : Expr) (t : Ty) (s : Scalar) → out-Expr e ≡ Expr-F.Unary p o a
+  under_is : (p : Pos) (o : UnaryOp) (a e : Expr) (t : Ty) (s : Threshold) → out-Expr e ≡ Expr-F.Unary p o a
       → t ≡ given_by o → (y : Form) → out-Expr a ≡ y → constant_under o y ≡ Some s → IsConstant e t s
   under_is p o a e t s is ty (Expr-F.Literal q l) inside k =
       let negated = negated_is o l s k in record {
@@ -158,7 +159,7 @@ module _ (ns : Names) (ps : List Ty) (env : Env) (arguments : List Value) where
       }
   under_is p o a e t s is ty _ inside k = absurd (cc)
 
-  pub constant_is : (e : Expr) (t : Ty) (s : Scalar) → constant_of e ≡ Some s → HasType ns ps e t → IsConstant e t s
+  pub constant_is : (e : Expr) (t : Ty) (s : Threshold) → constant_of e ≡ Some s → HasType ns ps e t → IsConstant e t s
   constant_is e t s k typed = by (out-Expr e) refl k
     where
       by : (y : Form) → out-Expr e ≡ y → constant_in y ≡ Some s → IsConstant e t s
@@ -176,14 +177,14 @@ module _ (ns : Names) (ps : List Ty) (env : Env) (arguments : List Value) where
 abbrev FromComparing : Pos → Value → Value → Type 0
 FromComparing p v w = equal p v w ≡ on_one (compared p v w) (λ o. Ok (is_equal o))
 
-pub record IsCompared (s : Scalar) (v : Value) : Type 0 where
+pub record IsCompared (s : Threshold) (v : Value) : Type 0 where
   pub point : Point
   pub point_is : point_of v ≡ Some point
-  pub is : is_point (scalar_dim s) point ≡ true
-  pub order : (p : Pos) → compared p v (scalar_value s) ≡ Ok (point_order point s)
-  pub equal_is : (p : Pos) → FromComparing p v (scalar_value s)
-  pub back : (p : Pos) → compared p (scalar_value s) v ≡ Ok (ordering_reverse (point_order point s))
-  pub equal_back : (p : Pos) → FromComparing p (scalar_value s) v
+  pub is : is_point (threshold_dim s) point ≡ true
+  pub order : (p : Pos) → compared p v (threshold_value s) ≡ Ok (point_order point s)
+  pub equal_is : (p : Pos) → FromComparing p v (threshold_value s)
+  pub back : (p : Pos) → compared p (threshold_value s) v ≡ Ok (ordering_reverse (point_order point s))
+  pub equal_back : (p : Pos) → FromComparing p (threshold_value s) v
 
 not_both : (a b : Bool) → (a ≡ true → b ≡ true → ⊥)
     → cond b order.Less (cond a order.Greater order.Equal)
@@ -205,7 +206,7 @@ int_turned n c = not_both (int_lt n c) (int_lt c n) (one_way n c)
 fractions_turned : (f c : Fraction) → frac_order c f ≡ ordering_reverse (frac_order f c)
 fractions_turned f c = int_turned (f.num *ℤ pos c.den) (c.num *ℤ pos f.den)
 
-whole_compared : (c n : ℤ) → IsTrue (fits n) → IsCompared (scalar.Whole c) (flat.Integer n)
+whole_compared : (c n : ℤ) → IsTrue (fits n) → IsCompared (threshold.Whole c) (flat.Integer n)
 whole_compared c n h = record {
   point = point.Whole n;
   point_is = ap point_in (value.outs-Integer n);
@@ -218,7 +219,7 @@ whole_compared c n h = record {
   equal_back = λ p. ap (λ y. equal_in p y (flat.Integer c) (flat.Integer n)) (value.outs-Integer c);
 }
 
-money_compared : (c n : ℤ) → IsTrue (fits n) → IsCompared (scalar.Money c) (flat.Money n)
+money_compared : (c n : ℤ) → IsTrue (fits n) → IsCompared (threshold.Money c) (flat.Money n)
 money_compared c n h = record {
   point = point.Money n;
   point_is = ap point_in (value.outs-Money n);
@@ -231,7 +232,7 @@ money_compared c n h = record {
   equal_back = λ p. ap (λ y. equal_in p y (flat.Money c) (flat.Money n)) (value.outs-Money c);
 }
 
-day_compared : (c n : ℤ) → IsTrue (is_day n) → IsCompared (scalar.Day c) (flat.Date n)
+day_compared : (c n : ℤ) → IsTrue (is_day n) → IsCompared (threshold.Day c) (flat.Date n)
 day_compared c n h = record {
   point = point.Day n;
   point_is = ap point_in (value.outs-Date n);
@@ -244,7 +245,7 @@ day_compared c n h = record {
   equal_back = λ p. ap (λ y. equal_in p y (flat.Date c) (flat.Date n)) (value.outs-Date c);
 }
 
-decimal_compared : (c n : Fraction) → IsTrue (is_reduced n) → IsCompared (scalar.Decimal c) (flat.Decimal n)
+decimal_compared : (c n : Fraction) → IsTrue (is_reduced n) → IsCompared (threshold.Decimal c) (flat.Decimal n)
 decimal_compared c n h = record {
   point = point.Decimal n;
   point_is = ap point_in (value.outs-Decimal n);
@@ -258,15 +259,15 @@ decimal_compared c n h = record {
   equal_back = λ p. ap (λ y. equal_in p y (flat.Decimal c) (flat.Decimal n)) (value.outs-Decimal c);
 }
 
-pub compared_with : (ds : Decls) (s : Scalar) (v : Value) → IsOf ds (scalar_type s) v → IsCompared s v
-compared_with ds (scalar.Whole c) v h =
-    let is = integer_value ds v h in subst (IsCompared (scalar.Whole c)) (sym is.1) (whole_compared c is.0 is.2)
-compared_with ds (scalar.Money c) v h =
-    let is = money_value ds v h in subst (IsCompared (scalar.Money c)) (sym is.1) (money_compared c is.0 is.2)
-compared_with ds (scalar.Day c) v h =
-    let is = date_value ds v h in subst (IsCompared (scalar.Day c)) (sym is.1) (day_compared c is.0 is.2)
-compared_with ds (scalar.Decimal c) v h =
-    let is = decimal_value ds v h in subst (IsCompared (scalar.Decimal c)) (sym is.1) (decimal_compared c is.0 is.2)
+pub compared_with : (ds : Decls) (s : Threshold) (v : Value) → IsOf ds (threshold_type s) v → IsCompared s v
+compared_with ds (threshold.Whole c) v h =
+    let is = integer_value ds v h in subst (IsCompared (threshold.Whole c)) (sym is.1) (whole_compared c is.0 is.2)
+compared_with ds (threshold.Money c) v h =
+    let is = money_value ds v h in subst (IsCompared (threshold.Money c)) (sym is.1) (money_compared c is.0 is.2)
+compared_with ds (threshold.Day c) v h =
+    let is = date_value ds v h in subst (IsCompared (threshold.Day c)) (sym is.1) (day_compared c is.0 is.2)
+compared_with ds (threshold.Decimal c) v h =
+    let is = decimal_value ds v h in subst (IsCompared (threshold.Decimal c)) (sym is.1) (decimal_compared c is.0 is.2)
 
 -- ---- what comparisons give
 
@@ -368,52 +369,52 @@ reads_turned comparison.Unequal order.Less = refl
 reads_turned comparison.Unequal order.Equal = refl
 reads_turned comparison.Unequal order.Greater = refl
 
-point_there : (s : Scalar) (v : Value) (k : IsCompared s v) → point_at (scalar_dim s) (Ok v) ≡ k.point
+point_there : (s : Threshold) (v : Value) (k : IsCompared s v) → point_at (threshold_dim s) (Ok v) ≡ k.point
 point_there s v k =
-    ap (point_or (scalar_dim s)) k.point_is
-    ∙ ap (λ b. if b then k.point else default_point (scalar_dim s)) k.is
+    ap (point_or (threshold_dim s)) k.point_is
+    ∙ ap (λ b. if b then k.point else default_point (threshold_dim s)) k.is
 
-module _ {A : Type 0} (allowed : Allowed) (ds : Decls) (holds : A → Bool) (f g : Formula A) (s : Scalar) (r : Reply)
-    (ends : Ended allowed (IsOf ds (scalar_type s)) r)
-    (below : truth holds f ≡ is_lt (point_order (point_at (scalar_dim s) r) s))
-    (at_most : truth holds g ≡ is_le (point_order (point_at (scalar_dim s) r) s)) where
+module _ {A : Type 0} (allowed : Allowed) (ds : Decls) (holds : A → Bool) (f g : Formula A) (s : Threshold) (r : Reply)
+    (ends : Ended allowed (IsOf ds (threshold_type s)) r)
+    (below : truth holds f ≡ is_lt (point_order (point_at (threshold_dim s) r) s))
+    (at_most : truth holds g ≡ is_le (point_order (point_at (threshold_dim s) r) s)) where
   -- a comparison with the constant on the right
   pub tells_right : (rounding : Rounding) (o : BinaryOp) (c : Comparison) → comparison_of o ≡ Some c → (p : Pos)
-      → Tells (on_one r (λ v. operate rounding o p v (scalar_value s))) (truth holds (parted c f g))
+      → Tells (on_one r (λ v. operate rounding o p v (threshold_value s))) (truth holds (parted c f g))
   tells_right rounding o c is p = by r ends below at_most
     where
-      by : (r : Reply) → Ended allowed (IsOf ds (scalar_type s)) r
-          → truth holds f ≡ is_lt (point_order (point_at (scalar_dim s) r) s)
-          → truth holds g ≡ is_le (point_order (point_at (scalar_dim s) r) s)
-          → Tells (on_one r (λ v. operate rounding o p v (scalar_value s))) (truth holds (parted c f g))
+      by : (r : Reply) → Ended allowed (IsOf ds (threshold_type s)) r
+          → truth holds f ≡ is_lt (point_order (point_at (threshold_dim s) r) s)
+          → truth holds g ≡ is_le (point_order (point_at (threshold_dim s) r) s)
+          → Tells (on_one r (λ v. operate rounding o p v (threshold_value s))) (truth holds (parted c f g))
       by (Err stop) ends below at_most b e = absurd (cc)
       by (Ok v) ends below at_most b e =
           let k = compared_with ds s v ends in
           let there = ap (λ x. point_order x s) (point_there s v k) in
-          tells_as (operate rounding o p v (scalar_value s)) (Ok (flat.Boolean (reads c (point_order k.point s))))
+          tells_as (operate rounding o p v (threshold_value s)) (Ok (flat.Boolean (reads c (point_order k.point s))))
           (truth holds (parted c f g)) (reads c (point_order k.point s))
-          (operate_reads rounding o c is p v (scalar_value s) (k.equal_is p)
+          (operate_reads rounding o c is p v (threshold_value s) (k.equal_is p)
           ∙ ap (λ x. on_one x (λ y. Ok (flat.Boolean (reads c y)))) (k.order p))
           (parted_reads holds c (point_order k.point s) f g (below ∙ ap is_lt there) (at_most ∙ ap is_le there))
           (tells_Boolean (reads c (point_order k.point s))) b e
 
   -- and with the constant on the left
   pub tells_left : (rounding : Rounding) (o : BinaryOp) (c : Comparison) → comparison_of o ≡ Some c → (p : Pos)
-      → Tells (on_one r (λ v. operate rounding o p (scalar_value s) v)) (truth holds (parted (turned c) f g))
+      → Tells (on_one r (λ v. operate rounding o p (threshold_value s) v)) (truth holds (parted (turned c) f g))
   tells_left rounding o c is p = by r ends below at_most
     where
-      by : (r : Reply) → Ended allowed (IsOf ds (scalar_type s)) r
-          → truth holds f ≡ is_lt (point_order (point_at (scalar_dim s) r) s)
-          → truth holds g ≡ is_le (point_order (point_at (scalar_dim s) r) s)
-          → Tells (on_one r (λ v. operate rounding o p (scalar_value s) v)) (truth holds (parted (turned c) f g))
+      by : (r : Reply) → Ended allowed (IsOf ds (threshold_type s)) r
+          → truth holds f ≡ is_lt (point_order (point_at (threshold_dim s) r) s)
+          → truth holds g ≡ is_le (point_order (point_at (threshold_dim s) r) s)
+          → Tells (on_one r (λ v. operate rounding o p (threshold_value s) v)) (truth holds (parted (turned c) f g))
       by (Err stop) ends below at_most b e = absurd (cc)
       by (Ok v) ends below at_most b e =
           let k = compared_with ds s v ends in
           let there = ap (λ x. point_order x s) (point_there s v k) in
           let other = ordering_reverse (point_order k.point s) in
-          tells_as (operate rounding o p (scalar_value s) v) (Ok (flat.Boolean (reads c other)))
+          tells_as (operate rounding o p (threshold_value s) v) (Ok (flat.Boolean (reads c other)))
           (truth holds (parted (turned c) f g)) (reads c other)
-          (operate_reads rounding o c is p (scalar_value s) v (k.equal_back p)
+          (operate_reads rounding o c is p (threshold_value s) v (k.equal_back p)
           ∙ ap (λ x. on_one x (λ y. Ok (flat.Boolean (reads c y)))) (k.back p))
           (parted_reads holds (turned c) (point_order k.point s) f g (below ∙ ap is_lt there) (at_most ∙ ap is_le there)
           ∙ reads_turned c (point_order k.point s))

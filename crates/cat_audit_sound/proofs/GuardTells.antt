@@ -15,7 +15,7 @@ use Rattle.cat_value.specs.declared.declaration.Enumeration.{Enumeration}
 use Rattle.cat_value.specs.Entries.{some_passes, content_in, case_in}
 use Rattle.cat_value.specs.Typing.{is_case, content_has_type}
 use Rattle.cat_value.proofs.Exported.{boolean_value, case_value}
-use Rattle.cat_region.specs.declared.cut.Scalar.{Scalar}
+use Rattle.cat_region.specs.declared.cut.Threshold.{Threshold}
 use Rattle.cat_region.specs.declared.dim.Dim.TheVariants as dim
 use Rattle.cat_region.specs.declared.cut.Cut.TheVariants as cut
 use Rattle.cat_region.specs.declared.point.Point.TheVariants as point
@@ -53,7 +53,7 @@ use Rattle.cat_audit_sound.specs.Evaluations.{says, answered}
 use Rattle.cat_audit_sound.proofs.Tells.{Tells, tells_as, tells_Boolean, tells_and, tells_or, tells_if, tells_not}
 use Rattle.cat_audit_sound.proofs.Tells.{tells_xor}
 use Rattle.cat_audit_sound.proofs.Tells.{on_one_same}
-use Rattle.cat_audit_sound.proofs.Constants.{Form, eval_at, typed_at, scalar_value, scalar_type}
+use Rattle.cat_audit_sound.proofs.Constants.{Form, eval_at, typed_at, threshold_value, threshold_type}
 use Rattle.cat_audit_sound.proofs.Constants.{constant_is}
 use Rattle.cat_audit_sound.proofs.Constants.{tells_right, tells_left}
 
@@ -165,12 +165,12 @@ module _ (allowed : Allowed) (ns : Names) (env : Env) (ps : List Ty) (arguments 
       → out-Expr e ≡ Expr-F.Binary p o q a b → comparison_of o ≡ Some c → (r : Signature)
       → IsOneOf r (signatures_of o) → HasType ns ps a r.left → HasType ns ps b r.right
       → HasType ns ps e flat_ty.Boolean → Has e → Has a → Has b
-      → (left : Option Scalar) → constant_of a ≡ left → (right : Option Scalar) → constant_of b ≡ right
+      → (left : Option Threshold) → constant_of a ≡ left → (right : Option Threshold) → constant_of b ≡ right
       → Goal e (compared g e c a left b right)
   compared_tells e p q o c a b is reads r one typed_a typed_b typed has has_a has_b left at_left (Some s) at_right =
       let k = constant_is ns ps env arguments b r.right s at_right typed_b in
-      let ty : r.left ≡ scalar_type s = compared_alike o c reads r one ∙ k.ty in
-      tells_as (value_of e).end (on_one (value_of a).end (λ v. operate env.rounding o q v (scalar_value s)))
+      let ty : r.left ≡ threshold_type s = compared_alike o c reads r one ∙ k.ty in
+      tells_as (value_of e).end (on_one (value_of a).end (λ v. operate env.rounding o q v (threshold_value s)))
       (truth holds (against g a c s)) (truth holds (against g a c s))
       (binary_end e p q o a b is
       ∙ on_one_same (value_of a).end _ _ (λ v. ap (λ x. on_one x (operate env.rounding o q v)) k.end)) refl
@@ -179,8 +179,8 @@ module _ (allowed : Allowed) (ns : Names) (env : Env) (ps : List Ty) (arguments 
       env.rounding o c reads q)
   compared_tells e p q o c a b is reads r one typed_a typed_b typed has has_a has_b (Some s) at_left None at_right =
       let k = constant_is ns ps env arguments a r.left s at_left typed_a in
-      let ty : r.right ≡ scalar_type s = sym (compared_alike o c reads r one) ∙ k.ty in
-      tells_as (value_of e).end (on_one (value_of b).end (λ v. operate env.rounding o q (scalar_value s) v))
+      let ty : r.right ≡ threshold_type s = sym (compared_alike o c reads r one) ∙ k.ty in
+      tells_as (value_of e).end (on_one (value_of b).end (λ v. operate env.rounding o q (threshold_value s) v))
       (truth holds (against g b (turned c) s)) (truth holds (against g b (turned c) s))
       (binary_end e p q o a b is
       ∙ ap (λ x. on_one x (λ v. on_one (value_of b).end (operate env.rounding o q v))) k.end) refl

@@ -2,7 +2,7 @@
 use Rattle.std.proofs.Common.{◌≡◌, ◌++◌, Option, Some, None}
 use Rattle.std.proofs.Common.{refl, sym, subst}
 use Rattle.cat_value.specs.declared.decls.Decls.{Decls}
-use Rattle.cat_region.specs.declared.cut.Scalar.{Scalar}
+use Rattle.cat_region.specs.declared.cut.Threshold.{Threshold}
 use Rattle.cat_scope.specs.declared.expr.Expr.{Expr}
 use Rattle.cat_scope.specs.declared.expr.Arm.{Arm}
 use Rattle.cat_scope.specs.declared.expr.FieldValue.{FieldValue}
@@ -48,7 +48,7 @@ module _ (ds : Decls) (g : Standing) where
   operated_here e a b None = (refl, tt)
   operated_here e a b (Some c) = by (constant_of a) (constant_of b)
     where
-      by : (left right : Option Scalar) → AreHere (compared g e c a left b right)
+      by : (left right : Option Threshold) → AreHere (compared g e c a left b right)
       by left (Some s) = parted_here c _ _ refl refl
       by (Some s) None = parted_here (turned c) _ _ refl refl
       by None None = (refl, tt)

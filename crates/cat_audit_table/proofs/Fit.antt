@@ -6,10 +6,10 @@ use Rattle.cat_num.specs.Numerals.{numeral_value}
 use Rattle.cat_value.specs.declared.ty.Ty.{Ty}
 use Rattle.cat_value.specs.declared.ty.Ty.TheVariants as flat_ty
 use Rattle.cat_value.specs.declared.declaration.Enumeration.{Enumeration}
-use Rattle.cat_region.specs.declared.cut.Scalar.{Scalar}
-use Rattle.cat_region.specs.declared.cut.Scalar.TheVariants as scalar
+use Rattle.cat_region.specs.declared.cut.Threshold.{Threshold}
+use Rattle.cat_region.specs.declared.cut.Threshold.TheVariants as threshold
 use Rattle.cat_region.specs.declared.cut.Cut.TheVariants as cut
-use Rattle.cat_region.specs.Points.{is_scalar, is_cut}
+use Rattle.cat_region.specs.Points.{is_threshold, is_cut}
 use Rattle.cat_region.specs.Regions.{is_dim}
 use Rattle.cat_scope.specs.declared.expr.Literal.{Literal}
 use Rattle.cat_scope.specs.declared.expr.Literal.TheVariants as literal
@@ -32,7 +32,7 @@ use Rattle.cat_scope.specs.Same.{Standing}
 use Rattle.cat_sound.specs.Parts.{PartsTyped}
 use Rattle.cat_sound.proofs.Exported.{by_parts, parts_of, parts_typed}
 use Rattle.cat_guard.specs.Formulas.{Formula, asked}
-use Rattle.cat_guard.specs.Comparisons.{Comparison, comparison_of, turned, scalar_dim, constant_of, constant_in}
+use Rattle.cat_guard.specs.Comparisons.{Comparison, comparison_of, turned, threshold_dim, constant_of, constant_in}
 use Rattle.cat_guard.specs.Comparisons.{constant_under, literal_constant, negated_constant}
 use Rattle.cat_guard.specs.Questions.{Question, ask_truth, against, compared, operated, literal_guard, unary_guard}
 use Rattle.cat_guard.specs.Questions.{binary_guard, guard_of, condition_guard}
@@ -51,40 +51,40 @@ pub record IsFit (q : Question) : Type 0 where
 -- ---- constants
 
 -- values of its dimension may be compared with a constant
-abbrev IsFitConstant : Scalar → Type 0
-IsFitConstant s = is_scalar (scalar_dim s) s ≡ true
+abbrev IsFitConstant : Threshold → Type 0
+IsFitConstant s = is_threshold (threshold_dim s) s ≡ true
 
-abbrev or_scalar : Scalar → Option Scalar → Scalar
-or_scalar s None = s
-or_scalar s (Some r) = r
+abbrev or_threshold : Threshold → Option Threshold → Threshold
+or_threshold s None = s
+or_threshold s (Some r) = r
 
-same_scalar : (s r : Scalar) → Some s ≡ Some r → s ≡ r
-same_scalar s r e = ap (or_scalar s) e
+same_threshold : (s r : Threshold) → Some s ≡ Some r → s ≡ r
+same_threshold s r e = ap (or_threshold s) e
 
-literal_fit : (l : Literal) (s : Scalar) → IsTrue (literal_fits l) → literal_constant l ≡ Some s → IsFitConstant s
+literal_fit : (l : Literal) (s : Threshold) → IsTrue (literal_fits l) → literal_constant l ≡ Some s → IsFitConstant s
 literal_fit (literal.Boolean b) s h e = absurd (cc)
 literal_fit (literal.Duration span) s h e = absurd (cc)
-literal_fit (literal.Integer n) s h e = subst IsFitConstant (same_scalar (scalar.Whole n) s e) refl
-literal_fit (literal.Decimal d) s h e = subst IsFitConstant (same_scalar _ s e) (numeral_bound d h)
-literal_fit (literal.Money n) s h e = subst IsFitConstant (same_scalar (scalar.Money n) s e) refl
-literal_fit (literal.Date n) s h e = subst IsFitConstant (same_scalar (scalar.Day n) s e) refl
+literal_fit (literal.Integer n) s h e = subst IsFitConstant (same_threshold (threshold.Whole n) s e) refl
+literal_fit (literal.Decimal d) s h e = subst IsFitConstant (same_threshold _ s e) (numeral_bound d h)
+literal_fit (literal.Money n) s h e = subst IsFitConstant (same_threshold (threshold.Money n) s e) refl
+literal_fit (literal.Date n) s h e = subst IsFitConstant (same_threshold (threshold.Day n) s e) refl
 
-negated_fit : (o : UnaryOp) (l : Literal) (s : Scalar) → IsTrue (literal_fits l) → negated_constant o l ≡ Some s
+negated_fit : (o : UnaryOp) (l : Literal) (s : Threshold) → IsTrue (literal_fits l) → negated_constant o l ≡ Some s
     → IsFitConstant s
-negated_fit unary.NegateInteger (literal.Integer n) s h e = subst IsFitConstant (same_scalar _ s e) refl
+negated_fit unary.NegateInteger (literal.Integer n) s h e = subst IsFitConstant (same_threshold _ s e) refl
 negated_fit unary.NegateInteger (literal.Boolean b) s h e = absurd (cc)
 negated_fit unary.NegateInteger (literal.Decimal d) s h e = absurd (cc)
 negated_fit unary.NegateInteger (literal.Money n) s h e = absurd (cc)
 negated_fit unary.NegateInteger (literal.Date n) s h e = absurd (cc)
 negated_fit unary.NegateInteger (literal.Duration n) s h e = absurd (cc)
 negated_fit unary.NegateDecimal (literal.Decimal d) s h e =
-    subst IsFitConstant (same_scalar _ s e) (negated_bound (numeral_value d) (numeral_bound d h))
+    subst IsFitConstant (same_threshold _ s e) (negated_bound (numeral_value d) (numeral_bound d h))
 negated_fit unary.NegateDecimal (literal.Boolean b) s h e = absurd (cc)
 negated_fit unary.NegateDecimal (literal.Integer n) s h e = absurd (cc)
 negated_fit unary.NegateDecimal (literal.Money n) s h e = absurd (cc)
 negated_fit unary.NegateDecimal (literal.Date n) s h e = absurd (cc)
 negated_fit unary.NegateDecimal (literal.Duration n) s h e = absurd (cc)
-negated_fit unary.NegateMoney (literal.Money n) s h e = subst IsFitConstant (same_scalar _ s e) refl
+negated_fit unary.NegateMoney (literal.Money n) s h e = subst IsFitConstant (same_threshold _ s e) refl
 negated_fit unary.NegateMoney (literal.Boolean b) s h e = absurd (cc)
 negated_fit unary.NegateMoney (literal.Integer n) s h e = absurd (cc)
 negated_fit unary.NegateMoney (literal.Decimal d) s h e = absurd (cc)
@@ -96,13 +96,13 @@ module _ (ns : Names) (ps : List Ty) where
   typed_at : (e : Expr) (y : Form) → out-Expr e ≡ y → (t : Ty) → HasType ns ps e t → PartsTyped ns ps y t
   typed_at e y is t typed = subst (λ x. PartsTyped ns ps x t) is (parts_typed ns ps e t typed)
 
-  under_fit : (a : Expr) (o : UnaryOp) (t : Ty) → HasType ns ps a t → (y : Form) → out-Expr a ≡ y → (s : Scalar)
+  under_fit : (a : Expr) (o : UnaryOp) (t : Ty) → HasType ns ps a t → (y : Form) → out-Expr a ≡ y → (s : Threshold)
       → constant_under o y ≡ Some s → IsFitConstant s
   under_fit a o t typed (Expr-F.Literal p l) is s e =
       negated_fit o l s (typed_at a (Expr-F.Literal p l) is t typed).0 e
   under_fit a o t typed _ is s e = absurd (cc)
 
-  constant_fit_at : (e : Expr) (t : Ty) → HasType ns ps e t → (y : Form) → out-Expr e ≡ y → (s : Scalar)
+  constant_fit_at : (e : Expr) (t : Ty) → HasType ns ps e t → (y : Form) → out-Expr e ≡ y → (s : Threshold)
       → constant_in y ≡ Some s → IsFitConstant s
   constant_fit_at e t typed (Expr-F.Literal p l) is s c =
       literal_fit l s (typed_at e (Expr-F.Literal p l) is t typed).0 c
@@ -110,7 +110,7 @@ module _ (ns : Names) (ps : List Ty) where
       under_fit a o (taken_by o) (typed_at e (Expr-F.Unary p o a) is t typed).0 (out-Expr a) refl s c
   constant_fit_at e t typed _ is s c = absurd (cc)
 
-  constant_fit : (e : Expr) (t : Ty) → HasType ns ps e t → (s : Scalar) → constant_of e ≡ Some s → IsFitConstant s
+  constant_fit : (e : Expr) (t : Ty) → HasType ns ps e t → (s : Threshold) → constant_of e ≡ Some s → IsFitConstant s
   constant_fit e t typed s c = constant_fit_at e t typed (out-Expr e) refl s c
 
 -- ---- conditions
@@ -123,20 +123,20 @@ module _ (ns : Names) (few : AllHave (λ (e : Enumeration). length e.cases ≤ 1
   truth_fit : (e : Expr) → AreFit (ask_truth g e)
   truth_fit e = (record { dim = refl; cut = refl }, tt)
 
-  scalar_is_dim : (s : Scalar) → is_dim (scalar_dim s) ≡ true
-  scalar_is_dim (scalar.Whole n) = refl
-  scalar_is_dim (scalar.Money n) = refl
-  scalar_is_dim (scalar.Day n) = refl
-  scalar_is_dim (scalar.Decimal f) = refl
+  threshold_is_dim : (s : Threshold) → is_dim (threshold_dim s) ≡ true
+  threshold_is_dim (threshold.Whole n) = refl
+  threshold_is_dim (threshold.Money n) = refl
+  threshold_is_dim (threshold.Day n) = refl
+  threshold_is_dim (threshold.Decimal f) = refl
 
-  against_fit : (e : Expr) (c : Comparison) (s : Scalar) → IsFitConstant s → AreFit (against g e c s)
+  against_fit : (e : Expr) (c : Comparison) (s : Threshold) → IsFitConstant s → AreFit (against g e c s)
   against_fit e c s fit =
-      parted_all IsFit c (record { standing = g; expr = e; dim = scalar_dim s; cut = cut.Below s })
-      (record { standing = g; expr = e; dim = scalar_dim s; cut = cut.AtMost s })
-      (record { dim = scalar_is_dim s; cut = fit }) (record { dim = scalar_is_dim s; cut = fit })
+      parted_all IsFit c (record { standing = g; expr = e; dim = threshold_dim s; cut = cut.Below s })
+      (record { standing = g; expr = e; dim = threshold_dim s; cut = cut.AtMost s })
+      (record { dim = threshold_is_dim s; cut = fit }) (record { dim = threshold_is_dim s; cut = fit })
 
   compared_fit : (e : Expr) (c : Comparison) (a b : Expr) (t u : Ty) → HasType ns ps a t → HasType ns ps b u
-      → (left : Option Scalar) → constant_of a ≡ left → (right : Option Scalar) → constant_of b ≡ right
+      → (left : Option Threshold) → constant_of a ≡ left → (right : Option Threshold) → constant_of b ≡ right
       → AreFit (compared g e c a left b right)
   compared_fit e c a b t u typed_a typed_b left at_left (Some s) at_right =
       against_fit a c s (constant_fit ns ps b u typed_b s at_right)

@@ -1,18 +1,18 @@
 // The guards of comparisons.
 ghost use Rattle.std.specs.Prelude.{IfOk};
 ghost use Rattle.cat_region.specs.declared.cut.Cut.TheVariants as cuts;
-ghost use Rattle.cat_guard.specs.Comparisons.{comparison_of, scalar_dim, Equal};
+ghost use Rattle.cat_guard.specs.Comparisons.{comparison_of, threshold_dim, Equal};
 ghost use Rattle.cat_guard.specs.Questions.{against, ask, ask_truth, operated};
 ghost use Rattle.cat_audit_table.specs.Numbered.{AddsGuard, items_at, standing_at};
 ghost use Rattle.cat_audit_table.specs.inside.Seen.{seen};
 
 use crate::comparison::{Comparison, comparison_of};
 use crate::connectives::{conjunction, negation};
-use crate::constant::{constant_of, scalar_dim};
+use crate::constant::{constant_of, threshold_dim};
 use crate::here::ConditionContext;
 use crate::numbering::Numbering;
 use cat_guard::Guard;
-use cat_region::{Cut, Dim, Scalar};
+use cat_region::{Cut, Dim, Threshold};
 use cat_scope::{BinaryOp, Expr};
 use std::alloc::AllocError;
 
@@ -33,13 +33,13 @@ fn below(
     here: &ConditionContext,
     numbering: &mut Numbering,
     of: &Expr,
-    scalar: &Scalar,
+    threshold: &Threshold,
 ) -> Result<Guard, AllocError>
     ensures { IfOk result (AddsGuard (items_at here.now)
-        (ask (standing_at here.now) of.now (scalar_dim scalar.now) (cuts.Below scalar.now)) numbering.old
+        (ask (standing_at here.now) of.now (threshold_dim threshold.now) (cuts.Below threshold.now)) numbering.old
         numbering.new) }
 {
-    numbering.ask(here, of, scalar_dim(scalar), Cut::Below(*scalar))
+    numbering.ask(here, of, threshold_dim(threshold), Cut::Below(*threshold))
 }
 
 /// Whether it is at most that.
@@ -47,13 +47,13 @@ fn at_most(
     here: &ConditionContext,
     numbering: &mut Numbering,
     of: &Expr,
-    scalar: &Scalar,
+    threshold: &Threshold,
 ) -> Result<Guard, AllocError>
     ensures { IfOk result (AddsGuard (items_at here.now)
-        (ask (standing_at here.now) of.now (scalar_dim scalar.now) (cuts.AtMost scalar.now)) numbering.old
+        (ask (standing_at here.now) of.now (threshold_dim threshold.now) (cuts.AtMost threshold.now)) numbering.old
         numbering.new) }
 {
-    numbering.ask(here, of, scalar_dim(scalar), Cut::AtMost(*scalar))
+    numbering.ask(here, of, threshold_dim(threshold), Cut::AtMost(*threshold))
 }
 
 /// Whether it is equal to that: at most that, and not below it.
@@ -62,13 +62,13 @@ fn equal(
     here: &ConditionContext,
     numbering: &mut Numbering,
     of: &Expr,
-    scalar: &Scalar,
+    threshold: &Threshold,
 ) -> Result<Guard, AllocError>
-    ensures { IfOk result (AddsGuard (items_at here.now) (against (standing_at here.now) of.now Equal scalar.now)
+    ensures { IfOk result (AddsGuard (items_at here.now) (against (standing_at here.now) of.now Equal threshold.now)
         numbering.old numbering.new) }
 {
-    let most = at_most(here, numbering, of, scalar)?;
-    let less = below(here, numbering, of, scalar)?;
+    let most = at_most(here, numbering, of, threshold)?;
+    let less = below(here, numbering, of, threshold)?;
     let not_less = negation(here.alloc, less)?;
     conjunction(here.alloc, most, not_less)
 }
@@ -80,25 +80,25 @@ fn against(
     numbering: &mut Numbering,
     of: &Expr,
     comparison: Comparison,
-    scalar: &Scalar,
+    threshold: &Threshold,
 ) -> Result<Guard, AllocError>
     ensures { IfOk result (AddsGuard (items_at here.now)
-        (against (standing_at here.now) of.now (seen comparison) scalar.now) numbering.old numbering.new) }
+        (against (standing_at here.now) of.now (seen comparison) threshold.now) numbering.old numbering.new) }
 {
     match comparison {
-        Comparison::Less => below(here, numbering, of, scalar),
-        Comparison::AtMost => at_most(here, numbering, of, scalar),
+        Comparison::Less => below(here, numbering, of, threshold),
+        Comparison::AtMost => at_most(here, numbering, of, threshold),
         Comparison::Greater => {
-            let at_most = at_most(here, numbering, of, scalar)?;
+            let at_most = at_most(here, numbering, of, threshold)?;
             negation(here.alloc, at_most)
         }
         Comparison::AtLeast => {
-            let below = below(here, numbering, of, scalar)?;
+            let below = below(here, numbering, of, threshold)?;
             negation(here.alloc, below)
         }
-        Comparison::Equal => equal(here, numbering, of, scalar),
+        Comparison::Equal => equal(here, numbering, of, threshold),
         Comparison::Unequal => {
-            let equal = equal(here, numbering, of, scalar)?;
+            let equal = equal(here, numbering, of, threshold)?;
             negation(here.alloc, equal)
         }
     }
@@ -120,11 +120,11 @@ pub fn operated(
     let Some(comparison) = comparison_of(op) else {
         return ask_truth(here, numbering, whole);
     };
-    if let Some(scalar) = constant_of(right) {
-        return against(here, numbering, left, comparison, &scalar);
+    if let Some(threshold) = constant_of(right) {
+        return against(here, numbering, left, comparison, &threshold);
     }
     match constant_of(left) {
-        Some(scalar) => against(here, numbering, right, comparison.turned(), &scalar),
+        Some(threshold) => against(here, numbering, right, comparison.turned(), &threshold),
         None => ask_truth(here, numbering, whole),
     }
 }

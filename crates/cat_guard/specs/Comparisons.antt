@@ -5,8 +5,8 @@ use Rattle.cat_num.specs.Frac.{frac_negation}
 use Rattle.cat_num.specs.Numerals.{numeral_value}
 use Rattle.cat_region.specs.declared.dim.Dim.{Dim}
 use Rattle.cat_region.specs.declared.dim.Dim.TheVariants as dim
-use Rattle.cat_region.specs.declared.cut.Scalar.{Scalar}
-use Rattle.cat_region.specs.declared.cut.Scalar.TheVariants as scalar
+use Rattle.cat_region.specs.declared.cut.Threshold.{Threshold}
+use Rattle.cat_region.specs.declared.cut.Threshold.TheVariants as threshold
 use Rattle.cat_scope.specs.declared.expr.Literal.{Literal}
 use Rattle.cat_scope.specs.declared.expr.Literal.TheVariants as literal
 use Rattle.cat_scope.specs.declared.expr.Expr.{Expr}
@@ -68,39 +68,39 @@ parted Equal below at_most = Both at_most (Not below)
 parted Unequal below at_most = Not (Both at_most (Not below))
 
 -- the dimension of what may be compared with a constant
-abbrev pub scalar_dim : Scalar → Dim
-scalar_dim (scalar.Whole n) = dim.Whole
-scalar_dim (scalar.Money cents) = dim.Money
-scalar_dim (scalar.Day day) = dim.Day
-scalar_dim (scalar.Decimal f) = dim.Decimal
+abbrev pub threshold_dim : Threshold → Dim
+threshold_dim (threshold.Whole n) = dim.Whole
+threshold_dim (threshold.Money cents) = dim.Money
+threshold_dim (threshold.Day day) = dim.Day
+threshold_dim (threshold.Decimal f) = dim.Decimal
 
 -- the constant that a literal is: an integer, a decimal, an amount or a date
-abbrev pub literal_constant : Literal → Option Scalar
+abbrev pub literal_constant : Literal → Option Threshold
 literal_constant (literal.Boolean b) = None
-literal_constant (literal.Integer n) = Some (scalar.Whole n)
-literal_constant (literal.Decimal d) = Some (scalar.Decimal (numeral_value d))
-literal_constant (literal.Money cents) = Some (scalar.Money cents)
-literal_constant (literal.Date day) = Some (scalar.Day day)
+literal_constant (literal.Integer n) = Some (threshold.Whole n)
+literal_constant (literal.Decimal d) = Some (threshold.Decimal (numeral_value d))
+literal_constant (literal.Money cents) = Some (threshold.Money cents)
+literal_constant (literal.Date day) = Some (threshold.Day day)
 literal_constant (literal.Duration span) = None
 
 -- the constant that a negated literal is
-abbrev pub negated_constant : UnaryOp → Literal → Option Scalar
-negated_constant unary.NegateInteger (literal.Integer n) = Some (scalar.Whole (neg_ℤ n))
-negated_constant unary.NegateDecimal (literal.Decimal d) = Some (scalar.Decimal (frac_negation (numeral_value d)))
-negated_constant unary.NegateMoney (literal.Money cents) = Some (scalar.Money (neg_ℤ cents))
+abbrev pub negated_constant : UnaryOp → Literal → Option Threshold
+negated_constant unary.NegateInteger (literal.Integer n) = Some (threshold.Whole (neg_ℤ n))
+negated_constant unary.NegateDecimal (literal.Decimal d) = Some (threshold.Decimal (frac_negation (numeral_value d)))
+negated_constant unary.NegateMoney (literal.Money cents) = Some (threshold.Money (neg_ℤ cents))
 negated_constant _ _ = None
 
 -- the constant that an operator before an expression of that form is
-abbrev pub constant_under : UnaryOp → Expr-F Expr Arm FieldValue → Option Scalar
+abbrev pub constant_under : UnaryOp → Expr-F Expr Arm FieldValue → Option Threshold
 constant_under o (Expr-F.Literal p l) = negated_constant o l
 constant_under o _ = None
 
 -- the constant that an expression of that form is
-abbrev pub constant_in : Expr-F Expr Arm FieldValue → Option Scalar
+abbrev pub constant_in : Expr-F Expr Arm FieldValue → Option Threshold
 constant_in (Expr-F.Literal p l) = literal_constant l
 constant_in (Expr-F.Unary p o e) = constant_under o (out-Expr e)
 constant_in _ = None
 
 -- the constant that an expression is, where it is a literal or a negated one
-abbrev pub constant_of : Expr → Option Scalar
+abbrev pub constant_of : Expr → Option Threshold
 constant_of e = constant_in (out-Expr e)

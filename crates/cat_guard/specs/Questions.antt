@@ -4,7 +4,7 @@ use Rattle.cat_value.specs.declared.decls.Decls.{Decls}
 use Rattle.cat_region.specs.declared.dim.Dim.{Dim}
 use Rattle.cat_region.specs.declared.dim.Dim.TheVariants as dim
 use Rattle.cat_region.specs.declared.cut.Cut.{Cut}
-use Rattle.cat_region.specs.declared.cut.Scalar.{Scalar}
+use Rattle.cat_region.specs.declared.cut.Threshold.{Threshold}
 use Rattle.cat_region.specs.declared.cut.Cut.TheVariants as cut
 use Rattle.cat_scope.specs.declared.expr.Literal.{Literal}
 use Rattle.cat_scope.specs.declared.expr.Literal.TheVariants as literal
@@ -22,7 +22,7 @@ use Rattle.cat_scope.specs.Fitting.{cases_in}
 use Rattle.cat_scope.specs.Same.{Standing}
 use Rattle.cat_guard.specs.Formulas.{Formula}
 use Rattle.cat_guard.specs.Formulas as formula
-use Rattle.cat_guard.specs.Comparisons.{Comparison, comparison_of, turned, parted, scalar_dim, constant_of}
+use Rattle.cat_guard.specs.Comparisons.{Comparison, comparison_of, turned, parted, threshold_dim, constant_of}
 
 -- a cut of a term: of an expression in the definitions of a function or of a variable, with the dimension of its values
 pub record Question : Type 0 where
@@ -40,11 +40,12 @@ abbrev pub ask_truth : Standing → Expr → Formula Question
 ask_truth g e = ask g e dim.Truth cut.IsTrue
 
 -- an expression compared with a constant on its right
-abbrev pub against : Standing → Expr → Comparison → Scalar → Formula Question
-against g e c s = parted c (ask g e (scalar_dim s) (cut.Below s)) (ask g e (scalar_dim s) (cut.AtMost s))
+abbrev pub against : Standing → Expr → Comparison → Threshold → Formula Question
+against g e c s = parted c (ask g e (threshold_dim s) (cut.Below s)) (ask g e (threshold_dim s) (cut.AtMost s))
 
 -- a comparison of two expressions: with the constant on the right, and else with the one on the left, turned round
-abbrev pub compared : Standing → Expr → Comparison → Expr → Option Scalar → Expr → Option Scalar → Formula Question
+abbrev pub compared : Standing → Expr → Comparison → Expr → Option Threshold → Expr → Option Threshold
+    → Formula Question
 compared g e c a left b (Some s) = against g a c s
 compared g e c a (Some s) b None = against g b (turned c) s
 compared g e c a None b None = ask_truth g e

@@ -8,8 +8,8 @@ use Rattle.cat_value.specs.declared.declaration.ItemDecl.{ItemDecl}
 use Rattle.cat_value.specs.Inputs.{must_be_given}
 use Rattle.cat_region.specs.declared.dim.Dim.{Dim}
 use Rattle.cat_region.specs.declared.dim.Dim.TheVariants as dim
-use Rattle.cat_region.specs.declared.cut.Scalar.{Scalar}
-use Rattle.cat_region.specs.declared.cut.Scalar.TheVariants as scalar
+use Rattle.cat_region.specs.declared.cut.Threshold.{Threshold}
+use Rattle.cat_region.specs.declared.cut.Threshold.TheVariants as threshold
 use Rattle.cat_region.specs.declared.cut.Cut.{Cut}
 use Rattle.cat_region.specs.declared.cut.Cut.TheVariants as cut
 use Rattle.cat_scope.specs.declared.expr.Expr.{Expr}
@@ -36,17 +36,17 @@ same_dim (dim.Cases n) (dim.Cases m) = nat_eq n m
 same_dim _ _ = false
 
 -- two constants are one
-abbrev pub same_scalar : Scalar → Scalar → Bool
-same_scalar (scalar.Whole a) (scalar.Whole b) = int_eq a b
-same_scalar (scalar.Money a) (scalar.Money b) = int_eq a b
-same_scalar (scalar.Day a) (scalar.Day b) = int_eq a b
-same_scalar (scalar.Decimal f) (scalar.Decimal g) = int_eq f.num g.num && nat_eq f.den g.den
-same_scalar _ _ = false
+abbrev pub same_threshold : Threshold → Threshold → Bool
+same_threshold (threshold.Whole a) (threshold.Whole b) = int_eq a b
+same_threshold (threshold.Money a) (threshold.Money b) = int_eq a b
+same_threshold (threshold.Day a) (threshold.Day b) = int_eq a b
+same_threshold (threshold.Decimal f) (threshold.Decimal g) = int_eq f.num g.num && nat_eq f.den g.den
+same_threshold _ _ = false
 
 -- two cuts are one
 abbrev pub same_cut : Cut → Cut → Bool
-same_cut (cut.Below a) (cut.Below b) = same_scalar a b
-same_cut (cut.AtMost a) (cut.AtMost b) = same_scalar a b
+same_cut (cut.Below a) (cut.Below b) = same_threshold a b
+same_cut (cut.AtMost a) (cut.AtMost b) = same_threshold a b
 same_cut cut.IsTrue cut.IsTrue = true
 same_cut (cut.IsCase k) (cut.IsCase m) = nat_eq k m
 same_cut _ _ = false

@@ -5,7 +5,7 @@ use Rattle.std.proofs.Common.{unsigned_abs, true≢false}
 use Rattle.std.specs.Prelude.{int_lt, int_le, ◌+ℤ◌, ◌-ℤ◌, ◌&&◌}
 use Rattle.std.proofs.lemmas.Int.{ints}
 use Rattle.cat_num.specs.Frac.{Fraction, lowest}
-use Rattle.cat_region.specs.declared.cut.Scalar.TheVariants as scalar
+use Rattle.cat_region.specs.declared.cut.Threshold.TheVariants as threshold
 use Rattle.cat_region.specs.declared.extent.Range.{Range}
 use Rattle.cat_region.specs.Points.{is_bound}
 use Rattle.cat_region.specs.Extents.{place, farthest}
@@ -72,21 +72,21 @@ more-than n m f h l = more n m f (not-below n m h) l
     more n m f e l = grind (arith, ints)
 
 -- an end next to a bound is within the outermost ranks
-upper-inner : (b : Fraction) (n : ℤ) → IsTrue (is_bound b) → n ≡ place (scalar.Decimal b) -ℤ pos 1
+upper-inner : (b : Fraction) (n : ℤ) → IsTrue (is_bound b) → n ≡ place (threshold.Decimal b) -ℤ pos 1
     → int_lt n (pos farthest) ≡ true
 upper-inner b n h e =
     less-than n 2_000_000_000_000_000_001 farthest
-    (omega (arith, ap unsigned_abs e, one-less (place (scalar.Decimal b)), place-bound b h)) (omega arith)
+    (omega (arith, ap unsigned_abs e, one-less (place (threshold.Decimal b)), place-bound b h)) (omega arith)
 
-lower-inner : (a : Fraction) (n : ℤ) → IsTrue (is_bound a) → n ≡ place (scalar.Decimal a) +ℤ pos 1
+lower-inner : (a : Fraction) (n : ℤ) → IsTrue (is_bound a) → n ≡ place (threshold.Decimal a) +ℤ pos 1
     → int_lt (neg_ℤ (pos farthest)) n ≡ true
 lower-inner a n h e =
     more-than n 2_000_000_000_000_000_001 farthest
-    (omega (arith, ap unsigned_abs e, one-more (place (scalar.Decimal a)), place-bound a h)) (omega arith)
+    (omega (arith, ap unsigned_abs e, one-more (place (threshold.Decimal a)), place-bound a h)) (omega arith)
 
 -- which bounds a test admits
 abbrev pub TellsPlaces : (Fraction → Bool) → Range → Type 0
-TellsPlaces admitted r = (c : Fraction) → IsTrue (is_bound c) → admitted c ≡ lies (place (scalar.Decimal c)) r
+TellsPlaces admitted r = (c : Fraction) → IsTrue (is_bound c) → admitted c ≡ lies (place (threshold.Decimal c)) r
 
 -- of a range without 0 the fraction between its bounds is that of its parts
 pub chosen-between : (r : Range) (admitted : Fraction → Bool) → TellsPlaces admitted r → int_lt r.high r.low ≡ false
@@ -95,28 +95,30 @@ pub chosen-between : (r : Range) (admitted : Fraction → Bool) → TellsPlaces 
     → lowest_of (outer_parts r) ≡ between admitted l u
 chosen-between r admitted tells some apart l u lower upper = by l u lower upper
   where
-    low-in : (a : Fraction) → IsTrue (is_bound a) → r.low ≡ place (scalar.Decimal a) → admitted a ≡ true
+    low-in : (a : Fraction) → IsTrue (is_bound a) → r.low ≡ place (threshold.Decimal a) → admitted a ≡ true
     low-in a h e = tells a h ∙ ap (λ n. lies n r) (sym e) ∙ lies_in r.low r (same_is_not_less r.low) some
 
-    low-out : (a : Fraction) → IsTrue (is_bound a) → r.low ≡ place (scalar.Decimal a) +ℤ pos 1 → admitted a ≡ false
-    low-out a h e = tells a h ∙ below-lies (place (scalar.Decimal a)) r (next-above r.low (place (scalar.Decimal a)) e)
+    low-out : (a : Fraction) → IsTrue (is_bound a) → r.low ≡ place (threshold.Decimal a) +ℤ pos 1 → admitted a ≡ false
+    low-out a h e =
+        tells a h ∙ below-lies (place (threshold.Decimal a)) r (next-above r.low (place (threshold.Decimal a)) e)
 
-    high-in : (b : Fraction) → IsTrue (is_bound b) → r.high ≡ place (scalar.Decimal b) → admitted b ≡ true
+    high-in : (b : Fraction) → IsTrue (is_bound b) → r.high ≡ place (threshold.Decimal b) → admitted b ≡ true
     high-in b h e = tells b h ∙ ap (λ n. lies n r) (sym e) ∙ lies_in r.high r some (same_is_not_less r.high)
 
-    high-out : (b : Fraction) → IsTrue (is_bound b) → r.high ≡ place (scalar.Decimal b) -ℤ pos 1 → admitted b ≡ false
-    high-out b h e = tells b h ∙ above-lies (place (scalar.Decimal b)) r
-        (next-below r.high (place (scalar.Decimal b)) e)
+    high-out : (b : Fraction) → IsTrue (is_bound b) → r.high ≡ place (threshold.Decimal b) -ℤ pos 1 → admitted b ≡ false
+    high-out b h e = tells b h ∙ above-lies (place (threshold.Decimal b)) r
+        (next-below r.high (place (threshold.Decimal b)) e)
 
-    even : (c : Fraction) (n : ℤ) → IsTrue (is_bound c) → n ≡ place (scalar.Decimal c) → is_even n ≡ true
+    even : (c : Fraction) (n : ℤ) → IsTrue (is_bound c) → n ≡ place (threshold.Decimal c) → is_even n ≡ true
     even c n h e = ap is_even e ∙ even-place c h
 
-    odd-low : (a : Fraction) → IsTrue (is_bound a) → r.low ≡ place (scalar.Decimal a) +ℤ pos 1 → is_even r.low ≡ false
-    odd-low a h e = ap is_even e ∙ odd-over (place (scalar.Decimal a)) (even-place a h)
+    odd-low : (a : Fraction) → IsTrue (is_bound a) → r.low ≡ place (threshold.Decimal a) +ℤ pos 1
+        → is_even r.low ≡ false
+    odd-low a h e = ap is_even e ∙ odd-over (place (threshold.Decimal a)) (even-place a h)
 
-    odd-high : (b : Fraction) → IsTrue (is_bound b) → r.high ≡ place (scalar.Decimal b) -ℤ pos 1
+    odd-high : (b : Fraction) → IsTrue (is_bound b) → r.high ≡ place (threshold.Decimal b) -ℤ pos 1
         → is_even r.high ≡ false
-    odd-high b h e = ap is_even e ∙ odd-under (place (scalar.Decimal b)) (even-place b h)
+    odd-high b h e = ap is_even e ∙ odd-under (place (threshold.Decimal b)) (even-place b h)
 
     by_upper : (b : Fraction) → IsUpper (Some b) r.high → r.low ≡ neg_ℤ (pos farthest)
         → lowest_of (outer_parts r) ≡ (if admitted b then b else plus b (negsuc 0))
@@ -127,7 +129,7 @@ chosen-between r admitted tells some apart l u lower upper = by l u lower upper
         ∙ inner-under r (upper-inner b r.high h f) (ap (int_lt (neg_ℤ (pos farthest))) e))
         ∙ value-under b r.high h f ∙ sym (rw (high-out b h f) refl)
 
-    by_both : (a b : Fraction) → IsTrue (is_bound a) → r.low ≡ place (scalar.Decimal a) +ℤ pos 1
+    by_both : (a b : Fraction) → IsTrue (is_bound a) → r.low ≡ place (threshold.Decimal a) +ℤ pos 1
         → IsUpper (Some b) r.high
         → lowest_of (outer_parts r) ≡ (if admitted b then b else middle a b)
     by_both a b g e (h, inl f) = ap lowest_of (outer-high r (odd-low a g e) (even b r.high h f))

@@ -16,7 +16,7 @@ use Rattle.std.proofs.Math.Nat.{mul-mod_left, div-add-mod, mod-lt}
 use Rattle.cat_num.specs.Frac.{Fraction, frac_order}
 use Rattle.cat_region.specs.declared.dim.Dim.{Dim}
 use Rattle.cat_region.specs.declared.dim.Dim.TheVariants as dim
-use Rattle.cat_region.specs.declared.cut.Scalar.TheVariants as scalar
+use Rattle.cat_region.specs.declared.cut.Threshold.TheVariants as threshold
 use Rattle.cat_region.specs.declared.cut.Cut.{Cut}
 use Rattle.cat_region.specs.declared.cut.Cut.TheVariants as cut
 use Rattle.cat_region.specs.declared.point.Point.TheVariants as point
@@ -34,29 +34,31 @@ use Rattle.cat_region.proofs.PartLemmas.{place-bound, one-more, one-less, not-ab
 use Rattle.cat_region.proofs.AdmitLemmas.{IsAt, AreCuts, cut_of}
 
 -- a bound is its own place
-pub rank-place : (c : Fraction) → IsTrue (is_bound c) → rank (point.Decimal c) ≡ place (scalar.Decimal c)
+pub rank-place : (c : Fraction) → IsTrue (is_bound c) → rank (point.Decimal c) ≡ place (threshold.Decimal c)
 rank-place c h =
-    int_ranked (rank (point.Decimal c)) (place (scalar.Decimal c)) Equal
+    int_ranked (rank (point.Decimal c)) (place (threshold.Decimal c)) Equal
     (int_cmp_is (c.num *ℤ pos c.den) (c.num *ℤ pos c.den) Equal refl
-    ∙ point_order-ranks dim.Decimal (scalar.Decimal c) (point.Decimal c) h (bound_parts c h).0)
+    ∙ point_order-ranks dim.Decimal (threshold.Decimal c) (point.Decimal c) h (bound_parts c h).0)
 
 -- bounds stand to each other as their places
 order-places : (c a : Fraction) → IsTrue (is_bound c) → IsTrue (is_bound a)
-    → is_lt (frac_order c a) ≡ int_lt (place (scalar.Decimal c)) (place (scalar.Decimal a))
+    → is_lt (frac_order c a) ≡ int_lt (place (threshold.Decimal c)) (place (threshold.Decimal a))
 order-places c a h k =
-    ap is_lt (point_order-ranks dim.Decimal (scalar.Decimal a) (point.Decimal c) k (bound_parts c h).0)
-    ∙ is_lt-int_cmp (rank (point.Decimal c)) (place (scalar.Decimal a))
-    ∙ ap (λ n. int_lt n (place (scalar.Decimal a))) (rank-place c h)
+    ap is_lt (point_order-ranks dim.Decimal (threshold.Decimal a) (point.Decimal c) k (bound_parts c h).0)
+    ∙ is_lt-int_cmp (rank (point.Decimal c)) (place (threshold.Decimal a))
+    ∙ ap (λ n. int_lt n (place (threshold.Decimal a))) (rank-place c h)
 
 -- the upper end is the least upper bound, or just below it
 abbrev pub IsUpper : Option Fraction → ℤ → Type 0
 IsUpper None n = n ≡ pos farthest
-IsUpper (Some c) n = IsTrue (is_bound c) × ((n ≡ place (scalar.Decimal c)) ⊎ (n ≡ place (scalar.Decimal c) -ℤ pos 1))
+IsUpper (Some c) n =
+    IsTrue (is_bound c) × ((n ≡ place (threshold.Decimal c)) ⊎ (n ≡ place (threshold.Decimal c) -ℤ pos 1))
 
 -- the lower end is the greatest lower bound, or just above it
 abbrev pub IsLower : Option Fraction → ℤ → Type 0
 IsLower None n = n ≡ neg_ℤ (pos farthest)
-IsLower (Some c) n = IsTrue (is_bound c) × ((n ≡ place (scalar.Decimal c)) ⊎ (n ≡ place (scalar.Decimal c) +ℤ pos 1))
+IsLower (Some c) n =
+    IsTrue (is_bound c) × ((n ≡ place (threshold.Decimal c)) ⊎ (n ≡ place (threshold.Decimal c) +ℤ pos 1))
 
 abbrev pub IsBounded : Option Fraction → Option Fraction → Extent → Type 0
 IsBounded lower upper (Ranks r) = IsLower lower r.low × IsUpper upper r.high
@@ -99,16 +101,16 @@ under-old p q h k (inr e) (inl f) l = inr (min-left h k (grind (arith, ints)) �
 under-old p q h k (inr e) (inr f) l = inr (min-left h k (grind (arith, ints)) ∙ e)
 
 upper-next : (o : Option Fraction) (c : Fraction) (h k : ℤ) → IsTrue (is_bound c) → IsUpper o h
-    → IsUnder (place (scalar.Decimal c)) k
+    → IsUnder (place (threshold.Decimal c)) k
     → IsUpper (closer true o (Some c)) (int_min h k)
 upper-next None c h k bound is next = (
   bound,
-  subst (λ n. IsUnder (place (scalar.Decimal c)) n)
+  subst (λ n. IsUnder (place (threshold.Decimal c)) n)
       (sym (min-right h k (far next))) next,
 )
   where
     p : ℤ
-    p = place (scalar.Decimal c)
+    p = place (threshold.Decimal c)
 
     small : IsUnder p k → unsigned_abs k ≤ farthest
     small (inl e) = omega (arith, place-bound c bound, ap unsigned_abs e)
@@ -118,16 +120,17 @@ upper-next None c h k bound is next = (
     far n = ap (λ m. int_lt m k) is ∙ not-above k farthest (small n)
 upper-next (Some a) c h k bound is next =
     subst (λ b. IsUpper (if b then Some c else Some a) (int_min h k)) (sym (order-places c a bound is.0))
-    (by (int_lt (place (scalar.Decimal c)) (place (scalar.Decimal a))) refl)
+    (by (int_lt (place (threshold.Decimal c)) (place (threshold.Decimal a))) refl)
   where
-    by : (b : Bool) → int_lt (place (scalar.Decimal c)) (place (scalar.Decimal a)) ≡ b
+    by : (b : Bool) → int_lt (place (threshold.Decimal c)) (place (threshold.Decimal a)) ≡ b
         → IsUpper (if b then Some c else Some a) (int_min h k)
     by true e = (
       bound,
-      subst (λ n. IsUnder (place (scalar.Decimal c)) n)
-          (sym (min-right h k (under-new (place (scalar.Decimal c)) (place (scalar.Decimal a)) h k is.1 next e))) next,
+      subst (λ n. IsUnder (place (threshold.Decimal c)) n)
+          (sym (min-right h k
+          (under-new (place (threshold.Decimal c)) (place (threshold.Decimal a)) h k is.1 next e))) next,
     )
-    by false e = (is.0, under-old (place (scalar.Decimal c)) (place (scalar.Decimal a)) h k is.1 next e)
+    by false e = (is.0, under-old (place (threshold.Decimal c)) (place (threshold.Decimal a)) h k is.1 next e)
 
 over-new : (p q l k : ℤ) → IsOver q l → IsOver p k → int_lt q p ≡ true → int_lt k l ≡ false
 over-new p q l k (inl e) (inl f) h = grind (arith, ints)
@@ -146,16 +149,16 @@ over-old p q l k (inr e) (inl f) h = inr (max-left l k (grind (arith, ints)) ∙
 over-old p q l k (inr e) (inr f) h = inr (max-left l k (grind (arith, ints)) ∙ e)
 
 lower-next : (o : Option Fraction) (c : Fraction) (l k : ℤ) → IsTrue (is_bound c) → IsLower o l
-    → IsOver (place (scalar.Decimal c)) k
+    → IsOver (place (threshold.Decimal c)) k
     → IsLower (closer false o (Some c)) (int_max l k)
 lower-next None c l k bound is next = (
   bound,
-  subst (λ n. IsOver (place (scalar.Decimal c)) n)
+  subst (λ n. IsOver (place (threshold.Decimal c)) n)
       (sym (max-right l k (far next))) next,
 )
   where
     p : ℤ
-    p = place (scalar.Decimal c)
+    p = place (threshold.Decimal c)
 
     small : IsOver p k → unsigned_abs k ≤ farthest
     small (inl e) = omega (arith, place-bound c bound, ap unsigned_abs e)
@@ -165,16 +168,17 @@ lower-next None c l k bound is next = (
     far n = ap (λ m. int_lt k m) is ∙ not-below k farthest (small n)
 lower-next (Some a) c l k bound is next =
     subst (λ b. IsLower (if b then Some c else Some a) (int_max l k)) (sym (order-places a c is.0 bound))
-    (by (int_lt (place (scalar.Decimal a)) (place (scalar.Decimal c))) refl)
+    (by (int_lt (place (threshold.Decimal a)) (place (threshold.Decimal c))) refl)
   where
-    by : (b : Bool) → int_lt (place (scalar.Decimal a)) (place (scalar.Decimal c)) ≡ b
+    by : (b : Bool) → int_lt (place (threshold.Decimal a)) (place (threshold.Decimal c)) ≡ b
         → IsLower (if b then Some c else Some a) (int_max l k)
     by true e = (
       bound,
-      subst (λ n. IsOver (place (scalar.Decimal c)) n)
-          (sym (max-right l k (over-new (place (scalar.Decimal c)) (place (scalar.Decimal a)) l k is.1 next e))) next,
+      subst (λ n. IsOver (place (threshold.Decimal c)) n)
+          (sym (max-right l k
+          (over-new (place (threshold.Decimal c)) (place (threshold.Decimal a)) l k is.1 next e))) next,
     )
-    by false e = (is.0, over-old (place (scalar.Decimal c)) (place (scalar.Decimal a)) l k is.1 next e)
+    by false e = (is.0, over-old (place (threshold.Decimal c)) (place (threshold.Decimal a)) l k is.1 next e)
 
 -- another bound of neither side leaves the closest one
 closer-none : (under : Bool) (o : Option Fraction) → closer under o None ≡ o
@@ -190,23 +194,23 @@ by_cut : (lower upper : Option Fraction) (e : Extent) (c : Cut) (so : Bool) → 
     → IsBounded (closer false lower (if beq so false then decimal_of c else None))
     (closer true upper (if beq so true then decimal_of c else None)) (narrowed e c so)
 by_cut lower upper (Cases set) c so kind is = absurd is
-by_cut lower upper (Ranks r) (cut.Below (scalar.Decimal c)) true kind is = (
+by_cut lower upper (Ranks r) (cut.Below (threshold.Decimal c)) true kind is = (
   subst (λ o. IsLower o r.low) (sym (closer-none false lower)) is.0,
   upper-next upper c r.high
-      (place (scalar.Decimal c) -ℤ pos 1) kind is.1 (inr refl),
+      (place (threshold.Decimal c) -ℤ pos 1) kind is.1 (inr refl),
 )
-by_cut lower upper (Ranks r) (cut.AtMost (scalar.Decimal c)) true kind is = (
+by_cut lower upper (Ranks r) (cut.AtMost (threshold.Decimal c)) true kind is = (
   subst (λ o. IsLower o r.low) (sym (closer-none false lower)) is.0,
-  upper-next upper c r.high (place (scalar.Decimal c) +ℤ pos 1 -ℤ pos 1) kind is.1
-      (inl (more-less (place (scalar.Decimal c)))),
+  upper-next upper c r.high (place (threshold.Decimal c) +ℤ pos 1 -ℤ pos 1) kind is.1
+      (inl (more-less (place (threshold.Decimal c)))),
 )
-by_cut lower upper (Ranks r) (cut.Below (scalar.Decimal c)) false kind is = (
-  lower-next lower c r.low (place (scalar.Decimal c)) kind is.0 (inl refl),
+by_cut lower upper (Ranks r) (cut.Below (threshold.Decimal c)) false kind is = (
+  lower-next lower c r.low (place (threshold.Decimal c)) kind is.0 (inl refl),
   subst (λ o. IsUpper o r.high)
       (sym (closer-none true upper)) is.1,
 )
-by_cut lower upper (Ranks r) (cut.AtMost (scalar.Decimal c)) false kind is = (
-  lower-next lower c r.low (place (scalar.Decimal c) +ℤ pos 1) kind is.0 (inr refl),
+by_cut lower upper (Ranks r) (cut.AtMost (threshold.Decimal c)) false kind is = (
+  lower-next lower c r.low (place (threshold.Decimal c) +ℤ pos 1) kind is.0 (inr refl),
   subst (λ o. IsUpper o r.high)
       (sym (closer-none true upper)) is.1,
 )
@@ -242,7 +246,7 @@ unfolding start
 IsBounded-start = (refl, refl)
 
 -- places are even, and their neighbours are odd
-pub even-place : (c : Fraction) → IsTrue (is_bound c) → is_even (place (scalar.Decimal c)) ≡ true
+pub even-place : (c : Fraction) → IsTrue (is_bound c) → is_even (place (threshold.Decimal c)) ≡ true
 even-place c h =
     let parts = bound_parts c h in
     let k = 1_000_000_000 / c.den in

@@ -4,7 +4,7 @@ use lib.Count.{count_trailing_zeros}
 use Rattle.cat_num.specs.Frac.{Fraction, gcd, lowest}
 use Rattle.cat_region.specs.declared.dim.Dim.{Dim}
 use Rattle.cat_region.specs.declared.dim.Dim.TheVariants as dim
-use Rattle.cat_region.specs.declared.cut.Scalar.TheVariants as scalar
+use Rattle.cat_region.specs.declared.cut.Threshold.TheVariants as threshold
 use Rattle.cat_region.specs.declared.cut.Cut.{Cut}
 use Rattle.cat_region.specs.declared.cut.Cut.TheVariants as cut
 use Rattle.cat_region.specs.declared.point.Point.TheVariants as point
@@ -20,16 +20,16 @@ abbrev over : ℤ → ℕ → Fraction
 over n d = record { num = n; den = d }
 
 abbrev below : ℤ → Cut
-below n = cut.Below (scalar.Whole n)
+below n = cut.Below (threshold.Whole n)
 
 abbrev at_most : ℤ → Cut
-at_most n = cut.AtMost (scalar.Whole n)
+at_most n = cut.AtMost (threshold.Whole n)
 
 abbrev decimal_below : ℤ → ℕ → Cut
-decimal_below n d = cut.Below (scalar.Decimal (over n d))
+decimal_below n d = cut.Below (threshold.Decimal (over n d))
 
 abbrev decimal_at_most : ℤ → ℕ → Cut
-decimal_at_most n d = cut.AtMost (scalar.Decimal (over n d))
+decimal_at_most n d = cut.AtMost (threshold.Decimal (over n d))
 
 -- cuts: 5 is not below 5 and is at most 5; a third is below 0.34; the other truth value and the other case
 five_is_not_below_five : answer (below (pos 5)) (point.Whole (pos 5)) ≡ false

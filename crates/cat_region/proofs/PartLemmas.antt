@@ -17,7 +17,7 @@ use Rattle.cat_num.proofs.Exported.{unsigned_abs-signed}
 use Rattle.cat_date.specs.Calendar.{first_day, last_day, is_day}
 use Rattle.cat_region.specs.declared.dim.Dim.{Dim}
 use Rattle.cat_region.specs.declared.dim.Dim.TheVariants as dim
-use Rattle.cat_region.specs.declared.cut.Scalar.TheVariants as scalar
+use Rattle.cat_region.specs.declared.cut.Threshold.TheVariants as threshold
 use Rattle.cat_region.specs.declared.cut.Cut.{Cut}
 use Rattle.cat_region.specs.declared.cut.Cut.TheVariants as cut
 use Rattle.cat_region.specs.declared.point.Point.{Point}
@@ -171,7 +171,7 @@ more-less n = omega (arith, ints)
 
 -- no bound has a rank past twice 10^18
 pub place-bound : (c : Fraction) → IsTrue (is_bound c)
-    → unsigned_abs (place (scalar.Decimal c)) ≤ 2_000_000_000_000_000_000
+    → unsigned_abs (place (threshold.Decimal c)) ≤ 2_000_000_000_000_000_000
 place-bound c h =
     let parts = bound_parts c h in
     let k = 2_000_000_000 / c.den in
@@ -181,12 +181,12 @@ place-bound c h =
 
 limit-bound : (c : Cut) → IsTrue (is_cut dim.Decimal c) → (unsigned_abs (limit c) ≤ 2_000_000_000_000_000_001)
     × (unsigned_abs (limit c -ℤ pos 1) ≤ 2_000_000_000_000_000_001)
-limit-bound (cut.Below (scalar.Decimal c)) h =
-    let n = place (scalar.Decimal c) in
+limit-bound (cut.Below (threshold.Decimal c)) h =
+    let n = place (threshold.Decimal c) in
     let bound = place-bound c h in
     (omega arith, omega (arith, one-less n))
-limit-bound (cut.AtMost (scalar.Decimal c)) h =
-    let n = place (scalar.Decimal c) in
+limit-bound (cut.AtMost (threshold.Decimal c)) h =
+    let n = place (threshold.Decimal c) in
     let bound = place-bound c h in (
       omega (arith, one-more n),
       subst (λ (m : ℤ). unsigned_abs m ≤ 2_000_000_000_000_000_001) (sym (more-less n))

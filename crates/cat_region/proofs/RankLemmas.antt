@@ -1,4 +1,4 @@
--- Values stand to scalars as their ranks do.
+-- Values stand to thresholds as their ranks do.
 use Rattle.std.proofs.Common.{◌≡◌, ◌⊎◌, inl, inr, ℕ, zero, suc, ◌+◌, ◌*◌, ◌/◌, ◌%◌, ◌<◌, ◌≤◌, ◌==◌, ℤ, pos, negsuc}
 use Rattle.std.proofs.Common.{◌*ℤ◌, ◌<ℤ◌}
 use Rattle.std.proofs.Common.{Bool, true, false, IsTrue, refl, sym, ap, ◌∙◌, subst, arith, if◌then◌else◌, unsigned_abs}
@@ -14,11 +14,11 @@ use Rattle.cat_num.specs.Frac.{Fraction, frac_order, is_negative, signed, is_red
 use Rattle.cat_num.specs.Whole.{largest, fits}
 use Rattle.cat_region.specs.declared.dim.Dim.{Dim}
 use Rattle.cat_region.specs.declared.dim.Dim.TheVariants as dim
-use Rattle.cat_region.specs.declared.cut.Scalar.{Scalar}
-use Rattle.cat_region.specs.declared.cut.Scalar.TheVariants as scalar
+use Rattle.cat_region.specs.declared.cut.Threshold.{Threshold}
+use Rattle.cat_region.specs.declared.cut.Threshold.TheVariants as threshold
 use Rattle.cat_region.specs.declared.point.Point.{Point}
 use Rattle.cat_region.specs.declared.point.Point.TheVariants as point
-use Rattle.cat_region.specs.Points.{is_point, is_scalar, is_bound, point_order}
+use Rattle.cat_region.specs.Points.{is_point, is_threshold, is_bound, point_order}
 use Rattle.cat_region.specs.Extents.{rank, place}
 use Rattle.cat_region.proofs.Tests.{le_of, lt_of, eq_of, positive_is, and-parts}
 
@@ -132,13 +132,13 @@ pub double : (d k : ℕ) → 0 < d → 1_000_000_000 ≡ d * k → 2_000_000_000
 double d k p is = ap (λ (n : ℕ). n / d) (omega (arith, is)) ∙ mul-div_cancel (2 * k) p
 
 decimal_order : (f c : Fraction) → IsTrue (is_reduced f) → IsTrue (is_bound c)
-    → frac_order f c ≡ int_cmp (rank (point.Decimal f)) (place (scalar.Decimal c))
+    → frac_order f c ≡ int_cmp (rank (point.Decimal f)) (place (threshold.Decimal c))
 unfolding rank
 decimal_order f c hf hc =
     let parts = bound_parts c hc in
     let k = 1_000_000_000 / c.den in
     let l = positive_den c parts.0 in
-    int_cmp_is (rank (point.Decimal f)) (place (scalar.Decimal c)) (frac_order f c)
+    int_cmp_is (rank (point.Decimal f)) (place (threshold.Decimal c)) (frac_order f c)
     (subst (λ (m : ℕ). MatchOrdering (frac_order f c) (rank (point.Decimal f) <ℤ (c.num *ℤ pos m))
     (rank (point.Decimal f) ≡ c.num *ℤ pos m) ((c.num *ℤ pos m) <ℤ rank (point.Decimal f)))
     (sym (double c.den k l parts.1))
@@ -146,14 +146,14 @@ decimal_order f c hf hc =
     (factor-positive 1_000_000_000 c.den k (omega arith) parts.1) parts.1 (frac_order f c)
     (int_ranks (f.num *ℤ pos c.den) (c.num *ℤ pos f.den))))
 
--- a value stands to a scalar as its rank to the scalar's place
-pub point_order-ranks : (d : Dim) (c : Scalar) (x : Point) → IsTrue (is_scalar d c) → IsTrue (is_point d x)
+-- a value stands to a threshold as its rank to the threshold's place
+pub point_order-ranks : (d : Dim) (c : Threshold) (x : Point) → IsTrue (is_threshold d c) → IsTrue (is_point d x)
     → point_order x c ≡ int_cmp (rank x) (place c)
 unfolding rank
-point_order-ranks dim.Whole (scalar.Whole c) (point.Whole n) h k = refl
-point_order-ranks dim.Money (scalar.Money c) (point.Money n) h k = refl
-point_order-ranks dim.Day (scalar.Day c) (point.Day n) h k = refl
-point_order-ranks dim.Decimal (scalar.Decimal c) (point.Decimal f) h k = decimal_order f c k h
+point_order-ranks dim.Whole (threshold.Whole c) (point.Whole n) h k = refl
+point_order-ranks dim.Money (threshold.Money c) (point.Money n) h k = refl
+point_order-ranks dim.Day (threshold.Day c) (point.Day n) h k = refl
+point_order-ranks dim.Decimal (threshold.Decimal c) (point.Decimal f) h k = decimal_order f c k h
 point_order-ranks d c x h k = absurd (cc)
 
 pub is_lt-int_cmp : (a b : ℤ) → is_lt (int_cmp a b) ≡ int_lt a b

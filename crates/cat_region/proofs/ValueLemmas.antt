@@ -6,7 +6,7 @@ use Rattle.std.proofs.lemmas.Int.{ints}
 use Rattle.cat_num.specs.Whole.{largest, fits}
 use Rattle.cat_num.specs.Frac.{Fraction, IsReduced, is_reduced, gcd, lowest}
 use Rattle.cat_num.proofs.Exported.{lowest_is}
-use Rattle.cat_region.specs.declared.cut.Scalar.TheVariants as scalar
+use Rattle.cat_region.specs.declared.cut.Threshold.TheVariants as threshold
 use Rattle.cat_region.specs.Points.{is_bound}
 use Rattle.cat_region.specs.Extents.{place}
 use Rattle.cat_region.specs.Choices.{plus, middle}
@@ -17,7 +17,8 @@ use Rattle.cat_region.proofs.PointLemmas.{sum-sized}
 use Rattle.cat_region.proofs.FractionLemmas.{times-sum, times-times, lowest-same}
 
 -- a place is so many half units
-place-times : (c : Fraction) → IsTrue (is_bound c) → place (scalar.Decimal c) *ℤ pos c.den ≡ c.num *ℤ pos 2_000_000_000
+place-times : (c : Fraction) → IsTrue (is_bound c)
+    → place (threshold.Decimal c) *ℤ pos c.den ≡ c.num *ℤ pos 2_000_000_000
 place-times c h =
     let parts = bound_parts c h in
     let k = 1_000_000_000 / c.den in
@@ -42,7 +43,7 @@ reduced_of f h =
     }
 
 -- the bound of a place
-pub value-place : (c : Fraction) (n : ℤ) → IsTrue (is_bound c) → n ≡ place (scalar.Decimal c)
+pub value-place : (c : Fraction) (n : ℤ) → IsTrue (is_bound c) → n ≡ place (threshold.Decimal c)
     → lowest n 2_000_000_000 ≡ c
 value-place c n h e =
     lowest_is c n 2_000_000_000 (omega arith) (reduced_of c (bound_parts c h).0)
@@ -50,15 +51,15 @@ value-place c n h e =
 
 -- one step of 1 from a bound
 plus-place : (c : Fraction) (n s : ℤ) → IsTrue (is_bound c) → unsigned_abs n ≤ largest
-    → n ≡ place (scalar.Decimal c) +ℤ s *ℤ pos 2_000_000_000
+    → n ≡ place (threshold.Decimal c) +ℤ s *ℤ pos 2_000_000_000
     → plus c s ≡ lowest n 2_000_000_000
 plus-place c n s h fit e =
     lowest-same (c.num +ℤ s *ℤ pos c.den) c.den n 2_000_000_000 (positive_den c (bound_parts c h).0) (omega arith) fit
     (omega arith)
     (times-sum c.num (s *ℤ pos c.den) 2_000_000_000
     ∙ ap (λ m. m +ℤ s *ℤ pos c.den *ℤ pos 2_000_000_000) (sym (place-times c h))
-    ∙ ap (λ m. place (scalar.Decimal c) *ℤ pos c.den +ℤ m) (swap s c.den 2_000_000_000)
-    ∙ sym (times-sum (place (scalar.Decimal c)) (s *ℤ pos 2_000_000_000) c.den) ∙ ap (λ m. m *ℤ pos c.den) (sym e))
+    ∙ ap (λ m. place (threshold.Decimal c) *ℤ pos c.den +ℤ m) (swap s c.den 2_000_000_000)
+    ∙ sym (times-sum (place (threshold.Decimal c)) (s *ℤ pos 2_000_000_000) c.den) ∙ ap (λ m. m *ℤ pos c.den) (sym e))
   where
     swap : (x : ℤ) (a b : ℕ) → x *ℤ pos a *ℤ pos b ≡ x *ℤ pos b *ℤ pos a
     swap x a b = times-times x a b ∙ ap (λ (j : ℕ). x *ℤ pos j) (comm a b) ∙ sym (times-times x b a)
@@ -67,25 +68,26 @@ plus-place c n s h fit e =
         comm a b = omega arith
 
 near-fits : (c : Fraction) (n s : ℤ) → IsTrue (is_bound c) → unsigned_abs s ≤ 2_000_000_000
-    → n ≡ place (scalar.Decimal c) +ℤ s → unsigned_abs n ≤ largest
+    → n ≡ place (threshold.Decimal c) +ℤ s → unsigned_abs n ≤ largest
 near-fits c n s h small e =
-    let sum = sum-sized (place (scalar.Decimal c)) s 2_000_000_000_000_000_000 2_000_000_000 (place-bound c h) small in
+    let sum
+    = sum-sized (place (threshold.Decimal c)) s 2_000_000_000_000_000_000 2_000_000_000 (place-bound c h) small in
     subst (λ m. unsigned_abs m ≤ largest) (sym e) (omega arith)
 
-pub value-over : (c : Fraction) (n : ℤ) → IsTrue (is_bound c) → n ≡ place (scalar.Decimal c) +ℤ pos 1
+pub value-over : (c : Fraction) (n : ℤ) → IsTrue (is_bound c) → n ≡ place (threshold.Decimal c) +ℤ pos 1
     → lowest (n +ℤ pos 1_999_999_999) 2_000_000_000 ≡ plus c (pos 1)
 value-over c n h e =
-    let next = ap (λ m. m +ℤ pos 1_999_999_999) e ∙ sum (place (scalar.Decimal c)) in
+    let next = ap (λ m. m +ℤ pos 1_999_999_999) e ∙ sum (place (threshold.Decimal c)) in
     sym (plus-place c (n +ℤ pos 1_999_999_999) (pos 1) h
     (near-fits c (n +ℤ pos 1_999_999_999) (pos 2_000_000_000) h (omega arith) next) next)
   where
     sum : (p : ℤ) → p +ℤ pos 1 +ℤ pos 1_999_999_999 ≡ p +ℤ pos 2_000_000_000
     sum p = omega (arith, ints)
 
-pub value-under : (c : Fraction) (n : ℤ) → IsTrue (is_bound c) → n ≡ place (scalar.Decimal c) -ℤ pos 1
+pub value-under : (c : Fraction) (n : ℤ) → IsTrue (is_bound c) → n ≡ place (threshold.Decimal c) -ℤ pos 1
     → lowest (n -ℤ pos 1_999_999_999) 2_000_000_000 ≡ plus c (negsuc 0)
 value-under c n h e =
-    let next = ap (λ m. m -ℤ pos 1_999_999_999) e ∙ sum (place (scalar.Decimal c)) in
+    let next = ap (λ m. m -ℤ pos 1_999_999_999) e ∙ sum (place (threshold.Decimal c)) in
     sym (plus-place c (n -ℤ pos 1_999_999_999) (negsuc 0) h
     (near-fits c (n -ℤ pos 1_999_999_999) (negsuc 1_999_999_999) h (omega arith) next) next)
   where
@@ -105,11 +107,11 @@ half-times p n d e f is h =
 
 -- the middle of two bounds
 pub value-middle : (a b : Fraction) (l h : ℤ) → IsTrue (is_bound a) → IsTrue (is_bound b)
-    → l ≡ place (scalar.Decimal a) +ℤ pos 1 → h ≡ place (scalar.Decimal b) -ℤ pos 1
+    → l ≡ place (threshold.Decimal a) +ℤ pos 1 → h ≡ place (threshold.Decimal b) -ℤ pos 1
     → lowest (l +ℤ h) 4_000_000_000 ≡ middle a b
 value-middle a b l h ha hb e f =
-    let p = place (scalar.Decimal a) in
-    let q = place (scalar.Decimal b) in
+    let p = place (threshold.Decimal a) in
+    let q = place (threshold.Decimal b) in
     let both = sum p q l h e f in
     let size = sum-sized p q 2_000_000_000_000_000_000 2_000_000_000_000_000_000 (place-bound a ha) (place-bound b hb)
     in

@@ -6,7 +6,7 @@ use Rattle.std.proofs.Math.Bool.{beq}
 use Rattle.cat_num.specs.Frac.{Fraction, lowest, frac_order}
 use Rattle.cat_date.specs.Calendar.{first_day}
 use Rattle.cat_region.specs.declared.dim.Dim.{Dim}
-use Rattle.cat_region.specs.declared.cut.Scalar.TheVariants as scalar
+use Rattle.cat_region.specs.declared.cut.Threshold.TheVariants as threshold
 use Rattle.cat_region.specs.declared.cut.Cut.{Cut}
 use Rattle.cat_region.specs.declared.cut.Cut.TheVariants as cut
 use Rattle.cat_region.specs.declared.point.Point.{Point}
@@ -27,8 +27,8 @@ distance (point.Case k) = k
 
 -- the decimal that a cut compares with, where it does
 abbrev pub decimal_of : Cut → Option Fraction
-decimal_of (cut.Below (scalar.Decimal c)) = Some c
-decimal_of (cut.AtMost (scalar.Decimal c)) = Some c
+decimal_of (cut.Below (threshold.Decimal c)) = Some c
+decimal_of (cut.AtMost (threshold.Decimal c)) = Some c
 decimal_of c = None
 
 -- the decimal that a narrowing of dimension i has as a bound of that side: values lie under it, or over it

@@ -9,8 +9,8 @@ use Rattle.cat_num.specs.Frac.{is_negative, signed}
 use Rattle.cat_date.specs.Calendar.{first_day, last_day}
 use Rattle.cat_region.specs.declared.dim.Dim.{Dim}
 use Rattle.cat_region.specs.declared.dim.Dim.TheVariants as dim
-use Rattle.cat_region.specs.declared.cut.Scalar.{Scalar}
-use Rattle.cat_region.specs.declared.cut.Scalar.TheVariants as scalar
+use Rattle.cat_region.specs.declared.cut.Threshold.{Threshold}
+use Rattle.cat_region.specs.declared.cut.Threshold.TheVariants as threshold
 use Rattle.cat_region.specs.declared.cut.Cut.{Cut}
 use Rattle.cat_region.specs.declared.cut.Cut.TheVariants as cut
 use Rattle.cat_region.specs.declared.point.Point.{Point}
@@ -35,12 +35,12 @@ rank (point.Truth false) = pos 0
 rank (point.Truth true) = pos 1
 rank (point.Case k) = pos k
 
--- the rank of a value that is equal to a scalar
-abbrev pub place : Scalar → ℤ
-place (scalar.Whole c) = c
-place (scalar.Money c) = c
-place (scalar.Day c) = c
-place (scalar.Decimal c) = c.num *ℤ pos (2_000_000_000 / c.den)
+-- the rank of a value that is equal to a threshold
+abbrev pub place : Threshold → ℤ
+place (threshold.Whole c) = c
+place (threshold.Money c) = c
+place (threshold.Day c) = c
+place (threshold.Decimal c) = c.num *ℤ pos (2_000_000_000 / c.den)
 
 -- below which rank a cut parts values
 abbrev pub limit : Cut → ℤ

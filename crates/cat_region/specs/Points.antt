@@ -8,8 +8,8 @@ use Rattle.cat_num.specs.Frac.{Fraction, is_reduced, frac_order}
 use Rattle.cat_date.specs.Calendar.{first_day, is_day}
 use Rattle.cat_region.specs.declared.dim.Dim.{Dim}
 use Rattle.cat_region.specs.declared.dim.Dim.TheVariants as dim
-use Rattle.cat_region.specs.declared.cut.Scalar.{Scalar}
-use Rattle.cat_region.specs.declared.cut.Scalar.TheVariants as scalar
+use Rattle.cat_region.specs.declared.cut.Threshold.{Threshold}
+use Rattle.cat_region.specs.declared.cut.Threshold.TheVariants as threshold
 use Rattle.cat_region.specs.declared.cut.Cut.{Cut}
 use Rattle.cat_region.specs.declared.cut.Cut.TheVariants as cut
 use Rattle.cat_region.specs.declared.point.Point.{Point}
@@ -34,12 +34,12 @@ default_point dim.Decimal = point.Decimal (record { num = pos 0; den = 1 })
 default_point dim.Truth = point.Truth false
 default_point (dim.Cases n) = point.Case 0
 
--- how a value stands to a scalar of its kind
-abbrev pub point_order : Point → Scalar → Ordering
-point_order (point.Whole n) (scalar.Whole c) = int_cmp n c
-point_order (point.Money n) (scalar.Money c) = int_cmp n c
-point_order (point.Day n) (scalar.Day c) = int_cmp n c
-point_order (point.Decimal f) (scalar.Decimal c) = frac_order f c
+-- how a value stands to a threshold of its kind
+abbrev pub point_order : Point → Threshold → Ordering
+point_order (point.Whole n) (threshold.Whole c) = int_cmp n c
+point_order (point.Money n) (threshold.Money c) = int_cmp n c
+point_order (point.Day n) (threshold.Day c) = int_cmp n c
+point_order (point.Decimal f) (threshold.Decimal c) = frac_order f c
 point_order x c = Greater
 
 -- what a cut answers for a value of its kind
@@ -55,18 +55,18 @@ abbrev pub is_bound : Fraction → Bool
 is_bound f =
     is_reduced f && 1_000_000_000 % f.den == 0 && nat_le (unsigned_abs f.num) (1_000_000_000 * f.den)
 
--- whether values of a dimension may be compared with a scalar
-abbrev pub is_scalar : Dim → Scalar → Bool
-is_scalar dim.Whole (scalar.Whole c) = true
-is_scalar dim.Money (scalar.Money c) = true
-is_scalar dim.Day (scalar.Day c) = true
-is_scalar dim.Decimal (scalar.Decimal c) = is_bound c
-is_scalar d c = false
+-- whether values of a dimension may be compared with a threshold
+abbrev pub is_threshold : Dim → Threshold → Bool
+is_threshold dim.Whole (threshold.Whole c) = true
+is_threshold dim.Money (threshold.Money c) = true
+is_threshold dim.Day (threshold.Day c) = true
+is_threshold dim.Decimal (threshold.Decimal c) = is_bound c
+is_threshold d c = false
 
 -- whether a cut is of a dimension's kind
 abbrev pub is_cut : Dim → Cut → Bool
-is_cut d (cut.Below c) = is_scalar d c
-is_cut d (cut.AtMost c) = is_scalar d c
+is_cut d (cut.Below c) = is_threshold d c
+is_cut d (cut.AtMost c) = is_threshold d c
 is_cut dim.Truth cut.IsTrue = true
 is_cut (dim.Cases n) (cut.IsCase k) = true
 is_cut d c = false

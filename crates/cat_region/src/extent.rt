@@ -4,7 +4,7 @@ ghost use Rattle.cat_num.specs.Whole.{Fits};
 ghost use Rattle.cat_region.specs.Extents.{start, is_under, one_case, narrowed_set, narrowed_range};
 ghost use Rattle.cat_region.specs.Regions.{is_dim};
 
-use crate::cut::{Cut, Scalar};
+use crate::cut::{Cut, Threshold};
 use crate::dim::Dim;
 use cat_date::{Day, number};
 
@@ -62,16 +62,16 @@ fn scaled(n: i64, factor: u64) -> i128
     n as i128 * factor as i128
 }
 
-/// The rank of a value that is equal to a scalar.
-fn place(scalar: &Scalar) -> i128
-    ensures value { result ≡ Rattle.cat_region.specs.Extents.place scalar.now }
+/// The rank of a value that is equal to a threshold.
+fn place(threshold: &Threshold) -> i128
+    ensures value { result ≡ Rattle.cat_region.specs.Extents.place threshold.now }
     ensures bound { unsigned_abs result < 2 ^ 126 }
 {
-    match *scalar {
-        Scalar::Whole(whole) => whole.get() as i128,
-        Scalar::Money(money) => money.get() as i128,
-        Scalar::Day(day) => number(day) as i128,
-        Scalar::Decimal(frac) => scaled(frac.num(), 2_000_000_000 / frac.den() as u64),
+    match *threshold {
+        Threshold::Whole(whole) => whole.get() as i128,
+        Threshold::Money(money) => money.get() as i128,
+        Threshold::Day(day) => number(day) as i128,
+        Threshold::Decimal(frac) => scaled(frac.num(), 2_000_000_000 / frac.den() as u64),
     }
 }
 
@@ -81,8 +81,8 @@ fn limit(cut: &Cut) -> i128
     ensures bound { unsigned_abs result ≤ 2 ^ 126 }
 {
     match cut {
-        Cut::Below(scalar) => place(scalar),
-        Cut::AtMost(scalar) => place(scalar) + 1,
+        Cut::Below(threshold) => place(threshold),
+        Cut::AtMost(threshold) => place(threshold) + 1,
         Cut::IsTrue => 1,
         Cut::IsCase(_) => 0,
     }

@@ -11,7 +11,7 @@ mod point;
 mod region;
 mod sides;
 
-pub use cut::{Cut, Scalar};
+pub use cut::{Cut, Threshold};
 pub use dim::Dim;
 pub use laws::{
     decisions_are_exact, narrowed_regions_admit_what_agrees, narrowing_keeps_what_is_decided,

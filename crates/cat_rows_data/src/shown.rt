@@ -2,7 +2,7 @@
 
 use cat_date::show_day;
 use cat_num::Frac;
-use cat_region::{Cut, Point, Scalar};
+use cat_region::{Cut, Point, Threshold};
 use std::alloc::{AllocError, Global};
 
 /// A whole number, cents, a day, a fraction, a truth value, or the number of a case.
@@ -32,24 +32,24 @@ fn show_frac(alloc: Global, frac: Frac) -> Result<String, AllocError> {
     }
 }
 
-fn show_scalar(alloc: Global, scalar: Scalar) -> Result<String, AllocError> {
-    match scalar {
-        Scalar::Whole(whole) => show_point(alloc, Point::Whole(whole)),
-        Scalar::Money(money) => show_point(alloc, Point::Money(money)),
-        Scalar::Day(day) => show_day(alloc, day),
-        Scalar::Decimal(frac) => show_frac(alloc, frac),
+fn show_threshold(alloc: Global, threshold: Threshold) -> Result<String, AllocError> {
+    match threshold {
+        Threshold::Whole(whole) => show_point(alloc, Point::Whole(whole)),
+        Threshold::Money(money) => show_point(alloc, Point::Money(money)),
+        Threshold::Day(day) => show_day(alloc, day),
+        Threshold::Decimal(frac) => show_frac(alloc, frac),
     }
 }
 
 pub fn show_cut(alloc: Global, cut: Cut) -> Result<String, AllocError> {
     match cut {
-        Cut::Below(scalar) => {
-            let scalar = show_scalar(alloc, scalar)?;
-            format!(in alloc; "below {scalar}")
+        Cut::Below(threshold) => {
+            let threshold = show_threshold(alloc, threshold)?;
+            format!(in alloc; "below {threshold}")
         }
-        Cut::AtMost(scalar) => {
-            let scalar = show_scalar(alloc, scalar)?;
-            format!(in alloc; "at_most {scalar}")
+        Cut::AtMost(threshold) => {
+            let threshold = show_threshold(alloc, threshold)?;
+            format!(in alloc; "at_most {threshold}")
         }
         Cut::IsTrue => String::from_str(alloc, "true"),
         Cut::IsCase(case) => format!(in alloc; "case {case}"),

@@ -2,11 +2,11 @@
 ghost use Rattle.std.specs.Prelude.{◌≡◌};
 ghost use Rattle.std.specs.List.{list_all};
 ghost use Rattle.cat_region.specs.Regions.{is_dim};
-ghost use Rattle.cat_region.specs.Points.{is_bound, is_scalar, is_cut};
+ghost use Rattle.cat_region.specs.Points.{is_bound, is_threshold, is_cut};
 
 use crate::{day, frac, money, whole};
 use cat_num::Frac;
-use cat_region::{Cut, Dim, Scalar};
+use cat_region::{Cut, Dim, Threshold};
 use cat_rows::{Arguments, Problem};
 use std::alloc::Global;
 
@@ -83,19 +83,19 @@ const QUESTIONS: [(&str, Question); 4] = [
 /// A cut of a dimension.
 pub fn cut(dim: &Dim, given: &mut Arguments<'_>) -> Result<Cut, Problem> {
     match given.choice(&QUESTIONS)? {
-        Question::Below => Ok(Cut::Below(scalar(dim, given)?)),
-        Question::AtMost => Ok(Cut::AtMost(scalar(dim, given)?)),
+        Question::Below => Ok(Cut::Below(threshold(dim, given)?)),
+        Question::AtMost => Ok(Cut::AtMost(threshold(dim, given)?)),
         Question::IsTrue => Ok(Cut::IsTrue),
         Question::IsCase => Ok(Cut::IsCase(given.count()?)),
     }
 }
 
-fn scalar(dim: &Dim, given: &mut Arguments<'_>) -> Result<Scalar, Problem> {
+fn threshold(dim: &Dim, given: &mut Arguments<'_>) -> Result<Threshold, Problem> {
     match *dim {
-        Dim::Whole => Ok(Scalar::Whole(whole(given)?)),
-        Dim::Money => Ok(Scalar::Money(money(given)?)),
-        Dim::Day => Ok(Scalar::Day(day(given)?)),
-        Dim::Decimal => Ok(Scalar::Decimal(frac(given)?)),
+        Dim::Whole => Ok(Threshold::Whole(whole(given)?)),
+        Dim::Money => Ok(Threshold::Money(money(given)?)),
+        Dim::Day => Ok(Threshold::Day(day(given)?)),
+        Dim::Decimal => Ok(Threshold::Decimal(frac(given)?)),
         Dim::Truth | Dim::Cases(_) => Err(Problem::Unreadable),
     }
 }
@@ -105,21 +105,21 @@ pub fn is_cut(dim: &Dim, cut: &Cut) -> bool
     ensures { result ≡ is_cut dim.now cut.now }
 {
     match *cut {
-        Cut::Below(scalar) => is_scalar(dim, &scalar),
-        Cut::AtMost(scalar) => is_scalar(dim, &scalar),
+        Cut::Below(threshold) => is_threshold(dim, &threshold),
+        Cut::AtMost(threshold) => is_threshold(dim, &threshold),
         Cut::IsTrue => matches!(*dim, Dim::Truth),
         Cut::IsCase(_) => matches!(*dim, Dim::Cases(_)),
     }
 }
 
-fn is_scalar(dim: &Dim, scalar: &Scalar) -> bool
-    ensures { result ≡ is_scalar dim.now scalar.now }
+fn is_threshold(dim: &Dim, threshold: &Threshold) -> bool
+    ensures { result ≡ is_threshold dim.now threshold.now }
 {
-    match (*dim, *scalar) {
-        (Dim::Whole, Scalar::Whole(_)) => true,
-        (Dim::Money, Scalar::Money(_)) => true,
-        (Dim::Day, Scalar::Day(_)) => true,
-        (Dim::Decimal, Scalar::Decimal(frac)) => is_bound(frac),
+    match (*dim, *threshold) {
+        (Dim::Whole, Threshold::Whole(_)) => true,
+        (Dim::Money, Threshold::Money(_)) => true,
+        (Dim::Day, Threshold::Day(_)) => true,
+        (Dim::Decimal, Threshold::Decimal(frac)) => is_bound(frac),
         _ => false,
     }
 }

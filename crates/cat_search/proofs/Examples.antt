@@ -2,7 +2,7 @@
 use Rattle.std.proofs.Common.{◌≡◌, ℕ, ℤ, pos, Bool, true, false, List, [], ◌∷◌, Some, refl}
 use Rattle.cat_region.specs.declared.cut.Cut.{Cut}
 use Rattle.cat_region.specs.declared.cut.Cut.TheVariants as cut
-use Rattle.cat_region.specs.declared.cut.Scalar.TheVariants as scalar
+use Rattle.cat_region.specs.declared.cut.Threshold.TheVariants as threshold
 use Rattle.cat_region.specs.declared.dim.Dim.TheVariants as dim
 use Rattle.cat_region.specs.declared.narrowing.Narrowing.{Narrowing}
 use Rattle.cat_region.specs.Regions.{Constraints}
@@ -21,7 +21,7 @@ use Rattle.cat_search.specs.inside.Underway.{to_come}
 
 -- below 1, below 5 and below 1 once more of term 0, the truth of term 1, and case 2 of term 2
 abbrev below : ℤ → Cut
-below n = cut.Below (scalar.Whole n)
+below n = cut.Below (threshold.Whole n)
 
 abbrev atoms : List Atom
 atoms =

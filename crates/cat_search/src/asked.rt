@@ -7,7 +7,7 @@ ghost use Rattle.cat_guard.specs.Judgements.{atoms_in};
 use cat_date::number;
 use cat_guard::{Atom, Table, asked_atoms};
 use cat_pos::List;
-use cat_region::{Cut, Scalar};
+use cat_region::{Cut, Threshold};
 use std::alloc::{AllocError, Global};
 
 /// The number times a factor.
@@ -19,21 +19,21 @@ fn scaled(n: i64, factor: u64) -> i128
     n as i128 * factor as i128
 }
 
-/// Where a scalar stands among those of its kind.
-fn scalar_place(scalar: &Scalar) -> i128 {
-    match *scalar {
-        Scalar::Whole(whole) => whole.get() as i128,
-        Scalar::Money(money) => money.get() as i128,
-        Scalar::Day(day) => number(day) as i128,
-        Scalar::Decimal(frac) => scaled(frac.num(), 2_000_000_000 / frac.den() as u64),
+/// Where a threshold stands among those of its kind.
+fn threshold_place(threshold: &Threshold) -> i128 {
+    match *threshold {
+        Threshold::Whole(whole) => whole.get() as i128,
+        Threshold::Money(money) => money.get() as i128,
+        Threshold::Day(day) => number(day) as i128,
+        Threshold::Decimal(frac) => scaled(frac.num(), 2_000_000_000 / frac.den() as u64),
     }
 }
 
 /// Where a cut stands among those of its kind, which part the values of a term in this order.
 fn cut_place(cut: &Cut) -> (i128, bool) {
     match cut {
-        Cut::Below(scalar) => (scalar_place(scalar), false),
-        Cut::AtMost(scalar) => (scalar_place(scalar), true),
+        Cut::Below(threshold) => (threshold_place(threshold), false),
+        Cut::AtMost(threshold) => (threshold_place(threshold), true),
         Cut::IsTrue => (0, false),
         Cut::IsCase(case) => (*case as i128, false),
     }

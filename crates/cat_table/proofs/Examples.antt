@@ -11,7 +11,7 @@ use Rattle.cat_value.specs.declared.declaration.Kind.TheVariants.{Input, Output}
 use Rattle.cat_value.specs.Declarations.{are_sound}
 use Rattle.cat_value.specs.Dependencies.{are_ordered}
 use Rattle.cat_region.specs.declared.cut.Cut.TheVariants as cut
-use Rattle.cat_region.specs.declared.cut.Scalar.TheVariants as scalar
+use Rattle.cat_region.specs.declared.cut.Threshold.TheVariants as threshold
 use Rattle.cat_region.specs.declared.dim.Dim.TheVariants as dim
 use Rattle.cat_region.specs.Regions.{Constraints}
 use Rattle.cat_scope.specs.declared.expr.Expr.TheVariants as leaf
@@ -79,7 +79,10 @@ terms =
     } ∷ []
 
 abbrev atoms : List Atom
-atoms = record { term = 0; cut = cut.Below (scalar.Money (pos 1_000_000)) } ∷ record { term = 1; cut = cut.IsTrue } ∷ []
+atoms =
+    record { term = 0; cut = cut.Below (threshold.Money (pos 1_000_000)) }
+    ∷ record { term = 1; cut = cut.IsTrue }
+    ∷ []
 
 -- two definitions, of which the first holds below the limit and the second from it on
 abbrev target : TableTarget

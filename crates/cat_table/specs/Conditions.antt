@@ -5,8 +5,8 @@ use Rattle.cat_num.specs.Text.{decimal_bytes, money_bytes}
 use Rattle.cat_date.specs.Text.{day_text}
 use Rattle.cat_value.specs.declared.decls.Decls.{Decls}
 use Rattle.cat_value.specs.declared.declaration.ItemDecl.{ItemDecl}
-use Rattle.cat_region.specs.declared.cut.Scalar.{Scalar}
-use Rattle.cat_region.specs.declared.cut.Scalar.TheVariants as scalar
+use Rattle.cat_region.specs.declared.cut.Threshold.{Threshold}
+use Rattle.cat_region.specs.declared.cut.Threshold.TheVariants as threshold
 use Rattle.cat_region.specs.declared.cut.Cut.{Cut}
 use Rattle.cat_region.specs.declared.cut.Cut.TheVariants as cut
 use Rattle.cat_guard.specs.declared.table.InputPath.{InputPath}
@@ -20,11 +20,11 @@ use Rattle.cat_table.specs.NamedTypes.{item_named, field_in, field_name, field_n
 use Rattle.cat_table.specs.Told.{type_told}
 
 -- a constant, as a run writes a value of its type, without quotes
-abbrev pub constant_text : Scalar → List ℕ
-constant_text (scalar.Whole n) = signed_decimal n
-constant_text (scalar.Money cents) = money_bytes cents
-constant_text (scalar.Day day) = day_text day
-constant_text (scalar.Decimal f) = decimal_bytes f
+abbrev pub constant_text : Threshold → List ℕ
+constant_text (threshold.Whole n) = signed_decimal n
+constant_text (threshold.Money cents) = money_bytes cents
+constant_text (threshold.Day day) = day_text day
+constant_text (threshold.Decimal f) = decimal_bytes f
 
 -- fields that lead on from a value of a type, each behind a dot
 abbrev pub fields_text : Decls → Option NamedType → List ℕ → List ℕ

@@ -12,7 +12,7 @@ use crate::scene::TableScene;
 use crate::telling::type_told;
 use cat_answer::position_text;
 use cat_guard::{InputPath, Term};
-use cat_region::{Cut, Scalar};
+use cat_region::{Cut, Threshold};
 use cat_value::{Case, Field, ItemDecl};
 use std::alloc::AllocError;
 
@@ -95,7 +95,7 @@ fn compared(
     here: &TableScene,
     term: &Term,
     sign: &str,
-    constant: Scalar,
+    constant: Threshold,
 ) -> Result<String, AllocError>
     ensures { IfOk result (λ text. string_bytes text ≡ conditions.term_text (naming_at here.now) term.now
         ++ (sign.now ++ conditions.constant_text constant)) }

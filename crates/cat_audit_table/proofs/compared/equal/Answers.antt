@@ -1,6 +1,6 @@
 use Rattle.cat_region.specs.declared.cut.Cut.TheVariants as cut
 use Rattle.cat_guard.specs.Formulas.{Not}
-use Rattle.cat_guard.specs.Comparisons.{scalar_dim}
+use Rattle.cat_guard.specs.Comparisons.{threshold_dim}
 use Rattle.cat_guard.specs.Questions.{ask}
 use Rattle.cat_audit_table.specs.Numbered.{items_at, standing_at}
 use Rattle.cat_audit_table.proofs.Adding.{if_ok, adds_not, adds_both}
@@ -9,9 +9,9 @@ use Rattle.cat_audit_table.proofs.compared.equal.Goals as goal
 pub returns : goal.returns
 returns c =
     let items = items_at c.args.here.now in
-    let scalar = c.args.scalar.now in
-    let most = ask (standing_at c.args.here.now) c.args.of.now (scalar_dim scalar) (cut.AtMost scalar) in
-    let less = ask (standing_at c.args.here.now) c.args.of.now (scalar_dim scalar) (cut.Below scalar) in
+    let threshold = c.args.threshold.now in
+    let most = ask (standing_at c.args.here.now) c.args.of.now (threshold_dim threshold) (cut.AtMost threshold) in
+    let less = ask (standing_at c.args.here.now) c.args.of.now (threshold_dim threshold) (cut.Below threshold) in
     if_ok c.conjunction.result
     (adds_both items most (Not less) c.args.numbering.now c.at_most.new.numbering c.below.new.numbering
     c.in_ok-most.most c.in_ok-not_less.not_less c.in_ok-most.ensures
