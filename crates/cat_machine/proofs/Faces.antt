@@ -1,6 +1,7 @@
 -- A run from its start to its outcome.
 use Rattle.std.proofs.Common.{◌≡◌, ℕ, ◌+◌, ◌<◌, ◌≤◌, min, List, [], ◌∷◌, ◌++◌, length, map, slice_get, true}
 use Rattle.std.proofs.Common.{OnOk, false, true≢false}
+use Rattle.std.specs.Prelude.{IfOk}
 use Rattle.std.proofs.Common.{Option, Some, None, IsSome, is_some, Result, Ok, Err, refl, sym, ap, ◌∙◌, subst, arith}
 use Rattle.std.proofs.Common.{⊎_elim}
 use Rattle.std.proofs.Math.Bool.{Bool-set}
@@ -37,7 +38,7 @@ use Rattle.cat_machine.specs.Layers.{top_items}
 use Rattle.cat_machine.specs.Running.{GivesOutcome, Grows, HasOutputs, IsGiven, Logs, TakesSteps, constant_count}
 use Rattle.cat_machine.specs.States.{decided, held_of, state_at}
 use Rattle.cat_machine.specs.Steps.{EndWithin, ending}
-use Rattle.cat_machine.specs.inside.Begun.{GivesEnd, HasEnd, IsReady, RanTo, RunsSo, RunsTo}
+use Rattle.cat_machine.specs.inside.Begun.{GivesEnd, HasEnd, IsReady, RanIn, RanTo, RunsSo, RunsTo}
 use Rattle.cat_machine.specs.inside.Driven.{EndsFrom, EndsFrom-prop, ends_in}
 use Rattle.cat_machine.specs.inside.Leading.{EndsSo, stand}
 use Rattle.cat_machine.proofs.Endings.{ends_within}
@@ -233,6 +234,13 @@ module _ (code : Code) (scope : ℕ) (input : Items) (before : List Standing) (m
   ran_so (Ok ended) made pool same log steps runs is =
       ran code scope input before ended m count runs made pool same log steps is
   ran_so (Err e) made pool same log steps runs is = absurd is
+
+  -- where a run has an outcome
+  pub ran_in : (e : Result End AllocError) (made : Result Outcome AllocError) → RunsSo code scope input before e m count
+      → IfOk made (GivesEnd code.tables m e) → IfOk made (RanIn code scope input before count m)
+  ran_in e (Ok made) runs is =
+      ran_so e (record { outcome = made; steps = count; log = m.log }) m.pool refl refl refl runs is
+  ran_in e (Err error) runs is = tt
 
 -- the constants are loaded in front of a run
 pub grows_behind : (code : Code) (scope : ℕ) (input : Items) (old loaded new : List Standing) (made : Run)

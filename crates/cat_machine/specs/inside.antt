@@ -8,3 +8,4 @@ pub mod Driven
 pub mod Leading
 pub mod Begun
 pub mod Outcomes
+pub mod Resting

@@ -1,7 +1,7 @@
 // The runs of scopes: four faces of one run.
 ghost use Rattle.std.specs.Prelude.{◌≡◌, IfOk};
 ghost use Rattle.cat_pool.specs.Loading.{Extends};
-ghost use Rattle.cat_machine.specs.inside.Begun.{AreConstants, IsEmpty, RanTo, RunsSo};
+ghost use Rattle.cat_machine.specs.inside.Begun.{AreConstants, IsEmpty, RanIn, RanTo, RunsSo};
 ghost use Rattle.cat_machine.specs.Running.{Counts, GivesOutcome, Grows, IsGiven, Logs};
 
 use crate::ending::outcome_at;
@@ -56,8 +56,47 @@ fn run_machine<'a>(
     })
 }
 
+/// What a run comes to, with the machine in which it ended. What it logged is there.
+#[derive(Drop)]
+pub struct Ran {
+    pub machine: Box<Machine>,
+    pub steps: u64,
+    pub outcome: Result<Outcome, AllocError>,
+}
+
+/// A run of a machine whose pool has the constants of the code. The pool keeps its nodes.
+pub fn run_in(
+    alloc: Global,
+    code: &Code,
+    scope: u32,
+    input: &Input,
+    constants: &[Ref],
+    machine: Box<Machine>,
+) -> Ran
+    requires given { ∥ IsGiven code.now scope input.now ∥₁ }
+    requires empty { IsEmpty machine.value }
+    requires constants { AreConstants code.now.tables machine.value.pool constants.now }
+    ensures ran { IfOk result.outcome (RanIn code.now scope input.now machine.value.pool result.steps
+        result.machine.value) }
+    ensures kept { Extends machine.value.pool result.machine.value.pool }
+{
+    let Ended {
+        code: _,
+        place: _,
+        count,
+        machine,
+        end,
+    } = run_machine(alloc, code, scope, input, constants, machine);
+    let outcome = outcome_at(alloc, code, &machine, end);
+    Ran {
+        machine,
+        steps: count,
+        outcome,
+    }
+}
+
 /// A run over a pool that has the constants of the code. The pool keeps its nodes.
-pub fn run_over(
+fn run_over(
     alloc: Global,
     code: &Code,
     scope: u32,
@@ -72,19 +111,16 @@ pub fn run_over(
 {
     let mut machine = Box::new(alloc, empty(alloc))?;
     mem::swap(pool, &mut machine.pool);
-    let Ended {
-        code: _,
-        place: _,
-        count,
+    let Ran {
         mut machine,
-        end,
-    } = run_machine(alloc, code, scope, input, constants, machine);
-    let outcome = outcome_at(alloc, code, &machine, end);
+        steps,
+        outcome,
+    } = run_in(alloc, code, scope, input, constants, machine);
     mem::swap(pool, &mut machine.pool);
     let log = mem::replace(&mut machine.log, List::new(alloc));
     Ok(Run {
         outcome: outcome?,
-        steps: count,
+        steps,
         log,
     })
 }

@@ -145,6 +145,14 @@ impl<H: Copy, T: Copy> Layers<H, T> {
         self.starts.pop();
     }
 
+    /// No list is left. The room that they took stays.
+    pub fn clear(&mut self)
+        ensures { self.new ≡ [] }
+    {
+        while self.starts.pop().is_some() {}
+        self.items.clear();
+    }
+
     /// The items of the list on top are the last of the one below.
     pub fn join(&mut self)
         requires { 2 ≤ length self.old }

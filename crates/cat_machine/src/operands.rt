@@ -59,4 +59,11 @@ impl Operands {
         let left = self.refs.len() - n as usize;
         self.refs.truncate(left);
     }
+
+    /// None is left. The room that they took stays.
+    pub fn clear(&mut self)
+        ensures { self.new ≡ [] }
+    {
+        self.refs.clear();
+    }
 }

@@ -2,7 +2,7 @@
 ghost use Rattle.std.specs.Prelude.{◌≡◌, ◌+◌, [], IfOk, OnOk, length};
 ghost use Rattle.cat_pool.specs.Loading.{Extends};
 ghost use Rattle.cat_machine.specs.Running.{constant_count, entry_count};
-ghost use Rattle.cat_machine.specs.inside.Begun.{AreConstants, HasInput, IsEmpty, IsEntry, IsReady};
+ghost use Rattle.cat_machine.specs.inside.Begun.{AreConstants, emptied, HasInput, IsEmpty, IsEntry, IsReady};
 
 use crate::layers::Layers;
 use crate::machine::{Machine, Truths};
@@ -12,6 +12,7 @@ use cat_pool::{Pool, Ref, References};
 use cat_pos::List;
 use cat_value::{Input, Value};
 use std::alloc::{AllocError, Global};
+use std::mem;
 
 /// A machine over an empty pool.
 pub fn empty(alloc: Global) -> Machine
@@ -33,6 +34,33 @@ pub fn empty(alloc: Global) -> Machine
         },
         log: List::new(alloc),
     }
+}
+
+/// No element is left of a list. The room that they took stays.
+fn clear_list<T: Drop>(alloc: Global, list: &mut List<T>)
+    ensures { list.new ≡ [] }
+{
+    let mut items = mem::replace(list, List::new(alloc)).into_vec();
+    items.clear();
+    *list = List::from_vec(items);
+}
+
+/// The machine is as if no run had begun, but for its pool. The room that the run took stays.
+pub fn clear(alloc: Global, m: &mut Machine)
+    ensures { m.new ≡ emptied m.old.pool }
+{
+    m.operands.clear();
+    m.locals.clear();
+    m.slots.clear();
+    m.defaults.clear();
+    m.loops.clear();
+    m.pending.clear();
+    m.truths = Truths {
+        yes: None,
+        no: None,
+    };
+    clear_list(alloc, &mut m.constants);
+    clear_list(alloc, &mut m.log);
 }
 
 /// The constants of the code as nodes behind those of a pool.
@@ -79,6 +107,18 @@ fn load_input(alloc: Global, input: &Input, m: &mut Machine) -> Result<(), Alloc
     Ok(())
 }
 
+/// The constants of the code in a machine that has none, in the room that it has for them.
+fn take_constants(alloc: Global, constants: &[Ref], m: &mut Machine) -> Result<(), AllocError>
+    requires none { m.old.constants ≡ [] }
+    ensures taken { OnOk result (m.new ≡ record m.old { constants = constants.now }) }
+    ensures pool { m.new.pool ≡ m.old.pool }
+{
+    let mut refs = mem::replace(&mut m.constants, List::new(alloc)).into_vec();
+    refs.extend_from_slice(constants)?;
+    m.constants = List::from_vec(refs);
+    Ok(())
+}
+
 /// A machine with the constants of the code, and with the input in its slots.
 pub fn make_ready(
     alloc: Global,
@@ -92,7 +132,7 @@ pub fn make_ready(
     ensures ready { OnOk result (IsReady code.now input.now m.old.pool m.new) }
     ensures pool { Extends m.old.pool m.new.pool }
 {
-    m.constants = List::from_slice(alloc, constants)?;
+    take_constants(alloc, constants, m)?;
     m.locals.open(None)?;
     load_input(alloc, input, m)?;
     Ok(())

@@ -100,3 +100,8 @@ pub record RanTo (code : Code) (scope : ℕ) (input : Items) (before after : Lis
   pub log : Logs code scope input made.log
   pub few : (n : ℕ) → TakesSteps code scope input n → length after ≤ length before + given_count input + n
   pub outputs : HasOutputs after made.outcome
+
+-- the same of a run that ended in a machine
+abbrev pub RanIn : Code → ℕ → Items → List Standing → ℕ → Machine → Outcome → Type 0
+RanIn code scope input before steps m made =
+    RanTo code scope input before m.pool (record { outcome = made; steps = steps; log = m.log })
