@@ -111,7 +111,7 @@ same_points_from v w n (term ∷ terms) path same =
 
 module _ (program : Program) (table : Table) (region : Constraints) (dims : region.dims ≡ dims_of table.terms)
     (derived : of_derived table.terms region.narrowings ≡ true) where
-  pub same_input : shown_input program table region ≡ shown_input program table (everything table.terms)
+  same_input : shown_input program table region ≡ shown_input program table (everything table.terms)
   same_input =
       ap (λ points. given_from program.decls points 0 (scope_items program.decls table.scope))
       (fun_ext (λ path. same_points_from (point_at region) (point_at (everything table.terms)) 0 table.terms path
@@ -207,13 +207,13 @@ module _ (table : Table) (base : Constraints) (nothing : base.narrowings ≡ [])
           behind (m ∷ ns) h = absurd (cc)
 
   -- answers that hang alone, in their order, and the way that they are
-  pub alone_derived : (answers way : List Answer) → way ≡ reverse answers → hang_alone table answers ≡ true
+  alone_derived : (answers way : List Answer) → way ≡ reverse answers → hang_alone table answers ≡ true
       → of_derived table.terms (Led way).narrowings ≡ true
   alone_derived answers way is alone =
       led_derived way (ap (list_all (asks_derived table)) is ∙ all_reversed (asks_derived table) answers
       ∙ (both_true (are_some answers) (list_all (asks_derived table) answers) alone).1)
 
-  pub alone_some : (answers way : List Answer) → way ≡ reverse answers → hang_alone table answers ≡ true
+  alone_some : (answers way : List Answer) → way ≡ reverse answers → hang_alone table answers ≡ true
       → (Led way).narrowings ≡ [] → ⊥
   alone_some answers way is alone =
       led_some way (ap (list_all (asks_derived table)) is ∙ all_reversed (asks_derived table) answers

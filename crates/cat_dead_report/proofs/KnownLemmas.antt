@@ -171,7 +171,7 @@ module _ (program : Program) (table : Table) (t : TableTarget) (nodes : List Tre
   known_set (q ∷ ps) (j ∷ ks) each (suc n) p k at is = (each.0, known_set ps ks each.1 n p k at is)
 
   -- nothing is known of places
-  pub nothing_yet : (ps : List Pos) → Each ps (nothing_known (length ps))
+  nothing_yet : (ps : List Pos) → Each ps (nothing_known (length ps))
   nothing_yet [] = tt
   nothing_yet (p ∷ ps) = (record { line = tt; default = λ on. absurd (true≢false (sym on)) }, nothing_yet ps)
 

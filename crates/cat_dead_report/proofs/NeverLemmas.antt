@@ -32,7 +32,7 @@ all_mapped f P [] each = tt
 all_mapped f P (x ∷ xs) each = (each x, all_mapped f P xs each)
 
 -- those of a table that are of one target are the same
-pub one_target : (program : Program) (table : Table) → TablesScope program table.scope table
+one_target : (program : Program) (table : Table) → TablesScope program table.scope table
     → AllHave (λ t. AllHave (λ u. u.target ≡ t.target → t ≡ u) table.targets) table.targets
 one_target program table tabled =
     let make : Target → TableTarget = target_of program.decls tabled.0.items tabled.1.defs

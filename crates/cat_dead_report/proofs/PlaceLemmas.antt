@@ -74,7 +74,7 @@ there_kept [] p q n there = absurd (cc)
 there_kept (r ∷ ps) p q zero there = there
 there_kept (r ∷ ps) p q (suc n) there = there_kept ps p q n there
 
-pub numbered_kept : (positions : List Pos) (q : Pos) (defs : List GuardDef) (numbers : List ℕ)
+numbered_kept : (positions : List Pos) (q : Pos) (defs : List GuardDef) (numbers : List ℕ)
     → AreNumbered positions defs numbers → AreNumbered (positions ++ q ∷ []) defs numbers
 numbered_kept positions q [] [] are = tt
 numbered_kept positions q [] (n ∷ ns) are = absurd (are)
@@ -86,7 +86,7 @@ numbered_kept positions q (d ∷ defs) (n ∷ ns) are = (
 )
 
 -- a definition more
-pub numbered_more : (positions : List Pos) (defs : List GuardDef) (numbers : List ℕ)
+numbered_more : (positions : List Pos) (defs : List GuardDef) (numbers : List ℕ)
     → AreNumbered positions defs numbers
     → (d : GuardDef) (n : ℕ) → n ≡ number_of positions d.pos → slice_get positions n ≡ Some d.pos
     → AreNumbered positions (defs ++ d ∷ []) (numbers ++ n ∷ [])
@@ -126,7 +126,7 @@ key_number (q ∷ ps) p = by (is_same p q) refl (key_number ps p)
         later (same_key (key_of p)) (key_of q) (keys_of ps) e ∙ ap suc rest ∙ sym (later (is_same p) q ps e)
 
 -- where a position is among others
-pub found_there : (positions : List Pos) (p : Pos) → list_any (same_key (key_of p)) (keys_of positions) ≡ true
+found_there : (positions : List Pos) (p : Pos) → list_any (same_key (key_of p)) (keys_of positions) ≡ true
     → slice_get positions (number_of positions p) ≡ Some p
 found_there [] p h = absurd (true≢false (sym h))
 found_there (q ∷ ps) p h = by (is_same p q) refl h (found_there ps p)
@@ -144,7 +144,7 @@ found_there (q ∷ ps) p h = by (is_same p q) refl h (found_there ps p)
         ap (slice_get (q ∷ ps)) next ∙ rest among
 
 -- and where it isn't, it goes last
-pub put_last : (positions : List Pos) (p : Pos) → list_any (same_key (key_of p)) (keys_of positions) ≡ false
+put_last : (positions : List Pos) (p : Pos) → list_any (same_key (key_of p)) (keys_of positions) ≡ false
     → (number_of positions p ≡ length positions) × (number_of (positions ++ p ∷ []) p ≡ length positions)
 put_last [] p h = (refl, here (is_same p) p [] (same_self p))
 put_last (q ∷ ps) p h = by (is_same p q) refl h (put_last ps p)

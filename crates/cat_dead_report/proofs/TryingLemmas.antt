@@ -18,14 +18,14 @@ use Rattle.cat_dead_report.specs.declared.found.Won.{Won}
 use Rattle.cat_dead.specs.declared.judged.JudgedLeaf.{JudgedLeaf}
 use Rattle.cat_dead.specs.declared.judged.LeafJudgement.TheVariants as leaf
 use Rattle.cat_dead_report.specs.inside.Hanging.{hang_somewhere}
-use Rattle.cat_dead_report.specs.inside.Knowing.{is_settled_at, AreKnown, Grow}
+use Rattle.cat_dead_report.specs.inside.Knowing.{is_final_at, AreKnown, Grow}
 use Rattle.cat_dead_report.specs.inside.Tries.{HasTriedAt}
 use Rattle.cat_dead_report.specs.inside.WonLeaves.{won_by, way_of, led, IsJudgedLeaf, AreJudgedLeaves, Covers}
 use Rattle.cat_dead_report.specs.inside.WonLeaves.{IsToldIf}
 use Rattle.cat_dead.proofs.Exported.{some_same}
 use Rattle.cat_dead_report.proofs.KnownLemmas.{IsKnownAt, grow_again, told_more}
 use Rattle.cat_dead_report.proofs.WonLemmas.{before, covers_after, grow_after, known_after, later}
-use Rattle.cat_dead_report.proofs.WonLemmas.{settled_covers}
+use Rattle.cat_dead_report.proofs.WonLemmas.{final_covers}
 use Rattle.cat_dead_report.proofs.WritingLemmas.{drop_next, take_next}
 
 -- ---- the way on
@@ -133,10 +133,10 @@ module _ (program : Program) (table : Table) (t : TableTarget) (nodes : List Tre
 
     module _ (w : Won) (won : won_by numbers t.defs l.judged ≡ Some w) where
       -- nothing more is to be known of the definition that does
-      pub settled_there : is_settled_at t.function (slice_get known w.place) ≡ true → ToldIf known l
-      settled_there settled hangs v is =
+      pub final_there : is_final_at t.function (slice_get known w.place) ≡ true → ToldIf known l
+      final_there final hangs v is =
           subst (Covers program table t nodes known l) (some_same w v (sym won ∙ is))
-          (settled_covers program table t nodes numbers known known trying.known_is l w next_leaf won settled)
+          (final_covers program table t nodes numbers known known trying.known_is l w next_leaf won final)
 
       -- what is known of it
       pub known_there : IsKnownAt program table t nodes known w.place w.pos

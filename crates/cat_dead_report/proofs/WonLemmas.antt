@@ -29,7 +29,7 @@ use Rattle.cat_dead_report.specs.declared.line.DeadLine.{DeadLine}
 use Rattle.cat_dead_report.specs.declared.line.DeadLine.TheVariants as line
 use Rattle.cat_dead.specs.Winners.{place_of, holder_of}
 use Rattle.cat_dead_report.specs.RunLines.{decides_in, line_in, weight_of}
-use Rattle.cat_dead_report.specs.inside.Knowing.{is_settled, is_settled_at, IsLineIf}
+use Rattle.cat_dead_report.specs.inside.Knowing.{is_final, is_final_at, IsLineIf}
 use Rattle.cat_dead_report.specs.inside.Knowing.{IsKnownOf}
 use Rattle.cat_dead_report.specs.inside.Knowing.{AreKnownOf, AreKnown, known_weight, Grow}
 use Rattle.cat_dead_report.specs.inside.WonLeaves.{won_of, won_by, way_of, led, IsJudgedLeaf, AreJudgedLeaves, Covers}
@@ -60,7 +60,7 @@ abbrev pos_or : Pos → Option Won → Pos
 pos_or p None = p
 pos_or p (Some w) = w.pos
 
-pub winner_of : (positions : List Pos) (defs : List GuardDef) (numbers : List ℕ) → AreNumbered positions defs numbers
+winner_of : (positions : List Pos) (defs : List GuardDef) (numbers : List ℕ) → AreNumbered positions defs numbers
     → (j : LeafJudgement) (w : Won) → won_by numbers defs j ≡ Some w → IsWinner positions defs j w
 winner_of positions defs numbers are leaf.Nothing w won = absurd (cc)
 winner_of positions defs numbers are leaf.NoWinner w won = absurd (cc)
@@ -104,7 +104,7 @@ winner_here t d false Conflict h = absurd (cc)
 winner_here t d false Open h = absurd (cc)
 
 module _ (table : Table) (t : TableTarget) (nodes : List TreeNode) where
-  pub won_there : (positions : List Pos) (l : JudgedLeaf) (w : Won) → IsJudgedLeaf table t nodes l
+  won_there : (positions : List Pos) (l : JudgedLeaf) (w : Won) → IsJudgedLeaf table t nodes l
       → IsWinner positions t.defs l.judged w → IsWon table t nodes w.pos (led table (way_of nodes l))
   won_there positions l w is winner =
       let region = led table (way_of nodes l) in
@@ -184,12 +184,12 @@ module _ (program : Program) (table : Table) (t : TableTarget) (nodes : List Tre
         let there = new_there in
         record { some = omega (arith, some, there); most = λ plain. omega (arith, covers, there) }
 
-  -- a place that is settled needs no run
-  pub settled_covers : is_settled_at t.function (slice_get olds w.place) ≡ true → Covers program table t nodes olds l w
-  settled_covers settled = by (slice_get olds w.place) refl before.is settled
+  -- a place whose line is final needs no run
+  pub final_covers : is_final_at t.function (slice_get olds w.place) ≡ true → Covers program table t nodes olds l w
+  final_covers final = by (slice_get olds w.place) refl before.is final
     where
       covers : (o : Option DeadLine) → known_weight (slice_get olds w.place) ≡ weight_of o
-          → IsLineIf program table t nodes w.pos o → is_settled t.function o ≡ true
+          → IsLineIf program table t nodes w.pos o → is_final t.function o ≡ true
           → Covers program table t nodes olds l w
       covers None weighs of h = absurd (true≢false (sym h))
       covers (Some (line.Decides input)) weighs of h =
@@ -216,12 +216,12 @@ module _ (program : Program) (table : Table) (t : TableTarget) (nodes : List Tre
           absurd (omega (arith, none))
 
       by : (o : Option Known) → slice_get olds w.place ≡ o → o ≡ Some before.there
-          → is_settled_at t.function o ≡ true → Covers program table t nodes olds l w
-      by None e h settled = absurd (true≢false (sym settled))
-      by (Some k) e h settled =
+          → is_final_at t.function o ≡ true → Covers program table t nodes olds l w
+      by None e h final = absurd (true≢false (sym final))
+      by (Some k) e h final =
           covers k.line (ap known_weight e)
           (subst (λ (x : Known). IsLineIf program table t nodes w.pos x.line) (sym (some_same k before.there h))
-          before.known_of.line) settled
+          before.known_of.line) final
 
 -- ---- answers and ways
 

@@ -43,7 +43,7 @@ past_on [] (suc i) none = refl
 past_on (x ∷ xs) zero none = absurd (cc)
 past_on (x ∷ xs) (suc i) none = past_on xs i none
 
-pub drop_past : {A : Type 0} (xs : List A) (i : ℕ) → length xs ≤ i → drop i xs ≡ []
+drop_past : {A : Type 0} (xs : List A) (i : ℕ) → length xs ≤ i → drop i xs ≡ []
 drop_past [] zero short = refl
 drop_past [] (suc i) short = refl
 drop_past (x ∷ xs) zero short = absurd (omega (arith, short))

@@ -64,8 +64,8 @@ fn counts_more(best: &Option<DeadLine>, next: &DeadLine) -> bool
 }
 
 /// Whether no further run can change what is known: a decider is found, or a function has no deciders.
-fn is_settled(function: bool, line: &Option<DeadLine>) -> bool
-    ensures { result ≡ words.is_settled function line.now }
+fn is_final(function: bool, line: &Option<DeadLine>) -> bool
+    ensures { result ≡ words.is_final function line.now }
 {
     match line {
         None => false,
@@ -75,12 +75,12 @@ fn is_settled(function: bool, line: &Option<DeadLine>) -> bool
 }
 
 /// Whether no further run can change what is known of the place of that number.
-fn is_settled_at(function: bool, known: &Vec<Known>, place: usize) -> bool
-    ensures { result ≡ words.is_settled_at function (slice_get known.now.items place) }
+fn is_final_at(function: bool, known: &Vec<Known>, place: usize) -> bool
+    ensures { result ≡ words.is_final_at function (slice_get known.now.items place) }
 {
     match known.get(place) {
         None => false,
-        Some(known) => is_settled(function, &known.line),
+        Some(known) => is_final(function, &known.line),
     }
 }
 
@@ -177,7 +177,7 @@ fn is_in_pass(table: &Table, way: &Way, derived: bool) -> bool
 }
 
 /// Goes once through the leaves of a tree that hang on what a run computes, or through those that don't, and tries each
-/// in which a definition wins that isn't settled.
+/// in which a definition wins whose line isn't final.
 fn try_leaves(
     here: &TargetScene,
     pool: &mut Pool,
@@ -205,7 +205,7 @@ fn try_leaves(
         let Some(won) = won_by(here, numbers, leaf) else {
             continue;
         };
-        if is_settled_at(here.target.function, known, won.place) {
+        if is_final_at(here.target.function, known, won.place) {
             continue;
         }
         go_to(&mut way, nodes, at, leaf.node)?;

@@ -30,15 +30,15 @@ abbrev pub nothing_known : ℕ → List Known
 nothing_known n = replicate n (record { line = None; on_default = false })
 
 -- no further run can change what is known: a decider is found, or a function has none
-abbrev pub is_settled : Bool → Option DeadLine → Bool
-is_settled function None = false
-is_settled function (Some (line.Decides input)) = true
-is_settled function (Some l) = function
+abbrev pub is_final : Bool → Option DeadLine → Bool
+is_final function None = false
+is_final function (Some (line.Decides input)) = true
+is_final function (Some l) = function
 
 -- the same of a place, where there is one
-abbrev pub is_settled_at : Bool → Option Known → Bool
-is_settled_at function None = false
-is_settled_at function (Some k) = is_settled function k.line
+abbrev pub is_final_at : Bool → Option Known → Bool
+is_final_at function None = false
+is_final_at function (Some k) = is_final function k.line
 
 -- where a line is known, it is that of a leaf
 abbrev pub IsLineIf : Program → Table → TableTarget → List TreeNode → Pos → Option DeadLine → Type 0

@@ -8,7 +8,7 @@ use Rattle.cat_dead_report.specs.RunLines.{weight_of}
 use Rattle.cat_dead_report.specs.inside.Knowing.{default_weight}
 use Rattle.cat_dead_report.specs.inside.WonLeaves.{IsToldIf}
 use Rattle.cat_dead_report.proofs.TryingLemmas.{IsTrying, item, at_item, starts, order, next_leaf, passes, none_wins}
-use Rattle.cat_dead_report.proofs.TryingLemmas.{settled_there, known_there, reached, dims_there, inhabited_there, goes_over}
+use Rattle.cat_dead_report.proofs.TryingLemmas.{final_there, known_there, reached, dims_there, inhabited_there, goes_over}
 use Rattle.cat_dead_report.proofs.TryingLemmas.{goes_on}
 use Rattle.cat_dead_report.proofs.found.try_leaves.Goals as goal
 
@@ -34,8 +34,8 @@ loop-leaf-preserved-in_default c =
     c.args.known.now.items l.at l.way l.leaf-index l.known.items l.invariant x at
     (sym c.won_by.ensures ∙ c.in_default.is))
 
-pub loop-leaf-preserved-then-is_settled_at : goal.loop-leaf-preserved-then-is_settled_at
-loop-leaf-preserved-then-is_settled_at c =
+pub loop-leaf-preserved-then-is_final_at : goal.loop-leaf-preserved-then-is_final_at
+loop-leaf-preserved-then-is_final_at c =
     let here = c.args.here.now in
     let l = c.loop-leaf in
     let leaves = c.args.leaves.now in
@@ -43,9 +43,9 @@ loop-leaf-preserved-then-is_settled_at c =
     let at = at_item leaves l.leaf-index (omega (arith, c.loop-leaf-test.true)) in
     passes here.program.now here.table.now here.target.now c.args.nodes.now c.args.derived c.args.numbers.now leaves
     c.args.known.now.items l.at l.way l.leaf-index l.known.items l.invariant x at
-    (settled_there here.program.now here.table.now here.target.now c.args.nodes.now c.args.derived c.args.numbers.now
+    (final_there here.program.now here.table.now here.target.now c.args.nodes.now c.args.derived c.args.numbers.now
     leaves c.args.known.now.items l.at l.way l.leaf-index l.known.items l.invariant x at c.in-Some.won
-    (sym c.won_by.ensures ∙ c.in-Some.is) (sym c.is_settled_at.ensures ∙ c.if-is_settled_at.true))
+    (sym c.won_by.ensures ∙ c.in-Some.is) (sym c.is_final_at.ensures ∙ c.if-is_final_at.true))
 
 pub go_to-requires-clause-order : goal.go_to-requires-clause-order
 go_to-requires-clause-order c =

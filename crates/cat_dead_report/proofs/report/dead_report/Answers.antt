@@ -1,4 +1,4 @@
-use Rattle.std.proofs.Common.{◌≡◌, ◌∙◌, ℕ, List, sym, ap, subst}
+use Rattle.std.proofs.Common.{◌∙◌, ℕ, List, sym, ap, subst}
 use Rattle.cat_guard.specs.Tables.{TablesScope}
 use Rattle.cat_cert.specs.Texts.{text_of}
 use Rattle.cat_dead_report.specs.declared.line.TargetLines.{TargetLines}
