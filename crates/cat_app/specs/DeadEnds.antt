@@ -1,5 +1,5 @@
 -- How `dead` ends: with a report, or with what is said of a certificate.
-use Rattle.std.specs.Prelude.{◌≡◌, ◌≤◌, ℕ, List, length, Some, ⊤}
+use Rattle.std.specs.Prelude.{◌≡◌, ◌≤◌, ℕ, List, length, Some, string_bytes, ⊤}
 use Rattle.std.specs.Io.KnownBytes.{Appends}
 use Rattle.cat_pos.specs.Limits.{most_input_bytes}
 use Rattle.cat_io.specs.Shelf.{Shelved}
@@ -30,7 +30,7 @@ pub record WritesDead (sink sunk : Sunk) (request : Request) (source : Source) (
   pub most_is : IsMost request.cases most
   pub report_is : HasDeadReport program source.files scope most report
   pub status : ended ≡ status_of_dead report.status
-  pub written : Appends sink.taken sunk.taken report.text
+  pub written : Appends sink.taken sunk.taken (string_bytes report.text)
 
 -- a report is written; else the shelf or the sink failed, or memory ran out
 abbrev pub EndsDead : Sunk → Sunk → Request → Source → Program → ℕ → Status → Type 0

@@ -1,5 +1,5 @@
 -- The answers to one who asked which definitions of a scope decide, and which never do.
-use Rattle.std.specs.Prelude.{◌≡◌, ◌⊎◌, ℕ, nat_eq, List, if◌then◌else◌}
+use Rattle.std.specs.Prelude.{◌≡◌, ◌⊎◌, ℕ, nat_eq, List, string_bytes, if◌then◌else◌}
 use Rattle.cat_io.specs.Shelf.{Shelved}
 use Rattle.cat_scope.specs.declared.programs.Program.{Program}
 use Rattle.cat_scope.specs.Names.{AllHave}
@@ -43,7 +43,7 @@ pub record IsReported (request : Request) (old new : Shelved) (ended : Status) (
   pub report_is : HasDeadReport program source.files scope most report
   pub untouched : new ≡ old
   pub status : ended ≡ status_of_dead report.status
-  pub reply : text ≡ report.text
+  pub reply : text ≡ string_bytes report.text
 
 -- the texts that may come with a status to one who asked so: such a report, or what is said of a certificate
 abbrev pub TellsDead : Request → Shelved → Shelved → Status → List ℕ → Type 0

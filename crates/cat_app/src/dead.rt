@@ -1,5 +1,5 @@
 // What is said of the definitions of a scope: on what each decides, and by a certificate which of them never do.
-ghost use Rattle.std.specs.Prelude.{◌≡◌, ◌<◌, ◌≤◌, IfOk, length};
+ghost use Rattle.std.specs.Prelude.{◌≡◌, ◌<◌, ◌≤◌, IfOk, length, string_bytes};
 ghost use Rattle.cat_build.specs.Built.{IsBuiltOf};
 ghost use Rattle.cat_app.specs.Deads.{HasDeadReport, status_of_dead};
 ghost use Rattle.cat_app.specs.inside.SaysOfDead.{SaysDead, SaysDeadReport};
@@ -57,6 +57,18 @@ fn report_of(
     )
 }
 
+/// The reply that a report is.
+fn reply_of(report: DeadReport) -> Reply
+    ensures status { result.status ≡ status_of_dead report.status }
+    ensures text { string_bytes result.text ≡ string_bytes report.text }
+{
+    let DeadReport { text, status } = report;
+    Reply {
+        status: status_of_dead(status),
+        text,
+    }
+}
+
 /// What a report says of each definition of the scope.
 pub fn reported(
     alloc: Global,
@@ -71,9 +83,7 @@ pub fn reported(
     ensures { IfOk result (SaysDeadReport built.now.program scope most source.now.files) }
 {
     let report = report_of(alloc, source, built, scope, most)?;
-    let text = String::from_str(alloc, report.text.as_str())?;
-    let status = status_of_dead(report.status);
-    Ok(Reply { status, text })
+    Ok(reply_of(report))
 }
 
 /// What a check of the bytes says of the definitions of the scope.

@@ -1,6 +1,5 @@
 // The lines of definitions that decide in no run.
 ghost use Rattle.std.specs.Prelude.{◌≡◌, ◌++◌, [], IfOk, OnOk, codes, string_bytes};
-ghost use Rattle.cat_dead.specs.Winners.{is_same};
 ghost use Rattle.cat_app.specs.DeadChecks.{never_line};
 ghost use Rattle.cat_app.specs.Lines.{line};
 ghost use Rattle.cat_app.specs.inside.Beside.{left_beside, lines_beside, target_beside};
@@ -9,15 +8,10 @@ ghost use Rattle.cat_app.specs.inside.Says.{Says};
 use crate::Status;
 use crate::reply::Reply;
 use cat_answer::position_text;
+use cat_dead_report::is_same;
 use cat_guard::{Table, TableTarget};
 use cat_pos::{Files, Pos};
 use std::alloc::{AllocError, Global};
-
-fn is_same(one: Pos, other: Pos) -> bool
-    ensures { result ≡ is_same one other }
-{
-    one.line == other.line && one.place == other.place
-}
 
 /// Writes the line of a definition of a target.
 fn push_line(

@@ -7,8 +7,9 @@ use Rattle.std.specs.Prelude.{Result, IfOk, IfSome}
 use Rattle.std.specs.List.{list_all}
 use Rattle.std.proofs.lemmas.Bool.Decides.{nat_tests}
 use Rattle.cat_region.proofs.Exported.{and-both}
-use Rattle.cat_region.specs.Regions.{Constraints}
-use Rattle.cat_scope.specs.Names.{IsOneOf}
+use Rattle.cat_region.specs.declared.dim.Dim.{Dim}
+use Rattle.cat_region.specs.Regions.{Constraints, Valuation, IsValuation}
+use Rattle.cat_scope.specs.Names.{IsOneOf, has_none}
 use Rattle.cat_guard.specs.declared.guard.GuardDef.{GuardDef}
 use Rattle.cat_guard.specs.declared.table.Atom.{Atom}
 use Rattle.cat_guard.specs.declared.table.Table.{Table}
@@ -19,16 +20,19 @@ use Rattle.cat_guard.specs.Formulas.{asked}
 use Rattle.cat_guard.specs.GuardFormulas.{formula_of}
 use Rattle.cat_guard.specs.Judgements.{asked_in, atoms_in}
 use Rattle.cat_guard.specs.Soundness.{are_below, def_is_sound, target_is_sound}
-use Rattle.cat_guard.specs.Trees.{Tree, answering, tree_of, height, is_tree}
+use Rattle.cat_guard.specs.TableJudging.{Covers}
+use Rattle.cat_guard.specs.Trees.{AreClosed, Tree, answering, tree_of, height, is_tree}
 use Rattle.cat_guard.specs.Trees as tree
+use Rattle.cat_guard.specs.Valuations.{dims_of, holds_at}
 use Rattle.cat_guard.proofs.Exported.{both_true, targets_sound, sound_parts}
 use Rattle.cat_audit_sound.proofs.Exported.{all_at}
 use Rattle.cat_walk.specs.Walkable.{splits_below, IsWalkable}
 use Rattle.cat_search.specs.declared.found.Search.{Search}
 use Rattle.cat_search.specs.declared.found.Search.TheVariants as search
 use Rattle.cat_search.specs.Cells.{IsSpentWithin}
-use Rattle.cat_search.specs.Searched.{everything, IsSearched, IsSearchOf}
-use Rattle.cat_dead_report.specs.inside.Searches.{tree_in, is_closed, IsSearchedBy}
+use Rattle.cat_search.specs.Searched.{everything, IsClosedSearch, IsSearched, IsSearchOf}
+use Rattle.cat_dead_report.specs.inside.Faultless.{IsCoveredByEach}
+use Rattle.cat_dead_report.specs.inside.Searches.{tree_in, is_closed, is_covered, IsSearchedBy}
 
 -- ---- a search
 
@@ -127,3 +131,19 @@ pub told_at : {A E : Type 0} (P : TableTarget → A → Type 0) (o : Option Tabl
     → (r : Result A E) → IfSome o (λ u. IfOk r (P u)) → IfOk r (P t)
 told_at P None t is r h = absurd (cc)
 told_at P (Some u) t is r h = let same : u ≡ t = cc in subst (λ (x : TableTarget). IfOk r (P x)) same h
+
+-- ---- what covers
+
+none_there : {A : Type 0} (xs : List A) → has_none xs ≡ true → xs ≡ []
+none_there [] is = refl
+none_there (x ∷ xs) is = absurd (true≢false (sym is))
+
+-- a search without bad leaves shows that each valuation covers its target
+pub covered_by : (table : Table) (t : TableTarget) (s : Search) → IsClosedSearch table.terms table.atoms t s
+    → is_covered s ≡ true
+    → ((atoms : List Atom) (u : TableTarget) (dims : List Dim) (room : ℕ) (nodes : List TreeNode)
+    → AreClosed atoms u (record { dims = dims; narrowings = []; room = room }) nodes
+    → (v : Valuation) → IsValuation dims v → Covers u (holds_at atoms v)) → IsCoveredByEach table t
+covered_by table t (search.Closed found bad) closed is law v valid =
+    law table.atoms t (dims_of table.terms) 0 found.nodes (closed (none_there bad is)) v valid
+covered_by table t (search.Spent found bad) closed is law v valid = absurd (true≢false (sym is))

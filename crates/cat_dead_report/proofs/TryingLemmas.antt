@@ -4,13 +4,11 @@ use Rattle.std.proofs.Common.{take, drop}
 use Rattle.std.proofs.Common.{Some, None, slice_get, refl, sym, ap, ◌∙◌, subst, arith}
 use Rattle.std.specs.Prelude.{slice_index_or}
 use Rattle.std.specs.List.{slice_range}
-use Rattle.cat_region.specs.Regions.{IsInhabited}
 use Rattle.cat_scope.specs.declared.programs.Program.{Program}
 use Rattle.cat_scope.specs.Names.{AllHave}
 use Rattle.cat_guard.specs.declared.table.Table.{Table}
 use Rattle.cat_guard.specs.declared.table.TableTarget.{TableTarget}
 use Rattle.cat_guard.specs.declared.tree.TreeNode.{TreeNode}
-use Rattle.cat_guard.specs.Valuations.{dims_of}
 use Rattle.cat_search.specs.declared.way.Answer.{Answer}
 use Rattle.cat_search.specs.Ways.{passed, way_from}
 use Rattle.cat_dead_report.specs.declared.found.Known.{Known}
@@ -19,13 +17,14 @@ use Rattle.cat_dead.specs.declared.judged.JudgedLeaf.{JudgedLeaf}
 use Rattle.cat_dead.specs.declared.judged.LeafJudgement.TheVariants as leaf
 use Rattle.cat_dead_report.specs.inside.Hanging.{hang_somewhere}
 use Rattle.cat_dead_report.specs.inside.Knowing.{is_final_at, AreKnown, Grow}
+use Rattle.cat_dead_report.specs.inside.Said.{IsWonIn}
 use Rattle.cat_dead_report.specs.inside.Tries.{HasTriedAt}
 use Rattle.cat_dead_report.specs.inside.WonLeaves.{won_by, way_of, led, IsJudgedLeaf, AreJudgedLeaves, Covers}
 use Rattle.cat_dead_report.specs.inside.WonLeaves.{IsToldIf}
 use Rattle.cat_dead.proofs.Exported.{some_same}
 use Rattle.cat_dead_report.proofs.KnownLemmas.{IsKnownAt, grow_again, told_more}
 use Rattle.cat_dead_report.proofs.WonLemmas.{before, covers_after, grow_after, known_after, later}
-use Rattle.cat_dead_report.proofs.WonLemmas.{final_covers}
+use Rattle.cat_dead_report.proofs.WonLemmas.{final_covers, won_in}
 use Rattle.cat_dead_report.proofs.WritingLemmas.{drop_next, take_next}
 
 -- ---- the way on
@@ -148,11 +147,11 @@ module _ (program : Program) (table : Table) (t : TableTarget) (nodes : List Tre
         reached =
             goes ∙ ap (λ x. way_from x (slice_range nodes at l.node)) trying.way_is ∙ way_on nodes at l.node ahead.0
 
-        pub dims_there : (led table next).dims ≡ dims_of table.terms
-        dims_there = ap (λ x. (led table x).dims) reached ∙ next_leaf.dims
-
-        pub inhabited_there : IsInhabited (led table next)
-        inhabited_there = subst (λ x. IsInhabited (led table x)) (sym reached) next_leaf.inhabited
+        -- the definition wins there
+        pub won_there : IsWonIn table t w.pos (led table next)
+        won_there =
+            subst (λ x. IsWonIn table t w.pos (led table x)) (sym reached)
+            (won_in program table t nodes numbers known known trying.known_is l w next_leaf won)
 
         -- it is one of the other pass
         pub goes_over : (hang_somewhere table next ≡ derived → ⊥) → Trying l.node next (i + 1) known

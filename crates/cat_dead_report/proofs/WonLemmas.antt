@@ -35,7 +35,7 @@ use Rattle.cat_dead_report.specs.inside.Knowing.{AreKnownOf, AreKnown, known_wei
 use Rattle.cat_dead_report.specs.inside.WonLeaves.{won_of, won_by, way_of, led, IsJudgedLeaf, AreJudgedLeaves, Covers}
 use Rattle.cat_dead.specs.Leaves.{judgement_of}
 use Rattle.cat_dead_report.specs.inside.Places.{AreNumbered}
-use Rattle.cat_dead_report.specs.inside.Said.{IsWon}
+use Rattle.cat_dead_report.specs.inside.Said.{IsWon, IsWonIn}
 use Rattle.cat_dead_report.specs.inside.Tries.{HasTriedAt}
 use Rattle.cat_dead.proofs.Exported.{some_same}
 use Rattle.cat_dead_report.proofs.KnownLemmas.{from_weight, grow_set, IsKnownAt, known_at, known_set, most_weight, there_set}
@@ -131,6 +131,17 @@ module _ (program : Program) (table : Table) (t : TableTarget) (nodes : List Tre
     (is : IsJudgedLeaf table t nodes l) (won : won_by numbers t.defs l.judged ≡ Some w) where
   winner : IsWinner known.positions t.defs l.judged w
   winner = winner_of known.positions t.defs numbers known.numbered l.judged w won
+
+  -- it wins where the way to the leaf leads
+  pub won_in : IsWonIn table t w.pos (led table (way_of nodes l))
+  won_in =
+      let there = won_there table t nodes known.positions l w is winner in
+      record {
+        wins = there.wins;
+        region_is = there.region_is;
+        dims = there.dims;
+        inhabited = there.inhabited;
+      }
 
   pub before : IsKnownAt program table t nodes olds w.place w.pos
   before = known_at program table t nodes known.positions olds known.each w.place w.pos winner.there

@@ -1,7 +1,7 @@
 -- The report on the definitions of a scope: its lines with their causes, its text and its status.
 use Rattle.std.specs.Prelude.{◌≡◌, ◌≤◌, ℕ, Bool, true, false, if◌then◌else◌, List, [], ◌∷◌, ◌++◌, map, Option, None}
 use Rattle.std.specs.Prelude.{Some}
-use Rattle.std.specs.Prelude.{codes}
+use Rattle.std.specs.Prelude.{codes, string_bytes}
 use Rattle.std.specs.List.{list_all, list_any}
 use Rattle.cat_pos.specs.declared.pos.Pos.{Pos}
 use Rattle.cat_value.specs.declared.decls.Decls.{Decls}
@@ -113,5 +113,5 @@ pub record IsDeadReport (program : Program) (files : List (List ℕ)) (scope bud
     pub table_is : TablesScope program scope table
     pub lines : List TargetLines
     pub are : AreDeadLines program table budget table.targets lines
-    pub text : report.text ≡ text_of (report_lines program.decls files budget table lines)
+    pub text : string_bytes report.text ≡ text_of (report_lines program.decls files budget table lines)
     pub status : report.status ≡ status_of lines

@@ -1,3 +1,5 @@
+pub mod Forms
+pub mod Faultless
 pub mod Hanging
 pub mod Knowing
 pub mod Places

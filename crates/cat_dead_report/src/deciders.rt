@@ -11,13 +11,14 @@ use cat_machine::LogEntry;
 use cat_pos::Pos;
 use cat_value::Target;
 
-fn is_same(one: Pos, other: Pos) -> bool
+/// Whether two positions are one.
+pub fn is_same(one: Pos, other: Pos) -> bool
     ensures { result ≡ is_same one other }
 {
     one.line == other.line && one.place == other.place
 }
 
-fn same_inner(one: Option<u32>, other: Option<u32>) -> bool
+pub(crate) fn same_inner(one: Option<u32>, other: Option<u32>) -> bool
     ensures { result ≡ same_inner one other }
 {
     match one {

@@ -2,15 +2,14 @@
 ghost use Rattle.std.specs.Prelude.{◌≡◌, ◌≤◌, ◌<◌, ℕ, [], false, true, IsTrue, IfOk, OnOk, IfSome, length, slice_get};
 ghost use Rattle.std.specs.Prelude.{take};
 ghost use Rattle.std.specs.List.{slice_range};
-ghost use Rattle.cat_region.specs.Regions.{IsInhabited};
 ghost use Rattle.cat_scope.specs.Names.{AllHave};
-ghost use Rattle.cat_guard.specs.Valuations.{dims_of};
 ghost use Rattle.cat_search.specs.Ways.{ask_below, way_from};
 ghost use Rattle.cat_dead_report.specs.RunLines.{weight, weight_of};
 ghost use Rattle.cat_dead_report.specs.inside.Hanging.{hang_somewhere};
 ghost use Rattle.cat_dead_report.specs.inside.Knowing as words;
 ghost use Rattle.cat_dead_report.specs.inside.Knowing.{AreKnown, Grow, default_weight};
 ghost use Rattle.cat_dead_report.specs.inside.Places.{HaveNumbers};
+ghost use Rattle.cat_dead_report.specs.inside.Said.{IsWonIn};
 ghost use Rattle.cat_dead_report.specs.inside.Scenes.{IsScene};
 ghost use Rattle.cat_dead_report.specs.inside.Tries.{HasTried, HasTriedAt};
 ghost use Rattle.cat_dead_report.specs.inside.WonLeaves.{AreJudgedLeaves, IsTold, IsToldIf, led, won_by};
@@ -107,8 +106,7 @@ fn keep(known: &mut Known, next: DeadLine)
     known.line = Some(next);
 }
 
-/// Runs the scope on the input to which a way leads, where that may say more of the definition that wins there than
-/// what is known.
+/// Tries the input to which a way leads, where that may say more of the definition that wins there than what is known.
 fn try_leaf(
     here: &TargetScene,
     pool: &mut Pool,
@@ -118,8 +116,7 @@ fn try_leaf(
 ) -> Result<(), AllocError>
     requires scene { IsScene here.now }
     requires asked { IsTrue (ask_below (length here.now.table.now.atoms) way.now) }
-    requires dims { (led here.now.table.now way.now).dims ≡ dims_of here.now.table.now.terms }
-    requires inhabited { IsInhabited (led here.now.table.now way.now) }
+    requires won { IsWonIn here.now.table.now here.now.target.now pos (led here.now.table.now way.now) }
     requires default { known.old.on_default ≡ true
         → default_weight here.now.program.now here.now.table.now here.now.target.now pos ≤ weight_of known.old.line }
     ensures { OnOk result (HasTried here.now.program.now here.now.table.now here.now.target.now pos
@@ -147,8 +144,7 @@ fn try_place(
 ) -> Result<(), AllocError>
     requires scene { IsScene here.now }
     requires asked { IsTrue (ask_below (length here.now.table.now.atoms) way.now) }
-    requires dims { (led here.now.table.now way.now).dims ≡ dims_of here.now.table.now.terms }
-    requires inhabited { IsInhabited (led here.now.table.now way.now) }
+    requires won { IsWonIn here.now.table.now here.now.target.now won.pos (led here.now.table.now way.now) }
     requires place { won.place < length known.old.items }
     requires default { IfSome (slice_get known.old.items won.place)
         (λ k. k.on_default ≡ true → default_weight here.now.program.now here.now.table.now here.now.target.now won.pos

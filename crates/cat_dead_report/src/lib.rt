@@ -4,6 +4,9 @@
 
 mod certificate;
 mod deciders;
+mod deciding;
+mod faultless;
+mod forms;
 mod found;
 mod hanging;
 mod line;
@@ -16,6 +19,7 @@ mod target;
 mod text;
 mod tried;
 
+pub use deciders::is_same;
 pub use line::{DeadLine, DeadLines, ReportLines, TargetLines};
 pub use plain_scopes::plain_scopes_have_decided_lines;
 pub use report::{DeadReport, dead_report};

@@ -9,6 +9,8 @@ ghost use Rattle.cat_dead_report.specs.DeadReports as reports;
 ghost use Rattle.cat_dead_report.specs.DeadReports.{AreDeadLines, IsDeadReport};
 
 use crate::certificate::{are_whole, push_certificate};
+use crate::deciding::runs_go_on_behind_covered_targets;
+use crate::faultless::{is_faultless, past_given, past_target};
 use crate::line::{ReportLines, TargetLines};
 use crate::scene::TargetScene;
 use crate::status::status_of;
@@ -18,7 +20,7 @@ use cat_audit_table::audit_table;
 use cat_code::Code;
 use cat_guard::{Table, whole_region};
 use cat_pool::Pool;
-use cat_pos::{Files, List, Text};
+use cat_pos::{Files, List};
 use cat_scope::{Forest, Program};
 use std::alloc::{AllocError, Global};
 
@@ -26,7 +28,7 @@ use std::alloc::{AllocError, Global};
 /// of one whether it does, else 0.
 #[derive(Debug, Drop)]
 pub struct DeadReport {
-    pub text: Text,
+    pub text: String,
     pub status: u8,
 }
 
@@ -43,13 +45,18 @@ fn report_lines(
     requires budget { 0 < budget }
     ensures { IfOk result (AreDeadLines program.now table.now budget table.now.targets) }
 {
+    runs_go_on_behind_covered_targets(program, table);
     let mut pool = Pool::new(alloc);
     let mut lines = List::new(alloc);
     let mut whole = whole_region(alloc, table, table.atoms.len())?;
+    // Each run comes to this index of the order.
+    let mut front = 0;
     for (number, target) in table.targets.as_slice().iter().enumerate() {
         let Ok(number) = u32::try_from(number) else {
             return Err(AllocError);
         };
+        front = past_given(program, table.scope, front);
+        let faultless = is_faultless(program, table.scope, front, target);
         let here = TargetScene {
             alloc,
             program,
@@ -57,9 +64,11 @@ fn report_lines(
             table,
             number,
             target,
+            faultless,
         };
-        let (found, back) = target_lines(&here, &mut pool, budget, whole)?;
+        let (found, back, covered) = target_lines(&here, &mut pool, budget, whole)?;
         whole = back;
+        front = past_target(program, table.scope, front, faultless, covered);
         lines.push(found)?;
     }
     Ok(lines)
@@ -100,7 +109,8 @@ fn report_text(
 /// What is said of each definition of a scope: whether it decides in a run, by an input on which it does, or never; and
 /// where all trees are whole, the certificate of those that never do. The search for a target makes at most `budget`
 /// leaves. It has the cost of those searches, and for each place of definitions of the runs on leaves where one wins up
-/// to the first in which it decides.
+/// to the first in which it decides. On leaves that constrain inputs alone it runs none for a target to which each run
+/// comes and none of whose definitions can fault.
 pub fn dead_report(
     alloc: Global,
     program: &Program,
@@ -122,6 +132,5 @@ pub fn dead_report(
     let lines = lines.as_slice();
     let text = report_text(alloc, program, files, &table, budget, lines)?;
     let status = status_of(lines);
-    let text = Text::from_string(alloc, text)?;
     Ok(DeadReport { text, status })
 }

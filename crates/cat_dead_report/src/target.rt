@@ -1,5 +1,5 @@
 // What is said of the definitions of a target.
-ghost use Rattle.std.specs.Prelude.{◌≡◌, ◌<◌, [], IfOk, length};
+ghost use Rattle.std.specs.Prelude.{◌≡◌, ◌<◌, [], true, IfOk, length};
 ghost use Rattle.cat_guard.specs.Trees.{tree_of};
 ghost use Rattle.cat_guard.specs.Valuations.{dims_of};
 ghost use Rattle.cat_search.specs.Searched.{roomy};
@@ -7,6 +7,7 @@ ghost use Rattle.cat_cert.specs.Uncovered.{everything};
 ghost use Rattle.cat_walk.specs.Walkable.{IsWalkable};
 ghost use Rattle.cat_dead_report.specs.DeadReports.{IsSaidOf};
 ghost use Rattle.cat_dead.specs.Leaves.{leaves_judged};
+ghost use Rattle.cat_dead_report.specs.inside.Faultless.{IsCoveredByEach};
 ghost use Rattle.cat_dead_report.specs.inside.Scenes.{IsScene};
 ghost use Rattle.cat_dead_report.specs.inside.Searches as words;
 ghost use Rattle.cat_dead_report.specs.inside.Tries as tries;
@@ -20,7 +21,7 @@ use cat_audit_sound::inputs_of_valuations_are_well_typed;
 use cat_dead::{
     JudgedLeaves, judged_leaves, what_is_never_held_never_decides, what_wins_nowhere_is_never_held,
 };
-use cat_guard::{CaseTree, whole_region};
+use cat_guard::{CaseTree, closed_trees_cover_each_valuation, whole_region};
 use cat_pool::Pool;
 use cat_pos::List;
 use cat_region::{Region, points_are_admitted};
@@ -58,14 +59,15 @@ fn last_lines(alloc: Global, known: Vec<Known>, whole: bool) -> Result<DeadLines
     Ok(lines)
 }
 
-/// The tree that a search made, and whether nothing of it is left to explore.
-fn tree_in(search: Search) -> (CaseTree, bool)
+/// The tree that a search made, whether nothing of it is left to explore, and whether then no leaf is bad.
+fn tree_in(search: Search) -> (CaseTree, bool, bool)
     ensures tree { result.0 ≡ words.tree_in search }
     ensures whole { result.1 ≡ words.is_closed search }
+    ensures covered { result.2 ≡ words.is_covered search }
 {
     match search {
-        Search::Closed { tree, bad: _ } => (tree, true),
-        Search::Spent { tree, bad: _ } => (tree, false),
+        Search::Closed { tree, bad } => (tree, true, bad.is_empty()),
+        Search::Spent { tree, bad: _ } => (tree, false, false),
     }
 }
 
@@ -152,23 +154,27 @@ fn lines_by(
 
 /// Searches for the leaves of a target, of which it makes at most `budget`, and runs the scope on the inputs of leaves
 /// in which definitions win, for each place of definitions up to the first whose run has it as a decider: those that
-/// constrain inputs alone first, in preorder. It gives the region back that it began in.
+/// constrain inputs alone first, in preorder. It gives the region back that it began in, and tells whether the search
+/// shows that each valuation covers the target.
 pub(crate) fn target_lines(
     here: &TargetScene,
     pool: &mut Pool,
     budget: u64,
     whole: Region,
-) -> Result<(TargetLines, Region), AllocError>
+) -> Result<(TargetLines, Region, bool), AllocError>
     requires scene { IsScene here.now }
     requires budget { 0 < budget }
     requires whole { whole ≡ roomy here.now.table.now.terms here.now.table.now.atoms }
     ensures said { IfOk result (λ made.
         IsSaidOf here.now.program.now here.now.table.now budget here.now.target.now made.0) }
     ensures back { IfOk result (λ made. made.1 ≡ whole) }
+    ensures covered { IfOk result (λ made. made.2 ≡ true
+        → IsCoveredByEach here.now.table.now here.now.target.now) }
 {
     tables_admit_something(here.program);
+    closed_trees_cover_each_valuation();
     let (search, mut region) = search_in(here.alloc, here.table, here.number, budget, whole)?;
-    let (tree, explored) = tree_in(search);
+    let (tree, explored, covered) = tree_in(search);
     let found = lines_by(here, pool, budget, tree, explored, &mut region)?;
-    Ok((found, region))
+    Ok((found, region, covered))
 }

@@ -1,12 +1,13 @@
 // Runs on the inputs of leaves.
 ghost use Rattle.std.specs.Prelude.{◌≡◌, Some, IfOk};
-ghost use Rattle.cat_region.specs.Regions.{IsInhabited};
-ghost use Rattle.cat_guard.specs.Valuations.{dims_of};
 ghost use Rattle.cat_machine.specs.Running.{GivesOutcome, IsGiven, Logs};
 ghost use Rattle.cat_dead_report.specs.RunLines.{line_by, line_in};
+ghost use Rattle.cat_dead_report.specs.inside.Faultless.{is_sure};
+ghost use Rattle.cat_dead_report.specs.inside.Said.{IsWonIn};
 ghost use Rattle.cat_dead_report.specs.inside.Scenes.{IsScene};
 
 use crate::deciders::has_decider;
+use crate::deciding::winners_of_faultless_targets_decide;
 use crate::line::DeadLine;
 use crate::scene::TargetScene;
 use cat_audit::undecided_at;
@@ -16,6 +17,7 @@ use cat_machine::{Log, execute_logged};
 use cat_pool::Pool;
 use cat_pos::Pos;
 use cat_region::Region;
+use cat_sound::programs_go_on;
 use cat_value::{Input, Outcome};
 use std::alloc::{AllocError, Global};
 
@@ -51,8 +53,19 @@ fn line_by(decides: bool, at: Option<Pos>, input: Input, outcome: Outcome) -> De
     }
 }
 
-/// What a run on the input of a region says of the definition of the target that stands there. It costs that run and
-/// the making of its input.
+/// Whether it is known without a run that what wins in a region decides: its target is faultless, and the region hangs
+/// on nothing beside the inputs.
+fn is_sure(faultless: bool, at: Option<Pos>) -> bool
+    ensures { result ≡ is_sure faultless at }
+{
+    match at {
+        None => faultless,
+        Some(_) => false,
+    }
+}
+
+/// What a run on the input of a region says of the definition of the target that wins there, and stands there. It costs
+/// the making of that input, and the run where it isn't known without one.
 pub(crate) fn leaf_line(
     here: &TargetScene,
     pool: &mut Pool,
@@ -60,14 +73,18 @@ pub(crate) fn leaf_line(
     region: Region,
 ) -> Result<DeadLine, AllocError>
     requires scene { IsScene here.now }
-    requires dims { region.dims ≡ dims_of here.now.table.now.terms }
-    requires inhabited { IsInhabited region }
+    requires won { IsWonIn here.now.table.now here.now.target.now pos region }
     ensures { IfOk result (λ line.
         line_in here.now.program.now here.now.table.now here.now.target.now pos region ≡ Some line) }
 {
+    winners_of_faultless_targets_decide(here.program, here.table);
+    programs_go_on(here.program);
     let input = input_of(here.alloc, here.table, here.program.decls(), &region)?;
+    let at = undecided_at(here.table, here.number, region);
+    if is_sure(here.faultless, at) {
+        return Ok(DeadLine::Decides(input));
+    }
     let (outcome, log) = run_logged(here.alloc, here.code, here.table.scope, &input, pool)?;
     let decides = has_decider(&here.code.tables, log.as_slice(), here.target.target, pos);
-    let at = undecided_at(here.table, here.number, region);
     Ok(line_by(decides, at, input, outcome))
 }

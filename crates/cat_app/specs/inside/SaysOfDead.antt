@@ -12,7 +12,7 @@ use Rattle.cat_app.specs.inside.Says.{Says}
 pub record SaysDeadReport (program : Program) (scope most : ℕ) (files : List (List ℕ)) (reply : Reply) : Type 0 where
   pub report : DeadReport
   pub report_is : HasDeadReport program files scope most report
-  pub says : Says (status_of_dead report.status) report.text reply
+  pub says : Says (status_of_dead report.status) (string_bytes report.text) reply
 
 -- a reply tells which definitions are dead by a certificate, or that bytes are none
 abbrev pub SaysDead : Program → ℕ → List (List ℕ) → List ℕ → Reply → Type 0

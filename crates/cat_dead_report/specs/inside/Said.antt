@@ -13,6 +13,13 @@ use Rattle.cat_dead_report.specs.Causes.{leaves_of}
 use Rattle.cat_dead_report.specs.RunLines.{line_in}
 use Rattle.cat_dead.specs.Winners.{winner_in}
 
+-- a definition that stands there wins in a region
+pub record IsWonIn (table : Table) (t : TableTarget) (p : Pos) (region : Constraints) : Type 0 where
+  pub wins : winner_in table.atoms t region ≡ p ∷ []
+  pub region_is : IsRegion region
+  pub dims : region.dims ≡ dims_of table.terms
+  pub inhabited : IsInhabited region
+
 -- a definition that stands there wins in the region of a leaf
 pub record IsWon (table : Table) (t : TableTarget) (nodes : List TreeNode) (p : Pos) (region : Constraints) : Type 0
   where

@@ -1,5 +1,6 @@
 -- The tree that a search made.
 use Rattle.std.specs.Prelude.{◌≡◌, ◌≤◌, ◌<◌, ℕ, Bool, true, false}
+use Rattle.cat_scope.specs.Names.{has_none}
 use Rattle.cat_guard.specs.declared.table.Table.{Table}
 use Rattle.cat_guard.specs.declared.table.TableTarget.{TableTarget}
 use Rattle.cat_guard.specs.declared.tree.CaseTree.{CaseTree}
@@ -18,6 +19,11 @@ tree_in (search.Spent tree bad) = tree
 abbrev pub is_closed : Search → Bool
 is_closed (search.Closed tree bad) = true
 is_closed (search.Spent tree bad) = false
+
+-- and no leaf is bad
+abbrev pub is_covered : Search → Bool
+is_covered (search.Closed tree bad) = has_none bad
+is_covered (search.Spent tree bad) = false
 
 -- a tree was searched with at most so many leaves, which were spent where it isn't whole
 pub record IsSearchedBy (table : Table) (t : TableTarget) (budget : ℕ) (tree : CaseTree) (whole : Bool) : Type 0 where

@@ -1,16 +1,16 @@
 use Rattle.std.proofs.Common.{◌∙◌, refl, sym, ap, subst}
-use Rattle.cat_region.specs.Regions.{Constraints, IsInhabited}
+use Rattle.cat_region.specs.Regions.{Constraints}
 use Rattle.cat_dead_report.specs.RunLines.{line_in}
+use Rattle.cat_dead_report.specs.inside.Said.{IsWonIn}
 use Rattle.cat_dead_report.specs.inside.WonLeaves.{led}
 use Rattle.cat_dead_report.proofs.AloneLemmas.{some_default, within_default, says_default}
 use Rattle.cat_dead_report.proofs.KnownLemmas.{tried_kept, tried_not, or_second}
 use Rattle.cat_dead_report.proofs.found.try_leaf.Goals as goal
 
-pub leaf_line-requires-clause-dims : goal.leaf_line-requires-clause-dims
-leaf_line-requires-clause-dims c = ap (λ (r : Constraints). r.dims) c.in_ok-region.ensures ∙ c.requires.dims
-
-pub leaf_line-requires-clause-inhabited : goal.leaf_line-requires-clause-inhabited
-leaf_line-requires-clause-inhabited c = subst IsInhabited (sym c.in_ok-region.ensures) c.requires.inhabited
+pub leaf_line-requires-clause-won : goal.leaf_line-requires-clause-won
+leaf_line-requires-clause-won c =
+    subst (IsWonIn c.args.here.now.table.now c.args.here.now.target.now c.args.pos) (sym c.in_ok-region.ensures)
+    c.requires.won
 
 -- the input was run before
 pub returns-then-is_run : goal.returns-then-is_run
@@ -23,7 +23,7 @@ returns-then-is_run c =
     let alone = sym c.hang_alone-hangs.ensures ∙ c.if-hangs.true in
     tried_not program table t c.args.pos (led table way) known known refl (c.requires.default c.if-is_run.true)
     (some_default program table t c.args.pos)
-    (within_default program table t c.args.pos c.answers.result.now way c.answers.ensures alone c.requires.dims)
+    (within_default program table t c.args.pos c.answers.result.now way c.answers.ensures alone c.requires.won.dims)
 
 pub returns : goal.returns
 returns c =
@@ -40,4 +40,4 @@ returns c =
     says_default program table t c.args.pos c.answers.result.now way c.answers.ensures
     (sym c.hang_alone-hangs.ensures
     ∙ or_second old.on_default c.hang_alone-hangs.result new.on_default c.keep.ensures.default on off)
-    c.requires.dims next says) c.requires.default
+    c.requires.won.dims next says) c.requires.default

@@ -8,7 +8,7 @@ use Rattle.cat_dead_report.specs.RunLines.{weight_of}
 use Rattle.cat_dead_report.specs.inside.Knowing.{default_weight}
 use Rattle.cat_dead_report.specs.inside.WonLeaves.{IsToldIf}
 use Rattle.cat_dead_report.proofs.TryingLemmas.{IsTrying, item, at_item, starts, order, next_leaf, passes, none_wins}
-use Rattle.cat_dead_report.proofs.TryingLemmas.{final_there, known_there, reached, dims_there, inhabited_there, goes_over}
+use Rattle.cat_dead_report.proofs.TryingLemmas.{final_there, known_there, reached, goes_over, won_there}
 use Rattle.cat_dead_report.proofs.TryingLemmas.{goes_on}
 use Rattle.cat_dead_report.proofs.found.try_leaves.Goals as goal
 
@@ -105,26 +105,14 @@ try_place-requires-clause-asked c =
     c.in-Some.won (sym c.won_by.ensures ∙ c.in-Some.is) c.go_to.new.way c.in_ok-go_to.ensures in
     subst (λ way. IsTrue (ask_below (length here.table.now.atoms) way)) (sym there) (c.requires.asked x.node)
 
-pub try_place-requires-clause-dims : goal.try_place-requires-clause-dims
-try_place-requires-clause-dims c =
+pub try_place-requires-clause-won : goal.try_place-requires-clause-won
+try_place-requires-clause-won c =
     let here = c.args.here.now in
     let l = c.loop-leaf in
     let leaves = c.args.leaves.now in
     let x = item leaves l.leaf-index in
     let at = at_item leaves l.leaf-index (omega (arith, c.loop-leaf-test.true)) in
-    dims_there here.program.now here.table.now here.target.now c.args.nodes.now c.args.derived c.args.numbers.now
-    leaves c.args.known.now.items l.at l.way l.leaf-index l.known.items l.invariant x at c.in-Some.won
-    (sym c.won_by.ensures ∙ c.in-Some.is)
-    c.go_to.new.way c.in_ok-go_to.ensures
-
-pub try_place-requires-clause-inhabited : goal.try_place-requires-clause-inhabited
-try_place-requires-clause-inhabited c =
-    let here = c.args.here.now in
-    let l = c.loop-leaf in
-    let leaves = c.args.leaves.now in
-    let x = item leaves l.leaf-index in
-    let at = at_item leaves l.leaf-index (omega (arith, c.loop-leaf-test.true)) in
-    inhabited_there here.program.now here.table.now here.target.now c.args.nodes.now c.args.derived c.args.numbers.now
+    won_there here.program.now here.table.now here.target.now c.args.nodes.now c.args.derived c.args.numbers.now
     leaves c.args.known.now.items l.at l.way l.leaf-index l.known.items l.invariant x at c.in-Some.won
     (sym c.won_by.ensures ∙ c.in-Some.is)
     c.go_to.new.way c.in_ok-go_to.ensures

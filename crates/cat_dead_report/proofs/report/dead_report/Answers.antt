@@ -26,7 +26,7 @@ returns c =
       table_is = c.in_ok-table.ensures;
       lines = lines;
       are = c.in_ok-lines.ensures;
-      text = c.in_ok-text-2.ensures ∙ c.in_ok-text.ensures
+      text = c.in_ok-text.ensures
           ∙ ap (λ (ls : List TargetLines). text_of (report_lines program.decls files c.args.budget table ls))
           c.as_slice-lines.ensures;
       status = c.status_of-status.ensures ∙ ap status_of c.as_slice-lines.ensures;

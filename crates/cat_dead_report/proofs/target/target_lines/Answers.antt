@@ -1,12 +1,12 @@
-use Rattle.std.proofs.Common.{slice_get, sym, subst}
+use Rattle.std.proofs.Common.{◌∙◌, slice_get, sym, subst}
 use Rattle.std.proofs.lemmas.Option.{slice_get_within}
 use Rattle.cat_guard.specs.declared.table.TableTarget.{TableTarget}
 use Rattle.cat_guard.specs.declared.tree.CaseTree.{CaseTree}
 use Rattle.cat_cert.proofs.Lists.{some_at}
 use Rattle.cat_search.specs.Cells.{IsSpentWithin}
-use Rattle.cat_search.specs.Searched.{IsSearchOf}
+use Rattle.cat_search.specs.Searched.{IsClosedSearch, IsSearchOf}
 use Rattle.cat_dead_report.specs.inside.Searches.{tree_in, IsSearchedBy}
-use Rattle.cat_dead_report.proofs.SearchLemmas.{searched_by}
+use Rattle.cat_dead_report.proofs.SearchLemmas.{covered_by, searched_by}
 use Rattle.cat_dead_report.proofs.target.target_lines.Goals as goal
 
 pub search_in-requires-clause-target : goal.search_in-requires-clause-target
@@ -30,3 +30,15 @@ lines_by-requires-clause-searched c =
     (sym c.tree_in-tree.ensures.tree)
     (subst (IsSearchedBy table t c.args.budget (tree_in s)) (sym c.tree_in-tree.ensures.whole)
     (searched_by table t c.args.budget s searched within))
+
+-- a search without bad leaves shows that each valuation covers the target
+pub returns-clause-covered : goal.returns-clause-covered
+returns-clause-covered c is =
+    let here = c.args.here.now in
+    let table = here.table.now in
+    let t = here.target.now in
+    let s = c.in_ok-search.search in
+    let closed = some_at (slice_get table.targets here.number) t
+    (λ (u : TableTarget). IsClosedSearch table.terms table.atoms u s) c.requires.scene.target
+    c.in_ok-search.ensures.closed in
+    covered_by table t s closed (sym c.tree_in-tree.ensures.covered ∙ is) c.closed_trees_cover_each_valuation.ensures.nodes
