@@ -2,6 +2,7 @@
 file, probe.rs, that is no crate of the repository and that the toolchain tries without a proof."""
 import pathlib, shutil, subprocess, tempfile
 
+from oracle_sources import shown
 from reference.cases import TOP
 from reference.modes import replies
 
@@ -15,19 +16,15 @@ SECONDS = 1_200
 FAILING = {'read': 'a read', 'put': 'a put', 'room': 'what is past a room'}
 
 
-def spelled(text):
-    return text.replace('\n', '\\n').replace('\r', '\\r').replace('\t', '\\t')
-
-
-def spelled_bytes(data):
-    return ''.join(spelled(c) if c in '\n\r\t' else c if ' ' <= c <= '~' and c != '\\' else '\\x%02x' % ord(c)
+def shown_bytes(data):
+    return ''.join(shown(c.encode()) if c in '\n\r\t' else c if ' ' <= c <= '~' and c != '\\' else '\\x%02x' % ord(c)
                    for c in data.decode('latin-1'))
 
 
 def line(what, number, words, now):
     """A call of which that fails, as the probe reads it."""
-    kept = ['%s=%s' % (spelled(name), spelled_bytes(data)) for name, data in now.items()]
-    return '\\/'.join(['%s %d' % (what, number), spelled(' '.join(words)), *kept])
+    kept = ['%s=%s' % (shown(name.encode()), shown_bytes(data)) for name, data in now.items()]
+    return '\\/'.join(['%s %d' % (what, number), shown(' '.join(words).encode()), *kept])
 
 
 def calls():
@@ -89,14 +86,16 @@ def probed(asked):
 def in_memory():
     lines = list(due())
     for (asked, status, text), answer in zip(lines, probed([asked for asked, _, _ in lines])):
-        want, (what, words) = '%d %s' % (status, spelled(text)), asked.split('\\/')[:2]
+        want, (what, words) = '%d %s' % (status, shown(text.encode())), asked.split('\\/')[:2]
         kind = 'nothing' if what == 'read 0' else FAILING[what.split()[0]]
         wrong = '' if answer == want else 'want %r, got %r' % (want[:100], answer[:300])
         yield Tried('calls over files and outputs in memory, of which %s fails' % kind, '%s, %s' % (words, what), wrong)
 
 
 def shelves(program, is_sample):
+    if is_sample:
+        return
     if not shutil.which('rt'):
         print('shelves: skipped, since the toolchain is missing')
-    elif not is_sample:
+    else:
         yield Piece('shelves and sinks in memory', in_memory, True)
