@@ -12,7 +12,7 @@ initially contains get_year get_month get_day
 '''.split())
 PAIRS = ('under condition', 'depends on', 'list of', 'for all', 'we have', 'such that', 'number of', 'map each',
          'combine all', 'with pattern', 'date round', 'round of', 'output of')
-PAIR = re.compile('|'.join(r'%s[ \t\r\n]+%s(?!\w)' % tuple(pair.split()) for pair in PAIRS))
+PAIR = re.compile('|'.join(r'%s[ \t\r\n]+%s' % tuple(pair.split()) for pair in PAIRS))
 SYMBOL = re.compile(r'--|!=|<=|>=|[:.,;()\[\]{}+\-*/=<>]')
 NUMBER = re.compile(r'([0-9]+)(?:\.([0-9]+))?(?:([ \t]*%))?')
 MONEY = re.compile(r'\$([0-9]+(?:,[0-9]{3})*)(?:\.([0-9]{1,2}))?')
@@ -80,9 +80,14 @@ def date(found, pos):
         raise Refused([Fault('E5', pos)])
 
 
+def goes_on(text, at):
+    """Whether a word goes on there."""
+    return at < len(text) and ('_' + text[at]).isidentifier()
+
+
 def name_end(text, at):
     end = at + 1
-    while end < len(text) and ('_' + text[end]).isidentifier():
+    while goes_on(text, end):
         end += 1
     return end
 
@@ -92,7 +97,7 @@ def token_at(text, at, pos):
     for form, make in ((NUMBER, number), (MONEY, money), (DATE, date)):
         if found := form.match(text, at):
             return make(found, pos), found.end()
-    if found := PAIR.match(text, at):
+    if (found := PAIR.match(text, at)) and not goes_on(text, found.end()):
         return Token(' '.join(found[0].split()), None, pos), found.end()
     if 'A' <= text[at] <= 'Z' or text[at].isidentifier() and text[at] != '_':
         word = text[at:name_end(text, at)]
