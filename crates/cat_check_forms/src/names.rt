@@ -2,7 +2,6 @@
 ghost use Rattle.std.specs.Prelude.{◌≡◌, ◌<◌, IfOk, IfSome, length};
 ghost use Rattle.std.specs.Option.{option_copied};
 ghost use Rattle.cat_tree.specs.declared.expression.Node.TheViews.{out-Node};
-ghost use Rattle.cat_scope.specs.Names as scope_words;
 ghost use Rattle.cat_names.specs.Found.{Tells};
 ghost use Rattle.cat_names.specs.Forms as forms;
 ghost use Rattle.cat_names.specs.Lookup as lookups;
@@ -72,7 +71,7 @@ fn item(here: &Here, name: &Name) -> Result<Resolved, Refusal>
     let Some((number, item)) = here.tables.item(here.decls, here.scope, &name.text) else {
         return Err(Refusal::Refused(Fault::NameUnknown(name.pos)));
     };
-    if !is_plain(item) {
+    if !item.is_plain() {
         return Err(Refusal::Refused(Fault::TypeMismatch(name.pos)));
     }
     let ty = copy_ty(here.alloc, &item.ty)?;
@@ -81,18 +80,6 @@ fn item(here: &Here, name: &Name) -> Result<Resolved, Refusal>
 }
 
 /// Whether an item is a variable that is no function.
-fn is_plain(item: &ItemDecl) -> bool
-    ensures { result ≡ scope_words.is_plain item.now }
-{
-    !matches!(item.kind, Kind::Called(_)) && item.params.is_empty()
-}
-
-fn is_function(item: &ItemDecl) -> bool
-    ensures { result ≡ scope_words.is_function item.now }
-{
-    !matches!(item.kind, Kind::Called(_)) && !item.params.is_empty()
-}
-
 /// The function that a name stands for where it is called, with its number: a bound name is none.
 pub fn function<'a>(
     here: &Here<'a>,
@@ -116,7 +103,7 @@ fn called_function<'a>(here: &Here<'a>, name: &Name) -> Result<(u32, &'a ItemDec
     let Some((number, item)) = here.tables.item(here.decls, here.scope, &name.text) else {
         return Err(Refusal::Refused(Fault::NameUnknown(name.pos)));
     };
-    if !is_function(item) {
+    if !item.is_function() {
         return Err(Refusal::Refused(Fault::TypeMismatch(name.pos)));
     }
     Ok((number, item))

@@ -1,7 +1,6 @@
 // Targets to which each run comes, and whose definitions can't fault.
 ghost use Rattle.std.specs.Prelude.{◌≡◌, ◌<◌, ◌+◌, true, length, slice_get};
 ghost use Rattle.std.specs.List.{list_all};
-ghost use Rattle.cat_scope.specs.Names.{is_function, is_plain};
 ghost use Rattle.cat_dead_report.specs.inside.Forms as forms;
 ghost use Rattle.cat_dead_report.specs.inside.Faultless as words;
 ghost use Rattle.cat_dead_report.specs.inside.Faultless.{IsFaultless, IsReached};
@@ -11,7 +10,7 @@ use crate::forms::{Safety, safety_of};
 use cat_guard::{GuardDef, TableTarget};
 use cat_pos::Shared;
 use cat_scope::{Def, Expr, Program};
-use cat_value::{ItemDecl, Kind, Target};
+use cat_value::{ItemDecl, Target};
 
 fn cannot_fault(safety: Safety) -> bool
     ensures { result ≡ forms.cannot_fault safety }
@@ -57,25 +56,13 @@ fn are_harmless(definitions: &[Def], guards: &[GuardDef]) -> bool
         .all(|guard| is_harmless(definitions, guard.number))
 }
 
-fn is_function(item: &ItemDecl) -> bool
-    ensures { result ≡ is_function item.now }
-{
-    !matches!(item.kind, Kind::Called(_)) && !item.params.is_empty()
-}
-
-fn is_plain(item: &ItemDecl) -> bool
-    ensures { result ≡ is_plain item.now }
-{
-    !matches!(item.kind, Kind::Called(_)) && item.params.is_empty()
-}
-
 /// Whether an item is given, or a function, which no run judges where it stands in the order.
 fn is_passed(items: &[ItemDecl], number: u32) -> bool
     ensures { result ≡ words.is_passed_if (slice_get items.now number) }
 {
     match items.get(number as usize) {
         None => false,
-        Some(item) => item.kind.must_be_given() || is_function(item),
+        Some(item) => item.kind.must_be_given() || item.is_function(),
     }
 }
 
@@ -95,7 +82,7 @@ fn is_judged(items: &[ItemDecl], number: u32) -> bool
 {
     match items.get(number as usize) {
         None => false,
-        Some(item) => is_plain(item) && !item.kind.must_be_given(),
+        Some(item) => item.is_plain() && !item.kind.must_be_given(),
     }
 }
 

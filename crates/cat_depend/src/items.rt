@@ -1,7 +1,6 @@
 // What items depend on, and the functions that functions call.
 ghost use Rattle.std.specs.Prelude.{◌≡◌, ◌<◌, length, All, IfOk, IfErr};
 ghost use Rattle.cat_order.specs.Order.{AreItems, IsOrder};
-ghost use Rattle.cat_scope.specs.Names.{is_function};
 ghost use Rattle.cat_scope.specs.Orders.{item_dependencies, function_calls};
 ghost use Rattle.cat_depend.specs.Causes.{HasItemCause};
 ghost use Rattle.cat_depend.specs.Past.{TellsPast};
@@ -12,21 +11,15 @@ use crate::naming::{Wanted, add_definition};
 use cat_order::{OrderRefusal, order, the_order_lists_items, the_order_puts_dependencies_first};
 use cat_pos::{ENTRIES_BOUND, Numbers, empty_lists};
 use cat_scope::Def;
-use cat_value::{ItemDecl, Kind};
+use cat_value::ItemDecl;
 use std::alloc::{AllocError, Global};
-
-fn is_function(item: &ItemDecl) -> bool
-    ensures { result ≡ is_function item.now }
-{
-    !matches!(item.kind, Kind::Called(_)) && !item.params.is_empty()
-}
 
 /// Whether what the definitions of an item name is wanted.
 fn wants(wanted: Wanted, item: &ItemDecl) -> bool
     ensures { result ≡ wants wanted item.now }
 {
     match wanted {
-        Wanted::Functions => is_function(item),
+        Wanted::Functions => item.is_function(),
         Wanted::Items | Wanted::Scopes => true,
     }
 }

@@ -1,13 +1,11 @@
 // The numbers of cases and functions in code.
 ghost use Rattle.std.specs.Prelude.{◌≡◌, IfOk};
-ghost use Rattle.cat_scope.specs.Names as scope_words;
 ghost use Rattle.cat_lower.specs.Rows as words;
 ghost use Rattle.cat_lower.specs.Told.{standing_at};
 
 use crate::LoweringScene;
 use crate::growing::{added, fitting};
 use crate::scene::tables_are_made;
-use cat_value::{ItemDecl, Kind};
 use std::alloc::AllocError;
 
 /// The number of a function among those of all scopes, by its item. Want of memory is answered too where there is no
@@ -34,11 +32,4 @@ pub fn case_number(here: &LoweringScene, enumeration: u32, case: u32) -> Result<
     };
     let number = added(*start as usize, case as usize)?;
     fitting(number)
-}
-
-/// Whether an item is a function.
-pub fn is_function(item: &ItemDecl) -> bool
-    ensures { result ≡ scope_words.is_function item.now }
-{
-    !matches!(item.kind, Kind::Called(_)) && !item.params.is_empty()
 }

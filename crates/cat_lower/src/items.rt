@@ -9,7 +9,6 @@ ghost use Rattle.cat_lower.specs.Laying.{over};
 ghost use Rattle.cat_lower.specs.Scopes as words;
 ghost use Rattle.cat_lower.specs.Told.{scope_standing};
 
-use crate::counts::is_function;
 use crate::growing::{fitting, patch, place, put, put_open};
 use crate::targets::{emit_context, emit_target};
 use crate::{Growing, LoweringScene};
@@ -106,7 +105,7 @@ pub fn emit_functions(
         ++ words.function_entries (scope_standing here.now scope.now) 0 here.now.items.now (ends_of growing.old)) }
 {
     for (number, item) in here.items.as_slice().iter().enumerate() {
-        if !is_function(item) {
+        if !item.is_function() {
             continue;
         }
         let begin = place(growing)?;

@@ -2,7 +2,6 @@
 ghost use Rattle.std.specs.Prelude.{◌≡◌, IfOk};
 ghost use Rattle.cat_lower.specs.Starts as words;
 
-use crate::counts::is_function;
 use crate::growing::{added, fitting};
 use cat_pos::{List, NumberLists, Numbers};
 use cat_value::{Enumerations, ItemDecls, Scopes};
@@ -31,7 +30,7 @@ pub fn function_starts(alloc: Global, items: &ItemDecls) -> Result<Numbers, Allo
     for item in items.as_slice() {
         let start = fitting(total)?;
         starts.push(start)?;
-        if !is_function(item) {
+        if !item.is_function() {
             continue;
         }
         total = added(total, 1)?;

@@ -58,7 +58,7 @@ fn run_machine<'a>(
 
 /// What a run comes to, with the machine in which it ended. What it logged is there.
 #[derive(Drop)]
-pub struct Ran {
+pub struct EndedRun {
     pub machine: Box<Machine>,
     pub steps: u64,
     pub outcome: Result<Outcome, AllocError>,
@@ -72,7 +72,7 @@ pub fn run_in(
     input: &Input,
     constants: &[Ref],
     machine: Box<Machine>,
-) -> Ran
+) -> EndedRun
     requires given { ∥ IsGiven code.now scope input.now ∥₁ }
     requires empty { IsEmpty machine.value }
     requires constants { AreConstants code.now.tables machine.value.pool constants.now }
@@ -88,7 +88,7 @@ pub fn run_in(
         end,
     } = run_machine(alloc, code, scope, input, constants, machine);
     let outcome = outcome_at(alloc, code, &machine, end);
-    Ran {
+    EndedRun {
         machine,
         steps: count,
         outcome,
@@ -111,7 +111,7 @@ fn run_over(
 {
     let mut machine = Box::new(alloc, empty(alloc))?;
     mem::swap(pool, &mut machine.pool);
-    let Ran {
+    let EndedRun {
         mut machine,
         steps,
         outcome,

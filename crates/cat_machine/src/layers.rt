@@ -149,7 +149,7 @@ impl<H: Copy, T: Copy> Layers<H, T> {
     pub fn clear(&mut self)
         ensures { self.new ≡ [] }
     {
-        while self.starts.pop().is_some() {}
+        self.starts.clear();
         self.items.clear();
     }
 

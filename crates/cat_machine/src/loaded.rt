@@ -2,7 +2,7 @@
 ghost use Rattle.std.specs.Prelude.{◌≡◌, IfOk};
 ghost use Rattle.cat_machine.specs.Running.{GivesOutcome, IsGiven, constant_values};
 
-use crate::executing::{Ran, run_in};
+use crate::executing::{EndedRun, run_in};
 use crate::machine::Machine;
 use crate::starting::{clear, empty, load_constants};
 use cat_code::Code;
@@ -64,7 +64,7 @@ impl Loaded {
         };
         let mark = machine.pool.mark();
         let constants = self.constants.as_slice();
-        let Ran {
+        let EndedRun {
             mut machine,
             steps: _,
             outcome,

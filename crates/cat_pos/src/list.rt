@@ -107,6 +107,13 @@ impl<T: Drop> List<T> {
         self.items.pop()
     }
 
+    /// No element is left. The room that they took stays.
+    pub fn clear(&mut self)
+        ensures { self.new ≡ [] }
+    {
+        self.items.clear();
+    }
+
     /// Puts another element at an index.
     pub fn set(&mut self, at: usize, item: T)
         requires { at < length self.old }

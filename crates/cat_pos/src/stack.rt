@@ -45,6 +45,13 @@ impl<T: Drop> Stack<T> {
         self.entries.pop()
     }
 
+    /// No entry is left. The room that they took stays.
+    pub fn clear(&mut self)
+        ensures { self.new ≡ [] }
+    {
+        self.entries.clear();
+    }
+
     /// The last entry that was put on.
     pub fn top(&self) -> Option<&T>
         ensures { option_copied result ≡ slice_get self.now 0 }

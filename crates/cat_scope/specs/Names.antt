@@ -2,11 +2,10 @@
 use Rattle.std.specs.Prelude.{◌≡◌, ◌⊎◌, ℕ, zero, suc, ◌+◌, ◌&&◌, nat_eq, Bool, true, false, not, List, [], ◌∷◌, Option}
 use Rattle.std.specs.Prelude.{Some, None, slice_get, if◌then◌else◌}
 use Rattle.cat_value.specs.declared.decls.Decls.{Decls}
-use Rattle.cat_value.specs.declared.declaration.Kind.{Kind}
-use Rattle.cat_value.specs.declared.declaration.Kind.TheVariants as kind
 use Rattle.cat_value.specs.declared.declaration.ItemDecl.{ItemDecl}
 use Rattle.cat_value.specs.declared.declaration.Scope.{Scope}
 use Rattle.cat_value.specs.Inputs.{must_be_given, outputs_in}
+pub use Rattle.cat_value.specs.Inputs.{is_called, has_none, is_plain, is_function}
 
 -- the items of a scope
 abbrev pub items_in : Option Scope → List ItemDecl
@@ -27,24 +26,6 @@ IsOneOf x (y ∷ ys) = (x ≡ y) ⊎ IsOneOf x ys
 pub record Names : Type 0 where
   pub decls : Decls
   pub items : List ItemDecl
-
--- a called scope
-abbrev pub is_called : Kind → Bool
-is_called (kind.Called scope) = true
-is_called _ = false
-
--- an empty list
-abbrev pub has_none : {A : Type 0} → List A → Bool
-has_none [] = true
-has_none (x ∷ xs) = false
-
--- a variable that is no function, and so one with a value
-abbrev pub is_plain : ItemDecl → Bool
-is_plain item = not (is_called item.kind) && has_none item.params
-
--- a function
-abbrev pub is_function : ItemDecl → Bool
-is_function item = not (is_called item.kind) && not (has_none item.params)
 
 -- the items of the scope of that number
 abbrev pub scope_items : Decls → ℕ → List ItemDecl

@@ -2,11 +2,29 @@
 use Rattle.std.specs.Prelude.{ℕ, Bool, true, false, ◌&&◌, not, IsTrue, List, [], ◌∷◌, Option, None, Some, slice_get, if◌then◌else◌}
 use Rattle.cat_value.specs.declared.value.Value.{Value}
 use Rattle.cat_value.specs.declared.declaration.Kind.{Kind}
-use Rattle.cat_value.specs.declared.declaration.Kind.TheVariants.{Input, Output, InputOutput, Context, ContextOutput}
+use Rattle.cat_value.specs.declared.declaration.Kind.TheVariants.{Input, Output, InputOutput, Context, ContextOutput, Called}
 use Rattle.cat_value.specs.declared.declaration.ItemDecl.{ItemDecl}
 use Rattle.cat_value.specs.declared.declaration.Scope.{Scope}
 use Rattle.cat_value.specs.declared.decls.Decls.{Decls}
 use Rattle.cat_value.specs.Typing.{has_type}
+
+-- a called scope
+abbrev pub is_called : Kind → Bool
+is_called (Called scope) = true
+is_called _ = false
+
+-- an empty list
+abbrev pub has_none : {A : Type 0} → List A → Bool
+has_none [] = true
+has_none (x ∷ xs) = false
+
+-- a variable that is no function, and so one with a value
+abbrev pub is_plain : ItemDecl → Bool
+is_plain item = not (is_called item.kind) && has_none item.params
+
+-- a function
+abbrev pub is_function : ItemDecl → Bool
+is_function item = not (is_called item.kind) && not (has_none item.params)
 
 -- whether an item must be given
 abbrev pub must_be_given : Kind → Bool

@@ -1,6 +1,6 @@
 // What a program declares: structures, enumerations, and scopes with their items.
 ghost use Rattle.std.specs.Prelude.{◌≡◌};
-ghost use Rattle.cat_value.specs.Inputs.{is_output, may_be_given, must_be_given};
+ghost use Rattle.cat_value.specs.Inputs.{is_function, is_output, is_plain, may_be_given, must_be_given};
 
 use crate::{Ty, Tys};
 use cat_pos::{List, Pos, Text};
@@ -99,6 +99,21 @@ pub struct ItemDecl {
     /// Whether it is a condition: a boolean that is false where no rule holds.
     pub condition: bool,
     pub params: Tys,
+}
+
+impl ItemDecl {
+    /// Whether it is a variable that has a value.
+    pub fn is_plain(&self) -> bool
+        ensures { result ≡ is_plain self.now }
+    {
+        !matches!(self.kind, Kind::Called(_)) && self.params.is_empty()
+    }
+
+    pub fn is_function(&self) -> bool
+        ensures { result ≡ is_function self.now }
+    {
+        !matches!(self.kind, Kind::Called(_)) && !self.params.is_empty()
+    }
 }
 
 pub type ItemDecls = List<ItemDecl>;

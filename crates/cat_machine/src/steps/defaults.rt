@@ -1,6 +1,5 @@
 // What instructions do with default frames.
 ghost use Rattle.std.specs.Prelude.{◌≡◌, ◌≢◌, ◌<◌, ◌+◌, ◌^◌, OnOk, slice_get};
-ghost use Rattle.cat_scope.specs.Names.{is_function};
 ghost use Rattle.cat_code.specs.Logged.{is_function_target};
 ghost use Rattle.cat_machine.specs.inside.Logging.{HeldHas, LogsTarget, number_of};
 ghost use Rattle.cat_code.specs.States.{stuck};
@@ -13,14 +12,8 @@ ghost use Rattle.cat_machine.specs.inside.Machines.{IsMachine};
 use crate::log::LogEntry;
 use crate::machine::{End, HeldRef, Machine, Stepped};
 use cat_code::Code;
-use cat_value::{Decls, ItemDecl, Kind, Target};
+use cat_value::{Decls, Target};
 use std::alloc::AllocError;
-
-fn is_function(item: &ItemDecl) -> bool
-    ensures { result ≡ is_function item.now }
-{
-    !matches!(item.kind, Kind::Called(_)) && !item.params.is_empty()
-}
 
 fn is_function_target(decls: &Decls, target: Target) -> bool
     ensures { result ≡ is_function_target decls.now target target.inner }
@@ -32,7 +25,7 @@ fn is_function_target(decls: &Decls, target: Target) -> bool
         return false;
     };
     match scope.items.get(target.item as usize) {
-        Some(item) => is_function(item),
+        Some(item) => item.is_function(),
         None => false,
     }
 }
