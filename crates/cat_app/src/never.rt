@@ -8,7 +8,7 @@ ghost use Rattle.cat_app.specs.inside.Says.{Says};
 use crate::Status;
 use crate::reply::Reply;
 use cat_answer::position_text;
-use cat_dead_report::is_same;
+use cat_dead::is_same;
 use cat_guard::{Table, TableTarget};
 use cat_pos::{Files, Pos};
 use std::alloc::{AllocError, Global};

@@ -3,20 +3,13 @@ ghost use Rattle.std.specs.Prelude.{◌≡◌, slice_get};
 ghost use Rattle.std.specs.List.{list_any};
 ghost use Rattle.cat_machine.specs.States.{decided, decider_of, position_by};
 ghost use Rattle.cat_scope.specs.Targets.{same_inner};
-ghost use Rattle.cat_dead.specs.Winners.{is_same};
 ghost use Rattle.cat_dead_report.specs.Deciders.{has_decider, is_target, stands_at};
 
 use cat_code::Tables;
+use cat_dead::is_same;
 use cat_machine::LogEntry;
 use cat_pos::Pos;
 use cat_value::Target;
-
-/// Whether two positions are one.
-pub fn is_same(one: Pos, other: Pos) -> bool
-    ensures { result ≡ is_same one other }
-{
-    one.line == other.line && one.place == other.place
-}
 
 pub(crate) fn same_inner(one: Option<u32>, other: Option<u32>) -> bool
     ensures { result ≡ same_inner one other }

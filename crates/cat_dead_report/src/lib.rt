@@ -19,7 +19,6 @@ mod target;
 mod text;
 mod tried;
 
-pub use deciders::is_same;
 pub use line::{DeadLine, DeadLines, ReportLines, TargetLines};
 pub use plain_scopes::plain_scopes_have_decided_lines;
 pub use report::{DeadReport, dead_report};
