@@ -49,6 +49,7 @@ abbrev pub numbers_text : List ℕ → Text
 numbers_text [] = []
 numbers_text (n ∷ ns) = codes " " ++ (decimal n ++ numbers_text ns)
 
+-- the text of an instruction: its name, and its numbers behind blanks
 abbrev pub instr_text : Instr → Text
 instr_text i = (instr_words i).0 ++ numbers_text (instr_words i).1
 

@@ -37,25 +37,32 @@ use Rattle.cat_image.specs.declared.tables.ImageTables.{ImageTables}
 use Rattle.cat_image.specs.Rows.{IsRow, rows_of}
 use Rattle.cat_image.specs.Image.{image_lines}
 
+-- a position by the numbers of its file, its line and its column
 abbrev pub pos_words : Pos → ImagePos
 pos_words p = record { file = pos_file p; line = p.line; column = pos_column p }
 
+-- a field by its name and the text of its type
 abbrev pub field_words : Decls → Field → ImageField
 field_words ds f = record { name = f.name; ty = type_text ds f.ty }
 
+-- a structure by its name and its fields
 abbrev pub structure_words : Decls → Structure → ImageStructure
 structure_words ds s = record { name = s.name; fields = map (field_words ds) s.fields }
 
+-- the text of the type of a case's content, where it has one
 abbrev pub content_words : Decls → Option Ty → Option Text
 content_words ds None = None
 content_words ds (Some t) = Some (type_text ds t)
 
+-- a case by its name and its content
 abbrev pub case_words : Decls → Case → ImageCase
 case_words ds c = record { name = c.name; content = content_words ds c.content }
 
+-- an enumeration by its name and its cases
 abbrev pub enumeration_words : Decls → Enumeration → ImageEnumeration
 enumeration_words ds e = record { name = e.name; cases = map (case_words ds) e.cases }
 
+-- the kind of an item, without the number of a called scope
 abbrev pub kind_words : Kind → ImageKind
 kind_words kind.Input = words.Input
 kind_words kind.Output = words.Output
@@ -65,13 +72,10 @@ kind_words kind.InputOutput = words.InputOutput
 kind_words kind.ContextOutput = words.ContextOutput
 kind_words (kind.Called scope) = words.Called
 
+-- an item by its name, its kind, its position, and what it is
 abbrev pub item_words : Decls → ItemDecl → ImageItem
-item_words ds item = record {
-  name = item.name;
-  kind = kind_words item.kind;
-  pos = pos_words item.pos;
-  what = what_text ds item item.kind;
-}
+item_words ds item =
+    record { name = item.name; kind = kind_words item.kind; pos = pos_words item.pos; what = what_text ds item item.kind }
 
 -- scopes with their entries
 abbrev pub scopes_words : Decls → List Scope → List ℕ → List ImageScope
@@ -80,9 +84,11 @@ scopes_words ds (s ∷ ss) [] = []
 scopes_words ds (s ∷ ss) (entry ∷ entries) =
     record { name = s.name; entry = entry; items = map (item_words ds) s.items } ∷ scopes_words ds ss entries
 
+-- a target by its name and its position
 abbrev pub target_words : Decls → TargetEntry → ImageTarget
 target_words ds entry = record { place = target_text ds entry.target; pos = pos_words entry.pos }
 
+-- a constant by the texts of its type and its value
 abbrev pub constant_words : Decls → Constant → ImageConstant
 constant_words ds c = record { ty = type_text ds c.ty; value = value_bytes ds c.ty c.value }
 

@@ -26,6 +26,7 @@ abbrev pub content_text : Option Text → Text
 content_text None = []
 content_text (Some t) = behind_blank t
 
+-- the line of a row: its word, and behind it its parts, parted by blanks
 abbrev pub row_text : Row → Text
 row_text (row.File name) = codes "file " ++ name
 row_text (row.Structure name) = codes "structure " ++ name
@@ -44,6 +45,7 @@ row_text (row.Instruction n i) = decimal n ++ behind_blank (instr_text i)
 
 -- ---- what is asked of its words
 
+-- the content of a case, where it has one, is a type
 abbrev pub IsContent : Option Text → Type 0
 IsContent None = Unit {0}
 IsContent (Some t) = IsTrue (is_type t)
@@ -65,6 +67,7 @@ IsConstant c =
     × ((ty rest : Text) → IsTrue (is_type ty) → c.ty ++ behind_blank c.value ≡ ty ++ behind_blank rest
     → length (words ty) ≤ length (words c.ty))
 
+-- names are names, types are types, and numbers are small
 abbrev pub IsRow : Row → Type 0
 IsRow (row.File name) = Unit {0}
 IsRow (row.Structure name) = IsTrue (is_name name)
@@ -82,12 +85,15 @@ IsRow (row.Instruction n i) = IsSmall n × IsSmallInstr i
 
 -- ---- the rows of tables and instructions
 
+-- a structure, and its fields behind it
 abbrev pub structure_rows : ImageStructure → List Row
 structure_rows s = row.Structure s.name ∷ map row.Field s.fields
 
+-- an enumeration, and its cases behind it
 abbrev pub enumeration_rows : ImageEnumeration → List Row
 enumeration_rows e = row.Enumeration e.name ∷ map row.Case e.cases
 
+-- a scope, and its items behind it
 abbrev pub scope_rows : ImageScope → List Row
 scope_rows s = row.Scope s.name s.entry ∷ map row.Item s.items
 
@@ -109,5 +115,6 @@ abbrev pub joined : {A : Type 0} → List (List A) → List A
 joined [] = []
 joined (part ∷ parts) = part ++ joined parts
 
+-- the rows of tables and instructions, in the order of lines
 abbrev pub rows_of : ImageTables → List Instr → List Row
 rows_of tables instructions = joined (sections tables instructions)

@@ -6,6 +6,7 @@ use Rattle.cat_image.specs.declared.tables.ImagePos.{ImagePos}
 use Rattle.cat_image.specs.declared.tables.ImageKind.{ImageKind}
 use Rattle.cat_image.specs.declared.tables.ImageKind.TheVariants as kind
 
+-- a text by its bytes
 abbrev pub Text : Type 0
 Text = List ℕ
 
@@ -27,6 +28,7 @@ words text = parts 32 text
 
 -- ---- names and types
 
+-- a text that is not empty
 abbrev pub has_bytes : Text → Bool
 has_bytes [] = false
 has_bytes (b ∷ bs) = true
@@ -66,12 +68,15 @@ is_what_of (name ∷ []) = has_bytes name
 is_what_of (a ∷ b ∷ more) =
     (has_bytes a && (bytes_eq b (codes "of") && are_types_of more)) || (begin_list a b && is_what_of more)
 
+-- a text that is one word
 abbrev pub is_name : Text → Bool
 is_name text = is_name_of (words text)
 
+-- a text that is a type
 abbrev pub is_type : Text → Bool
 is_type text = is_type_of (words text)
 
+-- a text that is a type, or a type and those of parameters
 abbrev pub is_what : Text → Bool
 is_what text = is_what_of (words text)
 
@@ -81,12 +86,15 @@ is_what text = is_what_of (words text)
 abbrev pub IsSmall : ℕ → Type 0
 IsSmall n = n < 2 ^ 32
 
+-- a position of numbers that 32 bits hold
 abbrev pub IsSmallPos : ImagePos → Type 0
 IsSmallPos p = IsSmall p.file × IsSmall p.line × IsSmall p.column
 
+-- the text of a position: three numbers, parted by colons
 abbrev pub pos_text : ImagePos → Text
 pos_text p = decimal p.file ++ (codes ":" ++ (decimal p.line ++ (codes ":" ++ decimal p.column)))
 
+-- the word of a kind
 abbrev pub kind_text : ImageKind → Text
 kind_text kind.Input = codes "input"
 kind_text kind.Output = codes "output"

@@ -19,13 +19,16 @@ abbrev pub more_numbers : ℕ → Text → Option (Text × Text) → Option Argu
 more_numbers a rest None = option_map (arguments.Two a) (number_of rest)
 more_numbers a rest (Some p) = when (number_of p.0) (λ b. option_map (arguments.Three a b) (number_of p.1))
 
+-- one number, or more where a blank parts the text
 abbrev pub arguments_by : Text → Option (Text × Text) → Option Arguments
 arguments_by text None = option_map arguments.One (number_of text)
 arguments_by text (Some p) = when (number_of p.0) (λ a. more_numbers a p.1 (cut 32 p.1))
 
+-- the numbers of a text
 unfoldable pub arguments_of : Text → Option Arguments
 arguments_of text = arguments_by text (cut 32 text)
 
+-- an instruction of one number
 abbrev pub of_one : OneNumber → ℕ → Instr
 of_one one.Const a = instr.Const a
 of_one one.Slot a = instr.Slot a
@@ -52,6 +55,7 @@ of_one one.Take a = instr.Take a
 of_one one.NoValue a = instr.NoValue a
 of_one one.Assert a = instr.Assert a
 
+-- an instruction of two numbers
 abbrev pub of_two : TwoNumbers → ℕ → ℕ → Instr
 of_two two.Given a b = instr.Given a b
 of_two two.Call a b = instr.Call a b
@@ -62,9 +66,11 @@ with_numbers name (arguments.One a) = option_map (λ k. of_one k a) (look_up wit
 with_numbers name (arguments.Two a b) = option_map (λ k. of_two k a b) (look_up with_two name)
 with_numbers name (arguments.Three a b c) = if bytes_eq name (codes "op") then Some (instr.Op a b c) else None
 
+-- an instruction without numbers, or with those behind its name
 abbrev pub instr_by : Text → Option (Text × Text) → Option Instr
 instr_by text None = look_up alone text
 instr_by text (Some p) = when (arguments_of p.1) (with_numbers p.0)
 
+-- the instruction of a text
 unfoldable pub instr_of : Text → Option Instr
 instr_of text = instr_by text (cut 32 text)

@@ -4,6 +4,7 @@ use Rattle.std.specs.Prelude.{if◌then◌else◌}
 use Rattle.cat_image.specs.declared.tables.ImageTables.{ImageTables}
 use Rattle.cat_image.specs.declared.reading.Reading.{Reading}
 
+-- nothing is read yet
 abbrev pub nothing_read : Reading
 nothing_read = record {
   tables = record {
@@ -32,6 +33,7 @@ abbrev pub before_last : {A : Type 0} → (A → A) → A → Option (List A) �
 before_last f x None = f x ∷ []
 before_last f x (Some xs) = x ∷ xs
 
+-- a list with its last element changed, where it has one
 abbrev pub with_last : {A : Type 0} → (A → A) → List A → Option (List A)
 with_last f [] = None
 with_last f (x ∷ xs) = Some (before_last f x (with_last f xs))

@@ -40,6 +40,7 @@ is_plain [] = false
 is_plain (b ∷ []) = true
 is_plain (b ∷ c ∷ bs) = not (b == 48)
 
+-- the number of a text of digits, without needless zeros in front
 unfoldable pub number_of : Text → Option ℕ
 number_of text = if is_plain text then digits_after text 0 else None
 
@@ -48,6 +49,7 @@ abbrev pub pos_by : Option ℕ → Option ℕ → Option ℕ → Option ImagePos
 pos_by (Some file) (Some line) (Some column) = Some (record { file = file; line = line; column = column })
 pos_by _ _ _ = None
 
+-- the position of a text: three numbers, parted by colons
 unfoldable pub pos_of : Text → Option ImagePos
 pos_of text =
     when (cut 58 text) (λ a. when (cut 58 a.1) (λ b. pos_by (number_of a.0) (number_of b.0) (number_of b.1)))

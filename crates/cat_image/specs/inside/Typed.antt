@@ -27,6 +27,7 @@ typed_of (a ∷ []) = None
 typed_of (a ∷ b ∷ more) =
     if begin_list a b then typed_or more (typed_of more) else (if has_bytes a then Some (a ∷ [], b ∷ more) else None)
 
+-- a constant: the longest type in front, and its value behind a blank
 unfoldable pub constant_of : Text → Option Row
 constant_of text =
     option_map (λ p. row.Constant (record { ty = unparted p.0; value = unparted p.1 })) (typed_of (words text))
@@ -42,6 +43,7 @@ abbrev pub lists_words : ℕ → List Text → List Text
 lists_words zero more = more
 lists_words (suc n) more = codes "list" ∷ codes "of" ∷ lists_words n more
 
+-- the text of lists of lists, so many, of a type
 abbrev pub listed : ℕ → Text → Text
 listed zero name = name
 listed (suc n) name = codes "list of " ++ listed n name

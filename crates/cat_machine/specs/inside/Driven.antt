@@ -31,6 +31,7 @@ abbrev pub ends_in : Code → ℕ → State → ℕ
 ends_in code zero s = after_step zero (λ t. 0) (step code.tables code.instructions s)
 ends_in code (suc n) s = after_step (suc n) (ends_in code n) (step code.tables code.instructions s)
 
+-- one is more than zero
 none_le : {A : Type 0} → 1 ≤ 0 → A
 none_le h = absurd (omega arith)
 
