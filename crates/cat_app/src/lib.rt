@@ -29,6 +29,3 @@ pub use runs::{RUNS, Ran, run_all};
 pub use source::{drill_source, income_input};
 pub use status::Status;
 pub use top::catala;
-
-#[cfg(test)]
-mod tests;

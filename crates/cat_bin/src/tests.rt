@@ -1,4 +1,5 @@
-use crate::{Status, catala};
+// The top call over files and an output in memory.
+use cat_app::{Status, catala};
 use cat_io::{MemShelf, MemSink, PureShelf, PureSink};
 use std::alloc::{AllocError, Global};
 use std::process::Abort;
