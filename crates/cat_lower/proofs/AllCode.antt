@@ -102,9 +102,6 @@ module _ (tables : Tables) (code : List Instr) (scopes : List CalcScope) (scope_
   abbrev E : ℕ → Shape
   E = entry ds scopes scope_order
 
-  called_of : ℕ → List ℕ
-  called_of n = scopes_called (items_in (slice_get ds.scopes n)) (slice_get scopes n)
-
   -- the scopes that a scope calls stand in front of it
   called_before : (n : ℕ) (scope : Scope) (terms : CalcScope) → slice_get ds.scopes n ≡ Some scope
       → slice_get scopes n ≡ Some terms

@@ -30,7 +30,6 @@ pub mod Whole
 pub mod Grows
 pub mod TypesOf
 pub mod TypeViews
-pub mod Popping
 pub mod Sketches
 pub mod CodeOf
 pub mod StartLemmas

@@ -12,7 +12,7 @@ use Rattle.cat_lower.specs.Laying.{Ends, Parts, Coded, past, joined, after, one,
 use Rattle.cat_lower.specs.Laying.{over, branch, loop}
 use Rattle.cat_lower.specs.Grown.{ends_of, Grown, Patched, Closes, ClosesSides}
 use Rattle.cat_lower.specs.Pieces.{truth, search_for, found, any_turn, all_turn}
-use Rattle.cat_lower.proofs.Places.{past_length, past_append}
+use Rattle.cat_lower.proofs.Places.{past_append}
 use Rattle.cat_lower.proofs.Regrouped.{regrouped}
 use Rattle.cat_lower.proofs.Grows.{count, grown_then, grown_at, led_by, patched, place_behind, ends_are}
 
@@ -310,21 +310,6 @@ pub over_part : (t1 t2 t3 t4 : Growing) (jump : ℕ → Instr) (x : Instr) (a : 
     → Grown t1 t4 (over jump a)
 over_part t1 t2 t3 t4 jump x a start end g h is_start is_end p =
     jumped t1 t3 t4 jump x a start end (grown_then t1 t2 t3 (one x) a g h) is_start is_end p
-
--- a place that is patched later stays inside
-pub open_within : (t1 t3 : Growing) (x : Instr) (a : Coded) (at : ℕ) → at ≡ length t1.instructions
-    → Grown t1 t3 (led x a)
-    → at < length t3.instructions
-open_within t1 t3 x a at is g =
-    let long = place_behind t1 t3 (led x a) g in
-    let more = past_length (length t1.instructions + 1) (a (skip (ends_of t1))).instructions in
-    omega (arith, is, long, more)
-
-pub still_inside : (old new : Growing) (a : Coded) (at : ℕ) → Grown old new a → at < length old.instructions
-    → at < length new.instructions
-still_inside old new a at g less =
-    let long = place_behind old new a g in
-    let more = past_length (length old.instructions) (a (ends_of old)).instructions in omega (arith, less, long, more)
 
 pub patched_inside : (old new : Growing) (at place : ℕ) (i : Instr) → Patched old new place i
     → at < length old.instructions

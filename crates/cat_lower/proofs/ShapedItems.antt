@@ -278,9 +278,6 @@ module _ (tables : Tables) (code : List Instr) (scopes : List CalcScope) (scope_
 
   -- ---- functions
 
-  zero_before : (k : ℕ) → 0 + k ≡ k
-  zero_before k = omega arith
-
   module _ (k : ℕ) (decl : ItemDecl) (is : slice_get items k ≡ Some decl) where
     pub once : times terms.order k ≡ 1
     once = facts.order.once k (slice_get_within items k decl is)

@@ -42,7 +42,6 @@ use Rattle.cat_lower.proofs.LoweredEquations.{lowered_Filter, lowered_Combine, l
 use Rattle.cat_lower.proofs.TypesAgree.{arm_types_are, type_of}
 use Rattle.cat_lower.proofs.Stacks.{length_map}
 use Rattle.cat_lower.proofs.CasePlaces.{case_stands, tested_stands}
-use Rattle.cat_lower.proofs.Named.{Named}
 use Rattle.cat_lower.proofs.FormLaws.{form_List, form_field}
 use Rattle.cat_lower.proofs.ShapedForms.{more, Gives, gives_slot, form as form_by}
 use Rattle.cat_lower.proofs.ShapedLoops.{gives_map, gives_filter, gives_all, gives_any, takes_bind}
@@ -95,9 +94,6 @@ module _ (tables : Tables) (code : List Instr) (Calls : Owner → Owner → Type
     pub callee : (item : ItemDecl) → slice_get (scope_items tables.decls owner.scope) k ≡ Some item
         → is_function item ≡ true
         → IsCallable tables code Calls entry owner filled (function_number here k) item.params item.ty
-
-  abbrev pub Names_ready : Expr → Type 0
-  Names_ready e = Named IsReady (IsReached tables code Calls entry owner filled) e
 
   abbrev pub Lowers : List Ty → Expr → Option Ty → Form → Type 0
   Lowers ls e x t = G ((lowered here e).code ls x) (map F ls) t

@@ -31,9 +31,6 @@ use Rattle.cat_lower.proofs.Sketches.{Takes, Leaves, IsJump, leaves_one, leaves_
 use Rattle.cat_lower.proofs.Sketches.{takes_nothing, takes_less, takes_over, is_jump_false}
 use Rattle.cat_lower.proofs.ShapedForms.{Deep, more, at, Gives, within_so}
 
-one_there : (n : ℕ) → nat_le 1 (n + 1) ≡ true
-one_there n = grind (arith, nat_tests)
-
 module _ (tables : Tables) (code : List Instr) (Calls : Owner → Owner → Type 0) (entry : ℕ → Shape) (owner : Owner)
     (filled : List Bool) where
   abbrev G : Coded → List Form → Form → Type 0

@@ -3,16 +3,13 @@ use Rattle.std.proofs.Common.{◌≡◌, ◌≤◌, ℕ, ◌+◌, ◌-◌, nat_l
 use Rattle.std.proofs.Common.{length, Option, Some, None, slice_get, refl, sym, ap, ◌∙◌, subst, arith}
 use Rattle.std.proofs.lemmas.Bool.{eq-eqb}
 use Rattle.std.proofs.lemmas.Bool.Decides.{nat_tests}
-use Rattle.cat_value.specs.declared.ty.Ty.TheVariants as flat
-use Rattle.cat_value.specs.declared.value.Value.TheVariants as value_flat
 use Rattle.cat_code.specs.declared.instr.Instr.{Instr}
 use Rattle.cat_code.specs.declared.instr.Instr.TheVariants as instr
 use Rattle.cat_code.specs.declared.code.Constant.{Constant}
 use Rattle.cat_code.specs.declared.code.Tables.{Tables}
 use Rattle.cat_code.specs.Forms.{Form, Truth, Many}
 use Rattle.cat_code.specs.Shapes.{Owner, Shape}
-use Rattle.cat_code.specs.Leads.{leads, leads_two, where_so, pushed, loop_ended}
-use Rattle.cat_code.specs.Told.{constant_form}
+use Rattle.cat_code.specs.Leads.{leads_two, where_so, pushed, loop_ended}
 use Rattle.cat_code.specs.Flow.{flow}
 use Rattle.cat_code.specs.Tame.{is_next, may_go_back}
 use Rattle.cat_code.specs.Valid.{is_loop, keeps_rules}
@@ -20,7 +17,7 @@ use Rattle.cat_lower.specs.Laying.{Ends, Parts, Coded, one, then_code, led, skip
 use Rattle.cat_lower.specs.Stands.{HasAt, Has}
 use Rattle.cat_lower.specs.Pieces.{truth, search_for, found, any_turn, all_turn}
 use Rattle.cat_lower.proofs.Places.{has_back, first_of, second_of, rest_of, past_append}
-use Rattle.cat_lower.proofs.Spots.{Spots, Meeting, Arrives, arrives_here, IsConstant}
+use Rattle.cat_lower.proofs.Spots.{Spots, Meeting, Arrives, arrives_here}
 use Rattle.cat_lower.proofs.Sketches.{Sketch, Takes, step, sketch_after, sketch_around, sketch_step, sketch_on}
 use Rattle.cat_lower.proofs.Sketches.{sketch_join, sketch_go, sketch_over, is_jump_false, forward, back_or, past_below}
 
@@ -131,20 +128,6 @@ module _ (tables : Tables) (code : List Instr) (Calls : Owner → Owner → Type
       (λ all at after. arrives_here all (p + 1) within at.0))
 
   -- ---- up to the first that is found
-
-  pub takes_truth : (b : Bool) (s : Shape)
-      → IsConstant tables (record { ty = flat.Boolean; value = value_flat.Boolean b })
-      → ((k : ℕ) → slice_get tables.constants k ≡ Some (record { ty = flat.Boolean; value = value_flat.Boolean b })
-      → constant_form tables k ≡ Some Truth)
-      → T (truth b) s (pushed Truth s)
-  takes_truth b s typed form ends has =
-      sketch_on tables code Calls entry ends (instr.Const ends.constants)
-      (record { ty = flat.Boolean; value = value_flat.Boolean b } ∷ []) []
-      s (pushed Truth s) (by (form ends.constants has.constants.0)) (typed, tt) (λ all. (tt, (refl, (tt, tt))))
-    where
-      by : constant_form tables ends.constants ≡ Some Truth
-          → flow tables code (instr.Const ends.constants) ends.place s ≡ leads (ends.place + 1) (pushed Truth s)
-      by is = rw is refl
 
   -- how a turn may go on: to the next one, or out of the loop with a truth value
   abbrev pub Turned : ℕ → ℕ → Form → Shape → ℕ → Spots → Type 0

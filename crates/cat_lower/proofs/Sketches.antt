@@ -66,10 +66,6 @@ module _ (tables : Tables) (code : List Instr) (Calls : Owner → Owner → Type
   abbrev pub Takes : Coded → Shape → Shape → Type 0
   Takes a from into = Laid a from (λ all p. Arrives all p into)
 
-  -- code behind which nothing comes
-  abbrev pub Ends_so : Coded → Shape → Type 0
-  Ends_so a from = Laid a from (λ all p. Unit {0})
-
   pub kept_both : (all : Spots) (p : ℕ) (is : List Instr) (xs : Spots) (js : List Instr) (ys : Spots)
       → AreKept tables code Calls entry all p is xs
       → AreKept tables code Calls entry all (past p is) js ys
@@ -188,10 +184,6 @@ module _ (tables : Tables) (code : List Instr) (Calls : Owner → Owner → Type
     constants = tt;
     targets = (is, tt);
   }
-
-  -- the same code
-  pub laid_by : (a b : Coded) (s : Shape) (After : Spots → ℕ → Type 0) → a ≡ b → Laid b s After → Laid a s After
-  laid_by a b s After e laid = subst (λ x. Laid x s After) (sym e) laid
 
   -- less is known behind it
   pub takes_less : (a : Coded) (s t u : Shape) → Meets t u → Takes a s t → Takes a s u

@@ -104,9 +104,3 @@ pub otherwise_over : (at : TermStanding) (j : Justification) (a : Coded) → is_
 otherwise_over at justification.Never a is = absurd (cc is)
 otherwise_over at justification.Always a is = refl
 otherwise_over at (justification.Where e) a is = refl
-
-pub otherwise_none : (growing : Growing) (at : TermStanding) (j : Justification) (a : Coded) → is_never j ≡ true
-    → Grown growing growing (otherwise at j a)
-otherwise_none growing at justification.Never a is = grown_none growing
-otherwise_none growing at justification.Always a is = absurd (cc is)
-otherwise_none growing at (justification.Where e) a is = absurd (cc is)

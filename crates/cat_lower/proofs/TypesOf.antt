@@ -58,35 +58,17 @@ pub typed_Item : (r : Result Ty AllocError) (here : Standing) (p : Pos) (item : 
 typed_Item r here p item ls x h =
     subst (λ (y : Lowering). IfOk r (λ t. t ≡ y.type ls x)) (sym (lowered_Item here p item)) h
 
-pub told_Item : (here : Standing) (whole : Expr) (p : Pos) (item : ℕ) (ls : List Ty) (x : Option Ty)
-    → whole ≡ leaf.Item p item
-    → (form here (Expr-F.Item p item)).type ls x ≡ (lowered here whole).type ls x
-told_Item here whole p item ls x is =
-    sym (ap (λ d. (lowered here d).type ls x) is ∙ ap (λ (y : Lowering). y.type ls x) (lowered_Item here p item))
-
 pub typed_Output : (r : Result Ty AllocError) (here : Standing) (p : Pos) (item k : ℕ) (ls : List Ty) (x : Option Ty)
     → IfOk r (λ t. t ≡ (form here (Expr-F.Output p item k)).type ls x)
     → IfOk r (λ t. t ≡ (lowered here (leaf.Output p item k)).type ls x)
 typed_Output r here p item k ls x h =
     subst (λ (y : Lowering). IfOk r (λ t. t ≡ y.type ls x)) (sym (lowered_Output here p item k)) h
 
-pub told_Output : (here : Standing) (whole : Expr) (p : Pos) (item k : ℕ) (ls : List Ty) (x : Option Ty)
-    → whole ≡ leaf.Output p item k
-    → (form here (Expr-F.Output p item k)).type ls x ≡ (lowered here whole).type ls x
-told_Output here whole p item k ls x is =
-    sym (ap (λ d. (lowered here d).type ls x) is ∙ ap (λ (y : Lowering). y.type ls x) (lowered_Output here p item k))
-
 pub typed_Local : (r : Result Ty AllocError) (here : Standing) (p : Pos) (k : ℕ) (ls : List Ty) (x : Option Ty)
     → IfOk r (λ t. t ≡ (form here (Expr-F.Local p k)).type ls x)
     → IfOk r (λ t. t ≡ (lowered here (leaf.Local p k)).type ls x)
 typed_Local r here p k ls x h =
     subst (λ (y : Lowering). IfOk r (λ t. t ≡ y.type ls x)) (sym (lowered_Local here p k)) h
-
-pub told_Local : (here : Standing) (whole : Expr) (p : Pos) (k : ℕ) (ls : List Ty) (x : Option Ty)
-    → whole ≡ leaf.Local p k
-    → (form here (Expr-F.Local p k)).type ls x ≡ (lowered here whole).type ls x
-told_Local here whole p k ls x is =
-    sym (ap (λ d. (lowered here d).type ls x) is ∙ ap (λ (y : Lowering). y.type ls x) (lowered_Local here p k))
 
 pub typed_Field : (r : Result Ty AllocError) (here : Standing) (p : Pos) (e : Expr) (k : ℕ) (ls : List Ty)
     (x : Option Ty)
@@ -156,13 +138,6 @@ pub typed_If : (r : Result Ty AllocError) (here : Standing) (p : Pos) (c a b : E
     → IfOk r (λ t. t ≡ (lowered here (expr.If p c a b)).type ls x)
 typed_If r here p c a b ls x h =
     subst (λ (y : Lowering). IfOk r (λ t. t ≡ y.type ls x)) (sym (lowered_If here p c a b)) h
-
-pub told_If : (here : Standing) (whole : Expr) (p : Pos) (c a b : Expr) (ls : List Ty) (x : Option Ty)
-    → whole ≡ expr.If p c a b
-    → (form here (Expr-F.If p (lowered here c) (lowered here a) (lowered here b))).type ls x
-    ≡ (lowered here whole).type ls x
-told_If here whole p c a b ls x is =
-    sym (ap (λ d. (lowered here d).type ls x) is ∙ ap (λ (y : Lowering). y.type ls x) (lowered_If here p c a b))
 
 pub typed_Match : (r : Result Ty AllocError) (here : Standing) (p : Pos) (e : Expr) (arms : List Arm) (ls : List Ty)
     (x : Option Ty)
@@ -249,12 +224,6 @@ pub typed_List : (r : Result Ty AllocError) (here : Standing) (p : Pos) (es : Li
 typed_List r here p es ls x h =
     subst (λ (y : Lowering). IfOk r (λ t. t ≡ y.type ls x)) (sym (lowered_List here p es)) h
 
-pub told_List : (here : Standing) (whole : Expr) (p : Pos) (es : List Expr) (ls : List Ty) (x : Option Ty)
-    → whole ≡ expr.List p es
-    → (form here (Expr-F.List p (map (lowered here) es))).type ls x ≡ (lowered here whole).type ls x
-told_List here whole p es ls x is =
-    sym (ap (λ d. (lowered here d).type ls x) is ∙ ap (λ (y : Lowering). y.type ls x) (lowered_List here p es))
-
 pub typed_ForAll : (r : Result Ty AllocError) (here : Standing) (p : Pos) (l test : Expr) (ls : List Ty) (x : Option Ty)
     → IfOk r (λ t. t ≡ (form here (Expr-F.ForAll p (lowered here l) (lowered here test))).type ls x)
     → IfOk r (λ t. t ≡ (lowered here (expr.ForAll p l test)).type ls x)
@@ -297,26 +266,12 @@ pub typed_Filter : (r : Result Ty AllocError) (here : Standing) (p : Pos) (l tes
 typed_Filter r here p l test ls x h =
     subst (λ (y : Lowering). IfOk r (λ t. t ≡ y.type ls x)) (sym (lowered_Filter here p l test)) h
 
-pub told_Filter : (here : Standing) (whole : Expr) (p : Pos) (l test : Expr) (ls : List Ty) (x : Option Ty)
-    → whole ≡ expr.Filter p l test
-    → (form here (Expr-F.Filter p (lowered here l) (lowered here test))).type ls x ≡ (lowered here whole).type ls x
-told_Filter here whole p l test ls x is =
-    sym (ap (λ d. (lowered here d).type ls x) is ∙ ap (λ (y : Lowering). y.type ls x) (lowered_Filter here p l test))
-
 pub typed_Combine : (r : Result Ty AllocError) (here : Standing) (p : Pos) (l start e : Expr) (ls : List Ty)
     (x : Option Ty)
     → IfOk r (λ t. t ≡ (form here (Expr-F.Combine p (lowered here l) (lowered here start) (lowered here e))).type ls x)
     → IfOk r (λ t. t ≡ (lowered here (expr.Combine p l start e)).type ls x)
 typed_Combine r here p l start e ls x h =
     subst (λ (y : Lowering). IfOk r (λ t. t ≡ y.type ls x)) (sym (lowered_Combine here p l start e)) h
-
-pub told_Combine : (here : Standing) (whole : Expr) (p : Pos) (l start e : Expr) (ls : List Ty) (x : Option Ty)
-    → whole ≡ expr.Combine p l start e
-    → (form here (Expr-F.Combine p (lowered here l) (lowered here start) (lowered here e))).type ls x
-    ≡ (lowered here whole).type ls x
-told_Combine here whole p l start e ls x is =
-    sym (ap (λ d. (lowered here d).type ls x) is
-    ∙ ap (λ (y : Lowering). y.type ls x) (lowered_Combine here p l start e))
 
 pub typed_Contains : (r : Result Ty AllocError) (here : Standing) (p q : Pos) (l e : Expr) (ls : List Ty)
     (x : Option Ty)
@@ -363,12 +318,6 @@ pub typed_Call : (r : Result Ty AllocError) (here : Standing) (p : Pos) (f : ℕ
 typed_Call r here p f es ls x h =
     subst (λ (y : Lowering). IfOk r (λ t. t ≡ y.type ls x)) (sym (lowered_Call here p f es)) h
 
-pub told_Call : (here : Standing) (whole : Expr) (p : Pos) (f : ℕ) (es : List Expr) (ls : List Ty) (x : Option Ty)
-    → whole ≡ expr.Call p f es
-    → (form here (Expr-F.Call p f (map (lowered here) es))).type ls x ≡ (lowered here whole).type ls x
-told_Call here whole p f es ls x is =
-    sym (ap (λ d. (lowered here d).type ls x) is ∙ ap (λ (y : Lowering). y.type ls x) (lowered_Call here p f es))
-
 pub typed_ScopeCall : (r : Result Ty AllocError) (here : Standing) (p : Pos) (s : ℕ) (fields : List FieldValue) (k : ℕ)
     (ls : List Ty) (x : Option Ty)
     → IfOk r (λ t. t ≡ (form here (Expr-F.ScopeCall p s (map (λ f. (f.field, lowered here f.value)) fields) k)).type ls
@@ -377,16 +326,6 @@ typed_ScopeCall r here p s fields k ls x h =
     subst (λ (y : Lowering). IfOk r (λ t. t ≡ y.type ls x))
     (sym (lowered_ScopeCall here p s fields k
     ∙ ap (λ (l : List (ℕ × Lowering)). form here (Expr-F.ScopeCall p s l k)) (fields_are here fields))) h
-
-pub told_ScopeCall : (here : Standing) (whole : Expr) (p : Pos) (s : ℕ) (fields : List FieldValue) (k : ℕ)
-    (ls : List Ty) (x : Option Ty) → whole ≡ expr.ScopeCall p s fields k
-    → (form here (Expr-F.ScopeCall p s (map (λ f. (f.field, lowered here f.value)) fields) k)).type ls x
-    ≡ (lowered here whole).type ls x
-told_ScopeCall here whole p s fields k ls x is =
-    sym (ap (λ d. (lowered here d).type ls x) is
-    ∙ ap (λ (y : Lowering). y.type ls x)
-    (lowered_ScopeCall here p s fields k
-    ∙ ap (λ (l : List (ℕ × Lowering)). form here (Expr-F.ScopeCall p s l k)) (fields_are here fields)))
 
 -- a case has the type of its enumeration, whether it has content or not
 pub told_Case : (here : Standing) (whole : Expr) (p : Pos) (n k : ℕ) (content : Option Expr) (ls : List Ty)

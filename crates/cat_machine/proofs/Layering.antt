@@ -7,7 +7,7 @@ use Rattle.std.proofs.lemmas.List.{drop-append-le, drop-set-add, drop-take, drop
 use Rattle.std.proofs.lemmas.List.{length-take-le}
 use Rattle.std.proofs.lemmas.List.{take-append-drop, take-append-le, take-set-le, take-take, take_all}
 use Rattle.cat_machine.specs.declared.layers.LayerStart.{LayerStart}
-use Rattle.cat_machine.specs.Layers.{extended, joined, rest_of, shortened, top_head, top_items, with_at}
+use Rattle.cat_machine.specs.Layers.{extended, joined, rest_of, shortened, top_head, with_at}
 use Rattle.cat_machine.specs.Layers.{with_item}
 use Rattle.cat_machine.specs.inside.Layered.{AreNested, layers_of, start_of}
 
@@ -84,11 +84,6 @@ module _ {H T : Type 0} where
       (let n = nested.0 in omega (arith, n, length-append items more), nested.1)
 
   -- ---- the list on top
-
-  pub on_top : (ls : List (LayerStart H)) (items : List T)
-      → drop (start_of ls (length items)) items ≡ top_items (layers_of ls items)
-  on_top [] items = drop_all (length items) items (omega arith)
-  on_top (l ∷ ls) items = refl
 
   pub head_on_top : (ls : List (LayerStart H)) (items : List T) (l : LayerStart H) → slice_get ls 0 ≡ Some l
       → top_head (layers_of ls items) ≡ Some l.head

@@ -51,19 +51,6 @@ pub count_Duration : (span : SpanOf) → node_count (flat.Duration span) ≡ 1
 unfolding node_count
 count_Duration span = search (rules, value.the_lemmas, fold_out-Value ℕ count_at)
 
-pub ruleset counts = (
-  count_List,
-  count_Structure,
-  count_Some,
-  count_None,
-  count_Boolean,
-  count_Integer,
-  count_Decimal,
-  count_Money,
-  count_Date,
-  count_Duration,
-)
-
 -- ---- pools that extend others
 
 pub extends_itself : (nodes : List Standing) → Extends nodes nodes

@@ -2,5 +2,5 @@
 pub use Rattle.cat_pool.proofs.Reading.{at-front, at-last, below-append, below-more, in_range-append, kept_parts-append}
 pub use Rattle.cat_pool.proofs.Reading.{length-values, map_at-front, seen_at-front, slice_get-at, values-append}
 pub use Rattle.cat_pool.proofs.Cutting.{IsMarkIn-of_Extends}
-pub use Rattle.cat_pool.proofs.Counting.{counts, extends_itself, extends_more}
+pub use Rattle.cat_pool.proofs.Counting.{extends_itself, extends_more}
 pub use Rattle.cat_pool.proofs.LoadingLemmas.{behind_of, extends_on, longer, seen_at-extends}

@@ -53,14 +53,6 @@ pub record AreLoaded (old new : List Standing) (vs : List Value) (i : ℕ) (refs
   pub count : length new + node_counts (drop i vs) ≡ length old + node_counts vs
   pub kept : Extends old new
 
-pub none_loaded : (old : List Standing) (vs : List Value) → AreLoaded old old vs 0 []
-none_loaded old vs = record {
-  seen = refl;
-  below = tt;
-  count = refl;
-  kept = take_all (length old) old (omega arith);
-}
-
 pub one_loaded : (old new next : List Standing) (vs : List Value) (i : ℕ) (refs : List ℕ) (v : Value) (r : ℕ)
     → AreLoaded old new vs i refs → i < length vs → v ≡ get_or vs i v
     → slice_get (values next) r ≡ Some v → length next ≡ length new + node_count v → Extends new next
@@ -80,16 +72,6 @@ one_loaded old new next vs i refs v r are within is at_r count kept = record {
       let before = are.count in omega (arith, next_is, before, count);
   kept = extends_on old new next are.kept kept;
 }
-
-pub all_loaded_seen : (old new : List Standing) (vs : List Value) (i : ℕ) (refs : List ℕ) → AreLoaded old new vs i refs
-    → length vs ≤ i → seen_at new refs ≡ vs
-all_loaded_seen old new vs i refs are past = are.seen ∙ take_all i vs past
-
-pub all_loaded_count : (old new : List Standing) (vs : List Value) (i : ℕ) (refs : List ℕ) → AreLoaded old new vs i refs
-    → length vs ≤ i → length new ≡ length old + node_counts vs
-all_loaded_count old new vs i refs are past =
-    let none : node_counts (drop i vs) ≡ 0 = ap node_counts (drop_all i vs past) in
-    let all = are.count in omega (arith, none, all)
 
 -- ---- one node behind the others
 

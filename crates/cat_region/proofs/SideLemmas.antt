@@ -82,12 +82,6 @@ sides_less ns after last is less =
 -- ---- one narrowing is undone
 
 module _ (base : Constraints) (region : Constraints) (room : ℕ) (whole : base.room ≡ room) where
-  pub none_made : (path : List Narrowing) → region.room ≡ room → IsAt base path region → Undoes base path None region
-  none_made [] same at = at
-  none_made (n ∷ path) same at =
-      let left : region.room + suc (length path) ≡ base.room = at.room in
-      absurd (omega (arith, left, whole, same))
-
   pub none_last : (path : List Narrowing) → last_narrowing region.narrowings ≡ None → IsAt base path region
       → Undoes base path None region
   none_last [] none at = at
@@ -193,21 +187,9 @@ abbrev pub IsOnWay : Constraints → Constraints → Type 0
 IsOnWay base region = (left : List Narrowing) × IsAt base left region
 
 module _ (base : Constraints) (after : Constraints) where
-  further : (last : ℕ × Cut × Bool) (left : List Narrowing) → Undoes base left (Some last) after → IsOnWay base after
-  further last [] undoes = absurd (undoes)
-  further last (n ∷ left) undoes = (left, undoes.1)
-
-  pub further_back : (region : Constraints) (last : ℕ × Cut × Bool) → IsOnWay base region
-      → ((left : List Narrowing) → IsAt base left region → Undoes base left (Some last) after) → IsOnWay base after
-  further_back region last way undoes = further last way.0 (undoes way.0 way.1)
-
   back : (left : List Narrowing) → Undoes base left None after → after ≡ base
   back [] undoes = at_base base after undoes
   back (n ∷ left) undoes = absurd (undoes)
-
-  pub all_back : (region : Constraints) → IsOnWay base region
-      → ((left : List Narrowing) → IsAt base left region → Undoes base left None after) → after ≡ base
-  all_back region way undoes = back way.0 (undoes way.0 way.1)
 
 -- the last of some narrowings is one of them
 pub last_cut : (dims : List Dim) (ns : List Narrowing) (last : ℕ × Cut × Bool) → last_narrowing ns ≡ Some last

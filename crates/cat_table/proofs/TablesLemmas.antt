@@ -48,20 +48,9 @@ module _ (ds : Decls) (files : List (List ℕ)) (table : Table) (budget : ℕ) (
   pub record Leads (rest all : List TableTarget) (text : List ℕ) (spent : Bool) : Type 0 where
     pub to : (more : List ℕ) (b : Bool) → Are rest more b → Are all (text ++ more) (spent || b)
 
-  pub leads_first : (ts : List TableTarget) → Leads ts ts [] false
-  leads_first ts = record { to = λ more b are. are }
-
   wanted_next : (t : TableTarget) (ts : List TableTarget) (b : Bool) → is_wanted wanted t ≡ b
       → wanted_of wanted (t ∷ ts) ≡ (if b then t ∷ wanted_of wanted ts else wanted_of wanted ts)
   wanted_next t ts b is = ap (λ c. if c then t ∷ wanted_of wanted ts else wanted_of wanted ts) is
-
-  -- past a target that isn't wanted
-  pub leads_over : (rest next all : List TableTarget) (t : TableTarget) (text : List ℕ) (spent : Bool)
-      → rest ≡ t ∷ next → is_wanted wanted t ≡ false → Leads rest all text spent → Leads next all text spent
-  leads_over rest next all t text spent is no_one leads = record {
-    to = λ more b are. leads.to more b (subst (λ ts. AreTables ds files table budget ts more b)
-        (sym (ap (wanted_of wanted) is ∙ wanted_next t next false no_one)) are);
-  }
 
   -- behind the table of one that is
   pub leads_on : (rest next all : List TableTarget) (t : TableTarget) (text new own : List ℕ) (spent one : Bool)
