@@ -1,7 +1,7 @@
 -- What holds of each of a list, gathered one after the other; and what it says of the inputs of a report.
-use Rattle.std.proofs.Common.{◌≡◌, ◌∙◌, ◌≤◌, ◌<◌, ◌+◌, ◌++◌, ℕ, zero, suc, IsTrue, List, [], ◌∷◌, drop, length}
+use Rattle.std.proofs.Common.{◌≡◌, ◌∙◌, ◌≤◌, ◌<◌, ◌+◌, ◌++◌, ℕ, IsTrue, List, [], ◌∷◌, drop, length}
 use Rattle.std.proofs.Common.{append_assoc, get_or}
-use Rattle.std.proofs.Common.{Option, Some, slice_get, refl, sym, ap, subst, arith, add-one}
+use Rattle.std.proofs.Common.{Option, Some, refl, sym, ap, subst, add-one}
 use Rattle.std.proofs.Common.{Result, Ok, Err, IfOk, String, Global, string_bytes}
 use Rattle.std.proofs.lemmas.Option.{slice_get_read}
 use Rattle.cat_value.specs.declared.value.Value.{Value}
@@ -15,13 +15,13 @@ use Rattle.cat_scope.specs.Outcomes.{scope_outcome}
 use Rattle.cat_guard.specs.declared.table.Table.{Table}
 use Rattle.cat_guard.specs.declared.table.TableTarget.{TableTarget}
 use Rattle.cat_guard.specs.declared.tree.TreeNode.{TreeNode}
+use Rattle.cat_audit_sound.proofs.Lists.{drop_next, drop_past}
 use Rattle.cat_json.specs.Names.{names_are_distinct}
 use Rattle.cat_answer.specs.ReadBack.{IsInputText}
 use Rattle.cat_audit.specs.declared.finding.Finding.TheVariants as finding
 use Rattle.cat_audit.specs.declared.finding.Line.{Line}
 use Rattle.cat_audit.specs.declared.finding.Line.TheVariants as line
 use Rattle.cat_audit.specs.declared.finding.TargetLine.{TargetLine}
-use Rattle.cat_audit.specs.declared.report.NamedLine.{NamedLine}
 use Rattle.cat_audit.specs.declared.report.Report.{Report}
 use Rattle.cat_audit.specs.declared.report.Section.{Section}
 use Rattle.cat_audit.specs.declared.report.Verdict.{Verdict}
@@ -40,17 +40,6 @@ pub record Leads {A : Type 0} (Holds : List A → Type 0) (rest all : List A) : 
 
 pub leads_first : {A : Type 0} (Holds : List A → Type 0) (xs : List A) → Leads Holds xs xs
 leads_first Holds xs = record { to = λ h. h }
-
-drop_next : {A : Type 0} (xs : List A) (i : ℕ) (x : A) → slice_get xs i ≡ Some x → drop i xs ≡ x ∷ drop (suc i) xs
-drop_next [] i x e = absurd (cc e)
-drop_next (y ∷ xs) zero x e = let same : y ≡ x = cc e in ap (λ z. z ∷ xs) same
-drop_next (y ∷ xs) (suc i) x e = drop_next xs i x e
-
-drop_past : {A : Type 0} (xs : List A) (n : ℕ) → length xs ≤ n → drop n xs ≡ []
-drop_past [] zero short = refl
-drop_past [] (suc n) short = refl
-drop_past (x ∷ xs) zero short = absurd (omega (arith, short))
-drop_past (x ∷ xs) (suc n) short = drop_past xs n (omega (arith, short))
 
 -- the rest from an element on
 pub next_is : {A : Type 0} (xs : List A) (i : ℕ) (x : A) → i < length xs → x ≡ get_or xs i x

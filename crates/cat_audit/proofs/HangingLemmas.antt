@@ -41,8 +41,8 @@ use Rattle.cat_audit.specs.Causes.{is_failure}
 use Rattle.cat_audit.specs.Findings.{is_no_path, is_derived, derived_in, least, position_in, undecided_at}
 use Rattle.cat_audit.specs.Findings.{finding_of, finding_from, finding_in, shown_input}
 use Rattle.cat_audit.specs.Lines.{is_found, is_hanging}
-use Rattle.cat_audit.specs.inside.Hanging.{is_of_derived, asks_derived, are_derived, is_some, hang_alone, default_input}
-use Rattle.cat_audit.specs.inside.Hanging.{IsQuiet}
+use Rattle.cat_audit.specs.Hanging.{is_of_derived, asks_derived, are_derived, are_some, hang_alone}
+use Rattle.cat_audit.specs.inside.Hanging.{IsQuiet, default_input}
 use Rattle.cat_audit.specs.inside.Tried.{region_at}
 use Rattle.cat_audit.proofs.FindingLemmas.{position_there, least_derived}
 
@@ -143,7 +143,7 @@ pub record Hangs (terms : List Term) (t : TableTarget) (region : Constraints) : 
   pub at : Pos
   pub is : undecided_at terms t region ≡ Some at
 
-hangs : (terms : List Term) (t : TableTarget) (region : Constraints) → of_derived terms region.narrowings ≡ true
+pub hangs : (terms : List Term) (t : TableTarget) (region : Constraints) → of_derived terms region.narrowings ≡ true
     → (region.narrowings ≡ [] → ⊥) → Hangs terms t region
 hangs terms t region derived some = by t.function refl
   where
@@ -282,20 +282,20 @@ module _ (table : Table) (base : Constraints) (nothing : base.narrowings ≡ [])
       → of_derived table.terms (Led way).narrowings ≡ true
   alone_derived answers way is alone =
       led_derived way (ap (list_all (asks_derived table)) is ∙ all_reversed (asks_derived table) answers
-      ∙ (both_true (is_some answers) (are_derived table answers) alone).1)
+      ∙ (both_true (are_some answers) (are_derived table answers) alone).1)
 
   pub alone_some : (answers way : List Answer) → way ≡ reverse answers → hang_alone table answers ≡ true
       → (Led way).narrowings ≡ [] → ⊥
   alone_some answers way is alone =
       led_some way (ap (list_all (asks_derived table)) is ∙ all_reversed (asks_derived table) answers
-      ∙ (both_true (is_some answers) (are_derived table answers) alone).1)
-      (λ none. there answers (both_true (is_some answers) (are_derived table answers) alone).0 (sym is ∙ none))
+      ∙ (both_true (are_some answers) (are_derived table answers) alone).1)
+      (λ none. there answers (both_true (are_some answers) (are_derived table answers) alone).0 (sym is ∙ none))
     where
       last : (ns : List Answer) (n : Answer) → ns ++ n ∷ [] ≡ [] → ⊥
       last [] n h = absurd (cc)
       last (m ∷ ns) n h = absurd (cc)
 
-      there : (ns : List Answer) → is_some ns ≡ true → reverse ns ≡ [] → ⊥
+      there : (ns : List Answer) → are_some ns ≡ true → reverse ns ≡ [] → ⊥
       there [] some none = true≢false (sym some)
       there (n ∷ ns) some none = last (reverse ns) n (sym (reverse-append (n ∷ []) ns) ∙ none)
 

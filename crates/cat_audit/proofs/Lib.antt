@@ -8,13 +8,13 @@ pub mod TurnLemmas
 pub mod CompleteLemmas
 mod CauseLemmas
 mod FindingExamples
-mod FindingLemmas
-mod HangingLemmas
+pub mod FindingLemmas
+pub mod HangingLemmas
 mod LeastLemmas
 mod TargetLineLemmas
-mod SearchedLemmas
+pub mod SearchedLemmas
 mod Targets
-mod TriedLemmas
+pub mod TriedLemmas
 mod Values
 pub mod Lists
 pub mod BackLemmas

@@ -36,7 +36,7 @@ none_derived terms free (n ∷ ns) =
     ∙ none_derived terms free ns
 
 -- a target that is no function hangs on inputs alone
-on_inputs : (terms : List Term) → AllHave IsFree terms → (t : TableTarget) → t.function ≡ false
+pub on_inputs : (terms : List Term) → AllHave IsFree terms → (t : TableTarget) → t.function ≡ false
     → (region : Constraints) → undecided_at terms t region ≡ None
 on_inputs terms free t no_function region =
     ap (λ (b : Bool). if b then Some t.pos else position_in terms (least (derived_in terms region.narrowings)))

@@ -1,6 +1,6 @@
 -- The bad leaves of a searched tree: where their ways lead, and what holds of their regions.
 use Rattle.std.proofs.Common.{◌≡◌, ℕ, suc, ◌+◌, Bool, true, false, not, IsTrue, if◌then◌else◌, List}
-use Rattle.std.proofs.Common.{[], ◌∷◌, ◌++◌, map, Some, refl, sym, ap, ◌∙◌, subst}
+use Rattle.std.proofs.Common.{[], ◌∷◌, map, Some, refl, sym, ap, ◌∙◌, subst}
 use Rattle.std.proofs.Common.{arith}
 use Rattle.std.proofs.Common.{true≢false}
 use Rattle.cat_region.specs.Regions.{Constraints, IsRegion, IsInhabited}

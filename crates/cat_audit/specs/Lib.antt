@@ -3,6 +3,7 @@ pub mod Sections
 pub mod Reports
 pub mod Complete
 pub mod Findings
+pub mod Hanging
 pub mod Lines
 pub mod Causes
 pub mod ReportLines

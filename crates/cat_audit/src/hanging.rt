@@ -1,13 +1,13 @@
 // Ways to regions that hang on what a run computes alone.
 ghost use Rattle.std.specs.Prelude.{◌≡◌, slice_get};
-ghost use Rattle.cat_audit.specs.inside.Hanging.{asks_derived, are_derived, hang_alone};
+ghost use Rattle.cat_audit.specs.Hanging.{asks_derived, are_derived, hang_alone};
 
 use crate::cause::is_derived;
 use cat_guard::Table;
 use cat_search::Answer;
 
 /// Whether an answer is to an atom of a derived term.
-fn asks_derived(table: &Table, answer: &Answer) -> bool
+pub fn asks_derived(table: &Table, answer: &Answer) -> bool
     ensures { result ≡ asks_derived table.now answer.now }
 {
     match table.atoms.get(answer.atom) {
@@ -24,7 +24,7 @@ fn are_derived(table: &Table, answers: &[Answer]) -> bool
 
 /// Whether answers are there, and each is to an atom of a derived term: the region that they lead to then constrains no
 /// input.
-pub(crate) fn hang_alone(table: &Table, answers: &[Answer]) -> bool
+pub fn hang_alone(table: &Table, answers: &[Answer]) -> bool
     ensures { result ≡ hang_alone table.now answers.now }
 {
     !answers.is_empty() && are_derived(table, answers)

@@ -22,6 +22,7 @@ pub use auditing::audit;
 pub use cause::undecided_at;
 pub use finding::{Finding, Line, TargetLine};
 pub use finding_laws::tables_admit_something;
+pub use hanging::{asks_derived, hang_alone};
 pub use laws::{
     complete_audits_have_closed_trees, complete_audits_leave_no_gap, complete_scopes_leave_no_gap,
     inputs_in_reports_run_again, reports_are_of_declared_scopes,
@@ -33,3 +34,4 @@ pub use report::{
     CalledLine, CalledLines, CaseTrees, NamedLine, NamedLines, Report, Section, Sections, Verdict,
 };
 pub use text::report_text;
+pub use tried::go_to;

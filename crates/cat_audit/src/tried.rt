@@ -45,7 +45,7 @@ fn kept(best: Option<Finding>, next: Finding) -> Option<Finding>
 }
 
 /// Goes on from a node to a later one.
-fn go_to(way: &mut Way, nodes: &[TreeNode], from: usize, to: usize) -> Result<(), AllocError>
+pub fn go_to(way: &mut Way, nodes: &[TreeNode], from: usize, to: usize) -> Result<(), AllocError>
     requires order { from ≤ to }
     requires within { to ≤ length nodes.now }
     ensures { OnOk result (way.new ≡ way_from way.old (slice_range nodes.now from to)) }

@@ -2,7 +2,6 @@
 use Rattle.std.proofs.Common.{◌≡◌, ℕ, zero, suc, ◌<◌, Bool, true, false, List, [], ◌∷◌, ◌++◌}
 use Rattle.std.proofs.Common.{Some, slice_get, refl, sym, ap, ◌∙◌, subst, arith, true≢false}
 use Rattle.std.proofs.Common.{if◌then◌else◌}
-use Rattle.std.proofs.lemmas.Bool.Decides.{nat_tests}
 use Rattle.cat_pos.specs.declared.pos.Pos.{Pos}
 use Rattle.cat_value.specs.declared.decls.Decls.{Decls}
 use Rattle.cat_value.specs.declared.declaration.ItemDecl.{ItemDecl}
@@ -10,8 +9,6 @@ use Rattle.cat_value.specs.declared.ty.Ty.{Ty}
 use Rattle.cat_value.specs.declared.ty.Ty.TheOpen.{Ty-F}
 use Rattle.cat_value.specs.declared.ty.Ty.TheVariants as flat_ty
 use Rattle.cat_value.specs.declared.ty.Ty.TheViews as ty
-use Rattle.cat_region.specs.declared.dim.Dim.{Dim}
-use Rattle.cat_region.specs.declared.dim.Dim.TheVariants as dim
 use Rattle.cat_scope.specs.declared.expr.Expr.{Expr}
 use Rattle.cat_scope.specs.declared.expr.Expr.TheOpen.{Expr-F}
 use Rattle.cat_scope.specs.declared.expr.Expr.TheVariants as leaf
@@ -27,18 +24,10 @@ use Rattle.cat_sound.specs.Parts.{PartsTyped}
 use Rattle.cat_sound.proofs.Exported.{by_parts, parts_of, parts_typed}
 use Rattle.cat_guard.specs.declared.table.InputPath.{InputPath}
 use Rattle.cat_guard.specs.Numbering.{is_seen, firsts}
-use Rattle.cat_guard.specs.Terms.{path_of, same_dim}
+use Rattle.cat_guard.specs.Terms.{path_of}
 use Rattle.cat_audit_sound.specs.PointInputs.{variable}
 use Rattle.cat_audit_sound.proofs.PointedValues.{same_some, none_some}
 use Rattle.cat_audit_sound.proofs.FreeValues.{Form, PathForm, an_item, a_field, path_form}
-
-pub dim_self : (d : Dim) → same_dim d d ≡ true
-dim_self dim.Whole = refl
-dim_self dim.Money = refl
-dim_self dim.Day = refl
-dim_self dim.Decimal = refl
-dim_self dim.Truth = refl
-dim_self (dim.Cases n) = grind (arith, nat_tests)
 
 -- ---- lists with one number more
 

@@ -19,22 +19,18 @@ use Rattle.cat_region.specs.Points.{is_point, answer, default_point}
 use Rattle.cat_region.specs.Regions.{Valuation, IsValuation, is_point_of}
 use Rattle.cat_scope.specs.declared.defs.Body.{Body}
 use Rattle.cat_scope.specs.Replies.{Reply}
-use Rattle.cat_scope.specs.Runs.{Run}
-use Rattle.cat_scope.specs.Names.{Names, AllHave, IsOneOf, has_none, is_called, is_in, scope_items}
-use Rattle.cat_scope.specs.Naming.{IsTargetAt, IsOwn, IsInner}
+use Rattle.cat_scope.specs.Names.{Names, AllHave, IsOneOf, has_none, is_called, scope_items}
+use Rattle.cat_scope.specs.Naming.{IsTargetAt, IsOwn}
 use Rattle.cat_scope.specs.WellFormed.{IsWellFormed}
 use Rattle.cat_scope.specs.Forests.{targets_of}
 use Rattle.cat_scope.specs.Judging.{Judged}
-use Rattle.cat_scope.specs.Targets.{same_target, judge_target}
+use Rattle.cat_scope.specs.Targets.{judge_target}
 use Rattle.cat_scope.specs.Eval.{Env, eval}
 use Rattle.cat_scope.specs.Calls.{Items, Scoped, call, env_of}
 use Rattle.cat_scope.specs.ItemValues.{item_value, ungiven_value}
 use Rattle.cat_scope.specs.Running.{backwards, entry_at, run_scoped}
-use Rattle.cat_sound.specs.Endings.{IsReady}
 use Rattle.cat_sound.specs.Given.{JudgedAt, values_at}
-use Rattle.cat_sound.specs.Settled.{StandsIn}
-use Rattle.cat_sound.proofs.Exported.{Ahead, AllIn, all_more, anything, each_judged, in_at, items_ahead, same_some}
-use Rattle.cat_sound.proofs.Exported.{DoneAt, ready}
+use Rattle.cat_sound.proofs.Exported.{each_judged, inner_target, same_some}
 use Rattle.cat_guard.specs.declared.table.Atom.{Atom}
 use Rattle.cat_guard.specs.declared.table.Term.{Term}
 use Rattle.cat_guard.specs.declared.table.TableTarget.{TableTarget}
@@ -50,17 +46,17 @@ use Rattle.cat_guard.proofs.Exported.{IsSoundTarget, all_and, sound_parts}
 use Rattle.cat_audit_sound.specs.Evaluations.{any_values}
 use Rattle.cat_audit_sound.specs.Shown.{AreGiven}
 use Rattle.cat_audit_sound.specs.Failing.{IsFreeTerm, Shows, IsAlikeAtFree}
-use Rattle.cat_audit_sound.proofs.Gives.{and_both, as_ok, if_ok}
-use Rattle.cat_audit_sound.proofs.FilledEnvs.{filled, filled_given, filled_done, ready_as, judged_same}
+use Rattle.cat_audit_sound.proofs.Gives.{and_both, as_ok}
+use Rattle.cat_audit_sound.proofs.FilledEnvs.{filled_given}
 use Rattle.cat_audit_sound.proofs.Goes.{covered_goes}
+use Rattle.cat_audit_sound.proofs.JudgedAtIndex.{env_at, judged_at_index, stands_at_index}
 use Rattle.cat_audit_sound.proofs.JudgedTargets.{variable_covered, inner_covered}
 use Rattle.cat_audit_sound.proofs.Lists.{all_mapped}
 use Rattle.cat_audit_sound.proofs.Numbered.{all_are}
 use Rattle.cat_audit_sound.proofs.PointsOfTerms.{points_in, points_is, term_point}
-use Rattle.cat_audit_sound.proofs.PrefixRuns.{StandsAt, front_behind, front_stands, needed_before}
 use Rattle.cat_audit_sound.proofs.ScopeTargets.{targets_have}
 use Rattle.cat_audit_sound.proofs.StandingDefs as standing
-use Rattle.cat_audit_sound.proofs.StandingDefs.{defs_stand, def_callables, scope_sound, body_of}
+use Rattle.cat_audit_sound.proofs.StandingDefs.{body_of}
 use Rattle.cat_audit_sound.proofs.TargetGoes.{GuardsTell, target_along}
 
 -- ---- the points of free terms
@@ -85,7 +81,7 @@ seen_point : (d : Dim) (r : Reply) (v : Value) (x : Point) → r ≡ Ok v → po
 seen_point d r v x e f g =
     ap (point_at d) e ∙ ap (point_or d) f ∙ ap (λ b. if b then x else default_point d) g
 
-alike_at_free : (env : Env) (terms : List Term) (input : Items) (shown : Valuation) → AreGiven env input
+pub alike_at_free : (env : Env) (terms : List Term) (input : Items) (shown : Valuation) → AreGiven env input
     → IsValuation (dims_of terms) shown → Shows terms input shown → IsAlikeAtFree terms (points_in env terms) shown
 alike_at_free env terms input shown given valid shows i free c =
     by (slice_get terms i) refl free
@@ -123,9 +119,6 @@ module _ (ds : Decls) (bodies : List Body) (order : List ℕ) (formed : IsWellFo
   abbrev scoped : Scoped
   scoped = standing.scoped ds bodies order formed scope decl body at also
 
-  abbrev needs : ℕ → List ℕ
-  needs = standing.needs ds bodies order formed scope decl body at also
-
   abbrev targets : List Target
   targets = targets_of ds scope items body.order
 
@@ -141,9 +134,6 @@ module _ (ds : Decls) (bodies : List Body) (order : List ℕ) (formed : IsWellFo
   abbrev in_table : Target → TableTarget
   in_table t = target_of ds items body.defs qs t
 
-  ahead : Ahead (length items) needs [] body.order
-  ahead = items_ahead items body.defs body.order (body_of ds bodies order formed scope decl body at also).order
-
   module _ (self : (q : Question) → same_term q q ≡ true) (tell : GuardsTell) (input : Items)
       (given : IsTrue (are_given_for ds items input)) (shown : Valuation) (valid : IsValuation (dims_of terms) shown)
       (shows : Shows terms input shown) where
@@ -156,62 +146,27 @@ module _ (ds : Decls) (bodies : List Body) (order : List ℕ) (formed : IsWellFo
       abbrev here : Target
       here = record { scope = scope; item = item; inner = inner }
 
-      abbrev before : List ℕ
-      before = backwards (take index body.order)
-
-      abbrev calls : ℕ → List Value → Run Value
-      calls = call scoped values before
-
-      abbrev others : Items
-      others = filled input values
-
       abbrev env : Env
-      env = env_of scoped calls others
-
-      stand : AllHave (StandsAt ns input values) before
-      stand =
-          if_ok (λ vs. AllHave (StandsAt ns input vs) before) (values_at scoped input index).end values
-          (front_stands ds scoped needs (scope_sound ds bodies order formed scope decl body at also) input given index
-          ahead) reached
-
-      needed : AllIn before (needs item)
-      needed = needed_before (length items) needs [] body.order index item ahead there
-
-      same : AllHave (λ k. slice_get others k ≡ slice_get values k) (needs item)
-      same =
-          all_more (λ k. IsTrue (is_in k before)) (λ k. slice_get others k ≡ slice_get values k) (needs item) needed
-          (λ k inside. let s = in_at (StandsAt ns input values) before k stand inside in
-          filled_done input values k s.done.value s.done.there s.given)
-
-      readies : AllHave (IsReady anything ns env) (needs item)
-      readies =
-          all_and (λ k. IsTrue (is_in k before)) (λ k. slice_get others k ≡ slice_get values k)
-          (IsReady anything ns env) (needs item) needed same
-          (λ k inside e. ready_as scoped calls values others ns k e
-          (ready anything ds scoped needs (scope_sound ds bodies order formed scope decl body at also) values before
-          (front_behind ds scoped needs (scope_sound ds bodies order formed scope decl body at also) input given index
-          ahead)
-          (all_more (StandsAt ns input values) (DoneAt ns values) before stand (λ m s. s.done)) k inside))
-
-      stands : AllHave (λ d. IsTrue (same_target d.target here) → StandsIn anything ns env [] t d) body.defs
-      stands =
-          defs_stand ns scope env item inner [] t target body.defs
-          (body_of ds bodies order formed scope decl body at also).defs
-          (def_callables ds bodies order formed scope decl body at also calls others) readies
+      env = env_at ds bodies order formed scope decl body at also input index values
 
       covers : IsCovered (in_table here).may_be_empty
-          (judge_target (λ e. eval (env_of scoped calls values) e []) here body.defs).end
+          (judge_target (λ e. eval (env_of scoped (call scoped values (backwards (take index body.order))) values) e [])
+          here body.defs).end
           → Covers (in_table here) (holds_at atoms (points_in env terms))
       covers covered =
           covered_goes (in_table here).may_be_empty (judge_target (λ e. eval env e []) here body.defs).end
           (decided (in_table here) (holds_at atoms (points_in env terms))).end
           (target_along ns scope body.defs (body_of ds bodies order formed scope decl body at also).defs targets env
-          self tell item inner t target listed sound stands)
+          self tell item inner t target listed sound
+          (stands_at_index ds bodies order formed scope decl body at also input index values given item there reached
+          inner t target))
           (subst (λ (j : Judged Value). IsCovered (in_table here).may_be_empty j.end)
-          (judged_same scoped calls values others scope item inner body.defs same) covered)
+          (judged_at_index ds bodies order formed scope decl body at also input index values given item there reached
+          inner) covered)
 
       found : IsCovered (in_table here).may_be_empty
-          (judge_target (λ e. eval (env_of scoped calls values) e []) here body.defs).end
+          (judge_target (λ e. eval (env_of scoped (call scoped values (backwards (take index body.order))) values) e [])
+          here body.defs).end
           → ∥ ((v : Valuation) × IsValuation (dims_of terms) v × IsAlikeAtFree terms v shown
           × Covers (in_table here) (holds_at atoms v)) ∥₁
       found covered = (∣ (
@@ -266,17 +221,7 @@ module _ (ds : Decls) (bodies : List Body) (order : List ℕ) (formed : IsWellFo
       within index item there i s k x is called has may listed sound plain none =
           let here : Target = record { scope = scope; item = item; inner = Some k } in
           let j = each_judged scoped input outputs index item ends there in
-          let target : IsInner ns item k [] x.ty = record {
-            called = i;
-            scope = s;
-            decl = x;
-            called_is = is;
-            kind_is = called;
-            decl_is = has;
-            given = may;
-            params_are = refl;
-            ty_is = refl;
-          } in
+          let target = inner_target ns item i s k x is called has may in
           let inner : inner_item ds (slice_get items item) k ≡ Some x = ap (λ o. inner_item ds o k) is
           ∙ ap (λ (n : Kind). slice_get (inner_items ds n) k) called ∙ has in
           found index item there (Some k) x.ty target listed (sound_parts (length atoms) (in_table here) sound).1

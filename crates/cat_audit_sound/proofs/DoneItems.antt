@@ -11,7 +11,6 @@ use Rattle.cat_value.specs.Inputs.{must_be_given, may_be_given, is_given_for, ar
 use Rattle.cat_scope.specs.Runs.{plain, gives, and_then}
 use Rattle.cat_scope.specs.Names.{Names, AllHave, is_in, items_in, scope_items, is_called}
 use Rattle.cat_scope.specs.Names.{has_none}
-use Rattle.cat_scope.specs.Naming.{IsInner}
 use Rattle.cat_scope.specs.Judging.{Judged, decided}
 use Rattle.cat_scope.specs.Targets.{absent, value_or}
 use Rattle.cat_scope.specs.Calls.{Items, Scoped, variable, variable_of_called, items_of, env_of, judging_of}
@@ -25,7 +24,7 @@ use Rattle.cat_sound.proofs.Exported.{evaluated-variable, free_of_may, ready}
 use Rattle.cat_audit_sound.proofs.Gives.{both, and_both, IfGives, if_then, if_ended}
 use Rattle.cat_audit_sound.proofs.Passed.{value_ends, if_decided, passed_input_typed}
 use Rattle.cat_audit_sound.proofs.ReadyItems.{own_judged}
-use Rattle.cat_sound.proofs.Exported.{Placed, all_at}
+use Rattle.cat_sound.proofs.Exported.{Placed, all_at, inner_target}
 
 module _ (ds : Decls) (scoped : Scoped) (needs : ℕ → List ℕ) (sound : IsSound anything ds scoped needs) where
   abbrev ns : Names
@@ -90,17 +89,7 @@ module _ (ds : Decls) (scoped : Scoped) (needs : ℕ → List ℕ) (sound : IsSo
           inner_judged : (j : ℕ) (i : ItemDecl) → slice_get (scope_items ds s) j ≡ Some i
               → IsTrue (may_be_given i.kind) → IfGives (judged_at j) (IsHeldOf true ds i.ty)
           inner_judged j i is may =
-              let inner : IsInner ns item j [] i.ty = record {
-                called = decl;
-                scope = s;
-                decl = i;
-                called_is = at;
-                kind_is = is_kind;
-                decl_is = is;
-                given = may;
-                params_are = refl;
-                ty_is = refl;
-              } in
+              let inner = inner_target ns item decl s j i at is_kind is may in
               if_ended anything (IsHeldOf true ds i.ty) (judged_at j).end
               (sound.judged (call scoped values before) values [] item (Some j) [] i.ty inner tt readies).ends.1
 

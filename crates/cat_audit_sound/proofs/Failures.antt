@@ -120,7 +120,7 @@ module _ (ds : Decls) (bodies : List Body) (order : List ℕ) (scope : ℕ) (tab
 
 -- ---- regions of free terms
 
-admits_alike : (terms : List Term) (region : Constraints) (shown v : Valuation) → IsOfFreeTerms terms region
+pub admits_alike : (terms : List Term) (region : Constraints) (shown v : Valuation) → IsOfFreeTerms terms region
     → IsValuation region.dims v → IsAlikeAtFree terms v shown → Admits region shown → Admits region v
 admits_alike terms region shown v free valid alike admits =
     record { valuation = valid; agreeing = each region.narrowings free admits.agreeing }

@@ -1,19 +1,12 @@
 -- What a run gives, where it ends in a value.
-use Rattle.std.proofs.Common.{◌≡◌, ℕ, Bool, true, false, ◌&&◌, ◌<◌, IsTrue, List, [], ◌∷◌, length, Some}
+use Rattle.std.proofs.Common.{◌≡◌, ℕ, true, false, ◌<◌, IsTrue, List, [], ◌∷◌, length, Some}
 use Rattle.std.proofs.Common.{Result, Ok, Err, slice_get, zero, suc, refl, sym, ap, subst, arith, true≢false}
 use Rattle.std.specs.Prelude.{IfOk, nat_eq}
 use Rattle.std.proofs.lemmas.Bool.Decides.{nat_tests}
 use Rattle.cat_scope.specs.declared.stop.Stop.{Stop}
 use Rattle.cat_scope.specs.Runs.{Decider, Run, behind, and_then}
 use Rattle.cat_sound.specs.Endings.{Allowed, Ended}
-
-pub both : (a b : Bool) → IsTrue (a && b) → IsTrue a × IsTrue b
-both true b h = (refl, h)
-both false b h = absurd (true≢false (sym h))
-
-pub and_both : (a b : Bool) → IsTrue a → IsTrue b → IsTrue (a && b)
-and_both true b h g = g
-and_both false b h g = absurd (true≢false (sym h))
+pub use Rattle.cat_sound.proofs.Results.{both, and_both}
 
 pub not_true : {A : Type 0} → IsTrue false → A
 not_true h = absurd (true≢false (sym h))

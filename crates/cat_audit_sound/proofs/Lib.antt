@@ -30,9 +30,11 @@ pub mod PrefixRuns
 pub mod StandingDefs
 pub mod FilledEnvs
 pub mod JudgedTargets
+pub mod JudgedAtIndex
 pub mod Goes
 pub mod OneQuestions
 pub mod PointsOfTerms
+pub mod GuardAnswers
 pub mod TableGoes
 pub mod TargetGoes
 pub mod ScopeTargets

@@ -1,7 +1,7 @@
 -- What holds of the elements of lists.
-use Rattle.std.proofs.Common.{inl, inr, List, [], ◌∷◌, ◌++◌, map, refl, sym, subst}
+use Rattle.std.proofs.Common.{◌≡◌, ◌≤◌, ℕ, zero, suc, inl, inr, List, [], ◌∷◌, map, length, drop, Some, slice_get}
+use Rattle.std.proofs.Common.{refl, sym, ap, subst, arith}
 use Rattle.cat_scope.specs.Names.{AllHave, IsOneOf}
-use Rattle.cat_scope.proofs.Exported.{all_append}
 
 pub among_all : {A : Type 0} (P : A → Type 0) (xs : List A) (x : A) → AllHave P xs → IsOneOf x xs → P x
 among_all P [] x h among = elim among [ ]
@@ -16,3 +16,16 @@ pub all_mapped : {A B : Type 0} (P : B → Type 0) (f : A → B) (xs : List A) �
     → AllHave P (map f xs)
 all_mapped P f [] h = tt
 all_mapped P f (x ∷ xs) h = (h.0, all_mapped P f xs h.1)
+
+-- ---- the rest of a list
+
+pub drop_next : {A : Type 0} (xs : List A) (i : ℕ) (x : A) → slice_get xs i ≡ Some x → drop i xs ≡ x ∷ drop (suc i) xs
+drop_next [] i x e = absurd (cc e)
+drop_next (y ∷ xs) zero x e = let same : y ≡ x = cc e in ap (λ z. z ∷ xs) same
+drop_next (y ∷ xs) (suc i) x e = drop_next xs i x e
+
+pub drop_past : {A : Type 0} (xs : List A) (n : ℕ) → length xs ≤ n → drop n xs ≡ []
+drop_past [] zero short = refl
+drop_past [] (suc n) short = refl
+drop_past (x ∷ xs) zero short = absurd (omega (arith, short))
+drop_past (x ∷ xs) (suc n) short = drop_past xs n (omega (arith, short))

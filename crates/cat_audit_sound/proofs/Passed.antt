@@ -1,12 +1,10 @@
 -- What is passed to a called scope, and what comes of judgings, are of their types.
-use Rattle.std.proofs.Common.{◌≡◌, ℕ, suc, ◌+◌, Bool, true, false, ◌||◌, not, IsTrue, List, [], ◌∷◌, Option}
-use Rattle.std.proofs.Common.{Some, None, Result, Ok, Err, slice_get, refl, sym, ap, ◌∙◌, subst, arith}
+use Rattle.std.proofs.Common.{◌≡◌, ℕ, suc, ◌+◌, Bool, true, false, not, IsTrue, List, [], ◌∷◌, Option}
+use Rattle.std.proofs.Common.{Some, None, Result, Ok, Err, slice_get, refl, sym, ap, subst, arith}
 use Rattle.std.proofs.Common.{if◌then◌else◌}
 use Rattle.std.specs.Prelude.{IfOk}
 use Rattle.cat_pos.specs.declared.pos.Pos.{Pos}
 use Rattle.cat_value.specs.declared.outcome.Target.{Target}
-use Rattle.cat_value.specs.declared.ty.Ty.{Ty}
-use Rattle.cat_value.specs.declared.ty.Ty.TheOpen.{Ty-F}
 use Rattle.cat_value.specs.declared.ty.Ty.TheVariants as flat_ty
 use Rattle.cat_value.specs.declared.ty.Ty.TheViews as ty
 use Rattle.cat_value.specs.declared.value.Value.{Value}
@@ -14,35 +12,24 @@ use Rattle.cat_value.specs.declared.value.Value.TheVariants.{Boolean}
 use Rattle.cat_value.specs.declared.decls.Decls.{Decls}
 use Rattle.cat_value.specs.declared.declaration.Kind.TheVariants as kind
 use Rattle.cat_value.specs.declared.declaration.ItemDecl.{ItemDecl}
-use Rattle.cat_value.specs.Declarations.{is_boolean}
 use Rattle.cat_value.specs.Inputs.{must_be_given, may_be_given, is_given_for, are_given_for}
-use Rattle.cat_value.proofs.Exported.{has_type_Boolean, whole}
+use Rattle.cat_value.proofs.Exported.{has_type_Boolean}
 use Rattle.cat_scope.specs.declared.stop.Stop.{Stop}
 use Rattle.cat_scope.specs.Replies.{Reply, on_one}
 use Rattle.cat_scope.specs.Runs.{plain, gives, giving}
-use Rattle.cat_scope.specs.Names.{AllHave, has_none}
+use Rattle.cat_scope.specs.Names.{AllHave}
 use Rattle.cat_scope.specs.Judging.{Held, Judged, decided}
 use Rattle.cat_scope.specs.Targets.{absent, value_or}
 use Rattle.cat_scope.specs.ItemValues.{passed, passed_input}
-use Rattle.cat_scope.specs.WellFormed.{is_internal}
 use Rattle.cat_sound.specs.Settled.{IsHeldOf}
 use Rattle.cat_sound.specs.Endings.{Ended, IsOf}
 use Rattle.cat_sound.proofs.Exported.{Placed, anything}
+use Rattle.cat_sound.proofs.InputTypes.{condition_type}
 use Rattle.cat_sound.proofs.Exported.{not_given}
-use Rattle.cat_audit_sound.proofs.Gives.{both, and_both, not_true, IfGives, if_then}
+use Rattle.cat_audit_sound.proofs.Gives.{and_both, IfGives, if_then}
 
 of_Boolean : (ds : Decls) (b : Bool) → IsOf ds flat_ty.Boolean (Boolean b)
 of_Boolean ds b = rw (has_type_Boolean ds b flat_ty.Boolean, ty.outs-Boolean) refl
-
-condition_type : (item : ItemDecl) → Placed item → item.condition ≡ true → item.ty ≡ flat_ty.Boolean
-condition_type item placed is =
-    by (ty.out-Ty item.ty) refl
-    (sym (ap (λ b. not b || is_boolean (ty.out-Ty item.ty)) is)
-    ∙ (both (has_none item.params || is_internal item.kind) _ placed).1)
-  where
-    by : (y : Ty-F Ty) → ty.out-Ty item.ty ≡ y → IsTrue (is_boolean y) → item.ty ≡ flat_ty.Boolean
-    by Ty-F.Boolean q g = whole item.ty Ty-F.Boolean flat_ty.Boolean q ty.rolls-Boolean
-    by _ q g = not_true g
 
 -- in place of a value that isn't there
 absent_ends : (ds : Decls) (target : Target) (pos : Pos) (decl : ItemDecl) → Placed decl

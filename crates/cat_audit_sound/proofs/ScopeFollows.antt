@@ -28,7 +28,6 @@ use Rattle.cat_scope.specs.Eval.{Env, eval}
 use Rattle.cat_sound.specs.Endings.{Allowed, IsEnd, IsOf, AreOf, IsEnvOf}
 use Rattle.cat_sound.specs.Settled.{InCondition, StandsIn}
 use Rattle.cat_sound.proofs.Exported.{defs-all, stands_end}
-use Rattle.cat_sound.proofs.Exported.{one_back, one_front}
 use Rattle.cat_guard.specs.declared.table.Term.{Term}
 use Rattle.cat_guard.specs.declared.table.Atom.{Atom}
 use Rattle.cat_guard.specs.Formulas.{truth, asked, renamed}
@@ -36,7 +35,7 @@ use Rattle.cat_guard.specs.GuardFormulas.{formula_of}
 use Rattle.cat_guard.specs.Numbering.{firsts}
 use Rattle.cat_guard.specs.Questions.{Question, condition_guard}
 use Rattle.cat_guard.specs.Terms.{same_term, term_of, terms_of, atoms_of, atom_number}
-use Rattle.cat_guard.specs.Tables.{standing_of, def_formula, defs_questions, questions_of, guard_def}
+use Rattle.cat_guard.specs.Tables.{standing_of, def_formula, questions_of, guard_def}
 use Rattle.cat_guard.specs.Tables.{target_of}
 use Rattle.cat_guard.specs.PointValues.{point_of, point_or, point_at}
 use Rattle.cat_guard.specs.TableJudging.{decided}
@@ -46,6 +45,7 @@ use Rattle.cat_guard.proofs.Exported.{firsts_all}
 use Rattle.cat_audit_sound.specs.Evaluations.{answered, any_values, term_point, arguments_for, valuation_of}
 use Rattle.cat_audit_sound.specs.Follows.{Follows}
 use Rattle.cat_audit_sound.proofs.Tells.{Tells, tells_as, tells_Boolean}
+use Rattle.cat_audit_sound.proofs.GuardAnswers.{among_defs, among_targets}
 use Rattle.cat_audit_sound.proofs.GuardTells.{guard_told}
 use Rattle.cat_audit_sound.proofs.AskedTypes.{IsAskedOf, condition_asked}
 use Rattle.cat_audit_sound.proofs.Numbered.{all_are}
@@ -90,26 +90,6 @@ of_mapped P f (y ∷ ys) x h (inr more) = of_mapped P f ys x h.1 more
 all_kept : {A : Type 0} (P Q : A → Type 0) (xs : List A) → AllHave P xs → ((x : A) → P x → Q x) → AllHave Q xs
 all_kept P Q [] h go = tt
 all_kept P Q (x ∷ xs) h go = (go x h.0, all_kept P Q xs h.1 go)
-
--- each question of a definition is one of its target's, and of the scope's
-among_defs : (ds : Decls) (xs : List Numbered) (d : Numbered) (q : Question) → IsOneOf d xs
-    → IsOneOf q (asked (def_formula ds d.1)) → IsOneOf q (defs_questions ds xs)
-among_defs ds [] d q among h = elim among [ ]
-among_defs ds (x ∷ xs) d q (inl e) h =
-    one_front q (asked (def_formula ds x.1)) (defs_questions ds xs)
-    (subst (λ (y : Numbered). IsOneOf q (asked (def_formula ds y.1))) e h)
-among_defs ds (x ∷ xs) d q (inr more) h =
-    one_back q (asked (def_formula ds x.1)) (defs_questions ds xs) (among_defs ds xs d q more h)
-
-among_targets : (ds : Decls) (defs : List Def) (targets : List Target) (t : Target) (q : Question) → IsOneOf t targets
-    → IsOneOf q (defs_questions ds (defs_from t 0 defs)) → IsOneOf q (questions_of ds defs targets)
-among_targets ds defs [] t q among h = elim among [ ]
-among_targets ds defs (u ∷ targets) t q (inl e) h =
-    one_front q (defs_questions ds (defs_from u 0 defs)) (questions_of ds defs targets)
-    (subst (λ (x : Target). IsOneOf q (defs_questions ds (defs_from x 0 defs))) e h)
-among_targets ds defs (u ∷ targets) t q (inr more) h =
-    one_back q (defs_questions ds (defs_from u 0 defs)) (questions_of ds defs targets)
-    (among_targets ds defs targets t q more h)
 
 are_length : (ds : Decls) (ps : List Ty) (vs : List Value) → AreOf ds ps vs → length vs ≡ length ps
 are_length ds [] [] h = refl

@@ -38,7 +38,7 @@ use Rattle.cat_guard.specs.Questions.{Question}
 use Rattle.cat_guard.specs.Tables.{questions_of, IsTableOf}
 use Rattle.cat_guard.specs.Terms.{path_of, same_term, same_dim, term_of, terms_of}
 use Rattle.cat_guard.specs.Valuations.{dims_of}
-use Rattle.cat_guard.proofs.Exported.{firsts_all}
+use Rattle.cat_guard.proofs.Exported.{dim_self, firsts_all}
 use Rattle.cat_audit_sound.proofs.AtomAnswers.{IsOfDef, targets_all}
 use Rattle.cat_audit_sound.proofs.Numbered.{all_at}
 use Rattle.cat_audit_sound.proofs.AuditLaws.{body_is}
@@ -48,7 +48,7 @@ use Rattle.cat_audit_sound.proofs.PartEquations.{height_positive, part_other}
 use Rattle.cat_audit_sound.specs.Shown.{AreGiven, IsFree, IsSeenAs}
 use Rattle.cat_audit_sound.proofs.PointedValues.{same_some, none_some, pointed, first_point}
 use Rattle.cat_audit_sound.proofs.FreeValues.{reads}
-use Rattle.cat_audit_sound.proofs.Apart.{are_one, apart, dim_self}
+use Rattle.cat_audit_sound.proofs.Apart.{are_one, apart}
 
 -- what stands at a number of the images of a list
 image_at : {A B : Type 0} (f : A → B) (xs : List A) (i : ℕ) (b : B) → slice_get (map f xs) i ≡ Some b

@@ -31,7 +31,7 @@ not_true true h = cc
 not_true false h = refl
 
 -- a line in front of a text
-abbrev line_before : List ℕ → Parted → Parted
+abbrev pub line_before : List ℕ → Parted → Parted
 line_before line p = record { ended = line ∷ p.ended; rest = p.rest }
 
 -- one byte in front of a text, by whether it is a line feed
@@ -39,7 +39,8 @@ abbrev parted_by : Bool → ℕ → Parted → Parted
 parted_by feed byte p =
     if feed then record { ended = [] ∷ p.ended; rest = p.rest } else byte_before byte p.ended p.rest
 
-parted_line : (line rest : List ℕ) → is_line line ≡ true → parted (line ++ 10 ∷ rest) ≡ line_before line (parted rest)
+pub parted_line : (line rest : List ℕ) → is_line line ≡ true
+    → parted (line ++ 10 ∷ rest) ≡ line_before line (parted rest)
 unfolding parted
 parted_line [] rest is = refl
 parted_line (b ∷ line) rest is =

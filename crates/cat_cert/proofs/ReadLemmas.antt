@@ -43,7 +43,7 @@ feed_few b bs true is few = rw is (omega (arith, few))
 feed_few b bs false is few =
     rw is (let more = before_few b (parted bs).ended (parted bs).rest in omega (arith, few, more))
 
-ended_few : (text : List ℕ) → length (parted text).ended ≤ length text
+pub ended_few : (text : List ℕ) → length (parted text).ended ≤ length text
 unfolding parted
 ended_few [] = omega arith
 ended_few (b ∷ bs) = feed_few b bs (b == 10) refl (ended_few bs)

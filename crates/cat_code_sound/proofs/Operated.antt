@@ -1,7 +1,6 @@
 -- No operator is stuck on values of the types that it takes: it gives a value of the type of its result, or a fault.
-use Rattle.std.proofs.Common.{◌≡◌, inl, inr, ℤ, pos, ◌-ℤ◌, neg_ℤ, Bool, not, [], ◌∷◌, map, Result, Ok, sym}
+use Rattle.std.proofs.Common.{◌≡◌, inl, inr, ℤ, pos, ◌-ℤ◌, neg_ℤ, Bool, not, [], ◌∷◌, Result, sym}
 use Rattle.std.proofs.Common.{ap, subst}
-use Rattle.std.specs.declared.cmp.Ordering.{Ordering}
 use Rattle.cat_pos.specs.declared.pos.Pos.{Pos}
 use Rattle.cat_num.specs.declared.fault.NumFault.{NumFault}
 use Rattle.cat_num.specs.Whole.{whole_sum, whole_difference, whole_product}
@@ -12,7 +11,7 @@ use Rattle.cat_date.specs.declared.fault.DateFault.{DateFault}
 use Rattle.cat_date.specs.declared.rounding.Rounding.{Rounding}
 use Rattle.cat_date.specs.Calendar.{civil_of}
 use Rattle.cat_date.specs.Add.{day_plus_span}
-use Rattle.cat_date.specs.Span.{SpanOf, span_in_range, span_of_days, span_negated, compared_spans}
+use Rattle.cat_date.specs.Span.{SpanOf, span_in_range, span_of_days, span_negated}
 use Rattle.cat_value.specs.declared.ty.Ty.{Ty}
 use Rattle.cat_value.specs.declared.ty.Ty.TheVariants as ty
 use Rattle.cat_value.specs.declared.value.Value.{Value}
@@ -28,14 +27,15 @@ use Rattle.cat_scope.specs.declared.stop.Stop.{Stop}
 use Rattle.cat_scope.specs.Replies.{on_one, exact, dated}
 use Rattle.cat_scope.specs.Projections as read
 use Rattle.cat_scope.specs.Operators.{on_two, over_one, convert, operate}
-use Rattle.cat_scope.specs.Comparing.{compared, compared_in, equal, equal_in, differ, is_less, is_greater}
+use Rattle.cat_scope.specs.Comparing.{differ, is_less, is_greater}
 use Rattle.cat_scope.specs.Names.{IsOneOf}
-use Rattle.cat_scope.specs.Signatures.{Signature, signatures_of, comparison, ordered_types, compared_types, taken_by}
+use Rattle.cat_scope.specs.Signatures.{Signature, signatures_of, taken_by}
 use Rattle.cat_scope.specs.Signatures.{given_by}
 use Rattle.cat_sound.specs.Endings.{ResultsIn}
-use Rattle.cat_sound.proofs.Exported.{signature_in}
-use Rattle.cat_sound.proofs.Results.{Any, result_as, result_then, result_two, result_exact}
-use Rattle.cat_sound.proofs.FlatTypes.{IsDated, result_dated, range-dated, sum-dated, compared-dated}
+use Rattle.cat_sound.proofs.Comparisons.{Levels, by_order, by_equality, truth_read, integer_read, decimal_read}
+use Rattle.cat_sound.proofs.Comparisons.{money_read, date_read, duration_read}
+use Rattle.cat_sound.proofs.Results.{Any, result_then, result_two, result_exact}
+use Rattle.cat_sound.proofs.FlatTypes.{IsDated, result_dated, range-dated, sum-dated}
 use Rattle.cat_code.specs.Forms.{Form, form_of}
 use Rattle.cat_code.specs.Forms as forms
 use Rattle.cat_code.proofs.FormLaws.{form_Boolean, form_Integer, form_Decimal, form_Money, form_Date, form_Duration}
@@ -55,9 +55,7 @@ level-Boolean : (ds : Decls) (v : Value) → Has ds ty.Boolean v → (a : Bool) 
 level-Boolean ds v h = reads_truth ds v (seen_as ds (form_of ds ty.Boolean) forms.Truth v (form_Boolean ds) h)
 
 reads-Boolean : (ds : Decls) (v : Value) → Has ds ty.Boolean v → ResultsIn (Any {A = Bool}) (read.truth v)
-reads-Boolean ds v h =
-    let is = level-Boolean ds v h in
-    result_as (Any {A = Bool}) (read.truth v) (Ok is.0) (ap read.truth_in is.1) tt
+reads-Boolean ds v h = truth_read v (level-Boolean ds v h)
 
 has-Boolean : (ds : Decls) (a : Bool) → Has ds ty.Boolean (flat.Boolean a)
 has-Boolean ds a =
@@ -67,9 +65,7 @@ level-Integer : (ds : Decls) (v : Value) → Has ds ty.Integer v → (a : ℤ) �
 level-Integer ds v h = reads_whole ds v (seen_as ds (form_of ds ty.Integer) forms.Whole v (form_Integer ds) h)
 
 reads-Integer : (ds : Decls) (v : Value) → Has ds ty.Integer v → ResultsIn (Any {A = ℤ}) (read.integer v)
-reads-Integer ds v h =
-    let is = level-Integer ds v h in
-    result_as (Any {A = ℤ}) (read.integer v) (Ok is.0) (ap read.integer_in is.1) tt
+reads-Integer ds v h = integer_read v (level-Integer ds v h)
 
 has-Integer : (ds : Decls) (a : ℤ) → Has ds ty.Integer (flat.Integer a)
 has-Integer ds a =
@@ -80,9 +76,7 @@ level-Decimal : (ds : Decls) (v : Value) → Has ds ty.Decimal v
 level-Decimal ds v h = reads_fraction ds v (seen_as ds (form_of ds ty.Decimal) forms.Fraction v (form_Decimal ds) h)
 
 reads-Decimal : (ds : Decls) (v : Value) → Has ds ty.Decimal v → ResultsIn (Any {A = Fraction}) (read.decimal v)
-reads-Decimal ds v h =
-    let is = level-Decimal ds v h in
-    result_as (Any {A = Fraction}) (read.decimal v) (Ok is.0) (ap read.decimal_in is.1) tt
+reads-Decimal ds v h = decimal_read v (level-Decimal ds v h)
 
 has-Decimal : (ds : Decls) (a : Fraction) → Has ds ty.Decimal (flat.Decimal a)
 has-Decimal ds a =
@@ -92,9 +86,7 @@ level-Money : (ds : Decls) (v : Value) → Has ds ty.Money v → (a : ℤ) × (v
 level-Money ds v h = reads_amount ds v (seen_as ds (form_of ds ty.Money) forms.Amount v (form_Money ds) h)
 
 reads-Money : (ds : Decls) (v : Value) → Has ds ty.Money v → ResultsIn (Any {A = ℤ}) (read.money v)
-reads-Money ds v h =
-    let is = level-Money ds v h in
-    result_as (Any {A = ℤ}) (read.money v) (Ok is.0) (ap read.money_in is.1) tt
+reads-Money ds v h = money_read v (level-Money ds v h)
 
 has-Money : (ds : Decls) (a : ℤ) → Has ds ty.Money (flat.Money a)
 has-Money ds a = seen_as ds forms.Amount (form_of ds ty.Money) (flat.Money a) (sym (form_Money ds)) (of_amount ds a)
@@ -103,9 +95,7 @@ level-Date : (ds : Decls) (v : Value) → Has ds ty.Date v → (a : ℤ) × (val
 level-Date ds v h = reads_day ds v (seen_as ds (form_of ds ty.Date) forms.Day v (form_Date ds) h)
 
 reads-Date : (ds : Decls) (v : Value) → Has ds ty.Date v → ResultsIn (Any {A = ℤ}) (read.date v)
-reads-Date ds v h =
-    let is = level-Date ds v h in
-    result_as (Any {A = ℤ}) (read.date v) (Ok is.0) (ap read.date_in is.1) tt
+reads-Date ds v h = date_read v (level-Date ds v h)
 
 has-Date : (ds : Decls) (a : ℤ) → Has ds ty.Date (flat.Date a)
 has-Date ds a = seen_as ds forms.Day (form_of ds ty.Date) (flat.Date a) (sym (form_Date ds)) (of_day ds a)
@@ -115,9 +105,7 @@ level-Duration : (ds : Decls) (v : Value) → Has ds ty.Duration v
 level-Duration ds v h = reads_span ds v (seen_as ds (form_of ds ty.Duration) forms.Span v (form_Duration ds) h)
 
 reads-Duration : (ds : Decls) (v : Value) → Has ds ty.Duration v → ResultsIn (Any {A = SpanOf}) (read.duration v)
-reads-Duration ds v h =
-    let is = level-Duration ds v h in
-    result_as (Any {A = SpanOf}) (read.duration v) (Ok is.0) (ap read.duration_in is.1) tt
+reads-Duration ds v h = duration_read v (level-Duration ds v h)
 
 has-Duration : (ds : Decls) (a : SpanOf) → Has ds ty.Duration (flat.Duration a)
 has-Duration ds a =
@@ -183,125 +171,17 @@ conversions_go_on ds p v unary.DayOfDate is =
 
 -- ---- comparisons
 
-module _ (ds : Decls) (p : Pos) (v w : Value) where
-  compared-at : (y : Value-F Value) → value.out-Value v ≡ y → ResultsIn (Any {A = Ordering}) (compared_in p y w)
-      → ResultsIn (Any {A = Ordering}) (compared p v w)
-  compared-at y is h =
-      result_as (Any {A = Ordering}) (compared p v w) (compared_in p y w) (ap (λ x. compared_in p x w) is) h
-
-  equal-at : (y : Value-F Value) → value.out-Value v ≡ y → ResultsIn (Any {A = Bool}) (equal_in p y v w)
-      → ResultsIn (Any {A = Bool}) (equal p v w)
-  equal-at y is h = result_as (Any {A = Bool}) (equal p v w) (equal_in p y v w) (ap (λ x. equal_in p x v w) is) h
-
-  compared-Integer : Has ds ty.Integer v → Has ds ty.Integer w → ResultsIn (Any {A = Ordering}) (compared p v w)
-  compared-Integer hv hw =
-      let is = level-Integer ds v hv in
-      compared-at (Value-F.Integer is.0) is.1
-      (result_then (Any {A = ℤ}) (Any {A = Ordering}) (read.integer w) _ (reads-Integer ds w hw) (λ b h. tt))
-
-  compared-Decimal : Has ds ty.Decimal v → Has ds ty.Decimal w → ResultsIn (Any {A = Ordering}) (compared p v w)
-  compared-Decimal hv hw =
-      let is = level-Decimal ds v hv in
-      compared-at (Value-F.Decimal is.0) is.1
-      (result_then (Any {A = Fraction}) (Any {A = Ordering}) (read.decimal w) _ (reads-Decimal ds w hw) (λ b h. tt))
-
-  compared-Money : Has ds ty.Money v → Has ds ty.Money w → ResultsIn (Any {A = Ordering}) (compared p v w)
-  compared-Money hv hw =
-      let is = level-Money ds v hv in
-      compared-at (Value-F.Money is.0) is.1
-      (result_then (Any {A = ℤ}) (Any {A = Ordering}) (read.money w) _ (reads-Money ds w hw) (λ b h. tt))
-
-  compared-Date : Has ds ty.Date v → Has ds ty.Date w → ResultsIn (Any {A = Ordering}) (compared p v w)
-  compared-Date hv hw =
-      let is = level-Date ds v hv in
-      compared-at (Value-F.Date is.0) is.1
-      (result_then (Any {A = ℤ}) (Any {A = Ordering}) (read.date w) _ (reads-Date ds w hw) (λ b h. tt))
-
-  compared-Duration : Has ds ty.Duration v → Has ds ty.Duration w → ResultsIn (Any {A = Ordering}) (compared p v w)
-  compared-Duration hv hw =
-      let is = level-Duration ds v hv in
-      compared-at (Value-F.Duration is.0) is.1
-      (result_then (Any {A = SpanOf}) (Any {A = Ordering}) (read.duration w) _ (reads-Duration ds w hw)
-      (λ b h. result_dated (Any {A = Ordering}) p (λ o. o) (compared_spans is.0 b) (compared-dated is.0 b)
-      (λ o told. tt)))
-
-  at : (t u : Ty) (x : Value) → t ≡ u → Has ds t x → Has ds u x
-  at t u x e h = subst (λ s. Has ds s x) e h
-
-  compared-ends : (t : Ty) → IsOneOf t ordered_types → Has ds t v → Has ds t w
-      → ResultsIn (Any {A = Ordering}) (compared p v w)
-  compared-ends t (inl e) hv hw = compared-Integer (at t ty.Integer v e hv) (at t ty.Integer w e hw)
-  compared-ends t (inr (inl e)) hv hw = compared-Decimal (at t ty.Decimal v e hv) (at t ty.Decimal w e hw)
-  compared-ends t (inr (inr (inl e))) hv hw = compared-Money (at t ty.Money v e hv) (at t ty.Money w e hw)
-  compared-ends t (inr (inr (inr (inl e)))) hv hw = compared-Date (at t ty.Date v e hv) (at t ty.Date w e hw)
-  compared-ends t (inr (inr (inr (inr (inl e))))) hv hw =
-      compared-Duration (at t ty.Duration v e hv) (at t ty.Duration w e hw)
-  compared-ends t (inr (inr (inr (inr (inr none))))) hv hw = elim none [ ]
-
-  equal-Boolean : Has ds ty.Boolean v → Has ds ty.Boolean w → ResultsIn (Any {A = Bool}) (equal p v w)
-  equal-Boolean hv hw =
-      let is = level-Boolean ds v hv in
-      equal-at (Value-F.Boolean is.0) is.1
-      (result_then (Any {A = Bool}) (Any {A = Bool}) (read.truth w) _ (reads-Boolean ds w hw) (λ b h. tt))
-
-  -- what has an order is equal where neither is less
-  equal-ordered : (t : Ty) → IsOneOf t ordered_types → Has ds t v → Has ds t w
-      → ResultsIn (Any {A = Bool}) (equal p v w)
-  equal-ordered t (inl e) hv hw =
-      let is = level-Integer ds v (at t ty.Integer v e hv) in
-      equal-at (Value-F.Integer is.0) is.1
-      (result_then (Any {A = Ordering}) (Any {A = Bool}) (compared p v w) _
-      (compared-Integer (at t ty.Integer v e hv) (at t ty.Integer w e hw)) (λ o h. tt))
-  equal-ordered t (inr (inl e)) hv hw =
-      let is = level-Decimal ds v (at t ty.Decimal v e hv) in
-      equal-at (Value-F.Decimal is.0) is.1
-      (result_then (Any {A = Ordering}) (Any {A = Bool}) (compared p v w) _
-      (compared-Decimal (at t ty.Decimal v e hv) (at t ty.Decimal w e hw)) (λ o h. tt))
-  equal-ordered t (inr (inr (inl e))) hv hw =
-      let is = level-Money ds v (at t ty.Money v e hv) in
-      equal-at (Value-F.Money is.0) is.1
-      (result_then (Any {A = Ordering}) (Any {A = Bool}) (compared p v w) _
-      (compared-Money (at t ty.Money v e hv) (at t ty.Money w e hw)) (λ o h. tt))
-  equal-ordered t (inr (inr (inr (inl e)))) hv hw =
-      let is = level-Date ds v (at t ty.Date v e hv) in
-      equal-at (Value-F.Date is.0) is.1
-      (result_then (Any {A = Ordering}) (Any {A = Bool}) (compared p v w) _
-      (compared-Date (at t ty.Date v e hv) (at t ty.Date w e hw)) (λ o h. tt))
-  equal-ordered t (inr (inr (inr (inr (inl e))))) hv hw =
-      let is = level-Duration ds v (at t ty.Duration v e hv) in
-      equal-at (Value-F.Duration is.0) is.1
-      (result_then (Any {A = Ordering}) (Any {A = Bool}) (compared p v w) _
-      (compared-Duration (at t ty.Duration v e hv) (at t ty.Duration w e hw)) (λ o h. tt))
-  equal-ordered t (inr (inr (inr (inr (inr none))))) hv hw = elim none [ ]
-
-  equal-ends : (t : Ty) → IsOneOf t compared_types → Has ds t v → Has ds t w → ResultsIn (Any {A = Bool}) (equal p v w)
-  equal-ends t (inl e) hv hw = equal-Boolean (at t ty.Boolean v e hv) (at t ty.Boolean w e hw)
-  equal-ends t (inr more) hv hw = equal-ordered t more hv hw
-
-module _ (ds : Decls) (p : Pos) (v w : Value) (signature : Signature) where
-  by_order : (next : Ordering → Bool) → IsOneOf signature (map comparison ordered_types) → Has ds signature.left v
-      → Has ds signature.right w
-      → ResultsIn (Has ds signature.result) (on_one (compared p v w) (λ x. Ok (flat.Boolean (next x))))
-  by_order next is hv hw =
-      let t = signature_in signature ordered_types is in
-      subst (λ u. ResultsIn (Has ds u) (on_one (compared p v w) (λ x. Ok (flat.Boolean (next x)))))
-      (sym (ap (λ x. x.result) t.2))
-      (result_then (Any {A = Ordering}) (Has ds ty.Boolean) (compared p v w) _
-      (compared-ends ds p v w t.0 t.1 (subst (λ u. Has ds u v) (ap (λ x. x.left) t.2) hv)
-      (subst (λ u. Has ds u w) (ap (λ x. x.right) t.2) hw))
-      (λ x h. has-Boolean ds (next x)))
-
-  by_equality : (next : Bool → Bool) → IsOneOf signature (map comparison compared_types) → Has ds signature.left v
-      → Has ds signature.right w
-      → ResultsIn (Has ds signature.result) (on_one (equal p v w) (λ x. Ok (flat.Boolean (next x))))
-  by_equality next is hv hw =
-      let t = signature_in signature compared_types is in
-      subst (λ u. ResultsIn (Has ds u) (on_one (equal p v w) (λ x. Ok (flat.Boolean (next x)))))
-      (sym (ap (λ x. x.result) t.2))
-      (result_then (Any {A = Bool}) (Has ds ty.Boolean) (equal p v w) _
-      (equal-ends ds p v w t.0 t.1 (subst (λ u. Has ds u v) (ap (λ x. x.left) t.2) hv)
-      (subst (λ u. Has ds u w) (ap (λ x. x.right) t.2) hw))
-      (λ x h. has-Boolean ds (next x)))
+-- a value that a declared flat type has has a level
+has_levels : (ds : Decls) → Levels (Has ds)
+has_levels ds = record {
+  truth = level-Boolean ds;
+  integer = level-Integer ds;
+  decimal = level-Decimal ds;
+  money = level-Money ds;
+  date = level-Date ds;
+  duration = level-Duration ds;
+  has_truth = has-Boolean ds;
+}
 
 -- ---- what stands between two operands
 
@@ -419,11 +299,15 @@ operators_go_on ds r p v w signature binary.Xor is hv hw =
     two ds v w signature ty.Boolean ty.Boolean ty.Boolean read.truth read.truth _ is hv hw (reads-Boolean ds v)
     (reads-Boolean ds w)
     (λ a b. has-Boolean ds (differ a b))
-operators_go_on ds r p v w signature binary.Less is hv hw = by_order ds p v w signature is_less is hv hw
+operators_go_on ds r p v w signature binary.Less is hv hw =
+    by_order (Has ds) (has_levels ds) p v w signature is_less is hv hw
 operators_go_on ds r p v w signature binary.AtMost is hv hw =
-    by_order ds p v w signature (λ x. not (is_greater x)) is hv hw
-operators_go_on ds r p v w signature binary.Greater is hv hw = by_order ds p v w signature is_greater is hv hw
+    by_order (Has ds) (has_levels ds) p v w signature (λ x. not (is_greater x)) is hv hw
+operators_go_on ds r p v w signature binary.Greater is hv hw =
+    by_order (Has ds) (has_levels ds) p v w signature is_greater is hv hw
 operators_go_on ds r p v w signature binary.AtLeast is hv hw =
-    by_order ds p v w signature (λ x. not (is_less x)) is hv hw
-operators_go_on ds r p v w signature binary.Equal is hv hw = by_equality ds p v w signature (λ x. x) is hv hw
-operators_go_on ds r p v w signature binary.Unequal is hv hw = by_equality ds p v w signature (λ x. not x) is hv hw
+    by_order (Has ds) (has_levels ds) p v w signature (λ x. not (is_less x)) is hv hw
+operators_go_on ds r p v w signature binary.Equal is hv hw =
+    by_equality (Has ds) (has_levels ds) p v w signature (λ x. x) is hv hw
+operators_go_on ds r p v w signature binary.Unequal is hv hw =
+    by_equality (Has ds) (has_levels ds) p v w signature (λ x. not x) is hv hw

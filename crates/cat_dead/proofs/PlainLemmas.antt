@@ -17,7 +17,8 @@ use Rattle.cat_guard.specs.Trees as tree
 use Rattle.cat_walk.specs.Coverage.{leaf_regions}
 use Rattle.cat_walk.specs.LeafPlaces.{leaves_from, leaf_places, named_leaves, lists_of}
 use Rattle.cat_walk.specs.Walkable.{IsWalkable}
-use Rattle.cat_walk.proofs.WalkLemmas.{split_there, leaf_there}
+use Rattle.cat_walk.proofs.WalkLemmas.{leaf_there}
+use Rattle.cat_walk.proofs.SplitLemmas.{split_there}
 use Rattle.cat_cert.specs.declared.certificate.CertTree.{CertTree}
 use Rattle.cat_cert.specs.ReadTrees.{AreWithin}
 use Rattle.cat_cert.specs.Uncovered.{lines_passing, regions_of}

@@ -1,5 +1,5 @@
 -- Why a text is no certificate of dead definitions, and what is read of one.
-use Rattle.std.proofs.Common.{◌≡◌, ℕ, zero, suc, ◌^◌, ◌<◌, ◌≤◌, Bool, true, false, ◌==◌, not, List, [], ◌∷◌}
+use Rattle.std.proofs.Common.{◌≡◌, ℕ, zero, suc, ◌^◌, ◌<◌, ◌≤◌, Bool, true, false, not, List, [], ◌∷◌}
 use Rattle.std.proofs.Common.{map, length, get_or, codes, if◌then◌else◌, None, Result, Ok, Err, IfOk, IfErr, refl}
 use Rattle.std.proofs.Common.{sym, ap, ◌∙◌, subst, arith, true≢false}
 use Rattle.std.proofs.Common.{length-drop, append-nil}
@@ -19,7 +19,7 @@ use Rattle.cat_cert.specs.Causes.{IsRead, IsRefused, RefusedBehind}
 use Rattle.cat_cert.specs.Lines.{Due, ScopeDue, TargetDue, dues_of}
 use Rattle.cat_cert.specs.Lines as lines
 use Rattle.cat_cert.specs.ReadTrees.{AreReadTrees}
-use Rattle.cat_cert.specs.Texts.{byte_before, parted}
+use Rattle.cat_cert.specs.Texts.{parted}
 use Rattle.cat_cert.specs.Texts as certificate
 use Rattle.cat_cert.specs.inside.Checkable.{last_line}
 use Rattle.cat_cert.specs.inside.States.{First}
@@ -27,6 +27,7 @@ use Rattle.cat_cert.specs.inside.Steps.{outcome, step, met, Plain}
 use Rattle.cat_cert.proofs.AtomReadLemmas.{tables_low}
 use Rattle.cat_cert.proofs.CertifiedLemmas.{can_be_checked}
 use Rattle.cat_cert.proofs.FrontLemmas.{none_small, start}
+use Rattle.cat_cert.proofs.ReadLemmas.{ended_few}
 use Rattle.cat_cert.proofs.WhyLemmas.{Explains, explained}
 use Rattle.cat_dead.specs.DeadTexts.{is_first, passed_over, lines_read, first_line, as_certificate, lines_of}
 use Rattle.cat_dead.specs.DeadTexts.{IsDeadRead, IsDeadRefused}
@@ -34,22 +35,6 @@ use Rattle.cat_dead.specs.inside.Reading.{IsCertificateOf, HasNoCertificate}
 use Rattle.cat_dead.proofs.TextLemmas.{first_bytes, first_is, read_as, refused_as}
 
 -- ---- how many lines there are
-
-before_few : (b : ℕ) (e : List (List ℕ)) (r : List ℕ) → length (byte_before b e r).ended ≤ length e
-before_few b [] r = omega arith
-before_few b (line ∷ more) r = omega arith
-
-feed_few : (b : ℕ) (bs : List ℕ) (feed : Bool) → (b == 10) ≡ feed → length (parted bs).ended ≤ length bs
-    → length (parted (b ∷ bs)).ended ≤ length (b ∷ bs)
-unfolding parted
-feed_few b bs true is few = rw is (omega (arith, few))
-feed_few b bs false is few =
-    rw is (let more = before_few b (parted bs).ended (parted bs).rest in omega (arith, few, more))
-
-ended_few : (text : List ℕ) → length (parted text).ended ≤ length text
-unfolding parted
-ended_few [] = omega arith
-ended_few (b ∷ bs) = feed_few b bs (b == 10) refl (ended_few bs)
 
 same_count : (ls : List (List ℕ)) → length (as_certificate ls) ≡ length ls
 same_count [] = refl

@@ -1,11 +1,9 @@
 -- A walk goes on from one node to the next.
-use Rattle.std.proofs.Common.{◌≡◌, ℕ, suc, ◌+◌, ◌<◌, ◌≤◌, nat_lt, max, Bool, true, false, ◌&&◌, IsTrue}
+use Rattle.std.proofs.Common.{◌≡◌, ℕ, ◌+◌, ◌<◌, true}
 use Rattle.std.proofs.Common.{if◌then◌else◌, List, [], ◌∷◌, ◌++◌, map, length, drop, Option, Some, None, slice_get}
 use Rattle.std.proofs.Common.{IfSome, refl, sym, ap, ◌∙◌, subst, arith, add-one, append_assoc, append-nil}
-use Rattle.std.proofs.lemmas.Bool.Decides.{nat_tests}
-use Rattle.std.proofs.Math.Nat.{le-max_left, le-max_right}
 use Rattle.cat_region.specs.declared.narrowing.Narrowing.{Narrowing}
-use Rattle.cat_region.specs.Regions.{Constraints, with_narrowing}
+use Rattle.cat_region.specs.Regions.{Constraints}
 use Rattle.cat_region.specs.Decided.{admits_none}
 use Rattle.cat_region.specs.Sides.{along, turns, Turns}
 use Rattle.cat_region.proofs.Exported.{along_dims, none_alike}
@@ -14,15 +12,15 @@ use Rattle.cat_guard.specs.declared.table.TableTarget.{TableTarget}
 use Rattle.cat_guard.specs.declared.tree.TreeNode.{TreeNode}
 use Rattle.cat_guard.specs.declared.tree.TreeNode.TheVariants as node
 use Rattle.cat_guard.specs.Judged.{answers_in}
-use Rattle.cat_guard.specs.Trees.{Tree, node_before, trees_of, one_tree, tree_of, height, answering, with_answer}
+use Rattle.cat_guard.specs.Trees.{Tree, node_before, trees_of, one_tree, tree_of, answering}
 use Rattle.cat_guard.specs.Trees as tree
 use Rattle.cat_guard.specs.Verdicts.{verdict_of}
-use Rattle.cat_guard.proofs.Exported.{both_true, answers_alike}
+use Rattle.cat_guard.proofs.Exported.{answers_alike}
 use Rattle.cat_walk.specs.Coverage.{leaf_regions}
-use Rattle.cat_walk.specs.Walkable.{splits_below, IsWalkable}
+use Rattle.cat_walk.specs.Walkable.{IsWalkable}
 use Rattle.cat_walk.specs.inside.Walking.{AreFit, regions_along}
-use Rattle.cat_walk.proofs.Lists.{there}
-use Rattle.cat_walk.proofs.WalkLemmas.{IsSplit, split_there, IsLeaf, leaf_there}
+use Rattle.cat_walk.proofs.SplitLemmas.{IsAtSplit, IsDown, at_split}
+use Rattle.cat_walk.proofs.WalkLemmas.{IsLeaf, leaf_there}
 use Rattle.cat_cert.specs.Uncovered.{regions_of}
 use Rattle.cat_cert.proofs.Lists.{drop_at}
 use Rattle.cat_dead.specs.declared.judged.JudgedLeaf.{JudgedLeaf}
@@ -153,99 +151,30 @@ module _ (atoms : List Atom) (o : Option TableTarget) (base : Constraints) (want
   -- a split
   module _ (region : Constraints) (place a : ℕ) (nodes : List TreeNode) (made : List JudgedLeaf)
       (walk : GoesOn region place (node.Split a ∷ nodes) made) where
-    abbrev split : IsSplit a (trees_of nodes) walk.trees
-    split = split_there a (trees_of nodes) walk.trees walk.are
-
-    abbrev fits : AreFit (length atoms) base.room (walk.path ∷ turns walk.path)
-        (tree.Split a split.left split.right ∷ split.rest)
-    fits = subst (AreFit (length atoms) base.room (walk.path ∷ turns walk.path)) split.same walk.fit
-
-    parts : IsTrue (nat_lt a (length atoms)) × IsTrue (splits_below (length atoms) split.left)
-        × IsTrue (splits_below (length atoms) split.right)
-    parts =
-        let two = both_true (nat_lt a (length atoms) && splits_below (length atoms) split.left)
-        (splits_below (length atoms) split.right) fits.0.splits in
-        let first = both_true (nat_lt a (length atoms)) (splits_below (length atoms) split.left) two.0 in
-        (first.0, first.1, two.1)
+    here : IsAtSplit atoms base region a (trees_of nodes) walk.path walk.trees
+    here = at_split atoms base region a (trees_of nodes) walk.path walk.trees walk.are walk.here walk.fit
 
     pub split_atom : a < length atoms
-    split_atom = let below = parts.0 in grind (arith, nat_tests, below)
-
-    high : length walk.path + (1 + max (height split.left) (height split.right)) ≤ base.room
-    high = fits.0.low
+    split_atom = here.atom
 
     pub split_room : 0 < region.room
-    split_room =
-        let left = walk.here.room in
-        let up = high in
-        omega (arith, left, up)
+    split_room = here.room
 
-    side_room : (side : Tree) → height side ≤ max (height split.left) (height split.right)
-        → suc (length walk.path) + height side ≤ base.room
-    side_room side h =
-        let up = high in
-        omega (arith, h, up)
-
-    module _ (after : Constraints) (dims : after.dims ≡ region.dims)
-        (narrowings : after.narrowings ≡ (answering atoms region a true).narrowings)
-        (room : after.room + 1 ≡ region.room) where
-      abbrev atom : Atom
-      atom = (there atoms a split_atom).value
-
-      found : slice_get atoms a ≡ Some atom
-      found = (there atoms a split_atom).is
-
-      abbrev side : Bool → Narrowing
-      side b = record { dim = atom.term; cut = atom.cut; yes = b }
-
-      answered : (r : Constraints) (b : Bool) → answering atoms r a b ≡ with_narrowing r (side b)
-      answered r b = ap (λ x. with_answer r x b) found
-
-      abbrev rest_regions : List Constraints
-      rest_regions = regions_along atoms base (turns walk.path) split.rest
-
-      same_regions : regions_along atoms base (walk.path ∷ turns walk.path) walk.trees
-          ≡ leaf_regions atoms (along base (side true ∷ walk.path)) split.left
-          ++ (leaf_regions atoms (along base (side false ∷ walk.path)) split.right ++ rest_regions)
-      same_regions =
-          ap (regions_along atoms base (walk.path ∷ turns walk.path)) split.same
-          ∙ ap (λ r. leaf_regions atoms r split.left
-          ++ leaf_regions atoms (answering atoms (along base walk.path) a false) split.right ++ rest_regions)
-          (answered (along base walk.path) true)
-          ∙ ap (λ r. leaf_regions atoms (along base (side true ∷ walk.path)) split.left
-          ++ leaf_regions atoms r split.right ++ rest_regions)
-          (answered (along base walk.path) false)
-          ∙ append_assoc (leaf_regions atoms (along base (side true ∷ walk.path)) split.left)
-          (leaf_regions atoms (along base (side false ∷ walk.path)) split.right) rest_regions
-
-      pub goes_down : GoesOn after (place + 1) nodes made
-      goes_down = record {
-        path = side true ∷ walk.path;
-        trees = split.left ∷ split.right ∷ split.rest;
-        here = record {
-          dims = dims ∙ walk.here.dims;
-          narrowings =
-              narrowings ∙ ap (λ r. r.narrowings) (answered region true)
-              ∙ ap (λ ns. ns ++ side true ∷ []) walk.here.narrowings;
-          room = let left = walk.here.room in omega (arith, left, room);
-        };
-        are = split.is;
-        fit = (
-          record {
-            splits = parts.1;
-            low = side_room split.left (le-max_left (height split.left) (height split.right));
-          },
-          (
-            record {
-              splits = parts.2;
-              low = side_room split.right (le-max_right (height split.left) (height split.right));
-            },
-            fits.1,
-          ),
-        );
-        leaves =
-            ap (λ rs. made ++ judged_of atoms o (leaf_nodes (place + 1) nodes) rs) (sym same_regions) ∙ walk.leaves;
-      }
+    pub goes_down : (after : Constraints) → after.dims ≡ region.dims
+        → after.narrowings ≡ (answering atoms region a true).narrowings → after.room + 1 ≡ region.room
+        → GoesOn after (place + 1) nodes made
+    goes_down after dims narrowings room = on (here.down after dims narrowings room)
+      where
+        on : IsDown atoms base after walk.path walk.trees here.sides → GoesOn after (place + 1) nodes made
+        on down = record {
+          path = down.way;
+          trees = here.sides;
+          here = down.here;
+          are = here.is;
+          fit = down.fit;
+          leaves =
+              ap (λ rs. made ++ judged_of atoms o (leaf_nodes (place + 1) nodes) rs) (sym down.regions) ∙ walk.leaves;
+        }
 
   -- a leaf
   module _ (region : Constraints) (place : ℕ) (nodes : List TreeNode) (made : List JudgedLeaf)

@@ -1,22 +1,22 @@
 -- A certificate of dead definitions as one of version 1 with the same lines.
-use Rattle.std.proofs.Common.{◌≡◌, ℕ, zero, suc, ◌+◌, ◌-◌, ◌≤◌, ◌<◌, ◌==◌, Bool, true, false, not, Some}
+use Rattle.std.proofs.Common.{◌≡◌, ℕ, zero, suc, ◌+◌, ◌-◌, ◌≤◌, ◌<◌, true, false, Some}
 use Rattle.std.proofs.Common.{if◌then◌else◌, List, [], ◌∷◌, ◌++◌, length, take, drop, get_or, codes, refl, sym, ap, ◌∙◌}
-use Rattle.std.proofs.Common.{subst, arith, true≢false, length-drop}
+use Rattle.std.proofs.Common.{subst, arith, length-drop}
 use Rattle.std.proofs.lemmas.List.{length-append, length-take-le, drop_more}
 use Rattle.std.proofs.lemmas.Fmt.{decimal_digit}
 use Rattle.std.specs.List.{prefix_len}
 use Rattle.std.specs.Str.{bytes_eq}
 use Rattle.cat_guard.specs.declared.table.Table.{Table}
-use Rattle.cat_guard.proofs.Exported.{both_true}
 use Rattle.cat_cert.specs.declared.certificate.Certificate.{Certificate}
 use Rattle.cat_cert.specs.declared.certificate.Version.TheVariants as version
 use Rattle.cat_cert.specs.declared.refusal.CertRefusal.{CertRefusal}
 use Rattle.cat_cert.specs.Causes.{IsRead, IsRefused, IsReadBehind, RefusedBehind}
 use Rattle.cat_cert.specs.Lines as lines
-use Rattle.cat_cert.specs.Texts.{Parted, byte_before, parted, is_line}
+use Rattle.cat_cert.specs.Texts.{Parted, parted}
 use Rattle.cat_cert.specs.Texts as certificate
 use Rattle.cat_cert.specs.inside.Feeds.{is_other}
 use Rattle.cat_cert.proofs.FeedLemmas as cert
+use Rattle.cat_cert.proofs.ReadBackLemmas.{parted_line}
 use Rattle.cat_dead.specs.DeadTexts.{first_line, is_first, passed_over, lines_read, as_certificate, lines_of}
 use Rattle.cat_dead.specs.DeadTexts.{IsDeadRead, IsDeadRefused}
 use Rattle.cat_dead.specs.inside.Reading.{IsLineAt, IsCertificateOf, lines_from, rest_from}
@@ -72,26 +72,6 @@ unfolding parted
 parted_feeds zero rest = refl
 parted_feeds (suc n) rest =
     ap (λ (p : Parted). record { ended = [] ∷ p.ended; rest = p.rest }) (parted_feeds n rest)
-
--- a line in front of a text
-not_true : (b : Bool) → not b ≡ true → b ≡ false
-not_true true h = absurd (true≢false (sym h))
-not_true false h = refl
-
-abbrev line_before : List ℕ → Parted → Parted
-line_before line p = record { ended = line ∷ p.ended; rest = p.rest }
-
-abbrev parted_by : Bool → ℕ → Parted → Parted
-parted_by feed byte p =
-    if feed then record { ended = [] ∷ p.ended; rest = p.rest } else byte_before byte p.ended p.rest
-
-parted_line : (line rest : List ℕ) → is_line line ≡ true → parted (line ++ 10 ∷ rest) ≡ line_before line (parted rest)
-unfolding parted
-parted_line [] rest is = refl
-parted_line (b ∷ line) rest is =
-    let two = both_true (not (b == 10)) (is_line line) is in
-    ap (λ feed. parted_by feed b (parted (line ++ 10 ∷ rest))) (not_true (b == 10) two.0)
-    ∙ ap (λ (p : Parted). byte_before b p.ended p.rest) (parted_line line rest two.1)
 
 -- behind lines in which nothing stands a certificate begins
 blanks_read : (n : ℕ) (line : List ℕ) (more : List (List ℕ)) → certificate.is_first line ≡ true

@@ -1,5 +1,5 @@
 -- What the judging of a target comes to none of whose definitions can fault: what truth values come to.
-use Rattle.std.proofs.Common.{◌≡◌, inl, inr, ℕ, Bool, true, false, IsTrue, List, [], ◌∷◌, length}
+use Rattle.std.proofs.Common.{◌≡◌, inl, inr, ℕ, Bool, true, false, IsTrue, List, [], ◌∷◌}
 use Rattle.std.proofs.Common.{take, Option, Some, None, Result, Ok, Err, slice_get, refl, sym, ap, ◌∙◌, subst}
 use Rattle.std.proofs.Common.{if◌then◌else◌}
 use Rattle.cat_pos.specs.declared.pos.Pos.{Pos}
@@ -11,7 +11,6 @@ use Rattle.cat_value.specs.declared.declaration.Scope.{Scope}
 use Rattle.cat_value.specs.declared.outcome.Target.{Target}
 use Rattle.cat_value.specs.Inputs.{are_given_for}
 use Rattle.cat_region.specs.declared.dim.Dim.{Dim}
-use Rattle.cat_region.specs.Points.{answer}
 use Rattle.cat_region.specs.Regions.{Constraints, Valuation, IsRegion, IsValuation, Admits}
 use Rattle.cat_region.specs.Decided.{admits_none}
 use Rattle.cat_scope.specs.declared.stop.Stop.{Stop}
@@ -19,7 +18,7 @@ use Rattle.cat_scope.specs.declared.expr.Expr.{Expr}
 use Rattle.cat_scope.specs.declared.defs.Body.{Body}
 use Rattle.cat_scope.specs.declared.defs.Def.{Def}
 use Rattle.cat_scope.specs.Runs.{Run}
-use Rattle.cat_scope.specs.Names.{Names, AllHave, IsOneOf, is_in}
+use Rattle.cat_scope.specs.Names.{Names, AllHave, IsOneOf}
 use Rattle.cat_scope.specs.Naming.{IsTargetAt}
 use Rattle.cat_scope.specs.WellFormed.{ConditionTyped, DefTyped, IsWellFormed}
 use Rattle.cat_scope.specs.Groups.{Numbered}
@@ -30,47 +29,43 @@ use Rattle.cat_scope.specs.Targets.{same_target, defs_from, condition_of, judge_
 use Rattle.cat_scope.specs.Eval.{Env, eval}
 use Rattle.cat_scope.specs.Calls.{Items, Scoped, call, env_of}
 use Rattle.cat_scope.specs.Running.{backwards}
-use Rattle.cat_sound.specs.Endings.{IsEnd, IsOf, IsEnvOf, IsReady}
+use Rattle.cat_sound.specs.Endings.{IsEnd, IsOf, IsEnvOf}
 use Rattle.cat_sound.specs.Given.{values_at}
 use Rattle.cat_sound.specs.Settled.{InCondition, StandsIn}
-use Rattle.cat_sound.proofs.Exported.{Ahead, AllIn, DoneAt, all_more, anything, defs-all, in_at, items_ahead, one_back}
-use Rattle.cat_sound.proofs.Exported.{one_front, ready, stands_end}
+use Rattle.cat_sound.proofs.Exported.{anything, defs-all, stands_end}
 use Rattle.cat_guard.specs.declared.table.Atom.{Atom}
 use Rattle.cat_guard.specs.declared.table.Term.{Term}
 use Rattle.cat_guard.specs.declared.table.TableTarget.{TableTarget}
-use Rattle.cat_guard.specs.Formulas.{truth, asked, renamed}
+use Rattle.cat_guard.specs.Formulas.{truth}
 use Rattle.cat_guard.specs.GuardFormulas.{formula_of}
-use Rattle.cat_guard.specs.PointValues.{point_at}
 use Rattle.cat_guard.specs.Questions.{Question, condition_guard}
 use Rattle.cat_guard.specs.TableJudging.{by_truth, decided, Covers, IsCovered}
-use Rattle.cat_guard.specs.Tables.{standing_of, def_formula, defs_questions, questions_of, guard_def, target_of}
-use Rattle.cat_guard.specs.Terms.{terms_of, atoms_of, atom_number}
+use Rattle.cat_guard.specs.Tables.{standing_of, def_formula, questions_of, guard_def, target_of}
+use Rattle.cat_guard.specs.Terms.{terms_of, atoms_of}
 use Rattle.cat_guard.specs.Judged.{judged_in}
 use Rattle.cat_guard.specs.Valuations.{dims_of, holds_at}
 use Rattle.cat_guard.specs.Verdicts.{Verdict, Holds, Empty, Conflict, Open}
 use Rattle.cat_guard.specs.Verdicts.{Stands}
 use Rattle.cat_dead.specs.Winners.{holder_of, place_of, winner_in}
-use Rattle.cat_guard.proofs.Exported.{IsSoundTarget, all_and, formula_of_guard_tree, truth_renamed, truth_same}
-use Rattle.cat_audit_sound.specs.Evaluations.{answered, any_values}
+use Rattle.cat_guard.proofs.Exported.{IsSoundTarget, all_and}
+use Rattle.cat_audit_sound.specs.Evaluations.{answered}
 use Rattle.cat_audit_sound.specs.Failing.{IsOfFreeTerms, Shows}
 use Rattle.cat_audit_sound.specs.Follows.{Follows}
-use Rattle.cat_audit_sound.proofs.AtomAnswers.{IsOfDef, targets_all}
+use Rattle.cat_audit_sound.proofs.CoveredTargets.{alike_at_free}
 use Rattle.cat_audit_sound.proofs.DefFollows.{def_goes}
-use Rattle.cat_audit_sound.proofs.FilledEnvs.{filled, filled_given, filled_done, ready_as, judged_same}
-use Rattle.cat_audit_sound.proofs.Gives.{if_ok}
+use Rattle.cat_audit_sound.proofs.Failures.{admits_alike}
+use Rattle.cat_audit_sound.proofs.FilledEnvs.{filled_given}
+use Rattle.cat_audit_sound.proofs.GuardAnswers.{guard_holds}
 use Rattle.cat_audit_sound.proofs.GuardTells.{guard_told}
-use Rattle.cat_audit_sound.proofs.Lists.{among_all}
+use Rattle.cat_audit_sound.proofs.JudgedAtIndex.{env_at, judged_at_index, stands_at_index}
 use Rattle.cat_audit_sound.proofs.Numbered.{all_are}
-use Rattle.cat_audit_sound.proofs.OneQuestions.{condition_here}
-use Rattle.cat_audit_sound.proofs.PointsOfTerms.{points_in, points_is, atom_is}
-use Rattle.cat_audit_sound.proofs.PrefixRuns.{StandsAt, front_behind, front_stands, needed_before}
+use Rattle.cat_audit_sound.proofs.PointsOfTerms.{points_in, points_is}
 use Rattle.cat_audit_sound.proofs.SameSelf.{term_self}
 use Rattle.cat_audit_sound.proofs.StandingDefs as standing
-use Rattle.cat_audit_sound.proofs.StandingDefs.{body_of, def_callables, defs_stand, scope_sound, target_of_def}
+use Rattle.cat_audit_sound.proofs.StandingDefs.{body_of}
 use Rattle.cat_audit_sound.proofs.TargetFollows.{DefGoes, target_goes}
 use Rattle.cat_audit_sound.proofs.Tells.{Tells, tells_as, tells_Boolean}
 use Rattle.cat_dead_report.specs.inside.Faultless.{def_cannot_fault}
-use Rattle.cat_dead_report.proofs.FreePoints.{admits_alike, alike_at_free}
 use Rattle.cat_dead_report.proofs.CalmLemmas.{IsCalm, def_calm}
 
 -- nothing stops inside
@@ -138,27 +133,6 @@ followed Has (Ok None) s i is go = elim (subst (λ x. Follows Has NoStop (Ok Non
 followed Has (Ok (Some h)) s i is go =
     let two = subst (λ x. Follows Has NoStop (Ok (Some h)) x) is go in (h, refl, two.2)
 
--- ---- questions of a definition among those of its scope
-
-among_defs : (ds : Decls) (xs : List Numbered) (d : Numbered) (q : Question) → IsOneOf d xs
-    → IsOneOf q (asked (def_formula ds d.1)) → IsOneOf q (defs_questions ds xs)
-among_defs ds [] d q among h = elim among [ ]
-among_defs ds (x ∷ xs) d q (inl e) h =
-    one_front q (asked (def_formula ds x.1)) (defs_questions ds xs)
-    (subst (λ (y : Numbered). IsOneOf q (asked (def_formula ds y.1))) e h)
-among_defs ds (x ∷ xs) d q (inr more) h =
-    one_back q (asked (def_formula ds x.1)) (defs_questions ds xs) (among_defs ds xs d q more h)
-
-among_targets : (ds : Decls) (defs : List Def) (targets : List Target) (t : Target) (q : Question) → IsOneOf t targets
-    → IsOneOf q (defs_questions ds (defs_from t 0 defs)) → IsOneOf q (questions_of ds defs targets)
-among_targets ds defs [] t q among h = elim among [ ]
-among_targets ds defs (u ∷ targets) t q (inl e) h =
-    one_front q (defs_questions ds (defs_from u 0 defs)) (questions_of ds defs targets)
-    (subst (λ (x : Target). IsOneOf q (defs_questions ds (defs_from x 0 defs))) e h)
-among_targets ds defs (u ∷ targets) t q (inr more) h =
-    one_back q (defs_questions ds (defs_from u 0 defs)) (questions_of ds defs targets)
-    (among_targets ds defs targets t q more h)
-
 -- ---- a target
 
 module _ (ns : Names) (scope : ℕ) (defs : List Def) (typed : AllHave (DefTyped ns scope) defs)
@@ -180,29 +154,6 @@ module _ (ns : Names) (scope : ℕ) (defs : List Def) (typed : AllHave (DefTyped
     abbrev StandsHere : Def → Type 0
     StandsHere d = StandsIn anything ns env [] t d
 
-    -- the answers of a definition's atoms
-    answers_are : (d : Numbered) → IsTrue (same_target d.1.target here) → IsOneOf d (defs_from here 0 defs)
-        → DefTyped ns scope d.1
-        → AllHave (λ q. holds (atom_number qs q) ≡ answered (λ e. (value e).end) q) (asked (def_formula ns.decls d.1))
-    answers_are d same among is =
-        all_and (λ q. q.standing ≡ standing_of d.1) (λ q. IsOneOf q (asked (def_formula ns.decls d.1)))
-        (λ q. holds (atom_number qs q) ≡ answered (λ e. (value e).end) q) (asked (def_formula ns.decls d.1))
-        (condition_here ns.decls (standing_of d.1) d.1.condition) (all_are (asked (def_formula ns.decls d.1))) each
-      where
-        none : d.1.params ≡ 0
-        none = is.counted ∙ ap length (target_of_def ns scope item inner [] t d.1 target is same).0
-
-        each : (q : Question) → q.standing ≡ standing_of d.1 → IsOneOf q (asked (def_formula ns.decls d.1))
-            → holds (atom_number qs q) ≡ answered (λ e. (value e).end) q
-        each q standing asks =
-            let inside = among_targets ns.decls defs targets here q listed
-            (among_defs ns.decls (defs_from here 0 defs) d q among asks) in
-            atom_is ns scope defs typed targets env term_self q inside
-            (among_all (IsOfDef ns scope defs typed targets) qs q (targets_all ns scope defs typed targets targets)
-            inside)
-            ∙ ap (λ (n : ℕ). answer q.cut (point_at q.dim (eval env q.expr (any_values n)).end))
-            (ap (λ (g : Standing). g.params) standing ∙ none)
-
     condition_tells : (g : Standing) (o : Option Expr) → ConditionTyped ns [] o
         → InCondition (IsEnvOf anything ns env) o
         → Tells (condition_of value o).end (truth (answered (λ e. (value e).end)) (condition_guard ns.decls g o))
@@ -222,10 +173,7 @@ module _ (ns : Names) (scope : ℕ) (defs : List Def) (typed : AllHave (DefTyped
         (stands_end anything ns env [] t [] tt d.1 ready.1)
         (tells_as (condition_of value d.1.condition).end (condition_of value d.1.condition).end b
         (truth (answered (λ e. (value e).end)) (def_formula ns.decls d.1)) refl
-        (ap (truth holds) (formula_of_guard_tree (renamed (atom_number qs) (def_formula ns.decls d.1)))
-        ∙ truth_renamed (atom_number qs) holds (def_formula ns.decls d.1)
-        ∙ truth_same (λ q. holds (atom_number qs q)) (answered (λ e. (value e).end)) (def_formula ns.decls d.1)
-        (answers_are d ready.0 among ready.2))
+        (guard_holds ns scope defs typed targets env term_self item inner t target listed d ready.0 among ready.2)
         (condition_tells (standing_of d.1) d.1.condition ready.1.condition ready.1.condition_env)))
         (def_calm env d can)
 
@@ -262,9 +210,6 @@ module _ (ds : Decls) (bodies : List Body) (order : List ℕ) (formed : IsWellFo
   abbrev scoped : Scoped
   scoped = standing.scoped ds bodies order formed scope decl body at also
 
-  abbrev needs : ℕ → List ℕ
-  needs = standing.needs ds bodies order formed scope decl body at also
-
   abbrev all_targets : List Target
   all_targets = targets_of ds scope items body.order
 
@@ -280,9 +225,6 @@ module _ (ds : Decls) (bodies : List Body) (order : List ℕ) (formed : IsWellFo
   abbrev in_table : Target → TableTarget
   in_table t = target_of ds items body.defs questions t
 
-  ahead : Ahead (length items) needs [] body.order
-  ahead = items_ahead items body.defs body.order (body_of ds bodies order formed scope decl body at also).order
-
   module _ (input : Items) (given : IsTrue (are_given_for ds items input)) (index item : ℕ)
       (there : slice_get body.order index ≡ Some item) (t : Ty) (target : IsTargetAt names item None [] t)
       (listed : IsOneOf (record { scope = scope; item = item; inner = None }) all_targets)
@@ -291,48 +233,8 @@ module _ (ds : Decls) (bodies : List Body) (order : List ℕ) (formed : IsWellFo
     abbrev own : Target
     own = record { scope = scope; item = item; inner = None }
 
-    abbrev before : List ℕ
-    before = backwards (take index body.order)
-
-    abbrev calls : ℕ → List Value → Run Value
-    calls = call scoped values before
-
-    abbrev others : Items
-    others = filled input values
-
     abbrev env : Env
-    env = env_of scoped calls others
-
-    stand : AllHave (StandsAt names input values) before
-    stand =
-        if_ok (λ vs. AllHave (StandsAt names input vs) before) (values_at scoped input index).end values
-        (front_stands ds scoped needs (scope_sound ds bodies order formed scope decl body at also) input given index
-        ahead) reached
-
-    needed : AllIn before (needs item)
-    needed = needed_before (length items) needs [] body.order index item ahead there
-
-    same : AllHave (λ k. slice_get others k ≡ slice_get values k) (needs item)
-    same =
-        all_more (λ k. IsTrue (is_in k before)) (λ k. slice_get others k ≡ slice_get values k) (needs item) needed
-        (λ k inside. let s = in_at (StandsAt names input values) before k stand inside in
-        filled_done input values k s.done.value s.done.there s.given)
-
-    readies : AllHave (IsReady anything names env) (needs item)
-    readies =
-        all_and (λ k. IsTrue (is_in k before)) (λ k. slice_get others k ≡ slice_get values k)
-        (IsReady anything names env) (needs item) needed same
-        (λ k inside e. ready_as scoped calls values others names k e
-        (ready anything ds scoped needs (scope_sound ds bodies order formed scope decl body at also) values before
-        (front_behind ds scoped needs (scope_sound ds bodies order formed scope decl body at also) input given index
-        ahead)
-        (all_more (StandsAt names input values) (DoneAt names values) before stand (λ m s. s.done)) k inside))
-
-    stands : AllHave (λ d. IsTrue (same_target d.target own) → StandsIn anything names env [] t d) body.defs
-    stands =
-        defs_stand names scope env item None [] t target body.defs
-        (body_of ds bodies order formed scope decl body at also).defs
-        (def_callables ds bodies order formed scope decl body at also calls others) readies
+    env = env_at ds bodies order formed scope decl body at also input index values
 
     abbrev points : Valuation
     points = points_in env terms
@@ -344,15 +246,20 @@ module _ (ds : Decls) (bodies : List Body) (order : List ℕ) (formed : IsWellFo
     -- its judging comes to what truth values come to at these points, where none of its definitions can fault
     module _ (harmless : AllHave (λ d. def_cannot_fault d.1 ≡ true) (defs_from own 0 body.defs)) where
       abbrev judging : Judged Value
-      judging = judge_target (λ e. eval (env_of scoped calls values) e []) own body.defs
+      judging =
+          judge_target (λ e. eval (env_of scoped (call scoped values (backwards (take index body.order))) values) e [])
+          own body.defs
 
       judged : Follows (IsOf ds t) NoStop judging.end (decided (in_table own) (holds_at atoms points)).end
       judged =
           subst (λ (j : Judged Value). Follows (IsOf ds t) NoStop j.end
           (decided (in_table own) (holds_at atoms points)).end)
-          (sym (judged_same scoped calls values others scope item None body.defs same))
+          (sym (judged_at_index ds bodies order formed scope decl body at also input index values given item there
+          reached None))
           (follows names scope body.defs (body_of ds bodies order formed scope decl body at also).defs all_targets env
-          item None t target listed sound stands harmless)
+          item None t target listed sound
+          (stands_at_index ds bodies order formed scope decl body at also input index values given item there reached
+          None t target) harmless)
 
       -- where each valuation covers it, it comes to what covers it
       pub covered : ((v : Valuation) → IsValuation (dims_of terms) v → Covers (in_table own) (holds_at atoms v))

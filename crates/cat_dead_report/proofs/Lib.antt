@@ -5,8 +5,6 @@ mod DeciderLemmas
 mod FaultlessLaws
 mod FaultlessTargets
 mod FormLemmas
-mod FreeLemmas
-mod FreePoints
 mod KnownLemmas
 mod NeverLemmas
 mod PlaceLemmas

@@ -23,7 +23,8 @@ use Rattle.cat_dead.specs.Winners.{is_same, winners_in}
 use Rattle.cat_dead_report.specs.inside.Searches.{IsSearchedBy}
 use Rattle.cat_dead.proofs.Exported.{SameElsewhere}
 use Rattle.cat_dead.proofs.Exported.{NeverHeldIn}
-use Rattle.cat_dead_report.proofs.ReachedLemmas.{none_open, whole_is}
+use Rattle.cat_audit.proofs.SearchedLemmas.{whole_is}
+use Rattle.cat_dead_report.proofs.ReachedLemmas.{none_open}
 
 -- ---- one number, one target
 
@@ -54,7 +55,7 @@ module _ (program : Program) (table : Table) (tabled : TablesScope program table
   nowhere : IsTrue (is_whole by_search.made.tree) → HoldsNowhere table t p
   nowhere all v is_v =
       let base = everything table.terms in
-      let region_is = whole_is table.terms table.atoms table.targets table.sound t in
+      let region_is = whole_is table.terms table.atoms table.targets table.sound in
       all_at (NeverHeldIn table.terms table.atoms) table.targets n t held at base by_search.made.tree p v region_is refl
       all (none_open table.terms table.atoms table.targets table.sound t base by_search.made.tree
       by_search.made.searched)

@@ -1,21 +1,16 @@
 -- Lines of a plain scope.
-use Rattle.std.proofs.Common.{◌≡◌, ◌≤◌, ℕ, Bool, false, List, [], ◌∷◌, Option, Some, None, slice_get, refl, sym}
-use Rattle.std.proofs.Common.{ap}
-use Rattle.std.proofs.Common.{◌∙◌, arith, if◌then◌else◌}
+use Rattle.std.proofs.Common.{◌≡◌, ◌≤◌, ℕ, false, List, [], ◌∷◌, Option, Some, None, sym}
+use Rattle.std.proofs.Common.{◌∙◌, arith}
 use Rattle.cat_pos.specs.declared.pos.Pos.{Pos}
-use Rattle.cat_region.specs.declared.narrowing.Narrowing.{Narrowing}
-use Rattle.cat_region.specs.Regions.{Constraints}
 use Rattle.cat_scope.specs.declared.programs.Program.{Program}
 use Rattle.cat_scope.specs.Names.{AllHave}
 use Rattle.cat_guard.specs.declared.guard.GuardDef.{GuardDef}
 use Rattle.cat_guard.specs.declared.table.Table.{Table}
 use Rattle.cat_guard.specs.declared.table.TableTarget.{TableTarget}
-use Rattle.cat_guard.specs.declared.table.Term.{Term}
 use Rattle.cat_guard.specs.declared.tree.TreeNode.{TreeNode}
-use Rattle.cat_audit_sound.proofs.Exported.{all_at}
 use Rattle.cat_audit_sound.specs.Shown.{IsFree}
 use Rattle.cat_search.specs.Cells.{cells}
-use Rattle.cat_audit.specs.Findings.{derived_in, is_derived, is_no_path, least, position_in, undecided_at}
+use Rattle.cat_audit.proofs.PlainLines.{on_inputs}
 use Rattle.cat_dead_report.specs.declared.line.DeadLine.{DeadLine}
 use Rattle.cat_dead_report.specs.declared.line.DeadLine.TheVariants as line
 use Rattle.cat_dead_report.specs.declared.line.TargetLines.{TargetLines}
@@ -23,27 +18,6 @@ use Rattle.cat_dead_report.specs.Causes.{HasDeadLine}
 use Rattle.cat_dead_report.specs.DeadReports.{HaveDeadLines, AreDeadLines}
 use Rattle.cat_dead_report.specs.PlainReports.{IsDecidedLine, AreDecidedLines}
 use Rattle.cat_dead_report.specs.ReportLines.{lines_of}
-
--- ---- nothing is derived
-
-not_derived : (o : Option Term) → ((term : Term) → o ≡ Some term → IsFree term) → is_derived o ≡ false
-not_derived None h = refl
-not_derived (Some term) h = ap is_no_path (h term refl).1
-
-none_derived : (terms : List Term) → AllHave IsFree terms → (ns : List Narrowing) → derived_in terms ns ≡ []
-none_derived terms free [] = refl
-none_derived terms free (n ∷ ns) =
-    ap (λ (b : Bool). if b then n.dim ∷ derived_in terms ns else derived_in terms ns)
-    (not_derived (slice_get terms n.dim) (λ term at. all_at IsFree terms n.dim term free at))
-    ∙ none_derived terms free ns
-
--- a target that is no function hangs on inputs alone
-on_inputs : (terms : List Term) → AllHave IsFree terms → (t : TableTarget) → t.function ≡ false
-    → (region : Constraints) → undecided_at terms t region ≡ None
-on_inputs terms free t no_function region =
-    ap (λ (b : Bool). if b then Some t.pos else position_in terms (least (derived_in terms region.narrowings)))
-    no_function
-    ∙ ap (λ (ns : List ℕ). position_in terms (least ns)) (none_derived terms free region.narrowings)
 
 -- ---- lines
 

@@ -10,7 +10,6 @@ use Rattle.std.proofs.lemmas.List.Folds.{list_any-append}
 use Rattle.cat_region.specs.Decided.{admits_none}
 use Rattle.cat_region.specs.Regions.{Constraints, IsRegion, IsInhabited}
 use Rattle.cat_scope.specs.Names.{AllHave, IsOneOf}
-use Rattle.cat_scope.proofs.Exported.{all_append}
 use Rattle.cat_guard.specs.declared.table.Atom.{Atom}
 use Rattle.cat_guard.specs.declared.table.Table.{Table}
 use Rattle.cat_guard.specs.declared.table.TableTarget.{TableTarget}
@@ -23,15 +22,16 @@ use Rattle.cat_guard.specs.Trees.{Tree, answering, trees_of, tree_of}
 use Rattle.cat_guard.specs.Trees as tree
 use Rattle.cat_guard.specs.Valuations.{dims_of}
 use Rattle.cat_guard.specs.Verdicts.{Verdict, Holds, Empty, Conflict, Open}
-use Rattle.cat_guard.proofs.Exported.{sound_dims}
 use Rattle.cat_walk.specs.Coverage.{leaf_regions}
 use Rattle.cat_cert.specs.Uncovered.{regions_of}
-use Rattle.cat_walk.proofs.WalkLemmas.{split_there, leaf_there}
+use Rattle.cat_walk.proofs.WalkLemmas.{leaf_there}
+use Rattle.cat_walk.proofs.SplitLemmas.{split_there}
 use Rattle.cat_search.specs.Searched.{everything, Reached, leaves_from, size, is_known, IsSearched}
 use Rattle.cat_search.specs.OnWays.{AreOnWays}
-use Rattle.cat_search.proofs.Exported.{sides_are, same_dims}
 use Rattle.cat_dead.specs.declared.judged.JudgedLeaf.{JudgedLeaf}
 use Rattle.cat_dead.specs.declared.judged.LeafJudgement.{LeafJudgement}
+use Rattle.cat_sound.proofs.Exported.{all_more}
+use Rattle.cat_audit.proofs.SearchedLemmas.{IsLeafRegion, tree_good}
 use Rattle.cat_dead_report.specs.Causes.{leaves_of}
 use Rattle.cat_dead.specs.Winners.{is_open, is_open_in}
 use Rattle.cat_dead_report.specs.inside.WonLeaves.{way_of, led, AreJudgedLeaves}
@@ -166,23 +166,12 @@ pub record IsGood (terms : List Term) (region : Constraints) : Type 0 where
 
 module _ (terms : List Term) (atoms : List Atom) (targets : List TableTarget)
     (sound : IsTrue (is_sound terms atoms targets)) (t : TableTarget) where
-  pub whole_is : IsRegion (everything terms)
-  whole_is = record { dims = sound_dims terms atoms targets sound; narrowings = refl }
-
-  leaves_good : (place : ℕ) (region : Constraints) (w : Tree) → IsRegion region → region.dims ≡ dims_of terms
-      → IsSearched atoms t region w → AllHave (λ l. IsGood terms l.region) (leaves_from atoms place region w)
-  leaves_good place region tree.Leaf is dims searched =
-      (record { region_is = is; dims = dims; inhabited = searched.0 }, tt)
-  leaves_good place region tree.Rest is dims searched = tt
-  leaves_good place region (tree.Split a left right) is dims searched =
-      all_append (λ l. IsGood terms l.region) (leaves_from atoms (place + 1) (answering atoms region a true) left)
-      (leaves_from atoms (place + 1 + size left) (answering atoms region a false) right)
-      (leaves_good (place + 1) (answering atoms region a true) left
-      (sides_are terms atoms targets sound region a true is dims)
-      (same_dims terms atoms targets sound region a true dims) searched.1)
-      (leaves_good (place + 1 + size left) (answering atoms region a false) right
-      (sides_are terms atoms targets sound region a false is dims)
-      (same_dims terms atoms targets sound region a false dims) searched.2)
+  leaves_good : (w : Tree) → IsSearched atoms t (everything terms) w
+      → AllHave (λ l. IsGood terms l.region) (leaves_from atoms 0 (everything terms) w)
+  leaves_good w searched =
+      all_more (λ l. IsLeafRegion terms atoms t l.region) (λ l. IsGood terms l.region)
+      (leaves_from atoms 0 (everything terms) w) (tree_good terms atoms targets sound t w searched)
+      (λ l h. record { region_is = h.region_is; dims = h.dims; inhabited = h.inhabited })
 
   -- none of them is open
   known_closed : (v : Verdict) → IsTrue (is_known v) → is_open v ≡ false
@@ -246,5 +235,4 @@ module _ (table : Table) (t : TableTarget) (nodes : List TreeNode) where
       subst (AreJudgedLeaves table t nodes 0) (sym (reached_are table.atoms t (everything table.terms) nodes w is))
       (judged_along 0 ls on
       (subst (λ rs. AllHave (λ (l : Reached). IsOneOf l.region rs) ls) (sym regions) (members ls))
-      (leaves_good table.terms table.atoms table.targets sound t 0 (everything table.terms) w
-      (whole_is table.terms table.atoms table.targets sound t) refl searched))
+      (leaves_good table.terms table.atoms table.targets sound t w searched))

@@ -45,7 +45,7 @@ use Rattle.cat_dead_report.specs.inside.Places.{number_of, AreNumbered}
 use Rattle.cat_dead_report.specs.inside.Said.{IsWon, IsLineOf}
 use Rattle.cat_dead_report.specs.inside.Tries.{last_line, last_lines}
 use Rattle.cat_dead_report.proofs.DeciderLemmas.{same_is, one_of, none_of}
-use Rattle.cat_dead_report.proofs.FreeLemmas.{is_free}
+use Rattle.cat_audit.proofs.FindingLemmas.{is_free}
 use Rattle.cat_dead.proofs.Exported.{same_self, some_same}
 use Rattle.cat_dead_report.proofs.KnownLemmas.{known_at}
 use Rattle.cat_dead_report.proofs.PlaceLemmas.{numbered_at}

@@ -1,35 +1,29 @@
 -- The tree that a search makes of a target, and what is said by it.
-use Rattle.std.proofs.Common.{◌≡◌, ◌⊎◌, inl, inr, ℕ, ◌+◌, ◌<◌, ◌≤◌, nat_lt, nat_eq, Bool, true, false, ◌&&◌, IsTrue}
+use Rattle.std.proofs.Common.{◌≡◌, ℕ, ◌<◌, ◌≤◌, nat_lt, nat_eq, Bool, true, false, ◌&&◌, IsTrue}
 use Rattle.std.proofs.Common.{List, []}
-use Rattle.std.proofs.Common.{◌∷◌, ◌++◌, length, Option, Some, None, slice_get, refl, sym, ap, ◌∙◌, subst, arith}
+use Rattle.std.proofs.Common.{◌∷◌, length, Option, Some, None, slice_get, refl, sym, ap, ◌∙◌, subst, arith}
 use Rattle.std.proofs.Common.{true≢false}
 use Rattle.std.specs.Prelude.{Result, IfOk, IfSome}
-use Rattle.std.specs.List.{list_all}
 use Rattle.std.proofs.lemmas.Bool.Decides.{nat_tests}
 use Rattle.cat_region.proofs.Exported.{and-both}
 use Rattle.cat_region.specs.declared.dim.Dim.{Dim}
 use Rattle.cat_region.specs.Regions.{Constraints, Valuation, IsValuation}
 use Rattle.cat_scope.specs.Names.{IsOneOf, has_none}
-use Rattle.cat_guard.specs.declared.guard.GuardDef.{GuardDef}
 use Rattle.cat_guard.specs.declared.table.Atom.{Atom}
 use Rattle.cat_guard.specs.declared.table.Table.{Table}
 use Rattle.cat_guard.specs.declared.table.TableTarget.{TableTarget}
 use Rattle.cat_guard.specs.declared.tree.CaseTree.{CaseTree}
 use Rattle.cat_guard.specs.declared.tree.TreeNode.{TreeNode}
-use Rattle.cat_guard.specs.Formulas.{asked}
-use Rattle.cat_guard.specs.GuardFormulas.{formula_of}
-use Rattle.cat_guard.specs.Judgements.{asked_in, atoms_in}
-use Rattle.cat_guard.specs.Soundness.{are_below, def_is_sound, target_is_sound}
+use Rattle.cat_guard.specs.Judgements.{atoms_in}
 use Rattle.cat_guard.specs.TableJudging.{Covers}
 use Rattle.cat_guard.specs.Trees.{AreClosed, Tree, answering, tree_of, height, is_tree}
 use Rattle.cat_guard.specs.Trees as tree
 use Rattle.cat_guard.specs.Valuations.{dims_of, holds_at}
-use Rattle.cat_guard.proofs.Exported.{both_true, targets_sound, sound_parts}
-use Rattle.cat_audit_sound.proofs.Exported.{all_at}
 use Rattle.cat_walk.specs.Walkable.{splits_below, IsWalkable}
 use Rattle.cat_search.specs.declared.found.Search.{Search}
 use Rattle.cat_search.specs.declared.found.Search.TheVariants as search
 use Rattle.cat_search.specs.Cells.{IsSpentWithin}
+use Rattle.cat_search.proofs.Exported.{asked_below}
 use Rattle.cat_search.specs.Searched.{everything, IsClosedSearch, IsSearched, IsSearchOf}
 use Rattle.cat_dead_report.specs.inside.Faultless.{IsCoveredByEach}
 use Rattle.cat_dead_report.specs.inside.Searches.{tree_in, is_closed, is_covered, IsSearchedBy}
@@ -56,37 +50,6 @@ searched_by table t budget (search.Spent tree bad) of within = record {
 
 -- ---- it can be walked
 
-one_below : (bound a : ℕ) (ns : List ℕ) → IsTrue (are_below bound ns) → IsOneOf a ns → a < bound
-one_below bound a [] all among = absurd (among)
-one_below bound a (n ∷ ns) all (inl same) =
-    let two = both_true (nat_lt n bound) (are_below bound ns) all in
-    subst (λ (k : ℕ). k < bound) (sym same) (grind (arith, nat_tests, two.0))
-one_below bound a (n ∷ ns) all (inr among) =
-    one_below bound a ns (both_true (nat_lt n bound) (are_below bound ns) all).1 among
-
-one_of_two : (a : ℕ) (xs ys : List ℕ) → IsOneOf a (xs ++ ys) → IsOneOf a xs ⊎ IsOneOf a ys
-one_of_two a [] ys among = inr among
-one_of_two a (x ∷ xs) ys (inl same) = inl (inl same)
-one_of_two a (x ∷ xs) ys (inr among) = by (one_of_two a xs ys among)
-  where
-    by : IsOneOf a xs ⊎ IsOneOf a ys → IsOneOf a (x ∷ xs) ⊎ IsOneOf a ys
-    by (inl here) = inl (inr here)
-    by (inr there) = inr there
-
-def_below : (atoms a : ℕ) (defs : List GuardDef) → IsTrue (list_all (def_is_sound atoms) defs)
-    → IsOneOf a (asked_in defs) → a < atoms
-def_below atoms a [] all among = absurd (among)
-def_below atoms a (d ∷ defs) all among =
-    by (one_of_two a (asked (formula_of d.guard)) (asked_in defs) among) (def_below atoms a defs two.1)
-  where
-    two : IsTrue (def_is_sound atoms d) × IsTrue (list_all (def_is_sound atoms) defs)
-    two = both_true (def_is_sound atoms d) (list_all (def_is_sound atoms) defs) all
-
-    by : IsOneOf a (asked (formula_of d.guard)) ⊎ IsOneOf a (asked_in defs) → (IsOneOf a (asked_in defs) → a < atoms)
-        → a < atoms
-    by (inl here) rest = one_below atoms a (asked (formula_of d.guard)) two.0 here
-    by (inr there) rest = rest there
-
 searched_splits : (atoms : List Atom) (t : TableTarget) (bound : ℕ) → ((a : ℕ) → IsOneOf a (atoms_in t) → a < bound)
     → (region : Constraints) (w : Tree) → IsSearched atoms t region w → splits_below bound w ≡ true
 searched_splits atoms t bound below region tree.Leaf searched = refl
@@ -111,12 +74,10 @@ pub walkable : (table : Table) (t : TableTarget) (budget : ℕ) (n : ℕ) → sl
     → IsWalkable (length table.atoms) found.depth (tree_of found.nodes)
 walkable table t budget n at found whole by_search =
     let made = by_search.made in
-    let sound = all_at (λ (u : TableTarget). IsTrue (target_is_sound (length table.atoms) u)) table.targets n t
-    (targets_sound table.terms table.atoms table.targets table.sound) at in
     let deep = height_is found.nodes found.depth made.tree made.tree_is found.sound in
     subst (IsWalkable (length table.atoms) found.depth) (sym made.tree_is) (
       searched_splits table.atoms t (length table.atoms)
-          (λ a. def_below (length table.atoms) a t.defs (sound_parts (length table.atoms) t sound).0)
+          (asked_below table.terms table.atoms table.targets table.sound n t at)
           (everything table.terms) made.tree made.searched,
       omega (arith, deep),
     )

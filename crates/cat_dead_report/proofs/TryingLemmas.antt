@@ -1,5 +1,5 @@
 -- Leaves whose inputs are tried one after the other.
-use Rattle.std.proofs.Common.{◌≡◌, ℕ, zero, suc, ◌+◌, ◌-◌, ◌<◌, ◌≤◌, Bool, true, List, [], ◌∷◌, ◌++◌, length}
+use Rattle.std.proofs.Common.{◌≡◌, ℕ, zero, suc, ◌+◌, ◌<◌, ◌≤◌, Bool, true, List, [], ◌∷◌, length}
 use Rattle.std.proofs.Common.{take, drop}
 use Rattle.std.proofs.Common.{Some, None, slice_get, refl, sym, ap, ◌∙◌, subst, arith}
 use Rattle.std.specs.Prelude.{slice_index_or}
@@ -10,7 +10,8 @@ use Rattle.cat_guard.specs.declared.table.Table.{Table}
 use Rattle.cat_guard.specs.declared.table.TableTarget.{TableTarget}
 use Rattle.cat_guard.specs.declared.tree.TreeNode.{TreeNode}
 use Rattle.cat_search.specs.declared.way.Answer.{Answer}
-use Rattle.cat_search.specs.Ways.{passed, way_from}
+use Rattle.cat_search.specs.Ways.{way_from}
+use Rattle.cat_audit.proofs.TriedLemmas.{way_on}
 use Rattle.cat_dead_report.specs.declared.found.Known.{Known}
 use Rattle.cat_dead_report.specs.declared.found.Won.{Won}
 use Rattle.cat_dead.specs.declared.judged.JudgedLeaf.{JudgedLeaf}
@@ -26,32 +27,6 @@ use Rattle.cat_dead_report.proofs.KnownLemmas.{IsKnownAt, grow_again, told_more}
 use Rattle.cat_dead_report.proofs.WonLemmas.{before, covers_after, grow_after, known_after, later}
 use Rattle.cat_dead_report.proofs.WonLemmas.{final_covers, won_in}
 use Rattle.cat_dead_report.proofs.WritingLemmas.{drop_next, take_next}
-
--- ---- the way on
-
-way_more : (way : List Answer) (ns ms : List TreeNode) → way_from way (ns ++ ms) ≡ way_from (way_from way ns) ms
-way_more way [] ms = refl
-way_more way (n ∷ ns) ms = way_more (passed n way) ns ms
-
-take_on : (xs : List TreeNode) (a b : ℕ) → a ≤ b → take b xs ≡ take a xs ++ take (b - a) (drop a xs)
-take_on xs zero b within = let same : b ≡ b - 0 = omega arith in ap (λ k. take k xs) same
-take_on xs (suc a) zero within = absurd (omega (arith, within))
-take_on [] (suc a) (suc b) within = by (suc b - suc a)
-  where
-    nothing : List TreeNode
-    nothing = []
-
-    by : (k : ℕ) → nothing ≡ nothing ++ take k nothing
-    by zero = refl
-    by (suc k) = refl
-take_on (x ∷ xs) (suc a) (suc b) within =
-    let same : b - a ≡ suc b - suc a = omega arith in
-    ap (λ ys. x ∷ ys) (take_on xs a b (omega (arith, within)) ∙ ap (λ k. take a xs ++ take k (drop a xs)) same)
-
-way_on : (nodes : List TreeNode) (a b : ℕ) → a ≤ b
-    → way_from (way_from [] (take a nodes)) (slice_range nodes a b) ≡ way_from [] (take b nodes)
-way_on nodes a b within =
-    sym (way_more [] (take a nodes) (slice_range nodes a b)) ∙ ap (way_from []) (sym (take_on nodes a b within))
 
 -- ---- the leaf of an index
 

@@ -14,22 +14,20 @@ use Rattle.cat_guard.specs.declared.table.TableTarget.{TableTarget}
 use Rattle.cat_cert.specs.declared.certificate.Version.TheVariants as version
 use Rattle.cat_cert.specs.Lines.{TargetDue, due_lines, dues_of, heading_line, tree_lines}
 use Rattle.cat_cert.specs.Texts.{text_of}
+use Rattle.cat_audit_sound.proofs.Lists.{drop_past}
+use Rattle.cat_audit_sound.proofs.Lists as lists
 use Rattle.cat_dead_report.specs.declared.line.DeadLine.{DeadLine}
 use Rattle.cat_dead_report.specs.declared.line.TargetLines.{TargetLines}
-use Rattle.cat_dead_report.specs.DeadReports.{IsSaidOf, AreDeadLines, certificate_lines, cited_tree, is_decider, is_never}
+use Rattle.cat_dead_report.specs.DeadReports.{IsSaidOf, AreDeadLines, certificate_lines, cited_tree, is_decider}
+use Rattle.cat_dead_report.specs.DeadReports.{is_never}
 use Rattle.cat_dead.specs.DeadTexts.{first_line}
 use Rattle.cat_dead_report.specs.ReportLines.{lines_of, dead_line, target_lines, all_lines}
 use Rattle.cat_dead_report.specs.inside.Writing.{line_at, line_of}
 
 -- ---- lists
 
-next_at : {A : Type 0} (xs : List A) (i : ℕ) (x : A) → slice_get xs i ≡ Some x → drop i xs ≡ x ∷ drop (suc i) xs
-next_at [] i x at = absurd (cc)
-next_at (y ∷ xs) zero x at = let same : y ≡ x = cc in ap (λ z. z ∷ xs) same
-next_at (y ∷ xs) (suc i) x at = next_at xs i x at
-
 pub drop_next : {A : Type 0} (xs : List A) (i : ℕ) (x : A) → slice_get xs i ≡ Some x → drop i xs ≡ x ∷ drop (i + 1) xs
-drop_next xs i x at = let one : suc i ≡ i + 1 = omega arith in next_at xs i x at ∙ ap (λ k. x ∷ drop k xs) one
+drop_next xs i x at = let one : suc i ≡ i + 1 = omega arith in lists.drop_next xs i x at ∙ ap (λ k. x ∷ drop k xs) one
 
 past_at : {A : Type 0} (xs : List A) (i : ℕ) → slice_get xs i ≡ None → drop i xs ≡ []
 past_at [] zero at = refl
@@ -42,12 +40,6 @@ past_on [] zero none = refl
 past_on [] (suc i) none = refl
 past_on (x ∷ xs) zero none = absurd (cc)
 past_on (x ∷ xs) (suc i) none = past_on xs i none
-
-drop_past : {A : Type 0} (xs : List A) (i : ℕ) → length xs ≤ i → drop i xs ≡ []
-drop_past [] zero short = refl
-drop_past [] (suc i) short = refl
-drop_past (x ∷ xs) zero short = absurd (omega (arith, short))
-drop_past (x ∷ xs) (suc i) short = drop_past xs i (omega (arith, short))
 
 take_at : {A : Type 0} (xs : List A) (i : ℕ) (x : A) → slice_get xs i ≡ Some x → take (suc i) xs ≡ take i xs ++ x ∷ []
 take_at [] i x at = absurd (cc)
@@ -64,18 +56,6 @@ pub text_append : (xs ys : List (List ℕ)) → text_of (xs ++ ys) ≡ text_of x
 text_append [] ys = refl
 text_append (x ∷ xs) ys =
     ap (λ t. x ++ 10 ∷ t) (text_append xs ys) ∙ sym (append_assoc x (10 ∷ text_of xs) (text_of ys))
-
--- a part behind what is written
-pub part_behind : (old new part rest whole : List ℕ) → new ≡ old ++ part → old ++ (part ++ rest) ≡ whole
-    → new ++ rest ≡ whole
-part_behind old new part rest whole grown is = ap (λ (t : List ℕ). t ++ rest) grown ∙ append_assoc old part rest ∙ is
-
--- a line behind what is written
-pub line_behind : (old new line rest whole : List ℕ) → new ≡ old ++ (line ++ 10 ∷ [])
-    → old ++ (line ++ 10 ∷ rest) ≡ whole → new ++ rest ≡ whole
-line_behind old new line rest whole grown is =
-    part_behind old new (line ++ 10 ∷ []) rest whole grown
-    (ap (λ (t : List ℕ). old ++ t) (append_assoc line (10 ∷ []) rest) ∙ is)
 
 -- ---- the lines of a target
 

@@ -1,7 +1,6 @@
 // What is found of the definitions of a target where the inputs of leaves are tried.
 ghost use Rattle.std.specs.Prelude.{◌≡◌, ◌≤◌, ◌<◌, ℕ, [], false, true, IsTrue, IfOk, OnOk, IfSome, length, slice_get};
 ghost use Rattle.std.specs.Prelude.{take};
-ghost use Rattle.std.specs.List.{slice_range};
 ghost use Rattle.cat_scope.specs.Names.{AllHave};
 ghost use Rattle.cat_search.specs.Ways.{ask_below, way_from};
 ghost use Rattle.cat_dead_report.specs.RunLines.{weight, weight_of};
@@ -14,10 +13,11 @@ ghost use Rattle.cat_dead_report.specs.inside.Scenes.{IsScene};
 ghost use Rattle.cat_dead_report.specs.inside.Tries.{HasTried, HasTriedAt};
 ghost use Rattle.cat_dead_report.specs.inside.WonLeaves.{AreJudgedLeaves, IsTold, IsToldIf, led, won_by};
 
-use crate::hanging::{hang_alone, hang_somewhere};
+use crate::hanging::hang_somewhere;
 use crate::line::DeadLine;
 use crate::scene::TargetScene;
 use crate::tried::leaf_line;
+use cat_audit::{go_to, hang_alone};
 use cat_dead::{JudgedLeaf, LeafJudgement};
 use cat_guard::{Table, TreeNode};
 use cat_pool::Pool;
@@ -153,15 +153,6 @@ fn try_place(
         (led here.now.table.now way.now) known.old.items known.new.items) }
 {
     try_leaf(here, pool, way, won.pos, &mut known[won.place])
-}
-
-/// Goes on from a node to a later one.
-fn go_to(way: &mut Way, nodes: &[TreeNode], from: usize, to: usize) -> Result<(), AllocError>
-    requires order { from ≤ to }
-    requires within { to ≤ length nodes.now }
-    ensures { OnOk result (way.new ≡ way_from way.old (slice_range nodes.now from to)) }
-{
-    way.go_on(&nodes[from..to])
 }
 
 /// Whether a way leads to a leaf of one of the two passes: that through the leaves that hang on what a run computes, or

@@ -1,61 +1,25 @@
 -- The atoms that ways through searched trees ask.
-use Rattle.std.proofs.Common.{◌≡◌, ◌⊎◌, inl, inr, ℕ, zero, suc, ◌<◌, nat_lt, Bool, true, false, ◌&&◌, IsTrue}
-use Rattle.std.proofs.Common.{if◌then◌else◌, List, [], ◌∷◌, ◌++◌, length, take, Option, Some, None, refl, sym}
+use Rattle.std.proofs.Common.{◌≡◌, ℕ, zero, suc, ◌<◌, nat_lt, Bool, true, false, ◌&&◌, IsTrue}
+use Rattle.std.proofs.Common.{if◌then◌else◌, List, [], ◌∷◌, length, take, Option, Some, None, refl, sym}
 use Rattle.std.proofs.Common.{subst, arith}
-use Rattle.std.specs.List.{list_all}
 use Rattle.std.proofs.lemmas.Bool.Decides.{nat_tests}
 use Rattle.cat_region.specs.Regions.{Constraints}
 use Rattle.cat_scope.specs.Names.{AllHave, IsOneOf}
-use Rattle.cat_guard.specs.declared.guard.GuardDef.{GuardDef}
 use Rattle.cat_guard.specs.declared.table.Atom.{Atom}
 use Rattle.cat_guard.specs.declared.table.TableTarget.{TableTarget}
 use Rattle.cat_guard.specs.declared.table.Term.{Term}
 use Rattle.cat_guard.specs.declared.tree.TreeNode.{TreeNode}
 use Rattle.cat_guard.specs.declared.tree.TreeNode.TheVariants as node
-use Rattle.cat_guard.specs.Formulas.{asked}
-use Rattle.cat_guard.specs.GuardFormulas.{formula_of}
-use Rattle.cat_guard.specs.Soundness.{are_below, def_is_sound, target_is_sound, is_sound}
+use Rattle.cat_guard.specs.Soundness.{target_is_sound, is_sound}
 use Rattle.cat_guard.specs.Trees.{Tree, answering, node_before, trees_of, tree_of}
 use Rattle.cat_guard.specs.Trees as tree
 use Rattle.cat_guard.proofs.Exported.{all_more, both_true, targets_sound, sound_parts}
-use Rattle.cat_guard.specs.Judgements.{asked_in, atoms_in}
+use Rattle.cat_guard.specs.Judgements.{atoms_in}
 use Rattle.cat_search.specs.Searched.{IsSearched}
 use Rattle.cat_search.specs.declared.way.Answer.{Answer}
 use Rattle.cat_search.specs.Ways.{ask_below, turned, passed, way_from}
 use Rattle.cat_search.proofs.OnWayLemmas.{one_of}
-
--- ---- the atoms of a target are atoms of the table
-
-one_below : (bound a : ℕ) (ns : List ℕ) → IsTrue (are_below bound ns) → IsOneOf a ns → a < bound
-one_below bound a [] all among = absurd (among)
-one_below bound a (n ∷ ns) all (inl same) =
-    let two = both_true (nat_lt n bound) (are_below bound ns) all in
-    subst (λ (k : ℕ). k < bound) (sym same) (grind (arith, nat_tests, two.0))
-one_below bound a (n ∷ ns) all (inr among) =
-    one_below bound a ns (both_true (nat_lt n bound) (are_below bound ns) all).1 among
-
-one_of_two : {A : Type 0} (a : A) (xs ys : List A) → IsOneOf a (xs ++ ys) → IsOneOf a xs ⊎ IsOneOf a ys
-one_of_two a [] ys among = inr among
-one_of_two a (x ∷ xs) ys (inl same) = inl (inl same)
-one_of_two a (x ∷ xs) ys (inr among) = by (one_of_two a xs ys among)
-  where
-    by : IsOneOf a xs ⊎ IsOneOf a ys → IsOneOf a (x ∷ xs) ⊎ IsOneOf a ys
-    by (inl here) = inl (inr here)
-    by (inr there) = inr there
-
-def_below : (atoms a : ℕ) (defs : List GuardDef) → IsTrue (list_all (def_is_sound atoms) defs)
-    → IsOneOf a (asked_in defs) → a < atoms
-def_below atoms a [] all among = absurd (among)
-def_below atoms a (d ∷ defs) all among =
-    by (one_of_two a (asked (formula_of d.guard)) (asked_in defs) among) (def_below atoms a defs two.1)
-  where
-    two : IsTrue (def_is_sound atoms d) × IsTrue (list_all (def_is_sound atoms) defs)
-    two = both_true (def_is_sound atoms d) (list_all (def_is_sound atoms) defs) all
-
-    by : IsOneOf a (asked (formula_of d.guard)) ⊎ IsOneOf a (asked_in defs) → (IsOneOf a (asked_in defs) → a < atoms)
-        → a < atoms
-    by (inl here) rest = one_below atoms a (asked (formula_of d.guard)) two.0 here
-    by (inr there) rest = rest there
+use Rattle.cat_search.proofs.TargetLemmas.{def_below}
 
 -- ---- answers on ways
 

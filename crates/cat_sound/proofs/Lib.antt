@@ -14,6 +14,7 @@ pub mod Results
 pub mod Endings
 pub mod Fits
 pub mod FlatTypes
+pub mod Comparisons
 pub mod OperatorTypes
 pub mod ListTypes
 pub mod NamedParts

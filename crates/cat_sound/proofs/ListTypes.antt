@@ -30,7 +30,8 @@ use Rattle.cat_sound.proofs.Endings.{ends_then, ends_in_front, ends_choose, ends
 use Rattle.cat_scope.specs.declared.stop.Stop.{Stop}
 use Rattle.cat_sound.proofs.Fits.{whole_decimal}
 use Rattle.cat_sound.proofs.FlatTypes.{of-Boolean, of-Integer, of-Decimal, of-Money, of-Duration}
-use Rattle.cat_sound.proofs.OperatorTypes.{operators_go_on, equal-ends}
+use Rattle.cat_sound.proofs.Comparisons.{equal-ends}
+use Rattle.cat_sound.proofs.OperatorTypes.{operators_go_on, type_levels}
 
 -- what holds of the elements of a list of a type
 pub record AreElements (ds : Decls) (t : Ty) (vs : List Value) : Type 0 where
@@ -142,7 +143,8 @@ module _ (allowed : Allowed) (ds : Decls) (t : Ty) where
       → AllHave (IsOf ds t) vs → ResultsIn (IsOf ds ty.Boolean) (contained p w vs)
   contained-ends p w [] is hw h = of-Boolean ds false
   contained-ends p w (v ∷ vs) is hw h =
-      result_then (Any {A = Bool}) (IsOf ds ty.Boolean) (equal p v w) _ (equal-ends ds p v w t is h.0 hw)
+      result_then (Any {A = Bool}) (IsOf ds ty.Boolean) (equal p v w) _
+      (equal-ends (IsOf ds) (type_levels ds) p v w t is h.0 hw)
       (λ same hs. either_one same (contained p w vs) (contained-ends p w vs is hw h.1))
     where
       either_one : (same : Bool) (rest : Result Value Stop) → ResultsIn (IsOf ds ty.Boolean) rest

@@ -1,7 +1,6 @@
 -- Operators give values of the types of their rows, or their faults.
-use Rattle.std.proofs.Common.{◌≡◌, inl, inr, ℤ, pos, ◌+ℤ◌, ◌-ℤ◌, ◌*ℤ◌, Bool, not, List, [], ◌∷◌, map, Result, Ok, refl}
+use Rattle.std.proofs.Common.{◌≡◌, inl, inr, ℤ, pos, ◌+ℤ◌, ◌-ℤ◌, ◌*ℤ◌, Bool, not, [], ◌∷◌, Result, Ok}
 use Rattle.std.proofs.Common.{sym, ap, ◌∙◌, subst}
-use Rattle.std.specs.declared.cmp.Ordering.{Ordering}
 use Rattle.cat_pos.specs.declared.pos.Pos.{Pos}
 use Rattle.cat_num.specs.declared.fault.NumFault.{NumFault}
 use Rattle.cat_num.specs.Whole.{whole_sum, whole_difference, whole_product}
@@ -11,11 +10,10 @@ use Rattle.cat_date.specs.declared.fault.DateFault.{DateFault}
 use Rattle.cat_date.specs.declared.rounding.Rounding.{Rounding}
 use Rattle.cat_date.specs.Calendar.{civil_of}
 use Rattle.cat_date.specs.Add.{day_plus_span, date_plus_months}
-use Rattle.cat_date.specs.Span.{SpanOf, span_in_range, span_negated, span_of_days, compared_spans}
+use Rattle.cat_date.specs.Span.{SpanOf, span_in_range, span_negated, span_of_days}
 use Rattle.cat_value.specs.declared.ty.Ty.{Ty}
 use Rattle.cat_value.specs.declared.ty.Ty.TheVariants as ty
 use Rattle.cat_value.specs.declared.value.Value.{Value}
-use Rattle.cat_value.specs.declared.value.Value.TheOpen.{Value-F}
 use Rattle.cat_value.specs.declared.value.Value.TheVariants as flat
 use Rattle.cat_value.specs.declared.value.Value.TheViews as value
 use Rattle.cat_value.specs.declared.decls.Decls.{Decls}
@@ -29,18 +27,19 @@ use Rattle.cat_scope.specs.declared.stop.Stop.{Stop}
 use Rattle.cat_scope.specs.Replies.{on_one, exact, dated}
 use Rattle.cat_scope.specs.Projections as read
 use Rattle.cat_scope.specs.Operators.{on_two, convert, operate}
-use Rattle.cat_scope.specs.Comparing.{compared, compared_in, equal, equal_in, differ, is_less, is_greater}
+use Rattle.cat_scope.specs.Comparing.{differ, is_less, is_greater}
 use Rattle.cat_scope.specs.Names.{IsOneOf}
-use Rattle.cat_scope.specs.Signatures.{Signature, signatures_of, comparison, ordered_types, compared_types, taken_by}
+use Rattle.cat_scope.specs.Signatures.{Signature, signatures_of, taken_by}
 use Rattle.cat_scope.specs.Signatures.{given_by}
 use Rattle.cat_sound.specs.Endings.{ResultsIn, IsOf}
-use Rattle.cat_sound.proofs.Results.{Any, result_as, result_then, result_two, result_exact, reads-Boolean}
+use Rattle.cat_sound.proofs.Comparisons.{Levels, by_order, by_equality}
+use Rattle.cat_sound.proofs.Results.{Any, result_then, result_two, result_exact, reads-Boolean}
 use Rattle.cat_sound.proofs.Fits.{whole_fits, ratio_fits, negation_fits, ratio_decimal, frac_decimal, negation_decimal}
 use Rattle.cat_sound.proofs.Fits.{whole_decimal, cents_decimal, rounded_fits, truncated_fits, units_fit, year_fits}
 use Rattle.cat_sound.proofs.Fits.{month_fits, day_fits, negation_span, days_span, range_span, sum_day}
 use Rattle.cat_sound.proofs.FlatTypes.{IsDated, Whole, Frac, Day, Span, of-Boolean, of-Integer, of-Decimal, of-Money}
 use Rattle.cat_sound.proofs.FlatTypes.{of-Date, of-Duration, reads-Integer, reads-Decimal, reads-Money, reads-Date}
-use Rattle.cat_sound.proofs.FlatTypes.{reads-Duration, result_dated, range-dated, sum-dated, compared-dated}
+use Rattle.cat_sound.proofs.FlatTypes.{reads-Duration, result_dated, range-dated, sum-dated}
 
 -- how the values of a flat type are read, and what holds of what is read
 record Reading (ds : Decls) (A : Type 0) (t : Ty) : Type 1 where
@@ -133,133 +132,17 @@ conversions_go_on ds p v unary.DayOfDate is = one ds v (days ds) ty.Integer _ is
 
 -- ---- comparisons
 
-module _ (ds : Decls) (p : Pos) (v w : Value) where
-  compared-at : (y : Value-F Value) → value.out-Value v ≡ y → ResultsIn (Any {A = Ordering}) (compared_in p y w)
-      → ResultsIn (Any {A = Ordering}) (compared p v w)
-  compared-at y is h =
-      result_as (Any {A = Ordering}) (compared p v w) (compared_in p y w) (ap (λ x. compared_in p x w) is) h
-
-  equal-at : (y : Value-F Value) → value.out-Value v ≡ y → ResultsIn (Any {A = Bool}) (equal_in p y v w)
-      → ResultsIn (Any {A = Bool}) (equal p v w)
-  equal-at y is h = result_as (Any {A = Bool}) (equal p v w) (equal_in p y v w) (ap (λ x. equal_in p x v w) is) h
-
-  compared-Integer : IsOf ds ty.Integer v → IsOf ds ty.Integer w → ResultsIn (Any {A = Ordering}) (compared p v w)
-  compared-Integer hv hw =
-      let is = integer_value ds v hv in
-      compared-at (Value-F.Integer is.0) (ap value.out-Value is.1 ∙ value.outs-Integer is.0)
-      (result_then Whole (Any {A = Ordering}) (read.integer w) _ (reads-Integer ds w hw) (λ b hb. tt))
-
-  compared-Decimal : IsOf ds ty.Decimal v → IsOf ds ty.Decimal w → ResultsIn (Any {A = Ordering}) (compared p v w)
-  compared-Decimal hv hw =
-      let is = decimal_value ds v hv in
-      compared-at (Value-F.Decimal is.0) (ap value.out-Value is.1 ∙ value.outs-Decimal is.0)
-      (result_then Frac (Any {A = Ordering}) (read.decimal w) _ (reads-Decimal ds w hw) (λ b hb. tt))
-
-  compared-Money : IsOf ds ty.Money v → IsOf ds ty.Money w → ResultsIn (Any {A = Ordering}) (compared p v w)
-  compared-Money hv hw =
-      let is = money_value ds v hv in
-      compared-at (Value-F.Money is.0) (ap value.out-Value is.1 ∙ value.outs-Money is.0)
-      (result_then Whole (Any {A = Ordering}) (read.money w) _ (reads-Money ds w hw) (λ b hb. tt))
-
-  compared-Date : IsOf ds ty.Date v → IsOf ds ty.Date w → ResultsIn (Any {A = Ordering}) (compared p v w)
-  compared-Date hv hw =
-      let is = date_value ds v hv in
-      compared-at (Value-F.Date is.0) (ap value.out-Value is.1 ∙ value.outs-Date is.0)
-      (result_then Day (Any {A = Ordering}) (read.date w) _ (reads-Date ds w hw) (λ b hb. tt))
-
-  compared-Duration : IsOf ds ty.Duration v → IsOf ds ty.Duration w → ResultsIn (Any {A = Ordering}) (compared p v w)
-  compared-Duration hv hw =
-      let is = duration_value ds v hv in
-      compared-at (Value-F.Duration is.0) (ap value.out-Value is.1 ∙ value.outs-Duration is.0)
-      (result_then Span (Any {A = Ordering}) (read.duration w) _ (reads-Duration ds w hw)
-      (λ b hb. result_dated (Any {A = Ordering}) p (λ o. o) (compared_spans is.0 b) (compared-dated is.0 b)
-      (λ o e. tt)))
-
-  at : (t u : Ty) (x : Value) → t ≡ u → IsOf ds t x → IsOf ds u x
-  at t u x e h = subst (λ s. IsOf ds s x) e h
-
-  compared-ends : (t : Ty) → IsOneOf t ordered_types → IsOf ds t v → IsOf ds t w
-      → ResultsIn (Any {A = Ordering}) (compared p v w)
-  compared-ends t (inl e) hv hw = compared-Integer (at t ty.Integer v e hv) (at t ty.Integer w e hw)
-  compared-ends t (inr (inl e)) hv hw = compared-Decimal (at t ty.Decimal v e hv) (at t ty.Decimal w e hw)
-  compared-ends t (inr (inr (inl e))) hv hw = compared-Money (at t ty.Money v e hv) (at t ty.Money w e hw)
-  compared-ends t (inr (inr (inr (inl e)))) hv hw = compared-Date (at t ty.Date v e hv) (at t ty.Date w e hw)
-  compared-ends t (inr (inr (inr (inr (inl e))))) hv hw =
-      compared-Duration (at t ty.Duration v e hv) (at t ty.Duration w e hw)
-  compared-ends t (inr (inr (inr (inr (inr none))))) hv hw = elim none [ ]
-
-  equal-Boolean : IsOf ds ty.Boolean v → IsOf ds ty.Boolean w → ResultsIn (Any {A = Bool}) (equal p v w)
-  equal-Boolean hv hw =
-      let is = boolean_value ds v hv in
-      equal-at (Value-F.Boolean is.0) (ap value.out-Value is.1 ∙ value.outs-Boolean is.0)
-      (result_then (Any {A = Bool}) (Any {A = Bool}) (read.truth w) _ (reads-Boolean ds w hw) (λ b h. tt))
-
-  -- what has an order is equal where neither is less
-  equal-ordered : (t : Ty) → IsOneOf t ordered_types → IsOf ds t v → IsOf ds t w
-      → ResultsIn (Any {A = Bool}) (equal p v w)
-  equal-ordered t (inl e) hv hw =
-      let is = integer_value ds v (at t ty.Integer v e hv) in
-      equal-at (Value-F.Integer is.0) (ap value.out-Value is.1 ∙ value.outs-Integer is.0)
-      (result_then (Any {A = Ordering}) (Any {A = Bool}) (compared p v w) _
-      (compared-Integer (at t ty.Integer v e hv) (at t ty.Integer w e hw)) (λ o h. tt))
-  equal-ordered t (inr (inl e)) hv hw =
-      let is = decimal_value ds v (at t ty.Decimal v e hv) in
-      equal-at (Value-F.Decimal is.0) (ap value.out-Value is.1 ∙ value.outs-Decimal is.0)
-      (result_then (Any {A = Ordering}) (Any {A = Bool}) (compared p v w) _
-      (compared-Decimal (at t ty.Decimal v e hv) (at t ty.Decimal w e hw)) (λ o h. tt))
-  equal-ordered t (inr (inr (inl e))) hv hw =
-      let is = money_value ds v (at t ty.Money v e hv) in
-      equal-at (Value-F.Money is.0) (ap value.out-Value is.1 ∙ value.outs-Money is.0)
-      (result_then (Any {A = Ordering}) (Any {A = Bool}) (compared p v w) _
-      (compared-Money (at t ty.Money v e hv) (at t ty.Money w e hw)) (λ o h. tt))
-  equal-ordered t (inr (inr (inr (inl e)))) hv hw =
-      let is = date_value ds v (at t ty.Date v e hv) in
-      equal-at (Value-F.Date is.0) (ap value.out-Value is.1 ∙ value.outs-Date is.0)
-      (result_then (Any {A = Ordering}) (Any {A = Bool}) (compared p v w) _
-      (compared-Date (at t ty.Date v e hv) (at t ty.Date w e hw)) (λ o h. tt))
-  equal-ordered t (inr (inr (inr (inr (inl e))))) hv hw =
-      let is = duration_value ds v (at t ty.Duration v e hv) in
-      equal-at (Value-F.Duration is.0) (ap value.out-Value is.1 ∙ value.outs-Duration is.0)
-      (result_then (Any {A = Ordering}) (Any {A = Bool}) (compared p v w) _
-      (compared-Duration (at t ty.Duration v e hv) (at t ty.Duration w e hw)) (λ o h. tt))
-  equal-ordered t (inr (inr (inr (inr (inr none))))) hv hw = elim none [ ]
-
-  pub equal-ends : (t : Ty) → IsOneOf t compared_types → IsOf ds t v → IsOf ds t w
-      → ResultsIn (Any {A = Bool}) (equal p v w)
-  equal-ends t (inl e) hv hw = equal-Boolean (at t ty.Boolean v e hv) (at t ty.Boolean w e hw)
-  equal-ends t (inr more) hv hw = equal-ordered t more hv hw
-
--- among the signatures of comparisons of some types is that of one of them
-pub signature_in : (signature : Signature) (ts : List Ty) → IsOneOf signature (map comparison ts) → (t : Ty) × IsOneOf t ts
-    × (signature ≡ comparison t)
-signature_in signature [] h = elim h [ ]
-signature_in signature (t ∷ ts) (inl e) = (t, inl refl, e)
-signature_in signature (t ∷ ts) (inr h) = let rest = signature_in signature ts h in (rest.0, inr rest.1, rest.2)
-
-module _ (ds : Decls) (p : Pos) (v w : Value) (signature : Signature) where
-  by_order : (next : Ordering → Bool) → IsOneOf signature (map comparison ordered_types) → IsOf ds signature.left v
-      → IsOf ds signature.right w
-      → ResultsIn (IsOf ds signature.result) (on_one (compared p v w) (λ x. Ok (flat.Boolean (next x))))
-  by_order next is hv hw =
-      let t = signature_in signature ordered_types is in
-      subst (λ u. ResultsIn (IsOf ds u) (on_one (compared p v w) (λ x. Ok (flat.Boolean (next x)))))
-      (sym (ap (λ x. x.result) t.2))
-      (result_then (Any {A = Ordering}) (IsOf ds ty.Boolean) (compared p v w) _
-      (compared-ends ds p v w t.0 t.1 (subst (λ u. IsOf ds u v) (ap (λ x. x.left) t.2) hv)
-      (subst (λ u. IsOf ds u w) (ap (λ x. x.right) t.2) hw))
-      (λ x h. of-Boolean ds (next x)))
-
-  by_equality : (next : Bool → Bool) → IsOneOf signature (map comparison compared_types) → IsOf ds signature.left v
-      → IsOf ds signature.right w
-      → ResultsIn (IsOf ds signature.result) (on_one (equal p v w) (λ x. Ok (flat.Boolean (next x))))
-  by_equality next is hv hw =
-      let t = signature_in signature compared_types is in
-      subst (λ u. ResultsIn (IsOf ds u) (on_one (equal p v w) (λ x. Ok (flat.Boolean (next x)))))
-      (sym (ap (λ x. x.result) t.2))
-      (result_then (Any {A = Bool}) (IsOf ds ty.Boolean) (equal p v w) _
-      (equal-ends ds p v w t.0 t.1 (subst (λ u. IsOf ds u v) (ap (λ x. x.left) t.2) hv)
-      (subst (λ u. IsOf ds u w) (ap (λ x. x.right) t.2) hw))
-      (λ x h. of-Boolean ds (next x)))
+-- a value that is of a flat type has a level
+pub type_levels : (ds : Decls) → Levels (IsOf ds)
+type_levels ds = record {
+  truth = λ v h. let is = boolean_value ds v h in (is.0, ap value.out-Value is.1 ∙ value.outs-Boolean is.0);
+  integer = λ v h. let is = integer_value ds v h in (is.0, ap value.out-Value is.1 ∙ value.outs-Integer is.0);
+  decimal = λ v h. let is = decimal_value ds v h in (is.0, ap value.out-Value is.1 ∙ value.outs-Decimal is.0);
+  money = λ v h. let is = money_value ds v h in (is.0, ap value.out-Value is.1 ∙ value.outs-Money is.0);
+  date = λ v h. let is = date_value ds v h in (is.0, ap value.out-Value is.1 ∙ value.outs-Date is.0);
+  duration = λ v h. let is = duration_value ds v h in (is.0, ap value.out-Value is.1 ∙ value.outs-Duration is.0);
+  has_truth = λ a. of-Boolean ds a;
+}
 
 -- ---- what stands between two operands
 
@@ -356,11 +239,15 @@ operators_go_on ds r p v w signature binary.SubtractDates is hv hw =
 operators_go_on ds r p v w signature binary.Xor is hv hw =
     two ds v w signature (truths ds) (truths ds) ty.Boolean _ is hv hw
     (λ a b ha hb. of-Boolean ds (differ a b))
-operators_go_on ds r p v w signature binary.Less is hv hw = by_order ds p v w signature is_less is hv hw
+operators_go_on ds r p v w signature binary.Less is hv hw =
+    by_order (IsOf ds) (type_levels ds) p v w signature is_less is hv hw
 operators_go_on ds r p v w signature binary.AtMost is hv hw =
-    by_order ds p v w signature (λ x. not (is_greater x)) is hv hw
-operators_go_on ds r p v w signature binary.Greater is hv hw = by_order ds p v w signature is_greater is hv hw
+    by_order (IsOf ds) (type_levels ds) p v w signature (λ x. not (is_greater x)) is hv hw
+operators_go_on ds r p v w signature binary.Greater is hv hw =
+    by_order (IsOf ds) (type_levels ds) p v w signature is_greater is hv hw
 operators_go_on ds r p v w signature binary.AtLeast is hv hw =
-    by_order ds p v w signature (λ x. not (is_less x)) is hv hw
-operators_go_on ds r p v w signature binary.Equal is hv hw = by_equality ds p v w signature (λ x. x) is hv hw
-operators_go_on ds r p v w signature binary.Unequal is hv hw = by_equality ds p v w signature not is hv hw
+    by_order (IsOf ds) (type_levels ds) p v w signature (λ x. not (is_less x)) is hv hw
+operators_go_on ds r p v w signature binary.Equal is hv hw =
+    by_equality (IsOf ds) (type_levels ds) p v w signature (λ x. x) is hv hw
+operators_go_on ds r p v w signature binary.Unequal is hv hw =
+    by_equality (IsOf ds) (type_levels ds) p v w signature not is hv hw

@@ -8,6 +8,7 @@ use Rattle.cat_value.specs.declared.decls.Decls.{Decls}
 use Rattle.cat_value.specs.declared.declaration.Kind.{Kind}
 use Rattle.cat_value.specs.declared.declaration.Kind.TheVariants as kind
 use Rattle.cat_value.specs.declared.declaration.ItemDecl.{ItemDecl}
+use Rattle.cat_value.specs.Inputs.{may_be_given}
 use Rattle.cat_scope.specs.declared.expr.Expr.{Expr}
 use Rattle.cat_scope.specs.declared.defs.Def.{Def}
 use Rattle.cat_value.specs.declared.outcome.Target.{Target}
@@ -22,7 +23,7 @@ use Rattle.cat_scope.specs.Composed.{part}
 use Rattle.cat_scope.specs.Orders.{called_by_items}
 use Rattle.cat_scope.specs.Mentions.{scopes_named}
 use Rattle.cat_scope.specs.WellFormed.{ConditionTyped, AssertionTyped}
-use Rattle.cat_scope.specs.Naming.{IsTargetAt}
+use Rattle.cat_scope.specs.Naming.{IsTargetAt, IsInner}
 use Rattle.cat_scope.specs.Calls.{Items, Scoped, env_of, judging_of}
 use Rattle.cat_sound.specs.Endings.{Allowed, EndsIn, ResultsIn, IsOf, AreOf}
 use Rattle.cat_sound.specs.Endings.{IsCallable, IsEnvOf, IsReady}
@@ -58,6 +59,23 @@ unique_target ns item (Some n) ps qs t u h g =
     same_some h.decl g.decl
     (sym h.decl_is ∙ ap (λ s. slice_get (scope_items ns.decls s) n) scope ∙ g.decl_is) in
     (h.params_are ∙ sym g.params_are, h.ty_is ∙ ap (λ (i : ItemDecl). i.ty) inner ∙ sym g.ty_is)
+
+-- an item of a called scope that may be given is a target of the calling scope
+pub inner_target : (ns : Names) (item : ℕ) (called : ItemDecl) (s j : ℕ) (decl : ItemDecl)
+    → slice_get ns.items item ≡ Some called → called.kind ≡ kind.Called s
+    → slice_get (scope_items ns.decls s) j ≡ Some decl → IsTrue (may_be_given decl.kind)
+    → IsInner ns item j [] decl.ty
+inner_target ns item called s j decl called_is kind_is decl_is given = record {
+  called = called;
+  scope = s;
+  decl = decl;
+  called_is = called_is;
+  kind_is = kind_is;
+  decl_is = decl_is;
+  given = given;
+  params_are = refl;
+  ty_is = refl;
+}
 
 pub inner_is : (a b : Option ℕ) → IsTrue (same_inner a b) → a ≡ b
 inner_is None None h = refl

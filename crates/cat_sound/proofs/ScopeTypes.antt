@@ -16,7 +16,6 @@ use Rattle.cat_scope.specs.Names.{has_none}
 use Rattle.cat_scope.specs.Naming.{IsCalledOutput}
 use Rattle.cat_scope.specs.Judging.{Judged, decided}
 use Rattle.cat_scope.specs.Composed.{part}
-use Rattle.cat_scope.specs.Naming.{IsInner}
 use Rattle.cat_scope.specs.Calls.{Items, Scoped, variable, variable_of_called, items_of, env_of, judging_of}
 use Rattle.cat_scope.specs.Calls.{variable_value}
 use Rattle.cat_scope.specs.Calls.{call}
@@ -31,7 +30,8 @@ use Rattle.cat_sound.proofs.TargetTypes.{all_more}
 use Rattle.cat_sound.proofs.TargetTypes.{decided-ends}
 use Rattle.cat_sound.proofs.OrderFacts.{AllIn, Behind}
 use Rattle.cat_sound.proofs.InputTypes.{output-ends, Callee, passed_input-ends}
-use Rattle.cat_sound.proofs.ScopeParts.{DoneAt, IsDone, IsSound, called_is, names_of, not_both, same_called}
+use Rattle.cat_sound.proofs.ScopeParts.{DoneAt, IsDone, IsSound, called_is, inner_target, names_of, not_both}
+use Rattle.cat_sound.proofs.ScopeParts.{same_called}
 use Rattle.cat_sound.proofs.JudgedTypes.{own-judging_of, ready, variable_value-ends}
 
 module _ (allowed : Allowed) (ds : Decls) (scoped : Scoped) (needs : ℕ → List ℕ)
@@ -154,17 +154,7 @@ module _ (allowed : Allowed) (ds : Decls) (scoped : Scoped) (needs : ℕ → Lis
               (allowed.may_stop (variable_of_called scoped item (0 + j)) || may_be_empty ns item (Some (0 + j))) ds
               i.ty) (decided (variable_of_called scoped item (0 + j)) (judged_at (0 + j)))
           inner-decided j i is may =
-              let inner : IsInner ns item (0 + j) [] i.ty = record {
-                called = decl;
-                scope = s;
-                decl = i;
-                called_is = at;
-                kind_is = is_kind;
-                decl_is = is;
-                given = may;
-                params_are = refl;
-                ty_is = refl;
-              } in
+              let inner = inner_target ns item decl s (0 + j) i at is_kind is may in
               let judging = sound.judged (call scoped values before) values [] item
               (Some (0 + j)) [] i.ty inner tt readies in
               decided-ends allowed

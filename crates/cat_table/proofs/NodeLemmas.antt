@@ -17,7 +17,8 @@ use Rattle.cat_search.specs.Searched.{everything, IsSearched}
 use Rattle.cat_search.specs.Ways.{ask_below, led_to, passed, turned, way_from}
 use Rattle.cat_table.specs.Conditions.{Naming}
 use Rattle.cat_table.specs.Rows.{Row, answered, ended, row_text, rows_from, rows_text, shown_text}
-use Rattle.cat_table.specs.inside.Nodes.{row_at, node_text, nodes_text, leaves_among}
+use Rattle.cat_table.specs.Leaves.{leaves_among}
+use Rattle.cat_table.specs.inside.Nodes.{row_at, node_text, nodes_text}
 use Rattle.cat_table.specs.inside.Walking.{AreReached}
 
 -- ---- nodes

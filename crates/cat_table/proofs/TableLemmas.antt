@@ -1,12 +1,12 @@
 -- The tree of a search, and the table by it.
-use Rattle.std.proofs.Common.{◌≡◌, ◌∙◌, ℕ, zero, suc, IsTrue, List, [], ◌∷◌, ◌++◌, length, take}
+use Rattle.std.proofs.Common.{◌≡◌, ◌∙◌, ℕ, IsTrue, List, [], ◌++◌, length, take}
 use Rattle.std.proofs.Common.{Option, Some, None, slice_get, refl, sym, ap, subst, true≢false, append_assoc}
 use Rattle.std.specs.Prelude.{IfSome}
 use Rattle.cat_value.specs.declared.decls.Decls.{Decls}
 use Rattle.cat_value.specs.declared.declaration.ItemDecl.{ItemDecl}
 use Rattle.cat_value.specs.declared.declaration.Scope.{Scope}
 use Rattle.cat_region.specs.Regions.{Constraints}
-use Rattle.cat_scope.specs.Names.{AllHave, items_in}
+use Rattle.cat_scope.specs.Names.{items_in}
 use Rattle.cat_guard.specs.declared.table.Term.{Term}
 use Rattle.cat_guard.specs.declared.table.Atom.{Atom}
 use Rattle.cat_guard.specs.declared.table.Table.{Table}
@@ -21,7 +21,8 @@ use Rattle.cat_table.specs.Conditions.{Naming}
 use Rattle.cat_table.specs.Kept.{AreKept}
 use Rattle.cat_table.specs.Rows.{end_text, ended, first_line, leaves_in, naming, nodes_in, rows_from, rows_in, rows_of}
 use Rattle.cat_table.specs.Rows.{rows_text, table_by}
-use Rattle.cat_table.specs.inside.Nodes.{leaves_among, nodes_text}
+use Rattle.cat_table.specs.Leaves.{leaves_among}
+use Rattle.cat_table.specs.inside.Nodes.{nodes_text}
 use Rattle.cat_table.proofs.NodeLemmas.{all_lines, leaves_are}
 
 -- ---- a target that is there
@@ -32,11 +33,6 @@ at_some P o t is p = subst (λ o. IfSome o P) is p
 pub if_some : {A : Type 0} {Q : A → Type 0} (o : Option A) → ((t : A) → o ≡ Some t → Q t) → IfSome o Q
 if_some None go = tt
 if_some (Some t) go = go t refl
-
-pub all_at : {A : Type 0} (P : A → Type 0) (xs : List A) (n : ℕ) (x : A) → AllHave P xs → slice_get xs n ≡ Some x → P x
-all_at P [] n x all is = absurd (cc)
-all_at P (y ∷ xs) zero x all is = let same : y ≡ x = cc in subst P same all.0
-all_at P (y ∷ xs) (suc n) x all is = all_at P xs n x all.1 is
 
 -- ---- the tree of a search
 

@@ -1,27 +1,17 @@
 -- Tables that are made one after the other.
-use Rattle.std.proofs.Common.{◌≡◌, ◌∙◌, ◌||◌, ◌+◌, ◌≤◌, ℕ, zero, suc, Bool, true, false, if◌then◌else◌, List, []}
-use Rattle.std.proofs.Common.{◌∷◌, ◌++◌, drop, length, Option, Some, slice_get, refl, sym, ap, subst, arith}
+use Rattle.std.proofs.Common.{◌≡◌, ◌∙◌, ◌||◌, ◌+◌, ◌≤◌, ℕ, Bool, true, false, if◌then◌else◌, List, []}
+use Rattle.std.proofs.Common.{◌∷◌, ◌++◌, drop, length, Option, Some, slice_get, refl, sym, ap, subst}
 use Rattle.std.proofs.Common.{append_assoc, add-one}
 use Rattle.std.proofs.lemmas.List.{append-nil}
 use Rattle.cat_value.specs.declared.decls.Decls.{Decls}
 use Rattle.cat_guard.specs.declared.table.Table.{Table}
 use Rattle.cat_guard.specs.declared.table.TableTarget.{TableTarget}
+use Rattle.cat_audit_sound.proofs.Lists.{drop_next, drop_past}
 use Rattle.cat_table.specs.Rows.{table_text}
 use Rattle.cat_table.specs.Wanted.{AreTables, is_spent, is_wanted, wanted_of}
 use Rattle.cat_table.specs.inside.OneTable.{IsOneTable}
 
 -- ---- lists
-
-drop_next : {A : Type 0} (xs : List A) (i : ℕ) (x : A) → slice_get xs i ≡ Some x → drop i xs ≡ x ∷ drop (suc i) xs
-drop_next [] i x e = absurd (cc e)
-drop_next (y ∷ xs) zero x e = let same : y ≡ x = cc e in ap (λ z. z ∷ xs) same
-drop_next (y ∷ xs) (suc i) x e = drop_next xs i x e
-
-drop_past : {A : Type 0} (xs : List A) (n : ℕ) → length xs ≤ n → drop n xs ≡ []
-drop_past [] zero short = refl
-drop_past [] (suc n) short = refl
-drop_past (x ∷ xs) zero short = absurd (omega (arith, short))
-drop_past (x ∷ xs) (suc n) short = drop_past xs n (omega (arith, short))
 
 -- the rest from an element on
 pub rest_at : {A : Type 0} (xs : List A) (i : ℕ) (x : A) → slice_get xs i ≡ Some x → drop i xs ≡ x ∷ drop (i + 1) xs

@@ -3,6 +3,7 @@ pub mod Told
 pub mod Conditions
 pub mod Results
 pub mod Rows
+pub mod Leaves
 pub mod Kept
 pub mod Wanted
 pub mod Judgings

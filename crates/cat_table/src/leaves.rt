@@ -7,9 +7,10 @@ ghost use Rattle.cat_guard.specs.Trees.{tree_of};
 ghost use Rattle.cat_guard.specs.Valuations.{dims_of};
 ghost use Rattle.cat_search.specs.Searched.{everything};
 ghost use Rattle.cat_search.specs.Ways.{ask_below, led_to, way_from};
+ghost use Rattle.cat_table.specs.Leaves.{leaf_of, leaves_among};
 ghost use Rattle.cat_table.specs.Rows as rows;
 ghost use Rattle.cat_table.specs.inside.Here.{naming_at};
-ghost use Rattle.cat_table.specs.inside.Nodes.{leaf_of, leaves_among, node_text, nodes_text};
+ghost use Rattle.cat_table.specs.inside.Nodes.{node_text, nodes_text};
 ghost use Rattle.cat_table.specs.inside.Walking.{AreReached};
 
 use crate::lines::push_row;
@@ -41,7 +42,7 @@ fn leaf_of(node: &TreeNode) -> usize
 }
 
 /// The leaves among nodes.
-fn leaves_among(nodes: &[TreeNode]) -> usize
+pub fn leaves_among(nodes: &[TreeNode]) -> usize
     ensures { result ≡ leaves_among nodes.now }
 {
     let mut leaves = 0usize;

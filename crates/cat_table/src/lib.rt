@@ -19,6 +19,7 @@ mod wanted;
 pub use laws::{
     expressions_tell_their_types, judgings_agree_with_their_lines, tables_say_what_decides,
 };
+pub use leaves::leaves_among;
 pub use named_type::NamedType;
 pub use table::table_text;
 pub use tables::{TableTexts, tables_text};

@@ -1,6 +1,7 @@
 pub mod Lists
 pub mod MeetingLemmas
 pub mod StandLemmas
+pub mod SplitLemmas
 pub mod WalkLemmas
 pub mod ClosedLaws
 pub mod SkipLemmas

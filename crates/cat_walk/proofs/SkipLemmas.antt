@@ -28,7 +28,8 @@ use Rattle.cat_region.specs.Sides.{along, turns}
 use Rattle.cat_walk.specs.inside.Walking.{uncovered_at, trees_met, leaves_met, regions_along, AreFit}
 use Rattle.cat_walk.proofs.ClosedLaws.{answered, answered_dims}
 use Rattle.cat_walk.proofs.StandLemmas.{Makes, leaves_met-append}
-use Rattle.cat_walk.proofs.WalkLemmas.{split_there, leaf_there, GoesOn, Passes}
+use Rattle.cat_walk.proofs.WalkLemmas.{leaf_there, GoesOn, Passes}
+use Rattle.cat_walk.proofs.SplitLemmas.{split_there}
 
 -- ---- as many leaves as regions
 

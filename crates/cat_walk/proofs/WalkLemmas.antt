@@ -1,13 +1,11 @@
 -- A walk goes on from one node to the next.
-use Rattle.std.proofs.Common.{◌≡◌, ℕ, suc, ◌+◌, ◌<◌, ◌≤◌, nat_lt, max, Bool, true, false, not, ◌&&◌, ◌||◌, IsTrue}
-use Rattle.std.proofs.Common.{if◌then◌else◌, List, [], ◌∷◌, ◌++◌, length, Option, Some, None, Result, Ok, Err}
+use Rattle.std.proofs.Common.{◌≡◌, ℕ, ◌+◌, ◌<◌, Bool, true, false, not, ◌||◌}
+use Rattle.std.proofs.Common.{if◌then◌else◌, List, [], ◌∷◌, length, Option, Some, None, Result, Ok, Err}
 use Rattle.std.proofs.Common.{slice_get}
-use Rattle.std.proofs.Common.{IfSome, refl, sym, ap, ◌∙◌, subst, arith, append_assoc, append-nil}
-use Rattle.std.proofs.lemmas.Bool.Decides.{nat_tests}
-use Rattle.std.proofs.Math.Nat.{le-max_left, le-max_right}
+use Rattle.std.proofs.Common.{IfSome, refl, sym, ap, ◌∙◌, subst, arith, append-nil}
 use Rattle.std.specs.List.{list_any}
 use Rattle.cat_region.specs.declared.narrowing.Narrowing.{Narrowing}
-use Rattle.cat_region.specs.Regions.{Constraints, with_narrowing}
+use Rattle.cat_region.specs.Regions.{Constraints}
 use Rattle.cat_region.specs.Decided.{admits_none}
 use Rattle.cat_region.specs.Sides.{along, turns, Turns}
 use Rattle.cat_region.proofs.Exported.{along_dims, none_alike}
@@ -15,17 +13,17 @@ use Rattle.cat_guard.specs.declared.table.Atom.{Atom}
 use Rattle.cat_guard.specs.declared.table.TableTarget.{TableTarget}
 use Rattle.cat_guard.specs.declared.tree.TreeNode.TheVariants as node
 use Rattle.cat_guard.specs.Judged.{answers_in, covers}
-use Rattle.cat_guard.specs.Trees.{Tree, node_before, height, answering, with_answer}
+use Rattle.cat_guard.specs.Trees.{Tree, node_before, answering}
 use Rattle.cat_guard.specs.Trees as tree
 use Rattle.cat_guard.specs.Verdicts.{verdict_of}
-use Rattle.cat_guard.proofs.Exported.{both_true, answers_alike}
+use Rattle.cat_guard.proofs.Exported.{answers_alike}
 use Rattle.cat_walk.specs.declared.place.NodePlace.{NodePlace}
 use Rattle.cat_walk.specs.declared.refusal.WalkRefusal.{WalkRefusal}
 use Rattle.cat_walk.specs.declared.refusal.WalkRefusal.TheVariants as why
 use Rattle.cat_walk.specs.declared.meeting.Met.{Met}
 use Rattle.cat_walk.specs.declared.meeting.Met.TheVariants as met
 use Rattle.cat_walk.specs.Coverage.{leaf_regions, is_uncovered, first_place, Answers, AnswersOf}
-use Rattle.cat_walk.specs.Walkable.{splits_below, IsWalkable}
+use Rattle.cat_walk.specs.Walkable.{IsWalkable}
 use Rattle.cat_walk.specs.inside.Walking.{uncovered_at, trees_met, leaves_met, regions_along, AreFit, IsUnderWay}
 use Rattle.cat_guard.specs.declared.tree.CitedTree.{CitedTree}
 use Rattle.cat_guard.specs.Trees.{expanded}
@@ -33,6 +31,7 @@ use Rattle.cat_walk.specs.LeafPlaces.{lists_of, leaf_places}
 use Rattle.cat_walk.specs.inside.Meetings.{are_earlier, start_of, met_in_list, to_come}
 use Rattle.cat_walk.proofs.StandLemmas.{MakesSome, stands}
 use Rattle.cat_walk.proofs.Lists.{there}
+use Rattle.cat_walk.proofs.SplitLemmas.{IsAtSplit, IsDown, at_split}
 
 -- ---- what is covered doesn't hang on the room
 
@@ -56,20 +55,6 @@ told_of atoms None region places t answer told = tt
 told_of atoms (Some target) region places t answer told = told
 
 -- ---- trees of what is met
-
-pub record IsSplit (a : ℕ) (o : Option (List Tree)) (trees : List Tree) : Type 0 where
-  pub left : Tree
-  pub right : Tree
-  pub rest : List Tree
-  pub is : o ≡ Some (left ∷ right ∷ rest)
-  pub same : trees ≡ tree.Split a left right ∷ rest
-
-pub split_there : (a : ℕ) (o : Option (List Tree)) (trees : List Tree) → node_before (node.Split a) o ≡ Some trees
-    → IsSplit a o trees
-split_there a None trees h = absurd (cc)
-split_there a (Some []) trees h = absurd (cc)
-split_there a (Some (l ∷ [])) trees h = absurd (cc)
-split_there a (Some (l ∷ r ∷ rest)) trees h = record { left = l; right = r; rest = rest; is = refl; same = cc }
 
 pub record IsLeaf (o : Option (List Tree)) (trees : List Tree) : Type 0 where
   pub rest : List Tree
@@ -148,102 +133,29 @@ module _ (atoms : List Atom) (o : Option TableTarget) (base : Constraints)
 
   -- a split
   module _ (region : Constraints) (a : ℕ) (ms : List Met) (walk : GoesOn region (met.Split a ∷ ms)) where
-    abbrev split : IsSplit a (trees_met ms) walk.trees
-    split = split_there a (trees_met ms) walk.trees walk.made
-
-    abbrev fits : AreFit (length atoms) base.room (walk.path ∷ turns walk.path)
-        (tree.Split a split.left split.right ∷ split.rest)
-    fits = subst (AreFit (length atoms) base.room (walk.path ∷ turns walk.path)) split.same walk.fit
-
-    parts : IsTrue (nat_lt a (length atoms)) × IsTrue (splits_below (length atoms) split.left)
-        × IsTrue (splits_below (length atoms) split.right)
-    parts =
-        let two = both_true (nat_lt a (length atoms) && splits_below (length atoms) split.left)
-        (splits_below (length atoms) split.right) fits.0.splits in
-        let first = both_true (nat_lt a (length atoms)) (splits_below (length atoms) split.left) two.0 in
-        (first.0, first.1, two.1)
+    here : IsAtSplit atoms base region a (trees_met ms) walk.path walk.trees
+    here = at_split atoms base region a (trees_met ms) walk.path walk.trees walk.made walk.here walk.fit
 
     pub split_atom : a < length atoms
-    split_atom = let below = parts.0 in grind (arith, nat_tests, below)
-
-    high : length walk.path + (1 + max (height split.left) (height split.right)) ≤ base.room
-    high = fits.0.low
+    split_atom = here.atom
 
     pub split_room : 0 < region.room
-    split_room =
-        let left = walk.here.room in
-        let up = high in
-        omega (arith, left, up)
+    split_room = here.room
 
-    -- a side has room
-    side_room : (side : Tree) → height side ≤ max (height split.left) (height split.right)
-        → suc (length walk.path) + height side ≤ base.room
-    side_room side h =
-        let up = high in
-        omega (arith, h, up)
-
-    module _ (after : Constraints) (dims : after.dims ≡ region.dims)
-        (narrowings : after.narrowings ≡ (answering atoms region a true).narrowings)
-        (room : after.room + 1 ≡ region.room) where
-      abbrev atom : Atom
-      atom = (there atoms a split_atom).value
-
-      found : slice_get atoms a ≡ Some atom
-      found = (there atoms a split_atom).is
-
-      -- the narrowing of a side
-      abbrev side : Bool → Narrowing
-      side b = record { dim = atom.term; cut = atom.cut; yes = b }
-
-      answered : (r : Constraints) (b : Bool) → answering atoms r a b ≡ with_narrowing r (side b)
-      answered r b = ap (λ x. with_answer r x b) found
-
-      abbrev rest_regions : List Constraints
-      rest_regions = regions_along atoms base (turns walk.path) split.rest
-
-      same_regions : regions_along atoms base (walk.path ∷ turns walk.path) walk.trees
-          ≡ leaf_regions atoms (along base (side true ∷ walk.path)) split.left
-          ++ (leaf_regions atoms (along base (side false ∷ walk.path)) split.right ++ rest_regions)
-      same_regions =
-          ap (regions_along atoms base (walk.path ∷ turns walk.path)) split.same
-          ∙ ap (λ r. leaf_regions atoms r split.left
-          ++ leaf_regions atoms (answering atoms (along base walk.path) a false) split.right ++ rest_regions)
-          (answered (along base walk.path) true)
-          ∙ ap (λ r. leaf_regions atoms (along base (side true ∷ walk.path)) split.left
-          ++ leaf_regions atoms r split.right ++ rest_regions)
-          (answered (along base walk.path) false)
-          ∙ append_assoc (leaf_regions atoms (along base (side true ∷ walk.path)) split.left)
-          (leaf_regions atoms (along base (side false ∷ walk.path)) split.right) rest_regions
-
-      pub goes_down : GoesOn after ms
-      goes_down = record {
-        path = side true ∷ walk.path;
-        trees = split.left ∷ split.right ∷ split.rest;
-        here = record {
-          dims = dims ∙ walk.here.dims;
-          narrowings =
-              narrowings ∙ ap (λ r. r.narrowings) (answered region true)
-              ∙ ap (λ ns. ns ++ side true ∷ []) walk.here.narrowings;
-          room = let left = walk.here.room in omega (arith, left, room);
-        };
-        made = split.is;
-        fit = (
-          record {
-            splits = parts.1;
-            low = side_room split.left (le-max_left (height split.left) (height split.right));
-          },
-          (
-            record {
-              splits = parts.2;
-              low = side_room split.right (le-max_right (height split.left) (height split.right));
-            },
-            fits.1,
-          ),
-        );
-        rest = λ answer told. walk.rest answer
-            (subst (λ (rs : List Constraints). Answers test (leaves_met ms) rs answer)
-            (sym same_regions) told);
-      }
+    pub goes_down : (after : Constraints) → after.dims ≡ region.dims
+        → after.narrowings ≡ (answering atoms region a true).narrowings → after.room + 1 ≡ region.room → GoesOn after ms
+    goes_down after dims narrowings room = on (here.down after dims narrowings room)
+      where
+        on : IsDown atoms base after walk.path walk.trees here.sides → GoesOn after ms
+        on down = record {
+          path = down.way;
+          trees = here.sides;
+          here = down.here;
+          made = here.is;
+          fit = down.fit;
+          rest = λ answer told. walk.rest answer
+              (subst (λ (rs : List Constraints). Answers test (leaves_met ms) rs answer) (sym down.regions) told);
+        }
 
   -- a leaf
   module _ (region : Constraints) (place : NodePlace) (ms : List Met) (walk : GoesOn region (met.Leaf place ∷ ms)) where

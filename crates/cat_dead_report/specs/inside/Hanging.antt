@@ -1,30 +1,10 @@
 -- On what the regions of ways hang.
-use Rattle.std.specs.Prelude.{Bool, true, false, ◌&&◌, List, [], ◌∷◌, Option, None, Some, slice_get}
-use Rattle.std.specs.List.{list_all, list_any}
-use Rattle.cat_guard.specs.declared.table.Atom.{Atom}
+use Rattle.std.specs.Prelude.{Bool, List}
+use Rattle.std.specs.List.{list_any}
 use Rattle.cat_guard.specs.declared.table.Table.{Table}
-use Rattle.cat_guard.specs.declared.table.Term.{Term}
 use Rattle.cat_search.specs.declared.way.Answer.{Answer}
-use Rattle.cat_audit.specs.Findings.{is_derived}
+use Rattle.cat_audit.specs.Hanging.{asks_derived}
 
--- there is an atom, and it is one of a derived term
-abbrev pub is_of_derived : List Term → Option Atom → Bool
-is_of_derived terms None = false
-is_of_derived terms (Some atom) = is_derived (slice_get terms atom.term)
-
--- an answer is to an atom of a derived term
-abbrev pub asks_derived : Table → Answer → Bool
-asks_derived table n = is_of_derived table.terms (slice_get table.atoms n.atom)
-
--- one of some answers is
+-- one of some answers is to an atom of a derived term
 abbrev pub hang_somewhere : Table → List Answer → Bool
 hang_somewhere table way = list_any (asks_derived table) way
-
--- there are answers
-abbrev pub are_some : List Answer → Bool
-are_some [] = false
-are_some (n ∷ way) = true
-
--- there are, and each is to an atom of a derived term
-abbrev pub hang_alone : Table → List Answer → Bool
-hang_alone table way = are_some way && list_all (asks_derived table) way

@@ -1,5 +1,5 @@
 -- The lines of a tree's leaves, by its nodes from one on.
-use Rattle.std.specs.Prelude.{ℕ, ◌+◌, true, List, [], ◌∷◌, ◌++◌, reverse}
+use Rattle.std.specs.Prelude.{ℕ, true, List, [], ◌∷◌, ◌++◌, reverse}
 use Rattle.cat_guard.specs.declared.table.Table.{Table}
 use Rattle.cat_guard.specs.declared.table.TableTarget.{TableTarget}
 use Rattle.cat_guard.specs.declared.tree.TreeNode.{TreeNode}
@@ -23,15 +23,3 @@ node_text ns table t way n = []
 abbrev pub nodes_text : Naming → Table → TableTarget → List Answer → List TreeNode → List ℕ
 nodes_text ns table t way [] = []
 nodes_text ns table t way (n ∷ nodes) = node_text ns table t way n ++ nodes_text ns table t (passed n way) nodes
-
--- ---- counts
-
--- a leaf counts for one
-abbrev pub leaf_of : TreeNode → ℕ
-leaf_of node.Leaf = 1
-leaf_of n = 0
-
--- the leaves among nodes
-abbrev pub leaves_among : List TreeNode → ℕ
-leaves_among [] = 0
-leaves_among (n ∷ ns) = leaf_of n + leaves_among ns

@@ -6,7 +6,8 @@ use Rattle.cat_cert.specs.Lines.{ScopeDue, TargetDue, heading_line, tree_lines}
 use Rattle.cat_cert.specs.Texts.{text_of}
 use Rattle.cat_dead_report.specs.DeadReports.{cited_tree}
 use Rattle.cat_dead.specs.DeadTexts.{first_line}
-use Rattle.cat_dead_report.proofs.WritingLemmas.{Dues, dues_passed, ends_pushed, next_due, part_behind, text_append}
+use Rattle.cat_audit.proofs.BackLemmas.{part_behind}
+use Rattle.cat_dead_report.proofs.WritingLemmas.{Dues, dues_passed, ends_pushed, next_due, text_append}
 use Rattle.cat_dead_report.proofs.certificate.push_certificate.Goals as goal
 
 pub loop-number-preserved : goal.loop-number-preserved

@@ -1,5 +1,6 @@
 use Rattle.std.proofs.Common.{◌∙◌, sym, ap}
-use Rattle.cat_dead_report.specs.inside.Hanging.{asks_derived, hang_somewhere}
+use Rattle.cat_audit.specs.Hanging.{asks_derived}
+use Rattle.cat_dead_report.specs.inside.Hanging.{hang_somewhere}
 use Rattle.cat_dead_report.proofs.WonLemmas.{any_reversed, apart}
 use Rattle.cat_dead_report.proofs.found.is_in_pass.Goals as goal
 

@@ -5,7 +5,8 @@ use Rattle.std.proofs.lemmas.Option.{slice_get_read}
 use Rattle.cat_guard.specs.declared.guard.GuardDef.{GuardDef}
 use Rattle.cat_cert.specs.Texts.{text_of}
 use Rattle.cat_dead_report.specs.ReportLines.{dead_line}
-use Rattle.cat_dead_report.proofs.WritingLemmas.{next_line, passed_line, passed_all, line_behind}
+use Rattle.cat_audit.proofs.BackLemmas.{line_behind}
+use Rattle.cat_dead_report.proofs.WritingLemmas.{next_line, passed_line, passed_all}
 use Rattle.cat_dead_report.proofs.text.push_target.Goals as goal
 
 pub loop-number-preserved-in_default : goal.loop-number-preserved-in_default

@@ -3,7 +3,8 @@ use Rattle.std.proofs.Common.{append-nil, string_bytes}
 use Rattle.std.proofs.lemmas.Option.{slice_get_read}
 use Rattle.cat_cert.specs.Texts.{text_of}
 use Rattle.cat_dead_report.specs.ReportLines.{lines_of, target_lines}
-use Rattle.cat_dead_report.proofs.WritingLemmas.{next_target, all_passed, part_behind}
+use Rattle.cat_audit.proofs.BackLemmas.{part_behind}
+use Rattle.cat_dead_report.proofs.WritingLemmas.{next_target, all_passed}
 use Rattle.cat_dead_report.proofs.text.push_targets.Goals as goal
 
 pub loop-number-preserved : goal.loop-number-preserved

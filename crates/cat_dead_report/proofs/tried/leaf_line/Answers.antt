@@ -18,7 +18,7 @@ use Rattle.cat_dead.specs.Winners.{winner_in}
 use Rattle.cat_dead_report.specs.Deciders.{has_decider}
 use Rattle.cat_dead_report.specs.RunLines.{decides_in}
 use Rattle.cat_dead_report.specs.inside.Faultless.{IsFaultless}
-use Rattle.cat_dead_report.proofs.FreeLemmas.{is_free}
+use Rattle.cat_audit.proofs.FindingLemmas.{is_free}
 use Rattle.cat_dead_report.proofs.RunLemmas.{line_said, logged, some_outcome, sure_parts}
 use Rattle.cat_dead_report.proofs.tried.leaf_line.Goals as goal
 

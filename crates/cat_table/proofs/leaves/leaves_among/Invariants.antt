@@ -1,5 +1,5 @@
 use Rattle.std.proofs.Common.{◌≡◌, ◌≤◌, ◌+◌, drop}
-use Rattle.cat_table.specs.inside.Nodes.{leaves_among}
+use Rattle.cat_table.specs.Leaves.{leaves_among}
 use Rattle.cat_table.proofs.leaves.leaves_among.Given as goal
 
 abbrev pub invariant-loop-node : goal.invariant-loop-node

@@ -1,5 +1,5 @@
 use Rattle.std.proofs.Common.{◌∙◌, ap}
-use Rattle.cat_table.specs.inside.Nodes.{leaves_among}
+use Rattle.cat_table.specs.Leaves.{leaves_among}
 use Rattle.cat_table.proofs.TableLemmas.{leaves_counted}
 use Rattle.cat_table.proofs.leaves.leaves_in.Goals as goal
 

@@ -3,7 +3,8 @@ use Rattle.std.specs.Prelude.{IfSome}
 use Rattle.cat_search.specs.Searched.{IsSearchOf}
 use Rattle.cat_table.specs.Conditions.{Naming}
 use Rattle.cat_table.specs.Rows.{naming, table_by}
-use Rattle.cat_table.proofs.TableLemmas.{all_at, at_some, found_tree, if_some, named_here, rows_keep}
+use Rattle.cat_sound.proofs.Exported.{all_at}
+use Rattle.cat_table.proofs.TableLemmas.{at_some, found_tree, if_some, named_here, rows_keep}
 use Rattle.cat_table.proofs.table.table_text.Goals as goal
 
 pub returns-clause-text : goal.returns-clause-text

@@ -9,7 +9,8 @@ use Rattle.cat_table.specs.inside.Here.{naming_at}
 use Rattle.cat_table.specs.inside.Nodes.{nodes_text}
 use Rattle.cat_table.specs.inside.Walking.{AreReached}
 use Rattle.cat_table.proofs.NodeLemmas.{all_reached}
-use Rattle.cat_table.proofs.TableLemmas.{all_at, asked_in, at_some, found_tree, if_some, table_made}
+use Rattle.cat_sound.proofs.Exported.{all_at}
+use Rattle.cat_table.proofs.TableLemmas.{asked_in, at_some, found_tree, if_some, table_made}
 use Rattle.cat_table.proofs.table.written.Goals as goal
 
 pub push_rows-requires-clause-asked : goal.push_rows-requires-clause-asked
