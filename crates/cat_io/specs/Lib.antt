@@ -1,5 +1,6 @@
 pub mod Shelf
 pub mod Sink
+pub mod Gathered
 pub mod Count
 -- what the shelves and sinks in memory have and answer
 pub mod Stored

@@ -3,6 +3,7 @@
 
 mod calls;
 mod disk_shelf;
+mod gathered;
 mod mem_shelf;
 mod mem_sink;
 mod names;
@@ -13,6 +14,7 @@ mod sink;
 mod std_sink;
 
 pub use disk_shelf::DiskShelf;
+pub use gathered::Gathered;
 pub use mem_shelf::MemShelf;
 pub use mem_sink::MemSink;
 pub use pure_shelf::PureShelf;

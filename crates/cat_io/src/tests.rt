@@ -1,8 +1,8 @@
 //! Each shelf and sink through its trait, and the system's files and output at its edge.
 use crate::disk_shelf::read_to_limit;
 use crate::{
-    DiskShelf, MemShelf, MemSink, PureShelf, PureSink, ShelfFault, Sink, SinkFault, StdSink,
-    read_all,
+    DiskShelf, Gathered, MemShelf, MemSink, PureShelf, PureSink, ShelfFault, Sink, SinkFault,
+    StdSink, read_all,
 };
 use std::alloc::{AllocError, Global};
 use std::cell::Cell;
@@ -96,6 +96,54 @@ fn sinks_in_memory_take_what_fits(rt: HostRuntime) -> Result<(), Fail> {
         );
     }
     assert_eq!(rt; listed.taken(), b"abcde".as_slice());
+    Ok(())
+}
+
+#[test]
+fn pieces_are_put_once_they_pass_64_kib(rt: HostRuntime) -> Result<(), Fail> {
+    let alloc = rt.alloc();
+    let mut sink = PureSink::new(alloc, 200_000)?;
+    let mut gathered = Gathered::new(alloc);
+    let mut all = Vec::new(alloc);
+    for (byte, length, taken) in [
+        (b'a', 0, 0),
+        (b'b', 65_535, 0),
+        (b'c', 1, 0),
+        (b'd', 1, 65_536),
+        (b'e', 65_536, 65_537),
+        (b'f', 65_537, 196_610),
+        (b'g', 3, 196_610),
+    ] {
+        let piece = vec![in alloc; byte; length]?;
+        all.extend_from_slice(&piece)?;
+        assert!(rt; gathered.add(&piece, &mut sink).is_ok(), "{length}");
+        assert_eq!(rt; sink.taken().len(), taken, "{length}");
+    }
+    assert!(rt; gathered.put_all(&mut sink).is_ok());
+    assert!(rt; sink.taken() == all.as_slice());
+    Ok(())
+}
+
+#[test]
+fn a_put_that_fails_leaves_nothing_gathered(rt: HostRuntime) -> Result<(), Fail> {
+    let alloc = rt.alloc();
+    let half = vec![in alloc; b'h'; 40_000]?;
+    let long = vec![in alloc; b'l'; 65_537]?;
+    for (first, second, third, want) in [
+        (half.as_slice(), half.as_slice(), half.as_slice(), 40_001),
+        (b"one".as_slice(), b"two".as_slice(), long.as_slice(), 7),
+    ] {
+        let mut sink = MemSink::new(alloc, 100_000, Vec::from_slice(alloc, &[2])?)?;
+        let mut gathered = Gathered::new(alloc);
+        assert!(rt; gathered.put_all(&mut sink).is_ok());
+        assert!(rt; gathered.add(first, &mut sink).is_ok());
+        assert!(rt; gathered.add(second, &mut sink).is_ok());
+        assert!(rt; gathered.add(third, &mut sink).is_err());
+        assert!(rt; gathered.put_all(&mut sink).is_ok());
+        assert!(rt; gathered.add(b".", &mut sink).is_ok());
+        assert!(rt; gathered.put_all(&mut sink).is_ok());
+        assert_eq!(rt; sink.taken().len(), want);
+    }
     Ok(())
 }
 
