@@ -231,7 +231,9 @@ def audited():
     """Audits of the most definitions and of the most leaves."""
     lines = ['  definition x under condition n %s consequence equals %d' % (asked, k) for k, asked in
              enumerate(['< 0'] + ['>= %d and n < %d' % (k, k + 1) for k in range(65534)] + ['>= 65534'])]
-    bands = {'a.md': block(HEAD + lines).encode()}
+    # A file has no room for all of them.
+    half = len(lines) // 2
+    bands = {'a.md': (block(HEAD + lines[:half]) + '\n> Include: b.md\n').encode(), 'b.md': block(['scope S:'] + lines[half:]).encode()}
     yield Edge('definitions of an audit', bands, ['audit', 'S', 'a.md'], b'', 0, b'audit S\nx: Covered\nverdict Complete\n')
     few = {'a.md': block(HEAD + lines[:3] + ['  definition x under condition n >= 2 consequence equals 9']).encode()}
     for leaves, status in (('1', 7), ('1000000', 0), ('0', 9), ('1000001', 9)):
