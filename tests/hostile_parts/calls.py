@@ -33,6 +33,7 @@ CALLS = [
     call('emit with an input', 'emit All a.md input.json', 0),
     call('trace', 'trace All a.md input.json', 0),
     call('many', 'many All a.md inputs.json', 0),
+    call('many long lines', 'many All a.md long.json', 0),
     call('tables', 'table All a.md', 0),
     call('a table', 'table Bands a.md band', 0),
     call('a table with a rest', 'table Bands a.md --cases 1', 7),
@@ -56,6 +57,9 @@ CALLS = [
     call('missing file', 'run All a.md missing.json', 10),
 ]
 
+# So many bytes of lines are gathered, and the bytes of keys whose lines pass that: together, and one by itself.
+GATHERED = 2**16
+LONG = (30_000, 30_000, 30_000, 70_000, 1, 2)
 SYMBOLS = ': . , ; ( ) [ ] { } + - -- * / = != < <= > >='.split()
 
 
@@ -64,6 +68,24 @@ def lacking():
     text = ''.join((SOURCE / name).read_text() for name in ('a.md', 'b.md'))
     words = [word for word in (*sorted(KEYWORDS), *PAIRS) if not re.search(r'\b%s\b' % word, text)]
     return words + [symbol for symbol in SYMBOLS if symbol not in SYMBOL.findall(text)]
+
+
+def puts(words, reply):
+    """The pieces in which a reply is written: all of it at once, but of many inputs whole lines, gathered as far as they may be."""
+    if words[0] != 'many':
+        return [reply]
+    pieces = []
+    for line in reply.splitlines(True):
+        if pieces and len(pieces[-1]) + len(line) <= GATHERED:
+            pieces[-1] += line
+        else:
+            pieces.append(line)
+    return pieces
+
+
+def with_keys(given, lengths):
+    """An array of an input with a key that it hasn't, which the line of each names: of so many bytes."""
+    return b'[%s]' % b','.join(given.replace(b'{', b'{"%s":1,' % (b'k' * length), 1) for length in lengths)
 
 
 @functools.cache
@@ -76,4 +98,5 @@ def files():
     failed, refused = given.replace(b'"n":42', b'"n":7777'), given.replace(b'"n":42', b'"n":4.2')
     return {**kept, 'certificate': certificate, 'dead': certified, 'both.json': b'{"income":10}', 'none.json': b'{"income":95}',
             'failed.json': failed, 'refused.json': refused, 'inputs.json': b'[%s]' % b','.join((given, refused, failed, given)),
+            'long.json': with_keys(given, LONG),
             'refused.md': kept['a.md'].replace(b'most equals 100', b'most equals true')}

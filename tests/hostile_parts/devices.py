@@ -1,7 +1,7 @@
 """Each open, read and write of each call fails, and gives less than was asked; and files, inputs and outputs that are no plain ones."""
 import errno, functools
 
-from .calls import CALLS
+from .calls import CALLS, puts
 from .odd_files import odd_files
 from .pieces import Piece, Tried
 from .refusing import LAST, Refusing, has_compiler, library
@@ -33,10 +33,13 @@ def failing(runs, call, is_sample):
     """Each open, read and write fails with each error."""
     right = runs.answer(call)
     asked = runs.asked(call)
+    pieces = puts(call.words, right.out)
+    writes = sum(kind == 'write' for kind, _ in asked)
+    yield Tried('writes of whole pieces', call.name, '' if writes == len(pieces) else '%d writes of %d pieces' % (writes, len(pieces)))
     for kind, errors in (('open', OPENS), ('read', READS), ('write', WRITES)):
         names = [name.encode() for of, name in asked if of == kind]
         for k, name in enumerate(names, 1):
-            before = b''.join(right.out.splitlines(True)[:k - 1]) if call.words[0] == 'many' else b''
+            before = b''.join(pieces[:k - 1])
             for error in errors[:FEW] + (errno.ENOMEM,) if is_sample else errors:
                 ended, want = runs.refused(call, kind, k, k, error), due(kind, name, error, right, before)
                 what = '%s %d, %s' % (call.name, k, errno.errorcode[error])

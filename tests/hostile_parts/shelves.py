@@ -6,13 +6,15 @@ from oracle_sources import shown
 from reference.cases import TOP
 from reference.modes import replies
 
-from .calls import files
+from .calls import files, puts, with_keys
 from .odd_bytes import PLAIN
 from .pieces import Piece, Tried
 
 HERE = pathlib.Path(__file__).resolve().parent
 NEEDED = 'cat_probe: cat_io cat_app cat_rows\n'
 SECONDS = 1_200
+# The bytes of keys whose lines pass together what is gathered, and that the probe's output has room for.
+LONG = (40_000, 40_000, 1)
 FAILING = {'read': 'a read', 'put': 'a put', 'room': 'what is past a room'}
 
 
@@ -34,8 +36,9 @@ def calls():
     array = b'[%s,{},%s]' % (given, given)
     for words, more, last in (
             ('run All a.md', {'-': given}, '-'), ('run All a.md input.json', {'input.json': given}, 'input.json'),
-            ('many All a.md', {'-': array}, '-'), ('trace All a.md', {'-': given}, '-'), ('emit All a.md -', {'-': given}, '-'),
-            ('emit All a.md', {}, ''), ('audit All a.md', {}, ''), ('audit Bands a.md', {}, ''),
+            ('many All a.md', {'-': array}, '-'), ('many All a.md', {'-': with_keys(given, LONG)}, '-'),
+            ('trace All a.md', {'-': given}, '-'), ('emit All a.md -', {'-': given}, '-'), ('emit All a.md', {}, ''),
+            ('audit All a.md', {}, ''), ('audit Bands a.md', {}, ''),
             ('check Bands a.md', {'-': every['certificate']}, '-'), ('check Bands a.md older', {'older': every['older']}, 'older'),
             ('table All a.md', {}, ''), ('table Bands a.md band', {}, ''), ('dead All a.md', {}, ''),
             ('dead Bands a.md dead', {'dead': every['dead']}, 'dead'), ('run All a.md none', {}, 'none'), ('run None a.md', {}, ''),
@@ -55,10 +58,10 @@ def due():
         yield line('read', 0, words, now), status, text
         for k, name in enumerate(names, 1):
             yield line('read', k, words, now), 11, 'read fault %s\n' % name
-        puts = text.splitlines(True) if words[0] == 'many' else [text]
-        for k in range(1, len(puts) + 1):
-            yield line('put', k, words, now), 12, ''.join(puts[:k - 1])
-        fronts = [''.join(puts[:k]) for k in range(len(puts) + 1)]
+        pieces = puts(words, text.encode())
+        fronts = [b''.join(pieces[:k]).decode() for k in range(len(pieces) + 1)]
+        for k in range(1, len(pieces) + 1):
+            yield line('put', k, words, now), 12, fronts[k - 1]
         for room in sorted({0, 1, len(text) // 2, len(text) - 1, len(text), len(text) + 1}):
             taken = [front for front in fronts if len(front.encode()) <= room][-1]
             yield line('room', room, words, now), status if taken == text else 12, taken

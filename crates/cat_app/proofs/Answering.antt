@@ -1,7 +1,7 @@
 -- How the answers of a text at once and of many inputs' lines stand beside each other.
-use Rattle.std.proofs.Common.{◌≡◌, ◌≢◌, ◌≤◌, ◌<◌, ◌+◌, ℕ, zero, suc, List, [], ◌∷◌, length, take, refl, ap, subst}
-use Rattle.std.proofs.Common.{inr, arith, ⊎_elim}
-use Rattle.std.specs.Prelude.{Option, Some, None, IfSome, IsSomeAnd, slice_get}
+use Rattle.std.proofs.Common.{◌≡◌, ◌≢◌, ◌≤◌, ◌<◌, ◌+◌, ℕ, zero, suc, List, [], ◌∷◌, length, take, drop, refl, ap}
+use Rattle.std.proofs.Common.{subst, inr, arith, ⊎_elim}
+use Rattle.std.specs.Prelude.{Option, Some, None, IfSome, IsSomeAnd}
 use Rattle.std.specs.List.{concat}
 use Rattle.std.proofs.lemmas.List.{length-append}
 use Rattle.cat_io.specs.Shelf.{Shelved}
@@ -76,15 +76,22 @@ lines_answer words old new sink sunk ended read is puts = inr (by (request_of wo
 of_room : (o : Option ℕ) (room : ℕ) (P : ℕ → Type 0) → o ≡ Some room → IfSome o P → P room
 of_room o room P is holds = subst (λ (x : Option ℕ). IfSome x P) is holds
 
--- the lines in front of one, and that one, are no longer than all
-room_for_front : (lines : List (List ℕ)) (count : ℕ) (piece : List ℕ) → slice_get lines count ≡ Some piece
-    → length (concat (take count lines)) + length piece ≤ length (concat lines)
-room_for_front [] count piece at = cc at
-room_for_front (l ∷ lines) zero piece at =
-    let same : l ≡ piece = cc at in omega (arith, length-append l (concat lines), ap length same)
-room_for_front (l ∷ lines) (suc k) piece at =
+room_for_some : (lines : List (List ℕ)) (count : ℕ) → length (concat (take count lines)) ≤ length (concat lines)
+room_for_some [] zero = omega arith
+room_for_some [] (suc k) = omega arith
+room_for_some (l ∷ lines) zero = omega arith
+room_for_some (l ∷ lines) (suc k) =
     let front = length-append l (concat (take k lines)) in
-    omega (arith, front, length-append l (concat lines), room_for_front lines k piece at)
+    omega (arith, front, length-append l (concat lines), room_for_some lines k)
+
+-- the lines in front of some, and these, are no longer than all
+room_for_front : (lines : List (List ℕ)) (count more : ℕ)
+    → length (concat (take count lines)) + length (concat (take more (drop count lines))) ≤ length (concat lines)
+room_for_front lines zero more = omega (arith, room_for_some lines more)
+room_for_front [] (suc k) more = omega (arith, room_for_some [] more)
+room_for_front (l ∷ lines) (suc k) more =
+    let front = length-append l (concat (take k lines)) in
+    omega (arith, front, length-append l (concat lines), room_for_front lines k more)
 
 too_long : (a b : Option ℕ) (room m n all : ℕ) → a ≡ Some room → Shrinks a b m → IfSome b (λ r. r < n) → m + n ≤ all
     → all ≤ room → ⊥
@@ -111,9 +118,9 @@ module _ (words : List (List ℕ)) (old new : Shelved) (sink sunk : Sunk) (room 
   fits_by_line lines status.Fine few is = ((λ e. cc e), steady_of is.steady)
   fits_by_line lines status.Memory few is = ((λ e. cc e), steady_of is.1.steady)
   fits_by_line lines status.WriteFault few is =
-      absurd (too_long sink.room is.between.room room (length (concat (take is.count lines))) (length is.piece)
-      (length (concat lines)) told is.before.room is.failed.full (room_for_front lines is.count is.piece is.piece_is)
-      few)
+      absurd (too_long sink.room is.between.room room (length (concat (take is.count lines)))
+      (length (concat (take is.more (drop is.count lines)))) (length (concat lines)) told is.before.room is.failed.full
+      (room_for_front lines is.count is.more) few)
   fits_by_line lines _ few is = absurd is
 
   fits : (ended : Status) → Answers words old new sink sunk ended

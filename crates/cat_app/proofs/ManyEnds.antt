@@ -4,6 +4,7 @@ use Rattle.std.specs.Prelude.{Ok, IfSome, IsNone, IsSomeAnd, IsTrue, length}
 use Rattle.std.specs.Io.KnownBytes.{Appends}
 use Rattle.cat_io.specs.Shelf.{Shelved}
 use Rattle.cat_io.specs.Sink.{Sunk}
+use Rattle.cat_io.proofs.Taking.{nothing_more}
 use Rattle.cat_scope.specs.declared.programs.Program.{Program}
 use Rattle.cat_json.specs.InputsRead.{inputs_read}
 use Rattle.cat_weave.specs.declared.source.Source.{Source}
@@ -21,7 +22,6 @@ use Rattle.cat_app.proofs.Answering.{asked_here}
 use Rattle.cat_app.proofs.Complete.{FilesAreTold, answer_is, extra_is, not_large, not_missing, program_of}
 use Rattle.cat_app.proofs.Complete.{refused_source, refused_usage, scope_of, source_is}
 use Rattle.cat_app.proofs.DeadAsked.{dead_asked}
-use Rattle.cat_app.proofs.ManyLemmas.{nothing_more}
 use Rattle.cat_app.proofs.ToldSources.{AreNotAccepted, EndingsAreTold, IsOneProgram}
 
 first_lines : (program : Program) (scope : ℕ) (names : List (List ℕ)) (count : ℕ) (rs : List ReadInput)

@@ -1,18 +1,20 @@
--- The lines of many inputs, as they are put one by one.
-use Rattle.std.proofs.Common.{◌≡◌, ◌≢◌, ◌∙◌, ◌+◌, ℕ, zero, suc, true, false, List, [], ◌∷◌, ◌++◌}
-use Rattle.std.proofs.Common.{length, take, refl, sym, ap, subst, arith}
-use Rattle.std.specs.Prelude.{Option, Some, None, Ok, Err, Result, IfSome, is_some, option_map, slice_get}
+-- The lines of many inputs, as they are gathered and put.
+use Rattle.std.proofs.Common.{◌≡◌, ◌≢◌, ◌∙◌, ◌⊎◌, ℕ, zero, suc, true, false, List, [], ◌∷◌, ◌++◌}
+use Rattle.std.proofs.Common.{length, take, drop, refl, sym, ap, subst, inl, ⊎_elim}
+use Rattle.std.specs.Prelude.{Option, Some, None, Ok, Err, Result, is_some, option_map, slice_get}
 use Rattle.std.specs.Result.{is_err}
 use Rattle.std.specs.List.{concat}
-use Rattle.std.specs.Io.KnownBytes.{Appends}
-use Rattle.std.proofs.lemmas.List.{append-nil, append_assoc, length-append}
+use Rattle.std.proofs.lemmas.List.{append-nil, append_assoc}
 use Rattle.std.proofs.lemmas.List.Folds.{concat-append}
 use Rattle.std.proofs.Math.Logic.{∥∥₁_elim}
+use Rattle.std.proofs.Math.Seq.{drop-append_seam, take-append_seam}
 use Rattle.std.proofs.Props.{props}
 use Rattle.serde_json.specs.Data.{Data, Items, no_items, item}
 use Rattle.serde_json.specs.Find.{as_array}
-use Rattle.cat_io.specs.Sink.{FailedAt, Puts, Shrinks, Sunk, Took}
+use Rattle.cat_io.specs.Gathered.{Adds, FailedBehind}
+use Rattle.cat_io.specs.Sink.{FailedAt, Sunk, Took}
 use Rattle.cat_io.specs.declared.sink.SinkFault.{SinkFault}
+use Rattle.cat_io.proofs.Taking.{took_more, took_nothing}
 use Rattle.cat_value.specs.declared.outcome.Outcome.{Outcome}
 use Rattle.cat_value.specs.declared.decls.Decls.{Decls}
 use Rattle.cat_value.specs.declared.declaration.ItemDecl.{ItemDecl}
@@ -28,73 +30,53 @@ use Rattle.cat_json.specs.declared.refusal.Reason.TheVariants as reason
 use Rattle.cat_json.specs.Paths.{Reading, path_text}
 use Rattle.cat_json.specs.InputsRead.{AreWellTyped, Input, answered, array_inputs, each_input, input_in}
 use Rattle.cat_json.specs.InputsRead.{items_of, json_of, read_from, refusal_of}
-use Rattle.cat_app.specs.Many.{AreLines, ReadInput, TookFirst, outcome_line, element_line}
-use Rattle.cat_app.specs.inside.Reading.{AreRead, IsReadInput, PutsEach, TookLines}
+use Rattle.cat_app.specs.Many.{AreLines, FailedAtLines, ReadInput, TookFirst, outcome_line, element_line}
+use Rattle.cat_app.specs.inside.Reading.{AreRead, GathersLines, IsReadInput, PutsAtOnce, PutsEach}
+use Rattle.cat_app.specs.declared.status.Status.{Status}
 use Rattle.cat_app.specs.declared.status.Status.TheVariants as status
 
--- ---- what was put one behind the other
+-- ---- what was put and what was not
 
-pub nothing_more : (o : Option (List ℕ)) → Appends o o []
-nothing_more None = tt
-nothing_more (Some xs) = sym (append-nil xs)
+added : (piece gathered after : List ℕ) (sink sunk : Sunk) (r : Result (Unit {0}) SinkFault) → false ≡ is_err r
+    → Adds piece gathered after sink sunk r → Adds piece gathered after sink sunk (Ok tt)
+added piece gathered after sink sunk (Ok done) is adds = adds
+added piece gathered after sink sunk (Err fault) is adds = cc is
 
-appends_more : (a b c : Option (List ℕ)) (p q : List ℕ) → Appends a b p → Appends b c q → Appends a c (p ++ q)
-appends_more None b c p q one two = tt
-appends_more (Some xs) None c p q one two = absurd one
-appends_more (Some xs) (Some ys) None p q one two = absurd two
-appends_more (Some xs) (Some ys) (Some zs) p q one two =
-    two ∙ (ap (λ (ws : List ℕ). ws ++ q) one ∙ append_assoc xs p q)
-
-no_less : (o : Option ℕ) → Shrinks o o 0
-no_less None = tt
-no_less (Some r) = omega arith
-
-shrinks_more : (a b c : Option ℕ) (m n : ℕ) → Shrinks a b m → Shrinks b c n → Shrinks a c (m + n)
-shrinks_more None b c m n one two = tt
-shrinks_more (Some r) None c m n one two = absurd one
-shrinks_more (Some r) (Some s) None m n one two = absurd two
-shrinks_more (Some r) (Some s) (Some t) m n one two = omega (arith, one, two)
-
-steady_more : (a b : Option ℕ) (m x y z : ℕ) → Shrinks a b m → IfSome a (λ room. y ≡ x) → IfSome b (λ room. z ≡ y)
-    → IfSome a (λ room. z ≡ x)
-steady_more None b m x y z shrinks one two = tt
-steady_more (Some r) None m x y z shrinks one two = absurd shrinks
-steady_more (Some r) (Some s) m x y z shrinks one two = two ∙ one
-
-steady_still : (a : Option ℕ) (x : ℕ) → IfSome a (λ room. x ≡ x)
-steady_still None x = tt
-steady_still (Some r) x = refl
-
-pub took_nothing : (sink : Sunk) → Took sink sink []
-took_nothing sink = record {
-  taken = nothing_more sink.taken;
-  room = no_less sink.room;
-  steady = steady_still sink.room sink.faults;
-  no_fewer = omega arith;
-}
-
-took_more : (a b c : Sunk) (p q : List ℕ) → Took a b p → Took b c q → Took a c (p ++ q)
-took_more a b c p q one two = record {
-  taken = appends_more a.taken b.taken c.taken p q one.taken two.taken;
-  room = subst (Shrinks a.room c.room) (sym (length-append p q))
-      (shrinks_more a.room b.room c.room (length p) (length q) one.room two.room);
-  steady = steady_more a.room b.room (length p) a.faults b.faults c.faults one.room one.steady two.steady;
-  no_fewer = omega (arith, one.no_fewer, two.no_fewer);
-}
-
-pub put_whole : (piece : List ℕ) (old new : Sunk) (r : Result (Unit {0}) SinkFault) → false ≡ is_err r
-    → Puts piece old new r → Took old new piece
-put_whole piece old new (Ok done) is puts = puts
-put_whole piece old new (Err fault) is puts = cc is
-
-pub put_broken : (piece : List ℕ) (old new : Sunk) (r : Result (Unit {0}) SinkFault) → true ≡ is_err r
-    → Puts piece old new r → FailedAt old new piece
-put_broken piece old new (Ok done) is puts = cc is
-put_broken piece old new (Err fault) is puts = puts
+not_added : (piece gathered after : List ℕ) (sink sunk : Sunk) (r : Result (Unit {0}) SinkFault) → true ≡ is_err r
+    → Adds piece gathered after sink sunk r
+    → FailedAt sink sunk gathered ⊎ FailedBehind gathered piece sink sunk
+not_added piece gathered after sink sunk (Ok done) is adds = cc is
+not_added piece gathered after sink sunk (Err fault) is adds = adds.1
 
 one_joined : (lines : List (List ℕ)) (one : List ℕ) → concat lines ++ one ≡ concat (lines ++ one ∷ [])
 one_joined lines one =
     ap (λ (text : List ℕ). concat lines ++ text) (sym (append-nil one)) ∙ sym (concat-append lines (one ∷ []))
+
+-- some lines and others behind them were taken
+took_both : (fronts others : List (List ℕ)) (sink between sunk : Sunk) → Took sink between (concat fronts)
+    → Took between sunk (concat others) → Took sink sunk (concat (fronts ++ others))
+took_both fronts others sink between sunk one two = subst (λ (text : List ℕ). Took sink sunk text)
+    (sym (concat-append fronts others)) (took_more sink between sunk (concat fronts) (concat others) one two)
+
+took_first : (fronts behind : List (List ℕ)) (sink sunk : Sunk) → Took sink sunk (concat fronts)
+    → TookFirst (fronts ++ behind) (length fronts) sink sunk
+took_first fronts behind sink sunk took =
+    subst (λ (ls : List (List ℕ)). Took sink sunk (concat ls)) (sym (take-append_seam fronts behind)) took
+
+failed_lines : (fronts others behind : List (List ℕ)) (sink between sunk : Sunk) → Took sink between (concat fronts)
+    → FailedAt between sunk (concat others) → FailedAtLines (fronts ++ (others ++ behind)) sink sunk
+failed_lines fronts others behind sink between sunk took failed = record {
+  count = length fronts;
+  more = length others;
+  between = between;
+  before = took_first fronts (others ++ behind) sink between took;
+  failed = subst (λ (ls : List (List ℕ)). FailedAt between sunk (concat ls)) (sym middle) failed;
+}
+  where
+    middle : take (length others) (drop (length fronts) (fronts ++ (others ++ behind))) ≡ others
+    middle =
+        ap (λ (ls : List (List ℕ)). take (length others) ls) (drop-append_seam fronts (others ++ behind))
+        ∙ take-append_seam others behind
 
 -- ---- what is read of an element
 
@@ -191,24 +173,16 @@ module _ (program : Program) (code : Code) (is : ∥ IsCodeFor program code ∥�
 
   -- ---- the lines of some elements in front of others
 
-  front_lines : (ys zs : List ReadInput) (fronts lines : List (List ℕ)) → AreLines program scope names ys fronts
-      → AreLines program scope names (ys ++ zs) lines → take (length ys) lines ≡ fronts
-  front_lines [] zs [] lines front all = refl
-  front_lines [] zs (f ∷ fs) lines front all = absurd front
-  front_lines (y ∷ ys) zs [] lines front all = absurd front
-  front_lines (y ∷ ys) zs (f ∷ fs) [] front all = absurd all
-  front_lines (y ∷ ys) zs (f ∷ fs) (l ∷ lines) front all =
+  lines_behind : (ys zs : List ReadInput) (fronts lines : List (List ℕ)) → AreLines program scope names ys fronts
+      → AreLines program scope names (ys ++ zs) lines → (behind : List (List ℕ)) × (lines ≡ fronts ++ behind)
+  lines_behind [] zs [] lines front all = (lines, refl)
+  lines_behind [] zs (f ∷ fs) lines front all = absurd front
+  lines_behind (y ∷ ys) zs [] lines front all = absurd front
+  lines_behind (y ∷ ys) zs (f ∷ fs) [] front all = absurd all
+  lines_behind (y ∷ ys) zs (f ∷ fs) (l ∷ lines) front all =
       let same : l ≡ f = cc (all.0, front.0) in
-      ap (λ (x : List ℕ). x ∷ take (length ys) lines) same
-      ∙ ap (λ (xs : List (List ℕ)). f ∷ xs) (front_lines ys zs fs lines front.1 all.1)
-
-  next_line : (ys zs : List ReadInput) (r : ReadInput) (lines : List (List ℕ)) (one : List ℕ)
-      → AreLines program scope names (ys ++ r ∷ zs) lines → element_line program scope names r ≡ Some one
-      → slice_get lines (length ys) ≡ Some one
-  next_line [] zs r [] one all line = absurd all
-  next_line [] zs r (l ∷ lines) one all line = sym all.0 ∙ line
-  next_line (y ∷ ys) zs r [] one all line = absurd all
-  next_line (y ∷ ys) zs r (l ∷ lines) one all line = next_line ys zs r lines one all.1 line
+      let rest = lines_behind ys zs fs lines front.1 all.1 in
+      (rest.0, ap (λ (x : List ℕ). x ∷ lines) same ∙ ap (λ (xs : List (List ℕ)). f ∷ xs) rest.1)
 
   more_lines : (ys : List ReadInput) (r : ReadInput) (fronts : List (List ℕ)) (one : List ℕ)
       → AreLines program scope names ys fronts → element_line program scope names r ≡ Some one
@@ -218,64 +192,189 @@ module _ (program : Program) (code : Code) (is : ∥ IsCodeFor program code ∥�
   more_lines (y ∷ ys) r [] one are line = absurd are
   more_lines (y ∷ ys) r (f ∷ fs) one are line = (are.0, more_lines ys r fs one are.1 line)
 
-  -- ---- what was put
+  -- ---- what was put, and what is gathered
 
-  pub nothing_put : (sink : Sunk) → TookLines program scope names [] sink sink
-  nothing_put sink = record { lines = []; lines_are = tt; took = took_nothing sink }
+  pub nothing_gathered : (sink : Sunk) → GathersLines program scope names [] [] sink sink
+  nothing_gathered sink =
+      record { fronts = []; others = []; lines_are = tt; took = took_nothing sink; gathered_are = refl }
 
-  pub one_more : (passed : List ReadInput) (r : ReadInput) (one : List ℕ) (sink between sunk : Sunk)
-      → TookLines program scope names passed sink between → element_line program scope names r ≡ Some one
-      → Took between sunk one → TookLines program scope names (passed ++ r ∷ []) sink sunk
-  one_more passed r one sink between sunk before line took = record {
-    lines = before.lines ++ one ∷ [];
-    lines_are = more_lines passed r before.lines one before.lines_are line;
-    took = subst (λ (text : List ℕ). Took sink sunk text) (one_joined before.lines one)
-        (took_more sink between sunk (concat before.lines) one before.took took);
-  }
+  -- the line of one more is gathered behind the others, or they were put, or all were
+  one_more : (passed : List ReadInput) (r : ReadInput) (one gathered after : List ℕ) (sink between sunk : Sunk)
+      → GathersLines program scope names passed gathered sink between → element_line program scope names r ≡ Some one
+      → Adds one gathered after between sunk (Ok tt)
+      → GathersLines program scope names (passed ++ r ∷ []) after sink sunk
+  one_more passed r one gathered after sink between sunk before line adds =
+      ⊎_elim behind (⊎_elim alone whole) adds.1
+    where
+      lines : List (List ℕ)
+      lines = before.fronts ++ before.others
 
-  pub all_put : (passed all : List ReadInput) (sink sunk : Sunk) → passed ≡ all
-      → TookLines program scope names passed sink sunk → PutsEach program scope names all sink sunk status.Fine
-  all_put passed all sink sunk whole before =
-      subst (λ (rs : List ReadInput). PutsEach program scope names rs sink sunk status.Fine) whole
-      (record { lines = before.lines; lines_are = before.lines_are; puts = before.took })
+      lines_are : AreLines program scope names (passed ++ r ∷ []) (lines ++ one ∷ [])
+      lines_are = more_lines passed r lines one before.lines_are line
 
-  module _ (extra : List ℕ) (all passed rest : List ReadInput) (whole : passed ++ rest ≡ all)
-      (read : AreRead program.decls scope extra all) (sink : Sunk) where
-    lines_of_all : (lines : List (List ℕ)) × AreLines program scope names (passed ++ rest) lines
-    lines_of_all = all_lines (passed ++ rest) (is_read_at program.decls scope extra (passed ++ rest)
-        (subst (λ (rs : List ReadInput). AreRead program.decls scope extra rs) (sym whole) read))
+      behind : (after ≡ gathered ++ one) × (sunk ≡ between)
+          → GathersLines program scope names (passed ++ r ∷ []) after sink sunk
+      behind is = record {
+        fronts = before.fronts;
+        others = before.others ++ one ∷ [];
+        lines_are = subst (λ (ls : List (List ℕ)). AreLines program scope names (passed ++ r ∷ []) ls)
+            (append_assoc before.fronts before.others (one ∷ [])) lines_are;
+        took = subst (λ (s : Sunk). Took sink s (concat before.fronts)) (sym is.1) before.took;
+        gathered_are = is.0 ∙ (ap (λ (text : List ℕ). text ++ one) before.gathered_are
+            ∙ one_joined before.others one);
+      }
 
-    took_front : (sunk : Sunk) → TookLines program scope names passed sink sunk
-        → TookFirst lines_of_all.0 (length passed) sink sunk
-    took_front sunk before = subst (λ (ls : List (List ℕ)). Took sink sunk (concat ls))
-        (sym (front_lines passed rest before.lines lines_of_all.0 before.lines_are lines_of_all.1)) before.took
+      took_lines : (s : Sunk) → Took between s gathered → Took sink s (concat lines)
+      took_lines s took = took_both before.fronts before.others sink between s before.took
+          (subst (λ (text : List ℕ). Took between s text) before.gathered_are took)
 
-    -- memory ran out behind these
-    pub ended_early : (sunk : Sunk) → TookLines program scope names passed sink sunk
-        → PutsEach program scope names all sink sunk status.Memory
-    ended_early sunk before =
-        subst (λ (rs : List ReadInput). PutsEach program scope names rs sink sunk status.Memory) whole (record {
-          lines = lines_of_all.0;
-          lines_are = lines_of_all.1;
-          puts = (length passed, took_front sunk before);
+      alone : (after ≡ one) × Took between sunk gathered
+          → GathersLines program scope names (passed ++ r ∷ []) after sink sunk
+      alone is = record {
+        fronts = lines;
+        others = one ∷ [];
+        lines_are = lines_are;
+        took = took_lines sunk is.1;
+        gathered_are = is.0 ∙ sym (append-nil one);
+      }
+
+      whole : (after ≡ []) × Took between sunk (gathered ++ one)
+          → GathersLines program scope names (passed ++ r ∷ []) after sink sunk
+      whole is = record {
+        fronts = lines ++ one ∷ [];
+        others = [];
+        lines_are = subst (λ (ls : List (List ℕ)). AreLines program scope names (passed ++ r ∷ []) ls)
+            (sym (append-nil (lines ++ one ∷ []))) lines_are;
+        took = all_of_them;
+        gathered_are = is.0;
+      }
+        where
+          joined : concat before.fronts ++ (gathered ++ one) ≡ concat (lines ++ one ∷ [])
+          joined =
+              sym (append_assoc (concat before.fronts) gathered one)
+              ∙ (ap (λ (text : List ℕ). (concat before.fronts ++ text) ++ one) before.gathered_are
+              ∙ (ap (λ (text : List ℕ). text ++ one) (sym (concat-append before.fronts before.others))
+              ∙ one_joined lines one))
+
+          all_of_them : Took sink sunk (concat (lines ++ one ∷ []))
+          all_of_them = subst (λ (text : List ℕ). Took sink sunk text) joined
+              (took_more sink between sunk (concat before.fronts) (gathered ++ one) before.took is.1)
+
+  pub one_more_added : (passed : List ReadInput) (r : ReadInput) (one gathered after : List ℕ)
+      (sink between sunk : Sunk) (answer : Result (Unit {0}) SinkFault)
+      → GathersLines program scope names passed gathered sink between → element_line program scope names r ≡ Some one
+      → false ≡ is_err answer → Adds one gathered after between sunk answer
+      → GathersLines program scope names (passed ++ r ∷ []) after sink sunk
+  one_more_added passed r one gathered after sink between sunk answer before line fine adds =
+      one_more passed r one gathered after sink between sunk before line
+      (added one gathered after between sunk answer fine adds)
+
+  module _ (extra : List ℕ) (all : List ReadInput) (read : AreRead program.decls scope extra all) (sink : Sunk) where
+    lines_of_all : (lines : List (List ℕ)) × AreLines program scope names all lines
+    lines_of_all = all_lines all (is_read_at program.decls scope extra all read)
+
+    -- the lines of all, behind those of the elements that were passed
+    behind_passed : (passed rest : List ReadInput) (fronts : List (List ℕ)) → passed ++ rest ≡ all
+        → AreLines program scope names passed fronts
+        → (behind : List (List ℕ)) × AreLines program scope names all (fronts ++ behind)
+    behind_passed passed rest fronts whole are =
+        let split = lines_behind passed rest fronts lines_of_all.0 are
+        (subst (λ (rs : List ReadInput). AreLines program scope names rs lines_of_all.0) (sym whole)
+        lines_of_all.1) in
+        (split.0, subst (λ (ls : List (List ℕ)). AreLines program scope names all ls) split.1 lines_of_all.1)
+
+    -- the sink failed at lines of elements that were passed, behind others that it took
+    failed_at : (passed rest : List ReadInput) (fronts others : List (List ℕ)) (between sunk : Sunk)
+        → passed ++ rest ≡ all → AreLines program scope names passed (fronts ++ others)
+        → Took sink between (concat fronts) → FailedAt between sunk (concat others)
+        → PutsEach program scope names all sink sunk status.WriteFault
+    failed_at passed rest fronts others between sunk whole are took failed =
+        let behind = behind_passed passed rest (fronts ++ others) whole are in record {
+          lines = fronts ++ (others ++ behind.0);
+          lines_are = subst (λ (ls : List (List ℕ)). AreLines program scope names all ls)
+              (append_assoc fronts others behind.0) behind.1;
+          puts = failed_lines fronts others behind.0 sink between sunk took failed;
+        }
+
+    -- it failed at what was gathered
+    failed_gathered : (passed rest : List ReadInput) (gathered : List ℕ) (between sunk : Sunk) → passed ++ rest ≡ all
+        → GathersLines program scope names passed gathered sink between → FailedAt between sunk gathered
+        → PutsEach program scope names all sink sunk status.WriteFault
+    failed_gathered passed rest gathered between sunk whole before failed =
+        failed_at passed rest before.fronts before.others between sunk whole before.lines_are before.took
+        (subst (λ (text : List ℕ). FailedAt between sunk text) before.gathered_are failed)
+
+    -- all that is gathered was taken
+    took_passed : (passed : List ReadInput) (gathered : List ℕ) (between sunk : Sunk)
+        → (before : GathersLines program scope names passed gathered sink between) → Took between sunk gathered
+        → Took sink sunk (concat (before.fronts ++ before.others))
+    took_passed passed gathered between sunk before took =
+        took_both before.fronts before.others sink between sunk before.took
+        (subst (λ (text : List ℕ). Took between sunk text) before.gathered_are took)
+
+    -- the line of the next one couldn't be added
+    pub next_failed : (passed behind : List ReadInput) (r : ReadInput) (one gathered after : List ℕ)
+        (between sunk : Sunk) (answer : Result (Unit {0}) SinkFault) → passed ++ r ∷ behind ≡ all
+        → GathersLines program scope names passed gathered sink between → element_line program scope names r ≡ Some one
+        → true ≡ is_err answer → Adds one gathered after between sunk answer
+        → PutsEach program scope names all sink sunk status.WriteFault
+    next_failed passed behind r one gathered after between sunk answer whole before line broken adds =
+        ⊎_elim (failed_gathered passed (r ∷ behind) gathered between sunk whole before) at_next
+        (not_added one gathered after between sunk answer broken adds)
+      where
+        at_next : FailedBehind gathered one between sunk → PutsEach program scope names all sink sunk status.WriteFault
+        at_next failed =
+            failed_at (passed ++ r ∷ []) behind (before.fronts ++ before.others) (one ∷ []) failed.between sunk
+            (append_assoc passed (r ∷ []) behind ∙ whole)
+            (more_lines passed r (before.fronts ++ before.others) one before.lines_are line)
+            (took_passed passed gathered between failed.between before failed.before)
+            (subst (λ (text : List ℕ). FailedAt failed.between sunk text) (sym (append-nil one)) failed.failed)
+
+    -- memory ran out behind these, or the sink failed at the last ones
+    pub ended_early : (passed rest : List ReadInput) (gathered : List ℕ) (between sunk : Sunk) (ended : Status)
+        → passed ++ rest ≡ all → GathersLines program scope names passed gathered sink between
+        → PutsAtOnce gathered status.Memory between sunk ended → PutsEach program scope names all sink sunk ended
+    ended_early passed rest gathered between sunk ended whole before = ⊎_elim taken failed
+      where
+        taken : (ended ≡ status.Memory) × Took between sunk gathered → PutsEach program scope names all sink sunk ended
+        taken is =
+            let lines : List (List ℕ) = before.fronts ++ before.others in
+            let behind = behind_passed passed rest lines whole before.lines_are in
+            subst (λ (s : Status). PutsEach program scope names all sink sunk s) (sym is.0) (record {
+              lines = lines ++ behind.0;
+              lines_are = behind.1;
+              puts = (
+                length lines,
+                took_first lines behind.0 sink sunk
+                    (took_passed passed gathered between sunk before is.1),
+              );
+            })
+
+        failed : (ended ≡ status.WriteFault) × FailedAt between sunk gathered
+            → PutsEach program scope names all sink sunk ended
+        failed is = subst (λ (s : Status). PutsEach program scope names all sink sunk s) (sym is.0)
+            (failed_gathered passed rest gathered between sunk whole before is.1)
+
+    -- memory ran out in front of the first one
+    pub not_begun : PutsEach program scope names all sink sink status.Memory
+    not_begun =
+        ended_early [] all [] sink sink status.Memory refl (nothing_gathered sink) (inl (refl, took_nothing sink))
+
+    -- no element is left, and what is gathered was put, or the sink failed at it
+    pub all_ended : (passed : List ReadInput) (gathered : List ℕ) (between sunk : Sunk) (ended : Status)
+        → passed ≡ all → GathersLines program scope names passed gathered sink between
+        → PutsAtOnce gathered status.Fine between sunk ended → PutsEach program scope names all sink sunk ended
+    all_ended passed gathered between sunk ended whole before = ⊎_elim taken failed
+      where
+        taken : (ended ≡ status.Fine) × Took between sunk gathered → PutsEach program scope names all sink sunk ended
+        taken is = subst (λ (s : Status). PutsEach program scope names all sink sunk s) (sym is.0) (record {
+          lines = before.fronts ++ before.others;
+          lines_are = subst (λ (rs : List ReadInput). AreLines program scope names rs
+              (before.fronts ++ before.others)) whole before.lines_are;
+          puts = took_passed passed gathered between sunk before is.1;
         })
 
-    -- the sink failed at the line of the next one
-    pub failed_at : (r : ReadInput) (behind : List ReadInput) (one : List ℕ) (between sunk : Sunk) → rest ≡ r ∷ behind
-        → TookLines program scope names passed sink between → element_line program scope names r ≡ Some one
-        → FailedAt between sunk one → PutsEach program scope names all sink sunk status.WriteFault
-    failed_at r behind one between sunk next before line failed =
-        subst (λ (rs : List ReadInput). PutsEach program scope names rs sink sunk status.WriteFault) whole (record {
-          lines = lines_of_all.0;
-          lines_are = lines_of_all.1;
-          puts = record {
-            count = length passed;
-            piece = one;
-            between = between;
-            before = took_front between before;
-            piece_is = next_line passed behind r lines_of_all.0 one
-                (subst (λ (rs : List ReadInput). AreLines program scope names (passed ++ rs) lines_of_all.0) next
-                lines_of_all.1) line;
-            failed = failed;
-          };
-        })
+        failed : (ended ≡ status.WriteFault) × FailedAt between sunk gathered
+            → PutsEach program scope names all sink sunk ended
+        failed is = subst (λ (s : Status). PutsEach program scope names all sink sunk s) (sym is.0)
+            (failed_gathered passed [] gathered between sunk (append-nil passed ∙ whole) before is.1)

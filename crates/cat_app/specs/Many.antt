@@ -1,5 +1,5 @@
--- The answer to one who asked for the outcomes of a scope on many inputs: a line each, put as soon as it is made.
-use Rattle.std.specs.Prelude.{◌≡◌, ℕ, List, [], ◌∷◌, take, slice_get, Option, Some, Result, Ok, Err, option_map}
+-- The answer to one who asked for the outcomes of a scope on many inputs: a line each, and whole ones put at once.
+use Rattle.std.specs.Prelude.{◌≡◌, ℕ, List, [], ◌∷◌, take, drop, Option, Some, Result, Ok, Err, option_map}
 use Rattle.std.specs.List.{concat}
 use Rattle.cat_io.specs.Shelf.{Shelved}
 use Rattle.cat_io.specs.Sink.{Sunk, Took, FailedAt}
@@ -70,24 +70,23 @@ pub record IsRefusedArray (request : Request) (old new : Shelved) (text : List �
 abbrev pub TookFirst : List (List ℕ) → ℕ → Sunk → Sunk → Type 0
 TookFirst lines count sink sunk = Took sink sunk (concat (take count lines))
 
--- the sink failed at one line, of which it took a front; those before it were taken whole
-pub record FailedAtLine (lines : List (List ℕ)) (sink sunk : Sunk) : Type 0 where
+-- the first lines were taken whole, and the sink failed at some more behind them, put at once: it took a front of these
+pub record FailedAtLines (lines : List (List ℕ)) (sink sunk : Sunk) : Type 0 where
   pub count : ℕ
-  pub piece : List ℕ
+  pub more : ℕ
   pub between : Sunk
   pub before : TookFirst lines count sink between
-  pub piece_is : slice_get lines count ≡ Some piece
-  pub failed : FailedAt between sunk piece
+  pub failed : FailedAt between sunk (concat (take more (drop count lines)))
 
--- what putting lines one by one promises by its status: all were taken, or the first ones until memory ran out, or
--- those before the one at which the sink failed
+-- what putting lines in their order promises by its status: all were taken, or the first ones until memory ran out, or
+-- those before the ones at which the sink failed
 abbrev pub PutsLines : List (List ℕ) → Sunk → Sunk → Status → Type 0
 PutsLines lines sink sunk Fine = Took sink sunk (concat lines)
 PutsLines lines sink sunk Memory = (count : ℕ) × TookFirst lines count sink sunk
-PutsLines lines sink sunk WriteFault = FailedAtLine lines sink sunk
+PutsLines lines sink sunk WriteFault = FailedAtLines lines sink sunk
 PutsLines lines sink sunk status = ⊥
 
--- the line of each element was put as soon as it was made, until the end, or until memory or the sink failed
+-- the lines of the elements were put in their order, until the end, or until memory or the sink failed
 pub record AnswersByLine (request : Request) (old new : Shelved) (sink sunk : Sunk) (ended : Status) : Type 0 where
   pub lines : List (List ℕ)
   pub asked : IsAskedMany request old lines

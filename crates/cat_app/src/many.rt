@@ -3,14 +3,14 @@ ghost use Rattle.std.specs.Prelude.{◌≡◌, ◌<◌, ℕ, List, IfOk, Some, l
 ghost use Rattle.cat_build.specs.Built.{IsBuiltOf};
 ghost use Rattle.cat_machine.specs.Running.{constant_values};
 ghost use Rattle.cat_app.specs.Many.{element_line};
-ghost use Rattle.cat_app.specs.inside.Reading.{AreRead, IsReadInput, PutsEach};
+ghost use Rattle.cat_app.specs.inside.Reading.{AreRead, IsReadInput, PutsAtOnce, PutsEach};
 
 use crate::Status;
 use crate::ran::tell;
 use crate::reply::Reply;
 use crate::texts::refuse_input;
 use cat_build::Built;
-use cat_io::Sink;
+use cat_io::{Gathered, Sink};
 use cat_json::{InputRefusal, ReadInputs};
 use cat_machine::Loaded;
 use cat_value::Input;
@@ -52,7 +52,18 @@ fn reply_on(
     }
 }
 
-/// Puts the line of each element as soon as it is made, over one pool that has the constants.
+// Puts the lines that are still gathered, and ends so.
+fn put_rest<K: Sink>(mut gathered: Gathered, sink: &mut K, status: Status) -> Status
+    ensures { PutsAtOnce gathered status (K.state sink.old) (K.state sink.new) result }
+{
+    match gathered.put_all(sink) {
+        Ok(()) => status,
+        Err(_) => Status::WriteFault,
+    }
+}
+
+/// Puts the lines of the elements, up to 64 KiB of whole ones at once, over one pool that has the constants.
+/// Where memory runs out, the lines that were made before are put.
 pub fn put_lines<K: Sink>(alloc: Global, many: ManyInputs, sink: &mut K) -> Status
     requires built { IsBuiltOf many.source.pieces many.built }
     requires scope { many.scope < length many.built.program.decls.scopes }
@@ -69,13 +80,14 @@ pub fn put_lines<K: Sink>(alloc: Global, many: ManyInputs, sink: &mut K) -> Stat
     let Ok(mut loaded) = Loaded::new(alloc, &built.code) else {
         return Status::Memory;
     };
+    let mut gathered = Gathered::new(alloc);
     for read in inputs.into_vec() {
         let Ok(reply) = reply_on(alloc, &source, &built, scope, read, &mut loaded) else {
-            return Status::Memory;
+            return put_rest(gathered, sink, Status::Memory);
         };
-        if sink.put(reply.text.as_bytes()).is_err() {
+        if gathered.add(reply.text.as_bytes(), sink).is_err() {
             return Status::WriteFault;
         }
     }
-    Status::Fine
+    put_rest(gathered, sink, Status::Fine)
 }

@@ -21,7 +21,7 @@ pub struct Reply {
     pub text: String,
 }
 
-/// What is to be written: a whole text at once, or the line of each of many inputs as soon as it is made.
+/// What is to be written: a whole text at once, or the line of each of many inputs, some whole lines at once.
 #[derive(Drop)]
 pub enum ToWrite {
     Text(Reply),

@@ -1,4 +1,4 @@
-// The top call: the reply first, and then one put, or of many inputs one for each.
+// The top call: the reply first, and then one put, or of many inputs one for so many lines.
 ghost use Rattle.std.specs.Prelude.{◌≡◌, ◌≢◌, ℕ, List, Option, true, false, IfSome};
 ghost use Rattle.cat_io.specs.Count.{FaultsRose};
 ghost use Rattle.cat_io.specs.Stored.{texts_of};

@@ -1,5 +1,5 @@
 -- What is to be written: a text at once, or the line of each of many inputs.
-use Rattle.std.specs.Prelude.{◌≡◌, ◌≢◌, ◌⊎◌, ℕ, List, Option, Ok, Err, IsSomeAnd, string_bytes}
+use Rattle.std.specs.Prelude.{◌≡◌, ◌≢◌, ◌⊎◌, ◌++◌, ℕ, List, Option, Ok, Err, IsSomeAnd, string_bytes}
 use Rattle.std.specs.List.{concat}
 use Rattle.cat_io.specs.Shelf.{Shelved}
 use Rattle.cat_io.specs.Sink.{FailedAt, Sunk, Took}
@@ -48,12 +48,14 @@ pub record IsRead (request : Request) (old new : Shelved) (read : ManyInputs) : 
   pub built : IsBuiltOf read.source.pieces read.built
   pub untouched : new ≡ old
 
--- the lines of the elements that were passed were taken whole
-pub record TookLines (program : Program) (scope : ℕ) (names : List (List ℕ)) (passed : List ReadInput)
-    (sink sunk : Sunk) : Type 0 where
-  pub lines : List (List ℕ)
-  pub lines_are : AreLines program scope names passed lines
-  pub took : Took sink sunk (concat lines)
+-- of the lines of the elements that were passed the first ones were taken whole, and the others are gathered
+pub record GathersLines (program : Program) (scope : ℕ) (names : List (List ℕ)) (passed : List ReadInput)
+    (gathered : List ℕ) (sink sunk : Sunk) : Type 0 where
+  pub fronts : List (List ℕ)
+  pub others : List (List ℕ)
+  pub lines_are : AreLines program scope names passed (fronts ++ others)
+  pub took : Took sink sunk (concat fronts)
+  pub gathered_are : gathered ≡ concat others
 
 -- each element has a line, and these were put
 pub record PutsEach (program : Program) (scope : ℕ) (names : List (List ℕ)) (inputs : List ReadInput) (sink sunk : Sunk)
@@ -79,8 +81,11 @@ abbrev pub MayBeWritten : List (List ℕ) → Shelved → Shelved → ToWrite �
 MayBeWritten words old new (Text reply) = MayReply words old new reply.status (string_bytes reply.text)
 MayBeWritten words old new (Lines read) = IsSomeAnd (request_of words) (λ request. IsRead request old new read)
 
--- a text is put at once: it is taken whole, with the status of the reply, or the sink failed
+-- some bytes are put at once: they are taken whole, and it ends so, or the sink failed
+abbrev pub PutsAtOnce : List ℕ → Status → Sunk → Sunk → Status → Type 0
+PutsAtOnce bytes status sink sunk ended =
+    ((ended ≡ status) × Took sink sunk bytes) ⊎ ((ended ≡ WriteFault) × FailedAt sink sunk bytes)
+
+-- the text of a reply is, with its status
 abbrev pub PutsText : Reply → Sunk → Sunk → Status → Type 0
-PutsText reply sink sunk ended =
-    ((ended ≡ reply.status) × Took sink sunk (string_bytes reply.text))
-    ⊎ ((ended ≡ WriteFault) × FailedAt sink sunk (string_bytes reply.text))
+PutsText reply = PutsAtOnce (string_bytes reply.text) reply.status
