@@ -1,5 +1,5 @@
-// One step of the machine. It is inlined into the loop over the steps, so that the loop's state stays in registers;
-// what is long or rare of it is not.
+// One step of the machine. Each function that tells where a step leads is inlined into the loop over the steps, so that
+// the loop's state stays in registers: were one of them called, every step would write to memory where it leads.
 ghost use Rattle.std.specs.Prelude.{◌≡◌, ◌≢◌, ◌<◌, ◌+◌, ◌^◌, OnOk};
 ghost use Rattle.cat_code.specs.States.{stuck};
 ghost use Rattle.cat_code.specs.Machine.{act};

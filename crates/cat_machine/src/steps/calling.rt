@@ -39,7 +39,7 @@ pub fn call(
 }
 
 /// Makes a pending frame for a scope.
-#[inline(never)]
+#[inline(always)]
 #[tactic(auto, using(crate::proofs::Growth::staying))]
 pub fn scope(code: &Code, m: &mut Machine, place: usize, n: u32) -> Result<Stepped, AllocError>
     requires machine { IsMachine code.now.tables m.old }
@@ -79,7 +79,7 @@ pub fn pass(code: &Code, m: &mut Machine, place: usize, i: u32) -> Result<Steppe
 }
 
 /// Goes to the entry of the pending frame.
-#[inline(never)]
+#[inline(always)]
 #[tactic(auto, using(crate::proofs::Growth::staying))]
 pub fn enter(code: &Code, m: &mut Machine, place: usize) -> Result<Stepped, AllocError>
     requires machine { IsMachine code.now.tables m.old }

@@ -15,7 +15,7 @@ use cat_pool::PoolNode;
 use std::alloc::AllocError;
 
 /// Pops n values, and pushes a structure of them.
-#[inline(never)]
+#[inline(always)]
 pub fn pack(code: &Code, m: &mut Machine, place: usize, n: u32) -> Result<Stepped, AllocError>
     requires machine { IsMachine code.now.tables m.old }
     requires place { place + 1 < 2 ^ 64 }
@@ -32,7 +32,7 @@ pub fn pack(code: &Code, m: &mut Machine, place: usize, n: u32) -> Result<Steppe
 }
 
 /// Pops n values, and pushes a list of them.
-#[inline(never)]
+#[inline(always)]
 pub fn list(code: &Code, m: &mut Machine, place: usize, n: u32) -> Result<Stepped, AllocError>
     requires machine { IsMachine code.now.tables m.old }
     requires place { place + 1 < 2 ^ 64 }
@@ -89,7 +89,7 @@ pub fn tag(code: &Code, m: &mut Machine, place: usize, c: u32) -> Result<Stepped
 }
 
 /// Pushes a case that has no content.
-#[inline(never)]
+#[inline(always)]
 pub fn tag_none(code: &Code, m: &mut Machine, place: usize, c: u32) -> Result<Stepped, AllocError>
     requires machine { IsMachine code.now.tables m.old }
     requires place { place + 1 < 2 ^ 64 }
