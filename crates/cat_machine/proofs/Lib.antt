@@ -17,6 +17,7 @@ pub mod Reversing
 pub mod Pushing
 pub mod MakingSteps
 pub mod OperatingSteps
+pub mod FrequentSteps
 pub mod DefaultSteps
 pub mod LogSteps
 pub mod Programs

@@ -1,6 +1,7 @@
 pub mod Layered
 pub mod Machines
 pub mod Putting
+pub mod Frequent
 pub mod Looping
 pub mod Calling
 pub mod Logging

@@ -10,6 +10,7 @@ ghost use Rattle.cat_machine.specs.inside.Machines.{IsMachine};
 
 mod calling;
 mod defaults;
+mod frequent;
 mod looping;
 mod making;
 mod moving;

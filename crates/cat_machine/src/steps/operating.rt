@@ -19,6 +19,7 @@ ghost use Rattle.cat_machine.specs.Steps.{OneMore, Tells};
 ghost use Rattle.cat_machine.specs.inside.Machines.{IsMachine};
 
 use crate::machine::{End, Machine, Stepped, Truths};
+use crate::steps::frequent::frequent;
 use cat_code::Code;
 use cat_date::Rounding;
 use cat_pool::{PoolNode, Ref};
@@ -216,8 +217,8 @@ fn between_any(
     operate(rounding, op, scalar_at(left), scalar_at(right))
 }
 
-/// What an operator gives between two nodes. Between two whole numbers and two amounts, which most are, it is inlined
-/// into the loop for each of both kinds apart.
+/// What an operator gives between two nodes. What is called, for the operators that aren't frequent, is taken apart: so
+/// nothing else is written to memory.
 #[inline(always)]
 fn between(
     rounding: Rounding,
@@ -228,19 +229,12 @@ fn between(
     ensures { (p : At) (v w : Valued) → scalar_of v ≡ scalar_at left.now → scalar_of w ≡ scalar_at right.now
         → as_reply p result ≡ operate rounding op p v w }
 {
-    match (left, right) {
-        (PoolNode::Integer(whole), PoolNode::Integer(other)) => {
-            operate(
-                rounding,
-                op,
-                Scalar::Integer(*whole),
-                Scalar::Integer(*other),
-            )
-        }
-        (PoolNode::Money(money), PoolNode::Money(more)) => {
-            operate(rounding, op, Scalar::Money(*money), Scalar::Money(*more))
-        }
-        _ => between_any(rounding, op, left, right),
+    if let Some(scalar) = frequent(op, left, right) {
+        return Ok(scalar);
+    }
+    match between_any(rounding, op, left, right) {
+        Ok(scalar) => Ok(scalar),
+        Err(none) => Err(none),
     }
 }
 
