@@ -11,6 +11,8 @@ from .runs import Ended, Runs
 from .table import out_of_table, told
 
 STEP, ROOM = 4, 1536
+# By so many KiB the stack of a call is more or less from time to time.
+SPREAD = 16
 # The loader's status where the libraries have no room, and the signals with which the system ends a program that it can't load.
 LOADER = {127, -9, -11}
 # From less to more than large calls take.
@@ -89,6 +91,19 @@ def stacks(program, is_sample):
                     yield Tried(kind, '%s in %s' % (name, ' '.join(words)), wrong)
 
 
+def taken_first(program):
+    """What the program takes of the stack before it reads is enough: the deepest sources run on a stack on which a plain one just does."""
+    with Runs(program) as runs:
+        runs.put({'a.md': PLAIN})
+        plain = ['run', 'S', 'a.md']
+        right = runs.ended(plain, b'{"n":1}')
+        enough = least(lambda kib: runs.ended(plain, b'{"n":1}', limit='ulimit -s %d' % kib) == right, 64, 4096, STEP) + SPREAD
+        for name, source, given in deepest():
+            for words, now, right in calls(runs, source, given):
+                ended = runs.ended(words, now, limit='ulimit -s %d' % enough)
+                yield Tried('what is taken of the stack first', '%s in %s' % (name, ' '.join(words)), '' if ended == right else told(ended))
+
+
 def large_calls():
     """Calls that take much memory: a source, its words and its standard input."""
     wide, numbers, few = definitions(20_000), over_list('number of l', 'integer'), PLAIN.decode()
@@ -123,3 +138,4 @@ def stack(program, is_sample):
     if not is_sample:
         yield Piece('large calls in little memory', functools.partial(large, program))
     yield Piece('half of the smaller stack', functools.partial(stacks, program, is_sample))
+    yield Piece('what is taken of the stack first', functools.partial(taken_first, program))
