@@ -2,8 +2,16 @@
 
 It knows what the grammars of editors/vscode use: `match` with `captures`, `begin` and `end` with theirs, `contentName`, and
 `include` of a part of the same grammar or of another whole one."""
-import json, re
+import json, re, unicodedata
 from typing import NamedTuple
+
+# What an editor's \w takes: what Python's takes, and the marks that stand on or behind a letter.
+WORD = r'[\w%s]' % ''.join(mark for mark in map(chr, range(0x300, 0x20000)) if unicodedata.category(mark) in ('Mn', 'Mc'))
+
+
+def compiled(written):
+    r"""A pattern as an editor reads it. In a class of characters it has no \w."""
+    return re.compile(written.replace(r'\w', WORD))
 
 
 class Piece(NamedTuple):
@@ -20,9 +28,9 @@ class Rule:
         self.grammar, self.inside = grammar, written.get('patterns', [])
         self.name, self.content = written.get('name'), written.get('contentName') or written.get('name')
         self.begins = 'begin' in written
-        self.pattern = re.compile(written['begin' if self.begins else 'match'])
+        self.pattern = compiled(written['begin' if self.begins else 'match'])
         self.captures = written.get('beginCaptures' if self.begins else 'captures', {})
-        self.end = re.compile(written['end']) if self.begins else None
+        self.end = compiled(written['end']) if self.begins else None
         self.end_captures = written.get('endCaptures', {})
 
 

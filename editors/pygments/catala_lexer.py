@@ -1,9 +1,14 @@
 """The code of Catala statutes for Pygments; where it is installed, Pygments' own Markdown has it in the blocks of a law too."""
+import unicodedata
+
 from pygments.lexer import RegexLexer, words
 from pygments.token import Comment, Keyword, Name, Number, Operator, Punctuation, Whitespace
 
 BLANK = r'[ \t\r\n]+'
-END = r'(?!\w)'
+# A word goes on with what stands on or behind a letter too, an accent say, which Python's \w leaves out.
+MARKS = ''.join(mark for mark in map(chr, range(0x300, 0x20000)) if unicodedata.category(mark) in ('Mn', 'Mc'))
+WORD = r'[\w%s]' % MARKS
+END = '(?!%s)' % WORD
 
 
 def pairs(*names):
@@ -43,8 +48,8 @@ class CatalaLexer(RegexLexer):
             (keywords('not and or xor contains'), Operator.Word),
             (keywords('true false year month day'), Keyword.Constant),
             (keywords('sum get_year get_month get_day'), Name.Builtin),
-            (r'[A-Z]\w*', Name.Class),
-            (r'[^\W\d_A-Z]\w*', Name.Variable),
+            (r'[A-Z]%s*' % WORD, Name.Class),
+            (r'[^\W\d_A-Z]%s*' % WORD, Name.Variable),
             (r'--', Punctuation.Arm),
             (r'!=|<=|>=|[+\-*/=<>]', Operator),
             (r'[:.,;()\[\]{}]', Punctuation),
