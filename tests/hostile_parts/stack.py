@@ -81,11 +81,11 @@ def drills(program, begin):
 
 
 def stacks(program, is_sample):
-    """The deepest sources on half of the smaller stack, and on all of it where the environment takes what of it an environment may."""
+    """The deepest sources on five eighths of the smaller stack, and on all of it where the environment takes what of it an environment may."""
     with Runs(program) as runs:
         for name, source, given in deepest()[::4 if is_sample else 1]:
             for words, now, right in calls(runs, source, given):
-                for kind, kib, more in (('half a stack', STACKS[0] // 2, None), ('a stack behind a full environment', STACKS[0], FULL)):
+                for kind, kib, more in (('five eighths of a stack', STACKS[0] * 5 // 8, None), ('a stack behind a full environment', STACKS[0], FULL)):
                     ended = runs.ended(words, now, limit='ulimit -s %d' % kib, more=more)
                     wrong = out_of_table(words, ended) or ('' if ended == right else told(ended))
                     yield Tried(kind, '%s in %s' % (name, ' '.join(words)), wrong)
@@ -137,5 +137,5 @@ def stack(program, is_sample):
     yield Piece('address spaces, drill', functools.partial(drills, program, begin))
     if not is_sample:
         yield Piece('large calls in little memory', functools.partial(large, program))
-    yield Piece('half of the smaller stack', functools.partial(stacks, program, is_sample))
+    yield Piece('five eighths of the smaller stack', functools.partial(stacks, program, is_sample))
     yield Piece('what is taken of the stack first', functools.partial(taken_first, program))
