@@ -27,12 +27,13 @@ use Rattle.cat_names.specs.Written.{structures_in, enumerations_in, types_in}
 use Rattle.cat_names.specs.declared.fault.Fault.{Fault}
 use Rattle.cat_names.specs.declared.fault.Refusal.{Refusal}
 use Rattle.cat_names.specs.declared.fault.Refusal.TheVariants.{Memory, Refused}
+use Rattle.cat_depend.specs.Types.{AreThere}
 use Rattle.cat_declare.specs.declared.build.Parts.{Parts}
 use Rattle.cat_declare.specs.declared.written.Declarations.{Declarations}
 use Rattle.cat_declare.specs.Cause.{HasCause}
 use Rattle.cat_declare.specs.inside.Cycling.{HasOrder, Orders, dependencies}
 use Rattle.cat_declare.specs.inside.Made.{made, whole, cut, structure_made, enumeration_made}
-use Rattle.cat_declare.specs.inside.Parted.{AreThere, IsMadeOf, declared_by}
+use Rattle.cat_declare.specs.inside.Parted.{IsMadeOf, declared_by}
 use Rattle.cat_declare.specs.inside.Writings.{AreDeclarations}
 use Rattle.cat_declare.proofs.DeclaredFaults.{declared_faults}
 use Rattle.cat_declare.proofs.DeclaredWhole.{declared_whole}

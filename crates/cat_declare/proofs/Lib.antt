@@ -1,7 +1,6 @@
 mod Founds
 mod DeclaredFaults
 mod DeclaredWhole
-mod TypeNames
 mod Standing
 mod Clearing
 mod Tabling

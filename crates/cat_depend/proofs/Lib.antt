@@ -11,4 +11,5 @@ pub mod Orderly
 pub mod Marking
 pub mod Turns
 pub mod Reaching
+pub mod TypeNames
 pub mod Exported

@@ -11,7 +11,7 @@ use Rattle.std.proofs.lemmas.Bool.Decides.{nat_tests}
 use Rattle.std.proofs.Math.Logic.{⊎_elim}
 use Rattle.cat_order.specs.Order.{dependencies_of, is_listed}
 use Rattle.cat_order.specs.Cycle.{DependsOn, IsPath, IsOnCycle}
-use Rattle.cat_depend.specs.Causes.{LeadsTo}
+use Rattle.cat_depend.specs.CycleWays.{LeadsTo}
 use Rattle.cat_depend.specs.inside.Searching.{is_marked, IsSearched, left_over}
 use Rattle.cat_depend.proofs.Cycles.{within_of_IsOnCycle}
 use Rattle.cat_depend.proofs.Listing.{all_listed, listed_both, listed_last, listed_push}

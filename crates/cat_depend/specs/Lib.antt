@@ -1,3 +1,5 @@
+pub mod CycleWays
+pub mod Types
 pub mod Causes
 pub mod Past
 pub mod Listed

@@ -2,7 +2,7 @@
 ghost use Rattle.std.specs.Prelude.{◌≡◌, ◌<◌, length, IfOk};
 ghost use Rattle.cat_order.specs.Order.{AreItems};
 ghost use Rattle.cat_order.specs.Cycle.{IsOnCycle};
-ghost use Rattle.cat_depend.specs.Causes.{IsCallOnCycle};
+ghost use Rattle.cat_depend.specs.CycleWays.{IsNextOnCycle};
 ghost use Rattle.cat_depend.specs.inside.Searching.{IsSearched, Finds};
 
 use cat_pos::Numbers;
@@ -41,7 +41,7 @@ fn leads_to(
 pub fn next_on_cycle(alloc: Global, deps: &[Numbers], start: u32) -> Result<u32, AllocError>
     requires items { AreItems deps.now }
     requires on_cycle { IsOnCycle deps.now start }
-    ensures { IfOk result (IsCallOnCycle deps.now start) }
+    ensures { IfOk result (IsNextOnCycle deps.now start) }
 {
     let mut marks = vec![in alloc; false; deps.len()]?;
     for &next in deps[start as usize].as_slice() {

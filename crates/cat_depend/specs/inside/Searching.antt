@@ -1,7 +1,7 @@
 -- What a search for a number finds.
 use Rattle.std.specs.Prelude.{◌≡◌, ◌+◌, ℕ, Bool, true, false, if◌then◌else◌, List, [], ◌∷◌, length, slice_index_or}
 use Rattle.cat_order.specs.Cycle.{DependsOn}
-use Rattle.cat_depend.specs.Causes.{LeadsTo}
+use Rattle.cat_depend.specs.CycleWays.{LeadsTo}
 
 -- whether a number is marked
 abbrev pub is_marked : List Bool → ℕ → Bool

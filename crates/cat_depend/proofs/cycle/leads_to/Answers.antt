@@ -1,7 +1,7 @@
 use Rattle.std.proofs.Common.{rules, ◌≡◌, [], ℕ, List, subst}
 use Rattle.std.proofs.lemmas.List.{get_or_default}
 use Rattle.cat_order.specs.Order.{dependencies_of}
-use Rattle.cat_depend.specs.Causes.{LeadsTo}
+use Rattle.cat_depend.specs.CycleWays.{LeadsTo}
 use Rattle.cat_depend.proofs.Searching as way
 use Rattle.cat_depend.proofs.Searching.{IsUnderWay}
 use Rattle.cat_depend.proofs.cycle.leads_to.Goals as goal

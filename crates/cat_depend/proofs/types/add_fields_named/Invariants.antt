@@ -2,7 +2,7 @@ use Rattle.std.proofs.Common.{◌≡◌, ◌++◌, IsTrue, drop, length}
 use Rattle.std.specs.List.{list_all}
 use Rattle.cat_value.specs.Declarations.{field_is_sound}
 use Rattle.cat_value.specs.Dependencies.{named_by_fields}
-use Rattle.cat_declare.proofs.cycles.add_fields_named.Given as goal
+use Rattle.cat_depend.proofs.types.add_fields_named.Given as goal
 
 abbrev pub invariant-loop-field : goal.invariant-loop-field
 invariant-loop-field l = record {

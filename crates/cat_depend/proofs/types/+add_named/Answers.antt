@@ -1,7 +1,7 @@
 use Rattle.std.proofs.Common.{rules, arith}
 use Rattle.cat_value.specs.declared.ty.Ty.TheViews as ty
-use Rattle.cat_declare.proofs.TypeNames.{element_declared}
-use Rattle.cat_declare.proofs.cycles.+add_named.Goals as goal
+use Rattle.cat_depend.proofs.TypeNames.{element_declared}
+use Rattle.cat_depend.proofs.types.+add_named.Goals as goal
 
 pub add_named-requires : goal.add_named-requires
 add_named-requires t c = (

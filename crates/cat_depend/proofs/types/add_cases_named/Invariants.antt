@@ -2,7 +2,7 @@ use Rattle.std.proofs.Common.{◌≡◌, ◌++◌, IsTrue, drop, length}
 use Rattle.std.specs.List.{list_all}
 use Rattle.cat_value.specs.Declarations.{case_is_sound}
 use Rattle.cat_value.specs.Dependencies.{named_by_cases}
-use Rattle.cat_declare.proofs.cycles.add_cases_named.Given as goal
+use Rattle.cat_depend.proofs.types.add_cases_named.Given as goal
 
 abbrev pub invariant-loop-case : goal.invariant-loop-case
 invariant-loop-case l = record {

@@ -2,7 +2,7 @@ use Rattle.std.proofs.Common.{◌≡◌, ◌++◌, IsTrue, map, take, drop, leng
 use Rattle.std.specs.List.{list_all}
 use Rattle.cat_value.specs.Declarations.{case_is_sound}
 use Rattle.cat_value.specs.Dependencies.{named_by_cases}
-use Rattle.cat_declare.proofs.cycles.add_enumerations.Given as goal
+use Rattle.cat_depend.proofs.types.add_enumerations.Given as goal
 
 abbrev pub invariant-loop-enumeration : goal.invariant-loop-enumeration
 invariant-loop-enumeration l = record {
