@@ -1,0 +1,36 @@
+use Rattle.std.proofs.Common.{sym, List}
+use Rattle.std.proofs.lemmas.Result.{err_from_is_err_and}
+use Rattle.cat_image.specs.declared.tables.ImageStructure.{ImageStructure}
+use Rattle.cat_verify_tables.specs.inside.NamedWords.{field_count}
+use Rattle.cat_verify_tables.specs.inside.Causes.{IsFaultyIn}
+use Rattle.cat_verify_tables.specs.inside.PartWords.{IsStructureOf, IsWrongStructure}
+use Rattle.cat_verify_tables.proofs.CauseLemmas.{refuses_more}
+use Rattle.cat_verify_tables.proofs.EntryLemmas.{faulty_in, line_more, told_more}
+use Rattle.cat_verify_tables.proofs.members.structures.Goals as goal
+
+pub returns-in_err-made-clause-cause : goal.returns-in_err-made-clause-cause
+returns-in_err-made-clause-cause c =
+    let p = err_from_is_err_and c.from_residual.result c.from_residual.ensures.1 in
+    let lines = c.args.lines.now in
+    let l = c.loop-line in
+    let line = c.line-item.result in
+    let Fault = λ (before : List ImageStructure). IsWrongStructure c.args.types.now in
+    rw (p.1, p.2) (refuses_more (IsWrongStructure c.args.types.now line l.number)
+    (IsFaultyIn field_count Fault c.args.first lines)
+    (λ n wrong. faulty_in field_count Fault c.args.first lines l.line-index line l.number n c.loop-line-test.true
+    (sym c.line-item.is) l.invariant.number wrong)
+    c.in_err-made.field-0.0 c.in_err-made.ensures.cause)
+
+pub loop-line-preserved : goal.loop-line-preserved
+loop-line-preserved c =
+    let lines = c.args.lines.now in
+    let l = c.loop-line in
+    let line = c.line-item.result in
+    record {
+      number = line_more field_count lines l.line-index line c.args.first l.number c.len.result _
+          c.loop-line-test.true (sym c.line-item.is) l.invariant.number c.len.ensures
+          c.in_ok-number.ensures;
+      told = rw c.in_ok-push.ensures.ok
+          (told_more (λ _. IsStructureOf c.args.types.now) lines l.line-index line l.structures c.in_ok-made.made
+          c.loop-line-test.true (sym c.line-item.is) l.invariant.told c.in_ok-made.ensures.told);
+    }
