@@ -1,7 +1,8 @@
 // The code of a program.
 ghost use Rattle.std.specs.Prelude.{◌≡◌, IfOk};
-ghost use Rattle.cat_calc.specs.Desugared.{KeepsOutcomes, KeepsDeciders};
+ghost use Rattle.cat_calc.specs.Desugared.{KeepsOutcomes, KeepsDeciders, AreMadeOf};
 ghost use Rattle.cat_machine.specs.ForPrograms.{IsCodeFor};
+ghost use Rattle.cat_build.specs.Built.{IsLoweredOf};
 
 use cat_calc::Calc;
 use cat_code::Code;
@@ -14,7 +15,9 @@ pub fn code_of(alloc: Global, program: &Program, calc: &Calc) -> Result<Code, Al
     requires declared { calc.now.decls ≡ program.now.decls }
     requires outcomes { KeepsOutcomes program.now calc.now }
     requires deciders { KeepsDeciders program.now calc.now }
-    ensures { IfOk result (λ code. ∥ IsCodeFor program.now code ∥₁) }
+    requires made { AreMadeOf program.now.bodies calc.now.scopes }
+    ensures code { IfOk result (λ code. ∥ IsCodeFor program.now code ∥₁) }
+    ensures lowered { IfOk result (IsLoweredOf program.now) }
 {
     lower(alloc, calc)
 }

@@ -18,3 +18,4 @@ pub mod CalcFormed
 pub mod Desugaring
 pub mod DesugaredSamples
 pub mod Exported
+pub mod MadeTerms

@@ -2,7 +2,7 @@
 ghost use Rattle.std.specs.Prelude.{◌≡◌, ◌<◌, length, IfOk};
 ghost use Rattle.cat_pos.specs.declared.limits.TheConstants.{ENTRIES_BOUND};
 ghost use Rattle.cat_scope.specs.Names.{AllHave};
-ghost use Rattle.cat_calc.specs.Desugared.{KeepsOutcomes, KeepsDeciders};
+ghost use Rattle.cat_calc.specs.Desugared.{KeepsOutcomes, KeepsDeciders, AreMadeOf};
 ghost use Rattle.cat_scope.specs.AllForests.{AreForestsOf};
 
 use crate::Calc;
@@ -18,6 +18,7 @@ pub fn desugar(alloc: Global, program: &Program, forests: &[Forest]) -> Result<C
     ensures decls { IfOk result (λ calc. calc.decls ≡ program.now.decls) }
     ensures outcomes { IfOk result (KeepsOutcomes program.now) }
     ensures deciders { IfOk result (KeepsDeciders program.now) }
+    ensures made { IfOk result (λ calc. AreMadeOf program.now.bodies calc.scopes) }
 {
     programs_are_well_formed(program);
     let decls = program.decls.copy()?;

@@ -76,3 +76,7 @@ pub mod AllCode
 pub mod CodeIsValid
 pub mod Assembled
 pub mod Exported
+pub mod LaidFiles
+pub mod LoweredFiles
+pub mod TermFiles
+pub mod CodeFiles

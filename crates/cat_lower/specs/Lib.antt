@@ -13,3 +13,4 @@ pub mod Grown
 pub mod Told
 pub mod Starts
 pub mod Drafts
+pub mod Files

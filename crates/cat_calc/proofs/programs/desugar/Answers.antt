@@ -1,11 +1,13 @@
-use Rattle.std.proofs.Common.{◌≡◌, ℕ, ap, ◌∙◌, List}
+use Rattle.std.proofs.Common.{◌≡◌, ℕ, sym, ap, ◌∙◌, subst, List}
 use Rattle.cat_value.specs.declared.value.Value.{Value}
 use Rattle.cat_scope.specs.Calls.{Items}
 use Rattle.cat_scope.specs.Runs.{Run}
 use Rattle.cat_scope.specs.Running.{scope_run}
 use Rattle.cat_scope.specs.Outcomes.{outcome_of}
 use Rattle.cat_calc.specs.Calculus.{calc_run}
+use Rattle.cat_calc.specs.Desugared.{AreMadeOf}
 use Rattle.cat_calc.proofs.Desugaring.{calc_formed, program_runs}
+use Rattle.cat_calc.proofs.MadeTerms.{scopes_made}
 use Rattle.cat_calc.proofs.programs.desugar.Goals as goal
 
 pub from_parts-requires : goal.from_parts-requires
@@ -30,3 +32,9 @@ returns-clause-outcomes c scope input =
 
 pub returns-clause-deciders : goal.returns-clause-deciders
 returns-clause-deciders c scope input = ap (λ (run : Run (List Value)). run.log) (same_runs c scope input)
+
+pub returns-clause-made : goal.returns-clause-made
+returns-clause-made c =
+    let program = c.args.program.now in
+    subst (AreMadeOf program.bodies) (sym (c.from_parts.ensures.scopes ∙ c.in_ok-scopes.ensures))
+    (scopes_made program.decls program.decls.scopes program.bodies)
