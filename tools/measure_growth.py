@@ -24,7 +24,7 @@ def audit(scope, text, said):
 
 
 def check(scope, text):
-    return Call(['check', scope, 'a.md', 'certificate'], {'a.md': text}, reply=b'Yes\n', first=['audit', scope, 'a.md'])
+    return Call(['check', scope, 'a.md', 'made'], {'a.md': text}, reply=b'Yes\n', first=['audit', scope, 'a.md'])
 
 
 def table(scope, text, said):
@@ -33,6 +33,10 @@ def table(scope, text, said):
 
 def emit(text):
     return Call(['emit', 'S', 'a.md'], {'a.md': text}, reply=b'catala-code 1\n')
+
+
+def executed(text, given, reply):
+    return Call(['exec', 'S', 'made'], {'a.md': text}, json.dumps(given).encode(), reply, ['emit', 'S', 'a.md'])
 
 
 def trace(text, given, reply):
@@ -144,7 +148,7 @@ def lay(folder, program, call):
         (folder / name).write_text(text)
     if call.first:
         made = subprocess.run([program, *call.first], cwd=folder, stdout=subprocess.PIPE)
-        (folder / 'certificate').write_bytes(made.stdout)
+        (folder / 'made').write_bytes(made.stdout)
 
 
 # What grows, the call of a size, and the greatest size that tools/measure takes.
@@ -174,6 +178,9 @@ WORK = [
     ('the code of variables of a scope', lambda n: emit(items(n)), 4_000),
     ('the code of scopes', lambda n: emit(scopes(n)), 32_000),
     ('the code of a structure literal, the last field first', lambda n: emit(turned(n)), 64_000),
+    ('the listing of definitions of one variable, run', lambda n: executed(definitions(n), {'n': 1}, b'{"x":1}\n'), 64_000),
+    ('the listing of variables of a scope, run', lambda n: executed(items(n), {'n': 1}, b'{"x0":1,'), 4_000),
+    ('the listing of scopes, run', lambda n: executed(scopes(n), {'n': 1}, b'{"x":1}\n'), 32_000),
     ('a trace of articles', lambda n: trace(articles(n), {'n': 1}, b'S.x0 by a.md:'), 4_000),
     ('many inputs', lambda n: many(items(20), [{'n': k} for k in range(n)], b'{"x0":0,'), 64_000),
     ('a drill', lambda n: Call(['drill', str(n), 'none'], {}, reply=b'bands %d ' % n), 1_000),

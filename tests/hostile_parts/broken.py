@@ -1,15 +1,16 @@
-"""Sources, inputs and certificates that are cut and changed: each answer is in the table, and is one that the second implementation
-allows where it reads the source in time."""
+"""Sources, inputs, certificates and listings that are cut and changed: each answer is in the table, and is one that the second
+implementation allows where it reads the source in time."""
 import functools, itertools
 from typing import NamedTuple
 
 from reference.answers import Program, is_allowed
 from reference.certificate import checked
+from reference.lowering import Lowering
 
 from .changes import cut, with_other_bytes, with_other_lines
 from .compared import allowed, in_time, on_disk, text_of
 from .odd_bytes import ODD_INPUTS, PLAIN, long_inputs, long_sources, random_texts, with_odd_bytes
-from .odd_words import odd_words
+from .odd_words import CODE, odd_words
 from .pieces import Piece, Tried
 from .runs import Runs
 from .statutes import statutes
@@ -20,7 +21,7 @@ MANY = 2_000
 
 
 class Changed(NamedTuple):
-    """A call whose source, input or certificate is changed, and whether the second implementation is asked."""
+    """A call whose source, input, certificate or listing is changed, and whether the second implementation is asked."""
     kind: str
     what: str
     files: dict
@@ -83,14 +84,32 @@ def inputs(s):
             yield what + ' with a byte changed', functools.partial(with_other_bytes, text), 211 * rarer, call
 
 
+def of_listing(s, kind, changes, step, is_sample):
+    """Runs of the listing of a statute that is changed."""
+    for k, (what, made) in enumerate(changes()):
+        if not is_sample or k % step == 0:
+            yield Changed(kind, '%s, %s' % (s.name, what), {'in': s.given}, ['exec', s.scope, '-', 'in'], made)
+
+
+def listings(s):
+    """Kinds of changes of a statute's listing."""
+    text = Lowering(Program(s.files, s.main)).listing().encode()
+    yield 'listings cut', functools.partial(cut, text), 997
+    yield 'listings with a line changed', functools.partial(with_other_lines, text), 211
+    yield 'listings with odd bytes', functools.partial(with_odd_bytes, text), 97
+
+
 def single(is_sample):
-    """Small sources and inputs."""
+    """Small sources, inputs and listings."""
     words, files = ['run', 'S', 'a.md'], {'a.md': PLAIN}
     for kind, changes, step in (('sources with a byte changed', with_other_bytes(PLAIN), 7),
                                 ('sources with odd bytes', with_odd_bytes(PLAIN), 3)):
         for k, (what, made) in enumerate(changes):
             if not is_sample or k % step == 0:
                 yield Changed(kind, 'plain, %s' % (what,), {'a.md': made}, words, b'{"n":1}')
+    for k, (what, made) in enumerate(with_other_bytes(CODE)):
+        if not is_sample or k % 31 == 0:
+            yield Changed('listings with a byte changed', what, {'in': b'{"n":1}'}, ['exec', 'S', '-', 'in'], made)
     for k, made in enumerate(random_texts(100 if is_sample else 4_000, PLAIN, 0)):
         yield Changed('random sources', str(k), {'a.md': made}, words, b'{"n":1}')
     for k, made in enumerate(random_texts(100 if is_sample else 2_000, b'{"n":-12, "q":[true, "\\u00e9"]}', 1)):
@@ -153,6 +172,8 @@ def all_changes(is_sample):
             yield '%s, %s of %s' % (kind[0], s.name, name), functools.partial(of_source, s, name, *kind, is_sample)
         for kind in inputs(s):
             yield '%s, %s' % (kind[0], s.name), functools.partial(of_input, s, *kind, is_sample)
+        for kind in listings(s):
+            yield '%s, %s' % (kind[0], s.name), functools.partial(of_listing, s, *kind, is_sample)
     yield 'small ones', functools.partial(single, is_sample)
     yield 'long parts', functools.partial(long_parts, is_sample)
 

@@ -4,6 +4,7 @@ from typing import NamedTuple
 
 from reference.answers import Program
 from reference.dead import dead
+from reference.lowering import Lowering
 from reference.report import audit
 from reference.tokens import KEYWORDS, PAIRS, SYMBOL
 
@@ -42,16 +43,19 @@ CALLS = [
     call('definitions short of leaves', 'dead Bands a.md --cases 1', 7),
     call('a check of definitions', 'dead Bands a.md dead', 0),
     call('drill', 'drill 3 none', 0),
+    call('exec', 'exec All code input.json', 0),
     call('conflict', 'run Drafted b.md both.json', 1),
     call('no value', 'run Drafted b.md none.json', 2),
     call('fault', 'run All a.md failed.json', 3),
     call('fault behind its code', 'emit All a.md failed.json', 3),
     call('fault behind what decided', 'trace All a.md failed.json', 3),
+    call('conflict of a listing', 'exec Drafted code both.json', 1),
     call('refused source', 'run All refused.md input.json', 4),
     call('refused input', 'run All a.md refused.json', 5),
     call('refused array', 'many All a.md input.json', 5),
     call('refused certificate', 'check Bands a.md input.json', 8),
     call('refused certificate of definitions', 'dead Bands a.md certificate', 8),
+    *(call('refused %s' % name, 'exec All %s input.json' % name, 15) for name in ('lines', 'tables', 'numbers', 'loops', 'shapes')),
     call('no such scope', 'run None a.md input.json', 9),
     call('no such target', 'table All a.md none', 9),
     call('missing file', 'run All a.md missing.json', 10),
@@ -88,15 +92,25 @@ def with_keys(given, lengths):
     return b'[%s]' % b','.join(given.replace(b'{', b'{"%s":1,' % (b'k' * length), 1) for length in lengths)
 
 
+def refused_listings(code):
+    """Listings that are refused: by a line, a table, a number, a jump back and a shape."""
+    *lines, last = code.splitlines(True)
+    number = int(last.split()[0])
+    made = {'numbers': b'jump %d' % (2**32 - 1), 'loops': b'jump 0', 'shapes': b'length'}
+    return {'lines': code + b'\n', 'tables': code.replace(b'\nconst integer ', b'\nconst boolean ', 1),
+            **{name: b''.join([*lines, b'%d %s\n' % (number, what)]) for name, what in made.items()}}
+
+
 @functools.cache
 def files():
-    """The files of the calls: those that are kept, the certificates that the second implementation writes, and what is made of them."""
+    """The files of the calls: those that are kept, the certificates and the listing that the second implementation writes, and what is made
+    of them."""
     kept = {file.name: file.read_bytes() for file in SOURCE.iterdir()}
     certificate = audit(kept, 'a.md', 'Bands').encode() + b'\n'
     certified = dead(Program(kept, 'a.md'), 'Bands')[0].encode() + b'\n'
-    given = kept['input.json']
+    code, given = Lowering(Program(kept, 'a.md')).listing().encode(), kept['input.json']
     failed, refused = given.replace(b'"n":42', b'"n":7777'), given.replace(b'"n":42', b'"n":4.2')
     return {**kept, 'certificate': certificate, 'dead': certified, 'both.json': b'{"income":10}', 'none.json': b'{"income":95}',
             'failed.json': failed, 'refused.json': refused, 'inputs.json': b'[%s]' % b','.join((given, refused, failed, given)),
-            'long.json': with_keys(given, LONG),
+            'long.json': with_keys(given, LONG), 'code': code, **refused_listings(code),
             'refused.md': kept['a.md'].replace(b'most equals 100', b'most equals true')}

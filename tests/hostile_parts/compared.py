@@ -40,7 +40,7 @@ def allowed(files, words, given):
         return {drill(words[1:])}
     if mode == 'emit' and not extra:
         return listings(files, main, scope)
-    if mode in ('emit', 'trace', 'many', 'table', 'dead') or (mode == 'audit' and extra):
+    if mode in ('emit', 'trace', 'many', 'table', 'dead', 'exec') or (mode == 'audit' and extra):
         return {text.rstrip('\n') for text, _ in any_replies(words, {**files, '-': given})}
     name = extra[0] if extra and not extra[0].startswith('--') else '-'
     data = {**files, '-': given}.get(name)

@@ -14,6 +14,7 @@ from .table import out_of_table, told
 STACKS = 1024, 8192
 CALLS = [(['run', 'S', 'a.md'], GIVEN), (['audit', 'S', 'a.md'], GIVEN), (['check', 'S', 'a.md'], GIVEN), (['emit', 'S', 'a.md'], GIVEN),
          (['emit', 'S', 'a.md', '-'], GIVEN), (['trace', 'S', 'a.md'], GIVEN), (['many', 'S', 'a.md'], b'[%s,{}]' % GIVEN)]
+EXEC = ['exec', 'S', 'code'], GIVEN
 # Of the processor.
 SECONDS = 20
 SMALL = 100_000
@@ -65,13 +66,15 @@ def at_edge(program, edge, is_sample):
 
 
 def heights(program, k, is_sample):
-    """A form at the greatest height and one past it, in each mode that reads a source."""
+    """A form at the greatest height and one past it, in each mode that reads a source, and its listing."""
     seconds, mib = 0, 0
     with Runs(program) as runs:
         for form, source, is_accepted in nested_sources(k):
             files = {'a.md': source}
             runs.put(files)
-            for words, given in CALLS:
+            files['code'] = runs.ended(['emit', 'S', 'a.md']).out
+            runs.put(files)
+            for words, given in CALLS + ([EXEC] if is_accepted else []):
                 for stack in STACKS[:1] if is_sample else STACKS:
                     ended, *took = measured(runs, words, given, stack)
                     seconds, mib = max(seconds, took[0]), max(mib, took[1])
@@ -94,8 +97,9 @@ def deep_calls(program):
     with Runs(program) as runs:
         for name, text in DEEP:
             runs.put({'a.md': text.encode()})
-            for mode, *extra in (['run'], ['audit'], ['emit', '-'], ['trace']):
-                words = [mode, 'S', 'a.md', *extra]
+            runs.put({'code': runs.ended(['emit', 'S', 'a.md']).out})
+            for mode, *extra in (['run'], ['audit'], ['emit', '-'], ['trace'], ['exec']):
+                words = [mode, 'S', 'code' if mode == 'exec' else 'a.md', *extra]
                 ended = runs.ended(words, b'{"n":1}', limit='ulimit -s %d' % STACKS[0])
                 wrong = out_of_table(words, ended) or ('' if ended.status == 0 else told(ended))
                 yield Tried('deep calls', '%s in %s' % (name, mode), wrong)

@@ -273,6 +273,21 @@ def long_certificates():
            b'Yes\ncatala-certificate 2\n')
 
 
+def long_listings():
+    """Listings at their greatest length, and a byte more: a long constant, and as many instructions as there is room for."""
+    counted = b'0 const 0\n1 length\n2 store 0\n3 slot 0\n4 pack 1\n5 return\n'
+    list_of = b'item x output 0:1:1 integer\nconst list of integer [1%s]\n'
+    jumps = [b'%d jump %d\n' % (k, k + 1) for k in range(INPUT // len(b'1000000 jump 1000001\n') - 100_000)]
+    last = len(jumps)
+    for name, reply, text in (('a constant', b'{"x":', list_of % (b',-48313' * (INPUT // 7 - 1_000)) + counted),
+                              ('instructions', b'{}\n', b''.join([*jumps, b'%d pack 0\n%d return\n' % (last, last + 1)]))):
+        front = b'catala-code 1\nfile %s\nscope S 0\n'
+        for more in (0, 1):
+            listing = front % (b'a' * (INPUT + more - len(front % b'') - len(text))) + text
+            status, begins = (14, b'too large code\n') if more else (0, reply)
+            yield Edge('bytes of a listing, ' + name, {'code': listing}, ['exec', 'S', 'code'], b'{}', status, begins)
+
+
 def edges(is_sample):
     """Those that take long are no part of a sample."""
     yield from chains()
@@ -281,3 +296,4 @@ def edges(is_sample):
     if not is_sample:
         yield from large()
         yield from long_inputs()
+        yield from long_listings()

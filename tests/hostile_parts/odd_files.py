@@ -31,7 +31,8 @@ def lay(folder):
 # A call's words, its status and its reply.
 NAMED = [
     (['run', 'All', '.'], 11, FAULT % '.'), (SCOPE + ['.'], 11, FAULT % '.'), (SCOPE + ['sub'], 11, FAULT % 'sub'),
-    (['check', 'Bands', 'a.md', 'sub'], 11, FAULT % 'sub'),
+    (['check', 'Bands', 'a.md', 'sub'], 11, FAULT % 'sub'), (['exec', 'All', 'sub'], 11, FAULT % 'sub'),
+    (['exec', 'All', 'code', 'sub'], 11, FAULT % 'sub'),
     (['run', 'All', 'folder.md'], 11, FAULT % 'sub'),
     (['run', 'All', 'nowhere'], 10, 'missing file nowhere'), (['run', 'All', 'circle'], 11, FAULT % 'circle'),
     (['run', 'All', 'a.md/x'], 11, FAULT % 'a.md/x'), (['run', 'All', 'sub/x'], 10, 'missing file sub/x'),
@@ -39,7 +40,8 @@ NAMED = [
     (['run', 'All', '/dev/zero'], 14, 'too large /dev/zero'), (SCOPE + ['/dev/zero'], 14, 'too large /dev/zero'),
     (['check', 'Bands', 'a.md', '/dev/zero'], 14, 'too large /dev/zero'),
     (['run', 'All', '/dev/null'], 9, 'no such scope All'), (SCOPE + ['/dev/null'], 5, 'input refused I1'),
-    (['check', 'Bands', 'a.md', '/dev/null'], 8, 'certificate refused C4'),
+    (['check', 'Bands', 'a.md', '/dev/null'], 8, 'certificate refused C4'), (['exec', 'All', '/dev/zero'], 14, 'too large /dev/zero'),
+    (['exec', 'All', 'code', '/dev/zero'], 14, 'too large /dev/zero'), (['exec', 'All', '/dev/null'], 15, 'listing refused L2'),
     (['run', 'All', '/proc/self/mem'], 11, FAULT % '/proc/self/mem'),
     (['run', 'All', 'nul.md'], 11, FAULT % 'b\0.md'), (['run', 'All', 'long.md'], 11, FAULT % LONGER.decode()),
     (['run', 'n' * 100_000, 'a.md'], 9, 'no such scope ' + 'n' * 100_000),
@@ -71,9 +73,9 @@ def closed_files(runs):
 
 
 def pipes(runs):
-    """Named pipes as a source, an input and a certificate."""
+    """Named pipes as a source, an input, a certificate and a listing."""
     for words, name in ((['run', 'All', 'fifo', 'input.json'], 'a.md'), (SCOPE + ['fifo'], 'input.json'),
-                        (['check', 'Bands', 'a.md', 'fifo'], 'certificate')):
+                        (['check', 'Bands', 'a.md', 'fifo'], 'certificate'), (['exec', 'All', 'fifo', 'input.json'], 'code')):
         right = runs.ended([name if word == 'fifo' else word for word in words])
         ended = runs.ended(words, limit='cat %s > fifo &' % name + ' :')
         right = Ended(right.status, right.out.replace(name.encode() + b':', b'fifo:'), right.err)
@@ -84,7 +86,7 @@ def odd_inputs(runs):
     """Standard input that is closed, a folder, only written to, or has no end."""
     folder, sink, zeros = os.open(runs.folder, os.O_RDONLY), os.open(os.devnull, os.O_WRONLY), os.open('/dev/zero', os.O_RDONLY)
     fault, large = Ended(11, b'read fault -\n', b''), Ended(14, b'too large -\n', b'')
-    for words in (SCOPE, SCOPE + ['-'], ['run', 'All', '-'], ['check', 'Bands', 'a.md']):
+    for words in (SCOPE, SCOPE + ['-'], ['run', 'All', '-'], ['check', 'Bands', 'a.md'], ['exec', 'All', '-'], ['exec', 'All', 'code']):
         for what, options, want in (('closed', {'limit': 'exec <&-'}, fault), ('a folder', {'stdin': folder}, fault),
                                     ('only written to', {'stdin': sink}, fault), ('without end', {'stdin': zeros}, large)):
             ended = runs.ended(words, **options)
@@ -101,7 +103,7 @@ def odd_outputs(runs):
     os.close(closed)
     modes = (['audit', 'All', 'a.md'], ['check', 'Bands', 'a.md', 'certificate'], ['emit', 'All', 'a.md'], ['emit', *CALL[1:]],
              ['trace', *CALL[1:]], ['many', 'All', 'a.md', 'inputs.json'], ['table', 'All', 'a.md'], ['dead', 'All', 'a.md'],
-             ['dead', 'Bands', 'a.md', 'dead'], ['drill', '2', 'none'])
+             ['dead', 'Bands', 'a.md', 'dead'], ['exec', 'All', 'code', 'input.json'], ['drill', '2', 'none'])
     for words in (CALL, *modes, [], ['run', 'All', 'none.md']):
         for what, options in (('full', {'stdout': full}), ('closed', {'limit': 'exec >&-'}), ('only read from', {'stdout': source}),
                               ('a closed pipe', {'stdout': into_closed}), ('closed as input is', {'limit': 'exec <&- >&-'})):

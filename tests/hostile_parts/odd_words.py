@@ -1,7 +1,8 @@
 """Words as no user writes them: lists of words at random, of each of which the second implementation tells the reply and the status."""
 import random
 
-from reference.answers import is_allowed
+from reference.answers import Program, is_allowed
+from reference.lowering import Lowering
 from reference.modes import replies
 
 from .compared import on_disk, text_of
@@ -10,13 +11,14 @@ from .pieces import Tried
 from .runs import Runs
 from .table import out_of_table, told
 
-MODES = ['run', 'many', 'trace', 'audit', 'check', 'emit', 'table', 'dead', 'drill']
-FILES = {'a.md': PLAIN, 'in': b'{"n":1}', 'array': b'[{"n":1},{"n":2}]', '--': b'law', '-a.md': PLAIN}
+MODES = ['run', 'many', 'trace', 'audit', 'check', 'emit', 'table', 'dead', 'exec', 'drill']
+CODE = Lowering(Program({'a.md': PLAIN}, 'a.md')).listing().encode()
+FILES = {'a.md': PLAIN, 'code': CODE, 'in': b'{"n":1}', 'array': b'[{"n":1},{"n":2}]', '--': b'law', '-a.md': PLAIN}
 NUMBERS = ['5', '0', '', '1000000', '1000001', '+5', '+', ' 5', '05', '-1', '\u0665', '1_000', '9' * 30, '5=5']
 ODD = ['', ' ', '-', '--', '--cases', *('--cases=' + number for number in NUMBERS), '--case', '--case=5', '--CASES=5', '-c', '-c5', '-h',
        '--help', '-V', '--version', 'help', 'RUN', 'runs', '5', '1', '1000', '1001', '0', '03', '+3', 'none', 'None', '\u0665', '\n',
        'a\n.md', 'a.md\n', 'in\n', '-a.md', 'S ', 'n' * 1000, '\u00e9', 'e\u0301', '\u202e', '\u2028']
-PLAIN_WORDS = ['S', 'S', 'a.md', 'a.md', 'in', 'array', '-', '3', 'none', '--cases', '7']
+PLAIN_WORDS = ['S', 'S', 'a.md', 'a.md', 'code', 'in', 'array', '-', '3', 'none', '--cases', '7']
 
 
 def lists(count):
@@ -26,6 +28,8 @@ def lists(count):
         words = [chance.choice(MODES), 'S', 'a.md', *chance.choice(([], ['in'], ['array'], ['-'], ['--cases', '5']))]
         if words[0] == 'drill' and chance.random() < 0.5:
             words[1:] = ['3', 'none']
+        if words[0] == 'exec' and chance.random() < 0.7:
+            words[2] = 'code'
         for _ in range(chance.randrange(3)):
             at = chance.randrange(len(words) + 1)
             words[at:at + chance.randrange(2)] = [chance.choice(ODD + PLAIN_WORDS)] * chance.randrange(2)

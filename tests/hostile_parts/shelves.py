@@ -44,6 +44,8 @@ def calls():
             ('dead Bands a.md dead', {'dead': every['dead']}, 'dead'), ('run All a.md none', {}, 'none'), ('run None a.md', {}, ''),
             ('run All a.md', {}, '-')):
         yield words.split(), {**law, **more}, ['a.md', 'b.md', *([last] if last else [])]
+    for name in ('code', 'lines', 'numbers'):
+        yield ['exec', 'All', name], {name: every[name], '-': given}, [name, '-'][:1 + (name == 'code')]
     yield ['drill', '2', 'none'], {}, []
     nul, inner = 'x\0.md', b'> Include: \0\r.md\n' + PLAIN
     yield ['run', 'S', nul], {nul: PLAIN, '-': b'{"n":1}'}, [nul, '-']

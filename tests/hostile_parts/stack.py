@@ -19,7 +19,7 @@ LOADER = {127, -9, -11}
 SPACES = [4_096 * 5**k // 4**k for k in range(24)]
 # An environment takes at most a fourth of the stack, and a word of it 128 KiB.
 FULL = {'HOSTILE_%d' % k: 'n' * 80_000 for k in range(3)}
-MODES = ['run', 'audit', 'check', 'emit', 'trace', 'many', 'table', 'dead']
+MODES = ['run', 'audit', 'check', 'emit', 'trace', 'many', 'table', 'dead', 'exec']
 
 
 @functools.cache
@@ -47,9 +47,10 @@ def loads(runs, kib):
 
 
 def calls(runs, source, given, modes=MODES):
-    """A call of each mode on a source, with its answer where memory is there."""
+    """A call of each mode on a source, or on its listing, with its answer where memory is there."""
     runs.put({'a.md': source})
-    for words in [[mode, 'S', 'a.md'] for mode in modes] + ([['emit', 'S', 'a.md', '-']] if 'emit' in modes else []):
+    runs.put({'code': runs.ended(['emit', 'S', 'a.md']).out})
+    for words in [[mode, 'S', 'code' if mode == 'exec' else 'a.md'] for mode in modes] + ([['emit', 'S', 'a.md', '-']] if 'emit' in modes else []):
         now = b'[%s,%s]' % (given, given) if words[0] == 'many' else given
         yield words, now, runs.ended(words, now)
 

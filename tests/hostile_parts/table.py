@@ -2,6 +2,8 @@
 import json, re
 
 PLACE = rb'[^\n]+:[1-9][0-9]*:[1-9][0-9]*'
+# What a listing may have in the place of one.
+ANY_PLACE = rb'[^\n]*:[0-9]+:[0-9]+'
 NAME = rb'[^\n]+'
 # A word of the call, which may be empty or have a line feed.
 WORD = rb'(?s:.*)'
@@ -39,12 +41,19 @@ FINE = {
     'trace': DECIDED + OUTPUTS,
     'table': SHOWN,
     'dead': rb'%s|(?:%s)*Yes\n' % (DEFINITIONS[0], NEVER),
+    'exec': OUTPUTS,
     'drill': DRILLED,
 }
+
+
+def stops(place):
+    """How a run stops, by its status, with places of this form."""
+    return {1: rb'conflict %s at %s(?: %s)+\n' % (NAME, place, place), 2: rb'no value %s at %s\n' % (NAME, place),
+            3: rb'fault %s at %s\n' % (FAULTS, place)}
+
+
 TEXTS = {
-    1: rb'conflict %s at %s(?: %s)+\n' % (NAME, PLACE, PLACE),
-    2: rb'no value %s at %s\n' % (NAME, PLACE),
-    3: rb'fault %s at %s\n' % (FAULTS, PLACE),
+    **stops(PLACE),
     4: rb'source refused E(?:[1-9]|1[0-9]|20) at %s\n' % PLACE,
     # A key that is named may have a line feed.
     5: rb'input refused (?:I1|I[245] [^\n]*|I3 (?s:.*))\n',
@@ -57,6 +66,7 @@ TEXTS = {
     12: rb'',
     13: rb'',
     14: rb'too large %s\n' % WORD,
+    15: rb'listing refused (?:L2|[LV]1 at line [1-9][0-9]*|V[2-4] at instruction [0-9]+)\n',
 }
 # The lines of many inputs, of which each tells what a run on it alone does.
 LINES = rb'(?:%s)*' % b'|'.join((OUTPUTS, TEXTS[1], TEXTS[2], TEXTS[3], TEXTS[5]))
@@ -64,6 +74,8 @@ FINE['many'] = LINES
 # What of them is written where the output failed, and where memory ran out.
 BROKEN = {12: LINES + rb'[^\n]*', 13: LINES}
 STOPS = (1, 2, 3)
+# What a source is refused with, and what a listing.
+SOURCE, LISTED = 4, 15
 # What may stand in front of a stop, by the mode.
 FRONTS = {'emit': COUNTED, 'trace': DECIDED}
 VERDICTS = {0: {b'Complete'}, 6: {b'Found'}, 7: {b'Masked', b'Undecided'}}
@@ -87,17 +99,21 @@ def out_of_table(words, ended):
     form = FINE.get(mode) if ended.status == 0 else TEXTS.get(ended.status)
     if ended.status in STOPS:
         form = FRONTS.get(mode, b'') + form
+    if mode == 'exec' and ended.status in STOPS:
+        form = stops(ANY_PLACE)[ended.status]
     if mode == 'many' and ended.status in BROKEN:
         form = BROKEN[ended.status]
     if mode == 'table' and ended.status == 7:
         form = SPENT
     if mode == 'dead' and ended.status in (6, 7):
         form = DEFINITIONS[ended.status]
+    if ended.status in (SOURCE, LISTED) and (mode == 'exec') != (ended.status == LISTED):
+        form = None
     if form is None or ended.err:
         return 'status %d, %r on standard error' % (ended.status, ended.err[:80])
     if not re.fullmatch(form, ended.out):
         return 'status %d with %r' % (ended.status, ended.out[:80])
-    is_outputs = mode in ('run', 'trace') or mode == 'emit' and not re.fullmatch(LISTING, ended.out)
+    is_outputs = mode in ('run', 'trace', 'exec') or mode == 'emit' and not re.fullmatch(LISTING, ended.out)
     if is_outputs and ended.status == 0 and not is_json(ended.out.split(b'\n')[-2]):
         return 'no JSON: %r' % ended.out[-80:]
     if mode == 'audit' and ended.status in VERDICTS:

@@ -3,6 +3,7 @@ import json, sys
 from typing import List
 
 from . import program
+from .listings import STOPS, Listing
 from .notes import data_of, text_of
 from .pages import Pages
 from .replies import Reply
@@ -34,10 +35,11 @@ def explained(words: List[str], path: str, is_json: bool) -> int:
     try:
         files = Files(ended.given)
         called = program.read_words(words)
-        source = Source(files, called.file)
-        reply = Reply(path, called, ended, source, Pages())
+        listing = Listing(files, called.file) if called.mode == 'exec' else None
+        source = Source(files, called.file) if listing is None else listing.source(ended.status)
+        reply = Reply(path, called, ended, source, Pages(), listing)
         notes = reply.notes()
-        texts = {name: files.lines(name) for name in files.read}
+        texts = (source.files if ended.status in STOPS else files).texts()
         told = data_of(notes, reply.text, ended.status) if is_json else text_of(notes, texts)
     except Exception as error:  # Whatever goes wrong here, the reply and the status are those of the program.
         told = 'catala-explain: this reply is not explained: %s: %s\n' % (type(error).__name__, error)

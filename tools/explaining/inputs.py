@@ -52,12 +52,10 @@ class Spans:
 
 
 class Input:
-    """An input that was refused, of a scope of a program."""
+    """An input that was refused, of a scope with these items."""
 
-    def __init__(self, name: str, data: bytes, program, scope: str):
-        self.name, self.text = name, data.decode('utf-8', 'surrogateescape')
-        self.types = program.types
-        self.items = program.scopes[program.runs.numbers[scope]].items
+    def __init__(self, name: str, data: bytes, types, items):
+        self.name, self.text, self.types, self.items = name, data.decode('utf-8', 'surrogateescape'), types, items
 
     def place(self, start: int, end: int, label: str = '') -> Place:
         """A piece of the text, up to the end of its line."""

@@ -64,7 +64,7 @@ def excerpt(places: List[Place], lines: Optional[List[str]], is_first: bool, dig
     """The line of some places with what is meant underlined."""
     margin, place = ' ' * digits, places[0]
     head = '%s %s %s:%d:%d' % (margin, '-->' if is_first else ':::', place.file, place.line, place.column)
-    if lines is None or place.line > len(lines):
+    if lines is None or not 0 < place.line <= len(lines) or place.column < 1:  # A listing may have places that are none.
         return [head]
     line, *marks = marked(lines[place.line - 1], places, is_first)
     return [head, margin + '  |', '%*d  | %s' % (digits, place.line, line), *['%s  | %s' % (margin, text) for text in marks]]

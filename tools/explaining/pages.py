@@ -83,17 +83,22 @@ class Pages:
         return '\n'.join([*lines, '', flat(part.text.split('\n\n')[-1]).replace('`', ''), 'The page: %s' % (DOCS / 'EXPLAIN.md')])
 
     def asked(self, words: str) -> List[Part]:
-        """The parts that tell of what a user asks for: a code or its name, a line of an audit, or a refusal of a certificate."""
+        """The parts that tell of what a user asks for: a code or its name, a line of an audit, or a refusal of a certificate or a listing."""
         asked = words.lower()
         titled = [part for part in self.parts('REFUSALS.md')
                   if asked == part.title.lower() or CODED.match(part.title) and asked in part.title.lower().split()]
         shaped = [part for part in self.parts('AUDIT.md') if part.title.startswith('`') and asked in part.title.lower()]
-        return titled or shaped or self.certificate(words)
+        return titled or shaped or self.certificate(words) or self.listing(words)
 
     def certificate(self, code: str) -> List[Part]:
         """The row that tells of a refusal of a certificate, as a part."""
         return [Part(part.page, code, row.help, row.help, '') for part in self.parts('AUDIT.md') for row in rows_of(part)
                 if row.keys[0].startswith('`certificate refused %s' % code.upper())]
+
+    def listing(self, code: str) -> List[Part]:
+        """The row that tells of a refusal of a listing, as a part."""
+        return [Part(part.page, code, row.help, row.help, part.mend) for part in self.parts('MACHINE.md') for row in rows_of(part)
+                if row.keys[0].startswith('`listing refused %s' % code.upper())]
 
 
 def is_rule(line: str) -> bool:

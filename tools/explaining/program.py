@@ -5,7 +5,7 @@ from typing import List, NamedTuple, Optional
 HERE = pathlib.Path(sys.argv[0]).resolve().parent
 BLOCK = 65_536
 OUTPUT_FAILED, NOT_FOUND = 12, 127
-MODES = ('run', 'audit', 'check', 'emit', 'trace', 'many', 'table', 'dead', 'drill')
+MODES = ('run', 'audit', 'check', 'emit', 'trace', 'many', 'table', 'dead', 'exec', 'drill')
 
 
 class Words(NamedTuple):
@@ -17,7 +17,7 @@ class Words(NamedTuple):
 
     def reads_input(self) -> bool:
         """Whether standard input is read: named, or in place of a name."""
-        return '-' in (self.file, self.extra) or self.mode in ('run', 'check', 'trace', 'many') and bool(self.file) and not self.extra
+        return '-' in (self.file, self.extra) or self.mode in ('run', 'check', 'trace', 'many', 'exec') and bool(self.file) and not self.extra
 
 
 class Ended(NamedTuple):

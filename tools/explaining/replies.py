@@ -1,11 +1,12 @@
 """What explains a reply: by its status and its form."""
 import re
-from typing import List
+from typing import List, Optional
 
 from reference.answers import Program
 from reference.report import Scoped
 
-from . import audits, definitions, inputs, outcomes, refusals, warnings
+from . import audits, definitions, inputs, listings, outcomes, refusals, warnings
+from .listings import Listing
 from .notes import Note, Place
 from .pages import Pages
 from .program import Ended, Words, reply_on
@@ -27,10 +28,11 @@ def places_in(text: str) -> List[Place]:
 
 
 class Reply:
-    """The reply of a call, and what was called."""
+    """The reply of a call, and what was called: something of a source, or a listing, whose source is the one of which it was made."""
 
-    def __init__(self, path: str, words: Words, ended: Ended, source: Source, pages: Pages):
+    def __init__(self, path: str, words: Words, ended: Ended, source: Source, pages: Pages, listing: Optional[Listing] = None):
         self.path, self.words, self.status, self.source, self.pages = path, words, ended.status, source, pages
+        self.listing = listing
         self.text = ended.reply.decode('utf-8', 'surrogateescape').rstrip('\n')
 
     def program(self) -> Program:
@@ -38,11 +40,20 @@ class Reply:
 
     def notes(self) -> List[Note]:
         explained = {1: self.stopped, 2: self.stopped, 3: self.stopped, 4: self.refused, 5: self.input, 6: self.report, 7: self.report,
-                     8: self.certificate, 9: self.named, 10: self.named, 11: self.named, 14: self.named}
+                     8: self.certificate, 9: self.named, 10: self.named, 11: self.named, 14: self.named, 15: self.listed}
         notes = explained[self.status]() if self.status in explained and self.words.mode != 'drill' else []
+        if self.listing is not None:
+            return notes
         is_built = self.source.is_small and self.status in ACCEPTED
         return notes + (warnings.warnings_of(self.source, self.pages, self.program()) if is_built else
                         warnings.of_files(self.source, self.pages))
+
+    def declared(self) -> Optional[tuple]:
+        """The types, and the items of the scope that is asked for; nothing where what declares them is too large."""
+        if self.listing is not None:
+            return self.listing.declared(self.words.scope)
+        program = self.program() if self.source.is_small else None
+        return program and (program.types, program.scopes[program.runs.numbers[self.words.scope]].items)
 
     def targets(self) -> List[str]:
         """The names of the targets of the scope that is asked for; none where the source is too large."""
@@ -73,11 +84,13 @@ class Reply:
     def input(self) -> List[Note]:
         code, path = INPUT.fullmatch(self.text).groups()
         name = self.words.extra or '-'
-        data = self.source.files.content(name) if name != self.words.file else None  # Behind a source nothing is left.
-        if data is None or not self.source.is_small:
+        files = self.source.files if self.listing is None else self.listing.files
+        data = files.content(name) if name != self.words.file else None  # Behind a source nothing is left.
+        declared = self.declared() if data is not None else None
+        if declared is None:
             part = self.pages.of_code(code)
             return [Note('reply', code, part.title.partition(' ')[2], [], [part.sentence], [part.mend])]
-        given = inputs.Input(name, data, self.program(), self.words.scope)
+        given = inputs.Input(name, data, *declared)
         if self.words.mode == 'many' and code != 'I1':
             return [inputs.no_array(given, self.pages, code)]
         return inputs.notes_of(given, self.pages, code, path)
@@ -101,6 +114,9 @@ class Reply:
         places = [Place(name, int(line), 1, len(shown.encode('utf-8', 'surrogateescape')) + 1)] if line else []
         return [Note('reply', code, '', places, [part.sentence])]
 
+    def listed(self) -> List[Note]:
+        return [listings.refused(self.listing, self.pages, self.text)]
+
     def named(self) -> List[Note]:
         if self.status == 9 and self.text.startswith(NO_TARGET):
             return [outcomes.no_target(self.pages, self.text[len(NO_TARGET):], self.targets())]
@@ -108,6 +124,8 @@ class Reply:
         if not self.text.startswith(code):
             return [Note('reply', 'usage', '', [], [], self.pages.calls())]
         name = self.text[len(code) + 1:]
+        if self.status == 9 and self.listing is not None:
+            return [listings.no_scope(self.listing, self.pages, name)]
         if self.status == 9:
             return [outcomes.no_scope(self.source, self.pages, name)]
         return [outcomes.no_file(self.source, self.pages, code, name)]

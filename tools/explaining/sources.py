@@ -47,6 +47,10 @@ class Files:
             self.parted[name] = self.read.get(name, b'').decode('utf-8', 'surrogateescape').split('\n')
         return self.parted[name]
 
+    def texts(self) -> Dict[str, List[str]]:
+        """The lines of each file that was read."""
+        return {name: self.lines(name) for name in self.read}
+
 
 class Pieces(sources.Gathering):
     """Gathers the pieces of code as they stand, and the includes."""
@@ -104,7 +108,7 @@ class Source:
 
     def line(self, pos: Pos) -> str:
         lines = self.files.lines(self.names[pos.file])
-        return lines[pos.line - 1] if pos.line <= len(lines) else ''
+        return lines[pos.line - 1] if 0 < pos.line <= len(lines) else ''
 
     def without_value(self, pos: Pos, label: str) -> Place:
         """The definition that begins there, up to its condition, or else to its name."""

@@ -1,12 +1,14 @@
 """The tables of a listing that anyone may have made: what they declare, and the lines that name, spell or declare something wrong."""
 import oracle_json as forms
-from oracle_sources import MOST_FILE, MOST_FILES
+from oracle_sources import MOST_FILES
 
 from .answers import Given
 from .checker import HIGHEST, MOST_CASES, MOST_ITEMS, MOST_PARAMETERS, base_of, reachable
 from .images import position
 from .machine import FLAT, KINDS, Declared, Item, ScopeOf, Types
 from .tokens import KEYWORDS, name_end
+
+MOST_TEXT = 64 * 1024 * 1024
 
 
 def is_type_word(name):
@@ -25,8 +27,6 @@ class ImageTables:
         self.image, self.wrong = image, set()
         lines = image.tables
         self.names_once(lines['file'])
-        for line in lines['file'][MOST_FILES:]:
-            self.refuse(line)
         self.names_once(sorted(lines['structure'] + lines['enumeration'] + lines['scope'], key=lambda line: line.number))
         self.declare_types(lines)
         self.numbers = {line.words[0]: n for n, line in reversed(list(enumerate(lines['scope'])))}
@@ -52,9 +52,9 @@ class ImageTables:
             known.add(line.words[0])
 
     def placed(self, line, words):
-        """A position, whose file has a line, and which stands at most behind the last byte of the longest file."""
+        """A position, whose file has a line and may be one of a source, and whose column may be one of a text that is read."""
         pos = position(words)
-        if pos.file >= len(self.image.tables['file']) or max(pos.line, pos.column) > MOST_FILE + 1:
+        if pos.file >= min(len(self.image.tables['file']), MOST_FILES) or pos.column >= MOST_TEXT:
             self.refuse(line)
         return pos
 

@@ -1,5 +1,5 @@
 """What the modes write of the statutes of the examples, which is kept beside each: the traces of its inputs, its tables, and what of it is
-dead; and the cases that ask for a trace, for many inputs, for tables, or for what is dead."""
+dead; and the cases that ask for a trace, for many inputs, for tables, for what is dead, or for a run of a listing."""
 from .answers import Program
 from .cases import case_folders, files_of, reply_in, words_of
 from .dead import dead
@@ -26,9 +26,9 @@ def statute_modes():
 
 
 def cases_of_modes():
-    """Each case that asks for a trace, for many inputs, for tables or for what is dead: its name, what it expects, and the replies that the
-    rules allow."""
+    """Each case that asks for a trace, for many inputs, for tables, for what is dead or for a run of a listing: its name, what it expects,
+    and the replies that the rules allow."""
     for case in case_folders():
         words = words_of(case)
-        if words[:1] in (['trace'], ['many'], ['table'], ['dead']):
+        if words[:1] in (['trace'], ['many'], ['table'], ['dead'], ['exec']) and not (case / 'make').exists():
             yield case.name, reply_in(case), {text.rstrip('\n') for text, _ in replies(words, files_of(case))}

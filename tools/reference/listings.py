@@ -72,7 +72,8 @@ def machine_page():
     """The listing that MACHINE.md reads line by line, and the runs that it tells with their steps."""
     page = (TOP / 'docs' / 'MACHINE.md').read_text()
     source = page.split('\n````\n')[1] + '\n'
-    text = '\n'.join(re.findall(r'^\| `(.*?)` \| .* \|$', page[page.index('| Listing |'):], re.M))
+    lines = page[page.index('| Listing |'):].split('\n\n')[0]
+    text = '\n'.join(re.findall(r'^\| `(.*?)` \| .* \|$', lines, re.M))
     yield 'MACHINE.md', text, listings({'a.md': source.encode()}, 'a.md', 'Fare')
     first = STEPS.search(page.replace('\n', ' ')).groups()
     for age, steps, price in (first[:3], first[3:]):

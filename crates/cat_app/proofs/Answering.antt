@@ -6,7 +6,8 @@ use Rattle.std.specs.List.{concat}
 use Rattle.std.proofs.lemmas.List.{length-append}
 use Rattle.cat_io.specs.Shelf.{Shelved}
 use Rattle.cat_io.specs.Sink.{Shrinks, Sunk}
-use Rattle.cat_app.specs.Words.{Ask, Request, ask_of, bands_of, request_in, request_of}
+use Rattle.cat_app.specs.Words.{Ask, ListingRequest, Request, ask_of, bands_of, listing_of, request_in}
+use Rattle.cat_app.specs.Words.{request_of}
 use Rattle.cat_app.specs.Many.{AnswersByLine, PutsLines}
 use Rattle.cat_app.specs.Complete.{LinesFit, RepliesFit}
 use Rattle.cat_app.specs.Table.{Answers, AnswersAtOnce}
@@ -16,6 +17,7 @@ use Rattle.cat_app.specs.declared.request.Mode.TheVariants.{Many}
 use Rattle.cat_app.specs.declared.status.Status.{Status}
 use Rattle.cat_app.specs.declared.status.Status.TheVariants as status
 use Rattle.cat_app.proofs.DrillEnds.{of_bands}
+use Rattle.cat_app.proofs.ExecEnds.{of_listing}
 
 -- ---- which of the two it is
 
@@ -40,6 +42,13 @@ module _ (words : List (List ℕ)) (old new : Shelved) (sink sunk : Sunk) (ended
       → AnswersAtOnce words old new sink sunk ended
   drill_at_once bands asked = ⊎_elim (λ a. a) (λ l. absurd (subst (λ (o : Option Ask).
       IsSomeAnd (request_in o) (λ r. AnswersByLine r old new sink sunk ended)) (of_bands (ask_of words) bands asked) l))
+
+  -- and a run of listed code
+  pub listing_at_once : (request : ListingRequest) → listing_of words ≡ Some request
+      → Answers words old new sink sunk ended → AnswersAtOnce words old new sink sunk ended
+  listing_at_once request asked = ⊎_elim (λ a. a) (λ l. absurd (subst (λ (o : Option Ask).
+      IsSomeAnd (request_in o) (λ r. AnswersByLine r old new sink sunk ended))
+      (of_listing (ask_of words) request asked) l))
 
 -- ---- what was put answers
 

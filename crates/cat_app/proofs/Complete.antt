@@ -18,7 +18,7 @@ use Rattle.cat_weave.specs.Gathered.{Contents, Whole, gathered, limit_after}
 use Rattle.cat_weave.specs.Causes.{ComesTo}
 use Rattle.cat_build.specs.Accepted.{IsAccepted}
 use Rattle.cat_app.specs.Modes.{asks_dead, reads_extra, runs_scope, shows_tables}
-use Rattle.cat_app.specs.Words.{Ask, OfBands, OfScope, Request, ask_of, request_in}
+use Rattle.cat_app.specs.Words.{Ask, OfBands, OfListing, OfScope, Request, ask_of, request_in}
 use Rattle.cat_app.specs.Asked.{IsSource, IsExtra, IsReadNow}
 use Rattle.cat_app.specs.Answers.{IsOutcome, IsRefusedFile, IsRefusedSource, IsNoScope}
 use Rattle.cat_app.specs.Audits.{HasReport, IsAudited, audit_text, status_at}
@@ -42,10 +42,10 @@ FilesAreTold = (told : Contents) (main name : List ℕ) (source : Source) (bytes
     → IsSomeAnd (told name) (λ content. length content ≤ limit_after bytes)
 
 -- of what is told, what holds of the content
-of_told : (P : List ℕ → Type 0) (o : Option (List ℕ)) (content : List ℕ) → o ≡ Some content → IfSome o P → P content
+pub of_told : (P : List ℕ → Type 0) (o : Option (List ℕ)) (content : List ℕ) → o ≡ Some content → IfSome o P → P content
 of_told P o content is holds = subst (λ (x : Option (List ℕ)). IfSome x P) is holds
 
-none_there : (o : Option (List ℕ)) (content : List ℕ) → o ≡ Some content → IsNone o → ⊥
+pub none_there : (o : Option (List ℕ)) (content : List ℕ) → o ≡ Some content → IsNone o → ⊥
 none_there o content is none = cc (subst (λ (x : Option (List ℕ)). IsNone x) is none)
 
 some_there : (P : List ℕ → Type 0) (o : Option (List ℕ)) → IsSomeAnd o P → IsNone o → ⊥
@@ -73,6 +73,7 @@ complete_of report is fine =
 of_scope : (o : Option Ask) (request : Request) → request_in o ≡ Some request → o ≡ Some (OfScope request)
 of_scope None request is = cc is
 of_scope (Some (OfScope other)) request is = cc is
+of_scope (Some (OfListing other)) request is = cc is
 of_scope (Some (OfBands bands)) request is = cc is
 
 module _ (one_program : IsOneProgram) (not_accepted : AreNotAccepted) (endings : EndingsAreTold) (files : FilesAreTold)
@@ -222,6 +223,7 @@ module _ (one_program : IsOneProgram) (not_accepted : AreNotAccepted) (endings :
     ends_audit status.ReadFault is = tt
     ends_audit status.WriteFault is = tt
     ends_audit status.Memory is = tt
+    ends_audit status.Listing is = absurd (answer_is status.Listing is.0 is.1)
     ends_audit status.TooLarge is =
         let read = answer_is status.TooLarge is.0 is.1 in
         absurd (none_large not_read read.name read.limit read.now read.read.2)
@@ -319,6 +321,7 @@ module _ (one_program : IsOneProgram) (not_accepted : AreNotAccepted) (endings :
     ends_check status.ReadFault is = tt
     ends_check status.WriteFault is = tt
     ends_check status.Memory is = tt
+    ends_check status.Listing is = absurd (answer_is status.Listing is.0 is.1)
     ends_check status.TooLarge is =
         let read = answer_is status.TooLarge is.0 is.1 in
         absurd (not_large extra check.extra_told check.extra_short read.name read.limit read.now read.read.2)

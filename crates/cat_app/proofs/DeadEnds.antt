@@ -136,6 +136,7 @@ module _ (one_program : IsOneProgram) (not_accepted : AreNotAccepted) (endings :
     ends_dead status.ReadFault is = tt
     ends_dead status.WriteFault is = tt
     ends_dead status.Memory is = tt
+    ends_dead status.Listing is = absurd (answered status.Listing is.0 is.1)
     ends_dead status.TooLarge is =
         let read = answered status.TooLarge is.0 is.1 in
         absurd (no_large read.name read.limit read.now read.read.2)
@@ -223,6 +224,7 @@ module _ (one_program : IsOneProgram) (not_accepted : AreNotAccepted) (endings :
     ends_dead_check status.ReadFault is = tt
     ends_dead_check status.WriteFault is = tt
     ends_dead_check status.Memory is = tt
+    ends_dead_check status.Listing is = absurd (answered status.Listing is.0 is.1)
     ends_dead_check status.TooLarge is =
         let read = answered status.TooLarge is.0 is.1 in
         absurd (none_long read.name read.limit read.now read.read.2)

@@ -5,7 +5,7 @@ use Rattle.cat_io.specs.Shelf.{Shelved}
 use Rattle.cat_io.specs.Sink.{Sunk}
 use Rattle.cat_scope.specs.declared.programs.Program.{Program}
 use Rattle.cat_weave.specs.declared.source.Source.{Source}
-use Rattle.cat_app.specs.Words.{Ask, OfBands, OfScope, ask_of, bands_asked}
+use Rattle.cat_app.specs.Words.{Ask, OfBands, OfListing, OfScope, ask_of, bands_asked}
 use Rattle.cat_app.specs.Drills.{HasLine, HasRefusedRun, HasStop, IsOfBands, bands_request, bands_shelf}
 use Rattle.cat_app.specs.Table.{AnswersAtOnce, MayAnswerTo, MayDrill, MayReply}
 use Rattle.cat_app.specs.DrillEnds.{EndsDrill, IsToldDrill}
@@ -18,6 +18,7 @@ use Rattle.cat_app.proofs.ToldSources.{scope_is_there, told_program, told_scope,
 pub of_bands : (o : Option Ask) (bands : ℕ) → bands_asked o ≡ Some bands → o ≡ Some (OfBands bands)
 of_bands None bands is = cc is
 of_bands (Some (OfScope request)) bands is = cc is
+of_bands (Some (OfListing request)) bands is = cc is
 of_bands (Some (OfBands other)) bands is = cc is
 
 module _ (one_program : IsOneProgram) (not_accepted : AreNotAccepted) (endings : EndingsAreTold)
@@ -75,5 +76,6 @@ module _ (one_program : IsOneProgram) (not_accepted : AreNotAccepted) (endings :
   ends_drill status.Missing is = absurd (drill_is status.Missing is.0 is.1)
   ends_drill status.ReadFault is = absurd (drill_is status.ReadFault is.0 is.1)
   ends_drill status.TooLarge is = absurd (drill_is status.TooLarge is.0 is.1)
+  ends_drill status.Listing is = absurd (drill_is status.Listing is.0 is.1)
   ends_drill status.WriteFault is = tt
   ends_drill status.Memory is = tt

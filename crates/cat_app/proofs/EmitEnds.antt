@@ -103,6 +103,7 @@ module _ (one_program : IsOneProgram) (not_accepted : AreNotAccepted) (endings :
   ends_emit status.ReadFault is = tt
   ends_emit status.WriteFault is = tt
   ends_emit status.Memory is = tt
+  ends_emit status.Listing is = absurd (answered status.Listing is.0 is.1)
   ends_emit status.TooLarge is =
       let read = answered status.TooLarge is.0 is.1 in
       absurd (no_large read.name read.limit read.now read.read.2)

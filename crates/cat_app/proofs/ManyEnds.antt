@@ -153,6 +153,7 @@ module _ (one_program : IsOneProgram) (not_accepted : AreNotAccepted) (endings :
   at_once status.ReadFault is = tt
   at_once status.WriteFault is = tt
   at_once status.Memory is = (0, nothing_written is.0)
+  at_once status.Listing is = absurd (answered status.Listing is.0 is.1)
   at_once status.TooLarge is =
       let read = answered status.TooLarge is.0 is.1 in
       absurd (no_large read.name read.limit read.now read.read.2)

@@ -3,9 +3,9 @@ use Rattle.std.proofs.Common.{◌≡◌, ℕ, true, List, ⊎_elim}
 use Rattle.std.specs.Prelude.{Option, None, Some, IsSomeAnd}
 use Rattle.cat_io.specs.Shelf.{Shelved}
 use Rattle.cat_io.specs.Sink.{Sunk}
-use Rattle.cat_app.specs.Words.{Ask, OfBands, OfScope, Request, ask_of, request_of}
+use Rattle.cat_app.specs.Words.{Ask, OfBands, OfListing, OfScope, ListingRequest, Request, ask_of, request_of}
 use Rattle.cat_app.specs.Many.{AnswersByLine}
-use Rattle.cat_app.specs.Table.{Answers, AnswersAtOnce, MayAnswer, MayAnswerTo}
+use Rattle.cat_app.specs.Table.{Answers, AnswersAtOnce, MayAnswer, MayAnswerTo, MayExecute}
 use Rattle.cat_app.specs.Complete.{is_reply}
 use Rattle.cat_app.specs.declared.status.Status.{Status}
 use Rattle.cat_app.specs.declared.status.Status.TheVariants as status
@@ -35,12 +35,33 @@ untouched_answer request old new status.Missing text is may = cc is
 untouched_answer request old new status.ReadFault text is may = cc is
 untouched_answer request old new status.TooLarge text is may = cc is
 untouched_answer request old new status.WriteFault text is may = absurd may
+untouched_answer request old new status.Listing text is may = absurd may
 untouched_answer request old new status.Memory text is may = absurd may
+
+untouched_run : (request : ListingRequest) (old new : Shelved) (ended : Status) (text : List ℕ) → is_reply ended ≡ true
+    → MayExecute request old new ended text → new ≡ old
+untouched_run request old new status.Fine text is may = may.untouched
+untouched_run request old new status.Conflict text is may = may.untouched
+untouched_run request old new status.NoValue text is may = may.untouched
+untouched_run request old new status.Fault text is may = may.untouched
+untouched_run request old new status.Listing text is may = ⊎_elim (λ i. i.untouched) (λ c. c.untouched) may
+untouched_run request old new status.Input text is may = may.untouched
+untouched_run request old new status.Usage text is may = may.untouched
+untouched_run request old new status.Missing text is may = cc is
+untouched_run request old new status.ReadFault text is may = cc is
+untouched_run request old new status.TooLarge text is may = cc is
+untouched_run request old new status.Source text is may = absurd may
+untouched_run request old new status.Found text is may = absurd may
+untouched_run request old new status.Unsettled text is may = absurd may
+untouched_run request old new status.Certificate text is may = absurd may
+untouched_run request old new status.WriteFault text is may = absurd may
+untouched_run request old new status.Memory text is may = absurd may
 
 untouched : (o : Option Ask) (old new : Shelved) (ended : Status) (text : List ℕ) → is_reply ended ≡ true
     → MayAnswerTo o old new ended text → new ≡ old
 untouched None old new ended text is may = may.untouched
 untouched (Some (OfScope request)) old new ended text is may = untouched_answer request old new ended text is may
+untouched (Some (OfListing request)) old new ended text is may = untouched_run request old new ended text is may
 untouched (Some (OfBands bands)) old new ended text is may = may.0
 
 -- a reply that is a function of words and bytes leaves the shelf as it was
@@ -68,6 +89,8 @@ reply_at_once words old new sink sunk status.Certificate is reply =
     untouched (ask_of words) old new status.Certificate is.0 reply is.1
 reply_at_once words old new sink sunk status.Usage is reply =
     untouched (ask_of words) old new status.Usage is.0 reply is.1
+reply_at_once words old new sink sunk status.Listing is reply =
+    untouched (ask_of words) old new status.Listing is.0 reply is.1
 reply_at_once words old new sink sunk status.Missing is reply = cc reply
 reply_at_once words old new sink sunk status.ReadFault is reply = cc reply
 reply_at_once words old new sink sunk status.TooLarge is reply = cc reply

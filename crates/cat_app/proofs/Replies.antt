@@ -1,5 +1,5 @@
 -- Which replies the steps of a call lead to.
-use Rattle.std.proofs.Common.{◌≡◌, ◌≢◌, ◌∙◌, ◌<◌, ◌+◌, ℕ, Bool, true, false, List, [], ◌∷◌, refl}
+use Rattle.std.proofs.Common.{◌≡◌, ◌≢◌, ◌∙◌, ◌<◌, ◌≤◌, ◌+◌, ℕ, Bool, true, false, List, [], ◌∷◌, refl}
 use Rattle.std.proofs.Common.{sym, subst, inl, inr, arith}
 use Rattle.std.specs.Prelude.{Option, Some, None, Result, Ok, Err, IfOk, codes, length, string_bytes, if◌then◌else◌}
 use Rattle.std.specs.Prelude.{bytes_eq, IsTrue, max}
@@ -16,7 +16,7 @@ use Rattle.cat_scope.specs.Named.{number_named}
 use Rattle.cat_audit.specs.declared.report.Verdict.{Verdict}
 use Rattle.cat_audit.specs.declared.report.Verdict.TheVariants as verdict
 use Rattle.cat_audit.specs.Reports.{last_verdict}
-use Rattle.cat_listing.specs.Listing.{listing}
+use Rattle.cat_emitted.specs.Accepted.{IsAcceptedListing}
 use Rattle.cat_json.specs.declared.refusal.InputRefusal.{InputRefusal}
 use Rattle.cat_json.specs.declared.refusal.InputRefusal.TheVariants as refused
 use Rattle.cat_json.specs.InputsRead.{input_read, inputs_read}
@@ -41,11 +41,11 @@ use Rattle.cat_app.specs.Checks.{HasCertificate, HasNoCertificate, IsChecked}
 use Rattle.cat_app.specs.Answers.{IsOutcome}
 use Rattle.cat_app.specs.Lines.{input_line, line, status_of}
 use Rattle.cat_app.specs.Table.{MayAnswer}
-use Rattle.cat_app.specs.inside.Says.{Says, SaysChecked, SaysFault, SaysGathering}
+use Rattle.cat_app.specs.inside.Says.{Says, SaysChecked, SaysFault, SaysGathering, SaysListing}
 use Rattle.cat_app.specs.inside.Says.{SaysInput, SaysReport, SaysRun, MaySay}
 use Rattle.cat_app.specs.declared.reply.Reply.{Reply}
 use Rattle.cat_app.specs.declared.status.Status.{Status}
-use Rattle.cat_app.specs.declared.status.Status.TheVariants.{Fine, Usage}
+use Rattle.cat_app.specs.declared.status.Status.TheVariants.{Usage}
 
 -- of a result, what a fact leads to
 pub if_ok : {A E : Type 0} {P Q : A → Type 0} (r : Result A E) → IfOk r P → ((a : A) → P a → Q a) → IfOk r Q
@@ -296,16 +296,23 @@ a_check request old new source program scope extra reply extra_read same asked m
 
 -- the code that is built is listed
 pub a_listing : (request : Request) (old new : Shelved) (source : Source) (built : Built) (scope : ℕ) (reply : Reply)
-    → new ≡ old → IsBuiltOf source.pieces built → Says Fine (listing built.code source.files) reply
+    → new ≡ old → IsBuiltOf source.pieces built → SaysListing source built reply
     → IsAsked request old source built.program scope → request.mode ≡ Emit → MaySay request old new reply
-a_listing request old new source built scope reply same is says asked mode =
-    rw says.0 (inr (inr (inr (inl (record {
+a_listing request old new source built scope reply same is lists asked mode =
+    rw lists.says.0 (inr (inr (inr (inl (record {
       source = source;
       program = built.program;
       scope = scope;
       mode = mode;
       asked = asked;
-      lists = record { code = built.code; code_is = is.code; text_is = says.1 };
+      lists = record {
+        code = built.code;
+        declared = is.lowered.code_is.decls ∙ is.lowered.decls;
+        code_is = is.code;
+        text_is = lists.says.1;
+        accepted = subst (λ (text : List ℕ). length text ≤ most_input_bytes
+            → IsAcceptedListing text source.files built.code) (sym lists.says.1) lists.accepted;
+      };
       untouched = same;
     })))))
 

@@ -179,6 +179,7 @@ module _ (one_program : IsOneProgram) (not_accepted : AreNotAccepted) (endings :
     ends_run status.ReadFault is = tt
     ends_run status.WriteFault is = tt
     ends_run status.Memory is = tt
+    ends_run status.Listing is = absurd (answered status.Listing is.0 is.1)
     ends_run status.TooLarge is =
         let read = answered status.TooLarge is.0 is.1 in
         absurd (no_large read.name read.limit read.now read.read.2)
@@ -220,6 +221,7 @@ module _ (one_program : IsOneProgram) (not_accepted : AreNotAccepted) (endings :
     ends_so status.ReadFault is = tt
     ends_so status.WriteFault is = tt
     ends_so status.Memory is = tt
+    ends_so status.Listing is = absurd (answered status.Listing is.0 is.1)
     ends_so status.TooLarge is =
         let read = answered status.TooLarge is.0 is.1 in
         absurd (no_large read.name read.limit read.now read.read.2)

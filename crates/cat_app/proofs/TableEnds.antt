@@ -159,6 +159,7 @@ module _ (one_program : IsOneProgram) (not_accepted : AreNotAccepted) (endings :
   ends_table status.ReadFault is = tt
   ends_table status.WriteFault is = tt
   ends_table status.Memory is = tt
+  ends_table status.Listing is = absurd (answered status.Listing is.0 is.1)
   ends_table status.TooLarge is =
       let read = answered status.TooLarge is.0 is.1 in
       absurd (no_large read.name read.limit read.now read.read.2)

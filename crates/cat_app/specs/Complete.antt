@@ -1,9 +1,9 @@
 -- What follows from the answers: when a reply comes, and when a fault can't.
-use Rattle.std.specs.Prelude.{◌≡◌, ◌⊎◌, ℕ, ◌≤◌, Bool, true, false, List, [], length, Option, Some, Ok, IfSome, ⊤}
+use Rattle.std.specs.Prelude.{◌≡◌, ℕ, ◌≤◌, Bool, true, false, List, [], length, Option, Some, Ok, IfSome, ⊤}
 use Rattle.std.specs.List.{concat}
 use Rattle.std.specs.Io.KnownBytes.{Appends}
 use Rattle.cat_pos.specs.Limits.{most_input_bytes}
-use Rattle.cat_io.specs.Shelf.{Shelved, Rose}
+use Rattle.cat_io.specs.Shelf.{Shelved}
 use Rattle.cat_io.specs.Sink.{Sunk}
 use Rattle.cat_value.specs.declared.value.Value.{Value}
 use Rattle.cat_value.specs.declared.outcome.Outcome.{Outcome}
@@ -16,7 +16,6 @@ use Rattle.cat_weave.specs.declared.source.Source.{Source}
 use Rattle.cat_weave.specs.Gathered.{Whole, gathered}
 use Rattle.cat_build.specs.Accepted.{IsAccepted}
 use Rattle.cat_app.specs.Words.{Request, request_of}
-use Rattle.cat_app.specs.Asked.{IsReadNow}
 use Rattle.cat_app.specs.Lines.{line, status_of}
 use Rattle.cat_app.specs.Checks.{HasCertificate, HasNoCertificate}
 use Rattle.cat_app.specs.Many.{IsAskedMany}
@@ -25,16 +24,6 @@ use Rattle.cat_app.specs.declared.request.Mode.TheVariants.{Run, Check}
 use Rattle.cat_app.specs.declared.status.Status.{Status}
 use Rattle.cat_app.specs.declared.status.Status.TheVariants.{Certificate, Fine, Missing, ReadFault, WriteFault, Memory}
 use Rattle.cat_app.specs.declared.status.Status.TheVariants.{TooLarge}
-
--- some count of this name rose
-abbrev pub NameRose : List ℕ → Shelved → Shelved → Type 0
-NameRose name old new =
-    Rose name old.misses new.misses ⊎ (Rose name old.faults new.faults ⊎ Rose name old.longs new.longs)
-
--- no count of a file rose that the words or an include name
-abbrev pub NoFileRose : List (List ℕ) → Shelved → Shelved → Type 0
-NoFileRose words old new = IfSome (request_of words) (λ request.
-    (name : List ℕ) (limit : ℕ) → IsReadNow request old name limit → NameRose name old new → ⊥)
 
 -- whether a status tells of a cause outside: a shelf's or a sink's
 abbrev pub is_fault : Status → Bool

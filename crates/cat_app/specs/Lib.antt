@@ -12,6 +12,7 @@ pub mod Asked
 pub mod Modes
 pub mod Words
 pub mod Status
+pub mod Calm
 pub mod Complete
 pub mod AuditEnds
 pub mod TableEnds
@@ -19,6 +20,9 @@ pub mod DeadEnds
 pub mod DrillEnds
 pub mod Limits
 pub mod EmitEnds
+pub mod Executed
+pub mod Unlisted
+pub mod ExecEnds
 pub mod TraceEnds
 pub mod Many
 pub mod ManyEnds

@@ -8,6 +8,10 @@ use Rattle.cat_json.specs.declared.refusal.InputRefusal.TheVariants as refused
 use Rattle.cat_answer.specs.Answer.{named_position}
 use Rattle.cat_weave.specs.declared.source.GatherRefusal.{GatherRefusal}
 use Rattle.cat_weave.specs.declared.source.GatherRefusal.TheVariants as gathering
+use Rattle.cat_image.specs.declared.refusal.ImageRefusal.{ImageRefusal}
+use Rattle.cat_image.specs.declared.refusal.ImageRefusal.TheVariants as images
+use Rattle.cat_verify.specs.declared.refusal.VerifyRefusal.{VerifyRefusal}
+use Rattle.cat_verify.specs.declared.refusal.VerifyRefusal.TheVariants as listed
 use Rattle.cat_app.specs.declared.status.Status.{Status}
 use Rattle.cat_app.specs.declared.status.Status.TheVariants as status
 
@@ -42,6 +46,24 @@ input_line (refused.Extra path) = Some (part_line 3 path)
 input_line (refused.WrongForm path) = Some (part_line 4 path)
 input_line (refused.OutOfRange path) = Some (part_line 5 path)
 input_line refused.Memory = None
+
+-- the line that refuses a listing by a code, at a place of it that has a number
+abbrev pub listing_line : List ℕ → ℕ → List ℕ
+listing_line words number = codes "listing refused " ++ (words ++ (decimal number ++ 10 ∷ []))
+
+-- the line that refuses what is no image
+abbrev pub image_line : ImageRefusal → Option (List ℕ)
+image_line (images.BadLine n) = Some (listing_line (codes "L1 at line ") n)
+image_line images.Short = Some (line (codes "listing refused L2") [])
+image_line images.Memory = None
+
+-- the line that refuses an image that isn't one of valid and tame code
+abbrev pub code_line : VerifyRefusal → Option (List ℕ)
+code_line (listed.BadTable n) = Some (listing_line (codes "V1 at line ") n)
+code_line (listed.BadNumber k) = Some (listing_line (codes "V2 at instruction ") k)
+code_line (listed.Endless k) = Some (listing_line (codes "V3 at instruction ") k)
+code_line (listed.BadShape k) = Some (listing_line (codes "V4 at instruction ") k)
+code_line listed.Memory = None
 
 -- the status of an outcome
 abbrev pub status_of : Outcome → Status

@@ -1,6 +1,7 @@
 -- The answer to one who asked for the code of a program, alone or with a run of it, or for what decided in a run.
-use Rattle.std.specs.Prelude.{◌≡◌, ℕ, List, [], ◌∷◌, ◌++◌, Option, codes}
+use Rattle.std.specs.Prelude.{◌≡◌, ◌≤◌, ℕ, List, [], ◌∷◌, ◌++◌, length, Option, codes}
 use Rattle.std.specs.Fmt.{decimal}
+use Rattle.cat_pos.specs.Limits.{most_input_bytes}
 use Rattle.cat_io.specs.Shelf.{Shelved}
 use Rattle.cat_value.specs.declared.value.Value.{Value}
 use Rattle.cat_scope.specs.declared.programs.Program.{Program}
@@ -10,17 +11,21 @@ use Rattle.cat_code.specs.declared.code.Code.{Code}
 use Rattle.cat_machine.specs.Running.{Counts}
 use Rattle.cat_machine.specs.ForPrograms.{IsCodeFor}
 use Rattle.cat_listing.specs.Listing.{listing}
+use Rattle.cat_emitted.specs.Accepted.{IsAcceptedListing}
 use Rattle.cat_trace.specs.Traces.{trace_text}
 use Rattle.cat_app.specs.Words.{Request}
 use Rattle.cat_app.specs.Asked.{IsAsked}
 use Rattle.cat_app.specs.declared.request.Mode.{Mode}
 use Rattle.cat_app.specs.declared.request.Mode.TheVariants.{Run, Emit, EmitRun, Trace}
 
--- a text is the listing of code that runs each scope of a program to its outcome, by its deciders
+-- a text is the listing of code that runs each scope of a program to its outcome, by its deciders; where it is short
+-- enough to be read, it is accepted
 pub record ListsCode (source : Source) (program : Program) (text : List ℕ) : Type 0 where
   pub code : Code
+  pub declared : code.tables.decls ≡ program.decls
   pub code_is : ∥ IsCodeFor program code ∥₁
   pub text_is : text ≡ listing code source.files
+  pub accepted : length text ≤ most_input_bytes → IsAcceptedListing text source.files code
 
 -- of an emit: such a listing
 pub record IsListed (request : Request) (old new : Shelved) (text : List ℕ) : Type 0 where

@@ -3,7 +3,7 @@ use Rattle.std.specs.Prelude.{ℕ}
 use Rattle.cat_app.specs.declared.status.Status.{Status}
 use Rattle.cat_app.specs.declared.status.Status.TheVariants.{Fine, Conflict, NoValue, Fault, Source, Input, Found}
 use Rattle.cat_app.specs.declared.status.Status.TheVariants.{Unsettled, Certificate, Usage, Missing, ReadFault}
-use Rattle.cat_app.specs.declared.status.Status.TheVariants.{WriteFault, Memory, TooLarge}
+use Rattle.cat_app.specs.declared.status.Status.TheVariants.{WriteFault, Memory, TooLarge, Listing}
 
 -- the number that the program ends with
 abbrev pub code_of : Status → ℕ
@@ -22,3 +22,4 @@ code_of ReadFault = 11
 code_of WriteFault = 12
 code_of Memory = 13
 code_of TooLarge = 14
+code_of Listing = 15

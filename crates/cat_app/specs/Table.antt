@@ -3,20 +3,22 @@ use Rattle.std.specs.Prelude.{◌≡◌, ◌⊎◌, ℕ, List, Option, None, Som
 use Rattle.cat_io.specs.Shelf.{Shelved, Keeps}
 use Rattle.cat_io.specs.declared.shelf.ShelfFault.TheVariants as shelf
 use Rattle.cat_io.specs.Sink.{Sunk, Took, FailedAt}
-use Rattle.cat_app.specs.Words.{Ask, OfScope, OfBands, Request, ask_of, request_of}
+use Rattle.cat_app.specs.Words.{Ask, OfScope, OfListing, OfBands, Request, ListingRequest, ask_of, request_of}
 use Rattle.cat_app.specs.Answers.{IsOutcome, IsRefusedFile, IsRefusedSource, IsNoScope, IsRefusedInput, IsUsage}
 use Rattle.cat_app.specs.Answers.{IsRefusedRead}
 use Rattle.cat_app.specs.Audits.{IsAudited}
 use Rattle.cat_app.specs.Checks.{HasCertificate, HasNoCertificate, IsChecked}
 use Rattle.cat_app.specs.Deads.{TellsDead}
+use Rattle.cat_app.specs.Executed.{IsExecuted}
 use Rattle.cat_app.specs.Listings.{IsListed}
 use Rattle.cat_app.specs.Many.{AnswersByLine, IsRefusedArray}
+use Rattle.cat_app.specs.Unlisted.{IsRefusedImage, IsRefusedCode, HasNoScope, HasRefusedInput, HasRefusedRead}
 use Rattle.cat_app.specs.TargetTables.{IsNoTarget, IsTabled}
 use Rattle.cat_app.specs.Drills.{HasLine, HasRefusedRun, HasStop, IsOfBands, bands_request, bands_shelf}
 use Rattle.cat_app.specs.declared.status.Status.{Status}
 use Rattle.cat_app.specs.declared.status.Status.TheVariants.{Fine, Conflict, NoValue, Fault, Source, Input, Found}
 use Rattle.cat_app.specs.declared.status.Status.TheVariants.{Certificate, Unsettled, Usage, Missing, ReadFault}
-use Rattle.cat_app.specs.declared.status.Status.TheVariants.{WriteFault, Memory, TooLarge}
+use Rattle.cat_app.specs.declared.status.Status.TheVariants.{WriteFault, Memory, TooLarge, Listing}
 
 -- the texts that may come with a status to a request
 abbrev pub MayAnswer : Request → Shelved → Shelved → Status → List ℕ → Type 0
@@ -42,6 +44,20 @@ MayAnswer request old new ReadFault text = IsRefusedRead request old new shelf.F
 MayAnswer request old new TooLarge text = IsRefusedRead request old new shelf.Long (codes "too large ") text
 MayAnswer request old new status text = ⊥
 
+-- the texts that may come with a status to one who asked for a run of listed code
+abbrev pub MayExecute : ListingRequest → Shelved → Shelved → Status → List ℕ → Type 0
+MayExecute request old new Fine text = IsExecuted request old new Fine text
+MayExecute request old new Conflict text = IsExecuted request old new Conflict text
+MayExecute request old new NoValue text = IsExecuted request old new NoValue text
+MayExecute request old new Fault text = IsExecuted request old new Fault text
+MayExecute request old new Listing text = IsRefusedImage request old new text ⊎ IsRefusedCode request old new text
+MayExecute request old new Input text = HasRefusedInput request old new text
+MayExecute request old new Usage text = HasNoScope request old new text
+MayExecute request old new Missing text = HasRefusedRead request old new shelf.Missing (codes "missing file ") text
+MayExecute request old new ReadFault text = HasRefusedRead request old new shelf.Failed (codes "read fault ") text
+MayExecute request old new TooLarge text = HasRefusedRead request old new shelf.Long (codes "too large ") text
+MayExecute request old new status text = ⊥
+
 -- the texts that may come with a status to one who asked for a drill: refusals are those of a run of `Bands`, over a
 -- shelf that has the source of the bands alone
 abbrev pub MayDrill : ℕ → Status → List ℕ → Type 0
@@ -58,6 +74,7 @@ MayDrill bands status text = ⊥
 abbrev pub MayAnswerTo : Option Ask → Shelved → Shelved → Status → List ℕ → Type 0
 MayAnswerTo None old new status text = IsUsage old new status text
 MayAnswerTo (Some (OfScope request)) old new status text = MayAnswer request old new status text
+MayAnswerTo (Some (OfListing request)) old new status text = MayExecute request old new status text
 MayAnswerTo (Some (OfBands bands)) old new status text = (new ≡ old) × MayDrill bands status text
 
 -- the texts that may come with a status to some words

@@ -5,4 +5,5 @@ pub mod Reading
 pub mod Says
 pub mod SaysOfBands
 pub mod SaysOfDead
+pub mod SaysOfListings
 pub mod SaysOfTables

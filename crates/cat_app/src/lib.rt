@@ -2,10 +2,12 @@
 //! and a status come out.
 #![tactic(auto)]
 
+mod asked_words;
 mod audited;
 mod checked;
 mod dead;
 mod drilled;
+mod executed;
 mod leaves;
 mod listed;
 mod many;

@@ -7,6 +7,7 @@ ghost use Rattle.cat_app.specs.inside.Reading.{MayBeWritten, MayWriteTo};
 
 use crate::Status;
 use crate::drilled::drilled;
+use crate::executed::listing_reply;
 use crate::many::ManyInputs;
 use crate::request::{AskedFor, read_words};
 use crate::scoped::scope_reply;
@@ -41,6 +42,7 @@ fn reply_to<S: Shelf>(
 {
     match asked {
         AskedFor::Scope(words) => scope_reply(alloc, words, shelf),
+        AskedFor::Listing(words) => Ok(ToWrite::Text(listing_reply(alloc, words, shelf)?)),
         AskedFor::Drill(bands) => Ok(ToWrite::Text(drilled(alloc, bands)?)),
     }
 }

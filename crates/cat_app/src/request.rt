@@ -4,9 +4,10 @@ ghost use Rattle.cat_io.specs.Stored.{texts_of};
 ghost use Rattle.cat_words.specs.Asked.{asked_of as words_of};
 ghost use Rattle.cat_app.specs.Limits.{most_bands};
 ghost use Rattle.cat_app.specs.Modes.{mode_by};
-ghost use Rattle.cat_app.specs.Words.{ask_by, bands_by, bands_from, request_by};
-ghost use Rattle.cat_app.specs.inside.AskedWords.{ask_in, asked_of, AsksFor, HasBands, HasNumber};
+ghost use Rattle.cat_app.specs.Words.{OfListing, OfScope, ask_by, bands_by, bands_from, listing_by, request_by};
+ghost use Rattle.cat_app.specs.inside.AskedWords.{ask_in, asked_of, listing_asked, AsksFor, HasBands, HasNumber};
 
+use crate::asked_words::AskedWords;
 use crate::bands_in;
 use cat_words::CommandLine;
 use std::alloc::{AllocError, Global};
@@ -32,21 +33,19 @@ pub enum Mode {
     DeadCheck,
 }
 
-/// What is asked for, with the names of the source and of the input, the certificate or the target, and the number of
-/// cases.
+/// A run of listed code that is asked for, with the names of the listing and of the input.
 #[derive(Clone, Copy, Debug)]
-pub struct AskedWords<'a> {
-    pub mode: Mode,
+pub struct ListingWords<'a> {
     pub scope: &'a str,
     pub file: &'a str,
     pub extra: &'a str,
-    pub cases: u32,
 }
 
-/// What words ask for: something of a scope, or a drill of so many bands.
+/// What words ask for: something of a scope of a source or of listed code, or a drill of so many bands.
 #[derive(Clone, Copy, Debug)]
 pub enum AskedFor<'a> {
     Scope(AskedWords<'a>),
+    Listing(ListingWords<'a>),
     Drill(u32),
 }
 
@@ -107,6 +106,20 @@ fn asked_words(line: CommandLine<'_>) -> Option<AskedWords<'_>>
     })
 }
 
+/// The run of listed code that a command line asks for. EXTRA is standard input where it isn't given.
+fn listing_words(line: CommandLine<'_>) -> Option<ListingWords<'_>>
+    ensures { option_map listing_asked result ≡ listing_by (words_of line.entry) }
+{
+    if line.file.as_bytes().contains(&10) {
+        return None;
+    }
+    Some(ListingWords {
+        scope: line.scope,
+        file: line.file,
+        extra: line.extra.unwrap_or("-"),
+    })
+}
+
 /// How many bands a drill has.
 fn bands_from(
     alloc: Global,
@@ -131,6 +144,32 @@ fn asked_bands(alloc: Global, line: CommandLine<'_>) -> Result<Option<u32>, Allo
     bands_from(alloc, line.scope, line.file, line.extra.is_some())
 }
 
+/// What a command line asks for that asks for a run of listed code.
+fn listing_for(line: CommandLine<'_>) -> Option<AskedFor<'_>>
+    ensures asked { (cases : Option (List ℕ))
+        → option_map (ask_in cases) result ≡ option_map OfListing (listing_by (words_of line.entry)) }
+    ensures cases { IfSome result (HasNumber line.entry.cases) }
+    ensures bands { IfSome result HasBands }
+{
+    match listing_words(line) {
+        Some(asked) => Some(AskedFor::Listing(asked)),
+        None => None,
+    }
+}
+
+/// What a command line asks for that asks for something of a scope of a source.
+fn scope_for(line: CommandLine<'_>) -> Option<AskedFor<'_>>
+    ensures asked { (cases : Option (List ℕ))
+        → option_map (ask_in cases) result ≡ option_map OfScope (request_by cases (words_of line.entry)) }
+    ensures cases { IfSome result (HasNumber line.entry.cases) }
+    ensures bands { IfSome result HasBands }
+{
+    match asked_words(line) {
+        Some(asked) => Some(AskedFor::Scope(asked)),
+        None => None,
+    }
+}
+
 /// What a command line asks for by its mode.
 fn asked_for(alloc: Global, line: CommandLine<'_>) -> Result<Option<AskedFor<'_>>, AllocError>
     ensures asked { IfOk result (λ asked. (cases : Option (List ℕ))
@@ -144,10 +183,10 @@ fn asked_for(alloc: Global, line: CommandLine<'_>) -> Result<Option<AskedFor<'_>
             None => Ok(None),
         };
     }
-    match asked_words(line) {
-        Some(asked) => Ok(Some(AskedFor::Scope(asked))),
-        None => Ok(None),
+    if line.mode == "exec" {
+        return Ok(listing_for(line));
     }
+    Ok(scope_for(line))
 }
 
 /// What the words `MODE SCOPE FILE [EXTRA] [--cases N]` ask for.

@@ -10,6 +10,7 @@ ghost use Rattle.cat_app.specs.inside.AskedWords.{IsGathered};
 ghost use Rattle.cat_app.specs.inside.Reading.{MayWrite};
 ghost use Rattle.cat_app.specs.inside.Says.{MayTell};
 
+use crate::asked_words::AskedWords;
 use crate::audited::{audited, most_of};
 use crate::checked::checked;
 use crate::dead::{dead_checked, reported};
@@ -17,7 +18,7 @@ use crate::listed::listed;
 use crate::many::ManyInputs;
 use crate::ran::ran;
 use crate::reply::{Reply, ToWrite};
-use crate::request::{AskedWords, Mode};
+use crate::request::Mode;
 use crate::tabled::{all_tables, target_table};
 use crate::texts::{no_scope, refuse_file, refuse_gathering, refuse_input, refuse_source};
 use cat_build::{BuildRefusal, Built, build};

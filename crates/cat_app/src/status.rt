@@ -22,6 +22,8 @@ pub enum Status {
     WriteFault,
     Memory,
     TooLarge,
+    /// A listing that is refused.
+    Listing,
 }
 
 impl Status {
@@ -45,6 +47,7 @@ impl Status {
             Status::WriteFault => 12,
             Status::Memory => 13,
             Status::TooLarge => 14,
+            Status::Listing => 15,
         }
     }
 }

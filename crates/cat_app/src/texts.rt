@@ -2,16 +2,19 @@
 ghost use Rattle.std.specs.Prelude.{◌≡◌, [], IfOk, codes, string_bytes};
 ghost use Rattle.cat_answer.specs.Answer as answers;
 ghost use Rattle.cat_build.specs.Codes.{number_of};
-ghost use Rattle.cat_app.specs.Lines.{line, part_line, refusal_line};
+ghost use Rattle.cat_app.specs.Lines.{line, listing_line, part_line, refusal_line};
 ghost use Rattle.cat_app.specs.inside.Says.{Says, SaysFault, SaysGathering, SaysInput};
+ghost use Rattle.cat_app.specs.inside.SaysOfListings.{SaysCode, SaysImage};
 
 use crate::Status;
 use crate::reply::Reply;
 use cat_answer::{named_position, position_text};
 use cat_build::FaultCode;
+use cat_image::ImageRefusal;
 use cat_io::ShelfFault;
 use cat_json::InputRefusal;
 use cat_pos::{Files, Pos};
+use cat_verify::VerifyRefusal;
 use cat_weave::GatherRefusal;
 use std::alloc::{AllocError, Global};
 
@@ -119,4 +122,45 @@ fn refused_part(alloc: Global, number: u32, path: &str) -> Result<String, AllocE
     ensures { IfOk result (λ text. string_bytes text ≡ part_line number path.now) }
 {
     format!(in alloc; "input refused I{number} {path}\n")
+}
+
+/// A listing is refused by a code, at a place of it that has a number.
+fn refuse_listing(alloc: Global, words: &str, number: usize) -> Result<Reply, AllocError>
+    ensures { IfOk result (Says Status.Listing (listing_line words.now number)) }
+{
+    let text = format!(in alloc; "listing refused {words}{number}\n")?;
+    Ok(Reply {
+        status: Status::Listing,
+        text,
+    })
+}
+
+/// Bytes are no image.
+pub fn refuse_image(alloc: Global, refusal: ImageRefusal) -> Result<Reply, AllocError>
+    ensures { IfOk result (SaysImage refusal) }
+{
+    match refusal {
+        ImageRefusal::BadLine(number) => refuse_listing(alloc, "L1 at line ", number),
+        ImageRefusal::Short => {
+            let text = String::from_str(alloc, "listing refused L2\n")?;
+            Ok(Reply {
+                status: Status::Listing,
+                text,
+            })
+        }
+        ImageRefusal::Memory => Err(AllocError),
+    }
+}
+
+/// An image isn't one of valid and tame code.
+pub fn refuse_code(alloc: Global, refusal: VerifyRefusal) -> Result<Reply, AllocError>
+    ensures { IfOk result (SaysCode refusal) }
+{
+    match refusal {
+        VerifyRefusal::BadTable(line) => refuse_listing(alloc, "V1 at line ", line),
+        VerifyRefusal::BadNumber(place) => refuse_listing(alloc, "V2 at instruction ", place),
+        VerifyRefusal::Endless(place) => refuse_listing(alloc, "V3 at instruction ", place),
+        VerifyRefusal::BadShape(place) => refuse_listing(alloc, "V4 at instruction ", place),
+        VerifyRefusal::Memory => Err(AllocError),
+    }
 }

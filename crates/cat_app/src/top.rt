@@ -5,14 +5,17 @@ ghost use Rattle.cat_io.specs.Stored.{texts_of};
 ghost use Rattle.cat_value.specs.declared.value.Value.{Value};
 ghost use Rattle.cat_scope.specs.declared.programs.Program.{Program};
 ghost use Rattle.cat_weave.specs.declared.source.Source.{Source};
-ghost use Rattle.cat_app.specs.Words.{Request};
+ghost use Rattle.cat_code.specs.declared.code.Code.{Code};
+ghost use Rattle.cat_app.specs.Words.{ListingRequest, Request};
 ghost use Rattle.cat_app.specs.Table.{Answers};
-ghost use Rattle.cat_app.specs.Complete.{NoFileRose, RepliesFit, IsToldCheck, IsToldRun, EndsCheck, EndsRun};
+ghost use Rattle.cat_app.specs.Calm.{NoFileRose};
+ghost use Rattle.cat_app.specs.Complete.{RepliesFit, IsToldCheck, IsToldRun, EndsCheck, EndsRun};
 ghost use Rattle.cat_app.specs.Complete.{is_fault, is_reply};
 ghost use Rattle.cat_app.specs.AuditEnds.{IsToldAudit, EndsAudit};
 ghost use Rattle.cat_app.specs.DeadEnds.{EndsDead, EndsDeadCheck, IsToldDead, IsToldDeadCheck};
 ghost use Rattle.cat_app.specs.DrillEnds.{EndsDrill, IsToldDrill};
 ghost use Rattle.cat_app.specs.EmitEnds.{EndsEmit, EndsEmitRun, IsToldEmit, IsToldEmitRun};
+ghost use Rattle.cat_app.specs.ExecEnds.{EndsExec, IsToldExec, IsToldListing};
 ghost use Rattle.cat_app.specs.Many.{ReadInput};
 ghost use Rattle.cat_app.specs.ManyEnds.{EndsMany, IsToldMany};
 ghost use Rattle.cat_app.specs.inside.Reading.{PutsText};
@@ -23,7 +26,9 @@ use crate::Status;
 use crate::many::put_lines;
 use crate::reply::{Reply, ToWrite, reply_of};
 use cat_build::{pieces_have_one_program, refused_pieces_are_not_accepted};
+use cat_image::a_text_has_one_image;
 use cat_io::{Shelf, Sink};
+use cat_verify_tables::lines_tell_one_table;
 use cat_weave::told_sources_are_gathered;
 use std::alloc::Global;
 
@@ -38,6 +43,8 @@ use std::alloc::Global;
 /// | `Fine`, `Found`, `Unsettled` | the report on a scope's definitions; whether one never decides, or it isn't known of one whether it does |
 /// | `Fine`, `Certificate` | of a check, a yes, or why the certificate is refused; of a certificate of dead definitions, these in front of the yes |
 /// | `Fine` | of an emit, the listing of the program's code |
+/// | `Fine`, `Conflict`, `NoValue`, `Fault` | of a run of listed code, what the code gives the scope on the input |
+/// | `Listing` | the code by which the listing is refused, and of which line or instruction |
 /// | `Fine` | of many inputs, the line of each as a run on it alone writes it |
 /// | `Fine` | of a drill, its line; where a run of it has no value, that outcome with its own status |
 /// | `Source` | the code and the position by which the source is refused |
@@ -134,6 +141,19 @@ pub fn catala<S: Shelf, K: Sink>(
         → IsToldMany (texts_of words.now) (S.state shelf.old) request source program scope inputs
         → EndsMany (K.state sink.old) (K.state sink.new) source program scope inputs result }
 
+    // Over told contents code that a listing tells is run: it ends on each well-typed input of the scope, and what it
+    // gives is written.
+    ensures an_exec_writes_what_the_code_gives { (request : ListingRequest) (code : Code) (files : List (List ℕ))
+        (scope : ℕ) (input : List (Option Value))
+        → IsToldExec (texts_of words.now) (S.state shelf.old) request code files scope input
+        → EndsExec (K.state sink.old) (K.state sink.new) code.tables code.instructions files scope input result }
+
+    // Of a listing that an emit writes of a program it is what a run of the scope writes.
+    ensures an_exec_of_an_emitted_listing_is_a_run { (request : ListingRequest) (source : Source) (program : Program)
+        (scope : ℕ) (input : List (Option Value))
+        → IsToldListing (texts_of words.now) (S.state shelf.old) request source program scope input
+        → EndsRun (K.state sink.old) (K.state sink.new) source program scope input result }
+
     // The line of a drill has the sum of the rates of its runs, the leaves of the trees of its audit, and the verdict.
     ensures a_drill_writes_its_line { (bands : ℕ) (source : Source) (program : Program) (scope : ℕ)
         → IsToldDrill (texts_of words.now) bands source program scope
@@ -142,6 +162,8 @@ pub fn catala<S: Shelf, K: Sink>(
     pieces_have_one_program();
     refused_pieces_are_not_accepted();
     told_sources_are_gathered();
+    a_text_has_one_image();
+    lines_tell_one_table();
     answer(alloc, words, shelf, sink)
 }
 

@@ -22,7 +22,7 @@ use Rattle.cat_build.specs.Accepted.{IsAccepted}
 use Rattle.cat_build.specs.Causes.{StandsAt}
 use Rattle.cat_build.specs.Codes.{number_of}
 use Rattle.cat_app.specs.Modes.{shows_tables}
-use Rattle.cat_app.specs.Words.{Ask, OfBands, OfScope, Request, ask_of, request_in}
+use Rattle.cat_app.specs.Words.{Ask, OfBands, OfListing, OfScope, Request, ask_of, request_in}
 use Rattle.cat_app.specs.Asked.{IsSource, IsAsked}
 use Rattle.cat_app.specs.Answers.{IsOutcome, IsRefusedFile, IsRefusedSource}
 use Rattle.cat_app.specs.Lines.{line, refusal_line, gathering_line}
@@ -336,6 +336,7 @@ no_lines : (asked : Option Ask) (old : Shelved) (room : ℕ) → WhereAsked aske
     → LinesFit (request_in asked) old room
 no_lines None old room told = tt
 no_lines (Some (OfScope request)) old room told = λ lines many. absurd (cc (told.mode, many.mode))
+no_lines (Some (OfListing request)) old room told = absurd told
 no_lines (Some (OfBands bands)) old room told = absurd told
 
 -- a text that answers what the words ask for
@@ -348,6 +349,7 @@ answers_room laws old None told =
     only_room (Answers None old) (line (codes "usage: catala MODE SCOPE FILE [EXTRA] [--cases N]") [])
     (λ text h. h.2.reply)
 answers_room laws old (Some (OfScope request)) told = request_room request old laws told
+answers_room laws old (Some (OfListing request)) told = absurd told
 answers_room laws old (Some (OfBands bands)) told = absurd told
 
 pub run_room : Laws → (words : List (List ℕ)) (old : Shelved) → WhereAsked (ask_of words) (TellsRun old)
@@ -365,6 +367,7 @@ where_asked : (Has Holds : Request → Type 0) (asked : Option Ask) → ((reques
     → WhereAsked asked Has → WhereAsked asked Holds
 where_asked Has Holds None holds has = tt
 where_asked Has Holds (Some (OfScope request)) holds has = holds request has
+where_asked Has Holds (Some (OfListing request)) holds has = absurd has
 where_asked Has Holds (Some (OfBands bands)) holds has = absurd has
 
 pub shelf_room : Laws → (words : List (List ℕ)) (old : Shelved) → WhereAsked (ask_of words) IsRun → TellsAll old

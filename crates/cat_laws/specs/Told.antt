@@ -4,7 +4,7 @@ use Rattle.cat_io.specs.Shelf.{Shelved}
 use Rattle.cat_scope.specs.declared.programs.Program.{Program}
 use Rattle.cat_weave.specs.declared.source.Source.{Source}
 use Rattle.cat_weave.specs.Gathered.{Ending, Whole, Refused, StopsAt, gathered}
-use Rattle.cat_app.specs.Words.{Ask, OfBands, OfScope, Request}
+use Rattle.cat_app.specs.Words.{Ask, OfBands, OfListing, OfScope, Request}
 use Rattle.cat_app.specs.Asked.{IsAsked}
 use Rattle.cat_app.specs.declared.request.Mode.TheVariants.{Run}
 use Rattle.cat_app.specs.Complete.{RepliesFit}
@@ -31,10 +31,11 @@ pub record TellsRun (shelf : Shelved) (request : Request) : Type 0 where
 abbrev pub TellsAll : Shelved → Type 0
 TellsAll shelf = (name : List ℕ) → IsSome (shelf.content name)
 
--- no drill is asked for, and what is asked of a scope, if anything is, is of this kind
+-- neither a drill nor a run of listed code is asked for, and what is asked of a scope, if anything is, is of this kind
 abbrev pub WhereAsked : Option Ask → (Request → Type 0) → Type 0
 WhereAsked None Holds = ⊤
 WhereAsked (Some (OfScope request)) Holds = Holds request
+WhereAsked (Some (OfListing request)) Holds = ⊥
 WhereAsked (Some (OfBands bands)) Holds = ⊥
 
 -- some room is enough for each reply to the words over that shelf, whatever the shelf is left as

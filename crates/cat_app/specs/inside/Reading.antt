@@ -20,7 +20,7 @@ use Rattle.cat_app.specs.declared.reply.ToWrite.{ToWrite}
 use Rattle.cat_app.specs.declared.reply.ToWrite.TheVariants.{Text, Lines}
 use Rattle.cat_app.specs.declared.request.AskedFor.{AskedFor}
 use Rattle.cat_app.specs.declared.request.AskedFor.TheVariants as asking
-use Rattle.cat_app.specs.declared.request.AskedWords.{AskedWords}
+use Rattle.cat_app.specs.declared.asked_words.AskedWords.{AskedWords}
 use Rattle.cat_app.specs.declared.request.Mode.TheVariants.{Many}
 use Rattle.cat_app.specs.declared.status.Status.{Status}
 use Rattle.cat_app.specs.declared.status.Status.TheVariants.{WriteFault}
@@ -74,6 +74,7 @@ MayWrite asked old new (Lines read) =
 abbrev pub MayWriteTo : AskedFor → Shelved → Shelved → ToWrite → Type 0
 MayWriteTo asked old new (Text reply) = MayTellTo asked old new reply
 MayWriteTo (asking.Scope asked) old new (Lines read) = MayWrite asked old new (Lines read)
+MayWriteTo (asking.Listing asked) old new (Lines read) = ⊥
 MayWriteTo (asking.Drill bands) old new (Lines read) = ⊥
 
 -- this may be written to some words

@@ -1,5 +1,6 @@
 -- What the steps of a call say.
-use Rattle.std.specs.Prelude.{◌≡◌, ◌⊎◌, List, [], ℕ, Option, Some, string_bytes, codes}
+use Rattle.std.specs.Prelude.{◌≡◌, ◌⊎◌, ◌≤◌, List, [], ℕ, length, Option, Some, string_bytes, codes}
+use Rattle.cat_pos.specs.Limits.{most_input_bytes}
 use Rattle.cat_io.specs.Shelf.{Shelved}
 use Rattle.cat_io.specs.declared.shelf.ShelfFault.{ShelfFault}
 use Rattle.cat_io.specs.declared.shelf.ShelfFault.TheVariants as shelf
@@ -19,6 +20,9 @@ use Rattle.cat_answer.specs.Answer.{answer_of}
 use Rattle.cat_weave.specs.declared.source.Source.{Source}
 use Rattle.cat_weave.specs.declared.source.GatherRefusal.{GatherRefusal}
 use Rattle.cat_weave.specs.declared.source.GatherRefusal.TheVariants as gathering
+use Rattle.cat_listing.specs.Listing.{listing}
+use Rattle.cat_build.specs.declared.Built.{Built}
+use Rattle.cat_emitted.specs.Accepted.{IsAcceptedListing}
 use Rattle.cat_words.specs.Asked.{IsCases}
 use Rattle.cat_app.specs.Words.{Request}
 use Rattle.cat_app.specs.inside.AskedWords.{asked_of}
@@ -28,7 +32,7 @@ use Rattle.cat_cert.specs.declared.refusal.CertRefusal.{CertRefusal}
 use Rattle.cat_app.specs.Checks.{HasCertificate, HasNoCertificate, certificate_line}
 use Rattle.cat_app.specs.Audits.{HasReport, audit_text, status_at}
 use Rattle.cat_app.specs.Table.{MayAnswer}
-use Rattle.cat_app.specs.declared.request.AskedWords.{AskedWords}
+use Rattle.cat_app.specs.declared.asked_words.AskedWords.{AskedWords}
 use Rattle.cat_app.specs.declared.request.Mode.{Mode}
 use Rattle.cat_app.specs.declared.reply.Reply.{Reply}
 use Rattle.cat_app.specs.declared.status.Status.{Status}
@@ -38,6 +42,12 @@ use Rattle.cat_app.specs.declared.status.Status.TheVariants.{Source as SourceSta
 -- a reply has this status and this text
 abbrev pub Says : Status → List ℕ → Reply → Type 0
 Says status text reply = (reply.status ≡ status) × (string_bytes reply.text ≡ text)
+
+-- a reply is the listing of code, which is accepted where it is short enough to be read
+pub record SaysListing (source : Source) (built : Built) (reply : Reply) : Type 0 where
+  pub says : Says Fine (listing built.code source.files) reply
+  pub accepted : length (listing built.code source.files) ≤ most_input_bytes
+      → IsAcceptedListing (listing built.code source.files) source.files built.code
 
 -- a reply tells of a refused read of that file; none tells of want of memory
 abbrev pub SaysFault : List ℕ → ShelfFault → Reply → Type 0

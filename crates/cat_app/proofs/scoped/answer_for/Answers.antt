@@ -1,4 +1,4 @@
-use Rattle.std.proofs.Common.{refl}
+use Rattle.std.proofs.Common.{◌<◌, length, refl, arith}
 use Rattle.cat_app.specs.inside.AskedWords.{asked_of}
 use Rattle.cat_app.proofs.DeadReplies.{a_dead_report}
 use Rattle.cat_app.proofs.Replies.{if_ok, asked_for, a_listing, a_report, most_is, named_within}
@@ -15,6 +15,20 @@ returns-in-Audit-clause-may g c = if_ok c.audited.result c.audited.ensures (λ r
     reply refl says (asked_for (asked_of cases c.args.asked) _ c.args.source.now c.args.built.now c.args.scope
     c.requires.gathered c.requires.built c.requires.named) c.in-Audit.is
     (most_is cases c.args.asked.cases c.most_of.result are c.most_of.ensures.most))
+
+pub listed-requires-clause-gathered : goal.listed-requires-clause-gathered
+listed-requires-clause-gathered g c = record {
+  contents = c.requires.gathered.0;
+  main = c.args.asked.file.now;
+  line = c.args.asked.line;
+  whole = c.requires.gathered.2;
+}
+
+pub listed-requires-clause-scopes : goal.listed-requires-clause-scopes
+listed-requires-clause-scopes g c =
+    let within : c.args.scope < length c.args.built.now.program.decls.scopes =
+    named_within c.args.asked.scope.now c.args.scope c.args.built.now.program.decls.scopes c.requires.named in
+    omega (arith, within)
 
 pub returns-in-Emit-clause-may : goal.returns-in-Emit-clause-may
 returns-in-Emit-clause-may g c = if_ok c.listed.result c.listed.ensures (λ reply says cases are.

@@ -1,9 +1,11 @@
 use Rattle.cat_io.specs.Stored.{texts_of}
-use Rattle.cat_app.proofs.Answering.{at_once, drill_at_once, what_fits}
+use Rattle.cat_app.proofs.Answering.{at_once, drill_at_once, listing_at_once, what_fits}
 use Rattle.cat_app.proofs.Complete.{ends_audit, ends_check}
 use Rattle.cat_app.proofs.DeadEnds.{ends_dead, ends_dead_check}
 use Rattle.cat_app.proofs.DrillEnds.{ends_drill}
 use Rattle.cat_app.proofs.EmitEnds.{ends_emit}
+use Rattle.cat_app.proofs.EmittedEnds.{ends_emitted}
+use Rattle.cat_app.proofs.ExecEnds.{ends_exec}
 use Rattle.cat_app.proofs.Faults.{no_fault}
 use Rattle.cat_app.proofs.ManyEnds.{many_ends}
 use Rattle.cat_app.proofs.Putting.{reply_untouched}
@@ -102,6 +104,21 @@ returns-clause-a_drill_writes_its_line g c bands source program scope drill =
     c.told_sources_are_gathered.ensures.endings (texts_of c.args.words.now) _ _ _ _ bands source program scope drill
     c.answer.result
     (drill_at_once (texts_of c.args.words.now) _ _ _ _ c.answer.result bands drill.asked c.answer.ensures.answers)
+
+pub returns-clause-an_exec_writes_what_the_code_gives : goal.returns-clause-an_exec_writes_what_the_code_gives
+returns-clause-an_exec_writes_what_the_code_gives g c request code files scope input exec =
+    ends_exec c.a_text_has_one_image.ensures
+    (λ image tables others right told same. c.lines_tell_one_table.ensures image tables others told same right)
+    (texts_of c.args.words.now) _ _ _ _ request
+    code files scope input exec c.answer.result
+    (listing_at_once (texts_of c.args.words.now) _ _ _ _ c.answer.result request exec.asked c.answer.ensures.answers)
+
+pub returns-clause-an_exec_of_an_emitted_listing_is_a_run : goal.returns-clause-an_exec_of_an_emitted_listing_is_a_run
+returns-clause-an_exec_of_an_emitted_listing_is_a_run g c request source program scope input told =
+    ends_emitted c.a_text_has_one_image.ensures
+    (λ image tables others right are same. c.lines_tell_one_table.ensures image tables others are same right)
+    (texts_of c.args.words.now) _ _ _ _ request source program scope input told c.answer.result
+    (listing_at_once (texts_of c.args.words.now) _ _ _ _ c.answer.result request told.asked c.answer.ensures.answers)
 
 pub returns-clause-what_fits_is_written : goal.returns-clause-what_fits_is_written
 returns-clause-what_fits_is_written g c =
