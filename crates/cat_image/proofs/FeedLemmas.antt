@@ -1,78 +1,91 @@
--- The first line of a text by its line feed.
-use Rattle.std.proofs.Common.{◌≡◌, ℕ, zero, suc, ◌+◌, ◌<◌, ◌≤◌, Bool, true, false, ◌==◌, List, [], ◌∷◌, ◌++◌, length}
+-- A text by its first byte of a kind: a line by its line feed, a word by its blank.
+use Rattle.std.proofs.Common.{◌≡◌, ℕ, zero, suc, ◌+◌, ◌<◌, ◌≤◌, Bool, true, false, ◌==◌, [], ◌∷◌, length}
 use Rattle.std.proofs.Common.{take}
-use Rattle.std.proofs.Common.{drop, get_or, Option, Some, None}
-use Rattle.std.proofs.Common.{◌-◌, refl, sym, ap, ◌∙◌, arith}
+use Rattle.std.proofs.Common.{drop, get_or, Some, None}
+use Rattle.std.proofs.Common.{◌-◌, refl, sym, ap, subst, ◌∙◌, arith}
 use Rattle.std.specs.Prelude.{◌≢◌}
 use Rattle.std.specs.List.{prefix_len}
 use Rattle.std.proofs.lemmas.Bool.Decides.{nat_tests}
 use Rattle.std.proofs.lemmas.List.{take_rest}
-use Rattle.std.proofs.lemmas.List.Sums.{prefix_len-drop_yes, prefix_len-drop_no, prefix_len-drop_all}
+use Rattle.std.proofs.lemmas.List.Sums.{prefix_len-drop_yes, prefix_len-drop_no, prefix_len-drop_all, prefix_len_stops}
 use Rattle.cat_image.specs.Words.{Text}
-use Rattle.cat_image.specs.inside.Reads.{cut, in_front, is_other}
+use Rattle.cat_image.specs.inside.Reads.{cut, is_other}
 
-pub feed_later : (bytes : Text) (i : ℕ) → i < length bytes → get_or bytes i 0 ≢ 10
-    → i + prefix_len is_other (drop i bytes) ≡ (i + 1) + prefix_len is_other (drop (i + 1) bytes)
-feed_later bytes i inside other =
-    let test : is_other (get_or bytes i 0) ≡ true = grind (arith, nat_tests) in
-    omega (arith, prefix_len-drop_yes is_other bytes i 0 inside test)
+pub first_later : (byte : ℕ) (bytes : Text) (i : ℕ) → i < length bytes → get_or bytes i 0 ≢ byte
+    → i + prefix_len (is_other byte) (drop i bytes) ≡ (i + 1) + prefix_len (is_other byte) (drop (i + 1) bytes)
+first_later byte bytes i inside other =
+    let test : is_other byte (get_or bytes i 0) ≡ true = grind (arith, nat_tests) in
+    omega (arith, prefix_len-drop_yes (is_other byte) bytes i 0 inside test)
 
-pub feed_here : (bytes : Text) (i : ℕ) → i < length bytes → get_or bytes i 0 ≡ 10
-    → prefix_len is_other (drop i bytes) ≡ 0
-feed_here bytes i inside feed =
-    let test : is_other (get_or bytes i 0) ≡ false = grind (arith, nat_tests) in
-    prefix_len-drop_no is_other bytes i 0 inside test
+pub first_here : (byte : ℕ) (bytes : Text) (i : ℕ) → i < length bytes → get_or bytes i 0 ≡ byte
+    → prefix_len (is_other byte) (drop i bytes) ≡ 0
+first_here byte bytes i inside same =
+    let test : is_other byte (get_or bytes i 0) ≡ false = grind (arith, nat_tests) in
+    prefix_len-drop_no (is_other byte) bytes i 0 inside test
 
-pub feed_none : (bytes : Text) (i : ℕ) → length bytes ≤ i → prefix_len is_other (drop i bytes) ≡ 0
-feed_none bytes i past = prefix_len-drop_all is_other bytes i past
+pub first_none : (byte : ℕ) (bytes : Text) (i : ℕ) → length bytes ≤ i → prefix_len (is_other byte) (drop i bytes) ≡ 0
+first_none byte bytes i past = prefix_len-drop_all (is_other byte) bytes i past
 
-pub ruleset feeds = (feed_later, feed_here, feed_none)
+pub ruleset firsts = (first_later, first_here, first_none)
 
 -- ---- where a text is cut
 
-feed_step : (b : ℕ) (bs : Text) (m : ℕ) (feed : Bool) → (b == 10) ≡ feed
-    → ((k : ℕ) → prefix_len is_other bs ≡ k → k < length bs → cut 10 bs ≡ Some (take k bs, drop (suc k) bs))
-    → prefix_len is_other (b ∷ bs) ≡ m → m < suc (length bs)
-    → cut 10 (b ∷ bs) ≡ Some (take m (b ∷ bs), drop (suc m) (b ∷ bs))
+step : (byte b : ℕ) (bs : Text) (m : ℕ) (same : Bool) → (b == byte) ≡ same
+    → ((k : ℕ) → prefix_len (is_other byte) bs ≡ k → k < length bs → cut byte bs ≡ Some (take k bs, drop (suc k) bs))
+    → prefix_len (is_other byte) (b ∷ bs) ≡ m → m < suc (length bs)
+    → cut byte (b ∷ bs) ≡ Some (take m (b ∷ bs), drop (suc m) (b ∷ bs))
 unfolding cut
-feed_step b bs zero true is more count within = rw is refl
-feed_step b bs (suc m) true is more count within =
-    let none : prefix_len is_other (b ∷ bs) ≡ 0 = rw is refl in
+step byte b bs zero true is more count within = rw is refl
+step byte b bs (suc m) true is more count within =
+    let none : prefix_len (is_other byte) (b ∷ bs) ≡ 0 = rw is refl in
     absurd (omega (arith, none, count))
-feed_step b bs zero false is more count within =
-    let some : prefix_len is_other (b ∷ bs) ≡ 1 + prefix_len is_other bs = rw is refl in
+step byte b bs zero false is more count within =
+    let some : prefix_len (is_other byte) (b ∷ bs) ≡ 1 + prefix_len (is_other byte) bs = rw is refl in
     absurd (omega (arith, some, count))
-feed_step b bs (suc m) false is more count within =
-    let some : prefix_len is_other (b ∷ bs) ≡ 1 + prefix_len is_other bs = rw is refl in
+step byte b bs (suc m) false is more count within =
+    let some : prefix_len (is_other byte) (b ∷ bs) ≡ 1 + prefix_len (is_other byte) bs = rw is refl in
     let others = more m (omega (arith, some, count)) (omega (arith, within)) in
     rw (is, others) refl
 
-pub cut_at_feed : (text : Text) (m : ℕ) → prefix_len is_other text ≡ m → m < length text
-    → cut 10 text ≡ Some (take m text, drop (suc m) text)
-cut_at_feed [] m count within = absurd (omega (arith, within))
-cut_at_feed (b ∷ bs) m count within =
-    feed_step b bs m (b == 10) refl (λ k one inside. cut_at_feed bs k one inside) count within
+at_first : (byte : ℕ) (text : Text) (m : ℕ) → prefix_len (is_other byte) text ≡ m → m < length text
+    → cut byte text ≡ Some (take m text, drop (suc m) text)
+at_first byte [] m count within = absurd (omega (arith, within))
+at_first byte (b ∷ bs) m count within =
+    step byte b bs m (b == byte) refl (λ k one inside. at_first byte bs k one inside) count within
 
-no_feed_step : (b : ℕ) (bs : Text) (feed : Bool) → (b == 10) ≡ feed
-    → (length bs ≤ prefix_len is_other bs → cut 10 bs ≡ None) → suc (length bs) ≤ prefix_len is_other (b ∷ bs)
-    → cut 10 (b ∷ bs) ≡ None
+no_step : (byte b : ℕ) (bs : Text) (same : Bool) → (b == byte) ≡ same
+    → (length bs ≤ prefix_len (is_other byte) bs → cut byte bs ≡ None)
+    → suc (length bs) ≤ prefix_len (is_other byte) (b ∷ bs) → cut byte (b ∷ bs) ≡ None
 unfolding cut
-no_feed_step b bs true is more past =
-    let none : prefix_len is_other (b ∷ bs) ≡ 0 = rw is refl in
+no_step byte b bs true is more past =
+    let none : prefix_len (is_other byte) (b ∷ bs) ≡ 0 = rw is refl in
     absurd (omega (arith, none, past))
-no_feed_step b bs false is more past =
-    let some : prefix_len is_other (b ∷ bs) ≡ 1 + prefix_len is_other bs = rw is refl in
+no_step byte b bs false is more past =
+    let some : prefix_len (is_other byte) (b ∷ bs) ≡ 1 + prefix_len (is_other byte) bs = rw is refl in
     rw (is, more (omega (arith, some, past))) refl
 
-pub no_feed : (text : Text) → length text ≤ prefix_len is_other text → cut 10 text ≡ None
+pub not_cut : (byte : ℕ) (text : Text) → length text ≤ prefix_len (is_other byte) text → cut byte text ≡ None
 unfolding cut
-no_feed [] past = refl
-no_feed (b ∷ bs) past = no_feed_step b bs (b == 10) refl (no_feed bs) past
+not_cut byte [] past = refl
+not_cut byte (b ∷ bs) past = no_step byte b bs (b == byte) refl (not_cut byte bs) past
+
+pub cut_here : (byte : ℕ) (text : Text) (m : ℕ) → prefix_len (is_other byte) text ≡ m → m < length text
+    → cut byte text ≡ Some (take m text, drop (m + 1) text)
+cut_here byte text m count within =
+    let one : suc m ≡ m + 1 = omega arith in
+    at_first byte text m count within ∙ ap (λ (k : ℕ). Some (take m text, drop k text)) one
 
 -- as a slice has it
-pub cut_behind : (text : Text) (m : ℕ) → prefix_len is_other text ≡ m → m < length text
-    → cut 10 text ≡ Some (take m text, take (length text - (m + 1)) (drop (m + 1) text))
-cut_behind text m count within =
-    let one : suc m ≡ m + 1 = omega arith in
-    cut_at_feed text m count within ∙ ap (λ (k : ℕ). Some (take m text, drop k text)) one
-    ∙ ap (λ (t : Text). Some (take m text, t)) (sym (take_rest text (m + 1)))
+pub cut_behind : (byte : ℕ) (text : Text) (m : ℕ) → prefix_len (is_other byte) text ≡ m → m < length text
+    → cut byte text ≡ Some (take m text, take (length text - (m + 1)) (drop (m + 1) text))
+cut_behind byte text m count within =
+    cut_here byte text m count within ∙ ap (λ (t : Text). Some (take m text, t)) (sym (take_rest text (m + 1)))
+
+-- the byte that stands there
+pub byte_there : (byte : ℕ) (text : Text) (m : ℕ) → prefix_len (is_other byte) text ≡ m → m < length text
+    → get_or text m 0 ≡ byte
+byte_there byte text m count within =
+    let stops = prefix_len_stops (is_other byte) text 0 (omega (arith, count, within)) in
+    let here : is_other byte (get_or text m 0) ≡ false =
+    subst (λ (k : ℕ). is_other byte (get_or text k 0) ≡ false) count stops in
+    grind (arith, nat_tests)

@@ -12,6 +12,7 @@ pub mod InstrLemmas
 pub mod RowLemmas
 pub mod SplitLemmas
 pub mod WrittenLemmas
+pub mod KindLemmas
 -- rows that are put in order, and images
 pub mod PutLemmas
 pub mod RunLemmas

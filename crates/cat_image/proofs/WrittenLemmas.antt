@@ -95,7 +95,7 @@ unfolding row_read
 by_kind line word rest k at found = rw (at, found) refl
 
 -- no number is the word of a line
-no_kind_of : (b : ℕ) (bs : Text) → (48 ≤ b) × (b ≤ 57) → look_up row_kinds (b ∷ bs) ≡ None
+pub no_kind_of : (b : ℕ) (bs : Text) → (48 ≤ b) × (b ≤ 57) → look_up row_kinds (b ∷ bs) ≡ None
 unfolding row_kinds
 no_kind_of b bs within =
     let c : nat_eq b 99 ≡ false = grind (arith, nat_tests) in

@@ -139,10 +139,24 @@ fn look_up<K: Copy>(table: &[(&str, K)], spelling: &[u8]) -> Option<K>
     None
 }
 
+fn begins_with_digit(word: &[u8]) -> bool
+    ensures { result ≡ names.begins_with_digit word.now }
+{
+    match word {
+        [] => false,
+        [first, ..] => first.is_ascii_digit(),
+    }
+}
+
+/// Most lines are those of instructions, whose first word is a number and no kind.
 pub(crate) fn row_kind(word: &str) -> Option<RowKind>
     ensures { result ≡ names.look_up names.row_kinds word.now }
 {
-    look_up(&ROW_KINDS, word.as_bytes())
+    let bytes = word.as_bytes();
+    if begins_with_digit(bytes) {
+        return None;
+    }
+    look_up(&ROW_KINDS, bytes)
 }
 
 pub(crate) fn item_kind(word: &str) -> Option<ImageKind>

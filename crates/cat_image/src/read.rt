@@ -1,40 +1,27 @@
 // Reads a listing line by line.
 ghost use Rattle.std.specs.Prelude.{◌≡◌, ◌≤◌, ◌<◌, ◌+◌, IfOk, IfErr, IfSome, length, codes};
-ghost use Rattle.std.specs.List.{prefix_len};
 ghost use Rattle.std.specs.Option.{option_map};
 ghost use Rattle.std.specs.Str.{bytes_eq};
 ghost use Rattle.cat_pos.specs.Limits.{most_input_bytes};
 ghost use Rattle.cat_image.specs.Words.{parts};
 ghost use Rattle.cat_image.specs.Image.{IsImage};
 ghost use Rattle.cat_image.specs.Refused.{HasCause};
-ghost use Rattle.cat_image.specs.inside.Reads.{cut, is_other};
+ghost use Rattle.cat_image.specs.inside.Reads.{cut};
 ghost use Rattle.cat_image.specs.inside.Reading.{Takes, nothing_read};
 ghost use Rattle.cat_image.specs.inside.Endings as words;
 
 use crate::reading::{Reading, nothing_read, put};
 use crate::rows::row_read;
-use crate::{Image, ImageRefusal};
+use crate::words::first_of;
+use crate::{Image, ImageNames, ImageRefusal};
 use std::alloc::{AllocError, Global};
-
-/// Where the first line feed stands, or the length.
-#[tactic(auto, using(crate::proofs::FeedLemmas::feeds))]
-fn feed_in(bytes: &[u8]) -> usize
-    ensures feed { result ≡ prefix_len is_other bytes.now }
-    ensures within { result ≤ length bytes.now }
-{
-    let mut at = 0;
-    while at < bytes.len() && bytes[at] != b'\n' {
-        at += 1;
-    }
-    at
-}
 
 /// The first line of a text, without its line feed, and what stands behind that.
 fn next_line(bytes: &[u8]) -> Option<(&[u8], &[u8])>
     ensures cut { option_map (λ parts. (parts.0.now, parts.1.now)) result ≡ cut 10 bytes.now }
     ensures shorter { IfSome result (λ parts. length parts.1.now < length bytes.now) }
 {
-    let feed = feed_in(bytes);
+    let feed = first_of(bytes, b'\n');
     if feed == bytes.len() {
         return None;
     }
@@ -58,13 +45,18 @@ fn text_in(line: &[u8]) -> Option<&str>
 }
 
 /// Takes a line; whether it is of a form that is due.
-fn take_line(alloc: Global, reading: &mut Reading, line: &[u8]) -> Result<bool, AllocError>
+fn take_line(
+    alloc: Global,
+    types: &mut ImageNames,
+    reading: &mut Reading,
+    line: &[u8],
+) -> Result<bool, AllocError>
     ensures { IfOk result (λ taken. Takes (words.taken reading.old line.now) taken reading.new) }
 {
     let Some(text) = text_in(line) else {
         return Ok(false);
     };
-    let row = row_read(alloc, text)?;
+    let row = row_read(alloc, types, text)?;
     let Some(row) = row else {
         return Ok(false);
     };
@@ -90,11 +82,12 @@ fn take_lines(alloc: Global, bytes: &[u8]) -> Result<Reading, ImageRefusal>
     ensures { words.EndsSo (words.ending (parts 10 bytes.now) nothing_read 1) result }
 {
     let mut reading = nothing_read(alloc);
+    let mut types = ImageNames::new(alloc);
     let mut rest = bytes;
     let mut number: usize = 1;
     while let Some((line, more)) = next_line(rest) {
         number += 1;
-        let taken = take_line(alloc, &mut reading, line)?;
+        let taken = take_line(alloc, &mut types, &mut reading, line)?;
         if !taken {
             return Err(ImageRefusal::BadLine(number));
         }

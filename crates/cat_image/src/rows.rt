@@ -7,7 +7,7 @@ use crate::instrs::instr;
 use crate::names::{RowKind, item_kind, row_kind};
 use crate::typed::constant;
 use crate::words::{at_blank, is_name, is_type, is_what, number, pos};
-use crate::{ImageCase, ImageField, ImageItem, ImageKind, ImageTarget, Row};
+use crate::{ImageCase, ImageField, ImageItem, ImageKind, ImageNames, ImageTarget, Row};
 use cat_pos::Text;
 use std::alloc::{AllocError, Global};
 
@@ -218,7 +218,12 @@ fn instruction(first: &str, text: &str) -> Option<Row>
 }
 
 /// A line in front of the instructions, behind its first word.
-fn row_of(alloc: Global, kind: RowKind, rest: &str) -> Result<Option<Row>, AllocError>
+fn row_of(
+    alloc: Global,
+    types: &mut ImageNames,
+    kind: RowKind,
+    rest: &str,
+) -> Result<Option<Row>, AllocError>
     ensures { IfOk result (λ row. row ≡ rows.row_of kind rest.now) }
 {
     match kind {
@@ -233,20 +238,24 @@ fn row_of(alloc: Global, kind: RowKind, rest: &str) -> Result<Option<Row>, Alloc
         RowKind::Definition => Ok(definition(rest)),
         RowKind::Function => Ok(function(rest)),
         RowKind::Position => Ok(position(rest)),
-        RowKind::Constant => constant(alloc, rest),
+        RowKind::Constant => constant(alloc, types, rest),
     }
 }
 
-/// What a line behind the first one says, where it is of some form.
+/// What a line behind the first one says, where it is of some form. Types of constants are kept, to be shared.
 #[tactic(auto, unfolding(crate::specs::inside::ReadRows::row_read))]
-pub(crate) fn row_read(alloc: Global, line: &str) -> Result<Option<Row>, AllocError>
+pub(crate) fn row_read(
+    alloc: Global,
+    types: &mut ImageNames,
+    line: &str,
+) -> Result<Option<Row>, AllocError>
     ensures { IfOk result (λ row. row ≡ rows.row_read line.now) }
 {
     let Some((word, rest)) = at_blank(line) else {
         return Ok(None);
     };
     match row_kind(word) {
-        Some(kind) => row_of(alloc, kind, rest),
+        Some(kind) => row_of(alloc, types, kind, rest),
         None => Ok(instruction(word, rest)),
     }
 }

@@ -1,11 +1,11 @@
 // Lines of constants: the longest type, and what stands behind it.
-ghost use Rattle.std.specs.Prelude.{◌≡◌, IfOk, string_bytes};
+ghost use Rattle.std.specs.Prelude.{◌≡◌, IfOk, IfSome, string_bytes};
 ghost use Rattle.std.specs.Option.{option_map};
 ghost use Rattle.cat_image.specs.Words.{words};
 ghost use Rattle.cat_image.specs.inside.Typed as typed;
 
 use crate::words::{at_blank, element_of, has_bytes};
-use crate::{ImageConstant, Row};
+use crate::{ImageConstant, ImageNames, Row};
 use cat_pos::Text;
 use std::alloc::{AllocError, Global};
 
@@ -64,14 +64,62 @@ fn listed(alloc: Global, lists: usize, name: &str) -> Result<Text, AllocError>
     Text::from_string(alloc, text)
 }
 
+/// How many types are kept.
+const MOST_KEPT: usize = 8;
+
+/// The type that is kept with these bytes.
+fn kept<'a>(types: &'a ImageNames, ty: &str) -> Option<&'a Text>
+    ensures { IfSome result (λ found. found.now ≡ ty.now) }
+{
+    for found in types.as_slice() {
+        if found.is(ty) {
+            return Some(found);
+        }
+    }
+    None
+}
+
+/// A type of one word, which shares its bytes with the one that is kept: most constants have one of a few types.
+fn shared(alloc: Global, types: &mut ImageNames, ty: &str) -> Result<Text, AllocError>
+    ensures { IfOk result (λ text. text ≡ ty.now) }
+{
+    if let Some(found) = kept(types, ty) {
+        return found.copy();
+    }
+    let text = Text::from_str(alloc, ty)?;
+    if types.len() < MOST_KEPT {
+        types.push(text.copy()?)?;
+    }
+    Ok(text)
+}
+
+/// The text of a type.
+fn type_text(
+    alloc: Global,
+    types: &mut ImageNames,
+    lists: usize,
+    name: &str,
+) -> Result<Text, AllocError>
+    ensures { IfOk result (λ text. text ≡ typed.listed lists name.now) }
+{
+    if lists > 0 {
+        return listed(alloc, lists, name);
+    }
+    shared(alloc, types, name)
+}
+
 #[tactic(auto, unfolding(crate::specs::inside::Typed::constant_of))]
-pub(crate) fn constant(alloc: Global, text: &str) -> Result<Option<Row>, AllocError>
+pub(crate) fn constant(
+    alloc: Global,
+    types: &mut ImageNames,
+    text: &str,
+) -> Result<Option<Row>, AllocError>
     ensures { IfOk result (λ row. row ≡ typed.constant_of text.now) }
 {
     let Some(Typed { lists, name, value }) = longest(text) else {
         return Ok(None);
     };
-    let ty = listed(alloc, lists, name)?;
+    let ty = type_text(alloc, types, lists, name)?;
     let value = Text::from_str(alloc, value)?;
     Ok(Some(Row::Constant(ImageConstant { ty, value })))
 }

@@ -1,26 +1,53 @@
 // Words, numbers and positions of a line.
-ghost use Rattle.std.specs.Prelude.{◌≡◌, ◌&&◌, nat_le, ◌==◌};
+ghost use Rattle.std.specs.Prelude.{◌≡◌, ◌≤◌, ◌<◌, ◌&&◌, nat_le, ◌==◌, length};
+ghost use Rattle.std.specs.List.{prefix_len};
 ghost use Rattle.std.specs.Option.{option_map};
 ghost use Rattle.std.specs.Str.{bytes_eq};
 ghost use Rattle.cat_image.specs.Words.{words, has_bytes, is_name, is_type, is_what, are_types_of, is_followed};
 ghost use Rattle.cat_image.specs.Words.{begin_list};
-ghost use Rattle.cat_image.specs.inside.Reads.{cut, digits_after, is_plain, number_of, pos_of, element_of, passed};
-ghost use Rattle.cat_image.specs.inside.Reads.{params_by, named_by};
+ghost use Rattle.cat_image.specs.inside.Reads.{cut, is_other, digits_after, is_plain, number_of, pos_of, element_of};
+ghost use Rattle.cat_image.specs.inside.Reads.{passed, params_by, named_by};
 
 use crate::ImagePos;
+
+/// Where the first byte of that kind stands, or the length. It is a loop of its own, in which nothing else is counted.
+#[inline(never)]
+#[tactic(auto, using(crate::proofs::FeedLemmas::firsts))]
+pub(crate) fn first_of(bytes: &[u8], byte: u8) -> usize
+    ensures place { result ≡ prefix_len (is_other byte) bytes.now }
+    ensures within { result ≤ length bytes.now }
+{
+    let mut at = 0;
+    while at < bytes.len() && bytes[at] != byte {
+        at += 1;
+    }
+    at
+}
+
+/// A text up to its first byte of that kind, which is ASCII, and what stands behind it.
+fn at_byte(text: &str, byte: u8) -> Option<(&str, &str)>
+    requires { byte < 128 }
+    ensures { option_map (λ parts. (parts.0.now, parts.1.now)) result ≡ cut byte text.now }
+{
+    let place = first_of(text.as_bytes(), byte);
+    if place == text.len() {
+        return None;
+    }
+    Some((&text[..place], &text[place + 1..]))
+}
 
 /// A text up to its first blank, and what stands behind it.
 pub(crate) fn at_blank(text: &str) -> Option<(&str, &str)>
     ensures { option_map (λ parts. (parts.0.now, parts.1.now)) result ≡ cut 32 text.now }
 {
-    text.split_once(' ')
+    at_byte(text, b' ')
 }
 
 /// A text up to its first colon, and what stands behind it.
 fn at_colon(text: &str) -> Option<(&str, &str)>
     ensures { option_map (λ parts. (parts.0.now, parts.1.now)) result ≡ cut 58 text.now }
 {
-    text.split_once(':')
+    at_byte(text, b':')
 }
 
 pub(crate) fn is(text: &str, word: &str) -> bool

@@ -1,5 +1,6 @@
 -- The words that lines and instructions begin with.
-use Rattle.std.specs.Prelude.{ℕ, if◌then◌else◌, List, [], ◌∷◌, Option, Some, None, codes}
+use Rattle.std.specs.Prelude.{ℕ, Bool, false, if◌then◌else◌, List, [], ◌∷◌, Option, Some, None, codes}
+use Rattle.std.specs.Char.{is_ascii_digit}
 use Rattle.std.specs.Str.{bytes_eq}
 use denote.Ref.{Bor}
 use Rattle.cat_code.specs.declared.instr.Instr.{Instr}
@@ -23,6 +24,11 @@ look_up (entry ∷ entries) text = if bytes_eq text entry.0 then Some entry.1 el
 abbrev pub spelled : {K : Type 0} → List (Bor (List ℕ) × K) → List (Text × K)
 spelled [] = []
 spelled (entry ∷ entries) = (entry.0.now, entry.1) ∷ spelled entries
+
+-- a digit stands first
+abbrev pub begins_with_digit : Text → Bool
+begins_with_digit [] = false
+begins_with_digit (b ∷ bs) = is_ascii_digit b
 
 -- kinds of lines in front of the instructions
 unfoldable pub row_kinds : List (Text × RowKind)

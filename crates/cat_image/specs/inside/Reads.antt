@@ -22,9 +22,9 @@ unfoldable pub cut : ℕ → Text → Option (Text × Text)
 cut byte [] = None
 cut byte (b ∷ bs) = if b == byte then Some ([], bs) else in_front b (cut byte bs)
 
--- a byte that ends no line
-abbrev pub is_other : ℕ → Bool
-is_other byte = not (byte == 10)
+-- a byte that is another than that one
+abbrev pub is_other : ℕ → ℕ → Bool
+is_other byte b = not (b == byte)
 
 -- ---- numbers
 

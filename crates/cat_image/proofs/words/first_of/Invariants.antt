@@ -1,12 +1,12 @@
 use Rattle.std.proofs.Common.{◌≡◌, ◌+◌, ◌-◌, ◌≤◌, drop, length}
 use Rattle.std.specs.List.{prefix_len}
 use Rattle.cat_image.specs.inside.Reads.{is_other}
-use Rattle.cat_image.proofs.read.feed_in.Given as goal
+use Rattle.cat_image.proofs.words.first_of.Given as goal
 
 abbrev pub invariant-loop-at : goal.invariant-loop-at
 invariant-loop-at l = record {
   within : l.at ≤ length l.bytes;
-  counted : l.at + prefix_len is_other (drop l.at l.bytes) ≡ prefix_len is_other l.bytes;
+  counted : l.at + prefix_len (is_other l.byte) (drop l.at l.bytes) ≡ prefix_len (is_other l.byte) l.bytes;
 }
 
 abbrev pub decreases-loop-at : goal.decreases-loop-at
