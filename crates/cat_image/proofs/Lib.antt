@@ -2,6 +2,7 @@
 pub mod CutLemmas
 pub mod DigitLemmas
 pub mod FeedLemmas
+pub mod LineLemmas
 pub mod NumberLemmas
 pub mod ReadLemmas
 pub mod TypeLemmas

@@ -12,8 +12,8 @@ ghost use Rattle.cat_image.specs.inside.Endings as words;
 
 use crate::reading::{Reading, nothing_read, put};
 use crate::rows::row_read;
-use crate::words::first_of;
 use crate::{Image, ImageNames, ImageRefusal};
+use memchr::memchr;
 use std::alloc::{AllocError, Global};
 
 /// The first line of a text, without its line feed, and what stands behind that.
@@ -21,10 +21,9 @@ fn next_line(bytes: &[u8]) -> Option<(&[u8], &[u8])>
     ensures cut { option_map (λ parts. (parts.0.now, parts.1.now)) result ≡ cut 10 bytes.now }
     ensures shorter { IfSome result (λ parts. length parts.1.now < length bytes.now) }
 {
-    let feed = first_of(bytes, b'\n');
-    if feed == bytes.len() {
+    let Some(feed) = memchr(b'\n', bytes) else {
         return None;
-    }
+    };
     Some((&bytes[..feed], &bytes[feed + 1..]))
 }
 

@@ -13,7 +13,7 @@ use crate::ImagePos;
 /// Where the first byte of that kind stands, or the length. It is a loop of its own, in which nothing else is counted.
 #[inline(never)]
 #[tactic(auto, using(crate::proofs::FeedLemmas::firsts))]
-pub(crate) fn first_of(bytes: &[u8], byte: u8) -> usize
+fn first_of(bytes: &[u8], byte: u8) -> usize
     ensures place { result ≡ prefix_len (is_other byte) bytes.now }
     ensures within { result ≤ length bytes.now }
 {
