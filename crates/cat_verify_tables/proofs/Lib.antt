@@ -65,3 +65,4 @@ pub mod HeadingLemmas
 pub mod LowBy
 pub mod FunctionFaults
 pub mod Telling
+pub mod PlainValues

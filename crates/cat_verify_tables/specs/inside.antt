@@ -12,6 +12,7 @@ pub mod HighWords
 pub mod DeclaredWords
 pub mod TargetNaming
 pub mod ConstantWords
+pub mod PlainWords
 pub mod RowsRight
 pub mod HeldWords
 pub mod LowWords

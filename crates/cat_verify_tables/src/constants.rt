@@ -8,10 +8,11 @@ ghost use Rattle.cat_verify_tables.specs.inside.ConstantWords.{AreHeightsOf, IsC
 use crate::TableRefusal;
 use crate::lines::needed;
 use crate::numbers::behind;
+use crate::plain_values::value_of;
 use crate::types::TypeNames;
 use cat_code::{Constant, Constants};
 use cat_image::ImageConstant;
-use cat_json::{InputRefusal, read_value};
+use cat_json::InputRefusal;
 use cat_value::{Decls, HIGHEST, TypeHeights};
 use std::alloc::Global;
 
@@ -40,7 +41,7 @@ impl<'a> Typing<'a> {
             .heights
             .height(&decls.structures, &decls.enumerations, &ty);
         needed(height <= HIGHEST, number)?;
-        match read_value(alloc, line.value.as_str().as_bytes(), &ty, decls) {
+        match value_of(alloc, line.value.as_str(), &ty, decls) {
             Ok(value) => Ok(Constant { ty, value }),
             Err(InputRefusal::Memory) => Err(TableRefusal::Memory),
             Err(_) => Err(TableRefusal::BadTable(number)),

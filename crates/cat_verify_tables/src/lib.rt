@@ -13,6 +13,7 @@ mod named;
 mod names;
 mod numbers;
 mod places;
+mod plain_values;
 mod refusal;
 mod scoping;
 mod tables;

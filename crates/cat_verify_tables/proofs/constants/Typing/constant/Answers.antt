@@ -31,11 +31,6 @@ returns c =
       told = tt;
       cause = (
         refl,
-        wrong.unread c.in_ok-ty.ty spells (λ value read. cc (
-          refused,
-          read,
-          c.as_bytes.ensures.value,
-          c.as_str-2.ensures,
-        )),
+        wrong.unread c.in_ok-ty.ty spells (λ value read. cc (refused, read, c.as_str-2.ensures)),
       );
     }
