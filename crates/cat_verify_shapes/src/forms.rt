@@ -1,5 +1,5 @@
 // The types that shapes speak of, as numbers: equal ones have one number.
-ghost use Rattle.std.specs.Prelude.{◌≡◌, Some, slice_get, IfOk};
+ghost use Rattle.std.specs.Prelude.{◌≡◌, true, Some, slice_get, IfOk};
 ghost use Rattle.cat_code.specs.Forms as code;
 ghost use Rattle.cat_code.specs.Places.{held_form};
 ghost use Rattle.cat_verify_shapes.specs.inside.Senses.{IsLow, Stands, StandsIn};
@@ -27,6 +27,19 @@ pub(crate) enum Form {
     More(u32, u32),
 }
 
+/// The number that a type without parts has, since these are added first.
+#[inline(always)]
+fn flat_number(form: Form) -> u32 {
+    match form {
+        Form::Truth => 0,
+        Form::Whole => 1,
+        Form::Fraction => 2,
+        Form::Amount => 3,
+        Form::Day => 4,
+        _ => 5,
+    }
+}
+
 /// The table of types, with those of structures, by number, and those of the outputs of scopes.
 #[derive(Drop)]
 pub(crate) struct Forms {
@@ -47,10 +60,25 @@ impl Forms {
         }
     }
 
-    /// The number of a type, which stands in the table.
+    #[inline(always)]
+    fn stands_at(&self, number: u32, form: Form) -> bool
+        ensures { result ≡ true → slice_get self.now.kinds.keys number ≡ Some form }
+    {
+        match self.kinds.get_index(number as usize) {
+            Some(found) => *found == form,
+            None => false,
+        }
+    }
+
+    /// The number of a type, which stands in the table. One without parts is looked for first where it was added.
+    #[inline(always)]
     pub fn find(&self, form: Form) -> Result<u32, AllocError>
         ensures { IfOk result (λ number. slice_get self.now.kinds.keys number ≡ Some form) }
     {
+        let flat = flat_number(form);
+        if self.stands_at(flat, form) {
+            return Ok(flat);
+        }
         let Some(index) = self.kinds.get_index_of(&form) else {
             return Err(AllocError);
         };

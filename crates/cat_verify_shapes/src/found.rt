@@ -22,6 +22,7 @@ pub(crate) enum Spot {
 }
 
 /// A shape that leads to a place: what is known there from now on.
+#[inline(always)]
 fn met(alloc: Global, spot: Spot, shape: Shape) -> Result<Spot, Stuck>
     ensures { Meeting spot shape result }
 {
@@ -48,6 +49,7 @@ fn met(alloc: Global, spot: Spot, shape: Shape) -> Result<Spot, Stuck>
 }
 
 /// A shape leads to a place.
+#[inline(always)]
 pub(crate) fn arrive(
     alloc: Global,
     found: &mut Vec<Spot>,
@@ -65,6 +67,7 @@ pub(crate) fn arrive(
 }
 
 /// An instruction leads to places.
+#[inline(always)]
 pub(crate) fn arrive_all(alloc: Global, found: &mut Vec<Spot>, leads: Leads) -> Result<(), Stuck>
     ensures { ArrivingAll found.old.items found.new.items leads result }
 {
@@ -79,6 +82,7 @@ pub(crate) fn arrive_all(alloc: Global, found: &mut Vec<Spot>, leads: Leads) -> 
 }
 
 /// The shape of a place that wasn't looked at. That of a `next` stays, since its turns come back to it.
+#[inline(always)]
 pub(crate) fn open(
     alloc: Global,
     found: &mut Vec<Spot>,

@@ -32,6 +32,7 @@ pub(crate) enum Leads {
 }
 
 /// To the next instruction, with a type on top.
+#[inline(always)]
 pub(crate) fn push(place: usize, mut shape: Shape, form: u32) -> Result<Leads, AllocError>
     requires { place + 1 < 2 ^ 64 }
     ensures { IfOk result (λ leads. leads ≡ One (place + 1) (record shape { operands = form ∷ shape.operands })) }
@@ -41,6 +42,7 @@ pub(crate) fn push(place: usize, mut shape: Shape, form: u32) -> Result<Leads, A
 }
 
 /// To the next instruction, with a type on top, where there is one.
+#[inline(always)]
 pub(crate) fn give(place: usize, shape: Shape, form: Option<u32>) -> Result<Leads, Stuck>
     requires { place + 1 < 2 ^ 64 }
     ensures { GivesOne place shape form result }
@@ -52,6 +54,7 @@ pub(crate) fn give(place: usize, shape: Shape, form: Option<u32>) -> Result<Lead
 }
 
 /// To the next instruction and to another place, with the same shape.
+#[inline(always)]
 pub(crate) fn both(
     alloc: Global,
     place: usize,
@@ -66,6 +69,7 @@ pub(crate) fn both(
 }
 
 /// Pops an operand of a type, where it is on top.
+#[inline(always)]
 pub(crate) fn pop_as(shape: &mut Shape, form: u32) -> bool
     ensures { Takes shape.old shape.new form result }
 {

@@ -18,6 +18,7 @@ use std::alloc::AllocError;
 const ROUNDINGS: u32 = 3;
 
 /// Pops an operand of a type, where it is on top.
+#[inline(always)]
 fn take(forms: &Forms, shape: &mut Shape, form: Form) -> Result<bool, AllocError>
     ensures { IfOk result (TakesForm forms.now shape.old shape.new form) }
 {
@@ -26,6 +27,7 @@ fn take(forms: &Forms, shape: &mut Shape, form: Form) -> Result<bool, AllocError
 }
 
 /// Pops two operands of types, the right one on top.
+#[inline(always)]
 fn take_both(forms: &Forms, shape: &mut Shape, left: Form, right: Form) -> Result<bool, AllocError>
     ensures { IfOk result (TakesBoth forms.now shape.old shape.new left right) }
 {
@@ -47,6 +49,7 @@ fn is_compared(form: Form, ordered: bool) -> bool
 }
 
 /// Pops two operands of one type that is compared.
+#[inline(always)]
 fn take_alike(forms: &Forms, shape: &mut Shape, ordered: bool) -> Result<bool, AllocError>
     ensures { IfOk result (Compares forms.now shape.old shape.new ordered) }
 {
@@ -63,6 +66,7 @@ fn take_alike(forms: &Forms, shape: &mut Shape, ordered: bool) -> Result<bool, A
 }
 
 /// To the next instruction with a type on top.
+#[inline(always)]
 fn gives(forms: &Forms, place: usize, shape: Shape, form: Form) -> Result<Leads, AllocError>
     requires { place + 1 < 2 ^ 64 }
     ensures { IfOk result (GivesForm forms.now place shape form) }
@@ -71,6 +75,7 @@ fn gives(forms: &Forms, place: usize, shape: Shape, form: Form) -> Result<Leads,
     push(place, shape, form)
 }
 
+#[inline(always)]
 fn before(
     tables: &Tables,
     forms: &Forms,
@@ -88,6 +93,7 @@ fn before(
     Ok(gives(forms, place, shape, given)?)
 }
 
+#[inline(always)]
 fn between(
     tables: &Tables,
     forms: &Forms,
@@ -106,6 +112,7 @@ fn between(
     Ok(gives(forms, place, shape, given)?)
 }
 
+#[inline(always)]
 fn compared(
     tables: &Tables,
     forms: &Forms,
@@ -123,6 +130,7 @@ fn compared(
 }
 
 /// Where an operator leads.
+#[inline(always)]
 fn operated(
     tables: &Tables,
     forms: &Forms,
@@ -142,6 +150,7 @@ fn operated(
     }
 }
 
+#[inline(always)]
 pub(crate) fn operate(
     tables: &Tables,
     forms: &Forms,

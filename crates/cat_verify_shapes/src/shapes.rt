@@ -74,6 +74,7 @@ fn enter_scopes(
 }
 
 /// Follows the instruction at a place, where a shape leads to it.
+#[inline(always)]
 fn look_at(
     tables: &Tables,
     functions: &[FunctionPlace],

@@ -12,6 +12,7 @@ use crate::lookups::{constant_form, slot_form};
 use crate::shape::{Shape, first_locals, is_so, mark};
 use cat_code::Tables;
 
+#[inline(always)]
 pub(crate) fn constant(
     tables: &Tables,
     forms: &Forms,
@@ -27,6 +28,7 @@ pub(crate) fn constant(
     give(place, shape, form)
 }
 
+#[inline(always)]
 pub(crate) fn slot(
     tables: &Tables,
     forms: &Forms,
@@ -58,6 +60,7 @@ pub(crate) fn local(
     give(place, shape, form)
 }
 
+#[inline(always)]
 pub(crate) fn store(
     tables: &Tables,
     forms: &Forms,
@@ -133,6 +136,7 @@ pub(crate) fn given(
     Ok(Leads::Two(place + 1, shape, other as usize, filled))
 }
 
+#[inline(always)]
 pub(crate) fn jump_false(
     tables: &Tables,
     forms: &Forms,
