@@ -18,3 +18,4 @@ pub mod StepLemmas
 pub mod RoundLemmas
 pub mod PreparedLemmas
 pub mod VerifyLemmas
+pub mod UncalledLemmas

@@ -12,7 +12,7 @@ use crate::jumps::refuse_back;
 use crate::numbers::refuse_numbers;
 use crate::owners::owners_in_order;
 use crate::{Verified, VerifyRefusal};
-use cat_code::{Code, Instr, Instrs, Tables};
+use cat_code::{Code, Instr, Tables};
 use cat_image::{Image, an_image_has_few_rows};
 use cat_verify_shapes::refuse_shapes;
 use cat_verify_tables::{FunctionPlace, Told, tell};
@@ -86,12 +86,12 @@ pub fn verify(alloc: Global, image: Image) -> Result<Verified, VerifyRefusal>
     let code = image.instructions();
     let functions = told.functions.as_slice();
     refuse_code(alloc, &told.tables, code, functions, told.order.as_slice())?;
-    let instructions = Instrs::from_slice(alloc, code)?;
     let Told {
         tables,
         files,
         functions: _,
         order: _,
     } = told;
-    Ok(Verified::new(Code::from_parts(tables, instructions), files))
+    let code = Code::from_parts(tables, image.instructions);
+    Ok(Verified::new(code, files))
 }

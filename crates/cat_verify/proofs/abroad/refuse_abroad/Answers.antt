@@ -1,4 +1,4 @@
-use Rattle.std.proofs.Common.{◌∙◌}
+use Rattle.std.proofs.Common.{◌∙◌, sym}
 use Rattle.cat_verify.specs.inside.Abroad.{NoneAbroad, OneAbroad}
 use Rattle.cat_verify.specs.inside.Stamped.{AreStamps}
 use Rattle.cat_verify.specs.inside.Starts.{scope_starts, scope_arrivals}
@@ -6,7 +6,13 @@ use Rattle.cat_verify.specs.inside.Orderly.{AreCallsHome, AbroadCause}
 use Rattle.cat_verify.proofs.NumberLemmas.{if_err}
 use Rattle.cat_verify.proofs.WalkLemmas.{if_ok}
 use Rattle.cat_verify.proofs.AbroadLemmas.{stamps_as, calls_home, abroad_cause}
+use Rattle.cat_verify.proofs.UncalledLemmas.{none_called}
 use Rattle.cat_verify.proofs.abroad.refuse_abroad.Goals as goal
+
+pub returns-then-len-eq0-clause-home : goal.returns-then-len-eq0-clause-home
+returns-then-len-eq0-clause-home c =
+    none_called c.args.tables.now c.args.code.now c.args.functions.now c.requires
+    (sym c.len.ensures ∙ c.if-len-eq0.true)
 
 pub returns-clause-home : goal.returns-clause-home
 returns-clause-home c =

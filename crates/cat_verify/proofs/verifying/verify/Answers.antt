@@ -24,16 +24,16 @@ returns-in_err-refuse_code-clause-cause c =
     rw (p.1, p.2) (code_cause c.args.image c.in_ok-told.told c.in_ok-told.ensures.told c.instructions-code.result.now
     c.instructions-code.ensures c.in_err-refuse_code.field-0.0 c.in_err-refuse_code.ensures.cause)
 
-pub from_parts-requires : goal.from_parts-requires
-from_parts-requires c =
-    (∣ subst (IsValid c.in_ok-told.told.tables) (sym c.in_ok-instructions.ensures)
+pub from_parts-code-requires : goal.from_parts-code-requires
+from_parts-code-requires c =
+    (∣ subst (IsValid c.in_ok-told.told.tables) c.instructions-code.ensures
     c.in_ok-refuse_code.ensures.good.valid ∣₁)
 
 pub returns-clause-verified : goal.returns-clause-verified
 returns-clause-verified c =
     verified c.args.image c.in_ok-told.told c.in_ok-told.ensures.told c.instructions-code.result.now
     c.instructions-code.ensures c.new.result.code c.new.result.files c.in_ok-refuse_code.ensures.good
-    (ap (λ (made : Code). made.tables) c.new.ensures.code ∙ c.from_parts.ensures.tables)
-    (ap (λ (made : Code). made.instructions) c.new.ensures.code ∙ c.from_parts.ensures.instructions
-    ∙ c.in_ok-instructions.ensures)
+    (ap (λ (made : Code). made.tables) c.new.ensures.code ∙ c.from_parts-code.ensures.tables)
+    (ap (λ (made : Code). made.instructions) c.new.ensures.code ∙ c.from_parts-code.ensures.instructions
+    ∙ sym c.instructions-code.ensures)
     c.new.ensures.files
