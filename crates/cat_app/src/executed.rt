@@ -38,7 +38,11 @@ pub fn listing_reply<S: Shelf>(
         Err(fault) => return refuse_file(alloc, asked.file, fault),
     };
     match read_listing(alloc, &bytes) {
-        Ok(image) => image_reply(alloc, asked, image, shelf),
+        Ok(image) => {
+            // so that what is made of the image may take their room
+            drop(bytes);
+            image_reply(alloc, asked, image, shelf)
+        }
         Err(refusal) => refuse_image(alloc, refusal),
     }
 }

@@ -24,8 +24,8 @@ image_reply-requires g c =
           c.in-Ok-read_listing.image.instructions) bytes c.in-Ok-read_listing.ensures.read;
     }
 
-pub returns-clause-may : goal.returns-clause-may
-returns-clause-may g c =
+pub returns-in-Err-read_listing-clause-may : goal.returns-in-Err-read_listing-clause-may
+returns-in-Err-read_listing-clause-may g c =
     let bytes : c.deref.result.now ≡ c.in-Ok.bytes.items = cc (c.deref.ensures.value) in
     if_ok c.refuse_image.result c.refuse_image.ensures (λ reply says.
     no_image (listing_asked c.args.asked) _ _ reply c.in-Ok.bytes.items c.in-Err-read_listing.refusal c.in-Ok.ensures.1
