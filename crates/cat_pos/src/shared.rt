@@ -5,7 +5,7 @@ use std::alloc::{AllocError, Global};
 use std::marker::Model;
 use std::rc::Rc;
 
-/// An `Rc` that contracts see as the value in it. Copies share the value.
+/// An `Rc` that contracts see as the value in it, so that a tree of them is plain data. Copies share the value.
 #[derive(Debug, Drop)]
 pub struct Shared<T> {
     inner: Rc<T>,
