@@ -1,30 +1,27 @@
 // Blocks and declarations of scopes, line by line.
-ghost use Rattle.std.specs.Prelude.{◌≡◌, Ok, IfOk};
+ghost use Rattle.std.specs.Prelude.{◌≡◌, [], Ok, IfOk};
 ghost use Rattle.cat_names.specs.Found.{Tells};
 ghost use Rattle.cat_names.specs.Lines as words;
 ghost use Rattle.cat_check_forms.specs.Tabled.{IsTabled, names_at};
 ghost use Rattle.cat_check_exprs.specs.Saying.{added, behind};
-ghost use Rattle.cat_check_exprs.specs.Sharing.{bare_condition};
-ghost use Rattle.cat_check_exprs.specs.inside.Conditions.{condition_found};
+ghost use Rattle.cat_check_exprs.specs.Sharing.{block_found};
+ghost use Rattle.cat_check_exprs.specs.inside.Conditions.{block_line, condition_found};
 
-use crate::conditions::shared_condition;
-use crate::{Said, assertion, condition, definition, rule};
+use crate::{BlockCondition, Said, assertion, block_condition, definition, rule};
 use cat_check_forms::Here;
 use cat_names::Refusal;
-use cat_pos::{List, Shared};
-use cat_scope::Expr;
 use cat_tree::{Block, Item, Node, Use};
 
-/// Adds what a line says, in a block with a condition or none, which its bare definitions share.
+/// Adds what a line says, in a block with a condition or none, which is shared.
 fn add_use(
     here: &Here,
     block: &Option<Node>,
-    shared: &Option<Shared<Expr>>,
+    shared: &Option<BlockCondition>,
     line: &Use,
     said: &mut Said,
 ) -> Result<(), Refusal>
     requires tabled { IsTabled here.now }
-    requires shared { bare_condition (names_at here.now) block.now ≡ Ok shared.now }
+    requires shared { block_found (names_at here.now) block.now [] ≡ Ok shared.now }
     ensures { Tells (added result said.new) (behind said.old
         (words.use_lines (names_at here.now) here.now.scope block.now line.now)) }
 {
@@ -53,12 +50,12 @@ fn add_use(
 fn add_uses(
     here: &Here,
     block: &Option<Node>,
-    shared: &Option<Shared<Expr>>,
+    shared: &Option<BlockCondition>,
     lines: &[Use],
     said: &mut Said,
 ) -> Result<(), Refusal>
     requires tabled { IsTabled here.now }
-    requires shared { bare_condition (names_at here.now) block.now ≡ Ok shared.now }
+    requires shared { block_found (names_at here.now) block.now [] ≡ Ok shared.now }
     ensures { Tells (added result said.new) (behind said.old
         (words.all_lines (words.use_lines (names_at here.now) here.now.scope block.now) lines.now)) }
 {
@@ -68,35 +65,33 @@ fn add_uses(
     Ok(())
 }
 
-/// Adds the condition of a block, where it has one. It knows no parameters.
-fn add_condition(here: &Here, block: &Option<Node>, said: &mut Said) -> Result<(), Refusal>
-    requires { IsTabled here.now }
-    ensures { Tells (added result said.new) (behind said.old
-        (condition_found (names_at here.now) block.now)) }
+/// Adds the line that the condition of a block is, where it has one.
+fn add_condition(condition: &Option<BlockCondition>, said: &mut Said) -> Result<(), Refusal>
+    ensures { Tells (added result said.new) (behind said.old (Ok (block_line condition.now))) }
 {
-    let mut none = List::new(here.alloc);
-    match condition(here, block, &mut none)? {
+    match condition {
         None => Ok(()),
         Some(condition) => {
-            said.condition(condition.into_expr().into_inner())?;
+            let shared = condition.expr.copy()?;
+            said.condition(shared)?;
             Ok(())
         }
     }
 }
 
-/// Adds the condition of a block, where it has one, and gives it for the bare definitions of the block to share.
+/// Adds the condition of a block, where it has one, and gives it to be shared. It knows no parameters.
 fn add_shared(
     here: &Here,
     block: &Option<Node>,
     said: &mut Said,
-) -> Result<Option<Shared<Expr>>, Refusal>
+) -> Result<Option<BlockCondition>, Refusal>
     requires { IsTabled here.now }
     ensures added { Tells (added result said.new) (behind said.old
         (condition_found (names_at here.now) block.now)) }
-    ensures shared { IfOk result (λ shared. bare_condition (names_at here.now) block.now ≡ Ok shared) }
+    ensures shared { IfOk result (λ shared. block_found (names_at here.now) block.now [] ≡ Ok shared) }
 {
-    add_condition(here, block, said)?;
-    let shared = shared_condition(here, block)?;
+    let shared = block_condition(here, block, &[])?;
+    add_condition(&shared, said)?;
     Ok(shared)
 }
 

@@ -1,17 +1,17 @@
 // Conditions, of blocks and of definitions.
-ghost use Rattle.std.specs.Prelude.{◌≡◌, None, Ok, IfOk, OnOk};
+ghost use Rattle.std.specs.Prelude.{◌≡◌, [], None, Some, Ok, IfOk, OnOk};
 ghost use Rattle.std.specs.Option.{option_copied};
 ghost use Rattle.cat_names.specs.Definitions as words;
 ghost use Rattle.cat_names.specs.Found.{Tells};
 ghost use Rattle.cat_names.specs.Meaning.{meant};
 ghost use Rattle.cat_check_forms.specs.Tabled.{IsTabled, names_at};
-ghost use Rattle.cat_check_exprs.specs.Sharing.{bare_condition, is_bare};
+ghost use Rattle.cat_check_exprs.specs.Sharing.{block_part, block_found, joined, own_found};
 
 use crate::inferred;
 use cat_check_forms::Here;
 use cat_check_operators::{Resolved, as_expected};
 use cat_names::{Local, Locals, Refusal, Typed};
-use cat_pos::{List, Shared, Text};
+use cat_pos::{List, Pos, Shared, Text};
 use cat_scope::Expr;
 use cat_tree::{Name, Node};
 use cat_value::{Ty, copy_ty};
@@ -66,34 +66,67 @@ pub fn condition(
     }
 }
 
+/// A block's condition, which the block and its definitions share.
+#[derive(Drop)]
+pub struct BlockCondition {
+    /// The position of its first token.
+    pub first: Pos,
+    pub expr: Shared<Expr>,
+}
+
+/// What was resolved of a block's condition, to be shared.
+fn block_part(alloc: Global, found: Option<Resolved>) -> Result<Option<BlockCondition>, AllocError>
+    ensures { IfOk result (λ made. made ≡ block_part found) }
+{
+    match found {
+        None => Ok(None),
+        Some(found) => {
+            let first = found.first();
+            let expr = Shared::new(alloc, found.into_expr().into_inner())?;
+            Ok(Some(BlockCondition { first, expr }))
+        }
+    }
+}
+
+/// A definition's own condition, in a block without one.
+fn alone(alloc: Global, own: Option<Resolved>) -> Result<Option<Shared<Expr>>, AllocError>
+    ensures { IfOk result (λ made. made ≡ joined None own) }
+{
+    match own {
+        None => Ok(None),
+        Some(own) => Ok(Some(Shared::new(alloc, own.into_expr().into_inner())?)),
+    }
+}
+
+/// The condition of a block, and behind it that of a definition in it, where it has one.
+fn behind_block(
+    alloc: Global,
+    block: &BlockCondition,
+    own: Option<Resolved>,
+) -> Result<Option<Shared<Expr>>, AllocError>
+    ensures { IfOk result (λ made. made ≡ joined (Some block.now) own) }
+{
+    let shared = block.expr.copy()?;
+    match own {
+        None => Ok(Some(shared)),
+        Some(own) => {
+            let both = Expr::And(block.first, shared, own.into_expr());
+            Ok(Some(Shared::new(alloc, both)?))
+        }
+    }
+}
+
 /// The condition of a block and that of a definition in it, where both hold.
-fn conjunction(block: Option<Resolved>, own: Option<Resolved>) -> Option<Expr>
-    ensures { result ≡ words.conjunction block own }
+fn joined(
+    alloc: Global,
+    block: &Option<BlockCondition>,
+    own: Option<Resolved>,
+) -> Result<Option<Shared<Expr>>, AllocError>
+    ensures { IfOk result (λ made. made ≡ joined block.now own) }
 {
     match block {
-        None => own_alone(own),
-        Some(block) => behind_block(block, own),
-    }
-}
-
-fn own_alone(own: Option<Resolved>) -> Option<Expr>
-    ensures { result ≡ words.conjunction None own }
-{
-    match own {
-        None => None,
-        Some(own) => Some(own.into_expr().into_inner()),
-    }
-}
-
-fn behind_block(block: Resolved, own: Option<Resolved>) -> Option<Expr>
-    ensures { result ≡ words.conjunction (Some block) own }
-{
-    match own {
-        None => Some(block.into_expr().into_inner()),
-        Some(own) => {
-            let first = block.first();
-            Some(Expr::And(first, block.into_expr(), own.into_expr()))
-        }
+        None => alone(alloc, own),
+        Some(block) => behind_block(alloc, block, own),
     }
 }
 
@@ -129,83 +162,54 @@ fn nameless_params(alloc: Global, types: &[Ty]) -> Result<Locals, AllocError>
     Ok(locals)
 }
 
-/// The condition of a definition with these parameters, in a block with a condition of its own or none.
-pub fn whole_condition(
+/// The condition of a block, where it has one, as a definition with parameters of these types has it.
+pub fn block_condition(
     here: &Here,
     block: &Option<Node>,
+    types: &[Ty],
+) -> Result<Option<BlockCondition>, Refusal>
+    requires { IsTabled here.now }
+    ensures { Tells result (block_found (names_at here.now) block.now types.now) }
+{
+    let mut nameless = nameless_params(here.alloc, types)?;
+    let found = condition(here, block, &mut nameless)?;
+    Ok(block_part(here.alloc, found)?)
+}
+
+/// The condition of a definition with these parameters, behind that of its block.
+fn own_condition(
+    here: &Here,
+    block: &Option<BlockCondition>,
     own: &Option<Node>,
     params: &[Name],
     types: &[Ty],
-) -> Result<Option<Expr>, Refusal>
+) -> Result<Option<Shared<Expr>>, Refusal>
     requires { IsTabled here.now }
-    ensures { Tells result
-        (words.whole_condition (names_at here.now) block.now own.now params.now types.now) }
+    ensures { Tells result (own_found (names_at here.now) block.now own.now params.now types.now) }
 {
-    let mut nameless = nameless_params(here.alloc, types)?;
-    let block = condition(here, block, &mut nameless)?;
     let mut named = named_params(here.alloc, params, types)?;
-    let own = condition(here, own, &mut named)?;
-    Ok(conjunction(block, own))
+    let found = condition(here, own, &mut named)?;
+    Ok(joined(here.alloc, block, found)?)
 }
 
-/// Whether a definition is bare: it has no condition of its own, and no parameters.
-fn is_bare(own: &Option<Node>, types: &[Ty]) -> bool
-    ensures { result ≡ is_bare own.now types.now }
-{
-    match own {
-        Some(_) => false,
-        None => types.is_empty(),
-    }
-}
-
-/// A condition that is shared, once more.
-fn lent(shared: &Option<Shared<Expr>>) -> Result<Option<Shared<Expr>>, AllocError>
-    ensures { IfOk result (λ condition. condition ≡ shared.now) }
-{
-    match shared {
-        None => Ok(None),
-        Some(condition) => Ok(Some(condition.copy()?)),
-    }
-}
-
-/// A condition that nothing else holds.
-fn held(alloc: Global, condition: Option<Expr>) -> Result<Option<Shared<Expr>>, AllocError>
-    ensures { IfOk result (λ held. held ≡ condition) }
-{
-    match condition {
-        None => Ok(None),
-        Some(condition) => Ok(Some(Shared::new(alloc, condition)?)),
-    }
-}
-
-/// The condition of the bare definitions of a block, which they share.
-pub fn shared_condition(here: &Here, block: &Option<Node>) -> Result<Option<Shared<Expr>>, Refusal>
-    requires { IsTabled here.now }
-    ensures { Tells result (bare_condition (names_at here.now) block.now) }
-{
-    let mut none = List::new(here.alloc);
-    let block = condition(here, block, &mut none)?;
-    Ok(held(here.alloc, conjunction(block, None))?)
-}
-
-/// The condition of a definition with these parameters, in a block whose bare definitions share one.
-#[tactic(auto, using(crate::proofs::Sharing::sharing))]
+/// The condition of a definition with these parameters, in a block whose condition is shared by definitions without
+/// parameters: names that are bound in it are counted behind the parameters.
 pub fn definition_condition(
     here: &Here,
     block: &Option<Node>,
-    shared: &Option<Shared<Expr>>,
+    shared: &Option<BlockCondition>,
     own: &Option<Node>,
     params: &[Name],
     types: &[Ty],
 ) -> Result<Option<Shared<Expr>>, Refusal>
     requires tabled { IsTabled here.now }
-    requires shared { bare_condition (names_at here.now) block.now ≡ Ok shared.now }
+    requires shared { block_found (names_at here.now) block.now [] ≡ Ok shared.now }
     ensures { Tells result
         (words.whole_condition (names_at here.now) block.now own.now params.now types.now) }
 {
-    if is_bare(own, types) {
-        return Ok(lent(shared)?);
+    if types.is_empty() {
+        return own_condition(here, shared, own, params, types);
     }
-    let condition = whole_condition(here, block, own, params, types)?;
-    Ok(held(here.alloc, condition)?)
+    let block = block_condition(here, block, types)?;
+    own_condition(here, &block, own, params, types)
 }

@@ -1,12 +1,12 @@
 // Definitions, rules and assertions.
-ghost use Rattle.std.specs.Prelude.{◌≡◌, Some, Ok};
+ghost use Rattle.std.specs.Prelude.{◌≡◌, [], Some, Ok};
 ghost use Rattle.cat_names.specs.Definitions as words;
 ghost use Rattle.cat_names.specs.Found.{Tells};
 ghost use Rattle.cat_names.specs.Meaning.{meant};
 ghost use Rattle.cat_check_forms.specs.Tabled.{IsTabled, names_at};
-ghost use Rattle.cat_check_exprs.specs.Sharing.{bare_condition};
+ghost use Rattle.cat_check_exprs.specs.Sharing.{block_found};
 
-use crate::conditions::{boolean, definition_condition, named_params, resolved};
+use crate::conditions::{BlockCondition, boolean, definition_condition, named_params, resolved};
 use crate::heads::Head;
 use crate::{Aim, aim_of};
 use cat_check_forms::Here;
@@ -26,11 +26,11 @@ fn consequence(here: &Here, value: &Node, params: &[Name], aim: &Aim) -> Result<
     resolved(here, value, &mut locals, Some(aim.ty))
 }
 
-/// A definition in a block whose bare definitions share a condition: the type of its target is expected of its value.
+/// A definition in a block whose condition is shared: the type of its target is expected of its value.
 pub fn definition(
     here: &Here,
     block: &Option<Node>,
-    shared: &Option<Shared<Expr>>,
+    shared: &Option<BlockCondition>,
     lead: &Lead,
     place: Pos,
     target: &TargetName,
@@ -38,7 +38,7 @@ pub fn definition(
     value: &Node,
 ) -> Result<Def, Refusal>
     requires tabled { IsTabled here.now }
-    requires shared { bare_condition (names_at here.now) block.now ≡ Ok shared.now }
+    requires shared { block_found (names_at here.now) block.now [] ≡ Ok shared.now }
     ensures told { Tells result (words.definition_meant (names_at here.now) here.now.scope block.now lead.now place
         target.now condition.now value.now) }
 {
@@ -50,11 +50,11 @@ pub fn definition(
     Ok(head.define(here.alloc, condition, value.into_expr().into_inner())?)
 }
 
-/// A rule in a block whose bare definitions share a condition: a definition of a condition variable as true or false.
+/// A rule in a block whose condition is shared: a definition of a condition variable as true or false.
 pub fn rule(
     here: &Here,
     block: &Option<Node>,
-    shared: &Option<Shared<Expr>>,
+    shared: &Option<BlockCondition>,
     lead: &Lead,
     place: Pos,
     target: &TargetName,
@@ -62,7 +62,7 @@ pub fn rule(
     fulfilled: Fulfilled,
 ) -> Result<Def, Refusal>
     requires tabled { IsTabled here.now }
-    requires shared { bare_condition (names_at here.now) block.now ≡ Ok shared.now }
+    requires shared { block_found (names_at here.now) block.now [] ≡ Ok shared.now }
     ensures told { Tells result (words.rule_meant (names_at here.now) here.now.scope block.now lead.now place target.now
         condition.now fulfilled) }
 {

@@ -18,7 +18,7 @@ mod walk;
 
 pub use aims::{Aim, aim_of};
 pub use blocks::{add_block, add_item};
-pub use conditions::{condition, definition_condition, shared_condition, whole_condition};
+pub use conditions::{BlockCondition, block_condition, condition, definition_condition};
 pub use definitions::{assertion, definition, rule};
 pub use infer::inferred;
 pub use said::Said;

@@ -3,7 +3,7 @@ ghost use Rattle.std.specs.Prelude.{◌≡◌, [], OnOk};
 ghost use Rattle.cat_names.specs.Lines.{Declaration, Condition, Definition, Assertion as Asserted, one};
 ghost use Rattle.cat_check_exprs.specs.Saying.{nothing_said, with_lines};
 
-use cat_pos::List;
+use cat_pos::{List, Shared};
 use cat_scope::{Assertion, Assertions, Def, Defs, Expr, SourcePart, SourceParts};
 use std::alloc::{AllocError, Global};
 
@@ -34,7 +34,7 @@ impl Said {
     }
 
     /// Adds the condition of a block.
-    pub fn condition(&mut self, condition: Expr) -> Result<(), AllocError>
+    pub fn condition(&mut self, condition: Shared<Expr>) -> Result<(), AllocError>
         ensures { OnOk result (self.new ≡ with_lines self.old (one (Condition condition))) }
     {
         self.source.push(SourcePart::Condition(condition))

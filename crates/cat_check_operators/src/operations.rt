@@ -16,7 +16,7 @@ use crate::Resolved;
 use crate::rows::{operator_for, prefix_for, sum_for};
 use crate::types::{element_of, flat_of, is_as_expected, is_boolean, is_list_of, whole};
 use cat_names::{Fault, Flat, Refusal};
-use cat_pos::Pos;
+use cat_pos::{Pos, Shared};
 use cat_scope::Expr;
 use cat_tree::{Operator, Prefix};
 use cat_value::Ty;
@@ -74,7 +74,8 @@ fn and(alloc: Global, place: Pos, left: Resolved, right: Resolved) -> Result<Res
         return Err(Refusal::Refused(Fault::TypeMismatch(place)));
     }
     let first = left.first();
-    let expr = Expr::And(first, left.into_expr(), right.into_expr());
+    let left = Shared::new(alloc, left.into_expr().into_inner())?;
+    let expr = Expr::And(first, left, right.into_expr());
     Resolved::new(alloc, first, place, expr, Ty::Boolean)
 }
 

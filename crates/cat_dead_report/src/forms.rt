@@ -116,9 +116,8 @@ pub(crate) fn safety_of(expr: &Expr) -> Safety
         Expr::Binary(_, op, _, one, other) => {
             of_binary(*op, safety_of(one.get()), safety_of(other.get()))
         }
-        Expr::And(_, one, other) | Expr::Or(_, one, other) => {
-            of_both(safety_of(one.get()), safety_of(other.get()))
-        }
+        Expr::And(_, one, other) => of_both(safety_of(one.get()), safety_of(other.get())),
+        Expr::Or(_, one, other) => of_both(safety_of(one.get()), safety_of(other.get())),
         Expr::IsCase(_, of, _, _) => of_part(safety_of(of.get())),
         Expr::Case(_, _, _, content) => of_content(content),
         Expr::Local(_, _)

@@ -61,13 +61,17 @@ pub fn add_named(numbers: &mut Numbers, wanted: Wanted, e: &Expr) -> Result<(), 
         | Expr::Length(_, part)
         | Expr::Sum(_, _, part) => add_named(numbers, wanted, part.get()),
         Expr::Binary(_, _, _, first, second)
-        | Expr::And(_, first, second)
         | Expr::Or(_, first, second)
         | Expr::ForAll(_, first, second)
         | Expr::Exists(_, first, second)
         | Expr::Map(_, first, second)
         | Expr::Filter(_, first, second)
         | Expr::Contains(_, _, first, second) => {
+            add_named(numbers, wanted, first.get())?;
+            add_named(numbers, wanted, second.get())?;
+            Ok(())
+        }
+        Expr::And(_, first, second) => {
             add_named(numbers, wanted, first.get())?;
             add_named(numbers, wanted, second.get())?;
             Ok(())

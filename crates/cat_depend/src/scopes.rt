@@ -66,7 +66,9 @@ fn all_calls(
     for part in source {
         match part {
             SourcePart::Declaration => add_called(&mut calls, items)?,
-            SourcePart::Condition(condition) => add_named(&mut calls, Wanted::Scopes, condition)?,
+            SourcePart::Condition(condition) => {
+                add_named(&mut calls, Wanted::Scopes, condition.get())?;
+            }
             SourcePart::Definition => {
                 let Some((def, rest)) = defs.split_first() else {
                     continue;

@@ -105,6 +105,7 @@ pub fn emit_part(
 }
 
 /// The same of an expression that is shared.
+#[cycle(emit)]
 pub fn emit_shared(
     here: &LoweringScene,
     growing: &mut Growing,
@@ -216,7 +217,7 @@ fn emit_and(
     here: &LoweringScene,
     growing: &mut Growing,
     locals: &mut Tys,
-    left: &Boxed<Expr>,
+    left: &Shared<Expr>,
     right: &Boxed<Expr>,
 ) -> Result<(), AllocError>
     ensures grown { OnOk result (Grown growing.old growing.new
@@ -225,7 +226,7 @@ fn emit_and(
         (truth false)))) }
     ensures kept { OnOk result (locals.new ≡ locals.old) }
 {
-    emit_part(here, growing, locals, left, None)?;
+    emit_shared(here, growing, locals, left, None)?;
     let test = put_open(growing, Instr::JumpFalse(0))?;
     emit_part(here, growing, locals, right, None)?;
     let first = put_open(growing, Instr::Jump(0))?;

@@ -3,7 +3,7 @@ ghost use Rattle.std.specs.Prelude.{◌≡◌, Some, IfOk};
 ghost use Rattle.cat_scope.specs.declared.expr.Expr.TheViews as expr;
 
 use crate::{Arm, Arms, BinaryOp, Expr, Exprs, FieldValue, FieldValues};
-use cat_pos::{Boxed, List, Pos};
+use cat_pos::{Boxed, List, Pos, Shared};
 use std::alloc::{AllocError, Global};
 
 /// The same expression.
@@ -105,12 +105,12 @@ fn copy_arms(alloc: Global, arms: &Arms) -> Result<Arms, AllocError>
 fn copy_and(
     alloc: Global,
     pos: Pos,
-    left: &Boxed<Expr>,
+    left: &Shared<Expr>,
     right: &Boxed<Expr>,
 ) -> Result<Expr, AllocError>
     ensures { IfOk result (λ copied. copied ≡ expr.And pos left.now right.now) }
 {
-    let left = copy_part(alloc, left)?;
+    let left = left.copy()?;
     let right = copy_part(alloc, right)?;
     Ok(Expr::And(pos, left, right))
 }

@@ -2,7 +2,7 @@
 use crate::{BinaryOp, SumKind, UnaryOp};
 use cat_date::{Day, Span};
 use cat_num::{DecimalLiteral, Money, Whole};
-use cat_pos::{Boxed, List, Pos};
+use cat_pos::{Boxed, List, Pos, Shared};
 
 #[derive(Clone, Copy, PartialEq, Eq, Debug)]
 pub enum Literal {
@@ -34,7 +34,8 @@ pub enum Expr {
     /// The operator is the first token.
     Unary(Pos, UnaryOp, Boxed<Expr>),
     Binary(Pos, BinaryOp, Pos, Boxed<Expr>, Boxed<Expr>),
-    And(Pos, Boxed<Expr>, Boxed<Expr>),
+    /// The condition of a block is shared by the definitions that join their own to it.
+    And(Pos, Shared<Expr>, Boxed<Expr>),
     Or(Pos, Boxed<Expr>, Boxed<Expr>),
     If(Pos, Boxed<Expr>, Boxed<Expr>, Boxed<Expr>),
     Match(Pos, Boxed<Expr>, Boxed<Arms>),

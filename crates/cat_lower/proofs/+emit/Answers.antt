@@ -160,10 +160,10 @@ expressions::emit_binary-returns-clause-grown t c =
 
 pub expressions::emit_and-returns-clause-grown : goal.expressions::emit_and-returns-clause-grown
 expressions::emit_and-returns-clause-grown t c =
-    then_ok _ _ _ _ _ _ c.in_ok-emit_part.ensures.grown
+    then_ok _ _ _ _ _ _ c.in_ok-emit_shared.ensures.grown
     (sides_ok _ _ _ _ _ _ _ _ _ _ _ c.close_sides.ensures c.in_ok-test.ensures.place c.in_ok-first.ensures.place
     c.in_ok-test.ensures.grown
-    (kept_code _ _ _ _ _ _ _ c.in_ok-emit_part.ensures.kept c.in_ok-emit_part-2.ensures.grown)
+    (kept_code _ _ _ _ _ _ _ c.in_ok-emit_shared.ensures.kept c.in_ok-emit_part.ensures.grown)
     c.in_ok-first.ensures.grown
     c.in_ok-put_truth.ensures)
 

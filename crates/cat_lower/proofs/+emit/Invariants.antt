@@ -22,6 +22,9 @@ decreases-expressions::emit l = 16 * size-Expr l.e.now
 abbrev pub decreases-expressions::emit_part : goal.decreases-expressions::emit_part
 decreases-expressions::emit_part l = 16 * size-Expr l.part.now + 1
 
+abbrev pub decreases-expressions::emit_shared : goal.decreases-expressions::emit_shared
+decreases-expressions::emit_shared l = 16 * size-Expr l.shared.now + 1
+
 abbrev pub decreases-expressions::emit_under : goal.decreases-expressions::emit_under
 decreases-expressions::emit_under l = 16 * size-Expr l.e.now + 1
 

@@ -1,7 +1,7 @@
 use Rattle.std.proofs.Common.{◌≡◌, ◌++◌, [], refl, ap, ◌∙◌, rules}
 use Rattle.std.proofs.Math.Logic.{⊎_elim}
 use Rattle.cat_depend.specs.inside.Wanted.{named, function_in, scope_in, in_each, in_fields, in_arms}
-use Rattle.cat_depend.proofs.Named.{names_Literal, names_Local, names_Binary, names_And, names_Or, names_ForAll}
+use Rattle.cat_depend.proofs.Named.{names_Literal, names_Local, names_Binary, names_Or, names_ForAll}
 use Rattle.cat_depend.proofs.Named.{names_Exists, names_Map, names_Filter, names_Contains, names_If, names_Combine}
 use Rattle.cat_depend.proofs.Named.{names, behind}
 use Rattle.cat_depend.proofs.naming.+named.Goals as goal
@@ -23,7 +23,7 @@ add_named-returns-in-Literal-2 t c =
 pub add_named-returns-in_ok-add_arms-in-Match : goal.add_named-returns-in_ok-add_arms-in-Match
 add_named-returns-in_ok-add_arms-in-Match t c =
     behind c.args.numbers.now (named c.args.wanted c.in-Match.matched) (in_arms c.args.wanted c.in-Match.arms)
-    c.add_named.new.numbers c.add_arms.new.numbers (named c.args.wanted c.args.e.now) (search rules) (search rules)
+    c.add_named-in-Match.new.numbers c.add_arms.new.numbers (named c.args.wanted c.args.e.now) (search rules) (search rules)
     (search (rules, names))
 
 pub add_named-returns-in_ok-add_each-in-Call : goal.add_named-returns-in_ok-add_each-in-Call
@@ -49,16 +49,21 @@ add_named-returns-in_ok-add_named-in-Binary-2 t c =
     let all : named c.args.wanted c.args.e.now ≡ named c.args.wanted c.in-Binary.first ++ named c.args.wanted
     c.in-Binary.second =
     ⊎_elim (λ h. ap (named w) h.3 ∙ names_Binary w h.0 h.1 h.2 a b)
-    (⊎_elim (λ h. ap (named w) h.1 ∙ names_And w h.0 a b)
     (⊎_elim (λ h. ap (named w) h.1 ∙ names_Or w h.0 a b)
     (⊎_elim (λ h. ap (named w) h.1 ∙ names_ForAll w h.0 a b)
     (⊎_elim (λ h. ap (named w) h.1 ∙ names_Exists w h.0 a b)
     (⊎_elim (λ h. ap (named w) h.1 ∙ names_Map w h.0 a b)
     (⊎_elim (λ h. ap (named w) h.1 ∙ names_Filter w h.0 a b)
-    (λ h. ap (named w) h.2 ∙ names_Contains w h.0 h.1 a b))))))) c.in-Binary.is in
+    (λ h. ap (named w) h.2 ∙ names_Contains w h.0 h.1 a b)))))) c.in-Binary.is in
     behind c.args.numbers.now (named c.args.wanted c.in-Binary.first) (named c.args.wanted c.in-Binary.second)
     c.add_named-in-Binary.new.numbers c.add_named-in-Binary-2.new.numbers (named c.args.wanted c.args.e.now)
     (search rules) (search rules) all
+
+pub add_named-returns-in_ok-add_named-in-And-2 : goal.add_named-returns-in_ok-add_named-in-And-2
+add_named-returns-in_ok-add_named-in-And-2 t c =
+    behind c.args.numbers.now (named c.args.wanted c.in-And.first) (named c.args.wanted c.in-And.second)
+    c.add_named.new.numbers c.add_named-in-And.new.numbers (named c.args.wanted c.args.e.now)
+    (search rules) (search rules) (search (rules, names))
 
 pub add_named-returns-in_ok-add_named-in-If-3 : goal.add_named-returns-in_ok-add_named-in-If-3
 add_named-returns-in_ok-add_named-in-If-3 t c =

@@ -30,7 +30,7 @@ abbrev pub decreases-copy_binary : goal.decreases-copy_binary
 decreases-copy_binary l = 3 * (max (size-Expr l.left.now) (size-Expr l.right.now)) + 2
 
 abbrev pub decreases-copy_and : goal.decreases-copy_and
-decreases-copy_and l = 3 * (max (size-Expr l.left.now) (size-Expr l.right.now)) + 2
+decreases-copy_and l = 3 * (size-Expr l.right.now) + 2
 
 abbrev pub decreases-copy_or : goal.decreases-copy_or
 decreases-copy_or l = 3 * (max (size-Expr l.left.now) (size-Expr l.right.now)) + 2
