@@ -1,8 +1,5 @@
 -- What the definitions of a block share.
-use Rattle.std.proofs.Common.{◌≡◌, ◌==◌, ◌∙◌, true, List, [], length, Option, None, Some, Result, Ok, Err, refl, ap}
-use Rattle.std.proofs.Common.{arith, sym, subst}
-use Rattle.std.proofs.lemmas.Bool.Decides.{nat_tests}
-use Rattle.std.proofs.lemmas.List.{nil_from_length}
+use Rattle.std.proofs.Common.{◌≡◌, ◌∙◌, List, [], Option, None, Some, Result, Ok, Err, refl, ap, sym, subst}
 use Rattle.cat_value.specs.declared.ty.Ty.{Ty}
 use Rattle.cat_tree.specs.declared.expression.Node.{Node}
 use Rattle.cat_tree.specs.declared.name.Name.{Name}
@@ -15,7 +12,7 @@ use Rattle.cat_names.specs.Definitions.{condition_meant, conjunction, named_para
 use Rattle.cat_names.specs.Found.{Found, Tells, and_then, both}
 use Rattle.cat_names.specs.Lines.{Line, condition_lines}
 use Rattle.cat_names.proofs.Exported.{left_tells}
-use Rattle.cat_check_exprs.specs.declared.conditions.BlockCondition.{BlockCondition}
+use Rattle.cat_check_exprs.specs.declared.known.BlockCondition.{BlockCondition}
 use Rattle.cat_check_exprs.specs.declared.said.Said.{Said}
 use Rattle.cat_check_exprs.specs.Saying.{behind, with_lines}
 use Rattle.cat_check_exprs.specs.Sharing.{block_part, block_found, joined, own_found}
@@ -47,17 +44,6 @@ pub whole_is : (ns : Names) (block own : Option Node) (params : List Name) (type
 whole_is ns block own params types shared r is told = subst (λ (found : Found (Option Expr)). Tells r found)
     (behind_found (condition_meant ns block (nameless_params types)) (condition_meant ns own (named_params params types))
     shared is) told
-
-no_length : (types : List Ty) → (length types == 0) ≡ true → length types ≡ 0
-no_length types none = grind (arith, nat_tests)
-
--- the same of a definition without parameters
-pub bare_is : (ns : Names) (block own : Option Node) (params : List Name) (types : List Ty)
-    (shared : Option BlockCondition) (r : Result (Option Expr) Refusal) → (length types == 0) ≡ true
-    → block_found ns block [] ≡ Ok shared → Tells r (own_found ns shared own params types)
-    → Tells r (whole_condition ns block own params types)
-bare_is ns block own params types shared r none is told = whole_is ns block own params types shared r
-    (ap (block_found ns block) (nil_from_length types (no_length types none)) ∙ is) told
 
 -- ---- what stands in a block's condition
 

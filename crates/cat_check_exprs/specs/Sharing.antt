@@ -1,15 +1,16 @@
 -- The condition of a block, which its definitions share, and those that join their own to it.
-use Rattle.std.specs.Prelude.{List, Option, None, Some, Ok}
+use Rattle.std.specs.Prelude.{◌≡◌, List, Option, None, Some, Ok}
 use Rattle.cat_value.specs.declared.ty.Ty.{Ty}
 use Rattle.cat_tree.specs.declared.name.Name.{Name}
 use Rattle.cat_tree.specs.declared.expression.Node.{Node}
 use Rattle.cat_scope.specs.declared.expr.Expr.{Expr}
 use Rattle.cat_scope.specs.declared.expr.Expr.TheViews as expr
-use Rattle.cat_scope.specs.Names.{Names}
+use Rattle.cat_scope.specs.Names.{AllHave, Names}
 use Rattle.cat_names.specs.declared.typed.Typed.{Typed}
 use Rattle.cat_names.specs.Definitions.{condition_meant, named_params, nameless_params}
 use Rattle.cat_names.specs.Found.{Found, and_then}
-use Rattle.cat_check_exprs.specs.declared.conditions.BlockCondition.{BlockCondition}
+use Rattle.cat_check_exprs.specs.declared.known.BlockCondition.{BlockCondition}
+use Rattle.cat_check_exprs.specs.declared.known.KnownCondition.{KnownCondition}
 
 -- what a block's condition has to be known by, where there is one
 abbrev pub block_part : Option Typed → Option BlockCondition
@@ -19,6 +20,10 @@ block_part (Some b) = Some (record { first = b.first; expr = b.expr })
 -- the condition of a block, as definitions with parameters of these types have it
 abbrev pub block_found : Names → Option Node → List Ty → Found (Option BlockCondition)
 block_found ns block types = and_then (condition_meant ns block (nameless_params types)) (λ b. Ok (block_part b))
+
+-- each is the condition of a block as definitions with parameters of its types have it
+abbrev pub AreKnown : Names → Option Node → List KnownCondition → Type 0
+AreKnown ns block known = AllHave (λ c. block_found ns block c.types ≡ Ok c.condition) known
 
 -- the condition of a block and that of a definition, joined by `and`, the block's on the left
 abbrev pub joined : Option BlockCondition → Option Typed → Option Expr

@@ -1,39 +1,41 @@
 // Blocks and declarations of scopes, line by line.
-ghost use Rattle.std.specs.Prelude.{◌≡◌, [], Ok, IfOk};
+ghost use Rattle.std.specs.Prelude.{Ok, OnOk};
 ghost use Rattle.cat_names.specs.Found.{Tells};
 ghost use Rattle.cat_names.specs.Lines as words;
 ghost use Rattle.cat_check_forms.specs.Tabled.{IsTabled, names_at};
 ghost use Rattle.cat_check_exprs.specs.Saying.{added, behind};
-ghost use Rattle.cat_check_exprs.specs.Sharing.{block_found};
+ghost use Rattle.cat_check_exprs.specs.Sharing.{AreKnown};
 ghost use Rattle.cat_check_exprs.specs.inside.Conditions.{block_line, condition_found};
 
-use crate::{BlockCondition, Said, assertion, block_condition, definition, rule};
+use crate::{BlockCondition, KnownConditions, Said, assertion, condition_for, definition, rule};
 use cat_check_forms::Here;
 use cat_names::Refusal;
+use cat_pos::List;
 use cat_tree::{Block, Item, Node, Use};
 
-/// Adds what a line says, in a block with a condition or none, which is shared.
+/// Adds what a line says, in a block with a condition or none.
 fn add_use(
     here: &Here,
     block: &Option<Node>,
-    shared: &Option<BlockCondition>,
+    known: &mut KnownConditions,
     line: &Use,
     said: &mut Said,
 ) -> Result<(), Refusal>
     requires tabled { IsTabled here.now }
-    requires shared { block_found (names_at here.now) block.now [] ≡ Ok shared.now }
-    ensures { Tells (added result said.new) (behind said.old
+    requires known { AreKnown (names_at here.now) block.now known.old }
+    ensures told { Tells (added result said.new) (behind said.old
         (words.use_lines (names_at here.now) here.now.scope block.now line.now)) }
+    ensures kept { OnOk result (AreKnown (names_at here.now) block.now known.new) }
 {
     match line {
         Use::Definition(lead, place, target, condition, value) => {
-            let def = definition(here, block, shared, lead, *place, target, condition, value)?;
+            let def = definition(here, block, known, lead, *place, target, condition, value)?;
             said.define(def)?;
             Ok(())
         }
         Use::Rule(lead, place, target, condition, fulfilled) => {
             let def = rule(
-                here, block, shared, lead, *place, target, condition, *fulfilled,
+                here, block, known, lead, *place, target, condition, *fulfilled,
             )?;
             said.define(def)?;
             Ok(())
@@ -50,17 +52,18 @@ fn add_use(
 fn add_uses(
     here: &Here,
     block: &Option<Node>,
-    shared: &Option<BlockCondition>,
+    known: &mut KnownConditions,
     lines: &[Use],
     said: &mut Said,
 ) -> Result<(), Refusal>
     requires tabled { IsTabled here.now }
-    requires shared { block_found (names_at here.now) block.now [] ≡ Ok shared.now }
-    ensures { Tells (added result said.new) (behind said.old
+    requires known { AreKnown (names_at here.now) block.now known.old }
+    ensures told { Tells (added result said.new) (behind said.old
         (words.all_lines (words.use_lines (names_at here.now) here.now.scope block.now) lines.now)) }
+    ensures kept { OnOk result (AreKnown (names_at here.now) block.now known.new) }
 {
     for line in lines {
-        add_use(here, block, shared, line, said)?;
+        add_use(here, block, known, line, said)?;
     }
     Ok(())
 }
@@ -79,30 +82,39 @@ fn add_condition(condition: &Option<BlockCondition>, said: &mut Said) -> Result<
     }
 }
 
-/// Adds the condition of a block, where it has one, and gives it to be shared. It knows no parameters.
+/// Adds the condition of a block, where it has one. It knows no parameters.
 fn add_shared(
     here: &Here,
     block: &Option<Node>,
+    known: &mut KnownConditions,
     said: &mut Said,
-) -> Result<Option<BlockCondition>, Refusal>
-    requires { IsTabled here.now }
+) -> Result<(), Refusal>
+    requires tabled { IsTabled here.now }
+    requires known { AreKnown (names_at here.now) block.now known.old }
     ensures added { Tells (added result said.new) (behind said.old
         (condition_found (names_at here.now) block.now)) }
-    ensures shared { IfOk result (λ shared. block_found (names_at here.now) block.now [] ≡ Ok shared) }
+    ensures kept { OnOk result (AreKnown (names_at here.now) block.now known.new) }
 {
-    let shared = block_condition(here, block, &[])?;
-    add_condition(&shared, said)?;
-    Ok(shared)
+    let shared = condition_for(here, block, &[], known)?;
+    add_condition(&shared, said)
 }
 
-/// Adds what a block says of its scope.
+/// Adds what a block says of its scope. Its condition is resolved once for all definitions with parameters of the same
+/// types, and for all without.
 pub fn add_block(here: &Here, block: &Block, said: &mut Said) -> Result<(), Refusal>
     requires { IsTabled here.now }
     ensures told { Tells (added result said.new) (behind said.old
         (words.block_lines (names_at here.now) here.now.scope block.now)) }
 {
-    let shared = add_shared(here, &block.condition, said)?;
-    add_uses(here, &block.condition, &shared, block.uses.as_slice(), said)
+    let mut known = List::new(here.alloc);
+    add_shared(here, &block.condition, &mut known, said)?;
+    add_uses(
+        here,
+        &block.condition,
+        &mut known,
+        block.uses.as_slice(),
+        said,
+    )
 }
 
 /// Adds what a declaration or a block says of its scope.

@@ -1,17 +1,18 @@
 // Conditions, of blocks and of definitions.
-ghost use Rattle.std.specs.Prelude.{◌≡◌, [], None, Some, Ok, IfOk, OnOk};
+ghost use Rattle.std.specs.Prelude.{◌≡◌, None, Some, IfOk, OnOk};
 ghost use Rattle.std.specs.Option.{option_copied};
 ghost use Rattle.cat_names.specs.Definitions as words;
 ghost use Rattle.cat_names.specs.Found.{Tells};
 ghost use Rattle.cat_names.specs.Meaning.{meant};
 ghost use Rattle.cat_check_forms.specs.Tabled.{IsTabled, names_at};
-ghost use Rattle.cat_check_exprs.specs.Sharing.{block_part, block_found, joined, own_found};
+ghost use Rattle.cat_check_exprs.specs.Sharing.{AreKnown, joined, own_found};
 
 use crate::inferred;
+use crate::known::{BlockCondition, KnownConditions, condition_for};
 use cat_check_forms::Here;
 use cat_check_operators::{Resolved, as_expected};
 use cat_names::{Local, Locals, Refusal, Typed};
-use cat_pos::{List, Pos, Shared, Text};
+use cat_pos::{List, Shared, Text};
 use cat_scope::Expr;
 use cat_tree::{Name, Node};
 use cat_value::{Ty, copy_ty};
@@ -62,28 +63,6 @@ pub fn condition(
         Some(condition) => {
             let found = boolean(here, condition, locals)?;
             Ok(Some(found))
-        }
-    }
-}
-
-/// A block's condition, which the block and its definitions share.
-#[derive(Drop)]
-pub struct BlockCondition {
-    /// The position of its first token.
-    pub first: Pos,
-    pub expr: Shared<Expr>,
-}
-
-/// What was resolved of a block's condition, to be shared.
-fn block_part(alloc: Global, found: Option<Resolved>) -> Result<Option<BlockCondition>, AllocError>
-    ensures { IfOk result (λ made. made ≡ block_part found) }
-{
-    match found {
-        None => Ok(None),
-        Some(found) => {
-            let first = found.first();
-            let expr = Shared::new(alloc, found.into_expr().into_inner())?;
-            Ok(Some(BlockCondition { first, expr }))
         }
     }
 }
@@ -149,7 +128,7 @@ pub fn named_params(alloc: Global, names: &[Name], mut types: &[Ty]) -> Result<L
 }
 
 /// Parameters without names, as a block's condition has them.
-fn nameless_params(alloc: Global, types: &[Ty]) -> Result<Locals, AllocError>
+pub fn nameless_params(alloc: Global, types: &[Ty]) -> Result<Locals, AllocError>
     ensures { IfOk result (λ locals. locals ≡ words.nameless_params types.now) }
 {
     let mut locals = List::new(alloc);
@@ -160,20 +139,6 @@ fn nameless_params(alloc: Global, types: &[Ty]) -> Result<Locals, AllocError>
         })?;
     }
     Ok(locals)
-}
-
-/// The condition of a block, where it has one, as a definition with parameters of these types has it.
-pub fn block_condition(
-    here: &Here,
-    block: &Option<Node>,
-    types: &[Ty],
-) -> Result<Option<BlockCondition>, Refusal>
-    requires { IsTabled here.now }
-    ensures { Tells result (block_found (names_at here.now) block.now types.now) }
-{
-    let mut nameless = nameless_params(here.alloc, types)?;
-    let found = condition(here, block, &mut nameless)?;
-    Ok(block_part(here.alloc, found)?)
 }
 
 /// The condition of a definition with these parameters, behind that of its block.
@@ -192,24 +157,22 @@ fn own_condition(
     Ok(joined(here.alloc, block, found)?)
 }
 
-/// The condition of a definition with these parameters, in a block whose condition is shared by definitions without
-/// parameters: names that are bound in it are counted behind the parameters.
+/// The condition of a definition with these parameters, in a block whose condition is shared by definitions with
+/// parameters of the same types, behind which the names bound in it are counted.
 pub fn definition_condition(
     here: &Here,
     block: &Option<Node>,
-    shared: &Option<BlockCondition>,
+    known: &mut KnownConditions,
     own: &Option<Node>,
     params: &[Name],
     types: &[Ty],
 ) -> Result<Option<Shared<Expr>>, Refusal>
     requires tabled { IsTabled here.now }
-    requires shared { block_found (names_at here.now) block.now [] ≡ Ok shared.now }
-    ensures { Tells result
+    requires known { AreKnown (names_at here.now) block.now known.old }
+    ensures told { Tells result
         (words.whole_condition (names_at here.now) block.now own.now params.now types.now) }
+    ensures kept { OnOk result (AreKnown (names_at here.now) block.now known.new) }
 {
-    if types.is_empty() {
-        return own_condition(here, shared, own, params, types);
-    }
-    let block = block_condition(here, block, types)?;
+    let block = condition_for(here, block, types, known)?;
     own_condition(here, &block, own, params, types)
 }

@@ -1,14 +1,14 @@
 // Definitions, rules and assertions.
-ghost use Rattle.std.specs.Prelude.{◌≡◌, [], Some, Ok};
+ghost use Rattle.std.specs.Prelude.{◌≡◌, Some, OnOk};
 ghost use Rattle.cat_names.specs.Definitions as words;
 ghost use Rattle.cat_names.specs.Found.{Tells};
 ghost use Rattle.cat_names.specs.Meaning.{meant};
 ghost use Rattle.cat_check_forms.specs.Tabled.{IsTabled, names_at};
-ghost use Rattle.cat_check_exprs.specs.Sharing.{block_found};
+ghost use Rattle.cat_check_exprs.specs.Sharing.{AreKnown};
 
-use crate::conditions::{BlockCondition, boolean, definition_condition, named_params, resolved};
+use crate::conditions::{boolean, definition_condition, named_params, resolved};
 use crate::heads::Head;
-use crate::{Aim, aim_of};
+use crate::{Aim, KnownConditions, aim_of};
 use cat_check_forms::Here;
 use cat_check_operators::Resolved;
 use cat_names::{Fault, Refusal};
@@ -30,7 +30,7 @@ fn consequence(here: &Here, value: &Node, params: &[Name], aim: &Aim) -> Result<
 pub fn definition(
     here: &Here,
     block: &Option<Node>,
-    shared: &Option<BlockCondition>,
+    known: &mut KnownConditions,
     lead: &Lead,
     place: Pos,
     target: &TargetName,
@@ -38,15 +38,16 @@ pub fn definition(
     value: &Node,
 ) -> Result<Def, Refusal>
     requires tabled { IsTabled here.now }
-    requires shared { block_found (names_at here.now) block.now [] ≡ Ok shared.now }
+    requires known { AreKnown (names_at here.now) block.now known.old }
     ensures told { Tells result (words.definition_meant (names_at here.now) here.now.scope block.now lead.now place
         target.now condition.now value.now) }
+    ensures kept { OnOk result (AreKnown (names_at here.now) block.now known.new) }
 {
     let params = target.params.as_slice();
     let aim = aim_of(here, target)?;
     let head = Head::of(here.alloc, lead, place, &aim)?;
     let value = consequence(here, value, params, &aim)?;
-    let condition = definition_condition(here, block, shared, condition, params, aim.params)?;
+    let condition = definition_condition(here, block, known, condition, params, aim.params)?;
     Ok(head.define(here.alloc, condition, value.into_expr().into_inner())?)
 }
 
@@ -54,7 +55,7 @@ pub fn definition(
 pub fn rule(
     here: &Here,
     block: &Option<Node>,
-    shared: &Option<BlockCondition>,
+    known: &mut KnownConditions,
     lead: &Lead,
     place: Pos,
     target: &TargetName,
@@ -62,9 +63,10 @@ pub fn rule(
     fulfilled: Fulfilled,
 ) -> Result<Def, Refusal>
     requires tabled { IsTabled here.now }
-    requires shared { block_found (names_at here.now) block.now [] ≡ Ok shared.now }
+    requires known { AreKnown (names_at here.now) block.now known.old }
     ensures told { Tells result (words.rule_meant (names_at here.now) here.now.scope block.now lead.now place target.now
         condition.now fulfilled) }
+    ensures kept { OnOk result (AreKnown (names_at here.now) block.now known.new) }
 {
     let aim = aim_of(here, target)?;
     if !aim.condition {
@@ -72,7 +74,7 @@ pub fn rule(
     }
     let head = Head::of(here.alloc, lead, place, &aim)?;
     let params = target.params.as_slice();
-    let condition = definition_condition(here, block, shared, condition, params, aim.params)?;
+    let condition = definition_condition(here, block, known, condition, params, aim.params)?;
     let holds = Literal::Boolean(is_fulfilled(fulfilled));
     Ok(head.define(here.alloc, condition, Expr::Literal(place, holds))?)
 }

@@ -9,6 +9,7 @@ mod conditions;
 mod definitions;
 mod heads;
 mod infer;
+mod known;
 mod leaves;
 mod lists;
 mod locals;
@@ -18,7 +19,8 @@ mod walk;
 
 pub use aims::{Aim, aim_of};
 pub use blocks::{add_block, add_item};
-pub use conditions::{BlockCondition, block_condition, condition, definition_condition};
+pub use conditions::{condition, definition_condition};
 pub use definitions::{assertion, definition, rule};
 pub use infer::inferred;
+pub use known::{BlockCondition, KnownCondition, KnownConditions, condition_for};
 pub use said::Said;

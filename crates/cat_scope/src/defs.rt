@@ -51,8 +51,7 @@ pub type Assertions = List<Assertion>;
 pub enum SourcePart {
     /// The declaration of the scope, with its items.
     Declaration,
-    /// The condition of a block, which is joined to the condition of each definition in the block, and shared by those
-    /// without parameters.
+    /// The condition of a block, which is joined to the condition of each definition in the block.
     Condition(Shared<Expr>),
     /// The next definition.
     Definition,

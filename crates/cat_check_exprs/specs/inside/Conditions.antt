@@ -5,7 +5,7 @@ use Rattle.cat_scope.specs.Names.{Names}
 use Rattle.cat_names.specs.Definitions.{condition_meant}
 use Rattle.cat_names.specs.Found.{Found, and_then}
 use Rattle.cat_names.specs.Lines.{Line, Condition, condition_lines, one}
-use Rattle.cat_check_exprs.specs.declared.conditions.BlockCondition.{BlockCondition}
+use Rattle.cat_check_exprs.specs.declared.known.BlockCondition.{BlockCondition}
 
 -- the line that a block's condition is, where it has one
 abbrev pub condition_found : Names → Option Node → Found (List Line)

@@ -12,8 +12,8 @@ use Rattle.cat_check_exprs.specs.Aimed.{aim_lent}
 use Rattle.cat_check_exprs.proofs.LineExits.{first_behind, second_behind}
 use Rattle.cat_check_exprs.proofs.definitions.definition.Goals as goal
 
-pub returns-in_err-value : goal.returns-in_err-value
-returns-in_err-value c =
+pub returns-in_err-value-clause-told : goal.returns-in_err-value-clause-told
+returns-in_err-value-clause-told c =
     let p = err_from_is_err_and c.from_residual-in_err-value.result c.from_residual-in_err-value.ensures.1 in
     let a = c.args in
     let ns = names_at a.here.now in
@@ -27,10 +27,10 @@ returns-in_err-value c =
     (λ aim. whole_condition ns a.block.now a.condition.now t.params aim.params)
     (λ aim. meant ns a.value.now (named_params t.params aim.params) (Some aim.ty))
     (λ aim condition x. Ok (def_of a.lead.now a.place aim condition x.expr)) c.in_ok-aim.ensures.told exit in
-    record { told = rw (p.1, p.2) told }
+    rw (p.1, p.2) told
 
-pub returns-in_err-condition : goal.returns-in_err-condition
-returns-in_err-condition c =
+pub returns-in_err-condition-clause-told : goal.returns-in_err-condition-clause-told
+returns-in_err-condition-clause-told c =
     let p = err_from_is_err_and c.from_residual-in_err-condition.result c.from_residual-in_err-condition.ensures.1 in
     let a = c.args in
     let ns = names_at a.here.now in
@@ -39,9 +39,9 @@ returns-in_err-condition c =
     let e = c.in_err-condition.field-0.0 in
     let exit : Tells {A = Option Expr} (Err e) (whole_condition ns a.block.now a.condition.now t.params aim.params) =
     subst (λ (ws : List Name). Tells {A = Option Expr} (Err e) (whole_condition ns a.block.now a.condition.now ws
-    aim.params)) c.as_slice-params.ensures c.in_err-condition.ensures in
+    aim.params)) c.as_slice-params.ensures c.in_err-condition.ensures.told in
     let told = first_behind {A = Aim} e (aim_of ns a.here.now.scope t) aim
     (λ aim. whole_condition ns a.block.now a.condition.now t.params aim.params)
     (λ aim. meant ns a.value.now (named_params t.params aim.params) (Some aim.ty))
     (λ aim condition x. Ok (def_of a.lead.now a.place aim condition x.expr)) c.in_ok-aim.ensures.told exit in
-    record { told = rw (p.1, p.2) told }
+    rw (p.1, p.2) told
