@@ -109,6 +109,15 @@ def shared_condition(count):
                  ['  definition x under condition n = %d consequence equals n' % k for k in range(count)])
 
 
+def joined(count):
+    """A block under a condition of so many parts, as many definitions of it, with conditions of their own or parameters, and one that is refused."""
+    asked = both(['n != %d' % (1000000 + k) for k in range(count)])
+    own = ['  definition x under condition n = %d consequence equals n' % k for k in range(count // 2)]
+    called = ['  definition f of a under condition a = %d consequence equals a' % k for k in range(count // 2)]
+    return block([*HEAD[:3], '  internal f content integer depends on a content integer', 'scope S under condition %s:' % asked,
+                  *own, *called, '  definition x equals true'])
+
+
 def literal(count):
     """A structure of so many fields, which a literal gives in their order."""
     return block(['declaration structure T:', *('  data f%d content integer' % k for k in range(count)), 'declaration scope S:',
@@ -158,6 +167,8 @@ WORK = [
     ('scopes', lambda n: run(scopes(n), {'n': 1}, b'{"x":1}\n'), 32_000),
     ('lines of law', lambda n: run(law(n), {'n': 1}, b'{"x":1}\n'), 64_000),
     ('definitions under the condition of a block', lambda n: run(shared_condition(n), {'n': 1}, b'{"x":1}\n'), 16_000),
+    ('parts of the condition of a block, and its definitions, up to the end of checking',
+     lambda n: run(joined(n), {'n': 1}, b'source refused E10 '), 4_000),
     ('fields of a structure literal', lambda n: run(literal(n), {'n': 1}, b'{"x":1}\n'), 64_000),
     ('fields of a structure literal, the last one first', lambda n: run(turned(n), {'n': 1}, b'{"x":1}\n'), 64_000),
     ('keys of an input that name nothing', lambda n: run(definitions(2), unknown_keys(n), b'input refused '), 640_000),
