@@ -26,6 +26,7 @@ pub mod ExecEnds
 pub mod TraceEnds
 pub mod Many
 pub mod ManyEnds
+pub mod EachMode
 pub mod Texts
 pub mod Numbers
 pub mod Runs
