@@ -77,7 +77,8 @@ module _ (one_program : IsOneProgram) (not_accepted : AreNotAccepted) (endings :
   many : request.mode ≡ Many → ⊥
   many is = cc (is, emits)
 
-  pub ends_emit : (ended : Status) → AnswersAtOnce words old new sink sunk ended → EndsEmit sink sunk source program ended
+  pub ends_emit : (ended : Status) → AnswersAtOnce words old new sink sunk ended
+      → EndsEmit sink sunk source program ended
   ends_emit status.Fine is = ⊎_elim (λ o. absurd (runs o.mode))
       (⊎_elim (λ a. absurd (audits a.mode))
       (⊎_elim (λ k. absurd (checks k.mode))

@@ -48,7 +48,8 @@ OneTable = (image : ImageTables) (tables others : Tables) → ((n : ℕ) → IsB
     → AreTablesOf image tables → AreTablesOf image others → tables ≡ others
 
 -- where a run of listed code is asked for, it is what is asked
-pub of_listing : (o : Option Ask) (request : ListingRequest) → listing_in o ≡ Some request → o ≡ Some (OfListing request)
+pub of_listing : (o : Option Ask) (request : ListingRequest) → listing_in o ≡ Some request
+    → o ≡ Some (OfListing request)
 of_listing None request is = cc is
 of_listing (Some (OfScope other)) request is = cc is
 of_listing (Some (OfListing other)) request is = cc is
@@ -291,7 +292,8 @@ pub ends_exec : OneImage → OneTable → (words : List (List ℕ)) (old new : S
     → AnswersAtOnce words old new sink sunk ended
     → EndsExec sink sunk code.tables code.instructions files scope input ended
 ends_exec one_image one_table words old new sink sunk request code files scope input told =
-    ends_so one_image one_table words old new sink sunk request code.tables code.instructions files scope input (record {
+    ends_so one_image one_table words old new sink sunk request code.tables code.instructions files
+    scope input (record {
       bytes = told.bytes;
       extra = told.extra;
       asked = told.asked;

@@ -34,8 +34,8 @@ fn shelf_of(alloc: Global, bands: u32) -> Result<PureShelf, AllocError>
     Ok(PureShelf::new(alloc, files))
 }
 
-/// Gathers the source of so many bands. It includes no file and is short, so that none is missing, fails or is too large:
-/// in the place of such a refusal want of memory is passed on.
+/// Gathers the source of so many bands. It includes no file and is short, so that none is missing, fails or is too
+/// large: in the place of such a refusal want of memory is passed on.
 fn gather_bands(alloc: Global, bands: u32) -> Result<Source, GatherRefusal>
     requires some { 1 ≤ bands }
     requires most { bands ≤ most_bands }

@@ -50,7 +50,8 @@ pub fn catala<S: Shelf, K: Sink>(
     ensures each_answer_has_its_cause_and_its_text { Answers (texts_of words.now)
         (S.state shelf.old) (S.state shelf.new) (K.state sink.old) (K.state sink.new) result }
 
-    ensures a_fault_comes_only_where_a_count_rose { NoFileRose (texts_of words.now) (S.state shelf.old) (S.state shelf.new)
+    ensures a_fault_comes_only_where_a_count_rose { NoFileRose (texts_of words.now) (S.state shelf.old)
+        (S.state shelf.new)
         → (FaultsRose (K.state sink.old).faults (K.state sink.new).faults → ⊥)
         → is_fault result ≡ false }
 

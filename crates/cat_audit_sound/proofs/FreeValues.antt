@@ -50,7 +50,8 @@ Form = Expr-F Expr Arm FieldValue
 pub data PathForm (items : List ItemDecl) : Expr → InputPath → Type 0 where
   an_item : {e : Expr} {p : InputPath} (q : Pos) (i : ℕ) (decl : ItemDecl) → out-Expr e ≡ Expr-F.Item q i
       → slice_get items i ≡ Some decl → must_be_given decl.kind ≡ true → variable i ≡ p → PathForm items e p
-  a_field : {e : Expr} {p : InputPath} (q : Pos) (a : Expr) (k : ℕ) (inner : InputPath) → out-Expr e ≡ Expr-F.Field q a k
+  a_field : {e : Expr} {p : InputPath} (q : Pos) (a : Expr) (k : ℕ) (inner : InputPath)
+      → out-Expr e ≡ Expr-F.Field q a k
       → path_of items a ≡ Some inner → field_of inner k ≡ p → PathForm items e p
 
 module _ (items : List ItemDecl) where

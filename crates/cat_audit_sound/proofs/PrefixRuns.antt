@@ -12,7 +12,8 @@ use Rattle.cat_scope.specs.Running.{entry_at, with_entry, run_items, no_values, 
 use Rattle.cat_scope.specs.ItemValues.{item_value}
 use Rattle.cat_sound.specs.Given.{values_at}
 use Rattle.cat_sound.proofs.Exported.{AllIn, Ahead, Behind, IsSound, all_more, anything, moved-behind, names_of}
-use Rattle.cat_sound.proofs.Exported.{DoneAt, IsDone, entry_given, no_values-length, with_entry-length, with_entry-other, with_entry-same}
+use Rattle.cat_sound.proofs.Exported.{DoneAt, IsDone, entry_given, no_values-length, with_entry-length}
+use Rattle.cat_sound.proofs.Exported.{with_entry-other, with_entry-same}
 use Rattle.cat_sound.proofs.Exported.{same_some}
 use Rattle.cat_audit_sound.proofs.Gives.{same_number, found, IfGives, if_more, if_then}
 use Rattle.cat_audit_sound.proofs.DoneItems.{item_done}

@@ -65,7 +65,8 @@ pub structure_typed : (ds : Decls) (n : ℕ) (s : Structure) (vs : List Value) �
 structure_typed ds n s vs e h = rw (has_type_Structure ds vs n, e) h
 
 -- a structure of the values of its fields
-pub structure_part : (ds : Decls) (points : InputPath → Option Point) (path : InputPath) (k : ℕ) (t : Ty) (n : ℕ) (s : Structure)
+pub structure_part : (ds : Decls) (points : InputPath → Option Point) (path : InputPath) (k : ℕ) (t : Ty) (n : ℕ)
+    (s : Structure)
     (vs : List Value) → 0 < k → t ≡ flat_ty.Structure n → slice_get ds.structures n ≡ Some s
     → AreParts ds s.fields (fields_from (part_to ds points (k - 1)) path 0 s.fields) vs
     → IsPart ds t (part_to ds points k path t) (value.Structure vs)

@@ -68,8 +68,8 @@ fn given(
 }
 
 /// The input of the scope of a table in which each free term has its point of the region, and all else that must be
-/// given its default. No context is given. It takes a step for each term and each part of an input, and where there would
-/// be too many parts, it is as if memory had run out, before any is made.
+/// given its default. No context is given. It takes a step for each term and each part of an input, and where there
+/// would be too many parts, it is as if memory had run out, before any is made.
 pub fn input_of(
     alloc: Global,
     table: &Table,

@@ -35,7 +35,8 @@ questions_push ds (x ∷ xs) d =
     ap (λ (qs : List Question). asked (def_formula ds x.1) ++ qs) (questions_push ds xs d)
     ∙ sym (append_assoc (asked (def_formula ds x.1)) (defs_questions ds xs) (asked (def_formula ds d.1)))
 
-one_def : (scene : TabledScope) (xs : List Numbered) (d : Numbered) (before middle after : Numbering) (made : List GuardDef)
+one_def : (scene : TabledScope) (xs : List Numbered) (d : Numbered) (before middle after : Numbering)
+    (made : List GuardDef)
     (new : GuardDef) → AddsDefs scene xs before middle made → AddsDef scene d middle after new
     → AddsDefs scene (xs ++ d ∷ []) before after (made ++ new ∷ [])
 one_def scene xs d before middle after made new is also = record {

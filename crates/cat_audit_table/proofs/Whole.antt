@@ -138,7 +138,8 @@ module _ (program : Program) (few : AllHave (λ (e : Enumeration). length e.case
     pub atoms_are : atoms ≡ atoms_of the_questions
     pub targets_made : targets ≡ map (target_of program.decls decl.items body.defs the_questions) the_targets
 
-  pub made_of : (scene : TabledScope) (ts : List Target) (targets : List TableTarget) (terms : List Term) (atoms : List Atom)
+  pub made_of : (scene : TabledScope) (ts : List Target) (targets : List TableTarget) (terms : List Term)
+      (atoms : List Atom)
       → IsSceneTable scene ts targets terms atoms → scene.decls.now ≡ program.decls → scene.items.now ≡ decl.items
       → scene.defs.now ≡ body.defs → ts ≡ the_targets → IsMadeOf targets terms atoms
   made_of scene ts targets terms atoms is decls items defs same = record {

@@ -1,5 +1,5 @@
-//! The table of a scope: what its conditions ask, as terms and atoms numbered by first appearance, and the guards of the
-//! definitions of each target.
+//! The table of a scope: what its conditions ask, as terms and atoms numbered by first appearance, and the guards of
+//! the definitions of each target.
 #![tactic(auto)]
 
 mod atom_table;

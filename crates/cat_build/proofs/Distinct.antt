@@ -32,7 +32,8 @@ use Rattle.cat_names.specs.Found.{Found, each_found}
 use Rattle.cat_names.specs.Lookup.{TypeNames, type_found}
 use Rattle.cat_names.specs.NameFaults.{item_faults}
 use Rattle.cat_names.specs.Written.{enumerations_in, scope_names_in, scopes_in, structures_in, texts, types_in}
-use Rattle.cat_names.proofs.Exported.{both_ok, item_name, then_ok, Apart, declared_parts, each_on, fine_items, names_apart}
+use Rattle.cat_names.proofs.Exported.{both_ok, item_name, then_ok, Apart, declared_parts, each_on, fine_items}
+use Rattle.cat_names.proofs.Exported.{names_apart}
 use Rattle.cat_json.specs.InputsRead.{given_names}
 use Rattle.cat_json.specs.Keys.{field_names, is_among}
 use Rattle.cat_json.specs.Names.{are_distinct, case_names, cases_are_distinct, fields_are_distinct}

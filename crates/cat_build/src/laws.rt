@@ -54,8 +54,8 @@ pub fn accepted_programs_are_counted()
     cases_are_counted();
 }
 
-/// No two fields of a structure, no two cases of an enumeration and no two inputs of a scope of an accepted program have
-/// one name.
+/// No two fields of a structure, no two cases of an enumeration and no two inputs of a scope of an accepted program
+/// have one name.
 pub fn accepted_programs_have_distinct_names()
     ensures { (pieces : List Piece) (program : Program) → IsAccepted pieces program
         → IsTrue (names_are_distinct program.decls) }

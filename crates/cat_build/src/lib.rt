@@ -1,5 +1,5 @@
-//! Builds the gathered pieces of a source into a program, the forests of its exceptions, and its jump code; or tells what
-//! is at fault in it.
+//! Builds the gathered pieces of a source into a program, the forests of its exceptions, and its jump code; or tells
+//! what is at fault in it.
 #![tactic(auto)]
 
 ghost use Rattle.std.specs.Prelude.{IfOk, IfErr};

@@ -1,4 +1,5 @@
-//! Operators, conversions and literals: which row of the table the types of the operands pick, and the type that follows.
+//! Operators, conversions and literals: which row of the table the types of the operands pick, and the type that
+//! follows.
 #![tactic(auto)]
 
 mod literals;

@@ -37,7 +37,8 @@ use Rattle.cat_scope.proofs.Exported.{eval_Literal, eval_Item, eval_Output, eval
 use Rattle.cat_scope.proofs.Exported.{eval_And, eval_Or, eval_IsCase, eval_Case_None}
 use Rattle.cat_dead_report.specs.declared.forms.Safety.{Safety}
 use Rattle.cat_dead_report.specs.declared.forms.Safety.TheVariants as safety
-use Rattle.cat_dead_report.specs.inside.Forms.{of_literal, of_part, of_unary, of_both, of_comparison, of_binary, safety_of}
+use Rattle.cat_dead_report.specs.inside.Forms.{of_literal, of_part, of_unary, of_both, of_comparison, of_binary}
+use Rattle.cat_dead_report.specs.inside.Forms.{safety_of}
 use Rattle.cat_dead_report.specs.inside.Forms.{cannot_fault}
 use Rattle.cat_dead_report.specs.inside.Faultless.{condition_cannot_fault, def_cannot_fault}
 use Rattle.cat_guard.proofs.Exported.{both_true}

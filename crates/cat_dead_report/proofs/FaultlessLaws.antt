@@ -59,7 +59,8 @@ use Rattle.cat_audit_sound.proofs.StandingDefs.{typed_given}
 use Rattle.cat_dead.specs.Winners.{winner_in}
 use Rattle.cat_dead_report.specs.RunLines.{decides_in}
 use Rattle.cat_dead_report.proofs.DeciderLemmas.{none_of}
-use Rattle.cat_dead_report.specs.inside.Faultless.{IsCoveredByEach, IsFaultless, IsReached, def_cannot_fault, is_harmless}
+use Rattle.cat_dead_report.specs.inside.Faultless.{IsCoveredByEach, IsFaultless, IsReached, def_cannot_fault}
+use Rattle.cat_dead_report.specs.inside.Faultless.{is_harmless}
 use Rattle.cat_dead_report.specs.inside.Faultless.{is_harmless_at}
 use Rattle.cat_dead_report.specs.inside.Faultless.{is_judged, is_of}
 use Rattle.cat_dead_report.proofs.FaultlessTargets.{JudgedSo, covered, held}
@@ -163,7 +164,8 @@ module _ (ds : Decls) (bodies : List Body) (order : List ℕ) (formed : IsWellFo
             params_are = no_params i.params (both_true (not (is_called i.kind)) (has_none i.params) variable).1;
             ty_is = refl;
           };
-          harmless = harmless_all ds questions body.defs (defs_from here 0 body.defs) (defs_at here 0 body.defs) three.1;
+          harmless = harmless_all ds questions body.defs (defs_from here 0 body.defs)
+              (defs_at here 0 body.defs) three.1;
         }
 
     -- ---- what wins
@@ -305,7 +307,8 @@ module _ (program : Program) (formed : ∥ IsWellFormed program.decls program.bo
     that t = record { target = t.target; by = Some p }
 
     logged_there : IsWellFormed program.decls program.bodies program.scope_order → (t : TableTarget)
-        → IsOneOf t table.targets → (index : ℕ) → IsFaultless program table.scope index t → winner_in table.atoms t region ≡ p ∷ []
+        → IsOneOf t table.targets → (index : ℕ) → IsFaultless program table.scope index t
+        → winner_in table.atoms t region ≡ p ∷ []
         → IsOneOf (that t) (deciders program table.scope input)
     logged_there well t among index faultless wins =
         let ds = program.decls in
@@ -326,7 +329,8 @@ module _ (program : Program) (formed : ∥ IsWellFormed program.decls program.bo
         index comes.0 comes.1 (point_at region) region p is_region admits in
         let all : AllHave (LogsOf table.terms table.atoms) table.targets =
         subst (AllHave (LogsOf table.terms table.atoms)) (sym is.targets_are)
-        (subst (λ (ts : List Term). AllHave (LogsOf ts table.atoms) (map (target_of ds decl.items body.defs qs) targets))
+        (subst (λ (ts : List Term). AllHave (LogsOf ts table.atoms)
+        (map (target_of ds decl.items body.defs qs) targets))
         (sym is.terms_are)
         (subst (λ (atoms : List Atom). AllHave (LogsOf (terms_of decl.items qs) atoms)
         (map (target_of ds decl.items body.defs qs) targets)) (sym is.atoms_are) each)) in

@@ -117,7 +117,8 @@ module _ (scoped : Scoped) (input : Items) where
   -- an item at an index of those that are left comes to a value
   abbrev Comes : List ℕ → Items → ℕ → Type 0
   Comes before values item =
-      (v : Option Value) × ((item_value scoped before values item (entry_at item input) (slice_get scoped.items item)).end
+      (v : Option Value) × ((item_value scoped before values item (entry_at item input)
+      (slice_get scoped.items item)).end
       ≡ Ok v)
 
   run_on : (left before : List ℕ) (done : Items) (index item : ℕ) → slice_get left index ≡ Some item

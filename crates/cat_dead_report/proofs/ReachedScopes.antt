@@ -1,5 +1,6 @@
 -- How far all runs of a scope come, by what code reads of it.
-use Rattle.std.proofs.Common.{◌≡◌, ℕ, ◌+◌, true, List, Option, None, Some, Ok, take, slice_get, refl, sym, ap, ◌∙◌, subst}
+use Rattle.std.proofs.Common.{◌≡◌, ℕ, ◌+◌, true, List, Option, None, Some, Ok, take, slice_get, refl, sym, ap, ◌∙◌}
+use Rattle.std.proofs.Common.{subst}
 use Rattle.std.proofs.Common.{true≢false}
 use Rattle.std.specs.Prelude.{Result, Err, IfSome, IsOk, is_ok}
 use Rattle.cat_value.specs.declared.declaration.ItemDecl.{ItemDecl}

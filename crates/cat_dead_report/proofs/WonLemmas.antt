@@ -38,7 +38,8 @@ use Rattle.cat_dead_report.specs.inside.Places.{AreNumbered}
 use Rattle.cat_dead_report.specs.inside.Said.{IsWon, IsWonIn}
 use Rattle.cat_dead_report.specs.inside.Tries.{HasTriedAt}
 use Rattle.cat_dead.proofs.Exported.{some_same}
-use Rattle.cat_dead_report.proofs.KnownLemmas.{from_weight, grow_set, IsKnownAt, known_at, known_set, most_weight, there_set}
+use Rattle.cat_dead_report.proofs.KnownLemmas.{from_weight, grow_set, IsKnownAt, known_at, known_set, most_weight}
+use Rattle.cat_dead_report.proofs.KnownLemmas.{there_set}
 use Rattle.cat_dead_report.proofs.PlaceLemmas.{numbered_at}
 
 -- ---- the definition that wins at a leaf

@@ -13,6 +13,7 @@ pub(crate) struct TargetScene<'a> {
     pub(crate) table: &'a Table,
     pub(crate) number: u32,
     pub(crate) target: &'a TableTarget,
-    /// Nothing stops a run of the scope before the target is judged, and nothing but a conflict of its own stops it there.
+    /// Nothing stops a run of the scope before the target is judged, and nothing but a conflict of its own stops it
+    /// there.
     pub(crate) faultless: bool,
 }

@@ -87,8 +87,8 @@ pub fn judge_live(table: &Table, target: u32, region: &Region, live: &LiveGroups
     }
 }
 
-/// The definition that holds, by its number among the target's, as `winner` tells it, where this is live of the target there.
-/// It costs the guards of what is live.
+/// The definition that holds, by its number among the target's, as `winner` tells it, where this is live of the target
+/// there. It costs the guards of what is live.
 pub fn live_winner(table: &Table, target: u32, region: &Region, live: &LiveGroups) -> u32
     requires target { target < length table.now.targets }
     requires dims { region.now.dims ≡ dims_of table.now.terms }

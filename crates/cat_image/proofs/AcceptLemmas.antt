@@ -143,7 +143,8 @@ structure_comes base is front t s within =
     (with_last_is (λ (r : ImageStructure). record r { fields = r.fields ++ f ∷ [] }) front
     (record { name = s.name; fields = fields }))) s.fields [])
 
-enumeration_comes : (base : ImageTables) (is : List Instr) (front : List ImageEnumeration) (t : ℕ) (e : ImageEnumeration)
+enumeration_comes : (base : ImageTables) (is : List Instr) (front : List ImageEnumeration) (t : ℕ)
+    (e : ImageEnumeration)
     → t ≤ 2 → Comes (record base { enumerations = front }) is t (enumeration_rows e)
     (record base { enumerations = front ++ e ∷ [] }) is 2
 enumeration_comes base is front t e within =

@@ -75,7 +75,12 @@ kind_words (kind.Called scope) = words.Called
 -- an item by its name, its kind, its position, and what it is
 abbrev pub item_words : Decls → ItemDecl → ImageItem
 item_words ds item =
-    record { name = item.name; kind = kind_words item.kind; pos = pos_words item.pos; what = what_text ds item item.kind }
+    record {
+      name = item.name;
+      kind = kind_words item.kind;
+      pos = pos_words item.pos;
+      what = what_text ds item item.kind;
+    }
 
 -- scopes with their entries
 abbrev pub scopes_words : Decls → List Scope → List ℕ → List ImageScope

@@ -145,8 +145,8 @@ fn run_scope(
     Ok(run)
 }
 
-/// The outcome that the code gives. The pool keeps its nodes; those of this run stay behind them, also where memory runs
-/// out, until they are released.
+/// The outcome that the code gives. The pool keeps its nodes; those of this run stay behind them, also where memory
+/// runs out, until they are released.
 pub fn execute(
     alloc: Global,
     code: &Code,

@@ -77,8 +77,8 @@ fn advance<'a>(going: Going<'a>) -> Result<Going<'a>, Ended<'a>>
 #[inline(never)]
 pub fn drive<'a>(start: Going<'a>) -> Ended<'a>
     requires machine { IsMachine start.code.now.tables start.machine.value }
-    ensures { EndsSo start.entry.code.now (stand start.entry.place start.entry.count start.entry.machine.value) result.end
-        (stand 0 result.count result.machine.value) }
+    ensures { EndsSo start.entry.code.now (stand start.entry.place start.entry.count start.entry.machine.value)
+        result.end (stand 0 result.count result.machine.value) }
 {
     let mut going = start;
     loop {

@@ -118,8 +118,8 @@ ratio_is f n d h r e =
     grind (arith, nat_tests)
 
 -- in lowest terms f, |f| * 10 ^ p units of 10 ^ -p are f again
-pub units_equal : (n : ℤ) (d t : ℕ) → t ≡ d * (t / d) → n *ℤ pos t ≡ signed (is_negative n) (unsigned_abs n * (t / d)) *ℤ
-    pos d
+pub units_equal : (n : ℤ) (d t : ℕ) → t ≡ d * (t / d) → n *ℤ pos t
+    ≡ signed (is_negative n) (unsigned_abs n * (t / d)) *ℤ pos d
 units_equal n d t e =
     ap (λ x. n *ℤ pos x) e ∙ ap (λ m. m *ℤ pos (d * (t / d))) (sym (signed_parts n))
     ∙ signed-product (is_negative n) (unsigned_abs n) (d * (t / d)) ∙ ap (signed (is_negative n))

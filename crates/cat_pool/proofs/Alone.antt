@@ -9,7 +9,8 @@ use Rattle.cat_pool.specs.declared.node.PoolNode.TheVariants as node
 use Rattle.cat_pool.specs.Nodes.{IsPlain, Standing, value_in, values}
 use Rattle.cat_pool.specs.Loading.{node_count}
 use Rattle.cat_pool.specs.inside.Alone.{IsAlone}
-use Rattle.cat_pool.proofs.Counting.{count_Boolean, count_Date, count_Decimal, count_Duration, count_Integer, count_Money}
+use Rattle.cat_pool.proofs.Counting.{count_Boolean, count_Date, count_Decimal, count_Duration, count_Integer}
+use Rattle.cat_pool.proofs.Counting.{count_Money}
 use Rattle.cat_pool.proofs.Cutting.{given_back, given_back_extends, marked}
 
 pub alone_Boolean : (v : Value) (b : Bool) → v ≡ flat.Boolean b → IsAlone v (node.Boolean b)

@@ -29,7 +29,8 @@ sizes_within kept r from [] (n ∷ ns) are =
 sizes_within kept r from (n ∷ front) behind are =
     let rest = sizes_within kept (r + 1) (from + size n) front behind are.1 in omega (arith, rest)
 
-range_cut : (kept : List ℕ) (r from end : ℕ) (refs : Refs) → IsRange kept r from refs → refs.end ≤ end → end ≤ length kept
+range_cut : (kept : List ℕ) (r from end : ℕ) (refs : Refs) → IsRange kept r from refs → refs.end ≤ end
+    → end ≤ length kept
     → IsRange (take end kept) r from refs
 range_cut kept r from end refs is front fits =
     let long : length (take end kept) ≡ end = length-take-le end kept fits in
@@ -44,7 +45,8 @@ range_cut kept r from end refs is front fits =
       below = subst (λ (l : List ℕ). AreBelow r l) same is.below;
     }
 
-laid_cut : (kept : List ℕ) (r from end : ℕ) (n : PoolNode) → IsLaid kept r from n → from + size n ≤ end → end ≤ length kept
+laid_cut : (kept : List ℕ) (r from end : ℕ) (n : PoolNode) → IsLaid kept r from n → from + size n ≤ end
+    → end ≤ length kept
     → IsLaid (take end kept) r from n
 laid_cut kept r from end (node.List refs) is front fits =
     range_cut kept r from end refs is (let s = is.starts in let o = is.ordered in omega (arith, front, s, o)) fits
@@ -61,7 +63,8 @@ are_laid_cut kept r from end (n ∷ front) behind are ends fits = (
   are_laid_cut kept (r + 1) (from + size n) end front behind are.1 (omega (arith, ends)) fits,
 )
 
-module _ (kept : List ℕ) (ns : List PoolNode) (is : IsPool ns kept) (mark : Mark) (fits : IsMarkIn mark (seen kept [] ns)) where
+module _ (kept : List ℕ) (ns : List PoolNode) (is : IsPool ns kept) (mark : Mark)
+    (fits : IsMarkIn mark (seen kept [] ns)) where
   abbrev front : List PoolNode
   front = take mark.nodes ns
 

@@ -85,7 +85,8 @@ size-plain nodes (node.Case k (Some r)) plain = refl
 
 -- ---- more references are kept
 
-range-grown : (kept more : List ℕ) (r from : ℕ) (refs : Refs) → IsRange kept r from refs → IsRange (kept ++ more) r from refs
+range-grown : (kept more : List ℕ) (r from : ℕ) (refs : Refs) → IsRange kept r from refs
+    → IsRange (kept ++ more) r from refs
 range-grown kept more r from refs is =
     record {
       starts = is.starts;
@@ -121,7 +122,8 @@ standing-grown kept more r from before (node.Structure refs) is =
 standing-grown kept more r from before (node.Case k None) is = refl
 standing-grown kept more r from before (node.Case k (Some c)) is = refl
 
-pub seen-grown : (kept more : List ℕ) (r from : ℕ) (before : List Standing) (ns : List PoolNode) → AreLaid kept r from ns
+pub seen-grown : (kept more : List ℕ) (r from : ℕ) (before : List Standing) (ns : List PoolNode)
+    → AreLaid kept r from ns
     → seen (kept ++ more) before ns ≡ seen kept before ns
 seen-grown kept more r from before [] are = refl
 seen-grown kept more r from before (n ∷ ns) are =
@@ -141,7 +143,8 @@ laid-behind kept more r from [] n are is ends =
 laid-behind kept more r from (m ∷ ns) n are is ends =
     let place : r + length (m ∷ ns) ≡ (r + 1) + length ns = omega arith in (
       laid-grown kept more r from m are.0,
-      laid-behind kept more (r + 1) (from + size m) ns n are.1 (subst (λ k. IsLaid (kept ++ more) k (length kept) n) place is) ends,
+      laid-behind kept more (r + 1) (from + size m) ns n are.1
+          (subst (λ k. IsLaid (kept ++ more) k (length kept) n) place is) ends,
     )
 
 -- ---- the references are kept in the order of the nodes
@@ -164,7 +167,8 @@ kept_here kept r from _ is = no_more kept from
 
 -- the references of the nodes so far
 kept_next : (kept : List ℕ) (r from : ℕ) (before : List Standing) (n : PoolNode) → IsLaid kept r from n
-    → kept_parts before ≡ take from kept → kept_parts (before ++ standing kept before n ∷ []) ≡ take (from + size n) kept
+    → kept_parts before ≡ take from kept → kept_parts (before ++ standing kept before n ∷ [])
+    ≡ take (from + size n) kept
 kept_next kept r from before n is so_far =
     kept_parts-append before (standing kept before n ∷ [])
     ∙ ap (λ (l : List ℕ). kept_parts before ++ l) (append-nil (parts_in kept n))
@@ -203,7 +207,8 @@ standing-whole compound.List kept more before = ap (listed before) (last_range k
 standing-whole compound.Structure kept more before = ap (structured before) (last_range kept more)
 
 pub laid-whole : (w : Compound) (kept more : List ℕ) (r : ℕ) → AreBelow r more
-    → IsLaid (kept ++ more) r (length kept) (part_node w (record { start = length kept; end = length kept + length more }))
+    → IsLaid (kept ++ more) r (length kept)
+    (part_node w (record { start = length kept; end = length kept + length more }))
 laid-whole compound.List kept more r below =
     record {
       starts = refl;
@@ -220,13 +225,15 @@ laid-whole compound.Structure kept more r below =
     }
 
 pub size-whole : (w : Compound) (kept more : List ℕ)
-    → length kept + size (part_node w (record { start = length kept; end = length kept + length more })) ≡ length (kept ++ more)
+    → length kept + size (part_node w (record { start = length kept; end = length kept + length more }))
+    ≡ length (kept ++ more)
 size-whole compound.List kept more = omega (arith, length-append kept more)
 size-whole compound.Structure kept more = omega (arith, length-append kept more)
 
 -- ---- what a node stands for among all
 
-over-front : (kept : List ℕ) (before behind : List Standing) (from : ℕ) (n : PoolNode) → IsLaid kept (length before) from n
+over-front : (kept : List ℕ) (before behind : List Standing) (from : ℕ) (n : PoolNode)
+    → IsLaid kept (length before) from n
     → value_over (before ++ behind) kept n ≡ value_over before kept n
 over-front kept before behind from (node.Boolean b) is = refl
 over-front kept before behind from (node.Integer z) is = refl
@@ -294,7 +301,8 @@ laid-at kept r from (m ∷ ns) (suc k) n are is =
     let place : (r + 1) + k ≡ r + suc k = omega arith in
     (rest.0, subst (λ j. IsLaid kept j rest.0 n) place rest.1)
 
-placed_by : (nodes : List Standing) (r from : ℕ) (n : PoolNode) → IsLaid (kept_parts nodes) r from n → IsPlaced nodes r n
+placed_by : (nodes : List Standing) (r from : ℕ) (n : PoolNode) → IsLaid (kept_parts nodes) r from n
+    → IsPlaced nodes r n
 placed_by nodes r from (node.Boolean b) is = tt
 placed_by nodes r from (node.Integer z) is = tt
 placed_by nodes r from (node.Decimal f) is = tt
@@ -335,7 +343,8 @@ below_all kept r from (n ∷ ns) are so_far =
     = subst (λ (l : List ℕ). AreBelow r l) (kept_here kept r from n are.0)
     (below-append r (take from kept) (parts_in kept n) so_far (here_below kept r from n are.0)) in
     subst (λ k. AreBelow k kept) place
-    (below_all kept (r + 1) (from + size n) ns are.1 (below-more r (r + 1) (take (from + size n) kept) (omega arith) now))
+    (below_all kept (r + 1) (from + size n) ns are.1 (below-more r (r + 1) (take (from + size n) kept)
+    (omega arith) now))
 
 pub kept_below : (kept : List ℕ) (ns : List PoolNode) (refs : Refs) → IsPool ns kept
     → AreBelow (length (seen kept [] ns)) (in_range kept refs)
@@ -362,7 +371,8 @@ pool_plain kept ns n is plain fits =
     let ends : length kept + size n ≡ length (kept ++ [])
     = omega (arith, size-plain (seen kept [] ns) n plain, length-append kept []) in
     record {
-      laid = subst (λ (l : List ℕ). AreLaid l 0 0 (ns ++ n ∷ [])) (append-nil kept) (laid-behind kept [] 0 0 ns n is.laid here ends);
+      laid = subst (λ (l : List ℕ). AreLaid l 0 0 (ns ++ n ∷ [])) (append-nil kept)
+          (laid-behind kept [] 0 0 ns n is.laid here ends);
       nodes_fit = omega (arith, fits, length-append ns (n ∷ []));
       kept_fit = is.kept_fit;
     }
@@ -372,13 +382,16 @@ abbrev pub laid_node : Compound → List ℕ → List ℕ → PoolNode
 laid_node w kept more = part_node w (record { start = length kept; end = length kept + length more })
 
 pub seen_whole : (w : Compound) (kept more : List ℕ) (ns : List PoolNode) → IsPool ns kept
-    → seen (kept ++ more) [] (ns ++ laid_node w kept more ∷ []) ≡ seen kept [] ns ++ whole_of w (seen kept [] ns) more ∷ []
+    → seen (kept ++ more) [] (ns ++ laid_node w kept more ∷ [])
+    ≡ seen kept [] ns ++ whole_of w (seen kept [] ns) more ∷ []
 seen_whole w kept more ns is =
     seen-append (kept ++ more) [] ns (laid_node w kept more ∷ [])
-    ∙ ap (λ (l : List Standing). l ++ standing (kept ++ more) l (laid_node w kept more) ∷ []) (seen-grown kept more 0 0 [] ns is.laid)
+    ∙ ap (λ (l : List Standing). l ++ standing (kept ++ more) l (laid_node w kept more) ∷ [])
+    (seen-grown kept more 0 0 [] ns is.laid)
     ∙ ap (λ (s : Standing). seen kept [] ns ++ s ∷ []) (standing-whole w kept more (seen kept [] ns))
 
-pub pool_whole : (w : Compound) (kept more : List ℕ) (ns : List PoolNode) → IsPool ns kept → AreBelow (length (seen kept [] ns)) more
+pub pool_whole : (w : Compound) (kept more : List ℕ) (ns : List PoolNode) → IsPool ns kept
+    → AreBelow (length (seen kept [] ns)) more
     → length ns + 1 < 4294967296 → length kept + length more < 4294967296
     → IsPool (ns ++ laid_node w kept more ∷ []) (kept ++ more)
 pool_whole w kept more ns is below nodes_fit kept_fit =
@@ -399,17 +412,20 @@ module _ (w : Compound) (kept more kept' : List ℕ) (ns ns' : List PoolNode) (i
       → OnOk res (kept' ≡ kept ++ more) → OnErr res ((ns' ≡ ns) × (kept' ≡ kept)) → IsPool ns' kept'
   pool_laid (Ok r) places fits nodes_are kept_are err =
       subst (λ (l : List PoolNode). IsPool l kept') (sym nodes_are)
-      (subst (λ (l : List ℕ). IsPool (ns ++ laid_node w kept more ∷ []) l) (sym kept_are) (pool_whole w kept more ns is below places fits))
+      (subst (λ (l : List ℕ). IsPool (ns ++ laid_node w kept more ∷ []) l) (sym kept_are)
+      (pool_whole w kept more ns is below places fits))
   pool_laid (Err e) places fits nodes_are kept_are err =
       subst (λ (l : List PoolNode). IsPool l kept') (sym err.0) (subst (λ (l : List ℕ). IsPool ns l) (sym err.1) is)
 
-  pub seen_laid : (res : Result ℕ AllocError) → OnOk res (ns' ≡ ns ++ laid_node w kept more ∷ []) → OnOk res (kept' ≡ kept ++ more)
+  pub seen_laid : (res : Result ℕ AllocError) → OnOk res (ns' ≡ ns ++ laid_node w kept more ∷ [])
+      → OnOk res (kept' ≡ kept ++ more)
       → OnOk res (seen kept' [] ns' ≡ seen kept [] ns ++ whole_of w (seen kept [] ns) more ∷ [])
   seen_laid (Ok r) nodes_are kept_are =
       ap (λ (l : List ℕ). seen l [] ns') kept_are ∙ ap (seen (kept ++ more) []) nodes_are ∙ seen_whole w kept more ns is
   seen_laid (Err e) nodes_are kept_are = tt
 
-  pub place_laid : (res : Result ℕ AllocError) → IfOk res (λ r. r ≡ length ns) → IfOk res (λ r. r ≡ length (seen kept [] ns))
+  pub place_laid : (res : Result ℕ AllocError) → IfOk res (λ r. r ≡ length ns)
+      → IfOk res (λ r. r ≡ length (seen kept [] ns))
   place_laid (Ok r) place = place ∙ sym (omega (arith, length-seen kept [] ns))
   place_laid (Err e) place = tt
 

@@ -77,7 +77,8 @@ one_loaded old new next vs i refs v r are within is at_r count kept = record {
 
 pub put_extends : (old new : List Standing) (s : Standing) → new ≡ old ++ s ∷ [] → Extends old new
 put_extends old new s is =
-    ap (take (length old)) is ∙ take-append-le (length old) old (s ∷ []) (omega arith) ∙ take_all (length old) old (omega arith)
+    ap (take (length old)) is ∙ take-append-le (length old) old (s ∷ []) (omega arith)
+    ∙ take_all (length old) old (omega arith)
 
 pub put_count : (old new : List Standing) (s : Standing) → new ≡ old ++ s ∷ [] → length new ≡ length old + 1
 put_count old new s is = ap length is ∙ length-append old (s ∷ [])
@@ -98,13 +99,16 @@ pub ruleset puts = (put_extends, put_count, put_value, same_extends)
 
 -- ---- what is loaded, by the forms of values
 
-pub loaded_List : (n m k : ℕ) (vs : List Value) → m ≡ n + node_counts vs → k ≡ m + 1 → k ≡ n + node_count (value.List vs)
+pub loaded_List : (n m k : ℕ) (vs : List Value) → m ≡ n + node_counts vs → k ≡ m + 1
+    → k ≡ n + node_count (value.List vs)
 loaded_List n m k vs all is = omega (arith, count_List vs, all, is)
 
-pub loaded_Structure : (n m k : ℕ) (vs : List Value) → m ≡ n + node_counts vs → k ≡ m + 1 → k ≡ n + node_count (value.Structure vs)
+pub loaded_Structure : (n m k : ℕ) (vs : List Value) → m ≡ n + node_counts vs → k ≡ m + 1
+    → k ≡ n + node_count (value.Structure vs)
 loaded_Structure n m k vs all is = omega (arith, count_Structure vs, all, is)
 
-pub loaded_Case : (n m k c : ℕ) (v : Value) → m ≡ n + node_count v → k ≡ m + 1 → k ≡ n + node_count (value.Case c (Some v))
+pub loaded_Case : (n m k c : ℕ) (v : Value) → m ≡ n + node_count v → k ≡ m + 1
+    → k ≡ n + node_count (value.Case c (Some v))
 loaded_Case n m k c v all is = omega (arith, count_Some c v, all, is)
 
 pub loaded_None : (n k c : ℕ) → k ≡ n + 1 → k ≡ n + node_count (value.Case c None)
@@ -171,7 +175,8 @@ unloaded_more nodes rs i vs v within so_far at_r =
 
 -- ---- what is left behind a value
 
-pub flat_left : (nodes : List Standing) (r left : ℕ) (v : Value) → slice_get (values nodes) r ≡ Some v → node_count v ≡ 1
+pub flat_left : (nodes : List Standing) (r left : ℕ) (v : Value) → slice_get (values nodes) r ≡ Some v
+    → node_count v ≡ 1
     → left - 1 ≡ left - node_count (at (values nodes) r)
 flat_left nodes r left v at_r one =
     ap (λ k. left - k) (sym one ∙ ap node_count (sym (at_is (values nodes) r v at_r)))

@@ -17,7 +17,8 @@ length-values (x ∷ xs) = let rest = length-values xs in omega (arith, rest)
 pub kept_parts-append : (xs ys : List Standing) → kept_parts (xs ++ ys) ≡ kept_parts xs ++ kept_parts ys
 kept_parts-append [] ys = refl
 kept_parts-append (x ∷ xs) ys =
-    ap (λ (l : List ℕ). x.parts ++ l) (kept_parts-append xs ys) ∙ sym (append_assoc x.parts (kept_parts xs) (kept_parts ys))
+    ap (λ (l : List ℕ). x.parts ++ l) (kept_parts-append xs ys)
+    ∙ sym (append_assoc x.parts (kept_parts xs) (kept_parts ys))
 
 -- ---- values at references
 
@@ -30,7 +31,8 @@ pub at-last : (vs : List Value) (v : Value) (r : ℕ) → r ≡ length vs → at
 at-last [] v r is = ap (λ n. at (v ∷ []) n) is
 at-last (w ∷ vs) v r is = ap (λ n. at (w ∷ (vs ++ v ∷ [])) n) is ∙ at-last vs v (length vs) refl
 
-pub map_at-front : (vs ws : List Value) (rs : List ℕ) → AreBelow (length vs) rs → map (at (vs ++ ws)) rs ≡ map (at vs) rs
+pub map_at-front : (vs ws : List Value) (rs : List ℕ) → AreBelow (length vs) rs
+    → map (at (vs ++ ws)) rs ≡ map (at vs) rs
 map_at-front vs ws [] below = refl
 map_at-front vs ws (r ∷ rs) below =
     ap (λ (v : Value). v ∷ map (at (vs ++ ws)) rs) (at-front vs ws r below.0)
@@ -55,7 +57,8 @@ pub in_range-append : (kept more : List ℕ) (refs : Refs) → refs.start ≤ re
     → in_range (kept ++ more) refs ≡ in_range kept refs
 in_range-append kept more refs ordered within =
     ap (take (refs.end - refs.start)) (drop-append-le refs.start kept more (omega (arith, ordered, within)))
-    ∙ take-append-le (refs.end - refs.start) (drop refs.start kept) more (omega (arith, length-drop refs.start kept, within))
+    ∙ take-append-le (refs.end - refs.start) (drop refs.start kept) more
+    (omega (arith, length-drop refs.start kept, within))
 
 pub below-append : (n : ℕ) (rs ss : List ℕ) → AreBelow n rs → AreBelow n ss → AreBelow n (rs ++ ss)
 below-append n [] ss one other = other

@@ -58,7 +58,8 @@ fn put_elements(pool: &mut Pool, parts: &[Ref]) -> Result<Ref, AllocError>
 #[tactic(auto, using(crate::proofs::LoadingLemmas::puts))]
 fn put_fields(pool: &mut Pool, parts: &[Ref]) -> Result<Ref, AllocError>
     requires { AreBelow (length pool.old) parts.now }
-    ensures value { IfOk result (λ r. slice_get (values pool.new) r ≡ Some (value.Structure (seen_at pool.old parts.now))) }
+    ensures value { IfOk result (λ r. slice_get (values pool.new) r
+        ≡ Some (value.Structure (seen_at pool.old parts.now))) }
     ensures count { OnOk result (length pool.new ≡ length pool.old + 1) }
     ensures kept { Extends pool.old pool.new }
 {

@@ -1,5 +1,6 @@
 // A pool of nodes.
-ghost use Rattle.std.specs.Prelude.{◌≡◌, ◌<◌, ◌≤◌, ◌+◌, ◌++◌, ◌∷◌, [], length, take, slice_get, Some, IfOk, OnOk, OnErr};
+ghost use Rattle.std.specs.Prelude.{◌≡◌, ◌<◌, ◌≤◌, ◌+◌, ◌++◌, ◌∷◌, [], length, take, slice_get, Some, IfOk, OnOk};
+ghost use Rattle.std.specs.Prelude.{OnErr};
 ghost use Rattle.cat_pool.specs.Nodes.{AreBelow, IsPlaced, IsPlain, IsWithin, in_range, kept_parts, lone, listed};
 ghost use Rattle.cat_pool.specs.Nodes.{structured, value_in, values};
 ghost use Rattle.cat_pool.specs.Marks.{IsMarkIn, mark_of};

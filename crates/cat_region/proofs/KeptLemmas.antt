@@ -29,7 +29,8 @@ lefts-at k (c ∷ dims) ns (suc i) d at = lefts-at (suc k) dims ns i d at
     ∙ ap (λ (j : ℕ). Some (after j (start d) ns)) (omega arith)
 
 -- what is kept of dimension i
-kept-left : {dims : List Dim} {left : List Extent} {empty : Bool} {trail : List NarrowingStep} {made : ℕ} (i : ℕ) (d : Dim)
+kept-left : {dims : List Dim} {left : List Extent} {empty : Bool} {trail : List NarrowingStep} {made : ℕ}
+    (i : ℕ) (d : Dim)
     (e : Extent) → IsTrail dims left empty trail made
     → slice_get dims i ≡ Some d → slice_get left i ≡ Some e → after i (start d) (narrowings_of (take made trail)) ≡ e
 kept-left {dims} {left} {empty} {trail} {made} i d e is at here =
@@ -44,7 +45,8 @@ length-kept {dims} {left} {empty} {trail} {made} is = ap length is.leaves
     ∙ length-lefts 0 dims (narrowings_of (take made trail))
 
 -- it is part of the dimension
-pub part-kept : {dims : List Dim} {left : List Extent} {empty : Bool} {trail : List NarrowingStep} {made : ℕ} (i : ℕ) (d : Dim)
+pub part-kept : {dims : List Dim} {left : List Extent} {empty : Bool} {trail : List NarrowingStep} {made : ℕ}
+    (i : ℕ) (d : Dim)
     (e : Extent) → IsTrail dims left empty trail made
     → slice_get dims i ≡ Some d → slice_get left i ≡ Some e → IsPart d e
 part-kept {dims} {left} {empty} {trail} {made} i d e is at here =
@@ -52,7 +54,8 @@ part-kept {dims} {left} {empty} {trail} {made} i d e is at here =
     (IsPart-after dims i d (start d) (narrowings_of (take made trail)) at (IsPart-start d) is.sound.narrowings)
 
 -- and isn't empty where something is admitted
-pub some-kept : {dims : List Dim} {left : List Extent} {empty : Bool} {trail : List NarrowingStep} {made : ℕ} (i : ℕ) (d : Dim)
+pub some-kept : {dims : List Dim} {left : List Extent} {empty : Bool} {trail : List NarrowingStep} {made : ℕ}
+    (i : ℕ) (d : Dim)
     (e : Extent) → IsTrail dims left empty trail made
     → slice_get dims i ≡ Some d → slice_get left i ≡ Some e → IsInhabited (seen dims trail made) → is_none e ≡ false
 some-kept {dims} {left} {empty} {trail} {made} i d e is at here some =
@@ -60,7 +63,8 @@ some-kept {dims} {left} {empty} {trail} {made} i d e is at here some =
     ∙ some_left (seen dims trail made) (admits-of_IsInhabited (seen dims trail made) is.sound some) i d at
 
 -- so it has the point of the dimension
-pub point-kept : {dims : List Dim} {left : List Extent} {empty : Bool} {trail : List NarrowingStep} {made : ℕ} (i : ℕ) (d : Dim)
+pub point-kept : {dims : List Dim} {left : List Extent} {empty : Bool} {trail : List NarrowingStep} {made : ℕ}
+    (i : ℕ) (d : Dim)
     (e : Extent) → IsTrail dims left empty trail made
     → slice_get dims i ≡ Some d → slice_get left i ≡ Some e → point_in d e ≡ point_at (seen dims trail made) i
 point-kept {dims} {left} {empty} {trail} {made} i d e is at here =

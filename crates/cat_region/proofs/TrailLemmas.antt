@@ -134,12 +134,14 @@ set-back [] k old new at = absurd (cc)
 set-back (e ∷ es) zero old new at = ap (λ x. x ∷ es) (sym (same_extent e old at))
 set-back (e ∷ es) (suc k) old new at = ap (λ xs. e ∷ xs) (set-back es k old new at)
 
-narrowings-more : (ss : List NarrowingStep) (s : NarrowingStep) → narrowings_of (ss ++ s ∷ []) ≡ narrowings_of ss ++ s.narrowing ∷ []
+narrowings-more : (ss : List NarrowingStep) (s : NarrowingStep)
+    → narrowings_of (ss ++ s ∷ []) ≡ narrowings_of ss ++ s.narrowing ∷ []
 narrowings-more [] s = refl
 narrowings-more (t ∷ ss) s = ap (λ ns. t.narrowing ∷ ns) (narrowings-more ss s)
 
 -- the steps are kept with one more, and with one less
-kept-more : (dims : List Dim) (made : List Narrowing) (ss : List NarrowingStep) (s : NarrowingStep) → AreKept dims made ss
+kept-more : (dims : List Dim) (made : List Narrowing) (ss : List NarrowingStep) (s : NarrowingStep)
+    → AreKept dims made ss
     → IsKept dims (made ++ narrowings_of ss) s
     → AreKept dims made (ss ++ s ∷ [])
 kept-more dims made [] s kept last = (subst (λ (ns : List Narrowing). IsKept dims ns s) (append-nil made) last, tt)
@@ -150,7 +152,8 @@ kept-more dims made (t ∷ ss) s kept last = (
       (sym (append_assoc made (t.narrowing ∷ []) (narrowings_of ss))) last),
 )
 
-kept-less : (dims : List Dim) (made : List Narrowing) (ss : List NarrowingStep) (s : NarrowingStep) → AreKept dims made (ss ++ s ∷ [])
+kept-less : (dims : List Dim) (made : List Narrowing) (ss : List NarrowingStep) (s : NarrowingStep)
+    → AreKept dims made (ss ++ s ∷ [])
     → AreKept dims made ss × IsKept dims (made ++ narrowings_of ss) s
 kept-less dims made [] s kept = (tt, subst (λ (ns : List Narrowing). IsKept dims ns s) (sym (append-nil made)) kept.0)
 kept-less dims made (t ∷ ss) s kept =
@@ -160,7 +163,8 @@ kept-less dims made (t ∷ ss) s kept =
           (append_assoc made (t.narrowing ∷ []) (narrowings_of ss)) rest.1,
     )
 
-take-more : (ss : List NarrowingStep) (i : ℕ) (s : NarrowingStep) → slice_get ss i ≡ Some s → take (i + 1) ss ≡ take i ss ++ s ∷ []
+take-more : (ss : List NarrowingStep) (i : ℕ) (s : NarrowingStep) → slice_get ss i ≡ Some s
+    → take (i + 1) ss ≡ take i ss ++ s ∷ []
 take-more ss i s at = take_more ss i s (slice_get_within ss i s at)
     ∙ ap (λ x. take i ss ++ x ∷ []) (get_or_from_slice_get ss i s s at)
 
@@ -175,7 +179,8 @@ narrowings-made trail made s room = ap narrowings_of (take_more_set trail made s
     ∙ narrowings-more (take made trail) s
 
 -- a step more
-pub IsTrail-more : {dims : List Dim} {left : List Extent} {empty : Bool} {trail : List NarrowingStep} {made : ℕ} (s : NarrowingStep)
+pub IsTrail-more : {dims : List Dim} {left : List Extent} {empty : Bool} {trail : List NarrowingStep} {made : ℕ}
+    (s : NarrowingStep)
     → IsTrail dims left empty trail made
     → made < length trail → IsTrue (is_cut_at dims s.narrowing.dim s.narrowing.cut)
     → slice_get left s.narrowing.dim ≡ Some s.left → s.empty ≡ empty
@@ -206,11 +211,13 @@ IsTrail-more {dims} {left} {empty} {trail} {made} s is room kind at none =
     }
 
 -- what the last step of some kept
-last-kept : {dims : List Dim} {left : List Extent} {empty : Bool} {trail : List NarrowingStep} (made : ℕ) (s : NarrowingStep)
+last-kept : {dims : List Dim} {left : List Extent} {empty : Bool} {trail : List NarrowingStep} (made : ℕ)
+    (s : NarrowingStep)
     → IsTrail dims left empty trail (made + 1) → slice_get trail made ≡ Some s
     → AreKept dims [] (take made trail) × IsKept dims (narrowings_of (take made trail)) s
 last-kept {dims} {left} {empty} {trail} made s is at =
-    kept-less dims [] (take made trail) s (subst (λ (ss : List NarrowingStep). AreKept dims [] ss) (take-more trail made s at)
+    kept-less dims [] (take made trail) s (subst (λ (ss : List NarrowingStep). AreKept dims [] ss)
+    (take-more trail made s at)
     is.kept)
 
 pub narrowings-last : (trail : List NarrowingStep) (made : ℕ) (s : NarrowingStep) → slice_get trail made ≡ Some s
@@ -223,7 +230,8 @@ all-less : (dims : List Dim) (ns : List Narrowing) (n : Narrowing)
 all-less dims ns n h = grind (arith, list_all-append)
 
 -- a step less
-pub IsTrail-less : {dims : List Dim} {left : List Extent} {empty : Bool} {trail : List NarrowingStep} (made : ℕ) (s : NarrowingStep)
+pub IsTrail-less : {dims : List Dim} {left : List Extent} {empty : Bool} {trail : List NarrowingStep} (made : ℕ)
+    (s : NarrowingStep)
     → IsTrail dims left empty trail (made + 1) → slice_get trail made ≡ Some s
     → IsTrail dims (slice_set left s.narrowing.dim s.left) s.empty trail made
 IsTrail-less {dims} {left} {empty} {trail} made s is at =
@@ -250,7 +258,8 @@ IsTrail-less {dims} {left} {empty} {trail} made s is at =
     }
 
 -- the dimension of the last after_one is there
-pub last-within : {dims : List Dim} {left : List Extent} {empty : Bool} {trail : List NarrowingStep} (made : ℕ) (s : NarrowingStep)
+pub last-within : {dims : List Dim} {left : List Extent} {empty : Bool} {trail : List NarrowingStep} (made : ℕ)
+    (s : NarrowingStep)
     → IsTrail dims left empty trail (made + 1) → slice_get trail made ≡ Some s → s.narrowing.dim < length left
 last-within {dims} {left} {empty} {trail} made s is at =
     let last = last-kept made s is at in
@@ -264,7 +273,8 @@ length-narrowings [] = refl
 length-narrowings (t ∷ ss) = ap suc (length-narrowings ss)
 
 -- how many narrowings stand in a trail
-pub length-made : (trail : List NarrowingStep) (made : ℕ) → made ≤ length trail → length (narrowings_of (take made trail)) ≡ made
+pub length-made : (trail : List NarrowingStep) (made : ℕ) → made ≤ length trail
+    → length (narrowings_of (take made trail)) ≡ made
 length-made trail made fits = length-narrowings (take made trail) ∙ length-take-le made trail fits
 
 -- a narrowing that is undone leaves those before it
@@ -317,7 +327,8 @@ pub none-kept : {dims : List Dim} {left : List Extent} {empty : Bool} {trail : L
 unfolding admits_none
 none-kept room is = is.none ∙ ap (list_any is_none) is.leaves
 
-pub excludes-kept : {dims : List Dim} {left : List Extent} {empty : Bool} {trail : List NarrowingStep} {made : ℕ} (room i : ℕ)
+pub excludes-kept : {dims : List Dim} {left : List Extent} {empty : Bool} {trail : List NarrowingStep}
+    {made : ℕ} (room i : ℕ)
     (c : Cut) (so : Bool) (e : Extent)
     → IsTrail dims left empty trail made → slice_get left i ≡ Some e → empty ≡ false
     → is_none (narrowed e c so) ≡ excludes (record
@@ -328,7 +339,8 @@ excludes-kept {dims} {left} {empty} {trail} {made} room i c so e is at some =
     ∙ sym (excludes-more dims ns room i c so e (ap (λ (es : List Extent). slice_get es i) (sym is.leaves) ∙ at))
 
 -- what is decided, by what is kept
-pub decided-kept : {dims : List Dim} {left : List Extent} {empty : Bool} {trail : List NarrowingStep} {made : ℕ} (room i : ℕ)
+pub decided-kept : {dims : List Dim} {left : List Extent} {empty : Bool} {trail : List NarrowingStep}
+    {made : ℕ} (room i : ℕ)
     (c : Cut) (e : Extent)
     → IsTrail dims left empty trail made → slice_get left i ≡ Some e
     → decided_by empty e c ≡ decided_at (record
@@ -368,7 +380,8 @@ IsTrail-none dims left empty trail kinds is none =
             subst (λ (ss : List NarrowingStep). IsTrue (list_all (λ m. is_cut_at dims m.dim m.cut) (narrowings_of ss)))
             (take-none trail) refl;
       };
-      leaves = is ∙ lefts-none 0 dims ∙ ap (λ (ss : List NarrowingStep). lefts 0 dims (narrowings_of ss)) (take-none trail);
+      leaves = is ∙ lefts-none 0 dims ∙ ap (λ (ss : List NarrowingStep). lefts 0 dims (narrowings_of ss))
+          (take-none trail);
       none = none;
       kept = subst (λ (ss : List NarrowingStep). AreKept dims [] ss) (take-none trail) tt;
     }

@@ -16,7 +16,8 @@ use Rattle.cat_scope.specs.Projections.{truth, integer, decimal, money, date, du
 use Rattle.cat_scalar.specs.declared.scalar.Scalar.{Scalar}
 use Rattle.cat_scalar.specs.declared.scalar.Scalar.TheVariants as scalar
 use Rattle.cat_scalar.specs.declared.scalar.NoResult.{NoResult}
-use Rattle.cat_scalar.specs.Scalars.{scalar_in, scalar_of, truth_of, integer_of, decimal_of, money_of, date_of, duration_of}
+use Rattle.cat_scalar.specs.Scalars.{scalar_in, scalar_of, truth_of, integer_of, decimal_of, money_of, date_of}
+use Rattle.cat_scalar.specs.Scalars.{duration_of}
 
 -- what is there, or else stuck
 abbrev pub or_stuck : {A : Type 0} → Result A NoResult → Result A Stop

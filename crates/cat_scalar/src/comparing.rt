@@ -14,7 +14,8 @@ use std::cmp::Ordering;
 #[inline(always)]
 #[tactic(auto, using(crate::proofs::Projecting::projections))]
 pub(crate) fn compared(left: Scalar, right: Scalar) -> Result<Ordering, NoResult>
-    ensures { (p : At) (v w : Valued) → scalar_of v ≡ left → scalar_of w ≡ right → with_position p result ≡ compared p v w }
+    ensures { (p : At) (v w : Valued) → scalar_of v ≡ left → scalar_of w ≡ right
+        → with_position p result ≡ compared p v w }
 {
     match left {
         Scalar::Integer(whole) => Ok(whole.cmp(right.integer()?)),
@@ -34,7 +35,8 @@ pub(crate) fn compared(left: Scalar, right: Scalar) -> Result<Ordering, NoResult
 #[inline(always)]
 #[tactic(auto, using(crate::proofs::Projecting::projections))]
 pub(crate) fn equal(left: Scalar, right: Scalar) -> Result<bool, NoResult>
-    ensures { (p : At) (v w : Valued) → scalar_of v ≡ left → scalar_of w ≡ right → with_position p result ≡ equal p v w }
+    ensures { (p : At) (v w : Valued) → scalar_of v ≡ left → scalar_of w ≡ right
+        → with_position p result ≡ equal p v w }
 {
     match left {
         Scalar::Boolean(truth) => Ok(truth == right.truth()?),

@@ -8,7 +8,8 @@ pub use Rattle.cat_sound.proofs.Endings.{ends_as, ends_choose, ends_then}
 pub use Rattle.cat_sound.proofs.FormTypes.{same_some}
 pub use Rattle.cat_sound.proofs.TargetTypes.{DefEnds, groups-all, defs-all, judge_target-ends}
 pub use Rattle.cat_sound.proofs.TargetTypes.{all_at, all_more, or_else-ends, settle-ends}
-pub use Rattle.cat_sound.proofs.ScopeParts.{DoneAt, IsDone, IsSound, JudgingEnds, callable, called_is, names_of, not_both}
+pub use Rattle.cat_sound.proofs.ScopeParts.{DoneAt, IsDone, IsSound, JudgingEnds, callable, called_is, names_of}
+pub use Rattle.cat_sound.proofs.ScopeParts.{not_both}
 pub use Rattle.cat_sound.proofs.ScopeParts.{inner_target, same_called, stands_end}
 pub use Rattle.cat_sound.proofs.ScopeParts.{target_of, unique_target}
 pub use Rattle.cat_sound.proofs.InputTypes.{Callee, Placed, function_defined, not_given}

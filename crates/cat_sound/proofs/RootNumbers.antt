@@ -1,4 +1,5 @@
--- The definitions of a target stand at their numbers, and its roots are the groups whose first definitions are no exceptions.
+-- The definitions of a target stand at their numbers, and its roots are the groups whose first definitions are no
+-- exceptions.
 use Rattle.std.proofs.Common.{◌≡◌, ℕ, zero, suc, ◌+◌, Bool, true, false, List, [], ◌∷◌, Some, slice_get, refl, ap, ◌∙◌}
 use Rattle.std.proofs.Common.{sym, arith, if◌then◌else◌, true≢false}
 use Rattle.std.specs.Option.{is_some}
@@ -66,6 +67,8 @@ roots_same defs pairs n (g ∷ gs) firsts all =
     (roots_same defs pairs (n + 1) gs firsts.1 all.1)
 
 pub roots_are : (defs : List Def) (target : Target)
-    → root_numbers defs 0 (forest_of_groups (groups_of (defs_from target 0 defs))) ≡ roots_of (groups_of (defs_from target 0 defs))
-roots_are defs target = roots_same defs (excepts (groups_of (defs_from target 0 defs))) 0 (groups_of (defs_from target 0 defs))
+    → root_numbers defs 0 (forest_of_groups (groups_of (defs_from target 0 defs)))
+    ≡ roots_of (groups_of (defs_from target 0 defs))
+roots_are defs target = roots_same defs (excepts (groups_of (defs_from target 0 defs))) 0
+    (groups_of (defs_from target 0 defs))
     (are_as_their_first (defs_from target 0 defs)) (numbered_groups defs target)

@@ -1,7 +1,8 @@
 // What the words of the command line ask for.
 ghost use Rattle.std.specs.Prelude.{◌≡◌, ◌≤◌, IfOk, IfSome, map, option_map, string_bytes, codes};
 ghost use Rattle.clap.specs.Words.{found_of, matches_of, one_of, rows_of};
-ghost use Rattle.cat_words.specs.Asked.{all_found, asked_of, asked_by, found_in, most_asked, text_in, IsCases, SpellsCases};
+ghost use Rattle.cat_words.specs.Asked.{all_found, asked_of, asked_by, found_in, most_asked, text_in, IsCases};
+ghost use Rattle.cat_words.specs.Asked.{SpellsCases};
 ghost use Rattle.cat_words.specs.TheCommand.{the_command};
 
 use crate::command::command;

@@ -89,7 +89,8 @@ MayTell asked old new reply =
 
 -- where the last verdict is this one and Complete, the trees of a report are closed ones
 abbrev pub HasClosedTrees : Verdict → Report → Type 0
-HasClosedTrees v report = v ≡ verdict.Complete → (most : ℕ) × AreClosedTrees most (targets_in report.tables) report.trees
+HasClosedTrees v report = v ≡ verdict.Complete
+    → (most : ℕ) × AreClosedTrees most (targets_in report.tables) report.trees
 
 -- a reply tells why a certificate is refused
 abbrev pub SaysCertificate : CertRefusal → Reply → Type 0

@@ -313,7 +313,8 @@ loops::emit_sum-returns-clause-grown t c =
     (closed_ok _ _ _ _ _ _ _ _ _ c.close_loop.ensures c.in_ok-start.ensures.place c.in_ok-start.ensures.grown
     c.in_ok-put_adding.ensures)))
 
-pub rows::emit_list-returns-in_ok-emit_elements-in-len1-up-clause-grown : goal.rows::emit_list-returns-in_ok-emit_elements-in-len1-up-clause-grown
+pub rows::emit_list-returns-in_ok-emit_elements-in-len1-up-clause-grown :
+    goal.rows::emit_list-returns-in_ok-emit_elements-in-len1-up-clause-grown
 rows::emit_list-returns-in_ok-emit_elements-in-len1-up-clause-grown t c =
     let here = standing_at c.args.here.now in
     let told : option_copied c.as_ref.result ≡ element_expected (option_copied c.args.expected) = search rules in

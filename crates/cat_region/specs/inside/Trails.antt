@@ -32,7 +32,8 @@ AreKept dims made [] = Unit {0}
 AreKept dims made (s ∷ ss) = IsKept dims made s × AreKept dims (made ++ s.narrowing ∷ []) ss
 
 -- the first steps of a trail are those made; each dimension has left what their narrowings leave
-pub record IsTrail (dims : List Dim) (left : List Extent) (empty : Bool) (trail : List NarrowingStep) (made : ℕ) : Type 0 where
+pub record IsTrail (dims : List Dim) (left : List Extent) (empty : Bool) (trail : List NarrowingStep)
+    (made : ℕ) : Type 0 where
   pub fits : made ≤ length trail
   pub sound : IsRegion (seen dims trail made)
   pub leaves : left ≡ lefts 0 dims (narrowings_of (take made trail))

@@ -21,7 +21,8 @@ returns-clause-text c =
     if_ok c.report_text.result c.report_text.ensures.text (λ text is.
     is ∙ (ap (λ (ds : Decls). report_text ds c.args.source.now.files c.from.result c.as_slice-sections.result.now)
     c.decls-decls.ensures
-    ∙ (ap (λ n. report_text c.args.built.now.program.decls c.args.source.now.files n c.as_slice-sections.result.now) same
+    ∙ (ap (λ n. report_text c.args.built.now.program.decls c.args.source.now.files n
+    c.as_slice-sections.result.now) same
     ∙ ap (λ (ss : List Section). report_text c.args.built.now.program.decls c.args.source.now.files c.args.most ss)
     c.as_slice-sections.ensures)))
 

@@ -18,7 +18,8 @@ pub image_reply-requires : goal.image_reply-requires
 image_reply-requires g c =
     let bytes : c.deref.result.now ≡ c.in-Ok.bytes.items = cc (c.deref.ensures.value) in record {
       bytes = c.in-Ok.bytes.items;
-      listing_read = subst (λ (s : Shelved). Gives (s.content c.args.asked.file.now) most_input_bytes c.in-Ok.bytes.items)
+      listing_read = subst (λ (s : Shelved). Gives (s.content c.args.asked.file.now) most_input_bytes
+          c.in-Ok.bytes.items)
           (sym c.in-Ok.ensures.0) c.in-Ok.ensures.1;
       image_is = subst (λ (b : List ℕ). IsImage b c.in-Ok-read_listing.image.tables
           c.in-Ok-read_listing.image.instructions) bytes c.in-Ok-read_listing.ensures.read;

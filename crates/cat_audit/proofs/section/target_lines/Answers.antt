@@ -34,7 +34,8 @@ loop-number-preserved c =
     c.in_ok-push.ensures.ok ∙ ap (λ (l : NamedLine). c.loop-number.lines ++ l ∷ []) named in
     let next = one_line program table budget (take i table.targets) c.args.trees.now c.loop-number.trees
     c.loop-number.lines c.loop-number.invariant.lines t m line cause in
-    let lines = subst (λ (ts : List TableTarget). AreLinesTo program table budget ts c.args.trees.now c.push-in-loop-number.new.self
+    let lines = subst (λ (ts : List TableTarget). AreLinesTo program table budget ts c.args.trees.now
+    c.push-in-loop-number.new.self
     c.push.new.self) (sym (ap (λ (k : ℕ). take k table.targets) (add-one i) ∙ take_next table.targets i t at))
     (subst (λ (cs : List CaseTree). AreLinesTo program table budget (take i table.targets ++ t ∷ []) c.args.trees.now cs
     c.push.new.self) (sym c.in_ok-push-2.ensures.ok)

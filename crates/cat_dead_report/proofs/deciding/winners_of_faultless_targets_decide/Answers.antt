@@ -12,8 +12,8 @@ returns c region p is_region dims some of_free =
     let table = c.args.table.now in
     let valid = subst (λ (xs : List Dim). IsValuation xs (point_at region)) dims
     (Admits-point_at region is_region some).valuation in
-    winners_decide program c.programs_are_well_formed.ensures table c.requires c.judgings_of_regions_hold.ensures region p
-    is_region dims some of_free
-    (λ env arguments i term given at free. c.free_terms_have_their_points.ensures table.scope table region env arguments i
-    term c.requires is_region dims some given at free)
+    winners_decide program c.programs_are_well_formed.ensures table c.requires
+    c.judgings_of_regions_hold.ensures region p is_region dims some of_free
+    (λ env arguments i term given at free. c.free_terms_have_their_points.ensures table.scope table region
+    env arguments i term c.requires is_region dims some given at free)
     (c.inputs_of_valuations_are_well_typed.ensures table.scope table (point_at region) c.requires valid)

@@ -74,7 +74,8 @@ past_target-front-requires-clause-passed c faultless covered =
     ap (λ (ts : List TableTarget). slice_get ts i) (sym c.as_slice-target-items.ensures)
     ∙ slice_get_read items (length items) i t refl c.loop-number-test.true c.target-item.is in
     all_at (λ (u : TableTarget). IsFaultless program table.scope front u → IsCoveredByEach table u
-    → IsReached program table.scope (front + 1)) table.targets i t (c.runs_go_on_behind_covered_targets.ensures front) at
+    → IsReached program table.scope (front + 1)) table.targets i t
+    (c.runs_go_on_behind_covered_targets.ensures front) at
     (c.is_faultless-faultless.ensures faultless) (c.in_ok-found.ensures.covered covered)
 
 pub target_lines-requires-clause-scene : goal.target_lines-requires-clause-scene

@@ -41,4 +41,5 @@ returns-clause-covered c is =
     let closed = some_at (slice_get table.targets here.number) t
     (λ (u : TableTarget). IsClosedSearch table.terms table.atoms u s) c.requires.scene.target
     c.in_ok-search.ensures.closed in
-    covered_by table t s closed (sym c.tree_in-tree.ensures.covered ∙ is) c.closed_trees_cover_each_valuation.ensures.nodes
+    covered_by table t s closed (sym c.tree_in-tree.ensures.covered ∙ is)
+    c.closed_trees_cover_each_valuation.ensures.nodes

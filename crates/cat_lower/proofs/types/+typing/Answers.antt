@@ -23,11 +23,13 @@ type_of-returns-in-Or-clause-ty t c = told_Or _ _ _ _ _ _ _ c.in-Or.is
 pub type_of-returns-in-IsCase-clause-ty : goal.type_of-returns-in-IsCase-clause-ty
 type_of-returns-in-IsCase-clause-ty t c = told_IsCase _ _ _ _ _ _ _ _ c.in-IsCase.is
 
-pub type_of-returns-in-Case-default-default-default-None-clause-ty : goal.type_of-returns-in-Case-default-default-default-None-clause-ty
+pub type_of-returns-in-Case-default-default-default-None-clause-ty :
+    goal.type_of-returns-in-Case-default-default-default-None-clause-ty
 type_of-returns-in-Case-default-default-default-None-clause-ty t c =
     told_Case _ _ _ _ _ _ _ _ c.in-Case-default-default-default-None.is
 
-pub type_of-returns-in-Case-default-default-default-Some-clause-ty : goal.type_of-returns-in-Case-default-default-default-Some-clause-ty
+pub type_of-returns-in-Case-default-default-default-Some-clause-ty :
+    goal.type_of-returns-in-Case-default-default-default-Some-clause-ty
 type_of-returns-in-Case-default-default-default-Some-clause-ty t c =
     told_Case _ _ _ _ _ _ _ _ c.in-Case-default-default-default-Some.is
 

@@ -44,7 +44,8 @@ left_by-returns-in-List t c =
     (node_counts (seen_at c.args.pool.now (in_range (kept_parts c.args.pool.now) c.in-List.refs)))
     (value_in c.args.pool.now c.look.result.now) c.look.ensures.value
     (ap (λ (n : PoolNode). node_count (value_in c.args.pool.now n)) c.in-List.is ∙ count_List _)
-    (c.left_by_all.ensures ∙ ap (λ (rs : List ℕ). c.args.left - 1 - node_counts (seen_at c.args.pool.now rs)) c.parts.ensures.parts)
+    (c.left_by_all.ensures ∙ ap (λ (rs : List ℕ). c.args.left - 1 - node_counts (seen_at c.args.pool.now rs))
+    c.parts.ensures.parts)
 
 pub left_by-returns-in-Structure : goal.left_by-returns-in-Structure
 left_by-returns-in-Structure t c =
@@ -52,7 +53,8 @@ left_by-returns-in-Structure t c =
     (node_counts (seen_at c.args.pool.now (in_range (kept_parts c.args.pool.now) c.in-Structure.refs)))
     (value_in c.args.pool.now c.look.result.now) c.look.ensures.value
     (ap (λ (n : PoolNode). node_count (value_in c.args.pool.now n)) c.in-Structure.is ∙ count_Structure _)
-    (c.left_by_all-in-Structure.ensures ∙ ap (λ (rs : List ℕ). c.args.left - 1 - node_counts (seen_at c.args.pool.now rs)) c.parts-in-Structure.ensures.parts)
+    (c.left_by_all-in-Structure.ensures ∙ ap (λ (rs : List ℕ). c.args.left - 1 - node_counts
+    (seen_at c.args.pool.now rs)) c.parts-in-Structure.ensures.parts)
 
 pub left_by_all-left_by-left-requires : goal.left_by_all-left_by-left-requires
 left_by_all-left_by-left-requires t c =

@@ -6,5 +6,6 @@ use Rattle.cat_pool.proofs.pool.Pool.mark.Goals as goal
 pub returns : goal.returns
 returns c =
     mark-seen c.self.inside.parts.items c.self.inside.nodes.items _ _ c.self.invariant
-    (omega (arith, c.len-nodes.ensures, c.self.inside.nodes.ok.0)) (omega (arith, c.len-parts.ensures, c.self.inside.parts.ok.0))
+    (omega (arith, c.len-nodes.ensures, c.self.inside.nodes.ok.0))
+    (omega (arith, c.len-parts.ensures, c.self.inside.parts.ok.0))
     ∙ ap mark_of c.self.view_is

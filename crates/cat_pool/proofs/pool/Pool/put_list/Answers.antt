@@ -23,7 +23,8 @@ returns-clause-place c =
 pub returns-clause-ok : goal.returns-clause-ok
 returns-clause-ok c =
     subst (λ (l : List Standing). OnOk c.lay.result
-    (seen c.lay.new.kept.items [] c.lay.new.nodes.items ≡ l ++ whole_of compound.List l c.args.parts.now ∷ [])) c.self.view_is
+    (seen c.lay.new.kept.items [] c.lay.new.nodes.items ≡ l ++ whole_of compound.List l c.args.parts.now ∷ []))
+    c.self.view_is
     (seen_laid compound.List c.self.inside.parts.items c.args.parts.now c.lay.new.kept.items c.self.inside.nodes.items
     c.lay.new.nodes.items c.self.invariant
     (subst (λ (l : List Standing). AreBelow (length l) c.args.parts.now) (sym c.self.view_is) c.requires)

@@ -7,7 +7,8 @@ use Rattle.cat_pool.proofs.pool.Pool.put_structure.Goals as goal
 
 pub invariant_of-self : goal.invariant_of-self
 invariant_of-self c =
-    pool_laid compound.Structure c.self.inside.parts.items c.args.parts.now c.lay.new.kept.items c.self.inside.nodes.items
+    pool_laid compound.Structure c.self.inside.parts.items c.args.parts.now c.lay.new.kept.items
+    c.self.inside.nodes.items
     c.lay.new.nodes.items c.self.invariant
     (subst (λ (l : List Standing). AreBelow (length l) c.args.parts.now) (sym c.self.view_is) c.requires)
     c.lay.result c.lay.ensures.places c.lay.ensures.fits c.lay.ensures.nodes c.lay.ensures.kept c.lay.ensures.err
@@ -15,7 +16,8 @@ invariant_of-self c =
 pub returns-clause-place : goal.returns-clause-place
 returns-clause-place c =
     subst (λ (l : List Standing). IfOk c.lay.result (λ r. r ≡ length l)) c.self.view_is
-    (place_laid compound.Structure c.self.inside.parts.items c.args.parts.now c.lay.new.kept.items c.self.inside.nodes.items
+    (place_laid compound.Structure c.self.inside.parts.items c.args.parts.now c.lay.new.kept.items
+    c.self.inside.nodes.items
     c.lay.new.nodes.items c.self.invariant
     (subst (λ (l : List Standing). AreBelow (length l) c.args.parts.now) (sym c.self.view_is) c.requires)
     c.lay.result c.lay.ensures.place)
@@ -23,8 +25,10 @@ returns-clause-place c =
 pub returns-clause-ok : goal.returns-clause-ok
 returns-clause-ok c =
     subst (λ (l : List Standing). OnOk c.lay.result
-    (seen c.lay.new.kept.items [] c.lay.new.nodes.items ≡ l ++ whole_of compound.Structure l c.args.parts.now ∷ [])) c.self.view_is
-    (seen_laid compound.Structure c.self.inside.parts.items c.args.parts.now c.lay.new.kept.items c.self.inside.nodes.items
+    (seen c.lay.new.kept.items [] c.lay.new.nodes.items ≡ l ++ whole_of compound.Structure l c.args.parts.now ∷ []))
+    c.self.view_is
+    (seen_laid compound.Structure c.self.inside.parts.items c.args.parts.now c.lay.new.kept.items
+    c.self.inside.nodes.items
     c.lay.new.nodes.items c.self.invariant
     (subst (λ (l : List Standing). AreBelow (length l) c.args.parts.now) (sym c.self.view_is) c.requires)
     c.lay.result c.lay.ensures.nodes c.lay.ensures.kept)

@@ -8,7 +8,8 @@ use Rattle.cat_region.proofs.TrailLemmas.{IsTrail-less, last-within, narrowings-
 use Rattle.cat_region.proofs.region.Region.restore.Goals as goal
 
 -- a narrowing was made
-some_made : {dims : List Dim} {left : List Extent} {empty : Bool} {trail : List NarrowingStep} {made : ℕ} (region : Constraints)
+some_made : {dims : List Dim} {left : List Extent} {empty : Bool} {trail : List NarrowingStep} {made : ℕ}
+    (region : Constraints)
     → IsTrail dims left empty trail made
     → record { dims = dims; narrowings = narrowings_of (take made trail); room = length trail - made } ≡ region
     → 0 < length region.narrowings
@@ -18,7 +19,8 @@ some_made {dims} {left} {empty} {trail} {made} region is view some =
     let count = sym (ap (λ r. length r.narrowings) view) ∙ length-made trail made fits in
     omega arith
 
-one_less : {dims : List Dim} {left : List Extent} {empty : Bool} {trail : List NarrowingStep} {made : ℕ} (region : Constraints)
+one_less : {dims : List Dim} {left : List Extent} {empty : Bool} {trail : List NarrowingStep} {made : ℕ}
+    (region : Constraints)
     → IsTrail dims left empty trail made
     → record { dims = dims; narrowings = narrowings_of (take made trail); room = length trail - made } ≡ region
     → 0 < length region.narrowings
