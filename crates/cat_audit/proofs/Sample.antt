@@ -10,10 +10,8 @@ use Rattle.cat_value.specs.declared.declaration.ItemDecl.{ItemDecl}
 use Rattle.cat_value.specs.declared.declaration.Scope.{Scope}
 use Rattle.cat_value.specs.declared.ty.Ty.TheVariants as flat
 use Rattle.cat_value.specs.declared.ty.Ty.TheViews as ty
-use Rattle.cat_value.specs.Declarations.{are_sound, is_sound}
+use Rattle.cat_value.specs.Declarations.{are_sound}
 use Rattle.cat_value.specs.Dependencies.{are_ordered}
-use Rattle.cat_value.specs.Heights.{height_to}
-use Rattle.cat_value.proofs.Exported.{declared}
 use Rattle.cat_scope.specs.declared.defs.Body.{Body}
 use Rattle.cat_scope.specs.declared.defs.Except.TheVariants as except
 use Rattle.cat_scope.specs.declared.programs.Program.{Program}
@@ -30,6 +28,7 @@ use Rattle.cat_scope.specs.Naming.{IsTargetAt}
 use Rattle.cat_scope.specs.Orders.{function_calls, item_dependencies, scope_dependencies}
 use Rattle.cat_scope.specs.WellFormed.{DefTyped, IsBodyOf, IsWellFormed}
 use Rattle.cat_scope.proofs.Exported.{namings, placings}
+use Rattle.cat_sound.proofs.Exported.{boolean_is_sound, integer_is_sound}
 use Rattle.cat_scope.proofs.Samples.{at, body, def, n, scope_of, truth_item, whole, x, x_out}
 
 -- `input n content boolean`
@@ -57,14 +56,6 @@ defs = one ∷ two ∷ []
 
 abbrev pub the_body : Body
 the_body = body defs (0 ∷ 1 ∷ [])
-
-boolean_is_sound : is_sound [] [] flat.Boolean ≡ true
-unfolding height_to
-boolean_is_sound = search (rules, ty.the_lemmas, declared)
-
-integer_is_sound : is_sound [] [] flat.Integer ≡ true
-unfolding height_to
-integer_is_sound = search (rules, ty.the_lemmas, declared)
 
 pub all_sound : IsTrue (are_sound [] [] scopes)
 unfolding are_sound are_ordered order_of

@@ -1,5 +1,5 @@
 -- What crates above may cite by path: rewriting, which no clause of a call can give.
-pub use Rattle.cat_audit_sound.proofs.PartEquations.{height_positive, fields_lower, part_Structure, part_other}
+pub use Rattle.cat_audit_sound.proofs.PartEquations.{part_Structure, part_other}
 pub use Rattle.cat_audit_sound.proofs.AskedTypes.{IsAskedOf}
 pub use Rattle.cat_audit_sound.proofs.AtomAnswers.{IsOfDef, targets_all}
 pub use Rattle.cat_audit_sound.proofs.AtomAnswers.{params_agree, any_values_length, append_nil, alike_points}

@@ -15,6 +15,7 @@ use Rattle.cat_value.specs.Declarations.{highest}
 use Rattle.cat_value.specs.Entries.{fields_in}
 use Rattle.cat_value.specs.Heights.{height_to, highest_field}
 use Rattle.cat_value.specs.Inputs.{must_be_given}
+use Rattle.cat_value.proofs.Exported.{height_positive, fields_lower}
 use Rattle.cat_scope.specs.declared.expr.Expr.{Expr}
 use Rattle.cat_scope.specs.declared.expr.Expr.TheOpen.{Expr-F}
 use Rattle.cat_scope.specs.declared.expr.Expr.TheFolds.{fold_out-Expr, map-Expr, fold-Arm, fold-FieldValue}
@@ -37,7 +38,7 @@ use Rattle.cat_guard.specs.declared.table.InputPath.{InputPath}
 use Rattle.cat_guard.specs.Terms.{path_of, path_in, input_path, field_path}
 use Rattle.cat_region.specs.declared.point.Point.{Point}
 use Rattle.cat_audit_sound.specs.PointInputs.{part_to, variable, field_of, fields_from, given_for, given_from}
-use Rattle.cat_audit_sound.proofs.PartEquations.{height_positive, fields_lower, part_Structure}
+use Rattle.cat_audit_sound.proofs.PartEquations.{part_Structure}
 use Rattle.cat_audit_sound.specs.Shown.{AreGiven}
 use Rattle.cat_audit_sound.proofs.PointedValues.{same_some, none_some}
 

@@ -4,9 +4,9 @@ use Rattle.std.proofs.Common.{Result, Ok, Err, slice_get, zero, suc, refl, sym, 
 use Rattle.std.specs.Prelude.{IfOk, nat_eq}
 use Rattle.std.proofs.lemmas.Bool.Decides.{nat_tests}
 use Rattle.cat_scope.specs.declared.stop.Stop.{Stop}
-use Rattle.cat_scope.specs.Runs.{Decider, Run, behind, and_then}
 use Rattle.cat_sound.specs.Endings.{Allowed, Ended}
 pub use Rattle.cat_sound.proofs.Results.{both, and_both}
+pub use Rattle.cat_sound.proofs.Exported.{IfGives, if_then}
 
 pub not_true : {A : Type 0} → IsTrue false → A
 not_true h = absurd (true≢false (sym h))
@@ -19,19 +19,6 @@ pub found : {A : Type 0} (xs : List A) (k : ℕ) → k < length xs → (x : A) �
 found [] k below = absurd (omega arith)
 found (x ∷ xs) zero below = (x, refl)
 found (x ∷ xs) (suc k) below = found xs k (omega arith)
-
--- the value of a run has a property, where it ends in one
-abbrev pub IfGives : {A : Type 0} → Run A → (A → Type 0) → Type 0
-IfGives run P = IfOk run.end P
-
-if_behind : {A B : Type 0} (P : A → Type 0) (Q : B → Type 0) (log : List Decider) (r : Result A Stop) (next : A → Run B)
-    → IfOk r P → ((a : A) → P a → IfGives (next a) Q) → IfGives (behind log r next) Q
-if_behind P Q log (Ok a) next h go = go a h
-if_behind P Q log (Err stop) next h go = tt
-
-pub if_then : {A B : Type 0} (P : A → Type 0) (Q : B → Type 0) (run : Run A) (next : A → Run B) → IfGives run P
-    → ((a : A) → P a → IfGives (next a) Q) → IfGives (and_then run next) Q
-if_then P Q run next h go = if_behind P Q run.log run.end next h go
 
 pub if_more : {A : Type 0} (P Q : A → Type 0) (r : Result A Stop) → IfOk r P → ((a : A) → P a → Q a) → IfOk r Q
 if_more P Q (Ok a) h go = go a h

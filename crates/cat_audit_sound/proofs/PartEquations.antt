@@ -1,31 +1,17 @@
 -- What a part of an input is, by the form of its type, and that its parts are lower.
-use Rattle.std.proofs.Common.{◌≡◌, ℕ, zero, suc, ◌-◌, ◌<◌, ◌≤◌, Option, Some, slice_get, arith, refl, ◌∙◌}
-use Rattle.std.proofs.Common.{sub-one, List}
+use Rattle.std.proofs.Common.{◌≡◌, ℕ, zero, suc, ◌-◌, ◌<◌, Option, Some, slice_get, arith, refl, ◌∙◌, sub-one}
 use Rattle.cat_value.specs.declared.decls.Decls.{Decls}
 use Rattle.cat_value.specs.declared.declaration.Structure.{Structure}
-use Rattle.cat_value.specs.declared.declaration.Enumeration.{Enumeration}
 use Rattle.cat_value.specs.declared.ty.Ty.{Ty}
 use Rattle.cat_value.specs.declared.ty.Ty.TheOpen.{Ty-F}
 use Rattle.cat_value.specs.declared.ty.Ty.TheVariants as flat_ty
 use Rattle.cat_value.specs.declared.ty.Ty.TheViews as ty
 use Rattle.cat_value.specs.declared.ty.Ty.TheViews.{out-Ty}
 use Rattle.cat_value.specs.declared.value.Value.TheViews as value
-use Rattle.cat_value.specs.Heights.{height_to, highest_field}
-use Rattle.cat_value.proofs.Exported.{height_Structure, whole, fields_declared, structure_there}
+use Rattle.cat_value.proofs.Exported.{fields_declared, fields_lower, height_positive, structure_there, whole}
 use Rattle.cat_region.specs.declared.point.Point.{Point}
 use Rattle.cat_guard.specs.declared.table.InputPath.{InputPath}
 use Rattle.cat_audit_sound.specs.PointInputs.{part_to, part_in, fields_from, with_point}
-
-pub height_positive : (ss : List Structure) (es : List Enumeration) (k : ℕ) (t : Ty) → 0 < height_to ss es k t
-unfolding height_to
-height_positive ss es zero t = omega arith
-height_positive ss es (suc k) t = omega arith
-
-pub fields_lower : (ss : List Structure) (es : List Enumeration) (k n : ℕ) (s : Structure)
-    → height_to ss es k (flat_ty.Structure n) ≤ k → slice_get ss n ≡ Some s
-    → highest_field (height_to ss es (k - 1)) s.fields ≤ k - 1
-fields_lower ss es zero n s h e = absurd (omega (arith, height_positive ss es zero (flat_ty.Structure n)))
-fields_lower ss es (suc k) n s h e = rw sub-one (omega (arith, height_Structure ss es k n s e))
 
 module _ (ds : Decls) (points : InputPath → Option Point) (path : InputPath) where
   part_step : (k : ℕ) (t : Ty) → 0 < k

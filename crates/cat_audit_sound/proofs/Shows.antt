@@ -14,6 +14,7 @@ use Rattle.cat_value.specs.declared.ty.Ty.TheViews.{out-Ty}
 use Rattle.cat_value.specs.declared.value.Value.{Value}
 use Rattle.cat_value.specs.Declarations.{highest}
 use Rattle.cat_value.specs.Heights.{height_to}
+use Rattle.cat_value.proofs.Exported.{height_positive}
 use Rattle.cat_region.specs.declared.dim.Dim.{Dim}
 use Rattle.cat_region.specs.declared.point.Point.{Point}
 use Rattle.cat_region.specs.Chosen.{point_at}
@@ -44,7 +45,7 @@ use Rattle.cat_audit_sound.proofs.Numbered.{all_at}
 use Rattle.cat_audit_sound.proofs.AuditLaws.{body_is}
 use Rattle.cat_audit_sound.specs.PointInputs.{part_to, point_from, with_point, or_default, given_from}
 use Rattle.cat_audit_sound.specs.PointInputs.{input_at}
-use Rattle.cat_audit_sound.proofs.PartEquations.{height_positive, part_other}
+use Rattle.cat_audit_sound.proofs.PartEquations.{part_other}
 use Rattle.cat_audit_sound.specs.Shown.{AreGiven, IsFree, IsSeenAs}
 use Rattle.cat_audit_sound.proofs.PointedValues.{same_some, none_some, pointed, first_point}
 use Rattle.cat_audit_sound.proofs.FreeValues.{reads}

@@ -31,6 +31,7 @@ use Rattle.cat_value.specs.Inputs.{must_be_given, may_be_given, is_given_for, ar
 use Rattle.cat_value.specs.Laws.{AreSound, IsItem}
 use Rattle.cat_value.specs.Typing.{content_has_type, has_type, is_type, fields_have_types}
 use Rattle.cat_value.proofs.Exported.{content_declared, fields_declared, found, has_type_Boolean, has_type_Case}
+use Rattle.cat_value.proofs.Exported.{height_positive, fields_lower}
 use Rattle.cat_value.proofs.Exported.{has_type_Date, has_type_Decimal, has_type_Integer, has_type_Money}
 use Rattle.cat_value.proofs.Exported.{has_type_Structure, structure_there, whole}
 use Rattle.cat_region.specs.declared.dim.Dim.{Dim}
@@ -46,7 +47,7 @@ use Rattle.cat_guard.specs.declared.table.Term.{Term}
 use Rattle.cat_guard.specs.Valuations.{dims_of}
 use Rattle.cat_audit_sound.specs.PointInputs.{is_at, point_from, variable, field_of, case_with, value_at, or_default}
 use Rattle.cat_audit_sound.specs.PointInputs.{with_point, fields_from, part_to, given_for, given_from, input_at}
-use Rattle.cat_audit_sound.proofs.PartEquations.{height_positive, fields_lower, part_Structure, part_other}
+use Rattle.cat_audit_sound.proofs.PartEquations.{part_Structure, part_other}
 use Rattle.cat_sound.proofs.Exported.{same_some}
 use Rattle.cat_audit_sound.proofs.Gives.{and_both, not_true}
 use Rattle.cat_audit_sound.proofs.StandingDefs.{given_typed}

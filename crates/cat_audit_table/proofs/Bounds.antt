@@ -9,9 +9,9 @@ use Rattle.std.proofs.Math.Nat.{mul-div_cancel', mul-mod_right, lt_of_mul-lt-mul
 use Rattle.cat_num.specs.Whole.{largest}
 use Rattle.cat_num.specs.Frac.{Fraction, gcd, is_reduced, frac_negation}
 use Rattle.cat_num.specs.Numerals.{Numeral, is_numeral, numeral_value}
-use Rattle.cat_num.proofs.Exported.{lowest_parts, value_reduced}
+use Rattle.cat_num.proofs.Exported.{gcd_is, lowest_parts, value_reduced}
 use Rattle.cat_region.specs.Points.{is_bound}
-use Rattle.cat_region.proofs.Exported.{le_is, eq_is, and-both, gcd_is, reduced_test}
+use Rattle.cat_region.proofs.Exported.{le_is, eq_is, and-both, reduced_test}
 
 -- what has at most nine places and nine digits in front of them, in lowest terms
 divides : (places g den : ℕ) → places ≤ 9 → g * den ≡ 10 ^ places → 1_000_000_000 % den ≡ 0

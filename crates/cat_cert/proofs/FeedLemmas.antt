@@ -7,8 +7,7 @@ use Rattle.std.proofs.lemmas.List.{drop-drop}
 use Rattle.std.specs.List.{prefix_len}
 use Rattle.std.proofs.lemmas.Bool.Decides.{nat_tests}
 use Rattle.std.proofs.lemmas.List.Sums.{prefix_len-drop_yes, prefix_len-drop_no, prefix_len-drop_all}
-use Rattle.cat_cert.specs.Texts.{parted, byte_before, is_first, passed_over, lines_read}
-use Rattle.cat_cert.specs.inside.Feeds.{is_other}
+use Rattle.cat_cert.specs.Texts.{parted, byte_before, is_first, is_other, passed_over, lines_read}
 
 pub feed_later : (bytes : List ℕ) (i : ℕ) → i < length bytes → get_or bytes i 0 ≢ 10
     → i + prefix_len is_other (drop i bytes) ≡ (i + 1) + prefix_len is_other (drop (i + 1) bytes)

@@ -35,6 +35,10 @@ parted (byte ∷ bytes) =
     then record { ended = [] ∷ (parted bytes).ended; rest = (parted bytes).rest }
     else byte_before byte (parted bytes).ended (parted bytes).rest
 
+-- a byte that ends no line
+abbrev pub is_other : ℕ → Bool
+is_other byte = not (byte == 10)
+
 -- a line holds no line feed
 abbrev pub is_line : List ℕ → Bool
 is_line line = list_all (λ byte. not (byte == 10)) line

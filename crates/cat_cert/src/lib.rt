@@ -31,6 +31,7 @@ pub use laws::{
     what_is_written_of_covered_trees_is_certified, what_is_written_over_is_read_again,
 };
 pub use over::check_over;
+pub use place::feed_from;
 pub use reader::read_cert;
 pub use refusal::CertRefusal;
 pub use scope_check::certified;

@@ -1,9 +1,8 @@
 // Where a reader stands in a text, and the lines from there on.
-ghost use Rattle.std.specs.Prelude.{◌≡◌, ◌+◌, ◌≤◌, ◌<◌, drop, length, IfSome, OnSome, MatchOption};
+ghost use Rattle.std.specs.Prelude.{◌≡◌, ◌+◌, ◌≤◌, ◌<◌, drop, get_or, length, IfSome, OnSome, MatchOption};
 ghost use Rattle.std.specs.List.{prefix_len};
 ghost use Rattle.std.specs.Option.{option_map};
-ghost use Rattle.cat_cert.specs.Texts.{parted};
-ghost use Rattle.cat_cert.specs.inside.Feeds.{is_other};
+ghost use Rattle.cat_cert.specs.Texts.{is_other};
 ghost use Rattle.cat_cert.specs.inside.Outcomes.{lines_at, rest_at, IsNext, IsWithin, IsStart, HasNoStart};
 
 use crate::line::begins;
@@ -17,10 +16,11 @@ pub(crate) struct Place {
 
 /// Where the first line feed stands from there on, or the length.
 #[tactic(auto, using(crate::proofs::FeedLemmas::feeds))]
-fn feed_from(bytes: &[u8], at: usize) -> usize
+pub fn feed_from(bytes: &[u8], at: usize) -> usize
     requires { at ≤ length bytes.now }
     ensures feed { result ≡ at + prefix_len is_other (drop at bytes.now) }
     ensures within { result ≤ length bytes.now }
+    ensures stands { result < length bytes.now → get_or bytes.now result 0 ≡ 10 }
 {
     let mut end = at;
     while end < bytes.len() && bytes[end] != b'\n' {

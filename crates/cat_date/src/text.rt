@@ -26,7 +26,7 @@ pub fn show_day(alloc: Global, d: Day) -> Result<String, AllocError>
 pub fn read_day(text: &[u8]) -> Result<Day, DateFault>
     ensures { result ≡ day_of_text text.now }
 {
-    if !has_form(text) {
+    if !has_date_form(text) {
         return Err(DateFault::NotADay);
     }
     Day::of(
@@ -36,7 +36,8 @@ pub fn read_day(text: &[u8]) -> Result<Day, DateFault>
     )
 }
 
-fn has_form(text: &[u8]) -> bool
+/// Whether a text has the form of a day's, also where there is no such day.
+pub fn has_date_form(text: &[u8]) -> bool
     ensures value { result ≡ bytes_eq (form_of text.now) (codes "0000-00-00") }
     ensures length { IsTrue result → length text.now ≡ 10 }
 {

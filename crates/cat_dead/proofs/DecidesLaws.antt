@@ -2,9 +2,7 @@
 use Rattle.std.proofs.Common.{◌≡◌, ℕ, ◌+◌, nat_eq, Bool, true, false, not, ◌&&◌, if◌then◌else◌, IsTrue, List, [], ◌∷◌}
 use Rattle.std.proofs.Common.{◌++◌, map}
 use Rattle.std.proofs.Common.{Option, Some, None, Result, Ok, Err, slice_get, refl, sym, ap, ◌∙◌, subst, true≢false}
-use Rattle.std.proofs.Common.{arith}
 use Rattle.std.specs.Prelude.{◌≢◌}
-use Rattle.std.proofs.lemmas.Bool.Decides.{nat_tests}
 use Rattle.std.proofs.Math.Logic.{∥∥₁_elim}
 use Rattle.cat_pos.specs.declared.pos.Pos.{Pos}
 use Rattle.cat_order.specs.Order.{dependencies_of}
@@ -28,7 +26,7 @@ use Rattle.cat_scope.specs.Orders.{scope_dependencies}
 use Rattle.cat_scope.specs.Runs.{Decider}
 use Rattle.cat_scope.specs.Forests.{called_targets, targets_at, item_targets, targets_of}
 use Rattle.cat_scope.specs.Running.{run_of, scope_run}
-use Rattle.cat_scope.specs.Targets.{same_inner, same_target, judge_target}
+use Rattle.cat_scope.specs.Targets.{same_target, judge_target}
 use Rattle.cat_scope.specs.WellFormed.{IsWellFormed}
 use Rattle.cat_sound.specs.Endings.{Allowed, IsDecision, EndsIn, AreOutputsOf}
 use Rattle.cat_sound.specs.Settled.{MayStand, AreSettled, ScopesSettled, IsClosed}
@@ -39,18 +37,15 @@ use Rattle.cat_guard.specs.Soundness.{is_sound}
 use Rattle.cat_guard.specs.Tables.{IsTableOf, TablesScope, questions_of, target_of}
 use Rattle.cat_guard.specs.TableJudging.{decided}
 use Rattle.cat_guard.specs.Valuations.{holds_at}
-use Rattle.cat_guard.proofs.Exported.{all_more, nat_self}
+use Rattle.cat_guard.proofs.Exported.{all_more}
 use Rattle.cat_audit_sound.specs.Audited.{MayDecide, IsTargetAudited}
 use Rattle.cat_audit_sound.proofs.AuditLaws.{audited_settled, body_is}
 use Rattle.cat_dead.specs.NeverDecides.{IsOther, IsHeldElsewhere, HoldsNowhere, NeverDecides}
 use Rattle.cat_dead.specs.Winners.{is_same}
 use Rattle.cat_dead.proofs.HeldLaws.{same_self, some_same}
+use Rattle.cat_dead.proofs.SameParts.{is_that, nat_is, same_is, that_is, that_self}
 
 -- ---- what a log may hold
-
--- a target is that one
-abbrev is_that : Target → Target → Bool
-is_that p q = nat_eq p.scope q.scope && same_target p q
 
 -- it is decided by a definition that stands there
 abbrev is_by : Pos → Option Pos → Bool
@@ -62,59 +57,13 @@ abbrev but_for : Target → Pos → Allowed
 but_for target p =
     record { may_stop = λ t. true; may_decide = λ t by. not (is_that target t && is_by p by) }
 
-inner_self : (o : Option ℕ) → same_inner o o ≡ true
-inner_self None = refl
-inner_self (Some n) = nat_self n
-
-that_self : (t : Target) → is_that t t ≡ true
-that_self t =
-    and-both (nat_eq t.scope t.scope) (same_target t t) (nat_self t.scope)
-    (and-both (nat_eq t.item t.item) (same_inner t.inner t.inner) (nat_self t.item) (inner_self t.inner))
-
-nat_is : (a b : ℕ) → nat_eq a b ≡ true → a ≡ b
-nat_is a b h = grind (arith, nat_tests, h)
-
-inner_is : (a b : Option ℕ) → same_inner a b ≡ true → b ≡ a
-inner_is None None h = refl
-inner_is None (Some m) h = absurd (true≢false (sym h))
-inner_is (Some n) None h = absurd (true≢false (sym h))
-inner_is (Some n) (Some m) h = ap Some (sym (nat_is n m h))
-
-both : (a b : Bool) → (a && b) ≡ true → (a ≡ true) × (b ≡ true)
-both true b h = (refl, h)
-both false b h = absurd (true≢false (sym h))
-
-abbrev target_of_parts : ℕ → ℕ → Option ℕ → Target
-target_of_parts scope item inner = record { scope = scope; item = item; inner = inner }
-
-abbrev pos_of_parts : ℕ → ℕ → Pos
-pos_of_parts line place = record { line = line; place = place }
-
-that_is : (p q : Target) → is_that p q ≡ true → q ≡ p
-that_is p q h =
-    let scopes = both (nat_eq p.scope q.scope) (same_target p q) h in
-    let items = both (nat_eq p.item q.item) (same_inner p.inner q.inner) scopes.1 in
-    let scope : q.scope ≡ p.scope = sym (nat_is p.scope q.scope scopes.0) in
-    let item : q.item ≡ p.item = sym (nat_is p.item q.item items.0) in
-    let inner : q.inner ≡ p.inner = inner_is p.inner q.inner items.1 in
-    ap (λ (n : ℕ). target_of_parts n q.item q.inner) scope
-    ∙ ap (λ (n : ℕ). target_of_parts p.scope n q.inner) item
-    ∙ ap (target_of_parts p.scope p.item) inner
-
-same_is : (p q : Pos) → is_same p q ≡ true → q ≡ p
-same_is p q h =
-    let two = both (nat_eq p.line q.line) (nat_eq p.place q.place) h in
-    let line : q.line ≡ p.line = sym (nat_is p.line q.line two.0) in
-    let place : q.place ≡ p.place = sym (nat_is p.place q.place two.1) in
-    ap (λ (n : ℕ). pos_of_parts n q.place) line ∙ ap (pos_of_parts p.line) place
-
 -- another definition isn't that one
 by_other : (p : Pos) (o : Option Pos) → o ≢ Some p → is_by p o ≡ false
 by_other p None other = refl
 by_other p (Some q) other = by (is_same p q) refl
   where
     by : (b : Bool) → is_same p q ≡ b → b ≡ false
-    by true h = absurd (other (ap Some (same_is p q h)))
+    by true h = absurd (other (ap Some (sym (same_is p q h))))
     by false h = refl
 
 -- ---- what the log of a run tells
@@ -144,7 +93,7 @@ module _ (table : Table) (t : TableTarget) (p : Pos) where
   may u same (Ok found) elsewhere = by (is_that t.target u.target) refl
     where
       by : (b : Bool) → is_that t.target u.target ≡ b → not (b && is_by p (held_position found)) ≡ true
-      by true that = ap not (by_other p (held_position found) (elsewhere (that_is t.target u.target that)))
+      by true that = ap not (by_other p (held_position found) (elsewhere (sym (that_is t.target u.target that))))
       by false that = refl
 
   target_audited : (u : TableTarget) → SameElsewhere u → IsTargetAudited (but_for t.target p) table u

@@ -9,9 +9,7 @@ use Rattle.std.proofs.lemmas.Bool.{or_parts}
 use Rattle.cat_pos.specs.declared.pos.Pos.{Pos}
 use Rattle.cat_region.specs.Regions.{Constraints, Valuation, Admits, IsRegion}
 use Rattle.cat_region.specs.Decided.{admits_none}
-use Rattle.std.proofs.Math.Bool.{beq}
-use Rattle.cat_region.specs.Points.{answer}
-use Rattle.cat_region.proofs.Exported.{IsEmpty-of_admits_none, Admits-with_narrowing, and-both}
+use Rattle.cat_region.proofs.Exported.{IsEmpty-of_admits_none, and-both}
 use Rattle.cat_scope.specs.declared.stop.Stop.{Stop}
 use Rattle.cat_scope.specs.Judging.{Held}
 use Rattle.cat_scope.specs.Names.{AllHave}
@@ -26,7 +24,7 @@ use Rattle.cat_guard.specs.Trees.{Tree, is_whole, with_answer, answering}
 use Rattle.cat_guard.specs.Trees as tree
 use Rattle.cat_guard.specs.Valuations.{dims_of, holds_at}
 use Rattle.cat_guard.specs.Verdicts.{Verdict, Holds, Empty, Conflict, Open, Stands}
-use Rattle.cat_guard.proofs.Exported.{all_more, both_true, nat_self, sound_atoms}
+use Rattle.cat_guard.proofs.Exported.{all_more, both_true, nat_self, on_side, side, sound_atoms}
 use Rattle.cat_walk.specs.Coverage.{leaf_regions}
 use Rattle.cat_walk.proofs.ClosedLaws.{answered, answered_dims}
 use Rattle.std.specs.List.{list_all}
@@ -48,26 +46,6 @@ some_same a b e = ap (or_same a) e
 second_false : (a b : Bool) → a ≡ false → (not a && b) ≡ false → b ≡ false
 second_false true b none h = absurd (true≢false none)
 second_false false b none h = h
-
--- ---- sides
-
--- a valuation is admitted on one of the two sides of an atom
-module _ (region : Constraints) (v : Valuation) where
-  -- the answer of an atom at the valuation, or true where there is no atom
-  abbrev side : Option Atom → Bool
-  side None = true
-  side (Some atom) = answer atom.cut (v atom.term)
-
-  same : (b : Bool) → beq b b ≡ true
-  same true = refl
-  same false = refl
-
-  on_side : (o : Option Atom) → Admits region v → Admits (with_answer region o (side o)) v
-  on_side None admits = admits
-  on_side (Some atom) admits =
-      (Admits-with_narrowing region
-      (record { dim = atom.term; cut = atom.cut; yes = answer atom.cut (v atom.term) }) v).1
-      (admits, same (answer atom.cut (v atom.term)))
 
 -- ---- one region
 

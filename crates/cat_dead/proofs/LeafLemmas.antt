@@ -11,10 +11,11 @@ use Rattle.cat_guard.specs.declared.table.TableTarget.{TableTarget}
 use Rattle.cat_guard.specs.declared.table.Term.{Term}
 use Rattle.cat_guard.specs.declared.tree.TreeNode.{TreeNode}
 use Rattle.cat_guard.specs.Judged.{judged_in}
-use Rattle.cat_guard.specs.Trees.{Tree, tree_of, with_answer, answering}
+use Rattle.cat_guard.specs.Trees.{Tree, tree_of, answering}
 use Rattle.cat_guard.specs.Trees as tree
 use Rattle.cat_guard.specs.Valuations.{dims_of}
 use Rattle.cat_guard.specs.Verdicts.{Verdict, Holds, Empty, Conflict, Open}
+use Rattle.cat_guard.proofs.Exported.{answered_dims, answered_narrowings}
 use Rattle.cat_walk.specs.declared.place.NodePlace.{NodePlace}
 use Rattle.cat_walk.specs.Coverage.{leaf_regions}
 use Rattle.cat_cert.specs.Uncovered.{everything, lines_passing, regions_of}
@@ -31,17 +32,6 @@ in_main place = record { list = 0; node = place }
 
 -- ---- leaves of a region with another room
 
-alike_dims : (region other : Constraints) (o : Option Atom) (b : Bool) → region.dims ≡ other.dims
-    → (with_answer region o b).dims ≡ (with_answer other o b).dims
-alike_dims region other None b dims = dims
-alike_dims region other (Some atom) b dims = dims
-
-alike_narrowings : (region other : Constraints) (o : Option Atom) (b : Bool) → region.narrowings ≡ other.narrowings
-    → (with_answer region o b).narrowings ≡ (with_answer other o b).narrowings
-alike_narrowings region other None b narrowings = narrowings
-alike_narrowings region other (Some atom) b narrowings =
-    ap (λ ns. ns ++ record { dim = atom.term; cut = atom.cut; yes = b } ∷ []) narrowings
-
 module _ (atoms : List Atom) (t : TableTarget) where
   leaves_alike : (region other : Constraints) (w : Tree) → region.dims ≡ other.dims
       → region.narrowings ≡ other.narrowings
@@ -51,11 +41,11 @@ module _ (atoms : List Atom) (t : TableTarget) where
   leaves_alike region other tree.Rest dims narrowings = refl
   leaves_alike region other (tree.Split a left right) dims narrowings =
       let yes = leaves_alike (answering atoms region a true) (answering atoms other a true) left
-      (alike_dims region other (slice_get atoms a) true dims)
-      (alike_narrowings region other (slice_get atoms a) true narrowings) in
+      (answered_dims region other (slice_get atoms a) true dims)
+      (answered_narrowings region other (slice_get atoms a) true narrowings) in
       let no_ = leaves_alike (answering atoms region a false) (answering atoms other a false) right
-      (alike_dims region other (slice_get atoms a) false dims)
-      (alike_narrowings region other (slice_get atoms a) false narrowings) in
+      (answered_dims region other (slice_get atoms a) false dims)
+      (answered_narrowings region other (slice_get atoms a) false narrowings) in
       map-append (judged_at atoms t) (leaf_regions atoms (answering atoms region a true) left)
       (leaf_regions atoms (answering atoms region a false) right)
       ∙ ap (λ js. js ++ map (judged_at atoms t) (leaf_regions atoms (answering atoms region a false) right)) yes

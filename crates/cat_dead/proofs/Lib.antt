@@ -8,6 +8,7 @@ mod LeafLemmas
 mod OpenedLemmas
 mod PlainLemmas
 mod RefusedLemmas
+pub mod SameParts
 pub mod StepLemmas
 mod TargetsLemmas
 mod TextLemmas

@@ -12,11 +12,10 @@ use Rattle.cat_cert.specs.declared.certificate.Version.TheVariants as version
 use Rattle.cat_cert.specs.declared.refusal.CertRefusal.{CertRefusal}
 use Rattle.cat_cert.specs.Causes.{IsRead, IsRefused, IsReadBehind, RefusedBehind}
 use Rattle.cat_cert.specs.Lines as lines
-use Rattle.cat_cert.specs.Texts.{Parted, parted}
+use Rattle.cat_cert.specs.Texts.{Parted, is_other, parted}
 use Rattle.cat_cert.specs.Texts as certificate
-use Rattle.cat_cert.specs.inside.Feeds.{is_other}
 use Rattle.cat_cert.proofs.FeedLemmas as cert
-use Rattle.cat_cert.proofs.ReadBackLemmas.{parted_line}
+use Rattle.cat_cert.proofs.Exported.{parted_line}
 use Rattle.cat_dead.specs.DeadTexts.{first_line, is_first, passed_over, lines_read, as_certificate, lines_of}
 use Rattle.cat_dead.specs.DeadTexts.{IsDeadRead, IsDeadRefused}
 use Rattle.cat_dead.specs.inside.Reading.{IsLineAt, IsCertificateOf, lines_from, rest_from}
@@ -142,16 +141,6 @@ pub record IsPassing (bytes text : List ℕ) (at : ℕ) : Type 0 where
   pub lines : lines_read (lines_from bytes at) ≡ lines_read (parted bytes).ended
   pub passed : length text + passed_over (lines_from bytes at) ≡ passed_over (parted bytes).ended
   pub rest : rest_from bytes at ≡ (parted bytes).rest
-
-pub begins_passing : (bytes : List ℕ) → IsPassing bytes [] 0
-begins_passing bytes =
-    let same : passed_over (lines_from bytes 0) ≡ passed_over (parted bytes).ended = refl in record {
-      within = omega arith;
-      feeds_are = refl;
-      lines = refl;
-      passed = omega (arith, same);
-      rest = refl;
-    }
 
 module _ (bytes text : List ℕ) (at : ℕ) (known : IsPassing bytes text at) where
   module _ (line : List ℕ) (here : IsLineAt bytes at (Some line)) where

@@ -1,36 +1,19 @@
 // Reads a certificate of dead definitions.
-ghost use Rattle.std.specs.Prelude.{◌≡◌, ◌≤◌, ◌<◌, ◌+◌, ◌++◌, codes, drop, get_or, length, map, IfOk, IfErr};
-ghost use Rattle.std.specs.List.{prefix_len};
+ghost use Rattle.std.specs.Prelude.{◌≡◌, ◌≤◌, ◌++◌, codes, drop, length, map, IfOk, IfErr};
 ghost use Rattle.std.specs.Option.{option_map};
 ghost use Rattle.std.specs.Str.{bytes_eq};
 ghost use Rattle.cat_cert.specs.declared.certificate.Version.TheVariants as version;
 ghost use Rattle.cat_cert.specs.Lines.{TargetDue};
 ghost use Rattle.cat_cert.specs.ReadTrees.{AreReadTrees};
 ghost use Rattle.cat_cert.specs.inside.Checkable.{last_line};
-ghost use Rattle.cat_cert.specs.inside.Feeds.{is_other};
 ghost use Rattle.cat_dead.specs.DeadTexts.{first_line, is_first, IsDeadRead, IsDeadRefused};
 ghost use Rattle.cat_dead.specs.inside.Reading.{IsLineAt, HasNoCertificate, IsCertificateOf};
 
-use cat_cert::{CertRefusal, Certificate, read_cert, read_trees_are_those_of_targets};
+use cat_cert::{CertRefusal, Certificate, feed_from, read_cert, read_trees_are_those_of_targets};
 use cat_guard::Table;
 use cat_pos::List;
 use std::alloc::{AllocError, Global};
 use std::slice;
-
-/// Where the first line feed stands from there on, or the length.
-#[tactic(auto, using(cat_cert::proofs::FeedLemmas::feeds))]
-fn feed_from(bytes: &[u8], at: usize) -> usize
-    requires { at ≤ length bytes.now }
-    ensures feed { result ≡ at + prefix_len is_other (drop at bytes.now) }
-    ensures within { result ≤ length bytes.now }
-    ensures stands { result < length bytes.now → get_or bytes.now result 0 ≡ 10 }
-{
-    let mut end = at;
-    while end < bytes.len() && bytes[end] != b'\n' {
-        end += 1;
-    }
-    end
-}
 
 /// The line that begins there, without its line feed.
 fn line_from(bytes: &[u8], start: usize) -> Option<&[u8]>

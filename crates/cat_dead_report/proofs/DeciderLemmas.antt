@@ -1,64 +1,20 @@
 -- Deciders of a run that are of a target and of a definition that stands at a position.
-use Rattle.std.proofs.Common.{◌≡◌, inl, inr, ℕ, nat_eq, Bool, true, false, ◌||◌, List, [], ◌∷◌, Option}
-use Rattle.std.proofs.Common.{Some}
-use Rattle.std.proofs.Common.{None, refl, sym, ap, ◌∙◌, subst, arith, true≢false}
+use Rattle.std.proofs.Common.{◌≡◌, inl, inr, Bool, true, false, ◌||◌, List, [], ◌∷◌, Option, Some, None, slice_get}
+use Rattle.std.proofs.Common.{refl, sym, ap, ◌∙◌, subst, true≢false}
 use Rattle.std.specs.List.{list_any}
-use Rattle.std.proofs.lemmas.Bool.Decides.{nat_tests}
 use Rattle.std.proofs.lemmas.List.Folds.{list_any-append}
 use Rattle.cat_pos.specs.declared.pos.Pos.{Pos}
 use Rattle.cat_value.specs.declared.outcome.Target.{Target}
 use Rattle.cat_region.proofs.Exported.{and-both}
 use Rattle.cat_scope.specs.Names.{IsOneOf}
 use Rattle.cat_scope.specs.Runs.{Decider}
-use Rattle.cat_scope.specs.Targets.{same_inner, same_target}
 use Rattle.cat_code.specs.declared.code.Tables.{Tables}
-use Rattle.cat_guard.proofs.Exported.{both_true, nat_self}
+use Rattle.cat_guard.proofs.Exported.{both_true}
 use Rattle.cat_machine.specs.declared.log.LogEntry.{LogEntry}
 use Rattle.cat_machine.specs.States.{decided, decider_of}
-use Rattle.std.proofs.Common.{slice_get}
 use Rattle.cat_dead.specs.Winners.{is_same}
 use Rattle.cat_dead_report.specs.Deciders.{is_target, stands_at, is_by, has_decider}
-use Rattle.cat_dead.proofs.Exported.{same_self}
-
--- ---- what is the same by its parts
-
-nat_is : (a b : ℕ) → nat_eq a b ≡ true → a ≡ b
-nat_is a b h = grind (arith, nat_tests, h)
-
-inner_is : (a b : Option ℕ) → same_inner a b ≡ true → a ≡ b
-inner_is None None h = refl
-inner_is None (Some m) h = absurd (true≢false (sym h))
-inner_is (Some n) None h = absurd (true≢false (sym h))
-inner_is (Some n) (Some m) h = ap Some (nat_is n m h)
-
-inner_self : (o : Option ℕ) → same_inner o o ≡ true
-inner_self None = refl
-inner_self (Some n) = nat_self n
-
-abbrev pos_with : ℕ → ℕ → Pos
-pos_with line place = record { line = line; place = place }
-
-pub same_is : (p q : Pos) → is_same p q ≡ true → p ≡ q
-same_is p q h =
-    let two = both_true (nat_eq p.line q.line) (nat_eq p.place q.place) h in
-    ap (λ (n : ℕ). pos_with n p.place) (nat_is p.line q.line two.0)
-    ∙ ap (pos_with q.line) (nat_is p.place q.place two.1)
-
-abbrev target_with : ℕ → ℕ → Option ℕ → Target
-target_with scope item inner = record { scope = scope; item = item; inner = inner }
-
-target_is : (t u : Target) → is_target t u ≡ true → t ≡ u
-target_is t u h =
-    let scopes = both_true (nat_eq t.scope u.scope) (same_target t u) h in
-    let items = both_true (nat_eq t.item u.item) (same_inner t.inner u.inner) scopes.1 in
-    ap (λ (n : ℕ). target_with n t.item t.inner) (nat_is t.scope u.scope scopes.0)
-    ∙ ap (λ (n : ℕ). target_with u.scope n t.inner) (nat_is t.item u.item items.0)
-    ∙ ap (target_with u.scope u.item) (inner_is t.inner u.inner items.1)
-
-target_self : (t : Target) → is_target t t ≡ true
-target_self t =
-    and-both (nat_eq t.scope t.scope) (same_target t t) (nat_self t.scope)
-    (and-both (nat_eq t.item t.item) (same_inner t.inner t.inner) (nat_self t.item) (inner_self t.inner))
+use Rattle.cat_dead.proofs.Exported.{same_is, same_self, that_is, that_self}
 
 stands_is : (p : Pos) (o : Option Pos) → stands_at p o ≡ true → Some p ≡ o
 stands_is p None h = absurd (true≢false (sym h))
@@ -74,12 +30,12 @@ module _ (target : Target) (p : Pos) where
   that = decider target (Some p)
 
   by_self : is_by target p that ≡ true
-  by_self = and-both (is_target target target) (is_same p p) (target_self target) (same_self p)
+  by_self = and-both (is_target target target) (is_same p p) (that_self target) (same_self p)
 
   by_is : (d : Decider) → is_by target p d ≡ true → that ≡ d
   by_is d h =
       let two = both_true (is_target target d.target) (stands_at p d.by) h in
-      ap (λ (t : Target). decider t (Some p)) (target_is target d.target two.0)
+      ap (λ (t : Target). decider t (Some p)) (that_is target d.target two.0)
       ∙ ap (decider d.target) (stands_is p d.by two.1)
 
   pub one_of : (ds : List Decider) → has_decider target p ds ≡ true → IsOneOf that ds

@@ -9,8 +9,7 @@ use Rattle.cat_pos.specs.declared.pos.Pos.{Pos}
 use Rattle.cat_guard.specs.declared.guard.GuardDef.{GuardDef}
 use Rattle.cat_dead.specs.Winners.{is_same}
 use Rattle.cat_dead_report.specs.inside.Places.{number_of, AreNumbered, HaveNumbers}
-use Rattle.cat_dead_report.proofs.DeciderLemmas.{same_is}
-use Rattle.cat_dead.proofs.Exported.{same_self, some_same}
+use Rattle.cat_dead.proofs.Exported.{same_is, same_self, some_same}
 
 -- ---- one of the definitions
 

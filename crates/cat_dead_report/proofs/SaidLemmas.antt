@@ -44,9 +44,9 @@ use Rattle.cat_dead.specs.Leaves.{judgement_of, judged_at}
 use Rattle.cat_dead_report.specs.inside.Places.{number_of, AreNumbered}
 use Rattle.cat_dead_report.specs.inside.Said.{IsWon, IsLineOf}
 use Rattle.cat_dead_report.specs.inside.Tries.{last_line, last_lines}
-use Rattle.cat_dead_report.proofs.DeciderLemmas.{same_is, one_of, none_of}
+use Rattle.cat_dead_report.proofs.DeciderLemmas.{one_of, none_of}
 use Rattle.cat_audit.proofs.FindingLemmas.{is_free}
-use Rattle.cat_dead.proofs.Exported.{same_self, some_same}
+use Rattle.cat_dead.proofs.Exported.{same_is, same_self, some_same}
 use Rattle.cat_dead_report.proofs.KnownLemmas.{known_at}
 use Rattle.cat_dead_report.proofs.PlaceLemmas.{numbered_at}
 use Rattle.cat_dead_report.proofs.ReachedLemmas.{judged_leaf}
@@ -59,9 +59,6 @@ module _ (program : Program) (table : Table) (t : TableTarget) (nodes : List Tre
     (admitted : (region : Constraints) → IsRegion region → IsInhabited region → Admits region (point_at region))
     (p : Pos) where
   module _ (region : Constraints) (won : IsWon table t nodes p region) where
-    input : List (Option Value)
-    input = shown_input program table region
-
     admits : Admits region (point_at region)
     admits = admitted region won.region_is won.inhabited
 

@@ -1,7 +1,7 @@
 -- What is made with no list too deep depends on what the declared types depend on, and all that it names is there.
 use Rattle.std.proofs.Common.{◌≡◌, ◌∙◌, ℕ, zero, suc, ◌<◌, Bool, true, false, List, [], ◌∷◌}
 use Rattle.std.proofs.Common.{◌++◌, length}
-use Rattle.std.proofs.Common.{map, Option, None, Some, refl, sym, ap, arith, rules}
+use Rattle.std.proofs.Common.{map, Option, None, Some, refl, sym, ap, arith}
 use Rattle.std.specs.Prelude.{◌&&◌, option_map}
 use Rattle.std.specs.Option.{option_or, unwrap_or}
 use Rattle.std.specs.List.{list_all}
@@ -13,7 +13,7 @@ use Rattle.cat_value.specs.declared.declaration.Structure.{Structure}
 use Rattle.cat_value.specs.declared.declaration.Enumeration.{Enumeration}
 use Rattle.cat_value.specs.Declarations.{is_declared, field_is_sound, content_is_sound, case_is_sound}
 use Rattle.cat_value.specs.Dependencies.{named_by, named_by_fields, named_by_content, named_by_cases, type_dependencies}
-use Rattle.cat_value.proofs.Exported.{naming, within, is_declared_Boolean, is_declared_Date, is_declared_Decimal}
+use Rattle.cat_value.proofs.Exported.{within, is_declared_Boolean, is_declared_Date, is_declared_Decimal}
 use Rattle.cat_value.proofs.Exported.{is_declared_Duration, is_declared_Enumeration, is_declared_Integer}
 use Rattle.cat_value.proofs.Exported.{is_declared_List, is_declared_Money, is_declared_Structure}
 use Rattle.cat_tree.specs.declared.name.Name.{Name}
@@ -23,17 +23,13 @@ use Rattle.cat_tree.specs.declared.name.Type as written
 use Rattle.cat_tree.specs.declared.program.FieldItem.{FieldItem}
 use Rattle.cat_tree.specs.declared.program.CaseItem.{CaseItem}
 use Rattle.cat_tree.specs.declared.program.Item.{Item}
-use Rattle.cat_names.proofs.Exported.{first_is}
+use Rattle.cat_names.proofs.Exported.{first_is, nested_named}
 use Rattle.cat_names.specs.Lookup.{TypeNames, nested_list, first_named}
 use Rattle.cat_names.specs.Written.{structures_in, enumerations_in, types_in}
 use Rattle.cat_declare.specs.inside.Made.{base_made, type_made, field_made, structure_made, case_made}
 use Rattle.cat_declare.specs.inside.Made.{enumeration_made, made, whole, cut}
 
 -- ---- what is named
-
-nested_named : (s k : ℕ) (b : Ty) → named_by s (nested_list k b) ≡ named_by s b
-nested_named s zero b = refl
-nested_named s (suc k) b = search (rules, naming, nested_named s k b)
 
 module _ (names : TypeNames) (s : ℕ) where
   type_named : (t : written.Type) → named_by s (type_made cut names t) ≡ named_by s (type_made whole names t)

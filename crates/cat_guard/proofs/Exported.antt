@@ -6,6 +6,7 @@ pub use Rattle.cat_guard.proofs.TableLaws.{both_true, all_true, all_more, all_an
 pub use Rattle.cat_guard.proofs.TableLaws.{excepting_is, above_is}
 pub use Rattle.cat_guard.proofs.TableLaws.{IsSoundTarget, sound_parts, targets_sound, are_within_at, chain_on, no_chain}
 pub use Rattle.cat_guard.proofs.TableLaws.{target_stands}
+pub use Rattle.cat_guard.proofs.TreeLaws.{answered_dims, answered_narrowings, on_side, side}
 pub use Rattle.cat_guard.proofs.RegionLaws.{cut_of_term, sound_dims, sound_atoms}
 pub use Rattle.cat_guard.proofs.SameCuts.{nat_self, dim_self, cut_self, dim_same, cut_same}
 pub use Rattle.cat_guard.proofs.FirstLaws.{firsts_all}

@@ -1,5 +1,5 @@
 -- What a target comes to hangs on its own atoms alone.
-use Rattle.std.proofs.Common.{◌≡◌, ℕ, zero, suc, Bool, List, [], ◌∷◌, ◌++◌, map, Option, Some, None, slice_get}
+use Rattle.std.proofs.Common.{◌≡◌, ℕ, zero, suc, Bool, List, [], ◌∷◌, map, Option, Some, None, slice_get}
 use Rattle.std.proofs.Common.{refl, ap}
 use mathlib.Core.Path.{fun_ext}
 use Rattle.cat_scope.specs.Names.{AllHave}
@@ -11,16 +11,8 @@ use Rattle.cat_guard.specs.declared.table.TableTarget.{TableTarget}
 use Rattle.cat_guard.specs.Formulas.{asked}
 use Rattle.cat_guard.specs.GuardFormulas.{formula_of}
 use Rattle.cat_guard.specs.TableJudging.{Decided, by_truth, decided_def, decided_own, pairs_from, decided}
-use Rattle.cat_guard.proofs.FormulaLaws.{truth_same}
+use Rattle.cat_guard.proofs.FormulaLaws.{all_back, all_front, truth_same}
 use Rattle.cat_guard.specs.Judgements.{asked_in, atoms_in}
-
-all_front : {A : Type 0} (P : A → Type 0) (xs ys : List A) → AllHave P (xs ++ ys) → AllHave P xs
-all_front P [] ys h = tt
-all_front P (x ∷ xs) ys h = (h.0, all_front P xs ys h.1)
-
-all_back : {A : Type 0} (P : A → Type 0) (xs ys : List A) → AllHave P (xs ++ ys) → AllHave P ys
-all_back P [] ys h = h
-all_back P (x ∷ xs) ys h = all_back P xs ys h.1
 
 module _ (holds other : ℕ → Bool) where
   abbrev Same : ℕ → Type 0

@@ -21,7 +21,7 @@ module _ (region : Constraints) (v : Valuation) where
   On o b = Admits (with_answer region o b) v
 
   -- the answer of an atom at the valuation, or true where there is no atom
-  abbrev side : Option Atom → Bool
+  abbrev pub side : Option Atom → Bool
   side None = true
   side (Some atom) = answer atom.cut (v atom.term)
 
@@ -67,12 +67,13 @@ closed_covers atoms t region (tree.Split a left right) v closed admits =
     by true on one other = one on
     by false on one other = other on
 
-answered_dims : (region other : Constraints) (o : Option Atom) (b : Bool) → region.dims ≡ other.dims
+-- the same answer keeps regions alike
+pub answered_dims : (region other : Constraints) (o : Option Atom) (b : Bool) → region.dims ≡ other.dims
     → (with_answer region o b).dims ≡ (with_answer other o b).dims
 answered_dims region other None b dims = dims
 answered_dims region other (Some atom) b dims = dims
 
-answered_narrowings : (region other : Constraints) (o : Option Atom) (b : Bool)
+pub answered_narrowings : (region other : Constraints) (o : Option Atom) (b : Bool)
     → region.narrowings ≡ other.narrowings
     → (with_answer region o b).narrowings ≡ (with_answer other o b).narrowings
 answered_narrowings region other None b narrowings = narrowings

@@ -1,9 +1,7 @@
 //! Values without parts, as JSON.
-ghost use Rattle.std.specs.Prelude.{◌≡◌, codes, bytes_eq, pos, ◌*ℤ◌, if◌then◌else◌};
-ghost use Rattle.std.specs.Char.{is_ascii_digit};
+ghost use Rattle.std.specs.Prelude.{◌≡◌, pos, ◌*ℤ◌};
 ghost use Rattle.serde_json.specs.View.{view};
 ghost use Rattle.serde_json.specs.Find.{as_bool, as_str};
-ghost use Rattle.cat_date.specs.Text.{form_of};
 ghost use Rattle.cat_value.specs.declared.value.Value.TheVariants as variant;
 ghost use Rattle.cat_json.specs.Paths.{of_whole, made_of};
 ghost use Rattle.cat_json.specs.WholeNumbers.{integer_of, in_bounds, whole_in, whole_fraction};
@@ -12,13 +10,10 @@ ghost use Rattle.cat_json.specs.Scalars.{text_day, truth_in, text_in, fraction_i
 
 use crate::Reason;
 use crate::numeral::{amount, text_cents, text_fraction};
-use cat_date::{Day, read_day};
+use cat_date::{Day, has_date_form, read_day};
 use cat_num::{Frac, Money, Whole};
 use cat_value::Value;
 use serde_json::Value as Json;
-
-/// The form of a date's text, with 0 for each digit.
-const DATE_FORM: [u8; 10] = *b"0000-00-00";
 
 pub(crate) fn boolean_in(value: &Json) -> Result<Value, Reason>
     ensures { of_whole result ≡ made_of variant.Boolean (truth_in (as_bool (view value.now))) }
@@ -140,24 +135,4 @@ fn text_day(text: &str) -> Result<Day, Reason>
         Ok(day) => Ok(day),
         Err(_) => Err(Reason::OutOfRange),
     }
-}
-
-fn has_date_form(text: &[u8]) -> bool
-    ensures { result ≡ bytes_eq (form_of text.now) (codes "0000-00-00") }
-{
-    if text.len() != DATE_FORM.len() {
-        return false;
-    }
-    for (i, &byte) in text.iter().enumerate() {
-        if form(byte) != DATE_FORM[i] {
-            return false;
-        }
-    }
-    true
-}
-
-fn form(byte: u8) -> u8
-    ensures { result ≡ (if is_ascii_digit byte then 48 else byte) }
-{
-    if byte.is_ascii_digit() { b'0' } else { byte }
 }

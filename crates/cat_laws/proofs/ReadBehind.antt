@@ -1,5 +1,5 @@
 -- A certificate is read behind lines with which none begins; and its version is that of its first line.
-use Rattle.std.proofs.Common.{◌≡◌, ◌==◌, ℕ, suc, ◌+◌, Bool, true, false, not, cond, if◌then◌else◌}
+use Rattle.std.proofs.Common.{◌≡◌, ℕ, suc, ◌+◌, Bool, true, false, not, cond}
 use Rattle.std.proofs.Common.{List, [], ◌∷◌, ◌++◌, drop, map, refl, sym, ap}
 use Rattle.std.proofs.Common.{◌∙◌, subst, append_assoc, true≢false, arith}
 use Rattle.std.specs.Prelude.{bytes_eq}
@@ -12,37 +12,19 @@ use Rattle.cat_cert.specs.declared.certificate.Version.TheVariants as version
 use Rattle.cat_cert.specs.declared.certificate.Certificate.{Certificate}
 use Rattle.cat_cert.specs.Lines.{due_lines, dues_of}
 use Rattle.cat_cert.specs.Lines.{first_line}
-use Rattle.cat_cert.specs.Texts.{Parted, byte_before, certificate_text, is_first, is_line, lines_read, parted}
+use Rattle.cat_cert.specs.Texts.{Parted, certificate_text, is_first, is_line, lines_read, parted}
 use Rattle.cat_cert.specs.Texts.{passed_over, text_of}
 use Rattle.cat_cert.specs.Fronts.{IsCertificate}
 use Rattle.cat_cert.specs.Causes.{IsRead, IsReadBehind, IsReadOf}
 use Rattle.cat_cert.specs.ReadTrees.{IsReadAs}
-use Rattle.cat_cert.proofs.Exported.{placed, placed_trees, placed_heads}
+use Rattle.cat_cert.proofs.Exported.{parted_line, placed, placed_heads, placed_trees}
 use Rattle.cat_laws.proofs.TableNames.{first_of, second_of}
 use Rattle.cat_laws.proofs.PassedLines.{IsPassed, is_passed}
 
 -- ---- texts by their lines
 
-not_true : (b : Bool) → not b ≡ true → b ≡ false
-not_true true h = cc h
-not_true false h = refl
-
 abbrev lines_before : List (List ℕ) → Parted → Parted
 lines_before lines p = record { ended = lines ++ p.ended; rest = p.rest }
-
-abbrev parted_by : Bool → ℕ → Parted → Parted
-parted_by feed byte p =
-    if feed then record { ended = [] ∷ p.ended; rest = p.rest } else byte_before byte p.ended p.rest
-
-parted_line : (line rest : List ℕ) → is_line line ≡ true
-    → parted (line ++ 10 ∷ rest) ≡ lines_before (line ∷ []) (parted rest)
-unfolding parted
-parted_line [] rest is = refl
-parted_line (b ∷ line) rest is =
-    ap (λ feed. parted_by feed b (parted (line ++ 10 ∷ rest)))
-    (not_true (b == 10) (first_of (not (b == 10)) (is_line line) is))
-    ∙ ap (λ (p : Parted). byte_before b p.ended p.rest)
-    (parted_line line rest (second_of (not (b == 10)) (is_line line) is))
 
 passed_is_line : (line : List ℕ) → is_passed line ≡ true → is_line line ≡ true
 passed_is_line line h = first_of (is_line line) (not (is_first line)) h

@@ -12,6 +12,7 @@ use Rattle.cat_calc.specs.declared.term.DefaultTerm.{DefaultTerm}
 use Rattle.cat_calc.specs.declared.term.DefaultTerm.TheViews as term
 use Rattle.cat_calc.specs.Terms.{all_in, condition_in, conditions_in, consequences_in}
 use Rattle.cat_calc.specs.Reducing.{reduced}
+use Rattle.cat_sound.proofs.Exported.{all_back, all_front}
 use Rattle.cat_calc.proofs.Exported.{reduced_Empty, reduced_Consequence, reduced_Default, induction}
 use Rattle.cat_calc.proofs.Exported.{conditions_Default, consequences_Consequence, consequences_Default}
 use Rattle.cat_code.specs.declared.instr.Instr.{Instr}
@@ -22,14 +23,6 @@ use Rattle.cat_lower.specs.Terms.{TermStanding, value_code, term_code}
 use Rattle.cat_lower.proofs.TermEquations.{code_Empty, code_Consequence, code_Default}
 use Rattle.cat_lower.proofs.Adding.{Adds, AddsAll, adds_nothing, holds, none_added, more_added, ConditionDoes}
 use Rattle.cat_lower.proofs.Adding.{ConsequenceDoes, defaults}
-
-pub all_front : {A : Type 0} (P : A → Type 0) (xs ys : List A) → AllHave P (xs ++ ys) → AllHave P xs
-all_front P [] ys h = tt
-all_front P (x ∷ xs) ys h = (h.0, all_front P xs ys h.1)
-
-pub all_back : {A : Type 0} (P : A → Type 0) (xs ys : List A) → AllHave P (xs ++ ys) → AllHave P ys
-all_back P [] ys h = h
-all_back P (x ∷ xs) ys h = all_back P xs ys h.1
 
 -- what holds of all in some lists holds of all in each
 pub each_of : {A B : Type 0} (P : B → Type 0) (f : A → List B) (xs : List A) → AllHave P (all_in (map f xs))

@@ -6,6 +6,7 @@ use Rattle.cat_pos.specs.declared.pos.Pos.{Pos}
 use Rattle.cat_scope.specs.declared.expr.Expr.{Expr}
 use Rattle.cat_scope.specs.Judging.{Held}
 use Rattle.cat_scope.specs.Names.{AllHave, all_differ, is_in}
+use Rattle.cat_sound.proofs.Exported.{all_back, all_front}
 use Rattle.cat_calc.specs.declared.term.DefaultTerm.{DefaultTerm}
 use Rattle.cat_calc.specs.declared.calcs.ItemTerms.{ItemTerms}
 use Rattle.cat_calc.specs.Terms.{consequences_in, numbers_in}
@@ -13,7 +14,6 @@ use Rattle.cat_calc.specs.Reducing.{term_among}
 use Rattle.cat_calc.specs.WellFormed.{all_terms, numbers_in_all, definition_numbers}
 use Rattle.cat_lower.specs.Definitions.{placed, all_placed, terms_placed, definitions_of}
 use Rattle.cat_lower.proofs.TypesAgree.{both_so}
-use Rattle.cat_lower.proofs.AddingTerms.{all_front, all_back}
 
 stands_there : (n : ℕ) (p : Pos) (ps : List Pos) → slice_get (placed n p ps) n ≡ Some p
 stands_there zero p [] = refl

@@ -45,7 +45,6 @@ pub mod Drafting
 pub mod SameCode
 pub mod Chained
 pub mod Targeted
-pub mod Meeting
 pub mod Spots
 pub mod SketchedLoops
 pub mod FormLaws

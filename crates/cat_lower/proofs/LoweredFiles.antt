@@ -20,6 +20,7 @@ use Rattle.cat_scope.specs.Names.{AllHave, scope_items}
 use Rattle.cat_scope.proofs.Namings as named
 use Rattle.cat_scope.proofs.Exported.{names_in_field, names_in_arm, names_in_field_is, names_in_arm_is}
 use Rattle.cat_scope.proofs.Exported.{Each, Within, induction}
+use Rattle.cat_sound.proofs.Exported.{all_back, all_front}
 use Rattle.cat_code.specs.declared.instr.Instr.TheVariants as instr
 use Rattle.cat_code.specs.OperationNumbers.{number_before, number_between, rounding_number}
 use Rattle.cat_code.specs.declared.code.TargetEntry.{TargetEntry}
@@ -36,14 +37,6 @@ use Rattle.cat_lower.proofs.LaidFiles as laid
 use Rattle.cat_lower.proofs.LaidFiles.{Fits}
 
 -- ---- lists
-
-pub front : {A : Type 0} (P : A → Type 0) (xs ys : List A) → AllHave P (xs ++ ys) → AllHave P xs
-front P [] ys h = tt
-front P (x ∷ xs) ys h = (h.0, front P xs ys h.1)
-
-pub back : {A : Type 0} (P : A → Type 0) (xs ys : List A) → AllHave P (xs ++ ys) → AllHave P ys
-back P [] ys h = h
-back P (x ∷ xs) ys h = back P xs ys h.1
 
 pub each_on : {A : Type 0} (P R : A → Type 0) (xs : List A) → Each (λ x. P x → R x) xs → Each P xs → Each R xs
 each_on P R [] go h = tt
@@ -71,23 +64,23 @@ module _ (Q : ℕ → Type 0) (T : TargetEntry → Type 0) (here : Standing) whe
   each_file [] h = tt
   each_file (e ∷ es) h =
       let more = joined (map files_in es) in
-      (front Q (files_in e) more h, each_file es (back Q (files_in e) more h))
+      (all_front Q (files_in e) more h, each_file es (all_back Q (files_in e) more h))
 
   each_value : (fs : List FieldValue) → AllHave Q (joined (map (names_in_field own_file) fs))
       → Each (λ f. Has f.value) fs
   each_value [] h = tt
   each_value (f ∷ fs) h = (
     subst (AllHave Q) (names_in_field_is own_file f)
-        (front Q (names_in_field own_file f) (joined (map (names_in_field own_file) fs)) h),
-    each_value fs (back Q (names_in_field own_file f) (joined (map (names_in_field own_file) fs)) h),
+        (all_front Q (names_in_field own_file f) (joined (map (names_in_field own_file) fs)) h),
+    each_value fs (all_back Q (names_in_field own_file f) (joined (map (names_in_field own_file) fs)) h),
   )
 
   each_body : (arms : List Arm) → AllHave Q (joined (map (names_in_arm own_file) arms)) → Each (λ a. Has a.body) arms
   each_body [] h = tt
   each_body (a ∷ arms) h = (
     subst (AllHave Q) (names_in_arm_is own_file a)
-        (front Q (names_in_arm own_file a) (joined (map (names_in_arm own_file) arms)) h),
-    each_body arms (back Q (names_in_arm own_file a) (joined (map (names_in_arm own_file) arms)) h),
+        (all_front Q (names_in_arm own_file a) (joined (map (names_in_arm own_file) arms)) h),
+    each_body arms (all_back Q (names_in_arm own_file a) (joined (map (names_in_arm own_file) arms)) h),
   )
 
   all_low : (es : List Expr) → Each Held es → Each Has es → AllHave LowFits (map (lowered here) es)
@@ -189,8 +182,8 @@ module _ (Q : ℕ → Type 0) (T : TargetEntry → Type 0) (here : Standing) whe
   on_binary : (p : Pos) (o : BinaryOp) (q : Pos) (a b : Expr) → Held a → Held b → Held (expr.Binary p o q a b)
   on_binary p o q a b ha hb h =
       let has = subst (AllHave Q) (named.named_Binary own_file p o q a b) h in
-      let one = front Q (files_in a) (files_in b) has.1 in
-      let other = back Q (files_in a) (files_in b) has.1 in
+      let one = all_front Q (files_in a) (files_in b) has.1 in
+      let other = all_back Q (files_in a) (files_in b) has.1 in
       rw (made.lowered_Binary here p o q a b)
       (λ locals x. laid.fits_then Q T _ _ (ha one locals None) (laid.fits_then Q T _ _ (hb other locals None)
       (laid.fits_operator Q T (number_between o) (rounding_number here.rounding) q has.0)))
@@ -198,8 +191,8 @@ module _ (Q : ℕ → Type 0) (T : TargetEntry → Type 0) (here : Standing) whe
   on_and : (p : Pos) (a b : Expr) → Held a → Held b → Held (expr.And p a b)
   on_and p a b ha hb h =
       let has = subst (AllHave Q) (named.named_And own_file p a b) h in
-      let one = front Q (files_in a) (files_in b) has in
-      let other = back Q (files_in a) (files_in b) has in
+      let one = all_front Q (files_in a) (files_in b) has in
+      let other = all_back Q (files_in a) (files_in b) has in
       rw (made.lowered_And here p a b)
       (λ locals x. laid.fits_then Q T _ _ (ha one locals None)
       (laid.fits_branch Q T (λ t. instr.JumpFalse t) _ _ (hb other locals None) (laid.fits_truth Q T false)))
@@ -207,8 +200,8 @@ module _ (Q : ℕ → Type 0) (T : TargetEntry → Type 0) (here : Standing) whe
   on_or : (p : Pos) (a b : Expr) → Held a → Held b → Held (expr.Or p a b)
   on_or p a b ha hb h =
       let has = subst (AllHave Q) (named.named_Or own_file p a b) h in
-      let one = front Q (files_in a) (files_in b) has in
-      let other = back Q (files_in a) (files_in b) has in
+      let one = all_front Q (files_in a) (files_in b) has in
+      let other = all_back Q (files_in a) (files_in b) has in
       rw (made.lowered_Or here p a b)
       (λ locals x. laid.fits_then Q T _ _ (ha one locals None)
       (laid.fits_branch Q T (λ t. instr.JumpFalse t) _ _ (laid.fits_truth Q T true) (hb other locals None)))
@@ -216,10 +209,10 @@ module _ (Q : ℕ → Type 0) (T : TargetEntry → Type 0) (here : Standing) whe
   on_if : (p : Pos) (c a b : Expr) → Held c → Held a → Held b → Held (expr.If p c a b)
   on_if p c a b hc ha hb h =
       let has = subst (AllHave Q) (named.named_If own_file p c a b) h in
-      let both = front Q (files_in c ++ files_in a) (files_in b) has in
-      let other = back Q (files_in c ++ files_in a) (files_in b) has in
-      let test = front Q (files_in c) (files_in a) both in
-      let one = back Q (files_in c) (files_in a) both in
+      let both = all_front Q (files_in c ++ files_in a) (files_in b) has in
+      let other = all_back Q (files_in c ++ files_in a) (files_in b) has in
+      let test = all_front Q (files_in c) (files_in a) both in
+      let one = all_back Q (files_in c) (files_in a) both in
       rw (made.lowered_If here p c a b)
       (λ locals x. laid.fits_then Q T _ _ (hc test locals None)
       (laid.fits_branch Q T (λ t. instr.JumpFalse t) _ _ (ha one locals x) (hb other locals _)))
@@ -228,8 +221,8 @@ module _ (Q : ℕ → Type 0) (T : TargetEntry → Type 0) (here : Standing) whe
       → Held (expr.Match p e arms)
   on_match p e arms he held h =
       let has = subst (AllHave Q) (named.named_Match own_file p e arms) h in
-      let one = front Q (files_in e) _ has in
-      let low = arms_low arms held (each_body arms (back Q (files_in e) _ has)) in
+      let one = all_front Q (files_in e) _ has in
+      let low = arms_low arms held (each_body arms (all_back Q (files_in e) _ has)) in
       rw (made.lowered_Match here p e arms)
       (λ locals x. laid.fits_then Q T _ _ (he one locals None)
       (laid.fits_led Q T _ _ (fits_arms _ _ (map (branch here) arms) low locals x)))
@@ -266,8 +259,8 @@ module _ (Q : ℕ → Type 0) (T : TargetEntry → Type 0) (here : Standing) whe
   on_for_all : (p : Pos) (l test : Expr) → Held l → Held test → Held (expr.ForAll p l test)
   on_for_all p l test hl ht h =
       let has = subst (AllHave Q) (named.named_ForAll own_file p l test) h in
-      let one = front Q (files_in l) (files_in test) has in
-      let other = back Q (files_in l) (files_in test) has in
+      let one = all_front Q (files_in l) (files_in test) has in
+      let other = all_back Q (files_in l) (files_in test) has in
       rw (made.lowered_ForAll here p l test)
       (λ locals x. laid.fits_then Q T _ _ (hl one locals None) (laid.fits_led Q T _ _
       (laid.fits_search Q T _ true (laid.fits_all_turn Q T _ (laid.fits_of_local Q T _ (ht other _ None))))))
@@ -275,8 +268,8 @@ module _ (Q : ℕ → Type 0) (T : TargetEntry → Type 0) (here : Standing) whe
   on_exists : (p : Pos) (l test : Expr) → Held l → Held test → Held (expr.Exists p l test)
   on_exists p l test hl ht h =
       let has = subst (AllHave Q) (named.named_Exists own_file p l test) h in
-      let one = front Q (files_in l) (files_in test) has in
-      let other = back Q (files_in l) (files_in test) has in
+      let one = all_front Q (files_in l) (files_in test) has in
+      let other = all_back Q (files_in l) (files_in test) has in
       rw (made.lowered_Exists here p l test)
       (λ locals x. laid.fits_then Q T _ _ (hl one locals None) (laid.fits_led Q T _ _
       (laid.fits_search Q T _ false (laid.fits_any_turn Q T _ (laid.fits_of_local Q T _ (ht other _ None))))))
@@ -284,8 +277,8 @@ module _ (Q : ℕ → Type 0) (T : TargetEntry → Type 0) (here : Standing) whe
   on_map : (p : Pos) (l e : Expr) → Held l → Held e → Held (expr.Map p l e)
   on_map p l e hl he h =
       let has = subst (AllHave Q) (named.named_Map own_file p l e) h in
-      let one = front Q (files_in l) (files_in e) has in
-      let other = back Q (files_in l) (files_in e) has in
+      let one = all_front Q (files_in l) (files_in e) has in
+      let other = all_back Q (files_in l) (files_in e) has in
       rw (made.lowered_Map here p l e)
       (λ locals x. laid.fits_then Q T _ _ (hl one locals None)
       (laid.fits_then Q T _ _ (laid.fits_constant Q T (λ k. instr.IterList k) _)
@@ -295,8 +288,8 @@ module _ (Q : ℕ → Type 0) (T : TargetEntry → Type 0) (here : Standing) whe
   on_filter : (p : Pos) (l test : Expr) → Held l → Held test → Held (expr.Filter p l test)
   on_filter p l test hl ht h =
       let has = subst (AllHave Q) (named.named_Filter own_file p l test) h in
-      let one = front Q (files_in l) (files_in test) has in
-      let other = back Q (files_in l) (files_in test) has in
+      let one = all_front Q (files_in l) (files_in test) has in
+      let other = all_back Q (files_in l) (files_in test) has in
       rw (made.lowered_Filter here p l test)
       (λ locals x. laid.fits_then Q T _ _ (hl one locals None)
       (laid.fits_then Q T _ _ (laid.fits_constant Q T (λ k. instr.IterList k) _)
@@ -308,10 +301,10 @@ module _ (Q : ℕ → Type 0) (T : TargetEntry → Type 0) (here : Standing) whe
   on_combine : (p : Pos) (l start e : Expr) → Held l → Held start → Held e → Held (expr.Combine p l start e)
   on_combine p l start e hl hs he h =
       let has = subst (AllHave Q) (named.named_Combine own_file p l start e) h in
-      let both = front Q (files_in l ++ files_in start) (files_in e) has in
-      let other = back Q (files_in l ++ files_in start) (files_in e) has in
-      let one = front Q (files_in l) (files_in start) both in
-      let begun = back Q (files_in l) (files_in start) both in
+      let both = all_front Q (files_in l ++ files_in start) (files_in e) has in
+      let other = all_back Q (files_in l ++ files_in start) (files_in e) has in
+      let one = all_front Q (files_in l) (files_in start) both in
+      let begun = all_back Q (files_in l) (files_in start) both in
       rw (made.lowered_Combine here p l start e)
       (λ locals x. laid.fits_then Q T _ _ (hl one locals None) (laid.fits_then Q T _ _ (hs begun locals None)
       (laid.fits_led Q T _ _ (laid.fits_led Q T _ _ (laid.fits_led Q T _ _ (laid.fits_led Q T _ _
@@ -322,8 +315,8 @@ module _ (Q : ℕ → Type 0) (T : TargetEntry → Type 0) (here : Standing) whe
   on_contains : (p q : Pos) (l e : Expr) → Held l → Held e → Held (expr.Contains p q l e)
   on_contains p q l e hl he h =
       let has = subst (AllHave Q) (named.named_Contains own_file p q l e) h in
-      let one = front Q (files_in l) (files_in e) has.1 in
-      let other = back Q (files_in l) (files_in e) has.1 in
+      let one = all_front Q (files_in l) (files_in e) has.1 in
+      let other = all_back Q (files_in l) (files_in e) has.1 in
       rw (made.lowered_Contains here p q l e)
       (λ locals x. laid.fits_then Q T _ _ (hl one locals None) (laid.fits_then Q T _ _ (he other locals None)
       (laid.fits_led Q T _ _ (laid.fits_led Q T _ _ (laid.fits_then Q T _ _

@@ -13,6 +13,7 @@ use Rattle.cat_scope.specs.HasType.{HasType}
 use Rattle.cat_scope.specs.Expected.{lists_placed}
 use Rattle.cat_scope.specs.Mentions.{joined, items_named, scopes_named}
 use Rattle.cat_sound.specs.LowTypes.{IsLow, names_at}
+use Rattle.cat_sound.proofs.Exported.{all_back, all_front}
 use Rattle.cat_calc.specs.declared.term.DefaultTerm.{DefaultTerm}
 use Rattle.cat_calc.specs.declared.calcs.ItemTerms.{ItemTerms}
 use Rattle.cat_calc.specs.declared.calcs.CalcScope.{CalcScope}
@@ -28,7 +29,6 @@ use Rattle.cat_code.specs.Places.{FunctionPlace, function_places, functions_in, 
 use Rattle.cat_lower.specs.Pieces.{index_of}
 use Rattle.cat_lower.specs.Terms.{TermStanding}
 use Rattle.cat_lower.proofs.ScopeTerms.{all_at}
-use Rattle.cat_lower.proofs.AddingTerms.{all_front, all_back}
 use Rattle.cat_lower.proofs.FilledSlots.{filled_from, filled_read, filled_more, in_front_of, front_within}
 use Rattle.cat_lower.proofs.Ranks.{order_of, place_rank, local_rank, Calls, entry, entry_is, calls_function}
 use Rattle.cat_lower.proofs.ShapedForms.{within_so}

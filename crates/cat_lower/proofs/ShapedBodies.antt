@@ -29,7 +29,7 @@ use Rattle.cat_lower.specs.Pieces.{index_of}
 use Rattle.cat_lower.specs.Terms.{target_code, context_code}
 use Rattle.cat_lower.specs.Scopes.{ScopeStanding, target_at, term_at, variable_code, inner_code, inner_codes}
 use Rattle.cat_lower.specs.Scopes.{stored_code}
-use Rattle.cat_lower.proofs.Meeting.{meets_same}
+use Rattle.cat_code.proofs.MeetingLaws.{meets_same}
 use Rattle.cat_lower.proofs.ScopeTerms.{all_at}
 use Rattle.cat_lower.proofs.Sketches.{Takes, takes_one, takes_then, takes_nothing, takes_over}
 use Rattle.cat_lower.proofs.FormLaws.{form_boolean}

@@ -22,6 +22,7 @@ use Rattle.cat_scope.specs.WellFormed.{is_placed, is_internal}
 use Rattle.cat_sound.specs.LowTypes.{names_at}
 use Rattle.cat_sound.proofs.LowTypes.{params_low}
 use Rattle.cat_sound.proofs.Exported.{listed_in}
+use Rattle.cat_sound.proofs.Exported.{all_back, all_front}
 use Rattle.cat_calc.specs.declared.term.DefaultTerm.{DefaultTerm}
 use Rattle.cat_calc.specs.declared.calcs.CalcScope.{CalcScope}
 use Rattle.cat_calc.specs.Terms.{consequences_in}
@@ -43,7 +44,6 @@ use Rattle.cat_lower.specs.Pieces.{index_of}
 use Rattle.cat_lower.specs.Scopes.{ScopeStanding, target_at, term_at, variable_code, function_code}
 use Rattle.cat_lower.proofs.TypesAgree.{both_so}
 use Rattle.cat_lower.proofs.ScopeTerms.{TermSound, ScopeSound, function_is_defined, all_at}
-use Rattle.cat_lower.proofs.AddingTerms.{all_front, all_back}
 use Rattle.cat_lower.proofs.Sketches.{Takes, Laid, laid_then, sketch_step}
 use Rattle.cat_lower.proofs.FormLaws.{form_boolean}
 use Rattle.cat_lower.proofs.ShapedParts.{slot_of, plain_form}

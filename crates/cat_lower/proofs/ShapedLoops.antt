@@ -27,7 +27,7 @@ use Rattle.cat_lower.specs.Laying.{Coded, one, then_code, led, over, loop}
 use Rattle.cat_lower.specs.Pieces.{constant, operator, of_local, search_for, any_turn, all_turn}
 use Rattle.cat_lower.specs.Expressions.{collecting}
 use Rattle.cat_lower.proofs.Stacks.{length_append}
-use Rattle.cat_lower.proofs.Meeting.{meets_same}
+use Rattle.cat_code.proofs.MeetingLaws.{meets_same}
 use Rattle.cat_lower.proofs.Spots.{IsConstant}
 use Rattle.cat_lower.proofs.Sketches.{Takes, takes_one, takes_then, takes_over, sketch_on, is_jump_false}
 use Rattle.cat_lower.proofs.SketchedLoops.{takes_loop, takes_search, turns_any, turns_all, any_sizes, all_sizes}

@@ -1,6 +1,6 @@
 -- What lowering expressions to typed places stands on.
 use Rattle.std.proofs.Common.{◌≡◌, ℕ, zero, suc, ◌<◌, Bool, true, false, true≢false, not, ◌&&◌, IsTrue, List, [], ◌∷◌}
-use Rattle.std.proofs.Common.{length, map, Option, Some, None, refl, sym, ap, ◌∙◌, slice_get, arith}
+use Rattle.std.proofs.Common.{length, map, Option, Some, None, refl, sym, ap, ◌∙◌, slice_get, arith, inl, inr}
 use Rattle.cat_value.specs.declared.ty.Ty.{Ty}
 use Rattle.cat_value.specs.declared.ty.Ty.TheViews as ty
 use Rattle.cat_value.specs.declared.value.Value.TheViews as value
@@ -33,7 +33,7 @@ use Rattle.cat_lower.specs.Types.{Lowering}
 use Rattle.cat_lower.specs.Rows.{Standing}
 use Rattle.cat_lower.specs.Expressions.{numbers_of, lowered}
 use Rattle.cat_lower.proofs.LoweredEquations.{branch, branch_is, field, field_is}
-use Rattle.cat_lower.proofs.TypesAgree.{both_so, same_results, result_in}
+use Rattle.cat_lower.proofs.TypesAgree.{both_so, result_is}
 use Rattle.cat_lower.proofs.ShapedForms.{more}
 use Rattle.std.proofs.Common.{nat_eq, if◌then◌else◌}
 use Rattle.std.proofs.lemmas.Bool.{eqb-true}
@@ -44,7 +44,6 @@ use Rattle.cat_scope.specs.Signatures.{Signature}
 use Rattle.cat_scope.specs.declared.operators.BinaryOp.{BinaryOp}
 use Rattle.cat_sound.proofs.ListTypes.{of-List}
 use Rattle.cat_code.specs.Forms.{same_form, value_form}
-use Rattle.cat_lower.specs.Types.{result_of}
 use Rattle.std.proofs.Common.{subst}
 use Rattle.cat_value.specs.declared.decls.Decls.{Decls}
 use Rattle.cat_value.specs.Laws.{AreSound}
@@ -173,13 +172,15 @@ called_no_function item s is = ap (λ k. not (is_called k) && not (has_none item
 -- each result of an operator is that of one of its signatures
 pub same_as_one : (o : BinaryOp) (s : Signature) → IsOneOf s (signatures_of o)
     → AllHave (λ (u : Signature). u.result ≡ s.result) (signatures_of o)
-same_as_one o s is = by (signatures_of o) (same_results o)
+same_as_one o s is = by (signatures_of o) (λ r among. among)
   where
-    by : (ss : List Signature) → AllHave (λ (u : Signature). u.result ≡ result_of (signatures_of o)) ss
-        → AllHave (λ (u : Signature). u.result ≡ s.result) ss
-    by [] h = tt
-    by (x ∷ ss) h =
-        (h.0 ∙ sym (result_in (result_of (signatures_of o)) (signatures_of o) (same_results o) s is), by ss h.1)
+    by : (rs : List Signature) → ((r : Signature) → IsOneOf r rs → IsOneOf r (signatures_of o))
+        → AllHave (λ (u : Signature). u.result ≡ s.result) rs
+    by [] within = tt
+    by (r ∷ rs) within = (
+      result_is o r (within r (inl refl)) ∙ sym (result_is o s is),
+      by rs (λ u among. within u (inr among)),
+    )
 
 -- the fields of a structure whose numbers are all there
 pub record DeclaredFields (tables : Tables) (n : ℕ) (ks : List ℕ) : Type 0 where

@@ -13,6 +13,7 @@ use Rattle.cat_scope.specs.Names.{AllHave, is_function, is_called, has_none, ite
 use Rattle.cat_scope.specs.Naming.{is_defined}
 use Rattle.cat_scope.specs.Orders.{called_by_items, called_by_kind}
 use Rattle.cat_scope.specs.WellFormed.{is_placed, is_internal}
+use Rattle.cat_sound.proofs.Exported.{all_back, all_front}
 use Rattle.cat_calc.specs.declared.calcs.CalcScope.{CalcScope}
 use Rattle.cat_code.specs.declared.instr.Instr.{Instr}
 use Rattle.cat_code.specs.declared.instr.Instr.TheVariants as instr
@@ -26,7 +27,6 @@ use Rattle.cat_code.specs.Flow.{flow}
 use Rattle.cat_code.proofs.FormLaws.{same_self}
 use Rattle.cat_lower.specs.Laying.{Coded, nothing, one}
 use Rattle.cat_lower.specs.Scopes.{ScopeStanding, inner_codes, called_code, kind_code, item_code, items_code}
-use Rattle.cat_lower.proofs.AddingTerms.{all_front, all_back}
 use Rattle.cat_lower.proofs.ScopeTerms.{all_at}
 use Rattle.cat_lower.proofs.TypesAgree.{both_so}
 use Rattle.cat_lower.proofs.Stacks.{append_none}

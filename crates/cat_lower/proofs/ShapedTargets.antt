@@ -17,7 +17,7 @@ use Rattle.cat_lower.specs.Laying.{Coded, nothing, one, entry as target_entry, t
 use Rattle.cat_lower.specs.Rows.{Standing}
 use Rattle.cat_lower.specs.Pieces.{truth}
 use Rattle.cat_lower.specs.Terms.{TermStanding, judged_code, without_value, target_code}
-use Rattle.cat_lower.proofs.Meeting.{meets_same, fewer_same, frames_same, pending_same}
+use Rattle.cat_code.proofs.MeetingLaws.{meets_same, fewer_same, frames_same, pending_same}
 use Rattle.cat_lower.proofs.Sketches.{Takes, IsJump, leaves_then, takes_then, takes_nothing, takes_less, takes_over}
 use Rattle.cat_lower.proofs.Sketches.{takes_branch, takes_entry, sketch_step}
 use Rattle.cat_lower.proofs.ShapedForms.{Deep, more, at, gives_truth, within_so}

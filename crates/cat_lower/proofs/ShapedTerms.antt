@@ -6,6 +6,7 @@ use Rattle.cat_scope.specs.declared.expr.Expr.{Expr}
 use Rattle.cat_scope.specs.Judging.{Held}
 use Rattle.cat_scope.specs.Names.{AllHave}
 use Rattle.cat_scope.proofs.Exported.{Each}
+use Rattle.cat_sound.proofs.Exported.{all_back, all_front}
 use Rattle.cat_calc.specs.declared.term.Justification.{Justification}
 use Rattle.cat_calc.specs.declared.term.Justification.TheVariants as justification
 use Rattle.cat_calc.specs.declared.term.DefaultTerm.{DefaultTerm}
@@ -24,9 +25,9 @@ use Rattle.cat_code.proofs.FormLaws.{same_self}
 use Rattle.cat_lower.specs.Laying.{Coded, nothing, one, then_code, led, all_code, over}
 use Rattle.cat_lower.specs.Terms.{TermStanding, condition_code, value_code, under, otherwise, framed, default_code}
 use Rattle.cat_lower.specs.Terms.{term_code, judged_code}
-use Rattle.cat_lower.proofs.AddingTerms.{all_front, all_back, each_of}
+use Rattle.cat_lower.proofs.AddingTerms.{each_of}
 use Rattle.cat_lower.proofs.TermEquations.{code_Empty, code_Consequence, code_Default}
-use Rattle.cat_lower.proofs.Meeting.{meets_same, fewer_same, frames_same, pending_same}
+use Rattle.cat_code.proofs.MeetingLaws.{meets_same, fewer_same, frames_same, pending_same}
 use Rattle.cat_lower.proofs.Sketches.{Takes, Leaves, IsJump, leaves_one, leaves_then, takes_one, takes_then}
 use Rattle.cat_lower.proofs.Sketches.{takes_nothing, takes_less, takes_over, is_jump_false}
 use Rattle.cat_lower.proofs.ShapedForms.{Deep, more, at, Gives, within_so}

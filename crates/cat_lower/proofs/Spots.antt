@@ -17,7 +17,7 @@ use Rattle.cat_code.specs.Flow.{flow}
 use Rattle.cat_code.specs.Jumps.{jump_of, called_by}
 use Rattle.cat_code.specs.Tame.{may_go_back}
 use Rattle.cat_code.specs.Valid.{keeps_rules}
-use Rattle.cat_lower.proofs.Meeting.{meets_same, meets_then}
+use Rattle.cat_code.proofs.MeetingLaws.{meets_same, meets_then}
 
 -- a place: its shape, and whether one may jump there
 pub record Spot : Type 0 where

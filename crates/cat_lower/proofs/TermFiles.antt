@@ -9,6 +9,7 @@ use Rattle.cat_scope.specs.declared.defs.Def.{Def}
 use Rattle.cat_scope.specs.Judging as judging
 use Rattle.cat_scope.specs.Names.{AllHave, IsOneOf}
 use Rattle.cat_scope.proofs.Exported.{Each}
+use Rattle.cat_sound.proofs.Exported.{all_back, all_front}
 use Rattle.cat_calc.specs.declared.term.Justification.{Justification}
 use Rattle.cat_calc.specs.declared.term.Justification.TheVariants as justification
 use Rattle.cat_calc.specs.declared.term.DefaultTerm.{DefaultTerm}
@@ -27,7 +28,7 @@ use Rattle.cat_lower.specs.Rows.{Standing}
 use Rattle.cat_lower.proofs.TermEquations as equation
 use Rattle.cat_lower.proofs.LaidFiles as laid
 use Rattle.cat_lower.proofs.LaidFiles.{Fits}
-use Rattle.cat_lower.proofs.LoweredFiles.{lowered_fits, front, back, each_on, each_mapped}
+use Rattle.cat_lower.proofs.LoweredFiles.{lowered_fits, each_on, each_mapped}
 
 -- ---- lists
 
@@ -130,11 +131,11 @@ module _ (Q : ℕ → Type 0) (T : TargetEntry → Type 0) where
     each_operates [] h i = tt
     each_operates (t ∷ ts) h i = (
       record {
-        conditions = front _ (conditions_in t) (all_in (map conditions_in ts)) h;
-        consequences = front _ (consequences_in t) (all_in (map consequences_in ts)) i;
+        conditions = all_front _ (conditions_in t) (all_in (map conditions_in ts)) h;
+        consequences = all_front _ (consequences_in t) (all_in (map consequences_in ts)) i;
       },
-      each_operates ts (back _ (conditions_in t) (all_in (map conditions_in ts)) h)
-          (back _ (consequences_in t) (all_in (map consequences_in ts)) i),
+      each_operates ts (all_back _ (conditions_in t) (all_in (map conditions_in ts)) h)
+          (all_back _ (consequences_in t) (all_in (map consequences_in ts)) i),
     )
 
     on_default : (ts : List DefaultTerm) (j : Justification) (t : DefaultTerm) → Each HeldTerm ts → HeldTerm t
@@ -144,17 +145,17 @@ module _ (Q : ℕ → Type 0) (T : TargetEntry → Type 0) where
         h.conditions in
         let hs = subst (λ hs. AllHave (λ (h : judging.Held Expr). AllHave Q (files_in h.value)) hs)
         (calculus.consequences_Default ts j t) h.consequences in
-        let both = front _ (all_in (map conditions_in ts) ++ condition_in j) (conditions_in t) cs in
-        let parts = each_operates ts (front _ (all_in (map conditions_in ts)) (condition_in j) both)
-        (front _ (all_in (map consequences_in ts)) (consequences_in t) hs) in
+        let both = all_front _ (all_in (map conditions_in ts) ++ condition_in j) (conditions_in t) cs in
+        let parts = each_operates ts (all_front _ (all_in (map conditions_in ts)) (condition_in j) both)
+        (all_front _ (all_in (map consequences_in ts)) (consequences_in t) hs) in
         rw (equation.code_Default at ts j t)
         (fits_default at (map (term_code at) ts) j (term_code at t)
         (each_mapped (λ t. Fits Q T (term_code at t)) (Fits Q T) (term_code at) ts (λ t f. f)
         (each_on Operates (λ t. Fits Q T (term_code at t)) ts held parts))
-        (back _ (all_in (map conditions_in ts)) (condition_in j) both)
+        (all_back _ (all_in (map conditions_in ts)) (condition_in j) both)
         (own (record {
-          conditions = back _ (all_in (map conditions_in ts) ++ condition_in j) (conditions_in t) cs;
-          consequences = back _ (all_in (map consequences_in ts)) (consequences_in t) hs;
+          conditions = all_back _ (all_in (map conditions_in ts) ++ condition_in j) (conditions_in t) cs;
+          consequences = all_back _ (all_in (map consequences_in ts)) (consequences_in t) hs;
         })))
 
     pub term_fits : (t : DefaultTerm) → TermFits Q t → Fits Q T (term_code at t)

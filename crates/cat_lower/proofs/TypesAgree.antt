@@ -1,7 +1,6 @@
 -- A typed expression is lowered with its type, where its empty lists stand where a type is expected.
 use Rattle.std.proofs.Common.{◌≡◌, ℕ, Bool, true, false, ◌&&◌, List, [], ◌∷◌, ◌++◌, map, Option, None, Some, is_some}
 use Rattle.std.proofs.Common.{refl, sym, ap, ◌∙◌, true≢false}
-use Rattle.std.proofs.Math.Logic.{⊎_elim}
 use Rattle.cat_value.specs.declared.ty.Ty.{Ty}
 use Rattle.cat_value.specs.declared.ty.Ty.TheVariants as flat
 use Rattle.cat_value.specs.declared.ty.Ty.TheViews as ty
@@ -10,12 +9,11 @@ use Rattle.cat_value.specs.declared.declaration.ItemDecl.{ItemDecl}
 use Rattle.cat_value.specs.declared.declaration.Kind.{Kind}
 use Rattle.cat_value.specs.declared.decls.Decls.{Decls}
 use Rattle.cat_scope.specs.declared.operators.BinaryOp.{BinaryOp}
-use Rattle.cat_scope.specs.declared.operators.BinaryOp.TheVariants as binary
 use Rattle.cat_scope.specs.declared.expr.ArmPattern.{ArmPattern}
 use Rattle.cat_scope.specs.declared.expr.ArmPattern.TheVariants as pattern
 use Rattle.cat_scope.specs.declared.expr.Expr.{Expr}
 use Rattle.cat_scope.specs.declared.expr.Arm.{Arm}
-use Rattle.cat_scope.specs.Names.{AllHave, IsOneOf}
+use Rattle.cat_scope.specs.Names.{IsOneOf}
 use Rattle.cat_scope.specs.Signatures.{Signature, signatures_of}
 use Rattle.cat_scope.specs.Fitting.{ArmLocals}
 use Rattle.cat_scope.specs.HasType.{HasType, AllHaveType, ArmsHaveType}
@@ -23,6 +21,7 @@ use Rattle.cat_scope.specs.HasType as typed
 use Rattle.cat_scope.specs.Expected.{lists_placed, row_placed}
 use Rattle.cat_scope.proofs.Exported.{arms_placed, placed_Field, placed_If, placed_Match}
 use Rattle.cat_scope.proofs.Exported.{placed_List, placed_Map, placed_Filter, placed_Combine}
+use Rattle.cat_sound.proofs.Exported.{first_is, first_result}
 use Rattle.cat_code.specs.Places.{called_scope}
 use Rattle.cat_lower.specs.Types.{Lowering, type_or, item_type, element_in, element_type, element_expected}
 use Rattle.cat_lower.specs.Types.{enumeration_in, field_in, called_output, scope_called, content_type, arm_types}
@@ -46,25 +45,13 @@ pub both_so : (a b : Bool) → (a && b) ≡ true → (a ≡ true) × (b ≡ true
 both_so true b e = (refl, e)
 both_so false b e = absurd (true≢false (sym e))
 
--- all signatures of an operator have one result
-abbrev GiveFirst : List Signature → Type 0
-GiveFirst rows = AllHave (λ (r : Signature). r.result ≡ result_of rows) rows
+-- the result of a signature of an operator is that of the first
+same_first : (rows : List Signature) → first_result rows ≡ result_of rows
+same_first [] = refl
+same_first (r ∷ rows) = refl
 
-pub same_results : (o : BinaryOp) → GiveFirst (signatures_of o)
-same_results binary.Less = (refl, (refl, (refl, (refl, (refl, tt)))))
-same_results binary.AtMost = (refl, (refl, (refl, (refl, (refl, tt)))))
-same_results binary.Greater = (refl, (refl, (refl, (refl, (refl, tt)))))
-same_results binary.AtLeast = (refl, (refl, (refl, (refl, (refl, tt)))))
-same_results binary.Equal = (refl, (refl, (refl, (refl, (refl, (refl, tt))))))
-same_results binary.Unequal = (refl, (refl, (refl, (refl, (refl, (refl, tt))))))
-same_results _ = (refl, tt)
-
-pub result_in : (x : Ty) (rows : List Signature) → AllHave (λ (r : Signature). r.result ≡ x) rows → (r : Signature)
-    → IsOneOf r rows
-    → r.result ≡ x
-result_in x [] all r among = elim among [ ]
-result_in x (s ∷ rows) all r among =
-    ⊎_elim (λ same. ap (λ (q : Signature). q.result) same ∙ all.0) (λ more. result_in x rows all.1 r more) among
+pub result_is : (o : BinaryOp) (r : Signature) → IsOneOf r (signatures_of o) → r.result ≡ result_of (signatures_of o)
+result_is o r is = first_is o r is ∙ same_first (signatures_of o)
 
 -- the local names of an arm's body
 pub arm_types_are : (ds : Decls) (n : ℕ) (p : ArmPattern) (ls inside : List Ty) → ArmLocals ds n p ls inside
@@ -120,7 +107,7 @@ module _ (here : Standing) where
         ap (λ (w : Lowering). w.type ls x) (lowered_Unary here p o e)
     types_agree {ls} (typed.binary {p = p} {q = q} {o = o} {a = a} {b = b} s is g h) x want placed =
         ap (λ (w : Lowering). w.type ls x) (lowered_Binary here p o q a b)
-        ∙ sym (result_in (result_of (signatures_of o)) (signatures_of o) (same_results o) s is)
+        ∙ sym (result_is o s is)
     types_agree {ls} (typed.both {p = p} {a = a} {b = b} g h) x want placed =
         ap (λ (w : Lowering). w.type ls x) (lowered_And here p a b)
     types_agree {ls} (typed.any {p = p} {a = a} {b = b} g h) x want placed =

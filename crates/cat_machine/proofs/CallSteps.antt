@@ -13,6 +13,7 @@ use Rattle.cat_code.specs.Machine.{act}
 use Rattle.cat_code.specs.Moves.{enters, of_top, pop_all, popped, with_part}
 use Rattle.cat_code.specs.States.{Goes, Next, Pending, State, on, stuck}
 use Rattle.cat_pool.specs.Nodes.{Standing, AreBelow, at, seen_at, values}
+use Rattle.cat_pool.proofs.Exported.{below-drop, below-take}
 use Rattle.cat_machine.specs.declared.machine.Machine.{Machine}
 use Rattle.cat_machine.specs.declared.machine.Return.{Return}
 use Rattle.cat_machine.specs.Layers.{extended, rest_of, top_head, top_items, with_item}
@@ -20,7 +21,7 @@ use Rattle.cat_machine.specs.States.{decided, pending_of, slots_of, state_at}
 use Rattle.cat_machine.specs.Steps.{behind}
 use Rattle.cat_machine.specs.inside.Machines.{AreFrames, IsMachine, LayersBelow, SlotLayersBelow}
 use Rattle.cat_machine.proofs.Growth.{rest_slots_below, top_slots_below}
-use Rattle.cat_machine.proofs.Holding.{below_drop, below_reverse, below_split, below_take, layers_rest, slot_layers_set}
+use Rattle.cat_machine.proofs.Holding.{below_reverse, below_split, layers_rest, slot_layers_set}
 use Rattle.cat_machine.proofs.Holding.{with_locals}
 use Rattle.cat_machine.proofs.Holding.{with_operands, with_pending, with_slots, without_operand}
 use Rattle.cat_machine.proofs.LoopSteps.{head_is}
@@ -138,9 +139,9 @@ module _ (tables : Tables) (place : ℕ) (m : Machine) where
       with_locals tables (record m { operands = operands })
       (with_operands tables m is operands
       (subst (λ (l : List ℕ). AreBelow (length m.pool) l) (sym dropped)
-      (below_drop (length m.pool) n m.operands is.operands))) locals
+      (below-drop (length m.pool) n m.operands is.operands))) locals
       (subst (λ (l : List (Option Return × List ℕ)). LayersBelow (length m.pool) l) (sym opened) (
-        below_reverse (length m.pool) (take n m.operands) (below_take (length m.pool) n m.operands is.operands),
+        below_reverse (length m.pool) (take n m.operands) (below-take (length m.pool) n m.operands is.operands),
         is.locals,
       ))
       (subst (λ (l : List (Option Return × List ℕ)). AreFrames l) (sym opened) is.framed)

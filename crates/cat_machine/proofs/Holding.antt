@@ -1,11 +1,11 @@
 -- The references of a machine stay those of nodes as one of its stacks changes.
-use Rattle.std.proofs.Common.{◌≡◌, ℕ, zero, suc, ◌-◌, ◌<◌, List, [], ◌∷◌, ◌++◌, length, take, drop, reverse}
+use Rattle.std.proofs.Common.{◌≡◌, ℕ, zero, suc, ◌-◌, ◌<◌, List, [], ◌∷◌, ◌++◌, length, reverse}
 use Rattle.std.proofs.Common.{Option, Some, None}
 use Rattle.std.proofs.Common.{slice_get, get_or, sym, ap, subst, arith}
 use Rattle.std.proofs.lemmas.List.{reverse-append}
 use Rattle.cat_code.specs.declared.code.Tables.{Tables}
 use Rattle.cat_pool.specs.Nodes.{Standing, AreBelow}
-use Rattle.cat_pool.proofs.Exported.{below-append}
+use Rattle.cat_pool.proofs.Exported.{below-append, below-take}
 use Rattle.cat_machine.specs.declared.machine.Machine.{Machine}
 use Rattle.cat_machine.specs.declared.machine.Return.{Return}
 use Rattle.cat_machine.specs.declared.machine.LoopHead.{LoopHead}
@@ -45,16 +45,6 @@ pub below_split : (n : ℕ) (refs : List ℕ) (r : ℕ) (rest : List ℕ) → re
     → (r < n) × AreBelow n rest
 below_split n refs r rest is below = subst (λ (l : List ℕ). AreBelow n l) is below
 
-pub below_drop : (n k : ℕ) (rs : List ℕ) → AreBelow n rs → AreBelow n (drop k rs)
-below_drop n zero rs below = below
-below_drop n (suc k) [] below = tt
-below_drop n (suc k) (r ∷ rs) below = below_drop n k rs below.1
-
-pub below_take : (n k : ℕ) (rs : List ℕ) → AreBelow n rs → AreBelow n (take k rs)
-below_take n zero rs below = tt
-below_take n (suc k) [] below = tt
-below_take n (suc k) (r ∷ rs) below = (below.0, below_take n k rs below.1)
-
 pub below_reverse : (n : ℕ) (rs : List ℕ) → AreBelow n rs → AreBelow n (reverse rs)
 below_reverse n [] below = tt
 below_reverse n (r ∷ rs) below =
@@ -71,7 +61,7 @@ layers_extended n more (l ∷ ls) below others = (below-append n l.1 more below.
 pub layers_shortened : {H : Type 0} (n k : ℕ) (ls : List (H × List ℕ)) → LayersBelow n ls
     → LayersBelow n (shortened k ls)
 layers_shortened n k [] below = tt
-layers_shortened n k (l ∷ ls) below = (below_take n (length l.1 - k) l.1 below.0, below.1)
+layers_shortened n k (l ∷ ls) below = (below-take n (length l.1 - k) l.1 below.0, below.1)
 
 pub layers_rest : {H : Type 0} (n : ℕ) (ls : List (H × List ℕ)) → LayersBelow n ls → LayersBelow n (rest_of ls)
 layers_rest n [] below = tt

@@ -24,13 +24,14 @@ use Rattle.cat_pool.specs.declared.node.PoolNode.TheVariants as node
 use Rattle.cat_pool.specs.declared.node.Refs.{Refs}
 use Rattle.cat_pool.specs.Nodes.{Standing, AreBelow, IsPlaced, at, in_range, listed, lone, seen_at, structured}
 use Rattle.cat_pool.specs.Nodes.{value_in, values}
+use Rattle.cat_pool.proofs.Exported.{below-drop, below-take}
 use Rattle.cat_machine.specs.declared.machine.Machine.{Machine}
 use Rattle.cat_machine.specs.States.{decided, slot, state_at}
 use Rattle.cat_machine.specs.Steps.{OneMore, behind}
 use Rattle.cat_machine.specs.inside.Machines.{IsMachine}
 use Rattle.cat_machine.specs.inside.Putting.{Puts}
 use Rattle.cat_machine.proofs.CallSteps.{all_popped}
-use Rattle.cat_machine.proofs.Holding.{below_at, below_drop, below_reverse, below_take, get_at, with_operands}
+use Rattle.cat_machine.proofs.Holding.{below_at, below_reverse, get_at, with_operands}
 use Rattle.cat_machine.proofs.Holding.{without_operand}
 use Rattle.cat_machine.proofs.NodeKinds.{at_is, elements_are, fields_are}
 use Rattle.cat_machine.proofs.Popping.{popped_so}
@@ -45,7 +46,7 @@ pub parts_below : (tables : Tables) (n : ℕ) (m : Machine) (parts : List ℕ) �
     → AreBelow (length m.pool) parts
 parts_below tables n m parts is last =
     subst (λ (rs : List ℕ). AreBelow (length m.pool) rs) (sym last)
-    (below_reverse (length m.pool) (take n m.operands) (below_take (length m.pool) n m.operands is.operands))
+    (below_reverse (length m.pool) (take n m.operands) (below-take (length m.pool) n m.operands is.operands))
 
 -- they are the parts of a node that is put in their place
 module _ (tables : Tables) (place n r : ℕ) (m : Machine) (parts left ops : List ℕ) (pool : List Standing)
@@ -56,7 +57,7 @@ module _ (tables : Tables) (place n r : ℕ) (m : Machine) (parts left ops : Lis
   rest_machine =
       with_operands tables m is left
       (subst (λ (rs : List ℕ). AreBelow (length m.pool) rs) (sym forgot)
-      (below_drop (length m.pool) n m.operands is.operands))
+      (below-drop (length m.pool) n m.operands is.operands))
 
   made : (s : List Value → Value) → pop_all n (state_at tables place m) (λ vs t. on (push (s vs) t))
       ≡ on (push (s (seen_at m.pool parts)) (state_at tables place (record m { operands = left })))

@@ -69,7 +69,7 @@ impl Loaded {
             steps: _,
             outcome,
         } = run_in(alloc, code, scope, input, constants, machine);
-        clear(alloc, &mut machine);
+        clear(&mut machine);
         machine.pool.release(mark);
         self.machine = Some(machine);
         outcome

@@ -36,17 +36,8 @@ pub fn empty(alloc: Global) -> Machine
     }
 }
 
-/// No element is left of a list. The room that they took stays.
-fn clear_list<T: Drop>(alloc: Global, list: &mut List<T>)
-    ensures { list.new ≡ [] }
-{
-    let mut items = mem::replace(list, List::new(alloc)).into_vec();
-    items.clear();
-    *list = List::from_vec(items);
-}
-
 /// The machine is as if no run had begun, but for its pool. The room that the run took stays.
-pub fn clear(alloc: Global, m: &mut Machine)
+pub fn clear(m: &mut Machine)
     ensures { m.new ≡ emptied m.old.pool }
 {
     m.operands.clear();
@@ -59,8 +50,8 @@ pub fn clear(alloc: Global, m: &mut Machine)
         yes: None,
         no: None,
     };
-    clear_list(alloc, &mut m.constants);
-    clear_list(alloc, &mut m.log);
+    m.constants.clear();
+    m.log.clear();
 }
 
 /// The constants of the code as nodes behind those of a pool.

@@ -20,7 +20,7 @@ pub use Rattle.cat_names.proofs.Lookups.{first_is, inner_is, numbered_is, one_of
 pub use Rattle.cat_names.proofs.DistinctNames.{Apart, names_apart, scopes_apart, first_at}
 pub use Rattle.cat_names.proofs.CycleFound.{Cyclic, Ordered, ordered_or_cyclic}
 pub use Rattle.cat_names.proofs.DeclaredForward.{each_on, as_many}
-pub use Rattle.cat_names.proofs.MadeTypes.{AreMade, IsMade, types_are_items}
+pub use Rattle.cat_names.proofs.MadeTypes.{AreMade, IsMade, nested_named, types_are_items}
 pub use Rattle.cat_names.proofs.DeclaredMade.{DeclaredParts, declared_parts, all_made, are_made}
 pub use Rattle.cat_names.proofs.LowDeclared.{AreLow, declared_low}
 pub use Rattle.cat_names.proofs.SoundDeclared.{declared_sound}

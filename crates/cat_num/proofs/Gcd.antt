@@ -30,7 +30,7 @@ gcd_divides-left a b = mul-div_cancel' (gcd a b) (gcd_is a b).0
 pub gcd_divides-right : (a b : ℕ) → gcd a b * (b / gcd a b) ≡ b
 gcd_divides-right a b = mul-div_cancel' (gcd a b) (gcd_is a b).1
 
-positive_factors : (g m b : ℕ) → g * m ≡ b → 0 < b → (0 < g) × (0 < m)
+pub positive_factors : (g m b : ℕ) → g * m ≡ b → 0 < b → (0 < g) × (0 < m)
 positive_factors zero m b e h = absurd (omega arith)
 positive_factors (suc g) zero b e h = absurd (omega arith)
 positive_factors (suc g) (suc m) b e h = (omega arith, omega arith)

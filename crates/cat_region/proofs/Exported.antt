@@ -13,8 +13,8 @@ pub use Rattle.cat_region.proofs.SideLemmas.{along_dims, along_alike, joined, En
 pub use Rattle.cat_region.proofs.AlikeLemmas.{none_alike, decided_alike, region_alike, admits_alike, inhabited_alike}
 pub use Rattle.cat_region.proofs.AlikeLemmas.{region_before, some_before}
 pub use Rattle.cat_region.proofs.Tests.{le_is, lt_is, eq_is, and-parts, and-both}
-pub use Rattle.cat_region.proofs.LowestLemmas.{gcd_is, reduced_test}
-pub use Rattle.cat_region.proofs.ExtentLemmas.{beq-true, beq-false}
+pub use Rattle.cat_region.proofs.LowestLemmas.{reduced_test}
+pub use Rattle.cat_region.proofs.ExtentLemmas.{lies, lies-narrowed}
 
 pub ruleset narrowing = (laws.Admits-with_narrowing)
 

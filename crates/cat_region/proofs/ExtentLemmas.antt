@@ -55,7 +55,7 @@ pub beq-false : (b : Bool) → beq b false ≡ not b
 beq-false true = refl
 beq-false false = refl
 
-lies-narrowed : (n m : ℤ) (r : Range) (under : Bool)
+pub lies-narrowed : (n m : ℤ) (r : Range) (under : Bool)
     → lies n (narrowed_range r m under) ≡ (lies n r && beq (int_lt n m) under)
 lies-narrowed n m r true = upper n m r.low r.high ∙ ap (λ b. lies n r && b) (sym (beq-true (int_lt n m)))
   where

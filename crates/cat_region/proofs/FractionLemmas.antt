@@ -7,8 +7,7 @@ use Rattle.std.proofs.Math.IntN.{*ℤ-zero}
 use Rattle.std.proofs.Math.Nat.{mul-div_cancel', eq_of_mul-eq-mul_right, mul_comm, mul_assoc, div-le_self, le_trans}
 use Rattle.cat_num.specs.Whole.{largest}
 use Rattle.cat_num.specs.Frac.{Fraction, IsReduced, gcd, lowest, is_negative, signed}
-use Rattle.cat_num.proofs.Exported.{lowest_is, lowest_parts, IsReduced-lowest, signed-product}
-use Rattle.cat_region.proofs.LowestLemmas.{gcd_is}
+use Rattle.cat_num.proofs.Exported.{IsReduced-lowest, gcd_is, lowest_is, lowest_parts, signed-product}
 
 times-suc : (x : ℤ) (e : ℕ) → x *ℤ pos (suc e) ≡ x *ℤ pos e +ℤ x
 times-suc (pos a) e = omega (arith, ints)

@@ -2,30 +2,14 @@
 use Rattle.std.proofs.Common.{◌≡◌, ℕ, zero, suc, ◌+◌, ◌*◌, ◌/◌, ◌%◌, ◌<◌, ◌≤◌, ◌==◌, ℤ}
 use Rattle.std.proofs.Common.{Bool, true, false, refl, sym, ap, ◌∙◌, arith, if◌then◌else◌, unsigned_abs}
 use Rattle.std.specs.Prelude.{◌&&◌, nat_le, nat_lt}
-use Rattle.std.specs.Int.{IsGcd}
-use Rattle.std.proofs.lemmas.Nat.Gcd.{IsGcd-from_zero, IsGcd-from_mod}
 use Rattle.std.proofs.Math.Nat.{mul-div_cancel', mul-zero, mul-div-mul_left, div-add-mod, mod-lt, div-le_self, le_trans}
 use Rattle.cat_num.specs.Whole.{largest, fits}
-use Rattle.cat_num.specs.Frac.{Fraction, IsReduced, gcd, gcd_to, lowest, is_negative, signed, is_reduced}
-use Rattle.cat_num.proofs.Exported.{lowest_parts, IsReduced-lowest}
+use Rattle.cat_num.specs.Frac.{Fraction, IsReduced, gcd, lowest, is_negative, signed, is_reduced}
+use Rattle.cat_num.proofs.Exported.{IsReduced-lowest, gcd_is, lowest_parts, positive_factors}
 use Rattle.cat_region.specs.declared.point.Point.TheVariants as point
 use Rattle.cat_region.specs.Extents.{rank}
 use Rattle.cat_region.proofs.Tests.{le_is, lt_is, eq_is, positive_is, and-both}
 use Rattle.cat_region.proofs.RankLemmas.{odd, size_of, size-same}
-
-gcd_to_is : (k a b : ℕ) → b < k → IsGcd a b (gcd_to k a b)
-gcd_to_is zero a b h = absurd (omega arith)
-gcd_to_is (suc k) a zero h = IsGcd-from_zero a 0 refl
-gcd_to_is (suc k) a (suc b) h = IsGcd-from_mod a (suc b) _ (gcd_to_is k (suc b) (a % suc b) (omega arith))
-
-pub gcd_is : (a b : ℕ) → IsGcd a b (gcd a b)
-unfolding gcd
-gcd_is a b = gcd_to_is (b + 1) a b (omega arith)
-
-positive_factors : (g m b : ℕ) → g * m ≡ b → 0 < b → (0 < g) × (0 < m)
-positive_factors zero m b e h = absurd (omega arith)
-positive_factors (suc g) zero b e h = absurd (omega arith)
-positive_factors (suc g) (suc m) b e h = (omega arith, omega arith)
 
 -- a common factor leaves size and rest as they are
 mod-scaled : (g a b : ℕ) → 0 < g → 0 < b → (g * a) % (g * b) ≡ g * (a % b)

@@ -2,8 +2,7 @@
 use Rattle.std.proofs.Common.{◌≡◌, inl, inr, ℕ, zero, suc, ◌+◌, ◌<◌, ◌≤◌, ◌==◌, nat_eq, Bool, true, false, not, IsTrue}
 use Rattle.std.proofs.Common.{if◌then◌else◌, ℤ, pos, List, [], ◌∷◌, ◌++◌, length, refl, sym}
 use Rattle.std.proofs.Common.{ap, ◌∙◌, subst, true≢false, arith}
-use Rattle.std.specs.Prelude.{◌&&◌, int_lt, ◌-ℤ◌}
-use Rattle.std.specs.Int.{int_min, int_max}
+use Rattle.std.specs.Prelude.{◌&&◌, int_lt}
 use Rattle.std.proofs.Math.Bool.{beq, and_assoc}
 use Rattle.std.proofs.lemmas.Int.{ints}
 use Rattle.std.proofs.lemmas.Bool.Decides.{nat_tests}
@@ -21,7 +20,7 @@ use Rattle.cat_region.specs.Extents.{start, after, after_one, limit, is_under, n
 use Rattle.cat_region.specs.Points.{answer, is_point, is_cut}
 use Rattle.cat_region.specs.Regions.{agrees, all_agree}
 use Rattle.cat_scope.specs.Names.{IsOneOf, AllHave}
-use Rattle.cat_region.proofs.Exported.{beq-true, beq-false}
+use Rattle.cat_region.proofs.Exported.{lies, lies-narrowed}
 use Rattle.cat_search.specs.Cells.{parted}
 
 -- ---- counting
@@ -70,42 +69,9 @@ both_parts p q (x ∷ xs) = both_one (p x) (q x) _ _ _ (both_parts p q xs)
 
 -- ---- what narrowings leave of ranks
 
-abbrev lies : ℤ → Range → Bool
-lies x r = not (int_lt x r.low) && not (int_lt r.high x)
-
 abbrev in_extent : ℤ → Extent → Bool
 in_extent x (Ranks r) = lies x r
 in_extent x (Cases set) = false
-
-lies-narrowed : (x m : ℤ) (r : Range) (under : Bool)
-    → lies x (narrowed_range r m under) ≡ (lies x r && beq (int_lt x m) under)
-lies-narrowed x m r true =
-    upper x m r.low r.high ∙ ap (λ b. lies x r && b) (sym (beq-true (int_lt x m)))
-  where
-    least : (n m h : ℤ) → not (int_lt (int_min h (m -ℤ pos 1)) n) ≡ (not (int_lt h n) && int_lt n m)
-    least n m h = grind (arith, ints)
-
-    upper : (n m l h : ℤ) → (not (int_lt n l) && not (int_lt (int_min h (m -ℤ pos 1)) n)) ≡ (not (int_lt n l) && not
-        (int_lt h n) && int_lt n m)
-    upper n m l h = ap (λ b. not (int_lt n l) && b) (least n m h)
-        ∙ sym (and_assoc (not (int_lt n l)) (not (int_lt h n)) (int_lt n m))
-lies-narrowed x m r false =
-    lower x m r.low r.high ∙ ap (λ b. lies x r && b) (sym (beq-false (int_lt x m)))
-  where
-    greatest : (n m l : ℤ) → not (int_lt n (int_max l m)) ≡ (not (int_lt n l) && not (int_lt n m))
-    greatest n m l = grind (arith, ints)
-
-    swap : (x y z : Bool) → (x && y && z) ≡ (x && z && y)
-    swap true true true = refl
-    swap true true false = refl
-    swap true false true = refl
-    swap true false false = refl
-    swap false y z = refl
-
-    lower : (n m l h : ℤ) → (not (int_lt n (int_max l m)) && not (int_lt h n)) ≡ (not (int_lt n l) && not (int_lt h n)
-        && not (int_lt n m))
-    lower n m l h = ap (λ b. b && not (int_lt h n)) (greatest n m l)
-        ∙ swap (not (int_lt n l)) (not (int_lt n m)) (not (int_lt h n))
 
 after-more : (i : ℕ) (e : Extent) (ns : List Narrowing) (n : Narrowing)
     → after i e (ns ++ n ∷ []) ≡ after_one i (after i e ns) n

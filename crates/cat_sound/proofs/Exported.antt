@@ -6,6 +6,7 @@ pub use Rattle.cat_sound.proofs.ExprTypes.{expressions_go_on}
 pub use Rattle.cat_sound.proofs.Results.{all_front, all_back}
 pub use Rattle.cat_sound.proofs.Endings.{ends_as, ends_choose, ends_then}
 pub use Rattle.cat_sound.proofs.FormTypes.{same_some}
+pub use Rattle.cat_sound.proofs.OneType.{first_result, first_is}
 pub use Rattle.cat_sound.proofs.TargetTypes.{DefEnds, groups-all, defs-all, judge_target-ends}
 pub use Rattle.cat_sound.proofs.TargetTypes.{all_at, all_more, or_else-ends, settle-ends}
 pub use Rattle.cat_sound.proofs.ScopeParts.{DoneAt, IsDone, IsSound, JudgingEnds, callable, called_is, names_of}
@@ -28,7 +29,7 @@ pub use Rattle.cat_sound.proofs.ScopeRuns.{run_scoped-ends}
 pub use Rattle.cat_sound.proofs.PlacedRuns.{all_runs-end}
 pub use Rattle.cat_sound.proofs.OutcomeTypes.{IsOutcomeOf-prop, any_stands, anything, everywhere, outcome-of}
 pub use Rattle.cat_sound.proofs.OutcomeTypes.{settled_programs, logged_within, EndsIn-prop}
-pub use Rattle.cat_sound.proofs.GivenValues.{run_through}
+pub use Rattle.cat_sound.proofs.GivenValues.{IfGives, if_then, run_through}
 pub use Rattle.cat_sound.proofs.RunParts.{first_ok, each_judged}
 pub use Rattle.cat_sound.proofs.DecidedLaws.{each_logged}
 pub use Rattle.cat_sound.proofs.JudgeLaws.{judging_rule, leads_on}
@@ -38,5 +39,6 @@ pub use Rattle.cat_sound.proofs.Rests.{names_alone}
 pub use Rattle.cat_sound.proofs.JudgingSame.{DefSame, target_same}
 pub use Rattle.cat_sound.proofs.ScopeLaws.{scopes_by_rule}
 pub use Rattle.cat_sound.proofs.Alike.{same_gives}
+pub use Rattle.cat_sound.proofs.WellFormedParts.{boolean_is_sound, integer_is_sound}
 pub use Rattle.cat_sound.proofs.Trees.{test_sound, test_whole}
 pub use Rattle.cat_sound.proofs.ForestLaws.{are_low_says, within_below, within_step, within_none}

@@ -43,7 +43,7 @@ use Rattle.cat_sound.proofs.RunEntries.{with_entry-same, with_entry-other, with_
 
 -- ---- what holds of a value, where there is one
 
-abbrev IfGives : {A : Type 0} → Run A → (A → Type 0) → Type 0
+abbrev pub IfGives : {A : Type 0} → Run A → (A → Type 0) → Type 0
 IfGives run P = IfOk run.end P
 
 if_behind : {A B : Type 0} (P : A → Type 0) (Q : B → Type 0) (log : List Decider) (r : Result A Stop) (next : A → Run B)
@@ -51,7 +51,7 @@ if_behind : {A B : Type 0} (P : A → Type 0) (Q : B → Type 0) (log : List Dec
 if_behind P Q log (Ok a) next h go = go a h
 if_behind P Q log (Err stop) next h go = tt
 
-if_then : {A B : Type 0} (P : A → Type 0) (Q : B → Type 0) (run : Run A) (next : A → Run B) → IfGives run P
+pub if_then : {A B : Type 0} (P : A → Type 0) (Q : B → Type 0) (run : Run A) (next : A → Run B) → IfGives run P
     → ((a : A) → P a → IfGives (next a) Q) → IfGives (and_then run next) Q
 if_then P Q run next h go = if_behind P Q run.log run.end next h go
 

@@ -6,7 +6,7 @@ pub use Rattle.cat_value.proofs.Descending.{content_declared, enumeration_low, e
 pub use Rattle.cat_value.proofs.Descending.{found, height_Boolean, height_Date, height_Decimal, height_Duration}
 pub use Rattle.cat_value.proofs.Descending.{height_Enumeration, height_Integer, height_List, height_Money}
 pub use Rattle.cat_value.proofs.Descending.{height_Structure, list_all_at, structure_low}
-pub use Rattle.cat_value.proofs.Descending.{structure_there, within}
+pub use Rattle.cat_value.proofs.Descending.{fields_lower, height_positive, structure_there, within}
 pub use Rattle.cat_value.proofs.Equations.{case_is, declared, has_type-levels, has_type_Boolean, has_type_Case}
 pub use Rattle.cat_value.proofs.Equations.{has_type_Date, has_type_Decimal, has_type_Duration, has_type_Integer}
 pub use Rattle.cat_value.proofs.Equations.{has_type_List, has_type_Money, has_type_Structure, is_declared_Boolean}

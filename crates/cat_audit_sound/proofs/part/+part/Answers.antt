@@ -1,12 +1,12 @@
 use Rattle.std.proofs.Common.{sym, ap, ◌∙◌, subst, IfOk, arith, ◌≤◌}
 use Rattle.cat_value.specs.declared.ty.Ty.{Ty}
 use Rattle.cat_value.specs.Heights.{height_to}
-use Rattle.cat_value.proofs.Exported.{fields_declared}
+use Rattle.cat_value.proofs.Exported.{fields_declared, height_positive, fields_lower}
 use Rattle.cat_value.specs.declared.value.Value.{Value}
 use Rattle.cat_audit_sound.specs.PointInputs.{with_point}
 use Rattle.cat_audit_sound.specs.inside.PointTables.{found_in}
 use Rattle.cat_audit_sound.specs.inside.TypedParts.{IsPart}
-use Rattle.cat_audit_sound.proofs.PartEquations.{height_positive, fields_lower, part_other}
+use Rattle.cat_audit_sound.proofs.PartEquations.{part_other}
 use Rattle.cat_audit_sound.proofs.TypedLaws.{structure_part}
 use Rattle.cat_audit_sound.proofs.part.+part.Goals as goal
 

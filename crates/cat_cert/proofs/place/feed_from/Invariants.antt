@@ -1,6 +1,6 @@
 use Rattle.std.proofs.Common.{◌≡◌, ◌+◌, ◌-◌, ◌≤◌, drop, length}
 use Rattle.std.specs.List.{prefix_len}
-use Rattle.cat_cert.specs.inside.Feeds.{is_other}
+use Rattle.cat_cert.specs.Texts.{is_other}
 use Rattle.cat_cert.proofs.place.feed_from.Given as goal
 
 abbrev pub invariant-loop-end : goal.invariant-loop-end

@@ -1,6 +1,6 @@
 use Rattle.std.proofs.Common.{◌∙◌, sym, arith}
 use Rattle.cat_date.proofs.TextLemmas.{bytes_eq-length, form_same, form_other}
-use Rattle.cat_date.proofs.text.has_form.Goals as goal
+use Rattle.cat_date.proofs.text.has_date_form.Goals as goal
 
 pub returns-then-text-ne10-clause-value : goal.returns-then-text-ne10-clause-value
 returns-then-text-ne10-clause-value c = sym (bytes_eq-length c.args.text.now c.if-text-ne10.true)

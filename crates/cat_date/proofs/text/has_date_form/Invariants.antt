@@ -1,6 +1,6 @@
 use Rattle.std.proofs.Common.{◌≡◌, drop, codes, bytes_eq}
 use Rattle.cat_date.specs.Text.{form_of}
-use Rattle.cat_json.proofs.scalar.has_date_form.Given as goal
+use Rattle.cat_date.proofs.text.has_date_form.Given as goal
 
 -- the rest decides
 abbrev pub invariant-loop-i : goal.invariant-loop-i
