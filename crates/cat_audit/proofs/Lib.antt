@@ -13,12 +13,12 @@ pub mod HangingLemmas
 mod LeastLemmas
 mod TargetLineLemmas
 pub mod SearchedLemmas
-mod Targets
+mod TargetThere
 pub mod TriedLemmas
-mod Values
+mod TermValues
 pub mod Lists
 pub mod BackLemmas
-pub mod Alone
+pub mod PlainAlone
 pub mod FreeTables
 pub mod PlainLines
 pub mod Verdicts

@@ -21,7 +21,7 @@ use Rattle.cat_audit.specs.Decided.{EndsInNoFault, HasCellsWithin, IsDecided, Is
 use Rattle.cat_audit.specs.Decided.{IsUnderivedLine, IsWholeVerdict}
 use Rattle.cat_audit.specs.Plain.{IsPlain}
 use Rattle.cat_audit.proofs.Lists.{all_as}
-use Rattle.cat_audit.proofs.Alone.{itself_alone, no_line, one_alone}
+use Rattle.cat_audit.proofs.PlainAlone.{itself_alone, no_line, one_alone}
 use Rattle.cat_audit.proofs.FreeTables.{free_terms, no_function_targets}
 use Rattle.cat_audit.proofs.PlainLines.{ShowsOf, decided_lines, lines_show, underived_lines}
 use Rattle.cat_audit.proofs.Verdicts.{whole_verdict}

@@ -22,7 +22,7 @@ use Rattle.cat_audit.specs.declared.finding.Finding.TheVariants as finding
 use Rattle.cat_audit.specs.Findings.{finding_in}
 use Rattle.cat_audit.specs.Lines.{findings, found_before, is_found, is_masked, is_hanging, counting}
 use Rattle.cat_audit.specs.inside.Tried.{kept, region_at, IsBadAt, AreBadFrom}
-use Rattle.cat_audit.proofs.Targets.{at_some}
+use Rattle.cat_audit.proofs.TargetThere.{at_some}
 
 -- ---- the finding that counts
 

@@ -47,7 +47,7 @@ use Rattle.cat_audit_sound.specs.Evaluations.{valuation_of}
 use Rattle.cat_audit_sound.specs.Follows.{Follows}
 use Rattle.cat_audit_sound.specs.Audited.{MayDecide, IsTargetAudited, IsAudited, none_may_stop}
 use Rattle.cat_audit_sound.specs.Audited.{IsValueOrFault}
-use Rattle.cat_audit_sound.proofs.Follow.{covered_follows}
+use Rattle.cat_audit_sound.proofs.ListsFollow.{covered_follows}
 use Rattle.cat_audit_sound.proofs.ScopeFollows.{of_mapped, valuation_is, target_follows}
 use Rattle.cat_audit_sound.proofs.SameTargets.{no_function, same_empty}
 

@@ -1,10 +1,9 @@
--- Comparisons with constants: what they evaluate to, and that their cuts say the same.
-use Rattle.std.proofs.Common.{◌≡◌, ℤ, pos, negsuc, Bool, true, false, not, IsTrue, List, map}
+-- Comparisons with constants: what they evaluate to.
+use Rattle.std.proofs.Common.{◌≡◌, ℤ, pos, negsuc, Bool, true, false, not, IsTrue, List}
 use Rattle.std.proofs.Common.{Option, Some, None, Result, Ok, Err, refl, sym, ap, ◌∙◌, subst, arith, true≢false}
-use Rattle.std.specs.Prelude.{◌*ℤ◌, cond, int_lt, if◌then◌else◌}
-use Rattle.std.specs.declared.cmp.Ordering.{Ordering}
+use Rattle.std.specs.Prelude.{◌*ℤ◌, cond, int_lt}
 use Rattle.std.specs.declared.cmp.Ordering.TheVariants as order
-use Rattle.std.specs.Ordering.{int_cmp, is_lt, is_le, ordering_reverse}
+use Rattle.std.specs.Ordering.{int_cmp, ordering_reverse}
 use Rattle.std.proofs.lemmas.Bool.Decides.{nat_tests}
 use Rattle.cat_pos.specs.declared.pos.Pos.{Pos}
 use Rattle.cat_num.specs.Whole.{fits}
@@ -22,7 +21,7 @@ use Rattle.cat_region.specs.declared.cut.Threshold.{Threshold}
 use Rattle.cat_region.specs.declared.cut.Threshold.TheVariants as threshold
 use Rattle.cat_region.specs.declared.point.Point.{Point}
 use Rattle.cat_region.specs.declared.point.Point.TheVariants as point
-use Rattle.cat_region.specs.Points.{is_point, point_order, default_point}
+use Rattle.cat_region.specs.Points.{is_point, point_order}
 use Rattle.cat_scope.specs.declared.stop.Stop.{Stop}
 use Rattle.cat_scope.specs.declared.expr.Literal.{Literal}
 use Rattle.cat_scope.specs.declared.expr.Literal.TheVariants as literal
@@ -36,10 +35,10 @@ use Rattle.cat_scope.specs.declared.operators.UnaryOp.{UnaryOp}
 use Rattle.cat_scope.specs.declared.operators.UnaryOp.TheVariants as unary
 use Rattle.cat_scope.specs.declared.operators.BinaryOp.{BinaryOp}
 use Rattle.cat_scope.specs.declared.operators.BinaryOp.TheVariants as binary
-use Rattle.cat_scope.specs.Replies.{Reply, on_one}
+use Rattle.cat_scope.specs.Replies.{on_one}
 use Rattle.cat_scope.specs.Runs.{plain}
 use Rattle.cat_scope.specs.Projections as read
-use Rattle.cat_scope.specs.Comparing.{compared, compared_in, equal, equal_in, is_less, is_equal, is_greater}
+use Rattle.cat_scope.specs.Comparing.{compared, compared_in, equal, equal_in, is_equal}
 use Rattle.cat_scope.specs.Operators.{convert, operate}
 use Rattle.cat_scope.specs.Composed.{Meaning, literal_value}
 use Rattle.cat_scope.specs.Eval.{Env, eval, meaning_of}
@@ -48,17 +47,14 @@ use Rattle.cat_scope.specs.Names.{Names}
 use Rattle.cat_scope.specs.Signatures.{given_by}
 use Rattle.cat_scope.specs.HasType.{HasType}
 use Rattle.cat_scope.proofs.Exported.{Field, Branch, field, branch, levels}
-use Rattle.cat_sound.specs.Endings.{Allowed, Ended, IsOf}
+use Rattle.cat_sound.specs.Endings.{IsOf}
 use Rattle.cat_sound.specs.Parts.{PartsTyped}
 use Rattle.cat_sound.proofs.Exported.{parts_typed}
-use Rattle.cat_guard.specs.Formulas.{Formula, truth}
-use Rattle.cat_guard.specs.Formulas as formula
-use Rattle.cat_guard.specs.Comparisons.{Comparison, comparison_of, reads, turned, parted, threshold_dim, constant_of}
+use Rattle.cat_guard.specs.Comparisons.{Comparison, comparison_of, reads, threshold_dim, constant_of}
 use Rattle.cat_guard.specs.Comparisons.{constant_in, constant_under, literal_constant, negated_constant}
 use Rattle.cat_guard.specs.Comparisons as comparison
-use Rattle.cat_guard.specs.PointValues.{point_in, point_of, point_or, point_at}
+use Rattle.cat_guard.specs.PointValues.{point_in, point_of}
 use Rattle.cat_guard.proofs.Exported.{then_end}
-use Rattle.cat_audit_sound.proofs.Tells.{Tells, tells_as, tells_Boolean}
 
 -- ---- an expression by its form
 
@@ -286,7 +282,7 @@ on_one_on_one (Err stop) f g = refl
 abbrev Gives : Rounding → BinaryOp → Pos → Value → Value → Comparison → Type 0
 Gives rounding o p v w c = operate rounding o p v w ≡ on_one (compared p v w) (λ x. Ok (flat.Boolean (reads c x)))
 
-operate_reads : (rounding : Rounding) (o : BinaryOp) (c : Comparison) → comparison_of o ≡ Some c → (p : Pos)
+pub operate_reads : (rounding : Rounding) (o : BinaryOp) (c : Comparison) → comparison_of o ≡ Some c → (p : Pos)
     (v w : Value) → FromComparing p v w → Gives rounding o p v w c
 operate_reads rounding binary.Less c e p v w h =
     subst (Gives rounding binary.Less p v w) (same_comparison comparison.Less c e) refl
@@ -305,117 +301,3 @@ operate_reads rounding binary.Unequal c e p v w h =
     (ap (λ r. on_one r (λ b. Ok (flat.Boolean (not b)))) h
     ∙ on_one_on_one (compared p v w) (λ o. Ok (is_equal o)) (λ b. Ok (flat.Boolean (not b))))
 operate_reads rounding _ c e p v w h = absurd (cc)
-
--- ---- what cuts say
-
-parted_reads : {A : Type 0} (holds : A → Bool) (c : Comparison) (o : Ordering) (f g : Formula A)
-    → truth holds f ≡ is_lt o → truth holds g ≡ is_le o → truth holds (parted c f g) ≡ reads c o
-parted_reads holds comparison.Less o f g below at_most = below ∙ less o
-  where
-    less : (o : Ordering) → is_lt o ≡ is_less o
-    less order.Less = refl
-    less order.Equal = refl
-    less order.Greater = refl
-parted_reads holds comparison.AtMost o f g below at_most = at_most ∙ most o
-  where
-    most : (o : Ordering) → is_le o ≡ not (is_greater o)
-    most order.Less = refl
-    most order.Equal = refl
-    most order.Greater = refl
-parted_reads holds comparison.Greater o f g below at_most = ap not at_most ∙ more o
-  where
-    more : (o : Ordering) → not (is_le o) ≡ is_greater o
-    more order.Less = refl
-    more order.Equal = refl
-    more order.Greater = refl
-parted_reads holds comparison.AtLeast o f g below at_most = ap not below ∙ least o
-  where
-    least : (o : Ordering) → not (is_lt o) ≡ not (is_less o)
-    least order.Less = refl
-    least order.Equal = refl
-    least order.Greater = refl
-parted_reads holds comparison.Equal o f g below at_most = rw (below, at_most) (same o)
-  where
-    same : (o : Ordering) → truth {A = Bool} (λ b. b)
-        (parted comparison.Equal (formula.Constant (is_lt o)) (formula.Constant (is_le o))) ≡ is_equal o
-    same order.Less = refl
-    same order.Equal = refl
-    same order.Greater = refl
-parted_reads holds comparison.Unequal o f g below at_most = rw (below, at_most) (other o)
-  where
-    other : (o : Ordering) → truth {A = Bool} (λ b. b)
-        (parted comparison.Unequal (formula.Constant (is_lt o)) (formula.Constant (is_le o))) ≡ not (is_equal o)
-    other order.Less = refl
-    other order.Equal = refl
-    other order.Greater = refl
-
-reads_turned : (c : Comparison) (o : Ordering) → reads (turned c) o ≡ reads c (ordering_reverse o)
-reads_turned comparison.Less order.Less = refl
-reads_turned comparison.Less order.Equal = refl
-reads_turned comparison.Less order.Greater = refl
-reads_turned comparison.AtMost order.Less = refl
-reads_turned comparison.AtMost order.Equal = refl
-reads_turned comparison.AtMost order.Greater = refl
-reads_turned comparison.Greater order.Less = refl
-reads_turned comparison.Greater order.Equal = refl
-reads_turned comparison.Greater order.Greater = refl
-reads_turned comparison.AtLeast order.Less = refl
-reads_turned comparison.AtLeast order.Equal = refl
-reads_turned comparison.AtLeast order.Greater = refl
-reads_turned comparison.Equal order.Less = refl
-reads_turned comparison.Equal order.Equal = refl
-reads_turned comparison.Equal order.Greater = refl
-reads_turned comparison.Unequal order.Less = refl
-reads_turned comparison.Unequal order.Equal = refl
-reads_turned comparison.Unequal order.Greater = refl
-
-point_there : (s : Threshold) (v : Value) (k : IsCompared s v) → point_at (threshold_dim s) (Ok v) ≡ k.point
-point_there s v k =
-    ap (point_or (threshold_dim s)) k.point_is
-    ∙ ap (λ b. if b then k.point else default_point (threshold_dim s)) k.is
-
-module _ {A : Type 0} (allowed : Allowed) (ds : Decls) (holds : A → Bool) (f g : Formula A) (s : Threshold) (r : Reply)
-    (ends : Ended allowed (IsOf ds (threshold_type s)) r)
-    (below : truth holds f ≡ is_lt (point_order (point_at (threshold_dim s) r) s))
-    (at_most : truth holds g ≡ is_le (point_order (point_at (threshold_dim s) r) s)) where
-  -- a comparison with the constant on the right
-  pub tells_right : (rounding : Rounding) (o : BinaryOp) (c : Comparison) → comparison_of o ≡ Some c → (p : Pos)
-      → Tells (on_one r (λ v. operate rounding o p v (threshold_value s))) (truth holds (parted c f g))
-  tells_right rounding o c is p = by r ends below at_most
-    where
-      by : (r : Reply) → Ended allowed (IsOf ds (threshold_type s)) r
-          → truth holds f ≡ is_lt (point_order (point_at (threshold_dim s) r) s)
-          → truth holds g ≡ is_le (point_order (point_at (threshold_dim s) r) s)
-          → Tells (on_one r (λ v. operate rounding o p v (threshold_value s))) (truth holds (parted c f g))
-      by (Err stop) ends below at_most b e = absurd (cc)
-      by (Ok v) ends below at_most b e =
-          let k = compared_with ds s v ends in
-          let there = ap (λ x. point_order x s) (point_there s v k) in
-          tells_as (operate rounding o p v (threshold_value s)) (Ok (flat.Boolean (reads c (point_order k.point s))))
-          (truth holds (parted c f g)) (reads c (point_order k.point s))
-          (operate_reads rounding o c is p v (threshold_value s) (k.equal_is p)
-          ∙ ap (λ x. on_one x (λ y. Ok (flat.Boolean (reads c y)))) (k.order p))
-          (parted_reads holds c (point_order k.point s) f g (below ∙ ap is_lt there) (at_most ∙ ap is_le there))
-          (tells_Boolean (reads c (point_order k.point s))) b e
-
-  -- and with the constant on the left
-  pub tells_left : (rounding : Rounding) (o : BinaryOp) (c : Comparison) → comparison_of o ≡ Some c → (p : Pos)
-      → Tells (on_one r (λ v. operate rounding o p (threshold_value s) v)) (truth holds (parted (turned c) f g))
-  tells_left rounding o c is p = by r ends below at_most
-    where
-      by : (r : Reply) → Ended allowed (IsOf ds (threshold_type s)) r
-          → truth holds f ≡ is_lt (point_order (point_at (threshold_dim s) r) s)
-          → truth holds g ≡ is_le (point_order (point_at (threshold_dim s) r) s)
-          → Tells (on_one r (λ v. operate rounding o p (threshold_value s) v)) (truth holds (parted (turned c) f g))
-      by (Err stop) ends below at_most b e = absurd (cc)
-      by (Ok v) ends below at_most b e =
-          let k = compared_with ds s v ends in
-          let there = ap (λ x. point_order x s) (point_there s v k) in
-          let other = ordering_reverse (point_order k.point s) in
-          tells_as (operate rounding o p (threshold_value s) v) (Ok (flat.Boolean (reads c other)))
-          (truth holds (parted (turned c) f g)) (reads c other)
-          (operate_reads rounding o c is p (threshold_value s) v (k.equal_back p)
-          ∙ ap (λ x. on_one x (λ y. Ok (flat.Boolean (reads c y)))) (k.back p))
-          (parted_reads holds (turned c) (point_order k.point s) f g (below ∙ ap is_lt there) (at_most ∙ ap is_le there)
-          ∙ reads_turned c (point_order k.point s))
-          (tells_Boolean (reads c other)) b e

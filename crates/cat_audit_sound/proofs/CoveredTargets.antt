@@ -46,9 +46,9 @@ use Rattle.cat_guard.proofs.Exported.{IsSoundTarget, all_and, sound_parts}
 use Rattle.cat_audit_sound.specs.Evaluations.{any_values}
 use Rattle.cat_audit_sound.specs.Shown.{AreGiven}
 use Rattle.cat_audit_sound.specs.Failing.{IsFreeTerm, Shows, IsAlikeAtFree}
-use Rattle.cat_audit_sound.proofs.Gives.{and_both, as_ok}
+use Rattle.cat_audit_sound.proofs.RunValues.{and_both, as_ok}
 use Rattle.cat_audit_sound.proofs.FilledEnvs.{filled_given}
-use Rattle.cat_audit_sound.proofs.Goes.{covered_goes}
+use Rattle.cat_audit_sound.proofs.ListsGo.{covered_goes}
 use Rattle.cat_audit_sound.proofs.JudgedAtIndex.{env_at, judged_at_index, stands_at_index}
 use Rattle.cat_audit_sound.proofs.JudgedTargets.{variable_covered, inner_covered}
 use Rattle.cat_audit_sound.proofs.Lists.{all_mapped}

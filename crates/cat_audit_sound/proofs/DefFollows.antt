@@ -22,7 +22,7 @@ use Rattle.cat_guard.specs.TableJudging.{by_truth}
 use Rattle.cat_guard.proofs.Exported.{then_end}
 use Rattle.cat_audit_sound.specs.Evaluations.{told}
 use Rattle.cat_audit_sound.specs.Follows.{Follows}
-use Rattle.cat_audit_sound.proofs.Tells.{Tells, on_one_same}
+use Rattle.cat_audit_sound.proofs.ConditionsTell.{Tells, on_one_same}
 
 abbrev End : Type 0
 End = Result (Option (Held Value)) Stop

@@ -21,8 +21,8 @@ use Rattle.cat_sound.specs.Settled.{IsHeldOf}
 use Rattle.cat_sound.proofs.Exported.{AllIn, Behind, Callee, IsSound, all_more, anything, names_of}
 use Rattle.cat_sound.proofs.Exported.{DoneAt, IsDone, callee_at, evaluated-called, evaluated-function}
 use Rattle.cat_sound.proofs.Exported.{evaluated-variable, free_of_may, ready}
-use Rattle.cat_audit_sound.proofs.Gives.{both, and_both, IfGives, if_then, if_ended}
-use Rattle.cat_audit_sound.proofs.Passed.{value_ends, if_decided, passed_input_typed}
+use Rattle.cat_audit_sound.proofs.RunValues.{both, and_both, IfGives, if_then, if_ended}
+use Rattle.cat_audit_sound.proofs.PassedTypes.{value_ends, if_decided, passed_input_typed}
 use Rattle.cat_audit_sound.proofs.ReadyItems.{own_judged}
 use Rattle.cat_sound.proofs.Exported.{Placed, all_at, inner_target}
 

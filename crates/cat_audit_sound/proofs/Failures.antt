@@ -46,7 +46,7 @@ use Rattle.cat_guard.specs.Judgements.{is_bad}
 use Rattle.cat_audit_sound.specs.PointInputs.{given_from, input_at, part_to, point_from, variable}
 use Rattle.cat_audit_sound.specs.Failing.{IsFreeTerm, IsOfFreeTerms, Shows, IsAlikeAtFree, HasNoValue}
 use Rattle.cat_audit_sound.proofs.CoveredTargets.{IsCoveredAlike, each_covered}
-use Rattle.cat_audit_sound.proofs.Gives.{and_both}
+use Rattle.cat_audit_sound.proofs.RunValues.{and_both}
 use Rattle.cat_audit_sound.proofs.Lists.{all_mapped, all_of, among_all}
 use Rattle.cat_audit_sound.proofs.ScopeTargets.{targets_have}
 use Rattle.cat_audit_sound.proofs.StandingDefs.{typed_given}

@@ -20,7 +20,7 @@ use Rattle.cat_sound.specs.Endings.{IsOf, IsReady}
 use Rattle.cat_sound.specs.Rests.{TellSame, CallSame}
 use Rattle.cat_sound.proofs.Exported.{DefSame, all_back, all_front, all_more, anything, names_alone, same_some}
 use Rattle.cat_sound.proofs.Exported.{target_same}
-use Rattle.cat_audit_sound.proofs.Gives.{both}
+use Rattle.cat_audit_sound.proofs.RunValues.{both}
 use Rattle.cat_sound.proofs.Results.{result_as}
 use Rattle.cat_audit_sound.proofs.StandingDefs.{named_by_own}
 

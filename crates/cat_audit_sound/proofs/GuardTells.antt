@@ -50,12 +50,13 @@ use Rattle.cat_guard.specs.Questions.{binary_guard, guard_in, guard_of}
 use Rattle.cat_guard.specs.PointValues.{point_in, point_of, point_or, point_at}
 use Rattle.cat_guard.proofs.Exported.{guarded, guard_at, then_end}
 use Rattle.cat_audit_sound.specs.Evaluations.{says, answered}
-use Rattle.cat_audit_sound.proofs.Tells.{Tells, tells_as, tells_Boolean, tells_and, tells_or, tells_if, tells_not}
-use Rattle.cat_audit_sound.proofs.Tells.{tells_xor}
-use Rattle.cat_audit_sound.proofs.Tells.{on_one_same}
+use Rattle.cat_audit_sound.proofs.ConditionsTell.{Tells, tells_as, tells_Boolean, tells_and, tells_or, tells_if}
+use Rattle.cat_audit_sound.proofs.ConditionsTell.{tells_not}
+use Rattle.cat_audit_sound.proofs.ConditionsTell.{tells_xor}
+use Rattle.cat_audit_sound.proofs.ConditionsTell.{on_one_same}
 use Rattle.cat_audit_sound.proofs.Constants.{Form, eval_at, typed_at, threshold_value, threshold_type}
 use Rattle.cat_audit_sound.proofs.Constants.{constant_is}
-use Rattle.cat_audit_sound.proofs.Constants.{tells_right, tells_left}
+use Rattle.cat_audit_sound.proofs.ConstantCuts.{tells_right, tells_left}
 
 -- ---- a condition that is not taken apart
 

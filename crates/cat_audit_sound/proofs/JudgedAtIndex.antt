@@ -21,7 +21,7 @@ use Rattle.cat_sound.specs.Settled.{StandsIn}
 use Rattle.cat_sound.proofs.Exported.{Ahead, AllIn, DoneAt, all_more, anything, in_at, items_ahead, ready}
 use Rattle.cat_guard.proofs.Exported.{all_and}
 use Rattle.cat_audit_sound.proofs.FilledEnvs.{filled, filled_done, ready_as, judged_same}
-use Rattle.cat_audit_sound.proofs.Gives.{if_ok}
+use Rattle.cat_audit_sound.proofs.RunValues.{if_ok}
 use Rattle.cat_audit_sound.proofs.PrefixRuns.{StandsAt, front_behind, front_stands, needed_before}
 use Rattle.cat_audit_sound.proofs.StandingDefs as standing
 use Rattle.cat_audit_sound.proofs.StandingDefs.{body_of, def_callables, defs_stand, scope_sound}

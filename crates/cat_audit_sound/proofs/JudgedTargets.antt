@@ -20,7 +20,7 @@ use Rattle.cat_scope.specs.Calls.{call}
 use Rattle.cat_scope.specs.ItemValues.{passed, passed_input, inner_judging, called_value, defined_value, ungiven_value}
 use Rattle.cat_sound.proofs.Exported.{first_ok, same_some}
 use Rattle.cat_guard.specs.TableJudging.{IsCovered}
-use Rattle.cat_audit_sound.proofs.Gives.{as_ok, same_ok}
+use Rattle.cat_audit_sound.proofs.RunValues.{as_ok, same_ok}
 
 -- what a logged judging comes to is what the judging comes to
 decided_ok : (target : Target) (judging : Judged Value) (found : Option (Held Value))

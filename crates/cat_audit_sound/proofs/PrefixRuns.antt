@@ -15,7 +15,7 @@ use Rattle.cat_sound.proofs.Exported.{AllIn, Ahead, Behind, IsSound, all_more, a
 use Rattle.cat_sound.proofs.Exported.{DoneAt, IsDone, entry_given, no_values-length, with_entry-length}
 use Rattle.cat_sound.proofs.Exported.{with_entry-other, with_entry-same}
 use Rattle.cat_sound.proofs.Exported.{same_some}
-use Rattle.cat_audit_sound.proofs.Gives.{same_number, found, IfGives, if_more, if_then}
+use Rattle.cat_audit_sound.proofs.RunValues.{same_number, found, IfGives, if_more, if_then}
 use Rattle.cat_audit_sound.proofs.DoneItems.{item_done}
 
 -- ---- the front of an order

@@ -44,7 +44,7 @@ use Rattle.cat_guard.proofs.Exported.{truth_renamed, truth_same, formula_of_guar
 use Rattle.cat_guard.proofs.Exported.{firsts_all}
 use Rattle.cat_audit_sound.specs.Evaluations.{answered, any_values, term_point, arguments_for, valuation_of}
 use Rattle.cat_audit_sound.specs.Follows.{Follows}
-use Rattle.cat_audit_sound.proofs.Tells.{Tells, tells_as, tells_Boolean}
+use Rattle.cat_audit_sound.proofs.ConditionsTell.{Tells, tells_as, tells_Boolean}
 use Rattle.cat_audit_sound.proofs.GuardAnswers.{among_defs, among_targets}
 use Rattle.cat_audit_sound.proofs.GuardTells.{guard_told}
 use Rattle.cat_audit_sound.proofs.AskedTypes.{IsAskedOf, condition_asked}

@@ -34,7 +34,7 @@ use Rattle.cat_sound.proofs.Exported.{called-all}
 use Rattle.cat_sound.proofs.Exported.{everywhere, in_at, judge_target-ends, names_of, all-of_IsOrder, same_some}
 use Rattle.cat_sound.proofs.Exported.{scopes-at, scopes-length, settled_programs, stands_end, unique_target}
 use Rattle.cat_guard.proofs.Exported.{all_and}
-use Rattle.cat_audit_sound.proofs.Gives.{both, not_true, same_number, found}
+use Rattle.cat_audit_sound.proofs.RunValues.{both, not_true, same_number, found}
 
 inner_is : (a b : Option ℕ) → IsTrue (same_inner a b) → a ≡ b
 inner_is None None h = refl

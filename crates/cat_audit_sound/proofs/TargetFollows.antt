@@ -34,7 +34,7 @@ use Rattle.cat_guard.specs.Soundness.{above, are_below, group_is_sound}
 use Rattle.cat_guard.proofs.Exported.{both_true, all_true, all_more, all_and, entry, excepting_is, above_is}
 use Rattle.cat_guard.proofs.Exported.{IsSoundTarget, are_within_at, chain_on, no_chain}
 use Rattle.cat_audit_sound.specs.Follows.{Follows}
-use Rattle.cat_audit_sound.proofs.Follow.{settle_goes, or_else_goes, maps_go}
+use Rattle.cat_audit_sound.proofs.ListsFollow.{settle_goes, or_else_goes, maps_go}
 use Rattle.cat_audit_sound.proofs.Numbered.{all_at, get_map, all_are}
 use Rattle.cat_audit_sound.proofs.TableGroups.{IsAt, defs_at, same_def, place_is, group_there, no_group}
 use Rattle.cat_audit_sound.proofs.TableGroups.{above_are, as_many, no_cycle}

@@ -30,8 +30,8 @@ use Rattle.cat_guard.specs.TableJudging.{decided}
 use Rattle.cat_guard.specs.Valuations.{holds_at}
 use Rattle.cat_guard.proofs.Exported.{IsSoundTarget, all_and, same_bool}
 use Rattle.cat_audit_sound.specs.Evaluations.{answered, says, told}
-use Rattle.cat_audit_sound.proofs.Goes as ends
-use Rattle.cat_audit_sound.proofs.Goes.{def_goes}
+use Rattle.cat_audit_sound.proofs.ListsGo as ends
+use Rattle.cat_audit_sound.proofs.ListsGo.{def_goes}
 use Rattle.cat_audit_sound.proofs.GuardAnswers.{guard_holds}
 use Rattle.cat_audit_sound.proofs.Numbered.{all_are}
 use Rattle.cat_audit_sound.proofs.PointsOfTerms.{points_in}

@@ -49,7 +49,7 @@ use Rattle.cat_audit_sound.specs.PointInputs.{is_at, point_from, variable, field
 use Rattle.cat_audit_sound.specs.PointInputs.{with_point, fields_from, part_to, given_for, given_from, input_at}
 use Rattle.cat_audit_sound.proofs.PartEquations.{part_Structure, part_other}
 use Rattle.cat_sound.proofs.Exported.{same_some}
-use Rattle.cat_audit_sound.proofs.Gives.{and_both, not_true}
+use Rattle.cat_audit_sound.proofs.RunValues.{and_both, not_true}
 use Rattle.cat_audit_sound.proofs.StandingDefs.{given_typed}
 use Rattle.cat_audit_sound.proofs.TypedDefaults.{default_of_typed}
 

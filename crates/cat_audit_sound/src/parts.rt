@@ -10,7 +10,7 @@ pub const MOST_PARTS: u32 = 16_777_216;
 
 /// What is left of a number behind the parts of the first `depth` levels of a type; nothing where there are more.
 #[cycle(counting)]
-#[tactic(auto, using(crate::proofs::Counting::levels))]
+#[tactic(auto, using(crate::proofs::CountedParts::levels))]
 fn left_by(ty: &Ty, decls: &Decls, depth: u32, left: u32) -> u32
     ensures { result ≡ left - parts_to decls.now depth ty.now }
 {
@@ -49,7 +49,7 @@ fn left_by_enumeration(number: u32, decls: &Decls, depth: u32, left: u32) -> u32
 }
 
 #[cycle(counting)]
-#[tactic(auto, using(crate::proofs::Counting::field_by_field))]
+#[tactic(auto, using(crate::proofs::CountedParts::field_by_field))]
 fn left_by_fields(fields: &Fields, decls: &Decls, depth: u32, left: u32) -> u32
     ensures { result ≡ left - parts_of_fields (parts_to decls.now depth) fields.now }
 {
@@ -61,7 +61,7 @@ fn left_by_fields(fields: &Fields, decls: &Decls, depth: u32, left: u32) -> u32
 }
 
 #[cycle(counting)]
-#[tactic(auto, using(crate::proofs::Counting::case_by_case))]
+#[tactic(auto, using(crate::proofs::CountedParts::case_by_case))]
 fn left_by_cases(cases: &Cases, decls: &Decls, depth: u32, left: u32) -> u32
     ensures { result ≡ left - parts_of_cases (parts_to decls.now depth) cases.now }
 {
@@ -94,7 +94,7 @@ fn left_by_item(item: &ItemDecl, decls: &Decls, left: u32) -> u32
     }
 }
 
-#[tactic(auto, using(crate::proofs::Counting::item_by_item))]
+#[tactic(auto, using(crate::proofs::CountedParts::item_by_item))]
 fn left_by_items(items: &[ItemDecl], decls: &Decls, left: u32) -> u32
     ensures { result ≡ left - parts_given decls.now items.now }
 {
@@ -107,7 +107,7 @@ fn left_by_items(items: &[ItemDecl], decls: &Decls, left: u32) -> u32
 
 /// Whether what must be given has at most 16,777,216 parts in all, where lists are empty and each case of an
 /// enumeration counts. It takes a step a part, and stops where there are more.
-#[tactic(auto, using(crate::proofs::Counting::bound))]
+#[tactic(auto, using(crate::proofs::CountedParts::bound))]
 pub(crate) fn have_few_parts(items: &[ItemDecl], decls: &Decls) -> bool
     ensures { result ≡ nat_le (parts_given decls.now items.now) MOST_PARTS }
 {

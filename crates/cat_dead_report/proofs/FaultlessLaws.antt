@@ -49,7 +49,7 @@ use Rattle.cat_guard.proofs.Exported.{all_and, both_true, sound_parts, targets_s
 use Rattle.cat_audit_sound.specs.Failing.{IsOfFreeTerms, Shows}
 use Rattle.cat_audit_sound.specs.PointInputs.{input_at}
 use Rattle.cat_audit_sound.proofs.Failures.{points_give_none}
-use Rattle.cat_audit_sound.proofs.Gives.{and_both}
+use Rattle.cat_audit_sound.proofs.RunValues.{and_both}
 use Rattle.cat_audit_sound.proofs.Lists.{all_mapped, all_of, among_all}
 use Rattle.cat_audit_sound.proofs.Numbered.{all_are}
 use Rattle.cat_audit_sound.proofs.ScopeTargets.{targets_have}

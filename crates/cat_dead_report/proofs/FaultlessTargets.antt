@@ -64,7 +64,7 @@ use Rattle.cat_audit_sound.proofs.SameSelf.{term_self}
 use Rattle.cat_audit_sound.proofs.StandingDefs as standing
 use Rattle.cat_audit_sound.proofs.StandingDefs.{body_of}
 use Rattle.cat_audit_sound.proofs.TargetFollows.{DefGoes, target_goes}
-use Rattle.cat_audit_sound.proofs.Tells.{Tells, tells_as, tells_Boolean}
+use Rattle.cat_audit_sound.proofs.ConditionsTell.{Tells, tells_as, tells_Boolean}
 use Rattle.cat_dead_report.specs.inside.Faultless.{def_cannot_fault}
 use Rattle.cat_dead_report.proofs.CalmLemmas.{IsCalm, def_calm}
 

@@ -17,7 +17,7 @@ use Rattle.cat_names.specs.Declarations.{enumeration_declared, variable_type, it
 use Rattle.cat_names.specs.Declarations.{types_declared, declared_of}
 use Rattle.cat_declare.specs.inside.Made.{type_faults, content_faults, field_faults, case_faults}
 use Rattle.cat_declare.specs.inside.Made.{variable_faults, unknown_declared}
-use Rattle.cat_declare.proofs.Founds.{then_faults, both_faults, each_faults}
+use Rattle.cat_declare.proofs.FoundParts.{then_faults, both_faults, each_faults}
 
 module _ (names : TypeNames) where
   structure_faults : (s : Name × List FieldItem) → faults_of (structure_declared names s) ≡ field_faults names s.1

@@ -22,7 +22,7 @@ use Rattle.cat_declare.specs.inside.Made.{type_faults, content_faults, field_fau
 use Rattle.cat_declare.specs.inside.Made.{variable_faults, unknown_declared, type_made, field_made, structure_made}
 use Rattle.cat_declare.specs.inside.Made.{case_made, enumeration_made, variable_type_made, item_made}
 use Rattle.cat_declare.specs.inside.Made.{scope_made, made, whole}
-use Rattle.cat_declare.proofs.Founds.{then_made, both_made, each_made, nothing_in, nothing_behind}
+use Rattle.cat_declare.proofs.FoundParts.{then_made, both_made, each_made, nothing_in, nothing_behind}
 
 module _ (names : TypeNames) where
   type_whole : (t : written.Type) → type_faults names t ≡ [] → type_found names t ≡ Ok (type_made whole names t)

@@ -14,7 +14,7 @@ use Rattle.cat_names.proofs.Exported.{none_past, positions_counted}
 use Rattle.cat_declare.specs.declared.written.Declaration.{Declaration}
 use Rattle.cat_declare.specs.inside.Naming.{AreFew}
 use Rattle.cat_declare.specs.inside.Writings.{as_pair}
-use Rattle.cat_declare.proofs.Founds.{nothing_in, nothing_behind}
+use Rattle.cat_declare.proofs.FoundParts.{nothing_in, nothing_behind}
 
 scopes_few : (items : List Item) → flat_map declaration_faults items ≡ []
     → AllHave (λ s. length s.1 ≤ most_items) (scopes_in items)

@@ -37,7 +37,7 @@ use Rattle.cat_declare.specs.inside.Parted.{IsMadeOf, declared_by}
 use Rattle.cat_declare.specs.inside.Writings.{AreDeclarations}
 use Rattle.cat_declare.proofs.DeclaredFaults.{declared_faults}
 use Rattle.cat_declare.proofs.DeclaredWhole.{declared_whole}
-use Rattle.cat_declare.proofs.Founds.{nothing_in, nothing_behind}
+use Rattle.cat_declare.proofs.FoundParts.{nothing_in, nothing_behind}
 use Rattle.cat_declare.proofs.LowWhole.{nothing_cut}
 use Rattle.cat_declare.proofs.SameNames.{same_dependencies, structures_there, enumerations_there}
 use Rattle.cat_declare.proofs.Tabling.{as_many_pairs, lists_few, names_counted}

@@ -1,8 +1,8 @@
-mod Founds
+mod FoundParts
 mod DeclaredFaults
 mod DeclaredWhole
-mod Standing
-mod Clearing
+mod NameFaultSteps
+mod ClearedReplies
 mod Tabling
 mod SameHeights
 mod SameNames
@@ -12,4 +12,4 @@ mod Numbering
 mod LowParts
 mod Finishing
 mod FewItems
-mod Nexts
+mod OneMore

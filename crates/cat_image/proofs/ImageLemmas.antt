@@ -32,7 +32,8 @@ use Rattle.cat_image.proofs.ReadLemmas.{all_append, all_front, all_back}
 use Rattle.cat_image.proofs.WrittenLemmas.{row_written}
 use Rattle.cat_image.proofs.PutLemmas.{IsStanding}
 use Rattle.cat_image.proofs.RunLemmas.{puts, puts_append, puts_more, IsRun, run_none, IsSplit, same_rows, same_row}
-use Rattle.cat_image.proofs.AcceptLemmas.{at, rows_come, rows_lead}
+use Rattle.cat_image.proofs.AcceptLemmas.{at}
+use Rattle.cat_image.proofs.SectionLemmas.{rows_come, rows_lead}
 use Rattle.cat_image.proofs.EndingLemmas.{EndsIn, IsReadTo, IsBad, IsShort, ending_told}
 
 abbrev version : Text

@@ -9,6 +9,7 @@ pub mod TypeLemmas
 pub mod TypedLemmas
 pub mod ListedLemmas
 pub mod ConstantLemmas
+pub mod WrittenInstr
 pub mod InstrLemmas
 pub mod RowLemmas
 pub mod SplitLemmas
@@ -18,9 +19,11 @@ pub mod KindLemmas
 pub mod PutLemmas
 pub mod RunLemmas
 pub mod AcceptLemmas
+pub mod SectionLemmas
 pub mod InnerLemmas
 pub mod EndingLemmas
 pub mod ImageLemmas
 pub mod FewLemmas
 pub mod ListedText
+pub mod ListedWhole
 mod ImageExamples

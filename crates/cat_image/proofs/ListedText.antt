@@ -1,11 +1,8 @@
 -- A listing is the text of the rows of the words with which its code is listed.
-use Rattle.std.proofs.Common.{◌≡◌, ℕ, ◌+◌, Bool, true, false, ◌&&◌, ◌==◌, List, [], ◌∷◌, ◌++◌, map, Option, Some}
+use Rattle.std.proofs.Common.{◌≡◌, ℕ, ◌+◌, List, [], ◌∷◌, ◌++◌, map, Option, Some}
 use Rattle.std.proofs.Common.{None, codes, decimal}
-use Rattle.std.proofs.Common.{refl, sym, ap, ◌∙◌, append_assoc, append-nil}
-use Rattle.std.specs.Prelude.{not}
-use Rattle.std.specs.List.{AllByRecursion, flat_map, list_all}
-use Rattle.std.specs.Str.{is_utf8}
-use Rattle.std.proofs.lemmas.Bool.{and_parts, not-true}
+use Rattle.std.proofs.Common.{refl, sym, ap, ◌∙◌, append_assoc}
+use Rattle.std.specs.List.{flat_map}
 use Rattle.std.proofs.lemmas.List.{map-append}
 use Rattle.cat_pos.specs.declared.pos.Pos.{Pos}
 use Rattle.cat_value.specs.declared.ty.Ty.{Ty}
@@ -22,42 +19,32 @@ use Rattle.cat_code.specs.declared.instr.Instr.{Instr}
 use Rattle.cat_code.specs.declared.instr.Instr.TheVariants as instr
 use Rattle.cat_code.specs.declared.code.TargetEntry.{TargetEntry}
 use Rattle.cat_code.specs.declared.code.Constant.{Constant}
-use Rattle.cat_code.specs.declared.code.Tables.{Tables}
-use Rattle.cat_code.specs.declared.code.Code.{Code}
 use Rattle.cat_answer.specs.Answer.{target_text}
 use Rattle.cat_answer.specs.Writes.{value_bytes}
 use Rattle.cat_listing.specs.Texts.{lines_of, place_text, type_text}
 use Rattle.cat_listing.specs.DeclarationLines.{field_line, named_line, structure_lines, content_text, case_line}
 use Rattle.cat_listing.specs.DeclarationLines.{enumeration_lines}
 use Rattle.cat_listing.specs.DeclarationLines.{kind_text, what_text, item_line, scope_lines, scopes_lines}
-use Rattle.cat_listing.specs.DeclarationLines.{declaration_lines}
-use Rattle.cat_listing.specs.Listing.{file_line, function_line, target_line, place_line, constant_line, table_lines}
-use Rattle.cat_listing.specs.Listing.{listing}
+use Rattle.cat_listing.specs.Listing.{file_line, function_line, target_line, place_line, constant_line}
 use Rattle.cat_listing.specs.InstructionLines.{instr_line}
 use Rattle.cat_listing.specs.InstructionLines as listed
-use Rattle.cat_image.specs.declared.tables.ImageKind.{ImageKind}
-use Rattle.cat_image.specs.declared.tables.ImageTables.{ImageTables}
 use Rattle.cat_image.specs.declared.row.Row.{Row}
 use Rattle.cat_image.specs.declared.row.Row.TheVariants as row
-use Rattle.cat_image.specs.Words.{Text, parts}
+use Rattle.cat_image.specs.Words.{Text}
 use Rattle.cat_image.specs.Words as words
 use Rattle.cat_image.specs.InstructionWords.{instr_words, numbers_text, instr_text}
-use Rattle.cat_image.specs.Rows.{row_text, behind_blank, structure_rows, enumeration_rows, scope_rows}
-use Rattle.cat_image.specs.Rows.{instruction_rows, joined, sections, rows_of}
+use Rattle.cat_image.specs.Rows.{row_text, structure_rows, enumeration_rows, scope_rows}
+use Rattle.cat_image.specs.Rows.{instruction_rows}
 use Rattle.cat_image.specs.Rows as rows
-use Rattle.cat_image.specs.Image.{image_lines, IsImage}
 use Rattle.cat_image.specs.Listed.{pos_words, field_words, structure_words, content_words, case_words}
 use Rattle.cat_image.specs.Listed.{enumeration_words}
-use Rattle.cat_image.specs.Listed.{kind_words, item_words, scopes_words, target_words, constant_words, words_of}
-use Rattle.cat_image.specs.Listed.{is_line, IsListable}
-use Rattle.cat_image.specs.inside.Reads.{cut}
-use Rattle.cat_image.proofs.CutLemmas.{AllLack}
-use Rattle.cat_image.proofs.ImageLemmas.{text_of, parts_of_text}
+use Rattle.cat_image.specs.Listed.{kind_words, item_words, scopes_words, target_words, constant_words}
+use Rattle.cat_image.proofs.ImageLemmas.{text_of}
 
 -- ---- the text of rows
 
 -- rows, each with its line feed
-abbrev rows_text : List Row → Text
+abbrev pub rows_text : List Row → Text
 rows_text xs = text_of (map row_text xs)
 
 text_append : (xs ys : List Text) → text_of (xs ++ ys) ≡ text_of xs ++ text_of ys
@@ -65,19 +52,19 @@ text_append [] ys = refl
 text_append (x ∷ xs) ys =
     ap (λ (t : Text). x ++ 10 ∷ t) (text_append xs ys) ∙ sym (append_assoc x (10 ∷ text_of xs) (text_of ys))
 
-rows_append : (xs ys : List Row) → rows_text (xs ++ ys) ≡ rows_text xs ++ rows_text ys
+pub rows_append : (xs ys : List Row) → rows_text (xs ++ ys) ≡ rows_text xs ++ rows_text ys
 rows_append xs ys = ap text_of (map-append row_text xs ys) ∙ text_append (map row_text xs) (map row_text ys)
 
 -- a line is a row with its line feed
 abbrev IsLineOf : Text → Row → Type 0
 IsLineOf line r = line ≡ row_text r ++ 10 ∷ []
 
-one_line : (line : Text) (r : Row) (xs : List Row) → IsLineOf line r → line ++ rows_text xs ≡ rows_text (r ∷ xs)
+pub one_line : (line : Text) (r : Row) (xs : List Row) → IsLineOf line r → line ++ rows_text xs ≡ rows_text (r ∷ xs)
 one_line line r xs is =
     ap (λ (t : Text). t ++ rows_text xs) is ∙ append_assoc (row_text r) (10 ∷ []) (rows_text xs)
 
 -- lines of elements, each of one row
-simple_lines : {A B : Type 0} (line : A → Text) (rows : B → Row) (words : A → B)
+pub simple_lines : {A B : Type 0} (line : A → Text) (rows : B → Row) (words : A → B)
     → ((x : A) → IsLineOf (line x) (rows (words x)))
     → (xs : List A) → lines_of line xs ≡ rows_text (map rows (map words xs))
 simple_lines line rows words each [] = refl
@@ -86,7 +73,7 @@ simple_lines line rows words each (x ∷ xs) =
     ∙ one_line (line x) (rows (words x)) (map rows (map words xs)) (each x)
 
 -- lines of elements, each of rows of its own
-parted_lines : {A B : Type 0} (lines : A → Text) (rows : B → List Row) (words : A → B)
+pub parted_lines : {A B : Type 0} (lines : A → Text) (rows : B → List Row) (words : A → B)
     → ((x : A) → lines x ≡ rows_text (rows (words x))) → (xs : List A)
     → lines_of lines xs ≡ rows_text (flat_map rows (map words xs))
 parted_lines lines rows words each [] = refl
@@ -97,7 +84,7 @@ parted_lines lines rows words each (x ∷ xs) =
 
 -- ---- declarations
 
-file_same : (name : Text) → IsLineOf (file_line name) (row.File name)
+pub file_same : (name : Text) → IsLineOf (file_line name) (row.File name)
 unfolding file_line
 file_same name = sym (append_assoc (codes "file ") name (10 ∷ []))
 
@@ -112,7 +99,8 @@ named_same : (word name : Text) → named_line word name ≡ (word ++ name) ++ 1
 unfolding named_line
 named_same word name = sym (append_assoc word name (10 ∷ []))
 
-structure_same : (ds : Decls) (s : Structure) → structure_lines ds s ≡ rows_text (structure_rows (structure_words ds s))
+pub structure_same : (ds : Decls) (s : Structure)
+    → structure_lines ds s ≡ rows_text (structure_rows (structure_words ds s))
 unfolding structure_lines
 structure_same ds s =
     ap (λ (t : Text). named_line (codes "structure ") s.name ++ t)
@@ -131,7 +119,7 @@ case_same ds c =
     ap (λ (t : Text). codes "case " ++ (c.name ++ (t ++ codes "\n"))) (content_same ds c.content)
     ∙ three (codes "case ") c.name (rows.content_text (content_words ds c.content))
 
-enumeration_same : (ds : Decls) (e : Enumeration)
+pub enumeration_same : (ds : Decls) (e : Enumeration)
     → enumeration_lines ds e ≡ rows_text (enumeration_rows (enumeration_words ds e))
 unfolding enumeration_lines
 enumeration_same ds e =
@@ -179,7 +167,7 @@ scope_same ds s entry =
     ∙ one_line (row_text (row.Scope s.name entry) ++ 10 ∷ []) (row.Scope s.name entry)
     (map row.Item (map (item_words ds) s.items)) refl
 
-scopes_same : (ds : Decls) (ss : List Scope) (entries : List ℕ)
+pub scopes_same : (ds : Decls) (ss : List Scope) (entries : List ℕ)
     → scopes_lines ds ss entries ≡ rows_text (flat_map scope_rows (scopes_words ds ss entries))
 scopes_same ds [] entries = refl
 scopes_same ds (s ∷ ss) [] = refl
@@ -193,23 +181,24 @@ scopes_same ds (s ∷ ss) (entry ∷ entries) =
 
 -- ---- the tables behind them
 
-target_same : (ds : Decls) (entry : TargetEntry) → IsLineOf (target_line ds entry) (row.Target (target_words ds entry))
+pub target_same : (ds : Decls) (entry : TargetEntry)
+    → IsLineOf (target_line ds entry) (row.Target (target_words ds entry))
 unfolding target_line
 target_same ds entry = three (codes "target ") (target_text ds entry.target) (32 ∷ place_text entry.pos)
 
-definition_same : (p : Pos) → IsLineOf (place_line (codes "definition ") p) (row.Definition (pos_words p))
+pub definition_same : (p : Pos) → IsLineOf (place_line (codes "definition ") p) (row.Definition (pos_words p))
 unfolding place_line
 definition_same p = sym (append_assoc (codes "definition ") (place_text p) (10 ∷ []))
 
-position_same : (p : Pos) → IsLineOf (place_line (codes "position ") p) (row.Position (pos_words p))
+pub position_same : (p : Pos) → IsLineOf (place_line (codes "position ") p) (row.Position (pos_words p))
 unfolding place_line
 position_same p = sym (append_assoc (codes "position ") (place_text p) (10 ∷ []))
 
-function_same : (entry : ℕ) → IsLineOf (function_line entry) (row.Function entry)
+pub function_same : (entry : ℕ) → IsLineOf (function_line entry) (row.Function entry)
 unfolding function_line
 function_same entry = sym (append_assoc (codes "function ") (decimal entry) (10 ∷ []))
 
-constant_same : (ds : Decls) (c : Constant) → IsLineOf (constant_line ds c) (row.Constant (constant_words ds c))
+pub constant_same : (ds : Decls) (c : Constant) → IsLineOf (constant_line ds c) (row.Constant (constant_words ds c))
 unfolding constant_line
 constant_same ds c = three (codes "const ") (type_text ds c.ty) (32 ∷ value_bytes ds c.ty c.value)
 
@@ -270,155 +259,8 @@ instr_line_same n i =
     ap (λ (t : Text). decimal n ++ (32 ∷ t)) (instr_same i)
     ∙ sym (append_assoc (decimal n) (32 ∷ instr_text i) (10 ∷ []))
 
-instructions_same : (n : ℕ) (is : List Instr) → listed.instructions_lines n is ≡ rows_text (instruction_rows n is)
+pub instructions_same : (n : ℕ) (is : List Instr) → listed.instructions_lines n is ≡ rows_text (instruction_rows n is)
 instructions_same n [] = refl
 instructions_same n (i ∷ is) =
     ap (λ (t : Text). instr_line n i ++ t) (instructions_same (n + 1) is)
     ∙ one_line (instr_line n i) (row.Instruction n i) (instruction_rows (n + 1) is) (instr_line_same n i)
-
--- ---- the whole
-
--- the texts of sections, one behind the other
-abbrev texts : List Text → Text
-texts [] = []
-texts (t ∷ ts) = t ++ texts ts
-
-joined_text : (parts : List (List Row)) → rows_text (joined parts) ≡ texts (map rows_text parts)
-joined_text [] = refl
-joined_text (part ∷ parts) =
-    rows_append part (joined parts) ∙ ap (λ (t : Text). rows_text part ++ t) (joined_text parts)
-
-regrouped : (f s e c a b d p k i : Text)
-    → f ++ ((s ++ (e ++ c)) ++ ((a ++ (b ++ (d ++ (p ++ k)))) ++ i))
-    ≡ texts (f ∷ s ∷ e ∷ c ∷ a ∷ b ∷ d ∷ p ∷ k ∷ i ∷ [])
-regrouped f s e c a b d p k i =
-    ap (λ (t : Text). f ++ t)
-    (append_assoc s (e ++ c) ((a ++ (b ++ (d ++ (p ++ k)))) ++ i)
-    ∙ ap (λ (t : Text). s ++ t) (append_assoc e c ((a ++ (b ++ (d ++ (p ++ k)))) ++ i)
-    ∙ ap (λ (t : Text). e ++ (c ++ t)) (append_assoc a (b ++ (d ++ (p ++ k))) i
-    ∙ ap (λ (t : Text). a ++ t) (append_assoc b (d ++ (p ++ k)) i
-    ∙ ap (λ (t : Text). b ++ t) (append_assoc d (p ++ k) i
-    ∙ ap (λ (t : Text). d ++ t) (append_assoc p k i
-    ∙ ap (λ (t : Text). p ++ (k ++ t)) (sym (append-nil i))))))))
-
--- texts that are the same one by one
-abbrev AllSame : List Text → List Text → Type 0
-AllSame [] [] = Unit {0}
-AllSame [] (u ∷ us) = ⊥
-AllSame (t ∷ ts) [] = ⊥
-AllSame (t ∷ ts) (u ∷ us) = (t ≡ u) × AllSame ts us
-
-same_texts : (ts us : List Text) → AllSame ts us → texts ts ≡ texts us
-same_texts [] [] same = refl
-same_texts [] (u ∷ us) same = absurd same
-same_texts (t ∷ ts) [] same = absurd same
-same_texts (t ∷ ts) (u ∷ us) same =
-    ap (λ (v : Text). v ++ texts ts) same.0 ∙ ap (λ (v : Text). u ++ v) (same_texts ts us same.1)
-
-files_same : (files : List Text) → lines_of file_line files ≡ rows_text (map row.File files)
-files_same [] = refl
-files_same (name ∷ names) =
-    ap (λ (t : Text). file_line name ++ t) (files_same names)
-    ∙ one_line (file_line name) (row.File name) (map row.File names) (file_same name)
-
-functions_same : (entries : List ℕ) → lines_of function_line entries ≡ rows_text (map row.Function entries)
-functions_same [] = refl
-functions_same (entry ∷ entries) =
-    ap (λ (t : Text). function_line entry ++ t) (functions_same entries)
-    ∙ one_line (function_line entry) (row.Function entry) (map row.Function entries) (function_same entry)
-
--- the sections of a listing
-abbrev listed_sections : Code → List Text → List Text
-listed_sections code files =
-    lines_of file_line files
-    ∷ lines_of (structure_lines code.tables.decls) code.tables.decls.structures
-    ∷ lines_of (enumeration_lines code.tables.decls) code.tables.decls.enumerations
-    ∷ scopes_lines code.tables.decls code.tables.decls.scopes code.tables.scopes
-    ∷ lines_of (target_line code.tables.decls) code.tables.targets
-    ∷ lines_of (place_line (codes "definition ")) code.tables.definitions
-    ∷ lines_of function_line code.tables.functions
-    ∷ lines_of (place_line (codes "position ")) code.tables.positions
-    ∷ lines_of (constant_line code.tables.decls) code.tables.constants
-    ∷ listed.instructions_lines 0 code.instructions ∷ []
-
--- are those of its words
-sections_same : (code : Code) (files : List Text)
-    → AllSame (listed_sections code files) (map rows_text (sections (words_of code.tables files) code.instructions))
-sections_same code files =
-    let ds = code.tables.decls in (
-      files_same files,
-      (
-        parted_lines (structure_lines ds) structure_rows (structure_words ds) (structure_same ds) ds.structures,
-        (
-          parted_lines (enumeration_lines ds) enumeration_rows (enumeration_words ds)
-              (enumeration_same ds) ds.enumerations,
-          (
-            scopes_same ds ds.scopes code.tables.scopes,
-            (
-              simple_lines (target_line ds) row.Target (target_words ds) (target_same ds) code.tables.targets,
-              (
-                simple_lines
-                    (place_line (codes "definition ")) row.Definition pos_words definition_same code.tables.definitions,
-                (
-                  functions_same code.tables.functions,
-                  (
-                    simple_lines
-                        (place_line (codes "position ")) row.Position pos_words position_same code.tables.positions,
-                    (
-                      simple_lines (constant_line ds) row.Constant (constant_words ds)
-                          (constant_same ds) code.tables.constants,
-                      (instructions_same 0 code.instructions, tt),
-                    ),
-                  ),
-                ),
-              ),
-            ),
-          ),
-        ),
-      ),
-    )
-
-listing_text : (code : Code) (files : List Text)
-    → listing code files ≡ codes "catala-code 1\n" ++ rows_text (rows_of (words_of code.tables files) code.instructions)
-unfolding listing declaration_lines table_lines
-listing_text code files =
-    let ds = code.tables.decls in
-    let tables = code.tables in
-    ap (λ (t : Text). codes "catala-code 1\n" ++ t)
-    (regrouped (lines_of file_line files) (lines_of (structure_lines ds) ds.structures)
-    (lines_of (enumeration_lines ds) ds.enumerations) (scopes_lines ds ds.scopes tables.scopes)
-    (lines_of (target_line ds) tables.targets) (lines_of (place_line (codes "definition ")) tables.definitions)
-    (lines_of function_line tables.functions) (lines_of (place_line (codes "position ")) tables.positions)
-    (lines_of (constant_line ds) tables.constants) (listed.instructions_lines 0 code.instructions)
-    ∙ same_texts (listed_sections code files) (map rows_text (sections (words_of code.tables files) code.instructions))
-    (sections_same code files)
-    ∙ sym (joined_text (sections (words_of tables files) code.instructions)))
-
--- ---- an image
-
-no_feeds : (text : Text) → list_all (λ byte. not (byte == 10)) text ≡ true → cut 10 text ≡ None
-unfolding cut
-no_feeds [] all = refl
-no_feeds (b ∷ bs) all =
-    let both = and_parts (not (b == 10)) (list_all (λ byte. not (byte == 10)) bs) all in
-    rw (not-true (b == 10) both.0, no_feeds bs both.1) refl
-
-texts_of_lines : (lines : List Text) → AllByRecursion (λ line. is_line line ≡ true) lines
-    → AllByRecursion (λ line. is_utf8 line ≡ true) lines × AllLack 10 lines
-texts_of_lines [] all = (tt, tt)
-texts_of_lines (line ∷ lines) all =
-    let both = and_parts (is_utf8 line) (list_all (λ byte. not (byte == 10)) line) all.0 in
-    let rest = texts_of_lines lines all.1 in
-    ((both.0, rest.0), (no_feeds line both.1, rest.1))
-
-pub listing_is_image : (code : Code) (files : List Text) → IsListable (words_of code.tables files) code.instructions
-    → IsImage (listing code files) (words_of code.tables files) code.instructions
-listing_is_image code files listable =
-    let lines = image_lines (words_of code.tables files) code.instructions in
-    let both = texts_of_lines lines listable.lines in
-    record {
-      rows = listable.rows;
-      some = listable.some;
-      lines = ap (parts 10) (listing_text code files) ∙ parts_of_text lines both.1;
-      texts = both.0;
-    }

@@ -28,7 +28,7 @@ use Rattle.cat_image.specs.inside.ReadRows.{target_of, instruction_of, row_of, r
 use Rattle.cat_image.proofs.CutLemmas.{cut_at, cut_name}
 use Rattle.cat_image.proofs.NumberLemmas.{number_written, cut_decimal}
 use Rattle.cat_image.proofs.ConstantLemmas.{constant_written}
-use Rattle.cat_image.proofs.InstrLemmas.{instr_written}
+use Rattle.cat_image.proofs.WrittenInstr.{instr_written}
 use Rattle.cat_image.proofs.RowLemmas.{pos_written, pos_blank, kind_written, kind_blank}
 
 -- ---- what stands behind the word of a line

@@ -9,6 +9,7 @@ pub mod DoingLoops
 pub mod DoingRows
 pub mod Matching
 pub mod TermEquations
+pub mod AddedHeld
 pub mod Adding
 pub mod AddingTerms
 pub mod LoweredEquations

@@ -32,7 +32,8 @@ use Rattle.cat_lower.specs.Stands.{Has}
 use Rattle.cat_lower.proofs.Places.{first_of, second_of, rest_of}
 use Rattle.cat_lower.proofs.Comes.{Comes, Leads, acted, goes_on, goes_logging, ends_with, found, alike}
 use Rattle.cat_lower.proofs.Doing.{Agree, here as located, behind, does_constant}
-use Rattle.cat_lower.proofs.Adding.{DoesAt, renumbered, entries, framed, tested, passes}
+use Rattle.cat_lower.proofs.Adding.{DoesAt, passes}
+use Rattle.cat_lower.proofs.AddedHeld.{renumbered, entries, framed, tested}
 use Rattle.cat_lower.proofs.AddingTerms.{C, V, of_term}
 use Rattle.cat_lower.proofs.ScopeCalls.{pending}
 

@@ -24,16 +24,18 @@ use Rattle.cat_parse_expr.proofs.Firsts.{class_ScopeCall}
 use Rattle.cat_parse_expr.proofs.Operands.{Next, OfClass, Form, form_read, measured_by}
 use Rattle.cat_parse_expr.proofs.Read.{IsRead, pure_read}
 use Rattle.cat_parse_expr.proofs.Worded.{word_read, word_at_read, lower_read, upper_read}
-use Rattle.cat_parse_expr.proofs.Shut.{IsShut, shut_after, one_shut}
+use Rattle.cat_parse_expr.proofs.NothingWhole.{IsShut, shut_after, one_shut}
 use Rattle.cat_parse_expr.proofs.Sequels.{part_read, last_read, past_none}
 use Rattle.cat_parse_expr.proofs.Tuples.{both, three}
 use Rattle.cat_parse_expr.proofs.Shaping.{reshape_read, look_read}
 use Rattle.cat_parse_expr.proofs.Turnings.{heads_begin}
 use Rattle.cat_parse_expr.proofs.Chosen.{same_read}
 use Rattle.cat_parse_expr.proofs.Positive.{fields_form, fields_match}
-use Rattle.cat_parse_expr.proofs.Valued.{Valued, field_rows, AreValued, valued_of, valued_are, values_back, rows_are}
-use Rattle.cat_parse_expr.proofs.Valued.{fields_from, values_are, highest_is, field_parts, fields_are, fields_height}
-use Rattle.cat_parse_expr.proofs.Valued.{fields_read, fields_shut, some_fields_read, some_fields_shut}
+use Rattle.cat_parse_expr.proofs.FieldParts.{Valued, field_rows, AreValued, valued_of, valued_are, values_back}
+use Rattle.cat_parse_expr.proofs.FieldParts.{rows_are}
+use Rattle.cat_parse_expr.proofs.FieldParts.{fields_from, values_are, highest_is, field_parts, fields_are}
+use Rattle.cat_parse_expr.proofs.FieldParts.{fields_height}
+use Rattle.cat_parse_expr.proofs.FieldParts.{fields_read, fields_shut, some_fields_read, some_fields_shut}
 
 -- ---- output of U with { [-- w : E]* } . w
 

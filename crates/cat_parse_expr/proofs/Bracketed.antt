@@ -20,7 +20,7 @@ use Rattle.cat_parse_expr.proofs.Operands.{Next, OfClass, Form, form_read, measu
 use Rattle.cat_parse_expr.proofs.Operands.{hidden_left}
 use Rattle.cat_parse_expr.proofs.Read.{IsRead, pure_read}
 use Rattle.cat_parse_expr.proofs.Worded.{word_read, word_at_read}
-use Rattle.cat_parse_expr.proofs.Shut.{hidden_shut, IsShut, shut_after, one_shut, shut_turns}
+use Rattle.cat_parse_expr.proofs.NothingWhole.{hidden_shut, IsShut, shut_after, one_shut, shut_turns}
 use Rattle.cat_parse_expr.proofs.Sequels.{part_read, last_read, past_none}
 use Rattle.cat_parse_expr.proofs.Tuples.{both}
 use Rattle.cat_parse_expr.proofs.Choices.{Decides, Recast}

@@ -18,9 +18,10 @@ use Rattle.cat_parse_expr.proofs.Common.{Bare, Qualified, left, IsSpelling}
 use Rattle.cat_parse_expr.proofs.Firsts.{Shape, class_of, class_Case, class_Content, class_Structure, class_Selected}
 use Rattle.cat_parse_expr.proofs.Positive.{positive, fields_form, fields_match}
 use Rattle.cat_parse_expr.proofs.Operands.{Form, measured_by, height_is, match_is, strength_by}
-use Rattle.cat_parse_expr.proofs.Valued.{Valued, field_rows, AreValued, valued_of, valued_are, values_back, rows_are}
-use Rattle.cat_parse_expr.proofs.Valued.{fields_from, values_are, highest_is, fields_height}
-use Rattle.cat_parse_expr.proofs.Held.{content_of}
+use Rattle.cat_parse_expr.proofs.FieldParts.{Valued, field_rows, AreValued, valued_of, valued_are, values_back}
+use Rattle.cat_parse_expr.proofs.FieldParts.{rows_are}
+use Rattle.cat_parse_expr.proofs.FieldParts.{fields_from, values_are, highest_is, fields_height}
+use Rattle.cat_parse_expr.proofs.CaseContent.{content_of}
 
 abbrev pub built : Valued → List Valued → MeasuredFields
 built f fs = fields_from no_fields (f ∷ fs)

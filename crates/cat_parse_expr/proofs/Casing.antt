@@ -24,8 +24,8 @@ use Rattle.cat_parse_expr.proofs.Follows.{IsOwn}
 use Rattle.cat_parse_expr.proofs.Leaves.{cue_found}
 use Rattle.cat_parse_expr.proofs.Firsts.{is_bare}
 use Rattle.cat_parse_expr.proofs.Chosen.{sharp_choice_read}
-use Rattle.cat_parse_expr.proofs.Held.{Held, held_of, held_row, held_fits, held_read, Nothing as Without}
-use Rattle.cat_parse_expr.proofs.Held.{Content as With}
+use Rattle.cat_parse_expr.proofs.CaseContent.{Held, held_of, held_row, held_fits, held_read, Nothing as Without}
+use Rattle.cat_parse_expr.proofs.CaseContent.{Content as With}
 use Rattle.cat_parse_expr.proofs.Cased.{Cased, Plain, Dotted, Holds, DottedHolds, Builds, Selects, first_in, second_in}
 use Rattle.cat_parse_expr.proofs.Cased.{cased_of, after_dot, after_second, cased_rest, cased_fits}
 

@@ -9,7 +9,7 @@ use Rattle.cat_parse_expr.proofs.Joining.{spelled_split, spelled_join, levels_jo
 use Rattle.cat_parse_expr.proofs.Choices.{Recast, recast}
 use Rattle.cat_parse_expr.proofs.Sequel.{Past, part_right}
 use Rattle.cat_parse_expr.proofs.Sequels.{seen_self, no_longer, mapped_part}
-use Rattle.cat_parse_expr.proofs.Nearly.{IsFar, far_reads}
+use Rattle.cat_parse_expr.proofs.ShortListReaders.{IsFar, far_reads}
 use Rattle.cat_parse_expr.proofs.Read.{IsRead}
 use Rattle.cat_parse_expr.proofs.Lists as lists
 use Rattle.cat_parse_expr.proofs.Loops as loops

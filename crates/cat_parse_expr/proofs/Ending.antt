@@ -18,7 +18,7 @@ use Rattle.cat_parse_expr.proofs.Operands.{Next, form_next, OfClass, Form, form_
 use Rattle.cat_parse_expr.proofs.Operands.{inner_read, end_read}
 use Rattle.cat_parse_expr.proofs.Read.{IsRead, pure_read}
 use Rattle.cat_parse_expr.proofs.Worded.{word_read, opened_at_read}
-use Rattle.cat_parse_expr.proofs.Shut.{hidden_shut}
+use Rattle.cat_parse_expr.proofs.NothingWhole.{hidden_shut}
 use Rattle.cat_parse_expr.proofs.Sequels.{part_read, last_read, past_none}
 use Rattle.cat_parse_expr.proofs.Tuples.{both, four}
 

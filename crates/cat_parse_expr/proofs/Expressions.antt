@@ -23,12 +23,12 @@ use Rattle.cat_parse_expr.proofs.Read.{IsRead}
 use Rattle.cat_parse_expr.proofs.StepWords.{cue_of, operator_word, operator_is}
 use Rattle.cat_parse_expr.proofs.Chosen.{same_read}
 use Rattle.cat_parse_expr.proofs.Climbed.{step_not_bare}
-use Rattle.cat_parse_expr.proofs.Nearly.{near_right, near_keeps}
+use Rattle.cat_parse_expr.proofs.ShortListReaders.{near_right, near_keeps}
 use Rattle.cat_parse_expr.proofs.Primary.{primary_read}
 use Rattle.cat_parse_expr.proofs.Shaping.{made_read}
 use Rattle.cat_parse_expr.proofs.Spines.{FitsAll, all_measured, all_stood, spine}
 use Rattle.cat_parse_expr.proofs.Truth.{first_false}
-use Rattle.cat_parse_expr.proofs.Bared.{AreKept, bare_stops}
+use Rattle.cat_parse_expr.proofs.NoDotBehind.{AreKept, bare_stops}
 use Rattle.cat_parse_expr.proofs.Loops as loops
 use Rattle.cat_parse_expr.proofs.Chaining as chaining
 use Rattle.cat_parse_expr.proofs.Climbed as climbed

@@ -25,7 +25,7 @@ use Rattle.cat_parse_expr.proofs.Common.{operand_row, AreRight}
 use Rattle.cat_parse_expr.proofs.Firsts.{class_Combine, class_Sum, class_Prefixed}
 use Rattle.cat_parse_expr.proofs.Follows.{word_follows, tall_enough, call_ends, prefix_ends}
 use Rattle.cat_parse_expr.proofs.Positive.{positive, prefix_low}
-use Rattle.cat_parse_expr.proofs.Overs.{among_read, among_shut}
+use Rattle.cat_parse_expr.proofs.ListForms.{among_read, among_shut}
 use Rattle.cat_parse_expr.proofs.Chosen.{same_read}
 use Rattle.cat_parse_expr.proofs.Shaping.{reshape_read}
 use Rattle.cat_parse_expr.proofs.Types.{type_read, type_shut}
@@ -33,7 +33,7 @@ use Rattle.cat_parse_expr.proofs.Operands.{Next, form_next, ending_next, OfClass
 use Rattle.cat_parse_expr.proofs.Operands.{height_is, match_is, strength_by, inner_read, end_read}
 use Rattle.cat_parse_expr.proofs.Read.{IsRead}
 use Rattle.cat_parse_expr.proofs.Worded.{word_read, word_at_read, lower_read, opened_at_read, opened_read}
-use Rattle.cat_parse_expr.proofs.Shut.{hidden_shut, IsShut, shut_after, one_shut}
+use Rattle.cat_parse_expr.proofs.NothingWhole.{hidden_shut, IsShut, shut_after, one_shut}
 use Rattle.cat_parse_expr.proofs.Sequels.{part_read, last_read, past_none}
 use Rattle.cat_parse_expr.proofs.Tuples.{two, three, four}
 

@@ -7,7 +7,7 @@ use Rattle.cat_parse_expr.proofs.Common.{Reads, Reader, pure, after, left_of, tu
 use Rattle.cat_parse_expr.proofs.Common.{IsRight, ReadsAsFar, Stood, KeepsWhole}
 use Rattle.cat_parse_expr.proofs.Joining.{spelled_split, spelled_join, levels_join, levels_split}
 use Rattle.cat_parse_expr.proofs.Sequels.{seen_self}
-use Rattle.cat_parse_expr.proofs.Nearly.{near_right, IsFar, far_reads}
+use Rattle.cat_parse_expr.proofs.ShortListReaders.{near_right, IsFar, far_reads}
 use Rattle.cat_parse_expr.proofs.Read.{IsRead}
 use Rattle.cat_parse_expr.proofs.Lists.{with_first}
 use Rattle.cat_parse_expr.proofs.Lists as lists

@@ -28,7 +28,7 @@ use Rattle.cat_parse_expr.proofs.Operands.{Next, OfClass, Form, form_read, measu
 use Rattle.cat_parse_expr.proofs.Operands.{goes_then}
 use Rattle.cat_parse_expr.proofs.Read.{IsRead}
 use Rattle.cat_parse_expr.proofs.Worded.{word_read, opened_at_read}
-use Rattle.cat_parse_expr.proofs.Shut.{hidden_shut}
+use Rattle.cat_parse_expr.proofs.NothingWhole.{hidden_shut}
 use Rattle.cat_parse_expr.proofs.Sequels.{part_read, last_read}
 use Rattle.cat_parse_expr.proofs.Turnings.{heads_begin, shrinks_after, past_word, read_shrinks}
 use Rattle.cat_parse_expr.proofs.Leaves.{cue_found, cue_self}

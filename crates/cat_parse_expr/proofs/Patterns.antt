@@ -17,7 +17,7 @@ use Rattle.cat_parse_expr.proofs.Choices.{Decides}
 use Rattle.cat_parse_expr.proofs.Chosen.{inner_choice_read, choice_read, same_read}
 use Rattle.cat_parse_expr.proofs.Leaves.{anywhere}
 use Rattle.cat_parse_expr.proofs.Read.{IsRead, pure_read}
-use Rattle.cat_parse_expr.proofs.Shut.{IsShut, shut_after, one_shut}
+use Rattle.cat_parse_expr.proofs.NothingWhole.{IsShut, shut_after, one_shut}
 use Rattle.cat_parse_expr.proofs.Sequels.{past_none, open_part_read}
 use Rattle.cat_parse_expr.proofs.Shaping.{reshape_read}
 use Rattle.cat_parse_expr.proofs.Turnings.{heads_begin, heads_other}

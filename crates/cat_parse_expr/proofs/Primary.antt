@@ -17,12 +17,12 @@ use Rattle.cat_parse_expr.proofs.Matching.{matched_read}
 use Rattle.cat_parse_expr.proofs.Naming.{name_read}
 use Rattle.cat_parse_expr.proofs.Openers.{opens_with}
 use Rattle.cat_parse_expr.proofs.Operands.{Next, Placed, OfClass}
-use Rattle.cat_parse_expr.proofs.Overs.{over_read}
+use Rattle.cat_parse_expr.proofs.ListForms.{over_read}
 use Rattle.cat_parse_expr.proofs.Positive.{match_level}
 use Rattle.cat_parse_expr.proofs.Read.{IsRead}
 use Rattle.cat_parse_expr.proofs.Sampling.{a_name, a_node, lower_token, name_sample, node_levels, node_spelled}
 use Rattle.cat_parse_expr.proofs.Spanned.{literal_read}
-use Rattle.cat_parse_expr.proofs.Uppers.{case_read}
+use Rattle.cat_parse_expr.proofs.UpperReader.{case_read}
 use Rattle.cat_parse_expr.proofs.Truth.{clash, le_of, le_true}
 use Rattle.cat_parse_expr.proofs.Heading as heading
 

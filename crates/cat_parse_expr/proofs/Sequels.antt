@@ -10,7 +10,7 @@ use Rattle.cat_parse_expr.proofs.Choices.{Recast, recast}
 use Rattle.cat_parse_expr.proofs.Sequel.{Past, part_right}
 use Rattle.cat_parse_expr.proofs.Shaping.{keeps_made}
 use Rattle.cat_parse_expr.proofs.Read.{IsRead}
-use Rattle.cat_parse_expr.proofs.Shut.{IsShut}
+use Rattle.cat_parse_expr.proofs.NothingWhole.{IsShut}
 
 -- what one saw is seen again in the same tokens
 pub agree_self : (ts : List Token) → Agree ts ts

@@ -17,7 +17,7 @@ use Rattle.cat_parse_expr.proofs.Common.{base_of, «word», typed, base_at, is_l
 use Rattle.cat_parse_expr.proofs.Joining.{pure_right, no_front, agree_same}
 use Rattle.cat_parse_expr.proofs.Token.{Terminals, token_right}
 use Rattle.cat_parse_expr.proofs.Read.{IsRead}
-use Rattle.cat_parse_expr.proofs.Shut.{IsShut}
+use Rattle.cat_parse_expr.proofs.NothingWhole.{IsShut}
 use Rattle.cat_parse_expr.proofs.Choices.{same_reader, reshaped, Decides, choice_right}
 use Rattle.cat_parse_expr.proofs.Leaves.{cue_self, word_behind, lowered, some_one, not_both, token_is, anywhere}
 

@@ -1,5 +1,6 @@
 pub mod Reading
 pub mod Growing
+pub mod WholePools
 pub mod Cutting
 pub mod Counting
 pub mod LoadingLemmas

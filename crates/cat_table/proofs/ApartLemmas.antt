@@ -33,7 +33,7 @@ use Rattle.cat_sound.proofs.Exported.{all_at, all_back, all_front, all_more, all
 use Rattle.cat_sound.proofs.Exported.{called-all, function_defined, judge_target-ends, ready, same_some, scopes-at}
 use Rattle.cat_sound.proofs.Exported.{Placed, in_at, scopes-length, settled_programs, stands_end}
 use Rattle.cat_guard.proofs.Exported.{all_and, nat_self}
-use Rattle.cat_audit_sound.proofs.Gives.{found, not_true, same_number}
+use Rattle.cat_audit_sound.proofs.RunValues.{found, not_true, same_number}
 use Rattle.cat_audit_sound.proofs.StandingDefs as standing
 use Rattle.cat_audit_sound.proofs.StandingDefs.{body_of, def_callables, defs_stand, given_typed, scope_sound}
 

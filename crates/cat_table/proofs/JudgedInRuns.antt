@@ -20,7 +20,7 @@ use Rattle.cat_sound.specs.Given.{values_at}
 use Rattle.cat_sound.specs.Settled.{StandsIn}
 use Rattle.cat_sound.proofs.Exported.{Ahead, Behind, DoneAt, all_more, anything, items_ahead, ready}
 use Rattle.cat_guard.specs.declared.table.Table.{Table}
-use Rattle.cat_audit_sound.proofs.Gives.{if_ok}
+use Rattle.cat_audit_sound.proofs.RunValues.{if_ok}
 use Rattle.cat_audit_sound.proofs.PrefixRuns.{StandsAt, front_behind, front_stands, needed_before}
 use Rattle.cat_audit_sound.proofs.StandingDefs as standing
 use Rattle.cat_audit_sound.proofs.StandingDefs.{body_of, def_callables, defs_stand, scope_sound, typed_given}

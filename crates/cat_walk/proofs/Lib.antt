@@ -12,6 +12,7 @@ pub mod ExpandLemmas
 pub mod SharedLaws
 pub mod SharingExamples
 pub mod ClassLemmas
+pub mod MetLemmas
 pub mod NumberingLemmas
 pub mod WritingLemmas
 pub mod BodyLemmas

@@ -1,4 +1,4 @@
-use Rattle.cat_audit.proofs.Values.{all_valued}
+use Rattle.cat_audit.proofs.TermValues.{all_valued}
 use Rattle.cat_audit.proofs.finding_laws.tables_admit_something.Goals as goal
 
 pub returns : goal.returns

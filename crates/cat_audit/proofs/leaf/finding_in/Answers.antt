@@ -12,7 +12,7 @@ use Rattle.cat_audit_sound.specs.Failing.{HasNoValue}
 use Rattle.cat_audit.specs.Findings.{undecided_at, shown_input}
 use Rattle.cat_audit.proofs.FindingLemmas.{finding_is, says, is_free}
 use Rattle.cat_sound.proofs.Exported.{all_at}
-use Rattle.cat_audit.proofs.Targets.{at_some, if_some}
+use Rattle.cat_audit.proofs.TargetThere.{at_some, if_some}
 use Rattle.cat_audit.proofs.leaf.finding_in.Goals as goal
 
 pub execute_clean-requires : goal.execute_clean-requires

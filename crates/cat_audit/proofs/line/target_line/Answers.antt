@@ -7,7 +7,7 @@ use Rattle.cat_audit.specs.Lines.{findings, counting}
 use Rattle.cat_audit.specs.inside.Tried.{region_at}
 use Rattle.cat_audit.proofs.TargetLineLemmas.{asked_of, bad_first, bad_as, counts_as, line_made, cause_made}
 use Rattle.cat_sound.proofs.Exported.{all_at}
-use Rattle.cat_audit.proofs.Targets.{at_some, if_some}
+use Rattle.cat_audit.proofs.TargetThere.{at_some, if_some}
 use Rattle.cat_audit.proofs.line.target_line.Goals as goal
 
 pub tried-requires-clause-asked : goal.tried-requires-clause-asked

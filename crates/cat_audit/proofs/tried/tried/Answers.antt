@@ -5,7 +5,7 @@ use Rattle.cat_guard.specs.Judged.{judged_in}
 use Rattle.cat_guard.specs.Judgements.{is_bad}
 use Rattle.cat_search.specs.Ways.{ask_below}
 use Rattle.cat_audit.specs.Findings.{finding_in}
-use Rattle.cat_audit.proofs.Targets.{at_some, if_some}
+use Rattle.cat_audit.proofs.TargetThere.{at_some, if_some}
 use Rattle.cat_audit.proofs.TriedLemmas.{IsTrying, item, at_item, next_is, next_of, reached, leads_there, goes_on}
 use Rattle.cat_audit.proofs.TriedLemmas.{ends_found, goes_over, kept_unfound, kept_some, one_found}
 use Rattle.cat_audit.proofs.HangingLemmas.{quiet_on, quiet_by, hangs_there}

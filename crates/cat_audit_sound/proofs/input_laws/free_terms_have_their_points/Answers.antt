@@ -1,6 +1,6 @@
 use Rattle.std.proofs.Common.{subst}
 use Rattle.cat_value.specs.Laws.{AreSound}
-use Rattle.cat_audit_sound.proofs.Shows.{scope_shows}
+use Rattle.cat_audit_sound.proofs.ShownPoints.{scope_shows}
 use Rattle.cat_audit_sound.proofs.input_laws.free_terms_have_their_points.Goals as goal
 
 pub returns : goal.returns

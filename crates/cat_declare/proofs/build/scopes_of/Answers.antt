@@ -3,7 +3,7 @@ use Rattle.std.specs.Prelude.{flat_map}
 use Rattle.cat_declare.specs.inside.Made.{scope_made, variable_faults, cut}
 use Rattle.cat_declare.specs.inside.Tabling.{types_at, scopes_at}
 use Rattle.cat_declare.specs.inside.Writings.{as_pair}
-use Rattle.cat_declare.proofs.Nexts.{map_next, flat_next}
+use Rattle.cat_declare.proofs.OneMore.{map_next, flat_next}
 use Rattle.cat_declare.proofs.build.scopes_of.Goals as goal
 
 pub loop-scope-preserved : goal.loop-scope-preserved

@@ -2,7 +2,7 @@ use Rattle.std.proofs.Common.{◌≡◌, ◌∙◌, ◌<◌, ◌++◌, length, g
 use Rattle.cat_declare.specs.inside.Made.{structure_made, field_faults, cut}
 use Rattle.cat_declare.specs.inside.Tabling.{types_at, scopes_at}
 use Rattle.cat_declare.specs.inside.Writings.{as_pair}
-use Rattle.cat_declare.proofs.Nexts.{map_next, flat_next}
+use Rattle.cat_declare.proofs.OneMore.{map_next, flat_next}
 use Rattle.cat_declare.proofs.build.structures_of.Goals as goal
 
 pub loop-structure-preserved : goal.loop-structure-preserved

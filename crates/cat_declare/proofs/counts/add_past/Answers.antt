@@ -1,6 +1,6 @@
 use Rattle.std.proofs.Common.{◌≡◌, ◌∙◌, ◌++◌, Some, None, slice_get, rules, sym, ap}
 use Rattle.std.proofs.lemmas.List.{append-nil}
-use Rattle.cat_declare.proofs.Nexts.{past_some, past_none}
+use Rattle.cat_declare.proofs.OneMore.{past_some, past_none}
 use Rattle.cat_declare.proofs.counts.add_past.Goals as goal
 
 pub returns-in-Some : goal.returns-in-Some

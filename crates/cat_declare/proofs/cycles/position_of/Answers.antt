@@ -1,6 +1,6 @@
 use Rattle.std.proofs.Common.{◌-◌, arith}
 use Rattle.cat_names.specs.Written.{structures_in, enumerations_in}
-use Rattle.cat_declare.proofs.Nexts.{position_front, position_behind}
+use Rattle.cat_declare.proofs.OneMore.{position_front, position_behind}
 use Rattle.cat_declare.proofs.Tabling.{as_many_pairs}
 use Rattle.cat_declare.proofs.cycles.position_of.Goals as goal
 

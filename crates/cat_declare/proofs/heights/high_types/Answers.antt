@@ -8,7 +8,7 @@ use Rattle.cat_tree.specs.declared.program.CaseItem.{CaseItem}
 use Rattle.cat_names.specs.Heights.{high_list, high_named, types_written}
 use Rattle.cat_names.specs.Written.{structures_in, enumerations_in, names_of, types_in}
 use Rattle.cat_declare.specs.inside.Parted.{declared_by}
-use Rattle.cat_declare.proofs.Nexts.{flat_flat, made_pairs, three_behind}
+use Rattle.cat_declare.proofs.OneMore.{flat_flat, made_pairs, three_behind}
 use Rattle.cat_declare.proofs.Tabling.{as_many_pairs, lists_few}
 use Rattle.cat_declare.proofs.heights.high_types.Goals as goal
 

@@ -3,7 +3,7 @@ use Rattle.cat_names.specs.Heights.{height_faults}
 use Rattle.cat_declare.specs.inside.Clearing.{Clears}
 use Rattle.cat_declare.specs.inside.Made.{made, whole}
 use Rattle.cat_declare.specs.inside.Tabling.{tree_at}
-use Rattle.cat_declare.proofs.Clearing.{caused_where_not, none_where_clear}
+use Rattle.cat_declare.proofs.ClearedReplies.{caused_where_not, none_where_clear}
 use Rattle.cat_declare.proofs.Finishing.{refuses_height}
 use Rattle.cat_declare.proofs.SameHeights.{same_height_faults}
 use Rattle.cat_declare.proofs.heights.refuse_high.Goals as goal

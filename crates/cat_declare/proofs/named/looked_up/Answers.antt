@@ -3,7 +3,7 @@ use Rattle.cat_names.specs.Unknown.{twice}
 use Rattle.std.specs.Prelude.{flat_map}
 use Rattle.cat_declare.specs.inside.Tabling.{tree_at}
 use Rattle.cat_declare.proofs.FewItems.{declared_few}
-use Rattle.cat_declare.proofs.Founds.{nothing_in, nothing_behind}
+use Rattle.cat_declare.proofs.FoundParts.{nothing_in, nothing_behind}
 use Rattle.cat_declare.proofs.named.looked_up.Goals as goal
 
 pub item_tables-requires : goal.item_tables-requires

@@ -1,8 +1,8 @@
 use Rattle.std.proofs.Common.{rules}
 use Rattle.cat_declare.specs.inside.Clearing.{Clears}
 use Rattle.cat_declare.specs.inside.Naming.{repeated}
-use Rattle.cat_declare.proofs.Clearing.{caused_where_not, name_refused}
-use Rattle.cat_declare.proofs.Standing.{repeated_among}
+use Rattle.cat_declare.proofs.ClearedReplies.{caused_where_not, name_refused}
+use Rattle.cat_declare.proofs.NameFaultSteps.{repeated_among}
 use Rattle.cat_declare.proofs.named.refuse_repeated.Goals as goal
 
 pub returns-clause-cause : goal.returns-clause-cause

@@ -3,8 +3,8 @@ use Rattle.std.proofs.lemmas.Result.{err_from_is_err_and}
 use Rattle.cat_declare.specs.inside.Clearing.{IsAmong}
 use Rattle.cat_declare.specs.inside.Naming.{unresolved}
 use Rattle.cat_declare.specs.inside.Tabling.{tree_at}
-use Rattle.cat_declare.proofs.Clearing.{name_refused, refused_by}
-use Rattle.cat_declare.proofs.Standing.{no_name_fault, unresolved_among}
+use Rattle.cat_declare.proofs.ClearedReplies.{name_refused, refused_by}
+use Rattle.cat_declare.proofs.NameFaultSteps.{no_name_fault, unresolved_among}
 use Rattle.cat_declare.proofs.named.resolved.Goals as goal
 
 pub returns-clause-none : goal.returns-clause-none

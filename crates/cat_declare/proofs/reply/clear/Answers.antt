@@ -1,5 +1,5 @@
 use Rattle.std.proofs.Common.{sym}
-use Rattle.cat_declare.proofs.Nexts.{first_of, none_first}
+use Rattle.cat_declare.proofs.OneMore.{first_of, none_first}
 use Rattle.cat_declare.proofs.reply.clear.Goals as goal
 
 pub returns-in-Some : goal.returns-in-Some

@@ -1,4 +1,4 @@
-use Rattle.cat_image.proofs.ListedText.{listing_is_image}
+use Rattle.cat_image.proofs.ListedWhole.{listing_is_image}
 use Rattle.cat_image.proofs.laws.a_listing_is_an_image.Goals as goal
 
 pub returns : goal.returns

@@ -8,7 +8,7 @@ use Rattle.cat_names.specs.Written.{structures_in, enumerations_in, scopes_in}
 use Rattle.cat_declare.specs.inside.Made.{structure_made, enumeration_made, scope_made, made, cut, field_faults}
 use Rattle.cat_declare.specs.inside.Made.{case_faults, variable_faults}
 use Rattle.cat_declare.specs.inside.Tabling.{tree_at, types_at, scopes_at}
-use Rattle.cat_declare.proofs.Nexts.{flat_pairs, made_pairs, three_behind}
+use Rattle.cat_declare.proofs.OneMore.{flat_pairs, made_pairs, three_behind}
 use Rattle.cat_declare.proofs.Finishing.{same_parts}
 use Rattle.cat_declare.proofs.build.Parts.of.Goals as goal
 

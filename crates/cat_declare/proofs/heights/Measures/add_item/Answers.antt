@@ -5,7 +5,7 @@ use Rattle.cat_tree.specs.declared.program.FieldItem.{FieldItem}
 use Rattle.cat_tree.specs.declared.program.CaseItem.{CaseItem}
 use Rattle.cat_names.specs.Heights.{high_list, types_written, variable_types}
 use Rattle.cat_declare.specs.inside.Measuring.{measured, types_measured}
-use Rattle.cat_declare.proofs.Nexts.{flat_flat}
+use Rattle.cat_declare.proofs.OneMore.{flat_flat}
 use Rattle.cat_declare.proofs.heights.Measures.add_item.Goals as goal
 
 pub returns-in-Structure : goal.returns-in-Structure

@@ -1,6 +1,7 @@
 use Rattle.std.proofs.Common.{◌≡◌, ◌<◌, Some, slice_get, arith, ap, [], length, subst, List}
 use Rattle.cat_pool.specs.Nodes.{IsPlaced, Standing, value_in, values}
-use Rattle.cat_pool.proofs.Growing.{length-seen, placed_in, read_at, stands_for}
+use Rattle.cat_pool.proofs.Growing.{length-seen}
+use Rattle.cat_pool.proofs.WholePools.{placed_in, read_at, stands_for}
 use Rattle.cat_pool.proofs.pool.Pool.look.Goals as goal
 
 pub index-requires : goal.index-requires

@@ -1,6 +1,6 @@
 use Rattle.std.proofs.Common.{◌∙◌, ap, arith}
 use Rattle.cat_pool.specs.Marks.{mark_of}
-use Rattle.cat_pool.proofs.Growing.{mark-seen}
+use Rattle.cat_pool.proofs.WholePools.{mark-seen}
 use Rattle.cat_pool.proofs.pool.Pool.mark.Goals as goal
 
 pub returns : goal.returns

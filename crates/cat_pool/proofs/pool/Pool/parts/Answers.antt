@@ -1,6 +1,7 @@
 use Rattle.std.proofs.Common.{◌≡◌, ◌∙◌, ap, arith, length, subst, sym, List, ℕ}
 use Rattle.cat_pool.specs.Nodes.{AreBelow, Standing, in_range, kept_parts}
-use Rattle.cat_pool.proofs.Growing.{kept-pool, kept_below}
+use Rattle.cat_pool.proofs.Growing.{kept-pool}
+use Rattle.cat_pool.proofs.WholePools.{kept_below}
 use Rattle.cat_pool.proofs.pool.Pool.parts.Goals as goal
 
 pub part_of-requires : goal.part_of-requires

@@ -1,6 +1,7 @@
 use Rattle.std.proofs.Common.{rules, ◌<◌, ◌+◌, arith, ap, [], length, List, subst, sym}
 use Rattle.cat_pool.specs.Nodes.{IsPlain, Standing}
-use Rattle.cat_pool.proofs.Growing.{length-seen, pool_plain, seen_plain}
+use Rattle.cat_pool.proofs.Growing.{length-seen}
+use Rattle.cat_pool.proofs.WholePools.{pool_plain, seen_plain}
 use Rattle.cat_pool.proofs.pool.Pool.put.Goals as goal
 
 pub invariant_of-self-2 : goal.invariant_of-self-2

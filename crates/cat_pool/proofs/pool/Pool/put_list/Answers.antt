@@ -2,7 +2,8 @@ use Rattle.std.proofs.Common.{◌≡◌, ◌++◌, ◌∷◌, [], IfOk, OnOk, le
 use Rattle.cat_pool.specs.declared.pool.Compound.TheVariants as compound
 use Rattle.cat_pool.specs.Nodes.{AreBelow, Standing}
 use Rattle.cat_pool.specs.inside.Laid.{seen}
-use Rattle.cat_pool.proofs.Growing.{place_laid, pool_laid, seen_laid, whole_of}
+use Rattle.cat_pool.proofs.Growing.{whole_of}
+use Rattle.cat_pool.proofs.WholePools.{place_laid, pool_laid, seen_laid}
 use Rattle.cat_pool.proofs.pool.Pool.put_list.Goals as goal
 
 pub invariant_of-self : goal.invariant_of-self

@@ -3,7 +3,7 @@ use Rattle.std.proofs.Common.{ap, ◌∙◌, subst, slice_set}
 use Rattle.std.specs.List.{list_any}
 use Rattle.cat_guard.specs.Trees as tree
 use Rattle.cat_walk.specs.inside.Classes.{Key, Meets}
-use Rattle.cat_walk.proofs.ClassLemmas.{meets_new, meets_old, same_key, is_key_test, flag_true, flag_false}
+use Rattle.cat_walk.proofs.MetLemmas.{meets_new, meets_old, same_key, is_key_test, flag_true, flag_false}
 use Rattle.cat_walk.proofs.classes.Classes.meet.Goals as goal
 
 pub returns-then-new-clause-meets : goal.returns-then-new-clause-meets

@@ -26,7 +26,7 @@ use Rattle.cat_sound.specs.Endings.{Ended, IsOf}
 use Rattle.cat_sound.proofs.Exported.{Placed, anything}
 use Rattle.cat_sound.proofs.InputTypes.{condition_type}
 use Rattle.cat_sound.proofs.Exported.{not_given}
-use Rattle.cat_audit_sound.proofs.Gives.{and_both, IfGives, if_then}
+use Rattle.cat_audit_sound.proofs.RunValues.{and_both, IfGives, if_then}
 
 of_Boolean : (ds : Decls) (b : Bool) → IsOf ds flat_ty.Boolean (Boolean b)
 of_Boolean ds b = rw (has_type_Boolean ds b flat_ty.Boolean, ty.outs-Boolean) refl

@@ -15,7 +15,7 @@ use Rattle.cat_names.specs.NameFaults.{item_faults, definition_positions, name_f
 use Rattle.cat_names.specs.Unknown.{twice}
 use Rattle.cat_declare.specs.inside.Made.{unknown_declared}
 use Rattle.cat_declare.specs.inside.Naming.{block_faults, repeated, unresolved}
-use Rattle.cat_declare.proofs.Founds.{nothing_in, nothing_behind}
+use Rattle.cat_declare.proofs.FoundParts.{nothing_in, nothing_behind}
 use Rattle.cat_declare.proofs.DeclaredFaults.{declared_faults}
 
 -- each fault of the first list is one of the second

@@ -9,7 +9,7 @@ use Rattle.cat_names.specs.declared.fault.Refusal.TheVariants.{Memory, Refused}
 use Rattle.cat_names.specs.NameFaults.{name_faults}
 use Rattle.cat_declare.specs.Cause.{HasCause}
 use Rattle.cat_declare.specs.inside.Clearing.{Clears, IsAmong}
-use Rattle.cat_declare.proofs.Standing.{AreAmong}
+use Rattle.cat_declare.proofs.NameFaultSteps.{AreAmong}
 
 -- a refusal is one of faults that all stand against a tree
 pub refused_by : (tree : Tree) (xs : List Fault) → ((f : Fault) → IsOneOf f xs → IsRefused tree f) → (r : Refusal)

@@ -16,7 +16,7 @@ use Rattle.cat_parse_expr.proofs.Common.{with_field, no_fields, is_lower, lower_
 use Rattle.cat_parse_expr.proofs.Operands.{height_is, inner_read, part_shrinks, hidden_left}
 use Rattle.cat_parse_expr.proofs.Read.{IsRead}
 use Rattle.cat_parse_expr.proofs.Worded.{word_read, lower_read}
-use Rattle.cat_parse_expr.proofs.Shut.{hidden_shut, IsShut, shut_after, one_shut, shut_turns}
+use Rattle.cat_parse_expr.proofs.NothingWhole.{hidden_shut, IsShut, shut_after, one_shut, shut_turns}
 use Rattle.cat_parse_expr.proofs.Sequels.{last_read}
 use Rattle.cat_parse_expr.proofs.Tuples.{two}
 use Rattle.cat_parse_expr.proofs.Choices.{Recast}

@@ -18,7 +18,7 @@ use Rattle.cat_parse_expr.proofs.Operands.{Next, form_next, OfClass, Form, form_
 use Rattle.cat_parse_expr.proofs.Operands.{inner_read, end_read}
 use Rattle.cat_parse_expr.proofs.Read.{IsRead}
 use Rattle.cat_parse_expr.proofs.Worded.{word_read, word_at_read, lower_read}
-use Rattle.cat_parse_expr.proofs.Shut.{hidden_shut, IsShut, shut_after, one_shut}
+use Rattle.cat_parse_expr.proofs.NothingWhole.{hidden_shut, IsShut, shut_after, one_shut}
 use Rattle.cat_parse_expr.proofs.Sequels.{part_read, last_read, past_none}
 use Rattle.cat_parse_expr.proofs.Tuples.{two, three}
 

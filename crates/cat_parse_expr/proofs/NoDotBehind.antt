@@ -15,7 +15,7 @@ use Rattle.cat_parse_expr.proofs.Common.{left_of, fallen, is_lower, IsSpelling, 
 use Rattle.cat_parse_expr.proofs.Firsts.{is_bare}
 use Rattle.cat_parse_expr.proofs.Turnings.{takes_one, shrinks_after, shrinks_one, read_shrinks}
 use Rattle.cat_parse_expr.proofs.Climbs.{room_shrinks}
-use Rattle.cat_parse_expr.proofs.Held.{held_read}
+use Rattle.cat_parse_expr.proofs.CaseContent.{held_read}
 use Rattle.cat_parse_expr.proofs.Operands.{Placed, whole_same}
 use Rattle.cat_parse_expr.proofs.Primary.{primary_read}
 use Rattle.cat_parse_expr.proofs.Spines.{bare_case}

@@ -16,9 +16,9 @@ use Rattle.cat_parse_expr.proofs.Shaping.{recast_read}
 use Rattle.cat_parse_expr.proofs.Turnings.{heads_begin, heads_other, own_heads}
 use Rattle.cat_parse_expr.proofs.Chosen.{choice_read}
 use Rattle.cat_parse_expr.proofs.Worded.{upper_read}
-use Rattle.cat_parse_expr.proofs.Valued.{Valued, AreValued}
+use Rattle.cat_parse_expr.proofs.FieldParts.{Valued, AreValued}
 use Rattle.cat_parse_expr.proofs.Braces.{structure_read}
-use Rattle.cat_parse_expr.proofs.Held.{Held, held_of, held_row, held_fits, Nothing as Without, Content as With}
+use Rattle.cat_parse_expr.proofs.CaseContent.{Held, held_of, held_row, held_fits, Nothing as Without, Content as With}
 use Rattle.cat_parse_expr.proofs.Cased.{Cased, Plain, Dotted, Holds, DottedHolds, Builds, Selects, first_in, cased_of}
 use Rattle.cat_parse_expr.proofs.Cased.{cased_rest, cased_flat, cased_fits, cased_row, to_parts, from_parts, cased_form}
 use Rattle.cat_parse_expr.proofs.Casing.{brace_own, no_dot, no_comma, IsUndotted, IsBuilt, IsBare}

@@ -49,7 +49,7 @@ use Rattle.cat_audit_sound.proofs.PartEquations.{part_other}
 use Rattle.cat_audit_sound.specs.Shown.{AreGiven, IsFree, IsSeenAs}
 use Rattle.cat_audit_sound.proofs.PointedValues.{same_some, none_some, pointed, first_point}
 use Rattle.cat_audit_sound.proofs.FreeValues.{reads}
-use Rattle.cat_audit_sound.proofs.Apart.{are_one, apart}
+use Rattle.cat_audit_sound.proofs.TermsApart.{are_one, apart}
 
 -- what stands at a number of the images of a list
 image_at : {A B : Type 0} (f : A → B) (xs : List A) (i : ℕ) (b : B) → slice_get (map f xs) i ≡ Some b
