@@ -1,5 +1,5 @@
 -- A text of the form of a day has ten bytes, digits in their places.
-use Rattle.std.proofs.Common.{◌≡◌, ℕ, zero, suc, ◌+◌, ◌<◌, List, [], ◌∷◌, ◌++◌, if◌then◌else◌, length, take, drop}
+use Rattle.std.proofs.Common.{◌≡◌, ◌≢◌, ℕ, zero, suc, ◌+◌, ◌<◌, List, [], ◌∷◌, ◌++◌, if◌then◌else◌, length, take, drop}
 use Rattle.std.proofs.Common.{get_or, drop-cons, add-one, ◌==◌, replicate, codes, bytes_eq, Bool, true, false, ◌&&◌}
 use Rattle.std.proofs.Common.{refl, sym, ap, ◌∙◌, arith}
 use Rattle.std.proofs.lemmas.Bool.Decides.{nat_tests}
@@ -37,38 +37,41 @@ form_is text h = (bytes_eq-Decides (form_of text) (codes "0000-00-00")).0 h
 pub form_length : (text : List ℕ) → form_of text ≡ codes "0000-00-00" → length text ≡ 10
 form_length text e = sym (length-form_of text) ∙ ap length e
 
-pub bytes_eq-length : (text : List ℕ) → ¬ (length text ≡ 10) → bytes_eq (form_of text) (codes "0000-00-00") ≡ false
-bytes_eq-length text h = no (bytes_eq (form_of text) (codes "0000-00-00")) (λ e. h (form_length text (form_is text e)))
-  where
-    no : (b : Bool) → ¬ (b ≡ true) → b ≡ false
-    no true h = absurd (h refl)
-    no false h = refl
-
 pub day_digits : (text : List ℕ) → form_of text ≡ codes "0000-00-00" → all_ascii_digits (take 2 (drop 8 text)) ≡ true
 day_digits text e =
     all_ascii_digits-zeros 2 (take 2 (drop 8 text)) (form_of-take 2 (drop 8 text)
     ∙ ap (take 2) (form_of-drop 8 text ∙ ap (drop 8) e))
 
-form_step : (text : List ℕ) (i : ℕ) → i < length text → i < 10 → bytes_eq (form_of (drop i text))
-    (drop i (codes "0000-00-00"))
-    ≡ (((if is_ascii_digit (get_or text i 0) then 48 else get_or text i 0) == get_or (codes "0000-00-00") i 0)
-    && bytes_eq (form_of (drop (i + 1) text)) (drop (i + 1) (codes "0000-00-00")))
-form_step text i h k = rw (add-one, drop-cons text i 0, drop-cons (codes "0000-00-00") i 0) refl
+-- a text of another length has another form
+pub other_length : (text form : List ℕ) → length text ≢ length form → bytes_eq (form_of text) form ≡ false
+other_length text form apart = by (bytes_eq (form_of text) form) refl
+  where
+    by : (b : Bool) → bytes_eq (form_of text) form ≡ b → b ≡ false
+    by false is = refl
+    by true is =
+        absurd (apart (sym (length-form_of text) ∙ ap (λ (l : List ℕ). length l) ((bytes_eq-Decides _ _).0 is)))
+
+step : (text form : List ℕ) (i : ℕ) → i < length text → i < length form
+    → bytes_eq (form_of (drop i text)) (drop i form)
+    ≡ (((if is_ascii_digit (get_or text i 0) then 48 else get_or text i 0) == get_or form i 0)
+    && bytes_eq (form_of (drop (i + 1) text)) (drop (i + 1) form))
+step text form i within below = rw (add-one, drop-cons text i 0, drop-cons form i 0) refl
 
 test_same : (x y : ℕ) (b : Bool) → x ≡ y → ((x == y) && b) ≡ b
 test_same x y b e = grind (arith, nat_tests)
 
-test_other : (x y : ℕ) (b : Bool) → ¬ (x ≡ y) → ((x == y) && b) ≡ false
-test_other x y b n = grind (arith, nat_tests)
+test_other : (x y : ℕ) (b : Bool) → x ≢ y → ((x == y) && b) ≡ false
+test_other x y b e = grind (arith, nat_tests)
 
 -- where the byte fits, the rest decides
-pub form_same : (text : List ℕ) (i f : ℕ) → i < length text → i < 10
-    → f ≡ (if is_ascii_digit (get_or text i 0) then 48 else get_or text i 0) → f ≡ get_or (codes "0000-00-00") i 0
-    → bytes_eq (form_of (drop (i + 1) text)) (drop (i + 1) (codes "0000-00-00")) ≡ bytes_eq (form_of (drop i text))
-    (drop i (codes "0000-00-00"))
-form_same text i f h k e same = sym (form_step text i h k ∙ test_same _ _ _ (sym e ∙ same))
+pub form_same : (text form : List ℕ) (i f : ℕ) → i < length text → i < length form
+    → f ≡ (if is_ascii_digit (get_or text i 0) then 48 else get_or text i 0) → f ≡ get_or form i 0
+    → bytes_eq (form_of (drop (i + 1) text)) (drop (i + 1) form) ≡ bytes_eq (form_of (drop i text)) (drop i form)
+form_same text form i f within below is same =
+    sym (step text form i within below ∙ test_same _ _ _ (sym is ∙ same))
 
-pub form_other : (text : List ℕ) (i f : ℕ) → i < length text → i < 10
-    → f ≡ (if is_ascii_digit (get_or text i 0) then 48 else get_or text i 0) → ¬ (f ≡ get_or (codes "0000-00-00") i 0)
-    → bytes_eq (form_of (drop i text)) (drop i (codes "0000-00-00")) ≡ false
-form_other text i f h k e other = form_step text i h k ∙ test_other _ _ _ (λ same. other (e ∙ same))
+pub form_other : (text form : List ℕ) (i f : ℕ) → i < length text → i < length form
+    → f ≡ (if is_ascii_digit (get_or text i 0) then 48 else get_or text i 0) → f ≢ get_or form i 0
+    → bytes_eq (form_of (drop i text)) (drop i form) ≡ false
+form_other text form i f within below is other =
+    step text form i within below ∙ test_other _ _ _ (λ same. other (is ∙ same))

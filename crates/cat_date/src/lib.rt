@@ -17,4 +17,4 @@ pub use laws::{
 };
 pub use rounding::Rounding;
 pub use span::{Span, cmp_span, span_add, span_neg, span_sub, span_times};
-pub use text::{has_date_form, read_day, show_day};
+pub use text::{has_date_form, has_form, read_day, show_day};

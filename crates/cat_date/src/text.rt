@@ -41,18 +41,26 @@ pub fn has_date_form(text: &[u8]) -> bool
     ensures value { result ≡ bytes_eq (form_of text.now) (codes "0000-00-00") }
     ensures length { IsTrue result → length text.now ≡ 10 }
 {
-    if text.len() != FORM.len() {
+    has_form(text, &FORM)
+}
+
+/// Whether a text has a form, in which 0 stands for each digit.
+pub fn has_form(text: &[u8], form: &[u8]) -> bool
+    ensures { result ≡ bytes_eq (form_of text.now) form.now }
+{
+    if text.len() != form.len() {
         return false;
     }
     for (i, &byte) in text.iter().enumerate() {
-        if form(byte) != FORM[i] {
+        if zeroed(byte) != form[i] {
             return false;
         }
     }
     true
 }
 
-fn form(byte: u8) -> u8
+/// A digit as 0, and any other byte as it is.
+fn zeroed(byte: u8) -> u8
     ensures { result ≡ (if is_ascii_digit byte then 48 else byte) }
 {
     if byte.is_ascii_digit() { b'0' } else { byte }

@@ -14,7 +14,7 @@ use Rattle.cat_lex.specs.declared.form.Form.TheVariants.{Mark, Date}
 use Rattle.cat_lex.specs.Words.{symbol_of, symbols}
 use Rattle.cat_lex.specs.inside.Reading.{mark_or, mark_read, date_read}
 use Rattle.cat_lex.proofs.Listed.{found, is_mark_text, symbols_fit}
-use Rattle.cat_lex.proofs.Dates.{length-form_of}
+use Rattle.cat_date.proofs.Exported.{length-form_of}
 use Rattle.cat_lex.proofs.Goes.{Reaches}
 use Rattle.cat_lex.proofs.NumberForms.{IsRead}
 

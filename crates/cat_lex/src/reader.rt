@@ -1,7 +1,6 @@
 //! The form in front of a text, and what follows it.
-ghost use Rattle.std.specs.Prelude.{◌≡◌, ◌++◌, ℕ, List, if◌then◌else◌, bytes_eq, codes};
+ghost use Rattle.std.specs.Prelude.{◌≡◌, ◌++◌, ℕ, List};
 ghost use Rattle.std.specs.Char.{is_ascii_digit};
-ghost use Rattle.cat_date.specs.Text.{form_of};
 ghost use Rattle.cat_lex.specs.Gaps.{is_white_space};
 ghost use Rattle.cat_lex.specs.inside.Reading.{begins, is_pointed, number_read, skip_groups, skip_cents, amount_read};
 ghost use Rattle.cat_lex.specs.inside.Reading.{date_read, mark_read, pair_read, word_read, read, front_of};
@@ -12,6 +11,7 @@ use crate::skip::{
     after_white_space, after_word, first_char, is_white_space, skip_blanks, skip_digits,
 };
 use crate::tables::{begins_pair, double_keyword, symbol};
+use cat_date::has_form;
 use unicode_ident::is_xid_start;
 
 /// The form of a date, with 0 for each digit.
@@ -90,31 +90,10 @@ fn amount(text: &[u8]) -> Option<(Form, &[u8])>
     Some((Form::Amount, rest))
 }
 
-/// A digit as 0, and any other byte as it is.
-fn zeroed(byte: u8) -> u8
-    ensures { result ≡ (if is_ascii_digit byte then 48 else byte) }
-{
-    if byte.is_ascii_digit() { b'0' } else { byte }
-}
-
-fn has_date_form(text: &[u8]) -> bool
-    ensures { result ≡ bytes_eq (form_of text.now) (codes "|0000-00-00|") }
-{
-    if text.len() != DATE.len() {
-        return false;
-    }
-    for (i, &byte) in text.iter().enumerate() {
-        if zeroed(byte) != DATE[i] {
-            return false;
-        }
-    }
-    true
-}
-
 fn date(text: &[u8]) -> Option<(Form, &[u8])>
     ensures { seen result ≡ date_read text.now }
 {
-    if text.len() >= DATE.len() && has_date_form(&text[..DATE.len()]) {
+    if text.len() >= DATE.len() && has_form(&text[..DATE.len()], &DATE) {
         Some((Form::Date, &text[DATE.len()..]))
     } else {
         None
